@@ -1,0 +1,13 @@
+use Rattle.std.proofs.Common.{◌≡◌, ◌+◌, ◌-◌, ◌≤◌, length, vec_len, arith}
+use Rattle.std.proofs.lemmas.Grind.{common_steps}
+use Rattle.lra_edge.proofs.Input.{piece_lost, piece_within}
+use Rattle.lra_edge.proofs.whole.read_whole.Goals as goal
+
+pub returns-in_err-extend_from_slice-clause-whole :
+    goal.returns-in_err-extend_from_slice-clause-whole
+returns-in_err-extend_from_slice-clause-whole g c =
+    let same : length c.pieces.bytes.items ≡ vec_len c.pieces.bytes = grind (arith, common_steps) in
+    let before : length c.pieces.bytes.items ≤ c.args.limit = omega (arith, same, c.pieces-test.true, c.len.ensures) in
+    let room : c.min-room.result ≤ c.args.limit + 1 - length c.pieces.bytes.items = omega (arith, same, c.min-room.ensures, c.len-in-pieces.ensures) in
+    piece_lost _ _ _ _ _ _ _ c.from_residual.ensures.1 c.pieces.invariant.1 c.in-Ok.ensures.bytes.0
+    (piece_within _ _ _ _ _ _ before c.in-Ok.ensures.bound.0 c.read.auto.into room)

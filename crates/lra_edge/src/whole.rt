@@ -1,0 +1,54 @@
+// The whole input, up to a limit.
+ghost use Rattle.std.specs.Prelude.{◌≡◌, ◌+◌, ◌^◌, ◌<◌};
+ghost use Rattle.lra_edge.specs.ReadEnd.{ReadsWhole, ReadCause};
+ghost use Rattle.lra_edge.specs.declared.whole.ReadEnd.TheVariants.{Memory};
+
+use crate::{Failed, Source};
+use std::alloc::{AllocError, Global};
+
+/// Why an input was not read to its end.
+#[derive(Debug, Drop)]
+pub enum ReadEnd {
+    /// There are more bytes than the limit; these are the first ones, one more than the limit.
+    TooLong(Vec<u8>),
+
+    /// A read failed.
+    Failed,
+
+    /// There was no memory for the bytes.
+    Memory,
+}
+
+impl From<AllocError> for ReadEnd {
+    ghost from_gives = { λ _ e. e ≡ Memory };
+
+    fn from(_: AllocError) -> Self {
+        ReadEnd::Memory
+    }
+}
+
+/// Reads to the end of the input, or one byte past the limit. A read that fails ends it at once.
+pub fn read_whole<S: Source>(
+    alloc: Global,
+    source: &mut S,
+    limit: usize,
+) -> Result<Vec<u8>, ReadEnd>
+    requires { limit + 1 < 2 ^ 64 }
+    ensures whole { ReadsWhole (S.left source.old) (S.left source.new) limit result }
+    ensures cause { ReadCause (S.faults source.old) (S.faults source.new) result }
+{
+    let mut bytes = Vec::new(alloc);
+    let mut chunk = [0; 4096];
+    'pieces: while bytes.len() <= limit {
+        let room = (limit + 1 - bytes.len()).min(chunk.len());
+        let count = match source.read(&mut chunk[..room]) {
+            Ok(count) => count,
+            Err(Failed) => return Err(ReadEnd::Failed),
+        };
+        if count == 0 {
+            return Ok(bytes);
+        }
+        bytes.extend_from_slice(&chunk[..count])?;
+    }
+    Err(ReadEnd::TooLong(bytes))
+}
