@@ -1,2 +1,4 @@
 pub mod Bytes
+pub mod CausesExamples
 pub mod Input
+pub mod MemoryExamples
