@@ -6,3 +6,24 @@ pub mod Membership
 pub mod Products
 pub mod CheckedArithmetic
 pub mod LowestTerms
+-- Cones
+pub mod Combinations
+pub mod LinearMaps
+pub mod Lines
+-- Steps of the double description method
+pub mod Step
+pub mod Elimination
+pub mod Duality
+pub mod AllPairs
+-- Rays
+pub mod Saturation
+pub mod ExtremeRays
+pub mod AdjacentPairs
+-- Echelon forms and canonical descriptions
+pub mod Spans
+pub mod EchelonExtension
+pub mod CanonicalForms
+pub mod Redundancy
+-- The case of a line
+pub mod FlatRows
+pub mod LineCase

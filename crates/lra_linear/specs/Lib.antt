@@ -4,3 +4,10 @@ pub mod Range
 pub mod Vectors
 pub mod CheckedArithmetic
 pub mod LowestTerms
+-- Cones and their descriptions
+pub mod Cones
+pub mod Echelon
+pub mod Canonical
+-- Steps of the double description method
+pub mod DoubleDescription
+pub mod Saturation

@@ -1,0 +1,45 @@
+-- A row that is tight at no more rows of the system than another still lies in the cone when a part of that other is taken from it.
+use Rattle.std.proofs.Common.{List, [], arith, inl, inr, neg_ℤ, negsuc, pos, refl, subst, suc, sym, zero, ℕ, ℤ, ◌*ℤ◌, ◌*◌, ◌+ℤ◌, ◌+◌, ◌∙◌, ◌∷◌, ◌≡◌, ◌≤ℤ◌, ◌≤◌}
+use Rattle.std.proofs.lemmas.Int.{ints}
+use Rattle.lra_linear.specs.Cones.{Solves}
+use Rattle.lra_linear.specs.Saturation.{TightToo}
+use Rattle.lra_linear.specs.Vectors.{dot}
+use Rattle.lra_linear.proofs.Membership.{contains_cases, contains_head, contains_tail}
+use Rattle.lra_linear.proofs.Products.{dot_linear}
+use Rattle.lra_linear.proofs.Ring.{ring, v, ⊖, ◌⊕◌, ◌⊗◌}
+
+-- k a - b is not negative for all large k
+enough : (a b : ℤ) → pos 0 ≤ℤ a → pos 0 ≤ℤ b → (a ≡ pos 0 → b ≡ pos 0) → (k : ℕ) × ((m : ℕ) → k ≤ m → pos 0 ≤ℤ ((pos m *ℤ a) +ℤ neg_ℤ b))
+enough (negsuc a) b h k t = absurd (omega (arith, ints, h))
+enough a (negsuc b) h k t = absurd (omega (arith, ints, k))
+enough (pos zero) (pos b) h k t = (0, λ m l. let e : pos b ≡ pos 0 = t refl in omega (arith, ints))
+enough (pos (suc a)) (pos b) h k t = (b, λ m l. times_above a b m l)
+  where
+    nat_above : (a b m : ℕ) → b ≤ m → b ≤ m * suc a
+    nat_above a b m l = grind arith
+
+    times_above : (a b m : ℕ) → b ≤ m → pos 0 ≤ℤ ((pos m *ℤ pos (suc a)) +ℤ neg_ℤ (pos b))
+    times_above a b m l = omega (arith, ints, nat_above a b m l)
+
+dot_minus : (s : List ℤ) (k : ℕ) (u w : ℕ → ℤ) → dot s (λ j. (pos k *ℤ u j) +ℤ (negsuc 0 *ℤ w j)) ≡ (pos k *ℤ dot s u) +ℤ neg_ℤ (dot s w)
+dot_minus s k u w = dot_linear s (pos k) (negsuc 0) u w ∙ ring (v (pos k) ⊗ v (dot s u) ⊕ v (negsuc 0) ⊗ v (dot s w)) (v (pos k) ⊗ v (dot s u) ⊕ ⊖ (v (dot s w))) (omega arith)
+
+pub room : (system : List (List ℤ)) (u w : ℕ → ℤ) → Solves system u → Solves system w → TightToo system u w →
+    (k : ℕ) × ((m : ℕ) → k ≤ m → Solves system (λ j. (pos m *ℤ u j) +ℤ (negsuc 0 *ℤ w j)))
+room [] u w hu hw t = (0, λ m l s k. absurd (omega (arith, k.1)))
+room (s ∷ system) u w hu hw t =
+    let i = room system u w (λ c k. hu c (contains_tail s c system k)) (λ c k. hw c (contains_tail s c system k)) (λ c k. t c (contains_tail s c system k)) in
+    let e = enough (dot s u) (dot s w) (hu s (contains_head s system)) (hw s (contains_head s system)) (t s (contains_head s system)) in (
+      i.0 + e.0,
+      λ m l c k. elim (contains_cases s c system k) [
+        | inl q ↦ subst (λ y. pos 0 ≤ℤ dot y (λ j. (pos m *ℤ u j) +ℤ (negsuc 0 *ℤ w j))) q (subst (λ z. pos 0 ≤ℤ z) (sym (dot_minus s m u w)) (e.1 m (omega arith)))
+        | inr d ↦ i.1 m (omega arith) c d
+      ],
+    )
+
+-- the other way: where u is a sum with w among the rows, each row tight at u is tight at w
+pub tight_sum : (a b f : ℤ) (n : ℕ) → pos 0 ≤ℤ a → pos 0 ≤ℤ b → (pos (suc n) *ℤ a) +ℤ b ≡ pos 0 → a ≡ pos 0
+tight_sum (pos zero) b f n h k e = refl
+tight_sum (pos (suc a)) (pos b) f n h k e = absurd (omega (arith, ints, e))
+tight_sum (pos (suc a)) (negsuc b) f n h k e = absurd (omega (arith, ints, k))
+tight_sum (negsuc a) b f n h k e = absurd (omega (arith, ints, h))
