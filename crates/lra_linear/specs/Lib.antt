@@ -11,3 +11,10 @@ pub mod Canonical
 -- Steps of the double description method
 pub mod DoubleDescription
 pub mod Saturation
+-- Polyhedra as sets of rational points
+pub mod Points
+pub mod Descriptions
+pub mod SetOperations
+pub mod RowOrder
+pub mod Polyhedra
+pub mod Widening

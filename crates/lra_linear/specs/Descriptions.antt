@@ -1,0 +1,54 @@
+-- The two descriptions of a set of points (Minkowski 1896, Weyl 1935): by constraints, and by points, rays and lines.
+use Rattle.std.specs.Prelude.{◌≡◌, ℤ, pos, ◌≤ℤ◌, Bool, true, false, cond, List, [], ◌∷◌}
+use Rattle.std.specs.List.{Contains}
+use Rattle.lra_linear.specs.Vectors.{entry, product}
+use Rattle.lra_linear.specs.Cones.{Described}
+use Rattle.lra_linear.specs.DoubleDescription.{with_row}
+use Rattle.lra_linear.specs.Points.{PointSet}
+
+-- A row of a description. A constraint c0, .., cn is an inequality or, with `equal`, an equality. A generator is a point (column 0
+-- above 0) or a ray (column 0 is 0), or with `equal` a line.
+pub record Given : Type 0 where
+  pub row : List ℤ
+  pub equal : Bool
+
+-- the rows of one kind, in their order
+abbrev pub given_as : Bool → List (List ℤ) → List Given
+given_as equal [] = []
+given_as equal (r ∷ rows) = record { row = r; equal = equal } ∷ given_as equal rows
+
+abbrev pub rows_of : List Given → List (List ℤ)
+rows_of [] = []
+rows_of (g ∷ gs) = g.row ∷ rows_of gs
+
+-- the equalities, or the lines
+abbrev pub lines_of : List Given → List (List ℤ)
+lines_of [] = []
+lines_of (g ∷ gs) = cond g.equal (g.row ∷ lines_of gs) (lines_of gs)
+
+-- the inequalities, or the points and rays
+abbrev pub rays_of : List Given → List (List ℤ)
+rays_of [] = []
+rays_of (g ∷ gs) = cond g.equal (rays_of gs) (g.row ∷ rays_of gs)
+
+-- all as inequalities, or as rays: each equality or line in both directions
+abbrev pub system_of : List Given → List (List ℤ)
+system_of [] = []
+system_of (g ∷ gs) = with_row g.equal g.row (system_of gs)
+
+-- what a constraint asks of its product with a point
+abbrev pub HoldsWith : Bool → ℤ → Type 0
+HoldsWith true z = z ≡ pos 0
+HoldsWith false z = pos 0 ≤ℤ z
+
+-- c0 den + c1 num1 + .. + cn numn is at least 0, or is 0 for an equality
+abbrev pub Holds : Given → PointSet
+Holds g x = HoldsWith g.equal (product g.row x)
+
+-- the points at which each constraint holds
+abbrev pub Con : List Given → PointSet
+Con rows x = (g : Given) → Contains rows g → Holds g x
+
+-- the points some positive multiple of which is a sum of generators with whole factors, not negative for points and rays
+abbrev pub Gen : List Given → PointSet
+Gen generators x = Described (lines_of generators) (rays_of generators) (entry x)

@@ -1,0 +1,35 @@
+-- The standard widening of polyhedra (after Halbwachs 1979) and the limited one, on canonical lists, so that they depend on the two
+-- sets alone. A row is tight on P where the generators of P with which its product is 0 are all of P's, or are exactly those with
+-- which some row of P has product 0.
+use Rattle.std.specs.Prelude.{ℕ, ℤ, pos, Bool, ◌||◌, IsTrue, List, [], ◌∷◌}
+use Rattle.std.specs.List.{Contains, list_all, list_any}
+use Rattle.std.specs.Ordering.{int_eq}
+use Rattle.std.specs.Bool.{beq}
+use Rattle.lra_linear.specs.Vectors.{product}
+use Rattle.lra_linear.specs.Points.{PointSet}
+use Rattle.lra_linear.specs.Descriptions.{Given, Holds, Con}
+use Rattle.lra_linear.specs.SetOperations.{ValidOn}
+use Rattle.lra_linear.specs.Polyhedra.{Polyhedron}
+
+-- the generator saturates the row
+abbrev pub saturates : Given → Given → Bool
+saturates r g = int_eq (product r.row g.row) (pos 0)
+
+abbrev pub is_tight_as : List Given → Given → Given → Bool
+is_tight_as generators r s = list_all (λ g. beq (saturates r g) (saturates s g)) generators
+
+abbrev pub is_tight : Polyhedron → Given → Bool
+is_tight p r = list_all (saturates r) p.generators || list_any (is_tight_as p.generators r) p.rows
+
+-- the rows of Q that are tight on P hold; Q where P has no point
+abbrev pub StandardFrom : List Given → Polyhedron → Polyhedron → PointSet
+StandardFrom [] p q x = Con q.rows x
+StandardFrom (g ∷ generators) p q x = (r : Given) → Contains q.rows r → IsTrue (is_tight p r) → Holds r x
+
+abbrev pub Standard : Polyhedron → Polyhedron → PointSet
+Standard p q = StandardFrom p.generators p q
+
+-- that set met with each given row that is valid on both
+abbrev pub Limited : Polyhedron → Polyhedron → List Given → PointSet
+Limited p q given x =
+    Standard p q x × ((g : Given) → Contains given g → ValidOn p.dims (Con p.rows) g → ValidOn q.dims (Con q.rows) g → Holds g x)
