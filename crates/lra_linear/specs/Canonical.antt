@@ -1,6 +1,6 @@
 -- The canonical description of a cone by lines and rays, for generators as for constraints (then equalities are the lines and
 -- inequalities the rays). The order of the rays is no part of it.
-use Rattle.std.specs.Prelude.{◌≡◌, ℕ, ℤ, pos, neg_ℤ, List, ◌∷◌, ◌++◌}
+use Rattle.std.specs.Prelude.{◌≡◌, ℕ, ℤ, pos, neg_ℤ, List, ◌∷◌, ◌++◌, length}
 use Rattle.std.specs.List.{Contains}
 use Rattle.lra_linear.specs.Vectors.{entry}
 use Rattle.lra_linear.specs.LowestTerms.{IsPrimitive}
@@ -18,3 +18,9 @@ pub record IsCanonical (lines rays : List (List ℤ)) : Type 0 where
   pub lowest : (r : List ℤ) → Contains rays r → IsPrimitive r
   pub needed : (front : List (List ℤ)) (r : List ℤ) (back : List (List ℤ)) → rays ≡ front ++ r ∷ back → ¬ (Generated (all_rows lines (front ++ back)) (entry r))
   pub pointed : (r : List ℤ) → Contains rays r → ¬ (Generated (all_rows lines rays) (λ j. neg_ℤ (entry r j)))
+
+-- the canonical description of the cone that the rows, of one width, generate
+pub record IsCanonicalOf (width : ℕ) (rows lines rays : List (List ℤ)) : Type 0 where
+  pub canonical : IsCanonical lines rays
+  pub widths : (r : List ℤ) → Contains (all_rows lines rays) r → length r ≡ width
+  pub same : (u : ℕ → ℤ) → (Generated rows u → Generated (all_rows lines rays) u) × (Generated (all_rows lines rays) u → Generated rows u)

@@ -18,3 +18,8 @@ pub mod SetOperations
 pub mod RowOrder
 pub mod Polyhedra
 pub mod Widening
+-- Strain: from which numbers an operation may be flagged
+pub mod Reduction
+pub mod ConeStrain
+pub mod Strain
+pub mod OperationStrain

@@ -35,18 +35,15 @@ pub record HasPoint (p : Polyhedron) : Type 0 where
   pub rays : List (List ℤ)
   pub lines : List (List ℤ)
   pub generators_are : p.generators ≡ given_as false points ++ given_as false rays ++ given_as true lines
-
   pub facets : List (List ℤ)
   pub shown : (r : List ℤ) → Contains inequalities r → Contains facets r × (r ≢ positivity p.dims)
   pub all_shown : (r : List ℤ) → Contains facets r → (r ≡ positivity p.dims) ⊎ Contains inequalities r
   pub dual : AreDual (suc p.dims) (all_rows equalities facets) (all_rows lines (points ++ rays))
   pub constraints_canonical : IsCanonical equalities facets
   pub generators_canonical : IsCanonical lines (points ++ rays)
-
   pub inequalities_ascend : Ascends inequality_cmp inequalities
   pub points_ascend : Ascends row_cmp points
   pub rays_ascend : Ascends row_cmp rays
-
   pub divisors : (r : List ℤ) → Contains points r → pos 0 <ℤ entry r 0
   pub directions : (r : List ℤ) → Contains rays r ⊎ Contains lines r → entry r 0 ≡ pos 0
   pub some_point : points ≢ []

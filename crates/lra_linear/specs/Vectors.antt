@@ -1,6 +1,6 @@
 -- Rows are lists of whole numbers. A vector is a function that gives the number in each column, so that sums of vectors compute
 -- column by column; two vectors are the same where they have the same number in each column.
-use Rattle.std.specs.Prelude.{ℕ, zero, suc, ℤ, pos, ◌+ℤ◌, ◌*ℤ◌, neg_ℤ, List, [], ◌∷◌}
+use Rattle.std.specs.Prelude.{ℕ, zero, suc, ℤ, pos, ◌+ℤ◌, ◌*ℤ◌, neg_ℤ, List, [], ◌∷◌, slice_set}
 
 -- the row's entry in a column, 0 past its end: the row as a vector
 abbrev pub entry : List ℤ → ℕ → ℤ
@@ -27,6 +27,18 @@ abbrev pub blend : ℤ → ℤ → List ℤ → List ℤ → List ℤ
 blend a b [] vs = []
 blend a b (u ∷ us) [] = []
 blend a b (u ∷ us) (v ∷ vs) = ((a *ℤ u) +ℤ (b *ℤ v)) ∷ blend a b us vs
+
+-- (-c.v) u + (c.u) v: its product with c is 0
+abbrev pub combined : List ℤ → List ℤ → List ℤ → List ℤ
+combined u v c = blend (neg_ℤ (product c v)) (product c u) u v
+
+-- the row with 0 in column k
+abbrev pub cleared : ℕ → List ℤ → List ℤ
+cleared k row = slice_set row k (pos 0)
+
+-- the row's entry in column k times the form takes the place of that column
+abbrev pub substituted : ℕ → List ℤ → List ℤ → List ℤ
+substituted k form row = blend (pos 1) (entry row k) (cleared k row) form
 
 -- the sum of rows with factors that are not negative, column by column
 abbrev pub sum_of : List ℕ → List (List ℤ) → ℕ → ℤ

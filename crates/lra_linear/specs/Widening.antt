@@ -1,7 +1,7 @@
 -- The standard widening of polyhedra (after Halbwachs 1979) and the limited one, on canonical lists, so that they depend on the two
 -- sets alone. A row is tight on P where the generators of P with which its product is 0 are all of P's, or are exactly those with
 -- which some row of P has product 0.
-use Rattle.std.specs.Prelude.{ℕ, ℤ, pos, Bool, ◌||◌, IsTrue, List, [], ◌∷◌}
+use Rattle.std.specs.Prelude.{pos, Bool, ◌||◌, cond, int_le, IsTrue, List, [], ◌∷◌}
 use Rattle.std.specs.List.{Contains, list_all, list_any}
 use Rattle.std.specs.Ordering.{int_eq}
 use Rattle.std.specs.Bool.{beq}
@@ -28,6 +28,13 @@ StandardFrom (g ∷ generators) p q x = (r : Given) → Contains q.rows r → Is
 
 abbrev pub Standard : Polyhedron → Polyhedron → PointSet
 Standard p q = StandardFrom p.generators p q
+
+-- the constraint holds with each generator of P: with a line, or of an equality, the product is 0
+abbrev pub holds_with : Given → Given → Bool
+holds_with r g = cond (r.equal || g.equal) (saturates r g) (int_le (pos 0) (product r.row g.row))
+
+abbrev pub is_valid : Polyhedron → Given → Bool
+is_valid p r = list_all (holds_with r) p.generators
 
 -- that set met with each given row that is valid on both
 abbrev pub Limited : Polyhedron → Polyhedron → List Given → PointSet

@@ -15,3 +15,10 @@ pub struct Excess {
     pub left: i128,
     pub right: i128,
 }
+
+/// Why a row was left out: a number passes the range, or there would be more rows than a description may have.
+#[derive(Clone, Copy, Debug, PartialEq, Eq)]
+pub enum Cause {
+    Excess(Excess),
+    TooMany,
+}
