@@ -18,7 +18,7 @@ use Rattle.lra_linear.proofs.Membership.{contains_cases, contains_head, contains
 use Rattle.lra_linear.proofs.Products.{blend_length, dot_linear, dot_plus, dot_same, dot_scale, entry_blend}
 use Rattle.lra_linear.proofs.Ring.{mul_nonnegative, ring, v, ⊖, ◌⊕◌, ◌⊗◌}
 use Rattle.lra_linear.proofs.Saturation.{tight_sum}
-use Rattle.lra_linear.proofs.Signs.{above_zero, add_nonnegative, as_nat, cases_sign, compare_two, divide_nonnegative, neg_nat, positive_nat}
+use Rattle.lra_linear.proofs.Signs.{above_zero, add_nonnegative, as_nat, cases_sign, compare_two, divide_nonnegative, neg_nat, positive_is_nonnegative, positive_nat}
 use Rattle.lra_linear.proofs.Step.{step_complete}
 
 -- ---- how many rows are not tight
@@ -421,16 +421,13 @@ module _ {w : ℕ} {c : List ℤ} {system rays lines target : List (List ℤ)} (
     dots : (s : List ℤ) → dot s (entry (pair c p n)) ≡ (pos a *ℤ dot s (entry p)) +ℤ (pos b *ℤ dot s (entry n))
     point : Point (pair c p n)
 
-  weak : (z : ℤ) → pos 0 <ℤ z → pos 0 ≤ℤ z
-  weak z h = omega (arith, ints)
-
   neg_positive : (z : ℤ) (n : ℕ) → z <ℤ pos 0 → neg_ℤ z ≡ pos n → 0 < n
   neg_positive z n h e = omega (arith, ints, h, e)
 
   between : (p n : List ℤ) → Contains rays p → Contains rays n → pos 0 <ℤ dot c (entry p) → dot c (entry n) <ℤ pos 0 → Between p n
   between p n hp hn up down =
       let a = neg_nat (dot c (entry n)) down in
-      let b = as_nat (dot c (entry p)) (weak _ up) in
+      let b = as_nat (dot c (entry p)) (positive_is_nonnegative _ up) in
       let same : length p ≡ length n = row_width p hp ∙ sym (row_width n hn) in
       let ap0 = neg_positive (dot c (entry n)) a.0 down a.1 in
       let bp0 = positive_nat (dot c (entry p)) b.0 up b.1 in

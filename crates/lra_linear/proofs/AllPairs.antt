@@ -11,9 +11,8 @@ use Rattle.lra_linear.proofs.Combinations.{generated_plus, generated_row, genera
 use Rattle.lra_linear.proofs.Membership.{contains_cases, contains_head, contains_tail}
 use Rattle.lra_linear.proofs.Products.{dot_linear, dot_same, entry_blend}
 use Rattle.lra_linear.proofs.Ring.{ring, v, ⊖, ◌⊕◌, ◌⊗◌}
-use Rattle.lra_linear.proofs.Signs.{as_nat, neg_nat}
+use Rattle.lra_linear.proofs.Signs.{as_nat, neg_nat, positive_is_nonnegative}
 
--- ---- tests
 -- ---- tests
 le_yes : (z : ℤ) → pos 0 ≤ℤ z → true ≡ int_le (pos 0) z
 le_yes z h = omega (arith, ints)
@@ -21,7 +20,6 @@ le_yes z h = omega (arith, ints)
 lt_yes : (a b : ℤ) → a <ℤ b → true ≡ int_lt a b
 lt_yes a b h = omega (arith, ints)
 
--- ---- the rows that stay
 -- ---- kept
 kept_has : (c : List ℤ) (rays : List (List ℤ)) (r : List ℤ) → Contains rays r → pos 0 ≤ℤ dot c (entry r) → Contains (kept c rays) r
 kept_has c [] r k h = absurd (omega (arith, k.1))
@@ -50,7 +48,6 @@ kept_only c (x ∷ rays) t k = by_test c x rays t (int_le (pos 0) (dot c (entry 
     ]
     by_test c x rays t false e ih k = let i = ih k in (contains_tail x t rays i.0, i.1)
 
--- ---- the pairs
 -- ---- pairs
 pairs_of_has : (c u : List ℤ) (rays : List (List ℤ)) (n : List ℤ) → Contains rays n → dot c (entry n) <ℤ pos 0 → Contains (pairs_of c u rays) (blend (neg_ℤ (dot c (entry n))) (dot c (entry u)) u n)
 pairs_of_has c u [] n k h = absurd (omega (arith, k.1))
@@ -134,15 +131,11 @@ pair_inside : (c : List ℤ) (rays : List (List ℤ)) (p n : List ℤ) → Conta
     ((j : ℕ) → entry (blend (neg_ℤ (dot c (entry n))) (dot c (entry p)) p n) j ≡ (neg_ℤ (dot c (entry n)) *ℤ entry p j) +ℤ (dot c (entry p) *ℤ entry n j)) → Generated rays (entry (blend (neg_ℤ (dot c (entry n))) (dot c (entry p)) p n))
 pair_inside c rays p n k m h l e =
     let a = neg_nat (dot c (entry n)) l in
-    let b = as_nat (dot c (entry p)) (weak (dot c (entry p)) h) in
+    let b = as_nat (dot c (entry p)) (positive_is_nonnegative (dot c (entry p)) h) in
     generated_same rays (λ j. (pos a.0 *ℤ entry p j) +ℤ (pos b.0 *ℤ entry n j)) (entry (blend (neg_ℤ (dot c (entry n))) (dot c (entry p)) p n))
     (λ j. ap (λ z. (z *ℤ entry p j) +ℤ (pos b.0 *ℤ entry n j)) (sym a.1) ∙ ap (λ z. (neg_ℤ (dot c (entry n)) *ℤ entry p j) +ℤ (z *ℤ entry n j)) (sym b.1) ∙ sym (e j))
     (generated_plus rays (λ j. pos a.0 *ℤ entry p j) (λ j. pos b.0 *ℤ entry n j) (generated_times rays a.0 (entry p) (generated_row rays p k)) (generated_times rays b.0 (entry n) (generated_row rays n m)))
-  where
-    weak : (z : ℤ) → pos 0 <ℤ z → pos 0 ≤ℤ z
-    weak z h = omega (arith, ints)
 
--- ---- the step
 -- ---- the step
 pub step_rows_are : (c : List ℤ) (w : ℕ) (rays : List (List ℤ)) → ((r : List ℤ) → Contains rays r → length r ≡ w) → StepOf c rays (step_rows c rays)
 step_rows_are c w rays widths =

@@ -1,18 +1,18 @@
 -- One canonical description for one cone: equal lines, the same rays, and as many of them; in one strict order, equal lists.
-use Rattle.std.proofs.Common.{List, [], ap, append_assoc, arith, inl, inr, length, length-append, neg_ℤ, negsuc, pos, refl, subst, sym, ℕ, ℤ, ◌*ℤ◌, ◌++◌, ◌+ℤ◌, ◌<◌, ◌∙◌, ◌∷◌, ◌≡◌, ◌≤◌}
+use Rattle.std.proofs.Common.{List, [], ap, append_assoc, arith, inl, inr, length, neg_ℤ, negsuc, pos, refl, subst, sym, ℕ, ℤ, ◌*ℤ◌, ◌++◌, ◌+ℤ◌, ◌<◌, ◌∙◌, ◌∷◌, ◌≡◌}
 use Rattle.std.proofs.lemmas.List.Elements.{Contains-append_cases, Contains-append_left, Contains-append_right}
 use Rattle.std.specs.List.{Contains}
 use Rattle.lra_linear.specs.Canonical.{IsCanonical}
 use Rattle.lra_linear.specs.Cones.{AreDual, Generated, all_rows, both_ways}
 use Rattle.lra_linear.specs.Echelon.{IsEchelon, Spanned}
 use Rattle.lra_linear.specs.Saturation.{IsExtreme}
-use Rattle.lra_linear.specs.Vectors.{entry, negated, signed_sum, sum_of}
+use Rattle.lra_linear.specs.Vectors.{entry, signed_sum, sum_of}
 use Rattle.lra_linear.proofs.Combinations.{generated_divided, generated_plus, generated_row, generated_same, generated_times}
 use Rattle.lra_linear.proofs.ExtremeRays.{Free, Parts, extreme_found, needed_splits, pointed_sum_zero}
 use Rattle.lra_linear.proofs.LinearMaps.{generated_left, generated_right, generated_through, sum_generated}
-use Rattle.lra_linear.proofs.Lines.{described_generated, lines_generated}
+use Rattle.lra_linear.proofs.Lines.{described_generated, in_lines, lines_generated}
 use Rattle.lra_linear.proofs.LowestTerms.{same_multiple}
-use Rattle.lra_linear.proofs.Membership.{contains_cases, contains_head, contains_tail}
+use Rattle.lra_linear.proofs.Membership.{NoRepeat, at_most, contains_middle, contains_split}
 use Rattle.lra_linear.proofs.Products.{row_same}
 use Rattle.lra_linear.proofs.Ring.{ring, v, ⊖, ◌⊕◌, ◌⊗◌}
 use Rattle.lra_linear.proofs.Signs.{cancel_same}
@@ -100,28 +100,7 @@ parts_of lines front r back x g =
           ring (v (signed_sum d.free lines j) ⊕ (v (pos t.own) ⊗ v (entry r j) ⊕ v (sum_of t.factors (front ++ back) j))) (v (pos t.own) ⊗ v (entry r j) ⊕ (v (sum_of t.factors (front ++ back) j) ⊕ v (signed_sum d.free lines j))) (omega arith);
     }
 
-pub contains_middle : (front : List (List ℤ)) (r : List ℤ) (back : List (List ℤ)) (t : List ℤ) → Contains (r ∷ front ++ back) t → Contains (front ++ r ∷ back) t
-contains_middle front r back t k = elim (contains_cases r t (front ++ back) k) [
-  | inl e ↦ Contains-append_right front (r ∷ back) t (subst (Contains (r ∷ back)) e (contains_head r back))
-  | inr d ↦ elim (Contains-append_cases front back t d) [
-    | inl i ↦ Contains-append_left front (r ∷ back) t i
-    | inr i ↦ Contains-append_right front (r ∷ back) t (contains_tail r t back i)
-  ]
-]
-
-pub record Split (rows : List (List ℤ)) (r : List ℤ) : Type 0 where
-  pub front : List (List ℤ)
-  pub back : List (List ℤ)
-  pub is : rows ≡ front ++ r ∷ back
-
-pub contains_split : (rows : List (List ℤ)) (r : List ℤ) → Contains rows r → Split rows r
-contains_split [] r k = absurd (omega (arith, k.1))
-contains_split (x ∷ rows) r k = elim (contains_cases x r rows k) [
-  | inl e ↦ record { front = []; back = rows; is = ap (λ (y : List ℤ). y ∷ rows) e }
-  | inr d ↦ let i = contains_split rows r d in record { front = x ∷ i.front; back = i.back; is = ap (λ (y : List (List ℤ)). x ∷ y) i.is }
-]
-
--- ---- each ray is needed_splits
+-- ---- each ray is extreme
 extreme_at : (lines front : List (List ℤ)) (r : List ℤ) (back : List (List ℤ)) → IsCanonical lines (front ++ r ∷ back) → IsExtreme (all_rows lines (front ++ r ∷ back)) (both_ways lines) r
 extreme_at lines front r back c =
     let needed : ¬ (Generated (all_rows lines (front ++ back)) (entry r)) = c.needed front r back refl in
@@ -216,32 +195,7 @@ canonical_unique w lines rays lines' rays' wl wr wl' wr' c c' same =
       ),
     )
 
--- ---- lists in one strict order
-abbrev pub Ascends : (List ℤ → List ℤ → Type 0) → List (List ℤ) → Type 0
-Ascends lt [] = Unit {0}
-Ascends lt (x ∷ xs) = ((y : List ℤ) → Contains xs y → lt x y) × Ascends lt xs
-
-pub same_ascending : (lt : List ℤ → List ℤ → Type 0) → ((x y : List ℤ) → lt x y → lt y x → ⊥) → (xs ys : List (List ℤ)) → Ascends lt xs → Ascends lt ys →
-    ((t : List ℤ) → (Contains xs t → Contains ys t) × (Contains ys t → Contains xs t)) → xs ≡ ys
-same_ascending lt asym [] [] a b same = refl
-same_ascending lt asym [] (y ∷ ys) a b same = absurd (let k = (same y).1 (contains_head y ys) in omega (arith, k.1))
-same_ascending lt asym (x ∷ xs) [] a b same = absurd (let k = (same x).0 (contains_head x xs) in omega (arith, k.1))
-same_ascending lt asym (x ∷ xs) (y ∷ ys) a b same =
-    let e : x ≡ y = elim (contains_cases y x ys ((same x).0 (contains_head x xs))) [
-      | inl f ↦ sym f
-      | inr i ↦ elim (contains_cases x y xs ((same y).1 (contains_head y ys))) [ inl f ↦ f | inr k ↦ absurd (asym x y (a.0 y k) (b.0 x i)) ]
-    ] in
-    let tails : xs ≡ ys = same_ascending lt asym xs ys a.1 b.1 (λ t. (
-      λ k. elim (contains_cases y t ys ((same t).0 (contains_tail x t xs k))) [ inl f ↦ absurd (let l = subst (λ (z : List ℤ). lt x z) (sym f ∙ sym e) (a.0 t k) in asym x x l l) | inr i ↦ i ],
-      λ k. elim (contains_cases x t xs ((same t).1 (contains_tail y t ys k))) [ inl f ↦ absurd (let l = subst (λ (z : List ℤ). lt y z) (sym f ∙ e) (b.0 t k) in asym y y l l) | inr i ↦ i ],
-    )) in
-    cc
-
 -- ---- no ray twice, so as many rays
-abbrev pub NoRepeat : List (List ℤ) → Type 0
-NoRepeat [] = Unit {0}
-NoRepeat (x ∷ xs) = ¬ (Contains xs x) × NoRepeat xs
-
 no_repeat_from : (lines front rest : List (List ℤ)) → IsCanonical lines (front ++ rest) → NoRepeat rest
 no_repeat_from lines front [] c = tt
 no_repeat_from lines front (x ∷ rest) c = (
@@ -252,24 +206,10 @@ no_repeat_from lines front (x ∷ rest) c = (
 pub no_repeat : (lines rays : List (List ℤ)) → IsCanonical lines rays → NoRepeat rays
 no_repeat lines rays c = no_repeat_from lines [] rays c
 
-pub at_most : (xs ys : List (List ℤ)) → NoRepeat xs → ((t : List ℤ) → Contains xs t → Contains ys t) → length xs ≤ length ys
-at_most [] ys n f = omega arith
-at_most (x ∷ xs) ys n f =
-    let s = contains_split ys x (f x (contains_head x xs)) in
-    let i = at_most xs (s.front ++ s.back) n.1 (λ t k. elim (Contains-append_cases s.front (x ∷ s.back) t (subst (λ (y : List (List ℤ)). Contains y t) s.is (f t (contains_tail x t xs k)))) [
-      | inl a ↦ Contains-append_left s.front s.back t a
-      | inr a ↦ elim (contains_cases x t s.back a) [ inl e ↦ absurd (n.0 (subst (Contains xs) (sym e) k)) | inr b ↦ Contains-append_right s.front s.back t b ]
-    ]) in
-    omega (arith, i, ap length s.is, length-append s.front (x ∷ s.back), length-append s.front s.back)
-
 -- ---- for the descriptions of one system
 -- rows that describe one system generate the same
 pub same_from_dual : (w : ℕ) (system rows other : List (List ℤ)) → AreDual w system rows → AreDual w system other → (u : ℕ → ℤ) → Generated rows u → Generated other u
 same_from_dual w system rows other d e u g = generated_through other rows u (λ t k. e.solutions t (d.row_widths t k) (d.meets t k)) g
-
-in_lines : (lines : List (List ℤ)) (t : List ℤ) → Contains lines t → Contains (both_ways lines) t
-in_lines [] t k = absurd (omega (arith, k.1))
-in_lines (x ∷ lines) t k = elim (contains_cases x t lines k) [ inl e ↦ subst (Contains (both_ways (x ∷ lines))) e (contains_head x (negated x ∷ both_ways lines)) | inr n ↦ contains_tail x t (negated x ∷ both_ways lines) (contains_tail (negated x) t (both_ways lines) (in_lines lines t n)) ]
 
 -- one spelling: two canonical descriptions of one system have equal lines, the same rays, and as many
 pub one_spelling : (w : ℕ) (system lines rays lines' rays' : List (List ℤ)) → AreDual w system (all_rows lines rays) → AreDual w system (all_rows lines' rays') → IsCanonical lines rays → IsCanonical lines' rays' →
@@ -284,6 +224,6 @@ one_spelling w system lines rays lines' rays' d e c c' =
     let same_length : length rays ≡ length rays' = omega arith in
     (x.0, x.1, same_length)
 
--- (c): where the list that was made is too long, each is
+-- where one canonical list is too long, each is
 pub too_many : (w limit : ℕ) (system lines rays lines' rays' : List (List ℤ)) → AreDual w system (all_rows lines rays) → AreDual w system (all_rows lines' rays') → IsCanonical lines rays → IsCanonical lines' rays' → limit < length rays → limit < length rays'
 too_many w limit system lines rays lines' rays' d e c c' h = let x = one_spelling w system lines rays lines' rays' d e c c' in omega (arith, x.2)

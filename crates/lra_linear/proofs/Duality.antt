@@ -1,6 +1,6 @@
 -- A system and rows that describe each other stay so in both cases of the step: so each list of inequalities has its generators,
 -- and each list of generators its inequalities (Minkowski 1896, Weyl 1935).
-use Rattle.std.proofs.Common.{List, ap, arith, inl, inr, length, neg_ℤ, negsuc, pos, subst, sym, ℕ, ℤ, ◌*ℤ◌, ◌+ℤ◌, ◌∙◌, ◌∷◌, ◌≡◌, ◌≤ℤ◌}
+use Rattle.std.proofs.Common.{List, ap, arith, inl, inr, length, neg_ℤ, pos, subst, sym, ℕ, ℤ, ◌*ℤ◌, ◌+ℤ◌, ◌∙◌, ◌∷◌, ◌≡◌, ◌≤ℤ◌}
 use Rattle.std.proofs.lemmas.Int.{ints}
 use Rattle.std.specs.List.{Contains}
 use Rattle.lra_linear.specs.Cones.{AreDual, Generated, Solves}
@@ -10,7 +10,7 @@ use Rattle.lra_linear.proofs.Combinations.{generated_divided, generated_more, ge
 use Rattle.lra_linear.proofs.Elimination.{consequences_after}
 use Rattle.lra_linear.proofs.LinearMaps.{bent, generated_bent, generated_nonneg}
 use Rattle.lra_linear.proofs.Membership.{contains_cases, contains_head, contains_tail}
-use Rattle.lra_linear.proofs.Products.{blend_length, dot_linear, dot_same, dot_scale, entry_blend, product_comm}
+use Rattle.lra_linear.proofs.Products.{blend_length, dot_linear, dot_minus, dot_same, entry_blend, product_comm}
 use Rattle.lra_linear.proofs.Ring.{ring, v, ⊖, ◌⊕◌, ◌⊗◌}
 use Rattle.lra_linear.proofs.Signs.{as_nat, positive_nat}
 use Rattle.lra_linear.proofs.Step.{step_complete, step_sound}
@@ -66,7 +66,7 @@ line_consequences c l w rows target gens s lc full x lx h =
     let sy : Solves rows (entry y) = λ r k.
     subst (λ z. pos 0 ≤ℤ z)
     (dot_linear x a (dot c (entry r)) (entry r) (λ j. neg_ℤ (entry l j)) ∙
-    ap (λ z. (a *ℤ dot x (entry r)) +ℤ (dot c (entry r) *ℤ z)) (dot_minus_line x l) ∙
+    ap (λ z. (a *ℤ dot x (entry r)) +ℤ (dot c (entry r) *ℤ z)) (dot_minus x (entry l)) ∙
     ring (v a ⊗ v (dot x (entry r)) ⊕ v (dot c (entry r)) ⊗ ⊖ (v b)) (v a ⊗ v (dot x (entry r)) ⊕ ⊖ (v b) ⊗ v (dot c (entry r))) (omega arith) ∙
     ap (λ z. (a *ℤ z) +ℤ (neg_ℤ b *ℤ dot c (entry r))) (sym (product_comm r x)) ∙ ap (λ z. (a *ℤ dot r (entry x)) +ℤ (neg_ℤ b *ℤ z)) (sym (product_comm r c)) ∙
     sym (dot_linear r a (neg_ℤ b) (entry x) (entry c)) ∙ dot_same r (λ j. (a *ℤ entry x j) +ℤ (neg_ℤ b *ℤ entry c j)) (entry y) (λ j. sym (ye j)))
@@ -79,9 +79,6 @@ line_consequences c l w rows target gens s lc full x lx h =
     ring ((v a ⊗ v (entry x j) ⊕ ⊖ (v b) ⊗ v (entry c j)) ⊕ v b ⊗ v (entry c j)) (v a ⊗ v (entry x j)) (omega arith) ∙ ap (λ z. z *ℤ entry x j) m.1)
     (generated_plus (c ∷ gens) (entry y) (λ j. pos n.0 *ℤ entry c j) (generated_more c gens (entry y) (full y (blend_length a (neg_ℤ b) x c same ∙ lx) sy))
     (generated_times (c ∷ gens) n.0 (entry c) (generated_row (c ∷ gens) c (contains_head c gens)))))
-  where
-    dot_minus_line : (x l : List ℤ) → dot x (λ j. neg_ℤ (entry l j)) ≡ neg_ℤ (dot x (entry l))
-    dot_minus_line x l = dot_same x (λ j. neg_ℤ (entry l j)) (λ j. negsuc 0 *ℤ entry l j) (λ j. ring (⊖ (v (entry l j))) (v (negsuc 0) ⊗ v (entry l j)) (omega arith)) ∙ dot_scale x (negsuc 0) (entry l) ∙ ring (v (negsuc 0) ⊗ v (dot x (entry l))) (⊖ (v (dot x (entry l)))) (omega arith)
 
 pub dual_line_step : (w : ℕ) (c l : List ℤ) (system rows target : List (List ℤ)) → AreDual w system rows → length c ≡ w → ((t : List ℤ) → Contains target t → length t ≡ w) → LineTarget c l rows target → AreDual w (c ∷ system) target
 dual_line_step w c l system rows target d lc lt s =

@@ -1,6 +1,5 @@
 -- An echelon form with one more row: the row takes its place by its pivot, and the rows before it are cleared at that pivot.
-use Rattle.std.proofs.Common.{List, [], ap, arith, inl, inr, length, neg_ℤ, negsuc, pos, refl, subst, suc, sym, zero, ℕ, ℤ, ◌*ℤ◌, ◌++◌, ◌+ℤ◌, ◌<ℤ◌, ◌<◌, ◌∙◌, ◌∷◌, ◌≡◌, ◌⊎◌}
-use Rattle.std.proofs.lemmas.Int.{ints}
+use Rattle.std.proofs.Common.{List, [], ap, arith, inl, inr, length, neg_ℤ, pos, refl, subst, sym, ℕ, ℤ, ◌*ℤ◌, ◌++◌, ◌+ℤ◌, ◌<ℤ◌, ◌<◌, ◌∙◌, ◌∷◌, ◌≡◌, ◌⊎◌}
 use Rattle.std.proofs.lemmas.List.Elements.{Contains-append_cases, Contains-append_left, Contains-append_right}
 use Rattle.std.specs.List.{Contains}
 use Rattle.lra_linear.specs.Echelon.{Before, IsEchelon, Leads}
@@ -9,7 +8,7 @@ use Rattle.lra_linear.specs.Vectors.{entry}
 use Rattle.lra_linear.proofs.LowestTerms.{lowest_exists}
 use Rattle.lra_linear.proofs.Membership.{contains_cases, contains_head, contains_tail}
 use Rattle.lra_linear.proofs.Ring.{ring, v, ⊖, ◌⊕◌, ◌⊗◌}
-use Rattle.lra_linear.proofs.Signs.{no_product, positive_part}
+use Rattle.lra_linear.proofs.Signs.{no_product, not_both, positive_part, times_positive}
 
 -- ---- one more row: t is e with 0 at the pivot p of r
 pub record Image (r : List ℤ) (p : ℕ) (e t : List ℤ) : Type 0 where
@@ -61,7 +60,7 @@ echelon_insert r p (k ∷ low) (t ∷ new) high (q ∷ lows) highs l pr z b hz e
     (f.0.is q ∙ ap (λ y. (a *ℤ entry k q) +ℤ (neg_ℤ c *ℤ y)) (r_early q (inr refl)) ∙ ring (v a ⊗ v (entry k q) ⊕ ⊖ (v c) ⊗ v (pos 0)) (v a ⊗ v (entry k q)) (omega arith))
     (times_positive a (entry k q) l.here ech.0.here) in (
       record { before = λ j h. image_zero r p k t f.0 j (ech.0.before j h) (r_early j (inl h)); here = here },
-      elim f.0.lowest [ inl y ↦ y | inr y ↦ absurd (apart (entry t q) here (y q)) ],
+      elim f.0.lowest [ inl y ↦ y | inr y ↦ absurd (not_both (entry t q) here (y q)) ],
       λ s m j h. elim (Contains-append_cases new (r ∷ high) s m) [
         | inl n ↦ let o = images_from r p low new f.1 s n in image_zero r p o.0 s o.2 j (ech.2 o.0 (Contains-append_left low high o.0 o.1) j h) (r_early j h)
         | inr n ↦ elim (contains_cases r s high n) [
@@ -78,16 +77,6 @@ echelon_insert r p (k ∷ low) (t ∷ new) high (q ∷ lows) highs l pr z b hz e
       ],
       i,
     )
-  where
-    apart : (y : ℤ) → pos 0 <ℤ y → y ≡ pos 0 → ⊥
-    apart y h e = omega (arith, ints, h, e)
-
-    times_positive : (a b : ℤ) → pos 0 <ℤ a → pos 0 <ℤ b → pos 0 <ℤ (a *ℤ b)
-    times_positive (pos zero) b h k = absurd (omega (arith, ints, h))
-    times_positive (pos (suc a)) (pos zero) h k = absurd (omega (arith, ints, k))
-    times_positive (pos (suc a)) (pos (suc b)) h k = omega (arith, ints)
-    times_positive (pos (suc a)) (negsuc b) h k = absurd (omega (arith, ints, k))
-    times_positive (negsuc a) b h k = absurd (omega (arith, ints, h))
 
 -- the images exist, in lowest terms, whatever passes where they are computed
 pub images_exist : (r : List ℤ) (p : ℕ) (es : List (List ℤ)) → ((e : List ℤ) → Contains es e → (s : List ℤ) × ((j : ℕ) → entry s j ≡ (entry r p *ℤ entry e j) +ℤ (neg_ℤ (entry e p) *ℤ entry r j))) → (ts : List (List ℤ)) × Images r p es ts

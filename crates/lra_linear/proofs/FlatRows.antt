@@ -1,6 +1,6 @@
 -- Rows combined with a line so that their product with c is 0: what they keep of the rows before, and the lines without that line are
 -- again in echelon form.
-use Rattle.std.proofs.Common.{List, [], ap, arith, inl, inr, neg_ℤ, negsuc, pos, refl, subst, suc, sym, unsigned_abs, zero, ℕ, ℤ, ◌*ℤ◌, ◌++◌, ◌+ℤ◌, ◌<ℤ◌, ◌∙◌, ◌∷◌, ◌≡◌, ◌≤ℤ◌, ◌⊎◌}
+use Rattle.std.proofs.Common.{List, [], ap, arith, inl, inr, neg_ℤ, negsuc, pos, refl, subst, suc, sym, unsigned_abs, ℕ, ℤ, ◌*ℤ◌, ◌++◌, ◌+ℤ◌, ◌<ℤ◌, ◌∙◌, ◌∷◌, ◌≡◌, ◌≤ℤ◌, ◌⊎◌}
 use Rattle.std.proofs.lemmas.Int.{ints}
 use Rattle.std.proofs.lemmas.List.Elements.{Contains-append_cases, Contains-append_left, Contains-append_right}
 use Rattle.std.specs.Int.{◌∣◌}
@@ -10,13 +10,13 @@ use Rattle.lra_linear.specs.DoubleDescription.{Flat, Flats}
 use Rattle.lra_linear.specs.Echelon.{Before, IsEchelon}
 use Rattle.lra_linear.specs.LowestTerms.{IsPrimitive}
 use Rattle.lra_linear.specs.Vectors.{dot, entry, negated}
-use Rattle.lra_linear.proofs.Combinations.{generated_divided, generated_more, generated_plus, generated_same, generated_times, generated_zero}
+use Rattle.lra_linear.proofs.Combinations.{generated_divided, generated_plus, generated_same, generated_times, generated_zero}
 use Rattle.lra_linear.proofs.LinearMaps.{generated_nonneg}
-use Rattle.lra_linear.proofs.Lines.{line_times}
+use Rattle.lra_linear.proofs.Lines.{line_multiple, signed_from, signed_multiple}
 use Rattle.lra_linear.proofs.Membership.{contains_cases, contains_head, contains_tail}
 use Rattle.lra_linear.proofs.Products.{dot_linear, dot_same, dot_scale, entry_negated}
 use Rattle.lra_linear.proofs.Ring.{ring, v, ⊖, ◌⊕◌, ◌⊗◌}
-use Rattle.lra_linear.proofs.Signs.{as_nat, no_product, positive_nat, positive_part}
+use Rattle.lra_linear.proofs.Signs.{as_nat, no_product, not_both, positive_nat, positive_part, times_positive}
 
 Rows : Type 0
 Rows = List (List ℤ)
@@ -101,7 +101,7 @@ echelon_drop c l line (k ∷ before) after (t ∷ new) (q ∷ ps) z p f ech =
       pivots = q ∷ i.pivots;
       echelon = (
         record { before = λ j h. flat_zero c l k t f.0 j (ech.0.before j h) (l_early j (inl h)); here = here },
-        elim f.0.lowest [ inl y ↦ y | inr y ↦ absurd (apart (entry t q) here (y q)) ],
+        elim f.0.lowest [ inl y ↦ y | inr y ↦ absurd (not_both (entry t q) here (y q)) ],
         λ s m j h. elim (Contains-append_cases new after s m) [
           | inl n ↦ let o = flats_from c l before new f.1 s n in flat_zero c l o.row s o.flat j (ech.2 o.row (Contains-append_left before (line ∷ after) o.row o.has) j h) (l_early j h)
           | inr n ↦ ech.2 s (Contains-append_right before (line ∷ after) s (contains_tail line s after n)) j h
@@ -112,51 +112,6 @@ echelon_drop c l line (k ∷ before) after (t ∷ new) (q ∷ ps) z p f ech =
       sub = λ r m. elim (contains_cases q r i.pivots m) [ inl e ↦ subst (λ (y : ℕ). Contains (q ∷ ps) y) e (0, omega arith, refl) | inr n ↦ contains_tail q r ps (i.sub r n) ];
       zero_at = λ r m. elim (contains_cases q r i.pivots m) [ inl e ↦ l_early r (inr (sym e)) | inr n ↦ i.zero_at r n ];
     }
-  where
-    apart : (y : ℤ) → pos 0 <ℤ y → y ≡ pos 0 → ⊥
-    apart y h e = omega (arith, ints, h, e)
-
-    times_positive : (a b : ℤ) → pos 0 <ℤ a → pos 0 <ℤ b → pos 0 <ℤ (a *ℤ b)
-    times_positive (pos zero) b h k = absurd (omega (arith, ints, h))
-    times_positive (pos (suc a)) (pos zero) h k = absurd (omega (arith, ints, k))
-    times_positive (pos (suc a)) (pos (suc b)) h k = omega (arith, ints)
-    times_positive (pos (suc a)) (negsuc b) h k = absurd (omega (arith, ints, k))
-    times_positive (negsuc a) b h k = absurd (omega (arith, ints, h))
-
--- ---- rows with a sign
-pub record SignedLine (lines : List (List ℤ)) (t : List ℤ) : Type 0 where
-  pub line : List ℤ
-  pub has : Contains lines line
-  pub sign : (t ≡ line) ⊎ (t ≡ negated line)
-
-pub signed_from : (lines : List (List ℤ)) (t : List ℤ) → Contains (both_ways lines) t → SignedLine lines t
-signed_from [] t k = absurd (omega (arith, k.1))
-signed_from (l ∷ lines) t k = elim (contains_cases l t (negated l ∷ both_ways lines) k) [
-  | inl e ↦ record { line = l; has = contains_head l lines; sign = inl (sym e) }
-  | inr d ↦ elim (contains_cases (negated l) t (both_ways lines) d) [
-    | inl e ↦ record { line = l; has = contains_head l lines; sign = inr (sym e) }
-    | inr m ↦ let i = signed_from lines t m in record { line = i.line; has = contains_tail l i.line lines i.has; sign = i.sign }
-  ]
-]
-
--- any multiple of a line
-pub line_multiple : (lines : List (List ℤ)) (l : List ℤ) (z : ℤ) → Contains lines l → Generated (both_ways lines) (λ j. z *ℤ entry l j)
-line_multiple [] l z k = absurd (omega (arith, k.1))
-line_multiple (x ∷ lines) l z k = elim (contains_cases x l lines k) [
-  | inl e ↦ subst (λ (y : List ℤ). Generated (both_ways (x ∷ lines)) (λ j. z *ℤ entry y j)) e (line_times x (both_ways lines) z)
-  | inr d ↦ generated_more x (negated x ∷ both_ways lines) (λ j. z *ℤ entry l j) (generated_more (negated x) (both_ways lines) (λ j. z *ℤ entry l j) (line_multiple lines l z d))
-]
-
-pub signed_multiple : (lines : List (List ℤ)) (l s : List ℤ) (z : ℤ) → Contains lines l → (s ≡ l) ⊎ (s ≡ negated l) → Generated (both_ways lines) (λ j. z *ℤ entry s j)
-signed_multiple lines l s z k (inl e) = subst (λ (y : List ℤ). Generated (both_ways lines) (λ j. z *ℤ entry y j)) (sym e) (line_multiple lines l z k)
-signed_multiple lines l s z k (inr e) =
-    subst (λ (y : List ℤ). Generated (both_ways lines) (λ j. z *ℤ entry y j)) (sym e)
-    (generated_same (both_ways lines) (λ j. neg_ℤ z *ℤ entry l j) (λ j. z *ℤ entry (negated l) j)
-    (λ j. ring (⊖ (v z) ⊗ v (entry l j)) (v z ⊗ ⊖ (v (entry l j))) (omega arith) ∙ ap (λ y. z *ℤ y) (sym (entry_negated l j))) (line_multiple lines l (neg_ℤ z) k))
-
-pub signed_zero : (l s : List ℤ) → (s ≡ l) ⊎ (s ≡ negated l) → (j : ℕ) → entry l j ≡ pos 0 → entry s j ≡ pos 0
-signed_zero l s (inl e) j h = ap (λ (y : List ℤ). entry y j) e ∙ h
-signed_zero l s (inr e) j h = ap (λ (y : List ℤ). entry y j) e ∙ entry_negated l j ∙ ap neg_ℤ h
 
 -- ---- a flat row lies in the cone of its row and the line, and the other way round
 pub flat_dot : (c l r t : List ℤ) → Flat c l r t → dot c (entry t) ≡ pos 0

@@ -8,14 +8,15 @@ use Rattle.lra_linear.specs.Cones.{AreDual, Generated, all_rows, both_ways}
 use Rattle.lra_linear.specs.DoubleDescription.{Flat, Flats, LineCase, StepOf}
 use Rattle.lra_linear.specs.LowestTerms.{IsPrimitive}
 use Rattle.lra_linear.specs.Vectors.{dot, entry, negated}
-use Rattle.lra_linear.proofs.CanonicalForms.{contains_split}
 use Rattle.lra_linear.proofs.Combinations.{generated_row, generated_same, generated_times, generated_zero}
 use Rattle.lra_linear.proofs.Duality.{LineTarget, dual_line_step, dual_step}
-use Rattle.lra_linear.proofs.FlatRows.{Dropped, echelon_drop, flat_back, flat_back_negative, flat_back_zero, flat_dot, flat_inside, flat_split, flat_zero, flats_from, flats_to, generated_flat, line_multiple, lines_inside, member_primitive, signed_from, signed_multiple, signed_primitive, signed_zero}
+use Rattle.lra_linear.proofs.FlatRows.{Dropped, echelon_drop, flat_back, flat_back_negative, flat_back_zero, flat_dot, flat_inside, flat_split, flat_zero, flats_from, flats_to, generated_flat, lines_inside, member_primitive, signed_primitive}
 use Rattle.lra_linear.proofs.LinearMaps.{generated_left, generated_nonneg, generated_right, generated_through}
-use Rattle.lra_linear.proofs.Membership.{contains_cases, contains_head, contains_tail}
-use Rattle.lra_linear.proofs.Products.{dot_negated, dot_same, entry_negated, negated_length}
+use Rattle.lra_linear.proofs.Lines.{line_multiple, signed_from, signed_multiple, signed_zero}
+use Rattle.lra_linear.proofs.Membership.{contains_cases, contains_head, contains_split, contains_tail}
+use Rattle.lra_linear.proofs.Products.{dot_minus, dot_negated, entry_negated, negated_length}
 use Rattle.lra_linear.proofs.Ring.{ring, v, ⊖, ◌⊕◌, ◌⊗◌}
+use Rattle.lra_linear.proofs.Signs.{not_both}
 
 one_times : (rows : List (List ℤ)) (k : List ℤ) → Generated rows (λ j. pos 1 *ℤ entry k j) → Generated rows (entry k)
 one_times rows k g = generated_same rows (λ j. pos 1 *ℤ entry k j) (entry k) (λ j. ring (v (pos 1) ⊗ v (entry k j)) (v (entry k j)) (omega arith)) g
@@ -67,9 +68,6 @@ split_head : (l : List ℤ) (rays front : List (List ℤ)) (t : List ℤ) (back 
 split_head l rays [] t back e = inl (refl, cc, cc)
 split_head l rays (x ∷ front) t back e = let a : x ≡ l = cc in let b : rays ≡ front ++ t ∷ back = cc in inr (front, ap (λ (y : List ℤ). y ∷ front) a, b)
 
-dot_opposite : (c l : List ℤ) → dot c (λ j. neg_ℤ (entry l j)) ≡ neg_ℤ (dot c (entry l))
-dot_opposite c l = dot_same c (λ j. neg_ℤ (entry l j)) (entry (negated l)) (λ j. sym (entry_negated l j)) ∙ dot_negated c l
-
 canonical_core : (equal : Bool) (c l line : List ℤ) (before after new rays flat : List (List ℤ)) → IsCanonical (before ++ line ∷ after) rays → (l ≡ line) ⊎ (l ≡ negated line) → pos 0 <ℤ dot c (entry l) → ((k : List ℤ) → Contains after k → dot c (entry k) ≡ pos 0) → Flats c l before new →
     Flats c l rays flat → IsCanonical (new ++ after) (cond equal flat (l ∷ flat))
 canonical_core equal c l line before after new rays flat k s p fa f fr =
@@ -96,9 +94,6 @@ canonical_core equal c l line before after new rays flat k s p fa f fr =
     ] in
     by_kind equal d reduced lowest pointed flat_row
   where
-    clash : (z : ℤ) → pos 0 <ℤ z → z ≡ pos 0 → ⊥
-    clash z h e = omega (arith, ints, h, e)
-
     clash_negative : (z : ℤ) → pos 0 <ℤ z → pos 0 ≤ℤ neg_ℤ z → ⊥
     clash_negative z h e = omega (arith, ints, h, e)
 
@@ -124,7 +119,7 @@ canonical_core equal c l line before after new rays flat k s p fa f fr =
             | inr n ↦ lowest t n
           ];
           needed = λ front t back e. elim (split_head l flat front t back e) [
-            | inl x ↦ λ g. clash (dot c (entry l)) p
+            | inl x ↦ λ g. not_both (dot c (entry l)) p
                 (generated_flat c (all_rows (new ++ after) flat) (entry l) flat_row
                 (subst (λ (y : List (List ℤ)). Generated (all_rows (new ++ after) y) (entry l)) (ap (λ (y : List (List ℤ)). y ++ back) x.0 ∙ x.2) (subst (λ (y : List ℤ). Generated (all_rows (new ++ after) (front ++ back)) (entry y)) x.1 g)))
             | inr x ↦ flat_needed c l line before after new rays x.0 t back (front ++ back) k s p f (subst (λ (y : List (List ℤ)). Flats c l rays y) x.2 fr)
@@ -132,7 +127,7 @@ canonical_core equal c l line before after new rays flat k s p fa f fr =
           ];
           pointed = λ t i. elim (contains_cases l t flat i) [
             | inl e ↦ λ g. clash_negative (dot c (entry l)) p
-                (subst (λ z. pos 0 ≤ℤ z) (ap (λ (y : List ℤ). dot c (λ j. neg_ℤ (entry y j))) (sym e) ∙ dot_opposite c l)
+                (subst (λ z. pos 0 ≤ℤ z) (ap (λ (y : List ℤ). dot c (λ j. neg_ℤ (entry y j))) (sym e) ∙ dot_minus c (entry l))
                 (generated_nonneg c (all_rows (new ++ after) (l ∷ flat)) (λ j. neg_ℤ (entry t j))
                 (λ r m. elim (contains_cases l r (all_rows (new ++ after) flat) m) [ inl q ↦ subst (λ (y : List ℤ). pos 0 ≤ℤ dot c (entry y)) q (omega (arith, ints, p)) | inr q ↦ subst (λ z. pos 0 ≤ℤ z) (sym (flat_row r q)) (omega (arith, ints)) ]) g))
             | inr n ↦ pointed (l ∷ flat) (λ o m. elim (contains_cases l o flat m) [ inl q ↦ inr (sym q) | inr q ↦ inl q ]) t n

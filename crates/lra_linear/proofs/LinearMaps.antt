@@ -71,7 +71,6 @@ pub generated_right : (rows more : List (List ℤ)) (u : ℕ → ℤ) → Genera
 generated_right [] more u g = g
 generated_right (x ∷ xs) more u g = generated_more x (xs ++ more) u (generated_right xs more u g)
 
--- ---- products with what rows generate
 -- ---- soundness
 pub sum_nonneg : (c : List ℤ) (rows : List (List ℤ)) → ((r : List ℤ) → Contains rows r → pos 0 ≤ℤ dot c (entry r)) → (fs : List ℕ) → pos 0 ≤ℤ dot c (sum_of fs rows)
 sum_nonneg c rows h [] = subst (λ z. pos 0 ≤ℤ z) (sym (dot_zero c)) (omega (arith, ints))

@@ -1,11 +1,12 @@
 -- Lines and rays, and the same as rays alone, with each line in both directions: what the lines and rays describe is what those
 -- generate. The unit rows as lines describe the whole space.
-use Rattle.std.proofs.Common.{List, [], ap, arith, length, neg_ℤ, negsuc, pos, refl, suc, sym, zero, ℕ, ℤ, ◌*ℤ◌, ◌++◌, ◌+ℤ◌, ◌∙◌, ◌∷◌, ◌≡◌}
+use Rattle.std.proofs.Common.{List, [], ap, arith, inl, inr, length, neg_ℤ, negsuc, pos, refl, subst, suc, sym, zero, ℕ, ℤ, ◌*ℤ◌, ◌++◌, ◌+ℤ◌, ◌∙◌, ◌∷◌, ◌≡◌, ◌⊎◌}
+use Rattle.std.specs.List.{Contains}
 use Rattle.lra_linear.specs.Cones.{Described, Generated, both_ways}
 use Rattle.lra_linear.specs.Vectors.{behind_zero, entry, negated, signed_sum, sum_of, units, zeros}
 use Rattle.lra_linear.proofs.Combinations.{generated_divided, generated_more, generated_plus, generated_row, generated_same, generated_times, generated_zero}
 use Rattle.lra_linear.proofs.LinearMaps.{generated_left, generated_right, sum_generated}
-use Rattle.lra_linear.proofs.Membership.{contains_head, contains_tail}
+use Rattle.lra_linear.proofs.Membership.{contains_cases, contains_head, contains_tail}
 use Rattle.lra_linear.proofs.Products.{entry_negated}
 use Rattle.lra_linear.proofs.Ring.{ring, v, ⊖, ◌⊕◌, ◌⊗◌}
 
@@ -32,7 +33,6 @@ generated_described lines rays u d =
     (generated_plus all (signed_sum d.free lines) (sum_of d.factors rays) (generated_right rays (both_ways lines) (signed_sum d.free lines) (lines_generated lines d.free))
     (generated_left rays (both_ways lines) (sum_of d.factors rays) (sum_generated rays d.factors))))
 
--- ---- and back
 -- ---- and back
 record Signed (lines : List (List ℤ)) (fs : List ℕ) : Type 0 where
   zs : List ℤ
@@ -80,7 +80,45 @@ described_generated lines rays u g =
       is_sum = λ j. g.is_sum j ∙ h.is j ∙ ap (λ z. z +ℤ sum_of h.front rays j) (s.is j);
     }
 
--- ---- the whole space
+-- ---- rows of lines in both directions
+pub in_lines : (lines : List (List ℤ)) (t : List ℤ) → Contains lines t → Contains (both_ways lines) t
+in_lines [] t k = absurd (omega (arith, k.1))
+in_lines (x ∷ lines) t k = elim (contains_cases x t lines k) [ inl e ↦ subst (Contains (both_ways (x ∷ lines))) e (contains_head x (negated x ∷ both_ways lines)) | inr n ↦ contains_tail x t (negated x ∷ both_ways lines) (contains_tail (negated x) t (both_ways lines) (in_lines lines t n)) ]
+
+pub record SignedLine (lines : List (List ℤ)) (t : List ℤ) : Type 0 where
+  pub line : List ℤ
+  pub has : Contains lines line
+  pub sign : (t ≡ line) ⊎ (t ≡ negated line)
+
+pub signed_from : (lines : List (List ℤ)) (t : List ℤ) → Contains (both_ways lines) t → SignedLine lines t
+signed_from [] t k = absurd (omega (arith, k.1))
+signed_from (l ∷ lines) t k = elim (contains_cases l t (negated l ∷ both_ways lines) k) [
+  | inl e ↦ record { line = l; has = contains_head l lines; sign = inl (sym e) }
+  | inr d ↦ elim (contains_cases (negated l) t (both_ways lines) d) [
+    | inl e ↦ record { line = l; has = contains_head l lines; sign = inr (sym e) }
+    | inr m ↦ let i = signed_from lines t m in record { line = i.line; has = contains_tail l i.line lines i.has; sign = i.sign }
+  ]
+]
+
+-- any multiple of a line
+pub line_multiple : (lines : List (List ℤ)) (l : List ℤ) (z : ℤ) → Contains lines l → Generated (both_ways lines) (λ j. z *ℤ entry l j)
+line_multiple [] l z k = absurd (omega (arith, k.1))
+line_multiple (x ∷ lines) l z k = elim (contains_cases x l lines k) [
+  | inl e ↦ subst (λ (y : List ℤ). Generated (both_ways (x ∷ lines)) (λ j. z *ℤ entry y j)) e (line_times x (both_ways lines) z)
+  | inr d ↦ generated_more x (negated x ∷ both_ways lines) (λ j. z *ℤ entry l j) (generated_more (negated x) (both_ways lines) (λ j. z *ℤ entry l j) (line_multiple lines l z d))
+]
+
+pub signed_multiple : (lines : List (List ℤ)) (l s : List ℤ) (z : ℤ) → Contains lines l → (s ≡ l) ⊎ (s ≡ negated l) → Generated (both_ways lines) (λ j. z *ℤ entry s j)
+signed_multiple lines l s z k (inl e) = subst (λ (y : List ℤ). Generated (both_ways lines) (λ j. z *ℤ entry y j)) (sym e) (line_multiple lines l z k)
+signed_multiple lines l s z k (inr e) =
+    subst (λ (y : List ℤ). Generated (both_ways lines) (λ j. z *ℤ entry y j)) (sym e)
+    (generated_same (both_ways lines) (λ j. neg_ℤ z *ℤ entry l j) (λ j. z *ℤ entry (negated l) j)
+    (λ j. ring (⊖ (v z) ⊗ v (entry l j)) (v z ⊗ ⊖ (v (entry l j))) (omega arith) ∙ ap (λ y. z *ℤ y) (sym (entry_negated l j))) (line_multiple lines l (neg_ℤ z) k))
+
+pub signed_zero : (l s : List ℤ) → (s ≡ l) ⊎ (s ≡ negated l) → (j : ℕ) → entry l j ≡ pos 0 → entry s j ≡ pos 0
+signed_zero l s (inl e) j h = ap (λ (y : List ℤ). entry y j) e ∙ h
+signed_zero l s (inr e) j h = ap (λ (y : List ℤ). entry y j) e ∙ entry_negated l j ∙ ap neg_ℤ h
+
 -- ---- the whole space
 entry_zeros : (n j : ℕ) → entry (zeros n) j ≡ pos 0
 entry_zeros zero j = refl

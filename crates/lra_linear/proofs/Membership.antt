@@ -1,6 +1,10 @@
--- Members of a list, one element at a time; std has those of two lists that are joined.
-use Rattle.std.proofs.Common.{◌≡◌, ℕ, zero, suc, ◌<◌, List, [], ◌∷◌, length, get_or, refl, arith, inl, inr, ◌⊎◌}
+-- Members of a list, one element at a time (std has those of two lists that are joined); lists without repeats, and lists in order.
+use Rattle.std.proofs.Common.{List, [], ap, arith, get_or, inl, inr, length, length-append, refl, subst, suc, sym, zero, ℕ, ◌++◌, ◌<◌, ◌∙◌, ◌∷◌, ◌≡◌, ◌≤◌, ◌⊎◌}
+use Rattle.std.proofs.lemmas.List.Elements.{Contains-append_cases, Contains-append_left, Contains-append_right}
 use Rattle.std.specs.List.{Contains}
+use Rattle.std.specs.declared.cmp.Ordering.{Ordering}
+use Rattle.std.specs.declared.cmp.Ordering.TheVariants.{Less}
+use Rattle.lra_linear.specs.RowOrder.{Ascends}
 
 pub contains_none : {A : Type 0} (x : A) → Contains [] x → ⊥
 contains_none x k = omega (arith, k.1)
@@ -17,3 +21,58 @@ at_cases y x xs (suc k) h e = inr (k, omega (arith, h), e)
 
 pub contains_cases : {A : Type 0} (y x : A) (xs : List A) → Contains (y ∷ xs) x → (y ≡ x) ⊎ Contains xs x
 contains_cases y x xs h = at_cases y x xs h.0 h.1 h.2
+
+-- ---- splits
+pub contains_middle : {A : Type 0} (front : List A) (x : A) (back : List A) (t : A) → Contains (x ∷ front ++ back) t → Contains (front ++ x ∷ back) t
+contains_middle front x back t k = elim (contains_cases x t (front ++ back) k) [
+  | inl e ↦ Contains-append_right front (x ∷ back) t (subst (Contains (x ∷ back)) e (contains_head x back))
+  | inr d ↦ elim (Contains-append_cases front back t d) [
+    | inl i ↦ Contains-append_left front (x ∷ back) t i
+    | inr i ↦ Contains-append_right front (x ∷ back) t (contains_tail x t back i)
+  ]
+]
+
+-- the list with x between a front and a back
+pub record Split {A : Type 0} (xs : List A) (x : A) : Type 0 where
+  pub front : List A
+  pub back : List A
+  pub is : xs ≡ front ++ x ∷ back
+
+pub contains_split : {A : Type 0} (xs : List A) (x : A) → Contains xs x → Split xs x
+contains_split [] x k = absurd (contains_none x k)
+contains_split (y ∷ xs) x k = elim (contains_cases y x xs k) [
+  | inl e ↦ record { front = []; back = xs; is = ap (λ z. z ∷ xs) e }
+  | inr d ↦ let i = contains_split xs x d in record { front = y ∷ i.front; back = i.back; is = ap (λ zs. y ∷ zs) i.is }
+]
+
+-- ---- lists without repeats are no longer than lists with all their members
+abbrev pub NoRepeat : {A : Type 0} → List A → Type 0
+NoRepeat [] = Unit {0}
+NoRepeat (x ∷ xs) = ¬ (Contains xs x) × NoRepeat xs
+
+pub at_most : {A : Type 0} (xs ys : List A) → NoRepeat xs → ((t : A) → Contains xs t → Contains ys t) → length xs ≤ length ys
+at_most [] ys n f = omega arith
+at_most (x ∷ xs) ys n f =
+    let s = contains_split ys x (f x (contains_head x xs)) in
+    let i = at_most xs (s.front ++ s.back) n.1 (λ t k. elim (Contains-append_cases s.front (x ∷ s.back) t (subst (λ zs. Contains zs t) s.is (f t (contains_tail x t xs k)))) [
+      | inl a ↦ Contains-append_left s.front s.back t a
+      | inr a ↦ elim (contains_cases x t s.back a) [ inl e ↦ absurd (n.0 (subst (Contains xs) (sym e) k)) | inr b ↦ Contains-append_right s.front s.back t b ]
+    ]) in
+    omega (arith, i, ap length s.is, length-append s.front (x ∷ s.back), length-append s.front s.back)
+
+-- ---- lists in one strict order with the same members are equal
+pub same_ascending : {A : Type 0} (cmp : A → A → Ordering) → ((x y : A) → cmp x y ≡ Less → cmp y x ≡ Less → ⊥) → (xs ys : List A) → Ascends cmp xs → Ascends cmp ys →
+    ((t : A) → (Contains xs t → Contains ys t) × (Contains ys t → Contains xs t)) → xs ≡ ys
+same_ascending cmp asym [] [] a b same = refl
+same_ascending cmp asym [] (y ∷ ys) a b same = absurd (contains_none y ((same y).1 (contains_head y ys)))
+same_ascending cmp asym (x ∷ xs) [] a b same = absurd (contains_none x ((same x).0 (contains_head x xs)))
+same_ascending cmp asym (x ∷ xs) (y ∷ ys) a b same =
+    let e : x ≡ y = elim (contains_cases y x ys ((same x).0 (contains_head x xs))) [
+      | inl f ↦ sym f
+      | inr i ↦ elim (contains_cases x y xs ((same y).1 (contains_head y ys))) [ inl f ↦ f | inr k ↦ absurd (asym x y (a.0 y k) (b.0 x i)) ]
+    ] in
+    let tails : xs ≡ ys = same_ascending cmp asym xs ys a.1 b.1 (λ t. (
+      λ k. elim (contains_cases y t ys ((same t).0 (contains_tail x t xs k))) [ inl f ↦ absurd (let l = subst (λ z. cmp x z ≡ Less) (sym f ∙ sym e) (a.0 t k) in asym x x l l) | inr i ↦ i ],
+      λ k. elim (contains_cases x t xs ((same t).1 (contains_tail y t ys k))) [ inl f ↦ absurd (let l = subst (λ z. cmp y z ≡ Less) (sym f ∙ e) (b.0 t k) in asym y y l l) | inr i ↦ i ],
+    )) in
+    cc

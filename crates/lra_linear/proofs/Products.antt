@@ -1,7 +1,7 @@
 -- The product of a row with a vector is linear in the vector, and the product of two rows is symmetric.
-use Rattle.std.proofs.Common.{◌≡◌, ℕ, zero, suc, List, [], ◌∷◌, length, refl, ap, sym, ◌∙◌, pos, ℤ, ◌+ℤ◌, ◌*ℤ◌, neg_ℤ, ◌≤◌, arith}
-use Rattle.lra_linear.specs.Vectors.{entry, dot, product, negated, blend}
-use Rattle.lra_linear.proofs.Ring.{v, ◌⊕◌, ◌⊗◌, ⊖, ring}
+use Rattle.std.proofs.Common.{List, [], ap, arith, length, neg_ℤ, negsuc, pos, refl, suc, sym, zero, ℕ, ℤ, ◌*ℤ◌, ◌+ℤ◌, ◌∙◌, ◌∷◌, ◌≡◌, ◌≤◌}
+use Rattle.lra_linear.specs.Vectors.{blend, dot, entry, negated, product}
+use Rattle.lra_linear.proofs.Ring.{ring, v, ⊖, ◌⊕◌, ◌⊗◌}
 
 -- ---- rows as vectors
 pub entry_negated : (r : List ℤ) (j : ℕ) → entry (negated r) j ≡ neg_ℤ (entry r j)
@@ -76,10 +76,13 @@ dot_add c x s =
     dot_same c (λ j. x j +ℤ s j) (λ j. (pos 1 *ℤ x j) +ℤ s j) (λ j. ring (v (x j) ⊕ v (s j)) (v (pos 1) ⊗ v (x j) ⊕ v (s j)) (omega arith)) ∙ dot_plus c (pos 1) x s ∙
     ring (v (pos 1) ⊗ v (dot c x) ⊕ v (dot c s)) (v (dot c x) ⊕ v (dot c s)) (omega arith)
 
+pub dot_minus : (c : List ℤ) (u : ℕ → ℤ) → dot c (λ j. neg_ℤ (u j)) ≡ neg_ℤ (dot c u)
+dot_minus c u =
+    dot_same c (λ j. neg_ℤ (u j)) (λ j. negsuc 0 *ℤ u j) (λ j. ring (⊖ (v (u j))) (v (negsuc 0) ⊗ v (u j)) (omega arith)) ∙ dot_scale c (negsuc 0) u ∙
+    ring (v (negsuc 0) ⊗ v (dot c u)) (⊖ (v (dot c u))) (omega arith)
+
 pub dot_negated : (c r : List ℤ) → product c (negated r) ≡ neg_ℤ (product c r)
-dot_negated c r =
-    dot_same c (entry (negated r)) (λ j. neg_ℤ (pos 1) *ℤ entry r j) (λ j. entry_negated r j ∙ ring (⊖ (v (entry r j))) (⊖ (v (pos 1)) ⊗ v (entry r j)) (omega arith)) ∙
-    dot_scale c (neg_ℤ (pos 1)) (entry r) ∙ ring (⊖ (v (pos 1)) ⊗ v (product c r)) (⊖ (v (product c r))) (omega arith)
+dot_negated c r = dot_same c (entry (negated r)) (λ j. neg_ℤ (entry r j)) (entry_negated r) ∙ dot_minus c (entry r)
 
 -- ---- symmetric
 pub product_none : (r : List ℤ) → product r [] ≡ pos 0

@@ -9,9 +9,13 @@ use Rattle.lra_linear.proofs.LowestTerms.{same_multiple}
 use Rattle.lra_linear.proofs.Membership.{contains_cases, contains_head, contains_tail}
 use Rattle.lra_linear.proofs.Products.{entry_past, row_same}
 use Rattle.lra_linear.proofs.Ring.{ring, v, ⊖, ◌⊕◌, ◌⊗◌}
-use Rattle.lra_linear.proofs.Signs.{as_nat, cancel_same, no_factor, no_product, positive_nat}
+use Rattle.lra_linear.proofs.Signs.{as_nat, cancel_same, no_factor, no_product, not_both, positive_nat}
 
 -- ---- sums at a column where the rows are 0
+signed_sum_none : (zs : List ℤ) (j : ℕ) → signed_sum zs [] j ≡ pos 0
+signed_sum_none [] j = refl
+signed_sum_none (z ∷ zs) j = refl
+
 -- ---- sums at a column where the rows are 0
 sum_zero : (zs : List ℤ) (rows : List (List ℤ)) (j : ℕ) → ((t : List ℤ) → Contains rows t → entry t j ≡ pos 0) → signed_sum zs rows j ≡ pos 0
 sum_zero [] rows j h = refl
@@ -20,7 +24,6 @@ sum_zero (z ∷ zs) (r ∷ rows) j h =
     ap (λ y. (z *ℤ y) +ℤ signed_sum zs rows j) (h r (contains_head r rows)) ∙ ap (λ y. (z *ℤ pos 0) +ℤ y) (sum_zero zs rows j (λ t k. h t (contains_tail r t rows k))) ∙
     ring (v z ⊗ v (pos 0) ⊕ v (pos 0)) (v (pos 0)) (omega arith)
 
--- ---- spans
 -- ---- spans
 pub spanned_same : (rows : List (List ℤ)) (u w : ℕ → ℤ) → ((j : ℕ) → u j ≡ w j) → Spanned rows u → Spanned rows w
 spanned_same rows u w e g = record { multiple = g.multiple; positive = g.positive; factors = g.factors; is_sum = λ j. ap (λ a. pos g.multiple *ℤ a) (sym (e j)) ∙ g.is_sum j }
@@ -93,11 +96,7 @@ drop_head r rows p u h zeros e g = by_factors g.factors g.is_sum
 
 -- with 0 at every pivot, it is 0
 pub all_zero : (rows : List (List ℤ)) (ps : List ℕ) → IsEchelon rows ps → (u : ℕ → ℤ) → Spanned rows u → ((q : ℕ) → Contains ps q → u q ≡ pos 0) → (j : ℕ) → u j ≡ pos 0
-all_zero [] ps ech u g h j = no_product g.multiple (u j) g.positive (g.is_sum j ∙ nothing g.factors j)
-  where
-    nothing : (zs : List ℤ) (j : ℕ) → signed_sum zs [] j ≡ pos 0
-    nothing [] j = refl
-    nothing (z ∷ zs) j = refl
+all_zero [] ps ech u g h j = no_product g.multiple (u j) g.positive (g.is_sum j ∙ signed_sum_none g.factors j)
 all_zero (r ∷ rows) [] ech u g h j = absurd ech
 all_zero (r ∷ rows) (p ∷ ps) ech u g h j =
     all_zero rows ps ech.4 u (drop_head r rows p u ech.0.here (λ t k. ech.2 t k p (inr refl)) (h p (0, omega arith, refl)) g) (λ q k. h q (suc k.0, omega (arith, k.1), k.2)) j
@@ -109,10 +108,7 @@ early r rows p ps ech u g j h = no_product g.multiple (u j) g.positive (g.is_sum
 
 first_pivot : (r r' : List ℤ) (rows rows' : List (List ℤ)) (p p' : ℕ) (ps ps' : List ℕ) → IsEchelon (r ∷ rows) (p ∷ ps) → IsEchelon (r' ∷ rows') (p' ∷ ps') →
     ((u : ℕ → ℤ) → Spanned (r ∷ rows) u → Spanned (r' ∷ rows') u) → ¬ (Before p p')
-first_pivot r r' rows rows' p p' ps ps' ech ech' sub h = clash (entry r p) ech.0.here (early r' rows' p' ps' ech' (entry r) (sub (entry r) (spanned_head r rows)) p h)
-  where
-    clash : (z : ℤ) → pos 0 <ℤ z → z ≡ pos 0 → ⊥
-    clash z h e = omega (arith, ints, h, e)
+first_pivot r r' rows rows' p p' ps ps' ech ech' sub h = not_both (entry r p) ech.0.here (early r' rows' p' ps' ech' (entry r) (sub (entry r) (spanned_head r rows)) p h)
 
 -- of two columns the one comes before the other, unless they are the same
 neither : (i j : ℕ) → ¬ (Before i j) → ¬ (Before j i) → i ≡ j
@@ -131,14 +127,7 @@ tail_sub r r' rows rows' p ps ps' ech ech' sub u g =
     drop_head r' rows' p u ech'.0.here (λ t k. ech'.2 t k p (inr refl)) (zero_at rows p (λ t k. ech.2 t k p (inr refl)) u g) (sub u (spanned_more r rows u g))
 
 nothing_leads : (r : List ℤ) (p : ℕ) → Leads r p → Spanned [] (entry r) → ⊥
-nothing_leads r p l g = clash (entry r p) l.here (no_product g.multiple (entry r p) g.positive (g.is_sum p ∙ none g.factors p))
-  where
-    none : (zs : List ℤ) (j : ℕ) → signed_sum zs [] j ≡ pos 0
-    none [] j = refl
-    none (z ∷ zs) j = refl
-
-    clash : (z : ℤ) → pos 0 <ℤ z → z ≡ pos 0 → ⊥
-    clash z h e = omega (arith, ints, h, e)
+nothing_leads r p l g = not_both (entry r p) l.here (no_product g.multiple (entry r p) g.positive (g.is_sum p ∙ signed_sum_none g.factors p))
 
 pub echelon_unique : (n : ℕ) (rows rows' : List (List ℤ)) (ps ps' : List ℕ) → ((t : List ℤ) → Contains rows t → length t ≡ n) → ((t : List ℤ) → Contains rows' t → length t ≡ n) →
     IsEchelon rows ps → IsEchelon rows' ps' → ((u : ℕ → ℤ) → (Spanned rows u → Spanned rows' u) × (Spanned rows' u → Spanned rows u)) → (rows ≡ rows') × (ps ≡ ps')
@@ -179,10 +168,7 @@ echelon_unique n (r ∷ rows) (r' ∷ rows') (p ∷ ps) (p' ∷ ps') w w' ech ec
 
 -- ---- an echelon form has at most as many rows as columns
 leads_inside : (r : List ℤ) (p : ℕ) → Leads r p → p < length r
-leads_inside r p l = elim (cases_lt p (length r)) [ inl h ↦ h | inr h ↦ absurd (clash (entry r p) l.here (entry_past r p h)) ]
-  where
-    clash : (z : ℤ) → pos 0 <ℤ z → z ≡ pos 0 → ⊥
-    clash z h e = omega (arith, ints, h, e)
+leads_inside r p l = elim (cases_lt p (length r)) [ inl h ↦ h | inr h ↦ absurd (not_both (entry r p) l.here (entry_past r p h)) ]
 
 few_above : (w lo : ℕ) (rows : List (List ℤ)) (ps : List ℕ) → ((t : List ℤ) → Contains rows t → length t ≡ w) → IsEchelon rows ps → ((t : List ℤ) → Contains rows t → (j : ℕ) → 0 < j → j ≤ lo → entry t j ≡ pos 0) → lo < w → length rows + lo ≤ w
 few_above w lo [] ps width ech low h = omega arith
@@ -192,21 +178,15 @@ few_above w lo (r ∷ rows) (zero ∷ ps) width ech low h = elim rows as (λ (x 
   | ◌∷◌ t more ↦ λ z e. absurd (nothing t more ps z e)
 ] ech.2 ech.4
   where
-    clash : (z : ℤ) → pos 0 <ℤ z → z ≡ pos 0 → ⊥
-    clash z h e = omega (arith, ints, h, e)
-
     nothing : (t : List ℤ) (more : List (List ℤ)) (ps : List ℕ) → ((s : List ℤ) → Contains (t ∷ more) s → (j : ℕ) → Before j 0 ⊎ (j ≡ 0) → entry s j ≡ pos 0) → IsEchelon (t ∷ more) ps → ⊥
     nothing t more [] z e = e
-    nothing t more (zero ∷ ps) z e = clash (entry t 0) e.0.here (z t (contains_head t more) 0 (inr refl))
-    nothing t more (suc q ∷ ps) z e = clash (entry t (suc q)) e.0.here (z t (contains_head t more) (suc q) (inl (omega arith, inr refl)))
+    nothing t more (zero ∷ ps) z e = not_both (entry t 0) e.0.here (z t (contains_head t more) 0 (inr refl))
+    nothing t more (suc q ∷ ps) z e = not_both (entry t (suc q)) e.0.here (z t (contains_head t more) (suc q) (inl (omega arith, inr refl)))
 few_above w lo (r ∷ rows) (suc p ∷ ps) width ech low h =
     let inside : suc p < w = subst (λ (n : ℕ). suc p < n) (width r (contains_head r rows)) (leads_inside r (suc p) ech.0) in
-    let above : lo < suc p = elim (cases_lt lo (suc p)) [ inl k ↦ k | inr k ↦ absurd (clash (entry r (suc p)) ech.0.here (low r (contains_head r rows) (suc p) (omega arith) k)) ] in
+    let above : lo < suc p = elim (cases_lt lo (suc p)) [ inl k ↦ k | inr k ↦ absurd (not_both (entry r (suc p)) ech.0.here (low r (contains_head r rows) (suc p) (omega arith) k)) ] in
     let i = few_above w (suc p) rows ps (λ t k. width t (contains_tail r t rows k)) ech.4 (λ t k j a b. ech.2 t k j (elim (cases_lt j (suc p)) [ inl m ↦ inl (a, inl m) | inr m ↦ inr (omega arith) ])) inside in
     omega (arith, i)
-  where
-    clash : (z : ℤ) → pos 0 <ℤ z → z ≡ pos 0 → ⊥
-    clash z h e = omega (arith, ints, h, e)
 
 pub echelon_rows_at_most : (w : ℕ) (rows : List (List ℤ)) (ps : List ℕ) → ((t : List ℤ) → Contains rows t → length t ≡ w) → IsEchelon rows ps → 0 < w → length rows ≤ w
 echelon_rows_at_most w rows ps width ech h = let i = few_above w 0 rows ps width ech (λ t k j a b. absurd (omega arith)) h in omega (arith, i)

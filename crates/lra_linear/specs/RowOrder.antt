@@ -19,7 +19,7 @@ row_cmp xs ys = slice_cmp int_cmp (constant_last xs) (constant_last ys)
 abbrev pub inequality_cmp : List ℤ → List ℤ → Ordering
 inequality_cmp xs ys = ordering_then (nat_cmp (pivot xs) (pivot ys)) (row_cmp ys xs)
 
--- each row comes before all later ones
-abbrev pub Ascends : (List ℤ → List ℤ → Ordering) → List (List ℤ) → Type 0
+-- each element comes before all later ones
+abbrev pub Ascends : {A : Type 0} → (A → A → Ordering) → List A → Type 0
 Ascends cmp [] = Unit {0}
-Ascends cmp (x ∷ xs) = ((y : List ℤ) → Contains xs y → cmp x y ≡ Less) × Ascends cmp xs
+Ascends {A = A} cmp (x ∷ xs) = ((y : A) → Contains xs y → cmp x y ≡ Less) × Ascends cmp xs
