@@ -27,3 +27,7 @@ pub mod Redundancy
 -- The case of a line
 pub mod FlatRows
 pub mod LineCase
+-- Polyhedra
+pub mod Descriptions
+pub mod RowOrder
+pub mod OneSpelling

@@ -85,6 +85,13 @@ pub in_lines : (lines : List (List ℤ)) (t : List ℤ) → Contains lines t →
 in_lines [] t k = absurd (omega (arith, k.1))
 in_lines (x ∷ lines) t k = elim (contains_cases x t lines k) [ inl e ↦ subst (Contains (both_ways (x ∷ lines))) e (contains_head x (negated x ∷ both_ways lines)) | inr n ↦ contains_tail x t (negated x ∷ both_ways lines) (contains_tail (negated x) t (both_ways lines) (in_lines lines t n)) ]
 
+pub in_lines_negated : (lines : List (List ℤ)) (t : List ℤ) → Contains lines t → Contains (both_ways lines) (negated t)
+in_lines_negated [] t k = absurd (omega (arith, k.1))
+in_lines_negated (x ∷ lines) t k = elim (contains_cases x t lines k) [
+  | inl e ↦ subst (λ y. Contains (both_ways (x ∷ lines)) (negated y)) e (contains_tail x (negated x) (negated x ∷ both_ways lines) (contains_head (negated x) (both_ways lines)))
+  | inr n ↦ contains_tail x (negated t) (negated x ∷ both_ways lines) (contains_tail (negated x) (negated t) (both_ways lines) (in_lines_negated lines t n))
+]
+
 pub record SignedLine (lines : List (List ℤ)) (t : List ℤ) : Type 0 where
   pub line : List ℤ
   pub has : Contains lines line
