@@ -31,3 +31,5 @@ pub mod LineCase
 pub mod Descriptions
 pub mod RowOrder
 pub mod OneSpelling
+pub mod Polyhedra
+pub mod Widening

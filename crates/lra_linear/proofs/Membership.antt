@@ -1,7 +1,8 @@
 -- Members of a list, one element at a time (std has those of two lists that are joined); lists without repeats, and lists in order.
-use Rattle.std.proofs.Common.{List, [], ap, arith, get_or, inl, inr, length, length-append, refl, subst, suc, sym, zero, ℕ, ◌++◌, ◌<◌, ◌∙◌, ◌∷◌, ◌≡◌, ◌≤◌, ◌⊎◌}
+use Rattle.std.proofs.Common.{Bool, List, [], ap, arith, cond, false, get_or, inl, inr, length, length-append, refl, subst, suc, sym, true, zero, ℕ, ◌++◌, ◌<◌, ◌∙◌, ◌∷◌, ◌≡◌, ◌≤◌, ◌⊎◌}
+use Rattle.std.specs.Prelude.{◌&&◌}
 use Rattle.std.proofs.lemmas.List.Elements.{Contains-append_cases, Contains-append_left, Contains-append_right}
-use Rattle.std.specs.List.{Contains}
+use Rattle.std.specs.List.{Contains, filter, list_all}
 use Rattle.std.specs.declared.cmp.Ordering.{Ordering}
 use Rattle.std.specs.declared.cmp.Ordering.TheVariants.{Less}
 use Rattle.lra_linear.specs.RowOrder.{Ascends}
@@ -76,3 +77,40 @@ same_ascending cmp asym (x ∷ xs) (y ∷ ys) a b same =
       λ k. elim (contains_cases x t xs ((same t).1 (contains_tail y t ys k))) [ inl f ↦ absurd (let l = subst (λ z. cmp y z ≡ Less) (sym f ∙ e) (b.0 t k) in asym y y l l) | inr i ↦ i ],
     )) in
     cc
+
+-- ---- tests of all members, and those that pass
+pub list_all_at : {A : Type 0} (test : A → Bool) (xs : List A) → list_all test xs ≡ true → (x : A) → Contains xs x → test x ≡ true
+list_all_at test [] h x k = absurd (contains_none x k)
+list_all_at test (y ∷ xs) h x k =
+    let both = both_true (test y) (list_all test xs) h in
+    elim (contains_cases y x xs k) [ inl e ↦ ap test (sym e) ∙ both.0 | inr d ↦ list_all_at test xs both.1 x d ]
+  where
+    both_true : (a b : Bool) → (a && b) ≡ true → (a ≡ true) × (b ≡ true)
+    both_true true b h = (refl, h)
+    both_true false b h = cc
+
+pub list_all_from : {A : Type 0} (test : A → Bool) (xs : List A) → ((x : A) → Contains xs x → test x ≡ true) → list_all test xs ≡ true
+list_all_from test [] h = refl
+list_all_from test (y ∷ xs) h = rw (h y (contains_head y xs)) (list_all_from test xs (λ x k. h x (contains_tail y x xs k)))
+
+pub filter_has : {A : Type 0} (test : A → Bool) (xs : List A) (x : A) → Contains xs x → test x ≡ true → Contains (filter test xs) x
+filter_has test [] x k h = absurd (contains_none x k)
+filter_has test (y ∷ xs) x k h = elim (contains_cases y x xs k) [
+  | inl e ↦ subst (λ z. Contains (filter test (y ∷ xs)) z) e (subst (λ b. Contains (cond b (y ∷ filter test xs) (filter test xs)) y) (sym h ∙ ap test (sym e)) (contains_head y (filter test xs)))
+  | inr d ↦ later (test y) (filter_has test xs x d h)
+]
+  where
+    later : (b : Bool) → Contains (filter test xs) x → Contains (cond b (y ∷ filter test xs) (filter test xs)) x
+    later true d = contains_tail y x (filter test xs) d
+    later false d = d
+
+pub filter_from : {A : Type 0} (test : A → Bool) (xs : List A) (x : A) → Contains (filter test xs) x → Contains xs x × (test x ≡ true)
+filter_from test [] x k = absurd (contains_none x k)
+filter_from test (y ∷ xs) x k = by_test (test y) refl k (λ d. filter_from test xs x d)
+  where
+    by_test : (b : Bool) → test y ≡ b → Contains (cond b (y ∷ filter test xs) (filter test xs)) x → (Contains (filter test xs) x → Contains xs x × (test x ≡ true)) → Contains (y ∷ xs) x × (test x ≡ true)
+    by_test true e k rest = elim (contains_cases y x (filter test xs) k) [
+      | inl s ↦ (subst (Contains (y ∷ xs)) s (contains_head y xs), ap test (sym s) ∙ e)
+      | inr d ↦ let i = rest d in (contains_tail y x xs i.0, i.1)
+    ]
+    by_test false e k rest = let i = rest k in (contains_tail y x xs i.0, i.1)

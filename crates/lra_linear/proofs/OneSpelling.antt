@@ -118,7 +118,7 @@ dual_same_cone w system rows other d widths there back = record {
 }
 
 -- ---- the points of a polyhedron are those of its cone
-rows_hold : (p : Polyhedron) (h : HasPoint p) (x : List ℤ) → Solves (all_rows h.equalities h.facets) (entry x) → Con p.rows x
+pub rows_hold : (p : Polyhedron) (h : HasPoint p) (x : List ℤ) → Solves (all_rows h.equalities h.facets) (entry x) → Con p.rows x
 rows_hold p h x s g k = elim (Contains-append_cases (given_as true h.equalities) (given_as false h.inequalities) g (subst (λ l. Contains l g) h.rows_are k)) [
   | inl e ↦
       let f = given_from true h.equalities g e in
@@ -134,7 +134,7 @@ rows_hold p h x s g k = elim (Contains-append_cases (given_as true h.equalities)
     between : (z y : ℤ) → y ≡ neg_ℤ z → pos 0 ≤ℤ z → pos 0 ≤ℤ y → z ≡ pos 0
     between z y e f k = omega (arith, ints, e, f, k)
 
-cone_solved : (p : Polyhedron) (h : HasPoint p) (x : List ℤ) → IsPoint p.dims x → Con p.rows x → Solves (all_rows h.equalities h.facets) (entry x)
+pub cone_solved : (p : Polyhedron) (h : HasPoint p) (x : List ℤ) → IsPoint p.dims x → Con p.rows x → Solves (all_rows h.equalities h.facets) (entry x)
 cone_solved p h x is_point c r k = elim (Contains-append_cases h.facets (both_ways h.equalities) r k) [
   | inl f ↦ elim (h.all_shown r f) [
     | inl e ↦ subst (λ y. pos 0 ≤ℤ product y x) (sym e) (positive (entry x 0) (product (positivity p.dims) x) (positivity_product p.dims x) is_point.divisor)
