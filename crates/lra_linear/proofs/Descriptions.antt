@@ -5,7 +5,7 @@ use Rattle.std.proofs.lemmas.Int.{ints}
 use Rattle.std.proofs.lemmas.List.Elements.{Contains-append_cases, Contains-append_left, Contains-append_right}
 use Rattle.std.specs.List.{Contains}
 use Rattle.lra_linear.specs.Cones.{AreDual, Described, Generated, Solves, all_rows, both_ways}
-use Rattle.lra_linear.specs.Descriptions.{Con, Gen, Given, HoldsWith, lines_of, rays_of, system_of}
+use Rattle.lra_linear.specs.Descriptions.{Con, Gen, Given, Holds, HoldsWith, lines_of, rays_of, system_of}
 use Rattle.lra_linear.specs.DoubleDescription.{with_row}
 use Rattle.lra_linear.specs.Points.{SameSet}
 use Rattle.lra_linear.specs.Vectors.{dot, entry, negated, product}
@@ -101,6 +101,18 @@ solves_con rows x h g k = by_kind g.equal refl
     by_kind : (b : Bool) → g.equal ≡ b → HoldsWith b (product g.row x)
     by_kind true e = between (product g.row x) (dot (negated g.row) (entry x)) (negated_dot g.row (entry x)) (h g.row (system_has rows g k)) (h (negated g.row) (system_has_negated rows g k e))
     by_kind false e = h g.row (system_has rows g k)
+
+pub con_none : (x : List ℤ) → Con [] x
+con_none x g k = absurd (contains_none g k)
+
+pub con_cons : (r : Given) (rows : List Given) (x : List ℤ) → Holds r x → Con rows x → Con (r ∷ rows) x
+con_cons r rows x h c g k = elim (contains_cases r g rows k) [ inl e ↦ subst (λ y. Holds y x) e h | inr d ↦ c g d ]
+
+pub con_head : (r : Given) (rows : List Given) (x : List ℤ) → Con (r ∷ rows) x → Holds r x
+con_head r rows x c = c r (contains_head r rows)
+
+pub con_tail : (r : Given) (rows : List Given) (x : List ℤ) → Con (r ∷ rows) x → Con rows x
+con_tail r rows x c g k = c g (contains_tail r g rows k)
 
 -- ---- generators
 lines_from : (list : List Given) (l : List ℤ) → Contains (lines_of list) l → (g : Given) × Contains list g × (g.equal ≡ true) × (g.row ≡ l)

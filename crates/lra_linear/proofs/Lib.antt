@@ -33,3 +33,4 @@ pub mod RowOrder
 pub mod OneSpelling
 pub mod Polyhedra
 pub mod Widening
+mod PolyhedronExamples

@@ -55,7 +55,7 @@ falsity_never n x p h = below (entry x 0) (product (falsity n) x) p.divisor (fal
     below d z h e k = omega (arith, ints, h, e, k)
 
 -- ---- a direction in which one can go for ever
-far : (a b : ℤ) → ((k : ℕ) → pos 0 ≤ℤ (a +ℤ (pos k *ℤ b))) → pos 0 ≤ℤ b
+pub far : (a b : ℤ) → ((k : ℕ) → pos 0 ≤ℤ (a +ℤ (pos k *ℤ b))) → pos 0 ≤ℤ b
 far a (pos n) h = omega (arith, ints)
 far (pos m) (negsuc n) h = absurd (below m n (h (suc m)))
   where

@@ -12,6 +12,19 @@ pub record Given : Type 0 where
   pub row : List ℤ
   pub equal : Bool
 
+abbrev pub inequality : List ℤ → Given
+inequality c = record { row = c; equal = false }
+
+abbrev pub equality : List ℤ → Given
+equality c = record { row = c; equal = true }
+
+-- a point or a ray
+abbrev pub generator : List ℤ → Given
+generator r = record { row = r; equal = false }
+
+abbrev pub line : List ℤ → Given
+line r = record { row = r; equal = true }
+
 -- the rows of one kind, in their order
 abbrev pub given_as : Bool → List (List ℤ) → List Given
 given_as equal [] = []

@@ -2,14 +2,14 @@
 -- strains, where the canonical list of the other kind of its exact result does, or where a number passes as a row of the list is
 -- formed. Inclusion, the greatest value of a form, and the widenings strain where one of their products passes. Polyhedra stand here
 -- by their canonical lists, so the strain of an operation depends on the sets alone.
-use Rattle.std.specs.Prelude.{◌≡◌, ℕ, suc, ◌+◌, ◌-◌, ◌&&◌, ◌⊎◌, ℤ, pos, true, false, List, [], ◌∷◌, ◌++◌, take, slice_set, Result, Err, map}
+use Rattle.std.specs.Prelude.{◌≡◌, ℕ, suc, ◌+◌, ◌-◌, ◌&&◌, ◌⊎◌, ℤ, pos, true, List, [], ◌∷◌, ◌++◌, take, slice_set, Result, Err, map}
 use Rattle.std.specs.List.{Contains, filter}
 use Rattle.lra_linear.specs.declared.Excess as E
 use Rattle.lra_linear.specs.declared.Cause.TheVariants.{Excess}
 use Rattle.lra_linear.specs.Vectors.{cleared, substituted, zeros, units}
 use Rattle.lra_linear.specs.CheckedArithmetic.{checked_product, checked_substitution}
 use Rattle.lra_linear.specs.Points.{PointSet}
-use Rattle.lra_linear.specs.Descriptions.{Given, given_as, Holds, Con, Gen}
+use Rattle.lra_linear.specs.Descriptions.{Given, inequality, line, given_as, Holds, Con, Gen}
 use Rattle.lra_linear.specs.SetOperations.{Meet, Union, Hull, assigned, Image, Preimage, Forget, Embed, RemoveLast, TimeElapse}
 use Rattle.lra_linear.specs.Polyhedra.{Polyhedron, positivity, IsPolyhedronOf}
 use Rattle.lra_linear.specs.Widening.{is_tight, is_valid, Standard, Limited}
@@ -17,7 +17,7 @@ use Rattle.lra_linear.specs.Strain.{Loss, Strains}
 
 -- ---- lists taken in
 abbrev pub with_positivity : ℕ → List Given → List Given
-with_positivity n rows = record { row = positivity n; equal = false } ∷ rows
+with_positivity n rows = inequality (positivity n) ∷ rows
 
 -- the canonical constraints, or generators, of the exact result P strain
 pub record ResultStrains (n : ℕ) (P : PointSet) (list : Polyhedron → List Given) (loss : Loss) : Type 0 where
@@ -123,7 +123,7 @@ abbrev pub unit_row : ℕ → ℕ → List ℤ
 unit_row n k = slice_set (zeros (suc n)) k (pos 1)
 
 abbrev pub ForgetStrains : ℕ → Polyhedron → Loss → Type 0
-ForgetStrains k p = GeneratorsStrain p.dims (Forget p.dims k (Con p.rows)) (p.generators ++ record { row = unit_row p.dims k; equal = true } ∷ [])
+ForgetStrains k p = GeneratorsStrain p.dims (Forget p.dims k (Con p.rows)) (p.generators ++ line (unit_row p.dims k) ∷ [])
 
 -- the generators with k more columns, then a line for each of these
 abbrev pub embedded : ℕ → Polyhedron → List Given
@@ -145,4 +145,4 @@ abbrev pub InclusionStrains : Polyhedron → Polyhedron → E.Excess → Type 0
 InclusionStrains p q e = ProductsPass q.rows p.generators e
 
 abbrev pub MaximiseStrains : Polyhedron → List ℤ → E.Excess → Type 0
-MaximiseStrains p form e = ProductsPass (record { row = form; equal = false } ∷ []) p.generators e
+MaximiseStrains p form e = ProductsPass (inequality form ∷ []) p.generators e

@@ -8,7 +8,7 @@ use Rattle.lra_linear.specs.Cones.{all_rows, AreDual}
 use Rattle.lra_linear.specs.Canonical.{IsCanonical}
 use Rattle.lra_linear.specs.RowOrder.{row_cmp, inequality_cmp, Ascends}
 use Rattle.lra_linear.specs.Points.{PointSet, SameSet}
-use Rattle.lra_linear.specs.Descriptions.{Given, given_as, Con}
+use Rattle.lra_linear.specs.Descriptions.{Given, inequality, given_as, Con}
 
 -- what a value shows: its dimensions, constraints and generators
 pub record Polyhedron : Type 0 where
@@ -50,7 +50,7 @@ pub record HasPoint (p : Polyhedron) : Type 0 where
 
 -- ---- without one
 abbrev pub IsWithoutPoint : Polyhedron → Type 0
-IsWithoutPoint p = (p.rows ≡ record { row = falsity p.dims; equal = false } ∷ []) × (p.generators ≡ [])
+IsWithoutPoint p = (p.rows ≡ inequality (falsity p.dims) ∷ []) × (p.generators ≡ [])
 
 -- the lists are the canonical ones of a polyhedron
 abbrev pub IsPolyhedron : Polyhedron → Type 0
