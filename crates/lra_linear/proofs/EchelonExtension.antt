@@ -11,39 +11,39 @@ use Rattle.lra_linear.proofs.Ring.{ring, v, ⊖, ◌⊕◌, ◌⊗◌}
 use Rattle.lra_linear.proofs.Signs.{no_product, not_both, positive_part, times_positive}
 
 -- ---- one more row: t is e with 0 at the pivot p of r
-pub record Image (r : List ℤ) (p : ℕ) (e t : List ℤ) : Type 0 where
+pub record ClearedRow (r : List ℤ) (p : ℕ) (e t : List ℤ) : Type 0 where
   pub times : ℕ
   pub positive : 0 < times
   pub is : (j : ℕ) → pos times *ℤ entry t j ≡ (entry r p *ℤ entry e j) +ℤ (neg_ℤ (entry e p) *ℤ entry r j)
   pub lowest : IsPrimitive t ⊎ ((j : ℕ) → entry t j ≡ pos 0)
 
-abbrev pub Images : List ℤ → ℕ → List (List ℤ) → List (List ℤ) → Type 0
-Images r p [] [] = Unit {0}
-Images r p [] (t ∷ ts) = ⊥
-Images r p (e ∷ es) [] = ⊥
-Images r p (e ∷ es) (t ∷ ts) = Image r p e t × Images r p es ts
+abbrev pub ClearedRows : List ℤ → ℕ → List (List ℤ) → List (List ℤ) → Type 0
+ClearedRows r p [] [] = Unit {0}
+ClearedRows r p [] (t ∷ ts) = ⊥
+ClearedRows r p (e ∷ es) [] = ⊥
+ClearedRows r p (e ∷ es) (t ∷ ts) = ClearedRow r p e t × ClearedRows r p es ts
 
-image_zero : (r : List ℤ) (p : ℕ) (e t : List ℤ) → Image r p e t → (j : ℕ) → entry e j ≡ pos 0 → entry r j ≡ pos 0 → entry t j ≡ pos 0
-image_zero r p e t x j h k =
+cleared_zero : (r : List ℤ) (p : ℕ) (e t : List ℤ) → ClearedRow r p e t → (j : ℕ) → entry e j ≡ pos 0 → entry r j ≡ pos 0 → entry t j ≡ pos 0
+cleared_zero r p e t x j h k =
     let a = entry r p in
     let b = entry e p in
     no_product x.times (entry t j) x.positive
     (x.is j ∙ ap (λ z. (a *ℤ z) +ℤ (neg_ℤ b *ℤ entry r j)) h ∙ ap (λ z. (a *ℤ pos 0) +ℤ (neg_ℤ b *ℤ z)) k ∙ ring (v a ⊗ v (pos 0) ⊕ ⊖ (v b) ⊗ v (pos 0)) (v (pos 0)) (omega arith))
 
-images_from : (r : List ℤ) (p : ℕ) (es ts : List (List ℤ)) → Images r p es ts → (t : List ℤ) → Contains ts t → (e : List ℤ) × Contains es e × Image r p e t
-images_from r p [] [] f t k = absurd (omega (arith, k.1))
-images_from r p [] (x ∷ ts) f t k = absurd f
-images_from r p (e ∷ es) [] f t k = absurd f
-images_from r p (e ∷ es) (x ∷ ts) f t k = elim (contains_cases x t ts k) [
-  | inl q ↦ (e, contains_head e es, subst (λ (y : List ℤ). Image r p e y) q f.0)
-  | inr d ↦ let i = images_from r p es ts f.1 t d in (i.0, contains_tail e i.0 es i.1, i.2)
+cleared_from : (r : List ℤ) (p : ℕ) (es ts : List (List ℤ)) → ClearedRows r p es ts → (t : List ℤ) → Contains ts t → (e : List ℤ) × Contains es e × ClearedRow r p e t
+cleared_from r p [] [] f t k = absurd (omega (arith, k.1))
+cleared_from r p [] (x ∷ ts) f t k = absurd f
+cleared_from r p (e ∷ es) [] f t k = absurd f
+cleared_from r p (e ∷ es) (x ∷ ts) f t k = elim (contains_cases x t ts k) [
+  | inl q ↦ (e, contains_head e es, subst (λ (y : List ℤ). ClearedRow r p e y) q f.0)
+  | inr d ↦ let i = cleared_from r p es ts f.1 t d in (i.0, contains_tail e i.0 es i.1, i.2)
 ]
 
 before_trans : (i j k : ℕ) → Before i j → Before j k → Before i k
 before_trans i j k h l = (h.0, elim l.1 [ inl m ↦ inl (elim h.1 [ inl n ↦ omega arith | inr n ↦ absurd (let z = l.0 in omega arith) ]) | inr m ↦ inr m ])
 
 pub echelon_insert : (r : List ℤ) (p : ℕ) (low new high : List (List ℤ)) (lows highs : List ℕ) → Leads r p → IsPrimitive r → ((q : ℕ) → Contains (lows ++ highs) q → entry r q ≡ pos 0) → ((q : ℕ) → Contains lows q → Before q p) →
-    ((t : List ℤ) → Contains high t → (j : ℕ) → Before j p ⊎ (j ≡ p) → entry t j ≡ pos 0) → length low ≡ length lows → Images r p low new → IsEchelon (low ++ high) (lows ++ highs) → IsEchelon (new ++ r ∷ high) (lows ++ p ∷ highs)
+    ((t : List ℤ) → Contains high t → (j : ℕ) → Before j p ⊎ (j ≡ p) → entry t j ≡ pos 0) → length low ≡ length lows → ClearedRows r p low new → IsEchelon (low ++ high) (lows ++ highs) → IsEchelon (new ++ r ∷ high) (lows ++ p ∷ highs)
 echelon_insert r p [] [] high [] highs l pr z b hz e f ech = (l, pr, hz, z, ech)
 echelon_insert r p [] [] high (q ∷ lows) highs l pr z b hz e f ech = absurd (omega (arith, e))
 echelon_insert r p [] (t ∷ new) high lows highs l pr z b hz e f ech = absurd f
@@ -59,30 +59,30 @@ echelon_insert r p (k ∷ low) (t ∷ new) high (q ∷ lows) highs l pr z b hz e
     positive_part f.0.times (entry t q) (a *ℤ entry k q) f.0.positive
     (f.0.is q ∙ ap (λ y. (a *ℤ entry k q) +ℤ (neg_ℤ c *ℤ y)) (r_early q (inr refl)) ∙ ring (v a ⊗ v (entry k q) ⊕ ⊖ (v c) ⊗ v (pos 0)) (v a ⊗ v (entry k q)) (omega arith))
     (times_positive a (entry k q) l.here ech.0.here) in (
-      record { before = λ j h. image_zero r p k t f.0 j (ech.0.before j h) (r_early j (inl h)); here = here },
+      record { before = λ j h. cleared_zero r p k t f.0 j (ech.0.before j h) (r_early j (inl h)); here = here },
       elim f.0.lowest [ inl y ↦ y | inr y ↦ absurd (not_both (entry t q) here (y q)) ],
       λ s m j h. elim (Contains-append_cases new (r ∷ high) s m) [
-        | inl n ↦ let o = images_from r p low new f.1 s n in image_zero r p o.0 s o.2 j (ech.2 o.0 (Contains-append_left low high o.0 o.1) j h) (r_early j h)
+        | inl n ↦ let o = cleared_from r p low new f.1 s n in cleared_zero r p o.0 s o.2 j (ech.2 o.0 (Contains-append_left low high o.0 o.1) j h) (r_early j h)
         | inr n ↦ elim (contains_cases r s high n) [
           | inl y ↦ ap (λ (x : List ℤ). entry x j) (sym y) ∙ r_early j h
           | inr y ↦ ech.2 s (Contains-append_right low high s y) j h
         ]
       ],
       λ s m. elim (Contains-append_cases lows (p ∷ highs) s m) [
-        | inl n ↦ image_zero r p k t f.0 s (ech.3 s (Contains-append_left lows highs s n)) (z s (contains_tail q s (lows ++ highs) (Contains-append_left lows highs s n)))
+        | inl n ↦ cleared_zero r p k t f.0 s (ech.3 s (Contains-append_left lows highs s n)) (z s (contains_tail q s (lows ++ highs) (Contains-append_left lows highs s n)))
         | inr n ↦ elim (contains_cases p s highs n) [
           | inl y ↦ ap (entry t) (sym y) ∙ no_product f.0.times (entry t p) f.0.positive (f.0.is p ∙ ring (v a ⊗ v c ⊕ ⊖ (v c) ⊗ v a) (v (pos 0)) (omega arith))
-          | inr y ↦ image_zero r p k t f.0 s (ech.3 s (Contains-append_right lows highs s y)) (z s (contains_tail q s (lows ++ highs) (Contains-append_right lows highs s y)))
+          | inr y ↦ cleared_zero r p k t f.0 s (ech.3 s (Contains-append_right lows highs s y)) (z s (contains_tail q s (lows ++ highs) (Contains-append_right lows highs s y)))
         ]
       ],
       i,
     )
 
 -- the images exist, in lowest terms, whatever passes where they are computed
-pub images_exist : (r : List ℤ) (p : ℕ) (es : List (List ℤ)) → ((e : List ℤ) → Contains es e → (s : List ℤ) × ((j : ℕ) → entry s j ≡ (entry r p *ℤ entry e j) +ℤ (neg_ℤ (entry e p) *ℤ entry r j))) → (ts : List (List ℤ)) × Images r p es ts
-images_exist r p [] f = ([], tt)
-images_exist r p (e ∷ es) f =
+pub cleared_exist : (r : List ℤ) (p : ℕ) (es : List (List ℤ)) → ((e : List ℤ) → Contains es e → (s : List ℤ) × ((j : ℕ) → entry s j ≡ (entry r p *ℤ entry e j) +ℤ (neg_ℤ (entry e p) *ℤ entry r j))) → (ts : List (List ℤ)) × ClearedRows r p es ts
+cleared_exist r p [] f = ([], tt)
+cleared_exist r p (e ∷ es) f =
     let s = f e (contains_head e es) in
     let t = lowest_exists s.0 in
-    let i = images_exist r p es (λ x k. f x (contains_tail e x es k)) in
+    let i = cleared_exist r p es (λ x k. f x (contains_tail e x es k)) in
     (t.0 ∷ i.0, (record { times = t.1.times; positive = t.1.positive; is = λ j. t.1.is_multiple j ∙ s.1 j; lowest = t.1.lowest }, i.1))

@@ -33,4 +33,6 @@ pub mod RowOrder
 pub mod OneSpelling
 pub mod Polyhedra
 pub mod Widening
-mod PolyhedronExamples
+-- Worked examples
+pub mod PolyhedronExamples
+pub mod TimeElapseExamples

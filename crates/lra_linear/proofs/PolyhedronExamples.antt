@@ -16,7 +16,7 @@ use Rattle.lra_linear.proofs.Signs.{add_nonnegative}
 use Rattle.lra_linear.proofs.Widening.{holds_on_generators, standard_con}
 
 -- ---- products of three columns
-product_three : (c x : List ℤ) → length c ≡ 3 → product c x ≡ (entry c 0 *ℤ entry x 0) +ℤ ((entry c 1 *ℤ entry x 1) +ℤ (entry c 2 *ℤ entry x 2))
+pub product_three : (c x : List ℤ) → length c ≡ 3 → product c x ≡ (entry c 0 *ℤ entry x 0) +ℤ ((entry c 1 *ℤ entry x 1) +ℤ (entry c 2 *ℤ entry x 2))
 product_three [] x e = absurd (omega (arith, e))
 product_three (a ∷ []) x e = absurd (omega (arith, e))
 product_three (a ∷ b ∷ []) x e = absurd (omega (arith, e))

@@ -1,5 +1,6 @@
 -- The product of a row with a vector is linear in the vector, and the product of two rows is symmetric.
-use Rattle.std.proofs.Common.{List, [], ap, arith, length, neg_ℤ, negsuc, pos, refl, suc, sym, zero, ℕ, ℤ, ◌*ℤ◌, ◌+ℤ◌, ◌∙◌, ◌∷◌, ◌≡◌, ◌≤◌}
+use Rattle.std.proofs.Common.{List, [], ap, arith, length, neg_ℤ, negsuc, pos, refl, suc, sym, zero, ℕ, ℤ, ◌*ℤ◌, ◌+ℤ◌, ◌<◌, ◌∙◌, ◌∷◌, ◌≡◌, ◌≢◌, ◌≤◌}
+use Rattle.std.specs.Prelude.{slice_set}
 use Rattle.lra_linear.specs.Vectors.{blend, dot, entry, negated, product}
 use Rattle.lra_linear.proofs.Ring.{ring, v, ⊖, ◌⊕◌, ◌⊗◌}
 
@@ -26,6 +27,19 @@ row_same (x ∷ xs) [] l e = absurd (omega (arith, l))
 row_same (x ∷ xs) (y ∷ ys) l e =
     let h : x ≡ y = e 0 in
     let t : xs ≡ ys = row_same xs ys (omega (arith, l)) (λ j. e (suc j)) in cc
+
+-- one entry put in
+pub entry_set_same : (r : List ℤ) (k : ℕ) (z : ℤ) → k < length r → entry (slice_set r k z) k ≡ z
+entry_set_same [] k z h = absurd (omega (arith, h))
+entry_set_same (x ∷ xs) zero z h = refl
+entry_set_same (x ∷ xs) (suc k) z h = entry_set_same xs k z (omega (arith, h))
+
+pub entry_set_other : (r : List ℤ) (k j : ℕ) (z : ℤ) → j ≢ k → entry (slice_set r k z) j ≡ entry r j
+entry_set_other [] k j z n = refl
+entry_set_other (x ∷ xs) zero zero z n = absurd (n refl)
+entry_set_other (x ∷ xs) zero (suc j) z n = refl
+entry_set_other (x ∷ xs) (suc k) zero z n = refl
+entry_set_other (x ∷ xs) (suc k) (suc j) z n = entry_set_other xs k j z (λ e. n (ap suc e))
 
 pub entry_blend : (a b : ℤ) (us vs : List ℤ) → length us ≡ length vs → (j : ℕ) → entry (blend a b us vs) j ≡ (a *ℤ entry us j) +ℤ (b *ℤ entry vs j)
 entry_blend a b [] [] e j = ring (v (pos 0)) (v a ⊗ v (pos 0) ⊕ v b ⊗ v (pos 0)) (omega arith)
