@@ -36,3 +36,4 @@ pub mod Widening
 -- Worked examples
 pub mod PolyhedronExamples
 pub mod TimeElapseExamples
+pub mod SpellingExamples
