@@ -1,11 +1,13 @@
 -- Sums of rows with factors that are not negative. What rows generate is closed under sums, multiples and division by positive
 -- numbers: a convex cone (Minkowski 1896).
-use Rattle.std.proofs.Common.{List, [], ap, arith, get_or, length, map, pos, refl, suc, sym, zero, ℕ, ℤ, ◌*ℤ◌, ◌*◌, ◌+ℤ◌, ◌+◌, ◌<◌, ◌∙◌, ◌∷◌, ◌≡◌}
+use Rattle.std.proofs.Common.{List, [], ap, arith, get_or, length, map, pos, refl, subst, suc, sym, zero, ℕ, ℤ, ◌*ℤ◌, ◌*◌, ◌+ℤ◌, ◌+◌, ◌<ℤ◌, ◌<◌, ◌∙◌, ◌∷◌, ◌≡◌, ◌≤ℤ◌}
 use Rattle.std.proofs.lemmas.Int.{ints}
 use Rattle.std.specs.List.{Contains}
 use Rattle.lra_linear.specs.Cones.{Generated}
 use Rattle.lra_linear.specs.Vectors.{entry, sum_of}
-use Rattle.lra_linear.proofs.Ring.{ring, v, ◌⊕◌, ◌⊗◌}
+use Rattle.lra_linear.proofs.Membership.{contains_head, contains_tail}
+use Rattle.lra_linear.proofs.Ring.{mul_nonnegative, ring, v, ◌⊕◌, ◌⊗◌}
+use Rattle.lra_linear.proofs.Signs.{add_nonnegative, divide_nonnegative, no_product, not_both}
 
 -- ---- sums of factors
 abbrev plus : List ℕ → List ℕ → List ℕ
@@ -102,3 +104,29 @@ generated_at (r ∷ rows) (suc k) x h e = generated_more r rows (entry x) (gener
 
 pub generated_row : (rows : List (List ℤ)) (x : List ℤ) → Contains rows x → Generated rows (entry x)
 generated_row rows x h = generated_at rows h.0 x h.1 h.2
+
+-- ---- one column of what rows generate
+-- where each row is 0 in a column, so is all that they generate
+column_zero : (rows : List (List ℤ)) (j : ℕ) → ((t : List ℤ) → Contains rows t → entry t j ≡ pos 0) → (fs : List ℕ) → sum_of fs rows j ≡ pos 0
+column_zero rows j h [] = refl
+column_zero [] j h (f ∷ fs) = refl
+column_zero (r ∷ rows) j h (f ∷ fs) =
+    ap (λ z. (pos f *ℤ z) +ℤ sum_of fs rows j) (h r (contains_head r rows)) ∙ ap (λ z. (pos f *ℤ pos 0) +ℤ z) (column_zero rows j (λ t k. h t (contains_tail r t rows k)) fs) ∙
+    ring (v (pos f) ⊗ v (pos 0) ⊕ v (pos 0)) (v (pos 0)) (omega arith)
+
+pub not_from_zero : (rows : List (List ℤ)) (u : ℕ → ℤ) (j : ℕ) → ((t : List ℤ) → Contains rows t → entry t j ≡ pos 0) → pos 0 <ℤ u j → ¬ (Generated rows u)
+not_from_zero rows u j h p g = not_both (u j) p (no_product g.multiple (u j) g.positive (g.is_sum j ∙ column_zero rows j h g.factors))
+
+-- where each row is at least 0 in a column, so is all that they generate
+column_nonneg : (rows : List (List ℤ)) (j : ℕ) → ((t : List ℤ) → Contains rows t → pos 0 ≤ℤ entry t j) → (fs : List ℕ) → pos 0 ≤ℤ sum_of fs rows j
+column_nonneg rows j h [] = omega (arith, ints)
+column_nonneg [] j h (f ∷ fs) = omega (arith, ints)
+column_nonneg (r ∷ rows) j h (f ∷ fs) =
+    add_nonnegative (pos f *ℤ entry r j) (sum_of fs rows j) (mul_nonnegative (pos f) (entry r j) (omega (arith, ints)) (h r (contains_head r rows))) (column_nonneg rows j (λ t k. h t (contains_tail r t rows k)) fs)
+
+pub not_from_above : (rows : List (List ℤ)) (u : ℕ → ℤ) (j : ℕ) → ((t : List ℤ) → Contains rows t → pos 0 ≤ℤ entry t j) → u j <ℤ pos 0 → ¬ (Generated rows u)
+not_from_above rows u j h p g =
+    below (u j) p (divide_nonnegative g.multiple (u j) g.positive (subst (λ z. pos 0 ≤ℤ z) (sym (g.is_sum j)) (column_nonneg rows j h g.factors)))
+  where
+    below : (z : ℤ) → z <ℤ pos 0 → pos 0 ≤ℤ z → ⊥
+    below z h k = omega (arith, ints, h, k)

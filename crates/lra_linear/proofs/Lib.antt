@@ -37,3 +37,4 @@ pub mod Widening
 pub mod PolyhedronExamples
 pub mod TimeElapseExamples
 pub mod SpellingExamples
+pub mod StrainExamples

@@ -1,6 +1,6 @@
 -- A linear map that takes each row into a cone takes all that the rows generate into it. So what rows in a cone generate lies in
 -- the cone, more rows generate more, and what rows with products that are not negative generate has such a product too.
-use Rattle.std.proofs.Common.{List, [], ap, arith, inl, inr, pos, subst, sym, ℕ, ℤ, ◌*ℤ◌, ◌++◌, ◌+ℤ◌, ◌∙◌, ◌∷◌, ◌≡◌, ◌≤ℤ◌}
+use Rattle.std.proofs.Common.{List, [], ap, arith, inl, inr, pos, subst, sym, ℕ, ℤ, ◌*ℤ◌, ◌++◌, ◌+ℤ◌, ◌<ℤ◌, ◌∙◌, ◌∷◌, ◌≡◌, ◌≤ℤ◌}
 use Rattle.std.proofs.lemmas.Int.{ints}
 use Rattle.std.specs.List.{Contains}
 use Rattle.lra_linear.specs.Cones.{Generated}
@@ -87,3 +87,10 @@ generated_nonneg c rows u h g =
     let s : ℕ → ℤ = sum_of g.factors rows in
     let e : dot c s ≡ pos g.multiple *ℤ dot c u = dot_same c s (λ i. pos g.multiple *ℤ u i) (λ i. sym (g.is_sum i)) ∙ dot_scale c (pos g.multiple) u in
     divide_nonnegative g.multiple (dot c u) g.positive (subst (λ z. pos 0 ≤ℤ z) e (sum_nonneg c rows h g.factors))
+
+-- a row with products that are not negative with all rows, and a negative one with u, keeps u apart from what they generate
+pub separated : (c : List ℤ) (rows : List (List ℤ)) (u : ℕ → ℤ) → ((t : List ℤ) → Contains rows t → pos 0 ≤ℤ dot c (entry t)) → dot c u <ℤ pos 0 → ¬ (Generated rows u)
+separated c rows u h p g = below (dot c u) p (generated_nonneg c rows u h g)
+  where
+    below : (z : ℤ) → z <ℤ pos 0 → pos 0 ≤ℤ z → ⊥
+    below z h k = omega (arith, ints, h, k)

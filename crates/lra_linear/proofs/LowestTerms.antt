@@ -1,13 +1,13 @@
 -- The greatest number that divides each entry of a row (Euclid), rows in lowest terms, and that two rows in lowest terms that are
 -- positive multiples of one another are equal.
-use Rattle.std.proofs.Common.{◌≡◌, ℕ, zero, suc, ◌+◌, ◌*◌, ◌/◌, ◌≤◌, ◌<◌, ◌%◌, List, [], ◌∷◌, length, refl, ap, sym, ◌∙◌, subst, pos, negsuc, ℤ, ◌*ℤ◌, neg_ℤ, unsigned_abs, arith, inl, inr}
+use Rattle.std.proofs.Common.{List, [], ap, arith, inl, inr, length, neg_ℤ, negsuc, pos, refl, subst, suc, sym, unsigned_abs, zero, ℕ, ℤ, ◌%◌, ◌*ℤ◌, ◌*◌, ◌+◌, ◌/◌, ◌<◌, ◌∙◌, ◌∷◌, ◌≡◌, ◌≤◌}
+use Rattle.std.proofs.Math.Nat.{dvd-add_iff_right, dvd-mod_iff, dvd-mul_right, dvd-mul_right_of_dvd, dvd_of_mul-dvd-mul_right, mul-div_cancel', mul-dvd-mul_right, one-dvd}
 use Rattle.std.proofs.lemmas.Int.{ints, unsigned_abs-mul}
+use Rattle.std.proofs.lemmas.Nat.Gcd.{dvd-zero, dvd_antisymm, dvd_refl, dvd_trans}
 use Rattle.std.specs.Int.{◌∣◌}
-use Rattle.std.proofs.Math.Nat.{dvd-add_iff_right, dvd-mul_right, dvd-mul_right_of_dvd, dvd-mod_iff, mul-div_cancel', dvd_of_mul-dvd-mul_right, mul-dvd-mul_right, one-dvd}
-use Rattle.std.proofs.lemmas.Nat.Gcd.{dvd_antisymm, dvd_refl, dvd-zero, dvd_trans}
+use Rattle.lra_linear.specs.LowestTerms.{IsLowest, IsPrimitive}
 use Rattle.lra_linear.specs.Vectors.{entry}
-use Rattle.lra_linear.specs.LowestTerms.{IsPrimitive, IsLowest}
-use Rattle.lra_linear.proofs.Ring.{v, ◌⊗◌, ⊖, ring}
+use Rattle.lra_linear.proofs.Ring.{ring, v, ⊖, ◌⊗◌}
 
 -- ---- the greatest common divisor, with what it is a multiple of
 record CommonDivisor (a b : ℕ) : Type 0 where
@@ -60,6 +60,10 @@ row_divisor (x ∷ xs) =
     all x xs g h k (suc j) = k j
 
 -- ---- one row for one direction
+-- a row with an entry 1 is in lowest terms
+pub primitive_at : (r : List ℤ) (j : ℕ) → unsigned_abs (entry r j) ≡ 1 → IsPrimitive r
+primitive_at r j e d h = dvd_antisymm (subst (λ (n : ℕ). d ∣ n) e (h j)) (one-dvd d)
+
 divides_factor : (m n : ℕ) (r : List ℤ) → IsPrimitive r → ((j : ℕ) → n ∣ (m * unsigned_abs (entry r j))) → n ∣ m
 divides_factor m n r p h =
     let g = row_divisor r in

@@ -114,3 +114,44 @@ filter_from test (y ∷ xs) x k = by_test (test y) refl k (λ d. filter_from tes
       | inr d ↦ let i = rest d in (contains_tail y x xs i.0, i.1)
     ]
     by_test false e k rest = let i = rest k in (contains_tail y x xs i.0, i.1)
+
+-- ---- short lists: a fact on each member, and on each member with the others
+pub each_one : {A : Type 0} (P : A → Type 0) (a : A) → P a → (t : A) → Contains (a ∷ []) t → P t
+each_one P a p t k = elim (contains_cases a t [] k) [ inl e ↦ subst P e p | inr n ↦ absurd (contains_none t n) ]
+
+pub each_two : {A : Type 0} (P : A → Type 0) (a b : A) → P a → P b → (t : A) → Contains (a ∷ b ∷ []) t → P t
+each_two P a b p q t k = elim (contains_cases a t (b ∷ []) k) [ inl e ↦ subst P e p | inr n ↦ each_one P b q t n ]
+
+pub each_three : {A : Type 0} (P : A → Type 0) (a b c : A) → P a → P b → P c → (t : A) → Contains (a ∷ b ∷ c ∷ []) t → P t
+each_three P a b c p q r t k = elim (contains_cases a t (b ∷ c ∷ []) k) [ inl e ↦ subst P e p | inr n ↦ each_two P b c q r t n ]
+
+pub split_none : {A : Type 0} (front : List A) (x : A) (back : List A) → [] ≡ front ++ x ∷ back → ⊥
+split_none front x back e = let l = ap length e in let n = length-append front (x ∷ back) in omega (arith, l, n)
+
+pub split_one : {A : Type 0} (P : List A → A → Type 0) (a : A) → P [] a → (front : List A) (x : A) (back : List A) → a ∷ [] ≡ front ++ x ∷ back → P (front ++ back) x
+split_one P a p [] x back e =
+    let h : a ≡ x = cc in
+    let k : [] ≡ back = cc in
+    subst (λ y. P y x) k (subst (λ y. P [] y) h p)
+split_one P a p (f ∷ front) x back e = let h : [] ≡ front ++ x ∷ back = cc in absurd (split_none front x back h)
+
+pub split_two : {A : Type 0} (P : List A → A → Type 0) (a b : A) → P (b ∷ []) a → P (a ∷ []) b → (front : List A) (x : A) (back : List A) → a ∷ b ∷ [] ≡ front ++ x ∷ back → P (front ++ back) x
+split_two P a b p q [] x back e =
+    let h : a ≡ x = cc in
+    let k : b ∷ [] ≡ back = cc in
+    subst (λ y. P y x) k (subst (λ y. P (b ∷ []) y) h p)
+split_two P a b p q (f ∷ front) x back e =
+    let h : a ≡ f = cc in
+    let k : b ∷ [] ≡ front ++ x ∷ back = cc in
+    split_one (λ ys y. P (f ∷ ys) y) b (subst (λ y. P (y ∷ []) b) h q) front x back k
+
+pub split_three : {A : Type 0} (P : List A → A → Type 0) (a b c : A) → P (b ∷ c ∷ []) a → P (a ∷ c ∷ []) b → P (a ∷ b ∷ []) c →
+    (front : List A) (x : A) (back : List A) → a ∷ b ∷ c ∷ [] ≡ front ++ x ∷ back → P (front ++ back) x
+split_three P a b c p q r [] x back e =
+    let h : a ≡ x = cc in
+    let k : b ∷ c ∷ [] ≡ back = cc in
+    subst (λ y. P y x) k (subst (λ y. P (b ∷ c ∷ []) y) h p)
+split_three P a b c p q r (f ∷ front) x back e =
+    let h : a ≡ f = cc in
+    let k : b ∷ c ∷ [] ≡ front ++ x ∷ back = cc in
+    split_two (λ ys y. P (f ∷ ys) y) b c (subst (λ y. P (y ∷ c ∷ []) b) h q) (subst (λ y. P (y ∷ b ∷ []) c) h r) front x back k

@@ -1,10 +1,7 @@
 -- A worked example of one spelling: two lists of constraints that are spelled differently and have the same points, the quadrant of
 -- all points with x1 and x2 at least 0. The canonical lists of the one are those of the other.
-use Rattle.std.proofs.Common.{List, [], ap, arith, inl, inr, length, length-append, neg_ℤ, pos, refl, subst, suc, sym, unsigned_abs, zero, ℕ, ℤ, ◌*ℤ◌, ◌++◌, ◌+ℤ◌, ◌<ℤ◌, ◌∙◌, ◌∷◌, ◌≡◌, ◌≢◌, ◌≤ℤ◌, ◌⊎◌}
-use Rattle.std.proofs.Math.Nat.{one-dvd}
+use Rattle.std.proofs.Common.{List, [], ap, arith, inl, inr, length, neg_ℤ, pos, refl, subst, suc, sym, unsigned_abs, zero, ℕ, ℤ, ◌*ℤ◌, ◌+ℤ◌, ◌<ℤ◌, ◌∙◌, ◌∷◌, ◌≡◌, ◌≢◌, ◌≤ℤ◌, ◌⊎◌}
 use Rattle.std.proofs.lemmas.Int.{ints}
-use Rattle.std.proofs.lemmas.Nat.Gcd.{dvd_antisymm}
-use Rattle.std.specs.Int.{◌∣◌}
 use Rattle.std.specs.List.{Contains}
 use Rattle.std.specs.declared.cmp.Ordering.TheVariants.{Less}
 use Rattle.lra_linear.specs.Canonical.{IsCanonical}
@@ -14,85 +11,15 @@ use Rattle.lra_linear.specs.LowestTerms.{IsPrimitive}
 use Rattle.lra_linear.specs.Points.{SameSet}
 use Rattle.lra_linear.specs.Polyhedra.{HasPoint, IsPolyhedronOf, Polyhedron, positivity}
 use Rattle.lra_linear.specs.RowOrder.{inequality_cmp, row_cmp}
-use Rattle.lra_linear.specs.Vectors.{entry, product, sum_of}
+use Rattle.lra_linear.specs.Vectors.{entry, product}
+use Rattle.lra_linear.proofs.Combinations.{not_from_above, not_from_zero}
 use Rattle.lra_linear.proofs.Descriptions.{con_cons, con_head, con_none, con_tail}
-use Rattle.lra_linear.proofs.Membership.{contains_cases, contains_head, contains_none, contains_tail}
+use Rattle.lra_linear.proofs.LowestTerms.{primitive_at}
+use Rattle.lra_linear.proofs.Membership.{contains_head, contains_none, contains_tail, each_one, each_three, each_two, split_three}
 use Rattle.lra_linear.proofs.Polyhedra.{polyhedron_unique}
 use Rattle.lra_linear.proofs.Products.{entry_past}
-use Rattle.lra_linear.proofs.Ring.{mul_nonnegative, ring, v, ◌⊕◌, ◌⊗◌}
-use Rattle.lra_linear.proofs.Signs.{add_nonnegative, as_nat, divide_nonnegative, no_product, not_both}
-
--- ---- rows in a cone, column by column
--- where each row is 0 in a column, so is all that they generate
-column_zero : (rows : List (List ℤ)) (j : ℕ) → ((t : List ℤ) → Contains rows t → entry t j ≡ pos 0) → (fs : List ℕ) → sum_of fs rows j ≡ pos 0
-column_zero rows j h [] = refl
-column_zero [] j h (f ∷ fs) = refl
-column_zero (r ∷ rows) j h (f ∷ fs) =
-    ap (λ z. (pos f *ℤ z) +ℤ sum_of fs rows j) (h r (contains_head r rows)) ∙ ap (λ z. (pos f *ℤ pos 0) +ℤ z) (column_zero rows j (λ t k. h t (contains_tail r t rows k)) fs) ∙
-    ring (v (pos f) ⊗ v (pos 0) ⊕ v (pos 0)) (v (pos 0)) (omega arith)
-
-pub not_from_zero : (rows : List (List ℤ)) (u : ℕ → ℤ) (j : ℕ) → ((t : List ℤ) → Contains rows t → entry t j ≡ pos 0) → pos 0 <ℤ u j → ¬ (Generated rows u)
-not_from_zero rows u j h p g = not_both (u j) p (no_product g.multiple (u j) g.positive (g.is_sum j ∙ column_zero rows j h g.factors))
-
--- where each row is at least 0 in a column, so is all that they generate
-column_nonneg : (rows : List (List ℤ)) (j : ℕ) → ((t : List ℤ) → Contains rows t → pos 0 ≤ℤ entry t j) → (fs : List ℕ) → pos 0 ≤ℤ sum_of fs rows j
-column_nonneg rows j h [] = omega (arith, ints)
-column_nonneg [] j h (f ∷ fs) = omega (arith, ints)
-column_nonneg (r ∷ rows) j h (f ∷ fs) =
-    add_nonnegative (pos f *ℤ entry r j) (sum_of fs rows j) (mul_nonnegative (pos f) (entry r j) (omega (arith, ints)) (h r (contains_head r rows))) (column_nonneg rows j (λ t k. h t (contains_tail r t rows k)) fs)
-
-pub not_from_above : (rows : List (List ℤ)) (u : ℕ → ℤ) (j : ℕ) → ((t : List ℤ) → Contains rows t → pos 0 ≤ℤ entry t j) → u j <ℤ pos 0 → ¬ (Generated rows u)
-not_from_above rows u j h p g =
-    below (u j) p (divide_nonnegative g.multiple (u j) g.positive (subst (λ z. pos 0 ≤ℤ z) (sym (g.is_sum j)) (column_nonneg rows j h g.factors)))
-  where
-    below : (z : ℤ) → z <ℤ pos 0 → pos 0 ≤ℤ z → ⊥
-    below z h k = omega (arith, ints, h, k)
-
--- a row with an entry 1 is in lowest terms
-pub primitive_at : (r : List ℤ) (j : ℕ) → unsigned_abs (entry r j) ≡ 1 → IsPrimitive r
-primitive_at r j e d h = dvd_antisymm (subst (λ (n : ℕ). d ∣ n) e (h j)) (one-dvd d)
-
--- ---- a fact on each of three
-three : (P : List ℤ → Type 0) (a b c : List ℤ) → P a → P b → P c → (t : List ℤ) → Contains (a ∷ b ∷ c ∷ []) t → P t
-three P a b c p q r t k = elim (contains_cases a t (b ∷ c ∷ []) k) [
-  | inl e ↦ subst P e p
-  | inr d ↦ elim (contains_cases b t (c ∷ []) d) [
-    | inl e ↦ subst P e q
-    | inr f ↦ elim (contains_cases c t [] f) [ inl e ↦ subst P e r | inr n ↦ absurd (contains_none t n) ]
-  ]
-]
-
-two : (P : List ℤ → Type 0) (a b : List ℤ) → P a → P b → (t : List ℤ) → Contains (a ∷ b ∷ []) t → P t
-two P a b p q t k = elim (contains_cases a t (b ∷ []) k) [
-  | inl e ↦ subst P e p
-  | inr d ↦ elim (contains_cases b t [] d) [ inl e ↦ subst P e q | inr n ↦ absurd (contains_none t n) ]
-]
-
-one : (P : List ℤ → Type 0) (a : List ℤ) → P a → (t : List ℤ) → Contains (a ∷ []) t → P t
-one P a p t k = elim (contains_cases a t [] k) [ inl e ↦ subst P e p | inr n ↦ absurd (contains_none t n) ]
-
--- the splits of a list of three
-split_three : (P : List (List ℤ) → List ℤ → Type 0) (a b c : List ℤ) → P (b ∷ c ∷ []) a → P (a ∷ c ∷ []) b → P (a ∷ b ∷ []) c →
-    (front : List (List ℤ)) (r : List ℤ) (back : List (List ℤ)) → a ∷ b ∷ c ∷ [] ≡ front ++ r ∷ back → P (front ++ back) r
-split_three P a b c p q s [] r back e =
-    let h : a ≡ r = cc in
-    let k : b ∷ c ∷ [] ≡ back = cc in
-    subst (λ x. P x r) k (subst (λ y. P (b ∷ c ∷ []) y) h p)
-split_three P a b c p q s (x ∷ []) r back e =
-    let h : b ≡ r = cc in
-    let f : a ≡ x = cc in
-    let k : c ∷ [] ≡ back = cc in
-    subst (λ y. P (x ∷ y) r) k (subst (λ y. P (y ∷ c ∷ []) r) f (subst (λ y. P (a ∷ c ∷ []) y) h q))
-split_three P a b c p q s (x ∷ y ∷ []) r back e =
-    let h : c ≡ r = cc in
-    let f : a ≡ x = cc in
-    let g : b ≡ y = cc in
-    let k : [] ≡ back = cc in
-    subst (λ z. P (x ∷ y ∷ z) r) k (subst (λ z. P (x ∷ z ∷ []) r) g (subst (λ z. P (z ∷ b ∷ []) r) f (subst (λ z. P (a ∷ b ∷ []) z) h s)))
-split_three P a b c p q s (x ∷ y ∷ z ∷ front) r back e =
-    let n : 3 ≡ length (x ∷ y ∷ z ∷ (front ++ r ∷ back)) = ap length e in
-    let m = length-append front (r ∷ back) in
-    absurd (omega (arith, n, m))
+use Rattle.lra_linear.proofs.Ring.{ring, v, ◌⊕◌, ◌⊗◌}
+use Rattle.lra_linear.proofs.Signs.{as_nat}
 
 -- ---- the quadrant
 abbrev e0 : List ℤ
@@ -122,8 +49,8 @@ sum_of_units u l a b c f g h (suc (suc (suc j))) =
 
 quadrant_dual : AreDual 3 (e1 ∷ e2 ∷ e0 ∷ []) (e0 ∷ e2 ∷ e1 ∷ [])
 quadrant_dual = record {
-  system_widths = three (λ t. length t ≡ 3) e1 e2 e0 refl refl refl;
-  row_widths = three (λ t. length t ≡ 3) e0 e2 e1 refl refl refl;
+  system_widths = each_three (λ t. length t ≡ 3) e1 e2 e0 refl refl refl;
+  row_widths = each_three (λ t. length t ≡ 3) e0 e2 e1 refl refl refl;
   solutions = λ u l s.
       let a = as_nat (entry u 0) (let z = s e0 (contains_tail e1 e0 (e2 ∷ e0 ∷ []) (contains_tail e2 e0 (e0 ∷ []) (contains_head e0 []))) in omega (arith, ints, z)) in
       let b = as_nat (entry u 1) (let z = s e1 (contains_head e1 (e2 ∷ e0 ∷ [])) in omega (arith, ints, z)) in
@@ -148,9 +75,9 @@ quadrant_dual = record {
             ring (v (pos 1) ⊗ v (entry u j)) (v (entry u j)) (omega arith) ∙ sum_of_units u l a.0 b.0 c.0 a.1 b.1 c.1 j ∙
             ring (v (pos a.0) ⊗ v (entry e0 j) ⊕ (v (pos b.0) ⊗ v (entry e1 j) ⊕ v (pos c.0) ⊗ v (entry e2 j))) (v (pos b.0) ⊗ v (entry e1 j) ⊕ (v (pos c.0) ⊗ v (entry e2 j) ⊕ (v (pos a.0) ⊗ v (entry e0 j) ⊕ v (pos 0)))) (omega arith);
       };
-  meets = λ r k c m. three (λ t. pos 0 ≤ℤ product c t) e0 e2 e1 (three (λ t. pos 0 ≤ℤ product t e0) e1 e2 e0 (omega (arith, ints)) (omega (arith, ints)) (omega (arith, ints)) c m)
-      (three (λ t. pos 0 ≤ℤ product t e2) e1 e2 e0 (omega (arith, ints)) (omega (arith, ints)) (omega (arith, ints)) c m)
-      (three (λ t. pos 0 ≤ℤ product t e1) e1 e2 e0 (omega (arith, ints)) (omega (arith, ints)) (omega (arith, ints)) c m) r k;
+  meets = λ r k c m. each_three (λ t. pos 0 ≤ℤ product c t) e0 e2 e1 (each_three (λ t. pos 0 ≤ℤ product t e0) e1 e2 e0 (omega (arith, ints)) (omega (arith, ints)) (omega (arith, ints)) c m)
+      (each_three (λ t. pos 0 ≤ℤ product t e2) e1 e2 e0 (omega (arith, ints)) (omega (arith, ints)) (omega (arith, ints)) c m)
+      (each_three (λ t. pos 0 ≤ℤ product t e1) e1 e2 e0 (omega (arith, ints)) (omega (arith, ints)) (omega (arith, ints)) c m) r k;
 }
 
 -- of the three unit rows, each is 1 in a column in which the two others are 0, so none is generated by these, nor is its negative by all
@@ -162,15 +89,15 @@ units_canonical a b c i j k p q r = record {
   pivots = [];
   echelon = tt;
   reduced = λ t m x n. absurd (contains_none x n);
-  lowest = three IsPrimitive a b c (primitive_at a i (ap unsigned_abs p.0)) (primitive_at b j (ap unsigned_abs q.0)) (primitive_at c k (ap unsigned_abs r.0));
+  lowest = each_three IsPrimitive a b c (primitive_at a i (ap unsigned_abs p.0)) (primitive_at b j (ap unsigned_abs q.0)) (primitive_at c k (ap unsigned_abs r.0));
   needed = split_three (λ others t. ¬ (Generated (all_rows [] others) (entry t))) a b c
-      (not_from_zero (b ∷ c ∷ []) (entry a) i (two (λ t. entry t i ≡ pos 0) b c p.1 p.2) (subst (λ z. pos 0 <ℤ z) (sym p.0) (omega (arith, ints))))
-      (not_from_zero (a ∷ c ∷ []) (entry b) j (two (λ t. entry t j ≡ pos 0) a c q.1 q.2) (subst (λ z. pos 0 <ℤ z) (sym q.0) (omega (arith, ints))))
-      (not_from_zero (a ∷ b ∷ []) (entry c) k (two (λ t. entry t k ≡ pos 0) a b r.1 r.2) (subst (λ z. pos 0 <ℤ z) (sym r.0) (omega (arith, ints))));
-  pointed = three (λ t. ¬ (Generated (a ∷ b ∷ c ∷ []) (λ x. neg_ℤ (entry t x)))) a b c
-      (not_from_above (a ∷ b ∷ c ∷ []) (λ x. neg_ℤ (entry a x)) i (three (λ t. pos 0 ≤ℤ entry t i) a b c (at_least (entry a i) (inl p.0)) (at_least (entry b i) (inr p.1)) (at_least (entry c i) (inr p.2))) (minus (entry a i) p.0))
-      (not_from_above (a ∷ b ∷ c ∷ []) (λ x. neg_ℤ (entry b x)) j (three (λ t. pos 0 ≤ℤ entry t j) a b c (at_least (entry a j) (inr q.1)) (at_least (entry b j) (inl q.0)) (at_least (entry c j) (inr q.2))) (minus (entry b j) q.0))
-      (not_from_above (a ∷ b ∷ c ∷ []) (λ x. neg_ℤ (entry c x)) k (three (λ t. pos 0 ≤ℤ entry t k) a b c (at_least (entry a k) (inr r.1)) (at_least (entry b k) (inr r.2)) (at_least (entry c k) (inl r.0))) (minus (entry c k) r.0));
+      (not_from_zero (b ∷ c ∷ []) (entry a) i (each_two (λ t. entry t i ≡ pos 0) b c p.1 p.2) (subst (λ z. pos 0 <ℤ z) (sym p.0) (omega (arith, ints))))
+      (not_from_zero (a ∷ c ∷ []) (entry b) j (each_two (λ t. entry t j ≡ pos 0) a c q.1 q.2) (subst (λ z. pos 0 <ℤ z) (sym q.0) (omega (arith, ints))))
+      (not_from_zero (a ∷ b ∷ []) (entry c) k (each_two (λ t. entry t k ≡ pos 0) a b r.1 r.2) (subst (λ z. pos 0 <ℤ z) (sym r.0) (omega (arith, ints))));
+  pointed = each_three (λ t. ¬ (Generated (a ∷ b ∷ c ∷ []) (λ x. neg_ℤ (entry t x)))) a b c
+      (not_from_above (a ∷ b ∷ c ∷ []) (λ x. neg_ℤ (entry a x)) i (each_three (λ t. pos 0 ≤ℤ entry t i) a b c (at_least (entry a i) (inl p.0)) (at_least (entry b i) (inr p.1)) (at_least (entry c i) (inr p.2))) (minus (entry a i) p.0))
+      (not_from_above (a ∷ b ∷ c ∷ []) (λ x. neg_ℤ (entry b x)) j (each_three (λ t. pos 0 ≤ℤ entry t j) a b c (at_least (entry a j) (inr q.1)) (at_least (entry b j) (inl q.0)) (at_least (entry c j) (inr q.2))) (minus (entry b j) q.0))
+      (not_from_above (a ∷ b ∷ c ∷ []) (λ x. neg_ℤ (entry c x)) k (each_three (λ t. pos 0 ≤ℤ entry t k) a b c (at_least (entry a k) (inr r.1)) (at_least (entry b k) (inr r.2)) (at_least (entry c k) (inl r.0))) (minus (entry c k) r.0));
 }
   where
     at_least : (z : ℤ) → (z ≡ pos 1) ⊎ (z ≡ pos 0) → pos 0 ≤ℤ z
@@ -190,19 +117,19 @@ quadrant_has_point = record {
   lines = [];
   generators_are = refl;
   facets = e1 ∷ e2 ∷ e0 ∷ [];
-  shown = λ r k. two (λ t. Contains (e1 ∷ e2 ∷ e0 ∷ []) t × (t ≢ positivity 2)) e1 e2
+  shown = λ r k. each_two (λ t. Contains (e1 ∷ e2 ∷ e0 ∷ []) t × (t ≢ positivity 2)) e1 e2
       (contains_head e1 (e2 ∷ e0 ∷ []), λ e. let z : pos 0 ≡ pos 1 = ap (λ (t : List ℤ). entry t 0) e in omega (arith, ints, z))
       (contains_tail e1 e2 (e2 ∷ e0 ∷ []) (contains_head e2 (e0 ∷ [])), λ e. let z : pos 0 ≡ pos 1 = ap (λ (t : List ℤ). entry t 0) e in omega (arith, ints, z)) r k;
-  all_shown = λ r k. three (λ t. (t ≡ positivity 2) ⊎ Contains (e1 ∷ e2 ∷ []) t) e1 e2 e0
+  all_shown = λ r k. each_three (λ t. (t ≡ positivity 2) ⊎ Contains (e1 ∷ e2 ∷ []) t) e1 e2 e0
       (inr (contains_head e1 (e2 ∷ []))) (inr (contains_tail e1 e2 (e2 ∷ []) (contains_head e2 []))) (inl refl) r k;
   dual = quadrant_dual;
   constraints_canonical = units_canonical e1 e2 e0 1 2 0 (refl, refl, refl) (refl, refl, refl) (refl, refl, refl);
   generators_canonical = units_canonical e0 e2 e1 0 2 1 (refl, refl, refl) (refl, refl, refl) (refl, refl, refl);
-  inequalities_ascend = (λ y k. one (λ t. inequality_cmp e1 t ≡ Less) e2 refl y k, (λ y k. absurd (contains_none y k), tt));
+  inequalities_ascend = (λ y k. each_one (λ t. inequality_cmp e1 t ≡ Less) e2 refl y k, (λ y k. absurd (contains_none y k), tt));
   points_ascend = (λ y k. absurd (contains_none y k), tt);
-  rays_ascend = (λ y k. one (λ t. row_cmp e2 t ≡ Less) e1 refl y k, (λ y k. absurd (contains_none y k), tt));
-  divisors = λ r k. one (λ t. pos 0 <ℤ entry t 0) e0 (omega (arith, ints)) r k;
-  directions = λ r k. elim k [ inl i ↦ two (λ t. entry t 0 ≡ pos 0) e2 e1 refl refl r i | inr i ↦ absurd (contains_none r i) ];
+  rays_ascend = (λ y k. each_one (λ t. row_cmp e2 t ≡ Less) e1 refl y k, (λ y k. absurd (contains_none y k), tt));
+  divisors = λ r k. each_one (λ t. pos 0 <ℤ entry t 0) e0 (omega (arith, ints)) r k;
+  directions = λ r k. elim k [ inl i ↦ each_two (λ t. entry t 0 ≡ pos 0) e2 e1 refl refl r i | inr i ↦ absurd (contains_none r i) ];
   some_point = λ e. let z : 1 ≡ 0 = ap length e in omega (arith, z);
 }
 
