@@ -7,9 +7,9 @@ use Rattle.std.proofs.lemmas.Int.{ints}
 use Rattle.std.proofs.lemmas.List.Elements.{Contains-append_cases, Contains-append_left, Contains-append_right}
 use Rattle.std.specs.List.{Contains}
 use borrow.Author.Differences.{down, up}
-use Rattle.lra_linear.specs.Cones.{AreDual, Generated, Solves}
+use Rattle.lra_linear.specs.Cones.{Generated, Solves}
 use Rattle.lra_linear.specs.DoubleDescription.{kept, pair, pairs, step_rows}
-use Rattle.lra_linear.specs.Saturation.{Beside, IsExtreme, TightToo}
+use Rattle.lra_linear.specs.Saturation.{AdjacentStep, TightToo}
 use Rattle.lra_linear.specs.Vectors.{blend, dot, entry, sum_of}
 use Rattle.lra_linear.proofs.AllPairs.{kept_only, pairs_only, step_rows_are}
 use Rattle.lra_linear.proofs.Combinations.{generated_divided, generated_plus, generated_row, generated_same, generated_times}
@@ -22,6 +22,7 @@ use Rattle.lra_linear.proofs.Signs.{above_zero, add_nonnegative, as_nat, cases_s
 use Rattle.lra_linear.proofs.Step.{step_complete}
 
 -- ---- how many rows are not tight
+-- a test that counts
 abbrev is_zero : ℤ → Bool
 is_zero (pos zero) = true
 is_zero (pos (suc n)) = false
@@ -35,6 +36,7 @@ zero_said (negsuc n) e = cc
 abbrev count : ℤ → ℕ
 count z = cond (is_zero z) 0 1
 
+-- the number of rows of the system that are not tight
 abbrev loose : List (List ℤ) → (ℕ → ℤ) → ℕ
 loose [] u = 0
 loose (s ∷ system) u = count (dot s u) + loose system u
@@ -54,6 +56,7 @@ count_lt (pos zero) b h e = absurd (h refl)
 count_lt (pos (suc n)) b h e = subst (λ (z : ℤ). count z < 1) (sym e) (omega arith)
 count_lt (negsuc n) b h e = subst (λ (z : ℤ). count z < 1) (sym e) (omega arith)
 
+-- no more rows are loose where each tight row stays tight, and fewer where one more is tight
 loose_le : (system : List (List ℤ)) (u w : ℕ → ℤ) → TightToo system u w → loose system w ≤ loose system u
 loose_le [] u w t = omega arith
 loose_le (s ∷ system) u w t =
@@ -72,9 +75,11 @@ loose_lt (s ∷ system) u w t c k h e = elim (contains_cases s c system k) [
 ]
 
 -- ---- as far as the cone goes from x against q
+-- k a - m b
 abbrev gap : ℕ → ℕ → ℤ → ℤ → ℤ
 gap k m a b = (pos k *ℤ a) +ℤ neg_ℤ (pos m *ℤ b)
 
+-- as far as k x - m q stays in the cone, and a row that then is tight
 record Reach (x q : ℕ → ℤ) (seen all : List (List ℤ)) : Type 0 where
   k : ℕ
   m : ℕ
@@ -96,6 +101,7 @@ no_gap k m a b e f h = let g : gap k m a b ≡ pos 0 = ap (λ z. gap k m z b) e 
 level : (n l : ℕ) (a b : ℤ) → b ≡ pos n → a ≡ pos l → gap n l a b ≡ pos 0
 level n l a b e f = ap (λ z. (z *ℤ a) +ℤ neg_ℤ (pos l *ℤ b)) (sym e) ∙ ap (λ z. (b *ℤ a) +ℤ neg_ℤ (z *ℤ b)) (sym f) ∙ ring (v b ⊗ v a ⊕ ⊖ (v a ⊗ v b)) (v (pos 0)) (omega arith)
 
+-- by recursion on the rows
 reach : (x q : ℕ → ℤ) (all : List (List ℤ)) → Solves all x → Solves all q → TightToo all x q → (seen : List (List ℤ)) → ((s : List ℤ) → Contains seen s → Contains all s) → Reach x q seen all
 reach x q all hx hq t [] sub = record { k = 0; m = 1; positive = omega arith; meets = λ s k. absurd (omega (arith, k.1)); tight = inl refl }
 reach x q all hx hq t (r ∷ rows) sub =
@@ -134,6 +140,7 @@ reach x q all hx hq t (r ∷ rows) sub =
     ]
 
 -- ---- the rows that a sum uses
+-- the rows of a sum that have a factor
 record Support (system rows : List (List ℤ)) (fs : List ℕ) : Type 0 where
   used : List (List ℤ)
   factors : List ℕ
@@ -144,6 +151,7 @@ rest_tight : (n : ℕ) (a b : ℤ) → pos 0 ≤ℤ a → pos 0 ≤ℤ b → (po
 rest_tight n a b h k e = let z : a ≡ pos 0 = tight_sum a b (pos 0) n h k e in
     ring (v b) (v (pos (suc n)) ⊗ v (pos 0) ⊕ v b) (omega arith) ∙ ap (λ y. (pos (suc n) *ℤ y) +ℤ b) (sym z) ∙ e
 
+-- each is tight wherever the sum is
 support : (system rows : List (List ℤ)) → ((r : List ℤ) → Contains rows r → Solves system (entry r)) → (fs : List ℕ) → Support system rows fs
 support system rows h [] = record { used = []; factors = []; is = λ j. refl; from = λ r k. absurd (omega (arith, k.1)) }
 support system [] h (f ∷ fs) = record { used = []; factors = []; is = λ j. refl; from = λ r k. absurd (omega (arith, k.1)) }
@@ -176,25 +184,7 @@ support system (r ∷ rows) h (suc f ∷ fs) =
 both_positive : (k a : ℕ) → 0 < k → 0 < a → 0 < k * a
 both_positive k a p q = grind arith
 
--- ---- the setting: rays and lines of a cone, each ray needed_splits, no two the same up to a line, no hidden line
-pub record NotAdjacent (system rays : List (List ℤ)) (p n : List ℤ) : Type 0 where
-  pub ray : List ℤ
-  pub has : Contains rays ray
-  pub not_p : ¬ (ray ≡ p)
-  pub not_n : ¬ (ray ≡ n)
-  pub tight : (s : List ℤ) → Contains system s → dot s (entry p) ≡ pos 0 → dot s (entry n) ≡ pos 0 → dot s (entry ray) ≡ pos 0
-
-pub record AdjacentStep (w : ℕ) (c : List ℤ) (system rays lines target : List (List ℤ)) : Type 0 where
-  pub dual : AreDual w system (rays ++ lines)
-  pub line_flat : (l : List ℤ) → Contains lines l → dot c (entry l) ≡ pos 0
-  pub extremes : (r : List ℤ) → Contains rays r → IsExtreme (rays ++ lines) lines r
-  pub distinct : (r t : List ℤ) → Contains rays r → Contains rays t → Beside lines r t → t ≡ r
-  pub reversed : (u : ℕ → ℤ) → Generated lines u → Generated lines (λ j. neg_ℤ (u j))
-  pub hidden : (u : List ℤ) → length u ≡ w → ((s : List ℤ) → Contains system s → dot s (entry u) ≡ pos 0) → Generated lines (entry u)
-  pub keeps : (r : List ℤ) → Contains rays r → pos 0 ≤ℤ dot c (entry r) → Generated target (entry r)
-  pub line_kept : (l : List ℤ) → Contains lines l → Generated target (entry l)
-  pub pairs : (p n : List ℤ) → Contains rays p → Contains rays n → pos 0 <ℤ dot c (entry p) → dot c (entry n) <ℤ pos 0 → Generated target (entry (pair c p n)) ⊎ NotAdjacent system rays p n
-
+-- ---- one step with pairs left out: what is told of the setting stands in `AdjacentStep`
 module _ {w : ℕ} {c : List ℤ} {system rays lines target : List (List ℤ)} (g : AdjacentStep w c system rays lines target) where
   -- f t + y = k r with f above 0, for two different rays: not so
   clash : (r t : List ℤ) → Contains rays r → Contains rays t → ¬ (t ≡ r) → (f k : ℕ) (y : ℕ → ℤ) → 0 < f → Generated (rays ++ lines) y → ((j : ℕ) → (pos f *ℤ entry t j) +ℤ y j ≡ pos k *ℤ entry r j) → ⊥

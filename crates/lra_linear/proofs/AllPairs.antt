@@ -14,6 +14,7 @@ use Rattle.lra_linear.proofs.Ring.{ring, v, ⊖, ◌⊕◌, ◌⊗◌}
 use Rattle.lra_linear.proofs.Signs.{as_nat, neg_nat, positive_is_nonnegative}
 
 -- ---- tests
+-- a test that must answer yes
 le_yes : (z : ℤ) → pos 0 ≤ℤ z → true ≡ int_le (pos 0) z
 le_yes z h = omega (arith, ints)
 
@@ -21,6 +22,7 @@ lt_yes : (a b : ℤ) → a <ℤ b → true ≡ int_lt a b
 lt_yes a b h = omega (arith, ints)
 
 -- ---- kept
+-- each row with a product that is not negative is there
 kept_has : (c : List ℤ) (rays : List (List ℤ)) (r : List ℤ) → Contains rays r → pos 0 ≤ℤ dot c (entry r) → Contains (kept c rays) r
 kept_has c [] r k h = absurd (omega (arith, k.1))
 kept_has c (x ∷ rays) r k h = elim (contains_cases x r rays k) [
@@ -33,6 +35,7 @@ kept_has c (x ∷ rays) r k h = elim (contains_cases x r rays k) [
     under true i = contains_tail x r (kept c rays) i
     under false i = i
 
+-- and nothing else
 pub kept_only : (c : List ℤ) (rays : List (List ℤ)) (t : List ℤ) → Contains (kept c rays) t → Contains rays t × (pos 0 ≤ℤ dot c (entry t))
 kept_only c [] t k = absurd (omega (arith, k.1))
 kept_only c (x ∷ rays) t k = by_test c x rays t (int_le (pos 0) (dot c (entry x))) refl (λ i. kept_only c rays t i) k
@@ -49,6 +52,7 @@ kept_only c (x ∷ rays) t k = by_test c x rays t (int_le (pos 0) (dot c (entry 
     by_test c x rays t false e ih k = let i = ih k in (contains_tail x t rays i.0, i.1)
 
 -- ---- pairs
+-- each pair is there
 pairs_of_has : (c u : List ℤ) (rays : List (List ℤ)) (n : List ℤ) → Contains rays n → dot c (entry n) <ℤ pos 0 → Contains (pairs_of c u rays) (blend (neg_ℤ (dot c (entry n))) (dot c (entry u)) u n)
 pairs_of_has c u [] n k h = absurd (omega (arith, k.1))
 pairs_of_has c u (x ∷ rays) n k h = elim (contains_cases x n rays k) [
@@ -72,6 +76,7 @@ pairs_has c (x ∷ rays) all p n k m h l = elim (contains_cases x p rays k) [
   | inr d ↦ Contains-append_right (cond (int_lt (pos 0) (dot c (entry x))) (pairs_of c x all) []) (pairs c rays all) (blend (neg_ℤ (dot c (entry n))) (dot c (entry p)) p n) (pairs_has c rays all p n d m h l)
 ]
 
+-- which pair a row is
 pub record PairOf (c : List ℤ) (rays all : List (List ℤ)) (t : List ℤ) : Type 0 where
   pub up : List ℤ
   pub down : List ℤ
@@ -105,6 +110,7 @@ pairs_of_only c u (x ∷ all) t k = by_test c u x all t (int_lt (dot c (entry x)
     ]
     by_test c u x all t false e ih k = later c u x all t (ih k)
 
+-- nothing but pairs is there
 pub pairs_only : (c : List ℤ) (rays all : List (List ℤ)) (t : List ℤ) → Contains (pairs c rays all) t → PairOf c rays all t
 pairs_only c [] all t k = absurd (omega (arith, k.1))
 pairs_only c (x ∷ rays) all t k = elim (Contains-append_cases (cond (int_lt (pos 0) (dot c (entry x))) (pairs_of c x all) []) (pairs c rays all) t k) [
@@ -119,6 +125,7 @@ pairs_only c (x ∷ rays) all t k = elim (Contains-append_cases (cond (int_lt (p
     by_test c x rays all t true e k = let d = pairs_of_only c x all t k in record { up = x; down = d.down; has_up = contains_head x rays; has_down = d.has_down; above = said (dot c (entry x)) e; below = d.below; is_pair = d.is_pair }
     by_test c x rays all t false e k = absurd (omega (arith, k.1))
 
+-- a pair has product 0
 pair_flat : (c p n t : List ℤ) → ((j : ℕ) → entry (blend (neg_ℤ (dot c (entry n))) (dot c (entry p)) p n) j ≡ (neg_ℤ (dot c (entry n)) *ℤ entry p j) +ℤ (dot c (entry p) *ℤ entry n j)) →
     blend (neg_ℤ (dot c (entry n))) (dot c (entry p)) p n ≡ t → dot c (entry t) ≡ pos 0
 pair_flat c p n t e i =
@@ -127,6 +134,7 @@ pair_flat c p n t e i =
     ap (λ y. dot c (entry y)) (sym i) ∙ dot_same c (entry (blend (neg_ℤ (dot c (entry n))) (dot c (entry p)) p n)) (λ j. (neg_ℤ a *ℤ entry p j) +ℤ (b *ℤ entry n j)) e ∙
     dot_linear c (neg_ℤ a) b (entry p) (entry n) ∙ ring (⊖ (v a) ⊗ v b ⊕ v b ⊗ v a) (v (pos 0)) (omega arith)
 
+-- and lies in the cone
 pair_inside : (c : List ℤ) (rays : List (List ℤ)) (p n : List ℤ) → Contains rays p → Contains rays n → pos 0 <ℤ dot c (entry p) → dot c (entry n) <ℤ pos 0 →
     ((j : ℕ) → entry (blend (neg_ℤ (dot c (entry n))) (dot c (entry p)) p n) j ≡ (neg_ℤ (dot c (entry n)) *ℤ entry p j) +ℤ (dot c (entry p) *ℤ entry n j)) → Generated rays (entry (blend (neg_ℤ (dot c (entry n))) (dot c (entry p)) p n))
 pair_inside c rays p n k m h l e =
@@ -137,6 +145,7 @@ pair_inside c rays p n k m h l e =
     (generated_plus rays (λ j. pos a.0 *ℤ entry p j) (λ j. pos b.0 *ℤ entry n j) (generated_times rays a.0 (entry p) (generated_row rays p k)) (generated_times rays b.0 (entry n) (generated_row rays n m)))
 
 -- ---- the step
+-- the rows of all pairs are a step
 pub step_rows_are : (c : List ℤ) (w : ℕ) (rays : List (List ℤ)) → ((r : List ℤ) → Contains rays r → length r ≡ w) → StepOf c rays (step_rows c rays)
 step_rows_are c w rays widths =
     let target = step_rows c rays in

@@ -22,14 +22,16 @@ Rows : Type 0
 Rows = List (List ℤ)
 
 -- ---- the lines span what is in the cone with its negative
-span_in : (lines rays : List (List ℤ)) (u : ℕ → ℤ) → Spanned lines u → Generated (all_rows lines rays) u
-span_in lines rays u g =
+-- what the lines span lies in the cone
+pub spanned_in_cone : (lines rays : List (List ℤ)) (u : ℕ → ℤ) → Spanned lines u → Generated (all_rows lines rays) u
+spanned_in_cone lines rays u g =
     generated_divided (all_rows lines rays) g.multiple u g.positive
     (generated_same (all_rows lines rays) (signed_sum g.factors lines) (λ j. pos g.multiple *ℤ u j) (λ j. sym (g.is_sum j))
     (generated_right rays (both_ways lines) (signed_sum g.factors lines) (lines_generated lines g.factors)))
 
-span_negative : (lines : List (List ℤ)) (u : ℕ → ℤ) → Spanned lines u → Spanned lines (λ j. neg_ℤ (u j))
-span_negative lines u g = spanned_same lines (λ j. (negsuc 0 *ℤ u j) +ℤ (pos 0 *ℤ u j)) (λ j. neg_ℤ (u j)) (λ j. ring (v (negsuc 0) ⊗ v (u j) ⊕ v (pos 0) ⊗ v (u j)) (⊖ (v (u j))) (omega arith)) (spanned_linear lines (negsuc 0) (pos 0) u u g g)
+-- and so does its opposite
+spanned_negative : (lines : List (List ℤ)) (u : ℕ → ℤ) → Spanned lines u → Spanned lines (λ j. neg_ℤ (u j))
+spanned_negative lines u g = spanned_same lines (λ j. (negsuc 0 *ℤ u j) +ℤ (pos 0 *ℤ u j)) (λ j. neg_ℤ (u j)) (λ j. ring (v (negsuc 0) ⊗ v (u j) ⊕ v (pos 0) ⊗ v (u j)) (⊖ (v (u j))) (omega arith)) (spanned_linear lines (negsuc 0) (pos 0) u u g g)
 
 -- from m u = l + s and n (-u) = k + t
 opposite : (m n u l s k t : ℤ) → m *ℤ u ≡ l +ℤ s → n *ℤ neg_ℤ u ≡ k +ℤ t → ((n *ℤ l) +ℤ (m *ℤ k)) +ℤ (m *ℤ t) ≡ n *ℤ neg_ℤ s
@@ -38,8 +40,9 @@ opposite m n u l s k t e f =
     ap (λ z. ((n *ℤ z) +ℤ (m *ℤ (k +ℤ t))) +ℤ (n *ℤ neg_ℤ s)) (sym e) ∙ ap (λ z. ((n *ℤ (m *ℤ u)) +ℤ (m *ℤ z)) +ℤ (n *ℤ neg_ℤ s)) (sym f) ∙
     ring ((v n ⊗ (v m ⊗ v u) ⊕ v m ⊗ (v n ⊗ ⊖ (v u))) ⊕ v n ⊗ ⊖ (v s)) (v n ⊗ ⊖ (v s)) (omega arith)
 
-span_out : (lines rays : List (List ℤ)) → IsCanonical lines rays → (u : ℕ → ℤ) → Generated (all_rows lines rays) u → Generated (all_rows lines rays) (λ j. neg_ℤ (u j)) → Spanned lines u
-span_out lines rays c u g h =
+-- the lines are all lines of the cone: what lies there with its opposite is spanned by them
+pub lines_are_all : (lines rays : List (List ℤ)) → IsCanonical lines rays → (u : ℕ → ℤ) → Generated (all_rows lines rays) u → Generated (all_rows lines rays) (λ j. neg_ℤ (u j)) → Spanned lines u
+lines_are_all lines rays c u g h =
     let cone = all_rows lines rays in
     let d = described_generated lines rays u g in
     let e = described_generated lines rays (λ j. neg_ℤ (u j)) h in
@@ -72,6 +75,7 @@ pub record Taken (r : List ℤ) (others : List (List ℤ)) (s : ℕ → ℤ) : T
   factors : List ℕ
   is : (j : ℕ) → s j ≡ (pos own *ℤ entry r j) +ℤ sum_of factors others j
 
+-- the factor of one ray, apart from the others
 pub take_out : (front : List (List ℤ)) (r : List ℤ) (back : List (List ℤ)) (fs : List ℕ) → Taken r (front ++ back) (sum_of fs (front ++ r ∷ back))
 take_out [] r back [] = record { own = 0; factors = []; is = λ j. ring (v (pos 0)) (v (pos 0) ⊗ v (entry r j) ⊕ v (pos 0)) (omega arith) }
 take_out [] r back (f ∷ fs) = record { own = f; factors = fs; is = λ j. refl }
@@ -85,6 +89,7 @@ take_out (t ∷ front) r back (f ∷ fs) =
           ring (v (pos f) ⊗ v (entry t j) ⊕ (v (pos i.own) ⊗ v (entry r j) ⊕ v (sum_of i.factors (front ++ back) j))) (v (pos i.own) ⊗ v (entry r j) ⊕ (v (pos f) ⊗ v (entry t j) ⊕ v (sum_of i.factors (front ++ back) j))) (omega arith);
     }
 
+-- a vector of the cone as a multiple of one ray, a sum of the others and a line
 pub parts_of : (lines front : List (List ℤ)) (r : List ℤ) (back : List (List ℤ)) (x : ℕ → ℤ) → Generated (all_rows lines (front ++ r ∷ back)) x → Parts r (front ++ back) (both_ways lines) x
 parts_of lines front r back x g =
     let d = described_generated lines (front ++ r ∷ back) x g in
@@ -122,6 +127,7 @@ extreme_at lines front r back c =
           record { times = x.0; positive = x.2; other = x.1; line = x.3; on_line = x.4; is_beside = x.5 };
     }
 
+-- each ray of a canonical description is extreme
 pub ray_extreme : (lines rays : List (List ℤ)) (r : List ℤ) → IsCanonical lines rays → Contains rays r → IsExtreme (all_rows lines rays) (both_ways lines) r
 ray_extreme lines rays r c k =
     let s = contains_split rays r k in
@@ -129,6 +135,7 @@ ray_extreme lines rays r c k =
     (extreme_at lines s.front r s.back (subst (λ (x : List (List ℤ)). IsCanonical lines x) s.is c))
 
 -- ---- the other list has it
+-- the two descriptions describe the same cone
 abbrev pub SameCone : (lines rays lines' rays' : List (List ℤ)) → Type 0
 SameCone lines rays lines' rays' = (u : ℕ → ℤ) → (Generated (all_rows lines rays) u → Generated (all_rows lines' rays') u) × (Generated (all_rows lines' rays') u → Generated (all_rows lines rays) u)
 
@@ -166,14 +173,15 @@ ray_found w lines rays rays' wr wr' c red inside c' r k g =
     let same : t ≡ r = row_same t r (wr' t f.1 ∙ sym (wr r k)) (λ j. cancel_same b.times (entry t j) (entry r j) b.positive (multiples j ∙ ap (λ (n : ℕ). pos n *ℤ entry r j) (sym mn))) in
     subst (λ (x : List ℤ). Contains rays' x) same f.1
 
+-- canonical descriptions of one cone have equal lines and the same rays
 pub canonical_unique : (w : ℕ) (lines rays lines' rays' : List (List ℤ)) →
     ((t : List ℤ) → Contains lines t → length t ≡ w) → ((t : List ℤ) → Contains rays t → length t ≡ w) → ((t : List ℤ) → Contains lines' t → length t ≡ w) → ((t : List ℤ) → Contains rays' t → length t ≡ w) →
     IsCanonical lines rays → IsCanonical lines' rays' → SameCone lines rays lines' rays' →
     (lines ≡ lines') × ((r : List ℤ) → (Contains rays r → Contains rays' r) × (Contains rays' r → Contains rays r))
 canonical_unique w lines rays lines' rays' wl wr wl' wr' c c' same =
     let spans : (u : ℕ → ℤ) → (Spanned lines u → Spanned lines' u) × (Spanned lines' u → Spanned lines u) = λ u. (
-      λ g. span_out lines' rays' c' u ((same u).0 (span_in lines rays u g)) ((same (λ j. neg_ℤ (u j))).0 (span_in lines rays (λ j. neg_ℤ (u j)) (span_negative lines u g))),
-      λ g. span_out lines rays c u ((same u).1 (span_in lines' rays' u g)) ((same (λ j. neg_ℤ (u j))).1 (span_in lines' rays' (λ j. neg_ℤ (u j)) (span_negative lines' u g))),
+      λ g. lines_are_all lines' rays' c' u ((same u).0 (spanned_in_cone lines rays u g)) ((same (λ j. neg_ℤ (u j))).0 (spanned_in_cone lines rays (λ j. neg_ℤ (u j)) (spanned_negative lines u g))),
+      λ g. lines_are_all lines rays c u ((same u).1 (spanned_in_cone lines' rays' u g)) ((same (λ j. neg_ℤ (u j))).1 (spanned_in_cone lines' rays' (λ j. neg_ℤ (u j)) (spanned_negative lines' u g))),
     ) in
     let e = echelon_unique w lines lines' c.pivots c'.pivots wl wl' c.echelon c'.echelon spans in
     let d : IsCanonical lines rays' = subst (λ (x : List (List ℤ)). IsCanonical x rays') (sym e.0) c' in
@@ -196,6 +204,7 @@ canonical_unique w lines rays lines' rays' wl wr wl' wr' c c' same =
     )
 
 -- ---- no ray twice, so as many rays
+-- a needed ray stands there once
 no_repeat_from : (lines front rest : List (List ℤ)) → IsCanonical lines (front ++ rest) → NoRepeat rest
 no_repeat_from lines front [] c = tt
 no_repeat_from lines front (x ∷ rest) c = (
@@ -203,6 +212,7 @@ no_repeat_from lines front (x ∷ rest) c = (
   no_repeat_from lines (front ++ x ∷ []) rest (subst (λ (y : List (List ℤ)). IsCanonical lines y) (sym (append_assoc front (x ∷ []) rest)) c),
 )
 
+-- no ray stands there twice
 pub no_repeat : (lines rays : List (List ℤ)) → IsCanonical lines rays → NoRepeat rays
 no_repeat lines rays c = no_repeat_from lines [] rays c
 

@@ -10,6 +10,7 @@ use Rattle.lra_linear.specs.Vectors.{product, blend}
 use Rattle.lra_linear.specs.CheckedArithmetic.{checked_product_from, checked_product, checked_entry, then_rest, checked_blend}
 use Rattle.lra_linear.proofs.Products.{product_none}
 
+-- the test decides the range
 pub in_range_yes : (z : ℤ) → InRange z → in_range z ≡ true
 in_range_yes z h = grind (arith, nat_tests)
 
@@ -29,6 +30,7 @@ product_tests s x y q p rest true true f g ih e = ih e ∙ +ℤ_assoc s (x *ℤ 
 product_tests s x y q p rest true false f g ih e = cc
 product_tests s x y q p rest false d f g ih e = cc
 
+-- an Ok is the sum so far and the product
 pub checked_product_from_is : (s : ℤ) (xs ys : List ℤ) (p : ℤ) → checked_product_from s xs ys ≡ Ok p → p ≡ s +ℤ product xs ys
 checked_product_from_is s [] ys p e = ok_same p s (sym e) ∙ sym (+ℤ_idr s)
 checked_product_from_is s (x ∷ xs) [] p e = ok_same p s (sym e) ∙ sym (+ℤ_idr s) ∙ ap (λ z. s +ℤ z) (sym (product_none (x ∷ xs)))
@@ -40,6 +42,7 @@ range_tests m n p rest true true f g t ih e = ih (grind (arith, nat_tests)) e
 range_tests m n p rest true false f g t ih e = cc
 range_tests m n p rest false d f g t ih e = cc
 
+-- and is in the range
 pub checked_product_from_in : (s : ℤ) (xs ys : List ℤ) (p : ℤ) → InRange s → checked_product_from s xs ys ≡ Ok p → InRange p
 checked_product_from_in s [] ys p h e = subst InRange (ok_same s p e) h
 checked_product_from_in s (x ∷ xs) [] p h e = subst InRange (ok_same s p e) h
@@ -52,6 +55,7 @@ pub checked_product_value : (xs ys : List ℤ) (r : Number) → r ≡ checked_pr
 checked_product_value xs ys (Ok p) e = checked_product_from_is (pos 0) xs ys p (sym e) ∙ +ℤ_idl (product xs ys)
 checked_product_value xs ys (Err f) e = tt
 
+-- and it is in the range
 pub checked_product_in_range : (xs ys : List ℤ) (r : Number) → r ≡ checked_product xs ys → IfOk r InRange
 checked_product_in_range xs ys (Ok p) e = checked_product_from_in (pos 0) xs ys p (omega arith) (sym e)
 checked_product_in_range xs ys (Err f) e = tt
@@ -63,6 +67,7 @@ entry_tests x e f g h true true false k = cc
 entry_tests x e f g h true false r k = cc
 entry_tests x e f g h false q r k = cc
 
+-- one column of the sum of multiples
 checked_entry_is : (a b u v e : ℤ) → checked_entry a b u v ≡ Ok e → e ≡ (a *ℤ u) +ℤ (b *ℤ v)
 checked_entry_is a b u v e f = entry_tests ((a *ℤ u) +ℤ (b *ℤ v)) e _ _ _ (in_range (a *ℤ u)) (in_range (b *ℤ v)) (in_range ((a *ℤ u) +ℤ (b *ℤ v))) f
 
@@ -97,5 +102,6 @@ in_by_recursion a b (u ∷ us) (v ∷ vs) rs e =
     parts_in rs (checked_entry a b u v) (checked_blend a b us vs)
     (λ y p. entry_in ((a *ℤ u) +ℤ (b *ℤ v)) y _ _ _ (in_range (a *ℤ u)) (in_range (b *ℤ v)) (in_range ((a *ℤ u) +ℤ (b *ℤ v))) refl p) (in_by_recursion a b us vs) e
 
+-- and its entries are in the range
 pub checked_blend_in_range : (a b : ℤ) (us vs rs : List ℤ) → checked_blend a b us vs ≡ Ok rs → All InRange rs
 checked_blend_in_range a b us vs rs e = All-from_recursion InRange rs (in_by_recursion a b us vs rs e)

@@ -25,6 +25,7 @@ pub record FromGiven (list : List Given) (r : List ℤ) : Type 0 where
 from_later : (g : Given) (list : List Given) (r : List ℤ) → FromGiven list r → FromGiven (g ∷ list) r
 from_later g list r x = record { given = x.given; has = contains_tail g x.given list x.has; sign = x.sign }
 
+-- each row of the system is a row of the list, or the opposite of an equality or line
 pub system_from : (list : List Given) (r : List ℤ) → Contains (system_of list) r → FromGiven list r
 system_from [] r k = absurd (contains_none r k)
 system_from (g ∷ list) r k = by_kind g.equal refl k (λ m. system_from list r m)
@@ -49,6 +50,7 @@ system_later g list r k = by_kind g.equal
     by_kind true = contains_tail g.row r (negated g.row ∷ system_of list) (contains_tail (negated g.row) r (system_of list) k)
     by_kind false = contains_tail g.row r (system_of list) k
 
+-- and each row of the list is there
 pub system_has : (list : List Given) (g : Given) → Contains list g → Contains (system_of list) g.row
 system_has [] g k = absurd (contains_none g k)
 system_has (x ∷ list) g k = elim (contains_cases x g list k) [
@@ -60,6 +62,7 @@ system_has (x ∷ list) g k = elim (contains_cases x g list k) [
     first true = contains_head x.row (negated x.row ∷ system_of list)
     first false = contains_head x.row (system_of list)
 
+-- with its opposite where it is an equality or a line
 pub system_has_negated : (list : List Given) (g : Given) → Contains list g → g.equal ≡ true → Contains (system_of list) (negated g.row)
 system_has_negated [] g k e = absurd (contains_none g k)
 system_has_negated (x ∷ list) g k e = elim (contains_cases x g list k) [
@@ -72,6 +75,7 @@ system_has_negated (x ∷ list) g k e = elim (contains_cases x g list k) [
     second false e = cc
 
 -- ---- constraints
+-- the constraints hold at a point exactly where it solves their system
 pub con_solves : (rows : List Given) (x : List ℤ) → Con rows x → Solves (system_of rows) (entry x)
 con_solves rows x h r k =
     let f = system_from rows r k in
@@ -102,6 +106,7 @@ solves_con rows x h g k = by_kind g.equal refl
     by_kind true e = between (product g.row x) (dot (negated g.row) (entry x)) (negated_dot g.row (entry x)) (h g.row (system_has rows g k)) (h (negated g.row) (system_has_negated rows g k e))
     by_kind false e = h g.row (system_has rows g k)
 
+-- row by row
 pub con_none : (x : List ℤ) → Con [] x
 con_none x g k = absurd (contains_none g k)
 
@@ -195,6 +200,7 @@ in_system list t k = elim (Contains-append_cases (rays_of list) (both_ways (line
       ]
 ]
 
+-- generators give a point exactly where their rows generate it
 pub gen_generated : (list : List Given) (u : ℕ → ℤ) → Described (lines_of list) (rays_of list) u → Generated (system_of list) u
 gen_generated list u d =
     generated_through (system_of list) (all_rows (lines_of list) (rays_of list)) u (λ t k. generated_row (system_of list) t (in_system list t k)) (generated_described (lines_of list) (rays_of list) u d)

@@ -19,6 +19,7 @@ use Rattle.lra_linear.proofs.Step.{step_complete, step_sound}
 pub consequence_met : (w : ℕ) (system rows : List (List ℤ)) → AreDual w system rows → (c : ℕ → ℤ) → Generated system c → Solves rows c
 consequence_met w system rows d c g r k = generated_nonneg r system c (λ s m. subst (λ z. pos 0 ≤ℤ z) (product_comm s r) (d.meets r k s m)) g
 
+-- the step with an inequality keeps the two descriptions dual
 pub dual_step : (w : ℕ) (c : List ℤ) (system rows target : List (List ℤ)) → AreDual w system rows → length c ≡ w → ((t : List ℤ) → Contains target t → length t ≡ w) → StepOf c rows target → AreDual w (c ∷ system) target
 dual_step w c system rows target d lc lt s =
     record {
@@ -54,6 +55,7 @@ pub record LineTarget (c l : List ℤ) (rows target : List (List ℤ)) : Type 0 
   pub step : LineStepOf c l rows target
   pub inside : (t : List ℤ) → Contains target t → Generated rows (entry t) × (pos 0 ≤ℤ dot c (entry t))
 
+-- the consequences of the system with c, where a line has a positive product with c
 line_consequences : (c l : List ℤ) (w : ℕ) (rows target gens : List (List ℤ)) → LineStepOf c l rows target → length c ≡ w →
     ((y : List ℤ) → length y ≡ w → Solves rows (entry y) → Generated gens (entry y)) → (x : List ℤ) → length x ≡ w → Solves target (entry x) → Generated (c ∷ gens) (entry x)
 line_consequences c l w rows target gens s lc full x lx h =
@@ -80,6 +82,7 @@ line_consequences c l w rows target gens s lc full x lx h =
     (generated_plus (c ∷ gens) (entry y) (λ j. pos n.0 *ℤ entry c j) (generated_more c gens (entry y) (full y (blend_length a (neg_ℤ b) x c same ∙ lx) sy))
     (generated_times (c ∷ gens) n.0 (entry c) (generated_row (c ∷ gens) c (contains_head c gens)))))
 
+-- the step with a line keeps the two descriptions dual
 pub dual_line_step : (w : ℕ) (c l : List ℤ) (system rows target : List (List ℤ)) → AreDual w system rows → length c ≡ w → ((t : List ℤ) → Contains target t → length t ≡ w) → LineTarget c l rows target → AreDual w (c ∷ system) target
 dual_line_step w c l system rows target d lc lt s =
     record {

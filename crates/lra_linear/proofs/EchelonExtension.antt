@@ -17,12 +17,14 @@ pub record ClearedRow (r : List ℤ) (p : ℕ) (e t : List ℤ) : Type 0 where
   pub is : (j : ℕ) → pos times *ℤ entry t j ≡ (entry r p *ℤ entry e j) +ℤ (neg_ℤ (entry e p) *ℤ entry r j)
   pub lowest : IsPrimitive t ⊎ ((j : ℕ) → entry t j ≡ pos 0)
 
+-- row by row
 abbrev pub ClearedRows : List ℤ → ℕ → List (List ℤ) → List (List ℤ) → Type 0
 ClearedRows r p [] [] = Unit {0}
 ClearedRows r p [] (t ∷ ts) = ⊥
 ClearedRows r p (e ∷ es) [] = ⊥
 ClearedRows r p (e ∷ es) (t ∷ ts) = ClearedRow r p e t × ClearedRows r p es ts
 
+-- where both are 0, the cleared row is 0
 cleared_zero : (r : List ℤ) (p : ℕ) (e t : List ℤ) → ClearedRow r p e t → (j : ℕ) → entry e j ≡ pos 0 → entry r j ≡ pos 0 → entry t j ≡ pos 0
 cleared_zero r p e t x j h k =
     let a = entry r p in
@@ -30,6 +32,7 @@ cleared_zero r p e t x j h k =
     no_product x.times (entry t j) x.positive
     (x.is j ∙ ap (λ z. (a *ℤ z) +ℤ (neg_ℤ b *ℤ entry r j)) h ∙ ap (λ z. (a *ℤ pos 0) +ℤ (neg_ℤ b *ℤ z)) k ∙ ring (v a ⊗ v (pos 0) ⊕ ⊖ (v b) ⊗ v (pos 0)) (v (pos 0)) (omega arith))
 
+-- which row a cleared one comes from
 cleared_from : (r : List ℤ) (p : ℕ) (es ts : List (List ℤ)) → ClearedRows r p es ts → (t : List ℤ) → Contains ts t → (e : List ℤ) × Contains es e × ClearedRow r p e t
 cleared_from r p [] [] f t k = absurd (omega (arith, k.1))
 cleared_from r p [] (x ∷ ts) f t k = absurd f
@@ -39,9 +42,11 @@ cleared_from r p (e ∷ es) (x ∷ ts) f t k = elim (contains_cases x t ts k) [
   | inr d ↦ let i = cleared_from r p es ts f.1 t d in (i.0, contains_tail e i.0 es i.1, i.2)
 ]
 
+-- the order of the columns is transitive
 before_trans : (i j k : ℕ) → Before i j → Before j k → Before i k
 before_trans i j k h l = (h.0, elim l.1 [ inl m ↦ inl (elim h.1 [ inl n ↦ omega arith | inr n ↦ absurd (let z = l.0 in omega arith) ]) | inr m ↦ inr m ])
 
+-- the form with the row in its place, and the rows before it cleared, is an echelon form
 pub echelon_insert : (r : List ℤ) (p : ℕ) (low new high : List (List ℤ)) (lows highs : List ℕ) → Leads r p → IsPrimitive r → ((q : ℕ) → Contains (lows ++ highs) q → entry r q ≡ pos 0) → ((q : ℕ) → Contains lows q → Before q p) →
     ((t : List ℤ) → Contains high t → (j : ℕ) → Before j p ⊎ (j ≡ p) → entry t j ≡ pos 0) → length low ≡ length lows → ClearedRows r p low new → IsEchelon (low ++ high) (lows ++ highs) → IsEchelon (new ++ r ∷ high) (lows ++ p ∷ highs)
 echelon_insert r p [] [] high [] highs l pr z b hz e f ech = (l, pr, hz, z, ech)

@@ -15,9 +15,11 @@ use Rattle.lra_linear.proofs.Ring.{mul_nonnegative, ring, v, ⊖, ◌⊕◌, ◌
 use Rattle.lra_linear.proofs.Signs.{above_zero, add_nonnegative, cases_sign, divide_nonnegative, neg_nat}
 
 -- ---- a / b is the value at which a row with product a at the point and b at the generator is tight
+-- q a - p b
 abbrev pub slack : ℕ → ℕ → ℤ → ℤ → ℤ
 slack p q a b = (pos q *ℤ a) +ℤ neg_ℤ (pos p *ℤ b)
 
+-- the greatest p / q asked for by the rows that are seen, and a row that asks for it
 pub record Lower (x g : List ℤ) (seen all : List (List ℤ)) : Type 0 where
   pub num : ℕ
   pub den : ℕ
@@ -48,6 +50,7 @@ not_met p q (pos n) b hq hb h = absurd (clash (slack p q (pos n) b) h
     clash : (z : ℤ) → z <ℤ pos 0 → pos 0 ≤ℤ z → ⊥
     clash z h k = omega (arith, ints)
 
+-- by recursion on the rows
 pub lower : (x g : List ℤ) (all seen : List (List ℤ)) → ((s : List ℤ) → Contains seen s → Contains all s) → Lower x g seen all
 lower x g all [] sub = record { num = 0; den = 1; positive = omega arith; meets = λ s k. absurd (omega (arith, k.1)); tight = inl refl }
 lower x g all (r ∷ rows) sub =

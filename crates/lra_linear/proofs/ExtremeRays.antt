@@ -57,6 +57,7 @@ balance a b k m n d r x y sx sy l1 l2 e f g =
     ap (λ z. (b *ℤ z) +ℤ (a *ℤ (b *ℤ y))) f ∙ ap (λ z. (b *ℤ ((m *ℤ r) +ℤ (sx +ℤ l1))) +ℤ (a *ℤ z)) g ∙
     ring (v b ⊗ (v m ⊗ v r ⊕ (v sx ⊕ v l1)) ⊕ v a ⊗ (v n ⊗ v r ⊕ (v sy ⊕ v l2))) ((v b ⊗ v m ⊕ v a ⊗ v n) ⊗ v r ⊕ (v b ⊗ (v sx ⊕ v l1) ⊕ v a ⊗ (v sy ⊕ v l2))) (omega arith)
 
+-- from p r = q r + s
 cancel : (p q d r s : ℤ) → p ≡ q +ℤ d → (p *ℤ r) ≡ (q *ℤ r) +ℤ s → s ≡ d *ℤ r
 cancel p q d r s e f =
     ring (v s) ((v q ⊗ v r ⊕ v s) ⊕ ⊖ (v q ⊗ v r)) (omega arith) ∙ ap (λ z. z +ℤ neg_ℤ (q *ℤ r)) (sym f) ∙ ap (λ z. (z *ℤ r) +ℤ neg_ℤ (q *ℤ r)) e ∙
@@ -117,6 +118,7 @@ needed_splits r others lines free k x y px py e =
           )
     ]
 
+-- an extreme ray stands, up to a multiple and a line, in each list of rows that generates it
 pub extreme_found : (cone lines : List (List ℤ)) (r : List ℤ) → IsExtreme cone lines r → ((u : ℕ → ℤ) → Generated lines u → Generated cone u) →
     (rows : List (List ℤ)) → ((t : List ℤ) → Contains rows t → Generated cone (entry t)) → (fs : List ℕ) (l : ℕ → ℤ) → Generated lines l → (k : ℕ) → 0 < k → ((j : ℕ) → pos k *ℤ entry r j ≡ sum_of fs rows j +ℤ l j) →
     (t : List ℤ) × Contains rows t × Beside lines r t

@@ -29,6 +29,7 @@ flat_zero c l r t f j h k =
     no_product f.times (entry t j) f.positive
     (f.is j ∙ ap (λ z. (a *ℤ z) +ℤ (neg_ℤ b *ℤ entry l j)) h ∙ ap (λ z. (a *ℤ pos 0) +ℤ (neg_ℤ b *ℤ z)) k ∙ ring (v a ⊗ v (pos 0) ⊕ ⊖ (v b) ⊗ v (pos 0)) (v (pos 0)) (omega arith))
 
+-- which row a flat one comes from
 pub record FlatOf (c l : List ℤ) (rs : List (List ℤ)) (t : List ℤ) : Type 0 where
   pub row : List ℤ
   pub has : Contains rs row
@@ -43,6 +44,7 @@ flats_from c l (r ∷ rs) (x ∷ ts) f t k = elim (contains_cases x t ts k) [
   | inr d ↦ let i = flats_from c l rs ts f.1 t d in record { row = i.row; has = contains_tail r i.row rs i.has; flat = i.flat }
 ]
 
+-- what a row becomes
 pub record IsFlatIn (c l : List ℤ) (ts : List (List ℤ)) (r : List ℤ) : Type 0 where
   pub image : List ℤ
   pub has : Contains ts image
@@ -56,6 +58,7 @@ flats_to c l (x ∷ rs) (t ∷ ts) f r k = elim (contains_cases x r rs k) [
   | inr d ↦ let i = flats_to c l rs ts f.1 r d in record { image = i.image; has = contains_tail t i.image ts i.has; flat = i.flat }
 ]
 
+-- a split of the flat rows is one of the rows
 pub record FlatSplit (c l : List ℤ) (rs front : List (List ℤ)) (t : List ℤ) (back : List (List ℤ)) : Type 0 where
   pub first : List (List ℤ)
   pub row : List ℤ
@@ -65,6 +68,7 @@ pub record FlatSplit (c l : List ℤ) (rs front : List (List ℤ)) (t : List ℤ
   pub flat : Flat c l row t
   pub back_flat : Flats c l last back
 
+-- by recursion
 pub flat_split : (c l : List ℤ) (rs front : List (List ℤ)) (t : List ℤ) (back : List (List ℤ)) → Flats c l rs (front ++ t ∷ back) → FlatSplit c l rs front t back
 flat_split c l [] [] t back f = absurd f
 flat_split c l [] (x ∷ front) t back f = absurd f
@@ -74,12 +78,14 @@ flat_split c l (r ∷ rs) (x ∷ front) t back f =
     record { first = r ∷ i.first; row = i.row; last = i.last; is = ap (λ (y : List (List ℤ)). r ∷ y) i.is; front_flat = (f.0, i.front_flat); flat = i.flat; back_flat = i.back_flat }
 
 -- ---- the lines without l
+-- the form without the line
 pub record Dropped (l : List ℤ) (rows : List (List ℤ)) (ps : List ℕ) : Type 0 where
   pub pivots : List ℕ
   pub echelon : IsEchelon rows pivots
   pub sub : (q : ℕ) → Contains pivots q → Contains ps q
   pub zero_at : (q : ℕ) → Contains pivots q → entry l q ≡ pos 0
 
+-- the rows before the line, made flat, and the rows after it are an echelon form
 pub echelon_drop : (c l line : List ℤ) (before after new : List (List ℤ)) (ps : List ℕ) → ((j : ℕ) → entry line j ≡ pos 0 → entry l j ≡ pos 0) → pos 0 <ℤ dot c (entry l) → Flats c l before new → IsEchelon (before ++ line ∷ after) ps → Dropped l (new ++ after) ps
 echelon_drop c l line [] after [] [] z p f ech = absurd ech
 echelon_drop c l line [] after [] (q ∷ ps) z p f ech = record { pivots = ps; echelon = ech.4; sub = λ r k. contains_tail q r ps k; zero_at = λ r k. z r (ech.3 r k) }
@@ -121,6 +127,7 @@ flat_dot c l r t f =
     no_product f.times (dot c (entry t)) f.positive
     (sym (dot_scale c (pos f.times) (entry t)) ∙ dot_same c (λ j. pos f.times *ℤ entry t j) (λ j. (a *ℤ entry r j) +ℤ (neg_ℤ b *ℤ entry l j)) f.is ∙ dot_linear c a (neg_ℤ b) (entry r) (entry l) ∙ ring (v a ⊗ v b ⊕ ⊖ (v b) ⊗ v a) (v (pos 0)) (omega arith))
 
+-- a flat row lies in a cone that has its row and the line in both directions
 pub flat_inside : (c l r t : List ℤ) (cone : List (List ℤ)) → pos 0 <ℤ dot c (entry l) → ((z : ℤ) → Generated cone (λ j. z *ℤ entry l j)) → Flat c l r t → Generated cone (entry r) → Generated cone (entry t)
 flat_inside c l r t cone p line f g =
     let a = dot c (entry l) in
@@ -130,6 +137,7 @@ flat_inside c l r t cone p line f g =
     (generated_same cone (λ j. (pos n.0 *ℤ entry r j) +ℤ (neg_ℤ b *ℤ entry l j)) (λ j. pos f.times *ℤ entry t j) (λ j. ap (λ y. (y *ℤ entry r j) +ℤ (neg_ℤ b *ℤ entry l j)) (sym n.1) ∙ sym (f.is j))
     (generated_plus cone (λ j. pos n.0 *ℤ entry r j) (λ j. neg_ℤ b *ℤ entry l j) (generated_times cone n.0 (entry r) g) (line (neg_ℤ b))))
 
+-- and its row lies in one that has the flat row and the line
 pub flat_back : (c l r t : List ℤ) (cone : List (List ℤ)) → pos 0 <ℤ dot c (entry l) → ((z : ℤ) → Generated cone (λ j. z *ℤ entry l j)) → Flat c l r t → Generated cone (entry t) → Generated cone (entry r)
 flat_back c l r t cone p line f g =
     let a = dot c (entry l) in
@@ -152,6 +160,7 @@ flat_back_negative c l r t cone p line f g =
     ring (⊖ (v a ⊗ v (entry r j) ⊕ ⊖ (v b) ⊗ v (entry l j)) ⊕ ⊖ (v b) ⊗ v (entry l j)) (v a ⊗ ⊖ (v (entry r j))) (omega arith) ∙ ap (λ y. y *ℤ neg_ℤ (entry r j)) n.1)
     (generated_plus cone (λ j. pos f.times *ℤ neg_ℤ (entry t j)) (λ j. neg_ℤ b *ℤ entry l j) (generated_times cone f.times (λ j. neg_ℤ (entry t j)) g) (line (neg_ℤ b))))
 
+-- also where the flat row is 0
 pub flat_back_zero : (c l r t : List ℤ) (cone : List (List ℤ)) → pos 0 <ℤ dot c (entry l) → ((z : ℤ) → Generated cone (λ j. z *ℤ entry l j)) → Flat c l r t → ((j : ℕ) → entry t j ≡ pos 0) → Generated cone (entry r)
 flat_back_zero c l r t cone p line f h = flat_back c l r t cone p line f (generated_same cone (λ j. pos 0) (entry t) (λ j. sym (h j)) (generated_zero cone))
 
@@ -175,6 +184,7 @@ member_primitive [] ps r e k = absurd (omega (arith, k.1))
 member_primitive (x ∷ rows) [] r e k = absurd e
 member_primitive (x ∷ rows) (p ∷ ps) r e k = elim (contains_cases x r rows k) [ inl f ↦ subst IsPrimitive f e.1 | inr d ↦ member_primitive rows ps r e.4 d ]
 
+-- a line in either direction is in lowest terms
 pub signed_primitive : (l s : List ℤ) → (s ≡ l) ⊎ (s ≡ negated l) → IsPrimitive l → IsPrimitive s
 signed_primitive l s (inl e) p = subst IsPrimitive (sym e) p
 signed_primitive l s (inr e) p = λ d h. p d (λ j. subst (λ (n : ℕ). d ∣ n) (ap (λ (y : List ℤ). unsigned_abs (entry y j)) e ∙ ap unsigned_abs (entry_negated l j) ∙ abs_neg (entry l j)) (h j))

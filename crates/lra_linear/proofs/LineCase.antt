@@ -18,6 +18,7 @@ use Rattle.lra_linear.proofs.Products.{dot_minus, dot_negated, entry_negated, ne
 use Rattle.lra_linear.proofs.Ring.{ring, v, ⊖, ◌⊕◌, ◌⊗◌}
 use Rattle.lra_linear.proofs.Signs.{not_both}
 
+-- a multiple by 1
 one_times : (rows : List (List ℤ)) (k : List ℤ) → Generated rows (λ j. pos 1 *ℤ entry k j) → Generated rows (entry k)
 one_times rows k g = generated_same rows (λ j. pos 1 *ℤ entry k j) (entry k) (λ j. ring (v (pos 1) ⊗ v (entry k j)) (v (entry k j)) (omega arith)) g
 
@@ -64,10 +65,12 @@ flat_needed c l line before after new rays front t back others k s p f fr among 
     let mult : (z : ℤ) → Generated cone (λ j. z *ℤ entry l j) = λ z. generated_right (x.first ++ x.last) (both_ways lines) (λ j. z *ℤ entry l j) (signed_multiple lines line l z has s) in
     k.needed x.first x.row x.last x.is (flat_back c l x.row t cone p mult x.flat (new_inside c l line before after new x.first x.last front back others s p f x.front_flat x.back_flat among (entry t) g))
 
+-- a split of a list with l in front
 split_head : (l : List ℤ) (rays front : List (List ℤ)) (t : List ℤ) (back : List (List ℤ)) → l ∷ rays ≡ front ++ t ∷ back → ((front ≡ []) × (t ≡ l) × (back ≡ rays)) ⊎ ((more : List (List ℤ)) × (front ≡ l ∷ more) × (rays ≡ more ++ t ∷ back))
 split_head l rays [] t back e = inl (refl, cc, cc)
 split_head l rays (x ∷ front) t back e = let a : x ≡ l = cc in let b : rays ≡ front ++ t ∷ back = cc in inr (front, ap (λ (y : List ℤ). y ∷ front) a, b)
 
+-- all parts of a canonical description, for an inequality and for an equality
 canonical_core : (equal : Bool) (c l line : List ℤ) (before after new rays flat : List (List ℤ)) → IsCanonical (before ++ line ∷ after) rays → (l ≡ line) ⊎ (l ≡ negated line) → pos 0 <ℤ dot c (entry l) → ((k : List ℤ) → Contains after k → dot c (entry k) ≡ pos 0) → Flats c l before new →
     Flats c l rays flat → IsCanonical (new ++ after) (cond equal flat (l ∷ flat))
 canonical_core equal c l line before after new rays flat k s p fa f fr =
@@ -167,6 +170,7 @@ old_line c l line before after new s fa f k i z =
         ap (λ y. z *ℤ ((neg_ℤ (dot c (entry k)) *ℤ entry k j) +ℤ (dot c (entry k) *ℤ neg_ℤ y))) (entry_negated k j) ∙
         ring (v z ⊗ (⊖ (v (dot c (entry k))) ⊗ v (entry k j) ⊕ v (dot c (entry k)) ⊗ ⊖ (⊖ (v (entry k j))))) (v (pos 0)) (omega arith)
 
+-- the new rows are what the step with a line wants
 line_kept : (c l line : List ℤ) (before after new rays flat : List (List ℤ)) → (l ≡ line) ⊎ (l ≡ negated line) → pos 0 <ℤ dot c (entry l) → ((k : List ℤ) → Contains after k → dot c (entry k) ≡ pos 0) → Flats c l before new → Flats c l rays flat →
     LineTarget c l (all_rows (before ++ line ∷ after) rays) (all_rows (new ++ after) (l ∷ flat))
 line_kept c l line before after new rays flat s p fa f fr =
@@ -217,6 +221,7 @@ line_kept c l line before after new rays flat s p fa f fr =
       | inr m ↦ lines_flat_dot c l before after new f fa t m
     ]
 
+-- each new row but l is flat
 all_flat_rows : (c l : List ℤ) (before after new rays flat : List (List ℤ)) → Flats c l before new → ((k : List ℤ) → Contains after k → dot c (entry k) ≡ pos 0) → Flats c l rays flat → (t : List ℤ) → Contains (all_rows (new ++ after) flat) t → dot c (entry t) ≡ pos 0
 all_flat_rows c l before after new rays flat f fa fr t i = elim (Contains-append_cases flat (both_ways (new ++ after)) t i) [
   | inl m ↦ let o = flats_from c l rays flat fr t m in flat_dot c l o.row t o.flat
@@ -253,6 +258,7 @@ second_step c l rest p h =
     above : (z : ℤ) → pos 0 <ℤ z → z ≤ℤ pos 0 → ⊥
     above z h e = omega (arith, ints, h, e)
 
+-- the order of two rows of the system is free
 swap_rows : (w : ℕ) (x y : List ℤ) (s rows : List (List ℤ)) → AreDual w (x ∷ y ∷ s) rows → AreDual w (y ∷ x ∷ s) rows
 swap_rows w x y s rows d =
     record {
@@ -276,6 +282,7 @@ line_case_kept w equal c lines rays new_lines new_rays x k =
     (subst (λ (y : List (List ℤ)). IsCanonical y (cond equal x.flat_rays (x.signed ∷ x.flat_rays))) (sym x.are_lines)
     (canonical_core equal c x.signed x.line x.before x.after x.new_before rays x.flat_rays (subst (λ (y : List (List ℤ)). IsCanonical y rays) x.is_lines k) x.sign x.above x.flat_after x.lines_flat x.rays_flat))
 
+-- and dual to the system with the row
 pub line_case_dual : (w : ℕ) (equal : Bool) (c : List ℤ) (lines rays new_lines new_rays : List (List ℤ)) → LineCase equal c lines rays new_lines new_rays → length c ≡ w → ((t : List ℤ) → Contains (all_rows lines rays) t → length t ≡ w) →
     ((t : List ℤ) → Contains (all_rows new_lines new_rays) t → length t ≡ w) → (system : List (List ℤ)) → AreDual w system (all_rows lines rays) → AreDual w (cond equal (c ∷ negated c ∷ system) (c ∷ system)) (all_rows new_lines new_rays)
 line_case_dual w equal c lines rays new_lines new_rays x lc wo wn system d =

@@ -16,6 +16,7 @@ use Rattle.lra_linear.proofs.Signs.{add_nonnegative, divide_nonnegative}
 abbrev pub bent : List ℤ → ℤ → (ℕ → ℤ) → (ℕ → ℤ) → ℕ → ℤ
 bent c a w u j = (a *ℤ u j) +ℤ (dot c u *ℤ w j)
 
+-- for a sum of rows
 bent_sum : (c : List ℤ) (a : ℤ) (w : ℕ → ℤ) (rows target : List (List ℤ)) → ((r : List ℤ) → Contains rows r → Generated target (bent c a w (entry r))) → (fs : List ℕ) → Generated target (bent c a w (sum_of fs rows))
 bent_sum c a w rows target h [] = generated_same target (λ j. pos 0) (bent c a w (λ j. pos 0))
     (λ j. ring (v (pos 0)) (v a ⊗ v (pos 0) ⊕ v (pos 0) ⊗ v (w j)) (omega arith) ∙ ap (λ d. (a *ℤ pos 0) +ℤ (d *ℤ w j)) (sym (dot_zero c))) (generated_zero target)
@@ -36,6 +37,7 @@ bent_sum c a w (r ∷ rows) target h (f ∷ fs) =
     ap (λ e. (a *ℤ ((pos f *ℤ x j) +ℤ s j)) +ℤ (e *ℤ w j)) (sym d))
     (generated_plus target (λ j. pos f *ℤ bent c a w x j) (bent c a w s) one rest)
 
+-- for each vector that the rows generate
 pub generated_bent : (c : List ℤ) (a : ℤ) (w : ℕ → ℤ) (rows target : List (List ℤ)) (u : ℕ → ℤ) → ((r : List ℤ) → Contains rows r → Generated target (bent c a w (entry r))) → Generated rows u → Generated target (bent c a w u)
 generated_bent c a w rows target u h g =
     generated_divided target g.multiple (bent c a w u) g.positive
@@ -48,6 +50,7 @@ generated_bent c a w rows target u h g =
     ring (v a ⊗ (v k ⊗ v (u j)) ⊕ (v k ⊗ v (dot c u)) ⊗ v (w j)) (v k ⊗ (v a ⊗ v (u j) ⊕ v (dot c u) ⊗ v (w j))) (omega arith))
     (bent_sum c a w rows target h g.factors))
 
+-- what rows in a cone generate lies in the cone
 pub generated_through : (rows target : List (List ℤ)) (u : ℕ → ℤ) → ((t : List ℤ) → Contains target t → Generated rows (entry t)) → Generated target u → Generated rows u
 generated_through rows target u h g =
     generated_same rows (bent [] (pos 1) (λ j. pos 0) u) u (λ j. ring (v (pos 1) ⊗ v (u j) ⊕ v (pos 0) ⊗ v (pos 0)) (v (u j)) (omega arith))
@@ -67,11 +70,13 @@ generated_left rows more u g = generated_through (rows ++ more) rows u (λ t k. 
     contains_left [] ys t k = absurd (omega (arith, k.1))
     contains_left (x ∷ xs) ys t k = elim (contains_cases x t xs k) [ inl e ↦ subst (Contains (x ∷ xs ++ ys)) e (contains_head x (xs ++ ys)) | inr d ↦ contains_tail x t (xs ++ ys) (contains_left xs ys t d) ]
 
+-- and so do longer lists
 pub generated_right : (rows more : List (List ℤ)) (u : ℕ → ℤ) → Generated more u → Generated (rows ++ more) u
 generated_right [] more u g = g
 generated_right (x ∷ xs) more u g = generated_more x (xs ++ more) u (generated_right xs more u g)
 
 -- ---- soundness
+-- rows with products that are not negative have sums with such products
 pub sum_nonneg : (c : List ℤ) (rows : List (List ℤ)) → ((r : List ℤ) → Contains rows r → pos 0 ≤ℤ dot c (entry r)) → (fs : List ℕ) → pos 0 ≤ℤ dot c (sum_of fs rows)
 sum_nonneg c rows h [] = subst (λ z. pos 0 ≤ℤ z) (sym (dot_zero c)) (omega (arith, ints))
 sum_nonneg c [] h (f ∷ fs) = subst (λ z. pos 0 ≤ℤ z) (sym (dot_zero c)) (omega (arith, ints))
@@ -82,6 +87,7 @@ sum_nonneg c (r ∷ rows) h (f ∷ fs) =
     let rest : pos 0 ≤ℤ dot c s = sum_nonneg c rows (λ y k. h y (contains_tail r y rows k)) fs in
     subst (λ z. pos 0 ≤ℤ z) (sym (dot_plus c (pos f) x s)) (add_nonnegative (pos f *ℤ dot c x) (dot c s) one rest)
 
+-- and each vector that they generate has one
 pub generated_nonneg : (c : List ℤ) (rows : List (List ℤ)) (u : ℕ → ℤ) → ((r : List ℤ) → Contains rows r → pos 0 ≤ℤ dot c (entry r)) → Generated rows u → pos 0 ≤ℤ dot c u
 generated_nonneg c rows u h g =
     let s : ℕ → ℤ = sum_of g.factors rows in

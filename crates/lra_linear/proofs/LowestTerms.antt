@@ -16,6 +16,7 @@ record CommonDivisor (a b : ℕ) : Type 0 where
   right : g ∣ b
   scaled : (m d : ℕ) → d ∣ (m * a) → d ∣ (m * b) → d ∣ (m * g)
 
+-- by division with remainder
 euclid : (fuel a b : ℕ) → b ≤ fuel → CommonDivisor a b
 euclid zero a b h = record { g = a; left = dvd_refl a; right = let e : 0 ≡ b = omega arith in subst (λ (n : ℕ). a ∣ n) e (dvd-zero a); scaled = λ m d p q. p }
 euclid (suc fuel) a zero h = record { g = a; left = dvd_refl a; right = dvd-zero a; scaled = λ m d p q. p }
@@ -44,6 +45,7 @@ pub record RowDivisor (r : List ℤ) : Type 0 where
   pub divides : (j : ℕ) → g ∣ unsigned_abs (entry r j)
   pub scaled : (m d : ℕ) → ((j : ℕ) → d ∣ (m * unsigned_abs (entry r j))) → d ∣ (m * g)
 
+-- by recursion on the row
 pub row_divisor : (r : List ℤ) → RowDivisor r
 row_divisor [] = record { g = 0; divides = λ j. dvd-zero 0; scaled = λ m d h. h 0 }
 row_divisor (x ∷ xs) =
@@ -64,6 +66,7 @@ row_divisor (x ∷ xs) =
 pub primitive_at : (r : List ℤ) (j : ℕ) → unsigned_abs (entry r j) ≡ 1 → IsPrimitive r
 primitive_at r j e d h = dvd_antisymm (subst (λ (n : ℕ). d ∣ n) e (h j)) (one-dvd d)
 
+-- what divides each entry of a multiple of a row in lowest terms divides the factor
 divides_factor : (m n : ℕ) (r : List ℤ) → IsPrimitive r → ((j : ℕ) → n ∣ (m * unsigned_abs (entry r j))) → n ∣ m
 divides_factor m n r p h =
     let g = row_divisor r in
@@ -71,6 +74,7 @@ divides_factor m n r p h =
     let k : m * g.g ≡ m = ap (λ z. m * z) e ∙ omega arith in
     subst (λ (z : ℕ). n ∣ z) k (g.scaled m n h)
 
+-- multiples of two rows in lowest terms that are the same have the same factor
 pub same_multiple : (m n : ℕ) (t r : List ℤ) → IsPrimitive t → IsPrimitive r → ((j : ℕ) → pos m *ℤ entry t j ≡ pos n *ℤ entry r j) → m ≡ n
 same_multiple m n t r pt pr e =
     let abs : (j : ℕ) → m * unsigned_abs (entry t j) ≡ n * unsigned_abs (entry r j) = λ j. sym (unsigned_abs-mul (pos m) (entry t j)) ∙ ap unsigned_abs (e j) ∙ unsigned_abs-mul (pos n) (entry r j) in
@@ -83,6 +87,7 @@ abbrev pub signed_quotient : ℕ → ℤ → ℤ
 signed_quotient g (pos n) = pos (n / g)
 signed_quotient g (negsuc n) = neg_ℤ (pos (suc n / g))
 
+-- the quotient of a multiple
 pub signed_quotient_is : (g : ℕ) (z : ℤ) → g ∣ unsigned_abs z → pos g *ℤ signed_quotient g z ≡ z
 signed_quotient_is g (pos n) d = ring (v (pos g) ⊗ v (pos (n / g))) (v (pos (g * (n / g)))) (omega arith) ∙ ap pos (mul-div_cancel' g d)
 signed_quotient_is g (negsuc n) d = ring (v (pos g) ⊗ ⊖ (v (pos (suc n / g)))) (⊖ (v (pos (g * (suc n / g))))) (omega arith) ∙ ap (λ k. neg_ℤ (pos k)) (mul-div_cancel' g d)
@@ -100,6 +105,7 @@ quotients_length : (g : ℕ) (xs : List ℤ) → length (quotients g xs) ≡ len
 quotients_length g [] = refl
 quotients_length g (x ∷ xs) = ap suc (quotients_length g xs)
 
+-- divided by the greatest divisor, a row is in lowest terms
 by_divisor : (r : List ℤ) (g : ℕ) → ((j : ℕ) → g ∣ unsigned_abs (entry r j)) → ((m d : ℕ) → ((j : ℕ) → d ∣ (m * unsigned_abs (entry r j))) → d ∣ (m * g)) → (t : List ℤ) × IsLowest r t
 by_divisor r zero divides scaled = (r, record { same_length = refl; times = 1; positive = omega arith; is_multiple = λ j. ring (v (pos 1) ⊗ v (entry r j)) (v (entry r j)) (omega arith); lowest = inr (λ j. nothing (entry r j) (divides j)) })
   where
@@ -119,5 +125,6 @@ by_divisor r (suc g) divides scaled = (
     size : (r : List ℤ) (g : ℕ) → ((j : ℕ) → suc g ∣ unsigned_abs (entry r j)) → (j : ℕ) → unsigned_abs (entry (quotients (suc g) r) j) * suc g ≡ 1 * unsigned_abs (entry r j)
     size r g d j = let e = sym (unsigned_abs-mul (pos (suc g)) (entry (quotients (suc g) r) j)) ∙ ap unsigned_abs (quotients_are (suc g) r d j) in omega (arith, e)
 
+-- each row has lowest terms
 pub lowest_exists : (r : List ℤ) → (t : List ℤ) × IsLowest r t
 lowest_exists r = let g = row_divisor r in by_divisor r g.g g.divides g.scaled

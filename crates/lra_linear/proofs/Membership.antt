@@ -7,9 +7,11 @@ use Rattle.std.specs.declared.cmp.Ordering.{Ordering}
 use Rattle.std.specs.declared.cmp.Ordering.TheVariants.{Less}
 use Rattle.lra_linear.specs.RowOrder.{Ascends}
 
+-- nothing is in the empty list
 pub contains_none : {A : Type 0} (x : A) → Contains [] x → ⊥
 contains_none x k = omega (arith, k.1)
 
+-- the first element, and a later one
 pub contains_head : {A : Type 0} (x : A) (xs : List A) → Contains (x ∷ xs) x
 contains_head x xs = (0, omega arith, refl)
 
@@ -20,6 +22,7 @@ at_cases : {A : Type 0} (y x : A) (xs : List A) (k : ℕ) → k < length (y ∷ 
 at_cases y x xs zero h e = inl e
 at_cases y x xs (suc k) h e = inr (k, omega (arith, h), e)
 
+-- a member of a list is its first element, or a later one
 pub contains_cases : {A : Type 0} (y x : A) (xs : List A) → Contains (y ∷ xs) x → (y ≡ x) ⊎ Contains xs x
 contains_cases y x xs h = at_cases y x xs h.0 h.1 h.2
 
@@ -39,6 +42,7 @@ pub record Split {A : Type 0} (xs : List A) (x : A) : Type 0 where
   pub back : List A
   pub is : xs ≡ front ++ x ∷ back
 
+-- a member splits its list
 pub contains_split : {A : Type 0} (xs : List A) (x : A) → Contains xs x → Split xs x
 contains_split [] x k = absurd (contains_none x k)
 contains_split (y ∷ xs) x k = elim (contains_cases y x xs k) [
@@ -51,6 +55,7 @@ abbrev pub NoRepeat : {A : Type 0} → List A → Type 0
 NoRepeat [] = Unit {0}
 NoRepeat (x ∷ xs) = ¬ (Contains xs x) × NoRepeat xs
 
+-- a list without repeats is no longer than one with all its members
 pub at_most : {A : Type 0} (xs ys : List A) → NoRepeat xs → ((t : A) → Contains xs t → Contains ys t) → length xs ≤ length ys
 at_most [] ys n f = omega arith
 at_most (x ∷ xs) ys n f =
@@ -79,6 +84,7 @@ same_ascending cmp asym (x ∷ xs) (y ∷ ys) a b same =
     cc
 
 -- ---- tests of all members, and those that pass
+-- what all pass, each member passes, and the other way round
 pub list_all_at : {A : Type 0} (test : A → Bool) (xs : List A) → list_all test xs ≡ true → (x : A) → Contains xs x → test x ≡ true
 list_all_at test [] h x k = absurd (contains_none x k)
 list_all_at test (y ∷ xs) h x k =
@@ -93,6 +99,7 @@ pub list_all_from : {A : Type 0} (test : A → Bool) (xs : List A) → ((x : A) 
 list_all_from test [] h = refl
 list_all_from test (y ∷ xs) h = rw (h y (contains_head y xs)) (list_all_from test xs (λ x k. h x (contains_tail y x xs k)))
 
+-- a member that passes stays, and what stays is a member that passes
 pub filter_has : {A : Type 0} (test : A → Bool) (xs : List A) (x : A) → Contains xs x → test x ≡ true → Contains (filter test xs) x
 filter_has test [] x k h = absurd (contains_none x k)
 filter_has test (y ∷ xs) x k h = elim (contains_cases y x xs k) [
@@ -116,6 +123,7 @@ filter_from test (y ∷ xs) x k = by_test (test y) refl k (λ d. filter_from tes
     by_test false e k rest = let i = rest k in (contains_tail y x xs i.0, i.1)
 
 -- ---- short lists: a fact on each member, and on each member with the others
+-- by the number of members
 pub each_one : {A : Type 0} (P : A → Type 0) (a : A) → P a → (t : A) → Contains (a ∷ []) t → P t
 each_one P a p t k = elim (contains_cases a t [] k) [ inl e ↦ subst P e p | inr n ↦ absurd (contains_none t n) ]
 
@@ -125,6 +133,7 @@ each_two P a b p q t k = elim (contains_cases a t (b ∷ []) k) [ inl e ↦ subs
 pub each_three : {A : Type 0} (P : A → Type 0) (a b c : A) → P a → P b → P c → (t : A) → Contains (a ∷ b ∷ c ∷ []) t → P t
 each_three P a b c p q r t k = elim (contains_cases a t (b ∷ c ∷ []) k) [ inl e ↦ subst P e p | inr n ↦ each_two P b c q r t n ]
 
+-- the splits of a list of none, one, two or three elements: the fact on each element, with the others
 pub split_none : {A : Type 0} (front : List A) (x : A) (back : List A) → [] ≡ front ++ x ∷ back → ⊥
 split_none front x back e = let l = ap length e in let n = length-append front (x ∷ back) in omega (arith, l, n)
 

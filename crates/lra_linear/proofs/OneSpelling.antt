@@ -42,12 +42,15 @@ dot_zeros : (n : ℕ) (u : ℕ → ℤ) → dot (zeros n) u ≡ pos 0
 dot_zeros zero u = refl
 dot_zeros (suc n) u = ap (λ z. (pos 0 *ℤ u 0) +ℤ z) (dot_zeros n (λ j. u (suc j))) ∙ ring (v (pos 0) ⊗ v (u 0) ⊕ v (pos 0)) (v (pos 0)) (omega arith)
 
+-- the product of the positivity row is the divisor
 pub positivity_product : (n : ℕ) (x : List ℤ) → product (positivity n) x ≡ entry x 0
 positivity_product n x = ap (λ z. (pos 1 *ℤ entry x 0) +ℤ z) (dot_zeros n (λ j. entry x (suc j))) ∙ ring (v (pos 1) ⊗ v (entry x 0) ⊕ v (pos 0)) (v (entry x 0)) (omega arith)
 
+-- that of the row -1 is its opposite
 falsity_product : (n : ℕ) (x : List ℤ) → product (falsity n) x ≡ neg_ℤ (entry x 0)
 falsity_product n x = ap (λ z. (negsuc 0 *ℤ entry x 0) +ℤ z) (dot_zeros n (λ j. entry x (suc j))) ∙ ring (v (negsuc 0) ⊗ v (entry x 0) ⊕ v (pos 0)) (⊖ (v (entry x 0))) (omega arith)
 
+-- so -1 >= 0 holds at no point
 pub falsity_never : (n : ℕ) (x : List ℤ) → IsPoint n x → ¬ (pos 0 ≤ℤ product (falsity n) x)
 falsity_never n x p h = below (entry x 0) (product (falsity n) x) p.divisor (falsity_product n x) h
   where
@@ -70,6 +73,7 @@ far (negsuc m) (negsuc n) h = absurd (let k = h 0 in omega (arith, ints, k))
 abbrev gone : List ℤ → List ℤ → ℕ → List ℤ
 gone b t k = blend (pos 1) (pos k) b t
 
+-- its entries, products and divisor
 gone_entry : (b t : List ℤ) (k : ℕ) → length b ≡ length t → (j : ℕ) → entry (gone b t k) j ≡ (pos 1 *ℤ entry b j) +ℤ (pos k *ℤ entry t j)
 gone_entry b t k e j = entry_blend (pos 1) (pos k) b t e j
 
@@ -86,6 +90,7 @@ gone_divisor b t k e z =
 abbrev Points : ℕ → List (List ℤ) → List (List ℤ) → Type 0
 Points n system other = (x : List ℤ) → IsPoint n x → Solves system (entry x) → Solves other (entry x)
 
+-- a direction of the one is one of the other
 direction_solves : (n : ℕ) (system rows other : List (List ℤ)) → AreDual (suc n) system rows → Points n system other →
     (b t : List ℤ) → Contains rows b → pos 0 <ℤ entry b 0 → Contains rows t → entry t 0 ≡ pos 0 → Solves other (entry t)
 direction_solves n system rows other d points b t kb h kt z c i =
@@ -118,6 +123,7 @@ dual_same_cone w system rows other d widths there back = record {
 }
 
 -- ---- the points of a polyhedron are those of its cone
+-- the points of the cone are those of the constraints
 pub rows_hold : (p : Polyhedron) (h : HasPoint p) (x : List ℤ) → Solves (all_rows h.equalities h.facets) (entry x) → Con p.rows x
 rows_hold p h x s g k = elim (Contains-append_cases (given_as true h.equalities) (given_as false h.inequalities) g (subst (λ l. Contains l g) h.rows_are k)) [
   | inl e ↦
@@ -134,6 +140,7 @@ rows_hold p h x s g k = elim (Contains-append_cases (given_as true h.equalities)
     between : (z y : ℤ) → y ≡ neg_ℤ z → pos 0 ≤ℤ z → pos 0 ≤ℤ y → z ≡ pos 0
     between z y e f k = omega (arith, ints, e, f, k)
 
+-- and the other way round
 pub cone_solved : (p : Polyhedron) (h : HasPoint p) (x : List ℤ) → IsPoint p.dims x → Con p.rows x → Solves (all_rows h.equalities h.facets) (entry x)
 cone_solved p h x is_point c r k = elim (Contains-append_cases h.facets (both_ways h.equalities) r k) [
   | inl f ↦ elim (h.all_shown r f) [
@@ -194,6 +201,7 @@ second_part points rays points' rays' up flat same r k = elim (Contains-append_c
   | inr i ↦ i
 ]
 
+-- where both have a point
 with_points : (p q : Polyhedron) → HasPoint p → HasPoint q → q.dims ≡ p.dims → SameSet p.dims (Con p.rows) (Con q.rows) → p ≡ q
 with_points p q h k e same =
     let sp = all_rows h.equalities h.facets in

@@ -13,6 +13,7 @@ use Rattle.lra_linear.proofs.OneSpelling.{cone_solved, falsity_never, rows_hold,
 use Rattle.lra_linear.proofs.Signs.{no_product, not_both}
 
 -- ---- lines and rays of joined lists
+-- joined lists
 lines_of_append : (xs ys : List Given) → lines_of (xs ++ ys) ≡ lines_of xs ++ lines_of ys
 lines_of_append [] ys = refl
 lines_of_append (x ∷ xs) ys = by_kind x.equal (lines_of_append xs ys)
@@ -31,6 +32,7 @@ rays_of_append (x ∷ xs) ys = by_kind x.equal (rays_of_append xs ys)
     by_kind true e = e
     by_kind false e = ap (λ l. x.row ∷ l) e
 
+-- lists of one kind
 lines_of_lines : (rows : List (List ℤ)) → lines_of (given_as true rows) ≡ rows
 lines_of_lines [] = refl
 lines_of_lines (r ∷ rows) = ap (λ l. r ∷ l) (lines_of_lines rows)
@@ -51,6 +53,7 @@ append_none : (xs : List (List ℤ)) → xs ++ [] ≡ xs
 append_none [] = refl
 append_none (x ∷ xs) = ap (λ l. x ∷ l) (append_none xs)
 
+-- the lines and rays of a polyhedron's generators
 generators_lines : (p : Polyhedron) (h : HasPoint p) → lines_of p.generators ≡ h.lines
 generators_lines p h =
     ap lines_of h.generators_are ∙ lines_of_append (given_as false h.points ++ given_as false h.rays) (given_as true h.lines) ∙
@@ -64,6 +67,7 @@ generators_rays p h =
     ap (λ l. (h.points ++ h.rays) ++ l) (rays_of_lines h.lines) ∙ append_none (h.points ++ h.rays)
 
 -- ---- constraints and generators
+-- the points of the generators are those of the cone
 pub gen_cone : (p : Polyhedron) (h : HasPoint p) (x : List ℤ) → Gen p.generators x → Generated (all_rows h.lines (h.points ++ h.rays)) (entry x)
 gen_cone p h x g =
     generated_described h.lines (h.points ++ h.rays) (entry x)

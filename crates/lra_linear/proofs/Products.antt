@@ -5,6 +5,7 @@ use Rattle.lra_linear.specs.Vectors.{blend, dot, entry, negated, product}
 use Rattle.lra_linear.proofs.Ring.{ring, v, ⊖, ◌⊕◌, ◌⊗◌}
 
 -- ---- rows as vectors
+-- the entries and the length of a row times -1
 pub entry_negated : (r : List ℤ) (j : ℕ) → entry (negated r) j ≡ neg_ℤ (entry r j)
 entry_negated [] j = refl
 entry_negated (x ∷ xs) zero = refl
@@ -14,6 +15,7 @@ pub negated_length : (r : List ℤ) → length (negated r) ≡ length r
 negated_length [] = refl
 negated_length (x ∷ xs) = ap suc (negated_length xs)
 
+-- past the end of a row the entries are 0
 pub entry_past : (r : List ℤ) (j : ℕ) → length r ≤ j → entry r j ≡ pos 0
 entry_past [] j h = refl
 entry_past (x ∷ r) zero h = absurd (omega (arith, h))
@@ -41,6 +43,7 @@ entry_set_other (x ∷ xs) zero (suc j) z n = refl
 entry_set_other (x ∷ xs) (suc k) zero z n = refl
 entry_set_other (x ∷ xs) (suc k) (suc j) z n = entry_set_other xs k j z (λ e. n (ap suc e))
 
+-- the sum of multiples of two rows, column by column
 pub entry_blend : (a b : ℤ) (us vs : List ℤ) → length us ≡ length vs → (j : ℕ) → entry (blend a b us vs) j ≡ (a *ℤ entry us j) +ℤ (b *ℤ entry vs j)
 entry_blend a b [] [] e j = ring (v (pos 0)) (v a ⊗ v (pos 0) ⊕ v b ⊗ v (pos 0)) (omega arith)
 entry_blend a b [] (y ∷ vs) e j = absurd (omega (arith, e))
@@ -54,6 +57,7 @@ blend_length a b (x ∷ us) [] e = absurd (omega (arith, e))
 blend_length a b (x ∷ us) (y ∷ vs) e = ap suc (blend_length a b us vs (omega (arith, e)))
 
 -- ---- linear in the vector
+-- vectors with the same entries have the same product
 pub dot_same : (c : List ℤ) (u w : ℕ → ℤ) → ((j : ℕ) → u j ≡ w j) → dot c u ≡ dot c w
 dot_same [] u w e = refl
 dot_same (x ∷ xs) u w e =
@@ -68,10 +72,12 @@ dot_linear (x ∷ xs) a b u w =
     ap (λ r. (x *ℤ ((a *ℤ u 0) +ℤ (b *ℤ w 0))) +ℤ r) (dot_linear xs a b (λ j. u (suc j)) (λ j. w (suc j))) ∙
     ring (v x ⊗ (v a ⊗ v (u 0) ⊕ v b ⊗ v (w 0)) ⊕ (v a ⊗ v p ⊕ v b ⊗ v q)) (v a ⊗ (v x ⊗ v (u 0) ⊕ v p) ⊕ v b ⊗ (v x ⊗ v (w 0) ⊕ v q)) (omega arith)
 
+-- the product with the zero vector
 pub dot_zero : (c : List ℤ) → dot c (λ j. pos 0) ≡ pos 0
 dot_zero [] = refl
 dot_zero (x ∷ xs) = ap (λ r. (x *ℤ pos 0) +ℤ r) (dot_zero xs) ∙ ring (v x ⊗ v (pos 0) ⊕ v (pos 0)) (v (pos 0)) (omega arith)
 
+-- with a multiple
 pub dot_scale : (c : List ℤ) (a : ℤ) (u : ℕ → ℤ) → dot c (λ j. a *ℤ u j) ≡ a *ℤ dot c u
 dot_scale c a u =
     dot_same c (λ j. a *ℤ u j) (λ j. (a *ℤ u j) +ℤ (pos 0 *ℤ u j)) (λ j. ring (v a ⊗ v (u j)) (v a ⊗ v (u j) ⊕ v (pos 0) ⊗ v (u j)) (omega arith)) ∙
@@ -85,11 +91,13 @@ dot_plus c f x s =
     dot_linear c f (pos 1) x s ∙
     ring (v f ⊗ v (dot c x) ⊕ v (pos 1) ⊗ v (dot c s)) (v f ⊗ v (dot c x) ⊕ v (dot c s)) (omega arith)
 
+-- with a sum
 pub dot_add : (c : List ℤ) (x s : ℕ → ℤ) → dot c (λ j. x j +ℤ s j) ≡ dot c x +ℤ dot c s
 dot_add c x s =
     dot_same c (λ j. x j +ℤ s j) (λ j. (pos 1 *ℤ x j) +ℤ s j) (λ j. ring (v (x j) ⊕ v (s j)) (v (pos 1) ⊗ v (x j) ⊕ v (s j)) (omega arith)) ∙ dot_plus c (pos 1) x s ∙
     ring (v (pos 1) ⊗ v (dot c x) ⊕ v (dot c s)) (v (dot c x) ⊕ v (dot c s)) (omega arith)
 
+-- with the opposite
 pub dot_minus : (c : List ℤ) (u : ℕ → ℤ) → dot c (λ j. neg_ℤ (u j)) ≡ neg_ℤ (dot c u)
 dot_minus c u =
     dot_same c (λ j. neg_ℤ (u j)) (λ j. negsuc 0 *ℤ u j) (λ j. ring (⊖ (v (u j))) (v (negsuc 0) ⊗ v (u j)) (omega arith)) ∙ dot_scale c (negsuc 0) u ∙
@@ -103,6 +111,7 @@ pub product_none : (r : List ℤ) → product r [] ≡ pos 0
 product_none [] = refl
 product_none (x ∷ xs) = ap (λ z. (x *ℤ pos 0) +ℤ z) (dot_zero xs) ∙ ring (v x ⊗ v (pos 0) ⊕ v (pos 0)) (v (pos 0)) (omega arith)
 
+-- the product of two rows is symmetric
 pub product_comm : (c r : List ℤ) → product c r ≡ product r c
 product_comm [] r = sym (product_none r)
 product_comm (x ∷ xs) [] = product_none (x ∷ xs)

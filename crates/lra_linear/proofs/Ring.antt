@@ -14,6 +14,7 @@ pub data Expr : Type 0 where
   ◌⊗◌ : Expr → Expr → Expr
   ⊖ : Expr → Expr
 
+-- the value of an expression
 abbrev pub eval : Expr → ℤ
 eval (v a) = a
 eval (a ⊕ b) = eval a +ℤ eval b
@@ -46,12 +47,15 @@ parts_are (a ⊗ b) =
     omega (arith, product_is (eval a) (eval b), m)
 parts_are (⊖ a) = omega (arith, neg_is (eval a), parts_are a)
 
+-- two expressions with the same parts have the same value
 pub ring : (e f : Expr) → part true e + part false f ≡ part true f + part false e → eval e ≡ eval f
 ring e f h = same_in (eval e) (eval f) (omega (arith, parts_are e, parts_are f, h))
 
+-- the same for an inequality
 pub ring_le : (e f : Expr) → part true e + part false f ≤ part true f + part false e → eval e ≤ℤ eval f
 ring_le e f h = at_most_in (eval e) (eval f) (omega (arith, parts_are e, parts_are f, h))
 
+-- laws that are used by name
 pub mul_assoc : (a b c : ℤ) → (a *ℤ b) *ℤ c ≡ a *ℤ (b *ℤ c)
 mul_assoc a b c = ring (v a ⊗ v b ⊗ v c) (v a ⊗ (v b ⊗ v c)) (omega arith)
 
@@ -61,5 +65,6 @@ mul_add a b c = ring (v a ⊗ (v b ⊕ v c)) (v a ⊗ v b ⊕ v a ⊗ v c) (omeg
 pub mul_comm : (a b : ℤ) → a *ℤ b ≡ b *ℤ a
 mul_comm a b = omega (arith, ints)
 
+-- the product of numbers that are not negative
 pub mul_nonnegative : (a b : ℤ) → pos 0 ≤ℤ a → pos 0 ≤ℤ b → pos 0 ≤ℤ (a *ℤ b)
 mul_nonnegative a b h k = grind (arith, ints)

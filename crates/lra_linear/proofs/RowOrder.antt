@@ -8,9 +8,11 @@ use Rattle.std.specs.declared.cmp.Ordering.TheVariants.{Less}
 use Rattle.lra_linear.specs.Echelon.{pivot}
 use Rattle.lra_linear.specs.RowOrder.{constant_last, row_cmp, inequality_cmp}
 
+-- rows
 pub row_cmp_total : IsTotalOrder row_cmp
 row_cmp_total = on_total constant_last (lists_total int_cmp_total)
 
+-- inequalities
 pub inequality_cmp_total : IsTotalOrder inequality_cmp
 inequality_cmp_total = then_total (on_total pivot nat_cmp_total) (back_total row_cmp_total)
 

@@ -24,6 +24,7 @@ enough (pos (suc a)) (pos b) h k t = (b, λ m l. times_above a b m l)
 dot_minus : (s : List ℤ) (k : ℕ) (u w : ℕ → ℤ) → dot s (λ j. (pos k *ℤ u j) +ℤ (negsuc 0 *ℤ w j)) ≡ (pos k *ℤ dot s u) +ℤ neg_ℤ (dot s w)
 dot_minus s k u w = dot_linear s (pos k) (negsuc 0) u w ∙ ring (v (pos k) ⊗ v (dot s u) ⊕ v (negsuc 0) ⊗ v (dot s w)) (v (pos k) ⊗ v (dot s u) ⊕ ⊖ (v (dot s w))) (omega arith)
 
+-- so k u - w solves the system for all large k, if w is tight wherever u is
 pub room : (system : List (List ℤ)) (u w : ℕ → ℤ) → Solves system u → Solves system w → TightToo system u w →
     (k : ℕ) × ((m : ℕ) → k ≤ m → Solves system (λ j. (pos m *ℤ u j) +ℤ (negsuc 0 *ℤ w j)))
 room [] u w hu hw t = (0, λ m l s k. absurd (omega (arith, k.1)))

@@ -12,11 +12,12 @@ use Rattle.lra_linear.proofs.Ring.{ring, v, ⊖, ◌⊕◌, ◌⊗◌}
 use Rattle.lra_linear.proofs.Signs.{as_nat, cancel_same, no_factor, no_product, not_both, positive_nat}
 
 -- ---- sums at a column where the rows are 0
+-- no rows, no sum
 signed_sum_none : (zs : List ℤ) (j : ℕ) → signed_sum zs [] j ≡ pos 0
 signed_sum_none [] j = refl
 signed_sum_none (z ∷ zs) j = refl
 
--- ---- sums at a column where the rows are 0
+-- rows that are 0 in a column have sums that are 0 there
 sum_zero : (zs : List ℤ) (rows : List (List ℤ)) (j : ℕ) → ((t : List ℤ) → Contains rows t → entry t j ≡ pos 0) → signed_sum zs rows j ≡ pos 0
 sum_zero [] rows j h = refl
 sum_zero (z ∷ zs) [] j h = refl
@@ -25,9 +26,11 @@ sum_zero (z ∷ zs) (r ∷ rows) j h =
     ring (v z ⊗ v (pos 0) ⊕ v (pos 0)) (v (pos 0)) (omega arith)
 
 -- ---- spans
+-- a span is closed under sums of multiples
 pub spanned_same : (rows : List (List ℤ)) (u w : ℕ → ℤ) → ((j : ℕ) → u j ≡ w j) → Spanned rows u → Spanned rows w
 spanned_same rows u w e g = record { multiple = g.multiple; positive = g.positive; factors = g.factors; is_sum = λ j. ap (λ a. pos g.multiple *ℤ a) (sym (e j)) ∙ g.is_sum j }
 
+-- the factors of a sum of multiples
 abbrev linear_factors : ℤ → ℤ → List ℤ → List ℤ → List ℤ
 linear_factors a b [] [] = []
 linear_factors a b [] (y ∷ ys) = (b *ℤ y) ∷ linear_factors a b [] ys
@@ -62,6 +65,7 @@ spanned_linear rows a b u w g h =
           sym (signed_sum_linear (pos l *ℤ a) (pos k *ℤ b) g.factors h.factors rows j);
     }
 
+-- each row is in the span of its list, and more rows span more
 pub spanned_head : (r : List ℤ) (rows : List (List ℤ)) → Spanned (r ∷ rows) (entry r)
 spanned_head r rows = record { multiple = 1; positive = omega arith; factors = pos 1 ∷ []; is_sum = λ j. ring (v (pos 1) ⊗ v (entry r j)) (v (pos 1) ⊗ v (entry r j) ⊕ v (pos 0)) (omega arith) }
 
@@ -73,6 +77,7 @@ spanned_more r rows u g = record {
   is_sum = λ j. g.is_sum j ∙ ring (v (signed_sum g.factors rows j)) (v (pos 0) ⊗ v (entry r j) ⊕ v (signed_sum g.factors rows j)) (omega arith);
 }
 
+-- what is spanned by rows that are 0 in a column is 0 there
 zero_at : (rows : List (List ℤ)) (p : ℕ) → ((t : List ℤ) → Contains rows t → entry t p ≡ pos 0) → (u : ℕ → ℤ) → Spanned rows u → u p ≡ pos 0
 zero_at rows p h u g = no_product g.multiple (u p) g.positive (g.is_sum p ∙ sum_zero g.factors rows p h)
 
@@ -106,6 +111,7 @@ early : (r : List ℤ) (rows : List (List ℤ)) (p : ℕ) (ps : List ℕ) → Is
 early r rows p ps ech u g j h = no_product g.multiple (u j) g.positive (g.is_sum j ∙ sum_zero g.factors (r ∷ rows) j
     (λ t k. elim (contains_cases r t rows k) [ inl e ↦ subst (λ y. entry y j ≡ pos 0) e (ech.0.before j h) | inr d ↦ ech.2 t d j (inl h) ]))
 
+-- the first pivot of the one isn't before that of the other
 first_pivot : (r r' : List ℤ) (rows rows' : List (List ℤ)) (p p' : ℕ) (ps ps' : List ℕ) → IsEchelon (r ∷ rows) (p ∷ ps) → IsEchelon (r' ∷ rows') (p' ∷ ps') →
     ((u : ℕ → ℤ) → Spanned (r ∷ rows) u → Spanned (r' ∷ rows') u) → ¬ (Before p p')
 first_pivot r r' rows rows' p p' ps ps' ech ech' sub h = not_both (entry r p) ech.0.here (early r' rows' p' ps' ech' (entry r) (sub (entry r) (spanned_head r rows)) p h)
@@ -126,9 +132,11 @@ tail_sub : (r r' : List ℤ) (rows rows' : List (List ℤ)) (p : ℕ) (ps ps' : 
 tail_sub r r' rows rows' p ps ps' ech ech' sub u g =
     drop_head r' rows' p u ech'.0.here (λ t k. ech'.2 t k p (inr refl)) (zero_at rows p (λ t k. ech.2 t k p (inr refl)) u g) (sub u (spanned_more r rows u g))
 
+-- a row with a pivot isn't spanned by no rows
 nothing_leads : (r : List ℤ) (p : ℕ) → Leads r p → Spanned [] (entry r) → ⊥
 nothing_leads r p l g = not_both (entry r p) l.here (no_product g.multiple (entry r p) g.positive (g.is_sum p ∙ signed_sum_none g.factors p))
 
+-- two echelon forms with one span are equal, and their pivots too
 pub echelon_unique : (n : ℕ) (rows rows' : List (List ℤ)) (ps ps' : List ℕ) → ((t : List ℤ) → Contains rows t → length t ≡ n) → ((t : List ℤ) → Contains rows' t → length t ≡ n) →
     IsEchelon rows ps → IsEchelon rows' ps' → ((u : ℕ → ℤ) → (Spanned rows u → Spanned rows' u) × (Spanned rows' u → Spanned rows u)) → (rows ≡ rows') × (ps ≡ ps')
 echelon_unique n [] [] [] [] w w' ech ech' both = (refl, refl)
@@ -170,6 +178,7 @@ echelon_unique n (r ∷ rows) (r' ∷ rows') (p ∷ ps) (p' ∷ ps') w w' ech ec
 leads_inside : (r : List ℤ) (p : ℕ) → Leads r p → p < length r
 leads_inside r p l = elim (cases_lt p (length r)) [ inl h ↦ h | inr h ↦ absurd (not_both (entry r p) l.here (entry_past r p h)) ]
 
+-- no more rows than columns after the one that is passed
 few_above : (w lo : ℕ) (rows : List (List ℤ)) (ps : List ℕ) → ((t : List ℤ) → Contains rows t → length t ≡ w) → IsEchelon rows ps → ((t : List ℤ) → Contains rows t → (j : ℕ) → 0 < j → j ≤ lo → entry t j ≡ pos 0) → lo < w → length rows + lo ≤ w
 few_above w lo [] ps width ech low h = omega arith
 few_above w lo (r ∷ rows) [] width ech low h = absurd ech
@@ -188,5 +197,6 @@ few_above w lo (r ∷ rows) (suc p ∷ ps) width ech low h =
     let i = few_above w (suc p) rows ps (λ t k. width t (contains_tail r t rows k)) ech.4 (λ t k j a b. ech.2 t k j (elim (cases_lt j (suc p)) [ inl m ↦ inl (a, inl m) | inr m ↦ inr (omega arith) ])) inside in
     omega (arith, i)
 
+-- no more rows than columns
 pub echelon_rows_at_most : (w : ℕ) (rows : List (List ℤ)) (ps : List ℕ) → ((t : List ℤ) → Contains rows t → length t ≡ w) → IsEchelon rows ps → 0 < w → length rows ≤ w
 echelon_rows_at_most w rows ps width ech h = let i = few_above w 0 rows ps width ech (λ t k j a b. absurd (omega arith)) h in omega (arith, i)

@@ -15,6 +15,7 @@ use Rattle.lra_linear.proofs.Products.{dot_add, dot_plus, dot_same, dot_scale, d
 use Rattle.lra_linear.proofs.Ring.{mul_nonnegative, ring, v, ⊖, ◌⊕◌, ◌⊗◌}
 use Rattle.lra_linear.proofs.Signs.{above_zero, add_nonpositive, as_nat, cases_sign, neg_nat, positive_nat, times_nonpositive}
 
+-- where the sum of parts is not negative and some parts are not positive
 front_nonneg : (a b d : ℤ) → b ≤ℤ pos 0 → d ≤ℤ pos 0 → pos 0 ≤ℤ (a +ℤ (b +ℤ d)) → pos 0 ≤ℤ a
 front_nonneg a b d h k l = omega (arith, ints)
 
@@ -26,17 +27,20 @@ part_nonneg a b d k l = omega (arith, ints)
 absorb : (cu cn l u n : ℤ) → ((cu +ℤ l *ℤ cn) *ℤ u) +ℤ (l *ℤ ((neg_ℤ cn *ℤ u) +ℤ (cu *ℤ n))) ≡ cu *ℤ (u +ℤ l *ℤ n)
 absorb cu cn l u n = ring ((v cu ⊕ v l ⊗ v cn) ⊗ v u ⊕ v l ⊗ (⊖ (v cn) ⊗ v u ⊕ v cu ⊗ v n)) (v cu ⊗ (v u ⊕ v l ⊗ v n)) (omega arith)
 
+-- a negative row that may not be added at all
 none_left : (l : ℕ) (cn : ℤ) → cn <ℤ pos 0 → pos 0 ≤ℤ (pos 0 +ℤ pos l *ℤ cn) → l ≡ 0
 none_left zero cn h k = refl
 none_left (suc l) (pos n) h k = absurd (omega (arith, ints, h))
 none_left (suc l) (negsuc n) h k = absurd (omega (arith, ints, k))
 
+-- a vector with product 0 is only multiplied
 bent_flat : (c : List ℤ) (a : ℤ) (w x : ℕ → ℤ) (target : List (List ℤ)) (m : ℕ) → a ≡ pos m → dot c x ≡ pos 0 → Generated target x → Generated target (bent c a w x)
 bent_flat c a w x target m e z g =
     generated_same target (λ j. pos m *ℤ x j) (bent c a w x)
     (λ j. ap (λ b. b *ℤ x j) (sym e) ∙ ring (v a ⊗ v (x j)) (v a ⊗ v (x j) ⊕ v (pos 0) ⊗ v (w j)) (omega arith) ∙ ap (λ d. (a *ℤ x j) +ℤ (d *ℤ w j)) (sym z))
     (generated_times target m x g)
 
+-- the map u to (-c.n) u + (c.u) n takes the target into its cone
 step_bent : (c : List ℤ) (rows target : List (List ℤ)) → StepOf c rows target → (n : List ℤ) → Contains rows n → dot c (entry n) <ℤ pos 0 →
     (t : List ℤ) → Contains target t → Generated target (bent c (neg_ℤ (dot c (entry n))) (entry n) (entry t))
 step_bent c rows target s n has neg t k =
@@ -52,6 +56,7 @@ step_bent c rows target s n has neg t k =
       | inr z ↦ flat z
     ]
 
+-- one row n with a negative product is taken in
 absorb_one : (c : List ℤ) (rows target : List (List ℤ)) → StepOf c rows target → (n : List ℤ) → Contains rows n → dot c (entry n) <ℤ pos 0 →
     (u : ℕ → ℤ) (l : ℕ) → Generated target u → pos 0 ≤ℤ dot c u → pos 0 ≤ℤ (dot c u +ℤ pos l *ℤ dot c (entry n)) → Generated target (λ j. u j +ℤ pos l *ℤ entry n j)
 absorb_one c rows target s n has neg u l g h k =
@@ -83,6 +88,7 @@ record Split (c : List ℤ) (rows all target : List (List ℤ)) (fs : List ℕ) 
   negative : (n : List ℤ) → Contains rest n → Contains all n × (dot c (entry n) <ℤ pos 0)
   whole : (j : ℕ) → sum_of fs rows j ≡ front j +ℤ sum_of factors rest j
 
+-- by recursion on the rows
 split : (c : List ℤ) (all target : List (List ℤ)) → StepOf c all target → (rows : List (List ℤ)) → ((r : List ℤ) → Contains rows r → Contains all r) → (fs : List ℕ) → Split c rows all target fs
 split c all target s rows sub [] = record { front = λ j. pos 0; made = generated_zero target; factors = []; rest = []; negative = λ n k. absurd (omega (arith, k.1)); whole = λ j. omega (arith, ints) }
 split c all target s [] sub (f ∷ fs) = record { front = λ j. pos 0; made = generated_zero target; factors = []; rest = []; negative = λ n k. absurd (omega (arith, k.1)); whole = λ j. omega (arith, ints) }
@@ -123,6 +129,7 @@ sum_nonpos c (r ∷ rows) h (f ∷ fs) =
     let rest : dot c s ≤ℤ pos 0 = sum_nonpos c rows (λ y k. h y (contains_tail r y rows k)) fs in
     subst (λ z. z ≤ℤ pos 0) (sym (dot_plus c (pos f) x s)) (add_nonpositive (pos f *ℤ dot c x) (dot c s) one rest)
 
+-- all of them are taken in, one at a time: the products only fall, so each stays at least 0
 absorb_all : (c : List ℤ) (all target : List (List ℤ)) → StepOf c all target → (rows : List (List ℤ)) → ((n : List ℤ) → Contains rows n → Contains all n × (dot c (entry n) <ℤ pos 0)) →
     (fs : List ℕ) (u : ℕ → ℤ) → Generated target u → pos 0 ≤ℤ (dot c u +ℤ dot c (sum_of fs rows)) → Generated target (λ j. u j +ℤ sum_of fs rows j)
 absorb_all c all target s rows h [] u g k = generated_same target u (λ j. u j +ℤ pos 0) (λ j. omega (arith, ints)) g

@@ -17,6 +17,7 @@ use Rattle.lra_linear.proofs.Membership.{filter_from, filter_has, list_all_at}
 use Rattle.lra_linear.proofs.Products.{dot_negated, negated_dot}
 
 -- ---- tests of numbers
+-- what the tests say
 zero_said : (z : ℤ) → int_eq z (pos 0) ≡ true → z ≡ pos 0
 zero_said z e = (signed_Decides z (pos 0)).0 e
 
@@ -66,6 +67,7 @@ rows_at_most r generators q h t k =
     at_zero : (z y : ℤ) → y ≡ neg_ℤ z → z ≡ pos 0 → pos 0 ≤ℤ y
     at_zero z y e f = omega (arith, ints, e, f)
 
+-- a constraint that passes the test with each generator holds at each point
 pub holds_on_generators : (r : Given) (generators : List Given) → list_all (holds_with r) generators ≡ true → (x : List ℤ) → Gen generators x → Holds r x
 holds_on_generators r generators h x g = by_kind r.equal refl
   where
