@@ -2,13 +2,14 @@
 use Rattle.std.proofs.Common.{List, [], ap, arith, inl, inr, length, neg_ℤ, pos, refl, subst, sym, ℕ, ℤ, ◌*ℤ◌, ◌++◌, ◌+ℤ◌, ◌<ℤ◌, ◌<◌, ◌∙◌, ◌∷◌, ◌≡◌, ◌⊎◌}
 use Rattle.std.proofs.lemmas.List.Elements.{Contains-append_cases, Contains-append_left, Contains-append_right}
 use Rattle.std.specs.List.{Contains}
-use Rattle.lra_linear.specs.Echelon.{Before, IsEchelon, Leads}
+use Rattle.lra_linear.specs.Echelon.{Before, IsEchelon, Leads, Spanned}
 use Rattle.lra_linear.specs.LowestTerms.{IsPrimitive}
 use Rattle.lra_linear.specs.Vectors.{entry}
 use Rattle.lra_linear.proofs.LowestTerms.{lowest_exists}
-use Rattle.lra_linear.proofs.Membership.{contains_cases, contains_head, contains_tail}
+use Rattle.lra_linear.proofs.Membership.{contains_cases, contains_head, contains_none, contains_tail}
 use Rattle.lra_linear.proofs.Ring.{ring, v, ⊖, ◌⊕◌, ◌⊗◌}
-use Rattle.lra_linear.proofs.Signs.{no_product, not_both, positive_part, times_positive}
+use Rattle.lra_linear.proofs.Signs.{as_nat, no_product, not_both, positive_is_nonnegative, positive_nat, positive_part, times_positive}
+use Rattle.lra_linear.proofs.Spans.{spanned_divided, spanned_head, spanned_linear, spanned_row, spanned_same, spanned_through}
 
 -- ---- one more row: t is e with 0 at the pivot p of r
 pub record ClearedRow (r : List ℤ) (p : ℕ) (e t : List ℤ) : Type 0 where
@@ -91,3 +92,54 @@ cleared_exist r p (e ∷ es) f =
     let t = lowest_exists s.0 in
     let i = cleared_exist r p es (λ x k. f x (contains_tail e x es k)) in
     (t.0 ∷ i.0, (record { times = t.1.times; positive = t.1.positive; is = λ j. t.1.is_multiple j ∙ s.1 j; lowest = t.1.lowest }, i.1))
+
+-- ---- the span is that of the row and the form
+-- a cleared row is spanned by its row and r, and the other way round
+cleared_spanned : (rows : List (List ℤ)) (r : List ℤ) (p : ℕ) (e t : List ℤ) → ClearedRow r p e t → Spanned rows (entry r) → Spanned rows (entry e) → Spanned rows (entry t)
+cleared_spanned rows r p e t x gr ge =
+    spanned_divided rows x.times (entry t) x.positive
+    (spanned_same rows (λ j. (entry r p *ℤ entry e j) +ℤ (neg_ℤ (entry e p) *ℤ entry r j)) (λ j. pos x.times *ℤ entry t j) (λ j. sym (x.is j))
+    (spanned_linear rows (entry r p) (neg_ℤ (entry e p)) (entry e) (entry r) ge gr))
+
+uncleared_spanned : (rows : List (List ℤ)) (r : List ℤ) (p : ℕ) (e t : List ℤ) → pos 0 <ℤ entry r p → ClearedRow r p e t → Spanned rows (entry r) → Spanned rows (entry t) → Spanned rows (entry e)
+uncleared_spanned rows r p e t h x gr gt =
+    let a = as_nat (entry r p) (positive_is_nonnegative (entry r p) h) in
+    spanned_divided rows a.0 (entry e) (positive_nat (entry r p) a.0 h a.1)
+    (spanned_same rows (λ j. (pos x.times *ℤ entry t j) +ℤ (entry e p *ℤ entry r j)) (λ j. pos a.0 *ℤ entry e j)
+    (λ j. ap (λ z. z +ℤ (entry e p *ℤ entry r j)) (x.is j) ∙
+    ring ((v (entry r p) ⊗ v (entry e j) ⊕ ⊖ (v (entry e p)) ⊗ v (entry r j)) ⊕ v (entry e p) ⊗ v (entry r j)) (v (entry r p) ⊗ v (entry e j)) (omega arith) ∙ ap (λ z. z *ℤ entry e j) a.1)
+    (spanned_linear rows (pos x.times) (entry e p) (entry t) (entry r) gt gr))
+
+-- what a row becomes
+cleared_to : (r : List ℤ) (p : ℕ) (es ts : List (List ℤ)) → ClearedRows r p es ts → (e : List ℤ) → Contains es e → (t : List ℤ) × Contains ts t × ClearedRow r p e t
+cleared_to r p [] ts f e k = absurd (contains_none e k)
+cleared_to r p (x ∷ es) [] f e k = absurd f
+cleared_to r p (x ∷ es) (t ∷ ts) f e k = elim (contains_cases x e es k) [
+  | inl q ↦ (t, contains_head t ts, subst (λ (y : List ℤ). ClearedRow r p y t) q f.0)
+  | inr d ↦ let i = cleared_to r p es ts f.1 e d in (i.0, contains_tail t i.0 ts i.1, i.2)
+]
+
+pub extension_span : (r : List ℤ) (p : ℕ) (low new high : List (List ℤ)) → pos 0 <ℤ entry r p → ClearedRows r p low new →
+    (u : ℕ → ℤ) → (Spanned (new ++ r ∷ high) u → Spanned (r ∷ low ++ high) u) × (Spanned (r ∷ low ++ high) u → Spanned (new ++ r ∷ high) u)
+extension_span r p low new high h f u = (
+  spanned_through (new ++ r ∷ high) (r ∷ low ++ high) u (λ t k. elim (Contains-append_cases new (r ∷ high) t k) [
+    | inl n ↦ let o = cleared_from r p low new f t n in cleared_spanned (r ∷ low ++ high) r p o.0 t o.2 (spanned_head r (low ++ high)) (old o.0 (Contains-append_left low high o.0 o.1))
+    | inr n ↦ elim (contains_cases r t high n) [
+      | inl e ↦ subst (λ y. Spanned (r ∷ low ++ high) (entry y)) e (spanned_head r (low ++ high))
+      | inr m ↦ old t (Contains-append_right low high t m)
+    ]
+  ]),
+  spanned_through (r ∷ low ++ high) (new ++ r ∷ high) u (λ t k. elim (contains_cases r t (low ++ high) k) [
+    | inl e ↦ subst (λ y. Spanned (new ++ r ∷ high) (entry y)) e row
+    | inr n ↦ elim (Contains-append_cases low high t n) [
+      | inl m ↦ let o = cleared_to r p low new f t m in uncleared_spanned (new ++ r ∷ high) r p t o.0 h o.2 row (spanned_row (new ++ r ∷ high) o.0 (Contains-append_left new (r ∷ high) o.0 o.1))
+      | inr m ↦ spanned_row (new ++ r ∷ high) t (Contains-append_right new (r ∷ high) t (contains_tail r t high m))
+    ]
+  ]),
+)
+  where
+    row : Spanned (new ++ r ∷ high) (entry r)
+    row = spanned_row (new ++ r ∷ high) r (Contains-append_right new (r ∷ high) r (contains_head r high))
+
+    old : (t : List ℤ) → Contains (low ++ high) t → Spanned (r ∷ low ++ high) (entry t)
+    old t k = spanned_row (r ∷ low ++ high) t (contains_tail r t (low ++ high) k)

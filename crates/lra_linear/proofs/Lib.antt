@@ -21,6 +21,7 @@ pub mod ExtremeRays
 pub mod AdjacentPairs
 -- Echelon forms and canonical descriptions
 pub mod Spans
+pub mod Pivots
 pub mod EchelonExtension
 pub mod CanonicalForms
 pub mod Redundancy

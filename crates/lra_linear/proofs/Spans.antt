@@ -6,7 +6,7 @@ use Rattle.std.specs.List.{Contains}
 use Rattle.lra_linear.specs.Echelon.{Before, IsEchelon, Leads, Spanned}
 use Rattle.lra_linear.specs.Vectors.{entry, signed_sum, zeros}
 use Rattle.lra_linear.proofs.LowestTerms.{same_multiple}
-use Rattle.lra_linear.proofs.Membership.{contains_cases, contains_head, contains_tail}
+use Rattle.lra_linear.proofs.Membership.{contains_cases, contains_head, contains_none, contains_tail}
 use Rattle.lra_linear.proofs.Products.{entry_past, row_same}
 use Rattle.lra_linear.proofs.Ring.{ring, v, ⊖, ◌⊕◌, ◌⊗◌}
 use Rattle.lra_linear.proofs.Signs.{as_nat, cancel_same, no_factor, no_product, not_both, positive_nat}
@@ -80,6 +80,38 @@ spanned_more r rows u g = record {
 -- what is spanned by rows that are 0 in a column is 0 there
 zero_at : (rows : List (List ℤ)) (p : ℕ) → ((t : List ℤ) → Contains rows t → entry t p ≡ pos 0) → (u : ℕ → ℤ) → Spanned rows u → u p ≡ pos 0
 zero_at rows p h u g = no_product g.multiple (u p) g.positive (g.is_sum p ∙ sum_zero g.factors rows p h)
+
+pub spanned_zero : (rows : List (List ℤ)) → Spanned rows (λ j. pos 0)
+spanned_zero rows = record { multiple = 1; positive = omega arith; factors = []; is_sum = λ j. refl }
+
+pub spanned_divided : (rows : List (List ℤ)) (k : ℕ) (u : ℕ → ℤ) → 0 < k → Spanned rows (λ j. pos k *ℤ u j) → Spanned rows u
+spanned_divided rows k u p g = record {
+  multiple = g.multiple * k;
+  positive = grind (arith, g.positive, p);
+  factors = g.factors;
+  is_sum = λ j. ring (v (pos (g.multiple * k)) ⊗ v (u j)) (v (pos g.multiple) ⊗ (v (pos k) ⊗ v (u j))) (omega arith) ∙ g.is_sum j;
+}
+
+-- each row of a list is in its span
+pub spanned_row : (rows : List (List ℤ)) (r : List ℤ) → Contains rows r → Spanned rows (entry r)
+spanned_row [] r k = absurd (contains_none r k)
+spanned_row (x ∷ rows) r k = elim (contains_cases x r rows k) [
+  | inl e ↦ subst (λ y. Spanned (x ∷ rows) (entry y)) e (spanned_head x rows)
+  | inr d ↦ spanned_more x rows (entry r) (spanned_row rows r d)
+]
+
+-- what rows in a span span lies in it
+sum_spanned : (rows target : List (List ℤ)) → ((t : List ℤ) → Contains rows t → Spanned target (entry t)) → (zs : List ℤ) → Spanned target (signed_sum zs rows)
+sum_spanned rows target h [] = spanned_zero target
+sum_spanned [] target h (z ∷ zs) = spanned_zero target
+sum_spanned (r ∷ rows) target h (z ∷ zs) =
+    spanned_same target (λ j. (z *ℤ entry r j) +ℤ (pos 1 *ℤ signed_sum zs rows j)) (signed_sum (z ∷ zs) (r ∷ rows))
+    (λ j. ring (v z ⊗ v (entry r j) ⊕ v (pos 1) ⊗ v (signed_sum zs rows j)) (v z ⊗ v (entry r j) ⊕ v (signed_sum zs rows j)) (omega arith))
+    (spanned_linear target z (pos 1) (entry r) (signed_sum zs rows) (h r (contains_head r rows)) (sum_spanned rows target (λ t k. h t (contains_tail r t rows k)) zs))
+
+pub spanned_through : (rows target : List (List ℤ)) (u : ℕ → ℤ) → ((t : List ℤ) → Contains rows t → Spanned target (entry t)) → Spanned rows u → Spanned target u
+spanned_through rows target u h g =
+    spanned_divided target g.multiple u g.positive (spanned_same target (signed_sum g.factors rows) (λ j. pos g.multiple *ℤ u j) (λ j. sym (g.is_sum j)) (sum_spanned rows target h g.factors))
 
 -- ---- echelon forms
 -- with 0 at the first pivot, it is in the span of the rest
