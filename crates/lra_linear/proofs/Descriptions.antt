@@ -74,6 +74,13 @@ system_has_negated (x ∷ list) g k e = elim (contains_cases x g list k) [
     second true e = contains_tail x.row (negated x.row) (negated x.row ∷ system_of list) (contains_head (negated x.row) (system_of list))
     second false e = cc
 
+-- so what comes from a member is in the system
+pub system_there : (list : List Given) (t : List ℤ) → FromGiven list t → Contains (system_of list) t
+system_there list t f = elim f.sign [
+  | inl e ↦ subst (Contains (system_of list)) (sym e) (system_has list f.given f.has)
+  | inr e ↦ subst (Contains (system_of list)) (sym e.1) (system_has_negated list f.given f.has e.0)
+]
+
 -- ---- constraints
 -- the constraints hold at a point exactly where it solves their system
 pub con_solves : (rows : List Given) (x : List ℤ) → Con rows x → Solves (system_of rows) (entry x)
@@ -175,7 +182,7 @@ rays_have (x ∷ list) g k e = elim (contains_cases x g list k) [
     later false d = contains_tail x.row g.row (rays_of list) d
 
 -- a row of the system of a list is a row of its lines and rays
-in_all_rows : (list : List Given) (t : List ℤ) → Contains (system_of list) t → Contains (all_rows (lines_of list) (rays_of list)) t
+pub in_all_rows : (list : List Given) (t : List ℤ) → Contains (system_of list) t → Contains (all_rows (lines_of list) (rays_of list)) t
 in_all_rows list t k =
     let f = system_from list t k in
     elim f.sign [
@@ -188,7 +195,7 @@ in_all_rows list t k =
     by_kind g k true e = Contains-append_right (rays_of list) (both_ways (lines_of list)) g.row (in_lines (lines_of list) g.row (lines_have list g k e))
     by_kind g k false e = Contains-append_left (rays_of list) (both_ways (lines_of list)) g.row (rays_have list g k e)
 
-in_system : (list : List Given) (t : List ℤ) → Contains (all_rows (lines_of list) (rays_of list)) t → Contains (system_of list) t
+pub in_system : (list : List Given) (t : List ℤ) → Contains (all_rows (lines_of list) (rays_of list)) t → Contains (system_of list) t
 in_system list t k = elim (Contains-append_cases (rays_of list) (both_ways (lines_of list)) t k) [
   | inl r ↦ let f = rays_from list t r in subst (Contains (system_of list)) f.2 (system_has list f.0 f.1)
   | inr b ↦

@@ -33,6 +33,7 @@ pub mod Descriptions
 pub mod RowOrder
 pub mod OneSpelling
 pub mod Polyhedra
+pub mod SetOperations
 pub mod Widening
 -- Worked examples
 pub mod PolyhedronExamples

@@ -70,19 +70,19 @@ far (pos m) (negsuc n) h = absurd (below m n (h (suc m)))
 far (negsuc m) (negsuc n) h = absurd (let k = h 0 in omega (arith, ints, k))
 
 -- b + k t
-abbrev gone : List ℤ → List ℤ → ℕ → List ℤ
+abbrev pub gone : List ℤ → List ℤ → ℕ → List ℤ
 gone b t k = blend (pos 1) (pos k) b t
 
 -- its entries, products and divisor
-gone_entry : (b t : List ℤ) (k : ℕ) → length b ≡ length t → (j : ℕ) → entry (gone b t k) j ≡ (pos 1 *ℤ entry b j) +ℤ (pos k *ℤ entry t j)
+pub gone_entry : (b t : List ℤ) (k : ℕ) → length b ≡ length t → (j : ℕ) → entry (gone b t k) j ≡ (pos 1 *ℤ entry b j) +ℤ (pos k *ℤ entry t j)
 gone_entry b t k e j = entry_blend (pos 1) (pos k) b t e j
 
-gone_product : (c b t : List ℤ) (k : ℕ) → length b ≡ length t → product c (gone b t k) ≡ product c b +ℤ (pos k *ℤ product c t)
+pub gone_product : (c b t : List ℤ) (k : ℕ) → length b ≡ length t → product c (gone b t k) ≡ product c b +ℤ (pos k *ℤ product c t)
 gone_product c b t k e =
     dot_same c (entry (gone b t k)) (λ j. (pos 1 *ℤ entry b j) +ℤ (pos k *ℤ entry t j)) (gone_entry b t k e) ∙
     dot_linear c (pos 1) (pos k) (entry b) (entry t) ∙ ring (v (pos 1) ⊗ v (product c b) ⊕ v (pos k) ⊗ v (product c t)) (v (product c b) ⊕ v (pos k) ⊗ v (product c t)) (omega arith)
 
-gone_divisor : (b t : List ℤ) (k : ℕ) → length b ≡ length t → entry t 0 ≡ pos 0 → entry (gone b t k) 0 ≡ entry b 0
+pub gone_divisor : (b t : List ℤ) (k : ℕ) → length b ≡ length t → entry t 0 ≡ pos 0 → entry (gone b t k) 0 ≡ entry b 0
 gone_divisor b t k e z =
     gone_entry b t k e 0 ∙ ap (λ y. (pos 1 *ℤ entry b 0) +ℤ (pos k *ℤ y)) z ∙ ring (v (pos 1) ⊗ v (entry b 0) ⊕ v (pos k) ⊗ v (pos 0)) (v (entry b 0)) (omega arith)
 
@@ -168,13 +168,13 @@ cone_solved p h x is_point c r k = elim (Contains-append_cases h.facets (both_wa
     opposite z y e f = omega (arith, ints, e, f)
 
 -- column 0 of a generator
-columns_of : (p : Polyhedron) (h : HasPoint p) (t : List ℤ) → Contains (all_rows h.lines (h.points ++ h.rays)) t → (pos 0 <ℤ entry t 0) ⊎ (entry t 0 ≡ pos 0)
+pub columns_of : (p : Polyhedron) (h : HasPoint p) (t : List ℤ) → Contains (all_rows h.lines (h.points ++ h.rays)) t → (pos 0 <ℤ entry t 0) ⊎ (entry t 0 ≡ pos 0)
 columns_of p h t k = elim (Contains-append_cases (h.points ++ h.rays) (both_ways h.lines) t k) [
   | inl r ↦ elim (Contains-append_cases h.points h.rays t r) [ inl i ↦ inl (h.divisors t i) | inr i ↦ inr (h.directions t (inl i)) ]
   | inr b ↦ let s = signed_from h.lines t b in inr (signed_zero s.line t s.sign 0 (h.directions s.line (inr s.has)))
 ]
 
-some_member : (xs : List (List ℤ)) → xs ≢ [] → (x : List ℤ) × Contains xs x
+pub some_member : (xs : List (List ℤ)) → xs ≢ [] → (x : List ℤ) × Contains xs x
 some_member [] n = absurd (n refl)
 some_member (x ∷ xs) n = (x, contains_head x xs)
 

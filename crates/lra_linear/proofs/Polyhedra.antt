@@ -54,13 +54,13 @@ append_none [] = refl
 append_none (x ∷ xs) = ap (λ l. x ∷ l) (append_none xs)
 
 -- the lines and rays of a polyhedron's generators
-generators_lines : (p : Polyhedron) (h : HasPoint p) → lines_of p.generators ≡ h.lines
+pub generators_lines : (p : Polyhedron) (h : HasPoint p) → lines_of p.generators ≡ h.lines
 generators_lines p h =
     ap lines_of h.generators_are ∙ lines_of_append (given_as false h.points ++ given_as false h.rays) (given_as true h.lines) ∙
     ap (λ l. l ++ lines_of (given_as true h.lines)) (lines_of_append (given_as false h.points) (given_as false h.rays) ∙ ap (λ l. l ++ lines_of (given_as false h.rays)) (lines_of_rays h.points) ∙ lines_of_rays h.rays) ∙
     lines_of_lines h.lines
 
-generators_rays : (p : Polyhedron) (h : HasPoint p) → rays_of p.generators ≡ h.points ++ h.rays
+pub generators_rays : (p : Polyhedron) (h : HasPoint p) → rays_of p.generators ≡ h.points ++ h.rays
 generators_rays p h =
     ap rays_of h.generators_are ∙ rays_of_append (given_as false h.points ++ given_as false h.rays) (given_as true h.lines) ∙
     ap (λ l. l ++ rays_of (given_as true h.lines)) (rays_of_append (given_as false h.points) (given_as false h.rays) ∙ ap (λ l. l ++ rays_of (given_as false h.rays)) (rays_of_rays h.points) ∙ ap (λ l. h.points ++ l) (rays_of_rays h.rays)) ∙

@@ -1,20 +1,24 @@
 -- Tests on generators decide where a constraint is valid, and the standard widening is the set of the rows that are tight.
-use Rattle.std.proofs.Common.{Bool, List, [], ap, arith, cond, false, inl, inr, neg_ℤ, pos, refl, subst, sym, true, ℕ, ℤ, ◌∙◌, ◌∷◌, ◌≡◌, ◌≢◌, ◌≤ℤ◌}
-use Rattle.std.specs.Prelude.{int_le, ◌||◌}
+use Rattle.std.proofs.Common.{Bool, List, [], ap, arith, cond, false, inl, inr, neg_ℤ, pos, refl, subst, sym, true, ℕ, ℤ, ◌++◌, ◌∙◌, ◌∷◌, ◌≡◌, ◌≢◌, ◌≤ℤ◌}
+use Rattle.std.specs.Prelude.{int_le, ◌&&◌, ◌||◌}
 use Rattle.std.proofs.lemmas.Int.{ints}
+use Rattle.std.proofs.lemmas.List.Elements.{Contains-append_cases, Contains-append_left, Contains-append_right}
 use Rattle.std.specs.Cmp.{signed_Decides}
 use Rattle.std.specs.List.{Contains, list_all}
 use Rattle.std.specs.Ordering.{int_eq}
 use Rattle.lra_linear.specs.Descriptions.{Con, Gen, Given, Holds, HoldsWith, system_of}
-use Rattle.lra_linear.specs.OperationStrain.{tight_on}
-use Rattle.lra_linear.specs.Points.{SameSet}
-use Rattle.lra_linear.specs.Polyhedra.{Polyhedron}
+use Rattle.lra_linear.specs.OperationStrain.{tight_on, valid_on}
+use Rattle.lra_linear.specs.Points.{IsPoint, SameSet}
+use Rattle.lra_linear.specs.Polyhedra.{HasPoint, Polyhedron}
+use Rattle.lra_linear.specs.SetOperations.{ValidOn}
 use Rattle.lra_linear.specs.Vectors.{dot, entry, negated, product}
-use Rattle.lra_linear.specs.Widening.{Standard, StandardFrom, holds_with, is_tight}
-use Rattle.lra_linear.proofs.Descriptions.{gen_generated, system_from}
+use Rattle.lra_linear.specs.Widening.{Limited, Standard, StandardFrom, holds_with, is_tight, is_valid}
+use Rattle.lra_linear.proofs.Descriptions.{gen_generated, system_from, system_has, system_has_negated}
 use Rattle.lra_linear.proofs.LinearMaps.{generated_nonneg}
-use Rattle.lra_linear.proofs.Membership.{filter_from, filter_has, list_all_at}
+use Rattle.lra_linear.proofs.Membership.{contains_none, filter_from, filter_has, list_all_at, list_all_from}
+use Rattle.lra_linear.proofs.Polyhedra.{con_gen}
 use Rattle.lra_linear.proofs.Products.{dot_negated, negated_dot}
+use Rattle.lra_linear.proofs.SetOperations.{HasVertex, has_vertex, valid_on_rows}
 
 -- ---- tests of numbers
 -- what the tests say
@@ -83,6 +87,43 @@ holds_on_generators r generators h x g = by_kind r.equal refl
         (generated_nonneg (negated r.row) (system_of generators) (entry x) (rows_at_most r generators q h) (gen_generated generators (entry x) g))
     by_kind false q = low
 
+-- ---- and the other way round
+test_said : (b d : Bool) (z : ℤ) → pos 0 ≤ℤ z → (b ≡ true → z ≡ pos 0) → (d ≡ true → z ≡ pos 0) → cond (b || d) (int_eq z (pos 0)) (int_le (pos 0) z) ≡ true
+test_said true d z h e f = (signed_Decides z (pos 0)).1 (e refl)
+test_said false true z h e f = (signed_Decides z (pos 0)).1 (f refl)
+test_said false false z h e f = let k : true ≡ int_le (pos 0) z = omega (arith, ints, h) in sym k
+
+-- a constraint that holds at each point passes the test with each generator
+pub generators_hold : (n : ℕ) (generators : List Given) → HasVertex n generators → (r : Given) → ((x : List ℤ) → IsPoint n x → Gen generators x → Holds r x) → list_all (holds_with r) generators ≡ true
+generators_hold n generators h r valid = list_all_from (holds_with r) generators (λ g k.
+    test_said r.equal g.equal (product r.row g.row) (low g.row (system_has generators g k))
+    (λ e. between (product r.row g.row) (dot (negated r.row) (entry g.row)) (negated_dot r.row (entry g.row)) (low g.row (system_has generators g k)) (high e g.row (system_has generators g k)))
+    (λ e. between (product r.row g.row) (product r.row (negated g.row)) (dot_negated r.row g.row) (low g.row (system_has generators g k)) (low (negated g.row) (system_has_negated generators g k e))))
+  where
+    at_least : (b : Bool) (z : ℤ) → HoldsWith b z → pos 0 ≤ℤ z
+    at_least true z e = omega (arith, ints, e)
+    at_least false z e = e
+
+    opposite : (b : Bool) → b ≡ true → (z y : ℤ) → y ≡ neg_ℤ z → HoldsWith b z → pos 0 ≤ℤ y
+    opposite true q z y e f = omega (arith, ints, e, f)
+    opposite false q z y e f = cc
+
+    between : (z y : ℤ) → y ≡ neg_ℤ z → pos 0 ≤ℤ z → pos 0 ≤ℤ y → z ≡ pos 0
+    between z y e f k = omega (arith, ints, e, f, k)
+
+    low : (t : List ℤ) → Contains (system_of generators) t → pos 0 ≤ℤ product r.row t
+    low = valid_on_rows n generators h r.row (λ y p g. at_least r.equal (product r.row y) (valid y p g))
+
+    high : r.equal ≡ true → (t : List ℤ) → Contains (system_of generators) t → pos 0 ≤ℤ dot (negated r.row) (entry t)
+    high q = valid_on_rows n generators h (negated r.row) (λ y p g. opposite r.equal q (product r.row y) (dot (negated r.row) (entry y)) (negated_dot r.row (entry y)) (valid y p g))
+
+-- the test on the generators of a polyhedron decides where a constraint is valid
+pub valid_decides : (p : Polyhedron) → HasPoint p → (r : Given) → (is_valid p r ≡ true → ValidOn p.dims (Con p.rows) r) × (ValidOn p.dims (Con p.rows) r → is_valid p r ≡ true)
+valid_decides p h r = (
+  λ e x i c. holds_on_generators r p.generators e x ((con_gen p (inr h)).0 x i c),
+  λ f. generators_hold p.dims p.generators (has_vertex p h) r (λ x i g. f x i ((con_gen p (inr h)).1 x i g)),
+)
+
 -- ---- the standard widening
 pub standard_con : (n : ℕ) (p q : Polyhedron) → p.generators ≢ [] → SameSet n (Standard p q) (Con (tight_on p q))
 standard_con n p q some = by_list p.generators some
@@ -93,3 +134,27 @@ standard_con n p q some = by_list p.generators some
       λ x is_point s r k. let f = filter_from (is_tight p) q.rows r k in s r f.0 f.1,
       λ x is_point c r k t. c r (filter_has (is_tight p) q.rows r k t),
     )
+
+-- the limited widening has the tight rows and the given rows that are valid on both
+pub limited_con : (p q : Polyhedron) (given : List Given) → HasPoint p → HasPoint q → SameSet p.dims (Limited p q given) (Con (tight_on p q ++ valid_on p q given))
+limited_con p q given h k = (
+  λ x i l g m. elim (Contains-append_cases (tight_on p q) (valid_on p q given) g m) [
+    | inl a ↦ (standard_con p.dims p q some).0 x i l.0 g a
+    | inr b ↦
+        let f = filter_from (λ r. is_valid p r && is_valid q r) given g b in
+        let t = both_true (is_valid p g) (is_valid q g) f.1 in
+        l.1 g f.0 ((valid_decides p h g).0 t.0) ((valid_decides q k g).0 t.1)
+  ],
+  λ x i c. (
+    (standard_con p.dims p q some).1 x i (λ g m. c g (Contains-append_left (tight_on p q) (valid_on p q given) g m)),
+    λ g m a b. c g (Contains-append_right (tight_on p q) (valid_on p q given) g
+        (filter_has (λ r. is_valid p r && is_valid q r) given g m (rw ((valid_decides p h g).1 a) ((valid_decides q k g).1 b)))),
+  ),
+)
+  where
+    some : p.generators ≢ []
+    some e = contains_none (has_vertex p h).vertex (subst (λ l. Contains (system_of l) (has_vertex p h).vertex) e (has_vertex p h).has)
+
+    both_true : (a b : Bool) → (a && b) ≡ true → (a ≡ true) × (b ≡ true)
+    both_true true b e = (refl, e)
+    both_true false b e = cc
