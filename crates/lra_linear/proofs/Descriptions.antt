@@ -1,6 +1,6 @@
 -- Descriptions of sets of points as cones: constraints hold at a point where their system is solved, and generators give a point
 -- where their rows generate it. Two dual lists so have the same points.
-use Rattle.std.proofs.Common.{Bool, List, [], ap, arith, cond, false, inl, inr, neg_ℤ, pos, refl, subst, suc, sym, true, ℕ, ℤ, ◌∙◌, ◌∷◌, ◌≡◌, ◌≤ℤ◌, ◌⊎◌}
+use Rattle.std.proofs.Common.{Bool, List, [], ap, arith, cond, false, inl, inr, pos, refl, subst, suc, sym, true, ℕ, ℤ, ◌∙◌, ◌∷◌, ◌≡◌, ◌≤ℤ◌, ◌⊎◌}
 use Rattle.std.proofs.lemmas.Int.{ints}
 use Rattle.std.proofs.lemmas.List.Elements.{Contains-append_cases, Contains-append_left, Contains-append_right}
 use Rattle.std.specs.List.{Contains}
@@ -14,6 +14,7 @@ use Rattle.lra_linear.proofs.LinearMaps.{generated_nonneg, generated_through}
 use Rattle.lra_linear.proofs.Lines.{described_generated, generated_described, in_lines, in_lines_negated, signed_from}
 use Rattle.lra_linear.proofs.Membership.{contains_cases, contains_head, contains_none, contains_tail}
 use Rattle.lra_linear.proofs.Products.{negated_dot, product_comm}
+use Rattle.lra_linear.proofs.Signs.{between_opposites, opposite_of_zero}
 
 -- ---- the rows of a list, each equality or line in both directions
 -- where a row of the system comes from
@@ -82,35 +83,29 @@ system_there list t f = elim f.sign [
 ]
 
 -- ---- constraints
+pub holds_at_least : (b : Bool) (z : ℤ) → HoldsWith b z → pos 0 ≤ℤ z
+holds_at_least true z e = omega (arith, ints, e)
+holds_at_least false z e = e
+
 -- the constraints hold at a point exactly where it solves their system
 pub con_solves : (rows : List Given) (x : List ℤ) → Con rows x → Solves (system_of rows) (entry x)
 con_solves rows x h r k =
     let f = system_from rows r k in
     elim f.sign [
-      | inl e ↦ subst (λ y. pos 0 ≤ℤ product y x) (sym e) (at_least f.given.equal (product f.given.row x) (h f.given f.has))
+      | inl e ↦ subst (λ y. pos 0 ≤ℤ product y x) (sym e) (holds_at_least f.given.equal (product f.given.row x) (h f.given f.has))
       | inr e ↦ subst (λ y. pos 0 ≤ℤ product y x) (sym e.1)
-          (opposite (product f.given.row x) (dot (negated f.given.row) (entry x)) (negated_dot f.given.row (entry x)) (zero_at f.given.equal e.0 (product f.given.row x) (h f.given f.has)))
+          (opposite_of_zero (product f.given.row x) (dot (negated f.given.row) (entry x)) (negated_dot f.given.row (entry x)) (zero_at f.given.equal e.0 (product f.given.row x) (h f.given f.has)))
     ]
   where
-    at_least : (b : Bool) (z : ℤ) → HoldsWith b z → pos 0 ≤ℤ z
-    at_least true z e = omega (arith, ints, e)
-    at_least false z e = e
-
     zero_at : (b : Bool) → b ≡ true → (z : ℤ) → HoldsWith b z → z ≡ pos 0
     zero_at true e z h = h
     zero_at false e z h = cc
 
-    opposite : (z y : ℤ) → y ≡ neg_ℤ z → z ≡ pos 0 → pos 0 ≤ℤ y
-    opposite z y e f = omega (arith, ints, e, f)
-
 pub solves_con : (rows : List Given) (x : List ℤ) → Solves (system_of rows) (entry x) → Con rows x
 solves_con rows x h g k = by_kind g.equal refl
   where
-    between : (z y : ℤ) → y ≡ neg_ℤ z → pos 0 ≤ℤ z → pos 0 ≤ℤ y → z ≡ pos 0
-    between z y e f k = omega (arith, ints, e, f, k)
-
     by_kind : (b : Bool) → g.equal ≡ b → HoldsWith b (product g.row x)
-    by_kind true e = between (product g.row x) (dot (negated g.row) (entry x)) (negated_dot g.row (entry x)) (h g.row (system_has rows g k)) (h (negated g.row) (system_has_negated rows g k e))
+    by_kind true e = between_opposites (product g.row x) (dot (negated g.row) (entry x)) (negated_dot g.row (entry x)) (h g.row (system_has rows g k)) (h (negated g.row) (system_has_negated rows g k e))
     by_kind false e = h g.row (system_has rows g k)
 
 -- row by row

@@ -84,16 +84,16 @@ same_ascending cmp asym (x ∷ xs) (y ∷ ys) a b same =
     cc
 
 -- ---- tests of all members, and those that pass
+pub both_true : (a b : Bool) → (a && b) ≡ true → (a ≡ true) × (b ≡ true)
+both_true true b h = (refl, h)
+both_true false b h = cc
+
 -- what all pass, each member passes, and the other way round
 pub list_all_at : {A : Type 0} (test : A → Bool) (xs : List A) → list_all test xs ≡ true → (x : A) → Contains xs x → test x ≡ true
 list_all_at test [] h x k = absurd (contains_none x k)
 list_all_at test (y ∷ xs) h x k =
     let both = both_true (test y) (list_all test xs) h in
     elim (contains_cases y x xs k) [ inl e ↦ ap test (sym e) ∙ both.0 | inr d ↦ list_all_at test xs both.1 x d ]
-  where
-    both_true : (a b : Bool) → (a && b) ≡ true → (a ≡ true) × (b ≡ true)
-    both_true true b h = (refl, h)
-    both_true false b h = cc
 
 pub list_all_from : {A : Type 0} (test : A → Bool) (xs : List A) → ((x : A) → Contains xs x → test x ≡ true) → list_all test xs ≡ true
 list_all_from test [] h = refl

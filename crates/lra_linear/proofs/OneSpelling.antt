@@ -20,7 +20,7 @@ use Rattle.lra_linear.proofs.Membership.{contains_cases, contains_head, contains
 use Rattle.lra_linear.proofs.Products.{blend_length, dot_linear, dot_same, entry_blend, negated_dot, product_comm}
 use Rattle.lra_linear.proofs.Ring.{mul_nonnegative, ring, v, ⊖, ◌⊕◌, ◌⊗◌}
 use Rattle.lra_linear.proofs.RowOrder.{inequality_cmp_total, never_both, row_cmp_total}
-use Rattle.lra_linear.proofs.Signs.{add_nonnegative, not_both}
+use Rattle.lra_linear.proofs.Signs.{add_nonnegative, between_opposites, not_both, opposite_of_zero, zero_at_least}
 
 -- ---- rows of one kind
 given_from : (b : Bool) (rows : List (List ℤ)) (g : Given) → Contains (given_as b rows) g → (g.equal ≡ b) × Contains rows g.row
@@ -129,16 +129,13 @@ rows_hold p h x s g k = elim (Contains-append_cases (given_as true h.equalities)
   | inl e ↦
       let f = given_from true h.equalities g e in
       subst (λ b. HoldsWith b (product g.row x)) (sym f.0)
-      (between (product g.row x) (dot (negated g.row) (entry x)) (negated_dot g.row (entry x))
+      (between_opposites (product g.row x) (dot (negated g.row) (entry x)) (negated_dot g.row (entry x))
       (s g.row (Contains-append_right h.facets (both_ways h.equalities) g.row (in_lines h.equalities g.row f.1)))
       (s (negated g.row) (Contains-append_right h.facets (both_ways h.equalities) (negated g.row) (in_lines_negated h.equalities g.row f.1))))
   | inr i ↦
       let f = given_from false h.inequalities g i in
       subst (λ b. HoldsWith b (product g.row x)) (sym f.0) (s g.row (Contains-append_left h.facets (both_ways h.equalities) g.row (h.shown g.row f.1).0))
 ]
-  where
-    between : (z y : ℤ) → y ≡ neg_ℤ z → pos 0 ≤ℤ z → pos 0 ≤ℤ y → z ≡ pos 0
-    between z y e f k = omega (arith, ints, e, f, k)
 
 -- and the other way round
 pub cone_solved : (p : Polyhedron) (h : HasPoint p) (x : List ℤ) → IsPoint p.dims x → Con p.rows x → Solves (all_rows h.equalities h.facets) (entry x)
@@ -153,19 +150,13 @@ cone_solved p h x is_point c r k = elim (Contains-append_cases h.facets (both_wa
       let e : product s.line x ≡ pos 0 = c (record { row = s.line; equal = true })
       (subst (λ l. Contains l (record { row = s.line; equal = true })) (sym h.rows_are) (Contains-append_left (given_as true h.equalities) (given_as false h.inequalities) (record { row = s.line; equal = true }) (given_has true h.equalities s.line s.has))) in
       elim s.sign [
-        | inl q ↦ subst (λ y. pos 0 ≤ℤ product y x) (sym q) (at_zero (product s.line x) e)
-        | inr q ↦ subst (λ y. pos 0 ≤ℤ product y x) (sym q) (opposite (product s.line x) (dot (negated s.line) (entry x)) (negated_dot s.line (entry x)) e)
+        | inl q ↦ subst (λ y. pos 0 ≤ℤ product y x) (sym q) (zero_at_least (product s.line x) e)
+        | inr q ↦ subst (λ y. pos 0 ≤ℤ product y x) (sym q) (opposite_of_zero (product s.line x) (dot (negated s.line) (entry x)) (negated_dot s.line (entry x)) e)
       ]
 ]
   where
     positive : (d z : ℤ) → z ≡ d → pos 0 <ℤ d → pos 0 ≤ℤ z
     positive d z e h = omega (arith, ints, e, h)
-
-    at_zero : (z : ℤ) → z ≡ pos 0 → pos 0 ≤ℤ z
-    at_zero z e = omega (arith, ints, e)
-
-    opposite : (z y : ℤ) → y ≡ neg_ℤ z → z ≡ pos 0 → pos 0 ≤ℤ y
-    opposite z y e f = omega (arith, ints, e, f)
 
 -- column 0 of a generator
 pub columns_of : (p : Polyhedron) (h : HasPoint p) (t : List ℤ) → Contains (all_rows h.lines (h.points ++ h.rays)) t → (pos 0 <ℤ entry t 0) ⊎ (entry t 0 ≡ pos 0)

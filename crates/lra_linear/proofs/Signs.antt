@@ -1,8 +1,8 @@
 -- Signs of whole numbers, their sums and products; a whole number of known sign as a natural one.
-use Rattle.std.proofs.Common.{◌≡◌, ℕ, zero, suc, ◌+◌, ◌-◌, ◌<◌, refl, ap, sym, ◌∙◌, pos, negsuc, ℤ, ◌+ℤ◌, ◌*ℤ◌, neg_ℤ, ◌≤ℤ◌, ◌<ℤ◌, arith, inl, inr, ◌⊎◌}
-use Rattle.std.proofs.lemmas.Int.{ints}
+use Rattle.std.proofs.Common.{ap, arith, inl, inr, neg_ℤ, negsuc, pos, refl, suc, sym, zero, ℕ, ℤ, ◌*ℤ◌, ◌+ℤ◌, ◌+◌, ◌-◌, ◌<ℤ◌, ◌<◌, ◌∙◌, ◌≡◌, ◌≤ℤ◌, ◌⊎◌}
 use Rattle.std.proofs.lemmas.Bool.{cases_lt}
-use Rattle.lra_linear.proofs.Ring.{v, ◌⊕◌, ◌⊗◌, ⊖, ring}
+use Rattle.std.proofs.lemmas.Int.{ints}
+use Rattle.lra_linear.proofs.Ring.{ring, v, ⊖, ◌⊕◌, ◌⊗◌}
 
 -- ---- cases
 pub cases_sign : (z : ℤ) → (pos 0 ≤ℤ z) ⊎ (z <ℤ pos 0)
@@ -21,6 +21,16 @@ not_both z h e = omega (arith, ints, h, e)
 
 pub positive_is_nonnegative : (z : ℤ) → pos 0 <ℤ z → pos 0 ≤ℤ z
 positive_is_nonnegative z h = omega (arith, ints)
+
+-- a number and its opposite that are both not negative; a number that is 0, and its opposite
+pub between_opposites : (z y : ℤ) → y ≡ neg_ℤ z → pos 0 ≤ℤ z → pos 0 ≤ℤ y → z ≡ pos 0
+between_opposites z y e f k = omega (arith, ints, e, f, k)
+
+pub zero_at_least : (z : ℤ) → z ≡ pos 0 → pos 0 ≤ℤ z
+zero_at_least z e = omega (arith, ints, e)
+
+pub opposite_of_zero : (z y : ℤ) → y ≡ neg_ℤ z → z ≡ pos 0 → pos 0 ≤ℤ y
+opposite_of_zero z y e f = omega (arith, ints, e, f)
 
 -- ---- as natural numbers
 pub as_nat : (z : ℤ) → pos 0 ≤ℤ z → (n : ℕ) × (z ≡ pos n)

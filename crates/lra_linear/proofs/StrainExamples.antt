@@ -1,7 +1,7 @@
 -- Worked examples of strain: a list of constraints that strains by its third row only, in one dimension; an image one of whose
 -- numbers passes the range, and one whose numbers just fit; and an inclusion that fails at a line. M is the greatest number of the
 -- range.
-use Rattle.std.proofs.Common.{Bool, Err, List, Ok, Result, [], ap, arith, false, inl, inr, length, neg_ℤ, negsuc, pos, refl, subst, suc, sym, true, zero, ℕ, ℤ, ◌*ℤ◌, ◌+ℤ◌, ◌-◌, ◌<◌, ◌^◌, ◌∙◌, ◌∷◌, ◌≡◌, ◌≤ℤ◌, ◌⊎◌}
+use Rattle.std.proofs.Common.{Bool, Err, List, Ok, Result, [], ap, arith, inl, inr, length, neg_ℤ, negsuc, pos, refl, subst, suc, sym, true, zero, ℕ, ℤ, ◌*ℤ◌, ◌+ℤ◌, ◌-◌, ◌<◌, ◌^◌, ◌∙◌, ◌∷◌, ◌≡◌, ◌≤ℤ◌, ◌⊎◌}
 use Rattle.std.specs.Prelude.{is_ok, ◌&&◌}
 use Rattle.std.proofs.lemmas.Int.{ints}
 use Rattle.std.specs.List.{Contains, list_all}
@@ -25,7 +25,7 @@ use Rattle.lra_linear.proofs.Descriptions.{con_head}
 use Rattle.lra_linear.proofs.LinearMaps.{separated}
 use Rattle.lra_linear.proofs.Lines.{generated_described}
 use Rattle.lra_linear.proofs.LowestTerms.{primitive_at}
-use Rattle.lra_linear.proofs.Membership.{contains_cases, contains_head, contains_none, contains_tail, each_one, each_three, each_two, list_all_at, split_none, split_one, split_two}
+use Rattle.lra_linear.proofs.Membership.{both_true, contains_cases, contains_head, contains_none, contains_tail, each_one, each_three, each_two, list_all_at, split_none, split_one, split_two}
 use Rattle.lra_linear.proofs.Products.{entry_past}
 use Rattle.lra_linear.proofs.Ring.{ring, v, ⊖, ◌⊕◌, ◌⊗◌}
 use Rattle.lra_linear.proofs.Signs.{as_nat}
@@ -42,10 +42,6 @@ fits c rows =
 ok_not_err : {A : Type 0} (r : Result A E.Excess) (e : E.Excess) → is_ok r ≡ true → r ≡ Err e → ⊥
 ok_not_err (Ok x) e h k = cc
 ok_not_err (Err f) e h k = cc
-
-both_true : (a b : Bool) → (a && b) ≡ true → (a ≡ true) × (b ≡ true)
-both_true true b h = (refl, h)
-both_true false b h = cc
 
 pub fits_not_strained : (c : List ℤ) (rows : List (List ℤ)) → fits c rows ≡ true → (e : E.Excess) → ¬ (ProductPasses c rows e ⊎ PairPasses c rows e)
 fits_not_strained c rows h e (inl p) =

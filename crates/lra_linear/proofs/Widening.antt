@@ -13,12 +13,13 @@ use Rattle.lra_linear.specs.Polyhedra.{HasPoint, Polyhedron}
 use Rattle.lra_linear.specs.SetOperations.{ValidOn}
 use Rattle.lra_linear.specs.Vectors.{dot, entry, negated, product}
 use Rattle.lra_linear.specs.Widening.{Limited, Standard, StandardFrom, holds_with, is_tight, is_valid}
-use Rattle.lra_linear.proofs.Descriptions.{gen_generated, system_from, system_has, system_has_negated}
+use Rattle.lra_linear.proofs.Descriptions.{gen_generated, holds_at_least, system_from, system_has, system_has_negated}
 use Rattle.lra_linear.proofs.LinearMaps.{generated_nonneg}
-use Rattle.lra_linear.proofs.Membership.{contains_none, filter_from, filter_has, list_all_at, list_all_from}
+use Rattle.lra_linear.proofs.Membership.{both_true, contains_none, filter_from, filter_has, list_all_at, list_all_from}
 use Rattle.lra_linear.proofs.Polyhedra.{con_gen}
 use Rattle.lra_linear.proofs.Products.{dot_negated, negated_dot}
 use Rattle.lra_linear.proofs.SetOperations.{HasVertex, has_vertex, valid_on_rows}
+use Rattle.lra_linear.proofs.Signs.{between_opposites, opposite_of_zero}
 
 -- ---- tests of numbers
 -- what the tests say
@@ -52,24 +53,18 @@ rows_at_least r generators h t k =
     elim f.sign [
       | inl s ↦ subst (λ y. pos 0 ≤ℤ product r.row y) (sym s) (with_generator r.equal f.given.equal (product r.row f.given.row) e)
       | inr s ↦ subst (λ y. pos 0 ≤ℤ product r.row y) (sym s.1)
-          (opposite (product r.row f.given.row) (product r.row (negated f.given.row)) (dot_negated r.row f.given.row) (with_line r.equal f.given.equal s.0 (product r.row f.given.row) e))
+          (opposite_of_zero (product r.row f.given.row) (product r.row (negated f.given.row)) (dot_negated r.row f.given.row) (with_line r.equal f.given.equal s.0 (product r.row f.given.row) e))
     ]
-  where
-    opposite : (z y : ℤ) → y ≡ neg_ℤ z → z ≡ pos 0 → pos 0 ≤ℤ y
-    opposite z y e f = omega (arith, ints, e, f)
 
 -- and for an equality its negative too
 rows_at_most : (r : Given) (generators : List Given) → r.equal ≡ true → list_all (holds_with r) generators ≡ true → (t : List ℤ) → Contains (system_of generators) t → pos 0 ≤ℤ dot (negated r.row) (entry t)
 rows_at_most r generators q h t k =
     let f = system_from generators t k in
     let e = with_equality r.equal f.given.equal q (product r.row f.given.row) (list_all_at (holds_with r) generators h f.given f.has) in
-    at_zero (product r.row t) (dot (negated r.row) (entry t)) (negated_dot r.row (entry t)) (elim f.sign [
+    opposite_of_zero (product r.row t) (dot (negated r.row) (entry t)) (negated_dot r.row (entry t)) (elim f.sign [
       | inl s ↦ subst (λ y. product r.row y ≡ pos 0) (sym s) e
       | inr s ↦ subst (λ y. product r.row y ≡ pos 0) (sym s.1) (dot_negated r.row f.given.row ∙ ap neg_ℤ e)
     ])
-  where
-    at_zero : (z y : ℤ) → y ≡ neg_ℤ z → z ≡ pos 0 → pos 0 ≤ℤ y
-    at_zero z y e f = omega (arith, ints, e, f)
 
 -- a constraint that passes the test with each generator holds at each point
 pub holds_on_generators : (r : Given) (generators : List Given) → list_all (holds_with r) generators ≡ true → (x : List ℤ) → Gen generators x → Holds r x
@@ -78,12 +73,9 @@ holds_on_generators r generators h x g = by_kind r.equal refl
     low : pos 0 ≤ℤ product r.row x
     low = generated_nonneg r.row (system_of generators) (entry x) (rows_at_least r generators h) (gen_generated generators (entry x) g)
 
-    between : (z y : ℤ) → y ≡ neg_ℤ z → pos 0 ≤ℤ z → pos 0 ≤ℤ y → z ≡ pos 0
-    between z y e f k = omega (arith, ints, e, f, k)
-
     by_kind : (b : Bool) → r.equal ≡ b → HoldsWith b (product r.row x)
     by_kind true q =
-        between (product r.row x) (dot (negated r.row) (entry x)) (negated_dot r.row (entry x)) low
+        between_opposites (product r.row x) (dot (negated r.row) (entry x)) (negated_dot r.row (entry x)) low
         (generated_nonneg (negated r.row) (system_of generators) (entry x) (rows_at_most r generators q h) (gen_generated generators (entry x) g))
     by_kind false q = low
 
@@ -97,22 +89,15 @@ test_said false false z h e f = let k : true ≡ int_le (pos 0) z = omega (arith
 pub generators_hold : (n : ℕ) (generators : List Given) → HasVertex n generators → (r : Given) → ((x : List ℤ) → IsPoint n x → Gen generators x → Holds r x) → list_all (holds_with r) generators ≡ true
 generators_hold n generators h r valid = list_all_from (holds_with r) generators (λ g k.
     test_said r.equal g.equal (product r.row g.row) (low g.row (system_has generators g k))
-    (λ e. between (product r.row g.row) (dot (negated r.row) (entry g.row)) (negated_dot r.row (entry g.row)) (low g.row (system_has generators g k)) (high e g.row (system_has generators g k)))
-    (λ e. between (product r.row g.row) (product r.row (negated g.row)) (dot_negated r.row g.row) (low g.row (system_has generators g k)) (low (negated g.row) (system_has_negated generators g k e))))
+    (λ e. between_opposites (product r.row g.row) (dot (negated r.row) (entry g.row)) (negated_dot r.row (entry g.row)) (low g.row (system_has generators g k)) (high e g.row (system_has generators g k)))
+    (λ e. between_opposites (product r.row g.row) (product r.row (negated g.row)) (dot_negated r.row g.row) (low g.row (system_has generators g k)) (low (negated g.row) (system_has_negated generators g k e))))
   where
-    at_least : (b : Bool) (z : ℤ) → HoldsWith b z → pos 0 ≤ℤ z
-    at_least true z e = omega (arith, ints, e)
-    at_least false z e = e
-
     opposite : (b : Bool) → b ≡ true → (z y : ℤ) → y ≡ neg_ℤ z → HoldsWith b z → pos 0 ≤ℤ y
     opposite true q z y e f = omega (arith, ints, e, f)
     opposite false q z y e f = cc
 
-    between : (z y : ℤ) → y ≡ neg_ℤ z → pos 0 ≤ℤ z → pos 0 ≤ℤ y → z ≡ pos 0
-    between z y e f k = omega (arith, ints, e, f, k)
-
     low : (t : List ℤ) → Contains (system_of generators) t → pos 0 ≤ℤ product r.row t
-    low = valid_on_rows n generators h r.row (λ y p g. at_least r.equal (product r.row y) (valid y p g))
+    low = valid_on_rows n generators h r.row (λ y p g. holds_at_least r.equal (product r.row y) (valid y p g))
 
     high : r.equal ≡ true → (t : List ℤ) → Contains (system_of generators) t → pos 0 ≤ℤ dot (negated r.row) (entry t)
     high q = valid_on_rows n generators h (negated r.row) (λ y p g. opposite r.equal q (product r.row y) (dot (negated r.row) (entry y)) (negated_dot r.row (entry y)) (valid y p g))
@@ -154,7 +139,3 @@ limited_con p q given h k = (
   where
     some : p.generators ≢ []
     some e = contains_none (has_vertex p h).vertex (subst (λ l. Contains (system_of l) (has_vertex p h).vertex) e (has_vertex p h).has)
-
-    both_true : (a b : Bool) → (a && b) ≡ true → (a ≡ true) × (b ≡ true)
-    both_true true b e = (refl, e)
-    both_true false b e = cc

@@ -31,7 +31,7 @@ pub record Loss : Type 0 where
   pub cause : Cause
 
 -- ---- (2) reductions of the list's own kind
--- the product with each of the rays is 0
+-- the product with each of the rays is 0 (with the lines of S*, each row of S has product 0 anyway)
 abbrev pub is_tight_at : List (List ℤ) → List ℤ → Bool
 is_tight_at [] r = true
 is_tight_at (t ∷ rays) r = cond (int_eq (product r t) (pos 0)) (is_tight_at rays r) false
