@@ -1,0 +1,5 @@
+use Rattle.std.proofs.Common.{◌≡◌, ◌++◌, ◌∷◌, [], OnOk, string_bytes, append_assoc}
+use Rattle.lra_top.proofs.report.push_options.Goals as goal
+
+pub returns : goal.returns
+returns c = simp append_assoc c.writeln.ensures.bytes

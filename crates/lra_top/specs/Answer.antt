@@ -1,0 +1,67 @@
+-- What an input deserves: a refusal, or a report.
+use Rattle.std.specs.Prelude.{◌≡◌, ◌≤◌, ◌<◌, ◌⊎◌, ℕ, List, [], ◌++◌, length, codes}
+use Rattle.lra_tree.specs.Report.{Place, Report}
+use Rattle.lra_tree.specs.ReportText.{text_line, place_text, report_text, unknown_count}
+use Rattle.lra_top.specs.FirstForm.{Form, IsSource, place_after, first_place}
+use Rattle.lra_top.specs.Claims.{IsReportOf}
+
+-- so many bytes a source may have
+abbrev pub limit : ℕ
+limit = 65536
+
+abbrev pub usage_text : List ℕ
+usage_text = text_line (codes "refused usage")
+
+abbrev pub too_long_text : Place → List ℕ
+too_long_text place = text_line (codes "refused 1 TooLong at " ++ place_text place)
+
+abbrev pub syntax_text : List ℕ
+syntax_text = text_line (codes "refused 4 Syntax at 1:1")
+
+abbrev pub IsTooLong : List ℕ → Type 0
+IsTooLong bytes = limit < length bytes
+
+abbrev pub IsWithinLimit : List ℕ → Type 0
+IsWithinLimit bytes = length bytes ≤ limit
+
+-- the place of the first byte past the limit: behind so many bytes
+pub record IsPastLimit (bytes : List ℕ) (place : Place) : Type 0 where
+  pub front : List ℕ
+  pub rest : List ℕ
+  pub split : bytes ≡ front ++ rest
+  pub full : length front ≡ limit
+  pub behind : place ≡ place_after front first_place
+
+-- the bytes are a source of the first form
+pub record IsFirstForm (bytes : List ℕ) : Type 0 where
+  pub form : Form
+  pub places : List Place
+  pub source : IsSource bytes form places
+
+-- the refusal of a source with too many bytes
+pub record RefusesLength (bytes text : List ℕ) : Type 0 where
+  pub too_long : IsTooLong bytes
+  pub place : Place
+  pub past : IsPastLimit bytes place
+  pub written : text ≡ too_long_text place
+
+-- the refusal of a source that isn't of the first form
+pub record RefusesForm (bytes text : List ℕ) : Type 0 where
+  pub within : IsWithinLimit bytes
+  pub other : IsFirstForm bytes → ⊥
+  pub written : text ≡ syntax_text
+
+-- the one refusal that the bytes deserve
+abbrev pub IsRefusal : List ℕ → List ℕ → Type 0
+IsRefusal bytes text = RefusesLength bytes text ⊎ RefusesForm bytes text
+
+-- the text is that of a report of the bytes, in which so many verdicts are unknown
+pub record IsReport (bytes text : List ℕ) (unknown : ℕ) : Type 0 where
+  pub within : IsWithinLimit bytes
+  pub form : Form
+  pub places : List Place
+  pub source : IsSource bytes form places
+  pub report : Report
+  pub claims : IsReportOf form places report
+  pub written : text ≡ report_text report
+  pub counted : unknown ≡ unknown_count report.verdicts

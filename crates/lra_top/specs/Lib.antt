@@ -1,0 +1,16 @@
+-- In the order in which they are to be read: the source and its program, what is deserved, what `run` does with it;
+-- then how the analysis comes to its report.
+pub mod FirstForm
+pub mod FirstProgram
+pub mod Claims
+pub mod Answer
+pub mod Words
+pub mod Run
+pub mod Exit
+pub mod Views
+pub mod Interval
+pub mod Analysis
+pub mod Shown
+pub mod Prepared
+pub mod Lexemes
+pub mod Reading

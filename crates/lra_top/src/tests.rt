@@ -1,0 +1,163 @@
+use super::*;
+use lra_edge::{MemSink, MemSource};
+use std::test::Fail;
+
+const TAKEN: [&str; 4] = ["lra", "analyse", "--domain", "box"];
+
+const PROVED: &str = "int main(void){ long x; x = 3; assert(x >= 3); }";
+
+const PROVED_REPORT: &str = "analysis box parts 1 delay 1 narrow 1 limited no
+flagged 0
+point 1 main 1:22
+  row true
+point 2 main 1:25
+  row true
+point 3 main 1:32
+  row x = 3
+point 4 main 1:48
+  row x = 3
+assert 3 main 1:32 proved
+verdicts proved 1 unknown 0
+";
+
+const UNKNOWN: &str = "int main(void){ long x; x = 2; assert(x >= 3); }";
+
+const UNKNOWN_REPORT: &str = "analysis box parts 1 delay 1 narrow 1 limited no
+flagged 0
+point 1 main 1:22
+  row true
+point 2 main 1:25
+  row true
+point 3 main 1:32
+  row x = 2
+point 4 main 1:48
+  unreachable
+assert 3 main 1:32 unknown
+verdicts proved 0 unknown 1
+";
+
+const BOUNDED: &str =
+    "\nint main(void) {\n  long count;\n  assert(count >= 3);\n  assert(count >= 2);\n}\n";
+
+const BOUNDED_REPORT: &str = "analysis box parts 1 delay 1 narrow 1 limited no
+flagged 0
+point 1 main 3:8
+  row true
+point 2 main 4:3
+  row true
+point 3 main 5:3
+  row count >= 3
+point 4 main 6:1
+  row count >= 3
+assert 2 main 4:3 unknown
+assert 3 main 5:3 proved
+verdicts proved 1 unknown 1
+";
+
+const UNREACHABLE: &str = "int main(void){long y;y=1;assert(y>=2);y=7;assert(y>=9);}";
+
+const UNREACHABLE_REPORT: &str = "analysis box parts 1 delay 1 narrow 1 limited no
+flagged 0
+point 1 main 1:21
+  row true
+point 2 main 1:23
+  row true
+point 3 main 1:27
+  row y = 1
+point 4 main 1:40
+  unreachable
+point 5 main 1:44
+  unreachable
+point 6 main 1:57
+  unreachable
+assert 3 main 1:27 unknown
+assert 5 main 1:44 proved
+verdicts proved 1 unknown 1
+";
+
+/// What `run` does over memory: its status, and whether the sink then holds the text. Ten bytes move at most in a call.
+fn ends(
+    rt: &HostRuntime,
+    words: &[&str],
+    source: &[u8],
+    fails: (&[u64], &[u64]),
+    text: &str,
+) -> Result<(Status, bool), Fail> {
+    let mut all = Vec::new(rt.alloc());
+    for word in words {
+        all.push(String::from_str(rt.alloc(), word)?)?;
+    }
+    let mut source = MemSource::new(rt.alloc(), source, 10, fails.0)?;
+    let mut sink = MemSink::new(rt.alloc(), 1000, 10, fails.1)?;
+    let status = run(rt.alloc(), &all, &mut source, &mut sink);
+    Ok((status, sink.bytes() == text.as_bytes()))
+}
+
+#[test]
+fn reports_are_written(rt: HostRuntime) -> Result<(), Fail> {
+    let rows = [
+        (PROVED, Status::Proved, PROVED_REPORT),
+        (UNKNOWN, Status::Unknown, UNKNOWN_REPORT),
+        (BOUNDED, Status::Unknown, BOUNDED_REPORT),
+        (UNREACHABLE, Status::Unknown, UNREACHABLE_REPORT),
+    ];
+    for (source, status, text) in rows {
+        let ended = ends(&rt, &TAKEN, source.as_bytes(), (&[], &[]), text)?;
+        assert_eq!(rt; ended, (status, true), "{source}");
+    }
+    Ok(())
+}
+
+#[test]
+fn other_sources_are_refused(rt: HostRuntime) -> Result<(), Fail> {
+    let full = vec![in rt.alloc(); b' '; 65536]?;
+    let past = vec![in rt.alloc(); b' '; 65537]?;
+    let mut broken = vec![in rt.alloc(); b'\n'; 65535]?;
+    broken.extend_from_slice(b"abc")?;
+    let rows: [(&[u8], &str); 6] = [
+        (b"", "refused 4 Syntax at 1:1\n"),
+        (b"int main(void){ long x; x = 0; }", "refused 4 Syntax at 1:1\n"),
+        (b"int main(void){ long x; y = 1; }", "refused 4 Syntax at 1:1\n"),
+        (&full, "refused 4 Syntax at 1:1\n"),
+        (&past, "refused 1 TooLong at 1:65537\n"),
+        (&broken, "refused 1 TooLong at 65536:2\n"),
+    ];
+    for (source, text) in rows {
+        let ended = ends(&rt, &TAKEN, source, (&[], &[]), text)?;
+        assert_eq!(rt; ended, (Status::Refused, true), "{text}");
+    }
+    Ok(())
+}
+
+/// The first read would fail, so none is made.
+#[test]
+fn other_words_are_refused(rt: HostRuntime) -> Result<(), Fail> {
+    let rows: [&[&str]; 6] = [
+        &[],
+        &["lra"],
+        &["lra", "analyse"],
+        &["lra", "analyse", "--domain", "cube"],
+        &["lra", "--domain", "analyse", "box"],
+        &["lra", "analyse", "--domain", "box", "box"],
+    ];
+    for words in rows {
+        let ended = ends(&rt, words, PROVED.as_bytes(), (&[1], &[]), "refused usage\n")?;
+        assert_eq!(rt; ended, (Status::Usage, true), "{}", words.len());
+    }
+    Ok(())
+}
+
+#[test]
+fn devices_fail(rt: HostRuntime) -> Result<(), Fail> {
+    let rows: [((&[u64], &[u64]), Status, &str); 4] = [
+        ((&[2], &[]), Status::ReadFault, ""),
+        ((&[], &[2]), Status::WriteFault, "analysis b"),
+        ((&[6], &[]), Status::ReadFault, ""),
+        ((&[7], &[25]), Status::Proved, PROVED_REPORT),
+    ];
+    for (fails, status, text) in rows {
+        let ended = ends(&rt, &TAKEN, PROVED.as_bytes(), fails, text)?;
+        assert_eq!(rt; ended, (status, true), "{text}");
+    }
+    Ok(())
+}
