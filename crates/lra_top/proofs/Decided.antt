@@ -1,5 +1,5 @@
 -- A verdict is unknown exactly where the printed state allows a value below the assertion's bound.
-use Rattle.std.proofs.Common.{◌≡◌, ◌≤◌, ◌<◌, ◌+◌, ℕ, List, [], ◌∷◌, refl, arith, Option, Some, None, Bool, true, false, IsTrue, inl, inr}
+use Rattle.std.proofs.Common.{◌≡◌, ◌≤◌, ◌<◌, ℕ, List, [], ◌∷◌, refl, arith, Option, Some, None, Bool, true, false, inl, inr}
 use Rattle.std.proofs.lemmas.Int.{ints}
 use Rattle.std.proofs.lemmas.Bool.Decides.{nat_tests}
 use Rattle.std.specs.Prelude.{ℤ, pos, negsuc, ◌≤ℤ◌, ◌<ℤ◌, nat_lt, nat_eq, nat_le, if◌then◌else◌}

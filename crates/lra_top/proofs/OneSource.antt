@@ -1,8 +1,8 @@
 -- Bytes are a source of one form at most, with one list of places.
-use Rattle.std.proofs.Common.{◌≡◌, ℕ, List, [], ◌∷◌, refl, ap, sym, ◌∙◌, subst, Some}
+use Rattle.std.proofs.Common.{◌≡◌, ℕ, List, [], ◌∷◌, refl, ap, sym, ◌∙◌, subst}
 use Rattle.lra_top.specs.FirstForm.{Place, Simple, Form, IsSource}
 use Rattle.lra_top.specs.Lexemes.{Lexeme}
-use Rattle.lra_top.specs.Reading.{IsBody, IsRead, end_text}
+use Rattle.lra_top.specs.Reading.{IsBody, IsRead}
 use Rattle.lra_top.proofs.Headers.{behind_first, behind_opening}
 use Rattle.lra_top.proofs.Bodies.{first_text, first_place, no_end, one_front}
 use Rattle.lra_top.proofs.Joined.{lexed_source, Some_injective}

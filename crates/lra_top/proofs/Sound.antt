@@ -1,15 +1,15 @@
 -- Where a run is, its variable is in the state of that point.
-use Rattle.std.proofs.Common.{◌≡◌, ◌≤◌, ◌<◌, ◌+◌, ℕ, List, [], ◌∷◌, length, ap, refl, sym, arith, ◌∙◌, subst, max, Option, Some, None, Bool, true, false, IsTrue, inl}
+use Rattle.std.proofs.Common.{◌≡◌, ◌≤◌, ◌+◌, ℕ, List, [], ◌∷◌, length, refl, arith, subst, max, Option, Some, None, Bool, true, false, IsTrue, inl}
 use Rattle.std.proofs.lemmas.Int.{ints}
 use Rattle.std.proofs.lemmas.Bool.Decides.{nat_tests}
-use Rattle.std.specs.Prelude.{ℤ, pos, negsuc, ◌≤ℤ◌, ◌<ℤ◌, int_le, nat_lt, nat_eq, if◌then◌else◌, zero, suc}
+use Rattle.std.specs.Prelude.{ℤ, pos, ◌≤ℤ◌, int_le, nat_lt, nat_eq, if◌then◌else◌, zero, suc}
 use Rattle.std.specs.List.{AllByRecursion}
-use Rattle.lra_tree.specs.Program.{BlockItems, declaration}
+use Rattle.lra_tree.specs.Program.{declaration}
 use Rattle.lra_tree.specs.Step.{Item, run, declare, all, end_of, Config, next}
 use Rattle.lra_tree.specs.Step as step
 use Rattle.lra_tree.specs.Run.{Steps, label_on, Reaches, At, IsFailing}
-use Rattle.lra_tree.specs.Report.{Row, RowHolds, Holds}
-use Rattle.lra_top.specs.FirstForm.{Simple, Set, Check, Form}
+use Rattle.lra_tree.specs.Report.{RowHolds, Holds}
+use Rattle.lra_top.specs.FirstForm.{Simple, Set, Check}
 use Rattle.lra_top.specs.FirstProgram.{statement_of, statements_from, the_declarator, program_of}
 use Rattle.lra_top.specs.Claims.{main_point}
 use Rattle.lra_top.specs.declared.interval.State.{State}

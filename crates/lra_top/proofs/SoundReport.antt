@@ -1,20 +1,20 @@
 -- The report of a source has the source's points and verdicts, and is sound.
-use Rattle.std.proofs.Common.{◌≡◌, ◌+◌, ℕ, List, [], ◌∷◌, ◌++◌, map, refl, IsTrue, inl}
+use Rattle.std.proofs.Common.{◌+◌, ℕ, List, [], ◌∷◌, ◌++◌, map, refl, inl}
 use Rattle.std.specs.Prelude.{string_bytes}
 use Rattle.std.specs.List.{AllByRecursion}
 use Rattle.lra_tree.specs.Report.{PointReport, IsInvariant, IsRight, IsSound}
-use Rattle.lra_top.specs.FirstForm.{Simple, Set, Check, Form}
+use Rattle.lra_top.specs.FirstForm.{Simple, Set, Check}
 use Rattle.lra_top.specs.FirstProgram.{program_of}
-use Rattle.lra_top.specs.Claims.{IsPoint, ArePoints, IsVerdict, AreVerdicts, IsReportOf}
+use Rattle.lra_top.specs.Claims.{ArePoints, AreVerdicts, IsReportOf}
 use Rattle.lra_top.specs.declared.interval.State.{State}
 use Rattle.lra_top.specs.declared.tree.Place.{Place}
 use Rattle.lra_top.specs.declared.tree.PlacedStatement.{PlacedStatement}
 use Rattle.lra_top.specs.declared.tree.SourceTree.{SourceTree}
 use Rattle.lra_top.specs.declared.analysis.VerdictEntry.{VerdictEntry}
-use Rattle.lra_top.specs.Interval.{unbounded, after, proves}
-use Rattle.lra_top.specs.Analysis.{entries_from, verdicts_from, with_verdict, entries_of, verdicts_of}
+use Rattle.lra_top.specs.Interval.{unbounded, after}
+use Rattle.lra_top.specs.Analysis.{entries_from, verdicts_from, with_verdict}
 use Rattle.lra_top.specs.Views.{place_of, simple_of, simples_of, statement_places, form_of, places_of}
-use Rattle.lra_top.specs.Shown.{point_of, verdict_of, report_of, tree_report}
+use Rattle.lra_top.specs.Shown.{point_of, verdict_of, tree_report}
 use Rattle.lra_top.proofs.Sound as sound
 use Rattle.lra_top.proofs.Sound.{Tail, first, further}
 use Rattle.lra_top.proofs.Decided.{unknown_allows, proved_allows_none}
@@ -53,12 +53,17 @@ module _ (name : List ℕ) (all : List Simple) where
       → AreVerdicts rest points (map verdict_of more)
       → AreVerdicts (s ∷ rest) (point_of shown (record { number = k; place = place; state = v }) ∷ points) (map verdict_of (with_verdict k v place s more))
   with_verdict_is shown k v place (Set n) rest points more t h = h
-  with_verdict_is shown k v place (Check n) rest points more t h =
-      (record {
-        same_number = refl; same_point = refl; same_path = refl; same_place = refl;
-        unknown = λ e. unknown_allows v n t e;
-        proved = λ e allowed. proved_allows_none v n e allowed;
-      }, h)
+  with_verdict_is shown k v place (Check n) rest points more t h = (
+    record {
+      same_number = refl;
+      same_point = refl;
+      same_path = refl;
+      same_place = refl;
+      unknown = λ e. unknown_allows v n t e;
+      proved = λ e allowed. proved_allows_none v n e allowed;
+    },
+    h,
+  )
 
   are_verdicts : (shown : List ℕ) (k : ℕ) (v : State) (rest : List PlacedStatement) (end : Place) → Tail all k v (simples_of rest)
       → AreVerdicts (simples_of rest) (map (point_of shown) (entries_from k v rest end)) (map verdict_of (verdicts_from k v rest))

@@ -1,5 +1,5 @@
 -- From what a source deserves to what a call of `run` does.
-use Rattle.std.proofs.Common.{◌≡◌, ◌≤◌, ◌<◌, ◌+◌, ◌-◌, ℕ, List, [], ◌∷◌, ◌++◌, length, take, drop, inl, inr, refl, sym, arith, ap, ◌∙◌, append_assoc, append-nil, subst}
+use Rattle.std.proofs.Common.{◌≡◌, ◌≤◌, ◌<◌, ◌+◌, ◌-◌, ℕ, List, [], ◌++◌, length, take, drop, inl, inr, refl, sym, arith, append_assoc, append-nil, subst}
 use Rattle.std.specs.Prelude.{Option, Some, None}
 use Rattle.std.specs.Io.KnownBytes.{Consumes, IsAtEnd}
 use Rattle.std.proofs.lemmas.Grind.{common_steps}
@@ -7,7 +7,7 @@ use Rattle.std.proofs.lemmas.List.{take-append-drop}
 use Rattle.lra_tree.specs.Report.{Place}
 use Rattle.lra_tree.specs.ReportText.{report_text, unknown_count}
 use Rattle.lra_top.specs.FirstForm.{Form, IsSource, place_after, first_place}
-use Rattle.lra_top.specs.Answer.{limit, usage_text, too_long_text, syntax_text, IsTooLong, IsWithinLimit, IsPastLimit, IsFirstForm, RefusesLength, RefusesForm, IsReport}
+use Rattle.lra_top.specs.Answer.{limit, usage_text, too_long_text, syntax_text, IsTooLong, IsWithinLimit, IsFirstForm, RefusesLength, IsReport}
 use Rattle.lra_top.specs.Words.{IsAnalyseBox}
 use Rattle.lra_top.specs.Run.{IsInput, Deserves, IsDeserved, EndsInUsage, EndsInRefusal, EndsInReport, IsReportOrMemory, HasRoom}
 use Rattle.lra_top.specs.Prepared.{DeservesSource, IsSourceText}
@@ -23,8 +23,14 @@ use Rattle.lra_top.proofs.SoundReport.{reports}
 report_is : (bytes : List ℕ) (t : SourceTree) (text : List ℕ) (unknown : ℕ) → length bytes ≤ limit → IsSource bytes (form_of t) (places_of t)
     → text ≡ report_text (tree_report t) → unknown_count (tree_report t).verdicts ≡ unknown → IsReport bytes text unknown
 report_is bytes t text unknown within source written counted = record {
-  within = within; form = form_of t; places = places_of t; source = source;
-  report = tree_report t; claims = reports t; written = written; counted = sym counted;
+  within = within;
+  form = form_of t;
+  places = places_of t;
+  source = source;
+  report = tree_report t;
+  claims = reports t;
+  written = written;
+  counted = sym counted;
 }
 
 counted_tree : (bytes : List ℕ) (t : SourceTree) (text : List ℕ) (status : Status) → length bytes ≤ limit → IsSource bytes (form_of t) (places_of t)

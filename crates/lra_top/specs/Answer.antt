@@ -1,5 +1,5 @@
 -- What an input deserves: a refusal, or a report.
-use Rattle.std.specs.Prelude.{◌≡◌, ◌≤◌, ◌<◌, ◌⊎◌, ℕ, List, [], ◌++◌, length, codes}
+use Rattle.std.specs.Prelude.{◌≡◌, ◌≤◌, ◌<◌, ◌⊎◌, ℕ, List, ◌++◌, length, codes}
 use Rattle.lra_tree.specs.Report.{Place, Report}
 use Rattle.lra_tree.specs.ReportText.{text_line, place_text, report_text, unknown_count}
 use Rattle.lra_top.specs.FirstForm.{Form, IsSource, place_after, first_place}

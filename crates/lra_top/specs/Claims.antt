@@ -1,5 +1,5 @@
 -- What the report of a source of the first form has and claims.
-use Rattle.std.specs.Prelude.{◌≡◌, ℕ, ◌+◌, ℤ, pos, ◌<ℤ◌, List, [], ◌∷◌, Bool, true, false, codes, Option, None}
+use Rattle.std.specs.Prelude.{◌≡◌, ℕ, ◌+◌, ℤ, pos, ◌<ℤ◌, List, [], ◌∷◌, true, false, codes, None}
 use Rattle.lra_tree.specs.Run.{Point}
 use Rattle.lra_tree.specs.Report.{Place, box, Options, State, PointReport, Verdict, Report, Holds, IsSound}
 use Rattle.lra_top.specs.FirstForm.{Simple, Set, Check, Form}

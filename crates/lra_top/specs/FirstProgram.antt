@@ -1,5 +1,5 @@
 -- The program that a source of the first form stands for.
-use Rattle.std.specs.Prelude.{ℕ, ◌+◌, List, [], ◌∷◌, length, Option, None}
+use Rattle.std.specs.Prelude.{ℕ, ◌+◌, List, [], ◌∷◌, length, None}
 use Rattle.lra_tree.specs.Program.{local, at_least, literal, read, compare, value, Declarator, Stmt, assign, assert, BlockItems, no_more, declaration, statement, Program}
 use Rattle.lra_top.specs.FirstForm.{Simple, Set, Check, Form}
 

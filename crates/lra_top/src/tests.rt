@@ -116,8 +116,14 @@ fn other_sources_are_refused(rt: HostRuntime) -> Result<(), Fail> {
     broken.extend_from_slice(b"abc")?;
     let rows: [(&[u8], &str); 6] = [
         (b"", "refused 4 Syntax at 1:1\n"),
-        (b"int main(void){ long x; x = 0; }", "refused 4 Syntax at 1:1\n"),
-        (b"int main(void){ long x; y = 1; }", "refused 4 Syntax at 1:1\n"),
+        (
+            b"int main(void){ long x; x = 0; }",
+            "refused 4 Syntax at 1:1\n",
+        ),
+        (
+            b"int main(void){ long x; y = 1; }",
+            "refused 4 Syntax at 1:1\n",
+        ),
         (&full, "refused 4 Syntax at 1:1\n"),
         (&past, "refused 1 TooLong at 1:65537\n"),
         (&broken, "refused 1 TooLong at 65536:2\n"),
@@ -141,7 +147,13 @@ fn other_words_are_refused(rt: HostRuntime) -> Result<(), Fail> {
         &["lra", "analyse", "--domain", "box", "box"],
     ];
     for words in rows {
-        let ended = ends(&rt, words, PROVED.as_bytes(), (&[1], &[]), "refused usage\n")?;
+        let ended = ends(
+            &rt,
+            words,
+            PROVED.as_bytes(),
+            (&[1], &[]),
+            "refused usage\n",
+        )?;
         assert_eq!(rt; ended, (Status::Usage, true), "{}", words.len());
     }
     Ok(())

@@ -1,4 +1,4 @@
-use Rattle.std.proofs.Common.{◌≡◌, ◌++◌, ◌∷◌, [], OnOk, string_bytes, append_assoc}
+use Rattle.std.proofs.Common.{append_assoc}
 use Rattle.lra_top.proofs.report.push_options.Goals as goal
 
 pub returns : goal.returns
