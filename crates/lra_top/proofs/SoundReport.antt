@@ -1,5 +1,5 @@
 -- The report of a source has the source's points and verdicts, and is sound.
-use Rattle.std.proofs.Common.{◌+◌, ℕ, List, [], ◌∷◌, ◌++◌, map, refl, inl}
+use Rattle.std.proofs.Common.{◌≡◌, ◌+◌, ℕ, List, [], ◌∷◌, ◌++◌, map, refl, inl, ap}
 use Rattle.std.specs.Prelude.{string_bytes}
 use Rattle.std.specs.List.{AllByRecursion}
 use Rattle.lra_tree.specs.Report.{PointReport, IsInvariant, IsRight, IsSound}
@@ -11,7 +11,7 @@ use Rattle.lra_top.specs.declared.tree.Place.{Place}
 use Rattle.lra_top.specs.declared.tree.PlacedStatement.{PlacedStatement}
 use Rattle.lra_top.specs.declared.tree.SourceTree.{SourceTree}
 use Rattle.lra_top.specs.declared.analysis.VerdictEntry.{VerdictEntry}
-use Rattle.lra_top.specs.Interval.{unbounded, after}
+use Rattle.lra_top.specs.Interval.{unbounded, after, printed, states_from}
 use Rattle.lra_top.specs.Analysis.{entries_from, verdicts_from, with_verdict}
 use Rattle.lra_top.specs.Views.{place_of, simple_of, simples_of, statement_places, form_of, places_of}
 use Rattle.lra_top.specs.Shown.{point_of, verdict_of, tree_report}
@@ -71,6 +71,11 @@ module _ (name : List ℕ) (all : List Simple) where
   are_verdicts shown k v (s ∷ rest) end t =
       with_verdict_is shown k v s.place (simple_of s.statement) (simples_of rest) _ _ t (are_verdicts shown (k + 1) (after v (simple_of s.statement)) rest end (further t))
 
+states_shown : (shown : List ℕ) (k : ℕ) (v : State) (rest : List PlacedStatement) (end : Place)
+    → map (λ p. p.state) (map (point_of shown) (entries_from k v rest end)) ≡ map printed (states_from v (simples_of rest))
+states_shown shown k v [] end = refl
+states_shown shown k v (s ∷ rest) end = ap (λ l. printed v ∷ l) (states_shown shown (k + 1) (after v (simple_of s.statement)) rest end)
+
 pub sound_report : (t : SourceTree) → IsSound (program_of (form_of t)) (tree_report t)
 sound_report t = record {
   invariants = (λ store at. inl tt, points_hold (string_bytes t.name) (simples_of t.statements.items) (string_bytes t.name) 2 unbounded t.statements.items t.end first);
@@ -82,6 +87,7 @@ reports t = record {
   options = refl;
   unflagged = refl;
   points = (record { has_number = refl; has_point = refl; has_path = refl; has_place = refl; has_names = refl }, are_points (string_bytes t.name) (simples_of t.statements.items) (string_bytes t.name) 2 unbounded t.statements.items t.end);
+  states = ap (λ l. (record { rows = []; generators = [] } ∷ []) ∷ l) (states_shown (string_bytes t.name) 2 unbounded t.statements.items t.end);
   verdicts = are_verdicts (string_bytes t.name) (simples_of t.statements.items) (string_bytes t.name) 2 unbounded t.statements.items t.end first;
   sound = sound_report t;
 }

@@ -1,9 +1,10 @@
 -- What the report of a source of the first form has and claims.
-use Rattle.std.specs.Prelude.{◌≡◌, ℕ, ◌+◌, ℤ, pos, ◌<ℤ◌, List, [], ◌∷◌, true, false, codes, None}
+use Rattle.std.specs.Prelude.{◌≡◌, ℕ, ◌+◌, ℤ, pos, ◌<ℤ◌, List, [], ◌∷◌, map, true, false, codes, None}
 use Rattle.lra_tree.specs.Run.{Point}
 use Rattle.lra_tree.specs.Report.{Place, box, Options, State, PointReport, Verdict, Report, Holds, IsSound}
 use Rattle.lra_top.specs.FirstForm.{Simple, Set, Check, Form}
 use Rattle.lra_top.specs.FirstProgram.{program_of}
+use Rattle.lra_top.specs.Interval.{unbounded, printed, states_from}
 
 abbrev pub box_with : ℕ → ℕ → ℕ → Options
 box_with parts delay narrow = record { domain = box; parts = parts; delay = delay; narrow = narrow; limited = false }
@@ -68,10 +69,16 @@ statement_points (p ∷ ps) = ps
 
 -- the report -----------------------------------------------------------------------
 
--- a report of the source: what stands in it, and that it is sound for the source's program
+-- before the declarator there is no variable, and behind it any value; the bounds follow the statements
+-- (intervals of Cousot and Cousot, 1976)
+abbrev pub states_of : List Simple → List State
+states_of statements = (record { rows = []; generators = [] } ∷ []) ∷ map printed (states_from unbounded statements)
+
+-- the report of the source: what stands in it, and that it is sound for the source's program
 pub record IsReportOf (f : Form) (places : List Place) (r : Report) : Type 0 where
   pub options : r.options ≡ box_options
   pub unflagged : r.flagged ≡ None
   pub points : ArePointsOf f.name places r.points
+  pub states : map (λ p. p.state) r.points ≡ states_of f.statements
   pub verdicts : AreVerdicts f.statements (statement_points r.points) r.verdicts
   pub sound : IsSound (program_of f) r

@@ -76,3 +76,8 @@ part_of i = record { rows = rows_of i.low i.high; generators = [] }
 abbrev pub printed : State → report.State
 printed Unreachable = []
 printed (Within i) = part_of i ∷ []
+
+-- the states before each statement and at the end, the first being this one
+abbrev pub states_from : State → List Simple → List State
+states_from state [] = state ∷ []
+states_from state (s ∷ rest) = state ∷ states_from (after state s) rest
