@@ -1,14 +1,35 @@
 -- The text of a report, of a refusal, and of words that aren't taken. Every line ends with a line feed.
-use Rattle.std.specs.Prelude.{ℕ, zero, suc, ℤ, pos, negsuc, ◌-ℤ◌, List, [], ◌∷◌, ◌++◌, map, Bool, true, false, not, codes, if◌then◌else◌, nat_eq, count_by, Option, Some, None}
+use Rattle.std.specs.Prelude.{ℕ, zero, suc, ◌/◌, ◌%◌, ℤ, pos, negsuc, ◌-ℤ◌, nat_abs, List, [], ◌∷◌, ◌++◌, map, Bool, true, false, not, codes, if◌then◌else◌, nat_eq, count_by, bytes_eq, int_div, Option, Some, None}
 use Rattle.std.specs.List.{flat_map}
 use Rattle.std.specs.Fmt.{decimal, signed_decimal}
-use Rattle.lra_tree.specs.Report.{Place, Domain, poly, box, oct, Options, RowKind, equality, inequality, Row, Part, State, PointReport, Verdict, Report}
+use Rattle.lra_tree.specs.Report.{Place, Domain, poly, box, oct, Options, RowKind, equality, inequality, Row, GeneratorKind, point, ray, line, Generator, Part, State, PointReport, Verdict, Report}
 
 abbrev pub text_line : List ℕ → List ℕ
 text_line bytes = bytes ++ 10 ∷ []
 
 abbrev pub place_text : Place → List ℕ
 place_text p = decimal p.line ++ codes ":" ++ decimal p.column
+
+-- names ------------------------------------------------------------------------------------------------------------
+
+-- a variable that k newer ones of its name hide is written NAME~k
+abbrev pub shown_name : ℕ → List ℕ → List ℕ
+shown_name zero name = name
+shown_name (suc k) name = name ++ codes "~" ++ decimal (suc k)
+
+-- of the live variables, oldest first
+abbrev pub shown_names : List (List ℕ) → List (List ℕ)
+shown_names [] = []
+shown_names (name ∷ newer) = shown_name (count_by (bytes_eq name) newer) name ∷ shown_names newer
+
+-- a call on the way to a point: the called name and its place
+pub record CallPlace : Type 0 where
+  pub name : List ℕ
+  pub place : Place
+
+-- the calls that lead to a point, main's first
+abbrev pub path_text : List CallPlace → List ℕ
+path_text calls = codes "main" ++ flat_map (λ c. codes "/" ++ c.name ++ codes "@" ++ place_text c.place) calls
 
 -- rows: the terms in column order, turned so that the first is above 0, then the relation and the constant ----------
 
@@ -55,14 +76,54 @@ row_text names r =
     let b = is_turned r.coefficients in
     form_text (map (turned b) r.coefficients) names ++ relation_text r.kind b ++ signed_decimal (turned (not b) r.constant)
 
+-- generators: the kind, then NAME=VALUE for each variable ---------------------------------------------------------
+
+-- the greatest number up to k that divides both
+abbrev pub greatest_divisor : ℕ → ℕ → ℕ → ℕ
+greatest_divisor zero m n = 1
+greatest_divisor (suc k) m n = if nat_eq (m % suc k) 0 then (if nat_eq (n % suc k) 0 then suc k else greatest_divisor k m n) else greatest_divisor k m n
+
+abbrev pub fraction_text : ℤ → ℕ → List ℕ
+fraction_text numerator divisor = if nat_eq divisor 1 then signed_decimal numerator else signed_decimal numerator ++ codes "/" ++ decimal divisor
+
+-- the coordinate in lowest terms, and without the divisor where it is 1
+abbrev pub coordinate_text : ℤ → ℕ → List ℕ
+coordinate_text z divisor =
+    let g = greatest_divisor divisor (nat_abs z) divisor in
+    fraction_text (int_div z (pos g)) (divisor / g)
+
+-- a ray's and a line's numbers are whole
+abbrev pub value_text : GeneratorKind → ℕ → ℤ → List ℕ
+value_text point divisor z = coordinate_text z divisor
+value_text ray divisor z = signed_decimal z
+value_text line divisor z = signed_decimal z
+
+abbrev pub values_text : (ℤ → List ℕ) → List (List ℕ) → List ℤ → List ℕ
+values_text text [] zs = []
+values_text text (name ∷ names) [] = []
+values_text text (name ∷ names) (z ∷ zs) = codes " " ++ name ++ codes "=" ++ text z ++ values_text text names zs
+
+abbrev pub generator_kind_text : GeneratorKind → List ℕ
+generator_kind_text point = codes "point"
+generator_kind_text ray = codes "ray"
+generator_kind_text line = codes "line"
+
+abbrev pub generator_text : List (List ℕ) → Generator → List ℕ
+generator_text names g = generator_kind_text g.kind ++ values_text (value_text g.kind g.divisor) names g.numbers
+
 -- states -----------------------------------------------------------------------------------------------------------
 
 abbrev pub rows_text : List (List ℕ) → List Row → List ℕ
 rows_text names [] = text_line (codes "  row true")
 rows_text names (r ∷ rs) = flat_map (λ row. text_line (codes "  row " ++ row_text names row)) (r ∷ rs)
 
+-- generators follow the rows, where there are some
+abbrev pub generators_text : List (List ℕ) → List Generator → List ℕ → List ℕ
+generators_text names [] rows = rows
+generators_text names (g ∷ gs) rows = rows ++ flat_map (λ h. text_line (codes "  gen " ++ generator_text names h)) (g ∷ gs)
+
 abbrev pub part_text : List (List ℕ) → Part → List ℕ
-part_text names part = rows_text names part.rows
+part_text names part = generators_text names part.generators (rows_text names part.rows)
 
 abbrev pub further_parts_text : List (List ℕ) → List Part → List ℕ
 further_parts_text names [] = []
