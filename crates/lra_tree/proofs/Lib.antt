@@ -2,3 +2,6 @@
 mod ValueExamples
 mod RunExamples
 mod ReportTextExamples
+-- Tests by which the examples find longest spellings, and the examples.
+mod LongestByTest
+mod TokenExamples

@@ -1,8 +1,13 @@
 -- In the order in which they are to be read.
+-- What a program does.
 pub mod Program
 pub mod Value
 pub mod Step
 pub mod Run
+-- What a report says.
 pub mod Report
 pub mod ReportText
 pub mod ReportJson
+-- What a source is.
+pub mod Lexeme
+pub mod Tokens

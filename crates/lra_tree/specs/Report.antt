@@ -1,13 +1,10 @@
 -- A report: what it has, and what it claims of a program.
 use Rattle.std.specs.Prelude.{◌≡◌, ◌⊎◌, ℕ, ℤ, pos, List, [], ◌∷◌, Bool, Option, IsTrue, ◌+ℤ◌, ◌*ℤ◌, ◌≤ℤ◌}
 use Rattle.std.specs.List.{AllByRecursion}
+-- a line and a byte in it, both from 1
+pub use Rattle.lra_tree.specs.declared.refusals.Place.{Place}
 use Rattle.lra_tree.specs.Program.{Program}
 use Rattle.lra_tree.specs.Run.{Point, At, Fails}
-
--- a line and a byte in it, both from 1; a line feed ends a line
-pub record Place : Type 0 where
-  pub line : ℕ
-  pub column : ℕ
 
 -- which domain the analysis ran over: closed polyhedra, boxes, octagons
 pub data Domain : Type 0 where

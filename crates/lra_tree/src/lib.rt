@@ -1,4 +1,11 @@
 //! What a program of the analysed language is and does, and what a report says of it.
 //!
-//! The crate holds definitions: `specs/` is to be read from top to bottom, in the order of `specs/Lib.antt`.
+//! Most of the crate is definitions: `specs/` is to be read from top to bottom, in the order of `specs/Lib.antt`.
+//! The types of tokens, trees and refusals are those of the front end's calls.
 #![tactic(auto)]
+
+mod refusals;
+mod tokens;
+
+pub use refusals::{Cause, Place, Refusal};
+pub use tokens::{Kind, Mark, Token, Word};

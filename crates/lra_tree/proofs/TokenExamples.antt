@@ -1,0 +1,199 @@
+-- Sources and their tokens. Which slip an example would catch stands beside it.
+use Rattle.std.proofs.Common.{◌≡◌, ℕ, true, List, [], ◌∷◌, ◌++◌, refl, arith, inl, inr, subst, ap, get_or}
+use Rattle.std.specs.Prelude.{codes}
+use Rattle.std.specs.List.{list_all}
+use Rattle.lra_tree.specs.declared.refusals.Place.{Place}
+use Rattle.lra_tree.specs.declared.refusals.Cause.TheVariants.{BadByte, BadLiteral}
+use Rattle.lra_tree.specs.declared.tokens.Kind.{Kind}
+use Rattle.lra_tree.specs.declared.tokens.Kind.TheVariants.{Name, Number, Mark, Reserved, End}
+use Rattle.lra_tree.specs.declared.tokens.Mark.TheVariants as mark
+use Rattle.lra_tree.specs.declared.tokens.Token.{Token}
+use Rattle.lra_tree.specs.Lexeme.{octal, decimal_base, hexadecimal, IsLiteral, Base, IsFront, is_digit_of, is_between, is_among, suffixes, word, number_word, mark_word, name, number, mark_of, reserved}
+use Rattle.lra_tree.specs.Tokens.{place_behind, blank, line_comment, block_comment, skipped_line, gap, token, Lex, IsTokenFault}
+use Rattle.lra_tree.proofs.LongestByTest.{no_gap, longest_by, as_token, is_open, no_lexeme}
+
+abbrev at : ℕ → ℕ → Place
+at l c = record { line = l; column = c }
+
+abbrev token_at : Kind → ℕ → ℕ → Token
+token_at k l c = record { kind = k; place = at l c }
+
+-- literals ---------------------------------------------------------------------------------------------------------
+
+-- catches octal digits that are read as decimal ones
+octal_literal : IsLiteral (codes "017") 15
+octal_literal = record { base = octal; front = codes "0"; digits = codes "17"; suffix = []; parts = refl; begins = refl; all_digits = refl; is_suffix = refl; number = refl }
+
+zero_literal : IsLiteral (codes "0L") 0
+zero_literal = record { base = octal; front = codes "0"; digits = []; suffix = codes "L"; parts = refl; begins = refl; all_digits = refl; is_suffix = refl; number = refl }
+
+hexadecimal_literal : IsLiteral (codes "0xFfll") 255
+hexadecimal_literal = record { base = hexadecimal; front = codes "0x"; digits = codes "Ff"; suffix = codes "ll"; parts = refl; begins = (inl refl, λ e. cc); all_digits = refl; is_suffix = refl; number = refl }
+
+greatest_literal_is : IsLiteral (codes "9223372036854775807") 9223372036854775807
+greatest_literal_is = record { base = decimal_base; front = []; digits = codes "9223372036854775807"; suffix = []; parts = refl; begins = (57, codes "223372036854775807", refl, refl, refl); all_digits = refl; is_suffix = refl; number = refl }
+
+-- places -----------------------------------------------------------------------------------------------------------
+
+-- a line feed ends a line, and belongs to it: catches columns from 0
+places : (place_behind [] ≡ at 1 1) × (place_behind (codes "ab") ≡ at 1 3) × (place_behind (codes "ab" ++ 10 ∷ []) ≡ at 2 1) × (place_behind (codes "ab" ++ 10 ∷ codes "c") ≡ at 2 2)
+places = (refl, refl, refl, refl)
+
+-- whole sources ----------------------------------------------------------------------------------------------------
+
+-- #include <assert.h>
+-- x+=0x1f/* c */;
+-- catches `+` and `=` for `+=`, an `#include` line that isn't skipped, and a comment that is read
+abbrev include_line : List ℕ
+include_line = codes "#include <assert.h>"
+
+abbrev short_source : List ℕ
+short_source = include_line ++ (10 ∷ codes "x+=0x1f/* c */;")
+
+short_tokens : Lex short_source (token_at (Name (codes "x")) 2 1 ∷ token_at (Mark mark.PlusAssign) 2 2 ∷ token_at (Number 31) 2 4 ∷ token_at (Mark mark.Semicolon) 2 15 ∷ token_at End 2 16 ∷ [])
+short_tokens = (
+  gap include_line ∷ gap (10 ∷ []) ∷ token (codes "x") (token_at (Name (codes "x")) 2 1) ∷ token (codes "+=") (token_at (Mark mark.PlusAssign) 2 2)
+      ∷ token (codes "0x1f") (token_at (Number 31) 2 4) ∷ gap (codes "/* c */") ∷ token (codes ";") (token_at (Mark mark.Semicolon) 2 15) ∷ [],
+  refl,
+  (
+    skipped_line [] (codes " <assert.h>") refl (record { lines = []; blanks = []; parts = refl; whole_lines = inl refl; only_blanks = refl }) refl refl refl refl,
+    (
+      blank 10 refl refl,
+      (
+        as_token (include_line ++ 10 ∷ []) (codes "x") (codes "+=0x1f/* c */;") (Name (codes "x")) (word refl) (name refl refl refl) refl refl refl,
+        (
+          as_token (include_line ++ (10 ∷ codes "x")) (codes "+=") (codes "0x1f/* c */;") (Mark mark.PlusAssign) (mark_word mark.PlusAssign refl) (mark_of mark.PlusAssign refl) refl refl refl,
+          (
+            as_token (include_line ++ (10 ∷ codes "x+=")) (codes "0x1f") (codes "/* c */;") (Number 31) (number_word refl)
+                (number 31 refl (record { base = hexadecimal; front = codes "0x"; digits = codes "1f"; suffix = []; parts = refl; begins = (inl refl, λ e. cc); all_digits = refl; is_suffix = refl; number = refl }) (omega arith)) refl refl refl,
+            (
+              block_comment (codes " c ") refl (is_open (codes " c *") refl),
+              (
+                as_token (include_line ++ (10 ∷ codes "x+=0x1f/* c */")) (codes ";") [] (Mark mark.Semicolon) (mark_word mark.Semicolon refl) (mark_of mark.Semicolon refl) refl refl refl,
+                tt,
+              ),
+            ),
+          ),
+        ),
+      ),
+    ),
+  ),
+  refl,
+)
+
+-- + ++
+-- catches the shortest spelling: `+++` is `++` and `+`
+plus_tokens : Lex (codes "+++") (token_at (Mark mark.Increment) 1 1 ∷ token_at (Mark mark.Plus) 1 3 ∷ token_at End 1 4 ∷ [])
+plus_tokens = (
+  token (codes "++") (token_at (Mark mark.Increment) 1 1) ∷ token (codes "+") (token_at (Mark mark.Plus) 1 3) ∷ [],
+  refl,
+  (
+    as_token [] (codes "++") (codes "+") (Mark mark.Increment) (mark_word mark.Increment refl) (mark_of mark.Increment refl) refl refl refl,
+    (
+      as_token (codes "++") (codes "+") [] (Mark mark.Plus) (mark_word mark.Plus refl) (mark_of mark.Plus refl) refl refl refl,
+      tt,
+    ),
+  ),
+  refl,
+)
+
+-- long longer // long
+-- catches a reserved word that ends a name, and a comment that needs a line feed
+word_tokens : Lex (codes "long longer// x") (token_at (Mark mark.Long) 1 1 ∷ token_at (Name (codes "longer")) 1 6 ∷ token_at End 1 16 ∷ [])
+word_tokens = (
+  token (codes "long") (token_at (Mark mark.Long) 1 1) ∷ gap (codes " ") ∷ token (codes "longer") (token_at (Name (codes "longer")) 1 6) ∷ gap (codes "// x") ∷ [],
+  refl,
+  (
+    as_token [] (codes "long") (codes " longer// x") (Mark mark.Long) (word refl) (mark_of mark.Long refl) refl refl refl,
+    (
+      blank 32 refl refl,
+      (
+        as_token (codes "long ") (codes "longer") (codes "// x") (Name (codes "longer")) (word refl) (name refl refl refl) refl refl refl,
+        (
+          line_comment (codes " x") refl refl tt,
+          tt,
+        ),
+      ),
+    ),
+  ),
+  refl,
+)
+
+-- a keyword that the grammar doesn't name
+reserved_word : Lex (codes "do") (token_at Reserved 1 1 ∷ token_at End 1 3 ∷ [])
+reserved_word = (
+  token (codes "do") (token_at Reserved 1 1) ∷ [],
+  refl,
+  (
+    as_token [] (codes "do") [] Reserved (word refl) (reserved refl) refl refl refl,
+    tt,
+  ),
+  refl,
+)
+
+-- faults -----------------------------------------------------------------------------------------------------------
+
+-- catches a fault at the token before
+bad_byte : IsTokenFault (codes "{ $ }") BadByte (at 1 3)
+bad_byte = (
+  token (codes "{") (token_at (Mark mark.OpenBrace) 1 1) ∷ gap (codes " ") ∷ [],
+  codes "$ }",
+  refl,
+  (
+    as_token [] (codes "{") (codes " $ }") (Mark mark.OpenBrace) (mark_word mark.OpenBrace refl) (mark_of mark.OpenBrace refl) refl refl refl,
+    (
+      blank 32 refl refl,
+      tt,
+    ),
+  ),
+  (λ e. cc, no_gap (codes "{ ") (codes "$ }") refl, no_lexeme (codes "$ }") refl refl),
+  refl,
+)
+
+-- an octal literal has no digit 8
+no_octal : (base : Base) (front digits suffix : List ℕ) → codes "08" ≡ (front ++ digits) ++ suffix → IsFront base front digits → list_all (is_digit_of base) digits ≡ true → is_among suffix suffixes ≡ true → ⊥
+no_octal octal front [] suffix e b d s =
+    let f : codes "08" ≡ 48 ∷ suffix = subst (λ (z : List ℕ). codes "08" ≡ (z ++ []) ++ suffix) b e in
+    let g : suffix ≡ 56 ∷ [] = cc in
+    let h : is_among (56 ∷ []) suffixes ≡ true = subst (λ (z : List ℕ). is_among z suffixes ≡ true) g s in
+    cc
+no_octal octal front (c ∷ digits) suffix e b d s =
+    let f : codes "08" ≡ 48 ∷ c ∷ digits ++ suffix = subst (λ (z : List ℕ). codes "08" ≡ (z ++ c ∷ digits) ++ suffix) b e in
+    let g : c ≡ 56 = cc in
+    let h : list_all (is_digit_of octal) (56 ∷ digits) ≡ true = subst (λ (z : ℕ). list_all (is_digit_of octal) (z ∷ digits) ≡ true) g d in
+    cc
+no_octal decimal_base front digits suffix e (c, cs, b, f, p) d s =
+    let g : codes "08" ≡ c ∷ cs ++ suffix = subst (λ (z : List ℕ). codes "08" ≡ ([] ++ z) ++ suffix) f (subst (λ (z : List ℕ). codes "08" ≡ (z ++ digits) ++ suffix) b e) in
+    let h : c ≡ 48 = cc in
+    let k : is_between 49 57 48 ≡ true = subst (λ (z : ℕ). is_between 49 57 z ≡ true) h p in
+    cc
+no_octal hexadecimal front digits suffix e (inl b, h) d s =
+    let f : codes "08" ≡ 48 ∷ 120 ∷ digits ++ suffix = subst (λ (z : List ℕ). codes "08" ≡ (z ++ digits) ++ suffix) b e in
+    let g : 56 ≡ 120 = ap (λ (z : List ℕ). get_or z 1 0) f in
+    omega (arith, g)
+no_octal hexadecimal front digits suffix e (inr b, h) d s =
+    let f : codes "08" ≡ 48 ∷ 88 ∷ digits ++ suffix = subst (λ (z : List ℕ). codes "08" ≡ (z ++ digits) ++ suffix) b e in
+    let g : 56 ≡ 88 = ap (λ (z : List ℕ). get_or z 1 0) f in
+    omega (arith, g)
+
+bad_octal : IsTokenFault (codes "x=08;") BadLiteral (at 1 3)
+bad_octal = (
+  token (codes "x") (token_at (Name (codes "x")) 1 1) ∷ token (codes "=") (token_at (Mark mark.Assign) 1 2) ∷ [],
+  codes "08;",
+  refl,
+  (
+    as_token [] (codes "x") (codes "=08;") (Name (codes "x")) (word refl) (name refl refl refl) refl refl refl,
+    (
+      as_token (codes "x") (codes "=") (codes "08;") (Mark mark.Assign) (mark_word mark.Assign refl) (mark_of mark.Assign refl) refl refl refl,
+      tt,
+    ),
+  ),
+  (
+    no_gap (codes "x=") (codes "08;") refl,
+    codes "08",
+    longest_by (codes "08") (codes ";") (number_word refl) refl refl,
+    refl,
+    λ n l k. no_octal l.base l.front l.digits l.suffix l.parts l.begins l.all_digits l.is_suffix,
+  ),
+  refl,
+)

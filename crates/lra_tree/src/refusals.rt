@@ -1,0 +1,46 @@
+//! Places in a source, and the causes for which a source is refused.
+
+/// A line and a byte in it, both from 1; a line feed ends a line.
+#[derive(Clone, Copy, PartialEq, Eq, Debug)]
+pub struct Place {
+    pub line: u32,
+    pub column: u32,
+}
+
+/// Why a source is refused.
+#[derive(Clone, Copy, PartialEq, Eq, Debug)]
+pub enum Cause {
+    /// The source has more than 65,536 bytes.
+    TooLong,
+    /// A byte begins no token.
+    BadByte,
+    /// A word that begins with a digit is no literal, or is over 2^63 - 1.
+    BadLiteral,
+    /// No source begins with the tokens up to this one.
+    Syntax,
+    /// The 65th level of nesting.
+    TooDeep,
+    /// No function `main` without parameters.
+    NoMain,
+    /// No variable, or for a call no function, of the name is in scope.
+    UnknownName,
+    /// Declared twice in one scope.
+    DuplicateName,
+    /// Another number of arguments; a result that a function doesn't have is used or given.
+    BadCall,
+    /// `break` or `continue` outside a loop.
+    Misplaced,
+    /// A call by which a function reaches itself.
+    Recursive,
+    /// More than 24 variables live at a point.
+    TooManyVariables,
+    /// Point 2,049, or a call path of 33 calls.
+    TooManyPoints,
+}
+
+/// The first fault of a source, and where it is.
+#[derive(Clone, Copy, PartialEq, Eq, Debug)]
+pub struct Refusal {
+    pub cause: Cause,
+    pub place: Place,
+}

@@ -1,0 +1,141 @@
+//! Tokens, each with the place of its first byte.
+
+ghost use Rattle.std.specs.Prelude.{◌≡◌, IfOk};
+
+use crate::refusals::Place;
+use std::alloc::{AllocError, Global};
+use std::marker::Model;
+
+/// An operator, or a reserved word that the grammar names.
+#[derive(Clone, Copy, PartialEq, Eq, Debug)]
+pub enum Mark {
+    /// `+`
+    Plus,
+    /// `-`
+    Minus,
+    /// `*`
+    Star,
+    /// `/`
+    Slash,
+    /// `%`
+    Percent,
+    /// `=`
+    Assign,
+    /// `==`
+    Equal,
+    /// `!=`
+    Differs,
+    /// `<`
+    Less,
+    /// `<=`
+    AtMost,
+    /// `>`
+    Greater,
+    /// `>=`
+    AtLeast,
+    /// `&&`
+    And,
+    /// `||`
+    Or,
+    /// `!`
+    Not,
+    /// `++`
+    Increment,
+    /// `--`
+    Decrement,
+    /// `+=`
+    PlusAssign,
+    /// `-=`
+    MinusAssign,
+    /// `*=`
+    StarAssign,
+    /// `/=`
+    SlashAssign,
+    /// `%=`
+    PercentAssign,
+    /// `(`
+    OpenParen,
+    /// `)`
+    CloseParen,
+    /// `{`
+    OpenBrace,
+    /// `}`
+    CloseBrace,
+    /// `;`
+    Semicolon,
+    /// `,`
+    Comma,
+    Assert,
+    Assume,
+    Input,
+    Break,
+    Continue,
+    Else,
+    Extern,
+    For,
+    If,
+    Int,
+    Long,
+    Return,
+    Void,
+    While,
+}
+
+/// The bytes of a name.
+#[derive(Drop)]
+pub struct Word {
+    bytes: Vec<u8>,
+}
+
+impl Model for Word {
+    ghost use Rattle.std.specs.Prelude.{ℕ, List};
+
+    ghost Value = { List ℕ };
+
+    ghost view = { λ w. w.bytes.items };
+}
+
+/// What a token is.
+#[derive(Drop)]
+pub enum Kind {
+    Name(Word),
+    /// A literal's value, at most 2^63 - 1.
+    Number(u64),
+    Mark(Mark),
+    /// A reserved word that the grammar doesn't name.
+    Reserved,
+    /// A comment that isn't closed.
+    Unclosed,
+    /// The end of the source.
+    End,
+}
+
+#[derive(Drop)]
+pub struct Token {
+    pub kind: Kind,
+    pub place: Place,
+}
+
+impl Word {
+    /// A copy of the bytes.
+    pub fn from_slice(alloc: Global, bytes: &[u8]) -> Result<Word, AllocError>
+        ensures { IfOk result (λ w. w ≡ bytes.now) }
+    {
+        let mut all = Vec::new(alloc);
+        all.extend_from_slice(bytes)?;
+        Ok(Word { bytes: all })
+    }
+
+    pub fn copy(&self, alloc: Global) -> Result<Word, AllocError>
+        ensures { IfOk result (λ w. w ≡ self.now) }
+    {
+        Word::from_slice(alloc, &self.bytes)
+    }
+
+    /// The bytes as a slice.
+    pub fn as_slice(&self) -> &[u8]
+        ensures { result.now ≡ self.now }
+    {
+        &self.bytes
+    }
+}
