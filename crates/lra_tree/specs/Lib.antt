@@ -11,3 +11,5 @@ pub mod ReportJson
 -- What a source is.
 pub mod Lexeme
 pub mod Tokens
+pub mod Trees
+pub mod Views

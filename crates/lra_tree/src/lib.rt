@@ -6,6 +6,13 @@
 
 mod refusals;
 mod tokens;
+mod trees;
 
 pub use refusals::{Cause, Place, Refusal};
 pub use tokens::{Kind, Mark, Token, Word};
+pub use trees::{
+    Arguments, Assign, Block, BlockItem, Call, Comparison, Cond, Conjunction, Declaration,
+    Declarator, Expr, Factor, FactorOperator, Function, Global, Globals, Identifier, Init, Item,
+    Negation, Operator, Parameters, Source, Step, Stmt, SumOperator, Summand, Term, Test, Tree,
+    Unary,
+};

@@ -1,0 +1,134 @@
+-- Trees of sources, apart from where they lie in memory. A chain of operators nests to the left; a list is in text order.
+use Rattle.std.specs.Prelude.{ℕ, ℤ, List, Bool, Option}
+use Rattle.lra_tree.specs.declared.refusals.Place.{Place}
+use Rattle.lra_tree.specs.declared.trees.Identifier.{Identifier}
+use Rattle.lra_tree.specs.Program.{Operator, Comparison}
+
+-- expressions (ISO/IEC 9899:2011, 6.5.1, 6.5.3, 6.5.5, 6.5.6)
+mutual
+  pub data UnaryTree : Type 0 where
+    negated : UnaryTree → UnaryTree
+    positive : UnaryTree → UnaryTree
+    literal : ℕ → UnaryTree
+    variable : Identifier → UnaryTree
+    input : UnaryTree
+    group : ExprTree → UnaryTree
+
+  pub data TermTree : Type 0 where
+    unary : UnaryTree → TermTree
+    times : TermTree → UnaryTree → TermTree
+    over : TermTree → UnaryTree → TermTree
+    modulo : TermTree → UnaryTree → TermTree
+
+  pub data ExprTree : Type 0 where
+    term : TermTree → ExprTree
+    plus : ExprTree → TermTree → ExprTree
+    minus : ExprTree → TermTree → ExprTree
+
+-- conditions (6.5.3.3, 6.5.8, 6.5.9, 6.5.13, 6.5.14): `&&` and `||` stand only here
+mutual
+  -- what `!` stands before
+  pub data NegationTree : Type 0 where
+    opposite_again : NegationTree → NegationTree
+    value_of_unary : UnaryTree → NegationTree
+    group_opposed : CondTree → NegationTree
+
+  pub data TestTree : Type 0 where
+    opposite : NegationTree → TestTree
+    value : ExprTree → TestTree
+    compare : ExprTree → Comparison → ExprTree → TestTree
+    group_of : CondTree → TestTree
+
+  pub data ConjunctionTree : Type 0 where
+    test : TestTree → ConjunctionTree
+    and : ConjunctionTree → TestTree → ConjunctionTree
+
+  pub data CondTree : Type 0 where
+    conjunction : ConjunctionTree → CondTree
+    or : CondTree → ConjunctionTree → CondTree
+
+pub record CallTree : Type 0 where
+  pub name : Identifier
+  pub arguments : List ExprTree
+
+-- what a variable gets, or a `return` gives
+pub data SourceTree : Type 0 where
+  expression : ExprTree → SourceTree
+  result : CallTree → SourceTree
+
+pub data StepTree : Type 0 where
+  increment : StepTree
+  decrement : StepTree
+
+-- assignments (6.5.2.4, 6.5.3.1, 6.5.16)
+pub data AssignTree : Type 0 where
+  set : Identifier → SourceTree → AssignTree
+  update : Identifier → Operator → ExprTree → AssignTree
+  after : Identifier → StepTree → AssignTree
+  -- with the place of `++` or `--`
+  before : Place → StepTree → Identifier → AssignTree
+
+pub record DeclaratorTree : Type 0 where
+  pub name : Identifier
+  pub source : Option SourceTree
+
+-- one declarator at least
+pub record DeclarationTree : Type 0 where
+  pub first : DeclaratorTree
+  pub rest : List DeclaratorTree
+
+pub data InitTree : Type 0 where
+  no_init : InitTree
+  declared : DeclarationTree → InitTree
+  assigned : AssignTree → InitTree
+
+-- statements (6.8), with the place of the first token where no part has it
+mutual
+  pub data StmtTree : Type 0 where
+    -- its items, and the place of its `}`
+    block : ItemsTree → Place → StmtTree
+    nothing : Place → StmtTree
+    assign : AssignTree → StmtTree
+    call : CallTree → StmtTree
+    if : Place → CondTree → StmtTree → StmtTree
+    if_else : Place → CondTree → StmtTree → StmtTree → StmtTree
+    while : Place → CondTree → StmtTree → StmtTree
+    for : Place → InitTree → Option CondTree → Option AssignTree → StmtTree → StmtTree
+    break : Place → StmtTree
+    continue : Place → StmtTree
+    return : Place → Option SourceTree → StmtTree
+    assert : Place → CondTree → StmtTree
+    assume : Place → CondTree → StmtTree
+
+  pub data ItemsTree : Type 0 where
+    no_items : ItemsTree
+    declaration : DeclarationTree → ItemsTree → ItemsTree
+    statement : StmtTree → ItemsTree → ItemsTree
+
+-- external definitions (6.9)
+pub record FunctionTree : Type 0 where
+  pub has_result : Bool
+  pub name : Identifier
+  pub parameters : List Identifier
+  pub body : ItemsTree
+  -- the place of its `}`
+  pub end : Place
+
+-- a global variable and its signed literal
+pub record GlobalTree : Type 0 where
+  pub name : Identifier
+  pub value : Option ℤ
+
+pub record GlobalsTree : Type 0 where
+  pub first : GlobalTree
+  pub rest : List GlobalTree
+
+pub data PartTree : Type 0 where
+  prototype : PartTree
+  globals : GlobalsTree → PartTree
+  function : FunctionTree → PartTree
+
+-- with the place of the source's end
+pub record FileTree : Type 0 where
+  pub parts : List PartTree
+  pub end : Place

@@ -1,0 +1,239 @@
+-- The tree that a value of the front end's types stands for: one step for each type, over trees of its parts.
+use Rattle.std.specs.Prelude.{List, [], ◌∷◌, map, option_map}
+use Rattle.lra_tree.specs.declared.refusals.Place.{Place}
+use Rattle.lra_tree.specs.declared.trees.Unary.{Unary}
+use Rattle.lra_tree.specs.declared.trees.Unary.TheFolds.{fold-Unary, fold-Expr, fold-Term}
+use Rattle.lra_tree.specs.declared.trees.Unary.TheOpen.{Unary-F, Factor-F, Term-F, Summand-F, Expr-F}
+use Rattle.lra_tree.specs.declared.trees.Term.{Term}
+use Rattle.lra_tree.specs.declared.trees.Expr.{Expr}
+use Rattle.lra_tree.specs.declared.trees.FactorOperator.{FactorOperator}
+use Rattle.lra_tree.specs.declared.trees.FactorOperator.TheVariants as factor
+use Rattle.lra_tree.specs.declared.trees.SumOperator.{SumOperator}
+use Rattle.lra_tree.specs.declared.trees.SumOperator.TheVariants as sum
+use Rattle.lra_tree.specs.declared.trees.Comparison.{Comparison}
+use Rattle.lra_tree.specs.declared.trees.Comparison.TheVariants as comparison
+use Rattle.lra_tree.specs.declared.trees.Operator.{Operator}
+use Rattle.lra_tree.specs.declared.trees.Operator.TheVariants as operator
+use Rattle.lra_tree.specs.declared.trees.Negation.TheFolds.{fold-Negation, fold-Test, fold-Conjunction, fold-Cond}
+use Rattle.lra_tree.specs.declared.trees.Negation.TheOpen.{Negation-F, Test-F, Conjunction-F, Cond-F}
+use Rattle.lra_tree.specs.declared.trees.Negation.{Negation}
+use Rattle.lra_tree.specs.declared.trees.Test.{Test}
+use Rattle.lra_tree.specs.declared.trees.Conjunction.{Conjunction}
+use Rattle.lra_tree.specs.declared.trees.Cond.{Cond}
+use Rattle.lra_tree.specs.declared.trees.Call.{Call}
+use Rattle.lra_tree.specs.declared.trees.Source.{Source}
+use Rattle.lra_tree.specs.declared.trees.Source.TheVariants as source
+use Rattle.lra_tree.specs.declared.trees.Step.{Step}
+use Rattle.lra_tree.specs.declared.trees.Step.TheVariants as step
+use Rattle.lra_tree.specs.declared.trees.Assign.{Assign}
+use Rattle.lra_tree.specs.declared.trees.Assign.TheVariants as assign
+use Rattle.lra_tree.specs.declared.trees.Declarator.{Declarator}
+use Rattle.lra_tree.specs.declared.trees.Declaration.{Declaration}
+use Rattle.lra_tree.specs.declared.trees.Init.{Init}
+use Rattle.lra_tree.specs.declared.trees.Init.TheVariants as init
+use Rattle.lra_tree.specs.declared.trees.BlockItem.TheFolds.{fold-BlockItem, fold-Stmt, fold-Block}
+use Rattle.lra_tree.specs.declared.trees.BlockItem.TheOpen.{BlockItem-F, Stmt-F, Block-F}
+use Rattle.lra_tree.specs.declared.trees.BlockItem.{BlockItem}
+use Rattle.lra_tree.specs.declared.trees.Stmt.{Stmt}
+use Rattle.lra_tree.specs.declared.trees.Block.{Block}
+use Rattle.lra_tree.specs.declared.trees.Function.{Function}
+use Rattle.lra_tree.specs.declared.trees.Global.{Global}
+use Rattle.lra_tree.specs.declared.trees.Globals.{Globals}
+use Rattle.lra_tree.specs.declared.trees.Item.{Item}
+use Rattle.lra_tree.specs.declared.trees.Item.TheVariants as item
+use Rattle.lra_tree.specs.declared.trees.Tree.{Tree}
+use Rattle.lra_tree.specs.Program as program
+use Rattle.lra_tree.specs.Trees as tree
+
+-- expressions ------------------------------------------------------------------------------------------------------
+
+abbrev pub further_factor : tree.TermTree → FactorOperator → tree.UnaryTree → tree.TermTree
+further_factor t factor.Times u = tree.times t u
+further_factor t factor.Over u = tree.over t u
+further_factor t factor.Modulo u = tree.modulo t u
+
+abbrev pub product : tree.TermTree → List (FactorOperator × tree.UnaryTree) → tree.TermTree
+product t [] = t
+product t (f ∷ fs) = product (further_factor t f.0 f.1) fs
+
+abbrev pub further_term : tree.ExprTree → SumOperator → tree.TermTree → tree.ExprTree
+further_term e sum.Plus t = tree.plus e t
+further_term e sum.Minus t = tree.minus e t
+
+abbrev pub sum_of : tree.ExprTree → List (SumOperator × tree.TermTree) → tree.ExprTree
+sum_of e [] = e
+sum_of e (s ∷ ss) = sum_of (further_term e s.0 s.1) ss
+
+abbrev UnaryLayer : Type 0
+UnaryLayer = Unary-F tree.UnaryTree tree.ExprTree (FactorOperator × tree.UnaryTree) (SumOperator × tree.TermTree) tree.TermTree
+
+abbrev pub unary_step : UnaryLayer → tree.UnaryTree
+unary_step (Unary-F.Negated u) = tree.negated u.value
+unary_step (Unary-F.Positive u) = tree.positive u.value
+unary_step (Unary-F.Literal n) = tree.literal n
+unary_step (Unary-F.Variable x) = tree.variable x
+unary_step Unary-F.Input = tree.input
+unary_step (Unary-F.Group e) = tree.group e.value
+
+abbrev pub factor_step : Factor-F tree.UnaryTree tree.ExprTree (FactorOperator × tree.UnaryTree) (SumOperator × tree.TermTree) tree.TermTree → FactorOperator × tree.UnaryTree
+factor_step f = (f.operator, f.unary)
+
+abbrev pub term_step : Term-F tree.UnaryTree tree.ExprTree (FactorOperator × tree.UnaryTree) (SumOperator × tree.TermTree) tree.TermTree → tree.TermTree
+term_step t = product (tree.unary t.first) t.rest.items
+
+abbrev pub summand_step : Summand-F tree.UnaryTree tree.ExprTree (FactorOperator × tree.UnaryTree) (SumOperator × tree.TermTree) tree.TermTree → SumOperator × tree.TermTree
+summand_step s = (s.operator, s.term)
+
+abbrev pub expr_step : Expr-F tree.UnaryTree tree.ExprTree (FactorOperator × tree.UnaryTree) (SumOperator × tree.TermTree) tree.TermTree → tree.ExprTree
+expr_step e = sum_of (tree.term e.first) e.rest.items
+
+abbrev pub unary_view : Unary → tree.UnaryTree
+unary_view = fold-Unary tree.UnaryTree tree.ExprTree (FactorOperator × tree.UnaryTree) (SumOperator × tree.TermTree) tree.TermTree unary_step expr_step factor_step summand_step term_step
+
+abbrev pub term_view : Term → tree.TermTree
+term_view = fold-Term tree.UnaryTree tree.ExprTree (FactorOperator × tree.UnaryTree) (SumOperator × tree.TermTree) tree.TermTree unary_step expr_step factor_step summand_step term_step
+
+abbrev pub expr_view : Expr → tree.ExprTree
+expr_view = fold-Expr tree.UnaryTree tree.ExprTree (FactorOperator × tree.UnaryTree) (SumOperator × tree.TermTree) tree.TermTree unary_step expr_step factor_step summand_step term_step
+
+-- conditions -------------------------------------------------------------------------------------------------------
+
+abbrev pub comparison_view : Comparison → program.Comparison
+comparison_view comparison.Below = program.below
+comparison_view comparison.AtMost = program.at_most
+comparison_view comparison.Above = program.above
+comparison_view comparison.AtLeast = program.at_least
+comparison_view comparison.Equal = program.equal
+comparison_view comparison.Differs = program.differs
+
+abbrev pub all_tests : tree.ConjunctionTree → List tree.TestTree → tree.ConjunctionTree
+all_tests c [] = c
+all_tests c (t ∷ ts) = all_tests (tree.and c t) ts
+
+abbrev pub any_conjunction : tree.CondTree → List tree.ConjunctionTree → tree.CondTree
+any_conjunction c [] = c
+any_conjunction c (a ∷ further) = any_conjunction (tree.or c a) further
+
+abbrev pub negation_step : Negation-F tree.NegationTree tree.TestTree tree.CondTree tree.ConjunctionTree → tree.NegationTree
+negation_step (Negation-F.Again n) = tree.opposite_again n.value
+negation_step (Negation-F.Operand u) = tree.value_of_unary (unary_view u)
+negation_step (Negation-F.Strict c) = tree.group_opposed c.value
+
+abbrev pub test_step : Test-F tree.NegationTree tree.TestTree tree.CondTree tree.ConjunctionTree → tree.TestTree
+test_step (Test-F.Opposite n) = tree.opposite n
+test_step (Test-F.Value e) = tree.value (expr_view e)
+test_step (Test-F.Compare a op b) = tree.compare (expr_view a) (comparison_view op) (expr_view b)
+test_step (Test-F.Group c) = tree.group_of c.value
+
+abbrev pub conjunction_step : Conjunction-F tree.NegationTree tree.TestTree tree.CondTree tree.ConjunctionTree → tree.ConjunctionTree
+conjunction_step c = all_tests (tree.test c.first) c.rest.items
+
+abbrev pub cond_step : Cond-F tree.NegationTree tree.TestTree tree.CondTree tree.ConjunctionTree → tree.CondTree
+cond_step c = any_conjunction (tree.conjunction c.first) c.rest.items
+
+abbrev pub negation_view : Negation → tree.NegationTree
+negation_view = fold-Negation tree.NegationTree tree.TestTree tree.CondTree tree.ConjunctionTree negation_step test_step cond_step conjunction_step
+
+abbrev pub test_view : Test → tree.TestTree
+test_view = fold-Test tree.NegationTree tree.TestTree tree.CondTree tree.ConjunctionTree negation_step test_step cond_step conjunction_step
+
+abbrev pub conjunction_view : Conjunction → tree.ConjunctionTree
+conjunction_view = fold-Conjunction tree.NegationTree tree.TestTree tree.CondTree tree.ConjunctionTree negation_step test_step cond_step conjunction_step
+
+abbrev pub cond_view : Cond → tree.CondTree
+cond_view = fold-Cond tree.NegationTree tree.TestTree tree.CondTree tree.ConjunctionTree negation_step test_step cond_step conjunction_step
+
+-- assignments and declarations -------------------------------------------------------------------------------------
+
+abbrev pub operator_view : Operator → program.Operator
+operator_view operator.Plus = program.plus
+operator_view operator.Minus = program.minus
+operator_view operator.Times = program.times
+operator_view operator.Over = program.over
+operator_view operator.Modulo = program.modulo
+
+abbrev pub step_view : Step → tree.StepTree
+step_view step.Increment = tree.increment
+step_view step.Decrement = tree.decrement
+
+abbrev pub call_view : Call → tree.CallTree
+call_view c = record { name = c.name; arguments = map expr_view c.arguments.items.items }
+
+abbrev pub source_view : Source → tree.SourceTree
+source_view (source.Value e) = tree.expression (expr_view e)
+source_view (source.Result c) = tree.result (call_view c)
+
+abbrev pub assign_view : Assign → tree.AssignTree
+assign_view (assign.Set x e) = tree.set x (source_view e)
+assign_view (assign.Update x op e) = tree.update x (operator_view op) (expr_view e)
+assign_view (assign.After x s) = tree.after x (step_view s)
+assign_view (assign.Before at s x) = tree.before at (step_view s) x
+
+abbrev pub declarator_view : Declarator → tree.DeclaratorTree
+declarator_view d = record { name = d.name; source = option_map source_view d.source }
+
+abbrev pub declaration_view : Declaration → tree.DeclarationTree
+declaration_view d = record { first = declarator_view d.first; rest = map declarator_view d.rest.items }
+
+abbrev pub init_view : Init → tree.InitTree
+init_view init.Nothing = tree.no_init
+init_view (init.Declaration d) = tree.declared (declaration_view d)
+init_view (init.Assign a) = tree.assigned (assign_view a)
+
+-- statements: an item of a block is what it puts before the items behind it -----------------------------------------
+
+abbrev pub items_of : List (tree.ItemsTree → tree.ItemsTree) → tree.ItemsTree
+items_of [] = tree.no_items
+items_of (f ∷ fs) = f (items_of fs)
+
+abbrev pub item_step : BlockItem-F (tree.ItemsTree → tree.ItemsTree) tree.StmtTree (tree.ItemsTree × Place) → tree.ItemsTree → tree.ItemsTree
+item_step (BlockItem-F.Declaration d) = tree.declaration (declaration_view d)
+item_step (BlockItem-F.Statement s) = tree.statement s
+
+abbrev pub block_step : Block-F (tree.ItemsTree → tree.ItemsTree) tree.StmtTree (tree.ItemsTree × Place) → tree.ItemsTree × Place
+block_step b = (items_of b.items.items, b.end)
+
+abbrev pub stmt_step : Stmt-F (tree.ItemsTree → tree.ItemsTree) tree.StmtTree (tree.ItemsTree × Place) → tree.StmtTree
+stmt_step (Stmt-F.Block b) = tree.block b.0 b.1
+stmt_step (Stmt-F.Nothing at) = tree.nothing at
+stmt_step (Stmt-F.Assign a) = tree.assign (assign_view a)
+stmt_step (Stmt-F.Call c) = tree.call (call_view c)
+stmt_step (Stmt-F.If at c a) = tree.if at (cond_view c) a.value
+stmt_step (Stmt-F.IfElse at c a b) = tree.if_else at (cond_view c) a.value b.value
+stmt_step (Stmt-F.While at c a) = tree.while at (cond_view c) a.value
+stmt_step (Stmt-F.For at i c s a) = tree.for at (init_view i) (option_map cond_view c) (option_map assign_view s) a.value
+stmt_step (Stmt-F.Break at) = tree.break at
+stmt_step (Stmt-F.Continue at) = tree.continue at
+stmt_step (Stmt-F.Return at e) = tree.return at (option_map source_view e)
+stmt_step (Stmt-F.Assert at c) = tree.assert at (cond_view c)
+stmt_step (Stmt-F.Assume at c) = tree.assume at (cond_view c)
+
+abbrev pub item_view : BlockItem → tree.ItemsTree → tree.ItemsTree
+item_view = fold-BlockItem (tree.ItemsTree → tree.ItemsTree) tree.StmtTree (tree.ItemsTree × Place) item_step stmt_step block_step
+
+abbrev pub stmt_view : Stmt → tree.StmtTree
+stmt_view = fold-Stmt (tree.ItemsTree → tree.ItemsTree) tree.StmtTree (tree.ItemsTree × Place) item_step stmt_step block_step
+
+abbrev pub block_view : Block → tree.ItemsTree × Place
+block_view = fold-Block (tree.ItemsTree → tree.ItemsTree) tree.StmtTree (tree.ItemsTree × Place) item_step stmt_step block_step
+
+-- the whole --------------------------------------------------------------------------------------------------------
+
+abbrev pub function_view : Function → tree.FunctionTree
+function_view f =
+    let body = block_view f.body in
+    record { has_result = f.has_result; name = f.name; parameters = f.parameters.items.items; body = body.0; end = body.1 }
+
+abbrev pub global_view : Global → tree.GlobalTree
+global_view g = record { name = g.name; value = g.value }
+
+abbrev pub globals_view : Globals → tree.GlobalsTree
+globals_view g = record { first = global_view g.first; rest = map global_view g.rest.items }
+
+abbrev pub part_view : Item → tree.PartTree
+part_view item.Prototype = tree.prototype
+part_view (item.Globals g) = tree.globals (globals_view g)
+part_view (item.Function f) = tree.function (function_view f)
+
+abbrev pub tree_view : Tree → tree.FileTree
+tree_view t = record { parts = map part_view t.items.items; end = t.end }
