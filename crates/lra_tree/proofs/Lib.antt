@@ -5,3 +5,6 @@ mod ReportTextExamples
 -- Tests by which the examples find longest spellings, and the examples.
 mod LongestByTest
 mod TokenExamples
+-- Trees, their names and what they mean.
+mod TreeSamples
+mod NameExamples

@@ -39,7 +39,7 @@ y = read (local 1)
 
 -- int main(void){ long x; x = 3; assert(x >= 3); }
 -- catches a declarator without a draw: the run with draw 7 has x = 7 before the assignment
-abbrev one_variable : Program
+abbrev pub one_variable : Program
 one_variable = main_alone (declaration (fresh 1) (statement (assign 2 (local 0) (value (literal 3))) (statement (assert 3 (compare at_least x (literal 3))) no_more))) 4
 
 one_variable_run : visited one_variable (pos 7 ∷ []) ≡ ([], 1, []) ∷ ([], 2, pos 7 ∷ []) ∷ ([], 3, pos 3 ∷ []) ∷ ([], 4, pos 3 ∷ []) ∷ []
@@ -111,10 +111,10 @@ break_in_loop = refl
 -- long inc(long x){ x=x+1; return x; } int main(void){ long x=inc(1); x=inc(x); assert(x==3); }
 -- catches a callee's variable that shares its caller's place, and a store that isn't cut back behind the call;
 -- the function's `}` (3) isn't passed by `return`
-abbrev inc : Function
+abbrev pub inc : Function
 inc = record { parameters = 1; body = statement (assign 1 (local 0) (value (binary plus x (literal 1)))) (statement (return 2 (Some (value x))) no_more); end = 3 }
 
-abbrev called_twice : Program
+abbrev pub called_twice : Program
 called_twice = record {
   globals = [];
   functions = inc ∷ [];

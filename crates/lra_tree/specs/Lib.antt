@@ -13,3 +13,8 @@ pub mod Lexeme
 pub mod Tokens
 pub mod Trees
 pub mod Views
+pub mod Scope
+pub mod NameFaults
+pub mod Labels
+pub mod Resolve
+pub mod Reach

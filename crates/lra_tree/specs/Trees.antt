@@ -90,7 +90,7 @@ mutual
     nothing : Place → StmtTree
     assign : AssignTree → StmtTree
     call : CallTree → StmtTree
-    if : Place → CondTree → StmtTree → StmtTree
+    if_only : Place → CondTree → StmtTree → StmtTree
     if_else : Place → CondTree → StmtTree → StmtTree → StmtTree
     while : Place → CondTree → StmtTree → StmtTree
     for : Place → InitTree → Option CondTree → Option AssignTree → StmtTree → StmtTree

@@ -1,0 +1,138 @@
+-- Names: what they mean, and the faults of names at their places. Which slip an example would catch stands beside it.
+use Rattle.std.proofs.Common.{◌≡◌, ℕ, [], ◌∷◌, Some, None, refl}
+use Rattle.std.specs.Prelude.{codes, map}
+use Rattle.lra_tree.specs.declared.refusals.Refusal.{Refusal}
+use Rattle.lra_tree.specs.declared.refusals.Cause.{Cause}
+use Rattle.lra_tree.specs.declared.refusals.Cause.TheVariants.{NoMain, UnknownName, DuplicateName, BadCall, Misplaced}
+use Rattle.lra_tree.specs.Program as program
+use Rattle.lra_tree.specs.Trees.{value, compare, conjunction, test, and, or, expression, result, set, after, increment, declared, block, nothing, assign, call, for, break, return, no_items, declaration, statement, globals, function, FileTree}
+use Rattle.lra_tree.specs.Labels.{labels_of}
+use Rattle.lra_tree.specs.NameFaults.{name_faults}
+use Rattle.lra_tree.specs.Resolve.{resolve, resolve_cond}
+use Rattle.lra_tree.specs.Reach.{IsFirstRecursive, there}
+use Rattle.lra_tree.proofs.RunExamples as run
+use Rattle.lra_tree.proofs.TreeSamples.{at, name_at, x_at, number, use_of, tested, call_of, declared_as, function_of, void_of, main_of, one_variable, called_twice}
+
+abbrev fault : Cause → ℕ → Refusal
+fault c column = record { cause = c; place = at column }
+
+-- what names mean --------------------------------------------------------------------------------------------------
+
+one_variable_means : (resolve one_variable ≡ record run.one_variable { functions = run.one_variable.main ∷ [] }) × (name_faults one_variable ≡ [])
+one_variable_means = (refl, refl)
+
+-- catches a callee's parameter that is taken for its caller's variable
+called_twice_means : (resolve called_twice ≡ record run.called_twice { functions = run.inc ∷ run.called_twice.main ∷ [] }) × (name_faults called_twice ≡ [])
+called_twice_means = (refl, refl)
+
+-- the places of the points, before calls are written out
+called_twice_places : map (λ l. l.place.column) (labels_of called_twice) ≡ 19 ∷ 26 ∷ 36 ∷ 59 ∷ 69 ∷ 79 ∷ 93 ∷ []
+called_twice_places = refl
+
+-- int main(void){ long x; { long x; x = 1; } x = 2; }
+-- the inner x is the second variable, the outer one the first: catches a name that means the oldest variable, and a scope that outlives its block
+abbrev shadowed : FileTree
+shadowed = main_of (declaration (declared_as (x_at 22) None)
+    (statement (block (declaration (declared_as (x_at 32) None) (statement (assign (set (x_at 35) (expression (number 1)))) no_items)) (at 42))
+    (statement (assign (set (x_at 44) (expression (number 2)))) no_items))) 51
+
+shadowed_body : (resolve shadowed).main.body ≡ program.declaration (record { label = 1; source = None })
+    (program.statement (program.block (program.declaration (record { label = 2; source = None }) (program.statement (program.assign 3 (program.local 1) (program.value (program.literal 1))) program.no_more)) 4)
+    (program.statement (program.assign 5 (program.local 0) (program.value (program.literal 2))) program.no_more))
+shadowed_body = refl
+
+shadowed_allowed : name_faults shadowed ≡ []
+shadowed_allowed = refl
+
+-- int main(void){ for(long x=0; x<3; x++) ; } : the word `for`, its declarator, its step, its body
+abbrev one_for : FileTree
+one_for = main_of (statement (for (at 17) (declared (declared_as (x_at 26) (Some (expression (number 0))))) (Some (tested (compare (use_of (x_at 31)) program.below (number 3))))
+    (Some (after (x_at 36) increment)) (nothing (at 41))) no_items) 43
+
+one_for_body : (resolve one_for).main.body ≡ program.statement (program.for (program.declaration (record { label = 2; source = Some (program.value (program.literal 0)) }) program.no_more)
+    (program.loop 1 (program.compare program.below (program.read (program.local 0)) (program.literal 3)) (program.nothing 4)
+    (program.assign 3 (program.local 0) (program.value (program.binary program.plus (program.read (program.local 0)) (program.literal 1)))))) program.no_more
+one_for_body = refl
+
+one_for_places : (map (λ l. l.place.column) (labels_of one_for) ≡ 17 ∷ 26 ∷ 36 ∷ 41 ∷ 43 ∷ []) × (map (λ l. l.live) (labels_of one_for) ≡ (codes "x" ∷ []) ∷ [] ∷ (codes "x" ∷ []) ∷ (codes "x" ∷ []) ∷ [] ∷ [])
+one_for_places = (refl, refl)
+
+-- a*b+c is (a*b)+c and a-b-c is (a-b)-c, while a&&b&&c is a&&(b&&c) and a||b||c is a||(b||c)
+chain : resolve_cond (record { globals = codes "x" ∷ []; locals = []; outer = 0 })
+    (or (or (conjunction (test (value (use_of (x_at 1))))) (and (and (test (value (number 1))) (value (number 2))) (value (number 3)))) (test (value (number 4))))
+    ≡ program.either_of (program.nonzero (program.read (program.global 0)))
+    (program.either_of (program.both_of (program.nonzero (program.literal 1)) (program.both_of (program.nonzero (program.literal 2)) (program.nonzero (program.literal 3)))) (program.nonzero (program.literal 4)))
+chain = refl
+
+-- faults -----------------------------------------------------------------------------------------------------------
+
+-- no bytes
+no_main : name_faults (record { parts = []; end = at 1 }) ≡ fault NoMain 1 ∷ []
+no_main = refl
+
+-- int main(void){ x = 1; }
+unknown_name : name_faults (main_of (statement (assign (set (x_at 17) (expression (number 1)))) no_items) 24) ≡ fault UnknownName 17 ∷ []
+unknown_name = refl
+
+-- int main(void){ long x; long x; } : catches the place of the first
+duplicate_name : name_faults (main_of (declaration (declared_as (x_at 22) None) (declaration (declared_as (x_at 30) None) no_items)) 33) ≡ fault DuplicateName 30 ∷ []
+duplicate_name = refl
+
+-- void f(void){} int main(void){ f(1); }
+bad_call : name_faults (record {
+  parts = function (void_of (codes "f") 6 [] no_items 14) ∷ function (function_of (codes "main") 20 [] (statement (call (call_of (name_at (codes "f") 32) (number 1 ∷ []))) no_items) 38) ∷ [];
+  end = at 39;
+}) ≡ fault BadCall 32 ∷ []
+bad_call = refl
+
+-- void f(void){ return 1; } int main(void){ long x=f(); } : the value of a void function, given and used
+void_values : name_faults (record {
+  parts = function (void_of (codes "f") 6 [] (statement (return (at 15) (Some (expression (number 1)))) no_items) 25)
+      ∷ function (function_of (codes "main") 31 [] (declaration (declared_as (x_at 48) (Some (result (call_of (name_at (codes "f") 50) [])))) no_items) 55) ∷ [];
+  end = at 56;
+}) ≡ fault BadCall 15 ∷ fault BadCall 50 ∷ []
+void_values = refl
+
+-- int main(void){ break; }
+misplaced : name_faults (main_of (statement (break (at 17)) no_items) 24) ≡ fault Misplaced 17 ∷ []
+misplaced = refl
+
+-- int main(void){ long x=x; } : a name is in scope from its own end on
+own_value : name_faults (main_of (declaration (declared_as (x_at 22) (Some (expression (use_of (x_at 24))))) no_items) 27) ≡ []
+own_value = refl
+
+-- int main(void){ { long x; } x=1; } : the block's variable is gone behind it
+gone : name_faults (main_of (statement (block (declaration (declared_as (x_at 24) None) no_items) (at 27)) (statement (assign (set (x_at 29) (expression (number 1)))) no_items)) 34) ≡ fault UnknownName 29 ∷ []
+gone = refl
+
+-- void f(long x){ long x; } int main(void){} : parameters and the body's declarations are one scope
+parameter_again : name_faults (record {
+  parts = function (void_of (codes "f") 6 (x_at 13 ∷ []) (declaration (declared_as (x_at 22) None) no_items) 25) ∷ function (function_of (codes "main") 31 [] no_items 42) ∷ [];
+  end = at 43;
+}) ≡ fault DuplicateName 22 ∷ []
+parameter_again = refl
+
+-- long x; void x(void){} int main(void){} : functions and globals share a scope
+global_and_function : name_faults (record {
+  parts = globals (record { first = record { name = x_at 6; value = None }; rest = [] }) ∷ function (void_of (codes "x") 14 [] no_items 22) ∷ function (function_of (codes "main") 28 [] no_items 39) ∷ [];
+  end = at 40;
+}) ≡ fault DuplicateName 14 ∷ []
+global_and_function = refl
+
+-- int main(void){ f(); x=1; } void f(void){} long x; : a function may be defined behind its call, a global must stand before its use
+later : name_faults (record {
+  parts = function (function_of (codes "main") 5 [] (statement (call (call_of (name_at (codes "f") 17) [])) (statement (assign (set (x_at 22) (expression (number 1)))) no_items)) 27)
+      ∷ function (void_of (codes "f") 34 [] no_items 42) ∷ globals (record { first = record { name = x_at 49; value = None }; rest = [] }) ∷ [];
+  end = at 51;
+}) ≡ fault UnknownName 22 ∷ []
+later = refl
+
+-- void f(void){ f(); } int main(void){}
+abbrev itself : FileTree
+itself = record {
+  parts = function (void_of (codes "f") 6 [] (statement (call (call_of (name_at (codes "f") 15) [])) no_items) 20) ∷ function (function_of (codes "main") 26 [] no_items 37) ∷ [];
+  end = at 38;
+}
+
+recursive : IsFirstRecursive itself (at 15)
+recursive = ([], [], (codes "f", name_at (codes "f") 15), refl, refl, there, tt)

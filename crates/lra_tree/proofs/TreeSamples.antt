@@ -1,0 +1,61 @@
+-- Trees of some sources, each standing on one line.
+use Rattle.std.specs.Prelude.{ℕ, List, [], ◌∷◌, codes, Option, Some, None, true, false, suc}
+use Rattle.lra_tree.specs.declared.refusals.Place.{Place}
+use Rattle.lra_tree.specs.declared.trees.Identifier.{Identifier}
+use Rattle.lra_tree.specs.Program.{at_least, equal}
+use Rattle.lra_tree.specs.Trees.{UnaryTree, literal, variable, unary, ExprTree, term, plus, TestTree, compare, conjunction, test, CondTree, CallTree, SourceTree, expression, result, set, DeclarationTree, assign, return, assert, ItemsTree, no_items, declaration, statement, FunctionTree, function, FileTree}
+
+-- of the first line
+abbrev pub at : ℕ → Place
+at c = record { line = 1; column = c }
+
+abbrev pub name_at : List ℕ → ℕ → Identifier
+name_at word c = record { word = word; place = at c }
+
+abbrev pub x_at : ℕ → Identifier
+x_at c = name_at (codes "x") c
+
+abbrev pub alone : UnaryTree → ExprTree
+alone u = term (unary u)
+
+abbrev pub number : ℕ → ExprTree
+number n = alone (literal n)
+
+abbrev pub use_of : Identifier → ExprTree
+use_of x = alone (variable x)
+
+abbrev pub tested : TestTree → CondTree
+tested t = conjunction (test t)
+
+abbrev pub call_of : Identifier → List ExprTree → CallTree
+call_of f es = record { name = f; arguments = es }
+
+abbrev pub declared_as : Identifier → Option SourceTree → DeclarationTree
+declared_as x e = record { first = record { name = x; source = e }; rest = [] }
+
+abbrev pub function_of : List ℕ → ℕ → List Identifier → ItemsTree → ℕ → FunctionTree
+function_of word c parameters body end = record { has_result = true; name = name_at word c; parameters = parameters; body = body; end = at end }
+
+abbrev pub void_of : List ℕ → ℕ → List Identifier → ItemsTree → ℕ → FunctionTree
+void_of word c parameters body end = record { has_result = false; name = name_at word c; parameters = parameters; body = body; end = at end }
+
+-- int main(void){ and the body, up to the `}` and the end
+abbrev pub main_of : ItemsTree → ℕ → FileTree
+main_of body end = record { parts = function (function_of (codes "main") 5 [] body end) ∷ []; end = at (suc end) }
+
+-- int main(void){ long x; x = 3; assert(x >= 3); }
+abbrev pub one_variable : FileTree
+one_variable = main_of (declaration (declared_as (x_at 22) None) (statement (assign (set (x_at 25) (expression (number 3)))) (statement (assert (at 32) (tested (compare (use_of (x_at 39)) at_least (number 3)))) no_items))) 48
+
+-- long inc(long x){ x=x+1; return x; } int main(void){ long x=inc(1); x=inc(x); assert(x==3); }
+abbrev pub called_twice : FileTree
+called_twice = record {
+  parts = function (function_of (codes "inc") 6 (x_at 15 ∷ [])
+      (statement (assign (set (x_at 19) (expression (plus (use_of (x_at 21)) (unary (literal 1)))))) (statement (return (at 26) (Some (expression (use_of (x_at 33))))) no_items)) 36)
+      ∷ function (function_of (codes "main") 42 []
+      (declaration (declared_as (x_at 59) (Some (result (call_of (name_at (codes "inc") 61) (number 1 ∷ [])))))
+      (statement (assign (set (x_at 69) (result (call_of (name_at (codes "inc") 71) (use_of (x_at 75) ∷ [])))))
+      (statement (assert (at 79) (tested (compare (use_of (x_at 86)) equal (number 3)))) no_items))) 93)
+      ∷ [];
+  end = at 94;
+}

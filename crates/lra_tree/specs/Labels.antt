@@ -1,0 +1,109 @@
+-- The labels of a source: its statements, declarators of functions and ends of blocks, in text order; the n-th has the label n, from 1.
+-- A `for` comes in the order of its text: its word, how it begins, its step, its body. A block has no label but at its `}`.
+use Rattle.std.specs.Prelude.{ℕ, zero, suc, List, [], ◌∷◌, ◌++◌, map, Option, Some, None, slice_get, flat_map}
+use Rattle.lra_tree.specs.declared.refusals.Place.{Place}
+use Rattle.lra_tree.specs.declared.trees.Identifier.{Identifier}
+use Rattle.lra_tree.specs.Trees.{SourceTree, expression, result, AssignTree, set, update, after, before, DeclaratorTree, InitTree, no_init, declared, assigned, StmtTree, block, nothing, assign, call, if_only, if_else, while, for, break, continue, return, assert, assume, ItemsTree, no_items, declaration, statement, FunctionTree, FileTree}
+use Rattle.lra_tree.specs.Scope.{functions_of}
+
+-- what is known of a label
+pub record Label : Type 0 where
+  pub place : Place
+  -- the called name, where it holds a call
+  pub called : Option Identifier
+  -- the function's variables that live at the point, oldest first
+  pub live : List (List ℕ)
+  -- and those that live while its call runs
+  pub live_in_call : List (List ℕ)
+
+abbrev pub plain_label : Place → List (List ℕ) → Label
+plain_label at live = record { place = at; called = None; live = live; live_in_call = live }
+
+abbrev pub label_with : Place → Option Identifier → List (List ℕ) → Label
+label_with at called live = record { place = at; called = called; live = live; live_in_call = live }
+
+-- what is called
+abbrev pub called_in : SourceTree → Option Identifier
+called_in (expression e) = None
+called_in (result c) = Some c.name
+
+abbrev pub called_of : Option SourceTree → Option Identifier
+called_of None = None
+called_of (Some e) = called_in e
+
+-- an assignment's first token
+abbrev pub assign_place : AssignTree → Place
+assign_place (set x e) = x.place
+assign_place (update x op e) = x.place
+assign_place (after x s) = x.place
+assign_place (before at s x) = at
+
+abbrev pub called_by : AssignTree → Option Identifier
+called_by (set x e) = called_in e
+called_by (update x op e) = None
+called_by (after x s) = None
+called_by (before at s x) = None
+
+abbrev pub with_names : List (List ℕ) → List DeclaratorTree → List (List ℕ)
+with_names live ds = live ++ map (λ (d : DeclaratorTree). d.name.word) ds
+
+-- a declarator's variable lives behind its point, and so in its call
+abbrev pub declarator_labels : List (List ℕ) → List DeclaratorTree → List Label
+declarator_labels live [] = []
+declarator_labels live (d ∷ ds) =
+    let more = live ++ d.name.word ∷ [] in
+    record { place = d.name.place; called = called_of d.source; live = live; live_in_call = more } ∷ declarator_labels more ds
+
+abbrev pub assign_label : List (List ℕ) → AssignTree → Label
+assign_label live a = label_with (assign_place a) (called_by a) live
+
+abbrev pub init_labels : List (List ℕ) → InitTree → List Label
+init_labels live no_init = []
+init_labels live (declared d) = declarator_labels live (d.first ∷ d.rest)
+init_labels live (assigned a) = assign_label live a ∷ []
+
+-- a `for`'s own point stands before its test, behind what it declares
+abbrev pub live_in_for : List (List ℕ) → InitTree → List (List ℕ)
+live_in_for live no_init = live
+live_in_for live (declared d) = with_names live (d.first ∷ d.rest)
+live_in_for live (assigned a) = live
+
+abbrev pub step_labels : List (List ℕ) → Option AssignTree → List Label
+step_labels live None = []
+step_labels live (Some a) = assign_label live a ∷ []
+
+abbrev mutual
+  pub stmt_labels : List (List ℕ) → StmtTree → List Label
+  stmt_labels live (block items end) = items_labels live items end
+  stmt_labels live (nothing at) = plain_label at live ∷ []
+  stmt_labels live (assign a) = assign_label live a ∷ []
+  stmt_labels live (call c) = label_with c.name.place (Some c.name) live ∷ []
+  stmt_labels live (if_only at c t) = plain_label at live ∷ stmt_labels live t
+  stmt_labels live (if_else at c t e) = plain_label at live ∷ stmt_labels live t ++ stmt_labels live e
+  stmt_labels live (while at c b) = plain_label at live ∷ stmt_labels live b
+  stmt_labels live (for at i c e b) =
+      let inside = live_in_for live i in
+      plain_label at inside ∷ init_labels live i ++ step_labels inside e ++ stmt_labels inside b
+  stmt_labels live (break at) = plain_label at live ∷ []
+  stmt_labels live (continue at) = plain_label at live ∷ []
+  stmt_labels live (return at e) = label_with at (called_of e) live ∷ []
+  stmt_labels live (assert at c) = plain_label at live ∷ []
+  stmt_labels live (assume at c) = plain_label at live ∷ []
+
+  -- a block's items and its end
+  pub items_labels : List (List ℕ) → ItemsTree → Place → List Label
+  items_labels live no_items end = plain_label end live ∷ []
+  items_labels live (declaration d items) end = declarator_labels live (d.first ∷ d.rest) ++ items_labels (with_names live (d.first ∷ d.rest)) items end
+  items_labels live (statement t items) end = stmt_labels live t ++ items_labels live items end
+
+abbrev pub function_labels : FunctionTree → List Label
+function_labels f = items_labels (map (λ (p : Identifier). p.word) f.parameters) f.body f.end
+
+-- of the whole source
+abbrev pub labels_of : FileTree → List Label
+labels_of t = flat_map function_labels (functions_of t)
+
+-- the label n, from 1
+abbrev pub label_at : List Label → ℕ → Option Label
+label_at ls zero = None
+label_at ls (suc n) = slice_get ls n
