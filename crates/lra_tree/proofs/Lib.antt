@@ -8,3 +8,5 @@ mod TokenExamples
 -- Trees, their names and what they mean.
 mod TreeSamples
 mod NameExamples
+-- Linear forms, and how conditions are pushed to their atoms.
+mod LinearExamples

@@ -18,3 +18,6 @@ pub mod NameFaults
 pub mod Labels
 pub mod Resolve
 pub mod Reach
+-- How an analysis sees expressions and conditions.
+pub mod Linear
+pub mod Condition

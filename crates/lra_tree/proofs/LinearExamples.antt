@@ -1,0 +1,67 @@
+-- Linear forms, tests and conditions. Which slip an example would catch stands beside it.
+use Rattle.std.proofs.Common.{◌≡◌, ℤ, pos, negsuc, List, [], ◌∷◌, Some, None, true, false, refl}
+use Rattle.lra_tree.specs.Program.{local, plus, minus, times, over, below, above, at_least, equal, differs, Expr, literal, read, input, binary, compare, nonzero, opposite, both_of, either_of}
+use Rattle.lra_tree.specs.Report.{inequality}
+use Rattle.lra_tree.specs.Linear.{Form, Test, form_of, comparison_test}
+use Rattle.lra_tree.specs.Condition.{atom, one_or, push, Actions, IsCond}
+
+-- two live variables
+abbrev x : Expr
+x = read (local 0)
+
+abbrev y : Expr
+y = read (local 1)
+
+abbrev form : ℤ → List ℤ → Form
+form c cs = record { constant = c; coefficients = cs }
+
+-- 2*x - y + 1
+sum_form : form_of 2 0 (binary plus (binary minus (binary times (literal 2) x) y) (literal 1)) ≡ Some (form (pos 1) (pos 2 ∷ negsuc 0 ∷ []))
+sum_form = refl
+
+-- catches a call's variables that are counted from the first
+in_a_call : form_of 3 1 (binary plus x y) ≡ Some (form (pos 0) (pos 0 ∷ pos 1 ∷ pos 1 ∷ []))
+in_a_call = refl
+
+not_linear : (form_of 2 0 (binary times x y) ≡ None) × (form_of 2 0 (binary plus x input) ≡ None) × (form_of 2 0 (binary over x (literal 2)) ≡ None)
+not_linear = (refl, refl, refl)
+
+-- x - x has no variable, so its product with y is linear
+constant_side : form_of 2 0 (binary times (binary plus (binary minus x x) (literal 3)) y) ≡ Some (form (pos 0) (pos 0 ∷ pos 3 ∷ []))
+constant_side = refl
+
+-- 9223372036854775807 * x + x, and its half way in 9223372036854775807 * 2 * x - ..: catches a test of the last form alone
+too_wide : (form_of 1 0 (binary plus (binary times (literal 9223372036854775807) x) x) ≡ None)
+    × (form_of 1 0 (binary minus (binary plus (binary times (literal 9223372036854775807) x) x) x) ≡ None)
+too_wide = (refl, refl)
+
+-- x < y is y - x - 1 >= 0: catches x <= y - 2, which has the constant -2, and x <= y, which has 0
+less_test : comparison_test below (form (pos 0) (pos 1 ∷ negsuc 0 ∷ [])) ≡ Some (record { kind = inequality; form = form (negsuc 0) (negsuc 0 ∷ pos 1 ∷ []) })
+less_test = refl
+
+greater_test : comparison_test above (form (pos 0) (pos 1 ∷ negsuc 0 ∷ [])) ≡ Some (record { kind = inequality; form = form (negsuc 0) (pos 1 ∷ negsuc 0 ∷ []) })
+greater_test = refl
+
+-- !(x < y && x) is !(x < y), or x < y and then x == 0: catches an `&&` that stays
+opposed : push true (opposite (both_of (compare below x y) (nonzero x))) ≡ one_or (atom at_least x y) (atom below x y) (atom equal x (literal 0))
+opposed = refl
+
+twice_opposed : push false (opposite (either_of (compare equal x y) (nonzero y))) ≡ one_or (atom equal x y) (atom differs x y) (atom differs y (literal 0))
+twice_opposed = refl
+
+-- with texts of tests as a domain, `x != y` is a join of two tests, in this order
+pub data Made : Type 0 where
+  all_stores : Made
+  tested : Test → Made → Made
+  joined : Made → Made → Made
+
+abbrev making : Actions Made
+making = record { IsTested = λ t v w. w ≡ tested t v; IsJoined = λ v w u. u ≡ joined v w }
+
+differs_joins : IsCond Made making 2 0 (compare differs x y) true all_stores
+    (joined (tested (record { kind = inequality; form = form (negsuc 0) (negsuc 0 ∷ pos 1 ∷ []) }) all_stores) (tested (record { kind = inequality; form = form (negsuc 0) (pos 1 ∷ negsuc 0 ∷ []) }) all_stores))
+differs_joins = (_, _, refl, refl, refl)
+
+-- an atom that isn't linear changes nothing
+input_changes_nothing : IsCond Made making 2 0 (nonzero input) true all_stores all_stores
+input_changes_nothing = refl
