@@ -13,11 +13,17 @@ pub mod Lexeme
 pub mod Tokens
 pub mod Trees
 pub mod Views
+pub mod Texts
+pub mod Grammar
+pub mod Faults
 pub mod Scope
 pub mod NameFaults
 pub mod Labels
 pub mod Resolve
 pub mod Reach
+-- Calls written out, and which sources are refused.
+pub mod Sites
+pub mod Refuse
 -- How an analysis sees expressions and conditions.
 pub mod Linear
 pub mod Condition

@@ -1,0 +1,242 @@
+-- The grammar (after ISO/IEC 9899:2011, 6.5, 6.7, 6.8, 6.9): which tokens a tree has, one case for each production.
+-- l is the level of nesting at which a part stands, o the level that its first token opens. A function's body is level 1; a block, a
+-- branch of an `if`, a loop's body, a grouping parenthesis and a unary operator open one more, from their first to their last token.
+use Rattle.std.specs.Prelude.{◌≡◌, ℕ, ◌+◌, ◌⊎◌, ℤ, pos, neg_ℤ, Bool, true, false, List, [], ◌∷◌, codes, Option, Some, None, ⊤}
+use Rattle.lra_tree.specs.declared.tokens.Mark.{Mark}
+use Rattle.lra_tree.specs.declared.tokens.Mark.TheVariants as mark
+use Rattle.lra_tree.specs.declared.trees.Identifier.{Identifier}
+use Rattle.lra_tree.specs.Program as program
+use Rattle.lra_tree.specs.Trees.{UnaryTree, negated, positive, literal, variable, input, group, TermTree, unary, times, over, modulo, ExprTree, term, plus, minus, NegationTree, opposite_again, value_of_unary, group_opposed, TestTree, opposite, value, compare, group_of, ConjunctionTree, test, and, CondTree, conjunction, or, CallTree, SourceTree, expression, result, StepTree, increment, decrement, AssignTree, set, update, after, before, DeclaratorTree, DeclarationTree, InitTree, no_init, declared, assigned, StmtTree, block, nothing, assign, call, if_only, if_else, while, for, break, continue, return, assert, assume, ItemsTree, no_items, declaration, statement, FunctionTree, GlobalTree, GlobalsTree, PartTree, prototype, globals, function, FileTree}
+use Rattle.lra_tree.specs.Texts.{Texts, ◌⋅◌, ◌∣◌, empty, opens, mark, opens_at, name, some_name, number, end_at, separated}
+
+-- expressions ------------------------------------------------------------------------------------------------------
+-- In the productions of unaries, whose first token may open a level, o is not needed: a name or a literal opens none.
+
+abbrev mutual
+  pub IsUnary : ℕ → UnaryTree → Texts
+  IsUnary l (negated u) = opens mark.Minus (l + 1) ⋅ IsUnary (l + 1) u
+  IsUnary l (positive u) = opens mark.Plus (l + 1) ⋅ IsUnary (l + 1) u
+  IsUnary l (literal n) = number n
+  IsUnary l (variable x) = name x 0
+  IsUnary l input = mark mark.Input ⋅ mark mark.OpenParen ⋅ mark mark.CloseParen
+  IsUnary l (group e) = opens mark.OpenParen (l + 1) ⋅ IsExpr (l + 1) e ⋅ mark mark.CloseParen
+
+  pub IsTerm : ℕ → TermTree → Texts
+  IsTerm l (unary u) = IsUnary l u
+  IsTerm l (times t u) = IsTerm l t ⋅ mark mark.Star ⋅ IsUnary l u
+  IsTerm l (over t u) = IsTerm l t ⋅ mark mark.Slash ⋅ IsUnary l u
+  IsTerm l (modulo t u) = IsTerm l t ⋅ mark mark.Percent ⋅ IsUnary l u
+
+  pub IsExpr : ℕ → ExprTree → Texts
+  IsExpr l (term t) = IsTerm l t
+  IsExpr l (plus e t) = IsExpr l e ⋅ mark mark.Plus ⋅ IsTerm l t
+  IsExpr l (minus e t) = IsExpr l e ⋅ mark mark.Minus ⋅ IsTerm l t
+
+-- conditions -------------------------------------------------------------------------------------------------------
+
+abbrev pub comparison_mark : program.Comparison → Mark
+comparison_mark program.below = mark.Less
+comparison_mark program.at_most = mark.AtMost
+comparison_mark program.above = mark.Greater
+comparison_mark program.at_least = mark.AtLeast
+comparison_mark program.equal = mark.Equal
+comparison_mark program.differs = mark.Differs
+
+-- the condition isn't an expression alone
+abbrev pub IsStrict : CondTree → Type 0
+IsStrict (conjunction (test (value e))) = ⊥
+IsStrict (conjunction (test (opposite n))) = ⊤
+IsStrict (conjunction (test (compare a op b))) = ⊤
+IsStrict (conjunction (test (group_of c))) = ⊤
+IsStrict (conjunction (and c t)) = ⊤
+IsStrict (or c d) = ⊤
+
+abbrev pub strictly : CondTree → Texts → Texts
+strictly c R z = R z × IsStrict c
+
+abbrev mutual
+  pub IsNegation : ℕ → NegationTree → Texts
+  IsNegation l (opposite_again n) = opens mark.Not (l + 1) ⋅ IsNegation (l + 1) n
+  IsNegation l (value_of_unary u) = IsUnary l u
+  IsNegation l (group_opposed c) = strictly c (opens mark.OpenParen (l + 1) ⋅ IsCond (l + 1) c ⋅ mark mark.CloseParen)
+
+  pub IsTest : ℕ → TestTree → Texts
+  IsTest l (opposite n) = opens mark.Not (l + 1) ⋅ IsNegation (l + 1) n
+  IsTest l (value e) = IsExpr l e
+  IsTest l (compare a op b) = IsExpr l a ⋅ mark (comparison_mark op) ⋅ IsExpr l b
+  IsTest l (group_of c) = strictly c (opens mark.OpenParen (l + 1) ⋅ IsCond (l + 1) c ⋅ mark mark.CloseParen)
+
+  pub IsConjunction : ℕ → ConjunctionTree → Texts
+  IsConjunction l (test t) = IsTest l t
+  IsConjunction l (and c t) = IsConjunction l c ⋅ mark mark.And ⋅ IsTest l t
+
+  pub IsCond : ℕ → CondTree → Texts
+  IsCond l (conjunction c) = IsConjunction l c
+  IsCond l (or c d) = IsCond l c ⋅ mark mark.Or ⋅ IsConjunction l d
+
+-- a condition in parentheses that open no level: behind `if`, `while`, `assert`, `assume`
+abbrev pub InParens : ℕ → CondTree → Texts
+InParens l c = mark mark.OpenParen ⋅ IsCond l c ⋅ mark mark.CloseParen
+
+-- calls and assignments --------------------------------------------------------------------------------------------
+
+abbrev pub IsCall : ℕ → ℕ → CallTree → Texts
+IsCall o l c = name c.name o ⋅ mark mark.OpenParen ⋅ separated (IsExpr l) c.arguments ⋅ mark mark.CloseParen
+
+abbrev pub IsSource : ℕ → SourceTree → Texts
+IsSource l (expression e) = IsExpr l e
+IsSource l (result c) = IsCall 0 l c
+
+abbrev pub update_mark : program.Operator → Mark
+update_mark program.plus = mark.PlusAssign
+update_mark program.minus = mark.MinusAssign
+update_mark program.times = mark.StarAssign
+update_mark program.over = mark.SlashAssign
+update_mark program.modulo = mark.PercentAssign
+
+abbrev pub step_mark : StepTree → Mark
+step_mark increment = mark.Increment
+step_mark decrement = mark.Decrement
+
+abbrev pub IsAssign : ℕ → ℕ → AssignTree → Texts
+IsAssign o l (set x e) = name x o ⋅ mark mark.Assign ⋅ IsSource l e
+IsAssign o l (update x op e) = name x o ⋅ mark (update_mark op) ⋅ IsExpr l e
+IsAssign o l (after x s) = name x o ⋅ mark (step_mark s)
+IsAssign o l (before at s x) = opens_at (step_mark s) at o ⋅ name x 0
+
+-- declarations -----------------------------------------------------------------------------------------------------
+
+-- `long`, `long long`, `long int`, `long long int`
+abbrev pub IsType : Texts
+IsType = mark mark.Long ⋅ (mark mark.Long ∣ empty) ⋅ (mark mark.Int ∣ empty)
+
+abbrev pub IsGiven : ℕ → Option SourceTree → Texts
+IsGiven l None = empty
+IsGiven l (Some e) = mark mark.Assign ⋅ IsSource l e
+
+abbrev pub IsDeclarator : ℕ → DeclaratorTree → Texts
+IsDeclarator l d = name d.name 0 ⋅ IsGiven l d.source
+
+abbrev pub IsDeclaration : ℕ → DeclarationTree → Texts
+IsDeclaration l d = IsType ⋅ separated (IsDeclarator l) (d.first ∷ d.rest) ⋅ mark mark.Semicolon
+
+-- statements -------------------------------------------------------------------------------------------------------
+
+-- it ends in an `if` without `else`, which would take an `else` behind it
+abbrev pub IsOpen : StmtTree → Type 0
+IsOpen (if_only at c t) = ⊤
+IsOpen (if_else at c t e) = IsOpen e
+IsOpen (while at c b) = IsOpen b
+IsOpen (for at i c e b) = IsOpen b
+IsOpen t = ⊥
+
+-- an `else` belongs to the nearest `if`
+abbrev pub closed : StmtTree → Texts → Texts
+closed t R z = R z × (IsOpen t → ⊥)
+
+abbrev pub IsInit : ℕ → InitTree → Texts
+IsInit l no_init = mark mark.Semicolon
+IsInit l (declared d) = IsDeclaration l d
+IsInit l (assigned a) = IsAssign 0 l a ⋅ mark mark.Semicolon
+
+abbrev pub IsForTest : ℕ → Option CondTree → Texts
+IsForTest l None = empty
+IsForTest l (Some c) = IsCond l c
+
+abbrev pub IsForStep : ℕ → Option AssignTree → Texts
+IsForStep l None = empty
+IsForStep l (Some a) = IsAssign 0 l a
+
+abbrev pub IsReturned : ℕ → Option SourceTree → Texts
+IsReturned l None = empty
+IsReturned l (Some e) = IsSource l e
+
+abbrev mutual
+  pub IsStmt : ℕ → ℕ → StmtTree → Texts
+  IsStmt o l (block items end) = opens mark.OpenBrace o ⋅ AreItems l items ⋅ opens_at mark.CloseBrace end 0
+  IsStmt o l (nothing at) = opens_at mark.Semicolon at o
+  IsStmt o l (assign a) = IsAssign o l a ⋅ mark mark.Semicolon
+  IsStmt o l (call c) = IsCall o l c ⋅ mark mark.Semicolon
+  IsStmt o l (if_only at c t) = opens_at mark.If at o ⋅ InParens l c ⋅ IsStmt (l + 1) (l + 1) t
+  IsStmt o l (if_else at c t e) = closed t (opens_at mark.If at o ⋅ InParens l c ⋅ IsStmt (l + 1) (l + 1) t ⋅ mark mark.Else ⋅ IsStmt (l + 1) (l + 1) e)
+  IsStmt o l (while at c b) = opens_at mark.While at o ⋅ InParens l c ⋅ IsStmt (l + 1) (l + 1) b
+  IsStmt o l (for at i c e b) =
+      opens_at mark.For at o ⋅ mark mark.OpenParen ⋅ IsInit l i ⋅ IsForTest l c ⋅ mark mark.Semicolon ⋅ IsForStep l e ⋅ mark mark.CloseParen ⋅ IsStmt (l + 1) (l + 1) b
+  IsStmt o l (break at) = opens_at mark.Break at o ⋅ mark mark.Semicolon
+  IsStmt o l (continue at) = opens_at mark.Continue at o ⋅ mark mark.Semicolon
+  IsStmt o l (return at e) = opens_at mark.Return at o ⋅ IsReturned l e ⋅ mark mark.Semicolon
+  IsStmt o l (assert at c) = opens_at mark.Assert at o ⋅ InParens l c ⋅ mark mark.Semicolon
+  IsStmt o l (assume at c) = opens_at mark.Assume at o ⋅ InParens l c ⋅ mark mark.Semicolon
+
+  -- a block among the items opens a level, another statement there opens none
+  pub AreItems : ℕ → ItemsTree → Texts
+  AreItems l no_items = empty
+  AreItems l (declaration d items) = IsDeclaration l d ⋅ AreItems l items
+  AreItems l (statement (block inside end) items) = (opens mark.OpenBrace (l + 1) ⋅ AreItems (l + 1) inside ⋅ opens_at mark.CloseBrace end 0) ⋅ AreItems l items
+  AreItems l (statement t items) = IsStmt 0 l t ⋅ AreItems l items
+
+-- the whole --------------------------------------------------------------------------------------------------------
+
+abbrev pub IsMainName : Identifier → Texts
+IsMainName x z = (x.word ≡ codes "main") × (mark mark.Int ⋅ name x 0) z
+
+-- `int main`, or the type of the result and the name
+abbrev pub IsHead : Bool → Identifier → Texts
+IsHead true x = IsMainName x ∣ (IsType ⋅ name x 0)
+IsHead false x = mark mark.Void ⋅ name x 0
+
+abbrev pub IsParameter : Identifier → Texts
+IsParameter x = IsType ⋅ name x 0
+
+abbrev pub AreParameters : List Identifier → Texts
+AreParameters [] = mark mark.Void ∣ empty
+AreParameters (x ∷ xs) = separated IsParameter (x ∷ xs)
+
+abbrev pub IsFunction : FunctionTree → Texts
+IsFunction f =
+    IsHead f.has_result f.name ⋅ mark mark.OpenParen ⋅ AreParameters f.parameters ⋅ mark mark.CloseParen
+    ⋅ opens mark.OpenBrace 1 ⋅ AreItems 1 f.body ⋅ opens_at mark.CloseBrace f.end 0
+
+-- a literal with or without a sign
+abbrev pub IsSigned : ℤ → Texts
+IsSigned v z = (n : ℕ) × (((v ≡ pos n) × number n z) ⊎ ((v ≡ neg_ℤ (pos n)) × (mark mark.Minus ⋅ number n) z))
+
+abbrev pub IsGlobal : GlobalTree → Texts
+IsGlobal g = name g.name 0 ⋅ IsFirstValue g.value
+  where
+    IsFirstValue : Option ℤ → Texts
+    IsFirstValue None = empty
+    IsFirstValue (Some v) = mark mark.Assign ⋅ IsSigned v
+
+abbrev pub AreGlobals : GlobalsTree → Texts
+AreGlobals g = IsType ⋅ separated IsGlobal (g.first ∷ g.rest) ⋅ mark mark.Semicolon
+
+-- a prototype may leave names of parameters out, and may be one of `input`, `assert`, `assume`
+abbrev pub IsReservedHead : Texts
+IsReservedHead = (mark mark.Void ∣ IsType) ⋅ (mark mark.Input ∣ mark mark.Assert ∣ mark mark.Assume)
+
+abbrev pub IsSomeHead : Texts
+IsSomeHead z = (b : Bool) × (x : Identifier) × IsHead b x z
+
+-- the types of parameters, with names or without; how many is told
+abbrev pub IsPrototypeParameter : ⊤ → Texts
+IsPrototypeParameter t = IsType ⋅ (some_name ∣ empty)
+
+abbrev pub ArePrototypeParameters : Texts
+ArePrototypeParameters z = empty z ⊎ mark mark.Void z ⊎ ((t : ⊤) × (ts : List ⊤) × separated IsPrototypeParameter (t ∷ ts) z)
+
+abbrev pub IsPrototype : Texts
+IsPrototype = (mark mark.Extern ∣ empty) ⋅ (IsSomeHead ∣ IsReservedHead) ⋅ mark mark.OpenParen ⋅ ArePrototypeParameters ⋅ mark mark.CloseParen ⋅ mark mark.Semicolon
+
+abbrev pub IsPart : PartTree → Texts
+IsPart prototype = IsPrototype
+IsPart (globals g) = AreGlobals g
+IsPart (function f) = IsFunction f
+
+abbrev pub AreParts : List PartTree → Texts
+AreParts [] = empty
+AreParts (p ∷ ps) = IsPart p ⋅ AreParts ps
+
+-- the pieces are those of this tree
+abbrev pub Spells : FileTree → Texts
+Spells t = AreParts t.parts ⋅ end_at t.end
