@@ -10,3 +10,5 @@ mod TreeSamples
 mod NameExamples
 -- Linear forms, and how conditions are pushed to their atoms.
 mod LinearExamples
+-- Calls written out, the trees of operations, and what a report lists.
+mod SiteExamples

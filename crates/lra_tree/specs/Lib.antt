@@ -23,7 +23,11 @@ pub mod Resolve
 pub mod Reach
 -- Calls written out, and which sources are refused.
 pub mod Sites
+pub mod Graph
+pub mod Inlined
+pub mod Agree
 pub mod Refuse
+pub mod Listing
 -- How an analysis sees expressions and conditions.
 pub mod Linear
 pub mod Condition

@@ -1,0 +1,96 @@
+-- Which points and verdicts the report of a source lists: all points in the order of their numbers, from 1, each with its path, its place,
+-- the names of its live variables, and rows and generators over these; and a verdict for each assertion, in order.
+use Rattle.std.specs.Prelude.{◌≡◌, ℕ, suc, Bool, List, [], ◌∷◌, ◌++◌, length, Option, Some, None, ⊤, if◌then◌else◌}
+use Rattle.std.specs.List.{AllByRecursion}
+use Rattle.lra_tree.specs.declared.trees.Identifier.{Identifier}
+use Rattle.lra_tree.specs.Report.{Row, Generator, Part, State, PointReport, Verdict, Report}
+use Rattle.lra_tree.specs.ReportText.{CallPlace, path_text, shown_names}
+use Rattle.lra_tree.specs.Trees.{FileTree, PartTree, prototype, globals, function}
+use Rattle.lra_tree.specs.NameFaults.{global_names}
+use Rattle.lra_tree.specs.Labels.{Label, labels_of, label_at}
+use Rattle.lra_tree.specs.Resolve.{resolve}
+use Rattle.lra_tree.specs.Sites.{Site, sites_of}
+use Rattle.lra_tree.specs.Refuse.{label_place}
+
+abbrev pub globals_named : List PartTree → List (List ℕ)
+globals_named [] = []
+globals_named (prototype ∷ ps) = globals_named ps
+globals_named (globals g ∷ ps) = global_names (g.first ∷ g.rest) ++ globals_named ps
+globals_named (function f ∷ ps) = globals_named ps
+
+-- the variables of a function at a label, and while its call runs
+abbrev pub live_at : Option Label → List (List ℕ)
+live_at None = []
+live_at (Some l) = l.live
+
+abbrev pub live_in_call_at : Option Label → List (List ℕ)
+live_in_call_at None = []
+live_in_call_at (Some l) = l.live_in_call
+
+abbrev pub call_at : Option Identifier → List CallPlace
+call_at None = []
+call_at (Some x) = record { name = x.word; place = x.place } ∷ []
+
+abbrev pub called_at : Option Label → List CallPlace
+called_at None = []
+called_at (Some l) = call_at l.called
+
+-- the callers' variables, oldest first; a path has the innermost call first
+abbrev pub names_outside : List Label → List ℕ → List (List ℕ)
+names_outside ls [] = []
+names_outside ls (c ∷ outer) = names_outside ls outer ++ live_in_call_at (label_at ls c)
+
+abbrev pub calls_on : List Label → List ℕ → List CallPlace
+calls_on ls [] = []
+calls_on ls (c ∷ outer) = calls_on ls outer ++ called_at (label_at ls c)
+
+-- the live variables, oldest first: globals, then each call's
+abbrev pub live_names : List (List ℕ) → List Label → Site → List (List ℕ)
+live_names outside ls s = outside ++ names_outside ls s.path ++ live_at (label_at ls s.label)
+
+-- what is listed, but for the state
+abbrev pub listed_point : List (List ℕ) → List Label → ℕ → Site → State → PointReport
+listed_point outside ls number s state = record {
+  number = number;
+  point = record { path = s.path; label = s.label };
+  path = path_text (calls_on ls s.path);
+  place = label_place (label_at ls s.label);
+  names = shown_names (live_names outside ls s);
+  state = state;
+}
+
+abbrev pub listed_verdict : List Label → ℕ → Site → Bool → Verdict
+listed_verdict ls number s proved = record {
+  number = number;
+  point = record { path = s.path; label = s.label };
+  path = path_text (calls_on ls s.path);
+  place = label_place (label_at ls s.label);
+  proved = proved;
+}
+
+-- a number for each of so many variables
+abbrev pub HasWidth : ℕ → Part → Type 0
+HasWidth n part = AllByRecursion (λ (r : Row). length r.coefficients ≡ n) part.rows × AllByRecursion (λ (g : Generator). length g.numbers ≡ n) part.generators
+
+-- the reports are those of these sites, numbered from `number` on
+abbrev pub AreListed : List (List ℕ) → List Label → ℕ → List Site → List PointReport → Type 0
+AreListed outside ls number [] [] = ⊤
+AreListed outside ls number [] (p ∷ ps) = ⊥
+AreListed outside ls number (s ∷ ss) [] = ⊥
+AreListed outside ls number (s ∷ ss) (p ∷ ps) = (p ≡ listed_point outside ls number s p.state) × AllByRecursion (HasWidth s.live) p.state × AreListed outside ls (suc number) ss ps
+
+-- the assertions among these sites, with their numbers
+abbrev pub assertions_from : ℕ → List Site → List (ℕ × Site)
+assertions_from number [] = []
+assertions_from number (s ∷ ss) = if s.asserts then (number, s) ∷ assertions_from (suc number) ss else assertions_from (suc number) ss
+
+-- the verdicts are those of these assertions
+abbrev pub AreJudged : List Label → List (ℕ × Site) → List Verdict → Type 0
+AreJudged ls [] [] = ⊤
+AreJudged ls [] (v ∷ vs) = ⊥
+AreJudged ls (a ∷ rest) [] = ⊥
+AreJudged ls (a ∷ rest) (v ∷ vs) = (v ≡ listed_verdict ls a.0 a.1 v.proved) × AreJudged ls rest vs
+
+pub record Lists (t : FileTree) (r : Report) : Type 0 where
+  pub points : AreListed (globals_named t.parts) (labels_of t) 1 (sites_of (resolve t)) r.points
+  pub verdicts : AreJudged (labels_of t) (assertions_from 1 (sites_of (resolve t))) r.verdicts
