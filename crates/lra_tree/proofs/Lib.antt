@@ -12,3 +12,7 @@ mod NameExamples
 mod LinearExamples
 -- Calls written out, the trees of operations, and what a report lists.
 mod SiteExamples
+-- Refusals at their places.
+mod LowByTest
+mod GrammarExamples
+mod RefuseExamples

@@ -1,0 +1,217 @@
+-- Refusals at their places: limits, whole sources, and texts. Which slip an example would catch stands beside it.
+use Rattle.std.proofs.Common.{◌≡◌, ℕ, zero, suc, ◌+◌, List, [], ◌∷◌, ◌++◌, Option, Some, None, refl, arith, inl, take, replicate, ap, ◌∙◌, subst}
+use Rattle.std.specs.Prelude.{codes}
+use Rattle.std.specs.Fmt.{digits}
+use Rattle.lra_tree.specs.declared.refusals.Refusal.{Refusal}
+use Rattle.lra_tree.specs.declared.refusals.Cause.TheVariants.{TooLong, BadByte, NoMain, TooManyVariables, TooManyPoints}
+use Rattle.lra_tree.specs.declared.tokens.Kind.TheVariants.{Name, Mark as MarkOf, End}
+use Rattle.lra_tree.specs.declared.tokens.Mark.TheVariants as mark
+use Rattle.lra_tree.specs.declared.tokens.Token.{Token}
+use Rattle.lra_tree.specs.declared.trees.Identifier.{Identifier}
+use Rattle.lra_tree.specs.Lexeme.{word, mark_word, name, mark_of}
+use Rattle.lra_tree.specs.declared.tokens.Kind.{Kind}
+use Rattle.lra_tree.specs.Tokens.{blank, gap, token, Lex, place_behind, place_from}
+use Rattle.lra_tree.specs.Trees.{DeclaratorTree, nothing, call, ItemsTree, no_items, declaration, statement, PartTree, function, FileTree}
+use Rattle.lra_tree.specs.Labels.{labels_of}
+use Rattle.lra_tree.specs.Resolve.{resolve}
+use Rattle.lra_tree.specs.Sites.{events_of}
+use Rattle.lra_tree.specs.Refuse.{greatest_length, limit_fault, Refuse, too_long, bad_token, bad_tree, bad_name, Accepts, refusal_text}
+use Rattle.lra_tree.specs.Texts.{Piece}
+use Rattle.lra_tree.specs.Faults.{IsTree}
+use Rattle.std.proofs.lemmas.List.{take-replicate, length-replicate}
+use Rattle.lra_tree.proofs.LongestByTest.{no_gap, as_token, no_lexeme}
+use Rattle.lra_tree.proofs.LowByTest.{low_by}
+use Rattle.lra_tree.proofs.TreeSamples.{at, name_at, call_of, function_of, void_of, main_of}
+
+abbrev limits : FileTree → Option Refusal
+limits t = limit_fault (labels_of t) 0 (events_of (resolve t))
+
+-- limits -----------------------------------------------------------------------------------------------------------
+
+-- so many variables, the last named last
+abbrev variables : ℕ → List DeclaratorTree
+variables zero = []
+variables (suc n) = record { name = name_at (118 ∷ n ∷ []) 22; source = None } ∷ variables n
+
+-- int main(void){ long v1,..,v25;} : all live at the `}`
+abbrev with_variables : ℕ → FileTree
+with_variables n = main_of (declaration (record { first = record { name = name_at (codes "v") 22; source = None }; rest = variables n }) no_items) 113
+
+too_many_variables : limits (with_variables 24) ≡ Some (record { cause = TooManyVariables; place = at 113 })
+too_many_variables = refl
+
+variables_enough : limits (with_variables 23) ≡ None
+variables_enough = refl
+
+-- so many `;` from a column on
+abbrev semicolons : ℕ → ℕ → ItemsTree
+semicolons zero c = no_items
+semicolons (suc n) c = statement (nothing (at c)) (semicolons n (suc c))
+
+-- int main(void){;;..;} : the `}` is point 2,049
+too_many_points : limits (main_of (semicolons 2048 16) 2064) ≡ Some (record { cause = TooManyPoints; place = at 2064 })
+too_many_points = refl
+
+points_enough : limits (main_of (semicolons 2047 16) 2063) ≡ None
+points_enough = refl
+
+-- function k calls function k - 1 at the column k
+abbrev chain : ℕ → List PartTree
+chain zero = function (void_of (97 ∷ 0 ∷ []) 6 [] no_items 14) ∷ []
+chain (suc n) = function (void_of (97 ∷ suc n ∷ []) 6 [] (statement (call (call_of (name_at (97 ∷ n ∷ []) (suc n)) [])) no_items) 14) ∷ chain n
+
+abbrev calling : ℕ → FileTree
+calling n = record { parts = function (function_of (codes "main") 5 [] (statement (call (call_of (name_at (97 ∷ n ∷ []) 17) [])) no_items) 24) ∷ chain n; end = at 25 }
+
+-- 32 calls on the longest path; with one function more the call of the last, in the last but one, is refused at its name
+calls_enough : limits (calling 31) ≡ None
+calls_enough = refl
+
+one_call_too_many : limits (calling 32) ≡ Some (record { cause = TooManyPoints; place = at 1 })
+one_call_too_many = refl
+
+-- whole sources ----------------------------------------------------------------------------------------------------
+
+no_bytes : Refuse [] NoMain (at 1)
+unfolding greatest_length
+no_bytes = bad_tree (record { kind = End; place = at 1 } ∷ []) (record { parts = []; end = at 1 }) NoMain (at 1) (omega arith) ([], refl, tt, refl)
+    ((record { kind = End; place = at 1 }, 0) ∷ [], ([], _, refl, refl, refl), refl, (omega arith, tt)) (bad_name (record { cause = NoMain; place = at 1 }) [] refl)
+
+-- spaces ------------------------------------------------------------------------------------------------------------
+
+place_from_spaces : (n : ℕ) (l c : ℕ) → place_from (record { line = l; column = c }) (replicate n 32) ≡ record { line = l; column = c + n }
+place_from_spaces zero l c = let e : c ≡ c + 0 = omega arith in ap (λ (k : ℕ). record { line = l; column = k }) e
+place_from_spaces (suc n) l c =
+    let e : c + 1 + n ≡ c + suc n = omega arith in
+    place_from_spaces n l (c + 1) ∙ ap (λ (k : ℕ). record { line = l; column = k }) e
+
+spaces_too_long : (n : ℕ) → greatest_length ≡ n → Refuse (replicate (n + 1) 32) TooLong (record { line = 1; column = 1 + n })
+spaces_too_long n e =
+    let f : place_behind (take greatest_length (replicate (n + 1) 32)) ≡ record { line = 1; column = 1 + n } =
+    ap (λ (k : ℕ). place_behind (take k (replicate (n + 1) 32))) e ∙ ap place_behind (take-replicate n (n + 1) 32 (omega arith)) ∙ place_from_spaces n 1 1 in
+    subst (Refuse (replicate (n + 1) 32) TooLong) f (too_long (omega (arith, length-replicate {A = ℕ} (n + 1) 32, e)))
+
+-- 65,537 spaces: catches a limit of 65,535, and a place past the end
+too_many_spaces : Refuse (replicate (65536 + 1) 32) TooLong (at 65537)
+unfolding greatest_length
+too_many_spaces = spaces_too_long 65536 refl
+
+-- int main(void){ .. -----------------------------------------------------------------------------------------------
+
+abbrev token_at : Kind → ℕ → Token
+token_at k c = record { kind = k; place = at c }
+
+abbrev empty_tokens : List Token
+empty_tokens = token_at (MarkOf mark.Int) 1 ∷ token_at (Name (codes "main")) 5 ∷ token_at (MarkOf mark.OpenParen) 9 ∷ token_at (MarkOf mark.Void) 10 ∷ token_at (MarkOf mark.CloseParen) 14 ∷ token_at (MarkOf mark.OpenBrace) 15 ∷ token_at (MarkOf mark.CloseBrace) 16 ∷ token_at End 17 ∷ []
+
+empty_lexed : Lex (codes "int main(void){}") empty_tokens
+empty_lexed = (
+  token (codes "int") (token_at (MarkOf mark.Int) 1) ∷ gap (codes " ") ∷ token (codes "main") (token_at (Name (codes "main")) 5) ∷ token (codes "(") (token_at (MarkOf mark.OpenParen) 9) ∷ token (codes "void") (token_at (MarkOf mark.Void) 10) ∷ token (codes ")") (token_at (MarkOf mark.CloseParen) 14) ∷ token (codes "{") (token_at (MarkOf mark.OpenBrace) 15) ∷ token (codes "}") (token_at (MarkOf mark.CloseBrace) 16) ∷ [],
+  refl,
+  (
+    as_token [] (codes "int") (codes " main(void){}") (MarkOf mark.Int) (mark_word mark.Int refl) (mark_of mark.Int refl) refl refl refl,
+    (
+      blank 32 refl refl,
+      (
+        as_token (codes "int ") (codes "main") (codes "(void){}") (Name (codes "main")) (word refl) (name refl refl refl) refl refl refl,
+        (
+          as_token (codes "int main") (codes "(") (codes "void){}") (MarkOf mark.OpenParen) (mark_word mark.OpenParen refl) (mark_of mark.OpenParen refl) refl refl refl,
+          (
+            as_token (codes "int main(") (codes "void") (codes "){}") (MarkOf mark.Void) (mark_word mark.Void refl) (mark_of mark.Void refl) refl refl refl,
+            (
+              as_token (codes "int main(void") (codes ")") (codes "{}") (MarkOf mark.CloseParen) (mark_word mark.CloseParen refl) (mark_of mark.CloseParen refl) refl refl refl,
+              (
+                as_token (codes "int main(void)") (codes "{") (codes "}") (MarkOf mark.OpenBrace) (mark_word mark.OpenBrace refl) (mark_of mark.OpenBrace refl) refl refl refl,
+                (
+                  as_token (codes "int main(void){") (codes "}") [] (MarkOf mark.CloseBrace) (mark_word mark.CloseBrace refl) (mark_of mark.CloseBrace refl) refl refl refl,
+                  tt,
+                ),
+              ),
+            ),
+          ),
+        ),
+      ),
+    ),
+  ),
+  refl,
+)
+
+-- int main(void){} has this tree
+abbrev empty_tree : FileTree
+empty_tree = main_of no_items 16
+
+abbrev piece : Kind → ℕ → ℕ → Piece
+piece k c level = (token_at k c, level)
+
+empty_parsed : IsTree empty_tokens empty_tree
+empty_parsed = (
+  piece (MarkOf mark.Int) 1 0 ∷ piece (Name (codes "main")) 5 0 ∷ piece (MarkOf mark.OpenParen) 9 0 ∷ piece (MarkOf mark.Void) 10 0 ∷ piece (MarkOf mark.CloseParen) 14 0
+      ∷ piece (MarkOf mark.OpenBrace) 15 1 ∷ piece (MarkOf mark.CloseBrace) 16 0 ∷ piece End 17 0 ∷ [],
+  (_, _, refl, (_, _, refl, (_, _, refl, inl (refl, (_, _, refl, (at 1, refl), refl)), (_, _, refl, (at 9, refl), (_, _, refl, inl (at 10, refl), (_, _, refl, (at 14, refl), (_, _, refl, (at 15, refl), (_, _, refl, refl, refl)))))), refl), refl),
+  refl,
+  low_by (piece (MarkOf mark.Int) 1 0 ∷ piece (Name (codes "main")) 5 0 ∷ piece (MarkOf mark.OpenParen) 9 0 ∷ piece (MarkOf mark.Void) 10 0 ∷ piece (MarkOf mark.CloseParen) 14 0
+      ∷ piece (MarkOf mark.OpenBrace) 15 1 ∷ piece (MarkOf mark.CloseBrace) 16 0 ∷ piece End 17 0 ∷ []) refl,
+)
+
+no_calls : (before after : List (List ℕ × Identifier)) (c : List ℕ × Identifier) → [] ≡ before ++ c ∷ after → ⊥
+no_calls [] after c e = cc
+no_calls (b ∷ before) after c e = cc
+
+-- int main(void){}
+empty_accepted : Accepts (codes "int main(void){}") empty_tree
+unfolding greatest_length
+empty_accepted = record {
+  tokens = empty_tokens;
+  not_long = omega arith;
+  lexed = empty_lexed;
+  parsed = empty_parsed;
+  names = refl;
+  not_recursive = λ at r. no_calls r.0 r.1 r.2 r.3;
+  within = refl;
+}
+
+-- int main(void){ $ }
+dollar : Refuse (codes "int main(void){ $ }") BadByte (at 17)
+unfolding greatest_length
+dollar = bad_token BadByte (at 17) (omega arith) (
+  token (codes "int") (token_at (MarkOf mark.Int) 1) ∷ gap (codes " ") ∷ token (codes "main") (token_at (Name (codes "main")) 5) ∷ token (codes "(") (token_at (MarkOf mark.OpenParen) 9) ∷ token (codes "void") (token_at (MarkOf mark.Void) 10) ∷ token (codes ")") (token_at (MarkOf mark.CloseParen) 14) ∷ token (codes "{") (token_at (MarkOf mark.OpenBrace) 15) ∷ gap (codes " ") ∷ [],
+  codes "$ }",
+  refl,
+  (
+    as_token [] (codes "int") (codes " main(void){ $ }") (MarkOf mark.Int) (mark_word mark.Int refl) (mark_of mark.Int refl) refl refl refl,
+    (
+      blank 32 refl refl,
+      (
+        as_token (codes "int ") (codes "main") (codes "(void){ $ }") (Name (codes "main")) (word refl) (name refl refl refl) refl refl refl,
+        (
+          as_token (codes "int main") (codes "(") (codes "void){ $ }") (MarkOf mark.OpenParen) (mark_word mark.OpenParen refl) (mark_of mark.OpenParen refl) refl refl refl,
+          (
+            as_token (codes "int main(") (codes "void") (codes "){ $ }") (MarkOf mark.Void) (mark_word mark.Void refl) (mark_of mark.Void refl) refl refl refl,
+            (
+              as_token (codes "int main(void") (codes ")") (codes "{ $ }") (MarkOf mark.CloseParen) (mark_word mark.CloseParen refl) (mark_of mark.CloseParen refl) refl refl refl,
+              (
+                as_token (codes "int main(void)") (codes "{") (codes " $ }") (MarkOf mark.OpenBrace) (mark_word mark.OpenBrace refl) (mark_of mark.OpenBrace refl) refl refl refl,
+                (
+                  blank 32 refl refl,
+                  tt,
+                ),
+              ),
+            ),
+          ),
+        ),
+      ),
+    ),
+  ),
+  (λ e. cc, no_gap (codes "int main(void){ ") (codes "$ }") refl, no_lexeme (codes "$ }") refl refl),
+  refl,
+)
+
+-- texts ------------------------------------------------------------------------------------------------------------
+
+refusal_line : refusal_text TooLong (at 65537) ≡ codes "refused 1 TooLong at 1:65537" ++ 10 ∷ []
+unfolding digits
+refusal_line = refl
+
+last_refusal_line : refusal_text TooManyPoints (at 2064) ≡ codes "refused 13 TooManyPoints at 1:2064" ++ 10 ∷ []
+unfolding digits
+last_refusal_line = refl
