@@ -15,4 +15,5 @@ mod SiteExamples
 -- Refusals at their places.
 mod LowByTest
 mod GrammarExamples
+mod FirstTokens
 mod RefuseExamples

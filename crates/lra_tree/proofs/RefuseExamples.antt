@@ -1,25 +1,26 @@
 -- Refusals at their places: limits, whole sources, and texts. Which slip an example would catch stands beside it.
-use Rattle.std.proofs.Common.{◌≡◌, ℕ, zero, suc, ◌+◌, List, [], ◌∷◌, ◌++◌, Option, Some, None, refl, arith, inl, take, replicate, ap, ◌∙◌, subst}
-use Rattle.std.specs.Prelude.{codes}
+use Rattle.std.proofs.Common.{◌≡◌, ℕ, zero, suc, ◌+◌, List, [], ◌∷◌, ◌++◌, Option, Some, None, refl, arith, inl, take, replicate, ap, ◌∙◌, subst, true, length, sym, get_or}
+use Rattle.std.specs.Prelude.{codes, get_or, ◌≤◌}
 use Rattle.std.specs.Fmt.{digits}
 use Rattle.lra_tree.specs.declared.refusals.Refusal.{Refusal}
-use Rattle.lra_tree.specs.declared.refusals.Cause.TheVariants.{TooLong, BadByte, NoMain, TooManyVariables, TooManyPoints}
-use Rattle.lra_tree.specs.declared.tokens.Kind.TheVariants.{Name, Mark as MarkOf, End}
+use Rattle.lra_tree.specs.declared.refusals.Cause.TheVariants.{TooLong, BadByte, Syntax, NoMain, TooManyVariables, TooManyPoints}
+use Rattle.lra_tree.specs.declared.tokens.Kind.TheVariants.{Name, Mark as MarkOf, Unclosed, End}
 use Rattle.lra_tree.specs.declared.tokens.Mark.TheVariants as mark
 use Rattle.lra_tree.specs.declared.tokens.Token.{Token}
 use Rattle.lra_tree.specs.declared.trees.Identifier.{Identifier}
-use Rattle.lra_tree.specs.Lexeme.{word, mark_word, name, mark_of}
+use Rattle.lra_tree.specs.Lexeme.{IsOpen, word, mark_word, unclosed, name, mark_of, comment}
 use Rattle.lra_tree.specs.declared.tokens.Kind.{Kind}
-use Rattle.lra_tree.specs.Tokens.{blank, gap, token, Lex, place_behind, place_from}
+use Rattle.lra_tree.specs.Tokens.{is_blank, blank, line_comment, block_comment, skipped_line, NoGap, gap, token, Lex, place_behind, place_from}
 use Rattle.lra_tree.specs.Trees.{DeclaratorTree, nothing, call, ItemsTree, no_items, declaration, statement, PartTree, function, FileTree}
 use Rattle.lra_tree.specs.Labels.{labels_of}
 use Rattle.lra_tree.specs.Resolve.{resolve}
 use Rattle.lra_tree.specs.Sites.{events_of}
-use Rattle.lra_tree.specs.Refuse.{greatest_length, limit_fault, Refuse, too_long, bad_token, bad_tree, bad_name, Accepts, refusal_text}
+use Rattle.lra_tree.specs.Refuse.{greatest_length, limit_fault, Refuse, too_long, bad_token, bad_text, bad_tree, bad_name, Accepts, refusal_text}
 use Rattle.lra_tree.specs.Texts.{Piece}
 use Rattle.lra_tree.specs.Faults.{IsTree}
-use Rattle.std.proofs.lemmas.List.{take-replicate, length-replicate}
-use Rattle.lra_tree.proofs.LongestByTest.{no_gap, as_token, no_lexeme}
+use Rattle.std.proofs.lemmas.List.{take-replicate, length-replicate, length-append}
+use Rattle.lra_tree.proofs.LongestByTest.{no_gap, as_token, no_lexeme, is_open}
+use Rattle.lra_tree.proofs.FirstTokens.{not_unclosed}
 use Rattle.lra_tree.proofs.LowByTest.{low_by}
 use Rattle.lra_tree.proofs.TreeSamples.{at, name_at, call_of, function_of, void_of, main_of}
 
@@ -205,6 +206,51 @@ dollar = bad_token BadByte (at 17) (omega arith) (
   (λ e. cc, no_gap (codes "int main(void){ ") (codes "$ }") refl, no_lexeme (codes "$ }") refl refl),
   refl,
 )
+
+no_gap_here : NoGap [] (codes "/*")
+no_gap_here bytes after e (blank c f b) =
+    let g : codes "/*" ≡ c ∷ after = e ∙ ap (λ (z : List ℕ). z ++ after) f in
+    let h : is_blank 47 ≡ true = subst (λ (k : ℕ). is_blank k ≡ true) (sym (ap (λ (z : List ℕ). get_or z 0 0) g)) b in
+    cc
+no_gap_here bytes after e (line_comment text f a l) =
+    let g : codes "/*" ≡ 47 ∷ 47 ∷ text ++ after = e ∙ ap (λ (z : List ℕ). z ++ after) f in
+    let h : 42 ≡ 47 = ap (λ (z : List ℕ). get_or z 1 0) g in
+    omega (arith, h)
+no_gap_here bytes after e (block_comment text f o) =
+    let g : 2 ≡ length bytes + length after = ap (length {A = ℕ}) e ∙ length-append bytes after in
+    let h : length bytes ≡ suc (suc (length (text ++ codes "*/"))) = ap (length {A = ℕ}) f in
+    let k : length (text ++ codes "*/") ≡ length text + 2 = length-append text (codes "*/") in
+    omega (arith, g, h, k)
+no_gap_here bytes after e (skipped_line blanks text f b w t l i) =
+    let h : 47 ≡ 35 = ap (λ (z : List ℕ). get_or z 0 0) (e ∙ ap (λ (z : List ℕ). z ++ after) f) in
+    omega (arith, h)
+
+unclosed_longest : (t after : List ℕ) → codes "/*" ≡ t ++ after → length t ≤ 2
+unclosed_longest t after e =
+    let g : 2 ≡ length t + length after = ap (length {A = ℕ}) e ∙ length-append t after in
+    omega (arith, g)
+
+unclosed_open : IsOpen []
+unclosed_open = is_open [] refl
+
+-- /* : catches a comment that need not be closed, and a fault at its end
+unclosed_comment : Refuse (codes "/*") Syntax (at 1)
+unfolding greatest_length
+unclosed_comment = bad_text (token_at Unclosed 1 ∷ token_at End 3 ∷ []) Syntax (at 1) (omega arith) (
+  token (codes "/*") (token_at Unclosed 1) ∷ [],
+  refl,
+  (
+    record {
+      no_gap = no_gap_here;
+      longest = record { lexeme = unclosed ([], refl, unclosed_open); after = []; front = refl; longest = λ t after e l. unclosed_longest t after e };
+      spells = comment ([], refl, unclosed_open);
+      place = refl;
+    },
+    tt,
+  ),
+  refl,
+)
+    ([], token_at Unclosed 1, token_at End 3 ∷ [], refl, ((record { parts = []; end = at 1 }, [], (token_at End 1, 0) ∷ [], ([], _, refl, refl, refl), refl, tt), not_unclosed (at 1)), refl)
 
 -- texts ------------------------------------------------------------------------------------------------------------
 
