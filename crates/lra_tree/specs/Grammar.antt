@@ -7,7 +7,7 @@ use Rattle.lra_tree.specs.declared.tokens.Mark.TheVariants as mark
 use Rattle.lra_tree.specs.declared.trees.Identifier.{Identifier}
 use Rattle.lra_tree.specs.Program as program
 use Rattle.lra_tree.specs.Trees.{UnaryTree, negated, positive, literal, variable, input, group, TermTree, unary, times, over, modulo, ExprTree, term, plus, minus, NegationTree, opposite_again, value_of_unary, group_opposed, TestTree, opposite, value, compare, group_of, ConjunctionTree, test, and, CondTree, conjunction, or, CallTree, SourceTree, expression, result, StepTree, increment, decrement, AssignTree, set, update, after, before, DeclaratorTree, DeclarationTree, InitTree, no_init, declared, assigned, StmtTree, block, nothing, assign, call, if_only, if_else, while, for, break, continue, return, assert, assume, ItemsTree, no_items, declaration, statement, FunctionTree, GlobalTree, GlobalsTree, PartTree, prototype, globals, function, FileTree}
-use Rattle.lra_tree.specs.Texts.{Texts, ◌⋅◌, ◌∣◌, empty, opens, mark, opens_at, name, some_name, number, end_at, separated}
+use Rattle.lra_tree.specs.Texts.{Texts, ◌⋅◌, ◌∣◌, empty, opens, mark, opens_at, name, number, end_at, separated}
 
 -- expressions ------------------------------------------------------------------------------------------------------
 -- In the productions of unaries, whose first token may open a level, o is not needed: a name or a literal opens none.
@@ -218,12 +218,13 @@ IsReservedHead = (mark mark.Void ∣ IsType) ⋅ (mark mark.Input ∣ mark mark.
 abbrev pub IsSomeHead : Texts
 IsSomeHead z = (b : Bool) × (x : Identifier) × IsHead b x z
 
--- the types of parameters, with names or without; how many is told
-abbrev pub IsPrototypeParameter : ⊤ → Texts
-IsPrototypeParameter t = IsType ⋅ (some_name ∣ empty)
+-- parameters with names or without
+abbrev pub IsPrototypeParameter : Option Identifier → Texts
+IsPrototypeParameter None = IsType
+IsPrototypeParameter (Some x) = IsType ⋅ name x 0
 
 abbrev pub ArePrototypeParameters : Texts
-ArePrototypeParameters z = empty z ⊎ mark mark.Void z ⊎ ((t : ⊤) × (ts : List ⊤) × separated IsPrototypeParameter (t ∷ ts) z)
+ArePrototypeParameters z = (mark mark.Void ∣ empty) z ⊎ ((first : Option Identifier) × (rest : List (Option Identifier)) × separated IsPrototypeParameter (first ∷ rest) z)
 
 abbrev pub IsPrototype : Texts
 IsPrototype = (mark mark.Extern ∣ empty) ⋅ (IsSomeHead ∣ IsReservedHead) ⋅ mark mark.OpenParen ⋅ ArePrototypeParameters ⋅ mark mark.CloseParen ⋅ mark mark.Semicolon

@@ -1,16 +1,16 @@
 -- Which points and verdicts the report of a source lists: all points in the order of their numbers, from 1, each with its path, its place,
 -- the names of its live variables, and rows and generators over these; and a verdict for each assertion, in order.
-use Rattle.std.specs.Prelude.{◌≡◌, ℕ, suc, Bool, List, [], ◌∷◌, ◌++◌, length, Option, Some, None, ⊤, if◌then◌else◌}
+use Rattle.std.specs.Prelude.{◌≡◌, ℕ, suc, Bool, List, [], ◌∷◌, ◌++◌, length, Option, Some, None, ⊤, if◌then◌else◌, ◌<◌, ◌≤◌}
 use Rattle.std.specs.List.{AllByRecursion}
 use Rattle.lra_tree.specs.declared.trees.Identifier.{Identifier}
-use Rattle.lra_tree.specs.Report.{Row, Generator, Part, State, PointReport, Verdict, Report}
+use Rattle.lra_tree.specs.Report.{Row, Generator, Part, State, PointReport, Verdict, Report, IsSound}
 use Rattle.lra_tree.specs.ReportText.{CallPlace, path_text, shown_names}
 use Rattle.lra_tree.specs.Trees.{FileTree, PartTree, prototype, globals, function}
 use Rattle.lra_tree.specs.NameFaults.{global_names}
 use Rattle.lra_tree.specs.Labels.{Label, labels_of, label_at}
 use Rattle.lra_tree.specs.Resolve.{resolve}
 use Rattle.lra_tree.specs.Sites.{Site, sites_of}
-use Rattle.lra_tree.specs.Refuse.{label_place}
+use Rattle.lra_tree.specs.Refuse.{label_place, Accepts}
 
 abbrev pub globals_named : List PartTree → List (List ℕ)
 globals_named [] = []
@@ -94,3 +94,16 @@ AreJudged ls (a ∷ rest) (v ∷ vs) = (v ≡ listed_verdict ls a.0 a.1 v.proved
 pub record Lists (t : FileTree) (r : Report) : Type 0 where
   pub points : AreListed (globals_named t.parts) (labels_of t) 1 (sites_of (resolve t)) r.points
   pub verdicts : AreJudged (labels_of t) (assertions_from 1 (sites_of (resolve t))) r.verdicts
+
+-- the number of the first flagged point, where there is one, is that of a point
+abbrev pub IsFlag : ℕ → Option ℕ → Type 0
+IsFlag count None = ⊤
+IsFlag count (Some number) = (0 < number) × (number ≤ count)
+
+-- what is written of an accepted source: all its points and assertions; at each point what every run meets there; no assertion that fails is proved
+pub record IsReportOf (source : List ℕ) (r : Report) : Type 0 where
+  pub tree : FileTree
+  pub accepted : Accepts source tree
+  pub lists : Lists tree r
+  pub sound : IsSound (resolve tree) r
+  pub flag : IsFlag (length r.points) r.flagged

@@ -49,10 +49,6 @@ opens_at m at o z = z ≡ (record { kind = MarkOf m; place = at }, o) ∷ []
 abbrev pub name : Identifier → ℕ → Texts
 name x o z = z ≡ (record { kind = Name x.word; place = x.place }, o) ∷ []
 
--- any name
-abbrev pub some_name : Texts
-some_name z = (x : Identifier) × name x 0 z
-
 abbrev pub number : ℕ → Texts
 number n z = (at : Place) × (z ≡ (record { kind = Number n; place = at }, 0) ∷ [])
 

@@ -139,3 +139,18 @@ impl Word {
         &self.bytes
     }
 }
+
+#[cfg(test)]
+mod tests {
+    use super::*;
+    use std::test::Fail;
+
+    #[test]
+    fn words_keep_their_bytes(rt: HostRuntime) -> Result<(), Fail> {
+        let word = Word::from_slice(rt.alloc(), &[95, 120, 57])?;
+        let copy = word.copy(rt.alloc())?;
+        assert!(rt; word.as_slice() == [95, 120, 57].as_slice());
+        assert!(rt; copy.as_slice() == [95, 120, 57].as_slice());
+        Ok(())
+    }
+}
