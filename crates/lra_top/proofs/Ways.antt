@@ -4,7 +4,7 @@ use Rattle.std.specs.Prelude.{Option, Some, None}
 use Rattle.std.specs.Io.KnownBytes.{Consumes, IsAtEnd}
 use Rattle.std.proofs.lemmas.Grind.{common_steps}
 use Rattle.std.proofs.lemmas.List.{take-append-drop}
-use Rattle.lra_tree.specs.Report.{Place}
+use Rattle.lra_tree.specs.declared.refusals.Place.{Place}
 use Rattle.lra_tree.specs.ReportText.{report_text, unknown_count}
 use Rattle.lra_top.specs.FirstForm.{Form, IsSource, place_after, first_place}
 use Rattle.lra_top.specs.Answer.{limit, usage_text, too_long_text, syntax_text, IsTooLong, IsWithinLimit, IsFirstForm, RefusesLength, IsReport}

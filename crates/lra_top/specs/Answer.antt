@@ -1,6 +1,7 @@
 -- What an input deserves: a refusal, or a report.
 use Rattle.std.specs.Prelude.{◌≡◌, ◌≤◌, ◌<◌, ◌⊎◌, ℕ, List, ◌++◌, length, codes}
-use Rattle.lra_tree.specs.Report.{Place, Report}
+use Rattle.lra_tree.specs.declared.refusals.Place.{Place}
+use Rattle.lra_tree.specs.Report.{Report}
 use Rattle.lra_tree.specs.ReportText.{text_line, place_text, report_text, unknown_count}
 use Rattle.lra_top.specs.FirstForm.{Form, IsSource, place_after, first_place}
 use Rattle.lra_top.specs.Claims.{IsReportOf}

@@ -1,7 +1,8 @@
 -- What the report of a source of the first form has and claims.
 use Rattle.std.specs.Prelude.{◌≡◌, ℕ, ◌+◌, ℤ, pos, ◌<ℤ◌, List, [], ◌∷◌, map, true, false, codes, None}
 use Rattle.lra_tree.specs.Run.{Point}
-use Rattle.lra_tree.specs.Report.{Place, box, Options, State, PointReport, Verdict, Report, Holds, IsSound}
+use Rattle.lra_tree.specs.declared.refusals.Place.{Place}
+use Rattle.lra_tree.specs.Report.{box, Options, State, PointReport, Verdict, Report, Holds, IsSound}
 use Rattle.lra_top.specs.FirstForm.{Simple, Set, Check, Form}
 use Rattle.lra_top.specs.FirstProgram.{program_of}
 use Rattle.lra_top.specs.Interval.{unbounded, printed, states_from}

@@ -3,7 +3,7 @@ use Rattle.std.specs.Prelude.{◌≡◌, ◌≤◌, ◌<◌, ◌+◌, ◌^◌, �
 use Rattle.std.specs.List.{AllByRecursion, list_any, list_all}
 use Rattle.std.specs.Str.{bytes_eq}
 use Rattle.std.specs.Fmt.{decimal}
-pub use Rattle.lra_tree.specs.Report.{Place}
+pub use Rattle.lra_tree.specs.declared.refusals.Place.{Place}
 
 -- `NAME = n;` and `assert(NAME >= n);`
 pub data Simple : Type 0 where
