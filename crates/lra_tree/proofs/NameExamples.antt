@@ -1,15 +1,19 @@
 -- Names: what they mean, and the faults of names at their places. Which slip an example would catch stands beside it.
-use Rattle.std.proofs.Common.{◌≡◌, ℕ, [], ◌∷◌, Some, None, refl}
+use Rattle.std.proofs.Common.{◌≡◌, ℕ, zero, suc, ◌<◌, List, [], ◌∷◌, ◌++◌, length, Some, None, refl, ap, subst, sym, ◌∙◌, arith}
+use Rattle.lra_tree.specs.Scope.{functions_of}
 use Rattle.std.specs.Prelude.{codes, map}
+use Rattle.std.specs.Prelude.{Contains}
 use Rattle.lra_tree.specs.declared.refusals.Refusal.{Refusal}
+use Rattle.lra_tree.specs.declared.trees.Identifier.{Identifier}
 use Rattle.lra_tree.specs.declared.refusals.Cause.{Cause}
 use Rattle.lra_tree.specs.declared.refusals.Cause.TheVariants.{NoMain, UnknownName, DuplicateName, BadCall, Misplaced}
 use Rattle.lra_tree.specs.Program as program
-use Rattle.lra_tree.specs.Trees.{value, compare, conjunction, test, and, or, expression, result, set, after, increment, declared, block, nothing, assign, call, for, break, return, no_items, declaration, statement, globals, function, FileTree}
+use Rattle.lra_tree.specs.Trees.{value, compare, conjunction, test, and, or, expression, result, set, after, increment, declared, block, nothing, assign, call, for, break, return, no_items, declaration, statement, globals, function, FileTree, FunctionTree}
 use Rattle.lra_tree.specs.Labels.{labels_of}
 use Rattle.lra_tree.specs.NameFaults.{name_faults}
 use Rattle.lra_tree.specs.Resolve.{resolve, resolve_cond}
-use Rattle.lra_tree.specs.Reach.{IsFirstRecursive, there}
+use Rattle.lra_tree.specs.Reach.{calls_of, Reaches, there, by_call, IsRecursive, IsFirstRecursive}
+use Rattle.lra_tree.specs.Refuse.{NotRecursive}
 use Rattle.lra_tree.proofs.RunExamples as run
 use Rattle.lra_tree.proofs.TreeSamples.{at, name_at, x_at, number, use_of, tested, call_of, declared_as, function_of, void_of, main_of, one_variable, called_twice}
 
@@ -136,3 +140,44 @@ itself = record {
 
 recursive : IsFirstRecursive itself (at 15)
 recursive = ([], [], (codes "f", name_at (codes "f") 15), refl, refl, there, tt)
+
+-- int main(void){ main(); } : catches calls of main that are left out
+main_itself : IsFirstRecursive (main_of (statement (call (call_of (name_at (codes "main") 17) [])) no_items) 25) (at 17)
+main_itself = ([], [], (codes "main", name_at (codes "main") 17), refl, refl, there, tt)
+
+-- void f(void){ main(); } int main(void){} : main doesn't reach f
+abbrev caller : FunctionTree
+caller = void_of (codes "f") 6 [] (statement (call (call_of (name_at (codes "main") 15) [])) no_items) 23
+
+abbrev last : FunctionTree
+last = function_of (codes "main") 29 [] no_items 40
+
+abbrev main_called : FileTree
+main_called = record { parts = function caller ∷ function last ∷ []; end = at 41 }
+
+no_call : (f : FunctionTree) (c : Identifier) → last ≡ f → Contains (calls_of f) c → ⊥
+no_call f c e (k, l, s) = let h : k < length (calls_of last) = subst (λ (g : FunctionTree). k < length (calls_of g)) (sym e) l in omega (arith, h)
+
+calls_nothing : (f : FunctionTree) (c : Identifier) → f.name.word ≡ codes "main" → Contains (functions_of main_called) f → Contains (calls_of f) c → ⊥
+calls_nothing f c n (zero, l, s) calls =
+    let h : codes "f" ≡ codes "main" = ap (λ (g : FunctionTree). g.name.word) s ∙ n in
+    let k : 1 ≡ 4 = ap (length {A = ℕ}) h in
+    omega (arith, k)
+calls_nothing f c n (suc zero, l, s) calls = no_call f c s calls
+calls_nothing f c n (suc (suc k), l, s) calls = omega (arith, l)
+
+main_reaches_no_f : (g : List ℕ) → g ≡ codes "main" → Reaches main_called (codes "f") g → ⊥
+main_reaches_no_f _ e there =
+    let k : 1 ≡ 4 = ap (length {A = ℕ}) e in
+    omega (arith, k)
+main_reaches_no_f _ e (by_call f g c r) = calls_nothing c.function c.called (c.name ∙ e) c.is_there c.calls
+
+not_at : (front behind : List (List ℕ × Identifier)) (c : List ℕ × Identifier) → (codes "f", name_at (codes "main") 15) ∷ [] ≡ front ++ c ∷ behind → IsRecursive main_called c → ⊥
+not_at [] behind c e r =
+    let h : (codes "f", name_at (codes "main") 15) ≡ c = cc in
+    main_reaches_no_f (codes "main") refl (subst (IsRecursive main_called) (sym h) r)
+not_at (b ∷ []) behind c e r = cc
+not_at (b ∷ d ∷ front) behind c e r = cc
+
+main_called_allowed : (name_faults main_called ≡ []) × NotRecursive main_called
+main_called_allowed = (refl, λ at r. not_at r.0 r.1 r.2 r.3 r.5)

@@ -45,7 +45,7 @@ abbrev lines : List (List ℕ) → List ℕ
 lines = flat_map text_line
 
 -- int main(void){ long x; x = 3; assert(x >= 3); }
-abbrev one_variable : Report
+abbrev pub one_variable : Report
 one_variable = record {
   options = defaults box;
   flagged = None;
@@ -90,7 +90,7 @@ unfolding digits
 unknown_text = refl
 
 -- int main(void){}
-abbrev empty_main : Report
+abbrev pub empty_main : Report
 empty_main = record { options = defaults poly; flagged = None; points = in_main 1 (at 1 16) [] (both [] (a_point 1 [] ∷ []) ∷ []) ∷ []; verdicts = [] }
 
 empty_main_text : report_text empty_main ≡ lines (

@@ -8,9 +8,10 @@ use Rattle.lra_tree.specs.Resolve.{resolve}
 use Rattle.lra_tree.specs.Sites.{Site, sites_of}
 use Rattle.lra_tree.specs.Graph.{Node}
 use Rattle.lra_tree.specs.Inlined.{InlAll, as_declaration, as_given, as_assign, as_assert, as_return_value, as_none, as_statement, as_value, as_result, main_frame}
-use Rattle.lra_tree.specs.Listing.{listed_point, globals_named}
-use Rattle.lra_tree.proofs.TreeSamples.{at, called_twice}
+use Rattle.lra_tree.specs.Listing.{listed_point, globals_named, Lists}
+use Rattle.lra_tree.proofs.TreeSamples.{at, one_variable, called_twice}
 use Rattle.lra_tree.proofs.RunExamples as run
+use Rattle.lra_tree.proofs.ReportTextExamples as report
 
 abbrev site : List ℕ → ℕ → ℕ → Site
 site path at live = record { path = path; label = at; live = live; asserts = false }
@@ -47,3 +48,10 @@ called_twice_graph = (
       (as_statement _ _ _ _ _ _ _ _ _ _ (as_return_value _ _ _ _ _ _ refl (omega arith) refl) (as_none _ _ _))) refl))
       (as_statement _ _ _ _ _ _ _ _ _ _ (as_assert _ _ _ _ _ refl) (as_none _ _ _))),
 )
+
+-- int main(void){ long x; x = 3; assert(x >= 3); } : the report with four points and one verdict lists what the source has; catches a report that leaves a point out
+one_variable_lists : Lists one_variable report.one_variable
+one_variable_lists = record {
+  points = (refl, ((tt, tt), tt), (refl, ((tt, tt), tt), (refl, (((refl, tt), tt), tt), (refl, (((refl, tt), tt), tt), tt))));
+  verdicts = (refl, tt);
+}
