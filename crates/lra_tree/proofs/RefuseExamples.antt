@@ -1,17 +1,17 @@
 -- Refusals at their places: limits, whole sources, and texts. Which slip an example would catch stands beside it.
-use Rattle.std.proofs.Common.{◌≡◌, ℕ, zero, suc, ◌+◌, List, [], ◌∷◌, ◌++◌, Option, Some, None, refl, arith, inl, take, replicate, ap, ◌∙◌, subst, true, length, sym, get_or}
+use Rattle.std.proofs.Common.{◌≡◌, ℕ, zero, suc, ◌+◌, List, [], ◌∷◌, ◌++◌, Option, Some, None, refl, arith, inl, take, replicate, ap, ◌∙◌, subst, true, length, sym, get_or, inr}
 use Rattle.std.specs.Prelude.{codes, get_or, ◌≤◌}
 use Rattle.std.specs.Fmt.{digits}
 use Rattle.lra_tree.specs.declared.refusals.Refusal.{Refusal}
-use Rattle.lra_tree.specs.declared.refusals.Cause.TheVariants.{TooLong, BadByte, Syntax, NoMain, TooManyVariables, TooManyPoints}
-use Rattle.lra_tree.specs.declared.tokens.Kind.TheVariants.{Name, Mark as MarkOf, Unclosed, End}
+use Rattle.lra_tree.specs.declared.refusals.Cause.TheVariants.{TooLong, BadByte, Syntax, NoMain, TooManyVariables, TooManyPoints, UnknownName, DuplicateName, Misplaced}
+use Rattle.lra_tree.specs.declared.tokens.Kind.TheVariants.{Name, Number, Mark as MarkOf, Unclosed, End}
 use Rattle.lra_tree.specs.declared.tokens.Mark.TheVariants as mark
 use Rattle.lra_tree.specs.declared.tokens.Token.{Token}
 use Rattle.lra_tree.specs.declared.trees.Identifier.{Identifier}
-use Rattle.lra_tree.specs.Lexeme.{IsOpen, word, mark_word, unclosed, name, mark_of, comment}
+use Rattle.lra_tree.specs.Lexeme.{IsOpen, IsLiteral, decimal_base, number_word, number, word, mark_word, unclosed, name, mark_of, comment}
 use Rattle.lra_tree.specs.declared.tokens.Kind.{Kind}
 use Rattle.lra_tree.specs.Tokens.{is_blank, blank, line_comment, block_comment, skipped_line, NoGap, gap, token, Lex, place_behind, place_from}
-use Rattle.lra_tree.specs.Trees.{DeclaratorTree, nothing, call, ItemsTree, no_items, declaration, statement, PartTree, function, FileTree}
+use Rattle.lra_tree.specs.Trees.{DeclaratorTree, nothing, call, ItemsTree, no_items, declaration, statement, PartTree, function, FileTree, assign, break, set, expression}
 use Rattle.lra_tree.specs.Labels.{labels_of}
 use Rattle.lra_tree.specs.Resolve.{resolve}
 use Rattle.lra_tree.specs.Sites.{events_of}
@@ -22,7 +22,7 @@ use Rattle.std.proofs.lemmas.List.{take-replicate, length-replicate, length-appe
 use Rattle.lra_tree.proofs.LongestByTest.{no_gap, as_token, no_lexeme, is_open}
 use Rattle.lra_tree.proofs.FirstTokens.{not_unclosed}
 use Rattle.lra_tree.proofs.LowByTest.{low_by}
-use Rattle.lra_tree.proofs.TreeSamples.{at, name_at, call_of, function_of, void_of, main_of}
+use Rattle.lra_tree.proofs.TreeSamples.{at, name_at, call_of, function_of, void_of, main_of, x_at, declared_as, number as number_of}
 
 abbrev limits : FileTree → Option Refusal
 limits t = limit_fault (labels_of t) 0 (events_of (resolve t))
@@ -206,6 +206,207 @@ dollar = bad_token BadByte (at 17) (omega arith) (
   (λ e. cc, no_gap (codes "int main(void){ ") (codes "$ }") refl, no_lexeme (codes "$ }") refl refl),
   refl,
 )
+
+one_literal : IsLiteral (codes "1") 1
+one_literal = record { base = decimal_base; front = []; digits = codes "1"; suffix = []; parts = refl; begins = (49, [], refl, refl, refl); all_digits = refl; is_suffix = refl; number = refl }
+
+-- int main(void){ x = 1; }
+abbrev unknown_name_tokens : List Token
+unknown_name_tokens = token_at (MarkOf mark.Int) 1 ∷ token_at (Name (codes "main")) 5 ∷ token_at (MarkOf mark.OpenParen) 9 ∷ token_at (MarkOf mark.Void) 10 ∷ token_at (MarkOf mark.CloseParen) 14 ∷ token_at (MarkOf mark.OpenBrace) 15 ∷ token_at (Name (codes "x")) 17 ∷ token_at (MarkOf mark.Assign) 19 ∷ token_at (Number 1) 21 ∷ token_at (MarkOf mark.Semicolon) 22 ∷ token_at (MarkOf mark.CloseBrace) 24 ∷ token_at End 25 ∷ []
+
+unknown_name_refused : Refuse (codes "int main(void){ x = 1; }") UnknownName (at 17)
+unfolding greatest_length
+unknown_name_refused = bad_tree unknown_name_tokens (main_of (statement (assign (set (x_at 17) (expression (number_of 1)))) no_items) 24) UnknownName (at 17) (omega arith) (
+  token (codes "int") (token_at (MarkOf mark.Int) 1) ∷ gap (codes " ") ∷ token (codes "main") (token_at (Name (codes "main")) 5) ∷ token (codes "(") (token_at (MarkOf mark.OpenParen) 9) ∷ token (codes "void") (token_at (MarkOf mark.Void) 10) ∷ token (codes ")") (token_at (MarkOf mark.CloseParen) 14) ∷ token (codes "{") (token_at (MarkOf mark.OpenBrace) 15) ∷ gap (codes " ") ∷ token (codes "x") (token_at (Name (codes "x")) 17) ∷ gap (codes " ") ∷ token (codes "=") (token_at (MarkOf mark.Assign) 19) ∷ gap (codes " ") ∷ token (codes "1") (token_at (Number 1) 21) ∷ token (codes ";") (token_at (MarkOf mark.Semicolon) 22) ∷ gap (codes " ") ∷ token (codes "}") (token_at (MarkOf mark.CloseBrace) 24) ∷ [],
+  refl,
+  (
+    as_token [] (codes "int") (codes " main(void){ x = 1; }") (MarkOf mark.Int) (mark_word mark.Int refl) (mark_of mark.Int refl) refl refl refl,
+    (
+      blank 32 refl refl,
+      (
+        as_token (codes "int ") (codes "main") (codes "(void){ x = 1; }") (Name (codes "main")) (word refl) (name refl refl refl) refl refl refl,
+        (
+          as_token (codes "int main") (codes "(") (codes "void){ x = 1; }") (MarkOf mark.OpenParen) (mark_word mark.OpenParen refl) (mark_of mark.OpenParen refl) refl refl refl,
+          (
+            as_token (codes "int main(") (codes "void") (codes "){ x = 1; }") (MarkOf mark.Void) (mark_word mark.Void refl) (mark_of mark.Void refl) refl refl refl,
+            (
+              as_token (codes "int main(void") (codes ")") (codes "{ x = 1; }") (MarkOf mark.CloseParen) (mark_word mark.CloseParen refl) (mark_of mark.CloseParen refl) refl refl refl,
+              (
+                as_token (codes "int main(void)") (codes "{") (codes " x = 1; }") (MarkOf mark.OpenBrace) (mark_word mark.OpenBrace refl) (mark_of mark.OpenBrace refl) refl refl refl,
+                (
+                  blank 32 refl refl,
+                  (
+                    as_token (codes "int main(void){ ") (codes "x") (codes " = 1; }") (Name (codes "x")) (word refl) (name refl refl refl) refl refl refl,
+                    (
+                      blank 32 refl refl,
+                      (
+                        as_token (codes "int main(void){ x ") (codes "=") (codes " 1; }") (MarkOf mark.Assign) (mark_word mark.Assign refl) (mark_of mark.Assign refl) refl refl refl,
+                        (
+                          blank 32 refl refl,
+                          (
+                            as_token (codes "int main(void){ x = ") (codes "1") (codes "; }") (Number 1) (number_word refl) (number 1 refl one_literal (omega arith)) refl refl refl,
+                            (
+                              as_token (codes "int main(void){ x = 1") (codes ";") (codes " }") (MarkOf mark.Semicolon) (mark_word mark.Semicolon refl) (mark_of mark.Semicolon refl) refl refl refl,
+                              (
+                                blank 32 refl refl,
+                                (
+                                  as_token (codes "int main(void){ x = 1; ") (codes "}") [] (MarkOf mark.CloseBrace) (mark_word mark.CloseBrace refl) (mark_of mark.CloseBrace refl) refl refl refl,
+                                  tt,
+                                ),
+                              ),
+                            ),
+                          ),
+                        ),
+                      ),
+                    ),
+                  ),
+                ),
+              ),
+            ),
+          ),
+        ),
+      ),
+    ),
+  ),
+  refl,
+) (
+  piece (MarkOf mark.Int) 1 0 ∷ piece (Name (codes "main")) 5 0 ∷ piece (MarkOf mark.OpenParen) 9 0 ∷ piece (MarkOf mark.Void) 10 0 ∷ piece (MarkOf mark.CloseParen) 14 0 ∷ piece (MarkOf mark.OpenBrace) 15 1 ∷ piece (Name (codes "x")) 17 0 ∷ piece (MarkOf mark.Assign) 19 0 ∷ piece (Number 1) 21 0 ∷ piece (MarkOf mark.Semicolon) 22 0 ∷ piece (MarkOf mark.CloseBrace) 24 0 ∷ piece End 25 0 ∷ [],
+  (_, _, refl, (_, _, refl, (_, _, refl, inl (refl, (_, _, refl, (at 1, refl), refl)), (_, _, refl, (at 9, refl), (_, _, refl, inl (at 10, refl), (_, _, refl, (at 14, refl), (_, _, refl, (at 15, refl), (_, _, refl, (_, _, refl, (_, _, refl, (_, _, refl, refl, (_, _, refl, (at 19, refl), (at 21, refl))), (at 22, refl)), refl), refl)))))), refl), refl),
+  refl,
+  low_by (piece (MarkOf mark.Int) 1 0 ∷ piece (Name (codes "main")) 5 0 ∷ piece (MarkOf mark.OpenParen) 9 0 ∷ piece (MarkOf mark.Void) 10 0 ∷ piece (MarkOf mark.CloseParen) 14 0 ∷ piece (MarkOf mark.OpenBrace) 15 1 ∷ piece (Name (codes "x")) 17 0 ∷ piece (MarkOf mark.Assign) 19 0 ∷ piece (Number 1) 21 0 ∷ piece (MarkOf mark.Semicolon) 22 0 ∷ piece (MarkOf mark.CloseBrace) 24 0 ∷ piece End 25 0 ∷ []) refl,
+)
+    (bad_name (record { cause = UnknownName; place = at 17 }) [] refl)
+
+-- int main(void){ break; }
+abbrev misplaced_tokens : List Token
+misplaced_tokens = token_at (MarkOf mark.Int) 1 ∷ token_at (Name (codes "main")) 5 ∷ token_at (MarkOf mark.OpenParen) 9 ∷ token_at (MarkOf mark.Void) 10 ∷ token_at (MarkOf mark.CloseParen) 14 ∷ token_at (MarkOf mark.OpenBrace) 15 ∷ token_at (MarkOf mark.Break) 17 ∷ token_at (MarkOf mark.Semicolon) 22 ∷ token_at (MarkOf mark.CloseBrace) 24 ∷ token_at End 25 ∷ []
+
+misplaced_refused : Refuse (codes "int main(void){ break; }") Misplaced (at 17)
+unfolding greatest_length
+misplaced_refused = bad_tree misplaced_tokens (main_of (statement (break (at 17)) no_items) 24) Misplaced (at 17) (omega arith) (
+  token (codes "int") (token_at (MarkOf mark.Int) 1) ∷ gap (codes " ") ∷ token (codes "main") (token_at (Name (codes "main")) 5) ∷ token (codes "(") (token_at (MarkOf mark.OpenParen) 9) ∷ token (codes "void") (token_at (MarkOf mark.Void) 10) ∷ token (codes ")") (token_at (MarkOf mark.CloseParen) 14) ∷ token (codes "{") (token_at (MarkOf mark.OpenBrace) 15) ∷ gap (codes " ") ∷ token (codes "break") (token_at (MarkOf mark.Break) 17) ∷ token (codes ";") (token_at (MarkOf mark.Semicolon) 22) ∷ gap (codes " ") ∷ token (codes "}") (token_at (MarkOf mark.CloseBrace) 24) ∷ [],
+  refl,
+  (
+    as_token [] (codes "int") (codes " main(void){ break; }") (MarkOf mark.Int) (mark_word mark.Int refl) (mark_of mark.Int refl) refl refl refl,
+    (
+      blank 32 refl refl,
+      (
+        as_token (codes "int ") (codes "main") (codes "(void){ break; }") (Name (codes "main")) (word refl) (name refl refl refl) refl refl refl,
+        (
+          as_token (codes "int main") (codes "(") (codes "void){ break; }") (MarkOf mark.OpenParen) (mark_word mark.OpenParen refl) (mark_of mark.OpenParen refl) refl refl refl,
+          (
+            as_token (codes "int main(") (codes "void") (codes "){ break; }") (MarkOf mark.Void) (mark_word mark.Void refl) (mark_of mark.Void refl) refl refl refl,
+            (
+              as_token (codes "int main(void") (codes ")") (codes "{ break; }") (MarkOf mark.CloseParen) (mark_word mark.CloseParen refl) (mark_of mark.CloseParen refl) refl refl refl,
+              (
+                as_token (codes "int main(void)") (codes "{") (codes " break; }") (MarkOf mark.OpenBrace) (mark_word mark.OpenBrace refl) (mark_of mark.OpenBrace refl) refl refl refl,
+                (
+                  blank 32 refl refl,
+                  (
+                    as_token (codes "int main(void){ ") (codes "break") (codes "; }") (MarkOf mark.Break) (mark_word mark.Break refl) (mark_of mark.Break refl) refl refl refl,
+                    (
+                      as_token (codes "int main(void){ break") (codes ";") (codes " }") (MarkOf mark.Semicolon) (mark_word mark.Semicolon refl) (mark_of mark.Semicolon refl) refl refl refl,
+                      (
+                        blank 32 refl refl,
+                        (
+                          as_token (codes "int main(void){ break; ") (codes "}") [] (MarkOf mark.CloseBrace) (mark_word mark.CloseBrace refl) (mark_of mark.CloseBrace refl) refl refl refl,
+                          tt,
+                        ),
+                      ),
+                    ),
+                  ),
+                ),
+              ),
+            ),
+          ),
+        ),
+      ),
+    ),
+  ),
+  refl,
+) (
+  piece (MarkOf mark.Int) 1 0 ∷ piece (Name (codes "main")) 5 0 ∷ piece (MarkOf mark.OpenParen) 9 0 ∷ piece (MarkOf mark.Void) 10 0 ∷ piece (MarkOf mark.CloseParen) 14 0 ∷ piece (MarkOf mark.OpenBrace) 15 1 ∷ piece (MarkOf mark.Break) 17 0 ∷ piece (MarkOf mark.Semicolon) 22 0 ∷ piece (MarkOf mark.CloseBrace) 24 0 ∷ piece End 25 0 ∷ [],
+  (_, _, refl, (_, _, refl, (_, _, refl, inl (refl, (_, _, refl, (at 1, refl), refl)), (_, _, refl, (at 9, refl), (_, _, refl, inl (at 10, refl), (_, _, refl, (at 14, refl), (_, _, refl, (at 15, refl), (_, _, refl, (_, _, refl, (_, _, refl, refl, (at 22, refl)), refl), refl)))))), refl), refl),
+  refl,
+  low_by (piece (MarkOf mark.Int) 1 0 ∷ piece (Name (codes "main")) 5 0 ∷ piece (MarkOf mark.OpenParen) 9 0 ∷ piece (MarkOf mark.Void) 10 0 ∷ piece (MarkOf mark.CloseParen) 14 0 ∷ piece (MarkOf mark.OpenBrace) 15 1 ∷ piece (MarkOf mark.Break) 17 0 ∷ piece (MarkOf mark.Semicolon) 22 0 ∷ piece (MarkOf mark.CloseBrace) 24 0 ∷ piece End 25 0 ∷ []) refl,
+)
+    (bad_name (record { cause = Misplaced; place = at 17 }) [] refl)
+
+-- int main(void){ long x; long x; } : the second name
+abbrev duplicate_name_tokens : List Token
+duplicate_name_tokens = token_at (MarkOf mark.Int) 1 ∷ token_at (Name (codes "main")) 5 ∷ token_at (MarkOf mark.OpenParen) 9 ∷ token_at (MarkOf mark.Void) 10 ∷ token_at (MarkOf mark.CloseParen) 14 ∷ token_at (MarkOf mark.OpenBrace) 15 ∷ token_at (MarkOf mark.Long) 17 ∷ token_at (Name (codes "x")) 22 ∷ token_at (MarkOf mark.Semicolon) 23 ∷ token_at (MarkOf mark.Long) 25 ∷ token_at (Name (codes "x")) 30 ∷ token_at (MarkOf mark.Semicolon) 31 ∷ token_at (MarkOf mark.CloseBrace) 33 ∷ token_at End 34 ∷ []
+
+duplicate_name_refused : Refuse (codes "int main(void){ long x; long x; }") DuplicateName (at 30)
+unfolding greatest_length
+duplicate_name_refused = bad_tree duplicate_name_tokens (main_of (declaration (declared_as (x_at 22) None) (declaration (declared_as (x_at 30) None) no_items)) 33) DuplicateName (at 30) (omega arith) (
+  token (codes "int") (token_at (MarkOf mark.Int) 1) ∷ gap (codes " ") ∷ token (codes "main") (token_at (Name (codes "main")) 5) ∷ token (codes "(") (token_at (MarkOf mark.OpenParen) 9) ∷ token (codes "void") (token_at (MarkOf mark.Void) 10) ∷ token (codes ")") (token_at (MarkOf mark.CloseParen) 14) ∷ token (codes "{") (token_at (MarkOf mark.OpenBrace) 15) ∷ gap (codes " ") ∷ token (codes "long") (token_at (MarkOf mark.Long) 17) ∷ gap (codes " ") ∷ token (codes "x") (token_at (Name (codes "x")) 22) ∷ token (codes ";") (token_at (MarkOf mark.Semicolon) 23) ∷ gap (codes " ") ∷ token (codes "long") (token_at (MarkOf mark.Long) 25) ∷ gap (codes " ") ∷ token (codes "x") (token_at (Name (codes "x")) 30) ∷ token (codes ";") (token_at (MarkOf mark.Semicolon) 31) ∷ gap (codes " ") ∷ token (codes "}") (token_at (MarkOf mark.CloseBrace) 33) ∷ [],
+  refl,
+  (
+    as_token [] (codes "int") (codes " main(void){ long x; long x; }") (MarkOf mark.Int) (mark_word mark.Int refl) (mark_of mark.Int refl) refl refl refl,
+    (
+      blank 32 refl refl,
+      (
+        as_token (codes "int ") (codes "main") (codes "(void){ long x; long x; }") (Name (codes "main")) (word refl) (name refl refl refl) refl refl refl,
+        (
+          as_token (codes "int main") (codes "(") (codes "void){ long x; long x; }") (MarkOf mark.OpenParen) (mark_word mark.OpenParen refl) (mark_of mark.OpenParen refl) refl refl refl,
+          (
+            as_token (codes "int main(") (codes "void") (codes "){ long x; long x; }") (MarkOf mark.Void) (mark_word mark.Void refl) (mark_of mark.Void refl) refl refl refl,
+            (
+              as_token (codes "int main(void") (codes ")") (codes "{ long x; long x; }") (MarkOf mark.CloseParen) (mark_word mark.CloseParen refl) (mark_of mark.CloseParen refl) refl refl refl,
+              (
+                as_token (codes "int main(void)") (codes "{") (codes " long x; long x; }") (MarkOf mark.OpenBrace) (mark_word mark.OpenBrace refl) (mark_of mark.OpenBrace refl) refl refl refl,
+                (
+                  blank 32 refl refl,
+                  (
+                    as_token (codes "int main(void){ ") (codes "long") (codes " x; long x; }") (MarkOf mark.Long) (mark_word mark.Long refl) (mark_of mark.Long refl) refl refl refl,
+                    (
+                      blank 32 refl refl,
+                      (
+                        as_token (codes "int main(void){ long ") (codes "x") (codes "; long x; }") (Name (codes "x")) (word refl) (name refl refl refl) refl refl refl,
+                        (
+                          as_token (codes "int main(void){ long x") (codes ";") (codes " long x; }") (MarkOf mark.Semicolon) (mark_word mark.Semicolon refl) (mark_of mark.Semicolon refl) refl refl refl,
+                          (
+                            blank 32 refl refl,
+                            (
+                              as_token (codes "int main(void){ long x; ") (codes "long") (codes " x; }") (MarkOf mark.Long) (mark_word mark.Long refl) (mark_of mark.Long refl) refl refl refl,
+                              (
+                                blank 32 refl refl,
+                                (
+                                  as_token (codes "int main(void){ long x; long ") (codes "x") (codes "; }") (Name (codes "x")) (word refl) (name refl refl refl) refl refl refl,
+                                  (
+                                    as_token (codes "int main(void){ long x; long x") (codes ";") (codes " }") (MarkOf mark.Semicolon) (mark_word mark.Semicolon refl) (mark_of mark.Semicolon refl) refl refl refl,
+                                    (
+                                      blank 32 refl refl,
+                                      (
+                                        as_token (codes "int main(void){ long x; long x; ") (codes "}") [] (MarkOf mark.CloseBrace) (mark_word mark.CloseBrace refl) (mark_of mark.CloseBrace refl) refl refl refl,
+                                        tt,
+                                      ),
+                                    ),
+                                  ),
+                                ),
+                              ),
+                            ),
+                          ),
+                        ),
+                      ),
+                    ),
+                  ),
+                ),
+              ),
+            ),
+          ),
+        ),
+      ),
+    ),
+  ),
+  refl,
+) (
+  piece (MarkOf mark.Int) 1 0 ∷ piece (Name (codes "main")) 5 0 ∷ piece (MarkOf mark.OpenParen) 9 0 ∷ piece (MarkOf mark.Void) 10 0 ∷ piece (MarkOf mark.CloseParen) 14 0 ∷ piece (MarkOf mark.OpenBrace) 15 1 ∷ piece (MarkOf mark.Long) 17 0 ∷ piece (Name (codes "x")) 22 0 ∷ piece (MarkOf mark.Semicolon) 23 0 ∷ piece (MarkOf mark.Long) 25 0 ∷ piece (Name (codes "x")) 30 0 ∷ piece (MarkOf mark.Semicolon) 31 0 ∷ piece (MarkOf mark.CloseBrace) 33 0 ∷ piece End 34 0 ∷ [],
+  (_, _, refl, (_, _, refl, (_, _, refl, inl (refl, (_, _, refl, (at 1, refl), refl)), (_, _, refl, (at 9, refl), (_, _, refl, inl (at 10, refl), (_, _, refl, (at 14, refl), (_, _, refl, (at 15, refl), (_, _, refl, (_, _, refl, (_, _, refl, (_, _, refl, (at 17, refl), (_, _, refl, inr refl, inr refl)), (_, _, refl, (_, _, refl, (_, _, refl, refl, refl), refl), (at 23, refl))), (_, _, refl, (_, _, refl, (_, _, refl, (at 25, refl), (_, _, refl, inr refl, inr refl)), (_, _, refl, (_, _, refl, (_, _, refl, refl, refl), refl), (at 31, refl))), refl)), refl)))))), refl), refl),
+  refl,
+  low_by (piece (MarkOf mark.Int) 1 0 ∷ piece (Name (codes "main")) 5 0 ∷ piece (MarkOf mark.OpenParen) 9 0 ∷ piece (MarkOf mark.Void) 10 0 ∷ piece (MarkOf mark.CloseParen) 14 0 ∷ piece (MarkOf mark.OpenBrace) 15 1 ∷ piece (MarkOf mark.Long) 17 0 ∷ piece (Name (codes "x")) 22 0 ∷ piece (MarkOf mark.Semicolon) 23 0 ∷ piece (MarkOf mark.Long) 25 0 ∷ piece (Name (codes "x")) 30 0 ∷ piece (MarkOf mark.Semicolon) 31 0 ∷ piece (MarkOf mark.CloseBrace) 33 0 ∷ piece End 34 0 ∷ []) refl,
+)
+    (bad_name (record { cause = DuplicateName; place = at 30 }) [] refl)
 
 no_gap_here : NoGap [] (codes "/*")
 no_gap_here bytes after e (blank c f b) =
