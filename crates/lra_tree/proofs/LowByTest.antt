@@ -6,11 +6,11 @@ use Rattle.std.specs.List.{list_all}
 use Rattle.lra_tree.specs.Texts.{Piece}
 use Rattle.lra_tree.specs.Faults.{IsLow, greatest_level}
 
-and_first : (a b : Bool) → (a && b) ≡ true → a ≡ true
+pub and_first : (a b : Bool) → (a && b) ≡ true → a ≡ true
 and_first true b e = refl
 and_first false b e = e
 
-and_second : (a b : Bool) → (a && b) ≡ true → b ≡ true
+pub and_second : (a b : Bool) → (a && b) ≡ true → b ≡ true
 and_second true b e = e
 and_second false b e = cc
 

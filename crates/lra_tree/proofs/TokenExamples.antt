@@ -1,14 +1,19 @@
 -- Sources and their tokens. Which slip an example would catch stands beside it.
-use Rattle.std.proofs.Common.{◌≡◌, ℕ, true, List, [], ◌∷◌, ◌++◌, refl, arith, inl, inr, subst, ap, get_or}
+use Rattle.std.proofs.Common.{◌≡◌, ℕ, true, List, [], ◌∷◌, ◌++◌, refl, arith, inl, inr, subst, ap, get_or, Bool, bytes_eq, ◌∙◌, sym}
 use Rattle.std.specs.Prelude.{codes}
 use Rattle.std.specs.List.{list_all}
+use Rattle.std.specs.Prelude.{bytes_eq, Bool, false, true, ◌||◌, ◌&&◌, ◌⊎◌, ◌≤◌}
+use Rattle.std.proofs.lemmas.Slice.Eq.{bytes_eq-Decides}
+use Rattle.std.proofs.lemmas.List.Folds.{list_all-append}
+use Rattle.std.proofs.lemmas.List.{append-nil}
+use Rattle.lra_tree.proofs.LowByTest.{and_first, and_second}
 use Rattle.lra_tree.specs.declared.refusals.Place.{Place}
 use Rattle.lra_tree.specs.declared.refusals.Cause.TheVariants.{BadByte, BadLiteral}
 use Rattle.lra_tree.specs.declared.tokens.Kind.{Kind}
 use Rattle.lra_tree.specs.declared.tokens.Kind.TheVariants.{Name, Number, Mark, Reserved, End}
 use Rattle.lra_tree.specs.declared.tokens.Mark.TheVariants as mark
 use Rattle.lra_tree.specs.declared.tokens.Token.{Token}
-use Rattle.lra_tree.specs.Lexeme.{octal, decimal_base, hexadecimal, IsLiteral, Base, IsFront, is_digit_of, is_between, is_among, suffixes, word, number_word, mark_word, name, number, mark_of, reserved}
+use Rattle.lra_tree.specs.Lexeme.{octal, decimal_base, hexadecimal, IsLiteral, Base, IsFront, is_digit, is_digit_of, number_behind, greatest_literal, is_between, is_among, suffixes, word, number_word, mark_word, name, number, mark_of, reserved}
 use Rattle.lra_tree.specs.Tokens.{place_behind, blank, line_comment, block_comment, skipped_line, gap, token, Lex, IsTokenFault}
 use Rattle.lra_tree.proofs.LongestByTest.{no_gap, longest_by, as_token, is_open, no_lexeme}
 
@@ -194,6 +199,73 @@ bad_octal = (
     longest_by (codes "08") (codes ";") (number_word refl) refl refl,
     refl,
     λ n l k. no_octal l.base l.front l.digits l.suffix l.parts l.begins l.all_digits l.is_suffix,
+  ),
+  refl,
+)
+
+-- 2^63 is no literal: its digits are all of it, since a suffix has none -----------------------------------------------
+
+abbrev IsListed : List ℕ → List (List ℕ) → Type 0
+IsListed s [] = ⊥
+IsListed s (w ∷ ws) = (s ≡ w) ⊎ IsListed s ws
+
+or_cases : (a b : Bool) → (a || b) ≡ true → (a ≡ true) ⊎ (b ≡ true)
+or_cases true b e = inl refl
+or_cases false b e = inr e
+
+listed : (s : List ℕ) (ws : List (List ℕ)) → is_among s ws ≡ true → IsListed s ws
+listed s [] e = cc
+listed s (w ∷ ws) e = elim (or_cases (bytes_eq s w) (is_among s ws) e) as (λ _. IsListed s (w ∷ ws)) [ inl h ↦ inl ((bytes_eq-Decides s w).0 h) | inr h ↦ inr (listed s ws h) ]
+
+has_digit : (s : List ℕ) (c : ℕ) (cs : List ℕ) → list_all is_digit s ≡ true → s ≡ c ∷ cs → is_digit c ≡ true
+has_digit s c cs e f = let h : (is_digit c && list_all is_digit cs) ≡ true = subst (λ (z : List ℕ). list_all is_digit z ≡ true) f e in and_first (is_digit c) (list_all is_digit cs) h
+
+no_suffix : (suffix : List ℕ) → list_all is_digit suffix ≡ true → IsListed suffix suffixes → suffix ≡ []
+no_suffix suffix d (inl e) = e
+no_suffix suffix d (inr (inl e)) = let h : is_digit 108 ≡ true = has_digit suffix 108 [] d e in cc
+no_suffix suffix d (inr (inr (inl e))) = let h : is_digit 76 ≡ true = has_digit suffix 76 [] d e in cc
+no_suffix suffix d (inr (inr (inr (inl e)))) = let h : is_digit 108 ≡ true = has_digit suffix 108 (codes "l") d e in cc
+no_suffix suffix d (inr (inr (inr (inr (inl e))))) = let h : is_digit 76 ≡ true = has_digit suffix 76 (codes "L") d e in cc
+no_suffix suffix d (inr (inr (inr (inr (inr e))))) = absurd e
+
+abbrev large : List ℕ
+large = codes "9223372036854775808"
+
+first_of_large : (front digits suffix : List ℕ) (c : ℕ) (cs : List ℕ) → large ≡ (front ++ digits) ++ suffix → front ≡ c ∷ cs → 57 ≡ c
+first_of_large front digits suffix c cs e f = ap (λ (z : List ℕ). get_or z 0 0) (e ∙ ap (λ (z : List ℕ). (z ++ digits) ++ suffix) f)
+
+no_large : (base : Base) (front digits suffix : List ℕ) (n : ℕ) → large ≡ (front ++ digits) ++ suffix → IsFront base front digits → is_among suffix suffixes ≡ true
+    → n ≡ number_behind base 0 digits → n ≤ greatest_literal → ⊥
+no_large octal front digits suffix n e b s f l = let h : 57 ≡ 48 = first_of_large front digits suffix 48 [] e b in omega (arith, h)
+no_large hexadecimal front digits suffix n e (inl b, d) s f l = let h : 57 ≡ 48 = first_of_large front digits suffix 48 (codes "x") e b in omega (arith, h)
+no_large hexadecimal front digits suffix n e (inr b, d) s f l = let h : 57 ≡ 48 = first_of_large front digits suffix 48 (codes "X") e b in omega (arith, h)
+no_large decimal_base front digits suffix n e (c, cs, b, d, r) s f l =
+    let g : large ≡ digits ++ suffix = e ∙ ap (λ (z : List ℕ). (z ++ digits) ++ suffix) b in
+    let h : (list_all is_digit digits && list_all is_digit suffix) ≡ true = sym (list_all-append is_digit digits suffix) ∙ ap (list_all is_digit) (sym g) in
+    let k : suffix ≡ [] = no_suffix suffix (and_second (list_all is_digit digits) (list_all is_digit suffix) h) (listed suffix suffixes s) in
+    let m : large ≡ digits = g ∙ ap (λ (z : List ℕ). digits ++ z) k ∙ append-nil digits in
+    let v : n ≡ 9223372036854775808 = f ∙ ap (number_behind decimal_base 0) (sym m) in
+    omega (arith, v, l)
+
+-- catches a limit of 2^63
+too_large : IsTokenFault (codes "x=9223372036854775808;") BadLiteral (at 1 3)
+too_large = (
+  token (codes "x") (token_at (Name (codes "x")) 1 1) ∷ token (codes "=") (token_at (Mark mark.Assign) 1 2) ∷ [],
+  codes "9223372036854775808;",
+  refl,
+  (
+    as_token [] (codes "x") (codes "=9223372036854775808;") (Name (codes "x")) (word refl) (name refl refl refl) refl refl refl,
+    (
+      as_token (codes "x") (codes "=") (codes "9223372036854775808;") (Mark mark.Assign) (mark_word mark.Assign refl) (mark_of mark.Assign refl) refl refl refl,
+      tt,
+    ),
+  ),
+  (
+    no_gap (codes "x=") (codes "9223372036854775808;") refl,
+    large,
+    longest_by large (codes ";") (number_word refl) refl refl,
+    refl,
+    λ n l k. no_large l.base l.front l.digits l.suffix n l.parts l.begins l.is_suffix l.number k,
   ),
   refl,
 )
