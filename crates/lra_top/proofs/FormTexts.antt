@@ -5,7 +5,7 @@ use Rattle.std.specs.List.{AllByRecursion}
 use Rattle.std.specs.Fmt.{decimal}
 use Rattle.lra_top.specs.FirstForm.{Place, Token, Simple, Set, Check, Form, IsForm, IsSimple, at_point, statement_tokens, body_tokens, header_tokens, tokens_of}
 use Rattle.lra_top.specs.Lexemes.{Lexeme}
-use Rattle.lra_top.specs.Reading.{IsLiteral, IsBody, IsRead, opening_lexemes, end_text}
+use Rattle.lra_top.specs.Reading.{IsLiteral, IsBody, IsRead, end_text}
 use Rattle.lra_top.proofs.Spelling.{picks}
 
 -- what is read has the form's texts and places ----------------------------------------
@@ -62,43 +62,93 @@ no_more (l ∷ ls) e = cc
 literal_of : (n : ℕ) → (0 < n) → n < 2 ^ 63 → IsLiteral (decimal n) n
 literal_of n some fits = record { digits = refl; some = some; fits = fits }
 
+linked : {x : Lexeme} {all rest tail : List Lexeme} → all ≡ x ∷ rest → rest ≡ tail → all ≡ x ∷ tail
+linked {x} e f = e ∙ ap (λ l. x ∷ l) f
+
+reads_set : (name : List ℕ) (n : ℕ) (ss : List Simple) {all r1 r2 r3 rest : List Lexeme} {at equals number semicolon : Place} → IsSimple (Set n)
+    → all ≡ (name, at) ∷ r1 → r1 ≡ (codes "=", equals) ∷ r2 → r2 ≡ (decimal n, number) ∷ r3 → r3 ≡ (codes ";", semicolon) ∷ rest
+    → IsBody name ss (picks (body_tokens name ss) rest) rest → IsBody name (Set n ∷ ss) (picks (body_tokens name (Set n ∷ ss)) all) all
+reads_set name n ss {rest = rest} {at} {equals} {number} {semicolon} simple a b c d body =
+    let is = linked a (linked b (linked c d)) in (
+      at,
+      picks (body_tokens name ss) rest,
+      rest,
+      record { text = decimal n; literal = literal_of n simple.some simple.fits; equals = equals; number = number; semicolon = semicolon; is = is },
+      ap (picks (body_tokens name (Set n ∷ ss))) is,
+      body,
+    )
+
+reads_check : (name : List ℕ) (n : ℕ) (ss : List Simple) {all r1 r2 r3 r4 r5 r6 rest : List Lexeme} {at opening variable relation number closing semicolon : Place} → IsSimple (Check n)
+    → all ≡ (codes "assert", at) ∷ r1 → r1 ≡ (codes "(", opening) ∷ r2 → r2 ≡ (name, variable) ∷ r3 → r3 ≡ (codes ">=", relation) ∷ r4
+    → r4 ≡ (decimal n, number) ∷ r5 → r5 ≡ (codes ")", closing) ∷ r6 → r6 ≡ (codes ";", semicolon) ∷ rest
+    → IsBody name ss (picks (body_tokens name ss) rest) rest → IsBody name (Check n ∷ ss) (picks (body_tokens name (Check n ∷ ss)) all) all
+reads_check name n ss {rest = rest} {at} {opening} {variable} {relation} {number} {closing} {semicolon} simple a b c d e f g body =
+    let is = linked a (linked b (linked c (linked d (linked e (linked f g))))) in (
+      at,
+      picks (body_tokens name ss) rest,
+      rest,
+      record {
+        text = decimal n;
+        literal = literal_of n simple.some simple.fits;
+        opening = opening;
+        variable = variable;
+        relation = relation;
+        number = number;
+        closing = closing;
+        semicolon = semicolon;
+        is = is;
+      },
+      ap (picks (body_tokens name (Check n ∷ ss))) is,
+      body,
+    )
+
 reads_body : (name : List ℕ) (ss : List Simple) (all : List Lexeme) → AllByRecursion IsSimple ss → map (λ t. t.0) (body_tokens name ss) ≡ map (λ l. l.0) all → IsBody name ss (picks (body_tokens name ss) all) all
 reads_body name [] all simple e =
     let a = split end_text [] all e in
-    let is : all ≡ (end_text, a.place) ∷ [] = a.is ∙ ap (λ l. (end_text, a.place) ∷ l) (no_more a.rest a.others) in
+    let is = linked a.is (no_more a.rest a.others) in
     (a.place, is, ap (picks (at_point end_text ∷ [])) is)
 reads_body name (Set n ∷ ss) all simple e =
     let a = split name _ all e in
     let b = split (codes "=") _ a.rest a.others in
     let c = split (decimal n) _ b.rest b.others in
     let d = split (codes ";") _ c.rest c.others in
-    let is : all ≡ (name, a.place) ∷ (codes "=", b.place) ∷ (decimal n, c.place) ∷ (codes ";", d.place) ∷ d.rest =
-    a.is ∙ ap (λ l. (name, a.place) ∷ l) (b.is ∙ ap (λ l. (codes "=", b.place) ∷ l) (c.is ∙ ap (λ l. (decimal n, c.place) ∷ l) d.is)) in (
-      a.place,
-      picks (body_tokens name ss) d.rest,
-      d.rest,
-      record { text = decimal n; literal = literal_of n simple.0.some simple.0.fits; equals = b.place; number = c.place; semicolon = d.place; is = is },
-      ap (picks (statement_tokens name (Set n) ++ body_tokens name ss)) is,
-      reads_body name ss d.rest simple.1 d.others,
-    )
+    reads_set name n ss simple.0 a.is b.is c.is d.is (reads_body name ss d.rest simple.1 d.others)
 reads_body name (Check n ∷ ss) all simple e =
     let a = split (codes "assert") _ all e in
     let b = split (codes "(") _ a.rest a.others in
     let c = split name _ b.rest b.others in
     let d = split (codes ">=") _ c.rest c.others in
-    let g = split (decimal n) _ d.rest d.others in
-    let h = split (codes ")") _ g.rest g.others in
-    let k = split (codes ";") _ h.rest h.others in
-    let is : all ≡ (codes "assert", a.place) ∷ (codes "(", b.place) ∷ (name, c.place) ∷ (codes ">=", d.place) ∷ (decimal n, g.place) ∷ (codes ")", h.place) ∷ (codes ";", k.place) ∷ k.rest =
-    a.is ∙ ap (λ l. (codes "assert", a.place) ∷ l) (b.is ∙ ap (λ l. (codes "(", b.place) ∷ l) (c.is ∙ ap (λ l. (name, c.place) ∷ l)
-    (d.is ∙ ap (λ l. (codes ">=", d.place) ∷ l) (g.is ∙ ap (λ l. (decimal n, g.place) ∷ l) (h.is ∙ ap (λ l. (codes ")", h.place) ∷ l) k.is))))) in (
-      a.place,
-      picks (body_tokens name ss) k.rest,
-      k.rest,
-      record { text = decimal n; literal = literal_of n simple.0.some simple.0.fits; opening = b.place; variable = c.place; relation = d.place; number = g.place; closing = h.place; semicolon = k.place; is = is },
-      ap (picks (statement_tokens name (Check n) ++ body_tokens name ss)) is,
-      reads_body name ss k.rest simple.1 k.others,
-    )
+    let f = split (decimal n) _ d.rest d.others in
+    let g = split (codes ")") _ f.rest f.others in
+    let h = split (codes ";") _ g.rest g.others in
+    reads_check name n ss simple.0 a.is b.is c.is d.is f.is g.is h.is (reads_body name ss h.rest simple.1 h.others)
+
+reads_header : (f : Form) {all r1 r2 r3 r4 r5 r6 r7 r8 rest : List Lexeme} {int main opening void closing brace long at semicolon : Place} → IsForm f
+    → all ≡ (codes "int", int) ∷ r1 → r1 ≡ (codes "main", main) ∷ r2 → r2 ≡ (codes "(", opening) ∷ r3 → r3 ≡ (codes "void", void) ∷ r4 → r4 ≡ (codes ")", closing) ∷ r5
+    → r5 ≡ (codes "{", brace) ∷ r6 → r6 ≡ (codes "long", long) ∷ r7 → r7 ≡ (f.name, at) ∷ r8 → r8 ≡ (codes ";", semicolon) ∷ rest
+    → IsBody f.name f.statements (picks (body_tokens f.name f.statements) rest) rest → IsRead f (picks (tokens_of f) all) all
+reads_header f {rest = rest} {int} {main} {opening} {void} {closing} {brace} {long} {at} {semicolon} form a b c d e g h k l body =
+    let is = linked a (linked b (linked c (linked d (linked e (linked g (linked h (linked k l))))))) in
+    record {
+      form = form;
+      declared = at;
+      points = picks (body_tokens f.name f.statements) rest;
+      places_are = ap (picks (tokens_of f)) is;
+      rest = rest;
+      header = record {
+        name_is = form.name;
+        int = int;
+        main = main;
+        opening = opening;
+        void = void;
+        closing = closing;
+        brace = brace;
+        long = long;
+        semicolon = semicolon;
+        is = is;
+      };
+      body = body;
+    }
 
 pub reads_form : (f : Form) (all : List Lexeme) → IsForm f → map (λ t. t.0) (tokens_of f) ≡ map (λ l. l.0) all → IsRead f (picks (tokens_of f) all) all
 reads_form f all form e =
@@ -111,16 +161,4 @@ reads_form f all form e =
     let k = split (codes "long") _ h.rest h.others in
     let l = split f.name _ k.rest k.others in
     let m = split (codes ";") _ l.rest l.others in
-    let is : all ≡ opening_lexemes a.place b.place c.place d.place g.place h.place k.place ((f.name, l.place) ∷ (codes ";", m.place) ∷ m.rest) =
-    a.is ∙ ap (λ x. (codes "int", a.place) ∷ x) (b.is ∙ ap (λ x. (codes "main", b.place) ∷ x) (c.is ∙ ap (λ x. (codes "(", c.place) ∷ x)
-    (d.is ∙ ap (λ x. (codes "void", d.place) ∷ x) (g.is ∙ ap (λ x. (codes ")", g.place) ∷ x) (h.is ∙ ap (λ x. (codes "{", h.place) ∷ x)
-    (k.is ∙ ap (λ x. (codes "long", k.place) ∷ x) (l.is ∙ ap (λ x. (f.name, l.place) ∷ x) m.is))))))) in
-    record {
-      form = form;
-      declared = l.place;
-      points = picks (body_tokens f.name f.statements) m.rest;
-      places_are = ap (picks (tokens_of f)) is;
-      rest = m.rest;
-      header = record { name_is = form.name; int = a.place; main = b.place; opening = c.place; void = d.place; closing = g.place; brace = h.place; long = k.place; semicolon = m.place; is = is };
-      body = reads_body f.name f.statements m.rest form.literals m.others;
-    }
+    reads_header f form a.is b.is c.is d.is g.is h.is k.is l.is m.is (reads_body f.name f.statements m.rest form.literals m.others)

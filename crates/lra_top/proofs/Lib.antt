@@ -16,3 +16,4 @@ pub mod FormTexts
 pub mod FormLexemes
 pub mod Joined
 pub mod OneSource
+pub mod FirstFormExamples

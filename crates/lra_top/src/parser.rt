@@ -141,8 +141,10 @@ fn is_name(text: &[u8]) -> bool
 
 /// The tokens behind a token of this text.
 fn behind<'a, 'b>(tokens: &'b [Token<'a>], text: &str) -> Option<&'b [Token<'a>]>
-    ensures found { IfSome result (λ rest. BeginsText text.now (lexemes_of tokens.now) (lexemes_of rest.now)) }
-    ensures none { IfNone result ((at : form.Place) (rest : List Lexeme) → lexemes_of tokens.now ≡ (text.now, at) ∷ rest → ⊥) }
+    ensures found { IfSome result (λ rest.
+        BeginsText text.now (lexemes_of tokens.now) (lexemes_of rest.now)) }
+    ensures none { IfNone result ((at : form.Place) (rest : List Lexeme)
+        → lexemes_of tokens.now ≡ (text.now, at) ∷ rest → ⊥) }
 {
     match tokens {
         [first, rest @ ..] => { if first.is(text) { Some(rest) } else { None } }
@@ -152,8 +154,10 @@ fn behind<'a, 'b>(tokens: &'b [Token<'a>], text: &str) -> Option<&'b [Token<'a>]
 
 /// The number of a literal at the front, and the tokens behind it.
 fn literal_front<'a, 'b>(tokens: &'b [Token<'a>]) -> Option<(u64, &'b [Token<'a>])>
-    ensures found { IfSome result (λ r. BeginsLiteral r.0 (lexemes_of tokens.now) (lexemes_of r.1.now)) }
-    ensures none { IfNone result ((text : List ℕ) (n : ℕ) (at : form.Place) (rest : List Lexeme) → IsLiteral text n → lexemes_of tokens.now ≡ (text, at) ∷ rest → ⊥) }
+    ensures found { IfSome result (λ r.
+        BeginsLiteral r.0 (lexemes_of tokens.now) (lexemes_of r.1.now)) }
+    ensures none { IfNone result ((text : List ℕ) (n : ℕ) (at : form.Place) (rest : List Lexeme)
+        → IsLiteral text n → lexemes_of tokens.now ≡ (text, at) ∷ rest → ⊥) }
 {
     match tokens {
         [first, rest @ ..] => Some((literal_of(first.text)?, rest)),
@@ -163,8 +167,10 @@ fn literal_front<'a, 'b>(tokens: &'b [Token<'a>]) -> Option<(u64, &'b [Token<'a>
 
 /// The literal of an assignment at the front, and the tokens behind it.
 fn assignment_front<'a, 'b>(name: &str, tokens: &'b [Token<'a>]) -> Option<(u64, &'b [Token<'a>])>
-    ensures found { IfSome result (λ r. (at : form.Place) × BeginsSet name.now r.0 at (lexemes_of tokens.now) (lexemes_of r.1.now)) }
-    ensures none { IfNone result ((n : ℕ) (at : form.Place) (rest : List Lexeme) → BeginsSet name.now n at (lexemes_of tokens.now) rest → ⊥) }
+    ensures found { IfSome result (λ r. (at : form.Place)
+        × BeginsSet name.now r.0 at (lexemes_of tokens.now) (lexemes_of r.1.now)) }
+    ensures none { IfNone result ((n : ℕ) (at : form.Place) (rest : List Lexeme)
+        → BeginsSet name.now n at (lexemes_of tokens.now) rest → ⊥) }
 {
     let rest = behind(tokens, name)?;
     let rest = behind(rest, "=")?;
@@ -175,8 +181,10 @@ fn assignment_front<'a, 'b>(name: &str, tokens: &'b [Token<'a>]) -> Option<(u64,
 
 /// The literal of an assertion at the front, and the tokens behind it.
 fn assertion_front<'a, 'b>(name: &str, tokens: &'b [Token<'a>]) -> Option<(u64, &'b [Token<'a>])>
-    ensures found { IfSome result (λ r. (at : form.Place) × BeginsCheck name.now r.0 at (lexemes_of tokens.now) (lexemes_of r.1.now)) }
-    ensures none { IfNone result ((n : ℕ) (at : form.Place) (rest : List Lexeme) → BeginsCheck name.now n at (lexemes_of tokens.now) rest → ⊥) }
+    ensures found { IfSome result (λ r. (at : form.Place)
+        × BeginsCheck name.now r.0 at (lexemes_of tokens.now) (lexemes_of r.1.now)) }
+    ensures none { IfNone result ((n : ℕ) (at : form.Place) (rest : List Lexeme)
+        → BeginsCheck name.now n at (lexemes_of tokens.now) rest → ⊥) }
 {
     let rest = behind(tokens, "assert")?;
     let rest = behind(rest, "(")?;
@@ -190,8 +198,10 @@ fn assertion_front<'a, 'b>(name: &str, tokens: &'b [Token<'a>]) -> Option<(u64, 
 
 /// A statement at the front, and the tokens behind it.
 fn simple_front<'a, 'b>(name: &str, tokens: &'b [Token<'a>]) -> Option<(Simple, &'b [Token<'a>])>
-    ensures found { IfSome result (λ r. (at : form.Place) × Begins name.now (simple_of r.0) at (lexemes_of tokens.now) (lexemes_of r.1.now)) }
-    ensures none { IfNone result ((s : form.Simple) (at : form.Place) (rest : List Lexeme) → Begins name.now s at (lexemes_of tokens.now) rest → ⊥) }
+    ensures found { IfSome result (λ r. (at : form.Place)
+        × Begins name.now (simple_of r.0) at (lexemes_of tokens.now) (lexemes_of r.1.now)) }
+    ensures none { IfNone result ((s : form.Simple) (at : form.Place) (rest : List Lexeme)
+        → Begins name.now s at (lexemes_of tokens.now) rest → ⊥) }
 {
     match assignment_front(name, tokens) {
         Some((number, rest)) => Some((Simple::Assign(number), rest)),
@@ -207,8 +217,10 @@ fn statement_front<'a, 'b>(
     name: &str,
     tokens: &'b [Token<'a>],
 ) -> Option<(PlacedStatement, &'b [Token<'a>])>
-    ensures found { IfSome result (λ r. Begins name.now (simple_of r.0.statement) (place_of r.0.place) (lexemes_of tokens.now) (lexemes_of r.1.now)) }
-    ensures none { IfNone result ((s : form.Simple) (at : form.Place) (rest : List Lexeme) → Begins name.now s at (lexemes_of tokens.now) rest → ⊥) }
+    ensures found { IfSome result (λ r. Begins name.now (simple_of r.0.statement)
+        (place_of r.0.place) (lexemes_of tokens.now) (lexemes_of r.1.now)) }
+    ensures none { IfNone result ((s : form.Simple) (at : form.Place) (rest : List Lexeme)
+        → Begins name.now s at (lexemes_of tokens.now) rest → ⊥) }
 {
     let (statement, rest) = simple_front(name, tokens)?;
     let place = tokens.first()?.place;
@@ -232,9 +244,11 @@ fn body_of(
     name: &str,
     tokens: &[Token],
 ) -> Result<(Vec<PlacedStatement>, Place), ReadError>
-    ensures found { IfOk result (λ r. IsBody name.now (simples_of r.0.items) (statement_places r.0.items ++ place_of r.1 ∷ []) (lexemes_of tokens.now)) }
+    ensures found { IfOk result (λ r. IsBody name.now (simples_of r.0.items)
+        (statement_places r.0.items ++ place_of r.1 ∷ []) (lexemes_of tokens.now)) }
     ensures few { IfOk result (λ r. vec_len r.0 ≤ MOST_STATEMENTS) }
-    ensures none { result ≡ Err NotThisForm → (ss : List form.Simple) (places : List form.Place) → length ss ≤ MOST_STATEMENTS → IsBody name.now ss places (lexemes_of tokens.now) → ⊥ }
+    ensures none { result ≡ Err NotThisForm → (ss : List form.Simple) (places : List form.Place)
+        → length ss ≤ MOST_STATEMENTS → IsBody name.now ss places (lexemes_of tokens.now) → ⊥ }
 {
     let mut statements = Vec::new(alloc);
     let mut at = 0;
@@ -260,8 +274,10 @@ fn name_front<'a, 'b>(
     alloc: Global,
     tokens: &'b [Token<'a>],
 ) -> Result<(String, Place, &'b [Token<'a>]), ReadError>
-    ensures found { IfOk result (λ r. BeginsName (string_bytes r.0) (place_of r.1) (lexemes_of tokens.now) (lexemes_of r.2.now)) }
-    ensures none { result ≡ Err NotThisForm → (name : List ℕ) (at : form.Place) (rest : List Lexeme) → form.IsName name → lexemes_of tokens.now ≡ (name, at) ∷ rest → ⊥ }
+    ensures found { IfOk result (λ r. BeginsName (string_bytes r.0) (place_of r.1)
+        (lexemes_of tokens.now) (lexemes_of r.2.now)) }
+    ensures none { result ≡ Err NotThisForm → (name : List ℕ) (at : form.Place) (rest : List Lexeme)
+        → form.IsName name → lexemes_of tokens.now ≡ (name, at) ∷ rest → ⊥ }
 {
     match tokens {
         [first, rest @ ..] => {
@@ -280,7 +296,8 @@ fn name_front<'a, 'b>(
 /// The tokens behind `int main(void)`.
 fn head_front<'a, 'b>(tokens: &'b [Token<'a>]) -> Option<&'b [Token<'a>]>
     ensures found { IfSome result (λ rest. BeginsHead (lexemes_of tokens.now) (lexemes_of rest.now)) }
-    ensures none { IfNone result ((a b c d e : form.Place) (rest : List Lexeme) → lexemes_of tokens.now ≡ head_lexemes a b c d e rest → ⊥) }
+    ensures none { IfNone result ((a b c d e : form.Place) (rest : List Lexeme)
+        → lexemes_of tokens.now ≡ head_lexemes a b c d e rest → ⊥) }
 {
     let rest = behind(tokens, "int")?;
     let rest = behind(rest, "main")?;
@@ -293,7 +310,8 @@ fn head_front<'a, 'b>(tokens: &'b [Token<'a>]) -> Option<&'b [Token<'a>]>
 /// The tokens behind `int main(void) { long`.
 fn opening_front<'a, 'b>(tokens: &'b [Token<'a>]) -> Option<&'b [Token<'a>]>
     ensures found { IfSome result (λ rest. Opens (lexemes_of tokens.now) (lexemes_of rest.now)) }
-    ensures none { IfNone result ((a b c d e f g : form.Place) (rest : List Lexeme) → lexemes_of tokens.now ≡ opening_lexemes a b c d e f g rest → ⊥) }
+    ensures none { IfNone result ((a b c d e f g : form.Place) (rest : List Lexeme)
+        → lexemes_of tokens.now ≡ opening_lexemes a b c d e f g rest → ⊥) }
 {
     let rest = head_front(tokens)?;
     let rest = behind(rest, "{")?;
@@ -306,8 +324,10 @@ fn header_front<'a, 'b>(
     alloc: Global,
     tokens: &'b [Token<'a>],
 ) -> Result<(String, Place, &'b [Token<'a>]), ReadError>
-    ensures found { IfOk result (λ r. IsHeader (string_bytes r.0) (place_of r.1) (lexemes_of tokens.now) (lexemes_of r.2.now)) }
-    ensures none { result ≡ Err NotThisForm → (name : List ℕ) (at : form.Place) (rest : List Lexeme) → IsHeader name at (lexemes_of tokens.now) rest → ⊥ }
+    ensures found { IfOk result (λ r. IsHeader (string_bytes r.0) (place_of r.1)
+        (lexemes_of tokens.now) (lexemes_of r.2.now)) }
+    ensures none { result ≡ Err NotThisForm → (name : List ℕ) (at : form.Place) (rest : List Lexeme)
+        → IsHeader name at (lexemes_of tokens.now) rest → ⊥ }
 {
     let rest = match opening_front(tokens) {
         Some(rest) => rest,
@@ -322,8 +342,10 @@ fn header_front<'a, 'b>(
 
 /// The tree of the tokens.
 fn tree_of(alloc: Global, tokens: &[Token]) -> Result<SourceTree, ReadError>
-    ensures found { IfOk result (λ tree. IsRead (form_of tree) (places_of tree) (lexemes_of tokens.now)) }
-    ensures none { result ≡ Err NotThisForm → (f : form.Form) (places : List form.Place) → IsRead f places (lexemes_of tokens.now) → ⊥ }
+    ensures found { IfOk result (λ tree.
+        IsRead (form_of tree) (places_of tree) (lexemes_of tokens.now)) }
+    ensures none { result ≡ Err NotThisForm → (f : form.Form) (places : List form.Place)
+        → IsRead f places (lexemes_of tokens.now) → ⊥ }
 {
     let (name, declared, rest) = header_front(alloc, tokens)?;
     let (statements, end) = body_of(alloc, name.as_str(), rest)?;
@@ -343,7 +365,8 @@ fn tree_of(alloc: Global, tokens: &[Token]) -> Result<SourceTree, ReadError>
 #[tactic(auto, using(crate::proofs::Joined::source_from))]
 pub fn parse(alloc: Global, bytes: &[u8]) -> Result<SourceTree, ReadError>
     ensures found { IfOk result (λ tree. form.IsSource bytes.now (form_of tree) (places_of tree)) }
-    ensures none { result ≡ Err NotThisForm → (f : form.Form) (places : List form.Place) → form.IsSource bytes.now f places → ⊥ }
+    ensures none { result ≡ Err NotThisForm → (f : form.Form) (places : List form.Place)
+        → form.IsSource bytes.now f places → ⊥ }
 {
     match tokens(alloc, bytes)? {
         Some(tokens) => tree_of(alloc, &tokens),
