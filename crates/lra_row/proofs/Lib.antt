@@ -1,0 +1,3 @@
+pub mod Ratio
+pub mod Facts
+pub mod Division
