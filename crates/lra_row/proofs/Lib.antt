@@ -1,3 +1,9 @@
 pub mod Ratio
 pub mod Facts
 pub mod Division
+pub mod CheckedRows
+pub mod RowDivisors
+pub mod OrderLemmas
+pub mod FirstPassing
+pub mod RowLemmas
+pub mod Combination

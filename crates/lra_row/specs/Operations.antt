@@ -5,6 +5,8 @@ use Rattle.lra_linear.specs.declared.Excess.{Excess}
 use Rattle.lra_linear.specs.declared.Operation.{Operation}
 use Rattle.lra_linear.specs.declared.Operation.TheVariants.{Product, Sum}
 use Rattle.lra_linear.specs.Range.{InRange}
+use Rattle.lra_row.specs.declared.error.RowError.{RowError}
+use Rattle.lra_row.specs.declared.error.RowError.TheVariants as of_row
 
 abbrev pub result_of : Operation → ℤ → ℤ → ℤ
 result_of Product a b = a *ℤ b
@@ -26,6 +28,15 @@ pub record IsFirstPassing (operations : List Excess) (e : Excess) : Type 0 where
 abbrev pub NamesFirst : {A : Type 0} → List Excess → Result A Excess → Type 0
 NamesFirst operations (Ok x) = All Fits operations
 NamesFirst operations (Err e) = IsFirstPassing operations e
+
+-- the same of a call that may also want memory, which says nothing of the operations
+abbrev pub IsFirstNamed : List Excess → RowError → Type 0
+IsFirstNamed operations (of_row.Excess e) = IsFirstPassing operations e
+IsFirstNamed operations of_row.Memory = Unit {0}
+
+abbrev pub NamesFirstOrMemory : {A : Type 0} → List Excess → Result A RowError → Type 0
+NamesFirstOrMemory operations (Ok x) = All Fits operations
+NamesFirstOrMemory operations (Err e) = IsFirstNamed operations e
 
 -- the product of two rows: in each column the product of its entries, then the sum with that of the columns before
 abbrev pub product_operations_from : ℤ → List ℤ → List ℤ → List Excess

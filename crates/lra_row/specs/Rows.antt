@@ -1,5 +1,6 @@
 -- What the calls on rows make, and the first number on the way to it that passes the range, where there is one.
-use Rattle.std.specs.Prelude.{◌≡◌, ℕ, ℤ, pos, ◌+ℤ◌, ◌*ℤ◌, neg_ℤ, List, [], ◌∷◌, ◌++◌, Result, Ok, Err, cond, slice_set, nat_eq}
+use Rattle.std.specs.Prelude.{◌≡◌, ℕ, zero, suc, ◌<◌, ℤ, pos, ◌+ℤ◌, ◌*ℤ◌, neg_ℤ, List, [], ◌∷◌, ◌++◌, Result, Ok, Err, cond, slice_set, unsigned_abs}
+use Rattle.std.specs.Int.{◌∣◌}
 use Rattle.lra_linear.specs.declared.Excess.{Excess}
 use Rattle.lra_linear.specs.declared.Operation.TheVariants.{Product, Sum}
 use Rattle.lra_linear.specs.Range.{in_range}
@@ -18,9 +19,22 @@ abbrev pub and_then : {A B : Type 0} → Result A Excess → (A → Result B Exc
 and_then (Ok x) next = next x
 and_then (Err e) next = Err e
 
+-- g is the greatest number that divides each entry: it divides each, and each that does divides it
+pub record IsRowGcd (row : List ℤ) (g : ℕ) : Type 0 where
+  pub divides : (j : ℕ) → g ∣ unsigned_abs (entry row j)
+  pub greatest : (d : ℕ) → ((j : ℕ) → d ∣ unsigned_abs (entry row j)) → d ∣ g
+
 -- ---- combination: (-c.v) u + (c.u) v, whose product with c is 0
 abbrev pub combined : List ℤ → List ℤ → List ℤ → List ℤ
 combined u v c = blend (neg_ℤ (product c v)) (product c u) u v
+
+-- some positive multiple of the row is a sum of positive multiples of u and v
+pub record IsPositiveSum (u v row : List ℤ) : Type 0 where
+  pub times : ℕ
+  pub left : ℕ
+  pub right : ℕ
+  pub positive : (0 < times) × (0 < left) × (0 < right)
+  pub is_sum : (j : ℕ) → pos times *ℤ entry row j ≡ (pos left *ℤ entry u j) +ℤ (pos right *ℤ entry v j)
 
 abbrev pub checked_combination : List ℤ → List ℤ → List ℤ → Result (List ℤ) Excess
 checked_combination u v c =
@@ -39,7 +53,10 @@ substituted x form row = blend (pos 1) (entry row x) (cleared x row) form
 
 -- the vector with z in column x
 abbrev pub replaced : ℕ → ℤ → (ℕ → ℤ) → ℕ → ℤ
-replaced x z u j = cond (nat_eq j x) z (u j)
+replaced zero z u zero = z
+replaced zero z u (suc j) = u (suc j)
+replaced (suc x) z u zero = u 0
+replaced (suc x) z u (suc j) = replaced x z (λ i. u (suc i)) j
 
 abbrev pub checked_added_entry : ℤ → ℤ → ℤ → Result ℤ Excess
 checked_added_entry b u v =

@@ -3,7 +3,7 @@
 ghost use Rattle.std.specs.Prelude.{◌≡◌};
 
 use lra_linear::Excess;
-use std::alloc::AllocError;
+use std::alloc::{AllocError, AllocFailed};
 
 /// Why a row was not made: a number passed the range, or there was no memory.
 #[derive(Clone, Copy, Debug, PartialEq, Eq)]
@@ -28,6 +28,16 @@ impl From<AllocError> for RowError {
     ghost from_gives = { λ _ error. error ≡ of_row.Memory };
 
     fn from(_failed: AllocError) -> RowError {
+        RowError::Memory
+    }
+}
+
+impl<T: Drop> From<AllocFailed<T>> for RowError {
+    ghost use Rattle.lra_row.specs.declared.error.RowError.TheVariants as of_row;
+
+    ghost from_gives = { λ _ error. error ≡ of_row.Memory };
+
+    fn from(_failed: AllocFailed<T>) -> RowError {
         RowError::Memory
     }
 }

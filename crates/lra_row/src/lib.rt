@@ -4,9 +4,12 @@
 //! that passes the range.
 #![tactic(auto)]
 
+mod entries;
 mod error;
 mod number;
+mod row;
 
 pub use error::RowError;
 pub use lra_linear::{Excess, Operation};
 pub use number::{add, floor_div, gcd, mul, ratio_cmp};
+pub use row::Row;

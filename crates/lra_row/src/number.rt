@@ -1,6 +1,6 @@
 //! Sums, products and quotients of single numbers.
 
-ghost use Rattle.std.specs.Prelude.{◌≡◌, ◌≢◌, ◌<◌, ◌^◌, pos, ◌+ℤ◌, ◌*ℤ◌, ◌≤ℤ◌, ◌<ℤ◌, unsigned_abs, MatchResult};
+ghost use Rattle.std.specs.Prelude.{◌≡◌, ◌≢◌, ◌<◌, ◌^◌, pos, ◌+ℤ◌, ◌*ℤ◌, ◌≤ℤ◌, ◌<ℤ◌, unsigned_abs, MatchResult, neg_ℤ};
 ghost use Rattle.std.specs.Ordering.{int_cmp};
 ghost use Rattle.std.specs.Option.{SomeIff};
 ghost use Rattle.std.specs.Int.{IsGcd};
@@ -120,4 +120,13 @@ pub fn sum_of(left: i128, right: i128) -> Result<i128, Excess>
         left,
         right,
     })
+}
+
+// The number times -1.
+pub fn opposite(a: i128) -> i128
+    requires { InRange a }
+    ensures value { result ≡ neg_ℤ a }
+    ensures in_range { InRange result }
+{
+    -a
 }

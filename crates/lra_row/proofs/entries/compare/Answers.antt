@@ -1,0 +1,6 @@
+use Rattle.std.proofs.Common.{arith, ◌∙◌}
+use Rattle.lra_row.proofs.OrderLemmas.{places_end}
+use Rattle.lra_row.proofs.entries.compare.Goals as goal
+
+pub returns : goal.returns
+returns c = c.cmp.ensures ∙ places_end c.loop-place.place c.args.xs.now c.args.ys.now (omega arith) ∙ c.loop-place.invariant

@@ -1,0 +1,9 @@
+use Rattle.std.proofs.Common.{◌≡◌}
+use Rattle.std.specs.Slice.Iter.{iter_rest}
+use Rattle.std.specs.Iterator.Adapters.{zip_first, zip_second}
+use Rattle.lra_linear.specs.CheckedArithmetic.{checked_product_from}
+use Rattle.lra_row.proofs.entries.product_from.Given as goal
+
+abbrev pub invariant-loop-x : goal.invariant-loop-x
+invariant-loop-x l =
+    checked_product_from l.sum (iter_rest (zip_first l.x-iterator)) (iter_rest (zip_second l.x-iterator)) ≡ checked_product_from l.fn.start l.xs l.ys

@@ -1,0 +1,123 @@
+//! Arithmetic on the entries of rows.
+
+ghost use Rattle.std.specs.Prelude.{◌≡◌, ◌≤◌, ◌<◌, ◌≤ℤ◌, ◌+◌, ◌∷◌, ℕ, pos, ◌*ℤ◌, ◌<ℤ◌, length, IfOk, IfErr, unsigned_abs, map, int_div, slice_index_or};
+ghost use Rattle.std.specs.List.{All};
+ghost use Rattle.std.specs.Int.{◌∣◌};
+ghost use Rattle.lra_linear.specs.Range.{InRange};
+ghost use Rattle.lra_linear.specs.Vectors.{entry, negated};
+ghost use Rattle.lra_linear.specs.CheckedArithmetic.{checked_product_from, checked_product, checked_entry, checked_blend};
+ghost use Rattle.lra_row.specs.Rows.{IsExcessOf, IsRowGcd};
+ghost use Rattle.lra_row.specs.Order.{constant_last, row_cmp};
+
+use crate::error::RowError;
+use crate::number::{gcd, product_of, sum_of};
+use lra_linear::Excess;
+use smallvec::SmallVec;
+use std::alloc::{AllocError, Global};
+use std::cmp::Ordering;
+
+/// The entries of a row: those of at most 8 columns stay inline.
+pub type Entries = SmallVec<i128, 8>;
+
+// The sum of `start` and the product of two rows.
+pub fn product_from(start: i128, xs: &[i128], ys: &[i128]) -> Result<i128, Excess>
+    requires { length xs.now ≡ length ys.now }
+    ensures { result ≡ checked_product_from start xs.now ys.now }
+{
+    let mut sum = start;
+    for (x, y) in xs.iter().zip(ys) {
+        sum = sum_of(sum, product_of(*x, *y)?)?;
+    }
+    Ok(sum)
+}
+
+// The product of a row with the vector of a divisor and numerators.
+pub fn product_at(xs: &[i128], divisor: i128, numerators: &[i128]) -> Result<i128, Excess>
+    requires { length xs.now ≡ length numerators.now + 1 }
+    ensures { result ≡ checked_product xs.now (divisor ∷ numerators.now) }
+{
+    let constant = product_of(xs[0], divisor)?;
+    product_from(constant, &xs[1..], numerators)
+}
+
+// a u + b v in one column.
+fn blend_entry(a: i128, b: i128, u: i128, v: i128) -> Result<i128, Excess>
+    ensures { result ≡ checked_entry a b u v }
+{
+    let left = product_of(a, u)?;
+    let right = product_of(b, v)?;
+    sum_of(left, right)
+}
+
+// a u + b v of two rows.
+pub fn blend(alloc: Global, a: i128, b: i128, us: &[i128], vs: &[i128]) -> Result<Entries, RowError>
+    requires { length us.now ≡ length vs.now }
+    ensures ok { IfOk result (λ r. checked_blend a b us.now vs.now ≡ Ok r.items) }
+    ensures err { IfErr result (IsExcessOf (checked_blend a b us.now vs.now)) }
+{
+    let mut entries = SmallVec::new(alloc);
+    for (u, v) in us.iter().zip(vs) {
+        entries.push(blend_entry(a, b, *u, *v)?)?;
+    }
+    Ok(entries)
+}
+
+// The row times -1.
+pub fn negated(alloc: Global, xs: &[i128]) -> Result<Entries, AllocError>
+    requires { All InRange xs.now }
+    ensures { IfOk result (λ r. r.items ≡ negated xs.now) }
+{
+    let mut entries = SmallVec::new(alloc);
+    for x in xs {
+        entries.push(-*x)?;
+    }
+    Ok(entries)
+}
+
+// The greatest number that divides each entry, 0 where all are 0.
+pub fn divisor_of(xs: &[i128]) -> i128
+    requires { All InRange xs.now }
+    ensures divisor { IsRowGcd xs.now (unsigned_abs result) }
+    ensures nonnegative { pos 0 ≤ℤ result }
+{
+    let mut divisor = 0;
+    for x in xs {
+        divisor = gcd(divisor, *x);
+    }
+    divisor
+}
+
+// Divides each entry, all of which the positive divisor divides.
+pub fn divide(xs: &mut [i128], divisor: i128)
+    requires { pos 0 <ℤ divisor }
+    ensures { xs.new ≡ map (λ x. int_div x divisor) xs.old }
+{
+    for x in xs.iter_mut() {
+        *x /= divisor;
+    }
+}
+
+// The entry at a place of columns 1, 2, 3 and on, with column 0 last.
+fn constant_last_entry(xs: &[i128], place: usize) -> i128
+    requires { place < length xs.now }
+    ensures { result ≡ slice_index_or (constant_last xs.now) place (pos 0) }
+{
+    if place + 1 < xs.len() {
+        xs[place + 1]
+    } else {
+        xs[0]
+    }
+}
+
+// Compares two rows by columns 1, 2, 3 and on, and by column 0 last.
+pub fn compare(xs: &[i128], ys: &[i128]) -> Ordering
+    ensures { result ≡ row_cmp xs.now ys.now }
+{
+    for place in 0..xs.len().min(ys.len()) {
+        let order = constant_last_entry(xs, place).cmp(&constant_last_entry(ys, place));
+        if order != Ordering::Equal {
+            return order;
+        }
+    }
+    xs.len().cmp(&ys.len())
+}

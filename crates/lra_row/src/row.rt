@@ -1,0 +1,187 @@
+//! Rows of exact numbers.
+
+ghost use Rattle.std.specs.Prelude.{◌≡◌, ◌≤◌, ◌<◌, ℕ, ℤ, pos, neg_ℤ, ◌+ℤ◌, ◌*ℤ◌, ◌<ℤ◌, length, List, ◌∷◌, ◌+◌, IfOk, IfErr};
+ghost use Rattle.std.specs.List.{All};
+ghost use Rattle.std.specs.Cmp.{IsTotalOrder};
+ghost use Rattle.std.specs.FinMap.{IsAntisymmetric};
+ghost use Rattle.lra_linear.specs.Range.{InRange};
+ghost use Rattle.lra_linear.specs.Vectors.{entry, dot, product, negated, blend};
+ghost use Rattle.lra_linear.specs.LowestTerms.{IsLowest};
+ghost use Rattle.lra_linear.specs.CheckedArithmetic.{checked_product, checked_blend};
+ghost use Rattle.lra_row.specs.Operations.{NamesFirst, NamesFirstOrMemory, product_operations, blend_operations};
+ghost use Rattle.lra_row.specs.Rows.{IsExcessOf, combined, checked_combination, combination_operations, IsPositiveSum, cleared, substituted, checked_substitution, substitution_operations, replaced};
+ghost use Rattle.lra_row.specs.Order.{row_cmp};
+
+use crate::entries;
+use crate::entries::Entries;
+use crate::error::RowError;
+use crate::number::opposite;
+use lra_linear::Excess;
+use smallvec::SmallVec;
+use std::alloc::{AllocError, Global};
+use std::cmp::Ordering;
+use std::marker::Model;
+
+/// A row of numbers of the range: the coefficients of a linear constraint, or the coordinates of a generator. Column 0 has the
+/// constant or the divisor.
+#[derive(Drop)]
+pub struct Row {
+    entries: Entries,
+}
+
+impl Model for Row {
+    ghost Value = { List ℤ };
+
+    ghost view = { λ r. r.entries.items };
+
+    ghost invariant = { λ r. All InRange r.entries.items };
+}
+
+impl Row {
+    /// The row of these numbers, column 0 first.
+    pub fn from_slice(alloc: Global, numbers: &[i128]) -> Result<Row, AllocError>
+        requires { All InRange numbers.now }
+        ensures { IfOk result (λ row. row ≡ numbers.now) }
+    {
+        let entries = SmallVec::from_slice(alloc, numbers)?;
+        Ok(Row { entries })
+    }
+
+    /// The same row again.
+    pub fn copy(&self) -> Result<Row, AllocError>
+        ensures { IfOk result (λ row. row ≡ self.now) }
+    {
+        let entries = SmallVec::from_slice(*self.entries.allocator(), self.entries.as_slice())?;
+        Ok(Row { entries })
+    }
+
+    /// The number of columns.
+    pub fn len(&self) -> usize
+        ensures { result ≡ length self.now }
+    {
+        self.entries.len()
+    }
+
+    /// The entry of a column.
+    #[tactic(auto, using(crate::proofs::RowLemmas::entry_at))]
+    pub fn get(&self, column: usize) -> i128
+        requires { column < length self.now }
+        ensures entry { result ≡ entry self.now column }
+        ensures in_range { InRange result }
+    {
+        self.entries.as_slice()[column]
+    }
+
+    /// The product with a row of the same width, or the first product or partial sum that passes, columns from 0 up.
+    #[tactic(auto, using(lra_linear::proofs::CheckedArithmetic::checked_product_value, lra_linear::proofs::CheckedArithmetic::checked_product_in_range, crate::proofs::FirstPassing::product_names_first))]
+    pub fn dot(&self, other: &Row) -> Result<i128, Excess>
+        requires { length self.now ≡ length other.now }
+        ensures exact { result ≡ checked_product self.now other.now }
+        ensures value { IfOk result (λ p. p ≡ product self.now other.now) }
+        ensures in_range { IfOk result InRange }
+        ensures first { NamesFirst (product_operations self.now other.now) result }
+    {
+        entries::product_from(0, self.entries.as_slice(), other.entries.as_slice())
+    }
+
+    /// The product with the vector whose column 0 is `divisor` and whose further columns are `numerators`.
+    #[tactic(auto, using(lra_linear::proofs::CheckedArithmetic::checked_product_value, lra_linear::proofs::CheckedArithmetic::checked_product_in_range, crate::proofs::FirstPassing::product_names_first))]
+    pub fn value_at(&self, divisor: i128, numerators: &[i128]) -> Result<i128, Excess>
+        requires { length self.now ≡ length numerators.now + 1 }
+        ensures exact { result ≡ checked_product self.now (divisor ∷ numerators.now) }
+        ensures value { IfOk result (λ p. p ≡ product self.now (divisor ∷ numerators.now)) }
+        ensures in_range { IfOk result InRange }
+        ensures first { NamesFirst (product_operations self.now (divisor ∷ numerators.now)) result }
+    {
+        entries::product_at(self.entries.as_slice(), divisor, numerators)
+    }
+
+    /// `a` times this row and `b` times the other, or the first product or sum that passes: columns from 0 up, in each the
+    /// product with this row, that with the other, and their sum.
+    #[tactic(auto, using(lra_linear::proofs::CheckedArithmetic::checked_blend_is, lra_linear::proofs::CheckedArithmetic::checked_blend_in_range))]
+    pub fn blend(&self, a: i128, b: i128, other: &Row) -> Result<Row, RowError>
+        requires { length self.now ≡ length other.now }
+        ensures made { IfOk result (λ row. checked_blend a b self.now other.now ≡ Ok row) }
+        ensures value { IfOk result (λ row. row ≡ blend a b self.now other.now) }
+        ensures excess { IfErr result (IsExcessOf (checked_blend a b self.now other.now)) }
+        ensures first { NamesFirstOrMemory (blend_operations a b self.now other.now) result }
+    {
+        let (us, vs) = (self.entries.as_slice(), other.entries.as_slice());
+        let entries = entries::blend(*self.entries.allocator(), a, b, us, vs)?;
+        Ok(Row { entries })
+    }
+
+    /// `(-c.v) u + (c.u) v` in lowest terms, for `c.u` above 0 and `c.v` below: its product with `c` is 0. Or the first product or
+    /// sum that passes: those of `c.u`, of `c.v`, then those of the sum, columns from 0 up.
+    pub fn combine(u: &Row, v: &Row, c: &Row) -> Result<Row, RowError>
+        requires u_width { length u.now ≡ length c.now }
+        requires v_width { length v.now ≡ length c.now }
+        requires above { pos 0 <ℤ product c.now u.now }
+        requires below { product c.now v.now <ℤ pos 0 }
+        ensures lowest { IfOk result (IsLowest (combined u.now v.now c.now)) }
+        ensures flat { IfOk result (λ row. product c.now row ≡ pos 0) }
+        ensures positive { IfOk result (IsPositiveSum u.now v.now) }
+        ensures excess { IfErr result (IsExcessOf (checked_combination u.now v.now c.now)) }
+        ensures first { NamesFirstOrMemory (combination_operations u.now v.now c.now) result }
+    {
+        let above = c.dot(u)?;
+        let below = c.dot(v)?;
+        let mut row = u.blend(opposite(below), above, v)?;
+        row.lowest_terms();
+        Ok(row)
+    }
+
+    // Puts 0 into a column.
+    fn clear(&mut self, column: usize)
+        requires { column < length self.old }
+        ensures cleared { self.new ≡ cleared column self.old }
+        ensures in_range { All InRange self.new }
+    {
+        self.entries.as_mut_slice()[column] = 0;
+    }
+
+    /// The row with the entry of column `x` times the form in place of `x`: its product with a point is that of this row with the
+    /// point whose coordinate `x` is the form's value. Or the first product or sum that passes, columns from 0 up.
+    pub fn substitute(&self, x: usize, form: &Row) -> Result<Row, RowError>
+        requires column { x < length self.now }
+        requires width { length form.now ≡ length self.now }
+        ensures value { IfOk result (λ row. row ≡ substituted x form.now self.now) }
+        ensures replaces { IfOk result (λ row. (u : ℕ → ℤ) → dot row u ≡ dot self.now (replaced x (dot form.now u) u)) }
+        ensures excess { IfErr result (IsExcessOf (checked_substitution x form.now self.now)) }
+        ensures first { NamesFirstOrMemory (substitution_operations x form.now self.now) result }
+    {
+        let mut rest = self.copy()?;
+        rest.clear(x);
+        rest.blend(1, self.get(x), form)
+    }
+
+    /// The row times -1.
+    #[tactic(auto, using(crate::proofs::RowLemmas::negated_in_range))]
+    pub fn negate(&self) -> Result<Row, AllocError>
+        ensures { IfOk result (λ row. row ≡ negated self.now) }
+    {
+        let entries = entries::negated(*self.entries.allocator(), self.entries.as_slice())?;
+        Ok(Row { entries })
+    }
+
+    /// Divides the row by the greatest number that divides each entry, that of column 0 among them.
+    #[tactic(auto, using(crate::proofs::RowLemmas::lowest_divided, crate::proofs::RowLemmas::lowest_same, crate::proofs::RowLemmas::divided_in_range))]
+    pub fn lowest_terms(&mut self)
+        ensures { IsLowest self.old self.new }
+    {
+        let divisor = entries::divisor_of(self.entries.as_slice());
+        if divisor > 1 {
+            entries::divide(self.entries.as_mut_slice(), divisor);
+        }
+    }
+
+    /// Compares two rows by the entries of columns 1, 2, 3 and on, and by that of column 0 last.
+    #[tactic(auto, using(crate::proofs::OrderLemmas::row_cmp_total, crate::proofs::OrderLemmas::row_cmp_ties))]
+    pub fn compare(&self, other: &Row) -> Ordering
+        ensures order { result ≡ row_cmp self.now other.now }
+        ensures total { IsTotalOrder row_cmp }
+        ensures ties { IsAntisymmetric row_cmp }
+    {
+        entries::compare(self.entries.as_slice(), other.entries.as_slice())
+    }
+}
