@@ -1,19 +1,20 @@
 -- The combination of two rows on either side of a third has product 0 with it, and substitution replaces a coordinate.
-use Rattle.std.proofs.Common.{arith, ◌≡◌, ℕ, zero, suc, ◌<◌, List, [], ◌∷◌, length, ap, sym, ◌∙◌, refl, pos, ℤ, ◌+ℤ◌, ◌*ℤ◌, neg_ℤ, ◌<ℤ◌, Result, Ok, Err, cond}
+use Rattle.std.proofs.Common.{arith, ◌≡◌, ℕ, zero, suc, ◌<◌, List, [], ◌∷◌, length, ap, sym, ◌∙◌, refl, pos, ℤ, ◌+ℤ◌, ◌*ℤ◌, neg_ℤ, ◌<ℤ◌, Result, slice_set, Ok, Err, cond}
 use Rattle.std.specs.List.{All}
 use Rattle.std.proofs.lemmas.Int.{ints}
 use Rattle.std.proofs.lemmas.List.Elements.{All-head, All-tail}
 use Rattle.lra_linear.specs.declared.Excess.{Excess}
 use Rattle.lra_linear.specs.declared.Operation.TheVariants.{Product, Sum}
 use Rattle.lra_linear.specs.Range.{InRange, in_range}
-use Rattle.lra_linear.specs.Vectors.{entry, dot, product, blend}
+use Rattle.lra_linear.specs.Vectors.{entry, dot, product, blend, combined, cleared, substituted}
+use Rattle.lra_linear.specs.SetOperations.{assigned}
 use Rattle.lra_linear.specs.LowestTerms.{IsLowest}
-use Rattle.lra_linear.specs.CheckedArithmetic.{checked_product, checked_entry, checked_blend, then_rest}
+use Rattle.lra_linear.specs.CheckedArithmetic.{checked_product, checked_entry, checked_blend, then_rest, checked_combination, checked_added, checked_added_entry, checked_substitution}
 use Rattle.lra_linear.proofs.Ring.{v, ◌⊕◌, ◌⊗◌, ⊖, ring}
 use Rattle.lra_linear.proofs.Signs.{as_nat, positive_nat, neg_nat, no_product, positive_is_nonnegative}
 use Rattle.lra_linear.proofs.Products.{entry_blend, dot_same, dot_linear, dot_scale}
 use Rattle.lra_linear.proofs.CheckedArithmetic.{in_range_yes}
-use Rattle.lra_row.specs.Rows.{combined, IsPositiveSum, cleared, substituted, replaced, checked_combination, checked_added, checked_added_entry, checked_substitution}
+use Rattle.lra_row.specs.Rows.{IsPositiveSum}
 use Rattle.lra_row.proofs.FirstPassing.{combination_is}
 
 -- ---- combination
@@ -90,23 +91,23 @@ cleared_length x [] = refl
 cleared_length zero (r ∷ row) = refl
 cleared_length (suc x) (r ∷ row) = ap suc (cleared_length x row)
 
-dot_replaced : (x : ℕ) (z : ℤ) (row : List ℤ) (u : ℕ → ℤ) → x < length row → dot row (replaced x z u) ≡ dot (cleared x row) u +ℤ (entry row x *ℤ z)
-dot_replaced x z [] u h = absurd (omega (arith, h))
-dot_replaced zero z (r ∷ row) u h =
-    let p = dot row (λ j. u (suc j)) in
-    ring (v r ⊗ v z ⊕ v p) ((v (pos 0) ⊗ v (u 0) ⊕ v p) ⊕ v r ⊗ v z) (omega arith)
-dot_replaced (suc x) z (r ∷ row) u h =
-    let p = dot (cleared x row) (λ j. u (suc j)) in
-    ap (λ (y : ℤ). (r *ℤ u 0) +ℤ y) (dot_replaced x z row (λ j. u (suc j)) (omega (arith, h))) ∙
-    ring (v r ⊗ v (u 0) ⊕ (v p ⊕ v (entry row x) ⊗ v z)) ((v r ⊗ v (u 0) ⊕ v p) ⊕ v (entry row x) ⊗ v z) (omega arith)
+product_assigned : (x : ℕ) (z : ℤ) (row u : List ℤ) → x < length u → product row (slice_set u x z) ≡ product (cleared x row) u +ℤ (entry row x *ℤ z)
+product_assigned x z [] u h = ring (v (pos 0)) (v (pos 0) ⊕ v (pos 0) ⊗ v z) (omega arith)
+product_assigned x z (r ∷ row) [] h = absurd (omega (arith, h))
+product_assigned zero z (r ∷ row) (y ∷ ys) h =
+    let p = product row ys in
+    ring (v r ⊗ v z ⊕ v p) ((v (pos 0) ⊗ v y ⊕ v p) ⊕ v r ⊗ v z) (omega arith)
+product_assigned (suc x) z (r ∷ row) (y ∷ ys) h =
+    let p = product (cleared x row) ys in
+    ap (λ (n : ℤ). (r *ℤ y) +ℤ n) (product_assigned x z row ys (omega (arith, h))) ∙ ring (v r ⊗ v y ⊕ (v p ⊕ v (entry row x) ⊗ v z)) ((v r ⊗ v y ⊕ v p) ⊕ v (entry row x) ⊗ v z) (omega arith)
 
-pub substituted_value : (x : ℕ) (form row : List ℤ) → x < length row → length form ≡ length row → (u : ℕ → ℤ) → dot (substituted x form row) u ≡ dot row (replaced x (dot form u) u)
-substituted_value x form row h l u =
+pub substituted_value : (x : ℕ) (form row : List ℤ) → x < length row → length form ≡ length row → (u : List ℤ) → length u ≡ length row → product (substituted x form row) u ≡ product row (assigned x form u)
+substituted_value x form row h l u k =
     let e = entry row x in
-    let p = dot (cleared x row) u in
-    let q = dot form u in
-    dot_blend (pos 1) e (cleared x row) form u (cleared_length x row ∙ sym l) ∙
-    ring (v (pos 1) ⊗ v p ⊕ v e ⊗ v q) (v p ⊕ v e ⊗ v q) (omega arith) ∙ sym (dot_replaced x q row u h)
+    let p = product (cleared x row) u in
+    let q = product form u in
+    dot_blend (pos 1) e (cleared x row) form (entry u) (cleared_length x row ∙ sym l) ∙
+    ring (v (pos 1) ⊗ v p ⊕ v e ⊗ v q) (v p ⊕ v e ⊗ v q) (omega arith) ∙ sym (product_assigned x q row u (omega (arith, h, k)))
 
 pub substitution_read : (x : ℕ) (form row rest : List ℤ) (e : ℤ) → e ≡ entry row x → rest ≡ cleared x row → blend (pos 1) e rest form ≡ substituted x form row
 substitution_read x form row rest e f r = ap (λ (n : ℤ). blend (pos 1) n rest form) f ∙ ap (λ (us : List ℤ). blend (pos 1) (entry row x) us form) r

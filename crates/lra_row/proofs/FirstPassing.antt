@@ -6,13 +6,13 @@ use Rattle.std.proofs.lemmas.Bool.Decides.{nat_tests}
 use Rattle.lra_linear.specs.declared.Excess.{Excess}
 use Rattle.lra_linear.specs.declared.Operation.TheVariants.{Product, Sum}
 use Rattle.lra_linear.specs.Range.{in_range}
-use Rattle.lra_linear.specs.CheckedArithmetic.{checked_product_from, checked_product, then_rest, checked_blend}
+use Rattle.lra_linear.specs.CheckedArithmetic.{checked_product_from, checked_product, then_rest, checked_blend, and_then, checked_added, checked_combination}
 use Rattle.lra_linear.specs.Vectors.{product}
 use Rattle.lra_linear.proofs.CheckedArithmetic.{checked_product_value}
 use Rattle.lra_row.specs.declared.error.RowError.{RowError}
 use Rattle.lra_row.specs.declared.error.RowError.TheVariants as of_row
 use Rattle.lra_row.specs.Operations.{result_of, Fits, NamesFirst, IsFirstNamed, NamesFirstOrMemory, product_operations_from, product_operations, blend_operations, added_operations}
-use Rattle.lra_row.specs.Rows.{IsExcessOf, and_then, checked_added, checked_combination, combination_operations}
+use Rattle.lra_row.specs.Rows.{IsExcessOf, combination_operations}
 
 -- ---- one operation more
 later_by : {A : Type 0} (o : Excess) (operations : List Excess) (r : Result A Excess) → Fits o → NamesFirst operations r → NamesFirst (o ∷ operations) r

@@ -3,15 +3,10 @@ use Rattle.std.proofs.Common.{◌≡◌, ℕ, suc, List, [], ◌∷◌, ◌++◌
 use Rattle.std.specs.Ordering.{int_cmp, nat_cmp}
 use Rattle.std.specs.declared.cmp.Ordering.{Ordering}
 use Rattle.std.proofs.lemmas.Bool.Decides.{nat_tests}
-use Rattle.std.specs.Cmp.{IsTotalOrder, on_total}
 use Rattle.std.specs.FinMap.{IsAntisymmetric, slice_cmp-IsAntisymmetric, int_cmp-IsAntisymmetric}
 use Rattle.std.specs.Cmp.Lexicographic.{slice_cmp}
-use Rattle.std.proofs.lemmas.Cmp.{lists_total, int_cmp_total}
 use Rattle.std.proofs.lemmas.List.{length-append, length-drop}
-use Rattle.lra_row.specs.Order.{constant_last, row_cmp}
-
-pub row_cmp_total : IsTotalOrder row_cmp
-row_cmp_total = on_total constant_last (lists_total int_cmp_total)
+use Rattle.lra_linear.specs.RowOrder.{constant_last, row_cmp}
 
 pub constant_last_length : (xs : List ℤ) → length (constant_last xs) ≡ length xs
 constant_last_length [] = refl

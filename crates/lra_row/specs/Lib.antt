@@ -2,4 +2,3 @@
 pub mod Division
 pub mod Operations
 pub mod Rows
-pub mod Order

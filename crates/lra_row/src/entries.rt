@@ -7,7 +7,7 @@ ghost use Rattle.lra_linear.specs.Range.{InRange};
 ghost use Rattle.lra_linear.specs.Vectors.{entry, negated};
 ghost use Rattle.lra_linear.specs.CheckedArithmetic.{checked_product_from, checked_product, checked_entry, checked_blend};
 ghost use Rattle.lra_row.specs.Rows.{IsExcessOf, IsRowGcd};
-ghost use Rattle.lra_row.specs.Order.{constant_last, row_cmp};
+ghost use Rattle.lra_linear.specs.RowOrder.{constant_last, row_cmp};
 
 use crate::error::RowError;
 use crate::number::{gcd, product_of, sum_of};

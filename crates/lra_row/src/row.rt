@@ -5,12 +5,13 @@ ghost use Rattle.std.specs.List.{All};
 ghost use Rattle.std.specs.Cmp.{IsTotalOrder};
 ghost use Rattle.std.specs.FinMap.{IsAntisymmetric};
 ghost use Rattle.lra_linear.specs.Range.{InRange};
-ghost use Rattle.lra_linear.specs.Vectors.{entry, dot, product, negated, blend};
+ghost use Rattle.lra_linear.specs.Vectors.{entry, dot, product, negated, blend, combined, cleared, substituted};
 ghost use Rattle.lra_linear.specs.LowestTerms.{IsLowest};
-ghost use Rattle.lra_linear.specs.CheckedArithmetic.{checked_product, checked_blend};
+ghost use Rattle.lra_linear.specs.CheckedArithmetic.{checked_product, checked_blend, checked_combination, checked_substitution};
+ghost use Rattle.lra_linear.specs.SetOperations.{assigned};
 ghost use Rattle.lra_row.specs.Operations.{NamesFirst, NamesFirstOrMemory, product_operations, blend_operations};
-ghost use Rattle.lra_row.specs.Rows.{IsExcessOf, combined, checked_combination, combination_operations, IsPositiveSum, cleared, substituted, checked_substitution, substitution_operations, replaced};
-ghost use Rattle.lra_row.specs.Order.{row_cmp};
+ghost use Rattle.lra_row.specs.Rows.{IsExcessOf, combination_operations, IsPositiveSum, substitution_operations};
+ghost use Rattle.lra_linear.specs.RowOrder.{row_cmp};
 
 use crate::entries;
 use crate::entries::Entries;
@@ -146,7 +147,7 @@ impl Row {
         requires column { x < length self.now }
         requires width { length form.now ≡ length self.now }
         ensures value { IfOk result (λ row. row ≡ substituted x form.now self.now) }
-        ensures replaces { IfOk result (λ row. (u : ℕ → ℤ) → dot row u ≡ dot self.now (replaced x (dot form.now u) u)) }
+        ensures assigns { IfOk result (λ row. (u : List ℤ) → length u ≡ length self.now → product row u ≡ product self.now (assigned x form.now u)) }
         ensures excess { IfErr result (IsExcessOf (checked_substitution x form.now self.now)) }
         ensures first { NamesFirstOrMemory (substitution_operations x form.now self.now) result }
     {
@@ -176,7 +177,7 @@ impl Row {
     }
 
     /// Compares two rows by the entries of columns 1, 2, 3 and on, and by that of column 0 last.
-    #[tactic(auto, using(crate::proofs::OrderLemmas::row_cmp_total, crate::proofs::OrderLemmas::row_cmp_ties))]
+    #[tactic(auto, using(lra_linear::proofs::RowOrder::row_cmp_total, crate::proofs::OrderLemmas::row_cmp_ties))]
     pub fn compare(&self, other: &Row) -> Ordering
         ensures order { result ≡ row_cmp self.now other.now }
         ensures total { IsTotalOrder row_cmp }

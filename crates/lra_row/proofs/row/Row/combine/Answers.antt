@@ -5,7 +5,8 @@ use Rattle.std.proofs.lemmas.Result.{err_from_is_err_and}
 use Rattle.lra_linear.specs.LowestTerms.{IsLowest}
 use Rattle.lra_linear.specs.declared.Excess.{Excess}
 use Rattle.lra_row.specs.declared.error.RowError.TheVariants as of_row
-use Rattle.lra_row.specs.Rows.{checked_combination, combination_operations, IsExcessOf}
+use Rattle.lra_linear.specs.CheckedArithmetic.{checked_combination}
+use Rattle.lra_row.specs.Rows.{combination_operations, IsExcessOf}
 use Rattle.lra_row.proofs.FirstPassing.{names_combination, combination_passes, names_error, names_made}
 use Rattle.lra_row.proofs.Combination.{combined_flat, combined_positive, combined_read, checked_read}
 use Rattle.lra_row.proofs.row.Row.combine.Goals as goal

@@ -2,22 +2,23 @@ use Rattle.std.proofs.Common.{◌≡◌, ◌∙◌, ap, List, ℤ, sym, rules, F
 use Rattle.std.specs.Int.{w128}
 use Rattle.std.proofs.lemmas.Int.{to_z-of_z}
 use Rattle.std.proofs.lemmas.Result.{IfOk-weaker, IfErr-weaker}
-use Rattle.lra_linear.specs.Vectors.{dot, entry}
+use Rattle.lra_linear.specs.Vectors.{entry, product, cleared}
 use Rattle.lra_linear.specs.declared.Excess.{Excess}
-use Rattle.lra_row.specs.Rows.{cleared, checked_substitution, substitution_operations, IsExcessOf}
+use Rattle.lra_linear.specs.CheckedArithmetic.{checked_substitution}
+use Rattle.lra_row.specs.Rows.{substitution_operations, IsExcessOf}
 use Rattle.lra_row.proofs.FirstPassing.{names_added, names_result}
 use Rattle.lra_row.proofs.Combination.{substitution_read, substitution_checked, substituted_value}
 use Rattle.lra_row.proofs.row.Row.substitute.Goals as goal
 
-pub returns-clause-replaces : goal.returns-clause-replaces
-returns-clause-replaces c =
+pub returns-clause-assigns : goal.returns-clause-assigns
+returns-clause-assigns c =
     let x = c.args.x in
     let row = c.args.self.now in
     let form = c.args.form.now in
     let fe : FitsSigned w128 c.get.result = search rules in
     let r : c.clear.new.self ≡ cleared x row = c.clear.ensures.cleared ∙ ap (cleared x) c.in_ok-rest.ensures in
     let v = simp to_z-of_z at c.blend.ensures.value in
-    IfOk-weaker c.blend.result _ _ (λ out e u. ap (λ (z : List ℤ). dot z u) (e ∙ substitution_read x form row c.clear.new.self c.get.result c.get.ensures.entry r) ∙ substituted_value x form row c.requires.column c.requires.width u) v
+    IfOk-weaker c.blend.result _ _ (λ out e u k. ap (λ (z : List ℤ). product z u) (e ∙ substitution_read x form row c.clear.new.self c.get.result c.get.ensures.entry r) ∙ substituted_value x form row c.requires.column c.requires.width u k) v
 
 pub returns-clause-excess : goal.returns-clause-excess
 returns-clause-excess c =
