@@ -1,0 +1,3 @@
+-- Lists of constraints and of generators, and membership of a point.
+pub mod Listed
+pub mod Membership

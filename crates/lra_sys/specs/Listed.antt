@@ -1,0 +1,33 @@
+-- Rows with their kinds, as the descriptions of sets of points that they are.
+use Rattle.std.specs.Prelude.{ℕ, ℤ, Bool, true, false, List, [], ◌∷◌}
+use Rattle.lra_linear.specs.Descriptions.{Given}
+use Rattle.lra_sys.specs.declared.system.ConKind.{ConKind}
+use Rattle.lra_sys.specs.declared.system.ConKind.TheVariants as con
+use Rattle.lra_sys.specs.declared.system.GenKind.{GenKind}
+use Rattle.lra_sys.specs.declared.system.GenKind.TheVariants as gen
+
+-- what a contract sees of a list of rows of n + 1 columns, each with a kind
+pub record Listed (K : Type 0) : Type 0 where
+  pub dims : ℕ
+  pub rows : List (List ℤ)
+  pub kinds : List K
+
+abbrev pub given_by : {K : Type 0} → (K → Bool) → List (List ℤ) → List K → List Given
+given_by equal [] kinds = []
+given_by equal (r ∷ rows) [] = []
+given_by equal (r ∷ rows) (k ∷ kinds) = record { row = r; equal = equal k } ∷ given_by equal rows kinds
+
+abbrev pub is_equality : ConKind → Bool
+is_equality con.Ge = false
+is_equality con.Eq = true
+
+abbrev pub constraints : Listed ConKind → List Given
+constraints s = given_by is_equality s.rows s.kinds
+
+abbrev pub is_line : GenKind → Bool
+is_line gen.Point = false
+is_line gen.Ray = false
+is_line gen.Line = true
+
+abbrev pub generators : Listed GenKind → List Given
+generators s = given_by is_line s.rows s.kinds

@@ -1,0 +1,8 @@
+//! Lists of constraints and of generators.
+#![tactic(auto)]
+
+mod membership;
+mod system;
+
+pub use membership::Holds;
+pub use system::{ConKind, ConSys, GenKind, GenSys};

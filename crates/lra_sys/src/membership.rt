@@ -1,0 +1,63 @@
+//! Membership of a point in the solutions of constraints.
+
+ghost use Rattle.std.specs.Prelude.{◌≡◌, ◌↔◌, IsTrue, suc, pos, ◌<ℤ◌, ◌∷◌, length};
+ghost use Rattle.std.specs.List.{All};
+ghost use Rattle.lra_linear.specs.Descriptions.{HoldsWith};
+ghost use Rattle.lra_sys.specs.Listed.{is_equality, given_by, constraints};
+ghost use Rattle.lra_sys.specs.Membership.{IsAnswer, TellsMembership};
+
+use crate::system::{ConKind, ConSys};
+use lra_row::Row;
+
+/// Whether a point meets all constraints: the place, from 0, of the first that fails, or whose product with the point passes the
+/// range, decides.
+#[derive(Clone, Copy, Debug, PartialEq, Eq)]
+pub enum Holds {
+    Yes,
+    No(usize),
+    Wide(usize),
+}
+
+impl ConKind {
+    /// Whether a product with a point is as the kind asks.
+    pub fn accepts(self, product: i128) -> bool
+        ensures { IsTrue result ↔ HoldsWith (is_equality self) product }
+    {
+        match self {
+            ConKind::Ge => product >= 0,
+            ConKind::Eq => product == 0,
+        }
+    }
+}
+
+fn first_deciding(rows: &[Row], kinds: &[ConKind], num: &[i128], den: i128) -> Holds
+    requires kinds { length kinds.now ≡ length rows.now }
+    requires widths { All (λ r. length r ≡ suc (length num.now)) rows.now }
+    ensures { IsAnswer (given_by is_equality rows.now kinds.now) (den ∷ num.now) result }
+{
+    for (place, row) in rows.iter().enumerate() {
+        match row.value_at(den, num) {
+            Ok(product) => {
+                if !kinds[place].accepts(product) {
+                    return Holds::No(place);
+                }
+            }
+            Err(_) => return Holds::Wide(place),
+        }
+    }
+    Holds::Yes
+}
+
+impl ConSys {
+    /// Whether the constraints hold at the point `num / den`: numerators of the coordinates, and their divisor, which is at least
+    /// 1.
+    #[tactic(auto, using(crate::proofs::Places::answer_tells))]
+    pub fn holds_at(&self, num: &[i128], den: i128) -> Holds
+        requires coordinates { length num.now ≡ self.now.dims }
+        requires divisor { pos 0 <ℤ den }
+        ensures answer { IsAnswer (constraints self.now) (den ∷ num.now) result }
+        ensures membership { TellsMembership (constraints self.now) (den ∷ num.now) result }
+    {
+        first_deciding(self.rows(), self.kinds(), num, den)
+    }
+}

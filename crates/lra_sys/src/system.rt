@@ -1,0 +1,125 @@
+//! Rows of one width, each with a kind.
+
+ghost use Rattle.std.specs.Prelude.{◌≡◌, ◌++◌, ◌∷◌, [], suc, ◌<◌, ◌^◌, length, IfOk, OnOk, OnErr};
+ghost use Rattle.std.specs.List.{All};
+
+use lra_row::Row;
+use std::alloc::{AllocError, Global};
+use std::marker::Model;
+
+/// What a constraint asks of its product with a point: to be at least 0, or to be 0.
+#[derive(Clone, Copy, Debug, PartialEq, Eq)]
+pub enum ConKind {
+    Ge,
+    Eq,
+}
+
+/// What a generator is.
+#[derive(Clone, Copy, Debug, PartialEq, Eq)]
+pub enum GenKind {
+    Point,
+    Ray,
+    Line,
+}
+
+/// Constraints.
+pub type ConSys = System<ConKind>;
+
+/// Generators.
+pub type GenSys = System<GenKind>;
+
+/// Rows of n + 1 columns, in order, each with a kind.
+#[derive(Drop)]
+pub struct System<K: Copy> {
+    dims: usize,
+    rows: Vec<Row>,
+    kinds: Vec<K>,
+}
+
+impl<K: Copy> Model for System<K> {
+    ghost use Rattle.std.specs.Prelude.{◌≡◌, suc, length};
+    ghost use Rattle.std.specs.List.{All};
+    ghost use Rattle.lra_sys.specs.Listed.{Listed};
+
+    ghost Value = { Listed K };
+
+    ghost view = { λ s. record { dims = s.dims; rows = s.rows.items; kinds = s.kinds.items } };
+
+    ghost invariant = { λ s. (length s.rows.items ≡ length s.kinds.items) × All (λ r. length r ≡ suc s.dims) s.rows.items };
+}
+
+impl<K: Copy> System<K> {
+    /// No row, for n dimensions.
+    pub fn new(alloc: Global, n: usize) -> Self
+        requires { n < 2 ^ 62 }
+        ensures dims { result.dims ≡ n }
+        ensures rows { result.rows ≡ [] }
+        ensures kinds { result.kinds ≡ [] }
+    {
+        System {
+            dims: n,
+            rows: Vec::new(alloc),
+            kinds: Vec::new(alloc),
+        }
+    }
+
+    /// The number of dimensions.
+    pub fn dims(&self) -> usize
+        ensures { result ≡ self.now.dims }
+    {
+        self.dims
+    }
+
+    /// Adds a row, the last.
+    pub fn push(&mut self, row: Row, kind: K) -> Result<(), AllocError>
+        requires { length row ≡ suc self.old.dims }
+        ensures dims { self.new.dims ≡ self.old.dims }
+        ensures rows { OnOk result (self.new.rows ≡ self.old.rows ++ row ∷ []) }
+        ensures kinds { OnOk result (self.new.kinds ≡ self.old.kinds ++ kind ∷ []) }
+        ensures unchanged { OnErr result (self.new ≡ self.old) }
+    {
+        self.rows.reserve(1)?;
+        self.kinds.reserve(1)?;
+        let _ = self.rows.push(row);
+        let _ = self.kinds.push(kind);
+        Ok(())
+    }
+
+    /// The rows, in order.
+    pub fn rows(&self) -> &[Row]
+        ensures rows { result.now ≡ self.now.rows }
+        ensures widths { All (λ r. length r ≡ suc self.now.dims) result.now }
+    {
+        self.rows.as_slice()
+    }
+
+    /// The kinds of the rows.
+    pub fn kinds(&self) -> &[K]
+        ensures kinds { result.now ≡ self.now.kinds }
+        ensures len { length result.now ≡ length self.now.rows }
+    {
+        self.kinds.as_slice()
+    }
+
+    /// The same list again.
+    pub fn copy(&self) -> Result<Self, AllocError>
+        ensures { IfOk result (λ s. s ≡ self.now) }
+    {
+        let alloc = *self.rows.allocator();
+        Ok(System {
+            dims: self.dims,
+            rows: copies(alloc, self.rows.as_slice())?,
+            kinds: Vec::from_slice(alloc, self.kinds.as_slice())?,
+        })
+    }
+}
+
+fn copies(alloc: Global, rows: &[Row]) -> Result<Vec<Row>, AllocError>
+    ensures { IfOk result (λ copied. copied.items ≡ rows.now) }
+{
+    let mut copied = Vec::new(alloc);
+    for row in rows {
+        copied.push(row.copy()?)?;
+    }
+    Ok(copied)
+}
