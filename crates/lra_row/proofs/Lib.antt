@@ -7,3 +7,4 @@ pub mod OrderLemmas
 pub mod FirstPassing
 pub mod RowLemmas
 pub mod Combination
+pub mod Pivots

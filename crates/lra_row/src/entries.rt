@@ -7,6 +7,7 @@ ghost use Rattle.lra_linear.specs.Range.{InRange};
 ghost use Rattle.lra_linear.specs.Vectors.{entry, negated};
 ghost use Rattle.lra_linear.specs.CheckedArithmetic.{checked_product_from, checked_product, checked_entry, checked_blend};
 ghost use Rattle.lra_row.specs.Rows.{IsExcessOf, IsRowGcd};
+ghost use Rattle.lra_linear.specs.Echelon.{pivot};
 ghost use Rattle.lra_linear.specs.RowOrder.{constant_last, row_cmp};
 
 use crate::error::RowError;
@@ -81,8 +82,8 @@ pub fn divisor_of(xs: &[i128]) -> i128
     ensures nonnegative { pos 0 ≤ℤ result }
 {
     let mut divisor = 0;
-    for x in xs {
-        divisor = gcd(divisor, *x);
+    for number in xs {
+        divisor = gcd(divisor, *number);
     }
     divisor
 }
@@ -95,6 +96,19 @@ pub fn divide(xs: &mut [i128], divisor: i128)
     for x in xs.iter_mut() {
         *x /= divisor;
     }
+}
+
+// The first column other than 0 in the order 1, 2, 3 and on; 0 where there is none.
+pub fn pivot_of(xs: &[i128]) -> usize
+    ensures pivot { result ≡ pivot xs.now }
+    ensures inside { 0 < length xs.now → result < length xs.now }
+{
+    for j in 1..xs.len() {
+        if xs[j] != 0 {
+            return j;
+        }
+    }
+    0
 }
 
 // The entry at a place of columns 1, 2, 3 and on, with column 0 last.

@@ -4,11 +4,14 @@ ghost use Rattle.std.specs.Prelude.{◌≡◌};
 
 use lra_linear::Excess;
 use std::alloc::{AllocError, AllocFailed};
+use thiserror::Error;
 
 /// Why a row was not made: a number passed the range, or there was no memory.
-#[derive(Clone, Copy, Debug, PartialEq, Eq)]
+#[derive(Clone, Copy, Debug, PartialEq, Eq, Error)]
 pub enum RowError {
+    #[error("a number passes the range")]
     Excess(Excess),
+    #[error("out of memory")]
     Memory,
 }
 

@@ -11,6 +11,7 @@ ghost use Rattle.lra_linear.specs.CheckedArithmetic.{checked_product, checked_bl
 ghost use Rattle.lra_linear.specs.SetOperations.{assigned};
 ghost use Rattle.lra_row.specs.Operations.{NamesFirst, NamesFirstOrMemory, product_operations, blend_operations};
 ghost use Rattle.lra_row.specs.Rows.{IsExcessOf, combination_operations, IsPositiveSum, substitution_operations};
+ghost use Rattle.lra_linear.specs.Echelon.{pivot};
 ghost use Rattle.lra_linear.specs.RowOrder.{row_cmp};
 
 use crate::entries;
@@ -57,7 +58,7 @@ impl Row {
     }
 
     /// The number of columns.
-    pub fn len(&self) -> usize
+    pub fn width(&self) -> usize
         ensures { result ≡ length self.now }
     {
         self.entries.len()
@@ -71,6 +72,14 @@ impl Row {
         ensures in_range { InRange result }
     {
         self.entries.as_slice()[column]
+    }
+
+    /// The first column other than 0 in the order 1, 2, 3 and on; 0 where there is none.
+    pub fn pivot(&self) -> usize
+        ensures pivot { result ≡ pivot self.now }
+        ensures inside { 0 < length self.now → result < length self.now }
+    {
+        entries::pivot_of(self.entries.as_slice())
     }
 
     /// The product with a row of the same width, or the first product or partial sum that passes, columns from 0 up.

@@ -3,6 +3,6 @@ use Rattle.lra_linear.specs.Range.{InRange}
 use Rattle.lra_row.proofs.RowDivisors.{IsGcdWith}
 use Rattle.lra_row.proofs.entries.divisor_of.Given as goal
 
-abbrev pub invariant-loop-x : goal.invariant-loop-x
-invariant-loop-x l =
-    ((g : ℕ) → IsGcdWith (unsigned_abs l.divisor) (drop l.x-index l.xs) g → IsGcdWith 0 l.xs g) × (pos 0 ≤ℤ l.divisor) × InRange l.divisor
+abbrev pub invariant-loop-number : goal.invariant-loop-number
+invariant-loop-number l =
+    ((g : ℕ) → IsGcdWith (unsigned_abs l.divisor) (drop l.number-index l.xs) g → IsGcdWith 0 l.xs g) × (pos 0 ≤ℤ l.divisor) × InRange l.divisor

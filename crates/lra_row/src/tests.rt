@@ -1,0 +1,120 @@
+//! Worked rows.
+
+use super::*;
+use std::alloc::Global;
+use std::cmp::Ordering;
+use std::test::Fail;
+
+const MAX: i128 = i128::MAX;
+
+#[test]
+fn numbers(rt: HostRuntime) {
+    assert_eq!(rt; mul(MAX, -1), Some(-MAX));
+    assert_eq!(rt; mul(i128::MIN, 1), None, "-2^127 passes the range");
+    assert_eq!(rt; add(MAX, 1), None);
+    assert_eq!(rt; add(-MAX, -1), None);
+    for (a, b, floor) in [
+        (7, 2, 3),
+        (-7, 2, -4),
+        (7, -2, -4),
+        (-7, -2, 3),
+        (6, -2, -3),
+    ] {
+        assert_eq!(rt; floor_div(a, b), Some(floor));
+    }
+    assert_eq!(rt; floor_div(1, 0), None);
+    assert_eq!(rt; floor_div(i128::MIN, -1), None);
+    assert_eq!(rt; gcd(12, -18), 6);
+    assert_eq!(rt; gcd(0, 0), 0);
+    assert_eq!(rt; ratio_cmp(1, 2, 2, 4), Ordering::Equal);
+    assert_eq!(rt;
+        ratio_cmp(MAX - 1, MAX, MAX - 2, MAX - 1),
+        Ordering::Greater
+    );
+    assert_eq!(rt; ratio_cmp(-1, 3, 1, MAX), Ordering::Less);
+}
+
+#[test]
+fn products(rt: HostRuntime) -> Result<(), Fail> {
+    let c = Row::from_slice(rt.alloc(), &[1, -2, 3])?;
+    let r = Row::from_slice(rt.alloc(), &[4, 5, 6])?;
+    assert_eq!(rt; c.width(), 3);
+    assert_eq!(rt; r.width(), 3);
+    assert_eq!(rt; c.dot(&r), Ok(12));
+    assert_eq!(rt; c.copy()?.compare(&c), Ordering::Equal);
+    Ok(())
+}
+
+#[test]
+fn excesses(rt: HostRuntime) -> Result<(), Fail> {
+    let ones = Row::from_slice(rt.alloc(), &[1, 1, 1])?;
+    let large = Row::from_slice(rt.alloc(), &[MAX, 1, MAX])?;
+    assert_eq!(rt; ones.width(), 3);
+    assert_eq!(rt; large.width(), 3);
+    let sum = Excess {
+        op: Operation::Sum,
+        left: MAX,
+        right: 1,
+    };
+    assert_eq!(rt;
+        ones.dot(&large),
+        Err(sum),
+        "the first partial sum that passes"
+    );
+    let product = Excess {
+        op: Operation::Product,
+        left: MAX,
+        right: MAX,
+    };
+    assert_eq!(rt; large.dot(&large), Err(product));
+    assert_eq!(rt;
+        large.value_at(2, &[0, 0]),
+        Err(Excess {
+            op: Operation::Product,
+            left: MAX,
+            right: 2
+        })
+    );
+    assert!(rt; large.blend(1, 1, &ones).is_err());
+    Ok(())
+}
+
+#[test]
+fn combination(rt: HostRuntime) -> Result<(), Fail> {
+    let c = Row::from_slice(rt.alloc(), &[0, 2])?;
+    let u = Row::from_slice(rt.alloc(), &[1, 1])?;
+    let v = Row::from_slice(rt.alloc(), &[6, -1])?;
+    let between = Row::combine(&u, &v, &c).map_err(|_| "no row")?;
+    assert_eq!(rt;
+        between.compare(&Row::from_slice(rt.alloc(), &[1, 0])?),
+        Ordering::Equal,
+        "2 u + 2 v is 14 0"
+    );
+    Ok(())
+}
+
+#[test]
+fn substitution(rt: HostRuntime) -> Result<(), Fail> {
+    let form = Row::from_slice(rt.alloc(), &[5, 1, -1])?;
+    let row = Row::from_slice(rt.alloc(), &[1, 2, 3])?;
+    let made = row.substitute(1, &form).map_err(|_| "no row")?;
+    assert_eq!(rt;
+        made.compare(&Row::from_slice(rt.alloc(), &[11, 2, 1])?),
+        Ordering::Equal,
+        "2 times the form in place of x1"
+    );
+    assert_eq!(rt; row.compare(&made), Ordering::Greater, "2 3 1 after 2 1 11");
+    Ok(())
+}
+
+#[test]
+fn signs_and_divisors(rt: HostRuntime) -> Result<(), Fail> {
+    let mut even = Row::from_slice(rt.alloc(), &[4, 0, -6])?.negate()?;
+    even.lowest_terms();
+    assert_eq!(rt;
+        even.compare(&Row::from_slice(rt.alloc(), &[-2, 0, 3])?),
+        Ordering::Equal
+    );
+    assert_eq!(rt; even.pivot(), 2);
+    Ok(())
+}
