@@ -1,0 +1,4 @@
+pub mod OptionRows
+pub mod ParsedWords
+pub mod Readings
+pub mod TakenWords

@@ -1,0 +1,250 @@
+-- Words without a fault give a command, with each value in its option's range.
+use Rattle.std.proofs.Common.{◌≡◌, ◌∙◌, ◌+◌, ◌<◌, ◌≤◌, ◌^◌, ◌-◌, ◌&&◌, ◌||◌, ℕ, Bool, List, [], ◌∷◌, Option, Some, None, ap, arith, codes, cond, lit<, map, not, refl, sym, subst, true, false, length, lt-ltb, nat_le, nat_lt}
+use Rattle.std.specs.Prelude.{find, fold, is_some, option_and_then, option_map}
+use Rattle.std.specs.List.{list_any}
+use Rattle.std.specs.Option.{option_map_or}
+use Rattle.std.specs.Str.{bytes_eq}
+use Rattle.std.specs.Str.Parse.{digits_value, without_leading_plus}
+use Rattle.std.proofs.lemmas.Bool.{leb-true, ltb-true}
+use Rattle.std.proofs.lemmas.Slice.Eq.{bytes_eq-Decides}
+use Rattle.clap.specs.Facts.{explicit_source}
+use Rattle.clap.specs.Faults.{check_fault, entered_fault, fault_of, level_fault, walk_fault}
+use Rattle.clap.specs.Kinds.{Kinds, check_kinds}
+use Rattle.clap.specs.Simple.{App, Shape, argument_words, built, entered, filled, label_of, names_of, help_rule, new_shape, rows_at, subcommand_of, with_index}
+use Rattle.clap.specs.Takes.{is_given}
+use Rattle.clap.specs.ValueTests.{accepts, is_numeral}
+use Rattle.clap.specs.Values.{same_text}
+use Rattle.clap.specs.Walk.{Names, Row, Rule, Text, answers_to, arg_by_id, arg_by_index, finished, first_of, has_row, nothing_held, one_of, rows_after, walk, walk_from}
+use Rattle.clap.specs.declared.builder.value_parser.ValueParser.{ValueParser}
+use Rattle.clap.specs.declared.builder.value_parser.ValueParser.TheVariants as vp
+use Rattle.clap.proofs.WalkLemmas.{both, list_any-map}
+use Rattle.lra_words.specs.Chosen.{IsWithinRanges, command_of, domain_at, domain_of, flag_at, named_command, number_at, number_below, options_of, sample_of, truth_of}
+use Rattle.lra_words.specs.CommandLine.{TakesDomains, command_line, delay_rule, domain_rule, json_rule, limited_rule, narrow_rule, parts_rule, seed_rule, size_rule}
+use Rattle.lra_words.specs.declared.chosen.AnalyseOptions.{AnalyseOptions}
+use Rattle.lra_words.specs.declared.chosen.Command.{Command}
+use Rattle.lra_words.specs.declared.chosen.Command.TheVariants.{Analyse, Sample, Calc}
+use Rattle.lra_words.specs.declared.chosen.Domain.{Domain}
+use Rattle.lra_words.specs.declared.chosen.Domain.TheVariants.{Poly, Box, Oct}
+use Rattle.lra_words.proofs.OptionRows.{AllOwn, HasValue, IsNoHelp, IsOwn, RowsFit, defaulted_value, flag_adds, given_there, help_adds, level_parts, level_rows, option_adds, value_there, walk_stop}
+
+-- ---- values
+
+-- a text that passed the parser of numbers from `low` to `high`
+number_passed : (low high limit : ℕ) (text : Text) → high < limit → accepts false (vp.Unsigned low high) text ≡ true
+    → (n : ℕ) × (number_below limit text ≡ Some n) × (low ≤ n) × (n ≤ high)
+number_passed low high limit text fits passed =
+    let number = digits_value 10 (without_leading_plus text) in
+    let digits = is_numeral (without_leading_plus text) in
+    let bounds = nat_le low number && nat_le number high in
+    let one = both digits (nat_lt number (2 ^ 64) && bounds) passed in
+    let two = both (nat_lt number (2 ^ 64)) bounds one.1 in
+    let three = both (nat_le low number) (nat_le number high) two.1 in
+    let least : low ≤ number = leb-true _ _ three.0 in
+    let most : number ≤ high = leb-true _ _ three.1 in
+    let small : nat_lt number limit ≡ true = lt-ltb number limit (omega arith) in
+    (number, rw (one.0, small) refl, least, most)
+
+is_text : (a b : Text) → bytes_eq a b ≡ true → a ≡ b
+is_text a b e = (bytes_eq-Decides a b).0 e
+
+-- a text that passed the parser of the three names
+domain_passed : (domains : ValueParser) (text : Text) → TakesDomains domains → accepts false domains text ≡ true → (d : Domain) × (domain_of text ≡ Some d)
+domain_passed domains text takes passed =
+    let as_names : accepts false (vp.Names takes.0) text ≡ true = subst (λ (p : ValueParser). accepts false p text ≡ true) takes.1 passed in
+    let any = sym (list_any-map (λ name. bytes_eq name text) (λ name. name.now) takes.0.now) ∙ as_names in
+    go (bytes_eq (codes "poly") text) refl (bytes_eq (codes "box") text) refl (bytes_eq (codes "oct") text) refl
+    (subst (λ (names : List Text). list_any (λ name. bytes_eq name text) names ≡ true) takes.2 any)
+  where
+    go : (p : Bool) → bytes_eq (codes "poly") text ≡ p → (b : Bool) → bytes_eq (codes "box") text ≡ b → (o : Bool) → bytes_eq (codes "oct") text ≡ o
+        → (bytes_eq (codes "poly") text || (bytes_eq (codes "box") text || (bytes_eq (codes "oct") text || false))) ≡ true → (d : Domain) × (domain_of text ≡ Some d)
+    go true tp b tb o to any = (Poly, ap domain_of (sym (is_text (codes "poly") text tp)))
+    go false tp true tb o to any = (Box, ap domain_of (sym (is_text (codes "box") text tb)))
+    go false tp false tb true to any = (Oct, ap domain_of (sym (is_text (codes "oct") text to)))
+    go false tp false tb false to any =
+        let bad : false ≡ true = rw (tp, tb, to) at any in
+        cc
+
+-- a text that passed the parser of truth values
+truth_passed : (text : Text) → accepts false vp.Bool text ≡ true → (b : Bool) × (truth_of text ≡ Some b)
+truth_passed text passed = go (bytes_eq text (codes "true")) refl (bytes_eq text (codes "false")) refl
+  where
+    go : (t : Bool) → bytes_eq text (codes "true") ≡ t → (f : Bool) → bytes_eq text (codes "false") ≡ f → (b : Bool) × (truth_of text ≡ Some b)
+    go true et f ef = (true, rw et refl)
+    go false et true ef = (false, rw (et, ef) refl)
+    go false et false ef =
+        let bad : false ≡ true = rw (et, ef) at passed in
+        cc
+
+number_of : (id : Text) (low high limit : ℕ) (rows : List Row) (text : Text) → high < limit → one_of id rows ≡ Some text → accepts false (vp.Unsigned low high) text ≡ true
+    → (n : ℕ) × (number_at id limit rows ≡ Some n) × (low ≤ n) × (n ≤ high)
+number_of id low high limit rows text fits one passed =
+    let n = number_passed low high limit text fits passed in
+    (n.0, rw one n.1, n.2, n.3)
+
+truth_at : (id : Text) (rows : List Row) (text : Text) → one_of id rows ≡ Some text → accepts false vp.Bool text ≡ true → (b : Bool) × (flag_at id rows ≡ Some b)
+truth_at id rows text one passed =
+    let b = truth_passed text passed in
+    (b.0, rw one b.1)
+
+pub options_from : (rows : List Row) (options : AnalyseOptions) → domain_at (codes "domain") rows ≡ Some options.domain → number_at (codes "parts") (2 ^ 8) rows ≡ Some options.parts
+    → number_at (codes "delay") (2 ^ 8) rows ≡ Some options.delay → number_at (codes "narrow") (2 ^ 8) rows ≡ Some options.narrow
+    → flag_at (codes "limited") rows ≡ Some options.limited → flag_at (codes "json") rows ≡ Some options.json → options_of rows ≡ Some options
+options_from rows options domain parts delay narrow limited json = rw (domain, parts, delay, narrow, limited, json) refl
+
+sample_from : (rows : List Row) (seed size : ℕ) → number_at (codes "seed") (2 ^ 64) rows ≡ Some seed → number_at (codes "size") (2 ^ 32) rows ≡ Some size
+    → sample_of rows ≡ Some (Sample seed size)
+sample_from rows seed size e f = rw (e, f) refl
+
+-- ---- the subcommands as a parse builds them
+
+abbrev built_rule : Rule → Rule
+built_rule a = with_index 1 (filled a)
+
+abbrev sub_at : ValueParser → ℕ → Shape
+sub_at domains k = Rattle.std.specs.List.slice_index_or (built (command_line domains)).subs k (new_shape [])
+
+analyse_own : (domains : ValueParser) → AllOwn (sub_at domains 0).rules (sub_at domains 0).rules
+analyse_own domains = (
+  (refl, option_adds (built_rule (domain_rule domains)) refl refl),
+  (
+    (refl, option_adds (built_rule parts_rule) refl refl),
+    (
+      (refl, option_adds (built_rule delay_rule) refl refl),
+      (
+        (refl, option_adds (built_rule narrow_rule) refl refl),
+        (
+          (refl, flag_adds (built_rule limited_rule) (codes "true") refl refl),
+          (
+            (refl, flag_adds (built_rule json_rule) (codes "true") refl refl),
+            ((refl, help_adds (built_rule help_rule) refl), tt),
+          ),
+        ),
+      ),
+    ),
+  ),
+)
+
+analyse_taken : (domains : ValueParser) → TakesDomains domains → (words : List Text) → level_fault (sub_at domains 0) [] nothing_held words false [] ≡ []
+    → (o : AnalyseOptions) × (options_of (rows_after (sub_at domains 0).rules [] words) ≡ Some o) × IsWithinRanges (Analyse o)
+analyse_taken domains takes words e =
+    let shape = sub_at domains 0 in
+    let rows = rows_after shape.rules [] words in
+    let fit = level_rows shape refl (analyse_own domains) (λ i. refl) words e in
+    let domain_text = defaulted_value shape words (built_rule (domain_rule domains)) fit refl refl refl in
+    let parts_text = defaulted_value shape words (built_rule parts_rule) fit refl refl refl in
+    let delay_text = defaulted_value shape words (built_rule delay_rule) fit refl refl refl in
+    let narrow_text = defaulted_value shape words (built_rule narrow_rule) fit refl refl refl in
+    let limited_text = defaulted_value shape words (built_rule limited_rule) fit refl refl refl in
+    let json_text = defaulted_value shape words (built_rule json_rule) fit refl refl refl in
+    let domain = domain_passed domains domain_text.text takes domain_text.passed in
+    let parts = number_of (codes "parts") 1 16 (2 ^ 8) rows parts_text.text (lit< tt) parts_text.one parts_text.passed in
+    let delay = number_of (codes "delay") 0 8 (2 ^ 8) rows delay_text.text (lit< tt) delay_text.one delay_text.passed in
+    let narrow = number_of (codes "narrow") 0 4 (2 ^ 8) rows narrow_text.text (lit< tt) narrow_text.one narrow_text.passed in
+    let limited = truth_at (codes "limited") rows limited_text.text limited_text.one limited_text.passed in
+    let json = truth_at (codes "json") rows json_text.text json_text.one json_text.passed in
+    let options : AnalyseOptions = record { domain = domain.0; parts = parts.0; delay = delay.0; narrow = narrow.0; limited = limited.0; json = json.0 } in
+    let has_domain : domain_at (codes "domain") rows ≡ Some domain.0 = ap (option_and_then domain_of) domain_text.first ∙ domain.1 in
+    (options, options_from rows options has_domain parts.1 delay.1 narrow.1 limited.1 json.1, (parts.2, parts.3, delay.3, narrow.3))
+
+sample_own : (domains : ValueParser) → AllOwn (sub_at domains 1).rules (sub_at domains 1).rules
+sample_own domains = (
+  (refl, option_adds (built_rule seed_rule) refl refl),
+  (
+    (refl, option_adds (built_rule size_rule) refl refl),
+    ((refl, help_adds (built_rule help_rule) refl), tt),
+  ),
+)
+
+nothing_wanted : (help subcommand argument : Bool) → check_kinds help subcommand argument ≡ [] → (subcommand ≡ false) × (argument ≡ false)
+nothing_wanted true subcommand argument e = cc
+nothing_wanted false true argument e = cc
+nothing_wanted false false true e = cc
+nothing_wanted false false false e = (refl, refl)
+
+both_given : (seed size : Bool) → (not seed || (not size || false)) ≡ false → (seed ≡ true) × (size ≡ true)
+both_given true true e = (refl, refl)
+both_given true false e = cc
+both_given false size e = cc
+
+sample_taken : (domains : ValueParser) (words : List Text) → level_fault (sub_at domains 1) [] nothing_held words false [] ≡ []
+    → (c : Command) × (sample_of (rows_after (sub_at domains 1).rules [] words) ≡ Some c) × IsWithinRanges c
+sample_taken domains words e =
+    let shape = sub_at domains 1 in
+    let rows = rows_after shape.rules [] words in
+    let fit = level_rows shape refl (sample_own domains) (λ i. refl) words e in
+    let checks = (level_parts shape [] words false [] e).4 in
+    let wanted = nothing_wanted false false (not (is_given (codes "seed") rows) || (not (is_given (codes "size") rows) || false)) checks in
+    let given = both_given (is_given (codes "seed") rows) (is_given (codes "size") rows) wanted.1 in
+    let seed_text = value_there shape.rules rows (built_rule seed_rule) fit refl (given_there (codes "seed") rows given.0) in
+    let size_text = value_there shape.rules rows (built_rule size_rule) fit refl (given_there (codes "size") rows given.1) in
+    let seed = number_of (codes "seed") 0 (2 ^ 64 - 1) (2 ^ 64) rows seed_text.text (lit< tt) seed_text.one seed_text.passed in
+    let size = number_of (codes "size") 0 400 (2 ^ 32) rows size_text.text (lit< tt) size_text.one size_text.passed in
+    (Sample seed.0 size.0, sample_from rows seed.0 size.0 seed.1 size.1, size.3)
+
+-- ---- the whole parse
+
+-- one of four, or none
+among : (C : Option Shape → Type 0) (test : Shape → Bool) (a b c d : Shape) → (test a ≡ true → C (Some a)) → (test b ≡ true → C (Some b)) → (test c ≡ true → C (Some c))
+    → (test d ≡ true → C (Some d)) → C None → C (find test (a ∷ (b ∷ (c ∷ (d ∷ [])))))
+among C test a b c d on_a on_b on_c on_d none = go (test a) refl (test b) refl (test c) refl (test d) refl
+  where
+    go : (ta : Bool) → test a ≡ ta → (tb : Bool) → test b ≡ tb → (tc : Bool) → test c ≡ tc → (td : Bool) → test d ≡ td → C (find test (a ∷ (b ∷ (c ∷ (d ∷ [])))))
+    go true ea tb eb tc ec td ed = rw ea (on_a ea)
+    go false ea true eb tc ec td ed = rw (ea, eb) (on_b eb)
+    go false ea false eb true ec td ed = rw (ea, eb, ec) (on_c ec)
+    go false ea false eb false ec true ed = rw (ea, eb, ec, ed) (on_d ed)
+    go false ea false eb false ec false ed = rw (ea, eb, ec, ed) none
+
+-- what the subcommand gives that a walk stopped at
+abbrev Gives : List Text → Option Shape → Type 0
+Gives words o = option_map_or (λ s. level_fault s [] nothing_held words false []) o [] ≡ [] → is_some (option_map (λ s. rows_at s words) o) ≡ true
+    → (c : Command) × (command_of (option_map (λ s. rows_at s words) o) ≡ Some c) × IsWithinRanges c
+
+stop_gives : (domains : ValueParser) → TakesDomains domains → (stop : Option (Text × List Text)) → IsNoHelp stop → entered_fault (built (command_line domains)) stop ≡ []
+    → is_some (entered (built (command_line domains)) stop) ≡ true
+    → (c : Command) × (command_of (entered (built (command_line domains)) stop) ≡ Some c) × IsWithinRanges c
+stop_gives domains takes None no_help e some = cc
+stop_gives domains takes (Some p) no_help e some =
+    among (Gives p.1) (λ s. answers_to p.0 (label_of s)) (sub_at domains 0) (sub_at domains 1) (sub_at domains 2) (sub_at domains 3) analyse sample calc help (λ f h. cc) e some
+  where
+    analyse : answers_to p.0 (label_of (sub_at domains 0)) ≡ true → Gives p.1 (Some (sub_at domains 0))
+    analyse named f h =
+        let taken = analyse_taken domains takes p.1 f in
+        (Analyse taken.0, ap (option_map (λ o. Analyse o)) taken.1, taken.2)
+
+    sample : answers_to p.0 (label_of (sub_at domains 1)) ≡ true → Gives p.1 (Some (sub_at domains 1))
+    sample named f h = sample_taken domains p.1 f
+
+    calc : answers_to p.0 (label_of (sub_at domains 2)) ≡ true → Gives p.1 (Some (sub_at domains 2))
+    calc named f h = (Calc, refl, tt)
+
+    help : answers_to p.0 (label_of (sub_at domains 3)) ≡ true → Gives p.1 (Some (sub_at domains 3))
+    help named f h =
+        let is : codes "help" ≡ p.0 = is_text (codes "help") p.0 (only (bytes_eq (codes "help") p.0) named) in
+        let bad : true ≡ false = rw (← is) at no_help in
+        cc
+      where
+        only : (b : Bool) → (b || false) ≡ true → b ≡ true
+        only true x = refl
+        only false x = cc
+
+-- where a subcommand is required, a level without a fault has met one
+subcommand_met : (s : Shape) (rows : List Row) (has : Bool) → s.subcommand_required ≡ true → check_fault s rows has ≡ [] → has ≡ true
+subcommand_met s rows true required e = refl
+subcommand_met s rows false required e =
+    let wanted = nothing_wanted (s.arg_required_else_help && not (list_any (λ r. explicit_source r.source) rows)) s.subcommand_required
+    (not (s.subcommand_negates_reqs && false) && list_any (λ a. a.required && not (is_given a.id rows)) s.rules) e in
+    let bad : true ≡ false = sym required ∙ wanted.0 in
+    cc
+
+-- words without a fault give a command
+pub words_give : (domains : ValueParser) → TakesDomains domains → (words : List Text) → fault_of (command_line domains) words ≡ []
+    → (c : Command) × (command_of (subcommand_of (command_line domains) words) ≡ Some c) × IsWithinRanges c
+words_give domains takes words e =
+    let whole = built (command_line domains) in
+    let rest = argument_words (command_line domains) words in
+    let stop = (walk whole.top.rules (names_of whole) nothing_held rest).stopped in
+    let parts = level_parts whole.top (names_of whole) rest (is_some (entered whole stop)) (entered_fault whole stop) e in
+    let no_help = walk_stop whole.top (names_of whole) refl rest (walk_from nothing_held) parts.0 tt in
+    let rows = finished whole.top.rules (walk whole.top.rules (names_of whole) nothing_held rest).held in
+    stop_gives domains takes stop no_help parts.1 (subcommand_met whole.top rows (is_some (entered whole stop)) refl parts.4)

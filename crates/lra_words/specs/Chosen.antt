@@ -1,0 +1,94 @@
+-- The command that the matches of the command line are.
+use Rattle.std.specs.Prelude.{◌≡◌, ◌≤◌, ◌^◌, ◌&&◌, ℕ, Bool, true, false, List, [], Option, Some}
+use Rattle.std.specs.Prelude.{None, codes, if◌then◌else◌, nat_lt, option_and_then, option_map, ⊤}
+use Rattle.std.specs.Str.{bytes_eq}
+use Rattle.std.specs.Str.Parse.{digits_value, without_leading_plus}
+use Rattle.clap.specs.ValueTests.{is_numeral}
+use Rattle.clap.specs.Words.{Row, Text, fault_of, first_of, one_of, subcommand_of, takes}
+use Rattle.clap.specs.declared.builder.value_parser.ValueParser.{ValueParser}
+use Rattle.lra_words.specs.CommandLine.{TakesDomains, command_line}
+use Rattle.lra_words.specs.declared.chosen.AnalyseOptions.{AnalyseOptions}
+use Rattle.lra_words.specs.declared.chosen.Command.{Command}
+use Rattle.lra_words.specs.declared.chosen.Command.TheVariants.{Analyse, Sample, Calc}
+use Rattle.lra_words.specs.declared.chosen.Domain.{Domain}
+use Rattle.lra_words.specs.declared.chosen.Domain.TheVariants.{Poly, Box, Oct}
+
+-- the number that a text writes, by decimal digits after at most one plus, where it is below
+-- `limit`
+abbrev pub number_below : ℕ → Text → Option ℕ
+number_below limit text =
+    let digits = without_leading_plus text in
+    if is_numeral digits && nat_lt (digits_value 10 digits) limit then Some (digits_value 10 digits)
+    else None
+
+abbrev pub domain_of : Text → Option Domain
+domain_of name = if bytes_eq name (codes "poly") then Some Poly
+    else (if bytes_eq name (codes "box") then Some Box
+    else (if bytes_eq name (codes "oct") then Some Oct else None))
+
+abbrev pub truth_of : Text → Option Bool
+truth_of text = if bytes_eq text (codes "true") then Some true
+    else (if bytes_eq text (codes "false") then Some false else None)
+
+-- the values of options, by the text that the matches have for each
+abbrev pub number_at : Text → ℕ → List Row → Option ℕ
+number_at name limit rows = option_and_then (number_below limit) (one_of name rows)
+
+abbrev pub flag_at : Text → List Row → Option Bool
+flag_at name rows = option_and_then truth_of (one_of name rows)
+
+abbrev pub domain_at : Text → List Row → Option Domain
+domain_at name rows = option_and_then domain_of (first_of name rows)
+
+abbrev pub options_of : List Row → Option AnalyseOptions
+options_of rows =
+    option_and_then (λ domain. option_and_then (λ parts. option_and_then (λ delay.
+    option_and_then (λ narrow. option_and_then (λ limited. option_map (λ json. record {
+      domain = domain;
+      parts = parts;
+      delay = delay;
+      narrow = narrow;
+      limited = limited;
+      json = json;
+    })
+    (flag_at (codes "json") rows))
+    (flag_at (codes "limited") rows))
+    (number_at (codes "narrow") (2 ^ 8) rows))
+    (number_at (codes "delay") (2 ^ 8) rows))
+    (number_at (codes "parts") (2 ^ 8) rows))
+    (domain_at (codes "domain") rows)
+
+abbrev pub sample_of : List Row → Option Command
+sample_of rows = option_and_then (λ seed. option_map (λ size. Sample seed size)
+    (number_at (codes "size") (2 ^ 32) rows))
+    (number_at (codes "seed") (2 ^ 64) rows)
+
+-- the command of the subcommand's name and matches
+abbrev pub named_command : Text → List Row → Option Command
+named_command name rows =
+    if bytes_eq name (codes "analyse") then option_map (λ options. Analyse options) (options_of rows)
+    else (if bytes_eq name (codes "sample") then sample_of rows
+    else (if bytes_eq name (codes "calc") then Some Calc else None))
+
+abbrev pub command_of : Option (Text × List Row) → Option Command
+command_of None = None
+command_of (Some chosen) = named_command chosen.0 chosen.1
+
+-- each value lies in its option's range
+abbrev pub IsWithinRanges : Command → Type 0
+IsWithinRanges (Analyse options) = (1 ≤ options.parts) × (options.parts ≤ 16)
+    × (options.delay ≤ 8) × (options.narrow ≤ 4)
+IsWithinRanges (Sample seed size) = size ≤ 400
+IsWithinRanges Calc = ⊤
+
+-- the command line doesn't take the words: the parse has a kind of error for them
+abbrev pub IsRefused : List Text → Type 0
+IsRefused words = (domains : ValueParser) × TakesDomains domains
+    × (fault_of (command_line domains) words ≡ [] → ⊥)
+    × (takes (command_line domains) words ≡ true → ⊥)
+
+-- the command line takes the words, and the command is that of the matches
+abbrev pub IsTakenAs : List Text → Command → Type 0
+IsTakenAs words chosen = (domains : ValueParser) × TakesDomains domains
+    × (fault_of (command_line domains) words ≡ [])
+    × (command_of (subcommand_of (command_line domains) words) ≡ Some chosen)

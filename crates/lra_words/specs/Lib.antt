@@ -1,0 +1,4 @@
+pub mod Built
+pub mod Chosen
+pub mod CommandLine
+pub mod Refusals

@@ -1,0 +1,12 @@
+//! The words of the command line, and the command that they give.
+//!
+//! [`words::command`] declares the command line to `clap`, parses the words and answers the command
+//! of the matches.
+#![tactic(auto)]
+
+pub mod chosen;
+mod command_line;
+pub mod words;
+
+pub use chosen::{AnalyseOptions, Command, Domain};
+pub use words::{Refusal, command};

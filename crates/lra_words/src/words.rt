@@ -1,0 +1,134 @@
+//! The command that a list of words gives.
+ghost use Rattle.std.specs.Prelude.{◌≡◌, ◌^◌, Err, IfOk, Some, codes, map, string_bytes};
+ghost use Rattle.clap.specs.Words.{found_of, kind_of, rows_of};
+ghost use Rattle.lra_words.specs.Chosen.{IsRefused, IsTakenAs, IsWithinRanges, command_of, domain_at};
+ghost use Rattle.lra_words.specs.Chosen.{domain_of, flag_at, number_at, options_of, sample_of};
+ghost use Rattle.lra_words.specs.Refusals.{refusal};
+
+use crate::chosen::{AnalyseOptions, Command, Domain};
+use crate::command_line::declare;
+use clap::ArgMatches;
+use clap::error::ErrorKind;
+use std::alloc::Global;
+
+/// Why words give no command.
+#[derive(Clone, Copy, PartialEq, Debug)]
+pub enum Refusal {
+    /// The command line doesn't take the words.
+    Usage,
+    /// Memory ran out.
+    Memory,
+}
+
+fn refusal_of(error: &clap::Error) -> Refusal
+    ensures { result ≡ refusal (kind_of error.now) }
+{
+    match error.kind() {
+        ErrorKind::OutOfMemory => Refusal::Memory,
+        _ => Refusal::Usage,
+    }
+}
+
+fn domain_named(name: &str) -> Option<Domain>
+    ensures { result ≡ domain_of name.now }
+{
+    match name {
+        "poly" => Some(Domain::Poly),
+        "box" => Some(Domain::Box),
+        "oct" => Some(Domain::Oct),
+        _ => None,
+    }
+}
+
+fn domain(matches: &ArgMatches) -> Option<Domain>
+    ensures { result ≡ domain_at (codes "domain") (rows_of (found_of matches.now)) }
+{
+    domain_named(matches.get_str("domain")?)
+}
+
+fn small_number(matches: &ArgMatches, option: &str) -> Option<u8>
+    ensures { result ≡ number_at option.now (2 ^ 8) (rows_of (found_of matches.now)) }
+{
+    matches.get_one::<u8>(option)
+}
+
+fn flag(matches: &ArgMatches, option: &str) -> Option<bool>
+    ensures { result ≡ flag_at option.now (rows_of (found_of matches.now)) }
+{
+    matches.get_one::<bool>(option)
+}
+
+fn analyse_options(matches: &ArgMatches) -> Option<AnalyseOptions>
+    ensures { result ≡ options_of (rows_of (found_of matches.now)) }
+{
+    let domain = domain(matches)?;
+    let parts = small_number(matches, "parts")?;
+    let delay = small_number(matches, "delay")?;
+    let narrow = small_number(matches, "narrow")?;
+    let limited = flag(matches, "limited")?;
+    let json = flag(matches, "json")?;
+    Some(AnalyseOptions {
+        domain,
+        parts,
+        delay,
+        narrow,
+        limited,
+        json,
+    })
+}
+
+fn seed(matches: &ArgMatches) -> Option<u64>
+    ensures { result ≡ number_at (codes "seed") (2 ^ 64) (rows_of (found_of matches.now)) }
+{
+    matches.get_one::<u64>("seed")
+}
+
+fn size(matches: &ArgMatches) -> Option<u32>
+    ensures { result ≡ number_at (codes "size") (2 ^ 32) (rows_of (found_of matches.now)) }
+{
+    matches.get_one::<u32>("size")
+}
+
+fn sample_command(matches: &ArgMatches) -> Option<Command>
+    ensures { result ≡ sample_of (rows_of (found_of matches.now)) }
+{
+    let seed = seed(matches)?;
+    let size = size(matches)?;
+    Some(Command::Sample { seed, size })
+}
+
+fn chosen_command(name: &str, matches: &ArgMatches) -> Option<Command>
+    ensures { result ≡ command_of (Some (name.now, rows_of (found_of matches.now))) }
+{
+    match name {
+        "analyse" => Some(Command::Analyse(analyse_options(matches)?)),
+        "sample" => sample_command(matches),
+        "calc" => Some(Command::Calc),
+        _ => None,
+    }
+}
+
+/// The command that the words give; the first word is the program's name.
+///
+/// `Usage` comes exactly where the command line doesn't take the words, `Memory` only for want of
+/// memory. Nothing is printed.
+pub fn command(alloc: Global, words: &[String]) -> Result<Command, Refusal>
+    ensures usage { result ≡ Err Refusal.Usage → IsRefused (map string_bytes words.now) }
+    ensures taken { IfOk result (λ c. IsTakenAs (map string_bytes words.now) c) }
+    ensures ranges { IfOk result (λ c. IsWithinRanges c) }
+{
+    let Ok(app) = declare(alloc) else {
+        return Err(Refusal::Memory);
+    };
+    let matches = match app.try_get_matches_from(words) {
+        Ok(matches) => matches,
+        Err(error) => return Err(refusal_of(&error)),
+    };
+    let Some((name, inner)) = matches.subcommand() else {
+        return Err(Refusal::Usage);
+    };
+    match chosen_command(name, inner) {
+        Some(command) => Ok(command),
+        None => Err(Refusal::Usage),
+    }
+}
