@@ -10,3 +10,6 @@ pub mod words;
 
 pub use chosen::{AnalyseOptions, Command, Domain};
 pub use words::{Refusal, command};
+
+#[cfg(test)]
+mod tests;
