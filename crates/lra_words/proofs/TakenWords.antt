@@ -1,31 +1,30 @@
 -- Words without a fault give a command, with each value in its option's range.
-use Rattle.std.proofs.Common.{◌≡◌, ◌∙◌, ◌+◌, ◌<◌, ◌≤◌, ◌^◌, ◌-◌, ◌&&◌, ◌||◌, ℕ, Bool, List, [], ◌∷◌, Option, Some, None, ap, arith, codes, cond, lit<, map, not, refl, sym, subst, true, false, length, lt-ltb, nat_le, nat_lt}
-use Rattle.std.specs.Prelude.{find, fold, is_some, option_and_then, option_map}
+use Rattle.std.proofs.Common.{◌≡◌, ◌∙◌, ◌<◌, ◌≤◌, ◌^◌, ◌-◌, ◌&&◌, ◌||◌, ℕ, Bool, List, [], ◌∷◌, Option, Some, None, ap, arith, codes, lit<, not, refl, sym, subst, true, false, lt-ltb, nat_le, nat_lt}
+use Rattle.std.specs.Prelude.{find, is_some, option_and_then, option_map}
 use Rattle.std.specs.List.{list_any}
 use Rattle.std.specs.Option.{option_map_or}
 use Rattle.std.specs.Str.{bytes_eq}
 use Rattle.std.specs.Str.Parse.{digits_value, without_leading_plus}
-use Rattle.std.proofs.lemmas.Bool.{leb-true, ltb-true}
+use Rattle.std.proofs.lemmas.Bool.{leb-true}
 use Rattle.std.proofs.lemmas.Slice.Eq.{bytes_eq-Decides}
 use Rattle.clap.specs.Facts.{explicit_source}
-use Rattle.clap.specs.Faults.{check_fault, entered_fault, fault_of, level_fault, walk_fault}
-use Rattle.clap.specs.Kinds.{Kinds, check_kinds}
-use Rattle.clap.specs.Simple.{App, Shape, argument_words, built, entered, filled, label_of, names_of, help_rule, new_shape, rows_at, subcommand_of, with_index}
+use Rattle.clap.specs.Faults.{check_fault, entered_fault, fault_of, level_fault}
+use Rattle.clap.specs.Kinds.{check_kinds}
+use Rattle.clap.specs.Simple.{Shape, argument_words, built, entered, filled, label_of, names_of, help_rule, new_shape, rows_at, subcommand_of, with_index}
 use Rattle.clap.specs.Takes.{is_given}
 use Rattle.clap.specs.ValueTests.{accepts, is_numeral}
-use Rattle.clap.specs.Values.{same_text}
-use Rattle.clap.specs.Walk.{Names, Row, Rule, Text, answers_to, arg_by_id, arg_by_index, finished, first_of, has_row, nothing_held, one_of, rows_after, walk, walk_from}
+use Rattle.clap.specs.Walk.{Row, Rule, Text, answers_to, finished, nothing_held, one_of, rows_after, walk, walk_from}
 use Rattle.clap.specs.declared.builder.value_parser.ValueParser.{ValueParser}
 use Rattle.clap.specs.declared.builder.value_parser.ValueParser.TheVariants as vp
 use Rattle.clap.proofs.WalkLemmas.{both, list_any-map}
-use Rattle.lra_words.specs.Chosen.{IsWithinRanges, command_of, domain_at, domain_of, flag_at, named_command, number_at, number_below, options_of, sample_of, truth_of}
+use Rattle.lra_words.specs.Chosen.{IsWithinRanges, command_of, domain_at, domain_of, flag_at, number_at, number_below, options_of, sample_of, truth_of}
 use Rattle.lra_words.specs.CommandLine.{TakesDomains, command_line, delay_rule, domain_rule, json_rule, limited_rule, narrow_rule, parts_rule, seed_rule, size_rule}
 use Rattle.lra_words.specs.declared.chosen.AnalyseOptions.{AnalyseOptions}
 use Rattle.lra_words.specs.declared.chosen.Command.{Command}
 use Rattle.lra_words.specs.declared.chosen.Command.TheVariants.{Analyse, Sample, Calc}
 use Rattle.lra_words.specs.declared.chosen.Domain.{Domain}
 use Rattle.lra_words.specs.declared.chosen.Domain.TheVariants.{Poly, Box, Oct}
-use Rattle.lra_words.proofs.OptionRows.{AllOwn, HasValue, IsNoHelp, IsOwn, RowsFit, defaulted_value, flag_adds, given_there, help_adds, level_parts, level_rows, option_adds, value_there, walk_stop}
+use Rattle.lra_words.proofs.OptionRows.{AllOwn, IsNoHelp, defaulted_value, flag_adds, given_there, help_adds, level_parts, level_rows, option_adds, value_there, walk_stop}
 
 -- ---- values
 

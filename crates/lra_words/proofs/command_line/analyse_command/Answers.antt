@@ -1,6 +1,5 @@
-use Rattle.std.proofs.Common.{◌∙◌, ap, ap₂}
-use Rattle.clap.specs.Words.{App, with_rule}
-use Rattle.lra_words.specs.CommandLine.{limited_rule, narrow_rule, parts_rule, delay_rule}
+use Rattle.std.proofs.Common.{◌∙◌, ap₂}
+use Rattle.clap.specs.Words.{with_rule}
 use Rattle.lra_words.proofs.command_line.analyse_command.Goals as goal
 
 pub returns-clause-app : goal.returns-clause-app
