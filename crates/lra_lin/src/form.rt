@@ -1,0 +1,95 @@
+ghost use Rattle.std.specs.Prelude.{◌≡◌, ◌↔◌, ◌+ℤ◌, ◌*ℤ◌, IfOk, IfSome, IsNone};
+ghost use Rattle.std.specs.Option.{SomeIff};
+ghost use Rattle.lra_lin.specs.Form.{AddsInRange, form_value, SummingPasses};
+
+use lra_row::{add, mul};
+use std::alloc::{AllocError, Global};
+use std::marker::Model;
+
+/// A linear form `constant + c1*x1 + .. + cn*xn`, with a coefficient for each dimension.
+#[derive(Drop)]
+pub struct LinExpr {
+    constant: i64,
+    coefficients: Vec<i64>,
+}
+
+impl Model for LinExpr {
+    ghost use Rattle.lra_lin.specs.Form.{Form};
+
+    ghost Value = { Form };
+
+    ghost view = { λ e. record { constant = e.constant; coefficients = e.coefficients.items } };
+}
+
+impl LinExpr {
+    /// The form with this constant and these coefficients, the oldest dimension's first.
+    pub fn new(alloc: Global, constant: i64, coefficients: &[i64]) -> Result<Self, AllocError>
+        ensures { IfOk result (λ e. e ≡ record { constant = constant; coefficients = coefficients.now }) }
+    {
+        Ok(LinExpr {
+            constant,
+            coefficients: Vec::from_slice(alloc, coefficients)?,
+        })
+    }
+
+    /// The same form again.
+    pub fn copy(&self, alloc: Global) -> Result<Self, AllocError>
+        ensures { IfOk result (λ e. e ≡ self.now) }
+    {
+        LinExpr::new(alloc, self.constant, self.coefficients.as_slice())
+    }
+
+    /// The constant.
+    pub fn constant(&self) -> i64
+        ensures { result ≡ self.now.constant }
+    {
+        self.constant
+    }
+
+    /// The coefficients, the oldest dimension's first.
+    pub fn coefficients(&self) -> &[i64]
+        ensures { result.now ≡ self.now.coefficients }
+    {
+        self.coefficients.as_slice()
+    }
+
+    /// The form's value at the store `point`, summed from the constant on in column order; `None` exactly where a product
+    /// or a partial sum passes the range -(2^127 - 1) to 2^127 - 1.
+    pub fn eval(&self, point: &[i64]) -> Option<i128>
+        ensures value { IfSome result (λ v. v ≡ form_value self.now point.now) }
+        ensures none { IsNone result ↔ SummingPasses self.now.constant self.now.coefficients point.now }
+    {
+        sum_of(self.constant, self.coefficients.as_slice(), point)
+    }
+}
+
+/// The sum with a product, or `None` exactly where one of the two passes the range.
+fn plus_product(sum: i128, factor: &i64, number: &i64) -> Option<i128>
+    ensures { SomeIff result (AddsInRange sum factor.now number.now) (sum +ℤ (factor.now *ℤ number.now)) }
+{
+    let product = mul(*factor as i128, *number as i128)?;
+    let more = add(sum, product)?;
+    Some(more)
+}
+
+#[tactic(auto, using(crate::proofs::FormLemmas::product_nothing))]
+fn sum_of(constant: i64, coefficients: &[i64], point: &[i64]) -> Option<i128>
+    ensures value { IfSome result (λ v. v ≡ form_value (record { constant = constant; coefficients = coefficients.now }) point.now) }
+    ensures none { IsNone result ↔ SummingPasses constant coefficients.now point.now }
+{
+    let mut sum = constant as i128;
+    let mut factors = coefficients;
+    let mut numbers = point;
+    while let Some((factor, factors_left)) = factors.split_first() {
+        let Some((number, numbers_left)) = numbers.split_first() else {
+            return Some(sum);
+        };
+        match plus_product(sum, factor, number) {
+            None => return None,
+            Some(more) => sum = more,
+        }
+        factors = factors_left;
+        numbers = numbers_left;
+    }
+    Some(sum)
+}

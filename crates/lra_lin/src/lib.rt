@@ -1,0 +1,11 @@
+//! Linear forms over the dimensions of a store, and tests of them.
+#![tactic(auto)]
+
+pub mod form;
+pub mod test;
+
+pub use form::LinExpr;
+pub use test::{Test, TestKind};
+
+#[cfg(test)]
+mod tests;
