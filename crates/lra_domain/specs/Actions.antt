@@ -1,0 +1,32 @@
+-- What the least changes of a program do to stores.
+use Rattle.std.specs.Prelude.{◌≡◌, ℕ, ◌+◌, ◌-◌, ℤ, List, ◌++◌, length, take, slice_set}
+use Rattle.lra_lin.specs.Form.{Form, form_value, Passes}
+use Rattle.lra_lin.specs.declared.test.TestKind.{TestKind}
+
+-- every store of the first is one of the second
+abbrev pub Within : (List ℤ → Type 0) → (List ℤ → Type 0) → Type 0
+Within p q = (s : List ℤ) → p s → q s
+
+-- a least change of a store
+pub data Action : Type 0 where
+  assign : ℕ → Form → Action
+  forget : ℕ → Action
+  test : TestKind → Form → Action
+  embed : ℕ → Action
+  remove_last : ℕ → Action
+
+-- the change may lead from the first store to the second
+abbrev pub Leads : Action → List ℤ → List ℤ → Type 0
+Leads (assign x e) s t = t ≡ slice_set s x (form_value e s)
+Leads (forget x) s t = (k : ℤ) × (t ≡ slice_set s x k)
+Leads (test kind e) s t = Passes kind e s × (t ≡ s)
+Leads (embed k) s t = (added : List ℤ) × (length added ≡ k) × (t ≡ s ++ added)
+Leads (remove_last k) s t = t ≡ take (length s - k) s
+
+-- how many dimensions there are after the change
+abbrev pub dims_after : Action → ℕ → ℕ
+dims_after (assign x e) n = n
+dims_after (forget x) n = n
+dims_after (test kind e) n = n
+dims_after (embed k) n = n + k
+dims_after (remove_last k) n = n - k

@@ -1,0 +1,5 @@
+pub mod Actions
+pub mod Parts
+pub mod Rank
+pub mod Meaning
+pub mod DomainExamples

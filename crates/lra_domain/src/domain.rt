@@ -1,0 +1,175 @@
+ghost use Rattle.std.specs.Prelude.{◌≡◌, ◌≢◌, ◌+◌, ◌-◌, ◌^◌, ◌≤◌, ◌<◌, ◌↔◌, ℤ, List, [], length, All, IfOk, OnErr, OnOk, IsTrue};
+ghost use Rattle.lra_domain.specs.Rank.{RankBelow, RankFits};
+ghost use Rattle.lra_domain.specs.Actions.{Within, assign, forget, test, embed, remove_last};
+ghost use Rattle.lra_domain.specs.Parts.{SomePartHolds};
+ghost use Rattle.lra_domain.specs.Meaning.{Meaning, Meets, Joins, Starts, Stays, Grew, Values};
+
+use crate::{Exactness, Grown, Included, Mode, Rank};
+use lra_lin::{LinExpr, Test};
+use lra_sys::ConSys;
+use std::alloc::{AllocError, Global};
+
+/// An abstract domain: its values stand for sets of stores, its heads for values that grow at the head of a loop.
+///
+/// A store is a list of whole numbers, one for each dimension. An author of a further domain owes the following.
+///
+/// **Contents.** Give `Self` and `Head` an `impl Model` whose `Value` is exactly the content: the dimensions, and what
+/// tells the value apart (bounds, canonical rows and generators, entries, parts with their cap; for a head its given rows
+/// too). Then equal contents are equal values: `copy` gives the same content, `same` says whether two are equal, `Stable`
+/// leaves the head's, and a call that answers an error leaves its value's. Leave allocators and spare room out of the view.
+///
+/// **Meaning.** Give one record, `meaning`: which stores a value or head `has`, how many dimensions, the `parts` (lists of
+/// rows; a value without parts has no store), the defined result of each call as a relation on contents, when each call
+/// may strain, which content another `covers`, and the `rank` of a head.
+///
+/// **Stores.** `universe` has all lists of `n` numbers, `empty` none. `assign` keeps each store with `x` replaced by the
+/// form's value there, `forget` each with `x` replaced by anything, `test` each that passes, `join` those of both
+/// operands, `embed` each with `k` numbers of any kind appended, `remove_last` each without its last `k` numbers. `start`
+/// keeps the first value's stores, `value` the head's; after `Grew` the head has all of the old head and of next; `Stable`
+/// comes only where next lies in the head. `included` says `Yes`, and `is_empty` true, only where it is so.
+///
+/// **Exactness.** `Exact`, `Yes` and `No` give the defined result. `Flagged` gives one that covers it; `Flagged` and `Wide`
+/// come only where the call strains on its operands. After `Grew(Exact)` next did not lie in the head before.
+///
+/// **Ranks.** After `Grew` in mode `Widen` or `Limited` the rank is lower than before, also when flagged: this is why an
+/// iteration ends. Each number of a rank is a u64.
+///
+/// **Parts.** `parts` gives the rows that mean the value: a list of `dims` numbers is a store exactly where all rows of some
+/// part hold; each row has one column more than `dims`. `is_empty` says yes exactly where there is no part.
+///
+/// The calls' only conditions are equal dimensions, places in range, and at most 2^30 dimensions. `cap` (how many parts a
+/// value may have) is of use to powersets alone. An `AllocError` can come from any call that answers a `Result`.
+pub trait Domain: Sized + Drop {
+    /// A value that grows at the head of a loop.
+    type Head: Drop;
+
+    /// What values and heads mean.
+    ghost meaning: { Meaning Self Self.Head };
+
+    /// The value of `n` dimensions with all stores.
+    fn universe(alloc: Global, n: usize, cap: u32) -> Result<Self, AllocError>
+        requires { n ≤ 2 ^ 30 }
+        ensures stores { IfOk result (λ v. (s : List ℤ) → (meaning.has v s ↔ (length s ≡ n))) }
+        ensures defined { IfOk result (λ v. meaning.universal n cap v) }
+        ensures dims { IfOk result (λ v. meaning.dims v ≡ n) };
+
+    /// The value of `n` dimensions with no store.
+    fn empty(alloc: Global, n: usize, cap: u32) -> Result<Self, AllocError>
+        requires { n ≤ 2 ^ 30 }
+        ensures stores { IfOk result (λ v. (s : List ℤ) → ¬ meaning.has v s) }
+        ensures defined { IfOk result (λ v. meaning.void n cap v) }
+        ensures dims { IfOk result (λ v. meaning.dims v ≡ n) };
+
+    /// The same value again.
+    fn copy(&self, alloc: Global) -> Result<Self, AllocError>
+        ensures { IfOk result (λ v. v ≡ self.now) };
+
+    /// How many dimensions its stores have.
+    fn dims(&self) -> usize
+        ensures { result ≡ meaning.dims self.now };
+
+    /// Whether the value has no part, and so no store.
+    fn is_empty(&self) -> bool
+        ensures parts { IsTrue result ↔ (meaning.parts self.now ≡ []) }
+        ensures stores { IsTrue result → (s : List ℤ) → ¬ meaning.has self.now s };
+
+    /// Whether this value lies in the other.
+    fn included(&self, other: &Self) -> Included
+        requires { meaning.dims self.now ≡ meaning.dims other.now }
+        ensures stores { result ≡ Included.Yes → Within (meaning.has self.now) (meaning.has other.now) }
+        ensures yes { result ≡ Included.Yes → meaning.inside self.now other.now }
+        ensures no { result ≡ Included.No → ¬ meaning.inside self.now other.now }
+        ensures wide { result ≡ Included.Wide → meaning.inside_strains self.now other.now };
+
+    /// Whether the two have the same content.
+    fn same(&self, other: &Self) -> bool
+        ensures { IsTrue result ↔ (self.now ≡ other.now) };
+
+    /// Dimension `x` gets the value of the form.
+    fn assign(&mut self, x: usize, e: &LinExpr) -> Result<Exactness, AllocError>
+        requires place { x < meaning.dims self.old }
+        requires width { length e.now.coefficients ≡ meaning.dims self.old }
+        ensures meets { IfOk result (λ a. Meets meaning (assign x e.now) self.old a self.new) }
+        ensures dims { meaning.dims self.new ≡ meaning.dims self.old }
+        ensures err { OnErr result (self.new ≡ self.old) };
+
+    /// Dimension `x` gets any value.
+    fn forget(&mut self, x: usize) -> Result<Exactness, AllocError>
+        requires { x < meaning.dims self.old }
+        ensures meets { IfOk result (λ a. Meets meaning (forget x) self.old a self.new) }
+        ensures dims { meaning.dims self.new ≡ meaning.dims self.old }
+        ensures err { OnErr result (self.new ≡ self.old) };
+
+    /// Only stores that pass the test need stay.
+    fn test(&mut self, t: &Test) -> Result<Exactness, AllocError>
+        requires { length t.now.expr.coefficients ≡ meaning.dims self.old }
+        ensures meets { IfOk result (λ a. Meets meaning (test t.now.kind t.now.expr) self.old a self.new) }
+        ensures dims { meaning.dims self.new ≡ meaning.dims self.old }
+        ensures err { OnErr result (self.new ≡ self.old) };
+
+    /// The stores of the other come in.
+    fn join(&mut self, other: &Self) -> Result<Exactness, AllocError>
+        requires { meaning.dims self.old ≡ meaning.dims other.now }
+        ensures joins { IfOk result (λ a. Joins meaning self.old other.now a self.new) }
+        ensures dims { meaning.dims self.new ≡ meaning.dims self.old }
+        ensures err { OnErr result (self.new ≡ self.old) };
+
+    /// `k` new dimensions of any value come last.
+    fn embed(&mut self, k: usize) -> Result<Exactness, AllocError>
+        requires { meaning.dims self.old + k ≤ 2 ^ 30 }
+        ensures meets { IfOk result (λ a. Meets meaning (embed k) self.old a self.new) }
+        ensures dims { OnOk result (meaning.dims self.new ≡ meaning.dims self.old + k) }
+        ensures err { OnErr result (self.new ≡ self.old) };
+
+    /// The last `k` dimensions go.
+    fn remove_last(&mut self, k: usize) -> Result<Exactness, AllocError>
+        requires { k ≤ meaning.dims self.old }
+        ensures meets { IfOk result (λ a. Meets meaning (remove_last k) self.old a self.new) }
+        ensures dims { OnOk result (meaning.dims self.new ≡ meaning.dims self.old - k) }
+        ensures err { OnErr result (self.new ≡ self.old) };
+
+    /// The rows that mean the value, part by part.
+    fn parts(&self, alloc: Global) -> Result<Vec<ConSys>, AllocError>
+        ensures parts { IfOk result (λ ps. ps.items ≡ meaning.parts self.now) }
+        ensures widths { IfOk result (λ ps. All (λ p. p.width ≡ meaning.dims self.now + 1) ps.items) }
+        ensures mean { IfOk result (λ ps. (s : List ℤ) → length s ≡ meaning.dims self.now → (meaning.has self.now s ↔ SomePartHolds ps.items s)) };
+
+    /// The head that starts with the value; `given` are the rows that limit its growth.
+    fn start(alloc: Global, first: &Self, given: &ConSys) -> Result<Self::Head, AllocError>
+        requires { given.now.width ≡ meaning.dims first.now + 1 }
+        ensures starts { IfOk result (λ h. Starts meaning first.now given.now h) }
+        ensures dims { IfOk result (λ h. meaning.head_dims h ≡ meaning.dims first.now) }
+        ensures fits { IfOk result (λ h. RankFits (meaning.rank h)) };
+
+    /// Grows the head so that it has the stores of next, unless it has them.
+    fn grow(head: &mut Self::Head, next: &Self, mode: Mode) -> Result<Grown, AllocError>
+        requires { meaning.head_dims head.old ≡ meaning.dims next.now }
+        ensures dims { meaning.head_dims head.new ≡ meaning.head_dims head.old }
+        ensures stable { IfOk result (λ g. g ≡ Grown.Stable → head.new ≡ head.old) }
+        ensures stays { IfOk result (λ g. g ≡ Grown.Stable → Stays meaning head.old next.now mode) }
+        ensures grew { IfOk result (λ g. (a : Exactness) → g ≡ Grown.Grew a → Grew meaning head.old next.now mode a head.new) }
+        ensures lower { IfOk result (λ g. (a : Exactness) → g ≡ Grown.Grew a → mode ≢ Mode.Join → RankBelow (meaning.rank head.new) (meaning.rank head.old)) }
+        ensures fits { OnOk result (RankFits (meaning.rank head.new)) }
+        ensures err { OnErr result (head.new ≡ head.old) };
+
+    /// The value of the head.
+    fn value(alloc: Global, head: &Self::Head) -> Result<(Self, Exactness), AllocError>
+        ensures values { IfOk result (λ r. Values meaning head.now r.1 r.0) }
+        ensures dims { IfOk result (λ r. meaning.dims r.0 ≡ meaning.head_dims head.now) };
+
+    /// The rank of the head.
+    fn rank(head: &Self::Head) -> Rank
+        ensures { result ≡ meaning.rank head.now };
+
+    /// What is covered has no store beyond those of what covers it.
+    ghost covered_stores: { (a b : Self) → meaning.covered a b → Within (meaning.has a) (meaning.has b) };
+
+    /// The same of heads.
+    ghost head_covered_stores: { (a b : Self.Head) → meaning.head_covered a b → Within (meaning.head_has a) (meaning.head_has b) };
+}
+
+/// A domain whose values have one part at most: polyhedra, boxes, octagons. Its ranks begin with 1.
+pub trait Plain: Domain {
+    /// The first number of a rank is 1.
+    ghost first_is_one: { (h : Self.Head) → (Self.meaning.rank h).first ≡ 1 };
+}

@@ -1,0 +1,45 @@
+//! What an abstract domain owes to the iteration that stands on it.
+#![tactic(auto)]
+
+pub mod domain;
+
+pub use domain::{Domain, Plain};
+
+/// Whether a result is the defined one, or only covers it because a number or a count passed its limit.
+#[derive(Clone, Copy, Debug, PartialEq, Eq)]
+pub enum Exactness {
+    Exact,
+    Flagged,
+}
+
+/// The answer of an inclusion; `Wide` where a number passed the range before it was decided.
+#[derive(Clone, Copy, Debug, PartialEq, Eq)]
+pub enum Included {
+    Yes,
+    No,
+    Wide,
+}
+
+/// How a head grows: by joins, by widening, or by widening limited to the given rows.
+#[derive(Clone, Copy, Debug, PartialEq, Eq)]
+pub enum Mode {
+    Join,
+    Widen,
+    Limited,
+}
+
+/// What growing a head did.
+#[derive(Clone, Copy, Debug, PartialEq, Eq)]
+pub enum Grown {
+    Stable,
+    Grew(Exactness),
+}
+
+/// A rank of a head: four numbers, compared from the left.
+#[derive(Clone, Copy, Debug, PartialEq, Eq, PartialOrd, Ord)]
+pub struct Rank {
+    pub first: u64,
+    pub second: u64,
+    pub third: u64,
+    pub fourth: u64,
+}
