@@ -32,7 +32,8 @@ pub product_nothing : (cs : List ℤ) → product cs [] ≡ pos 0
 product_nothing [] = refl
 product_nothing (c ∷ cs) = let z = zero_times c in let p = product_nothing cs in omega (arith, ints)
 
-product_negated : (cs s : List ℤ) → product (map neg_ℤ cs) s ≡ neg_ℤ (product cs s)
+-- the product of the negated coefficients
+pub product_negated : (cs s : List ℤ) → product (map neg_ℤ cs) s ≡ neg_ℤ (product cs s)
 product_negated [] s = refl
 product_negated (c ∷ cs) [] = let z = zero_times c in let n = zero_times (neg_ℤ c) in let d = product_negated cs [] in omega (arith, ints)
 product_negated (c ∷ cs) (x ∷ xs) = let p = neg_product c x in let d = product_negated cs xs in omega (arith, ints)
