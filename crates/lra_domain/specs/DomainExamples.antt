@@ -2,9 +2,8 @@
 use Rattle.std.specs.Prelude.{pos, negsuc, [], ◌∷◌, refl}
 use Rattle.std.proofs.Common.{inr, inl, lit<}
 use Rattle.lra_domain.specs.Actions.{Leads, assign, embed, remove_last}
-use Rattle.lra_domain.specs.Parts.{RowHolds}
+use Rattle.lra_linear.specs.Descriptions.{Holds, equality}
 use Rattle.lra_domain.specs.Rank.{RankBelow}
-use Rattle.lra_sys.specs.declared.ConKind.TheVariants.{Eq}
 
 -- y = x + 1 at x = 4, y = 0
 pub assign_example : Leads (assign 1 (record { constant = pos 1; coefficients = pos 1 ∷ pos 0 ∷ [] })) (pos 4 ∷ pos 0 ∷ []) (pos 4 ∷ pos 5 ∷ [])
@@ -19,7 +18,7 @@ pub embed_example : Leads (embed 1) (pos 4 ∷ []) (pos 4 ∷ negsuc 6 ∷ [])
 embed_example = (negsuc 6 ∷ [], refl, refl)
 
 -- 4 - x = 0 holds at x = 4
-pub row_example : RowHolds Eq (pos 4 ∷ negsuc 0 ∷ []) (pos 4 ∷ [])
+pub row_example : Holds (equality (pos 4 ∷ negsuc 0 ∷ [])) (pos 1 ∷ pos 4 ∷ [])
 row_example = refl
 
 -- an earlier number decides

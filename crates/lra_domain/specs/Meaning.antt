@@ -1,7 +1,8 @@
 -- What a domain's values and heads mean.
 -- The value that contracts see is the content of a value or a head: so equal contents are equal values.
 use Rattle.std.specs.Prelude.{◌≡◌, ℕ, ℤ, List, ◌⊎◌}
-use Rattle.lra_sys.specs.System.{System}
+use Rattle.lra_sys.specs.Listed.{Listed}
+use Rattle.lra_sys.specs.declared.system.ConKind.{ConKind}
 use Rattle.lra_domain.specs.Actions.{Action, Leads, Within}
 use Rattle.lra_domain.specs.declared.Mode.{Mode}
 use Rattle.lra_domain.specs.declared.Rank.{Rank}
@@ -15,7 +16,7 @@ pub record Meaning (V H : Type 0) : Type 1 where
   -- how many dimensions it has
   pub dims : V → ℕ
   -- the lists of rows that mean the value, part by part
-  pub parts : V → List System
+  pub parts : V → List (Listed ConKind)
   -- the first is covered by the second
   pub covered : V → V → Type 0
   -- the value of n dimensions and this cap that has all stores; that has none
@@ -37,7 +38,7 @@ pub record Meaning (V H : Type 0) : Type 1 where
   pub rank : H → Rank
   pub head_covered : H → H → Type 0
   -- the head that starts with the value, for the given rows
-  pub started : V → System → H → Type 0
+  pub started : V → Listed ConKind → H → Type 0
   -- next is included in the head; when that may be answered as no
   pub stays : H → V → Mode → Type 0
   pub stay_strains : H → V → Mode → Type 0
@@ -67,7 +68,7 @@ pub record Joins {V H : Type 0} (m : Meaning V H) (one two : V) (exactness : Exa
   pub flagged : exactness ≡ Flagged → m.join_strains one two
 
 -- a head that starts with a value
-pub record Starts {V H : Type 0} (m : Meaning V H) (first : V) (given : System) (head : H) : Type 0 where
+pub record Starts {V H : Type 0} (m : Meaning V H) (first : V) (given : Listed ConKind) (head : H) : Type 0 where
   pub stores : Within (m.has first) (m.head_has head)
   pub started : m.started first given head
 

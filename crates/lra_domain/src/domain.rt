@@ -131,12 +131,12 @@ pub trait Domain: Sized + Drop {
     /// The rows that mean the value, part by part.
     fn parts(&self, alloc: Global) -> Result<Vec<ConSys>, AllocError>
         ensures parts { IfOk result (λ ps. ps.items ≡ meaning.parts self.now) }
-        ensures widths { IfOk result (λ ps. All (λ p. p.width ≡ meaning.dims self.now + 1) ps.items) }
+        ensures dims { IfOk result (λ ps. All (λ p. p.dims ≡ meaning.dims self.now) ps.items) }
         ensures mean { IfOk result (λ ps. (s : List ℤ) → length s ≡ meaning.dims self.now → (meaning.has self.now s ↔ SomePartHolds ps.items s)) };
 
     /// The head that starts with the value; `given` are the rows that limit its growth.
     fn start(alloc: Global, first: &Self, given: &ConSys) -> Result<Self::Head, AllocError>
-        requires { given.now.width ≡ meaning.dims first.now + 1 }
+        requires { given.now.dims ≡ meaning.dims first.now }
         ensures starts { IfOk result (λ h. Starts meaning first.now given.now h) }
         ensures dims { IfOk result (λ h. meaning.head_dims h ≡ meaning.dims first.now) }
         ensures fits { IfOk result (λ h. RankFits (meaning.rank h)) };
