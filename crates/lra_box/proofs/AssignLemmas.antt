@@ -1,0 +1,66 @@
+-- What an assignment with computed bounds does.
+use Rattle.std.proofs.Common.{◌≡◌, ℕ, zero, suc, ◌<◌, ℤ, List, [], ◌∷◌, length, Option, Some, IfSome, ◌⊎◌, inl, inr, refl, ◌∙◌, arith}
+use Rattle.std.specs.Prelude.{slice_set, slice_index_or}
+use Rattle.std.proofs.Math.ListN.{length-set}
+use Rattle.lra_linear.specs.Range.{InRange}
+use Rattle.lra_lin.specs.Form.{Form, form_value}
+use Rattle.lra_domain.specs.declared.Exactness.{Exactness}
+use Rattle.lra_domain.specs.declared.Exactness.TheVariants.{Exact, Flagged}
+use Rattle.lra_box.specs.declared.interval.Interval.{Interval}
+use Rattle.lra_box.specs.declared.interval.Side.TheVariants.{Low, High}
+use Rattle.lra_box.specs.declared.ends.Bound.{Bound}
+use Rattle.lra_box.specs.Bounds.{InInterval, AllSound, end_sum, SumPasses, IsBound, open_interval}
+use Rattle.lra_box.specs.Tables.{LowWithin, HighWithin}
+use Rattle.lra_box.specs.Answers.{AssignedTo}
+use Rattle.lra_box.proofs.SumLemmas.{end_sum_holds}
+use Rattle.lra_box.proofs.BoxLemmas.{assign_keeps, bound_holds}
+use Rattle.lra_box.proofs.SoundLemmas.{some_store, not_crossed, set_sound}
+use Rattle.lra_box.proofs.ExtremeLemmas.{end_is_extreme}
+use Rattle.lra_box.proofs.WithinLemmas.{intervals_within_refl, low_within_refl, high_within_refl, set_within}
+
+read_set : (is : List Interval) (k : ℕ) (i : Interval) → k < length is → slice_index_or (slice_set is k i) k open_interval ≡ i
+read_set [] k i h = absurd (omega arith)
+read_set (j ∷ js) zero i h = refl
+read_set (j ∷ js) (suc k) i h = read_set js k i (omega arith)
+
+-- which of the two bounds was flagged, where the answer is
+pub record Worse (low high e : Exactness) : Type 0 where
+  pub exact : e ≡ Exact → (low ≡ Exact) × (high ≡ Exact)
+  pub flagged : e ≡ Flagged → (low ≡ Flagged) ⊎ (high ≡ Flagged)
+
+pub flagged_first : (low high : Exactness) → low ≡ Flagged → Worse low high Flagged
+flagged_first low high l = record { exact = λ e. cc; flagged = λ e. inl l }
+
+pub flagged_second : (low high : Exactness) → low ≡ Exact → Worse low high high
+flagged_second low high l = record { exact = λ e. (l, e); flagged = λ e. inr e }
+
+low_covers : (table : Option ℤ) (passes : Type 0) (b : Bound) (e : Exactness) → b.exactness ≡ e → IsBound table passes b → LowWithin table b.value
+low_covers table passes b Exact e is = rw (is.exact e) (low_within_refl table)
+low_covers table passes b Flagged e is = rw (is.flagged e).1 tt
+
+high_covers : (table : Option ℤ) (passes : Type 0) (b : Bound) (e : Exactness) → b.exactness ≡ e → IsBound table passes b → HighWithin table b.value
+high_covers table passes b Exact e is = rw (is.exact e) (high_within_refl table)
+high_covers table passes b Flagged e is = rw (is.flagged e).1 tt
+
+pub assigned_to : (is : List Interval) (x : ℕ) (f : Form) (low high : Bound) (e : Exactness) → x < length is → length f.coefficients ≡ length is → AllSound is
+    → IsBound (end_sum Low f.constant f.coefficients is) (SumPasses Low f.constant f.coefficients is) low
+    → IsBound (end_sum High f.constant f.coefficients is) (SumPasses High f.constant f.coefficients is) high
+    → IfSome low.value InRange → IfSome high.value InRange → Worse low.exactness high.exactness e
+    → AssignedTo x f (Some is) (Some (slice_set is x (record { low = low.value; high = high.value }))) e
+assigned_to is x f low high e place width sound is_low is_high low_in high_in worse =
+    let new : Interval = record { low = low.value; high = high.value } in
+    let s = some_store is sound in
+    let holds : InInterval new (form_value f s.0) = (
+      bound_holds Low _ _ low _ is_low (end_sum_holds Low f.constant f.coefficients is s.0 s.1 width),
+      bound_holds High _ _ high _ is_high (end_sum_holds High f.constant f.coefficients is s.0 s.1 width),
+    ) in
+    let is_new : slice_index_or (slice_set is x new) x open_interval ≡ new = read_set is x new place in
+    record {
+      exact = λ k. let w = worse.exact k in rw (is_low.exact w.0, is_high.exact w.1) refl;
+      extremes = λ k. let w = worse.exact k in rw (is_new, is_low.exact w.0, is_high.exact w.1) (end_is_extreme Low f is sound width, end_is_extreme High f is sound width);
+      flagged = λ k. elim (worse.flagged k) [ inl l ↦ inl (is_low.flagged l).0 | inr h ↦ inr (is_high.flagged h).0 ];
+      covers = set_within is is x _ new (intervals_within_refl is) (low_covers _ _ low low.exactness refl is_low, high_covers _ _ high high.exactness refl is_high);
+      stores = λ t h. assign_keeps is x f low high width is_low is_high t h;
+      sound = set_sound is x new sound ((low_in, high_in), not_crossed new (form_value f s.0) holds);
+      fit = λ n h. length-set {A = Interval} is x new ∙ h;
+    }

@@ -1,0 +1,14 @@
+pub mod ProductLemmas
+pub mod SumLemmas
+pub mod BoxLemmas
+pub mod BoundLemmas
+pub mod SoundLemmas
+pub mod StepLemmas
+pub mod ExtremeLemmas
+pub mod WithinLemmas
+pub mod AssignLemmas
+pub mod MonotoneLemmas
+pub mod RefineLemmas
+pub mod RefineSteps
+pub mod TestLemmas
+pub mod PartLemmas

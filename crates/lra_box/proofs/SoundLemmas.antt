@@ -1,0 +1,117 @@
+-- Intervals in order hold some number, and the tables keep them in order.
+use Rattle.std.proofs.Common.{◌≡◌, ℕ, zero, suc, Bool, true, false, cond, ℤ, pos, List, [], ◌∷◌, ◌++◌, take, replicate, Option, None, Some, IfSome, refl, arith}
+use Rattle.std.specs.Prelude.{slice_set, slice_index_or, int_lt}
+use Rattle.std.proofs.lemmas.Int.{ints, clamps}
+use Rattle.lra_linear.specs.Range.{InRange}
+use Rattle.lra_domain.specs.declared.Mode.{Mode}
+use Rattle.lra_domain.specs.declared.Mode.TheVariants.{Join, Widen, Limited}
+use Rattle.lra_box.specs.declared.interval.Interval.{Interval}
+use Rattle.lra_box.specs.declared.interval.Side.TheVariants.{Low, High}
+use Rattle.lra_box.specs.Bounds.{BoundHolds, InInterval, InBounds, open_interval, crossed, crossed_ends, IsSound, AllSound}
+use Rattle.lra_box.specs.Content.{BoundsSound}
+use Rattle.lra_box.specs.Tables.{lesser_low, greater_high, joined_intervals, joined_bounds, widened_low, widened_high, widened_intervals, widened_bounds, grown_bounds}
+use Rattle.lra_box.proofs.BoxLemmas.{low_left, high_left}
+use Rattle.lra_box.proofs.BoundLemmas.{widen_low_old, widen_high_old}
+
+-- an interval that isn't crossed holds a number
+pub some_number : (i : Interval) → crossed i ≡ false → (x : ℤ) × InInterval i x
+some_number i h = ends i.low i.high h
+  where
+    ends : (a b : Option ℤ) → crossed_ends a b ≡ false → (x : ℤ) × (BoundHolds Low a x × BoundHolds High b x)
+    ends None None h = (pos 0, (tt, tt))
+    ends None (Some b) h = (b, (tt, omega (arith, ints)))
+    ends (Some a) None h = (a, (omega (arith, ints), tt))
+    ends (Some a) (Some b) h = (a, (omega (arith, ints), grind (arith, ints)))
+
+-- a box of intervals in order has a store
+pub some_store : (is : List Interval) → AllSound is → (s : List ℤ) × InBounds is s
+some_store [] h = ([], tt)
+some_store (i ∷ is) h = let x = some_number i h.0.1 in let s = some_store is h.1 in (x.0 ∷ s.0, (x.1, s.1))
+
+-- an interval that holds a number isn't crossed
+pub not_crossed : (i : Interval) (x : ℤ) → InInterval i x → crossed i ≡ false
+not_crossed i x h = ends i.low i.high h.0 h.1
+  where
+    ends : (a b : Option ℤ) → BoundHolds Low a x → BoundHolds High b x → crossed_ends a b ≡ false
+    ends None b l h = refl
+    ends (Some a) None l h = refl
+    ends (Some a) (Some b) l h = grind (arith, ints)
+
+pub open_sound : IsSound open_interval
+open_sound = ((tt, tt), refl)
+
+pub set_sound : (is : List Interval) (k : ℕ) (i : Interval) → AllSound is → IsSound i → AllSound (slice_set is k i)
+set_sound [] k i h p = tt
+set_sound (j ∷ js) zero i h p = (p, h.1)
+set_sound (j ∷ js) (suc k) i h p = (h.0, set_sound js k i h.1 p)
+
+pub at_sound : (is : List Interval) (k : ℕ) → AllSound is → IsSound (slice_index_or is k open_interval)
+at_sound [] k h = open_sound
+at_sound (i ∷ is) zero h = h.0
+at_sound (i ∷ is) (suc k) h = at_sound is k h.1
+
+pub take_sound : (n : ℕ) (is : List Interval) → AllSound is → AllSound (take n is)
+take_sound zero is h = tt
+take_sound (suc n) [] h = tt
+take_sound (suc n) (i ∷ is) h = (h.0, take_sound n is h.1)
+
+pub open_all_sound : (n : ℕ) → AllSound (replicate n open_interval)
+open_all_sound zero = tt
+open_all_sound (suc n) = (open_sound, open_all_sound n)
+
+pub append_sound : (is js : List Interval) → AllSound is → AllSound js → AllSound (is ++ js)
+append_sound [] js h k = k
+append_sound (i ∷ is) js h k = (h.0, append_sound is js h.1 k)
+
+low_range : (a b : Option ℤ) → IfSome a InRange → IfSome b InRange → IfSome (lesser_low a b) InRange
+low_range None b p q = tt
+low_range (Some a) None p q = tt
+low_range (Some a) (Some b) p q = grind (arith, ints, clamps)
+
+high_range : (a b : Option ℤ) → IfSome a InRange → IfSome b InRange → IfSome (greater_high a b) InRange
+high_range None b p q = tt
+high_range (Some a) None p q = tt
+high_range (Some a) (Some b) p q = grind (arith, ints, clamps)
+
+joined_all_sound : (is js : List Interval) → AllSound is → AllSound js → AllSound (joined_intervals is js)
+joined_all_sound [] js h k = tt
+joined_all_sound (i ∷ is) [] h k = tt
+joined_all_sound (i ∷ is) (j ∷ js) h k =
+    let x = some_number i h.0.1 in
+    (((low_range i.low j.low h.0.0.0 k.0.0.0, high_range i.high j.high h.0.0.1 k.0.0.1), not_crossed (record { low = lesser_low i.low j.low; high = greater_high i.high j.high }) x.0 (low_left i.low j.low x.0 x.1.0, high_left i.high j.high x.0 x.1.1)), joined_all_sound is js h.1 k.1)
+
+by_test : (t : Bool) (a : ℤ) → InRange a → IfSome (cond t None (Some a)) InRange
+by_test true a h = tt
+by_test false a h = h
+
+widen_low_range : (a b : Option ℤ) → IfSome a InRange → IfSome (widened_low a b) InRange
+widen_low_range None b p = tt
+widen_low_range (Some a) None p = tt
+widen_low_range (Some a) (Some b) p = by_test (int_lt b a) a p
+
+widen_high_range : (a b : Option ℤ) → IfSome a InRange → IfSome (widened_high a b) InRange
+widen_high_range None b p = tt
+widen_high_range (Some a) None p = tt
+widen_high_range (Some a) (Some b) p = by_test (int_lt a b) a p
+
+widened_all_sound : (is js : List Interval) → AllSound is → AllSound (widened_intervals is js)
+widened_all_sound [] js h = tt
+widened_all_sound (i ∷ is) [] h = tt
+widened_all_sound (i ∷ is) (j ∷ js) h =
+    let x = some_number i h.0.1 in
+    (((widen_low_range i.low j.low h.0.0.0, widen_high_range i.high j.high h.0.0.1), not_crossed (record { low = widened_low i.low j.low; high = widened_high i.high j.high }) x.0 (widen_low_old i.low j.low x.0 x.1.0, widen_high_old i.high j.high x.0 x.1.1)), widened_all_sound is js h.1)
+
+pub joined_sound : (a b : Option (List Interval)) → BoundsSound a → BoundsSound b → BoundsSound (joined_bounds a b)
+joined_sound None b h k = k
+joined_sound (Some is) None h k = h
+joined_sound (Some is) (Some js) h k = joined_all_sound is js h k
+
+widened_sound : (a b : Option (List Interval)) → BoundsSound a → BoundsSound b → BoundsSound (widened_bounds a b)
+widened_sound None b h k = k
+widened_sound (Some is) None h k = h
+widened_sound (Some is) (Some js) h k = widened_all_sound is js h
+
+pub grown_sound : (mode : Mode) (a b : Option (List Interval)) → BoundsSound a → BoundsSound b → BoundsSound (grown_bounds mode a b)
+grown_sound Join a b h k = joined_sound a b h k
+grown_sound Widen a b h k = widened_sound a _ h (joined_sound a b h k)
+grown_sound Limited a b h k = widened_sound a _ h (joined_sound a b h k)

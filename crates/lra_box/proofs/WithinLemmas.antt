@@ -1,0 +1,123 @@
+-- Being within: reflexive, transitive, and kept by the tables of a test.
+use Rattle.std.proofs.Common.{◌≡◌, ℕ, zero, suc, ℤ, List, [], ◌∷◌, Option, None, Some, true, refl, ap, arith}
+use Rattle.std.specs.Prelude.{slice_set, slice_index_or}
+use Rattle.std.proofs.lemmas.Int.{ints}
+use Rattle.std.proofs.lemmas.Bool.{false≢true}
+use Rattle.lra_box.specs.declared.interval.Interval.{Interval}
+use Rattle.lra_box.specs.Bounds.{open_interval, crossed, crossed_ends}
+use Rattle.lra_box.specs.Tables.{LowWithin, HighWithin, IntervalsWithin, BoundsWithin}
+
+pub low_within_refl : (a : Option ℤ) → LowWithin a a
+low_within_refl None = tt
+low_within_refl (Some a) = omega (arith, ints)
+
+pub high_within_refl : (a : Option ℤ) → HighWithin a a
+high_within_refl None = tt
+high_within_refl (Some a) = omega (arith, ints)
+
+pub low_within_trans : (a b c : Option ℤ) → LowWithin a b → LowWithin b c → LowWithin a c
+low_within_trans a b None p q = tt
+low_within_trans a None (Some c) p q = absurd q
+low_within_trans None (Some b) (Some c) p q = absurd p
+low_within_trans (Some a) (Some b) (Some c) p q = omega (arith, ints)
+
+pub high_within_trans : (a b c : Option ℤ) → HighWithin a b → HighWithin b c → HighWithin a c
+high_within_trans a b None p q = tt
+high_within_trans a None (Some c) p q = absurd q
+high_within_trans None (Some b) (Some c) p q = absurd p
+high_within_trans (Some a) (Some b) (Some c) p q = omega (arith, ints)
+
+-- one interval within another
+abbrev pub OneWithin : Interval → Interval → Type 0
+OneWithin i j = LowWithin i.low j.low × HighWithin i.high j.high
+
+pub intervals_within_refl : (is : List Interval) → IntervalsWithin is is
+intervals_within_refl [] = tt
+intervals_within_refl (i ∷ is) = (low_within_refl i.low, high_within_refl i.high, intervals_within_refl is)
+
+intervals_within_trans : (is js ks : List Interval) → IntervalsWithin is js → IntervalsWithin js ks → IntervalsWithin is ks
+intervals_within_trans [] [] ks p q = q
+intervals_within_trans [] (j ∷ js) ks p q = absurd p
+intervals_within_trans (i ∷ is) [] ks p q = absurd p
+intervals_within_trans (i ∷ is) (j ∷ js) [] p q = absurd q
+intervals_within_trans (i ∷ is) (j ∷ js) (k ∷ ks) p q =
+    (low_within_trans i.low j.low k.low p.0 q.0, high_within_trans i.high j.high k.high p.1 q.1, intervals_within_trans is js ks p.2 q.2)
+
+pub within_refl : (a : Option (List Interval)) → BoundsWithin a a
+within_refl None = tt
+within_refl (Some is) = intervals_within_refl is
+
+pub within_trans : (a b c : Option (List Interval)) → BoundsWithin a b → BoundsWithin b c → BoundsWithin a c
+within_trans None b c p q = tt
+within_trans (Some is) None c p q = absurd p
+within_trans (Some is) (Some js) None p q = absurd q
+within_trans (Some is) (Some js) (Some ks) p q = intervals_within_trans is js ks p q
+
+pub set_within : (is js : List Interval) (k : ℕ) (i j : Interval) → IntervalsWithin is js → OneWithin i j → IntervalsWithin (slice_set is k i) (slice_set js k j)
+set_within [] [] k i j h w = h
+set_within [] (b ∷ js) k i j h w = absurd h
+set_within (a ∷ is) [] k i j h w = absurd h
+set_within (a ∷ is) (b ∷ js) zero i j h w = (w.0, w.1, h.2)
+set_within (a ∷ is) (b ∷ js) (suc k) i j h w = (h.0, h.1, set_within is js k i j h.2 w)
+
+pub at_within : (is js : List Interval) (k : ℕ) → IntervalsWithin is js → OneWithin (slice_index_or is k open_interval) (slice_index_or js k open_interval)
+at_within [] [] k h = (tt, tt)
+at_within [] (b ∷ js) k h = absurd h
+at_within (a ∷ is) [] k h = absurd h
+at_within (a ∷ is) (b ∷ js) zero h = (h.0, h.1)
+at_within (a ∷ is) (b ∷ js) (suc k) h = at_within is js k h.2
+
+pub set_one : (is : List Interval) (k : ℕ) (i : Interval) → OneWithin i (slice_index_or is k open_interval) → IntervalsWithin (slice_set is k i) is
+set_one [] k i w = tt
+set_one (a ∷ is) zero i w = (w.0, w.1, intervals_within_refl is)
+set_one (a ∷ is) (suc k) i w = (low_within_refl a.low, high_within_refl a.high, set_one is k i w)
+
+-- a crossed interval crosses what lies within it
+pub crossed_within : (i j : Interval) → OneWithin i j → crossed j ≡ true → crossed i ≡ true
+crossed_within i j w h = ends i.low i.high j.low j.high w.0 w.1 h
+  where
+    ends : (a b c d : Option ℤ) → LowWithin a c → HighWithin b d → crossed_ends c d ≡ true → crossed_ends a b ≡ true
+    ends a b None d p q h = absurd (false≢true h)
+    ends a b (Some c) None p q h = absurd (false≢true h)
+    ends None b (Some c) (Some d) p q h = absurd p
+    ends (Some a) None (Some c) (Some d) p q h = absurd q
+    ends (Some a) (Some b) (Some c) (Some d) p q h = grind (arith, ints)
+
+low_both : (a b : Option ℤ) → LowWithin a b → LowWithin b a → a ≡ b
+low_both None None p q = refl
+low_both None (Some b) p q = absurd p
+low_both (Some a) None p q = absurd q
+low_both (Some a) (Some b) p q = ap Some (omega (arith, ints))
+
+high_both : (a b : Option ℤ) → HighWithin a b → HighWithin b a → a ≡ b
+high_both None None p q = refl
+high_both None (Some b) p q = absurd p
+high_both (Some a) None p q = absurd q
+high_both (Some a) (Some b) p q = ap Some (omega (arith, ints))
+
+made : (a b c d : Option ℤ) → a ≡ b → c ≡ d → (let i : Interval = record { low = a; high = c } in let j : Interval = record { low = b; high = d } in i ≡ j)
+made a b c d l h = rw (l, h) refl
+
+intervals_both : (is js : List Interval) → IntervalsWithin is js → IntervalsWithin js is → is ≡ js
+intervals_both [] [] p q = refl
+intervals_both [] (j ∷ js) p q = absurd p
+intervals_both (i ∷ is) [] p q = absurd p
+intervals_both (i ∷ is) (j ∷ js) p q =
+    let l : i.low ≡ j.low = low_both i.low j.low p.0 q.0 in
+    let h : i.high ≡ j.high = high_both i.high j.high p.1 q.1 in
+    let t : is ≡ js = intervals_both is js p.2 q.2 in
+    let same : i ≡ j = one i j l h in
+    rw (same, t) refl
+  where
+    one : (i j : Interval) → i.low ≡ j.low → i.high ≡ j.high → i ≡ j
+    one i j l h = made i.low j.low i.high j.high l h
+
+-- bounds that lie within each other are equal
+pub within_both : (a b : Option (List Interval)) → BoundsWithin a b → BoundsWithin b a → a ≡ b
+within_both None None p q = refl
+within_both None (Some js) p q = absurd q
+within_both (Some is) None p q = absurd p
+within_both (Some is) (Some js) p q = ap Some (intervals_both is js p q)
+
+pub equal_within : (a b : Option (List Interval)) → a ≡ b → BoundsWithin a b × BoundsWithin b a
+equal_within a b e = rw e (within_refl b, within_refl b)

@@ -1,0 +1,14 @@
+use Rattle.std.proofs.Common.{◌≡◌, ◌++◌, length, map}
+use Rattle.std.specs.Prelude.{neg_ℤ}
+use Rattle.std.specs.List.{All}
+use Rattle.lra_linear.specs.Range.{InRange}
+use Rattle.lra_box.proofs.bounds.opposite_row.Given as goal
+
+abbrev pub invariant-loop-factor : goal.invariant-loop-factor
+invariant-loop-factor l = record {
+  items : l.row.items ++ map neg_ℤ l.left ≡ map neg_ℤ l.e.coefficients;
+  range : All InRange l.row.items;
+}
+
+abbrev pub decreases-loop-factor : goal.decreases-loop-factor
+decreases-loop-factor l = length l.left

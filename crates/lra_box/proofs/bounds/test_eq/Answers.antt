@@ -1,0 +1,22 @@
+use Rattle.std.proofs.Common.{rules, arith, ◌≡◌, pos, ◌-ℤ◌, length, FitsSigned}
+use Rattle.std.specs.Prelude.{neg_ℤ}
+use Rattle.std.specs.Int.{w128}
+use Rattle.std.proofs.lemmas.Int.{ints, to_z-of_z}
+use Rattle.std.proofs.lemmas.List.{length-map}
+use Rattle.lra_box.specs.Bounds.{form}
+use Rattle.lra_box.specs.Content.{seen}
+use Rattle.lra_box.proofs.TestLemmas.{equal_tested}
+use Rattle.lra_box.proofs.bounds.test_eq.Goals as goal
+
+pub test_ge-two-requires-clause-width : goal.test_ge-two-requires-clause-width
+test_ge-two-requires-clause-width c =
+    let fit = c.test_ge-one.ensures.tested.fit (length c.args.factors.now) c.requires.width in
+    rw (c.requires.negated, length-map c.args.factors.now neg_ℤ) fit
+
+pub returns : goal.returns
+returns c =
+    let fit : FitsSigned w128 (neg_ℤ c.args.constant) = search rules in
+    let one = rw (to_z-of_z w128 c.args.constant c.ranges.constant) at c.test_ge-one.ensures.tested in
+    let minus : pos 0 -ℤ c.args.constant ≡ neg_ℤ c.args.constant = omega (arith, ints) in
+    let two = rw (to_z-of_z w128 c.args.constant c.ranges.constant, minus, to_z-of_z w128 (neg_ℤ c.args.constant) fit, c.requires.negated) at c.test_ge-two.ensures.tested in
+    record { tested = equal_tested (form c.args.constant c.args.factors.now) (seen c.args.bounds.now) (seen c.test_ge-one.new.bounds) (seen c.test_ge-two.new.bounds) _ _ _ one two c.worse.ensures.exact c.worse.ensures.flagged }

@@ -1,0 +1,18 @@
+use Rattle.std.proofs.Common.{rules, refl, ◌≡◌, to_z, of_z}
+use Rattle.std.specs.Int.{w64, w128}
+use Rattle.lra_box.proofs.boxes.BoxesDomain.assign.Goals as goal
+
+pub invariant_of-self : goal.invariant_of-self
+invariant_of-self c = (c.self.invariant.0, c.assign_in.ensures.fit c.self.inside.dims c.self.invariant.1, c.assign_in.ensures.sound)
+
+pub returns-clause-meets : goal.returns-clause-meets
+returns-clause-meets c =
+    let constant : to_z w128 (of_z w128 (to_z w64 (of_z w64 c.constant.result))) ≡ c.args.e.now.constant = search rules in
+    let row : c.as_slice.result.now ≡ c.args.e.now.coefficients = search rules in
+    let to = rw (constant, row) at c.assign_in.ensures in
+    rw (← c.self.view_is) (record {
+      stores = λ s t h l. rw l (to.stores s h);
+      exact = λ e. record { table = rw (to.exact e) refl; extremes = to.extremes e };
+      covers = λ e v d. rw d.table to.covers;
+      flagged = to.flagged;
+    })

@@ -1,0 +1,19 @@
+use Rattle.std.proofs.Common.{refl}
+use Rattle.lra_box.proofs.StepLemmas.{embedded_fit, embedded_sound, has_embedded}
+use Rattle.lra_box.specs.Content.{seen}
+use Rattle.lra_box.proofs.boxes.BoxesDomain.embed.Goals as goal
+
+pub invariant_of-self-2 : goal.invariant_of-self-2
+invariant_of-self-2 c = (
+  rw (← c.self.view_is) at c.requires,
+  rw c.in_ok-embed_in.ensures.ok (embedded_fit c.self.inside.dims c.args.k (seen c.self.inside.bounds) c.self.invariant.1),
+  rw c.in_ok-embed_in.ensures.ok (embedded_sound c.args.k (seen c.self.inside.bounds) c.self.invariant.2),
+)
+
+pub returns-clause-meets : goal.returns-clause-meets
+returns-clause-meets c = rw (c.in_ok-embed_in.ensures.ok, ← c.self.view_is) (record {
+  stores = λ s t h k. rw k.2 (has_embedded c.args.k (seen c.self.inside.bounds) s k.0 k.1 h);
+  exact = λ e. record { table = refl; extremes = tt };
+  covers = λ e. cc;
+  flagged = λ e. cc;
+})

@@ -1,0 +1,22 @@
+use Rattle.std.proofs.Common.{◌≡◌, refl, ap, sym, ◌∙◌}
+use Rattle.lra_box.specs.Content.{Content, BoundsFit, seen}
+use Rattle.lra_box.proofs.BoundLemmas.{joined_fit, has_joined_left, has_joined_right}
+use Rattle.lra_box.proofs.SoundLemmas.{joined_sound}
+use Rattle.lra_box.proofs.boxes.BoxesDomain.join.Goals as goal
+
+pub invariant_of-self : goal.invariant_of-self
+invariant_of-self c =
+    let same : c.other.inside.dims ≡ c.self.inside.dims = ap (λ (b : Content). b.dims) c.other.view_is ∙ sym c.requires ∙ sym (ap (λ (b : Content). b.dims) c.self.view_is) in
+    (c.self.invariant.0, rw c.in_ok-joined.ensures (joined_fit c.self.inside.dims (seen c.self.inside.bounds) (seen c.other.inside.bounds) c.self.invariant.1 (rw (← same) c.other.invariant.1)), rw c.in_ok-joined.ensures (joined_sound (seen c.self.inside.bounds) (seen c.other.inside.bounds) c.self.invariant.2 c.other.invariant.2))
+
+pub returns-clause-joins : goal.returns-clause-joins
+returns-clause-joins c =
+    let same : c.other.inside.dims ≡ c.self.inside.dims = ap (λ (b : Content). b.dims) c.other.view_is ∙ sym c.requires ∙ sym (ap (λ (b : Content). b.dims) c.self.view_is) in
+    let fit : BoundsFit c.self.inside.dims (seen c.other.inside.bounds) = rw (← same) c.other.invariant.1 in
+    rw (c.in_ok-joined.ensures, ← c.self.view_is, ← c.other.view_is) (record {
+      left = λ s h. has_joined_left c.self.inside.dims _ _ s c.self.invariant.1 fit h;
+      right = λ s h. has_joined_right c.self.inside.dims _ _ s c.self.invariant.1 fit h;
+      exact = λ e. refl;
+      covers = λ e. cc;
+      flagged = λ e. cc;
+    })

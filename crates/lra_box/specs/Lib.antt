@@ -1,0 +1,10 @@
+pub mod Bounds
+pub mod Content
+pub mod Refine
+pub mod Tables
+pub mod Covering
+pub mod Extremes
+pub mod Answers
+pub mod Parts
+pub mod Meaning
+pub mod BoxExamples

@@ -1,0 +1,130 @@
+-- The tables of boxes: what each call makes of the bounds, and when it may be flagged.
+use Rattle.std.specs.Prelude.{ℕ, ◌+◌, ◌*◌, ◌-◌, ℤ, ◌≤ℤ◌, int_lt, cond, List, [], ◌∷◌, ◌++◌, take, replicate, slice_set, Option, None, Some, ◌⊎◌}
+use Rattle.std.specs.Int.{int_min, int_max}
+use Rattle.lra_lin.specs.Form.{Form}
+use Rattle.lra_domain.specs.Actions.{Action, assign, forget, test, embed, remove_last}
+use Rattle.lra_domain.specs.declared.Mode.{Mode}
+use Rattle.lra_domain.specs.declared.Mode.TheVariants.{Join, Widen, Limited}
+use Rattle.lra_domain.specs.declared.Rank.{Rank}
+use Rattle.lra_box.specs.declared.interval.Interval.{Interval}
+use Rattle.lra_box.specs.declared.interval.Side.TheVariants.{Low, High}
+use Rattle.lra_box.specs.Bounds.{open_interval, InBounds, end_sum, SumPasses}
+use Rattle.lra_box.specs.Content.{Content}
+use Rattle.lra_box.specs.Refine.{tested, TestPasses}
+
+-- the list is a store of the box
+abbrev pub has_bounds : Option (List Interval) → List ℤ → Type 0
+has_bounds None s = ⊥
+has_bounds (Some is) s = InBounds is s
+
+-- the box with these bounds where it had bounds
+abbrev pub on_bounds : (List Interval → List Interval) → Option (List Interval) → Option (List Interval)
+on_bounds f None = None
+on_bounds f (Some is) = Some (f is)
+
+abbrev pub assigned : ℕ → Form → List Interval → List Interval
+assigned x e is = slice_set is x (record { low = end_sum Low e.constant e.coefficients is; high = end_sum High e.constant e.coefficients is })
+
+abbrev pub AssignPasses : Form → Option (List Interval) → Type 0
+AssignPasses e None = ⊥
+AssignPasses e (Some is) = SumPasses Low e.constant e.coefficients is ⊎ SumPasses High e.constant e.coefficients is
+
+-- the bound that both keep
+abbrev pub lesser_low : Option ℤ → Option ℤ → Option ℤ
+lesser_low None b = None
+lesser_low (Some a) None = None
+lesser_low (Some a) (Some b) = Some (int_min a b)
+
+abbrev pub greater_high : Option ℤ → Option ℤ → Option ℤ
+greater_high None b = None
+greater_high (Some a) None = None
+greater_high (Some a) (Some b) = Some (int_max a b)
+
+abbrev pub joined_intervals : List Interval → List Interval → List Interval
+joined_intervals [] is = []
+joined_intervals (i ∷ is) [] = []
+joined_intervals (i ∷ is) (j ∷ js) = record { low = lesser_low i.low j.low; high = greater_high i.high j.high } ∷ joined_intervals is js
+
+abbrev pub joined_bounds : Option (List Interval) → Option (List Interval) → Option (List Interval)
+joined_bounds None b = b
+joined_bounds (Some is) None = Some is
+joined_bounds (Some is) (Some js) = Some (joined_intervals is js)
+
+-- a bound of the old stays where the new is no wider
+abbrev pub LowWithin : Option ℤ → Option ℤ → Type 0
+LowWithin a None = Unit {0}
+LowWithin None (Some b) = ⊥
+LowWithin (Some a) (Some b) = b ≤ℤ a
+
+abbrev pub HighWithin : Option ℤ → Option ℤ → Type 0
+HighWithin a None = Unit {0}
+HighWithin None (Some b) = ⊥
+HighWithin (Some a) (Some b) = a ≤ℤ b
+
+abbrev pub IntervalsWithin : List Interval → List Interval → Type 0
+IntervalsWithin [] [] = Unit {0}
+IntervalsWithin [] (j ∷ js) = ⊥
+IntervalsWithin (i ∷ is) [] = ⊥
+IntervalsWithin (i ∷ is) (j ∷ js) = LowWithin i.low j.low × HighWithin i.high j.high × IntervalsWithin is js
+
+abbrev pub BoundsWithin : Option (List Interval) → Option (List Interval) → Type 0
+BoundsWithin None b = Unit {0}
+BoundsWithin (Some is) None = ⊥
+BoundsWithin (Some is) (Some js) = IntervalsWithin is js
+
+-- how many bounds there are
+abbrev pub finite : Option ℤ → ℕ
+finite None = 0
+finite (Some b) = 1
+
+abbrev pub finite_bounds : List Interval → ℕ
+finite_bounds [] = 0
+finite_bounds (i ∷ is) = (finite i.low + finite i.high) + finite_bounds is
+
+abbrev pub rank_number : ℕ → Option (List Interval) → ℕ
+rank_number n None = 2 * n + 1
+rank_number n (Some is) = finite_bounds is
+
+abbrev pub rank_of : Content → Rank
+rank_of b = record { first = 1; second = 0; third = 0; fourth = rank_number b.dims b.bounds }
+
+abbrev pub widened_low : Option ℤ → Option ℤ → Option ℤ
+widened_low None b = None
+widened_low (Some a) None = None
+widened_low (Some a) (Some b) = cond (int_lt b a) None (Some a)
+
+abbrev pub widened_high : Option ℤ → Option ℤ → Option ℤ
+widened_high None b = None
+widened_high (Some a) None = None
+widened_high (Some a) (Some b) = cond (int_lt a b) None (Some a)
+
+abbrev pub widened_intervals : List Interval → List Interval → List Interval
+widened_intervals [] is = []
+widened_intervals (i ∷ is) [] = []
+widened_intervals (i ∷ is) (j ∷ js) = record { low = widened_low i.low j.low; high = widened_high i.high j.high } ∷ widened_intervals is js
+
+abbrev pub widened_bounds : Option (List Interval) → Option (List Interval) → Option (List Interval)
+widened_bounds None b = b
+widened_bounds (Some is) None = Some is
+widened_bounds (Some is) (Some js) = Some (widened_intervals is js)
+
+abbrev pub grown_bounds : Mode → Option (List Interval) → Option (List Interval) → Option (List Interval)
+grown_bounds Join a b = joined_bounds a b
+grown_bounds Widen a b = widened_bounds a (joined_bounds a b)
+grown_bounds Limited a b = widened_bounds a (joined_bounds a b)
+
+-- the defined result of a change
+abbrev pub stepped : Action → Content → Content
+stepped (assign x e) b = record b { bounds = on_bounds (assigned x e) b.bounds }
+stepped (forget x) b = record b { bounds = on_bounds (λ is. slice_set is x open_interval) b.bounds }
+stepped (test kind e) b = record b { bounds = tested kind e b.bounds }
+stepped (embed k) b = record { dims = b.dims + k; bounds = on_bounds (λ is. is ++ replicate k open_interval) b.bounds }
+stepped (remove_last k) b = record { dims = b.dims - k; bounds = on_bounds (λ is. take (b.dims - k) is) b.bounds }
+
+-- a number of the table passes the range
+abbrev pub StepPasses : Action → Content → Type 0
+StepPasses (assign x e) b = AssignPasses e b.bounds
+StepPasses (forget x) b = ⊥
+StepPasses (test kind e) b = TestPasses kind e b.bounds
+StepPasses (embed k) b = ⊥
+StepPasses (remove_last k) b = ⊥

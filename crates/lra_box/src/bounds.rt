@@ -1,0 +1,265 @@
+//! The bounds of a box: an interval for each dimension, or none where it is empty.
+
+ghost use Rattle.std.specs.Prelude.{◌≡◌, ◌+◌, ◌-◌, pos, neg_ℤ, ◌+ℤ◌, ◌≤ℤ◌, ◌≤◌, ◌<◌, ◌^◌, ◌++◌, All, IfOk, OnErr, OnOk, IsTrue, ◌↔◌, None, Some, length, map, replicate, slice_set, take, List};
+ghost use Rattle.lra_linear.specs.Range.{InRange};
+ghost use Rattle.lra_linear.specs.Vectors.{product};
+ghost use Rattle.lra_lin.specs.Form.{Passes};
+ghost use Rattle.lra_box.specs.declared.interval.Interval.{Interval};
+ghost use Rattle.lra_box.specs.Bounds.{form, open_interval};
+ghost use Rattle.lra_box.specs.Content.{seen, BoundsFit, BoundsSound};
+ghost use Rattle.lra_box.specs.Refine.{ge_tested, tested, RefinePasses, TestPasses};
+ghost use Rattle.lra_box.specs.Tables.{on_bounds, joined_bounds, widened_bounds, grown_bounds, BoundsWithin, rank_number};
+ghost use Rattle.lra_box.specs.Answers.{AssignedTo, TestedTo};
+
+use crate::interval::Interval;
+use crate::intervals::{all_within, assign_bounds, count_bounds, join_all, widen_all};
+use crate::refine::{occurs, refine_all, worse};
+use lra_domain::{Exactness, Mode, Rank};
+use lra_lin::{LinExpr, Test, TestKind};
+use std::alloc::{AllocError, Global};
+
+/// The intervals of a box, or none where it is empty.
+pub type Bounds = Option<Vec<Interval>>;
+
+/// All stores of `n` dimensions.
+pub fn universe(alloc: Global, n: usize) -> Result<Bounds, AllocError>
+    ensures { IfOk result (λ b. seen b ≡ Some (replicate n open_interval)) }
+{
+    Ok(Some(vec![in alloc; Interval::OPEN; n]?))
+}
+
+/// The same bounds again.
+pub fn copy_bounds(alloc: Global, bounds: &Bounds) -> Result<Bounds, AllocError>
+    ensures { IfOk result (λ b. seen b ≡ seen bounds.now) }
+{
+    match bounds {
+        None => Ok(None),
+        Some(intervals) => Ok(Some(Vec::from_slice(alloc, intervals.as_slice())?)),
+    }
+}
+
+/// Whether the first lies in the second.
+pub fn is_within(one: &Bounds, two: &Bounds) -> bool
+    requires { (is js : List Interval) → seen one.now ≡ Some is → seen two.now ≡ Some js → length is ≡ length js }
+    ensures { IsTrue result ↔ BoundsWithin (seen one.now) (seen two.now) }
+{
+    match (one, two) {
+        (None, _) => true,
+        (Some(_), None) => false,
+        (Some(ours), Some(theirs)) => all_within(ours.as_slice(), theirs.as_slice()),
+    }
+}
+
+#[tactic(auto, using(crate::proofs::WithinLemmas::within_both, crate::proofs::WithinLemmas::equal_within))]
+/// Whether the two are equal: each lies in the other.
+pub fn is_same(one: &Bounds, two: &Bounds) -> bool
+    requires { (is js : List Interval) → seen one.now ≡ Some is → seen two.now ≡ Some js → length is ≡ length js }
+    ensures { IsTrue result ↔ (seen one.now ≡ seen two.now) }
+{
+    is_within(one, two) && is_within(two, one)
+}
+
+/// Assigns `constant + factors` to place `x`.
+pub fn assign_in(bounds: &mut Bounds, x: usize, constant: i128, factors: &[i128]) -> Exactness
+    requires place { x < length factors.now }
+    requires width { BoundsFit (length factors.now) (seen bounds.old) }
+    requires range { InRange constant }
+    requires sound { BoundsSound (seen bounds.old) }
+    ensures { AssignedTo x (form constant factors.now) (seen bounds.old) (seen bounds.new) result }
+{
+    match bounds {
+        None => Exactness::Exact,
+        Some(intervals) => assign_bounds(intervals.as_mut_slice(), x, constant, factors),
+    }
+}
+
+/// The form's coefficients, as wider numbers.
+pub fn wide_row(alloc: Global, e: &LinExpr) -> Result<Vec<i128>, AllocError>
+    ensures row { IfOk result (λ row. row.items ≡ e.now.coefficients) }
+    ensures range { IfOk result (λ row. All InRange row.items) }
+{
+    let mut row = Vec::new(alloc);
+    for factor in e.coefficients() {
+        row.push(*factor as i128)?;
+    }
+    Ok(row)
+}
+
+/// The same times -1.
+fn opposite_row(alloc: Global, e: &LinExpr) -> Result<Vec<i128>, AllocError>
+    ensures row { IfOk result (λ row. row.items ≡ map neg_ℤ e.now.coefficients) }
+    ensures range { IfOk result (λ row. All InRange row.items) }
+{
+    let mut row = Vec::new(alloc);
+    let mut left = e.coefficients();
+    while let Some((factor, later)) = left.split_first() {
+        let opposite = -(*factor as i128);
+        row.push(opposite)?;
+        left = later;
+    }
+    Ok(row)
+}
+
+/// Refines by `constant + factors >= 0`.
+fn test_ge(bounds: &mut Bounds, constant: i128, factors: &mut [i128]) -> Exactness
+    requires width { BoundsFit (length factors.old) (seen bounds.old) }
+    requires range { InRange constant }
+    requires factors { All InRange factors.old }
+    requires sound { BoundsSound (seen bounds.old) }
+    ensures tested { TestedTo (ge_tested constant factors.old (seen bounds.old)) (RefinePasses constant factors.old (length factors.old) (seen bounds.old)) (λ s. pos 0 ≤ℤ (constant +ℤ product factors.old s)) (seen bounds.old) (seen bounds.new) result }
+{
+    let Some(intervals) = bounds else {
+        return Exactness::Exact;
+    };
+    if !occurs(factors) {
+        if constant < 0 {
+            *bounds = None;
+        }
+        return Exactness::Exact;
+    }
+    let refined = refine_all(intervals.as_mut_slice(), constant, factors);
+    if refined.is_crossed {
+        *bounds = None;
+    }
+    refined.exactness
+}
+
+/// Refines by `constant + factors = 0`: by it as `>= 0`, then by its opposite.
+fn test_eq(
+    bounds: &mut Bounds,
+    constant: i128,
+    factors: &mut [i128],
+    opposite: &mut [i128],
+) -> Exactness
+    requires width { BoundsFit (length factors.old) (seen bounds.old) }
+    requires range { InRange constant }
+    requires factors { All InRange factors.old }
+    requires negated { opposite.old ≡ map neg_ℤ factors.old }
+    requires opposites { All InRange opposite.old }
+    requires sound { BoundsSound (seen bounds.old) }
+    ensures tested { let e = form constant factors.old in TestedTo (tested TestKind.Eq e (seen bounds.old)) (TestPasses TestKind.Eq e (seen bounds.old)) (Passes TestKind.Eq e) (seen bounds.old) (seen bounds.new) result }
+{
+    let one = test_ge(bounds, constant, factors);
+    let two = test_ge(bounds, -constant, opposite);
+    worse(one, two)
+}
+
+/// Refines by a test.
+pub fn test_in(alloc: Global, bounds: &mut Bounds, t: &Test) -> Result<Exactness, AllocError>
+    requires width { BoundsFit (length t.now.expr.coefficients) (seen bounds.old) }
+    requires sound { BoundsSound (seen bounds.old) }
+    ensures tested { IfOk result (λ e. TestedTo (tested t.now.kind t.now.expr (seen bounds.old)) (TestPasses t.now.kind t.now.expr (seen bounds.old)) (Passes t.now.kind t.now.expr) (seen bounds.old) (seen bounds.new) e) }
+    ensures err { OnErr result (seen bounds.new ≡ seen bounds.old) }
+{
+    let constant = t.expr.constant() as i128;
+    let mut row = wide_row(alloc, &t.expr)?;
+    match t.kind {
+        TestKind::Ge => Ok(test_ge(bounds, constant, row.as_mut_slice())),
+        TestKind::Eq => {
+            let mut opposite = opposite_row(alloc, &t.expr)?;
+            Ok(test_eq(
+                bounds,
+                constant,
+                row.as_mut_slice(),
+                opposite.as_mut_slice(),
+            ))
+        }
+    }
+}
+
+/// Any number at place `x`.
+pub fn forget_in(bounds: &mut Bounds, x: usize)
+    requires { (is : List Interval) → seen bounds.old ≡ Some is → x < length is }
+    ensures { seen bounds.new ≡ on_bounds (λ is. slice_set is x open_interval) (seen bounds.old) }
+{
+    if let Some(intervals) = bounds {
+        intervals[x] = Interval::OPEN;
+    }
+}
+
+/// `k` more places of any number.
+pub fn embed_in(bounds: &mut Bounds, k: usize) -> Result<(), AllocError>
+    requires { (is : List Interval) → seen bounds.old ≡ Some is → length is + k < 2 ^ 64 }
+    ensures ok { OnOk result (seen bounds.new ≡ on_bounds (λ is. is ++ replicate k open_interval) (seen bounds.old)) }
+    ensures err { OnErr result (seen bounds.new ≡ seen bounds.old) }
+{
+    match bounds {
+        None => Ok(()),
+        Some(intervals) => intervals.resize(intervals.len() + k, Interval::OPEN),
+    }
+}
+
+/// The first `n` places.
+pub fn truncate_in(bounds: &mut Bounds, n: usize)
+    ensures { seen bounds.new ≡ on_bounds (λ is. take n is) (seen bounds.old) }
+{
+    if let Some(intervals) = bounds {
+        intervals.truncate(n);
+    }
+}
+
+/// The least bounds that hold both.
+pub fn join_bounds(alloc: Global, one: &Bounds, two: &Bounds) -> Result<Bounds, AllocError>
+    requires { (is js : List Interval) → seen one.now ≡ Some is → seen two.now ≡ Some js → length is ≡ length js }
+    ensures { IfOk result (λ b. seen b ≡ joined_bounds (seen one.now) (seen two.now)) }
+{
+    match (one, two) {
+        (None, other) => copy_bounds(alloc, other),
+        (Some(ours), None) => Ok(Some(Vec::from_slice(alloc, ours.as_slice())?)),
+        (Some(ours), Some(theirs)) => Ok(Some(join_all(
+            alloc,
+            ours.as_slice(),
+            theirs.as_slice(),
+        )?)),
+    }
+}
+
+fn widen_bounds(alloc: Global, one: &Bounds, two: &Bounds) -> Result<Bounds, AllocError>
+    requires { (is js : List Interval) → seen one.now ≡ Some is → seen two.now ≡ Some js → length is ≡ length js }
+    ensures { IfOk result (λ b. seen b ≡ widened_bounds (seen one.now) (seen two.now)) }
+{
+    match (one, two) {
+        (None, other) => copy_bounds(alloc, other),
+        (Some(ours), None) => Ok(Some(Vec::from_slice(alloc, ours.as_slice())?)),
+        (Some(ours), Some(theirs)) => Ok(Some(widen_all(
+            alloc,
+            ours.as_slice(),
+            theirs.as_slice(),
+        )?)),
+    }
+}
+
+/// The join of the two, and past joining the first widened by it.
+pub fn grow_bounds(
+    alloc: Global,
+    one: &Bounds,
+    two: &Bounds,
+    mode: Mode,
+) -> Result<Bounds, AllocError>
+    requires { (is js : List Interval) → seen one.now ≡ Some is → seen two.now ≡ Some js → length is ≡ length js }
+    ensures { IfOk result (λ b. seen b ≡ grown_bounds mode (seen one.now) (seen two.now)) }
+{
+    let joined = join_bounds(alloc, one, two)?;
+    match mode {
+        Mode::Join => Ok(joined),
+        Mode::Widen | Mode::Limited => widen_bounds(alloc, one, &joined),
+    }
+}
+
+/// 1, 0, 0, and how many bounds there are; one more than the most there can be where the box is empty.
+pub fn rank_of(dims: usize, bounds: &Bounds) -> Rank
+    requires few { dims ≤ 2 ^ 30 }
+    requires fit { BoundsFit dims (seen bounds.now) }
+    ensures { result ≡ record { first = 1; second = 0; third = 0; fourth = rank_number dims (seen bounds.now) } }
+{
+    let fourth = match bounds {
+        None => 2 * dims as u64 + 1,
+        Some(intervals) => count_bounds(intervals.as_slice()),
+    };
+    Rank {
+        first: 1,
+        second: 0,
+        third: 0,
+        fourth,
+    }
+}

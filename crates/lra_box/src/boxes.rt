@@ -1,0 +1,165 @@
+//! Boxes as a domain.
+
+ghost use Rattle.std.specs.Prelude.{◌≤◌, ◌^◌, refl};
+ghost use Rattle.lra_box.specs.Meaning.{box_meaning};
+
+use crate::bounds::{
+    Bounds, assign_in, copy_bounds, embed_in, forget_in, grow_bounds, is_same, is_within,
+    join_bounds, rank_of, test_in, truncate_in, universe, wide_row,
+};
+use crate::parts::system_of;
+use lra_domain::{Domain, Exactness, Grown, Included, Mode, Plain, Rank};
+use lra_lin::{LinExpr, Test};
+use lra_sys::ConSys;
+use std::alloc::{AllocError, Global};
+use std::marker::Model;
+
+/// A box: empty, or an interval for each dimension, whose lower bound is at most its upper one.
+#[derive(Drop)]
+pub struct Boxes {
+    alloc: Global,
+    dims: usize,
+    bounds: Bounds,
+}
+
+impl Model for Boxes {
+    ghost use Rattle.std.specs.Prelude.{◌≤◌, ◌^◌};
+    ghost use Rattle.lra_box.specs.Content.{Content, BoundsFit, BoundsSound, seen};
+
+    ghost Value = { Content };
+
+    ghost view = { λ b. record { dims = b.dims; bounds = seen b.bounds } };
+
+    ghost invariant = { λ b. (b.dims ≤ 2 ^ 30) × BoundsFit b.dims (seen b.bounds) × BoundsSound (seen b.bounds) };
+}
+
+impl Domain for Boxes {
+    type Head = Boxes;
+
+    ghost meaning = { box_meaning };
+
+    ghost use Rattle.lra_box.specs.Covering.{has_wider};
+
+    ghost covered_stores = { λ a b w s h. has_wider a.bounds b.bounds s w h };
+
+    ghost head_covered_stores = { λ a b w s h. has_wider a.bounds b.bounds s w h };
+
+    fn universe(alloc: Global, n: usize, _cap: u32) -> Result<Self, AllocError> {
+        Ok(Boxes {
+            alloc,
+            dims: n,
+            bounds: universe(alloc, n)?,
+        })
+    }
+
+    fn empty(alloc: Global, n: usize, _cap: u32) -> Result<Self, AllocError> {
+        Ok(Boxes {
+            alloc,
+            dims: n,
+            bounds: None,
+        })
+    }
+
+    fn copy(&self, alloc: Global) -> Result<Self, AllocError> {
+        Ok(Boxes {
+            alloc,
+            dims: self.dims,
+            bounds: copy_bounds(alloc, &self.bounds)?,
+        })
+    }
+
+    fn dims(&self) -> usize {
+        self.dims
+    }
+
+    fn is_empty(&self) -> bool {
+        self.bounds.is_none()
+    }
+
+    fn included(&self, other: &Self) -> Included {
+        if is_within(&self.bounds, &other.bounds) {
+            Included::Yes
+        } else {
+            Included::No
+        }
+    }
+
+    fn same(&self, other: &Self) -> bool {
+        self.dims == other.dims && is_same(&self.bounds, &other.bounds)
+    }
+
+    fn assign(&mut self, x: usize, e: &LinExpr) -> Result<Exactness, AllocError> {
+        let row = wide_row(self.alloc, e)?;
+        Ok(assign_in(&mut self.bounds, x, e.constant() as i128, row.as_slice()))
+    }
+
+    fn forget(&mut self, x: usize) -> Result<Exactness, AllocError> {
+        forget_in(&mut self.bounds, x);
+        Ok(Exactness::Exact)
+    }
+
+    fn test(&mut self, t: &Test) -> Result<Exactness, AllocError> {
+        let exactness = test_in(self.alloc, &mut self.bounds, t)?;
+        Ok(exactness)
+    }
+
+    fn join(&mut self, other: &Self) -> Result<Exactness, AllocError> {
+        let joined = join_bounds(self.alloc, &self.bounds, &other.bounds)?;
+        self.bounds = joined;
+        Ok(Exactness::Exact)
+    }
+
+    fn embed(&mut self, k: usize) -> Result<Exactness, AllocError> {
+        embed_in(&mut self.bounds, k)?;
+        self.dims += k;
+        Ok(Exactness::Exact)
+    }
+
+    fn remove_last(&mut self, k: usize) -> Result<Exactness, AllocError> {
+        self.dims -= k;
+        truncate_in(&mut self.bounds, self.dims);
+        Ok(Exactness::Exact)
+    }
+
+    fn parts(&self, alloc: Global) -> Result<Vec<ConSys>, AllocError> {
+        let mut parts = Vec::new(alloc);
+        if let Some(intervals) = &self.bounds {
+            parts.push(system_of(alloc, intervals.as_slice())?)?;
+        }
+        Ok(parts)
+    }
+
+    fn start(alloc: Global, first: &Self, _given: &ConSys) -> Result<Boxes, AllocError> {
+        Ok(Boxes {
+            alloc,
+            dims: first.dims,
+            bounds: copy_bounds(alloc, &first.bounds)?,
+        })
+    }
+
+    fn grow(head: &mut Boxes, next: &Self, mode: Mode) -> Result<Grown, AllocError> {
+        if is_within(&next.bounds, &head.bounds) {
+            return Ok(Grown::Stable);
+        }
+        let grown = grow_bounds(head.alloc, &head.bounds, &next.bounds, mode)?;
+        head.bounds = grown;
+        Ok(Grown::Grew(Exactness::Exact))
+    }
+
+    fn value(alloc: Global, head: &Boxes) -> Result<(Self, Exactness), AllocError> {
+        let value = Boxes {
+            alloc,
+            dims: head.dims,
+            bounds: copy_bounds(alloc, &head.bounds)?,
+        };
+        Ok((value, Exactness::Exact))
+    }
+
+    fn rank(head: &Boxes) -> Rank {
+        rank_of(head.dims, &head.bounds)
+    }
+}
+
+impl Plain for Boxes {
+    ghost first_is_one = { λ h. refl };
+}

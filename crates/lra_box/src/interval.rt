@@ -1,0 +1,148 @@
+//! Intervals of whole numbers, and the tables of single bounds.
+
+ghost use Rattle.std.specs.Prelude.{◌≡◌, ◌↔◌, IsTrue, IfSome};
+ghost use Rattle.lra_linear.specs.Range.{InRange};
+ghost use Rattle.lra_box.specs.Bounds.{crossed, EndsInRange};
+ghost use Rattle.lra_box.specs.Refine.{raised, lowered, tightened};
+ghost use Rattle.lra_box.specs.Tables.{lesser_low, greater_high, widened_low, widened_high, LowWithin, HighWithin, finite};
+
+/// The whole numbers from `low` to `high`; an end without a bound is open.
+#[derive(Clone, Copy, Debug, PartialEq, Eq)]
+pub struct Interval {
+    pub low: Option<i128>,
+    pub high: Option<i128>,
+}
+
+/// An end of an interval.
+#[derive(Clone, Copy, Debug, PartialEq, Eq)]
+pub enum Side {
+    Low,
+    High,
+}
+
+impl Interval {
+    /// The interval of all numbers.
+    pub(crate) const OPEN: Interval = Interval {
+        low: None,
+        high: None,
+    };
+}
+
+pub(crate) fn join_lows(a: Option<i128>, b: Option<i128>) -> Option<i128>
+    ensures { result ≡ lesser_low a b }
+{
+    match (a, b) {
+        (Some(a), Some(b)) => Some(a.min(b)),
+        _ => None,
+    }
+}
+
+pub(crate) fn join_highs(a: Option<i128>, b: Option<i128>) -> Option<i128>
+    ensures { result ≡ greater_high a b }
+{
+    match (a, b) {
+        (Some(a), Some(b)) => Some(a.max(b)),
+        _ => None,
+    }
+}
+
+pub(crate) fn widen_lows(a: Option<i128>, b: Option<i128>) -> Option<i128>
+    ensures { result ≡ widened_low a b }
+{
+    match (a, b) {
+        (Some(a), Some(b)) => { if b < a { None } else { Some(a) } }
+        _ => None,
+    }
+}
+
+pub(crate) fn widen_highs(a: Option<i128>, b: Option<i128>) -> Option<i128>
+    ensures { result ≡ widened_high a b }
+{
+    match (a, b) {
+        (Some(a), Some(b)) => { if a < b { None } else { Some(a) } }
+        _ => None,
+    }
+}
+
+pub(crate) fn low_within(a: Option<i128>, b: Option<i128>) -> bool
+    ensures { IsTrue result ↔ LowWithin a b }
+{
+    match (a, b) {
+        (_, None) => true,
+        (None, Some(_)) => false,
+        (Some(a), Some(b)) => b <= a,
+    }
+}
+
+pub(crate) fn high_within(a: Option<i128>, b: Option<i128>) -> bool
+    ensures { IsTrue result ↔ HighWithin a b }
+{
+    match (a, b) {
+        (_, None) => true,
+        (None, Some(_)) => false,
+        (Some(a), Some(b)) => a <= b,
+    }
+}
+
+pub(crate) fn count_bound(bound: Option<i128>) -> u64
+    ensures { result ≡ finite bound }
+{
+    match bound {
+        None => 0,
+        Some(_) => 1,
+    }
+}
+
+fn raise(bound: Option<i128>, least: i128) -> i128
+    ensures { result ≡ raised bound least }
+{
+    match bound {
+        None => least,
+        Some(b) => b.max(least),
+    }
+}
+
+fn lower(bound: Option<i128>, most: i128) -> i128
+    ensures { result ≡ lowered bound most }
+{
+    match bound {
+        None => most,
+        Some(b) => b.min(most),
+    }
+}
+
+/// The numbers `x` of the interval for which `c * x + most` is not negative.
+pub(crate) fn tighten(c: i128, most: Option<i128>, interval: Interval) -> Interval
+    requires factor { InRange c }
+    requires most { IfSome most InRange }
+    requires ends { EndsInRange interval }
+    ensures value { result ≡ tightened c most interval }
+    ensures range { EndsInRange result }
+{
+    let Some(m) = most else {
+        return interval;
+    };
+    if c > 0 {
+        Interval {
+            low: Some(raise(interval.low, -m.div_euclid(c))),
+            high: interval.high,
+        }
+    } else if c < 0 {
+        Interval {
+            low: interval.low,
+            high: Some(lower(interval.high, m.div_euclid(-c))),
+        }
+    } else {
+        interval
+    }
+}
+
+/// Whether the lower bound is above the upper one.
+pub(crate) fn is_crossed(interval: Interval) -> bool
+    ensures { result ≡ crossed interval }
+{
+    match (interval.low, interval.high) {
+        (Some(low), Some(high)) => high < low,
+        _ => false,
+    }
+}
