@@ -31,7 +31,6 @@ pub record Meaning (V H : Type 0) : Type 1 where
   -- the first is included in the second; when the answer may be Wide
   pub inside : V → V → Type 0
   pub inside_strains : V → V → Type 0
-
   -- the list is a store of the head
   pub head_has : H → List ℤ → Type 0
   pub head_dims : H → ℕ
