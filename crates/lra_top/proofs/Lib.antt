@@ -17,3 +17,4 @@ pub mod FormLexemes
 pub mod Joined
 pub mod OneSource
 pub mod FirstFormExamples
+pub mod OneText

@@ -1,5 +1,5 @@
 -- From what a source deserves to what a call of `run` does.
-use Rattle.std.proofs.Common.{◌≡◌, ◌≤◌, ◌<◌, ◌+◌, ◌-◌, ℕ, List, [], ◌++◌, length, take, drop, inl, inr, refl, sym, arith, append_assoc, append-nil, subst}
+use Rattle.std.proofs.Common.{◌∙◌, ◌≡◌, ◌≤◌, ◌<◌, ◌+◌, ◌-◌, ℕ, List, [], ◌++◌, length, take, drop, inl, inr, refl, sym, arith, append_assoc, append-nil, subst}
 use Rattle.std.specs.Prelude.{Option, Some, None}
 use Rattle.std.specs.Io.KnownBytes.{Consumes, IsAtEnd}
 use Rattle.std.proofs.lemmas.Grind.{common_steps}
@@ -9,7 +9,7 @@ use Rattle.lra_tree.specs.ReportText.{report_text, unknown_count}
 use Rattle.lra_top.specs.FirstForm.{Form, IsSource, place_after, first_place}
 use Rattle.lra_top.specs.Answer.{limit, usage_text, too_long_text, syntax_text, IsTooLong, IsWithinLimit, IsFirstForm, RefusesLength, IsReport}
 use Rattle.lra_top.specs.Words.{IsAnalyseBox}
-use Rattle.lra_top.specs.Run.{IsInput, Deserves, IsDeserved, EndsInUsage, EndsInRefusal, EndsInReport, IsReportOrMemory, HasRoom}
+use Rattle.lra_top.specs.Run.{IsInput, Deserves, IsDeserved, EndsInUsage, EndsInRefusal, EndsInReport, IsReportOrMemory}
 use Rattle.lra_top.specs.Prepared.{DeservesSource, IsSourceText}
 use Rattle.lra_top.specs.Views.{form_of, places_of}
 use Rattle.lra_top.specs.Shown.{tree_report, IsReportStatus, ReportsTree}
@@ -17,6 +17,7 @@ use Rattle.lra_top.specs.declared.tree.SourceTree.{SourceTree}
 use Rattle.lra_top.specs.declared.status.Status.{Status}
 use Rattle.lra_top.specs.declared.status.Status.TheVariants.{Proved, Unknown, Refused, Usage, ReadFault, WriteFault, Memory}
 use Rattle.lra_top.proofs.SoundReport.{reports}
+use Rattle.lra_top.proofs.OneText.{one_text}
 
 -- the bytes of a source ----------------------------------------------------------
 
@@ -133,6 +134,8 @@ deserved_usage words left text status other written s =
     let (bytes, input) = some_input left in
     rw s (record { bytes = bytes; input = input; deserved = (other, written) })
 
+pub ruleset preparing = (deserved_taken, deserved_usage)
+
 -- what is deserved decides the status -----------------------------------------------
 
 usage_of : (words : List (List ℕ)) (bytes text : List ℕ) (status : Status) → Deserves words bytes text status → (IsAnalyseBox words → ⊥) → EndsInUsage status
@@ -192,8 +195,6 @@ source_status words left text status told d taken tells within form =
     let same : told ≡ d.bytes = the_input left d.bytes told d.input tells in
     report_of words d.bytes text status d.deserved taken (rw (← same) within) (rw (← same) form)
 
-pub ruleset preparing = (deserved_taken, deserved_usage)
-
 complete_of : (words : List (List ℕ)) (bytes text : List ℕ) (status : Status) → Deserves words bytes text status → EndsInReport status → IsReportOrMemory status
 complete_of words bytes text Proved d ends = tt
 complete_of words bytes text Unknown d ends = tt
@@ -208,9 +209,14 @@ pub complete_status : (words : List (List ℕ)) (left : Option (List ℕ)) (text
 complete_status words left text status told d taken tells within form =
     complete_of words d.bytes text status d.deserved (source_status words left text status told d taken tells within form)
 
--- a text longer than the room has no room
-pub no_room : (words : List (List ℕ)) (left : Option (List ℕ)) (text : List ℕ) (status : Status) (spare : ℕ)
-    → IsDeserved words left text status → spare < length text → HasRoom words left spare → ⊥
-no_room words left text status spare d longer room = let fits : length text ≤ spare = room text status d in omega arith
+-- a text that the sink was sure to take is not longer than that
+pub no_room : (words : List (List ℕ)) (left : Option (List ℕ)) (text other : List ℕ) (a b : Status) (spare : ℕ) (told : List ℕ)
+    → IsDeserved words left text a → spare < length text → IsDeserved words left other b → length other ≤ spare → left ≡ Some told → ⊥
+no_room words left text other a b spare told d longer e fits tells =
+    let same : e.bytes ≡ d.bytes = sym (the_input left e.bytes told e.input tells) ∙ the_input left d.bytes told d.input tells in
+    let here : Deserves words d.bytes other b = subst (λ bytes. Deserves words bytes other b) same e.deserved in
+    let texts : text ≡ other = one_text words d.bytes text other a b d.deserved here in
+    let short : length text ≤ spare = rw texts fits in
+    omega arith
 
-pub ruleset ending = (untaken_status, too_long_status, other_status, source_status, complete_status, no_room)
+pub ruleset ending = (untaken_status, too_long_status, other_status, source_status, complete_status)

@@ -1,5 +1,5 @@
 -- What a call of `run` does, by its status.
-use Rattle.std.specs.Prelude.{◌≡◌, ◌≤◌, ◌<◌, ◌⊎◌, ◌+◌, ℕ, List, length, Option, Some, None}
+use Rattle.std.specs.Prelude.{◌≡◌, ◌<◌, ◌⊎◌, ◌+◌, ℕ, List, length, Option, Some, None}
 use Rattle.std.specs.Io.KnownBytes.{Appends, Consumes, IsAtEnd}
 use Rattle.lra_edge.specs.Causes.{AppendsPart}
 use Rattle.lra_top.specs.Words.{IsAnalyseBox}
@@ -41,10 +41,6 @@ pub record WritesPart (words : List (List ℕ)) (left held_old held_new : Option
   pub deserved : IsDeserved words left text status
   pub written : AppendsPart held_old held_new text
   pub longer : spare < length text
-
--- each text that may be deserved has at most so many bytes
-abbrev pub HasRoom : List (List ℕ) → Option (List ℕ) → ℕ → Type 0
-HasRoom words left room = (text : List ℕ) (status : Status) → IsDeserved words left text status → length text ≤ room
 
 -- the input is read to its end, or one byte past the limit
 pub record ReadsInput (old new : Option (List ℕ)) : Type 0 where

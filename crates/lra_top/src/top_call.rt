@@ -7,7 +7,7 @@ ghost use Rattle.lra_tree.specs.ReportText.{unknown_count};
 ghost use Rattle.lra_top.specs.FirstForm.{Form, IsSource, place_after, first_place};
 ghost use Rattle.lra_top.specs.Answer.{usage_text, too_long_text, syntax_text, IsTooLong, IsWithinLimit, IsFirstForm};
 ghost use Rattle.lra_top.specs.Words.{IsAnalyseBox};
-ghost use Rattle.lra_top.specs.Run.{IsDeserved, Writes, WritesPart, HasRoom, ReadsInput, EndsInUsage, EndsInRefusal, EndsInReport, IsReportOrMemory};
+ghost use Rattle.lra_top.specs.Run.{IsDeserved, Writes, WritesPart, ReadsInput, EndsInUsage, EndsInRefusal, EndsInReport, IsReportOrMemory};
 ghost use Rattle.lra_top.specs.Views.{place_of};
 ghost use Rattle.lra_top.specs.Shown.{verdict_of, IsReportStatus, ReportsTree};
 ghost use Rattle.lra_top.specs.Prepared.{DeservesSource, IsSourceText, PrepareCause};
@@ -204,7 +204,7 @@ pub fn run<S: Source, K: Sink>(
 
     // A source of the form gets its report where nothing fails; a sink that surely takes the text doesn't fail.
     ensures complete { IsAnalyseBox (map string_bytes words.now) → (bytes : List ℕ) → S.left source.old ≡ Some bytes → IsWithinLimit bytes → IsFirstForm bytes → (Rose (S.faults source.old) (S.faults source.new) → ⊥) → (Rose (K.faults sink.old) (K.faults sink.new) → ⊥) → IsReportOrMemory result }
-    ensures room { HasRoom (map string_bytes words.now) (S.left source.old) (K.spare sink.old) → result ≢ Status.WriteFault }
+    ensures room { (bytes text : List ℕ) (status : _) → S.left source.old ≡ Some bytes → IsDeserved (map string_bytes words.now) (S.left source.old) text status → length text ≤ K.spare sink.old → result ≢ Status.WriteFault }
 {
     let answer = match prepare(alloc, words, source) {
         Ok(answer) => answer,
