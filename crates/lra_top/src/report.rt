@@ -28,7 +28,8 @@ impl fmt::Display for Place {
 
 /// Appends the lines of a state.
 fn push_state(text: &mut String, name: &str, state: State) -> Result<(), AllocError>
-    ensures { OnOk result (string_bytes text.new ≡ string_bytes text.old ++ state_text (name.now ∷ []) (printed state)) }
+    ensures { OnOk result (
+        string_bytes text.new ≡ string_bytes text.old ++ state_text (name.now ∷ []) (printed state)) }
 {
     match state {
         State::Unreachable => writeln!(text, "  unreachable"),
@@ -67,7 +68,8 @@ fn push_state(text: &mut String, name: &str, state: State) -> Result<(), AllocEr
 
 /// Appends the lines of a point.
 fn push_point(text: &mut String, name: &str, entry: PointEntry) -> Result<(), AllocError>
-    ensures { OnOk result (string_bytes text.new ≡ string_bytes text.old ++ point_text (point_of name.now entry)) }
+    ensures { OnOk result (
+        string_bytes text.new ≡ string_bytes text.old ++ point_text (point_of name.now entry)) }
 {
     let number = entry.number;
     let place = entry.place;
@@ -77,7 +79,8 @@ fn push_point(text: &mut String, name: &str, entry: PointEntry) -> Result<(), Al
 
 /// Appends the line of an assertion.
 fn push_verdict(text: &mut String, verdict: VerdictEntry) -> Result<(), AllocError>
-    ensures { OnOk result (string_bytes text.new ≡ string_bytes text.old ++ verdict_text (verdict_of verdict)) }
+    ensures { OnOk result (
+        string_bytes text.new ≡ string_bytes text.old ++ verdict_text (verdict_of verdict)) }
 {
     let number = verdict.number;
     let place = verdict.place;
@@ -90,7 +93,8 @@ fn push_verdict(text: &mut String, verdict: VerdictEntry) -> Result<(), AllocErr
 
 /// Appends the lines of the points behind the declarator's.
 fn push_points(text: &mut String, name: &str, entries: &[PointEntry]) -> Result<(), AllocError>
-    ensures { OnOk result (string_bytes text.new ≡ string_bytes text.old ++ flat_map point_text (map (point_of name.now) entries.now)) }
+    ensures { OnOk result (
+        string_bytes text.new ≡ string_bytes text.old ++ flat_map point_text (map (point_of name.now) entries.now)) }
 {
     for entry in entries {
         push_point(text, name, *entry)?;
@@ -100,7 +104,8 @@ fn push_points(text: &mut String, name: &str, entries: &[PointEntry]) -> Result<
 
 /// Appends the lines of the assertions.
 fn push_verdicts(text: &mut String, verdicts: &[VerdictEntry]) -> Result<(), AllocError>
-    ensures { OnOk result (string_bytes text.new ≡ string_bytes text.old ++ flat_map verdict_text (map verdict_of verdicts.now)) }
+    ensures { OnOk result (
+        string_bytes text.new ≡ string_bytes text.old ++ flat_map verdict_text (map verdict_of verdicts.now)) }
 {
     for verdict in verdicts {
         push_verdict(text, *verdict)?;
@@ -110,7 +115,8 @@ fn push_verdicts(text: &mut String, verdicts: &[VerdictEntry]) -> Result<(), All
 
 /// Appends the line of the options: boxes, so many parts, this delay, so many narrowings, not limited.
 fn push_options(text: &mut String, parts: u32, delay: u32, narrow: u32) -> Result<(), AllocError>
-    ensures { OnOk result (string_bytes text.new ≡ string_bytes text.old ++ options_text (box_with parts delay narrow)) }
+    ensures { OnOk result (
+        string_bytes text.new ≡ string_bytes text.old ++ options_text (box_with parts delay narrow)) }
 {
     writeln!(
         text,
@@ -120,7 +126,8 @@ fn push_options(text: &mut String, parts: u32, delay: u32, narrow: u32) -> Resul
 
 /// Appends the lines before the points.
 fn push_head(text: &mut String) -> Result<(), AllocError>
-    ensures { OnOk result (string_bytes text.new ≡ string_bytes text.old ++ head_text) }
+    ensures { OnOk result (
+        string_bytes text.new ≡ string_bytes text.old ++ head_text) }
 {
     push_options(text, 1, 1, 1)?;
     writeln!(text, "flagged 0")
@@ -128,7 +135,8 @@ fn push_head(text: &mut String) -> Result<(), AllocError>
 
 /// Appends the lines of the declarator's point.
 fn push_first(text: &mut String, declared: Place) -> Result<(), AllocError>
-    ensures { OnOk result (string_bytes text.new ≡ string_bytes text.old ++ point_text (first_point declared)) }
+    ensures { OnOk result (
+        string_bytes text.new ≡ string_bytes text.old ++ point_text (first_point declared)) }
 {
     let number = 1u32;
     writeln!(text, "point {number} main {declared}\n  row true")
@@ -150,7 +158,8 @@ pub fn unknown_count_of(verdicts: &[VerdictEntry]) -> usize
 
 /// Appends the last line.
 fn push_counts(text: &mut String, verdicts: &[VerdictEntry]) -> Result<(), AllocError>
-    ensures { OnOk result (string_bytes text.new ≡ string_bytes text.old ++ counts_text verdicts.now) }
+    ensures { OnOk result (
+        string_bytes text.new ≡ string_bytes text.old ++ counts_text verdicts.now) }
 {
     let proved = proved_count_of(verdicts);
     let unknown = unknown_count_of(verdicts);
@@ -164,7 +173,8 @@ pub fn write_report(
     declared: Place,
     analysis: &Analysis,
 ) -> Result<String, AllocError>
-    ensures { IfOk result (λ text. string_bytes text ≡ report_text (report_of name.now declared analysis.now.entries.items analysis.now.verdicts.items)) }
+    ensures { IfOk result (λ text.
+        string_bytes text ≡ report_text (report_of name.now declared analysis.now.entries.items analysis.now.verdicts.items)) }
 {
     let mut text = String::new(alloc);
     push_head(&mut text)?;

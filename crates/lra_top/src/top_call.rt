@@ -110,7 +110,8 @@ fn last_place(bytes: &[u8]) -> Place
 fn refuse_too_long(alloc: Global, bytes: &[u8]) -> Result<Answer, AllocError>
     requires some { 0 < length bytes.now }
     requires bound { length bytes.now < 2 ^ 62 }
-    ensures text { IfOk result (λ a. string_bytes a.text ≡ too_long_text (place_after (take (length bytes.now - 1) bytes.now) first_place)) }
+    ensures text { IfOk result (λ a.
+        string_bytes a.text ≡ too_long_text (place_after (take (length bytes.now - 1) bytes.now) first_place)) }
     ensures status { IfOk result (λ a. a.status ≡ Status.Refused) }
 {
     let place = last_place(bytes);
@@ -150,8 +151,10 @@ fn prepare_source<S: Source>(alloc: Global, source: &mut S) -> Result<Answer, No
 /// Everything but the writing.
 #[tactic(auto, using(crate::proofs::Ways::preparing))]
 fn prepare<S: Source>(alloc: Global, words: &[String], source: &mut S) -> Result<Answer, NoAnswer>
-    ensures deserved { IfOk result (λ a. IsDeserved (map string_bytes words.now) (S.left source.old) (string_bytes a.text) a.status) }
-    ensures reads { IfOk result (λ _. IsAnalyseBox (map string_bytes words.now) → ReadsInput (S.left source.old) (S.left source.new)) }
+    ensures deserved { IfOk result (λ a.
+        IsDeserved (map string_bytes words.now) (S.left source.old) (string_bytes a.text) a.status) }
+    ensures reads { IfOk result (λ _.
+        IsAnalyseBox (map string_bytes words.now) → ReadsInput (S.left source.old) (S.left source.new)) }
     ensures cause { PrepareCause (S.faults source.old) (S.faults source.new) result }
     ensures unread { (IsAnalyseBox (map string_bytes words.now) → ⊥) → S.left source.new ≡ S.left source.old }
     ensures untouched { (IsAnalyseBox (map string_bytes words.now) → ⊥) → S.faults source.new ≡ S.faults source.old }
@@ -175,12 +178,16 @@ pub fn run<S: Source, K: Sink>(
     sink: &mut K,
 ) -> Status
     // What is written, by status: the text that the words and the source's bytes deserve, whole.
-    ensures proved { result ≡ Status.Proved → Writes (map string_bytes words.now) (S.left source.old) (K.held sink.old) (K.held sink.new) Status.Proved }
-    ensures unknown { result ≡ Status.Unknown → Writes (map string_bytes words.now) (S.left source.old) (K.held sink.old) (K.held sink.new) Status.Unknown }
-    ensures refused { result ≡ Status.Refused → Writes (map string_bytes words.now) (S.left source.old) (K.held sink.old) (K.held sink.new) Status.Refused }
+    ensures proved { result ≡ Status.Proved →
+        Writes (map string_bytes words.now) (S.left source.old) (K.held sink.old) (K.held sink.new) Status.Proved }
+    ensures unknown { result ≡ Status.Unknown →
+        Writes (map string_bytes words.now) (S.left source.old) (K.held sink.old) (K.held sink.new) Status.Unknown }
+    ensures refused { result ≡ Status.Refused →
+        Writes (map string_bytes words.now) (S.left source.old) (K.held sink.old) (K.held sink.new) Status.Refused }
     ensures usage_text { result ≡ Status.Usage → Appends (K.held sink.old) (K.held sink.new) usage_text }
-    // A front of it, and not all of it; or nothing.
-    ensures part { result ≡ Status.WriteFault → WritesPart (map string_bytes words.now) (S.left source.old) (K.held sink.old) (K.held sink.new) (K.spare sink.old) }
+    // Or a front of it, and not all of it; or nothing.
+    ensures part { result ≡ Status.WriteFault →
+        WritesPart (map string_bytes words.now) (S.left source.old) (K.held sink.old) (K.held sink.new) (K.spare sink.old) }
     ensures nothing_read { result ≡ Status.ReadFault → Keeps (K.held sink.old) (K.held sink.new) }
     ensures nothing_stored { result ≡ Status.Memory → Keeps (K.held sink.old) (K.held sink.new) }
 
@@ -191,10 +198,14 @@ pub fn run<S: Source, K: Sink>(
     ensures untouched { (IsAnalyseBox (map string_bytes words.now) → ⊥) → S.faults source.new ≡ S.faults source.old }
 
     // Refused: exactly where the source is too long or isn't of the first form. A source of the form gets its report.
-    ensures too_long { IsAnalyseBox (map string_bytes words.now) → (bytes : List ℕ) → S.left source.old ≡ Some bytes → IsTooLong bytes → EndsInRefusal result }
-    ensures other { IsAnalyseBox (map string_bytes words.now) → (bytes : List ℕ) → S.left source.old ≡ Some bytes → (IsFirstForm bytes → ⊥) → EndsInRefusal result }
-    ensures accepted { IsAnalyseBox (map string_bytes words.now) → (bytes : List ℕ) → S.left source.old ≡ Some bytes → IsWithinLimit bytes → IsFirstForm bytes → EndsInReport result }
-    ensures reads { result ≢ Status.ReadFault → result ≢ Status.Memory → IsAnalyseBox (map string_bytes words.now) → ReadsInput (S.left source.old) (S.left source.new) }
+    ensures too_long { IsAnalyseBox (map string_bytes words.now) →
+        (bytes : List ℕ) → S.left source.old ≡ Some bytes → IsTooLong bytes → EndsInRefusal result }
+    ensures other { IsAnalyseBox (map string_bytes words.now) →
+        (bytes : List ℕ) → S.left source.old ≡ Some bytes → (IsFirstForm bytes → ⊥) → EndsInRefusal result }
+    ensures accepted { IsAnalyseBox (map string_bytes words.now) →
+        (bytes : List ℕ) → S.left source.old ≡ Some bytes → IsWithinLimit bytes → IsFirstForm bytes → EndsInReport result }
+    ensures reads { result ≢ Status.ReadFault → result ≢ Status.Memory → IsAnalyseBox (map string_bytes words.now) →
+        ReadsInput (S.left source.old) (S.left source.new) }
 
     // A fault is the answer only where its count rose, and every other answer leaves the counts.
     ensures read_fault { result ≡ Status.ReadFault → Rose (S.faults source.old) (S.faults source.new) }
@@ -203,8 +214,13 @@ pub fn run<S: Source, K: Sink>(
     ensures no_write_fault { result ≢ Status.WriteFault → K.faults sink.new ≡ K.faults sink.old }
 
     // A source of the form gets its report where nothing fails; a sink that surely takes the text doesn't fail.
-    ensures complete { IsAnalyseBox (map string_bytes words.now) → (bytes : List ℕ) → S.left source.old ≡ Some bytes → IsWithinLimit bytes → IsFirstForm bytes → (Rose (S.faults source.old) (S.faults source.new) → ⊥) → (Rose (K.faults sink.old) (K.faults sink.new) → ⊥) → IsReportOrMemory result }
-    ensures room { (bytes text : List ℕ) (status : _) → S.left source.old ≡ Some bytes → IsDeserved (map string_bytes words.now) (S.left source.old) text status → length text ≤ K.spare sink.old → result ≢ Status.WriteFault }
+    ensures complete { IsAnalyseBox (map string_bytes words.now) →
+        (bytes : List ℕ) → S.left source.old ≡ Some bytes → IsWithinLimit bytes → IsFirstForm bytes →
+        (Rose (S.faults source.old) (S.faults source.new) → ⊥) → (Rose (K.faults sink.old) (K.faults sink.new) → ⊥) →
+        IsReportOrMemory result }
+    ensures room { (bytes text : List ℕ) (status : _) → S.left source.old ≡ Some bytes →
+        IsDeserved (map string_bytes words.now) (S.left source.old) text status → length text ≤ K.spare sink.old →
+        result ≢ Status.WriteFault }
 {
     let answer = match prepare(alloc, words, source) {
         Ok(answer) => answer,
