@@ -83,10 +83,13 @@ duplicate_name : name_faults (main_of (declaration (declared_as (x_at 22) None) 
 duplicate_name = refl
 
 -- void f(void){} int main(void){ f(1); }
-bad_call : name_faults (record {
+abbrev pub calls_with_one : FileTree
+calls_with_one = record {
   parts = function (void_of (codes "f") 6 [] no_items 14) ∷ function (function_of (codes "main") 20 [] (statement (call (call_of (name_at (codes "f") 32) (number 1 ∷ []))) no_items) 38) ∷ [];
   end = at 39;
-}) ≡ fault BadCall 32 ∷ []
+}
+
+bad_call : name_faults calls_with_one ≡ fault BadCall 32 ∷ []
 bad_call = refl
 
 -- void f(void){ return 1; } int main(void){ long x=f(); } : the value of a void function, given and used
@@ -132,14 +135,14 @@ later : name_faults (record {
 later = refl
 
 -- void f(void){ f(); } int main(void){}
-abbrev itself : FileTree
+abbrev pub itself : FileTree
 itself = record {
   parts = function (void_of (codes "f") 6 [] (statement (call (call_of (name_at (codes "f") 15) [])) no_items) 20) ∷ function (function_of (codes "main") 26 [] no_items 37) ∷ [];
   end = at 38;
 }
 
-recursive : IsFirstRecursive itself (at 15)
-recursive = ([], [], (codes "f", name_at (codes "f") 15), refl, refl, there, tt)
+pub is_recursive : IsFirstRecursive itself (at 15)
+is_recursive = ([], [], (codes "f", name_at (codes "f") 15), refl, refl, there, tt)
 
 -- int main(void){ main(); } : catches calls of main that are left out
 main_itself : IsFirstRecursive (main_of (statement (call (call_of (name_at (codes "main") 17) [])) no_items) 25) (at 17)

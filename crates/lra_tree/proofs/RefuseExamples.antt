@@ -3,7 +3,7 @@ use Rattle.std.proofs.Common.{◌≡◌, ℕ, zero, suc, ◌+◌, List, [], ◌�
 use Rattle.std.specs.Prelude.{codes, get_or, ◌≤◌}
 use Rattle.std.specs.Fmt.{digits}
 use Rattle.lra_tree.specs.declared.refusals.Refusal.{Refusal}
-use Rattle.lra_tree.specs.declared.refusals.Cause.TheVariants.{TooLong, BadByte, Syntax, NoMain, TooManyVariables, TooManyPoints, UnknownName, DuplicateName, Misplaced}
+use Rattle.lra_tree.specs.declared.refusals.Cause.TheVariants.{TooLong, BadByte, Syntax, NoMain, TooManyVariables, TooManyPoints, UnknownName, DuplicateName, Misplaced, BadCall, Recursive}
 use Rattle.lra_tree.specs.declared.tokens.Kind.TheVariants.{Name, Number, Mark as MarkOf, Unclosed, End}
 use Rattle.lra_tree.specs.declared.tokens.Mark.TheVariants as mark
 use Rattle.lra_tree.specs.declared.tokens.Token.{Token}
@@ -15,13 +15,14 @@ use Rattle.lra_tree.specs.Trees.{DeclaratorTree, nothing, call, ItemsTree, no_it
 use Rattle.lra_tree.specs.Labels.{labels_of}
 use Rattle.lra_tree.specs.Resolve.{resolve}
 use Rattle.lra_tree.specs.Sites.{events_of}
-use Rattle.lra_tree.specs.Refuse.{greatest_length, limit_fault, Refuse, too_long, bad_token, bad_text, bad_tree, bad_name, Accepts, refusal_text}
+use Rattle.lra_tree.specs.Refuse.{greatest_length, limit_fault, Refuse, too_long, bad_token, bad_text, bad_tree, bad_name, recursive, Accepts, refusal_text}
 use Rattle.lra_tree.specs.Texts.{Piece}
 use Rattle.lra_tree.specs.Faults.{IsTree}
 use Rattle.std.proofs.lemmas.List.{take-replicate, length-replicate, length-append}
 use Rattle.lra_tree.proofs.LongestByTest.{no_gap, as_token, no_lexeme, is_open}
 use Rattle.lra_tree.proofs.FirstTokens.{not_unclosed}
 use Rattle.lra_tree.proofs.LowByTest.{low_by}
+use Rattle.lra_tree.proofs.NameExamples.{calls_with_one, itself, is_recursive}
 use Rattle.lra_tree.proofs.TreeSamples.{at, name_at, call_of, function_of, void_of, main_of, x_at, declared_as, number as number_of}
 
 abbrev limits : FileTree → Option Refusal
@@ -407,6 +408,185 @@ duplicate_name_refused = bad_tree duplicate_name_tokens (main_of (declaration (d
   low_by (piece (MarkOf mark.Int) 1 0 ∷ piece (Name (codes "main")) 5 0 ∷ piece (MarkOf mark.OpenParen) 9 0 ∷ piece (MarkOf mark.Void) 10 0 ∷ piece (MarkOf mark.CloseParen) 14 0 ∷ piece (MarkOf mark.OpenBrace) 15 1 ∷ piece (MarkOf mark.Long) 17 0 ∷ piece (Name (codes "x")) 22 0 ∷ piece (MarkOf mark.Semicolon) 23 0 ∷ piece (MarkOf mark.Long) 25 0 ∷ piece (Name (codes "x")) 30 0 ∷ piece (MarkOf mark.Semicolon) 31 0 ∷ piece (MarkOf mark.CloseBrace) 33 0 ∷ piece End 34 0 ∷ []) refl,
 )
     (bad_name (record { cause = DuplicateName; place = at 30 }) [] refl)
+
+-- void f(void){} int main(void){ f(1); }
+abbrev bad_call_tokens : List Token
+bad_call_tokens = token_at (MarkOf mark.Void) 1 ∷ token_at (Name (codes "f")) 6 ∷ token_at (MarkOf mark.OpenParen) 7 ∷ token_at (MarkOf mark.Void) 8 ∷ token_at (MarkOf mark.CloseParen) 12 ∷ token_at (MarkOf mark.OpenBrace) 13 ∷ token_at (MarkOf mark.CloseBrace) 14 ∷ token_at (MarkOf mark.Int) 16 ∷ token_at (Name (codes "main")) 20 ∷ token_at (MarkOf mark.OpenParen) 24 ∷ token_at (MarkOf mark.Void) 25 ∷ token_at (MarkOf mark.CloseParen) 29 ∷ token_at (MarkOf mark.OpenBrace) 30 ∷ token_at (Name (codes "f")) 32 ∷ token_at (MarkOf mark.OpenParen) 33 ∷ token_at (Number 1) 34 ∷ token_at (MarkOf mark.CloseParen) 35 ∷ token_at (MarkOf mark.Semicolon) 36 ∷ token_at (MarkOf mark.CloseBrace) 38 ∷ token_at End 39 ∷ []
+
+bad_call_refused : Refuse (codes "void f(void){} int main(void){ f(1); }") BadCall (at 32)
+unfolding greatest_length
+bad_call_refused = bad_tree bad_call_tokens calls_with_one BadCall (at 32) (omega arith) (
+  token (codes "void") (token_at (MarkOf mark.Void) 1) ∷ gap (codes " ") ∷ token (codes "f") (token_at (Name (codes "f")) 6) ∷ token (codes "(") (token_at (MarkOf mark.OpenParen) 7) ∷ token (codes "void") (token_at (MarkOf mark.Void) 8) ∷ token (codes ")") (token_at (MarkOf mark.CloseParen) 12) ∷ token (codes "{") (token_at (MarkOf mark.OpenBrace) 13) ∷ token (codes "}") (token_at (MarkOf mark.CloseBrace) 14) ∷ gap (codes " ") ∷ token (codes "int") (token_at (MarkOf mark.Int) 16) ∷ gap (codes " ") ∷ token (codes "main") (token_at (Name (codes "main")) 20) ∷ token (codes "(") (token_at (MarkOf mark.OpenParen) 24) ∷ token (codes "void") (token_at (MarkOf mark.Void) 25) ∷ token (codes ")") (token_at (MarkOf mark.CloseParen) 29) ∷ token (codes "{") (token_at (MarkOf mark.OpenBrace) 30) ∷ gap (codes " ") ∷ token (codes "f") (token_at (Name (codes "f")) 32) ∷ token (codes "(") (token_at (MarkOf mark.OpenParen) 33) ∷ token (codes "1") (token_at (Number 1) 34) ∷ token (codes ")") (token_at (MarkOf mark.CloseParen) 35) ∷ token (codes ";") (token_at (MarkOf mark.Semicolon) 36) ∷ gap (codes " ") ∷ token (codes "}") (token_at (MarkOf mark.CloseBrace) 38) ∷ [],
+  refl,
+  (
+    as_token [] (codes "void") (codes " f(void){} int main(void){ f(1); }") (MarkOf mark.Void) (mark_word mark.Void refl) (mark_of mark.Void refl) refl refl refl,
+    (
+      blank 32 refl refl,
+      (
+        as_token (codes "void ") (codes "f") (codes "(void){} int main(void){ f(1); }") (Name (codes "f")) (word refl) (name refl refl refl) refl refl refl,
+        (
+          as_token (codes "void f") (codes "(") (codes "void){} int main(void){ f(1); }") (MarkOf mark.OpenParen) (mark_word mark.OpenParen refl) (mark_of mark.OpenParen refl) refl refl refl,
+          (
+            as_token (codes "void f(") (codes "void") (codes "){} int main(void){ f(1); }") (MarkOf mark.Void) (mark_word mark.Void refl) (mark_of mark.Void refl) refl refl refl,
+            (
+              as_token (codes "void f(void") (codes ")") (codes "{} int main(void){ f(1); }") (MarkOf mark.CloseParen) (mark_word mark.CloseParen refl) (mark_of mark.CloseParen refl) refl refl refl,
+              (
+                as_token (codes "void f(void)") (codes "{") (codes "} int main(void){ f(1); }") (MarkOf mark.OpenBrace) (mark_word mark.OpenBrace refl) (mark_of mark.OpenBrace refl) refl refl refl,
+                (
+                  as_token (codes "void f(void){") (codes "}") (codes " int main(void){ f(1); }") (MarkOf mark.CloseBrace) (mark_word mark.CloseBrace refl) (mark_of mark.CloseBrace refl) refl refl refl,
+                  (
+                    blank 32 refl refl,
+                    (
+                      as_token (codes "void f(void){} ") (codes "int") (codes " main(void){ f(1); }") (MarkOf mark.Int) (mark_word mark.Int refl) (mark_of mark.Int refl) refl refl refl,
+                      (
+                        blank 32 refl refl,
+                        (
+                          as_token (codes "void f(void){} int ") (codes "main") (codes "(void){ f(1); }") (Name (codes "main")) (word refl) (name refl refl refl) refl refl refl,
+                          (
+                            as_token (codes "void f(void){} int main") (codes "(") (codes "void){ f(1); }") (MarkOf mark.OpenParen) (mark_word mark.OpenParen refl) (mark_of mark.OpenParen refl) refl refl refl,
+                            (
+                              as_token (codes "void f(void){} int main(") (codes "void") (codes "){ f(1); }") (MarkOf mark.Void) (mark_word mark.Void refl) (mark_of mark.Void refl) refl refl refl,
+                              (
+                                as_token (codes "void f(void){} int main(void") (codes ")") (codes "{ f(1); }") (MarkOf mark.CloseParen) (mark_word mark.CloseParen refl) (mark_of mark.CloseParen refl) refl refl refl,
+                                (
+                                  as_token (codes "void f(void){} int main(void)") (codes "{") (codes " f(1); }") (MarkOf mark.OpenBrace) (mark_word mark.OpenBrace refl) (mark_of mark.OpenBrace refl) refl refl refl,
+                                  (
+                                    blank 32 refl refl,
+                                    (
+                                      as_token (codes "void f(void){} int main(void){ ") (codes "f") (codes "(1); }") (Name (codes "f")) (word refl) (name refl refl refl) refl refl refl,
+                                      (
+                                        as_token (codes "void f(void){} int main(void){ f") (codes "(") (codes "1); }") (MarkOf mark.OpenParen) (mark_word mark.OpenParen refl) (mark_of mark.OpenParen refl) refl refl refl,
+                                        (
+                                          as_token (codes "void f(void){} int main(void){ f(") (codes "1") (codes "); }") (Number 1) (number_word refl) (number 1 refl one_literal (omega arith)) refl refl refl,
+                                          (
+                                            as_token (codes "void f(void){} int main(void){ f(1") (codes ")") (codes "; }") (MarkOf mark.CloseParen) (mark_word mark.CloseParen refl) (mark_of mark.CloseParen refl) refl refl refl,
+                                            (
+                                              as_token (codes "void f(void){} int main(void){ f(1)") (codes ";") (codes " }") (MarkOf mark.Semicolon) (mark_word mark.Semicolon refl) (mark_of mark.Semicolon refl) refl refl refl,
+                                              (
+                                                blank 32 refl refl,
+                                                (
+                                                  as_token (codes "void f(void){} int main(void){ f(1); ") (codes "}") [] (MarkOf mark.CloseBrace) (mark_word mark.CloseBrace refl) (mark_of mark.CloseBrace refl) refl refl refl,
+                                                  tt,
+                                                ),
+                                              ),
+                                            ),
+                                          ),
+                                        ),
+                                      ),
+                                    ),
+                                  ),
+                                ),
+                              ),
+                            ),
+                          ),
+                        ),
+                      ),
+                    ),
+                  ),
+                ),
+              ),
+            ),
+          ),
+        ),
+      ),
+    ),
+  ),
+  refl,
+) (
+  piece (MarkOf mark.Void) 1 0 ∷ piece (Name (codes "f")) 6 0 ∷ piece (MarkOf mark.OpenParen) 7 0 ∷ piece (MarkOf mark.Void) 8 0 ∷ piece (MarkOf mark.CloseParen) 12 0 ∷ piece (MarkOf mark.OpenBrace) 13 1 ∷ piece (MarkOf mark.CloseBrace) 14 0 ∷ piece (MarkOf mark.Int) 16 0 ∷ piece (Name (codes "main")) 20 0 ∷ piece (MarkOf mark.OpenParen) 24 0 ∷ piece (MarkOf mark.Void) 25 0 ∷ piece (MarkOf mark.CloseParen) 29 0 ∷ piece (MarkOf mark.OpenBrace) 30 1 ∷ piece (Name (codes "f")) 32 0 ∷ piece (MarkOf mark.OpenParen) 33 0 ∷ piece (Number 1) 34 0 ∷ piece (MarkOf mark.CloseParen) 35 0 ∷ piece (MarkOf mark.Semicolon) 36 0 ∷ piece (MarkOf mark.CloseBrace) 38 0 ∷ piece End 39 0 ∷ [],
+  (_, _, refl, (_, _, refl, (_, _, refl, (_, _, refl, (at 1, refl), refl), (_, _, refl, (at 7, refl), (_, _, refl, inl (at 8, refl), (_, _, refl, (at 12, refl), (_, _, refl, (at 13, refl), (_, _, refl, refl, refl)))))), (_, _, refl, (_, _, refl, inl (refl, (_, _, refl, (at 16, refl), refl)), (_, _, refl, (at 24, refl), (_, _, refl, inl (at 25, refl), (_, _, refl, (at 29, refl), (_, _, refl, (at 30, refl), (_, _, refl, (_, _, refl, (_, _, refl, (_, _, refl, refl, (_, _, refl, (at 33, refl), (_, _, refl, (_, _, refl, (at 34, refl), refl), (at 35, refl)))), (at 36, refl)), refl), refl)))))), refl)), refl),
+  refl,
+  low_by (piece (MarkOf mark.Void) 1 0 ∷ piece (Name (codes "f")) 6 0 ∷ piece (MarkOf mark.OpenParen) 7 0 ∷ piece (MarkOf mark.Void) 8 0 ∷ piece (MarkOf mark.CloseParen) 12 0 ∷ piece (MarkOf mark.OpenBrace) 13 1 ∷ piece (MarkOf mark.CloseBrace) 14 0 ∷ piece (MarkOf mark.Int) 16 0 ∷ piece (Name (codes "main")) 20 0 ∷ piece (MarkOf mark.OpenParen) 24 0 ∷ piece (MarkOf mark.Void) 25 0 ∷ piece (MarkOf mark.CloseParen) 29 0 ∷ piece (MarkOf mark.OpenBrace) 30 1 ∷ piece (Name (codes "f")) 32 0 ∷ piece (MarkOf mark.OpenParen) 33 0 ∷ piece (Number 1) 34 0 ∷ piece (MarkOf mark.CloseParen) 35 0 ∷ piece (MarkOf mark.Semicolon) 36 0 ∷ piece (MarkOf mark.CloseBrace) 38 0 ∷ piece End 39 0 ∷ []) refl,
+)
+    (bad_name (record { cause = BadCall; place = at 32 }) [] refl)
+
+-- void f(void){ f(); } int main(void){}
+abbrev recursive_tokens : List Token
+recursive_tokens = token_at (MarkOf mark.Void) 1 ∷ token_at (Name (codes "f")) 6 ∷ token_at (MarkOf mark.OpenParen) 7 ∷ token_at (MarkOf mark.Void) 8 ∷ token_at (MarkOf mark.CloseParen) 12 ∷ token_at (MarkOf mark.OpenBrace) 13 ∷ token_at (Name (codes "f")) 15 ∷ token_at (MarkOf mark.OpenParen) 16 ∷ token_at (MarkOf mark.CloseParen) 17 ∷ token_at (MarkOf mark.Semicolon) 18 ∷ token_at (MarkOf mark.CloseBrace) 20 ∷ token_at (MarkOf mark.Int) 22 ∷ token_at (Name (codes "main")) 26 ∷ token_at (MarkOf mark.OpenParen) 30 ∷ token_at (MarkOf mark.Void) 31 ∷ token_at (MarkOf mark.CloseParen) 35 ∷ token_at (MarkOf mark.OpenBrace) 36 ∷ token_at (MarkOf mark.CloseBrace) 37 ∷ token_at End 38 ∷ []
+
+recursive_refused : Refuse (codes "void f(void){ f(); } int main(void){}") Recursive (at 15)
+unfolding greatest_length
+recursive_refused = bad_tree recursive_tokens itself Recursive (at 15) (omega arith) (
+  token (codes "void") (token_at (MarkOf mark.Void) 1) ∷ gap (codes " ") ∷ token (codes "f") (token_at (Name (codes "f")) 6) ∷ token (codes "(") (token_at (MarkOf mark.OpenParen) 7) ∷ token (codes "void") (token_at (MarkOf mark.Void) 8) ∷ token (codes ")") (token_at (MarkOf mark.CloseParen) 12) ∷ token (codes "{") (token_at (MarkOf mark.OpenBrace) 13) ∷ gap (codes " ") ∷ token (codes "f") (token_at (Name (codes "f")) 15) ∷ token (codes "(") (token_at (MarkOf mark.OpenParen) 16) ∷ token (codes ")") (token_at (MarkOf mark.CloseParen) 17) ∷ token (codes ";") (token_at (MarkOf mark.Semicolon) 18) ∷ gap (codes " ") ∷ token (codes "}") (token_at (MarkOf mark.CloseBrace) 20) ∷ gap (codes " ") ∷ token (codes "int") (token_at (MarkOf mark.Int) 22) ∷ gap (codes " ") ∷ token (codes "main") (token_at (Name (codes "main")) 26) ∷ token (codes "(") (token_at (MarkOf mark.OpenParen) 30) ∷ token (codes "void") (token_at (MarkOf mark.Void) 31) ∷ token (codes ")") (token_at (MarkOf mark.CloseParen) 35) ∷ token (codes "{") (token_at (MarkOf mark.OpenBrace) 36) ∷ token (codes "}") (token_at (MarkOf mark.CloseBrace) 37) ∷ [],
+  refl,
+  (
+    as_token [] (codes "void") (codes " f(void){ f(); } int main(void){}") (MarkOf mark.Void) (mark_word mark.Void refl) (mark_of mark.Void refl) refl refl refl,
+    (
+      blank 32 refl refl,
+      (
+        as_token (codes "void ") (codes "f") (codes "(void){ f(); } int main(void){}") (Name (codes "f")) (word refl) (name refl refl refl) refl refl refl,
+        (
+          as_token (codes "void f") (codes "(") (codes "void){ f(); } int main(void){}") (MarkOf mark.OpenParen) (mark_word mark.OpenParen refl) (mark_of mark.OpenParen refl) refl refl refl,
+          (
+            as_token (codes "void f(") (codes "void") (codes "){ f(); } int main(void){}") (MarkOf mark.Void) (mark_word mark.Void refl) (mark_of mark.Void refl) refl refl refl,
+            (
+              as_token (codes "void f(void") (codes ")") (codes "{ f(); } int main(void){}") (MarkOf mark.CloseParen) (mark_word mark.CloseParen refl) (mark_of mark.CloseParen refl) refl refl refl,
+              (
+                as_token (codes "void f(void)") (codes "{") (codes " f(); } int main(void){}") (MarkOf mark.OpenBrace) (mark_word mark.OpenBrace refl) (mark_of mark.OpenBrace refl) refl refl refl,
+                (
+                  blank 32 refl refl,
+                  (
+                    as_token (codes "void f(void){ ") (codes "f") (codes "(); } int main(void){}") (Name (codes "f")) (word refl) (name refl refl refl) refl refl refl,
+                    (
+                      as_token (codes "void f(void){ f") (codes "(") (codes "); } int main(void){}") (MarkOf mark.OpenParen) (mark_word mark.OpenParen refl) (mark_of mark.OpenParen refl) refl refl refl,
+                      (
+                        as_token (codes "void f(void){ f(") (codes ")") (codes "; } int main(void){}") (MarkOf mark.CloseParen) (mark_word mark.CloseParen refl) (mark_of mark.CloseParen refl) refl refl refl,
+                        (
+                          as_token (codes "void f(void){ f()") (codes ";") (codes " } int main(void){}") (MarkOf mark.Semicolon) (mark_word mark.Semicolon refl) (mark_of mark.Semicolon refl) refl refl refl,
+                          (
+                            blank 32 refl refl,
+                            (
+                              as_token (codes "void f(void){ f(); ") (codes "}") (codes " int main(void){}") (MarkOf mark.CloseBrace) (mark_word mark.CloseBrace refl) (mark_of mark.CloseBrace refl) refl refl refl,
+                              (
+                                blank 32 refl refl,
+                                (
+                                  as_token (codes "void f(void){ f(); } ") (codes "int") (codes " main(void){}") (MarkOf mark.Int) (mark_word mark.Int refl) (mark_of mark.Int refl) refl refl refl,
+                                  (
+                                    blank 32 refl refl,
+                                    (
+                                      as_token (codes "void f(void){ f(); } int ") (codes "main") (codes "(void){}") (Name (codes "main")) (word refl) (name refl refl refl) refl refl refl,
+                                      (
+                                        as_token (codes "void f(void){ f(); } int main") (codes "(") (codes "void){}") (MarkOf mark.OpenParen) (mark_word mark.OpenParen refl) (mark_of mark.OpenParen refl) refl refl refl,
+                                        (
+                                          as_token (codes "void f(void){ f(); } int main(") (codes "void") (codes "){}") (MarkOf mark.Void) (mark_word mark.Void refl) (mark_of mark.Void refl) refl refl refl,
+                                          (
+                                            as_token (codes "void f(void){ f(); } int main(void") (codes ")") (codes "{}") (MarkOf mark.CloseParen) (mark_word mark.CloseParen refl) (mark_of mark.CloseParen refl) refl refl refl,
+                                            (
+                                              as_token (codes "void f(void){ f(); } int main(void)") (codes "{") (codes "}") (MarkOf mark.OpenBrace) (mark_word mark.OpenBrace refl) (mark_of mark.OpenBrace refl) refl refl refl,
+                                              (
+                                                as_token (codes "void f(void){ f(); } int main(void){") (codes "}") [] (MarkOf mark.CloseBrace) (mark_word mark.CloseBrace refl) (mark_of mark.CloseBrace refl) refl refl refl,
+                                                tt,
+                                              ),
+                                            ),
+                                          ),
+                                        ),
+                                      ),
+                                    ),
+                                  ),
+                                ),
+                              ),
+                            ),
+                          ),
+                        ),
+                      ),
+                    ),
+                  ),
+                ),
+              ),
+            ),
+          ),
+        ),
+      ),
+    ),
+  ),
+  refl,
+) (
+  piece (MarkOf mark.Void) 1 0 ∷ piece (Name (codes "f")) 6 0 ∷ piece (MarkOf mark.OpenParen) 7 0 ∷ piece (MarkOf mark.Void) 8 0 ∷ piece (MarkOf mark.CloseParen) 12 0 ∷ piece (MarkOf mark.OpenBrace) 13 1 ∷ piece (Name (codes "f")) 15 0 ∷ piece (MarkOf mark.OpenParen) 16 0 ∷ piece (MarkOf mark.CloseParen) 17 0 ∷ piece (MarkOf mark.Semicolon) 18 0 ∷ piece (MarkOf mark.CloseBrace) 20 0 ∷ piece (MarkOf mark.Int) 22 0 ∷ piece (Name (codes "main")) 26 0 ∷ piece (MarkOf mark.OpenParen) 30 0 ∷ piece (MarkOf mark.Void) 31 0 ∷ piece (MarkOf mark.CloseParen) 35 0 ∷ piece (MarkOf mark.OpenBrace) 36 1 ∷ piece (MarkOf mark.CloseBrace) 37 0 ∷ piece End 38 0 ∷ [],
+  (_, _, refl, (_, _, refl, (_, _, refl, (_, _, refl, (at 1, refl), refl), (_, _, refl, (at 7, refl), (_, _, refl, inl (at 8, refl), (_, _, refl, (at 12, refl), (_, _, refl, (at 13, refl), (_, _, refl, (_, _, refl, (_, _, refl, (_, _, refl, refl, (_, _, refl, (at 16, refl), (_, _, refl, refl, (at 17, refl)))), (at 18, refl)), refl), refl)))))), (_, _, refl, (_, _, refl, inl (refl, (_, _, refl, (at 22, refl), refl)), (_, _, refl, (at 30, refl), (_, _, refl, inl (at 31, refl), (_, _, refl, (at 35, refl), (_, _, refl, (at 36, refl), (_, _, refl, refl, refl)))))), refl)), refl),
+  refl,
+  low_by (piece (MarkOf mark.Void) 1 0 ∷ piece (Name (codes "f")) 6 0 ∷ piece (MarkOf mark.OpenParen) 7 0 ∷ piece (MarkOf mark.Void) 8 0 ∷ piece (MarkOf mark.CloseParen) 12 0 ∷ piece (MarkOf mark.OpenBrace) 13 1 ∷ piece (Name (codes "f")) 15 0 ∷ piece (MarkOf mark.OpenParen) 16 0 ∷ piece (MarkOf mark.CloseParen) 17 0 ∷ piece (MarkOf mark.Semicolon) 18 0 ∷ piece (MarkOf mark.CloseBrace) 20 0 ∷ piece (MarkOf mark.Int) 22 0 ∷ piece (Name (codes "main")) 26 0 ∷ piece (MarkOf mark.OpenParen) 30 0 ∷ piece (MarkOf mark.Void) 31 0 ∷ piece (MarkOf mark.CloseParen) 35 0 ∷ piece (MarkOf mark.OpenBrace) 36 1 ∷ piece (MarkOf mark.CloseBrace) 37 0 ∷ piece End 38 0 ∷ []) refl,
+)
+    (recursive (at 15) refl is_recursive)
 
 no_gap_here : NoGap [] (codes "/*")
 no_gap_here bytes after e (blank c f b) =
