@@ -5,7 +5,7 @@ use Rattle.std.specs.Prelude.{codes, ◌⊎◌}
 use Rattle.lra_tree.specs.declared.tokens.Mark.{Mark}
 use Rattle.lra_tree.specs.declared.tokens.Mark.TheVariants as mark
 use Rattle.lra_tree.specs.declared.tokens.Kind.{Kind}
-use Rattle.lra_tree.specs.Lexeme.{is_word, is_number_word, mark_text, is_among, IsOpen, Spells, Lexeme, word, number_word, mark_word, unclosed}
+use Rattle.lra_tree.specs.Lexeme.{is_word, is_number_word, mark_text, is_among, IsOpen, SpellsToken, Lexeme, word, number_word, mark_word, unclosed}
 use Rattle.lra_tree.specs.Tokens.{is_blank, IsGap, blank, line_comment, block_comment, skipped_line, NoGap, IsLongest, IsToken, place_behind}
 
 -- no gap begins with another byte than a blank, `/`, `#`
@@ -104,7 +104,7 @@ longest_by s after lexeme other ends = record {
   longest = λ t b e l. at_most s t after b ends e (tested t b (subst (λ (z : List ℕ). opens_comment z ≡ false) e other) l) (cases_lt (length s) (length t));
 }
 
-pub as_token : (before s after : List ℕ) (k : Kind) → Lexeme s → Spells s k → begins_gap (first_byte (s ++ after)) ≡ false → opens_comment (s ++ after) ≡ false
+pub as_token : (before s after : List ℕ) (k : Kind) → Lexeme s → SpellsToken s k → begins_gap (first_byte (s ++ after)) ≡ false → opens_comment (s ++ after) ≡ false
     → ends_there s after ≡ true → IsToken before s (s ++ after) (record { kind = k; place = place_behind before })
 as_token before s after k lexeme spells gapless other ends = record {
   no_gap = no_gap before (s ++ after) gapless;

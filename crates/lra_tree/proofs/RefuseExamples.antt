@@ -3,7 +3,7 @@ use Rattle.std.proofs.Common.{◌≡◌, ℕ, zero, suc, ◌+◌, List, [], ◌�
 use Rattle.std.specs.Prelude.{codes, get_or, ◌≤◌}
 use Rattle.std.specs.Fmt.{digits}
 use Rattle.lra_tree.specs.declared.refusals.Refusal.{Refusal}
-use Rattle.lra_tree.specs.declared.refusals.Cause.TheVariants.{TooLong, BadByte, Syntax, NoMain, TooManyVariables, TooManyPoints, UnknownName, DuplicateName, Misplaced, BadCall, Recursive}
+use Rattle.lra_tree.specs.declared.refusals.Cause.TheVariants.{TooLong, BadByte, BadLiteral, Syntax, NoMain, TooManyVariables, TooManyPoints, UnknownName, DuplicateName, Misplaced, BadCall, Recursive}
 use Rattle.lra_tree.specs.declared.tokens.Kind.TheVariants.{Name, Number, Mark as MarkOf, Unclosed, End}
 use Rattle.lra_tree.specs.declared.tokens.Mark.TheVariants as mark
 use Rattle.lra_tree.specs.declared.tokens.Token.{Token}
@@ -21,6 +21,7 @@ use Rattle.lra_tree.specs.Faults.{IsTree}
 use Rattle.std.proofs.lemmas.List.{take-replicate, length-replicate, length-append}
 use Rattle.lra_tree.proofs.LongestByTest.{no_gap, as_token, no_lexeme, is_open}
 use Rattle.lra_tree.proofs.FirstTokens.{not_unclosed}
+use Rattle.lra_tree.proofs.TokenExamples.{too_large}
 use Rattle.lra_tree.proofs.LowByTest.{low_by}
 use Rattle.lra_tree.proofs.NameExamples.{calls_with_one, itself, is_recursive}
 use Rattle.lra_tree.proofs.TreeSamples.{at, name_at, call_of, function_of, void_of, main_of, x_at, declared_as, number as number_of}
@@ -207,6 +208,10 @@ dollar = bad_token BadByte (at 17) (omega arith) (
   (λ e. cc, no_gap (codes "int main(void){ ") (codes "$ }") refl, no_lexeme (codes "$ }") refl refl),
   refl,
 )
+
+literal_refused : Refuse (codes "x=9223372036854775808;") BadLiteral (at 3)
+unfolding greatest_length
+literal_refused = bad_token BadLiteral (at 3) (omega arith) too_large
 
 one_literal : IsLiteral (codes "1") 1
 one_literal = record { base = decimal_base; front = []; digits = codes "1"; suffix = []; parts = refl; begins = (49, [], refl, refl, refl); all_digits = refl; is_suffix = refl; number = refl }

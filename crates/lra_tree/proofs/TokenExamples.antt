@@ -248,7 +248,7 @@ no_large decimal_base front digits suffix n e (c, cs, b, d, r) s f l =
     omega (arith, v, l)
 
 -- catches a limit of 2^63
-too_large : IsTokenFault (codes "x=9223372036854775808;") BadLiteral (at 1 3)
+pub too_large : IsTokenFault (codes "x=9223372036854775808;") BadLiteral (at 1 3)
 too_large = (
   token (codes "x") (token_at (Name (codes "x")) 1 1) ∷ token (codes "=") (token_at (Mark mark.Assign) 1 2) ∷ [],
   codes "9223372036854775808;",

@@ -123,16 +123,16 @@ IsDeclaration l d = IsType ⋅ separated (IsDeclarator l) (d.first ∷ d.rest) �
 -- statements -------------------------------------------------------------------------------------------------------
 
 -- it ends in an `if` without `else`, which would take an `else` behind it
-abbrev pub IsOpen : StmtTree → Type 0
-IsOpen (if_only at c t) = ⊤
-IsOpen (if_else at c t e) = IsOpen e
-IsOpen (while at c b) = IsOpen b
-IsOpen (for at i c e b) = IsOpen b
-IsOpen t = ⊥
+abbrev pub TakesElse : StmtTree → Type 0
+TakesElse (if_only at c t) = ⊤
+TakesElse (if_else at c t e) = TakesElse e
+TakesElse (while at c b) = TakesElse b
+TakesElse (for at i c e b) = TakesElse b
+TakesElse t = ⊥
 
 -- an `else` belongs to the nearest `if`
 abbrev pub closed : StmtTree → Texts → Texts
-closed t R z = R z × (IsOpen t → ⊥)
+closed t R z = R z × (TakesElse t → ⊥)
 
 abbrev pub IsInit : ℕ → InitTree → Texts
 IsInit l no_init = mark mark.Semicolon

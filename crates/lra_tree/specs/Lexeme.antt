@@ -165,9 +165,9 @@ pub data Lexeme (s : List ℕ) : Type 0 where
   unclosed : IsUnclosed s → Lexeme s
 
 -- which token they spell
-pub data Spells (s : List ℕ) : Kind → Type 0 where
-  name : is_word s ≡ true → is_among s named_words ≡ false → is_among s further_words ≡ false → Spells s (Name s)
-  number : (n : ℕ) → is_number_word s ≡ true → IsLiteral s n → n ≤ greatest_literal → Spells s (Number n)
-  mark_of : (m : Mark) → s ≡ mark_text m → Spells s (MarkOf m)
-  reserved : is_among s further_words ≡ true → Spells s Reserved
-  comment : IsUnclosed s → Spells s Unclosed
+pub data SpellsToken (s : List ℕ) : Kind → Type 0 where
+  name : is_word s ≡ true → is_among s named_words ≡ false → is_among s further_words ≡ false → SpellsToken s (Name s)
+  number : (n : ℕ) → is_number_word s ≡ true → IsLiteral s n → n ≤ greatest_literal → SpellsToken s (Number n)
+  mark_of : (m : Mark) → s ≡ mark_text m → SpellsToken s (MarkOf m)
+  reserved : is_among s further_words ≡ true → SpellsToken s Reserved
+  comment : IsUnclosed s → SpellsToken s Unclosed

@@ -7,7 +7,7 @@ use Rattle.lra_tree.specs.declared.refusals.Cause.{Cause}
 use Rattle.lra_tree.specs.declared.refusals.Cause.TheVariants.{BadByte, BadLiteral}
 use Rattle.lra_tree.specs.declared.tokens.Token.{Token}
 use Rattle.lra_tree.specs.declared.tokens.Kind.TheVariants.{End}
-use Rattle.lra_tree.specs.Lexeme.{is_word_byte, is_number_word, IsLiteral, greatest_literal, IsOpen, Lexeme, Spells}
+use Rattle.lra_tree.specs.Lexeme.{is_word_byte, is_number_word, IsLiteral, greatest_literal, IsOpen, Lexeme, SpellsToken}
 
 -- places -----------------------------------------------------------------------------------------------------------
 
@@ -95,7 +95,7 @@ tokens_of (token bytes t ∷ ps) = t ∷ tokens_of ps
 pub record IsToken (before s rest : List ℕ) (t : Token) : Type 0 where
   pub no_gap : NoGap before rest
   pub longest : IsLongest s rest
-  pub spells : Spells s t.kind
+  pub spells : SpellsToken s t.kind
   pub place : t.place ≡ place_behind before
 
 -- the pieces stand between the bytes before and after them
