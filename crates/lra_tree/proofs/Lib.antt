@@ -6,6 +6,7 @@ mod ReportTextExamples
 mod LongestByTest
 mod TokenExamples
 -- Trees, their names and what they mean.
+mod ViewExamples
 mod TreeSamples
 mod NameExamples
 -- Linear forms, and how conditions are pushed to their atoms.

@@ -2,9 +2,11 @@
 use Rattle.std.specs.Prelude.{List, [], ◌∷◌, map, option_map}
 use Rattle.lra_tree.specs.declared.refusals.Place.{Place}
 use Rattle.lra_tree.specs.declared.trees.Unary.{Unary}
-use Rattle.lra_tree.specs.declared.trees.Unary.TheFolds.{fold-Unary, fold-Expr, fold-Term}
+use Rattle.lra_tree.specs.declared.trees.Unary.TheFolds.{fold-Unary, fold-Expr, fold-Term, fold-Factor, fold-Summand}
 use Rattle.lra_tree.specs.declared.trees.Unary.TheOpen.{Unary-F, Factor-F, Term-F, Summand-F, Expr-F}
 use Rattle.lra_tree.specs.declared.trees.Term.{Term}
+use Rattle.lra_tree.specs.declared.trees.Factor.{Factor}
+use Rattle.lra_tree.specs.declared.trees.Summand.{Summand}
 use Rattle.lra_tree.specs.declared.trees.Expr.{Expr}
 use Rattle.lra_tree.specs.declared.trees.FactorOperator.{FactorOperator}
 use Rattle.lra_tree.specs.declared.trees.FactorOperator.TheVariants as factor
@@ -92,6 +94,13 @@ unary_view = fold-Unary tree.UnaryTree tree.ExprTree (FactorOperator × tree.Una
 
 abbrev pub term_view : Term → tree.TermTree
 term_view = fold-Term tree.UnaryTree tree.ExprTree (FactorOperator × tree.UnaryTree) (SumOperator × tree.TermTree) tree.TermTree unary_step expr_step factor_step summand_step term_step
+
+-- an operator and its operand
+abbrev pub factor_view : Factor → FactorOperator × tree.UnaryTree
+factor_view = fold-Factor tree.UnaryTree tree.ExprTree (FactorOperator × tree.UnaryTree) (SumOperator × tree.TermTree) tree.TermTree unary_step expr_step factor_step summand_step term_step
+
+abbrev pub summand_view : Summand → SumOperator × tree.TermTree
+summand_view = fold-Summand tree.UnaryTree tree.ExprTree (FactorOperator × tree.UnaryTree) (SumOperator × tree.TermTree) tree.TermTree unary_step expr_step factor_step summand_step term_step
 
 abbrev pub expr_view : Expr → tree.ExprTree
 expr_view = fold-Expr tree.UnaryTree tree.ExprTree (FactorOperator × tree.UnaryTree) (SumOperator × tree.TermTree) tree.TermTree unary_step expr_step factor_step summand_step term_step

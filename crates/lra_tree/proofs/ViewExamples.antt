@@ -1,0 +1,34 @@
+-- Values of the front end's types, and the trees that they stand for.
+use Rattle.std.proofs.Common.{◌≡◌, ℕ, List, [], ◌∷◌, map, rules, Box, Global}
+use Rattle.lra_tree.specs.declared.trees.Unary.{Unary, Literal, Negated, the_lemmas}
+use Rattle.lra_tree.specs.declared.trees.Factor.{Factor}
+use Rattle.lra_tree.specs.declared.trees.Term.{Term}
+use Rattle.lra_tree.specs.declared.trees.Summand.{Summand}
+use Rattle.lra_tree.specs.declared.trees.Expr.{Expr}
+use Rattle.lra_tree.specs.declared.trees.Unary.TheOpen.{Term-F}
+use Rattle.lra_tree.specs.declared.trees.Unary.TheViews.{roll-Term}
+use Rattle.lra_tree.specs.declared.trees.Unary.TheFolds.{fold-roll-Term}
+use Rattle.lra_tree.specs.declared.trees.FactorOperator.{FactorOperator}
+use Rattle.lra_tree.specs.declared.trees.SumOperator.{SumOperator}
+use Rattle.lra_tree.specs.declared.trees.BlockItem.{BlockItem}
+use Rattle.lra_tree.specs.declared.trees.Stmt.{Stmt, Break, While, the_lemmas as stmt_lemmas}
+use Rattle.lra_tree.specs.declared.trees.Cond.{Cond}
+use Rattle.lra_tree.specs.declared.refusals.Place.{Place}
+use Rattle.lra_tree.specs.Trees as tree
+use Rattle.lra_tree.specs.Views.{unary_view, unary_step, factor_view, factor_step, term_view, term_step, summand_step, expr_step, product, cond_view, stmt_view}
+
+literal_view : (n : ℕ) → unary_view (Literal n) ≡ tree.literal n
+literal_view n = search (rules, the_lemmas)
+
+negated_view : (u : Box Unary Global) → unary_view (Negated u) ≡ tree.negated (unary_view u.value)
+negated_view u = search (rules, the_lemmas)
+
+-- a chain is its first operand and the further ones, from the left
+chain_view : (t : Term-F Unary Expr Factor Summand Term) → term_view (roll-Term t) ≡ product (tree.unary (unary_view t.first)) (map factor_view t.rest.items)
+chain_view = fold-roll-Term tree.UnaryTree tree.ExprTree (FactorOperator × tree.UnaryTree) (SumOperator × tree.TermTree) tree.TermTree unary_step expr_step factor_step summand_step term_step
+
+break_view : (at : Place) → stmt_view (Break at) ≡ tree.break at
+break_view at = search (rules, stmt_lemmas)
+
+while_view : (at : Place) (c : Cond) (b : Box Stmt Global) → stmt_view (While at c b) ≡ tree.while at (cond_view c) (stmt_view b.value)
+while_view at c b = search (rules, stmt_lemmas)
