@@ -1,5 +1,5 @@
 -- Values of the front end's types, and the trees that they stand for.
-use Rattle.std.proofs.Common.{◌≡◌, ℕ, List, [], ◌∷◌, map, rules, Box, Global}
+use Rattle.std.proofs.Common.{◌≡◌, ℕ, map, rules, Box, Global}
 use Rattle.lra_tree.specs.declared.trees.Unary.{Unary, Literal, Negated, the_lemmas}
 use Rattle.lra_tree.specs.declared.trees.Factor.{Factor}
 use Rattle.lra_tree.specs.declared.trees.Term.{Term}
@@ -10,7 +10,6 @@ use Rattle.lra_tree.specs.declared.trees.Unary.TheViews.{roll-Term}
 use Rattle.lra_tree.specs.declared.trees.Unary.TheFolds.{fold-roll-Term}
 use Rattle.lra_tree.specs.declared.trees.FactorOperator.{FactorOperator}
 use Rattle.lra_tree.specs.declared.trees.SumOperator.{SumOperator}
-use Rattle.lra_tree.specs.declared.trees.BlockItem.{BlockItem}
 use Rattle.lra_tree.specs.declared.trees.Stmt.{Stmt, Break, While, the_lemmas as stmt_lemmas}
 use Rattle.lra_tree.specs.declared.trees.Cond.{Cond}
 use Rattle.lra_tree.specs.declared.refusals.Place.{Place}
