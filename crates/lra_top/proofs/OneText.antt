@@ -1,7 +1,8 @@
 -- An input deserves one text.
 use Rattle.std.proofs.Common.{◌≡◌, ◌≤◌, ◌<◌, ◌+◌, ℕ, List, [], ◌∷◌, ◌++◌, length, take, map, refl, ap, sym, ◌∙◌, subst, arith, inl, inr, Bool, true, false}
 use Rattle.std.proofs.Math.Seq.{take-append_seam}
-use Rattle.lra_tree.specs.Report.{Place, PointReport, Verdict, Report}
+use Rattle.lra_tree.specs.declared.refusals.Place.{Place}
+use Rattle.lra_tree.specs.Report.{PointReport, Verdict, Report}
 use Rattle.lra_tree.specs.ReportText.{report_text}
 use Rattle.lra_top.specs.FirstForm.{Simple, Set, Check, Form, place_after, first_place}
 use Rattle.lra_top.specs.Claims.{IsPoint, ArePoints, ArePointsOf, IsVerdict, AreVerdicts, IsReportOf, statement_points}
