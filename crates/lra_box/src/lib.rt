@@ -11,3 +11,6 @@ mod refine;
 
 pub use boxes::Boxes;
 pub use interval::Interval;
+
+#[cfg(test)]
+mod tests;
