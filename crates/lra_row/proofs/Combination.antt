@@ -1,13 +1,12 @@
 -- The combination of two rows on either side of a third has product 0 with it, and substitution replaces a coordinate.
-use Rattle.std.proofs.Common.{arith, ◌≡◌, ℕ, zero, suc, ◌<◌, List, [], ◌∷◌, length, ap, sym, ◌∙◌, refl, pos, ℤ, ◌+ℤ◌, ◌*ℤ◌, neg_ℤ, ◌<ℤ◌, Result, slice_set, Ok, Err, cond}
+use Rattle.std.proofs.Common.{arith, ◌≡◌, ℕ, ◌<◌, List, [], ◌∷◌, length, ap, sym, ◌∙◌, refl, pos, ℤ, ◌+ℤ◌, ◌*ℤ◌, neg_ℤ, ◌<ℤ◌, Result, Ok, Err, cond}
 use Rattle.std.specs.List.{All}
 use Rattle.std.proofs.lemmas.Int.{ints}
 use Rattle.std.proofs.lemmas.List.Elements.{All-head, All-tail}
 use Rattle.lra_linear.specs.declared.Excess.{Excess}
 use Rattle.lra_linear.specs.declared.Operation.TheVariants.{Product, Sum}
 use Rattle.lra_linear.specs.Range.{InRange, in_range}
-use Rattle.lra_linear.specs.Vectors.{entry, dot, product, blend, combined, cleared, substituted}
-use Rattle.lra_linear.specs.SetOperations.{assigned}
+use Rattle.lra_linear.specs.Vectors.{entry, product, blend, combined, cleared, substituted}
 use Rattle.lra_linear.specs.LowestTerms.{IsLowest}
 use Rattle.lra_linear.specs.CheckedArithmetic.{checked_product, checked_entry, checked_blend, then_rest, checked_combination, checked_added, checked_added_entry, checked_substitution}
 use Rattle.lra_linear.proofs.Ring.{v, ◌⊕◌, ◌⊗◌, ⊖, ring}
@@ -75,39 +74,6 @@ blend_added b [] ws h = refl
 blend_added b (u ∷ us) [] h = refl
 blend_added b (u ∷ us) (w ∷ ws) h =
     ap (λ r. then_rest r (checked_blend (pos 1) b us ws)) (entry_added b u w (All-head InRange u us h)) ∙ ap (λ r. then_rest (checked_added_entry b u w) r) (blend_added b us ws (All-tail InRange u us h))
-
-dot_blend : (a b : ℤ) (us ws : List ℤ) (x : ℕ → ℤ) → length us ≡ length ws → dot (blend a b us ws) x ≡ (a *ℤ dot us x) +ℤ (b *ℤ dot ws x)
-dot_blend a b [] [] x l = ring (v (pos 0)) (v a ⊗ v (pos 0) ⊕ v b ⊗ v (pos 0)) (omega arith)
-dot_blend a b [] (w ∷ ws) x l = absurd (omega (arith, l))
-dot_blend a b (u ∷ us) [] x l = absurd (omega (arith, l))
-dot_blend a b (u ∷ us) (w ∷ ws) x l =
-    let p = dot us (λ j. x (suc j)) in
-    let q = dot ws (λ j. x (suc j)) in
-    ap (λ (z : ℤ). (((a *ℤ u) +ℤ (b *ℤ w)) *ℤ x 0) +ℤ z) (dot_blend a b us ws (λ j. x (suc j)) (omega (arith, l))) ∙
-    ring ((v a ⊗ v u ⊕ v b ⊗ v w) ⊗ v (x 0) ⊕ (v a ⊗ v p ⊕ v b ⊗ v q)) (v a ⊗ (v u ⊗ v (x 0) ⊕ v p) ⊕ v b ⊗ (v w ⊗ v (x 0) ⊕ v q)) (omega arith)
-
-cleared_length : (x : ℕ) (row : List ℤ) → length (cleared x row) ≡ length row
-cleared_length x [] = refl
-cleared_length zero (r ∷ row) = refl
-cleared_length (suc x) (r ∷ row) = ap suc (cleared_length x row)
-
-product_assigned : (x : ℕ) (z : ℤ) (row u : List ℤ) → x < length u → product row (slice_set u x z) ≡ product (cleared x row) u +ℤ (entry row x *ℤ z)
-product_assigned x z [] u h = ring (v (pos 0)) (v (pos 0) ⊕ v (pos 0) ⊗ v z) (omega arith)
-product_assigned x z (r ∷ row) [] h = absurd (omega (arith, h))
-product_assigned zero z (r ∷ row) (y ∷ ys) h =
-    let p = product row ys in
-    ring (v r ⊗ v z ⊕ v p) ((v (pos 0) ⊗ v y ⊕ v p) ⊕ v r ⊗ v z) (omega arith)
-product_assigned (suc x) z (r ∷ row) (y ∷ ys) h =
-    let p = product (cleared x row) ys in
-    ap (λ (n : ℤ). (r *ℤ y) +ℤ n) (product_assigned x z row ys (omega (arith, h))) ∙ ring (v r ⊗ v y ⊕ (v p ⊕ v (entry row x) ⊗ v z)) ((v r ⊗ v y ⊕ v p) ⊕ v (entry row x) ⊗ v z) (omega arith)
-
-pub substituted_value : (x : ℕ) (form row : List ℤ) → x < length row → length form ≡ length row → (u : List ℤ) → length u ≡ length row → product (substituted x form row) u ≡ product row (assigned x form u)
-substituted_value x form row h l u k =
-    let e = entry row x in
-    let p = product (cleared x row) u in
-    let q = product form u in
-    dot_blend (pos 1) e (cleared x row) form (entry u) (cleared_length x row ∙ sym l) ∙
-    ring (v (pos 1) ⊗ v p ⊕ v e ⊗ v q) (v p ⊕ v e ⊗ v q) (omega arith) ∙ sym (product_assigned x q row u (omega (arith, h, k)))
 
 pub substitution_read : (x : ℕ) (form row rest : List ℤ) (e : ℤ) → e ≡ entry row x → rest ≡ cleared x row → blend (pos 1) e rest form ≡ substituted x form row
 substitution_read x form row rest e f r = ap (λ (n : ℤ). blend (pos 1) n rest form) f ∙ ap (λ (us : List ℤ). blend (pos 1) (entry row x) us form) r

@@ -8,3 +8,4 @@ pub mod FirstPassing
 pub mod RowLemmas
 pub mod Combination
 pub mod Pivots
+pub mod RowExamples

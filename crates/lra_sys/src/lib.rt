@@ -6,3 +6,6 @@ mod system;
 
 pub use membership::Holds;
 pub use system::{ConKind, ConSys, GenKind, GenSys};
+
+#[cfg(test)]
+mod tests;

@@ -1,4 +1,4 @@
-use Rattle.std.proofs.Common.{◌≡◌, ◌∙◌, ap, List, ℤ, sym, rules, FitsSigned, subst, Result}
+use Rattle.std.proofs.Common.{arith, ◌≡◌, ◌∙◌, ap, List, ℤ, sym, rules, FitsSigned, subst, Result}
 use Rattle.std.specs.Int.{w128}
 use Rattle.std.proofs.lemmas.Int.{to_z-of_z}
 use Rattle.std.proofs.lemmas.Result.{IfOk-weaker, IfErr-weaker}
@@ -7,7 +7,8 @@ use Rattle.lra_linear.specs.declared.Excess.{Excess}
 use Rattle.lra_linear.specs.CheckedArithmetic.{checked_substitution}
 use Rattle.lra_row.specs.Rows.{substitution_operations, IsExcessOf}
 use Rattle.lra_row.proofs.FirstPassing.{names_added, names_result}
-use Rattle.lra_row.proofs.Combination.{substitution_read, substitution_checked, substituted_value}
+use Rattle.lra_row.proofs.Combination.{substitution_read, substitution_checked}
+use Rattle.lra_linear.proofs.SetOperations.{substituted_product}
 use Rattle.lra_row.proofs.row.Row.substitute.Goals as goal
 
 pub returns-clause-assigns : goal.returns-clause-assigns
@@ -18,7 +19,7 @@ returns-clause-assigns c =
     let fe : FitsSigned w128 c.get.result = search rules in
     let r : c.clear.new.self ≡ cleared x row = c.clear.ensures.cleared ∙ ap (cleared x) c.in_ok-rest.ensures in
     let v = simp to_z-of_z at c.blend.ensures.value in
-    IfOk-weaker c.blend.result _ _ (λ out e u k. ap (λ (z : List ℤ). product z u) (e ∙ substitution_read x form row c.clear.new.self c.get.result c.get.ensures.entry r) ∙ substituted_value x form row c.requires.column c.requires.width u k) v
+    IfOk-weaker c.blend.result _ _ (λ out e u k. ap (λ (z : List ℤ). product z u) (e ∙ substitution_read x form row c.clear.new.self c.get.result c.get.ensures.entry r) ∙ substituted_product x form row u (sym c.requires.width) (omega (arith, k, c.requires.column))) v
 
 pub returns-clause-excess : goal.returns-clause-excess
 returns-clause-excess c =
