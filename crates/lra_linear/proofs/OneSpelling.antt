@@ -23,7 +23,7 @@ use Rattle.lra_linear.proofs.RowOrder.{inequality_cmp_total, never_both, row_cmp
 use Rattle.lra_linear.proofs.Signs.{add_nonnegative, between_opposites, not_both, opposite_of_zero, zero_at_least}
 
 -- ---- rows of one kind
-given_from : (b : Bool) (rows : List (List ℤ)) (g : Given) → Contains (given_as b rows) g → (g.equal ≡ b) × Contains rows g.row
+pub given_from : (b : Bool) (rows : List (List ℤ)) (g : Given) → Contains (given_as b rows) g → (g.equal ≡ b) × Contains rows g.row
 given_from b [] g k = absurd (contains_none g k)
 given_from b (r ∷ rows) g k = elim (contains_cases (let x : Given = record { row = r; equal = b } in x) g (given_as b rows) k) [
   | inl e ↦ (sym (ap (λ y. y.equal) e), subst (λ y. Contains (r ∷ rows) y.row) e (contains_head r rows))

@@ -1,15 +1,16 @@
 -- The two canonical lists of a polyhedron have the same points, and a set of points has one pair of canonical lists.
 use Rattle.std.proofs.Common.{Bool, List, [], ap, cond, false, inl, inr, pos, refl, subst, sym, true, ℕ, ℤ, ◌++◌, ◌+ℤ◌, ◌∙◌, ◌∷◌, ◌≡◌}
+use Rattle.std.proofs.lemmas.List.Elements.{Contains-append_cases}
 use Rattle.std.specs.List.{Contains}
 use Rattle.lra_linear.specs.Cones.{Described, Generated, all_rows}
-use Rattle.lra_linear.specs.Descriptions.{Con, Gen, Given, given_as, lines_of, rays_of}
+use Rattle.lra_linear.specs.Descriptions.{AreGenerators, Con, Gen, Given, given_as, lines_of, rays_of}
 use Rattle.lra_linear.specs.Points.{IsPoint, PointSet, SameSet}
 use Rattle.lra_linear.specs.Polyhedra.{HasPoint, IsPolyhedron, IsPolyhedronOf, Polyhedron, falsity}
 use Rattle.lra_linear.specs.Vectors.{entry, signed_sum, sum_of}
 use Rattle.lra_linear.proofs.LinearMaps.{generated_nonneg}
 use Rattle.lra_linear.proofs.Lines.{described_generated, generated_described}
-use Rattle.lra_linear.proofs.Membership.{contains_head}
-use Rattle.lra_linear.proofs.OneSpelling.{cone_solved, falsity_never, rows_hold, same_points_same_lists}
+use Rattle.lra_linear.proofs.Membership.{contains_head, contains_none}
+use Rattle.lra_linear.proofs.OneSpelling.{cone_solved, falsity_never, given_from, rows_hold, same_points_same_lists}
 use Rattle.lra_linear.proofs.Signs.{no_product, not_both}
 
 -- ---- lines and rays of joined lists
@@ -108,3 +109,14 @@ polyhedron_unique n P Q p q same h k =
       λ x i c. k.points.0 x i (same.0 x i (h.points.1 x i c)),
       λ x i c. h.points.0 x i (same.1 x i (k.points.1 x i c)),
     ))
+
+-- ---- the generators of a polyhedron are points, rays and lines
+pub generators_are_generators : (p : Polyhedron) → IsPolyhedron p → AreGenerators p.generators
+generators_are_generators p (inl e) g k = absurd (contains_none g (subst (λ l. Contains l g) e.1 k))
+generators_are_generators p (inr h) g k = elim (Contains-append_cases (given_as false h.points ++ given_as false h.rays) (given_as true h.lines) g (subst (λ l. Contains l g) h.generators_are k)) [
+  | inl s ↦ elim (Contains-append_cases (given_as false h.points) (given_as false h.rays) g s) [
+    | inl t ↦ let f = given_from false h.points g t in inl (f.0, h.divisors g.row f.1)
+    | inr r ↦ inr (h.directions g.row (inl (given_from false h.rays g r).1))
+  ]
+  | inr l ↦ inr (h.directions g.row (inr (given_from true h.lines g l).1))
+]

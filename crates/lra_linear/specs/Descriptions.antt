@@ -1,13 +1,13 @@
 -- The two descriptions of a set of points (Minkowski 1896, Weyl 1935): by constraints, and by points, rays and lines.
-use Rattle.std.specs.Prelude.{◌≡◌, ℤ, pos, ◌≤ℤ◌, Bool, true, false, cond, List, [], ◌∷◌}
+use Rattle.std.specs.Prelude.{◌≡◌, ◌⊎◌, ℤ, pos, ◌≤ℤ◌, ◌<ℤ◌, Bool, true, false, cond, List, [], ◌∷◌}
 use Rattle.std.specs.List.{Contains}
 use Rattle.lra_linear.specs.Vectors.{entry, product}
 use Rattle.lra_linear.specs.Cones.{Described}
 use Rattle.lra_linear.specs.DoubleDescription.{with_row}
 use Rattle.lra_linear.specs.Points.{PointSet}
 
--- A row of a description. A constraint c0, .., cn is an inequality or, with `equal`, an equality. A generator is a point (column 0
--- above 0) or a ray (column 0 is 0), or with `equal` a line.
+-- A row of a description. A constraint c0, .., cn is an inequality or, with `equal`, an equality. A generator is a point or a ray, or
+-- with `equal` a line; `IsGenerator` says what column 0 then holds.
 pub record Given : Type 0 where
   pub row : List ℤ
   pub equal : Bool
@@ -24,6 +24,13 @@ generator r = record { row = r; equal = false }
 
 abbrev pub line : List ℤ → Given
 line r = record { row = r; equal = true }
+
+-- column 0 of a generator: a point's divisor is above 0; rays and lines have 0 there
+abbrev pub IsGenerator : Given → Type 0
+IsGenerator g = ((g.equal ≡ false) × (pos 0 <ℤ entry g.row 0)) ⊎ (entry g.row 0 ≡ pos 0)
+
+abbrev pub AreGenerators : List Given → Type 0
+AreGenerators list = (g : Given) → Contains list g → IsGenerator g
 
 -- the rows of one kind, in their order
 abbrev pub given_as : Bool → List (List ℤ) → List Given
@@ -62,6 +69,7 @@ Holds g x = HoldsWith g.equal (product g.row x)
 abbrev pub Con : List Given → PointSet
 Con rows x = (g : Given) → Contains rows g → Holds g x
 
--- the points some positive multiple of which is a sum of generators with whole factors, not negative for points and rays
+-- the points some positive multiple of which is a sum of generators with whole factors, not negative for points and rays; the list is
+-- meant to be `AreGenerators`, since any row is added as its columns are
 abbrev pub Gen : List Given → PointSet
 Gen generators x = Described (lines_of generators) (rays_of generators) (entry x)
