@@ -1,13 +1,13 @@
 -- Worked examples of strain: a list of constraints that strains by its third row only, in one dimension; an image one of whose
--- numbers passes the range, and one whose numbers just fit; and an inclusion that fails at a line. M is the greatest number of the
--- range.
-use Rattle.std.proofs.Common.{Bool, Err, List, Ok, Result, [], ap, arith, inl, inr, length, neg_ℤ, negsuc, pos, refl, subst, suc, sym, true, zero, ℕ, ℤ, ◌*ℤ◌, ◌+ℤ◌, ◌-◌, ◌<◌, ◌^◌, ◌∙◌, ◌∷◌, ◌≡◌, ◌≤ℤ◌, ◌⊎◌}
+-- numbers passes the range, and one whose numbers just fit; two points that fit, since a line isn't taken with itself; and an
+-- inclusion that fails at a line. M is the greatest number of the range.
+use Rattle.std.proofs.Common.{Bool, Err, List, Ok, Result, [], ap, arith, inl, inr, length, neg_ℤ, negsuc, pos, refl, subst, suc, sym, true, zero, ℕ, ℤ, ◌*ℤ◌, ◌+ℤ◌, ◌++◌, ◌-◌, ◌<◌, ◌^◌, ◌∙◌, ◌∷◌, ◌≡◌, ◌≤ℤ◌, ◌⊎◌}
 use Rattle.std.specs.Prelude.{is_ok, ◌&&◌}
 use Rattle.std.proofs.lemmas.Int.{ints}
 use Rattle.std.specs.List.{Contains, list_all}
 use Rattle.lra_linear.specs.Canonical.{IsCanonical}
 use Rattle.lra_linear.specs.CheckedArithmetic.{checked_blend, checked_product}
-use Rattle.lra_linear.specs.ConeStrain.{PairPasses, ProductPasses}
+use Rattle.lra_linear.specs.ConeStrain.{PairAcross, PairPasses, ProductPasses}
 use Rattle.lra_linear.specs.Cones.{AreDual, Generated, all_rows}
 use Rattle.lra_linear.specs.Descriptions.{Con, Gen, Given, equality, generator, inequality, line}
 use Rattle.lra_linear.specs.Echelon.{Before, Leads}
@@ -15,7 +15,7 @@ use Rattle.lra_linear.specs.LowestTerms.{IsPrimitive}
 use Rattle.lra_linear.specs.OperationStrain.{ImageStrains, with_positivity}
 use Rattle.lra_linear.specs.Points.{IsWithin}
 use Rattle.lra_linear.specs.Polyhedra.{Polyhedron, positivity}
-use Rattle.lra_linear.specs.Strain.{Strains}
+use Rattle.lra_linear.specs.Strain.{InOther, Strains}
 use Rattle.lra_linear.specs.Vectors.{entry, negated, product}
 use Rattle.lra_linear.specs.declared.Excess as E
 use Rattle.lra_linear.specs.declared.Cause.TheVariants.{Excess}
@@ -278,10 +278,56 @@ twice_passes = refl
 pub once_fits : checked_product (pos 0 ∷ pos 1 ∷ []) at_greatest ≡ Ok (pos greatest)
 once_fits = refl
 
--- the image by 2 x1 of a polyhedron with that point strains as the point is mapped
-pub image_strains : (p : Polyhedron) (chosen : List Given) → Contains p.generators (generator at_greatest) →
-    ImageStrains 1 (pos 0 ∷ pos 2 ∷ []) p (record { chosen = chosen; further = generator at_greatest; cause = Excess (record { op = Product; left = pos 2; right = pos greatest }) })
-image_strains p chosen k = inl (record { has = k; excess = record { op = Product; left = pos 2; right = pos greatest }; is_cause = refl; passes = twice_passes })
+-- the image by 2 x1 of a polyhedron with that point strains as the point is mapped, after the generators before it
+pub image_strains : (p : Polyhedron) (earlier later : List Given) → p.generators ≡ earlier ++ generator at_greatest ∷ later →
+    ImageStrains 1 (pos 0 ∷ pos 2 ∷ []) p (record { chosen = earlier; further = generator at_greatest; cause = Excess (record { op = Product; left = pos 2; right = pos greatest }) })
+image_strains p earlier later k = inl (record { later = later; is = k; excess = record { op = Product; left = pos 2; right = pos greatest }; is_cause = refl; passes = twice_passes })
+
+-- ---- a line isn't taken with itself
+negated_twice : (l : List ℤ) → negated (negated l) ≡ l
+negated_twice [] = refl
+negated_twice (x ∷ l) = ap (λ y. y ∷ negated (negated l)) (ring (⊖ (⊖ (v x))) (v x) (omega arith)) ∙ ap (λ y. x ∷ y) (negated_twice l)
+
+pub line_with_itself : (c : List ℤ) (rows : List (List ℤ)) (l : List ℤ) → ¬ (PairAcross c rows l (negated l))
+line_with_itself c rows l p = p.apart (sym (negated_twice l))
+
+pub line_with_itself_turned : (c : List ℤ) (rows : List (List ℤ)) (l : List ℤ) → ¬ (PairAcross c rows (negated l) l)
+line_with_itself_turned c rows l p = p.apart refl
+
+-- the point at 2 ^ 100 and the point at 0: once the first is taken a line and a ray are left, and as the second is taken only that
+-- line with itself would pass
+abbrev far_line : List ℤ
+far_line = neg_ℤ (pos (2 ^ 100)) ∷ pos 1 ∷ []
+
+pub far_line_would_pass : checked_blend (neg_ℤ (product unit far_line)) (product unit (negated far_line)) (negated far_line) far_line ≡
+    Err (record { op = Product; left = pos (2 ^ 100); right = pos (2 ^ 100) })
+far_line_would_pass = refl
+
+abbrev far_rows : List (List ℤ)
+far_rows = all_rows (far_line ∷ []) (unit ∷ [])
+
+pub far_points_fit : (e : E.Excess) → ¬ (ProductPasses unit far_rows e ⊎ PairPasses unit far_rows e)
+far_points_fit e (inl p) = ok_not_err (checked_product unit p.row) e (list_all_at (λ u. is_ok (checked_product unit u)) far_rows refl p.row p.has) p.passes
+far_points_fit e (inr p) = each_three (λ u. Across u p.down → ⊥) unit far_line (negated far_line) from_unit from_line from_negated p.up p.across.has_up (p.across, p.passes)
+  where
+    Across : List ℤ → List ℤ → Type 0
+    Across up down = PairAcross unit far_rows up down × (checked_blend (neg_ℤ (product unit down)) (product unit up) up down ≡ Err e)
+
+    from_line : Across far_line p.down → ⊥
+    from_line x = let h = x.0.above in omega (arith, ints, h)
+
+    from_unit : Across unit p.down → ⊥
+    from_unit = each_three (λ d. Across unit d → ⊥) unit far_line (negated far_line) (λ x. let h = x.0.below in omega (arith, ints, h))
+        (λ x. ok_not_err (checked_blend (neg_ℤ (product unit far_line)) (product unit unit) unit far_line) e refl x.1) (λ x. let h = x.0.below in omega (arith, ints, h)) p.down p.across.has_down
+
+    from_negated : Across (negated far_line) p.down → ⊥
+    from_negated = each_three (λ d. Across (negated far_line) d → ⊥) unit far_line (negated far_line) (λ x. let h = x.0.below in omega (arith, ints, h)) (λ x. x.0.apart refl)
+        (λ x. let h = x.0.below in omega (arith, ints, h)) p.down p.across.has_down
+
+-- ---- the lines of S* aren't cleared by themselves: where the form is these lines, what is taken from S* is a ray
+pub no_line_by_itself : (lines rays : List (List ℤ)) (r : List ℤ) → InOther lines rays lines r → Contains rays r
+no_line_by_itself lines rays r (inl k) = k
+no_line_by_itself lines rays r (inr x) = absurd (x.1 refl)
 
 -- ---- the line of all points isn't within the point 0: the point 1 is on the line
 abbrev all_points : List Given

@@ -1,11 +1,12 @@
 -- What strains a cone of lines and rays when a further row c is taken in: a product of c with one of its rows passes the range, or
--- the combination of two of them; or the cone with c has more rays than a description may have.
-use Rattle.std.specs.Prelude.{◌≡◌, ℕ, ◌<◌, ◌⊎◌, ℤ, pos, neg_ℤ, ◌<ℤ◌, Bool, List, length, Ok, Err}
+-- the combination of two of them; or the cone with c has more rays than a description may have. A coefficient past the range is no
+-- strain by itself, only in such a product or combination.
+use Rattle.std.specs.Prelude.{◌≡◌, ◌≢◌, ℕ, ◌<◌, ◌⊎◌, ℤ, pos, neg_ℤ, ◌<ℤ◌, Bool, List, length, Ok, Err}
 use Rattle.std.specs.List.{Contains}
 use Rattle.lra_linear.specs.declared.Excess as E
 use Rattle.lra_linear.specs.declared.Cause.{Cause}
 use Rattle.lra_linear.specs.declared.Cause.TheVariants.{Excess, TooMany}
-use Rattle.lra_linear.specs.Vectors.{product}
+use Rattle.lra_linear.specs.Vectors.{product, negated}
 use Rattle.lra_linear.specs.CheckedArithmetic.{checked_product, checked_blend}
 use Rattle.lra_linear.specs.LowestTerms.{IsLowest}
 use Rattle.lra_linear.specs.Cones.{all_rows, AreDual}
@@ -23,12 +24,13 @@ pub record ProductPasses (c : List ℤ) (rows : List (List ℤ)) (e : E.Excess) 
   pub has : Contains rows row
   pub passes : checked_product c row ≡ Err e
 
--- two of the rows, the one above 0 and the other below
+-- two of the rows, the one above 0 and the other below; a line, which stands there in both directions, isn't taken with itself
 pub record PairAcross (c : List ℤ) (rows : List (List ℤ)) (up down : List ℤ) : Type 0 where
   pub has_up : Contains rows up
   pub has_down : Contains rows down
   pub above : pos 0 <ℤ product c up
   pub below : product c down <ℤ pos 0
+  pub apart : up ≢ negated down
 
 -- what c and two of the rows combine to passes
 pub record PairPasses (c : List ℤ) (rows : List (List ℤ)) (e : E.Excess) : Type 0 where

@@ -1,7 +1,8 @@
 -- Strain of the operations on polyhedra. An operation takes in a list of constraints, or of generators; it strains where that list
 -- strains, where the canonical list of the other kind of its exact result does, or where a number passes as a row of the list is
 -- formed. Inclusion, the greatest value of a form, and the widenings strain where one of their products passes. Polyhedra stand here
--- by their canonical lists, so the strain of an operation depends on the sets alone.
+-- by their canonical lists, so the strain of an operation depends on the sets alone. Rows are taken in as they are formed, not in
+-- lowest terms; k is a column, from 1 to n.
 use Rattle.std.specs.Prelude.{◌≡◌, ℕ, suc, ◌+◌, ◌-◌, ◌&&◌, ◌⊎◌, ℤ, pos, true, List, [], ◌∷◌, ◌++◌, take, slice_set, Result, Err, map}
 use Rattle.std.specs.List.{Contains, filter}
 use Rattle.lra_linear.specs.declared.Excess as E
@@ -32,9 +33,10 @@ ConstraintsStrain n P taken loss = Strains (suc n) (with_positivity n taken) los
 abbrev pub GeneratorsStrain : ℕ → PointSet → List Given → Loss → Type 0
 GeneratorsStrain n P taken loss = Strains (suc n) taken loss ⊎ ResultStrains n P (λ p. with_positivity n p.rows) loss
 
--- a number passes as one of the rows is formed
+-- a number passes as one of the rows is formed; as chosen stand those before it, all as they are before they are formed
 pub record FormingPasses {A : Type 0} (formed : Given → Result A E.Excess) (rows : List Given) (loss : Loss) : Type 0 where
-  pub has : Contains rows loss.further
+  pub later : List Given
+  pub is : rows ≡ loss.chosen ++ loss.further ∷ later
   pub excess : E.Excess
   pub is_cause : loss.cause ≡ Excess excess
   pub passes : formed loss.further ≡ Err excess
@@ -47,7 +49,7 @@ pub record ProductsPass (rows generators : List Given) (e : E.Excess) : Type 0 w
   pub has_generator : Contains generators generator
   pub passes : checked_product row.row generator.row ≡ Err e
 
--- ---- from lists
+-- ---- from lists; those of generators are `AreGenerators`
 abbrev pub FromRowsStrains : ℕ → List Given → Loss → Type 0
 FromRowsStrains n rows = ConstraintsStrain n (Con rows) rows
 
@@ -83,7 +85,8 @@ pub record IsResultList (n : ℕ) (P : PointSet) (generators : List Given) : Typ
   pub is_result : IsPolyhedronOf n P result
   pub are : generators ≡ result.generators
 
--- a product of a row of Q, or of a given row, with a generator of P, of Q or of the exact result R passes
+-- a product of a row of Q, or of a given row, with a generator of P, of Q or of the exact result R passes; no row stands as chosen
+-- (the products of P's own rows with P's generators, by which tightness is told, are none of these: they must be known to fit)
 pub record WideningPasses (p q : Polyhedron) (given : List Given) (R : PointSet) (loss : Loss) : Type 0 where
   pub excess : E.Excess
   pub is_cause : loss.cause ≡ Excess excess
@@ -91,6 +94,7 @@ pub record WideningPasses (p q : Polyhedron) (given : List Given) (R : PointSet)
   pub of : (generators ≡ p.generators) ⊎ (generators ≡ q.generators) ⊎ IsResultList p.dims R generators
   pub passes : ProductsPass (q.rows ++ given) generators excess
   pub is_further : loss.further ≡ passes.row
+  pub nothing : loss.chosen ≡ []
 
 abbrev pub StandardStrains : Polyhedron → Polyhedron → Loss → Type 0
 StandardStrains p q loss = ConstraintsStrain p.dims (Standard p q) (tight_on p q) loss ⊎ WideningPasses p q [] (Standard p q) loss
@@ -99,7 +103,8 @@ abbrev pub LimitedStrains : Polyhedron → Polyhedron → List Given → Loss �
 LimitedStrains p q given loss =
     ConstraintsStrain p.dims (Limited p q given) (tight_on p q ++ valid_on p q given) loss ⊎ WideningPasses p q given (Limited p q given) loss
 
--- ---- hull and time-elapse: the canonical generators of both, for time-elapse the second's points as rays
+-- ---- hull and time-elapse: the canonical generators of both, for time-elapse the second's points as rays; where one has no point,
+-- still those of the other
 abbrev pub HullStrains : Polyhedron → Polyhedron → Loss → Type 0
 HullStrains p q = GeneratorsStrain p.dims (Hull p.dims (Union (Con p.rows) (Con q.rows))) (p.generators ++ q.generators)
 

@@ -1,5 +1,6 @@
 -- Operations on sets of rational points, said of the points alone. A form e0, e1, .., en is the affine map e0 + e1 x1 + .. + en xn;
--- at the point den, num1, .., numn it is (its product with that row) / den.
+-- at the point den, num1, .., numn it is (its product with that row) / den. In an image, a preimage and where a coordinate may be
+-- anything, k is a column, from 1 to n: the dimension that is k - 1 when counted from 0. Column 0 is the divisor.
 use Rattle.std.specs.Prelude.{◌≡◌, ◌≢◌, ℕ, suc, ◌+◌, ◌<◌, ◌⊎◌, ℤ, pos, ◌+ℤ◌, ◌*ℤ◌, ◌≤ℤ◌, List, length, take, slice_set}
 use Rattle.lra_linear.specs.Vectors.{entry, product}
 use Rattle.lra_linear.specs.Points.{IsPoint, SamePoint, PointSet}

@@ -1,22 +1,24 @@
 -- Strain: from which numbers, exactly, a list that is taken in row by row may lose a row. The list is one of constraints, with the
 -- positivity row first, or one of generators. Let S be a beginning of it and c the next row, or a row of S; let S* be the canonical
 -- description of the other kind of what S describes. The list strains where a number passes the range
--- (1) in the product of c with a row of S*, or in what c and two rows of S* combine to, a line of S* in either direction;
+-- (1) in the product of c with a row of S*, or in what c and two rows of S* combine to, a line of S* in either direction, but not
+-- with itself;
 -- (2) in a reduction, of at most as many steps as there are columns, by an echelon form;
 -- or where (3) S with c has a canonical description of one of the two kinds with too many rows.
 -- The rows that a reduction starts from, and the echelon forms by which it goes, are those of one kind:
 -- of the list's own kind, from a row of S, of the canonical description of S, or another such form, by the echelon form of the first
 -- few of those rows of S that are tight at all of S* (they hold as equalities; of generators, they can be taken both ways);
 -- of the other kind, from a row of S*, a combination of two of them by c, or the other form, by the lines of S* or of (S with c)*.
+-- No row of a form is cleared by itself in that form; a row of S that equals it is another row.
 -- Each is said with its witness: the lists, the rows, the steps before the one that passes.
-use Rattle.std.specs.Prelude.{◌≡◌, ℕ, ◌<◌, ◌⊎◌, ℤ, pos, Bool, true, false, cond, List, [], ◌∷◌, ◌++◌, length, take}
+use Rattle.std.specs.Prelude.{◌≡◌, ◌≢◌, ℕ, ◌<◌, ◌⊎◌, ℤ, pos, Bool, true, false, cond, List, [], ◌∷◌, ◌++◌, length, take}
 use Rattle.std.specs.Ordering.{int_eq}
 use Rattle.std.specs.List.{Contains}
 use Rattle.lra_linear.specs.declared.Excess as E
 use Rattle.lra_linear.specs.declared.Cause.{Cause}
 use Rattle.lra_linear.specs.declared.Cause.TheVariants.{Excess, TooMany}
 use Rattle.lra_linear.specs.Vectors.{product}
-use Rattle.lra_linear.specs.Cones.{all_rows, AreDual}
+use Rattle.lra_linear.specs.Cones.{both_ways, all_rows, AreDual}
 use Rattle.lra_linear.specs.Echelon.{IsEchelonOf}
 use Rattle.lra_linear.specs.Canonical.{IsCanonical, IsCanonicalOf}
 use Rattle.lra_linear.specs.DoubleDescription.{with_row}
@@ -46,14 +48,14 @@ pub record IsOwnForm (rows rays form : List (List ℤ)) : Type 0 where
   pub first : ℕ
   pub is_form : IsEchelonOf form (take first (tight_rows rays rows))
 
--- a row of the canonical description of what the system generates
-pub record InCanonical (w : ℕ) (system : List (List ℤ)) (r : List ℤ) : Type 0 where
+-- a row of the canonical description of what the system generates; a line of it where the form isn't these lines
+pub record InCanonical (w : ℕ) (system form : List (List ℤ)) (r : List ℤ) : Type 0 where
   pub lines : List (List ℤ)
   pub rays : List (List ℤ)
   pub canonical : IsCanonicalOf w system lines rays
-  pub has : Contains (rays ++ lines) r
+  pub has : Contains rays r ⊎ (Contains lines r × (form ≢ lines))
 
--- a row of another echelon form
+-- a row of another echelon form, equal as a vector to none of this form
 pub record InOtherForm (IsForm : List (List ℤ) → Type 0) (form : List (List ℤ)) (r : List ℤ) : Type 0 where
   pub other : List (List ℤ)
   pub is_form : IsForm other
@@ -64,7 +66,7 @@ pub record OwnReductionPasses (w : ℕ) (chosen : List Given) (rays : List (List
   pub form : List (List ℤ)
   pub is_form : IsOwnForm (rows_of chosen) rays form
   pub start : List ℤ
-  pub from : Contains (rows_of chosen) start ⊎ InCanonical w (system_of chosen) start ⊎ InOtherForm (IsOwnForm (rows_of chosen) rays) form start
+  pub from : Contains (rows_of chosen) start ⊎ InCanonical w (system_of chosen) form start ⊎ InOtherForm (IsOwnForm (rows_of chosen) rays) form start
   pub passes : ReductionPasses w form start e
 
 -- ---- (2) reductions of the other kind
@@ -77,11 +79,15 @@ pub record IsNewLines (w : ℕ) (system lines : List (List ℤ)) : Type 0 where
 abbrev pub IsOtherForm : ℕ → List (List ℤ) → List (List ℤ) → List (List ℤ) → Type 0
 IsOtherForm w system lines form = (form ≡ lines) ⊎ IsNewLines w system form
 
+-- a row of S*, a line in either direction; a line where the form isn't the lines of S*
+abbrev pub InOther : List (List ℤ) → List (List ℤ) → List (List ℤ) → List ℤ → Type 0
+InOther lines rays form r = Contains rays r ⊎ (Contains (both_ways lines) r × (form ≢ lines))
+
 pub record OtherReductionPasses (w : ℕ) (chosen : List Given) (further : Given) (lines rays : List (List ℤ)) (e : E.Excess) : Type 0 where
   pub form : List (List ℤ)
   pub is_form : IsOtherForm w (with_row further.equal further.row (system_of chosen)) lines form
   pub start : List ℤ
-  pub from : Contains (all_rows lines rays) start ⊎ IsPairOf further.row (all_rows lines rays) start
+  pub from : InOther lines rays form start ⊎ IsPairOf further.row (all_rows lines rays) start
       ⊎ InOtherForm (IsOtherForm w (with_row further.equal further.row (system_of chosen)) lines) form start
   pub passes : ReductionPasses w form start e
 
