@@ -1,5 +1,6 @@
 -- Rows with their kinds, as the descriptions of sets of points that they are.
-use Rattle.std.specs.Prelude.{ℕ, ℤ, Bool, true, false, List, [], ◌∷◌}
+use Rattle.std.specs.Prelude.{◌≡◌, ℕ, ℤ, pos, ◌<ℤ◌, Bool, true, false, List, [], ◌∷◌}
+use Rattle.lra_linear.specs.Vectors.{entry}
 use Rattle.lra_linear.specs.Descriptions.{Given}
 use Rattle.lra_sys.specs.declared.system.ConKind.{ConKind}
 use Rattle.lra_sys.specs.declared.system.ConKind.TheVariants as con
@@ -31,3 +32,15 @@ is_line gen.Line = true
 
 abbrev pub generators : Listed GenKind → List Given
 generators s = given_by is_line s.rows s.kinds
+
+-- column 0 as the kind asks: a point's divisor is above 0; rays and lines have 0 there
+abbrev pub FitsKind : GenKind → List ℤ → Type 0
+FitsKind gen.Point r = pos 0 <ℤ entry r 0
+FitsKind gen.Ray r = entry r 0 ≡ pos 0
+FitsKind gen.Line r = entry r 0 ≡ pos 0
+
+-- row by row; the generators of such a list are `AreGenerators`
+abbrev pub FitKinds : List (List ℤ) → List GenKind → Type 0
+FitKinds [] kinds = Unit {0}
+FitKinds (r ∷ rows) [] = Unit {0}
+FitKinds (r ∷ rows) (k ∷ kinds) = FitsKind k r × FitKinds rows kinds

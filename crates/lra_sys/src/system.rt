@@ -14,7 +14,7 @@ pub enum ConKind {
     Eq,
 }
 
-/// What a generator is.
+/// What a generator is. Column 0 of a point is its divisor, at least 1; rays and lines have 0 there. A list takes any row.
 #[derive(Clone, Copy, Debug, PartialEq, Eq)]
 pub enum GenKind {
     Point,
