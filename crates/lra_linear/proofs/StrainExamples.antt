@@ -9,7 +9,7 @@ use Rattle.lra_linear.specs.Canonical.{IsCanonical}
 use Rattle.lra_linear.specs.CheckedArithmetic.{checked_blend, checked_product}
 use Rattle.lra_linear.specs.ConeStrain.{PairAcross, PairPasses, ProductPasses}
 use Rattle.lra_linear.specs.Cones.{AreDual, Generated, all_rows}
-use Rattle.lra_linear.specs.Descriptions.{Con, Gen, Given, equality, generator, inequality, line}
+use Rattle.lra_linear.specs.Descriptions.{Con, Gen, Given, equality, generator, inequality, line, system_of}
 use Rattle.lra_linear.specs.Echelon.{Before, Leads}
 use Rattle.lra_linear.specs.LowestTerms.{IsPrimitive}
 use Rattle.lra_linear.specs.OperationStrain.{ImageStrains, with_positivity}
@@ -294,8 +294,11 @@ line_with_itself c rows l p = p.apart (sym (negated_twice l))
 pub line_with_itself_turned : (c : List ℤ) (rows : List (List ℤ)) (l : List ℤ) → ¬ (PairAcross c rows (negated l) l)
 line_with_itself_turned c rows l p = p.apart refl
 
--- the point at 2 ^ 100 and the point at 0: once the first is taken a line and a ray are left, and as the second is taken only that
--- line with itself would pass
+-- the point at 2 ^ 100 and the point at 0: the constraints of the first are an equality and the positivity row, and as the second is
+-- taken only that equality with itself would pass
+abbrev far_point : List ℤ
+far_point = pos 1 ∷ pos (2 ^ 100) ∷ []
+
 abbrev far_line : List ℤ
 far_line = neg_ℤ (pos (2 ^ 100)) ∷ pos 1 ∷ []
 
@@ -305,6 +308,47 @@ far_line_would_pass = refl
 
 abbrev far_rows : List (List ℤ)
 far_rows = all_rows (far_line ∷ []) (unit ∷ [])
+
+pub far_canonical : IsCanonical (far_line ∷ []) (unit ∷ [])
+far_canonical = record {
+  pivots = 1 ∷ [];
+  echelon = (record { before = λ j b. absurd (before_one j b); here = omega (arith, ints) }, primitive_at far_line 1 refl, λ t k. absurd (contains_none t k), λ q k. absurd (contains_none q k), tt);
+  reduced = λ r k q n. each_one (λ t. entry t q ≡ pos 0) unit (elim (contains_cases 1 q [] n) [ inl e ↦ ap (entry unit) (sym e) | inr x ↦ absurd (contains_none q x) ]) r k;
+  lowest = each_one IsPrimitive unit (primitive_at unit 0 refl);
+  needed = split_one (λ others t. ¬ (Generated (all_rows (far_line ∷ []) others) (entry t))) unit
+      (separated (negated far_point) (far_line ∷ negated far_line ∷ []) (entry unit) (each_two (λ t. pos 0 ≤ℤ product (negated far_point) t) far_line (negated far_line) (omega (arith, ints)) (omega (arith, ints))) (omega (arith, ints)));
+  pointed = each_one (λ t. ¬ (Generated far_rows (λ j. neg_ℤ (entry t j)))) unit
+      (separated far_point far_rows (λ j. neg_ℤ (entry unit j)) (each_three (λ t. pos 0 ≤ℤ product far_point t) unit far_line (negated far_line) (omega (arith, ints)) (omega (arith, ints)) (omega (arith, ints))) (omega (arith, ints)));
+}
+
+pub far_dual : AreDual 2 (system_of (generator far_point ∷ [])) far_rows
+far_dual = record {
+  system_widths = each_one (λ t. length t ≡ 2) far_point refl;
+  row_widths = each_three (λ t. length t ≡ 2) unit far_line (negated far_line) refl refl refl;
+  solutions = λ u l s.
+      let a = as_nat (entry u 0 +ℤ (pos (2 ^ 100) *ℤ entry u 1)) (let z = s far_point (contains_head far_point []) in omega (arith, ints, z)) in
+      generated_described (far_line ∷ []) (unit ∷ []) (entry u) (record { multiple = 1; positive = omega arith; free = entry u 1 ∷ []; factors = a.0 ∷ []; is_sum = λ j. ap (λ z. pos 1 *ℤ z) (two_columns u l (pos a.0 +ℤ neg_ℤ (pos (2 ^ 100) *ℤ entry u 1)) (entry u 1) (moved (pos (2 ^ 100)) (entry u 0) (entry u 1) (pos a.0) a.1) refl j) ∙ spread (pos (2 ^ 100)) (pos a.0) (entry u 1) j });
+  consequences = λ c l s.
+      let a = as_nat (entry c 0) (let z = s unit (contains_head unit (far_line ∷ negated far_line ∷ [])) in omega (arith, ints, z)) in
+      let x = s far_line (contains_tail unit far_line (far_line ∷ negated far_line ∷ []) (contains_head far_line (negated far_line ∷ []))) in
+      let y = s (negated far_line) (contains_tail unit (negated far_line) (far_line ∷ negated far_line ∷ []) (contains_tail far_line (negated far_line) (negated far_line ∷ []) (contains_head (negated far_line) []))) in
+      let e = a.1 in
+      record { multiple = 1; positive = omega arith; factors = a.0 ∷ []; is_sum = λ j. ap (λ z. pos 1 *ℤ z) (two_columns c l (pos a.0) (pos (2 ^ 100) *ℤ pos a.0) a.1 (omega (arith, ints, x, y, e)) j) ∙ columns (pos (2 ^ 100)) (pos a.0) j };
+  meets = λ r k c n. each_one (λ y. pos 0 ≤ℤ product y r) far_point (each_three (λ t. pos 0 ≤ℤ product far_point t) unit far_line (negated far_line) (omega (arith, ints)) (omega (arith, ints)) (omega (arith, ints)) r k) c n;
+}
+  where
+    moved : (m x y a : ℤ) → x +ℤ (m *ℤ y) ≡ a → x ≡ a +ℤ neg_ℤ (m *ℤ y)
+    moved m x y a e = ring (v x) ((v x ⊕ v m ⊗ v y) ⊕ ⊖ (v m ⊗ v y)) (omega arith) ∙ ap (λ z. z +ℤ neg_ℤ (m *ℤ y)) e
+
+    spread : (m a y : ℤ) (j : ℕ) → pos 1 *ℤ entry ((a +ℤ neg_ℤ (m *ℤ y)) ∷ y ∷ []) j ≡ ((y *ℤ entry (neg_ℤ m ∷ pos 1 ∷ []) j) +ℤ pos 0) +ℤ ((a *ℤ entry (pos 1 ∷ pos 0 ∷ []) j) +ℤ pos 0)
+    spread m a y zero = ring (v (pos 1) ⊗ (v a ⊕ ⊖ (v m ⊗ v y))) ((v y ⊗ ⊖ (v m) ⊕ v (pos 0)) ⊕ (v a ⊗ v (pos 1) ⊕ v (pos 0))) (omega arith)
+    spread m a y (suc zero) = ring (v (pos 1) ⊗ v y) ((v y ⊗ v (pos 1) ⊕ v (pos 0)) ⊕ (v a ⊗ v (pos 0) ⊕ v (pos 0))) (omega arith)
+    spread m a y (suc (suc j)) = ring (v (pos 1) ⊗ v (pos 0)) ((v y ⊗ v (pos 0) ⊕ v (pos 0)) ⊕ (v a ⊗ v (pos 0) ⊕ v (pos 0))) (omega arith)
+
+    columns : (m a : ℤ) (j : ℕ) → pos 1 *ℤ entry (a ∷ (m *ℤ a) ∷ []) j ≡ (a *ℤ entry (pos 1 ∷ m ∷ []) j) +ℤ pos 0
+    columns m a zero = ring (v (pos 1) ⊗ v a) (v a ⊗ v (pos 1) ⊕ v (pos 0)) (omega arith)
+    columns m a (suc zero) = ring (v (pos 1) ⊗ (v m ⊗ v a)) (v a ⊗ v m ⊕ v (pos 0)) (omega arith)
+    columns m a (suc (suc j)) = ring (v (pos 1) ⊗ v (pos 0)) (v a ⊗ v (pos 0) ⊕ v (pos 0)) (omega arith)
 
 pub far_points_fit : (e : E.Excess) → ¬ (ProductPasses unit far_rows e ⊎ PairPasses unit far_rows e)
 far_points_fit e (inl p) = ok_not_err (checked_product unit p.row) e (list_all_at (λ u. is_ok (checked_product unit u)) far_rows refl p.row p.has) p.passes
