@@ -1,0 +1,43 @@
+-- The iteration over a whole program, and what is reported of it. Points are numbered from 0 here; a report's numbers are one more.
+use Rattle.std.specs.Prelude.{◌≡◌, ◌↔◌, ℕ, List, [], Option, None, Some, Bool, IsTrue, Contains, slice_get}
+use Rattle.lra_domain.specs.Meaning.{Meaning}
+use Rattle.lra_domain.specs.declared.Exactness.{Exactness}
+use Rattle.lra_tree.specs.Program.{Program}
+use Rattle.lra_tree.specs.Graph.{Node}
+use Rattle.lra_flow.specs.declared.Settings.{Settings}
+use Rattle.lra_flow.specs.Operations.{Operations, defined, dropping, straining}
+use Rattle.lra_flow.specs.Changes.{first_values, AreDone}
+use Rattle.lra_flow.specs.Pass.{Entry, value, failing, Result, noted, Pass}
+
+-- from the globals at their first values, which are set at the first point, through the program's tree
+abbrev pub Iteration : {V H : Type 0} → Operations V H → Settings → Program → Node → Result V → Type 0
+Iteration {V} {H} ops set P g r =
+    (none first : V) × (e : Exactness) × ops.universal 0 set.parts none × AreDone ops (first_values 0 P.globals) none e first
+    × Pass V H ops set g (noted 0 e None) first r
+
+-- the written iteration
+abbrev pub Written : {V H : Type 0} → Meaning V H → Settings → Program → Node → Result V → Type 0
+Written m set P g r = Iteration (defined m) set P g r
+
+-- one in which operations that strain may have dropped something
+abbrev pub Derivation : {V H : Type 0} → Meaning V H → Settings → Program → Node → Result V → Type 0
+Derivation m set P g r = Iteration (dropping m) set P g r
+
+abbrev pub Unflagged : {V : Type 0} → Result V → Type 0
+Unflagged r = r.flag ≡ None
+
+-- an operation of this point strains on the operands that the written iteration has there
+abbrev pub Strains : {V H : Type 0} → Meaning V H → Settings → Program → Node → ℕ → Type 0
+Strains {V} m set P g q = (r : Result V) × Iteration (straining m) set P g r × (r.flag ≡ Some q)
+
+-- no part: no run comes there
+abbrev pub IsUnreachable : {V H : Type 0} → Meaning V H → V → Type 0
+IsUnreachable m v = m.parts v ≡ []
+
+-- values are in the order of their points' numbers; a verdict is a point's number, and whether the assertion is proved: exactly where
+-- nothing is left of the value at which its condition is false
+pub record Solves {V H : Type 0} (m : Meaning V H) (r : Result V) (values : List V) (verdicts : List (ℕ × Bool)) (flagged : Option ℕ) : Type 0 where
+  pub is_value : (q : ℕ) (v : V) → (slice_get values q ≡ Some v) ↔ Contains r.entries (value q v)
+  pub is_verdict : (q : ℕ) (proved : Bool) → Contains verdicts (q, proved) → (u : V) × Contains r.entries (failing q u) × (IsTrue proved ↔ IsUnreachable m u)
+  pub has_verdict : (q : ℕ) (u : V) → Contains r.entries (failing q u) → (proved : Bool) × Contains verdicts (q, proved)
+  pub is_flagged : flagged ≡ r.flag

@@ -1,0 +1,76 @@
+-- The operations of which an iteration is made. Each is a relation of its operands, its exactness and its result, so that one
+-- definition of the iteration serves for the written one, for one in which operations may be flagged, and for where one strains.
+use Rattle.std.specs.Prelude.{◌≡◌, ℕ, ℤ, List, length}
+use Rattle.lra_sys.specs.Listed.{Listed}
+use Rattle.lra_sys.specs.declared.system.ConKind.{ConKind}
+use Rattle.lra_domain.specs.Actions.{Action}
+use Rattle.lra_domain.specs.declared.Mode.{Mode}
+use Rattle.lra_domain.specs.declared.Exactness.{Exactness}
+use Rattle.lra_domain.specs.declared.Exactness.TheVariants.{Exact, Flagged}
+use Rattle.lra_domain.specs.Meaning.{Meaning, Meets, Joins, Starts, Stays, Grew, Values}
+
+pub record Operations (V H : Type 0) : Type 1 where
+  pub dims : V → ℕ
+  -- the value of so many dimensions and this cap that has all stores; that has none
+  pub universal : ℕ → ℕ → V → Type 0
+  pub void : ℕ → ℕ → V → Type 0
+  pub changed : Action → V → Exactness → V → Type 0
+  pub joined : V → V → Exactness → V → Type 0
+  -- a loop's head starts with a value and the given rows; it is stable under the next value, or grows by it; its value
+  pub started : V → Listed ConKind → H → Type 0
+  pub stays : H → V → Mode → Type 0
+  pub grown : H → V → Mode → Exactness → H → Type 0
+  pub valued : H → Exactness → V → Type 0
+
+-- every operation is exact and gives its defined result
+abbrev pub defined : {V H : Type 0} → Meaning V H → Operations V H
+defined m = record {
+  dims = m.dims;
+  universal = m.universal;
+  void = m.void;
+  changed = λ step v e w. (e ≡ Exact) × m.done step v w;
+  joined = λ u v e w. (e ≡ Exact) × m.joined u v w;
+  started = m.started;
+  stays = m.stays;
+  grown = λ h v mode e next. (e ≡ Exact) × (¬ m.stays h v mode) × m.grown h v mode next;
+  valued = λ h e v. (e ≡ Exact) × m.valued h v;
+}
+
+-- where a value that lies in the head was yet answered as not lying in it, since that inclusion strains, the head has all stores
+abbrev pub IsGrowth : {V H : Type 0} → Meaning V H → H → V → Mode → Exactness → H → Type 0
+IsGrowth m h v mode e next =
+    Grew m h v mode e next × (e ≡ Flagged → m.stays h v mode → (s : List ℤ) → length s ≡ m.head_dims next → m.head_has next s)
+
+-- an operation that strains on the operands that it has may be flagged; its result then covers the defined one
+abbrev pub dropping : {V H : Type 0} → Meaning V H → Operations V H
+dropping m = record {
+  dims = m.dims;
+  universal = m.universal;
+  void = m.void;
+  changed = Meets m;
+  joined = Joins m;
+  started = Starts m;
+  stays = Stays m;
+  grown = IsGrowth m;
+  valued = Values m;
+}
+
+-- an operation that strains may be flagged, and then gives anything: so what comes before the first flag is as it is defined,
+-- and the first flagged operation strains on the operands that the written iteration has there
+abbrev pub straining : {V H : Type 0} → Meaning V H → Operations V H
+straining m = record {
+  dims = m.dims;
+  universal = m.universal;
+  void = m.void;
+  changed = λ step v e w. (e ≡ Exact → m.done step v w) × (e ≡ Flagged → m.strains step v);
+  joined = λ u v e w. (e ≡ Exact → m.joined u v w) × (e ≡ Flagged → m.join_strains u v);
+  started = m.started;
+  stays = m.stays;
+  grown = λ h v mode e next. (e ≡ Exact → (¬ m.stays h v mode) × m.grown h v mode next) × (e ≡ Flagged → m.grow_strains h v mode);
+  valued = λ h e v. (e ≡ Exact → m.valued h v) × (e ≡ Flagged → m.value_strains h);
+}
+
+-- several operations in a row are flagged where one of them is
+abbrev pub worse : Exactness → Exactness → Exactness
+worse Exact e = e
+worse Flagged e = Flagged

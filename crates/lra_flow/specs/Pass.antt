@@ -1,0 +1,145 @@
+-- The iteration over a program whose calls are written out: one case for each form of its tree.
+-- What is counted here are values at points, values with which the tree is left, and the first point with a flagged operation.
+use Rattle.std.specs.Prelude.{◌≡◌, ℕ, zero, suc, ◌-◌, List, [], ◌∷◌, ◌++◌, Option, None, Some, Bool, true, false, if◌then◌else◌}
+use Rattle.lra_domain.specs.declared.Mode.{Mode}
+use Rattle.lra_domain.specs.declared.Mode.TheVariants.{Join, Widen, Limited}
+use Rattle.lra_domain.specs.declared.Exactness.{Exactness}
+use Rattle.lra_domain.specs.declared.Exactness.TheVariants.{Exact, Flagged}
+use Rattle.lra_tree.specs.Program.{Cond}
+use Rattle.lra_tree.specs.Step.{Op, append, give, give_any, push, keep, test}
+use Rattle.lra_tree.specs.Graph.{Exit, broken, continued, returned, Node, empty, point, act, check, seq, choose, iterate, catch, leave}
+use Rattle.lra_flow.specs.declared.Settings.{Settings}
+use Rattle.lra_flow.specs.Operations.{Operations, worse}
+use Rattle.lra_flow.specs.Changes.{actions_of, AreDone, AreJoined}
+use Rattle.lra_flow.specs.Conditions.{Leaves}
+use Rattle.lra_flow.specs.Given.{given_rows}
+
+-- what is found on the way
+pub data Entry (V : Type 0) : Type 0 where
+  -- the value at the point of this number
+  value : ℕ → V → Entry V
+  -- the value where the assertion at the point is false
+  failing : ℕ → V → Entry V
+
+-- what a pass gives: its entries in the order in which they are found, the value behind the tree, the values of its jumps in
+-- text order, and the point of the first flagged operation, where there is one
+pub record Result (V : Type 0) : Type 0 where
+  pub entries : List (Entry V)
+  pub normal : V
+  pub breaks : List V
+  pub continues : List V
+  pub returns : List V
+  pub flag : Option ℕ
+
+-- an operation of this point is done: the first flagged point so far
+abbrev pub noted : ℕ → Exactness → Option ℕ → Option ℕ
+noted q e (Some p) = Some p
+noted q Exact None = None
+noted q Flagged None = Some q
+
+-- without a jump
+abbrev pub goes_on : {V : Type 0} → List (Entry V) → V → Option ℕ → Result V
+goes_on xs v f = record { entries = xs; normal = v; breaks = []; continues = []; returns = []; flag = f }
+
+-- the jump takes the value, and nothing goes on
+abbrev pub jumps : {V : Type 0} → Exit → V → V → Option ℕ → Result V
+jumps broken v nothing f = record { entries = []; normal = nothing; breaks = v ∷ []; continues = []; returns = []; flag = f }
+jumps continued v nothing f = record { entries = []; normal = nothing; breaks = []; continues = v ∷ []; returns = []; flag = f }
+jumps returned v nothing f = record { entries = []; normal = nothing; breaks = []; continues = []; returns = v ∷ []; flag = f }
+
+-- what both find, and the jumps of both; this value goes on
+abbrev pub in_turn : {V : Type 0} → Result V → Result V → V → Option ℕ → Result V
+in_turn r s v f = record {
+  entries = r.entries ++ s.entries;
+  normal = v;
+  breaks = r.breaks ++ s.breaks;
+  continues = r.continues ++ s.continues;
+  returns = r.returns ++ s.returns;
+  flag = f;
+}
+
+-- the first of the values that come out behind a catch, and the others: a loop's own end comes before its jumps, a call's behind them
+abbrev pub first_of_call : {V : Type 0} → List V → V → V × List V
+first_of_call [] normal = (normal, [])
+first_of_call (v ∷ vs) normal = (v, vs ++ normal ∷ [])
+
+abbrev pub caught : {V : Type 0} → Exit → Result V → V × List V
+caught broken r = (r.normal, r.breaks)
+caught continued r = (r.normal, r.continues)
+caught returned r = first_of_call r.returns r.normal
+
+-- the jumps of this kind end here, and the value goes on
+abbrev pub behind : {V : Type 0} → Exit → Result V → V → Option ℕ → Result V
+behind broken r v f = record r { normal = v; breaks = []; flag = f }
+behind continued r v f = record r { normal = v; continues = []; flag = f }
+behind returned r v f = record r { normal = v; returns = []; flag = f }
+
+-- how a head grows that has so many rounds of joining left
+abbrev pub mode_at : Bool → ℕ → Mode
+mode_at limited (suc left) = Join
+mode_at true zero = Limited
+mode_at false zero = Widen
+
+-- from the first flagged point so far and a value to a result
+abbrev pub Through : Type 0 → Type 1
+Through V = Option ℕ → V → Result V → Type 0
+
+module _ (V H : Type 0) (ops : Operations V H) where
+  -- a least change: a condition, or the changes that the domain has for it
+  abbrev pub Changes : Op → V → Exactness → V → Type 0
+  Changes (test base c wanted) v e w = Leaves ops base c wanted v e w
+  Changes op v e w = AreDone ops (actions_of (ops.dims v) op) v e w
+
+  -- the loop at point q, by its condition and what its body does
+  module _ (q base : ℕ) (c : Cond) (body : Through V) where
+    -- one pass from a value of the loop's head
+    abbrev pub GoesRound : Through V
+    GoesRound f v r =
+        (w : V) × (e : Exactness) × (s : Result V)
+        × Leaves ops base c true v e w × body (noted q e f) w s × (r ≡ record s { entries = value q v ∷ s.entries })
+
+    -- one pass from the head itself
+    abbrev pub GoesFrom : H → Through V
+    GoesFrom h f v r = (e : Exactness) × ops.valued h e v × GoesRound (noted q e f) v r
+
+    -- the head becomes each of the later ones, until what its pass leaves behind the body lies in it: this value and result
+    -- are of that pass. The first `left` rounds join, the others widen
+    abbrev pub Grows : Bool → ℕ → Option ℕ → H → List H → V → Result V → Type 0
+    Grows limited left f h [] v r = GoesFrom h f v r × ops.stays h r.normal (mode_at limited left)
+    Grows limited left f h (next ∷ later) v r =
+        (u : V) × (s : Result V) × (e : Exactness)
+        × GoesFrom h f u s × ops.grown h s.normal (mode_at limited left) e next × Grows limited (left - 1) (noted q e s.flag) next later v r
+
+    -- so many times the value at the head becomes the join of the first one with what its pass left behind the body, and is passed
+    -- anew; the last pass stays
+    abbrev pub Narrows : ℕ → V → V → Result V → V → Result V → Type 0
+    Narrows zero first u s v r = (v ≡ u) × (r ≡ s)
+    Narrows (suc more) first u s v r =
+        (next : V) × (t : Result V) × (e : Exactness)
+        × ops.joined first s.normal e next × GoesRound (noted q e s.flag) next t × Narrows more first next t v r
+
+abbrev pub Pass : (V H : Type 0) → Operations V H → Settings → Node → Through V
+Pass V H ops set empty f v r = r ≡ goes_on [] v f
+Pass V H ops set (point q) f v r = r ≡ goes_on (value q v ∷ []) v f
+Pass V H ops set (act q op) f v r = (w : V) × (e : Exactness) × Changes V H ops op v e w × (r ≡ goes_on [] w (noted q e f))
+-- where the condition is false, and then where it is true
+Pass V H ops set (check q base c) f v r =
+    (u w : V) × (d e : Exactness) × Leaves ops base c false v d u × Leaves ops base c true v e w
+    × (r ≡ goes_on (failing q u ∷ []) w (noted q e (noted q d f)))
+Pass V H ops set (seq a b) f v r =
+    (s t : Result V) × Pass V H ops set a f v s × Pass V H ops set b s.flag s.normal t × (r ≡ in_turn s t t.normal t.flag)
+Pass V H ops set (choose q base c a b) f v r =
+    (on off w : V) × (d e i : Exactness) × (s t : Result V)
+    × Leaves ops base c true v d on × Pass V H ops set a (noted q d f) on s
+    × Leaves ops base c false v e off × Pass V H ops set b (noted q e s.flag) off t
+    × ops.joined s.normal t.normal i w × (r ≡ in_turn s t w (noted q i t.flag))
+Pass V H ops set (iterate q base c a) f v r =
+    (h : H) × (later : List H) × (u top out : V) × (s t : Result V) × (e : Exactness)
+    × ops.started v (given_rows (ops.dims v) base c) h
+    × Grows V H ops q base c (Pass V H ops set a) set.limited set.delay f h later u s
+    × Narrows V H ops q base c (Pass V H ops set a) set.narrow v u s top t
+    × Leaves ops base c false top e out × (r ≡ record t { normal = out; flag = noted q e t.flag })
+Pass V H ops set (catch q k a) f v r =
+    (w : V) × (e : Exactness) × (s : Result V)
+    × Pass V H ops set a f v s × AreJoined ops (caught k s).0 (caught k s).1 e w × (r ≡ behind k s w (noted q e s.flag))
+Pass V H ops set (leave k) f v r = (w : V) × ops.void (ops.dims v) set.parts w × (r ≡ jumps k v w f)
