@@ -1,0 +1,3 @@
+-- A derivation without a flag is the written iteration, and the first flag stands where the written iteration strains.
+mod Transfer
+mod Unflagged

@@ -1,0 +1,170 @@
+-- From an iteration by some operations to one by others, where each answer of the first that matters is one of the second.
+use Rattle.std.proofs.Common.{◌≡◌, ℕ, zero, suc, ◌-◌, List, [], ◌∷◌, Option, None, Some, Bool, true, false, refl, subst, sym}
+use Rattle.lra_sys.specs.Listed.{Listed}
+use Rattle.lra_sys.specs.declared.system.ConKind.{ConKind}
+use Rattle.lra_domain.specs.Actions.{Action}
+use Rattle.lra_domain.specs.declared.Mode.{Mode}
+use Rattle.lra_domain.specs.declared.Exactness.{Exactness}
+use Rattle.lra_domain.specs.declared.Exactness.TheVariants.{Exact, Flagged}
+use Rattle.lra_tree.specs.Program.{Cond, Comparison, below, at_most, above, at_least, equal, differs}
+use Rattle.lra_tree.specs.Step.{Op, append, give, give_any, push, keep, test}
+use Rattle.lra_tree.specs.Graph.{Exit, broken, continued, returned, Node, empty, point, act, check, seq, choose, iterate, catch, leave}
+use Rattle.lra_tree.specs.Linear.{Form, Test, comparison_test, difference_form}
+use Rattle.lra_tree.specs.Condition as condition
+use Rattle.lra_flow.specs.declared.Settings.{Settings}
+use Rattle.lra_flow.specs.Operations.{Operations, worse}
+use Rattle.lra_flow.specs.Changes.{actions_of, AreDone, AreJoined}
+use Rattle.lra_flow.specs.Conditions.{testing, tested, Leaves}
+use Rattle.lra_flow.specs.Given.{given_rows}
+use Rattle.lra_flow.specs.Pass.{Entry, value, failing, Result, noted, jumps, caught, behind, Changes, Through, GoesRound, GoesFrom, Grows, Narrows, mode_at, Pass}
+
+-- the answers that matter: with this exactness, with this flag
+pub record Matters (Keeps : Exactness → Type 0) (Fine : Option ℕ → Type 0) : Type 0 where
+  pub parts : (c d : Exactness) → Keeps (worse c d) → Keeps c × Keeps d
+  pub before : (q : ℕ) (e : Exactness) (f : Option ℕ) → Fine (noted q e f) → Keeps e × Fine f
+
+pub record Transfers {V H : Type 0} (Keeps : Exactness → Type 0) (a b : Operations V H) : Type 0 where
+  pub changed : (step : Action) (v : V) (e : Exactness) (w : V) → Keeps e → a.changed step v e w → b.changed step v e w
+  pub joined : (u v : V) (e : Exactness) (w : V) → Keeps e → a.joined u v e w → b.joined u v e w
+  pub started : (v : V) (rows : Listed ConKind) (h : H) → a.started v rows h → b.started v rows h
+  pub stays : (h : H) (v : V) (mode : Mode) → a.stays h v mode → b.stays h v mode
+  pub grown : (h : H) (v : V) (mode : Mode) (e : Exactness) (next : H) → Keeps e → a.grown h v mode e next → b.grown h v mode e next
+  pub valued : (h : H) (e : Exactness) (v : V) → Keeps e → a.valued h e v → b.valued h e v
+
+-- the second operations, with the first ones' dimensions and first values
+abbrev pub aligned : {V H : Type 0} → Operations V H → Operations V H → Operations V H
+aligned a b = record b { dims = a.dims; universal = a.universal; void = a.void }
+
+behind_flag : {V : Type 0} (k : Exit) (r : Result V) (v : V) (f : Option ℕ) → (behind k r v f).flag ≡ f
+behind_flag broken r v f = refl
+behind_flag continued r v f = refl
+behind_flag returned r v f = refl
+
+jump_flag : {V : Type 0} (k : Exit) (v nothing : V) (f : Option ℕ) → (jumps k v nothing f).flag ≡ f
+jump_flag broken v nothing f = refl
+jump_flag continued v nothing f = refl
+jump_flag returned v nothing f = refl
+
+module _ (V H : Type 0) (a b : Operations V H) (Keeps : Exactness → Type 0) (Fine : Option ℕ → Type 0) (matters : Matters Keeps Fine) (moves : Transfers Keeps a b) where
+  pub done : (steps : List Action) (v : V) (e : Exactness) (w : V) → Keeps e → AreDone a steps v e w → AreDone (aligned a b) steps v e w
+  done [] v e w k h = h
+  done (step ∷ steps) v e w k (m, c, d, one, rest, is) =
+      let p = matters.parts c d (subst Keeps is k) in
+      (m, c, d, moves.changed step v c m p.0 one, done steps m d w p.1 rest, is)
+
+  joins : (v : V) (us : List V) (e : Exactness) (w : V) → Keeps e → AreJoined a v us e w → AreJoined (aligned a b) v us e w
+  joins v [] e w k h = h
+  joins v (u ∷ us) e w k (m, c, d, one, rest, is) =
+      let p = matters.parts c d (subst Keeps is k) in
+      (m, c, d, moves.joined v u c m p.0 one, joins m us d w p.1 rest, is)
+
+  -- conditions
+  tests : (live base : ℕ) (t : Option Test) (v w : V × Exactness) → Keeps w.1 → condition.IsTestedBy (V × Exactness) (testing a) live base t v w
+      → Keeps v.1 × condition.IsTestedBy (V × Exactness) (testing (aligned a b)) live base t v w
+  tests live base None v w k h = (subst (λ (x : V × Exactness). Keeps x.1) h k, h)
+  tests live base (Some t) v w k (e, is, worst) =
+      let p = matters.parts v.1 e (subst Keeps worst k) in
+      (p.0, (e, moves.changed (tested t) v.0 e w.0 p.1 is, worst))
+
+  atoms : (live base : ℕ) (op : Comparison) (d : Option Form) (v w : V × Exactness) → Keeps w.1 → condition.IsAtom (V × Exactness) (testing a) live base op d v w
+      → Keeps v.1 × condition.IsAtom (V × Exactness) (testing (aligned a b)) live base op d v w
+  atoms live base op None v w k h = (subst (λ (x : V × Exactness). Keeps x.1) h k, h)
+  atoms live base differs (Some d) v w k (less, more, one, two, (e, is, worst)) =
+      let p = matters.parts (worse less.1 more.1) e (subst Keeps worst k) in
+      let q = matters.parts less.1 more.1 p.0 in
+      let x = tests live base (comparison_test below d) v less q.0 one in
+      let y = tests live base (comparison_test above d) v more q.1 two in
+      (x.0, (less, more, x.1, y.1, (e, moves.joined less.0 more.0 e w.0 p.1 is, worst)))
+  atoms live base op (Some d) v w k h = tests live base (comparison_test op d) v w k h
+
+  pushed : (live base : ℕ) (p : condition.Pushed) (v w : V × Exactness) → Keeps w.1 → condition.IsPushed (V × Exactness) (testing a) live base p v w
+      → Keeps v.1 × condition.IsPushed (V × Exactness) (testing (aligned a b)) live base p v w
+  pushed live base (condition.atom op x y) v w k h = atoms live base op (difference_form live base x y) v w k h
+  pushed live base (condition.first_then p q) v w k (m, one, two) =
+      let y = pushed live base q m w k two in
+      let x = pushed live base p v m y.0 one in
+      (x.0, (m, x.1, y.1))
+  pushed live base (condition.one_or p opposed q) v w k (left, m, right, one, off, two, (e, is, worst)) =
+      let i = matters.parts (worse left.1 right.1) e (subst Keeps worst k) in
+      let j = matters.parts left.1 right.1 i.0 in
+      let z = pushed live base q m right j.1 two in
+      let y = pushed live base opposed v m z.0 off in
+      let x = pushed live base p v left j.0 one in
+      (x.0, (left, m, right, x.1, y.1, z.1, (e, moves.joined left.0 right.0 e w.0 i.1 is, worst)))
+
+  leaves : (base : ℕ) (c : Cond) (wanted : Bool) (v : V) (e : Exactness) (w : V) → Keeps e → Leaves a base c wanted v e w → Leaves (aligned a b) base c wanted v e w
+  leaves base c wanted v e w k h = (pushed (a.dims v) base (condition.push wanted c) (v, Exact) (w, e) k h).1
+
+  changes : (op : Op) (v : V) (e : Exactness) (w : V) → Keeps e → Changes V H a op v e w → Changes V H (aligned a b) op v e w
+  changes append v e w k h = done (actions_of (a.dims v) append) v e w k h
+  changes (give base x y) v e w k h = done (actions_of (a.dims v) (give base x y)) v e w k h
+  changes (give_any x) v e w k h = done (actions_of (a.dims v) (give_any x)) v e w k h
+  changes (push base es) v e w k h = done (actions_of (a.dims v) (push base es)) v e w k h
+  changes (keep n) v e w k h = done (actions_of (a.dims v) (keep n)) v e w k h
+  changes (test base c wanted) v e w k h = leaves base c wanted v e w k h
+
+  module _ (q base : ℕ) (c : Cond) (body other : Through V) (follows : (f : Option ℕ) (v : V) (r : Result V) → Fine r.flag → body f v r → Fine f × other f v r) where
+    round : (f : Option ℕ) (v : V) (r : Result V) → Fine r.flag → GoesRound V H a q base c body f v r → Fine f × GoesRound V H (aligned a b) q base c other f v r
+    round f v r k (w, e, s, on, inside, is) =
+        let i = follows (noted q e f) w s (subst (λ (x : Result V). Fine x.flag) is k) inside in
+        let p = matters.before q e f i.0 in
+        (p.1, (w, e, s, leaves base c true v e w p.0 on, i.1, is))
+
+    from_head : (h : H) (f : Option ℕ) (v : V) (r : Result V) → Fine r.flag → GoesFrom V H a q base c body h f v r → Fine f × GoesFrom V H (aligned a b) q base c other h f v r
+    from_head h f v r k (e, is, turn) =
+        let i = round (noted q e f) v r k turn in
+        let p = matters.before q e f i.0 in
+        (p.1, (e, moves.valued h e v p.0 is, i.1))
+
+    grows : (limited : Bool) (left : ℕ) (f : Option ℕ) (h : H) (later : List H) (v : V) (r : Result V) → Fine r.flag → Grows V H a q base c body limited left f h later v r
+        → Fine f × Grows V H (aligned a b) q base c other limited left f h later v r
+    grows limited left f h [] v r k (turn, stays) =
+        let i = from_head h f v r k turn in
+        (i.0, (i.1, moves.stays h r.normal (mode_at limited left) stays))
+    grows limited left f h (next ∷ later) v r k (u, s, e, turn, grown, rest) =
+        let j = grows limited (left - 1) (noted q e s.flag) next later v r k rest in
+        let p = matters.before q e s.flag j.0 in
+        let i = from_head h f u s p.1 turn in
+        (i.0, (u, s, e, i.1, moves.grown h s.normal (mode_at limited left) e next p.0 grown, j.1))
+
+    narrows : (more : ℕ) (first u : V) (s : Result V) (v : V) (r : Result V) → Fine r.flag → Narrows V H a q base c body more first u s v r
+        → Fine s.flag × Narrows V H (aligned a b) q base c other more first u s v r
+    narrows zero first u s v r k (same, is) = (subst (λ (x : Result V). Fine x.flag) is k, (same, is))
+    narrows (suc more) first u s v r k (next, t, e, joined, turn, rest) =
+        let j = narrows more first next t v r k rest in
+        let i = round (noted q e s.flag) next t j.0 turn in
+        let p = matters.before q e s.flag i.0 in
+        (p.1, (next, t, e, moves.joined first s.normal e next p.0 joined, i.1, j.1))
+
+  pub passes : (set : Settings) (g : Node) (f : Option ℕ) (v : V) (r : Result V) → Fine r.flag → Pass V H a set g f v r → Fine f × Pass V H (aligned a b) set g f v r
+  passes set empty f v r k is = (subst (λ (x : Result V). Fine x.flag) is k, is)
+  passes set (point q) f v r k is = (subst (λ (x : Result V). Fine x.flag) is k, is)
+  passes set (act q op) f v r k (w, e, h, is) =
+      let p = matters.before q e f (subst (λ (x : Result V). Fine x.flag) is k) in
+      (p.1, (w, e, changes op v e w p.0 h, is))
+  passes set (check q base c) f v r k (u, w, d, e, off, on, is) =
+      let p = matters.before q e (noted q d f) (subst (λ (x : Result V). Fine x.flag) is k) in
+      let o = matters.before q d f p.1 in
+      (o.1, (u, w, d, e, leaves base c false v d u o.0 off, leaves base c true v e w p.0 on, is))
+  passes set (seq x y) f v r k (s, t, one, two, is) =
+      let j = passes set y s.flag s.normal t (subst (λ (z : Result V). Fine z.flag) is k) two in
+      let i = passes set x f v s j.0 one in
+      (i.0, (s, t, i.1, j.1, is))
+  passes set (choose q base c x y) f v r k (on, off, w, d, e, i, s, t, yes_on, one, no_on, two, joined, is) =
+      let p = matters.before q i t.flag (subst (λ (z : Result V). Fine z.flag) is k) in
+      let j = passes set y (noted q e s.flag) off t p.1 two in
+      let o = matters.before q e s.flag j.0 in
+      let l = passes set x (noted q d f) on s o.1 one in
+      let n = matters.before q d f l.0 in
+      (n.1, (on, off, w, d, e, i, s, t, leaves base c true v d on n.0 yes_on, l.1, leaves base c false v e off o.0 no_on, j.1, moves.joined s.normal t.normal i w p.0 joined, is))
+  passes set (iterate q base c x) f v r k (h, later, u, top, out, s, t, e, started, grown, narrowed, off, is) =
+      let p = matters.before q e t.flag (subst (λ (z : Result V). Fine z.flag) is k) in
+      let n = narrows q base c (Pass V H a set x) (Pass V H (aligned a b) set x) (passes set x) set.narrow v u s top t p.1 narrowed in
+      let j = grows q base c (Pass V H a set x) (Pass V H (aligned a b) set x) (passes set x) set.limited set.delay f h later u s n.0 grown in
+      (j.0, (h, later, u, top, out, s, t, e, moves.started v (given_rows (a.dims v) base c) h started, j.1, n.1, leaves base c false top e out p.0 off, is))
+  passes set (catch q kind x) f v r k (w, e, s, one, joined, is) =
+      let p = matters.before q e s.flag (subst Fine (behind_flag kind s w (noted q e s.flag)) (subst (λ (z : Result V). Fine z.flag) is k)) in
+      let i = passes set x f v s p.1 one in
+      (i.0, (w, e, s, i.1, joins (caught kind s).0 (caught kind s).1 e w p.0 joined, is))
+  passes set (leave kind) f v r k (w, nothing, is) =
+      (subst Fine (jump_flag kind v w f) (subst (λ (z : Result V). Fine z.flag) is k), (w, nothing, is))

@@ -1,0 +1,62 @@
+-- What a derivation with drops says of the written iteration.
+use Rattle.std.proofs.Common.{◌≡◌, ℕ, Option, None, Some, refl}
+use Rattle.lra_domain.specs.Meaning.{Meaning}
+use Rattle.lra_domain.specs.declared.Exactness.{Exactness}
+use Rattle.lra_domain.specs.declared.Exactness.TheVariants.{Exact, Flagged}
+use Rattle.lra_tree.specs.Program.{Program}
+use Rattle.lra_tree.specs.Graph.{Node}
+use Rattle.lra_flow.specs.declared.Settings.{Settings}
+use Rattle.lra_flow.specs.Operations.{Operations, defined, dropping, straining, worse}
+use Rattle.lra_flow.specs.Changes.{first_values}
+use Rattle.lra_flow.specs.Pass.{Result, noted}
+use Rattle.lra_flow.specs.Analysis.{Iteration, Written, Derivation, Unflagged, Strains}
+use Rattle.lra_flow.proofs.Transfer.{Matters, Transfers, done, passes}
+
+-- all exact, no flag
+exact_parts : (c d : Exactness) → worse c d ≡ Exact → (c ≡ Exact) × (d ≡ Exact)
+exact_parts Exact d h = (refl, h)
+exact_parts Flagged d h = cc
+
+exact_before : (q : ℕ) (e : Exactness) (f : Option ℕ) → noted q e f ≡ None → (e ≡ Exact) × (f ≡ None)
+exact_before q e (Some p) h = cc
+exact_before q Exact None h = (refl, refl)
+exact_before q Flagged None h = cc
+
+none_flagged : Matters (λ e. e ≡ Exact) (λ f. f ≡ None)
+none_flagged = record { parts = exact_parts; before = exact_before }
+
+any_matters : Matters (λ e. Unit {0}) (λ f. Unit {0})
+any_matters = record { parts = λ c d k. (tt, tt); before = λ q e f k. (tt, tt) }
+
+exact_ones : {V H : Type 0} (m : Meaning V H) → Transfers (λ e. e ≡ Exact) (dropping m) (defined m)
+exact_ones m = record {
+  changed = λ step v e w k h. (k, h.exact k);
+  joined = λ u v e w k h. (k, h.exact k);
+  started = λ v rows h s. s.started;
+  stays = λ h v mode s. s.stays;
+  grown = λ h v mode e next k g. (k, g.0.moved k, g.0.exact k);
+  valued = λ h e v k s. (k, s.exact k);
+}
+
+strained_ones : {V H : Type 0} (m : Meaning V H) → Transfers (λ e. Unit {0}) (dropping m) (straining m)
+strained_ones m = record {
+  changed = λ step v e w k h. (h.exact, h.flagged);
+  joined = λ u v e w k h. (h.exact, h.flagged);
+  started = λ v rows h s. s.started;
+  stays = λ h v mode s. s.stays;
+  grown = λ h v mode e next k g. (λ is. (g.0.moved is, g.0.exact is), g.0.flagged);
+  valued = λ h e v k s. (s.exact, s.flagged);
+}
+
+-- a derivation without a flag is the written iteration
+pub unflagged_is_written : {V H : Type 0} (m : Meaning V H) (set : Settings) (P : Program) (g : Node) (r : Result V) → Derivation m set P g r → Unflagged r → Written m set P g r
+unflagged_is_written {V} {H} m set P g r (none, first, e, universal, values, pass) is =
+    let p = passes V H (dropping m) (defined m) (λ e. e ≡ Exact) (λ f. f ≡ None) none_flagged (exact_ones m) set g (noted 0 e None) first r is pass in
+    let k = exact_before 0 e None p.0 in
+    (none, first, e, universal, done V H (dropping m) (defined m) (λ e. e ≡ Exact) (λ f. f ≡ None) none_flagged (exact_ones m) (first_values 0 P.globals) none e first k.0 values, p.1)
+
+-- the first flagged operation strains on the operands of the written iteration
+pub flagged_strains : {V H : Type 0} (m : Meaning V H) (set : Settings) (P : Program) (g : Node) (r : Result V) (q : ℕ) → Derivation m set P g r → r.flag ≡ Some q → Strains m set P g q
+flagged_strains {V} {H} m set P g r q (none, first, e, universal, values, pass) is =
+    let p = passes V H (dropping m) (straining m) (λ e. Unit {0}) (λ f. Unit {0}) any_matters (strained_ones m) set g (noted 0 e None) first r tt pass in
+    (r, (none, first, e, universal, done V H (dropping m) (straining m) (λ e. Unit {0}) (λ f. Unit {0}) any_matters (strained_ones m) (first_values 0 P.globals) none e first tt values, p.1), is)
