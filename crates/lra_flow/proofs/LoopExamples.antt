@@ -1,0 +1,218 @@
+-- The iteration over boxes on a loop that counts: int main(void){ long i=0; while(i<10) i=i+1; }
+use Rattle.std.proofs.Common.{◌≡◌, ℕ, ℤ, pos, negsuc, List, [], ◌∷◌, Option, None, Some, Bool, true, false, refl, arith, lit<, ◌≤◌, ◌<◌, ◌^◌}
+use Rattle.std.proofs.lemmas.Int.{ints}
+use Rattle.lra_lin.specs.Form.{Form}
+use Rattle.lra_lin.specs.declared.test.TestKind.TheVariants.{Ge, Eq}
+use Rattle.lra_domain.specs.Actions.{assign, test}
+use Rattle.lra_domain.specs.declared.Mode.TheVariants.{Join, Widen}
+use Rattle.lra_domain.specs.declared.Exactness.TheVariants.{Exact}
+use Rattle.lra_tree.specs.Program.{local, plus, below, Expr, literal, read, binary, Cond, compare, Program, declaration, statement, no_more, loop, absent}
+use Rattle.lra_tree.specs.Program as program
+use Rattle.lra_tree.specs.Step.{Op, append, give}
+use Rattle.lra_tree.specs.Graph.{continued, Node, empty, point, act, seq, catch}
+use Rattle.lra_tree.specs.Inlined.{as_declaration, as_given, as_value, as_statement, as_none, as_loop, is_loop, as_assign, as_absent, loop_node}
+use Rattle.lra_tree.specs.Agree.{IsGraph}
+use Rattle.lra_box.specs.declared.interval.Interval.{Interval}
+use Rattle.lra_box.specs.declared.interval.Side.TheVariants.{Low, High}
+use Rattle.lra_box.specs.Bounds.{open_interval, crossed, form, IsSound}
+use Rattle.lra_box.specs.Content.{Content}
+use Rattle.lra_box.specs.Tables.{stepped}
+use Rattle.lra_box.specs.Meaning.{StepsTo, box_meaning}
+use Rattle.lra_box.proofs.ExtremeLemmas.{end_is_extreme}
+use Rattle.lra_flow.specs.declared.Settings.{Settings}
+use Rattle.lra_flow.specs.Operations.{Operations, defined}
+use Rattle.lra_flow.specs.Given.{given_rows}
+use Rattle.lra_flow.specs.Pass.{Entry, value, failing, Result, goes_on, GoesRound, GoesFrom, Grows, Narrows, Pass}
+use Rattle.lra_flow.specs.Analysis.{Written}
+
+abbrev boxes : Operations Content Content
+boxes = defined box_meaning
+
+abbrev between : ℕ → ℕ → Interval
+between l h = record { low = Some (pos l); high = Some (pos h) }
+
+abbrev at_least : ℕ → Interval
+at_least l = record { low = Some (pos l); high = None }
+
+-- the box of one variable
+abbrev one : Interval → Content
+one x = record { dims = 1; bounds = Some (x ∷ []) }
+
+abbrev narrowed : ℕ → Settings
+narrowed n = record { parts = 1; delay = 1; narrow = n; limited = false }
+
+abbrev i : Expr
+i = read (local 0)
+
+abbrev is_small : Cond
+is_small = compare below i (literal 10)
+
+abbrev counting : Program
+counting = record {
+  globals = [];
+  functions = [];
+  main = record {
+    parameters = 0;
+    body = declaration (record { label = 1; source = Some (program.value (literal 0)) })
+    (statement (loop 2 is_small (program.assign 3 (local 0) (program.value (binary plus i (literal 1)))) absent) no_more);
+    end = 4;
+  };
+}
+
+abbrev increase : Node
+increase = seq (point 2) (act 2 (give 0 (Some 0) (binary plus i (literal 1))))
+
+abbrev declared : Node
+declared = seq (point 0) (seq (act 0 append) (act 0 (give 0 (Some 0) (literal 0))))
+
+abbrev counting_tree : Node
+counting_tree = seq (seq declared (seq (loop_node 1 0 is_small increase empty) empty)) (point 3)
+
+-- the tree is that of the program
+counting_graph : IsGraph counting counting_tree
+counting_graph = record {
+  body = _;
+  last = 3;
+  live = 1;
+  inlined = as_declaration _ _ _ _ _ _ _ _ _ _ refl (as_given _ _ _ _ _ _ _ (as_value _ _ _ _ _ _))
+  (as_statement _ _ _ _ _ _ _ _ _ _ (as_loop _ _ _ _ _ _ (is_loop _ _ _ _ _ _ _ _ _ _ _ _ refl (as_absent _ _ _) (as_assign _ _ _ _ _ _ _ _ refl (as_value _ _ _ _ _ _)))) (as_none _ _ _));
+  ends = refl;
+  all = refl;
+  parts = refl;
+}
+
+-- i < 10 gives the rows 9 - i >= 0 and 10 - i >= 0
+given_example : (given_rows 1 0 is_small).rows ≡ (pos 9 ∷ negsuc 0 ∷ []) ∷ (pos 10 ∷ negsuc 0 ∷ []) ∷ []
+given_example = refl
+
+-- i + 1
+abbrev next : Form
+next = form (pos 1) (pos 1 ∷ [])
+
+-- the table's result of i = i + 1, its bounds the least and the greatest value
+increased : (x : Interval) → IsSound x → StepsTo (assign 0 next) (one x) (stepped (assign 0 next) (one x))
+increased x sound = record { table = refl; extremes = (end_is_extreme Low next (x ∷ []) (sound, tt) refl, end_is_extreme High next (x ∷ []) (sound, tt) refl) }
+
+-- of 9 - i >= 0
+small : (x : Interval) → StepsTo (test Ge (form (pos 9) (negsuc 0 ∷ []))) (one x) (stepped (test Ge (form (pos 9) (negsuc 0 ∷ []))) (one x))
+small x = record { table = refl; extremes = tt }
+
+-- the loop's body with the catch of `continue`
+abbrev body : Node
+body = seq (catch 1 continued increase) empty
+
+-- once round the loop, from x by the y that are below 10 to z
+abbrev turn : Interval → Interval → Interval → Result Content
+turn x y z = goes_on (value 1 (one x) ∷ value 2 (one y) ∷ []) (one z) None
+
+round : (set : Settings) (x y z : Interval) → StepsTo (test Ge (form (pos 9) (negsuc 0 ∷ []))) (one x) (one y) → StepsTo (assign 0 next) (one y) (one z)
+    → GoesRound Content Content boxes 1 0 is_small (Pass Content Content boxes set body) None (one x) (turn x y z)
+round set x y z is_tested is_assigned = (
+  one y, Exact, goes_on (value 2 (one y) ∷ []) (one z) None,
+  (Exact, (refl, is_tested), refl),
+  (goes_on (value 2 (one y) ∷ []) (one z) None, goes_on [] (one z) None,
+  (one z, Exact, goes_on (value 2 (one y) ∷ []) (one z) None,
+  (goes_on (value 2 (one y) ∷ []) (one y) None, goes_on [] (one z) None, refl,
+  (one z, Exact, (one z, Exact, Exact, (refl, is_assigned), (refl, refl), refl), refl), refl),
+  (refl, refl), refl),
+  refl, refl),
+  refl,
+)
+
+-- from a head whose value is x
+from_head : (set : Settings) (x y z : Interval) → StepsTo (test Ge (form (pos 9) (negsuc 0 ∷ []))) (one x) (one y) → StepsTo (assign 0 next) (one y) (one z)
+    → GoesFrom Content Content boxes 1 0 is_small (Pass Content Content boxes set body) (one x) None (one x) (turn x y z)
+from_head set x y z is_tested is_assigned = (Exact, (refl, refl), round set x y z is_tested is_assigned)
+
+between_sound : (l h : ℕ) → l < 2 ^ 127 → h < 2 ^ 127 → crossed (between l h) ≡ false → IsSound (between l h)
+between_sound l h low high order = ((low, high), order)
+
+-- the heads are 0..0, joined to 0..1, widened to 0.. ; there i is below 10 from 0 to 9, and 1..10 lies in the head
+heads : (set : Settings) → Grows Content Content boxes 1 0 is_small (Pass Content Content boxes set body) false 1 None (one (between 0 0)) (one (between 0 1) ∷ one (at_least 0) ∷ []) (one (at_least 0)) (turn (at_least 0) (between 0 9) (between 1 10))
+heads set = (
+  one (between 0 0), turn (between 0 0) (between 0 0) (between 1 1), Exact,
+  from_head set (between 0 0) (between 0 0) (between 1 1) (small (between 0 0)) (increased (between 0 0) (between_sound 0 0 (lit< tt) (lit< tt) refl)),
+  (refl, (λ h. omega (arith, ints, h.1)), refl),
+  (one (between 0 1), turn (between 0 1) (between 0 1) (between 1 2), Exact,
+  from_head set (between 0 1) (between 0 1) (between 1 2) (small (between 0 1)) (increased (between 0 1) (between_sound 0 1 (lit< tt) (lit< tt) refl)),
+  (refl, (λ h. omega (arith, ints, h.1)), refl),
+  (from_head set (at_least 0) (between 0 9) (between 1 10) (small (at_least 0)) (increased (between 0 9) (between_sound 0 9 (lit< tt) (lit< tt) refl)),
+  (omega (arith, ints), tt, tt))),
+)
+
+-- narrowed once: 0..0 joined with 1..10 is 0..10
+narrowing : (set : Settings) → Narrows Content Content boxes 1 0 is_small (Pass Content Content boxes set body) 1 (one (between 0 0)) (one (at_least 0)) (turn (at_least 0) (between 0 9) (between 1 10))
+    (one (between 0 10)) (turn (between 0 10) (between 0 9) (between 1 10))
+narrowing set = (
+  one (between 0 10), turn (between 0 10) (between 0 9) (between 1 10), Exact,
+  (refl, refl),
+  round set (between 0 10) (between 0 9) (between 1 10) (small (between 0 10)) (increased (between 0 9) (between_sound 0 9 (lit< tt) (lit< tt) refl)),
+  (refl, refl),
+)
+
+-- what is found: no variable at the first point; the loop's head; its body; main's end
+abbrev entries : Interval → Interval → Interval → List (Entry Content)
+entries head inside end = value 0 (record { dims = 0; bounds = Some [] }) ∷ value 1 (one head) ∷ value 2 (one inside) ∷ value 3 (one end) ∷ []
+
+abbrev whole : Interval → Interval → Interval → Result Content
+whole head inside end = goes_on (entries head inside end) (one end) None
+
+-- the loop is narrowed to 0..10, and left with 10
+loop_once : Pass Content Content boxes (narrowed 1) (loop_node 1 0 is_small increase empty) None (one (between 0 0))
+    (goes_on (value 1 (one (between 0 10)) ∷ value 2 (one (between 0 9)) ∷ []) (one (between 10 10)) None)
+loop_once = (
+  one (between 10 10), Exact, goes_on (value 1 (one (between 0 10)) ∷ value 2 (one (between 0 9)) ∷ []) (one (between 10 10)) None,
+  (one (between 0 0), one (between 0 1) ∷ one (at_least 0) ∷ [], one (at_least 0), one (between 0 10), one (between 10 10),
+  turn (at_least 0) (between 0 9) (between 1 10), turn (between 0 10) (between 0 9) (between 1 10), Exact,
+  refl, heads (narrowed 1), narrowing (narrowed 1), (Exact, (refl, record { table = refl; extremes = tt }), refl), refl),
+  (refl, refl), refl,
+)
+
+-- without narrowing it stays 0.. , with the pass that ended the growth, and is left with 10..
+loop_never : Pass Content Content boxes (narrowed 0) (loop_node 1 0 is_small increase empty) None (one (between 0 0))
+    (goes_on (value 1 (one (at_least 0)) ∷ value 2 (one (between 0 9)) ∷ []) (one (at_least 10)) None)
+loop_never = (
+  one (at_least 10), Exact, goes_on (value 1 (one (at_least 0)) ∷ value 2 (one (between 0 9)) ∷ []) (one (at_least 10)) None,
+  (one (between 0 0), one (between 0 1) ∷ one (at_least 0) ∷ [], one (at_least 0), one (at_least 0), one (at_least 10),
+  turn (at_least 0) (between 0 9) (between 1 10), turn (at_least 0) (between 0 9) (between 1 10), Exact,
+  refl, heads (narrowed 0), (refl, refl), (Exact, (refl, record { table = refl; extremes = tt }), refl), refl),
+  (refl, refl), refl,
+)
+
+abbrev none : Content
+none = record { dims = 0; bounds = Some [] }
+
+-- i is new and gets 0
+zero_set : StepsTo (assign 0 (form (pos 0) (pos 0 ∷ []))) (one open_interval) (one (between 0 0))
+zero_set = record { table = refl; extremes = (end_is_extreme Low (form (pos 0) (pos 0 ∷ [])) (open_interval ∷ []) (((tt, tt), refl), tt) refl, end_is_extreme High (form (pos 0) (pos 0 ∷ [])) (open_interval ∷ []) (((tt, tt), refl), tt) refl) }
+
+declaring : (set : Settings) → Pass Content Content boxes set declared None none (goes_on (value 0 none ∷ []) (one (between 0 0)) None)
+declaring set = (
+  goes_on (value 0 none ∷ []) none None, goes_on [] (one (between 0 0)) None, refl,
+  (goes_on [] (one open_interval) None, goes_on [] (one (between 0 0)) None,
+  (one open_interval, Exact, (one open_interval, Exact, Exact, (refl, record { table = refl; extremes = tt }), (refl, refl), refl), refl),
+  (one (between 0 0), Exact, (one (between 0 0), Exact, Exact, (refl, zero_set), (refl, refl), refl), refl), refl),
+  refl,
+)
+
+-- a program that is the declaration, the loop and main's end
+around_loop : (set : Settings) (head inside end : Interval)
+    → Pass Content Content boxes set (loop_node 1 0 is_small increase empty) None (one (between 0 0)) (goes_on (value 1 (one head) ∷ value 2 (one inside) ∷ []) (one end) None)
+    → Written box_meaning set counting counting_tree (whole head inside end)
+around_loop set head inside end pass = (
+  none, none, Exact, refl, (refl, refl),
+  (goes_on (value 0 none ∷ value 1 (one head) ∷ value 2 (one inside) ∷ []) (one end) None, goes_on (value 3 (one end) ∷ []) (one end) None,
+  (goes_on (value 0 none ∷ []) (one (between 0 0)) None, goes_on (value 1 (one head) ∷ value 2 (one inside) ∷ []) (one end) None,
+  declaring set,
+  (goes_on (value 1 (one head) ∷ value 2 (one inside) ∷ []) (one end) None, goes_on [] (one end) None, pass, refl, refl),
+  refl),
+  refl, refl),
+)
+
+-- the head is 0..10, the body's point 0..9, the end 10
+pub counting_narrowed : Written box_meaning (narrowed 1) counting counting_tree (whole (between 0 10) (between 0 9) (between 10 10))
+counting_narrowed = around_loop (narrowed 1) (between 0 10) (between 0 9) (between 10 10) loop_once
+
+-- without narrowing the head is 0.. and the end 10..
+pub counting_wide : Written box_meaning (narrowed 0) counting counting_tree (whole (at_least 0) (between 0 9) (at_least 10))
+counting_wide = around_loop (narrowed 0) (at_least 0) (between 0 9) (at_least 10) loop_never
