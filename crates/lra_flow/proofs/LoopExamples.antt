@@ -1,14 +1,13 @@
 -- The iteration over boxes on a loop that counts: int main(void){ long i=0; while(i<10) i=i+1; }
-use Rattle.std.proofs.Common.{◌≡◌, ℕ, ℤ, pos, negsuc, List, [], ◌∷◌, Option, None, Some, Bool, true, false, refl, arith, lit<, ◌≤◌, ◌<◌, ◌^◌}
+use Rattle.std.proofs.Common.{◌≡◌, ℕ, pos, negsuc, List, [], ◌∷◌, None, Some, false, refl, arith, lit<, ◌<◌, ◌^◌}
 use Rattle.std.proofs.lemmas.Int.{ints}
 use Rattle.lra_lin.specs.Form.{Form}
-use Rattle.lra_lin.specs.declared.test.TestKind.TheVariants.{Ge, Eq}
+use Rattle.lra_lin.specs.declared.test.TestKind.TheVariants.{Ge}
 use Rattle.lra_domain.specs.Actions.{assign, test}
-use Rattle.lra_domain.specs.declared.Mode.TheVariants.{Join, Widen}
 use Rattle.lra_domain.specs.declared.Exactness.TheVariants.{Exact}
 use Rattle.lra_tree.specs.Program.{local, plus, below, Expr, literal, read, binary, Cond, compare, Program, declaration, statement, no_more, loop, absent}
 use Rattle.lra_tree.specs.Program as program
-use Rattle.lra_tree.specs.Step.{Op, append, give}
+use Rattle.lra_tree.specs.Step.{append, give}
 use Rattle.lra_tree.specs.Graph.{continued, Node, empty, point, act, seq, catch}
 use Rattle.lra_tree.specs.Inlined.{as_declaration, as_given, as_value, as_statement, as_none, as_loop, is_loop, as_assign, as_absent, loop_node}
 use Rattle.lra_tree.specs.Agree.{IsGraph}
@@ -22,7 +21,7 @@ use Rattle.lra_box.proofs.ExtremeLemmas.{end_is_extreme}
 use Rattle.lra_flow.specs.declared.Settings.{Settings}
 use Rattle.lra_flow.specs.Operations.{Operations, defined}
 use Rattle.lra_flow.specs.Given.{given_rows}
-use Rattle.lra_flow.specs.Pass.{Entry, value, failing, Result, goes_on, GoesRound, GoesFrom, Grows, Narrows, Pass}
+use Rattle.lra_flow.specs.Pass.{Entry, value, Result, goes_on, GoesRound, GoesFrom, Grows, Narrows, Pass}
 use Rattle.lra_flow.specs.Analysis.{Written}
 
 abbrev boxes : Operations Content Content

@@ -1,12 +1,12 @@
 -- From an iteration by some operations to one by others, where each answer of the first that matters is one of the second.
-use Rattle.std.proofs.Common.{◌≡◌, ℕ, zero, suc, ◌-◌, List, [], ◌∷◌, Option, None, Some, Bool, true, false, refl, subst, sym}
+use Rattle.std.proofs.Common.{◌≡◌, ℕ, zero, suc, ◌-◌, List, [], ◌∷◌, Option, None, Some, Bool, true, false, refl, subst}
 use Rattle.lra_sys.specs.Listed.{Listed}
 use Rattle.lra_sys.specs.declared.system.ConKind.{ConKind}
 use Rattle.lra_domain.specs.Actions.{Action}
 use Rattle.lra_domain.specs.declared.Mode.{Mode}
 use Rattle.lra_domain.specs.declared.Exactness.{Exactness}
-use Rattle.lra_domain.specs.declared.Exactness.TheVariants.{Exact, Flagged}
-use Rattle.lra_tree.specs.Program.{Cond, Comparison, below, at_most, above, at_least, equal, differs}
+use Rattle.lra_domain.specs.declared.Exactness.TheVariants.{Exact}
+use Rattle.lra_tree.specs.Program.{Cond, Comparison, below, above, differs}
 use Rattle.lra_tree.specs.Step.{Op, append, give, give_any, push, keep, test}
 use Rattle.lra_tree.specs.Graph.{Exit, broken, continued, returned, Node, empty, point, act, check, seq, choose, iterate, catch, leave}
 use Rattle.lra_tree.specs.Linear.{Form, Test, comparison_test, difference_form}
@@ -16,7 +16,7 @@ use Rattle.lra_flow.specs.Operations.{Operations, worse}
 use Rattle.lra_flow.specs.Changes.{actions_of, AreDone, AreJoined}
 use Rattle.lra_flow.specs.Conditions.{testing, tested, Leaves}
 use Rattle.lra_flow.specs.Given.{given_rows}
-use Rattle.lra_flow.specs.Pass.{Entry, value, failing, Result, noted, jumps, caught, behind, Changes, Through, GoesRound, GoesFrom, Grows, Narrows, mode_at, Pass}
+use Rattle.lra_flow.specs.Pass.{Result, noted, jumps, caught, behind, Changes, Through, GoesRound, GoesFrom, Grows, Narrows, mode_at, Pass}
 
 -- the answers that matter: with this exactness, with this flag
 pub record Matters (Keeps : Exactness → Type 0) (Fine : Option ℕ → Type 0) : Type 0 where

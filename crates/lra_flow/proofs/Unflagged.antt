@@ -6,10 +6,10 @@ use Rattle.lra_domain.specs.declared.Exactness.TheVariants.{Exact, Flagged}
 use Rattle.lra_tree.specs.Program.{Program}
 use Rattle.lra_tree.specs.Graph.{Node}
 use Rattle.lra_flow.specs.declared.Settings.{Settings}
-use Rattle.lra_flow.specs.Operations.{Operations, defined, dropping, straining, worse}
+use Rattle.lra_flow.specs.Operations.{defined, dropping, straining, worse}
 use Rattle.lra_flow.specs.Changes.{first_values}
 use Rattle.lra_flow.specs.Pass.{Result, noted}
-use Rattle.lra_flow.specs.Analysis.{Iteration, Written, Derivation, Unflagged, Strains}
+use Rattle.lra_flow.specs.Analysis.{Written, Derivation, Unflagged, Strains}
 use Rattle.lra_flow.proofs.Transfer.{Matters, Transfers, done, passes}
 
 -- all exact, no flag

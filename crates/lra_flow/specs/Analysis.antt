@@ -7,7 +7,7 @@ use Rattle.lra_tree.specs.Graph.{Node}
 use Rattle.lra_flow.specs.declared.Settings.{Settings}
 use Rattle.lra_flow.specs.Operations.{Operations, defined, dropping, straining}
 use Rattle.lra_flow.specs.Changes.{first_values, AreDone}
-use Rattle.lra_flow.specs.Pass.{Entry, value, failing, Result, noted, Pass}
+use Rattle.lra_flow.specs.Pass.{value, failing, Result, noted, Pass}
 
 -- from the globals at their first values, which are set at the first point, through the program's tree
 abbrev pub Iteration : {V H : Type 0} → Operations V H → Settings → Program → Node → Result V → Type 0

@@ -3,7 +3,7 @@ use Rattle.std.specs.Prelude.{ℕ, ℤ, pos, neg_ℤ, ◌+ℤ◌, List, [], ◌�
 use Rattle.lra_sys.specs.Listed.{Listed}
 use Rattle.lra_sys.specs.declared.system.ConKind.{ConKind}
 use Rattle.lra_sys.specs.declared.system.ConKind.TheVariants.{Ge}
-use Rattle.lra_tree.specs.Program.{Comparison, below, at_most, above, at_least, equal, differs, Cond}
+use Rattle.lra_tree.specs.Program.{Comparison, equal, differs, Cond}
 use Rattle.lra_tree.specs.Linear.{Form, Test, comparison_test, difference_form}
 use Rattle.lra_tree.specs.Condition.{Pushed, atom, first_then, one_or, push}
 

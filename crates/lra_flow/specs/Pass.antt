@@ -1,15 +1,15 @@
 -- The iteration over a program whose calls are written out: one case for each form of its tree.
 -- What is counted here are values at points, values with which the tree is left, and the first point with a flagged operation.
-use Rattle.std.specs.Prelude.{◌≡◌, ℕ, zero, suc, ◌-◌, List, [], ◌∷◌, ◌++◌, Option, None, Some, Bool, true, false, if◌then◌else◌}
+use Rattle.std.specs.Prelude.{◌≡◌, ℕ, zero, suc, ◌-◌, List, [], ◌∷◌, ◌++◌, Option, None, Some, Bool, true, false}
 use Rattle.lra_domain.specs.declared.Mode.{Mode}
 use Rattle.lra_domain.specs.declared.Mode.TheVariants.{Join, Widen, Limited}
 use Rattle.lra_domain.specs.declared.Exactness.{Exactness}
 use Rattle.lra_domain.specs.declared.Exactness.TheVariants.{Exact, Flagged}
 use Rattle.lra_tree.specs.Program.{Cond}
-use Rattle.lra_tree.specs.Step.{Op, append, give, give_any, push, keep, test}
+use Rattle.lra_tree.specs.Step.{Op, test}
 use Rattle.lra_tree.specs.Graph.{Exit, broken, continued, returned, Node, empty, point, act, check, seq, choose, iterate, catch, leave}
 use Rattle.lra_flow.specs.declared.Settings.{Settings}
-use Rattle.lra_flow.specs.Operations.{Operations, worse}
+use Rattle.lra_flow.specs.Operations.{Operations}
 use Rattle.lra_flow.specs.Changes.{actions_of, AreDone, AreJoined}
 use Rattle.lra_flow.specs.Conditions.{Leaves}
 use Rattle.lra_flow.specs.Given.{given_rows}
