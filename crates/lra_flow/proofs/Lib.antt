@@ -3,3 +3,4 @@ mod Transfer
 mod Unflagged
 -- Worked examples over boxes.
 mod LoopExamples
+mod NestedExamples

@@ -24,20 +24,20 @@ use Rattle.lra_flow.specs.Given.{given_rows}
 use Rattle.lra_flow.specs.Pass.{Entry, value, Result, goes_on, GoesRound, GoesFrom, Grows, Narrows, Pass}
 use Rattle.lra_flow.specs.Analysis.{Written}
 
-abbrev boxes : Operations Content Content
+abbrev pub boxes : Operations Content Content
 boxes = defined box_meaning
 
-abbrev between : ℕ → ℕ → Interval
+abbrev pub between : ℕ → ℕ → Interval
 between l h = record { low = Some (pos l); high = Some (pos h) }
 
-abbrev at_least : ℕ → Interval
+abbrev pub at_least : ℕ → Interval
 at_least l = record { low = Some (pos l); high = None }
 
 -- the box of one variable
 abbrev one : Interval → Content
 one x = record { dims = 1; bounds = Some (x ∷ []) }
 
-abbrev narrowed : ℕ → Settings
+abbrev pub narrowed : ℕ → Settings
 narrowed n = record { parts = 1; delay = 1; narrow = n; limited = false }
 
 abbrev i : Expr
@@ -123,7 +123,7 @@ from_head : (set : Settings) (x y z : Interval) → StepsTo (test Ge (form (pos 
     → GoesFrom Content Content boxes 1 0 is_small (Pass Content Content boxes set body) (one x) None (one x) (turn x y z)
 from_head set x y z is_tested is_assigned = (Exact, (refl, refl), round set x y z is_tested is_assigned)
 
-between_sound : (l h : ℕ) → l < 2 ^ 127 → h < 2 ^ 127 → crossed (between l h) ≡ false → IsSound (between l h)
+pub between_sound : (l h : ℕ) → l < 2 ^ 127 → h < 2 ^ 127 → crossed (between l h) ≡ false → IsSound (between l h)
 between_sound l h low high order = ((low, high), order)
 
 -- the heads are 0..0, joined to 0..1, widened to 0.. ; there i is below 10 from 0 to 9, and 1..10 lies in the head

@@ -1,0 +1,224 @@
+-- The iteration over boxes on nested loops with a `break` and a `return`:
+-- int main(void){ long a=0, b=0; while(a<5){ b=0; while(1){ if(b>=3) break; if(input()) return 0; b=b+1; } a=a+1; } assert(a==5); }
+use Rattle.std.proofs.Common.{◌≡◌, ℕ, pos, negsuc, List, [], ◌∷◌, ◌++◌, Option, None, Some, true, false, refl, arith, lit<, ◌<◌, ◌^◌}
+use Rattle.std.proofs.lemmas.Int.{ints}
+use Rattle.lra_lin.specs.Form.{Form}
+use Rattle.lra_lin.specs.declared.test.TestKind.TheVariants.{Ge}
+use Rattle.lra_domain.specs.Actions.{assign, test}
+use Rattle.lra_domain.specs.declared.Exactness.TheVariants.{Exact}
+use Rattle.lra_tree.specs.Program.{local, plus, below, equal, Expr, literal, read, input, binary, Cond, compare, nonzero}
+use Rattle.lra_tree.specs.Program as program
+use Rattle.lra_tree.specs.Step.{append, give, keep}
+use Rattle.lra_tree.specs.Graph.{broken, continued, returned, Node, empty, point, act, check, seq, choose, catch, leave}
+use Rattle.lra_tree.specs.Inlined.{loop_node}
+use Rattle.lra_box.specs.declared.interval.Interval.{Interval}
+use Rattle.lra_box.specs.declared.interval.Side.TheVariants.{Low, High}
+use Rattle.lra_box.specs.Bounds.{open_interval, crossed, form, IsSound}
+use Rattle.lra_box.specs.Content.{Content}
+use Rattle.lra_box.specs.Tables.{stepped, lesser_low, greater_high, widened_low, widened_high}
+use Rattle.lra_box.specs.Meaning.{StepsTo, box_meaning}
+use Rattle.lra_box.proofs.ExtremeLemmas.{end_is_extreme}
+use Rattle.lra_box.proofs.WithinLemmas.{low_within_refl, high_within_refl}
+use Rattle.lra_flow.specs.declared.Settings.{Settings}
+use Rattle.lra_flow.specs.Conditions.{Leaves}
+use Rattle.lra_flow.specs.Pass.{Entry, value, failing, Result, goes_on, jumps, GoesRound, GoesFrom, Grows, Narrows, Pass}
+use Rattle.lra_flow.proofs.LoopExamples.{boxes, between, at_least, narrowed, between_sound}
+
+-- the box of both variables
+abbrev two : Interval → Interval → Content
+two a b = record { dims = 2; bounds = Some (a ∷ b ∷ []) }
+
+abbrev nowhere : Content
+nowhere = record { dims = 2; bounds = None }
+
+abbrev a_is : Expr
+a_is = read (local 0)
+
+abbrev b_is : Expr
+b_is = read (local 1)
+
+-- the inner loop's body: its point is 4, and the points inside are 5 to 10
+abbrev leaving : Node
+leaving = seq (point 5) (choose 5 0 (compare program.at_least b_is (literal 3)) (seq (point 6) (seq (act 6 (keep 2)) (leave broken))) empty)
+
+abbrev returning : Node
+returning = seq (point 7) (choose 7 0 (nonzero input) (seq (point 8) (leave returned)) empty)
+
+abbrev counting_b : Node
+counting_b = seq (point 9) (act 9 (give 0 (Some 1) (binary plus b_is (literal 1))))
+
+abbrev inner_body : Node
+inner_body = seq (seq leaving (seq returning (seq counting_b empty))) (seq (point 10) (act 10 (keep 2)))
+
+abbrev endless : Cond
+endless = nonzero (literal 1)
+
+-- b is at least 3; b is at most 2; b + 1
+abbrev three : Form
+three = form (negsuc 2) (pos 0 ∷ pos 1 ∷ [])
+
+abbrev under_three : Form
+under_three = form (pos 2) (pos 0 ∷ negsuc 0 ∷ [])
+
+abbrev next_b : Form
+next_b = form (pos 1) (pos 0 ∷ pos 1 ∷ [])
+
+-- what a round of the inner loop from v finds: `on` where b is at least 3, `off` where it isn't, z at the body's end
+abbrev inner_found : List (Entry Content) → Content → Content → Content → Result Content
+inner_found before on off z = record {
+  entries = before ++ value 6 on ∷ value 7 off ∷ value 8 off ∷ value 9 off ∷ value 10 z ∷ [];
+  normal = z;
+  breaks = on ∷ [];
+  continues = [];
+  returns = off ∷ [];
+  flag = None;
+}
+
+abbrev broken_at : Content → Result Content
+broken_at v = record { entries = value 6 v ∷ []; normal = nowhere; breaks = v ∷ []; continues = []; returns = []; flag = None }
+
+abbrev returned_at : Content → Result Content
+returned_at v = record { entries = value 8 v ∷ []; normal = nowhere; breaks = []; continues = []; returns = v ∷ []; flag = None }
+
+-- keeping both variables changes nothing
+abbrev box_of : Option (List Interval) → Content
+box_of o = record { dims = 2; bounds = o }
+
+breaking : (set : Settings) (o : Option (List Interval)) → Pass Content Content boxes set (seq (point 6) (seq (act 6 (keep 2)) (leave broken))) None (box_of o) (broken_at (box_of o))
+breaking set o = (
+  goes_on (value 6 (box_of o) ∷ []) (box_of o) None, jumps broken (box_of o) nowhere None, refl,
+  (goes_on [] (box_of o) None, jumps broken (box_of o) nowhere None, (box_of o, Exact, (refl, refl), refl), (nowhere, refl, refl), refl),
+  refl,
+)
+
+module _ (set : Settings) (a x y z : Interval) (o : Option (List Interval))
+  (is_three : StepsTo (test Ge three) (two a x) (box_of o)) (is_under : StepsTo (test Ge under_three) (two a x) (two a y)) (is_next : StepsTo (assign 1 next_b) (two a y) (two a z)) where
+
+  leaves_first : Pass Content Content boxes set leaving None (two a x)
+      (record { entries = value 5 (two a x) ∷ value 6 (box_of o) ∷ []; normal = two a y; breaks = box_of o ∷ []; continues = []; returns = []; flag = None })
+  leaves_first = (
+    goes_on (value 5 (two a x) ∷ []) (two a x) None,
+    record { entries = value 6 (box_of o) ∷ []; normal = two a y; breaks = box_of o ∷ []; continues = []; returns = []; flag = None },
+    refl,
+    (box_of o, two a y, two a y, Exact, Exact, Exact, broken_at (box_of o), goes_on [] (two a y) None,
+    (Exact, (refl, is_three), refl), breaking set o, (Exact, (refl, is_under), refl), refl, (refl, refl), refl),
+    refl,
+  )
+
+  -- an input may be anything, so both branches have the whole value
+  returns_next : Pass Content Content boxes set returning None (two a y)
+      (record { entries = value 7 (two a y) ∷ value 8 (two a y) ∷ []; normal = two a y; breaks = []; continues = []; returns = two a y ∷ []; flag = None })
+  returns_next = (
+    goes_on (value 7 (two a y) ∷ []) (two a y) None, record { entries = value 8 (two a y) ∷ []; normal = two a y; breaks = []; continues = []; returns = two a y ∷ []; flag = None }, refl,
+    (two a y, two a y, two a y, Exact, Exact, Exact, returned_at (two a y), goes_on [] (two a y) None,
+    refl, (goes_on (value 8 (two a y) ∷ []) (two a y) None, jumps returned (two a y) nowhere None, refl, (nowhere, refl, refl), refl), refl, refl, (refl, refl), refl),
+    refl,
+  )
+
+  counts_last : Pass Content Content boxes set counting_b None (two a y) (goes_on (value 9 (two a y) ∷ []) (two a z) None)
+  counts_last = (
+    goes_on (value 9 (two a y) ∷ []) (two a y) None, goes_on [] (two a z) None, refl,
+    (two a z, Exact, (two a z, Exact, Exact, (refl, is_next), (refl, refl), refl), refl),
+    refl,
+  )
+
+  inner_pass : Pass Content Content boxes set inner_body None (two a x) (inner_found (value 5 (two a x) ∷ []) (box_of o) (two a y) (two a z))
+  inner_pass = (
+    record { entries = value 5 (two a x) ∷ value 6 (box_of o) ∷ value 7 (two a y) ∷ value 8 (two a y) ∷ value 9 (two a y) ∷ []; normal = two a z; breaks = box_of o ∷ []; continues = []; returns = two a y ∷ []; flag = None },
+    goes_on (value 10 (two a z) ∷ []) (two a z) None,
+    (record { entries = value 5 (two a x) ∷ value 6 (box_of o) ∷ []; normal = two a y; breaks = box_of o ∷ []; continues = []; returns = []; flag = None },
+    record { entries = value 7 (two a y) ∷ value 8 (two a y) ∷ value 9 (two a y) ∷ []; normal = two a z; breaks = []; continues = []; returns = two a y ∷ []; flag = None },
+    leaves_first,
+    (record { entries = value 7 (two a y) ∷ value 8 (two a y) ∷ []; normal = two a y; breaks = []; continues = []; returns = two a y ∷ []; flag = None },
+    goes_on (value 9 (two a y) ∷ []) (two a z) None, returns_next,
+    (goes_on (value 9 (two a y) ∷ []) (two a z) None, goes_on [] (two a z) None, counts_last, refl, refl),
+    refl),
+    refl),
+    (goes_on (value 10 (two a z) ∷ []) (two a z) None, goes_on [] (two a z) None, refl, (two a z, Exact, (refl, refl), refl), refl),
+    refl,
+  )
+
+  -- 1 != 0 holds everywhere: nothing is below it, and all is above it
+  inner_turn : GoesRound Content Content boxes 4 0 endless (Pass Content Content boxes set (seq (catch 4 continued inner_body) empty)) None (two a x)
+      (inner_found (value 4 (two a x) ∷ value 5 (two a x) ∷ []) (box_of o) (two a y) (two a z))
+  inner_turn = (
+    two a x, Exact, inner_found (value 5 (two a x) ∷ []) (box_of o) (two a y) (two a z),
+    ((nowhere, Exact), (two a x, Exact), (Exact, (refl, record { table = refl; extremes = tt }), refl), (Exact, (refl, record { table = refl; extremes = tt }), refl), (Exact, (refl, refl), refl)),
+    (inner_found (value 5 (two a x) ∷ []) (box_of o) (two a y) (two a z), goes_on [] (two a z) None,
+    (two a z, Exact, inner_found (value 5 (two a x) ∷ []) (box_of o) (two a y) (two a z), inner_pass, (refl, refl), refl),
+    refl, refl),
+    refl,
+  )
+
+  inner_from : GoesFrom Content Content boxes 4 0 endless (Pass Content Content boxes set (seq (catch 4 continued inner_body) empty)) (two a x) None (two a x)
+      (inner_found (value 4 (two a x) ∷ value 5 (two a x) ∷ []) (box_of o) (two a y) (two a z))
+  inner_from = (Exact, (refl, refl), inner_turn)
+
+abbrev inner_loop : Node
+inner_loop = loop_node 4 0 endless inner_body empty
+
+abbrev inner_entries : Interval → List (Entry Content)
+inner_entries a =
+    value 4 (two a (between 0 3)) ∷ value 5 (two a (between 0 3)) ∷ value 6 (two a (between 3 3)) ∷ value 7 (two a (between 0 2)) ∷ value 8 (two a (between 0 2)) ∷ value 9 (two a (between 0 2)) ∷ value 10 (two a (between 1 3)) ∷ []
+
+-- it is left by `break` alone, with b 3, and returns with b 0..2
+abbrev inner_loop_found : Interval → Result Content
+inner_loop_found a = record { entries = inner_entries a; normal = two a (between 3 3); breaks = []; continues = []; returns = two a (between 0 2) ∷ []; flag = None }
+
+-- the inner loop where b begins with 0: its heads have b 0..0, 0..1 and 0.. , and it is narrowed to 0..3
+module _ (set : Settings) (a : Interval) (sound : IsSound a) (order : crossed a ≡ false) (low_joined : lesser_low a.low a.low ≡ a.low) (high_joined : greater_high a.high a.high ≡ a.high)
+  (low_widened : widened_low a.low a.low ≡ a.low) (high_widened : widened_high a.high a.high ≡ a.high) where
+  at_three : (x : Interval) (o : Option (List Interval)) → box_of o ≡ stepped (test Ge three) (two a x) → StepsTo (test Ge three) (two a x) (box_of o)
+  at_three x o is = record { table = is; extremes = tt }
+
+  next_is : (y : Interval) → IsSound y → StepsTo (assign 1 next_b) (two a y) (stepped (assign 1 next_b) (two a y))
+  next_is y fits = record {
+    table = refl;
+    extremes = (end_is_extreme Low next_b (a ∷ y ∷ []) (sound, (fits, tt)) refl, end_is_extreme High next_b (a ∷ y ∷ []) (sound, (fits, tt)) refl);
+  }
+
+  abbrev loop_body : Node
+  loop_body = seq (catch 4 continued inner_body) empty
+
+  -- a round from b in x, of which y is under 3 and z comes next
+  abbrev found_from : Interval → Option (List Interval) → Interval → Interval → Result Content
+  found_from x o y z = inner_found (value 4 (two a x) ∷ value 5 (two a x) ∷ []) (box_of o) (two a y) (two a z)
+
+  inner_heads : Grows Content Content boxes 4 0 endless (Pass Content Content boxes set loop_body) false 1 None (two a (between 0 0)) (two a (between 0 1) ∷ two a (at_least 0) ∷ []) (two a (at_least 0))
+      (found_from (at_least 0) (Some (a ∷ at_least 3 ∷ [])) (between 0 2) (between 1 3))
+  inner_heads = (
+    two a (between 0 0), found_from (between 0 0) None (between 0 0) (between 1 1), Exact,
+    inner_from set a (between 0 0) (between 0 0) (between 1 1) None (at_three (between 0 0) None (rw order refl)) (record { table = rw order refl; extremes = tt }) (next_is (between 0 0) (between_sound 0 0 (lit< tt) (lit< tt) refl)),
+    (refl, (λ h. omega (arith, ints, h.2.1)), rw (low_joined, high_joined) refl),
+    (two a (between 0 1), found_from (between 0 1) None (between 0 1) (between 1 2), Exact,
+    inner_from set a (between 0 1) (between 0 1) (between 1 2) None (at_three (between 0 1) None (rw order refl)) (record { table = rw order refl; extremes = tt }) (next_is (between 0 1) (between_sound 0 1 (lit< tt) (lit< tt) refl)),
+    (refl, (λ h. omega (arith, ints, h.2.1)), rw (low_joined, high_joined, low_widened, high_widened) refl),
+    (inner_from set a (at_least 0) (between 0 2) (between 1 3) (Some (a ∷ at_least 3 ∷ [])) (at_three (at_least 0) (Some (a ∷ at_least 3 ∷ [])) (rw order refl)) (record { table = rw order refl; extremes = tt }) (next_is (between 0 2) (between_sound 0 2 (lit< tt) (lit< tt) refl)),
+    (low_within_refl a.low, high_within_refl a.high, (omega (arith, ints), tt, tt)))),
+  )
+
+  inner_narrowing : Narrows Content Content boxes 4 0 endless (Pass Content Content boxes set loop_body) 1 (two a (between 0 0)) (two a (at_least 0))
+      (found_from (at_least 0) (Some (a ∷ at_least 3 ∷ [])) (between 0 2) (between 1 3))
+      (two a (between 0 3)) (found_from (between 0 3) (Some (a ∷ between 3 3 ∷ [])) (between 0 2) (between 1 3))
+  inner_narrowing = (
+    two a (between 0 3), found_from (between 0 3) (Some (a ∷ between 3 3 ∷ [])) (between 0 2) (between 1 3), Exact,
+    (refl, rw (low_joined, high_joined) refl),
+    inner_turn set a (between 0 3) (between 0 2) (between 1 3) (Some (a ∷ between 3 3 ∷ [])) (at_three (between 0 3) (Some (a ∷ between 3 3 ∷ [])) (rw order refl)) (record { table = rw order refl; extremes = tt }) (next_is (between 0 2) (between_sound 0 2 (lit< tt) (lit< tt) refl)),
+    (refl, refl),
+  )
+
+-- nothing leaves the endless loop by its condition, so what comes behind it is what broke out
+inner_loop_pass : (a : Interval) → IsSound a → crossed a ≡ false → lesser_low a.low a.low ≡ a.low → greater_high a.high a.high ≡ a.high → widened_low a.low a.low ≡ a.low → widened_high a.high a.high ≡ a.high
+    → Pass Content Content boxes (narrowed 1) inner_loop None (two a (between 0 0)) (inner_loop_found a)
+inner_loop_pass a sound order low_joined high_joined low_widened high_widened = (
+  two a (between 3 3), Exact,
+  record { entries = inner_entries a; normal = nowhere; breaks = two a (between 3 3) ∷ []; continues = []; returns = two a (between 0 2) ∷ []; flag = None },
+  (two a (between 0 0), two a (between 0 1) ∷ two a (at_least 0) ∷ [], two a (at_least 0), two a (between 0 3), nowhere,
+  inner_found (value 4 (two a (at_least 0)) ∷ value 5 (two a (at_least 0)) ∷ []) (two a (at_least 3)) (two a (between 0 2)) (two a (between 1 3)),
+  inner_found (value 4 (two a (between 0 3)) ∷ value 5 (two a (between 0 3)) ∷ []) (two a (between 3 3)) (two a (between 0 2)) (two a (between 1 3)),
+  Exact, refl,
+  inner_heads (narrowed 1) a sound order low_joined high_joined low_widened high_widened,
+  inner_narrowing (narrowed 1) a sound order low_joined high_joined low_widened high_widened,
+  (Exact, (refl, record { table = refl; extremes = tt }), refl), refl),
+  (two a (between 3 3), Exact, Exact, (refl, refl), (refl, refl), refl), refl,
+)
