@@ -93,9 +93,9 @@ fn values_of_boxes(rt: HostRuntime) -> Result<(), AllocError> {
             .enumerate()
         {
             assert_eq!(rt; *kind, *right, "row {place}");
-            assert_eq!(rt; row.len(), 3);
+            assert_eq!(rt; row.width(), 3);
             for (column, number) in numbers.iter().enumerate() {
-                if column < row.len() {
+                if column < row.width() {
                     assert_eq!(rt; row.get(column), *number, "row {place}");
                 }
             }
