@@ -222,3 +222,151 @@ inner_loop_pass a sound order low_joined high_joined low_widened high_widened = 
   (Exact, (refl, record { table = refl; extremes = tt }), refl), refl),
   (two a (between 3 3), Exact, Exact, (refl, refl), (refl, refl), refl), refl,
 )
+
+-- the outer loop's body: its point is 2, and the points inside are 3 to 12
+abbrev outer_body : Node
+outer_body = seq (seq (seq (point 3) (act 3 (give 0 (Some 1) (literal 0)))) (seq inner_loop (seq (seq (point 11) (act 11 (give 0 (Some 0) (binary plus a_is (literal 1))))) empty))) (seq (point 12) (act 12 (keep 2)))
+
+abbrev outer_condition : Cond
+outer_condition = compare below a_is (literal 5)
+
+abbrev outer_loop : Node
+outer_loop = loop_node 2 0 outer_condition outer_body empty
+
+-- a is at most 4; 0; a + 1
+abbrev under_five : Form
+under_five = form (pos 4) (negsuc 0 ∷ pos 0 ∷ [])
+
+abbrev zero_form : Form
+zero_form = form (pos 0) (pos 0 ∷ pos 0 ∷ [])
+
+abbrev next_a : Form
+next_a = form (pos 1) (pos 1 ∷ pos 0 ∷ [])
+
+-- what a round from a in x and b in z finds, where a in y is under 5, and comes to be in u
+abbrev outer_found : List (Entry Content) → Interval → Interval → Interval → Result Content
+outer_found before y z u = record {
+  entries = before ++ value 3 (two y z) ∷ (inner_entries y ++ value 11 (two y (between 3 3)) ∷ value 12 (two u (between 3 3)) ∷ []);
+  normal = two u (between 3 3);
+  breaks = [];
+  continues = [];
+  returns = two y (between 0 2) ∷ [];
+  flag = None;
+}
+
+module _ (x y z u : Interval)
+  (is_under : StepsTo (test Ge under_five) (two x z) (two y z)) (is_zero : StepsTo (assign 1 zero_form) (two y z) (two y (between 0 0)))
+  (inner : Pass Content Content boxes (narrowed 1) inner_loop None (two y (between 0 0)) (inner_loop_found y)) (is_next : StepsTo (assign 0 next_a) (two y (between 3 3)) (two u (between 3 3))) where
+
+  outer_pass : Pass Content Content boxes (narrowed 1) outer_body None (two y z) (outer_found [] y z u)
+  outer_pass = (
+    record { entries = value 3 (two y z) ∷ (inner_entries y ++ value 11 (two y (between 3 3)) ∷ []); normal = two u (between 3 3); breaks = []; continues = []; returns = two y (between 0 2) ∷ []; flag = None },
+    goes_on (value 12 (two u (between 3 3)) ∷ []) (two u (between 3 3)) None,
+    (goes_on (value 3 (two y z) ∷ []) (two y (between 0 0)) None,
+    record { entries = inner_entries y ++ value 11 (two y (between 3 3)) ∷ []; normal = two u (between 3 3); breaks = []; continues = []; returns = two y (between 0 2) ∷ []; flag = None },
+    (goes_on (value 3 (two y z) ∷ []) (two y z) None, goes_on [] (two y (between 0 0)) None, refl,
+    (two y (between 0 0), Exact, (two y (between 0 0), Exact, Exact, (refl, is_zero), (refl, refl), refl), refl), refl),
+    (inner_loop_found y, goes_on (value 11 (two y (between 3 3)) ∷ []) (two u (between 3 3)) None, inner,
+    (goes_on (value 11 (two y (between 3 3)) ∷ []) (two u (between 3 3)) None, goes_on [] (two u (between 3 3)) None,
+    (goes_on (value 11 (two y (between 3 3)) ∷ []) (two y (between 3 3)) None, goes_on [] (two u (between 3 3)) None, refl,
+    (two u (between 3 3), Exact, (two u (between 3 3), Exact, Exact, (refl, is_next), (refl, refl), refl), refl), refl),
+    refl, refl),
+    refl),
+    refl),
+    (goes_on (value 12 (two u (between 3 3)) ∷ []) (two u (between 3 3)) None, goes_on [] (two u (between 3 3)) None, refl, (two u (between 3 3), Exact, (refl, refl), refl), refl),
+    refl,
+  )
+
+  outer_turn : GoesRound Content Content boxes 2 0 outer_condition (Pass Content Content boxes (narrowed 1) (seq (catch 2 continued outer_body) empty)) None (two x z) (outer_found (value 2 (two x z) ∷ []) y z u)
+  outer_turn = (
+    two y z, Exact, outer_found [] y z u, (Exact, (refl, is_under), refl),
+    (outer_found [] y z u, goes_on [] (two u (between 3 3)) None,
+    (two u (between 3 3), Exact, outer_found [] y z u, outer_pass, (refl, refl), refl),
+    refl, refl),
+    refl,
+  )
+
+  outer_from : GoesFrom Content Content boxes 2 0 outer_condition (Pass Content Content boxes (narrowed 1) (seq (catch 2 continued outer_body) empty)) (two x z) None (two x z) (outer_found (value 2 (two x z) ∷ []) y z u)
+  outer_from = (Exact, (refl, refl), outer_turn)
+
+zeroed : (y z : Interval) → IsSound y → IsSound z → StepsTo (assign 1 zero_form) (two y z) (two y (between 0 0))
+zeroed y z first second = record { table = refl; extremes = (end_is_extreme Low zero_form (y ∷ z ∷ []) (first, (second, tt)) refl, end_is_extreme High zero_form (y ∷ z ∷ []) (first, (second, tt)) refl) }
+
+next_is_a : (y z : Interval) → IsSound y → IsSound z → StepsTo (assign 0 next_a) (two y z) (stepped (assign 0 next_a) (two y z))
+next_is_a y z first second = record { table = refl; extremes = (end_is_extreme Low next_a (y ∷ z ∷ []) (first, (second, tt)) refl, end_is_extreme High next_a (y ∷ z ∷ []) (first, (second, tt)) refl) }
+
+-- a is 0..0, 0..1, 0..4 in the inner loop
+sound_0_0 : IsSound (between 0 0)
+sound_0_0 = between_sound 0 0 (lit< tt) (lit< tt) refl
+
+sound_0_1 : IsSound (between 0 1)
+sound_0_1 = between_sound 0 1 (lit< tt) (lit< tt) refl
+
+sound_0_3 : IsSound (between 0 3)
+sound_0_3 = between_sound 0 3 (lit< tt) (lit< tt) refl
+
+sound_0_4 : IsSound (between 0 4)
+sound_0_4 = between_sound 0 4 (lit< tt) (lit< tt) refl
+
+sound_3_3 : IsSound (between 3 3)
+sound_3_3 = between_sound 3 3 (lit< tt) (lit< tt) refl
+
+-- the outer heads: a 0..0 and b 0..0; 0..1 and 0..3; 0.. and 0..3
+outer_heads : Grows Content Content boxes 2 0 outer_condition (Pass Content Content boxes (narrowed 1) (seq (catch 2 continued outer_body) empty)) false 1 None
+    (two (between 0 0) (between 0 0)) (two (between 0 1) (between 0 3) ∷ two (at_least 0) (between 0 3) ∷ []) (two (at_least 0) (between 0 3))
+    (outer_found (value 2 (two (at_least 0) (between 0 3)) ∷ []) (between 0 4) (between 0 3) (between 1 5))
+outer_heads = (
+  two (between 0 0) (between 0 0), outer_found (value 2 (two (between 0 0) (between 0 0)) ∷ []) (between 0 0) (between 0 0) (between 1 1), Exact,
+  outer_from (between 0 0) (between 0 0) (between 0 0) (between 1 1) (record { table = refl; extremes = tt }) (zeroed (between 0 0) (between 0 0) sound_0_0 sound_0_0)
+      (inner_loop_pass (between 0 0) sound_0_0 refl refl refl refl refl) (next_is_a (between 0 0) (between 3 3) sound_0_0 sound_3_3),
+  (refl, (λ h. omega (arith, ints, h.1)), refl),
+  (two (between 0 1) (between 0 3), outer_found (value 2 (two (between 0 1) (between 0 3)) ∷ []) (between 0 1) (between 0 3) (between 1 2), Exact,
+  outer_from (between 0 1) (between 0 1) (between 0 3) (between 1 2) (record { table = refl; extremes = tt }) (zeroed (between 0 1) (between 0 3) sound_0_1 sound_0_3)
+      (inner_loop_pass (between 0 1) sound_0_1 refl refl refl refl refl) (next_is_a (between 0 1) (between 3 3) sound_0_1 sound_3_3),
+  (refl, (λ h. omega (arith, ints, h.1)), refl),
+  (outer_from (at_least 0) (between 0 4) (between 0 3) (between 1 5) (record { table = refl; extremes = tt }) (zeroed (between 0 4) (between 0 3) sound_0_4 sound_0_3)
+      (inner_loop_pass (between 0 4) sound_0_4 refl refl refl refl refl) (next_is_a (between 0 4) (between 3 3) sound_0_4 sound_3_3),
+  (omega (arith, ints), tt, (omega (arith, ints), omega (arith, ints), tt)))),
+)
+
+outer_narrowing : Narrows Content Content boxes 2 0 outer_condition (Pass Content Content boxes (narrowed 1) (seq (catch 2 continued outer_body) empty)) 1 (two (between 0 0) (between 0 0)) (two (at_least 0) (between 0 3))
+    (outer_found (value 2 (two (at_least 0) (between 0 3)) ∷ []) (between 0 4) (between 0 3) (between 1 5))
+    (two (between 0 5) (between 0 3)) (outer_found (value 2 (two (between 0 5) (between 0 3)) ∷ []) (between 0 4) (between 0 3) (between 1 5))
+outer_narrowing = (
+  two (between 0 5) (between 0 3), outer_found (value 2 (two (between 0 5) (between 0 3)) ∷ []) (between 0 4) (between 0 3) (between 1 5), Exact,
+  (refl, refl),
+  outer_turn (between 0 5) (between 0 4) (between 0 3) (between 1 5) (record { table = refl; extremes = tt }) (zeroed (between 0 4) (between 0 3) sound_0_4 sound_0_3)
+      (inner_loop_pass (between 0 4) sound_0_4 refl refl refl refl refl) (next_is_a (between 0 4) (between 3 3) sound_0_4 sound_3_3),
+  (refl, refl),
+)
+
+-- the outer loop is left with a 5 and b 0..3, and returns with a 0..4 and b 0..2
+abbrev outer_entries : List (Entry Content)
+outer_entries =
+    value 2 (two (between 0 5) (between 0 3)) ∷ value 3 (two (between 0 4) (between 0 3)) ∷ (inner_entries (between 0 4) ++ value 11 (two (between 0 4) (between 3 3)) ∷ value 12 (two (between 1 5) (between 3 3)) ∷ [])
+
+abbrev outer_result : Result Content
+outer_result = record { entries = outer_entries; normal = two (between 5 5) (between 0 3); breaks = []; continues = []; returns = two (between 0 4) (between 0 2) ∷ []; flag = None }
+
+outer_loop_pass : Pass Content Content boxes (narrowed 1) outer_loop None (two (between 0 0) (between 0 0)) outer_result
+outer_loop_pass = (
+  two (between 5 5) (between 0 3), Exact, outer_result,
+  (two (between 0 0) (between 0 0), two (between 0 1) (between 0 3) ∷ two (at_least 0) (between 0 3) ∷ [], two (at_least 0) (between 0 3), two (between 0 5) (between 0 3), two (between 5 5) (between 0 3),
+  outer_found (value 2 (two (at_least 0) (between 0 3)) ∷ []) (between 0 4) (between 0 3) (between 1 5),
+  outer_found (value 2 (two (between 0 5) (between 0 3)) ∷ []) (between 0 4) (between 0 3) (between 1 5),
+  Exact, refl, outer_heads, outer_narrowing, (Exact, (refl, record { table = refl; extremes = tt }), refl), refl),
+  (refl, refl), refl,
+)
+
+-- assert(a == 5): where it is false there is nothing, below 5 and above it
+asserted : Pass Content Content boxes (narrowed 1) (seq (point 13) (check 13 0 (compare equal a_is (literal 5)))) None (two (between 5 5) (between 0 3))
+    (goes_on (value 13 (two (between 5 5) (between 0 3)) ∷ failing 13 nowhere ∷ []) (two (between 5 5) (between 0 3)) None)
+asserted = (
+  goes_on (value 13 (two (between 5 5) (between 0 3)) ∷ []) (two (between 5 5) (between 0 3)) None,
+  goes_on (failing 13 nowhere ∷ []) (two (between 5 5) (between 0 3)) None,
+  refl,
+  (nowhere, two (between 5 5) (between 0 3), Exact, Exact,
+  ((nowhere, Exact), (nowhere, Exact), (Exact, (refl, record { table = refl; extremes = tt }), refl), (Exact, (refl, record { table = refl; extremes = tt }), refl), (Exact, (refl, refl), refl)),
+  (Exact, (refl, record { table = refl; extremes = tt }), refl), refl),
+  refl,
+)
