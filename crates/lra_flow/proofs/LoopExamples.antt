@@ -34,7 +34,7 @@ abbrev pub at_least : ℕ → Interval
 at_least l = record { low = Some (pos l); high = None }
 
 -- the box of one variable
-abbrev one : Interval → Content
+abbrev pub one : Interval → Content
 one x = record { dims = 1; bounds = Some (x ∷ []) }
 
 abbrev pub narrowed : ℕ → Settings
@@ -61,7 +61,7 @@ counting = record {
 abbrev increase : Node
 increase = seq (point 2) (act 2 (give 0 (Some 0) (binary plus i (literal 1))))
 
-abbrev declared : Node
+abbrev pub declared : Node
 declared = seq (point 0) (seq (act 0 append) (act 0 (give 0 (Some 0) (literal 0))))
 
 abbrev counting_tree : Node
@@ -178,14 +178,14 @@ loop_never = (
   (refl, refl), refl,
 )
 
-abbrev none : Content
+abbrev pub none : Content
 none = record { dims = 0; bounds = Some [] }
 
 -- i is new and gets 0
 zero_set : StepsTo (assign 0 (form (pos 0) (pos 0 ∷ []))) (one open_interval) (one (between 0 0))
 zero_set = record { table = refl; extremes = (end_is_extreme Low (form (pos 0) (pos 0 ∷ [])) (open_interval ∷ []) (((tt, tt), refl), tt) refl, end_is_extreme High (form (pos 0) (pos 0 ∷ [])) (open_interval ∷ []) (((tt, tt), refl), tt) refl) }
 
-declaring : (set : Settings) → Pass Content Content boxes set declared None none (goes_on (value 0 none ∷ []) (one (between 0 0)) None)
+pub declaring : (set : Settings) → Pass Content Content boxes set declared None none (goes_on (value 0 none ∷ []) (one (between 0 0)) None)
 declaring set = (
   goes_on (value 0 none ∷ []) none None, goes_on [] (one (between 0 0)) None, refl,
   (goes_on [] (one open_interval) None, goes_on [] (one (between 0 0)) None,

@@ -1,6 +1,7 @@
 -- The iteration over boxes on nested loops with a `break` and a `return`:
 -- int main(void){ long a=0, b=0; while(a<5){ b=0; while(1){ if(b>=3) break; if(input()) return 0; b=b+1; } a=a+1; } assert(a==5); }
 use Rattle.std.proofs.Common.{◌≡◌, ℕ, pos, negsuc, List, [], ◌∷◌, ◌++◌, Option, None, Some, true, false, refl, arith, lit<, ◌<◌, ◌^◌}
+use Rattle.std.specs.List.{Contains}
 use Rattle.std.proofs.lemmas.Int.{ints}
 use Rattle.lra_lin.specs.Form.{Form}
 use Rattle.lra_lin.specs.declared.test.TestKind.TheVariants.{Ge}
@@ -10,7 +11,8 @@ use Rattle.lra_tree.specs.Program.{local, plus, below, equal, Expr, literal, rea
 use Rattle.lra_tree.specs.Program as program
 use Rattle.lra_tree.specs.Step.{append, give, keep}
 use Rattle.lra_tree.specs.Graph.{broken, continued, returned, Node, empty, point, act, check, seq, choose, catch, leave}
-use Rattle.lra_tree.specs.Inlined.{loop_node}
+use Rattle.lra_tree.specs.Inlined.{as_declaration, as_given, as_value, as_statement, as_none, as_loop, is_loop, as_assign, as_absent, as_block, as_if, as_break, as_end_value, as_assert, loop_node}
+use Rattle.lra_tree.specs.Agree.{IsGraph}
 use Rattle.lra_box.specs.declared.interval.Interval.{Interval}
 use Rattle.lra_box.specs.declared.interval.Side.TheVariants.{Low, High}
 use Rattle.lra_box.specs.Bounds.{open_interval, crossed, form, IsSound}
@@ -22,7 +24,8 @@ use Rattle.lra_box.proofs.WithinLemmas.{low_within_refl, high_within_refl}
 use Rattle.lra_flow.specs.declared.Settings.{Settings}
 use Rattle.lra_flow.specs.Conditions.{Leaves}
 use Rattle.lra_flow.specs.Pass.{Entry, value, failing, Result, goes_on, jumps, GoesRound, GoesFrom, Grows, Narrows, Pass}
-use Rattle.lra_flow.proofs.LoopExamples.{boxes, between, at_least, narrowed, between_sound}
+use Rattle.lra_flow.specs.Analysis.{Written, IsUnreachable}
+use Rattle.lra_flow.proofs.LoopExamples.{boxes, between, at_least, one, none, narrowed, between_sound, declared, declaring}
 
 -- the box of both variables
 abbrev two : Interval → Interval → Content
@@ -370,3 +373,103 @@ asserted = (
   (Exact, (refl, record { table = refl; extremes = tt }), refl), refl),
   refl,
 )
+
+abbrev zero_at : ℕ → program.Declarator
+zero_at at = record { label = at; source = Some (program.value (literal 0)) }
+
+abbrev inner_block : program.Stmt
+inner_block = program.block (program.statement (program.if 6 (compare program.at_least b_is (literal 3)) (program.break 7) program.absent)
+    (program.statement (program.if 8 (nonzero input) (program.return 9 (Some (program.value (literal 0)))) program.absent)
+    (program.statement (program.assign 10 (local 1) (program.value (binary plus b_is (literal 1)))) program.no_more))) 11
+
+abbrev outer_block : program.Stmt
+outer_block = program.block (program.statement (program.assign 4 (local 1) (program.value (literal 0)))
+    (program.statement (program.loop 5 endless inner_block program.absent)
+    (program.statement (program.assign 12 (local 0) (program.value (binary plus a_is (literal 1)))) program.no_more))) 13
+
+abbrev nested : program.Program
+nested = record {
+  globals = [];
+  functions = [];
+  main = record {
+    parameters = 0;
+    body = program.declaration (zero_at 1) (program.declaration (zero_at 2)
+    (program.statement (program.loop 3 outer_condition outer_block program.absent) (program.statement (program.assert 14 (compare equal a_is (literal 5))) program.no_more)));
+    end = 15;
+  };
+}
+
+abbrev declared_b : Node
+declared_b = seq (point 1) (seq (act 1 append) (act 1 (give 0 (Some 1) (literal 0))))
+
+abbrev nested_tree : Node
+nested_tree = seq (seq declared (seq declared_b (seq outer_loop (seq (seq (point 13) (check 13 0 (compare equal a_is (literal 5)))) empty)))) (point 14)
+
+-- the tree is that of the program
+nested_graph : IsGraph nested nested_tree
+nested_graph = record {
+  body = _;
+  last = 14;
+  live = 2;
+  inlined = as_declaration _ _ _ _ _ _ _ _ _ _ refl (as_given _ _ _ _ _ _ _ (as_value _ _ _ _ _ _))
+  (as_declaration _ _ _ _ _ _ _ _ _ _ refl (as_given _ _ _ _ _ _ _ (as_value _ _ _ _ _ _))
+  (as_statement _ _ _ _ _ _ _ _ _ _ (as_loop _ _ _ _ _ _ (is_loop _ _ _ _ _ _ _ _ _ _ _ _ refl (as_absent _ _ _)
+  (as_block _ _ _ _ _ _ _ _
+  (as_statement _ _ _ _ _ _ _ _ _ _ (as_assign _ _ _ _ _ _ _ _ refl (as_value _ _ _ _ _ _))
+  (as_statement _ _ _ _ _ _ _ _ _ _ (as_loop _ _ _ _ _ _ (is_loop _ _ _ _ _ _ _ _ _ _ _ _ refl (as_absent _ _ _)
+  (as_block _ _ _ _ _ _ _ _
+  (as_statement _ _ _ _ _ _ _ _ _ _ (as_if _ _ _ _ _ _ _ _ _ _ _ refl (as_break _ _ _ _ _ refl (omega arith) refl) (as_absent _ _ _))
+  (as_statement _ _ _ _ _ _ _ _ _ _ (as_if _ _ _ _ _ _ _ _ _ _ _ refl (as_end_value _ _ _ _ _ refl refl) (as_absent _ _ _))
+  (as_statement _ _ _ _ _ _ _ _ _ _ (as_assign _ _ _ _ _ _ _ _ refl (as_value _ _ _ _ _ _)) (as_none _ _ _)))) refl)))
+  (as_statement _ _ _ _ _ _ _ _ _ _ (as_assign _ _ _ _ _ _ _ _ refl (as_value _ _ _ _ _ _)) (as_none _ _ _)))) refl)))
+  (as_statement _ _ _ _ _ _ _ _ _ _ (as_assert _ _ _ _ _ refl) (as_none _ _ _))));
+  ends = refl;
+  all = refl;
+  parts = refl;
+}
+
+abbrev end_box : Content
+end_box = two (between 5 5) (between 0 3)
+
+abbrev body_entries : List (Entry Content)
+body_entries = value 0 none ∷ value 1 (one (between 0 0)) ∷ (outer_entries ++ value 13 end_box ∷ failing 13 nowhere ∷ [])
+
+abbrev nested_result : Result Content
+nested_result = record { entries = body_entries ++ value 14 end_box ∷ []; normal = end_box; breaks = []; continues = []; returns = two (between 0 4) (between 0 2) ∷ []; flag = None }
+
+declaring_b : Pass Content Content boxes (narrowed 1) declared_b None (one (between 0 0)) (goes_on (value 1 (one (between 0 0)) ∷ []) (two (between 0 0) (between 0 0)) None)
+declaring_b = (
+  goes_on (value 1 (one (between 0 0)) ∷ []) (one (between 0 0)) None, goes_on [] (two (between 0 0) (between 0 0)) None, refl,
+  (goes_on [] (two (between 0 0) open_interval) None, goes_on [] (two (between 0 0) (between 0 0)) None,
+  (two (between 0 0) open_interval, Exact, (two (between 0 0) open_interval, Exact, Exact, (refl, record { table = refl; extremes = tt }), (refl, refl), refl), refl),
+  (two (between 0 0) (between 0 0), Exact, (two (between 0 0) (between 0 0), Exact, Exact, (refl, zeroed (between 0 0) open_interval sound_0_0 ((tt, tt), refl)), (refl, refl), refl), refl), refl),
+  refl,
+)
+
+pub nested_written : Written box_meaning (narrowed 1) nested nested_tree nested_result
+nested_written = (
+  none, none, Exact, refl, (refl, refl),
+  (record { entries = body_entries; normal = end_box; breaks = []; continues = []; returns = two (between 0 4) (between 0 2) ∷ []; flag = None },
+  goes_on (value 14 end_box ∷ []) end_box None,
+  (goes_on (value 0 none ∷ []) (one (between 0 0)) None,
+  record { entries = value 1 (one (between 0 0)) ∷ (outer_entries ++ value 13 end_box ∷ failing 13 nowhere ∷ []); normal = end_box; breaks = []; continues = []; returns = two (between 0 4) (between 0 2) ∷ []; flag = None },
+  declaring (narrowed 1),
+  (goes_on (value 1 (one (between 0 0)) ∷ []) (two (between 0 0) (between 0 0)) None,
+  record { entries = outer_entries ++ value 13 end_box ∷ failing 13 nowhere ∷ []; normal = end_box; breaks = []; continues = []; returns = two (between 0 4) (between 0 2) ∷ []; flag = None },
+  declaring_b,
+  (outer_result, goes_on (value 13 end_box ∷ failing 13 nowhere ∷ []) end_box None, outer_loop_pass,
+  (goes_on (value 13 end_box ∷ failing 13 nowhere ∷ []) end_box None, goes_on [] end_box None, asserted, refl, refl), refl),
+  refl),
+  refl),
+  refl, refl),
+)
+
+-- at the `return` a is 0..4 and b 0..2, at the assertion a is 5 and b 0..3, and it is proved
+pub at_return : Contains nested_result.entries (value 8 (two (between 0 4) (between 0 2)))
+at_return = (8, lit< tt, refl)
+
+pub at_assertion : Contains nested_result.entries (value 13 (two (between 5 5) (between 0 3)))
+at_assertion = (13, lit< tt, refl)
+
+pub assertion_proved : Contains nested_result.entries (failing 13 nowhere) × IsUnreachable box_meaning nowhere
+assertion_proved = ((14, lit< tt, refl), refl)
