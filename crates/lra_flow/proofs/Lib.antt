@@ -4,3 +4,4 @@ mod Unflagged
 -- Worked examples over boxes.
 mod LoopExamples
 mod NestedExamples
+mod PieceExamples

@@ -53,7 +53,7 @@ counting = record {
   main = record {
     parameters = 0;
     body = declaration (record { label = 1; source = Some (program.value (literal 0)) })
-    (statement (loop 2 is_small (program.assign 3 (local 0) (program.value (binary plus i (literal 1)))) absent) no_more);
+        (statement (loop 2 is_small (program.assign 3 (local 0) (program.value (binary plus i (literal 1)))) absent) no_more);
     end = 4;
   };
 }
@@ -74,7 +74,7 @@ counting_graph = record {
   last = 3;
   live = 1;
   inlined = as_declaration _ _ _ _ _ _ _ _ _ _ refl (as_given _ _ _ _ _ _ _ (as_value _ _ _ _ _ _))
-  (as_statement _ _ _ _ _ _ _ _ _ _ (as_loop _ _ _ _ _ _ (is_loop _ _ _ _ _ _ _ _ _ _ _ _ refl (as_absent _ _ _) (as_assign _ _ _ _ _ _ _ _ refl (as_value _ _ _ _ _ _)))) (as_none _ _ _));
+      (as_statement _ _ _ _ _ _ _ _ _ _ (as_loop _ _ _ _ _ _ (is_loop _ _ _ _ _ _ _ _ _ _ _ _ refl (as_absent _ _ _) (as_assign _ _ _ _ _ _ _ _ refl (as_value _ _ _ _ _ _)))) (as_none _ _ _));
   ends = refl;
   all = refl;
   parts = refl;
@@ -107,14 +107,30 @@ turn x y z = goes_on (value 1 (one x) ∷ value 2 (one y) ∷ []) (one z) None
 round : (set : Settings) (x y z : Interval) → StepsTo (test Ge (form (pos 9) (negsuc 0 ∷ []))) (one x) (one y) → StepsTo (assign 0 next) (one y) (one z)
     → GoesRound Content Content boxes 1 0 is_small (Pass Content Content boxes set body) None (one x) (turn x y z)
 round set x y z is_tested is_assigned = (
-  one y, Exact, goes_on (value 2 (one y) ∷ []) (one z) None,
+  one y,
+  Exact,
+  goes_on (value 2 (one y) ∷ []) (one z) None,
   (Exact, (refl, is_tested), refl),
-  (goes_on (value 2 (one y) ∷ []) (one z) None, goes_on [] (one z) None,
-  (one z, Exact, goes_on (value 2 (one y) ∷ []) (one z) None,
-  (goes_on (value 2 (one y) ∷ []) (one y) None, goes_on [] (one z) None, refl,
-  (one z, Exact, (one z, Exact, Exact, (refl, is_assigned), (refl, refl), refl), refl), refl),
-  (refl, refl), refl),
-  refl, refl),
+  (
+    goes_on (value 2 (one y) ∷ []) (one z) None,
+    goes_on [] (one z) None,
+    (
+      one z,
+      Exact,
+      goes_on (value 2 (one y) ∷ []) (one z) None,
+      (
+        goes_on (value 2 (one y) ∷ []) (one y) None,
+        goes_on [] (one z) None,
+        refl,
+        (one z, Exact, (one z, Exact, Exact, (refl, is_assigned), (refl, refl), refl), refl),
+        refl,
+      ),
+      (refl, refl),
+      refl,
+    ),
+    refl,
+    refl,
+  ),
   refl,
 )
 
@@ -129,21 +145,31 @@ between_sound l h low high order = ((low, high), order)
 -- the heads are 0..0, joined to 0..1, widened to 0.. ; there i is below 10 from 0 to 9, and 1..10 lies in the head
 heads : (set : Settings) → Grows Content Content boxes 1 0 is_small (Pass Content Content boxes set body) false 1 None (one (between 0 0)) (one (between 0 1) ∷ one (at_least 0) ∷ []) (one (at_least 0)) (turn (at_least 0) (between 0 9) (between 1 10))
 heads set = (
-  one (between 0 0), turn (between 0 0) (between 0 0) (between 1 1), Exact,
+  one (between 0 0),
+  turn (between 0 0) (between 0 0) (between 1 1),
+  Exact,
   from_head set (between 0 0) (between 0 0) (between 1 1) (small (between 0 0)) (increased (between 0 0) (between_sound 0 0 (lit< tt) (lit< tt) refl)),
   (refl, (λ h. omega (arith, ints, h.1)), refl),
-  (one (between 0 1), turn (between 0 1) (between 0 1) (between 1 2), Exact,
-  from_head set (between 0 1) (between 0 1) (between 1 2) (small (between 0 1)) (increased (between 0 1) (between_sound 0 1 (lit< tt) (lit< tt) refl)),
-  (refl, (λ h. omega (arith, ints, h.1)), refl),
-  (from_head set (at_least 0) (between 0 9) (between 1 10) (small (at_least 0)) (increased (between 0 9) (between_sound 0 9 (lit< tt) (lit< tt) refl)),
-  (omega (arith, ints), tt, tt))),
+  (
+    one (between 0 1),
+    turn (between 0 1) (between 0 1) (between 1 2),
+    Exact,
+    from_head set (between 0 1) (between 0 1) (between 1 2) (small (between 0 1)) (increased (between 0 1) (between_sound 0 1 (lit< tt) (lit< tt) refl)),
+    (refl, (λ h. omega (arith, ints, h.1)), refl),
+    (
+      from_head set (at_least 0) (between 0 9) (between 1 10) (small (at_least 0)) (increased (between 0 9) (between_sound 0 9 (lit< tt) (lit< tt) refl)),
+      (omega (arith, ints), tt, tt),
+    ),
+  ),
 )
 
 -- narrowed once: 0..0 joined with 1..10 is 0..10
 narrowing : (set : Settings) → Narrows Content Content boxes 1 0 is_small (Pass Content Content boxes set body) 1 (one (between 0 0)) (one (at_least 0)) (turn (at_least 0) (between 0 9) (between 1 10))
     (one (between 0 10)) (turn (between 0 10) (between 0 9) (between 1 10))
 narrowing set = (
-  one (between 0 10), turn (between 0 10) (between 0 9) (between 1 10), Exact,
+  one (between 0 10),
+  turn (between 0 10) (between 0 9) (between 1 10),
+  Exact,
   (refl, refl),
   round set (between 0 10) (between 0 9) (between 1 10) (small (between 0 10)) (increased (between 0 9) (between_sound 0 9 (lit< tt) (lit< tt) refl)),
   (refl, refl),
@@ -160,22 +186,52 @@ whole head inside end = goes_on (entries head inside end) (one end) None
 loop_once : Pass Content Content boxes (narrowed 1) (loop_node 1 0 is_small increase empty) None (one (between 0 0))
     (goes_on (value 1 (one (between 0 10)) ∷ value 2 (one (between 0 9)) ∷ []) (one (between 10 10)) None)
 loop_once = (
-  one (between 10 10), Exact, goes_on (value 1 (one (between 0 10)) ∷ value 2 (one (between 0 9)) ∷ []) (one (between 10 10)) None,
-  (one (between 0 0), one (between 0 1) ∷ one (at_least 0) ∷ [], one (at_least 0), one (between 0 10), one (between 10 10),
-  turn (at_least 0) (between 0 9) (between 1 10), turn (between 0 10) (between 0 9) (between 1 10), Exact,
-  refl, heads (narrowed 1), narrowing (narrowed 1), (Exact, (refl, record { table = refl; extremes = tt }), refl), refl),
-  (refl, refl), refl,
+  one (between 10 10),
+  Exact,
+  goes_on (value 1 (one (between 0 10)) ∷ value 2 (one (between 0 9)) ∷ []) (one (between 10 10)) None,
+  (
+    one (between 0 0),
+    one (between 0 1) ∷ one (at_least 0) ∷ [],
+    one (at_least 0),
+    one (between 0 10),
+    one (between 10 10),
+    turn (at_least 0) (between 0 9) (between 1 10),
+    turn (between 0 10) (between 0 9) (between 1 10),
+    Exact,
+    refl,
+    heads (narrowed 1),
+    narrowing (narrowed 1),
+    (Exact, (refl, record { table = refl; extremes = tt }), refl),
+    refl,
+  ),
+  (refl, refl),
+  refl,
 )
 
 -- without narrowing it stays 0.. , with the pass that ended the growth, and is left with 10..
 loop_never : Pass Content Content boxes (narrowed 0) (loop_node 1 0 is_small increase empty) None (one (between 0 0))
     (goes_on (value 1 (one (at_least 0)) ∷ value 2 (one (between 0 9)) ∷ []) (one (at_least 10)) None)
 loop_never = (
-  one (at_least 10), Exact, goes_on (value 1 (one (at_least 0)) ∷ value 2 (one (between 0 9)) ∷ []) (one (at_least 10)) None,
-  (one (between 0 0), one (between 0 1) ∷ one (at_least 0) ∷ [], one (at_least 0), one (at_least 0), one (at_least 10),
-  turn (at_least 0) (between 0 9) (between 1 10), turn (at_least 0) (between 0 9) (between 1 10), Exact,
-  refl, heads (narrowed 0), (refl, refl), (Exact, (refl, record { table = refl; extremes = tt }), refl), refl),
-  (refl, refl), refl,
+  one (at_least 10),
+  Exact,
+  goes_on (value 1 (one (at_least 0)) ∷ value 2 (one (between 0 9)) ∷ []) (one (at_least 10)) None,
+  (
+    one (between 0 0),
+    one (between 0 1) ∷ one (at_least 0) ∷ [],
+    one (at_least 0),
+    one (at_least 0),
+    one (at_least 10),
+    turn (at_least 0) (between 0 9) (between 1 10),
+    turn (at_least 0) (between 0 9) (between 1 10),
+    Exact,
+    refl,
+    heads (narrowed 0),
+    (refl, refl),
+    (Exact, (refl, record { table = refl; extremes = tt }), refl),
+    refl,
+  ),
+  (refl, refl),
+  refl,
 )
 
 abbrev pub none : Content
@@ -187,10 +243,16 @@ zero_set = record { table = refl; extremes = (end_is_extreme Low (form (pos 0) (
 
 pub declaring : (set : Settings) → Pass Content Content boxes set declared None none (goes_on (value 0 none ∷ []) (one (between 0 0)) None)
 declaring set = (
-  goes_on (value 0 none ∷ []) none None, goes_on [] (one (between 0 0)) None, refl,
-  (goes_on [] (one open_interval) None, goes_on [] (one (between 0 0)) None,
-  (one open_interval, Exact, (one open_interval, Exact, Exact, (refl, record { table = refl; extremes = tt }), (refl, refl), refl), refl),
-  (one (between 0 0), Exact, (one (between 0 0), Exact, Exact, (refl, zero_set), (refl, refl), refl), refl), refl),
+  goes_on (value 0 none ∷ []) none None,
+  goes_on [] (one (between 0 0)) None,
+  refl,
+  (
+    goes_on [] (one open_interval) None,
+    goes_on [] (one (between 0 0)) None,
+    (one open_interval, Exact, (one open_interval, Exact, Exact, (refl, record { table = refl; extremes = tt }), (refl, refl), refl), refl),
+    (one (between 0 0), Exact, (one (between 0 0), Exact, Exact, (refl, zero_set), (refl, refl), refl), refl),
+    refl,
+  ),
   refl,
 )
 
@@ -199,13 +261,24 @@ around_loop : (set : Settings) (head inside end : Interval)
     → Pass Content Content boxes set (loop_node 1 0 is_small increase empty) None (one (between 0 0)) (goes_on (value 1 (one head) ∷ value 2 (one inside) ∷ []) (one end) None)
     → Written box_meaning set counting counting_tree (whole head inside end)
 around_loop set head inside end pass = (
-  none, none, Exact, refl, (refl, refl),
-  (goes_on (value 0 none ∷ value 1 (one head) ∷ value 2 (one inside) ∷ []) (one end) None, goes_on (value 3 (one end) ∷ []) (one end) None,
-  (goes_on (value 0 none ∷ []) (one (between 0 0)) None, goes_on (value 1 (one head) ∷ value 2 (one inside) ∷ []) (one end) None,
-  declaring set,
-  (goes_on (value 1 (one head) ∷ value 2 (one inside) ∷ []) (one end) None, goes_on [] (one end) None, pass, refl, refl),
-  refl),
-  refl, refl),
+  none,
+  none,
+  Exact,
+  refl,
+  (refl, refl),
+  (
+    goes_on (value 0 none ∷ value 1 (one head) ∷ value 2 (one inside) ∷ []) (one end) None,
+    goes_on (value 3 (one end) ∷ []) (one end) None,
+    (
+      goes_on (value 0 none ∷ []) (one (between 0 0)) None,
+      goes_on (value 1 (one head) ∷ value 2 (one inside) ∷ []) (one end) None,
+      declaring set,
+      (goes_on (value 1 (one head) ∷ value 2 (one inside) ∷ []) (one end) None, goes_on [] (one end) None, pass, refl, refl),
+      refl,
+    ),
+    refl,
+    refl,
+  ),
 )
 
 -- the head is 0..10, the body's point 0..9, the end 10

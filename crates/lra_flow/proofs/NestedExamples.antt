@@ -1,6 +1,6 @@
 -- The iteration over boxes on nested loops with a `break` and a `return`:
 -- int main(void){ long a=0, b=0; while(a<5){ b=0; while(1){ if(b>=3) break; if(input()) return 0; b=b+1; } a=a+1; } assert(a==5); }
-use Rattle.std.proofs.Common.{◌≡◌, ℕ, pos, negsuc, List, [], ◌∷◌, ◌++◌, Option, None, Some, true, false, refl, arith, lit<, ◌<◌, ◌^◌}
+use Rattle.std.proofs.Common.{◌≡◌, ℕ, pos, negsuc, List, [], ◌∷◌, ◌++◌, Option, None, Some, false, refl, arith, lit<}
 use Rattle.std.specs.List.{Contains}
 use Rattle.std.proofs.lemmas.Int.{ints}
 use Rattle.lra_lin.specs.Form.{Form}
@@ -22,7 +22,6 @@ use Rattle.lra_box.specs.Meaning.{StepsTo, box_meaning}
 use Rattle.lra_box.proofs.ExtremeLemmas.{end_is_extreme}
 use Rattle.lra_box.proofs.WithinLemmas.{low_within_refl, high_within_refl}
 use Rattle.lra_flow.specs.declared.Settings.{Settings}
-use Rattle.lra_flow.specs.Conditions.{Leaves}
 use Rattle.lra_flow.specs.Pass.{Entry, value, failing, Result, goes_on, jumps, GoesRound, GoesFrom, Grows, Narrows, Pass}
 use Rattle.lra_flow.specs.Analysis.{Written, IsUnreachable}
 use Rattle.lra_flow.proofs.LoopExamples.{boxes, between, at_least, one, none, narrowed, between_sound, declared, declaring}
@@ -89,22 +88,37 @@ box_of o = record { dims = 2; bounds = o }
 
 breaking : (set : Settings) (o : Option (List Interval)) → Pass Content Content boxes set (seq (point 6) (seq (act 6 (keep 2)) (leave broken))) None (box_of o) (broken_at (box_of o))
 breaking set o = (
-  goes_on (value 6 (box_of o) ∷ []) (box_of o) None, jumps broken (box_of o) nowhere None, refl,
+  goes_on (value 6 (box_of o) ∷ []) (box_of o) None,
+  jumps broken (box_of o) nowhere None,
+  refl,
   (goes_on [] (box_of o) None, jumps broken (box_of o) nowhere None, (box_of o, Exact, (refl, refl), refl), (nowhere, refl, refl), refl),
   refl,
 )
 
 module _ (set : Settings) (a x y z : Interval) (o : Option (List Interval))
-  (is_three : StepsTo (test Ge three) (two a x) (box_of o)) (is_under : StepsTo (test Ge under_three) (two a x) (two a y)) (is_next : StepsTo (assign 1 next_b) (two a y) (two a z)) where
-
+    (is_three : StepsTo (test Ge three) (two a x) (box_of o)) (is_under : StepsTo (test Ge under_three) (two a x) (two a y)) (is_next : StepsTo (assign 1 next_b) (two a y) (two a z)) where
   leaves_first : Pass Content Content boxes set leaving None (two a x)
       (record { entries = value 5 (two a x) ∷ value 6 (box_of o) ∷ []; normal = two a y; breaks = box_of o ∷ []; continues = []; returns = []; flag = None })
   leaves_first = (
     goes_on (value 5 (two a x) ∷ []) (two a x) None,
     record { entries = value 6 (box_of o) ∷ []; normal = two a y; breaks = box_of o ∷ []; continues = []; returns = []; flag = None },
     refl,
-    (box_of o, two a y, two a y, Exact, Exact, Exact, broken_at (box_of o), goes_on [] (two a y) None,
-    (Exact, (refl, is_three), refl), breaking set o, (Exact, (refl, is_under), refl), refl, (refl, refl), refl),
+    (
+      box_of o,
+      two a y,
+      two a y,
+      Exact,
+      Exact,
+      Exact,
+      broken_at (box_of o),
+      goes_on [] (two a y) None,
+      (Exact, (refl, is_three), refl),
+      breaking set o,
+      (Exact, (refl, is_under), refl),
+      refl,
+      (refl, refl),
+      refl,
+    ),
     refl,
   )
 
@@ -112,15 +126,33 @@ module _ (set : Settings) (a x y z : Interval) (o : Option (List Interval))
   returns_next : Pass Content Content boxes set returning None (two a y)
       (record { entries = value 7 (two a y) ∷ value 8 (two a y) ∷ []; normal = two a y; breaks = []; continues = []; returns = two a y ∷ []; flag = None })
   returns_next = (
-    goes_on (value 7 (two a y) ∷ []) (two a y) None, record { entries = value 8 (two a y) ∷ []; normal = two a y; breaks = []; continues = []; returns = two a y ∷ []; flag = None }, refl,
-    (two a y, two a y, two a y, Exact, Exact, Exact, returned_at (two a y), goes_on [] (two a y) None,
-    refl, (goes_on (value 8 (two a y) ∷ []) (two a y) None, jumps returned (two a y) nowhere None, refl, (nowhere, refl, refl), refl), refl, refl, (refl, refl), refl),
+    goes_on (value 7 (two a y) ∷ []) (two a y) None,
+    record { entries = value 8 (two a y) ∷ []; normal = two a y; breaks = []; continues = []; returns = two a y ∷ []; flag = None },
+    refl,
+    (
+      two a y,
+      two a y,
+      two a y,
+      Exact,
+      Exact,
+      Exact,
+      returned_at (two a y),
+      goes_on [] (two a y) None,
+      refl,
+      (goes_on (value 8 (two a y) ∷ []) (two a y) None, jumps returned (two a y) nowhere None, refl, (nowhere, refl, refl), refl),
+      refl,
+      refl,
+      (refl, refl),
+      refl,
+    ),
     refl,
   )
 
   counts_last : Pass Content Content boxes set counting_b None (two a y) (goes_on (value 9 (two a y) ∷ []) (two a z) None)
   counts_last = (
-    goes_on (value 9 (two a y) ∷ []) (two a y) None, goes_on [] (two a z) None, refl,
+    goes_on (value 9 (two a y) ∷ []) (two a y) None,
+    goes_on [] (two a z) None,
+    refl,
     (two a z, Exact, (two a z, Exact, Exact, (refl, is_next), (refl, refl), refl), refl),
     refl,
   )
@@ -129,14 +161,19 @@ module _ (set : Settings) (a x y z : Interval) (o : Option (List Interval))
   inner_pass = (
     record { entries = value 5 (two a x) ∷ value 6 (box_of o) ∷ value 7 (two a y) ∷ value 8 (two a y) ∷ value 9 (two a y) ∷ []; normal = two a z; breaks = box_of o ∷ []; continues = []; returns = two a y ∷ []; flag = None },
     goes_on (value 10 (two a z) ∷ []) (two a z) None,
-    (record { entries = value 5 (two a x) ∷ value 6 (box_of o) ∷ []; normal = two a y; breaks = box_of o ∷ []; continues = []; returns = []; flag = None },
-    record { entries = value 7 (two a y) ∷ value 8 (two a y) ∷ value 9 (two a y) ∷ []; normal = two a z; breaks = []; continues = []; returns = two a y ∷ []; flag = None },
-    leaves_first,
-    (record { entries = value 7 (two a y) ∷ value 8 (two a y) ∷ []; normal = two a y; breaks = []; continues = []; returns = two a y ∷ []; flag = None },
-    goes_on (value 9 (two a y) ∷ []) (two a z) None, returns_next,
-    (goes_on (value 9 (two a y) ∷ []) (two a z) None, goes_on [] (two a z) None, counts_last, refl, refl),
-    refl),
-    refl),
+    (
+      record { entries = value 5 (two a x) ∷ value 6 (box_of o) ∷ []; normal = two a y; breaks = box_of o ∷ []; continues = []; returns = []; flag = None },
+      record { entries = value 7 (two a y) ∷ value 8 (two a y) ∷ value 9 (two a y) ∷ []; normal = two a z; breaks = []; continues = []; returns = two a y ∷ []; flag = None },
+      leaves_first,
+      (
+        record { entries = value 7 (two a y) ∷ value 8 (two a y) ∷ []; normal = two a y; breaks = []; continues = []; returns = two a y ∷ []; flag = None },
+        goes_on (value 9 (two a y) ∷ []) (two a z) None,
+        returns_next,
+        (goes_on (value 9 (two a y) ∷ []) (two a z) None, goes_on [] (two a z) None, counts_last, refl, refl),
+        refl,
+      ),
+      refl,
+    ),
     (goes_on (value 10 (two a z) ∷ []) (two a z) None, goes_on [] (two a z) None, refl, (two a z, Exact, (refl, refl), refl), refl),
     refl,
   )
@@ -145,11 +182,17 @@ module _ (set : Settings) (a x y z : Interval) (o : Option (List Interval))
   inner_turn : GoesRound Content Content boxes 4 0 endless (Pass Content Content boxes set (seq (catch 4 continued inner_body) empty)) None (two a x)
       (inner_found (value 4 (two a x) ∷ value 5 (two a x) ∷ []) (box_of o) (two a y) (two a z))
   inner_turn = (
-    two a x, Exact, inner_found (value 5 (two a x) ∷ []) (box_of o) (two a y) (two a z),
+    two a x,
+    Exact,
+    inner_found (value 5 (two a x) ∷ []) (box_of o) (two a y) (two a z),
     ((nowhere, Exact), (two a x, Exact), (Exact, (refl, record { table = refl; extremes = tt }), refl), (Exact, (refl, record { table = refl; extremes = tt }), refl), (Exact, (refl, refl), refl)),
-    (inner_found (value 5 (two a x) ∷ []) (box_of o) (two a y) (two a z), goes_on [] (two a z) None,
-    (two a z, Exact, inner_found (value 5 (two a x) ∷ []) (box_of o) (two a y) (two a z), inner_pass, (refl, refl), refl),
-    refl, refl),
+    (
+      inner_found (value 5 (two a x) ∷ []) (box_of o) (two a y) (two a z),
+      goes_on [] (two a z) None,
+      (two a z, Exact, inner_found (value 5 (two a x) ∷ []) (box_of o) (two a y) (two a z), inner_pass, (refl, refl), refl),
+      refl,
+      refl,
+    ),
     refl,
   )
 
@@ -170,7 +213,7 @@ inner_loop_found a = record { entries = inner_entries a; normal = two a (between
 
 -- the inner loop where b begins with 0: its heads have b 0..0, 0..1 and 0.. , and it is narrowed to 0..3
 module _ (set : Settings) (a : Interval) (sound : IsSound a) (order : crossed a ≡ false) (low_joined : lesser_low a.low a.low ≡ a.low) (high_joined : greater_high a.high a.high ≡ a.high)
-  (low_widened : widened_low a.low a.low ≡ a.low) (high_widened : widened_high a.high a.high ≡ a.high) where
+    (low_widened : widened_low a.low a.low ≡ a.low) (high_widened : widened_high a.high a.high ≡ a.high) where
   at_three : (x : Interval) (o : Option (List Interval)) → box_of o ≡ stepped (test Ge three) (two a x) → StepsTo (test Ge three) (two a x) (box_of o)
   at_three x o is = record { table = is; extremes = tt }
 
@@ -190,21 +233,31 @@ module _ (set : Settings) (a : Interval) (sound : IsSound a) (order : crossed a 
   inner_heads : Grows Content Content boxes 4 0 endless (Pass Content Content boxes set loop_body) false 1 None (two a (between 0 0)) (two a (between 0 1) ∷ two a (at_least 0) ∷ []) (two a (at_least 0))
       (found_from (at_least 0) (Some (a ∷ at_least 3 ∷ [])) (between 0 2) (between 1 3))
   inner_heads = (
-    two a (between 0 0), found_from (between 0 0) None (between 0 0) (between 1 1), Exact,
+    two a (between 0 0),
+    found_from (between 0 0) None (between 0 0) (between 1 1),
+    Exact,
     inner_from set a (between 0 0) (between 0 0) (between 1 1) None (at_three (between 0 0) None (rw order refl)) (record { table = rw order refl; extremes = tt }) (next_is (between 0 0) (between_sound 0 0 (lit< tt) (lit< tt) refl)),
     (refl, (λ h. omega (arith, ints, h.2.1)), rw (low_joined, high_joined) refl),
-    (two a (between 0 1), found_from (between 0 1) None (between 0 1) (between 1 2), Exact,
-    inner_from set a (between 0 1) (between 0 1) (between 1 2) None (at_three (between 0 1) None (rw order refl)) (record { table = rw order refl; extremes = tt }) (next_is (between 0 1) (between_sound 0 1 (lit< tt) (lit< tt) refl)),
-    (refl, (λ h. omega (arith, ints, h.2.1)), rw (low_joined, high_joined, low_widened, high_widened) refl),
-    (inner_from set a (at_least 0) (between 0 2) (between 1 3) (Some (a ∷ at_least 3 ∷ [])) (at_three (at_least 0) (Some (a ∷ at_least 3 ∷ [])) (rw order refl)) (record { table = rw order refl; extremes = tt }) (next_is (between 0 2) (between_sound 0 2 (lit< tt) (lit< tt) refl)),
-    (low_within_refl a.low, high_within_refl a.high, (omega (arith, ints), tt, tt)))),
+    (
+      two a (between 0 1),
+      found_from (between 0 1) None (between 0 1) (between 1 2),
+      Exact,
+      inner_from set a (between 0 1) (between 0 1) (between 1 2) None (at_three (between 0 1) None (rw order refl)) (record { table = rw order refl; extremes = tt }) (next_is (between 0 1) (between_sound 0 1 (lit< tt) (lit< tt) refl)),
+      (refl, (λ h. omega (arith, ints, h.2.1)), rw (low_joined, high_joined, low_widened, high_widened) refl),
+      (
+        inner_from set a (at_least 0) (between 0 2) (between 1 3) (Some (a ∷ at_least 3 ∷ [])) (at_three (at_least 0) (Some (a ∷ at_least 3 ∷ [])) (rw order refl)) (record { table = rw order refl; extremes = tt }) (next_is (between 0 2) (between_sound 0 2 (lit< tt) (lit< tt) refl)),
+        (low_within_refl a.low, high_within_refl a.high, (omega (arith, ints), tt, tt)),
+      ),
+    ),
   )
 
   inner_narrowing : Narrows Content Content boxes 4 0 endless (Pass Content Content boxes set loop_body) 1 (two a (between 0 0)) (two a (at_least 0))
       (found_from (at_least 0) (Some (a ∷ at_least 3 ∷ [])) (between 0 2) (between 1 3))
       (two a (between 0 3)) (found_from (between 0 3) (Some (a ∷ between 3 3 ∷ [])) (between 0 2) (between 1 3))
   inner_narrowing = (
-    two a (between 0 3), found_from (between 0 3) (Some (a ∷ between 3 3 ∷ [])) (between 0 2) (between 1 3), Exact,
+    two a (between 0 3),
+    found_from (between 0 3) (Some (a ∷ between 3 3 ∷ [])) (between 0 2) (between 1 3),
+    Exact,
     (refl, rw (low_joined, high_joined) refl),
     inner_turn set a (between 0 3) (between 0 2) (between 1 3) (Some (a ∷ between 3 3 ∷ [])) (at_three (between 0 3) (Some (a ∷ between 3 3 ∷ [])) (rw order refl)) (record { table = rw order refl; extremes = tt }) (next_is (between 0 2) (between_sound 0 2 (lit< tt) (lit< tt) refl)),
     (refl, refl),
@@ -214,16 +267,26 @@ module _ (set : Settings) (a : Interval) (sound : IsSound a) (order : crossed a 
 inner_loop_pass : (a : Interval) → IsSound a → crossed a ≡ false → lesser_low a.low a.low ≡ a.low → greater_high a.high a.high ≡ a.high → widened_low a.low a.low ≡ a.low → widened_high a.high a.high ≡ a.high
     → Pass Content Content boxes (narrowed 1) inner_loop None (two a (between 0 0)) (inner_loop_found a)
 inner_loop_pass a sound order low_joined high_joined low_widened high_widened = (
-  two a (between 3 3), Exact,
+  two a (between 3 3),
+  Exact,
   record { entries = inner_entries a; normal = nowhere; breaks = two a (between 3 3) ∷ []; continues = []; returns = two a (between 0 2) ∷ []; flag = None },
-  (two a (between 0 0), two a (between 0 1) ∷ two a (at_least 0) ∷ [], two a (at_least 0), two a (between 0 3), nowhere,
-  inner_found (value 4 (two a (at_least 0)) ∷ value 5 (two a (at_least 0)) ∷ []) (two a (at_least 3)) (two a (between 0 2)) (two a (between 1 3)),
-  inner_found (value 4 (two a (between 0 3)) ∷ value 5 (two a (between 0 3)) ∷ []) (two a (between 3 3)) (two a (between 0 2)) (two a (between 1 3)),
-  Exact, refl,
-  inner_heads (narrowed 1) a sound order low_joined high_joined low_widened high_widened,
-  inner_narrowing (narrowed 1) a sound order low_joined high_joined low_widened high_widened,
-  (Exact, (refl, record { table = refl; extremes = tt }), refl), refl),
-  (two a (between 3 3), Exact, Exact, (refl, refl), (refl, refl), refl), refl,
+  (
+    two a (between 0 0),
+    two a (between 0 1) ∷ two a (at_least 0) ∷ [],
+    two a (at_least 0),
+    two a (between 0 3),
+    nowhere,
+    inner_found (value 4 (two a (at_least 0)) ∷ value 5 (two a (at_least 0)) ∷ []) (two a (at_least 3)) (two a (between 0 2)) (two a (between 1 3)),
+    inner_found (value 4 (two a (between 0 3)) ∷ value 5 (two a (between 0 3)) ∷ []) (two a (between 3 3)) (two a (between 0 2)) (two a (between 1 3)),
+    Exact,
+    refl,
+    inner_heads (narrowed 1) a sound order low_joined high_joined low_widened high_widened,
+    inner_narrowing (narrowed 1) a sound order low_joined high_joined low_widened high_widened,
+    (Exact, (refl, record { table = refl; extremes = tt }), refl),
+    refl,
+  ),
+  (two a (between 3 3), Exact, Exact, (refl, refl), (refl, refl), refl),
+  refl,
 )
 
 -- the outer loop's body: its point is 2, and the points inside are 3 to 12
@@ -258,34 +321,60 @@ outer_found before y z u = record {
 }
 
 module _ (x y z u : Interval)
-  (is_under : StepsTo (test Ge under_five) (two x z) (two y z)) (is_zero : StepsTo (assign 1 zero_form) (two y z) (two y (between 0 0)))
-  (inner : Pass Content Content boxes (narrowed 1) inner_loop None (two y (between 0 0)) (inner_loop_found y)) (is_next : StepsTo (assign 0 next_a) (two y (between 3 3)) (two u (between 3 3))) where
-
+    (is_under : StepsTo (test Ge under_five) (two x z) (two y z)) (is_zero : StepsTo (assign 1 zero_form) (two y z) (two y (between 0 0)))
+    (inner : Pass Content Content boxes (narrowed 1) inner_loop None (two y (between 0 0)) (inner_loop_found y)) (is_next : StepsTo (assign 0 next_a) (two y (between 3 3)) (two u (between 3 3))) where
   outer_pass : Pass Content Content boxes (narrowed 1) outer_body None (two y z) (outer_found [] y z u)
   outer_pass = (
     record { entries = value 3 (two y z) ∷ (inner_entries y ++ value 11 (two y (between 3 3)) ∷ []); normal = two u (between 3 3); breaks = []; continues = []; returns = two y (between 0 2) ∷ []; flag = None },
     goes_on (value 12 (two u (between 3 3)) ∷ []) (two u (between 3 3)) None,
-    (goes_on (value 3 (two y z) ∷ []) (two y (between 0 0)) None,
-    record { entries = inner_entries y ++ value 11 (two y (between 3 3)) ∷ []; normal = two u (between 3 3); breaks = []; continues = []; returns = two y (between 0 2) ∷ []; flag = None },
-    (goes_on (value 3 (two y z) ∷ []) (two y z) None, goes_on [] (two y (between 0 0)) None, refl,
-    (two y (between 0 0), Exact, (two y (between 0 0), Exact, Exact, (refl, is_zero), (refl, refl), refl), refl), refl),
-    (inner_loop_found y, goes_on (value 11 (two y (between 3 3)) ∷ []) (two u (between 3 3)) None, inner,
-    (goes_on (value 11 (two y (between 3 3)) ∷ []) (two u (between 3 3)) None, goes_on [] (two u (between 3 3)) None,
-    (goes_on (value 11 (two y (between 3 3)) ∷ []) (two y (between 3 3)) None, goes_on [] (two u (between 3 3)) None, refl,
-    (two u (between 3 3), Exact, (two u (between 3 3), Exact, Exact, (refl, is_next), (refl, refl), refl), refl), refl),
-    refl, refl),
-    refl),
-    refl),
+    (
+      goes_on (value 3 (two y z) ∷ []) (two y (between 0 0)) None,
+      record { entries = inner_entries y ++ value 11 (two y (between 3 3)) ∷ []; normal = two u (between 3 3); breaks = []; continues = []; returns = two y (between 0 2) ∷ []; flag = None },
+      (
+        goes_on (value 3 (two y z) ∷ []) (two y z) None,
+        goes_on [] (two y (between 0 0)) None,
+        refl,
+        (two y (between 0 0), Exact, (two y (between 0 0), Exact, Exact, (refl, is_zero), (refl, refl), refl), refl),
+        refl,
+      ),
+      (
+        inner_loop_found y,
+        goes_on (value 11 (two y (between 3 3)) ∷ []) (two u (between 3 3)) None,
+        inner,
+        (
+          goes_on (value 11 (two y (between 3 3)) ∷ []) (two u (between 3 3)) None,
+          goes_on [] (two u (between 3 3)) None,
+          (
+            goes_on (value 11 (two y (between 3 3)) ∷ []) (two y (between 3 3)) None,
+            goes_on [] (two u (between 3 3)) None,
+            refl,
+            (two u (between 3 3), Exact, (two u (between 3 3), Exact, Exact, (refl, is_next), (refl, refl), refl), refl),
+            refl,
+          ),
+          refl,
+          refl,
+        ),
+        refl,
+      ),
+      refl,
+    ),
     (goes_on (value 12 (two u (between 3 3)) ∷ []) (two u (between 3 3)) None, goes_on [] (two u (between 3 3)) None, refl, (two u (between 3 3), Exact, (refl, refl), refl), refl),
     refl,
   )
 
   outer_turn : GoesRound Content Content boxes 2 0 outer_condition (Pass Content Content boxes (narrowed 1) (seq (catch 2 continued outer_body) empty)) None (two x z) (outer_found (value 2 (two x z) ∷ []) y z u)
   outer_turn = (
-    two y z, Exact, outer_found [] y z u, (Exact, (refl, is_under), refl),
-    (outer_found [] y z u, goes_on [] (two u (between 3 3)) None,
-    (two u (between 3 3), Exact, outer_found [] y z u, outer_pass, (refl, refl), refl),
-    refl, refl),
+    two y z,
+    Exact,
+    outer_found [] y z u,
+    (Exact, (refl, is_under), refl),
+    (
+      outer_found [] y z u,
+      goes_on [] (two u (between 3 3)) None,
+      (two u (between 3 3), Exact, outer_found [] y z u, outer_pass, (refl, refl), refl),
+      refl,
+      refl,
+    ),
     refl,
   )
 
@@ -319,24 +408,34 @@ outer_heads : Grows Content Content boxes 2 0 outer_condition (Pass Content Cont
     (two (between 0 0) (between 0 0)) (two (between 0 1) (between 0 3) ∷ two (at_least 0) (between 0 3) ∷ []) (two (at_least 0) (between 0 3))
     (outer_found (value 2 (two (at_least 0) (between 0 3)) ∷ []) (between 0 4) (between 0 3) (between 1 5))
 outer_heads = (
-  two (between 0 0) (between 0 0), outer_found (value 2 (two (between 0 0) (between 0 0)) ∷ []) (between 0 0) (between 0 0) (between 1 1), Exact,
+  two (between 0 0) (between 0 0),
+  outer_found (value 2 (two (between 0 0) (between 0 0)) ∷ []) (between 0 0) (between 0 0) (between 1 1),
+  Exact,
   outer_from (between 0 0) (between 0 0) (between 0 0) (between 1 1) (record { table = refl; extremes = tt }) (zeroed (between 0 0) (between 0 0) sound_0_0 sound_0_0)
       (inner_loop_pass (between 0 0) sound_0_0 refl refl refl refl refl) (next_is_a (between 0 0) (between 3 3) sound_0_0 sound_3_3),
   (refl, (λ h. omega (arith, ints, h.1)), refl),
-  (two (between 0 1) (between 0 3), outer_found (value 2 (two (between 0 1) (between 0 3)) ∷ []) (between 0 1) (between 0 3) (between 1 2), Exact,
-  outer_from (between 0 1) (between 0 1) (between 0 3) (between 1 2) (record { table = refl; extremes = tt }) (zeroed (between 0 1) (between 0 3) sound_0_1 sound_0_3)
-      (inner_loop_pass (between 0 1) sound_0_1 refl refl refl refl refl) (next_is_a (between 0 1) (between 3 3) sound_0_1 sound_3_3),
-  (refl, (λ h. omega (arith, ints, h.1)), refl),
-  (outer_from (at_least 0) (between 0 4) (between 0 3) (between 1 5) (record { table = refl; extremes = tt }) (zeroed (between 0 4) (between 0 3) sound_0_4 sound_0_3)
-      (inner_loop_pass (between 0 4) sound_0_4 refl refl refl refl refl) (next_is_a (between 0 4) (between 3 3) sound_0_4 sound_3_3),
-  (omega (arith, ints), tt, (omega (arith, ints), omega (arith, ints), tt)))),
+  (
+    two (between 0 1) (between 0 3),
+    outer_found (value 2 (two (between 0 1) (between 0 3)) ∷ []) (between 0 1) (between 0 3) (between 1 2),
+    Exact,
+    outer_from (between 0 1) (between 0 1) (between 0 3) (between 1 2) (record { table = refl; extremes = tt }) (zeroed (between 0 1) (between 0 3) sound_0_1 sound_0_3)
+        (inner_loop_pass (between 0 1) sound_0_1 refl refl refl refl refl) (next_is_a (between 0 1) (between 3 3) sound_0_1 sound_3_3),
+    (refl, (λ h. omega (arith, ints, h.1)), refl),
+    (
+      outer_from (at_least 0) (between 0 4) (between 0 3) (between 1 5) (record { table = refl; extremes = tt }) (zeroed (between 0 4) (between 0 3) sound_0_4 sound_0_3)
+          (inner_loop_pass (between 0 4) sound_0_4 refl refl refl refl refl) (next_is_a (between 0 4) (between 3 3) sound_0_4 sound_3_3),
+      (omega (arith, ints), tt, (omega (arith, ints), omega (arith, ints), tt)),
+    ),
+  ),
 )
 
 outer_narrowing : Narrows Content Content boxes 2 0 outer_condition (Pass Content Content boxes (narrowed 1) (seq (catch 2 continued outer_body) empty)) 1 (two (between 0 0) (between 0 0)) (two (at_least 0) (between 0 3))
     (outer_found (value 2 (two (at_least 0) (between 0 3)) ∷ []) (between 0 4) (between 0 3) (between 1 5))
     (two (between 0 5) (between 0 3)) (outer_found (value 2 (two (between 0 5) (between 0 3)) ∷ []) (between 0 4) (between 0 3) (between 1 5))
 outer_narrowing = (
-  two (between 0 5) (between 0 3), outer_found (value 2 (two (between 0 5) (between 0 3)) ∷ []) (between 0 4) (between 0 3) (between 1 5), Exact,
+  two (between 0 5) (between 0 3),
+  outer_found (value 2 (two (between 0 5) (between 0 3)) ∷ []) (between 0 4) (between 0 3) (between 1 5),
+  Exact,
   (refl, refl),
   outer_turn (between 0 5) (between 0 4) (between 0 3) (between 1 5) (record { table = refl; extremes = tt }) (zeroed (between 0 4) (between 0 3) sound_0_4 sound_0_3)
       (inner_loop_pass (between 0 4) sound_0_4 refl refl refl refl refl) (next_is_a (between 0 4) (between 3 3) sound_0_4 sound_3_3),
@@ -353,12 +452,26 @@ outer_result = record { entries = outer_entries; normal = two (between 5 5) (bet
 
 outer_loop_pass : Pass Content Content boxes (narrowed 1) outer_loop None (two (between 0 0) (between 0 0)) outer_result
 outer_loop_pass = (
-  two (between 5 5) (between 0 3), Exact, outer_result,
-  (two (between 0 0) (between 0 0), two (between 0 1) (between 0 3) ∷ two (at_least 0) (between 0 3) ∷ [], two (at_least 0) (between 0 3), two (between 0 5) (between 0 3), two (between 5 5) (between 0 3),
-  outer_found (value 2 (two (at_least 0) (between 0 3)) ∷ []) (between 0 4) (between 0 3) (between 1 5),
-  outer_found (value 2 (two (between 0 5) (between 0 3)) ∷ []) (between 0 4) (between 0 3) (between 1 5),
-  Exact, refl, outer_heads, outer_narrowing, (Exact, (refl, record { table = refl; extremes = tt }), refl), refl),
-  (refl, refl), refl,
+  two (between 5 5) (between 0 3),
+  Exact,
+  outer_result,
+  (
+    two (between 0 0) (between 0 0),
+    two (between 0 1) (between 0 3) ∷ two (at_least 0) (between 0 3) ∷ [],
+    two (at_least 0) (between 0 3),
+    two (between 0 5) (between 0 3),
+    two (between 5 5) (between 0 3),
+    outer_found (value 2 (two (at_least 0) (between 0 3)) ∷ []) (between 0 4) (between 0 3) (between 1 5),
+    outer_found (value 2 (two (between 0 5) (between 0 3)) ∷ []) (between 0 4) (between 0 3) (between 1 5),
+    Exact,
+    refl,
+    outer_heads,
+    outer_narrowing,
+    (Exact, (refl, record { table = refl; extremes = tt }), refl),
+    refl,
+  ),
+  (refl, refl),
+  refl,
 )
 
 -- assert(a == 5): where it is false there is nothing, below 5 and above it
@@ -368,9 +481,15 @@ asserted = (
   goes_on (value 13 (two (between 5 5) (between 0 3)) ∷ []) (two (between 5 5) (between 0 3)) None,
   goes_on (failing 13 nowhere ∷ []) (two (between 5 5) (between 0 3)) None,
   refl,
-  (nowhere, two (between 5 5) (between 0 3), Exact, Exact,
-  ((nowhere, Exact), (nowhere, Exact), (Exact, (refl, record { table = refl; extremes = tt }), refl), (Exact, (refl, record { table = refl; extremes = tt }), refl), (Exact, (refl, refl), refl)),
-  (Exact, (refl, record { table = refl; extremes = tt }), refl), refl),
+  (
+    nowhere,
+    two (between 5 5) (between 0 3),
+    Exact,
+    Exact,
+    ((nowhere, Exact), (nowhere, Exact), (Exact, (refl, record { table = refl; extremes = tt }), refl), (Exact, (refl, record { table = refl; extremes = tt }), refl), (Exact, (refl, refl), refl)),
+    (Exact, (refl, record { table = refl; extremes = tt }), refl),
+    refl,
+  ),
   refl,
 )
 
@@ -394,7 +513,7 @@ nested = record {
   main = record {
     parameters = 0;
     body = program.declaration (zero_at 1) (program.declaration (zero_at 2)
-    (program.statement (program.loop 3 outer_condition outer_block program.absent) (program.statement (program.assert 14 (compare equal a_is (literal 5))) program.no_more)));
+        (program.statement (program.loop 3 outer_condition outer_block program.absent) (program.statement (program.assert 14 (compare equal a_is (literal 5))) program.no_more)));
     end = 15;
   };
 }
@@ -412,17 +531,17 @@ nested_graph = record {
   last = 14;
   live = 2;
   inlined = as_declaration _ _ _ _ _ _ _ _ _ _ refl (as_given _ _ _ _ _ _ _ (as_value _ _ _ _ _ _))
-  (as_declaration _ _ _ _ _ _ _ _ _ _ refl (as_given _ _ _ _ _ _ _ (as_value _ _ _ _ _ _))
-  (as_statement _ _ _ _ _ _ _ _ _ _ (as_loop _ _ _ _ _ _ (is_loop _ _ _ _ _ _ _ _ _ _ _ _ refl (as_absent _ _ _)
-  (as_block _ _ _ _ _ _ _ _
-  (as_statement _ _ _ _ _ _ _ _ _ _ (as_assign _ _ _ _ _ _ _ _ refl (as_value _ _ _ _ _ _))
-  (as_statement _ _ _ _ _ _ _ _ _ _ (as_loop _ _ _ _ _ _ (is_loop _ _ _ _ _ _ _ _ _ _ _ _ refl (as_absent _ _ _)
-  (as_block _ _ _ _ _ _ _ _
-  (as_statement _ _ _ _ _ _ _ _ _ _ (as_if _ _ _ _ _ _ _ _ _ _ _ refl (as_break _ _ _ _ _ refl (omega arith) refl) (as_absent _ _ _))
-  (as_statement _ _ _ _ _ _ _ _ _ _ (as_if _ _ _ _ _ _ _ _ _ _ _ refl (as_end_value _ _ _ _ _ refl refl) (as_absent _ _ _))
-  (as_statement _ _ _ _ _ _ _ _ _ _ (as_assign _ _ _ _ _ _ _ _ refl (as_value _ _ _ _ _ _)) (as_none _ _ _)))) refl)))
-  (as_statement _ _ _ _ _ _ _ _ _ _ (as_assign _ _ _ _ _ _ _ _ refl (as_value _ _ _ _ _ _)) (as_none _ _ _)))) refl)))
-  (as_statement _ _ _ _ _ _ _ _ _ _ (as_assert _ _ _ _ _ refl) (as_none _ _ _))));
+      (as_declaration _ _ _ _ _ _ _ _ _ _ refl (as_given _ _ _ _ _ _ _ (as_value _ _ _ _ _ _))
+      (as_statement _ _ _ _ _ _ _ _ _ _ (as_loop _ _ _ _ _ _ (is_loop _ _ _ _ _ _ _ _ _ _ _ _ refl (as_absent _ _ _)
+      (as_block _ _ _ _ _ _ _ _
+      (as_statement _ _ _ _ _ _ _ _ _ _ (as_assign _ _ _ _ _ _ _ _ refl (as_value _ _ _ _ _ _))
+      (as_statement _ _ _ _ _ _ _ _ _ _ (as_loop _ _ _ _ _ _ (is_loop _ _ _ _ _ _ _ _ _ _ _ _ refl (as_absent _ _ _)
+      (as_block _ _ _ _ _ _ _ _
+      (as_statement _ _ _ _ _ _ _ _ _ _ (as_if _ _ _ _ _ _ _ _ _ _ _ refl (as_break _ _ _ _ _ refl (omega arith) refl) (as_absent _ _ _))
+      (as_statement _ _ _ _ _ _ _ _ _ _ (as_if _ _ _ _ _ _ _ _ _ _ _ refl (as_end_value _ _ _ _ _ refl refl) (as_absent _ _ _))
+      (as_statement _ _ _ _ _ _ _ _ _ _ (as_assign _ _ _ _ _ _ _ _ refl (as_value _ _ _ _ _ _)) (as_none _ _ _)))) refl)))
+      (as_statement _ _ _ _ _ _ _ _ _ _ (as_assign _ _ _ _ _ _ _ _ refl (as_value _ _ _ _ _ _)) (as_none _ _ _)))) refl)))
+      (as_statement _ _ _ _ _ _ _ _ _ _ (as_assert _ _ _ _ _ refl) (as_none _ _ _))));
   ends = refl;
   all = refl;
   parts = refl;
@@ -439,29 +558,51 @@ nested_result = record { entries = body_entries ++ value 14 end_box ∷ []; norm
 
 declaring_b : Pass Content Content boxes (narrowed 1) declared_b None (one (between 0 0)) (goes_on (value 1 (one (between 0 0)) ∷ []) (two (between 0 0) (between 0 0)) None)
 declaring_b = (
-  goes_on (value 1 (one (between 0 0)) ∷ []) (one (between 0 0)) None, goes_on [] (two (between 0 0) (between 0 0)) None, refl,
-  (goes_on [] (two (between 0 0) open_interval) None, goes_on [] (two (between 0 0) (between 0 0)) None,
-  (two (between 0 0) open_interval, Exact, (two (between 0 0) open_interval, Exact, Exact, (refl, record { table = refl; extremes = tt }), (refl, refl), refl), refl),
-  (two (between 0 0) (between 0 0), Exact, (two (between 0 0) (between 0 0), Exact, Exact, (refl, zeroed (between 0 0) open_interval sound_0_0 ((tt, tt), refl)), (refl, refl), refl), refl), refl),
+  goes_on (value 1 (one (between 0 0)) ∷ []) (one (between 0 0)) None,
+  goes_on [] (two (between 0 0) (between 0 0)) None,
+  refl,
+  (
+    goes_on [] (two (between 0 0) open_interval) None,
+    goes_on [] (two (between 0 0) (between 0 0)) None,
+    (two (between 0 0) open_interval, Exact, (two (between 0 0) open_interval, Exact, Exact, (refl, record { table = refl; extremes = tt }), (refl, refl), refl), refl),
+    (two (between 0 0) (between 0 0), Exact, (two (between 0 0) (between 0 0), Exact, Exact, (refl, zeroed (between 0 0) open_interval sound_0_0 ((tt, tt), refl)), (refl, refl), refl), refl),
+    refl,
+  ),
   refl,
 )
 
 pub nested_written : Written box_meaning (narrowed 1) nested nested_tree nested_result
 nested_written = (
-  none, none, Exact, refl, (refl, refl),
-  (record { entries = body_entries; normal = end_box; breaks = []; continues = []; returns = two (between 0 4) (between 0 2) ∷ []; flag = None },
-  goes_on (value 14 end_box ∷ []) end_box None,
-  (goes_on (value 0 none ∷ []) (one (between 0 0)) None,
-  record { entries = value 1 (one (between 0 0)) ∷ (outer_entries ++ value 13 end_box ∷ failing 13 nowhere ∷ []); normal = end_box; breaks = []; continues = []; returns = two (between 0 4) (between 0 2) ∷ []; flag = None },
-  declaring (narrowed 1),
-  (goes_on (value 1 (one (between 0 0)) ∷ []) (two (between 0 0) (between 0 0)) None,
-  record { entries = outer_entries ++ value 13 end_box ∷ failing 13 nowhere ∷ []; normal = end_box; breaks = []; continues = []; returns = two (between 0 4) (between 0 2) ∷ []; flag = None },
-  declaring_b,
-  (outer_result, goes_on (value 13 end_box ∷ failing 13 nowhere ∷ []) end_box None, outer_loop_pass,
-  (goes_on (value 13 end_box ∷ failing 13 nowhere ∷ []) end_box None, goes_on [] end_box None, asserted, refl, refl), refl),
-  refl),
-  refl),
-  refl, refl),
+  none,
+  none,
+  Exact,
+  refl,
+  (refl, refl),
+  (
+    record { entries = body_entries; normal = end_box; breaks = []; continues = []; returns = two (between 0 4) (between 0 2) ∷ []; flag = None },
+    goes_on (value 14 end_box ∷ []) end_box None,
+    (
+      goes_on (value 0 none ∷ []) (one (between 0 0)) None,
+      record { entries = value 1 (one (between 0 0)) ∷ (outer_entries ++ value 13 end_box ∷ failing 13 nowhere ∷ []); normal = end_box; breaks = []; continues = []; returns = two (between 0 4) (between 0 2) ∷ []; flag = None },
+      declaring (narrowed 1),
+      (
+        goes_on (value 1 (one (between 0 0)) ∷ []) (two (between 0 0) (between 0 0)) None,
+        record { entries = outer_entries ++ value 13 end_box ∷ failing 13 nowhere ∷ []; normal = end_box; breaks = []; continues = []; returns = two (between 0 4) (between 0 2) ∷ []; flag = None },
+        declaring_b,
+        (
+          outer_result,
+          goes_on (value 13 end_box ∷ failing 13 nowhere ∷ []) end_box None,
+          outer_loop_pass,
+          (goes_on (value 13 end_box ∷ failing 13 nowhere ∷ []) end_box None, goes_on [] end_box None, asserted, refl, refl),
+          refl,
+        ),
+        refl,
+      ),
+      refl,
+    ),
+    refl,
+    refl,
+  ),
 )
 
 -- at the `return` a is 0..4 and b 0..2, at the assertion a is 5 and b 0..3, and it is proved

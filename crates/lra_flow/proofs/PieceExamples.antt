@@ -1,0 +1,80 @@
+-- Single definitions of the iteration on small operands.
+use Rattle.std.proofs.Common.{◌≡◌, ℕ, pos, negsuc, List, [], ◌∷◌, None, Some, refl, inl, inr, ◌^◌, ◌-◌, arith}
+use Rattle.std.proofs.lemmas.Int.{ints}
+use Rattle.lra_domain.specs.Actions.{Action, assign, forget, embed, remove_last}
+use Rattle.lra_domain.specs.declared.Exactness.TheVariants.{Exact, Flagged}
+use Rattle.lra_domain.specs.declared.Mode.TheVariants.{Join, Widen, Limited}
+use Rattle.std.specs.Prelude.{true, false}
+use Rattle.lra_tree.specs.Program.{global, local, plus, below, equal, Expr, literal, read, input, binary, compare, opposite, either_of}
+use Rattle.lra_tree.specs.Step.{append, give, push, keep}
+use Rattle.lra_tree.specs.Graph.{broken, returned, act}
+use Rattle.lra_box.specs.Bounds.{form}
+use Rattle.lra_box.specs.Content.{Content}
+use Rattle.lra_box.specs.Meaning.{box_meaning}
+use Rattle.lra_flow.specs.Operations.{straining}
+use Rattle.lra_flow.specs.Changes.{actions_of, first_values}
+use Rattle.lra_flow.specs.Given.{given_rows}
+use Rattle.lra_flow.specs.Pass.{Result, noted, caught, goes_on, mode_at, Pass}
+use Rattle.lra_flow.proofs.LoopExamples.{one, between, at_least, narrowed}
+
+abbrev i : Expr
+i = read (local 0)
+
+-- of !(i < 10 || i == 3), that is i >= 10 && i != 3, the rows i - 10 >= 0, i - 9 >= 0, i - 3 >= 0 and 3 - i >= 0
+opposite_given : (given_rows 1 0 (opposite (either_of (compare below i (literal 10)) (compare equal i (literal 3))))).rows
+    ≡ (negsuc 9 ∷ pos 1 ∷ []) ∷ (negsuc 8 ∷ pos 1 ∷ []) ∷ (negsuc 2 ∷ pos 1 ∷ []) ∷ (pos 3 ∷ negsuc 0 ∷ []) ∷ []
+opposite_given = refl
+
+-- of i < 10 || i < input() the rows of i < 10 alone, once
+or_given : (given_rows 1 0 (either_of (compare below i (literal 10)) (compare below i input))).rows ≡ (pos 9 ∷ negsuc 0 ∷ []) ∷ (pos 10 ∷ negsuc 0 ∷ []) ∷ []
+or_given = refl
+
+-- one variable is live: a call's parameter is new and gets i + 1
+push_example : actions_of 1 (push 0 (binary plus i (literal 1) ∷ [])) ≡ embed 1 ∷ assign 1 (form (pos 1) (pos 1 ∷ pos 0 ∷ [])) ∷ []
+push_example = refl
+
+-- a parameter that gets no linear form may be anything
+push_input : actions_of 1 (push 0 (input ∷ [])) ≡ embed 1 ∷ forget 1 ∷ []
+push_input = refl
+
+-- of three variables the newest two go; where none goes nothing is done
+keep_one : actions_of 3 (keep 1) ≡ remove_last 2 ∷ []
+keep_one = refl
+
+keep_all : actions_of 3 (keep 3) ≡ []
+keep_all = refl
+
+-- a value without a variable that gets it changes nothing
+no_target : actions_of 1 (give 0 None input) ≡ []
+no_target = refl
+
+-- two globals, -3 and 5
+globals_example : first_values 0 (negsuc 2 ∷ pos 5 ∷ [])
+    ≡ embed 1 ∷ assign 0 (form (negsuc 2) (pos 0 ∷ [])) ∷ embed 1 ∷ assign 1 (form (pos 5) (pos 0 ∷ pos 0 ∷ [])) ∷ []
+globals_example = refl
+
+-- the first flagged point stays
+first_stays : noted 7 Flagged (Some 3) ≡ Some 3
+first_stays = refl
+
+-- the first rounds join, the others widen, limited or not
+modes : (mode_at true 1 ≡ Join) × (mode_at true 0 ≡ Limited) × (mode_at false 0 ≡ Widen)
+modes = (refl, refl, refl)
+
+-- a loop's own end comes before what broke out; a call's end behind what returned
+abbrev two_jumps : Result ℕ
+two_jumps = record { entries = []; normal = 9; breaks = 1 ∷ 2 ∷ []; continues = []; returns = 3 ∷ 4 ∷ []; flag = None }
+
+broken_order : caught broken two_jumps ≡ (9, 1 ∷ 2 ∷ [])
+broken_order = refl
+
+returned_order : caught returned two_jumps ≡ (3, 4 ∷ 9 ∷ [])
+returned_order = refl
+
+-- i = i + 1 of i in 0..2^127 - 1 strains: the new bound would pass the range
+strained_example : Pass Content Content (straining box_meaning) (narrowed 1) (act 5 (give 0 (Some 0) (binary plus i (literal 1)))) None (one (between 0 (2 ^ 127 - 1))) (goes_on [] (one (at_least 1)) (Some 5))
+strained_example = (
+  one (at_least 1), Flagged,
+  (one (at_least 1), Flagged, Exact, (λ h. cc, λ h. inr (inr (inl (λ k. omega (arith, ints, k))))), (refl, refl), refl),
+  refl,
+)
