@@ -9,7 +9,7 @@ use Rattle.lra_tree.specs.declared.refusals.Cause.{Cause}
 use Rattle.lra_tree.specs.declared.refusals.Cause.TheVariants.{NoMain, UnknownName, DuplicateName, BadCall, Misplaced}
 use Rattle.lra_tree.specs.Program as program
 use Rattle.lra_tree.specs.Trees.{value, compare, conjunction, test, and, or, expression, result, set, after, increment, declared, block, nothing, assign, call, for, break, return, no_items, declaration, statement, globals, function, FileTree, FunctionTree}
-use Rattle.lra_tree.specs.Labels.{labels_of}
+use Rattle.lra_tree.specs.Labels.{labels_of, places_of}
 use Rattle.lra_tree.specs.NameFaults.{name_faults}
 use Rattle.lra_tree.specs.Resolve.{resolve, resolve_cond}
 use Rattle.lra_tree.specs.Reach.{calls_of, Reaches, there, by_call, IsRecursive, IsFirstRecursive}
@@ -30,7 +30,7 @@ called_twice_means : (resolve called_twice ≡ record run.called_twice { functio
 called_twice_means = (refl, refl)
 
 -- the places of the points, before calls are written out
-called_twice_places : map (λ l. l.place.column) (labels_of called_twice) ≡ 19 ∷ 26 ∷ 36 ∷ 59 ∷ 69 ∷ 79 ∷ 93 ∷ []
+called_twice_places : map (λ p. p.column) (places_of called_twice) ≡ 19 ∷ 26 ∷ 36 ∷ 59 ∷ 69 ∷ 79 ∷ 93 ∷ []
 called_twice_places = refl
 
 -- int main(void){ long x; { long x; x = 1; } x = 2; }

@@ -6,8 +6,8 @@ use Rattle.lra_tree.specs.declared.trees.Identifier.{Identifier}
 use Rattle.lra_tree.specs.Trees.{SourceTree, expression, result, AssignTree, set, update, after, before, DeclaratorTree, InitTree, no_init, declared, assigned, StmtTree, block, nothing, assign, call, if_only, if_else, while, for, break, continue, return, assert, assume, ItemsTree, no_items, declaration, statement, FunctionTree, FileTree}
 use Rattle.lra_tree.specs.Scope.{functions_of}
 
--- what is known of a label
-pub record Label : Type 0 where
+-- a statement, declarator or end of a block, which a label stands for
+pub record Labelled : Type 0 where
   pub place : Place
   -- the called name, where it holds a call
   pub called : Option Identifier
@@ -16,10 +16,10 @@ pub record Label : Type 0 where
   -- and those that live while its call runs
   pub live_in_call : List (List ℕ)
 
-abbrev pub plain_label : Place → List (List ℕ) → Label
+abbrev pub plain_label : Place → List (List ℕ) → Labelled
 plain_label at live = record { place = at; called = None; live = live; live_in_call = live }
 
-abbrev pub label_with : Place → Option Identifier → List (List ℕ) → Label
+abbrev pub label_with : Place → Option Identifier → List (List ℕ) → Labelled
 label_with at called live = record { place = at; called = called; live = live; live_in_call = live }
 
 -- what is called
@@ -48,16 +48,16 @@ abbrev pub with_names : List (List ℕ) → List DeclaratorTree → List (List �
 with_names live ds = live ++ map (λ (d : DeclaratorTree). d.name.word) ds
 
 -- a declarator's variable lives behind its point, and so in its call
-abbrev pub declarator_labels : List (List ℕ) → List DeclaratorTree → List Label
+abbrev pub declarator_labels : List (List ℕ) → List DeclaratorTree → List Labelled
 declarator_labels live [] = []
 declarator_labels live (d ∷ ds) =
     let more = live ++ d.name.word ∷ [] in
     record { place = d.name.place; called = called_of d.source; live = live; live_in_call = more } ∷ declarator_labels more ds
 
-abbrev pub assign_label : List (List ℕ) → AssignTree → Label
+abbrev pub assign_label : List (List ℕ) → AssignTree → Labelled
 assign_label live a = label_with (assign_place a) (called_by a) live
 
-abbrev pub init_labels : List (List ℕ) → InitTree → List Label
+abbrev pub init_labels : List (List ℕ) → InitTree → List Labelled
 init_labels live no_init = []
 init_labels live (declared d) = declarator_labels live (d.first ∷ d.rest)
 init_labels live (assigned a) = assign_label live a ∷ []
@@ -68,12 +68,12 @@ live_in_for live no_init = live
 live_in_for live (declared d) = with_names live (d.first ∷ d.rest)
 live_in_for live (assigned a) = live
 
-abbrev pub step_labels : List (List ℕ) → Option AssignTree → List Label
+abbrev pub step_labels : List (List ℕ) → Option AssignTree → List Labelled
 step_labels live None = []
 step_labels live (Some a) = assign_label live a ∷ []
 
 abbrev mutual
-  pub stmt_labels : List (List ℕ) → StmtTree → List Label
+  pub stmt_labels : List (List ℕ) → StmtTree → List Labelled
   stmt_labels live (block items end) = items_labels live items end
   stmt_labels live (nothing at) = plain_label at live ∷ []
   stmt_labels live (assign a) = assign_label live a ∷ []
@@ -91,19 +91,23 @@ abbrev mutual
   stmt_labels live (assume at c) = plain_label at live ∷ []
 
   -- a block's items and its end
-  pub items_labels : List (List ℕ) → ItemsTree → Place → List Label
+  pub items_labels : List (List ℕ) → ItemsTree → Place → List Labelled
   items_labels live no_items end = plain_label end live ∷ []
   items_labels live (declaration d items) end = declarator_labels live (d.first ∷ d.rest) ++ items_labels (with_names live (d.first ∷ d.rest)) items end
   items_labels live (statement t items) end = stmt_labels live t ++ items_labels live items end
 
-abbrev pub function_labels : FunctionTree → List Label
+abbrev pub function_labels : FunctionTree → List Labelled
 function_labels f = items_labels (map (λ (p : Identifier). p.word) f.parameters) f.body f.end
 
 -- of the whole source
-abbrev pub labels_of : FileTree → List Label
+abbrev pub labels_of : FileTree → List Labelled
 labels_of t = flat_map function_labels (functions_of t)
 
+-- what a walk over the tree lists: the places of its statements, declarators of functions and ends of blocks, in the order of their labels
+abbrev pub places_of : FileTree → List Place
+places_of t = map (λ (l : Labelled). l.place) (labels_of t)
+
 -- the label n, from 1
-abbrev pub label_at : List Label → ℕ → Option Label
+abbrev pub label_at : List Labelled → ℕ → Option Labelled
 label_at ls zero = None
 label_at ls (suc n) = slice_get ls n

@@ -7,7 +7,7 @@ use Rattle.lra_tree.specs.Report.{Row, Generator, Part, State, PointReport, Verd
 use Rattle.lra_tree.specs.ReportText.{CallPlace, path_text, shown_names}
 use Rattle.lra_tree.specs.Trees.{FileTree, PartTree, prototype, globals, function}
 use Rattle.lra_tree.specs.NameFaults.{global_names}
-use Rattle.lra_tree.specs.Labels.{Label, labels_of, label_at}
+use Rattle.lra_tree.specs.Labels.{Labelled, labels_of, label_at}
 use Rattle.lra_tree.specs.Resolve.{resolve}
 use Rattle.lra_tree.specs.Sites.{Site, sites_of}
 use Rattle.lra_tree.specs.Refuse.{label_place, Accepts}
@@ -19,11 +19,11 @@ globals_named (globals g ∷ ps) = global_names (g.first ∷ g.rest) ++ globals_
 globals_named (function f ∷ ps) = globals_named ps
 
 -- the variables of a function at a label, and while its call runs
-abbrev pub live_at : Option Label → List (List ℕ)
+abbrev pub live_at : Option Labelled → List (List ℕ)
 live_at None = []
 live_at (Some l) = l.live
 
-abbrev pub live_in_call_at : Option Label → List (List ℕ)
+abbrev pub live_in_call_at : Option Labelled → List (List ℕ)
 live_in_call_at None = []
 live_in_call_at (Some l) = l.live_in_call
 
@@ -31,25 +31,25 @@ abbrev pub call_at : Option Identifier → List CallPlace
 call_at None = []
 call_at (Some x) = record { name = x.word; place = x.place } ∷ []
 
-abbrev pub called_at : Option Label → List CallPlace
+abbrev pub called_at : Option Labelled → List CallPlace
 called_at None = []
 called_at (Some l) = call_at l.called
 
 -- the callers' variables, oldest first; a path has the innermost call first
-abbrev pub names_outside : List Label → List ℕ → List (List ℕ)
+abbrev pub names_outside : List Labelled → List ℕ → List (List ℕ)
 names_outside ls [] = []
 names_outside ls (c ∷ outer) = names_outside ls outer ++ live_in_call_at (label_at ls c)
 
-abbrev pub calls_on : List Label → List ℕ → List CallPlace
+abbrev pub calls_on : List Labelled → List ℕ → List CallPlace
 calls_on ls [] = []
 calls_on ls (c ∷ outer) = calls_on ls outer ++ called_at (label_at ls c)
 
 -- the live variables, oldest first: globals, then each call's
-abbrev pub live_names : List (List ℕ) → List Label → Site → List (List ℕ)
+abbrev pub live_names : List (List ℕ) → List Labelled → Site → List (List ℕ)
 live_names outside ls s = outside ++ names_outside ls s.path ++ live_at (label_at ls s.label)
 
 -- what is listed, but for the state
-abbrev pub listed_point : List (List ℕ) → List Label → ℕ → Site → State → PointReport
+abbrev pub listed_point : List (List ℕ) → List Labelled → ℕ → Site → State → PointReport
 listed_point outside ls number s state = record {
   number = number;
   point = record { path = s.path; label = s.label };
@@ -59,7 +59,7 @@ listed_point outside ls number s state = record {
   state = state;
 }
 
-abbrev pub listed_verdict : List Label → ℕ → Site → Bool → Verdict
+abbrev pub listed_verdict : List Labelled → ℕ → Site → Bool → Verdict
 listed_verdict ls number s proved = record {
   number = number;
   point = record { path = s.path; label = s.label };
@@ -73,7 +73,7 @@ abbrev pub HasWidth : ℕ → Part → Type 0
 HasWidth n part = AllByRecursion (λ (r : Row). length r.coefficients ≡ n) part.rows × AllByRecursion (λ (g : Generator). length g.numbers ≡ n) part.generators
 
 -- the reports are those of these sites, numbered from `number` on
-abbrev pub AreListed : List (List ℕ) → List Label → ℕ → List Site → List PointReport → Type 0
+abbrev pub AreListed : List (List ℕ) → List Labelled → ℕ → List Site → List PointReport → Type 0
 AreListed outside ls number [] [] = ⊤
 AreListed outside ls number [] (p ∷ ps) = ⊥
 AreListed outside ls number (s ∷ ss) [] = ⊥
@@ -85,7 +85,7 @@ assertions_from number [] = []
 assertions_from number (s ∷ ss) = if s.asserts then (number, s) ∷ assertions_from (suc number) ss else assertions_from (suc number) ss
 
 -- the verdicts are those of these assertions
-abbrev pub AreJudged : List Label → List (ℕ × Site) → List Verdict → Type 0
+abbrev pub AreJudged : List Labelled → List (ℕ × Site) → List Verdict → Type 0
 AreJudged ls [] [] = ⊤
 AreJudged ls [] (v ∷ vs) = ⊥
 AreJudged ls (a ∷ rest) [] = ⊥

@@ -4,11 +4,11 @@ use Rattle.std.specs.List.{AllByRecursion}
 use Rattle.lra_tree.specs.declared.refusals.Place.{Place}
 use Rattle.lra_tree.specs.declared.trees.Identifier.{Identifier}
 use Rattle.lra_tree.specs.Trees.{FunctionTree, FileTree}
-use Rattle.lra_tree.specs.Labels.{Label, function_labels}
+use Rattle.lra_tree.specs.Labels.{Labelled, function_labels}
 use Rattle.lra_tree.specs.Scope.{functions_of}
 
 -- the called names in text order
-abbrev pub called_names : List Label → List Identifier
+abbrev pub called_names : List Labelled → List Identifier
 called_names [] = []
 called_names (l ∷ ls) = option_to_list l.called ++ called_names ls
 

@@ -12,7 +12,7 @@ use Rattle.lra_tree.specs.Trees.{FileTree}
 use Rattle.lra_tree.specs.Tokens.{place_behind, Lex, IsTokenFault}
 use Rattle.lra_tree.specs.Faults.{IsTree, IsTextFault}
 use Rattle.lra_tree.specs.NameFaults.{name_faults}
-use Rattle.lra_tree.specs.Labels.{Label, labels_of, label_at}
+use Rattle.lra_tree.specs.Labels.{Labelled, labels_of, label_at}
 use Rattle.lra_tree.specs.Reach.{IsFirstRecursive}
 use Rattle.lra_tree.specs.Resolve.{resolve}
 use Rattle.lra_tree.specs.Sites.{Event, comes, one_call_more, events_of}
@@ -32,7 +32,7 @@ greatest_points = 2048
 
 -- calls written out: the first point with too many variables, the first past the greatest number, or the first call past the longest path -----
 
-abbrev pub label_place : Option Label → Place
+abbrev pub label_place : Option Labelled → Place
 label_place None = record { line = 1; column = 1 }
 label_place (Some l) = l.place
 
@@ -40,12 +40,12 @@ abbrev pub identifier_place : Option Identifier → Place
 identifier_place None = record { line = 1; column = 1 }
 identifier_place (Some x) = x.place
 
-abbrev pub called_place : Option Label → Place
+abbrev pub called_place : Option Labelled → Place
 called_place None = record { line = 1; column = 1 }
 called_place (Some l) = identifier_place l.called
 
 -- behind n points
-abbrev pub limit_fault : List Label → ℕ → List Event → Option Refusal
+abbrev pub limit_fault : List Labelled → ℕ → List Event → Option Refusal
 limit_fault ls n [] = None
 limit_fault ls n (comes s ∷ es) =
     if nat_lt greatest_live s.live then Some (record { cause = TooManyVariables; place = label_place (label_at ls s.label) })
