@@ -2,6 +2,7 @@
 mod ValueExamples
 mod RunExamples
 mod ReportTextExamples
+mod PartExamples
 -- Tests by which the examples find longest spellings, and the examples.
 mod LongestByTest
 mod TokenExamples

@@ -10,29 +10,29 @@ use Rattle.lra_tree.specs.ReportJson.{report_json}
 abbrev at : ℕ → ℕ → Place
 at l c = record { line = l; column = c }
 
-abbrev defaults : Domain → Options
+abbrev pub defaults : Domain → Options
 defaults d = record { domain = d; parts = 1; delay = 1; narrow = 1; limited = false }
 
 -- constant + coefficients is 0, is at least 0
-abbrev is_zero : ℤ → List ℤ → Row
+abbrev pub is_zero : ℤ → List ℤ → Row
 is_zero c cs = record { kind = equality; constant = c; coefficients = cs }
 
-abbrev is_positive : ℤ → List ℤ → Row
+abbrev pub is_positive : ℤ → List ℤ → Row
 is_positive c cs = record { kind = inequality; constant = c; coefficients = cs }
 
-abbrev a_point : ℕ → List ℤ → Generator
+abbrev pub a_point : ℕ → List ℤ → Generator
 a_point d zs = record { kind = point; divisor = d; numbers = zs }
 
-abbrev a_ray : List ℤ → Generator
+abbrev pub a_ray : List ℤ → Generator
 a_ray zs = record { kind = ray; divisor = 0; numbers = zs }
 
-abbrev a_line : List ℤ → Generator
+abbrev pub a_line : List ℤ → Generator
 a_line zs = record { kind = line; divisor = 0; numbers = zs }
 
-abbrev rows_alone : List Row → Part
+abbrev pub rows_alone : List Row → Part
 rows_alone rows = record { rows = rows; generators = [] }
 
-abbrev both : List Row → List Generator → Part
+abbrev pub both : List Row → List Generator → Part
 both rows generators = record { rows = rows; generators = generators }
 
 abbrev in_main : ℕ → Place → List (List ℕ) → List Part → PointReport

@@ -8,6 +8,7 @@ pub mod Run
 pub mod Report
 pub mod ReportText
 pub mod ReportJson
+pub mod Parts
 -- What a source is.
 pub mod Lexeme
 pub mod Tokens

@@ -3,8 +3,9 @@
 use Rattle.std.specs.Prelude.{◌≡◌, ℕ, suc, Bool, List, [], ◌∷◌, ◌++◌, length, Option, Some, None, ⊤, if◌then◌else◌, ◌<◌, ◌≤◌}
 use Rattle.std.specs.List.{AllByRecursion}
 use Rattle.lra_tree.specs.declared.trees.Identifier.{Identifier}
-use Rattle.lra_tree.specs.Report.{Row, Generator, Part, State, PointReport, Verdict, Report, IsSound}
+use Rattle.lra_tree.specs.Report.{Options, Row, Generator, Part, State, PointReport, Verdict, Report, IsSound}
 use Rattle.lra_tree.specs.ReportText.{CallPlace, path_text, shown_names}
+use Rattle.lra_tree.specs.Parts.{Tells}
 use Rattle.lra_tree.specs.Trees.{FileTree, PartTree, prototype, globals, function}
 use Rattle.lra_tree.specs.NameFaults.{global_names}
 use Rattle.lra_tree.specs.Labels.{Labelled, labels_of, label_at}
@@ -100,10 +101,18 @@ abbrev pub IsFlag : ℕ → Option ℕ → Type 0
 IsFlag count None = ⊤
 IsFlag count (Some number) = (0 < number) × (number ≤ count)
 
--- what is written of an accepted source: all its points and assertions; at each point what every run meets there; no assertion that fails is proved
-pub record IsReportOf (source : List ℕ) (r : Report) : Type 0 where
+-- the report's parts: no more of them than the option says, and each as the domain has it, over the variables that are named
+pub record AreParts (o : Options) (p : PointReport) : Type 0 where
+  pub few : length p.state ≤ o.parts
+  pub tell : AllByRecursion (Tells o.domain (length p.names)) p.state
+
+-- what is written of an accepted source under these options: all its points and assertions; at each point what every run meets there; no
+-- assertion that fails is proved
+pub record IsReportOf (o : Options) (source : List ℕ) (r : Report) : Type 0 where
+  pub options : r.options ≡ o
   pub tree : FileTree
   pub accepted : Accepts source tree
   pub lists : Lists tree r
+  pub parts : AllByRecursion (AreParts o) r.points
   pub sound : IsSound (resolve tree) r
   pub flag : IsFlag (length r.points) r.flagged

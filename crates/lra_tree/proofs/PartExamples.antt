@@ -1,0 +1,82 @@
+-- Parts that tell what their domain has, and reports that aren't those of a source. Which slip an example would catch stands beside it.
+use Rattle.std.proofs.Common.{◌≡◌, ℕ, zero, suc, ℤ, pos, negsuc, ◌*ℤ◌, List, [], ◌∷◌, refl, ap, arith, length, ◌+ℤ◌}
+use Rattle.std.proofs.lemmas.Int.{ints}
+use Rattle.std.specs.Prelude.{codes, get_or, map}
+use Rattle.std.specs.Int.Signed.{le_z_yes}
+use Rattle.lra_tree.specs.Report.{poly, box, Options, Row, Generator, Part, dot}
+use Rattle.lra_tree.specs.Parts.{RationalPoint, IsWithin, IsGenerated, HasSamePoints, Tells}
+use Rattle.lra_tree.specs.Listing.{AreParts, IsReportOf}
+use Rattle.lra_tree.proofs.ReportTextExamples.{defaults, both, rows_alone, a_point, a_ray, is_positive, one_variable}
+
+abbrev rational : ℕ → List ℤ → RationalPoint
+rational d xs = record { divisor = d; numerators = xs }
+
+-- x >= 1/2
+abbrev half_up : List Row
+half_up = is_positive (negsuc 0) (pos 2 ∷ []) ∷ []
+
+abbrev half_and_ray : List Generator
+half_and_ray = a_point 2 (pos 1 ∷ []) ∷ a_ray (pos 1 ∷ []) ∷ []
+
+-- four times 3/4 is twice the point 1/2 and once the ray: catches points that are summed without their divisors
+three_quarters : IsWithin half_up (rational 4 (pos 3 ∷ [])) × IsGenerated half_and_ray (rational 4 (pos 3 ∷ []))
+three_quarters = ((le_z_yes tt, tt), record {
+  multiple = 1;
+  positive = omega arith;
+  factors = pos 2 ∷ pos 1 ∷ [];
+  are_factors = (le_z_yes tt, (le_z_yes tt, tt));
+  divisor = refl;
+  numerators = columns;
+})
+  where
+    columns : (j : ℕ) → pos 1 *ℤ get_or (pos 3 ∷ []) j (pos 0) ≡ dot (pos 2 ∷ pos 1 ∷ []) (map (λ (g : Generator). get_or g.numbers j (pos 0)) half_and_ray)
+    columns zero = refl
+    columns (suc j) = refl
+
+-- main without variables: the point without coordinates
+empty_main_tells : Tells poly 0 (both [] (a_point 1 [] ∷ []))
+empty_main_tells = ((omega arith, tt), same, (rational 1 [], record { width = refl; divides = omega arith }, tt))
+  where
+    columns : (d : ℕ) (xs : List ℤ) → length xs ≡ 0 → (j : ℕ) → pos 1 *ℤ get_or xs j (pos 0) ≡ (pos d *ℤ pos 0) +ℤ pos 0
+    columns d [] e j = omega (arith, ints)
+    columns d (x ∷ xs) e j = absurd (omega (arith, e))
+
+    same : HasSamePoints 0 (both [] (a_point 1 [] ∷ []))
+    same x is_point = (
+      λ within. record {
+        multiple = 1;
+        positive = omega arith;
+        factors = pos x.divisor ∷ [];
+        are_factors = (omega (arith, ints), tt);
+        divisor = omega (arith, ints);
+        numerators = columns x.divisor x.numerators is_point.width;
+      },
+      λ generated. tt,
+    )
+
+-- a report under other options, one with more parts than it may have, and generators over boxes
+apart : defaults box ≡ defaults poly → ⊥
+apart e = let d : box ≡ poly = ap (λ (o : Options). o.domain) e in cc
+
+other_options : (source : List ℕ) → IsReportOf (defaults poly) source one_variable → ⊥
+other_options source h = apart h.options
+
+one_part_more : (p q : Part) → AreParts (defaults box) (record { number = 1; point = record { path = []; label = 1 }; path = codes "main"; place = record { line = 1; column = 16 }; names = []; state = p ∷ q ∷ [] }) → ⊥
+one_part_more p q h = omega (arith, h.few)
+
+box_with_generator : Tells box 0 (both [] (a_point 1 [] ∷ [])) → ⊥
+box_with_generator h = cc
+
+-- a divisor 0, and rows without a generator
+divided_by_zero : Tells poly 0 (both [] (a_point 0 [] ∷ [])) → ⊥
+divided_by_zero h = omega (arith, h.0.0)
+
+rows_without_generators : Tells poly 0 (rows_alone []) → ⊥
+rows_without_generators h = none ((h.1 (rational 1 []) (record { width = refl; divides = omega arith })).0 tt)
+  where
+    empty_sum : (zs : List ℤ) → dot zs [] ≡ pos 0
+    empty_sum [] = refl
+    empty_sum (z ∷ zs) = refl
+
+    none : IsGenerated [] (rational 1 []) → ⊥
+    none g = let z = empty_sum g.factors in omega (arith, ints, z, g.positive, g.divisor)
