@@ -3,7 +3,7 @@ use Rattle.std.proofs.Common.{◌≡◌, ℤ, pos, negsuc, List, [], ◌∷◌, 
 use Rattle.lra_tree.specs.Program.{local, plus, minus, times, over, below, above, at_least, equal, differs, Expr, literal, read, input, binary, compare, nonzero, opposite, both_of, either_of}
 use Rattle.lra_tree.specs.Report.{inequality}
 use Rattle.lra_tree.specs.Linear.{Form, Test, form_of, comparison_test}
-use Rattle.lra_tree.specs.Condition.{atom, one_or, push, Actions, IsCond}
+use Rattle.lra_tree.specs.Condition.{atom, one_or, push, inequality_row, given_rows, Actions, IsCond}
 
 -- two live variables
 abbrev x : Expr
@@ -48,6 +48,27 @@ opposed = refl
 
 twice_opposed : push false (opposite (either_of (compare equal x y) (nonzero y))) ≡ one_or (atom equal x y) (atom differs x y) (atom differs y (literal 0))
 twice_opposed = refl
+
+-- x < 1 || y < 2: catches rows of the opposite of x < 1, of which the right side is told as well
+given_by_or : given_rows 2 0 (either_of (compare below x (literal 1)) (compare below y (literal 2))) ≡
+    inequality_row (pos 0) (negsuc 0 ∷ pos 0 ∷ []) ∷ inequality_row (pos 1) (negsuc 0 ∷ pos 0 ∷ [])
+    ∷ inequality_row (pos 1) (pos 0 ∷ negsuc 0 ∷ []) ∷ inequality_row (pos 2) (pos 0 ∷ negsuc 0 ∷ []) ∷ []
+given_by_or = refl
+
+-- !(x != y || y): both give d >= 0 and -d >= 0, for d = x - y and for d = y
+given_by_equal : given_rows 2 0 (opposite (either_of (compare differs x y) (nonzero y))) ≡
+    inequality_row (pos 0) (pos 1 ∷ negsuc 0 ∷ []) ∷ inequality_row (pos 0) (negsuc 0 ∷ pos 1 ∷ [])
+    ∷ inequality_row (pos 0) (pos 0 ∷ pos 1 ∷ []) ∷ inequality_row (pos 0) (pos 0 ∷ negsuc 0 ∷ []) ∷ []
+given_by_equal = refl
+
+-- x - 9223372036854775807 - 1 < 0: the second row's constant is 2^63, and the row is there; catches rows that are held to 64 bits
+given_wide : given_rows 1 0 (compare below (binary minus (binary minus x (literal 9223372036854775807)) (literal 1)) (literal 0)) ≡
+    inequality_row (pos 9223372036854775807) (negsuc 0 ∷ []) ∷ inequality_row (pos 9223372036854775808) (negsuc 0 ∷ []) ∷ []
+given_wide = refl
+
+-- an atom that isn't linear gives none, and the others theirs
+given_beside_input : given_rows 1 0 (both_of (compare below x input) (compare at_least x (literal 3))) ≡ inequality_row (negsuc 2) (pos 1 ∷ []) ∷ inequality_row (negsuc 1) (pos 1 ∷ []) ∷ []
+given_beside_input = refl
 
 -- with texts of tests as a domain, `x != y` is a join of two tests, in this order
 pub data Made : Type 0 where

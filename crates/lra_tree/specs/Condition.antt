@@ -1,8 +1,11 @@
 -- How a condition takes a value of a domain (Cousot and Halbwachs 1978): `!` is pushed to the atoms; an atom tests; `&&` is the one
 -- behind the other; `||` joins what the left side leaves with what the right side leaves where the left one is false.
 -- The domain's operations are given as relations, so that a result may hold more than it must.
-use Rattle.std.specs.Prelude.{◌≡◌, ℕ, Bool, true, false, not, Option, Some, None}
+use Rattle.std.specs.Prelude.{◌≡◌, ℕ, ℤ, pos, ◌+ℤ◌, Bool, true, false, not, List, [], ◌∷◌, ◌++◌, map, Option, Some, None}
+use Rattle.std.specs.List.{flat_map}
 use Rattle.lra_tree.specs.Program.{Comparison, below, at_most, above, at_least, equal, differs, Expr, literal, Cond, compare, nonzero, opposite, both_of, either_of}
+use Rattle.lra_tree.specs.Report.{Row, inequality}
+use Rattle.lra_tree.specs.ReportText.{negated}
 use Rattle.lra_tree.specs.Linear.{Form, Test, comparison_test, difference_form}
 
 abbrev pub opposite_comparison : Comparison → Comparison
@@ -33,6 +36,46 @@ push true (both_of a b) = first_then (push true a) (push true b)
 push false (both_of a b) = one_or (push false a) (push true a) (push false b)
 push true (either_of a b) = one_or (push true a) (push false a) (push true b)
 push false (either_of a b) = first_then (push false a) (push false b)
+
+-- given rows ---------------------------------------------------------------------------------------------------------
+
+-- a comparison of two expressions
+pub record Atom : Type 0 where
+  pub comparison : Comparison
+  pub left : Expr
+  pub right : Expr
+
+-- the atoms in text order, each once
+abbrev pub atoms_of : Pushed → List Atom
+atoms_of (atom op a b) = record { comparison = op; left = a; right = b } ∷ []
+atoms_of (first_then a b) = atoms_of a ++ atoms_of b
+atoms_of (one_or a opposed b) = atoms_of a ++ atoms_of b
+
+-- constant + coefficients * variables is at least 0; the numbers of a row needn't fit 64 bits
+abbrev pub inequality_row : ℤ → List ℤ → Row
+inequality_row c cs = record { kind = inequality; constant = c; coefficients = cs }
+
+-- e >= 0 and e + 1 >= 0
+abbrev pub rows_of_test : Option Test → List Row
+rows_of_test None = []
+rows_of_test (Some t) = inequality_row t.form.constant t.form.coefficients ∷ inequality_row (t.form.constant +ℤ pos 1) t.form.coefficients ∷ []
+
+-- d >= 0 and -d >= 0
+abbrev pub rows_of_difference : Form → List Row
+rows_of_difference d = inequality_row d.constant d.coefficients ∷ inequality_row (negated d.constant) (map negated d.coefficients) ∷ []
+
+-- d is the left side minus the right one; an atom that isn't linear gives no row
+abbrev pub rows_of_comparison : Comparison → Option Form → List Row
+rows_of_comparison op None = []
+rows_of_comparison equal (Some d) = rows_of_difference d
+rows_of_comparison differs (Some d) = rows_of_difference d
+rows_of_comparison op (Some d) = rows_of_test (comparison_test op d)
+
+-- what a loop's condition gives to the limited widening of its head, with so many live variables
+abbrev pub given_rows : ℕ → ℕ → Cond → List Row
+given_rows live base c = flat_map (λ (a : Atom). rows_of_comparison a.comparison (difference_form live base a.left a.right)) (atoms_of (push true c))
+
+-- what a condition leaves ----------------------------------------------------------------------------------------------
 
 -- what a domain does with a test, and how it joins
 pub record Actions (V : Type 0) : Type 1 where
