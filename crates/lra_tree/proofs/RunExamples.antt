@@ -22,7 +22,7 @@ visits P (suc n) (Some c) = point_at (label_on c.items) c.here.path c.state.stor
 abbrev visited : Program → List ℤ → Visits
 visited P draws = visits P 100 (Some (start P draws))
 
-abbrev main_alone : BlockItems → ℕ → Program
+abbrev pub main_alone : BlockItems → ℕ → Program
 main_alone body end = record { globals = []; functions = []; main = record { parameters = 0; body = body; end = end } }
 
 abbrev fresh : ℕ → Declarator

@@ -1,5 +1,5 @@
 -- Points with their calls written out, in the order of their numbers; trees of operations; refusals for limits.
-use Rattle.std.proofs.Common.{◌≡◌, ℕ, List, [], ◌∷◌, true, false, refl, arith}
+use Rattle.std.proofs.Common.{◌≡◌, ◌∙◌, sym, ap, ℕ, zero, suc, List, [], ◌∷◌, Option, Some, None, true, false, refl, arith}
 use Rattle.std.specs.Prelude.{codes}
 use Rattle.std.specs.Fmt.{digits}
 use Rattle.lra_tree.specs.Report.{PointReport}
@@ -8,8 +8,11 @@ use Rattle.lra_tree.specs.Resolve.{resolve}
 use Rattle.lra_tree.specs.Sites.{Site, sites_of}
 use Rattle.lra_tree.specs.Graph.{Node}
 use Rattle.lra_tree.specs.Inlined.{InlAll, as_declaration, as_given, as_assign, as_assert, as_return_value, as_none, as_statement, as_value, as_result, main_frame}
+use Rattle.lra_tree.specs.Program.{nothing, statement, no_more}
+use Rattle.lra_tree.specs.Agree.{AreDistinct}
 use Rattle.lra_tree.specs.Listing.{listed_point, globals_named, Lists}
 use Rattle.lra_tree.proofs.TreeSamples.{at, one_variable, called_twice}
+use Rattle.lra_tree.proofs.RunExamples.{main_alone}
 use Rattle.lra_tree.proofs.RunExamples as run
 use Rattle.lra_tree.proofs.ReportTextExamples as report
 
@@ -55,3 +58,21 @@ one_variable_lists = record {
   points = (refl, ((tt, tt), tt), (refl, ((tt, tt), tt), (refl, (((refl, tt), tt), tt), (refl, (((refl, tt), tt), tt), tt))));
   verdicts = (refl, tt);
 }
+
+-- no program of a source, but a program: its two points are one by path and label
+labelled_twice : AreDistinct (sites_of (main_alone (statement (nothing 1) no_more) 1)) → ⊥
+labelled_twice h = let same = h 0 1 _ _ refl refl refl refl in omega (arith, same)
+
+abbrev label_or : Option Site → ℕ
+label_or None = 0
+label_or (Some s) = s.label
+
+-- int main(void){ ; } : the point of `;` and that of the end
+labelled_once : AreDistinct (sites_of (main_alone (statement (nothing 1) no_more) 2))
+labelled_once zero zero a b at_i at_j paths labels = refl
+labelled_once (suc zero) (suc zero) a b at_i at_j paths labels = refl
+labelled_once zero (suc zero) a b at_i at_j paths labels = absurd (let l : 1 ≡ 2 = ap label_or at_i ∙ labels ∙ sym (ap label_or at_j) in omega (arith, l))
+labelled_once (suc zero) zero a b at_i at_j paths labels = absurd (let l : 2 ≡ 1 = ap label_or at_i ∙ labels ∙ sym (ap label_or at_j) in omega (arith, l))
+labelled_once zero (suc (suc j)) a b at_i at_j paths labels = absurd cc
+labelled_once (suc zero) (suc (suc j)) a b at_i at_j paths labels = absurd cc
+labelled_once (suc (suc i)) j a b at_i at_j paths labels = absurd cc

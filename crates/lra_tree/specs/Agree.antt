@@ -49,3 +49,8 @@ pub record Agrees (P : Program) (g : Node) : Type 0 where
   pub width : (number : ℕ) (s : Site) (store : List ℤ) → slice_get (sites_of P) number ≡ Some s → Reached P g number store → length store ≡ s.live
   -- no run is at another point
   pub others : (p : Point) (store : List ℤ) → At P p store → (number : ℕ) × (s : Site) × (slice_get (sites_of P) number ≡ Some s) × (p ≡ point_of s)
+
+-- A run is at a point by its path and label, the tree by its number; so each tree of a program agrees with its runs where no two of its points
+-- have one path and label.
+abbrev pub GraphsAgree : Type 0
+GraphsAgree = (P : Program) (g : Node) → AreDistinct (sites_of P) → IsGraph P g → Agrees P g
