@@ -14,6 +14,7 @@ mod NameExamples
 mod LinearExamples
 -- Calls written out, the trees of operations, and what a report lists.
 mod SiteExamples
+mod WellFormedExamples
 -- Refusals at their places.
 mod LowByTest
 mod GrammarExamples

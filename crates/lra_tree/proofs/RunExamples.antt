@@ -132,7 +132,7 @@ called_twice_run = refl
 
 -- long g=2; void f(void){ g=g+1; } int main(void){ f(); f(); assert(g==4); }
 -- a global keeps its value from call to call; the end of a function without a result takes no draw
-abbrev counted : Program
+abbrev pub counted : Program
 counted = record {
   globals = pos 2 ∷ [];
   functions = record { parameters = 0; body = statement (assign 1 (global 0) (value (binary plus (read (global 0)) (literal 1)))) no_more; end = 2 } ∷ [];
@@ -174,7 +174,7 @@ bare_return_run = refl
 
 -- int main(void){ for (long i=0; ; i=i+1) { long j=i; if (j==1) break; continue; } }
 -- catches a store that stays long: `continue` and `break` cut off j, the loop's end cuts off i; `continue` goes to the step
-abbrev left_blocks : Program
+abbrev pub left_blocks : Program
 left_blocks = main_alone (statement (for (declaration (set_to 2 (literal 0)) no_more) (loop 1 (nonzero (literal 1))
     (block (declaration (set_to 4 x) (statement (if 5 (compare equal y (literal 1)) (break 6) absent) (statement (continue 7) no_more))) 8)
     (assign 3 (local 0) (value (binary plus x (literal 1)))))) no_more) 9

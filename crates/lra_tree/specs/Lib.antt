@@ -28,6 +28,7 @@ pub mod Graph
 pub mod Inlined
 pub mod Agree
 pub mod Refuse
+pub mod WellFormed
 pub mod Listing
 -- How an analysis sees expressions and conditions.
 pub mod Linear
