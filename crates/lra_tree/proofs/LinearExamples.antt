@@ -1,8 +1,10 @@
 -- Linear forms, tests and conditions. Which slip an example would catch stands beside it.
 use Rattle.std.proofs.Common.{◌≡◌, ℤ, pos, negsuc, List, [], ◌∷◌, Some, None, true, false, refl}
+use Rattle.std.specs.Int.Signed.{le_z_yes}
 use Rattle.lra_tree.specs.Program.{local, plus, minus, times, over, below, above, at_least, equal, differs, Expr, literal, read, input, binary, compare, nonzero, opposite, both_of, either_of}
+use Rattle.lra_tree.specs.Value.{value_of, truth_of}
 use Rattle.lra_tree.specs.Report.{inequality}
-use Rattle.lra_tree.specs.Linear.{Form, Test, form_of, comparison_test}
+use Rattle.lra_tree.specs.Linear.{Form, Test, Passes, form_of, comparison_test}
 use Rattle.lra_tree.specs.Condition.{atom, one_or, push, inequality_row, given_rows, Actions, IsCond}
 
 -- two live variables
@@ -41,6 +43,14 @@ less_test = refl
 
 greater_test : comparison_test above (form (pos 0) (pos 1 ∷ negsuc 0 ∷ [])) ≡ Some (record { kind = inequality; form = form (negsuc 0) (pos 1 ∷ negsuc 0 ∷ []) })
 greater_test = refl
+
+-- x < y at -2^63 and 2^63 - 1, whose difference has no value: the comparison is true, and its test passes; catches a test of the difference's value
+abbrev ends : List ℤ
+ends = negsuc 9223372036854775807 ∷ pos 9223372036854775807 ∷ []
+
+test_past_words : (truth_of (compare below x y) 0 ends [] ≡ Some (true, [])) × (value_of (binary minus x y) 0 ends [] ≡ None)
+    × Passes (record { kind = inequality; form = form (negsuc 0) (negsuc 0 ∷ pos 1 ∷ []) }) ends
+test_past_words = (refl, refl, le_z_yes tt)
 
 -- !(x < y && x) is !(x < y), or x < y and then x == 0: catches an `&&` that stays
 opposed : push true (opposite (both_of (compare below x y) (nonzero x))) ≡ one_or (atom at_least x y) (atom below x y) (atom equal x (literal 0))

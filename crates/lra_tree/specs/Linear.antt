@@ -1,8 +1,8 @@
 -- Linear forms of expressions (Cousot and Halbwachs 1978): a constant and a coefficient for each live variable, all of 64 bits.
-use Rattle.std.specs.Prelude.{◌≡◌, ℕ, ℤ, pos, ◌+ℤ◌, ◌-ℤ◌, ◌*ℤ◌, Bool, ◌&&◌, if◌then◌else◌, List, [], ◌∷◌, map, replicate, slice_set, Option, Some, None, negsuc, length}
+use Rattle.std.specs.Prelude.{◌≡◌, ℕ, ℤ, pos, ◌+ℤ◌, ◌-ℤ◌, ◌*ℤ◌, Bool, ◌&&◌, if◌then◌else◌, List, [], ◌∷◌, map, replicate, slice_set, Option, Some, None, negsuc, length, IsTrue, ◌↔◌, ◌⊎◌}
 use Rattle.std.specs.List.{list_all}
-use Rattle.lra_tree.specs.Program.{Operator, plus, minus, times, over, modulo, Comparison, below, at_most, above, at_least, equal, differs, Expr, literal, read, input, negate, binary}
-use Rattle.lra_tree.specs.Value.{◌>>=◌, is_word, is_zero, index_of, value_of}
+use Rattle.lra_tree.specs.Program.{Operator, plus, minus, times, over, modulo, Comparison, below, at_most, above, at_least, equal, differs, Expr, literal, read, input, negate, binary, compare}
+use Rattle.lra_tree.specs.Value.{◌>>=◌, is_word, is_zero, index_of, value_of, truth_of}
 use Rattle.lra_tree.specs.Report.{RowKind, equality, inequality, IsOfKind, dot}
 
 pub record Form : Type 0 where
@@ -100,3 +100,15 @@ comparison_test differs d = None
 -- left minus right
 abbrev pub difference_form : ℕ → ℕ → Expr → Expr → Option Form
 difference_form live base a b = form_of live base (binary minus a b)
+
+-- where both sides have a value, the comparison is true exactly where its test passes
+abbrev pub TestsAreRight : Type 0
+TestsAreRight = (base : ℕ) (op : Comparison) (a b : Expr) (d : Form) (t : Test) (store draws left : List ℤ) (v : Bool)
+    → difference_form (length store) base a b ≡ Some d → comparison_test op d ≡ Some t
+    → truth_of (compare op a b) base store draws ≡ Some (v, left) → (IsTrue v ↔ Passes t store)
+
+-- and `!=` is true exactly where the test of `<` or that of `>` passes
+abbrev pub DiffersIsRight : Type 0
+DiffersIsRight = (base : ℕ) (a b : Expr) (d : Form) (less more : Test) (store draws left : List ℤ) (v : Bool)
+    → difference_form (length store) base a b ≡ Some d → comparison_test below d ≡ Some less → comparison_test above d ≡ Some more
+    → truth_of (compare differs a b) base store draws ≡ Some (v, left) → (IsTrue v ↔ (Passes less store ⊎ Passes more store))
