@@ -1,12 +1,12 @@
 -- Parts that tell what their domain has, and reports that aren't those of a source. Which slip an example would catch stands beside it.
-use Rattle.std.proofs.Common.{◌≡◌, ℕ, zero, suc, ℤ, pos, negsuc, ◌*ℤ◌, List, [], ◌∷◌, refl, ap, arith, length, ◌+ℤ◌}
+use Rattle.std.proofs.Common.{◌≡◌, ℕ, zero, suc, ℤ, pos, negsuc, ◌*ℤ◌, List, [], ◌∷◌, refl, ap, subst, sym, arith, length, ◌+ℤ◌}
 use Rattle.std.proofs.lemmas.Int.{ints}
 use Rattle.std.specs.Prelude.{codes, get_or, map}
 use Rattle.std.specs.Int.Signed.{le_z_yes}
 use Rattle.lra_tree.specs.Report.{poly, box, Options, Row, Generator, Part, dot}
 use Rattle.lra_tree.specs.Parts.{RationalPoint, IsWithin, IsGenerated, HasSamePoints, Tells}
 use Rattle.lra_tree.specs.Listing.{AreParts, IsReportOf}
-use Rattle.lra_tree.proofs.ReportTextExamples.{defaults, both, rows_alone, a_point, a_ray, is_positive, one_variable}
+use Rattle.lra_tree.proofs.ReportTextExamples.{defaults, both, rows_alone, a_point, a_ray, is_positive, empty_main, one_variable}
 
 abbrev rational : ℕ → List ℤ → RationalPoint
 rational d xs = record { divisor = d; numerators = xs }
@@ -18,16 +18,19 @@ half_up = is_positive (negsuc 0) (pos 2 ∷ []) ∷ []
 abbrev half_and_ray : List Generator
 half_and_ray = a_point 2 (pos 1 ∷ []) ∷ a_ray (pos 1 ∷ []) ∷ []
 
--- four times 3/4 is twice the point 1/2 and once the ray: catches points that are summed without their divisors
+-- the vector (4, 3) of 3/4 is twice the point's (2, 1) and once the ray's (0, 1): catches points that are summed without their divisors
 three_quarters : IsWithin half_up (rational 4 (pos 3 ∷ [])) × IsGenerated half_and_ray (rational 4 (pos 3 ∷ []))
-three_quarters = ((le_z_yes tt, tt), record {
-  multiple = 1;
-  positive = omega arith;
-  factors = pos 2 ∷ pos 1 ∷ [];
-  are_factors = (le_z_yes tt, (le_z_yes tt, tt));
-  divisor = refl;
-  numerators = columns;
-})
+three_quarters = (
+  (le_z_yes tt, tt),
+  record {
+    multiple = 1;
+    positive = omega arith;
+    factors = pos 2 ∷ pos 1 ∷ [];
+    are_factors = (le_z_yes tt, (le_z_yes tt, tt));
+    divisor = refl;
+    numerators = columns;
+  },
+)
   where
     columns : (j : ℕ) → pos 1 *ℤ get_or (pos 3 ∷ []) j (pos 0) ≡ dot (pos 2 ∷ pos 1 ∷ []) (map (λ (g : Generator). get_or g.numbers j (pos 0)) half_and_ray)
     columns zero = refl
@@ -66,6 +69,10 @@ one_part_more p q h = omega (arith, h.few)
 
 box_with_generator : Tells box 0 (both [] (a_point 1 [] ∷ [])) → ⊥
 box_with_generator h = cc
+
+-- so this is the report of no source, under no options
+generators_over_boxes : (o : Options) (source : List ℕ) → IsReportOf o source (record empty_main { options = defaults box }) → ⊥
+generators_over_boxes o source h = box_with_generator (subst (λ (p : Options). Tells p.domain 0 (both [] (a_point 1 [] ∷ []))) (sym h.options) h.parts.0.tell.0)
 
 -- a divisor 0, and rows without a generator
 divided_by_zero : Tells poly 0 (both [] (a_point 0 [] ∷ [])) → ⊥
