@@ -1,12 +1,12 @@
 -- Single definitions of the iteration on small operands.
-use Rattle.std.proofs.Common.{◌≡◌, ℕ, pos, negsuc, List, [], ◌∷◌, None, Some, refl, inl, inr, ◌^◌, ◌-◌, arith}
+use Rattle.std.proofs.Common.{◌≡◌, ℕ, pos, negsuc, [], ◌∷◌, None, Some, refl, inl, inr, ◌^◌, ◌-◌, arith}
 use Rattle.std.proofs.lemmas.Int.{ints}
-use Rattle.lra_domain.specs.Actions.{Action, assign, forget, embed, remove_last}
+use Rattle.lra_domain.specs.Actions.{assign, forget, embed, remove_last}
 use Rattle.lra_domain.specs.declared.Exactness.TheVariants.{Exact, Flagged}
 use Rattle.lra_domain.specs.declared.Mode.TheVariants.{Join, Widen, Limited}
 use Rattle.std.specs.Prelude.{true, false}
-use Rattle.lra_tree.specs.Program.{global, local, plus, below, equal, Expr, literal, read, input, binary, compare, opposite, either_of}
-use Rattle.lra_tree.specs.Step.{append, give, push, keep}
+use Rattle.lra_tree.specs.Program.{local, plus, below, equal, Expr, literal, read, input, binary, compare, opposite, either_of}
+use Rattle.lra_tree.specs.Step.{give, push, keep}
 use Rattle.lra_tree.specs.Graph.{broken, returned, act}
 use Rattle.lra_box.specs.Bounds.{form}
 use Rattle.lra_box.specs.Content.{Content}
@@ -74,7 +74,8 @@ returned_order = refl
 -- i = i + 1 of i in 0..2^127 - 1 strains: the new bound would pass the range
 strained_example : Pass Content Content (straining box_meaning) (narrowed 1) (act 5 (give 0 (Some 0) (binary plus i (literal 1)))) None (one (between 0 (2 ^ 127 - 1))) (goes_on [] (one (at_least 1)) (Some 5))
 strained_example = (
-  one (at_least 1), Flagged,
+  one (at_least 1),
+  Flagged,
   (one (at_least 1), Flagged, Exact, (λ h. cc, λ h. inr (inr (inl (λ k. omega (arith, ints, k))))), (refl, refl), refl),
   refl,
 )

@@ -4,3 +4,4 @@ pub mod Conditions
 pub mod Given
 pub mod Pass
 pub mod Analysis
+pub mod Sound

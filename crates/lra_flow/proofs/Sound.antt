@@ -1,0 +1,230 @@
+-- A pass with drops covers the runs of its tree, where each least change keeps its stores.
+use Rattle.std.proofs.Common.{◌≡◌, ◌≢◌, inl, inr, ℕ, zero, suc, ◌-◌, ◌++◌, ℤ, List, [], ◌∷◌, Option, Some, Bool, true, false, refl, subst, sym, arith}
+use Rattle.std.specs.List.{Contains}
+use Rattle.std.proofs.lemmas.List.Elements.{Contains-append_left, Contains-append_right}
+use Rattle.lra_linear.proofs.Membership.{contains_cases, contains_head, contains_tail}
+use Rattle.lra_domain.specs.Actions.{Within}
+use Rattle.lra_domain.specs.Meaning.{Meaning}
+use Rattle.lra_domain.specs.declared.Exactness.{Exactness}
+use Rattle.lra_tree.specs.Program.{Cond}
+use Rattle.lra_tree.specs.Step.{State, run_op, test}
+use Rattle.lra_tree.specs.Graph.{Exit, broken, continued, returned, normal, Node, empty, point, act, check, seq, choose, iterate, catch, leave, Rounds, Ends}
+use Rattle.lra_flow.specs.declared.Settings.{Settings}
+use Rattle.lra_flow.specs.Operations.{dropping}
+use Rattle.lra_flow.specs.Changes.{AreJoined}
+use Rattle.lra_flow.specs.Pass.{Entry, value, failing, Result, noted, first_of_call, caught, in_turn, behind, jumps, GoesRound, Grows, Narrows, Pass}
+use Rattle.lra_flow.specs.Sound.{jumps_of, ChangesKeep, Covers}
+
+left_jump : {V : Type 0} (k : Exit) (r s : Result V) (v : V) (f : Option ℕ) (u : V) → Contains (jumps_of k r) u → Contains (jumps_of k (in_turn r s v f)) u
+left_jump broken r s v f u h = Contains-append_left r.breaks s.breaks u h
+left_jump continued r s v f u h = Contains-append_left r.continues s.continues u h
+left_jump returned r s v f u h = Contains-append_left r.returns s.returns u h
+
+right_jump : {V : Type 0} (k : Exit) (r s : Result V) (v : V) (f : Option ℕ) (u : V) → Contains (jumps_of k s) u → Contains (jumps_of k (in_turn r s v f)) u
+right_jump broken r s v f u h = Contains-append_right r.breaks s.breaks u h
+right_jump continued r s v f u h = Contains-append_right r.continues s.continues u h
+right_jump returned r s v f u h = Contains-append_right r.returns s.returns u h
+
+jumps_same : {V : Type 0} (k : Exit) (z : Result V) (x : Entry V) (out : V) (f : Option ℕ) (u : V) → Contains (jumps_of k z) u
+    → Contains (jumps_of k (record z { entries = x ∷ z.entries; normal = out; flag = f })) u
+jumps_same broken z x out f u h = h
+jumps_same continued z x out f u h = h
+jumps_same returned z x out f u h = h
+
+jump_there : {V : Type 0} (k : Exit) (v nothing : V) (f : Option ℕ) → Contains (jumps_of k (jumps k v nothing f)) v
+jump_there broken v nothing f = contains_head v []
+jump_there continued v nothing f = contains_head v []
+jump_there returned v nothing f = contains_head v []
+
+behind_normal : {V : Type 0} (k : Exit) (r : Result V) (v : V) (f : Option ℕ) → (behind k r v f).normal ≡ v
+behind_normal broken r v f = refl
+behind_normal continued r v f = refl
+behind_normal returned r v f = refl
+
+behind_entries : {V : Type 0} (k : Exit) (r : Result V) (v : V) (f : Option ℕ) → (behind k r v f).entries ≡ r.entries
+behind_entries broken r v f = refl
+behind_entries continued r v f = refl
+behind_entries returned r v f = refl
+
+-- the other jumps go on
+behind_jump : {V : Type 0} (k other : Exit) (r : Result V) (v : V) (f : Option ℕ) → other ≢ k → (u : V) → Contains (jumps_of other r) u → Contains (jumps_of other (behind k r v f)) u
+behind_jump broken broken r v f n u h = absurd (n refl)
+behind_jump broken continued r v f n u h = h
+behind_jump broken returned r v f n u h = h
+behind_jump continued broken r v f n u h = h
+behind_jump continued continued r v f n u h = absurd (n refl)
+behind_jump continued returned r v f n u h = h
+behind_jump returned broken r v f n u h = h
+behind_jump returned continued r v f n u h = h
+behind_jump returned returned r v f n u h = absurd (n refl)
+
+module _ (V H : Type 0) (m : Meaning V H) (keeps : ChangesKeep m) where
+  -- joins
+  joined_all : (v : V) (us : List V) (e : Exactness) (w : V) → AreJoined (dropping m) v us e w
+      → ((st : List ℤ) → m.has v st → m.has w st) × ((u : V) → Contains us u → (st : List ℤ) → m.has u st → m.has w st)
+  joined_all v [] e w h = (λ st k. subst (λ (x : V). m.has x st) (sym h.0) k, λ u k. absurd (omega (arith, k.1)))
+  joined_all v (u ∷ us) e w (x, c, d, one, rest, is) =
+      let r = joined_all x us d w rest in (
+        λ st k. r.0 st (one.left st k),
+        λ y there st k. elim (contains_cases u y us there) [ inl same ↦ r.0 st (one.right st (subst (λ (z : V). m.has z st) (sym same) k)) | inr later ↦ r.1 y later st k ],
+      )
+
+  joined_call : (vs : List V) (n : V) (e : Exactness) (w : V) → AreJoined (dropping m) (first_of_call vs n).0 (first_of_call vs n).1 e w
+      → ((st : List ℤ) → m.has n st → m.has w st) × ((u : V) → Contains vs u → (st : List ℤ) → m.has u st → m.has w st)
+  joined_call [] n e w h = joined_all n [] e w h
+  joined_call (v ∷ vs) n e w h =
+      let r = joined_all v (vs ++ n ∷ []) e w h in (
+        λ st k. r.1 n (Contains-append_right vs (n ∷ []) n (contains_head n [])) st k,
+        λ u there st k. elim (contains_cases v u vs there) [ inl same ↦ r.0 st (subst (λ (z : V). m.has z st) (sym same) k) | inr later ↦ r.1 u (Contains-append_left vs (n ∷ []) u later) st k ],
+      )
+
+  joined_caught : (k : Exit) (r : Result V) (e : Exactness) (w : V) → AreJoined (dropping m) (caught k r).0 (caught k r).1 e w
+      → ((st : List ℤ) → m.has r.normal st → m.has w st) × ((u : V) → Contains (jumps_of k r) u → (st : List ℤ) → m.has u st → m.has w st)
+  joined_caught broken r e w h = joined_all r.normal r.breaks e w h
+  joined_caught continued r e w h = joined_all r.normal r.continues e w h
+  joined_caught returned r e w h = joined_call r.returns r.normal e w h
+
+-- once round a loop
+abbrev Round : ℕ → Cond → Node → State → State → Type 0
+Round base c a u v = (w : State) × (run_op (test base c true) u ≡ Some w) × Ends a w normal v
+
+module _ (V H : Type 0) (m : Meaning V H) (keeps : ChangesKeep m) (set : Settings) (q base : ℕ) (c : Cond) (a : Node)
+    (inside : (f : Option ℕ) (v : V) (r : Result V) → Pass V H (dropping m) set a f v r → (s : State) → m.has v s.store → Covers m a s r) where
+  round_keeps : (f : Option ℕ) (v : V) (r : Result V) → GoesRound V H (dropping m) q base c (Pass V H (dropping m) set a) f v r
+      → (s t : State) → m.has v s.store → Round base c a s t → m.has r.normal t.store
+  round_keeps f v r (w, e, x, on, pass, is) s t k (u, passes, ends) =
+      subst (λ (y : Result V). m.has y.normal t.store) (sym is) ((inside (noted q e f) w x pass u (keeps (test base c true) v e w on s u k passes)).ends t ends)
+
+  -- a head that has all that its first one had, and is closed under rounds; its value and its last pass
+  grows_keeps : (limited : Bool) (left : ℕ) (f : Option ℕ) (h : H) (later : List H) (v : V) (r : Result V) → Grows V H (dropping m) q base c (Pass V H (dropping m) set a) limited left f h later v r
+      → (last : H) × Within (m.head_has h) (m.head_has last) × Within (m.head_has last) (m.has v)
+      × ((s t : State) → m.head_has last s.store → Round base c a s t → m.head_has last t.store)
+      × ((g : Option ℕ) × GoesRound V H (dropping m) q base c (Pass V H (dropping m) set a) g v r)
+  grows_keeps limited left f h [] v r ((e, valued, turn), stays) =
+      (h, λ st k. k, valued.stores, λ s t k one. stays.stores t.store (round_keeps (noted q e f) v r turn s t (valued.stores s.store k) one), (noted q e f, turn))
+  grows_keeps limited left f h (next ∷ later) v r (u, x, e, turn, grown, rest) =
+      let i = grows_keeps limited (left - 1) (noted q e x.flag) next later v r rest in
+      (i.0, λ st k. i.1 st (grown.0.kept st k), i.2, i.3, i.4)
+
+  -- narrowed, the value still has all that some rounds reach from the first one
+  narrows_keeps : (more : ℕ) (first u : V) (x : Result V) (v : V) (r : Result V) → Narrows V H (dropping m) q base c (Pass V H (dropping m) set a) more first u x v r
+      → (s : State) → m.has first s.store
+      → ((n : ℕ) (t : State) → Rounds (Round base c a) n s t → m.has u t.store)
+      → ((g : Option ℕ) × GoesRound V H (dropping m) q base c (Pass V H (dropping m) set a) g u x)
+      → ((n : ℕ) (t : State) → Rounds (Round base c a) n s t → m.has v t.store) × ((g : Option ℕ) × GoesRound V H (dropping m) q base c (Pass V H (dropping m) set a) g v r)
+  narrows_keeps zero first u x v r (same, is) s k all turned = (
+    λ n t rounds. subst (λ (y : V). m.has y t.store) (sym same) (all n t rounds),
+    (
+      turned.0,
+      subst (λ (y : V). GoesRound V H (dropping m) q base c (Pass V H (dropping m) set a) turned.0 y r) (sym same)
+          (subst (λ (y : Result V). GoesRound V H (dropping m) q base c (Pass V H (dropping m) set a) turned.0 u y) (sym is) turned.1),
+    ),
+  )
+  narrows_keeps (suc more) first u x v r (next, y, e, joined, turn, rest) s k all turned =
+      narrows_keeps more first next y v r rest s k reached (noted q e x.flag, turn)
+    where
+      reached : (n : ℕ) (t : State) → Rounds (Round base c a) n s t → m.has next t.store
+      reached zero t is = joined.left t.store (subst (λ (z : State). m.has first z.store) (sym is) k)
+      reached (suc n) t (w, before, one) = joined.right t.store (round_keeps turned.0 u x turned.1 w t (all n w before) one)
+
+  closed_rounds : (h : H) → ((s t : State) → m.head_has h s.store → Round base c a s t → m.head_has h t.store) → (s : State) → m.head_has h s.store
+      → (n : ℕ) (t : State) → Rounds (Round base c a) n s t → m.head_has h t.store
+  closed_rounds h closed s k zero t is = subst (λ (z : State). m.head_has h z.store) (sym is) k
+  closed_rounds h closed s k (suc n) t (w, before, one) = closed w t (closed_rounds h closed s k n w before) one
+
+module _ (V H : Type 0) (m : Meaning V H) (keeps : ChangesKeep m) where
+  pub covers : (set : Settings) (g : Node) (f : Option ℕ) (v : V) (r : Result V) → Pass V H (dropping m) set g f v r → (s : State) → m.has v s.store → Covers m g s r
+  covers set empty f v r is s k = subst (λ (y : Result V). Covers m empty s y) (sym is) (record {
+    ends = λ t e. subst (λ (z : State). m.has v z.store) (sym e) k;
+    leaves = λ j t e. absurd e;
+    comes = λ p t e. absurd e;
+    fails = λ p e. absurd e;
+  })
+  covers set (point q) f v r is s k = subst (λ (y : Result V). Covers m (point q) s y) (sym is) (record {
+    ends = λ t e. subst (λ (z : State). m.has v z.store) (sym e) k;
+    leaves = λ j t e. absurd e;
+    comes = λ p t e. (v, subst (λ (x : ℕ). Contains (value q v ∷ []) (value x v)) (sym e.0) (contains_head (value q v) []), subst (λ (z : State). m.has v z.store) (sym e.1) k);
+    fails = λ p e. absurd e;
+  })
+  covers set (act q op) f v r (w, e, done, is) s k = subst (λ (y : Result V). Covers m (act q op) s y) (sym is) (record {
+    ends = λ t ran. keeps op v e w done s t k ran;
+    leaves = λ j t h. absurd h;
+    comes = λ p t h. absurd h;
+    fails = λ p h. absurd h;
+  })
+  covers set (check q base c) f v r (u, w, d, e, off, on, is) s k = subst (λ (y : Result V). Covers m (check q base c) s y) (sym is) (record {
+    ends = λ t ran. keeps (test base c true) v e w on s t k ran;
+    leaves = λ j t h. absurd h;
+    comes = λ p t h. absurd h;
+    fails = λ p h. (u, h.1, subst (λ (x : ℕ). Contains (failing q u ∷ []) (failing x u)) (sym h.0) (contains_head (failing q u) []), keeps (test base c false) v d u off s h.1 k h.2);
+  })
+  covers set (seq a b) f v r (x, y, one, two, is) s k =
+      let i = covers set a f v x one s k in
+      let j : (t : State) → Ends a s normal t → Covers m b t y = λ t e. covers set b x.flag x.normal y two t (i.ends t e) in
+      subst (λ (z : Result V). Covers m (seq a b) s z) (sym is) (record {
+        ends = λ t e. (j e.0 e.1).ends t e.2;
+        leaves = λ h t e. elim e [
+          | inl l ↦ let o = i.leaves h t l in (o.0, left_jump h x y y.normal y.flag o.0 o.1, o.2)
+          | inr l ↦ let o = (j l.0 l.1).leaves h t l.2 in (o.0, right_jump h x y y.normal y.flag o.0 o.1, o.2)
+        ];
+        comes = λ p t e. elim e [
+          | inl l ↦ let o = i.comes p t l in (o.0, Contains-append_left x.entries y.entries (value p o.0) o.1, o.2)
+          | inr l ↦ let o = (j l.0 l.1).comes p t l.2 in (o.0, Contains-append_right x.entries y.entries (value p o.0) o.1, o.2)
+        ];
+        fails = λ p e. elim e [
+          | inl l ↦ let o = i.fails p l in (o.0, o.1, Contains-append_left x.entries y.entries (failing p o.0) o.2, o.3)
+          | inr l ↦ let o = (j l.0 l.1).fails p l.2 in (o.0, o.1, Contains-append_right x.entries y.entries (failing p o.0) o.2, o.3)
+        ];
+      })
+  covers set (choose q base c a b) f v r (on, off, w, d, e, i, x, y, is_on, one, is_off, two, joined, is) s k =
+      let j : (t : State) → run_op (test base c true) s ≡ Some t → Covers m a t x = λ t ran. covers set a (noted q d f) on x one t (keeps (test base c true) v d on is_on s t k ran) in
+      let l : (t : State) → run_op (test base c false) s ≡ Some t → Covers m b t y = λ t ran. covers set b (noted q e x.flag) off y two t (keeps (test base c false) v e off is_off s t k ran) in
+      subst (λ (z : Result V). Covers m (choose q base c a b) s z) (sym is) (record {
+        ends = λ t h. elim h [ inl n ↦ joined.left t.store ((j n.0 n.1).ends t n.2) | inr n ↦ joined.right t.store ((l n.0 n.1).ends t n.2) ];
+        leaves = λ kind t h. elim h [
+          | inl n ↦ let o = (j n.0 n.1).leaves kind t n.2 in (o.0, left_jump kind x y w (noted q i y.flag) o.0 o.1, o.2)
+          | inr n ↦ let o = (l n.0 n.1).leaves kind t n.2 in (o.0, right_jump kind x y w (noted q i y.flag) o.0 o.1, o.2)
+        ];
+        comes = λ p t h. elim h [
+          | inl n ↦ let o = (j n.0 n.1).comes p t n.2 in (o.0, Contains-append_left x.entries y.entries (value p o.0) o.1, o.2)
+          | inr n ↦ let o = (l n.0 n.1).comes p t n.2 in (o.0, Contains-append_right x.entries y.entries (value p o.0) o.1, o.2)
+        ];
+        fails = λ p h. elim h [
+          | inl n ↦ let o = (j n.0 n.1).fails p n.2 in (o.0, o.1, Contains-append_left x.entries y.entries (failing p o.0) o.2, o.3)
+          | inr n ↦ let o = (l n.0 n.1).fails p n.2 in (o.0, o.1, Contains-append_right x.entries y.entries (failing p o.0) o.2, o.3)
+        ];
+      })
+  covers set (iterate q base c a) f v r (h, later, u, top, out, x, y, e, started, grown, narrowed, off, is) s k =
+      let g = grows_keeps V H m keeps set q base c a (covers set a) set.limited set.delay f h later u x grown in
+      let n = narrows_keeps V H m keeps set q base c a (covers set a) set.narrow v u x top y narrowed s k
+      (λ n t rounds. g.2 t.store (closed_rounds V H m keeps set q base c a (covers set a) g.0 g.3 s (g.1 s.store (started.stores s.store k)) n t rounds)) g.4 in
+      let turn = n.1.1 in
+      let w = turn.0 in
+      let z = turn.2 in
+      let last : (t t' : State) → m.has top t.store → run_op (test base c true) t ≡ Some t' → Covers m a t' z =
+      λ t t' has ran. covers set a (noted q turn.1 n.1.0) w z turn.4 t' (keeps (test base c true) top turn.1 w turn.3 t t' has ran) in
+      subst (λ (o : Result V). Covers m (iterate q base c a) s o) (sym is)
+      (subst (λ (o : Result V). Covers m (iterate q base c a) s (record o { normal = out; flag = noted q e y.flag })) (sym turn.5) (record {
+        ends = λ t b. keeps (test base c false) top e out off b.1 t (n.0 b.0 b.1 b.2) b.3;
+        leaves = λ kind t b. let o = (last b.1 b.2 (n.0 b.0 b.1 b.3) b.4).leaves kind t b.5 in (o.0, jumps_same kind z (value q top) out (noted q e y.flag) o.0 o.1, o.2);
+        comes = λ p t b. elim b.3 [
+          | inl l ↦ (top, subst (λ (i : ℕ). Contains (value q top ∷ z.entries) (value i top)) (sym l.0) (contains_head (value q top) z.entries), subst (λ (i : State). m.has top i.store) (sym l.1) (n.0 b.0 b.1 b.2))
+          | inr l ↦ let o = (last b.1 l.0 (n.0 b.0 b.1 b.2) l.1).comes p t l.2 in (o.0, contains_tail (value q top) (value p o.0) z.entries o.1, o.2)
+        ];
+        fails = λ p b. let o = (last b.1 b.3 (n.0 b.0 b.1 b.2) b.4).fails p b.5 in (o.0, o.1, contains_tail (value q top) (failing p o.0) z.entries o.2, o.3);
+      }))
+  covers set (catch q kind a) f v r (w, e, x, one, joined, is) s k =
+      let i = covers set a f v x one s k in
+      let j = joined_caught V H m keeps kind x e w joined in
+      subst (λ (y : Result V). Covers m (catch q kind a) s y) (sym is) (record {
+        ends = λ t h. subst (λ (y : V). m.has y t.store) (sym (behind_normal kind x w (noted q e x.flag))) (elim h [ inl l ↦ j.0 t.store (i.ends t l) | inr l ↦ let o = i.leaves kind t l in j.1 o.0 o.1 t.store o.2 ]);
+        leaves = λ other t h. let o = i.leaves other t h.1 in (o.0, behind_jump kind other x w (noted q e x.flag) h.0 o.0 o.1, o.2);
+        comes = λ p t h. let o = i.comes p t h in (o.0, subst (λ (y : List (Entry V)). Contains y (value p o.0)) (sym (behind_entries kind x w (noted q e x.flag))) o.1, o.2);
+        fails = λ p h. let o = i.fails p h in (o.0, o.1, subst (λ (y : List (Entry V)). Contains y (failing p o.0)) (sym (behind_entries kind x w (noted q e x.flag))) o.2, o.3);
+      })
+  covers set (leave kind) f v r (w, nothing, is) s k = subst (λ (y : Result V). Covers m (leave kind) s y) (sym is) (record {
+    ends = λ t h. absurd h;
+    leaves = λ other t h. (v, subst (λ (i : Exit). Contains (jumps_of i (jumps kind v w f)) v) (sym h.0) (jump_there kind v w f), subst (λ (z : State). m.has v z.store) (sym h.1) k);
+    comes = λ p t h. absurd h;
+    fails = λ p h. absurd h;
+  })
