@@ -6,4 +6,5 @@ mod Sound
 -- Worked examples over boxes.
 mod LoopExamples
 mod NestedExamples
+mod CallExamples
 mod PieceExamples

@@ -27,10 +27,10 @@ use Rattle.lra_flow.specs.Analysis.{Written, IsUnreachable}
 use Rattle.lra_flow.proofs.LoopExamples.{boxes, between, at_least, one, none, narrowed, between_sound, declared, declaring}
 
 -- the box of both variables
-abbrev two : Interval → Interval → Content
+abbrev pub two : Interval → Interval → Content
 two a b = record { dims = 2; bounds = Some (a ∷ b ∷ []) }
 
-abbrev nowhere : Content
+abbrev pub nowhere : Content
 nowhere = record { dims = 2; bounds = None }
 
 abbrev a_is : Expr
@@ -41,10 +41,10 @@ b_is = read (local 1)
 
 -- the inner loop's body: its point is 4, and the points inside are 5 to 10
 abbrev leaving : Node
-leaving = seq (point 5) (choose 5 0 (compare program.at_least b_is (literal 3)) (seq (point 6) (seq (act 6 (keep 2)) (leave broken))) empty)
+leaving = seq (point 5) (choose 5 0 (compare program.at_least b_is (literal 3)) (seq (point 6) (seq (act 6 (keep 2)) (leave 2 broken))) empty)
 
 abbrev returning : Node
-returning = seq (point 7) (choose 7 0 (nonzero input) (seq (point 8) (leave returned)) empty)
+returning = seq (point 7) (choose 7 0 (nonzero input) (seq (point 8) (leave 2 returned)) empty)
 
 abbrev counting_b : Node
 counting_b = seq (point 9) (act 9 (give 0 (Some 1) (binary plus b_is (literal 1))))
@@ -86,7 +86,7 @@ returned_at v = record { entries = value 8 v ∷ []; normal = nowhere; breaks = 
 abbrev box_of : Option (List Interval) → Content
 box_of o = record { dims = 2; bounds = o }
 
-breaking : (set : Settings) (o : Option (List Interval)) → Pass Content Content boxes set (seq (point 6) (seq (act 6 (keep 2)) (leave broken))) None (box_of o) (broken_at (box_of o))
+breaking : (set : Settings) (o : Option (List Interval)) → Pass Content Content boxes set (seq (point 6) (seq (act 6 (keep 2)) (leave 2 broken))) None (box_of o) (broken_at (box_of o))
 breaking set o = (
   goes_on (value 6 (box_of o) ∷ []) (box_of o) None,
   jumps broken (box_of o) nowhere None,

@@ -65,8 +65,8 @@ module _ (V H : Type 0) (m : Meaning V H) (keeps : ChangesKeep m) where
   joined_all v [] e w h = (λ st k. subst (λ (x : V). m.has x st) (sym h.0) k, λ u k. absurd (omega (arith, k.1)))
   joined_all v (u ∷ us) e w (x, c, d, one, rest, is) =
       let r = joined_all x us d w rest in (
-        λ st k. r.0 st (one.left st k),
-        λ y there st k. elim (contains_cases u y us there) [ inl same ↦ r.0 st (one.right st (subst (λ (z : V). m.has z st) (sym same) k)) | inr later ↦ r.1 y later st k ],
+        λ st k. r.0 st (one.0.left st k),
+        λ y there st k. elim (contains_cases u y us there) [ inl same ↦ r.0 st (one.0.right st (subst (λ (z : V). m.has z st) (sym same) k)) | inr later ↦ r.1 y later st k ],
       )
 
   joined_call : (vs : List V) (n : V) (e : Exactness) (w : V) → AreJoined (dropping m) (first_of_call vs n).0 (first_of_call vs n).1 e w
@@ -101,10 +101,10 @@ module _ (V H : Type 0) (m : Meaning V H) (keeps : ChangesKeep m) (set : Setting
       × ((s t : State) → m.head_has last s.store → Round base c a s t → m.head_has last t.store)
       × ((g : Option ℕ) × GoesRound V H (dropping m) q base c (Pass V H (dropping m) set a) g v r)
   grows_keeps limited left f h [] v r ((e, valued, turn), stays) =
-      (h, λ st k. k, valued.stores, λ s t k one. stays.stores t.store (round_keeps (noted q e f) v r turn s t (valued.stores s.store k) one), (noted q e f, turn))
+      (h, λ st k. k, valued.0.stores, λ s t k one. stays.stores t.store (round_keeps (noted q e f) v r turn s t (valued.0.stores s.store k) one), (noted q e f, turn))
   grows_keeps limited left f h (next ∷ later) v r (u, x, e, turn, grown, rest) =
       let i = grows_keeps limited (left - 1) (noted q e x.flag) next later v r rest in
-      (i.0, λ st k. i.1 st (grown.0.kept st k), i.2, i.3, i.4)
+      (i.0, λ st k. i.1 st (grown.0.0.kept st k), i.2, i.3, i.4)
 
   -- narrowed, the value still has all that some rounds reach from the first one
   narrows_keeps : (more : ℕ) (first u : V) (x : Result V) (v : V) (r : Result V) → Narrows V H (dropping m) q base c (Pass V H (dropping m) set a) more first u x v r
@@ -124,8 +124,8 @@ module _ (V H : Type 0) (m : Meaning V H) (keeps : ChangesKeep m) (set : Setting
       narrows_keeps more first next y v r rest s k reached (noted q e x.flag, turn)
     where
       reached : (n : ℕ) (t : State) → Rounds (Round base c a) n s t → m.has next t.store
-      reached zero t is = joined.left t.store (subst (λ (z : State). m.has first z.store) (sym is) k)
-      reached (suc n) t (w, before, one) = joined.right t.store (round_keeps turned.0 u x turned.1 w t (all n w before) one)
+      reached zero t is = joined.0.left t.store (subst (λ (z : State). m.has first z.store) (sym is) k)
+      reached (suc n) t (w, before, one) = joined.0.right t.store (round_keeps turned.0 u x turned.1 w t (all n w before) one)
 
   closed_rounds : (h : H) → ((s t : State) → m.head_has h s.store → Round base c a s t → m.head_has h t.store) → (s : State) → m.head_has h s.store
       → (n : ℕ) (t : State) → Rounds (Round base c a) n s t → m.head_has h t.store
@@ -180,7 +180,7 @@ module _ (V H : Type 0) (m : Meaning V H) (keeps : ChangesKeep m) where
       let j : (t : State) → run_op (test base c true) s ≡ Some t → Covers m a t x = λ t ran. covers set a (noted q d f) on x one t (keeps (test base c true) v d on is_on s t k ran) in
       let l : (t : State) → run_op (test base c false) s ≡ Some t → Covers m b t y = λ t ran. covers set b (noted q e x.flag) off y two t (keeps (test base c false) v e off is_off s t k ran) in
       subst (λ (z : Result V). Covers m (choose q base c a b) s z) (sym is) (record {
-        ends = λ t h. elim h [ inl n ↦ joined.left t.store ((j n.0 n.1).ends t n.2) | inr n ↦ joined.right t.store ((l n.0 n.1).ends t n.2) ];
+        ends = λ t h. elim h [ inl n ↦ joined.0.left t.store ((j n.0 n.1).ends t n.2) | inr n ↦ joined.0.right t.store ((l n.0 n.1).ends t n.2) ];
         leaves = λ kind t h. elim h [
           | inl n ↦ let o = (j n.0 n.1).leaves kind t n.2 in (o.0, left_jump kind x y w (noted q i y.flag) o.0 o.1, o.2)
           | inr n ↦ let o = (l n.0 n.1).leaves kind t n.2 in (o.0, right_jump kind x y w (noted q i y.flag) o.0 o.1, o.2)
@@ -197,7 +197,7 @@ module _ (V H : Type 0) (m : Meaning V H) (keeps : ChangesKeep m) where
   covers set (iterate q base c a) f v r (h, later, u, top, out, x, y, e, started, grown, narrowed, off, is) s k =
       let g = grows_keeps V H m keeps set q base c a (covers set a) set.limited set.delay f h later u x grown in
       let n = narrows_keeps V H m keeps set q base c a (covers set a) set.narrow v u x top y narrowed s k
-      (λ n t rounds. g.2 t.store (closed_rounds V H m keeps set q base c a (covers set a) g.0 g.3 s (g.1 s.store (started.stores s.store k)) n t rounds)) g.4 in
+      (λ n t rounds. g.2 t.store (closed_rounds V H m keeps set q base c a (covers set a) g.0 g.3 s (g.1 s.store (started.0.stores s.store k)) n t rounds)) g.4 in
       let turn = n.1.1 in
       let w = turn.0 in
       let z = turn.2 in
@@ -222,7 +222,7 @@ module _ (V H : Type 0) (m : Meaning V H) (keeps : ChangesKeep m) where
         comes = λ p t h. let o = i.comes p t h in (o.0, subst (λ (y : List (Entry V)). Contains y (value p o.0)) (sym (behind_entries kind x w (noted q e x.flag))) o.1, o.2);
         fails = λ p h. let o = i.fails p h in (o.0, o.1, subst (λ (y : List (Entry V)). Contains y (failing p o.0)) (sym (behind_entries kind x w (noted q e x.flag))) o.2, o.3);
       })
-  covers set (leave kind) f v r (w, nothing, is) s k = subst (λ (y : Result V). Covers m (leave kind) s y) (sym is) (record {
+  covers set (leave n kind) f v r (w, nothing, is) s k = subst (λ (y : Result V). Covers m (leave n kind) s y) (sym is) (record {
     ends = λ t h. absurd h;
     leaves = λ other t h. (v, subst (λ (i : Exit). Contains (jumps_of i (jumps kind v w f)) v) (sym h.0) (jump_there kind v w f), subst (λ (z : State). m.has v z.store) (sym h.1) k);
     comes = λ p t h. absurd h;

@@ -166,5 +166,5 @@ module _ (V H : Type 0) (a b : Operations V H) (Keeps : Exactness → Type 0) (F
       let p = matters.before q e s.flag (subst Fine (behind_flag kind s w (noted q e s.flag)) (subst (λ (z : Result V). Fine z.flag) is k)) in
       let i = passes set x f v s p.1 one in
       (i.0, (w, e, s, i.1, joins (caught kind s).0 (caught kind s).1 e w p.0 joined, is))
-  passes set (leave kind) f v r k (w, nothing, is) =
+  passes set (leave n kind) f v r k (w, nothing, is) =
       (subst Fine (jump_flag kind v w f) (subst (λ (z : Result V). Fine z.flag) is k), (w, nothing, is))

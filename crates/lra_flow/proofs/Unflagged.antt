@@ -30,22 +30,22 @@ any_matters = record { parts = λ c d k. (tt, tt); before = λ q e f k. (tt, tt)
 
 exact_ones : {V H : Type 0} (m : Meaning V H) → Transfers (λ e. e ≡ Exact) (dropping m) (defined m)
 exact_ones m = record {
-  changed = λ step v e w k h. (k, h.exact k);
-  joined = λ u v e w k h. (k, h.exact k);
-  started = λ v rows h s. s.started;
+  changed = λ step v e w k h. (k, h.0.exact k);
+  joined = λ u v e w k h. (k, h.0.exact k);
+  started = λ v rows h s. s.0.started;
   stays = λ h v mode s. s.stays;
-  grown = λ h v mode e next k g. (k, g.0.moved k, g.0.exact k);
-  valued = λ h e v k s. (k, s.exact k);
+  grown = λ h v mode e next k g. (k, g.0.0.moved k, g.0.0.exact k);
+  valued = λ h e v k s. (k, s.0.exact k);
 }
 
 strained_ones : {V H : Type 0} (m : Meaning V H) → Transfers (λ e. Unit {0}) (dropping m) (straining m)
 strained_ones m = record {
-  changed = λ step v e w k h. (h.exact, h.flagged);
-  joined = λ u v e w k h. (h.exact, h.flagged);
-  started = λ v rows h s. s.started;
+  changed = λ step v e w k h. (h.0.exact, h.0.flagged);
+  joined = λ u v e w k h. (h.0.exact, h.0.flagged);
+  started = λ v rows h s. s.0.started;
   stays = λ h v mode s. s.stays;
-  grown = λ h v mode e next k g. (λ is. (g.0.moved is, g.0.exact is), g.0.flagged);
-  valued = λ h e v k s. (s.exact, s.flagged);
+  grown = λ h v mode e next k g. (λ is. (g.0.0.moved is, g.0.0.exact is), g.0.0.flagged);
+  valued = λ h e v k s. (s.0.exact, s.0.flagged);
 }
 
 -- a derivation without a flag is the written iteration

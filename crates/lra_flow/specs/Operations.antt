@@ -3,7 +3,7 @@
 use Rattle.std.specs.Prelude.{◌≡◌, ℕ, ℤ, List, length}
 use Rattle.lra_sys.specs.Listed.{Listed}
 use Rattle.lra_sys.specs.declared.system.ConKind.{ConKind}
-use Rattle.lra_domain.specs.Actions.{Action}
+use Rattle.lra_domain.specs.Actions.{Action, dims_after}
 use Rattle.lra_domain.specs.declared.Mode.{Mode}
 use Rattle.lra_domain.specs.declared.Exactness.{Exactness}
 use Rattle.lra_domain.specs.declared.Exactness.TheVariants.{Exact, Flagged}
@@ -41,18 +41,18 @@ abbrev pub IsGrowth : {V H : Type 0} → Meaning V H → H → V → Mode → Ex
 IsGrowth m h v mode e next =
     Grew m h v mode e next × (e ≡ Flagged → m.stays h v mode → (s : List ℤ) → length s ≡ m.head_dims next → m.head_has next s)
 
--- an operation that strains on the operands that it has may be flagged; its result then covers the defined one
+-- an operation that strains on the operands that it has may be flagged; its result then covers the defined one, and has its dimensions
 abbrev pub dropping : {V H : Type 0} → Meaning V H → Operations V H
 dropping m = record {
   dims = m.dims;
   universal = m.universal;
   void = m.void;
-  changed = Meets m;
-  joined = Joins m;
-  started = Starts m;
+  changed = λ step v e w. Meets m step v e w × (m.dims w ≡ dims_after step (m.dims v));
+  joined = λ u v e w. Joins m u v e w × (m.dims w ≡ m.dims u);
+  started = λ v rows h. Starts m v rows h × (m.head_dims h ≡ m.dims v);
   stays = Stays m;
-  grown = IsGrowth m;
-  valued = Values m;
+  grown = λ h v mode e next. IsGrowth m h v mode e next × (m.head_dims next ≡ m.head_dims h);
+  valued = λ h e v. Values m h e v × (m.dims v ≡ m.head_dims h);
 }
 
 -- an operation that strains may be flagged, and then gives anything: so what comes before the first flag is as it is defined,

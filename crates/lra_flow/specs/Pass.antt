@@ -142,4 +142,5 @@ Pass V H ops set (iterate q base c a) f v r =
 Pass V H ops set (catch q k a) f v r =
     (w : V) × (e : Exactness) × (s : Result V)
     × Pass V H ops set a f v s × AreJoined ops (caught k s).0 (caught k s).1 e w × (r ≡ behind k s w (noted q e s.flag))
-Pass V H ops set (leave k) f v r = (w : V) × ops.void (ops.dims v) set.parts w × (r ≡ jumps k v w f)
+-- the value that jumps may be cut already; the one that goes on has the dimensions of where the jump stands
+Pass V H ops set (leave n k) f v r = (w : V) × ops.void n set.parts w × (r ≡ jumps k v w f)

@@ -118,3 +118,14 @@ fn signs_and_divisors(rt: HostRuntime) -> Result<(), Fail> {
     assert_eq!(rt; even.pivot(), 2);
     Ok(())
 }
+
+#[test]
+fn rows_past_eight_columns(rt: HostRuntime) -> Result<(), Fail> {
+    let row = Row::from_slice(rt.alloc(), &[1, 2, 3, 4, 5, 6, 7, 8, 9])?;
+    assert_eq!(rt; row.width(), 9);
+    let same = row.copy()?;
+    assert_eq!(rt; row.compare(&same), Ordering::Equal);
+    let zero = row.negate()?.blend(1, 1, &same).map_err(|_| "no row")?;
+    assert_eq!(rt; zero.pivot(), 0);
+    Ok(())
+}

@@ -31,7 +31,8 @@ pub data Node : Type 0 where
   iterate : ℕ → ℕ → Cond → Node → Node
   -- jumps of this kind come out behind it
   catch : ℕ → Exit → Node → Node
-  leave : Exit → Node
+  -- the tree is left; so many variables live where the jump's statement stands, before what it cuts
+  leave : ℕ → Exit → Node
 
 -- n rounds lead from the first state to the second
 abbrev pub Rounds : (State → State → Type 0) → ℕ → State → State → Type 0
@@ -59,8 +60,8 @@ Ends (iterate q base c a) s (jump j) t =
     × (run_op (test base c true) m ≡ Some w) × Ends a w (jump j) t
 Ends (catch q k a) s normal t = Ends a s normal t ⊎ Ends a s (jump k) t
 Ends (catch q k a) s (jump j) t = (j ≢ k) × Ends a s (jump j) t
-Ends (leave k) s normal t = ⊥
-Ends (leave k) s (jump j) t = (j ≡ k) × (t ≡ s)
+Ends (leave n k) s normal t = ⊥
+Ends (leave n k) s (jump j) t = (j ≡ k) × (t ≡ s)
 
 -- a run of the tree from the first state comes to the point with the second
 abbrev pub Comes : Node → State → ℕ → State → Type 0
@@ -75,7 +76,7 @@ Comes (iterate q base c a) s p t =
     (n : ℕ) × (m : State) × Rounds (λ u v. (w : State) × (run_op (test base c true) u ≡ Some w) × Ends a w normal v) n s m
     × (((p ≡ q) × (t ≡ m)) ⊎ ((w : State) × (run_op (test base c true) m ≡ Some w) × Comes a w p t))
 Comes (catch q k a) s p t = Comes a s p t
-Comes (leave k) s p t = ⊥
+Comes (leave n k) s p t = ⊥
 
 -- and the assertion at the point is false there
 abbrev pub FailsAt : Node → State → ℕ → Type 0
@@ -90,4 +91,4 @@ FailsAt (iterate q base c a) s p =
     (n : ℕ) × (m : State) × Rounds (λ u v. (w : State) × (run_op (test base c true) u ≡ Some w) × Ends a w normal v) n s m
     × (w : State) × (run_op (test base c true) m ≡ Some w) × FailsAt a w p
 FailsAt (catch q k a) s p = FailsAt a s p
-FailsAt (leave k) s p = ⊥
+FailsAt (leave n k) s p = ⊥

@@ -30,9 +30,9 @@ abbrev pub call_node : ℕ → ℕ → ℕ → ℕ → Option ℕ → List Expr 
 call_node q r base n x es params g =
     seq (act q (push base es)) (catch q returned (seq g (seq (point r) (seq (act r (keep (n + params))) (seq (act r (give_any x)) (act r (keep n)))))))
 
--- the target gets the value, and the store is cut to the caller's
-abbrev pub return_node : ℕ → Op → ℕ → Node
-return_node q op n = seq (act q op) (seq (act q (keep n)) (leave returned))
+-- where so many variables live, the target gets the value, and the store is cut to the caller's n
+abbrev pub return_node : ℕ → Op → ℕ → ℕ → Node
+return_node q op n live = seq (act q op) (seq (act q (keep n)) (leave live returned))
 
 -- the point q of the list
 abbrev pub HasSite : List Site → ℕ → Frame → ℕ → ℕ → Bool → Type 0
@@ -58,21 +58,21 @@ mutual
     as_for : (f : Frame) (n q : ℕ) (init : BlockItems) (again : Stmt) (g h : Node) (n' r q' : ℕ) → InlAll P T f n (suc q) init g n' r
         → Loops P T f n' q r again h q' → Inl P T f n q (for init again) (seq g (seq h (act q (keep n)))) n q'
     as_break : (f : Frame) (n q at m : ℕ) → f.loop ≡ Some m → m ≤ n → Has T q f n at
-        → Inl P T f n q (break at) (seq (point q) (seq (act q (keep m)) (leave broken))) n (suc q)
+        → Inl P T f n q (break at) (seq (point q) (seq (act q (keep m)) (leave n broken))) n (suc q)
     as_continue : (f : Frame) (n q at m : ℕ) → f.loop ≡ Some m → m ≤ n → Has T q f n at
-        → Inl P T f n q (continue at) (seq (point q) (seq (act q (keep m)) (leave continued))) n (suc q)
+        → Inl P T f n q (continue at) (seq (point q) (seq (act q (keep m)) (leave n continued))) n (suc q)
     as_return : (f : Frame) (n q at : ℕ) (b : Back) → f.back ≡ Some b → b.length ≤ n → Has T q f n at
-        → Inl P T f n q (return at None) (seq (point q) (return_node q (give_any b.target) b.length)) n (suc q)
+        → Inl P T f n q (return at None) (seq (point q) (return_node q (give_any b.target) b.length n)) n (suc q)
     as_return_value : (f : Frame) (n q at : ℕ) (e : Expr) (b : Back) → f.back ≡ Some b → b.length ≤ n → Has T q f n at
-        → Inl P T f n q (return at (Some (value e))) (seq (point q) (return_node q (give f.here.base b.target e) b.length)) n (suc q)
+        → Inl P T f n q (return at (Some (value e))) (seq (point q) (return_node q (give f.here.base b.target e) b.length n)) n (suc q)
     as_return_call : (f : Frame) (n q at : ℕ) (c : Call) (b : Back) (g : Node) (q' : ℕ) → f.back ≡ Some b → b.length ≤ n → Has T q f n at
         → Gives P T f n q (suc q) b.target (result c) g q'
-        → Inl P T f n q (return at (Some (result c))) (seq (point q) (seq g (seq (act q (keep b.length)) (leave returned)))) n q'
-    as_end : (f : Frame) (n q at : ℕ) → f.back ≡ None → Has T q f n at → Inl P T f n q (return at None) (seq (point q) (leave returned)) n (suc q)
+        → Inl P T f n q (return at (Some (result c))) (seq (point q) (seq g (seq (act q (keep b.length)) (leave n returned)))) n q'
+    as_end : (f : Frame) (n q at : ℕ) → f.back ≡ None → Has T q f n at → Inl P T f n q (return at None) (seq (point q) (leave n returned)) n (suc q)
     as_end_value : (f : Frame) (n q at : ℕ) (e : Expr) → f.back ≡ None → Has T q f n at
-        → Inl P T f n q (return at (Some (value e))) (seq (point q) (leave returned)) n (suc q)
+        → Inl P T f n q (return at (Some (value e))) (seq (point q) (leave n returned)) n (suc q)
     as_end_call : (f : Frame) (n q at : ℕ) (c : Call) (g : Node) (q' : ℕ) → f.back ≡ None → Has T q f n at → Gives P T f n q (suc q) None (result c) g q'
-        → Inl P T f n q (return at (Some (result c))) (seq (point q) (seq g (leave returned))) n q'
+        → Inl P T f n q (return at (Some (result c))) (seq (point q) (seq g (leave n returned))) n q'
     as_assert : (f : Frame) (n q at : ℕ) (c : Cond) → HasSite T q f n at true → Inl P T f n q (assert at c) (seq (point q) (check q f.here.base c)) n (suc q)
     as_assume : (f : Frame) (n q at : ℕ) (c : Cond) → Has T q f n at → Inl P T f n q (assume at c) (seq (point q) (act q (test f.here.base c true))) n (suc q)
 

@@ -1,0 +1,318 @@
+-- The iteration over boxes on a call whose `return` cuts the callee's parameter, behind which the callee goes on:
+-- long f(long x){ if(input()) return 1; x=2; return x; } int main(void){ long r=f(0); }
+use Rattle.std.proofs.Common.{◌≡◌, ℕ, pos, List, [], ◌∷◌, ◌++◌, length, None, Some, refl, arith, lit<}
+use Rattle.lra_lin.specs.Form.{Form}
+use Rattle.lra_domain.specs.Actions.{assign}
+use Rattle.lra_domain.specs.declared.Exactness.TheVariants.{Exact}
+use Rattle.lra_tree.specs.Program.{local, literal, read, input, nonzero, Call, Function, Program, declaration, statement, no_more, absent}
+use Rattle.lra_tree.specs.Program as program
+use Rattle.lra_tree.specs.Step.{Op, append, give, give_any, keep}
+use Rattle.lra_tree.specs.Graph.{returned, Node, empty, point, act, seq, choose}
+use Rattle.lra_tree.specs.Inlined.{as_declaration, as_given, as_result, as_statement, as_none, as_if, as_absent, as_assign, as_value, as_return_value, call_node, return_node}
+use Rattle.lra_tree.specs.Agree.{IsGraph}
+use Rattle.lra_box.specs.declared.interval.Interval.{Interval}
+use Rattle.lra_box.specs.declared.interval.Side.TheVariants.{Low, High}
+use Rattle.lra_box.specs.Bounds.{open_interval, form, IsSound}
+use Rattle.lra_box.specs.Content.{Content}
+use Rattle.lra_box.specs.Tables.{stepped}
+use Rattle.lra_box.specs.Meaning.{StepsTo, box_meaning}
+use Rattle.lra_box.proofs.ExtremeLemmas.{end_is_extreme}
+use Rattle.lra_flow.specs.Pass.{Entry, value, Result, goes_on, jumps, Pass}
+use Rattle.lra_flow.specs.Analysis.{Written}
+use Rattle.lra_flow.proofs.LoopExamples.{boxes, between, one, none, narrowed, between_sound}
+use Rattle.lra_flow.proofs.NestedExamples.{two, nowhere}
+
+abbrev called : Call
+called = record { label = 6; function = 0; arguments = literal 0 ∷ [] }
+
+abbrev f_alone : Function
+f_alone = record {
+  parameters = 1;
+  body = statement (program.if 1 (nonzero input) (program.return 2 (Some (program.value (literal 1)))) absent)
+      (statement (program.assign 3 (local 0) (program.value (literal 2)))
+      (statement (program.return 4 (Some (program.value (read (local 0))))) no_more));
+  end = 5;
+}
+
+abbrev calling : Program
+calling = record {
+  globals = [];
+  functions = f_alone ∷ [];
+  main = record { parameters = 0; body = declaration (record { label = 6; source = Some (program.result called) }) no_more; end = 7 };
+}
+
+-- both variables live where f returns, and r alone behind the call
+abbrev returns_one : Node
+returns_one = seq (point 2) (return_node 2 (give 1 (Some 0) (literal 1)) 1 2)
+
+abbrev may_return : Node
+may_return = seq (point 1) (choose 1 1 (nonzero input) returns_one empty)
+
+abbrev sets_two : Node
+sets_two = seq (point 3) (act 3 (give 1 (Some 1) (literal 2)))
+
+abbrev returns_x : Node
+returns_x = seq (point 4) (return_node 4 (give 1 (Some 0) (read (local 0))) 1 2)
+
+abbrev inside : Node
+inside = seq may_return (seq sets_two (seq returns_x empty))
+
+abbrev whole_call : Node
+whole_call = call_node 0 5 0 1 (Some 0) (literal 0 ∷ []) 1 inside
+
+abbrev calling_tree : Node
+calling_tree = seq (seq (seq (point 0) (seq (act 0 append) whole_call)) empty) (point 6)
+
+-- the tree is that of the program
+calling_graph : IsGraph calling calling_tree
+calling_graph = record {
+  body = _;
+  last = 6;
+  live = 1;
+  inlined = as_declaration _ _ _ _ _ _ _ _ _ _ refl
+      (as_given _ _ _ _ _ _ _ (as_result _ _ _ _ _ _ f_alone _ _ _ refl refl
+      (as_statement _ _ _ _ _ _ _ _ _ _ (as_if _ _ _ _ _ _ _ _ _ _ _ refl (as_return_value _ _ _ _ _ _ refl (omega arith) refl) (as_absent _ _ _))
+      (as_statement _ _ _ _ _ _ _ _ _ _ (as_assign _ _ _ _ _ _ _ _ refl (as_value _ _ _ _ _ _))
+      (as_statement _ _ _ _ _ _ _ _ _ _ (as_return_value _ _ _ _ _ _ refl (omega arith) refl) (as_none _ _ _)))) refl))
+      (as_none _ _ _);
+  ends = refl;
+  all = refl;
+  parts = refl;
+}
+
+-- a form over r and x; what r gets by it, what x gets
+gets_r : (r x : Interval) (e : Form) → IsSound r → IsSound x → length e.coefficients ≡ 2 → StepsTo (assign 0 e) (two r x) (stepped (assign 0 e) (two r x))
+gets_r r x e first second is = record { table = refl; extremes = (end_is_extreme Low e (r ∷ x ∷ []) (first, (second, tt)) is, end_is_extreme High e (r ∷ x ∷ []) (first, (second, tt)) is) }
+
+gets_x : (r x : Interval) (e : Form) → IsSound r → IsSound x → length e.coefficients ≡ 2 → StepsTo (assign 1 e) (two r x) (stepped (assign 1 e) (two r x))
+gets_x r x e first second is = record { table = refl; extremes = (end_is_extreme Low e (r ∷ x ∷ []) (first, (second, tt)) is, end_is_extreme High e (r ∷ x ∷ []) (first, (second, tt)) is) }
+
+open_sound : IsSound open_interval
+open_sound = ((tt, tt), refl)
+
+zero_sound : IsSound (between 0 0)
+zero_sound = between_sound 0 0 (lit< tt) (lit< tt) refl
+
+two_sound : IsSound (between 2 2)
+two_sound = between_sound 2 2 (lit< tt) (lit< tt) refl
+
+abbrev constant : ℕ → Form
+constant k = form (pos k) (pos 0 ∷ pos 0 ∷ [])
+
+-- r may be anything, and x is 0, or 2
+abbrev at_first : Content
+at_first = two open_interval (between 0 0)
+
+abbrev at_last : Content
+at_last = two open_interval (between 2 2)
+
+-- a return where r and x live: x is cut from the value that returns, and the value behind has both and no store
+abbrev returned_with : ℕ → Content → Interval → Result Content
+returned_with q v r = record { entries = value q v ∷ []; normal = nowhere; breaks = []; continues = []; returns = one r ∷ []; flag = None }
+
+returning : (q : ℕ) (op : Op) (r x s : Interval) → Pass Content Content boxes (narrowed 1) (act q op) None (two r x) (goes_on [] (two s x) None)
+    → Pass Content Content boxes (narrowed 1) (seq (point q) (return_node q op 1 2)) None (two r x) (returned_with q (two r x) s)
+returning q op r x s given = (
+  goes_on (value q (two r x) ∷ []) (two r x) None,
+  jumps returned (one s) nowhere None,
+  refl,
+  (
+    goes_on [] (two s x) None,
+    jumps returned (one s) nowhere None,
+    given,
+    (
+      goes_on [] (one s) None,
+      jumps returned (one s) nowhere None,
+      (one s, Exact, (one s, Exact, Exact, (refl, record { table = refl; extremes = tt }), (refl, refl), refl), refl),
+      (nowhere, refl, refl),
+      refl,
+    ),
+    refl,
+  ),
+  refl,
+)
+
+gives_one : Pass Content Content boxes (narrowed 1) (act 2 (give 1 (Some 0) (literal 1))) None at_first (goes_on [] (two (between 1 1) (between 0 0)) None)
+gives_one = (
+  two (between 1 1) (between 0 0),
+  Exact,
+  (two (between 1 1) (between 0 0), Exact, Exact, (refl, gets_r open_interval (between 0 0) (constant 1) open_sound zero_sound refl), (refl, refl), refl),
+  refl,
+)
+
+gives_x : Pass Content Content boxes (narrowed 1) (act 4 (give 1 (Some 0) (read (local 0)))) None at_last (goes_on [] (two (between 2 2) (between 2 2)) None)
+gives_x = (
+  two (between 2 2) (between 2 2),
+  Exact,
+  (two (between 2 2) (between 2 2), Exact, Exact, (refl, gets_r open_interval (between 2 2) (form (pos 0) (pos 0 ∷ pos 1 ∷ [])) open_sound two_sound refl), (refl, refl), refl),
+  refl,
+)
+
+-- behind the `if` both variables live, as before it
+may_return_pass : Pass Content Content boxes (narrowed 1) may_return None at_first
+    (record { entries = value 1 at_first ∷ value 2 at_first ∷ []; normal = at_first; breaks = []; continues = []; returns = one (between 1 1) ∷ []; flag = None })
+may_return_pass = (
+  goes_on (value 1 at_first ∷ []) at_first None,
+  record { entries = value 2 at_first ∷ []; normal = at_first; breaks = []; continues = []; returns = one (between 1 1) ∷ []; flag = None },
+  refl,
+  (
+    at_first,
+    at_first,
+    at_first,
+    Exact,
+    Exact,
+    Exact,
+    returned_with 2 at_first (between 1 1),
+    goes_on [] at_first None,
+    refl,
+    returning 2 (give 1 (Some 0) (literal 1)) open_interval (between 0 0) (between 1 1) gives_one,
+    refl,
+    refl,
+    (refl, refl),
+    refl,
+  ),
+  refl,
+)
+
+sets_two_pass : Pass Content Content boxes (narrowed 1) sets_two None at_first (goes_on (value 3 at_first ∷ []) at_last None)
+sets_two_pass = (
+  goes_on (value 3 at_first ∷ []) at_first None,
+  goes_on [] at_last None,
+  refl,
+  (at_last, Exact, (at_last, Exact, Exact, (refl, gets_x open_interval (between 0 0) (constant 2) open_sound zero_sound refl), (refl, refl), refl), refl),
+  refl,
+)
+
+-- f returns with 1 or with 2, and doesn't come to its end
+inside_pass : Pass Content Content boxes (narrowed 1) inside None at_first (record {
+  entries = value 1 at_first ∷ value 2 at_first ∷ value 3 at_first ∷ value 4 at_last ∷ [];
+  normal = nowhere;
+  breaks = [];
+  continues = [];
+  returns = one (between 1 1) ∷ one (between 2 2) ∷ [];
+  flag = None;
+})
+inside_pass = (
+  record { entries = value 1 at_first ∷ value 2 at_first ∷ []; normal = at_first; breaks = []; continues = []; returns = one (between 1 1) ∷ []; flag = None },
+  record { entries = value 3 at_first ∷ value 4 at_last ∷ []; normal = nowhere; breaks = []; continues = []; returns = one (between 2 2) ∷ []; flag = None },
+  may_return_pass,
+  (
+    goes_on (value 3 at_first ∷ []) at_last None,
+    returned_with 4 at_last (between 2 2),
+    sets_two_pass,
+    (
+      returned_with 4 at_last (between 2 2),
+      goes_on [] nowhere None,
+      returning 4 (give 1 (Some 0) (read (local 0))) open_interval (between 2 2) (between 2 2) gives_x,
+      refl,
+      refl,
+    ),
+    refl,
+  ),
+  refl,
+)
+
+abbrev nowhere_alone : Content
+nowhere_alone = record { dims = 1; bounds = None }
+
+-- at the end of f both variables live, though no run comes there
+f_ends : Pass Content Content boxes (narrowed 1) (seq (point 5) (seq (act 5 (keep 2)) (seq (act 5 (give_any (Some 0))) (act 5 (keep 1))))) None nowhere (goes_on (value 5 nowhere ∷ []) nowhere_alone None)
+f_ends = (
+  goes_on (value 5 nowhere ∷ []) nowhere None,
+  goes_on [] nowhere_alone None,
+  refl,
+  (
+    goes_on [] nowhere None,
+    goes_on [] nowhere_alone None,
+    (nowhere, Exact, (refl, refl), refl),
+    (
+      goes_on [] nowhere None,
+      goes_on [] nowhere_alone None,
+      (nowhere, Exact, (nowhere, Exact, Exact, (refl, record { table = refl; extremes = tt }), (refl, refl), refl), refl),
+      (nowhere_alone, Exact, (nowhere_alone, Exact, Exact, (refl, record { table = refl; extremes = tt }), (refl, refl), refl), refl),
+      refl,
+    ),
+    refl,
+  ),
+  refl,
+)
+
+abbrev call_entries : List (Entry Content)
+call_entries = value 1 at_first ∷ value 2 at_first ∷ value 3 at_first ∷ value 4 at_last ∷ value 5 nowhere ∷ []
+
+-- the call gives r what its returns and its end leave, joined in this order
+call_pass : Pass Content Content boxes (narrowed 1) whole_call None (one open_interval) (goes_on call_entries (one (between 1 2)) None)
+call_pass = (
+  goes_on [] at_first None,
+  goes_on call_entries (one (between 1 2)) None,
+  (
+    at_first,
+    Exact,
+    (
+      two open_interval open_interval,
+      Exact,
+      Exact,
+      (refl, record { table = refl; extremes = tt }),
+      (at_first, Exact, Exact, (refl, gets_x open_interval open_interval (constant 0) open_sound open_sound refl), (refl, refl), refl),
+      refl,
+    ),
+    refl,
+  ),
+  (
+    one (between 1 2),
+    Exact,
+    record { entries = call_entries; normal = nowhere_alone; breaks = []; continues = []; returns = one (between 1 1) ∷ one (between 2 2) ∷ []; flag = None },
+    (
+      record {
+        entries = value 1 at_first ∷ value 2 at_first ∷ value 3 at_first ∷ value 4 at_last ∷ [];
+        normal = nowhere;
+        breaks = [];
+        continues = [];
+        returns = one (between 1 1) ∷ one (between 2 2) ∷ [];
+        flag = None;
+      },
+      goes_on (value 5 nowhere ∷ []) nowhere_alone None,
+      inside_pass,
+      f_ends,
+      refl,
+    ),
+    (one (between 1 2), Exact, Exact, (refl, refl), (one (between 1 2), Exact, Exact, (refl, refl), (refl, refl), refl), refl),
+    refl,
+  ),
+  refl,
+)
+
+-- r is 1..2 at main's end: the value that x had behind the first return isn't lost
+pub calling_written : Written box_meaning (narrowed 1) calling calling_tree (goes_on (value 0 none ∷ (call_entries ++ value 6 (one (between 1 2)) ∷ [])) (one (between 1 2)) None)
+calling_written = (
+  none,
+  none,
+  Exact,
+  refl,
+  (refl, refl),
+  (
+    goes_on (value 0 none ∷ call_entries) (one (between 1 2)) None,
+    goes_on (value 6 (one (between 1 2)) ∷ []) (one (between 1 2)) None,
+    (
+      goes_on (value 0 none ∷ call_entries) (one (between 1 2)) None,
+      goes_on [] (one (between 1 2)) None,
+      (
+        goes_on (value 0 none ∷ []) none None,
+        goes_on call_entries (one (between 1 2)) None,
+        refl,
+        (
+          goes_on [] (one open_interval) None,
+          goes_on call_entries (one (between 1 2)) None,
+          (one open_interval, Exact, (one open_interval, Exact, Exact, (refl, record { table = refl; extremes = tt }), (refl, refl), refl), refl),
+          call_pass,
+          refl,
+        ),
+        refl,
+      ),
+      refl,
+      refl,
+    ),
+    refl,
+    refl,
+  ),
+)
