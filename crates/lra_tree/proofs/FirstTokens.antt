@@ -9,7 +9,7 @@ use Rattle.lra_tree.specs.declared.tokens.Token.{Token}
 use Rattle.lra_tree.specs.declared.trees.Identifier.{Identifier}
 use Rattle.lra_tree.specs.Trees.{PartTree, prototype, globals, function, FileTree}
 use Rattle.lra_tree.specs.Texts.{Pieces, opens}
-use Rattle.lra_tree.specs.Grammar.{IsType, IsHead, IsReservedHead, IsSomeHead, IsPart, AreParts}
+use Rattle.lra_tree.specs.Grammar.{IsType, IsHead, IsReservedHead, IsSomeHead, IsPart, AreParts, Spells}
 use Rattle.lra_tree.specs.Faults.{CanBegin}
 
 -- the first token is a mark
@@ -69,7 +69,7 @@ begins_spelled t z a b e (inr m) g k =
     cc
 
 -- no source begins with a comment that isn't closed
-pub not_unclosed : (place : Place) → CanBegin (record { kind = Unclosed; place = place } ∷ []) → ⊥
+pub not_unclosed : (place : Place) → CanBegin Spells (record { kind = Unclosed; place = place } ∷ []) → ⊥
 not_unclosed place (t, [], y, s, e) = cc
 not_unclosed place (t, p ∷ x, y, (a, b, f, parts, end), e) =
     begins_spelled t ((p ∷ x) ++ y) a b f (begins_parts t.parts a parts) end (ap kind_in e)

@@ -158,7 +158,7 @@ deep_spelled = (
 abbrev deep_tokens : List Token
 deep_tokens = take 75 (plain deep_pieces) ++ record { kind = End; place = at 93 } ∷ []
 
-too_deep : IsTextFault deep_tokens TooDeep (at 92)
+too_deep : IsTextFault Spells deep_tokens TooDeep (at 92)
 too_deep = (
   take 74 (plain deep_pieces),
   record { kind = MarkOf mark.OpenParen; place = at 92 },

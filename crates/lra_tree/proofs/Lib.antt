@@ -18,5 +18,6 @@ mod WellFormedExamples
 -- Refusals at their places.
 mod LowByTest
 mod GrammarExamples
+mod BuiltExamples
 mod FirstTokens
 mod RefuseExamples

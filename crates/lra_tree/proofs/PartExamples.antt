@@ -5,6 +5,7 @@ use Rattle.std.specs.Prelude.{codes, get_or, map}
 use Rattle.std.specs.Int.Signed.{le_z_yes}
 use Rattle.lra_tree.specs.Report.{poly, box, Options, Row, Generator, Part, dot}
 use Rattle.lra_tree.specs.Parts.{RationalPoint, IsWithin, IsGenerated, HasSamePoints, Tells}
+use Rattle.lra_tree.specs.Grammar.{Spells}
 use Rattle.lra_tree.specs.Listing.{AreParts, IsReportOf}
 use Rattle.lra_tree.proofs.ReportTextExamples.{defaults, both, rows_alone, a_point, a_ray, is_positive, empty_main, one_variable}
 
@@ -61,7 +62,7 @@ empty_main_tells = ((omega arith, tt), same, (rational 1 [], record { width = re
 apart : defaults box ≡ defaults poly → ⊥
 apart e = let d : box ≡ poly = ap (λ (o : Options). o.domain) e in cc
 
-other_options : (source : List ℕ) → IsReportOf (defaults poly) source one_variable → ⊥
+other_options : (source : List ℕ) → IsReportOf Spells (defaults poly) source one_variable → ⊥
 other_options source h = apart h.options
 
 one_part_more : (p q : Part) → AreParts (defaults box) (record { number = 1; point = record { path = []; label = 1 }; path = codes "main"; place = record { line = 1; column = 16 }; names = []; state = p ∷ q ∷ [] }) → ⊥
@@ -71,7 +72,7 @@ box_with_generator : Tells box 0 (both [] (a_point 1 [] ∷ [])) → ⊥
 box_with_generator h = cc
 
 -- so this is the report of no source, under no options
-generators_over_boxes : (o : Options) (source : List ℕ) → IsReportOf o source (record empty_main { options = defaults box }) → ⊥
+generators_over_boxes : (o : Options) (source : List ℕ) → IsReportOf Spells o source (record empty_main { options = defaults box }) → ⊥
 generators_over_boxes o source h = box_with_generator (subst (λ (p : Options). Tells p.domain 0 (both [] (a_point 1 [] ∷ []))) (sym h.options) h.parts.0.tell.0)
 
 -- a divisor 0, and rows without a generator

@@ -17,6 +17,7 @@ use Rattle.lra_tree.specs.Resolve.{resolve}
 use Rattle.lra_tree.specs.Sites.{events_of}
 use Rattle.lra_tree.specs.Refuse.{greatest_length, limit_fault, Refuse, too_long, bad_token, bad_text, bad_tree, bad_name, recursive, Accepts, refusal_text}
 use Rattle.lra_tree.specs.Texts.{Piece}
+use Rattle.lra_tree.specs.Grammar.{Spells}
 use Rattle.lra_tree.specs.Faults.{IsTree}
 use Rattle.std.proofs.lemmas.List.{take-replicate, length-replicate, length-append}
 use Rattle.lra_tree.proofs.LongestByTest.{no_gap, as_token, no_lexeme, is_open}
@@ -75,7 +76,7 @@ one_call_too_many = refl
 
 -- whole sources ----------------------------------------------------------------------------------------------------
 
-no_bytes : Refuse [] NoMain (at 1)
+no_bytes : Refuse Spells [] NoMain (at 1)
 unfolding greatest_length
 no_bytes = bad_tree (record { kind = End; place = at 1 } ∷ []) (record { parts = []; end = at 1 }) NoMain (at 1) (omega arith) ([], refl, tt, refl)
     ((record { kind = End; place = at 1 }, 0) ∷ [], ([], _, refl, refl, refl), refl, (omega arith, tt)) (bad_name (record { cause = NoMain; place = at 1 }) [] refl)
@@ -88,14 +89,14 @@ place_from_spaces (suc n) l c =
     let e : c + 1 + n ≡ c + suc n = omega arith in
     place_from_spaces n l (c + 1) ∙ ap (λ (k : ℕ). record { line = l; column = k }) e
 
-spaces_too_long : (n : ℕ) → greatest_length ≡ n → Refuse (replicate (n + 1) 32) TooLong (record { line = 1; column = 1 + n })
+spaces_too_long : (n : ℕ) → greatest_length ≡ n → Refuse Spells (replicate (n + 1) 32) TooLong (record { line = 1; column = 1 + n })
 spaces_too_long n e =
     let f : place_behind (take greatest_length (replicate (n + 1) 32)) ≡ record { line = 1; column = 1 + n } =
     ap (λ (k : ℕ). place_behind (take k (replicate (n + 1) 32))) e ∙ ap place_behind (take-replicate n (n + 1) 32 (omega arith)) ∙ place_from_spaces n 1 1 in
-    subst (Refuse (replicate (n + 1) 32) TooLong) f (too_long (omega (arith, length-replicate {A = ℕ} (n + 1) 32, e)))
+    subst (Refuse Spells (replicate (n + 1) 32) TooLong) f (too_long (omega (arith, length-replicate {A = ℕ} (n + 1) 32, e)))
 
 -- 65,537 spaces: catches a limit of 65,535, and a place past the end
-too_many_spaces : Refuse (replicate (65536 + 1) 32) TooLong (at 65537)
+too_many_spaces : Refuse Spells (replicate (65536 + 1) 32) TooLong (at 65537)
 unfolding greatest_length
 too_many_spaces = spaces_too_long 65536 refl
 
@@ -146,7 +147,7 @@ empty_tree = main_of no_items 16
 abbrev piece : Kind → ℕ → ℕ → Piece
 piece k c level = (token_at k c, level)
 
-empty_parsed : IsTree empty_tokens empty_tree
+empty_parsed : IsTree Spells empty_tokens empty_tree
 empty_parsed = (
   piece (MarkOf mark.Int) 1 0 ∷ piece (Name (codes "main")) 5 0 ∷ piece (MarkOf mark.OpenParen) 9 0 ∷ piece (MarkOf mark.Void) 10 0 ∷ piece (MarkOf mark.CloseParen) 14 0
       ∷ piece (MarkOf mark.OpenBrace) 15 1 ∷ piece (MarkOf mark.CloseBrace) 16 0 ∷ piece End 17 0 ∷ [],
@@ -161,7 +162,7 @@ no_calls [] after c e = cc
 no_calls (b ∷ before) after c e = cc
 
 -- int main(void){}
-empty_accepted : Accepts (codes "int main(void){}") empty_tree
+empty_accepted : Accepts Spells (codes "int main(void){}") empty_tree
 unfolding greatest_length
 empty_accepted = record {
   tokens = empty_tokens;
@@ -174,7 +175,7 @@ empty_accepted = record {
 }
 
 -- int main(void){ $ }
-dollar : Refuse (codes "int main(void){ $ }") BadByte (at 17)
+dollar : Refuse Spells (codes "int main(void){ $ }") BadByte (at 17)
 unfolding greatest_length
 dollar = bad_token BadByte (at 17) (omega arith) (
   token (codes "int") (token_at (MarkOf mark.Int) 1) ∷ gap (codes " ") ∷ token (codes "main") (token_at (Name (codes "main")) 5) ∷ token (codes "(") (token_at (MarkOf mark.OpenParen) 9) ∷ token (codes "void") (token_at (MarkOf mark.Void) 10) ∷ token (codes ")") (token_at (MarkOf mark.CloseParen) 14) ∷ token (codes "{") (token_at (MarkOf mark.OpenBrace) 15) ∷ gap (codes " ") ∷ [],
@@ -209,7 +210,7 @@ dollar = bad_token BadByte (at 17) (omega arith) (
   refl,
 )
 
-literal_refused : Refuse (codes "x=9223372036854775808;") BadLiteral (at 3)
+literal_refused : Refuse Spells (codes "x=9223372036854775808;") BadLiteral (at 3)
 unfolding greatest_length
 literal_refused = bad_token BadLiteral (at 3) (omega arith) too_large
 
@@ -220,7 +221,7 @@ one_literal = record { base = decimal_base; front = []; digits = codes "1"; suff
 abbrev unknown_name_tokens : List Token
 unknown_name_tokens = token_at (MarkOf mark.Int) 1 ∷ token_at (Name (codes "main")) 5 ∷ token_at (MarkOf mark.OpenParen) 9 ∷ token_at (MarkOf mark.Void) 10 ∷ token_at (MarkOf mark.CloseParen) 14 ∷ token_at (MarkOf mark.OpenBrace) 15 ∷ token_at (Name (codes "x")) 17 ∷ token_at (MarkOf mark.Assign) 19 ∷ token_at (Number 1) 21 ∷ token_at (MarkOf mark.Semicolon) 22 ∷ token_at (MarkOf mark.CloseBrace) 24 ∷ token_at End 25 ∷ []
 
-unknown_name_refused : Refuse (codes "int main(void){ x = 1; }") UnknownName (at 17)
+unknown_name_refused : Refuse Spells (codes "int main(void){ x = 1; }") UnknownName (at 17)
 unfolding greatest_length
 unknown_name_refused = bad_tree unknown_name_tokens (main_of (statement (assign (set (x_at 17) (expression (number_of 1)))) no_items) 24) UnknownName (at 17) (omega arith) (
   token (codes "int") (token_at (MarkOf mark.Int) 1) ∷ gap (codes " ") ∷ token (codes "main") (token_at (Name (codes "main")) 5) ∷ token (codes "(") (token_at (MarkOf mark.OpenParen) 9) ∷ token (codes "void") (token_at (MarkOf mark.Void) 10) ∷ token (codes ")") (token_at (MarkOf mark.CloseParen) 14) ∷ token (codes "{") (token_at (MarkOf mark.OpenBrace) 15) ∷ gap (codes " ") ∷ token (codes "x") (token_at (Name (codes "x")) 17) ∷ gap (codes " ") ∷ token (codes "=") (token_at (MarkOf mark.Assign) 19) ∷ gap (codes " ") ∷ token (codes "1") (token_at (Number 1) 21) ∷ token (codes ";") (token_at (MarkOf mark.Semicolon) 22) ∷ gap (codes " ") ∷ token (codes "}") (token_at (MarkOf mark.CloseBrace) 24) ∷ [],
@@ -287,7 +288,7 @@ unknown_name_refused = bad_tree unknown_name_tokens (main_of (statement (assign 
 abbrev misplaced_tokens : List Token
 misplaced_tokens = token_at (MarkOf mark.Int) 1 ∷ token_at (Name (codes "main")) 5 ∷ token_at (MarkOf mark.OpenParen) 9 ∷ token_at (MarkOf mark.Void) 10 ∷ token_at (MarkOf mark.CloseParen) 14 ∷ token_at (MarkOf mark.OpenBrace) 15 ∷ token_at (MarkOf mark.Break) 17 ∷ token_at (MarkOf mark.Semicolon) 22 ∷ token_at (MarkOf mark.CloseBrace) 24 ∷ token_at End 25 ∷ []
 
-misplaced_refused : Refuse (codes "int main(void){ break; }") Misplaced (at 17)
+misplaced_refused : Refuse Spells (codes "int main(void){ break; }") Misplaced (at 17)
 unfolding greatest_length
 misplaced_refused = bad_tree misplaced_tokens (main_of (statement (break (at 17)) no_items) 24) Misplaced (at 17) (omega arith) (
   token (codes "int") (token_at (MarkOf mark.Int) 1) ∷ gap (codes " ") ∷ token (codes "main") (token_at (Name (codes "main")) 5) ∷ token (codes "(") (token_at (MarkOf mark.OpenParen) 9) ∷ token (codes "void") (token_at (MarkOf mark.Void) 10) ∷ token (codes ")") (token_at (MarkOf mark.CloseParen) 14) ∷ token (codes "{") (token_at (MarkOf mark.OpenBrace) 15) ∷ gap (codes " ") ∷ token (codes "break") (token_at (MarkOf mark.Break) 17) ∷ token (codes ";") (token_at (MarkOf mark.Semicolon) 22) ∷ gap (codes " ") ∷ token (codes "}") (token_at (MarkOf mark.CloseBrace) 24) ∷ [],
@@ -342,7 +343,7 @@ misplaced_refused = bad_tree misplaced_tokens (main_of (statement (break (at 17)
 abbrev duplicate_name_tokens : List Token
 duplicate_name_tokens = token_at (MarkOf mark.Int) 1 ∷ token_at (Name (codes "main")) 5 ∷ token_at (MarkOf mark.OpenParen) 9 ∷ token_at (MarkOf mark.Void) 10 ∷ token_at (MarkOf mark.CloseParen) 14 ∷ token_at (MarkOf mark.OpenBrace) 15 ∷ token_at (MarkOf mark.Long) 17 ∷ token_at (Name (codes "x")) 22 ∷ token_at (MarkOf mark.Semicolon) 23 ∷ token_at (MarkOf mark.Long) 25 ∷ token_at (Name (codes "x")) 30 ∷ token_at (MarkOf mark.Semicolon) 31 ∷ token_at (MarkOf mark.CloseBrace) 33 ∷ token_at End 34 ∷ []
 
-duplicate_name_refused : Refuse (codes "int main(void){ long x; long x; }") DuplicateName (at 30)
+duplicate_name_refused : Refuse Spells (codes "int main(void){ long x; long x; }") DuplicateName (at 30)
 unfolding greatest_length
 duplicate_name_refused = bad_tree duplicate_name_tokens (main_of (declaration (declared_as (x_at 22) None) (declaration (declared_as (x_at 30) None) no_items)) 33) DuplicateName (at 30) (omega arith) (
   token (codes "int") (token_at (MarkOf mark.Int) 1) ∷ gap (codes " ") ∷ token (codes "main") (token_at (Name (codes "main")) 5) ∷ token (codes "(") (token_at (MarkOf mark.OpenParen) 9) ∷ token (codes "void") (token_at (MarkOf mark.Void) 10) ∷ token (codes ")") (token_at (MarkOf mark.CloseParen) 14) ∷ token (codes "{") (token_at (MarkOf mark.OpenBrace) 15) ∷ gap (codes " ") ∷ token (codes "long") (token_at (MarkOf mark.Long) 17) ∷ gap (codes " ") ∷ token (codes "x") (token_at (Name (codes "x")) 22) ∷ token (codes ";") (token_at (MarkOf mark.Semicolon) 23) ∷ gap (codes " ") ∷ token (codes "long") (token_at (MarkOf mark.Long) 25) ∷ gap (codes " ") ∷ token (codes "x") (token_at (Name (codes "x")) 30) ∷ token (codes ";") (token_at (MarkOf mark.Semicolon) 31) ∷ gap (codes " ") ∷ token (codes "}") (token_at (MarkOf mark.CloseBrace) 33) ∷ [],
@@ -418,7 +419,7 @@ duplicate_name_refused = bad_tree duplicate_name_tokens (main_of (declaration (d
 abbrev bad_call_tokens : List Token
 bad_call_tokens = token_at (MarkOf mark.Void) 1 ∷ token_at (Name (codes "f")) 6 ∷ token_at (MarkOf mark.OpenParen) 7 ∷ token_at (MarkOf mark.Void) 8 ∷ token_at (MarkOf mark.CloseParen) 12 ∷ token_at (MarkOf mark.OpenBrace) 13 ∷ token_at (MarkOf mark.CloseBrace) 14 ∷ token_at (MarkOf mark.Int) 16 ∷ token_at (Name (codes "main")) 20 ∷ token_at (MarkOf mark.OpenParen) 24 ∷ token_at (MarkOf mark.Void) 25 ∷ token_at (MarkOf mark.CloseParen) 29 ∷ token_at (MarkOf mark.OpenBrace) 30 ∷ token_at (Name (codes "f")) 32 ∷ token_at (MarkOf mark.OpenParen) 33 ∷ token_at (Number 1) 34 ∷ token_at (MarkOf mark.CloseParen) 35 ∷ token_at (MarkOf mark.Semicolon) 36 ∷ token_at (MarkOf mark.CloseBrace) 38 ∷ token_at End 39 ∷ []
 
-bad_call_refused : Refuse (codes "void f(void){} int main(void){ f(1); }") BadCall (at 32)
+bad_call_refused : Refuse Spells (codes "void f(void){} int main(void){ f(1); }") BadCall (at 32)
 unfolding greatest_length
 bad_call_refused = bad_tree bad_call_tokens calls_with_one BadCall (at 32) (omega arith) (
   token (codes "void") (token_at (MarkOf mark.Void) 1) ∷ gap (codes " ") ∷ token (codes "f") (token_at (Name (codes "f")) 6) ∷ token (codes "(") (token_at (MarkOf mark.OpenParen) 7) ∷ token (codes "void") (token_at (MarkOf mark.Void) 8) ∷ token (codes ")") (token_at (MarkOf mark.CloseParen) 12) ∷ token (codes "{") (token_at (MarkOf mark.OpenBrace) 13) ∷ token (codes "}") (token_at (MarkOf mark.CloseBrace) 14) ∷ gap (codes " ") ∷ token (codes "int") (token_at (MarkOf mark.Int) 16) ∷ gap (codes " ") ∷ token (codes "main") (token_at (Name (codes "main")) 20) ∷ token (codes "(") (token_at (MarkOf mark.OpenParen) 24) ∷ token (codes "void") (token_at (MarkOf mark.Void) 25) ∷ token (codes ")") (token_at (MarkOf mark.CloseParen) 29) ∷ token (codes "{") (token_at (MarkOf mark.OpenBrace) 30) ∷ gap (codes " ") ∷ token (codes "f") (token_at (Name (codes "f")) 32) ∷ token (codes "(") (token_at (MarkOf mark.OpenParen) 33) ∷ token (codes "1") (token_at (Number 1) 34) ∷ token (codes ")") (token_at (MarkOf mark.CloseParen) 35) ∷ token (codes ";") (token_at (MarkOf mark.Semicolon) 36) ∷ gap (codes " ") ∷ token (codes "}") (token_at (MarkOf mark.CloseBrace) 38) ∷ [],
@@ -509,7 +510,7 @@ bad_call_refused = bad_tree bad_call_tokens calls_with_one BadCall (at 32) (omeg
 abbrev recursive_tokens : List Token
 recursive_tokens = token_at (MarkOf mark.Void) 1 ∷ token_at (Name (codes "f")) 6 ∷ token_at (MarkOf mark.OpenParen) 7 ∷ token_at (MarkOf mark.Void) 8 ∷ token_at (MarkOf mark.CloseParen) 12 ∷ token_at (MarkOf mark.OpenBrace) 13 ∷ token_at (Name (codes "f")) 15 ∷ token_at (MarkOf mark.OpenParen) 16 ∷ token_at (MarkOf mark.CloseParen) 17 ∷ token_at (MarkOf mark.Semicolon) 18 ∷ token_at (MarkOf mark.CloseBrace) 20 ∷ token_at (MarkOf mark.Int) 22 ∷ token_at (Name (codes "main")) 26 ∷ token_at (MarkOf mark.OpenParen) 30 ∷ token_at (MarkOf mark.Void) 31 ∷ token_at (MarkOf mark.CloseParen) 35 ∷ token_at (MarkOf mark.OpenBrace) 36 ∷ token_at (MarkOf mark.CloseBrace) 37 ∷ token_at End 38 ∷ []
 
-recursive_refused : Refuse (codes "void f(void){ f(); } int main(void){}") Recursive (at 15)
+recursive_refused : Refuse Spells (codes "void f(void){ f(); } int main(void){}") Recursive (at 15)
 unfolding greatest_length
 recursive_refused = bad_tree recursive_tokens itself Recursive (at 15) (omega arith) (
   token (codes "void") (token_at (MarkOf mark.Void) 1) ∷ gap (codes " ") ∷ token (codes "f") (token_at (Name (codes "f")) 6) ∷ token (codes "(") (token_at (MarkOf mark.OpenParen) 7) ∷ token (codes "void") (token_at (MarkOf mark.Void) 8) ∷ token (codes ")") (token_at (MarkOf mark.CloseParen) 12) ∷ token (codes "{") (token_at (MarkOf mark.OpenBrace) 13) ∷ gap (codes " ") ∷ token (codes "f") (token_at (Name (codes "f")) 15) ∷ token (codes "(") (token_at (MarkOf mark.OpenParen) 16) ∷ token (codes ")") (token_at (MarkOf mark.CloseParen) 17) ∷ token (codes ";") (token_at (MarkOf mark.Semicolon) 18) ∷ gap (codes " ") ∷ token (codes "}") (token_at (MarkOf mark.CloseBrace) 20) ∷ gap (codes " ") ∷ token (codes "int") (token_at (MarkOf mark.Int) 22) ∷ gap (codes " ") ∷ token (codes "main") (token_at (Name (codes "main")) 26) ∷ token (codes "(") (token_at (MarkOf mark.OpenParen) 30) ∷ token (codes "void") (token_at (MarkOf mark.Void) 31) ∷ token (codes ")") (token_at (MarkOf mark.CloseParen) 35) ∷ token (codes "{") (token_at (MarkOf mark.OpenBrace) 36) ∷ token (codes "}") (token_at (MarkOf mark.CloseBrace) 37) ∷ [],
@@ -620,7 +621,7 @@ unclosed_open : IsOpen []
 unclosed_open = is_open [] refl
 
 -- /* : catches a comment that need not be closed, and a fault at its end
-unclosed_comment : Refuse (codes "/*") Syntax (at 1)
+unclosed_comment : Refuse Spells (codes "/*") Syntax (at 1)
 unfolding greatest_length
 unclosed_comment = bad_text (token_at Unclosed 1 ∷ token_at End 3 ∷ []) Syntax (at 1) (omega arith) (
   token (codes "/*") (token_at Unclosed 1) ∷ [],

@@ -11,6 +11,7 @@ use Rattle.lra_tree.specs.NameFaults.{global_names}
 use Rattle.lra_tree.specs.Labels.{Labelled, labels_of, label_at}
 use Rattle.lra_tree.specs.Resolve.{resolve}
 use Rattle.lra_tree.specs.Sites.{Site, sites_of}
+use Rattle.lra_tree.specs.Faults.{Language}
 use Rattle.lra_tree.specs.Refuse.{label_place, Accepts}
 
 abbrev pub globals_named : List PartTree → List (List ℕ)
@@ -106,12 +107,12 @@ pub record AreParts (o : Options) (p : PointReport) : Type 0 where
   pub few : length p.state ≤ o.parts
   pub tell : AllByRecursion (Tells o.domain (length p.names)) p.state
 
--- what is written of an accepted source under these options: all its points and assertions; at each point what every run meets there; no
+-- what is written of an accepted source of the language L under these options: all its points and assertions; at each point what every run meets there; no
 -- assertion that fails is proved
-pub record IsReportOf (o : Options) (source : List ℕ) (r : Report) : Type 0 where
+pub record IsReportOf (L : Language) (o : Options) (source : List ℕ) (r : Report) : Type 0 where
   pub options : r.options ≡ o
   pub tree : FileTree
-  pub accepted : Accepts source tree
+  pub accepted : Accepts L source tree
   pub lists : Lists tree r
   pub parts : AllByRecursion (AreParts o) r.points
   pub sound : IsSound (resolve tree) r

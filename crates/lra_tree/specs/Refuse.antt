@@ -10,7 +10,7 @@ use Rattle.lra_tree.specs.declared.tokens.Token.{Token}
 use Rattle.lra_tree.specs.declared.trees.Identifier.{Identifier}
 use Rattle.lra_tree.specs.Trees.{FileTree}
 use Rattle.lra_tree.specs.Tokens.{place_behind, Lex, IsTokenFault}
-use Rattle.lra_tree.specs.Faults.{IsTree, IsTextFault}
+use Rattle.lra_tree.specs.Faults.{Language, IsTree, IsTextFault}
 use Rattle.lra_tree.specs.NameFaults.{name_faults}
 use Rattle.lra_tree.specs.Labels.{Labelled, labels_of, label_at}
 use Rattle.lra_tree.specs.Reach.{IsFirstRecursive}
@@ -63,29 +63,30 @@ pub data RefusesTree (t : FileTree) : Cause → Place → Type 0 where
   recursive : (at : Place) → name_faults t ≡ [] → IsFirstRecursive t at → RefusesTree t Recursive at
   past_limit : (r : Refusal) → name_faults t ≡ [] → NotRecursive t → limit_fault (labels_of t) 0 (events_of (resolve t)) ≡ Some r → RefusesTree t r.cause r.place
 
-pub data Refuse (source : List ℕ) : Cause → Place → Type 0 where
-  too_long : greatest_length < length source → Refuse source TooLong (place_behind (take greatest_length source))
-  bad_token : (c : Cause) (at : Place) → length source ≤ greatest_length → IsTokenFault source c at → Refuse source c at
-  bad_text : (tokens : List Token) (c : Cause) (at : Place) → length source ≤ greatest_length → Lex source tokens → IsTextFault tokens c at → Refuse source c at
-  bad_tree : (tokens : List Token) (t : FileTree) (c : Cause) (at : Place) → length source ≤ greatest_length → Lex source tokens → IsTree tokens t
-      → RefusesTree t c at → Refuse source c at
+-- where L is the language of the sources
+pub data Refuse (L : Language) (source : List ℕ) : Cause → Place → Type 0 where
+  too_long : greatest_length < length source → Refuse L source TooLong (place_behind (take greatest_length source))
+  bad_token : (c : Cause) (at : Place) → length source ≤ greatest_length → IsTokenFault source c at → Refuse L source c at
+  bad_text : (tokens : List Token) (c : Cause) (at : Place) → length source ≤ greatest_length → Lex source tokens → IsTextFault L tokens c at → Refuse L source c at
+  bad_tree : (tokens : List Token) (t : FileTree) (c : Cause) (at : Place) → length source ≤ greatest_length → Lex source tokens → IsTree L tokens t
+      → RefusesTree t c at → Refuse L source c at
 
 -- the source is accepted, and has this tree
-pub record Accepts (source : List ℕ) (t : FileTree) : Type 0 where
+pub record Accepts (L : Language) (source : List ℕ) (t : FileTree) : Type 0 where
   pub tokens : List Token
   pub not_long : length source ≤ greatest_length
   pub lexed : Lex source tokens
-  pub parsed : IsTree tokens t
+  pub parsed : IsTree L tokens t
   pub names : name_faults t ≡ []
   pub not_recursive : NotRecursive t
   pub within : limit_fault (labels_of t) 0 (events_of (resolve t)) ≡ None
 
 -- a source is accepted with one tree, or refused for one cause at one place
-abbrev pub OneAnswer : Type 0
-OneAnswer = (source : List ℕ)
-    → ((s t : FileTree) → Accepts source s → Accepts source t → s ≡ t)
-    × ((c d : Cause) (p q : Place) → Refuse source c p → Refuse source d q → (c ≡ d) × (p ≡ q))
-    × ((t : FileTree) (c : Cause) (p : Place) → Accepts source t → Refuse source c p → ⊥)
+abbrev pub OneAnswer : Language → Type 0
+OneAnswer L = (source : List ℕ)
+    → ((s t : FileTree) → Accepts L source s → Accepts L source t → s ≡ t)
+    × ((c d : Cause) (p q : Place) → Refuse L source c p → Refuse L source d q → (c ≡ d) × (p ≡ q))
+    × ((t : FileTree) (c : Cause) (p : Place) → Accepts L source t → Refuse L source c p → ⊥)
 
 -- its text ---------------------------------------------------------------------------------------------------------
 

@@ -7,6 +7,7 @@ use Rattle.lra_tree.specs.Program.{Slot, global, local, Expr, literal, read, inp
 use Rattle.lra_tree.specs.Value.{is_word}
 use Rattle.lra_tree.specs.Sites.{live_behind}
 use Rattle.lra_tree.specs.Resolve.{resolve}
+use Rattle.lra_tree.specs.Grammar.{Spells}
 use Rattle.lra_tree.specs.Refuse.{Accepts}
 
 -- labels -----------------------------------------------------------------------------------------------------------
@@ -123,4 +124,4 @@ pub record IsWellFormed (P : Program) : Type 0 where
 
 -- so is the program of every accepted source
 abbrev pub AcceptedAreWellFormed : Type 0
-AcceptedAreWellFormed = (source : List ℕ) (t : FileTree) → Accepts source t → IsWellFormed (resolve t)
+AcceptedAreWellFormed = (source : List ℕ) (t : FileTree) → Accepts Spells source t → IsWellFormed (resolve t)
