@@ -7,6 +7,8 @@ mod PartExamples
 mod LongestByTest
 mod TokenExamples
 -- Trees, their names and what they mean.
+-- Walks over trees.
+mod Walking
 mod ViewExamples
 mod ProgramViewExamples
 mod TreeSamples

@@ -20,6 +20,7 @@ pub mod Faults
 pub mod Scope
 pub mod NameFaults
 pub mod Labels
+pub mod Walk
 pub mod Resolve
 pub mod ProgramViews
 pub mod Reach
