@@ -7,7 +7,10 @@ mod PartExamples
 mod LongestByTest
 mod TokenExamples
 -- Trees, their names and what they mean.
+-- Walks over trees.
+mod Walking
 mod ViewExamples
+mod ProgramViewExamples
 mod TreeSamples
 mod NameExamples
 -- Linear forms, and how conditions are pushed to their atoms.

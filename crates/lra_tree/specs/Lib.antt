@@ -21,13 +21,16 @@ pub mod Built
 pub mod Scope
 pub mod NameFaults
 pub mod Labels
+pub mod Walk
 pub mod Resolve
+pub mod ProgramViews
 pub mod Reach
 -- Calls written out, and which sources are refused.
 pub mod Sites
 pub mod Graph
 pub mod Inlined
 pub mod Agree
+pub mod GraphViews
 pub mod Refuse
 pub mod WellFormed
 pub mod Listing

@@ -4,10 +4,14 @@
 //! The types of tokens, trees and refusals are those of the front end's calls.
 #![tactic(auto)]
 
+pub mod graph;
+mod labels;
+pub mod program;
 mod refusals;
 mod tokens;
 mod trees;
 
+pub use labels::{Label, walk};
 pub use refusals::{Cause, Place, Refusal};
 pub use tokens::{Kind, Mark, Token, Word};
 pub use trees::{

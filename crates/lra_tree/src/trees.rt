@@ -1,14 +1,28 @@
 //! Trees of sources. A chain of operators is its first operand and a list of the others, so a tree is no deeper than its source is nested.
 //! A part keeps the places that refusals and points name, and no others.
 
+ghost use Rattle.std.specs.Prelude.{◌≡◌, IfOk};
+
 use crate::refusals::Place;
 use crate::tokens::Word;
+use std::alloc::AllocError;
 
 /// A name and its place.
 #[derive(Drop)]
 pub struct Identifier {
     pub word: Word,
     pub place: Place,
+}
+
+impl Identifier {
+    pub fn copy(&self, alloc: std::alloc::Global) -> Result<Identifier, AllocError>
+        ensures { IfOk result (λ x. x ≡ self.now) }
+    {
+        Ok(Identifier {
+            word: self.word.copy(alloc)?,
+            place: self.place,
+        })
+    }
 }
 
 /// A sign, a literal, a variable, `input()`, or an expression in parentheses.
