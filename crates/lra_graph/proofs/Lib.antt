@@ -1,0 +1,4 @@
+pub mod Shapes
+pub mod Lengths
+pub mod Landing
+pub mod Split
