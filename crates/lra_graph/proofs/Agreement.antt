@@ -3,10 +3,10 @@ use Rattle.std.proofs.Common.{◌≡◌, ℕ, ℤ, List, length, Some, slice_get
 use Rattle.std.proofs.lemmas.Option.{same_Some}
 use Rattle.lra_tree.specs.Program.{Program}
 use Rattle.lra_tree.specs.Step.{State, Config}
-use Rattle.lra_tree.specs.Run.{Point, IsOn, Reaches, At, Fails, start}
-use Rattle.lra_tree.specs.Graph.{Node, FailsAt}
+use Rattle.lra_tree.specs.Run.{Point, IsOn, At, Fails, start}
+use Rattle.lra_tree.specs.Graph.{Node}
 use Rattle.lra_tree.specs.Sites.{Site, sites_of}
-use Rattle.lra_tree.specs.Agree.{IsGraph, Reached, Failed, point_of, AreDistinct, Agrees, GraphsAgree}
+use Rattle.lra_tree.specs.Agree.{IsGraph, Reached, Failed, point_of, AreDistinct, GraphsAgree}
 use Rattle.lra_graph.proofs.Does.{Stands, HasState, IsFalse}
 use Rattle.lra_graph.proofs.Reached.{reached}
 use Rattle.lra_graph.proofs.Performed.{performed, failed}

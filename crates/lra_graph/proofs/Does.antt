@@ -4,7 +4,7 @@ use Rattle.std.proofs.lemmas.Option.{same_Some, none-some}
 use Rattle.lra_tree.specs.Program.{Expr, Cond, Call, Source, value, result, Declarator, Stmt, absent, nothing, block, assign, call, if, loop, for, break, continue, return, assert, assume, BlockItems, no_more, declaration, statement, Function, Program}
 use Rattle.lra_tree.specs.Value.{Drawn, index_of, truth_of}
 use Rattle.lra_tree.specs.Step.{State, Op, append, give, give_any, push, keep, test, run_op, run_any, tested, Here, Back, Item, run, declare, all, end_of, turn, cut, mark, leave_call, Config, Turn, to_turn, Called, to_mark, target_of, go, go_by, go_on, enter, do_source, do_leave, do_break, do_continue, do_stmt, do_declare, next}
-use Rattle.lra_tree.specs.Run.{Steps, label_of, label_on, IsFailing}
+use Rattle.lra_tree.specs.Run.{Steps, label_on, IsFailing}
 use Rattle.lra_tree.specs.Graph.{Exit, broken, continued, returned, How, normal, jump, Node, empty, point, act, check, seq, choose, leave, Rounds, Ends, Comes, FailsAt}
 use Rattle.lra_tree.specs.Sites.{Site}
 use Rattle.lra_tree.specs.Inlined.{Frame, Has, HasSite, callee, Inl, InlAll, Declares, Loops, Gives, as_nothing, as_block, as_absent, as_assign, as_call, as_if, as_loop, as_for, as_break, as_continue, as_return, as_return_value, as_return_call, as_end, as_end_value, as_end_call, as_assert, as_assume, as_none, as_declaration, as_statement, as_fresh, as_given, is_loop, as_value, as_result, loop_node, call_node, return_node}

@@ -2,7 +2,7 @@
 use Rattle.std.proofs.Common.{◌≡◌, ℕ, ℤ, List, [], ◌∷◌, length, false, inl, inr, refl, sym}
 use Rattle.std.proofs.lemmas.Option.{none-some}
 use Rattle.lra_tree.specs.Program.{Program}
-use Rattle.lra_tree.specs.Step.{State, Config, Item, all, end_of}
+use Rattle.lra_tree.specs.Step.{State, Item, all, end_of}
 use Rattle.lra_tree.specs.Run.{start}
 use Rattle.lra_tree.specs.Graph.{normal, Node, seq, point, Comes, FailsAt}
 use Rattle.lra_tree.specs.Sites.{Site, sites_of}

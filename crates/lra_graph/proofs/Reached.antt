@@ -1,5 +1,5 @@
 -- What a run of a whole program comes to, its tree comes to.
-use Rattle.std.proofs.Common.{◌≡◌, ℕ, zero, suc, ℤ, List, [], ◌∷◌, length, Some, false, inl, inr, refl, sym, ap, subst, arith}
+use Rattle.std.proofs.Common.{◌≡◌, ℕ, zero, suc, List, [], ◌∷◌, length, Some, false, refl, sym, ap, subst, arith}
 use Rattle.std.proofs.lemmas.Option.{none-some}
 use Rattle.lra_tree.specs.Program.{Program}
 use Rattle.lra_tree.specs.Step.{State, Config, next, run_op, keep, end_of}
