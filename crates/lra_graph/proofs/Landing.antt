@@ -1,0 +1,84 @@
+-- Where a jump leads on a list of items, and what a step must have done.
+use Rattle.std.proofs.Common.{◌≡◌, ℕ, ℤ, List, ◌∷◌, Option, Some, None, Bool, true, false, ◌⊎◌, inl, inr, refl, sym, ap}
+use Rattle.std.proofs.lemmas.Option.{same_Some, none-some}
+use Rattle.lra_tree.specs.Value.{Drawn}
+use Rattle.lra_tree.specs.Step.{State, tested, Here, Back, Item, turn, Config, Turn, to_turn, Called, to_mark, go, go_by, go_on}
+use Rattle.lra_tree.specs.Graph.{Exit, broken, continued, returned}
+use Rattle.lra_tree.specs.Inlined.{Frame}
+
+abbrev pub config : List Item → Here → State → Config
+config k h s = record { items = k; here = h; state = s }
+
+abbrev pub land_broken : Option Turn → Here → State → Option Config
+land_broken None h s = None
+land_broken (Some t) h s = Some (config t.rest h s)
+
+abbrev pub land_continued : Option Turn → Here → State → Option Config
+land_continued None h s = None
+land_continued (Some t) h s = Some (config (turn t.step t.again t.length ∷ t.rest) h s)
+
+abbrev pub land_returned : Option Called → State → Option Config
+land_returned None s = None
+land_returned (Some r) s = Some (config r.rest r.back.here s)
+
+-- where a jump leads from above these items
+abbrev pub land : Exit → Here → List Item → State → Option Config
+land broken h k s = land_broken (to_turn k) h s
+land continued h k s = land_continued (to_turn k) h s
+land returned h k s = land_returned (to_mark k) s
+
+pub land_skip : (j : Exit) (h : Here) (i : Item) (k : List Item) (s : State) → to_turn (i ∷ k) ≡ to_turn k → to_mark (i ∷ k) ≡ to_mark k → land j h (i ∷ k) s ≡ land j h k s
+land_skip broken h i k s e f = rw e refl
+land_skip continued h i k s e f = rw e refl
+land_skip returned h i k s e f = rw f refl
+
+abbrev pub turn_length : Option Turn → Option ℕ
+turn_length None = None
+turn_length (Some t) = Some t.length
+
+abbrev pub back_of : Option Called → Option Back
+back_of None = None
+back_of (Some r) = Some r.back
+
+-- the items below are those of the frame
+pub record Matches (f : Frame) (k : List Item) : Type 0 where
+  pub loops : (m : ℕ) → f.loop ≡ Some m → turn_length (to_turn k) ≡ Some m
+  pub backs : back_of (to_mark k) ≡ f.back
+
+pub matches_skip : (f : Frame) (i : Item) (k : List Item) → to_turn (i ∷ k) ≡ to_turn k → to_mark (i ∷ k) ≡ to_mark k → Matches f k → Matches f (i ∷ k)
+matches_skip f i k e g m = record { loops = λ n h. rw e (m.loops n h); backs = rw g m.backs }
+
+pub turn_some : (o : Option Turn) (m : ℕ) → turn_length o ≡ Some m → (t : Turn) × (o ≡ Some t) × (t.length ≡ m)
+turn_some None m e = absurd (none-some m e)
+turn_some (Some t) m e = (t, refl, same_Some t.length m e)
+
+pub mark_some : (o : Option Called) (b : Back) → back_of o ≡ Some b → (r : List Item) × (o ≡ Some (record { back = b; rest = r }))
+mark_some None b e = absurd (none-some b e)
+mark_some (Some r) b e = (r.rest, ap (λ (x : Back). Some (record { back = x; rest = r.rest })) (same_Some r.back b e))
+
+pub mark_none : (o : Option Called) → back_of o ≡ None → o ≡ None
+mark_none None e = refl
+mark_none (Some r) e = absurd (none-some r.back (sym e))
+
+pub go_some : (k : List Item) (h : Here) (o : Option State) (e : Config) → go k h o ≡ Some e → (t : State) × (o ≡ Some t) × (config k h t ≡ e)
+go_some k h None e x = absurd (none-some e x)
+go_some k h (Some t) e x = (t, refl, same_Some (config k h t) e x)
+
+pub go_on_some : (o : Option State) (f : State → Option Config) (e : Config) → go_on o f ≡ Some e → (t : State) × (o ≡ Some t) × (f t ≡ Some e)
+go_on_some None f e x = absurd (none-some e x)
+go_on_some (Some t) f e x = (t, refl, x)
+
+pub go_by_some : (on off : List Item) (h : Here) (store : List ℤ) (v : Drawn Bool) (e : Config) → go_by on off h store v ≡ Some e
+    → ((t : State) × (tested true store v ≡ Some t) × (config on h t ≡ e)) ⊎ ((t : State) × (tested false store v ≡ Some t) × (config off h t ≡ e))
+go_by_some on off h store None e x = absurd (none-some e x)
+go_by_some on off h store (Some (true, ds)) e x = inl (record { store = store; draws = ds }, refl, same_Some _ e x)
+go_by_some on off h store (Some (false, ds)) e x = inr (record { store = store; draws = ds }, refl, same_Some _ e x)
+
+pub lands_broken : (o : Option Turn) (t : Turn) (h : Here) (s : State) (e : Config) → o ≡ Some t → config t.rest h s ≡ e → land_broken o h s ≡ Some e
+lands_broken o t h s e i j = rw i (ap Some j)
+
+pub lands_continued : (o : Option Turn) (t : Turn) (h : Here) (s : State) (e : Config) → o ≡ Some t → config (turn t.step t.again t.length ∷ t.rest) h s ≡ e → land_continued o h s ≡ Some e
+lands_continued o t h s e i j = rw i (ap Some j)
+
+pub lands_returned : (o : Option Called) (r : Called) (s : State) (e : Config) → o ≡ Some r → config r.rest r.back.here s ≡ e → land_returned o s ≡ Some e
+lands_returned o r s e i j = rw i (ap Some j)

@@ -1,0 +1,254 @@
+-- How long the store is where a statement is left.
+use Rattle.std.proofs.Common.{◌≡◌, ◌≢◌, ℕ, zero, suc, ◌+◌, ◌≤◌, ℤ, List, [], ◌∷◌, ◌++◌, length, Option, Some, None, Bool, true, false, ◌⊎◌, inl, inr, refl, sym, ap, ◌∙◌, arith, length-append}
+use Rattle.std.proofs.lemmas.Option.{same_Some, none-some}
+use Rattle.std.proofs.lemmas.List.{length-set, length-take-le}
+use Rattle.lra_tree.specs.Program.{Expr, Cond, Source, Stmt, BlockItems, Program}
+use Rattle.lra_tree.specs.Value.{◌>>=◌, draw, value_of, values_of, truth_of, Drawn}
+use Rattle.lra_tree.specs.Step.{State, Op, append, give, give_any, push, keep, test, run_op, run_any, put, given, pushed, kept_if, tested, Back}
+use Rattle.lra_tree.specs.Graph.{Exit, broken, continued, returned, How, normal, jump, Node, empty, choose, Rounds, Ends, point, act, seq, leave, check}
+use Rattle.lra_tree.specs.Sites.{Site}
+use Rattle.lra_tree.specs.Inlined.{Frame, callee, Inl, InlAll, Declares, Loops, Gives, as_nothing, as_block, as_absent, as_assign, as_call, as_if, as_loop, as_for, as_break, as_continue, as_return, as_return_value, as_return_call, as_end, as_end_value, as_end_call, as_assert, as_assume, as_none, as_declaration, as_statement, as_fresh, as_given, is_loop, as_value, as_result, loop_node, call_node, return_node}
+use Rattle.lra_graph.proofs.Shapes.{seq_inv, act_inv, point_inv, leave_inv, EndsBody, EndsCall, call_inv, check_inv, Round, round_inv, LeavesRound, loop_inv}
+
+length_put : (x : Option ℕ) (z : ℤ) (store : List ℤ) → length (put x z store) ≡ length store
+length_put None z store = refl
+length_put (Some x) z store = length-set store x z
+
+length_given : (x : Option ℕ) (store : List ℤ) (v : Drawn ℤ) (t : State) → given x store v ≡ Some t → length t.store ≡ length store
+length_given x store None t e = absurd (none-some t e)
+length_given x store (Some r) t e = rw (← same_Some _ t e) (length_put x r.0 store)
+
+length_any : (x : Option ℕ) (s t : State) → run_any x s ≡ Some t → length t.store ≡ length s.store
+length_any None s t e = rw (← same_Some s t e) refl
+length_any (Some x) s t e = length_given (Some x) s.store (draw s.draws) t e
+
+length_appended : (s t : State) (v : Drawn ℤ) → (v >>= λ r. Some (record { store = s.store ++ r.0 ∷ []; draws = r.1 })) ≡ Some t → length t.store ≡ suc (length s.store)
+length_appended s t None e = absurd (none-some t e)
+length_appended s t (Some r) e = rw (← same_Some _ t e, length-append) (omega arith)
+
+length_kept_if : (b d : Bool) (s t : State) → kept_if b d s ≡ Some t → t ≡ s
+length_kept_if true true s t e = sym (same_Some s t e)
+length_kept_if false false s t e = sym (same_Some s t e)
+length_kept_if true false s t e = absurd (none-some t e)
+length_kept_if false true s t e = absurd (none-some t e)
+
+store_tested : (b : Bool) (store : List ℤ) (v : Drawn Bool) (t : State) → tested b store v ≡ Some t → t.store ≡ store
+store_tested b store None t e = absurd (none-some t e)
+store_tested b store (Some r) t e = ap (λ (u : State). u.store) (length_kept_if b r.0 _ t e)
+
+pub length_test : (base : ℕ) (c : Cond) (b : Bool) (s t : State) → run_op (test base c b) s ≡ Some t → length t.store ≡ length s.store
+length_test base c b s t e = ap length (store_tested b s.store (truth_of c base s.store s.draws) t e)
+
+pub length_keep : (n : ℕ) (s t : State) → n ≤ length s.store → run_op (keep n) s ≡ Some t → length t.store ≡ n
+length_keep n s t l e = rw (← same_Some _ t e) (length-take-le n s.store l)
+
+-- values, as many as expressions
+length_cons : (z : ℤ) (n : ℕ) (v : Drawn (List ℤ)) (r : List ℤ × List ℤ) → ((q : List ℤ × List ℤ) → v ≡ Some q → length q.0 ≡ n) → (v >>= λ s. Some (z ∷ s.0, s.1)) ≡ Some r → length r.0 ≡ suc n
+length_cons z n None r h e = absurd (none-some r e)
+length_cons z n (Some q) r h e = rw (← same_Some _ r e) (ap suc (h q refl))
+
+length_values : (es : List Expr) (base : ℕ) (store draws : List ℤ) (r : List ℤ × List ℤ) → values_of es base store draws ≡ Some r → length r.0 ≡ length es
+length_values [] base store draws r e = rw (← same_Some _ r e) refl
+length_values (a ∷ es) base store draws r e = first (value_of a base store draws) (λ ds q. length_values es base store ds q) r e
+  where
+    first : (v : Drawn ℤ) → ((ds : List ℤ) (q : List ℤ × List ℤ) → values_of es base store ds ≡ Some q → length q.0 ≡ length es) → (r : List ℤ × List ℤ)
+        → (v >>= λ w. values_of es base store w.1 >>= λ s. Some (w.0 ∷ s.0, s.1)) ≡ Some r → length r.0 ≡ suc (length es)
+    first None h r e = absurd (none-some r e)
+    first (Some w) h r e = length_cons w.0 (length es) (values_of es base store w.1) r (h w.1) e
+
+length_pushed : (store : List ℤ) (n : ℕ) (v : Drawn (List ℤ)) (t : State) → ((r : List ℤ × List ℤ) → v ≡ Some r → length r.0 ≡ n) → pushed store v ≡ Some t → length t.store ≡ length store + n
+length_pushed store n None t h e = absurd (none-some t e)
+length_pushed store n (Some r) t h e = rw (← same_Some _ t e, length-append, h r refl) refl
+
+pub length_push : (base : ℕ) (es : List Expr) (s t : State) → run_op (push base es) s ≡ Some t → length t.store ≡ length s.store + length es
+length_push base es s t e = length_pushed s.store (length es) (values_of es base s.store s.draws) t (length_values es base s.store s.draws) e
+
+pub length_append : (s t : State) → run_op append s ≡ Some t → length t.store ≡ suc (length s.store)
+length_append s t e = length_appended s t (draw s.draws) e
+
+-- where a jump leads, the store is as long as it was there
+abbrev pub JumpLength : Frame → Exit → State → Type 0
+JumpLength f broken t = (m : ℕ) × (f.loop ≡ Some m) × (length t.store ≡ m)
+JumpLength f continued t = (m : ℕ) × (f.loop ≡ Some m) × (length t.store ≡ m)
+JumpLength f returned t = (b : Back) → f.back ≡ Some b → length t.store ≡ b.length
+
+abbrev pub LengthAt : Frame → ℕ → How → State → Type 0
+LengthAt f n normal t = length t.store ≡ n
+LengthAt f n (jump j) t = JumpLength f j t
+
+back_length : (f : Frame) (b : Back) (t : State) → f.back ≡ Some b → length t.store ≡ b.length → JumpLength f returned t
+back_length f b t e l b' e' = rw l (ap (λ (c : Back). c.length) (same_Some b b' (sym e ∙ e')))
+
+-- store lengths never fall below where a list of items began
+pub grows_all : {P : Program} {T : List Site} {f : Frame} {n q : ℕ} {s : BlockItems} {g : Node} {n' q' : ℕ} → InlAll P T f n q s g n' q' → n ≤ n'
+grows_all (as_none f n q) = omega arith
+grows_all (as_declaration f n q d b g h r n' q' i j e) = let rest = grows_all e in omega arith
+grows_all (as_statement f n q a b g h r n' q' d e) = grows_all e
+
+-- begun with n variables the tree ends with n', or jumps with as many as there are at the jump's end
+pub record Length (f : Frame) (n n' : ℕ) (g : Node) : Type 0 where
+  pub ends : (s t : State) (h : How) → length s.store ≡ n → Ends g s h t → LengthAt f n' h t
+
+seq_length : {f : Frame} {n n1 n2 : ℕ} (a b : Node) → Length f n n1 a → Length f n1 n2 b → Length f n n2 (seq a b)
+seq_length {f = f} {n2 = n2} a b x y = record {
+  ends = λ s t h l e. elim (seq_inv a b s h t e) as (λ z. LengthAt f n2 h t) [
+    | inl i ↦ rw i.1 (x.ends s t (jump i.0) l i.2)
+    | inr i ↦ y.ends i.0 t h (x.ends s i.0 normal l i.1) i.2
+  ];
+}
+
+point_length : {f : Frame} {n : ℕ} (q : ℕ) → Length f n n (point q)
+point_length q = record { ends = λ s t h l e. let x = point_inv q s h t e in rw (x.0, x.1) l }
+
+act_length : {f : Frame} {n n' : ℕ} (q : ℕ) (op : Op) → ((s t : State) → length s.store ≡ n → run_op op s ≡ Some t → length t.store ≡ n') → Length f n n' (act q op)
+act_length q op o = record { ends = λ s t h l e. let x = act_inv q op s h t e in rw x.0 (o s t l x.1) }
+
+keep_length : {f : Frame} {n : ℕ} (q m : ℕ) → m ≤ n → Length f n m (act q (keep m))
+keep_length q m k = act_length q (keep m) (λ s t l e. length_keep m s t (omega arith) e)
+
+append_length : {f : Frame} {n : ℕ} (q : ℕ) → Length f n (suc n) (act q append)
+append_length q = act_length q append (λ s t l e. length_appended s t (draw s.draws) e ∙ ap suc l)
+
+give_length : {f : Frame} {n : ℕ} (q base : ℕ) (x : Option ℕ) (a : Expr) → Length f n n (act q (give base x a))
+give_length q base x a = act_length q (give base x a) (λ s t l e. length_given x s.store (value_of a base s.store s.draws) t e ∙ l)
+
+any_length : {f : Frame} {n : ℕ} (q : ℕ) (x : Option ℕ) → Length f n n (act q (give_any x))
+any_length q x = act_length q (give_any x) (λ s t l e. length_any x s t e ∙ l)
+
+test_length : {f : Frame} {n : ℕ} (q base : ℕ) (c : Cond) (b : Bool) → Length f n n (act q (test base c b))
+test_length q base c b = act_length q (test base c b) (λ s t l e. length_test base c b s t e ∙ l)
+
+check_length : {f : Frame} {n : ℕ} (q base : ℕ) (c : Cond) → Length f n n (check q base c)
+check_length q base c = record { ends = λ s t h l e. let x = check_inv q base c s h t e in rw x.0 (length_test base c true s t x.1 ∙ l) }
+
+-- behind a jump any number
+break_length : {f : Frame} {m n : ℕ} (live : ℕ) → f.loop ≡ Some m → Length f m n (leave live broken)
+break_length {m = m} live i = record { ends = λ s t h l e. let x = leave_inv live broken s h t e in rw (x.0, x.1) (m, i, l) }
+
+continue_length : {f : Frame} {m n : ℕ} (live : ℕ) → f.loop ≡ Some m → Length f m n (leave live continued)
+continue_length {m = m} live i = record { ends = λ s t h l e. let x = leave_inv live continued s h t e in rw (x.0, x.1) (m, i, l) }
+
+return_length : {f : Frame} {n : ℕ} (live : ℕ) (b : Back) → f.back ≡ Some b → Length f b.length n (leave live returned)
+return_length {f = f} live b i = record { ends = λ s t h l e. let x = leave_inv live returned s h t e in rw (x.0, x.1) (back_length f b s i l) }
+
+end_length : {f : Frame} {m n : ℕ} (live : ℕ) → f.back ≡ None → Length f m n (leave live returned)
+end_length live i = record { ends = λ s t h l e. let x = leave_inv live returned s h t e in rw (x.0, x.1) (λ b j. absurd (none-some b (sym i ∙ j))) }
+
+return_node_length : {f : Frame} {n : ℕ} (q : ℕ) (op : Op) (b : Back) → f.back ≡ Some b → b.length ≤ n → Length f n n (act q op) → Length f n n (return_node q op b.length n)
+return_node_length {n = n} q op b i k a = seq_length _ _ a (seq_length _ _ (keep_length q b.length k) (return_length n b i))
+
+choose_length : {f : Frame} {n n' : ℕ} (q base : ℕ) (c : Cond) (a b : Node) → Length f n n' a → Length f n n' b → Length f n n' (choose q base c a b)
+choose_length {f = f} {n' = n'} q base c a b x y = record {
+  ends = λ s t h l e. elim e as (λ z. LengthAt f n' h t) [
+    | inl i ↦ x.ends i.0 t h (length_test base c true s i.0 i.1 ∙ l) i.2
+    | inr i ↦ y.ends i.0 t h (length_test base c false s i.0 i.1 ∙ l) i.2
+  ];
+}
+
+abbrev pub in_loop : Frame → Option ℕ → Frame
+in_loop f l = record f { loop = l }
+
+returned_broken : returned ≡ broken → ⊥
+returned_broken i = cc
+
+-- of a loop that begins with n variables, its body g and its step
+module _ (f : Frame) (n : ℕ) (g step : Node) (x : Length (in_loop f (Some n)) n n g) (y : Length (in_loop f None) n n step) where
+  pub mid_length : (s t : State) → length s.store ≡ n → Ends g s normal t ⊎ Ends g s (jump continued) t → length t.store ≡ n
+  mid_length s t l (inl e) = x.ends s t normal l e
+  mid_length s t l (inr e) = let z = x.ends s t (jump continued) l e in z.2 ∙ sym (same_Some _ _ z.1)
+
+  pub rounds_length : (q base : ℕ) (c : Cond) (k : ℕ) (s t : State) → length s.store ≡ n → Rounds (Round q base c g step) k s t → length t.store ≡ n
+  rounds_length q base c zero s t l r = rw r l
+  rounds_length q base c (suc k) s t l (m, r, o) =
+      let before = rounds_length q base c k s m l r in
+      let round = round_inv q base c g step m t o in
+      y.ends round.mid t normal (mid_length round.on round.mid (length_test base c true m round.on round.tests ∙ before) round.body) round.steps
+
+  pub leaves_length : (s : State) (j : Exit) (t : State) → length s.store ≡ n → LeavesRound g step s j t → (j ≢ broken → JumpLength f j t) × (j ≡ broken → length t.store ≡ n)
+  leaves_length s broken t l (inl (d, e)) = (λ i. absurd (i refl), λ i. let z = x.ends s t (jump broken) l e in z.2 ∙ sym (same_Some _ _ z.1))
+  leaves_length s continued t l (inl (d, e)) = absurd (d refl)
+  leaves_length s returned t l (inl (d, e)) = (λ i. x.ends s t (jump returned) l e, λ i. absurd (returned_broken i))
+  leaves_length s broken t l (inr (m, b, e)) = let z = y.ends m t (jump broken) (mid_length s m l b) e in absurd (none-some _ z.1)
+  leaves_length s continued t l (inr (m, b, e)) = let z = y.ends m t (jump continued) (mid_length s m l b) e in absurd (none-some _ z.1)
+  leaves_length s returned t l (inr (m, b, e)) = (λ i. y.ends m t (jump returned) (mid_length s m l b) e, λ i. absurd (returned_broken i))
+
+  after_length : (base : ℕ) (c : Cond) (h : How) (m t : State) → length m.store ≡ n → (((h ≡ normal) × (run_op (test base c false) m ≡ Some t))
+      ⊎ ((w : State) × (j : Exit) × (run_op (test base c true) m ≡ Some w) × LeavesRound g step w j t × (((j ≡ broken) × (h ≡ normal)) ⊎ ((j ≢ broken) × (h ≡ jump j))))) → LengthAt f n h t
+  after_length base c h m t k (inl (i, o)) = rw i (length_test base c false m t o ∙ k)
+  after_length base c h m t k (inr (w, j, o, z, inl (i, i'))) = rw i' ((leaves_length w j t (length_test base c true m w o ∙ k) z).1 i)
+  after_length base c h m t k (inr (w, j, o, z, inr (i, i'))) = rw i' ((leaves_length w j t (length_test base c true m w o ∙ k) z).0 i)
+
+  loop_length : (q base : ℕ) (c : Cond) → Length f n n (loop_node q base c g step)
+  loop_length q base c = record {
+    ends = λ s t h l e.
+        let r = loop_inv q base c g step s h t e in
+        after_length base c h r.1 t (rounds_length q base c r.0 s r.1 l r.2) r.3;
+  }
+
+-- of a call whose body is g
+module _ (f : Frame) (n r : ℕ) (x : Option ℕ) (es : List Expr) (params : ℕ) (g : Node) (f' : Frame) (n' : ℕ) (i : length es ≡ params) (no_loop : f'.loop ≡ None)
+    (j : f'.back ≡ Some (record { target = x; here = f.here; length = n })) (d : n + params ≤ n') (y : Length f' (n + params) n' g) where
+  no_jump : (kind : Exit) (u : State) → kind ≢ returned → JumpLength f' kind u → ⊥
+  no_jump broken u z w = none-some _ (sym no_loop ∙ w.1)
+  no_jump continued u z w = none-some _ (sym no_loop ∙ w.1)
+  no_jump returned u z w = z refl
+
+  end_of_body : (u t : State) → length u.store ≡ n + params → EndsBody r n x params g u t → length t.store ≡ n
+  end_of_body u t o b =
+      let one : length b.before.store ≡ n' = y.ends u b.before normal o b.body in
+      let two : length b.cut.store ≡ n + params = length_keep (n + params) b.before b.cut (omega arith) b.cuts in
+      let three : length b.set.store ≡ n + params = length_any x b.cut b.set b.sets ∙ two in
+      length_keep n b.set t (omega arith) b.back
+
+  after_call_length : (s t : State) (h : How) → length s.store ≡ n → EndsCall r f.here.base n x es params g s h t → LengthAt f n h t
+  after_call_length s t h l (u, o, inl (a, b)) = rw a (y.ends u t (jump returned) (length_push f.here.base es s u o ∙ rw (l, i) refl) b _ j)
+  after_call_length s t h l (u, o, inr (inl (a, b))) = rw a (end_of_body u t (length_push f.here.base es s u o ∙ rw (l, i) refl) b)
+  after_call_length s t h l (u, o, inr (inr (kind, a, z, b))) = absurd (no_jump kind t z (y.ends u t (jump kind) (length_push f.here.base es s u o ∙ rw (l, i) refl) b))
+
+  call_length : (q : ℕ) → Length f n n (call_node q r f.here.base n x es params g)
+  call_length q = record { ends = λ s t h l e. after_call_length s t h l (call_inv q r f.here.base n x es params g s h t e) }
+
+empty_length : (f : Frame) (n : ℕ) (s t : State) (h : How) → length s.store ≡ n → Ends empty s h t → LengthAt f n h t
+empty_length f n s t normal l e = rw e l
+empty_length f n s t (jump j) l e = absurd e
+
+mutual
+  pub length_one : {P : Program} {T : List Site} {f : Frame} {n q : ℕ} {s : Stmt} {g : Node} {n' q' : ℕ} → Inl P T f n q s g n' q' → Length f n n' g
+  length_one (as_nothing f n q at i) = point_length q
+  length_one (as_block f n q body end g n' q' d i) = seq_length _ _ (length_all d) (seq_length _ _ (point_length q') (keep_length q' n (grows_all d)))
+  length_one (as_absent f n q) = record { ends = λ s t h l e. empty_length f n s t h l e }
+  length_one (as_assign f n q at x e g q' i d) = seq_length _ _ (point_length q) (length_gives d)
+  length_one (as_call f n q at c g q' i d) = seq_length _ _ (point_length q) (length_gives d)
+  length_one (as_if f n q at c a b g h r q' i d e) = seq_length _ _ (point_length q) (choose_length q f.here.base c g h (length_one d) (length_one e))
+  length_one (as_loop f n q s g q' d) = length_loop d
+  length_one (as_for f n q init again g h n' r q' d e) = seq_length _ _ (length_all d) (seq_length _ _ (length_loop e) (keep_length q n (grows_all d)))
+  length_one (as_break f n q at m i k j) = seq_length _ _ (point_length q) (seq_length _ _ (keep_length q m k) (break_length n i))
+  length_one (as_continue f n q at m i k j) = seq_length _ _ (point_length q) (seq_length _ _ (keep_length q m k) (continue_length n i))
+  length_one (as_return f n q at b i k j) = seq_length _ _ (point_length q) (return_node_length q _ b i k (any_length q b.target))
+  length_one (as_return_value f n q at e b i k j) = seq_length _ _ (point_length q) (return_node_length q _ b i k (give_length q f.here.base b.target e))
+  length_one (as_return_call f n q at c b g q' i k j d) = seq_length _ _ (point_length q) (seq_length _ _ (length_gives d) (seq_length _ _ (keep_length q b.length k) (return_length n b i)))
+  length_one (as_end f n q at i j) = seq_length _ _ (point_length q) (end_length n i)
+  length_one (as_end_value f n q at e i j) = seq_length _ _ (point_length q) (end_length n i)
+  length_one (as_end_call f n q at c g q' i j d) = seq_length _ _ (point_length q) (seq_length _ _ (length_gives d) (end_length n i))
+  length_one (as_assert f n q at c i) = seq_length _ _ (point_length q) (check_length q f.here.base c)
+  length_one (as_assume f n q at c i) = seq_length _ _ (point_length q) (test_length q f.here.base c true)
+
+  pub length_all : {P : Program} {T : List Site} {f : Frame} {n q : ℕ} {s : BlockItems} {g : Node} {n' q' : ℕ} → InlAll P T f n q s g n' q' → Length f n n' g
+  length_all (as_none f n q) = record { ends = λ s t h l e. empty_length f n s t h l e }
+  length_all (as_declaration f n q d b g h r n' q' i j e) = seq_length _ _ (seq_length _ _ (point_length q) (length_declares j)) (length_all e)
+  length_all (as_statement f n q a b g h r n' q' d e) = seq_length _ _ (length_one d) (length_all e)
+
+  pub length_declares : {P : Program} {T : List Site} {f : Frame} {n q r : ℕ} {e : Option Source} {g : Node} {q' : ℕ} → Declares P T f n q r e g q' → Length f n (suc n) g
+  length_declares (as_fresh f n q r) = append_length q
+  length_declares (as_given f n q r e g q' d) = seq_length _ _ (append_length q) (length_gives d)
+
+  pub length_loop : {P : Program} {T : List Site} {f : Frame} {n q r : ℕ} {s : Stmt} {g : Node} {q' : ℕ} → Loops P T f n q r s g q' → Length f n n g
+  length_loop (is_loop f n q r at c a step g h r' q' i d e) = loop_length f n g h (length_one e) (length_one d) q f.here.base c
+
+  pub length_gives : {P : Program} {T : List Site} {f : Frame} {n q r : ℕ} {x : Option ℕ} {e : Source} {g : Node} {q' : ℕ} → Gives P T f n q r x e g q' → Length f n n g
+  length_gives (as_value f n q r x e) = give_length q f.here.base x e
+  length_gives (as_result f n q r x c fn g n' r' i j d k) = call_length f n r' x c.arguments fn.parameters g (callee f n x c) n' j refl refl (grows_all d) (length_all d) q
+
+-- a declarator's point, and what follows it
+pub length_declarator : {P : Program} {T : List Site} {f : Frame} {n r : ℕ} {e : Option Source} {g : Node} {q' : ℕ} (q : ℕ) → Declares P T f n q r e g q' → Length f n (suc n) (seq (point q) g)
+length_declarator q d = seq_length _ _ (point_length q) (length_declares d)

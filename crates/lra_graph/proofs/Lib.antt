@@ -1,0 +1,14 @@
+-- What runs of trees are made of, and how long stores are.
+pub mod Shapes
+pub mod Lengths
+-- Runs of programs against runs of trees, from programs to trees and back.
+pub mod Landing
+pub mod Split
+pub mod Does
+-- Whole programs.
+pub mod Reached
+pub mod Performed
+pub mod Agreement
+-- Points are distinct.
+pub mod DistinctLists
+pub mod DistinctSites

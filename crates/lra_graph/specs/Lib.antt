@@ -1,0 +1,2 @@
+-- In the order in which they are to be read.
+pub mod Agreement
