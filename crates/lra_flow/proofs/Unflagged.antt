@@ -25,7 +25,7 @@ exact_before q Flagged None h = cc
 none_flagged : Matters (λ e. e ≡ Exact) (λ f. f ≡ None)
 none_flagged = record { parts = exact_parts; before = exact_before }
 
-any_matters : Matters (λ e. Unit {0}) (λ f. Unit {0})
+pub any_matters : Matters (λ e. Unit {0}) (λ f. Unit {0})
 any_matters = record { parts = λ c d k. (tt, tt); before = λ q e f k. (tt, tt) }
 
 exact_ones : {V H : Type 0} (m : Meaning V H) → Transfers (λ e. e ≡ Exact) (dropping m) (defined m)
