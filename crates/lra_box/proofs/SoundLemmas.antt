@@ -1,6 +1,7 @@
 -- Intervals in order hold some number, and the tables keep them in order.
 use Rattle.std.proofs.Common.{◌≡◌, ℕ, zero, suc, Bool, true, false, cond, ℤ, pos, List, [], ◌∷◌, ◌++◌, take, replicate, Option, None, Some, IfSome, refl, arith}
-use Rattle.std.specs.Prelude.{slice_set, slice_index_or, int_lt}
+use Rattle.std.specs.Prelude.{slice_set, slice_index_or, int_lt, IsTrue, ◌↔◌, not, is_some, Vec}
+use Rattle.std.specs.declared.alloc.Global.{Global}
 use Rattle.std.proofs.lemmas.Int.{ints, clamps}
 use Rattle.lra_linear.specs.Range.{InRange}
 use Rattle.lra_domain.specs.declared.Mode.{Mode}
@@ -8,8 +9,8 @@ use Rattle.lra_domain.specs.declared.Mode.TheVariants.{Join, Widen, Limited}
 use Rattle.lra_box.specs.declared.interval.Interval.{Interval}
 use Rattle.lra_box.specs.declared.interval.Side.TheVariants.{Low, High}
 use Rattle.lra_box.specs.Bounds.{BoundHolds, InInterval, InBounds, open_interval, crossed, crossed_ends, IsSound, AllSound}
-use Rattle.lra_box.specs.Content.{BoundsSound}
-use Rattle.lra_box.specs.Tables.{lesser_low, greater_high, joined_intervals, joined_bounds, widened_low, widened_high, widened_intervals, widened_bounds, grown_bounds}
+use Rattle.lra_box.specs.Content.{BoundsSound, seen}
+use Rattle.lra_box.specs.Tables.{has_bounds, lesser_low, greater_high, joined_intervals, joined_bounds, widened_low, widened_high, widened_intervals, widened_bounds, grown_bounds}
 use Rattle.lra_box.proofs.BoxLemmas.{low_left, high_left}
 use Rattle.lra_box.proofs.BoundLemmas.{widen_low_old, widen_high_old}
 
@@ -115,3 +116,10 @@ pub grown_sound : (mode : Mode) (a b : Option (List Interval)) → BoundsSound a
 grown_sound Join a b h k = joined_sound a b h k
 grown_sound Widen a b h k = widened_sound a _ h (joined_sound a b h k)
 grown_sound Limited a b h k = widened_sound a _ h (joined_sound a b h k)
+
+-- the bounds are absent exactly where there is no store
+pub none_stores : (b : Option (Vec Interval Global)) (answer : Bool) → is_some b ≡ not answer → BoundsSound (seen b) → IsTrue answer ↔ ((s : List ℤ) → ¬ has_bounds (seen b) s)
+none_stores None true e h = (λ t s k. k, λ none. refl)
+none_stores None false e h = absurd (let no : false ≡ true = e in cc)
+none_stores (Some v) true e h = absurd (let no : true ≡ false = e in cc)
+none_stores (Some v) false e h = (λ t. cc, λ none. let s = some_store v.items h in absurd (none s.0 s.1))

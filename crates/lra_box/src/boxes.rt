@@ -1,6 +1,6 @@
 //! Boxes as a domain.
 
-ghost use Rattle.std.specs.Prelude.{◌≤◌, ◌^◌, refl};
+ghost use Rattle.std.specs.Prelude.{◌≡◌, ◌↔◌, ◌≤◌, ◌^◌, refl, IsTrue, ℤ, List, []};
 ghost use Rattle.lra_box.specs.Meaning.{box_meaning};
 
 use crate::bounds::{
@@ -72,7 +72,11 @@ impl Domain for Boxes {
         self.dims
     }
 
-    fn is_empty(&self) -> bool {
+    /// Yes exactly where there is no part, and exactly where there is no store.
+    fn is_empty(&self) -> bool
+        ensures parts { IsTrue result ↔ (box_meaning.parts self.now ≡ []) }
+        ensures stores { IsTrue result ↔ ((s : List ℤ) → ¬ box_meaning.has self.now s) }
+    {
         self.bounds.is_none()
     }
 

@@ -1,6 +1,6 @@
 -- What a domain's values and heads mean.
 -- The value that contracts see is the content of a value or a head: so equal contents are equal values.
-use Rattle.std.specs.Prelude.{◌≡◌, ℕ, ℤ, List, ◌⊎◌}
+use Rattle.std.specs.Prelude.{◌≡◌, ℕ, ℤ, List, length, ◌⊎◌}
 use Rattle.lra_sys.specs.Listed.{Listed}
 use Rattle.lra_sys.specs.declared.system.ConKind.{ConKind}
 use Rattle.lra_domain.specs.Actions.{Action, Leads, Within}
@@ -38,10 +38,10 @@ pub record Meaning (V H : Type 0) : Type 1 where
   pub head_covered : H → H → Type 0
   -- the head that starts with the value, for the given rows
   pub started : V → Listed ConKind → H → Type 0
-  -- next is included in the head; when that may be answered as no
+  -- next is included in the head; when that may stay undecided
   pub stays : H → V → Mode → Type 0
   pub stay_strains : H → V → Mode → Type 0
-  -- the defined growth of the head by next; when it may be flagged
+  -- the defined growth of the head by next; when its join or its widening may be flagged
   pub grown : H → V → Mode → H → Type 0
   pub grow_strains : H → V → Mode → Type 0
   -- the defined value of the head; when it may be flagged
@@ -76,16 +76,25 @@ pub record Stays {V H : Type 0} (m : Meaning V H) (head : H) (next : V) (mode : 
   pub stores : Within (m.has next) (m.head_has head)
   pub stays : m.stays head next mode
 
+-- the head has all stores of its dimensions
+abbrev pub HasAll : {V H : Type 0} → Meaning V H → H → Type 0
+HasAll m h = (s : List ℤ) → length s ≡ m.head_dims h → m.head_has h s
+
+-- a growth by next may be flagged: its inclusion strains, or next isn't in the head and the join or the widening strains
+abbrev pub GrowthStrains : {V H : Type 0} → Meaning V H → H → V → Mode → Type 0
+GrowthStrains m old next mode = m.stay_strains old next mode ⊎ ((¬ m.stays old next mode) × m.grow_strains old next mode)
+
 -- a head that grew by next
 pub record Grew {V H : Type 0} (m : Meaning V H) (old : H) (next : V) (mode : Mode) (exactness : Exactness) (new : H) : Type 0 where
   pub kept : Within (m.head_has old) (m.head_has new)
   pub added : Within (m.has next) (m.head_has new)
-  -- next wasn't included, or that was answered so by a strain
+  -- an exact growth is the defined one, by a next that isn't in the head
   pub moved : exactness ≡ Exact → ¬ m.stays old next mode
-  pub moved_or_strained : exactness ≡ Flagged → (¬ m.stays old next mode) ⊎ m.stay_strains old next mode
   pub exact : exactness ≡ Exact → m.grown old next mode new
   pub covers : exactness ≡ Flagged → (h : H) → m.grown old next mode h → m.head_covered h new
-  pub flagged : exactness ≡ Flagged → m.grow_strains old next mode
+  -- a flag comes from a strain: of the inclusion, and then the new head has all stores, whether next was in the old one or not;
+  -- or of the join or the widening, by a next that isn't in the head
+  pub flagged : exactness ≡ Flagged → (m.stay_strains old next mode × HasAll m new) ⊎ ((¬ m.stays old next mode) × m.grow_strains old next mode)
 
 -- the value of a head
 pub record Values {V H : Type 0} (m : Meaning V H) (head : H) (exactness : Exactness) (new : V) : Type 0 where

@@ -29,7 +29,9 @@ use std::alloc::{AllocError, Global};
 /// comes only where next lies in the head. `included` says `Yes`, and `is_empty` true, only where it is so.
 ///
 /// **Exactness.** `Exact`, `Yes` and `No` give the defined result. `Flagged` gives one that covers it; `Flagged` and `Wide`
-/// come only where the call strains on its operands. After `Grew(Exact)` next did not lie in the head before.
+/// come only where the call strains on its operands. After `Grew(Exact)` next did not lie in the head before. Where the
+/// inclusion of next strains, `grow` answers `Grew(Flagged)` and the head has all stores, whether next lay in it or not; any
+/// other `Grew(Flagged)` comes from a join or a widening that strains, by a next that did not lie in the head.
 ///
 /// **Ranks.** After `Grew` in mode `Widen` or `Limited` the rank is lower than before, also when flagged: this is why an
 /// iteration ends. Each number of a rank is a u64.

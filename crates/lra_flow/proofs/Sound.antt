@@ -101,10 +101,10 @@ module _ (V H : Type 0) (m : Meaning V H) (keeps : ChangesKeep m) (set : Setting
       × ((s t : State) → m.head_has last s.store → Round base c a s t → m.head_has last t.store)
       × ((g : Option ℕ) × GoesRound V H (dropping m) q base c (Pass V H (dropping m) set a) g v r)
   grows_keeps limited left f h [] v r ((e, valued, turn), stays) =
-      (h, λ st k. k, valued.0.stores, λ s t k one. stays.stores t.store (round_keeps (noted q e f) v r turn s t (valued.0.stores s.store k) one), (noted q e f, turn))
+      (h, λ st k. k, valued.0.stores, λ s t k one. stays.0.stores t.store (round_keeps (noted q e f) v r turn s t (valued.0.stores s.store k) one), (noted q e f, turn))
   grows_keeps limited left f h (next ∷ later) v r (u, x, e, turn, grown, rest) =
       let i = grows_keeps limited (left - 1) (noted q e x.flag) next later v r rest in
-      (i.0, λ st k. i.1 st (grown.0.0.kept st k), i.2, i.3, i.4)
+      (i.0, λ st k. i.1 st (grown.0.kept st k), i.2, i.3, i.4)
 
   -- narrowed, the value still has all that some rounds reach from the first one
   narrows_keeps : (more : ℕ) (first u : V) (x : Result V) (v : V) (r : Result V) → Narrows V H (dropping m) q base c (Pass V H (dropping m) set a) more first u x v r

@@ -1,5 +1,5 @@
 -- What a derivation with drops says of the written iteration.
-use Rattle.std.proofs.Common.{◌≡◌, ℕ, Option, None, Some, refl}
+use Rattle.std.proofs.Common.{◌≡◌, ℕ, Option, None, Some, refl, inl, inr}
 use Rattle.lra_domain.specs.Meaning.{Meaning}
 use Rattle.lra_domain.specs.declared.Exactness.{Exactness}
 use Rattle.lra_domain.specs.declared.Exactness.TheVariants.{Exact, Flagged}
@@ -25,7 +25,7 @@ exact_before q Flagged None h = cc
 none_flagged : Matters (λ e. e ≡ Exact) (λ f. f ≡ None)
 none_flagged = record { parts = exact_parts; before = exact_before }
 
-any_matters : Matters (λ e. Unit {0}) (λ f. Unit {0})
+pub any_matters : Matters (λ e. Unit {0}) (λ f. Unit {0})
 any_matters = record { parts = λ c d k. (tt, tt); before = λ q e f k. (tt, tt) }
 
 exact_ones : {V H : Type 0} (m : Meaning V H) → Transfers (λ e. e ≡ Exact) (dropping m) (defined m)
@@ -33,8 +33,8 @@ exact_ones m = record {
   changed = λ step v e w k h. (k, h.0.exact k);
   joined = λ u v e w k h. (k, h.0.exact k);
   started = λ v rows h s. s.0.started;
-  stays = λ h v mode s. s.stays;
-  grown = λ h v mode e next k g. (k, g.0.0.moved k, g.0.0.exact k);
+  stays = λ h v mode s. s.0.stays;
+  grown = λ h v mode e next k g. (k, g.0.moved k, g.0.exact k);
   valued = λ h e v k s. (k, s.0.exact k);
 }
 
@@ -43,8 +43,8 @@ strained_ones m = record {
   changed = λ step v e w k h. (h.0.exact, h.0.flagged);
   joined = λ u v e w k h. (h.0.exact, h.0.flagged);
   started = λ v rows h s. s.0.started;
-  stays = λ h v mode s. s.stays;
-  grown = λ h v mode e next k g. (λ is. (g.0.0.moved is, g.0.0.exact is), g.0.0.flagged);
+  stays = λ h v mode s. s.0.stays;
+  grown = λ h v mode e next k g. (λ is. (g.0.moved is, g.0.exact is), λ is. elim (g.0.flagged is) [ inl a ↦ inl a.0 | inr b ↦ inr b ]);
   valued = λ h e v k s. (s.0.exact, s.0.flagged);
 }
 

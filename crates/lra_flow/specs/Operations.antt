@@ -1,13 +1,13 @@
 -- The operations of which an iteration is made. Each is a relation of its operands, its exactness and its result, so that one
 -- definition of the iteration serves for the written one, for one in which operations may be flagged, and for where one strains.
-use Rattle.std.specs.Prelude.{◌≡◌, ℕ, ℤ, List, length}
+use Rattle.std.specs.Prelude.{◌≡◌, ℕ}
 use Rattle.lra_sys.specs.Listed.{Listed}
 use Rattle.lra_sys.specs.declared.system.ConKind.{ConKind}
 use Rattle.lra_domain.specs.Actions.{Action, dims_after}
 use Rattle.lra_domain.specs.declared.Mode.{Mode}
 use Rattle.lra_domain.specs.declared.Exactness.{Exactness}
 use Rattle.lra_domain.specs.declared.Exactness.TheVariants.{Exact, Flagged}
-use Rattle.lra_domain.specs.Meaning.{Meaning, Meets, Joins, Starts, Stays, Grew, Values}
+use Rattle.lra_domain.specs.Meaning.{Meaning, Meets, Joins, Starts, Stays, GrowthStrains, Grew, Values}
 
 pub record Operations (V H : Type 0) : Type 1 where
   pub dims : V → ℕ
@@ -36,22 +36,18 @@ defined m = record {
   valued = λ h e v. (e ≡ Exact) × m.valued h v;
 }
 
--- where a value that lies in the head was yet answered as not lying in it, since that inclusion strains, the head has all stores
-abbrev pub IsGrowth : {V H : Type 0} → Meaning V H → H → V → Mode → Exactness → H → Type 0
-IsGrowth m h v mode e next =
-    Grew m h v mode e next × (e ≡ Flagged → m.stays h v mode → (s : List ℤ) → length s ≡ m.head_dims next → m.head_has next s)
-
--- an operation that strains on the operands that it has may be flagged; its result then covers the defined one, and has its dimensions
+-- an operation that strains on the operands that it has may be flagged; its result then covers the defined one. Operands and results
+-- have the dimensions that they must have
 abbrev pub dropping : {V H : Type 0} → Meaning V H → Operations V H
 dropping m = record {
   dims = m.dims;
   universal = m.universal;
   void = m.void;
   changed = λ step v e w. Meets m step v e w × (m.dims w ≡ dims_after step (m.dims v));
-  joined = λ u v e w. Joins m u v e w × (m.dims w ≡ m.dims u);
+  joined = λ u v e w. Joins m u v e w × (m.dims v ≡ m.dims u) × (m.dims w ≡ m.dims u);
   started = λ v rows h. Starts m v rows h × (m.head_dims h ≡ m.dims v);
-  stays = Stays m;
-  grown = λ h v mode e next. IsGrowth m h v mode e next × (m.head_dims next ≡ m.head_dims h);
+  stays = λ h v mode. Stays m h v mode × (m.dims v ≡ m.head_dims h);
+  grown = λ h v mode e next. Grew m h v mode e next × (m.dims v ≡ m.head_dims h) × (m.head_dims next ≡ m.head_dims h);
   valued = λ h e v. Values m h e v × (m.dims v ≡ m.head_dims h);
 }
 
@@ -66,7 +62,7 @@ straining m = record {
   joined = λ u v e w. (e ≡ Exact → m.joined u v w) × (e ≡ Flagged → m.join_strains u v);
   started = m.started;
   stays = m.stays;
-  grown = λ h v mode e next. (e ≡ Exact → (¬ m.stays h v mode) × m.grown h v mode next) × (e ≡ Flagged → m.grow_strains h v mode);
+  grown = λ h v mode e next. (e ≡ Exact → (¬ m.stays h v mode) × m.grown h v mode next) × (e ≡ Flagged → GrowthStrains m h v mode);
   valued = λ h e v. (e ≡ Exact → m.valued h v) × (e ≡ Flagged → m.value_strains h);
 }
 

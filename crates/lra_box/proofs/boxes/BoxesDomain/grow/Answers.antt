@@ -28,7 +28,6 @@ returns-clause-grew c = λ a e.
       kept = λ s h. has_grown_old c.args.mode c.head.inside.dims _ _ s c.head.invariant.1 fit h;
       added = λ s h. has_grown_new c.args.mode c.head.inside.dims _ _ s c.head.invariant.1 fit h;
       moved = λ x w. absurd (false≢true (rw c.if-is_within.false at (c.is_within.ensures.1 w)));
-      moved_or_strained = λ x. cc;
       exact = λ x. refl;
       covers = λ x. cc;
       flagged = λ x. cc;

@@ -1,0 +1,371 @@
+-- The linear form of an expression has the expression's value wherever there is one, and the test of a comparison passes exactly where
+-- the comparison is true.
+use Rattle.std.proofs.Common.{◌≡◌, ℕ, zero, suc, ◌+◌, ℤ, pos, negsuc, ◌+ℤ◌, ◌*ℤ◌, List, [], ◌∷◌, Option, Some, None, Bool, true, false, length, refl, sym, ap, subst, ◌∙◌, arith, inl, inr}
+use Rattle.std.specs.Prelude.{◌-ℤ◌, ◌≤ℤ◌, map, replicate, slice_set, slice_get, if◌then◌else◌, ◌&&◌, IsTrue, ◌↔◌, ◌⊎◌, int_lt, int_le, not}
+use Rattle.std.specs.List.{list_all}
+use Rattle.std.proofs.lemmas.Int.{ints}
+use Rattle.lra_linear.proofs.Ring.{ring, v, ⊖, ◌⊕◌, ◌⊗◌}
+use Rattle.lra_tree.specs.Program.{Operator, plus, minus, times, over, modulo, Comparison, below, at_most, above, at_least, equal, differs, Expr, literal, read, input, negate, binary, compare}
+use Rattle.lra_tree.specs.Value.{◌>>=◌, word, is_word, is_zero, index_of, apply, compares, value_of, truth_of}
+use Rattle.lra_tree.specs.Report.{dot, RowKind, equality, inequality}
+use Rattle.lra_tree.specs.Linear.{Form, form_value, fitting, entrywise, combined, scaled, is_constant, product_form, operator_form, constant_form, variable_form, form_of, FormsAreRight, Test, Passes, opposite_less_one, opposite_form, less_one, at_least_zero, comparison_test, difference_form, TestsAreRight, DiffersIsRight}
+
+-- what led to something
+pub bind_some : {A B : Type 0} (o : Option A) (f : A → Option B) (y : B) → (o >>= f) ≡ Some y → (x : A) × (o ≡ Some x) × (f x ≡ Some y)
+bind_some None f y e = cc
+bind_some (Some x) f y e = (x, refl, e)
+
+-- of two pairs that are there
+pub some_first : {A B : Type 0} (x y : A) (u w : B) → (let p : A × B = (x, u) in Some p) ≡ (let q : A × B = (y, w) in Some q) → x ≡ y
+some_first {A} {B} x y u w e =
+    let p : A × B = (x, u) in
+    let q : A × B = (y, w) in
+    let same : p ≡ q = cc in
+    ap (λ (r : A × B). r.0) same
+
+pub pair_first : {A B : Type 0} (p q : A × B) → Some p ≡ Some q → p.0 ≡ q.0
+pair_first {A} {B} p q e =
+    let same : p ≡ q = cc in
+    ap (λ (r : A × B). r.0) same
+
+pub if_some : {A : Type 0} (b : Bool) (x y : A) → (if b then Some x else None) ≡ Some y → x ≡ y
+if_some true x y e = cc
+if_some false x y e = cc
+
+pub fitting_same : (f g : Form) → fitting f ≡ Some g → f ≡ g
+fitting_same f g e = if_some (is_word f.constant && list_all is_word f.coefficients) f g e
+
+pub word_same : (x y : ℤ) → word x ≡ Some y → x ≡ y
+word_same x y e = if_some (is_word x) x y e
+
+-- the forms before they are held to 64 bits
+abbrev combination : (ℤ → ℤ → ℤ) → Form → Form → Form
+combination op f g = record { constant = op f.constant g.constant; coefficients = entrywise op f.coefficients g.coefficients }
+
+abbrev multiple : ℤ → Form → Form
+multiple k f = record { constant = k *ℤ f.constant; coefficients = map (λ c. k *ℤ c) f.coefficients }
+
+-- products with lists of one length -----------------------------------------------------------------------------------
+
+dot_zeros : (n : ℕ) (xs : List ℤ) → dot (replicate n (pos 0)) xs ≡ pos 0
+dot_zeros zero xs = refl
+dot_zeros (suc n) [] = refl
+dot_zeros (suc n) (x ∷ xs) = let e = dot_zeros n xs in ring (v (pos 0) ⊗ v x ⊕ v (dot (replicate n (pos 0)) xs)) (v (dot (replicate n (pos 0)) xs)) (omega arith) ∙ e
+
+dot_unit : (n place : ℕ) (xs : List ℤ) (z : ℤ) → n ≡ length xs → slice_get xs place ≡ Some z → dot (slice_set (replicate n (pos 0)) place (pos 1)) xs ≡ z
+dot_unit n place [] z e is = cc
+dot_unit zero place (x ∷ xs) z e is = absurd (omega (arith, e))
+dot_unit (suc n) zero (x ∷ xs) z e is =
+    let same : x ≡ z = cc in
+    ring (v (pos 1) ⊗ v x ⊕ v (dot (replicate n (pos 0)) xs)) (v x ⊕ v (dot (replicate n (pos 0)) xs)) (omega arith) ∙ ap (λ (y : ℤ). x +ℤ y) (dot_zeros n xs) ∙ ring (v x ⊕ v (pos 0)) (v x) (omega arith) ∙ same
+dot_unit (suc n) (suc place) (x ∷ xs) z e is =
+    let rest = dot (slice_set (replicate n (pos 0)) place (pos 1)) xs in
+    ring (v (pos 0) ⊗ v x ⊕ v rest) (v rest) (omega arith) ∙ dot_unit n place xs z (omega (arith, e)) is
+
+dot_sum : (fs gs xs : List ℤ) → length fs ≡ length xs → length gs ≡ length xs → dot (entrywise (λ x y. x +ℤ y) fs gs) xs ≡ dot fs xs +ℤ dot gs xs
+dot_sum [] [] [] e h = refl
+dot_sum [] gs (x ∷ xs) e h = absurd (omega (arith, e))
+dot_sum [] (g ∷ gs) [] e h = absurd (omega (arith, h))
+dot_sum (f ∷ fs) gs [] e h = absurd (omega (arith, e))
+dot_sum (f ∷ fs) [] (x ∷ xs) e h = absurd (omega (arith, h))
+dot_sum (f ∷ fs) (g ∷ gs) (x ∷ xs) e h =
+    ap (λ (y : ℤ). ((f +ℤ g) *ℤ x) +ℤ y) (dot_sum fs gs xs (omega (arith, e)) (omega (arith, h))) ∙
+    ring ((v f ⊕ v g) ⊗ v x ⊕ (v (dot fs xs) ⊕ v (dot gs xs))) ((v f ⊗ v x ⊕ v (dot fs xs)) ⊕ (v g ⊗ v x ⊕ v (dot gs xs))) (omega arith)
+
+minus_is : (x y : ℤ) → x -ℤ y ≡ x +ℤ (negsuc 0 *ℤ y)
+minus_is x y = omega (arith, ints, ring (v (negsuc 0) ⊗ v y) (⊖ (v y)) (omega arith))
+
+dot_difference : (fs gs xs : List ℤ) → length fs ≡ length xs → length gs ≡ length xs → dot (entrywise (λ x y. x -ℤ y) fs gs) xs ≡ dot fs xs -ℤ dot gs xs
+dot_difference [] [] [] e h = refl
+dot_difference [] gs (x ∷ xs) e h = absurd (omega (arith, e))
+dot_difference [] (g ∷ gs) [] e h = absurd (omega (arith, h))
+dot_difference (f ∷ fs) gs [] e h = absurd (omega (arith, e))
+dot_difference (f ∷ fs) [] (x ∷ xs) e h = absurd (omega (arith, h))
+dot_difference (f ∷ fs) (g ∷ gs) (x ∷ xs) e h =
+    ap (λ (y : ℤ). ((f -ℤ g) *ℤ x) +ℤ y) (dot_difference fs gs xs (omega (arith, e)) (omega (arith, h))) ∙
+    ap (λ (y : ℤ). (y *ℤ x) +ℤ (dot fs xs -ℤ dot gs xs)) (minus_is f g) ∙
+    ap (λ (y : ℤ). ((f +ℤ (negsuc 0 *ℤ g)) *ℤ x) +ℤ y) (minus_is (dot fs xs) (dot gs xs)) ∙
+    ring ((v f ⊕ v (negsuc 0) ⊗ v g) ⊗ v x ⊕ (v (dot fs xs) ⊕ v (negsuc 0) ⊗ v (dot gs xs))) ((v f ⊗ v x ⊕ v (dot fs xs)) ⊕ v (negsuc 0) ⊗ (v g ⊗ v x ⊕ v (dot gs xs))) (omega arith) ∙
+    sym (minus_is ((f *ℤ x) +ℤ dot fs xs) ((g *ℤ x) +ℤ dot gs xs))
+
+dot_scaled : (k : ℤ) (fs xs : List ℤ) → dot (map (λ c. k *ℤ c) fs) xs ≡ k *ℤ dot fs xs
+dot_scaled k [] xs = ring (v (pos 0)) (v k ⊗ v (pos 0)) (omega arith)
+dot_scaled k (f ∷ fs) [] = ring (v (pos 0)) (v k ⊗ v (pos 0)) (omega arith)
+dot_scaled k (f ∷ fs) (x ∷ xs) =
+    ap (λ (y : ℤ). ((k *ℤ f) *ℤ x) +ℤ y) (dot_scaled k fs xs) ∙ ring (v k ⊗ v f ⊗ v x ⊕ v k ⊗ v (dot fs xs)) (v k ⊗ (v f ⊗ v x ⊕ v (dot fs xs))) (omega arith)
+
+dot_opposite : (fs xs : List ℤ) → dot (map (λ c. pos 0 -ℤ c) fs) xs ≡ negsuc 0 *ℤ dot fs xs
+dot_opposite [] xs = refl
+dot_opposite (f ∷ fs) [] = refl
+dot_opposite (f ∷ fs) (x ∷ xs) =
+    ap (λ (y : ℤ). ((pos 0 -ℤ f) *ℤ x) +ℤ y) (dot_opposite fs xs) ∙ ap (λ (y : ℤ). (y *ℤ x) +ℤ (negsuc 0 *ℤ dot fs xs)) (minus_is (pos 0) f) ∙
+    ring ((v (pos 0) ⊕ v (negsuc 0) ⊗ v f) ⊗ v x ⊕ v (negsuc 0) ⊗ v (dot fs xs)) (v (negsuc 0) ⊗ (v f ⊗ v x ⊕ v (dot fs xs))) (omega arith)
+
+and_both : (a b : Bool) → (a && b) ≡ true → (a ≡ true) × (b ≡ true)
+and_both true b e = (refl, e)
+and_both false b e = cc
+
+zero_is : (z : ℤ) → is_zero z ≡ true → z ≡ pos 0
+zero_is (pos zero) e = refl
+zero_is (pos (suc n)) e = cc
+zero_is (negsuc n) e = cc
+
+dot_constant : (fs xs : List ℤ) → list_all is_zero fs ≡ true → dot fs xs ≡ pos 0
+dot_constant [] xs e = refl
+dot_constant (f ∷ fs) [] e = refl
+dot_constant (f ∷ fs) (x ∷ xs) e =
+    let both = and_both (is_zero f) (list_all is_zero fs) e in
+    ap (λ (y : ℤ). (y *ℤ x) +ℤ dot fs xs) (zero_is f both.0) ∙ ring (v (pos 0) ⊗ v x ⊕ v (dot fs xs)) (v (dot fs xs)) (omega arith) ∙ dot_constant fs xs both.1
+
+-- lengths --------------------------------------------------------------------------------------------------------------
+
+entrywise_length : (op : ℤ → ℤ → ℤ) (fs gs : List ℤ) → length fs ≡ length gs → length (entrywise op fs gs) ≡ length fs
+entrywise_length op [] gs e = refl
+entrywise_length op (f ∷ fs) [] e = absurd (omega (arith, e))
+entrywise_length op (f ∷ fs) (g ∷ gs) e = ap suc (entrywise_length op fs gs (omega (arith, e)))
+
+map_length : (f : ℤ → ℤ) (xs : List ℤ) → length (map f xs) ≡ length xs
+map_length f [] = refl
+map_length f (x ∷ xs) = ap suc (map_length f xs)
+
+copies_length : (n : ℕ) (z : ℤ) → length (replicate n z) ≡ n
+copies_length zero z = refl
+copies_length (suc n) z = ap suc (copies_length n z)
+
+pub set_length : (xs : List ℤ) (k : ℕ) (z : ℤ) → length (slice_set xs k z) ≡ length xs
+set_length [] k z = refl
+set_length (x ∷ xs) zero z = refl
+set_length (x ∷ xs) (suc k) z = ap suc (set_length xs k z)
+
+-- the form has a coefficient for each live variable
+pub record Wide (live : ℕ) (f : Form) : Type 0 where
+  pub width : length f.coefficients ≡ live
+
+wide_same : (live : ℕ) (f g : Form) → f ≡ g → Wide live f → Wide live g
+wide_same live f g e w = record { width = sym (ap (λ (x : Form). length x.coefficients) e) ∙ w.width }
+
+combined_wide : (live : ℕ) (op : ℤ → ℤ → ℤ) (f g h : Form) → combined op f g ≡ Some h → Wide live f → Wide live g → Wide live h
+combined_wide live op f g h e a b =
+    wide_same live _ h (fitting_same (combination op f g) h e) (record { width = entrywise_length op f.coefficients g.coefficients (a.width ∙ sym b.width) ∙ a.width })
+
+scaled_wide : (live : ℕ) (k : ℤ) (f h : Form) → scaled k f ≡ Some h → Wide live f → Wide live h
+scaled_wide live k f h e a = wide_same live _ h (fitting_same (multiple k f) h e) (record { width = map_length (λ c. k *ℤ c) f.coefficients ∙ a.width })
+
+product_wide : (live : ℕ) (f g h : Form) (p q : Bool) → (if p then scaled f.constant g else (if q then scaled g.constant f else None)) ≡ Some h → Wide live f → Wide live g → Wide live h
+product_wide live f g h true q e a b = scaled_wide live f.constant g h e b
+product_wide live f g h false true e a b = scaled_wide live g.constant f h e a
+product_wide live f g h false false e a b = cc
+
+operator_wide : (live : ℕ) (op : Operator) (f g h : Form) → operator_form op f g ≡ Some h → Wide live f → Wide live g → Wide live h
+operator_wide live plus f g h e a b = combined_wide live (λ x y. x +ℤ y) f g h e a b
+operator_wide live minus f g h e a b = combined_wide live (λ x y. x -ℤ y) f g h e a b
+operator_wide live times f g h e a b = product_wide live f g h (is_constant f) (is_constant g) e a b
+operator_wide live over f g h e a b = cc
+operator_wide live modulo f g h e a b = cc
+
+pub form_wide : (live base : ℕ) (e : Expr) (f : Form) → form_of live base e ≡ Some f → Wide live f
+form_wide live base (literal n) f is = wide_same live _ f (fitting_same (constant_form live (pos n)) f is) (record { width = copies_length live (pos 0) })
+form_wide live base (read x) f is =
+    let same : variable_form live (index_of base x) ≡ f = cc in
+    wide_same live _ f same (record { width = set_length (replicate live (pos 0)) (index_of base x) (pos 1) ∙ copies_length live (pos 0) })
+form_wide live base input f is = cc
+form_wide live base (negate e) f is =
+    let (g, of, to) = bind_some (form_of live base e) (λ h. scaled (negsuc 0) h) f is in
+    scaled_wide live (negsuc 0) g f to (form_wide live base e g of)
+form_wide live base (binary op a b) f is =
+    let (g, of, to) = bind_some (form_of live base a) (λ x. form_of live base b >>= λ y. operator_form op x y) f is in
+    let (h, of_too, result) = bind_some (form_of live base b) (λ y. operator_form op g y) f to in
+    operator_wide live op g h f result (form_wide live base a g of) (form_wide live base b h of_too)
+
+-- values ---------------------------------------------------------------------------------------------------------------
+
+value_same : (f g : Form) (store : List ℤ) → f ≡ g → form_value g store ≡ form_value f store
+value_same f g store e = sym (ap (λ (x : Form). form_value x store) e)
+
+pub scaled_value : (k : ℤ) (f h : Form) (store : List ℤ) → scaled k f ≡ Some h → form_value h store ≡ k *ℤ form_value f store
+scaled_value k f h store e =
+    value_same _ h store (fitting_same (multiple k f) h e) ∙ ap (λ (y : ℤ). (k *ℤ f.constant) +ℤ y) (dot_scaled k f.coefficients store) ∙
+    ring (v k ⊗ v f.constant ⊕ v k ⊗ v (dot f.coefficients store)) (v k ⊗ (v f.constant ⊕ v (dot f.coefficients store))) (omega arith)
+
+sum_value : (f g h : Form) (store : List ℤ) → Wide (length store) f → Wide (length store) g → combined (λ x y. x +ℤ y) f g ≡ Some h → form_value h store ≡ form_value f store +ℤ form_value g store
+sum_value f g h store a b e =
+    value_same _ h store (fitting_same (combination (λ x y. x +ℤ y) f g) h e) ∙ ap (λ (y : ℤ). (f.constant +ℤ g.constant) +ℤ y) (dot_sum f.coefficients g.coefficients store a.width b.width) ∙
+    ring ((v f.constant ⊕ v g.constant) ⊕ (v (dot f.coefficients store) ⊕ v (dot g.coefficients store)))
+    ((v f.constant ⊕ v (dot f.coefficients store)) ⊕ (v g.constant ⊕ v (dot g.coefficients store))) (omega arith)
+
+pub difference_value : (f g h : Form) (store : List ℤ) → Wide (length store) f → Wide (length store) g → combined (λ x y. x -ℤ y) f g ≡ Some h → form_value h store ≡ form_value f store -ℤ form_value g store
+difference_value f g h store a b e =
+    let p = dot f.coefficients store in
+    let q = dot g.coefficients store in
+    value_same _ h store (fitting_same (combination (λ x y. x -ℤ y) f g) h e) ∙ ap (λ (y : ℤ). (f.constant -ℤ g.constant) +ℤ y) (dot_difference f.coefficients g.coefficients store a.width b.width) ∙
+    ap (λ (y : ℤ). y +ℤ (p -ℤ q)) (minus_is f.constant g.constant) ∙ ap (λ (y : ℤ). (f.constant +ℤ (negsuc 0 *ℤ g.constant)) +ℤ y) (minus_is p q) ∙
+    ring ((v f.constant ⊕ v (negsuc 0) ⊗ v g.constant) ⊕ (v p ⊕ v (negsuc 0) ⊗ v q)) ((v f.constant ⊕ v p) ⊕ v (negsuc 0) ⊗ (v g.constant ⊕ v q)) (omega arith) ∙
+    sym (minus_is (f.constant +ℤ p) (g.constant +ℤ q))
+
+-- where no variable occurs the value is the constant
+constant_value : (f : Form) (store : List ℤ) → is_constant f ≡ true → form_value f store ≡ f.constant
+constant_value f store e = ap (λ (y : ℤ). f.constant +ℤ y) (dot_constant f.coefficients store e) ∙ ring (v f.constant ⊕ v (pos 0)) (v f.constant) (omega arith)
+
+product_value : (f g h : Form) (store : List ℤ) (p q : Bool) → is_constant f ≡ p → is_constant g ≡ q
+    → (if p then scaled f.constant g else (if q then scaled g.constant f else None)) ≡ Some h → form_value h store ≡ form_value f store *ℤ form_value g store
+product_value f g h store true q is also e = scaled_value f.constant g h store e ∙ ap (λ (y : ℤ). y *ℤ form_value g store) (sym (constant_value f store is))
+product_value f g h store false true is also e =
+    scaled_value g.constant f h store e ∙ ap (λ (y : ℤ). y *ℤ form_value f store) (sym (constant_value g store also)) ∙
+    ring (v (form_value g store) ⊗ v (form_value f store)) (v (form_value f store) ⊗ v (form_value g store)) (omega arith)
+product_value f g h store false false is also e = cc
+
+operator_value : (op : Operator) (f g h : Form) (store : List ℤ) (x y z : ℤ) → Wide (length store) f → Wide (length store) g → operator_form op f g ≡ Some h
+    → form_value f store ≡ x → form_value g store ≡ y → apply op x y ≡ Some z → form_value h store ≡ z
+operator_value plus f g h store x y z a b e is also to = sum_value f g h store a b e ∙ (let sum : form_value f store +ℤ form_value g store ≡ x +ℤ y = cc in sum) ∙ word_same (x +ℤ y) z to
+operator_value minus f g h store x y z a b e is also to = difference_value f g h store a b e ∙ (let less : form_value f store -ℤ form_value g store ≡ x -ℤ y = cc in less) ∙ word_same (x -ℤ y) z to
+operator_value times f g h store x y z a b e is also to =
+    product_value f g h store (is_constant f) (is_constant g) refl refl e ∙ (let times : form_value f store *ℤ form_value g store ≡ x *ℤ y = cc in times) ∙ word_same (x *ℤ y) z to
+operator_value over f g h store x y z a b e is also to = cc
+operator_value modulo f g h store x y z a b e is also to = cc
+
+pub forms_are_right : FormsAreRight
+forms_are_right base (literal n) f store draws left z is ran =
+    let same : pos n ≡ z = some_first (pos n) z draws left ran in
+    value_same _ f store (fitting_same (constant_form (length store) (pos n)) f is) ∙ ap (λ (y : ℤ). pos n +ℤ y) (dot_zeros (length store) store) ∙ ring (v (pos n) ⊕ v (pos 0)) (v (pos n)) (omega arith) ∙ same
+forms_are_right base (read x) f store draws left z is ran =
+    let same : variable_form (length store) (index_of base x) ≡ f = cc in
+    let (y, got, to) = bind_some (slice_get store (index_of base x)) (λ r. Some (r, draws)) (z, left) ran in
+    let is_z : y ≡ z = some_first y z draws left to in
+    value_same _ f store same ∙ ap (λ (r : ℤ). pos 0 +ℤ r) (dot_unit (length store) (index_of base x) store y refl got) ∙ ring (v (pos 0) ⊕ v y) (v y) (omega arith) ∙ is_z
+forms_are_right base input f store draws left z is ran = cc
+forms_are_right base (negate e) f store draws left z is ran =
+    let (g, of, to) = bind_some (form_of (length store) base e) (λ h. scaled (negsuc 0) h) f is in
+    let (r, got, on) = bind_some (value_of e base store draws) (λ r. word (pos 0 -ℤ r.0) >>= λ z. Some (z, r.1)) (z, left) ran in
+    let (y, fits, last) = bind_some (word (pos 0 -ℤ r.0)) (λ z. Some (z, r.1)) (z, left) on in
+    let same : y ≡ z = some_first y z r.1 left last in
+    scaled_value (negsuc 0) g f store to ∙ ap (λ (x : ℤ). negsuc 0 *ℤ x) (forms_are_right base e g store draws r.1 r.0 of got) ∙
+    (let opposite : negsuc 0 *ℤ r.0 ≡ pos 0 -ℤ r.0 = ring (v (negsuc 0) ⊗ v r.0) (v (pos 0) ⊕ v (negsuc 0) ⊗ v r.0) (omega arith) ∙ sym (minus_is (pos 0) r.0) in opposite) ∙
+    word_same (pos 0 -ℤ r.0) y fits ∙ same
+forms_are_right base (binary op a b) f store draws left z is ran =
+    let (g, of, to) = bind_some (form_of (length store) base a) (λ x. form_of (length store) base b >>= λ y. operator_form op x y) f is in
+    let (h, of_too, result) = bind_some (form_of (length store) base b) (λ y. operator_form op g y) f to in
+    let (r, got, on) = bind_some (value_of a base store draws) (λ r. value_of b base store r.1 >>= λ s. apply op r.0 s.0 >>= λ z. Some (z, s.1)) (z, left) ran in
+    let (s, got_too, last) = bind_some (value_of b base store r.1) (λ s. apply op r.0 s.0 >>= λ z. Some (z, s.1)) (z, left) on in
+    let (y, fits, end) = bind_some (apply op r.0 s.0) (λ z. Some (z, s.1)) (z, left) last in
+    let same : y ≡ z = some_first y z s.1 left end in
+    operator_value op g h f store r.0 s.0 y (form_wide (length store) base a g of) (form_wide (length store) base b h of_too) result
+    (forms_are_right base a g store draws r.1 r.0 of got) (forms_are_right base b h store r.1 s.1 s.0 of_too got_too) fits ∙ same
+
+-- tests ----------------------------------------------------------------------------------------------------------------
+
+opposite_less_one_value : (d f : Form) (store : List ℤ) → opposite_less_one d ≡ Some f → form_value f store ≡ (pos 0 -ℤ form_value d store) -ℤ pos 1
+opposite_less_one_value d f store e =
+    let p = dot d.coefficients store in
+    value_same _ f store (fitting_same (record { constant = (pos 0 -ℤ d.constant) -ℤ pos 1; coefficients = map (λ c. pos 0 -ℤ c) d.coefficients }) f e) ∙
+    ap (λ (y : ℤ). ((pos 0 -ℤ d.constant) -ℤ pos 1) +ℤ y) (dot_opposite d.coefficients store) ∙
+    (let last : ((pos 0 -ℤ d.constant) -ℤ pos 1) +ℤ (negsuc 0 *ℤ p) ≡ (pos 0 -ℤ (d.constant +ℤ p)) -ℤ pos 1 = omega (arith, ints, minus_is (pos 0) p) in last)
+
+less_one_value : (d f : Form) (store : List ℤ) → less_one d ≡ Some f → form_value f store ≡ form_value d store -ℤ pos 1
+less_one_value d f store e =
+    let p = dot d.coefficients store in
+    value_same _ f store (fitting_same (record { constant = d.constant -ℤ pos 1; coefficients = d.coefficients }) f e) ∙
+    (let last : (d.constant -ℤ pos 1) +ℤ p ≡ (d.constant +ℤ p) -ℤ pos 1 = omega (arith, ints) in last)
+
+-- the inequality of a form
+abbrev inequality_of : Form → Test
+inequality_of f = record { kind = inequality; form = f }
+
+from_form : (o : Option Form) (t : Test) → at_least_zero o ≡ Some t → (f : Form) × (o ≡ Some f) × (inequality_of f ≡ t)
+from_form None t e = cc
+from_form (Some f) t e = (f, refl, cc)
+
+passes_same : (f : Form) (t : Test) (store : List ℤ) (z : ℤ) → inequality_of f ≡ t → form_value f store ≡ z → (pos 0 ≤ℤ z) ↔ Passes t store
+passes_same f t store z e is =
+    (λ h. subst (λ (x : Test). Passes x store) e (subst (λ (y : ℤ). pos 0 ≤ℤ y) (sym is) h), λ h. subst (λ (y : ℤ). pos 0 ≤ℤ y) is (subst (λ (x : Test). Passes x store) (sym e) h))
+
+-- over whole numbers
+lt_decides : (x y w : ℤ) → w ≡ x -ℤ y → IsTrue (int_lt x y) ↔ (pos 0 ≤ℤ ((pos 0 -ℤ w) -ℤ pos 1))
+lt_decides x y w e = (λ h. grind (arith, ints), λ h. grind (arith, ints))
+
+le_decides : (x y w : ℤ) → w ≡ x -ℤ y → IsTrue (int_le x y) ↔ (pos 0 ≤ℤ (pos 0 -ℤ w))
+le_decides x y w e = (λ h. grind (arith, ints), λ h. grind (arith, ints))
+
+gt_decides : (x y w : ℤ) → w ≡ x -ℤ y → IsTrue (int_lt y x) ↔ (pos 0 ≤ℤ (w -ℤ pos 1))
+gt_decides x y w e = (λ h. grind (arith, ints), λ h. grind (arith, ints))
+
+ge_decides : (x y w : ℤ) → w ≡ x -ℤ y → IsTrue (int_le y x) ↔ (pos 0 ≤ℤ w)
+ge_decides x y w e = (λ h. grind (arith, ints), λ h. grind (arith, ints))
+
+eq_decides : (x y w : ℤ) → w ≡ x -ℤ y → IsTrue (if int_le x y then int_le y x else false) ↔ (w ≡ pos 0)
+eq_decides x y w e = (λ h. grind (arith, ints), λ h. grind (arith, ints))
+
+ne_decides : (x y w : ℤ) → w ≡ x -ℤ y → IsTrue (not (if int_le x y then int_le y x else false)) ↔ ((pos 0 ≤ℤ ((pos 0 -ℤ w) -ℤ pos 1)) ⊎ (pos 0 ≤ℤ (w -ℤ pos 1)))
+ne_decides x y w e = (λ h. grind (arith, ints), λ h. grind (arith, ints))
+
+both_ways : {A B C : Type 0} → A ↔ B → B ↔ C → A ↔ C
+both_ways f g = (λ h. g.0 (f.0 h), λ h. f.1 (g.1 h))
+
+-- of a difference d that has the value of x - y
+pub test_is_right : (op : Comparison) (d : Form) (t : Test) (store : List ℤ) (x y : ℤ) → form_value d store ≡ x -ℤ y → comparison_test op d ≡ Some t → IsTrue (compares op x y) ↔ Passes t store
+test_is_right below d t store x y e is =
+    let (f, of, same) = from_form (opposite_less_one d) t is in
+    both_ways (lt_decides x y (form_value d store) e) (passes_same f t store _ same (opposite_less_one_value d f store of))
+test_is_right at_most d t store x y e is =
+    let (f, of, same) = from_form (opposite_form d) t is in
+    let less : form_value f store ≡ pos 0 -ℤ form_value d store = scaled_value (negsuc 0) d f store of ∙ (let last : negsuc 0 *ℤ form_value d store ≡ pos 0 -ℤ form_value d store = omega (arith, ints, minus_is (pos 0) (form_value d store)) in last) in
+    both_ways (le_decides x y (form_value d store) e) (passes_same f t store _ same less)
+test_is_right above d t store x y e is =
+    let (f, of, same) = from_form (less_one d) t is in
+    both_ways (gt_decides x y (form_value d store) e) (passes_same f t store _ same (less_one_value d f store of))
+test_is_right at_least d t store x y e is =
+    let (f, of, same) = from_form (Some d) t is in
+    let it : d ≡ f = cc in
+    both_ways (ge_decides x y (form_value d store) e) (passes_same d t store _ (rw it same) refl)
+test_is_right equal d t store x y e is =
+    let same : record { kind = equality; form = d } ≡ t = cc in
+    both_ways (eq_decides x y (form_value d store) e) (λ h. subst (λ (z : Test). Passes z store) same h, λ h. subst (λ (z : Test). Passes z store) (sym same) h)
+test_is_right differs d t store x y e is = cc
+
+pub differs_by_tests : (d : Form) (less more : Test) (store : List ℤ) (x y : ℤ) → form_value d store ≡ x -ℤ y → comparison_test below d ≡ Some less → comparison_test above d ≡ Some more
+    → IsTrue (compares differs x y) ↔ (Passes less store ⊎ Passes more store)
+differs_by_tests d less more store x y e is also =
+    let one = test_is_right below d less store x y e is in
+    let two = test_is_right above d more store x y e also in
+    let both = ne_decides x y (form_value d store) e in
+    (
+      λ h. elim (both.0 h) [ inl a ↦ inl (one.0 ((lt_decides x y (form_value d store) e).1 a)) | inr b ↦ inr (two.0 ((gt_decides x y (form_value d store) e).1 b)) ],
+      λ h. both.1 (elim h [ inl a ↦ inl ((lt_decides x y (form_value d store) e).0 (one.1 a)) | inr b ↦ inr ((gt_decides x y (form_value d store) e).0 (two.1 b)) ]),
+    )
+
+-- what a comparison with a value evaluates
+pub record Compared (base : ℕ) (op : Comparison) (a b : Expr) (store draws left : List ℤ) (so : Bool) : Type 0 where
+  pub x : ℤ
+  pub y : ℤ
+  pub middle : List ℤ
+  pub last : List ℤ
+  pub has_x : value_of a base store draws ≡ Some (x, middle)
+  pub has_y : value_of b base store middle ≡ Some (y, last)
+  pub is : compares op x y ≡ so
+
+pub compared : (base : ℕ) (op : Comparison) (a b : Expr) (store draws left : List ℤ) (so : Bool) → truth_of (compare op a b) base store draws ≡ Some (so, left) → Compared base op a b store draws left so
+compared base op a b store draws left so e =
+    let (r, got, on) = bind_some (value_of a base store draws) (λ r. value_of b base store r.1 >>= λ s. Some (compares op r.0 s.0, s.1)) (so, left) e in
+    let (s, got_too, end) = bind_some (value_of b base store r.1) (λ s. Some (compares op r.0 s.0, s.1)) (so, left) on in
+    record { x = r.0; y = s.0; middle = r.1; last = s.1; has_x = got; has_y = got_too; is = some_first (compares op r.0 s.0) so s.1 left end }
+
+-- the difference of two expressions has the difference of their values, also where that passes 64 bits
+pub difference_is_right : (base : ℕ) (a b : Expr) (d : Form) (store draws middle last : List ℤ) (x y : ℤ) → difference_form (length store) base a b ≡ Some d
+    → value_of a base store draws ≡ Some (x, middle) → value_of b base store middle ≡ Some (y, last) → form_value d store ≡ x -ℤ y
+difference_is_right base a b d store draws middle last x y is ran ran_too =
+    let (g, of, to) = bind_some (form_of (length store) base a) (λ x. form_of (length store) base b >>= λ y. operator_form minus x y) d is in
+    let (h, of_too, result) = bind_some (form_of (length store) base b) (λ y. operator_form minus g y) d to in
+    let left : form_value g store ≡ x = forms_are_right base a g store draws middle x of ran in
+    let right : form_value h store ≡ y = forms_are_right base b h store middle last y of_too ran_too in
+    difference_value g h d store (form_wide (length store) base a g of) (form_wide (length store) base b h of_too) result ∙ (let less : form_value g store -ℤ form_value h store ≡ x -ℤ y = cc in less)
+
+pub tests_are_right : TestsAreRight
+tests_are_right base op a b d t store draws left so is test ran =
+    let c = compared base op a b store draws left so ran in
+    let right = test_is_right op d t store c.x c.y (difference_is_right base a b d store draws c.middle c.last c.x c.y is c.has_x c.has_y) test in
+    subst (λ (w : Bool). IsTrue w ↔ Passes t store) c.is right
+
+pub differs_is_right : DiffersIsRight
+differs_is_right base a b d less more store draws left so is one two ran =
+    let c = compared base differs a b store draws left so ran in
+    let right = differs_by_tests d less more store c.x c.y (difference_is_right base a b d store draws c.middle c.last c.x c.y is c.has_x c.has_y) one two in
+    subst (λ (w : Bool). IsTrue w ↔ (Passes less store ⊎ Passes more store)) c.is right
