@@ -1,0 +1,7 @@
+-- Runs of bytes that pass a test, and the front of a line.
+pub mod RunLemmas
+pub mod LineLemmas
+-- Which token a text spells, and which spelling is the longest.
+pub mod MarkLemmas
+pub mod LexemeLemmas
+pub mod LiteralLemmas

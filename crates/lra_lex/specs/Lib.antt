@@ -1,0 +1,4 @@
+-- In the order in which they are to be read.
+pub mod Places
+pub mod Literal
+pub mod Front
