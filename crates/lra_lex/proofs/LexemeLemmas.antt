@@ -11,6 +11,7 @@ use Rattle.lra_tree.specs.declared.tokens.Kind.{Kind}
 use Rattle.lra_tree.specs.declared.tokens.Kind.TheVariants as kind
 use Rattle.lra_tree.specs.Lexeme.{is_word_byte, is_letter, is_digit, is_word, is_number_word, mark_text, is_among, named_words, further_words, Lexeme, word, number_word, mark_word, unclosed, IsUnclosed}
 use Rattle.lra_tree.specs.Tokens.{IsLongest}
+use Rattle.lra_lex.specs.Front.{opens_comment}
 use Rattle.lra_lex.proofs.RunLemmas.{IsRun, and_split, and_join, or_left, or_right, or_split, bool_cases, differ, run_longest, run_exact}
 use Rattle.lra_lex.proofs.MarkLemmas.{mark_wordy, mark_short, mark_some, found_mark, found_is, found_none}
 
@@ -62,9 +63,6 @@ pub longest_whole : (rest : List ℕ) → Lexeme rest → IsLongest rest rest
 longest_whole rest l = record { lexeme = l; after = []; front = sym (append-nil rest); longest = λ t b e k. let f = ap (λ (z : List ℕ). length z) e in omega (arith, f, length-append t b) }
 
 -- operators --------------------------------------------------------------------------------------------------------------
-
-abbrev pub opens_comment : List ℕ → Bool
-opens_comment s = nat_eq (get_or s 0 0) 47 && nat_eq (get_or s 1 0) 42
 
 -- at another byte than a word's only marks begin, if it opens no comment
 only_mark : (t b : List ℕ) → Lexeme t → is_word_byte (get_or (t ++ b) 0 0) ≡ false → opens_comment (t ++ b) ≡ false → (m : Mark) × (t ≡ mark_text m)

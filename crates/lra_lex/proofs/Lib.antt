@@ -5,3 +5,5 @@ pub mod LineLemmas
 pub mod MarkLemmas
 pub mod LexemeLemmas
 pub mod LiteralLemmas
+-- Gaps.
+pub mod GapLemmas

@@ -2,5 +2,7 @@
 #![tactic(auto)]
 
 mod bytes;
+mod gaps;
 mod literals;
 mod marks;
+mod spot;
