@@ -162,6 +162,11 @@ blanks_in_line (c ∷ blanks) h =
     let k = and_split (is_space_or_tab c) (list_all is_space_or_tab blanks) h in
     let l : in_line c ≡ true = grind (arith, nat_tests) in and_join (in_line c) (list_all in_line blanks) l (blanks_in_line blanks k.1)
 
+pub include_in_line : (blanks text : List ℕ) → list_all is_space_or_tab blanks ≡ true → list_all in_line text ≡ true → list_all in_line (codes "#" ++ blanks ++ codes "include" ++ text) ≡ true
+include_in_line blanks text b t =
+    rw (list_all-append in_line (codes "#" ++ blanks ++ codes "include") text, list_all-append in_line (codes "#" ++ blanks) (codes "include"), list_all-append in_line (codes "#") blanks)
+    (and_join (list_all in_line blanks && true) (list_all in_line text) (and_join (list_all in_line blanks) true (blanks_in_line blanks b) refl) t)
+
 front_word_end : (t a : List ℕ) → IsWordEnd (t ++ a) → IsWordEnd t
 front_word_end [] a h = tt
 front_word_end (c ∷ t) a h = h
@@ -173,9 +178,7 @@ skip_gap fresh rest f i =
     let a = drop (prefix_len in_line i.text) i.text in
     let s = codes "#" ++ i.blanks ++ codes "include" ++ t in
     let e : rest ≡ s ++ a = i.parts ∙ ap (λ (z : List ℕ). codes "#" ++ i.blanks ++ codes "include" ++ z) r.parts ∙ sym (append_assoc (codes "#" ++ i.blanks ++ codes "include") t a) in
-    let all : list_all in_line s ≡ true =
-        rw (list_all-append in_line (codes "#" ++ i.blanks ++ codes "include") t, list_all-append in_line (codes "#" ++ i.blanks) (codes "include"), list_all-append in_line (codes "#") i.blanks)
-        (and_join (list_all in_line i.blanks && true) (list_all in_line t) (and_join (list_all in_line i.blanks) true (blanks_in_line i.blanks i.only_blanks) refl) r.passes) in
+    let all = include_in_line i.blanks t i.only_blanks r.passes in
     let n = ap (prefix_len in_line) e ∙ run_exact in_line s a all r.stops in
     begins_gap fresh rest s a (prefix_len in_line rest) e n (omega arith)
     (λ before g. skipped_line i.blanks t refl (fresh_front before (sym g ∙ f)) i.only_blanks (front_word_end t a (subst IsWordEnd r.parts i.word_ends)) r.passes (line_end a r.stops))

@@ -11,14 +11,14 @@ use Rattle.lra_tree.specs.declared.tokens.Kind.{Kind}
 use Rattle.lra_tree.specs.declared.tokens.Kind.TheVariants as kind
 use Rattle.lra_tree.specs.Lexeme.{is_word_byte, is_letter, is_digit, is_word, is_number_word, mark_text, is_among, named_words, further_words, Lexeme, word, number_word, mark_word, unclosed, IsUnclosed}
 use Rattle.lra_tree.specs.Tokens.{IsLongest}
-use Rattle.lra_lex.specs.Front.{opens_comment}
+use Rattle.lra_lex.specs.Front.{opens_comment, found_mark, operator_at}
 use Rattle.lra_lex.proofs.RunLemmas.{IsRun, and_split, and_join, or_left, or_right, or_split, bool_cases, differ, run_longest, run_exact}
-use Rattle.lra_lex.proofs.MarkLemmas.{mark_wordy, mark_short, mark_some, found_mark, found_is, found_none}
+use Rattle.lra_lex.proofs.MarkLemmas.{mark_wordy, mark_short, mark_some, found_is, found_none}
 
-letter_is : (c : ℕ) → is_letter c ≡ true → is_word_byte c ≡ true
+pub letter_is : (c : ℕ) → is_letter c ≡ true → is_word_byte c ≡ true
 letter_is c h = or_left (is_letter c) (is_digit c) h
 
-digit_is : (c : ℕ) → is_digit c ≡ true → is_word_byte c ≡ true
+pub digit_is : (c : ℕ) → is_digit c ≡ true → is_word_byte c ≡ true
 digit_is c h = or_right (is_letter c) (is_digit c) h
 
 or_second : (a b : Bool) → (a || b) ≡ true → a ≡ false → b ≡ true
@@ -74,10 +74,6 @@ only_mark (c ∷ cs) b (word w) h o = absurd (differ (letter_is c (and_split (is
 only_mark (c ∷ cs) b (number_word w) h o = absurd (differ (digit_is c (and_split (is_digit c) (list_all is_word_byte cs) w).0) h)
 only_mark (c ∷ cs) b (mark_word m e) h o = (m, e)
 only_mark (c ∷ cs) b (unclosed u) h o = let f : opens_comment ((codes "/*" ++ u.0) ++ b) ≡ false = subst (λ (z : List ℕ). opens_comment (z ++ b) ≡ false) u.1 o in absurd (cc)
-
--- the longest operator at the front: of two bytes, or of one
-abbrev pub operator_at : List ℕ → Option Mark
-operator_at rest = option_or (found_mark (take 2 rest)) (found_mark (take 1 rest))
 
 option_cases : (o : Option Mark) → (o ≡ None) ⊎ ((m : Mark) × (o ≡ Some m))
 option_cases None = inl refl

@@ -7,3 +7,8 @@ pub mod LexemeLemmas
 pub mod LiteralLemmas
 -- Gaps.
 pub mod GapLemmas
+-- The token at the front, and how far a source is read.
+pub mod TokenLemmas
+pub mod ReadingLemmas
+-- A source has one reading.
+pub mod OneReadingLemmas

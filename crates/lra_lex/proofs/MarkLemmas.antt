@@ -7,11 +7,8 @@ use Rattle.lra_tree.specs.declared.tokens.Mark.{Mark}
 use Rattle.lra_tree.specs.declared.tokens.Mark.TheVariants as mark
 use Rattle.lra_tree.specs.Lexeme.{is_word_byte, is_word, is_number_word, mark_text, is_among, named_words, further_words}
 use Rattle.lra_lex.specs.declared.marks.TheConstants.{MARKS}
-use Rattle.lra_lex.specs.Front.{IsNoMark}
+use Rattle.lra_lex.specs.Front.{IsNoMark, found_mark}
 use Rattle.lra_lex.proofs.RunLemmas.{bool_cases, differ, or_split}
-
-abbrev pub found_mark : List ℕ → Option Mark
-found_mark s = find (λ m. bytes_eq (mark_text m) s) MARKS
 
 found_back : (m : Mark) → found_mark (mark_text m) ≡ Some m
 found_back mark.Plus = refl
@@ -70,4 +67,15 @@ among_all test s [] h e = absurd (cc)
 among_all test s (w ∷ words) h e = elim (or_split (bytes_eq s w) (is_among s words) e) [
   | inl k ↦ let same = (bytes_eq-Decides s w).0 k in rw same (elim (bool_cases (test w)) [ inl t ↦ t | inr f ↦ let g : false ≡ true = rw f at h in absurd (cc) ])
   | inr k ↦ among_all test s words (elim (bool_cases (test w)) [ inl t ↦ rw t at h | inr f ↦ let g : false ≡ true = rw f at h in absurd (cc) ]) k
+]
+
+-- a spelling without a mark is no reserved word that the grammar names
+abbrev is_found : Option Mark → Bool
+is_found None = false
+is_found (Some m) = true
+
+pub not_named : (s : List ℕ) → found_mark s ≡ None → is_among s named_words ≡ false
+not_named s e = elim (bool_cases (is_among s named_words)) [
+  | inl h ↦ let f : is_found (found_mark s) ≡ true = among_all (λ z. is_found (found_mark z)) s named_words refl h in let g : is_found None ≡ true = rw e at f in absurd (cc)
+  | inr h ↦ h
 ]

@@ -1,5 +1,7 @@
 -- What stands at the front of the bytes that are left.
-use Rattle.std.specs.Prelude.{◌≡◌, ℕ, ◌+◌, ◌-◌, ◌<◌, ◌≤◌, Bool, true, List, [], ◌∷◌, ◌++◌, nat_eq, ◌&&◌, false, Option, Some, None, codes, length, slice_index, take, drop}
+use Rattle.std.specs.Prelude.{◌≡◌, ℕ, ◌+◌, ◌-◌, ◌<◌, ◌≤◌, Bool, true, List, [], ◌∷◌, ◌++◌, nat_eq, ◌&&◌, false, Option, Some, None, codes, length, slice_index, take, drop, find, bytes_eq}
+use Rattle.std.specs.Option.{option_or}
+use Rattle.lra_lex.specs.declared.marks.TheConstants.{MARKS}
 use Rattle.std.specs.List.{list_all}
 use Rattle.lra_tree.specs.declared.tokens.Mark.{Mark}
 use Rattle.lra_tree.specs.Lexeme.{mark_text, IsUnclosed}
@@ -9,6 +11,14 @@ use Rattle.lra_lex.specs.Places.{fresh_behind}
 -- no operator and no reserved word that the grammar names
 abbrev pub IsNoMark : List ℕ → Type 0
 IsNoMark s = (m : Mark) → s ≡ mark_text m → ⊥
+
+-- the mark of this spelling
+abbrev pub found_mark : List ℕ → Option Mark
+found_mark s = find (λ m. bytes_eq (mark_text m) s) MARKS
+
+-- the operator of the first two bytes, or else of the first
+abbrev pub operator_at : List ℕ → Option Mark
+operator_at rest = option_or (found_mark (take 2 rest)) (found_mark (take 1 rest))
 
 abbrev pub opens_comment : List ℕ → Bool
 opens_comment s = nat_eq (slice_index s 0) 47 && nat_eq (slice_index s 1) 42

@@ -2,3 +2,4 @@
 pub mod Places
 pub mod Literal
 pub mod Front
+pub mod Read

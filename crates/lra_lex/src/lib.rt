@@ -3,6 +3,9 @@
 
 mod bytes;
 mod gaps;
+mod lexer;
 mod literals;
 mod marks;
 mod spot;
+
+pub use lexer::{LexError, one_reading, tokens};

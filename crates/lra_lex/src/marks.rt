@@ -1,9 +1,9 @@
 //! Operators and reserved words.
 
-ghost use Rattle.std.specs.Prelude.{◌≡◌, IfSome, IfNone, find, bytes_eq};
+ghost use Rattle.std.specs.Prelude.{◌≡◌, bytes_eq};
 ghost use Rattle.std.specs.List.{list_any};
 ghost use Rattle.lra_tree.specs.Lexeme.{mark_text, is_among, further_words};
-ghost use Rattle.lra_lex.specs.Front.{IsNoMark};
+ghost use Rattle.lra_lex.specs.Front.{found_mark};
 
 use lra_tree::Mark;
 
@@ -90,7 +90,8 @@ const FURTHER_WORDS: [&[u8]; 33] = [
     b"_Thread_local",
 ];
 
-fn spelling_of(mark: Mark) -> &'static [u8]
+/// How the mark is spelled.
+pub fn spelling_of(mark: Mark) -> &'static [u8]
     ensures { result.now ≡ mark_text mark }
 {
     match mark {
@@ -141,7 +142,7 @@ fn spelling_of(mark: Mark) -> &'static [u8]
 
 /// The operator, or reserved word that the grammar names, of this spelling.
 pub fn mark(spelling: &[u8]) -> Option<Mark>
-    ensures { result ≡ find (λ m. bytes_eq (mark_text m) spelling.now) MARKS }
+    ensures { result ≡ found_mark spelling.now }
 {
     MARKS
         .iter()
