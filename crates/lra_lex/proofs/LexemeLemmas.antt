@@ -96,9 +96,9 @@ none_at_two : (rest t b : List ℕ) (m : Mark) → rest ≡ t ++ b → t ≡ mar
 none_at_two rest t b m e f h n =
     let s = short_front rest t b m e f h in
     elim (cases_lt (length t) 2) [
-    | inl lt ↦ omega (arith, lt)
-    | inr ge ↦ let two : length t ≡ 2 = omega (arith, s.1, ge) in
-        let k : take 2 rest ≡ mark_text m = subst (λ (z : ℕ). take z rest ≡ mark_text m) two s.2 in absurd (found_none (take 2 rest) n m k)
+      | inl lt ↦ omega (arith, lt)
+      | inr ge ↦ let two : length t ≡ 2 = omega (arith, s.1, ge) in
+          let k : take 2 rest ≡ mark_text m = subst (λ (z : ℕ). take z rest ≡ mark_text m) two s.2 in absurd (found_none (take 2 rest) n m k)
     ]
 
 pub operator_found : (rest : List ℕ) (m : Mark) → is_word_byte (get_or rest 0 0) ≡ false → opens_comment rest ≡ false → operator_at rest ≡ Some m → IsLongest (mark_text m) rest
@@ -137,10 +137,10 @@ operator_none rest h o e t b k l =
     let u = only_mark t b l (rw k at h) (rw k at o) in
     let v = short_front rest t b u.0 k u.1 h in
     elim (option_cases (found_mark (take 2 rest))) [
-    | inr (j, n) ↦ let f : Some j ≡ None = rw n at e in absurd (cc)
-    | inl n ↦
-        let f : found_mark (take 1 rest) ≡ None = rw n at e in
-        let w = none_at_two rest t b u.0 k u.1 h n in
-        let one : length t ≡ 1 = omega (arith, w, v.0) in
-        found_none (take 1 rest) f u.0 (subst (λ (z : ℕ). take z rest ≡ mark_text u.0) one v.2)
+      | inr (j, n) ↦ let f : Some j ≡ None = rw n at e in absurd (cc)
+      | inl n ↦
+          let f : found_mark (take 1 rest) ≡ None = rw n at e in
+          let w = none_at_two rest t b u.0 k u.1 h n in
+          let one : length t ≡ 1 = omega (arith, w, v.0) in
+          found_none (take 1 rest) f u.0 (subst (λ (z : ℕ). take z rest ≡ mark_text u.0) one v.2)
     ]

@@ -214,8 +214,8 @@ one before (gap s ∷ ps) (gap t ∷ qs) r u e k l f g =
     let same = gap_one before s (bytes_of ps ++ r) t (bytes_of qs ++ u) whole k.0 l.0 in
     let left = append_cancel_left s (bytes_of ps ++ r) (bytes_of qs ++ u) (whole ∙ ap (λ (z : List ℕ). z ++ (bytes_of qs ++ u)) (sym same)) in
     let rest = one (before ++ s) ps qs r u left k.1 (subst (λ (z : List ℕ). IsReading (before ++ z) qs u) (sym same) l.1)
-            (subst (λ (z : List ℕ). IsFinal z r) (sym (append_assoc before s (bytes_of ps))) f)
-            (subst (λ (z : List ℕ). IsFinal z u) (ap (λ (z : List ℕ). before ++ (z ++ bytes_of qs)) (sym same) ∙ sym (append_assoc before s (bytes_of qs))) g) in
+    (subst (λ (z : List ℕ). IsFinal z r) (sym (append_assoc before s (bytes_of ps))) f)
+    (subst (λ (z : List ℕ). IsFinal z u) (ap (λ (z : List ℕ). before ++ (z ++ bytes_of qs)) (sym same) ∙ sym (append_assoc before s (bytes_of qs))) g) in
     (ap (λ (z : List ℕ). gap z ∷ ps) same ∙ ap (λ (z : List Piece). gap t ∷ z) rest.0, rest.1)
 one before (gap s ∷ ps) (token t y ∷ qs) r u e k l f g =
     let whole : s ++ (bytes_of ps ++ r) ≡ t ++ (bytes_of qs ++ u) = sym (append_assoc s (bytes_of ps) r) ∙ e ∙ append_assoc t (bytes_of qs) u in
@@ -228,8 +228,8 @@ one before (token s x ∷ ps) (token t y ∷ qs) r u e k l f g =
     let both = token_one before s t (s ++ (bytes_of ps ++ r)) x y k.0 (subst (λ (z : List ℕ). IsToken before t z y) (sym whole) l.0) in
     let left = append_cancel_left s (bytes_of ps ++ r) (bytes_of qs ++ u) (whole ∙ ap (λ (z : List ℕ). z ++ (bytes_of qs ++ u)) (sym both.0)) in
     let rest = one (before ++ s) ps qs r u left k.1 (subst (λ (z : List ℕ). IsReading (before ++ z) qs u) (sym both.0) l.1)
-            (subst (λ (z : List ℕ). IsFinal z r) (sym (append_assoc before s (bytes_of ps))) f)
-            (subst (λ (z : List ℕ). IsFinal z u) (ap (λ (z : List ℕ). before ++ (z ++ bytes_of qs)) (sym both.0) ∙ sym (append_assoc before s (bytes_of qs))) g) in
+    (subst (λ (z : List ℕ). IsFinal z r) (sym (append_assoc before s (bytes_of ps))) f)
+    (subst (λ (z : List ℕ). IsFinal z u) (ap (λ (z : List ℕ). before ++ (z ++ bytes_of qs)) (sym both.0) ∙ sym (append_assoc before s (bytes_of qs))) g) in
     (ap (λ (z : List ℕ). token z x ∷ ps) both.0 ∙ ap (λ (z : Token). token t z ∷ ps) both.1 ∙ ap (λ (z : List Piece). token t y ∷ z) rest.0, rest.1)
 
 -- one fault at a place

@@ -125,9 +125,12 @@ read_none source = record { pieces = []; parts = refl; reading = tt; tokens_are 
 pub read_all : (source rest : List ℕ) (tokens : List Token) (place : Place) (fresh : Bool) → rest ≡ [] → IsReadTo source rest tokens place fresh → Lex source (tokens ++ record { kind = End; place = place } ∷ [])
 read_all source rest tokens place fresh e r =
     let whole : source ≡ bytes_of r.pieces = r.parts ∙ ap (λ (z : List ℕ). bytes_of r.pieces ++ z) e ∙ append-nil (bytes_of r.pieces) in
-    let at : place ≡ place_behind source = r.place_is ∙ ap place_behind (sym whole) in
-    (r.pieces, whole, subst (λ (z : List ℕ). IsReading [] r.pieces z) e r.reading,
-      ap (λ (z : List Token). z ++ record { kind = End; place = place } ∷ []) r.tokens_are ∙ ap (λ (z : Place). tokens_of r.pieces ++ record { kind = End; place = z } ∷ []) at)
+    let at : place ≡ place_behind source = r.place_is ∙ ap place_behind (sym whole) in (
+      r.pieces,
+      whole,
+      subst (λ (z : List ℕ). IsReading [] r.pieces z) e r.reading,
+      ap (λ (z : List Token). z ++ record { kind = End; place = place } ∷ []) r.tokens_are ∙ ap (λ (z : Place). tokens_of r.pieces ++ record { kind = End; place = z } ∷ []) at,
+    )
 
 pub read_fault : (source rest : List ℕ) (tokens : List Token) (place : Place) (fresh : Bool) (r : Refusal) → IsReadTo source rest tokens place fresh → FaultsAt place fresh rest r → IsTokenFault source r.cause r.place
 read_fault source rest tokens place fresh r d f = (d.pieces, rest, d.parts, d.reading, f.faulty (bytes_of d.pieces) d.fresh_is, f.at_place ∙ d.place_is)

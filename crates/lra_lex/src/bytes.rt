@@ -53,5 +53,8 @@ pub fn line_length(bytes: &[u8]) -> usize
 pub fn indent(bytes: &[u8]) -> usize
     ensures { result ≡ prefix_len is_space_or_tab bytes.now }
 {
-    bytes.iter().take_while(|byte| is_space_or_tab(**byte)).count()
+    bytes
+        .iter()
+        .take_while(|byte| is_space_or_tab(**byte))
+        .count()
 }

@@ -135,7 +135,10 @@ fn token(alloc: Global, rest: &[u8], place: Place) -> Result<(usize, Kind), LexE
     if is_digit(first) {
         return match number_token(rest) {
             Some(token) => Ok(token),
-            None => Err(LexError::Refused(Refusal { cause: Cause::BadLiteral, place })),
+            None => Err(LexError::Refused(Refusal {
+                cause: Cause::BadLiteral,
+                place,
+            })),
         };
     }
     if opens_comment(rest) {
@@ -143,7 +146,10 @@ fn token(alloc: Global, rest: &[u8], place: Place) -> Result<(usize, Kind), LexE
     }
     match operator_token(rest) {
         Some(token) => Ok(token),
-        None => Err(LexError::Refused(Refusal { cause: Cause::BadByte, place })),
+        None => Err(LexError::Refused(Refusal {
+            cause: Cause::BadByte,
+            place,
+        })),
     }
 }
 
@@ -155,7 +161,10 @@ fn find(alloc: Global, rest: &[u8], spot: Spot) -> Result<Found, LexError>
     match gap(rest, spot.fresh) {
         Some(length) => Ok(Found { length, kind: None }),
         None => match token(alloc, rest, spot.place) {
-            Ok((length, kind)) => Ok(Found { length, kind: Some(kind) }),
+            Ok((length, kind)) => Ok(Found {
+                length,
+                kind: Some(kind),
+            }),
             Err(error) => Err(error),
         },
     }
@@ -177,7 +186,10 @@ pub fn tokens(alloc: Global, source: &[u8]) -> Result<Vec<Token>, LexError>
     ensures refused { IfRefused result (λ r. IsTokenFault source.now r.cause r.place) }
 {
     let mut tokens = Vec::new(alloc);
-    let mut spot = Spot { place: Place { line: 1, column: 1 }, fresh: true };
+    let mut spot = Spot {
+        place: Place { line: 1, column: 1 },
+        fresh: true,
+    };
     let mut rest = source;
     'pieces: while !rest.is_empty() {
         let found = find(alloc, rest, spot)?;
@@ -186,7 +198,10 @@ pub fn tokens(alloc: Global, source: &[u8]) -> Result<Vec<Token>, LexError>
         spot = spot.behind(bytes);
         rest = behind;
     }
-    tokens.push(Token { kind: Kind::End, place: spot.place })?;
+    tokens.push(Token {
+        kind: Kind::End,
+        place: spot.place,
+    })?;
     Ok(tokens)
 }
 

@@ -9,3 +9,6 @@ mod marks;
 mod spot;
 
 pub use lexer::{LexError, one_reading, tokens};
+
+#[cfg(test)]
+mod tests;

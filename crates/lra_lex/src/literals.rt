@@ -71,7 +71,10 @@ impl Radix {
     fn digits_length(self, bytes: &[u8]) -> usize
         ensures { result ≡ prefix_len (is_digit_of (base_of self)) bytes.now }
     {
-        bytes.iter().take_while(|byte| self.has_digit(**byte)).count()
+        bytes
+            .iter()
+            .take_while(|byte| self.has_digit(**byte))
+            .count()
     }
 }
 

@@ -35,6 +35,9 @@ impl Spot {
                 fresh = is_space_or_tab(*byte) && fresh;
             }
         }
-        Spot { place: Place { line, column }, fresh }
+        Spot {
+            place: Place { line, column },
+            fresh,
+        }
     }
 }

@@ -22,6 +22,6 @@ returns-then-is_include-clause-found c = rw c.line_length.ensures (skip_gap c.ar
 pub returns-else-fresh-clause-none : goal.returns-else-fresh-clause-none
 returns-else-fresh-clause-none c = else_no_gap c.args.fresh c.args.rest.now (sym c.is_blank.ensures ∙ c.if-is_blank.false) c.if-first-eq47.false
     (elim c.else-fresh.branch [
-    | else-fresh-via-then-fresh+else-is_include w ↦ λ f i. differ (w.is_include.ensures.1 i) w.if-is_include.false
-    | else-fresh-via-else-fresh w ↦ λ f i. differ f w.if-fresh.false
+      | else-fresh-via-then-fresh+else-is_include w ↦ λ f i. differ (w.is_include.ensures.1 i) w.if-is_include.false
+      | else-fresh-via-else-fresh w ↦ λ f i. differ f w.if-fresh.false
     ])

@@ -21,7 +21,7 @@ word_is rest behind text word n m e f g h k = cc
 pub returns-then-eq : goal.returns-then-eq
 returns-then-eq c =
     let w = word_is c.args.rest.now c.split_at.result.1.now c.split_at-2.result.1.now c.split_at-3.result.0.now c.indent.result c.word_length.result
-            c.split_at.ensures.back c.indent.ensures c.split_at-2.ensures.back c.word_length.ensures c.split_at-3.ensures.front in
+    c.split_at.ensures.back c.indent.ensures c.split_at-2.ensures.back c.word_length.ensures c.split_at-3.ensures.front in
     let sharp = slice_eq-Decides Decides-eqb c.split_at.result.0.now c.as_slice.result.now c.eq.result c.eq.ensures in
     let word = slice_eq-Decides Decides-eqb c.split_at-3.result.0.now c.as_slice-then-eq.result.now c.eq-then-eq.result c.eq-then-eq.ensures in (
       (λ t. include_is c.args.rest.now (sym c.split_at.ensures.front ∙ sharp.0 c.if-eq.true ∙ c.as_slice.ensures) (sym w ∙ word.0 t ∙ c.as_slice-then-eq.ensures)),
