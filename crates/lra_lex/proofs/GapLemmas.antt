@@ -1,16 +1,16 @@
 -- Gaps: where one begins, and that none begins elsewhere.
-use Rattle.std.proofs.Common.{◌≡◌, ℕ, zero, suc, ◌+◌, ◌-◌, ◌<◌, ◌≤◌, Bool, true, false, not, ◌||◌, ◌&&◌, nat_eq, List, [], ◌∷◌, ◌++◌, length, get_or, take, drop, refl, sym, ap, ◌∙◌, subst, arith, inl, inr, ◌⊎◌, length-append, append_assoc}
-use Rattle.std.proofs.lemmas.List.{append-nil, take_at, drop_at, take-append-drop, length-take, take_more, get_or-take, get_or_append_left, get_or-append-add, get_or_past}
+use Rattle.std.proofs.Common.{◌≡◌, ℕ, ◌+◌, ◌-◌, ◌<◌, Bool, true, false, ◌&&◌, nat_eq, List, [], ◌∷◌, ◌++◌, length, get_or, take, drop, refl, sym, ap, ◌∙◌, subst, arith, length-append, append_assoc}
+use Rattle.std.proofs.lemmas.List.{take_at, drop_at, take-append-drop, length-take, take_more, get_or-take, get_or-append-add}
 use Rattle.std.proofs.lemmas.List.Folds.{list_all-append}
-use Rattle.std.proofs.lemmas.Bool.{cases_lt}
+use Rattle.std.proofs.lemmas.Bool.{and_from, and_parts, eqb-true}
 use Rattle.std.proofs.lemmas.Bool.Decides.{nat_tests}
 use Rattle.std.specs.List.{list_all, prefix_len}
-use Rattle.std.specs.Prelude.{codes, IfSome, IfNone, Option, Some, None}
-use Rattle.lra_tree.specs.Lexeme.{is_word_byte, IsOpen, IsUnclosed}
+use Rattle.std.specs.Prelude.{codes}
+use Rattle.lra_tree.specs.Lexeme.{is_word_byte, IsOpen}
 use Rattle.lra_tree.specs.Tokens.{is_blank, is_space_or_tab, in_line, IsGap, blank, line_comment, block_comment, skipped_line, NoGap, IsLineEnd, IsLineFront, IsWordEnd}
 use Rattle.lra_lex.specs.Places.{fresh_behind}
 use Rattle.lra_lex.specs.Front.{opens_comment, IsCloseAt, IsFirstClose, IsInclude, BeginsGap, HasNoGap}
-use Rattle.lra_lex.proofs.RunLemmas.{IsRun, run_is, run_exact, Stops, and_split, and_join, bool_cases, differ}
+use Rattle.lra_lex.proofs.RunLemmas.{run_is, run_exact, Stops, differ}
 use Rattle.lra_lex.proofs.LineLemmas.{fresh_front, front_fresh}
 
 -- where a comment ends -------------------------------------------------------------------------------------------------------
@@ -122,9 +122,6 @@ word_stops : (after : List ℕ) → IsWordEnd after → Stops is_word_byte after
 word_stops [] s = tt
 word_stops (c ∷ after) s = s
 
-abbrev behind_sharp : List ℕ → List ℕ
-behind_sharp rest = drop 1 rest
-
 abbrev pub include_text : List ℕ → List ℕ
 include_text rest = drop (prefix_len is_space_or_tab (drop 1 rest)) (drop 1 rest)
 
@@ -159,13 +156,13 @@ is_include rest i =
 blanks_in_line : (blanks : List ℕ) → list_all is_space_or_tab blanks ≡ true → list_all in_line blanks ≡ true
 blanks_in_line [] h = refl
 blanks_in_line (c ∷ blanks) h =
-    let k = and_split (is_space_or_tab c) (list_all is_space_or_tab blanks) h in
-    let l : in_line c ≡ true = grind (arith, nat_tests) in and_join (in_line c) (list_all in_line blanks) l (blanks_in_line blanks k.1)
+    let k = and_parts (is_space_or_tab c) (list_all is_space_or_tab blanks) h in
+    let l : in_line c ≡ true = grind (arith, nat_tests) in and_from (in_line c) (list_all in_line blanks) l (blanks_in_line blanks k.1)
 
 pub include_in_line : (blanks text : List ℕ) → list_all is_space_or_tab blanks ≡ true → list_all in_line text ≡ true → list_all in_line (codes "#" ++ blanks ++ codes "include" ++ text) ≡ true
 include_in_line blanks text b t =
     rw (list_all-append in_line (codes "#" ++ blanks ++ codes "include") text, list_all-append in_line (codes "#" ++ blanks) (codes "include"), list_all-append in_line (codes "#") blanks)
-    (and_join (list_all in_line blanks && true) (list_all in_line text) (and_join (list_all in_line blanks) true (blanks_in_line blanks b) refl) t)
+    (and_from (list_all in_line blanks && true) (list_all in_line text) (and_from (list_all in_line blanks) true (blanks_in_line blanks b) refl) t)
 
 front_word_end : (t a : List ℕ) → IsWordEnd (t ++ a) → IsWordEnd t
 front_word_end [] a h = tt
@@ -212,11 +209,8 @@ no_gap before rest b l o i gap after e (skipped_line blanks text f h k w t n) =
 sharp_first : (rest : List ℕ) → IsInclude rest → get_or rest 0 0 ≡ 47 → ⊥
 sharp_first rest i c = let h : get_or rest 0 0 ≡ 35 = ap (λ (z : List ℕ). get_or z 0 0) (i.parts ∙ ap (λ (z : List ℕ). z ++ i.text) (append_assoc (codes "#") i.blanks (codes "include"))) in omega (arith, h, c)
 
-eq_of : (m n : ℕ) → nat_eq m n ≡ true → m ≡ n
-eq_of m n h = grind (arith, nat_tests)
-
 slash_first : (rest : List ℕ) → opens_comment rest ≡ true → get_or rest 0 0 ≡ 47
-slash_first rest h = eq_of (get_or rest 0 0) 47 (and_split (nat_eq (get_or rest 0 0) 47) (nat_eq (get_or rest 1 0) 42) h).0
+slash_first rest h = eqb-true (get_or rest 0 0) 47 (and_parts (nat_eq (get_or rest 0 0) 47) (nat_eq (get_or rest 1 0) 42) h).0
 
 pub no_close : (fresh : Bool) (rest : List ℕ) → 1 < length rest → get_or rest 0 0 ≡ 47 → get_or rest 1 0 ≡ 42 → ((k : ℕ) → k + 1 < length (drop 2 rest) → IsCloseAt (drop 2 rest) k → ⊥) → HasNoGap fresh rest
 no_close fresh rest h c d k =

@@ -1,18 +1,14 @@
 -- Longest spellings.
-use Rattle.std.proofs.Common.{◌≡◌, ℕ, zero, suc, ◌+◌, ◌<◌, ◌≤◌, Bool, true, false, not, ◌||◌, ◌&&◌, nat_eq, nat_le, List, [], ◌∷◌, ◌++◌, length, get_or, take, drop, Option, Some, None, bytes_eq, refl, sym, ap, ◌∙◌, subst, arith, inl, inr, ◌⊎◌, length-append}
+use Rattle.std.proofs.Common.{◌≡◌, ℕ, ◌≤◌, Bool, true, false, not, ◌||◌, nat_le, List, [], ◌∷◌, ◌++◌, length, get_or, take, drop, Option, Some, None, refl, sym, ap, ◌∙◌, subst, arith, inl, inr, ◌⊎◌, length-append}
 use Rattle.std.proofs.lemmas.List.{append-nil, take_at, take-append-drop, length-take}
-use Rattle.std.proofs.lemmas.Bool.{cases_lt}
-use Rattle.std.proofs.lemmas.Bool.Decides.{nat_tests}
-use Rattle.std.specs.Option.{option_or}
+use Rattle.std.proofs.lemmas.Bool.{cases_lt, and_from, and_parts, leb-true, or_left, or_right}
 use Rattle.std.specs.List.{list_all, prefix_len}
 use Rattle.std.specs.Prelude.{codes}
 use Rattle.lra_tree.specs.declared.tokens.Mark.{Mark}
-use Rattle.lra_tree.specs.declared.tokens.Kind.{Kind}
-use Rattle.lra_tree.specs.declared.tokens.Kind.TheVariants as kind
-use Rattle.lra_tree.specs.Lexeme.{is_word_byte, is_letter, is_digit, is_word, is_number_word, mark_text, is_among, named_words, further_words, Lexeme, word, number_word, mark_word, unclosed, IsUnclosed}
+use Rattle.lra_tree.specs.Lexeme.{is_word_byte, is_letter, is_digit, mark_text, Lexeme, word, number_word, mark_word, unclosed}
 use Rattle.lra_tree.specs.Tokens.{IsLongest}
 use Rattle.lra_lex.specs.Front.{opens_comment, found_mark, operator_at}
-use Rattle.lra_lex.proofs.RunLemmas.{IsRun, and_split, and_join, or_left, or_right, or_split, bool_cases, differ, run_longest, run_exact}
+use Rattle.lra_lex.proofs.RunLemmas.{IsRun, differ, run_longest, run_exact}
 use Rattle.lra_lex.proofs.MarkLemmas.{mark_wordy, mark_short, mark_some, found_is, found_none}
 
 pub letter_is : (c : ℕ) → is_letter c ≡ true → is_word_byte c ≡ true
@@ -25,24 +21,17 @@ or_second : (a b : Bool) → (a || b) ≡ true → a ≡ false → b ≡ true
 or_second true b h e = absurd (cc)
 or_second false b h e = h
 
-pub le_of : (m n : ℕ) → nat_le m n ≡ true → m ≤ n
-le_of m n h = grind (arith, nat_tests)
-
-not_or : (a b : Bool) → (not a || b) ≡ true → a ≡ true → b ≡ true
+pub not_or : (a b : Bool) → (not a || b) ≡ true → a ≡ true → b ≡ true
 not_or true b h e = h
 not_or false b h e = absurd (cc)
 
 -- a lexeme that begins like a word is one run
 wordy : (t : List ℕ) → Lexeme t → is_word_byte (get_or t 0 0) ≡ true → list_all is_word_byte t ≡ true
 wordy [] l h = refl
-wordy (c ∷ cs) (word w) h = and_join (is_word_byte c) (list_all is_word_byte cs) h (and_split (is_letter c) (list_all is_word_byte cs) w).1
-wordy (c ∷ cs) (number_word w) h = and_join (is_word_byte c) (list_all is_word_byte cs) h (and_split (is_digit c) (list_all is_word_byte cs) w).1
+wordy (c ∷ cs) (word w) h = and_from (is_word_byte c) (list_all is_word_byte cs) h (and_parts (is_letter c) (list_all is_word_byte cs) w).1
+wordy (c ∷ cs) (number_word w) h = and_from (is_word_byte c) (list_all is_word_byte cs) h (and_parts (is_digit c) (list_all is_word_byte cs) w).1
 wordy (c ∷ cs) (mark_word m e) h = subst (λ (z : List ℕ). list_all is_word_byte z ≡ true) (sym e) (not_or (is_word_byte (get_or (mark_text m) 0 0)) (list_all is_word_byte (mark_text m)) (mark_wordy m) (subst (λ (z : List ℕ). is_word_byte (get_or z 0 0) ≡ true) e h))
 wordy (c ∷ cs) (unclosed u) h = let f : is_word_byte 47 ≡ true = subst (λ (z : List ℕ). is_word_byte (get_or z 0 0) ≡ true) u.1 h in absurd (cc)
-
-same_first : (t b : List ℕ) → 0 < length t → get_or (t ++ b) 0 0 ≡ get_or t 0 0
-same_first [] b h = absurd (omega arith)
-same_first (c ∷ t) b h = refl
 
 -- the run of a word is its longest spelling
 longest_run : (rest t b s after : List ℕ) → IsRun is_word_byte rest s after → is_word_byte (get_or rest 0 0) ≡ true → rest ≡ t ++ b → Lexeme t → length t ≤ length s
@@ -70,8 +59,8 @@ only_mark [] b (word w) h o = absurd (cc)
 only_mark [] b (number_word w) h o = absurd (cc)
 only_mark [] b (mark_word m e) h o = (m, e)
 only_mark [] b (unclosed u) h o = let f : [] ≡ 47 ∷ 42 ∷ u.0 = u.1 in absurd (cc)
-only_mark (c ∷ cs) b (word w) h o = absurd (differ (letter_is c (and_split (is_letter c) (list_all is_word_byte cs) w).0) h)
-only_mark (c ∷ cs) b (number_word w) h o = absurd (differ (digit_is c (and_split (is_digit c) (list_all is_word_byte cs) w).0) h)
+only_mark (c ∷ cs) b (word w) h o = absurd (differ (letter_is c (and_parts (is_letter c) (list_all is_word_byte cs) w).0) h)
+only_mark (c ∷ cs) b (number_word w) h o = absurd (differ (digit_is c (and_parts (is_digit c) (list_all is_word_byte cs) w).0) h)
 only_mark (c ∷ cs) b (mark_word m e) h o = (m, e)
 only_mark (c ∷ cs) b (unclosed u) h o = let f : opens_comment ((codes "/*" ++ u.0) ++ b) ≡ false = subst (λ (z : List ℕ). opens_comment (z ++ b) ≡ false) u.1 o in absurd (cc)
 
@@ -80,12 +69,12 @@ option_cases None = inl refl
 option_cases (Some m) = inr (m, refl)
 
 at_most_two : (m : Mark) → is_word_byte (get_or (mark_text m) 0 0) ≡ false → length (mark_text m) ≤ 2
-at_most_two m h = le_of (length (mark_text m)) 2 (or_second (is_word_byte (get_or (mark_text m) 0 0)) (nat_le (length (mark_text m)) 2) (mark_short m) h)
+at_most_two m h = leb-true (length (mark_text m)) 2 (or_second (is_word_byte (get_or (mark_text m) 0 0)) (nat_le (length (mark_text m)) 2) (mark_short m) h)
 
 -- an operator at the front is its first byte or its first two
 short_front : (rest t b : List ℕ) (m : Mark) → rest ≡ t ++ b → t ≡ mark_text m → is_word_byte (get_or rest 0 0) ≡ false
     → (1 ≤ length t) × (length t ≤ 2) × (take (length t) rest ≡ mark_text m)
-short_front rest [] b m e f h = let k = le_of 1 (length (mark_text m)) (mark_some m) in let g = ap (λ (z : List ℕ). length z) f in absurd (omega (arith, k, g))
+short_front rest [] b m e f h = let k = leb-true 1 (length (mark_text m)) (mark_some m) in let g = ap (λ (z : List ℕ). length z) f in absurd (omega (arith, k, g))
 short_front rest (c ∷ t) b m e f h =
     let k : is_word_byte (get_or (mark_text m) 0 0) ≡ false = subst (λ (z : List ℕ). is_word_byte (get_or z 0 0) ≡ false) f (rw e at h) in
     let g = ap (λ (z : List ℕ). length z) f in

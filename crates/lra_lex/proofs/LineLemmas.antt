@@ -1,12 +1,12 @@
 -- Places and fronts of lines, a piece at a time.
-use Rattle.std.proofs.Common.{◌≡◌, ℕ, ◌+◌, ◌<◌, ◌≤◌, Bool, true, false, ◌||◌, ◌&&◌, nat_eq, List, [], ◌∷◌, ◌++◌, length, refl, sym, ap, ◌∙◌, subst, arith, inl, inr, ◌⊎◌, append_assoc}
+use Rattle.std.proofs.Common.{◌≡◌, ℕ, ◌+◌, ◌≤◌, Bool, true, ◌||◌, ◌&&◌, nat_eq, List, [], ◌∷◌, ◌++◌, length, refl, sym, ap, ◌∙◌, subst, arith, inl, inr, ◌⊎◌, append_assoc}
+use Rattle.std.proofs.lemmas.Bool.{and_parts, cases_Bool, or_cases}
 use Rattle.std.proofs.lemmas.List.{append-nil}
 use Rattle.std.proofs.lemmas.Bool.Decides.{nat_tests}
 use Rattle.std.specs.List.{list_all}
 use Rattle.lra_tree.specs.declared.refusals.Place.{Place}
-use Rattle.lra_tree.specs.Tokens.{next_place, place_from, place_behind, is_space_or_tab, IsLineFront}
+use Rattle.lra_tree.specs.Tokens.{next_place, place_from, is_space_or_tab, IsLineFront}
 use Rattle.lra_lex.specs.Places.{fresh_behind}
-use Rattle.lra_lex.proofs.RunLemmas.{and_split, or_split, bool_cases}
 
 pub place_from-append : (p : Place) (xs ys : List ℕ) → place_from p (xs ++ ys) ≡ place_from (place_from p xs) ys
 place_from-append p [] ys = refl
@@ -18,7 +18,7 @@ fresh_behind-append f (c ∷ xs) ys = fresh_behind-append (nat_eq c 10 || (is_sp
 
 -- a byte goes on by a line or a column at most
 next_within : (p : Place) (c : ℕ) → ((next_place p c).line ≤ p.line + 1) × ((next_place p c).column ≤ p.column + 1)
-next_within p c = elim (bool_cases (nat_eq c 10)) [ inl e ↦ rw e (omega arith, omega arith) | inr e ↦ rw e (omega arith, omega arith) ]
+next_within p c = elim (cases_Bool (nat_eq c 10)) [ inl e ↦ rw e (omega arith, omega arith) | inr e ↦ rw e (omega arith, omega arith) ]
 
 pub within : (p : Place) (xs : List ℕ) → ((place_from p xs).line ≤ p.line + length xs) × ((place_from p xs).column ≤ p.column + length xs)
 within p [] = (omega arith, omega arith)
@@ -29,7 +29,7 @@ within p (c ∷ xs) = let r = within (next_place p c) xs in let n = next_within 
 blanks_fresh : (blanks : List ℕ) → list_all is_space_or_tab blanks ≡ true → fresh_behind true blanks ≡ true
 blanks_fresh [] h = refl
 blanks_fresh (c ∷ blanks) h =
-    let k = and_split (is_space_or_tab c) (list_all is_space_or_tab blanks) h in
+    let k = and_parts (is_space_or_tab c) (list_all is_space_or_tab blanks) h in
     let e : (nat_eq c 10 || (is_space_or_tab c && true)) ≡ true = grind (arith, nat_tests) in rw e (blanks_fresh blanks k.1)
 
 lines_fresh : (lines : List ℕ) → (lines ≡ []) ⊎ ((ls : List ℕ) × (lines ≡ ls ++ 10 ∷ [])) → fresh_behind true lines ≡ true
@@ -44,7 +44,7 @@ after_feed before = record { lines = before ++ 10 ∷ []; blanks = []; parts = s
 
 all_more : (xs : List ℕ) (c : ℕ) → list_all is_space_or_tab xs ≡ true → is_space_or_tab c ≡ true → list_all is_space_or_tab (xs ++ c ∷ []) ≡ true
 all_more [] c h k = rw k refl
-all_more (x ∷ xs) c h k = let s = and_split (is_space_or_tab x) (list_all is_space_or_tab xs) h in rw s.0 (all_more xs c s.1 k)
+all_more (x ∷ xs) c h k = let s = and_parts (is_space_or_tab x) (list_all is_space_or_tab xs) h in rw s.0 (all_more xs c s.1 k)
 
 after_blank : (before : List ℕ) (c : ℕ) → is_space_or_tab c ≡ true → IsLineFront before → IsLineFront (before ++ c ∷ [])
 after_blank before c e h = record {
@@ -56,9 +56,9 @@ after_blank before c e h = record {
 }
 
 one_more : (f : Bool) (before : List ℕ) (c : ℕ) → (f ≡ true → IsLineFront before) → (nat_eq c 10 || (is_space_or_tab c && f)) ≡ true → IsLineFront (before ++ c ∷ [])
-one_more f before c h e = elim (or_split (nat_eq c 10) (is_space_or_tab c && f) e) [
+one_more f before c h e = elim (or_cases (nat_eq c 10) (is_space_or_tab c && f) e) [
   | inl k ↦ let feed : c ≡ 10 = grind (arith, nat_tests) in rw feed (after_feed before)
-  | inr k ↦ let s = and_split (is_space_or_tab c) f k in after_blank before c s.0 (h s.1)
+  | inr k ↦ let s = and_parts (is_space_or_tab c) f k in after_blank before c s.0 (h s.1)
 ]
 
 fresh_on : (f : Bool) (before xs : List ℕ) → (f ≡ true → IsLineFront before) → fresh_behind f xs ≡ true → IsLineFront (before ++ xs)

@@ -1,13 +1,14 @@
 -- A literal is cut into its parts in one way.
-use Rattle.std.proofs.Common.{◌≡◌, ℕ, zero, suc, ◌+◌, ◌*◌, ◌<◌, ◌≤◌, Bool, true, false, not, ◌||◌, ◌&&◌, nat_eq, nat_le, List, [], ◌∷◌, ◌++◌, length, get_or, take, drop, refl, sym, ap, ◌∙◌, subst, arith, inl, inr, ◌⊎◌, length-append, append_assoc}
-use Rattle.std.proofs.lemmas.List.{append-nil, take_at, drop_at, take-append-drop, length-take, drop_more}
+use Rattle.std.proofs.Common.{◌≡◌, ℕ, suc, ◌+◌, ◌*◌, ◌<◌, ◌≤◌, Bool, true, false, not, ◌||◌, ◌&&◌, nat_eq, List, [], ◌∷◌, ◌++◌, length, get_or, take, drop, refl, sym, ap, ◌∙◌, subst, arith, inl, inr, append_assoc}
+use Rattle.std.proofs.lemmas.Bool.{and_parts, cases_Bool, eqb-true, not-true, or_cases}
+use Rattle.std.proofs.lemmas.List.{take_at, drop_at, take-append-drop, drop_more}
 use Rattle.std.proofs.lemmas.List.Sums.{prefix_len-le-length}
 use Rattle.std.proofs.lemmas.Bool.Decides.{nat_tests}
 use Rattle.std.specs.List.{list_all, prefix_len}
-use Rattle.std.specs.Prelude.{codes, ◌≢◌, if◌then◌else◌, IfSome, IfNone, Option, Some, None}
+use Rattle.std.specs.Prelude.{◌≢◌, if◌then◌else◌, IfSome, IfNone, Option, Some, None}
 use Rattle.lra_tree.specs.Lexeme.{Base, octal, decimal_base, hexadecimal, base_number, is_digit_of, is_digit, is_between, digit_value, number_behind, IsFront, IsLiteral, suffixes, is_among, greatest_literal}
 use Rattle.lra_lex.specs.Literal.{base_at, front_size}
-use Rattle.lra_lex.proofs.RunLemmas.{IsRun, run_is, run_exact, Stops, and_split, or_split, bool_cases, differ}
+use Rattle.lra_lex.proofs.RunLemmas.{run_is, run_exact, Stops}
 use Rattle.lra_lex.proofs.MarkLemmas.{among_all}
 
 -- numbers ------------------------------------------------------------------------------------------------------------------
@@ -16,9 +17,6 @@ base_some : (b : Base) → (1 ≤ base_number b) × (base_number b ≤ 16)
 base_some octal = (omega arith, omega arith)
 base_some decimal_base = (omega arith, omega arith)
 base_some hexadecimal = (omega arith, omega arith)
-
-pub at_most_sixteen : (b : Base) → base_number b ≤ 16
-at_most_sixteen b = (base_some b).1
 
 at_least : (n m : ℕ) → 1 ≤ m → n ≤ n * m
 at_least n m h = grind arith
@@ -44,10 +42,6 @@ begins_suffix s = not (is_digit_of hexadecimal (get_or s 0 0)) && not (nat_eq (g
 suffix_begins : (s : List ℕ) → is_among s suffixes ≡ true → begins_suffix s ≡ true
 suffix_begins s h = among_all begins_suffix s suffixes refl h
 
-not_true : (a : Bool) → not a ≡ true → a ≡ false
-not_true true h = absurd (cc)
-not_true false h = refl
-
 no_digit : (b : Base) (c : ℕ) → is_digit_of hexadecimal c ≡ false → is_digit_of b c ≡ false
 no_digit octal c h = grind (arith, nat_tests)
 no_digit decimal_base c h = grind (arith, nat_tests)
@@ -56,12 +50,12 @@ no_digit hexadecimal c h = h
 suffix_stops : (b : Base) (s : List ℕ) → is_among s suffixes ≡ true → Stops (is_digit_of b) s
 suffix_stops b [] h = tt
 suffix_stops b (c ∷ cs) h =
-    no_digit b c (not_true (is_digit_of hexadecimal c) (and_split (not (is_digit_of hexadecimal c)) (not (nat_eq c 120 || nat_eq c 88)) (suffix_begins (c ∷ cs) h)).0)
+    no_digit b c (not-true (is_digit_of hexadecimal c) (and_parts (not (is_digit_of hexadecimal c)) (not (nat_eq c 120 || nat_eq c 88)) (suffix_begins (c ∷ cs) h)).0)
 
 no_x : (digits suffix : List ℕ) → list_all (is_digit_of octal) digits ≡ true → is_among suffix suffixes ≡ true
     → (nat_eq (get_or (digits ++ suffix) 0 0) 120 || nat_eq (get_or (digits ++ suffix) 0 0) 88) ≡ false
-no_x [] suffix d s = not_true (nat_eq (get_or suffix 0 0) 120 || nat_eq (get_or suffix 0 0) 88) (and_split (not (is_digit_of hexadecimal (get_or suffix 0 0))) (not (nat_eq (get_or suffix 0 0) 120 || nat_eq (get_or suffix 0 0) 88)) (suffix_begins suffix s)).1
-no_x (c ∷ digits) suffix d s = let h = (and_split (is_between 48 55 c) (list_all (is_digit_of octal) digits) d).0 in grind (arith, nat_tests)
+no_x [] suffix d s = not-true (nat_eq (get_or suffix 0 0) 120 || nat_eq (get_or suffix 0 0) 88) (and_parts (not (is_digit_of hexadecimal (get_or suffix 0 0))) (not (nat_eq (get_or suffix 0 0) 120 || nat_eq (get_or suffix 0 0) 88)) (suffix_begins suffix s)).1
+no_x (c ∷ digits) suffix d s = let h = (and_parts (is_between 48 55 c) (list_all (is_digit_of octal) digits) d).0 in grind (arith, nat_tests)
 
 abbrev PartsAre : List ℕ → Base → List ℕ → List ℕ → Type 0
 PartsAre s base digits suffix = (base ≡ base_at s) × (drop (front_size base) s ≡ digits ++ suffix)
@@ -133,7 +127,7 @@ two_are (x ∷ y ∷ s) c d p e f = cc
 
 decimal_front : (s : List ℕ) → nat_eq (get_or s 0 0) 48 ≡ false → digits_of decimal_base s ≢ [] → IsFront decimal_base [] (digits_of decimal_base s)
 decimal_front [] n k = absurd (k refl)
-decimal_front (c ∷ cs) n k = elim (bool_cases (is_digit c)) [
+decimal_front (c ∷ cs) n k = elim (cases_Bool (is_digit c)) [
   | inr h ↦ let e : digits_of decimal_base (c ∷ cs) ≡ [] = rw h refl in absurd (k e)
   | inl h ↦
       let e : prefix_len is_digit (c ∷ cs) ≡ suc (prefix_len is_digit cs) = rw h (omega arith) in
@@ -151,16 +145,13 @@ tells true true = (refl, refl)
 tells true false = refl
 tells false y = refl
 
-eq_of : (m n : ℕ) → nat_eq m n ≡ true → m ≡ n
-eq_of m n h = grind (arith, nat_tests)
-
 front_of : (s : List ℕ) (b : Base) → Tells b (nat_eq (get_or s 0 0) 48) (nat_eq (get_or s 1 0) 120 || nat_eq (get_or s 1 0) 88)
     → (b ≢ octal → digits_of b s ≢ []) → IsFront b (take (front_size b) s) (digits_of b s)
-front_of s octal t k = first_is s 48 (omega arith) (eq_of (get_or s 0 0) 48 t)
+front_of s octal t k = first_is s 48 (omega arith) (eqb-true (get_or s 0 0) 48 t)
 front_of s decimal_base t k = decimal_front s t (k (λ e. cc))
-front_of s hexadecimal t k = elim (or_split (nat_eq (get_or s 1 0) 120) (nat_eq (get_or s 1 0) 88) t.1) [
-  | inl h ↦ (inl (two_are s 48 120 (omega arith) (eq_of (get_or s 0 0) 48 t.0) (eq_of (get_or s 1 0) 120 h)), k (λ e. cc))
-  | inr h ↦ (inr (two_are s 48 88 (omega arith) (eq_of (get_or s 0 0) 48 t.0) (eq_of (get_or s 1 0) 88 h)), k (λ e. cc))
+front_of s hexadecimal t k = elim (or_cases (nat_eq (get_or s 1 0) 120) (nat_eq (get_or s 1 0) 88) t.1) [
+  | inl h ↦ (inl (two_are s 48 120 (omega arith) (eqb-true (get_or s 0 0) 48 t.0) (eqb-true (get_or s 1 0) 120 h)), k (λ e. cc))
+  | inr h ↦ (inr (two_are s 48 88 (omega arith) (eqb-true (get_or s 0 0) 48 t.0) (eqb-true (get_or s 1 0) 88 h)), k (λ e. cc))
 ]
 
 pub cut_literal : (s : List ℕ) (n : ℕ) → IsCut s n → IsLiteral s n

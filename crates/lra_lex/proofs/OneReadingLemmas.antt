@@ -1,5 +1,6 @@
 -- A source has one reading: at each place one gap, or one token with its spelling, or one fault.
-use Rattle.std.proofs.Common.{◌≡◌, ℕ, zero, suc, ◌+◌, ◌<◌, ◌≤◌, Bool, true, false, ◌||◌, ◌&&◌, nat_eq, not, List, [], ◌∷◌, ◌++◌, length, get_or, take, drop, refl, sym, ap, ◌∙◌, subst, arith, inl, inr, ◌⊎◌, append_assoc, length-append}
+use Rattle.std.proofs.Common.{◌≡◌, ℕ, ◌+◌, ◌<◌, ◌≤◌, true, false, ◌&&◌, nat_eq, List, [], ◌∷◌, ◌++◌, length, get_or, take, drop, refl, sym, ap, ◌∙◌, subst, arith, inl, inr, ◌⊎◌, append_assoc, length-append}
+use Rattle.std.proofs.lemmas.Bool.{and_parts, cases_Bool, leb-true}
 use Rattle.std.proofs.lemmas.List.{append-nil, take_at, append_cancel_left}
 use Rattle.std.proofs.lemmas.Bool.Decides.{nat_tests}
 use Rattle.std.specs.List.{list_all, prefix_len}
@@ -13,11 +14,11 @@ use Rattle.lra_tree.specs.declared.tokens.Kind.{Kind}
 use Rattle.lra_tree.specs.declared.tokens.Kind.TheVariants as kind
 use Rattle.lra_tree.specs.declared.tokens.Token.{Token}
 use Rattle.lra_tree.specs.Lexeme.{is_letter, is_digit, is_word_byte, is_word, is_number_word, mark_text, is_among, named_words, further_words, IsOpen, IsUnclosed, IsLiteral, greatest_literal, Lexeme, word, number_word, mark_word, unclosed, SpellsToken, name, number, mark_of, reserved, comment}
-use Rattle.lra_tree.specs.Tokens.{is_blank, in_line, IsLineEnd, IsGap, blank, line_comment, block_comment, skipped_line, NoGap, IsLongest, IsToken, Piece, gap, token, bytes_of, tokens_of, IsReading, IsFaulty, place_behind, end_token, Lex, IsTokenFault, OneReading}
+use Rattle.lra_tree.specs.Tokens.{is_blank, in_line, IsLineEnd, IsGap, blank, line_comment, block_comment, skipped_line, IsLongest, IsToken, Piece, gap, token, bytes_of, tokens_of, IsReading, IsFaulty, place_behind, end_token, OneReading}
 use Rattle.lra_lex.specs.Front.{opens_comment}
-use Rattle.lra_lex.proofs.RunLemmas.{run_exact, Stops, and_split, and_join, or_split, bool_cases, differ}
+use Rattle.lra_lex.proofs.RunLemmas.{run_exact, Stops, differ}
 use Rattle.lra_lex.proofs.MarkLemmas.{mark_one, mark_some, mark_named, mark_no_number, mark_no_further, among_all}
-use Rattle.lra_lex.proofs.LexemeLemmas.{le_of, letter_is}
+use Rattle.lra_lex.proofs.LexemeLemmas.{not_or}
 use Rattle.lra_lex.proofs.GapLemmas.{include_in_line}
 use Rattle.lra_lex.proofs.LiteralLemmas.{literal_one}
 
@@ -33,9 +34,9 @@ open_more : (c : ℕ) (text : List ℕ) → IsOpen ((c ∷ text) ++ codes "*") �
 open_more c text o front rest e = o (c ∷ front) rest (ap (λ (z : List ℕ). c ∷ z) e)
 
 no_close : (c d : ℕ) (text : List ℕ) → IsOpen (c ∷ d ∷ text) → (nat_eq c 42 && nat_eq d 47) ≡ false
-no_close c d text o = elim (bool_cases (nat_eq c 42 && nat_eq d 47)) [
+no_close c d text o = elim (cases_Bool (nat_eq c 42 && nat_eq d 47)) [
   | inl h ↦
-      let k = and_split (nat_eq c 42) (nat_eq d 47) h in
+      let k = and_parts (nat_eq c 42) (nat_eq d 47) h in
       let star : c ≡ 42 = grind (arith, nat_tests) in
       let slash : d ≡ 47 = grind (arith, nat_tests) in
       let e : c ∷ d ∷ text ≡ (codes "" ++ codes "*/") ++ text = rw (star, slash) refl in absurd (o (codes "") text e)
@@ -90,7 +91,7 @@ longest_one s t rest h k =
 lexeme_some : (s : List ℕ) → Lexeme s → 0 < length s
 lexeme_some [] (word w) = absurd (cc)
 lexeme_some [] (number_word w) = absurd (cc)
-lexeme_some [] (mark_word m e) = let k = le_of 1 (length (mark_text m)) (mark_some m) in let n = ap (λ (z : List ℕ). length z) e in omega (arith, k, n)
+lexeme_some [] (mark_word m e) = let k = leb-true 1 (length (mark_text m)) (mark_some m) in let n = ap (λ (z : List ℕ). length z) e in omega (arith, k, n)
 lexeme_some [] (unclosed u) = let n = ap (λ (z : List ℕ). length z) u.1 in omega (arith, n)
 lexeme_some (c ∷ s) l = omega arith
 
@@ -99,14 +100,10 @@ not_letter_digit c h k = grind (arith, nat_tests)
 
 word_number : (s : List ℕ) → is_word s ≡ true → is_number_word s ≡ true → ⊥
 word_number [] h k = absurd (cc)
-word_number (c ∷ s) h k = not_letter_digit c (and_split (is_letter c) (list_all is_word_byte s) h).0 (and_split (is_digit c) (list_all is_word_byte s) k).0
-
-or_not : (a b : Bool) → (not a || b) ≡ true → a ≡ true → b ≡ true
-or_not true b h e = h
-or_not false b h e = absurd (cc)
+word_number (c ∷ s) h k = not_letter_digit c (and_parts (is_letter c) (list_all is_word_byte s) h).0 (and_parts (is_digit c) (list_all is_word_byte s) k).0
 
 name_mark : (s : List ℕ) (m : Mark) → is_word s ≡ true → is_among s named_words ≡ false → s ≡ mark_text m → ⊥
-name_mark s m w n e = differ (or_not (is_word (mark_text m)) (is_among (mark_text m) named_words) (mark_named m) (rw e at w)) (rw e at n)
+name_mark s m w n e = differ (not_or (is_word (mark_text m)) (is_among (mark_text m) named_words) (mark_named m) (rw e at w)) (rw e at n)
 
 comment_word : (s : List ℕ) → is_word s ≡ true → IsUnclosed s → ⊥
 comment_word s w u = let h : is_word (codes "/*" ++ u.0) ≡ true = rw u.1 at w in absurd (cc)

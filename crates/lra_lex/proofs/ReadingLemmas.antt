@@ -1,25 +1,21 @@
 -- How far a source is read, a piece at a time.
-use Rattle.std.proofs.Common.{◌≡◌, ℕ, ◌+◌, ◌<◌, ◌≤◌, Bool, true, false, List, [], ◌∷◌, ◌++◌, length, take, drop, Option, Some, None, refl, sym, ap, ◌∙◌, subst, arith, append_assoc, length-append}
-use Rattle.std.proofs.lemmas.List.{append-nil, take-append-drop, nil_from_length}
+use Rattle.std.proofs.Common.{◌≡◌, ℕ, ◌+◌, ◌<◌, ◌≤◌, Bool, true, List, [], ◌∷◌, ◌++◌, length, take, drop, Option, Some, None, refl, sym, ap, ◌∙◌, subst, arith, append_assoc, length-append}
+use Rattle.std.proofs.lemmas.List.{append-nil, take-append-drop}
 use Rattle.lra_tree.specs.declared.refusals.Place.{Place}
 use Rattle.lra_tree.specs.declared.refusals.Cause.{Cause}
 use Rattle.lra_tree.specs.declared.refusals.Cause.TheVariants.{BadByte, BadLiteral}
 use Rattle.lra_tree.specs.declared.refusals.Refusal.{Refusal}
 use Rattle.lra_tree.specs.declared.tokens.Kind.{Kind}
-use Rattle.lra_tree.specs.declared.tokens.Kind.TheVariants.{End}
 use Rattle.lra_tree.specs.declared.tokens.Token.{Token}
-use Rattle.lra_tree.specs.Tokens.{IsGap, NoGap, IsLongest, IsToken, Piece, gap, token, bytes_of, tokens_of, IsReading, IsFaulty, place_from, place_behind, Lex, IsTokenFault}
+use Rattle.lra_tree.specs.Tokens.{IsGap, NoGap, IsToken, Piece, gap, token, bytes_of, tokens_of, IsReading, IsFaulty, place_from, place_behind}
 use Rattle.lra_lex.specs.Places.{fresh_behind}
-use Rattle.lra_lex.specs.Front.{BeginsGap, HasNoGap}
-use Rattle.lra_lex.specs.Read.{BeginsToken, HasFault, IsFoundAs, BeginsFound, FaultsAt, found_tokens, IsReadTo, IfRefusal}
+use Rattle.lra_lex.specs.Front.{HasNoGap}
+use Rattle.lra_lex.specs.Read.{BeginsToken, HasFault, BeginsFound, FaultsAt, found_tokens, IsReadTo, IfRefusal}
 use Rattle.lra_lex.specs.declared.lexer.LexError.{LexError}
 use Rattle.lra_lex.specs.declared.lexer.LexError.TheVariants.{Refused, Memory}
 use Rattle.lra_lex.proofs.LineLemmas.{place_from-append, fresh_behind-append, within}
 
 -- what was found -----------------------------------------------------------------------------------------------------------
-
-pub found_gap : (fresh : Bool) (rest : List ℕ) (n : ℕ) → BeginsGap fresh rest n → BeginsFound fresh rest (record { length = n; kind = None })
-found_gap fresh rest n g = record { some = g.some; within = g.within; is_found = g.is_gap }
 
 pub found_token : (fresh : Bool) (rest : List ℕ) (n : ℕ) (k : Kind) → HasNoGap fresh rest → BeginsToken rest n k → BeginsFound fresh rest (record { length = n; kind = Some k })
 found_token fresh rest n k h t = record {
@@ -118,19 +114,3 @@ read_within source rest tokens place fresh r =
     let c = ap (λ (z : Place). z.column) r.place_is in
     let n = ap (λ (z : List ℕ). length z) r.parts in
     (omega (arith, w.0, l, n, length-append (bytes_of r.pieces) rest), omega (arith, w.1, c, n, length-append (bytes_of r.pieces) rest))
-
-pub read_none : (source : List ℕ) → IsReadTo source source [] (record { line = 1; column = 1 }) true
-read_none source = record { pieces = []; parts = refl; reading = tt; tokens_are = refl; place_is = refl; fresh_is = refl }
-
-pub read_all : (source rest : List ℕ) (tokens : List Token) (place : Place) (fresh : Bool) → rest ≡ [] → IsReadTo source rest tokens place fresh → Lex source (tokens ++ record { kind = End; place = place } ∷ [])
-read_all source rest tokens place fresh e r =
-    let whole : source ≡ bytes_of r.pieces = r.parts ∙ ap (λ (z : List ℕ). bytes_of r.pieces ++ z) e ∙ append-nil (bytes_of r.pieces) in
-    let at : place ≡ place_behind source = r.place_is ∙ ap place_behind (sym whole) in (
-      r.pieces,
-      whole,
-      subst (λ (z : List ℕ). IsReading [] r.pieces z) e r.reading,
-      ap (λ (z : List Token). z ++ record { kind = End; place = place } ∷ []) r.tokens_are ∙ ap (λ (z : Place). tokens_of r.pieces ++ record { kind = End; place = z } ∷ []) at,
-    )
-
-pub read_fault : (source rest : List ℕ) (tokens : List Token) (place : Place) (fresh : Bool) (r : Refusal) → IsReadTo source rest tokens place fresh → FaultsAt place fresh rest r → IsTokenFault source r.cause r.place
-read_fault source rest tokens place fresh r d f = (d.pieces, rest, d.parts, d.reading, f.faulty (bytes_of d.pieces) d.fresh_is, f.at_place ∙ d.place_is)

@@ -1,7 +1,7 @@
 -- The token at the front.
-use Rattle.std.proofs.Common.{◌≡◌, ℕ, zero, suc, ◌+◌, ◌<◌, ◌≤◌, Bool, true, false, ◌&&◌, nat_le, List, [], ◌∷◌, ◌++◌, length, get_or, take, drop, Option, Some, None, refl, sym, ap, ◌∙◌, subst, arith, inl, inr, ◌⊎◌, min}
-use Rattle.std.proofs.lemmas.List.{take_at, take_all, take-append-drop, length-take}
-use Rattle.std.proofs.lemmas.Bool.{cases_lt}
+use Rattle.std.proofs.Common.{◌≡◌, ℕ, suc, ◌<◌, ◌≤◌, true, false, List, [], ◌∷◌, length, get_or, take, drop, Option, Some, None, refl, sym, ap, ◌∙◌, subst, arith, inl, inr, min}
+use Rattle.std.proofs.lemmas.List.{take_at, take_all, length-take}
+use Rattle.std.proofs.lemmas.Bool.{cases_lt, and_from, leb-true}
 use Rattle.std.proofs.lemmas.List.Sums.{prefix_len-le-length}
 use Rattle.std.specs.List.{list_all, prefix_len}
 use Rattle.lra_tree.specs.declared.tokens.Mark.{Mark}
@@ -10,10 +10,10 @@ use Rattle.lra_tree.specs.declared.tokens.Kind.TheVariants as kind
 use Rattle.lra_tree.specs.Lexeme.{is_word_byte, is_letter, is_digit, is_word, is_number_word, mark_text, IsLiteral, greatest_literal, word, number_word, unclosed, IsUnclosed, SpellsToken, number, mark_of, comment}
 use Rattle.lra_tree.specs.Tokens.{IsLongest}
 use Rattle.lra_lex.specs.Front.{opens_comment, found_mark, operator_at}
-use Rattle.lra_lex.specs.Read.{BeginsToken, HasFault}
-use Rattle.lra_lex.proofs.RunLemmas.{IsRun, run_is, and_join, or_left, or_right}
+use Rattle.lra_lex.specs.Read.{BeginsToken}
+use Rattle.lra_lex.proofs.RunLemmas.{run_is}
 use Rattle.lra_lex.proofs.MarkLemmas.{mark_some}
-use Rattle.lra_lex.proofs.LexemeLemmas.{longest_word, longest_whole, operator_found, le_of, letter_is, digit_is}
+use Rattle.lra_lex.proofs.LexemeLemmas.{longest_word, longest_whole, operator_found, letter_is, digit_is}
 
 -- a run of word bytes, where one is there
 run_front : (c : ℕ) (cs : List ℕ) → is_word_byte c ≡ true → take (prefix_len is_word_byte (c ∷ cs)) (c ∷ cs) ≡ c ∷ take (prefix_len is_word_byte cs) cs
@@ -25,11 +25,11 @@ run_some (c ∷ cs) l h = rw h (omega arith)
 
 pub word_at : (rest s : List ℕ) → 0 < length rest → is_letter (get_or rest 0 0) ≡ true → s ≡ take (prefix_len is_word_byte rest) rest → is_word s ≡ true
 word_at [] s l h e = absurd (omega arith)
-word_at (c ∷ cs) s l h e = rw (e, run_front c cs (letter_is c h)) (and_join (is_letter c) (list_all is_word_byte (take (prefix_len is_word_byte cs) cs)) h (run_is is_word_byte cs).passes)
+word_at (c ∷ cs) s l h e = rw (e, run_front c cs (letter_is c h)) (and_from (is_letter c) (list_all is_word_byte (take (prefix_len is_word_byte cs) cs)) h (run_is is_word_byte cs).passes)
 
 pub number_at : (rest s : List ℕ) → 0 < length rest → is_digit (get_or rest 0 0) ≡ true → s ≡ take (prefix_len is_word_byte rest) rest → is_number_word s ≡ true
 number_at [] s l h e = absurd (omega arith)
-number_at (c ∷ cs) s l h e = rw (e, run_front c cs (digit_is c h)) (and_join (is_digit c) (list_all is_word_byte (take (prefix_len is_word_byte cs) cs)) h (run_is is_word_byte cs).passes)
+number_at (c ∷ cs) s l h e = rw (e, run_front c cs (digit_is c h)) (and_from (is_digit c) (list_all is_word_byte (take (prefix_len is_word_byte cs) cs)) h (run_is is_word_byte cs).passes)
 
 longest_at : (rest : List ℕ) → 0 < length rest → is_letter (get_or rest 0 0) ≡ true → IsLongest (take (prefix_len is_word_byte rest) rest) rest
 longest_at rest l h = longest_word rest (take (prefix_len is_word_byte rest) rest) (drop (prefix_len is_word_byte rest) rest) (run_is is_word_byte rest) (letter_is (get_or rest 0 0) h) (word (word_at rest (take (prefix_len is_word_byte rest) rest) l h refl))
@@ -75,9 +75,6 @@ pair_is rest n e = elim (cases_lt (length rest) 2) [
   | inr ge ↦ let f : n ≡ 2 = omega (arith, e, ge) in ap (λ (z : ℕ). take z rest) f
 ]
 
-pub operator_some : (rest pair : List ℕ) (n : ℕ) (m : Mark) → n ≡ min (length rest) 2 → pair ≡ take n rest → Some m ≡ found_mark pair → Some m ≡ operator_at rest
-operator_some rest pair n m e f g = let h : found_mark (take 2 rest) ≡ Some m = ap found_mark (sym (f ∙ pair_is rest n e)) ∙ sym g in rw h refl
-
 pub operator_other : (rest pair single : List ℕ) (n : ℕ) (o : Option Mark) → n ≡ min (length rest) 2 → pair ≡ take n rest → None ≡ found_mark pair → single ≡ take 1 rest → o ≡ found_mark single → o ≡ operator_at rest
 operator_other rest pair single n o e f g h k = let i : found_mark (take 2 rest) ≡ None = ap found_mark (sym (f ∙ pair_is rest n e)) ∙ sym g in rw i (k ∙ ap found_mark h)
 
@@ -85,7 +82,7 @@ pub operator_token_is : (rest s : List ℕ) (m : Mark) → is_word_byte (get_or 
 operator_token_is rest s m h o e f =
     let l = operator_found rest m h o (sym e) in
     let t : take (length s) rest ≡ mark_text m = ap (λ (z : ℕ). take z rest) (ap (λ (z : List ℕ). length z) f) ∙ ap (take (length (mark_text m))) l.front ∙ take_at (mark_text m) l.after (length (mark_text m)) refl in
-    let n = le_of 1 (length (mark_text m)) (mark_some m) in
+    let n = leb-true 1 (length (mark_text m)) (mark_some m) in
     let k = ap (λ (z : List ℕ). length z) t in
     let q = ap (λ (z : List ℕ). length z) f in
     record {

@@ -1,5 +1,5 @@
 -- What stands at the front of the bytes that are left.
-use Rattle.std.specs.Prelude.{◌≡◌, ℕ, ◌+◌, ◌-◌, ◌<◌, ◌≤◌, Bool, true, List, [], ◌∷◌, ◌++◌, nat_eq, ◌&&◌, false, Option, Some, None, codes, length, slice_index, take, drop, find, bytes_eq}
+use Rattle.std.specs.Prelude.{◌≡◌, ℕ, ◌+◌, ◌-◌, ◌<◌, ◌≤◌, Bool, true, List, ◌++◌, nat_eq, ◌&&◌, Option, codes, length, slice_index, take, drop, find, bytes_eq}
 use Rattle.std.specs.Option.{option_or}
 use Rattle.lra_lex.specs.declared.marks.TheConstants.{MARKS}
 use Rattle.std.specs.List.{list_all}
@@ -7,10 +7,6 @@ use Rattle.lra_tree.specs.declared.tokens.Mark.{Mark}
 use Rattle.lra_tree.specs.Lexeme.{mark_text, IsUnclosed}
 use Rattle.lra_tree.specs.Tokens.{is_space_or_tab, IsWordEnd, IsGap, NoGap}
 use Rattle.lra_lex.specs.Places.{fresh_behind}
-
--- no operator and no reserved word that the grammar names
-abbrev pub IsNoMark : List ℕ → Type 0
-IsNoMark s = (m : Mark) → s ≡ mark_text m → ⊥
 
 -- the mark of this spelling
 abbrev pub found_mark : List ℕ → Option Mark

@@ -1,5 +1,5 @@
 -- How a number word is cut into the parts of a literal.
-use Rattle.std.specs.Prelude.{◌≡◌, ℕ, Bool, true, false, nat_eq, ◌||◌, List, [], ◌∷◌, slice_index, drop, if◌then◌else◌, codes}
+use Rattle.std.specs.Prelude.{ℕ, nat_eq, ◌||◌, List, slice_index, if◌then◌else◌}
 use Rattle.lra_tree.specs.Lexeme.{Base, octal, decimal_base, hexadecimal}
 use Rattle.lra_lex.specs.declared.literals.Radix.{Radix}
 use Rattle.lra_lex.specs.declared.literals.Radix.TheVariants.{Octal, Decimal, Hexadecimal}

@@ -1,5 +1,5 @@
 -- The front of a line, byte by byte.
-use Rattle.std.specs.Prelude.{ℕ, Bool, true, ◌&&◌, ◌||◌, nat_eq, List, [], ◌∷◌}
+use Rattle.std.specs.Prelude.{ℕ, Bool, ◌&&◌, ◌||◌, nat_eq, List, [], ◌∷◌}
 use Rattle.lra_tree.specs.Tokens.{is_space_or_tab}
 
 -- whether only spaces and tabs stand on the line behind these bytes; fresh says so of what stands before them

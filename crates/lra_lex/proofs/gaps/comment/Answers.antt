@@ -1,5 +1,4 @@
-use Rattle.std.proofs.Common.{◌≡◌, ℕ, ◌+◌, ◌<◌, List, length, subst, sym, arith}
-use Rattle.lra_lex.specs.Front.{IsFirstClose, BeginsGap}
+use Rattle.std.proofs.Common.{arith}
 use Rattle.lra_lex.proofs.GapLemmas.{line_gap, block_gap, no_close}
 use Rattle.lra_lex.proofs.gaps.comment.Goals as goal
 

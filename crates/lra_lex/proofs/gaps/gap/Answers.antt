@@ -1,6 +1,6 @@
-use Rattle.std.proofs.Common.{◌≡◌, ◌∙◌, ℕ, ◌+◌, ◌<◌, List, length, subst, sym, arith}
-use Rattle.std.specs.Prelude.{IfSome, IfNone, Option, Some, None, Bool}
-use Rattle.lra_lex.specs.Front.{BeginsGap, HasNoGap}
+use Rattle.std.proofs.Common.{◌∙◌, ℕ, List, sym}
+use Rattle.std.specs.Prelude.{IfSome, Option, Some, None, Bool}
+use Rattle.lra_lex.specs.Front.{BeginsGap}
 use Rattle.lra_lex.proofs.RunLemmas.{differ}
 use Rattle.lra_lex.proofs.GapLemmas.{blank_gap, skip_gap, else_no_gap}
 use Rattle.lra_lex.proofs.gaps.gap.Goals as goal

@@ -1,4 +1,4 @@
-use Rattle.std.proofs.Common.{◌≤◌, ◌+◌, length, arith}
+use Rattle.std.proofs.Common.{arith}
 use Rattle.lra_lex.proofs.ReadingLemmas.{read_on, read_within}
 use Rattle.lra_lex.proofs.lexer.tokens.Goals as goal
 

@@ -1,4 +1,4 @@
-use Rattle.std.proofs.Common.{◌≡◌, ℕ, List, length, take, drop}
+use Rattle.std.proofs.Common.{◌≡◌, ℕ, List, take, drop}
 use Rattle.std.specs.List.{prefix_len}
 use Rattle.lra_tree.specs.Lexeme.{is_digit_of, Base}
 use Rattle.lra_lex.specs.Literal.{base_of, base_at, front_size}

@@ -1,5 +1,4 @@
 use Rattle.std.proofs.Common.{◌≡◌, ◌≤◌, ◌+◌, drop}
-use Rattle.lra_tree.specs.declared.refusals.Place.{Place}
 use Rattle.lra_tree.specs.Tokens.{place_from}
 use Rattle.lra_lex.specs.Places.{fresh_behind}
 use Rattle.lra_lex.proofs.spot.Spot.behind.Given as goal
