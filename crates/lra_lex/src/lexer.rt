@@ -198,10 +198,7 @@ pub fn tokens(alloc: Global, source: &[u8]) -> Result<Vec<Token>, LexError>
         spot = spot.behind(bytes);
         rest = behind;
     }
-    tokens.push(Token {
-        kind: Kind::End,
-        place: spot.place,
-    })?;
+    keep(&mut tokens, Some(Kind::End), spot.place)?;
     Ok(tokens)
 }
 

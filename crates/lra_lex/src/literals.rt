@@ -14,7 +14,7 @@ const GREATEST: u128 = 9_223_372_036_854_775_807;
 const SUFFIXES: [&[u8]; 5] = [b"", b"l", b"L", b"ll", b"LL"];
 
 /// The base in which a literal is written.
-#[derive(Clone, Copy, PartialEq, Eq, Debug)]
+#[derive(Clone, Copy)]
 enum Radix {
     Octal,
     Decimal,

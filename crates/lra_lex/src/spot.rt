@@ -8,7 +8,7 @@ use crate::bytes::is_space_or_tab;
 use lra_tree::Place;
 
 /// A byte's place, and whether only spaces and tabs stand before it on its line.
-#[derive(Clone, Copy, PartialEq, Eq, Debug)]
+#[derive(Clone, Copy)]
 pub struct Spot {
     pub place: Place,
     pub fresh: bool,
