@@ -51,6 +51,7 @@ struct Found {
     kind: Option<Kind>,
 }
 
+/// The kind of a word.
 fn word_kind(alloc: Global, word: &[u8]) -> Result<Kind, AllocError>
     requires { is_word word.now ≡ true }
     ensures { IfOk result (SpellsToken word.now) }
@@ -67,6 +68,7 @@ fn word_kind(alloc: Global, word: &[u8]) -> Result<Kind, AllocError>
     }
 }
 
+/// The length and kind of the word at the front.
 fn word_token(alloc: Global, rest: &[u8]) -> Result<(usize, Kind), AllocError>
     requires some { 0 < length rest.now }
     requires begins { is_letter (slice_index rest.now 0) ≡ true }
@@ -77,6 +79,7 @@ fn word_token(alloc: Global, rest: &[u8]) -> Result<(usize, Kind), AllocError>
     Ok((length, word_kind(alloc, word)?))
 }
 
+/// The length and kind of the literal at the front, if the word there is one.
 fn number_token(rest: &[u8]) -> Option<(usize, Kind)>
     requires some { 0 < length rest.now }
     requires begins { is_digit (slice_index rest.now 0) ≡ true }
@@ -97,6 +100,7 @@ fn opens_comment(rest: &[u8]) -> bool
     rest.len() > 1 && rest[0] == b'/' && rest[1] == b'*'
 }
 
+/// The longest operator at the front.
 fn longest_operator(rest: &[u8]) -> Option<Mark>
     requires { 0 < length rest.now }
     ensures { result ≡ operator_at rest.now }
@@ -109,6 +113,7 @@ fn longest_operator(rest: &[u8]) -> Option<Mark>
     }
 }
 
+/// The length and kind of the operator at the front.
 fn operator_token(rest: &[u8]) -> Option<(usize, Kind)>
     requires some { 0 < length rest.now }
     requires no_word { is_word_byte (slice_index rest.now 0) ≡ false }
@@ -122,6 +127,7 @@ fn operator_token(rest: &[u8]) -> Option<(usize, Kind)>
     }
 }
 
+/// The length and kind of the token at the front, where no gap is.
 fn token(alloc: Global, rest: &[u8], place: Place) -> Result<(usize, Kind), LexError>
     requires some { 0 < length rest.now }
     requires unclosed { opens_comment rest.now ≡ true → IsUnclosed rest.now }
@@ -153,6 +159,7 @@ fn token(alloc: Global, rest: &[u8], place: Place) -> Result<(usize, Kind), LexE
     }
 }
 
+/// What stands at the front.
 fn find(alloc: Global, rest: &[u8], spot: Spot) -> Result<Found, LexError>
     requires { 0 < length rest.now }
     ensures found { IfOk result (BeginsFound spot.fresh rest.now) }
@@ -170,6 +177,7 @@ fn find(alloc: Global, rest: &[u8], spot: Spot) -> Result<Found, LexError>
     }
 }
 
+/// Puts the token, if what was found is one, behind the others.
 fn keep(tokens: &mut Vec<Token>, kind: Option<Kind>, place: Place) -> Result<(), AllocError>
     ensures { OnOk result (tokens.new.items ≡ tokens.old.items ++ found_tokens kind place) }
 {
@@ -179,7 +187,8 @@ fn keep(tokens: &mut Vec<Token>, kind: Option<Kind>, place: Place) -> Result<(),
     }
 }
 
-/// The tokens of the source, each the longest spelling at its place, with the end behind the last byte; or the first fault.
+/// The tokens of the source, each the longest spelling at its place, and the end behind its last byte; or its first fault.
+/// The time is linear in the source's length.
 pub fn tokens(alloc: Global, source: &[u8]) -> Result<Vec<Token>, LexError>
     requires { length source.now + 1 < 2 ^ 32 }
     ensures found { IfOk result (λ v. Lex source.now v.items) }
