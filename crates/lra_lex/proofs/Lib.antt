@@ -1,0 +1,14 @@
+-- Runs of bytes that pass a test, and the front of a line.
+pub mod RunLemmas
+pub mod LineLemmas
+-- Which token a text spells, and which spelling is the longest.
+pub mod MarkLemmas
+pub mod LexemeLemmas
+pub mod LiteralLemmas
+-- Gaps.
+pub mod GapLemmas
+-- The token at the front, and how far a source is read.
+pub mod TokenLemmas
+pub mod ReadingLemmas
+-- A source has one reading.
+pub mod OneReadingLemmas

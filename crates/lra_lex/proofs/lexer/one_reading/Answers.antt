@@ -1,0 +1,5 @@
+use Rattle.lra_lex.proofs.OneReadingLemmas.{one_reading}
+use Rattle.lra_lex.proofs.lexer.one_reading.Goals as goal
+
+pub returns : goal.returns
+returns c = one_reading

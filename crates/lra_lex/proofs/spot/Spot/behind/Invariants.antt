@@ -1,0 +1,12 @@
+use Rattle.std.proofs.Common.{◌≡◌, ◌≤◌, ◌+◌, drop}
+use Rattle.lra_tree.specs.Tokens.{place_from}
+use Rattle.lra_lex.specs.Places.{fresh_behind}
+use Rattle.lra_lex.proofs.spot.Spot.behind.Given as goal
+
+abbrev pub invariant-loop-byte : goal.invariant-loop-byte
+invariant-loop-byte l = record {
+  lines : l.line ≤ l.fn.self.place.line + l.byte-index;
+  columns : l.column ≤ l.fn.self.place.column + l.byte-index;
+  place : place_from (record { line = l.line; column = l.column }) (drop l.byte-index l.bytes) ≡ place_from l.fn.self.place l.bytes;
+  fresh : fresh_behind l.fresh (drop l.byte-index l.bytes) ≡ fresh_behind l.fn.self.fresh l.bytes;
+}

@@ -1,0 +1,21 @@
+-- How a number word is cut into the parts of a literal.
+use Rattle.std.specs.Prelude.{ℕ, nat_eq, ◌||◌, List, slice_index, if◌then◌else◌}
+use Rattle.lra_tree.specs.Lexeme.{Base, octal, decimal_base, hexadecimal}
+use Rattle.lra_lex.specs.declared.literals.Radix.{Radix}
+use Rattle.lra_lex.specs.declared.literals.Radix.TheVariants.{Octal, Decimal, Hexadecimal}
+
+-- the base that a radix stands for
+abbrev pub base_of : Radix → Base
+base_of Octal = octal
+base_of Decimal = decimal_base
+base_of Hexadecimal = hexadecimal
+
+-- the base that the first two bytes tell
+abbrev pub base_at : List ℕ → Base
+base_at s = if nat_eq (slice_index s 0) 48 then (if nat_eq (slice_index s 1) 120 || nat_eq (slice_index s 1) 88 then hexadecimal else octal) else decimal_base
+
+-- how many bytes stand before the digits
+abbrev pub front_size : Base → ℕ
+front_size octal = 1
+front_size decimal_base = 0
+front_size hexadecimal = 2

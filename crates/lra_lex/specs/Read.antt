@@ -1,0 +1,65 @@
+-- What a call found at the front of the bytes that are left, and how far a source is read.
+use Rattle.std.specs.Prelude.{◌≡◌, ℕ, ◌<◌, ◌≤◌, Bool, true, List, [], ◌∷◌, ◌++◌, length, take, drop, Option, Some, None, Result, Ok, Err}
+use Rattle.lra_tree.specs.declared.refusals.Place.{Place}
+use Rattle.lra_tree.specs.declared.refusals.Cause.{Cause}
+use Rattle.lra_tree.specs.declared.refusals.Cause.TheVariants.{BadByte, BadLiteral}
+use Rattle.lra_tree.specs.declared.refusals.Refusal.{Refusal}
+use Rattle.lra_tree.specs.declared.tokens.Kind.{Kind}
+use Rattle.lra_tree.specs.declared.tokens.Token.{Token}
+use Rattle.lra_tree.specs.Lexeme.{is_number_word, IsLiteral, greatest_literal, Lexeme, SpellsToken}
+use Rattle.lra_tree.specs.Tokens.{IsGap, NoGap, IsLongest, IsFaulty, Piece, bytes_of, tokens_of, IsReading, place_behind}
+use Rattle.lra_lex.specs.declared.lexer.LexError.{LexError}
+use Rattle.lra_lex.specs.declared.lexer.LexError.TheVariants.{Refused, Memory}
+use Rattle.lra_lex.specs.declared.lexer.Found.{Found}
+use Rattle.lra_lex.specs.Places.{fresh_behind}
+
+-- a fact of the refusal, if one is answered
+abbrev pub IfRefusal : (Refusal → Type 0) → LexError → Type 0
+IfRefusal P (Refused r) = P r
+IfRefusal P Memory = Unit {0}
+
+abbrev pub IfRefused : {X : Type 0} → Result X LexError → (Refusal → Type 0) → Type 0
+IfRefused (Ok x) P = Unit {0}
+IfRefused (Err e) P = IfRefusal P e
+
+-- the first n bytes are the longest spelling there, of a token of this kind
+pub record BeginsToken (rest : List ℕ) (n : ℕ) (k : Kind) : Type 0 where
+  pub some : 0 < n
+  pub within : n ≤ length rest
+  pub longest : IsLongest (take n rest) rest
+  pub spells : SpellsToken (take n rest) k
+
+-- no token, or no number, can be read there, whatever gaps are
+abbrev pub HasFault : Cause → List ℕ → Type 0
+HasFault BadByte rest = (s after : List ℕ) → rest ≡ s ++ after → Lexeme s → ⊥
+HasFault BadLiteral rest = (s : List ℕ) × IsLongest s rest × (is_number_word s ≡ true) × ((n : ℕ) → IsLiteral s n → n ≤ greatest_literal → ⊥)
+HasFault cause rest = ⊥
+
+-- these bytes are a gap, or the token of this kind
+abbrev pub IsFoundAs : List ℕ → Option Kind → List ℕ → List ℕ → Type 0
+IsFoundAs before None s after = IsGap before s after
+IsFoundAs before (Some k) s after = NoGap before (s ++ after) × IsLongest s (s ++ after) × SpellsToken s k
+
+-- the first bytes are what was found, behind any bytes that leave the front of a line as told
+pub record BeginsFound (fresh : Bool) (rest : List ℕ) (f : Found) : Type 0 where
+  pub some : 0 < f.length
+  pub within : f.length ≤ length rest
+  pub is_found : (before : List ℕ) → fresh ≡ fresh_behind true before → IsFoundAs before f.kind (take f.length rest) (drop f.length rest)
+
+pub record FaultsAt (place : Place) (fresh : Bool) (rest : List ℕ) (r : Refusal) : Type 0 where
+  pub at_place : r.place ≡ place
+  pub faulty : (before : List ℕ) → fresh ≡ fresh_behind true before → IsFaulty r.cause before rest
+
+-- the token of what was found
+abbrev pub found_tokens : Option Kind → Place → List Token
+found_tokens None place = []
+found_tokens (Some k) place = record { kind = k; place = place } ∷ []
+
+-- the source is read up to rest
+pub record IsReadTo (source rest : List ℕ) (tokens : List Token) (place : Place) (fresh : Bool) : Type 0 where
+  pub pieces : List Piece
+  pub parts : source ≡ bytes_of pieces ++ rest
+  pub reading : IsReading [] pieces rest
+  pub tokens_are : tokens ≡ tokens_of pieces
+  pub place_is : place ≡ place_behind (bytes_of pieces)
+  pub fresh_is : fresh ≡ fresh_behind true (bytes_of pieces)

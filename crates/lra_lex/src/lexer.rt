@@ -1,0 +1,217 @@
+//! The tokens of a source, or its first fault.
+
+ghost use Rattle.std.specs.Prelude.{◌≡◌, ◌++◌, ◌+◌, ◌<◌, ◌^◌, false, length, slice_index, true, IfNone, IfOk, IfSome, OnOk};
+ghost use Rattle.lra_tree.specs.declared.refusals.Cause.TheVariants.{BadByte, BadLiteral};
+ghost use Rattle.lra_tree.specs.Lexeme.{is_digit, is_letter, is_word, is_word_byte, IsUnclosed, SpellsToken};
+ghost use Rattle.lra_tree.specs.Tokens.{IsTokenFault, Lex, OneReading};
+ghost use Rattle.lra_lex.specs.Front.{opens_comment, operator_at};
+ghost use Rattle.lra_lex.specs.Read.{found_tokens, BeginsFound, BeginsToken, FaultsAt, HasFault, IfRefused};
+
+use crate::bytes::{is_digit, is_letter, word_length};
+use crate::gaps::gap;
+use crate::literals::literal;
+use crate::marks::{is_further_word, mark, spelling_of};
+use crate::spot::Spot;
+use lra_tree::{Cause, Kind, Mark, Place, Refusal, Token, Word};
+use std::alloc::{AllocError, AllocFailed, Global};
+
+/// Why a source has no list of tokens.
+#[derive(Clone, Copy, PartialEq, Eq, Debug)]
+pub enum LexError {
+    /// Its first fault.
+    Refused(Refusal),
+    /// Memory ran out.
+    Memory,
+}
+
+impl From<AllocError> for LexError {
+    ghost use Rattle.lra_lex.specs.declared.lexer.LexError.TheVariants.{Memory};
+
+    ghost from_gives = { λ _ e. e ≡ Memory };
+
+    fn from(_: AllocError) -> Self {
+        LexError::Memory
+    }
+}
+
+impl<T: Drop> From<AllocFailed<T>> for LexError {
+    ghost use Rattle.lra_lex.specs.declared.lexer.LexError.TheVariants.{Memory};
+
+    ghost from_gives = { λ _ e. e ≡ Memory };
+
+    fn from(_: AllocFailed<T>) -> Self {
+        LexError::Memory
+    }
+}
+
+/// What stands at the front: a token of a kind, or a gap.
+#[derive(Drop)]
+struct Found {
+    length: usize,
+    kind: Option<Kind>,
+}
+
+/// The kind of a word.
+fn word_kind(alloc: Global, word: &[u8]) -> Result<Kind, AllocError>
+    requires { is_word word.now ≡ true }
+    ensures { IfOk result (SpellsToken word.now) }
+{
+    match mark(word) {
+        Some(mark) => Ok(Kind::Mark(mark)),
+        None => {
+            if is_further_word(word) {
+                Ok(Kind::Reserved)
+            } else {
+                Ok(Kind::Name(Word::from_slice(alloc, word)?))
+            }
+        }
+    }
+}
+
+/// The length and kind of the word at the front.
+fn word_token(alloc: Global, rest: &[u8]) -> Result<(usize, Kind), AllocError>
+    requires some { 0 < length rest.now }
+    requires begins { is_letter (slice_index rest.now 0) ≡ true }
+    ensures { IfOk result (λ t. BeginsToken rest.now t.0 t.1) }
+{
+    let length = word_length(rest);
+    let (word, _) = rest.split_at(length);
+    Ok((length, word_kind(alloc, word)?))
+}
+
+/// The length and kind of the literal at the front, if the word there is one.
+fn number_token(rest: &[u8]) -> Option<(usize, Kind)>
+    requires some { 0 < length rest.now }
+    requires begins { is_digit (slice_index rest.now 0) ≡ true }
+    ensures found { IfSome result (λ t. BeginsToken rest.now t.0 t.1) }
+    ensures none { IfNone result (HasFault BadLiteral rest.now) }
+{
+    let length = word_length(rest);
+    let (word, _) = rest.split_at(length);
+    match literal(word) {
+        Some(value) => Some((length, Kind::Number(value))),
+        None => None,
+    }
+}
+
+fn opens_comment(rest: &[u8]) -> bool
+    ensures { result ≡ opens_comment rest.now }
+{
+    rest.len() > 1 && rest[0] == b'/' && rest[1] == b'*'
+}
+
+/// The longest operator at the front.
+fn longest_operator(rest: &[u8]) -> Option<Mark>
+    requires { 0 < length rest.now }
+    ensures { result ≡ operator_at rest.now }
+{
+    let (pair, _) = rest.split_at(rest.len().min(2));
+    let (single, _) = rest.split_at(1);
+    match mark(pair) {
+        Some(mark) => Some(mark),
+        None => mark(single),
+    }
+}
+
+/// The length and kind of the operator at the front.
+fn operator_token(rest: &[u8]) -> Option<(usize, Kind)>
+    requires some { 0 < length rest.now }
+    requires no_word { is_word_byte (slice_index rest.now 0) ≡ false }
+    requires no_comment { opens_comment rest.now ≡ false }
+    ensures found { IfSome result (λ t. BeginsToken rest.now t.0 t.1) }
+    ensures none { IfNone result (HasFault BadByte rest.now) }
+{
+    match longest_operator(rest) {
+        Some(mark) => Some((spelling_of(mark).len(), Kind::Mark(mark))),
+        None => None,
+    }
+}
+
+/// The length and kind of the token at the front, where no gap is.
+fn token(alloc: Global, rest: &[u8], place: Place) -> Result<(usize, Kind), LexError>
+    requires some { 0 < length rest.now }
+    requires unclosed { opens_comment rest.now ≡ true → IsUnclosed rest.now }
+    ensures found { IfOk result (λ t. BeginsToken rest.now t.0 t.1) }
+    ensures refused { IfRefused result (λ r. (r.place ≡ place) × HasFault r.cause rest.now) }
+{
+    let first = rest[0];
+    if is_letter(first) {
+        return Ok(word_token(alloc, rest)?);
+    }
+    if is_digit(first) {
+        return match number_token(rest) {
+            Some(token) => Ok(token),
+            None => Err(LexError::Refused(Refusal {
+                cause: Cause::BadLiteral,
+                place,
+            })),
+        };
+    }
+    if opens_comment(rest) {
+        return Ok((rest.len(), Kind::Unclosed));
+    }
+    match operator_token(rest) {
+        Some(token) => Ok(token),
+        None => Err(LexError::Refused(Refusal {
+            cause: Cause::BadByte,
+            place,
+        })),
+    }
+}
+
+/// What stands at the front.
+fn find(alloc: Global, rest: &[u8], spot: Spot) -> Result<Found, LexError>
+    requires { 0 < length rest.now }
+    ensures found { IfOk result (BeginsFound spot.fresh rest.now) }
+    ensures refused { IfRefused result (FaultsAt spot.place spot.fresh rest.now) }
+{
+    match gap(rest, spot.fresh) {
+        Some(length) => Ok(Found { length, kind: None }),
+        None => match token(alloc, rest, spot.place) {
+            Ok((length, kind)) => Ok(Found {
+                length,
+                kind: Some(kind),
+            }),
+            Err(error) => Err(error),
+        },
+    }
+}
+
+/// Puts the token, if what was found is one, behind the others.
+fn keep(tokens: &mut Vec<Token>, kind: Option<Kind>, place: Place) -> Result<(), AllocError>
+    ensures { OnOk result (tokens.new.items ≡ tokens.old.items ++ found_tokens kind place) }
+{
+    match kind {
+        Some(kind) => Ok(tokens.push(Token { kind, place })?),
+        None => Ok(()),
+    }
+}
+
+/// The tokens of the source, each the longest spelling at its place, and the end behind its last byte; or its first fault.
+/// The time is linear in the source's length.
+pub fn tokens(alloc: Global, source: &[u8]) -> Result<Vec<Token>, LexError>
+    requires { length source.now + 1 < 2 ^ 32 }
+    ensures found { IfOk result (λ v. Lex source.now v.items) }
+    ensures refused { IfRefused result (λ r. IsTokenFault source.now r.cause r.place) }
+{
+    let mut tokens = Vec::new(alloc);
+    let mut spot = Spot {
+        place: Place { line: 1, column: 1 },
+        fresh: true,
+    };
+    let mut rest = source;
+    'pieces: while !rest.is_empty() {
+        let found = find(alloc, rest, spot)?;
+        let (bytes, behind) = rest.split_at(found.length);
+        keep(&mut tokens, found.kind, spot.place)?;
+        spot = spot.behind(bytes);
+        rest = behind;
+    }
+    keep(&mut tokens, Some(Kind::End), spot.place)?;
+    Ok(tokens)
+}
+
+/// A source has one list of tokens, or one first fault.
+pub fn one_reading()
+    ensures { OneReading }
+{}

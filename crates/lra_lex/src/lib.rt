@@ -1,0 +1,17 @@
+//! From the bytes of a source to its tokens (ISO/IEC 9899:2011, 5.1.1.2 and 6.4).
+//!
+//! [`tokens`] answers the list of tokens exactly where the source has one, and else the first fault with its place.
+//! [`one_reading`] is the law that makes this exact: a source has one list of tokens, or one first fault.
+#![tactic(auto)]
+
+mod bytes;
+mod gaps;
+mod lexer;
+mod literals;
+mod marks;
+mod spot;
+
+pub use lexer::{LexError, one_reading, tokens};
+
+#[cfg(test)]
+mod tests;

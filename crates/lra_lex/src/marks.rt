@@ -1,0 +1,165 @@
+//! Operators and reserved words.
+
+ghost use Rattle.std.specs.Prelude.{◌≡◌, bytes_eq};
+ghost use Rattle.std.specs.List.{list_any};
+ghost use Rattle.lra_tree.specs.Lexeme.{mark_text, is_among, further_words};
+ghost use Rattle.lra_lex.specs.Front.{found_mark};
+
+use lra_tree::Mark;
+
+/// Every operator, and every reserved word that the grammar names.
+const MARKS: [Mark; 42] = [
+    Mark::Plus,
+    Mark::Minus,
+    Mark::Star,
+    Mark::Slash,
+    Mark::Percent,
+    Mark::Assign,
+    Mark::Equal,
+    Mark::Differs,
+    Mark::Less,
+    Mark::AtMost,
+    Mark::Greater,
+    Mark::AtLeast,
+    Mark::And,
+    Mark::Or,
+    Mark::Not,
+    Mark::Increment,
+    Mark::Decrement,
+    Mark::PlusAssign,
+    Mark::MinusAssign,
+    Mark::StarAssign,
+    Mark::SlashAssign,
+    Mark::PercentAssign,
+    Mark::OpenParen,
+    Mark::CloseParen,
+    Mark::OpenBrace,
+    Mark::CloseBrace,
+    Mark::Semicolon,
+    Mark::Comma,
+    Mark::Assert,
+    Mark::Assume,
+    Mark::Input,
+    Mark::Break,
+    Mark::Continue,
+    Mark::Else,
+    Mark::Extern,
+    Mark::For,
+    Mark::If,
+    Mark::Int,
+    Mark::Long,
+    Mark::Return,
+    Mark::Void,
+    Mark::While,
+];
+
+/// The keywords of C that the grammar doesn't name.
+const FURTHER_WORDS: [&[u8]; 33] = [
+    b"auto",
+    b"case",
+    b"char",
+    b"const",
+    b"default",
+    b"do",
+    b"double",
+    b"enum",
+    b"float",
+    b"goto",
+    b"inline",
+    b"register",
+    b"restrict",
+    b"short",
+    b"signed",
+    b"sizeof",
+    b"static",
+    b"struct",
+    b"switch",
+    b"typedef",
+    b"union",
+    b"unsigned",
+    b"volatile",
+    b"_Alignas",
+    b"_Alignof",
+    b"_Atomic",
+    b"_Bool",
+    b"_Complex",
+    b"_Generic",
+    b"_Imaginary",
+    b"_Noreturn",
+    b"_Static_assert",
+    b"_Thread_local",
+];
+
+/// How the mark is spelled.
+pub fn spelling_of(mark: Mark) -> &'static [u8]
+    ensures { result.now ≡ mark_text mark }
+{
+    match mark {
+        Mark::Plus => b"+",
+        Mark::Minus => b"-",
+        Mark::Star => b"*",
+        Mark::Slash => b"/",
+        Mark::Percent => b"%",
+        Mark::Assign => b"=",
+        Mark::Equal => b"==",
+        Mark::Differs => b"!=",
+        Mark::Less => b"<",
+        Mark::AtMost => b"<=",
+        Mark::Greater => b">",
+        Mark::AtLeast => b">=",
+        Mark::And => b"&&",
+        Mark::Or => b"||",
+        Mark::Not => b"!",
+        Mark::Increment => b"++",
+        Mark::Decrement => b"--",
+        Mark::PlusAssign => b"+=",
+        Mark::MinusAssign => b"-=",
+        Mark::StarAssign => b"*=",
+        Mark::SlashAssign => b"/=",
+        Mark::PercentAssign => b"%=",
+        Mark::OpenParen => b"(",
+        Mark::CloseParen => b")",
+        Mark::OpenBrace => b"{",
+        Mark::CloseBrace => b"}",
+        Mark::Semicolon => b";",
+        Mark::Comma => b",",
+        Mark::Assert => b"assert",
+        Mark::Assume => b"assume",
+        Mark::Input => b"input",
+        Mark::Break => b"break",
+        Mark::Continue => b"continue",
+        Mark::Else => b"else",
+        Mark::Extern => b"extern",
+        Mark::For => b"for",
+        Mark::If => b"if",
+        Mark::Int => b"int",
+        Mark::Long => b"long",
+        Mark::Return => b"return",
+        Mark::Void => b"void",
+        Mark::While => b"while",
+    }
+}
+
+/// The operator, or reserved word that the grammar names, of this spelling.
+pub fn mark(spelling: &[u8]) -> Option<Mark>
+    ensures { result ≡ found_mark spelling.now }
+{
+    MARKS
+        .iter()
+        .copied()
+        .find(|mark| spelling_of(*mark) == spelling)
+}
+
+/// Whether the word is one of these.
+pub fn is_among(word: &[u8], words: &[&[u8]]) -> bool
+    ensures { result ≡ list_any (λ other. bytes_eq word.now other.now) words.now }
+{
+    words.iter().any(|other| word == *other)
+}
+
+/// Whether the word is a keyword of C that the grammar doesn't name.
+pub fn is_further_word(word: &[u8]) -> bool
+    ensures { result ≡ is_among word.now further_words }
+{
+    is_among(word, &FURTHER_WORDS)
+}
