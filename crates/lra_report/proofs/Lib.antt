@@ -1,1 +1,4 @@
+pub mod Fronts
 pub mod Lists
+pub mod Numbers
+pub mod RowTexts

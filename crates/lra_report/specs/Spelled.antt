@@ -1,0 +1,58 @@
+-- When a text tells what it was written of: canonical lists, numbers of the range, and names of variables that can be told apart.
+use Rattle.std.specs.Prelude.{◌≡◌, ◌≢◌, ℕ, ℤ, pos, nat_lt, List, [], ◌∷◌, length, Bool, true, false, ⊤, ◌<◌, ◌^◌, Option, Some, None}
+use Rattle.std.specs.List.{AllByRecursion}
+use Rattle.std.specs.Char.{is_ascii_digit}
+use Rattle.lra_linear.specs.Range.{InRange}
+use Rattle.lra_linear.specs.LowestTerms.{IsPrimitive}
+use Rattle.lra_tree.specs.Trees.{FileTree}
+use Rattle.lra_tree.specs.Report.{Options, RowKind, equality, inequality, Row, GeneratorKind, point, ray, line, Generator, Part, PointReport, Report}
+use Rattle.lra_tree.specs.ReportText.{is_turned}
+use Rattle.lra_tree.specs.Parts.{DividesAs}
+use Rattle.lra_tree.specs.Listing.{Lists, HasWidth}
+
+-- the first coefficient of an equality that isn't 0 is above 0
+abbrev pub IsDirected : RowKind → List ℤ → Type 0
+IsDirected equality cs = is_turned cs ≡ false
+IsDirected inequality cs = ⊤
+
+pub record IsSpelledRow (r : Row) : Type 0 where
+  pub directed : IsDirected r.kind r.coefficients
+  pub constant_in : InRange r.constant
+  pub coefficients_in : AllByRecursion InRange r.coefficients
+
+-- only 1 divides the divisor of a point and all its numbers
+abbrev pub IsReduced : GeneratorKind → ℕ → List ℤ → Type 0
+IsReduced point d zs = IsPrimitive (pos d ∷ zs)
+IsReduced ray d zs = ⊤
+IsReduced line d zs = ⊤
+
+pub record IsSpelledGenerator (g : Generator) : Type 0 where
+  pub divides : DividesAs g.kind g.divisor
+  pub reduced : IsReduced g.kind g.divisor g.numbers
+  pub divisor_in : InRange (pos g.divisor)
+  pub numbers_in : AllByRecursion InRange g.numbers
+
+pub record IsSpelledPart (part : Part) : Type 0 where
+  pub rows : AllByRecursion IsSpelledRow part.rows
+  pub generators : AllByRecursion IsSpelledGenerator part.generators
+
+abbrev pub IsSpelledState : PointReport → Type 0
+IsSpelledState p = AllByRecursion IsSpelledPart p.state
+
+-- above the blank: no blank and no line feed
+abbrev pub is_visible : ℕ → Bool
+is_visible b = nat_lt 32 b
+
+abbrev pub AllVisible : List ℕ → Type 0
+AllVisible [] = ⊤
+AllVisible (b ∷ bs) = (is_visible b ≡ true) × AllVisible bs
+
+-- a word of visible bytes that doesn't begin with a digit
+abbrev pub IsShownName : List ℕ → Type 0
+IsShownName [] = ⊥
+IsShownName (b ∷ bs) = (is_ascii_digit b ≡ false) × (is_visible b ≡ true) × AllVisible bs
+
+-- such words, pairwise different
+abbrev pub AreShownNames : List (List ℕ) → Type 0
+AreShownNames [] = ⊤
+AreShownNames (n ∷ ns) = IsShownName n × AllByRecursion (λ m. n ≢ m) ns × AreShownNames ns
