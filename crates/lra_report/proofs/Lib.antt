@@ -1,4 +1,5 @@
 pub mod Fronts
+pub mod GeneratorTexts
 pub mod Lists
 pub mod Numbers
 pub mod RowTexts
