@@ -2,4 +2,6 @@ pub mod Fronts
 pub mod GeneratorTexts
 pub mod Lists
 pub mod Numbers
+pub mod OneText
 pub mod RowTexts
+pub mod StateTexts

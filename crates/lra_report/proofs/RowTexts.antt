@@ -291,3 +291,48 @@ row_same ns r s u v hn lr ls hr hs eu ev e =
     let coefficients : r.coefficients ≡ s.coefficients = all_turned_same b r.coefficients s.coefficients (forms.0 ∙ ap (λ t. map (turned t) s.coefficients) (sym relations.turn)) in
     let constants : r.constant ≡ s.constant = turned_same (not b) r.constant s.constant (numbers.0 ∙ ap (λ t. turned (not t) s.constant) (sym relations.turn)) in
     (row_by r.kind s.kind r.constant s.constant r.coefficients s.coefficients relations.kind constants coefficients, numbers.1)
+
+-- a row isn't written `true` -----------------------------------------------------
+
+terms_blank : (cs : List ℤ) (ns : List (List ℕ)) (u w : List ℕ) (b : ℕ) → IsBehindTerms u → terms_text cs ns ++ u ≡ b ∷ w → b ≡ 32
+terms_blank [] ns [] w b h e = absurd h
+terms_blank [] ns (a ∷ []) w b h e = absurd h
+terms_blank [] ns (a ∷ (c ∷ u)) w b h e = sym (first_same e) ∙ h.0
+terms_blank (d ∷ cs) [] [] w b h e = absurd h
+terms_blank (d ∷ cs) [] (a ∷ []) w b h e = absurd h
+terms_blank (d ∷ cs) [] (a ∷ (c ∷ u)) w b h e = sym (first_same e) ∙ h.0
+terms_blank (pos zero ∷ cs) (n ∷ ns) u w b h e = terms_blank cs ns u w b h e
+terms_blank (pos (suc k) ∷ cs) (n ∷ ns) u w b h e = sym (first_same e)
+terms_blank (negsuc k ∷ cs) (n ∷ ns) u w b h e = sym (first_same e)
+
+no_digit : is_ascii_digit 116 ≡ true → ⊥
+no_digit e = cc
+
+product_not_true : (c : Bool) (k : ℕ) (n u w : List ℕ) → IsShort k → IsShownName n → Ends is_visible u → (u ≡ 10 ∷ w → ⊥) →
+    (if c then n else decimal k ++ codes "*" ++ n) ++ u ≡ codes "true" ++ (10 ∷ w) → ⊥
+product_not_true true k n u w hk hn eu other e = other (front_same is_visible n (codes "true") u (10 ∷ w) (name_passes n hn) (refl, (refl, (refl, (refl, tt)))) eu refl e).1
+product_not_true false k n u w hk hn eu other e =
+    no_digit (decimal_first k (42 ∷ n ++ u) (codes "rue" ++ (10 ∷ w)) 116 hk (sym (ap (λ t. t ++ u) (append_assoc (decimal k) (codes "*") n) ∙ append_assoc (decimal k) (42 ∷ n) u) ∙ e))
+
+no_blank : (let n : ℕ = 10 in n) ≡ 32 → ⊥
+no_blank e = omega (arith, e)
+
+no_letter : (let n : ℕ = 116 in n) ≡ 32 → ⊥
+no_letter e = omega (arith, e)
+
+form_not_true : (cs : List ℤ) (ns : List (List ℕ)) (u w : List ℕ) → AllByRecursion InRange cs → AreShownNames ns → IsBehindTerms u → form_text cs ns ++ u ≡ codes "true" ++ (10 ∷ w) → ⊥
+form_not_true [] ns u w hc hn hu e = no_letter (terms_blank [] ns u _ 116 hu e)
+form_not_true (c ∷ cs) [] u w hc hn hu e = no_letter (terms_blank [] [] u _ 116 hu e)
+form_not_true (pos zero ∷ cs) (n ∷ ns) u w hc hn hu e = form_not_true cs ns u w hc.1 hn.2 hu e
+form_not_true (pos (suc k) ∷ cs) (n ∷ ns) u w hc hn hu e =
+    product_not_true (nat_eq (suc k) 1) (suc k) n (terms_text cs ns ++ u) w (short_in_range (pos (suc k)) hc.0) hn.0 (terms_ends cs ns u hu) (λ f. no_blank (terms_blank cs ns u w 10 hu f))
+    (sym (append_assoc (product_text (suc k) n) (terms_text cs ns) u) ∙ e)
+form_not_true (negsuc k ∷ cs) (n ∷ ns) u w hc hn hu e =
+    product_not_true (nat_eq (suc k) 1) (suc k) n (terms_text cs ns ++ u) w (short_in_range (negsuc k) hc.0) hn.0 (terms_ends cs ns u hu) (λ f. no_blank (terms_blank cs ns u w 10 hu f))
+    (sym (append_assoc (product_text (suc k) n) (terms_text cs ns) u) ∙ e)
+
+pub row_not_true : (ns : List (List ℕ)) (r : Row) (u w : List ℕ) → AreShownNames ns → IsSpelledRow r → row_text ns r ++ u ≡ codes "true" ++ (10 ∷ w) → ⊥
+row_not_true ns r u w hn hr e =
+    let b = is_turned r.coefficients in
+    let behind = signed_decimal (turned (not b) r.constant) ++ u in
+    form_not_true (map (turned b) r.coefficients) ns (relation_text r.kind b ++ behind) w (all_turned_in b r.coefficients hr.coefficients_in) hn (relation_behind r.kind b behind) (sym (row_pieces ns r u) ∙ e)

@@ -5,8 +5,8 @@ use Rattle.std.specs.Char.{is_ascii_digit}
 use Rattle.lra_linear.specs.Range.{InRange}
 use Rattle.lra_linear.specs.LowestTerms.{IsPrimitive}
 use Rattle.lra_tree.specs.Trees.{FileTree}
-use Rattle.lra_tree.specs.Report.{Options, RowKind, equality, inequality, Row, GeneratorKind, point, ray, line, Generator, Part, PointReport, Report}
-use Rattle.lra_tree.specs.ReportText.{is_turned}
+use Rattle.lra_tree.specs.Report.{RowKind, equality, inequality, Row, GeneratorKind, point, ray, line, Generator, Part, PointReport, Report}
+use Rattle.lra_tree.specs.ReportText.{is_turned, report_text}
 use Rattle.lra_tree.specs.Parts.{DividesAs}
 use Rattle.lra_tree.specs.Listing.{Lists, HasWidth}
 
@@ -36,8 +36,9 @@ pub record IsSpelledPart (part : Part) : Type 0 where
   pub rows : AllByRecursion IsSpelledRow part.rows
   pub generators : AllByRecursion IsSpelledGenerator part.generators
 
-abbrev pub IsSpelledState : PointReport → Type 0
-IsSpelledState p = AllByRecursion IsSpelledPart p.state
+-- of a canonical list, with a number for each of n variables
+abbrev pub IsReadablePart : ℕ → Part → Type 0
+IsReadablePart n part = HasWidth n part × IsSpelledPart part
 
 -- above the blank: no blank and no line feed
 abbrev pub is_visible : ℕ → Bool
@@ -56,3 +57,19 @@ IsShownName (b ∷ bs) = (is_ascii_digit b ≡ false) × (is_visible b ≡ true)
 abbrev pub AreShownNames : List (List ℕ) → Type 0
 AreShownNames [] = ⊤
 AreShownNames (n ∷ ns) = IsShownName n × AllByRecursion (λ m. n ≢ m) ns × AreShownNames ns
+
+pub record IsReadablePoint (p : PointReport) : Type 0 where
+  pub names : AreShownNames p.names
+  pub parts : AllByRecursion (IsReadablePart (length p.names)) p.state
+
+abbrev pub IsSmallFlag : Option ℕ → Type 0
+IsSmallFlag None = ⊤
+IsSmallFlag (Some number) = number < 2 ^ 64
+
+pub record IsReadable (r : Report) : Type 0 where
+  pub points : AllByRecursion IsReadablePoint r.points
+  pub flag : IsSmallFlag r.flagged
+
+-- one text, one report: two reports of one program under one list of options that have the same text are the same
+abbrev pub OneText : Report → Report → Type 0
+OneText r s = (t : FileTree) → Lists t r → Lists t s → r.options ≡ s.options → IsReadable r → IsReadable s → report_text r ≡ report_text s → r ≡ s
