@@ -1,8 +1,9 @@
 -- Where a text goes on: what stands before is told by what follows it.
 use Rattle.std.specs.Prelude.{⊤}
-use Rattle.std.proofs.Common.{◌≡◌, ℕ, zero, suc, ◌<◌, ◌≤◌, nat_lt, Bool, true, false, List, [], ◌∷◌, ◌++◌, length, refl, ap, sym, ◌∙◌, subst, arith}
+use Rattle.std.proofs.Common.{◌≡◌, ◌≢◌, ℕ, ◌<◌, nat_lt, Bool, true, false, List, [], ◌∷◌, ◌++◌, length, refl, ap, sym, ◌∙◌, arith}
 use Rattle.std.proofs.lemmas.Bool.{both_ways}
-use Rattle.lra_report.specs.Spelled.{is_visible, AllVisible}
+use Rattle.std.specs.List.{AllByRecursion}
+use Rattle.std.specs.Char.{is_ascii_digit}
 
 pub first_same : {A : Type 0} {x y : A} {xs ys : List A} → x ∷ xs ≡ y ∷ ys → x ≡ y
 first_same e = cc
@@ -41,6 +42,24 @@ front_same p (x ∷ xs) (y ∷ ys) u v px py eu ev e = let s = front_same p xs y
 pub front_first : (p : ℕ → Bool) (xs u v : List ℕ) (b : ℕ) → 0 < length xs → Passes p xs → xs ++ u ≡ b ∷ v → p b ≡ true
 front_first p [] u v b some px e = absurd (omega arith)
 front_first p (x ∷ xs) u v b some px e = sym (ap p (first_same e)) ∙ px.0
+
+-- above the blank: no blank and no line feed
+abbrev pub is_visible : ℕ → Bool
+is_visible b = nat_lt 32 b
+
+abbrev pub AllVisible : List ℕ → Type 0
+AllVisible [] = ⊤
+AllVisible (b ∷ bs) = (is_visible b ≡ true) × AllVisible bs
+
+-- a word of visible bytes that doesn't begin with a digit
+abbrev pub IsShownName : List ℕ → Type 0
+IsShownName [] = ⊥
+IsShownName (b ∷ bs) = (is_ascii_digit b ≡ false) × (is_visible b ≡ true) × AllVisible bs
+
+-- such words, pairwise different
+abbrev pub AreShownNames : List (List ℕ) → Type 0
+AreShownNames [] = ⊤
+AreShownNames (n ∷ ns) = IsShownName n × AllByRecursion (λ m. n ≢ m) ns × AreShownNames ns
 
 pub visible_passes : (bs : List ℕ) → AllVisible bs → Passes is_visible bs
 visible_passes [] h = h

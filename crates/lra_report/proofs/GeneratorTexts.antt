@@ -1,15 +1,14 @@
 -- One text, one generator.
-use Rattle.std.proofs.Common.{◌≡◌, ◌≢◌, ℕ, zero, suc, ◌<◌, ◌≤◌, ◌*◌, ◌/◌, ◌%◌, ◌^◌, ℤ, pos, negsuc, nat_abs, nat_eq, nat_lt, neg_ℤ, ◌*ℤ◌, int_div, Bool, true, false, List, [], ◌∷◌, ◌++◌, length, codes, if◌then◌else◌, refl, ap, sym, ◌∙◌, subst, arith, append_assoc}
+use Rattle.std.proofs.Common.{◌≡◌, ℕ, zero, suc, ◌<◌, ◌≤◌, ◌*◌, ◌/◌, ◌%◌, ℤ, pos, negsuc, nat_abs, nat_eq, neg_ℤ, ◌*ℤ◌, int_div, Bool, true, false, List, [], ◌∷◌, ◌++◌, length, codes, if◌then◌else◌, refl, ap, sym, ◌∙◌, subst, arith, append_assoc}
 use Rattle.std.specs.Prelude.{⊤}
 use Rattle.std.specs.List.{AllByRecursion}
 use Rattle.std.specs.Char.{is_ascii_digit}
 use Rattle.std.specs.Int.{◌∣◌}
 use Rattle.std.specs.Fmt.{decimal, signed_decimal}
 use Rattle.std.proofs.lemmas.Bool.{both_ways, eqb-true, eqb-false}
-use Rattle.std.proofs.lemmas.Int.{ints}
 use Rattle.std.proofs.lemmas.Bool.Decides.{nat_tests}
 use Rattle.std.proofs.lemmas.List.{append_cancel_left}
-use Rattle.std.proofs.lemmas.Nat.Gcd.{dvd_of_mod-eq-zero, le_of_dvd}
+use Rattle.std.proofs.lemmas.Nat.Gcd.{dvd_of_mod-eq-zero}
 use Rattle.std.proofs.Math.Nat.{one-dvd, pos_of_dvd_of_pos, mul-div_cancel', div-le_self}
 use Rattle.lra_linear.specs.Range.{InRange}
 use Rattle.lra_linear.specs.Vectors.{entry}
@@ -20,9 +19,8 @@ use Rattle.lra_linear.proofs.Signs.{cancel_same}
 use Rattle.lra_linear.proofs.Ring.{v as atom, ◌⊗◌, ring}
 use Rattle.lra_tree.specs.Report.{GeneratorKind, point, ray, line, Generator}
 use Rattle.lra_tree.specs.ReportText.{greatest_divisor, fraction_text, coordinate_text, value_text, values_text, generator_kind_text, generator_text}
-use Rattle.lra_tree.specs.Parts.{DividesAs}
-use Rattle.lra_report.specs.Spelled.{is_visible, IsReduced, IsSpelledGenerator}
-use Rattle.lra_report.proofs.Fronts.{Ends, first_same, rest_same, both_same}
+use Rattle.lra_report.specs.Spelled.{IsSpelledGenerator}
+use Rattle.lra_report.proofs.Fronts.{is_visible, Ends, first_same, rest_same, both_same}
 use Rattle.lra_report.proofs.Numbers.{IsShort, decimal_same, signed_same, short_in_range}
 
 -- values -------------------------------------------------------------------------
@@ -51,7 +49,7 @@ fraction_cases false true a b m n u v ep eq ha hb hm hn eu ev e =
     absurd (solidus v (decimal m ++ u) ev s.1)
 fraction_cases false false a b m n u v ep eq ha hb hm hn eu ev e =
     let s = signed_same a b (47 ∷ (decimal m ++ u)) (47 ∷ (decimal n ++ v)) ha hb refl refl
-        (sym (ap (λ t. t ++ u) (append_assoc (signed_decimal a) (codes "/") (decimal m)) ∙ append_assoc (signed_decimal a) (47 ∷ decimal m) u) ∙ e ∙ ap (λ t. t ++ v) (append_assoc (signed_decimal b) (codes "/") (decimal n)) ∙ append_assoc (signed_decimal b) (47 ∷ decimal n) v) in
+    (sym (ap (λ t. t ++ u) (append_assoc (signed_decimal a) (codes "/") (decimal m)) ∙ append_assoc (signed_decimal a) (47 ∷ decimal m) u) ∙ e ∙ ap (λ t. t ++ v) (append_assoc (signed_decimal b) (codes "/") (decimal n)) ∙ append_assoc (signed_decimal b) (47 ∷ decimal n) v) in
     let t = decimal_same m n u v hm hn (digit_ends u eu) (digit_ends v ev) (rest_same s.1) in
     (s.0, t.0, t.1)
 
@@ -114,8 +112,8 @@ coordinate_same y z d e u w some_d some_e hy hz hd he eu ew same =
     let low_d : pos g *ℤ pos (d / g) ≡ pos d = ap pos (whole_part g d dg.1) in
     let low_e : pos h *ℤ pos (e / h) ≡ pos e = ap pos (whole_part h e eh.1) in
     let crossed : (pos h *ℤ pos (e / h)) *ℤ (pos g *ℤ a) ≡ (pos g *ℤ pos (d / g)) *ℤ (pos h *ℤ b) =
-        ap (λ x. (pos h *ℤ pos (e / h)) *ℤ (pos g *ℤ x)) s.0 ∙ ap (λ x. (pos h *ℤ pos x) *ℤ (pos g *ℤ b)) (sym s.1)
-        ∙ swapped (pos h) (pos (d / g)) (pos g) b in
+    ap (λ x. (pos h *ℤ pos (e / h)) *ℤ (pos g *ℤ x)) s.0 ∙ ap (λ x. (pos h *ℤ pos x) *ℤ (pos g *ℤ b)) (sym s.1)
+    ∙ swapped (pos h) (pos (d / g)) (pos g) b in
     (ap (λ x. x *ℤ y) (sym low_e) ∙ ap (λ x. (pos h *ℤ pos (e / h)) *ℤ x) (sym top_y) ∙ crossed ∙ ap (λ x. (pos g *ℤ pos (d / g)) *ℤ x) top_z ∙ ap (λ x. x *ℤ z) low_d, s.2)
 
 -- generators ---------------------------------------------------------------------
@@ -151,7 +149,7 @@ whole_values (n ∷ ns) [] zs u w ly lz hy hz e = absurd (omega arith)
 whole_values (n ∷ ns) (y ∷ ys) [] u w ly lz hy hz e = absurd (omega arith)
 whole_values (n ∷ ns) (y ∷ ys) (z ∷ zs) u w ly lz hy hz e =
     let s = signed_same y z (values_text signed_decimal ns ys ++ (10 ∷ u)) (values_text signed_decimal ns zs ++ (10 ∷ w)) (short_in_range y hy.0) (short_in_range z hz.0)
-        (digit_ends (values_text signed_decimal ns ys ++ (10 ∷ u)) (values_end signed_decimal ns ys u)) (digit_ends (values_text signed_decimal ns zs ++ (10 ∷ w)) (values_end signed_decimal ns zs w)) (value_front signed_decimal signed_decimal n ns y z ys zs u w e) in
+    (digit_ends (values_text signed_decimal ns ys ++ (10 ∷ u)) (values_end signed_decimal ns ys u)) (digit_ends (values_text signed_decimal ns zs ++ (10 ∷ w)) (values_end signed_decimal ns zs w)) (value_front signed_decimal signed_decimal n ns y z ys zs u w e) in
     let t = whole_values ns ys zs u w (omega arith) (omega arith) hy.1 hz.1 s.1 in
     (both_same s.0 t.0, t.1)
 
@@ -166,7 +164,7 @@ point_values (n ∷ ns) d e (y ∷ ys) (z ∷ zs) u w sd se hd he ly lz hy hz eq
     let f : ℤ → List ℕ = λ x. coordinate_text x d in
     let g : ℤ → List ℕ = λ x. coordinate_text x e in
     let s = coordinate_same y z d e (values_text f ns ys ++ (10 ∷ u)) (values_text g ns zs ++ (10 ∷ w)) sd se (short_in_range y hy.0) (short_in_range z hz.0) hd he
-        (values_end f ns ys u) (values_end g ns zs w) (value_front f g n ns y z ys zs u w eq) in
+    (values_end f ns ys u) (values_end g ns zs w) (value_front f g n ns y z ys zs u w eq) in
     let t = point_values ns d e ys zs u w sd se hd he (omega arith) (omega arith) hy.1 hz.1 s.1 in
     ((s.0, t.0), t.1)
 

@@ -1,6 +1,6 @@
 -- One text, one row.
 use Rattle.std.specs.Prelude.{⊤}
-use Rattle.std.proofs.Common.{◌≡◌, ◌≢◌, ℕ, zero, suc, ◌<◌, ◌^◌, ℤ, pos, negsuc, nat_abs, nat_eq, nat_lt, not, Bool, true, false, List, [], ◌∷◌, ◌++◌, length, map, codes, if◌then◌else◌, refl, ap, sym, ◌∙◌, subst, arith, append_assoc, zero-add}
+use Rattle.std.proofs.Common.{◌≡◌, ◌≢◌, ℕ, zero, suc, ◌<◌, ℤ, pos, negsuc, nat_eq, nat_lt, not, Bool, true, false, List, [], ◌∷◌, ◌++◌, length, map, codes, if◌then◌else◌, refl, ap, sym, ◌∙◌, arith, append_assoc, zero-add}
 use Rattle.std.specs.List.{AllByRecursion}
 use Rattle.std.specs.Char.{is_ascii_digit}
 use Rattle.std.specs.Fmt.{decimal, signed_decimal}
@@ -9,9 +9,9 @@ use Rattle.std.proofs.lemmas.Int.{ints}
 use Rattle.std.proofs.lemmas.Bool.Decides.{nat_tests}
 use Rattle.lra_linear.specs.Range.{InRange}
 use Rattle.lra_tree.specs.Report.{RowKind, equality, inequality, Row}
-use Rattle.lra_tree.specs.ReportText.{product_text, terms_text, form_text, relation_text, row_text, is_turned, turned, negated}
-use Rattle.lra_report.specs.Spelled.{IsDirected, IsSpelledRow, is_visible, AllVisible, IsShownName, AreShownNames}
-use Rattle.lra_report.proofs.Fronts.{Passes, Ends, front_same, front_first, first_same, rest_same, both_same, visible_passes}
+use Rattle.lra_tree.specs.ReportText.{product_text, terms_text, form_text, relation_text, row_text, is_turned, turned}
+use Rattle.lra_report.specs.Spelled.{IsDirected, IsSpelledRow}
+use Rattle.lra_report.proofs.Fronts.{is_visible, IsShownName, AreShownNames, Passes, Ends, front_same, front_first, first_same, rest_same, both_same, visible_passes}
 use Rattle.lra_report.proofs.Numbers.{IsShort, decimal_first, decimal_same, signed_same, short_in_range}
 
 -- products -----------------------------------------------------------------------
@@ -43,7 +43,7 @@ product_cases false true k l n m u v bk bl hk hl hn hm eu ev e =
     absurd (name_no_number k m v (42 ∷ n ++ u) hk hm (sym e ∙ ap (λ t. t ++ u) (append_assoc (decimal k) (codes "*") n) ∙ append_assoc (decimal k) (42 ∷ n) u))
 product_cases false false k l n m u v bk bl hk hl hn hm eu ev e =
     let here : decimal k ++ (42 ∷ (n ++ u)) ≡ decimal l ++ (42 ∷ (m ++ v)) =
-        sym (ap (λ t. t ++ u) (append_assoc (decimal k) (codes "*") n) ∙ append_assoc (decimal k) (42 ∷ n) u) ∙ e ∙ ap (λ t. t ++ v) (append_assoc (decimal l) (codes "*") m) ∙ append_assoc (decimal l) (42 ∷ m) v in
+    sym (ap (λ t. t ++ u) (append_assoc (decimal k) (codes "*") n) ∙ append_assoc (decimal k) (42 ∷ n) u) ∙ e ∙ ap (λ t. t ++ v) (append_assoc (decimal l) (codes "*") m) ∙ append_assoc (decimal l) (42 ∷ m) v in
     let s = decimal_same k l (42 ∷ (n ++ u)) (42 ∷ (m ++ v)) hk hl refl refl here in
     let t = front_same is_visible n m u v (name_passes n hn) (name_passes m hm) eu ev (rest_same s.1) in
     (s.0, t.0, t.1)
@@ -52,7 +52,7 @@ pub product_same : (k l : ℕ) (n m u v : List ℕ) → IsShort k → IsShort l 
     product_text k n ++ u ≡ product_text l m ++ v → (k ≡ l) × (n ≡ m) × (u ≡ v)
 product_same k l n m u v hk hl hn hm eu ev e = product_cases (nat_eq k 1) (nat_eq l 1) k l n m u v refl refl hk hl hn hm eu ev e
 
-digit_visible : (b : ℕ) → is_ascii_digit b ≡ true → is_visible b ≡ true
+pub digit_visible : (b : ℕ) → is_ascii_digit b ≡ true → is_visible b ≡ true
 digit_visible b h = grind (arith, nat_tests)
 
 product_first_cases : (c : Bool) (k : ℕ) (n u v : List ℕ) (b : ℕ) → IsShort k → IsShownName n → (if c then n else decimal k ++ codes "*" ++ n) ++ u ≡ b ∷ v → is_visible b ≡ true
@@ -96,11 +96,11 @@ term_absent (c ∷ cs) [] u s k n w hc hns hu hs hk hn other ew e = no_term s u 
 term_absent (pos zero ∷ cs) (m ∷ ns) u s k n w hc hns hu hs hk hn other ew e = term_absent cs ns u s k n w hc.1 hns.2 hu hs hk hn other.1 ew e
 term_absent (pos (suc j) ∷ cs) (m ∷ ns) u s k n w hc hns hu hs hk hn other ew e =
     let same = product_same (suc j) k m n (terms_text cs ns ++ u) w (short_in_range (pos (suc j)) hc.0) hk hns.0 hn (terms_ends cs ns u hu) ew
-        (sym (append_assoc (product_text (suc j) m) (terms_text cs ns) u) ∙ rest_same (rest_same (rest_same e))) in
+    (sym (append_assoc (product_text (suc j) m) (terms_text cs ns) u) ∙ rest_same (rest_same (rest_same e))) in
     other.0 (sym same.1)
 term_absent (negsuc j ∷ cs) (m ∷ ns) u s k n w hc hns hu hs hk hn other ew e =
     let same = product_same (suc j) k m n (terms_text cs ns ++ u) w (short_in_range (negsuc j) hc.0) hk hns.0 hn (terms_ends cs ns u hu) ew
-        (sym (append_assoc (product_text (suc j) m) (terms_text cs ns) u) ∙ rest_same (rest_same (rest_same e))) in
+    (sym (append_assoc (product_text (suc j) m) (terms_text cs ns) u) ∙ rest_same (rest_same (rest_same e))) in
     other.0 (sym same.1)
 
 pos_same : {m n : ℕ} → m ≡ n → pos m ≡ pos n
@@ -114,7 +114,7 @@ term_rest : (k l : ℕ) (n : List ℕ) (cs ds : List ℤ) (ns : List (List ℕ))
     (product_text k n ++ terms_text cs ns) ++ u ≡ (product_text l n ++ terms_text ds ns) ++ v → (k ≡ l) × (terms_text cs ns ++ u ≡ terms_text ds ns ++ v)
 term_rest k l n cs ds ns u v hk hl hn hu hv e =
     let same = product_same k l n n (terms_text cs ns ++ u) (terms_text ds ns ++ v) hk hl hn hn (terms_ends cs ns u hu) (terms_ends ds ns v hv)
-        (sym (append_assoc (product_text k n) (terms_text cs ns) u) ∙ e ∙ append_assoc (product_text l n) (terms_text ds ns) v) in
+    (sym (append_assoc (product_text k n) (terms_text cs ns) u) ∙ e ∙ append_assoc (product_text l n) (terms_text ds ns) v) in
     (same.0, same.2)
 
 no_signs : (let n : ℕ = 43 in n) ≡ 45 → ⊥
@@ -165,7 +165,7 @@ form_absent (c ∷ cs) [] u k n w up hc hns hu hk hn other ew e = no_product k n
 form_absent (pos zero ∷ cs) (m ∷ ns) u k n w up hc hns hu hk hn other ew e = form_absent cs ns u k n w up hc.1 hns.2 hu hk hn other.1 ew e
 form_absent (pos (suc j) ∷ cs) (m ∷ ns) u k n w up hc hns hu hk hn other ew e =
     let same = product_same (suc j) k m n (terms_text cs ns ++ u) w (short_in_range (pos (suc j)) hc.0) hk hns.0 hn (terms_ends cs ns u hu) ew
-        (sym (append_assoc (product_text (suc j) m) (terms_text cs ns) u) ∙ e) in
+    (sym (append_assoc (product_text (suc j) m) (terms_text cs ns) u) ∙ e) in
     other.0 (sym same.1)
 form_absent (negsuc j ∷ cs) (m ∷ ns) u k n w up hc hns hu hk hn other ew e = not_down up
 
@@ -283,9 +283,9 @@ row_same ns r s u v hn lr ls hr hs eu ev e =
     let behind_r = signed_decimal (turned (not b) r.constant) ++ u in
     let behind_s = signed_decimal (turned (not c) s.constant) ++ v in
     let forms = form_same (map (turned b) r.coefficients) (map (turned c) s.coefficients) ns (relation_text r.kind b ++ behind_r) (relation_text s.kind c ++ behind_s)
-        (up_cases b r.coefficients refl) (up_cases c s.coefficients refl) (length_turned b r.coefficients ∙ lr) (length_turned c s.coefficients ∙ ls)
-        (all_turned_in b r.coefficients hr.coefficients_in) (all_turned_in c s.coefficients hs.coefficients_in) hn (relation_behind r.kind b behind_r) (relation_behind s.kind c behind_s)
-        (sym (row_pieces ns r u) ∙ e ∙ row_pieces ns s v) in
+    (up_cases b r.coefficients refl) (up_cases c s.coefficients refl) (length_turned b r.coefficients ∙ lr) (length_turned c s.coefficients ∙ ls)
+    (all_turned_in b r.coefficients hr.coefficients_in) (all_turned_in c s.coefficients hs.coefficients_in) hn (relation_behind r.kind b behind_r) (relation_behind s.kind c behind_s)
+    (sym (row_pieces ns r u) ∙ e ∙ row_pieces ns s v) in
     let relations = relation_same r.kind s.kind b c behind_r behind_s (directed r.kind r.coefficients hr.directed) (directed s.kind s.coefficients hs.directed) forms.1 in
     let numbers = signed_same (turned (not b) r.constant) (turned (not c) s.constant) u v (short_in_range (turned (not b) r.constant) (turned_in (not b) r.constant hr.constant_in)) (short_in_range (turned (not c) s.constant) (turned_in (not c) s.constant hs.constant_in)) eu ev relations.rest in
     let coefficients : r.coefficients ≡ s.coefficients = all_turned_same b r.coefficients s.coefficients (forms.0 ∙ ap (λ t. map (turned t) s.coefficients) (sym relations.turn)) in

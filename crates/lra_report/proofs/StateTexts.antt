@@ -1,14 +1,13 @@
 -- One text, one state.
-use Rattle.std.proofs.Common.{◌≡◌, ◌≢◌, ℕ, zero, suc, nat_eq, false, ℤ, List, [], ◌∷◌, ◌++◌, length, codes, if◌then◌else◌, refl, ap, sym, ◌∙◌, subst, arith, append_assoc, append-nil}
-use Rattle.std.specs.Prelude.{⊤}
+use Rattle.std.proofs.Common.{◌≡◌, ◌≢◌, ℕ, nat_eq, false, List, [], ◌∷◌, ◌++◌, length, codes, if◌then◌else◌, refl, ap, sym, ◌∙◌, arith, append_assoc, append-nil}
 use Rattle.std.specs.List.{AllByRecursion, flat_map}
 use Rattle.std.proofs.lemmas.List.{append_cancel_left}
 use Rattle.std.proofs.lemmas.Bool.{eqb-false}
 use Rattle.lra_tree.specs.Report.{Row, Generator, Part, State}
 use Rattle.lra_tree.specs.ReportText.{text_line, row_text, generator_text, rows_text, generators_text, part_text, further_parts_text, state_text}
-use Rattle.lra_report.specs.Spelled.{IsSpelledRow, IsSpelledGenerator, IsReadablePart, AreShownNames}
+use Rattle.lra_report.specs.Spelled.{IsSpelledRow, IsSpelledGenerator, IsReadablePart}
 use Rattle.lra_report.specs.Lines.{row_line, generator_line}
-use Rattle.lra_report.proofs.Fronts.{rest_same, both_same}
+use Rattle.lra_report.proofs.Fronts.{AreShownNames, rest_same, both_same}
 use Rattle.lra_report.proofs.RowTexts.{row_same, row_not_true}
 use Rattle.lra_report.proofs.GeneratorTexts.{generator_same}
 
@@ -91,7 +90,7 @@ part_pieces ns p u = ap (λ t. t ++ u) (generators_are ns p.generators (rows_tex
 part_same : (ns : Names) (p q : Part) (u v : List ℕ) → AreShownNames ns → IsReadablePart (length ns) p → IsReadablePart (length ns) q → IsPast u → IsPast v → part_text ns p ++ u ≡ part_text ns q ++ v → (p ≡ q) × (u ≡ v)
 part_same ns p q u v hn hp hq hu hv e =
     let rows = rows_text_same ns p.rows q.rows (flat_map (generator_line ns) p.generators ++ u) (flat_map (generator_line ns) q.generators ++ v) hn hp.0.0 hq.0.0 hp.1.rows hq.1.rows
-        (no_row_there ns p.generators u hu) (no_row_there ns q.generators v hv) (sym (part_pieces ns p u) ∙ e ∙ part_pieces ns q v) in
+    (no_row_there ns p.generators u hu) (no_row_there ns q.generators v hv) (sym (part_pieces ns p u) ∙ e ∙ part_pieces ns q v) in
     let generators = generators_same ns p.generators q.generators u v hp.0.1 hq.0.1 hp.1.generators hq.1.generators hu.no_generator hv.no_generator rows.1 in
     (part_by p.rows q.rows p.generators q.generators rows.0 generators.0, generators.1)
 
@@ -141,6 +140,6 @@ state_same ns [] (q ∷ qs) u v hn hp hq lu lv e = absurd (reached ns q (further
 state_same ns (p ∷ ps) [] u v hn hp hq lu lv e = absurd (reached ns p (further_parts_text ns ps) v u (sym e))
 state_same ns (p ∷ ps) (q ∷ qs) u v hn hp hq lu lv e =
     let first = part_same ns p q (further_parts_text ns ps ++ u) (further_parts_text ns qs ++ v) hn hp.0 hq.0 (past_further ns ps u lu) (past_further ns qs v lv)
-        (sym (append_assoc (part_text ns p) (further_parts_text ns ps) u) ∙ e ∙ append_assoc (part_text ns q) (further_parts_text ns qs) v) in
+    (sym (append_assoc (part_text ns p) (further_parts_text ns ps) u) ∙ e ∙ append_assoc (part_text ns q) (further_parts_text ns qs) v) in
     let further = further_same ns ps qs u v hn hp.1 hq.1 lu lv first.1 in
     (both_same first.0 further.0, further.1)

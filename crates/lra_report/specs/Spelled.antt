@@ -1,14 +1,17 @@
 -- When a text tells what it was written of: canonical lists, numbers of the range, and names of variables that can be told apart.
-use Rattle.std.specs.Prelude.{◌≡◌, ◌≢◌, ℕ, ℤ, pos, nat_lt, List, [], ◌∷◌, length, Bool, true, false, ⊤, ◌<◌, ◌^◌, Option, Some, None}
+use Rattle.std.specs.Prelude.{◌≡◌, ℕ, ℤ, pos, List, ◌∷◌, length, true, false, ⊤, ◌<◌, ◌^◌, Option, Some, None}
 use Rattle.std.specs.List.{AllByRecursion}
-use Rattle.std.specs.Char.{is_ascii_digit}
 use Rattle.lra_linear.specs.Range.{InRange}
 use Rattle.lra_linear.specs.LowestTerms.{IsPrimitive}
+use Rattle.lra_tree.specs.Lexeme.{is_word}
 use Rattle.lra_tree.specs.Trees.{FileTree}
+use Rattle.lra_tree.specs.Labels.{labels_of}
+use Rattle.lra_tree.specs.Resolve.{resolve}
+use Rattle.lra_tree.specs.Sites.{sites_of}
 use Rattle.lra_tree.specs.Report.{RowKind, equality, inequality, Row, GeneratorKind, point, ray, line, Generator, Part, PointReport, Report}
 use Rattle.lra_tree.specs.ReportText.{is_turned, report_text}
 use Rattle.lra_tree.specs.Parts.{DividesAs}
-use Rattle.lra_tree.specs.Listing.{Lists, HasWidth}
+use Rattle.lra_tree.specs.Listing.{Lists, HasWidth, live_names, globals_named}
 
 -- the first coefficient of an equality that isn't 0 is above 0
 abbrev pub IsDirected : RowKind → List ℤ → Type 0
@@ -40,27 +43,8 @@ pub record IsSpelledPart (part : Part) : Type 0 where
 abbrev pub IsReadablePart : ℕ → Part → Type 0
 IsReadablePart n part = HasWidth n part × IsSpelledPart part
 
--- above the blank: no blank and no line feed
-abbrev pub is_visible : ℕ → Bool
-is_visible b = nat_lt 32 b
-
-abbrev pub AllVisible : List ℕ → Type 0
-AllVisible [] = ⊤
-AllVisible (b ∷ bs) = (is_visible b ≡ true) × AllVisible bs
-
--- a word of visible bytes that doesn't begin with a digit
-abbrev pub IsShownName : List ℕ → Type 0
-IsShownName [] = ⊥
-IsShownName (b ∷ bs) = (is_ascii_digit b ≡ false) × (is_visible b ≡ true) × AllVisible bs
-
--- such words, pairwise different
-abbrev pub AreShownNames : List (List ℕ) → Type 0
-AreShownNames [] = ⊤
-AreShownNames (n ∷ ns) = IsShownName n × AllByRecursion (λ m. n ≢ m) ns × AreShownNames ns
-
-pub record IsReadablePoint (p : PointReport) : Type 0 where
-  pub names : AreShownNames p.names
-  pub parts : AllByRecursion (IsReadablePart (length p.names)) p.state
+abbrev pub IsReadablePoint : PointReport → Type 0
+IsReadablePoint p = AllByRecursion (IsReadablePart (length p.names)) p.state
 
 abbrev pub IsSmallFlag : Option ℕ → Type 0
 IsSmallFlag None = ⊤
@@ -70,6 +54,15 @@ pub record IsReadable (r : Report) : Type 0 where
   pub points : AllByRecursion IsReadablePoint r.points
   pub flag : IsSmallFlag r.flagged
 
+-- the variables that live together are named by words
+pub record AreWords (live : List (List ℕ)) : Type 0 where
+  pub words : AllByRecursion (λ n. is_word n ≡ true) live
+  pub few : length live < 2 ^ 64
+
+-- at each point of the program
+abbrev pub HasWords : FileTree → Type 0
+HasWords t = AllByRecursion (λ s. AreWords (live_names (globals_named t.parts) (labels_of t) s)) (sites_of (resolve t))
+
 -- one text, one report: two reports of one program under one list of options that have the same text are the same
 abbrev pub OneText : Report → Report → Type 0
-OneText r s = (t : FileTree) → Lists t r → Lists t s → r.options ≡ s.options → IsReadable r → IsReadable s → report_text r ≡ report_text s → r ≡ s
+OneText r s = (t : FileTree) → HasWords t → Lists t r → Lists t s → r.options ≡ s.options → IsReadable r → IsReadable s → report_text r ≡ report_text s → r ≡ s

@@ -3,4 +3,4 @@ use Rattle.lra_report.proofs.OneText.{one_report}
 use Rattle.lra_report.proofs.law.one_text.Goals as goal
 
 pub returns : goal.returns
-returns c = one_report (report_of c.args._first.now) (report_of c.args._second.now)
+returns c = one_report (report_of c.args.first.now) (report_of c.args.second.now)
