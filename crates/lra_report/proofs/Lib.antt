@@ -1,3 +1,4 @@
+pub mod CanonicalLists
 pub mod Fronts
 pub mod GeneratorTexts
 pub mod Lists
@@ -5,4 +6,5 @@ pub mod NameTexts
 pub mod Numbers
 pub mod OneText
 pub mod RowTexts
+mod SpelledExamples
 pub mod StateTexts
