@@ -1,1 +1,4 @@
+pub mod LowestTerms
+pub mod NamesShown
 pub mod Terms
+pub mod Values

@@ -11,7 +11,7 @@ use Rattle.lra_row.proofs.RowLemmas.{entry_at}
 use Rattle.lra_tree.specs.ReportText.{is_turned, turned, terms_text, product_text}
 use Rattle.lra_show.specs.Shown.{rest_text, is_zero}
 
-drop_entry : (cs : List ℤ) (j : ℕ) → j < length cs → drop j cs ≡ entry cs j ∷ drop (j + 1) cs
+pub drop_entry : (cs : List ℤ) (j : ℕ) → j < length cs → drop j cs ≡ entry cs j ∷ drop (j + 1) cs
 drop_entry cs j h = rw (entry_at, add-one) (drop-cons cs j (pos 0) h)
 
 above : (n : ℕ) → Greater ≡ int_cmp (pos (suc n)) (pos 0)
@@ -86,7 +86,7 @@ cut_at : (m n j : ℕ) → min m (n - 1) ≤ j → (j < m) ⊎ (m ≤ j) → (m 
 cut_at m n j h (inl more) = inr (omega arith)
 cut_at m n j h (inr less) = inl less
 
-min_cases : (m n j : ℕ) → min m (n - 1) ≤ j → (m ≤ j) ⊎ (n ≤ j + 1)
+pub min_cases : (m n j : ℕ) → min m (n - 1) ≤ j → (m ≤ j) ⊎ (n ≤ j + 1)
 min_cases m n j h = cut_at m n j h (cases_lt j m)
 
 ends : {A B C : Type 0} → (A → C) → (B → C) → A ⊎ B → C

@@ -1,10 +1,12 @@
-//! Texts of rows.
+//! Texts of rows, of generators and of names, as a report writes them.
 #![tactic(auto)]
 
+mod generator;
 mod names;
 mod row;
 
-pub use names::Names;
+pub use generator::generator_text;
+pub use names::{Names, names_at};
 pub use row::row_text;
 
 #[cfg(test)]

@@ -1,0 +1,125 @@
+-- One text, one report.
+use Rattle.std.proofs.Common.{◌≡◌, ℕ, suc, ◌<◌, ◌^◌, Bool, true, false, List, [], ◌∷◌, ◌++◌, length, codes, if◌then◌else◌, refl, ap, sym, ◌∙◌, subst, arith, append_assoc, Option, Some, None}
+use Rattle.std.specs.List.{AllByRecursion, flat_map}
+use Rattle.std.specs.Fmt.{decimal}
+use Rattle.std.proofs.lemmas.List.{append_cancel_left}
+use Rattle.std.proofs.lemmas.Bool.{eqb-false}
+use Rattle.lra_tree.specs.Labels.{Labelled, labels_of, label_at}
+use Rattle.lra_tree.specs.Resolve.{resolve}
+use Rattle.lra_tree.specs.Sites.{Site, sites_of}
+use Rattle.lra_tree.specs.Refuse.{label_place}
+use Rattle.lra_tree.specs.Report.{PointReport, Verdict, Report}
+use Rattle.lra_tree.specs.ReportText.{text_line, place_text, path_text, shown_names, options_text, flag_text, state_text, point_text, verdict_text, report_text}
+use Rattle.lra_tree.specs.Listing.{live_names, calls_on, globals_named, listed_point, listed_verdict, AreListed, AreJudged, assertions_from}
+use Rattle.lra_report.specs.Spelled.{IsReadablePart, IsReadablePoint, IsSmallFlag, AreWords, OneText}
+use Rattle.lra_report.specs.Lines.{counts_line}
+use Rattle.lra_report.proofs.Fronts.{first_same, rest_same, both_same}
+use Rattle.lra_report.proofs.Numbers.{IsShort, decimal_same}
+use Rattle.lra_report.proofs.NameTexts.{are_shown}
+use Rattle.lra_report.proofs.StateTexts.{letter, line_pieces, state_same}
+
+-- points -------------------------------------------------------------------------
+
+points_letter : (ps : List PointReport) (u : List ℕ) → letter u ≡ 0 → letter (flat_map point_text ps ++ u) ≡ 0
+points_letter [] u h = h
+points_letter (p ∷ ps) u h = refl
+
+point_pieces : (a s r u : List ℕ) → ((a ++ s) ++ r) ++ u ≡ a ++ (s ++ (r ++ u))
+point_pieces a s r u = simp append_assoc
+
+points_same : (outside : List (List ℕ)) (ls : List Labelled) (number : ℕ) (sites : List Site) (ps qs : List PointReport) (u v : List ℕ) → AllByRecursion (λ s. AreWords (live_names outside ls s)) sites → AreListed outside ls number sites ps → AreListed outside ls number sites qs →
+    AllByRecursion IsReadablePoint ps → AllByRecursion IsReadablePoint qs → letter u ≡ 0 → letter v ≡ 0 → flat_map point_text ps ++ u ≡ flat_map point_text qs ++ v → (ps ≡ qs) × (u ≡ v)
+points_same outside ls number [] [] [] u v hw lp lq hp hq lu lv e = (refl, e)
+points_same outside ls number [] [] (q ∷ qs) u v hw lp lq hp hq lu lv e = absurd lq
+points_same outside ls number [] (p ∷ ps) qs u v hw lp lq hp hq lu lv e = absurd lp
+points_same outside ls number (s ∷ sites) [] qs u v hw lp lq hp hq lu lv e = absurd lp
+points_same outside ls number (s ∷ sites) (p ∷ ps) [] u v hw lp lq hp hq lu lv e = absurd lq
+points_same outside ls number (s ∷ sites) (p ∷ ps) (q ∷ qs) u v hw lp lq hp hq lu lv e =
+    let names = shown_names (live_names outside ls s) in
+    let head = text_line (codes "point " ++ decimal number ++ codes " " ++ path_text (calls_on ls s.path) ++ codes " " ++ place_text (label_place (label_at ls s.label))) in
+    let rest_p = flat_map point_text ps in
+    let rest_q = flat_map point_text qs in
+    let text_p : point_text p ≡ head ++ state_text names p.state = ap point_text lp.0 in
+    let text_q : point_text q ≡ head ++ state_text names q.state = ap point_text lq.0 in
+    let here : head ++ (state_text names p.state ++ (rest_p ++ u)) ≡ head ++ (state_text names q.state ++ (rest_q ++ v)) =
+    sym (ap (λ t. (t ++ rest_p) ++ u) text_p ∙ point_pieces head (state_text names p.state) rest_p u) ∙ e ∙ ap (λ t. (t ++ rest_q) ++ v) text_q ∙ point_pieces head (state_text names q.state) rest_q v in
+    let names_p : p.names ≡ names = ap (λ (x : PointReport). x.names) lp.0 in
+    let names_q : q.names ≡ names = ap (λ (x : PointReport). x.names) lq.0 in
+    let first = state_same names p.state q.state (rest_p ++ u) (rest_q ++ v) (are_shown (live_names outside ls s) hw.0)
+    (subst (λ ns. AllByRecursion (IsReadablePart (length ns)) p.state) names_p hp.0) (subst (λ ns. AllByRecursion (IsReadablePart (length ns)) q.state) names_q hq.0)
+    (points_letter ps u lu) (points_letter qs v lv) (append_cancel_left head _ _ here) in
+    let further = points_same outside ls (suc number) sites ps qs u v hw.1 lp.2 lq.2 hp.1 hq.1 lu lv first.1 in
+    (both_same (lp.0 ∙ ap (listed_point outside ls number s) first.0 ∙ sym lq.0) further.0, further.1)
+
+-- verdicts -----------------------------------------------------------------------
+
+counts_letter : (vs ws : List Verdict) → letter (flat_map verdict_text vs ++ counts_line ws) ≡ 0
+counts_letter [] ws = refl
+counts_letter (v ∷ vs) ws = refl
+
+proved_same : (b c : Bool) (u v : List ℕ) → (if b then codes " proved" else codes " unknown") ++ (10 ∷ u) ≡ (if c then codes " proved" else codes " unknown") ++ (10 ∷ v) → (b ≡ c) × (u ≡ v)
+proved_same true true u v e = (refl, rest_same (append_cancel_left (codes " proved") (10 ∷ u) (10 ∷ v) e))
+proved_same false false u v e = (refl, rest_same (append_cancel_left (codes " unknown") (10 ∷ u) (10 ∷ v) e))
+proved_same true false u v e = absurd (eqb-false 112 117 refl (first_same (rest_same e)))
+proved_same false true u v e = absurd (eqb-false 117 112 refl (first_same (rest_same e)))
+
+verdicts_same : (ls : List Labelled) (sites : List (ℕ × Site)) (vs ws : List Verdict) (u w : List ℕ) → AreJudged ls sites vs → AreJudged ls sites ws → flat_map verdict_text vs ++ u ≡ flat_map verdict_text ws ++ w → vs ≡ ws
+verdicts_same ls [] [] [] u w lv lw e = refl
+verdicts_same ls [] [] (x ∷ ws) u w lv lw e = absurd lw
+verdicts_same ls [] (v ∷ vs) ws u w lv lw e = absurd lv
+verdicts_same ls (a ∷ sites) [] ws u w lv lw e = absurd lv
+verdicts_same ls (a ∷ sites) (v ∷ vs) [] u w lv lw e = absurd lw
+verdicts_same ls (a ∷ sites) (v ∷ vs) (x ∷ ws) u w lv lw e =
+    let head = codes "assert " ++ decimal a.0 ++ codes " " ++ path_text (calls_on ls a.1.path) ++ codes " " ++ place_text (label_place (label_at ls a.1.label)) in
+    let told : Bool → List ℕ = λ b. if b then codes " proved" else codes " unknown" in
+    let text_v : verdict_text v ≡ text_line (head ++ told v.proved) = ap verdict_text lv.0 in
+    let text_x : verdict_text x ≡ text_line (head ++ told x.proved) = ap verdict_text lw.0 in
+    let rest_v = flat_map verdict_text vs in
+    let rest_x = flat_map verdict_text ws in
+    let here : head ++ (told v.proved ++ (10 ∷ (rest_v ++ u))) ≡ head ++ (told x.proved ++ (10 ∷ (rest_x ++ w))) =
+    sym (ap (λ t. (t ++ rest_v) ++ u) text_v ∙ line_pieces head (told v.proved) rest_v u) ∙ e ∙ ap (λ t. (t ++ rest_x) ++ w) text_x ∙ line_pieces head (told x.proved) rest_x w in
+    let first = proved_same v.proved x.proved (rest_v ++ u) (rest_x ++ w) (append_cancel_left head _ _ here) in
+    both_same (lv.0 ∙ ap (listed_verdict ls a.0 a.1) first.0 ∙ sym lw.0) (verdicts_same ls sites vs ws u w lv.1 lw.1 first.1)
+
+-- the flag -----------------------------------------------------------------------
+
+small_short : (n : ℕ) → n < 2 ^ 64 → IsShort n
+small_short n h = omega (arith, h)
+
+flag_pieces : (a d u : List ℕ) → ((a ++ d) ++ 10 ∷ []) ++ u ≡ a ++ (d ++ (10 ∷ u))
+flag_pieces a d u = simp append_assoc
+
+flag_same : (f g : Option ℕ) (u v : List ℕ) → IsSmallFlag f → IsSmallFlag g → flag_text f ++ u ≡ flag_text g ++ v → (f ≡ g) × (u ≡ v)
+flag_same None None u v hf hg e = (refl, append_cancel_left (text_line (codes "flagged 0")) u v e)
+flag_same (Some m) (Some n) u v hf hg e =
+    let at = codes "flagged at point " in
+    let s = decimal_same m n (10 ∷ u) (10 ∷ v) (small_short m hf) (small_short n hg) refl refl (append_cancel_left at _ _ (sym (flag_pieces at (decimal m) u) ∙ e ∙ flag_pieces at (decimal n) v)) in
+    (ap Some s.0, rest_same s.1)
+flag_same None (Some n) u v hf hg e =
+    absurd (eqb-false 48 97 refl (first_same (append_cancel_left (codes "flagged ") (codes "0" ++ (10 ∷ u)) (codes "at point " ++ ((decimal n ++ 10 ∷ []) ++ v)) e)))
+flag_same (Some m) None u v hf hg e =
+    absurd (eqb-false 97 48 refl (first_same (append_cancel_left (codes "flagged ") (codes "at point " ++ ((decimal m ++ 10 ∷ []) ++ u)) (codes "0" ++ (10 ∷ v)) e)))
+
+-- reports ------------------------------------------------------------------------
+
+report_pieces : (r : Report) → report_text r ≡ options_text r.options ++ (flag_text r.flagged ++ (flat_map point_text r.points ++ (flat_map verdict_text r.verdicts ++ counts_line r.verdicts)))
+report_pieces r = pieces (options_text r.options) (flag_text r.flagged) (flat_map point_text r.points) (flat_map verdict_text r.verdicts) (counts_line r.verdicts)
+  where
+    pieces : (a b c d e : List ℕ) → (((a ++ b) ++ c) ++ d) ++ e ≡ a ++ (b ++ (c ++ (d ++ e)))
+    pieces a b c d e = simp append_assoc
+
+report_by : (r s : Report) → r.options ≡ s.options → r.flagged ≡ s.flagged → r.points ≡ s.points → r.verdicts ≡ s.verdicts → r ≡ s
+report_by r s o f p v =
+    ap (λ x. record { options = x; flagged = r.flagged; points = r.points; verdicts = r.verdicts }) o
+    ∙ ap (λ x. record { options = s.options; flagged = x; points = r.points; verdicts = r.verdicts }) f
+    ∙ ap (λ x. record { options = s.options; flagged = s.flagged; points = x; verdicts = r.verdicts }) p
+    ∙ ap (λ x. record { options = s.options; flagged = s.flagged; points = s.points; verdicts = x }) v
+
+pub one_report : (r s : Report) → OneText r s
+one_report r s t words listed_r listed_s options hr hs e =
+    let tail : Report → List ℕ = λ x. flag_text x.flagged ++ (flat_map point_text x.points ++ (flat_map verdict_text x.verdicts ++ counts_line x.verdicts)) in
+    let here : options_text s.options ++ tail r ≡ options_text s.options ++ tail s = ap (λ o. options_text o ++ tail r) (sym options) ∙ sym (report_pieces r) ∙ e ∙ report_pieces s in
+    let flags = flag_same r.flagged s.flagged _ _ hr.flag hs.flag (append_cancel_left (options_text s.options) (tail r) (tail s) here) in
+    let points = points_same (globals_named t.parts) (labels_of t) 1 (sites_of (resolve t)) r.points s.points _ _ words listed_r.points listed_s.points hr.points hs.points (counts_letter r.verdicts r.verdicts) (counts_letter s.verdicts s.verdicts) flags.1 in
+    let verdicts = verdicts_same (labels_of t) (assertions_from 1 (sites_of (resolve t))) r.verdicts s.verdicts _ _ listed_r.verdicts listed_s.verdicts points.1 in
+    report_by r s options flags.0 points.0 verdicts

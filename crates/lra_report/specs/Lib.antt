@@ -1,0 +1,4 @@
+pub mod Rows
+pub mod View
+pub mod Lines
+pub mod Spelled

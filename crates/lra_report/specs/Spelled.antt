@@ -1,0 +1,68 @@
+-- When a text tells what it was written of: canonical lists, numbers of the range, and names of variables that can be told apart.
+use Rattle.std.specs.Prelude.{◌≡◌, ℕ, ℤ, pos, List, ◌∷◌, length, true, false, ⊤, ◌<◌, ◌^◌, Option, Some, None}
+use Rattle.std.specs.List.{AllByRecursion}
+use Rattle.lra_linear.specs.Range.{InRange}
+use Rattle.lra_linear.specs.LowestTerms.{IsPrimitive}
+use Rattle.lra_tree.specs.Lexeme.{is_word}
+use Rattle.lra_tree.specs.Trees.{FileTree}
+use Rattle.lra_tree.specs.Labels.{labels_of}
+use Rattle.lra_tree.specs.Resolve.{resolve}
+use Rattle.lra_tree.specs.Sites.{sites_of}
+use Rattle.lra_tree.specs.Report.{RowKind, equality, inequality, Row, GeneratorKind, point, ray, line, Generator, Part, PointReport, Report}
+use Rattle.lra_tree.specs.ReportText.{is_turned, report_text}
+use Rattle.lra_tree.specs.Parts.{DividesAs}
+use Rattle.lra_tree.specs.Listing.{Lists, HasWidth, live_names, globals_named}
+
+-- the first coefficient of an equality that isn't 0 is above 0
+abbrev pub IsDirected : RowKind → List ℤ → Type 0
+IsDirected equality cs = is_turned cs ≡ false
+IsDirected inequality cs = ⊤
+
+pub record IsSpelledRow (r : Row) : Type 0 where
+  pub directed : IsDirected r.kind r.coefficients
+  pub constant_in : InRange r.constant
+  pub coefficients_in : AllByRecursion InRange r.coefficients
+
+-- only 1 divides the divisor of a point and all its numbers
+abbrev pub IsReduced : GeneratorKind → ℕ → List ℤ → Type 0
+IsReduced point d zs = IsPrimitive (pos d ∷ zs)
+IsReduced ray d zs = ⊤
+IsReduced line d zs = ⊤
+
+pub record IsSpelledGenerator (g : Generator) : Type 0 where
+  pub divides : DividesAs g.kind g.divisor
+  pub reduced : IsReduced g.kind g.divisor g.numbers
+  pub divisor_in : InRange (pos g.divisor)
+  pub numbers_in : AllByRecursion InRange g.numbers
+
+pub record IsSpelledPart (part : Part) : Type 0 where
+  pub rows : AllByRecursion IsSpelledRow part.rows
+  pub generators : AllByRecursion IsSpelledGenerator part.generators
+
+-- of a canonical list, with a number for each of n variables
+abbrev pub IsReadablePart : ℕ → Part → Type 0
+IsReadablePart n part = HasWidth n part × IsSpelledPart part
+
+abbrev pub IsReadablePoint : PointReport → Type 0
+IsReadablePoint p = AllByRecursion (IsReadablePart (length p.names)) p.state
+
+abbrev pub IsSmallFlag : Option ℕ → Type 0
+IsSmallFlag None = ⊤
+IsSmallFlag (Some number) = number < 2 ^ 64
+
+pub record IsReadable (r : Report) : Type 0 where
+  pub points : AllByRecursion IsReadablePoint r.points
+  pub flag : IsSmallFlag r.flagged
+
+-- the variables that live together are named by words
+pub record AreWords (live : List (List ℕ)) : Type 0 where
+  pub words : AllByRecursion (λ n. is_word n ≡ true) live
+  pub few : length live < 2 ^ 64
+
+-- at each point of the program
+abbrev pub HasWords : FileTree → Type 0
+HasWords t = AllByRecursion (λ s. AreWords (live_names (globals_named t.parts) (labels_of t) s)) (sites_of (resolve t))
+
+-- one text, one report: two reports of one program under one list of options that have the same text are the same
+abbrev pub OneText : Report → Report → Type 0
+OneText r s = (t : FileTree) → HasWords t → Lists t r → Lists t s → r.options ≡ s.options → IsReadable r → IsReadable s → report_text r ≡ report_text s → r ≡ s

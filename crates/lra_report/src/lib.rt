@@ -1,0 +1,19 @@
+//! Reports, and their text.
+//!
+//! The views of these types are the reports of `lra_tree`; [`text`] writes the text that is defined there.
+#![tactic(auto)]
+
+mod law;
+mod part;
+mod path;
+mod report;
+mod writing;
+
+pub use law::one_text;
+pub use part::Part;
+pub use path::{CallPlace, path_text};
+pub use report::{Domain, Options, Point, PointReport, Report, Verdict};
+pub use writing::text;
+
+#[cfg(test)]
+mod tests;

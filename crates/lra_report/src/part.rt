@@ -1,0 +1,55 @@
+//! Parts of a state.
+
+ghost use Rattle.std.specs.Prelude.{◌≡◌, [], MatchOption, length};
+ghost use Rattle.lra_sys.specs.Listed.{FitKinds};
+ghost use Rattle.lra_report.specs.Rows.{shown_rows, shown_generators, optional_generators, FitOptionally};
+
+use lra_sys::{ConSys, GenSys};
+use std::marker::Model;
+
+/// A conjunction of rows, and over polyhedra its generators: a point's divisor is above 0, a ray and a line have 0 there.
+#[derive(Drop)]
+pub struct Part {
+    rows: ConSys,
+    generators: Option<GenSys>,
+}
+
+impl Model for Part {
+    ghost use Rattle.lra_tree.specs.Report as report;
+    ghost use Rattle.lra_report.specs.Rows.{shown_rows, optional_generators, FitOptionally};
+
+    ghost Value = { report.Part };
+
+    ghost view = { λ p. record { rows = shown_rows p.rows.rows p.rows.kinds; generators = optional_generators p.generators } };
+
+    ghost invariant = { λ p. FitOptionally p.generators };
+}
+
+impl Part {
+    /// A part of these rows and generators, none over boxes and octagons.
+    pub fn new(rows: ConSys, generators: Option<GenSys>) -> Part
+        requires { FitOptionally generators }
+        ensures rows { result.rows ≡ shown_rows rows.rows rows.kinds }
+        ensures generators { result.generators ≡ optional_generators generators }
+    {
+        Part { rows, generators }
+    }
+
+    /// The rows, in order.
+    pub fn rows(&self) -> &ConSys
+        ensures { shown_rows result.now.rows result.now.kinds ≡ self.now.rows }
+    {
+        &self.rows
+    }
+
+    /// The generators, in order, where there is a list of them.
+    pub fn generators(&self) -> Option<&GenSys>
+        ensures shown { MatchOption result (self.now.generators ≡ []) (λ g. shown_generators g.now.rows g.now.kinds ≡ self.now.generators) }
+        ensures fit { MatchOption result Unit (λ g. FitKinds g.now.rows g.now.kinds) }
+    {
+        match &self.generators {
+            None => None,
+            Some(generators) => Some(generators),
+        }
+    }
+}

@@ -1,0 +1,79 @@
+//! What a report has.
+
+ghost use Rattle.std.specs.Prelude.{◌≡◌, count_by, not};
+
+use crate::part::Part;
+use lra_show::Names;
+use lra_tree::Place;
+
+/// Which domain the analysis ran over: closed polyhedra, boxes, octagons.
+#[derive(Clone, Copy, Debug, PartialEq, Eq)]
+pub enum Domain {
+    Poly,
+    Box,
+    Oct,
+}
+
+/// Under which options it ran.
+#[derive(Clone, Copy, Debug, PartialEq, Eq)]
+pub struct Options {
+    pub domain: Domain,
+    pub parts: u32,
+    pub delay: u32,
+    pub narrow: u32,
+    pub limited: bool,
+}
+
+/// A point of the program: its statement's label, and the labels of the calls that lead to it, the innermost first.
+#[derive(Drop)]
+pub struct Point {
+    pub path: Vec<u32>,
+    pub label: u32,
+}
+
+/// A point with its number, its path and place as they are printed, the printed names of its variables, and its state: one of the
+/// parts holds, and no part says that no run comes here.
+#[derive(Drop)]
+pub struct PointReport {
+    pub number: u32,
+    pub point: Point,
+    pub path: String,
+    pub place: Place,
+    pub names: Names,
+    pub state: Vec<Part>,
+}
+
+/// An assertion's point, and whether no run fails it.
+#[derive(Drop)]
+pub struct Verdict {
+    pub number: u32,
+    pub point: Point,
+    pub path: String,
+    pub place: Place,
+    pub proved: bool,
+}
+
+/// A report. `flagged` is the number of the point to which the first flagged operation belongs.
+#[derive(Drop)]
+pub struct Report {
+    pub options: Options,
+    pub flagged: Option<u32>,
+    pub points: Vec<PointReport>,
+    pub verdicts: Vec<Verdict>,
+}
+
+impl Report {
+    /// How many assertions are proved.
+    pub fn proved_count(&self) -> usize
+        ensures { result ≡ count_by (λ v. v.proved) self.now.verdicts.items }
+    {
+        self.verdicts.iter().filter(|v| v.proved).count()
+    }
+
+    /// How many assertions are not proved.
+    pub fn unknown_count(&self) -> usize
+        ensures { result ≡ count_by (λ v. not v.proved) self.now.verdicts.items }
+    {
+        self.verdicts.iter().filter(|v| !v.proved).count()
+    }
+}
