@@ -3,11 +3,12 @@ use Rattle.std.proofs.Common.{◌≡◌, ℕ, pos, negsuc, List, [], ◌∷◌, 
 use Rattle.std.specs.Prelude.{codes}
 use Rattle.std.specs.List.{flat_map}
 use Rattle.std.specs.Fmt.{digits}
+use Rattle.lra_tree.specs.Refuse.{greatest_length}
 use Rattle.lra_tree.specs.ReportText.{text_line}
 use Rattle.lra_linear.specs.Descriptions.{inequality, equality}
 use Rattle.lra_calc.specs.ScriptText.{lines, words, is_skipped, is_name, number_of}
 use Rattle.lra_calc.specs.LineForms.{Line, Dims, Con, Holds, line_of}
-use Rattle.lra_calc.specs.Script.{Fault, BadLine, UnknownName, WrongDimension, Session, Refused, carried_out, output}
+use Rattle.lra_calc.specs.Script.{Fault, BadLine, UnknownName, WrongDimension, Session, Refused, AtLine, TooLong, carried_out, output, answer_to, refused_text}
 
 abbrev text : List (List ℕ) → List ℕ
 text = flat_map text_line
@@ -62,24 +63,35 @@ outcome script = result_of (carried_out 1 None (lines (text script)))
 abbrev refused_at : ℕ → Fault → Result (List ℕ) Refused
 refused_at number fault = Err (record { number = number; fault = fault })
 
--- catches a script that stops at its first wide point
-wide_point : outcome (
+some_answers : outcome (
     codes "dims 2"
     ∷ codes "con P >= 0 1 0 ; >= 4 -1 -1"
     ∷ codes "holds P 2 3 5"
     ∷ codes "holds P 1 3 2"
     ∷ codes "holds P 1 170141183460469231731687303715884105727 170141183460469231731687303715884105727"
-    ∷ codes "holds P 1 0 4"
     ∷ [])
-    ≡ Ok (text (codes "holds P yes" ∷ codes "holds P no" ∷ codes "holds P wide" ∷ codes "holds P yes" ∷ codes "flagged at line 5" ∷ []))
+    ≡ Ok (text (codes "holds P yes" ∷ codes "holds P no" ∷ codes "holds P wide" ∷ codes "flagged at line 5" ∷ []))
 unfolding digits
-wide_point = refl
+some_answers = refl
 
--- catches the two numbers exchanged, and a line count that leaves out comments
+-- catches a script that stops at its first wide point, and the last flag in place of the first
+wide_points : outcome (
+    codes "dims 1"
+    ∷ codes "con P >= 2 1"
+    ∷ []
+    ∷ codes "holds P 1 170141183460469231731687303715884105727"
+    ∷ codes "holds P 1 -2"
+    ∷ codes "holds P 2 170141183460469231731687303715884105727"
+    ∷ [])
+    ≡ Ok (text (codes "holds P wide" ∷ codes "holds P yes" ∷ codes "holds P wide" ∷ codes "flagged at line 4" ∷ []))
+unfolding digits
+wide_points = refl
+
+-- catches the two numbers exchanged
 wrong_dimension : outcome (codes "dims 1" ∷ codes "con P" ∷ codes "con Q = 0 1" ∷ codes "con R >= 1 2 3" ∷ []) ≡ refused_at 4 (WrongDimension 3 2)
 wrong_dimension = refl
 
-unknown_name : outcome (codes "dims 1" ∷ codes "# P" ∷ [] ∷ codes "holds Z 1 0" ∷ []) ≡ refused_at 4 (UnknownName (codes "Z"))
+unknown_name : outcome (codes "dims 1" ∷ codes "con P" ∷ codes "con Q = 0 1" ∷ codes "holds Z 1 0" ∷ []) ≡ refused_at 4 (UnknownName (codes "Z"))
 unknown_name = refl
 
 -- catches a name that is asked for behind the numbers, and a fault of form that is found last
@@ -87,6 +99,10 @@ first_causes : (outcome (codes "dims 1" ∷ codes "holds Z 1" ∷ []) ≡ refuse
     × (outcome (codes "dims 1" ∷ codes "holds Z 0" ∷ []) ≡ refused_at 2 BadLine)
     × (outcome (codes "dims 1" ∷ codes "con P >= 1 2 ; >= ; >= 1 2 3" ∷ []) ≡ refused_at 2 (WrongDimension 0 2))
 first_causes = (refl, refl, refl)
+
+-- catches a line count that leaves out comments
+skipped_count : outcome (codes "dims 1" ∷ codes "# P" ∷ [] ∷ codes "holds Z 1 0" ∷ []) ≡ refused_at 4 (UnknownName (codes "Z"))
+skipped_count = refl
 
 -- catches `dims` that is not the first line, or stands twice
 dims_once : (outcome (codes "con P" ∷ []) ≡ refused_at 1 BadLine) × (outcome (codes "dims 1" ∷ codes "dims 1" ∷ []) ≡ refused_at 2 BadLine)
@@ -98,3 +114,15 @@ made_again = refl
 
 empty_scripts : (outcome [] ≡ Ok (text (codes "flagged 0" ∷ []))) × (outcome (codes "#" ∷ codes " " ∷ []) ≡ Ok (text (codes "flagged 0" ∷ [])))
 empty_scripts = (refl, refl)
+
+empty_script : answer_to [] ≡ Ok (text (codes "flagged 0" ∷ []))
+unfolding greatest_length
+empty_script = refl
+
+-- catches the two numbers exchanged, and a name that is not told
+refused_texts : (refused_text (AtLine (record { number = 4; fault = WrongDimension 3 2 })) ≡ text (codes "refused line 4 WrongDimension 3 2" ∷ []))
+    × (refused_text (AtLine (record { number = 4; fault = UnknownName (codes "Z") })) ≡ text (codes "refused line 4 UnknownName Z" ∷ []))
+    × (refused_text (AtLine (record { number = 12; fault = BadLine })) ≡ text (codes "refused line 12 BadLine" ∷ []))
+    × (refused_text (TooLong (record { line = 1; column = 65537 })) ≡ text (codes "refused 1 TooLong at 1:65537" ∷ []))
+unfolding digits
+refused_texts = (refl, refl, refl, refl)

@@ -1,5 +1,5 @@
 -- What a session has made: constraints of one width, systems of them, and the names that stand for these.
-use Rattle.std.proofs.Common.{◌≡◌, ◌<◌, ◌≤◌, ◌+◌, ◌-◌, ℕ, zero, suc, ℤ, pos, negsuc, Bool, true, false, cond, not, nat_eq, List, [], ◌∷◌, ◌++◌, length, get_or, take, drop, map, refl, ap, sym, ◌∙◌, subst, arith, append_assoc, append-nil, add-one, bytes_eq, Option, Some, None, Result, Ok, Err, IsOk, IsErr, Bor}
+use Rattle.std.proofs.Common.{◌≡◌, ◌<◌, ◌≤◌, ◌+◌, ◌-◌, ℕ, zero, suc, ℤ, pos, negsuc, Bool, true, false, cond, not, nat_eq, List, [], ◌∷◌, ◌++◌, length, get_or, take, drop, map, refl, ap, sym, ◌∙◌, subst, inl, inr, arith, append_assoc, append-nil, add-one, bytes_eq, Option, Some, None, Result, Ok, Err, IsOk, IsErr, Bor}
 use Rattle.std.specs.Prelude.{option_map, IfSome, find}
 use Rattle.std.specs.List.{All}
 use Rattle.std.specs.Map.{update}
@@ -12,6 +12,7 @@ use Rattle.lra_linear.specs.Vectors.{product}
 use Rattle.lra_linear.specs.CheckedArithmetic.{checked_product}
 use Rattle.lra_linear.specs.Descriptions.{Given, Holds, HoldsWith}
 use Rattle.lra_linear.proofs.CheckedArithmetic.{checked_product_value}
+use Rattle.lra_linear.proofs.Membership.{contains_none, contains_head, contains_tail, contains_cases}
 use Rattle.lra_sys.specs.declared.system.ConKind.{ConKind}
 use Rattle.lra_sys.specs.declared.membership.Holds as H
 use Rattle.lra_sys.specs.declared.membership.Holds.TheVariants.{Yes, No, Wide}
@@ -103,6 +104,35 @@ answer_is rows x (Wide place) a =
 pub point_is : (x : List ℤ) (n : ℕ) → length x ≡ suc n → get_or x 0 (pos 0) ∷ take (length x - 1) (drop 1 x) ≡ x
 point_is [] n e = cc
 point_is (d ∷ ds) n e = ap (λ (t : List ℤ). d ∷ t) (take_rest (d ∷ ds) 1)
+
+-- ---- the set of points
+later_points : (g : Given) (gs : List Given) (x : List ℤ) (m : Option Bool) → Holds g x → script.TellsPoints gs x m → script.TellsPoints (g ∷ gs) x m
+later_points g gs x (Some true) h told = λ f k. elim (contains_cases g f gs k) [ inl e ↦ subst (λ (f : Given). Holds f x) e h | inr k ↦ told f k ]
+later_points g gs x (Some false) h told = λ all. told (λ f k. all f (contains_tail g f gs k))
+later_points g gs x None h told = tt
+
+met_holds : (equal : Bool) (p : ℤ) → script.is_met equal p ≡ true → HoldsWith equal p
+met_holds true (pos zero) h = refl
+met_holds true (pos (suc n)) h = absurd (let e = not_zero n in cc)
+met_holds true (negsuc n) h = cc
+met_holds false (pos n) h = omega (arith, ints)
+met_holds false (negsuc n) h = cc
+
+points_by : (g : Given) (gs : List Given) (x : List ℤ) (p : ℤ) (b : Bool) (m : Option Bool) → p ≡ product g.row x → script.is_met g.equal p ≡ b → script.TellsPoints gs x m
+    → script.TellsPoints (g ∷ gs) x (cond b m (Some false))
+points_by g gs x p true m value e told = later_points g gs x m (subst (λ (z : ℤ). HoldsWith g.equal z) value (met_holds g.equal p e)) told
+points_by g gs x p false m value e told = λ all.
+    let h : Holds g x = all g (contains_head g gs) in
+    let t = met g.equal p (subst (λ (z : ℤ). HoldsWith g.equal z) (sym value) h) in
+    absurd (cc)
+
+points_after : (g : Given) (gs : List Given) (x : List ℤ) (q : Result ℤ Excess) (m : Option Bool) → q ≡ checked_product g.row x → script.TellsPoints gs x m → script.TellsPoints (g ∷ gs) x (script.decided g.equal q m)
+points_after g gs x (Ok p) m e told = points_by g gs x p (script.is_met g.equal p) m (checked_product_value g.row x (Ok p) e) refl told
+points_after g gs x (Err f) m e told = tt
+
+pub membership_tells : (rows : List Given) (x : List ℤ) → script.TellsPoints rows x (script.membership rows x)
+membership_tells [] x = λ f k. absurd (contains_none f k)
+membership_tells (g ∷ gs) x = points_after g gs x (checked_product g.row x) (script.membership gs x) refl (membership_tells gs x)
 
 -- ---- names
 by_name : (b : Bool) (o : Option (Listed ConKind)) (system : Listed ConKind) (rows : List Given) → constraints system ≡ rows

@@ -4,7 +4,7 @@ use Rattle.std.specs.Fmt.{decimal}
 use Rattle.std.specs.Map.{update}
 use Rattle.lra_linear.specs.declared.Excess.{Excess}
 use Rattle.lra_linear.specs.CheckedArithmetic.{checked_product}
-use Rattle.lra_linear.specs.Descriptions.{Given}
+use Rattle.lra_linear.specs.Descriptions.{Given, Con as points_of}
 use Rattle.lra_tree.specs.declared.refusals.Place.{Place}
 use Rattle.lra_tree.specs.Tokens.{place_behind}
 use Rattle.lra_tree.specs.declared.refusals.Cause.TheVariants as cause
@@ -59,6 +59,12 @@ decided equal (Ok p) later = if is_met equal p then later else Some false
 abbrev pub membership : List Given → List ℤ → Option Bool
 membership [] x = Some true
 membership (g ∷ gs) x = decided g.equal (checked_product g.row x) (membership gs x)
+
+-- what the answer says of the set of points with these constraints
+abbrev pub TellsPoints : List Given → List ℤ → Option Bool → Type 0
+TellsPoints rows x (Some true) = points_of rows x
+TellsPoints rows x (Some false) = ¬ (points_of rows x)
+TellsPoints rows x None = Unit {0}
 
 abbrev pub answer_text : Option Bool → List ℕ
 answer_text (Some true) = codes "yes"

@@ -1,6 +1,7 @@
 //! What a script writes.
 
-ghost use Rattle.std.specs.Prelude.{None, ◌≡◌, ◌<◌, ◌≤◌, ◌+◌, ◌-◌, ◌^◌, ◌++◌, length, map, string_bytes, Some, IfOk, IfSome, OnOk, option_map};
+ghost use Rattle.std.specs.Prelude.{List, ℤ, None, ◌≡◌, ◌<◌, ◌≤◌, ◌+◌, ◌-◌, ◌^◌, ◌++◌, length, map, string_bytes, Some, IfOk, IfSome, OnOk, option_map};
+ghost use Rattle.lra_linear.specs.Descriptions.{Given};
 ghost use Rattle.lra_tree.specs.Tokens as place;
 ghost use Rattle.lra_calc.specs.ScriptText as text;
 ghost use Rattle.lra_calc.specs.LineForms as form;
@@ -143,8 +144,11 @@ fn run(alloc: Global, bytes: &[u8]) -> Result<Vec<u8>, CalcError>
 
 /// What a script writes, or why it is refused: a script of more than 65,536 bytes, and one with a line that is refused. Its lines
 /// are carried out in order, and the first that is refused is answered.
+#[tactic(auto, using(crate::proofs::SessionLemmas::membership_tells))]
 pub fn script(alloc: Global, bytes: &[u8]) -> Result<Vec<u8>, CalcError>
-    ensures { Answers result (spec.answer_to bytes.now) }
+    ensures answer { Answers result (spec.answer_to bytes.now) }
+    // What an answer to `holds` says of the set that the name stands for.
+    ensures points { (rows : List Given) (x : List ℤ) → spec.TellsPoints rows x (spec.membership rows x) }
 {
     if bytes.len() > MOST_BYTES {
         let place = place_behind(&bytes[..MOST_BYTES]);

@@ -11,11 +11,11 @@ slice_bounds-place_behind-end c = taken 65536 c.args.bytes.now c.if-bytes-gt-MOS
 pub place_behind-place-requires : goal.place_behind-place-requires
 place_behind-place-requires c = let e = taken 65536 c.args.bytes.now c.if-bytes-gt-MOST_BYTES.true in omega arith
 
-pub returns-then-bytes-gt-MOST_BYTES : goal.returns-then-bytes-gt-MOST_BYTES
-returns-then-bytes-gt-MOST_BYTES c =
+pub returns-then-bytes-gt-MOST_BYTES-clause-answer : goal.returns-then-bytes-gt-MOST_BYTES-clause-answer
+returns-then-bytes-gt-MOST_BYTES-clause-answer c =
     let place = c.place_behind-place.result in
     answer_too_long 65536 c.args.bytes.now limit_is c.if-bytes-gt-MOST_BYTES.true
     ∙ ap (λ (p : Place). let r : Result (List ℕ) Refusal = Err (TooLong p) in r) (sym c.place_behind-place.ensures)
 
-pub returns : goal.returns
-returns c = subst (λ (told : Result (List ℕ) Refusal). Answers c.run.result told) (sym (answer_not_long 65536 c.args.bytes.now limit_is c.if-bytes-gt-MOST_BYTES.false)) c.run.ensures
+pub returns-clause-answer : goal.returns-clause-answer
+returns-clause-answer c = subst (λ (told : Result (List ℕ) Refusal). Answers c.run.result told) (sym (answer_not_long 65536 c.args.bytes.now limit_is c.if-bytes-gt-MOST_BYTES.false)) c.run.ensures
