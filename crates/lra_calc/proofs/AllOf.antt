@@ -1,6 +1,5 @@
 -- A list of answers, one for each element, or none: what a loop that pushes them, and leaves at the first that is none, has so far.
 use Rattle.std.proofs.Common.{◌≡◌, ◌<◌, ◌≤◌, ◌+◌, ℕ, List, [], ◌∷◌, ◌++◌, length, get_or, drop, map, refl, ap, sym, ◌∙◌, add-one, append_assoc, append-nil, Option, Some, None}
-use Rattle.std.specs.Prelude.{option_map}
 use Rattle.std.proofs.lemmas.List.{drop_all}
 use Rattle.std.proofs.Math.Seq.{drop-cons}
 use Rattle.lra_calc.specs.LineForms.{all_of, with_first}

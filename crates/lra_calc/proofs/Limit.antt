@@ -1,5 +1,5 @@
 -- The answer to a script that is too long, and to one that is not. The limit is a variable here, since it is large.
-use Rattle.std.proofs.Common.{◌≡◌, ◌<◌, ◌≤◌, ℕ, Bool, true, false, cond, List, length, take, refl, ap, ◌∙◌, arith, nat_lt, None, Result, Ok, Err}
+use Rattle.std.proofs.Common.{◌≡◌, ◌<◌, ◌≤◌, ℕ, Bool, true, false, cond, List, length, take, refl, ap, ◌∙◌, arith, nat_lt, None, Result, Err}
 use Rattle.std.proofs.lemmas.Bool.Decides.{nat_tests}
 use Rattle.std.proofs.lemmas.List.{length-take}
 use Rattle.lra_tree.specs.Tokens.{place_behind}

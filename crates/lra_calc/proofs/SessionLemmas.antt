@@ -1,6 +1,6 @@
 -- What a session has made: constraints of one width, systems of them, and the names that stand for these.
-use Rattle.std.proofs.Common.{◌≡◌, ◌<◌, ◌≤◌, ◌+◌, ◌-◌, ℕ, zero, suc, ℤ, pos, negsuc, Bool, true, false, cond, not, nat_eq, List, [], ◌∷◌, ◌++◌, length, get_or, take, drop, map, refl, ap, sym, ◌∙◌, subst, inl, inr, arith, append_assoc, append-nil, add-one, bytes_eq, Option, Some, None, Result, Ok, Err, IsOk, IsErr, Bor}
-use Rattle.std.specs.Prelude.{option_map, IfSome, find}
+use Rattle.std.proofs.Common.{◌≡◌, ◌-◌, ℕ, zero, suc, ℤ, pos, negsuc, Bool, true, false, cond, not, nat_eq, List, [], ◌∷◌, ◌++◌, length, get_or, take, drop, map, refl, ap, sym, ◌∙◌, subst, inl, inr, arith, append_assoc, append-nil, bytes_eq, Option, Some, None, Result, Ok, Err, IsOk, IsErr}
+use Rattle.std.specs.Prelude.{option_map, IfSome}
 use Rattle.std.specs.List.{All}
 use Rattle.std.specs.Map.{update}
 use Rattle.std.proofs.lemmas.Bool.Decides.{nat_tests}
@@ -17,7 +17,7 @@ use Rattle.lra_sys.specs.declared.system.ConKind.{ConKind}
 use Rattle.lra_sys.specs.declared.membership.Holds as H
 use Rattle.lra_sys.specs.declared.membership.Holds.TheVariants.{Yes, No, Wide}
 use Rattle.lra_sys.specs.Listed.{Listed, given_by, is_equality, constraints}
-use Rattle.lra_sys.specs.Membership.{HoldsInRange, FailsInRange, IsWide, FirstAt, IsAnswer}
+use Rattle.lra_sys.specs.Membership.{HoldsInRange, IsAnswer}
 use Rattle.lra_calc.specs.Script as script
 use Rattle.lra_calc.specs.Views.{constraint_of, answered}
 use Rattle.lra_calc.specs.declared.forms.Constraint.{Constraint}

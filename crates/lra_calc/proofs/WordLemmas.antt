@@ -1,5 +1,5 @@
 -- Words of ASCII letters and digits, and the numbers that they write.
-use Rattle.std.proofs.Common.{◌≡◌, ◌≢◌, ◌<◌, ◌≤◌, ℕ, ℤ, pos, Bool, true, false, cond, ◌&&◌, not, nat_eq, List, [], ◌∷◌, length, drop, refl, ap, sym, ◌∙◌, subst, arith, FitsSigned, Option, Some, None, Result, Ok, Err, rules}
+use Rattle.std.proofs.Common.{◌≡◌, ◌≢◌, ◌<◌, ℕ, ℤ, Bool, true, false, cond, ◌&&◌, not, nat_eq, List, [], ◌∷◌, length, refl, ap, sym, ◌∙◌, subst, arith, FitsSigned, Option, Some, None, Result, Ok, Err, rules}
 use Rattle.std.specs.Option.{SomeIff}
 use Rattle.std.specs.Int.{w128}
 use Rattle.std.specs.List.{All, list_all}
@@ -11,9 +11,9 @@ use Rattle.std.proofs.lemmas.List.Elements.{All-cons}
 use Rattle.std.proofs.lemmas.List.Sums.{AllPass-from_list_all}
 use Rattle.std.proofs.lemmas.Str.{IsUtf8-from_ascii}
 use Rattle.std.proofs.lemmas.Str.Ascii.{IsAscii-from_all}
-use Rattle.std.proofs.lemmas.Str.Parse.{IsDigitsTest, IsNumeralModel, numerals_by_value, without_leading_plus_none}
+use Rattle.std.proofs.lemmas.Str.Parse.{IsDigitsTest, numerals_by_value, without_leading_plus_none}
 use Rattle.lra_linear.specs.Range.{InRange, in_range}
-use Rattle.lra_calc.specs.ScriptText.{is_name, is_number, number_of, without_minus}
+use Rattle.lra_calc.specs.ScriptText.{is_name, is_number, number_of}
 
 both : (a b : Bool) → a && b ≡ true → (a ≡ true) × (b ≡ true)
 both true b h = (refl, h)

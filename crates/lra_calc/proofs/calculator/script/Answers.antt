@@ -1,6 +1,6 @@
-use Rattle.std.proofs.Common.{arith, ◌≡◌, ℕ, List, ap, sym, ◌∙◌, subst, Result, Err}
+use Rattle.std.proofs.Common.{arith, ℕ, List, ap, sym, ◌∙◌, subst, Result, Err}
 use Rattle.lra_tree.specs.declared.refusals.Place.{Place}
-use Rattle.lra_calc.specs.Script.{Refusal, TooLong, answer_to}
+use Rattle.lra_calc.specs.Script.{Refusal, TooLong}
 use Rattle.lra_calc.specs.Views.{Answers}
 use Rattle.lra_calc.proofs.Limit.{limit_is, answer_too_long, answer_not_long, taken}
 use Rattle.lra_calc.proofs.calculator.script.Goals as goal

@@ -1,6 +1,5 @@
-use Rattle.std.proofs.Common.{rules, ◌≡◌, ℕ, Bor, List, [], ◌∷◌, ◌++◌, get_or, refl, sym, FitsSigned, pos, subst}
+use Rattle.std.proofs.Common.{rules, ◌≡◌, ℕ, Bor, List, [], ◌∷◌, ◌++◌, get_or, refl, sym, FitsSigned}
 use Rattle.std.specs.Int.{w128}
-use Rattle.std.specs.List.{All}
 use Rattle.std.proofs.lemmas.Int.{to_z-of_z}
 use Rattle.std.proofs.lemmas.List.Elements.{All-append, All-cons, All-nil}
 use Rattle.lra_linear.specs.Range.{InRange}

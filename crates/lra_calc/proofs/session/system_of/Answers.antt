@@ -1,6 +1,5 @@
 use Rattle.std.proofs.Common.{rules, arith, ◌≡◌, ◌∙◌, suc, ◌∷◌, length, length-append}
 use Rattle.std.specs.Vec.Iter.{into_iter_items}
-use Rattle.std.specs.List.{All}
 use Rattle.lra_calc.specs.declared.forms.Constraint.{Constraint}
 use Rattle.lra_calc.proofs.SessionLemmas.{made_later, all_tail}
 use Rattle.lra_calc.proofs.session.system_of.Goals as goal

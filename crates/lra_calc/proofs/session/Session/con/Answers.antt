@@ -1,6 +1,5 @@
-use Rattle.std.proofs.Common.{rules, ◌≡◌, ◌∙◌, ℕ, suc, List, map, ap, sym, add-one, bytes_eq, Option, None, Some, Result, Ok, string_bytes}
+use Rattle.std.proofs.Common.{◌∙◌, ℕ, suc, List, map, ap, sym, add-one, Option, Some, Result, Ok, string_bytes}
 use Rattle.std.specs.BTreeMap.{get_by_text}
-use Rattle.std.specs.Map.{update}
 use Rattle.std.proofs.lemmas.Map.Text.{btree_map_updates_text}
 use Rattle.std.proofs.Math.Path.{fun_ext}
 use Rattle.lra_linear.specs.Descriptions.{Given}
