@@ -1,10 +1,10 @@
--- Words: names and numbers are ASCII; what a parsed word tells.
+-- Words of letters and digits, and the numbers that they write.
 pub mod WordLemmas
 -- A list of answers, one for each element, or none.
 pub mod AllOf
 -- Words that are cut at semicolons.
 pub mod Parts
--- Sessions: systems, membership, names.
+-- What a session has made: systems, membership of a point, names.
 pub mod SessionLemmas
 -- Scripts that are too long, and others.
 pub mod Limit

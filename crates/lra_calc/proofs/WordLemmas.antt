@@ -39,10 +39,6 @@ name_is_utf8 (c ∷ cs) h =
     IsUtf8-from_ascii (c ∷ cs) (IsAscii-from_all (c ∷ cs) (All-cons (λ (b : ℕ). b < 128) c cs (uppercase_low c parts.0) (all_low is_ascii_alphanumeric alphanumeric_low cs parts.1)))
 
 -- ---- digits, with a minus before them or not
-pub record Digits (word ds : List ℕ) : Type 0 where
-  pub some : 0 < length ds
-  pub digits : list_all is_ascii_digit ds ≡ true
-
 counted : (n : ℕ) → not (nat_eq n 0) ≡ true → 0 < n
 counted n h = grind (arith, nat_tests)
 

@@ -88,7 +88,7 @@ abbrev pub refusal_of : R.CalcRefusal → script.Refusal
 refusal_of (refusal.TooLong place) = script.TooLong place
 refusal_of (refusal.Line number f) = script.AtLine (record { number = number; fault = fault_of f })
 
--- the same of the lines from the one of this number on
+-- a line of this number, before any others, leaves this session for them, or is the one that is refused
 abbrev pub StepsTo : ℕ → Option S.Session → List ℕ → Result (Option S.Session) CalcError → Type 0
 StepsTo number s line (Ok t) = (rest : List (List ℕ)) → script.carried_out number (option_map session_of s) (line ∷ rest) ≡ script.carried_out (number + 1) (option_map session_of t) rest
 StepsTo number s line (Err (calc_error.Refused (refusal.Line at f))) =
@@ -96,6 +96,7 @@ StepsTo number s line (Err (calc_error.Refused (refusal.Line at f))) =
 StepsTo number s line (Err (calc_error.Refused (refusal.TooLong place))) = ⊥
 StepsTo number s line (Err calc_error.Memory) = Unit {0}
 
+-- all lines leave this session, or the one told is refused
 abbrev pub Ends : Result (Option S.Session) CalcError → Result (Option script.Session) script.Refused → Type 0
 Ends (Ok t) told = told ≡ Ok (option_map session_of t)
 Ends (Err (calc_error.Refused (refusal.Line at f))) told = told ≡ Err (record { number = at; fault = fault_of f })

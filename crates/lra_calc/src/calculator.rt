@@ -1,6 +1,6 @@
 //! What a script writes.
 
-ghost use Rattle.std.specs.Prelude.{List, ℤ, None, ◌≡◌, ◌<◌, ◌≤◌, ◌+◌, ◌-◌, ◌^◌, ◌++◌, length, map, string_bytes, Some, IfOk, IfSome, OnOk, option_map};
+ghost use Rattle.std.specs.Prelude.{List, ℤ, None, ◌≡◌, ◌<◌, ◌^◌, ◌++◌, length, map, string_bytes, Some, IfOk, IfSome, OnOk, option_map};
 ghost use Rattle.lra_linear.specs.Descriptions.{Given};
 ghost use Rattle.lra_tree.specs.Tokens as place;
 ghost use Rattle.lra_calc.specs.ScriptText as text;

@@ -1,6 +1,6 @@
 //! What a line says.
 
-ghost use Rattle.std.specs.Prelude.{◌≡◌, ◌<◌, ◌≤◌, length, map, IfOk, IfSome, position, bytes_eq, codes, Bool, option_map, Some, None, if◌then◌else◌};
+ghost use Rattle.std.specs.Prelude.{◌≡◌, map, IfOk, IfSome, bytes_eq, codes, option_map, if◌then◌else◌};
 ghost use Rattle.std.specs.List.{slice_split};
 ghost use Rattle.lra_sys.specs.Listed.{is_equality};
 ghost use Rattle.lra_calc.specs.LineForms as form;

@@ -1,6 +1,6 @@
 //! Names and numbers among the words.
 
-ghost use Rattle.std.specs.Prelude.{FitsSigned, true, ◌≡◌, ◌≤◌, ◌<◌, length, IsTrue, IfOk, IfSome, IfNone, ℤ, pos, neg_ℤ, string_bytes, Some, None, if◌then◌else◌, option_map};
+ghost use Rattle.std.specs.Prelude.{FitsSigned, true, ◌≡◌, IfOk, IfSome, string_bytes, Some, None, if◌then◌else◌, option_map};
 ghost use Rattle.std.specs.Option.{SomeIff};
 ghost use Rattle.std.specs.Int.{w128};
 ghost use Rattle.std.specs.List.{All, list_all};

@@ -1,6 +1,6 @@
 //! The lines of a script, and their words.
 
-ghost use Rattle.std.specs.Prelude.{◌≡◌, ◌+◌, take, drop, ◌-◌, ◌<◌, ◌&&◌, map, filter, not, nat_eq, length, IfOk, IfSome, position};
+ghost use Rattle.std.specs.Prelude.{◌≡◌, nat_eq, IfOk};
 ghost use Rattle.std.specs.List.{slice_split, list_all};
 ghost use Rattle.lra_calc.specs.ScriptText as script;
 ghost use Rattle.lra_calc.specs.Views.{texts};

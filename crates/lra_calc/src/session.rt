@@ -1,11 +1,9 @@
 //! What a script has made and printed so far.
 
-ghost use Rattle.std.specs.Prelude.{◌≡◌, ◌≤◌, ◌+◌, ◌++◌, suc, pos, ◌<ℤ◌, map, length, codes, string_bytes, slice_index, Some, None, IfOk, IfSome, OnOk, option_map, ⊤};
-ghost use Rattle.std.specs.Option.{option_copied};
+ghost use Rattle.std.specs.Prelude.{◌≡◌, ◌≤◌, ◌++◌, suc, map, length, codes, string_bytes, IfOk, OnOk};
 ghost use Rattle.std.specs.List.{All};
-ghost use Rattle.std.specs.BTreeMap.{get_by_text};
 ghost use Rattle.lra_sys.specs.Listed.{constraints as constraints_of};
-ghost use Rattle.lra_calc.specs.LineForms.{greatest_dims, with_divisor};
+ghost use Rattle.lra_calc.specs.LineForms.{greatest_dims};
 ghost use Rattle.lra_calc.specs.Script as script;
 ghost use Rattle.lra_calc.specs.Views.{session_of, IsSession, Gives, constraint_of, said, answered, IsLine, HasDivisor};
 ghost use Rattle.lra_tree.specs.ReportText.{text_line};
