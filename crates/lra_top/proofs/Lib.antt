@@ -1,7 +1,10 @@
 pub mod WordSteps
 pub mod Texts
+pub mod BoxSteps
+pub mod Rows
 pub mod Sound
 pub mod Decided
+pub mod BoxStates
 pub mod SoundReport
 pub mod Ways
 pub mod LexSteps

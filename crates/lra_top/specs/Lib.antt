@@ -9,6 +9,7 @@ pub mod Words
 pub mod Run
 pub mod Exit
 pub mod Views
+pub mod Boxes
 pub mod Analysis
 pub mod Shown
 pub mod Prepared

@@ -2,10 +2,10 @@
 #![tactic(auto)]
 
 mod analysis;
-mod interval;
 mod lexer;
 mod parser;
 mod report;
+mod state;
 mod status;
 mod top_call;
 mod tree;

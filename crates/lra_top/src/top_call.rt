@@ -1,14 +1,15 @@
 // The top call.
 ghost use Rattle.std.specs.Prelude.{◌≡◌, ◌≢◌, ◌≤◌, ◌<◌, ◌-◌, ◌^◌, ℕ, List, length, take, map, string_bytes, vec_len, IfOk, IsErrOf, Some};
+ghost use Rattle.std.specs.List.{AllByRecursion};
 ghost use Rattle.std.specs.Io.KnownBytes.{Appends, Keeps};
 ghost use Rattle.lra_edge.specs.Causes.{Rose};
 ghost use Rattle.lra_tree.specs.Report as tree;
 ghost use Rattle.lra_tree.specs.ReportText.{unknown_count};
-ghost use Rattle.lra_top.specs.FirstForm.{Form, IsSource, place_after, first_place};
+ghost use Rattle.lra_top.specs.FirstForm.{Form, IsSimple, IsSource, place_after, first_place};
 ghost use Rattle.lra_top.specs.Answer.{usage_text, too_long_text, syntax_text, IsTooLong, IsWithinLimit, IsFirstForm};
 ghost use Rattle.lra_top.specs.Words.{IsAnalyseBox};
 ghost use Rattle.lra_top.specs.Run.{IsDeserved, Writes, WritesPart, ReadsInput, EndsInUsage, EndsInRefusal, EndsInReport, IsReportOrMemory};
-ghost use Rattle.lra_top.specs.Views.{place_of};
+ghost use Rattle.lra_top.specs.Views.{place_of, simples_of};
 ghost use Rattle.lra_top.specs.Shown.{verdict_of, IsReportStatus, ReportsTree};
 ghost use Rattle.lra_top.specs.Prepared.{DeservesSource, IsSourceText, PrepareCause};
 
@@ -64,7 +65,8 @@ fn status_of(verdicts: &[VerdictEntry]) -> Status
 
 /// The report of a source, and whether each assertion is proved.
 fn report_source(alloc: Global, tree: &SourceTree) -> Result<Answer, AllocError>
-    requires { vec_len tree.now.statements < 2 ^ 62 }
+    requires few { vec_len tree.now.statements < 2 ^ 62 }
+    requires literals { AllByRecursion IsSimple (simples_of tree.now.statements.items) }
     ensures { IfOk result (λ a. ReportsTree tree.now (string_bytes a.text) a.status) }
 {
     let analysis = analyse(alloc, tree)?;
