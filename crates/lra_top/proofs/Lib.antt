@@ -1,4 +1,3 @@
-pub mod WordSteps
 pub mod Texts
 pub mod BoxSteps
 pub mod Rows

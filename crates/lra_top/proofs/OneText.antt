@@ -1,14 +1,17 @@
--- An input deserves one text.
+-- A source deserves one text, and so does an input under words.
 use Rattle.std.proofs.Common.{◌≡◌, ◌≤◌, ◌<◌, ◌+◌, ℕ, List, [], ◌∷◌, ◌++◌, length, take, map, refl, ap, sym, ◌∙◌, subst, arith, inl, inr, Bool, true, false}
 use Rattle.std.proofs.Math.Seq.{take-append_seam}
 use Rattle.lra_tree.specs.declared.refusals.Place.{Place}
-use Rattle.lra_tree.specs.Report.{PointReport, Verdict, Report}
+use Rattle.lra_tree.specs.Report.{Options, PointReport, Verdict, Report}
 use Rattle.lra_tree.specs.ReportText.{report_text}
 use Rattle.lra_top.specs.FirstForm.{Simple, Set, Check, Form, place_after, first_place}
 use Rattle.lra_top.specs.Claims.{IsPoint, ArePoints, ArePointsOf, IsVerdict, AreVerdicts, IsReportOf, statement_points}
-use Rattle.lra_top.specs.Answer.{limit, usage_text, too_long_text, IsPastLimit, IsRefusal, IsReport}
-use Rattle.lra_top.specs.Words.{IsAnalyseBox}
-use Rattle.lra_top.specs.Run.{Deserves}
+use Rattle.lra_words.specs.Built.{Asks, AsksNone}
+use Rattle.lra_words.specs.declared.chosen.Command.{Command}
+use Rattle.lra_words.specs.declared.chosen.Command.TheVariants.{Analyse, Sample, Calc}
+use Rattle.lra_words.proofs.OneCommand.{one_asked, asks_not_none}
+use Rattle.lra_top.specs.Answer.{limit, too_long_text, IsPastLimit, IsRefusal, IsReport, DeservesSource}
+use Rattle.lra_top.specs.Run.{options_of, usage_text, DeservesInput, DeservesCommand, Deserves}
 use Rattle.lra_top.specs.declared.status.Status.{Status}
 use Rattle.lra_top.specs.declared.status.Status.TheVariants.{Proved, Unknown, Refused, Usage, ReadFault, WriteFault, Memory}
 use Rattle.lra_top.proofs.OneSource.{one_source}
@@ -79,8 +82,8 @@ one_verdicts (Check n ∷ ss) (p ∷ ps) (v ∷ vs) (w ∷ ws) h k = joined (one
 
 -- reports ------------------------------------------------------------------------
 
-one_report : (f : Form) (places : List Place) (r s : Report) → IsReportOf f places r → IsReportOf f places s → r ≡ s
-one_report f places r s h k =
+one_report : (o : Options) (f : Form) (places : List Place) (r s : Report) → IsReportOf o f places r → IsReportOf o f places s → r ≡ s
+one_report o f places r s h k =
     let points : r.points ≡ s.points = all_points f.name places r.points s.points h.points k.points (h.states ∙ sym k.states) in
     let verdicts : r.verdicts ≡ s.verdicts =
     one_verdicts f.statements (statement_points s.points) r.verdicts s.verdicts
@@ -90,15 +93,15 @@ one_report f places r s h k =
     ∙ ap (λ x. record { options = s.options; flagged = s.flagged; points = x; verdicts = r.verdicts }) points
     ∙ ap (λ x. record { options = s.options; flagged = s.flagged; points = s.points; verdicts = x }) verdicts
 
-of_same : (f g : Form) (places others : List Place) (r : Report) → f ≡ g → places ≡ others → IsReportOf g others r → IsReportOf f places r
-of_same f g places others r e p h =
-    let there : IsReportOf f others r = subst (λ x. IsReportOf x others r) (sym e) h in
-    subst (λ x. IsReportOf f x r) (sym p) there
+of_same : (o : Options) (f g : Form) (places others : List Place) (r : Report) → f ≡ g → places ≡ others → IsReportOf o g others r → IsReportOf o f places r
+of_same o f g places others r e p h =
+    let there : IsReportOf o f others r = subst (λ x. IsReportOf o x others r) (sym e) h in
+    subst (λ x. IsReportOf o f x r) (sym p) there
 
-report_texts : (bytes t u : List ℕ) (m n : ℕ) → IsReport bytes t m → IsReport bytes u n → t ≡ u
-report_texts bytes t u m n h k =
+report_texts : (o : Options) (bytes t u : List ℕ) (m n : ℕ) → IsReport o bytes t m → IsReport o bytes u n → t ≡ u
+report_texts o bytes t u m n h k =
     let same = one_source bytes h.form k.form h.places k.places h.source k.source in
-    let reports : h.report ≡ k.report = one_report h.form h.places h.report k.report h.claims (of_same h.form k.form h.places k.places k.report same.form same.places_are k.claims) in
+    let reports : h.report ≡ k.report = one_report o h.form h.places h.report k.report h.claims (of_same o h.form k.form h.places k.places k.report same.form same.places_are k.claims) in
     h.written ∙ ap report_text reports ∙ sym k.written
 
 -- refusals -----------------------------------------------------------------------
@@ -117,38 +120,68 @@ refusal_texts bytes t u (inl h) (inr k) = let long : limit < length bytes = h.to
 refusal_texts bytes t u (inr h) (inl k) = let within : length bytes ≤ limit = h.within in let long : limit < length bytes = k.too_long in absurd (omega arith)
 refusal_texts bytes t u (inr h) (inr k) = h.written ∙ sym k.written
 
-not_both : (bytes t u : List ℕ) (n : ℕ) → IsRefusal bytes t → IsReport bytes u n → ⊥
-not_both bytes t u n (inl h) k = let long : limit < length bytes = h.too_long in let within : length bytes ≤ limit = k.within in omega arith
-not_both bytes t u n (inr h) k = h.other (record { form = k.form; places = k.places; source = k.source })
+not_both : (o : Options) (bytes t u : List ℕ) (n : ℕ) → IsRefusal bytes t → IsReport o bytes u n → ⊥
+not_both o bytes t u n (inl h) k = let long : limit < length bytes = h.too_long in let within : length bytes ≤ limit = k.within in omega arith
+not_both o bytes t u n (inr h) k = h.other (record { form = k.form; places = k.places; source = k.source })
 
 -- texts --------------------------------------------------------------------------
 
--- what is deserved, the status aside
-pub data Kind (words : List (List ℕ)) (bytes text : List ℕ) : Type 0 where
-  usage : (IsAnalyseBox words → ⊥) → text ≡ usage_text → Kind words bytes text
-  refusal : IsAnalyseBox words → IsRefusal bytes text → Kind words bytes text
-  report : IsAnalyseBox words → (n : ℕ) → IsReport bytes text n → Kind words bytes text
+-- what a source deserves, the status aside
+data Kind (o : Options) (bytes text : List ℕ) : Type 0 where
+  refusal : IsRefusal bytes text → Kind o bytes text
+  report : (n : ℕ) → IsReport o bytes text n → Kind o bytes text
 
-kind_of : (words : List (List ℕ)) (bytes text : List ℕ) (status : Status) → Deserves words bytes text status → Kind words bytes text
-kind_of words bytes text Proved d = report d.0 0 d.1
-kind_of words bytes text Unknown d = report d.0 d.1.0 d.1.2
-kind_of words bytes text Refused d = refusal d.0 d.1
-kind_of words bytes text Usage d = usage d.0 d.1
-kind_of words bytes text ReadFault d = absurd d
-kind_of words bytes text WriteFault d = absurd d
-kind_of words bytes text Memory d = absurd d
+kind_of : (o : Options) (bytes text : List ℕ) (status : Status) → DeservesSource o bytes text status → Kind o bytes text
+kind_of o bytes text Proved d = report 0 d
+kind_of o bytes text Unknown d = report d.0 d.2
+kind_of o bytes text Refused d = refusal d
+kind_of o bytes text Usage d = absurd d
+kind_of o bytes text ReadFault d = absurd d
+kind_of o bytes text WriteFault d = absurd d
+kind_of o bytes text Memory d = absurd d
 
-one_kind : (words : List (List ℕ)) (bytes t u : List ℕ) → Kind words bytes t → Kind words bytes u → t ≡ u
-one_kind words bytes t u (usage n e) (usage m f) = e ∙ sym f
-one_kind words bytes t u (usage n e) (refusal w r) = absurd (n w)
-one_kind words bytes t u (usage n e) (report w k r) = absurd (n w)
-one_kind words bytes t u (refusal w r) (usage n e) = absurd (n w)
-one_kind words bytes t u (refusal w r) (refusal v s) = refusal_texts bytes t u r s
-one_kind words bytes t u (refusal w r) (report v k s) = absurd (not_both bytes t u k r s)
-one_kind words bytes t u (report w k r) (usage n e) = absurd (n w)
-one_kind words bytes t u (report w k r) (refusal v s) = absurd (not_both bytes u t k s r)
-one_kind words bytes t u (report w k r) (report v l s) = report_texts bytes t u k l r s
+one_kind : (o : Options) (bytes t u : List ℕ) → Kind o bytes t → Kind o bytes u → t ≡ u
+one_kind o bytes t u (refusal r) (refusal s) = refusal_texts bytes t u r s
+one_kind o bytes t u (refusal r) (report k s) = absurd (not_both o bytes t u k r s)
+one_kind o bytes t u (report k r) (refusal s) = absurd (not_both o bytes u t k s r)
+one_kind o bytes t u (report k r) (report l s) = report_texts o bytes t u k l r s
+
+source_text : (o : Options) (bytes t u : List ℕ) (a b : Status) → DeservesSource o bytes t a → DeservesSource o bytes u b → t ≡ u
+source_text o bytes t u a b d e = one_kind o bytes t u (kind_of o bytes t a d) (kind_of o bytes u b e)
+
+input_text : (c : Command) (bytes t u : List ℕ) (a b : Status) → DeservesInput c bytes t a → DeservesInput c bytes u b → t ≡ u
+input_text (Analyse options) bytes t u a b d e = source_text (options_of options) bytes t u a b d e
+input_text (Sample seed size) bytes t u a b d e = absurd d
+input_text Calc bytes t u a b d e = absurd d
+
+-- what the input of the words' command deserves
+pub asked_input : (words : List (List ℕ)) (bytes text : List ℕ) (status : Status) (c : Command) → Asks words c → Deserves words bytes text status → DeservesInput c bytes text status
+asked_input words bytes text Proved c asks d = subst (λ x. DeservesInput x bytes text Proved) (one_asked words d.command c d.asked asks) d.deserved
+asked_input words bytes text Unknown c asks d = subst (λ x. DeservesInput x bytes text Unknown) (one_asked words d.command c d.asked asks) d.deserved
+asked_input words bytes text Refused c asks d = subst (λ x. DeservesInput x bytes text Refused) (one_asked words d.command c d.asked asks) d.deserved
+asked_input words bytes text Usage c asks d = absurd (asks_not_none words c asks d.0)
+asked_input words bytes text ReadFault c asks d = absurd d
+asked_input words bytes text WriteFault c asks d = absurd d
+asked_input words bytes text Memory c asks d = absurd d
+
+command_text : (words : List (List ℕ)) (bytes t u : List ℕ) (a b : Status) → DeservesCommand words bytes t a → Deserves words bytes u b → t ≡ u
+command_text words bytes t u a b d e = input_text d.command bytes t u a b d.deserved (asked_input words bytes u b d.command d.asked e)
+
+usage_same : (words : List (List ℕ)) (bytes t u : List ℕ) (b : Status) → AsksNone words → t ≡ usage_text → Deserves words bytes u b → t ≡ u
+usage_same words bytes t u Proved none written e = absurd (asks_not_none words e.command e.asked none)
+usage_same words bytes t u Unknown none written e = absurd (asks_not_none words e.command e.asked none)
+usage_same words bytes t u Refused none written e = absurd (asks_not_none words e.command e.asked none)
+usage_same words bytes t u Usage none written e = written ∙ sym e.1
+usage_same words bytes t u ReadFault none written e = absurd e
+usage_same words bytes t u WriteFault none written e = absurd e
+usage_same words bytes t u Memory none written e = absurd e
 
 -- the law
 pub one_text : (words : List (List ℕ)) (bytes t u : List ℕ) (a b : Status) → Deserves words bytes t a → Deserves words bytes u b → t ≡ u
-one_text words bytes t u a b d e = one_kind words bytes t u (kind_of words bytes t a d) (kind_of words bytes u b e)
+one_text words bytes t u Proved b d e = command_text words bytes t u Proved b d e
+one_text words bytes t u Unknown b d e = command_text words bytes t u Unknown b d e
+one_text words bytes t u Refused b d e = command_text words bytes t u Refused b d e
+one_text words bytes t u Usage b d e = usage_same words bytes t u b d.0 d.1 e
+one_text words bytes t u ReadFault b d e = absurd d
+one_text words bytes t u WriteFault b d e = absurd d
+one_text words bytes t u Memory b d e = absurd d

@@ -2,7 +2,7 @@
 use Rattle.std.proofs.Common.{◌≡◌, ◌+◌, ℕ, List, [], ◌∷◌, ◌++◌, map, refl, inl, ap, sym, subst, ◌∙◌, ℤ, IsTrue}
 use Rattle.std.specs.Prelude.{string_bytes}
 use Rattle.std.specs.List.{AllByRecursion}
-use Rattle.lra_tree.specs.Report.{PointReport, Holds, IsInvariant, IsRight, IsSound}
+use Rattle.lra_tree.specs.Report.{Options, PointReport, Holds, IsInvariant, IsRight, IsSound}
 use Rattle.lra_box.specs.Content.{Content}
 use Rattle.lra_top.specs.FirstForm.{Simple, Set, Check}
 use Rattle.lra_top.specs.FirstProgram.{program_of}
@@ -107,18 +107,18 @@ states_shown names k v (s ∷ rest) end =
     (ap (λ f. f ∷ map (λ p. p.state) (map (point_of (names ∷ [])) (entries_from (k + 1) (box_of (after v (simple_of s.statement))) rest end))) (shown_is v)
     ∙ ap (λ l. printed v ∷ l) (states_shown names (k + 1) (after v (simple_of s.statement)) rest end))
 
-pub sound_report : (t : SourceTree) → IsSound (program_of (form_of t)) (tree_report t)
-sound_report t = record {
+pub sound_report : (o : Options) (t : SourceTree) → IsSound (program_of (form_of t)) (tree_report o t)
+sound_report o t = record {
   invariants = (λ store at. inl tt, points_hold (string_bytes t.name) (simples_of t.statements.items) (string_bytes t.name) 2 unbounded t.statements.items t.end first);
   verdicts = verdicts_right (string_bytes t.name) (simples_of t.statements.items) 2 unbounded t.statements.items first;
 }
 
-pub reports : (t : SourceTree) → IsReportOf (form_of t) (places_of t) (tree_report t)
-reports t = record {
+pub reports : (o : Options) (t : SourceTree) → IsReportOf o (form_of t) (places_of t) (tree_report o t)
+reports o t = record {
   options = refl;
   unflagged = refl;
   points = (record { has_number = refl; has_point = refl; has_path = refl; has_place = refl; has_names = refl }, are_points (string_bytes t.name) (simples_of t.statements.items) (string_bytes t.name) 2 first_box t.statements.items t.end);
   states = ap (λ l. (record { rows = []; generators = [] } ∷ []) ∷ l) (states_shown (string_bytes t.name) 2 unbounded t.statements.items t.end);
   verdicts = are_verdicts (string_bytes t.name) (simples_of t.statements.items) (string_bytes t.name) 2 unbounded t.statements.items t.end first;
-  sound = sound_report t;
+  sound = sound_report o t;
 }

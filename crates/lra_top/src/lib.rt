@@ -9,7 +9,6 @@ mod state;
 mod status;
 mod top_call;
 mod tree;
-mod words;
 
 pub use status::Status;
 pub use top_call::run;

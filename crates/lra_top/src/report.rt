@@ -1,9 +1,9 @@
 // The text of a report.
-ghost use Rattle.std.specs.Prelude.{◌≡◌, ◌++◌, map, count_by, not, OnOk, IfOk, string_bytes};
+ghost use Rattle.std.specs.Prelude.{◌≡◌, ◌++◌, map, codes, if◌then◌else◌, count_by, not, OnOk, IfOk, string_bytes};
 ghost use Rattle.std.specs.List.{flat_map};
 ghost use Rattle.lra_show.specs.Shown.{report_row};
-ghost use Rattle.lra_tree.specs.ReportText.{report_text, options_text, part_text, further_parts_text, state_text, point_text, verdict_text};
-ghost use Rattle.lra_top.specs.Claims.{box_with};
+ghost use Rattle.lra_tree.specs.ReportText.{report_text, domain_text, options_text, part_text, further_parts_text, state_text, point_text, verdict_text};
+ghost use Rattle.lra_top.specs.Run.{domain_of, options_of};
 ghost use Rattle.lra_top.specs.Boxes.{listed_rows, part_of, shown};
 ghost use Rattle.lra_top.specs.Shown.{point_of, verdict_of, report_of, first_point, head_text, row_line, counts_text};
 
@@ -14,6 +14,7 @@ use lra_domain::Domain;
 use lra_row::Row;
 use lra_show::{Names, row_text};
 use lra_sys::{ConKind, ConSys};
+use lra_words::{AnalyseOptions, Domain as DomainName};
 use std::alloc::{AllocError, Global};
 use std::fmt;
 
@@ -197,23 +198,45 @@ fn push_verdicts(text: &mut String, verdicts: &[VerdictEntry]) -> Result<(), All
     Ok(())
 }
 
-/// Appends the line of the options: boxes, so many parts, this delay, so many narrowings, not limited.
-fn push_options(text: &mut String, parts: u32, delay: u32, narrow: u32) -> Result<(), AllocError>
-    ensures { OnOk result (
-        string_bytes text.new ≡ string_bytes text.old ++ options_text (box_with parts delay narrow)) }
+/// The name of a domain.
+fn domain_name(domain: DomainName) -> &'static str
+    ensures { result.now ≡ domain_text (domain_of domain) }
 {
+    match domain {
+        DomainName::Poly => "poly",
+        DomainName::Box => "box",
+        DomainName::Oct => "oct",
+    }
+}
+
+fn yes_or_no(answer: bool) -> &'static str
+    ensures { result.now ≡ (if answer then codes "yes" else codes "no") }
+{
+    if answer { "yes" } else { "no" }
+}
+
+/// Appends the line of the options.
+fn push_options(text: &mut String, options: AnalyseOptions) -> Result<(), AllocError>
+    ensures { OnOk result (
+        string_bytes text.new ≡ string_bytes text.old ++ options_text (options_of options)) }
+{
+    let domain = domain_name(options.domain);
+    let parts = options.parts;
+    let delay = options.delay;
+    let narrow = options.narrow;
+    let limited = yes_or_no(options.limited);
     writeln!(
         text,
-        "analysis box parts {parts} delay {delay} narrow {narrow} limited no"
+        "analysis {domain} parts {parts} delay {delay} narrow {narrow} limited {limited}"
     )
 }
 
 /// Appends the lines before the points.
-fn push_head(text: &mut String) -> Result<(), AllocError>
+fn push_head(text: &mut String, options: AnalyseOptions) -> Result<(), AllocError>
     ensures { OnOk result (
-        string_bytes text.new ≡ string_bytes text.old ++ head_text) }
+        string_bytes text.new ≡ string_bytes text.old ++ head_text (options_of options)) }
 {
-    push_options(text, 1, 1, 1)?;
+    push_options(text, options)?;
     writeln!(text, "flagged 0")
 }
 
@@ -253,17 +276,18 @@ fn push_counts(text: &mut String, verdicts: &[VerdictEntry]) -> Result<(), Alloc
 /// The whole text of the report.
 pub fn write_report(
     alloc: Global,
+    options: AnalyseOptions,
     name: &str,
     declared: Place,
     analysis: &Analysis,
 ) -> Result<String, AllocError>
     ensures { IfOk result (λ text.
-        string_bytes text ≡ report_text (report_of name.now declared analysis.now.entries.items analysis.now.verdicts.items)) }
+        string_bytes text ≡ report_text (report_of (options_of options) name.now declared analysis.now.entries.items analysis.now.verdicts.items)) }
 {
     let mut names = Names::new(alloc);
     names.push(name)?;
     let mut text = String::new(alloc);
-    push_head(&mut text)?;
+    push_head(&mut text, options)?;
     push_first(&mut text, declared)?;
     push_points(alloc, &mut text, &names, &analysis.entries)?;
     push_verdicts(&mut text, &analysis.verdicts)?;

@@ -3,15 +3,17 @@ ghost use Rattle.std.specs.Prelude.{◌≡◌, ◌≢◌, ◌≤◌, ◌<◌, �
 ghost use Rattle.std.specs.List.{AllByRecursion};
 ghost use Rattle.std.specs.Io.KnownBytes.{Appends, Keeps};
 ghost use Rattle.lra_edge.specs.Causes.{Rose};
-ghost use Rattle.lra_tree.specs.Report as tree;
 ghost use Rattle.lra_tree.specs.ReportText.{unknown_count};
-ghost use Rattle.lra_top.specs.FirstForm.{Form, IsSimple, IsSource, place_after, first_place};
-ghost use Rattle.lra_top.specs.Answer.{usage_text, too_long_text, syntax_text, IsTooLong, IsWithinLimit, IsFirstForm};
-ghost use Rattle.lra_top.specs.Words.{IsAnalyseBox};
-ghost use Rattle.lra_top.specs.Run.{IsDeserved, Writes, WritesPart, ReadsInput, EndsInUsage, EndsInRefusal, EndsInReport, IsReportOrMemory};
+ghost use Rattle.lra_words.specs.Built.{IsBuilt, Asks, AsksNone};
+ghost use Rattle.lra_words.specs.declared.chosen.AnalyseOptions.{AnalyseOptions};
+ghost use Rattle.lra_words.specs.declared.chosen.Command.{Command};
+ghost use Rattle.lra_words.specs.declared.chosen.Command.TheVariants.{Analyse};
+ghost use Rattle.lra_top.specs.FirstForm.{IsSimple, place_after, first_place};
+ghost use Rattle.lra_top.specs.Answer.{too_long_text, syntax_text, DeservesSource, IsTooLong, IsWithinLimit, IsFirstForm};
+ghost use Rattle.lra_top.specs.Run.{options_of, usage_text, DeservesInput, IsDeserved, Writes, WritesPart, ReadsInput, EndsInUsage, EndsInRefusal, EndsInReport, IsReportOrMemory};
 ghost use Rattle.lra_top.specs.Views.{place_of, simples_of};
 ghost use Rattle.lra_top.specs.Shown.{verdict_of, IsReportStatus, ReportsTree};
-ghost use Rattle.lra_top.specs.Prepared.{DeservesSource, IsSourceText, PrepareCause};
+ghost use Rattle.lra_top.specs.Prepared.{IsInputText, PrepareCause};
 
 use crate::analysis::{VerdictEntry, analyse};
 use crate::lexer::place_behind;
@@ -19,8 +21,8 @@ use crate::parser::parse;
 use crate::report::{unknown_count_of, write_report};
 use crate::status::Status;
 use crate::tree::{Place, ReadError, SourceTree};
-use crate::words::is_analyse_box;
 use lra_edge::{ReadEnd, Sink, Source, read_whole, write_whole};
+use lra_words::{AnalyseOptions, Command, asked};
 use std::alloc::{AllocError, Global};
 
 /// The bytes that a source may have.
@@ -64,13 +66,17 @@ fn status_of(verdicts: &[VerdictEntry]) -> Status
 }
 
 /// The report of a source, and whether each assertion is proved.
-fn report_source(alloc: Global, tree: &SourceTree) -> Result<Answer, AllocError>
+fn report_source(
+    alloc: Global,
+    options: AnalyseOptions,
+    tree: &SourceTree,
+) -> Result<Answer, AllocError>
     requires few { vec_len tree.now.statements < 2 ^ 62 }
     requires literals { AllByRecursion IsSimple (simples_of tree.now.statements.items) }
-    ensures { IfOk result (λ a. ReportsTree tree.now (string_bytes a.text) a.status) }
+    ensures { IfOk result (λ a. ReportsTree (options_of options) tree.now (string_bytes a.text) a.status) }
 {
     let analysis = analyse(alloc, tree)?;
-    let text = write_report(alloc, tree.name.as_str(), tree.declared, &analysis)?;
+    let text = write_report(alloc, options, tree.name.as_str(), tree.declared, &analysis)?;
     let status = status_of(&analysis.verdicts);
     Ok(Answer { text, status })
 }
@@ -88,12 +94,12 @@ fn refuse_syntax(alloc: Global) -> Result<Answer, AllocError>
 
 /// The report or the refusal of a source within the limit.
 #[tactic(auto, using(crate::proofs::Ways::deserving))]
-fn answer_source(alloc: Global, bytes: &[u8]) -> Result<Answer, AllocError>
+fn answer_source(alloc: Global, options: AnalyseOptions, bytes: &[u8]) -> Result<Answer, AllocError>
     requires { length bytes.now ≤ 65536 }
-    ensures { IfOk result (λ a. DeservesSource bytes.now (string_bytes a.text) a.status) }
+    ensures { IfOk result (λ a. DeservesSource (options_of options) bytes.now (string_bytes a.text) a.status) }
 {
     match parse(alloc, bytes) {
-        Ok(tree) => Ok(report_source(alloc, &tree)?),
+        Ok(tree) => Ok(report_source(alloc, options, &tree)?),
         Err(ReadError::NotThisForm) => Ok(refuse_syntax(alloc)?),
         Err(ReadError::Memory) => Err(AllocError),
     }
@@ -135,15 +141,32 @@ fn refuse_words(alloc: Global) -> Result<Answer, AllocError>
     })
 }
 
-/// The report or the refusal of a source, which is read.
+/// What a command answers to an input within the limit.
+fn answer_input(alloc: Global, command: Command, bytes: &[u8]) -> Result<Answer, AllocError>
+    requires built { IsBuilt command }
+    requires within { length bytes.now ≤ 65536 }
+    ensures { IfOk result (λ a. DeservesInput command bytes.now (string_bytes a.text) a.status) }
+{
+    match command {
+        Command::Analyse(options) => answer_source(alloc, options, bytes),
+        Command::Sample { .. } | Command::Calc => unreachable!(),
+    }
+}
+
+/// What a command answers to its input, which is read.
 #[tactic(auto, using(crate::proofs::Ways::reading))]
-fn prepare_source<S: Source>(alloc: Global, source: &mut S) -> Result<Answer, NoAnswer>
-    ensures deserved { IfOk result (λ a. IsSourceText (S.left source.old) (string_bytes a.text) a.status) }
+fn prepare_input<S: Source>(
+    alloc: Global,
+    command: Command,
+    source: &mut S,
+) -> Result<Answer, NoAnswer>
+    requires { IsBuilt command }
+    ensures deserved { IfOk result (λ a. IsInputText command (S.left source.old) (string_bytes a.text) a.status) }
     ensures reads { IfOk result (λ _. ReadsInput (S.left source.old) (S.left source.new)) }
     ensures cause { PrepareCause (S.faults source.old) (S.faults source.new) result }
 {
     match read_whole(alloc, source, LIMIT) {
-        Ok(bytes) => Ok(answer_source(alloc, &bytes)?),
+        Ok(bytes) => Ok(answer_input(alloc, command, &bytes)?),
         Err(ReadEnd::TooLong(bytes)) => Ok(refuse_too_long(alloc, &bytes)?),
         Err(ReadEnd::Failed) => Err(NoAnswer::ReadFault),
         Err(ReadEnd::Memory) => Err(NoAnswer::Memory),
@@ -155,31 +178,30 @@ fn prepare_source<S: Source>(alloc: Global, source: &mut S) -> Result<Answer, No
 fn prepare<S: Source>(alloc: Global, words: &[String], source: &mut S) -> Result<Answer, NoAnswer>
     ensures deserved { IfOk result (λ a.
         IsDeserved (map string_bytes words.now) (S.left source.old) (string_bytes a.text) a.status) }
-    ensures reads { IfOk result (λ _.
-        IsAnalyseBox (map string_bytes words.now) → ReadsInput (S.left source.old) (S.left source.new)) }
+    ensures reads { IfOk result (λ _. (c : Command) → Asks (map string_bytes words.now) c →
+        ReadsInput (S.left source.old) (S.left source.new)) }
     ensures cause { PrepareCause (S.faults source.old) (S.faults source.new) result }
-    ensures unread { (IsAnalyseBox (map string_bytes words.now) → ⊥) → S.left source.new ≡ S.left source.old }
-    ensures untouched { (IsAnalyseBox (map string_bytes words.now) → ⊥) → S.faults source.new ≡ S.faults source.old }
-    ensures untaken { (IsAnalyseBox (map string_bytes words.now) → ⊥) → IsErrOf result NoAnswer.ReadFault → ⊥ }
+    ensures unread { AsksNone (map string_bytes words.now) → S.left source.new ≡ S.left source.old }
+    ensures untouched { AsksNone (map string_bytes words.now) → S.faults source.new ≡ S.faults source.old }
+    ensures untaken { AsksNone (map string_bytes words.now) → IsErrOf result NoAnswer.ReadFault → ⊥ }
 {
-    if is_analyse_box(words) {
-        prepare_source(alloc, source)
-    } else {
-        Ok(refuse_words(alloc)?)
+    match asked(alloc, words)? {
+        Some(command) => prepare_input(alloc, command, source),
+        None => Ok(refuse_words(alloc)?),
     }
 }
 
-/// Reads the words, reads the source, and writes the report or the refusal.
+/// Reads the words, reads the input of their command, and writes what it deserves: a report, or a refusal.
 ///
 /// `words` has the program's name first. The whole text is made before the first byte is written.
-#[tactic(auto, using(crate::proofs::Ways::ending))]
+#[tactic(auto, using(crate::proofs::Ways::none_status))]
 pub fn run<S: Source, K: Sink>(
     alloc: Global,
     words: &[String],
     source: &mut S,
     sink: &mut K,
 ) -> Status
-    // What is written, by status: the text that the words and the source's bytes deserve, whole.
+    // What is written, by status: the text that the words and the input's bytes deserve, whole.
     ensures proved { result ≡ Status.Proved →
         Writes (map string_bytes words.now) (S.left source.old) (K.held sink.old) (K.held sink.new) Status.Proved }
     ensures unknown { result ≡ Status.Unknown →
@@ -193,20 +215,20 @@ pub fn run<S: Source, K: Sink>(
     ensures nothing_read { result ≡ Status.ReadFault → Keeps (K.held sink.old) (K.held sink.new) }
     ensures nothing_stored { result ≡ Status.Memory → Keeps (K.held sink.old) (K.held sink.new) }
 
-    // Usage: exactly where the words aren't taken. Nothing is read then.
-    ensures usage { result ≡ Status.Usage → IsAnalyseBox (map string_bytes words.now) → ⊥ }
-    ensures untaken { (IsAnalyseBox (map string_bytes words.now) → ⊥) → EndsInUsage result }
-    ensures unread { (IsAnalyseBox (map string_bytes words.now) → ⊥) → S.left source.new ≡ S.left source.old }
-    ensures untouched { (IsAnalyseBox (map string_bytes words.now) → ⊥) → S.faults source.new ≡ S.faults source.old }
+    // Usage: exactly where the words ask for no command. Nothing is read then.
+    ensures usage { result ≡ Status.Usage → AsksNone (map string_bytes words.now) }
+    ensures untaken { AsksNone (map string_bytes words.now) → EndsInUsage result }
+    ensures unread { AsksNone (map string_bytes words.now) → S.left source.new ≡ S.left source.old }
+    ensures untouched { AsksNone (map string_bytes words.now) → S.faults source.new ≡ S.faults source.old }
 
-    // Refused: exactly where the source is too long or isn't of the first form. A source of the form gets its report.
-    ensures too_long { IsAnalyseBox (map string_bytes words.now) →
+    // Refused: exactly where the input is too long, or a source isn't of the first form. A source of the form gets its report.
+    ensures too_long { (c : Command) → Asks (map string_bytes words.now) c →
         (bytes : List ℕ) → S.left source.old ≡ Some bytes → IsTooLong bytes → EndsInRefusal result }
-    ensures other { IsAnalyseBox (map string_bytes words.now) →
+    ensures other { (options : AnalyseOptions) → Asks (map string_bytes words.now) (Analyse options) →
         (bytes : List ℕ) → S.left source.old ≡ Some bytes → (IsFirstForm bytes → ⊥) → EndsInRefusal result }
-    ensures accepted { IsAnalyseBox (map string_bytes words.now) →
+    ensures accepted { (options : AnalyseOptions) → Asks (map string_bytes words.now) (Analyse options) →
         (bytes : List ℕ) → S.left source.old ≡ Some bytes → IsWithinLimit bytes → IsFirstForm bytes → EndsInReport result }
-    ensures reads { result ≢ Status.ReadFault → result ≢ Status.Memory → IsAnalyseBox (map string_bytes words.now) →
+    ensures reads { result ≢ Status.ReadFault → result ≢ Status.Memory → (c : Command) → Asks (map string_bytes words.now) c →
         ReadsInput (S.left source.old) (S.left source.new) }
 
     // A fault is the answer only where its count rose, and every other answer leaves the counts.
@@ -216,7 +238,7 @@ pub fn run<S: Source, K: Sink>(
     ensures no_write_fault { result ≢ Status.WriteFault → K.faults sink.new ≡ K.faults sink.old }
 
     // A source of the form gets its report where nothing fails; a sink that surely takes the text doesn't fail.
-    ensures complete { IsAnalyseBox (map string_bytes words.now) →
+    ensures complete { (options : AnalyseOptions) → Asks (map string_bytes words.now) (Analyse options) →
         (bytes : List ℕ) → S.left source.old ≡ Some bytes → IsWithinLimit bytes → IsFirstForm bytes →
         (Rose (S.faults source.old) (S.faults source.new) → ⊥) → (Rose (K.faults sink.old) (K.faults sink.new) → ⊥) →
         IsReportOrMemory result }
