@@ -1,0 +1,109 @@
+-- What the values of the code stand for.
+use Rattle.std.specs.Prelude.{◌≡◌, ◌≤◌, ℕ, suc, ◌+◌, ℤ, pos, ◌<ℤ◌, Bool, true, false, List, [], ◌∷◌, length, map, Option, Some, None, option_map, Result, Ok, Err, Vec, IfSome, string_bytes}
+use Rattle.std.specs.Borrow.{Bor}
+use Rattle.std.specs.BTreeMap.{get_by_text}
+use Rattle.std.specs.declared.alloc.Global.{Global}
+use Rattle.lra_linear.specs.Descriptions.{Given}
+use Rattle.lra_sys.specs.Listed.{is_equality, constraints}
+use Rattle.lra_sys.specs.declared.membership.Holds as H
+use Rattle.lra_sys.specs.declared.membership.Holds.TheVariants as holds
+use Rattle.lra_calc.specs.LineForms as form
+use Rattle.lra_calc.specs.Script as script
+use Rattle.lra_calc.specs.declared.forms.Constraint.{Constraint}
+use Rattle.lra_calc.specs.declared.forms.Line.{Line}
+use Rattle.lra_calc.specs.declared.forms.Line.TheVariants as code
+use Rattle.lra_calc.specs.declared.refusal.Fault as F
+use Rattle.lra_calc.specs.declared.refusal.Fault.TheVariants as fault
+use Rattle.lra_calc.specs.declared.refusal.CalcRefusal as R
+use Rattle.lra_calc.specs.declared.refusal.CalcRefusal.TheVariants as refusal
+use Rattle.lra_calc.specs.declared.refusal.LineError.{LineError}
+use Rattle.lra_calc.specs.declared.refusal.LineError.TheVariants as line_error
+use Rattle.lra_calc.specs.declared.refusal.CalcError.{CalcError}
+use Rattle.lra_calc.specs.declared.refusal.CalcError.TheVariants as calc_error
+use Rattle.lra_calc.specs.declared.session.Session as S
+
+abbrev pub texts : List (Bor (List ℕ)) → List (List ℕ)
+texts words = map (λ w. w.now) words
+
+abbrev pub items_of : {A : Type 0} → Option (Vec A Global) → Option (List A)
+items_of r = option_map (λ v. v.items) r
+
+-- forms -----------------------------------------------------------------------------------------------------------
+
+abbrev pub constraint_of : Constraint → Given
+constraint_of c = record { row = c.row; equal = is_equality c.kind }
+
+abbrev pub constraints_of : Option (Vec Constraint Global) → Option (List Given)
+constraints_of r = option_map (λ v. map constraint_of v.items) r
+
+abbrev pub said : Line → form.Line
+said (code.Dims n) = form.Dims n
+said (code.Con name rows) = form.Con (string_bytes name) (map constraint_of rows.items)
+said (code.Holds name point) = form.Holds (string_bytes name) point.items
+
+abbrev pub line_of : Option Line → Option form.Line
+line_of r = option_map said r
+
+-- a divisor that is there is at least 1
+abbrev pub HasDivisor : List ℤ → Type 0
+HasDivisor [] = Unit {0}
+HasDivisor (d ∷ numbers) = pos 0 <ℤ d
+
+-- what lines keep that are read
+abbrev pub IsLine : Line → Type 0
+IsLine (code.Dims n) = n ≤ form.greatest_dims
+IsLine (code.Con name rows) = Unit {0}
+IsLine (code.Holds name point) = HasDivisor point.items
+
+-- sessions ---------------------------------------------------------------------------------------------------------
+
+abbrev pub session_of : S.Session → script.Session
+session_of s = record { dims = s.dims; made = λ name. option_map constraints (get_by_text s.made name); printed = string_bytes s.printed; flagged = s.flagged }
+
+-- few dimensions, and each name stands for constraints of so many
+pub record IsSession (s : S.Session) : Type 0 where
+  pub few : s.dims ≤ form.greatest_dims
+  pub fit : (name : List ℕ) → IfSome (get_by_text s.made name) (λ c. c.dims ≡ s.dims)
+
+-- yes, no, or wide
+abbrev pub answered : H.Holds → Option Bool
+answered holds.Yes = Some true
+answered (holds.No place) = Some false
+answered (holds.Wide place) = None
+
+-- answers ----------------------------------------------------------------------------------------------------------
+
+abbrev pub fault_of : F.Fault → script.Fault
+fault_of fault.BadLine = script.BadLine
+fault_of (fault.UnknownName name) = script.UnknownName (string_bytes name)
+fault_of (fault.WrongDimension count needed) = script.WrongDimension count needed
+
+-- the answer is what the definition gives; want of memory says nothing
+abbrev pub Gives : {A B : Type 0} → (A → B) → Result A LineError → Result B script.Fault → Type 0
+Gives view (Ok a) told = told ≡ Ok (view a)
+Gives view (Err (line_error.Refused f)) told = told ≡ Err (fault_of f)
+Gives view (Err line_error.Memory) told = Unit {0}
+
+abbrev pub refusal_of : R.CalcRefusal → script.Refusal
+refusal_of (refusal.TooLong place) = script.TooLong place
+refusal_of (refusal.Line number f) = script.AtLine (record { number = number; fault = fault_of f })
+
+-- the same of the lines from the one of this number on
+abbrev pub StepsTo : ℕ → Option S.Session → List ℕ → Result (Option S.Session) CalcError → Type 0
+StepsTo number s line (Ok t) = (rest : List (List ℕ)) → script.carried_out number (option_map session_of s) (line ∷ rest) ≡ script.carried_out (number + 1) (option_map session_of t) rest
+StepsTo number s line (Err (calc_error.Refused (refusal.Line at f))) =
+    (rest : List (List ℕ)) → script.carried_out number (option_map session_of s) (line ∷ rest) ≡ Err (record { number = at; fault = fault_of f })
+StepsTo number s line (Err (calc_error.Refused (refusal.TooLong place))) = ⊥
+StepsTo number s line (Err calc_error.Memory) = Unit {0}
+
+abbrev pub Ends : Result (Option S.Session) CalcError → Result (Option script.Session) script.Refused → Type 0
+Ends (Ok t) told = told ≡ Ok (option_map session_of t)
+Ends (Err (calc_error.Refused (refusal.Line at f))) told = told ≡ Err (record { number = at; fault = fault_of f })
+Ends (Err (calc_error.Refused (refusal.TooLong place))) told = ⊥
+Ends (Err calc_error.Memory) told = Unit {0}
+
+-- the output is the one told, and a refusal too
+abbrev pub Answers : Result (Vec ℕ Global) CalcError → Result (List ℕ) script.Refusal → Type 0
+Answers (Ok output) told = told ≡ Ok output.items
+Answers (Err (calc_error.Refused r)) told = told ≡ Err (refusal_of r)
+Answers (Err calc_error.Memory) told = Unit {0}

@@ -1,0 +1,158 @@
+//! What a script writes.
+
+ghost use Rattle.std.specs.Prelude.{List, ℤ, None, ◌≡◌, ◌<◌, ◌≤◌, ◌+◌, ◌-◌, ◌^◌, ◌++◌, length, map, string_bytes, Some, IfOk, IfSome, OnOk, option_map};
+ghost use Rattle.lra_linear.specs.Descriptions.{Given};
+ghost use Rattle.lra_tree.specs.Tokens as place;
+ghost use Rattle.lra_calc.specs.ScriptText as text;
+ghost use Rattle.lra_calc.specs.LineForms as form;
+ghost use Rattle.lra_calc.specs.Script as spec;
+ghost use Rattle.lra_calc.specs.Views.{texts, session_of, IsSession, IsLine, said, Gives, StepsTo, Ends, Answers};
+
+use crate::forms::{Line, read_line};
+use crate::pieces::{is_skipped, raw_lines, without_return, words};
+use crate::refusal::{CalcError, CalcRefusal, Fault, LineError};
+use crate::session::Session;
+use lra_tree::Place;
+use std::alloc::{AllocError, Global};
+use std::fmt::Write;
+
+/// The most bytes of a script.
+const MOST_BYTES: usize = 65_536;
+
+/// The place of the byte behind these.
+fn place_behind(bytes: &[u8]) -> Place
+    requires { length bytes.now < 2 ^ 31 }
+    ensures { result ≡ place.place_behind bytes.now }
+{
+    let mut line = 1;
+    let mut column = 1;
+    for byte in bytes {
+        if *byte == b'\n' {
+            line += 1;
+            column = 1;
+        } else {
+            column += 1;
+        }
+    }
+    Place { line, column }
+}
+
+/// Carries out what a line says: the first gives the dimensions.
+fn carry_out(
+    alloc: Global,
+    number: usize,
+    session: Option<Session>,
+    line: Line,
+) -> Result<Session, LineError>
+    requires session { IfSome session IsSession }
+    requires line { IsLine line }
+    ensures gives { Gives session_of result (spec.after_form number (option_map session_of session) (Some (said line))) }
+    ensures sound { IfOk result IsSession }
+{
+    match (session, line) {
+        (None, Line::Dims(n)) => Ok(Session::new(alloc, n)),
+        (None, _) => Err(LineError::Refused(Fault::BadLine)),
+        (Some(mut session), line) => {
+            session.carry_out(alloc, number, line)?;
+            Ok(session)
+        }
+    }
+}
+
+/// Carries out the line of a number.
+fn perform(
+    alloc: Global,
+    number: usize,
+    session: Option<Session>,
+    line: &[u8],
+) -> Result<Session, LineError>
+    requires { IfSome session IsSession }
+    ensures gives { Gives session_of result (spec.after_form number (option_map session_of session) (form.line_of (text.words line.now))) }
+    ensures sound { IfOk result IsSession }
+{
+    let words = words(alloc, line)?;
+    match read_line(alloc, &words)? {
+        Some(line) => carry_out(alloc, number, session, line),
+        None => Err(LineError::Refused(Fault::BadLine)),
+    }
+}
+
+/// What stands behind the line of a number, which may be skipped.
+fn after_line(
+    alloc: Global,
+    number: usize,
+    session: Option<Session>,
+    line: &[u8],
+) -> Result<Option<Session>, CalcError>
+    requires { IfSome session IsSession }
+    ensures steps { StepsTo number session line.now result }
+    ensures sound { IfOk result (λ t. IfSome t IsSession) }
+{
+    if is_skipped(line) {
+        return Ok(session);
+    }
+    match perform(alloc, number, session, line) {
+        Ok(session) => Ok(Some(session)),
+        Err(LineError::Refused(fault)) => {
+            Err(CalcError::Refused(CalcRefusal::Line { number, fault }))
+        }
+        Err(LineError::Memory) => Err(CalcError::Memory),
+    }
+}
+
+/// Carries out all lines.
+fn run_lines(alloc: Global, lines: &[&[u8]]) -> Result<Option<Session>, CalcError>
+    ensures { Ends result (spec.carried_out 1 None (map text.without_return (texts lines.now))) }
+{
+    let mut session = None;
+    for (index, line) in lines.iter().enumerate() {
+        session = after_line(alloc, index + 1, session, without_return(line))?;
+    }
+    Ok(session)
+}
+
+/// Prints the last line.
+fn push_flag(printed: &mut String, flagged: Option<usize>) -> Result<(), AllocError>
+    ensures { OnOk result (string_bytes printed.new ≡ string_bytes printed.old ++ spec.flag_text flagged) }
+{
+    match flagged {
+        None => writeln!(printed, "flagged 0"),
+        Some(number) => writeln!(printed, "flagged at line {number}"),
+    }
+}
+
+/// What is written behind the last line.
+fn output_of(alloc: Global, session: Option<Session>) -> Result<Vec<u8>, AllocError>
+    ensures { IfOk result (λ output. output.items ≡ spec.output (option_map session_of session)) }
+{
+    let (mut printed, flagged) = match session {
+        None => (String::new(alloc), None),
+        Some(session) => (session.printed, session.flagged),
+    };
+    push_flag(&mut printed, flagged)?;
+    Ok(printed.into_bytes())
+}
+
+/// What a script writes whose length is not asked.
+fn run(alloc: Global, bytes: &[u8]) -> Result<Vec<u8>, CalcError>
+    ensures { Answers result (spec.ended (spec.carried_out 1 None (text.lines bytes.now))) }
+{
+    let lines = raw_lines(alloc, bytes)?;
+    let session = run_lines(alloc, &lines)?;
+    Ok(output_of(alloc, session)?)
+}
+
+/// What a script writes, or why it is refused: a script of more than 65,536 bytes, and one with a line that is refused. Its lines
+/// are carried out in order, and the first that is refused is answered.
+#[tactic(auto, using(crate::proofs::SessionLemmas::membership_tells))]
+pub fn script(alloc: Global, bytes: &[u8]) -> Result<Vec<u8>, CalcError>
+    ensures answer { Answers result (spec.answer_to bytes.now) }
+    // What an answer to `holds` says of the set that the name stands for.
+    ensures points { (rows : List Given) (x : List ℤ) → spec.TellsPoints rows x (spec.membership rows x) }
+{
+    if bytes.len() > MOST_BYTES {
+        let place = place_behind(&bytes[..MOST_BYTES]);
+        return Err(CalcError::Refused(CalcRefusal::TooLong(place)));
+    }
+    run(alloc, bytes)
+}

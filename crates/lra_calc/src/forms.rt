@@ -1,0 +1,181 @@
+//! What a line says.
+
+ghost use Rattle.std.specs.Prelude.{◌≡◌, ◌<◌, ◌≤◌, length, map, IfOk, IfSome, position, bytes_eq, codes, Bool, option_map, Some, None, if◌then◌else◌};
+ghost use Rattle.std.specs.List.{slice_split};
+ghost use Rattle.lra_sys.specs.Listed.{is_equality};
+ghost use Rattle.lra_calc.specs.LineForms as form;
+ghost use Rattle.lra_calc.specs.LineForms.{all_of};
+ghost use Rattle.lra_calc.specs.Views.{texts, line_of, constraint_of, constraints_of, IsLine, HasDivisor};
+
+use crate::numbers::{name_of, number_of, numbers_of};
+use lra_row::Row;
+use lra_sys::ConKind;
+use std::alloc::{AllocError, Global};
+
+/// The most dimensions.
+const MOST_DIMS: i128 = 24;
+
+/// A constraint as it is written, with any count of numbers.
+#[derive(Drop)]
+pub struct Constraint {
+    pub row: Row,
+    pub kind: ConKind,
+}
+
+/// What a line says.
+#[derive(Drop)]
+pub enum Line {
+    /// How many dimensions all that follows has.
+    Dims(usize),
+
+    /// The name is to stand for what meets these constraints.
+    Con(String, Vec<Constraint>),
+
+    /// Whether the point is in what the name stands for; its divisor first, then the numerators.
+    Holds(String, Vec<i128>),
+}
+
+fn dims_line(words: &[&[u8]]) -> Option<Line>
+    ensures line { line_of result ≡ form.dims_line (texts words.now) }
+    ensures sound { IfSome result IsLine }
+{
+    match words {
+        [word] => match number_of(word)? {
+            n @ 0..=MOST_DIMS => Some(Line::Dims(n as usize)),
+            _ => None,
+        },
+        _ => None,
+    }
+}
+
+fn kind_of(relation: &[u8]) -> Option<ConKind>
+    ensures { option_map is_equality result ≡ form.equality_of relation.now }
+{
+    match relation {
+        b">=" => Some(ConKind::Ge),
+        b"=" => Some(ConKind::Eq),
+        _ => None,
+    }
+}
+
+fn row_of(alloc: Global, words: &[&[u8]]) -> Result<Option<Constraint>, AllocError>
+    ensures { IfOk result (λ r. option_map constraint_of r ≡ form.row_of (texts words.now)) }
+{
+    let [relation, numbers @ ..] = words else {
+        return Ok(None);
+    };
+    let Some(kind) = kind_of(relation) else {
+        return Ok(None);
+    };
+    let Some(numbers) = numbers_of(alloc, numbers)? else {
+        return Ok(None);
+    };
+    let row = Row::from_slice(alloc, &numbers)?;
+    Ok(Some(Constraint { row, kind }))
+}
+
+fn is_semicolon(word: &[u8]) -> bool
+    ensures { result ≡ bytes_eq word.now (codes ";") }
+{
+    word == b";".as_slice()
+}
+
+/// The words before, between and behind the semicolons.
+fn parts<'a, 'b>(alloc: Global, words: &'b [&'a [u8]]) -> Result<Vec<&'b [&'a [u8]]>, AllocError>
+    ensures { IfOk result (λ parts. map (λ p. texts p.now) parts.items ≡ slice_split (λ w. bytes_eq w (codes ";")) (texts words.now)) }
+{
+    words.split(|word| is_semicolon(word)).collect(alloc)
+}
+
+/// The row that each part says, where each says one.
+#[tactic(auto, using(crate::proofs::AllOf::onto_nil))]
+fn all_rows(alloc: Global, parts: &[&[&[u8]]]) -> Result<Option<Vec<Constraint>>, AllocError>
+    ensures { IfOk result (λ r. constraints_of r ≡ all_of form.row_of (map (λ p. texts p.now) parts.now)) }
+{
+    let mut rows = Vec::new(alloc);
+    for part in parts {
+        let Some(row) = row_of(alloc, part)? else {
+            return Ok(None);
+        };
+        rows.push(row)?;
+    }
+    Ok(Some(rows))
+}
+
+/// No row, or the rows that stand before, between and behind the semicolons.
+fn rows_of(alloc: Global, words: &[&[u8]]) -> Result<Option<Vec<Constraint>>, AllocError>
+    ensures { IfOk result (λ r. constraints_of r ≡ form.rows_of (texts words.now)) }
+{
+    if words.is_empty() {
+        return Ok(Some(Vec::new(alloc)));
+    }
+    let parts = parts(alloc, words)?;
+    all_rows(alloc, &parts)
+}
+
+fn con_line(alloc: Global, words: &[&[u8]]) -> Result<Option<Line>, AllocError>
+    ensures line { IfOk result (λ r. line_of r ≡ form.con_line (texts words.now)) }
+    ensures sound { IfOk result (λ r. IfSome r IsLine) }
+{
+    let [name, rows @ ..] = words else {
+        return Ok(None);
+    };
+    let Some(name) = name_of(alloc, name)? else {
+        return Ok(None);
+    };
+    match rows_of(alloc, rows)? {
+        Some(rows) => Ok(Some(Line::Con(name, rows))),
+        None => Ok(None),
+    }
+}
+
+/// The numbers, where the first, if there is one, may be a divisor.
+fn with_divisor(point: Vec<i128>) -> Option<Vec<i128>>
+    ensures point { option_map (λ p. p.items) result ≡ form.with_divisor point.items }
+    ensures divisor { IfSome result (λ p. HasDivisor p.items) }
+{
+    if let Some(divisor) = point.first()
+        && *divisor < 1
+    {
+        return None;
+    }
+    Some(point)
+}
+
+fn holds_line(alloc: Global, words: &[&[u8]]) -> Result<Option<Line>, AllocError>
+    ensures line { IfOk result (λ r. line_of r ≡ form.holds_line (texts words.now)) }
+    ensures sound { IfOk result (λ r. IfSome r IsLine) }
+{
+    let [name, numbers @ ..] = words else {
+        return Ok(None);
+    };
+    let Some(name) = name_of(alloc, name)? else {
+        return Ok(None);
+    };
+    let Some(numbers) = numbers_of(alloc, numbers)? else {
+        return Ok(None);
+    };
+    match with_divisor(numbers) {
+        Some(point) => Ok(Some(Line::Holds(name, point))),
+        None => Ok(None),
+    }
+}
+
+/// What the words say, where they are a line.
+pub fn read_line(alloc: Global, words: &[&[u8]]) -> Result<Option<Line>, AllocError>
+    ensures line { IfOk result (λ r. line_of r ≡ form.line_of (texts words.now)) }
+    ensures sound { IfOk result (λ r. IfSome r IsLine) }
+{
+    let [word, rest @ ..] = words else {
+        return Ok(None);
+    };
+    if *word == b"dims".as_slice() {
+        Ok(dims_line(rest))
+    } else if *word == b"con".as_slice() {
+        con_line(alloc, rest)
+    } else if *word == b"holds".as_slice() {
+        holds_line(alloc, rest)
+    } else {
+        Ok(None)
+    }
+}

@@ -1,0 +1,127 @@
+//! Names and numbers among the words.
+
+ghost use Rattle.std.specs.Prelude.{FitsSigned, true, ◌≡◌, ◌≤◌, ◌<◌, length, IsTrue, IfOk, IfSome, IfNone, ℤ, pos, neg_ℤ, string_bytes, Some, None, if◌then◌else◌, option_map};
+ghost use Rattle.std.specs.Option.{SomeIff};
+ghost use Rattle.std.specs.Int.{w128};
+ghost use Rattle.std.specs.List.{All, list_all};
+ghost use Rattle.std.specs.Char.{is_ascii_digit, is_ascii_alphanumeric};
+ghost use Rattle.std.specs.Str.{IsUtf8};
+ghost use Rattle.std.specs.Str.Parse.{signed_digits_value};
+ghost use Rattle.lra_linear.specs.Range.{InRange};
+ghost use Rattle.lra_calc.specs.ScriptText as script;
+ghost use Rattle.lra_calc.specs.LineForms.{all_of};
+ghost use Rattle.lra_calc.specs.Views.{texts, items_of};
+
+use std::alloc::{AllocError, Global};
+use std::str;
+
+fn are_alphanumeric(bytes: &[u8]) -> bool
+    ensures { result ≡ list_all is_ascii_alphanumeric bytes.now }
+{
+    bytes.iter().all(|byte| byte.is_ascii_alphanumeric())
+}
+
+/// Whether the word is a name: a capital letter, then letters and digits.
+fn is_name(word: &[u8]) -> bool
+    ensures { result ≡ script.is_name word.now }
+{
+    match word {
+        [] => false,
+        [first, rest @ ..] => first.is_ascii_uppercase() && are_alphanumeric(rest),
+    }
+}
+
+/// The text of a word, which is made of ASCII characters.
+fn text_of(alloc: Global, word: &[u8]) -> Result<String, AllocError>
+    requires { IsUtf8 word.now }
+    ensures { IfOk result (λ text. string_bytes text ≡ word.now) }
+{
+    match str::from_utf8(word) {
+        Ok(text) => String::from_str(alloc, text),
+        Err(_) => Err(AllocError),
+    }
+}
+
+/// The name that a word is, where it is one.
+#[tactic(auto, using(crate::proofs::WordLemmas::name_is_utf8))]
+pub fn name_of(alloc: Global, word: &[u8]) -> Result<Option<String>, AllocError>
+    ensures { IfOk result (λ name. option_map string_bytes name ≡ (if script.is_name word.now then Some word.now else None)) }
+{
+    if !is_name(word) {
+        return Ok(None);
+    }
+    Ok(Some(text_of(alloc, word)?))
+}
+
+fn without_minus(word: &[u8]) -> &[u8]
+    ensures { result.now ≡ script.without_minus word.now }
+{
+    match word {
+        [b'-', digits @ ..] => digits,
+        _ => word,
+    }
+}
+
+fn are_digits(bytes: &[u8]) -> bool
+    ensures { result ≡ list_all is_ascii_digit bytes.now }
+{
+    bytes.iter().all(|byte| byte.is_ascii_digit())
+}
+
+fn is_number(word: &[u8]) -> bool
+    ensures { result ≡ script.is_number word.now }
+{
+    let digits = without_minus(word);
+    !digits.is_empty() && are_digits(digits)
+}
+
+/// The number that a word of digits writes, where it fits.
+#[tactic(auto, using(crate::proofs::WordLemmas::parsed_fits, crate::proofs::WordLemmas::parsed_past, crate::proofs::WordLemmas::number_is_utf8))]
+fn parsed(word: &[u8]) -> Option<i128>
+    requires { script.is_number word.now ≡ true }
+    ensures { SomeIff result (FitsSigned w128 (signed_digits_value 10 word.now)) (signed_digits_value 10 word.now) }
+{
+    match str::from_utf8(word) {
+        Ok(text) => text.parse::<i128>().ok(),
+        Err(_) => None,
+    }
+}
+
+/// The number that a word of digits writes, where it is one of the range.
+fn value_of(word: &[u8]) -> Option<i128>
+    requires { script.is_number word.now ≡ true }
+    ensures { SomeIff result (InRange (signed_digits_value 10 word.now)) (signed_digits_value 10 word.now) }
+{
+    match parsed(word) {
+        Some(number) if number != i128::MIN => Some(number),
+        _ => None,
+    }
+}
+
+/// The number that a word writes, where it is one of the range.
+#[tactic(auto, using(crate::proofs::WordLemmas::number_from_value, crate::proofs::WordLemmas::no_number))]
+pub fn number_of(word: &[u8]) -> Option<i128>
+    ensures number { result ≡ script.number_of word.now }
+    ensures in_range { IfSome result InRange }
+{
+    if !is_number(word) {
+        return None;
+    }
+    value_of(word)
+}
+
+/// The numbers that the words write, where each writes one.
+#[tactic(auto, using(crate::proofs::AllOf::onto_nil))]
+pub fn numbers_of(alloc: Global, words: &[&[u8]]) -> Result<Option<Vec<i128>>, AllocError>
+    ensures numbers { IfOk result (λ r. items_of r ≡ all_of script.number_of (texts words.now)) }
+    ensures in_range { IfOk result (λ r. IfSome r (λ numbers. All InRange numbers.items)) }
+{
+    let mut numbers = Vec::new(alloc);
+    for word in words {
+        let Some(number) = number_of(word) else {
+            return Ok(None);
+        };
+        numbers.push(number)?;
+    }
+    Ok(Some(numbers))
+}
