@@ -6,12 +6,14 @@ use Rattle.lra_tree.specs.Report.{Options, PointReport, Verdict, Report}
 use Rattle.lra_tree.specs.ReportText.{report_text}
 use Rattle.lra_top.specs.FirstForm.{Simple, Set, Check, Form, place_after, first_place}
 use Rattle.lra_top.specs.Claims.{IsPoint, ArePoints, ArePointsOf, IsVerdict, AreVerdicts, IsReportOf, statement_points}
+use Rattle.std.specs.Prelude.{Result, Ok, Err}
+use Rattle.lra_calc.specs.Script as script
 use Rattle.lra_words.specs.Built.{Asks, AsksNone}
 use Rattle.lra_words.specs.declared.chosen.Command.{Command}
 use Rattle.lra_words.specs.declared.chosen.Command.TheVariants.{Analyse, Sample, Calc}
 use Rattle.lra_words.proofs.OneCommand.{one_asked, asks_not_none}
 use Rattle.lra_top.specs.Answer.{limit, too_long_text, IsPastLimit, IsRefusal, IsReport, DeservesSource}
-use Rattle.lra_top.specs.Run.{options_of, usage_text, DeservesInput, DeservesCommand, Deserves}
+use Rattle.lra_top.specs.Run.{options_of, usage_text, DeservesScript, DeservesInput, DeservesCommand, Deserves}
 use Rattle.lra_top.specs.declared.status.Status.{Status}
 use Rattle.lra_top.specs.declared.status.Status.TheVariants.{Proved, Unknown, Refused, Usage, ReadFault, WriteFault, Memory}
 use Rattle.lra_top.proofs.OneSource.{one_source}
@@ -149,10 +151,40 @@ one_kind o bytes t u (report k r) (report l s) = report_texts o bytes t u k l r 
 source_text : (o : Options) (bytes t u : List ℕ) (a b : Status) → DeservesSource o bytes t a → DeservesSource o bytes u b → t ≡ u
 source_text o bytes t u a b d e = one_kind o bytes t u (kind_of o bytes t a d) (kind_of o bytes u b e)
 
+output_same : {t u : List ℕ} {told : Result (List ℕ) script.Refusal} → told ≡ Ok t → told ≡ Ok u → t ≡ u
+output_same e f = cc
+
+refused_same : {told : Result (List ℕ) script.Refusal} {r s : script.Refusal} → told ≡ Err r → told ≡ Err s → r ≡ s
+refused_same e f = cc
+
+not_both_ways : {t : List ℕ} {told : Result (List ℕ) script.Refusal} {r : script.Refusal} → told ≡ Ok t → told ≡ Err r → ⊥
+not_both_ways e f = cc
+
+script_text : (bytes t u : List ℕ) (a b : Status) → DeservesScript bytes t a → DeservesScript bytes u b → t ≡ u
+script_text bytes t u Proved Proved d e = output_same d e
+script_text bytes t u Proved Refused d e = absurd (not_both_ways d e.1)
+script_text bytes t u Proved Unknown d e = absurd e
+script_text bytes t u Proved Usage d e = absurd e
+script_text bytes t u Proved ReadFault d e = absurd e
+script_text bytes t u Proved WriteFault d e = absurd e
+script_text bytes t u Proved Memory d e = absurd e
+script_text bytes t u Refused Proved d e = absurd (not_both_ways e d.1)
+script_text bytes t u Refused Refused d e = d.2 ∙ ap script.refused_text (refused_same d.1 e.1) ∙ sym e.2
+script_text bytes t u Refused Unknown d e = absurd e
+script_text bytes t u Refused Usage d e = absurd e
+script_text bytes t u Refused ReadFault d e = absurd e
+script_text bytes t u Refused WriteFault d e = absurd e
+script_text bytes t u Refused Memory d e = absurd e
+script_text bytes t u Unknown b d e = absurd d
+script_text bytes t u Usage b d e = absurd d
+script_text bytes t u ReadFault b d e = absurd d
+script_text bytes t u WriteFault b d e = absurd d
+script_text bytes t u Memory b d e = absurd d
+
 input_text : (c : Command) (bytes t u : List ℕ) (a b : Status) → DeservesInput c bytes t a → DeservesInput c bytes u b → t ≡ u
 input_text (Analyse options) bytes t u a b d e = source_text (options_of options) bytes t u a b d e
 input_text (Sample seed size) bytes t u a b d e = absurd d
-input_text Calc bytes t u a b d e = absurd d
+input_text Calc bytes t u a b d e = script_text bytes t u a b d e
 
 -- what the input of the words' command deserves
 pub asked_input : (words : List (List ℕ)) (bytes text : List ℕ) (status : Status) (c : Command) → Asks words c → Deserves words bytes text status → DeservesInput c bytes text status

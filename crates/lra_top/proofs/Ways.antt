@@ -1,20 +1,24 @@
 -- From what a source deserves to what a call of `run` does.
-use Rattle.std.proofs.Common.{◌∙◌, ◌≡◌, ◌≤◌, ◌<◌, ◌+◌, ◌-◌, ℕ, List, [], ◌++◌, length, take, drop, inl, inr, refl, sym, arith, append_assoc, append-nil, subst}
-use Rattle.std.specs.Prelude.{Option, Some, None}
+use Rattle.std.proofs.Common.{◌∙◌, ◌≡◌, ◌≤◌, ◌<◌, ◌+◌, ◌-◌, ℕ, List, [], ◌++◌, length, take, drop, inl, inr, refl, ap, sym, arith, append_assoc, append-nil, subst}
+use Rattle.std.specs.Prelude.{Option, Some, None, Result, Ok, Err}
 use Rattle.std.specs.Io.KnownBytes.{Consumes, IsAtEnd}
 use Rattle.std.proofs.lemmas.Grind.{common_steps}
-use Rattle.std.proofs.lemmas.List.{take-append-drop}
+use Rattle.std.proofs.lemmas.List.{take-append-drop, take-append-le}
 use Rattle.lra_tree.specs.declared.refusals.Place.{Place}
 use Rattle.lra_tree.specs.Report.{Options}
 use Rattle.lra_tree.specs.ReportText.{report_text, unknown_count}
 use Rattle.lra_top.specs.FirstForm.{Form, IsSource, place_after, first_place}
+use Rattle.lra_tree.specs.Refuse.{greatest_length}
+use Rattle.lra_tree.specs.Tokens.{place_behind}
+use Rattle.lra_calc.specs.Script as script
+use Rattle.lra_calc.proofs.Limit.{limit_is, answer_too_long}
 use Rattle.lra_words.specs.Built.{IsBuilt, Asks, AsksNone, AsksFor}
 use Rattle.lra_words.specs.declared.chosen.AnalyseOptions.{AnalyseOptions}
 use Rattle.lra_words.specs.declared.chosen.Command.{Command}
 use Rattle.lra_words.specs.declared.chosen.Command.TheVariants.{Analyse, Sample, Calc}
 use Rattle.lra_words.proofs.OneCommand.{asks_not_none}
-use Rattle.lra_top.specs.Answer.{limit, too_long_text, syntax_text, IsTooLong, IsWithinLimit, IsFirstForm, RefusesLength, IsReport, DeservesSource}
-use Rattle.lra_top.specs.Run.{IsInput, options_of, usage_text, DeservesInput, Deserves, IsDeserved, EndsInUsage, EndsInRefusal, EndsInReport, IsReportOrMemory}
+use Rattle.lra_top.specs.Answer.{limit, too_long_text, syntax_text, IsTooLong, IsWithinLimit, IsFirstForm, RefusesLength, IsRefusal, IsReport, DeservesSource}
+use Rattle.lra_top.specs.Run.{IsInput, options_of, usage_text, DeservesScript, DeservesInput, Deserves, IsDeserved, EndsInUsage, EndsInRefusal, EndsInReport, EndsInOutput, IsReportOrMemory, IsOutputOrMemory}
 use Rattle.lra_top.specs.Prepared.{IsInputText}
 use Rattle.lra_top.specs.Views.{form_of, places_of}
 use Rattle.lra_top.specs.Shown.{tree_report, IsReportStatus, ReportsTree}
@@ -61,8 +65,6 @@ pub deserves_syntax : (o : Options) (bytes text : List ℕ) (status : Status) �
 deserves_syntax o bytes text status within other e s =
     rw s (inr (record { within = within; other = λ r. other r.form r.places r.source; written = e }))
 
-pub ruleset deserving = (deserves_tree, deserves_syntax)
-
 -- what was read ------------------------------------------------------------------
 
 -- bytes that are read to the end are the whole input
@@ -83,34 +85,94 @@ begun_input None new bytes taken = ([], tt)
 begun_input (Some left) None bytes taken = absurd taken
 begun_input (Some left) (Some rest) bytes taken = (rest, taken)
 
-refuses_length : (bytes rest text : List ℕ) → length bytes ≡ limit + 1
-    → text ≡ too_long_text (place_after (take (length bytes - 1) bytes) first_place) → RefusesLength (bytes ++ rest) text
-refuses_length bytes rest text past written = record {
-  too_long = grind (arith, common_steps);
+-- one byte past the limit says as much as the whole input --------------------------
+
+refuses_length : (bytes text : List ℕ) → limit < length bytes → length bytes ≤ limit + 1
+    → text ≡ too_long_text (place_after (take (length bytes - 1) bytes) first_place) → RefusesLength bytes text
+refuses_length bytes text long most written = record {
+  too_long = long;
   place = place_after (take (length bytes - 1) bytes) first_place;
   past = record {
     front = take (length bytes - 1) bytes;
-    rest = drop (length bytes - 1) bytes ++ rest;
-    split = rw (← append_assoc (take (length bytes - 1) bytes) (drop (length bytes - 1) bytes) rest, take-append-drop (length bytes - 1) bytes) refl;
+    rest = drop (length bytes - 1) bytes;
+    split = sym (take-append-drop (length bytes - 1) bytes);
     full = grind (arith, common_steps);
     behind = refl;
   };
   written = written;
 }
 
--- too many bytes are refused to each command that has an input
-refuses_input : (c : Command) (bytes text : List ℕ) → IsBuilt c → RefusesLength bytes text → DeservesInput c bytes text Refused
-refuses_input (Analyse options) bytes text built r = inl r
-refuses_input (Sample seed size) bytes text built r = built
-refuses_input Calc bytes text built r = built
+-- a source of which one byte past the limit is given
+pub deserves_length : (o : Options) (bytes text : List ℕ) (status : Status) → limit < length bytes → length bytes ≤ limit + 1
+    → text ≡ too_long_text (place_after (take (length bytes - 1) bytes) first_place) → status ≡ Refused → DeservesSource o bytes text status
+deserves_length o bytes text status long most written s = rw s (inl (refuses_length bytes text long most written))
+
+pub ruleset deserving = (deserves_tree, deserves_syntax, deserves_length)
+
+more_refused : (bytes rest text : List ℕ) → RefusesLength bytes text → RefusesLength (bytes ++ rest) text
+more_refused bytes rest text r = record {
+  too_long = let long : limit < length bytes = r.too_long in grind (arith, common_steps);
+  place = r.place;
+  past = record {
+    front = r.past.front;
+    rest = r.past.rest ++ rest;
+    split = ap (λ (b : List ℕ). b ++ rest) r.past.split ∙ append_assoc r.past.front r.past.rest rest;
+    full = r.past.full;
+    behind = r.past.behind;
+  };
+  written = r.written;
+}
+
+longer_refusal : (bytes rest text : List ℕ) → limit < length bytes → IsRefusal bytes text → IsRefusal (bytes ++ rest) text
+longer_refusal bytes rest text long (inl r) = inl (more_refused bytes rest text r)
+longer_refusal bytes rest text long (inr r) = let within : length bytes ≤ limit = r.within in absurd (omega arith)
+
+longer_source : (o : Options) (bytes rest text : List ℕ) (status : Status) → limit < length bytes → DeservesSource o bytes text status → DeservesSource o (bytes ++ rest) text status
+longer_source o bytes rest text Proved long d = let within : length bytes ≤ limit = d.within in absurd (omega arith)
+longer_source o bytes rest text Unknown long d = let within : length bytes ≤ limit = d.2.within in absurd (omega arith)
+longer_source o bytes rest text Refused long d = longer_refusal bytes rest text long d
+longer_source o bytes rest text Usage long d = d
+longer_source o bytes rest text ReadFault long d = d
+longer_source o bytes rest text WriteFault long d = d
+longer_source o bytes rest text Memory long d = d
+
+past_limit : (bytes : List ℕ) → limit < length bytes → greatest_length < length bytes
+past_limit bytes long = rw limit_is long
+
+too_long_answer : (bytes : List ℕ) → limit < length bytes → script.answer_to bytes ≡ Err (script.TooLong (place_behind (take greatest_length bytes)))
+too_long_answer bytes long = answer_too_long greatest_length bytes refl (past_limit bytes long)
+
+same_answer : (bytes rest : List ℕ) → limit < length bytes → script.answer_to (bytes ++ rest) ≡ script.answer_to bytes
+same_answer bytes rest long =
+    let longer : limit < length (bytes ++ rest) = grind (arith, common_steps) in
+    let past : greatest_length < length bytes = past_limit bytes long in
+    let reached : greatest_length ≤ length bytes = omega arith in
+    too_long_answer (bytes ++ rest) longer
+    ∙ ap (λ (front : List ℕ). Err (script.TooLong (place_behind front))) (take-append-le greatest_length bytes rest reached)
+    ∙ sym (too_long_answer bytes long)
+
+longer_script : (bytes rest text : List ℕ) (status : Status) → limit < length bytes → DeservesScript bytes text status → DeservesScript (bytes ++ rest) text status
+longer_script bytes rest text Proved long d = same_answer bytes rest long ∙ d
+longer_script bytes rest text Unknown long d = d
+longer_script bytes rest text Refused long d = (d.0, same_answer bytes rest long ∙ d.1, d.2)
+longer_script bytes rest text Usage long d = d
+longer_script bytes rest text ReadFault long d = d
+longer_script bytes rest text WriteFault long d = d
+longer_script bytes rest text Memory long d = d
+
+longer_input : (c : Command) (bytes rest text : List ℕ) (status : Status) → limit < length bytes → DeservesInput c bytes text status → DeservesInput c (bytes ++ rest) text status
+longer_input (Analyse options) bytes rest text status long d = longer_source (options_of options) bytes rest text status long d
+longer_input (Sample seed size) bytes rest text status long d = d
+longer_input Calc bytes rest text status long d = longer_script bytes rest text status long d
 
 -- an input of which one byte past the limit was read
-pub too_long_input : (c : Command) (old new : Option (List ℕ)) (bytes text : List ℕ) (status : Status)
-    → IsBuilt c → Consumes old new bytes → length bytes ≡ limit + 1
-    → text ≡ too_long_text (place_after (take (length bytes - 1) bytes) first_place) → status ≡ Refused → IsInputText c old text status
-too_long_input c old new bytes text status built read past written s =
+pub too_long_input : (c : Command) (old new : Option (List ℕ)) (bytes shown text : List ℕ) (status : Status)
+    → DeservesInput c shown text status → shown ≡ bytes → Consumes old new bytes → length bytes ≡ limit + 1 → IsInputText c old text status
+too_long_input c old new bytes shown text status d same read past =
     let (rest, input) = begun_input old new bytes read in
-    rw s (record { bytes = bytes ++ rest; input = input; deserved = refuses_input c (bytes ++ rest) text built (refuses_length bytes rest text past written) })
+    let long : limit < length bytes = omega arith in
+    let here : DeservesInput c bytes text status = subst (λ b. DeservesInput c b text status) same d in
+    record { bytes = bytes ++ rest; input = input; deserved = longer_input c bytes rest text status long here }
 
 pub ruleset reading = (whole_text, too_long_input)
 
@@ -135,10 +197,19 @@ source_answer o bytes text ReadFault d = d
 source_answer o bytes text WriteFault d = d
 source_answer o bytes text Memory d = d
 
+script_answer : (bytes text : List ℕ) (status : Status) → DeservesScript bytes text status → IsAnswer status
+script_answer bytes text Proved d = tt
+script_answer bytes text Unknown d = tt
+script_answer bytes text Refused d = tt
+script_answer bytes text Usage d = d
+script_answer bytes text ReadFault d = d
+script_answer bytes text WriteFault d = d
+script_answer bytes text Memory d = d
+
 answer_of : (c : Command) (bytes text : List ℕ) (status : Status) → DeservesInput c bytes text status → IsAnswer status
 answer_of (Analyse options) bytes text status d = source_answer (options_of options) bytes text status d
 answer_of (Sample seed size) bytes text status d = absurd d
-answer_of Calc bytes text status d = absurd d
+answer_of Calc bytes text status d = script_answer bytes text status d
 
 command_deserves : (words : List (List ℕ)) (bytes text : List ℕ) (status : Status) (c : Command) → Asks words c → IsAnswer status → DeservesInput c bytes text status
     → Deserves words bytes text status
@@ -208,11 +279,29 @@ report_of o bytes text ReadFault d within form = tt
 report_of o bytes text WriteFault d within form = tt
 report_of o bytes text Memory d within form = tt
 
+script_refusal : (bytes text : List ℕ) (status : Status) (r : script.Refusal) → DeservesScript bytes text status → script.answer_to bytes ≡ Err r → EndsInRefusal status
+script_refusal bytes text Proved r d e = let wrong : Ok text ≡ Err r = sym d ∙ e in cc
+script_refusal bytes text Unknown r d e = d
+script_refusal bytes text Refused r d e = tt
+script_refusal bytes text Usage r d e = d
+script_refusal bytes text ReadFault r d e = tt
+script_refusal bytes text WriteFault r d e = tt
+script_refusal bytes text Memory r d e = tt
+
+script_output : (bytes text : List ℕ) (status : Status) (output : List ℕ) → DeservesScript bytes text status → script.answer_to bytes ≡ Ok output → EndsInOutput status
+script_output bytes text Proved output d e = tt
+script_output bytes text Unknown output d e = d
+script_output bytes text Refused output d e = let wrong : Ok output ≡ Err d.0 = sym e ∙ d.1 in cc
+script_output bytes text Usage output d e = d
+script_output bytes text ReadFault output d e = tt
+script_output bytes text WriteFault output d e = tt
+script_output bytes text Memory output d e = tt
+
 too_long_of : (c : Command) (bytes text : List ℕ) (status : Status) → DeservesInput c bytes text status → IsTooLong bytes → EndsInRefusal status
 too_long_of (Analyse options) bytes text status d long =
     refusal_of (options_of options) bytes text status d (λ n r. let within : length bytes ≤ limit = r.within in let past : limit < length bytes = long in omega arith)
 too_long_of (Sample seed size) bytes text status d long = absurd d
-too_long_of Calc bytes text status d long = absurd d
+too_long_of Calc bytes text status d long = script_refusal bytes text status _ d (too_long_answer bytes long)
 
 -- the input that tells its bytes is these bytes
 the_input : (left : Option (List ℕ)) (bytes told : List ℕ) → IsInput left bytes → left ≡ Some told → told ≡ bytes
@@ -243,6 +332,28 @@ pub source_status : (words : List (List ℕ)) (left : Option (List ℕ)) (text :
 source_status words left text status told options d asks tells within form =
     report_of (options_of options) told text status (told_input words left text status told (Analyse options) d asks tells) within form
 
+pub script_refused_status : (words : List (List ℕ)) (left : Option (List ℕ)) (text : List ℕ) (status : Status) (told : List ℕ) (r : script.Refusal)
+    → IsDeserved words left text status → Asks words Calc → left ≡ Some told → script.answer_to told ≡ Err r → EndsInRefusal status
+script_refused_status words left text status told r d asks tells e = script_refusal told text status r (told_input words left text status told Calc d asks tells) e
+
+pub script_status : (words : List (List ℕ)) (left : Option (List ℕ)) (text : List ℕ) (status : Status) (told output : List ℕ)
+    → IsDeserved words left text status → Asks words Calc → left ≡ Some told → script.answer_to told ≡ Ok output → EndsInOutput status
+script_status words left text status told output d asks tells e = script_output told text status output (told_input words left text status told Calc d asks tells) e
+
+complete_script_of : (words : List (List ℕ)) (bytes text : List ℕ) (status : Status) → Deserves words bytes text status → EndsInOutput status → IsOutputOrMemory status
+complete_script_of words bytes text Proved d ends = tt
+complete_script_of words bytes text Unknown d ends = ends
+complete_script_of words bytes text Refused d ends = ends
+complete_script_of words bytes text Usage d ends = ends
+complete_script_of words bytes text ReadFault d ends = d
+complete_script_of words bytes text WriteFault d ends = d
+complete_script_of words bytes text Memory d ends = tt
+
+pub complete_script_status : (words : List (List ℕ)) (left : Option (List ℕ)) (text : List ℕ) (status : Status) (told output : List ℕ)
+    → IsDeserved words left text status → Asks words Calc → left ≡ Some told → script.answer_to told ≡ Ok output → IsOutputOrMemory status
+complete_script_status words left text status told output d asks tells e =
+    complete_script_of words d.bytes text status d.deserved (script_status words left text status told output d asks tells e)
+
 complete_of : (words : List (List ℕ)) (bytes text : List ℕ) (status : Status) → Deserves words bytes text status → EndsInReport status → IsReportOrMemory status
 complete_of words bytes text Proved d ends = tt
 complete_of words bytes text Unknown d ends = tt
@@ -266,3 +377,4 @@ no_room words left text other a b spare told d longer e fits tells =
     let texts : text ≡ other = one_text words d.bytes text other a b d.deserved here in
     let short : length text ≤ spare = rw texts fits in
     omega arith
+

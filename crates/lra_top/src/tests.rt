@@ -148,27 +148,11 @@ fn options_are_written(rt: HostRuntime) -> Result<(), Fail> {
             "parts 1 delay 0 narrow 1 limited no",
         ),
         (
-            &[
-                "lra",
-                "analyse",
-                "--domain",
-                "box",
-                "--narrow=4",
-                "--delay=8",
-            ],
+            &["lra", "analyse", "--domain", "box", "--narrow=4", "--delay=8"],
             "parts 1 delay 8 narrow 4 limited no",
         ),
         (
-            &[
-                "lra",
-                "analyse",
-                "--limited",
-                "--domain",
-                "box",
-                "--parts",
-                "1",
-                "--",
-            ],
+            &["lra", "analyse", "--limited", "--domain", "box", "--parts", "1", "--"],
             "parts 1 delay 1 narrow 1 limited yes",
         ),
     ];
@@ -180,11 +164,67 @@ fn options_are_written(rt: HostRuntime) -> Result<(), Fail> {
     Ok(())
 }
 
+const CALC: [&str; 2] = ["lra", "calc"];
+
+const GREATEST: &str = "170141183460469231731687303715884105727";
+
+#[test]
+fn scripts_are_run(rt: HostRuntime) -> Result<(), Fail> {
+    let points = format!(in rt.alloc();
+        "dims 2\ncon P >= 0 1 0 ; >= 4 -1 -1\nholds P 2 3 5\nholds P 1 3 2\nholds P 1 {GREATEST} {GREATEST}\n"
+    )?;
+    let rows = [
+        (
+            points.as_str(),
+            Status::Proved,
+            "holds P yes\nholds P no\nholds P wide\nflagged at line 5\n",
+        ),
+        ("", Status::Proved, "flagged 0\n"),
+        (
+            "dims 1\ncon P\ncon Q = 0 1\ncon R >= 1 2 3\n",
+            Status::Refused,
+            "refused line 4 WrongDimension 3 2\n",
+        ),
+        (
+            "dims 1\ncon P\ncon Q = 0 1\nholds Z 1 0\n",
+            Status::Refused,
+            "refused line 4 UnknownName Z\n",
+        ),
+        (
+            "con P\n",
+            Status::Refused,
+            "refused line 1 BadLine\n",
+        ),
+    ];
+    for (script, status, text) in rows {
+        let ended = ends(&rt, &CALC, script.as_bytes(), (&[], &[]), text)?;
+        assert_eq!(rt; ended, (status, true), "{script}");
+    }
+    Ok(())
+}
+
+/// Skipped lines fill the limit; one byte more is refused.
+#[test]
+fn long_scripts_are_refused(rt: HostRuntime) -> Result<(), Fail> {
+    let rows = [
+        (65536, Status::Proved, "flagged 0\n"),
+        (65537, Status::Refused, "refused 1 TooLong at 65537:1\n"),
+        (65540, Status::Refused, "refused 1 TooLong at 65537:1\n"),
+    ];
+    for (count, status, text) in rows {
+        let script = vec![in rt.alloc(); b'\n'; count]?;
+        let ended = ends(&rt, &CALC, &script, (&[], &[]), text)?;
+        assert_eq!(rt; ended, (status, true), "{count}");
+    }
+    Ok(())
+}
+
 /// The first read would fail, so none is made.
 #[test]
 fn other_words_are_refused(rt: HostRuntime) -> Result<(), Fail> {
-    let rows: [&[&str]; 12] = [
+    let rows: [&[&str]; 13] = [
         &[],
+        &["lra", "calc", "calc"],
         &["lra"],
         &["lra", "analyse"],
         &["lra", "analyse", "--domain", "poly"],

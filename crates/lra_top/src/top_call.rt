@@ -1,16 +1,17 @@
 // The top call.
-ghost use Rattle.std.specs.Prelude.{◌≡◌, ◌≢◌, ◌≤◌, ◌<◌, ◌-◌, ◌^◌, ℕ, List, length, take, map, string_bytes, vec_len, IfOk, IsErrOf, Some};
+ghost use Rattle.std.specs.Prelude.{◌≡◌, ◌≢◌, ◌≤◌, ◌<◌, ◌-◌, ◌^◌, ℕ, List, length, take, map, string_bytes, vec_len, IfOk, IsErrOf, Some, Ok, Err};
 ghost use Rattle.std.specs.List.{AllByRecursion};
 ghost use Rattle.std.specs.Io.KnownBytes.{Appends, Keeps};
 ghost use Rattle.lra_edge.specs.Causes.{Rose};
 ghost use Rattle.lra_tree.specs.ReportText.{unknown_count};
+ghost use Rattle.lra_calc.specs.Script as script;
 ghost use Rattle.lra_words.specs.Built.{IsBuilt, Asks, AsksNone};
 ghost use Rattle.lra_words.specs.declared.chosen.AnalyseOptions.{AnalyseOptions};
 ghost use Rattle.lra_words.specs.declared.chosen.Command.{Command};
-ghost use Rattle.lra_words.specs.declared.chosen.Command.TheVariants.{Analyse};
+ghost use Rattle.lra_words.specs.declared.chosen.Command.TheVariants.{Analyse, Calc};
 ghost use Rattle.lra_top.specs.FirstForm.{IsSimple, place_after, first_place};
 ghost use Rattle.lra_top.specs.Answer.{too_long_text, syntax_text, DeservesSource, IsTooLong, IsWithinLimit, IsFirstForm};
-ghost use Rattle.lra_top.specs.Run.{options_of, usage_text, DeservesInput, IsDeserved, Writes, WritesPart, ReadsInput, EndsInUsage, EndsInRefusal, EndsInReport, IsReportOrMemory};
+ghost use Rattle.lra_top.specs.Run.{options_of, usage_text, DeservesScript, DeservesInput, IsDeserved, Writes, WritesPart, ReadsInput, EndsInUsage, EndsInRefusal, EndsInReport, EndsInOutput, IsReportOrMemory, IsOutputOrMemory};
 ghost use Rattle.lra_top.specs.Views.{place_of, simples_of};
 ghost use Rattle.lra_top.specs.Shown.{verdict_of, IsReportStatus, ReportsTree};
 ghost use Rattle.lra_top.specs.Prepared.{IsInputText, PrepareCause};
@@ -21,6 +22,7 @@ use crate::parser::parse;
 use crate::report::{unknown_count_of, write_report};
 use crate::status::Status;
 use crate::tree::{Place, ReadError, SourceTree};
+use lra_calc::{CalcError, script};
 use lra_edge::{ReadEnd, Sink, Source, read_whole, write_whole};
 use lra_words::{AnalyseOptions, Command, asked};
 use std::alloc::{AllocError, Global};
@@ -31,7 +33,7 @@ const LIMIT: usize = 65536;
 /// A text to be written, and the status with which it is written.
 #[derive(Drop)]
 pub struct Answer {
-    pub text: String,
+    pub text: Vec<u8>,
     pub status: Status,
 }
 
@@ -73,36 +75,32 @@ fn report_source(
 ) -> Result<Answer, AllocError>
     requires few { vec_len tree.now.statements < 2 ^ 62 }
     requires literals { AllByRecursion IsSimple (simples_of tree.now.statements.items) }
-    ensures { IfOk result (λ a. ReportsTree (options_of options) tree.now (string_bytes a.text) a.status) }
+    ensures { IfOk result (λ a. ReportsTree (options_of options) tree.now a.text.items a.status) }
 {
     let analysis = analyse(alloc, tree)?;
-    let text = write_report(alloc, options, tree.name.as_str(), tree.declared, &analysis)?;
+    let text = write_report(
+        alloc,
+        options,
+        tree.name.as_str(),
+        tree.declared,
+        &analysis,
+    )?;
     let status = status_of(&analysis.verdicts);
-    Ok(Answer { text, status })
+    Ok(Answer {
+        text: text.into_bytes(),
+        status,
+    })
 }
 
 /// The refusal of a source that is not of the form.
 fn refuse_syntax(alloc: Global) -> Result<Answer, AllocError>
-    ensures text { IfOk result (λ a. string_bytes a.text ≡ syntax_text) }
+    ensures text { IfOk result (λ a. a.text.items ≡ syntax_text) }
     ensures status { IfOk result (λ a. a.status ≡ Status.Refused) }
 {
     Ok(Answer {
-        text: String::from_str(alloc, "refused 4 Syntax at 1:1\n")?,
+        text: String::from_str(alloc, "refused 4 Syntax at 1:1\n")?.into_bytes(),
         status: Status::Refused,
     })
-}
-
-/// The report or the refusal of a source within the limit.
-#[tactic(auto, using(crate::proofs::Ways::deserving))]
-fn answer_source(alloc: Global, options: AnalyseOptions, bytes: &[u8]) -> Result<Answer, AllocError>
-    requires { length bytes.now ≤ 65536 }
-    ensures { IfOk result (λ a. DeservesSource (options_of options) bytes.now (string_bytes a.text) a.status) }
-{
-    match parse(alloc, bytes) {
-        Ok(tree) => Ok(report_source(alloc, options, &tree)?),
-        Err(ReadError::NotThisForm) => Ok(refuse_syntax(alloc)?),
-        Err(ReadError::Memory) => Err(AllocError),
-    }
 }
 
 /// The place of the last of the bytes.
@@ -119,37 +117,75 @@ fn refuse_too_long(alloc: Global, bytes: &[u8]) -> Result<Answer, AllocError>
     requires some { 0 < length bytes.now }
     requires bound { length bytes.now < 2 ^ 62 }
     ensures text { IfOk result (λ a.
-        string_bytes a.text ≡ too_long_text (place_after (take (length bytes.now - 1) bytes.now) first_place)) }
+        a.text.items ≡ too_long_text (place_after (take (length bytes.now - 1) bytes.now) first_place)) }
     ensures status { IfOk result (λ a. a.status ≡ Status.Refused) }
 {
     let place = last_place(bytes);
 
     Ok(Answer {
-        text: format!(in alloc; "refused 1 TooLong at {place}\n")?,
+        text: format!(in alloc; "refused 1 TooLong at {place}\n")?.into_bytes(),
         status: Status::Refused,
     })
 }
 
+/// The report or the refusal of a source, of which no more than one byte past the limit is given.
+#[tactic(auto, using(crate::proofs::Ways::deserving))]
+fn answer_source(
+    alloc: Global,
+    options: AnalyseOptions,
+    bytes: &[u8],
+) -> Result<Answer, AllocError>
+    requires { length bytes.now ≤ 65537 }
+    ensures { IfOk result (λ a. DeservesSource (options_of options) bytes.now a.text.items a.status) }
+{
+    if bytes.len() > LIMIT {
+        return Ok(refuse_too_long(alloc, bytes)?);
+    }
+    match parse(alloc, bytes) {
+        Ok(tree) => Ok(report_source(alloc, options, &tree)?),
+        Err(ReadError::NotThisForm) => Ok(refuse_syntax(alloc)?),
+        Err(ReadError::Memory) => Err(AllocError),
+    }
+}
+
+/// The output or the refusal of a script.
+fn answer_script(alloc: Global, bytes: &[u8]) -> Result<Answer, AllocError>
+    ensures { IfOk result (λ a. DeservesScript bytes.now a.text.items a.status) }
+{
+    match script(alloc, bytes) {
+        Ok(text) => Ok(Answer {
+            text,
+            status: Status::Proved,
+        }),
+        Err(CalcError::Refused(refusal)) => Ok(Answer {
+            text: refusal.text(alloc)?.into_bytes(),
+            status: Status::Refused,
+        }),
+        Err(CalcError::Memory) => Err(AllocError),
+    }
+}
+
 /// The answer to words that are no command.
 fn refuse_words(alloc: Global) -> Result<Answer, AllocError>
-    ensures text { IfOk result (λ a. string_bytes a.text ≡ usage_text) }
+    ensures text { IfOk result (λ a. a.text.items ≡ usage_text) }
     ensures status { IfOk result (λ a. a.status ≡ Status.Usage) }
 {
     Ok(Answer {
-        text: String::from_str(alloc, "refused usage\n")?,
+        text: String::from_str(alloc, "refused usage\n")?.into_bytes(),
         status: Status::Usage,
     })
 }
 
-/// What a command answers to an input within the limit.
+/// What a command answers to an input, of which no more than one byte past the limit is given.
 fn answer_input(alloc: Global, command: Command, bytes: &[u8]) -> Result<Answer, AllocError>
     requires built { IsBuilt command }
-    requires within { length bytes.now ≤ 65536 }
-    ensures { IfOk result (λ a. DeservesInput command bytes.now (string_bytes a.text) a.status) }
+    requires bound { length bytes.now ≤ 65537 }
+    ensures { IfOk result (λ a. DeservesInput command bytes.now a.text.items a.status) }
 {
     match command {
         Command::Analyse(options) => answer_source(alloc, options, bytes),
-        Command::Sample { .. } | Command::Calc => unreachable!(),
+        Command::Calc => answer_script(alloc, bytes),
+        Command::Sample { .. } => unreachable!(),
     }
 }
 
@@ -161,13 +197,13 @@ fn prepare_input<S: Source>(
     source: &mut S,
 ) -> Result<Answer, NoAnswer>
     requires { IsBuilt command }
-    ensures deserved { IfOk result (λ a. IsInputText command (S.left source.old) (string_bytes a.text) a.status) }
+    ensures deserved { IfOk result (λ a. IsInputText command (S.left source.old) a.text.items a.status) }
     ensures reads { IfOk result (λ _. ReadsInput (S.left source.old) (S.left source.new)) }
     ensures cause { PrepareCause (S.faults source.old) (S.faults source.new) result }
 {
     match read_whole(alloc, source, LIMIT) {
         Ok(bytes) => Ok(answer_input(alloc, command, &bytes)?),
-        Err(ReadEnd::TooLong(bytes)) => Ok(refuse_too_long(alloc, &bytes)?),
+        Err(ReadEnd::TooLong(bytes)) => Ok(answer_input(alloc, command, &bytes)?),
         Err(ReadEnd::Failed) => Err(NoAnswer::ReadFault),
         Err(ReadEnd::Memory) => Err(NoAnswer::Memory),
     }
@@ -177,7 +213,7 @@ fn prepare_input<S: Source>(
 #[tactic(auto, using(crate::proofs::Ways::preparing))]
 fn prepare<S: Source>(alloc: Global, words: &[String], source: &mut S) -> Result<Answer, NoAnswer>
     ensures deserved { IfOk result (λ a.
-        IsDeserved (map string_bytes words.now) (S.left source.old) (string_bytes a.text) a.status) }
+        IsDeserved (map string_bytes words.now) (S.left source.old) a.text.items a.status) }
     ensures reads { IfOk result (λ _. (c : Command) → Asks (map string_bytes words.now) c →
         ReadsInput (S.left source.old) (S.left source.new)) }
     ensures cause { PrepareCause (S.faults source.old) (S.faults source.new) result }
@@ -221,13 +257,18 @@ pub fn run<S: Source, K: Sink>(
     ensures unread { AsksNone (map string_bytes words.now) → S.left source.new ≡ S.left source.old }
     ensures untouched { AsksNone (map string_bytes words.now) → S.faults source.new ≡ S.faults source.old }
 
-    // Refused: exactly where the input is too long, or a source isn't of the first form. A source of the form gets its report.
+    // Refused: exactly where the input is too long, a source isn't of the first form, or a script has a refused line.
+    // A source of the form gets its report, and a script that runs whole its output.
     ensures too_long { (c : Command) → Asks (map string_bytes words.now) c →
         (bytes : List ℕ) → S.left source.old ≡ Some bytes → IsTooLong bytes → EndsInRefusal result }
     ensures other { (options : AnalyseOptions) → Asks (map string_bytes words.now) (Analyse options) →
         (bytes : List ℕ) → S.left source.old ≡ Some bytes → (IsFirstForm bytes → ⊥) → EndsInRefusal result }
     ensures accepted { (options : AnalyseOptions) → Asks (map string_bytes words.now) (Analyse options) →
         (bytes : List ℕ) → S.left source.old ≡ Some bytes → IsWithinLimit bytes → IsFirstForm bytes → EndsInReport result }
+    ensures script_refused { Asks (map string_bytes words.now) Calc → (bytes : List ℕ) → S.left source.old ≡ Some bytes →
+        (r : script.Refusal) → script.answer_to bytes ≡ Err r → EndsInRefusal result }
+    ensures script_ran { Asks (map string_bytes words.now) Calc → (bytes : List ℕ) → S.left source.old ≡ Some bytes →
+        (output : List ℕ) → script.answer_to bytes ≡ Ok output → EndsInOutput result }
     ensures reads { result ≢ Status.ReadFault → result ≢ Status.Memory → (c : Command) → Asks (map string_bytes words.now) c →
         ReadsInput (S.left source.old) (S.left source.new) }
 
@@ -237,11 +278,16 @@ pub fn run<S: Source, K: Sink>(
     ensures write_fault { result ≡ Status.WriteFault → Rose (K.faults sink.old) (K.faults sink.new) }
     ensures no_write_fault { result ≢ Status.WriteFault → K.faults sink.new ≡ K.faults sink.old }
 
-    // A source of the form gets its report where nothing fails; a sink that surely takes the text doesn't fail.
+    // A source of the form gets its report, and a script that runs whole its output, where nothing fails; a sink that surely
+    // takes the text doesn't fail.
     ensures complete { (options : AnalyseOptions) → Asks (map string_bytes words.now) (Analyse options) →
         (bytes : List ℕ) → S.left source.old ≡ Some bytes → IsWithinLimit bytes → IsFirstForm bytes →
         (Rose (S.faults source.old) (S.faults source.new) → ⊥) → (Rose (K.faults sink.old) (K.faults sink.new) → ⊥) →
         IsReportOrMemory result }
+    ensures complete_script { Asks (map string_bytes words.now) Calc → (bytes : List ℕ) → S.left source.old ≡ Some bytes →
+        (output : List ℕ) → script.answer_to bytes ≡ Ok output →
+        (Rose (S.faults source.old) (S.faults source.new) → ⊥) → (Rose (K.faults sink.old) (K.faults sink.new) → ⊥) →
+        IsOutputOrMemory result }
     ensures room { (bytes text : List ℕ) (status : _) → S.left source.old ≡ Some bytes →
         IsDeserved (map string_bytes words.now) (S.left source.old) text status → length text ≤ K.spare sink.old →
         result ≢ Status.WriteFault }
@@ -251,7 +297,7 @@ pub fn run<S: Source, K: Sink>(
         Err(NoAnswer::ReadFault) => return Status::ReadFault,
         Err(NoAnswer::Memory) => return Status::Memory,
     };
-    match write_whole(sink, answer.text.as_bytes()) {
+    match write_whole(sink, &answer.text) {
         Ok(()) => answer.status,
         Err(_) => Status::WriteFault,
     }

@@ -1,13 +1,12 @@
 -- Words give one command or are refused, wherever in memory the names of the domains lie.
-use Rattle.std.proofs.Common.{◌≡◌, ◌∙◌, inl, inr, ℕ, List, [], ◌∷◌, map, Option, Some, None, ap, refl, sym, subst, drop, codes}
+use Rattle.std.proofs.Common.{◌≡◌, ◌∙◌, inl, inr, List, [], ◌∷◌, map, Option, Some, ap, refl, sym, subst, drop, codes}
 use Rattle.std.specs.Prelude.{unwrap_or}
 use Rattle.std.specs.Borrow.{Bor}
 use Rattle.clap.specs.Faults.{built_fault}
 use Rattle.clap.specs.Simple.{built, entered, names_of}
 use Rattle.clap.specs.Walk.{stop_after}
-use Rattle.clap.specs.Words.{App, Row, Text, fault_of, subcommand_of}
+use Rattle.clap.specs.Words.{App, Text, fault_of, subcommand_of}
 use Rattle.clap.specs.Walk.{nothing_held}
-use Rattle.clap.specs.declared.error.kind.ErrorKind.{ErrorKind}
 use Rattle.clap.specs.declared.builder.value_parser.ValueParser.{ValueParser}
 use Rattle.clap.specs.declared.builder.value_parser.ValueParser.TheVariants as vp
 use Rattle.clap.proofs.OnLiterals.{clap_on_literals}

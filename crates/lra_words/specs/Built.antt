@@ -1,5 +1,5 @@
 -- Which commands are carried out, and what words ask for. A later stage changes the line of what it adds.
-use Rattle.std.specs.Prelude.{◌≡◌, ◌⊎◌, false, List, Option, Some, None}
+use Rattle.std.specs.Prelude.{◌≡◌, ◌⊎◌, ⊤, false, List, Option, Some, None}
 use Rattle.clap.specs.Words.{Text}
 use Rattle.lra_words.specs.Chosen.{IsRefused, IsTakenAs}
 use Rattle.lra_words.specs.declared.chosen.AnalyseOptions.{AnalyseOptions}
@@ -16,7 +16,7 @@ HasBuiltOptions options =
 abbrev pub IsBuilt : Command → Type 0
 IsBuilt (Analyse options) = HasBuiltOptions options
 IsBuilt (Sample seed size) = ⊥
-IsBuilt Calc = ⊥
+IsBuilt Calc = ⊤
 
 -- the words ask for this command, and it is carried out
 pub record Asks (words : List Text) (c : Command) : Type 0 where
