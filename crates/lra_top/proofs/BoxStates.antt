@@ -1,14 +1,13 @@
 -- The boxes of the analysis are the bounds that the report claims.
-use Rattle.std.proofs.Common.{◌≡◌, ◌≤◌, ◌<◌, ◌+◌, ◌/◌, ℕ, ℤ, pos, negsuc, List, [], ◌∷◌, ◌++◌, length, replicate, Option, None, Some, Bool, true, false, refl, arith, ap, sym, ◌∙◌, max, cond}
-use Rattle.std.specs.Prelude.{◌+ℤ◌, ◌<ℤ◌, neg_ℤ, nat_lt, nat_le, nat_eq, int_lt, if◌then◌else◌, zero, suc, slice_index_or}
-use Rattle.std.specs.Int.{int_div_euclid, int_min, int_max}
+use Rattle.std.proofs.Common.{◌≡◌, ◌≤◌, ◌/◌, ℕ, ℤ, pos, negsuc, List, [], ◌∷◌, ◌++◌, length, replicate, Option, None, Some, Bool, true, false, refl, arith, ap, sym, ◌∙◌}
+use Rattle.std.specs.Prelude.{◌+ℤ◌, ◌<ℤ◌, neg_ℤ, nat_lt, nat_le, nat_eq, int_lt, if◌then◌else◌}
+use Rattle.std.specs.Int.{int_div_euclid, int_min}
 use Rattle.std.proofs.lemmas.Int.{ints, clamps}
 use Rattle.std.proofs.lemmas.Bool.Decides.{nat_tests}
 use Rattle.std.specs.Option.{option_map}
 use Rattle.std.specs.Ordering.{int_eq}
 use Rattle.std.proofs.lemmas.Bool.Decides.{Decides-int_eq}
 use Rattle.lra_box.specs.Bounds.{crossed_ends}
-use Rattle.lra_box.specs.Bounds as bounds
 use Rattle.lra_box.specs.declared.interval.Interval as code
 use Rattle.lra_box.specs.Content.{Content}
 use Rattle.lra_box.specs.Refine.{lowered}
@@ -18,12 +17,8 @@ use Rattle.lra_box.specs.Parts.{low_rows, high_rows}
 use Rattle.lra_tree.specs.ReportText.{negated}
 use Rattle.lra_top.specs.FirstForm.{Simple, Set, Check}
 use Rattle.lra_top.specs.Boxes.{is_vacant, box_proves, listed_rows, shown}
-use Rattle.lra_top.specs.Views.{simple_of}
-use Rattle.lra_top.specs.Analysis.{box_after, entries_from}
-use Rattle.lra_top.specs.declared.tree.Place.{Place}
-use Rattle.lra_top.specs.declared.tree.PlacedStatement.{PlacedStatement}
-use Rattle.lra_top.specs.declared.analysis.PointEntry.{PointEntry}
-use Rattle.lra_top.specs.Interval.{Interval, State, Unreachable, Within, raised, between, after, proves, is_at_least, low_row, high_row, equal_row, rows_of, printed}
+use Rattle.lra_top.specs.Analysis.{box_after}
+use Rattle.lra_top.specs.Interval.{State, Unreachable, Within, raised, between, after, proves, is_at_least, low_row, high_row, equal_row, rows_of, printed}
 use Rattle.lra_top.proofs.Decided.{AreOrdered, IsProper}
 
 abbrev pub integer : Option ℕ → Option ℤ

@@ -1,10 +1,9 @@
 -- No change of the box of one variable passes a range, so each is the defined one.
-use Rattle.std.proofs.Common.{◌≡◌, ◌<◌, ◌^◌, ℕ, ℤ, pos, negsuc, List, [], ◌∷◌, Option, None, Some, ◌⊎◌, inl, inr, ◌≢◌, arith, ◌↔◌, Bool, true, false, IsTrue, refl}
+use Rattle.std.proofs.Common.{◌≡◌, ◌<◌, ◌^◌, ℕ, ℤ, pos, negsuc, List, [], ◌∷◌, Option, None, Some, inl, inr, arith, ◌↔◌, Bool, true, false, IsTrue, refl}
 use Rattle.std.specs.Prelude.{◌+ℤ◌, neg_ℤ}
 use Rattle.std.proofs.lemmas.Int.{ints}
 use Rattle.lra_linear.specs.Range.{InRange}
 use Rattle.lra_lin.specs.Form.{opposite_form, FormFits}
-use Rattle.lra_lin.specs.declared.test.TestKind.{TestKind}
 use Rattle.lra_lin.specs.declared.test.TestKind.TheVariants as kind
 use Rattle.lra_domain.specs.Actions.{Action, assign, test, embed}
 use Rattle.lra_domain.specs.Meaning.{Meets}
@@ -19,7 +18,7 @@ use Rattle.lra_box.specs.Refine.{RefinePasses}
 use Rattle.lra_box.specs.Tables.{stepped, AssignPasses, StepPasses}
 use Rattle.lra_box.specs.Parts.{box_parts}
 use Rattle.lra_box.specs.Meaning.{box_meaning}
-use Rattle.lra_top.specs.Boxes.{literal_form, distance_form, failure_of, first_box, is_vacant}
+use Rattle.lra_top.specs.Boxes.{literal_form, distance_form, failure_of, is_vacant}
 
 -- the numbers ---------------------------------------------------------------------
 

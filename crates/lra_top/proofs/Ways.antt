@@ -1,69 +1,22 @@
--- From what a source deserves to what a call of `run` does.
-use Rattle.std.proofs.Common.{◌∙◌, ◌≡◌, ◌≤◌, ◌<◌, ◌+◌, ◌-◌, ℕ, List, [], ◌++◌, length, take, drop, inl, inr, refl, ap, sym, arith, append_assoc, append-nil, subst}
-use Rattle.std.specs.Prelude.{Option, Some, None, Result, Ok, Err}
+-- From what words and their input deserve to what a call of `run` does.
+use Rattle.std.proofs.Common.{◌∙◌, ◌≡◌, ◌≤◌, ◌<◌, ◌+◌, ℕ, List, [], ◌++◌, length, refl, sym, arith, append-nil, subst}
+use Rattle.std.specs.Prelude.{Option, Some, None, Ok, Err}
 use Rattle.std.specs.Io.KnownBytes.{Consumes, IsAtEnd}
-use Rattle.std.proofs.lemmas.Grind.{common_steps}
-use Rattle.std.proofs.lemmas.List.{take-append-drop, take-append-le}
-use Rattle.lra_tree.specs.declared.refusals.Place.{Place}
-use Rattle.lra_tree.specs.Report.{Options}
-use Rattle.lra_tree.specs.ReportText.{report_text, unknown_count}
-use Rattle.lra_top.specs.FirstForm.{Form, IsSource, place_after, first_place}
-use Rattle.lra_tree.specs.Refuse.{greatest_length}
-use Rattle.lra_tree.specs.Tokens.{place_behind}
 use Rattle.lra_calc.specs.Script as script
-use Rattle.lra_calc.proofs.Limit.{limit_is, answer_too_long}
-use Rattle.lra_words.specs.Built.{IsBuilt, Asks, AsksNone, AsksFor}
+use Rattle.lra_words.specs.Built.{Asks, AsksNone, AsksFor}
 use Rattle.lra_words.specs.declared.chosen.AnalyseOptions.{AnalyseOptions}
 use Rattle.lra_words.specs.declared.chosen.Command.{Command}
 use Rattle.lra_words.specs.declared.chosen.Command.TheVariants.{Analyse, Sample, Calc}
 use Rattle.lra_words.proofs.OneCommand.{asks_not_none}
-use Rattle.lra_top.specs.Answer.{limit, too_long_text, syntax_text, IsTooLong, IsWithinLimit, IsFirstForm, RefusesLength, IsRefusal, IsReport, DeservesSource}
-use Rattle.lra_top.specs.Run.{IsInput, options_of, usage_text, DeservesScript, DeservesInput, Deserves, IsDeserved, EndsInUsage, EndsInRefusal, EndsInReport, EndsInOutput, IsReportOrMemory, IsOutputOrMemory}
+use Rattle.lra_top.specs.SourceAnswer.{limit, IsTooLong, IsWithinLimit, IsFirstForm}
+use Rattle.lra_top.specs.Ends.{IsAnswer, EndsInUsage, EndsInRefusal, EndsInReport, EndsInOutput, IsReportOrMemory, IsOutputOrMemory}
+use Rattle.lra_top.specs.Run.{IsInput, options_of, usage_text, DeservesInput, Deserves, IsDeserved}
 use Rattle.lra_top.specs.Prepared.{IsInputText}
-use Rattle.lra_top.specs.Views.{form_of, places_of}
-use Rattle.lra_top.specs.Shown.{tree_report, IsReportStatus, ReportsTree}
-use Rattle.lra_top.specs.declared.tree.SourceTree.{SourceTree}
+use Rattle.lra_top.proofs.SourceWays.{longer_source, source_answer, source_reported, source_too_long, source_other}
+use Rattle.lra_top.proofs.ScriptWays.{longer_script, too_long_answer, script_answer, script_refusal, script_output}
 use Rattle.lra_top.specs.declared.status.Status.{Status}
 use Rattle.lra_top.specs.declared.status.Status.TheVariants.{Proved, Unknown, Refused, Usage, ReadFault, WriteFault, Memory}
-use Rattle.lra_top.proofs.SoundReport.{reports}
 use Rattle.lra_top.proofs.OneText.{asked_input, one_text}
-
--- the bytes of a source ----------------------------------------------------------
-
-report_is : (o : Options) (bytes : List ℕ) (t : SourceTree) (text : List ℕ) (unknown : ℕ) → length bytes ≤ limit → IsSource bytes (form_of t) (places_of t)
-    → text ≡ report_text (tree_report o t) → unknown_count (tree_report o t).verdicts ≡ unknown → IsReport o bytes text unknown
-report_is o bytes t text unknown within source written counted = record {
-  within = within;
-  form = form_of t;
-  places = places_of t;
-  source = source;
-  report = tree_report o t;
-  claims = reports o t;
-  written = written;
-  counted = sym counted;
-}
-
-counted_tree : (o : Options) (bytes : List ℕ) (t : SourceTree) (text : List ℕ) (status : Status) → length bytes ≤ limit → IsSource bytes (form_of t) (places_of t)
-    → text ≡ report_text (tree_report o t) → IsReportStatus (unknown_count (tree_report o t).verdicts) status → DeservesSource o bytes text status
-counted_tree o bytes t text Proved within source written counted = report_is o bytes t text 0 within source written counted
-counted_tree o bytes t text Unknown within source written counted = (unknown_count (tree_report o t).verdicts, counted, report_is o bytes t text _ within source written refl)
-counted_tree o bytes t text Refused within source written counted = absurd counted
-counted_tree o bytes t text Usage within source written counted = counted
-counted_tree o bytes t text ReadFault within source written counted = counted
-counted_tree o bytes t text WriteFault within source written counted = counted
-counted_tree o bytes t text Memory within source written counted = counted
-
--- a source that was found deserves its tree's report
-pub deserves_tree : (o : Options) (bytes : List ℕ) (t : SourceTree) (text : List ℕ) (status : Status) → length bytes ≤ limit → IsSource bytes (form_of t) (places_of t)
-    → ReportsTree o t text status → DeservesSource o bytes text status
-deserves_tree o bytes t text status within source r = counted_tree o bytes t text status within source r.written r.counted
-
--- another source deserves the refusal
-pub deserves_syntax : (o : Options) (bytes text : List ℕ) (status : Status) → length bytes ≤ limit
-    → ((f : Form) (places : List Place) → IsSource bytes f places → ⊥)
-    → text ≡ syntax_text → status ≡ Refused → DeservesSource o bytes text status
-deserves_syntax o bytes text status within other e s =
-    rw s (inr (record { within = within; other = λ r. other r.form r.places r.source; written = e }))
 
 -- what was read ------------------------------------------------------------------
 
@@ -87,79 +40,6 @@ begun_input (Some left) (Some rest) bytes taken = (rest, taken)
 
 -- one byte past the limit says as much as the whole input --------------------------
 
-refuses_length : (bytes text : List ℕ) → limit < length bytes → length bytes ≤ limit + 1
-    → text ≡ too_long_text (place_after (take (length bytes - 1) bytes) first_place) → RefusesLength bytes text
-refuses_length bytes text long most written = record {
-  too_long = long;
-  place = place_after (take (length bytes - 1) bytes) first_place;
-  past = record {
-    front = take (length bytes - 1) bytes;
-    rest = drop (length bytes - 1) bytes;
-    split = sym (take-append-drop (length bytes - 1) bytes);
-    full = grind (arith, common_steps);
-    behind = refl;
-  };
-  written = written;
-}
-
--- a source of which one byte past the limit is given
-pub deserves_length : (o : Options) (bytes text : List ℕ) (status : Status) → limit < length bytes → length bytes ≤ limit + 1
-    → text ≡ too_long_text (place_after (take (length bytes - 1) bytes) first_place) → status ≡ Refused → DeservesSource o bytes text status
-deserves_length o bytes text status long most written s = rw s (inl (refuses_length bytes text long most written))
-
-pub ruleset deserving = (deserves_tree, deserves_syntax, deserves_length)
-
-more_refused : (bytes rest text : List ℕ) → RefusesLength bytes text → RefusesLength (bytes ++ rest) text
-more_refused bytes rest text r = record {
-  too_long = let long : limit < length bytes = r.too_long in grind (arith, common_steps);
-  place = r.place;
-  past = record {
-    front = r.past.front;
-    rest = r.past.rest ++ rest;
-    split = ap (λ (b : List ℕ). b ++ rest) r.past.split ∙ append_assoc r.past.front r.past.rest rest;
-    full = r.past.full;
-    behind = r.past.behind;
-  };
-  written = r.written;
-}
-
-longer_refusal : (bytes rest text : List ℕ) → limit < length bytes → IsRefusal bytes text → IsRefusal (bytes ++ rest) text
-longer_refusal bytes rest text long (inl r) = inl (more_refused bytes rest text r)
-longer_refusal bytes rest text long (inr r) = let within : length bytes ≤ limit = r.within in absurd (omega arith)
-
-longer_source : (o : Options) (bytes rest text : List ℕ) (status : Status) → limit < length bytes → DeservesSource o bytes text status → DeservesSource o (bytes ++ rest) text status
-longer_source o bytes rest text Proved long d = let within : length bytes ≤ limit = d.within in absurd (omega arith)
-longer_source o bytes rest text Unknown long d = let within : length bytes ≤ limit = d.2.within in absurd (omega arith)
-longer_source o bytes rest text Refused long d = longer_refusal bytes rest text long d
-longer_source o bytes rest text Usage long d = d
-longer_source o bytes rest text ReadFault long d = d
-longer_source o bytes rest text WriteFault long d = d
-longer_source o bytes rest text Memory long d = d
-
-past_limit : (bytes : List ℕ) → limit < length bytes → greatest_length < length bytes
-past_limit bytes long = rw limit_is long
-
-too_long_answer : (bytes : List ℕ) → limit < length bytes → script.answer_to bytes ≡ Err (script.TooLong (place_behind (take greatest_length bytes)))
-too_long_answer bytes long = answer_too_long greatest_length bytes refl (past_limit bytes long)
-
-same_answer : (bytes rest : List ℕ) → limit < length bytes → script.answer_to (bytes ++ rest) ≡ script.answer_to bytes
-same_answer bytes rest long =
-    let longer : limit < length (bytes ++ rest) = grind (arith, common_steps) in
-    let past : greatest_length < length bytes = past_limit bytes long in
-    let reached : greatest_length ≤ length bytes = omega arith in
-    too_long_answer (bytes ++ rest) longer
-    ∙ ap (λ (front : List ℕ). Err (script.TooLong (place_behind front))) (take-append-le greatest_length bytes rest reached)
-    ∙ sym (too_long_answer bytes long)
-
-longer_script : (bytes rest text : List ℕ) (status : Status) → limit < length bytes → DeservesScript bytes text status → DeservesScript (bytes ++ rest) text status
-longer_script bytes rest text Proved long d = same_answer bytes rest long ∙ d
-longer_script bytes rest text Unknown long d = d
-longer_script bytes rest text Refused long d = (d.0, same_answer bytes rest long ∙ d.1, d.2)
-longer_script bytes rest text Usage long d = d
-longer_script bytes rest text ReadFault long d = d
-longer_script bytes rest text WriteFault long d = d
-longer_script bytes rest text Memory long d = d
-
 longer_input : (c : Command) (bytes rest text : List ℕ) (status : Status) → limit < length bytes → DeservesInput c bytes text status → DeservesInput c (bytes ++ rest) text status
 longer_input (Analyse options) bytes rest text status long d = longer_source (options_of options) bytes rest text status long d
 longer_input (Sample seed size) bytes rest text status long d = d
@@ -177,34 +57,6 @@ too_long_input c old new bytes shown text status d same read past =
 pub ruleset reading = (whole_text, too_long_input)
 
 -- words ------------------------------------------------------------------------------
-
--- a text of a command's own
-abbrev pub IsAnswer : Status → Type 0
-IsAnswer Proved = Unit {0}
-IsAnswer Unknown = Unit {0}
-IsAnswer Refused = Unit {0}
-IsAnswer Usage = ⊥
-IsAnswer ReadFault = ⊥
-IsAnswer WriteFault = ⊥
-IsAnswer Memory = ⊥
-
-source_answer : (o : Options) (bytes text : List ℕ) (status : Status) → DeservesSource o bytes text status → IsAnswer status
-source_answer o bytes text Proved d = tt
-source_answer o bytes text Unknown d = tt
-source_answer o bytes text Refused d = tt
-source_answer o bytes text Usage d = d
-source_answer o bytes text ReadFault d = d
-source_answer o bytes text WriteFault d = d
-source_answer o bytes text Memory d = d
-
-script_answer : (bytes text : List ℕ) (status : Status) → DeservesScript bytes text status → IsAnswer status
-script_answer bytes text Proved d = tt
-script_answer bytes text Unknown d = tt
-script_answer bytes text Refused d = tt
-script_answer bytes text Usage d = d
-script_answer bytes text ReadFault d = d
-script_answer bytes text WriteFault d = d
-script_answer bytes text Memory d = d
 
 answer_of : (c : Command) (bytes text : List ℕ) (status : Status) → DeservesInput c bytes text status → IsAnswer status
 answer_of (Analyse options) bytes text status d = source_answer (options_of options) bytes text status d
@@ -260,46 +112,9 @@ usage_of words bytes text ReadFault d none = d
 usage_of words bytes text WriteFault d none = tt
 usage_of words bytes text Memory d none = tt
 
-refusal_of : (o : Options) (bytes text : List ℕ) (status : Status) → DeservesSource o bytes text status → ((n : ℕ) → IsReport o bytes text n → ⊥) → EndsInRefusal status
-refusal_of o bytes text Proved d none = none 0 d
-refusal_of o bytes text Unknown d none = none d.0 d.2
-refusal_of o bytes text Refused d none = tt
-refusal_of o bytes text Usage d none = d
-refusal_of o bytes text ReadFault d none = tt
-refusal_of o bytes text WriteFault d none = tt
-refusal_of o bytes text Memory d none = tt
-
-report_of : (o : Options) (bytes text : List ℕ) (status : Status) → DeservesSource o bytes text status → length bytes ≤ limit → IsFirstForm bytes → EndsInReport status
-report_of o bytes text Proved d within form = tt
-report_of o bytes text Unknown d within form = tt
-report_of o bytes text Refused (inl r) within form = let past : limit < length bytes = r.too_long in absurd (omega arith)
-report_of o bytes text Refused (inr r) within form = r.other form
-report_of o bytes text Usage d within form = d
-report_of o bytes text ReadFault d within form = tt
-report_of o bytes text WriteFault d within form = tt
-report_of o bytes text Memory d within form = tt
-
-script_refusal : (bytes text : List ℕ) (status : Status) (r : script.Refusal) → DeservesScript bytes text status → script.answer_to bytes ≡ Err r → EndsInRefusal status
-script_refusal bytes text Proved r d e = let wrong : Ok text ≡ Err r = sym d ∙ e in cc
-script_refusal bytes text Unknown r d e = d
-script_refusal bytes text Refused r d e = tt
-script_refusal bytes text Usage r d e = d
-script_refusal bytes text ReadFault r d e = tt
-script_refusal bytes text WriteFault r d e = tt
-script_refusal bytes text Memory r d e = tt
-
-script_output : (bytes text : List ℕ) (status : Status) (output : List ℕ) → DeservesScript bytes text status → script.answer_to bytes ≡ Ok output → EndsInOutput status
-script_output bytes text Proved output d e = tt
-script_output bytes text Unknown output d e = d
-script_output bytes text Refused output d e = let wrong : Ok output ≡ Err d.0 = sym e ∙ d.1 in cc
-script_output bytes text Usage output d e = d
-script_output bytes text ReadFault output d e = tt
-script_output bytes text WriteFault output d e = tt
-script_output bytes text Memory output d e = tt
-
 too_long_of : (c : Command) (bytes text : List ℕ) (status : Status) → DeservesInput c bytes text status → IsTooLong bytes → EndsInRefusal status
 too_long_of (Analyse options) bytes text status d long =
-    refusal_of (options_of options) bytes text status d (λ n r. let within : length bytes ≤ limit = r.within in let past : limit < length bytes = long in omega arith)
+    source_too_long (options_of options) bytes text status d long
 too_long_of (Sample seed size) bytes text status d long = absurd d
 too_long_of Calc bytes text status d long = script_refusal bytes text status _ d (too_long_answer bytes long)
 
@@ -324,13 +139,12 @@ too_long_status words left text status told c d asks tells long = too_long_of c 
 pub other_status : (words : List (List ℕ)) (left : Option (List ℕ)) (text : List ℕ) (status : Status) (told : List ℕ) (options : AnalyseOptions) → IsDeserved words left text status
     → Asks words (Analyse options) → left ≡ Some told → (IsFirstForm told → ⊥) → EndsInRefusal status
 other_status words left text status told options d asks tells other =
-    refusal_of (options_of options) told text status (told_input words left text status told (Analyse options) d asks tells)
-    (λ n r. other (record { form = r.form; places = r.places; source = r.source }))
+    source_other (options_of options) told text status (told_input words left text status told (Analyse options) d asks tells) other
 
 pub source_status : (words : List (List ℕ)) (left : Option (List ℕ)) (text : List ℕ) (status : Status) (told : List ℕ) (options : AnalyseOptions)
     → IsDeserved words left text status → Asks words (Analyse options) → left ≡ Some told → IsWithinLimit told → IsFirstForm told → EndsInReport status
 source_status words left text status told options d asks tells within form =
-    report_of (options_of options) told text status (told_input words left text status told (Analyse options) d asks tells) within form
+    source_reported (options_of options) told text status (told_input words left text status told (Analyse options) d asks tells) within form
 
 pub script_refused_status : (words : List (List ℕ)) (left : Option (List ℕ)) (text : List ℕ) (status : Status) (told : List ℕ) (r : script.Refusal)
     → IsDeserved words left text status → Asks words Calc → left ≡ Some told → script.answer_to told ≡ Err r → EndsInRefusal status
@@ -377,4 +191,3 @@ no_room words left text other a b spare told d longer e fits tells =
     let texts : text ≡ other = one_text words d.bytes text other a b d.deserved here in
     let short : length text ≤ spare = rw texts fits in
     omega arith
-

@@ -4,8 +4,10 @@ pub mod FirstForm
 pub mod FirstProgram
 pub mod Interval
 pub mod Claims
-pub mod Answer
+pub mod SourceAnswer
+pub mod ScriptAnswer
 pub mod Run
+pub mod Ends
 pub mod Exit
 pub mod Views
 pub mod Boxes

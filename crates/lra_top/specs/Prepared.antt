@@ -4,7 +4,7 @@ use Rattle.lra_edge.specs.Causes.{Rose}
 use Rattle.lra_words.specs.declared.chosen.Command.{Command}
 use Rattle.lra_top.specs.Run.{IsInput, DeservesInput}
 use Rattle.lra_top.specs.declared.status.Status.{Status}
-use Rattle.lra_top.specs.declared.top_call.Answer.{Answer}
+use Rattle.lra_top.specs.declared.answer.Answer.{Answer}
 use Rattle.lra_top.specs.declared.top_call.NoAnswer.{NoAnswer}
 use Rattle.lra_top.specs.declared.top_call.NoAnswer.TheVariants as none
 

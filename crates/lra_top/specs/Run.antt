@@ -1,17 +1,17 @@
 -- What a call of `run` does, by its status.
-use Rattle.std.specs.Prelude.{◌≡◌, ◌<◌, ◌⊎◌, ◌+◌, ℕ, List, length, codes, Option, Some, None, Result, Ok, Err}
+use Rattle.std.specs.Prelude.{◌≡◌, ◌<◌, ◌⊎◌, ◌+◌, ℕ, List, length, codes, Option, Some, None}
 use Rattle.std.specs.Io.KnownBytes.{Appends, Consumes, IsAtEnd}
 use Rattle.lra_edge.specs.Causes.{AppendsPart}
 use Rattle.lra_tree.specs.Report as report
 use Rattle.lra_tree.specs.ReportText.{text_line}
-use Rattle.lra_calc.specs.Script as script
 use Rattle.lra_words.specs.Built.{Asks, AsksNone}
 use Rattle.lra_words.specs.declared.chosen.AnalyseOptions.{AnalyseOptions}
 use Rattle.lra_words.specs.declared.chosen.Command.{Command}
 use Rattle.lra_words.specs.declared.chosen.Command.TheVariants.{Analyse, Sample, Calc}
 use Rattle.lra_words.specs.declared.chosen.Domain.{Domain}
 use Rattle.lra_words.specs.declared.chosen.Domain.TheVariants.{Poly, Box, Oct}
-use Rattle.lra_top.specs.Answer.{DeservesSource, limit}
+use Rattle.lra_top.specs.SourceAnswer.{DeservesSource, limit}
+use Rattle.lra_top.specs.ScriptAnswer.{DeservesScript}
 use Rattle.lra_top.specs.declared.status.Status.{Status}
 use Rattle.lra_top.specs.declared.status.Status.TheVariants.{Proved, Unknown, Refused, Usage, ReadFault, WriteFault, Memory}
 
@@ -28,16 +28,6 @@ domain_of Oct = report.oct
 
 abbrev pub options_of : AnalyseOptions → report.Options
 options_of o = record { domain = domain_of o.domain; parts = o.parts; delay = o.delay; narrow = o.narrow; limited = o.limited }
-
--- the text and the status that a script deserves: what it writes, or its refusal
-abbrev pub DeservesScript : List ℕ → List ℕ → Status → Type 0
-DeservesScript bytes text Proved = script.answer_to bytes ≡ Ok text
-DeservesScript bytes text Unknown = ⊥
-DeservesScript bytes text Refused = (r : script.Refusal) × (script.answer_to bytes ≡ Err r) × (text ≡ script.refused_text r)
-DeservesScript bytes text Usage = ⊥
-DeservesScript bytes text ReadFault = ⊥
-DeservesScript bytes text WriteFault = ⊥
-DeservesScript bytes text Memory = ⊥
 
 -- the text and the status that the input of a command deserves
 abbrev pub DeservesInput : Command → List ℕ → List ℕ → Status → Type 0
@@ -89,63 +79,3 @@ pub record ReadsInput (old new : Option (List ℕ)) : Type 0 where
   pub bytes : List ℕ
   pub taken : Consumes old new bytes
   pub whole : IsAtEnd new ⊎ (length bytes ≡ limit + 1)
-
--- `refused usage` is the text, if there is one
-abbrev pub EndsInUsage : Status → Type 0
-EndsInUsage Proved = ⊥
-EndsInUsage Unknown = ⊥
-EndsInUsage Refused = ⊥
-EndsInUsage Usage = Unit {0}
-EndsInUsage ReadFault = ⊥
-EndsInUsage WriteFault = Unit {0}
-EndsInUsage Memory = Unit {0}
-
--- a refusal of the input is the text, if there is one
-abbrev pub EndsInRefusal : Status → Type 0
-EndsInRefusal Proved = ⊥
-EndsInRefusal Unknown = ⊥
-EndsInRefusal Refused = Unit {0}
-EndsInRefusal Usage = ⊥
-EndsInRefusal ReadFault = Unit {0}
-EndsInRefusal WriteFault = Unit {0}
-EndsInRefusal Memory = Unit {0}
-
--- a report is the text, if there is one
-abbrev pub EndsInReport : Status → Type 0
-EndsInReport Proved = Unit {0}
-EndsInReport Unknown = Unit {0}
-EndsInReport Refused = ⊥
-EndsInReport Usage = ⊥
-EndsInReport ReadFault = Unit {0}
-EndsInReport WriteFault = Unit {0}
-EndsInReport Memory = Unit {0}
-
--- the output of a script that ran whole is the text, if there is one
-abbrev pub EndsInOutput : Status → Type 0
-EndsInOutput Proved = Unit {0}
-EndsInOutput Unknown = ⊥
-EndsInOutput Refused = ⊥
-EndsInOutput Usage = ⊥
-EndsInOutput ReadFault = Unit {0}
-EndsInOutput WriteFault = Unit {0}
-EndsInOutput Memory = Unit {0}
-
--- a script's output is written, or memory is wanting
-abbrev pub IsOutputOrMemory : Status → Type 0
-IsOutputOrMemory Proved = Unit {0}
-IsOutputOrMemory Unknown = ⊥
-IsOutputOrMemory Refused = ⊥
-IsOutputOrMemory Usage = ⊥
-IsOutputOrMemory ReadFault = ⊥
-IsOutputOrMemory WriteFault = ⊥
-IsOutputOrMemory Memory = Unit {0}
-
--- a report is written, or memory is wanting
-abbrev pub IsReportOrMemory : Status → Type 0
-IsReportOrMemory Proved = Unit {0}
-IsReportOrMemory Unknown = Unit {0}
-IsReportOrMemory Refused = ⊥
-IsReportOrMemory Usage = ⊥
-IsReportOrMemory ReadFault = ⊥
-IsReportOrMemory WriteFault = ⊥
-IsReportOrMemory Memory = Unit {0}

@@ -2,9 +2,11 @@
 #![tactic(auto)]
 
 mod analysis;
+mod answer;
 mod lexer;
 mod parser;
 mod report;
+mod source_answer;
 mod state;
 mod status;
 mod top_call;

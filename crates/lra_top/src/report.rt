@@ -13,9 +13,8 @@ use lra_box::Boxes;
 use lra_domain::Domain;
 use lra_row::Row;
 use lra_show::{Names, row_text};
-use lra_words::AnalyseOptions;
-use lra_words::Domain as DomainName;
 use lra_sys::{ConKind, ConSys};
+use lra_words::{AnalyseOptions, Domain as DomainName};
 use std::alloc::{AllocError, Global};
 use std::fmt;
 

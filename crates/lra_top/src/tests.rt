@@ -148,11 +148,27 @@ fn options_are_written(rt: HostRuntime) -> Result<(), Fail> {
             "parts 1 delay 0 narrow 1 limited no",
         ),
         (
-            &["lra", "analyse", "--domain", "box", "--narrow=4", "--delay=8"],
+            &[
+                "lra",
+                "analyse",
+                "--domain",
+                "box",
+                "--narrow=4",
+                "--delay=8",
+            ],
             "parts 1 delay 8 narrow 4 limited no",
         ),
         (
-            &["lra", "analyse", "--limited", "--domain", "box", "--parts", "1", "--"],
+            &[
+                "lra",
+                "analyse",
+                "--limited",
+                "--domain",
+                "box",
+                "--parts",
+                "1",
+                "--",
+            ],
             "parts 1 delay 1 narrow 1 limited yes",
         ),
     ];
@@ -190,11 +206,7 @@ fn scripts_are_run(rt: HostRuntime) -> Result<(), Fail> {
             Status::Refused,
             "refused line 4 UnknownName Z\n",
         ),
-        (
-            "con P\n",
-            Status::Refused,
-            "refused line 1 BadLine\n",
-        ),
+        ("con P\n", Status::Refused, "refused line 1 BadLine\n"),
     ];
     for (script, status, text) in rows {
         let ended = ends(&rt, &CALC, script.as_bytes(), (&[], &[]), text)?;

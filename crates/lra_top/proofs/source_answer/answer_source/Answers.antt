@@ -1,8 +1,8 @@
 use Rattle.std.proofs.Common.{◌≤◌, length, arith, Err, ap}
-use Rattle.lra_top.specs.Answer.{limit}
+use Rattle.lra_top.specs.SourceAnswer.{limit}
 use Rattle.lra_top.specs.Run.{options_of}
-use Rattle.lra_top.proofs.Ways.{deserves_syntax}
-use Rattle.lra_top.proofs.top_call.answer_source.Goals as goal
+use Rattle.lra_top.proofs.SourceWays.{deserves_syntax}
+use Rattle.lra_top.proofs.source_answer.answer_source.Goals as goal
 
 pub returns-in_ok-refuse_syntax-in-Err-NotThisForm : goal.returns-in_ok-refuse_syntax-in-Err-NotThisForm
 returns-in_ok-refuse_syntax-in-Err-NotThisForm c =
