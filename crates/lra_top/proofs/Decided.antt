@@ -7,9 +7,7 @@ use Rattle.std.specs.List.{AllByRecursion}
 use Rattle.lra_tree.specs.Report.{RowHolds, Holds}
 use Rattle.lra_top.specs.FirstForm.{Simple, Set, Check}
 use Rattle.lra_top.specs.Claims.{AllowsBelow}
-use Rattle.lra_top.specs.declared.interval.State.{State}
-use Rattle.lra_top.specs.declared.interval.State.TheVariants.{Unreachable, Within}
-use Rattle.lra_top.specs.Interval.{raised, between, after, proves, is_at_least, Allows, LowAllows, HighAllows, low_row, high_row, equal_row, rows_of, printed}
+use Rattle.lra_top.specs.Interval.{State, Unreachable, Within, raised, between, after, proves, is_at_least, Allows, LowAllows, HighAllows, low_row, high_row, equal_row, rows_of, printed}
 use Rattle.lra_top.proofs.Sound.{Tail, first, further, state_holds, proved_passes}
 
 -- the bounds have not passed each other --------------------------------------------
@@ -37,7 +35,7 @@ after_proper Unreachable s = tt
 after_proper (Within i) (Set n) = omega arith
 after_proper (Within i) (Check n) = between_proper (raised i.low n) i.high
 
-tail_proper : {statements rest : List Simple} {k : ℕ} {v : State} → Tail statements k v rest → IsProper v
+pub tail_proper : {statements rest : List Simple} {k : ℕ} {v : State} → Tail statements k v rest → IsProper v
 tail_proper first = tt
 tail_proper (further {v = v} {s = s} t) = after_proper v s
 

@@ -1,9 +1,10 @@
-pub mod WordSteps
 pub mod Texts
+pub mod BoxSteps
+pub mod Rows
 pub mod Sound
 pub mod Decided
+pub mod BoxStates
 pub mod SoundReport
-pub mod Ways
 pub mod LexSteps
 pub mod Literals
 pub mod Names
@@ -17,4 +18,8 @@ pub mod FormLexemes
 pub mod Joined
 pub mod OneSource
 pub mod FirstFormExamples
+pub mod OneSourceText
+pub mod SourceWays
+pub mod ScriptWays
 pub mod OneText
+pub mod Ways

@@ -12,9 +12,7 @@ use Rattle.lra_tree.specs.Report.{RowHolds, Holds}
 use Rattle.lra_top.specs.FirstForm.{Simple, Set, Check}
 use Rattle.lra_top.specs.FirstProgram.{statement_of, statements_from, the_declarator, program_of}
 use Rattle.lra_top.specs.Claims.{main_point}
-use Rattle.lra_top.specs.declared.interval.State.{State}
-use Rattle.lra_top.specs.declared.interval.State.TheVariants.{Unreachable, Within}
-use Rattle.lra_top.specs.Interval.{unbounded, raised, between, after, proves, is_at_least, Allows, LowAllows, HighAllows, low_row, high_row, equal_row, rows_of, printed}
+use Rattle.lra_top.specs.Interval.{State, Unreachable, Within, unbounded, raised, between, after, proves, is_at_least, Allows, LowAllows, HighAllows, low_row, high_row, equal_row, rows_of, printed}
 
 -- states ------------------------------------------------------------------------
 

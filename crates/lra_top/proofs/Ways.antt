@@ -1,62 +1,22 @@
--- From what a source deserves to what a call of `run` does.
-use Rattle.std.proofs.Common.{◌∙◌, ◌≡◌, ◌≤◌, ◌<◌, ◌+◌, ◌-◌, ℕ, List, [], ◌++◌, length, take, drop, inl, inr, refl, sym, arith, append_assoc, append-nil, subst}
-use Rattle.std.specs.Prelude.{Option, Some, None}
+-- From what words and their input deserve to what a call of `run` does.
+use Rattle.std.proofs.Common.{◌∙◌, ◌≡◌, ◌≤◌, ◌<◌, ◌+◌, ℕ, List, [], ◌++◌, length, refl, sym, arith, append-nil, subst}
+use Rattle.std.specs.Prelude.{Option, Some, None, Ok, Err}
 use Rattle.std.specs.Io.KnownBytes.{Consumes, IsAtEnd}
-use Rattle.std.proofs.lemmas.Grind.{common_steps}
-use Rattle.std.proofs.lemmas.List.{take-append-drop}
-use Rattle.lra_tree.specs.declared.refusals.Place.{Place}
-use Rattle.lra_tree.specs.ReportText.{report_text, unknown_count}
-use Rattle.lra_top.specs.FirstForm.{Form, IsSource, place_after, first_place}
-use Rattle.lra_top.specs.Answer.{limit, usage_text, too_long_text, syntax_text, IsTooLong, IsWithinLimit, IsFirstForm, RefusesLength, IsReport}
-use Rattle.lra_top.specs.Words.{IsAnalyseBox}
-use Rattle.lra_top.specs.Run.{IsInput, Deserves, IsDeserved, EndsInUsage, EndsInRefusal, EndsInReport, IsReportOrMemory}
-use Rattle.lra_top.specs.Prepared.{DeservesSource, IsSourceText}
-use Rattle.lra_top.specs.Views.{form_of, places_of}
-use Rattle.lra_top.specs.Shown.{tree_report, IsReportStatus, ReportsTree}
-use Rattle.lra_top.specs.declared.tree.SourceTree.{SourceTree}
+use Rattle.lra_calc.specs.Script as script
+use Rattle.lra_words.specs.Built.{Asks, AsksNone, AsksFor}
+use Rattle.lra_words.specs.declared.chosen.AnalyseOptions.{AnalyseOptions}
+use Rattle.lra_words.specs.declared.chosen.Command.{Command}
+use Rattle.lra_words.specs.declared.chosen.Command.TheVariants.{Analyse, Sample, Calc}
+use Rattle.lra_words.proofs.OneCommand.{asks_not_none}
+use Rattle.lra_top.specs.SourceAnswer.{limit, IsTooLong, IsWithinLimit, IsFirstForm}
+use Rattle.lra_top.specs.Ends.{IsAnswer, EndsInUsage, EndsInRefusal, EndsInReport, EndsInOutput, IsReportOrMemory, IsOutputOrMemory}
+use Rattle.lra_top.specs.Run.{IsInput, options_of, usage_text, DeservesInput, Deserves, IsDeserved}
+use Rattle.lra_top.specs.Prepared.{IsInputText}
+use Rattle.lra_top.proofs.SourceWays.{longer_source, source_answer, source_reported, source_too_long, source_other}
+use Rattle.lra_top.proofs.ScriptWays.{longer_script, too_long_answer, script_answer, script_refusal, script_output}
 use Rattle.lra_top.specs.declared.status.Status.{Status}
 use Rattle.lra_top.specs.declared.status.Status.TheVariants.{Proved, Unknown, Refused, Usage, ReadFault, WriteFault, Memory}
-use Rattle.lra_top.proofs.SoundReport.{reports}
-use Rattle.lra_top.proofs.OneText.{one_text}
-
--- the bytes of a source ----------------------------------------------------------
-
-report_is : (bytes : List ℕ) (t : SourceTree) (text : List ℕ) (unknown : ℕ) → length bytes ≤ limit → IsSource bytes (form_of t) (places_of t)
-    → text ≡ report_text (tree_report t) → unknown_count (tree_report t).verdicts ≡ unknown → IsReport bytes text unknown
-report_is bytes t text unknown within source written counted = record {
-  within = within;
-  form = form_of t;
-  places = places_of t;
-  source = source;
-  report = tree_report t;
-  claims = reports t;
-  written = written;
-  counted = sym counted;
-}
-
-counted_tree : (bytes : List ℕ) (t : SourceTree) (text : List ℕ) (status : Status) → length bytes ≤ limit → IsSource bytes (form_of t) (places_of t)
-    → text ≡ report_text (tree_report t) → IsReportStatus (unknown_count (tree_report t).verdicts) status → DeservesSource bytes text status
-counted_tree bytes t text Proved within source written counted = report_is bytes t text 0 within source written counted
-counted_tree bytes t text Unknown within source written counted = (unknown_count (tree_report t).verdicts, counted, report_is bytes t text _ within source written refl)
-counted_tree bytes t text Refused within source written counted = absurd counted
-counted_tree bytes t text Usage within source written counted = counted
-counted_tree bytes t text ReadFault within source written counted = counted
-counted_tree bytes t text WriteFault within source written counted = counted
-counted_tree bytes t text Memory within source written counted = counted
-
--- a source that was found deserves its tree's report
-pub deserves_tree : (bytes : List ℕ) (t : SourceTree) (text : List ℕ) (status : Status) → length bytes ≤ limit → IsSource bytes (form_of t) (places_of t)
-    → ReportsTree t text status → DeservesSource bytes text status
-deserves_tree bytes t text status within source r = counted_tree bytes t text status within source r.written r.counted
-
--- another source deserves the refusal
-pub deserves_syntax : (bytes text : List ℕ) (status : Status) → length bytes ≤ limit
-    → ((f : Form) (places : List Place) → IsSource bytes f places → ⊥)
-    → text ≡ syntax_text → status ≡ Refused → DeservesSource bytes text status
-deserves_syntax bytes text status within other e s =
-    rw s (inr (record { within = within; other = λ r. other r.form r.places r.source; written = e }))
-
-pub ruleset deserving = (deserves_tree, deserves_syntax)
+use Rattle.lra_top.proofs.OneText.{asked_input, one_text}
 
 -- what was read ------------------------------------------------------------------
 
@@ -66,10 +26,10 @@ whole_input None new bytes taken end = tt
 whole_input (Some left) None bytes taken end = absurd taken
 whole_input (Some left) (Some rest) bytes taken end = rw taken (rw end (append-nil bytes))
 
--- a source that was read whole
-pub whole_text : (old new : Option (List ℕ)) (bytes shown text : List ℕ) (status : Status)
-    → DeservesSource shown text status → shown ≡ bytes → Consumes old new bytes → IsAtEnd new → IsSourceText old text status
-whole_text old new bytes shown text status d same read end =
+-- an input that was read whole
+pub whole_text : (c : Command) (old new : Option (List ℕ)) (bytes shown text : List ℕ) (status : Status)
+    → DeservesInput c shown text status → shown ≡ bytes → Consumes old new bytes → IsAtEnd new → IsInputText c old text status
+whole_text c old new bytes shown text status d same read end =
     record { bytes = shown; input = rw same (whole_input old new bytes read end); deserved = d }
 
 -- an input that begins with bytes that were read
@@ -78,122 +38,135 @@ begun_input None new bytes taken = ([], tt)
 begun_input (Some left) None bytes taken = absurd taken
 begun_input (Some left) (Some rest) bytes taken = (rest, taken)
 
-refuses_length : (bytes rest text : List ℕ) → length bytes ≡ limit + 1
-    → text ≡ too_long_text (place_after (take (length bytes - 1) bytes) first_place) → RefusesLength (bytes ++ rest) text
-refuses_length bytes rest text past written = record {
-  too_long = grind (arith, common_steps);
-  place = place_after (take (length bytes - 1) bytes) first_place;
-  past = record {
-    front = take (length bytes - 1) bytes;
-    rest = drop (length bytes - 1) bytes ++ rest;
-    split = rw (← append_assoc (take (length bytes - 1) bytes) (drop (length bytes - 1) bytes) rest, take-append-drop (length bytes - 1) bytes) refl;
-    full = grind (arith, common_steps);
-    behind = refl;
-  };
-  written = written;
-}
+-- one byte past the limit says as much as the whole input --------------------------
 
--- a source of which one byte past the limit was read
-pub too_long_source : (old new : Option (List ℕ)) (bytes text : List ℕ) (status : Status)
-    → Consumes old new bytes → length bytes ≡ limit + 1
-    → text ≡ too_long_text (place_after (take (length bytes - 1) bytes) first_place) → status ≡ Refused → IsSourceText old text status
-too_long_source old new bytes text status read past written s =
+longer_input : (c : Command) (bytes rest text : List ℕ) (status : Status) → limit < length bytes → DeservesInput c bytes text status → DeservesInput c (bytes ++ rest) text status
+longer_input (Analyse options) bytes rest text status long d = longer_source (options_of options) bytes rest text status long d
+longer_input (Sample seed size) bytes rest text status long d = d
+longer_input Calc bytes rest text status long d = longer_script bytes rest text status long d
+
+-- an input of which one byte past the limit was read
+pub too_long_input : (c : Command) (old new : Option (List ℕ)) (bytes shown text : List ℕ) (status : Status)
+    → DeservesInput c shown text status → shown ≡ bytes → Consumes old new bytes → length bytes ≡ limit + 1 → IsInputText c old text status
+too_long_input c old new bytes shown text status d same read past =
     let (rest, input) = begun_input old new bytes read in
-    rw s (record { bytes = bytes ++ rest; input = input; deserved = inl (refuses_length bytes rest text past written) })
+    let long : limit < length bytes = omega arith in
+    let here : DeservesInput c bytes text status = subst (λ b. DeservesInput c b text status) same d in
+    record { bytes = bytes ++ rest; input = input; deserved = longer_input c bytes rest text status long here }
 
-pub ruleset reading = (whole_text, too_long_source)
+pub ruleset reading = (whole_text, too_long_input)
 
 -- words ------------------------------------------------------------------------------
 
-deserves_taken : (words : List (List ℕ)) (bytes text : List ℕ) (status : Status) → IsAnalyseBox words → DeservesSource bytes text status → Deserves words bytes text status
-deserves_taken words bytes text Proved taken d = (taken, d)
-deserves_taken words bytes text Unknown taken d = (taken, d)
-deserves_taken words bytes text Refused taken d = (taken, d)
-deserves_taken words bytes text Usage taken d = absurd d
-deserves_taken words bytes text ReadFault taken d = d
-deserves_taken words bytes text WriteFault taken d = d
-deserves_taken words bytes text Memory taken d = d
+answer_of : (c : Command) (bytes text : List ℕ) (status : Status) → DeservesInput c bytes text status → IsAnswer status
+answer_of (Analyse options) bytes text status d = source_answer (options_of options) bytes text status d
+answer_of (Sample seed size) bytes text status d = absurd d
+answer_of Calc bytes text status d = script_answer bytes text status d
 
--- words that are taken
-pub deserved_taken : (words : List (List ℕ)) (left : Option (List ℕ)) (text : List ℕ) (status : Status)
-    → IsAnalyseBox words → IsSourceText left text status → IsDeserved words left text status
-deserved_taken words left text status taken d = record {
+command_deserves : (words : List (List ℕ)) (bytes text : List ℕ) (status : Status) (c : Command) → Asks words c → IsAnswer status → DeservesInput c bytes text status
+    → Deserves words bytes text status
+command_deserves words bytes text Proved c asks answer d = record { command = c; asked = asks; deserved = d }
+command_deserves words bytes text Unknown c asks answer d = record { command = c; asked = asks; deserved = d }
+command_deserves words bytes text Refused c asks answer d = record { command = c; asked = asks; deserved = d }
+command_deserves words bytes text Usage c asks answer d = absurd answer
+command_deserves words bytes text ReadFault c asks answer d = answer
+command_deserves words bytes text WriteFault c asks answer d = answer
+command_deserves words bytes text Memory c asks answer d = answer
+
+-- words that ask for a command
+pub deserved_asked : (words : List (List ℕ)) (left : Option (List ℕ)) (text : List ℕ) (status : Status) (c : Command)
+    → Asks words c → IsInputText c left text status → IsDeserved words left text status
+deserved_asked words left text status c asks d = record {
   bytes = d.bytes;
   input = d.input;
-  deserved = deserves_taken words d.bytes text status taken d.deserved;
+  deserved = command_deserves words d.bytes text status c asks (answer_of c d.bytes text status d.deserved) d.deserved;
 }
+
+pub some_asked : (words : List (List ℕ)) (asked : Option Command) (c : Command) → AsksFor words asked → asked ≡ Some c → AsksNone words → ⊥
+some_asked words asked c asks is none = let h : Asks words c = subst (AsksFor words) is asks in asks_not_none words c h none
+
+pub none_asked : (words : List (List ℕ)) (asked : Option Command) → AsksFor words asked → asked ≡ None → AsksNone words
+none_asked words asked asks is = let h : AsksNone words = subst (AsksFor words) is asks in h
 
 some_input : (left : Option (List ℕ)) → (bytes : List ℕ) × IsInput left bytes
 some_input None = ([], tt)
 some_input (Some left) = (left, refl)
 
--- words that aren't taken
+-- words that ask for none
 pub deserved_usage : (words : List (List ℕ)) (left : Option (List ℕ)) (text : List ℕ) (status : Status)
-    → (IsAnalyseBox words → ⊥) → text ≡ usage_text → status ≡ Usage → IsDeserved words left text status
-deserved_usage words left text status other written s =
+    → AsksNone words → text ≡ usage_text → status ≡ Usage → IsDeserved words left text status
+deserved_usage words left text status none written s =
     let (bytes, input) = some_input left in
-    rw s (record { bytes = bytes; input = input; deserved = (other, written) })
+    rw s (record { bytes = bytes; input = input; deserved = (none, written) })
 
-pub ruleset preparing = (deserved_taken, deserved_usage)
+pub ruleset preparing = (deserved_asked, deserved_usage)
 
 -- what is deserved decides the status -----------------------------------------------
 
-usage_of : (words : List (List ℕ)) (bytes text : List ℕ) (status : Status) → Deserves words bytes text status → (IsAnalyseBox words → ⊥) → EndsInUsage status
-usage_of words bytes text Proved d other = other d.0
-usage_of words bytes text Unknown d other = other d.0
-usage_of words bytes text Refused d other = other d.0
-usage_of words bytes text Usage d other = tt
-usage_of words bytes text ReadFault d other = d
-usage_of words bytes text WriteFault d other = tt
-usage_of words bytes text Memory d other = tt
+usage_of : (words : List (List ℕ)) (bytes text : List ℕ) (status : Status) → Deserves words bytes text status → AsksNone words → EndsInUsage status
+usage_of words bytes text Proved d none = absurd (asks_not_none words d.command d.asked none)
+usage_of words bytes text Unknown d none = absurd (asks_not_none words d.command d.asked none)
+usage_of words bytes text Refused d none = absurd (asks_not_none words d.command d.asked none)
+usage_of words bytes text Usage d none = tt
+usage_of words bytes text ReadFault d none = d
+usage_of words bytes text WriteFault d none = tt
+usage_of words bytes text Memory d none = tt
 
-refusal_of : (words : List (List ℕ)) (bytes text : List ℕ) (status : Status) → Deserves words bytes text status → IsAnalyseBox words
-    → ((n : ℕ) → IsReport bytes text n → ⊥) → EndsInRefusal status
-refusal_of words bytes text Proved d taken none = none 0 d.1
-refusal_of words bytes text Unknown d taken none = none d.1.0 d.1.2
-refusal_of words bytes text Refused d taken none = tt
-refusal_of words bytes text Usage d taken none = d.0 taken
-refusal_of words bytes text ReadFault d taken none = tt
-refusal_of words bytes text WriteFault d taken none = tt
-refusal_of words bytes text Memory d taken none = tt
-
-report_of : (words : List (List ℕ)) (bytes text : List ℕ) (status : Status) → Deserves words bytes text status → IsAnalyseBox words
-    → length bytes ≤ limit → IsFirstForm bytes → EndsInReport status
-report_of words bytes text Proved d taken within form = tt
-report_of words bytes text Unknown d taken within form = tt
-report_of words bytes text Refused (w, inl r) taken within form = let past : limit < length bytes = r.too_long in absurd (omega arith)
-report_of words bytes text Refused (w, inr r) taken within form = r.other form
-report_of words bytes text Usage d taken within form = d.0 taken
-report_of words bytes text ReadFault d taken within form = tt
-report_of words bytes text WriteFault d taken within form = tt
-report_of words bytes text Memory d taken within form = tt
+too_long_of : (c : Command) (bytes text : List ℕ) (status : Status) → DeservesInput c bytes text status → IsTooLong bytes → EndsInRefusal status
+too_long_of (Analyse options) bytes text status d long =
+    source_too_long (options_of options) bytes text status d long
+too_long_of (Sample seed size) bytes text status d long = absurd d
+too_long_of Calc bytes text status d long = script_refusal bytes text status _ d (too_long_answer bytes long)
 
 -- the input that tells its bytes is these bytes
 the_input : (left : Option (List ℕ)) (bytes told : List ℕ) → IsInput left bytes → left ≡ Some told → told ≡ bytes
 the_input left bytes told input e = let h : IsInput (Some told) bytes = subst (λ o. IsInput o bytes) e input in h
 
-pub untaken_status : (words : List (List ℕ)) (left : Option (List ℕ)) (text : List ℕ) (status : Status) → IsDeserved words left text status
-    → (IsAnalyseBox words → ⊥) → EndsInUsage status
-untaken_status words left text status d other = usage_of words d.bytes text status d.deserved other
+-- what the told bytes deserve
+told_input : (words : List (List ℕ)) (left : Option (List ℕ)) (text : List ℕ) (status : Status) (told : List ℕ) (c : Command)
+    → IsDeserved words left text status → Asks words c → left ≡ Some told → DeservesInput c told text status
+told_input words left text status told c d asks tells =
+    subst (λ bytes. DeservesInput c bytes text status) (sym (the_input left d.bytes told d.input tells)) (asked_input words d.bytes text status c asks d.deserved)
 
-pub too_long_status : (words : List (List ℕ)) (left : Option (List ℕ)) (text : List ℕ) (status : Status) (told : List ℕ) → IsDeserved words left text status
-    → IsAnalyseBox words → left ≡ Some told → IsTooLong told → EndsInRefusal status
-too_long_status words left text status told d taken tells long =
-    let same : told ≡ d.bytes = the_input left d.bytes told d.input tells in
-    let past : limit < length d.bytes = rw (← same) long in
-    refusal_of words d.bytes text status d.deserved taken (λ n r. let within : length d.bytes ≤ limit = r.within in omega arith)
+pub none_status : (words : List (List ℕ)) (left : Option (List ℕ)) (text : List ℕ) (status : Status) → IsDeserved words left text status
+    → AsksNone words → EndsInUsage status
+none_status words left text status d none = usage_of words d.bytes text status d.deserved none
 
-pub other_status : (words : List (List ℕ)) (left : Option (List ℕ)) (text : List ℕ) (status : Status) (told : List ℕ) → IsDeserved words left text status
-    → IsAnalyseBox words → left ≡ Some told → (IsFirstForm told → ⊥) → EndsInRefusal status
-other_status words left text status told d taken tells other =
-    let same : told ≡ d.bytes = the_input left d.bytes told d.input tells in
-    refusal_of words d.bytes text status d.deserved taken (λ n r. other (rw same (record { form = r.form; places = r.places; source = r.source })))
+pub too_long_status : (words : List (List ℕ)) (left : Option (List ℕ)) (text : List ℕ) (status : Status) (told : List ℕ) (c : Command) → IsDeserved words left text status
+    → Asks words c → left ≡ Some told → IsTooLong told → EndsInRefusal status
+too_long_status words left text status told c d asks tells long = too_long_of c told text status (told_input words left text status told c d asks tells) long
 
-pub source_status : (words : List (List ℕ)) (left : Option (List ℕ)) (text : List ℕ) (status : Status) (told : List ℕ)
-    → IsDeserved words left text status → IsAnalyseBox words → left ≡ Some told → IsWithinLimit told → IsFirstForm told → EndsInReport status
-source_status words left text status told d taken tells within form =
-    let same : told ≡ d.bytes = the_input left d.bytes told d.input tells in
-    report_of words d.bytes text status d.deserved taken (rw (← same) within) (rw (← same) form)
+pub other_status : (words : List (List ℕ)) (left : Option (List ℕ)) (text : List ℕ) (status : Status) (told : List ℕ) (options : AnalyseOptions) → IsDeserved words left text status
+    → Asks words (Analyse options) → left ≡ Some told → (IsFirstForm told → ⊥) → EndsInRefusal status
+other_status words left text status told options d asks tells other =
+    source_other (options_of options) told text status (told_input words left text status told (Analyse options) d asks tells) other
+
+pub source_status : (words : List (List ℕ)) (left : Option (List ℕ)) (text : List ℕ) (status : Status) (told : List ℕ) (options : AnalyseOptions)
+    → IsDeserved words left text status → Asks words (Analyse options) → left ≡ Some told → IsWithinLimit told → IsFirstForm told → EndsInReport status
+source_status words left text status told options d asks tells within form =
+    source_reported (options_of options) told text status (told_input words left text status told (Analyse options) d asks tells) within form
+
+pub script_refused_status : (words : List (List ℕ)) (left : Option (List ℕ)) (text : List ℕ) (status : Status) (told : List ℕ) (r : script.Refusal)
+    → IsDeserved words left text status → Asks words Calc → left ≡ Some told → script.answer_to told ≡ Err r → EndsInRefusal status
+script_refused_status words left text status told r d asks tells e = script_refusal told text status r (told_input words left text status told Calc d asks tells) e
+
+pub script_status : (words : List (List ℕ)) (left : Option (List ℕ)) (text : List ℕ) (status : Status) (told output : List ℕ)
+    → IsDeserved words left text status → Asks words Calc → left ≡ Some told → script.answer_to told ≡ Ok output → EndsInOutput status
+script_status words left text status told output d asks tells e = script_output told text status output (told_input words left text status told Calc d asks tells) e
+
+complete_script_of : (words : List (List ℕ)) (bytes text : List ℕ) (status : Status) → Deserves words bytes text status → EndsInOutput status → IsOutputOrMemory status
+complete_script_of words bytes text Proved d ends = tt
+complete_script_of words bytes text Unknown d ends = ends
+complete_script_of words bytes text Refused d ends = ends
+complete_script_of words bytes text Usage d ends = ends
+complete_script_of words bytes text ReadFault d ends = d
+complete_script_of words bytes text WriteFault d ends = d
+complete_script_of words bytes text Memory d ends = tt
+
+pub complete_script_status : (words : List (List ℕ)) (left : Option (List ℕ)) (text : List ℕ) (status : Status) (told output : List ℕ)
+    → IsDeserved words left text status → Asks words Calc → left ≡ Some told → script.answer_to told ≡ Ok output → IsOutputOrMemory status
+complete_script_status words left text status told output d asks tells e =
+    complete_script_of words d.bytes text status d.deserved (script_status words left text status told output d asks tells e)
 
 complete_of : (words : List (List ℕ)) (bytes text : List ℕ) (status : Status) → Deserves words bytes text status → EndsInReport status → IsReportOrMemory status
 complete_of words bytes text Proved d ends = tt
@@ -204,10 +177,10 @@ complete_of words bytes text ReadFault d ends = d
 complete_of words bytes text WriteFault d ends = d
 complete_of words bytes text Memory d ends = tt
 
-pub complete_status : (words : List (List ℕ)) (left : Option (List ℕ)) (text : List ℕ) (status : Status) (told : List ℕ)
-    → IsDeserved words left text status → IsAnalyseBox words → left ≡ Some told → IsWithinLimit told → IsFirstForm told → IsReportOrMemory status
-complete_status words left text status told d taken tells within form =
-    complete_of words d.bytes text status d.deserved (source_status words left text status told d taken tells within form)
+pub complete_status : (words : List (List ℕ)) (left : Option (List ℕ)) (text : List ℕ) (status : Status) (told : List ℕ) (options : AnalyseOptions)
+    → IsDeserved words left text status → Asks words (Analyse options) → left ≡ Some told → IsWithinLimit told → IsFirstForm told → IsReportOrMemory status
+complete_status words left text status told options d asks tells within form =
+    complete_of words d.bytes text status d.deserved (source_status words left text status told options d asks tells within form)
 
 -- a text that the sink was sure to take is not longer than that
 pub no_room : (words : List (List ℕ)) (left : Option (List ℕ)) (text other : List ℕ) (a b : Status) (spare : ℕ) (told : List ℕ)
@@ -218,5 +191,3 @@ no_room words left text other a b spare told d longer e fits tells =
     let texts : text ≡ other = one_text words d.bytes text other a b d.deserved here in
     let short : length text ≤ spare = rw texts fits in
     omega arith
-
-pub ruleset ending = (untaken_status, too_long_status, other_status, source_status, complete_status)

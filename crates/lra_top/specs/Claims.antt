@@ -2,17 +2,10 @@
 use Rattle.std.specs.Prelude.{◌≡◌, ℕ, ◌+◌, ℤ, pos, ◌<ℤ◌, List, [], ◌∷◌, map, true, false, codes, None}
 use Rattle.lra_tree.specs.Run.{Point}
 use Rattle.lra_tree.specs.declared.refusals.Place.{Place}
-use Rattle.lra_tree.specs.Report.{box, Options, State, PointReport, Verdict, Report, Holds, IsSound}
+use Rattle.lra_tree.specs.Report.{Options, State, PointReport, Verdict, Report, Holds, IsSound}
 use Rattle.lra_top.specs.FirstForm.{Simple, Set, Check, Form}
 use Rattle.lra_top.specs.FirstProgram.{program_of}
 use Rattle.lra_top.specs.Interval.{unbounded, printed, states_from}
-
-abbrev pub box_with : ℕ → ℕ → ℕ → Options
-box_with parts delay narrow = record { domain = box; parts = parts; delay = delay; narrow = narrow; limited = false }
-
--- over boxes, everything else as it is by default
-abbrev pub box_options : Options
-box_options = box_with 1 1 1
 
 -- a point of `main`: no call leads to it
 abbrev pub main_point : ℕ → Point
@@ -75,9 +68,9 @@ statement_points (p ∷ ps) = ps
 abbrev pub states_of : List Simple → List State
 states_of statements = (record { rows = []; generators = [] } ∷ []) ∷ map printed (states_from unbounded statements)
 
--- the report of the source: what stands in it, and that it is sound for the source's program
-pub record IsReportOf (f : Form) (places : List Place) (r : Report) : Type 0 where
-  pub options : r.options ≡ box_options
+-- the report of the source under these options: what stands in it, and that it is sound for the source's program
+pub record IsReportOf (o : Options) (f : Form) (places : List Place) (r : Report) : Type 0 where
+  pub options : r.options ≡ o
   pub unflagged : r.flagged ≡ None
   pub points : ArePointsOf f.name places r.points
   pub states : map (λ p. p.state) r.points ≡ states_of f.statements

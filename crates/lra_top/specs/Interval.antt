@@ -1,12 +1,19 @@
--- The bounds of the one variable, and what they mean.
+-- The bounds of the one variable, and what they mean: what the boxes of the analysis come to.
 use Rattle.std.specs.Prelude.{◌≤ℤ◌, ℕ, ℤ, pos, negsuc, max, nat_lt, nat_le, nat_eq, List, [], ◌∷◌, Bool, true, false, Option, Some, None, if◌then◌else◌}
 use Rattle.lra_tree.specs.Report.{Row, equality, inequality, Part}
 use Rattle.lra_tree.specs.Report as report
 use Rattle.lra_tree.specs.ReportText.{negated}
 use Rattle.lra_top.specs.FirstForm.{Simple, Set, Check}
-use Rattle.lra_top.specs.declared.interval.Interval.{Interval}
-use Rattle.lra_top.specs.declared.interval.State.{State}
-use Rattle.lra_top.specs.declared.interval.State.TheVariants.{Unreachable, Within}
+
+-- a bound that isn't there is infinite
+pub record Interval : Type 0 where
+  pub low : Option ℕ
+  pub high : Option ℕ
+
+-- the values that the variable may have: none, as no run comes here, or those within bounds
+pub data State : Type 0 where
+  Unreachable : State
+  Within : Interval → State
 
 -- any value
 abbrev pub unbounded : State

@@ -1,14 +1,16 @@
--- In the order in which they are to be read: the source and its program, bounds, what is deserved, what `run` does with
--- it; then how the analysis comes to its report, and how a source is read.
+-- In the order in which they are to be read: the source and its program, bounds, what a source deserves, what `run` does with
+-- words and input; then how the analysis comes to its report, and how a source is read.
 pub mod FirstForm
 pub mod FirstProgram
 pub mod Interval
 pub mod Claims
-pub mod Answer
-pub mod Words
+pub mod SourceAnswer
+pub mod ScriptAnswer
 pub mod Run
+pub mod Ends
 pub mod Exit
 pub mod Views
+pub mod Boxes
 pub mod Analysis
 pub mod Shown
 pub mod Prepared

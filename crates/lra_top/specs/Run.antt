@@ -1,9 +1,17 @@
 -- What a call of `run` does, by its status.
-use Rattle.std.specs.Prelude.{◌≡◌, ◌<◌, ◌⊎◌, ◌+◌, ℕ, List, length, Option, Some, None}
+use Rattle.std.specs.Prelude.{◌≡◌, ◌<◌, ◌⊎◌, ◌+◌, ℕ, List, length, codes, Option, Some, None}
 use Rattle.std.specs.Io.KnownBytes.{Appends, Consumes, IsAtEnd}
 use Rattle.lra_edge.specs.Causes.{AppendsPart}
-use Rattle.lra_top.specs.Words.{IsAnalyseBox}
-use Rattle.lra_top.specs.Answer.{IsRefusal, IsReport, usage_text, limit}
+use Rattle.lra_tree.specs.Report as report
+use Rattle.lra_tree.specs.ReportText.{text_line}
+use Rattle.lra_words.specs.Built.{Asks, AsksNone}
+use Rattle.lra_words.specs.declared.chosen.AnalyseOptions.{AnalyseOptions}
+use Rattle.lra_words.specs.declared.chosen.Command.{Command}
+use Rattle.lra_words.specs.declared.chosen.Command.TheVariants.{Analyse, Sample, Calc}
+use Rattle.lra_words.specs.declared.chosen.Domain.{Domain}
+use Rattle.lra_words.specs.declared.chosen.Domain.TheVariants.{Poly, Box, Oct}
+use Rattle.lra_top.specs.SourceAnswer.{DeservesSource, limit}
+use Rattle.lra_top.specs.ScriptAnswer.{DeservesScript}
 use Rattle.lra_top.specs.declared.status.Status.{Status}
 use Rattle.lra_top.specs.declared.status.Status.TheVariants.{Proved, Unknown, Refused, Usage, ReadFault, WriteFault, Memory}
 
@@ -12,12 +20,36 @@ abbrev pub IsInput : Option (List ℕ) → List ℕ → Type 0
 IsInput None bytes = Unit {0}
 IsInput (Some left) bytes = left ≡ bytes
 
+-- the domain and the options of an analysis, as its report has them
+abbrev pub domain_of : Domain → report.Domain
+domain_of Poly = report.poly
+domain_of Box = report.box
+domain_of Oct = report.oct
+
+abbrev pub options_of : AnalyseOptions → report.Options
+options_of o = record { domain = domain_of o.domain; parts = o.parts; delay = o.delay; narrow = o.narrow; limited = o.limited }
+
+-- the text and the status that the input of a command deserves
+abbrev pub DeservesInput : Command → List ℕ → List ℕ → Status → Type 0
+DeservesInput (Analyse options) bytes text status = DeservesSource (options_of options) bytes text status
+DeservesInput (Sample seed size) bytes text status = ⊥
+DeservesInput Calc bytes text status = DeservesScript bytes text status
+
+-- the words ask for a command of which the input deserves the text
+pub record DeservesCommand (words : List (List ℕ)) (bytes text : List ℕ) (status : Status) : Type 0 where
+  pub command : Command
+  pub asked : Asks words command
+  pub deserved : DeservesInput command bytes text status
+
+abbrev pub usage_text : List ℕ
+usage_text = text_line (codes "refused usage")
+
 -- the text and the status that the words and the input's bytes deserve
 abbrev pub Deserves : List (List ℕ) → List ℕ → List ℕ → Status → Type 0
-Deserves words bytes text Proved = IsAnalyseBox words × IsReport bytes text 0
-Deserves words bytes text Unknown = IsAnalyseBox words × ((unknown : ℕ) × (0 < unknown) × IsReport bytes text unknown)
-Deserves words bytes text Refused = IsAnalyseBox words × IsRefusal bytes text
-Deserves words bytes text Usage = (IsAnalyseBox words → ⊥) × (text ≡ usage_text)
+Deserves words bytes text Proved = DeservesCommand words bytes text Proved
+Deserves words bytes text Unknown = DeservesCommand words bytes text Unknown
+Deserves words bytes text Refused = DeservesCommand words bytes text Refused
+Deserves words bytes text Usage = AsksNone words × (text ≡ usage_text)
 Deserves words bytes text ReadFault = ⊥
 Deserves words bytes text WriteFault = ⊥
 Deserves words bytes text Memory = ⊥
@@ -47,43 +79,3 @@ pub record ReadsInput (old new : Option (List ℕ)) : Type 0 where
   pub bytes : List ℕ
   pub taken : Consumes old new bytes
   pub whole : IsAtEnd new ⊎ (length bytes ≡ limit + 1)
-
--- `refused usage` is the text, if there is one
-abbrev pub EndsInUsage : Status → Type 0
-EndsInUsage Proved = ⊥
-EndsInUsage Unknown = ⊥
-EndsInUsage Refused = ⊥
-EndsInUsage Usage = Unit {0}
-EndsInUsage ReadFault = ⊥
-EndsInUsage WriteFault = Unit {0}
-EndsInUsage Memory = Unit {0}
-
--- the refusal of a source is the text, if there is one
-abbrev pub EndsInRefusal : Status → Type 0
-EndsInRefusal Proved = ⊥
-EndsInRefusal Unknown = ⊥
-EndsInRefusal Refused = Unit {0}
-EndsInRefusal Usage = ⊥
-EndsInRefusal ReadFault = Unit {0}
-EndsInRefusal WriteFault = Unit {0}
-EndsInRefusal Memory = Unit {0}
-
--- a report is the text, if there is one
-abbrev pub EndsInReport : Status → Type 0
-EndsInReport Proved = Unit {0}
-EndsInReport Unknown = Unit {0}
-EndsInReport Refused = ⊥
-EndsInReport Usage = ⊥
-EndsInReport ReadFault = Unit {0}
-EndsInReport WriteFault = Unit {0}
-EndsInReport Memory = Unit {0}
-
--- a report is written, or memory is wanting
-abbrev pub IsReportOrMemory : Status → Type 0
-IsReportOrMemory Proved = Unit {0}
-IsReportOrMemory Unknown = Unit {0}
-IsReportOrMemory Refused = ⊥
-IsReportOrMemory Usage = ⊥
-IsReportOrMemory ReadFault = ⊥
-IsReportOrMemory WriteFault = ⊥
-IsReportOrMemory Memory = Unit {0}

@@ -2,14 +2,15 @@
 #![tactic(auto)]
 
 mod analysis;
-mod interval;
+mod answer;
 mod lexer;
 mod parser;
 mod report;
+mod source_answer;
+mod state;
 mod status;
 mod top_call;
 mod tree;
-mod words;
 
 pub use status::Status;
 pub use top_call::run;

@@ -6,8 +6,10 @@ const TAKEN: [&str; 4] = ["lra", "analyse", "--domain", "box"];
 
 const PROVED: &str = "int main(void){ long x; x = 3; assert(x >= 3); }";
 
-const PROVED_REPORT: &str = "analysis box parts 1 delay 1 narrow 1 limited no
-flagged 0
+/// The first line of a report, where the words give no option but the domain.
+const FIRST: &str = "analysis box parts 1 delay 1 narrow 1 limited no";
+
+const PROVED_REPORT: &str = "flagged 0
 point 1 main 1:22
   row true
 point 2 main 1:25
@@ -22,8 +24,7 @@ verdicts proved 1 unknown 0
 
 const UNKNOWN: &str = "int main(void){ long x; x = 2; assert(x >= 3); }";
 
-const UNKNOWN_REPORT: &str = "analysis box parts 1 delay 1 narrow 1 limited no
-flagged 0
+const UNKNOWN_REPORT: &str = "flagged 0
 point 1 main 1:22
   row true
 point 2 main 1:25
@@ -39,8 +40,7 @@ verdicts proved 0 unknown 1
 const BOUNDED: &str =
     "\nint main(void) {\n  long count;\n  assert(count >= 3);\n  assert(count >= 2);\n}\n";
 
-const BOUNDED_REPORT: &str = "analysis box parts 1 delay 1 narrow 1 limited no
-flagged 0
+const BOUNDED_REPORT: &str = "flagged 0
 point 1 main 3:8
   row true
 point 2 main 4:3
@@ -56,8 +56,7 @@ verdicts proved 1 unknown 1
 
 const UNREACHABLE: &str = "int main(void){long y;y=1;assert(y>=2);y=7;assert(y>=9);}";
 
-const UNREACHABLE_REPORT: &str = "analysis box parts 1 delay 1 narrow 1 limited no
-flagged 0
+const UNREACHABLE_REPORT: &str = "flagged 0
 point 1 main 1:21
   row true
 point 2 main 1:23
@@ -101,8 +100,9 @@ fn reports_are_written(rt: HostRuntime) -> Result<(), Fail> {
         (BOUNDED, Status::Unknown, BOUNDED_REPORT),
         (UNREACHABLE, Status::Unknown, UNREACHABLE_REPORT),
     ];
-    for (source, status, text) in rows {
-        let ended = ends(&rt, &TAKEN, source.as_bytes(), (&[], &[]), text)?;
+    for (source, status, rest) in rows {
+        let text = format!(in rt.alloc(); "{FIRST}\n{rest}")?;
+        let ended = ends(&rt, &TAKEN, source.as_bytes(), (&[], &[]), &text)?;
         assert_eq!(rt; ended, (status, true), "{source}");
     }
     Ok(())
@@ -135,16 +135,119 @@ fn other_sources_are_refused(rt: HostRuntime) -> Result<(), Fail> {
     Ok(())
 }
 
+/// The options of the words stand in the first line.
+#[test]
+fn options_are_written(rt: HostRuntime) -> Result<(), Fail> {
+    let rows: [(&[&str], &str); 4] = [
+        (
+            &["lra", "analyse", "--domain=box"],
+            "parts 1 delay 1 narrow 1 limited no",
+        ),
+        (
+            &["lra", "analyse", "--delay", "0", "--domain", "box"],
+            "parts 1 delay 0 narrow 1 limited no",
+        ),
+        (
+            &[
+                "lra",
+                "analyse",
+                "--domain",
+                "box",
+                "--narrow=4",
+                "--delay=8",
+            ],
+            "parts 1 delay 8 narrow 4 limited no",
+        ),
+        (
+            &[
+                "lra",
+                "analyse",
+                "--limited",
+                "--domain",
+                "box",
+                "--parts",
+                "1",
+                "--",
+            ],
+            "parts 1 delay 1 narrow 1 limited yes",
+        ),
+    ];
+    for (words, options) in rows {
+        let text = format!(in rt.alloc(); "analysis box {options}\n{PROVED_REPORT}")?;
+        let ended = ends(&rt, words, PROVED.as_bytes(), (&[], &[]), &text)?;
+        assert_eq!(rt; ended, (Status::Proved, true), "{options}");
+    }
+    Ok(())
+}
+
+const CALC: [&str; 2] = ["lra", "calc"];
+
+const GREATEST: &str = "170141183460469231731687303715884105727";
+
+#[test]
+fn scripts_are_run(rt: HostRuntime) -> Result<(), Fail> {
+    let points = format!(in rt.alloc();
+        "dims 2\ncon P >= 0 1 0 ; >= 4 -1 -1\nholds P 2 3 5\nholds P 1 3 2\nholds P 1 {GREATEST} {GREATEST}\n"
+    )?;
+    let rows = [
+        (
+            points.as_str(),
+            Status::Proved,
+            "holds P yes\nholds P no\nholds P wide\nflagged at line 5\n",
+        ),
+        ("", Status::Proved, "flagged 0\n"),
+        (
+            "dims 1\ncon P\ncon Q = 0 1\ncon R >= 1 2 3\n",
+            Status::Refused,
+            "refused line 4 WrongDimension 3 2\n",
+        ),
+        (
+            "dims 1\ncon P\ncon Q = 0 1\nholds Z 1 0\n",
+            Status::Refused,
+            "refused line 4 UnknownName Z\n",
+        ),
+        ("con P\n", Status::Refused, "refused line 1 BadLine\n"),
+    ];
+    for (script, status, text) in rows {
+        let ended = ends(&rt, &CALC, script.as_bytes(), (&[], &[]), text)?;
+        assert_eq!(rt; ended, (status, true), "{script}");
+    }
+    Ok(())
+}
+
+/// Skipped lines fill the limit; one byte more is refused.
+#[test]
+fn long_scripts_are_refused(rt: HostRuntime) -> Result<(), Fail> {
+    let rows = [
+        (65536, Status::Proved, "flagged 0\n"),
+        (65537, Status::Refused, "refused 1 TooLong at 65537:1\n"),
+        (65540, Status::Refused, "refused 1 TooLong at 65537:1\n"),
+    ];
+    for (count, status, text) in rows {
+        let script = vec![in rt.alloc(); b'\n'; count]?;
+        let ended = ends(&rt, &CALC, &script, (&[], &[]), text)?;
+        assert_eq!(rt; ended, (status, true), "{count}");
+    }
+    Ok(())
+}
+
 /// The first read would fail, so none is made.
 #[test]
 fn other_words_are_refused(rt: HostRuntime) -> Result<(), Fail> {
-    let rows: [&[&str]; 6] = [
+    let rows: [&[&str]; 13] = [
         &[],
+        &["lra", "calc", "calc"],
         &["lra"],
         &["lra", "analyse"],
+        &["lra", "analyse", "--domain", "poly"],
         &["lra", "analyse", "--domain", "cube"],
         &["lra", "--domain", "analyse", "box"],
         &["lra", "analyse", "--domain", "box", "box"],
+        &["lra", "analyse", "--domain", "box", "--delay", "9"],
+        &["lra", "analyse", "--domain", "box", "--parts", "2"],
+        &["lra", "analyse", "--domain", "box", "--json"],
+        &["lra", "sample", "--seed", "1", "--size", "1"],
+        &["lra", "help"],
     ];
     for words in rows {
         let ended = ends(
@@ -161,11 +264,12 @@ fn other_words_are_refused(rt: HostRuntime) -> Result<(), Fail> {
 
 #[test]
 fn devices_fail(rt: HostRuntime) -> Result<(), Fail> {
+    let whole = format!(in rt.alloc(); "{FIRST}\n{PROVED_REPORT}")?;
     let rows: [((&[u64], &[u64]), Status, &str); 4] = [
         ((&[2], &[]), Status::ReadFault, ""),
         ((&[], &[2]), Status::WriteFault, "analysis b"),
         ((&[6], &[]), Status::ReadFault, ""),
-        ((&[7], &[25]), Status::Proved, PROVED_REPORT),
+        ((&[7], &[25]), Status::Proved, &whole),
     ];
     for (fails, status, text) in rows {
         let ended = ends(&rt, &TAKEN, PROVED.as_bytes(), fails, text)?;

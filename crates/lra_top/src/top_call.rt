@@ -1,36 +1,25 @@
 // The top call.
-ghost use Rattle.std.specs.Prelude.{◌≡◌, ◌≢◌, ◌≤◌, ◌<◌, ◌-◌, ◌^◌, ℕ, List, length, take, map, string_bytes, vec_len, IfOk, IsErrOf, Some};
+ghost use Rattle.std.specs.Prelude.{◌≡◌, ◌≢◌, ◌≤◌, ℕ, List, length, map, string_bytes, IfOk, IsErrOf, Some, Ok, Err};
 ghost use Rattle.std.specs.Io.KnownBytes.{Appends, Keeps};
 ghost use Rattle.lra_edge.specs.Causes.{Rose};
-ghost use Rattle.lra_tree.specs.Report as tree;
-ghost use Rattle.lra_tree.specs.ReportText.{unknown_count};
-ghost use Rattle.lra_top.specs.FirstForm.{Form, IsSource, place_after, first_place};
-ghost use Rattle.lra_top.specs.Answer.{usage_text, too_long_text, syntax_text, IsTooLong, IsWithinLimit, IsFirstForm};
-ghost use Rattle.lra_top.specs.Words.{IsAnalyseBox};
-ghost use Rattle.lra_top.specs.Run.{IsDeserved, Writes, WritesPart, ReadsInput, EndsInUsage, EndsInRefusal, EndsInReport, IsReportOrMemory};
-ghost use Rattle.lra_top.specs.Views.{place_of};
-ghost use Rattle.lra_top.specs.Shown.{verdict_of, IsReportStatus, ReportsTree};
-ghost use Rattle.lra_top.specs.Prepared.{DeservesSource, IsSourceText, PrepareCause};
+ghost use Rattle.lra_calc.specs.Script as script;
+ghost use Rattle.lra_words.specs.Built.{IsBuilt, Asks, AsksNone};
+ghost use Rattle.lra_words.specs.declared.chosen.AnalyseOptions.{AnalyseOptions};
+ghost use Rattle.lra_words.specs.declared.chosen.Command.{Command};
+ghost use Rattle.lra_words.specs.declared.chosen.Command.TheVariants.{Analyse, Calc};
+ghost use Rattle.lra_top.specs.SourceAnswer.{IsTooLong, IsWithinLimit, IsFirstForm};
+ghost use Rattle.lra_top.specs.ScriptAnswer.{DeservesScript};
+ghost use Rattle.lra_top.specs.Run.{usage_text, DeservesInput, IsDeserved, Writes, WritesPart, ReadsInput};
+ghost use Rattle.lra_top.specs.Ends.{EndsInUsage, EndsInRefusal, EndsInReport, EndsInOutput, IsReportOrMemory, IsOutputOrMemory};
+ghost use Rattle.lra_top.specs.Prepared.{IsInputText, PrepareCause};
 
-use crate::analysis::{VerdictEntry, analyse};
-use crate::lexer::place_behind;
-use crate::parser::parse;
-use crate::report::{unknown_count_of, write_report};
+use crate::answer::Answer;
+use crate::source_answer::{LIMIT, answer_source};
 use crate::status::Status;
-use crate::tree::{Place, ReadError, SourceTree};
-use crate::words::is_analyse_box;
+use lra_calc::{CalcError, script};
 use lra_edge::{ReadEnd, Sink, Source, read_whole, write_whole};
+use lra_words::{Command, asked};
 use std::alloc::{AllocError, Global};
-
-/// The bytes that a source may have.
-const LIMIT: usize = 65536;
-
-/// A text to be written, and the status with which it is written.
-#[derive(Drop)]
-pub struct Answer {
-    pub text: String,
-    pub status: Status,
-}
 
 /// Why there is no text.
 #[derive(Clone, Copy, Debug, PartialEq, Eq)]
@@ -50,99 +39,62 @@ impl From<AllocError> for NoAnswer {
     }
 }
 
-/// The status of a report with these verdicts.
-#[tactic(auto, using(crate::proofs::Texts::unknown_of))]
-fn status_of(verdicts: &[VerdictEntry]) -> Status
-    ensures { IsReportStatus (unknown_count (map verdict_of verdicts.now)) result }
+/// The output or the refusal of a script.
+fn answer_script(alloc: Global, bytes: &[u8]) -> Result<Answer, AllocError>
+    ensures { IfOk result (λ a. DeservesScript bytes.now a.text.items a.status) }
 {
-    if unknown_count_of(verdicts) == 0 {
-        Status::Proved
-    } else {
-        Status::Unknown
+    match script(alloc, bytes) {
+        Ok(text) => Ok(Answer {
+            text,
+            status: Status::Proved,
+        }),
+        Err(CalcError::Refused(refusal)) => Ok(Answer {
+            text: refusal.text(alloc)?.into_bytes(),
+            status: Status::Refused,
+        }),
+        Err(CalcError::Memory) => Err(AllocError),
     }
-}
-
-/// The report of a source, and whether each assertion is proved.
-fn report_source(alloc: Global, tree: &SourceTree) -> Result<Answer, AllocError>
-    requires { vec_len tree.now.statements < 2 ^ 62 }
-    ensures { IfOk result (λ a. ReportsTree tree.now (string_bytes a.text) a.status) }
-{
-    let analysis = analyse(alloc, tree)?;
-    let text = write_report(alloc, tree.name.as_str(), tree.declared, &analysis)?;
-    let status = status_of(&analysis.verdicts);
-    Ok(Answer { text, status })
-}
-
-/// The refusal of a source that is not of the form.
-fn refuse_syntax(alloc: Global) -> Result<Answer, AllocError>
-    ensures text { IfOk result (λ a. string_bytes a.text ≡ syntax_text) }
-    ensures status { IfOk result (λ a. a.status ≡ Status.Refused) }
-{
-    Ok(Answer {
-        text: String::from_str(alloc, "refused 4 Syntax at 1:1\n")?,
-        status: Status::Refused,
-    })
-}
-
-/// The report or the refusal of a source within the limit.
-#[tactic(auto, using(crate::proofs::Ways::deserving))]
-fn answer_source(alloc: Global, bytes: &[u8]) -> Result<Answer, AllocError>
-    requires { length bytes.now ≤ 65536 }
-    ensures { IfOk result (λ a. DeservesSource bytes.now (string_bytes a.text) a.status) }
-{
-    match parse(alloc, bytes) {
-        Ok(tree) => Ok(report_source(alloc, &tree)?),
-        Err(ReadError::NotThisForm) => Ok(refuse_syntax(alloc)?),
-        Err(ReadError::Memory) => Err(AllocError),
-    }
-}
-
-/// The place of the last of the bytes.
-fn last_place(bytes: &[u8]) -> Place
-    requires some { 0 < length bytes.now }
-    requires bound { length bytes.now < 2 ^ 62 }
-    ensures { place_of result ≡ place_after (take (length bytes.now - 1) bytes.now) first_place }
-{
-    place_behind(Place { line: 1, column: 1 }, &bytes[..bytes.len() - 1])
-}
-
-/// The refusal of a source of which the last of these bytes is past the limit.
-fn refuse_too_long(alloc: Global, bytes: &[u8]) -> Result<Answer, AllocError>
-    requires some { 0 < length bytes.now }
-    requires bound { length bytes.now < 2 ^ 62 }
-    ensures text { IfOk result (λ a.
-        string_bytes a.text ≡ too_long_text (place_after (take (length bytes.now - 1) bytes.now) first_place)) }
-    ensures status { IfOk result (λ a. a.status ≡ Status.Refused) }
-{
-    let place = last_place(bytes);
-
-    Ok(Answer {
-        text: format!(in alloc; "refused 1 TooLong at {place}\n")?,
-        status: Status::Refused,
-    })
 }
 
 /// The answer to words that are no command.
 fn refuse_words(alloc: Global) -> Result<Answer, AllocError>
-    ensures text { IfOk result (λ a. string_bytes a.text ≡ usage_text) }
+    ensures text { IfOk result (λ a. a.text.items ≡ usage_text) }
     ensures status { IfOk result (λ a. a.status ≡ Status.Usage) }
 {
     Ok(Answer {
-        text: String::from_str(alloc, "refused usage\n")?,
+        text: String::from_str(alloc, "refused usage\n")?.into_bytes(),
         status: Status::Usage,
     })
 }
 
-/// The report or the refusal of a source, which is read.
+/// What a command answers to an input, of which no more than one byte past the limit is given.
+fn answer_input(alloc: Global, command: Command, bytes: &[u8]) -> Result<Answer, AllocError>
+    requires built { IsBuilt command }
+    requires bound { length bytes.now ≤ 65537 }
+    ensures { IfOk result (λ a. DeservesInput command bytes.now a.text.items a.status) }
+{
+    match command {
+        Command::Analyse(options) => answer_source(alloc, options, bytes),
+        Command::Calc => answer_script(alloc, bytes),
+        Command::Sample { .. } => unreachable!(),
+    }
+}
+
+/// What a command answers to its input, which is read.
 #[tactic(auto, using(crate::proofs::Ways::reading))]
-fn prepare_source<S: Source>(alloc: Global, source: &mut S) -> Result<Answer, NoAnswer>
-    ensures deserved { IfOk result (λ a. IsSourceText (S.left source.old) (string_bytes a.text) a.status) }
+fn prepare_input<S: Source>(
+    alloc: Global,
+    command: Command,
+    source: &mut S,
+) -> Result<Answer, NoAnswer>
+    requires { IsBuilt command }
+    ensures deserved { IfOk result (λ a. IsInputText command (S.left source.old) a.text.items a.status) }
     ensures reads { IfOk result (λ _. ReadsInput (S.left source.old) (S.left source.new)) }
     ensures cause { PrepareCause (S.faults source.old) (S.faults source.new) result }
 {
     match read_whole(alloc, source, LIMIT) {
-        Ok(bytes) => Ok(answer_source(alloc, &bytes)?),
-        Err(ReadEnd::TooLong(bytes)) => Ok(refuse_too_long(alloc, &bytes)?),
+        Ok(bytes) => Ok(answer_input(alloc, command, &bytes)?),
+        Err(ReadEnd::TooLong(bytes)) => Ok(answer_input(alloc, command, &bytes)?),
         Err(ReadEnd::Failed) => Err(NoAnswer::ReadFault),
         Err(ReadEnd::Memory) => Err(NoAnswer::Memory),
     }
@@ -152,32 +104,31 @@ fn prepare_source<S: Source>(alloc: Global, source: &mut S) -> Result<Answer, No
 #[tactic(auto, using(crate::proofs::Ways::preparing))]
 fn prepare<S: Source>(alloc: Global, words: &[String], source: &mut S) -> Result<Answer, NoAnswer>
     ensures deserved { IfOk result (λ a.
-        IsDeserved (map string_bytes words.now) (S.left source.old) (string_bytes a.text) a.status) }
-    ensures reads { IfOk result (λ _.
-        IsAnalyseBox (map string_bytes words.now) → ReadsInput (S.left source.old) (S.left source.new)) }
+        IsDeserved (map string_bytes words.now) (S.left source.old) a.text.items a.status) }
+    ensures reads { IfOk result (λ _. (c : Command) → Asks (map string_bytes words.now) c →
+        ReadsInput (S.left source.old) (S.left source.new)) }
     ensures cause { PrepareCause (S.faults source.old) (S.faults source.new) result }
-    ensures unread { (IsAnalyseBox (map string_bytes words.now) → ⊥) → S.left source.new ≡ S.left source.old }
-    ensures untouched { (IsAnalyseBox (map string_bytes words.now) → ⊥) → S.faults source.new ≡ S.faults source.old }
-    ensures untaken { (IsAnalyseBox (map string_bytes words.now) → ⊥) → IsErrOf result NoAnswer.ReadFault → ⊥ }
+    ensures unread { AsksNone (map string_bytes words.now) → S.left source.new ≡ S.left source.old }
+    ensures untouched { AsksNone (map string_bytes words.now) → S.faults source.new ≡ S.faults source.old }
+    ensures untaken { AsksNone (map string_bytes words.now) → IsErrOf result NoAnswer.ReadFault → ⊥ }
 {
-    if is_analyse_box(words) {
-        prepare_source(alloc, source)
-    } else {
-        Ok(refuse_words(alloc)?)
+    match asked(alloc, words)? {
+        Some(command) => prepare_input(alloc, command, source),
+        None => Ok(refuse_words(alloc)?),
     }
 }
 
-/// Reads the words, reads the source, and writes the report or the refusal.
+/// Reads the words, reads the input of their command, and writes what it deserves: a report, or a refusal.
 ///
 /// `words` has the program's name first. The whole text is made before the first byte is written.
-#[tactic(auto, using(crate::proofs::Ways::ending))]
+#[tactic(auto, using(crate::proofs::Ways::none_status))]
 pub fn run<S: Source, K: Sink>(
     alloc: Global,
     words: &[String],
     source: &mut S,
     sink: &mut K,
 ) -> Status
-    // What is written, by status: the text that the words and the source's bytes deserve, whole.
+    // What is written, by status: the text that the words and the input's bytes deserve, whole.
     ensures proved { result ≡ Status.Proved →
         Writes (map string_bytes words.now) (S.left source.old) (K.held sink.old) (K.held sink.new) Status.Proved }
     ensures unknown { result ≡ Status.Unknown →
@@ -191,20 +142,25 @@ pub fn run<S: Source, K: Sink>(
     ensures nothing_read { result ≡ Status.ReadFault → Keeps (K.held sink.old) (K.held sink.new) }
     ensures nothing_stored { result ≡ Status.Memory → Keeps (K.held sink.old) (K.held sink.new) }
 
-    // Usage: exactly where the words aren't taken. Nothing is read then.
-    ensures usage { result ≡ Status.Usage → IsAnalyseBox (map string_bytes words.now) → ⊥ }
-    ensures untaken { (IsAnalyseBox (map string_bytes words.now) → ⊥) → EndsInUsage result }
-    ensures unread { (IsAnalyseBox (map string_bytes words.now) → ⊥) → S.left source.new ≡ S.left source.old }
-    ensures untouched { (IsAnalyseBox (map string_bytes words.now) → ⊥) → S.faults source.new ≡ S.faults source.old }
+    // Usage: exactly where the words ask for no command. Nothing is read then.
+    ensures usage { result ≡ Status.Usage → AsksNone (map string_bytes words.now) }
+    ensures untaken { AsksNone (map string_bytes words.now) → EndsInUsage result }
+    ensures unread { AsksNone (map string_bytes words.now) → S.left source.new ≡ S.left source.old }
+    ensures untouched { AsksNone (map string_bytes words.now) → S.faults source.new ≡ S.faults source.old }
 
-    // Refused: exactly where the source is too long or isn't of the first form. A source of the form gets its report.
-    ensures too_long { IsAnalyseBox (map string_bytes words.now) →
+    // Refused: exactly where the input is too long, a source isn't of the first form, or a script has a refused line.
+    // A source of the form gets its report, and a script that runs whole its output.
+    ensures too_long { (c : Command) → Asks (map string_bytes words.now) c →
         (bytes : List ℕ) → S.left source.old ≡ Some bytes → IsTooLong bytes → EndsInRefusal result }
-    ensures other { IsAnalyseBox (map string_bytes words.now) →
+    ensures other { (options : AnalyseOptions) → Asks (map string_bytes words.now) (Analyse options) →
         (bytes : List ℕ) → S.left source.old ≡ Some bytes → (IsFirstForm bytes → ⊥) → EndsInRefusal result }
-    ensures accepted { IsAnalyseBox (map string_bytes words.now) →
+    ensures accepted { (options : AnalyseOptions) → Asks (map string_bytes words.now) (Analyse options) →
         (bytes : List ℕ) → S.left source.old ≡ Some bytes → IsWithinLimit bytes → IsFirstForm bytes → EndsInReport result }
-    ensures reads { result ≢ Status.ReadFault → result ≢ Status.Memory → IsAnalyseBox (map string_bytes words.now) →
+    ensures script_refused { Asks (map string_bytes words.now) Calc → (bytes : List ℕ) → S.left source.old ≡ Some bytes →
+        (r : script.Refusal) → script.answer_to bytes ≡ Err r → EndsInRefusal result }
+    ensures script_ran { Asks (map string_bytes words.now) Calc → (bytes : List ℕ) → S.left source.old ≡ Some bytes →
+        (output : List ℕ) → script.answer_to bytes ≡ Ok output → EndsInOutput result }
+    ensures reads { result ≢ Status.ReadFault → result ≢ Status.Memory → (c : Command) → Asks (map string_bytes words.now) c →
         ReadsInput (S.left source.old) (S.left source.new) }
 
     // A fault is the answer only where its count rose, and every other answer leaves the counts.
@@ -213,11 +169,16 @@ pub fn run<S: Source, K: Sink>(
     ensures write_fault { result ≡ Status.WriteFault → Rose (K.faults sink.old) (K.faults sink.new) }
     ensures no_write_fault { result ≢ Status.WriteFault → K.faults sink.new ≡ K.faults sink.old }
 
-    // A source of the form gets its report where nothing fails; a sink that surely takes the text doesn't fail.
-    ensures complete { IsAnalyseBox (map string_bytes words.now) →
+    // A source of the form gets its report, and a script that runs whole its output, where nothing fails; a sink that surely
+    // takes the text doesn't fail.
+    ensures complete { (options : AnalyseOptions) → Asks (map string_bytes words.now) (Analyse options) →
         (bytes : List ℕ) → S.left source.old ≡ Some bytes → IsWithinLimit bytes → IsFirstForm bytes →
         (Rose (S.faults source.old) (S.faults source.new) → ⊥) → (Rose (K.faults sink.old) (K.faults sink.new) → ⊥) →
         IsReportOrMemory result }
+    ensures complete_script { Asks (map string_bytes words.now) Calc → (bytes : List ℕ) → S.left source.old ≡ Some bytes →
+        (output : List ℕ) → script.answer_to bytes ≡ Ok output →
+        (Rose (S.faults source.old) (S.faults source.new) → ⊥) → (Rose (K.faults sink.old) (K.faults sink.new) → ⊥) →
+        IsOutputOrMemory result }
     ensures room { (bytes text : List ℕ) (status : _) → S.left source.old ≡ Some bytes →
         IsDeserved (map string_bytes words.now) (S.left source.old) text status → length text ≤ K.spare sink.old →
         result ≢ Status.WriteFault }
@@ -227,7 +188,7 @@ pub fn run<S: Source, K: Sink>(
         Err(NoAnswer::ReadFault) => return Status::ReadFault,
         Err(NoAnswer::Memory) => return Status::Memory,
     };
-    match write_whole(sink, answer.text.as_bytes()) {
+    match write_whole(sink, &answer.text) {
         Ok(()) => answer.status,
         Err(_) => Status::WriteFault,
     }

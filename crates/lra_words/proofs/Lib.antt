@@ -2,3 +2,6 @@ pub mod OptionRows
 pub mod ParsedWords
 pub mod Readings
 pub mod TakenWords
+pub mod SameWalk
+pub mod SameFaults
+pub mod OneCommand

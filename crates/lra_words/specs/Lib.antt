@@ -1,4 +1,4 @@
-pub mod Built
-pub mod Chosen
 pub mod CommandLine
+pub mod Chosen
+pub mod Built
 pub mod Refusals

@@ -52,7 +52,7 @@ impl Command {
                 matches!(options.domain, Domain::Box) && options.parts == 1 && !options.json
             }
             Command::Sample { .. } => false,
-            Command::Calc => false,
+            Command::Calc => true,
         }
     }
 }

@@ -9,7 +9,7 @@ mod command_line;
 pub mod words;
 
 pub use chosen::{AnalyseOptions, Command, Domain};
-pub use words::{Refusal, command};
+pub use words::{Refusal, asked, command};
 
 #[cfg(test)]
 mod tests;

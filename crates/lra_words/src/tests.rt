@@ -1,5 +1,5 @@
 use crate::chosen::{AnalyseOptions, Command, Domain};
-use crate::words::{Refusal, command};
+use crate::words::{Refusal, asked, command};
 use std::test::Fail;
 
 static DEFAULTS: AnalyseOptions = AnalyseOptions {
@@ -257,7 +257,7 @@ fn other_words_are_refused(rt: HostRuntime) -> Result<(), Fail> {
 }
 
 #[test]
-fn boxes_are_built(rt: HostRuntime) {
+fn boxes_and_scripts_are_built(rt: HostRuntime) {
     let boxes = AnalyseOptions {
         domain: Domain::Box,
         ..DEFAULTS
@@ -293,9 +293,35 @@ fn boxes_are_built(rt: HostRuntime) {
             false,
         ),
         (Command::Sample { seed: 1, size: 1 }, false),
-        (Command::Calc, false),
+        (Command::Calc, true),
     ];
     for (command, wanted) in table {
         assert!(rt; command.is_built() == wanted);
     }
+}
+
+#[test]
+fn built_commands_are_asked(rt: HostRuntime) -> Result<(), Fail> {
+    let boxes = AnalyseOptions {
+        domain: Domain::Box,
+        delay: 3,
+        limited: true,
+        ..DEFAULTS
+    };
+    let table = [
+        (
+            "lra analyse --delay 3 --domain box --limited",
+            Some(Command::Analyse(boxes)),
+        ),
+        ("lra calc", Some(Command::Calc)),
+        ("lra analyse", None),
+        ("lra analyse --domain box --json", None),
+        ("lra sample --seed 1 --size 1", None),
+        ("lra calc x", None),
+    ];
+    for (line, wanted) in table {
+        let words = words_of(&rt, line)?;
+        assert!(rt; asked(rt.alloc(), &words) == Ok(wanted), "{line}");
+    }
+    Ok(())
 }

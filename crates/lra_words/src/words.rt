@@ -1,6 +1,7 @@
 //! The command that a list of words gives.
-ghost use Rattle.std.specs.Prelude.{◌≡◌, ◌^◌, Err, IfOk, Some, codes, map, string_bytes};
+ghost use Rattle.std.specs.Prelude.{◌≡◌, ◌^◌, Err, IfOk, IfSome, Some, codes, map, string_bytes};
 ghost use Rattle.clap.specs.Words.{found_of, kind_of, rows_of};
+ghost use Rattle.lra_words.specs.Built.{AsksFor};
 ghost use Rattle.lra_words.specs.Chosen.{IsRefused, IsTakenAs, IsWithinRanges, command_of, domain_at};
 ghost use Rattle.lra_words.specs.Chosen.{domain_of, flag_at, number_at, options_of, sample_of};
 ghost use Rattle.lra_words.specs.Refusals.{refusal};
@@ -9,7 +10,7 @@ use crate::chosen::{AnalyseOptions, Command, Domain};
 use crate::command_line::declare;
 use clap::ArgMatches;
 use clap::error::ErrorKind;
-use std::alloc::Global;
+use std::alloc::{AllocError, Global};
 
 /// Why words give no command.
 #[derive(Clone, Copy, PartialEq, Debug)]
@@ -130,5 +131,18 @@ pub fn command(alloc: Global, words: &[String]) -> Result<Command, Refusal>
     match chosen_command(name, inner) {
         Some(command) => Ok(command),
         None => Err(Refusal::Usage),
+    }
+}
+
+/// The command that the words ask for, where the product carries it out; no other words are answered but
+/// by their refusal.
+pub fn asked(alloc: Global, words: &[String]) -> Result<Option<Command>, AllocError>
+    ensures asks { IfOk result (λ asked. AsksFor (map string_bytes words.now) asked) }
+    ensures ranges { IfOk result (λ asked. IfSome asked IsWithinRanges) }
+{
+    match command(alloc, words) {
+        Ok(command) if command.is_built() => Ok(Some(command)),
+        Ok(_) | Err(Refusal::Usage) => Ok(None),
+        Err(Refusal::Memory) => Err(AllocError),
     }
 }

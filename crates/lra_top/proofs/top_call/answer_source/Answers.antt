@@ -1,8 +1,0 @@
-use Rattle.std.proofs.Common.{Err, ap}
-use Rattle.lra_top.proofs.Ways.{deserves_syntax}
-use Rattle.lra_top.proofs.top_call.answer_source.Goals as goal
-
-pub returns-in_ok-refuse_syntax-in-Err-NotThisForm : goal.returns-in_ok-refuse_syntax-in-Err-NotThisForm
-returns-in_ok-refuse_syntax-in-Err-NotThisForm c =
-    deserves_syntax _ _ _ c.requires (c.in-Err-NotThisForm.ensures.none (ap Err c.in-Err-NotThisForm.field-0-is))
-    c.in_ok-refuse_syntax-in-Err-NotThisForm.ensures.text c.in_ok-refuse_syntax-in-Err-NotThisForm.ensures.status

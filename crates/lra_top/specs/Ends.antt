@@ -1,0 +1,73 @@
+-- How a call ends, by its status.
+use Rattle.lra_top.specs.declared.status.Status.{Status}
+use Rattle.lra_top.specs.declared.status.Status.TheVariants.{Proved, Unknown, Refused, Usage, ReadFault, WriteFault, Memory}
+
+-- a text of a command's own is written
+abbrev pub IsAnswer : Status → Type 0
+IsAnswer Proved = Unit {0}
+IsAnswer Unknown = Unit {0}
+IsAnswer Refused = Unit {0}
+IsAnswer Usage = ⊥
+IsAnswer ReadFault = ⊥
+IsAnswer WriteFault = ⊥
+IsAnswer Memory = ⊥
+
+-- `refused usage` is the text, if there is one
+abbrev pub EndsInUsage : Status → Type 0
+EndsInUsage Proved = ⊥
+EndsInUsage Unknown = ⊥
+EndsInUsage Refused = ⊥
+EndsInUsage Usage = Unit {0}
+EndsInUsage ReadFault = ⊥
+EndsInUsage WriteFault = Unit {0}
+EndsInUsage Memory = Unit {0}
+
+-- a refusal of the input is the text, if there is one
+abbrev pub EndsInRefusal : Status → Type 0
+EndsInRefusal Proved = ⊥
+EndsInRefusal Unknown = ⊥
+EndsInRefusal Refused = Unit {0}
+EndsInRefusal Usage = ⊥
+EndsInRefusal ReadFault = Unit {0}
+EndsInRefusal WriteFault = Unit {0}
+EndsInRefusal Memory = Unit {0}
+
+-- a report is the text, if there is one
+abbrev pub EndsInReport : Status → Type 0
+EndsInReport Proved = Unit {0}
+EndsInReport Unknown = Unit {0}
+EndsInReport Refused = ⊥
+EndsInReport Usage = ⊥
+EndsInReport ReadFault = Unit {0}
+EndsInReport WriteFault = Unit {0}
+EndsInReport Memory = Unit {0}
+
+-- the output of a script that ran whole is the text, if there is one
+abbrev pub EndsInOutput : Status → Type 0
+EndsInOutput Proved = Unit {0}
+EndsInOutput Unknown = ⊥
+EndsInOutput Refused = ⊥
+EndsInOutput Usage = ⊥
+EndsInOutput ReadFault = Unit {0}
+EndsInOutput WriteFault = Unit {0}
+EndsInOutput Memory = Unit {0}
+
+-- a script's output is written, or memory is wanting
+abbrev pub IsOutputOrMemory : Status → Type 0
+IsOutputOrMemory Proved = Unit {0}
+IsOutputOrMemory Unknown = ⊥
+IsOutputOrMemory Refused = ⊥
+IsOutputOrMemory Usage = ⊥
+IsOutputOrMemory ReadFault = ⊥
+IsOutputOrMemory WriteFault = ⊥
+IsOutputOrMemory Memory = Unit {0}
+
+-- a report is written, or memory is wanting
+abbrev pub IsReportOrMemory : Status → Type 0
+IsReportOrMemory Proved = Unit {0}
+IsReportOrMemory Unknown = Unit {0}
+IsReportOrMemory Refused = ⊥
+IsReportOrMemory Usage = ⊥
+IsReportOrMemory ReadFault = ⊥
+IsReportOrMemory WriteFault = ⊥
+IsReportOrMemory Memory = Unit {0}

@@ -1,0 +1,78 @@
+-- Words give one command or are refused, wherever in memory the names of the domains lie.
+use Rattle.std.proofs.Common.{◌≡◌, ◌∙◌, inl, inr, List, [], ◌∷◌, map, Option, Some, ap, refl, sym, subst, drop, codes}
+use Rattle.std.specs.Prelude.{unwrap_or}
+use Rattle.std.specs.Borrow.{Bor}
+use Rattle.clap.specs.Faults.{built_fault}
+use Rattle.clap.specs.Simple.{built, entered, names_of}
+use Rattle.clap.specs.Walk.{stop_after}
+use Rattle.clap.specs.Words.{App, Text, fault_of, subcommand_of}
+use Rattle.clap.specs.Walk.{nothing_held}
+use Rattle.clap.specs.declared.builder.value_parser.ValueParser.{ValueParser}
+use Rattle.clap.specs.declared.builder.value_parser.ValueParser.TheVariants as vp
+use Rattle.clap.proofs.OnLiterals.{clap_on_literals}
+use Rattle.lra_words.specs.Built.{Asks, AsksNone, IsBuilt}
+use Rattle.lra_words.specs.Chosen.{IsRefused, IsTakenAs, command_of}
+use Rattle.lra_words.specs.CommandLine.{TakesDomains, command_line}
+use Rattle.lra_words.specs.declared.chosen.Command.{Command}
+use Rattle.lra_words.proofs.SameWalk.{placed, in_app, entered_same, stop_same}
+use Rattle.lra_words.proofs.SameFaults.{built_same}
+
+-- the parser of these names, each at one place
+named : List Text → ValueParser
+named names = vp.Names (record { ref_ptr = (0, 0); now = map {B = Bor Text} (λ (name : Text). record { ref_ptr = (0, 0); now = name }) names })
+
+names_moved : (names : List (Bor Text)) → map {B = Bor Text} (λ (name : Bor Text). record { ref_ptr = (0, 0); now = name.now }) names ≡ map {B = Bor Text} (λ (name : Text). record { ref_ptr = (0, 0); now = name }) (map (λ (name : Bor Text). name.now) names)
+names_moved [] = refl
+names_moved (name ∷ rest) = ap (λ (names : List (Bor Text)). record { ref_ptr = (0, 0); now = name.now } ∷ names) (names_moved rest)
+
+placed_names : (names : Bor (List (Bor Text))) → placed (vp.Names names) ≡ named (map (λ (name : Bor Text). name.now) names.now)
+unfolding named
+placed_names names = ap (λ (moved : List (Bor Text)). vp.Names (record { ref_ptr = (0, 0); now = moved })) (names_moved names.now)
+
+the_domains : ValueParser
+the_domains = named (codes "poly" ∷ (codes "box" ∷ (codes "oct" ∷ [])))
+
+placed_domains : (domains : ValueParser) → TakesDomains domains → placed domains ≡ the_domains
+unfolding the_domains
+placed_domains domains takes = ap placed takes.1 ∙ placed_names takes.0 ∙ ap named takes.2
+
+built_placed : (domains : ValueParser) → built (command_line (placed domains)) ≡ in_app (built (command_line domains))
+unfolding clap_on_literals
+built_placed domains = refl
+
+module _ (words : List Text) where
+  fault_placed : (domains : ValueParser) → fault_of (command_line (placed domains)) words ≡ fault_of (command_line domains) words
+  fault_placed domains =
+      ap (λ (a : App). built_fault a nothing_held (drop 1 words)) (built_placed domains) ∙ built_same (built (command_line domains)) nothing_held (drop 1 words)
+
+  rows_placed : (domains : ValueParser) → subcommand_of (command_line (placed domains)) words ≡ subcommand_of (command_line domains) words
+  rows_placed domains =
+      ap (λ (a : App). entered a (stop_after a.top.rules (names_of a) (drop 1 words))) (built_placed domains)
+      ∙ ap (entered (in_app (built (command_line domains)))) (stop_same (built (command_line domains)) nothing_held (drop 1 words))
+      ∙ entered_same (built (command_line domains)) (stop_after (built (command_line domains)).top.rules (names_of (built (command_line domains))) (drop 1 words))
+
+  -- the faults and the matches of any two such command lines
+  one_fault : (d e : ValueParser) → TakesDomains d → TakesDomains e → fault_of (command_line d) words ≡ fault_of (command_line e) words
+  one_fault d e p q = sym (fault_placed d) ∙ ap (λ (x : ValueParser). fault_of (command_line x) words) (placed_domains d p ∙ sym (placed_domains e q)) ∙ fault_placed e
+
+  one_rows : (d e : ValueParser) → TakesDomains d → TakesDomains e → subcommand_of (command_line d) words ≡ subcommand_of (command_line e) words
+  one_rows d e p q = sym (rows_placed d) ∙ ap (λ (x : ValueParser). subcommand_of (command_line x) words) (placed_domains d p ∙ sym (placed_domains e q)) ∙ rows_placed e
+
+  -- words that are taken aren't refused
+  taken_not_refused : (c : Command) → IsTakenAs words c → IsRefused words → ⊥
+  taken_not_refused c taken refused = refused.2 (one_fault refused.0 taken.0 refused.1 taken.1 ∙ taken.2)
+
+  -- and give one command
+  one_command : (c d : Command) → IsTakenAs words c → IsTakenAs words d → c ≡ d
+  one_command c d taken other =
+      let both : Some c ≡ Some d = sym taken.3 ∙ ap command_of (one_rows taken.0 other.0 taken.1 other.1) ∙ other.3 in
+      ap (λ (o : Option Command). unwrap_or o c) both
+
+  -- words ask for one command
+  pub one_asked : (c d : Command) → Asks words c → Asks words d → c ≡ d
+  one_asked c d asks other = one_command c d asks.taken other.taken
+
+  -- or for none
+  pub asks_not_none : (c : Command) → Asks words c → AsksNone words → ⊥
+  asks_not_none c asks (inl refused) = taken_not_refused c asks.taken refused
+  asks_not_none c asks (inr (d, taken, unbuilt)) = unbuilt (subst IsBuilt (one_command c d asks.taken taken) asks.built)
