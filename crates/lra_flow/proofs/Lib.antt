@@ -1,13 +1,13 @@
 -- A derivation without a flag is the written iteration, and the first flag stands where the written iteration strains.
-mod Transfer
-mod Unflagged
+pub mod Transfer
+pub mod Unflagged
 -- Forms and tests mean what their expressions and comparisons do.
-mod FormLemmas
-mod Keeping
-mod CondKeeping
+pub mod FormLemmas
+pub mod Keeping
+pub mod CondKeeping
 -- The values of a derivation have all stores of the runs.
-mod Sound
-mod Keeps
+pub mod Sound
+pub mod Keeps
 -- Worked examples over boxes.
 mod LoopExamples
 mod NestedExamples

@@ -1,0 +1,2 @@
+mod FormSteps
+mod CondSteps

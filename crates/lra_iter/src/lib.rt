@@ -1,0 +1,5 @@
+//! The iteration over a program's tree of operations, for any domain.
+#![tactic(auto)]
+
+mod conditions;
+mod forms;
