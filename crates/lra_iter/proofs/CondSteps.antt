@@ -1,19 +1,27 @@
 -- Steps of the proofs on tests and conditions.
-use Rattle.std.proofs.Common.{◌≡◌, ℕ, zero, suc, ℤ, pos, negsuc, List, [], ◌∷◌, Option, Some, None, Bool, true, false, length, map, refl, sym, ap, ◌∙◌, subst, arith}
+use Rattle.std.proofs.Common.{rules, Box, Vec, Global, ◌≡◌, ℕ, zero, suc, ℤ, pos, negsuc, List, [], ◌∷◌, Option, Some, None, Bool, true, false, length, map, refl, sym, ap, ◌∙◌, subst, arith}
 use Rattle.std.specs.Prelude.{◌-ℤ◌, replicate, option_map, not}
 use Rattle.std.proofs.lemmas.Int.{ints}
 use Rattle.lra_lin.specs.Form.{Form}
 use Rattle.lra_lin.specs.declared.test.Test.{Test}
-use Rattle.lra_tree.specs.Program.{Comparison, Expr, Cond, both_of, either_of}
+use Rattle.lra_domain.specs.Meaning.{Meaning}
+use Rattle.lra_domain.specs.declared.Exactness.{Exactness}
+use Rattle.lra_tree.specs.declared.trees.Comparison as declared
+use Rattle.lra_tree.specs.declared.trees.Comparison.TheVariants.{Below, AtMost, Above, AtLeast, Equal, Differs}
+use Rattle.lra_tree.specs.Views.{comparison_view}
+use Rattle.lra_tree.specs.Program.{minus, Expr, binary, Cond, both_of, either_of}
 use Rattle.lra_tree.specs.Program as program
-use Rattle.lra_tree.specs.ProgramViews.{all_of, any_of}
+use Rattle.lra_tree.specs.declared.program.Cond as declared_cond
+use Rattle.lra_tree.specs.declared.program.Cond.{All, Any, the_lemmas}
+use Rattle.lra_tree.specs.ProgramViews.{all_of, any_of, cond_view}
 use Rattle.lra_tree.specs.Value.{◌>>=◌}
 use Rattle.lra_tree.specs.Linear as linear
 use Rattle.lra_tree.specs.Linear.{entrywise, combined, fitting, constant_form, less_one, opposite_less_one, form_of, operator_form, difference_form, at_least_zero}
 use Rattle.lra_tree.specs.Condition.{Pushed, first_then, one_or, push}
 use Rattle.lra_flow.specs.Changes.{as_form}
 use Rattle.lra_iter.specs.Forms.{as_linear, IsForm}
-use Rattle.lra_iter.specs.Conditions.{IsTest, in_turn_of}
+use Rattle.lra_flow.proofs.FormLemmas.{form_wide}
+use Rattle.lra_iter.specs.Conditions.{IsTest, Tests, Compares, in_turn_of}
 use Rattle.lra_iter.specs.Conditions as chains
 use Rattle.lra_iter.proofs.FormSteps.{none_only, some_only}
 
@@ -78,3 +86,26 @@ all_false c (d ∷ ds) = ap (one_or (push false c) (push true c)) (all_false d d
 pub any_true : (c : Cond) (cs : List Cond) → push true (any_of c cs) ≡ chains.either_of true c cs
 any_true c [] = refl
 any_true c (d ∷ ds) = ap (one_or (push true c) (push false c)) (any_true d ds)
+
+-- tests of other comparisons than `!=`
+pub compares_by_test : {V H : Type 0} (m : Meaning V H) (live base : ℕ) (op : declared.Comparison) (d : linear.Form) (v : V) (before : Exactness) (w : V) (e : Exactness)
+    → (op ≡ Differs → ⊥) → Tests m live base (linear.comparison_test (comparison_view op) d) v before w e → Compares m live base (comparison_view op) (Some d) v before w e
+compares_by_test m live base Below d v before w e other h = h
+compares_by_test m live base AtMost d v before w e other h = h
+compares_by_test m live base Above d v before w e other h = h
+compares_by_test m live base AtLeast d v before w e other h = h
+compares_by_test m live base Equal d v before w e other h = h
+compares_by_test m live base Differs d v before w e other h = absurd (other refl)
+
+-- a difference has a coefficient for each live variable
+pub difference_wide : (live base : ℕ) (a b : Expr) (d : Form) → IsForm (difference_form live base a b) (Some d) → length d.coefficients ≡ live
+difference_wide live base a b d h = (form_wide live base (binary minus a b) (as_linear d) (some_only (difference_form live base a b) d h)).width
+
+pub all_view : (first : Box declared_cond.Cond Global) (rest : Vec declared_cond.Cond Global) → cond_view (All first rest) ≡ all_of (cond_view first.value) (map cond_view rest.items)
+all_view first rest = search (rules, the_lemmas)
+
+pub any_view : (first : Box declared_cond.Cond Global) (rest : Vec declared_cond.Cond Global) → cond_view (Any first rest) ≡ any_of (cond_view first.value) (map cond_view rest.items)
+any_view first rest = search (rules, the_lemmas)
+
+pub difference_there : (live n base : ℕ) (a b : Expr) (o : Option Form) (d : Form) → live ≡ n → o ≡ Some d → IsForm (difference_form live base a b) o → IsForm (difference_form n base a b) (Some d)
+difference_there live n base a b o d e is h = subst (λ (k : ℕ). IsForm (difference_form k base a b) (Some d)) e (subst (λ (x : Option Form). IsForm (difference_form live base a b) x) is h)

@@ -1,2 +1,4 @@
 pub mod Forms
 pub mod Conditions
+pub mod Changes
+pub mod Given

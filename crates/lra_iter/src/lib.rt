@@ -1,5 +1,7 @@
 //! The iteration over a program's tree of operations, for any domain.
 #![tactic(auto)]
 
+mod changes;
 mod conditions;
 mod forms;
+mod given;
