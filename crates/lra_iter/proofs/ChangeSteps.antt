@@ -45,8 +45,7 @@ done_set m x o v e w meets dims = done_one m (set_to x o) v e w meets (dims ∙ 
 pub done_append : {V H : Type 0} (m : Meaning V H) (base : ℕ) (e : Expr) (v x w : V) (c d : Exactness) → Meets m (embed 1) v c x → m.dims x ≡ m.dims v + 1 → suc (m.dims v) ≡ m.dims v + 1
     → Meets m (set_to (m.dims v) (linear.form_of (m.dims x) base e)) x d w → m.dims w ≡ m.dims x → Does m (append_set (m.dims v) (linear.form_of (suc (m.dims v)) base e)) v (worse c d) w
 done_append m base e v x w c d first dims one second same =
-    let live : m.dims x ≡ suc (m.dims v) = dims ∙ sym one in
-    (
+    let live : m.dims x ≡ suc (m.dims v) = dims ∙ sym one in (
       x,
       c,
       d,

@@ -77,4 +77,3 @@ rows_by_test Above d n m = refl
 rows_by_test AtLeast d n m = refl
 rows_by_test Equal d n m = absurd (n refl)
 rows_by_test Differs d n m = absurd (m refl)
-

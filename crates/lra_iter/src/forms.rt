@@ -96,11 +96,7 @@ pub fn sum_of_forms(
 }
 
 /// The form times `factor`, where all its numbers have 64 bits.
-pub fn multiple_of(
-    alloc: Global,
-    factor: i64,
-    f: &LinExpr,
-) -> Result<Option<LinExpr>, AllocError>
+pub fn multiple_of(alloc: Global, factor: i64, f: &LinExpr) -> Result<Option<LinExpr>, AllocError>
     ensures { IfOk result (λ o. IsForm (scaled factor (as_linear f.now)) o) }
 {
     let Some(constant) = product_entry(&factor, &f.constant()) else {

@@ -60,7 +60,12 @@ fn opposite_row_of(alloc: Global, form: &LinExpr) -> Result<Row, AllocError>
 }
 
 /// The rows of a test `e >= 0`: e >= 0 and e + 1 >= 0.
-fn give_test(alloc: Global, op: Comparison, d: &LinExpr, rows: &mut ConSys) -> Result<(), AllocError>
+fn give_test(
+    alloc: Global,
+    op: Comparison,
+    d: &LinExpr,
+    rows: &mut ConSys,
+) -> Result<(), AllocError>
     requires few { length d.now.coefficients < 2 ^ 62 }
     requires width { length d.now.coefficients ≡ rows.old.dims }
     ensures { OnOk result (HasMore rows.old rows.new (test_rows (comparison_test (comparison_view op) (as_linear d.now)))) }

@@ -5,3 +5,5 @@ mod changes;
 mod conditions;
 mod forms;
 mod given;
+mod outcome;
+mod pass;
