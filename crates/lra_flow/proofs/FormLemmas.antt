@@ -326,8 +326,7 @@ pub differs_by_tests : (d : Form) (less more : Test) (store : List ℤ) (x y : �
 differs_by_tests d less more store x y e is also =
     let one = test_is_right below d less store x y e is in
     let two = test_is_right above d more store x y e also in
-    let both = ne_decides x y (form_value d store) e in
-    (
+    let both = ne_decides x y (form_value d store) e in (
       λ h. elim (both.0 h) [ inl a ↦ inl (one.0 ((lt_decides x y (form_value d store) e).1 a)) | inr b ↦ inr (two.0 ((gt_decides x y (form_value d store) e).1 b)) ],
       λ h. both.1 (elim h [ inl a ↦ inl ((lt_decides x y (form_value d store) e).0 (one.1 a)) | inr b ↦ inr ((gt_decides x y (form_value d store) e).0 (two.1 b)) ]),
     )

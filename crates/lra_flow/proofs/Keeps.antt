@@ -87,14 +87,18 @@ sized_ones m = record {
   joined = λ u v e w k h. (record { left = λ s own. (h.0.left s own.0, own.1 ∙ sym h.2); right = λ s own. (h.0.right s own.0, own.1 ∙ h.1 ∙ sym h.2); exact = h.0.exact; covers = h.0.covers; flagged = h.0.flagged }, h.1, h.2);
   started = λ v rows h s. (record { stores = λ st own. (s.0.stores st own.0, own.1 ∙ sym s.1); started = s.0.started }, s.1);
   stays = λ h v mode s. (record { stores = λ st own. (s.0.stores st own.0, own.1 ∙ s.1); stays = s.0.stays }, s.1);
-  grown = λ h v mode e next k g. (record {
-    kept = λ s own. (g.0.kept s own.0, own.1 ∙ sym g.2);
-    added = λ s own. (g.0.added s own.0, own.1 ∙ g.1 ∙ sym g.2);
-    moved = g.0.moved;
-    exact = g.0.exact;
-    covers = g.0.covers;
-    flagged = λ is. elim (g.0.flagged is) [ inl a ↦ inl (a.0, λ s long. (a.1 s long, long)) | inr b ↦ inr b ];
-  }, g.1, g.2);
+  grown = λ h v mode e next k g. (
+    record {
+      kept = λ s own. (g.0.kept s own.0, own.1 ∙ sym g.2);
+      added = λ s own. (g.0.added s own.0, own.1 ∙ g.1 ∙ sym g.2);
+      moved = g.0.moved;
+      exact = g.0.exact;
+      covers = g.0.covers;
+      flagged = λ is. elim (g.0.flagged is) [ inl a ↦ inl (a.0, λ s long. (a.1 s long, long)) | inr b ↦ inr b ];
+    },
+    g.1,
+    g.2,
+  );
   valued = λ h e v k s. (record { stores = λ st own. (s.0.stores st own.0, own.1 ∙ sym s.1); exact = s.0.exact; covers = s.0.covers; flagged = s.0.flagged }, s.1);
 }
 

@@ -1,0 +1,5 @@
+mod FormSteps
+mod CondSizes
+mod CondSteps
+mod ChangeSteps
+mod GivenSteps

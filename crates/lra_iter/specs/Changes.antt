@@ -1,0 +1,39 @@
+-- Changes of values, in the derivation with drops.
+use Rattle.std.specs.Prelude.{◌≡◌, ℕ, suc, ◌+◌, ◌-◌, ◌^◌, ◌<◌, ◌≤◌, ⊤, List, length, Option, None, Some}
+use Rattle.lra_domain.specs.Actions.{Action}
+use Rattle.lra_domain.specs.declared.Exactness.{Exactness}
+use Rattle.lra_domain.specs.Meaning.{Meaning}
+use Rattle.lra_tree.specs.Step.{Op, append, give, give_any, push, keep, test}
+use Rattle.lra_flow.specs.Operations.{dropping}
+use Rattle.lra_flow.specs.Changes.{AreDone}
+use Rattle.lra_flow.specs.Pass.{Changes}
+
+-- the changes one behind the other
+abbrev pub Does : {V H : Type 0} → Meaning V H → List Action → V → Exactness → V → Type 0
+Does m steps v e w = AreDone (dropping m) steps v e w
+
+abbrev pub ChangesTo : {V H : Type 0} → Meaning V H → Op → V → Exactness → V → Type 0
+ChangesTo {V} {H} m op v e w = Changes V H (dropping m) op v e w
+
+-- how many variables live behind the change of a store with so many
+abbrev pub dims_behind : Op → ℕ → ℕ
+dims_behind append n = suc n
+dims_behind (give base x e) n = n
+dims_behind (give_any x) n = n
+dims_behind (push base es) n = n + length es
+dims_behind (keep k) n = n - (n - k)
+dims_behind (test base c wanted) n = n
+
+-- the place, where there is one, is that of one of so many variables
+abbrev pub PlaceFits : Option ℕ → ℕ → Type 0
+PlaceFits None n = ⊤
+PlaceFits (Some x) n = x < n
+
+-- the change can be made of a store of so many variables, and leaves at most 2^30
+abbrev pub OpFits : Op → ℕ → Type 0
+OpFits append n = n < 2 ^ 30
+OpFits (give base x e) n = PlaceFits x n
+OpFits (give_any x) n = PlaceFits x n
+OpFits (push base es) n = n + length es ≤ 2 ^ 30
+OpFits (keep k) n = ⊤
+OpFits (test base c wanted) n = ⊤

@@ -1,0 +1,40 @@
+-- How many variables live in a tree of operations, and when its operations can be made of a value of so many dimensions.
+use Rattle.std.specs.Prelude.{◌≡◌, ◌≢◌, ℕ, ◌≤◌, ◌^◌, ◌⊎◌, ⊤}
+use Rattle.lra_tree.specs.Graph.{Exit, Node, empty, point, act, check, seq, choose, iterate, catch, leave}
+use Rattle.lra_iter.specs.Changes.{dims_behind, OpFits}
+
+-- so many live behind a tree at whose beginning n live
+abbrev pub live_behind : Node → ℕ → ℕ
+live_behind empty n = n
+live_behind (point q) n = n
+live_behind (act q op) n = dims_behind op n
+live_behind (check q base c) n = n
+live_behind (seq a b) n = live_behind b (live_behind a n)
+live_behind (choose q base c a b) n = live_behind a n
+live_behind (iterate q base c a) n = n
+live_behind (catch q k a) n = live_behind a n
+live_behind (leave m k) n = m
+
+-- a jump of this kind may leave it with so many
+abbrev pub JumpsWith : Node → ℕ → Exit → ℕ → Type 0
+JumpsWith empty n k m = ⊥
+JumpsWith (point q) n k m = ⊥
+JumpsWith (act q op) n k m = ⊥
+JumpsWith (check q base c) n k m = ⊥
+JumpsWith (seq a b) n k m = JumpsWith a n k m ⊎ JumpsWith b (live_behind a n) k m
+JumpsWith (choose q base c a b) n k m = JumpsWith a n k m ⊎ JumpsWith b n k m
+JumpsWith (iterate q base c a) n k m = JumpsWith a n k m
+JumpsWith (catch q j a) n k m = (k ≢ j) × JumpsWith a n k m
+JumpsWith (leave l j) n k m = (k ≡ j) × (m ≡ n)
+
+-- its operations have their variables, what joins has equally many, and nowhere live more than 2^30
+abbrev pub TreeFits : Node → ℕ → Type 0
+TreeFits empty n = ⊤
+TreeFits (point q) n = ⊤
+TreeFits (act q op) n = OpFits op n
+TreeFits (check q base c) n = ⊤
+TreeFits (seq a b) n = TreeFits a n × (live_behind a n ≤ 2 ^ 30) × TreeFits b (live_behind a n)
+TreeFits (choose q base c a b) n = TreeFits a n × TreeFits b n × (live_behind b n ≡ live_behind a n)
+TreeFits (iterate q base c a) n = TreeFits a n × (live_behind a n ≡ n)
+TreeFits (catch q k a) n = TreeFits a n × ((m : ℕ) → JumpsWith a n k m → m ≡ live_behind a n)
+TreeFits (leave m k) n = m ≤ 2 ^ 30
