@@ -6,9 +6,9 @@ mod PartExamples
 -- Tests by which the examples find longest spellings, and the examples.
 mod LongestByTest
 mod TokenExamples
--- Trees, their names and what they mean.
 -- Walks over trees.
-mod Walking
+pub mod Walking
+-- Trees, their names and what they mean.
 mod ViewExamples
 mod ProgramViewExamples
 mod TreeSamples

@@ -1,0 +1,4 @@
+-- What an answer tells of the faults of a part.
+pub mod Outcome
+pub mod Scopes
+pub mod Chains
