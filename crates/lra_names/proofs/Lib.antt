@@ -2,3 +2,9 @@
 pub mod Telling
 -- Chains of operators.
 pub mod ChainLaws
+pub mod CondLaws
+-- Calls.
+pub mod CallLaws
+-- Declarations and statements.
+pub mod DeclarationLaws
+pub mod StatementLaws

@@ -38,3 +38,5 @@ parts_tell F xs i x whole err h is e f =
     let y = ap (flat_map F) (drop_more xs i x h) in
     let z = ap F is in
     rw (e, y, ← z) (tells_front (F x) (flat_map F (drop (i + 1) xs)) err f)
+
+pub ruleset telling_rules = (tells_front, tells_behind)

@@ -1,15 +1,15 @@
 -- The operators of chains, each with its right operand: their faults, and what they mean.
-use Rattle.std.specs.Prelude.{List}
+use Rattle.std.specs.Prelude.{List, None}
 use Rattle.lra_tree.specs.declared.refusals.Refusal.{Refusal}
 use Rattle.lra_tree.specs.declared.trees.FactorOperator.{FactorOperator}
 use Rattle.lra_tree.specs.declared.trees.FactorOperator.TheVariants as factor
 use Rattle.lra_tree.specs.declared.trees.SumOperator.{SumOperator}
 use Rattle.lra_tree.specs.declared.trees.SumOperator.TheVariants as sum
-use Rattle.lra_tree.specs.Trees.{UnaryTree, TermTree}
+use Rattle.lra_tree.specs.Trees.{UnaryTree, TermTree, ConjunctionTree}
 use Rattle.lra_tree.specs.Program as program
 use Rattle.lra_tree.specs.Scope.{Scope}
 use Rattle.lra_tree.specs.NameFaults.{unary_faults, term_faults}
-use Rattle.lra_tree.specs.Resolve.{resolve_unary, resolve_term}
+use Rattle.lra_tree.specs.Resolve.{resolve_unary, resolve_term, all_of}
 
 abbrev pub factor_operator : FactorOperator → program.Operator
 factor_operator factor.Times = program.times
@@ -31,3 +31,7 @@ summand_faults s f = term_faults s f.1
 
 abbrev pub resolve_summand : Scope → SumOperator × TermTree → program.Operator × program.Expr
 resolve_summand s f = (sum_operator f.0, resolve_term s f.1)
+
+-- a chain of `&&`, with nothing behind it
+abbrev pub resolve_conjunction : Scope → ConjunctionTree → program.Cond
+resolve_conjunction s c = all_of s c None

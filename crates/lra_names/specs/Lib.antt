@@ -2,3 +2,5 @@
 pub mod Outcome
 pub mod Scopes
 pub mod Chains
+pub mod Calls
+pub mod Statements

@@ -1,12 +1,15 @@
 -- How the variables that can be named change along a block.
-use Rattle.std.specs.Prelude.{◌≡◌, ℕ, length, take}
+use Rattle.std.specs.Prelude.{◌≡◌, ℕ, List, ◌++◌, take}
 use Rattle.lra_tree.specs.Scope.{Scope}
+
+-- with further variables
+abbrev pub with_more : Scope → List (List ℕ) → Scope
+with_more s more = record s { locals = s.locals ++ more }
 
 -- further variables in the same scope
 pub record Extends (s t : Scope) : Type 0 where
-  pub globals : t.globals ≡ s.globals
-  pub outer : t.outer ≡ s.outer
-  pub locals : take (length s.locals) t.locals ≡ s.locals
+  pub more : List (List ℕ)
+  pub is : t ≡ with_more s more
 
 -- the oldest so many variables, in a scope that `outer` of them lie outside
 abbrev pub left_to : ℕ → ℕ → Scope → Scope

@@ -28,7 +28,8 @@ impl Model for Scope {
     ghost view = { λ s. record { globals = s.globals.items; locals = s.locals.items; outer = s.outer } };
 }
 
-fn is_same(word: &Word, name: &Word) -> bool
+/// Whether the two are one name.
+pub fn is_same(word: &Word, name: &Word) -> bool
     ensures { result ≡ bytes_eq word.now name.now }
 {
     word.as_slice() == name.as_slice()
@@ -87,14 +88,18 @@ impl Scope {
         self.locals.len()
     }
 
-    /// Begins a scope inside this one, and gives what `leave` takes.
-    pub fn enter(&mut self) -> usize
-        ensures entered { self.new ≡ inner self.old }
-        ensures before { result ≡ self.old.outer }
+    /// How many of the locals the scopes around this one declare.
+    pub fn outer(&self) -> usize
+        ensures { result ≡ self.now.outer }
     {
-        let outer = self.outer;
+        self.outer
+    }
+
+    /// Begins a scope inside this one.
+    pub fn enter(&mut self)
+        ensures { self.new ≡ inner self.old }
+    {
         self.outer = self.locals.len();
-        outer
     }
 
     /// Ends a scope: so many locals stay, and so many of them lie outside the scope around it.
