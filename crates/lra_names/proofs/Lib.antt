@@ -8,3 +8,5 @@ pub mod CallLaws
 -- Declarations and statements.
 pub mod DeclarationLaws
 pub mod StatementLaws
+-- Functions and the whole.
+pub mod FunctionLaws

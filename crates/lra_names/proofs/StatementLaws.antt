@@ -1,17 +1,31 @@
 -- How many labels the parts of statements have; how scopes are left; lists of items.
-use Rattle.std.proofs.Common.{◌≡◌, ℕ, suc, ◌+◌, List, [], ◌∷◌, ◌++◌, length, map, take, refl, sym, ap, ◌∙◌, append_assoc, append-nil, length-append, arith, Option, Some, None}
-use Rattle.std.proofs.lemmas.List.{length-map, take-append-le}
+use Rattle.std.proofs.Common.{◌≡◌, ℕ, suc, ◌+◌, List, [], ◌∷◌, ◌++◌, length, map, take, refl, sym, ap, ◌∙◌, append_assoc, append-nil, length-append, arith, Option, Some, None, option_map, rules, Vec, Box, Global}
+use Rattle.std.proofs.lemmas.List.{length-map, map-append, take-append-le}
 use Rattle.std.proofs.Math.Seq.{take-length}
 use Rattle.lra_tree.specs.declared.refusals.Place.{Place}
 use Rattle.lra_tree.specs.declared.refusals.Refusal.{Refusal}
 use Rattle.lra_tree.specs.Trees.{CondTree, AssignTree, DeclaratorTree, DeclarationTree, InitTree, no_init, declared, assigned, StmtTree, block, if_else, for, ItemsTree, no_items, declaration, statement, FunctionTree}
+use Rattle.lra_tree.specs.declared.program.BlockItem.{BlockItem, the_lemmas}
+use Rattle.lra_tree.specs.declared.program.BlockItem as program_item
+use Rattle.lra_tree.specs.declared.program.Stmt.{Stmt as ProgramStmt}
+use Rattle.lra_tree.specs.declared.trees.BlockItem.{the_lemmas as tree_lemmas}
+use Rattle.lra_tree.specs.declared.trees.BlockItem as code_item
+use Rattle.lra_tree.specs.declared.trees.Block.{Block}
+use Rattle.lra_tree.specs.declared.trees.Declaration.{Declaration}
+use Rattle.lra_tree.specs.declared.trees.Init.{Init}
+use Rattle.lra_tree.specs.declared.trees.Init.TheVariants as code_init
+use Rattle.lra_tree.specs.declared.trees.Stmt.{Stmt, the_lemmas as stmt_lemmas}
+use Rattle.lra_tree.specs.declared.trees.Stmt as code_stmt
+use Rattle.lra_tree.specs.declared.trees.Cond.{Cond}
+use Rattle.lra_tree.specs.declared.trees.Assign.{Assign}
+use Rattle.lra_tree.specs.Views.{items_of, item_view, block_view, init_view, declaration_view, declarator_view, stmt_view, cond_view, assign_view}
 use Rattle.lra_tree.specs.Program as program
 use Rattle.lra_tree.specs.ProgramViews as view
 use Rattle.lra_tree.specs.Scope.{Scope, with_local, with_declarators, inner, for_scope}
 use Rattle.lra_tree.specs.Labels.{Labelled, with_names, declarator_labels, init_labels, step_labels, stmt_labels, items_labels, live_in_for}
 use Rattle.lra_tree.specs.Walk.{told}
 use Rattle.lra_tree.specs.NameFaults.{Around, stmt_faults, items_faults, in_a_loop, cond_faults, init_faults, test_of_for_faults, step_faults}
-use Rattle.lra_tree.specs.Resolve.{stmt_count, items_count, init_count, step_count, declarator_count}
+use Rattle.lra_tree.specs.Resolve.{resolve_stmt, resolve_items, stmt_count, items_count, init_count, step_count, declarator_count}
 use Rattle.lra_tree.proofs.Walking.{told_stmt}
 use Rattle.lra_names.specs.Scopes.{with_more, Extends, left_to}
 use Rattle.lra_names.specs.Statements.{followed}
@@ -97,6 +111,46 @@ left_for s i = left_inner s (for_scope s i) (for_extends s i)
 pub followed_end : (fs : List (program.BlockItems → program.BlockItems)) → followed fs program.no_more ≡ view.items_of fs
 followed_end [] = refl
 followed_end (f ∷ fs) = ap f (followed_end fs)
+
+pub items_view_is : (v : Vec BlockItem Global) → view.items_view (record { items = v }) ≡ followed (map view.item_view v.items) program.no_more
+items_view_is v =
+    let e : view.items_view (record { items = v }) ≡ view.items_of (map view.item_view v.items) = search (rules, the_lemmas) in
+    e ∙ sym (followed_end (map view.item_view v.items))
+
+-- the code's trees ---------------------------------------------------------------------------------------------------------
+
+pub block_items : (b : Block) (xs : List code_item.BlockItem) → xs ≡ b.items.items → (block_view b).0 ≡ items_of (map item_view xs)
+block_items b xs is =
+    let e : (block_view b).0 ≡ items_of (map item_view b.items.items) = search (rules, tree_lemmas) in
+    e ∙ ap (λ (l : List code_item.BlockItem). items_of (map item_view l)) (sym is)
+
+pub code_init_count : (init : Init) (d : Declaration) → init ≡ code_init.Declaration d → init_count (init_view init) ≡ suc (length d.rest.items)
+code_init_count init d is = rw is (count_declared (declaration_view d) ∙ ap suc (length-map d.rest.items declarator_view))
+
+pub declaration_counted : (item : code_item.BlockItem) (d : Declaration) (n m : ℕ) → item ≡ code_item.Declaration d → m ≡ n + suc (length d.rest.items)
+    → (rest : ItemsTree) → m + items_count rest ≡ n + items_count (item_view item rest)
+declaration_counted item d n m is e rest =
+    let v : item_view (code_item.Declaration d) rest ≡ declaration (declaration_view d) rest = search (rules, tree_lemmas) in
+    let k = length-map d.rest.items declarator_view in
+    rw (is, v) (omega arith)
+
+pub statement_found : (F : List FunctionTree) (s s' : Scope) (n n' : ℕ) (item : code_item.BlockItem) (t : Stmt) (r : ProgramStmt) (old new : List BlockItem)
+    → item ≡ code_item.Statement t → new ≡ old ++ program_item.Statement r ∷ [] → view.stmt_view r ≡ resolve_stmt F s n (stmt_view t)
+    → s' ≡ s → n' ≡ n + stmt_count (stmt_view t) → (rest : ItemsTree)
+    → followed (map view.item_view old) (resolve_items F s n (item_view item rest)) ≡ followed (map view.item_view new) (resolve_items F s' n' rest)
+statement_found F s s' n n' item t r old new is added e scope next rest =
+    let v : item_view (code_item.Statement t) rest ≡ statement (stmt_view t) rest = search (rules, tree_lemmas) in
+    let w : view.item_view (program_item.Statement r) ≡ program.statement (view.stmt_view r) = search (rules, the_lemmas) in
+    rw (is, v, added, map-append view.item_view old (program_item.Statement r ∷ []), w, e, scope, next)
+    (sym (followed_push (map view.item_view old) (program.statement (resolve_stmt F s n (stmt_view t))) (resolve_items F s (n + stmt_count (stmt_view t)) rest)))
+
+pub for_counted : (stmt : Stmt) (at : Place) (i : Init) (c : Option Cond) (e : Option Assign) (b : Box Stmt Global) (n n1 n2 n3 n4 : ℕ)
+    → stmt ≡ code_stmt.For at i c e b → n1 ≡ suc n → n2 ≡ n1 + init_count (init_view i) → n3 ≡ n2 + step_count (option_map assign_view e)
+    → n4 ≡ n3 + stmt_count (stmt_view b.value) → n4 ≡ n + stmt_count (stmt_view stmt)
+for_counted stmt at i c e b n n1 n2 n3 n4 is p q r t =
+    let v : stmt_view (code_stmt.For at i c e b) ≡ for at (init_view i) (option_map cond_view c) (option_map assign_view e) (stmt_view b.value) = search (rules, stmt_lemmas) in
+    let x = count_for at (init_view i) (option_map cond_view c) (option_map assign_view e) (stmt_view b.value) in
+    rw (is, v) (omega arith)
 
 pub ruleset statement_rules = (count_if_else, count_for, left_for, tells_front, tells_behind)
 pub ruleset block_rules = (count_block, left_inner)

@@ -39,4 +39,12 @@ parts_tell F xs i x whole err h is e f =
     let z = ap F is in
     rw (e, y, ← z) (tells_front (F x) (flat_map F (drop (i + 1) xs)) err f)
 
+-- in a loop whose step tells of all that may come behind it
+pub rest_tells : {X Y : Type 0} (G : List Y → List Refusal) (v : X → Y) (xs : List X) (i : ℕ) (x : X) (whole : List Refusal) (err : NamesError)
+    → i < length xs → x ≡ get_or xs i x → whole ≡ G (map v (drop i xs)) → ((rest : List Y) → Tells (G (v x ∷ rest)) err) → Tells whole err
+rest_tells {X = X} G v xs i x whole err h is e f =
+    let y = ap (λ (l : List X). G (map v l)) (drop_more xs i x h) in
+    let z = ap (λ (w : X). G (v w ∷ map v (drop (i + 1) xs))) (sym is) in
+    let T : List Refusal → Type 0 = λ l. Tells l err in subst T (sym (e ∙ y ∙ z)) (f (map v (drop (i + 1) xs)))
+
 pub ruleset telling_rules = (tells_front, tells_behind)

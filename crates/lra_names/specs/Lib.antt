@@ -4,3 +4,4 @@ pub mod Scopes
 pub mod Chains
 pub mod Calls
 pub mod Statements
+pub mod Mains

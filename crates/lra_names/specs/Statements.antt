@@ -1,12 +1,13 @@
 -- Where statements stand, and lists of items that are built from the front.
-use Rattle.std.specs.Prelude.{ℕ, List, [], ◌∷◌, map}
-use Rattle.lra_names.specs.declared.statements.Around.{Around}
+use Rattle.std.specs.Prelude.{ℕ, Bool, List, [], ◌∷◌, map}
+use Rattle.lra_tree.specs.declared.trees.Item.{Item}
 use Rattle.lra_names.specs.Calls.{functions_at}
 use Rattle.lra_tree.specs.NameFaults as faults
 use Rattle.lra_tree.specs.Program as program
 
-abbrev pub around_of : Around → faults.Around
-around_of a = record { functions = functions_at a.parts.now; has_result = a.has_result; in_loop = a.in_loop }
+-- among these parts, in a function with a result or not, in a loop or not
+abbrev pub around_of : List Item → Bool → Bool → faults.Around
+around_of parts has_result in_loop = record { functions = functions_at parts; has_result = has_result; in_loop = in_loop }
 
 -- some items, each of which is what it puts before those behind it, before others
 abbrev pub followed : List (program.BlockItems → program.BlockItems) → program.BlockItems → program.BlockItems

@@ -6,7 +6,11 @@ mod conditions;
 mod declarations;
 mod errors;
 mod expressions;
+mod functions;
 mod scopes;
 mod statements;
+#[cfg(test)]
+mod tests;
 
 pub use errors::NamesError;
+pub use functions::resolve;

@@ -109,4 +109,32 @@ impl Scope {
         self.locals.truncate(count);
         self.outer = outer;
     }
+
+    /// The scope of the file, with nothing declared yet.
+    pub fn outermost(alloc: Global) -> Scope
+        ensures { result ≡ record { globals = []; locals = []; outer = 0 } }
+    {
+        Scope {
+            globals: Vec::new(alloc),
+            locals: Vec::new(alloc),
+            outer: 0,
+        }
+    }
+
+    /// Declares a further global variable.
+    pub fn declare_global(&mut self, alloc: Global, name: &Word) -> Result<(), AllocError>
+        ensures { IfOk result (λ _. self.new ≡ record { globals = self.old.globals ++ name.now ∷ []; locals = self.old.locals; outer = self.old.outer }) }
+    {
+        let word = name.copy(alloc)?;
+        self.globals.push(word)?;
+        Ok(())
+    }
+
+    /// Begins a function: no local is declared.
+    pub fn begin_function(&mut self)
+        ensures { self.new ≡ record { globals = self.old.globals; locals = []; outer = 0 } }
+    {
+        self.locals.clear();
+        self.outer = 0;
+    }
 }

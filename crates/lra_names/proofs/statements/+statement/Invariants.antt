@@ -11,10 +11,10 @@ use Rattle.lra_names.proofs.statements.+statement.Given as goal
 
 abbrev pub invariant-resolve_items-items : goal.invariant-resolve_items-items
 invariant-resolve_items-items l = record {
-  clean : items_faults (around_of l.around) l.fn.scope (items_of (map item_view l.item-items))
-      ≡ items_faults (around_of l.around) l.scope (items_of (map item_view (drop l.item-index l.item-items)));
-  found : resolve_items (functions_at l.around.parts.now) l.fn.scope l.fn.next (items_of (map item_view l.item-items))
-      ≡ followed (map program_item_view l.items.items) (resolve_items (functions_at l.around.parts.now) l.scope l.next (items_of (map item_view (drop l.item-index l.item-items))));
+  clean : items_faults (around_of l.parts l.has_result l.in_loop) l.fn.scope (items_of (map item_view l.item-items))
+      ≡ items_faults (around_of l.parts l.has_result l.in_loop) l.scope (items_of (map item_view (drop l.item-index l.item-items)));
+  found : resolve_items (functions_at l.parts) l.fn.scope l.fn.next (items_of (map item_view l.item-items))
+      ≡ followed (map program_item_view l.items.items) (resolve_items (functions_at l.parts) l.scope l.next (items_of (map item_view (drop l.item-index l.item-items))));
   extended : Extends l.fn.scope l.scope;
   counted : l.next + items_count (items_of (map item_view (drop l.item-index l.item-items))) ≡ l.fn.next + items_count (items_of (map item_view l.item-items));
 }
