@@ -1,5 +1,6 @@
 -- Functions, globals and the whole source, part by part.
-use Rattle.std.proofs.Common.{◌≡◌, ℕ, suc, List, [], ◌∷◌, ◌++◌, map, refl, sym, ap, ◌∙◌, append_assoc, Bool, true, false, Option, slice_get}
+use Rattle.std.proofs.Common.{◌≡◌, ℕ, suc, List, [], ◌∷◌, ◌++◌, map, refl, sym, ap, ◌∙◌, append_assoc, Bool, true, false, Option, slice_get, cond}
+use Rattle.std.specs.Prelude.{◌||◌}
 use Rattle.std.specs.List.{list_any}
 use Rattle.std.proofs.lemmas.List.{map-append}
 use Rattle.lra_tree.specs.Trees.{FunctionTree, PartTree}
@@ -11,12 +12,12 @@ use Rattle.lra_names.specs.Mains.{main_place}
 use Rattle.lra_names.proofs.Telling.{tells_front, tells_behind}
 
 main_case : (b : Bool) (rest : Bool) (g : program.Function) (gs : List program.Function) (k : ℕ) (other : program.Function)
-    → (rest ≡ true → other ≡ function_or (slice_get gs k)) → (if b then true else rest) ≡ true
+    → (rest ≡ true → other ≡ function_or (slice_get gs k)) → b || rest ≡ true
     → cond b g other ≡ function_or (slice_get (g ∷ gs) (cond b 0 (suc k)))
 main_case true rest g gs k other h e = refl
 main_case false rest g gs k other h e = h e
 
-main_none : (b rest : Bool) (k j : ℕ) → (if b then true else rest) ≡ true → function_or (slice_get [] (cond b 0 (suc k))) ≡ function_or (slice_get [] j)
+main_none : (b rest : Bool) (k j : ℕ) → b || rest ≡ true → function_or (slice_get [] (cond b 0 (suc k))) ≡ function_or (slice_get [] j)
 main_none true rest k j e = refl
 main_none false rest k j e = refl
 

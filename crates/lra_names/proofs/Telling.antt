@@ -1,6 +1,6 @@
 -- The first fault of a list of parts is that of its first part with a fault.
 use Rattle.std.proofs.Common.{◌≡◌, ℕ, ◌+◌, ◌<◌, List, [], ◌∷◌, ◌++◌, length, map, drop, get_or, refl, sym, ap, subst, ◌∙◌, Result, Ok, Err, Some}
-use Rattle.std.specs.Result.{IsErrAnd}
+use Rattle.std.specs.Result.{IsErrAnd, IfErr}
 use Rattle.std.specs.List.{flat_map}
 use Rattle.std.proofs.lemmas.Result.{err_from_is_err_and}
 use Rattle.std.proofs.lemmas.List.{drop_more, map-append}
@@ -23,6 +23,11 @@ tells_behind a b e is h = rw is h
 -- what the exit by an error returns tells the first fault of the whole
 pub exit_tells : {T : Type 0} (whole : List Refusal) (r : Result T NamesError) (e : NamesError) → IsErrAnd r (λ y. y ≡ e) → Tells whole e → TellsOf whole r
 exit_tells whole r e is h = let p = err_from_is_err_and r is in rw (p.1, p.2) h
+
+-- the same of all that may come behind a part
+pub exit_tells_all : {T X : Type 0} (faults : X → List Refusal) (r : Result T NamesError) (e : NamesError)
+    → IsErrAnd r (λ y. y ≡ e) → ((rest : X) → Tells (faults rest) e) → IfErr r (λ y. (rest : X) → Tells (faults rest) y)
+exit_tells_all faults r e is h = let p = err_from_is_err_and r is in rw (p.1, p.2) h
 
 -- in a loop over the parts
 pub parts_clean : {X : Type 0} (F : X → List Refusal) (xs : List X) (i : ℕ) (x : X) (whole : List Refusal)

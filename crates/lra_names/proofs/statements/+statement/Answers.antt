@@ -1,7 +1,7 @@
-use Rattle.std.proofs.Common.{◌≡◌, ◌+◌, ℕ, List, map, ap, sym, ◌∙◌, arith}
+use Rattle.std.proofs.Common.{◌≡◌, ◌+◌, ℕ, List, ◌∷◌, map, ap, sym, ◌∙◌, arith}
 use Rattle.lra_tree.specs.Trees.{ItemsTree}
 use Rattle.lra_tree.specs.declared.trees.BlockItem.{BlockItem}
-use Rattle.lra_tree.specs.Views.{items_of, item_view}
+use Rattle.lra_tree.specs.Views.{items_of, item_view, declarator_view}
 use Rattle.lra_tree.specs.ProgramViews.{item_view as program_item_view}
 use Rattle.lra_tree.specs.NameFaults.{items_faults}
 use Rattle.lra_tree.specs.Resolve.{resolve_items, items_count}
@@ -14,7 +14,8 @@ use Rattle.lra_names.proofs.statements.+statement.Goals as goal
 
 pub add_item-returns-in_ok-add_declaration-in-Declaration-clause-extended : goal.add_item-returns-in_ok-add_declaration-in-Declaration-clause-extended
 add_item-returns-in_ok-add_declaration-in-Declaration-clause-extended t c =
-    rw c.in_ok-add_declaration-in-Declaration.ensures.declared (extends_declared _ _)
+    rw c.in_ok-add_declaration-in-Declaration.ensures.declared
+    (extends_declared c.args.scope.now (declarator_view c.in-Declaration.declaration.first ∷ map declarator_view c.in-Declaration.declaration.rest.items))
 
 pub add_item-returns-in_ok-add_declaration-in-Declaration-clause-counted : goal.add_item-returns-in_ok-add_declaration-in-Declaration-clause-counted
 add_item-returns-in_ok-add_declaration-in-Declaration-clause-counted t c =
