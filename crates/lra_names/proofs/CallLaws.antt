@@ -1,10 +1,9 @@
 -- The faults of a call are those of the called name, then those of its arguments in their order.
-use Rattle.std.proofs.Common.{◌≡◌, List, map, length, ◌++◌, Bool, ap, ◌∙◌, sym}
+use Rattle.std.proofs.Common.{◌≡◌, List, map, length, ◌++◌, Bool}
 use Rattle.std.specs.List.{flat_map}
 use Rattle.std.proofs.lemmas.List.Folds.{flat_map-map}
 use Rattle.std.proofs.lemmas.Simd.{map-map}
 use Rattle.std.proofs.lemmas.List.{length-map}
-use Rattle.lra_tree.specs.declared.refusals.Refusal.{Refusal}
 use Rattle.lra_tree.specs.declared.trees.Call.{Call}
 use Rattle.lra_tree.specs.Trees.{FunctionTree}
 use Rattle.lra_tree.specs.Views.{expr_view, call_view}

@@ -106,6 +106,7 @@ code_expr_means s e =
     ∙ ap (chained (resolve_term s (term_view (out-Expr e).first))) (map-map (resolve_summand s) summand_view (out-Expr e).rest.items)
 
 pub ruleset term_rules = (code_term_faults, code_term_means, tells_front, tells_behind)
+
 pub ruleset expr_rules = (code_expr_faults, code_expr_means, tells_front, tells_behind)
 
 -- the whole chain's meaning, where all operands are there

@@ -144,4 +144,5 @@ cond_found s c v w cs ds n e first found all is =
     ∙ sym (code_cond_means s c)
 
 pub ruleset conjunction_rules = (code_conjunction_faults, tells_front, tells_behind)
+
 pub ruleset cond_rules = (code_cond_faults, tells_front, tells_behind)

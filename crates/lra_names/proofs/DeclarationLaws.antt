@@ -1,6 +1,5 @@
 -- Declarators one by one.
-use Rattle.std.proofs.Common.{◌≡◌, ℕ, suc, ◌+◌, List, [], ◌∷◌, ◌++◌, map, refl, sym, ap, ◌∙◌, append_assoc, option_map, rules}
-use Rattle.lra_tree.specs.declared.refusals.Refusal.{Refusal}
+use Rattle.std.proofs.Common.{◌≡◌, ℕ, suc, List, [], ◌∷◌, ◌++◌, map, refl, sym, ap, rules}
 use Rattle.std.proofs.lemmas.List.{map-append}
 use Rattle.lra_tree.specs.declared.program.Declarator.{Declarator}
 use Rattle.lra_tree.specs.declared.program.BlockItem.{BlockItem, the_lemmas}

@@ -3,7 +3,7 @@ use Rattle.std.proofs.Common.{◌≡◌, ℕ, suc, List, [], ◌∷◌, ◌++◌
 use Rattle.std.specs.Prelude.{◌||◌}
 use Rattle.std.specs.List.{list_any}
 use Rattle.std.proofs.lemmas.List.{map-append}
-use Rattle.lra_tree.specs.Trees.{FunctionTree, PartTree}
+use Rattle.lra_tree.specs.Trees.{FunctionTree}
 use Rattle.lra_tree.specs.Program as program
 use Rattle.lra_tree.specs.ProgramViews.{function_or}
 use Rattle.lra_tree.specs.Scope.{is_main}
@@ -28,6 +28,9 @@ main_at (f ∷ fs) [] e = main_none (is_main f) (list_any is_main fs) (main_plac
 main_at (f ∷ fs) (g ∷ gs) e = main_case (is_main f) (list_any is_main fs) g gs (main_place fs) (main_of fs gs) (λ h. main_at fs gs h) e
 
 pub ruleset function_rules = (tells_front, tells_behind)
+
 pub ruleset global_rules = (tells_front, tells_behind)
+
 pub ruleset part_rules = (append_assoc, map-append, tells_front, tells_behind)
+
 pub ruleset main_rules = (main_at, tells_front, tells_behind)

@@ -1,9 +1,8 @@
 -- How many labels the parts of statements have; how scopes are left; lists of items.
-use Rattle.std.proofs.Common.{◌≡◌, ℕ, suc, ◌+◌, List, [], ◌∷◌, ◌++◌, length, map, take, refl, sym, ap, ◌∙◌, append_assoc, append-nil, length-append, arith, Option, Some, None, option_map, rules, Vec, Box, Global}
+use Rattle.std.proofs.Common.{◌≡◌, ℕ, suc, ◌+◌, List, [], ◌∷◌, ◌++◌, length, map, refl, sym, ap, ◌∙◌, append_assoc, append-nil, length-append, arith, Option, Some, None, option_map, rules, Vec, Box, Global}
 use Rattle.std.proofs.lemmas.List.{length-map, map-append, take-append-le}
 use Rattle.std.proofs.Math.Seq.{take-length}
 use Rattle.lra_tree.specs.declared.refusals.Place.{Place}
-use Rattle.lra_tree.specs.declared.refusals.Refusal.{Refusal}
 use Rattle.lra_tree.specs.Trees.{CondTree, AssignTree, DeclaratorTree, DeclarationTree, InitTree, no_init, declared, assigned, StmtTree, block, if_else, for, ItemsTree, no_items, declaration, statement, FunctionTree}
 use Rattle.lra_tree.specs.declared.program.BlockItem.{BlockItem, the_lemmas}
 use Rattle.lra_tree.specs.declared.program.BlockItem as program_item
@@ -22,10 +21,9 @@ use Rattle.lra_tree.specs.Views.{items_of, item_view, block_view, init_view, dec
 use Rattle.lra_tree.specs.Program as program
 use Rattle.lra_tree.specs.ProgramViews as view
 use Rattle.lra_tree.specs.Scope.{Scope, with_local, with_declarators, inner, for_scope}
-use Rattle.lra_tree.specs.Labels.{Labelled, with_names, declarator_labels, init_labels, step_labels, stmt_labels, items_labels, live_in_for}
+use Rattle.lra_tree.specs.Labels.{with_names, declarator_labels, init_labels, step_labels, stmt_labels, items_labels, live_in_for}
 use Rattle.lra_tree.specs.Walk.{told}
-use Rattle.lra_tree.specs.NameFaults.{Around, stmt_faults, items_faults, in_a_loop, cond_faults, init_faults, test_of_for_faults, step_faults}
-use Rattle.lra_tree.specs.Resolve.{resolve_stmt, resolve_items, stmt_count, items_count, init_count, step_count, declarator_count}
+use Rattle.lra_tree.specs.Resolve.{resolve_stmt, resolve_items, stmt_count, items_count, init_count, step_count}
 use Rattle.lra_tree.proofs.Walking.{told_stmt}
 use Rattle.lra_names.specs.Scopes.{with_more, Extends, left_to}
 use Rattle.lra_names.specs.Statements.{followed}
@@ -153,7 +151,11 @@ for_counted stmt at i c e b n n1 n2 n3 n4 is p q r t =
     rw (is, v) (omega arith)
 
 pub ruleset statement_rules = (count_if_else, count_for, left_for, tells_front, tells_behind)
+
 pub ruleset block_rules = (count_block, left_inner)
+
 pub ruleset init_rules = (count_declared, followed_end, length-map)
+
 pub ruleset items_rules = (followed_end, extends_self, extends_then, tells_front, tells_behind)
+
 pub ruleset item_rules = (extends_declared, extends_self, followed_push, length-map, tells_front, tells_behind)

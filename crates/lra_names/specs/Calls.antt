@@ -1,5 +1,5 @@
 -- The functions of a list of a source's parts, and the faults of one declarator.
-use Rattle.std.specs.Prelude.{◌≡◌, ℕ, List, ◌++◌, map, Option, Some, None, option_map}
+use Rattle.std.specs.Prelude.{List, ◌++◌, map}
 use Rattle.lra_tree.specs.declared.refusals.Refusal.{Refusal}
 use Rattle.lra_tree.specs.declared.refusals.Cause.TheVariants.{DuplicateName}
 use Rattle.lra_tree.specs.declared.trees.Item.{Item}

@@ -1,5 +1,5 @@
 -- Where statements stand, and lists of items that are built from the front.
-use Rattle.std.specs.Prelude.{ℕ, Bool, List, [], ◌∷◌, map}
+use Rattle.std.specs.Prelude.{Bool, List, [], ◌∷◌}
 use Rattle.lra_tree.specs.declared.trees.Item.{Item}
 use Rattle.lra_names.specs.Calls.{functions_at}
 use Rattle.lra_tree.specs.NameFaults as faults

@@ -10,12 +10,13 @@ ghost use Rattle.lra_tree.specs.Resolve.{function_place, resolve_expr, resolve_c
 ghost use Rattle.lra_names.specs.Calls.{functions_at};
 ghost use Rattle.lra_names.specs.Outcome.{TellsOf};
 
-use crate::errors::{refuse, NamesError};
+use crate::errors::{NamesError, refuse};
 use crate::expressions::{resolve_expr, resolve_variable};
-use crate::scopes::{is_same, Scope};
-use lra_tree::program;
+use crate::scopes::{Scope, is_same};
 use lra_tree::program::{Operation, Slot};
-use lra_tree::{Assign, Call, Cause, Expr, Function, Identifier, Item, Operator, Source, Step, Word};
+use lra_tree::{
+    Assign, Call, Cause, Expr, Function, Identifier, Item, Operator, Source, Step, Word, program,
+};
 use std::alloc::{AllocError, Global};
 
 /// The first function of this name, and its place in the list of functions.
@@ -46,7 +47,12 @@ fn is_bad_call(function: &Function, count: usize, used: bool) -> bool
 }
 
 /// The place of the called function, where it has so many parameters, and a result if one is used.
-fn resolve_called(parts: &[Item], name: &Identifier, count: usize, used: bool) -> Result<usize, NamesError>
+fn resolve_called(
+    parts: &[Item],
+    name: &Identifier,
+    count: usize,
+    used: bool,
+) -> Result<usize, NamesError>
     ensures told { TellsOf (called_faults (function_named (functions_at parts.now) name.now.word) name.now count used) result }
     ensures found { IfOk result (λ p. p ≡ function_place (functions_at parts.now) name.now.word) }
 {
@@ -62,7 +68,11 @@ fn resolve_called(parts: &[Item], name: &Identifier, count: usize, used: bool) -
     }
 }
 
-fn resolve_arguments(alloc: Global, scope: &Scope, arguments: &[Expr]) -> Result<Vec<program::Expr>, NamesError>
+fn resolve_arguments(
+    alloc: Global,
+    scope: &Scope,
+    arguments: &[Expr],
+) -> Result<Vec<program::Expr>, NamesError>
     ensures told { TellsOf (flat_map (λ e. expr_faults scope.now (tree_expr_view e)) arguments.now) result }
     ensures found { IfOk result (λ v. map expr_view v.items ≡ map (λ e. resolve_expr scope.now (tree_expr_view e)) arguments.now) }
 {
@@ -76,7 +86,14 @@ fn resolve_arguments(alloc: Global, scope: &Scope, arguments: &[Expr]) -> Result
 
 /// A call under a label, whose result is used or not.
 #[tactic(auto, using(crate::proofs::CallLaws::call_rules))]
-pub fn resolve_call(alloc: Global, parts: &[Item], scope: &Scope, label: usize, call: &Call, used: bool) -> Result<program::Call, NamesError>
+pub fn resolve_call(
+    alloc: Global,
+    parts: &[Item],
+    scope: &Scope,
+    label: usize,
+    call: &Call,
+    used: bool,
+) -> Result<program::Call, NamesError>
     ensures told { TellsOf (call_faults (functions_at parts.now) scope.now (tree_call_view call.now) used) result }
     ensures found { IfOk result (λ c. call_view c ≡ resolve_call (functions_at parts.now) scope.now label (tree_call_view call.now)) }
 {
@@ -89,7 +106,13 @@ pub fn resolve_call(alloc: Global, parts: &[Item], scope: &Scope, label: usize, 
     })
 }
 
-pub fn resolve_source(alloc: Global, parts: &[Item], scope: &Scope, label: usize, source: &Source) -> Result<program::Source, NamesError>
+pub fn resolve_source(
+    alloc: Global,
+    parts: &[Item],
+    scope: &Scope,
+    label: usize,
+    source: &Source,
+) -> Result<program::Source, NamesError>
     ensures told { TellsOf (source_faults (functions_at parts.now) scope.now (tree_source_view source.now)) result }
     ensures found { IfOk result (λ e. source_view e ≡ resolve_source (functions_at parts.now) scope.now label (tree_source_view source.now)) }
 {
@@ -105,7 +128,13 @@ pub fn resolve_source(alloc: Global, parts: &[Item], scope: &Scope, label: usize
     }
 }
 
-pub fn resolve_given(alloc: Global, parts: &[Item], scope: &Scope, label: usize, source: &Option<Source>) -> Result<Option<program::Source>, NamesError>
+pub fn resolve_given(
+    alloc: Global,
+    parts: &[Item],
+    scope: &Scope,
+    label: usize,
+    source: &Option<Source>,
+) -> Result<Option<program::Source>, NamesError>
     ensures told { TellsOf (given_faults (functions_at parts.now) scope.now (option_map tree_source_view source.now)) result }
     ensures found { IfOk result (λ e. given_view e ≡ resolve_given (functions_at parts.now) scope.now label (option_map tree_source_view source.now)) }
 {
@@ -119,7 +148,12 @@ pub fn resolve_given(alloc: Global, parts: &[Item], scope: &Scope, label: usize,
 }
 
 /// The variable's value, an operator and an operand.
-fn updated(alloc: Global, slot: Slot, operator: Operator, operand: program::Expr) -> Result<program::Source, AllocError>
+fn updated(
+    alloc: Global,
+    slot: Slot,
+    operator: Operator,
+    operand: program::Expr,
+) -> Result<program::Source, AllocError>
     ensures { IfOk result (λ e. source_view e ≡ value (binary (operator_view operator) (read (slot_view slot)) (expr_view operand))) }
 {
     let mut rest = Vec::new(alloc);
@@ -145,7 +179,13 @@ fn stepped(alloc: Global, slot: Slot, step: Step) -> Result<program::Source, All
 }
 
 #[tactic(auto, using(crate::proofs::Telling::telling_rules))]
-pub fn resolve_assign(alloc: Global, parts: &[Item], scope: &Scope, label: usize, assign: &Assign) -> Result<program::Stmt, NamesError>
+pub fn resolve_assign(
+    alloc: Global,
+    parts: &[Item],
+    scope: &Scope,
+    label: usize,
+    assign: &Assign,
+) -> Result<program::Stmt, NamesError>
     ensures told { TellsOf (assign_faults (functions_at parts.now) scope.now (assign_view assign.now)) result }
     ensures found { IfOk result (λ s. stmt_view s ≡ resolve_assign (functions_at parts.now) scope.now label (assign_view assign.now)) }
 {

@@ -11,12 +11,15 @@ ghost use Rattle.lra_names.specs.Outcome.{TellsOf};
 use crate::errors::NamesError;
 use crate::expressions::{resolve_expr, resolve_unary};
 use crate::scopes::Scope;
-use lra_tree::program;
-use lra_tree::{Cond, Conjunction, Negation, Test};
+use lra_tree::{Cond, Conjunction, Negation, Test, program};
 use std::alloc::{AllocError, Global};
 
 /// A chain of `&&`, or its only operand.
-fn all(alloc: Global, first: program::Cond, rest: Vec<program::Cond>) -> Result<program::Cond, AllocError>
+fn all(
+    alloc: Global,
+    first: program::Cond,
+    rest: Vec<program::Cond>,
+) -> Result<program::Cond, AllocError>
     ensures { IfOk result (λ c. cond_view c ≡ all_of (cond_view first) (map cond_view rest.items)) }
 {
     if rest.is_empty() {
@@ -27,7 +30,11 @@ fn all(alloc: Global, first: program::Cond, rest: Vec<program::Cond>) -> Result<
 }
 
 /// A chain of `||`, or its only operand.
-fn any(alloc: Global, first: program::Cond, rest: Vec<program::Cond>) -> Result<program::Cond, AllocError>
+fn any(
+    alloc: Global,
+    first: program::Cond,
+    rest: Vec<program::Cond>,
+) -> Result<program::Cond, AllocError>
     ensures { IfOk result (λ c. cond_view c ≡ any_of (cond_view first) (map cond_view rest.items)) }
 {
     if rest.is_empty() {
@@ -38,7 +45,11 @@ fn any(alloc: Global, first: program::Cond, rest: Vec<program::Cond>) -> Result<
 }
 
 #[cycle(condition)]
-fn resolve_negation(alloc: Global, scope: &Scope, negation: &Negation) -> Result<program::Cond, NamesError>
+fn resolve_negation(
+    alloc: Global,
+    scope: &Scope,
+    negation: &Negation,
+) -> Result<program::Cond, NamesError>
     ensures told { TellsOf (negation_faults scope.now (negation_view negation.now)) result }
     ensures found { IfOk result (λ c. cond_view c ≡ resolve_negation scope.now (negation_view negation.now)) }
 {
@@ -81,7 +92,11 @@ fn resolve_test(alloc: Global, scope: &Scope, test: &Test) -> Result<program::Co
 
 #[cycle(condition)]
 #[tactic(auto, using(crate::proofs::CondLaws::conjunction_rules))]
-fn resolve_conjunction(alloc: Global, scope: &Scope, conjunction: &Conjunction) -> Result<program::Cond, NamesError>
+fn resolve_conjunction(
+    alloc: Global,
+    scope: &Scope,
+    conjunction: &Conjunction,
+) -> Result<program::Cond, NamesError>
     ensures told { TellsOf (conjunction_faults scope.now (conjunction_view conjunction.now)) result }
     ensures found { IfOk result (λ c. cond_view c ≡ resolve_conjunction scope.now (conjunction_view conjunction.now)) }
 {

@@ -13,10 +13,9 @@ ghost use Rattle.lra_names.specs.Statements.{followed};
 ghost use Rattle.lra_names.specs.Outcome.{Tells, TellsOf};
 
 use crate::calls::resolve_given;
-use crate::errors::{refuse, NamesError};
+use crate::errors::{NamesError, refuse};
 use crate::scopes::Scope;
-use lra_tree::program;
-use lra_tree::{Cause, Declaration, Declarator, Item};
+use lra_tree::{Cause, Declaration, Declarator, Item, program};
 use std::alloc::Global;
 
 /// The next label. One that can't be counted wants memory, like the tree that has so many.

@@ -8,11 +8,13 @@ ghost use Rattle.lra_tree.specs.Resolve.{variable, resolve_unary, resolve_term, 
 ghost use Rattle.lra_names.specs.Chains.{factor_operator, sum_operator, factor_faults, resolve_factor, summand_faults, resolve_summand};
 ghost use Rattle.lra_names.specs.Outcome.{TellsOf};
 
-use crate::errors::{refuse, NamesError};
+use crate::errors::{NamesError, refuse};
 use crate::scopes::Scope;
-use lra_tree::program;
 use lra_tree::program::{Operation, Slot};
-use lra_tree::{Cause, Expr, Factor, FactorOperator, Identifier, Operator, SumOperator, Summand, Term, Unary};
+use lra_tree::{
+    Cause, Expr, Factor, FactorOperator, Identifier, Operator, SumOperator, Summand, Term, Unary,
+    program,
+};
 use std::alloc::{AllocError, Global};
 
 /// The variable that a name means; `UnknownName` where none is in scope.
@@ -27,7 +29,11 @@ pub fn resolve_variable(scope: &Scope, x: &Identifier) -> Result<Slot, NamesErro
 }
 
 /// A chain, or its only operand.
-fn chain(alloc: Global, first: program::Expr, rest: Vec<Operation>) -> Result<program::Expr, AllocError>
+fn chain(
+    alloc: Global,
+    first: program::Expr,
+    rest: Vec<Operation>,
+) -> Result<program::Expr, AllocError>
     ensures { IfOk result (λ e. expr_view e ≡ chained (expr_view first) (map operation_view rest.items)) }
 {
     if rest.is_empty() {
@@ -57,7 +63,11 @@ fn sum_operator(operator: SumOperator) -> Operator
 }
 
 #[cycle(expression)]
-pub fn resolve_unary(alloc: Global, scope: &Scope, unary: &Unary) -> Result<program::Expr, NamesError>
+pub fn resolve_unary(
+    alloc: Global,
+    scope: &Scope,
+    unary: &Unary,
+) -> Result<program::Expr, NamesError>
     ensures told { TellsOf (unary_faults scope.now (unary_view unary.now)) result }
     ensures found { IfOk result (λ e. expr_view e ≡ resolve_unary scope.now (unary_view unary.now)) }
 {

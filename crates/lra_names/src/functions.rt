@@ -13,12 +13,11 @@ ghost use Rattle.lra_names.specs.Mains.{main_place};
 ghost use Rattle.lra_names.specs.Outcome.{Tells, TellsOf};
 
 use crate::declarations::take_label;
-use crate::errors::{refuse, NamesError};
-use crate::scopes::{is_same, Scope};
+use crate::errors::{NamesError, refuse};
+use crate::scopes::{Scope, is_same};
 use crate::statements::resolve_items;
-use lra_tree::program;
 use lra_tree::program::Program;
-use lra_tree::{Cause, Function, Globals, Identifier, Item, Tree, Word};
+use lra_tree::{Cause, Function, Globals, Identifier, Item, Tree, Word, program};
 use std::alloc::Global;
 
 /// Whether the name is one of these.
@@ -29,7 +28,11 @@ fn is_taken(name: &Word, names: &[Word]) -> bool
 }
 
 /// Begins a function's scope with its parameters.
-fn declare_parameters(alloc: Global, scope: &mut Scope, parameters: &[Identifier]) -> Result<(), NamesError>
+fn declare_parameters(
+    alloc: Global,
+    scope: &mut Scope,
+    parameters: &[Identifier],
+) -> Result<(), NamesError>
     ensures told { TellsOf (parameters_faults [] parameters.now) result }
     ensures declared { OnOk result (scope.new ≡ function_scope scope.old.globals parameters.now) }
 {
@@ -87,7 +90,11 @@ pub struct Resolved {
 }
 
 #[tactic(auto, using(crate::proofs::FunctionLaws::global_rules))]
-fn add_global(alloc: Global, resolved: &mut Resolved, global: &lra_tree::Global) -> Result<(), NamesError>
+fn add_global(
+    alloc: Global,
+    resolved: &mut Resolved,
+    global: &lra_tree::Global,
+) -> Result<(), NamesError>
     ensures told { IfErr result (λ e. (rest : List GlobalTree) → Tells (globals_faults resolved.old.names.items (global_view global.now ∷ rest)) e) }
     ensures clean { OnOk result ((rest : List GlobalTree) → globals_faults resolved.old.names.items (global_view global.now ∷ rest) ≡ globals_faults resolved.new.names.items rest) }
     ensures named { OnOk result (resolved.new.names.items ≡ resolved.old.names.items ++ global.now.name.word ∷ []) }
@@ -126,7 +133,12 @@ fn add_globals(alloc: Global, resolved: &mut Resolved, globals: &Globals) -> Res
 }
 
 #[tactic(auto, using(crate::proofs::FunctionLaws::part_rules))]
-fn add_function(alloc: Global, parts: &[Item], resolved: &mut Resolved, function: &Function) -> Result<(), NamesError>
+fn add_function(
+    alloc: Global,
+    parts: &[Item],
+    resolved: &mut Resolved,
+    function: &Function,
+) -> Result<(), NamesError>
     ensures told { IfErr result (λ e. (rest : List PartTree) → Tells (parts_faults (functions_at parts.now) resolved.old.names.items resolved.old.scope.globals (part_function (tree_function_view function.now) ∷ rest)) e) }
     ensures clean { OnOk result ((rest : List PartTree) → parts_faults (functions_at parts.now) resolved.old.names.items resolved.old.scope.globals (part_function (tree_function_view function.now) ∷ rest) ≡ parts_faults (functions_at parts.now) resolved.new.names.items resolved.new.scope.globals rest) }
     ensures found { OnOk result ((rest : List PartTree) → map function_view resolved.old.functions.items ++ resolve_parts (functions_at parts.now) resolved.old.scope.globals resolved.old.next (part_function (tree_function_view function.now) ∷ rest) ≡ map function_view resolved.new.functions.items ++ resolve_parts (functions_at parts.now) resolved.new.scope.globals resolved.new.next rest) }
@@ -137,13 +149,24 @@ fn add_function(alloc: Global, parts: &[Item], resolved: &mut Resolved, function
     }
     let word = function.name.word.copy(alloc)?;
     resolved.names.push(word)?;
-    let one = resolve_function(alloc, parts, &mut resolved.scope, &mut resolved.next, function)?;
+    let one = resolve_function(
+        alloc,
+        parts,
+        &mut resolved.scope,
+        &mut resolved.next,
+        function,
+    )?;
     resolved.functions.push(one)?;
     Ok(())
 }
 
 #[tactic(auto, using(crate::proofs::FunctionLaws::part_rules))]
-fn add_part(alloc: Global, parts: &[Item], resolved: &mut Resolved, item: &Item) -> Result<(), NamesError>
+fn add_part(
+    alloc: Global,
+    parts: &[Item],
+    resolved: &mut Resolved,
+    item: &Item,
+) -> Result<(), NamesError>
     ensures told { IfErr result (λ e. (rest : List PartTree) → Tells (parts_faults (functions_at parts.now) resolved.old.names.items resolved.old.scope.globals (part_view item.now ∷ rest)) e) }
     ensures clean { OnOk result ((rest : List PartTree) → parts_faults (functions_at parts.now) resolved.old.names.items resolved.old.scope.globals (part_view item.now ∷ rest) ≡ parts_faults (functions_at parts.now) resolved.new.names.items resolved.new.scope.globals rest) }
     ensures found { OnOk result ((rest : List PartTree) → map function_view resolved.old.functions.items ++ resolve_parts (functions_at parts.now) resolved.old.scope.globals resolved.old.next (part_view item.now ∷ rest) ≡ map function_view resolved.new.functions.items ++ resolve_parts (functions_at parts.now) resolved.new.scope.globals resolved.new.next rest) }

@@ -6,8 +6,8 @@ ghost use Rattle.lra_tree.specs.ProgramViews.{slot_view};
 ghost use Rattle.std.specs.Prelude.{option_map};
 ghost use Rattle.lra_names.specs.Scopes.{left_to};
 
-use lra_tree::program::Slot;
 use lra_tree::Word;
+use lra_tree::program::Slot;
 use std::alloc::{AllocError, Global};
 use std::marker::Model;
 

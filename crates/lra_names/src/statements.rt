@@ -17,10 +17,9 @@ ghost use Rattle.lra_names.specs.Outcome.{Tells, TellsOf};
 use crate::calls::{resolve_assign, resolve_call, resolve_given};
 use crate::conditions::resolve_cond;
 use crate::declarations::{add_declaration, take_label};
-use crate::errors::{refuse, NamesError};
+use crate::errors::{NamesError, refuse};
 use crate::scopes::Scope;
-use lra_tree::program;
-use lra_tree::{Assign, Block, BlockItem, Cause, Cond, Init, Item, Place, Source, Stmt};
+use lra_tree::{Assign, Block, BlockItem, Cause, Cond, Init, Item, Place, Source, Stmt, program};
 use std::alloc::Global;
 
 /// The items of a block.
@@ -98,7 +97,11 @@ fn resolve_init(
 }
 
 /// A test that isn't there is true.
-fn resolve_for_test(alloc: Global, scope: &Scope, test: &Option<Cond>) -> Result<program::Cond, NamesError>
+fn resolve_for_test(
+    alloc: Global,
+    scope: &Scope,
+    test: &Option<Cond>,
+) -> Result<program::Cond, NamesError>
     ensures told { TellsOf (test_of_for_faults scope.now (option_map tree_cond_view test.now)) result }
     ensures found { IfOk result (λ c. cond_view c ≡ resolve_for_test scope.now (option_map tree_cond_view test.now)) }
 {
@@ -270,7 +273,9 @@ pub fn resolve_items(
 {
     let mut items = Vec::new(alloc);
     'items: for item in &block.items {
-        add_item(alloc, parts, has_result, in_loop, scope, next, item, &mut items)?;
+        add_item(
+            alloc, parts, has_result, in_loop, scope, next, item, &mut items,
+        )?;
     }
     Ok(block_of(items))
 }

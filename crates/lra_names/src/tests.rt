@@ -53,7 +53,8 @@ fn counted(rt: &HostRuntime, name: &[u8]) -> Result<Tree, Fail> {
 /// Whether the item counts up the first local variable under the label 2.
 fn counts_up(item: &BlockItem) -> bool {
     match item {
-        BlockItem::Statement(Stmt::Assign(label, slot, _)) => *label == 2 && *slot == Slot::Local(0),
+        BlockItem::Statement(Stmt::Assign(label, slot, _)) => *label == 2
+            && *slot == Slot::Local(0),
         _ => false,
     }
 }

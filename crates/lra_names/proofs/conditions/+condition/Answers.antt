@@ -1,4 +1,4 @@
-use Rattle.std.proofs.Common.{◌≡◌, ◌≤◌, length, arith}
+use Rattle.std.proofs.Common.{arith}
 use Rattle.lra_names.proofs.CondLaws.{conjunction_found, cond_found}
 use Rattle.lra_names.proofs.conditions.+condition.Goals as goal
 

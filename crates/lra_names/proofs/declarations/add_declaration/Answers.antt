@@ -1,4 +1,4 @@
-use Rattle.std.proofs.Common.{◌≡◌, map, arith}
+use Rattle.std.proofs.Common.{map}
 use Rattle.lra_tree.specs.Views.{declarator_view}
 use Rattle.lra_tree.specs.NameFaults.{declarators_faults}
 use Rattle.lra_names.specs.Calls.{functions_at}

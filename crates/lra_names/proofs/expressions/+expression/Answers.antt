@@ -1,4 +1,4 @@
-use Rattle.std.proofs.Common.{◌≡◌, ◌≤◌, length, arith}
+use Rattle.std.proofs.Common.{arith}
 use Rattle.lra_names.proofs.ChainLaws.{term_found, sum_found}
 use Rattle.lra_names.proofs.expressions.+expression.Goals as goal
 

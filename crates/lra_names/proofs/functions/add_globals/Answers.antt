@@ -1,4 +1,4 @@
-use Rattle.std.proofs.Common.{◌≡◌, map}
+use Rattle.std.proofs.Common.{map}
 use Rattle.lra_tree.specs.Views.{global_view}
 use Rattle.lra_tree.specs.NameFaults.{globals_faults}
 use Rattle.lra_names.proofs.Telling.{exit_tells, rest_tells}

@@ -1,4 +1,4 @@
-use Rattle.std.proofs.Common.{◌≡◌, List, ◌∷◌}
+use Rattle.std.proofs.Common.{List, ◌∷◌}
 use Rattle.lra_tree.specs.Trees.{PartTree}
 use Rattle.lra_tree.specs.Views.{part_view}
 use Rattle.lra_tree.specs.NameFaults.{parts_faults}

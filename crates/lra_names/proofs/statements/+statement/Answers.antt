@@ -1,4 +1,4 @@
-use Rattle.std.proofs.Common.{◌≡◌, ◌+◌, ℕ, List, ◌∷◌, map, ap, sym, ◌∙◌, arith}
+use Rattle.std.proofs.Common.{List, ◌∷◌, map, ap, sym, ◌∙◌, arith}
 use Rattle.lra_tree.specs.Trees.{ItemsTree}
 use Rattle.lra_tree.specs.declared.trees.BlockItem.{BlockItem}
 use Rattle.lra_tree.specs.Views.{items_of, item_view, declarator_view}

@@ -1,4 +1,4 @@
-use Rattle.std.proofs.Common.{◌≡◌, ◌+◌, ℕ, ap, sym, ◌∙◌}
+use Rattle.std.proofs.Common.{◌+◌, ℕ, ap, sym, ◌∙◌}
 use Rattle.lra_names.proofs.StatementLaws.{code_init_count}
 use Rattle.lra_names.proofs.statements.resolve_init.Goals as goal
 
