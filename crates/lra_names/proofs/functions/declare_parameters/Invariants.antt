@@ -1,0 +1,11 @@
+-- The first parameters are declared; the faults of those that are left are those of all.
+use Rattle.std.proofs.Common.{◌≡◌, [], take, drop}
+use Rattle.lra_tree.specs.Scope.{function_scope}
+use Rattle.lra_tree.specs.NameFaults.{parameters_faults}
+use Rattle.lra_names.proofs.functions.declare_parameters.Given as goal
+
+abbrev pub invariant-parameters : goal.invariant-parameters
+invariant-parameters l = record {
+  clean : parameters_faults [] l.parameters ≡ parameters_faults l.scope.locals (drop l.parameter-index l.parameters);
+  declared : l.scope ≡ function_scope l.fn.scope.globals (take l.parameter-index l.parameters);
+}

@@ -1,0 +1,8 @@
+use Rattle.std.proofs.Common.{◌+◌, ℕ, ap, sym, ◌∙◌}
+use Rattle.lra_names.proofs.StatementLaws.{code_init_count}
+use Rattle.lra_names.proofs.statements.resolve_init.Goals as goal
+
+pub returns-in_ok-add_declaration-in-Declaration-clause-counted : goal.returns-in_ok-add_declaration-in-Declaration-clause-counted
+returns-in_ok-add_declaration-in-Declaration-clause-counted c =
+    c.in_ok-add_declaration-in-Declaration.ensures.counted
+    ∙ ap (λ (k : ℕ). c.args.next.now + k) (sym (code_init_count c.args.init.now c.in-Declaration.declaration c.in-Declaration.is))

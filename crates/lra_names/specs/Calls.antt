@@ -1,0 +1,17 @@
+-- The functions of a list of a source's parts, and the faults of one declarator.
+use Rattle.std.specs.Prelude.{List, ◌++◌, map}
+use Rattle.lra_tree.specs.declared.refusals.Refusal.{Refusal}
+use Rattle.lra_tree.specs.declared.refusals.Cause.TheVariants.{DuplicateName}
+use Rattle.lra_tree.specs.declared.trees.Item.{Item}
+use Rattle.lra_tree.specs.Views.{part_view}
+use Rattle.lra_tree.specs.Trees.{FunctionTree, DeclaratorTree}
+use Rattle.lra_tree.specs.Scope.{Scope, functions_in, is_declared, with_local}
+use Rattle.lra_tree.specs.NameFaults.{fault_if, given_faults}
+
+-- in text order
+abbrev pub functions_at : List Item → List FunctionTree
+functions_at parts = functions_in (map part_view parts)
+
+-- of one declarator
+abbrev pub declarator_faults : List FunctionTree → Scope → DeclaratorTree → List Refusal
+declarator_faults F s d = fault_if (is_declared s d.name.word) DuplicateName d.name.place ++ given_faults F (with_local s d.name.word) d.source

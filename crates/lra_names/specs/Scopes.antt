@@ -1,0 +1,16 @@
+-- How the variables that can be named change along a block.
+use Rattle.std.specs.Prelude.{◌≡◌, ℕ, List, ◌++◌, take}
+use Rattle.lra_tree.specs.Scope.{Scope}
+
+-- with further variables
+abbrev pub with_more : Scope → List (List ℕ) → Scope
+with_more s more = record s { locals = s.locals ++ more }
+
+-- further variables in the same scope
+pub record Extends (s t : Scope) : Type 0 where
+  pub more : List (List ℕ)
+  pub is : t ≡ with_more s more
+
+-- the oldest so many variables, in a scope that `outer` of them lie outside
+abbrev pub left_to : ℕ → ℕ → Scope → Scope
+left_to locals outer s = record s { locals = take locals s.locals; outer = outer }

@@ -1,0 +1,215 @@
+//! Calls, and what variables get.
+
+ghost use Rattle.std.specs.Prelude.{◌≡◌, ◌||◌, ◌&&◌, not, nat_eq, ◌∷◌, [], map, length, flat_map, Option, Some, None, option_map, IfOk, MatchOption};
+ghost use Rattle.lra_tree.specs.Program.{binary, literal, read, value};
+ghost use Rattle.lra_tree.specs.Views.{operator_view, step_view, function_view, call_view as tree_call_view, source_view as tree_source_view, assign_view, expr_view as tree_expr_view};
+ghost use Rattle.lra_tree.specs.ProgramViews.{slot_view, expr_view, call_view, source_view, given_view, stmt_view};
+ghost use Rattle.lra_tree.specs.Scope.{function_named};
+ghost use Rattle.lra_tree.specs.NameFaults.{called_faults, call_faults, expr_faults, source_faults, given_faults, assign_faults};
+ghost use Rattle.lra_tree.specs.Resolve.{function_place, resolve_expr, resolve_call, resolve_source, resolve_given, resolve_assign, step_operator};
+ghost use Rattle.lra_names.specs.Calls.{functions_at};
+ghost use Rattle.lra_names.specs.Outcome.{TellsOf};
+
+use crate::errors::{NamesError, refuse};
+use crate::expressions::{resolve_expr, resolve_variable};
+use crate::scopes::{Scope, is_same};
+use lra_tree::program::{Operation, Slot};
+use lra_tree::{
+    Assign, Call, Cause, Expr, Function, Identifier, Item, Operator, Source, Step, Word, program,
+};
+use std::alloc::{AllocError, Global};
+
+/// The first function of this name, and its place in the list of functions.
+fn find_function<'a>(parts: &'a [Item], name: &Word) -> Option<(usize, &'a Function)>
+    ensures { MatchOption result (function_named (functions_at parts.now) name.now ≡ None) (λ r. (function_named (functions_at parts.now) name.now ≡ Some (function_view r.1.now)) × (function_place (functions_at parts.now) name.now ≡ r.0)) }
+{
+    let mut place = 0;
+    'parts: for item in parts {
+        match item {
+            Item::Prototype => {}
+            Item::Globals(_) => {}
+            Item::Function(function) => {
+                if is_same(name, &function.name.word) {
+                    return Some((place, function));
+                }
+                place += 1;
+            }
+        }
+    }
+    None
+}
+
+/// Whether the function can't be called so.
+fn is_bad_call(function: &Function, count: usize, used: bool) -> bool
+    ensures { result ≡ not (nat_eq (length (function_view function.now).parameters) count) || (used && not (function_view function.now).has_result) }
+{
+    function.parameters.items.len() != count || (used && !function.has_result)
+}
+
+/// The place of the called function, where it has so many parameters, and a result if one is used.
+fn resolve_called(
+    parts: &[Item],
+    name: &Identifier,
+    count: usize,
+    used: bool,
+) -> Result<usize, NamesError>
+    ensures told { TellsOf (called_faults (function_named (functions_at parts.now) name.now.word) name.now count used) result }
+    ensures found { IfOk result (λ p. p ≡ function_place (functions_at parts.now) name.now.word) }
+{
+    match find_function(parts, &name.word) {
+        None => refuse(Cause::UnknownName, name.place),
+        Some((place, function)) => {
+            if is_bad_call(function, count, used) {
+                refuse(Cause::BadCall, name.place)
+            } else {
+                Ok(place)
+            }
+        }
+    }
+}
+
+fn resolve_arguments(
+    alloc: Global,
+    scope: &Scope,
+    arguments: &[Expr],
+) -> Result<Vec<program::Expr>, NamesError>
+    ensures told { TellsOf (flat_map (λ e. expr_faults scope.now (tree_expr_view e)) arguments.now) result }
+    ensures found { IfOk result (λ v. map expr_view v.items ≡ map (λ e. resolve_expr scope.now (tree_expr_view e)) arguments.now) }
+{
+    let mut values = Vec::new(alloc);
+    'arguments: for argument in arguments {
+        let value = resolve_expr(alloc, scope, argument)?;
+        values.push(value)?;
+    }
+    Ok(values)
+}
+
+/// A call under a label, whose result is used or not.
+#[tactic(auto, using(crate::proofs::CallLaws::call_rules))]
+pub fn resolve_call(
+    alloc: Global,
+    parts: &[Item],
+    scope: &Scope,
+    label: usize,
+    call: &Call,
+    used: bool,
+) -> Result<program::Call, NamesError>
+    ensures told { TellsOf (call_faults (functions_at parts.now) scope.now (tree_call_view call.now) used) result }
+    ensures found { IfOk result (λ c. call_view c ≡ resolve_call (functions_at parts.now) scope.now label (tree_call_view call.now)) }
+{
+    let function = resolve_called(parts, &call.name, call.arguments.items.len(), used)?;
+    let arguments = resolve_arguments(alloc, scope, &call.arguments.items)?;
+    Ok(program::Call {
+        label,
+        function,
+        arguments,
+    })
+}
+
+pub fn resolve_source(
+    alloc: Global,
+    parts: &[Item],
+    scope: &Scope,
+    label: usize,
+    source: &Source,
+) -> Result<program::Source, NamesError>
+    ensures told { TellsOf (source_faults (functions_at parts.now) scope.now (tree_source_view source.now)) result }
+    ensures found { IfOk result (λ e. source_view e ≡ resolve_source (functions_at parts.now) scope.now label (tree_source_view source.now)) }
+{
+    match source {
+        Source::Value(expr) => {
+            let value = resolve_expr(alloc, scope, expr)?;
+            Ok(program::Source::Value(value))
+        }
+        Source::Result(call) => {
+            let call = resolve_call(alloc, parts, scope, label, call, true)?;
+            Ok(program::Source::Result(call))
+        }
+    }
+}
+
+pub fn resolve_given(
+    alloc: Global,
+    parts: &[Item],
+    scope: &Scope,
+    label: usize,
+    source: &Option<Source>,
+) -> Result<Option<program::Source>, NamesError>
+    ensures told { TellsOf (given_faults (functions_at parts.now) scope.now (option_map tree_source_view source.now)) result }
+    ensures found { IfOk result (λ e. given_view e ≡ resolve_given (functions_at parts.now) scope.now label (option_map tree_source_view source.now)) }
+{
+    match source {
+        None => Ok(None),
+        Some(source) => {
+            let source = resolve_source(alloc, parts, scope, label, source)?;
+            Ok(Some(source))
+        }
+    }
+}
+
+/// The variable's value, an operator and an operand.
+fn updated(
+    alloc: Global,
+    slot: Slot,
+    operator: Operator,
+    operand: program::Expr,
+) -> Result<program::Source, AllocError>
+    ensures { IfOk result (λ e. source_view e ≡ value (binary (operator_view operator) (read (slot_view slot)) (expr_view operand))) }
+{
+    let mut rest = Vec::new(alloc);
+    rest.push(Operation { operator, operand })?;
+    let first = Box::new(alloc, program::Expr::Read(slot))?;
+    Ok(program::Source::Value(program::Expr::Chain(first, rest)))
+}
+
+fn step_operator(step: Step) -> Operator
+    ensures { operator_view result ≡ step_operator (step_view step) }
+{
+    match step {
+        Step::Increment => Operator::Plus,
+        Step::Decrement => Operator::Minus,
+    }
+}
+
+/// `x++` and `++x` alike: one more, or one less.
+fn stepped(alloc: Global, slot: Slot, step: Step) -> Result<program::Source, AllocError>
+    ensures { IfOk result (λ e. source_view e ≡ value (binary (step_operator (step_view step)) (read (slot_view slot)) (literal 1))) }
+{
+    updated(alloc, slot, step_operator(step), program::Expr::Literal(1))
+}
+
+#[tactic(auto, using(crate::proofs::Telling::telling_rules))]
+pub fn resolve_assign(
+    alloc: Global,
+    parts: &[Item],
+    scope: &Scope,
+    label: usize,
+    assign: &Assign,
+) -> Result<program::Stmt, NamesError>
+    ensures told { TellsOf (assign_faults (functions_at parts.now) scope.now (assign_view assign.now)) result }
+    ensures found { IfOk result (λ s. stmt_view s ≡ resolve_assign (functions_at parts.now) scope.now label (assign_view assign.now)) }
+{
+    match assign {
+        Assign::Set(x, source) => {
+            let slot = resolve_variable(scope, x)?;
+            let source = resolve_source(alloc, parts, scope, label, source)?;
+            Ok(program::Stmt::Assign(label, slot, source))
+        }
+        Assign::Update(x, operator, expr) => {
+            let slot = resolve_variable(scope, x)?;
+            let operand = resolve_expr(alloc, scope, expr)?;
+            let source = updated(alloc, slot, *operator, operand)?;
+            Ok(program::Stmt::Assign(label, slot, source))
+        }
+        Assign::After(x, step) => {
+            let slot = resolve_variable(scope, x)?;
+            let source = stepped(alloc, slot, *step)?;
+            Ok(program::Stmt::Assign(label, slot, source))
+        }
+        Assign::Before(_, step, x) => {
+            let slot = resolve_variable(scope, x)?;
+            let source = stepped(alloc, slot, *step)?;
+            Ok(program::Stmt::Assign(label, slot, source))
+        }
+    }
+}

@@ -1,0 +1,100 @@
+//! Declarations: a variable is in scope from its own declarator's name on.
+
+ghost use Rattle.std.specs.Prelude.{◌≡◌, ◌+◌, ◌∷◌, ℕ, suc, List, map, length, option_map, IfOk, OnOk, IfErr};
+ghost use Rattle.lra_tree.specs.Program.{BlockItems};
+ghost use Rattle.lra_tree.specs.Trees.{DeclaratorTree};
+ghost use Rattle.lra_tree.specs.Views.{source_view, declarator_view};
+ghost use Rattle.lra_tree.specs.ProgramViews.{declarator_view as program_declarator_view, item_view};
+ghost use Rattle.lra_tree.specs.Scope.{with_local, with_declarators};
+ghost use Rattle.lra_tree.specs.NameFaults.{declarators_faults};
+ghost use Rattle.lra_tree.specs.Resolve.{resolve_given, resolve_declarators};
+ghost use Rattle.lra_names.specs.Calls.{functions_at, declarator_faults};
+ghost use Rattle.lra_names.specs.Statements.{followed};
+ghost use Rattle.lra_names.specs.Outcome.{Tells, TellsOf};
+
+use crate::calls::resolve_given;
+use crate::errors::{NamesError, refuse};
+use crate::scopes::Scope;
+use lra_tree::{Cause, Declaration, Declarator, Item, program};
+use std::alloc::Global;
+
+/// The next label. One that can't be counted wants memory, like the tree that has so many.
+pub fn take_label(next: &mut usize) -> Result<usize, NamesError>
+    ensures label { IfOk result (λ n. n ≡ next.old) }
+    ensures counted { OnOk result (next.new ≡ suc next.old) }
+    ensures memory { IfErr result (λ e. e ≡ NamesError.Memory) }
+{
+    let label = *next;
+    match label.checked_add(1) {
+        Some(after) => {
+            *next = after;
+            Ok(label)
+        }
+        None => Err(NamesError::Memory),
+    }
+}
+
+/// Declares the variable, and resolves what it gets.
+#[tactic(auto, using(crate::proofs::Telling::telling_rules))]
+fn resolve_declarator(
+    alloc: Global,
+    parts: &[Item],
+    scope: &mut Scope,
+    next: &mut usize,
+    declarator: &Declarator,
+) -> Result<program::Declarator, NamesError>
+    ensures told { TellsOf (declarator_faults (functions_at parts.now) scope.old (declarator_view declarator.now)) result }
+    ensures found { IfOk result (λ d. program_declarator_view d ≡ record { label = next.old; source = resolve_given (functions_at parts.now) (with_local scope.old declarator.now.name.word) next.old (option_map source_view declarator.now.source) }) }
+    ensures declared { OnOk result (scope.new ≡ with_local scope.old declarator.now.name.word) }
+    ensures counted { OnOk result (next.new ≡ suc next.old) }
+{
+    if scope.is_declared(&declarator.name.word) {
+        return refuse(Cause::DuplicateName, declarator.name.place);
+    }
+    scope.declare(alloc, &declarator.name.word)?;
+    let label = take_label(next)?;
+    let source = resolve_given(alloc, parts, scope, label, &declarator.source)?;
+    Ok(program::Declarator { label, source })
+}
+
+/// Resolves a declarator into a further item.
+#[tactic(auto, using(crate::proofs::DeclarationLaws::declarator_rules))]
+fn add_declarator(
+    alloc: Global,
+    parts: &[Item],
+    scope: &mut Scope,
+    next: &mut usize,
+    declarator: &Declarator,
+    items: &mut Vec<program::BlockItem>,
+) -> Result<(), NamesError>
+    ensures told { IfErr result (λ e. (rest : List DeclaratorTree) → Tells (declarators_faults (functions_at parts.now) scope.old (declarator_view declarator.now ∷ rest)) e) }
+    ensures clean { OnOk result ((rest : List DeclaratorTree) → declarators_faults (functions_at parts.now) scope.old (declarator_view declarator.now ∷ rest) ≡ declarators_faults (functions_at parts.now) scope.new rest) }
+    ensures found { OnOk result ((rest : List DeclaratorTree) (more : BlockItems) → followed (map item_view items.old.items) (resolve_declarators (functions_at parts.now) scope.old next.old (declarator_view declarator.now ∷ rest) more) ≡ followed (map item_view items.new.items) (resolve_declarators (functions_at parts.now) scope.new next.new rest more)) }
+    ensures declared { OnOk result (scope.new ≡ with_local scope.old declarator.now.name.word) }
+    ensures counted { OnOk result (next.new ≡ suc next.old) }
+{
+    let resolved = resolve_declarator(alloc, parts, scope, next, declarator)?;
+    items.push(program::BlockItem::Declaration(resolved))?;
+    Ok(())
+}
+
+/// Resolves the declarators of a declaration into further items.
+pub fn add_declaration(
+    alloc: Global,
+    parts: &[Item],
+    scope: &mut Scope,
+    next: &mut usize,
+    declaration: &Declaration,
+    items: &mut Vec<program::BlockItem>,
+) -> Result<(), NamesError>
+    ensures told { TellsOf (declarators_faults (functions_at parts.now) scope.old (declarator_view declaration.now.first ∷ map declarator_view declaration.now.rest.items)) result }
+    ensures found { OnOk result ((more : BlockItems) → followed (map item_view items.old.items) (resolve_declarators (functions_at parts.now) scope.old next.old (declarator_view declaration.now.first ∷ map declarator_view declaration.now.rest.items) more) ≡ followed (map item_view items.new.items) more) }
+    ensures declared { OnOk result (scope.new ≡ with_declarators scope.old (declarator_view declaration.now.first ∷ map declarator_view declaration.now.rest.items)) }
+    ensures counted { OnOk result (next.new ≡ next.old + suc (length declaration.now.rest.items)) }
+{
+    add_declarator(alloc, parts, scope, next, &declaration.first, items)?;
+    'declarators: for declarator in &declaration.rest {
+        add_declarator(alloc, parts, scope, next, declarator, items)?;
+    }
+    Ok(())
+}

@@ -1,0 +1,138 @@
+//! Expressions: each variable is a place in the store.
+
+ghost use Rattle.std.specs.Prelude.{◌≡◌, map, IfOk, flat_map};
+ghost use Rattle.lra_tree.specs.Views.{operator_view, unary_view, term_view, factor_view, summand_view, expr_view as tree_expr_view};
+ghost use Rattle.lra_tree.specs.ProgramViews.{slot_view, expr_view, operation_view, chained};
+ghost use Rattle.lra_tree.specs.NameFaults.{use_faults, unary_faults, term_faults, expr_faults};
+ghost use Rattle.lra_tree.specs.Resolve.{variable, resolve_unary, resolve_term, resolve_expr};
+ghost use Rattle.lra_names.specs.Chains.{factor_operator, sum_operator, factor_faults, resolve_factor, summand_faults, resolve_summand};
+ghost use Rattle.lra_names.specs.Outcome.{TellsOf};
+
+use crate::errors::{NamesError, refuse};
+use crate::scopes::Scope;
+use lra_tree::program::{Operation, Slot};
+use lra_tree::{
+    Cause, Expr, Factor, FactorOperator, Identifier, Operator, SumOperator, Summand, Term, Unary,
+    program,
+};
+use std::alloc::{AllocError, Global};
+
+/// The variable that a name means; `UnknownName` where none is in scope.
+pub fn resolve_variable(scope: &Scope, x: &Identifier) -> Result<Slot, NamesError>
+    ensures told { TellsOf (use_faults scope.now x.now) result }
+    ensures found { IfOk result (λ v. slot_view v ≡ variable scope.now x.now) }
+{
+    match scope.slot_of(&x.word) {
+        Some(slot) => Ok(slot),
+        None => refuse(Cause::UnknownName, x.place),
+    }
+}
+
+/// A chain, or its only operand.
+fn chain(
+    alloc: Global,
+    first: program::Expr,
+    rest: Vec<Operation>,
+) -> Result<program::Expr, AllocError>
+    ensures { IfOk result (λ e. expr_view e ≡ chained (expr_view first) (map operation_view rest.items)) }
+{
+    if rest.is_empty() {
+        Ok(first)
+    } else {
+        Ok(program::Expr::Chain(Box::new(alloc, first)?, rest))
+    }
+}
+
+fn factor_operator(operator: FactorOperator) -> Operator
+    ensures { operator_view result ≡ factor_operator operator }
+{
+    match operator {
+        FactorOperator::Times => Operator::Times,
+        FactorOperator::Over => Operator::Over,
+        FactorOperator::Modulo => Operator::Modulo,
+    }
+}
+
+fn sum_operator(operator: SumOperator) -> Operator
+    ensures { operator_view result ≡ sum_operator operator }
+{
+    match operator {
+        SumOperator::Plus => Operator::Plus,
+        SumOperator::Minus => Operator::Minus,
+    }
+}
+
+#[cycle(expression)]
+pub fn resolve_unary(
+    alloc: Global,
+    scope: &Scope,
+    unary: &Unary,
+) -> Result<program::Expr, NamesError>
+    ensures told { TellsOf (unary_faults scope.now (unary_view unary.now)) result }
+    ensures found { IfOk result (λ e. expr_view e ≡ resolve_unary scope.now (unary_view unary.now)) }
+{
+    match unary {
+        Unary::Negated(inner) => {
+            let inner = resolve_unary(alloc, scope, inner)?;
+            Ok(program::Expr::Negate(Box::new(alloc, inner)?))
+        }
+        Unary::Positive(inner) => resolve_unary(alloc, scope, inner),
+        Unary::Literal(n) => Ok(program::Expr::Literal(*n)),
+        Unary::Variable(x) => {
+            let slot = resolve_variable(scope, x)?;
+            Ok(program::Expr::Read(slot))
+        }
+        Unary::Input => Ok(program::Expr::Input),
+        Unary::Group(inner) => resolve_expr(alloc, scope, inner),
+    }
+}
+
+#[cycle(expression)]
+fn resolve_factor(alloc: Global, scope: &Scope, factor: &Factor) -> Result<Operation, NamesError>
+    ensures told { TellsOf (factor_faults scope.now (factor_view factor.now)) result }
+    ensures found { IfOk result (λ o. operation_view o ≡ resolve_factor scope.now (factor_view factor.now)) }
+{
+    let operand = resolve_unary(alloc, scope, &factor.unary)?;
+    let operator = factor_operator(factor.operator);
+    Ok(Operation { operator, operand })
+}
+
+#[cycle(expression)]
+fn resolve_summand(alloc: Global, scope: &Scope, summand: &Summand) -> Result<Operation, NamesError>
+    ensures told { TellsOf (summand_faults scope.now (summand_view summand.now)) result }
+    ensures found { IfOk result (λ o. operation_view o ≡ resolve_summand scope.now (summand_view summand.now)) }
+{
+    let operand = resolve_term(alloc, scope, &summand.term)?;
+    let operator = sum_operator(summand.operator);
+    Ok(Operation { operator, operand })
+}
+
+#[cycle(expression)]
+#[tactic(auto, using(crate::proofs::ChainLaws::term_rules))]
+fn resolve_term(alloc: Global, scope: &Scope, term: &Term) -> Result<program::Expr, NamesError>
+    ensures told { TellsOf (term_faults scope.now (term_view term.now)) result }
+    ensures found { IfOk result (λ e. expr_view e ≡ resolve_term scope.now (term_view term.now)) }
+{
+    let first = resolve_unary(alloc, scope, &term.first)?;
+    let mut rest = Vec::new(alloc);
+    'factors: for factor in &term.rest {
+        let operation = resolve_factor(alloc, scope, factor)?;
+        rest.push(operation)?;
+    }
+    Ok(chain(alloc, first, rest)?)
+}
+
+#[cycle(expression)]
+#[tactic(auto, using(crate::proofs::ChainLaws::expr_rules))]
+pub fn resolve_expr(alloc: Global, scope: &Scope, expr: &Expr) -> Result<program::Expr, NamesError>
+    ensures told { TellsOf (expr_faults scope.now (tree_expr_view expr.now)) result }
+    ensures found { IfOk result (λ e. expr_view e ≡ resolve_expr scope.now (tree_expr_view expr.now)) }
+{
+    let first = resolve_term(alloc, scope, &expr.first)?;
+    let mut rest = Vec::new(alloc);
+    'summands: for summand in &expr.rest {
+        let operation = resolve_summand(alloc, scope, summand)?;
+        rest.push(operation)?;
+    }
+    Ok(chain(alloc, first, rest)?)
+}

@@ -1,0 +1,248 @@
+//! Functions, global variables, and the whole source.
+
+ghost use Rattle.std.specs.Prelude.{◌≡◌, ◌+◌, ◌++◌, ◌∷◌, [], ℕ, List, suc, true, false, map, length, IfOk, OnOk, IfErr, MatchOption};
+ghost use Rattle.std.specs.List.{list_any};
+ghost use Rattle.lra_tree.specs.Trees.{GlobalTree, PartTree, function as part_function};
+ghost use Rattle.lra_tree.specs.Views.{global_view, function_view as tree_function_view, part_view, tree_view};
+ghost use Rattle.lra_tree.specs.ProgramViews.{function_view, program_view};
+ghost use Rattle.lra_tree.specs.Scope.{function_scope, is_main};
+ghost use Rattle.lra_tree.specs.NameFaults.{is_taken, parameters_faults, function_faults, globals_faults, global_names, parts_faults, name_faults};
+ghost use Rattle.lra_tree.specs.Resolve.{resolve_function, global_value, globals_in, resolve_parts, items_count, resolve};
+ghost use Rattle.lra_names.specs.Calls.{functions_at};
+ghost use Rattle.lra_names.specs.Mains.{main_place};
+ghost use Rattle.lra_names.specs.Outcome.{Tells, TellsOf};
+
+use crate::declarations::take_label;
+use crate::errors::{NamesError, refuse};
+use crate::scopes::{Scope, is_same};
+use crate::statements::resolve_items;
+use lra_tree::program::Program;
+use lra_tree::{Cause, Function, Globals, Identifier, Item, Tree, Word, program};
+use std::alloc::Global;
+
+/// Whether the name is one of these.
+fn is_taken(name: &Word, names: &[Word]) -> bool
+    ensures { result ≡ is_taken name.now names.now }
+{
+    names.iter().any(|word| is_same(name, word))
+}
+
+/// Begins a function's scope with its parameters.
+fn declare_parameters(
+    alloc: Global,
+    scope: &mut Scope,
+    parameters: &[Identifier],
+) -> Result<(), NamesError>
+    ensures told { TellsOf (parameters_faults [] parameters.now) result }
+    ensures declared { OnOk result (scope.new ≡ function_scope scope.old.globals parameters.now) }
+{
+    scope.begin_function();
+    'parameters: for parameter in parameters {
+        if scope.is_declared(&parameter.word) {
+            return refuse(Cause::DuplicateName, parameter.place);
+        }
+        scope.declare(alloc, &parameter.word)?;
+    }
+    Ok(())
+}
+
+#[tactic(auto, using(crate::proofs::FunctionLaws::function_rules))]
+fn resolve_function(
+    alloc: Global,
+    parts: &[Item],
+    scope: &mut Scope,
+    next: &mut usize,
+    function: &Function,
+) -> Result<program::Function, NamesError>
+    ensures told { TellsOf (function_faults (functions_at parts.now) scope.old.globals (tree_function_view function.now)) result }
+    ensures found { IfOk result (λ f. function_view f ≡ resolve_function (functions_at parts.now) scope.old.globals next.old (tree_function_view function.now)) }
+    ensures outside { OnOk result (scope.new.globals ≡ scope.old.globals) }
+    ensures counted { OnOk result (next.new ≡ next.old + suc (items_count (tree_function_view function.now).body)) }
+{
+    declare_parameters(alloc, scope, &function.parameters.items)?;
+    let body = resolve_items(
+        alloc,
+        parts,
+        function.has_result,
+        false,
+        scope,
+        next,
+        &function.body,
+    )?;
+    let end = take_label(next)?;
+    Ok(program::Function {
+        parameters: function.parameters.items.len(),
+        body,
+        end,
+    })
+}
+
+/// What is resolved so far.
+#[derive(Drop)]
+pub struct Resolved {
+    /// The names of the file scope.
+    names: Vec<Word>,
+    scope: Scope,
+    /// The next label.
+    next: usize,
+    globals: Vec<i64>,
+    functions: Vec<program::Function>,
+}
+
+#[tactic(auto, using(crate::proofs::FunctionLaws::global_rules))]
+fn add_global(
+    alloc: Global,
+    resolved: &mut Resolved,
+    global: &lra_tree::Global,
+) -> Result<(), NamesError>
+    ensures told { IfErr result (λ e. (rest : List GlobalTree) → Tells (globals_faults resolved.old.names.items (global_view global.now ∷ rest)) e) }
+    ensures clean { OnOk result ((rest : List GlobalTree) → globals_faults resolved.old.names.items (global_view global.now ∷ rest) ≡ globals_faults resolved.new.names.items rest) }
+    ensures named { OnOk result (resolved.new.names.items ≡ resolved.old.names.items ++ global.now.name.word ∷ []) }
+    ensures scoped { OnOk result (resolved.new.scope.globals ≡ resolved.old.scope.globals ++ global.now.name.word ∷ []) }
+    ensures valued { OnOk result (resolved.new.globals.items ≡ resolved.old.globals.items ++ global_value (global_view global.now) ∷ []) }
+    ensures next { OnOk result (resolved.new.next ≡ resolved.old.next) }
+    ensures functions { OnOk result (resolved.new.functions.items ≡ resolved.old.functions.items) }
+{
+    if is_taken(&global.name.word, &resolved.names) {
+        return refuse(Cause::DuplicateName, global.name.place);
+    }
+    let word = global.name.word.copy(alloc)?;
+    resolved.names.push(word)?;
+    resolved.scope.declare_global(alloc, &global.name.word)?;
+    let value = match global.value {
+        Some(value) => value,
+        None => 0,
+    };
+    resolved.globals.push(value)?;
+    Ok(())
+}
+
+fn add_globals(alloc: Global, resolved: &mut Resolved, globals: &Globals) -> Result<(), NamesError>
+    ensures told { TellsOf (globals_faults resolved.old.names.items (global_view globals.now.first ∷ map global_view globals.now.rest.items)) result }
+    ensures named { OnOk result (resolved.new.names.items ≡ resolved.old.names.items ++ global_names (global_view globals.now.first ∷ map global_view globals.now.rest.items)) }
+    ensures scoped { OnOk result (resolved.new.scope.globals ≡ resolved.old.scope.globals ++ global_names (global_view globals.now.first ∷ map global_view globals.now.rest.items)) }
+    ensures valued { OnOk result (resolved.new.globals.items ≡ resolved.old.globals.items ++ map global_value (global_view globals.now.first ∷ map global_view globals.now.rest.items)) }
+    ensures next { OnOk result (resolved.new.next ≡ resolved.old.next) }
+    ensures functions { OnOk result (resolved.new.functions.items ≡ resolved.old.functions.items) }
+{
+    add_global(alloc, resolved, &globals.first)?;
+    'globals: for global in &globals.rest {
+        add_global(alloc, resolved, global)?;
+    }
+    Ok(())
+}
+
+#[tactic(auto, using(crate::proofs::FunctionLaws::part_rules))]
+fn add_function(
+    alloc: Global,
+    parts: &[Item],
+    resolved: &mut Resolved,
+    function: &Function,
+) -> Result<(), NamesError>
+    ensures told { IfErr result (λ e. (rest : List PartTree) → Tells (parts_faults (functions_at parts.now) resolved.old.names.items resolved.old.scope.globals (part_function (tree_function_view function.now) ∷ rest)) e) }
+    ensures clean { OnOk result ((rest : List PartTree) → parts_faults (functions_at parts.now) resolved.old.names.items resolved.old.scope.globals (part_function (tree_function_view function.now) ∷ rest) ≡ parts_faults (functions_at parts.now) resolved.new.names.items resolved.new.scope.globals rest) }
+    ensures found { OnOk result ((rest : List PartTree) → map function_view resolved.old.functions.items ++ resolve_parts (functions_at parts.now) resolved.old.scope.globals resolved.old.next (part_function (tree_function_view function.now) ∷ rest) ≡ map function_view resolved.new.functions.items ++ resolve_parts (functions_at parts.now) resolved.new.scope.globals resolved.new.next rest) }
+    ensures valued { OnOk result (resolved.new.globals.items ≡ resolved.old.globals.items) }
+{
+    if is_taken(&function.name.word, &resolved.names) {
+        return refuse(Cause::DuplicateName, function.name.place);
+    }
+    let word = function.name.word.copy(alloc)?;
+    resolved.names.push(word)?;
+    let one = resolve_function(
+        alloc,
+        parts,
+        &mut resolved.scope,
+        &mut resolved.next,
+        function,
+    )?;
+    resolved.functions.push(one)?;
+    Ok(())
+}
+
+#[tactic(auto, using(crate::proofs::FunctionLaws::part_rules))]
+fn add_part(
+    alloc: Global,
+    parts: &[Item],
+    resolved: &mut Resolved,
+    item: &Item,
+) -> Result<(), NamesError>
+    ensures told { IfErr result (λ e. (rest : List PartTree) → Tells (parts_faults (functions_at parts.now) resolved.old.names.items resolved.old.scope.globals (part_view item.now ∷ rest)) e) }
+    ensures clean { OnOk result ((rest : List PartTree) → parts_faults (functions_at parts.now) resolved.old.names.items resolved.old.scope.globals (part_view item.now ∷ rest) ≡ parts_faults (functions_at parts.now) resolved.new.names.items resolved.new.scope.globals rest) }
+    ensures found { OnOk result ((rest : List PartTree) → map function_view resolved.old.functions.items ++ resolve_parts (functions_at parts.now) resolved.old.scope.globals resolved.old.next (part_view item.now ∷ rest) ≡ map function_view resolved.new.functions.items ++ resolve_parts (functions_at parts.now) resolved.new.scope.globals resolved.new.next rest) }
+    ensures valued { OnOk result ((rest : List PartTree) → resolved.old.globals.items ++ globals_in (part_view item.now ∷ rest) ≡ resolved.new.globals.items ++ globals_in rest) }
+{
+    match item {
+        Item::Prototype => Ok(()),
+        Item::Globals(globals) => {
+            add_globals(alloc, resolved, globals)?;
+            Ok(())
+        }
+        Item::Function(function) => {
+            add_function(alloc, parts, resolved, function)?;
+            Ok(())
+        }
+    }
+}
+
+fn is_main(function: &Function) -> bool
+    ensures { result ≡ is_main (tree_function_view function.now) }
+{
+    b"main".as_slice() == function.name.word.as_slice() && function.parameters.items.is_empty()
+}
+
+/// The place of the first `main` without parameters in the list of functions.
+fn find_main(parts: &[Item]) -> Option<usize>
+    ensures { MatchOption result (list_any is_main (functions_at parts.now) ≡ false) (λ k. (list_any is_main (functions_at parts.now) ≡ true) × (k ≡ main_place (functions_at parts.now))) }
+{
+    let mut place = 0;
+    'parts: for item in parts {
+        match item {
+            Item::Prototype => {}
+            Item::Globals(_) => {}
+            Item::Function(function) => {
+                if is_main(function) {
+                    return Some(place);
+                }
+                place += 1;
+            }
+        }
+    }
+    None
+}
+
+/// All parts of the source.
+fn resolve_all(alloc: Global, parts: &[Item]) -> Result<Resolved, NamesError>
+    ensures told { TellsOf (parts_faults (functions_at parts.now) [] [] (map part_view parts.now)) result }
+    ensures found { IfOk result (λ r. map function_view r.functions.items ≡ resolve_parts (functions_at parts.now) [] 1 (map part_view parts.now)) }
+    ensures valued { IfOk result (λ r. r.globals.items ≡ globals_in (map part_view parts.now)) }
+{
+    let mut resolved = Resolved {
+        names: Vec::new(alloc),
+        scope: Scope::outermost(alloc),
+        next: 1,
+        globals: Vec::new(alloc),
+        functions: Vec::new(alloc),
+    };
+    'parts: for item in parts {
+        add_part(alloc, parts, &mut resolved, item)?;
+    }
+    Ok(resolved)
+}
+
+/// The program that a source means, with its statements labelled in text order from 1; or its first fault of names, or want of memory.
+#[tactic(auto, using(crate::proofs::FunctionLaws::main_rules))]
+pub fn resolve(alloc: Global, tree: &Tree) -> Result<Program, NamesError>
+    ensures told { TellsOf (name_faults (tree_view tree.now)) result }
+    ensures found { IfOk result (λ p. program_view p ≡ resolve (tree_view tree.now)) }
+{
+    let resolved = resolve_all(alloc, &tree.items)?;
+    match find_main(&tree.items) {
+        None => refuse(Cause::NoMain, tree.end),
+        Some(main) => Ok(Program {
+            globals: resolved.globals,
+            functions: resolved.functions,
+            main,
+        }),
+    }
+}

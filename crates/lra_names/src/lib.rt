@@ -1,0 +1,16 @@
+//! The names of a source: each is a variable or a function, or the source is refused.
+#![tactic(auto)]
+
+mod calls;
+mod conditions;
+mod declarations;
+mod errors;
+mod expressions;
+mod functions;
+mod scopes;
+mod statements;
+#[cfg(test)]
+mod tests;
+
+pub use errors::NamesError;
+pub use functions::resolve;
