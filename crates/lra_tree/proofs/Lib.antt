@@ -8,6 +8,7 @@ mod LongestByTest
 mod TokenExamples
 -- Trees, their names and what they mean.
 mod ViewExamples
+mod ProgramViewExamples
 mod TreeSamples
 mod NameExamples
 -- Linear forms, and how conditions are pushed to their atoms.

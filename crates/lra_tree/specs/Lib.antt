@@ -21,12 +21,14 @@ pub mod Scope
 pub mod NameFaults
 pub mod Labels
 pub mod Resolve
+pub mod ProgramViews
 pub mod Reach
 -- Calls written out, and which sources are refused.
 pub mod Sites
 pub mod Graph
 pub mod Inlined
 pub mod Agree
+pub mod GraphViews
 pub mod Refuse
 pub mod WellFormed
 pub mod Listing

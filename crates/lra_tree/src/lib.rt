@@ -4,6 +4,8 @@
 //! The types of tokens, trees and refusals are those of the front end's calls.
 #![tactic(auto)]
 
+pub mod graph;
+pub mod program;
 mod refusals;
 mod tokens;
 mod trees;
