@@ -1,2 +1,3 @@
 -- In the order in which they are to be read.
 pub mod Agreement
+pub mod Limits
