@@ -12,3 +12,9 @@ pub mod Agreement
 -- Points are distinct.
 pub mod DistinctLists
 pub mod DistinctSites
+-- Parts of a program written out.
+pub mod Walking
+pub mod Writing
+pub mod Sizes
+pub mod Shown
+pub mod LiveInside

@@ -6,7 +6,9 @@
 
 
 
+mod build;
 mod forms;
+mod frame;
 mod points;
 
 ghost use Rattle.lra_tree.specs.Agree.{GraphsAgree};
