@@ -1,7 +1,6 @@
 -- What values of the code's types stand for, form by form.
-use Rattle.std.proofs.Common.{◌≡◌, ℕ, List, [], ◌∷◌, map, Option, Some, None, Bool, rules, Box, Global}
+use Rattle.std.proofs.Common.{◌≡◌, ℕ, map, Option, rules, Box, Global}
 use Rattle.lra_tree.specs.Program as program
-use Rattle.lra_tree.specs.Step as step
 use Rattle.lra_tree.specs.Graph as graph
 use Rattle.lra_tree.specs.declared.program.Slot.{Slot}
 use Rattle.lra_tree.specs.declared.program.Cond.{Cond}

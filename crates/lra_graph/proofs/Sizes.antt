@@ -1,9 +1,8 @@
 -- Sizes of parts, by which the writing ends: each call makes its path longer, and inside a function the parts get smaller.
-use Rattle.std.proofs.Common.{◌≡◌, ℕ, zero, suc, ◌+◌, ◌*◌, ◌-◌, ◌≤◌, ◌<◌, List, [], ◌∷◌, Option, Some, None, slice_get, arith, subst, sym}
+use Rattle.std.proofs.Common.{◌≡◌, ℕ, zero, suc, ◌+◌, ◌*◌, ◌-◌, ◌≤◌, ◌<◌, List, [], ◌∷◌, Some, slice_get, arith, subst}
 use Rattle.std.proofs.Math.Nat.{suc-mul}
 use Rattle.std.proofs.lemmas.Option.{none-some, same_Some}
 use Rattle.lra_tree.specs.Program.{Stmt, absent, nothing, block, assign, call, if, loop, for, break, continue, return, assert, assume, BlockItems, no_more, declaration, statement, Function, Program}
-use Rattle.lra_graph.specs.declared.frame.Frame.{Frame}
 
 abbrev mutual
   pub size_stmt : Stmt → ℕ

@@ -1,22 +1,22 @@
 -- Points are written one behind the other: what stands behind what, and where a limit stops all.
-use Rattle.std.proofs.Common.{◌≡◌, ◌≢◌, ℕ, zero, suc, ◌+◌, ◌≤◌, ◌<◌, List, [], ◌∷◌, ◌++◌, length, Option, Some, None, Bool, true, false, slice_get, refl, sym, ap, ◌∙◌, subst, arith, length-append}
+use Rattle.std.proofs.Common.{◌≡◌, zero, suc, ◌<◌, List, [], ◌∷◌, ◌++◌, length, Some, Bool, true, false, slice_get, refl, sym, subst, arith, length-append}
 use Rattle.std.specs.Prelude.{nat_lt, if◌then◌else◌}
 use Rattle.std.proofs.lemmas.Option.{none-some}
 use Rattle.std.proofs.lemmas.Bool.{lt-ltb}
-use Rattle.lra_tree.specs.Sites.{Site, Event, comes, one_call_more, sites_in}
+use Rattle.lra_tree.specs.Sites.{Site, Event, comes, one_call_more}
 use Rattle.lra_tree.specs.Refuse.{greatest_live, greatest_points}
 use Rattle.lra_graph.specs.declared.points.Limit.{Limit}
 use Rattle.lra_graph.specs.declared.points.Limit.TheVariants.{Variables, Points, Calls}
 use Rattle.lra_graph.specs.Limits.{Progress, passed, stopped, walk}
 use Rattle.lra_graph.specs.Building.{Begins}
 
-abbrev chosen : Bool → Bool → Limit → Limit → Progress → Progress
+abbrev pub chosen : Bool → Bool → Limit → Limit → Progress → Progress
 chosen many full x y r = if many then stopped x else (if full then stopped y else r)
 
-not_passed : (x : Limit) (U : List Site) → stopped x ≡ passed U → ⊥
+pub not_passed : (x : Limit) (U : List Site) → stopped x ≡ passed U → ⊥
 not_passed x U e = cc
 
-passed_same : (S U : List Site) → passed S ≡ passed U → S ≡ U
+pub passed_same : (S U : List Site) → passed S ≡ passed U → S ≡ U
 passed_same S U e = cc
 
 chosen_then : (many full : Bool) (x y : Limit) (r r' w : Progress) (U : List Site) → chosen many full x y r ≡ passed U → (r ≡ passed U → r' ≡ w) → chosen many full x y r' ≡ w
@@ -24,7 +24,7 @@ chosen_then true full x y r r' w U e h = absurd (not_passed x U e)
 chosen_then false true x y r r' w U e h = absurd (not_passed y U e)
 chosen_then false false x y r r' w U e h = h e
 
-chosen_passed : (many full : Bool) (x y : Limit) (r : Progress) (U : List Site) → chosen many full x y r ≡ passed U → r ≡ passed U
+pub chosen_passed : (many full : Bool) (x y : Limit) (r : Progress) (U : List Site) → chosen many full x y r ≡ passed U → r ≡ passed U
 chosen_passed true full x y r U e = absurd (not_passed x U e)
 chosen_passed false true x y r U e = absurd (not_passed y U e)
 chosen_passed false false x y r U e = e

@@ -1,19 +1,19 @@
 -- Each form of a statement, written out behind the points before it.
-use Rattle.std.proofs.Common.{◌≡◌, ℕ, zero, suc, ◌+◌, ◌≤◌, List, [], ◌∷◌, ◌++◌, length, Option, Some, None, Bool, true, false, slice_get, refl, sym, ap, ◌∙◌, subst, arith}
+use Rattle.std.proofs.Common.{◌≡◌, ℕ, suc, ◌+◌, ◌≤◌, List, [], ◌∷◌, ◌++◌, length, Option, Some, None, Bool, true, false, slice_get, refl, sym, ap, ◌∙◌, subst}
 use Rattle.std.proofs.lemmas.Option.{none-some, same_Some}
 use Rattle.lra_tree.specs.Program.{Slot, Expr, Cond, Call, Source, value, result, Declarator, Stmt, absent, nothing, block, assign, call, if, loop, for, break, continue, return, assert, assume, BlockItems, no_more, declaration, statement, Function, Program}
 use Rattle.lra_tree.specs.Value.{index_of}
 use Rattle.lra_tree.specs.Step as step
 use Rattle.lra_tree.specs.Step.{append, give, give_any, push, keep, test}
 use Rattle.lra_tree.specs.Graph.{Exit, broken, continued, returned, Node, empty, point, act, check, seq, choose, leave}
-use Rattle.lra_tree.specs.Sites.{Site, Event, comes, one_call_more, plain_site, live_behind, source_events, given_events, stmt_events, items_events, function_events, call_events}
+use Rattle.lra_tree.specs.Sites.{Site, comes, plain_site, live_behind, source_events, given_events, stmt_events, items_events, function_events, call_events}
 use Rattle.lra_tree.specs.Inlined as inlined
 use Rattle.lra_tree.specs.Inlined.{Has, HasSite, callee, Inl, InlAll, Declares, Loops, Gives, as_nothing, as_block, as_absent, as_assign, as_call, as_if, as_loop, as_for, as_break, as_continue, as_return, as_return_value, as_return_call, as_end, as_end_value, as_end_call, as_assert, as_assume, as_none, as_declaration, as_statement, as_fresh, as_given, is_loop, as_value, as_result, loop_node, call_node, return_node}
 use Rattle.lra_graph.specs.declared.frame.Frame.{Frame}
 use Rattle.lra_graph.specs.declared.frame.Back.{Back}
 use Rattle.lra_graph.specs.Limits.{walk, passed}
-use Rattle.lra_graph.specs.Building.{back_parts, IsFrame, Begins, Writes, inside, WritesStmt, WritesItems, WritesSource, WritesLoop, WritesDeclared, WritesReturn, LeavesLoop}
-use Rattle.lra_graph.proofs.Walking.{walk_then, begins_same, begins_walk, point_there, one_longer}
+use Rattle.lra_graph.specs.Building.{back_parts, IsFrame, Begins, inside, WritesStmt, WritesItems, WritesSource, WritesLoop, WritesDeclared, WritesReturn, LeavesLoop}
+use Rattle.lra_graph.proofs.Walking.{walk_then, begins_walk, point_there, one_longer}
 
 begins_join : (S T U : List Site) → Begins S T → Begins T U → Begins S U
 begins_join S T U f g i x e = g i x (f i x e)
@@ -36,7 +36,7 @@ no_back_there : (o : Option step.Back) → back_parts o ≡ None → o ≡ None
 no_back_there None e = refl
 no_back_there (Some c) e = absurd (none-some _ (sym e))
 
-pointed_begins : (S U : List Site) (x : Site) → Pointed S x U → Begins S U
+pub pointed_begins : (S U : List Site) (x : Site) → Pointed S x U → Begins S U
 pointed_begins S U x e = begins_walk S (comes x ∷ []) U e
 
 module _ (P : Program) (path : List ℕ) (r : Frame) where
@@ -82,7 +82,7 @@ module _ (P : Program) (path : List ℕ) (r : Frame) where
     placed = λ T f b is.
         let b' = begins_join V U T (begins_walk V (source_events (inside P path r) path N s) U y.walked) b in
         let y' = gives_as T f N q (length S) (length V) (suc (length S)) (Some place) (Some (index_of f.here.base x)) s h (length U) i (one_longer S V (site at N false) e)
-            (ap (λ z. Some z) j ∙ ap (λ z. Some (index_of z x)) (sym is.base)) (y.placed T f b is) in
+        (ap (λ z. Some z) j ∙ ap (λ z. Some (index_of z x)) (sym is.base)) (y.placed T f b is) in
         rw (a, i) (as_assign f N (length S) at x s h (length U) (has_point S V T f at N false e b' is) y');
   }
 
@@ -253,7 +253,7 @@ module _ (P : Program) (path : List ℕ) (r : Frame) where
             let bs' = begins_join W U T (begins_walk W rest U y'.walked) bs in
             let bs'' = begins_join V W T (begins_walk V mid W x.walked) bs' in
             let x' : Declares P T f N (length S) (suc (length S)) d.source h (length W) =
-                subst (λ z. Declares P T f N (length S) z d.source h (length W)) (one_longer S V (site d.label N false) e) (subst (λ z. Declares P T f N z (length V) d.source h (length W)) i (x.placed T f bs' is)) in
+            subst (λ z. Declares P T f N (length S) z d.source h (length W)) (one_longer S V (site d.label N false) e) (subst (λ z. Declares P T f N z (length V) d.source h (length W)) i (x.placed T f bs' is)) in
             rw (a', a, i) (as_declaration f N (length S) d b h k (length W) (live_behind (suc N) b) (length U) (has_point S V T f d.label N false e bs'' is) x' (y'.placed T f bs (with_live (suc N) is)));
       }
 

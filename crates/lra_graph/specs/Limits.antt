@@ -1,5 +1,5 @@
 -- The points of a program in their order, up to the first that passes a limit.
-use Rattle.std.specs.Prelude.{ℕ, suc, nat_lt, if◌then◌else◌, List, [], ◌∷◌, ◌++◌, length, Result, Ok, Err, ⊤}
+use Rattle.std.specs.Prelude.{suc, nat_lt, if◌then◌else◌, List, [], ◌∷◌, ◌++◌, length, Result, Ok, Err, ⊤}
 use Rattle.lra_tree.specs.declared.refusals.Cause.TheVariants.{TooManyVariables, TooManyPoints}
 use Rattle.lra_tree.specs.declared.refusals.Refusal.{Refusal}
 use Rattle.lra_tree.specs.Labels.{Labelled, label_at}

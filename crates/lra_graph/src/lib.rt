@@ -4,9 +4,6 @@
 //! program. Here it is proved that the two agree, and `build` makes the tree.
 #![tactic(auto)]
 
-
-
-mod build;
 mod forms;
 mod frame;
 mod points;
@@ -23,5 +20,4 @@ pub fn graphs_agree()
     ensures theorem { GraphsAgree }
     ensures distinct { WellFormedAreDistinct }
     ensures well_formed { WellFormedAgree }
-{
-}
+{}
