@@ -130,7 +130,7 @@ module _ (P : Program) where
     spread_function live f good d = rw keys_append (spread_join path (items_numbers f.body) (f.end ∷ []) (keys_in (items_events inside path (live + f.parameters) f.body)) ((f.end ∷ path) ∷ [])
         (differ_apart (items_numbers f.body) (f.end ∷ []) d) (spread_items _ f.parameters (live + f.parameters) f.body good (differ_left (items_numbers f.body) (f.end ∷ []) d)) (spread_alone f.end path))
 
-all_at : (P : Program) (fs : List Function) (i : ℕ) (f : Function) → AllByRecursion (IsGoodFunction P) fs → slice_get fs i ≡ Some f → IsGoodFunction P f
+pub all_at : (P : Program) (fs : List Function) (i : ℕ) (f : Function) → AllByRecursion (IsGoodFunction P) fs → slice_get fs i ≡ Some f → IsGoodFunction P f
 all_at P [] i f good e = absurd (none-some f e)
 all_at P (g ∷ fs) zero f good e = subst (λ x. IsGoodFunction P x) (same_Some g f e) good.0
 all_at P (g ∷ fs) (suc i) f good e = all_at P fs i f good.1 e

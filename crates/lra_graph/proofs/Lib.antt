@@ -12,3 +12,13 @@ pub mod Agreement
 -- Points are distinct.
 pub mod DistinctLists
 pub mod DistinctSites
+-- Parts of a program written out: their points, their trees, and where a limit stops them.
+pub mod Walking
+pub mod Writing
+pub mod Stopping
+pub mod Totals
+-- What the code's values stand for, where parts stand, and why the writing ends.
+pub mod Shown
+pub mod LiveInside
+pub mod Standing
+pub mod Sizes

@@ -1,2 +1,4 @@
 -- In the order in which they are to be read.
 pub mod Agreement
+pub mod Limits
+pub mod Building

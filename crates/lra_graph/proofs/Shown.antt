@@ -1,0 +1,83 @@
+-- What values of the code's types stand for, form by form.
+use Rattle.std.proofs.Common.{◌≡◌, ℕ, map, Option, rules, Box, Global}
+use Rattle.lra_tree.specs.Program as program
+use Rattle.lra_tree.specs.Graph as graph
+use Rattle.lra_tree.specs.declared.program.Slot.{Slot}
+use Rattle.lra_tree.specs.declared.program.Cond.{Cond}
+use Rattle.lra_tree.specs.declared.program.Source.{Source}
+use Rattle.lra_tree.specs.declared.program.Declarator.{Declarator}
+use Rattle.lra_tree.specs.declared.program.Call.{Call}
+use Rattle.lra_tree.specs.declared.program.BlockItem.{BlockItem, the_lemmas as item_lemmas}
+use Rattle.lra_tree.specs.declared.program.BlockItem as code_item
+use Rattle.lra_tree.specs.declared.program.BlockItems.{BlockItems, the_lemmas as items_lemmas}
+use Rattle.lra_tree.specs.declared.program.Stmt.{Stmt, the_lemmas as stmt_lemmas}
+use Rattle.lra_tree.specs.declared.program.Stmt as code
+use Rattle.lra_tree.specs.declared.graph.Op.{Op}
+use Rattle.lra_tree.specs.declared.graph.Exit.{Exit}
+use Rattle.lra_tree.specs.declared.graph.Node.{Node, the_lemmas as node_lemmas}
+use Rattle.lra_tree.specs.declared.graph.Node as code_node
+use Rattle.lra_tree.specs.ProgramViews.{slot_view, cond_view, call_view, source_view, given_view, declarator_view, stmt_view, item_view, items_of, items_view}
+use Rattle.lra_tree.specs.GraphViews.{op_view, exit_view, node_view}
+
+pub shown_empty : node_view code_node.Empty ≡ graph.empty
+shown_empty = search (rules, node_lemmas)
+
+pub shown_point : (q : ℕ) → node_view (code_node.Point q) ≡ graph.point q
+shown_point q = search (rules, node_lemmas)
+
+pub shown_act : (q : ℕ) (o : Op) → node_view (code_node.Act q o) ≡ graph.act q (op_view o)
+shown_act q o = search (rules, node_lemmas)
+
+pub shown_check : (q base : ℕ) (c : Cond) → node_view (code_node.Check q base c) ≡ graph.check q base (cond_view c)
+shown_check q base c = search (rules, node_lemmas)
+
+pub shown_leave : (n : ℕ) (k : Exit) → node_view (code_node.Leave n k) ≡ graph.leave n (exit_view k)
+shown_leave n k = search (rules, node_lemmas)
+
+pub shown_items : (b : BlockItems) → items_view b ≡ items_of (map item_view b.items.items)
+shown_items b = search (rules, items_lemmas)
+
+pub shown_declaration : (d : Declarator) (rest : program.BlockItems) → item_view (code_item.Declaration d) rest ≡ program.declaration (declarator_view d) rest
+shown_declaration d rest = search (rules, item_lemmas)
+
+pub shown_statement : (s : Stmt) (rest : program.BlockItems) → item_view (code_item.Statement s) rest ≡ program.statement (stmt_view s) rest
+shown_statement s rest = search (rules, item_lemmas)
+
+pub shown_absent : stmt_view code.Absent ≡ program.absent
+shown_absent = search (rules, stmt_lemmas)
+
+pub shown_nothing : (at : ℕ) → stmt_view (code.Nothing at) ≡ program.nothing at
+shown_nothing at = search (rules, stmt_lemmas)
+
+pub shown_block : (b : BlockItems) (at : ℕ) → stmt_view (code.Block b at) ≡ program.block (items_of (map item_view b.items.items)) at
+shown_block b at = search (rules, stmt_lemmas)
+
+pub shown_assign : (at : ℕ) (x : Slot) (e : Source) → stmt_view (code.Assign at x e) ≡ program.assign at (slot_view x) (source_view e)
+shown_assign at x e = search (rules, stmt_lemmas)
+
+pub shown_call : (at : ℕ) (c : Call) → stmt_view (code.Call at c) ≡ program.call at (call_view c)
+shown_call at c = search (rules, stmt_lemmas)
+
+pub shown_if : (at : ℕ) (c : Cond) (a b : Box Stmt Global) → stmt_view (code.If at c a b) ≡ program.if at (cond_view c) (stmt_view a.value) (stmt_view b.value)
+shown_if at c a b = search (rules, stmt_lemmas)
+
+pub shown_loop : (at : ℕ) (c : Cond) (a b : Box Stmt Global) → stmt_view (code.Loop at c a b) ≡ program.loop at (cond_view c) (stmt_view a.value) (stmt_view b.value)
+shown_loop at c a b = search (rules, stmt_lemmas)
+
+pub shown_for : (init : BlockItems) (again : Box Stmt Global) → stmt_view (code.For init again) ≡ program.for (items_of (map item_view init.items.items)) (stmt_view again.value)
+shown_for init again = search (rules, stmt_lemmas)
+
+pub shown_break : (at : ℕ) → stmt_view (code.Break at) ≡ program.break at
+shown_break at = search (rules, stmt_lemmas)
+
+pub shown_continue : (at : ℕ) → stmt_view (code.Continue at) ≡ program.continue at
+shown_continue at = search (rules, stmt_lemmas)
+
+pub shown_return : (at : ℕ) (e : Option Source) → stmt_view (code.Return at e) ≡ program.return at (given_view e)
+shown_return at e = search (rules, stmt_lemmas)
+
+pub shown_assert : (at : ℕ) (c : Cond) → stmt_view (code.Assert at c) ≡ program.assert at (cond_view c)
+shown_assert at c = search (rules, stmt_lemmas)
+
+pub shown_assume : (at : ℕ) (c : Cond) → stmt_view (code.Assume at c) ≡ program.assume at (cond_view c)
+shown_assume at c = search (rules, stmt_lemmas)

@@ -1,0 +1,162 @@
+-- Where a part of a well-formed program stands, its own parts stand.
+use Rattle.std.proofs.Common.{◌≡◌, ℕ, suc, ◌+◌, ◌≤◌, ◌<◌, length, Option, Some, None, Bool, true, false, slice_get, refl, ap, subst, arith}
+use Rattle.std.proofs.lemmas.Option.{none-some, same_Some}
+use Rattle.lra_tree.specs.Program.{Slot, local, Cond, Call, Source, result, Declarator, Stmt, block, assign, call, if, loop, for, break, continue, return, BlockItems, no_more, declaration, statement, Function, Program}
+use Rattle.lra_tree.specs.Sites.{live_behind}
+use Rattle.lra_tree.specs.WellFormed.{IsLive, IsWellFormed}
+use Rattle.lra_graph.specs.declared.frame.Frame.{Frame}
+use Rattle.lra_graph.specs.declared.frame.Back.{Back}
+use Rattle.lra_graph.specs.Building.{Stands, StmtStands, ItemsStand, GivenStands, CallStands}
+use Rattle.lra_graph.proofs.DistinctSites.{all_at}
+use Rattle.lra_graph.proofs.LiveInside.{live_low}
+
+stands_as : (r : Frame) (X Y : Bool → ℕ → Type 0) → ((b : Bool) (n : ℕ) → X b n → Y b n) → Stands r X → Stands r Y
+stands_as r X Y f x = record { in_loop = x.in_loop; own = x.own; good = f x.in_loop x.own x.good; within = x.within; loops = x.loops; loop_low = x.loop_low; back_low = x.back_low }
+
+both_live : (base own live : ℕ) (b : BlockItems) → base + own ≤ live → base + live_behind own b ≤ live_behind live b
+both_live base own live no_more l = l
+both_live base own live (declaration d b) l = both_live base (suc own) (suc live) b (omega arith)
+both_live base own live (statement s b) l = both_live base own live b l
+
+module _ (P : Program) (r : Frame) where
+  pub block_stands : (items : BlockItems) (end : ℕ) → StmtStands P r (block items end) → ItemsStand P r items
+  block_stands items end x = stands_as r _ _ (λ b n g. g) x
+
+  pub assign_stands : (at : ℕ) (v : Slot) (e : Source) → StmtStands P r (assign at v e) → GivenStands P r (Some e)
+  assign_stands at v e x = stands_as r _ _ (λ b n g. (at, g.1)) x
+
+  pub call_stands : (at : ℕ) (c : Call) → StmtStands P r (call at c) → CallStands P r c
+  call_stands at c x = stands_as r _ _ (λ b n g. (at, g)) x
+
+  pub true_stands : (at : ℕ) (c : Cond) (s t : Stmt) → StmtStands P r (if at c s t) → StmtStands P r s
+  true_stands at c s t x = stands_as r _ _ (λ b n g. g.1) x
+
+  pub false_stands : (at : ℕ) (c : Cond) (s t : Stmt) → StmtStands P r (if at c s t) → StmtStands P r t
+  false_stands at c s t x = stands_as r _ _ (λ b n g. g.2) x
+
+  pub return_stands : (at : ℕ) (o : Option Source) → StmtStands P r (return at o) → GivenStands P r o
+  return_stands at o x = stands_as r _ _ (λ b n g. (at, g)) x
+
+  pub first_stands : (s : Stmt) (b : BlockItems) → ItemsStand P r (statement s b) → StmtStands P r s
+  first_stands s b x = stands_as r _ _ (λ l n g. g.0) x
+
+  pub others_stand : (s : Stmt) (b : BlockItems) → ItemsStand P r (statement s b) → ItemsStand P r b
+  others_stand s b x = stands_as r _ _ (λ l n g. g.1) x
+
+  pub result_stands : (c : Call) → GivenStands P r (Some (result c)) → CallStands P r c
+  result_stands c x = stands_as r _ _ (λ l n g. g) x
+
+  -- one variable more
+  pub declared_stands : (n : ℕ) (d : Declarator) (b : BlockItems) → n ≡ suc r.live → ItemsStand P r (declaration d b) → GivenStands P (record r { live = n }) d.source
+  declared_stands n d b same x = record {
+    in_loop = x.in_loop;
+    own = suc x.own;
+    good = (d.label, x.good.0);
+    within = let w = x.within in omega arith;
+    loops = x.loops;
+    loop_low = λ m e. let l = x.loop_low m e in omega arith;
+    back_low = λ a e. let l = x.back_low a e in omega arith;
+  }
+
+  pub behind_stand : (n : ℕ) (d : Declarator) (b : BlockItems) → n ≡ suc r.live → ItemsStand P r (declaration d b) → ItemsStand P (record r { live = n }) b
+  behind_stand n d b same x = record {
+    in_loop = x.in_loop;
+    own = suc x.own;
+    good = x.good.1;
+    within = let w = x.within in omega arith;
+    loops = x.loops;
+    loop_low = λ m e. let l = x.loop_low m e in omega arith;
+    back_low = λ a e. let l = x.back_low a e in omega arith;
+  }
+
+  pub body_stands : (at : ℕ) (c : Cond) (s t : Stmt) → StmtStands P r (loop at c s t) → StmtStands P (record r { loop_length = Some r.live }) s
+  body_stands at c s t x = record {
+    in_loop = true;
+    own = x.own;
+    good = x.good.1;
+    within = x.within;
+    loops = λ e. (r.live, refl);
+    loop_low = λ m e. let h = same_Some _ m e in omega arith;
+    back_low = x.back_low;
+  }
+
+  pub step_stands : (at : ℕ) (c : Cond) (s t : Stmt) → StmtStands P r (loop at c s t) → StmtStands P (record r { loop_length = None }) t
+  step_stands at c s t x = record {
+    in_loop = false;
+    own = x.own;
+    good = x.good.2;
+    within = x.within;
+    loops = λ e. absurd (false_true e);
+    loop_low = λ m e. absurd (none-some m e);
+    back_low = x.back_low;
+  }
+    where
+      false_true : false ≡ true → ⊥
+      false_true e = cc
+
+  pub init_stands : (init : BlockItems) (again : Stmt) → StmtStands P r (for init again) → ItemsStand P r init
+  init_stands init again x = record {
+    in_loop = false;
+    own = x.own;
+    good = x.good.0;
+    within = x.within;
+    loops = λ e. absurd (false_true e);
+    loop_low = x.loop_low;
+    back_low = x.back_low;
+  }
+    where
+      false_true : false ≡ true → ⊥
+      false_true e = cc
+
+  pub again_stands : (n : ℕ) (init : BlockItems) (again : Stmt) → n ≡ live_behind r.live init → StmtStands P r (for init again) → StmtStands P (record r { live = n }) again
+  again_stands n init again same x =
+      let low = live_low r.live init in
+      record {
+        in_loop = false;
+        own = live_behind x.own init;
+        good = x.good.2;
+        within = let w = both_live r.base x.own r.live init x.within in omega arith;
+        loops = λ e. absurd (false_true e);
+        loop_low = λ m e. let l = x.loop_low m e in omega arith;
+        back_low = λ a e. let l = x.back_low a e in omega arith;
+      }
+    where
+      false_true : false ≡ true → ⊥
+      false_true e = cc
+
+  pub for_again : (init : BlockItems) (at : ℕ) (c : Cond) (s t : Stmt) (n : ℕ) → n ≡ live_behind r.live init → StmtStands P r (for init (loop at c s t)) → StmtStands P (record r { live = n }) (loop at c s t)
+  for_again init at c s t n same x = again_stands n init (loop at c s t) same x
+
+  -- a callee's body in its own frame
+  pub callee_stands : (n more k : ℕ) (x : Option ℕ) (c : Call) (fn : Function) → IsWellFormed P → CallStands P r c → slice_get P.functions c.function ≡ Some fn → n ≡ r.live → k ≡ n + fn.parameters
+      → ItemsStand P (record { base = n; live = k; calls_left = more; loop_length = None; back = Some (record { target = x; length = n }) }) fn.body
+  callee_stands n more k x c fn well stands found same wide = record {
+    in_loop = false;
+    own = fn.parameters;
+    good = all_at P P.functions c.function fn well.functions found;
+    within = omega arith;
+    loops = λ e. absurd (false_true e);
+    loop_low = λ m e. absurd (none-some m e);
+    back_low = λ b e. let h = ap (λ (z : Back). z.length) (same_Some _ b e) in omega arith;
+  }
+    where
+      false_true : false ≡ true → ⊥
+      false_true e = cc
+
+  -- the callee of a call, and how many arguments it takes
+  pub the_callee : (c : Call) → CallStands P r c → (fn : Function) × (slice_get P.functions c.function ≡ Some fn) × (length c.arguments ≡ fn.parameters)
+  the_callee c x = let g = x.good.1 in (g.callee, g.is_callee, g.width)
+
+  -- the loop of a `break` or a `continue`
+  pub break_stands : (at : ℕ) → StmtStands P r (break at) → (m : ℕ) × (r.loop_length ≡ Some m)
+  break_stands at x = x.loops x.good
+
+  pub continue_stands : (at : ℕ) → StmtStands P r (continue at) → (m : ℕ) × (r.loop_length ≡ Some m)
+  continue_stands at x = x.loops x.good
+
+  -- an assigned variable stands in the store
+  pub assigned_fits : (at : ℕ) (v : Slot) (e : Source) → StmtStands P r (assign at v e) → r.live ≤ 24 → (k : ℕ) → v ≡ local k → r.base + k < 18446744073709551616
+  assigned_fits at v e x few k same =
+      let live : IsLive P x.own (local k) = subst (λ z. IsLive P x.own z) same x.good.0 in
+      let w = x.within in
+      omega (arith, live)

@@ -1,0 +1,33 @@
+-- Where a part is stopped by a limit, the whole is.
+use Rattle.std.proofs.Common.{◌≡◌, ℕ, List, ◌++◌, Result, Err, sym, subst}
+use Rattle.lra_tree.specs.Program.{Stmt, Program}
+use Rattle.lra_tree.specs.Sites.{Site, Event, stmt_events}
+use Rattle.lra_graph.specs.declared.points.Limit.{Limit}
+use Rattle.lra_graph.specs.declared.points.GraphError.{GraphError}
+use Rattle.lra_graph.specs.declared.points.GraphError.TheVariants.{Passed, Memory}
+use Rattle.lra_graph.specs.declared.frame.Frame.{Frame}
+use Rattle.lra_graph.specs.Limits.{Progress, passed, stopped, walk, OnError, OnLimit}
+use Rattle.lra_graph.specs.Building.{inside}
+use Rattle.lra_graph.proofs.Walking.{walk_then, walk_stop}
+
+pub error_as : (e : GraphError) (X Y : Limit → Type 0) → ((x : Limit) → X x → Y x) → OnError e X → OnError e Y
+error_as (Passed x) X Y f h = f x h
+error_as Memory X Y f h = tt
+
+pub limit_as : {A B : Type 0} (a : Result A GraphError) (b : Result B GraphError) (e : GraphError) (X Y : Limit → Type 0) → a ≡ Err e → b ≡ Err e → ((x : Limit) → X x → Y x) → OnLimit a X → OnLimit b Y
+limit_as a b e X Y i j f h = subst (λ z. OnLimit z Y) (sym j) (error_as e X Y f (subst (λ z. OnLimit z X) i h))
+
+-- in a statement that is so
+pub stmt_stopped : (P : Program) (path : List ℕ) (r : Frame) (S : List Site) (s s' : Stmt) (w : Progress) → s ≡ s' → walk S (stmt_events (inside P path r) path r.live s') ≡ w → walk S (stmt_events (inside P path r) path r.live s) ≡ w
+stmt_stopped P path r S s s' w e h = subst (λ z. walk S (stmt_events (inside P path r) path r.live z) ≡ w) (sym e) h
+
+-- in the second of two parts, in the third of three
+pub second_stopped : (S V : List Site) (es fs : List Event) (x : Limit) → walk S es ≡ passed V → walk V fs ≡ stopped x → walk S (es ++ fs) ≡ stopped x
+second_stopped S V es fs x e f = walk_then S es fs V (stopped x) e f
+
+pub third_stopped : (S V W : List Site) (es fs gs : List Event) (x : Limit) → walk S es ≡ passed V → walk V fs ≡ passed W → walk W gs ≡ stopped x → walk S (es ++ (fs ++ gs)) ≡ stopped x
+third_stopped S V W es fs gs x e f g = walk_then S es (fs ++ gs) V (stopped x) e (walk_then V fs gs W (stopped x) f g)
+
+-- in the second of three
+pub middle_stopped : (S V : List Site) (es fs gs : List Event) (x : Limit) → walk S es ≡ passed V → walk V fs ≡ stopped x → walk S (es ++ (fs ++ gs)) ≡ stopped x
+middle_stopped S V es fs gs x e f = walk_then S es (fs ++ gs) V (stopped x) e (walk_stop V fs gs x f)

@@ -1,0 +1,80 @@
+-- A whole program written out: its points are those of the definition, its tree is the definition's, and it is refused for the limit that
+-- stopped the writing.
+use Rattle.std.proofs.Common.{◌≡◌, ℕ, suc, List, [], ◌∷◌, ◌++◌, length, Option, Some, None, Bool, true, false, refl, sym, ◌∙◌, subst, arith, append-nil, append_assoc, length-append, add-zero}
+use Rattle.std.specs.Prelude.{nat_lt, if◌then◌else◌}
+use Rattle.lra_tree.specs.declared.refusals.Refusal.{Refusal}
+use Rattle.lra_tree.specs.Program.{Program}
+use Rattle.lra_tree.specs.Labels.{Labelled}
+use Rattle.lra_tree.specs.Graph.{Node, seq, point}
+use Rattle.lra_tree.specs.Sites.{Site, Event, comes, one_call_more, plain_site, live_behind, items_events, call_events, events_of, sites_in, sites_of}
+use Rattle.lra_tree.specs.Inlined.{Has, InlAll, main_frame}
+use Rattle.lra_tree.specs.Agree.{IsGraph}
+use Rattle.lra_tree.specs.Refuse.{greatest_live, greatest_points, limit_fault}
+use Rattle.lra_graph.specs.declared.points.Limit.{Limit}
+use Rattle.lra_graph.specs.declared.points.Limit.TheVariants.{Variables, Points, Calls}
+use Rattle.lra_graph.specs.declared.frame.Frame.{Frame}
+use Rattle.lra_graph.specs.Limits.{Progress, passed, stopped, walk, refusal_of}
+use Rattle.lra_graph.specs.Building.{WritesItems, IsFrame}
+use Rattle.lra_graph.proofs.Walking.{walk_then, chosen, chosen_passed, point_there, one_longer, begins_same, passed_same, not_passed}
+use Rattle.lra_graph.proofs.Writing.{Pointed, pointed_begins}
+
+pub walk_sites : (S : List Site) (es : List Event) (U : List Site) → walk S es ≡ passed U → U ≡ S ++ sites_in es
+walk_sites S [] U e = sym (passed_same S U e) ∙ sym (append-nil S)
+walk_sites S (comes s ∷ es) U e =
+    walk_sites (S ++ s ∷ []) es U (chosen_passed (nat_lt greatest_live s.live) (nat_lt greatest_points (suc (length S))) (Variables s.label) (Points s.label) (walk (S ++ s ∷ []) es) U e) ∙ append_assoc S (s ∷ []) (sites_in es)
+walk_sites S (one_call_more at ∷ es) U e = absurd (not_passed (Calls at) U e)
+
+-- what a progress says of the refusal
+abbrev pub fault_in : List Labelled → Progress → Option Refusal
+fault_in ls (passed U) = None
+fault_in ls (stopped x) = Some (refusal_of ls x)
+
+same_fault : (ls : List Labelled) (many full : Bool) (x y : Limit) (r : Progress) (f : Option Refusal) → fault_in ls r ≡ f
+    → fault_in ls (chosen many full x y r) ≡ (if many then Some (refusal_of ls x) else (if full then Some (refusal_of ls y) else f))
+same_fault ls true full x y r f e = refl
+same_fault ls false true x y r f e = refl
+same_fault ls false false x y r f e = e
+
+pub walk_fault : (ls : List Labelled) (S : List Site) (es : List Event) → fault_in ls (walk S es) ≡ limit_fault ls (length S) es
+walk_fault ls S [] = refl
+walk_fault ls S (comes s ∷ es) =
+    let longer : length (S ++ s ∷ []) ≡ suc (length S) = rw length-append (omega arith) in
+    same_fault ls (nat_lt greatest_live s.live) (nat_lt greatest_points (suc (length S))) (Variables s.label) (Points s.label) (walk (S ++ s ∷ []) es) (limit_fault ls (suc (length S)) es)
+    (subst (λ n. fault_in ls (walk (S ++ s ∷ []) es) ≡ limit_fault ls n es) longer (walk_fault ls (S ++ s ∷ []) es))
+walk_fault ls S (one_call_more at ∷ es) = refl
+
+abbrev pub first_frame : Program → Frame
+first_frame P = record { base = length P.globals; live = length P.globals; calls_left = 32; loop_length = None; back = None }
+
+module _ (P : Program) (alone : P.main.parameters ≡ 0) where
+  -- main's items, and the point of its end
+  abbrev main_events : List Event
+  main_events = items_events (call_events P 32) [] (length P.globals) P.main.body ++ plain_site [] P.main.end (live_behind (length P.globals) P.main.body) ∷ []
+
+  pub events_are : main_events ≡ events_of P
+  events_are = rw alone (rw add-zero refl)
+
+  abbrev last_site : ℕ → Site
+  last_site n = record { path = []; label = P.main.end; live = n; asserts = false }
+
+  pub whole_walk : (V U : List Site) (h : Node) → WritesItems P [] (first_frame P) [] P.main.body h V → Pointed V (last_site (live_behind (length P.globals) P.main.body)) U → walk [] (events_of P) ≡ passed U
+  whole_walk V U h x e = subst (λ es. walk [] es ≡ passed U) events_are
+      (walk_then [] (items_events (call_events P 32) [] (length P.globals) P.main.body) (plain_site [] P.main.end (live_behind (length P.globals) P.main.body) ∷ []) V (passed U) x.walked e)
+
+  pub whole_sites : (U : List Site) → walk [] (events_of P) ≡ passed U → U ≡ sites_of P
+  whole_sites U e = walk_sites [] (events_of P) U e
+
+  pub whole_graph : (V U : List Site) (h g : Node) (q : ℕ) → WritesItems P [] (first_frame P) [] P.main.body h V → Pointed V (last_site (live_behind (length P.globals) P.main.body)) U → q ≡ length V → g ≡ seq h (point q) → IsGraph P g
+  whole_graph V U h g q x e i a =
+      let n = live_behind (length P.globals) P.main.body in
+      let same : U ≡ sites_of P = whole_sites U (whole_walk V U h x e) in
+      let is : IsFrame [] (first_frame P) (main_frame P) = record { path = refl; base = refl; loop = refl; back = refl } in
+      record {
+        body = h;
+        last = length V;
+        live = n;
+        inlined = subst (λ T. InlAll P T (main_frame P) (length P.globals) 0 P.main.body h n (length V)) same (x.placed U (main_frame P) (pointed_begins V U (last_site n) e) is);
+        ends = subst (λ T. Has T (length V) (main_frame P) n P.main.end) same (point_there V U U (last_site n) e (begins_same U));
+        all = rw (← same) (one_longer V U (last_site n) e);
+        parts = rw (← i) a;
+      }

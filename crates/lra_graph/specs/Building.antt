@@ -1,0 +1,95 @@
+-- What is owed for each part of a program that is written out: its points stand behind those before it, and whatever points follow, its tree is
+-- that of the definition.
+use Rattle.std.specs.Prelude.{◌≡◌, ◌≢◌, ℕ, suc, ◌+◌, ◌≤◌, Bool, true, List, ◌++◌, length, Option, Some, None, slice_get}
+use Rattle.lra_tree.specs.Program.{Cond, Call, Source, Stmt, loop, break, continue, return, BlockItems, Program}
+use Rattle.lra_tree.specs.Step as step
+use Rattle.lra_tree.specs.Graph.{Exit, broken, continued, returned, Node, seq, point}
+use Rattle.lra_tree.specs.Sites.{Site, Event, live_behind, source_events, given_events, stmt_events, items_events, call_events}
+use Rattle.lra_tree.specs.Inlined as inlined
+use Rattle.lra_tree.specs.WellFormed.{IsGoodCall, IsGoodGiven, IsGoodStmt, AreGoodItems}
+use Rattle.lra_graph.specs.Limits.{walk, passed}
+use Rattle.lra_graph.specs.declared.frame.Frame.{Frame}
+use Rattle.lra_graph.specs.declared.frame.Back.{Back}
+
+-- frames ------------------------------------------------------------------------------------------------------------
+
+-- what of the caller is of use at the end
+abbrev pub back_parts : Option step.Back → Option Back
+back_parts None = None
+back_parts (Some b) = Some (record { target = b.target; length = b.length })
+
+pub record IsFrame (calls : List ℕ) (r : Frame) (f : inlined.Frame) : Type 0 where
+  pub path : f.here.path ≡ calls
+  pub base : f.here.base ≡ r.base
+  pub loop : f.loop ≡ r.loop_length
+  pub back : back_parts f.back ≡ r.back
+
+-- a well-formed part stands in the frame: the call's own variables live, `break` finds its loop, and what is cut to lives
+pub record Stands (r : Frame) (X : Bool → ℕ → Type 0) : Type 0 where
+  pub in_loop : Bool
+  pub own : ℕ
+  pub good : X in_loop own
+  pub within : r.base + own ≤ r.live
+  pub loops : in_loop ≡ true → (m : ℕ) × (r.loop_length ≡ Some m)
+  pub loop_low : (m : ℕ) → r.loop_length ≡ Some m → m ≤ r.live
+  pub back_low : (b : Back) → r.back ≡ Some b → b.length ≤ r.live
+
+module _ (P : Program) (r : Frame) where
+  abbrev pub StmtStands : Stmt → Type 0
+  StmtStands s = Stands r (λ in_loop own. IsGoodStmt P in_loop own s)
+
+  abbrev pub ItemsStand : BlockItems → Type 0
+  ItemsStand items = Stands r (λ in_loop own. AreGoodItems P in_loop own items)
+
+  abbrev pub GivenStands : Option Source → Type 0
+  GivenStands o = Stands r (λ in_loop own. (at : ℕ) × IsGoodGiven P at own o)
+
+  abbrev pub CallStands : Call → Type 0
+  CallStands c = Stands r (λ in_loop own. (at : ℕ) × IsGoodCall P at own c)
+
+-- what is written --------------------------------------------------------------------------------------------------------
+
+-- the points of the one are the first of the other
+abbrev pub Begins : List Site → List Site → Type 0
+Begins S T = (i : ℕ) (x : Site) → slice_get S i ≡ Some x → slice_get T i ≡ Some x
+
+pub record Writes (path : List ℕ) (r : Frame) (es : List Event) (S U : List Site) (X : List Site → inlined.Frame → Type 0) : Type 0 where
+  pub walked : walk S es ≡ passed U
+  pub placed : (T : List Site) (f : inlined.Frame) → Begins U T → IsFrame path r f → X T f
+
+module _ (P : Program) (path : List ℕ) (r : Frame) where
+  abbrev pub inside : List ℕ → ℕ → Call → List Event
+  inside = call_events P r.calls_left
+
+  abbrev pub WritesStmt : List Site → Stmt → Node → List Site → Type 0
+  WritesStmt S s g U = Writes path r (stmt_events inside path r.live s) S U (λ T f. inlined.Inl P T f r.live (length S) s g r.live (length U))
+
+  abbrev pub WritesItems : List Site → BlockItems → Node → List Site → Type 0
+  WritesItems S b g U = Writes path r (items_events inside path r.live b) S U (λ T f. inlined.InlAll P T f r.live (length S) b g (live_behind r.live b) (length U))
+
+  -- what a variable gets, from the point q on
+  abbrev pub WritesSource : ℕ → Option ℕ → List Site → Source → Node → List Site → Type 0
+  WritesSource q x S e g U = Writes path r (source_events inside path r.live e) S U (λ T f. inlined.Gives P T f r.live q (length S) x e g (length U))
+
+  -- a loop behind its own point q
+  abbrev pub WritesLoop : ℕ → List Site → Cond → Stmt → Stmt → Node → List Site → Type 0
+  WritesLoop q S c a step g U = Writes path r (stmt_events inside path r.live step ++ stmt_events inside path r.live a) S U
+      (λ T f. (at : ℕ) → inlined.Has T q f r.live at → inlined.Loops P T f r.live q (length S) (loop at c a step) g (length U))
+
+  -- a declarator, and its variable's value, behind its point q
+  abbrev pub WritesDeclared : ℕ → List Site → Option Source → Node → List Site → Type 0
+  WritesDeclared q S o g U = Writes path r (given_events inside path (suc r.live) o) S U (λ T f. inlined.Declares P T f r.live q (length S) o g (length U))
+
+  -- a return behind its point q
+  abbrev pub WritesReturn : ℕ → List Site → Option Source → Node → List Site → Type 0
+  WritesReturn q S o g U = Writes path r (given_events inside path r.live o) S U
+      (λ T f. (at : ℕ) → length S ≡ suc q → inlined.Has T q f r.live at → inlined.Inl P T f r.live q (return at o) (seq (point q) g) r.live (length U))
+
+-- `break` and `continue`: the statement that leaves the loop so
+abbrev pub leaving : Exit → ℕ → Stmt
+leaving broken at = break at
+leaving continued at = continue at
+leaving returned at = return at None
+
+abbrev pub LeavesLoop : List ℕ → Frame → List Site → ℕ → Exit → Node → List Site → Type 0
+LeavesLoop path r S at exit g U = (P : Program) → exit ≢ returned → ((m : ℕ) → r.loop_length ≡ Some m → m ≤ r.live) → WritesStmt P path r S (leaving exit at) g U

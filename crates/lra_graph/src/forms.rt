@@ -1,0 +1,160 @@
+//! The forms of which a program's tree is made.
+
+ghost use Rattle.std.specs.Prelude.{◌≡◌, ◌+◌, ◌<◌, ◌^◌, map, IfOk};
+ghost use Rattle.lra_tree.specs.Step as step;
+ghost use Rattle.lra_tree.specs.Graph as graph;
+ghost use Rattle.lra_tree.specs.Inlined.{loop_node, call_node, return_node};
+ghost use Rattle.lra_tree.specs.ProgramViews.{expr_view, cond_view};
+ghost use Rattle.lra_tree.specs.GraphViews.{op_view, exit_view, node_view};
+
+use lra_tree::graph::{Exit, Node, Op};
+use lra_tree::program::{Cond, Expr, copy_expressions};
+use std::alloc::{AllocError, Global};
+
+/// The one, then the other.
+pub fn in_turn(alloc: Global, first: Node, second: Node) -> Result<Node, AllocError>
+    ensures { IfOk result (λ g. node_view g ≡ graph.seq (node_view first) (node_view second)) }
+{
+    Ok(Node::Seq(Box::new(alloc, first)?, Box::new(alloc, second)?))
+}
+
+fn caught(alloc: Global, point: usize, exit: Exit, body: Node) -> Result<Node, AllocError>
+    ensures { IfOk result (λ g. node_view g ≡ graph.catch point (exit_view exit) (node_view body)) }
+{
+    Ok(Node::Catch(point, exit, Box::new(alloc, body)?))
+}
+
+/// The point, then the tree.
+pub fn behind_point(alloc: Global, point: usize, node: Node) -> Result<Node, AllocError>
+    ensures { IfOk result (λ g. node_view g ≡ graph.seq (graph.point point) (node_view node)) }
+{
+    in_turn(alloc, Node::Point(point), node)
+}
+
+/// The operation, then the tree.
+pub fn behind(alloc: Global, point: usize, op: Op, node: Node) -> Result<Node, AllocError>
+    ensures { IfOk result (λ g. node_view g ≡ graph.seq (graph.act point (op_view op)) (node_view node)) }
+{
+    in_turn(alloc, Node::Act(point, op), node)
+}
+
+/// The point of a block's end, where its variables go.
+pub fn block_end(alloc: Global, point: usize, live: usize) -> Result<Node, AllocError>
+    ensures { IfOk result (λ g. node_view g ≡ graph.seq (graph.point point) (graph.act point (step.keep live))) }
+{
+    behind_point(alloc, point, Node::Act(point, Op::Keep(live)))
+}
+
+/// The one where the condition is true, the other where it is false.
+pub fn choice(
+    alloc: Global,
+    point: usize,
+    base: usize,
+    cond: &Cond,
+    on_true: Node,
+    on_false: Node,
+) -> Result<Node, AllocError>
+    ensures { IfOk result (λ g. node_view g ≡ graph.choose point base (cond_view cond.now) (node_view on_true) (node_view on_false)) }
+{
+    let cond = cond.copy(alloc)?;
+    Ok(Node::Choose(
+        point,
+        base,
+        cond,
+        Box::new(alloc, on_true)?,
+        Box::new(alloc, on_false)?,
+    ))
+}
+
+/// A loop: `break` comes out behind it, `continue` behind the body and before the step.
+pub fn rounds(
+    alloc: Global,
+    point: usize,
+    base: usize,
+    cond: &Cond,
+    body: Node,
+    step: Node,
+) -> Result<Node, AllocError>
+    ensures { IfOk result (λ g. node_view g ≡ loop_node point base (cond_view cond.now) (node_view body) (node_view step)) }
+{
+    let cond = cond.copy(alloc)?;
+    let body = caught(alloc, point, Exit::Continued, body)?;
+    let round = in_turn(alloc, body, step)?;
+    let all = Node::Iterate(point, base, cond, Box::new(alloc, round)?);
+    caught(alloc, point, Exit::Broken, all)
+}
+
+/// A jump, which first cuts the store.
+pub fn cut_and_leave(
+    alloc: Global,
+    point: usize,
+    length: usize,
+    live: usize,
+    exit: Exit,
+) -> Result<Node, AllocError>
+    ensures { IfOk result (λ g. node_view g ≡ graph.seq (graph.act point (step.keep length)) (graph.leave live (exit_view exit))) }
+{
+    behind(alloc, point, Op::Keep(length), Node::Leave(live, exit))
+}
+
+/// A `return` that gives its value, then cuts the store.
+pub fn returned(
+    alloc: Global,
+    point: usize,
+    op: Op,
+    length: usize,
+    live: usize,
+) -> Result<Node, AllocError>
+    ensures { IfOk result (λ g. node_view g ≡ return_node point (op_view op) length live) }
+{
+    let leave = cut_and_leave(alloc, point, length, live, Exit::Returned)?;
+    behind(alloc, point, op, leave)
+}
+
+/// The end of a called function: its body's variables go, the target gets any value, the parameters go.
+fn call_end(
+    alloc: Global,
+    end: usize,
+    live: usize,
+    parameters: usize,
+    target: Option<usize>,
+) -> Result<Node, AllocError>
+    requires { live + parameters < 2 ^ 64 }
+    ensures { IfOk result (λ g. node_view g ≡ graph.seq (graph.point end) (graph.seq (graph.act end (step.keep (live + parameters))) (graph.seq (graph.act end (step.give_any target)) (graph.act end (step.keep live))))) }
+{
+    let last = Node::Act(end, Op::Keep(live));
+    let given = behind(alloc, end, Op::GiveAny(target), last)?;
+    let cut = behind(alloc, end, Op::Keep(live + parameters), given)?;
+    behind_point(alloc, end, cut)
+}
+
+/// What a call is: its arguments become the callee's first variables, behind the `live` that live at the call.
+#[derive(Clone, Copy)]
+pub struct CallPlace {
+    /// The call's own point.
+    pub point: usize,
+    /// The point of the callee's end.
+    pub end: usize,
+    /// Where the caller's variables begin.
+    pub base: usize,
+    pub live: usize,
+    pub target: Option<usize>,
+}
+
+/// A call of a function with so many parameters and this body.
+pub fn called(
+    alloc: Global,
+    place: CallPlace,
+    arguments: &[Expr],
+    parameters: usize,
+    body: Node,
+) -> Result<Node, AllocError>
+    requires { place.live + parameters < 2 ^ 64 }
+    ensures { IfOk result (λ g. node_view g ≡ call_node place.point place.end place.base place.live place.target (map expr_view arguments.now) parameters (node_view body)) }
+{
+    let end = call_end(alloc, place.end, place.live, parameters, place.target)?;
+    let whole = in_turn(alloc, body, end)?;
+    let inside = caught(alloc, place.point, Exit::Returned, whole)?;
+    let arguments = copy_expressions(alloc, arguments)?;
+    behind(alloc, place.point, Op::Push(place.base, arguments), inside)
+}

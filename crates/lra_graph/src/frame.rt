@@ -1,0 +1,23 @@
+//! Where a statement stands.
+
+/// Where the call that runs goes back to: what gets its value, and how many variables live at the call.
+#[derive(Clone, Copy)]
+pub struct Back {
+    pub target: Option<usize>,
+    pub length: usize,
+}
+
+/// Where a statement stands.
+#[derive(Clone, Copy)]
+pub struct Frame {
+    /// Where the variables of the call that runs begin.
+    pub base: usize,
+    /// How many variables live.
+    pub live: usize,
+    /// How many calls more the path may have.
+    pub calls_left: usize,
+    /// How many variables live at the nearest loop.
+    pub loop_length: Option<usize>,
+    /// None in `main`.
+    pub back: Option<Back>,
+}
