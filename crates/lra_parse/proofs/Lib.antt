@@ -1,0 +1,5 @@
+pub mod Marks
+pub mod Exact
+pub mod Forms
+pub mod Turns
+pub mod Tokens

@@ -1,0 +1,4 @@
+//! The tree of a list of tokens.
+#![tactic(auto)]
+
+mod reading;
