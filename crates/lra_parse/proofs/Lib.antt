@@ -3,3 +3,4 @@ pub mod Exact
 pub mod Forms
 pub mod Turns
 pub mod Tokens
+pub mod Chain
