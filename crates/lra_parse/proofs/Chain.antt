@@ -26,20 +26,7 @@ joined_left R S T z (x, y, e, r, (u, v, f, s, t)) = (x ++ u, v, e ∙ ap (λ (k 
 
 -- chains -----------------------------------------------------------------------------------------------------------
 
-module _ {n : ℕ} {I A O : Type 0} (op : Option Token → Option O) (mark_of : O → Mark) (start : I → A) (grow : A → O → I → A) {p : Parse I} {IsItem : I → Pieces → Type 0} {FI : I → Option Token → Type 0}
-    (P : Exact n IsInner p Any IsItem IsItem FI)
-    (OP : Exact n IsInner (take_by op) Any (λ k z. mark (mark_of k) z) (λ k z. mark (mark_of k) z) Free)
-    (at_end : op None ≡ None)
-    (self : (k : O) (at : Place) → op (Some (record { kind = MarkOf (mark_of k); place = at })) ≡ Some k)
-    (some_item : (i : I) × (x : Pieces) × IsItem i x)
-    (IsChain : A → Pieces → Type 0) (FA : A → Option Token → Type 0)
-    (starts : (i : I) (z : Pieces) → IsItem i z → IsChain (start i) z)
-    (grows : (a : A) (k : O) (i : I) (x y : Pieces) → IsChain a x → (mark (mark_of k) ⋅ IsItem i) y → IsChain (grow a k i) (x ++ y))
-    (start_out : (i : I) (o : Option Token) → FA (start i) o → FI i o)
-    (start_in : (i : I) (o : Option Token) → FI i o → FA (start i) o)
-    (grow_out : (a : A) (k : O) (i : I) (o : Option Token) → FA (grow a k i) o → FI i o)
-    (grow_in : (a : A) (k : O) (i : I) (o : Option Token) → FI i o → FA (grow a k i) o)
-    (allowed : (a : A) (o : Option Token) → has (op o) ≡ true → FA a o) where
+module _ {I A O : Type 0} (mark_of : O → Mark) (start : I → A) (grow : A → O → I → A) (IsItem : I → Pieces → Type 0) where
   abbrev pub Grown : A → O → A → Pieces → Type 0
   Grown a k b x = (i : I) × (grow a k i ≡ b) × IsItem i x
 
@@ -47,36 +34,7 @@ module _ {n : ℕ} {I A O : Type 0} (op : Option Token → Option O) (mark_of : 
   abbrev pub Step_to : A → A → Pieces → Type 0
   Step_to a b z = (k : O) × (mark (mark_of k) ⋅ Grown a k b) z
 
-  exact_step : (a : A) → Exact n IsInner (chain_step op grow p a) (λ o. has (op o) ≡ true) (Step_to a) (Step_to a) FA
-  exact_step a =
-      let t = then OP (λ k. mapped P (grow a k) FA (λ i o f. grow_in a k i o f) (λ i o f. grow_out a k i o f)) (Step_to a)
-      (λ k b y o s f. tt)
-      (λ k z v. (grow a k some_item.0, some_item.1, (k, (z, some_item.1, refl, v, (some_item.0, refl, some_item.2)))))
-      (λ k b x y s r. (k, (x, y, refl, s, r))) in
-      entry t (λ o. has (op o) ≡ true) (λ o h. tt)
-
-  step_begins : (a c : A) (x : Pieces) → Step_to a c x → has (op (first_or x None)) ≡ true
-  step_begins a c x (k, (u, v, e, m, g)) = rw (e, m.1) (rw (self k m.0) refl)
-
-  pub exact_rest : (a : A) → Exact n IsInner (chain_rest op grow p a) (FA a) (λ b x. Steps Step_to b a x) (λ b x. Steps Step_to b a x) (λ b o. FA b o × (has (op o) ≡ false))
-  exact_rest a = exact_turns (λ o. has (op o)) exact_step (λ a b x. Steps Step_to b a x) (rw at_end refl) step_begins
-      (λ a c z s. (c, [], turn s none)) (λ a c b x y s r. turn s r) allowed a
-
-  pub whole : (b a : A) (x y : Pieces) → IsChain a x → Steps Step_to b a y → IsChain b (x ++ y)
-  whole b a x y h none = subst (IsChain b) (sym (append-nil x)) h
-  whole b a x y h (turn {a = _} {c = c} {x = u} {y = v} (k, (q, r, e, m, (i, g, s))) t) =
-      let next : IsChain c (x ++ u) = subst (λ (d : A). IsChain d (x ++ u)) g (grows a k i x u h (q, r, e, m, s)) in
-      subst (IsChain b) (append_assoc x u v) (whole b c (x ++ u) v next t)
-
-  long_step : (a c : A) (x z : Pieces) (o : Option Token) → Step_to a c x → has (op (first_or (x ++ z) o)) ≡ true
-  long_step a c [] z o s = let t = step_begins a c [] s in let e : has (op None) ≡ false = rw at_end refl in absurd cc
-  long_step a c (k ∷ x) z o s = step_begins a c (k ∷ x) s
-
-  -- what follows an item in a chain may follow it
-  pub steps_first : (a b : A) (y : Pieces) (o : Option Token) → Steps Step_to b a y → (y ≡ [] → FA b o × (has (op o) ≡ false)) → FA a (first_or y o)
-  steps_first a b y o none f = (f refl).0
-  steps_first a b y o (turn {a = _} {c = c} {x = u} {y = v} s r) f = allowed a (first_or (u ++ v) o) (long_step a c u v o s)
-
+  -- an item, and then steps
   abbrev pub Split : A → Pieces → Type 0
   Split a z = (i : I) × (IsItem i ⋅ (λ y. Steps Step_to a (start i) y)) z
 
@@ -88,14 +46,65 @@ module _ {n : ℕ} {I A O : Type 0} (op : Option Token → Option O) (mark_of : 
   pub split_start : (i : I) (z : Pieces) → IsItem i z → Split (start i) z
   split_start i z s = (i, (z, [], sym (append-nil z), s, none))
 
-  pub exact_chain : (split : (a : A) (z : Pieces) → IsChain a z → Split a z)
-      → Exact n IsInner (chain op start grow p) Any IsChain IsChain (λ a o. FA a o × (has (op o) ≡ false))
-  exact_chain split =
-      let t = then P (λ i. entry (exact_rest (start i)) (FI i) (λ o f. start_in i o f)) IsChain
-      (λ i b y o s f. start_out i (first_or y o) (steps_first (start i) b y o s f))
-      (λ i z s. (start i, [], subst (IsChain (start i)) (sym (append-nil z)) (starts i z s)))
-      (λ i b x y s r. whole b (start i) x y (starts i x s) r) in
-      rename t IsChain (λ a z s. subst (IsChain a) (sym s.1.2) (whole a (start s.0) s.1.0 s.1.1 (starts s.0 s.1.0 s.1.3) s.1.4)) split
+  module _ (IsChain : A → Pieces → Type 0) (grows : (a : A) (k : O) (i : I) (x y : Pieces) → IsChain a x → (mark (mark_of k) ⋅ IsItem i) y → IsChain (grow a k i) (x ++ y)) where
+    pub whole : (b a : A) (x y : Pieces) → IsChain a x → Steps Step_to b a y → IsChain b (x ++ y)
+    whole b a x y h none = subst (IsChain b) (sym (append-nil x)) h
+    whole b a x y h (turn {a = _} {c = c} {x = u} {y = v} (k, (q, r, e, m, (i, g, s))) t) =
+        let next : IsChain c (x ++ u) = subst (λ (d : A). IsChain d (x ++ u)) g (grows a k i x u h (q, r, e, m, s)) in
+        subst (IsChain b) (append_assoc x u v) (whole b c (x ++ u) v next t)
+
+-- what may follow an item follows the chain that ends in it, and an operator may follow each chain
+pub record IsFollow {I A O : Type 0} (op : Option Token → Option O) (start : I → A) (grow : A → O → I → A) (FI : I → Option Token → Type 0) (FA : A → Option Token → Type 0) : Type 0 where
+  pub start_out : (i : I) (o : Option Token) → FA (start i) o → FI i o
+  pub start_in : (i : I) (o : Option Token) → FI i o → FA (start i) o
+  pub grow_out : (a : A) (k : O) (i : I) (o : Option Token) → FA (grow a k i) o → FI i o
+  pub grow_in : (a : A) (k : O) (i : I) (o : Option Token) → FI i o → FA (grow a k i) o
+  pub allowed : (a : A) (o : Option Token) → has (op o) ≡ true → FA a o
+
+-- the operators of a table
+pub record IsOperator {O : Type 0} (n : ℕ) (op : Option Token → Option O) (mark_of : O → Mark) : Type 0 where
+  pub exact : Exact n IsInner (take_by op) Any (λ k z. mark (mark_of k) z) (λ k z. mark (mark_of k) z) Free
+  pub at_end : op None ≡ None
+  pub self : (k : O) (at : Place) → op (Some (record { kind = MarkOf (mark_of k); place = at })) ≡ Some k
+
+module _ {n : ℕ} {I A O : Type 0} {op : Option Token → Option O} {mark_of : O → Mark} (OP : IsOperator n op mark_of) {start : I → A} {grow : A → O → I → A} {FI : I → Option Token → Type 0} {FA : A → Option Token → Type 0}
+    (F : IsFollow op start grow FI FA) where
+  step_begins : (IsItem : I → Pieces → Type 0) (a c : A) (x : Pieces) → Step_to mark_of start grow IsItem a c x → has (op (first_or x None)) ≡ true
+  step_begins IsItem a c x (k, (u, v, e, m, g)) = rw (e, m.1) (rw (OP.self k m.0) refl)
+
+  long_step : (IsItem : I → Pieces → Type 0) (a c : A) (x z : Pieces) (o : Option Token) → Step_to mark_of start grow IsItem a c x → has (op (first_or (x ++ z) o)) ≡ true
+  long_step IsItem a c [] z o s = let t = step_begins IsItem a c [] s in let e : has (op None) ≡ false = rw (OP.at_end) refl in absurd cc
+  long_step IsItem a c (k ∷ x) z o s = step_begins IsItem a c (k ∷ x) s
+
+  -- what follows an item in a chain may follow it
+  pub steps_first : (IsItem : I → Pieces → Type 0) (a b : A) (y : Pieces) (o : Option Token) → Steps (Step_to mark_of start grow IsItem) b a y → (y ≡ [] → FA b o × (has (op o) ≡ false)) → FA a (first_or y o)
+  steps_first IsItem a b y o none f = (f refl).0
+  steps_first IsItem a b y o (turn {a = _} {c = c} {x = u} {y = v} s r) f = F.allowed a (first_or (u ++ v) o) (long_step IsItem a c u v o s)
+
+  module _ {p : Parse I} {IsItem : I → Pieces → Type 0} (P : Exact n IsInner p Any IsItem IsItem FI) (some_item : (i : I) × (x : Pieces) × IsItem i x) where
+    exact_step : (a : A) → Exact n IsInner (chain_step op grow p a) (λ o. has (op o) ≡ true) (Step_to mark_of start grow IsItem a) (Step_to mark_of start grow IsItem a) FA
+    exact_step a =
+        let t = then OP.exact (λ k. mapped P (grow a k) FA (λ i o f. F.grow_in a k i o f) (λ i o f. F.grow_out a k i o f)) (Step_to mark_of start grow IsItem a)
+        (λ k b y o s f. tt)
+        (λ k z v. (grow a k some_item.0, some_item.1, (k, (z, some_item.1, refl, v, (some_item.0, refl, some_item.2)))))
+        (λ k b x y s r. (k, (x, y, refl, s, r))) in
+        entry t (λ o. has (op o) ≡ true) (λ o h. tt)
+
+    pub exact_rest : (a : A) → Exact n IsInner (chain_rest op grow p a) (FA a) (λ b x. Steps (Step_to mark_of start grow IsItem) b a x) (λ b x. Steps (Step_to mark_of start grow IsItem) b a x) (λ b o. FA b o × (has (op o) ≡ false))
+    exact_rest a = exact_turns (λ o. has (op o)) exact_step (λ a b x. Steps (Step_to mark_of start grow IsItem) b a x) (rw (OP.at_end) refl) (step_begins IsItem)
+        (λ a c z s. (c, [], turn s none)) (λ a c b x y s r. turn s r) F.allowed a
+
+    pub exact_chain : (IsChain : A → Pieces → Type 0) (starts : (i : I) (z : Pieces) → IsItem i z → IsChain (start i) z)
+        (grows : (a : A) (k : O) (i : I) (x y : Pieces) → IsChain a x → (mark (mark_of k) ⋅ IsItem i) y → IsChain (grow a k i) (x ++ y))
+        → (split : (a : A) (z : Pieces) → IsChain a z → Split mark_of start grow IsItem a z)
+        → Exact n IsInner (chain op start grow p) Any IsChain IsChain (λ a o. FA a o × (has (op o) ≡ false))
+    exact_chain IsChain starts grows split =
+        let all = whole mark_of start grow IsItem IsChain grows in
+        let t = then P (λ i. entry (exact_rest (start i)) (FI i) (λ o f. F.start_in i o f)) IsChain
+        (λ i b y o s f. F.start_out i (first_or y o) (steps_first IsItem (start i) b y o s f))
+        (λ i z s. (start i, [], subst (IsChain (start i)) (sym (append-nil z)) (starts i z s)))
+        (λ i b x y s r. all b (start i) x y (starts i x s) r) in
+        rename t IsChain (λ a z s. subst (IsChain a) (sym s.1.2) (all a (start s.0) s.1.0 s.1.1 (starts s.0 s.1.0 s.1.3) s.1.4)) split
 
 -- lists ------------------------------------------------------------------------------------------------------------
 

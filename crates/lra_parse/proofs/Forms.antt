@@ -135,20 +135,20 @@ pub retell : {n : ℕ} {Q : Token → Type 0} {A : Type 0} {p : Parse A} {E : Op
     → (S' : A → Pieces → Type 0) → ((a : A) (x : Pieces) → S a x → S' a x) → ((a : A) (x : Pieces) → S' a x → S a x) → Exact n Q p E S' S' F
 retell P S' to from = rename (widen P S' to) S' to from
 
--- a text of the form, where the next token passes a test
-module _ {n : ℕ} {Q : Token → Type 0} {A : Type 0} {p : Parse A} {E : Option Token → Type 0} {S V : A → Pieces → Type 0} {F : A → Option Token → Type 0} (P : Exact n Q p E S V F)
-    (tells : Option Token → Bool) (v : Bool) (long : (a : A) (x : Pieces) → S a x → x ≡ [] → ⊥) where
+-- a text of the form, where the next token tells v
+module _ {n : ℕ} {Q : Token → Type 0} {A K : Type 0} {p : Parse A} {E : Option Token → Type 0} {S V : A → Pieces → Type 0} {F : A → Option Token → Type 0} (P : Exact n Q p E S V F)
+    (key : Option Token → K) (v : K) (long : (a : A) (x : Pieces) → S a x → x ≡ [] → ⊥) where
   told : (x : Pieces) (R : Text) (o : Option Token) → (x ≡ [] → ⊥) → first (plain x ++ R) ≡ first_or x o
   told [] R o h = absurd (h refl)
   told (t ∷ x) R o h = refl
 
-  pub where_told : Exact n Q p (λ o. E o × (tells o ≡ v)) (λ a x. S a x × (tells (first_or x None) ≡ v)) V F
+  pub where_told : Exact n Q p (λ o. (key o ≡ v) × E o) (λ a x. S a x × (key (first_or x None) ≡ v)) V F
   where_told = record {
-    ok = λ T a R i e. let l = P.ok T a R i.0 e in (l.0, l.1, l.2, l.3, (l.4, ap tells (sym (ap first l.1 ∙ told l.0 R None (long a l.0 l.4))) ∙ i.1), l.5);
-    err = λ T f i e. P.err T f i.0 e;
-    again = λ x a R s low i h. P.again x a R s.0 low i.0 h;
-    deep = λ u t w a Y s low past i. P.deep u t w a Y s.0 low past i.0;
-    one = λ x y a b R s s' low low' i f f' e. P.one x y a b R s.0 s'.0 low low' i.0 f f' e;
+    ok = λ T a R i e. let l = P.ok T a R i.1 e in (l.0, l.1, l.2, l.3, (l.4, ap key (sym (ap first l.1 ∙ told l.0 R None (long a l.0 l.4))) ∙ i.0), l.5);
+    err = λ T f i e. P.err T f i.1 e;
+    again = λ x a R s low i h. P.again x a R s.0 low i.1 h;
+    deep = λ u t w a Y s low past i. P.deep u t w a Y s.0 low past i.1;
+    one = λ x y a b R s s' low low' i f f' e. P.one x y a b R s.0 s'.0 low low' i.1 f f' e;
   }
 
 -- one of several forms, told by the next token ----------------------------------------------------------------------

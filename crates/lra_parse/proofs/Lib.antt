@@ -4,3 +4,5 @@ pub mod Forms
 pub mod Turns
 pub mod Tokens
 pub mod Chain
+pub mod Parts
+pub mod Expressions

@@ -122,7 +122,7 @@ abbrev pub AreMarks : {A : Type 0} → (A → Mark) → List (Mark × A) → Typ
 AreMarks mark_of [] = Unit {0}
 AreMarks mark_of (k ∷ ks) = (mark_of k.1 ≡ k.0) × AreMarks mark_of ks
 
-table_is : {A : Type 0} (mark_of : A → Mark) (ks : List (Mark × A)) → AreMarks mark_of ks → (o : Option Token) (a : A) → one_of ks o ≡ Some a → is_mark (mark_of a) o ≡ true
+pub table_is : {A : Type 0} (mark_of : A → Mark) (ks : List (Mark × A)) → AreMarks mark_of ks → (o : Option Token) (a : A) → one_of ks o ≡ Some a → is_mark (mark_of a) o ≡ true
 table_is mark_of [] h o a e = absurd cc
 table_is {A} mark_of (k ∷ ks) h o a e = elim (test (is_mark k.0 o)) [
   | inl on ↦ let e' : (let r : Option A = Some k.1 in r) ≡ Some a = rw on at e in let f : k.1 ≡ a = cc in subst (λ (m : Mark). is_mark m o ≡ true) (sym h.0 ∙ ap mark_of f) on

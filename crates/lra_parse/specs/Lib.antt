@@ -1,2 +1,3 @@
 pub mod Tests
 pub mod Reading
+pub mod Expressions
