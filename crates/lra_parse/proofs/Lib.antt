@@ -6,3 +6,4 @@ pub mod Tokens
 pub mod Chain
 pub mod Parts
 pub mod Expressions
+pub mod Conditions
