@@ -191,3 +191,25 @@ conjunction_at d = conjunction_of (test_at d)
 
 abbrev pub cond_at : ℕ → Parse CondTree
 cond_at d = cond_of (test_at d)
+
+-- behind a mark that opens a level, of which d are left ---------------------------------------------------------------
+
+abbrev pub negated_at : ℕ → Parse UnaryTree
+negated_at zero T = stop TooDeep T
+negated_at (suc d) T = behind mark.Minus (map_read negated (unary_at d)) T
+
+abbrev pub positive_at : ℕ → Parse UnaryTree
+positive_at zero T = stop TooDeep T
+positive_at (suc d) T = behind mark.Plus (map_read positive (unary_at d)) T
+
+abbrev pub grouped_at : ℕ → Parse UnaryTree
+grouped_at zero T = stop TooDeep T
+grouped_at (suc d) T = map_read group (in_parens (expr_at d)) T
+
+abbrev pub opposed_at : ℕ → Parse NegationTree
+opposed_at zero T = stop TooDeep T
+opposed_at (suc d) T = behind mark.Not (negation_at d) T
+
+abbrev pub closed_at : ℕ → Parse CondTree
+closed_at zero T = stop TooDeep T
+closed_at (suc d) T = in_parens (cond_at d) T
