@@ -1,3 +1,6 @@
+pub mod Viewed
+pub mod Turning
+pub mod Unfolded
 pub mod Marks
 pub mod Exact
 pub mod Forms
@@ -5,5 +8,5 @@ pub mod Turns
 pub mod Tokens
 pub mod Chain
 pub mod Parts
-pub mod Expressions
-pub mod Conditions
+pub mod ExactExpressions
+pub mod ExactConditions

@@ -1,4 +1,5 @@
 //! The tree of a list of tokens.
 #![tactic(auto)]
 
+mod expressions;
 mod reading;

@@ -24,7 +24,7 @@ use Rattle.lra_parse.proofs.Tokens.{IsInner, exact_operator, some_place, some_na
 use Rattle.lra_parse.proofs.Turns.{Steps, none}
 use Rattle.lra_parse.proofs.Chain.{regroup, IsFollow, IsOperator, Split, split_more, split_start, exact_chain}
 use Rattle.lra_parse.proofs.Parts.{token, exact_behind, exact_ended, table_mark, by_table}
-use Rattle.lra_parse.proofs.Expressions.{AfterTerm, AfterExpr, some_unary, some_expr, TermSteps, ExprSteps, expr_follows, whole_term, whole_expr, split_term, split_expr, exact_factors, exact_summands, exact_expr_of, Of, first_opened, opened_over, exact_unary}
+use Rattle.lra_parse.proofs.ExactExpressions.{AfterTerm, AfterExpr, some_unary, some_expr, TermSteps, ExprSteps, expr_follows, whole_term, whole_expr, split_term, split_expr, exact_factors, exact_summands, exact_expr_of, Of, first_opened, opened_over, exact_unary}
 
 -- operators --------------------------------------------------------------------------------------------------------
 
