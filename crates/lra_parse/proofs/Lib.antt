@@ -1,3 +1,4 @@
+pub mod Lone
 pub mod Viewed
 pub mod Turning
 pub mod Unfolded
@@ -10,3 +11,4 @@ pub mod Chain
 pub mod Parts
 pub mod ExactExpressions
 pub mod ExactConditions
+pub mod ExactStatements

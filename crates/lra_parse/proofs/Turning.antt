@@ -60,6 +60,10 @@ module _ {I A O : Type 0} (op : Option Token → Option O) (at_end : op None ≡
       let less : length R ≤ length T = rw (rest_is (t ∷ T)) at sh in
       turn_on More (chain_step op grow p) a (grow a k i) (t ∷ T) R result l (rw on refl) s (omega arith)
 
+  pub grown_turn : (a b : A) (k : O) (i : I) (T R : Text) (result : Read A) → b ≡ grow a k i → Left More (chain_step op grow p) a T result → op (first T) ≡ Some k → p (rest_of T) ≡ Ok (i, R) → length R ≤ length (rest_of T)
+      → Left More (chain_step op grow p) b R result
+  grown_turn a b k i T R result g l on e sh = subst (λ (c : A). Left More (chain_step op grow p) c R result) (sym g) (chain_turn a k i T R result l on e sh)
+
   chain_err : (a : A) (k : O) (T : Text) (f : Fault) (result : Read A) → Left More (chain_step op grow p) a T result → op (first T) ≡ Some k → p (rest_of T) ≡ Err f → result ≡ Err f
   chain_err a k [] f result l on e = absurd (none_some k on)
   chain_err a k (t ∷ T) f result l on e =
@@ -85,6 +89,10 @@ module _ {I A O X : Type 0} (op : Option Token → Option O) (at_end : op None �
       let grown : all (map view pushed) ≡ grow (all (map view items)) k i =
       ap (λ (xs : List X). all (map view xs)) e ∙ ap all (map_push view items item ∙ ap (λ (x : O × I). map view items ++ x ∷ []) f) ∙ all_push (map view items) (k, i) in
       subst (λ (a : A). Left (λ o. has (op o)) (chain_step op grow p) a R result) (sym grown) turned
+
+-- a list that got one more item
+pub list_grown : {X Y A : Type 0} (all : List Y → A) (view : X → Y) (items pushed : List X) (item : X) → pushed ≡ items ++ item ∷ [] → all (map view pushed) ≡ all (map view items ++ view item ∷ [])
+list_grown all view items pushed item e = ap (λ xs. all (map view xs)) e ∙ ap all (map_push view items item)
 
 -- marks whose value isn't kept
 pub expect_value : {A B : Type 0} (m : Mark) (a : A) (b : B) (T R : Text) → expect m a T ≡ Ok (a, R) → expect m b T ≡ Ok (b, R)

@@ -52,9 +52,10 @@ fn read_input(rest: &[Token]) -> Result<(Unary, &[Token]), Stopped>
     Ok((Unary::Input, closed))
 }
 
+/// A unary: a sign and a unary, a literal, a variable, `input()`, or an expression in parentheses.
 #[cycle(expression)]
 #[tactic(auto, using(crate::proofs::Unfolded::unary_is))]
-fn read_unary(
+pub fn read_unary(
     alloc: Global,
     rest: &[Token],
     depth: usize,

@@ -1,5 +1,6 @@
 //! The tree of a list of tokens.
 #![tactic(auto)]
 
+mod conditions;
 mod expressions;
 mod reading;

@@ -1,0 +1,279 @@
+-- The readers of assignments, declarations and statements are exact.
+use Rattle.std.proofs.Common.{◌≡◌, ℕ, ◌+◌, zero, suc, ◌≤◌, ◌<◌, Bool, true, false, cond, ◌||◌, ◌&&◌, ◌⊎◌, List, [], ◌∷◌, ◌++◌, Option, Some, None, Ok, Err, refl, sym, ap, subst, ◌∙◌, append_assoc, arith, inl, inr, option_map}
+use Rattle.std.specs.Bool.{⊤}
+use Rattle.std.specs.List.{AllByRecursion}
+use Rattle.std.proofs.lemmas.List.{append-nil}
+use Rattle.lra_tree.specs.declared.refusals.Place.{Place}
+use Rattle.lra_tree.specs.declared.refusals.Cause.TheVariants.{Syntax, TooDeep}
+use Rattle.lra_tree.specs.declared.tokens.Mark.{Mark}
+use Rattle.lra_tree.specs.declared.tokens.Mark.TheVariants as mark
+use Rattle.lra_tree.specs.declared.tokens.Kind.TheVariants.{Name, Number, Mark as MarkOf}
+use Rattle.lra_tree.specs.declared.tokens.Token.{Token}
+use Rattle.lra_tree.specs.declared.trees.Identifier.{Identifier}
+use Rattle.lra_tree.specs.declared.trees.Operator.{Operator}
+use Rattle.lra_tree.specs.declared.trees.Operator.TheVariants as operator
+use Rattle.lra_tree.specs.declared.trees.Step.{Step}
+use Rattle.lra_tree.specs.declared.trees.Step.TheVariants as step
+use Rattle.lra_tree.specs.Program as program
+use Rattle.lra_tree.specs.Texts.{Piece, Pieces, plain, Texts, ◌⋅◌, ◌∣◌, empty, opens, mark as spells, opens_at, name, further, separated}
+use Rattle.lra_tree.specs.Trees.{ExprTree, CondTree, SourceTree, expression, result, StepTree, increment, decrement, AssignTree, set, update, after, before, DeclaratorTree, DeclarationTree, StmtTree, block, nothing, assign, call, if_only, if_else, while, for, break, continue, return, assert, assume, ItemsTree, no_items, declaration, statement}
+use Rattle.lra_tree.specs.Views.{operator_view, step_view}
+use Rattle.lra_tree.specs.Grammar.{IsExpr, IsCond, InParens, IsSource, update_mark, step_mark, IsAssign, IsType, IsGiven, IsDeclarator, IsDeclaration, TakesElse, closed, IsStmt, AreItems}
+use Rattle.lra_tree.specs.Built.{IsBuiltSource, IsBuiltAssign, IsBuiltGiven, IsBuiltDeclaration, IsBuiltStmt, AreBuiltStmts, AreBuiltItems}
+use Rattle.lra_parse.specs.Tests.{first, is_mark}
+use Rattle.lra_parse.specs.Reading.{Text, Read, Parse, stop, ◌>>=◌, seq, map_read, done_with, tail, expect, expect_at, place_of, taken, take_by, next_name, identifier_of, has, one_of, list_of}
+use Rattle.lra_parse.specs.Expressions.{factor_operator, sum_operator, behind, ended, in_parens, expr_at, cond_at}
+use Rattle.lra_parse.specs.Statements.{skip, commas, update_operators, update_operator, step_marks, next_step, source_at, assign_rest, step_first, assign_at, type_words, given, declarator_at, declaration_of, declaration_at, StmtMark, at_nothing, at_if, at_assert, at_assume, stmt_marks, stmt_mark, begins_assign, begins_stmt, else_part, read_if, read_check, simple_form, simple_of, ItemTree, declared, stated, put, items_from, begins_item, stated_of, item_of, items_of, body_of, block_from, too_deep, levels, branch_at, block_at, simple_at, item_at, items_at}
+use Rattle.lra_parse.proofs.Marks.{is_mark_some, is_mark_self}
+use Rattle.lra_parse.proofs.Exact.{Exact, Any, Free, Both, test, first_or, first_or-is, first_or-both, then, bind_ok, bind_err}
+use Rattle.lra_parse.proofs.Forms.{rename, widen, retell, entry, follows, given as given_fact, mapped, choose, branch, where_told, same_where, Taken, exact_done, exact_stop, exact_deep, exact_take}
+use Rattle.lra_parse.proofs.Tokens.{IsInner, AreMarks, table_is, exact_expect, exact_expect_at, exact_name, exact_operator, some_place, some_name}
+use Rattle.lra_parse.proofs.Chain.{regroup, joined_left, joined_right, Items, AfterLast, exact_list}
+use Rattle.lra_parse.proofs.Parts.{token, exact_behind, exact_ended, mark_follows, table_mark, by_table}
+use Rattle.lra_parse.proofs.ExactExpressions.{AfterExpr, some_expr, Of, first_opened, opened_over, exact_expr}
+use Rattle.lra_parse.proofs.ExactConditions.{some_cond, exact_cond, exact_parens}
+
+-- optional marks and lists with commas -----------------------------------------------------------------------------
+
+skip_is : {A : Type 0} (m : Mark) (p : Parse A) (T : Text) (v : Bool) → is_mark m (first T) ≡ v → cond v (behind m p T) (p T) ≡ p (cond v (tail T) T)
+skip_is m p T true e = rw e refl
+skip_is m p T false e = refl
+
+skip_sides : {A : Type 0} (m : Mark) (S : A → Pieces → Type 0) (b : A) (z : Pieces) → ((spells m ∣ empty) ⋅ S b) z → (opens m 0 ⋅ S b) z ⊎ S b z
+skip_sides m S b z (x, y, e, inl s, t) = inl (x, y, e, s, t)
+skip_sides m S b z (x, y, e, inr s, t) = inr (subst (S b) (sym (e ∙ ap (λ (k : Pieces). k ++ y) s)) t)
+
+-- a mark that may be there
+pub exact_skip : {n : ℕ} {A : Type 0} {p : Parse A} {S : A → Pieces → Type 0} {F : A → Option Token → Type 0} (m : Mark) → Exact n IsInner p Any S S F → (some : (a : A) × (x : Pieces) × S a x)
+    → (begins : (a : A) (x : Pieces) (o : Option Token) → S a x → (x ≡ [] → F a o) → is_mark m (first_or x o) ≡ false)
+    → Exact n IsInner (λ T. p (skip m T)) Any (λ b. (spells m ∣ empty) ⋅ S b) (λ b. (spells m ∣ empty) ⋅ S b) F
+exact_skip {n} {A} {p} {S = S} {F = F} m P some begins =
+    let q = exact_behind m 0 (omega arith) P some in
+    let W : A → Pieces → Type 0 = λ b. (spells m ∣ empty) ⋅ S b in
+    let t = branch (is_mark m) (entry (widen q W (λ b z s. (s.0, s.1, s.2, inl s.3, s.4))) (λ o. ⊤ × (is_mark m o ≡ true)) (λ o h. tt))
+    (entry (widen P W (λ b z s. ([], z, refl, inr refl, s))) (λ o. ⊤ × (is_mark m o ≡ false)) (λ o h. tt))
+    (λ b z o s f. first_opened (λ i. is_mark m i ≡ true) m 0 s.0 s.1 z o s.2 s.3 (λ at. is_mark_self m (token m at) refl)) begins in
+    let s = same_where t (λ T. p (skip m T)) (λ T i. skip_is m p T (is_mark m (first T)) refl) in
+    rename s W
+    (λ b z s. elim s [ | inl k ↦ (k.0, k.1, k.2, inl k.3, k.4) | inr k ↦ ([], z, refl, inr refl, k) ])
+    (λ b z s. skip_sides m S b z s)
+
+items_further : {A : Type 0} (S : A → Texts) (is : List A) (z : Pieces) → Items (λ a. opens mark.Comma 0 ⋅ S a) is z → further S is z
+items_further S [] z e = e
+items_further S (i ∷ is) z (x, y, e, s, r) = joined_right (opens mark.Comma 0) (S i) (further S is) z (x, y, e, s, items_further S is y r)
+
+further_items : {A : Type 0} (S : A → Texts) (is : List A) (z : Pieces) → further S is z → Items (λ a. opens mark.Comma 0 ⋅ S a) is z
+further_items S [] z e = e
+further_items S (i ∷ is) z (x, y, e, s, (u, v, f, r, t)) = joined_left (opens mark.Comma 0) (S i) (Items (λ a. opens mark.Comma 0 ⋅ S a) is) z (x, y, e, s, (u, v, f, r, further_items S is v t))
+
+abbrev pub AfterCommas : {A : Type 0} → (A → Option Token → Type 0) → A × List A → Option Token → Type 0
+AfterCommas F b o = AfterLast F (F b.0) b.1 o × (is_mark mark.Comma o ≡ false)
+
+commas_first : {A : Type 0} (S : A → Texts) (F : A → Option Token → Type 0) (fine : (a : A) (at : Place) → F a (Some (token mark.Comma at))) (a : A) (is : List A) (y : Pieces) (o : Option Token)
+    → Items (λ a. opens mark.Comma 0 ⋅ S a) is y → (y ≡ [] → AfterLast F (F a) is o) → F a (first_or y o)
+commas_first S F fine a [] y o e f = rw e (f e)
+commas_first S F fine a (i ∷ is) y o (u, v, e, (p, q, g, s, t), r) f = first_opened (F a) mark.Comma 0 p (q ++ v) y o (e ∙ regroup u v p q g) s (fine a)
+
+pub exact_commas : {n : ℕ} {A : Type 0} {p : Parse A} {S : A → Pieces → Type 0} {F : A → Option Token → Type 0} → Exact n IsInner p Any S S F → (some : (a : A) × (x : Pieces) × S a x)
+    → (fine : (a : A) (at : Place) → F a (Some (token mark.Comma at)))
+    → Exact n IsInner (commas p) Any (λ b z. separated S (b.0 ∷ b.1) z) (λ b z. separated S (b.0 ∷ b.1) z) (AfterCommas F)
+exact_commas {n} {A} {p} {S = S} {F = F} P some fine =
+    let item = entry (exact_behind mark.Comma 0 (omega arith) P some) (λ o. is_mark mark.Comma o ≡ true) (λ o h. tt) in
+    let goes : (a : A) (o : Option Token) → is_mark mark.Comma o ≡ true → F a o = λ a o e. by_table (λ (u : Unit {0}). mark.Comma) ((mark.Comma, tt {0}) ∷ []) (refl, tt) (F a) (λ u at. fine a at) o (rw e refl) in
+    let list = λ (a : A). exact_list (is_mark mark.Comma) item (F a) refl (λ i x s. first_opened (λ i. is_mark mark.Comma i ≡ true) mark.Comma 0 s.0 s.1 x None s.2 s.3 (λ at. refl)) goes (λ o e. goes a o e) in
+    let t = then P (λ a. mapped (list a) (λ further. (a, further)) (AfterCommas F) (λ i o f. f) (λ i o f. f)) (λ b z. separated S (b.0 ∷ b.1) z)
+    (λ a b y o s f. commas_first S F fine a s.0 y o s.2 (λ e. let g : AfterCommas F (a, s.0) o = subst (λ (c : A × List A). AfterCommas F c o) (sym s.1) (f e) in g.0))
+    (λ a z v. ((a, []), [], (z, [], refl, v, refl)))
+    (λ a b x y s r. subst (λ (c : A × List A). separated S (c.0 ∷ c.1) (x ++ y)) r.1 (x, y, refl, s, items_further S r.0 y r.2)) in
+    rename t (λ b z. separated S (b.0 ∷ b.1) z)
+    (λ b z s. subst (λ (c : A × List A). separated S (c.0 ∷ c.1) z) s.1.4.1 (s.1.0, s.1.1, s.1.2, s.1.3, items_further S s.1.4.0 s.1.1 s.1.4.2))
+    (λ b z s. (b.0, (s.0, s.1, s.2, s.3, (b.1, refl, further_items S b.1 s.1 s.4))))
+
+-- operators --------------------------------------------------------------------------------------------------------
+
+abbrev pub mark_of_update : Operator → Mark
+mark_of_update op = update_mark (operator_view op)
+
+update_self : (k : Operator) (at : Place) → update_operator (Some (token (mark_of_update k) at)) ≡ Some k
+update_self operator.Plus at = refl
+update_self operator.Minus at = refl
+update_self operator.Times at = refl
+update_self operator.Over at = refl
+update_self operator.Modulo at = refl
+
+exact_update : (n : ℕ) → Exact n IsInner (take_by update_operator) Any (λ k z. spells (mark_of_update k) z) (λ k z. spells (mark_of_update k) z) Free
+exact_update n = exact_operator n mark_of_update update_operators (refl, (refl, (refl, (refl, (refl, tt))))) update_self refl operator.Plus
+
+operator_of : (op : program.Operator) → (k : Operator) × (operator_view k ≡ op)
+operator_of program.plus = (operator.Plus, refl)
+operator_of program.minus = (operator.Minus, refl)
+operator_of program.times = (operator.Times, refl)
+operator_of program.over = (operator.Over, refl)
+operator_of program.modulo = (operator.Modulo, refl)
+
+abbrev pub mark_of_step : Step → Mark
+mark_of_step s = step_mark (step_view s)
+
+step_of : (s : StepTree) → (k : Step) × (step_view k ≡ s)
+step_of increment = (step.Increment, refl)
+step_of decrement = (step.Decrement, refl)
+
+pub step_self : (k : Step) (at : Place) → next_step (Some (token (mark_of_step k) at)) ≡ Some (k, at)
+step_self step.Increment at = refl
+step_self step.Decrement at = refl
+
+mapped_some : (at : Place) (m : Option Step) (a : Step × Place) → option_map (λ s. (s, at)) m ≡ Some a → (m ≡ Some a.0) × (at ≡ a.1)
+mapped_some at None a e = absurd cc
+mapped_some at (Some s) a e = let f : (s, at) ≡ a = cc in (ap (λ (p : Step × Place). Some p.0) f, ap (λ (p : Step × Place). p.1) f)
+
+step_token : (t : Token) (a : Step × Place) → next_step (Some t) ≡ Some a → t ≡ token (mark_of_step a.0) a.1
+step_token t a e =
+    let m = mapped_some t.place (one_of step_marks (Some t)) a e in
+    let k = is_mark_some (mark_of_step a.0) t (table_is mark_of_step step_marks (refl, (refl, tt)) (Some t) a.0 m.0) in
+    k ∙ ap (λ (p : Place). token (mark_of_step a.0) p) m.1
+
+abbrev pub StepText : ℕ → Step × Place → Texts
+StepText o s z = opens_at (mark_of_step s.0) s.1 o z
+
+exact_step : (n o : ℕ) → o ≤ n → Exact n IsInner (take_by next_step) Any (StepText o) (StepText o) Free
+exact_step n o low =
+    let t = exact_take n IsInner next_step o low refl (λ t a e f. let k = ap (λ (u : Token). u.kind) (step_token t a e) in let g : MarkOf (mark_of_step a.0) ≡ _ = sym k ∙ f in cc)
+    (step.Increment, some_place) (token mark.Increment some_place) refl in
+    retell t (StepText o) (λ a z s. s.1 ∙ ap (λ (u : Token). (u, o) ∷ []) (step_token s.0 a s.2)) (λ a z s. (token (mark_of_step a.0) a.1, s, step_self a.0 a.1))
+
+-- sources ----------------------------------------------------------------------------------------------------------
+
+abbrev pub AfterSource : SourceTree → Option Token → Type 0
+AfterSource (expression e) o = AfterExpr e o
+AfterSource (result c) o = ⊤
+
+abbrev pub SourceText : ℕ → SourceTree → Texts
+SourceText l e z = IsSource l e z × IsBuiltSource e
+
+some_source : (l : ℕ) → (e : SourceTree) × (x : Pieces) × SourceText l e x
+some_source l = (expression (some_expr l).0, (some_expr l).1, ((some_expr l).2, tt))
+
+to_source : (l : ℕ) (b : SourceTree) (z : Pieces) → Of expression (IsExpr l) b z → SourceText l b z
+to_source l b z (e, f, s) = subst (λ (c : SourceTree). SourceText l c z) f (s, tt)
+
+from_source : (l : ℕ) (b : SourceTree) (z : Pieces) → SourceText l b z → Of expression (IsExpr l) b z
+from_source l (expression e) z s = (e, refl, s.0)
+from_source l (result c) z s = absurd s.1
+
+exact_source : (n d l : ℕ) → d + l ≡ n → Exact n IsInner (source_at d) Any (SourceText l) (SourceText l) AfterSource
+exact_source n d l h = retell (mapped (exact_expr n d l h) expression AfterSource (λ e o f. f) (λ e o f. f)) (SourceText l) (λ b z s. to_source l b z s) (λ b z s. from_source l b z s)
+
+-- assignments ------------------------------------------------------------------------------------------------------
+
+abbrev pub AfterAssign : AssignTree → Option Token → Type 0
+AfterAssign (set x e) o = AfterSource e o
+AfterAssign (update x op e) o = AfterExpr e o
+AfterAssign (after x s) o = ⊤
+AfterAssign (before at s x) o = ⊤
+
+abbrev pub AssignText : ℕ → ℕ → AssignTree → Texts
+AssignText o l a z = IsAssign o l a z × IsBuiltAssign a
+
+abbrev SetText : ℕ → Identifier → AssignTree → Texts
+SetText l x b = opens mark.Assign 0 ⋅ Of (set x) (SourceText l) b
+
+abbrev UpdateText : ℕ → Identifier → AssignTree → Texts
+UpdateText l x b z = Both (λ op z. spells (mark_of_update op) z) (λ op b. Of (update x (operator_view op)) (IsExpr l) b) b z
+
+abbrev AfterText : Identifier → AssignTree → Texts
+AfterText x b z = Of (λ (s : Step × Place). after x (step_view s.0)) (StepText 0) b z
+
+-- behind the name
+abbrev RestText : ℕ → Identifier → AssignTree → Texts
+RestText l x b z = SetText l x b z ⊎ (UpdateText l x b z ⊎ AfterText x b z)
+
+update_begins : (l : ℕ) (x : Identifier) (b : AssignTree) (z : Pieces) (o : Option Token) → UpdateText l x b z → has (update_operator (first_or z o)) ≡ true
+update_begins l x b z o (op, (u, v, e, s, r)) = first_opened (λ i. has (update_operator i) ≡ true) (mark_of_update op) 0 u v z o e s (λ at. rw (update_self op at) refl)
+
+update_not_set : (op : Operator) (at : Place) → is_mark mark.Assign (Some (token (mark_of_update op) at)) ≡ false
+update_not_set operator.Plus at = refl
+update_not_set operator.Minus at = refl
+update_not_set operator.Times at = refl
+update_not_set operator.Over at = refl
+update_not_set operator.Modulo at = refl
+
+update_no_set : (l : ℕ) (x : Identifier) (b : AssignTree) (z : Pieces) (o : Option Token) → UpdateText l x b z → is_mark mark.Assign (first_or z o) ≡ false
+update_no_set l x b z o (op, (u, v, e, s, r)) = first_opened (λ i. is_mark mark.Assign i ≡ false) (mark_of_update op) 0 u v z o e s (λ at. update_not_set op at)
+
+step_not : (s : Step) (at : Place) → (has (update_operator (Some (token (mark_of_step s) at))) ≡ false) × (is_mark mark.Assign (Some (token (mark_of_step s) at)) ≡ false)
+step_not step.Increment at = (refl, refl)
+step_not step.Decrement at = (refl, refl)
+
+step_no_update : (x : Identifier) (b : AssignTree) (z : Pieces) (o : Option Token) → AfterText x b z → has (update_operator (first_or z o)) ≡ false
+step_no_update x b z o (s, f, e) = rw e (step_not s.0 s.1).0
+
+step_no_set : (x : Identifier) (b : AssignTree) (z : Pieces) (o : Option Token) → AfterText x b z → is_mark mark.Assign (first_or z o) ≡ false
+step_no_set x b z o (s, f, e) = rw e (step_not s.0 s.1).1
+
+exact_assign_rest : (n d l : ℕ) → d + l ≡ n → (x : Identifier) → Exact n IsInner (assign_rest d x) Any (RestText l x) (RestText l x) AfterAssign
+exact_assign_rest n d l h x =
+    let sets = exact_behind mark.Assign 0 (omega arith) (mapped (exact_source n d l h) (set x) AfterAssign (λ e o f. f) (λ e o f. f)) (set x (some_source l).0, (some_source l).1, ((some_source l).0, refl, (some_source l).2)) in
+    let updates = then (exact_update n) (λ op. mapped (exact_expr n d l h) (update x (operator_view op)) AfterAssign (λ e o f. f) (λ e o f. f)) (UpdateText l x)
+    (λ op b y o s f. tt)
+    (λ op z v. (update x (operator_view op) (some_expr l).0, (some_expr l).1, (op, (z, (some_expr l).1, refl, v, ((some_expr l).0, refl, (some_expr l).2)))))
+    (λ op b u v s r. (op, (u, v, refl, s, r))) in
+    let steps = mapped (exact_step n 0 (omega arith)) (λ (s : Step × Place). after x (step_view s.0)) AfterAssign (λ s o f. tt) (λ s o f. tt) in
+    let b1 = branch (λ o. has (update_operator o)) {E = λ o. ⊤ × (is_mark mark.Assign o ≡ false)}
+    (entry (widen updates (λ b z. UpdateText l x b z ⊎ AfterText x b z) (λ b z s. inl s)) (λ o. (⊤ × (is_mark mark.Assign o ≡ false)) × (has (update_operator o) ≡ true)) (λ o i. tt))
+    (entry (widen steps (λ b z. UpdateText l x b z ⊎ AfterText x b z) (λ b z s. inr s)) (λ o. (⊤ × (is_mark mark.Assign o ≡ false)) × (has (update_operator o) ≡ false)) (λ o i. tt))
+    (λ b z o s f. update_begins l x b z o s) (λ b z o s f. step_no_update x b z o s) in
+    branch (is_mark mark.Assign) (entry (widen sets (RestText l x) (λ b z s. inl s)) (λ o. ⊤ × (is_mark mark.Assign o ≡ true)) (λ o i. tt))
+    (widen b1 (RestText l x) (λ b z s. inr s))
+    (λ b z o s f. first_opened (λ i. is_mark mark.Assign i ≡ true) mark.Assign 0 s.0 s.1 z o s.2 s.3 (λ at. refl))
+    (λ b z o s f. elim s [ | inl u ↦ update_no_set l x b z o u | inr u ↦ step_no_set x b z o u ])
+
+abbrev BeforeText : ℕ → AssignTree → Texts
+BeforeText o b z = Both (StepText o) (λ s b. Of (before s.1 (step_view s.0)) (λ x. name x 0) b) b z
+
+abbrev NamedText : ℕ → ℕ → AssignTree → Texts
+NamedText o l b z = Both (λ x. name x o) (RestText l) b z
+
+rest_assign : (o l : ℕ) (x : Identifier) (b : AssignTree) (u v z : Pieces) → z ≡ u ++ v → name x o u → RestText l x b v → AssignText o l b z
+rest_assign o l x b u v z e s (inl (p, q, f, m, (a, g, t))) = subst (λ (c : AssignTree). AssignText o l c z) g ((u, v, e, s, (p, q, f, m, t.0)), t.1)
+rest_assign o l x b u v z e s (inr (inl (op, (p, q, f, m, (a, g, t))))) = subst (λ (c : AssignTree). AssignText o l c z) g ((u, v, e, s, (p, q, f, m, t)), tt)
+rest_assign o l x b u v z e s (inr (inr (k, g, t))) = subst (λ (c : AssignTree). AssignText o l c z) g ((u, v, e, s, (k.1, t)), tt)
+
+pub to_assign : (o l : ℕ) (b : AssignTree) (z : Pieces) → BeforeText o b z ⊎ NamedText o l b z → AssignText o l b z
+to_assign o l b z (inl (s, (u, v, e, m, (x, g, t)))) = subst (λ (c : AssignTree). AssignText o l c z) g ((u, v, e, m, t), tt)
+to_assign o l b z (inr (x, (u, v, e, s, r))) = rest_assign o l x b u v z e s r
+
+pub from_assign : (o l : ℕ) (b : AssignTree) (z : Pieces) → AssignText o l b z → BeforeText o b z ⊎ NamedText o l b z
+from_assign o l (set x a) z ((u, v, e, s, (p, q, f, m, t)), k) = inr (x, (u, v, e, s, inl (p, q, f, m, (a, refl, (t, k)))))
+from_assign o l (update x op a) z ((u, v, e, s, (p, q, f, m, t)), k) =
+    let c = operator_of op in
+    inr (x, (u, v, e, s, inr (inl (c.0, (p, q, f, subst (λ (i : program.Operator). spells (update_mark i) p) (sym c.1) m, (a, ap (λ (i : program.Operator). update x i a) c.1, t))))))
+from_assign o l (after x s) z ((u, v, e, m, (at, t)), k) =
+    let c = step_of s in
+    inr (x, (u, v, e, m, inr (inr ((c.0, at), ap (λ (i : StepTree). after x i) c.1, subst (λ (i : StepTree). opens_at (step_mark i) at 0 v) (sym c.1) t))))
+from_assign o l (before at s x) z ((u, v, e, m, t), k) =
+    let c = step_of s in
+    inl ((c.0, at), (u, v, e, subst (λ (i : StepTree). opens_at (step_mark i) at o u) (sym c.1) m, (x, ap (λ (i : StepTree). before at i x) c.1, t)))
+
+before_begins : (o : ℕ) (b : AssignTree) (z : Pieces) (k : Option Token) → BeforeText o b z → has (next_step (first_or z k)) ≡ true
+before_begins o b z k (s, (u, v, e, m, r)) = rw (e, m) (rw (step_self s.0 s.1) refl)
+
+named_begins : (o l : ℕ) (b : AssignTree) (z : Pieces) (k : Option Token) → NamedText o l b z → has (next_step (first_or z k)) ≡ false
+named_begins o l b z k (x, (u, v, e, s, r)) = rw (e, s) refl
+
+some_assign : (o l : ℕ) → (a : AssignTree) × (x : Pieces) × AssignText o l a x
+some_assign o l = (after some_name increment, _, ((_, _, refl, refl, (some_place, refl)), tt))
+
+pub exact_assign : (n d l o : ℕ) → d + l ≡ n → o ≤ n → Exact n IsInner (assign_at d) Any (AssignText o l) (AssignText o l) AfterAssign
+exact_assign n d l o h low =
+    let befores = then (exact_step n o low) (λ s. mapped (exact_name n 0 (omega arith)) (before s.1 (step_view s.0)) AfterAssign (λ x k f. tt) (λ x k f. tt)) (BeforeText o)
+    (λ s b y k t f. tt)
+    (λ s z v. (before s.1 (step_view s.0) some_name, _, (s, (z, _, refl, v, (some_name, refl, refl)))))
+    (λ s b u v t r. (s, (u, v, refl, t, r))) in
+    let named = then (exact_name n o low) (exact_assign_rest n d l h) (NamedText o l)
+    (λ x b y k s f. tt)
+    (λ x z v. (after x increment, _, (x, (z, _, refl, v, inr (inr ((step.Increment, some_place), refl, refl))))))
+    (λ x b u v s r. (x, (u, v, refl, s, r))) in
+    let t = branch (λ k. has (next_step k)) (entry (widen befores (λ b z. BeforeText o b z ⊎ NamedText o l b z) (λ b z s. inl s)) (λ k. ⊤ × (has (next_step k) ≡ true)) (λ k i. tt))
+    (entry (widen named (λ b z. BeforeText o b z ⊎ NamedText o l b z) (λ b z s. inr s)) (λ k. ⊤ × (has (next_step k) ≡ false)) (λ k i. tt))
+    (λ b z k s f. before_begins o b z k s) (λ b z k s f. named_begins o l b z k s) in
+    retell t (AssignText o l) (λ b z s. to_assign o l b z s) (λ b z s. from_assign o l b z s)
