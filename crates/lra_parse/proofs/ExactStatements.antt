@@ -277,3 +277,127 @@ exact_assign n d l o h low =
     (entry (widen named (λ b z. BeforeText o b z ⊎ NamedText o l b z) (λ b z s. inr s)) (λ k. ⊤ × (has (next_step k) ≡ false)) (λ k i. tt))
     (λ b z k s f. before_begins o b z k s) (λ b z k s f. named_begins o l b z k s) in
     retell t (AssignText o l) (λ b z s. to_assign o l b z s) (λ b z s. from_assign o l b z s)
+
+-- declarations -----------------------------------------------------------------------------------------------------
+
+twice : {A : Type 0} (r : Read (Unit {0})) (f : Text → Text) (p : Parse A) → ((r >>= (λ x. Ok (tt {0}, f x.1))) >>= (λ x. p x.1)) ≡ (r >>= (λ x. p (f x.1)))
+twice (Ok x) f p = refl
+twice (Err e) f p = refl
+
+type_out : (R : Texts) (z : Pieces) → (opens mark.Long 0 ⋅ ((spells mark.Long ∣ empty) ⋅ ((spells mark.Int ∣ empty) ⋅ R))) z → (IsType ⋅ R) z
+type_out R z (x, y, e, s, t) = joined_left (opens mark.Long 0) ((spells mark.Long ∣ empty) ⋅ (spells mark.Int ∣ empty)) R z (x, y, e, s, joined_left (spells mark.Long ∣ empty) (spells mark.Int ∣ empty) R y t)
+
+type_in : (R : Texts) (z : Pieces) → (IsType ⋅ R) z → (opens mark.Long 0 ⋅ ((spells mark.Long ∣ empty) ⋅ ((spells mark.Int ∣ empty) ⋅ R))) z
+type_in R z s = let k = joined_right (opens mark.Long 0) ((spells mark.Long ∣ empty) ⋅ (spells mark.Int ∣ empty)) R z s in (k.0, k.1, k.2, k.3, joined_right (spells mark.Long ∣ empty) (spells mark.Int ∣ empty) R k.1 k.4)
+
+skipped_first : {A : Type 0} (S : A → Texts) (F : A → Option Token → Type 0) (m k : Mark) → ((at : Place) → is_mark m (Some (token k at)) ≡ false) → (begins : (a : A) (x : Pieces) (o : Option Token) → S a x → (x ≡ [] → F a o) → is_mark m (first_or x o) ≡ false)
+    → (a : A) (x : Pieces) (o : Option Token) → ((spells k ∣ empty) ⋅ S a) x → (x ≡ [] → F a o) → is_mark m (first_or x o) ≡ false
+skipped_first S F m k other begins a x o (u, v, e, inl s, t) f = first_opened (λ i. is_mark m i ≡ false) k 0 u v x o e s other
+skipped_first S F m k other begins a x o (u, v, e, inr s, t) f =
+    let same : x ≡ v = e ∙ ap (λ (w : Pieces). w ++ v) s in
+    subst (λ (w : Pieces). is_mark m (first_or w o) ≡ false) (sym same) (begins a v o t (λ i. f (same ∙ i)))
+
+-- behind a type
+pub exact_type : {n : ℕ} {A : Type 0} {p : Parse A} {S : A → Pieces → Type 0} {F : A → Option Token → Type 0} → Exact n IsInner p Any S S F → (some : (a : A) × (x : Pieces) × S a x)
+    → (begins : (m : Mark) (a : A) (x : Pieces) (o : Option Token) → S a x → (x ≡ [] → F a o) → is_mark m (first_or x o) ≡ false)
+    → Exact n IsInner (seq type_words (λ _. p)) Any (λ b. IsType ⋅ S b) (λ b. IsType ⋅ S b) F
+exact_type {n} {A} {p} {S = S} {F = F} P some begins =
+    let ints = exact_skip mark.Int P some (begins mark.Int) in
+    let some_int : (a : A) × (x : Pieces) × ((spells mark.Int ∣ empty) ⋅ S a) x = (some.0, some.1, ([], some.1, refl, inr refl, some.2)) in
+    let longs = exact_skip mark.Long ints some_int (λ a x o s f. skipped_first S F mark.Long mark.Int (λ at. refl) (begins mark.Long) a x o s f) in
+    let some_long : (a : A) × (x : Pieces) × ((spells mark.Long ∣ empty) ⋅ ((spells mark.Int ∣ empty) ⋅ S a)) x = (some.0, some.1, ([], some.1, refl, inr refl, some_int.2)) in
+    let t = exact_behind mark.Long 0 (omega arith) longs some_long in
+    let s = same_where t (seq type_words (λ _. p)) (λ T i. sym (twice (expect mark.Long (tt {0}) T) (λ T. skip mark.Int (skip mark.Long T)) p)) in
+    retell s (λ b. IsType ⋅ S b) (λ b z s. type_out (S b) z s) (λ b z s. type_in (S b) z s)
+
+abbrev AfterGiven : Option SourceTree → Option Token → Type 0
+AfterGiven None o = is_mark mark.Assign o ≡ false
+AfterGiven (Some e) o = AfterSource e o
+
+abbrev AfterDeclarator : DeclaratorTree → Option Token → Type 0
+AfterDeclarator d o = AfterGiven d.source o
+
+abbrev DeclaratorText : ℕ → DeclaratorTree → Texts
+DeclaratorText l d z = IsDeclarator l d z × IsBuiltGiven d.source
+
+abbrev with_source : Identifier → SourceTree → DeclaratorTree
+with_source x e = record { name = x; source = Some e }
+
+abbrev alone_name : Identifier → DeclaratorTree
+alone_name x = record { name = x; source = None }
+
+abbrev GivenText : ℕ → Identifier → DeclaratorTree → Texts
+GivenText l x b z = (opens mark.Assign 0 ⋅ Of (with_source x) (SourceText l) b) z ⊎ ((b ≡ alone_name x) × (z ≡ []))
+
+not_given : (x : Identifier) (b : DeclaratorTree) (z : Pieces) (o : Option Token) → b ≡ alone_name x → z ≡ [] → (z ≡ [] → AfterDeclarator b o) → is_mark mark.Assign (first_or z o) ≡ false
+not_given x b z o e f h = rw f (let g : AfterDeclarator (alone_name x) o = subst (λ (c : DeclaratorTree). AfterDeclarator c o) e (h f) in g)
+
+exact_given : (n d l : ℕ) → d + l ≡ n → (x : Identifier) → Exact n IsInner (given d x) Any (GivenText l x) (GivenText l x) AfterDeclarator
+exact_given n d l h x =
+    let some = exact_behind mark.Assign 0 (omega arith) (mapped (exact_source n d l h) (with_source x) AfterDeclarator (λ e o f. f) (λ e o f. f)) (with_source x (some_source l).0, (some_source l).1, ((some_source l).0, refl, (some_source l).2)) in
+    branch (is_mark mark.Assign) (entry (widen some (GivenText l x) (λ b z s. inl s)) (λ o. ⊤ × (is_mark mark.Assign o ≡ true)) (λ o i. tt))
+    (widen (exact_done n IsInner (alone_name x) (λ o. ⊤ × (is_mark mark.Assign o ≡ false)) (λ b z. (b ≡ alone_name x) × (z ≡ [])) AfterDeclarator (λ o i. i.1)) (GivenText l x) (λ b z s. inr s))
+    (λ b z o s f. first_opened (λ i. is_mark mark.Assign i ≡ true) mark.Assign 0 s.0 s.1 z o s.2 s.3 (λ at. refl))
+    (λ b z o s f. not_given x b z o s.0 s.1 f)
+
+to_declarator : (l : ℕ) (b : DeclaratorTree) (z : Pieces) → Both (λ x. name x 0) (GivenText l) b z → DeclaratorText l b z
+to_declarator l b z (x, (u, v, e, s, inl (p, q, f, m, (a, g, t)))) = subst (λ (c : DeclaratorTree). DeclaratorText l c z) g ((u, v, e, s, (p, q, f, m, t.0)), t.1)
+to_declarator l b z (x, (u, v, e, s, inr (g, f))) = subst (λ (c : DeclaratorTree). DeclaratorText l c z) (sym g) ((u, v, e, s, f), tt)
+
+from_given : (l : ℕ) (x : Identifier) (m : Option SourceTree) (z : Pieces) → DeclaratorText l (record { name = x; source = m }) z → Both (λ x. name x 0) (GivenText l) (record { name = x; source = m }) z
+from_given l x None z ((u, v, e, s, t), k) = (x, (u, v, e, s, inr (refl, t)))
+from_given l x (Some a) z ((u, v, e, s, (p, q, f, m, t)), k) = (x, (u, v, e, s, inl (p, q, f, m, (a, refl, (t, k)))))
+
+some_declarator : (l : ℕ) → (d : DeclaratorTree) × (x : Pieces) × DeclaratorText l d x
+some_declarator l = (alone_name some_name, _, ((_, _, refl, refl, refl), tt))
+
+exact_declarator : (n d l : ℕ) → d + l ≡ n → Exact n IsInner (declarator_at d) Any (DeclaratorText l) (DeclaratorText l) AfterDeclarator
+exact_declarator n d l h =
+    let t = then (exact_name n 0 (omega arith)) (exact_given n d l h) (λ b z. Both (λ x. name x 0) (GivenText l) b z)
+    (λ x b y o s f. tt) (λ x z v. (alone_name x, [], (x, (z, [], refl, v, inr (refl, refl))))) (λ x b u v s r. (x, (u, v, refl, s, r))) in
+    retell t (DeclaratorText l) (λ b z s. to_declarator l b z s) (λ b z s. from_given l b.name b.source z s)
+
+-- a fact of each item
+further_both : {A : Type 0} (R : A → Texts) (P : A → Type 0) (is : List A) (z : Pieces) → further (λ a z. R a z × P a) is z → further R is z × AllByRecursion P is
+further_both R P [] z e = (e, tt)
+further_both R P (i ∷ is) z (x, y, e, s, (u, v, f, (r, p), t)) = let k = further_both R P is v t in ((x, y, e, s, (u, v, f, r, k.0)), (p, k.1))
+
+both_further : {A : Type 0} (R : A → Texts) (P : A → Type 0) (is : List A) (z : Pieces) → further R is z → AllByRecursion P is → further (λ a z. R a z × P a) is z
+both_further R P [] z e h = e
+both_further R P (i ∷ is) z (x, y, e, s, (u, v, f, r, t)) h = (x, y, e, s, (u, v, f, (r, h.0), both_further R P is v t h.1))
+
+abbrev pub DeclarationText : ℕ → DeclarationTree → Texts
+DeclarationText l d z = IsDeclaration l d z × IsBuiltDeclaration d
+
+abbrev Declared : ℕ → DeclarationTree → Texts
+Declared l b = Of declaration_of (λ ds. separated (DeclaratorText l) (ds.0 ∷ ds.1)) b
+
+to_declaration : (l : ℕ) (b : DeclarationTree) (z : Pieces) → (IsType ⋅ (Declared l b ⋅ spells mark.Semicolon)) z → DeclarationText l b z
+to_declaration l b z (x, y, e, s, (u, v, f, (ds, g, (p, q, i, r, t)), m)) =
+    let k = further_both (IsDeclarator l) (λ (d : DeclaratorTree). IsBuiltGiven d.source) ds.1 q t in
+    subst (λ (c : DeclarationTree). DeclarationText l c z) g ((x, y, e, s, (u, v, f, (p, q, i, r.0, k.0), m)), (r.1, k.1))
+
+from_declaration : (l : ℕ) (b : DeclarationTree) (z : Pieces) → DeclarationText l b z → (IsType ⋅ (Declared l b ⋅ spells mark.Semicolon)) z
+from_declaration l b z ((x, y, e, s, (u, v, f, (p, q, i, r, t), m)), h) =
+    (x, y, e, s, (u, v, f, ((b.first, b.rest), refl, (p, q, i, (r, h.0), both_further (IsDeclarator l) (λ (d : DeclaratorTree). IsBuiltGiven d.source) b.rest q t h.1)), m))
+
+given_stops : (m : Option SourceTree) (at : Place) → AfterGiven m (Some (token mark.Semicolon at)) × AfterGiven m (Some (token mark.Comma at))
+given_stops None at = (refl, refl)
+given_stops (Some (expression e)) at = (((tt, refl), refl), ((tt, refl), refl))
+given_stops (Some (result c)) at = (tt, tt)
+
+last_stops : (ds : List DeclaratorTree) (d : DeclaratorTree) (at : Place) → AfterLast AfterDeclarator (AfterDeclarator d) ds (Some (token mark.Semicolon at))
+last_stops [] d at = (given_stops d.source at).0
+last_stops (e ∷ ds) d at = last_stops ds e at
+
+declared_begins : (l : ℕ) (m : Mark) (b : DeclarationTree) (x : Pieces) (o : Option Token) → (Declared l b ⋅ spells mark.Semicolon) x → is_mark m (first_or x o) ≡ false
+declared_begins l m b x o (u, v, f, (ds, g, (p, q, i, ((a, c, j, s, t), k), r)), w) = rw (f, i, j, s) refl
+
+pub exact_declaration : (n d l : ℕ) → d + l ≡ n → Exact n IsInner (declaration_at d) Any (DeclarationText l) (DeclarationText l) Free
+exact_declaration n d l h =
+    let list = exact_commas (exact_declarator n d l h) (some_declarator l) (λ a at. (given_stops a.source at).1) in
+    let made = mapped list declaration_of (λ b o. AfterCommas AfterDeclarator (b.first, b.rest) o) (λ i o f. f) (λ i o f. f) in
+    let whole = exact_ended mark.Semicolon made (λ b at. (last_stops b.rest b.first at, refl)) in
+    let some = some_declarator l in
+    let t = exact_type whole (declaration_of (some.0, []), _, (_, _, refl, ((some.0, []), refl, (_, _, refl, some.2, refl)), (some_place, refl))) (λ m b x o s f. declared_begins l m b x o s) in
+    retell t (DeclarationText l) (λ b z s. to_declaration l b z s) (λ b z s. from_declaration l b z s)
