@@ -142,7 +142,7 @@ last_out : {I : Type 0} (F : I → Option Token → Type 0) (G : Option Token �
 last_out F G [] i o f = f
 last_out F G (j ∷ a) i o f = last_out F (F j) a i o f
 
-all_last : {I : Type 0} (F : I → Option Token → Type 0) (G : Option Token → Type 0) (a : List I) (o : Option Token) → G o → ((i : I) → F i o) → AfterLast F G a o
+pub all_last : {I : Type 0} (F : I → Option Token → Type 0) (G : Option Token → Type 0) (a : List I) (o : Option Token) → G o → ((i : I) → F i o) → AfterLast F G a o
 all_last F G [] o g f = g
 all_last F G (i ∷ a) o g f = all_last F (F i) a o (f i) f
 

@@ -28,7 +28,7 @@ use Rattle.lra_parse.proofs.Marks.{is_mark_some, is_mark_self}
 use Rattle.lra_parse.proofs.Exact.{Exact, Any, Free, Both, test, first_or, first_or-is, first_or-both, then, bind_ok, bind_err}
 use Rattle.lra_parse.proofs.Forms.{rename, widen, retell, entry, follows, given as given_fact, mapped, choose, branch, where_told, same_where, Taken, exact_done, exact_stop, exact_deep, exact_take}
 use Rattle.lra_parse.proofs.Tokens.{IsInner, AreMarks, table_is, exact_expect, exact_expect_at, exact_name, exact_operator, some_place, some_name}
-use Rattle.lra_parse.proofs.Chain.{regroup, joined_left, joined_right, Items, AfterLast, exact_list}
+use Rattle.lra_parse.proofs.Chain.{regroup, joined_left, joined_right, Items, AfterLast, all_last, exact_list}
 use Rattle.lra_parse.proofs.Parts.{token, exact_behind, exact_ended, mark_follows, table_mark, by_table}
 use Rattle.lra_parse.proofs.ExactExpressions.{AfterExpr, some_expr, Of, first_opened, opened_over, exact_expr}
 use Rattle.lra_parse.proofs.ExactConditions.{some_cond, exact_cond, exact_parens}
@@ -401,3 +401,185 @@ exact_declaration n d l h =
     let some = some_declarator l in
     let t = exact_type whole (declaration_of (some.0, []), _, (_, _, refl, ((some.0, []), refl, (_, _, refl, some.2, refl)), (some_place, refl))) (λ m b x o s f. declared_begins l m b x o s) in
     retell t (DeclarationText l) (λ b z s. to_declaration l b z s) (λ b z s. from_declaration l b z s)
+
+-- statements -------------------------------------------------------------------------------------------------------
+
+abbrev pub AfterStmt : StmtTree → Option Token → Type 0
+AfterStmt t o = TakesElse t → is_mark mark.Else o ≡ false
+
+abbrev pub StmtText : ℕ → ℕ → StmtTree → Texts
+StmtText o l t z = IsStmt o l t z × IsBuiltStmt t
+
+abbrev pub IsBlock : StmtTree → Type 0
+IsBlock (block is end) = ⊤
+IsBlock (nothing at) = ⊥
+IsBlock (assign a) = ⊥
+IsBlock (call c) = ⊥
+IsBlock (if_only at c t) = ⊥
+IsBlock (if_else at c t e) = ⊥
+IsBlock (while at c b) = ⊥
+IsBlock (for at i c e b) = ⊥
+IsBlock (break at) = ⊥
+IsBlock (continue at) = ⊥
+IsBlock (return at e) = ⊥
+IsBlock (assert at c) = ⊥
+IsBlock (assume at c) = ⊥
+
+abbrev pub SimpleText : ℕ → ℕ → StmtTree → Texts
+SimpleText o l t z = StmtText o l t z × (IsBlock t → ⊥)
+
+abbrev pub mark_of_stmt : StmtMark → Mark
+mark_of_stmt at_nothing = mark.Semicolon
+mark_of_stmt at_if = mark.If
+mark_of_stmt at_assert = mark.Assert
+mark_of_stmt at_assume = mark.Assume
+
+abbrev pub BranchText : ℕ → StmtTree → Texts
+BranchText l t = StmtText (l + 1) (l + 1) t
+
+abbrev pub ElseText : ℕ → Place → CondTree → StmtTree → StmtTree → Texts
+ElseText l at c t b z = ((opens mark.Else 0 ⋅ Of (if_else at c t) (BranchText l) b) z × (TakesElse t → ⊥)) ⊎ ((b ≡ if_only at c t) × (z ≡ []))
+
+abbrev pub BranchedText : ℕ → Place → CondTree → StmtTree → Texts
+BranchedText l at c b z = Both (BranchText l) (ElseText l at c) b z
+
+abbrev pub IfText : ℕ → ℕ → StmtTree → Texts
+IfText o l b z = Both (λ at z. opens_at mark.If at o z) (λ at b z. Both (InParens l) (BranchedText l at) b z) b z
+
+abbrev pub CheckText : ℕ → ℕ → Mark → (Place → CondTree → StmtTree) → StmtTree → Texts
+CheckText o l m make b z = Both (λ at z. opens_at m at o z) (λ at b. Of (make at) (λ c. InParens l c ⋅ spells mark.Semicolon) b) b z
+
+-- the forms, by what the next token is
+abbrev pub SimpleAt : ℕ → ℕ → Option StmtMark → StmtTree → Texts
+SimpleAt o l (Some at_nothing) b = Of nothing (λ at z. opens_at mark.Semicolon at o z) b
+SimpleAt o l (Some at_if) b = IfText o l b
+SimpleAt o l (Some at_assert) b = CheckText o l mark.Assert assert b
+SimpleAt o l (Some at_assume) b = CheckText o l mark.Assume assume b
+SimpleAt o l None b = Of assign (λ a. AssignText o l a ⋅ spells mark.Semicolon) b
+
+if_simple : (o l : ℕ) (at : Place) (c : CondTree) (t b : StmtTree) (x y u v p q z : Pieces) → z ≡ x ++ y → opens_at mark.If at o x → y ≡ u ++ v → InParens l c u → v ≡ p ++ q → BranchText l t p → ElseText l at c t b q → SimpleText o l b z
+if_simple o l at c t b x y u v p q z e s f h g k (inl ((i, j, n, m, (a, w, r)), shut)) =
+    subst (λ (d : StmtTree). SimpleText o l d z) w ((((x, y, e, s, (u, v, f, h, (p, q, g, k.0, (i, j, n, m, r.0)))), shut), (k.1, r.1)), (λ d. d))
+if_simple o l at c t b x y u v p q z e s f h g k (inr (w, n)) =
+    let whole : v ≡ p = g ∙ ap (λ (i : Pieces). p ++ i) n ∙ append-nil p in
+    subst (λ (d : StmtTree). SimpleText o l d z) (sym w) (((x, y, e, s, (u, v, f, h, subst (λ (i : Pieces). IsStmt (l + 1) (l + 1) t i) (sym whole) k.0)), k.1), (λ d. d))
+
+to_simple : (o l : ℕ) (k : Option StmtMark) (b : StmtTree) (z : Pieces) → SimpleAt o l k b z → SimpleText o l b z
+to_simple o l (Some at_nothing) b z (at, f, s) = subst (λ (d : StmtTree). SimpleText o l d z) f ((s, tt), (λ d. d))
+to_simple o l (Some at_if) b z (at, (x, y, e, s, (c, (u, v, f, h, (t, (p, q, g, k, r)))))) = if_simple o l at c t b x y u v p q z e s f h g k r
+to_simple o l (Some at_assert) b z (at, (x, y, e, s, (c, f, t))) = subst (λ (d : StmtTree). SimpleText o l d z) f (((x, y, e, s, t), tt), (λ d. d))
+to_simple o l (Some at_assume) b z (at, (x, y, e, s, (c, f, t))) = subst (λ (d : StmtTree). SimpleText o l d z) f (((x, y, e, s, t), tt), (λ d. d))
+to_simple o l None b z (a, f, (x, y, e, s, t)) = subst (λ (d : StmtTree). SimpleText o l d z) f (((x, y, e, s.0, t), s.1), (λ d. d))
+
+pub from_simple : (o l : ℕ) (b : StmtTree) (z : Pieces) → SimpleText o l b z → (k : Option StmtMark) × SimpleAt o l k b z
+from_simple o l (block is end) z (s, n) = absurd (n tt)
+from_simple o l (nothing at) z ((s, k), n) = (Some at_nothing, (at, refl, s))
+from_simple o l (assign a) z (((x, y, e, s, t), k), n) = (None, (a, refl, (x, y, e, (s, k), t)))
+from_simple o l (call c) z (s, n) = absurd s.1
+from_simple o l (if_only at c t) z (((x, y, e, s, (u, v, f, h, r)), k), n) = (Some at_if, (at, (x, y, e, s, (c, (u, v, f, h, (t, (v, [], sym (append-nil v), (r, k), inr (refl, refl))))))))
+from_simple o l (if_else at c t d) z ((((x, y, e, s, (u, v, f, h, (p, q, g, r, (i, j, w, m, a)))), shut), k), n) =
+    (Some at_if, (at, (x, y, e, s, (c, (u, v, f, h, (t, (p, q, g, (r, k.0), inl ((i, j, w, m, (d, refl, (a, k.1))), shut))))))))
+from_simple o l (while at c b) z (s, n) = absurd s.1
+from_simple o l (for at i c e b) z (s, n) = absurd s.1
+from_simple o l (break at) z (s, n) = absurd s.1
+from_simple o l (continue at) z (s, n) = absurd s.1
+from_simple o l (return at e) z (s, n) = absurd s.1
+from_simple o l (assert at c) z (((x, y, e, s, t), k), n) = (Some at_assert, (at, (x, y, e, s, (c, refl, t))))
+from_simple o l (assume at c) z (((x, y, e, s, t), k), n) = (Some at_assume, (at, (x, y, e, s, (c, refl, t))))
+
+-- a text that begins with a mark at a place
+pub placed_first : (P : Option Token → Type 0) (m : Mark) (at : Place) (o : ℕ) (x y z : Pieces) (k : Option Token) → z ≡ x ++ y → opens_at m at o x → P (Some (token m at)) → P (first_or z k)
+placed_first P m at o x y z k e s f = subst (λ (w : Pieces). P (first_or w k)) (sym (e ∙ ap (λ (v : Pieces). v ++ y) s)) f
+
+step_stmt : (s : Step) (at : Place) → stmt_mark (Some (token (mark_of_step s) at)) ≡ None
+step_stmt step.Increment at = refl
+step_stmt step.Decrement at = refl
+
+pub assign_no_mark : (o l : ℕ) (a : AssignTree) (x y z : Pieces) (k : Option Token) → z ≡ x ++ y → AssignText o l a x → (P : Option Token → Type 0) → ((i : Identifier) → P (Some (record { kind = Name i.word; place = i.place })))
+    → ((s : Step) (at : Place) → P (Some (token (mark_of_step s) at))) → P (first_or z k)
+assign_no_mark o l a x y z k e s P named stepped = elim (from_assign o l a x s) [
+  | inl (j, (u, v, f, m, r)) ↦ subst (λ (w : Pieces). P (first_or w k)) (sym (e ∙ regroup x y u v f ∙ ap (λ (w : Pieces). w ++ (v ++ y)) m)) (stepped j.0 j.1)
+  | inr (i, (u, v, f, m, r)) ↦ subst (λ (w : Pieces). P (first_or w k)) (sym (e ∙ regroup x y u v f ∙ ap (λ (w : Pieces). w ++ (v ++ y)) m)) (named i)
+]
+
+simple_begins : (o l : ℕ) (k : Option StmtMark) (b : StmtTree) (z : Pieces) (i : Option Token) → SimpleAt o l k b z → stmt_mark (first_or z i) ≡ k
+simple_begins o l (Some at_nothing) b z i (at, f, s) = placed_first (λ j. stmt_mark j ≡ Some at_nothing) mark.Semicolon at o z [] z i (sym (append-nil z)) s refl
+simple_begins o l (Some at_if) b z i (at, (x, y, e, s, t)) = placed_first (λ j. stmt_mark j ≡ Some at_if) mark.If at o x y z i e s refl
+simple_begins o l (Some at_assert) b z i (at, (x, y, e, s, t)) = placed_first (λ j. stmt_mark j ≡ Some at_assert) mark.Assert at o x y z i e s refl
+simple_begins o l (Some at_assume) b z i (at, (x, y, e, s, t)) = placed_first (λ j. stmt_mark j ≡ Some at_assume) mark.Assume at o x y z i e s refl
+simple_begins o l None b z i (a, f, (x, y, e, s, t)) = assign_no_mark o l a x y z i e s (λ j. stmt_mark j ≡ None) (λ n. refl) step_stmt
+
+some_stmt : (o l : ℕ) → (t : StmtTree) × (x : Pieces) × StmtText o l t x
+some_stmt o l = (nothing some_place, _, (refl, tt))
+
+assign_stops : (a : AssignTree) (at : Place) → AfterAssign a (Some (token mark.Semicolon at))
+assign_stops (set x (expression e)) at = ((tt, refl), refl)
+assign_stops (set x (result c)) at = tt
+assign_stops (update x op e) at = ((tt, refl), refl)
+assign_stops (after x s) at = tt
+assign_stops (before p s x) at = tt
+
+module _ (n d l o : ℕ) (h : d + l ≡ n) (low : o ≤ n) (branches : Parse StmtTree) (B : Exact n IsInner branches Any (BranchText l) (BranchText l) AfterStmt) where
+  conds : Exact n IsInner (in_parens (cond_at d)) Any (InParens l) (InParens l) Free
+  conds = exact_parens n l 0 (cond_at d) (omega arith) (exact_cond n d l h)
+
+  -- behind the first branch
+  closed_before : (t : StmtTree) (k : Option Token) → AfterStmt t k → is_mark mark.Else k ≡ true → TakesElse t → ⊥
+  closed_before t k a e i = let f = a i in cc
+
+  no_else : (at : Place) (c : CondTree) (t b : StmtTree) (z : Pieces) (k : Option Token) → b ≡ if_only at c t → z ≡ [] → (z ≡ [] → AfterStmt b k) → is_mark mark.Else (first_or z k) ≡ false
+  no_else at c t b z k e f g = rw f (let r : AfterStmt (if_only at c t) k = subst (λ (q : StmtTree). AfterStmt q k) e (g f) in r tt)
+
+  exact_else : (at : Place) (c : CondTree) (t : StmtTree) → Exact n IsInner (else_part branches at c t) (AfterStmt t) (ElseText l at c t) (ElseText l at c t) AfterStmt
+  exact_else at c t =
+      let some = some_stmt (l + 1) (l + 1) in
+      let whole = exact_behind mark.Else 0 (omega arith) (mapped B (if_else at c t) AfterStmt (λ i k f. f) (λ i k f. f)) (if_else at c t some.0, some.1, (some.0, refl, some.2)) in
+      let told = given_fact (entry whole (λ k. AfterStmt t k × (is_mark mark.Else k ≡ true)) (λ k i. tt)) (TakesElse t → ⊥) (λ k i. closed_before t k i.0 i.1) in
+      branch (is_mark mark.Else) (widen told (ElseText l at c t) (λ b z s. inl s))
+      (widen (exact_done n IsInner (if_only at c t) (λ k. AfterStmt t k × (is_mark mark.Else k ≡ false)) (λ b z. (b ≡ if_only at c t) × (z ≡ [])) AfterStmt (λ k i j. i.1)) (ElseText l at c t) (λ b z s. inr s))
+      (λ b z k s f. first_opened (λ i. is_mark mark.Else i ≡ true) mark.Else 0 s.0.0 s.0.1 z k s.0.2 s.0.3 (λ at. refl))
+      (λ b z k s f. no_else at c t b z k s.0 s.1 f)
+
+  else_follows : (at : Place) (c : CondTree) (t b : StmtTree) (y : Pieces) (k : Option Token) → ElseText l at c t b y → (y ≡ [] → AfterStmt b k) → AfterStmt t (first_or y k)
+  else_follows at c t b y k (inl s) f = λ i. absurd (s.1 i)
+  else_follows at c t b y k (inr s) f = λ i. no_else at c t b y k s.0 s.1 f
+
+  exact_branched : (at : Place) (c : CondTree) → Exact n IsInner (seq branches (else_part branches at c)) Any (BranchedText l at c) (BranchedText l at c) AfterStmt
+  exact_branched at c = then B (exact_else at c) (BranchedText l at c)
+      (λ t b y k s f. else_follows at c t b y k s f)
+      (λ t z v. (if_only at c t, [], (t, (z, [], refl, v, inr (refl, refl)))))
+      (λ t b x y s r. (t, (x, y, refl, s, r)))
+
+  exact_if : Exact n IsInner (read_if d branches) Any (IfText o l) (IfText o l) AfterStmt
+  exact_if =
+      let some : (at : Place) (c : CondTree) → (b : StmtTree) × (y : Pieces) × BranchedText l at c b y = λ at c. let t = some_stmt (l + 1) (l + 1) in (if_only at c t.0, t.1, (t.0, (t.1, [], sym (append-nil t.1), t.2, inr (refl, refl)))) in
+      let inner = λ (at : Place). then conds (λ c. exact_branched at c) (λ b z. Both (InParens l) (BranchedText l at) b z)
+      (λ c b y k s f. tt)
+      (λ c z v. let t = some at c in (t.0, t.1, (c, (z, t.1, refl, v, t.2))))
+      (λ c b x y s r. (c, (x, y, refl, s, r))) in
+      then (exact_expect_at n mark.If o low) inner (IfText o l)
+      (λ at b y k s f. tt)
+      (λ at z v. let c = some_cond l in let t = some at c.0 in (t.0, _, (at, (z, _, refl, v, (c.0, (_, t.1, refl, (_, _, refl, (some_place, refl), (_, _, refl, c.2, (some_place, refl))), t.2))))))
+      (λ at b x y s r. (at, (x, y, refl, s, r)))
+
+  exact_check : (m : Mark) (make : Place → CondTree → StmtTree) → ((at : Place) (c : CondTree) → TakesElse (make at c) → ⊥) → Exact n IsInner (read_check d m make) Any (CheckText o l m make) (CheckText o l m make) AfterStmt
+  exact_check m make closes =
+      let c = some_cond l in
+      then (exact_expect_at n m o low) (λ at. mapped (exact_ended mark.Semicolon conds (λ c at. tt)) (make at) AfterStmt (λ c k f t. absurd (closes at c t)) (λ c k f. tt)) (CheckText o l m make)
+      (λ at b y k s f. tt)
+      (λ at z v. (make at c.0, _, (at, (z, _, refl, v, (c.0, refl, (_, _, refl, (_, _, refl, (some_place, refl), (_, _, refl, c.2, (some_place, refl))), (some_place, refl)))))))
+      (λ at b x y s r. (at, (x, y, refl, s, r)))
+
+  abbrev SimpleKey : Option StmtMark → Option Token → Type 0
+  SimpleKey k i = (stmt_mark i ≡ k) × Any i
+
+  each_simple : (k : Option StmtMark) → Exact n IsInner (simple_form d branches k) (SimpleKey k) (SimpleAt o l k) (SimpleText o l) AfterStmt
+  each_simple (Some at_nothing) = entry (widen (mapped (exact_expect_at n mark.Semicolon o low) nothing AfterStmt (λ at k f t. absurd t) (λ at k f. tt)) (SimpleText o l) (λ b z s. to_simple o l (Some at_nothing) b z s)) (SimpleKey (Some at_nothing)) (λ k i. tt)
+  each_simple (Some at_if) = entry (widen exact_if (SimpleText o l) (λ b z s. to_simple o l (Some at_if) b z s)) (SimpleKey (Some at_if)) (λ k i. tt)
+  each_simple (Some at_assert) = entry (widen (exact_check mark.Assert assert (λ at c t. t)) (SimpleText o l) (λ b z s. to_simple o l (Some at_assert) b z s)) (SimpleKey (Some at_assert)) (λ k i. tt)
+  each_simple (Some at_assume) = entry (widen (exact_check mark.Assume assume (λ at c t. t)) (SimpleText o l) (λ b z s. to_simple o l (Some at_assume) b z s)) (SimpleKey (Some at_assume)) (λ k i. tt)
+  each_simple None =
+      entry (widen (mapped (exact_ended mark.Semicolon (exact_assign n d l o h low) assign_stops) assign AfterStmt (λ a k f t. absurd t) (λ a k f. tt)) (SimpleText o l) (λ b z s. to_simple o l None b z s)) (SimpleKey None) (λ k i. tt)
+
+  pub exact_simple : Exact n IsInner (simple_of d branches) Any (SimpleText o l) (SimpleText o l) AfterStmt
+  exact_simple = rename (choose stmt_mark each_simple (λ k b z i s f. simple_begins o l k b z i s)) (SimpleText o l) (λ b z s. to_simple o l s.0 b z s.1) (λ b z s. from_simple o l b z s)

@@ -12,3 +12,4 @@ pub mod Parts
 pub mod ExactExpressions
 pub mod ExactConditions
 pub mod ExactStatements
+pub mod ExactBlocks
