@@ -8,7 +8,8 @@ use Rattle.lra_parse.specs.declared.reading.Fault.{Fault}
 use Rattle.lra_parse.specs.declared.reading.Stopped.{Stopped}
 use Rattle.lra_parse.specs.declared.reading.Stopped.TheVariants as stopped
 use Rattle.lra_parse.specs.Tests.{first, is_mark}
-use Rattle.lra_parse.specs.Reading.{Text, Read, Parse, stop, ◌>>=◌, loop, expect, GivesErr, has, seq, map_read, take_by, taken, tail, chain_step}
+use Rattle.lra_parse.specs.Reading.{Text, Read, Parse, stop, ◌>>=◌, loop, expect, GivesErr, has, seq, map_read, take_by, taken, tail, chain_step, list_step}
+use Rattle.lra_parse.specs.Expressions.{behind}
 use Rattle.lra_parse.proofs.Exact.{test, ok_is}
 
 -- `&rest[1..]`
@@ -100,3 +101,24 @@ expect_value {A} m a b T R e = elim (test (is_mark m (first T))) [
   | inl on ↦ let e' : (let r : Read A = Ok (a, tail T) in r) ≡ Ok (a, R) = rw on at e in rw on (ap (λ (r : A × Text). Ok (b, r.1)) (ok_is (a, tail T) (a, R) e'))
   | inr off ↦ let e' : (let r : Read A = stop Syntax T in r) ≡ Ok (a, R) = rw off at e in absurd cc
 ]
+
+-- lists: a turn behind a mark
+module _ {I : Type 0} (m : Mark) (p : Parse I) where
+  pub comma_turn : (a b : List I) (i : I) (T R : Text) (result : Read (List I)) → b ≡ a ++ i ∷ [] → Left (is_mark m) (list_step (behind m p)) a T result → true ≡ is_mark m (first T) → p (rest_of T) ≡ Ok (i, R) → length R ≤ length (rest_of T)
+      → Left (is_mark m) (list_step (behind m p)) b R result
+  comma_turn a b i [] R result g l on e sh = absurd cc
+  comma_turn a b i (t ∷ T) R result g l on e sh =
+      let e' : p T ≡ Ok (i, R) = rw (rest_is (t ∷ T)) at e in
+      let s : list_step (behind m p) a (t ∷ T) ≡ Ok (a ++ i ∷ [], R) = rw (sym on, e') refl in
+      let less : length R ≤ length T = rw (rest_is (t ∷ T)) at sh in
+      subst (λ (c : List I). Left (is_mark m) (list_step (behind m p)) c R result) (sym g) (turn_on (is_mark m) (list_step (behind m p)) a (a ++ i ∷ []) (t ∷ T) R result l (sym on) s (omega arith))
+
+  comma_err : (a : List I) (T : Text) (f : Fault) (result : Read (List I)) → Left (is_mark m) (list_step (behind m p)) a T result → true ≡ is_mark m (first T) → p (rest_of T) ≡ Err f → result ≡ Err f
+  comma_err a [] f result l on e = absurd cc
+  comma_err a (t ∷ T) f result l on e =
+      let e' : p T ≡ Err f = rw (rest_is (t ∷ T)) at e in
+      turn_err (is_mark m) (list_step (behind m p)) a (t ∷ T) f result l (sym on) (omega arith) (rw (sym on, e') refl)
+
+  pub comma_exit : (a : List I) (T : Text) (e : Stopped) (result : Read (List I)) → Left (is_mark m) (list_step (behind m p)) a T result → true ≡ is_mark m (first T) → GivesErr e (p (rest_of T)) → GivesErr e result
+  comma_exit a T stopped.Memory result l on g = tt
+  comma_exit a T (stopped.Fault f) result l on g = comma_err a T f result l on g

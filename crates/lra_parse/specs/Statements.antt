@@ -179,3 +179,17 @@ item_at declares d = item_of declares d (simple_at d) (map_read block_from (bloc
 
 abbrev pub items_at : Bool → ℕ → Parse (List ItemTree)
 items_at declares d = list_of (begins_item declares) (item_at declares d)
+
+-- items, as what they put before the items behind them -------------------------------------------------------------------
+
+abbrev pub put_list : List ItemTree → ItemsTree → ItemsTree
+put_list [] t = t
+put_list (i ∷ is) t = put i (put_list is t)
+
+abbrev pub put_all : List (ItemsTree → ItemsTree) → ItemsTree → ItemsTree
+put_all [] t = t
+put_all (f ∷ fs) t = f (put_all fs t)
+
+-- what the items of code put is what these items put
+abbrev pub ArePut : List (ItemsTree → ItemsTree) → List ItemTree → Type 0
+ArePut fs is = (t : ItemsTree) → put_all fs t ≡ put_list is t

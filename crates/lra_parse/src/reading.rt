@@ -1,6 +1,6 @@
 //! Tests of the next token, single tokens, and faults.
 
-ghost use Rattle.std.specs.Prelude.{◌≡◌, ℕ, ◌≤◌, length, IfOk};
+ghost use Rattle.std.specs.Prelude.{◌≡◌, ℕ, ◌<◌, length, IfOk};
 ghost use Rattle.lra_parse.specs.Tests.{is_mark, first};
 ghost use Rattle.lra_parse.specs.Reading.{Gives, expect, expect_at, next_name, next_number, take_by};
 
@@ -66,7 +66,7 @@ pub fn next_is(rest: &[Token], mark: Mark) -> bool
 
 /// What comes behind the mark.
 pub fn expect(rest: &[Token], mark: Mark) -> Result<&[Token], Stopped>
-    ensures shorter { IfOk result (λ r. length r.now ≤ length rest.now) }
+    ensures shorter { IfOk result (λ r. length r.now < length rest.now) }
     ensures gives { Gives (λ r. (tt {0}, r.now)) result (expect mark (tt {0}) rest.now) }
 {
     if next_is(rest, mark) {
@@ -78,7 +78,7 @@ pub fn expect(rest: &[Token], mark: Mark) -> Result<&[Token], Stopped>
 
 /// The mark's place, and what comes behind it.
 pub fn expect_at(rest: &[Token], mark: Mark) -> Result<(Place, &[Token]), Stopped>
-    ensures shorter { IfOk result (λ r. length r.1.now ≤ length rest.now) }
+    ensures shorter { IfOk result (λ r. length r.1.now < length rest.now) }
     ensures gives { Gives (λ r. (r.0, r.1.now)) result (expect_at mark rest.now) }
 {
     if next_is(rest, mark) {
@@ -103,7 +103,7 @@ pub fn next_number(rest: &[Token]) -> Option<u64>
 
 /// A copy of the next token, which is a name.
 pub fn read_name(alloc: Global, rest: &[Token]) -> Result<(Identifier, &[Token]), Stopped>
-    ensures shorter { IfOk result (λ r. length r.1.now ≤ length rest.now) }
+    ensures shorter { IfOk result (λ r. length r.1.now < length rest.now) }
     ensures gives { Gives (λ r. (r.0, r.1.now)) result (take_by next_name rest.now) }
 {
     match rest.first() {
