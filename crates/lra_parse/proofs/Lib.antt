@@ -13,3 +13,4 @@ pub mod ExactExpressions
 pub mod ExactConditions
 pub mod ExactStatements
 pub mod ExactBlocks
+pub mod ExactFiles

@@ -8,7 +8,9 @@ use Rattle.lra_parse.specs.declared.reading.Fault.{Fault}
 use Rattle.lra_parse.specs.declared.reading.Stopped.{Stopped}
 use Rattle.lra_parse.specs.declared.reading.Stopped.TheVariants as stopped
 use Rattle.lra_parse.specs.Tests.{first, is_mark}
-use Rattle.lra_parse.specs.Reading.{Text, Read, Parse, stop, ◌>>=◌, loop, expect, GivesErr, has, seq, map_read, take_by, taken, tail, chain_step, list_step}
+use Rattle.lra_parse.specs.Reading.{Text, Read, Parse, stop, ◌>>=◌, loop, expect, GivesErr, has, seq, map_read, take_by, taken, tail, chain_step, list_step, list_of}
+use Rattle.lra_parse.specs.Statements.{commas}
+use Rattle.lra_tree.specs.declared.tokens.Mark.TheVariants as mark
 use Rattle.lra_parse.specs.Expressions.{behind}
 use Rattle.lra_parse.proofs.Exact.{test, ok_is}
 
@@ -122,3 +124,12 @@ module _ {I : Type 0} (m : Mark) (p : Parse I) where
   pub comma_exit : (a : List I) (T : Text) (e : Stopped) (result : Read (List I)) → Left (is_mark m) (list_step (behind m p)) a T result → true ≡ is_mark m (first T) → GivesErr e (p (rest_of T)) → GivesErr e result
   comma_exit a T stopped.Memory result l on g = tt
   comma_exit a T (stopped.Fault f) result l on g = comma_err a T f result l on g
+
+-- an item, and then a list
+module _ {A B : Type 0} (p : Parse A) (f : A × List A → B) where
+  pub commas_gives : (a : A) (is : List A) (T M R : Text) → p T ≡ Ok (a, M) → list_of (is_mark mark.Comma) (behind mark.Comma p) M ≡ Ok (is, R) → map_read f (commas p) T ≡ Ok (f (a, is), R)
+  commas_gives a is T M R e g = rw (e, g) refl
+
+  pub commas_exit : (a : A) (T M : Text) (s : Stopped) → p T ≡ Ok (a, M) → GivesErr s (list_of (is_mark mark.Comma) (behind mark.Comma p) M) → GivesErr s (map_read f (commas p) T)
+  commas_exit a T M stopped.Memory e g = tt
+  commas_exit a T M (stopped.Fault d) e g = rw (e, g) refl
