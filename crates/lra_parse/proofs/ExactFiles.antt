@@ -37,10 +37,10 @@ abbrev MainText : Identifier → Texts
 MainText x z = name x 0 z × main_word x
 
 same_bytes : (s t : List ℕ) → bytes_eq s t ≡ true → s ≡ t
-same_bytes s t e = grind (arith, bytes_eq-Decides s t)
+same_bytes s t e = (bytes_eq-Decides s t).0 e
 
 bytes_same : (s t : List ℕ) → s ≡ t → bytes_eq s t ≡ true
-bytes_same s t e = grind (arith, bytes_eq-Decides s t)
+bytes_same s t e = (bytes_eq-Decides s t).1 e
 
 main_is : (m : Option Identifier) (x : Identifier) → is_main m ≡ Some x → (m ≡ Some x) × main_word x
 main_is None x e = absurd cc

@@ -14,3 +14,4 @@ pub mod ExactConditions
 pub mod ExactStatements
 pub mod ExactBlocks
 pub mod ExactFiles
+pub mod Stated

@@ -93,10 +93,10 @@ abbrev pub stmt_mark : Option Token → Option StmtMark
 stmt_mark o = one_of stmt_marks o
 
 abbrev pub begins_assign : Option Token → Bool
-begins_assign o = has (next_step o) || has (next_name o)
+begins_assign o = cond (has (next_step o)) true (has (next_name o))
 
 abbrev pub begins_stmt : Option Token → Bool
-begins_stmt o = is_mark mark.OpenBrace o || has (stmt_mark o) || begins_assign o
+begins_stmt o = cond (is_mark mark.OpenBrace o) true (cond (has (stmt_mark o)) true (begins_assign o))
 
 abbrev pub else_part : Parse StmtTree → Place → CondTree → StmtTree → Parse StmtTree
 else_part branch at c t T = cond (is_mark mark.Else (first T)) (behind mark.Else (map_read (if_else at c t) branch) T) (done_with (if_only at c t) T)
@@ -108,13 +108,19 @@ read_if d branch = seq (expect_at mark.If) (λ at. seq (in_parens (cond_at d)) (
 abbrev pub read_check : ℕ → Mark → (Place → CondTree → StmtTree) → Parse StmtTree
 read_check d m make = seq (expect_at m) (λ at. map_read (make at) (ended mark.Semicolon (in_parens (cond_at d))))
 
+abbrev pub read_nothing : Parse StmtTree
+read_nothing = map_read nothing (expect_at mark.Semicolon)
+
+abbrev pub read_assigned : ℕ → Parse StmtTree
+read_assigned d = map_read assign (ended mark.Semicolon (assign_at d))
+
 -- the forms of a statement that is no block; branch reads a branch
 abbrev pub simple_form : ℕ → Parse StmtTree → Option StmtMark → Parse StmtTree
-simple_form d branch (Some at_nothing) = map_read nothing (expect_at mark.Semicolon)
+simple_form d branch (Some at_nothing) = read_nothing
 simple_form d branch (Some at_if) = read_if d branch
 simple_form d branch (Some at_assert) = read_check d mark.Assert assert
 simple_form d branch (Some at_assume) = read_check d mark.Assume assume
-simple_form d branch None = map_read assign (ended mark.Semicolon (assign_at d))
+simple_form d branch None = read_assigned d
 
 abbrev pub simple_of : ℕ → Parse StmtTree → Parse StmtTree
 simple_of d branch T = simple_form d branch (stmt_mark (first T)) T

@@ -5,3 +5,4 @@ mod assignments;
 mod conditions;
 mod expressions;
 mod reading;
+mod statements;
