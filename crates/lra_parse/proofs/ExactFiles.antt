@@ -219,7 +219,7 @@ end_is End at p e = (refl, cc)
 end_token : (t : Token) (p : Place) → next_end (Some t) ≡ Some p → t ≡ record { kind = End; place = p }
 end_token t p e = let k = end_is t.kind t.place p e in ap (λ (j : Kind). record { kind = j; place = t.place }) k.0 ∙ ap (λ (q : Place). record { kind = End; place = q }) k.1
 
-abbrev AnyToken : Token → Type 0
+abbrev pub AnyToken : Token → Type 0
 AnyToken t = ⊤
 
 exact_end : (n : ℕ) → Exact n AnyToken (take_by next_end) Any end_at end_at Free

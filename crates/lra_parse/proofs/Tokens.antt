@@ -72,7 +72,7 @@ module _ (n : ℕ) (m : Mark) (o : ℕ) (low : o ≤ n) where
 
 -- names and numbers ------------------------------------------------------------------------------------------------
 
-name_is : (k : Kind) (at : Place) (x : Identifier) → identifier_of k at ≡ Some x → (k ≡ Name x.word) × (at ≡ x.place)
+pub name_is : (k : Kind) (at : Place) (x : Identifier) → identifier_of k at ≡ Some x → (k ≡ Name x.word) × (at ≡ x.place)
 name_is (Name w) at x e = let f : record { word = w; place = at } ≡ x = cc in (ap (λ (i : Identifier). Name i.word) f, ap (λ (i : Identifier). i.place) f)
 name_is (Number n) at x e = absurd cc
 name_is (MarkOf m) at x e = absurd cc
