@@ -1,0 +1,8 @@
+use Rattle.std.proofs.Common.{◌≡◌, Bool, Option, Some, refl, sym, ap, ◌∙◌}
+use Rattle.lra_tree.specs.declared.tokens.Token.{Token}
+use Rattle.lra_parse.specs.Tests.{is_mark, first}
+use Rattle.lra_parse.proofs.Marks.{same_is, next_mark}
+use Rattle.lra_parse.proofs.reading.next_is.Goals as goal
+
+pub returns-in-Mark : goal.returns-in-Mark
+returns-in-Mark c = c.eq.ensures ∙ next_mark c.args.rest.now c.in-Some.token.now c.args.mark c.in-Mark.next c.in-Mark.is c.in-Some.ensures.value

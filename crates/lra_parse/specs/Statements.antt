@@ -1,0 +1,201 @@
+-- Readers of assignments, declarations and statements. d levels of nesting are left.
+use Rattle.std.specs.Prelude.{◌≡◌, ℕ, zero, suc, Bool, true, false, cond, ◌||◌, ◌&&◌, List, [], ◌∷◌, Option, Some, None, Ok, Err, option_map}
+use Rattle.lra_tree.specs.declared.refusals.Place.{Place}
+use Rattle.lra_tree.specs.declared.refusals.Cause.TheVariants.{Syntax, TooDeep}
+use Rattle.lra_tree.specs.declared.tokens.Mark.{Mark}
+use Rattle.lra_tree.specs.declared.tokens.Mark.TheVariants as mark
+use Rattle.lra_tree.specs.declared.tokens.Token.{Token}
+use Rattle.lra_tree.specs.declared.trees.Identifier.{Identifier}
+use Rattle.lra_tree.specs.declared.trees.Operator.{Operator}
+use Rattle.lra_tree.specs.declared.trees.Operator.TheVariants as operator
+use Rattle.lra_tree.specs.declared.trees.Step.{Step}
+use Rattle.lra_tree.specs.declared.trees.Step.TheVariants as step
+use Rattle.lra_tree.specs.Trees.{ExprTree, CondTree, SourceTree, expression, AssignTree, set, update, after, before, DeclaratorTree, DeclarationTree, StmtTree, block, nothing, assign, if_only, if_else, assert, assume, ItemsTree, no_items, declaration, statement}
+use Rattle.lra_tree.specs.Views.{operator_view, step_view}
+use Rattle.lra_parse.specs.Tests.{first, is_mark}
+use Rattle.lra_parse.specs.Reading.{Text, Parse, stop, seq, map_read, done_with, tail, expect, expect_at, place_of, take_by, next_name, has, one_of, list_of}
+use Rattle.lra_parse.specs.Expressions.{behind, ended, in_parens, expr_at, cond_at}
+
+-- the text behind the mark, if it is there
+abbrev pub skip : Mark → Text → Text
+skip m T = cond (is_mark m (first T)) (tail T) T
+
+-- items with commas between them
+abbrev pub commas : {A : Type 0} → Parse A → Parse (A × List A)
+commas p = seq p (λ a. map_read (λ further. (a, further)) (list_of (is_mark mark.Comma) (behind mark.Comma p)))
+
+-- assignments ------------------------------------------------------------------------------------------------------
+
+abbrev pub update_operators : List (Mark × Operator)
+update_operators = (mark.PlusAssign, operator.Plus) ∷ (mark.MinusAssign, operator.Minus) ∷ (mark.StarAssign, operator.Times) ∷ (mark.SlashAssign, operator.Over)
+    ∷ (mark.PercentAssign, operator.Modulo) ∷ []
+
+abbrev pub update_operator : Option Token → Option Operator
+update_operator o = one_of update_operators o
+
+abbrev pub step_marks : List (Mark × Step)
+step_marks = (mark.Increment, step.Increment) ∷ (mark.Decrement, step.Decrement) ∷ []
+
+-- `++` or `--`, with its place
+abbrev pub next_step : Option Token → Option (Step × Place)
+next_step o = option_map (λ s. (s, place_of o)) (one_of step_marks o)
+
+abbrev pub source_at : ℕ → Parse SourceTree
+source_at d = map_read expression (expr_at d)
+
+-- behind the name of the variable
+abbrev pub assign_rest : ℕ → Identifier → Parse AssignTree
+assign_rest d x T =
+    cond (is_mark mark.Assign (first T)) (behind mark.Assign (map_read (set x) (source_at d)) T)
+    (cond (has (update_operator (first T))) (seq (take_by update_operator) (λ op. map_read (update x (operator_view op)) (expr_at d)) T)
+    (map_read (λ s. after x (step_view s.0)) (take_by next_step) T))
+
+abbrev pub step_first : Parse AssignTree
+step_first = seq (take_by next_step) (λ s. map_read (before s.1 (step_view s.0)) (take_by next_name))
+
+abbrev pub assign_at : ℕ → Parse AssignTree
+assign_at d T = cond (has (next_step (first T))) (step_first T) (seq (take_by next_name) (assign_rest d) T)
+
+-- declarations -----------------------------------------------------------------------------------------------------
+
+-- `long`, `long long`, `long int`, `long long int`
+abbrev pub type_words : Parse (Unit {0})
+type_words = seq (expect mark.Long (tt {0})) (λ _ T. Ok (tt {0}, skip mark.Int (skip mark.Long T)))
+
+-- behind the name of the variable
+abbrev pub given : ℕ → Identifier → Parse DeclaratorTree
+given d x T =
+    cond (is_mark mark.Assign (first T)) (behind mark.Assign (map_read (λ e. record { name = x; source = Some e }) (source_at d)) T)
+    (done_with (record { name = x; source = None }) T)
+
+abbrev pub declarator_at : ℕ → Parse DeclaratorTree
+declarator_at d = seq (take_by next_name) (given d)
+
+abbrev pub declaration_of : DeclaratorTree × List DeclaratorTree → DeclarationTree
+declaration_of ds = record { first = ds.0; rest = ds.1 }
+
+abbrev pub declaration_at : ℕ → Parse DeclarationTree
+declaration_at d = seq type_words (λ _. ended mark.Semicolon (map_read declaration_of (commas (declarator_at d))))
+
+-- statements -------------------------------------------------------------------------------------------------------
+
+-- the marks that begin a statement that is no block and no assignment
+pub data StmtMark : Type 0 where
+  at_nothing : StmtMark
+  at_if : StmtMark
+  at_assert : StmtMark
+  at_assume : StmtMark
+
+abbrev pub stmt_marks : List (Mark × StmtMark)
+stmt_marks = (mark.Semicolon, at_nothing) ∷ (mark.If, at_if) ∷ (mark.Assert, at_assert) ∷ (mark.Assume, at_assume) ∷ []
+
+abbrev pub stmt_mark : Option Token → Option StmtMark
+stmt_mark o = one_of stmt_marks o
+
+abbrev pub begins_assign : Option Token → Bool
+begins_assign o = cond (has (next_step o)) true (has (next_name o))
+
+abbrev pub begins_stmt : Option Token → Bool
+begins_stmt o = cond (is_mark mark.OpenBrace o) true (cond (has (stmt_mark o)) true (begins_assign o))
+
+abbrev pub else_part : Parse StmtTree → Place → CondTree → StmtTree → Parse StmtTree
+else_part branch at c t T = cond (is_mark mark.Else (first T)) (behind mark.Else (map_read (if_else at c t) branch) T) (done_with (if_only at c t) T)
+
+abbrev pub read_if : ℕ → Parse StmtTree → Parse StmtTree
+read_if d branch = seq (expect_at mark.If) (λ at. seq (in_parens (cond_at d)) (λ c. seq branch (else_part branch at c)))
+
+-- `assert` and `assume`
+abbrev pub read_check : ℕ → Mark → (Place → CondTree → StmtTree) → Parse StmtTree
+read_check d m make = seq (expect_at m) (λ at. map_read (make at) (ended mark.Semicolon (in_parens (cond_at d))))
+
+abbrev pub read_nothing : Parse StmtTree
+read_nothing = map_read nothing (expect_at mark.Semicolon)
+
+abbrev pub read_assigned : ℕ → Parse StmtTree
+read_assigned d = map_read assign (ended mark.Semicolon (assign_at d))
+
+-- the forms of a statement that is no block; branch reads a branch
+abbrev pub simple_form : ℕ → Parse StmtTree → Option StmtMark → Parse StmtTree
+simple_form d branch (Some at_nothing) = read_nothing
+simple_form d branch (Some at_if) = read_if d branch
+simple_form d branch (Some at_assert) = read_check d mark.Assert assert
+simple_form d branch (Some at_assume) = read_check d mark.Assume assume
+simple_form d branch None = read_assigned d
+
+abbrev pub simple_of : ℕ → Parse StmtTree → Parse StmtTree
+simple_of d branch T = simple_form d branch (stmt_mark (first T)) T
+
+-- an item of a block
+pub data ItemTree : Type 0 where
+  declared : DeclarationTree → ItemTree
+  stated : StmtTree → ItemTree
+
+abbrev pub put : ItemTree → ItemsTree → ItemsTree
+put (declared d) items = declaration d items
+put (stated t) items = statement t items
+
+abbrev pub items_from : List ItemTree → ItemsTree
+items_from [] = no_items
+items_from (i ∷ is) = put i (items_from is)
+
+-- whether declarations are items here
+abbrev pub begins_item : Bool → Option Token → Bool
+begins_item declares o = begins_stmt o || (declares && is_mark mark.Long o)
+
+abbrev pub stated_of : Parse StmtTree → Parse StmtTree → Parse StmtTree
+stated_of simple inner T = cond (is_mark mark.OpenBrace (first T)) (inner T) (simple T)
+
+-- inner reads a block
+abbrev pub item_of : Bool → ℕ → Parse StmtTree → Parse StmtTree → Parse ItemTree
+item_of declares d simple inner T =
+    cond (declares && is_mark mark.Long (first T)) (map_read declared (declaration_at d) T) (map_read stated (stated_of simple inner) T)
+
+abbrev pub items_of : Bool → ℕ → Parse StmtTree → Parse StmtTree → Parse (List ItemTree)
+items_of declares d simple inner = list_of (begins_item declares) (item_of declares d simple inner)
+
+abbrev pub body_of : Parse (List ItemTree) → Parse (ItemsTree × Place)
+body_of items = behind mark.OpenBrace (seq items (λ is. map_read (λ end. (items_from is, end)) (expect_at mark.CloseBrace)))
+
+abbrev pub block_from : ItemsTree × Place → StmtTree
+block_from b = block b.0 b.1
+
+-- no level is left
+abbrev pub too_deep : Parse StmtTree
+too_deep T = cond (begins_stmt (first T)) (stop TooDeep T) (stop Syntax T)
+
+-- a branch, and a block's items with its braces, each opening one of d levels
+unfoldable pub levels : ℕ → Parse StmtTree × Parse (ItemsTree × Place)
+levels zero = (too_deep, (λ T. stop TooDeep T))
+levels (suc d) = (
+  stated_of (simple_of d (levels d).0) (map_read block_from (body_of (items_of false d (simple_of d (levels d).0) (map_read block_from (levels d).1)))),
+  body_of (items_of false d (simple_of d (levels d).0) (map_read block_from (levels d).1)),
+)
+
+abbrev pub branch_at : ℕ → Parse StmtTree
+branch_at d = (levels d).0
+
+abbrev pub block_at : ℕ → Parse (ItemsTree × Place)
+block_at d = (levels d).1
+
+abbrev pub simple_at : ℕ → Parse StmtTree
+simple_at d = simple_of d (branch_at d)
+
+abbrev pub item_at : Bool → ℕ → Parse ItemTree
+item_at declares d = item_of declares d (simple_at d) (map_read block_from (block_at d))
+
+abbrev pub items_at : Bool → ℕ → Parse (List ItemTree)
+items_at declares d = list_of (begins_item declares) (item_at declares d)
+
+-- items, as what they put before the items behind them -------------------------------------------------------------------
+
+abbrev pub put_list : List ItemTree → ItemsTree → ItemsTree
+put_list [] t = t
+put_list (i ∷ is) t = put i (put_list is t)
+
+abbrev pub put_all : List (ItemsTree → ItemsTree) → ItemsTree → ItemsTree
+put_all [] t = t
+put_all (f ∷ fs) t = f (put_all fs t)
+
+-- what the items of code put is what these items put
+abbrev pub ArePut : List (ItemsTree → ItemsTree) → List ItemTree → Type 0
+ArePut fs is = (t : ItemsTree) → put_all fs t ≡ put_list is t

@@ -1,0 +1,69 @@
+-- Tests of the next token.
+use Rattle.std.specs.Prelude.{◌≡◌, ℕ, zero, suc, Bool, true, false, cond, nat_eq, List, [], ◌∷◌, Option, Some, None}
+use Rattle.lra_tree.specs.declared.tokens.Mark.{Mark}
+use Rattle.lra_tree.specs.declared.tokens.Mark.TheVariants as mark
+use Rattle.lra_tree.specs.declared.tokens.Kind.{Kind}
+use Rattle.lra_tree.specs.declared.tokens.Kind.TheVariants.{Name, Number, Mark as MarkOf, Reserved, Unclosed, End}
+use Rattle.lra_tree.specs.declared.tokens.Token.{Token}
+
+-- a number for each mark
+abbrev pub mark_number : Mark → ℕ
+mark_number mark.Plus = 0
+mark_number mark.Minus = 1
+mark_number mark.Star = 2
+mark_number mark.Slash = 3
+mark_number mark.Percent = 4
+mark_number mark.Assign = 5
+mark_number mark.Equal = 6
+mark_number mark.Differs = 7
+mark_number mark.Less = 8
+mark_number mark.AtMost = 9
+mark_number mark.Greater = 10
+mark_number mark.AtLeast = 11
+mark_number mark.And = 12
+mark_number mark.Or = 13
+mark_number mark.Not = 14
+mark_number mark.Increment = 15
+mark_number mark.Decrement = 16
+mark_number mark.PlusAssign = 17
+mark_number mark.MinusAssign = 18
+mark_number mark.StarAssign = 19
+mark_number mark.SlashAssign = 20
+mark_number mark.PercentAssign = 21
+mark_number mark.OpenParen = 22
+mark_number mark.CloseParen = 23
+mark_number mark.OpenBrace = 24
+mark_number mark.CloseBrace = 25
+mark_number mark.Semicolon = 26
+mark_number mark.Comma = 27
+mark_number mark.Assert = 28
+mark_number mark.Assume = 29
+mark_number mark.Input = 30
+mark_number mark.Break = 31
+mark_number mark.Continue = 32
+mark_number mark.Else = 33
+mark_number mark.Extern = 34
+mark_number mark.For = 35
+mark_number mark.If = 36
+mark_number mark.Int = 37
+mark_number mark.Long = 38
+mark_number mark.Return = 39
+mark_number mark.Void = 40
+mark_number mark.While = 41
+
+abbrev pub is_kind : Mark → Kind → Bool
+is_kind m (Name word) = false
+is_kind m (Number n) = false
+is_kind m (MarkOf k) = nat_eq (mark_number k) (mark_number m)
+is_kind m Reserved = false
+is_kind m Unclosed = false
+is_kind m End = false
+
+-- the token is there, and is the mark
+abbrev pub is_mark : Mark → Option Token → Bool
+is_mark m None = false
+is_mark m (Some t) = is_kind m t.kind
+
+abbrev pub first : List Token → Option Token
+first [] = None
+first (t ∷ T) = Some t
