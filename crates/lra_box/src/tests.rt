@@ -70,13 +70,19 @@ fn head_by<D: Domain>(alloc: Global) -> Result<(D, [u64; 3]), AllocError> {
     Ok((last, [first, second, D::rank(&head).fourth]))
 }
 
+/// The rows of the parts, through the bound.
+fn parts_by<D: Domain>(alloc: Global, value: &D) -> Result<Vec<ConSys>, AllocError> {
+    let parts = value.parts(alloc)?;
+    Ok(parts)
+}
+
 /// The rows are x = 3, y >= 3, y <= 10, in this order.
 #[test]
 fn values_of_boxes(rt: HostRuntime) -> Result<(), AllocError> {
     let mut value = value_by::<Boxes>(rt.alloc())?;
     assert_eq!(rt; compares_by(rt.alloc(), &mut value)?, [true; 5]);
     assert_eq!(rt; resizes_by(&mut value)?, 3);
-    let parts = value.parts(rt.alloc())?;
+    let parts = parts_by(rt.alloc(), &value)?;
     assert_eq!(rt; parts.len(), 1);
     let want = [
         ([-3, 1, 0], ConKind::Eq),
@@ -109,7 +115,7 @@ fn values_of_boxes(rt: HostRuntime) -> Result<(), AllocError> {
 fn heads_of_boxes(rt: HostRuntime) -> Result<(), AllocError> {
     let (value, ranks) = head_by::<Boxes>(rt.alloc())?;
     assert_eq!(rt; ranks, [2, 2, 1]);
-    let parts = value.parts(rt.alloc())?;
+    let parts = parts_by(rt.alloc(), &value)?;
     assert_eq!(rt; parts.len(), 1);
     for part in &parts {
         assert_eq!(rt; part.rows().len(), 1);
