@@ -20,9 +20,10 @@ use Rattle.lra_parse.specs.declared.reading.Fault.{Fault}
 use Rattle.lra_parse.specs.declared.reading.Stopped.{Stopped}
 use Rattle.lra_parse.specs.declared.reading.Stopped.TheVariants as stopped
 use Rattle.lra_parse.specs.Tests.{first, is_mark}
-use Rattle.lra_parse.specs.Reading.{Text, Read, Parse, stop, ◌>>=◌, seq, map_read, expect, expect_at, loop, list_step, list_of, GivesErr}
+use Rattle.lra_parse.specs.Reading.{Text, Read, Parse, stop, ◌>>=◌, seq, map_read, tail, expect, expect_at, loop, list_step, list_of, GivesErr}
 use Rattle.lra_parse.specs.Expressions.{behind}
 use Rattle.lra_parse.specs.Statements.{else_part, declaration_at, ItemTree, declared, stated, put, items_from, begins_item, stated_of, body_of, block_from, too_deep, levels, branch_at, block_at, simple_at, item_at, items_at, put_list, put_all, ArePut}
+use Rattle.lra_parse.proofs.Exact.{ok_is}
 use Rattle.lra_parse.proofs.Turning.{Left, turn_on, turn_err, turn_off}
 
 pub branch_zero : (d : ℕ) (T : Text) → d ≡ 0 → branch_at d T ≡ too_deep T
@@ -59,21 +60,21 @@ thrice : {A B C D : Type 0} (r : Read A) (f : A → B) (g : B → C) (h : C → 
 thrice (Ok x) f g h = refl
 thrice (Err e) f g h = refl
 
-pub item_declared : (declares : Bool) (d : ℕ) (T : Text) → true ≡ (declares && is_mark mark.Long (first T)) → map_read put (item_at declares d) T ≡ map_read declaration (declaration_at d) T
+pub item_declared : (declares : Bool) (d : ℕ) (T : Text) → true ≡ (declares && is_mark mark.Long (first T)) → map_read put (item_at declares d) T ≡ map_read (λ (x : DeclarationTree) (t : ItemsTree). declaration x t) (declaration_at d) T
 item_declared declares d T e = rw (sym e) (twice (declaration_at d T) declared put)
 
-pub item_block : (declares : Bool) (d : ℕ) (T : Text) → false ≡ (declares && is_mark mark.Long (first T)) → true ≡ is_mark mark.OpenBrace (first T) → map_read put (item_at declares d) T ≡ map_read (λ b. statement (block_from b)) (block_at d) T
+pub item_block : (declares : Bool) (d : ℕ) (T : Text) → false ≡ (declares && is_mark mark.Long (first T)) → true ≡ is_mark mark.OpenBrace (first T) → map_read put (item_at declares d) T ≡ map_read (λ (b : ItemsTree × Place) (t : ItemsTree). statement (block_from b) t) (block_at d) T
 item_block declares d T e f = rw (sym e, sym f) (thrice (block_at d T) block_from stated put)
 
-pub item_simple : (declares : Bool) (d : ℕ) (T : Text) → false ≡ (declares && is_mark mark.Long (first T)) → false ≡ is_mark mark.OpenBrace (first T) → map_read put (item_at declares d) T ≡ map_read statement (simple_at d) T
+pub item_simple : (declares : Bool) (d : ℕ) (T : Text) → false ≡ (declares && is_mark mark.Long (first T)) → false ≡ is_mark mark.OpenBrace (first T) → map_read put (item_at declares d) T ≡ map_read (λ (x : StmtTree) (t : ItemsTree). statement x t) (simple_at d) T
 item_simple declares d T e f = rw (sym e, sym f) (twice (simple_at d T) stated put)
 
 pub ruleset item_rules = (item_declared, item_block, item_simple)
 
-pub declaration_item : (x : Declaration) → item_view (DeclarationItem x) ≡ declaration (declaration_view x)
+pub declaration_item : (x : Declaration) → item_view (DeclarationItem x) ≡ (λ (t : ItemsTree). declaration (declaration_view x) t)
 declaration_item x = search (rules, the_lemmas)
 
-pub statement_item : (x : Stmt) → item_view (StatementItem x) ≡ statement (stmt_view x)
+pub statement_item : (x : Stmt) → item_view (StatementItem x) ≡ (λ (t : ItemsTree). statement (stmt_view x) t)
 statement_item x = search (rules, the_lemmas)
 
 pub block_stmt : (b : Block) → stmt_view (BlockStmt b) ≡ block_from (block_view b)
@@ -94,7 +95,11 @@ pub only_gives : (b : Parse StmtTree) (at : Place) (c : CondTree) (t : StmtTree)
 only_gives b at c t T e = rw (sym e) refl
 
 pub else_gives : (b : Parse StmtTree) (at : Place) (c : CondTree) (t u : StmtTree) (T U R : Text) → true ≡ is_mark mark.Else (first T) → expect mark.Else (tt {0}) T ≡ Ok (tt {0}, U) → b U ≡ Ok (u, R) → else_part b at c t T ≡ Ok (if_else at c t u, R)
-else_gives b at c t u T U R e f g = rw (sym e) (rw f (rw g refl))
+else_gives b at c t u T U R e f g =
+    let f' : (let r : Read (Unit {0}) = Ok (tt {0}, tail T) in r) ≡ Ok (tt {0}, U) = rw (sym e) at f in
+    let same : U ≡ tail T = sym (ap (λ (p : Unit {0} × Text). p.1) (ok_is (tt {0}, tail T) (tt {0}, U) f')) in
+    let g' : b (tail T) ≡ Ok (u, R) = subst (λ (W : Text). b W ≡ Ok (u, R)) same g in
+    rw (sym e) (rw g' refl)
 
 -- the loop of a block ----------------------------------------------------------------------------------------------
 
@@ -131,6 +136,12 @@ no_end : (b : Bool) → true ≡ begins_item b None → 0 < 0
 no_end true e = absurd cc
 no_end false e = absurd cc
 
+step_ok : (p : Parse ItemTree) (is : List ItemTree) (i : ItemTree) (T R : Text) → p T ≡ Ok (i, R) → list_step p is T ≡ Ok (is ++ i ∷ [], R)
+step_ok p is i T R e = rw e refl
+
+step_err : (p : Parse ItemTree) (is : List ItemTree) (T : Text) (f : Fault) → p T ≡ Err f → list_step p is T ≡ Err f
+step_err p is T f e = rw e refl
+
 module _ (declares : Bool) (d : ℕ) where
   -- items that put what the code's items put, and the loop from there on
   abbrev pub State : List BlockItem → Text → Read (List ItemTree) → Type 0
@@ -140,7 +151,7 @@ module _ (declares : Bool) (d : ℕ) where
       → map_read put (item_at declares d) T ≡ Ok (item_view item, R) → length R < length T → State pushed R result
   state_turn items pushed item T R result e (is, h, l) on g less =
       let i = put_some (item_at declares d T) (item_view item) R g in
-      let s : list_step (item_at declares d) is T ≡ Ok (is ++ i.0 ∷ [], R) = rw (i.1) refl in
+      let s : list_step (item_at declares d) is T ≡ Ok (is ++ i.0 ∷ [], R) = step_ok (item_at declares d) is i.0 T R i.1 in
       (
         is ++ i.0 ∷ [],
         (λ t. ap (λ (fs : List (ItemsTree → ItemsTree)). put_all fs t) (ap (map item_view) e ∙ map_push item_view items item) ∙ all_last (map item_view items) (item_view item) t ∙ h (item_view item t)
@@ -150,7 +161,7 @@ module _ (declares : Bool) (d : ℕ) where
 
   state_err : (items : List BlockItem) (T : Text) (f : Fault) (result : Read (List ItemTree)) → State items T result → true ≡ begins_item declares (first T) → 0 < length T → map_read put (item_at declares d) T ≡ Err f → result ≡ Err f
   state_err items T f result (is, h, l) on some g =
-      let s : list_step (item_at declares d) is T ≡ Err f = rw (put_err (item_at declares d T) f g) refl in
+      let s : list_step (item_at declares d) is T ≡ Err f = step_err (item_at declares d) is T f (put_err (item_at declares d T) f g) in
       turn_err (begins_item declares) (list_step (item_at declares d)) is T f result l (sym on) some s
 
   pub state_end : (items : List BlockItem) (T : Text) (result : Read (List ItemTree)) → State items T result → false ≡ begins_item declares (first T) → (is : List ItemTree) × ArePut (map item_view items) is × (result ≡ Ok (is, T))
