@@ -11,7 +11,6 @@ mod assignments;
 mod conditions;
 mod expressions;
 mod reading;
-mod statements;
 
 /// A law of the language that is taken: no text has two trees, and no list of tokens has two first faults, or a fault and a tree.
 pub fn one_tree()
