@@ -14,5 +14,4 @@ pub mod ExactConditions
 pub mod ExactStatements
 pub mod ExactBlocks
 pub mod ExactFiles
-pub mod Stated
 pub mod Laws
