@@ -178,7 +178,6 @@ same_split n Q p E S V F P x x' a a' M M' s s' low low' i f f' e =
 module _ {n : ℕ} {Q : Token → Type 0} {A B : Type 0} {p : Parse A} {E : Option Token → Type 0} {S V : A → Pieces → Type 0} {F : A → Option Token → Type 0} (P : Exact n Q p E S V F)
     {q : A → Parse B} {S' V' : A → B → Pieces → Type 0} {F' : B → Option Token → Type 0} (R' : (a : A) → Exact n Q (q a) (F a) (S' a) (V' a) F')
     (W : B → Pieces → Type 0) where
-
   pub then : (follow : (a : A) (b : B) (y : Pieces) (o : Option Token) → S' a b y → (y ≡ [] → F' b o) → F a (first_or y o))
       → (more : (a : A) (z : Pieces) → V a z → (b : B) × (y : Pieces) × W b (z ++ y))
       → (both : (a : A) (b : B) (x y : Pieces) → S a x → V' a b y → W b (x ++ y))

@@ -362,7 +362,7 @@ either_stmt o l t z (inl s) = s.0
 either_stmt o l t z (inr s) = s.0
 
 stmt_either : (o l : ℕ) (t : StmtTree) (z : Pieces) → StmtText o l t z → BlockText o l t z ⊎ SimpleText o l t z
-stmt_either o l t z s = elim (is_block t) [ | inl b ↦ inl (s, b) | inr b ↦ inr (s, b) ]
+stmt_either o l t z s = elim (is_block t) [ inl b ↦ inl (s, b) | inr b ↦ inr (s, b) ]
 
 or_left : (a b : Bool) → a ≡ true → (a || b) ≡ true
 or_left a b e = rw e refl
@@ -451,7 +451,7 @@ module _ (n d l : ℕ) (simple inner : Parse StmtTree) (h : d + l ≡ n) (declar
       (entry (widen T' W (λ i z s. subst (λ (c : ItemTree). W c z) s.1 s.2)) (λ k. ⊤ × ((declares && is_mark mark.Long k) ≡ false)) (λ k i. tt))
       (λ i z k s f. and_true declares (is_mark mark.Long (first_or z k)) s.1 (declaration_first l s.0.0 z k s.0.2))
       (λ i z k s f. and_false declares (is_mark mark.Long (first_or z k)) (stated_long l s.0 z k s.2)) in
-      rename b W (λ i z s. elim s [ | inl k ↦ subst (λ (c : ItemTree). W c z) k.0.1 (k.0.2, k.1) | inr k ↦ subst (λ (c : ItemTree). W c z) k.1 k.2 ]) (λ i z s. item_sides declares l i z s)
+      rename b W (λ i z s. elim s [ inl k ↦ subst (λ (c : ItemTree). W c z) k.0.1 (k.0.2, k.1) | inr k ↦ subst (λ (c : ItemTree). W c z) k.1 k.2 ]) (λ i z s. item_sides declares l i z s)
 
   closing : (is : List ItemTree) (end : Place) (y : Pieces) (k : Option Token) → opens_at mark.CloseBrace end 0 y → AfterLast AfterItem Any is (first_or y k) × (begins_item declares (first_or y k) ≡ false)
   closing is end y k e = rw e (all_last AfterItem Any is (Some (token mark.CloseBrace end)) tt (λ i. item_closes i end), close_begins declares end)
@@ -527,7 +527,7 @@ exact_too_deep n o h =
     let deep = exact_deep n IsInner (λ k. ⊤ × (begins_stmt k ≡ true)) (StmtText o o) (StmtText o o) AfterStmt (λ t z s. stmt_over n o o t z h s) (λ t i. let s = starts o t i.1 in (s.0, o, s.1, s.2, h)) (λ i. let e = i.1 in cc) in
     let none = exact_stop {n = n} {Q = IsInner} (λ k. ⊤ × (begins_stmt k ≡ false)) (StmtText o o) AfterStmt (nothing some_place) ((token mark.Semicolon some_place, o) ∷ []) (refl, tt) in
     let b = branch begins_stmt deep none (λ t z k s f. stmt_begins (λ i. begins_stmt i ≡ true) all_begin o o t z k s) (λ t z k s f. absurd s) in
-    rename b (StmtText o o) (λ t z s. elim s [ | inl k ↦ k | inr k ↦ absurd k ]) (λ t z s. inl s)
+    rename b (StmtText o o) (λ t z s. elim s [ inl k ↦ k | inr k ↦ absurd k ]) (λ t z s. inl s)
 
 exact_deep_block : (n o : ℕ) → n < o → Exact n IsInner (λ T. stop TooDeep T) AtBrace (BodyText false o o) (BodyText false o o) Free
 exact_deep_block n o h = exact_deep n IsInner AtBrace (BodyText false o o) (BodyText false o o) Free

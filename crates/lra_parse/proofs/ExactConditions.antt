@@ -490,11 +490,11 @@ exact_tests n zero l h =
     let deep : n < l + 1 = omega arith in
     let U = exact_unary n zero l h in (
       exact_test_form n l (unary_at zero) U (stop TooDeep) (stop TooDeep)
-      (exact_deep n IsInner (At (Some at_not)) (TestAt l (Some at_not)) (IsTest l) AfterTest (over_test n l at_not deep) (some_over_test n l at_not deep) (none_over at_not))
-      (exact_deep n IsInner (At (Some at_open)) (TestAt l (Some at_open)) (IsTest l) AfterTest (over_test n l at_open deep) (some_over_test n l at_open deep) (none_over at_open)),
+          (exact_deep n IsInner (At (Some at_not)) (TestAt l (Some at_not)) (IsTest l) AfterTest (over_test n l at_not deep) (some_over_test n l at_not deep) (none_over at_not))
+          (exact_deep n IsInner (At (Some at_open)) (TestAt l (Some at_open)) (IsTest l) AfterTest (over_test n l at_open deep) (some_over_test n l at_open deep) (none_over at_open)),
       exact_negation_form n l (unary_at zero) U (stop TooDeep) (stop TooDeep)
-      (exact_deep n IsInner (At (Some at_not)) (NegationAt l (Some at_not)) (IsNegation l) Free (over_negation n l at_not deep) (some_over_negation n l at_not deep) (none_over at_not))
-      (exact_deep n IsInner (At (Some at_open)) (NegationAt l (Some at_open)) (IsNegation l) Free (over_negation n l at_open deep) (some_over_negation n l at_open deep) (none_over at_open)),
+          (exact_deep n IsInner (At (Some at_not)) (NegationAt l (Some at_not)) (IsNegation l) Free (over_negation n l at_not deep) (some_over_negation n l at_not deep) (none_over at_not))
+          (exact_deep n IsInner (At (Some at_open)) (NegationAt l (Some at_open)) (IsNegation l) Free (over_negation n l at_open deep) (some_over_negation n l at_open deep) (none_over at_open)),
     )
 exact_tests n (suc d) l h =
     let low : l + 1 ≤ n = omega arith in
@@ -503,11 +503,11 @@ exact_tests n (suc d) l h =
     let G = exact_parens n (l + 1) (l + 1) (cond_of (test_at d)) low (exact_cond_of n (l + 1) (test_at d) inner.0) in
     let some : (a : NegationTree) × (x : Pieces) × IsNegation (l + 1) a x = (value_of_unary (variable some_name), _, refl) in (
       exact_test_form n l (unary_at (suc d)) U _ _
-      (entry (widen (exact_behind mark.Not (l + 1) low (mapped inner.1 opposite AfterTest (λ a o f. tt) (λ a o f. tt)) (opposite some.0, some.1, (some.0, refl, some.2))) (IsTest l) (λ b z s. to_test l (Some at_not) b z s)) (At (Some at_not)) (λ o i. tt))
-      (entry (widen (exact_grouped n l (unary_at (suc d)) U (cond_of (test_at d)) G) (IsTest l) (λ b z s. to_test l (Some at_open) b z s)) (At (Some at_open)) (λ o i. tt)),
+          (entry (widen (exact_behind mark.Not (l + 1) low (mapped inner.1 opposite AfterTest (λ a o f. tt) (λ a o f. tt)) (opposite some.0, some.1, (some.0, refl, some.2))) (IsTest l) (λ b z s. to_test l (Some at_not) b z s)) (At (Some at_not)) (λ o i. tt))
+          (entry (widen (exact_grouped n l (unary_at (suc d)) U (cond_of (test_at d)) G) (IsTest l) (λ b z s. to_test l (Some at_open) b z s)) (At (Some at_open)) (λ o i. tt)),
       exact_negation_form n l (unary_at (suc d)) U _ _
-      (entry (widen (exact_behind mark.Not (l + 1) low (mapped inner.1 opposite_again Free (λ a o f. tt) (λ a o f. tt)) (opposite_again some.0, some.1, (some.0, refl, some.2))) (IsNegation l) (λ b z s. to_negation l (Some at_not) b z s)) (At (Some at_not)) (λ o i. tt))
-      (entry (widen (mapped G negation_of Free (λ a o f. tt) (λ a o f. tt)) (IsNegation l) (λ b z s. to_negation l (Some at_open) b z s)) (At (Some at_open)) (λ o i. tt)),
+          (entry (widen (exact_behind mark.Not (l + 1) low (mapped inner.1 opposite_again Free (λ a o f. tt) (λ a o f. tt)) (opposite_again some.0, some.1, (some.0, refl, some.2))) (IsNegation l) (λ b z s. to_negation l (Some at_not) b z s)) (At (Some at_not)) (λ o i. tt))
+          (entry (widen (mapped G negation_of Free (λ a o f. tt) (λ a o f. tt)) (IsNegation l) (λ b z s. to_negation l (Some at_open) b z s)) (At (Some at_open)) (λ o i. tt)),
     )
 
 pub exact_cond : (n d l : ℕ) → d + l ≡ n → Exact n IsInner (cond_at d) Any (IsCond l) (IsCond l) AfterCond

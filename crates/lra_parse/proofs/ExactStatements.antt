@@ -55,7 +55,7 @@ exact_skip {n} {A} {p} {S = S} {F = F} m P some begins =
     (λ b z o s f. first_opened (λ i. is_mark m i ≡ true) m 0 s.0 s.1 z o s.2 s.3 (λ at. is_mark_self m (token m at) refl)) begins in
     let s = same_where t (λ T. p (skip m T)) (λ T i. skip_is m p T (is_mark m (first T)) refl) in
     rename s W
-    (λ b z s. elim s [ | inl k ↦ (k.0, k.1, k.2, inl k.3, k.4) | inr k ↦ ([], z, refl, inr refl, k) ])
+    (λ b z s. elim s [ inl k ↦ (k.0, k.1, k.2, inl k.3, k.4) | inr k ↦ ([], z, refl, inr refl, k) ])
     (λ b z s. skip_sides m S b z s)
 
 items_further : {A : Type 0} (S : A → Texts) (is : List A) (z : Pieces) → Items (λ a. opens mark.Comma 0 ⋅ S a) is z → further S is z
@@ -225,7 +225,7 @@ exact_assign_rest n d l h x =
     branch (is_mark mark.Assign) (entry (widen sets (RestText l x) (λ b z s. inl s)) (λ o. ⊤ × (is_mark mark.Assign o ≡ true)) (λ o i. tt))
     (widen b1 (RestText l x) (λ b z s. inr s))
     (λ b z o s f. first_opened (λ i. is_mark mark.Assign i ≡ true) mark.Assign 0 s.0 s.1 z o s.2 s.3 (λ at. refl))
-    (λ b z o s f. elim s [ | inl u ↦ update_no_set l x b z o u | inr u ↦ step_no_set x b z o u ])
+    (λ b z o s f. elim s [ inl u ↦ update_no_set l x b z o u | inr u ↦ step_no_set x b z o u ])
 
 abbrev BeforeText : ℕ → AssignTree → Texts
 BeforeText o b z = Both (StepText o) (λ s b. Of (before s.1 (step_view s.0)) (λ x. name x 0) b) b z

@@ -155,7 +155,6 @@ module _ {n : ℕ} {Q : Token → Type 0} {A K : Type 0} {p : Parse A} {E : Opti
 
 module _ {n : ℕ} {Q : Token → Type 0} {A K : Type 0} (key : Option Token → K) {sel : K → Parse A} {S : K → A → Pieces → Type 0} {W : A → Pieces → Type 0} {E : Option Token → Type 0} {F : A → Option Token → Type 0}
     (each : (k : K) → Exact n Q (sel k) (λ o. (key o ≡ k) × E o) (S k) W F) where
-
   pub choose : ((k : K) (a : A) (x : Pieces) (o : Option Token) → S k a x → (x ≡ [] → F a o) → key (first_or x o) ≡ k) → Exact n Q (λ T. sel (key (first T)) T) E (λ a x. (k : K) × S k a x) W F
   choose begins = record {
     ok = λ T a R i e. let l = (each (key (first T))).ok T a R (refl, i) e in (l.0, l.1, l.2, l.3, (key (first T), l.4), l.5);

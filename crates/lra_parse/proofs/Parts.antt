@@ -58,4 +58,3 @@ by_table mark_of ks h F f o e =
     let s = some_is (one_of ks o) e in
     let m = table_mark mark_of ks h o s.0 s.1 in
     subst F (sym m.1) (f s.0 m.0)
-

@@ -139,11 +139,7 @@ fn read_opposed(
 /// A condition in parentheses that open a level.
 #[cycle(condition)]
 #[tactic(auto, using(crate::proofs::Unfolded::closed_rules))]
-fn read_closed(
-    alloc: Global,
-    rest: &[Token],
-    depth: usize,
-) -> Result<(Cond, &[Token]), Stopped>
+fn read_closed(alloc: Global, rest: &[Token], depth: usize) -> Result<(Cond, &[Token]), Stopped>
     ensures shorter { IfOk result (λ r. length r.1.now ≤ length rest.now) }
     ensures gives { Gives (λ r. (cond_view r.0, r.1.now)) result (closed_at depth rest.now) }
 {
@@ -218,11 +214,7 @@ fn read_conjunction(
 
 /// A condition.
 #[cycle(condition)]
-pub fn read_cond(
-    alloc: Global,
-    rest: &[Token],
-    depth: usize,
-) -> Result<(Cond, &[Token]), Stopped>
+pub fn read_cond(alloc: Global, rest: &[Token], depth: usize) -> Result<(Cond, &[Token]), Stopped>
     ensures shorter { IfOk result (λ r. length r.1.now ≤ length rest.now) }
     ensures gives { Gives (λ r. (cond_view r.0, r.1.now)) result (cond_at depth rest.now) }
 {

@@ -55,11 +55,7 @@ fn read_input(rest: &[Token]) -> Result<(Unary, &[Token]), Stopped>
 /// A unary: a sign and a unary, a literal, a variable, `input()`, or an expression in parentheses.
 #[cycle(expression)]
 #[tactic(auto, using(crate::proofs::Unfolded::unary_is))]
-pub fn read_unary(
-    alloc: Global,
-    rest: &[Token],
-    depth: usize,
-) -> Result<(Unary, &[Token]), Stopped>
+pub fn read_unary(alloc: Global, rest: &[Token], depth: usize) -> Result<(Unary, &[Token]), Stopped>
     ensures shorter { IfOk result (λ r. length r.1.now ≤ length rest.now) }
     ensures gives { Gives (λ r. (unary_view r.0, r.1.now)) result (unary_at depth rest.now) }
 {
@@ -84,11 +80,7 @@ pub fn read_unary(
 
 #[cycle(expression)]
 #[tactic(auto, using(crate::proofs::Unfolded::negated_rules))]
-fn read_negated(
-    alloc: Global,
-    rest: &[Token],
-    depth: usize,
-) -> Result<(Unary, &[Token]), Stopped>
+fn read_negated(alloc: Global, rest: &[Token], depth: usize) -> Result<(Unary, &[Token]), Stopped>
     ensures shorter { IfOk result (λ r. length r.1.now ≤ length rest.now) }
     ensures gives { Gives (λ r. (unary_view r.0, r.1.now)) result (negated_at depth rest.now) }
 {
@@ -102,11 +94,7 @@ fn read_negated(
 
 #[cycle(expression)]
 #[tactic(auto, using(crate::proofs::Unfolded::positive_rules))]
-fn read_positive(
-    alloc: Global,
-    rest: &[Token],
-    depth: usize,
-) -> Result<(Unary, &[Token]), Stopped>
+fn read_positive(alloc: Global, rest: &[Token], depth: usize) -> Result<(Unary, &[Token]), Stopped>
     ensures shorter { IfOk result (λ r. length r.1.now ≤ length rest.now) }
     ensures gives { Gives (λ r. (unary_view r.0, r.1.now)) result (positive_at depth rest.now) }
 {
@@ -120,11 +108,7 @@ fn read_positive(
 
 #[cycle(expression)]
 #[tactic(auto, using(crate::proofs::Unfolded::grouped_rules))]
-fn read_group(
-    alloc: Global,
-    rest: &[Token],
-    depth: usize,
-) -> Result<(Unary, &[Token]), Stopped>
+fn read_group(alloc: Global, rest: &[Token], depth: usize) -> Result<(Unary, &[Token]), Stopped>
     ensures shorter { IfOk result (λ r. length r.1.now ≤ length rest.now) }
     ensures gives { Gives (λ r. (unary_view r.0, r.1.now)) result (grouped_at depth rest.now) }
 {
@@ -202,11 +186,7 @@ pub fn read_summands(
 
 /// An expression.
 #[cycle(expression)]
-pub fn read_expr(
-    alloc: Global,
-    rest: &[Token],
-    depth: usize,
-) -> Result<(Expr, &[Token]), Stopped>
+pub fn read_expr(alloc: Global, rest: &[Token], depth: usize) -> Result<(Expr, &[Token]), Stopped>
     ensures shorter { IfOk result (λ r. length r.1.now ≤ length rest.now) }
     ensures gives { Gives (λ r. (expr_view r.0, r.1.now)) result (expr_at depth rest.now) }
 {

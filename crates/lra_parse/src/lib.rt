@@ -16,5 +16,4 @@ mod reading;
 pub fn one_tree()
     ensures tree { OneTree Built }
     ensures fault { OneTextFault Built }
-{
-}
+{}

@@ -12,7 +12,7 @@ invariant-declarators l = record {
   room : length l.left ≤ length l.fn.rest;
   same : (n : ℕ) × (length l.left ≤ n)
       × (loop (is_mark mark.Comma) (list_step (behind mark.Comma (declarator_at l.fn.depth))) n (map declarator_view l.declarators.items) l.left
-        ≡ list_of (is_mark mark.Comma) (behind mark.Comma (declarator_at l.fn.depth)) l.initial.left);
+      ≡ list_of (is_mark mark.Comma) (behind mark.Comma (declarator_at l.fn.depth)) l.initial.left);
 }
 
 abbrev pub decreases-declarators : goal.decreases-declarators

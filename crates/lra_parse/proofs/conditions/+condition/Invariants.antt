@@ -28,7 +28,7 @@ invariant-read_conjunction-tests l = record {
   room : length l.left ≤ length l.fn.rest;
   same : (n : ℕ) × (length l.left ≤ n)
       × (loop (λ o. has (next_and o)) (chain_step next_and (λ c k t. and c t) (test_at l.fn.depth)) n (all_tests (test (test_view l.first)) (map test_view l.tests.items)) l.left
-        ≡ conjunction_at l.fn.depth l.fn.rest);
+      ≡ conjunction_at l.fn.depth l.fn.rest);
 }
 
 abbrev pub decreases-read_conjunction-tests : goal.decreases-read_conjunction-tests
@@ -39,7 +39,7 @@ invariant-read_cond-conjunctions l = record {
   room : length l.left ≤ length l.fn.rest;
   same : (n : ℕ) × (length l.left ≤ n)
       × (loop (λ o. has (next_or o)) (chain_step next_or (λ c k d. or c d) (conjunction_at l.fn.depth)) n (any_conjunction (conjunction (conjunction_view l.first)) (map conjunction_view l.conjunctions.items)) l.left
-        ≡ cond_at l.fn.depth l.fn.rest);
+      ≡ cond_at l.fn.depth l.fn.rest);
 }
 
 abbrev pub decreases-read_cond-conjunctions : goal.decreases-read_cond-conjunctions

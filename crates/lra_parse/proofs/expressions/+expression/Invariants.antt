@@ -35,7 +35,7 @@ invariant-read_factors-factors l = record {
   kept : l.first ≡ l.fn.first;
   same : (n : ℕ) × (length l.left ≤ n)
       × (loop (λ o. has (factor_operator o)) (chain_step factor_operator further_factor (unary_at l.fn.depth)) n (product (unary (unary_view l.fn.first)) (map factor_view l.factors.items)) l.left
-        ≡ factors (unary_at l.fn.depth) (unary (unary_view l.fn.first)) l.fn.rest);
+      ≡ factors (unary_at l.fn.depth) (unary (unary_view l.fn.first)) l.fn.rest);
 }
 
 abbrev pub decreases-read_factors-factors : goal.decreases-read_factors-factors
@@ -46,7 +46,7 @@ invariant-read_summands-summands l = record {
   room : length l.left ≤ length l.fn.rest;
   same : (n : ℕ) × (length l.left ≤ n)
       × (loop (λ o. has (sum_operator o)) (chain_step sum_operator further_term (term_of (unary_at l.fn.depth))) n (sum_of (term (term_view l.first)) (map summand_view l.summands.items)) l.left
-        ≡ summands (unary_at l.fn.depth) (term (term_view l.first)) l.fn.rest);
+      ≡ summands (unary_at l.fn.depth) (term (term_view l.first)) l.fn.rest);
 }
 
 abbrev pub decreases-read_summands-summands : goal.decreases-read_summands-summands
