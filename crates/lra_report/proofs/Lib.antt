@@ -1,10 +1,16 @@
 pub mod CanonicalLists
+pub mod DeclaredNames
+pub mod Every
 pub mod Fronts
 pub mod GeneratorTexts
 pub mod Lists
+pub mod LiveWords
 pub mod NameTexts
 pub mod Numbers
 pub mod OneText
 pub mod RowTexts
+pub mod SitePaths
+pub mod SourceTexts
 mod SpelledExamples
 pub mod StateTexts
+pub mod TokenWords

@@ -8,10 +8,13 @@ use Rattle.lra_tree.specs.Trees.{FileTree}
 use Rattle.lra_tree.specs.Labels.{labels_of}
 use Rattle.lra_tree.specs.Resolve.{resolve}
 use Rattle.lra_tree.specs.Sites.{sites_of}
-use Rattle.lra_tree.specs.Report.{RowKind, equality, inequality, Row, GeneratorKind, point, ray, line, Generator, Part, PointReport, Report}
+use Rattle.lra_tree.specs.Grammar.{Spells}
+use Rattle.lra_tree.specs.Faults.{Language}
+use Rattle.lra_tree.specs.Refuse.{Accepts}
+use Rattle.lra_tree.specs.Report.{RowKind, equality, inequality, Row, GeneratorKind, point, ray, line, Generator, Part, Options, PointReport, Report}
 use Rattle.lra_tree.specs.ReportText.{is_turned, report_text}
 use Rattle.lra_tree.specs.Parts.{DividesAs}
-use Rattle.lra_tree.specs.Listing.{Lists, HasWidth, live_names, globals_named}
+use Rattle.lra_tree.specs.Listing.{Lists, HasWidth, live_names, globals_named, IsReportOf}
 
 -- the first coefficient of an equality that isn't 0 is above 0
 abbrev pub IsDirected : RowKind → List ℤ → Type 0
@@ -66,3 +69,15 @@ HasWords t = AllByRecursion (λ s. AreWords (live_names (globals_named t.parts) 
 -- one text, one report: two reports of one program under one list of options that have the same text are the same
 abbrev pub OneText : Report → Report → Type 0
 OneText r s = (t : FileTree) → HasWords t → Lists t r → Lists t s → r.options ≡ s.options → IsReadable r → IsReadable s → report_text r ≡ report_text s → r ≡ s
+
+-- the same of the tree of an accepted source, whose variables are named by words
+abbrev pub OneAcceptedText : Report → Report → Type 0
+OneAcceptedText r s = (source : List ℕ) (t : FileTree) → Accepts Spells source t → Lists t r → Lists t s → r.options ≡ s.options → IsReadable r → IsReadable s → report_text r ≡ report_text s → r ≡ s
+
+-- the source is accepted with one tree at most
+abbrev pub HasOneTree : Language → List ℕ → Type 0
+HasOneTree L source = (t u : FileTree) → Accepts L source t → Accepts L source u → t ≡ u
+
+-- two reports of one source of the language L under one list of options that have the same text are the same
+abbrev pub OneSourceText : Language → Report → Report → Type 0
+OneSourceText L r s = (o : Options) (source : List ℕ) → HasOneTree L source → IsReportOf L o source r → IsReportOf L o source s → IsReadable r → IsReadable s → report_text r ≡ report_text s → r ≡ s

@@ -1,12 +1,18 @@
 //! One text, one report.
 
-ghost use Rattle.lra_report.specs.Spelled.{OneText};
+ghost use Rattle.lra_tree.specs.Grammar.{Spells};
+ghost use Rattle.lra_tree.specs.Built.{Built};
+ghost use Rattle.lra_report.specs.Spelled.{OneText, OneAcceptedText, OneSourceText};
 ghost use Rattle.lra_report.specs.View.{report_of};
 
 use crate::report::Report;
 
 /// Two reports of one program under one list of options that have the same text are the same report: they have the same rows,
-/// generators, verdicts and flag. Their lists are those of canonical descriptions, and their names can be told apart.
+/// generators, verdicts and flag. Their lists are those of canonical descriptions, and their names can be told apart: in each
+/// accepted source they can.
 pub fn one_text(first: &Report, second: &Report)
-    ensures { OneText (report_of first.now) (report_of second.now) }
+    ensures program { OneText (report_of first.now) (report_of second.now) }
+    ensures accepted { OneAcceptedText (report_of first.now) (report_of second.now) }
+    ensures source { OneSourceText Spells (report_of first.now) (report_of second.now) }
+    ensures taken { OneSourceText Built (report_of first.now) (report_of second.now) }
 {}

@@ -1,0 +1,72 @@
+-- No point of a program has a path of more calls than the greatest number.
+use Rattle.std.proofs.Common.{ℕ, zero, suc, ◌+◌, ◌≤◌, List, [], ◌∷◌, length, arith, Option, Some, None, slice_get}
+use Rattle.std.specs.Prelude.{⊤}
+use Rattle.std.specs.List.{AllByRecursion}
+use Rattle.lra_tree.specs.Program.{Call, Source, value, result, Stmt, absent, nothing, block, assign, call, if, loop, for, break, continue, return, assert, assume, BlockItems, no_more, declaration, statement, Function, Program}
+use Rattle.lra_tree.specs.Sites.{Site, Event, comes, one_call_more, greatest_calls, plain_site, live_behind, with_init, source_events, given_events, stmt_events, items_events, function_events, call_events, events_of, sites_in, sites_of}
+use Rattle.lra_report.proofs.Every.{every_append}
+
+abbrev IsShallow : Event → Type 0
+IsShallow (comes s) = length s.path ≤ greatest_calls
+IsShallow (one_call_more at) = ⊤
+
+with_init_shallow : (init es : List Event) → AllByRecursion IsShallow init → AllByRecursion IsShallow es → AllByRecursion IsShallow (with_init init es)
+with_init_shallow init [] h k = h
+with_init_shallow init (e ∷ es) h k = (k.0, every_append IsShallow init es h k.1)
+
+-- where the calls inside are so
+module _ (inside : List ℕ → ℕ → Call → List Event) (path : List ℕ) (here : length path ≤ greatest_calls) (deeper : (live : ℕ) (c : Call) → AllByRecursion IsShallow (inside path live c)) where
+  source_shallow : (live : ℕ) (e : Source) → AllByRecursion IsShallow (source_events inside path live e)
+  source_shallow live (value e) = tt
+  source_shallow live (result c) = deeper live c
+
+  given_shallow : (live : ℕ) (e : Option Source) → AllByRecursion IsShallow (given_events inside path live e)
+  given_shallow live None = tt
+  given_shallow live (Some e) = source_shallow live e
+
+  mutual
+    stmt_shallow : (live : ℕ) (t : Stmt) → AllByRecursion IsShallow (stmt_events inside path live t)
+    stmt_shallow live absent = tt
+    stmt_shallow live (nothing at) = (here, tt)
+    stmt_shallow live (block items end) =
+        every_append IsShallow (items_events inside path live items) (plain_site path end (live_behind live items) ∷ []) (items_shallow live items) (here, tt)
+    stmt_shallow live (assign at x e) = (here, source_shallow live e)
+    stmt_shallow live (call at c) = (here, deeper live c)
+    stmt_shallow live (if at c a b) = (here, every_append IsShallow (stmt_events inside path live a) (stmt_events inside path live b) (stmt_shallow live a) (stmt_shallow live b))
+    stmt_shallow live (loop at c a step) = (here, every_append IsShallow (stmt_events inside path live step) (stmt_events inside path live a) (stmt_shallow live step) (stmt_shallow live a))
+    stmt_shallow live (for init again) =
+        with_init_shallow (items_events inside path live init) (stmt_events inside path (live_behind live init) again) (items_shallow live init) (stmt_shallow (live_behind live init) again)
+    stmt_shallow live (break at) = (here, tt)
+    stmt_shallow live (continue at) = (here, tt)
+    stmt_shallow live (return at e) = (here, given_shallow live e)
+    stmt_shallow live (assert at c) = (here, tt)
+    stmt_shallow live (assume at c) = (here, tt)
+
+    items_shallow : (live : ℕ) (items : BlockItems) → AllByRecursion IsShallow (items_events inside path live items)
+    items_shallow live no_more = tt
+    items_shallow live (declaration d items) =
+        (here, every_append IsShallow (given_events inside path (suc live) d.source) (items_events inside path (suc live) items) (given_shallow (suc live) d.source) (items_shallow (suc live) items))
+    items_shallow live (statement t items) =
+        every_append IsShallow (stmt_events inside path live t) (items_events inside path live items) (stmt_shallow live t) (items_shallow live items)
+
+  function_shallow : (live : ℕ) (f : Option Function) → AllByRecursion IsShallow (function_events inside path live f)
+  function_shallow live None = tt
+  function_shallow live (Some f) =
+      every_append IsShallow (items_events inside path (live + f.parameters) f.body) (plain_site path f.end (live_behind (live + f.parameters) f.body) ∷ [])
+      (items_shallow (live + f.parameters) f.body) (here, tt)
+
+call_shallow : (P : Program) (more : ℕ) (path : List ℕ) (live : ℕ) (c : Call) → length path + more ≤ greatest_calls → AllByRecursion IsShallow (call_events P more path live c)
+call_shallow P zero path live c h = (tt, tt)
+call_shallow P (suc more) path live c h =
+    function_shallow (call_events P more) (c.label ∷ path) (omega (arith, h)) (λ n d. call_shallow P more (c.label ∷ path) n d (omega (arith, h))) live (slice_get P.functions c.function)
+
+events_shallow : (P : Program) → AllByRecursion IsShallow (events_of P)
+events_shallow P = function_shallow (call_events P greatest_calls) [] (omega arith) (λ n d. call_shallow P greatest_calls [] n d (omega arith)) (length P.globals) (Some P.main)
+
+shallow_sites : (es : List Event) → AllByRecursion IsShallow es → AllByRecursion (λ (s : Site). length s.path ≤ greatest_calls) (sites_in es)
+shallow_sites [] h = tt
+shallow_sites (comes s ∷ es) h = (h.0, shallow_sites es h.1)
+shallow_sites (one_call_more at ∷ es) h = shallow_sites es h.1
+
+pub sites_shallow : (P : Program) → AllByRecursion (λ (s : Site). length s.path ≤ greatest_calls) (sites_of P)
+sites_shallow P = shallow_sites (events_of P) (events_shallow P)

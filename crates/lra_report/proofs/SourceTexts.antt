@@ -1,0 +1,20 @@
+-- Reports of one accepted source are told by their texts.
+use Rattle.std.proofs.Common.{sym, ◌∙◌, subst}
+use Rattle.lra_tree.specs.Texts.{Pieces}
+use Rattle.lra_tree.specs.Trees.{FileTree}
+use Rattle.lra_tree.specs.Grammar.{Spells}
+use Rattle.lra_tree.specs.Faults.{Language}
+use Rattle.lra_tree.specs.Report.{Report}
+use Rattle.lra_tree.specs.Listing.{Lists}
+use Rattle.lra_report.specs.Spelled.{OneAcceptedText, OneSourceText}
+use Rattle.lra_report.proofs.OneText.{one_report}
+use Rattle.lra_report.proofs.LiveWords.{accepted_words}
+
+pub one_accepted : (r s : Report) → OneAcceptedText r s
+one_accepted r s source t a = one_report r s t (accepted_words Spells (λ u z h. h) source t a)
+
+-- of a language whose texts are texts of the grammar
+pub one_source : (L : Language) → ((t : FileTree) (z : Pieces) → L t z → Spells t z) → (r s : Report) → OneSourceText L r s
+one_source L spelled r s o source one a b readable_r readable_s e =
+    one_report r s a.tree (accepted_words L spelled source a.tree a.accepted) a.lists (subst (λ t. Lists t s) (one b.tree a.tree b.accepted a.accepted) b.lists) (a.options ∙ sym b.options)
+    readable_r readable_s e
