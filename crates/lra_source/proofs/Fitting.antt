@@ -1,0 +1,326 @@
+-- The tree of a well-formed program whose points have few variables fits the iteration.
+use Rattle.std.proofs.Common.{◌≡◌, ◌≢◌, ℕ, zero, suc, ◌+◌, ◌-◌, ◌^◌, ◌≤◌, ◌<◌, List, [], ◌∷◌, length, Option, Some, None, Bool, true, false, inl, inr, refl, sym, ap, ◌∙◌, subst, arith}
+use Rattle.std.specs.Prelude.{slice_get}
+use Rattle.std.specs.List.{AllByRecursion, Contains}
+use Rattle.std.proofs.lemmas.Option.{none-some, same_Some}
+use Rattle.lra_linear.proofs.Membership.{contains_none, contains_cases}
+use Rattle.lra_tree.specs.Program.{Slot, global, local, Expr, Cond, Source, Stmt, BlockItems, Program}
+use Rattle.lra_tree.specs.Value.{index_of}
+use Rattle.lra_tree.specs.Step.{Op, append, give, give_any, push, keep, test, Back}
+use Rattle.lra_tree.specs.Graph.{Exit, broken, continued, returned, Node, empty, point, act, check, seq, choose, catch, leave}
+use Rattle.lra_tree.specs.Sites.{Site, sites_of}
+use Rattle.lra_tree.specs.Sites as sites
+use Rattle.lra_tree.specs.Inlined.{Frame, callee, Inl, InlAll, Declares, Loops, Gives, as_nothing, as_block, as_absent, as_assign, as_call, as_if, as_loop, as_for, as_break, as_continue, as_return, as_return_value, as_return_call, as_end, as_end_value, as_end_call, as_assert, as_assume, as_none, as_declaration, as_statement, as_fresh, as_given, is_loop, as_value, as_result, loop_node, call_node, return_node, main_frame}
+use Rattle.lra_tree.specs.Agree.{IsGraph}
+use Rattle.lra_tree.specs.WellFormed.{IsLive, IsGoodSource, IsGoodGiven, IsGoodStmt, AreGoodItems, IsGoodFunction, IsWellFormed}
+use Rattle.lra_iter.specs.Changes.{dims_behind, PlaceFits, OpFits}
+use Rattle.lra_iter.specs.Fits.{live_behind, JumpsWith, TreeFits}
+
+-- how many live where a jump leads
+abbrev JumpFits : Frame → Exit → ℕ → Type 0
+JumpFits f broken m = f.loop ≡ Some m
+JumpFits f continued m = f.loop ≡ Some m
+JumpFits f returned m = (b : Back) → f.back ≡ Some b → m ≡ b.length
+
+-- begun with n variables the tree fits, and ends with n' of them
+pub record Fit (f : Frame) (n n' : ℕ) (g : Node) : Type 0 where
+  pub fits : TreeFits g n
+  pub behind : live_behind g n ≡ n'
+  pub jumps : (k : Exit) (m : ℕ) → JumpsWith g n k m → JumpFits f k m
+
+-- at most this many live anywhere
+abbrev pub Few : ℕ → Type 0
+Few n = n ≤ 24
+
+few_is_small : (n : ℕ) → Few n → n ≤ 2 ^ 30
+few_is_small n h = omega (arith, h)
+
+few_more : (n : ℕ) → Few (suc n) → n < 2 ^ 30
+few_more n h = omega (arith, h)
+
+abbrev pub AllFew : List Site → Type 0
+AllFew T = (q : ℕ) (s : Site) → slice_get T q ≡ Some s → Few s.live
+
+fit_at : (f : Frame) (n n1 n2 : ℕ) (g : Node) → n ≡ n1 → Fit f n n2 g → Fit f n1 n2 g
+fit_at f n n1 n2 g e x = subst (λ (m : ℕ). Fit f m n2 g) e x
+
+empty_fit : {f : Frame} {n : ℕ} → Fit f n n empty
+empty_fit = record { fits = tt; behind = refl; jumps = λ k m j. absurd j }
+
+point_fit : {f : Frame} {n : ℕ} (q : ℕ) → Fit f n n (point q)
+point_fit q = record { fits = tt; behind = refl; jumps = λ k m j. absurd j }
+
+act_fit : {f : Frame} {n n' : ℕ} (q : ℕ) (op : Op) → OpFits op n → dims_behind op n ≡ n' → Fit f n n' (act q op)
+act_fit q op fits is = record { fits = fits; behind = is; jumps = λ k m j. absurd j }
+
+check_fit : {f : Frame} {n : ℕ} (q base : ℕ) (c : Cond) → Fit f n n (check q base c)
+check_fit q base c = record { fits = tt; behind = refl; jumps = λ k m j. absurd j }
+
+seq_fit : {f : Frame} {n n1 n2 : ℕ} (a b : Node) → Few n1 → Fit f n n1 a → Fit f n1 n2 b → Fit f n n2 (seq a b)
+seq_fit {f = f} {n = n} {n1 = n1} {n2 = n2} a b few x y =
+    let z = fit_at f n1 (live_behind a n) n2 b (sym x.behind) y in
+    record {
+      fits = (x.fits, subst (λ (m : ℕ). m ≤ 2 ^ 30) (sym x.behind) (few_is_small n1 few), z.fits);
+      behind = z.behind;
+      jumps = λ k m j. elim j [ inl l ↦ x.jumps k m l | inr r ↦ z.jumps k m r ];
+    }
+
+keep_is : (n m : ℕ) → m ≤ n → n - (n - m) ≡ m
+keep_is n m h = omega arith
+
+keep_fit : {f : Frame} {n : ℕ} (q m : ℕ) → m ≤ n → Fit f n m (act q (keep m))
+keep_fit {n = n} q m h = act_fit q (keep m) tt (keep_is n m h)
+
+append_fit : {f : Frame} {n : ℕ} (q : ℕ) → Few (suc n) → Fit f n (suc n) (act q append)
+append_fit {n = n} q few = act_fit q append (few_more n few) refl
+
+give_fit : {f : Frame} {n : ℕ} (q base : ℕ) (x : Option ℕ) (e : Expr) → PlaceFits x n → Fit f n n (act q (give base x e))
+give_fit q base x e h = act_fit q (give base x e) h refl
+
+any_fit : {f : Frame} {n : ℕ} (q : ℕ) (x : Option ℕ) → PlaceFits x n → Fit f n n (act q (give_any x))
+any_fit q x h = act_fit q (give_any x) h refl
+
+test_fit : {f : Frame} {n : ℕ} (q base : ℕ) (c : Cond) (b : Bool) → Fit f n n (act q (test base c b))
+test_fit q base c b = act_fit q (test base c b) tt refl
+
+place_more : (x : Option ℕ) (n m : ℕ) → n ≤ m → PlaceFits x n → PlaceFits x m
+place_more None n m h p = tt
+place_more (Some x) n m h p = omega arith
+
+break_jump : (f : Frame) (m : ℕ) → f.loop ≡ Some m → (k : Exit) (m' : ℕ) → (k ≡ broken) × (m' ≡ m) → JumpFits f k m'
+break_jump f m i broken m' j = rw j.1 i
+break_jump f m i continued m' j = rw j.1 i
+break_jump f m i returned m' j = let wrong : ⊥ = returned_broken j.0 in absurd wrong
+  where
+    returned_broken : returned ≡ broken → ⊥
+    returned_broken e = cc
+
+continue_jump : (f : Frame) (m : ℕ) → f.loop ≡ Some m → (k : Exit) (m' : ℕ) → (k ≡ continued) × (m' ≡ m) → JumpFits f k m'
+continue_jump f m i broken m' j = rw j.1 i
+continue_jump f m i continued m' j = rw j.1 i
+continue_jump f m i returned m' j = let wrong : ⊥ = returned_continued j.0 in absurd wrong
+  where
+    returned_continued : returned ≡ continued → ⊥
+    returned_continued e = cc
+
+broken_returned : broken ≡ returned → ⊥
+broken_returned e = cc
+
+continued_returned : continued ≡ returned → ⊥
+continued_returned e = cc
+
+back_jump : (f : Frame) (m : ℕ) → ((b : Back) → f.back ≡ Some b → m ≡ b.length) → (k : Exit) (m' : ℕ) → (k ≡ returned) × (m' ≡ m) → JumpFits f k m'
+back_jump f m i broken m' j = absurd (broken_returned j.0)
+back_jump f m i continued m' j = absurd (continued_returned j.0)
+back_jump f m i returned m' j = λ b e. j.1 ∙ i b e
+
+break_fit : {f : Frame} {m n : ℕ} → Few n → f.loop ≡ Some m → Fit f m n (leave n broken)
+break_fit {f = f} {m = m} {n = n} few i = record { fits = few_is_small n few; behind = refl; jumps = break_jump f m i }
+
+continue_fit : {f : Frame} {m n : ℕ} → Few n → f.loop ≡ Some m → Fit f m n (leave n continued)
+continue_fit {f = f} {m = m} {n = n} few i = record { fits = few_is_small n few; behind = refl; jumps = continue_jump f m i }
+
+return_fit : {f : Frame} {n : ℕ} (b : Back) → Few n → f.back ≡ Some b → Fit f b.length n (leave n returned)
+return_fit {f = f} {n = n} b few i = record {
+  fits = few_is_small n few;
+  behind = refl;
+  jumps = back_jump f b.length (λ c e. ap (λ (x : Back). x.length) (same_Some b c (sym i ∙ e)));
+}
+
+end_fit : {f : Frame} {m n : ℕ} → Few n → f.back ≡ None → Fit f m n (leave n returned)
+end_fit {f = f} {m = m} {n = n} few i = record {
+  fits = few_is_small n few;
+  behind = refl;
+  jumps = back_jump f m (λ c e. absurd (none-some c (sym i ∙ e)));
+}
+
+return_node_fit : {f : Frame} {n : ℕ} (q : ℕ) (op : Op) (b : Back) → f.back ≡ Some b → b.length ≤ n → Few n → Fit f n n (act q op) → Fit f n n (return_node q op b.length n)
+return_node_fit {n = n} q op b i low few a = seq_fit _ _ few a (seq_fit _ _ (omega arith) (keep_fit q b.length low) (return_fit b few i))
+
+choose_fit : {f : Frame} {n : ℕ} (q base : ℕ) (c : Cond) (a b : Node) → Fit f n n a → Fit f n n b → Fit f n n (choose q base c a b)
+choose_fit q base c a b x y = record {
+  fits = (x.fits, y.fits, y.behind ∙ sym x.behind);
+  behind = x.behind;
+  jumps = λ k m j. elim j [ inl l ↦ x.jumps k m l | inr r ↦ y.jumps k m r ];
+}
+
+abbrev in_loop : Frame → Option ℕ → Frame
+in_loop f l = record f { loop = l }
+
+-- of a loop that begins with n variables, its body g and its step
+module _ (f : Frame) (n : ℕ) (g step : Node) (few : Few n) (x : Fit (in_loop f (Some n)) n n g) (y : Fit (in_loop f None) n n step) where
+  step_at : Fit (in_loop f None) (live_behind g n) n step
+  step_at = fit_at (in_loop f None) n (live_behind g n) n step (sym x.behind) y
+
+  body_continues : (m : ℕ) → JumpsWith g n continued m → m ≡ live_behind g n
+  body_continues m j = sym (same_Some n m (x.jumps continued m j)) ∙ sym x.behind
+
+  body_breaks : (q : ℕ) (m : ℕ) → JumpsWith (seq (catch q continued g) step) n broken m → m ≡ n
+  body_breaks q m (inl (d, j)) = sym (same_Some n m (x.jumps broken m j))
+  body_breaks q m (inr j) = absurd (none-some m (step_at.jumps broken m j))
+
+  outer_jump : (q : ℕ) (k : Exit) (m : ℕ) → k ≢ broken → JumpsWith (seq (catch q continued g) step) n k m → JumpFits f k m
+  outer_jump q broken m d j = absurd (d refl)
+  outer_jump q continued m d (inl (e, j)) = absurd (e refl)
+  outer_jump q continued m d (inr j) = absurd (none-some m (step_at.jumps continued m j))
+  outer_jump q returned m d (inl (e, j)) = x.jumps returned m j
+  outer_jump q returned m d (inr j) = step_at.jumps returned m j
+
+  loop_fit : (q base : ℕ) (c : Cond) → Fit f n n (loop_node q base c g step)
+  loop_fit q base c = record {
+    fits = ((((x.fits, body_continues), subst (λ (m : ℕ). m ≤ 2 ^ 30) (sym x.behind) (few_is_small n few), step_at.fits), step_at.behind), body_breaks q);
+    behind = refl;
+    jumps = λ k m j. outer_jump q k m j.0 j.1;
+  }
+
+-- of a call whose body is g
+module _ (f : Frame) (n r : ℕ) (x : Option ℕ) (es : List Expr) (params : ℕ) (g : Node) (f' : Frame) (n' : ℕ) (i : length es ≡ params) (no_loop : f'.loop ≡ None)
+    (j : f'.back ≡ Some (record { target = x; here = f.here; length = n })) (low : n + params ≤ n') (few : Few n') (place : PlaceFits x n) (y : Fit f' (n + params) n' g) where
+  abbrev inner : Node
+  inner = seq g (seq (point r) (seq (act r (keep (n + params))) (seq (act r (give_any x)) (act r (keep n)))))
+
+  inner_fit : Fit f' (n + params) n inner
+  inner_fit =
+      seq_fit _ _ few y (seq_fit _ _ few (point_fit r) (seq_fit _ _ (omega arith) (keep_fit r (n + params) low)
+      (seq_fit _ _ (omega arith) (any_fit r x (place_more x n (n + params) (omega arith) place)) (keep_fit r n (omega arith)))))
+
+  caught_jump : (k : Exit) (m : ℕ) → k ≢ returned → JumpFits f' k m → JumpFits f k m
+  caught_jump broken m d z = absurd (none-some m (sym no_loop ∙ z))
+  caught_jump continued m d z = absurd (none-some m (sym no_loop ∙ z))
+  caught_jump returned m d z = absurd (d refl)
+
+  catch_fit : (q : ℕ) → Fit f (n + params) n (catch q returned inner)
+  catch_fit q = record {
+    fits = (inner_fit.fits, λ m z. inner_fit.jumps returned m z _ j ∙ sym inner_fit.behind);
+    behind = inner_fit.behind;
+    jumps = λ k m z. caught_jump k m z.0 (inner_fit.jumps k m z.1);
+  }
+
+  few_params : Few (n + params)
+  few_params = omega arith
+
+  push_fits : n + length es ≤ 2 ^ 30
+  push_fits = rw i (few_is_small (n + params) few_params)
+
+  call_fit : (q : ℕ) → Fit f n n (call_node q r f.here.base n x es params g)
+  call_fit q = seq_fit _ _ few_params (act_fit q (push f.here.base es) push_fits (ap (λ (k : ℕ). n + k) i)) (catch_fit q)
+
+all_at : {A : Type 0} (P : A → Type 0) (xs : List A) (k : ℕ) (x : A) → AllByRecursion P xs → slice_get xs k ≡ Some x → P x
+all_at P [] k x h e = absurd (none-some x e)
+all_at P (y ∷ xs) zero x h e = subst P (same_Some y x e) h.0
+all_at P (y ∷ xs) (suc k) x h e = all_at P xs k x h.1 e
+
+-- where a part of a well-formed program stands, its variables live
+pub record Standing (P : Program) (f : Frame) (n own : ℕ) : Type 0 where
+  pub globals : length P.globals ≤ n
+  pub within : f.here.base + own ≤ n
+  pub target : (b : Back) → f.back ≡ Some b → PlaceFits b.target b.length
+
+place_of : (P : Program) (f : Frame) (n own : ℕ) (x : Slot) → Standing P f n own → IsLive P own x → PlaceFits (Some (index_of f.here.base x)) n
+place_of P f n own (global k) st live = let g = st.globals in omega arith
+place_of P f n own (local k) st live = let w = st.within in omega arith
+
+one_more : (P : Program) (f : Frame) (n own : ℕ) → Standing P f n own → Standing P f (suc n) (suc own)
+one_more P f n own st = record { globals = (let g = st.globals in omega arith); within = (let w = st.within in omega arith); target = st.target }
+
+other_loop : (P : Program) (f : Frame) (n own : ℕ) (l : Option ℕ) → Standing P f n own → Standing P (in_loop f l) n own
+other_loop P f n own l st = record { globals = st.globals; within = st.within; target = st.target }
+
+low_all : {P : Program} {T : List Site} {f : Frame} {n q : ℕ} {s : BlockItems} {g : Node} {n' q' : ℕ} → InlAll P T f n q s g n' q' → n ≤ n'
+low_all (as_none f n q) = omega arith
+low_all (as_declaration f n q d b g h r n' q' i j e) = let rest = low_all e in omega arith
+low_all (as_statement f n q a b g h r n' q' d e) = low_all e
+
+own_low : {P : Program} {T : List Site} {f : Frame} {n q : ℕ} {s : BlockItems} {g : Node} {n' q' : ℕ} (base own : ℕ) → InlAll P T f n q s g n' q' → base + own ≤ n → base + sites.live_behind own s ≤ n'
+own_low base own (as_none f n q) w = w
+own_low base own (as_declaration f n q d b g h r n' q' i j e) w = own_low base (suc own) e (omega arith)
+own_low base own (as_statement f n q a b g h r n' q' d e) w = own_low base own e w
+
+module _ (P : Program) (T : List Site) (few : AllFew T) (well : IsWellFormed P) where
+  loop_few : {f : Frame} {n q r : ℕ} {s : Stmt} {g : Node} {q' : ℕ} → Loops P T f n q r s g q' → Few n
+  loop_few (is_loop f n q r at c a step g h r' q' i d e) = few q _ i
+
+  behind_init : (f : Frame) (n n' own : ℕ) (items : BlockItems) → Standing P f n own → n ≤ n' → f.here.base + sites.live_behind own items ≤ n' → Standing P f n' (sites.live_behind own items)
+  behind_init f n n' own items st low w = record { globals = (let g = st.globals in omega arith); within = w; target = st.target }
+
+  in_callee : (f : Frame) (n own params : ℕ) (x : Option ℕ) (f' : Frame) → Standing P f n own → PlaceFits x n → f'.here.base ≡ n → f'.back ≡ Some (record { target = x; here = f.here; length = n })
+      → Standing P f' (n + params) params
+  in_callee f n own params x f' st place base back = record {
+    globals = (let g = st.globals in omega arith);
+    within = omega (arith, base);
+    target = λ b e. subst (λ (c : Back). PlaceFits c.target c.length) (same_Some _ b (sym back ∙ e)) place;
+  }
+
+  mutual
+    fit_one : {f : Frame} {n q : ℕ} {s : Stmt} {g : Node} {n' q' : ℕ} → Inl P T f n q s g n' q' → (l : Bool) (own : ℕ) → Standing P f n own → Few n → IsGoodStmt P l own s → Fit f n n' g
+    fit_one (as_nothing f n q at i) l own st fw good = point_fit q
+    fit_one (as_block f n q body end g n' q' d i) l own st fw good =
+        let fw' : Few n' = few q' _ i in seq_fit _ _ fw' (fit_all d l own st fw' good) (seq_fit _ _ fw' (point_fit q') (keep_fit q' n (low_all d)))
+    fit_one (as_absent f n q) l own st fw good = empty_fit
+    fit_one (as_assign f n q at x e g q' i d) l own st fw good = seq_fit _ _ fw (point_fit q) (fit_gives d at own st fw (place_of P f n own x st good.0) good.1)
+    fit_one (as_call f n q at c g q' i d) l own st fw good = seq_fit _ _ fw (point_fit q) (fit_gives d at own st fw tt good)
+    fit_one (as_if f n q at c a b g h r q' i d e) l own st fw good =
+        seq_fit _ _ fw (point_fit q) (choose_fit q f.here.base c g h (fit_one d l own st fw good.1) (fit_one e l own st fw good.2))
+    fit_one (as_loop f n q s g q' d) l own st fw good = fit_loop d l own st good
+    fit_one (as_for f n q init again g h n' r q' d e) l own st fw good =
+        let fw' : Few n' = loop_few e in
+        let low : n ≤ n' = low_all d in
+        seq_fit _ _ fw' (fit_all d false own st fw' good.0)
+        (seq_fit _ _ fw' (fit_loop e false (sites.live_behind own init) (behind_init f n n' own init st low (own_low f.here.base own d st.within)) good.2) (keep_fit q n low))
+    fit_one (as_break f n q at m i k j) l own st fw good = seq_fit _ _ fw (point_fit q) (seq_fit _ _ (omega arith) (keep_fit q m k) (break_fit fw i))
+    fit_one (as_continue f n q at m i k j) l own st fw good = seq_fit _ _ fw (point_fit q) (seq_fit _ _ (omega arith) (keep_fit q m k) (continue_fit fw i))
+    fit_one (as_return f n q at b i k j) l own st fw good =
+        seq_fit _ _ fw (point_fit q) (return_node_fit q _ b i k fw (any_fit q b.target (place_more b.target b.length n k (st.target b i))))
+    fit_one (as_return_value f n q at e b i k j) l own st fw good =
+        seq_fit _ _ fw (point_fit q) (return_node_fit q _ b i k fw (give_fit q f.here.base b.target e (place_more b.target b.length n k (st.target b i))))
+    fit_one (as_return_call f n q at c b g q' i k j d) l own st fw good =
+        seq_fit _ _ fw (point_fit q) (seq_fit _ _ fw (fit_gives d at own st fw (place_more b.target b.length n k (st.target b i)) good) (seq_fit _ _ (omega arith) (keep_fit q b.length k) (return_fit b fw i)))
+    fit_one (as_end f n q at i j) l own st fw good = seq_fit _ _ fw (point_fit q) (end_fit fw i)
+    fit_one (as_end_value f n q at e i j) l own st fw good = seq_fit _ _ fw (point_fit q) (end_fit fw i)
+    fit_one (as_end_call f n q at c g q' i j d) l own st fw good = seq_fit _ _ fw (point_fit q) (seq_fit _ _ fw (fit_gives d at own st fw tt good) (end_fit fw i))
+    fit_one (as_assert f n q at c i) l own st fw good = seq_fit _ _ fw (point_fit q) (check_fit q f.here.base c)
+    fit_one (as_assume f n q at c i) l own st fw good = seq_fit _ _ fw (point_fit q) (test_fit q f.here.base c true)
+
+    fit_all : {f : Frame} {n q : ℕ} {s : BlockItems} {g : Node} {n' q' : ℕ} → InlAll P T f n q s g n' q' → (l : Bool) (own : ℕ) → Standing P f n own → Few n' → AreGoodItems P l own s → Fit f n n' g
+    fit_all (as_none f n q) l own st fw good = empty_fit
+    fit_all (as_declaration f n q d b g h r n' q' i j e) l own st fw good =
+        let low : suc n ≤ n' = low_all e in
+        let more : Few (suc n) = omega arith in
+        let now : Few n = omega arith in
+        seq_fit _ _ more (seq_fit _ _ now (point_fit q) (fit_declares j d.label own st more good.0)) (fit_all e l (suc own) (one_more P f n own st) fw good.1)
+    fit_all (as_statement f n q a b g h r n' q' d e) l own st fw good =
+        let low : n ≤ n' = low_all e in
+        let now : Few n = omega arith in
+        seq_fit _ _ now (fit_one d l own st now good.0) (fit_all e l own st fw good.1)
+
+    fit_declares : {f : Frame} {n q r : ℕ} {e : Option Source} {g : Node} {q' : ℕ} → Declares P T f n q r e g q' → (at own : ℕ) → Standing P f n own → Few (suc n) → IsGoodGiven P at (suc own) e → Fit f n (suc n) g
+    fit_declares (as_fresh f n q r) at own st fw good = append_fit q fw
+    fit_declares (as_given f n q r e g q' d) at own st fw good =
+        seq_fit _ _ fw (append_fit q fw) (fit_gives d at (suc own) (one_more P f n own st) fw (let last : n < suc n = omega arith in last) good)
+
+    fit_loop : {f : Frame} {n q r : ℕ} {s : Stmt} {g : Node} {q' : ℕ} → Loops P T f n q r s g q' → (l : Bool) (own : ℕ) → Standing P f n own → IsGoodStmt P l own s → Fit f n n g
+    fit_loop (is_loop f n q r at c a step g h r' q' i d e) l own st good =
+        let fw : Few n = few q _ i in
+        loop_fit f n g h fw (fit_one e true own (other_loop P f n own (Some n) st) fw good.1) (fit_one d false own (other_loop P f n own None st) fw good.2) q f.here.base c
+
+    fit_gives : {f : Frame} {n q r : ℕ} {x : Option ℕ} {e : Source} {g : Node} {q' : ℕ} → Gives P T f n q r x e g q' → (at own : ℕ) → Standing P f n own → Few n → PlaceFits x n → IsGoodSource P at own e → Fit f n n g
+    fit_gives (as_value f n q r x e) at own st fw place good = give_fit q f.here.base x e place
+    fit_gives (as_result f n q r x c fn g n' r' i j d k) at own st fw place good =
+        let fw' : Few n' = few r' _ k in
+        call_fit f n r' x c.arguments fn.parameters g (callee f n x c) n' j refl refl (low_all d) fw' place
+        (fit_all d false fn.parameters (in_callee f n own fn.parameters x (callee f n x c) st place refl refl) fw' (all_at (IsGoodFunction P) P.functions c.function fn well.functions i)) q
+
+contains_at : {A : Type 0} (P : A → Type 0) (xs : List A) (x : A) → AllByRecursion P xs → Contains xs x → P x
+contains_at P [] x h there = absurd (contains_none x there)
+contains_at P (y ∷ xs) x h there = elim (contains_cases y x xs there) [ inl same ↦ subst P same h.0 | inr later ↦ contains_at P xs x h.1 later ]
+
+-- the tree of a well-formed program with at most 24 live variables at each point fits the iteration
+pub tree_fits : (P : Program) (g : Node) → IsWellFormed P → AllFew (sites_of P) → IsGraph P g → TreeFits g (length P.globals)
+tree_fits P g well few graph =
+    let n = length P.globals in
+    let fw : Few graph.live = few graph.last _ graph.ends in
+    let low : n ≤ graph.live = low_all graph.inlined in
+    let st : Standing P (main_frame P) n 0 = record { globals = omega arith; within = omega arith; target = λ b e. absurd (none-some b e) } in
+    let good : AreGoodItems P false 0 P.main.body = subst (λ (k : ℕ). AreGoodItems P false k P.main.body) well.alone (contains_at (IsGoodFunction P) P.functions P.main well.functions well.main) in
+    let body : Fit (main_frame P) n graph.live graph.body = fit_all P (sites_of P) few well graph.inlined false 0 st fw good in
+    subst (λ (h : Node). TreeFits h n) (sym graph.parts) (seq_fit {f = main_frame P} graph.body (point graph.last) fw body (point_fit graph.last)).fits

@@ -1,0 +1,127 @@
+-- The first flagged point of a program's iteration is a point of the program.
+use Rattle.std.proofs.Common.{◌≡◌, ℕ, zero, suc, ◌-◌, ◌<◌, List, [], ◌∷◌, length, Option, Some, None, Bool, refl, sym, subst}
+use Rattle.std.proofs.lemmas.Option.{slice_get_within}
+use Rattle.lra_domain.specs.declared.Exactness.{Exactness}
+use Rattle.lra_domain.specs.declared.Exactness.TheVariants.{Exact, Flagged}
+use Rattle.lra_tree.specs.Program.{Cond, Source, Stmt, BlockItems, Program}
+use Rattle.lra_tree.specs.Graph.{Exit, broken, continued, returned, Node, empty, point, act, check, seq, choose, iterate, catch, leave}
+use Rattle.lra_tree.specs.Sites.{Site, sites_of}
+use Rattle.lra_tree.specs.Inlined.{Frame, HasSite, Inl, InlAll, Declares, Loops, Gives, as_nothing, as_block, as_absent, as_assign, as_call, as_if, as_loop, as_for, as_break, as_continue, as_return, as_return_value, as_return_call, as_end, as_end_value, as_end_call, as_assert, as_assume, as_none, as_declaration, as_statement, as_fresh, as_given, is_loop, as_value, as_result}
+use Rattle.lra_tree.specs.Agree.{IsGraph}
+use Rattle.lra_flow.specs.declared.Settings.{Settings}
+use Rattle.lra_flow.specs.Operations.{Operations}
+use Rattle.lra_flow.specs.Pass.{Result, noted, jumps, behind, Through, GoesRound, Grows, Narrows, Pass}
+use Rattle.lra_flow.specs.Analysis.{Iteration}
+use Rattle.lra_source.specs.Numbers.{AreBelow, IsBelow}
+
+-- trees --------------------------------------------------------------------------------------------------------------
+
+module _ (P : Program) (T : List Site) where
+  site_below : (f : Frame) (q n at : ℕ) (b : Bool) → HasSite T q f n at b → q < length T
+  site_below f q n at b has = slice_get_within T q _ has
+
+  abbrev Below : Node → Type 0
+  Below g = AreBelow (length T) g
+
+  -- a loop's own point, and its tree
+  abbrev LoopBelow : Node → ℕ → Type 0
+  LoopBelow g q = (q < length T) × Below g
+
+  mutual
+    below_one : {f : Frame} {n q : ℕ} {s : Stmt} {g : Node} {n' q' : ℕ} → Inl P T f n q s g n' q' → Below g
+    below_one (as_nothing f n q at i) = tt
+    below_one (as_block f n q body end g n' q' d i) = (below_all d, (tt, site_below f q' n' end _ i))
+    below_one (as_absent f n q) = tt
+    below_one (as_assign f n q at x e g q' i d) = (tt, below_gives d (site_below f q n at _ i))
+    below_one (as_call f n q at c g q' i d) = (tt, below_gives d (site_below f q n at _ i))
+    below_one (as_if f n q at c a b g h r q' i d e) = (tt, (site_below f q n at _ i, below_one d, below_one e))
+    below_one (as_loop f n q s g q' d) = (below_loop d).1
+    below_one (as_for f n q init again g h n' r q' d e) = let l = below_loop e in (below_all d, (l.1, l.0))
+    below_one (as_break f n q at m i l j) = (tt, (site_below f q n at _ j, tt))
+    below_one (as_continue f n q at m i l j) = (tt, (site_below f q n at _ j, tt))
+    below_one (as_return f n q at b i l j) = (tt, (site_below f q n at _ j, (site_below f q n at _ j, tt)))
+    below_one (as_return_value f n q at e b i l j) = (tt, (site_below f q n at _ j, (site_below f q n at _ j, tt)))
+    below_one (as_return_call f n q at c b g q' i l j d) = (tt, (below_gives d (site_below f q n at _ j), (site_below f q n at _ j, tt)))
+    below_one (as_end f n q at i j) = (tt, tt)
+    below_one (as_end_value f n q at e i j) = (tt, tt)
+    below_one (as_end_call f n q at c g q' i j d) = (tt, (below_gives d (site_below f q n at _ j), tt))
+    below_one (as_assert f n q at c i) = (tt, site_below f q n at _ i)
+    below_one (as_assume f n q at c i) = (tt, site_below f q n at _ i)
+
+    below_all : {f : Frame} {n q : ℕ} {s : BlockItems} {g : Node} {n' q' : ℕ} → InlAll P T f n q s g n' q' → Below g
+    below_all (as_none f n q) = tt
+    below_all (as_declaration f n q d b g h r n' q' i j e) = ((tt, below_declares j (site_below f q n _ _ i)), below_all e)
+    below_all (as_statement f n q a b g h r n' q' d e) = (below_one d, below_all e)
+
+    below_declares : {f : Frame} {n q r : ℕ} {e : Option Source} {g : Node} {q' : ℕ} → Declares P T f n q r e g q' → q < length T → Below g
+    below_declares (as_fresh f n q r) l = l
+    below_declares (as_given f n q r e g q' d) l = (l, below_gives d l)
+
+    below_loop : {f : Frame} {n q r : ℕ} {s : Stmt} {g : Node} {q' : ℕ} → Loops P T f n q r s g q' → LoopBelow g q
+    below_loop (is_loop f n q r at c a step g h r' q' i d e) = let l = site_below f q n at _ i in (l, (l, (l, ((l, below_one e), below_one d))))
+
+    below_gives : {f : Frame} {n q r : ℕ} {x : Option ℕ} {e : Source} {g : Node} {q' : ℕ} → Gives P T f n q r x e g q' → q < length T → Below g
+    below_gives (as_value f n q r x e) l = l
+    below_gives (as_result f n q r x c fn g n' r' i j d h) l = let m = slice_get_within T r' _ h in (l, (l, (below_all d, (tt, (m, (m, m))))))
+
+pub graph_below : (P : Program) (g : Node) → IsGraph P g → AreBelow (length (sites_of P)) g
+graph_below P g graph = subst (λ (h : Node). AreBelow (length (sites_of P)) h) (sym graph.parts) (below_all P (sites_of P) graph.inlined, tt)
+
+-- passes -------------------------------------------------------------------------------------------------------------
+
+noted_below : (n q : ℕ) (e : Exactness) (f : Option ℕ) → q < n → IsBelow n f → IsBelow n (noted q e f)
+noted_below n q e (Some p) l b = b
+noted_below n q Exact None l b = tt
+noted_below n q Flagged None l b = l
+
+jump_flag : {V : Type 0} (j : Exit) (v nothing : V) (f : Option ℕ) → (jumps j v nothing f).flag ≡ f
+jump_flag broken v nothing f = refl
+jump_flag continued v nothing f = refl
+jump_flag returned v nothing f = refl
+
+behind_flag : {V : Type 0} (j : Exit) (r : Result V) (v : V) (f : Option ℕ) → (behind j r v f).flag ≡ f
+behind_flag broken r v f = refl
+behind_flag continued r v f = refl
+behind_flag returned r v f = refl
+
+module _ (V H : Type 0) (ops : Operations V H) (n : ℕ) where
+  flag_is : (f g : Option ℕ) → f ≡ g → IsBelow n g → IsBelow n f
+  flag_is f g e b = subst (λ (h : Option ℕ). IsBelow n h) (sym e) b
+
+  result_is : (r s : Result V) → r ≡ s → IsBelow n s.flag → IsBelow n r.flag
+  result_is r s e b = subst (λ (x : Result V). IsBelow n x.flag) (sym e) b
+
+  module _ (q base : ℕ) (c : Cond) (body : Through V) (l : q < n) (inside : (f : Option ℕ) (v : V) (r : Result V) → body f v r → IsBelow n f → IsBelow n r.flag) where
+    round_below : (f : Option ℕ) (v : V) (r : Result V) → GoesRound V H ops q base c body f v r → IsBelow n f → IsBelow n r.flag
+    round_below f v r (w, e, s, on, turn, is) b = subst (λ (x : Result V). IsBelow n x.flag) (sym is) (inside (noted q e f) w s turn (noted_below n q e f l b))
+
+    grows_below : (limited : Bool) (left : ℕ) (f : Option ℕ) (h : H) (later : List H) (v : V) (r : Result V) → Grows V H ops q base c body limited left f h later v r → IsBelow n f → IsBelow n r.flag
+    grows_below limited left f h [] v r ((e, valued, turn), stays) b = round_below (noted q e f) v r turn (noted_below n q e f l b)
+    grows_below limited left f h (next ∷ later) v r (u, s, e, (d, valued, turn), grown, rest) b =
+        grows_below limited (left - 1) (noted q e s.flag) next later v r rest
+        (noted_below n q e s.flag l (round_below (noted q d f) u s turn (noted_below n q d f l b)))
+
+    narrows_below : (more : ℕ) (first u : V) (s : Result V) (v : V) (r : Result V) → Narrows V H ops q base c body more first u s v r → IsBelow n s.flag → IsBelow n r.flag
+    narrows_below zero first u s v r (same, is) b = subst (λ (x : Result V). IsBelow n x.flag) (sym is) b
+    narrows_below (suc more) first u s v r (next, t, e, joined, turn, rest) b =
+        narrows_below more first next t v r rest (round_below (noted q e s.flag) next t turn (noted_below n q e s.flag l b))
+
+  pub pass_below : (set : Settings) (g : Node) (f : Option ℕ) (v : V) (r : Result V) → Pass V H ops set g f v r → AreBelow n g → IsBelow n f → IsBelow n r.flag
+  pass_below set empty f v r is a b = result_is r _ is b
+  pass_below set (point q) f v r is a b = result_is r _ is b
+  pass_below set (act q op) f v r (w, e, done, is) a b = result_is r _ is (noted_below n q e f a b)
+  pass_below set (check q base c) f v r (u, w, d, e, off, on, is) a b = result_is r _ is (noted_below n q e (noted q d f) a (noted_below n q d f a b))
+  pass_below set (seq x y) f v r (s, t, one, two, is) a b =
+      result_is r _ is (pass_below set y s.flag s.normal t two a.1 (pass_below set x f v s one a.0 b))
+  pass_below set (choose q base c x y) f v r (on, off, w, d, e, i, s, t, is_on, one, is_off, two, joined, is) a b =
+      result_is r _ is (noted_below n q i t.flag a.0 (pass_below set y (noted q e s.flag) off t two a.2 (noted_below n q e s.flag a.0 (pass_below set x (noted q d f) on s one a.1 (noted_below n q d f a.0 b)))))
+  pass_below set (iterate q base c x) f v r (h, later, u, top, out, s, t, e, started, grown, narrowed, off, is) a b =
+      let g = grows_below q base c (Pass V H ops set x) a.0 (λ f' v' r' p k. pass_below set x f' v' r' p a.1 k) set.limited set.delay f h later u s grown b in
+      let m = narrows_below q base c (Pass V H ops set x) a.0 (λ f' v' r' p k. pass_below set x f' v' r' p a.1 k) set.narrow v u s top t narrowed g in
+      result_is r _ is (noted_below n q e t.flag a.0 m)
+  pass_below set (catch q j x) f v r (w, e, s, one, joined, is) a b =
+      result_is r _ is (flag_is _ (noted q e s.flag) (behind_flag j s w (noted q e s.flag)) (noted_below n q e s.flag a.0 (pass_below set x f v s one a.1 b)))
+  pass_below set (leave m j) f v r (w, nothing, is) a b = result_is r _ is (flag_is _ f (jump_flag j v w f) b)
+
+  pub iteration_below : (set : Settings) (P : Program) (g : Node) (r : Result V) → 0 < n → AreBelow n g → Iteration ops set P g r → IsBelow n r.flag
+  iteration_below set P g r low below (none, first, e, universal, values, pass) = pass_below set g (noted 0 e None) first r pass below (noted_below n 0 e None low tt)

@@ -1,0 +1,170 @@
+-- The tree of a program has each number of a point once.
+use Rattle.std.proofs.Common.{◌≡◌, ◌≢◌, ℕ, zero, suc, ◌+◌, ◌≤◌, ◌<◌, List, [], ◌∷◌, length, Option, Some, None, Bool, true, false, inl, inr, refl, sym, ap, ◌∙◌, subst, arith}
+use Rattle.std.specs.Prelude.{slice_get, cond}
+use Rattle.std.proofs.lemmas.Bool.{cases_lt}
+use Rattle.std.proofs.lemmas.Bool.Decides.{nat_tests}
+use Rattle.std.proofs.lemmas.Option.{none-some, slice_get_within}
+use Rattle.lra_tree.specs.Program.{Source, Stmt, BlockItems, Program}
+use Rattle.lra_tree.specs.Graph.{Node, seq, point}
+use Rattle.lra_tree.specs.Sites.{Site, sites_of}
+use Rattle.lra_tree.specs.Inlined.{Frame, callee, Has, HasSite, Inl, InlAll, Declares, Loops, Gives, as_nothing, as_block, as_absent, as_assign, as_call, as_if, as_loop, as_for, as_break, as_continue, as_return, as_return_value, as_return_call, as_end, as_end_value, as_end_call, as_assert, as_assume, as_none, as_declaration, as_statement, as_fresh, as_given, is_loop, as_value, as_result, main_frame}
+use Rattle.lra_tree.specs.Agree.{IsGraph}
+use Rattle.lra_source.specs.Numbers.{one_if, values_in, checks_in, asserts_of, IsNumbered}
+
+pub one_same : (q : ℕ) → one_if q q ≡ 1
+unfolding one_if
+one_same q = grind (arith, nat_tests)
+
+pub one_other : (q k : ℕ) → q ≢ k → one_if q k ≡ 0
+unfolding one_if
+one_other q k n = grind (arith, nat_tests)
+
+-- c is w for a number k from a on that is below b, and 0 for another
+pub record Counts (w c a b k : ℕ) : Type 0 where
+  pub inside : a ≤ k → k < b → c ≡ w
+  pub before : k < a → c ≡ 0
+  pub behind : b ≤ k → c ≡ 0
+
+no_count : (w a k : ℕ) → Counts w 0 a a k
+no_count w a k = record { inside = λ h i. absurd (omega (arith, h, i)); before = λ h. refl; behind = λ h. refl }
+
+both_counts : (w c d x a m b k : ℕ) → a ≤ m → m ≤ b → Counts w c a m k → Counts w d m b k → x ≡ c + d → Counts w x a b k
+both_counts w c d x a m b k l h p q e = record {
+  inside = λ i j. elim (cases_lt k m) [ inl n ↦ (let f = p.inside i n in let g = q.before n in omega (arith, f, g, e)) | inr n ↦ (let f = p.behind n in let g = q.inside n j in omega (arith, f, g, e)) ];
+  before = λ i. let f = p.before i in let g = q.before (omega (arith, i, l)) in omega (arith, f, g, e);
+  behind = λ i. let f = p.behind (omega (arith, i, h)) in let g = q.behind i in omega (arith, f, g, e);
+}
+
+one_counts : (q k : ℕ) → Counts 1 (one_if q k) q (suc q) k
+one_counts q k = record {
+  inside = λ h i. let same : q ≡ k = omega (arith, h, i) in subst (λ (j : ℕ). one_if q j ≡ 1) same (one_same q);
+  before = λ h. one_other q k (λ e. omega (arith, h, e));
+  behind = λ h. one_other q k (λ e. omega (arith, h, e));
+}
+
+module _ (T : List Site) (k : ℕ) where
+  -- values and assertions with the numbers from a on that are below b
+  pub record Numbers (c d a b : ℕ) : Type 0 where
+    pub low : a ≤ b
+    pub values : Counts 1 c a b k
+    pub checks : Counts (asserts_of (slice_get T k)) d a b k
+
+  none : (a : ℕ) → Numbers 0 0 a a
+  none a = record { low = omega arith; values = no_count 1 a k; checks = no_count (asserts_of (slice_get T k)) a k }
+
+  then : (c d c' d' x y a m b : ℕ) → Numbers c d a m → Numbers c' d' m b → x ≡ c + c' → y ≡ d + d' → Numbers x y a b
+  then c d c' d' x y a m b p q e f = record {
+    low = let l = p.low in let h = q.low in omega arith;
+    values = both_counts 1 c c' x a m b k p.low q.low p.values q.values e;
+    checks = both_counts (asserts_of (slice_get T k)) d d' y a m b k p.low q.low p.checks q.checks f;
+  }
+
+  same : (c d x y a b : ℕ) → Numbers c d a b → x ≡ c → y ≡ d → Numbers x y a b
+  same c d x y a b p e f = subst (λ (z : ℕ). Numbers x z a b) (sym f) (subst (λ (z : ℕ). Numbers z d a b) (sym e) p)
+
+  asserts_there : (f : Frame) (q n at : ℕ) (b : Bool) → HasSite T q f n at b → q ≡ k → asserts_of (slice_get T k) ≡ cond b 1 0
+  asserts_there f q n at b has e = subst (λ (j : ℕ). asserts_of (slice_get T j) ≡ cond b 1 0) e (ap asserts_of has)
+
+  -- a point that is no assertion
+  plain : (f : Frame) (q n at : ℕ) → Has T q f n at → Numbers (one_if q k) 0 q (suc q)
+  plain f q n at has = record {
+    low = omega arith;
+    values = one_counts q k;
+    checks = record { inside = λ h i. sym (asserts_there f q n at false has (omega (arith, h, i))); before = λ h. refl; behind = λ h. refl };
+  }
+
+  -- and one that is
+  asserted : (f : Frame) (q n at : ℕ) → HasSite T q f n at true → Numbers (one_if q k) (one_if q k) q (suc q)
+  asserted f q n at has = record {
+    low = omega arith;
+    values = one_counts q k;
+    checks = record {
+      inside = λ h i. (one_counts q k).inside h i ∙ sym (asserts_there f q n at true has (omega (arith, h, i)));
+      before = (one_counts q k).before;
+      behind = (one_counts q k).behind;
+    };
+  }
+
+  abbrev pub In : Node → ℕ → ℕ → Type 0
+  In g a b = Numbers (values_in g k) (checks_in g k) a b
+
+  -- a loop: its own point, and the others
+  pub record Loop (g : Node) (q r b : ℕ) : Type 0 where
+    pub others : ℕ
+    pub own : Numbers (one_if q k) 0 q (suc q)
+    pub rest : Numbers others (checks_in g k) r b
+    pub is : values_in g k ≡ one_if q k + others
+
+  point_then : (q b c d x y : ℕ) → Numbers (one_if q k) 0 q (suc q) → Numbers c d (suc q) b → x ≡ one_if q k + c → y ≡ d → Numbers x y q b
+  point_then q b c d x y p h e f = then (one_if q k) 0 c d x y q (suc q) b p h e (omega (arith, f))
+
+  module _ (P : Program) where
+    mutual
+      in_one : {f : Frame} {n q : ℕ} {s : Stmt} {g : Node} {n' q' : ℕ} → Inl P T f n q s g n' q' → In g q q'
+      in_one (as_nothing f n q at i) = plain f q n at i
+      in_one (as_block f n q body end g n' q' d i) = then (values_in g k) (checks_in g k) (one_if q' k) 0 _ _ q q' (suc q') (in_all d) (plain f q' n' end i) (omega arith) (omega arith)
+      in_one (as_absent f n q) = none q
+      in_one (as_assign f n q at x e g q' i d) = point_then q q' (values_in g k) (checks_in g k) _ _ (plain f q n at i) (in_gives d) refl (omega arith)
+      in_one (as_call f n q at c g q' i d) = point_then q q' (values_in g k) (checks_in g k) _ _ (plain f q n at i) (in_gives d) refl (omega arith)
+      in_one (as_if f n q at c a b g h r q' i d e) =
+          point_then q q' (values_in g k + values_in h k) (checks_in g k + checks_in h k) _ _ (plain f q n at i)
+          (then (values_in g k) (checks_in g k) (values_in h k) (checks_in h k) _ _ (suc q) r q' (in_one d) (in_one e) refl refl) refl (omega arith)
+      in_one (as_loop f n q s g q' d) = let l = in_loop d in point_then q q' l.others (checks_in g k) _ _ l.own l.rest l.is refl
+      in_one (as_for f n q init again g h n' r q' d e) =
+          let l = in_loop e in
+          point_then q q' (values_in g k + l.others) (checks_in g k + checks_in h k) _ _ l.own
+          (then (values_in g k) (checks_in g k) l.others (checks_in h k) _ _ (suc q) r q' (in_all d) l.rest refl refl) (let is = l.is in omega (arith, is)) (omega arith)
+      in_one (as_break f n q at m i l j) = same (one_if q k) 0 _ _ q (suc q) (plain f q n at j) (omega arith) (omega arith)
+      in_one (as_continue f n q at m i l j) = same (one_if q k) 0 _ _ q (suc q) (plain f q n at j) (omega arith) (omega arith)
+      in_one (as_return f n q at b i l j) = same (one_if q k) 0 _ _ q (suc q) (plain f q n at j) (omega arith) (omega arith)
+      in_one (as_return_value f n q at e b i l j) = same (one_if q k) 0 _ _ q (suc q) (plain f q n at j) (omega arith) (omega arith)
+      in_one (as_return_call f n q at c b g q' i l j d) = point_then q q' (values_in g k) (checks_in g k) _ _ (plain f q n at j) (in_gives d) (omega arith) (omega arith)
+      in_one (as_end f n q at i j) = same (one_if q k) 0 _ _ q (suc q) (plain f q n at j) (omega arith) (omega arith)
+      in_one (as_end_value f n q at e i j) = same (one_if q k) 0 _ _ q (suc q) (plain f q n at j) (omega arith) (omega arith)
+      in_one (as_end_call f n q at c g q' i j d) = point_then q q' (values_in g k) (checks_in g k) _ _ (plain f q n at j) (in_gives d) (omega arith) (omega arith)
+      in_one (as_assert f n q at c i) = same (one_if q k) (one_if q k) _ _ q (suc q) (asserted f q n at i) (omega arith) (omega arith)
+      in_one (as_assume f n q at c i) = same (one_if q k) 0 _ _ q (suc q) (plain f q n at i) (omega arith) (omega arith)
+
+      in_all : {f : Frame} {n q : ℕ} {s : BlockItems} {g : Node} {n' q' : ℕ} → InlAll P T f n q s g n' q' → In g q q'
+      in_all (as_none f n q) = none q
+      in_all (as_declaration f n q d b g h r n' q' i j e) =
+          point_then q q' (values_in g k + values_in h k) (checks_in g k + checks_in h k) _ _ (plain f q n d.label i)
+          (then (values_in g k) (checks_in g k) (values_in h k) (checks_in h k) _ _ (suc q) r q' (in_declares j) (in_all e) refl refl) (omega arith) (omega arith)
+      in_all (as_statement f n q a b g h r n' q' d e) = then (values_in g k) (checks_in g k) (values_in h k) (checks_in h k) _ _ q r q' (in_one d) (in_all e) refl refl
+
+      in_declares : {f : Frame} {n q r : ℕ} {e : Option Source} {g : Node} {q' : ℕ} → Declares P T f n q r e g q' → In g r q'
+      in_declares (as_fresh f n q r) = none r
+      in_declares (as_given f n q r e g q' d) = same (values_in g k) (checks_in g k) _ _ r q' (in_gives d) (omega arith) (omega arith)
+
+      in_loop : {f : Frame} {n q r : ℕ} {s : Stmt} {g : Node} {q' : ℕ} → Loops P T f n q r s g q' → Loop g q r q'
+      in_loop (is_loop f n q r at c a step g h r' q' i d e) = record {
+        others = values_in g k + values_in h k;
+        own = plain f q n at i;
+        rest = then (values_in h k) (checks_in h k) (values_in g k) (checks_in g k) _ _ r r' q' (in_one d) (in_one e) (omega arith) (omega arith);
+        is = refl;
+      }
+
+      in_gives : {f : Frame} {n q r : ℕ} {x : Option ℕ} {e : Source} {g : Node} {q' : ℕ} → Gives P T f n q r x e g q' → In g r q'
+      in_gives (as_value f n q r x e) = none r
+      in_gives (as_result f n q r x c fn g n' r' i j d l) =
+          then (values_in g k) (checks_in g k) (one_if r' k) 0 _ _ r r' (suc r') (in_all d) (plain (callee f n x c) r' n' fn.end l) (omega arith) (omega arith)
+
+past_none : {A : Type 0} (xs : List A) (k : ℕ) → slice_get xs k ≡ None → length xs ≤ k
+past_none [] k e = omega arith
+past_none (x ∷ xs) zero e = absurd (none-some x (sym e))
+past_none (x ∷ xs) (suc k) e = let h = past_none xs k e in omega (arith, h)
+
+pub numbered : (P : Program) (g : Node) → IsGraph P g → IsNumbered (sites_of P) g
+numbered P g graph = subst (λ (h : Node). IsNumbered (sites_of P) h) (sym graph.parts) (record {
+  values = λ k s there. let n = all k in let inside = slice_get_within (sites_of P) k s there in n.values.inside (omega arith) (omega (arith, inside, graph.all));
+  no_values = λ k there. let n = all k in let past = past_none (sites_of P) k there in n.values.behind (omega (arith, past, graph.all));
+  checks = λ k. checked k (slice_get (sites_of P) k) refl;
+})
+  where
+    all : (k : ℕ) → Numbers (sites_of P) k (values_in (seq graph.body (point graph.last)) k) (checks_in (seq graph.body (point graph.last)) k) 0 (suc graph.last)
+    all k = then (sites_of P) k (values_in graph.body k) (checks_in graph.body k) (one_if graph.last k) 0 _ _ 0 graph.last (suc graph.last)
+        (in_all (sites_of P) k P graph.inlined) (plain (sites_of P) k (main_frame P) graph.last graph.live P.main.end graph.ends) refl refl
+
+    checked : (k : ℕ) (o : Option Site) → slice_get (sites_of P) k ≡ o → checks_in (seq graph.body (point graph.last)) k ≡ asserts_of (slice_get (sites_of P) k)
+    checked k (Some s) there = let n = all k in let inside = slice_get_within (sites_of P) k s there in n.checks.inside (omega arith) (omega (arith, inside, graph.all))
+    checked k None there = let n = all k in let past = past_none (sites_of P) k there in n.checks.behind (omega (arith, past, graph.all)) ∙ sym (ap asserts_of there)

@@ -1,0 +1,135 @@
+-- What an iteration over a program's tree says of the program's runs.
+use Rattle.std.proofs.Common.{◌≡◌, ℕ, zero, suc, ◌+◌, ◌++◌, ◌∷◌, [], List, length, Option, Some, None, Bool, true, false, refl, sym, ap, ◌∙◌, subst, arith, append-nil, append_assoc, length-append}
+use Rattle.std.specs.Prelude.{ℤ, pos, ◌+ℤ◌, slice_get, slice_set, replicate, IsTrue, cond}
+use Rattle.std.specs.List.{AllByRecursion, Contains}
+use Rattle.std.proofs.lemmas.Int.{ints}
+use Rattle.std.proofs.lemmas.Option.{none-some, same_Some}
+use Rattle.lra_domain.specs.Meaning.{Meaning}
+use Rattle.lra_domain.specs.declared.Exactness.{Exactness}
+use Rattle.lra_lin.specs.Form.{form_value}
+use Rattle.lra_tree.specs.Linear as linear
+use Rattle.lra_tree.specs.Program.{Program}
+use Rattle.lra_tree.specs.Run.{At, Fails}
+use Rattle.lra_tree.specs.Graph.{Node}
+use Rattle.lra_tree.specs.Report.{dot, PointReport, Verdict}
+use Rattle.lra_tree.specs.Labels.{Labelled}
+use Rattle.lra_tree.specs.Sites.{Site, sites_of}
+use Rattle.lra_tree.specs.Agree.{begins, point_of, Agrees}
+use Rattle.lra_tree.specs.Listing.{AreListed, AreJudged, assertions_from}
+use Rattle.lra_flow.specs.declared.Settings.{Settings}
+use Rattle.lra_flow.specs.Operations.{dropping}
+use Rattle.lra_flow.specs.Changes.{as_form, first_values, AreDone}
+use Rattle.lra_flow.specs.Pass.{failing, Result, noted}
+use Rattle.lra_flow.specs.Analysis.{Derivation, Solves, IsUnreachable}
+use Rattle.lra_flow.specs.Sound.{Covers}
+use Rattle.lra_flow.proofs.Keeping.{as_form_value}
+use Rattle.lra_flow.proofs.Keeps.{sizing, pass_covers}
+
+-- the globals at their first values ---------------------------------------------------------------------------------
+
+zeros : (n : ℕ) (xs : List ℤ) → dot (replicate n (pos 0)) xs ≡ pos 0
+zeros zero xs = refl
+zeros (suc n) [] = refl
+zeros (suc n) (x ∷ xs) = rw (zeros n xs) (omega (arith, ints))
+
+constant_value : (n : ℕ) (z : ℤ) (s : List ℤ) → form_value (as_form (linear.constant_form n z)) s ≡ z
+constant_value n z s = as_form_value (linear.constant_form n z) s ∙ ap (λ (y : ℤ). z +ℤ y) (zeros n s) ∙ (let same : z +ℤ pos 0 ≡ z = omega (arith, ints) in same)
+
+set_last : (xs : List ℤ) (z : ℤ) → slice_set (xs ++ z ∷ []) (length xs) z ≡ xs ++ z ∷ []
+set_last [] z = refl
+set_last (x ∷ xs) z = ap (λ (ys : List ℤ). x ∷ ys) (set_last xs z)
+
+-- the value without variables that has all stores, with which an iteration begins
+abbrev pub Begins : {V H : Type 0} → Meaning V H → Type 0
+Begins {V} m = (cap : ℕ) (v : V) → m.universal 0 cap v → m.has v [] × (m.dims v ≡ 0)
+
+-- nothing is in a value without parts
+abbrev pub EmptyWithoutParts : {V H : Type 0} → Meaning V H → Type 0
+EmptyWithoutParts {V} m = (v : V) → IsUnreachable m v → (s : List ℤ) → m.has v s → ⊥
+
+module _ (V H : Type 0) (m : Meaning V H) where
+  first_done : (zs : List ℤ) (live : ℕ) (v : V) (e : Exactness) (w : V) (s : List ℤ) → AreDone (dropping m) (first_values live zs) v e w → m.has v s → length s ≡ live → m.dims v ≡ live
+      → m.has w (s ++ zs) × (m.dims w ≡ live + length zs)
+  first_done [] live v e w s (same, exact) h l d =
+      (subst (λ (x : V). m.has x (s ++ [])) (sym same) (subst (λ (xs : List ℤ). m.has v xs) (sym (append-nil s)) h), ap (λ (x : V). m.dims x) same ∙ omega (arith, d))
+  first_done (z ∷ zs) live v e w s (x, c, c', one, (y, d, d', two, rest, worse'), worse) h l k =
+      let u = s ++ z ∷ [] in
+      let long : length u ≡ suc live = length-append s (z ∷ []) ∙ omega (arith, l) in
+      let has_x : m.has x u = one.0.stores s u h (z ∷ [], refl, refl) in
+      let led : u ≡ slice_set u live (form_value (as_form (linear.constant_form (suc live) z)) u) =
+      sym (rw (constant_value (suc live) z u) (subst (λ (n : ℕ). slice_set u n z ≡ u) l (set_last s z))) in
+      let has_y : m.has y u = two.0.stores u u has_x led in
+      let dims_x : m.dims x ≡ suc live = one.1 ∙ omega (arith, k) in
+      let dims_y : m.dims y ≡ suc live = two.1 ∙ dims_x in
+      let later = first_done zs (suc live) y d' w u rest has_y long dims_y in
+      (subst (λ (xs : List ℤ). m.has w xs) (append_assoc s (z ∷ []) zs) later.0, later.1 ∙ omega arith)
+
+  module _ (law : Begins m) (set : Settings) (P : Program) (g : Node) (r : Result V) where
+    -- from the globals on, whatever is drawn, the iteration has the stores of the tree's runs
+    pub derivation_covers : Derivation m set P g r → (draws : List ℤ) → Covers (sizing m) g (begins P draws) r
+    derivation_covers (none, first, e, universal, values, pass) draws =
+        let b = law set.parts none universal in
+        let f = first_done P.globals 0 none e first [] values b.0 refl b.1 in
+        pass_covers m set g (noted 0 e None) first r pass (begins P draws) f.0 (let n : length P.globals ≡ m.dims first = omega (arith, f.1) in n)
+
+    module _ (derived : Derivation m set P g r) (agrees : Agrees P g) (empty : EmptyWithoutParts m) (values : List V) (verdicts : List (ℕ × Bool)) (flagged : Option ℕ) (solves : Solves m r values verdicts flagged) where
+      -- where a run comes to a point, the value there has its store
+      pub value_there : (q : ℕ) (s : Site) (store : List ℤ) → slice_get (sites_of P) q ≡ Some s → At P (point_of s) store
+          → (v : V) × (slice_get values q ≡ Some v) × m.has v store × (length store ≡ m.dims v)
+      value_there q s store there at =
+          let (draws, words, t, comes, is) = (agrees.comes q s store there).0 at in
+          let (v, found, has) = (derivation_covers derived draws).comes q t comes in
+          (v, (solves.is_value q v).1 found, subst (λ (xs : List ℤ). m.has v xs) is has.0, subst (λ (xs : List ℤ). length xs ≡ m.dims v) is has.1)
+
+      -- where a run fails an assertion, a value where its condition is false has its store
+      pub failing_there : (q : ℕ) (s : Site) → slice_get (sites_of P) q ≡ Some s → Fails P (point_of s) → (v : V) × (store : List ℤ) × Contains r.entries (failing q v) × m.has v store
+      failing_there q s there fails =
+          let (draws, words, failed) = (agrees.fails q s there).0 fails in
+          let (v, t, found, has) = (derivation_covers derived draws).fails q failed in
+          (v, t.store, found, has.0)
+
+      -- one value for each assertion
+      abbrev pub OneFailing : Type 0
+      OneFailing = (q : ℕ) (u v : V) → Contains r.entries (failing q u) → Contains r.entries (failing q v) → u ≡ v
+
+      pub proved_holds : OneFailing → (q : ℕ) (s : Site) (proved : Bool) → slice_get (sites_of P) q ≡ Some s → Contains verdicts (q, proved) → IsTrue proved → Fails P (point_of s) → ⊥
+      proved_holds one q s proved there listed is fails =
+          let (v, store, found, has) = failing_there q s there fails in
+          let (u, seen, so) = solves.is_verdict q proved listed in
+          empty u (so.0 is) store (subst (λ (x : V). m.has x store) (one q v u found seen) has)
+
+-- reports ------------------------------------------------------------------------------------------------------------
+
+-- what holds of each listed point of a site holds of all
+pub listed_all : (Q : PointReport → Type 0) (outside : List (List ℕ)) (ls : List Labelled) (number : ℕ) (ss : List Site) (ps : List PointReport) → AreListed outside ls number ss ps
+    → ((k : ℕ) (s : Site) (p : PointReport) → slice_get ss k ≡ Some s → slice_get ps k ≡ Some p → p.point ≡ point_of s → Q p) → AllByRecursion Q ps
+listed_all Q o ls n [] [] l f = tt
+listed_all Q o ls n [] (p ∷ ps) l f = absurd l
+listed_all Q o ls n (s ∷ ss) [] l f = absurd l
+listed_all Q o ls n (s ∷ ss) (p ∷ ps) l f = (f 0 s p refl refl (ap (λ (x : PointReport). x.point) l.0), listed_all Q o ls (suc n) ss ps l.2 (λ k. f (suc k)))
+
+pub judged_all : (Q : Verdict → Type 0) (ls : List Labelled) (xs : List (ℕ × Site)) (vs : List Verdict) → AreJudged ls xs vs
+    → ((k : ℕ) (x : ℕ × Site) (v : Verdict) → slice_get xs k ≡ Some x → slice_get vs k ≡ Some v → (v.number ≡ x.0) × (v.point ≡ point_of x.1) → Q v) → AllByRecursion Q vs
+judged_all Q ls [] [] l f = tt
+judged_all Q ls [] (v ∷ vs) l f = absurd l
+judged_all Q ls (x ∷ xs) [] l f = absurd l
+judged_all Q ls (x ∷ xs) (v ∷ vs) l f = (f 0 x v refl refl (ap (λ (y : Verdict). y.number) l.0, ap (λ (y : Verdict). y.point) l.0), judged_all Q ls xs vs l.1 (λ k. f (suc k)))
+
+-- the place of a site, by its number
+abbrev SiteAt : ℕ → List Site → ℕ × Site → Type 0
+SiteAt number ss x = (q : ℕ) × (x.0 ≡ number + q) × (slice_get ss q ≡ Some x.1)
+
+later_site : (number : ℕ) (s : Site) (ss : List Site) (x : ℕ × Site) → SiteAt (suc number) ss x → SiteAt number (s ∷ ss) x
+later_site number s ss x (q, is, there) = (suc q, is ∙ omega arith, there)
+
+chosen_site : (number : ℕ) (s : Site) (ss : List Site) (x : ℕ × Site) (rest : List (ℕ × Site)) → ((k : ℕ) → slice_get rest k ≡ Some x → SiteAt (suc number) ss x)
+    → (b : Bool) (k : ℕ) → slice_get (cond b ((number, s) ∷ rest) rest) k ≡ Some x → SiteAt number (s ∷ ss) x
+chosen_site number s ss x rest f true zero e =
+    let same : (number, s) ≡ x = same_Some (number, s) x e in (0, sym (ap (λ (y : ℕ × Site). y.0) same) ∙ omega arith, ap (λ (y : ℕ × Site). Some y.1) same)
+chosen_site number s ss x rest f true (suc k) e = later_site number s ss x (f k e)
+chosen_site number s ss x rest f false k e = later_site number s ss x (f k e)
+
+-- an assertion's number is that of its site
+pub assertion_site : (number : ℕ) (ss : List Site) (k : ℕ) (x : ℕ × Site) → slice_get (assertions_from number ss) k ≡ Some x → SiteAt number ss x
+assertion_site number [] k x e = absurd (none-some x e)
+assertion_site number (s ∷ ss) k x e = chosen_site number s ss x (assertions_from (suc number) ss) (λ j d. assertion_site (suc number) ss j x d) s.asserts k e

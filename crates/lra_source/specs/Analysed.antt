@@ -1,0 +1,45 @@
+-- What a report tells of the iteration over a program: the value at each point by its rows, the verdicts, the first flagged point.
+use Rattle.std.specs.Prelude.{◌≡◌, ℕ, suc, List, [], map, Bool, Option, None, Some, option_map}
+use Rattle.lra_sys.specs.Listed.{Listed}
+use Rattle.lra_sys.specs.declared.system.ConKind.{ConKind}
+use Rattle.lra_report.specs.Rows.{shown_rows}
+use Rattle.lra_domain.specs.Meaning.{Meaning}
+use Rattle.lra_tree.specs.Program.{Program}
+use Rattle.lra_tree.specs.Graph.{Node}
+use Rattle.lra_tree.specs.Agree.{IsGraph}
+use Rattle.lra_tree.specs.Report.{Part, State, PointReport, Verdict, Report}
+use Rattle.lra_flow.specs.declared.Settings.{Settings}
+use Rattle.lra_flow.specs.Pass.{Result}
+use Rattle.lra_flow.specs.Analysis.{Written, Derivation, Strains, Solves}
+
+-- a part without generators
+abbrev pub shown_part : Listed ConKind → Part
+shown_part p = record { rows = shown_rows p.rows p.kinds; generators = [] }
+
+abbrev pub shown_state : {V H : Type 0} → Meaning V H → V → State
+shown_state m v = map shown_part (m.parts v)
+
+-- a verdict as a report tells it; a point's number in a report is one more than in the iteration
+abbrev pub told_verdict : ℕ × Bool → ℕ × Bool
+told_verdict v = (suc v.0, v.1)
+
+abbrev pub verdict_told : Verdict → ℕ × Bool
+verdict_told v = (v.number, v.proved)
+
+pub record IsAnalysed {V H : Type 0} (m : Meaning V H) (settings : Settings) (P : Program) (r : Report) : Type 0 where
+  pub tree : Node
+  pub is_graph : IsGraph P tree
+  pub result : Result V
+  pub values : List V
+  -- a verdict is unknown exactly where something is left of the value at which the assertion's condition is false
+  pub verdicts : List (ℕ × Bool)
+  pub flagged : Option ℕ
+  pub solves : Solves m result values verdicts flagged
+  -- a derivation with drops; without a flag the written iteration; the first flag stands where the written iteration strains
+  pub derived : Derivation m settings P tree result
+  pub written : flagged ≡ None → Written m settings P tree result
+  pub strained : (q : ℕ) → flagged ≡ Some q → Strains m settings P tree q
+  -- and the report tells it
+  pub states : map (λ (p : PointReport). p.state) r.points ≡ map (shown_state m) values
+  pub proved : map verdict_told r.verdicts ≡ map told_verdict verdicts
+  pub flag : r.flagged ≡ option_map suc flagged

@@ -1,0 +1,39 @@
+-- What follows of the tree of a well-formed program, and of a report that tells an analysis over boxes.
+use Rattle.std.specs.Prelude.{◌≡◌, ◌≤◌, ℕ, List, length, slice_get, Some}
+use Rattle.lra_tree.specs.Trees.{FileTree}
+use Rattle.lra_tree.specs.Program.{Program}
+use Rattle.lra_tree.specs.Graph.{Node}
+use Rattle.lra_tree.specs.Report.{box, Options, Report, IsSound}
+use Rattle.lra_tree.specs.Resolve.{resolve}
+use Rattle.lra_tree.specs.Sites.{Site, sites_of}
+use Rattle.lra_tree.specs.Agree.{IsGraph, Agrees}
+use Rattle.lra_tree.specs.WellFormed.{IsWellFormed}
+use Rattle.lra_tree.specs.Built.{Built}
+use Rattle.lra_tree.specs.Refuse.{greatest_live, Accepts}
+use Rattle.lra_tree.specs.Listing.{Lists, IsReportOf}
+use Rattle.lra_box.specs.Meaning.{box_meaning}
+use Rattle.lra_flow.specs.declared.Settings.{Settings}
+use Rattle.lra_iter.specs.Fits.{TreeFits}
+use Rattle.lra_source.specs.Numbers.{AreBelow, IsNumbered}
+use Rattle.lra_source.specs.Analysed.{IsAnalysed}
+
+-- no more variables live at a point than are taken
+abbrev pub AreFew : List Site → Type 0
+AreFew T = (q : ℕ) (s : Site) → slice_get T q ≡ Some s → s.live ≤ greatest_live
+
+-- an iteration can be made over the tree of a well-formed program
+abbrev pub TreesFit : Type 0
+TreesFit = (P : Program) (g : Node) → IsWellFormed P → AreFew (sites_of P) → IsGraph P g → TreeFits g (length P.globals)
+
+-- the tree has each point once, each assertion once, and operations of the program's points alone
+abbrev pub TreesAreNumbered : Type 0
+TreesAreNumbered = (P : Program) (g : Node) → IsGraph P g → IsNumbered (sites_of P) g × AreBelow (length (sites_of P)) g
+
+-- where tree and runs agree: the states hold in all runs, and no assertion that is marked proved fails
+abbrev pub AnalysedAreSound : Type 0
+AnalysedAreSound = (settings : Settings) (t : FileTree) (r : Report) (x : IsAnalysed box_meaning settings (resolve t) r) → Agrees (resolve t) x.tree → Lists t r → IsSound (resolve t) r
+
+-- and of an accepted source it is a report
+abbrev pub AnalysedAreReports : Type 0
+AnalysedAreReports = (o : Options) (settings : Settings) (source : List ℕ) (t : FileTree) (r : Report) (x : IsAnalysed box_meaning settings (resolve t) r) → Agrees (resolve t) x.tree → Lists t r
+    → o.domain ≡ box → 1 ≤ o.parts → r.options ≡ o → Accepts Built source t → IsReportOf Built o source r
