@@ -5,6 +5,7 @@ pub mod LineLemmas
 pub mod MarkLemmas
 pub mod LexemeLemmas
 pub mod LiteralLemmas
+pub mod AsciiLemmas
 -- Gaps.
 pub mod GapLemmas
 -- The token at the front, and how far a source is read.

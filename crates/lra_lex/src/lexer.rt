@@ -51,6 +51,15 @@ struct Found {
     kind: Option<Kind>,
 }
 
+/// The text of a word: its bytes are below 128.
+#[tactic(auto, using(crate::proofs::AsciiLemmas::word_is_text))]
+fn word_text(word: &[u8]) -> &str
+    requires { is_word word.now ≡ true }
+    ensures { result.now ≡ word.now }
+{
+    str::from_utf8(word).unwrap()
+}
+
 /// The kind of a word.
 fn word_kind(alloc: Global, word: &[u8]) -> Result<Kind, AllocError>
     requires { is_word word.now ≡ true }
@@ -62,7 +71,7 @@ fn word_kind(alloc: Global, word: &[u8]) -> Result<Kind, AllocError>
             if is_further_word(word) {
                 Ok(Kind::Reserved)
             } else {
-                Ok(Kind::Name(Word::from_slice(alloc, word)?))
+                Ok(Kind::Name(Word::from_str(alloc, word_text(word))?))
             }
         }
     }

@@ -89,7 +89,7 @@ const CASES: [(&[u8], &str); 46] = [
 fn write_kind(text: &mut String, kind: &Kind) -> Result<(), Fail> {
     match kind {
         Kind::Name(word) => {
-            let name = str::from_utf8(word.as_slice())?;
+            let name = word.as_str();
             write!(text, "name {name}")?;
         }
         Kind::Number(value) => write!(text, "{value}")?,

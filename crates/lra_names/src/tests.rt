@@ -15,19 +15,19 @@ fn at(column: u32) -> Place {
     Place { line: 1, column }
 }
 
-fn identifier(rt: &HostRuntime, bytes: &[u8], column: u32) -> Result<Identifier, AllocError> {
+fn identifier(rt: &HostRuntime, name: &str, column: u32) -> Result<Identifier, AllocError> {
     Ok(Identifier {
-        word: Word::from_slice(rt.alloc(), bytes)?,
+        word: Word::from_str(rt.alloc(), name)?,
         place: at(column),
     })
 }
 
 /// `int main(void){long x;NAME++;}`
-fn counted(rt: &HostRuntime, name: &[u8]) -> Result<Tree, Fail> {
+fn counted(rt: &HostRuntime, name: &str) -> Result<Tree, Fail> {
     let mut items = Vec::new(rt.alloc());
     items.push(lra_tree::BlockItem::Declaration(Declaration {
         first: Declarator {
-            name: identifier(rt, b"x", 21)?,
+            name: identifier(rt, "x", 21)?,
             source: None,
         },
         rest: Vec::new(rt.alloc()),
@@ -36,7 +36,7 @@ fn counted(rt: &HostRuntime, name: &[u8]) -> Result<Tree, Fail> {
     items.push(lra_tree::BlockItem::Statement(lra_tree::Stmt::Assign(step)))?;
     let main = Function {
         has_result: true,
-        name: identifier(rt, b"main", 5)?,
+        name: identifier(rt, "main", 5)?,
         parameters: Parameters {
             items: Vec::new(rt.alloc()),
         },
@@ -61,7 +61,7 @@ fn counts_up(item: &BlockItem) -> bool {
 
 #[test]
 fn a_source_has_its_program(rt: HostRuntime) -> Result<(), Fail> {
-    let program = resolve(rt.alloc(), &counted(&rt, b"x")?)?;
+    let program = resolve(rt.alloc(), &counted(&rt, "x")?)?;
     assert_eq!(rt; program.main, 0);
     assert_eq!(rt; program.functions.len(), 1);
     let main = &program.functions[0];
@@ -73,7 +73,7 @@ fn a_source_has_its_program(rt: HostRuntime) -> Result<(), Fail> {
 
 #[test]
 fn an_unknown_name_is_refused_at_its_place(rt: HostRuntime) -> Result<(), Fail> {
-    let tree = counted(&rt, b"y")?;
+    let tree = counted(&rt, "y")?;
     let refusal = Refusal {
         cause: Cause::UnknownName,
         place: at(23),

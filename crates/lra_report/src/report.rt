@@ -27,8 +27,8 @@ pub struct Options {
 /// A point of the program: its statement's label, and the labels of the calls that lead to it, the innermost first.
 #[derive(Drop)]
 pub struct Point {
-    pub path: Vec<u32>,
-    pub label: u32,
+    pub path: Vec<usize>,
+    pub label: usize,
 }
 
 /// A point with its number, its path and place as they are printed, the printed names of its variables, and its state: one of the

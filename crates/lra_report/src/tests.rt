@@ -12,7 +12,7 @@ fn place(line: u32, column: u32) -> Place {
     Place { line, column }
 }
 
-fn point(alloc: Global, label: u32) -> Point {
+fn point(alloc: Global, label: usize) -> Point {
     Point {
         path: Vec::new(alloc),
         label,
@@ -28,7 +28,7 @@ fn in_main(
 ) -> Result<PointReport, AllocError> {
     Ok(PointReport {
         number,
-        point: point(alloc, number),
+        point: point(alloc, number as usize),
         path: String::from_str(alloc, "main")?,
         place,
         names,

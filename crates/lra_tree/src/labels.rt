@@ -204,9 +204,9 @@ mod tests {
         Place { line: 1, column }
     }
 
-    fn identifier(rt: &HostRuntime, bytes: &[u8], column: u32) -> Result<Identifier, AllocError> {
+    fn identifier(rt: &HostRuntime, text: &str, column: u32) -> Result<Identifier, AllocError> {
         Ok(Identifier {
-            word: Word::from_slice(rt.alloc(), bytes)?,
+            word: Word::from_str(rt.alloc(), text)?,
             place: at(column),
         })
     }
@@ -222,7 +222,7 @@ mod tests {
             rest: Vec::new(rt.alloc()),
         };
         let first = Declarator {
-            name: identifier(rt, b"x", 21)?,
+            name: identifier(rt, "x", 21)?,
             source: Some(Source::Value(two)),
         };
         items.push(BlockItem::Declaration(Declaration {
@@ -232,7 +232,7 @@ mod tests {
         items.push(BlockItem::Statement(Stmt::Nothing(at(25))))?;
         let main = Function {
             has_result: true,
-            name: identifier(rt, b"main", 5)?,
+            name: identifier(rt, "main", 5)?,
             parameters: Parameters {
                 items: Vec::new(rt.alloc()),
             },

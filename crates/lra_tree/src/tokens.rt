@@ -81,18 +81,18 @@ pub enum Mark {
     While,
 }
 
-/// The bytes of a name.
+/// A name.
 #[derive(Drop)]
 pub struct Word {
-    bytes: Vec<u8>,
+    text: String,
 }
 
 impl Model for Word {
-    ghost use Rattle.std.specs.Prelude.{ℕ, List};
+    ghost use Rattle.std.specs.Prelude.{ℕ, List, string_bytes};
 
     ghost Value = { List ℕ };
 
-    ghost view = { λ w. w.bytes.items };
+    ghost view = { λ w. string_bytes w.text };
 }
 
 /// What a token is.
@@ -117,26 +117,32 @@ pub struct Token {
 }
 
 impl Word {
-    /// A copy of the bytes.
-    pub fn from_slice(alloc: Global, bytes: &[u8]) -> Result<Word, AllocError>
-        ensures { IfOk result (λ w. w ≡ bytes.now) }
+    /// A copy of the text.
+    pub fn from_str(alloc: Global, text: &str) -> Result<Word, AllocError>
+        ensures { IfOk result (λ w. w ≡ text.now) }
     {
-        let mut all = Vec::new(alloc);
-        all.extend_from_slice(bytes)?;
-        Ok(Word { bytes: all })
+        Ok(Word {
+            text: String::from_str(alloc, text)?,
+        })
     }
 
     pub fn copy(&self, alloc: Global) -> Result<Word, AllocError>
         ensures { IfOk result (λ w. w ≡ self.now) }
     {
-        Word::from_slice(alloc, &self.bytes)
+        Word::from_str(alloc, self.as_str())
+    }
+
+    pub fn as_str(&self) -> &str
+        ensures { result.now ≡ self.now }
+    {
+        self.text.as_str()
     }
 
     /// The bytes as a slice.
     pub fn as_slice(&self) -> &[u8]
         ensures { result.now ≡ self.now }
     {
-        &self.bytes
+        self.text.as_bytes()
     }
 }
 
@@ -146,11 +152,11 @@ mod tests {
     use std::test::Fail;
 
     #[test]
-    fn words_keep_their_bytes(rt: HostRuntime) -> Result<(), Fail> {
-        let word = Word::from_slice(rt.alloc(), &[95, 120, 57])?;
+    fn words_keep_their_text(rt: HostRuntime) -> Result<(), Fail> {
+        let word = Word::from_str(rt.alloc(), "_x9")?;
         let copy = word.copy(rt.alloc())?;
         assert!(rt; word.as_slice() == [95, 120, 57].as_slice());
-        assert!(rt; copy.as_slice() == [95, 120, 57].as_slice());
+        assert!(rt; copy.as_str() == "_x9");
         Ok(())
     }
 }

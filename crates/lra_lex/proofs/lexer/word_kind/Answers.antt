@@ -9,6 +9,6 @@ returns-in-Some c = mark_of c.in-Some.mark (found_is c.args.word.now c.in-Some.m
 pub returns-then-is_further_word : goal.returns-then-is_further_word
 returns-then-is_further_word c = reserved (sym c.is_further_word.ensures ∙ c.if-is_further_word.true)
 
-pub returns-in_ok-from_slice-in-None : goal.returns-in_ok-from_slice-in-None
-returns-in_ok-from_slice-in-None c =
-    rw c.in_ok-from_slice-in-None.ensures (name c.requires (not_named c.args.word.now (sym c.in-None.ensures)) (sym c.is_further_word.ensures ∙ c.if-is_further_word.false))
+pub returns-in_ok-from_str-in-None : goal.returns-in_ok-from_str-in-None
+returns-in_ok-from_str-in-None c =
+    rw (c.in_ok-from_str-in-None.ensures, c.word_text.ensures) (name c.requires (not_named c.args.word.now (sym c.in-None.ensures)) (sym c.is_further_word.ensures ∙ c.if-is_further_word.false))
