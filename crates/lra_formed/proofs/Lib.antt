@@ -1,0 +1,11 @@
+-- Variables and calls without faults; what a tree means is good where nothing of it is at fault.
+pub mod Faultless
+pub mod Good
+-- Labels in text order.
+pub mod Numbered
+-- Whole programs.
+pub mod Whole
+-- Literals of tokens, of trees, and of a source's tree.
+pub mod Spelled
+-- Sources without calls.
+pub mod Callless

@@ -1,0 +1,124 @@
+-- Trees whose literals are numbers of 64 bits: those in expressions are below 2^63, and the first values of globals are from -2^63 to 2^63 - 1.
+use Rattle.std.specs.Prelude.{◌<◌, Option, Some, None, IsTrue, ⊤, ◌∷◌}
+use Rattle.std.specs.List.{AllByRecursion}
+use Rattle.lra_tree.specs.Trees.{UnaryTree, negated, positive, literal, variable, input, group, TermTree, unary, times, over, modulo, ExprTree, term, plus, minus, NegationTree, opposite_again, value_of_unary, group_opposed, TestTree, opposite, value, compare, group_of, ConjunctionTree, test, and, CondTree, conjunction, or, CallTree, SourceTree, expression, result, AssignTree, set, update, after, before, DeclaratorTree, DeclarationTree, InitTree, no_init, declared, assigned, StmtTree, block, nothing, assign, call, if_only, if_else, while, for, break, continue, return, assert, assume, ItemsTree, no_items, declaration, statement, GlobalTree, PartTree, prototype, globals, function, FileTree}
+use Rattle.lra_tree.specs.Value.{is_word}
+use Rattle.lra_tree.specs.Resolve.{global_value}
+
+-- expressions ------------------------------------------------------------------------------------------------------
+
+abbrev mutual
+  pub IsSmallUnary : UnaryTree → Type 0
+  IsSmallUnary (negated u) = IsSmallUnary u
+  IsSmallUnary (positive u) = IsSmallUnary u
+  IsSmallUnary (literal n) = n < 9223372036854775808
+  IsSmallUnary (variable x) = ⊤
+  IsSmallUnary input = ⊤
+  IsSmallUnary (group e) = IsSmallExpr e
+
+  pub IsSmallTerm : TermTree → Type 0
+  IsSmallTerm (unary u) = IsSmallUnary u
+  IsSmallTerm (times t u) = IsSmallTerm t × IsSmallUnary u
+  IsSmallTerm (over t u) = IsSmallTerm t × IsSmallUnary u
+  IsSmallTerm (modulo t u) = IsSmallTerm t × IsSmallUnary u
+
+  pub IsSmallExpr : ExprTree → Type 0
+  IsSmallExpr (term t) = IsSmallTerm t
+  IsSmallExpr (plus e t) = IsSmallExpr e × IsSmallTerm t
+  IsSmallExpr (minus e t) = IsSmallExpr e × IsSmallTerm t
+
+-- conditions -------------------------------------------------------------------------------------------------------
+
+abbrev mutual
+  pub IsSmallNegation : NegationTree → Type 0
+  IsSmallNegation (opposite_again n) = IsSmallNegation n
+  IsSmallNegation (value_of_unary u) = IsSmallUnary u
+  IsSmallNegation (group_opposed c) = IsSmallCond c
+
+  pub IsSmallTest : TestTree → Type 0
+  IsSmallTest (opposite n) = IsSmallNegation n
+  IsSmallTest (value e) = IsSmallExpr e
+  IsSmallTest (compare a op b) = IsSmallExpr a × IsSmallExpr b
+  IsSmallTest (group_of c) = IsSmallCond c
+
+  pub IsSmallConjunction : ConjunctionTree → Type 0
+  IsSmallConjunction (test t) = IsSmallTest t
+  IsSmallConjunction (and c t) = IsSmallConjunction c × IsSmallTest t
+
+  pub IsSmallCond : CondTree → Type 0
+  IsSmallCond (conjunction c) = IsSmallConjunction c
+  IsSmallCond (or c d) = IsSmallCond c × IsSmallConjunction d
+
+-- calls, assignments, declarations ---------------------------------------------------------------------------------
+
+abbrev pub IsSmallCall : CallTree → Type 0
+IsSmallCall c = AllByRecursion IsSmallExpr c.arguments
+
+abbrev pub IsSmallSource : SourceTree → Type 0
+IsSmallSource (expression e) = IsSmallExpr e
+IsSmallSource (result c) = IsSmallCall c
+
+abbrev pub IsSmallGiven : Option SourceTree → Type 0
+IsSmallGiven None = ⊤
+IsSmallGiven (Some e) = IsSmallSource e
+
+abbrev pub IsSmallAssign : AssignTree → Type 0
+IsSmallAssign (set x e) = IsSmallSource e
+IsSmallAssign (update x op e) = IsSmallExpr e
+IsSmallAssign (after x s) = ⊤
+IsSmallAssign (before at s x) = ⊤
+
+abbrev pub IsSmallDeclarator : DeclaratorTree → Type 0
+IsSmallDeclarator d = IsSmallGiven d.source
+
+abbrev pub IsSmallDeclaration : DeclarationTree → Type 0
+IsSmallDeclaration d = AllByRecursion IsSmallDeclarator (d.first ∷ d.rest)
+
+-- statements -------------------------------------------------------------------------------------------------------
+
+abbrev pub IsSmallInit : InitTree → Type 0
+IsSmallInit no_init = ⊤
+IsSmallInit (declared d) = IsSmallDeclaration d
+IsSmallInit (assigned a) = IsSmallAssign a
+
+abbrev pub IsSmallForTest : Option CondTree → Type 0
+IsSmallForTest None = ⊤
+IsSmallForTest (Some c) = IsSmallCond c
+
+abbrev pub IsSmallStep : Option AssignTree → Type 0
+IsSmallStep None = ⊤
+IsSmallStep (Some a) = IsSmallAssign a
+
+abbrev mutual
+  pub IsSmallStmt : StmtTree → Type 0
+  IsSmallStmt (block items end) = AreSmallItems items
+  IsSmallStmt (nothing at) = ⊤
+  IsSmallStmt (assign a) = IsSmallAssign a
+  IsSmallStmt (call c) = IsSmallCall c
+  IsSmallStmt (if_only at c t) = IsSmallCond c × IsSmallStmt t
+  IsSmallStmt (if_else at c t e) = IsSmallCond c × IsSmallStmt t × IsSmallStmt e
+  IsSmallStmt (while at c b) = IsSmallCond c × IsSmallStmt b
+  IsSmallStmt (for at i c e b) = IsSmallInit i × IsSmallForTest c × IsSmallStep e × IsSmallStmt b
+  IsSmallStmt (break at) = ⊤
+  IsSmallStmt (continue at) = ⊤
+  IsSmallStmt (return at e) = IsSmallGiven e
+  IsSmallStmt (assert at c) = IsSmallCond c
+  IsSmallStmt (assume at c) = IsSmallCond c
+
+  pub AreSmallItems : ItemsTree → Type 0
+  AreSmallItems no_items = ⊤
+  AreSmallItems (declaration d items) = IsSmallDeclaration d × AreSmallItems items
+  AreSmallItems (statement t items) = IsSmallStmt t × AreSmallItems items
+
+-- the whole --------------------------------------------------------------------------------------------------------
+
+abbrev pub IsSmallGlobal : GlobalTree → Type 0
+IsSmallGlobal g = IsTrue (is_word (global_value g))
+
+abbrev pub IsSmallPart : PartTree → Type 0
+IsSmallPart prototype = ⊤
+IsSmallPart (globals g) = AllByRecursion IsSmallGlobal (g.first ∷ g.rest)
+IsSmallPart (function f) = AreSmallItems f.body
+
+abbrev pub HasSmallLiterals : FileTree → Type 0
+HasSmallLiterals t = AllByRecursion IsSmallPart t.parts

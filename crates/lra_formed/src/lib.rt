@@ -1,0 +1,8 @@
+//! Programs of sources without faults of names: well-formed, and so far without recursion.
+//!
+//! The definitions stand in `lra_tree`: the grammar, the faults of names, the program that a tree means, and well-formed programs.
+#![tactic(auto)]
+
+mod laws;
+
+pub use laws::{built_are_not_recursive, faultless_are_well_formed};
