@@ -9,3 +9,5 @@ pub mod Whole
 pub mod Spelled
 -- Sources without calls.
 pub mod Callless
+-- Worked examples.
+mod LiteralExamples
