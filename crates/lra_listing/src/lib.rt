@@ -6,3 +6,6 @@ mod listing;
 mod walk;
 
 pub use listing::list;
+
+#[cfg(test)]
+mod tests;

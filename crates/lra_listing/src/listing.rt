@@ -174,6 +174,14 @@ fn names_of_globals(alloc: Global, tree: &Tree) -> Result<Names, AllocError>
     Ok(names)
 }
 
+/// The number of a point in a report, where they count from 1.
+fn number_of(index: usize) -> u32
+    requires { suc index < 2 ^ 32 }
+    ensures { result ≡ suc index }
+{
+    index as u32 + 1
+}
+
 /// The points of the report: all of them in order, numbered from 1.
 fn list_points(
     alloc: Global,
@@ -190,8 +198,8 @@ fn list_points(
     let mut points = Vec::new(alloc);
     'states: for state in states {
         let index = points.len();
-        let number = index as u32 + 1;
-        points.push(list_point(alloc, labels, globals, number, &sites[index], state)?)?;
+        let site = &sites[index];
+        points.push(list_point(alloc, labels, globals, number_of(index), site, state)?)?;
     }
     Ok(points)
 }
@@ -209,9 +217,9 @@ fn list_verdicts(
 {
     let mut listed = Vec::new(alloc);
     'verdicts: for verdict in verdicts {
-        let index = verdict.0;
-        let number = index as u32 + 1;
-        listed.push(list_verdict(alloc, labels, number, &sites[index], verdict.1)?)?;
+        let (index, proved) = *verdict;
+        let site = &sites[index];
+        listed.push(list_verdict(alloc, labels, number_of(index), site, proved)?)?;
     }
     Ok(listed)
 }
@@ -242,9 +250,13 @@ pub fn list(
     let globals = names_of_globals(alloc, tree)?;
     let points = list_points(alloc, &labels, &globals, sites, states)?;
     let verdicts = list_verdicts(alloc, &labels, sites, verdicts)?;
+    let flagged = match flagged {
+        None => None,
+        Some(index) => Some(number_of(index)),
+    };
     Ok(Report {
         options,
-        flagged: flagged.map(|index| index as u32 + 1),
+        flagged,
         points,
         verdicts,
     })
