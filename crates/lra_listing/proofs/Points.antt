@@ -1,11 +1,18 @@
 -- The points of a report, one more at a time.
 use Rattle.std.proofs.Common.{◌≡◌, ◌∙◌, sym, ap, refl, subst, ◌+◌, ◌<◌, ℕ, zero, suc, List, [], ◌∷◌, ◌++◌, length, map, take, get_or, Some, arith}
 use Rattle.std.specs.Prelude.{slice_get}
+use Rattle.std.proofs.lemmas.List.{length-map, length-take-le, map-append}
 use Rattle.std.specs.List.{AllByRecursion}
 use Rattle.lra_tree.specs.Report.{State, PointReport}
 use Rattle.lra_tree.specs.Sites.{Site}
 use Rattle.lra_tree.specs.Labels.{Labelled}
 use Rattle.lra_tree.specs.Listing.{listed_point, HasWidth, AreListed}
+use Rattle.lra_tree.specs.declared.graph.Site as code_site
+use Rattle.lra_tree.specs.GraphViews.{site_view}
+use Rattle.lra_report.specs.declared.report.PointReport as code_point
+use Rattle.lra_report.specs.View.{point_report_of}
+use Rattle.lra_listing.specs.Given.{state_of, AreStates}
+use Rattle.lra_listing.proofs.Walks.{mapped_more}
 
 -- the point of the next number
 pub listed_more : (outside : List (List ℕ)) (ls : List Labelled) (k n : ℕ) (ss : List Site) (ps : List PointReport) (s : Site) (p : PointReport) → AreListed outside ls k ss ps
@@ -16,3 +23,28 @@ listed_more outside ls k n [] (q ∷ ps) s p listed at is wide = absurd listed
 listed_more outside ls k n (x ∷ ss) [] s p listed at is wide = absurd listed
 listed_more outside ls k n (x ∷ ss) (q ∷ ps) s p listed at is wide =
     (listed.0, listed.1, listed_more outside ls (suc k) n ss ps s p listed.2 (omega (arith, at)) is wide)
+
+-- a point of the code's types, behind those of the first n sites
+pub point_listed : (outside : List (List ℕ)) (ls : List Labelled) (sites : List code_site.Site) (points more : List code_point.PointReport) (s : code_site.Site) (p : code_point.PointReport)
+    (n : ℕ) (state : State) → AreListed outside ls 1 (map site_view (take n sites)) (map point_report_of points) → more ≡ points ++ p ∷ [] → s ≡ get_or sites n s → n < length sites
+    → point_report_of p ≡ listed_point outside ls (suc n) (site_view s) state → AllByRecursion (HasWidth s.live) state
+    → AreListed outside ls 1 (map site_view (take (n + 1) sites)) (map point_report_of more)
+point_listed outside ls sites points more s p n state listed pushed read inside is wide =
+    let x = mapped_more site_view sites n s read inside in
+    let y : map point_report_of more ≡ map point_report_of points ++ point_report_of p ∷ [] = ap (map point_report_of) pushed ∙ map-append point_report_of points (p ∷ []) in
+    let long : length (map site_view (take n sites)) ≡ n = length-map (take n sites) site_view ∙ length-take-le n sites (omega (arith, inside)) in
+    let same : (point_report_of p).state ≡ state = ap state_of is in
+    subst (λ (ps : List PointReport). AreListed outside ls 1 (map site_view (take (n + 1) sites)) ps) (sym y)
+    (subst (λ (ss : List Site). AreListed outside ls 1 ss (map point_report_of points ++ point_report_of p ∷ [])) (sym x)
+    (listed_more outside ls 1 (suc n) (map site_view (take n sites)) (map point_report_of points) (site_view s) (point_report_of p) listed (omega (arith, long))
+    (is ∙ ap (λ (v : State). listed_point outside ls (suc n) (site_view s) v) (sym same)) (subst (λ (v : State). AllByRecursion (HasWidth s.live) v) (sym same) wide)))
+
+-- its state, behind those of the others
+pub states_listed : (points more : List code_point.PointReport) (p : code_point.PointReport) (states : List State) (state : State) → map state_of (map point_report_of points) ≡ states
+    → more ≡ points ++ p ∷ [] → (point_report_of p).state ≡ state → map state_of (map point_report_of more) ≡ states ++ state ∷ []
+states_listed points more p states state are pushed is =
+    ap (λ (ps : List code_point.PointReport). map state_of (map point_report_of ps)) pushed
+    ∙ ap (map state_of) (map-append point_report_of points (p ∷ []))
+    ∙ map-append state_of (map point_report_of points) (point_report_of p ∷ [])
+    ∙ ap (λ (xs : List State). xs ++ (point_report_of p).state ∷ []) are
+    ∙ ap (λ (x : State). states ++ x ∷ []) is

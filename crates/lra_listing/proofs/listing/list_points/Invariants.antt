@@ -1,5 +1,5 @@
 -- So far the points of the first sites are there, with the first states.
-use Rattle.std.proofs.Common.{◌≡◌, map, take, vec_len, Vec, Global}
+use Rattle.std.proofs.Common.{◌≡◌, length, map, take, vec_len, Vec, Global}
 use Rattle.lra_tree.specs.GraphViews.{site_view}
 use Rattle.lra_tree.specs.Report.{Part}
 use Rattle.lra_tree.specs.Listing.{AreListed}
@@ -9,7 +9,7 @@ use Rattle.lra_listing.proofs.listing.list_points.Given as goal
 
 abbrev pub invariant-states : goal.invariant-states
 invariant-states l = record {
-  count : vec_len l.points ≡ l.state-index;
-  listed : AreListed l.globals l.labels.labels 1 (map site_view (take l.state-index l.sites)) (map point_report_of l.points.items);
-  states : map state_of (map point_report_of l.points.items) ≡ map (λ (x : Vec Part Global). x.items) (take l.state-index l.state-items);
+  count : vec_len l.points ≡ length l.yielded;
+  listed : AreListed l.globals l.labels.labels 1 (map site_view (take (length l.yielded) l.sites)) (map point_report_of l.points.items);
+  states : map state_of (map point_report_of l.points.items) ≡ map (λ (x : Vec Part Global). x.items) l.yielded;
 }
