@@ -6,3 +6,4 @@ pub mod Walks
 -- Points and verdicts.
 pub mod Points
 pub mod Verdicts
+pub mod Reports
