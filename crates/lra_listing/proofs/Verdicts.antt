@@ -28,20 +28,20 @@ above : (v w : ℕ × Bool) (vs : Verdicts) → Ascend (v ∷ vs) → Contains v
 above v w vs ascend h = ascend 0 (suc h.0) v w (omega arith) refl (slice_get_read vs (length vs) h.0 w refl h.1 (sym h.2))
 
 behind : (k q : ℕ) (s : Site) (ss : List Site) (j : ℕ) → (j ≡ 0 → ⊥) → q ≡ k + j → IsAssertion (s ∷ ss) j → (i : ℕ) × (q ≡ suc k + i) × IsAssertion ss i
-behind k q s ss zero no e a = absurd (no refl)
-behind k q s ss (suc i) no e a = (i, omega (arith, e), a)
+behind k q s ss zero never e a = absurd (never refl)
+behind k q s ss (suc i) never e a = (i, omega (arith, e), a)
 
 step_number : (k j : ℕ) → k + suc j ≡ suc k + j
 step_number k j = omega arith
 
 -- behind a point that is no assertion
 not_asserted : (s : Site) (ss : List Site) (j : ℕ) → s.asserts ≡ false → IsAssertion (s ∷ ss) j → j ≡ 0 → ⊥
-not_asserted s ss zero no a e = let same = same_Some s a.0 a.1 in let holds = a.2 in rw (sym same, no) at holds (absurd holds)
-not_asserted s ss (suc j) no a e = let wrong : ⊥ = omega (arith, e) in wrong
+not_asserted s ss zero never a e = let same = ap (λ (x : Site). x.asserts) (same_Some s a.0 a.1) in let holds : a.0.asserts ≡ true = a.2 in cc
+not_asserted s ss (suc j) never a e = omega (arith, e)
 
 passed : (k : ℕ) (s : Site) (ss : List Site) (vs : Verdicts) → s.asserts ≡ false → From k (s ∷ ss) vs → From (suc k) ss vs
-passed k s ss vs no f = record {
-  of_assertions = λ q b h. let a = f.of_assertions q b h in behind k q s ss a.0 (not_asserted s ss a.0 no a.2) a.1 a.2;
+passed k s ss vs never f = record {
+  of_assertions = λ q b h. let a = f.of_assertions q b h in behind k q s ss a.0 (not_asserted s ss a.0 never a.2) a.1 a.2;
   of_all = λ j a. let x = f.of_all (suc j) a in (x.0, subst (λ (n : ℕ). Contains vs (n, x.0)) (step_number k j) x.1);
   in_order = f.in_order;
 }

@@ -58,20 +58,6 @@ names_of_last live ds d =
     ap (λ (x : List (List ℕ)). live ++ x) (map-append (λ (x : DeclaratorTree). x.name.word) ds (d ∷ []))
     ∙ sym (append_assoc live (map (λ (x : DeclaratorTree). x.name.word) ds) (d.name.word ∷ []))
 
--- labels under a list that stays
-pub under_kept : (F : List (List ℕ) → List Labelled) (a b : Table) (live : ℕ) (l0 l1 l2 x : List Labelled) → live < length a → Keep a b
-    → l1 ≡ l0 ++ x → l2 ≡ l1 ++ F (list_at b live) → l2 ≡ l0 ++ (x ++ F (list_at a live))
-under_kept F a b live l0 l1 l2 x h k first last =
-    last ∙ ap (λ (ls : List Labelled). ls ++ F (list_at b live)) first ∙ append_assoc l0 x (F (list_at b live))
-    ∙ ap (λ (ns : List (List ℕ)). l0 ++ (x ++ F ns)) (k.same live h)
-
--- labels under a list with these names
-pub under_names : (F : List (List ℕ) → List Labelled) (b : Table) (live : ℕ) (names : List (List ℕ)) (l0 l1 l2 x : List Labelled) → list_at b live ≡ names
-    → l1 ≡ l0 ++ x → l2 ≡ l1 ++ F (list_at b live) → l2 ≡ l0 ++ (x ++ F names)
-under_names F b live names l0 l1 l2 x is first last =
-    last ∙ ap (λ (ls : List Labelled). ls ++ F (list_at b live)) first ∙ append_assoc l0 x (F (list_at b live))
-    ∙ ap (λ (ns : List (List ℕ)). l0 ++ (x ++ F ns)) is
-
 -- one element more of a list that is mapped
 pub mapped_more : {A B : Type 0} (f : A → B) (xs : List A) (i : ℕ) (x : A) → x ≡ get_or xs i x → i < length xs → map f (take (i + 1) xs) ≡ map f (take i xs) ++ f x ∷ []
 mapped_more f xs i x is h =
@@ -89,53 +75,3 @@ declarators_step live here after l0 l1 l2 ds all d more labels names added decla
   ∙ ap (λ (xs : List DeclaratorTree). l0 ++ declarator_labels live xs) (sym more),
   declared ∙ ap (λ (ns : List (List ℕ)). ns ++ d.name.word ∷ []) names ∙ sym (names_of_last live ds d) ∙ ap (λ (xs : List DeclaratorTree). with_names live xs) (sym more),
 )
-
--- statements of the code's types, after what is walked before their last part ------------------------------------------
-
--- a word, then a statement
-pub if_stated : (stmt : Stmt) (at : Place) (c : Cond) (b : Box Stmt Global) (t0 t1 : Table) (live : ℕ) (l0 l1 l2 : List Labelled) → stmt ≡ code_stmt.If at c b
-    → t1 ≡ t0 → l1 ≡ l0 ++ plain_label at (list_at t0 live) ∷ [] → l2 ≡ l1 ++ stmt_labels (list_at t1 live) (stmt_view b.value)
-    → l2 ≡ l0 ++ stmt_labels (list_at t0 live) (stmt_view stmt)
-if_stated stmt at c b t0 t1 live l0 l1 l2 is same word branch =
-    let v : stmt_view (code_stmt.If at c b) ≡ if_only at (cond_view c) (stmt_view b.value) = search (rules, stmt_lemmas) in
-    rw (branch, word, same, is, v) (simp append_assoc)
-
-pub while_stated : (stmt : Stmt) (at : Place) (c : Cond) (b : Box Stmt Global) (t0 t1 : Table) (live : ℕ) (l0 l1 l2 : List Labelled) → stmt ≡ code_stmt.While at c b
-    → t1 ≡ t0 → l1 ≡ l0 ++ plain_label at (list_at t0 live) ∷ [] → l2 ≡ l1 ++ stmt_labels (list_at t1 live) (stmt_view b.value)
-    → l2 ≡ l0 ++ stmt_labels (list_at t0 live) (stmt_view stmt)
-while_stated stmt at c b t0 t1 live l0 l1 l2 is same word body =
-    let v : stmt_view (code_stmt.While at c b) ≡ while at (cond_view c) (stmt_view b.value) = search (rules, stmt_lemmas) in
-    rw (body, word, same, is, v) (simp append_assoc)
-
-pub else_stated : (stmt : Stmt) (at : Place) (c : Cond) (a b : Box Stmt Global) (t0 t1 t2 : Table) (live : ℕ) (l0 l1 l2 l3 : List Labelled) → stmt ≡ code_stmt.IfElse at c a b
-    → live < length t0 → t1 ≡ t0 → Keep t1 t2 → l1 ≡ l0 ++ plain_label at (list_at t0 live) ∷ [] → l2 ≡ l1 ++ stmt_labels (list_at t1 live) (stmt_view a.value)
-    → l3 ≡ l2 ++ stmt_labels (list_at t2 live) (stmt_view b.value) → l3 ≡ l0 ++ stmt_labels (list_at t0 live) (stmt_view stmt)
-else_stated stmt at c a b t0 t1 t2 live l0 l1 l2 l3 is there same keep word branch other =
-    let v : stmt_view (code_stmt.IfElse at c a b) ≡ if_else at (cond_view c) (stmt_view a.value) (stmt_view b.value) = search (rules, stmt_lemmas) in
-    let k : list_at t2 live ≡ list_at t1 live = keep.same live (rw same there) in
-    rw (other, branch, word, k, same, is, v) (simp append_assoc)
-
-pub for_stated : (stmt : Stmt) (at : Place) (i : Init) (c : Option Cond) (e : Option Assign) (b : Box Stmt Global) (t0 t1 : Table) (live inside : ℕ) (l0 l1 l2 : List Labelled)
-    → stmt ≡ code_stmt.For at i c e b → list_at t1 inside ≡ live_in_for (list_at t0 live) (init_view i)
-    → l1 ≡ l0 ++ for_front at (list_at t0 live) (init_view i) (option_map assign_view e) → l2 ≡ l1 ++ stmt_labels (list_at t1 inside) (stmt_view b.value)
-    → l2 ≡ l0 ++ stmt_labels (list_at t0 live) (stmt_view stmt)
-for_stated stmt at i c e b t0 t1 live inside l0 l1 l2 is names front body =
-    let v : stmt_view (code_stmt.For at i c e b) ≡ for at (init_view i) (option_map cond_view c) (option_map assign_view e) (stmt_view b.value) = search (rules, stmt_lemmas) in
-    rw (body, front, names, is, v) (simp append_assoc)
-
--- an item puts its labels before those of the items behind it
-pub item_declared : (item : BlockItem) (d : Declaration) (t0 t1 : Table) (live more : ℕ) (l0 l1 : List Labelled) → item ≡ code_item.Declaration d
-    → list_at t1 more ≡ with_names (list_at t0 live) ((declaration_view d).first ∷ (declaration_view d).rest)
-    → l1 ≡ l0 ++ declarator_labels (list_at t0 live) ((declaration_view d).first ∷ (declaration_view d).rest)
-    → (rest : ItemsTree) (end : Place) → l1 ++ items_labels (list_at t1 more) rest end ≡ l0 ++ items_labels (list_at t0 live) (item_view item rest) end
-item_declared item d t0 t1 live more l0 l1 is names labels rest end =
-    let v : item_view (code_item.Declaration d) rest ≡ declaration (declaration_view d) rest = search (rules, the_lemmas) in
-    rw (labels, names, is, v, append_assoc)
-
-pub item_stated : (item : BlockItem) (s : Stmt) (t0 t1 : Table) (live : ℕ) (l0 l1 : List Labelled) → item ≡ code_item.Statement s → live < length t0 → Keep t0 t1
-    → l1 ≡ l0 ++ stmt_labels (list_at t0 live) (stmt_view s)
-    → (rest : ItemsTree) (end : Place) → l1 ++ items_labels (list_at t1 live) rest end ≡ l0 ++ items_labels (list_at t0 live) (item_view item rest) end
-item_stated item s t0 t1 live l0 l1 is there keep labels rest end =
-    let v : item_view (code_item.Statement s) rest ≡ statement (stmt_view s) rest = search (rules, the_lemmas) in
-    let k : list_at t1 live ≡ list_at t0 live = keep.same live there in
-    rw (labels, k, is, v, append_assoc)
