@@ -17,12 +17,12 @@ pub lists_by_parts : (t : FileTree) (outside : List (List ℕ)) (ls : List Label
     → ss ≡ sites_of (resolve t) → AreVerdicts (sites_of (resolve t)) vs → AreListed outside ls 1 ss r.points → r.verdicts ≡ map (verdict_at ls ss) vs → Lists t r
 lists_by_parts t outside ls ss vs r named labelled sited judged points verdicts = record {
   points =
-    subst (λ (xs : List Site). AreListed (globals_named t.parts) (labels_of t) 1 xs r.points) sited
-    (subst (λ (xs : List Labelled). AreListed (globals_named t.parts) xs 1 ss r.points) labelled
-    (subst (λ (xs : List (List ℕ)). AreListed xs ls 1 ss r.points) named points));
+      subst (λ (xs : List Site). AreListed (globals_named t.parts) (labels_of t) 1 xs r.points) sited
+      (subst (λ (xs : List Labelled). AreListed (globals_named t.parts) xs 1 ss r.points) labelled
+      (subst (λ (xs : List (List ℕ)). AreListed xs ls 1 ss r.points) named points));
   verdicts =
-    are_judged (labels_of t) (sites_of (resolve t)) vs r.verdicts
-    (verdicts ∙ ap (λ (xs : List Labelled). map (verdict_at xs ss) vs) labelled ∙ ap (λ (xs : List Site). map (verdict_at (labels_of t) xs) vs) sited) judged;
+      are_judged (labels_of t) (sites_of (resolve t)) vs r.verdicts
+      (verdicts ∙ ap (λ (xs : List Labelled). map (verdict_at xs ss) vs) labelled ∙ ap (λ (xs : List Site). map (verdict_at (labels_of t) xs) vs) sited) judged;
 }
 
 -- what is known at the program's points is known at the given ones

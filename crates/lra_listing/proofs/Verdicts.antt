@@ -60,15 +60,15 @@ first_number k s ss v vs here f =
 taken : (k : ℕ) (s : Site) (ss : List Site) (v : ℕ × Bool) (vs : Verdicts) → v.0 ≡ k → From k (s ∷ ss) (v ∷ vs) → From (suc k) ss vs
 taken k s ss v vs first f = record {
   of_assertions = λ q b h.
-    let a = f.of_assertions q b (contains_tail v (q, b) vs h) in
-    let more = above v (q, b) vs f.in_order h in
-    behind k q s ss a.0 (λ z. omega (arith, z, a.1, more, first)) a.1 a.2;
+      let a = f.of_assertions q b (contains_tail v (q, b) vs h) in
+      let more = above v (q, b) vs f.in_order h in
+      behind k q s ss a.0 (λ z. omega (arith, z, a.1, more, first)) a.1 a.2;
   of_all = λ j a.
-    let x = f.of_all (suc j) a in
-    elim (contains_cases v (k + suc j, x.0) vs x.1) [
-      | inl same ↦ let e : v.0 ≡ k + suc j = ap (λ (w : ℕ × Bool). w.0) same in let wrong : ⊥ = omega (arith, e, first) in absurd wrong
-      | inr later ↦ (x.0, subst (λ (n : ℕ). Contains vs (n, x.0)) (step_number k j) later)
-    ];
+      let x = f.of_all (suc j) a in
+      elim (contains_cases v (k + suc j, x.0) vs x.1) [
+        | inl same ↦ let e : v.0 ≡ k + suc j = ap (λ (w : ℕ × Bool). w.0) same in let wrong : ⊥ = omega (arith, e, first) in absurd wrong
+        | inr later ↦ (x.0, subst (λ (n : ℕ). Contains vs (n, x.0)) (step_number k j) later)
+      ];
   in_order = λ i j a b l x y. f.in_order (suc i) (suc j) a b (omega (arith, l)) x y;
 }
 

@@ -69,9 +69,9 @@ pub declarators_step : (live here after : List (List ℕ)) (l0 l1 l2 : List Labe
     → (l2 ≡ l0 ++ declarator_labels live all) × (after ≡ with_names live all)
 declarators_step live here after l0 l1 l2 ds all d more labels names added declared = (
   added ∙ ap (λ (ls : List Labelled). ls ++ declarator_labels here (d ∷ [])) labels
-  ∙ append_assoc l0 (declarator_labels live ds) (declarator_labels here (d ∷ []))
-  ∙ ap (λ (ns : List (List ℕ)). l0 ++ (declarator_labels live ds ++ declarator_labels ns (d ∷ []))) names
-  ∙ ap (λ (ls : List Labelled). l0 ++ ls) (sym (labels_of_last live ds d))
-  ∙ ap (λ (xs : List DeclaratorTree). l0 ++ declarator_labels live xs) (sym more),
+      ∙ append_assoc l0 (declarator_labels live ds) (declarator_labels here (d ∷ []))
+      ∙ ap (λ (ns : List (List ℕ)). l0 ++ (declarator_labels live ds ++ declarator_labels ns (d ∷ []))) names
+      ∙ ap (λ (ls : List Labelled). l0 ++ ls) (sym (labels_of_last live ds d))
+      ∙ ap (λ (xs : List DeclaratorTree). l0 ++ declarator_labels live xs) (sym more),
   declared ∙ ap (λ (ns : List (List ℕ)). ns ++ d.name.word ∷ []) names ∙ sym (names_of_last live ds d) ∙ ap (λ (xs : List DeclaratorTree). with_names live xs) (sym more),
 )

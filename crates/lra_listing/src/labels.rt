@@ -99,12 +99,7 @@ impl Labels {
     }
 
     /// A list with the name of a newer variable behind those of this list, and its number.
-    pub fn declare(
-        &mut self,
-        alloc: Global,
-        outer: usize,
-        name: &Word,
-    ) -> Result<usize, AllocError>
+    pub fn declare(&mut self, alloc: Global, outer: usize, name: &Word) -> Result<usize, AllocError>
         requires { outer < length self.old.lists }
         ensures lists { IfOk result (λ _. self.new.lists ≡ self.old.lists ++ (list_at self.old.lists outer ++ name.now ∷ []) ∷ []) }
         ensures labels { IfOk result (λ _. self.new.labels ≡ self.old.labels) }

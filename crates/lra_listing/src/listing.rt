@@ -100,7 +100,7 @@ fn point(alloc: Global, site: &Site) -> Result<Point, AllocError>
 }
 
 /// A point of the report.
-fn list_point(
+pub fn list_point(
     alloc: Global,
     labels: &Labels,
     globals: &Names,
@@ -121,7 +121,7 @@ fn list_point(
 }
 
 /// An assertion of the report.
-fn list_verdict(
+pub fn list_verdict(
     alloc: Global,
     labels: &Labels,
     number: u32,
@@ -164,7 +164,7 @@ fn push_globals(item: &Item, names: &mut Names) -> Result<(), AllocError>
 }
 
 /// The names of the global variables, in text order.
-fn names_of_globals(alloc: Global, tree: &Tree) -> Result<Names, AllocError>
+pub fn names_of_globals(alloc: Global, tree: &Tree) -> Result<Names, AllocError>
     ensures { IfOk result (λ names. names ≡ globals_named (tree_view tree.now).parts) }
 {
     let mut names = Names::new(alloc);

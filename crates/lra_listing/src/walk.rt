@@ -42,11 +42,7 @@ fn walk_part(alloc: Global, item: &Item, labels: &mut Labels) -> Result<(), Allo
 }
 
 #[tactic(auto, using(crate::proofs::Lists::keep_both, crate::proofs::Walks::keep_equal, crate::proofs::Walks::keep_one_more, crate::proofs::Walks::declared_there, crate::proofs::Walks::declared_names))]
-fn walk_function(
-    alloc: Global,
-    function: &Function,
-    labels: &mut Labels,
-) -> Result<(), AllocError>
+fn walk_function(alloc: Global, function: &Function, labels: &mut Labels) -> Result<(), AllocError>
     requires first { list_at labels.old.lists 0 ≡ [] }
     requires some { 0 < length labels.old.lists }
     ensures keep { IfOk result (λ _. Keep labels.old.lists labels.new.lists) }
@@ -231,12 +227,7 @@ fn declare_each(
 }
 
 #[tactic(auto, using(crate::proofs::Lists::keep_both, crate::proofs::Walks::keep_equal, crate::proofs::Walks::keep_one_more, crate::proofs::Walks::declared_there, crate::proofs::Walks::declared_names))]
-fn walk_init(
-    alloc: Global,
-    init: &Init,
-    live: usize,
-    labels: &mut Labels,
-) -> Result<(), AllocError>
+fn walk_init(alloc: Global, init: &Init, live: usize, labels: &mut Labels) -> Result<(), AllocError>
     requires { live < length labels.old.lists }
     ensures keep { IfOk result (λ _. Keep labels.old.lists labels.new.lists) }
     ensures labels { IfOk result (λ _. labels.new.labels ≡ labels.old.labels ++ init_labels (list_at labels.old.lists live) (init_view init.now)) }
@@ -293,12 +284,7 @@ fn walk_for_front(
 
 #[tactic(auto, using(crate::proofs::Lists::keep_both, crate::proofs::Walks::keep_equal, crate::proofs::Walks::keep_one_more, crate::proofs::Walks::declared_there, crate::proofs::Walks::declared_names))]
 #[cycle(walk)]
-fn walk_stmt(
-    alloc: Global,
-    stmt: &Stmt,
-    live: usize,
-    labels: &mut Labels,
-) -> Result<(), AllocError>
+fn walk_stmt(alloc: Global, stmt: &Stmt, live: usize, labels: &mut Labels) -> Result<(), AllocError>
     requires { live < length labels.old.lists }
     ensures keep { IfOk result (λ _. Keep labels.old.lists labels.new.lists) }
     ensures labels { IfOk result (λ _. labels.new.labels ≡ labels.old.labels ++ stmt_labels (list_at labels.old.lists live) (stmt_view stmt.now)) }

@@ -4,8 +4,9 @@ use Rattle.lra_listing.proofs.Lists.{added_invariant}
 use Rattle.lra_listing.proofs.labels.Labels.add.Goals as goal
 
 pub invariant_of-self-2 : goal.invariant_of-self-2
-invariant_of-self-2 c =
-    (c.self.invariant.0,
-    added_invariant c.self.inside.entries.items c.self.inside.labels.items c.push.new.self.items _ c.in_ok-push.ensures.items c.self.invariant.1
-    (subst (λ (v : Listed). c.args.live < length v.lists) (sym c.self.view_is) c.requires.live)
-    (subst (λ (v : Listed). c.args.live_in_call < length v.lists) (sym c.self.view_is) c.requires.live_in_call))
+invariant_of-self-2 c = (
+  c.self.invariant.0,
+  added_invariant c.self.inside.entries.items c.self.inside.labels.items c.push.new.self.items _ c.in_ok-push.ensures.items c.self.invariant.1
+      (subst (λ (v : Listed). c.args.live < length v.lists) (sym c.self.view_is) c.requires.live)
+      (subst (λ (v : Listed). c.args.live_in_call < length v.lists) (sym c.self.view_is) c.requires.live_in_call),
+)
