@@ -1,28 +1,11 @@
 -- Steps of the walk: labels behind labels, where lists stay.
-use Rattle.std.proofs.Common.{◌≡◌, ◌∙◌, sym, ap, refl, ◌+◌, ◌≤◌, ◌<◌, ℕ, List, [], ◌∷◌, ◌++◌, length, map, take, drop, Option, arith, get_or, length-append, append_assoc, append-nil, rules, option_map, Box, Global, subst}
+use Rattle.std.proofs.Common.{◌≡◌, ◌∙◌, sym, ap, ◌+◌, ◌<◌, ℕ, List, [], ◌∷◌, ◌++◌, length, map, take, arith, get_or, length-append, append_assoc, append-nil, subst}
 use Rattle.std.proofs.lemmas.List.{map-append, take_more}
 use Rattle.std.proofs.Math.Seq.{get_or-append_seam}
-use Rattle.lra_tree.specs.declared.refusals.Place.{Place}
-use Rattle.lra_tree.specs.declared.trees.Declaration.{Declaration}
-use Rattle.lra_tree.specs.declared.trees.Declarator.{Declarator}
-use Rattle.lra_tree.specs.declared.trees.Stmt.{Stmt}
-use Rattle.lra_tree.specs.declared.trees.BlockItem.{BlockItem, the_lemmas}
-use Rattle.lra_tree.specs.declared.trees.BlockItem as code_item
-use Rattle.lra_tree.specs.declared.trees.Stmt.{the_lemmas as stmt_lemmas}
-use Rattle.lra_tree.specs.declared.trees.Stmt as code_stmt
-use Rattle.lra_tree.specs.declared.trees.Init.{Init}
-use Rattle.lra_tree.specs.declared.trees.Cond.{Cond}
-use Rattle.lra_tree.specs.declared.trees.Assign.{Assign}
-use Rattle.lra_tree.specs.declared.trees.Function.{Function}
-use Rattle.lra_tree.specs.declared.trees.Item.{Item}
-use Rattle.lra_tree.specs.declared.trees.Item.TheVariants as code_part
-use Rattle.lra_tree.specs.Views.{init_view, cond_view, assign_view, declarator_view, declaration_view, item_view, stmt_view, function_view, part_view}
-use Rattle.lra_tree.specs.Trees.{DeclaratorTree, DeclarationTree, if_only, if_else, while, for, ItemsTree, declaration, statement, PartTree}
-use Rattle.lra_tree.specs.Scope.{functions_in}
-use Rattle.lra_tree.specs.Labels.{Labelled, plain_label, with_names, called_of, declarator_labels, stmt_labels, items_labels, function_labels, live_in_for}
+use Rattle.lra_tree.specs.Trees.{DeclaratorTree}
+use Rattle.lra_tree.specs.Labels.{Labelled, with_names, called_of, declarator_labels}
 use Rattle.lra_listing.specs.Environments.{list_at, Keep}
-use Rattle.lra_listing.specs.Walked.{labels_of_functions, for_front}
-use Rattle.lra_listing.proofs.Lists.{keep_same, keep_more, keep_both}
+use Rattle.lra_listing.proofs.Lists.{keep_same, keep_more}
 
 abbrev Table : Type 0
 Table = List (List (List ℕ))

@@ -1,5 +1,5 @@
 -- Lists of names that share their fronts, and the labels of a source with numbers of such lists.
-use Rattle.std.specs.Prelude.{◌≡◌, ◌≤◌, ◌<◌, ℕ, List, [], ◌∷◌, ◌++◌, length, map, slice_get, slice_index_or, Some}
+use Rattle.std.specs.Prelude.{◌≡◌, ◌≤◌, ◌<◌, ℕ, List, [], ◌∷◌, ◌++◌, length, slice_get, slice_index_or, Some}
 use Rattle.lra_tree.specs.Labels.{Labelled}
 use Rattle.lra_listing.specs.declared.labels.Entry.{Entry}
 use Rattle.lra_listing.specs.declared.labels.Label.{Label}

@@ -1,5 +1,4 @@
-use Rattle.std.proofs.Common.{◌≡◌, ◌+◌, ◌∙◌, ap, arith, ◌++◌, ◌∷◌, []}
-use Rattle.std.proofs.lemmas.Result.{IfOk-weaker}
+use Rattle.std.proofs.Common.{◌∙◌, ap, arith, ◌++◌, ◌∷◌, []}
 use Rattle.lra_listing.proofs.Lists.{names_behind, no_names}
 use Rattle.lra_listing.proofs.labels.+push_names.Goals as goal
 

@@ -1,4 +1,4 @@
-use Rattle.std.proofs.Common.{◌≡◌, ◌++◌, ◌∷◌, ◌<◌, [], length, ◌∙◌, ap, subst, sym, arith, ℕ, map}
+use Rattle.std.proofs.Common.{◌≡◌, ◌++◌, ◌∷◌, ◌<◌, [], length, subst, sym, arith, map}
 use Rattle.lra_listing.specs.Environments.{Listed, list_at, lists_of, label_in}
 use Rattle.lra_listing.proofs.Lists.{declared_lists, declared_labels, declared_invariant, lists_length}
 use Rattle.lra_listing.proofs.labels.Labels.declare.Goals as goal

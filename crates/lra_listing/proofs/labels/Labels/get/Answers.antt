@@ -1,4 +1,4 @@
-use Rattle.std.proofs.Common.{◌+◌, arith}
+use Rattle.std.proofs.Common.{arith}
 use Rattle.lra_listing.proofs.Found.{found_label}
 use Rattle.lra_listing.proofs.labels.Labels.get.Goals as goal
 

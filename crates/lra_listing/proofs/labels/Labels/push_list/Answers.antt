@@ -1,4 +1,4 @@
-use Rattle.std.proofs.Common.{◌≡◌, ◌≤◌, ◌<◌, ap, length, subst, sym, arith}
+use Rattle.std.proofs.Common.{◌<◌, ap, length, subst, sym, arith}
 use Rattle.lra_listing.specs.declared.labels.Entry.{Entry}
 use Rattle.std.specs.Prelude.{List}
 use Rattle.lra_listing.specs.Environments.{Listed}
