@@ -1,0 +1,34 @@
+-- Points and verdicts that are listed by a source's labels and sites make a report of the source.
+use Rattle.std.proofs.Common.{◌≡◌, ◌∙◌, sym, ap, subst, ◌<◌, ℕ, Bool, List, length, map}
+use Rattle.std.specs.Prelude.{All}
+use Rattle.std.proofs.lemmas.List.{length-map}
+use Rattle.lra_tree.specs.Trees.{FileTree}
+use Rattle.lra_tree.specs.Resolve.{resolve}
+use Rattle.lra_tree.specs.Sites.{Site, sites_of}
+use Rattle.lra_tree.specs.declared.graph.Site as code_site
+use Rattle.lra_tree.specs.GraphViews.{site_view}
+use Rattle.lra_tree.specs.Labels.{Labelled, labels_of}
+use Rattle.lra_tree.specs.Report.{State, Report}
+use Rattle.lra_tree.specs.Listing.{globals_named, AreListed, Lists}
+use Rattle.lra_listing.specs.Given.{AreStates, AreVerdicts, verdict_at}
+use Rattle.lra_listing.proofs.Verdicts.{are_judged, are_there}
+
+pub lists_by_parts : (t : FileTree) (outside : List (List ℕ)) (ls : List Labelled) (ss : List Site) (vs : List (ℕ × Bool)) (r : Report) → outside ≡ globals_named t.parts → ls ≡ labels_of t
+    → ss ≡ sites_of (resolve t) → AreVerdicts (sites_of (resolve t)) vs → AreListed outside ls 1 ss r.points → r.verdicts ≡ map (verdict_at ls ss) vs → Lists t r
+lists_by_parts t outside ls ss vs r named labelled sited judged points verdicts = record {
+  points =
+      subst (λ (xs : List Site). AreListed (globals_named t.parts) (labels_of t) 1 xs r.points) sited
+      (subst (λ (xs : List Labelled). AreListed (globals_named t.parts) xs 1 ss r.points) labelled
+      (subst (λ (xs : List (List ℕ)). AreListed xs ls 1 ss r.points) named points));
+  verdicts =
+      are_judged (labels_of t) (sites_of (resolve t)) vs r.verdicts
+      (verdicts ∙ ap (λ (xs : List Labelled). map (verdict_at xs ss) vs) labelled ∙ ap (λ (xs : List Site). map (verdict_at (labels_of t) xs) vs) sited) judged;
+}
+
+-- what is known at the program's points is known at the given ones
+pub states_there : (ss tt : List Site) (states : List State) → ss ≡ tt → AreStates tt states → AreStates ss states
+states_there ss tt states same are = subst (λ (xs : List Site). AreStates xs states) (sym same) are
+
+pub verdicts_there : (sites : List code_site.Site) (tt : List Site) (vs : List (ℕ × Bool)) → map site_view sites ≡ tt → AreVerdicts tt vs → All (λ (v : ℕ × Bool). v.0 < length sites) vs
+verdicts_there sites tt vs same are =
+    are_there tt vs (length sites) (sym (length-map sites site_view) ∙ ap (λ (xs : List Site). length xs) same) are

@@ -1,0 +1,40 @@
+-- What an analysis hands over: a state for each point and a verdict for each assertion. Points are numbered from 0 here.
+use Rattle.std.specs.Prelude.{◌≡◌, ◌<◌, ℕ, suc, Bool, false, List, [], length, Some, slice_get, slice_index_or, IsTrue, Contains}
+use Rattle.std.specs.List.{AllByRecursion}
+use Rattle.lra_tree.specs.Report.{State, PointReport, Verdict}
+use Rattle.lra_tree.specs.Sites.{Site}
+use Rattle.lra_tree.specs.Labels.{Labelled}
+use Rattle.lra_tree.specs.Listing.{HasWidth, listed_verdict}
+
+-- the point of this number is an assertion
+abbrev pub IsAssertion : List Site → ℕ → Type 0
+IsAssertion sites q = (s : Site) × (slice_get sites q ≡ Some s) × IsTrue s.asserts
+
+-- as many states as points, each part with a number for each variable that lives there
+pub record AreStates (sites : List Site) (states : List State) : Type 0 where
+  pub as_many : length states ≡ length sites
+  pub wide : (q : ℕ) (s : Site) (state : State) → slice_get sites q ≡ Some s → slice_get states q ≡ Some state → AllByRecursion (HasWidth s.live) state
+
+-- one verdict for each assertion, in order: the number of its point, and whether it is proved
+pub record AreVerdicts (sites : List Site) (verdicts : List (ℕ × Bool)) : Type 0 where
+  pub of_assertions : (q : ℕ) (proved : Bool) → Contains verdicts (q, proved) → IsAssertion sites q
+  pub of_all : (q : ℕ) → IsAssertion sites q → (proved : Bool) × Contains verdicts (q, proved)
+  pub in_order : (i j : ℕ) (a b : ℕ × Bool) → i < j → slice_get verdicts i ≡ Some a → slice_get verdicts j ≡ Some b → a.0 < b.0
+
+abbrev pub state_of : PointReport → State
+state_of p = p.state
+
+-- a verdict as a report tells it, where points are numbered from 1
+abbrev pub told : ℕ × Bool → ℕ × Bool
+told v = (suc v.0, v.1)
+
+abbrev pub told_of : Verdict → ℕ × Bool
+told_of v = (v.number, v.proved)
+
+-- the point of a number
+abbrev pub site_at : List Site → ℕ → Site
+site_at sites q = slice_index_or sites q (record { path = []; label = 0; live = 0; asserts = false })
+
+-- the verdict on the assertion of a number
+abbrev pub verdict_at : List Labelled → List Site → ℕ × Bool → Verdict
+verdict_at ls sites v = listed_verdict ls (suc v.0) (site_at sites v.0) v.1

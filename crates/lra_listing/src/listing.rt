@@ -1,0 +1,263 @@
+//! The report of what an analysis found.
+
+ghost use Rattle.std.specs.Prelude.{◌≡◌, ◌++◌, ◌∷◌, ◌<◌, ◌^◌, [], ℕ, suc, Bool, length, map, Some, option_map, IfOk, string_bytes, List, All};
+ghost use Rattle.lra_tree.specs.GraphViews.{site_view};
+ghost use Rattle.lra_tree.specs.Trees.{PartTree};
+ghost use Rattle.lra_tree.specs.Views.{tree_view, part_view, global_view};
+ghost use Rattle.lra_tree.specs.Resolve.{resolve};
+ghost use Rattle.lra_tree.specs.Sites.{sites_of};
+ghost use Rattle.lra_tree.specs.NameFaults.{global_names};
+ghost use Rattle.lra_tree.specs.ReportText.{shown_names, path_text};
+ghost use Rattle.lra_tree.specs.Listing.{globals_named, names_outside, calls_on, live_names, listed_point, listed_verdict, AreListed, Lists};
+ghost use Rattle.lra_report.specs.View.{call_place_of, point_report_of, verdict_of, report_of};
+ghost use Rattle.lra_listing.specs.Given.{AreStates, AreVerdicts, state_of, told_of, told, verdict_at};
+
+use crate::labels::Labels;
+use crate::walk::labels;
+use lra_report::{CallPlace, Options, Part, Point, PointReport, Report, Verdict, path_text};
+use lra_show::{Names, names_at};
+use lra_tree::graph::Site;
+use lra_tree::{Global as Variable, Item, Tree};
+use std::alloc::{AllocError, Global};
+
+/// Adds the names of the callers' variables, the outermost caller's first.
+fn push_outside(labels: &Labels, path: &[usize], names: &mut Names) -> Result<(), AllocError>
+    ensures { IfOk result (λ _. names.new ≡ names.old ++ names_outside labels.now.labels path.now) }
+{
+    match path.split_first() {
+        None => Ok(()),
+        Some((call, outer)) => {
+            push_outside(labels, outer, names)?;
+            labels.push_live_in_call(*call, names)
+        }
+    }
+}
+
+/// Adds the calls of a path, the outermost first.
+fn push_calls(
+    alloc: Global,
+    labels: &Labels,
+    path: &[usize],
+    calls: &mut Vec<CallPlace>,
+) -> Result<(), AllocError>
+    ensures { IfOk result (λ _. map call_place_of calls.new.items ≡ map call_place_of calls.old.items ++ calls_on labels.now.labels path.now) }
+{
+    match path.split_first() {
+        None => Ok(()),
+        Some((call, outer)) => {
+            push_calls(alloc, labels, outer, calls)?;
+            labels.push_call(alloc, *call, calls)
+        }
+    }
+}
+
+/// The text of a path.
+fn shown_path(alloc: Global, labels: &Labels, path: &[usize]) -> Result<String, AllocError>
+    ensures { IfOk result (λ shown. string_bytes shown ≡ path_text (calls_on labels.now.labels path.now)) }
+{
+    let mut calls = Vec::new(alloc);
+    push_calls(alloc, labels, path, &mut calls)?;
+    path_text(alloc, calls.as_slice())
+}
+
+/// Adds names.
+fn push_each(more: &Names, names: &mut Names) -> Result<(), AllocError>
+    ensures { IfOk result (λ _. names.new ≡ names.old ++ more.now) }
+{
+    'texts: for text in more.texts() {
+        names.push(text.as_str())?;
+    }
+    Ok(())
+}
+
+/// The names of the variables that live at a point, as they are printed.
+fn shown_live(
+    alloc: Global,
+    labels: &Labels,
+    globals: &Names,
+    site: &Site,
+) -> Result<Names, AllocError>
+    ensures { IfOk result (λ shown. shown ≡ shown_names (live_names globals.now labels.now.labels (site_view site.now))) }
+{
+    let mut names = Names::new(alloc);
+    push_each(globals, &mut names)?;
+    push_outside(labels, site.path.as_slice(), &mut names)?;
+    labels.push_live(site.label, &mut names)?;
+    names_at(&names)
+}
+
+/// The path and label of a point.
+fn point(alloc: Global, site: &Site) -> Result<Point, AllocError>
+    ensures path { IfOk result (λ p. p.path.items ≡ site.now.path) }
+    ensures label { IfOk result (λ p. p.label ≡ site.now.label) }
+{
+    let mut path = Vec::new(alloc);
+    path.extend_from_slice(site.path.as_slice())?;
+    Ok(Point {
+        path,
+        label: site.label,
+    })
+}
+
+/// A point of the report.
+pub fn list_point(
+    alloc: Global,
+    labels: &Labels,
+    globals: &Names,
+    number: u32,
+    site: &Site,
+    state: Vec<Part>,
+) -> Result<PointReport, AllocError>
+    ensures { IfOk result (λ p. point_report_of p ≡ listed_point globals.now labels.now.labels number (site_view site.now) state.items) }
+{
+    Ok(PointReport {
+        number,
+        point: point(alloc, site)?,
+        path: shown_path(alloc, labels, site.path.as_slice())?,
+        place: labels.place(site.label),
+        names: shown_live(alloc, labels, globals, site)?,
+        state,
+    })
+}
+
+/// An assertion of the report.
+pub fn list_verdict(
+    alloc: Global,
+    labels: &Labels,
+    number: u32,
+    site: &Site,
+    proved: bool,
+) -> Result<Verdict, AllocError>
+    ensures { IfOk result (λ v. verdict_of v ≡ listed_verdict labels.now.labels number (site_view site.now) proved) }
+{
+    Ok(Verdict {
+        number,
+        point: point(alloc, site)?,
+        path: shown_path(alloc, labels, site.path.as_slice())?,
+        place: labels.place(site.label),
+        proved,
+    })
+}
+
+/// Adds the names of global variables.
+fn push_variables(globals: &[Variable], names: &mut Names) -> Result<(), AllocError>
+    ensures { IfOk result (λ _. names.new ≡ names.old ++ global_names (map global_view globals.now)) }
+{
+    'globals: for global in globals {
+        names.push(global.name.word.as_str())?;
+    }
+    Ok(())
+}
+
+/// Adds the names of the global variables of a part.
+fn push_globals(item: &Item, names: &mut Names) -> Result<(), AllocError>
+    ensures { IfOk result (λ _. (rest : List PartTree) → names.new ++ globals_named rest ≡ names.old ++ globals_named (part_view item.now ∷ rest)) }
+{
+    match item {
+        Item::Prototype => Ok(()),
+        Item::Globals(globals) => {
+            names.push(globals.first.name.word.as_str())?;
+            push_variables(&globals.rest, names)
+        }
+        Item::Function(_) => Ok(()),
+    }
+}
+
+/// The names of the global variables, in text order.
+pub fn names_of_globals(alloc: Global, tree: &Tree) -> Result<Names, AllocError>
+    ensures { IfOk result (λ names. names ≡ globals_named (tree_view tree.now).parts) }
+{
+    let mut names = Names::new(alloc);
+    'parts: for item in &tree.items {
+        push_globals(item, &mut names)?;
+    }
+    Ok(names)
+}
+
+/// The number of a point in a report, where they count from 1.
+fn number_of(index: usize) -> u32
+    requires { suc index < 2 ^ 32 }
+    ensures { result ≡ suc index }
+{
+    index as u32 + 1
+}
+
+/// The points of the report: all of them in order, numbered from 1.
+fn list_points(
+    alloc: Global,
+    labels: &Labels,
+    globals: &Names,
+    sites: &[Site],
+    states: Vec<Vec<Part>>,
+) -> Result<Vec<PointReport>, AllocError>
+    requires numbers { length sites.now < 2 ^ 32 }
+    requires states { AreStates (map site_view sites.now) (map (λ x. x.items) states.items) }
+    ensures listed { IfOk result (λ points. AreListed globals.now labels.now.labels 1 (map site_view sites.now) (map point_report_of points.items)) }
+    ensures states { IfOk result (λ points. map state_of (map point_report_of points.items) ≡ map (λ x. x.items) states.items) }
+{
+    let mut points = Vec::new(alloc);
+    'states: for state in states {
+        let index = points.len();
+        let site = &sites[index];
+        points.push(list_point(alloc, labels, globals, number_of(index), site, state)?)?;
+    }
+    Ok(points)
+}
+
+/// The verdicts of the report.
+fn list_verdicts(
+    alloc: Global,
+    labels: &Labels,
+    sites: &[Site],
+    verdicts: &[(usize, bool)],
+) -> Result<Vec<Verdict>, AllocError>
+    requires numbers { length sites.now < 2 ^ 32 }
+    requires there { All (λ v. v.0 < length sites.now) verdicts.now }
+    ensures { IfOk result (λ listed. map verdict_of listed.items ≡ map (verdict_at labels.now.labels (map site_view sites.now)) verdicts.now) }
+{
+    let mut listed = Vec::new(alloc);
+    'verdicts: for verdict in verdicts {
+        let (index, proved) = *verdict;
+        let site = &sites[index];
+        listed.push(list_verdict(alloc, labels, number_of(index), site, proved)?)?;
+    }
+    Ok(listed)
+}
+
+/// The report of what an analysis found in a source, whose points are numbered from 0 here: the state at each point, the verdicts in
+/// order, each with the number of its assertion and whether it was proved, and the first flagged point.
+pub fn list(
+    alloc: Global,
+    tree: &Tree,
+    sites: &[Site],
+    options: Options,
+    states: Vec<Vec<Part>>,
+    verdicts: &[(usize, bool)],
+    flagged: Option<usize>,
+) -> Result<Report, AllocError>
+    requires sites { map site_view sites.now ≡ sites_of (resolve (tree_view tree.now)) }
+    requires numbers { length sites.now < 2 ^ 32 }
+    requires states { AreStates (sites_of (resolve (tree_view tree.now))) (map (λ x. x.items) states.items) }
+    requires verdicts { AreVerdicts (sites_of (resolve (tree_view tree.now))) verdicts.now }
+    requires flag { (q : ℕ) → flagged ≡ Some q → q < length sites.now }
+    ensures lists { IfOk result (λ r. Lists (tree_view tree.now) (report_of r)) }
+    ensures states { IfOk result (λ r. map state_of (report_of r).points ≡ map (λ x. x.items) states.items) }
+    ensures verdicts { IfOk result (λ r. map told_of (report_of r).verdicts ≡ map told verdicts.now) }
+    ensures options { IfOk result (λ r. r.options ≡ options) }
+    ensures flag { IfOk result (λ r. r.flagged ≡ option_map suc flagged) }
+{
+    let labels = labels(alloc, tree)?;
+    let globals = names_of_globals(alloc, tree)?;
+    let points = list_points(alloc, &labels, &globals, sites, states)?;
+    let verdicts = list_verdicts(alloc, &labels, sites, verdicts)?;
+    let flagged = match flagged {
+        None => None,
+        Some(index) => Some(number_of(index)),
+    };
+    Ok(Report {
+        options,
+        flagged,
+        points,
+        verdicts,
+    })
+}
