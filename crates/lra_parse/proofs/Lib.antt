@@ -15,3 +15,4 @@ pub mod ExactStatements
 pub mod ExactBlocks
 pub mod ExactFiles
 pub mod Laws
+mod Stated

@@ -11,6 +11,7 @@ mod assignments;
 mod conditions;
 mod expressions;
 mod reading;
+mod statements;
 
 /// A law of the language that is taken: no text has two trees, and no list of tokens has two first faults, or a fault and a tree.
 pub fn one_tree()
