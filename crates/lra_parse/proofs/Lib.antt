@@ -15,4 +15,6 @@ pub mod ExactStatements
 pub mod ExactBlocks
 pub mod ExactFiles
 pub mod Laws
-mod Stated
+pub mod Stated
+pub mod Answered
+pub mod Ended
