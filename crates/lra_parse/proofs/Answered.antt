@@ -1,8 +1,8 @@
 -- From the reader of a file to the tree, and to the first fault.
-use Rattle.std.proofs.Common.{◌≡◌, ◌≢◌, ℕ, suc, ◌+◌, ◌-◌, ◌≤◌, ◌<◌, List, [], ◌∷◌, ◌++◌, length, ◌⊎◌, inl, inr, Option, Some, None, Ok, Err, refl, sym, ap, subst, ◌∙◌, append_assoc, length-append, arith}
+use Rattle.std.proofs.Common.{◌≡◌, ◌≢◌, ℕ, suc, ◌+◌, ◌-◌, ◌≤◌, ◌<◌, List, [], ◌∷◌, ◌++◌, length, ◌⊎◌, inl, inr, Option, Some, None, Ok, Err, refl, sym, ap, subst, ◌∙◌, append_assoc, length-append, get_or, arith}
 use Rattle.std.specs.Bool.{⊤}
 use Rattle.std.specs.List.{AllByRecursion}
-use Rattle.std.proofs.lemmas.List.{append-nil}
+use Rattle.std.proofs.lemmas.List.{append-nil, get_or_at}
 use Rattle.lra_tree.specs.declared.refusals.Place.{Place}
 use Rattle.lra_tree.specs.declared.refusals.Cause.{Cause}
 use Rattle.lra_tree.specs.declared.refusals.Cause.TheVariants.{Syntax, TooDeep}
@@ -31,7 +31,7 @@ nothing_behind : (Y F : Text) (e l : Token) (R : Text) → Y ++ e ∷ R ≡ F ++
 nothing_behind [] [] e l R h k all = cc
 nothing_behind [] (f ∷ F) e l R h k all = let same : e ≡ f = cc in absurd (all.0 (sym (ap (λ (t : Token). t.kind) same) ∙ k))
 nothing_behind (y ∷ Y) [] e l R h k all = absurd (something Y e R cc)
-nothing_behind (y ∷ Y) (f ∷ F) e l R h k all = nothing_behind Y F e l R cc k all.1
+nothing_behind (y ∷ Y) (f ∷ F) e l R h k all = nothing_behind Y F e l R (cc) k all.1
 
 all_read : (T R : Text) (t : FileTree) (x : Pieces) → EndsOnce T → T ≡ plain x ++ R → Built t x → R ≡ []
 all_read T R t x ends e ((y, z, f, parts, last), b) =
@@ -50,7 +50,7 @@ tree_found T R t ends e =
 not_inner : (x : Pieces) (F : Text) (l : Token) → Within IsInner x → plain x ++ [] ≡ F ++ l ∷ [] → l.kind ≡ End → ⊥
 not_inner [] F l w e k = something F l [] (sym e)
 not_inner (p ∷ x) [] l w e k = let same : p.0 ≡ l = cc in w.0 (ap (λ (t : Token). t.kind) same ∙ k)
-not_inner (p ∷ x) (f ∷ F) l w e k = not_inner x F l w.1 cc k
+not_inner (p ∷ x) (f ∷ F) l w e k = not_inner x F l w.1 (cc) k
 
 -- before the end something is left
 not_done : (T R : Text) (x : Pieces) → EndsOnce T → Within IsInner x → T ≡ plain x ++ R → 0 < length R
@@ -74,6 +74,13 @@ some_left T f ends e =
 
 -- the fault ------------------------------------------------------------------------------------------------------------
 
+two_causes : TooDeep ≡ Syntax → ⊥
+two_causes e = cc
+
+abbrev cause_in : Read FileTree → Cause
+cause_in (Ok x) = Syntax
+cause_in (Err f) = f.cause
+
 -- with this token no text begins
 no_text : (x : Pieces) (r : Token) → ((Y : Text) → first Y ≡ Some r → file_at 63 (plain x ++ Y) ≡ stop Syntax Y) → CanBegin Built (plain x ++ r ∷ []) → ⊥
 no_text x r local (t, u, v, s, e) =
@@ -81,7 +88,7 @@ no_text x r local (t, u, v, s, e) =
     let here : file_at 63 (plain (u ++ v)) ≡ stop Syntax (r ∷ plain v) = subst (λ (T : Text). file_at 63 T ≡ stop Syntax (r ∷ plain v)) (sym whole) (local (r ∷ plain v) refl) in
     elim (read_whole t (u ++ v) s) [
       | inl k ↦ let both : (let q : Read FileTree = Ok (t, []) in q) ≡ stop Syntax (r ∷ plain v) = sym k ∙ here in cc
-      | inr k ↦ let both : (let q : Read FileTree = stop TooDeep k.0 in q) ≡ stop Syntax (r ∷ plain v) = sym k.1 ∙ here in cc
+      | inr k ↦ two_causes (ap cause_in (sym k.1 ∙ here))
     ]
 
 at_fault : (c : Cause) (t : FileTree) (x w : Pieces) (r : Token) (R : Text) → Built t (x ++ w) → Low 64 x → Goes 64 c w (r ∷ R)
@@ -117,3 +124,18 @@ fault_index T f s =
     let parts : length (s.front ++ s.token ∷ s.rest) ≡ length s.front + length (s.token ∷ s.rest) = length-append s.front (s.token ∷ s.rest) in
     let left = s.left in
     (omega arith, omega arith)
+
+pub fault_token : (T : Text) (f : Fault) (s : StopsAt T f) (d : Token) → get_or T (length T - f.left) d ≡ s.token
+fault_token T f s d = ap (λ (U : Text). get_or U (length T - f.left) d) s.parts ∙ get_or_at s.front s.token s.rest d (length T - f.left) (sym (fault_index T f s).0)
+
+pub fault_within : (T : Text) (f : Fault) → EndsOnce T → file_at 63 T ≡ Err f → (0 < f.left) × (f.left ≤ length T)
+fault_within T f ends e = (some_left T f ends e, (fault_index T f (stops_at T f ends e)).1)
+
+-- the refusal at the token at fault
+pub text_fault : (T : Text) (f : Fault) → EndsOnce T → file_at 63 T ≡ Err f → (t : Token) → t ≡ get_or T (length T - f.left) t → IsTextFault Built T f.cause t.place
+text_fault T f ends e t is =
+    let s = stops_at T f ends e in
+    (s.front, s.token, s.rest, s.parts, s.faulty, ap (λ (k : Token). k.place) (is ∙ fault_token T f s t))
+
+pub fault_at : (T : Text) (f : Fault) (n : ℕ) → EndsOnce T → file_at 63 T ≡ Err f → n ≡ length T → (t : Token) → t ≡ get_or T (n - f.left) t → IsTextFault Built T f.cause t.place
+fault_at T f n ends e same t is = text_fault T f ends e t (subst (λ (k : ℕ). t ≡ get_or T (k - f.left) t) same is)

@@ -16,5 +16,6 @@ pub mod ExactBlocks
 pub mod ExactFiles
 pub mod Laws
 pub mod Stated
+pub mod Headed
 pub mod Answered
 pub mod Ended

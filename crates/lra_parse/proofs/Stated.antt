@@ -36,6 +36,9 @@ unfolding levels
 branch_some zero T h = absurd (h refl)
 branch_some (suc d) T h = let e : d ≡ suc d - 1 = omega arith in ap (λ (k : ℕ). stated_of (simple_at k) (map_read block_from (block_at (suc d))) T) e
 
+pub branch_block : (d : ℕ) (T R : Text) (b : ItemsTree × Place) → (d ≡ 0 → ⊥) → true ≡ is_mark mark.OpenBrace (first T) → block_at d T ≡ Ok (b, R) → branch_at d T ≡ Ok (block_from b, R)
+branch_block d T R b h on g = branch_some d T h ∙ rw (sym on) (rw g refl)
+
 pub block_zero : (d : ℕ) (T : Text) → d ≡ 0 → block_at d T ≡ stop TooDeep T
 unfolding levels
 block_zero zero T h = refl

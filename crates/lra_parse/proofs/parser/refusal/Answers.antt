@@ -1,0 +1,15 @@
+use Rattle.std.proofs.Common.{◌≡◌, ◌≤◌, ◌<◌, ◌-◌, length, arith}
+use Rattle.lra_parse.proofs.Answered.{fault_within, fault_at}
+use Rattle.lra_parse.proofs.parser.refusal.Goals as goal
+
+pub overflow_sub-index : goal.overflow_sub-index
+overflow_sub-index c = let w = fault_within c.args.tokens.now c.args.fault c.requires.ends c.requires.stops in omega (arith, w.0, w.1)
+
+pub bounds-tokens-index : goal.bounds-tokens-index
+bounds-tokens-index c = let w = fault_within c.args.tokens.now c.args.fault c.requires.ends c.requires.stops in omega (arith, w.0, w.1)
+
+pub bounds-tokens-index-2 : goal.bounds-tokens-index-2
+bounds-tokens-index-2 c = let w = fault_within c.args.tokens.now c.args.fault c.requires.ends c.requires.stops in omega (arith, w.0, w.1)
+
+pub returns : goal.returns
+returns c = ?
