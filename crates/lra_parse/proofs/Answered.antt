@@ -136,6 +136,3 @@ pub text_fault : (T : Text) (f : Fault) → EndsOnce T → file_at 63 T ≡ Err 
 text_fault T f ends e t is =
     let s = stops_at T f ends e in
     (s.front, s.token, s.rest, s.parts, s.faulty, ap (λ (k : Token). k.place) (is ∙ fault_token T f s t))
-
-pub fault_at : (T : Text) (f : Fault) (n : ℕ) → EndsOnce T → file_at 63 T ≡ Err f → n ≡ length T → (t : Token) → t ≡ get_or T (n - f.left) t → IsTextFault Built T f.cause t.place
-fault_at T f n ends e same t is = text_fault T f ends e t (subst (λ (k : ℕ). t ≡ get_or T (k - f.left) t) same is)

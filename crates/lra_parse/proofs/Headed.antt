@@ -57,6 +57,9 @@ module _ (d : ℕ) where
   abbrev pub PartsLeft : List PartTree → Text → Read (List PartTree) → Type 0
   PartsLeft ps T result = Left begins_part part_step ps T result
 
+  pub parts_start : (ps : List PartTree) (S : Text) → ps ≡ [] → PartsLeft ps S (parts_at d S)
+  parts_start ps S e = subst (λ (rs : List PartTree). PartsLeft rs S (parts_at d S)) (sym e) (length S, omega arith, refl)
+
   pub part_turn : (ps qs : List PartTree) (f : FunctionTree) (T R : Text) (result : Read (List PartTree)) → qs ≡ ps ++ function f ∷ [] → PartsLeft ps T result → true ≡ begins_part (first T)
       → function_at d T ≡ Ok (f, R) → length R < length T → PartsLeft qs R result
   part_turn ps qs f T R result e l on g less =

@@ -5,11 +5,11 @@ use Rattle.lra_tree.specs.Trees.{PartTree}
 use Rattle.lra_tree.specs.Views.{function_view, part_view}
 use Rattle.lra_parse.specs.Files.{parts_at, file_at}
 use Rattle.lra_parse.proofs.Turning.{list_grown}
-use Rattle.lra_parse.proofs.Headed.{part_turn, file_exit, end_exit, file_gives}
+use Rattle.lra_parse.proofs.Headed.{parts_start, part_turn, file_exit, end_exit, file_gives}
 use Rattle.lra_parse.proofs.functions.read_file.Goals as goal
 
 pub functions-init : goal.functions-init
-functions-init c = (length c.args.rest.now, omega arith, refl)
+functions-init c = parts_start 63 (map part_view c.new-items.result.items) c.args.rest.now (ap (map part_view) c.new-items.ensures.items)
 
 pub functions-preserved : goal.functions-preserved
 functions-preserved c =
