@@ -19,3 +19,4 @@ pub mod Stated
 pub mod Headed
 pub mod Answered
 pub mod Ended
+pub mod FaultExamples

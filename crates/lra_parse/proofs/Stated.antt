@@ -154,11 +154,10 @@ module _ (declares : Bool) (d : ℕ) where
       → map_read put (item_at declares d) T ≡ Ok (item_view item, R) → length R < length T → State pushed R result
   state_turn items pushed item T R result e (is, h, l) on g less =
       let i = put_some (item_at declares d T) (item_view item) R g in
-      let s : list_step (item_at declares d) is T ≡ Ok (is ++ i.0 ∷ [], R) = step_ok (item_at declares d) is i.0 T R i.1 in
-      (
+      let s : list_step (item_at declares d) is T ≡ Ok (is ++ i.0 ∷ [], R) = step_ok (item_at declares d) is i.0 T R i.1 in (
         is ++ i.0 ∷ [],
         (λ t. ap (λ (fs : List (ItemsTree → ItemsTree)). put_all fs t) (ap (map item_view) e ∙ map_push item_view items item) ∙ all_last (map item_view items) (item_view item) t ∙ h (item_view item t)
-        ∙ ap (λ (f : ItemsTree → ItemsTree). put_list is (f t)) (sym i.2) ∙ sym (put_last is i.0 t)),
+            ∙ ap (λ (f : ItemsTree → ItemsTree). put_list is (f t)) (sym i.2) ∙ sym (put_last is i.0 t)),
         turn_on (begins_item declares) (list_step (item_at declares d)) is (is ++ i.0 ∷ []) T R result l (sym on) s less,
       )
 

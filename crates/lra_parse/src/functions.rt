@@ -26,10 +26,7 @@ fn read_main(alloc: Global, rest: &[Token]) -> Result<(Identifier, &[Token]), St
 }
 
 /// Whether the function has a result, and its name.
-fn read_head(
-    alloc: Global,
-    rest: &[Token],
-) -> Result<((bool, Identifier), &[Token]), Stopped>
+fn read_head(alloc: Global, rest: &[Token]) -> Result<((bool, Identifier), &[Token]), Stopped>
     ensures shorter { IfOk result (λ r. length r.1.now < length rest.now) }
     ensures gives { Gives (λ r. (r.0, r.1.now)) result (read_head rest.now) }
 {

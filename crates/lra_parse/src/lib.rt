@@ -14,6 +14,8 @@ mod functions;
 mod parser;
 mod reading;
 mod statements;
+#[cfg(test)]
+mod tests;
 
 pub use parser::{ParseError, parse};
 

@@ -91,11 +91,7 @@ fn read_nothing(rest: &[Token]) -> Result<(Stmt, &[Token]), Stopped>
 }
 
 /// An assignment with its semicolon.
-fn read_assigned(
-    alloc: Global,
-    rest: &[Token],
-    depth: usize,
-) -> Result<(Stmt, &[Token]), Stopped>
+fn read_assigned(alloc: Global, rest: &[Token], depth: usize) -> Result<(Stmt, &[Token]), Stopped>
     ensures shorter { IfOk result (λ r. length r.1.now < length rest.now) }
     ensures gives { Gives (λ r. (stmt_view r.0, r.1.now)) result (read_assigned depth rest.now) }
 {
@@ -105,11 +101,7 @@ fn read_assigned(
 }
 
 /// A condition in parentheses that open no level.
-fn read_parens(
-    alloc: Global,
-    rest: &[Token],
-    depth: usize,
-) -> Result<(Cond, &[Token]), Stopped>
+fn read_parens(alloc: Global, rest: &[Token], depth: usize) -> Result<(Cond, &[Token]), Stopped>
     ensures shorter { IfOk result (λ r. length r.1.now < length rest.now) }
     ensures gives { Gives (λ r. (cond_view r.0, r.1.now)) result (in_parens (cond_at depth) rest.now) }
 {
@@ -120,11 +112,7 @@ fn read_parens(
 }
 
 /// `assert(..);`
-fn read_assert(
-    alloc: Global,
-    rest: &[Token],
-    depth: usize,
-) -> Result<(Stmt, &[Token]), Stopped>
+fn read_assert(alloc: Global, rest: &[Token], depth: usize) -> Result<(Stmt, &[Token]), Stopped>
     ensures shorter { IfOk result (λ r. length r.1.now < length rest.now) }
     ensures gives { Gives (λ r. (stmt_view r.0, r.1.now)) result (read_check depth Assert assert rest.now) }
 {
@@ -135,11 +123,7 @@ fn read_assert(
 }
 
 /// `assume(..);`
-fn read_assume(
-    alloc: Global,
-    rest: &[Token],
-    depth: usize,
-) -> Result<(Stmt, &[Token]), Stopped>
+fn read_assume(alloc: Global, rest: &[Token], depth: usize) -> Result<(Stmt, &[Token]), Stopped>
     ensures shorter { IfOk result (λ r. length r.1.now < length rest.now) }
     ensures gives { Gives (λ r. (stmt_view r.0, r.1.now)) result (read_check depth Assume assume rest.now) }
 {
@@ -152,11 +136,7 @@ fn read_assume(
 /// A branch, whose first token opens a level.
 #[cycle(statement)]
 #[tactic(auto, using(crate::proofs::Stated::branch_rules))]
-fn read_branch(
-    alloc: Global,
-    rest: &[Token],
-    depth: usize,
-) -> Result<(Stmt, &[Token]), Stopped>
+fn read_branch(alloc: Global, rest: &[Token], depth: usize) -> Result<(Stmt, &[Token]), Stopped>
     ensures shorter { IfOk result (λ r. length r.1.now < length rest.now) }
     ensures gives { Gives (λ r. (stmt_view r.0, r.1.now)) result (branch_at depth rest.now) }
 {
@@ -176,11 +156,7 @@ fn read_branch(
 /// A block inside a function, whose brace opens a level.
 #[cycle(statement)]
 #[tactic(auto, using(crate::proofs::Stated::block_rules))]
-fn read_block(
-    alloc: Global,
-    rest: &[Token],
-    depth: usize,
-) -> Result<(Block, &[Token]), Stopped>
+fn read_block(alloc: Global, rest: &[Token], depth: usize) -> Result<(Block, &[Token]), Stopped>
     ensures shorter { IfOk result (λ r. length r.1.now < length rest.now) }
     ensures gives { Gives (λ r. (block_view r.0, r.1.now)) result (block_at depth rest.now) }
 {
@@ -227,11 +203,7 @@ fn read_if(alloc: Global, rest: &[Token], depth: usize) -> Result<(Stmt, &[Token
 
 /// A statement that is no block.
 #[cycle(statement)]
-fn read_simple(
-    alloc: Global,
-    rest: &[Token],
-    depth: usize,
-) -> Result<(Stmt, &[Token]), Stopped>
+fn read_simple(alloc: Global, rest: &[Token], depth: usize) -> Result<(Stmt, &[Token]), Stopped>
     ensures shorter { IfOk result (λ r. length r.1.now < length rest.now) }
     ensures gives { Gives (λ r. (stmt_view r.0, r.1.now)) result (simple_at depth rest.now) }
 {
