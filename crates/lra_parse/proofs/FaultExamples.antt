@@ -1,5 +1,6 @@
 -- First faults of two sources, found by reading their tokens.
-use Rattle.std.proofs.Common.{◌≡◌, ℕ, List, [], ◌∷◌, ◌++◌, codes, Err, refl}
+use Rattle.std.proofs.Common.{◌≡◌, ◌≢◌, ℕ, Bool, true, false, cond, List, [], ◌∷◌, ◌++◌, codes, Err, refl, inl, inr}
+use Rattle.std.specs.List.{AllByRecursion}
 use Rattle.lra_tree.specs.declared.refusals.Place.{Place}
 use Rattle.lra_tree.specs.declared.refusals.Cause.TheVariants.{Syntax}
 use Rattle.lra_tree.specs.declared.tokens.Mark.{Mark}
@@ -13,6 +14,7 @@ use Rattle.lra_parse.specs.Reading.{Text, Read, stop, loop}
 use Rattle.lra_parse.specs.Expressions.{unary_at, tests}
 use Rattle.lra_parse.specs.Statements.{levels}
 use Rattle.lra_parse.specs.Files.{EndsOnce, file_at}
+use Rattle.lra_parse.proofs.Exact.{test}
 use Rattle.lra_parse.proofs.Answered.{text_fault}
 
 abbrev in_line : ℕ → Place
@@ -24,6 +26,26 @@ token_at k column = record { kind = k; place = in_line column }
 abbrev mark_token : Mark → ℕ → Token
 mark_token m column = token_at (MarkOf m) column
 
+-- none of the tokens is the end
+abbrev is_inner : Kind → Bool
+is_inner End = false
+is_inner k = true
+
+inner : (k : Kind) → is_inner k ≡ true → k ≡ End → ⊥
+inner End e f = cc
+inner k e f = cc
+
+abbrev all_inner : Text → Bool
+all_inner [] = true
+all_inner (t ∷ T) = cond (is_inner t.kind) (all_inner T) false
+
+no_end : (T : Text) → all_inner T ≡ true → AllByRecursion (λ (t : Token). t.kind ≢ End) T
+no_end [] e = tt
+no_end (t ∷ T) e = elim (test (is_inner t.kind)) [
+  | inl on ↦ let e' : all_inner T ≡ true = rw on at e in (inner t.kind on, no_end T e')
+  | inr off ↦ let e' : false ≡ true = rw off at e in absurd cc
+]
+
 -- `int main(void){`
 abbrev main_head : Text → Text
 main_head T = mark_token mark.Int 1 ∷ token_at (Name (codes "main")) 5 ∷ mark_token mark.OpenParen 9 ∷ mark_token mark.Void 10 ∷ mark_token mark.CloseParen 14 ∷ mark_token mark.OpenBrace 15 ∷ T
@@ -33,7 +55,7 @@ abbrev unclosed_front : Text
 unclosed_front = main_head (token_at Unclosed 17 ∷ [])
 
 unclosed_ends : EndsOnce (unclosed_front ++ token_at End 19 ∷ [])
-unclosed_ends = record { front = unclosed_front; last = token_at End 19; parts = refl; is_end = refl; no_other = ((λ e. cc), (λ e. cc), (λ e. cc), (λ e. cc), (λ e. cc), (λ e. cc), (λ e. cc), tt) }
+unclosed_ends = record { front = unclosed_front; last = token_at End 19; parts = refl; is_end = refl; no_other = no_end unclosed_front refl }
 
 unclosed_stops : file_at 63 (unclosed_front ++ token_at End 19 ∷ []) ≡ Err (record { cause = Syntax; left = 2 })
 unfolding loop unary_at tests levels
@@ -54,35 +76,7 @@ abbrev compared_tokens : Text
 compared_tokens = compared_front ++ token_at End 39 ∷ []
 
 compared_ends : EndsOnce compared_tokens
-compared_ends = record {
-  front = compared_front;
-  last = token_at End 39;
-  parts = refl;
-  is_end = refl;
-  no_other = (
-    (λ e. cc),
-    (λ e. cc),
-    (λ e. cc),
-    (λ e. cc),
-    (λ e. cc),
-    (λ e. cc),
-    (λ e. cc),
-    (λ e. cc),
-    (λ e. cc),
-    (λ e. cc),
-    (λ e. cc),
-    (λ e. cc),
-    (λ e. cc),
-    (λ e. cc),
-    (λ e. cc),
-    (λ e. cc),
-    (λ e. cc),
-    (λ e. cc),
-    (λ e. cc),
-    (λ e. cc),
-    tt,
-  );
-}
+compared_ends = record { front = compared_front; last = token_at End 39; parts = refl; is_end = refl; no_other = no_end compared_front refl }
 
 compared_stops : file_at 63 compared_tokens ≡ Err (record { cause = Syntax; left = 8 })
 unfolding loop unary_at tests levels
