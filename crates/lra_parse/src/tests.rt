@@ -1,84 +1,47 @@
 //! Small lists of tokens: their trees, and their first faults.
 
-ghost use Rattle.std.specs.Prelude.{◌≢◌, IfOk};
-ghost use Rattle.std.specs.List.{AllByRecursion};
-ghost use Rattle.lra_tree.specs.declared.tokens.Token.{Token};
-ghost use Rattle.lra_tree.specs.declared.tokens.Kind.TheVariants.{End};
-ghost use Rattle.lra_parse.specs.Files.{EndsOnce};
-
-use crate::{ParseError, parse};
-use lra_tree::{BlockItem, Cause, Item, Kind, Mark, Place, Refusal, Stmt, Token, Word};
+use crate::functions::read_file;
+use crate::reading::Stopped;
+use lra_tree::{BlockItem, Cause, Item, Kind, Mark, Place, Stmt, Token, Word};
 use std::alloc::{AllocError, Global};
 use std::test::Fail;
 
-/// Tokens before the end; each is at the column that counts it.
-#[derive(Drop)]
-struct Front {
-    tokens: Vec<Token>,
-    column: u32,
-    ghost no_end: { AllByRecursion (λ (t : Token). t.kind ≢ End) tokens.items },
-}
-
-impl Front {
-    fn new(alloc: Global) -> Front {
-        Front {
-            tokens: Vec::new(alloc),
-            column: 1,
-        }
-    }
-
-    fn push(&mut self, kind: Kind) -> Result<(), AllocError>
-        requires { kind ≢ End }
-    {
-        let place = Place {
-            line: 1,
-            column: self.column,
-        };
-        self.column = self.column.wrapping_add(1);
-        Ok(self.tokens.push(Token { kind, place })?)
-    }
-
-    fn ended(self) -> Result<Vec<Token>, AllocError>
-        ensures { IfOk result (λ v. EndsOnce v.items) }
-    {
-        let Front {
-            mut tokens,
-            column,
-            ..
-        } = self;
-        let place = Place { line: 1, column };
-        tokens.push(Token {
-            kind: Kind::End,
-            place,
-        })?;
-        Ok(tokens)
+/// The token at a column of the first line.
+fn token(kind: Kind, column: u32) -> Token {
+    Token {
+        kind,
+        place: Place { line: 1, column },
     }
 }
 
-/// The tokens of `int main(void){`, and these marks.
-fn with_body(alloc: Global, marks: &[Mark]) -> Result<Vec<Token>, AllocError>
-    ensures { IfOk result (λ v. EndsOnce v.items) }
-{
-    let mut front = Front::new(alloc);
-    front.push(Kind::Mark(Mark::Int))?;
-    front.push(Kind::Name(Word::from_str(alloc, "main")?))?;
-    front.push(Kind::Mark(Mark::OpenParen))?;
-    front.push(Kind::Mark(Mark::Void))?;
-    front.push(Kind::Mark(Mark::CloseParen))?;
-    front.push(Kind::Mark(Mark::OpenBrace))?;
+/// The tokens of `int main(void){`, these marks, and the end; each is at the column that counts it.
+fn with_body(alloc: Global, marks: &[Mark]) -> Result<Vec<Token>, AllocError> {
+    let mut tokens = Vec::new(alloc);
+    tokens.push(token(Kind::Mark(Mark::Int), 1))?;
+    tokens.push(token(Kind::Name(Word::from_str(alloc, "main")?), 2))?;
+    tokens.push(token(Kind::Mark(Mark::OpenParen), 3))?;
+    tokens.push(token(Kind::Mark(Mark::Void), 4))?;
+    tokens.push(token(Kind::Mark(Mark::CloseParen), 5))?;
+    tokens.push(token(Kind::Mark(Mark::OpenBrace), 6))?;
+    let mut column: u32 = 7;
     for mark in marks {
-        front.push(Kind::Mark(*mark))?;
+        tokens.push(token(Kind::Mark(*mark), column))?;
+        column = column.wrapping_add(1);
     }
-    front.ended()
+    tokens.push(token(Kind::End, column))?;
+    Ok(tokens)
 }
 
-/// The refusal of such tokens.
-fn refusal(alloc: Global, marks: &[Mark]) -> Result<Option<Refusal>, Fail> {
+/// The first fault of such tokens, with its column.
+fn fault(alloc: Global, marks: &[Mark]) -> Result<Option<(Cause, u32)>, Fail> {
     let tokens = with_body(alloc, marks)?;
-    match parse(alloc, &tokens) {
-        Ok(_tree) => Ok(None),
-        Err(ParseError::Refused(refusal)) => Ok(Some(refusal)),
-        Err(ParseError::Memory) => Err(Fail::new("memory")),
+    match read_file(alloc, &tokens) {
+        Ok((_tree, _behind)) => Ok(None),
+        Err(Stopped::Fault(fault)) => match tokens.get(tokens.len().wrapping_sub(fault.left)) {
+            Some(token) => Ok(Some((fault.cause, token.place.column))),
+            None => Err(Fail::new("no token is at fault")),
+        },
+        Err(Stopped::Memory) => Err(Fail::new("memory")),
     }
 }
 
@@ -116,12 +79,8 @@ const CASES: [(&[Mark], Option<(Cause, u32)>); 8] = [
 
 #[test]
 fn the_first_fault_is_refused(rt: HostRuntime) -> Result<(), Fail> {
-    for (marks, fault) in &CASES {
-        let expected = fault.map(|(cause, column)| Refusal {
-            cause,
-            place: Place { line: 1, column },
-        });
-        assert_eq!(rt; refusal(rt.alloc(), marks)?, expected);
+    for (marks, expected) in &CASES {
+        assert_eq!(rt; fault(rt.alloc(), marks)?, *expected);
     }
     Ok(())
 }
@@ -142,17 +101,9 @@ fn nested(alloc: Global, blocks: usize) -> Result<Vec<Mark>, AllocError> {
 #[test]
 fn the_65th_level_is_refused(rt: HostRuntime) -> Result<(), Fail> {
     let marks = nested(rt.alloc(), 63)?;
-    assert_eq!(rt; refusal(rt.alloc(), &marks)?, None);
+    assert_eq!(rt; fault(rt.alloc(), &marks)?, None);
     let marks = nested(rt.alloc(), 64)?;
-    let place = Place {
-        line: 1,
-        column: 70,
-    };
-    let cause = Cause::TooDeep;
-    assert_eq!(rt;
-        refusal(rt.alloc(), &marks)?,
-        Some(Refusal { cause, place })
-    );
+    assert_eq!(rt; fault(rt.alloc(), &marks)?, Some((Cause::TooDeep, 70)));
     Ok(())
 }
 
@@ -188,7 +139,7 @@ fn an_else_belongs_to_the_last_if(rt: HostRuntime) -> Result<(), Fail> {
         Mark::CloseBrace,
     ];
     let tokens = with_body(rt.alloc(), &marks)?;
-    let tree = parse(rt.alloc(), &tokens)?;
+    let (tree, _behind) = read_file(rt.alloc(), &tokens)?;
     match tree.items.first() {
         Some(Item::Function(main)) => assert!(rt; is_dangling(&main.body.items)),
         _ => return Err(Fail::new("no function")),
