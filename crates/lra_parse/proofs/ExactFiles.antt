@@ -174,7 +174,7 @@ exact_function n d h =
 
 -- the file ---------------------------------------------------------------------------------------------------------
 
-abbrev PartText : PartTree → Texts
+abbrev pub PartText : PartTree → Texts
 PartText p z = IsPart p z × IsBuiltPart p
 
 to_part : (p : PartTree) (z : Pieces) → Of function FunctionText p z → PartText p z
@@ -240,7 +240,7 @@ from_file : (t : FileTree) (z : Pieces) → Built t z → FileText t z
 from_file t z ((x, y, e, s, r), h) = (t.parts, (x, y, e, from_parts t.parts x s h, (t.end, refl, r)))
 
 -- the parts, and the file
-exact_parts : (n d : ℕ) → d + 1 ≡ n → Exact n IsInner (parts_at d) Any (λ ps z. Items PartText ps z) (λ ps z. Items PartText ps z) (λ ps o. AfterLast {I = PartTree} Free Any ps o × (begins_part o ≡ false))
+pub exact_parts : (n d : ℕ) → d + 1 ≡ n → Exact n IsInner (parts_at d) Any (λ ps z. Items PartText ps z) (λ ps z. Items PartText ps z) (λ ps o. AfterLast {I = PartTree} Free Any ps o × (begins_part o ≡ false))
 exact_parts n d h =
     let part = retell (mapped (exact_function n d h) function Free (λ f o g. tt) (λ f o g. tt)) PartText to_part from_part in
     exact_list begins_part (entry part (λ o. begins_part o ≡ true) (λ o i. tt)) Any refl (λ p x s. part_first p x None s) (λ p o e. tt) (λ o e. tt)

@@ -57,11 +57,11 @@ low_or_deep (t ∷ x) = elim (cases_lt 64 t.1) [
   ]
 ]
 
-abbrev the_file : Exact 64 AnyToken (file_at 63) Any Built Built Free
+abbrev pub the_file : Exact 64 AnyToken (file_at 63) Any Built Built Free
 the_file = exact_file 64 63 refl
 
 -- a whole text is read, or stops as too deep
-read_whole : (t : FileTree) (x : Pieces) → Built t x → (file_at 63 (plain x) ≡ Ok (t, [])) ⊎ ((T : Text) × (file_at 63 (plain x) ≡ stop TooDeep T))
+pub read_whole : (t : FileTree) (x : Pieces) → Built t x → (file_at 63 (plain x) ≡ Ok (t, [])) ⊎ ((T : Text) × (file_at 63 (plain x) ≡ stop TooDeep T))
 read_whole t x s = elim (low_or_deep x) [
   | inl low ↦ inl (subst (λ (T : Text). file_at 63 T ≡ Ok (t, [])) (append-nil (plain x)) (the_file.again x t [] s low tt tt))
   | inr d ↦ inr (d.1.0 ∷ plain d.2, subst (λ (T : Text). file_at 63 T ≡ stop TooDeep (d.1.0 ∷ plain d.2)) (sym (ap plain d.3 ∙ plain-append d.0 (d.1 ∷ d.2))) (the_file.deep d.0 d.1 d.2 t (plain d.2) (subst (Built t) d.3 s) d.4 d.5 tt))

@@ -15,3 +15,8 @@ pub mod ExactStatements
 pub mod ExactBlocks
 pub mod ExactFiles
 pub mod Laws
+pub mod Stated
+pub mod Headed
+pub mod Answered
+pub mod Ended
+pub mod FaultExamples

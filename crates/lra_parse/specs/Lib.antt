@@ -3,3 +3,4 @@ pub mod Reading
 pub mod Expressions
 pub mod Statements
 pub mod Files
+pub mod Answer

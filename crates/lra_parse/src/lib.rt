@@ -10,7 +10,14 @@ ghost use Rattle.lra_tree.specs.Built.{Built};
 mod assignments;
 mod conditions;
 mod expressions;
+mod functions;
+mod parser;
 mod reading;
+mod statements;
+#[cfg(test)]
+mod tests;
+
+pub use parser::{ParseError, parse};
 
 /// A law of the language that is taken: no text has two trees, and no list of tokens has two first faults, or a fault and a tree.
 pub fn one_tree()

@@ -1,0 +1,92 @@
+-- Readers of functions and files as the code takes them.
+use Rattle.std.proofs.Common.{◌≡◌, ℕ, ◌<◌, ◌≤◌, Bool, true, false, cond, bytes_eq, codes, List, [], ◌∷◌, ◌++◌, length, Option, Some, None, Ok, Err, refl, sym, ap, subst, ◌∙◌, arith}
+use Rattle.lra_tree.specs.declared.refusals.Place.{Place}
+use Rattle.lra_tree.specs.declared.refusals.Cause.TheVariants.{Syntax}
+use Rattle.lra_tree.specs.declared.tokens.Token.{Token}
+use Rattle.lra_tree.specs.declared.trees.Identifier.{Identifier}
+use Rattle.lra_tree.specs.Trees.{FunctionTree, PartTree, function}
+use Rattle.lra_parse.specs.declared.reading.Fault.{Fault}
+use Rattle.lra_parse.specs.declared.reading.Stopped.{Stopped}
+use Rattle.lra_parse.specs.declared.reading.Stopped.TheVariants as stopped
+use Rattle.lra_parse.specs.Tests.{first}
+use Rattle.lra_parse.specs.Reading.{Text, Read, Parse, stop, ◌>>=◌, map_read, tail, take_by, taken, next_name, list_step, GivesErr}
+use Rattle.lra_parse.specs.Files.{is_main, next_main, function_at, begins_part, parts_at, next_end, file_of, file_at}
+use Rattle.lra_parse.proofs.Exact.{ok_is}
+use Rattle.lra_parse.proofs.Turning.{Left, turn_on, turn_err, turn_off}
+
+-- the name `main` ----------------------------------------------------------------------------------------------------
+
+abbrev pub names_main : Identifier → Bool
+names_main x = bytes_eq x.word (codes "main")
+
+given_main : (o : Option Identifier) (T R : Text) (x : Identifier) → taken o T ≡ Ok (x, R) → names_main x ≡ true → taken (is_main o) T ≡ Ok (x, R)
+given_main None T R x e m = absurd cc
+given_main (Some y) T R x e m =
+    let same : y ≡ x = ap (λ (r : Identifier × Text). r.0) (ok_is (y, tail T) (x, R) e) in
+    let m' : names_main y ≡ true = subst (λ (k : Identifier). names_main k ≡ true) (sym same) m in
+    rw m' e
+
+given_other : (o : Option Identifier) (T R : Text) (x : Identifier) → taken o T ≡ Ok (x, R) → names_main x ≡ false → taken (is_main o) T ≡ stop Syntax T
+given_other None T R x e m = absurd cc
+given_other (Some y) T R x e m =
+    let same : y ≡ x = ap (λ (r : Identifier × Text). r.0) (ok_is (y, tail T) (x, R) e) in
+    let m' : names_main y ≡ false = subst (λ (k : Identifier). names_main k ≡ false) (sym same) m in
+    rw m' refl
+
+given_none : (o : Option Identifier) (T : Text) (e : Stopped) → GivesErr e (taken o T) → GivesErr e (taken (is_main o) T)
+given_none None T e g = g
+given_none (Some y) T stopped.Memory g = tt
+given_none (Some y) T (stopped.Fault f) g = absurd cc
+
+pub main_gives : (T R : Text) (x : Identifier) → take_by next_name T ≡ Ok (x, R) → names_main x ≡ true → take_by next_main T ≡ Ok (x, R)
+main_gives T R x e m = given_main (next_name (first T)) T R x e m
+
+pub main_stops : (T R : Text) (x : Identifier) → take_by next_name T ≡ Ok (x, R) → names_main x ≡ false → take_by next_main T ≡ stop Syntax T
+main_stops T R x e m = given_other (next_name (first T)) T R x e m
+
+pub main_exit : (T : Text) (e : Stopped) → GivesErr e (take_by next_name T) → GivesErr e (take_by next_main T)
+main_exit T e g = given_none (next_name (first T)) T e g
+
+-- the loop of a file -------------------------------------------------------------------------------------------------
+
+module _ (d : ℕ) where
+  abbrev part_step : List PartTree → Parse (List PartTree)
+  part_step = list_step (map_read function (function_at d))
+
+  -- the loop from here on gives the result
+  abbrev pub PartsLeft : List PartTree → Text → Read (List PartTree) → Type 0
+  PartsLeft ps T result = Left begins_part part_step ps T result
+
+  pub parts_start : (ps : List PartTree) (S : Text) → ps ≡ [] → PartsLeft ps S (parts_at d S)
+  parts_start ps S e = subst (λ (rs : List PartTree). PartsLeft rs S (parts_at d S)) (sym e) (length S, omega arith, refl)
+
+  pub part_turn : (ps qs : List PartTree) (f : FunctionTree) (T R : Text) (result : Read (List PartTree)) → qs ≡ ps ++ function f ∷ [] → PartsLeft ps T result → true ≡ begins_part (first T)
+      → function_at d T ≡ Ok (f, R) → length R < length T → PartsLeft qs R result
+  part_turn ps qs f T R result e l on g less =
+      let s : part_step ps T ≡ Ok (ps ++ function f ∷ [], R) = rw g refl in
+      subst (λ (rs : List PartTree). PartsLeft rs R result) (sym e) (turn_on begins_part part_step ps (ps ++ function f ∷ []) T R result l (sym on) s less)
+
+  some_part : (T : Text) → true ≡ begins_part (first T) → 0 < length T
+  some_part [] e = absurd cc
+  some_part (t ∷ T) e = omega arith
+
+  part_err : (ps : List PartTree) (T : Text) (f : Fault) (result : Read (List PartTree)) → PartsLeft ps T result → true ≡ begins_part (first T) → function_at d T ≡ Err f → result ≡ Err f
+  part_err ps T f result l on g =
+      let s : part_step ps T ≡ Err f = rw g refl in
+      turn_err begins_part part_step ps T f result l (sym on) (some_part T on) s
+
+  -- the exit by `?` in a turn
+  pub file_exit : (ps : List PartTree) (S T : Text) (e : Stopped) → PartsLeft ps T (parts_at d S) → true ≡ begins_part (first T) → GivesErr e (function_at d T) → GivesErr e (file_at d S)
+  file_exit ps S T stopped.Memory l on g = tt
+  file_exit ps S T (stopped.Fault f) l on g = rw (part_err ps T f (parts_at d S) l on g) refl
+
+  parts_end : (ps : List PartTree) (S T : Text) → PartsLeft ps T (parts_at d S) → false ≡ begins_part (first T) → parts_at d S ≡ Ok (ps, T)
+  parts_end ps S T l off = turn_off begins_part part_step ps T (parts_at d S) l (sym off)
+
+  -- the exit at the end
+  pub end_exit : (ps : List PartTree) (S T : Text) (e : Stopped) → PartsLeft ps T (parts_at d S) → false ≡ begins_part (first T) → GivesErr e (take_by next_end T) → GivesErr e (file_at d S)
+  end_exit ps S T stopped.Memory l off g = tt
+  end_exit ps S T (stopped.Fault f) l off g = rw (parts_end ps S T l off, g) refl
+
+  pub file_gives : (ps : List PartTree) (S T R : Text) (at : Place) → PartsLeft ps T (parts_at d S) → false ≡ begins_part (first T) → take_by next_end T ≡ Ok (at, R) → file_at d S ≡ Ok (file_of ps at, R)
+  file_gives ps S T R at l off g = rw (parts_end ps S T l off, g) refl

@@ -1,0 +1,192 @@
+-- Readers of statements as the code takes them.
+use Rattle.std.proofs.Common.{◌≡◌, ℕ, zero, suc, ◌+◌, ◌-◌, ◌≤◌, ◌<◌, Bool, true, false, cond, ◌&&◌, List, [], ◌∷◌, ◌++◌, length, map, Option, Some, None, Ok, Err, refl, sym, ap, subst, ◌∙◌, arith, rules, Box, Global}
+use Rattle.std.proofs.lemmas.List.{map_push}
+use Rattle.lra_tree.specs.declared.refusals.Place.{Place}
+use Rattle.lra_tree.specs.declared.refusals.Cause.TheVariants.{Syntax, TooDeep}
+use Rattle.lra_tree.specs.declared.tokens.Mark.TheVariants as mark
+use Rattle.lra_tree.specs.declared.tokens.Token.{Token}
+use Rattle.lra_tree.specs.declared.trees.Cond.{Cond}
+use Rattle.lra_tree.specs.declared.trees.Declaration.{Declaration}
+use Rattle.lra_tree.specs.declared.trees.BlockItem.{BlockItem, the_lemmas, Declaration as DeclarationItem, Statement as StatementItem}
+use Rattle.lra_tree.specs.declared.trees.Stmt.{Stmt, Block as BlockStmt, If, IfElse}
+use Rattle.lra_tree.specs.declared.trees.Block.{Block}
+use Rattle.lra_tree.specs.declared.trees.BlockItem.TheOpen.{Block-F}
+use Rattle.lra_tree.specs.declared.trees.BlockItem.TheViews.{roll-Block}
+use Rattle.lra_tree.specs.declared.trees.BlockItem.TheFolds.{fold-roll-Block}
+use Rattle.lra_tree.specs.Trees.{DeclarationTree, StmtTree, block, if_only, if_else, CondTree, ItemsTree, no_items, declaration, statement}
+use Rattle.lra_tree.specs.Views as views
+use Rattle.lra_tree.specs.Views.{cond_view, declaration_view, stmt_view, item_view, block_view, item_step, stmt_step, block_step}
+use Rattle.lra_parse.specs.declared.reading.Fault.{Fault}
+use Rattle.lra_parse.specs.declared.reading.Stopped.{Stopped}
+use Rattle.lra_parse.specs.declared.reading.Stopped.TheVariants as stopped
+use Rattle.lra_parse.specs.Tests.{first, is_mark}
+use Rattle.lra_parse.specs.Reading.{Text, Read, Parse, stop, ◌>>=◌, seq, map_read, tail, expect, expect_at, loop, list_step, list_of, GivesErr}
+use Rattle.lra_parse.specs.Expressions.{behind}
+use Rattle.lra_parse.specs.Statements.{else_part, declaration_at, ItemTree, declared, stated, put, items_from, begins_item, stated_of, body_of, block_from, too_deep, levels, branch_at, block_at, simple_at, item_at, items_at, put_list, put_all, ArePut}
+use Rattle.lra_parse.proofs.Exact.{ok_is}
+use Rattle.lra_parse.proofs.Turning.{Left, turn_on, turn_err, turn_off}
+
+pub branch_zero : (d : ℕ) (T : Text) → d ≡ 0 → branch_at d T ≡ too_deep T
+unfolding levels
+branch_zero zero T h = refl
+branch_zero (suc d) T h = absurd (omega arith)
+
+pub branch_some : (d : ℕ) (T : Text) → (d ≡ 0 → ⊥) → branch_at d T ≡ stated_of (simple_at (d - 1)) (map_read block_from (block_at d)) T
+unfolding levels
+branch_some zero T h = absurd (h refl)
+branch_some (suc d) T h = let e : d ≡ suc d - 1 = omega arith in ap (λ (k : ℕ). stated_of (simple_at k) (map_read block_from (block_at (suc d))) T) e
+
+pub branch_block : (d : ℕ) (T R : Text) (b : ItemsTree × Place) → (d ≡ 0 → ⊥) → true ≡ is_mark mark.OpenBrace (first T) → block_at d T ≡ Ok (b, R) → branch_at d T ≡ Ok (block_from b, R)
+branch_block d T R b h on g = branch_some d T h ∙ rw (sym on) (rw g refl)
+
+pub block_zero : (d : ℕ) (T : Text) → d ≡ 0 → block_at d T ≡ stop TooDeep T
+unfolding levels
+block_zero zero T h = refl
+block_zero (suc d) T h = absurd (omega arith)
+
+pub block_some : (d : ℕ) (T : Text) → (d ≡ 0 → ⊥) → block_at d T ≡ body_of (items_at false (d - 1)) T
+unfolding levels
+block_some zero T h = absurd (h refl)
+block_some (suc d) T h = let e : d ≡ suc d - 1 = omega arith in ap (λ (k : ℕ). body_of (items_at false k) T) e
+
+pub ruleset branch_rules = (branch_zero, branch_some)
+
+pub ruleset block_rules = (block_zero, block_some)
+
+-- items ------------------------------------------------------------------------------------------------------------
+
+twice : {A B C : Type 0} (r : Read A) (f : A → B) (g : B → C) → ((r >>= (λ x. Ok (f x.0, x.1))) >>= (λ x. Ok (g x.0, x.1))) ≡ (r >>= (λ x. Ok (g (f x.0), x.1)))
+twice (Ok x) f g = refl
+twice (Err e) f g = refl
+
+thrice : {A B C D : Type 0} (r : Read A) (f : A → B) (g : B → C) (h : C → D) → (((r >>= (λ x. Ok (f x.0, x.1))) >>= (λ x. Ok (g x.0, x.1))) >>= (λ x. Ok (h x.0, x.1))) ≡ (r >>= (λ x. Ok (h (g (f x.0)), x.1)))
+thrice (Ok x) f g h = refl
+thrice (Err e) f g h = refl
+
+pub item_declared : (declares : Bool) (d : ℕ) (T : Text) → true ≡ (declares && is_mark mark.Long (first T)) → map_read put (item_at declares d) T ≡ map_read (λ (x : DeclarationTree) (t : ItemsTree). declaration x t) (declaration_at d) T
+item_declared declares d T e = rw (sym e) (twice (declaration_at d T) declared put)
+
+pub item_block : (declares : Bool) (d : ℕ) (T : Text) → false ≡ (declares && is_mark mark.Long (first T)) → true ≡ is_mark mark.OpenBrace (first T) → map_read put (item_at declares d) T ≡ map_read (λ (b : ItemsTree × Place) (t : ItemsTree). statement (block_from b) t) (block_at d) T
+item_block declares d T e f = rw (sym e, sym f) (thrice (block_at d T) block_from stated put)
+
+pub item_simple : (declares : Bool) (d : ℕ) (T : Text) → false ≡ (declares && is_mark mark.Long (first T)) → false ≡ is_mark mark.OpenBrace (first T) → map_read put (item_at declares d) T ≡ map_read (λ (x : StmtTree) (t : ItemsTree). statement x t) (simple_at d) T
+item_simple declares d T e f = rw (sym e, sym f) (twice (simple_at d T) stated put)
+
+pub ruleset item_rules = (item_declared, item_block, item_simple)
+
+pub declaration_item : (x : Declaration) → item_view (DeclarationItem x) ≡ (λ (t : ItemsTree). declaration (declaration_view x) t)
+declaration_item x = search (rules, the_lemmas)
+
+pub statement_item : (x : Stmt) → item_view (StatementItem x) ≡ (λ (t : ItemsTree). statement (stmt_view x) t)
+statement_item x = search (rules, the_lemmas)
+
+pub block_stmt : (b : Block) → stmt_view (BlockStmt b) ≡ block_from (block_view b)
+block_stmt b = search (rules, the_lemmas)
+
+pub if_view : (at : Place) (c : Cond) (b : Box Stmt Global) → stmt_view (If at c b) ≡ if_only at (cond_view c) (stmt_view b.value)
+if_view at c b = search (rules, the_lemmas)
+
+pub else_view : (at : Place) (c : Cond) (a b : Box Stmt Global) → stmt_view (IfElse at c a b) ≡ if_else at (cond_view c) (stmt_view a.value) (stmt_view b.value)
+else_view at c a b = search (rules, the_lemmas)
+
+pub body_view : (x : Block-F BlockItem Stmt Block) → block_view (roll-Block x) ≡ (views.items_of (map item_view x.items.items), x.end)
+body_view = fold-roll-Block (ItemsTree → ItemsTree) StmtTree (ItemsTree × Place) item_step stmt_step block_step
+
+-- branches ---------------------------------------------------------------------------------------------------------
+
+pub only_gives : (b : Parse StmtTree) (at : Place) (c : CondTree) (t : StmtTree) (T : Text) → false ≡ is_mark mark.Else (first T) → else_part b at c t T ≡ Ok (if_only at c t, T)
+only_gives b at c t T e = rw (sym e) refl
+
+pub else_gives : (b : Parse StmtTree) (at : Place) (c : CondTree) (t u : StmtTree) (T U R : Text) → true ≡ is_mark mark.Else (first T) → expect mark.Else (tt {0}) T ≡ Ok (tt {0}, U) → b U ≡ Ok (u, R) → else_part b at c t T ≡ Ok (if_else at c t u, R)
+else_gives b at c t u T U R e f g =
+    let f' : (let r : Read (Unit {0}) = Ok (tt {0}, tail T) in r) ≡ Ok (tt {0}, U) = rw (sym e) at f in
+    let same : U ≡ tail T = sym (ap (λ (p : Unit {0} × Text). p.1) (ok_is (tt {0}, tail T) (tt {0}, U) f')) in
+    let g' : b (tail T) ≡ Ok (u, R) = subst (λ (W : Text). b W ≡ Ok (u, R)) same g in
+    rw (sym e) (rw g' refl)
+
+-- the loop of a block ----------------------------------------------------------------------------------------------
+
+put_last : (is : List ItemTree) (i : ItemTree) (t : ItemsTree) → put_list (is ++ i ∷ []) t ≡ put_list is (put i t)
+put_last [] i t = refl
+put_last (j ∷ is) i t = ap (put j) (put_last is i t)
+
+all_last : (fs : List (ItemsTree → ItemsTree)) (f : ItemsTree → ItemsTree) (t : ItemsTree) → put_all (fs ++ f ∷ []) t ≡ put_all fs (f t)
+all_last [] f t = refl
+all_last (g ∷ fs) f t = ap g (all_last fs f t)
+
+put_some : (r : Read ItemTree) (f : ItemsTree → ItemsTree) (R : Text) → (r >>= (λ x. Ok (put x.0, x.1))) ≡ Ok (f, R) → (i : ItemTree) × (r ≡ Ok (i, R)) × (put i ≡ f)
+put_some (Err e) f R h = absurd cc
+put_some (Ok x) f R h =
+    let same : (put x.0, x.1) ≡ (f, R) = cc in
+    (x.0, ap (λ (S : Text). Ok (x.0, S)) (ap (λ (p : (ItemsTree → ItemsTree) × Text). p.1) same), ap (λ (p : (ItemsTree → ItemsTree) × Text). p.0) same)
+
+put_err : (r : Read ItemTree) (f : Fault) → (r >>= (λ x. Ok (put x.0, x.1))) ≡ Err f → r ≡ Err f
+put_err (Ok x) f h = absurd cc
+put_err (Err e) f h = cc
+
+items_all : (fs : List (ItemsTree → ItemsTree)) → views.items_of fs ≡ put_all fs no_items
+items_all [] = refl
+items_all (f ∷ fs) = ap f (items_all fs)
+
+from_list : (is : List ItemTree) → items_from is ≡ put_list is no_items
+from_list [] = refl
+from_list (i ∷ is) = ap (put i) (from_list is)
+
+pub same_items : (fs : List (ItemsTree → ItemsTree)) (is : List ItemTree) → ArePut fs is → views.items_of fs ≡ items_from is
+same_items fs is h = items_all fs ∙ h no_items ∙ sym (from_list is)
+
+no_end : (b : Bool) → true ≡ begins_item b None → 0 < 0
+no_end true e = absurd cc
+no_end false e = absurd cc
+
+step_ok : (p : Parse ItemTree) (is : List ItemTree) (i : ItemTree) (T R : Text) → p T ≡ Ok (i, R) → list_step p is T ≡ Ok (is ++ i ∷ [], R)
+step_ok p is i T R e = rw e refl
+
+step_err : (p : Parse ItemTree) (is : List ItemTree) (T : Text) (f : Fault) → p T ≡ Err f → list_step p is T ≡ Err f
+step_err p is T f e = rw e refl
+
+module _ (declares : Bool) (d : ℕ) where
+  -- items that put what the code's items put, and the loop from there on
+  abbrev pub State : List BlockItem → Text → Read (List ItemTree) → Type 0
+  State items T result = (is : List ItemTree) × ArePut (map item_view items) is × Left (begins_item declares) (list_step (item_at declares d)) is T result
+
+  pub state_turn : (items pushed : List BlockItem) (item : BlockItem) (T R : Text) (result : Read (List ItemTree)) → pushed ≡ items ++ item ∷ [] → State items T result → true ≡ begins_item declares (first T)
+      → map_read put (item_at declares d) T ≡ Ok (item_view item, R) → length R < length T → State pushed R result
+  state_turn items pushed item T R result e (is, h, l) on g less =
+      let i = put_some (item_at declares d T) (item_view item) R g in
+      let s : list_step (item_at declares d) is T ≡ Ok (is ++ i.0 ∷ [], R) = step_ok (item_at declares d) is i.0 T R i.1 in (
+        is ++ i.0 ∷ [],
+        (λ t. ap (λ (fs : List (ItemsTree → ItemsTree)). put_all fs t) (ap (map item_view) e ∙ map_push item_view items item) ∙ all_last (map item_view items) (item_view item) t ∙ h (item_view item t)
+            ∙ ap (λ (f : ItemsTree → ItemsTree). put_list is (f t)) (sym i.2) ∙ sym (put_last is i.0 t)),
+        turn_on (begins_item declares) (list_step (item_at declares d)) is (is ++ i.0 ∷ []) T R result l (sym on) s less,
+      )
+
+  state_err : (items : List BlockItem) (T : Text) (f : Fault) (result : Read (List ItemTree)) → State items T result → true ≡ begins_item declares (first T) → 0 < length T → map_read put (item_at declares d) T ≡ Err f → result ≡ Err f
+  state_err items T f result (is, h, l) on some g =
+      let s : list_step (item_at declares d) is T ≡ Err f = step_err (item_at declares d) is T f (put_err (item_at declares d T) f g) in
+      turn_err (begins_item declares) (list_step (item_at declares d)) is T f result l (sym on) some s
+
+  pub state_end : (items : List BlockItem) (T : Text) (result : Read (List ItemTree)) → State items T result → false ≡ begins_item declares (first T) → (is : List ItemTree) × ArePut (map item_view items) is × (result ≡ Ok (is, T))
+  state_end items T result (is, h, l) off = (is, h, turn_off (begins_item declares) (list_step (item_at declares d)) is T result l (sym off))
+
+  nonempty : (T : Text) → true ≡ begins_item declares (first T) → 0 < length T
+  nonempty [] e = no_end declares e
+  nonempty (t ∷ T) e = omega arith
+
+  -- the exit by `?` in a turn
+  pub body_exit : (items : List BlockItem) (S M T : Text) (e : Stopped) → expect mark.OpenBrace (tt {0}) S ≡ Ok (tt {0}, M) → State items T (items_at declares d M) → true ≡ begins_item declares (first T)
+      → GivesErr e (map_read put (item_at declares d) T) → GivesErr e (body_of (items_at declares d) S)
+  body_exit items S M T stopped.Memory o l on g = tt
+  body_exit items S M T (stopped.Fault f) o l on g = rw (o, state_err items T f (items_at declares d M) l on (nonempty T on) g) refl
+
+  -- the exit at the end
+  pub end_exit : (items : List BlockItem) (S M T : Text) (e : Stopped) → expect mark.OpenBrace (tt {0}) S ≡ Ok (tt {0}, M) → State items T (items_at declares d M) → false ≡ begins_item declares (first T)
+      → GivesErr e (expect_at mark.CloseBrace T) → GivesErr e (body_of (items_at declares d) S)
+  end_exit items S M T stopped.Memory o l off g = tt
+  end_exit items S M T (stopped.Fault f) o l off g = let s = state_end items T (items_at declares d M) l off in rw (o, s.2, g) refl
+
+  pub body_gives : (items : List BlockItem) (S M T R : Text) (end : Place) → expect mark.OpenBrace (tt {0}) S ≡ Ok (tt {0}, M) → State items T (items_at declares d M) → false ≡ begins_item declares (first T)
+      → expect_at mark.CloseBrace T ≡ Ok (end, R) → body_of (items_at declares d) S ≡ Ok ((views.items_of (map item_view items), end), R)
+  body_gives items S M T R end o l off g =
+      let s = state_end items T (items_at declares d M) l off in
+      rw (o, s.2, g) (ap (λ (i : ItemsTree). Ok ((i, end), R)) (sym (same_items (map item_view items) s.0 s.1)))

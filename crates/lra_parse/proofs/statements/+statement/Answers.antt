@@ -1,0 +1,34 @@
+use Rattle.std.proofs.Common.{◌≡◌, ◌≤◌, ◌<◌, length, ℕ, List, Ok, refl, sym, ap, ◌∙◌, arith, map}
+use Rattle.std.proofs.lemmas.Result.{err_from_is_err_and}
+use Rattle.lra_tree.specs.declared.refusals.Place.{Place}
+use Rattle.lra_tree.specs.Trees.{StmtTree, ItemsTree}
+use Rattle.lra_tree.specs.Views.{cond_view, stmt_view, item_view, block_view}
+use Rattle.lra_parse.specs.Statements.{branch_at, item_at, items_at, body_of}
+use Rattle.lra_parse.proofs.Stated.{state_turn, body_exit, end_exit, body_gives, body_view, block_stmt, branch_block}
+use Rattle.lra_parse.proofs.statements.+statement.Goals as goal
+
+pub read_body-items-preserved : goal.read_body-items-preserved
+read_body-items-preserved t c = record {
+  room = omega (arith, c.in_ok-item.ensures.shorter);
+  state = state_turn c.args.declares c.args.depth c.items.items.items c.push.new.self.items c.in_ok-item.item c.items.left.now c.in_ok-item.after.now _ c.in_ok-push.ensures.items c.items.invariant.state c.items-test.ensures c.in_ok-item.ensures.gives c.in_ok-item.ensures.shorter;
+}
+
+pub read_body-returns-in_err-item-clause-gives : goal.read_body-returns-in_err-item-clause-gives
+read_body-returns-in_err-item-clause-gives t c =
+    let p = err_from_is_err_and c.from_residual-in_err-item.result c.from_residual-in_err-item.ensures.1 in
+    rw (p.1, p.2) (body_exit c.args.declares c.args.depth c.items.items.items c.args.rest.now c.in_ok-left.left.now c.items.left.now c.in_err-item.field-0.0 c.in_ok-left.ensures.gives c.items.invariant.state c.items-test.ensures c.in_err-item.ensures.gives)
+
+pub read_body-returns-in_err-end-clause-gives : goal.read_body-returns-in_err-end-clause-gives
+read_body-returns-in_err-end-clause-gives t c =
+    let p = err_from_is_err_and c.from_residual-in_err-end.result c.from_residual-in_err-end.ensures.1 in
+    rw (p.1, p.2) (end_exit c.args.declares c.args.depth c.items.items.items c.args.rest.now c.in_ok-left.left.now c.items.left.now c.in_err-end.field-0.0 c.in_ok-left.ensures.gives c.items.invariant.state c.items-test.ensures c.in_err-end.ensures.gives)
+
+pub read_body-returns-clause-gives : goal.read_body-returns-clause-gives
+read_body-returns-clause-gives t c =
+    body_gives c.args.declares c.args.depth c.items.items.items c.args.rest.now c.in_ok-left.left.now c.items.left.now c.in_ok-end.behind.now c.in_ok-end.end c.in_ok-left.ensures.gives c.items.invariant.state c.items-test.ensures c.in_ok-end.ensures.gives
+    ∙ ap (λ (b : ItemsTree × Place). Ok (b, c.in_ok-end.behind.now)) (sym (body_view (record { items = c.items.items; end = c.in_ok-end.end })))
+
+pub read_branch-returns-then-next_is-clause-gives : goal.read_branch-returns-then-next_is-clause-gives
+read_branch-returns-then-next_is-clause-gives t c =
+    branch_block c.args.depth c.args.rest.now c.in_ok-block.after.now (block_view c.in_ok-block.block) c.if-depth-eq0.false c.if-next_is.ensures c.in_ok-block.ensures.gives
+    ∙ ap (λ (s : StmtTree). Ok (s, c.in_ok-block.after.now)) (sym (block_stmt c.in_ok-block.block))

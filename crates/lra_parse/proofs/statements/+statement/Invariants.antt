@@ -1,0 +1,34 @@
+use Rattle.std.proofs.Common.{◌≡◌, length, ℕ, ◌+◌, ◌*◌, ◌≤◌, ◌<◌}
+use Rattle.lra_parse.specs.Statements.{items_at}
+use Rattle.lra_parse.proofs.Stated.{State}
+use Rattle.lra_parse.proofs.statements.+statement.Given as goal
+
+abbrev pub decreases-read_block : goal.decreases-read_block
+decreases-read_block l = 7 * l.depth
+
+abbrev pub decreases-read_branch : goal.decreases-read_branch
+decreases-read_branch l = 7 * l.depth + 1
+
+abbrev pub decreases-read_else : goal.decreases-read_else
+decreases-read_else l = 7 * l.depth + 2
+
+abbrev pub decreases-read_if : goal.decreases-read_if
+decreases-read_if l = 7 * l.depth + 3
+
+abbrev pub decreases-read_simple : goal.decreases-read_simple
+decreases-read_simple l = 7 * l.depth + 4
+
+abbrev pub decreases-read_item : goal.decreases-read_item
+decreases-read_item l = 7 * l.depth + 5
+
+abbrev pub decreases-read_body : goal.decreases-read_body
+decreases-read_body l = 7 * l.depth + 6
+
+abbrev pub invariant-read_body-items : goal.invariant-read_body-items
+invariant-read_body-items l = record {
+  room : length l.left < length l.fn.rest;
+  state : State l.fn.declares l.fn.depth l.items.items l.left (items_at l.fn.declares l.fn.depth l.initial.left);
+}
+
+abbrev pub decreases-read_body-items : goal.decreases-read_body-items
+decreases-read_body-items l = length l.left

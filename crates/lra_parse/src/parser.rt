@@ -1,0 +1,52 @@
+//! The tree of a list of tokens, or its first fault.
+
+ghost use Rattle.std.specs.Prelude.{◌≡◌, Err, IfOk};
+ghost use Rattle.lra_tree.specs.Built.{Built};
+ghost use Rattle.lra_tree.specs.Faults.{IsTree, IsTextFault};
+ghost use Rattle.lra_tree.specs.Views.{tree_view};
+ghost use Rattle.lra_parse.specs.Files.{EndsOnce, file_at};
+ghost use Rattle.lra_parse.specs.Answer.{IfRefused};
+
+use crate::functions::read_file;
+use crate::reading::{Fault, Stopped};
+use lra_tree::{Refusal, Token, Tree};
+use std::alloc::Global;
+
+/// Why a list of tokens has no tree.
+#[derive(Clone, Copy, PartialEq, Eq, Debug)]
+pub enum ParseError {
+    /// Its first fault.
+    Refused(Refusal),
+    /// Memory ran out.
+    Memory,
+}
+
+/// The refusal for the fault at which reading stops.
+fn refusal(tokens: &[Token], fault: Fault) -> Refusal
+    requires ends { EndsOnce tokens.now }
+    requires stops { file_at 63 tokens.now ≡ Err fault }
+    ensures { IsTextFault Built tokens.now result.cause result.place }
+{
+    let index = tokens.len() - fault.left;
+    Refusal {
+        cause: fault.cause,
+        place: tokens[index].place,
+    }
+}
+
+/// The tree of the tokens, whose last and no other is the end; or the first fault: the first token with which no source begins, or that opens
+/// a level past the 64th. Both are exact: no text has two trees, and a fault is the only one (`one_tree`). The time is linear in the number of
+/// tokens, and calls nest at most in proportion to the levels.
+pub fn parse(alloc: Global, tokens: &[Token]) -> Result<Tree, ParseError>
+    requires { EndsOnce tokens.now }
+    ensures found { IfOk result (λ t. IsTree Built tokens.now (tree_view t)) }
+    ensures refused { IfRefused result (λ r. IsTextFault Built tokens.now r.cause r.place) }
+{
+    match read_file(alloc, tokens) {
+        Ok((tree, _behind)) => Ok(tree),
+        Err(stopped) => match stopped {
+            Stopped::Memory => Err(ParseError::Memory),
+            Stopped::Fault(fault) => Err(ParseError::Refused(refusal(tokens, fault))),
+        },
+    }
+}
