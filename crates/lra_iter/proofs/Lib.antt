@@ -3,3 +3,8 @@ mod CondSizes
 mod CondSteps
 mod ChangeSteps
 mod GivenSteps
+mod PassLoops
+pub mod Counting
+mod GlobalSteps
+mod Tabled
+mod Solving
