@@ -7,4 +7,6 @@ mod PassLoops
 pub mod Counting
 mod GlobalSteps
 mod Tabled
+mod Filling
 mod Solving
+mod SampleTree

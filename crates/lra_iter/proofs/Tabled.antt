@@ -47,7 +47,7 @@ pub record Next {A : Type 0} (all front : List A) (x : A) : Type 0 where
   pub rest : List A
   pub is : all ≡ front ++ x ∷ rest
 
-next_in : {A : Type 0} (all front : List A) (x : A) → front ≡ take (length front) all → length front < length all → x ≡ get_or all (length front) x → Next all front x
+pub next_in : {A : Type 0} (all front : List A) (x : A) → front ≡ take (length front) all → length front < length all → x ≡ get_or all (length front) x → Next all front x
 next_in [] front x same h is = absurd (omega (arith, h))
 next_in (a ∷ all) [] x same h is = record { rest = all; is = ap (λ (y : _). y ∷ all) (sym is) }
 next_in {A} (a ∷ all) (f ∷ front) x same h is =
@@ -58,10 +58,10 @@ next_in {A} (a ∷ all) (f ∷ front) x same h is =
 -- entries apart ------------------------------------------------------------------------------------------------------
 
 module _ (V : Type 0) where
-  few_before : (q : ℕ) (xs ys : List (Entry V)) → values_at q (xs ++ ys) ≤ 1 → values_at q xs ≤ 1
+  pub few_before : (q : ℕ) (xs ys : List (Entry V)) → values_at q (xs ++ ys) ≤ 1 → values_at q xs ≤ 1
   few_before q xs ys h = let a = values_append q xs ys in omega (arith, a, h)
 
-  few_checks_before : (q : ℕ) (xs ys : List (Entry V)) → failing_at q (xs ++ ys) ≤ 1 → failing_at q xs ≤ 1
+  pub few_checks_before : (q : ℕ) (xs ys : List (Entry V)) → failing_at q (xs ++ ys) ≤ 1 → failing_at q xs ≤ 1
   few_checks_before q xs ys h = let a = failing_append q xs ys in omega (arith, a, h)
 
   -- an entry's number is that of a place
@@ -216,7 +216,7 @@ AreAsserted T t = (q : ℕ) → (asserts_of (slice_get T q) ≡ 1) ↔ ((b : Boo
 is_asserted : (s : Site) → asserts_of (Some s) ≡ 1 → s.asserts ≡ true
 is_asserted s e = asserted s.asserts e
   where
-    asserted : (b : Bool) → cond b 1 0 ≡ 1 → b ≡ true
+    asserted : (b : Bool) → (let n : ℕ = cond b 1 0 in n) ≡ 1 → b ≡ true
     asserted true e = refl
     asserted false e = absurd (omega (arith, e))
 
@@ -267,7 +267,7 @@ module _ {V H : Type 0} (m : Meaning V H) (T : List Site) (r : Result V) (n : �
     is_value = λ q v. let p = held_place values t q v (values_there values is) in (λ e. (tabled.is_value q v).0 (p.0 e), λ h. p.1 ((tabled.is_value q v).1 h));
     is_verdict = λ q b h. let k = filled_is 0 u q b (subst (λ (vs : List (ℕ × Bool)). Contains vs (q, b)) are h) in
         let same : k.0 ≡ q = (let e = k.1 in omega (arith, e)) in tabled.is_verdict q b (subst (λ (p : ℕ). slice_get u p ≡ Some (Some b)) same k.2);
-    has_verdict = λ q w h. let k = tabled.has_verdict q w h in (k.0, subst (λ (vs : List (ℕ × Bool)). Contains vs (q, k.0)) (sym are) (filled_has 0 u q k.0 k.1));
+    has_verdict = λ q w h. let k = tabled.has_verdict q w h in (k.0, subst (λ (vs : List (ℕ × Bool)). Contains vs (q, k.0)) (sym are) (let same : 0 + q ≡ q = omega arith in subst (λ (p : ℕ). Contains (filled_from 0 u) (p, k.0)) same (filled_has 0 u q k.0 k.1)));
     in_order = λ i j a b h d e. filled_order 0 u i j a b h (subst (λ (vs : List (ℕ × Bool)). slice_get vs i ≡ Some a) are d) (subst (λ (vs : List (ℕ × Bool)). slice_get vs j ≡ Some b) are e);
     is_flagged = flag;
   }

@@ -8,3 +8,4 @@ pub mod Numbers
 pub mod Counts
 pub mod Tables
 pub mod Solved
+pub mod Sample
