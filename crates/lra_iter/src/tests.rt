@@ -124,7 +124,7 @@ fn a_small_program(rt: HostRuntime) -> Result<(), AllocError> {
         let found = rows_of(alloc, value)?;
         assert_eq!(rt; found.as_slice(), *rows, "point {point}");
     }
-    assert_eq!(rt; solution.verdicts.as_slice(), &[(2, true), (3, false)]);
+    assert_eq!(rt; solution.verdicts.as_slice(), [(2, true), (3, false)].as_slice());
     assert_eq!(rt; solution.flagged, None);
     Ok(())
 }
