@@ -4,3 +4,8 @@ pub mod Changes
 pub mod Given
 pub mod Outcome
 pub mod Fits
+pub mod Numbers
+pub mod Counts
+pub mod Tables
+pub mod Solved
+pub mod Sample

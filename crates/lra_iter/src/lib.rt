@@ -5,5 +5,13 @@ mod changes;
 mod conditions;
 mod forms;
 mod given;
+mod globals;
 mod outcome;
 mod pass;
+mod solution;
+mod tables;
+
+pub use solution::{Solution, analyse};
+
+#[cfg(test)]
+mod tests;

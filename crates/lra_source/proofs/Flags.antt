@@ -12,7 +12,7 @@ use Rattle.lra_flow.specs.declared.Settings.{Settings}
 use Rattle.lra_flow.specs.Operations.{Operations}
 use Rattle.lra_flow.specs.Pass.{Result, noted, jumps, behind, Through, GoesRound, Grows, Narrows, Pass}
 use Rattle.lra_flow.specs.Analysis.{Iteration}
-use Rattle.lra_source.specs.Numbers.{AreBelow, IsBelow}
+use Rattle.lra_iter.specs.Numbers.{AreBelow, IsBelow}
 
 -- trees --------------------------------------------------------------------------------------------------------------
 

@@ -2,6 +2,5 @@ pub mod OneAnswer
 pub mod Fitting
 pub mod Sound
 pub mod Numbering
-pub mod Counting
 pub mod Flags
 pub mod Reports

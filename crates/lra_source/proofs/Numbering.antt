@@ -1,23 +1,15 @@
 -- The tree of a program has each number of a point once.
-use Rattle.std.proofs.Common.{◌≡◌, ◌≢◌, ℕ, zero, suc, ◌+◌, ◌≤◌, ◌<◌, List, [], ◌∷◌, length, Option, Some, None, Bool, true, false, inl, inr, refl, sym, ap, ◌∙◌, subst, arith}
+use Rattle.std.proofs.Common.{◌≡◌, ℕ, zero, suc, ◌+◌, ◌≤◌, ◌<◌, List, [], ◌∷◌, length, Option, Some, None, Bool, true, false, inl, inr, refl, sym, ap, ◌∙◌, subst, arith}
 use Rattle.std.specs.Prelude.{slice_get, cond}
 use Rattle.std.proofs.lemmas.Bool.{cases_lt}
-use Rattle.std.proofs.lemmas.Bool.Decides.{nat_tests}
 use Rattle.std.proofs.lemmas.Option.{none-some, slice_get_within}
 use Rattle.lra_tree.specs.Program.{Source, Stmt, BlockItems, Program}
 use Rattle.lra_tree.specs.Graph.{Node, seq, point}
 use Rattle.lra_tree.specs.Sites.{Site, sites_of}
 use Rattle.lra_tree.specs.Inlined.{Frame, callee, Has, HasSite, Inl, InlAll, Declares, Loops, Gives, as_nothing, as_block, as_absent, as_assign, as_call, as_if, as_loop, as_for, as_break, as_continue, as_return, as_return_value, as_return_call, as_end, as_end_value, as_end_call, as_assert, as_assume, as_none, as_declaration, as_statement, as_fresh, as_given, is_loop, as_value, as_result, main_frame}
 use Rattle.lra_tree.specs.Agree.{IsGraph}
-use Rattle.lra_source.specs.Numbers.{one_if, values_in, checks_in, asserts_of, IsNumbered}
-
-pub one_same : (q : ℕ) → one_if q q ≡ 1
-unfolding one_if
-one_same q = grind (arith, nat_tests)
-
-pub one_other : (q k : ℕ) → q ≢ k → one_if q k ≡ 0
-unfolding one_if
-one_other q k n = grind (arith, nat_tests)
+use Rattle.lra_iter.specs.Numbers.{one_if, values_in, checks_in, asserts_of, IsNumbered}
+use Rattle.lra_iter.proofs.Counting.{one_same, one_other}
 
 -- c is w for a number k from a on that is below b, and 0 for another
 pub record Counts (w c a b k : ℕ) : Type 0 where

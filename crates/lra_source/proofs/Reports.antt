@@ -42,9 +42,9 @@ use Rattle.lra_flow.specs.Pass.{Result}
 use Rattle.lra_flow.specs.Analysis.{Derivation, Solves}
 use Rattle.lra_flow.proofs.Unflagged.{unflagged_is_written, flagged_strains}
 use Rattle.lra_source.specs.Analysed.{shown_part, shown_state, told_verdict, verdict_told, IsAnalysed}
-use Rattle.lra_source.specs.Numbers.{IsBelow}
+use Rattle.lra_iter.specs.Numbers.{IsBelow}
 use Rattle.lra_source.proofs.Numbering.{numbered}
-use Rattle.lra_source.proofs.Counting.{iteration_fails_once}
+use Rattle.lra_iter.proofs.Counting.{iteration_fails_once}
 use Rattle.lra_source.proofs.Flags.{graph_below, iteration_below}
 use Rattle.lra_source.proofs.Sound.{Begins, EmptyWithoutParts, value_there, proved_holds, listed_all, judged_all, assertion_site}
 

@@ -14,7 +14,7 @@ use Rattle.lra_tree.specs.Listing.{Lists, IsReportOf}
 use Rattle.lra_box.specs.Meaning.{box_meaning}
 use Rattle.lra_flow.specs.declared.Settings.{Settings}
 use Rattle.lra_iter.specs.Fits.{TreeFits}
-use Rattle.lra_source.specs.Numbers.{AreBelow, IsNumbered}
+use Rattle.lra_iter.specs.Numbers.{AreBelow, IsNumbered}
 use Rattle.lra_source.specs.Analysed.{IsAnalysed}
 
 -- no more variables live at a point than are taken

@@ -1,8 +1,11 @@
--- A pass finds as many entries for a number as its tree has: so a program's iteration finds one value for each point and one for each assertion.
-use Rattle.std.proofs.Common.{◌≡◌, ℕ, zero, suc, ◌+◌, ◌-◌, ◌++◌, ◌≤◌, List, [], ◌∷◌, Option, Some, None, Bool, true, false, cond, inl, inr, refl, sym, ap, ◌∙◌, subst, arith}
+-- A pass finds as many entries for a number as its tree has: so an iteration over a program's tree finds one value for each point and one for
+-- each assertion.
+use Rattle.std.proofs.Common.{◌≡◌, ◌≢◌, ℕ, zero, suc, ◌+◌, ◌-◌, ◌++◌, ◌≤◌, List, [], ◌∷◌, Option, Some, None, Bool, true, false, cond, inl, inr, refl, sym, ap, ◌∙◌, subst, arith}
 use Rattle.std.specs.Prelude.{slice_get}
 use Rattle.std.specs.List.{Contains}
-use Rattle.lra_linear.proofs.Membership.{contains_none, contains_cases}
+use Rattle.std.proofs.lemmas.Bool.{cases_eq}
+use Rattle.std.proofs.lemmas.Bool.Decides.{nat_tests}
+use Rattle.lra_linear.proofs.Membership.{contains_none, contains_head, contains_tail, contains_cases}
 use Rattle.lra_tree.specs.Program.{Cond, Program}
 use Rattle.lra_tree.specs.Graph.{Exit, broken, continued, returned, Node, empty, point, act, check, seq, choose, iterate, catch, leave}
 use Rattle.lra_tree.specs.Sites.{Site, sites_of}
@@ -10,16 +13,23 @@ use Rattle.lra_flow.specs.declared.Settings.{Settings}
 use Rattle.lra_flow.specs.Operations.{Operations}
 use Rattle.lra_flow.specs.Pass.{Entry, value, failing, Result, noted, jumps, behind, Through, GoesRound, Grows, Narrows, Pass}
 use Rattle.lra_flow.specs.Analysis.{Iteration}
-use Rattle.lra_source.specs.Numbers.{one_if, values_in, checks_in, asserts_of, IsNumbered}
-use Rattle.lra_source.specs.Counts.{values_at, failing_at}
-use Rattle.lra_source.proofs.Numbering.{one_same}
+use Rattle.lra_iter.specs.Numbers.{one_if, values_in, checks_in, asserts_of, IsNumbered}
+use Rattle.lra_iter.specs.Counts.{values_at, failing_at, AreCounted}
 
-values_append : {V : Type 0} (k : ℕ) (xs ys : List (Entry V)) → values_at k (xs ++ ys) ≡ values_at k xs + values_at k ys
+pub one_same : (q : ℕ) → one_if q q ≡ 1
+unfolding one_if
+one_same q = grind (arith, nat_tests)
+
+pub one_other : (q k : ℕ) → q ≢ k → one_if q k ≡ 0
+unfolding one_if
+one_other q k n = grind (arith, nat_tests)
+
+pub values_append : {V : Type 0} (k : ℕ) (xs ys : List (Entry V)) → values_at k (xs ++ ys) ≡ values_at k xs + values_at k ys
 values_append k [] ys = omega arith
 values_append k (value q v ∷ xs) ys = let i = values_append k xs ys in omega (arith, i)
 values_append k (failing q v ∷ xs) ys = values_append k xs ys
 
-failing_append : {V : Type 0} (k : ℕ) (xs ys : List (Entry V)) → failing_at k (xs ++ ys) ≡ failing_at k xs + failing_at k ys
+pub failing_append : {V : Type 0} (k : ℕ) (xs ys : List (Entry V)) → failing_at k (xs ++ ys) ≡ failing_at k xs + failing_at k ys
 failing_append k [] ys = omega arith
 failing_append k (value q v ∷ xs) ys = failing_append k xs ys
 failing_append k (failing q v ∷ xs) ys = let i = failing_append k xs ys in omega (arith, i)
@@ -93,7 +103,7 @@ module _ (V : Type 0) where
   same_value : (q : ℕ) (u v : V) → (let a : Entry V = value q u in a) ≡ value q v → u ≡ v
   same_value q u v e = cc
 
-  failing_counted : (q : ℕ) (u : V) (xs : List (Entry V)) → Contains xs (failing q u) → 1 ≤ failing_at q xs
+  pub failing_counted : (q : ℕ) (u : V) (xs : List (Entry V)) → Contains xs (failing q u) → 1 ≤ failing_at q xs
   failing_counted q u [] h = absurd (contains_none (failing q u) h)
   failing_counted q u (x ∷ xs) h = elim (contains_cases x (failing q u) xs h) [ inl e ↦ first x e | inr i ↦ later x (failing_counted q u xs i) ]
     where
@@ -104,7 +114,7 @@ module _ (V : Type 0) where
       later (value p v) i = i
       later (failing p v) i = omega (arith, i)
 
-  value_counted : (q : ℕ) (u : V) (xs : List (Entry V)) → Contains xs (value q u) → 1 ≤ values_at q xs
+  pub value_counted : (q : ℕ) (u : V) (xs : List (Entry V)) → Contains xs (value q u) → 1 ≤ values_at q xs
   value_counted q u [] h = absurd (contains_none (value q u) h)
   value_counted q u (x ∷ xs) h = elim (contains_cases x (value q u) xs h) [ inl e ↦ first x e | inr i ↦ later x (value_counted q u xs i) ]
     where
@@ -114,6 +124,23 @@ module _ (V : Type 0) where
       later : (y : Entry V) → 1 ≤ values_at q xs → 1 ≤ values_at q (y ∷ xs)
       later (value p v) i = omega (arith, i)
       later (failing p v) i = i
+
+  -- a number that is counted has an entry
+  pub counted_value : (q : ℕ) (xs : List (Entry V)) → 1 ≤ values_at q xs → (v : V) × Contains xs (value q v)
+  counted_value q [] h = absurd (omega (arith, h))
+  counted_value q (value p v ∷ xs) h = elim (cases_eq p q) [
+    | inl e ↦ (v, subst (λ (n : ℕ). Contains (value p v ∷ xs) (value n v)) e (contains_head (value p v) xs))
+    | inr ne ↦ (let o = one_other p q ne in let i = counted_value q xs (omega (arith, h, o)) in (i.0, contains_tail (value p v) (value q i.0) xs i.1))
+  ]
+  counted_value q (failing p u ∷ xs) h = let i = counted_value q xs h in (i.0, contains_tail (failing p u) (value q i.0) xs i.1)
+
+  pub counted_failing : (q : ℕ) (xs : List (Entry V)) → 1 ≤ failing_at q xs → (u : V) × Contains xs (failing q u)
+  counted_failing q [] h = absurd (omega (arith, h))
+  counted_failing q (failing p u ∷ xs) h = elim (cases_eq p q) [
+    | inl e ↦ (u, subst (λ (n : ℕ). Contains (failing p u ∷ xs) (failing n u)) e (contains_head (failing p u) xs))
+    | inr ne ↦ (let o = one_other p q ne in let i = counted_failing q xs (omega (arith, h, o)) in (i.0, contains_tail (failing p u) (failing q i.0) xs i.1))
+  ]
+  counted_failing q (value p v ∷ xs) h = let i = counted_failing q xs h in (i.0, contains_tail (value p v) (failing q i.0) xs i.1)
 
   -- a number that has one entry has no other one
   pub one_failing : (q : ℕ) (u v : V) (xs : List (Entry V)) → failing_at q xs ≤ 1 → Contains xs (failing q u) → Contains xs (failing q v) → u ≡ v
@@ -156,7 +183,7 @@ module _ (V : Type 0) where
       fewer (value p w) few = omega (arith, few)
       fewer (failing p w) few = few
 
-asserts_few : (o : Option Site) → asserts_of o ≤ 1
+pub asserts_few : (o : Option Site) → asserts_of o ≤ 1
 asserts_few None = omega arith
 asserts_few (Some s) = chosen s.asserts
   where
@@ -170,3 +197,11 @@ pub iteration_fails_once : {V H : Type 0} (ops : Operations V H) (set : Settings
 iteration_fails_once {V} {H} ops set P g r numbered iteration q u v =
     let found = iteration_found V H ops q set P g r iteration in
     one_failing V q u v r.entries (let c = found.checks in let n = numbered.checks q in let few = asserts_few (slice_get (sites_of P) q) in omega (arith, c, n, few))
+
+-- and a pass over a numbered tree has one value for each point, one for each assertion, and no other
+pub pass_counted : {V H : Type 0} (ops : Operations V H) (T : List Site) (set : Settings) (g : Node) (f : Option ℕ) (v : V) (r : Result V) → IsNumbered T g → Pass V H ops set g f v r → AreCounted T r.entries
+pass_counted {V} {H} ops T set g f v r numbered pass = record {
+  values = λ q s there. (pass_found V H ops q set g f v r pass).values ∙ numbered.values q s there;
+  no_values = λ q there. (pass_found V H ops q set g f v r pass).values ∙ numbered.no_values q there;
+  checks = λ q. (pass_found V H ops q set g f v r pass).checks ∙ numbered.checks q;
+}

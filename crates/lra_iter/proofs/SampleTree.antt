@@ -1,0 +1,79 @@
+-- The tree of the worked example fits, and has each of its points once.
+use Rattle.std.proofs.Common.{◌≡◌, ℕ, zero, suc, ◌+◌, ◌<◌, ◌≤◌, ◌^◌, List, [], ◌∷◌, length, map, Option, Some, None, Bool, cond, refl, sym, ap, ◌∙◌, subst, arith}
+use Rattle.std.specs.Prelude.{slice_get, option_map}
+use Rattle.std.proofs.lemmas.List.{length-map}
+use Rattle.std.proofs.lemmas.Option.{none-some, slice_get-map, slice_get_within, slice_get_past}
+use Rattle.lra_tree.specs.Program.{Expr, Cond}
+use Rattle.lra_tree.specs.Step.{append, give}
+use Rattle.lra_tree.specs.Graph.{Node, point, act, check, seq, choose}
+use Rattle.lra_tree.specs.Sites.{Site}
+use Rattle.lra_iter.specs.Fits.{TreeFits}
+use Rattle.lra_iter.specs.Numbers.{one_if, values_in, checks_in, asserts_of, IsNumbered}
+use Rattle.lra_iter.specs.Sample.{sample_asserts}
+use Rattle.lra_iter.proofs.Counting.{one_other}
+
+abbrev pub sample_tree : Expr → Cond → Cond → Cond → Node
+sample_tree e c d f =
+    seq (point 0) (seq (act 0 append) (seq (act 0 (give 0 (Some 0) e)) (seq (seq (point 1) (choose 1 0 c (seq (point 2) (check 2 0 d)) (seq (point 3) (check 3 0 f)))) (point 4))))
+
+past : {A : Type 0} (xs : List A) (k : ℕ) → slice_get xs k ≡ None → length xs ≤ k
+past [] k e = omega arith
+past (x ∷ xs) zero e = absurd (none-some x (sym e))
+past (x ∷ xs) (suc k) e = let h = past xs k e in omega (arith, h)
+
+pub sample_fits : (g : Node) (e : Expr) (c d f : Cond) → g ≡ sample_tree e c d f → TreeFits g 0
+sample_fits g e c d f is = subst (λ (t : Node). TreeFits t 0) (sym is) (
+  tt,
+  omega arith,
+  (omega arith, omega arith, (omega arith, omega arith, ((tt, omega arith, ((tt, omega arith, tt), (tt, omega arith, tt), refl)), omega arith, tt))),
+)
+
+flag_count : Option Bool → ℕ
+flag_count None = 0
+flag_count (Some b) = cond b 1 0
+
+asserts_count : (o : Option Site) → asserts_of o ≡ flag_count (option_map (λ (s : Site). s.asserts) o)
+unfolding flag_count
+asserts_count None = refl
+asserts_count (Some s) = refl
+
+module _ (e : Expr) (c d f : Cond) where
+  values_once : (k : ℕ) → k < 5 → values_in (sample_tree e c d f) k ≡ 1
+  unfolding one_if
+  values_once zero h = refl
+  values_once (suc zero) h = refl
+  values_once (suc (suc zero)) h = refl
+  values_once (suc (suc (suc zero))) h = refl
+  values_once (suc (suc (suc (suc zero)))) h = refl
+  values_once (suc (suc (suc (suc (suc k))))) h = absurd (omega (arith, h))
+
+  no_more_values : (k : ℕ) → 5 ≤ k → values_in (sample_tree e c d f) k ≡ 0
+  no_more_values k h =
+      let a = one_other 0 k (λ e. omega (arith, h, e)) in
+      let b = one_other 1 k (λ e. omega (arith, h, e)) in
+      let p = one_other 2 k (λ e. omega (arith, h, e)) in
+      let q = one_other 3 k (λ e. omega (arith, h, e)) in
+      let r = one_other 4 k (λ e. omega (arith, h, e)) in
+      omega (arith, a, b, p, q, r)
+
+  checks_once : (k : ℕ) → checks_in (sample_tree e c d f) k ≡ flag_count (slice_get sample_asserts k)
+  unfolding one_if flag_count
+  checks_once zero = refl
+  checks_once (suc zero) = refl
+  checks_once (suc (suc zero)) = refl
+  checks_once (suc (suc (suc zero))) = refl
+  checks_once (suc (suc (suc (suc zero)))) = refl
+  checks_once (suc (suc (suc (suc (suc k))))) =
+      let p = one_other 2 (suc (suc (suc (suc (suc k))))) (λ e. omega (arith, e)) in
+      let q = one_other 3 (suc (suc (suc (suc (suc k))))) (λ e. omega (arith, e)) in
+      omega (arith, p, q)
+
+pub sample_numbered : (T : List Site) (g : Node) (e : Expr) (c d f : Cond) → g ≡ sample_tree e c d f → map (λ (s : Site). s.asserts) T ≡ sample_asserts → IsNumbered T g
+sample_numbered T g e c d f is are = subst (λ (t : Node). IsNumbered T t) (sym is) (record {
+  values = λ k s there. values_once e c d f k (let h = slice_get_within T k s there in omega (arith, long, h));
+  no_values = λ k there. no_more_values e c d f k (let h = past T k there in omega (arith, long, h));
+  checks = λ k. checks_once e c d f k ∙ sym (asserts_count (slice_get T k) ∙ ap flag_count (sym (slice_get-map (λ (s : Site). s.asserts) T k) ∙ ap (λ (bs : List Bool). slice_get bs k) are));
+})
+  where
+    long : length T ≡ 5
+    long = sym (length-map T (λ (s : Site). s.asserts)) ∙ ap length are

@@ -1,0 +1,30 @@
+-- What a derivation's values, verdicts and first flag say of the written iteration.
+use Rattle.std.proofs.Common.{◌≡◌, ℕ, List, Option, None, Some, Bool, sym, ◌∙◌, subst}
+use Rattle.std.specs.Prelude.{ℤ}
+use Rattle.lra_domain.specs.Meaning.{Meaning}
+use Rattle.lra_domain.specs.declared.Exactness.{Exactness}
+use Rattle.lra_tree.specs.Program.{Program}
+use Rattle.lra_tree.specs.Graph.{Node}
+use Rattle.lra_flow.specs.declared.Settings.{Settings}
+use Rattle.lra_flow.specs.Operations.{dropping}
+use Rattle.lra_flow.specs.Changes.{first_values}
+use Rattle.lra_flow.specs.Pass.{Result, noted, Pass}
+use Rattle.lra_flow.specs.Analysis.{Derivation, Solves}
+use Rattle.lra_flow.proofs.Unflagged.{unflagged_is_written, flagged_strains}
+use Rattle.lra_iter.specs.Changes.{Does}
+use Rattle.lra_iter.specs.Solved.{IsSolved}
+
+pub solved : {V H : Type 0} (m : Meaning V H) (settings : Settings) (P : Program) (tree : Node) (result : Result V) (values : List V) (verdicts : List (ℕ × Bool)) (flagged : Option ℕ) → Derivation m settings P tree result
+    → Solves m result values verdicts flagged → IsSolved m settings P tree values verdicts flagged
+solved m settings P tree result values verdicts flagged derived solves = record {
+  result = result;
+  derived = derived;
+  solves = solves;
+  written = λ none. unflagged_is_written m settings P tree result derived (sym solves.is_flagged ∙ none);
+  strained = λ q is. flagged_strains m settings P tree result q derived (sym solves.is_flagged ∙ is);
+}
+
+-- from the value that has all stores, by the globals' first values and a pass
+pub derived_from : {V H : Type 0} (m : Meaning V H) (settings : Settings) (P : Program) (tree : Node) (globals : List ℤ) (whole first : V) (e : Exactness) (result : Result V) → P.globals ≡ globals
+    → m.universal 0 settings.parts whole → Does m (first_values 0 globals) whole e first → Pass V H (dropping m) settings tree (noted 0 e None) first result → Derivation m settings P tree result
+derived_from {V} {H} m settings P tree globals whole first e result is universal done pass = (whole, first, e, universal, subst (λ (zs : List ℤ). Does m (first_values 0 zs) whole e first) (sym is) done, pass)

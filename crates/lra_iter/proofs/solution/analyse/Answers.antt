@@ -1,0 +1,24 @@
+use Rattle.std.proofs.Common.{◌≡◌, map}
+use Rattle.lra_tree.specs.GraphViews.{node_view, site_view}
+use Rattle.lra_flow.specs.Operations.{dropping}
+use Rattle.lra_iter.specs.Outcome.{seen}
+use Rattle.lra_iter.proofs.Counting.{pass_counted}
+use Rattle.lra_iter.proofs.Solving.{solved, derived_from}
+use Rattle.lra_iter.proofs.solution.analyse.Goals as goal
+
+pub solution_of-requires : goal.solution_of-requires
+solution_of-requires g c =
+    let graph = c.args.graph.now in
+    rw c.deref.ensures.value (pass_counted (dropping g.D.Domain.meaning) (map site_view graph.sites.items) c.args.settings.now (node_view graph.tree) c.note.result c.append_globals.new.value (seen c.in_ok-outcome.outcome)
+    c.requires.numbered c.in_ok-outcome.ensures.pass)
+
+pub returns-clause-solved : goal.returns-clause-solved
+returns-clause-solved g c P same =
+    let m = g.D.Domain.meaning in
+    let graph = c.args.graph.now in
+    let result = seen c.in_ok-outcome.outcome in
+    let solution = c.in_ok-solution.solution in
+    let done = rw c.in_ok-value.ensures.dims at c.in_ok-exactness.ensures.appends in
+    let pass = rw c.note.ensures at c.in_ok-outcome.ensures.pass in
+    let derived = derived_from m c.args.settings.now P (node_view graph.tree) c.args.globals.now c.in_ok-value.value c.append_globals.new.value c.in_ok-exactness.exactness result same c.in_ok-value.ensures.defined done pass in
+    solved m c.args.settings.now P (node_view graph.tree) result solution.values.items solution.verdicts.items solution.flagged derived c.in_ok-solution.ensures.solves

@@ -1,0 +1,17 @@
+-- What is found of a program by an iteration over its tree.
+use Rattle.std.specs.Prelude.{◌≡◌, ℕ, List, Option, None, Some, Bool}
+use Rattle.lra_domain.specs.Meaning.{Meaning}
+use Rattle.lra_tree.specs.Program.{Program}
+use Rattle.lra_tree.specs.Graph.{Node}
+use Rattle.lra_flow.specs.declared.Settings.{Settings}
+use Rattle.lra_flow.specs.Pass.{Result}
+use Rattle.lra_flow.specs.Analysis.{Written, Derivation, Strains, Solves}
+
+-- values, verdicts and the first flag of a derivation with drops: without a flag it is the written iteration, and the first flag stands where
+-- the written iteration strains
+pub record IsSolved {V H : Type 0} (m : Meaning V H) (settings : Settings) (P : Program) (tree : Node) (values : List V) (verdicts : List (ℕ × Bool)) (flagged : Option ℕ) : Type 0 where
+  pub result : Result V
+  pub derived : Derivation m settings P tree result
+  pub solves : Solves m result values verdicts flagged
+  pub written : flagged ≡ None → Written m settings P tree result
+  pub strained : (q : ℕ) → flagged ≡ Some q → Strains m settings P tree q

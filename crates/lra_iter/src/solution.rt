@@ -1,0 +1,70 @@
+//! What is found of a whole program.
+
+ghost use Rattle.std.specs.Prelude.{◌≡◌, ◌≤◌, ◌^◌, map, length, IfOk};
+ghost use Rattle.lra_tree.specs.Program.{Program};
+ghost use Rattle.lra_tree.specs.GraphViews.{node_view, site_view};
+ghost use Rattle.lra_tree.specs.Listing.{assertions_from};
+ghost use Rattle.lra_flow.specs.Analysis.{Solves};
+ghost use Rattle.lra_iter.specs.Fits.{TreeFits};
+ghost use Rattle.lra_iter.specs.Outcome.{entry_view, seen};
+ghost use Rattle.lra_iter.specs.Numbers.{IsNumbered};
+ghost use Rattle.lra_iter.specs.Counts.{AreCounted};
+ghost use Rattle.lra_iter.specs.Solved.{IsSolved};
+
+use crate::globals::append_globals;
+use crate::outcome::{Outcome, note};
+use crate::pass::pass;
+use crate::tables::{held_in, numbered_in, tables_of};
+use lra_domain::Domain;
+use lra_flow::Settings;
+use lra_tree::graph::{Graph, Site};
+use std::alloc::{AllocError, Global};
+
+/// What is found of a program: the value at each of its points, in the order of their numbers; of each assertion its point's number and
+/// whether it is proved, in the same order; and the first point with a flagged operation. Points are numbered from 0.
+#[derive(Drop)]
+pub struct Solution<D> {
+    pub values: Vec<D>,
+    pub verdicts: Vec<(usize, bool)>,
+    pub flagged: Option<usize>,
+}
+
+/// What a pass found, in the order of the points.
+fn solution_of<D: Domain>(
+    alloc: Global,
+    sites: &[Site],
+    outcome: Outcome<D>,
+) -> Result<Solution<D>, AllocError>
+    requires { AreCounted (map site_view sites.now) (map entry_view outcome.entries.items) }
+    ensures solves { IfOk result (λ s. Solves D.meaning (seen outcome) s.values.items s.verdicts.items s.flagged) }
+    ensures points { IfOk result (λ s. length s.values.items ≡ length sites.now) }
+    ensures assertions { IfOk result (λ s. map (λ v. v.0) s.verdicts.items ≡ map (λ a. a.0) (assertions_from 0 (map site_view sites.now))) }
+{
+    let tables = tables_of(alloc, sites.len(), outcome.entries)?;
+    Ok(Solution {
+        values: held_in(alloc, tables.values)?,
+        verdicts: numbered_in(alloc, &tables.verdicts)?,
+        flagged: outcome.flag,
+    })
+}
+
+/// The iteration over a program's tree of operations, from its global variables at their first values.
+pub fn analyse<D: Domain>(
+    alloc: Global,
+    settings: &Settings,
+    globals: &[i64],
+    graph: &Graph,
+) -> Result<Solution<D>, AllocError>
+    requires few { length globals.now ≤ 2 ^ 30 }
+    requires fits { TreeFits (node_view graph.now.tree) (length globals.now) }
+    requires numbered { IsNumbered (map site_view graph.now.sites.items) (node_view graph.now.tree) }
+    ensures solved { IfOk result (λ s. (P : Program) → P.globals ≡ globals.now → IsSolved D.meaning settings.now P (node_view graph.now.tree) s.values.items s.verdicts.items s.flagged) }
+    ensures points { IfOk result (λ s. length s.values.items ≡ length graph.now.sites.items) }
+    ensures assertions { IfOk result (λ s. map (λ v. v.0) s.verdicts.items ≡ map (λ a. a.0) (assertions_from 0 (map site_view graph.now.sites.items))) }
+{
+    let mut value = D::universe(alloc, 0, settings.parts)?;
+    let exactness = append_globals(alloc, globals, &mut value)?;
+    let outcome = pass(alloc, settings, &graph.tree, value, note(0, exactness, None))?;
+    let solution = solution_of(alloc, &graph.sites, outcome)?;
+    Ok(solution)
+}

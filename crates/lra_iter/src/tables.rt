@@ -1,0 +1,72 @@
+//! What a pass finds, by the numbers of the points.
+
+ghost use Rattle.std.specs.Prelude.{◌≡◌, map, replicate, flat_map, None, IfOk};
+ghost use Rattle.std.specs.Option.{option_to_list};
+ghost use Rattle.lra_iter.specs.Outcome.{entry_view};
+ghost use Rattle.lra_iter.specs.Counts.{AreApart};
+ghost use Rattle.lra_iter.specs.Tables.{AreTabled, filled_from};
+
+use crate::outcome::Entry;
+use lra_domain::Domain;
+use std::alloc::{AllocError, Global};
+
+/// At the numbers of the points the values, and whether an assertion is proved.
+#[derive(Drop)]
+pub struct Tables<D> {
+    pub values: Vec<Option<D>>,
+    pub verdicts: Vec<Option<bool>>,
+}
+
+/// A table of so many empty places.
+fn empty_table<T: Drop>(alloc: Global, count: usize) -> Result<Vec<Option<T>>, AllocError>
+    ensures { IfOk result (λ table. table.items ≡ replicate count None) }
+{
+    let mut table = Vec::new(alloc);
+    'places: for _place in 0..count {
+        table.push(None)?;
+    }
+    Ok(table)
+}
+
+/// The entries at their numbers; an assertion is proved where its value is empty.
+pub fn tables_of<D: Domain>(
+    alloc: Global,
+    count: usize,
+    entries: Vec<Entry<D>>,
+) -> Result<Tables<D>, AllocError>
+    requires { AreApart count (map entry_view entries.items) }
+    ensures { IfOk result (λ tables. AreTabled D.meaning count (map entry_view entries.items) tables.values.items tables.verdicts.items) }
+{
+    let mut values = empty_table(alloc, count)?;
+    let mut verdicts = empty_table(alloc, count)?;
+    'entries: for entry in entries {
+        match entry {
+            Entry::Value(point, value) => values[point] = Some(value),
+            Entry::Failing(point, value) => verdicts[point] = Some(value.is_empty()),
+        }
+    }
+    Ok(Tables { values, verdicts })
+}
+
+/// What the filled places hold.
+pub fn held_in<T: Drop>(alloc: Global, table: Vec<Option<T>>) -> Result<Vec<T>, AllocError>
+    ensures { IfOk result (λ held. held.items ≡ flat_map option_to_list table.items) }
+{
+    table.into_iter().flatten().collect(alloc)
+}
+
+/// What the filled places hold, with the places' numbers.
+pub fn numbered_in(
+    alloc: Global,
+    table: &[Option<bool>],
+) -> Result<Vec<(usize, bool)>, AllocError>
+    ensures { IfOk result (λ numbered. numbered.items ≡ filled_from 0 table.now) }
+{
+    let mut numbered = Vec::new(alloc);
+    'places: for (number, place) in table.iter().enumerate() {
+        if let Some(proved) = place {
+            numbered.push((number, *proved))?;
+        }
+    }
+    Ok(numbered)
+}

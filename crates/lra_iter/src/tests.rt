@@ -1,0 +1,130 @@
+//! An analysis over boxes of `long x = input(); if (x >= 1) assert(x >= 0); else assert(x >= 0);` and its end.
+
+ghost use Rattle.std.specs.Prelude.{◌≡◌, map, IfOk};
+ghost use Rattle.lra_tree.specs.Graph as graph;
+ghost use Rattle.lra_tree.specs.ProgramViews.{cond_view};
+ghost use Rattle.lra_tree.specs.GraphViews.{op_view, node_view, site_view};
+ghost use Rattle.lra_iter.specs.Fits.{TreeFits};
+ghost use Rattle.lra_iter.specs.Numbers.{IsNumbered};
+ghost use Rattle.lra_iter.specs.Sample.{sample_asserts};
+
+use crate::analyse;
+use lra_box::Boxes;
+use lra_domain::Domain;
+use lra_flow::Settings;
+use lra_tree::Comparison;
+use lra_tree::graph::{Graph, Node, Op, Path, Site};
+use lra_tree::program::{Cond, Expr, Slot};
+use std::alloc::{AllocError, Global};
+
+/// `x >= bound`
+fn at_least(bound: u64) -> Cond {
+    Cond::Compare(
+        Comparison::AtLeast,
+        Expr::Read(Slot::Local(0)),
+        Expr::Literal(bound),
+    )
+}
+
+/// The one, then the other.
+fn in_turn(alloc: Global, first: Node, second: Node) -> Result<Node, AllocError>
+    ensures { IfOk result (λ g. node_view g ≡ graph.seq (node_view first) (node_view second)) }
+{
+    Ok(Node::Seq(Box::new(alloc, first)?, Box::new(alloc, second)?))
+}
+
+/// The operation at the first point, then the tree.
+fn behind(alloc: Global, op: Op, node: Node) -> Result<Node, AllocError>
+    ensures { IfOk result (λ g. node_view g ≡ graph.seq (graph.act 0 (op_view op)) (node_view node)) }
+{
+    in_turn(alloc, Node::Act(0, op), node)
+}
+
+/// The point and its assertion.
+fn assertion(alloc: Global, point: usize, condition: Cond) -> Result<Node, AllocError>
+    ensures { IfOk result (λ g. node_view g ≡ graph.seq (graph.point point) (graph.check point 0 (cond_view condition))) }
+{
+    in_turn(alloc, Node::Point(point), Node::Check(point, 0, condition))
+}
+
+/// The second point and its branches.
+fn choice(alloc: Global, condition: Cond, yes: Node, no: Node) -> Result<Node, AllocError>
+    ensures { IfOk result (λ g. node_view g ≡ graph.seq (graph.point 1) (graph.choose 1 0 (cond_view condition) (node_view yes) (node_view no))) }
+{
+    let branches = Node::Choose(
+        1,
+        0,
+        condition,
+        Box::new(alloc, yes)?,
+        Box::new(alloc, no)?,
+    );
+    in_turn(alloc, Node::Point(1), branches)
+}
+
+/// The points: the third and the fourth are assertions.
+fn sites(alloc: Global) -> Result<Vec<Site>, AllocError>
+    ensures { IfOk result (λ sites. map (λ s. s.asserts) sites.items ≡ sample_asserts) }
+{
+    let mut sites = Vec::new(alloc);
+    'sites: for asserts in &[false, false, true, true, false] {
+        sites.push(Site {
+            path: Path::empty(alloc),
+            label: 1,
+            live: 1,
+            asserts: *asserts,
+        })?;
+    }
+    Ok(sites)
+}
+
+/// The tree and its points.
+fn sample(alloc: Global) -> Result<Graph, AllocError>
+    ensures fits { IfOk result (λ g. TreeFits (node_view g.tree) 0) }
+    ensures numbered { IfOk result (λ g. IsNumbered (map site_view g.sites.items) (node_view g.tree)) }
+{
+    let yes = assertion(alloc, 2, at_least(0))?;
+    let no = assertion(alloc, 3, at_least(0))?;
+    let branches = choice(alloc, at_least(1), yes, no)?;
+    let rest = in_turn(alloc, branches, Node::Point(4))?;
+    let given = behind(alloc, Op::Give(0, Some(0), Expr::Input), rest)?;
+    let declared = behind(alloc, Op::Append, given)?;
+    let tree = in_turn(alloc, Node::Point(0), declared)?;
+    let sites = sites(alloc)?;
+    Ok(Graph { tree, sites })
+}
+
+/// The rows of the value's parts over one variable, one behind the other.
+fn rows_of(alloc: Global, value: &Boxes) -> Result<Vec<[i128; 2]>, AllocError> {
+    let mut rows = Vec::new(alloc);
+    for part in &value.parts(alloc)? {
+        for row in part.rows() {
+            if row.width() == 2 {
+                rows.push([row.get(0), row.get(1)])?;
+            }
+        }
+    }
+    Ok(rows)
+}
+
+/// Where x >= 1 the assertion x >= 0 is proved, and elsewhere it isn't; x >= 0 holds at the end.
+#[test]
+fn a_small_program(rt: HostRuntime) -> Result<(), AllocError> {
+    let alloc = rt.alloc();
+    let graph = sample(alloc)?;
+    let settings = Settings {
+        parts: 1,
+        delay: 1,
+        narrow: 1,
+        limited: false,
+    };
+    let solution = analyse::<Boxes>(alloc, &settings, &[], &graph)?;
+    let want: [&[[i128; 2]]; 5] = [&[], &[], &[[-1, 1]], &[[0, -1]], &[[0, 1]]];
+    assert_eq!(rt; solution.values.len(), 5);
+    for (point, (value, rows)) in solution.values.iter().zip(want.iter()).enumerate() {
+        let found = rows_of(alloc, value)?;
+        assert_eq!(rt; found.as_slice(), *rows, "point {point}");
+    }
+    assert_eq!(rt; solution.verdicts.as_slice(), [(2, true), (3, false)].as_slice());
+    assert_eq!(rt; solution.flagged, None);
+    Ok(())
+}
