@@ -3,3 +3,4 @@ mod CondSizes
 mod CondSteps
 mod ChangeSteps
 mod GivenSteps
+mod PassLoops
