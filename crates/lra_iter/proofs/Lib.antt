@@ -4,3 +4,4 @@ mod CondSteps
 mod ChangeSteps
 mod GivenSteps
 mod PassLoops
+mod PassSteps

@@ -160,6 +160,24 @@ fn catch_returns<D: Domain>(
     })
 }
 
+/// Jumps of this kind come out here.
+fn catch_jumps<D: Domain>(
+    alloc: Global,
+    point: usize,
+    exit: Exit,
+    inner: Outcome<D>,
+) -> Result<Outcome<D>, AllocError>
+    requires { AllHave D.meaning (D.meaning.dims inner.normal) (jumps_of (exit_view exit) (seen inner)) }
+    ensures caught { IfOk result (λ r. Catches D.meaning point (exit_view exit) (seen inner) (seen r)) }
+    ensures dims { IfOk result (λ r. D.meaning.dims r.normal ≡ D.meaning.dims inner.normal) }
+{
+    match exit {
+        Exit::Broken => catch_breaks(alloc, point, inner),
+        Exit::Continued => catch_continues(alloc, point, inner),
+        Exit::Returned => catch_returns(alloc, point, inner),
+    }
+}
+
 /// An assertion: where its condition is false, and then where it is true.
 fn pass_check<D: Domain>(
     alloc: Global,
@@ -172,6 +190,7 @@ fn pass_check<D: Domain>(
     requires { D.meaning.dims value ≤ 2 ^ 30 }
     ensures pass { IfOk result (λ r. (settings : Settings) → Pass D D.Head (dropping D.meaning) settings (check point base (cond_view condition.now)) flag value (seen r)) }
     ensures dims { IfOk result (λ r. D.meaning.dims r.normal ≡ D.meaning.dims value) }
+    ensures jumps { IfOk result (λ r. JumpsFit D.meaning (check point base (cond_view condition.now)) (D.meaning.dims value) (seen r)) }
 {
     let mut off = value.copy(alloc)?;
     let one = leave(alloc, base, condition, false, &mut off, Exactness::Exact)?;
@@ -410,11 +429,7 @@ pub fn pass<D: Domain>(
         }
         Node::Catch(point, exit, body) => {
             let inner = pass(alloc, settings, body, value, flag)?;
-            let outcome = match exit {
-                Exit::Broken => catch_breaks(alloc, *point, inner)?,
-                Exit::Continued => catch_continues(alloc, *point, inner)?,
-                Exit::Returned => catch_returns(alloc, *point, inner)?,
-            };
+            let outcome = catch_jumps(alloc, *point, *exit, inner)?;
             Ok(outcome)
         }
         Node::Leave(live, exit) => {
