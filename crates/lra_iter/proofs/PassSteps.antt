@@ -1,7 +1,7 @@
 -- Steps of the proofs on the pass.
-use Rattle.std.proofs.Common.{rules, Box, Global, ◌≡◌, ◌≢◌, ℕ, zero, suc, ◌+◌, ◌<◌, ◌≤◌, List, [], ◌∷◌, ◌++◌, Option, Bool, true, false, length, refl, sym, ap, subst, ◌∙◌, inl, inr, arith}
+use Rattle.std.proofs.Common.{rules, Box, Vec, Global, map, ◌≡◌, ◌≢◌, ℕ, zero, suc, ◌+◌, ◌<◌, ◌≤◌, List, [], ◌∷◌, ◌++◌, Option, Bool, true, false, length, refl, sym, ap, subst, ◌∙◌, inl, inr, arith}
 use Rattle.std.specs.Prelude.{◌⊎◌}
-use Rattle.std.specs.List.{Contains}
+use Rattle.std.specs.List.{Contains, insert}
 use Rattle.std.proofs.lemmas.List.Elements.{Contains-append_cases}
 use Rattle.lra_domain.specs.Meaning.{Meaning, Joins}
 use Rattle.lra_domain.specs.declared.Exactness.{Exactness}
@@ -20,7 +20,10 @@ use Rattle.lra_flow.specs.Conditions.{Leaves}
 use Rattle.lra_flow.specs.Pass.{Entry, value, Result, noted, goes_on, jumps, in_turn, behind, Pass, GoesRound, Narrows}
 use Rattle.lra_flow.specs.Sound.{jumps_of}
 use Rattle.lra_iter.specs.Fits.{live_behind, JumpsWith, TreeFits}
-use Rattle.lra_iter.specs.Outcome.{AllHave, Catches, JumpsFit, HasGrown}
+use Rattle.lra_iter.specs.declared.outcome.Entry as entry
+use Rattle.lra_iter.specs.declared.outcome.Entry.TheVariants as entry_variants
+use Rattle.lra_iter.specs.declared.outcome.Outcome.{Outcome}
+use Rattle.lra_iter.specs.Outcome.{entry_view, seen, AllHave, Catches, JumpsFit, HasGrown}
 use Rattle.lra_iter.proofs.PassLoops.{node_size}
 
 -- the views of the nine forms
@@ -86,16 +89,16 @@ module _ {V H : Type 0} (m : Meaning V H) where
       fits returned u h = absurd (no_element u h)
 
   -- one behind the other
-  pub seq_fits : (a b : graph.Node) (n : ℕ) (s t : Result V) (v : V) (f : Option ℕ) → JumpsFit m a n s → JumpsFit m b (live_behind a n) t → JumpsFit m (graph.seq a b) n (in_turn s t v f)
-  seq_fits a b n s t v f one two = fits
+  pub seq_fits : (a b : graph.Node) (n : ℕ) (s t r : Result V) (v : V) (f : Option ℕ) → r ≡ in_turn s t v f → JumpsFit m a n s → JumpsFit m b (live_behind a n) t → JumpsFit m (graph.seq a b) n r
+  seq_fits a b n s t r v f is one two = subst (λ (x : Result V). JumpsFit m (graph.seq a b) n x) (sym is) fits
     where
       fits : (k : Exit) (u : V) → Contains (jumps_of k (in_turn s t v f)) u → JumpsWith (graph.seq a b) n k (m.dims u)
       fits broken u h = in_both (λ x. JumpsWith a n broken (m.dims x)) (λ x. JumpsWith b (live_behind a n) broken (m.dims x)) s.breaks t.breaks u (one broken u) (two broken u) h
       fits continued u h = in_both (λ x. JumpsWith a n continued (m.dims x)) (λ x. JumpsWith b (live_behind a n) continued (m.dims x)) s.continues t.continues u (one continued u) (two continued u) h
       fits returned u h = in_both (λ x. JumpsWith a n returned (m.dims x)) (λ x. JumpsWith b (live_behind a n) returned (m.dims x)) s.returns t.returns u (one returned u) (two returned u) h
 
-  pub choose_fits : (q base : ℕ) (c : Cond) (a b : graph.Node) (n : ℕ) (s t : Result V) (v : V) (f : Option ℕ) → JumpsFit m a n s → JumpsFit m b n t → JumpsFit m (graph.choose q base c a b) n (in_turn s t v f)
-  choose_fits q base c a b n s t v f one two = fits
+  pub choose_fits : (q base : ℕ) (c : Cond) (a b : graph.Node) (n : ℕ) (s t r : Result V) (v : V) (f : Option ℕ) → r ≡ in_turn s t v f → JumpsFit m a n s → JumpsFit m b n t → JumpsFit m (graph.choose q base c a b) n r
+  choose_fits q base c a b n s t r v f is one two = subst (λ (x : Result V). JumpsFit m (graph.choose q base c a b) n x) (sym is) fits
     where
       fits : (k : Exit) (u : V) → Contains (jumps_of k (in_turn s t v f)) u → JumpsWith (graph.choose q base c a b) n k (m.dims u)
       fits broken u h = in_both (λ x. JumpsWith a n broken (m.dims x)) (λ x. JumpsWith b n broken (m.dims x)) s.breaks t.breaks u (one broken u) (two broken u) h
@@ -144,6 +147,14 @@ module _ {V H : Type 0} (m : Meaning V H) where
   pub jump_fits : (l : ℕ) (j : Exit) (v w : V) (f : Option ℕ) (r : Result V) → r ≡ jumps j v w f → JumpsFit m (graph.leave l j) (m.dims v) r
   jump_fits l j v w f r is = subst (λ (x : Result V). JumpsFit m (graph.leave l j) (m.dims v) x) (sym is) (leave_fits l j (m.dims v) v w f refl)
 
+  jump_normal : (k : Exit) (v w : V) (f : Option ℕ) → (jumps k v w f).normal ≡ w
+  jump_normal broken v w f = refl
+  jump_normal continued v w f = refl
+  jump_normal returned v w f = refl
+
+  pub jump_dims : (l : ℕ) (j : Exit) (v w : V) (f : Option ℕ) (r : Result V) → r ≡ jumps j v w f → m.dims w ≡ l → m.dims r.normal ≡ l
+  jump_dims l j v w f r is dims = ap (λ (x : Result V). m.dims x.normal) is ∙ ap m.dims (jump_normal j v w f) ∙ dims
+
   pub none_fits : (g : graph.Node) (n : ℕ) (xs : List (Entry V)) (v : V) (f : Option ℕ) (r : Result V) → r ≡ goes_on xs v f → JumpsFit m g n r
   none_fits g n xs v f r is = subst (λ (x : Result V). JumpsFit m g n x) (sym is) (going_on_fits g n xs v f)
 
@@ -160,3 +171,9 @@ module _ {V H : Type 0} (m : Meaning V H) where
       → HasGrown m set q base c a first f u s → Narrows V H (dropping m) q base c (Pass V H (dropping m) set a) set.narrow first u s top t → Leaves (dropping m) base c false top e out
       → Pass V H (dropping m) set (graph.iterate q base c a) f first (record t { normal = out; flag = noted q e t.flag })
   loop_passes set q base c a f first u top out s t e (h, later, started, grows) narrows leaves = (h, later, u, top, out, s, t, e, started, grows, narrows, leaves, refl)
+
+-- the value at a loop's point comes first
+pub entered : {V : Type 0} (o : Outcome V) (es : Vec (entry.Entry V) Global) (q : ℕ) (v w : V) → es.items ≡ insert o.entries.items 0 (entry_variants.Value q w) → w ≡ v
+    → seen (record o { entries = es }) ≡ record (seen o) { entries = value q v ∷ (seen o).entries }
+entered {V} o es q v w is same =
+    ap (λ (xs : List (Entry V)). record (seen o) { entries = xs }) (ap (map entry_view) is ∙ ap (λ (x : V). value q x ∷ map entry_view o.entries.items) same)

@@ -223,8 +223,10 @@ fn round<D: Domain>(
 {
     let mut on = value.copy(alloc)?;
     let exactness = leave(alloc, base, condition, true, &mut on, Exactness::Exact)?;
-    let mut outcome = pass(alloc, settings, body, on, note(point, exactness, flag))?;
-    outcome.entries.insert(0, Entry::Value(point, value.copy(alloc)?))?;
+    let inside = note(point, exactness, flag);
+    let mut outcome = pass(alloc, settings, body, on, inside)?;
+    let found = value.copy(alloc)?;
+    outcome.entries.insert(0, Entry::Value(point, found))?;
     Ok(outcome)
 }
 
@@ -295,15 +297,9 @@ fn narrow<D: Domain>(
     'narrowing: while left > 0 {
         let mut next = first.copy(alloc)?;
         let exactness = next.join(&last.normal)?;
+        let so_far = note(point, exactness, last.flag);
         let turned = round(
-            alloc,
-            settings,
-            point,
-            base,
-            condition,
-            body,
-            &next,
-            note(point, exactness, last.flag),
+            alloc, settings, point, base, condition, body, &next, so_far,
         )?;
         top = next;
         last = turned;
@@ -336,8 +332,9 @@ fn pass_loop<D: Domain>(
         alloc, settings, point, base, condition, body, &value, grown, outcome,
     )?;
     let exactness = leave(alloc, base, condition, false, &mut top, Exactness::Exact)?;
+    let flag = note(point, exactness, last.flag);
     last.normal = top;
-    last.flag = note(point, exactness, last.flag);
+    last.flag = flag;
     Ok(last)
 }
 
@@ -362,14 +359,17 @@ fn pass_choice<D: Domain>(
 {
     let mut on = value.copy(alloc)?;
     let one = leave(alloc, base, condition, true, &mut on, Exactness::Exact)?;
-    let mut first = pass(alloc, settings, yes, on, note(point, one, flag))?;
+    let on_flag = note(point, one, flag);
+    let first = pass(alloc, settings, yes, on, on_flag)?;
     let mut off = value;
     let two = leave(alloc, base, condition, false, &mut off, Exactness::Exact)?;
-    let mut second = pass(alloc, settings, no, off, note(point, two, first.flag))?;
+    let off_flag = note(point, two, first.flag);
+    let mut second = pass(alloc, settings, no, off, off_flag)?;
     let mut normal = first.normal.copy(alloc)?;
     let joined = normal.join(&second.normal)?;
+    let flag = note(point, joined, second.flag);
     second.normal = normal;
-    second.flag = note(point, joined, second.flag);
+    second.flag = flag;
     let both = in_a_row(first, second)?;
     Ok(both)
 }
@@ -392,19 +392,16 @@ pub fn pass<D: Domain>(
     match node {
         Node::Empty => Ok(Outcome::going_on(alloc, Vec::new(alloc), value, flag)),
         Node::Point(point) => {
+            let found = value.copy(alloc)?;
             let mut entries = Vec::new(alloc);
-            entries.push(Entry::Value(*point, value.copy(alloc)?))?;
+            entries.push(Entry::Value(*point, found))?;
             Ok(Outcome::going_on(alloc, entries, value, flag))
         }
         Node::Act(point, op) => {
             let mut after = value;
             let exactness = change(alloc, op, &mut after)?;
-            Ok(Outcome::going_on(
-                alloc,
-                Vec::new(alloc),
-                after,
-                note(*point, exactness, flag),
-            ))
+            let flag = note(*point, exactness, flag);
+            Ok(Outcome::going_on(alloc, Vec::new(alloc), after, flag))
         }
         Node::Check(point, base, condition) => {
             let outcome = pass_check(alloc, *point, *base, condition, value, flag)?;
