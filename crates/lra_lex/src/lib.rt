@@ -12,6 +12,7 @@ mod marks;
 mod spot;
 
 pub use lexer::{LexError, one_reading, tokens};
+pub use spot::place_behind;
 
 #[cfg(test)]
 mod tests;

@@ -4,3 +4,11 @@ pub mod Sound
 pub mod Numbering
 pub mod Flags
 pub mod Reports
+pub mod BuiltAnswer
+pub mod Endings
+pub mod ReadSteps
+pub mod StageSteps
+pub mod Widths
+pub mod Handing
+pub mod ReportSteps
+pub mod Holding

@@ -46,7 +46,8 @@ use Rattle.lra_iter.specs.Numbers.{IsBelow}
 use Rattle.lra_source.proofs.Numbering.{numbered}
 use Rattle.lra_iter.proofs.Counting.{iteration_fails_once}
 use Rattle.lra_source.proofs.Flags.{graph_below, iteration_below}
-use Rattle.lra_source.proofs.Sound.{Begins, EmptyWithoutParts, value_there, proved_holds, listed_all, judged_all, assertion_site}
+use Rattle.lra_source.specs.Soundness.{Begins, EmptyWithoutParts}
+use Rattle.lra_source.proofs.Sound.{value_there, proved_holds, listed_all, judged_all, assertion_site}
 
 -- rows ---------------------------------------------------------------------------------------------------------------
 

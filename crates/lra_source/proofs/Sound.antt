@@ -24,6 +24,7 @@ use Rattle.lra_flow.specs.Analysis.{Derivation, Solves, IsUnreachable}
 use Rattle.lra_flow.specs.Sound.{Covers}
 use Rattle.lra_flow.proofs.Keeping.{as_form_value}
 use Rattle.lra_flow.proofs.Keeps.{sizing, pass_covers}
+use Rattle.lra_source.specs.Soundness.{Begins, EmptyWithoutParts}
 
 -- the globals at their first values ---------------------------------------------------------------------------------
 
@@ -38,14 +39,6 @@ constant_value n z s = as_form_value (linear.constant_form n z) s ∙ ap (λ (y 
 set_last : (xs : List ℤ) (z : ℤ) → slice_set (xs ++ z ∷ []) (length xs) z ≡ xs ++ z ∷ []
 set_last [] z = refl
 set_last (x ∷ xs) z = ap (λ (ys : List ℤ). x ∷ ys) (set_last xs z)
-
--- the value without variables that has all stores, with which an iteration begins
-abbrev pub Begins : {V H : Type 0} → Meaning V H → Type 0
-Begins {V} m = (cap : ℕ) (v : V) → m.universal 0 cap v → m.has v [] × (m.dims v ≡ 0)
-
--- nothing is in a value without parts
-abbrev pub EmptyWithoutParts : {V H : Type 0} → Meaning V H → Type 0
-EmptyWithoutParts {V} m = (v : V) → IsUnreachable m v → (s : List ℤ) → m.has v s → ⊥
 
 module _ (V H : Type 0) (m : Meaning V H) where
   first_done : (zs : List ℤ) (live : ℕ) (v : V) (e : Exactness) (w : V) (s : List ℤ) → AreDone (dropping m) (first_values live zs) v e w → m.has v s → length s ≡ live → m.dims v ≡ live

@@ -2,9 +2,13 @@
 
 ghost use Rattle.lra_tree.specs.Built.{Built};
 ghost use Rattle.lra_tree.specs.Refuse.{OneAnswer};
+ghost use Rattle.lra_tree.specs.Linear.{FormsAreRight, TestsAreRight, DiffersIsRight};
+ghost use Rattle.lra_source.specs.Soundness.{SolvedAreSound};
 ghost use Rattle.lra_source.specs.Claims.{TreesFit, TreesAreNumbered, AnalysedAreSound, AnalysedAreReports};
 
-/// A source is accepted with one tree, or refused for one cause at one place; never both.
+use lra_domain::Domain;
+
+/// A source is accepted with at most one tree, or refused for at most one cause at one place; never both.
 pub fn one_answer()
     ensures { OneAnswer Built }
 {
@@ -22,4 +26,17 @@ pub fn trees_fit()
 pub fn analyses_are_right()
     ensures sound { AnalysedAreSound }
     ensures reports { AnalysedAreReports }
+{}
+
+/// What an iteration over a domain finds holds in all runs, where the domain's value of no dimensions has the store without variables and
+/// nothing is in a value without parts.
+pub fn solved_are_sound<D: Domain>()
+    ensures { SolvedAreSound D.meaning }
+{}
+
+/// Linear forms have the value of their expressions wherever it exists, and tests pass exactly where their comparisons are true.
+pub fn forms_are_right()
+    ensures forms { FormsAreRight }
+    ensures tests { TestsAreRight }
+    ensures differs { DiffersIsRight }
 {}

@@ -1,9 +1,17 @@
 //! What a source deserves: its one refusal, or its report over boxes.
 //!
-//! `proofs/` joins the laws of the parts: one reading and one tree make one answer; the tree of operations of a well-formed program fits the
-//! iteration, and has each point once; so what an iteration finds holds in all runs.
+//! [`analyse_source`] goes through the stages: tokens, tree, program, tree of operations, iteration, report. `proofs/` joins the laws of the
+//! parts: one reading and one tree make one answer; the tree of operations of a well-formed program fits the iteration, and has each point
+//! once; so what an iteration finds holds in all runs.
 #![tactic(auto)]
 
+mod answer;
+mod error;
 mod laws;
+mod program;
+mod reading;
+mod states;
 
-pub use laws::{analyses_are_right, one_answer, trees_fit};
+pub use answer::analyse_source;
+pub use error::SourceError;
+pub use laws::{analyses_are_right, forms_are_right, one_answer, solved_are_sound, trees_fit};

@@ -1,4 +1,4 @@
--- From what a script deserves to how a call ends that answers it; a script deserves one text.
+-- From what a script deserves to how a call ends that answers it.
 use Rattle.std.proofs.Common.{◌∙◌, ◌≡◌, ◌≤◌, ◌<◌, ℕ, List, ◌++◌, length, take, refl, ap, sym, arith}
 use Rattle.std.specs.Prelude.{Result, Ok, Err}
 use Rattle.std.proofs.lemmas.Grind.{common_steps}
@@ -13,7 +13,7 @@ use Rattle.lra_top.specs.ScriptAnswer.{DeservesScript}
 use Rattle.lra_top.specs.declared.status.Status.{Status}
 use Rattle.lra_top.specs.declared.status.Status.TheVariants.{Proved, Unknown, Refused, Usage, ReadFault, WriteFault, Memory}
 
-past_limit : (bytes : List ℕ) → limit < length bytes → greatest_length < length bytes
+pub past_limit : (bytes : List ℕ) → limit < length bytes → greatest_length < length bytes
 past_limit bytes long = rw limit_is long
 
 pub too_long_answer : (bytes : List ℕ) → limit < length bytes → script.answer_to bytes ≡ Err (script.TooLong (place_behind (take greatest_length bytes)))
@@ -63,35 +63,3 @@ script_output bytes text Usage output d e = d
 script_output bytes text ReadFault output d e = tt
 script_output bytes text WriteFault output d e = tt
 script_output bytes text Memory output d e = tt
-
--- one text -----------------------------------------------------------------------
-
-output_same : {t u : List ℕ} {told : Result (List ℕ) script.Refusal} → told ≡ Ok t → told ≡ Ok u → t ≡ u
-output_same e f = cc
-
-refused_same : {told : Result (List ℕ) script.Refusal} {r s : script.Refusal} → told ≡ Err r → told ≡ Err s → r ≡ s
-refused_same e f = cc
-
-not_both_ways : {t : List ℕ} {told : Result (List ℕ) script.Refusal} {r : script.Refusal} → told ≡ Ok t → told ≡ Err r → ⊥
-not_both_ways e f = cc
-
-pub script_text : (bytes t u : List ℕ) (a b : Status) → DeservesScript bytes t a → DeservesScript bytes u b → t ≡ u
-script_text bytes t u Proved Proved d e = output_same d e
-script_text bytes t u Proved Refused d e = absurd (not_both_ways d e.1)
-script_text bytes t u Proved Unknown d e = absurd e
-script_text bytes t u Proved Usage d e = absurd e
-script_text bytes t u Proved ReadFault d e = absurd e
-script_text bytes t u Proved WriteFault d e = absurd e
-script_text bytes t u Proved Memory d e = absurd e
-script_text bytes t u Refused Proved d e = absurd (not_both_ways e d.1)
-script_text bytes t u Refused Refused d e = d.2 ∙ ap script.refused_text (refused_same d.1 e.1) ∙ sym e.2
-script_text bytes t u Refused Unknown d e = absurd e
-script_text bytes t u Refused Usage d e = absurd e
-script_text bytes t u Refused ReadFault d e = absurd e
-script_text bytes t u Refused WriteFault d e = absurd e
-script_text bytes t u Refused Memory d e = absurd e
-script_text bytes t u Unknown b d e = absurd d
-script_text bytes t u Usage b d e = absurd d
-script_text bytes t u ReadFault b d e = absurd d
-script_text bytes t u WriteFault b d e = absurd d
-script_text bytes t u Memory b d e = absurd d

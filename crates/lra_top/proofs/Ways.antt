@@ -2,21 +2,26 @@
 use Rattle.std.proofs.Common.{◌∙◌, ◌≡◌, ◌≤◌, ◌<◌, ◌+◌, ℕ, List, [], ◌++◌, length, refl, sym, arith, append-nil, subst}
 use Rattle.std.specs.Prelude.{Option, Some, None, Ok, Err}
 use Rattle.std.specs.Io.KnownBytes.{Consumes, IsAtEnd}
+use Rattle.lra_tree.specs.declared.refusals.Cause.{Cause}
+use Rattle.lra_tree.specs.declared.refusals.Place.{Place}
+use Rattle.lra_tree.specs.Trees.{FileTree}
+use Rattle.lra_tree.specs.Built.{Built}
+use Rattle.lra_tree.specs.Refuse.{Refuse, Accepts}
+use Rattle.lra_edge.specs.ReadEnd.{LosesFront}
 use Rattle.lra_calc.specs.Script as script
 use Rattle.lra_words.specs.Built.{Asks, AsksNone, AsksFor}
 use Rattle.lra_words.specs.declared.chosen.AnalyseOptions.{AnalyseOptions}
 use Rattle.lra_words.specs.declared.chosen.Command.{Command}
 use Rattle.lra_words.specs.declared.chosen.Command.TheVariants.{Analyse, Sample, Calc}
-use Rattle.lra_words.proofs.OneCommand.{asks_not_none}
-use Rattle.lra_top.specs.SourceAnswer.{limit, IsTooLong, IsWithinLimit, IsFirstForm}
+use Rattle.lra_words.proofs.OneCommand.{one_asked, asks_not_none}
+use Rattle.lra_top.specs.SourceAnswer.{limit, IsTooLong, IsUnrefused}
 use Rattle.lra_top.specs.Ends.{IsAnswer, EndsInUsage, EndsInRefusal, EndsInReport, EndsInOutput, IsReportOrMemory, IsOutputOrMemory}
 use Rattle.lra_top.specs.Run.{IsInput, options_of, usage_text, DeservesInput, Deserves, IsDeserved}
 use Rattle.lra_top.specs.Prepared.{IsInputText}
-use Rattle.lra_top.proofs.SourceWays.{longer_source, source_answer, source_reported, source_too_long, source_other}
+use Rattle.lra_top.proofs.SourceWays.{longer_source, source_answer, source_refused, source_reported, source_unrefused, source_too_long}
 use Rattle.lra_top.proofs.ScriptWays.{longer_script, too_long_answer, script_answer, script_refusal, script_output}
 use Rattle.lra_top.specs.declared.status.Status.{Status}
 use Rattle.lra_top.specs.declared.status.Status.TheVariants.{Proved, Unknown, Refused, Usage, ReadFault, WriteFault, Memory}
-use Rattle.lra_top.proofs.OneText.{asked_input, one_text}
 
 -- what was read ------------------------------------------------------------------
 
@@ -38,6 +43,17 @@ begun_input None new bytes taken = ([], tt)
 begun_input (Some left) None bytes taken = absurd taken
 begun_input (Some left) (Some rest) bytes taken = (rest, taken)
 
+-- nothing is read of an input that is left as it is
+pub unread_front : (left : Option (List ℕ)) (n : ℕ) → LosesFront left left n
+unread_front None n = ([], tt, omega arith)
+unread_front (Some bytes) n = ([], refl, omega arith)
+
+whole_front : (old new : Option (List ℕ)) (n : ℕ) (bytes : List ℕ) → Consumes old new bytes → length bytes ≤ n → LosesFront old new n
+whole_front old new n bytes taken within = (bytes, taken, omega arith)
+
+past_front : (old new : Option (List ℕ)) (n : ℕ) (bytes : List ℕ) → Consumes old new bytes → length bytes ≡ n + 1 → LosesFront old new n
+past_front old new n bytes taken past = (bytes, taken, omega arith)
+
 -- one byte past the limit says as much as the whole input --------------------------
 
 longer_input : (c : Command) (bytes rest text : List ℕ) (status : Status) → limit < length bytes → DeservesInput c bytes text status → DeservesInput c (bytes ++ rest) text status
@@ -54,7 +70,7 @@ too_long_input c old new bytes shown text status d same read past =
     let here : DeservesInput c bytes text status = subst (λ b. DeservesInput c b text status) same d in
     record { bytes = bytes ++ rest; input = input; deserved = longer_input c bytes rest text status long here }
 
-pub ruleset reading = (whole_text, too_long_input)
+pub ruleset reading = (whole_text, too_long_input, whole_front, past_front)
 
 -- words ------------------------------------------------------------------------------
 
@@ -122,6 +138,16 @@ too_long_of Calc bytes text status d long = script_refusal bytes text status _ d
 the_input : (left : Option (List ℕ)) (bytes told : List ℕ) → IsInput left bytes → left ≡ Some told → told ≡ bytes
 the_input left bytes told input e = let h : IsInput (Some told) bytes = subst (λ o. IsInput o bytes) e input in h
 
+-- what the input of the words' command deserves
+asked_input : (words : List (List ℕ)) (bytes text : List ℕ) (status : Status) (c : Command) → Asks words c → Deserves words bytes text status → DeservesInput c bytes text status
+asked_input words bytes text Proved c asks d = subst (λ x. DeservesInput x bytes text Proved) (one_asked words d.command c d.asked asks) d.deserved
+asked_input words bytes text Unknown c asks d = subst (λ x. DeservesInput x bytes text Unknown) (one_asked words d.command c d.asked asks) d.deserved
+asked_input words bytes text Refused c asks d = subst (λ x. DeservesInput x bytes text Refused) (one_asked words d.command c d.asked asks) d.deserved
+asked_input words bytes text Usage c asks d = absurd (asks_not_none words c asks d.0)
+asked_input words bytes text ReadFault c asks d = absurd d
+asked_input words bytes text WriteFault c asks d = absurd d
+asked_input words bytes text Memory c asks d = absurd d
+
 -- what the told bytes deserve
 told_input : (words : List (List ℕ)) (left : Option (List ℕ)) (text : List ℕ) (status : Status) (told : List ℕ) (c : Command)
     → IsDeserved words left text status → Asks words c → left ≡ Some told → DeservesInput c told text status
@@ -136,15 +162,15 @@ pub too_long_status : (words : List (List ℕ)) (left : Option (List ℕ)) (text
     → Asks words c → left ≡ Some told → IsTooLong told → EndsInRefusal status
 too_long_status words left text status told c d asks tells long = too_long_of c told text status (told_input words left text status told c d asks tells) long
 
-pub other_status : (words : List (List ℕ)) (left : Option (List ℕ)) (text : List ℕ) (status : Status) (told : List ℕ) (options : AnalyseOptions) → IsDeserved words left text status
-    → Asks words (Analyse options) → left ≡ Some told → (IsFirstForm told → ⊥) → EndsInRefusal status
-other_status words left text status told options d asks tells other =
-    source_other (options_of options) told text status (told_input words left text status told (Analyse options) d asks tells) other
+pub refused_status : (words : List (List ℕ)) (left : Option (List ℕ)) (text : List ℕ) (status : Status) (told : List ℕ) (options : AnalyseOptions) (cause : Cause) (at : Place)
+    → IsDeserved words left text status → Asks words (Analyse options) → left ≡ Some told → Refuse Built told cause at → EndsInRefusal status
+refused_status words left text status told options cause at d asks tells refused =
+    source_refused (options_of options) told text status cause at (told_input words left text status told (Analyse options) d asks tells) refused
 
-pub source_status : (words : List (List ℕ)) (left : Option (List ℕ)) (text : List ℕ) (status : Status) (told : List ℕ) (options : AnalyseOptions)
-    → IsDeserved words left text status → Asks words (Analyse options) → left ≡ Some told → IsWithinLimit told → IsFirstForm told → EndsInReport status
-source_status words left text status told options d asks tells within form =
-    source_reported (options_of options) told text status (told_input words left text status told (Analyse options) d asks tells) within form
+pub accepted_status : (words : List (List ℕ)) (left : Option (List ℕ)) (text : List ℕ) (status : Status) (told : List ℕ) (options : AnalyseOptions) (t : FileTree)
+    → IsDeserved words left text status → Asks words (Analyse options) → left ≡ Some told → Accepts Built told t → EndsInReport status
+accepted_status words left text status told options t d asks tells accepted =
+    source_reported (options_of options) told text status t (told_input words left text status told (Analyse options) d asks tells) accepted
 
 pub script_refused_status : (words : List (List ℕ)) (left : Option (List ℕ)) (text : List ℕ) (status : Status) (told : List ℕ) (r : script.Refusal)
     → IsDeserved words left text status → Asks words Calc → left ≡ Some told → script.answer_to told ≡ Err r → EndsInRefusal status
@@ -178,16 +204,6 @@ complete_of words bytes text WriteFault d ends = d
 complete_of words bytes text Memory d ends = tt
 
 pub complete_status : (words : List (List ℕ)) (left : Option (List ℕ)) (text : List ℕ) (status : Status) (told : List ℕ) (options : AnalyseOptions)
-    → IsDeserved words left text status → Asks words (Analyse options) → left ≡ Some told → IsWithinLimit told → IsFirstForm told → IsReportOrMemory status
-complete_status words left text status told options d asks tells within form =
-    complete_of words d.bytes text status d.deserved (source_status words left text status told options d asks tells within form)
-
--- a text that the sink was sure to take is not longer than that
-pub no_room : (words : List (List ℕ)) (left : Option (List ℕ)) (text other : List ℕ) (a b : Status) (spare : ℕ) (told : List ℕ)
-    → IsDeserved words left text a → spare < length text → IsDeserved words left other b → length other ≤ spare → left ≡ Some told → ⊥
-no_room words left text other a b spare told d longer e fits tells =
-    let same : e.bytes ≡ d.bytes = sym (the_input left e.bytes told e.input tells) ∙ the_input left d.bytes told d.input tells in
-    let here : Deserves words d.bytes other b = subst (λ bytes. Deserves words bytes other b) same e.deserved in
-    let texts : text ≡ other = one_text words d.bytes text other a b d.deserved here in
-    let short : length text ≤ spare = rw texts fits in
-    omega arith
+    → IsDeserved words left text status → Asks words (Analyse options) → left ≡ Some told → IsUnrefused told → IsReportOrMemory status
+complete_status words left text status told options d asks tells free =
+    complete_of words d.bytes text status d.deserved (source_unrefused (options_of options) told text status (told_input words left text status told (Analyse options) d asks tells) free)

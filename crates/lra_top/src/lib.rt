@@ -1,16 +1,12 @@
-//! The one call of the analyser: from the words of a command line and the bytes of a source to the text of a report.
+//! The one call of the analyser: from the words of a command line and the bytes of its input to the text of a report, of a script's output or
+//! of a refusal.
 #![tactic(auto)]
 
-mod analysis;
 mod answer;
-mod lexer;
-mod parser;
-mod report;
+mod refusal_text;
 mod source_answer;
-mod state;
 mod status;
 mod top_call;
-mod tree;
 
 pub use status::Status;
 pub use top_call::run;

@@ -108,29 +108,196 @@ fn reports_are_written(rt: HostRuntime) -> Result<(), Fail> {
     Ok(())
 }
 
+/// What `run` writes to a sink with room for it.
+fn written(rt: &HostRuntime, source: &[u8]) -> Result<(Status, String), Fail> {
+    let mut words = Vec::new(rt.alloc());
+    for word in TAKEN {
+        words.push(String::from_str(rt.alloc(), word)?)?;
+    }
+    let mut source = MemSource::new(rt.alloc(), source, 4096, &[])?;
+    let mut sink = MemSink::new(rt.alloc(), 200_000, 4096, &[])?;
+    let status = run(rt.alloc(), &words, &mut source, &mut sink);
+    let text = String::from_str(rt.alloc(), str::from_utf8(sink.bytes())?)?;
+    Ok((status, text))
+}
+
+/// So many copies of the second text between the first and the third.
+fn repeated(
+    rt: &HostRuntime,
+    (before, middle, count, after): (&str, &str, usize, &str),
+) -> Result<String, Fail> {
+    let mut text = String::from_str(rt.alloc(), before)?;
+    for _ in 0..count {
+        text.push_str(middle)?;
+    }
+    text.push_str(after)?;
+    Ok(text)
+}
+
 #[test]
-fn other_sources_are_refused(rt: HostRuntime) -> Result<(), Fail> {
-    let full = vec![in rt.alloc(); b' '; 65536]?;
-    let past = vec![in rt.alloc(); b' '; 65537]?;
-    let mut broken = vec![in rt.alloc(); b'\n'; 65535]?;
-    broken.extend_from_slice(b"abc")?;
-    let rows: [(&[u8], &str); 6] = [
-        (b"", "refused 4 Syntax at 1:1\n"),
+fn sources_are_refused(rt: HostRuntime) -> Result<(), Fail> {
+    let rows = [
+        (("", " ", 65537, ""), "refused 1 TooLong at 1:65537\n"),
+        (("", "\n", 65535, "abc"), "refused 1 TooLong at 65536:2\n"),
         (
-            b"int main(void){ long x; x = 0; }",
-            "refused 4 Syntax at 1:1\n",
+            ("int main(void){ $ }", "", 0, ""),
+            "refused 2 BadByte at 1:17\n",
         ),
         (
-            b"int main(void){ long x; y = 1; }",
-            "refused 4 Syntax at 1:1\n",
+            ("int main(void){ long x=9223372036854775808; }", "", 0, ""),
+            "refused 3 BadLiteral at 1:24\n",
         ),
-        (&full, "refused 4 Syntax at 1:1\n"),
-        (&past, "refused 1 TooLong at 1:65537\n"),
-        (&broken, "refused 1 TooLong at 65536:2\n"),
+        (
+            ("int main(void){ long x=0x8000000000000000; }", "", 0, ""),
+            "refused 3 BadLiteral at 1:24\n",
+        ),
+        (
+            ("int main(void){ long x=08; }", "", 0, ""),
+            "refused 3 BadLiteral at 1:24\n",
+        ),
+        (("in", "", 0, ""), "refused 4 Syntax at 1:1\n"),
+        (("int", "", 0, ""), "refused 4 Syntax at 1:4\n"),
+        (("int main(vo", "", 0, ""), "refused 4 Syntax at 1:10\n"),
+        (
+            ("int main(void){ long x; x = 3; assert(x >= 3); ", "", 0, ""),
+            "refused 4 Syntax at 1:48\n",
+        ),
+        (
+            ("int main(void){ long x; x = (x<1)+1; }", "", 0, ""),
+            "refused 4 Syntax at 1:31\n",
+        ),
+        (
+            ("int main(void){ /*", "", 0, ""),
+            "refused 4 Syntax at 1:17\n",
+        ),
+        (
+            ("int main(void){ long x; x = ", "(", 64, ""),
+            "refused 5 TooDeep at 1:92\n",
+        ),
+        (
+            ("int main(void){", "{", 64, ""),
+            "refused 5 TooDeep at 1:79\n",
+        ),
+        (
+            ("int main(void){", "if(1)", 64, ";}"),
+            "refused 5 TooDeep at 1:336\n",
+        ),
+        (("", "", 0, ""), "refused 6 NoMain at 1:1\n"),
+        (("", " ", 65536, ""), "refused 6 NoMain at 1:65537\n"),
+        (
+            ("int main(void){ x = 1; }", "", 0, ""),
+            "refused 7 UnknownName at 1:17\n",
+        ),
+        (
+            ("int main(void){ long x; long x; }", "", 0, ""),
+            "refused 8 DuplicateName at 1:30\n",
+        ),
+        (
+            ("int main(void){", ";", 2048, "}"),
+            "refused 13 TooManyPoints at 1:2064\n",
+        ),
+        (
+            (
+                "int main(void){ long v1,v2,v3,v4,v5,v6,v7,v8,v9,v10,v11,v12,v13,v14,v15,v16,v17,v18,v19,v20,v21,v22,v23,v24,v25;}",
+                "",
+                0,
+                "",
+            ),
+            "refused 12 TooManyVariables at 1:113\n",
+        ),
     ];
     for (source, text) in rows {
-        let ended = ends(&rt, &TAKEN, source, (&[], &[]), text)?;
-        assert_eq!(rt; ended, (Status::Refused, true), "{text}");
+        let ended = written(&rt, repeated(&rt, source)?.as_bytes())?;
+        assert_eq!(rt; ended.1.as_str(), text);
+        assert_eq!(rt; ended.0, Status::Refused, "{text}");
+    }
+    Ok(())
+}
+
+/// Lines of reports.
+#[test]
+fn sources_are_reported(rt: HostRuntime) -> Result<(), Fail> {
+    let rows = [
+        (
+            (
+                "int main(void){ long v1,v2,v3,v4,v5,v6,v7,v8,v9,v10,v11,v12,v13,v14,v15,v16,v17,v18,v19,v20,v21,v22,v23,v24;}",
+                "",
+                0,
+                "",
+            ),
+            "point 25 main 1:109\n  row true\n",
+        ),
+        (
+            ("int main(void){", ";", 2047, "}"),
+            "point 2048 main 1:2063\n  row true\nverdicts proved 0 unknown 0\n",
+        ),
+        (
+            (
+                "int main(void){",
+                "{",
+                63,
+                ";}}}}}}}}}}}}}}}}}}}}}}}}}}}}}}}}}}}}}}}}}}}}}}}}}}}}}}}}}}}}}}}}",
+            ),
+            "point 1 main 1:79\n",
+        ),
+        (
+            ("int main(void){ long x=1;", " x=x+x;", 126, " }"),
+            "\nflagged 0\n",
+        ),
+        (
+            ("int main(void){ long x=1;", " x=x+x;", 127, " }"),
+            "\nflagged at point 128\n",
+        ),
+        (
+            ("int main(void){ long x=1;", " x=x+x;", 127, " }"),
+            "point 129 main 1:916\n  row true\n",
+        ),
+        (
+            ("int main(void){ long x; x = input()/0; x = 1; }", "", 0, ""),
+            "point 3 main 1:40\n  row true\n",
+        ),
+        (
+            ("int main(void){ long x, y; if(x!=y) ; }", "", 0, ""),
+            "point 4 main 1:37\n  row true\npoint 5 main 1:39\n  row true\n",
+        ),
+        (
+            ("int main(void){ long x=9223372036854775807; }", "", 0, ""),
+            "point 2 main 1:45\n  row x = 9223372036854775807\n",
+        ),
+        (
+            ("int main(void){ long x=0777; }", "", 0, ""),
+            "point 2 main 1:30\n  row x = 511\n",
+        ),
+        (
+            (
+                "int main(void){ long x=3; if(x<1) if(x<2) x=4; else x=5; }",
+                "",
+                0,
+                "",
+            ),
+            "point 3 main 1:35\n  unreachable\n",
+        ),
+        (
+            ("int main(void){ long x; x = 9 - 3 - 2; }", "", 0, ""),
+            "point 3 main 1:40\n  row x = 4\n",
+        ),
+        (
+            ("int main(void){ long x; x = -2 * 3; }", "", 0, ""),
+            "point 3 main 1:37\n  row x = -6\n",
+        ),
+        (
+            ("int main(void){ long x=5; { x -= 7; } x++; }", "", 0, ""),
+            "point 5 main 1:44\n  row x = -1\n",
+        ),
+        (
+            ("//é\n#include <x>\n/* */int main(void){}", "", 0, ""),
+            "point 1 main 3:21\n  row true\n",
+        ),
+    ];
+    for (source, lines) in rows {
+        let ended = written(&rt, repeated(&rt, source)?.as_bytes())?;
+        assert!(rt; ended.1.contains(lines), "{lines}");
+        assert_eq!(rt; ended.0, Status::Proved, "{lines}");
     }
     Ok(())
 }

@@ -2,12 +2,18 @@
 ghost use Rattle.std.specs.Prelude.{◌≡◌, ◌≢◌, ◌≤◌, ℕ, List, length, map, string_bytes, IfOk, IsErrOf, Some, Ok, Err};
 ghost use Rattle.std.specs.Io.KnownBytes.{Appends, Keeps};
 ghost use Rattle.lra_edge.specs.Causes.{Rose};
+ghost use Rattle.lra_edge.specs.ReadEnd.{LosesFront};
 ghost use Rattle.lra_calc.specs.Script as script;
 ghost use Rattle.lra_words.specs.Built.{IsBuilt, Asks, AsksNone};
 ghost use Rattle.lra_words.specs.declared.chosen.AnalyseOptions.{AnalyseOptions};
 ghost use Rattle.lra_words.specs.declared.chosen.Command.{Command};
 ghost use Rattle.lra_words.specs.declared.chosen.Command.TheVariants.{Analyse, Calc};
-ghost use Rattle.lra_top.specs.SourceAnswer.{IsTooLong, IsWithinLimit, IsFirstForm};
+ghost use Rattle.lra_tree.specs.declared.refusals.Cause.{Cause};
+ghost use Rattle.lra_tree.specs.declared.refusals.Place.{Place};
+ghost use Rattle.lra_tree.specs.Trees.{FileTree};
+ghost use Rattle.lra_tree.specs.Built.{Built};
+ghost use Rattle.lra_tree.specs.Refuse.{Refuse, Accepts};
+ghost use Rattle.lra_top.specs.SourceAnswer.{limit, IsTooLong, IsUnrefused};
 ghost use Rattle.lra_top.specs.ScriptAnswer.{DeservesScript};
 ghost use Rattle.lra_top.specs.Run.{usage_text, DeservesInput, IsDeserved, Writes, WritesPart, ReadsInput};
 ghost use Rattle.lra_top.specs.Ends.{EndsInUsage, EndsInRefusal, EndsInReport, EndsInOutput, IsReportOrMemory, IsOutputOrMemory};
@@ -90,6 +96,7 @@ fn prepare_input<S: Source>(
     requires { IsBuilt command }
     ensures deserved { IfOk result (λ a. IsInputText command (S.left source.old) a.text.items a.status) }
     ensures reads { IfOk result (λ _. ReadsInput (S.left source.old) (S.left source.new)) }
+    ensures front { LosesFront (S.left source.old) (S.left source.new) limit }
     ensures cause { PrepareCause (S.faults source.old) (S.faults source.new) result }
 {
     match read_whole(alloc, source, LIMIT) {
@@ -107,6 +114,7 @@ fn prepare<S: Source>(alloc: Global, words: &[String], source: &mut S) -> Result
         IsDeserved (map string_bytes words.now) (S.left source.old) a.text.items a.status) }
     ensures reads { IfOk result (λ _. (c : Command) → Asks (map string_bytes words.now) c →
         ReadsInput (S.left source.old) (S.left source.new)) }
+    ensures front { LosesFront (S.left source.old) (S.left source.new) limit }
     ensures cause { PrepareCause (S.faults source.old) (S.faults source.new) result }
     ensures unread { AsksNone (map string_bytes words.now) → S.left source.new ≡ S.left source.old }
     ensures untouched { AsksNone (map string_bytes words.now) → S.faults source.new ≡ S.faults source.old }
@@ -148,20 +156,23 @@ pub fn run<S: Source, K: Sink>(
     ensures unread { AsksNone (map string_bytes words.now) → S.left source.new ≡ S.left source.old }
     ensures untouched { AsksNone (map string_bytes words.now) → S.faults source.new ≡ S.faults source.old }
 
-    // Refused: exactly where the input is too long, a source isn't of the first form, or a script has a refused line.
-    // A source of the form gets its report, and a script that runs whole its output.
+    // Refused: exactly where the input is too long, the source is refused, or a script has a refused line.
+    // A source that is accepted gets its report, and a script that runs whole its output.
     ensures too_long { (c : Command) → Asks (map string_bytes words.now) c →
         (bytes : List ℕ) → S.left source.old ≡ Some bytes → IsTooLong bytes → EndsInRefusal result }
-    ensures other { (options : AnalyseOptions) → Asks (map string_bytes words.now) (Analyse options) →
-        (bytes : List ℕ) → S.left source.old ≡ Some bytes → (IsFirstForm bytes → ⊥) → EndsInRefusal result }
+    ensures source_refused { (options : AnalyseOptions) → Asks (map string_bytes words.now) (Analyse options) →
+        (bytes : List ℕ) → S.left source.old ≡ Some bytes → (cause : Cause) (at : Place) → Refuse Built bytes cause at →
+        EndsInRefusal result }
     ensures accepted { (options : AnalyseOptions) → Asks (map string_bytes words.now) (Analyse options) →
-        (bytes : List ℕ) → S.left source.old ≡ Some bytes → IsWithinLimit bytes → IsFirstForm bytes → EndsInReport result }
+        (bytes : List ℕ) → S.left source.old ≡ Some bytes → (tree : FileTree) → Accepts Built bytes tree → EndsInReport result }
     ensures script_refused { Asks (map string_bytes words.now) Calc → (bytes : List ℕ) → S.left source.old ≡ Some bytes →
         (r : script.Refusal) → script.answer_to bytes ≡ Err r → EndsInRefusal result }
     ensures script_ran { Asks (map string_bytes words.now) Calc → (bytes : List ℕ) → S.left source.old ≡ Some bytes →
         (output : List ℕ) → script.answer_to bytes ≡ Ok output → EndsInOutput result }
     ensures reads { result ≢ Status.ReadFault → result ≢ Status.Memory → (c : Command) → Asks (map string_bytes words.now) c →
         ReadsInput (S.left source.old) (S.left source.new) }
+    // Whatever the answer, at most one byte past the limit is read.
+    ensures front { LosesFront (S.left source.old) (S.left source.new) limit }
 
     // A fault is the answer only where its count rose, and every other answer leaves the counts.
     ensures read_fault { result ≡ Status.ReadFault → Rose (S.faults source.old) (S.faults source.new) }
@@ -169,18 +180,18 @@ pub fn run<S: Source, K: Sink>(
     ensures write_fault { result ≡ Status.WriteFault → Rose (K.faults sink.old) (K.faults sink.new) }
     ensures no_write_fault { result ≢ Status.WriteFault → K.faults sink.new ≡ K.faults sink.old }
 
-    // A source of the form gets its report, and a script that runs whole its output, where nothing fails; a sink that surely
-    // takes the text doesn't fail.
+    // A source without a cause of refusal gets its report, and a script that runs whole its output, where nothing fails; a sink that
+    // surely takes each text that is deserved doesn't fail.
     ensures complete { (options : AnalyseOptions) → Asks (map string_bytes words.now) (Analyse options) →
-        (bytes : List ℕ) → S.left source.old ≡ Some bytes → IsWithinLimit bytes → IsFirstForm bytes →
+        (bytes : List ℕ) → S.left source.old ≡ Some bytes → IsUnrefused bytes →
         (Rose (S.faults source.old) (S.faults source.new) → ⊥) → (Rose (K.faults sink.old) (K.faults sink.new) → ⊥) →
         IsReportOrMemory result }
     ensures complete_script { Asks (map string_bytes words.now) Calc → (bytes : List ℕ) → S.left source.old ≡ Some bytes →
         (output : List ℕ) → script.answer_to bytes ≡ Ok output →
         (Rose (S.faults source.old) (S.faults source.new) → ⊥) → (Rose (K.faults sink.old) (K.faults sink.new) → ⊥) →
         IsOutputOrMemory result }
-    ensures room { (bytes text : List ℕ) (status : _) → S.left source.old ≡ Some bytes →
-        IsDeserved (map string_bytes words.now) (S.left source.old) text status → length text ≤ K.spare sink.old →
+    ensures room { ((text : List ℕ) (status : _) →
+        IsDeserved (map string_bytes words.now) (S.left source.old) text status → length text ≤ K.spare sink.old) →
         result ≢ Status.WriteFault }
 {
     let answer = match prepare(alloc, words, source) {

@@ -1,23 +1,23 @@
-use Rattle.std.proofs.Common.{◌<◌, length, arith}
+use Rattle.std.proofs.Common.{◌<◌, ◌≤◌, length, arith}
 use Rattle.std.proofs.lemmas.Grind.{common_steps}
-use Rattle.lra_top.proofs.Ways.{too_long_status, other_status, source_status, complete_status, script_refused_status, script_status, complete_script_status, no_room}
+use Rattle.lra_top.proofs.Ways.{too_long_status, refused_status, accepted_status, complete_status, script_refused_status, script_status, complete_script_status}
 use Rattle.lra_top.proofs.top_call.run.Goals as goal
 
 pub returns-in-Ok-write_whole-clause-too_long : goal.returns-in-Ok-write_whole-clause-too_long
 returns-in-Ok-write_whole-clause-too_long g c = λ command asks bytes tells long.
     too_long_status _ _ _ c.in-Ok.answer.status bytes command c.in-Ok.ensures.deserved asks tells long
 
-pub returns-in-Ok-write_whole-clause-other : goal.returns-in-Ok-write_whole-clause-other
-returns-in-Ok-write_whole-clause-other g c = λ options asks bytes tells other.
-    other_status _ _ _ c.in-Ok.answer.status bytes options c.in-Ok.ensures.deserved asks tells other
+pub returns-in-Ok-write_whole-clause-source_refused : goal.returns-in-Ok-write_whole-clause-source_refused
+returns-in-Ok-write_whole-clause-source_refused g c = λ options asks bytes tells cause at refused.
+    refused_status _ _ _ c.in-Ok.answer.status bytes options cause at c.in-Ok.ensures.deserved asks tells refused
 
 pub returns-in-Ok-write_whole-clause-accepted : goal.returns-in-Ok-write_whole-clause-accepted
-returns-in-Ok-write_whole-clause-accepted g c = λ options asks bytes tells within form.
-    source_status _ _ _ c.in-Ok.answer.status bytes options c.in-Ok.ensures.deserved asks tells within form
+returns-in-Ok-write_whole-clause-accepted g c = λ options asks bytes tells tree accepted.
+    accepted_status _ _ _ c.in-Ok.answer.status bytes options tree c.in-Ok.ensures.deserved asks tells accepted
 
 pub returns-in-Ok-write_whole-clause-complete : goal.returns-in-Ok-write_whole-clause-complete
-returns-in-Ok-write_whole-clause-complete g c = λ options asks bytes tells within form unread unwritten.
-    complete_status _ _ _ c.in-Ok.answer.status bytes options c.in-Ok.ensures.deserved asks tells within form
+returns-in-Ok-write_whole-clause-complete g c = λ options asks bytes tells free unread unwritten.
+    complete_status _ _ _ c.in-Ok.answer.status bytes options c.in-Ok.ensures.deserved asks tells free
 
 pub returns-in-Ok-write_whole-clause-script_refused : goal.returns-in-Ok-write_whole-clause-script_refused
 returns-in-Ok-write_whole-clause-script_refused g c = λ asks bytes tells refusal e.
@@ -32,6 +32,7 @@ returns-in-Ok-write_whole-clause-complete_script g c = λ asks bytes tells outpu
     complete_script_status _ _ _ c.in-Ok.answer.status bytes output c.in-Ok.ensures.deserved asks tells e
 
 pub returns-clause-room : goal.returns-clause-room
-returns-clause-room g c = λ bytes text status tells deserved fits failed.
+returns-clause-room g c = λ fits failed.
     let longer : g.K.Sink.spare c.args.sink.now < length c.in-Ok.answer.text.items = grind (arith, common_steps) in
-    no_room _ _ _ text c.in-Ok.answer.status status _ bytes c.in-Ok.ensures.deserved longer deserved fits tells
+    let short : length c.in-Ok.answer.text.items ≤ g.K.Sink.spare c.args.sink.now = fits _ _ c.in-Ok.ensures.deserved in
+    omega arith

@@ -1,0 +1,47 @@
+-- What the stages of the reading answer, as answers of the source.
+use Rattle.std.proofs.Common.{◌≡◌, ◌≤◌, ◌<◌, ℕ, List, length, take, refl, sym, ◌∙◌, subst, arith}
+use Rattle.lra_tree.specs.declared.refusals.Cause.{Cause}
+use Rattle.lra_tree.specs.declared.refusals.Cause.TheVariants.{TooLong}
+use Rattle.lra_tree.specs.declared.refusals.Place.{Place}
+use Rattle.lra_tree.specs.declared.tokens.Token.{Token}
+use Rattle.lra_tree.specs.Trees.{FileTree}
+use Rattle.lra_tree.specs.Tokens.{place_behind, Lex, IsTokenFault}
+use Rattle.lra_tree.specs.Faults.{IsTree, IsTextFault}
+use Rattle.lra_tree.specs.Built.{Built}
+use Rattle.lra_tree.specs.Refuse.{greatest_length, RefusesTree, Refuse, too_long, bad_token, bad_text, bad_tree}
+use Rattle.lra_source.specs.Stages.{HasTree}
+use Rattle.lra_source.proofs.Endings.{lex_ends}
+
+pub limit_is : greatest_length ≡ 65536
+unfolding greatest_length
+limit_is = refl
+
+within : (source : List ℕ) → length source ≤ 65536 → length source ≤ greatest_length
+within source l = rw limit_is l
+
+-- a source that is too long
+pub long_refused : (source : List ℕ) (n : ℕ) → n ≡ 65536 → n < length source → Refuse Built source TooLong (place_behind (take n source))
+long_refused source n is long =
+    let e : greatest_length ≡ n = limit_is ∙ sym is in
+    let past : greatest_length < length source = rw e long in
+    subst (λ (k : ℕ). Refuse Built source TooLong (place_behind (take k source))) e (too_long past)
+
+-- a source whose tokens have a fault
+pub tokens_refused : (source : List ℕ) (c : Cause) (at : Place) → length source ≤ 65536 → IsTokenFault source c at → Refuse Built source c at
+tokens_refused source c at l fault = bad_token c at (within source l) fault
+
+-- one whose text has a fault
+pub text_refused : (source : List ℕ) (tokens : List Token) (c : Cause) (at : Place) → length source ≤ 65536 → Lex source tokens → IsTextFault Built tokens c at → Refuse Built source c at
+text_refused source tokens c at l lexed fault = bad_text tokens c at (within source l) lexed fault
+
+-- one that has a tree
+pub has_tree : (source : List ℕ) (tokens : List Token) (t : FileTree) → length source ≤ 65536 → Lex source tokens → IsTree Built tokens t → HasTree source t
+has_tree source tokens t l lexed parsed = record { tokens = tokens; not_long = within source l; lexed = lexed; parsed = parsed }
+
+-- one whose tree is refused
+pub tree_refused : (source : List ℕ) (t : FileTree) (c : Cause) (at : Place) → HasTree source t → RefusesTree t c at → Refuse Built source c at
+tree_refused source t c at has fault = bad_tree has.tokens t c at has.not_long has.lexed has.parsed fault
+
+pub ruleset lexing = (tokens_refused)
+
+pub ruleset parsing = (long_refused, lex_ends, text_refused, has_tree)

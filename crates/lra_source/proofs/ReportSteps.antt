@@ -1,0 +1,110 @@
+-- From the tree of operations of a source to its report: what the iteration and the listing ask, and what they give.
+use Rattle.std.proofs.Common.{◌≡◌, ◌≤◌, ◌<◌, ◌+◌, ◌^◌, ℕ, zero, suc, ℤ, List, [], ◌∷◌, length, map, Bool, true, false, Option, Some, None, refl, sym, ap, ◌∙◌, subst, arith}
+use Rattle.std.specs.Prelude.{option_map, nat_lt, if◌then◌else◌, slice_get}
+use Rattle.std.proofs.lemmas.Bool.Decides.{nat_tests}
+use Rattle.lra_tree.specs.declared.refusals.Refusal.{Refusal}
+use Rattle.lra_tree.specs.Trees.{FileTree}
+use Rattle.lra_tree.specs.Program.{Program}
+use Rattle.lra_tree.specs.Graph.{Node}
+use Rattle.lra_tree.specs.Labels.{Labelled, labels_of}
+use Rattle.lra_tree.specs.Sites.{Site, Event, comes, one_call_more, events_of, sites_in, sites_of}
+use Rattle.lra_tree.specs.Resolve.{resolve}
+use Rattle.lra_tree.specs.Report.{Options, State, Report}
+use Rattle.lra_tree.specs.Listing.{Lists}
+use Rattle.lra_tree.specs.Refuse.{greatest_live, greatest_points, limit_fault}
+use Rattle.lra_box.specs.Content.{Content}
+use Rattle.lra_box.specs.Meaning.{box_meaning}
+use Rattle.lra_flow.specs.declared.Settings.{Settings}
+use Rattle.lra_iter.specs.Fits.{TreeFits}
+use Rattle.lra_iter.specs.Numbers.{IsNumbered}
+use Rattle.lra_iter.specs.Solved.{IsSolved}
+use Rattle.lra_listing.specs.Given.{AreStates, AreVerdicts, state_of, told_of, told}
+use Rattle.lra_source.specs.Analysed.{shown_state}
+use Rattle.lra_source.specs.Answers.{settings_of}
+use Rattle.lra_source.specs.Stages.{HasGraph, IsToldOf}
+use Rattle.lra_source.proofs.Fitting.{tree_fits}
+use Rattle.lra_source.proofs.Numbering.{numbered}
+use Rattle.lra_source.proofs.Handing.{states_as_many, of_assertions, of_all, states_wide, flag_there, box_dims, box_shows_wide}
+
+-- what the iteration asks --------------------------------------------------------------------------------------------
+
+pub fits : (t : FileTree) (g : Node) (sites : List Site) (globals : List ℤ) → HasGraph t g sites → (resolve t).globals ≡ globals → TreeFits g (length globals)
+fits t g sites globals has is = subst (λ (l : List ℤ). TreeFits g (length l)) is (tree_fits (resolve t) g has.well has.few has.is_graph)
+
+pub is_numbered : (t : FileTree) (g : Node) (sites : List Site) → HasGraph t g sites → IsNumbered sites g
+is_numbered t g sites has = subst (λ (T : List Site). IsNumbered T g) (sym has.points) (numbered (resolve t) g has.is_graph)
+
+-- limits -------------------------------------------------------------------------------------------------------------
+
+step_by : (over : Bool) (full : Bool) (a b : Refusal) (rest : Option Refusal) → (if over then Some a else (if full then Some b else rest)) ≡ None → (full ≡ false) × (rest ≡ None)
+step_by true full a b rest e = let wrong : ⊥ = cc in absurd wrong
+step_by false true a b rest e = let wrong : ⊥ = cc in absurd wrong
+step_by false false a b rest e = (refl, e)
+
+few_behind : (ls : List Labelled) (n : ℕ) (es : List Event) → limit_fault ls n es ≡ None → n ≤ greatest_points → n + length (sites_in es) ≤ greatest_points
+few_behind ls n [] e l = omega (arith, l)
+few_behind ls n (comes s ∷ es) e l =
+    let (free, rest) = step_by (nat_lt greatest_live s.live) (nat_lt greatest_points (suc n)) _ _ (limit_fault ls (suc n) es) e in
+    let more : suc n ≤ greatest_points = room n free in
+    let behind = few_behind ls (suc n) es rest more in
+    omega (arith, behind)
+  where
+    room : (n : ℕ) → nat_lt greatest_points (suc n) ≡ false → suc n ≤ greatest_points
+    room n e = grind (arith, nat_tests)
+few_behind ls n (one_call_more at ∷ es) e l = let wrong : ⊥ = cc in absurd wrong
+
+-- no more than 2,048 points
+pub few_points : (t : FileTree) (g : Node) (sites : List Site) → HasGraph t g sites → length sites ≤ 2048
+few_points t g sites has =
+    let few = few_behind (labels_of t) 0 (events_of (resolve t)) has.within (omega arith) in
+    let same : length sites ≡ length (sites_of (resolve t)) = ap length has.points in
+    omega (arith, few, same)
+
+-- what the listing asks ----------------------------------------------------------------------------------------------
+
+module _ (t : FileTree) (g : Node) (sites : List Site) (has : HasGraph t g sites) (settings : Settings) (values : List Content) (verdicts : List (ℕ × Bool)) (flagged : Option ℕ)
+    (solved : IsSolved box_meaning settings (resolve t) g values verdicts flagged) where
+  pub states_handed : (states : List State) → states ≡ map (shown_state box_meaning) values → AreStates (sites_of (resolve t)) states
+  states_handed states is = record {
+    as_many = ap length is ∙ states_as_many box_meaning settings (resolve t) g solved.result values verdicts flagged has.is_graph solved.derived solved.solves;
+    wide = λ q s state there got. states_wide box_meaning settings (resolve t) g solved.result values verdicts flagged has.is_graph solved.derived solved.solves box_dims box_shows_wide q s state there
+        (ap (λ (l : List State). slice_get l q) (sym is) ∙ got);
+  }
+
+  pub verdicts_handed : AreVerdicts (sites_of (resolve t)) verdicts
+  verdicts_handed = record {
+    of_assertions = of_assertions box_meaning settings (resolve t) g solved.result values verdicts flagged has.is_graph solved.derived solved.solves;
+    of_all = of_all box_meaning settings (resolve t) g solved.result values verdicts flagged has.is_graph solved.derived solved.solves;
+    in_order = solved.solves.in_order;
+  }
+
+  pub flag_handed : (q : ℕ) → flagged ≡ Some q → q < length (sites_of (resolve t))
+  flag_handed = flag_there box_meaning settings (resolve t) g solved.result values verdicts flagged has.is_graph solved.derived solved.solves
+
+-- the report ---------------------------------------------------------------------------------------------------------
+
+pub is_told : (o : Options) (t : FileTree) (g : Node) (sites : List Site) (values : List Content) (verdicts : List (ℕ × Bool)) (flagged : Option ℕ) (states : List State) (r : Report) → HasGraph t g sites
+    → IsSolved box_meaning (settings_of o) (resolve t) g values verdicts flagged → states ≡ map (shown_state box_meaning) values → r.options ≡ o → Lists t r → map state_of r.points ≡ states
+    → map told_of r.verdicts ≡ map told verdicts → r.flagged ≡ option_map suc flagged → IsToldOf o t r
+is_told o t g sites values verdicts flagged states r has solved are options lists shown judged flag = record {
+  names = has.names;
+  within = has.within;
+  options = options;
+  lists = lists;
+  analysed = record {
+    tree = g;
+    is_graph = has.is_graph;
+    result = solved.result;
+    values = values;
+    verdicts = verdicts;
+    flagged = flagged;
+    solves = solved.solves;
+    derived = solved.derived;
+    written = solved.written;
+    strained = solved.strained;
+    states = shown ∙ are;
+    proved = judged;
+    flag = flag;
+  };
+  agrees = has.agrees;
+}

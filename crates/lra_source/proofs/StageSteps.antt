@@ -1,0 +1,98 @@
+-- What the stages behind the reading answer, as answers of the tree and of the source.
+use Rattle.std.proofs.Common.{◌≡◌, ◌≤◌, ℕ, List, [], ◌∷◌, map, Option, Some, None, refl, sym, ap, ◌∙◌, subst}
+use Rattle.std.specs.Prelude.{slice_get}
+use Rattle.lra_tree.specs.declared.refusals.Refusal.{Refusal}
+use Rattle.lra_tree.specs.declared.refusals.Cause.{Cause}
+use Rattle.lra_tree.specs.declared.refusals.Place.{Place}
+use Rattle.lra_tree.specs.declared.labels.Label.{Label}
+use Rattle.lra_tree.specs.Trees.{FileTree}
+use Rattle.lra_tree.specs.Program.{Program}
+use Rattle.lra_tree.specs.Graph.{Node}
+use Rattle.lra_tree.specs.Sites.{Site, events_of, sites_of}
+use Rattle.lra_tree.specs.Labels.{Labelled, labels_of}
+use Rattle.lra_tree.specs.Walk.{told, walked}
+use Rattle.lra_tree.specs.Resolve.{resolve}
+use Rattle.lra_tree.specs.NameFaults.{name_faults}
+use Rattle.lra_tree.specs.Agree.{IsGraph, Agrees}
+use Rattle.lra_tree.specs.WellFormed.{IsWellFormed}
+use Rattle.lra_tree.specs.Built.{Built}
+use Rattle.lra_tree.specs.Report.{box, Options, Report}
+use Rattle.lra_tree.specs.Refuse.{limit_fault, NotRecursive, RefusesTree, bad_name, past_limit, Accepts}
+use Rattle.lra_names.specs.Outcome.{first_fault}
+use Rattle.lra_graph.specs.declared.points.Limit.{Limit}
+use Rattle.lra_graph.specs.Limits.{refusal_of}
+use Rattle.lra_formed.proofs.Callless.{built_not_recursive}
+use Rattle.lra_formed.proofs.Spelled.{spelled_are_small}
+use Rattle.lra_formed.proofs.Whole.{well_formed}
+use Rattle.lra_source.specs.Claims.{AreFew}
+use Rattle.lra_source.specs.Answers.{settings_of, IsAnswered}
+use Rattle.lra_source.specs.Stages.{HasTree, HasGraph, IsToldOf}
+use Rattle.lra_source.proofs.Reports.{is_report}
+use Rattle.lra_source.proofs.ReadSteps.{tree_refused}
+
+-- names --------------------------------------------------------------------------------------------------------------
+
+first_is : (fs : List Refusal) (r : Refusal) → first_fault fs ≡ Some r → (further : List Refusal) × (fs ≡ r ∷ further)
+first_is [] r e = let wrong : ⊥ = cc in absurd wrong
+first_is (f ∷ fs) r e = (fs, cc)
+
+-- a tree whose names have a fault
+pub names_refused : (t : FileTree) (r : Refusal) → first_fault (name_faults t) ≡ Some r → RefusesTree t r.cause r.place
+names_refused t r e = let (further, is) = first_is (name_faults t) r e in bad_name r further is
+
+pub ruleset naming = (names_refused)
+
+-- trees of operations ------------------------------------------------------------------------------------------------
+
+pub has_graph : (t : FileTree) (P : Program) (g : Node) (sites : List Site) → P ≡ resolve t → name_faults t ≡ [] → IsWellFormed (resolve t) → IsGraph P g → Agrees P g → sites ≡ sites_of P
+    → AreFew (sites_of P) → ((ls : List Labelled) → limit_fault ls 0 (events_of P) ≡ None) → HasGraph t g sites
+has_graph t P g sites is names well graph agrees points few within = record {
+  names = names;
+  well = well;
+  within = subst (λ (Q : Program). limit_fault (labels_of t) 0 (events_of Q) ≡ None) is (within (labels_of t));
+  few = subst (λ (Q : Program). AreFew (sites_of Q)) is few;
+  is_graph = subst (λ (Q : Program). IsGraph Q g) is graph;
+  agrees = subst (λ (Q : Program). Agrees Q g) is agrees;
+  points = subst (λ (Q : Program). sites ≡ sites_of Q) is points;
+}
+
+-- a tree whose program passes a limit
+pub limit_refused : (t : FileTree) (P : Program) (x : Limit) (r : Refusal) (labels : List Label) → P ≡ resolve t → name_faults t ≡ [] → NotRecursive t
+    → ((ls : List Labelled) → limit_fault ls 0 (events_of P) ≡ Some (refusal_of ls x)) → labels ≡ walked t → ((ls : List Labelled) → labels ≡ map told ls → r ≡ refusal_of ls x)
+    → RefusesTree t r.cause r.place
+limit_refused t P x r labels is names straight passed walk told_by =
+    let same : r ≡ refusal_of (labels_of t) x = told_by (labels_of t) walk in
+    let there : limit_fault (labels_of t) 0 (events_of (resolve t)) ≡ Some (refusal_of (labels_of t) x) = subst (λ (Q : Program). limit_fault (labels_of t) 0 (events_of Q) ≡ Some (refusal_of (labels_of t) x)) is (passed (labels_of t)) in
+    past_limit r names straight (there ∙ ap Some (sym same))
+
+pub ruleset building = (has_graph, limit_refused)
+
+-- answers ------------------------------------------------------------------------------------------------------------
+
+-- the tree of a source has no recursion, and without faults of names its program is well-formed
+pub straight : (source : List ℕ) (t : FileTree) → HasTree source t → NotRecursive t
+straight source t has = built_not_recursive has.tokens t has.parsed
+
+pub well : (source : List ℕ) (t : FileTree) → HasTree source t → name_faults t ≡ [] → IsWellFormed (resolve t)
+well source t has names = well_formed t (spelled_are_small source has.tokens t has.parsed.0 has.lexed has.parsed.1.0 has.parsed.2) names
+
+accepted : (o : Options) (source : List ℕ) (t : FileTree) (r : Report) → HasTree source t → IsToldOf o t r → Accepts Built source t
+accepted o source t r has is = record {
+  tokens = has.tokens;
+  not_long = has.not_long;
+  lexed = has.lexed;
+  parsed = has.parsed;
+  names = is.names;
+  not_recursive = straight source t has;
+  within = is.within;
+}
+
+-- a source whose tree's report is told
+pub is_answered : (o : Options) (source : List ℕ) (t : FileTree) (r : Report) → HasTree source t → IsToldOf o t r → o.domain ≡ box → 1 ≤ o.parts → IsAnswered o source r
+is_answered o source t r has is domain some = record {
+  domain = domain;
+  report = is_report (settings_of o) t r is.lists is.analysed is.agrees o source domain some is.options (accepted o source t r has is);
+  analysed = is.analysed;
+}
+
+pub ruleset answering = (straight, well, is_answered, tree_refused)

@@ -1,0 +1,11 @@
+use Rattle.lra_flow.proofs.FormLemmas.{forms_are_right, tests_are_right, differs_is_right}
+use Rattle.lra_source.proofs.laws.forms_are_right.Goals as goal
+
+pub returns-clause-forms : goal.returns-clause-forms
+returns-clause-forms c = forms_are_right
+
+pub returns-clause-tests : goal.returns-clause-tests
+returns-clause-tests c = tests_are_right
+
+pub returns-clause-differs : goal.returns-clause-differs
+returns-clause-differs c = differs_is_right

@@ -1,0 +1,47 @@
+-- What is known of a source between the stages of its reading.
+use Rattle.std.specs.Prelude.{◌≡◌, ℕ, ◌≤◌, List, [], length, None}
+use Rattle.lra_tree.specs.declared.tokens.Token.{Token}
+use Rattle.lra_tree.specs.Trees.{FileTree}
+use Rattle.lra_tree.specs.Tokens.{Lex}
+use Rattle.lra_tree.specs.Faults.{IsTree}
+use Rattle.lra_tree.specs.Built.{Built}
+use Rattle.lra_tree.specs.NameFaults.{name_faults}
+use Rattle.lra_tree.specs.Labels.{labels_of}
+use Rattle.lra_tree.specs.Resolve.{resolve}
+use Rattle.lra_tree.specs.Graph.{Node}
+use Rattle.lra_tree.specs.Sites.{Site, events_of, sites_of}
+use Rattle.lra_tree.specs.Agree.{IsGraph, Agrees}
+use Rattle.lra_tree.specs.WellFormed.{IsWellFormed}
+use Rattle.lra_tree.specs.Report.{Options, Report}
+use Rattle.lra_tree.specs.Listing.{Lists}
+use Rattle.lra_tree.specs.Refuse.{greatest_length, limit_fault}
+use Rattle.lra_box.specs.Meaning.{box_meaning}
+use Rattle.lra_source.specs.Claims.{AreFew}
+use Rattle.lra_source.specs.Analysed.{IsAnalysed}
+use Rattle.lra_source.specs.Answers.{settings_of}
+
+-- a source that isn't too long, and its tree
+pub record HasTree (source : List ℕ) (t : FileTree) : Type 0 where
+  pub tokens : List Token
+  pub not_long : length source ≤ greatest_length
+  pub lexed : Lex source tokens
+  pub parsed : IsTree Built tokens t
+
+-- a tree whose names have no fault and whose program passes no limit, the tree of operations of that program, and its points
+pub record HasGraph (t : FileTree) (tree : Node) (sites : List Site) : Type 0 where
+  pub names : name_faults t ≡ []
+  pub well : IsWellFormed (resolve t)
+  pub within : limit_fault (labels_of t) 0 (events_of (resolve t)) ≡ None
+  pub few : AreFew (sites_of (resolve t))
+  pub is_graph : IsGraph (resolve t) tree
+  pub agrees : Agrees (resolve t) tree
+  pub points : sites ≡ sites_of (resolve t)
+
+-- a report that lists the points of such a tree, and tells what an analysis of its program found
+pub record IsToldOf (o : Options) (t : FileTree) (r : Report) : Type 0 where
+  pub names : name_faults t ≡ []
+  pub within : limit_fault (labels_of t) 0 (events_of (resolve t)) ≡ None
+  pub options : r.options ≡ o
+  pub lists : Lists t r
+  pub analysed : IsAnalysed box_meaning (settings_of o) (resolve t) r
+  pub agrees : Agrees (resolve t) analysed.tree

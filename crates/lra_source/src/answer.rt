@@ -1,0 +1,85 @@
+//! From the bytes of a source to its report, or to its one refusal.
+
+ghost use Rattle.std.specs.Prelude.{◌≡◌, ◌≤◌, ◌<◌, ◌+◌, ◌^◌, [], length, map, IfOk};
+ghost use Rattle.lra_tree.specs.Views.{tree_view};
+ghost use Rattle.lra_tree.specs.GraphViews.{node_view, site_view};
+ghost use Rattle.lra_tree.specs.NameFaults.{name_faults};
+ghost use Rattle.lra_tree.specs.Resolve.{resolve};
+ghost use Rattle.lra_tree.specs.WellFormed.{IsWellFormed};
+ghost use Rattle.lra_tree.specs.Built.{Built};
+ghost use Rattle.lra_tree.specs.Refuse.{NotRecursive, RefusesTree, Refuse};
+ghost use Rattle.lra_report.specs.View.{options_of, report_of};
+ghost use Rattle.lra_report.specs.declared.report.Domain.TheVariants.{Box};
+ghost use Rattle.lra_source.specs.Answers.{IsAnswered, IfRefused};
+ghost use Rattle.lra_source.specs.Stages.{HasGraph, IsToldOf};
+
+use crate::error::SourceError;
+use crate::program::{graph_of, program_of};
+use crate::reading::read_tree;
+use crate::states::states_of;
+use lra_box::Boxes;
+use lra_flow::Settings;
+use lra_iter::analyse;
+use lra_listing::list;
+use lra_report::{Options, Report};
+use lra_tree::Tree;
+use lra_tree::graph::Graph;
+use std::alloc::{AllocError, Global};
+
+/// The report of the iteration over a program's tree of operations.
+fn report_graph(
+    alloc: Global,
+    options: Options,
+    tree: &Tree,
+    globals: &[i64],
+    graph: &Graph,
+) -> Result<Report, AllocError>
+    requires graph { HasGraph (tree_view tree.now) (node_view graph.now.tree) (map site_view graph.now.sites.items) }
+    requires globals { (resolve (tree_view tree.now)).globals ≡ globals.now }
+    ensures { IfOk result (λ r. IsToldOf (options_of options) (tree_view tree.now) (report_of r)) }
+{
+    let settings = Settings {
+        parts: options.parts,
+        delay: options.delay,
+        narrow: options.narrow,
+        limited: options.limited,
+    };
+    let solution = analyse::<Boxes>(alloc, &settings, globals, graph)?;
+    let states = states_of(alloc, &solution.values)?;
+    let sites = graph.sites.as_slice();
+    list(
+        alloc,
+        tree,
+        sites,
+        options,
+        states,
+        &solution.verdicts,
+        solution.flagged,
+    )
+}
+
+/// The report of a tree, or its refusal: its first fault of names, or the first limit that its program passes.
+fn report_tree(alloc: Global, options: Options, tree: &Tree) -> Result<Report, SourceError>
+    requires straight { NotRecursive (tree_view tree.now) }
+    requires well { name_faults (tree_view tree.now) ≡ [] → IsWellFormed (resolve (tree_view tree.now)) }
+    ensures told { IfOk result (λ r. IsToldOf (options_of options) (tree_view tree.now) (report_of r)) }
+    ensures refused { IfRefused result (λ r. RefusesTree (tree_view tree.now) r.cause r.place) }
+{
+    let program = program_of(alloc, tree)?;
+    let graph = graph_of(alloc, tree, &program)?;
+    Ok(report_graph(alloc, options, tree, &program.globals, &graph)?)
+}
+
+/// The report of a source over boxes, or its one refusal; memory may be wanting. A source past the limit of 65,536 bytes is refused by its
+/// first bytes, so that no more than one byte past the limit need be given.
+#[tactic(auto, using(crate::proofs::StageSteps::answering))]
+pub fn analyse_source(alloc: Global, options: Options, bytes: &[u8]) -> Result<Report, SourceError>
+    requires domain { options.domain ≡ Box }
+    requires parts { 1 ≤ options.parts }
+    requires bound { length bytes.now + 1 < 2 ^ 32 }
+    ensures answered { IfOk result (λ r. IsAnswered (options_of options) bytes.now (report_of r)) }
+    ensures refused { IfRefused result (λ r. Refuse Built bytes.now r.cause r.place) }
+{
+    let tree = read_tree(alloc, bytes)?;
+    report_tree(alloc, options, &tree)
+}

@@ -1,0 +1,54 @@
+//! From the tree of a source to its program, and to the tree of operations of that.
+
+ghost use Rattle.std.specs.Prelude.{◌≡◌, [], map, IfOk, OnOk};
+ghost use Rattle.lra_tree.specs.Views.{tree_view};
+ghost use Rattle.lra_tree.specs.ProgramViews.{program_view};
+ghost use Rattle.lra_tree.specs.GraphViews.{node_view, site_view};
+ghost use Rattle.lra_tree.specs.NameFaults.{name_faults};
+ghost use Rattle.lra_tree.specs.Resolve.{resolve};
+ghost use Rattle.lra_tree.specs.WellFormed.{IsWellFormed};
+ghost use Rattle.lra_tree.specs.Refuse.{NotRecursive, RefusesTree};
+ghost use Rattle.lra_source.specs.Answers.{IfRefused};
+ghost use Rattle.lra_source.specs.Stages.{HasGraph};
+
+use crate::error::SourceError;
+use lra_graph::{GraphError, build, refusal};
+use lra_names::{NamesError, resolve};
+use lra_tree::graph::Graph;
+use lra_tree::program::Program;
+use lra_tree::{Tree, walk};
+use std::alloc::Global;
+
+/// The program of a source without faults of names, or the first such fault.
+#[tactic(auto, using(crate::proofs::StageSteps::naming))]
+pub fn program_of(alloc: Global, tree: &Tree) -> Result<Program, SourceError>
+    ensures clean { OnOk result (name_faults (tree_view tree.now) ≡ []) }
+    ensures found { IfOk result (λ p. program_view p ≡ resolve (tree_view tree.now)) }
+    ensures refused { IfRefused result (λ r. RefusesTree (tree_view tree.now) r.cause r.place) }
+{
+    match resolve(alloc, tree) {
+        Ok(program) => Ok(program),
+        Err(NamesError::Refused(refusal)) => Err(SourceError::Refused(refusal)),
+        Err(NamesError::Memory) => Err(SourceError::Memory),
+    }
+}
+
+/// The tree of operations of a program and its points, or the refusal for the first limit that is passed.
+#[tactic(auto, using(crate::proofs::StageSteps::building))]
+pub fn graph_of(alloc: Global, tree: &Tree, program: &Program) -> Result<Graph, SourceError>
+    requires program { program_view program.now ≡ resolve (tree_view tree.now) }
+    requires clean { name_faults (tree_view tree.now) ≡ [] }
+    requires straight { NotRecursive (tree_view tree.now) }
+    requires well { IsWellFormed (resolve (tree_view tree.now)) }
+    ensures graph { IfOk result (λ g. HasGraph (tree_view tree.now) (node_view g.tree) (map site_view g.sites.items)) }
+    ensures refused { IfRefused result (λ r. RefusesTree (tree_view tree.now) r.cause r.place) }
+{
+    match build(alloc, program) {
+        Ok(graph) => Ok(graph),
+        Err(GraphError::Passed(limit)) => {
+            let labels = walk(alloc, tree)?;
+            Err(SourceError::Refused(refusal(limit, &labels)))
+        }
+        Err(GraphError::Memory) => Err(SourceError::Memory),
+    }
+}

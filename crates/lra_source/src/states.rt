@@ -1,0 +1,32 @@
+//! The values of boxes as the states of a report.
+
+ghost use Rattle.std.specs.Prelude.{◌≡◌, ◌++◌, map, IfOk};
+ghost use Rattle.lra_box.specs.Meaning.{box_meaning};
+ghost use Rattle.lra_source.specs.Analysed.{shown_state};
+
+use lra_box::Boxes;
+use lra_domain::Domain;
+use lra_report::Part;
+use std::alloc::{AllocError, Global};
+
+/// The parts of a value, which have no generators.
+fn state_of(alloc: Global, value: &Boxes) -> Result<Vec<Part>, AllocError>
+    ensures { IfOk result (λ s. s.items ≡ shown_state box_meaning value.now) }
+{
+    let mut state = Vec::new(alloc);
+    for part in value.parts(alloc)? {
+        state.push(Part::new(part, None))?;
+    }
+    Ok(state)
+}
+
+/// The states of all values in order.
+pub fn states_of(alloc: Global, values: &[Boxes]) -> Result<Vec<Vec<Part>>, AllocError>
+    ensures { IfOk result (λ states. map (λ s. s.items) states.items ≡ map (shown_state box_meaning) values.now) }
+{
+    let mut states = Vec::new(alloc);
+    for value in values {
+        states.push(state_of(alloc, value)?)?;
+    }
+    Ok(states)
+}
