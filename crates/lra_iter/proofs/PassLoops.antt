@@ -1,5 +1,5 @@
 -- The size of a tree, and what the loops of a pass keep.
-use Rattle.std.proofs.Common.{◌≡◌, ◌≢◌, ℕ, zero, suc, ◌+◌, ◌-◌, ◌^◌, ◌<◌, Bool, true, false, List, [], ◌∷◌, ◌++◌, Option, Some, None, take, drop, refl, sym, ap, subst, ◌∙◌, arith}
+use Rattle.std.proofs.Common.{◌≡◌, ◌≢◌, ℕ, zero, suc, ◌+◌, ◌-◌, ◌^◌, ◌<◌, Bool, true, false, List, [], ◌∷◌, ◌++◌, Option, take, drop, refl, sym, ap, subst, ◌∙◌, arith}
 use Rattle.std.specs.Prelude.{slice_index_or}
 use Rattle.lra_domain.specs.declared.Rank.{Rank}
 use Rattle.lra_domain.specs.declared.Mode.TheVariants.{Join}
@@ -17,7 +17,7 @@ use Rattle.lra_tree.specs.Graph as graph
 use Rattle.lra_flow.specs.declared.Settings.{Settings}
 use Rattle.lra_flow.specs.Operations.{dropping}
 use Rattle.lra_flow.specs.Given.{given_rows}
-use Rattle.lra_flow.specs.Pass.{Result, noted, first_of_call, mode_at, Pass, GoesRound, GoesFrom, Grows, Narrows}
+use Rattle.lra_flow.specs.Pass.{Result, noted, mode_at, Pass, GoesRound, Grows, Narrows}
 use Rattle.lra_iter.specs.Outcome.{AllHave, HasGrown, JumpsFit}
 
 abbrev pub size_step : Node-F ℕ → ℕ
@@ -112,21 +112,6 @@ not_join false e = cc
 pub grow_falls : (limited : Bool) (left left' : ℕ) (r r' : Rank) → RankFits r' → left' ≡ left - 1 → (mode_at limited left ≢ Join → RankBelow r' r) → phased (2 ^ 64) left' r' < phased (2 ^ 64) left r
 grow_falls limited zero left' r r' fits is below = phased_falls zero left' r r' fits is (below (not_join limited))
 grow_falls limited (suc k) left' r r' fits is below = phased_joins (suc k) left' r r' fits (omega arith)
-
--- what comes out first behind a call
-pub returns_first : {V : Type 0} (rs ys xs : List V) (n x : V) → ys ≡ rs ++ n ∷ [] → x ≡ slice_index_or ys 0 x → xs ≡ take 0 ys ++ drop 1 ys → first_of_call rs n ≡ (x, xs)
-returns_first {V} [] ys xs n x is first others =
-    let one : x ≡ n = subst (λ (zs : List V). x ≡ slice_index_or zs 0 x) is first in
-    let none : xs ≡ [] = subst (λ (zs : List V). xs ≡ take 0 zs ++ drop 1 zs) is others in
-    let p : V × List V = (x, xs) in
-    let t : (n, []) ≡ p = ap (λ (y : V). pair y []) (sym one) ∙ ap (pair x) (sym none) in t
-  where
-    pair : V → List V → V × List V
-    pair y ys = (y, ys)
-returns_first {V} (v ∷ vs) ys xs n x is first others =
-    let one : x ≡ v = subst (λ (zs : List V). x ≡ slice_index_or zs 0 x) is first in
-    let more : xs ≡ vs ++ n ∷ [] = subst (λ (zs : List V). xs ≡ take 0 zs ++ drop 1 zs) is others in
-    cc
 
 have_append : {V H : Type 0} (m : Meaning V H) (k : ℕ) (vs : List V) (n : V) → AllHave m k vs → m.dims n ≡ k → AllHave m k (vs ++ n ∷ [])
 have_append m k [] n h is = (is, tt)

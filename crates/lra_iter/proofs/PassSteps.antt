@@ -1,9 +1,9 @@
 -- Steps of the proofs on the pass.
-use Rattle.std.proofs.Common.{rules, Box, Vec, Global, map, ◌≡◌, ◌≢◌, ℕ, zero, suc, ◌+◌, ◌<◌, ◌≤◌, List, [], ◌∷◌, ◌++◌, Option, Bool, true, false, length, refl, sym, ap, subst, ◌∙◌, inl, inr, arith}
+use Rattle.std.proofs.Common.{rules, Box, Vec, Global, map, ◌≡◌, ℕ, zero, suc, ◌+◌, ◌<◌, List, [], ◌∷◌, ◌++◌, Option, false, refl, sym, ap, subst, ◌∙◌, inl, inr, arith}
 use Rattle.std.specs.Prelude.{◌⊎◌}
 use Rattle.std.specs.List.{Contains, insert}
 use Rattle.std.proofs.lemmas.List.Elements.{Contains-append_cases}
-use Rattle.lra_domain.specs.Meaning.{Meaning, Joins}
+use Rattle.lra_domain.specs.Meaning.{Meaning}
 use Rattle.lra_domain.specs.declared.Exactness.{Exactness}
 use Rattle.lra_tree.specs.declared.program.Cond as declared_cond
 use Rattle.lra_tree.specs.declared.graph.Exit as declared_exit
@@ -17,7 +17,7 @@ use Rattle.lra_tree.specs.Graph as graph
 use Rattle.lra_flow.specs.declared.Settings.{Settings}
 use Rattle.lra_flow.specs.Operations.{dropping}
 use Rattle.lra_flow.specs.Conditions.{Leaves}
-use Rattle.lra_flow.specs.Pass.{Entry, value, Result, noted, goes_on, jumps, in_turn, behind, Pass, GoesRound, Narrows}
+use Rattle.lra_flow.specs.Pass.{Entry, value, Result, noted, goes_on, jumps, in_turn, behind, Pass, Narrows}
 use Rattle.lra_flow.specs.Sound.{jumps_of}
 use Rattle.lra_iter.specs.Fits.{live_behind, JumpsWith, TreeFits}
 use Rattle.lra_iter.specs.declared.outcome.Entry as entry
@@ -76,7 +76,6 @@ one_element v u (suc k, below, is) = absurd (omega arith)
 
 in_both : {X : Type 0} (P Q : X → Type 0) (xs ys : List X) (u : X) → (Contains xs u → P u) → (Contains ys u → Q u) → Contains (xs ++ ys) u → P u ⊎ Q u
 in_both P Q xs ys u p q h = elim (Contains-append_cases xs ys u h) [ inl x ↦ inl (p x) | inr y ↦ inr (q y) ]
-
 
 module _ {V H : Type 0} (m : Meaning V H) where
   -- without a jump

@@ -1,18 +1,15 @@
 //! The pass over a tree of operations.
 
-ghost use Rattle.std.specs.Prelude.{◌≡◌, ◌≤◌, ◌^◌, ◌++◌, ◌∷◌, [], List, Option, ℕ, map, true, false, IfOk, OnOk};
-ghost use Rattle.std.specs.List.{Contains};
+ghost use Rattle.std.specs.Prelude.{◌≡◌, ◌≤◌, ◌^◌, IfOk};
 ghost use Rattle.lra_tree.specs.Graph.{broken, continued, returned, check, choose, iterate};
 ghost use Rattle.lra_tree.specs.ProgramViews.{cond_view};
 ghost use Rattle.lra_tree.specs.GraphViews.{node_view, exit_view};
 ghost use Rattle.lra_flow.specs.declared.Settings.{Settings};
 ghost use Rattle.lra_flow.specs.Operations.{dropping};
-ghost use Rattle.lra_flow.specs.Changes.{AreJoined};
-ghost use Rattle.lra_flow.specs.Given.{given_rows};
-ghost use Rattle.lra_flow.specs.Pass.{Pass, GoesRound, Grows, Narrows, noted, mode_at, caught, behind, in_turn};
+ghost use Rattle.lra_flow.specs.Pass.{Pass, GoesRound, Narrows, mode_at, in_turn};
 ghost use Rattle.lra_flow.specs.Sound.{jumps_of};
-ghost use Rattle.lra_iter.specs.Fits.{live_behind, JumpsWith, TreeFits};
-ghost use Rattle.lra_iter.specs.Outcome.{entry_view, seen, AllHave, Catches, JumpsFit, HasGrown};
+ghost use Rattle.lra_iter.specs.Fits.{live_behind, TreeFits};
+ghost use Rattle.lra_iter.specs.Outcome.{seen, AllHave, Catches, JumpsFit, HasGrown};
 
 use crate::changes::change;
 use crate::conditions::leave;
@@ -258,7 +255,14 @@ fn grow<D: Domain>(
         let (value, exactness) = D::value(alloc, &head)?;
         let so_far_here = note(point, exactness, so_far);
         let outcome = round(
-            alloc, settings, point, base, condition, body, &value, so_far_here,
+            alloc,
+            settings,
+            point,
+            base,
+            condition,
+            body,
+            &value,
+            so_far_here,
         )?;
         match D::grow(&mut head, &outcome.normal, mode_of(settings.limited, left))? {
             Grown::Stable => return Ok((value, outcome)),
@@ -298,9 +302,7 @@ fn narrow<D: Domain>(
         let mut next = first.copy(alloc)?;
         let exactness = next.join(&last.normal)?;
         let so_far = note(point, exactness, last.flag);
-        let turned = round(
-            alloc, settings, point, base, condition, body, &next, so_far,
-        )?;
+        let turned = round(alloc, settings, point, base, condition, body, &next, so_far)?;
         top = next;
         last = turned;
         left -= 1;

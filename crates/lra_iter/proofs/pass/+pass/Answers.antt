@@ -1,14 +1,13 @@
-use Rattle.std.proofs.Common.{rules, ◌≡◌, ◌≢◌, ◌≤◌, ◌-◌, ◌^◌, suc, [], refl, sym, ap, ◌∙◌, map, arith}
+use Rattle.std.proofs.Common.{rules, ◌≡◌, ◌≤◌, ◌-◌, ◌^◌, suc, [], refl, sym, ap, ◌∙◌, arith}
 use Rattle.std.specs.List.{insert}
 use Rattle.lra_domain.specs.Meaning.{Stays, Grew}
-use Rattle.lra_domain.specs.declared.Mode.TheVariants.{Join}
 use Rattle.lra_tree.specs.ProgramViews.{cond_view}
-use Rattle.lra_tree.specs.GraphViews.{node_view, op_view, exit_view}
+use Rattle.lra_tree.specs.GraphViews.{node_view, exit_view}
 use Rattle.lra_tree.specs.Graph as graph
 use Rattle.lra_flow.specs.Pass.{Result, goes_on, noted, mode_at}
 use Rattle.lra_iter.specs.declared.outcome.Entry.TheVariants.{Value}
 use Rattle.lra_iter.specs.Fits.{live_behind, TreeFits}
-use Rattle.lra_iter.specs.Outcome.{seen, JumpsFit}
+use Rattle.lra_iter.specs.Outcome.{seen}
 use Rattle.lra_iter.proofs.PassLoops.{grow_starts, grow_stable, grow_next, grow_falls, narrow_starts, narrow_next, narrow_ends}
 use Rattle.lra_iter.proofs.PassSteps.{empty_view, point_view, act_view, check_view, seq_view, choose_view, iterate_view, catch_view, leave_view, seq_size, choose_size, iterate_size, catch_size, none_fits, seq_fits, choose_fits, same_jumps_fit, catch_fits, catch_passes, jump_fits, jump_dims, caught_have, loop_passes, entered}
 use Rattle.lra_iter.proofs.pass.+pass.Goals as goal
@@ -176,7 +175,7 @@ pass_choice-returns-clause-pass g t c =
     let m = g.D.Domain.meaning in
     let on : m.dims c.leave.new.value ≡ m.dims c.args.value = c.in_ok-one.ensures.dims ∙ ap m.dims c.in_ok-on.ensures in
     let alike : m.dims c.in_ok-second.second.normal ≡ m.dims c.in_ok-first.first.normal =
-        sym (c.in_ok-first.ensures.dims ∙ ap (live_behind (node_view c.args.yes.now)) on ∙ sym c.requires.fits.2 ∙ ap (live_behind (node_view c.args.no.now)) (sym c.in_ok-two.ensures.dims) ∙ sym c.in_ok-second.ensures.dims) in
+    sym (c.in_ok-first.ensures.dims ∙ ap (live_behind (node_view c.args.yes.now)) on ∙ sym c.requires.fits.2 ∙ ap (live_behind (node_view c.args.no.now)) (sym c.in_ok-two.ensures.dims) ∙ sym c.in_ok-second.ensures.dims) in
     let leaves = rw c.in_ok-on.ensures at c.in_ok-one.ensures.leaves in
     let yes = rw c.note-on_flag.ensures at c.in_ok-first.ensures.pass in
     let no = rw c.note-off_flag.ensures at c.in_ok-second.ensures.pass in
@@ -292,7 +291,7 @@ pass-returns-in_ok-both-in-Seq-clause-jumps g t c =
 pub pass-pass_choice-requires : goal.pass-pass_choice-requires
 pass-pass_choice-requires g t c =
     let fits : TreeFits (graph.choose c.in-Choose.point c.in-Choose.base (cond_view c.in-Choose.condition) (node_view c.in-Choose.yes.value) (node_view c.in-Choose.no.value)) (g.D.Domain.meaning.dims c.args.value) =
-        rw (c.in-Choose.is, choose_view c.in-Choose.point c.in-Choose.base c.in-Choose.condition c.in-Choose.yes c.in-Choose.no) at c.requires.fits in
+    rw (c.in-Choose.is, choose_view c.in-Choose.point c.in-Choose.base c.in-Choose.condition c.in-Choose.yes c.in-Choose.no) at c.requires.fits in
     search (rules, choose_size)
 
 pub pass-returns-in_ok-outcome-in-Choose-clause-pass : goal.pass-returns-in_ok-outcome-in-Choose-clause-pass
