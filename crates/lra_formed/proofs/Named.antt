@@ -7,7 +7,7 @@ use Rattle.std.proofs.lemmas.Option.{same_Some, none-some}
 use Rattle.lra_tree.specs.declared.refusals.Place.{Place}
 use Rattle.lra_tree.specs.declared.trees.Identifier.{Identifier}
 use Rattle.lra_tree.specs.Trees as tree
-use Rattle.lra_tree.specs.Program.{Call, Stmt, BlockItems, no_more, Function, Program}
+use Rattle.lra_tree.specs.Program.{Call, BlockItems, no_more, Function, Program}
 use Rattle.lra_tree.specs.Scope.{Scope, with_local, with_declarators, inner, for_scope, function_scope, functions_in, functions_of, is_main}
 use Rattle.lra_tree.specs.NameFaults.{global_names}
 use Rattle.lra_tree.specs.Labels.{Labelled, plain_label, label_with, called_of, assign_label, with_names, declarator_labels, init_labels, step_labels, stmt_labels, items_labels, live_in_for, function_labels, labels_of, label_at}
@@ -209,7 +209,7 @@ module _ (outside : List (List ℕ)) (ls : List Labelled) where
             each_then HasAsMany (items_events inside path live (resolve_init F s (suc n) i)) (turns ++ rounds)
                 (init_has (suc n) live s i names h (stand_left ls (suc n) first step front))
                 (each_then HasAsMany turns rounds (step_has m more u a longer j (stand_right ls (suc n) m first step e front))
-                    (stmt_has k more u t longer j (stand_right ls (suc n) k (first ++ step) body f stand.1))),
+                (stmt_has k more u t longer j (stand_right ls (suc n) k (first ++ step) body f stand.1))),
           )
       stmt_has n live s (tree.break at) names h stand = (point_has n live false (plain_label at names) h stand.0, tt)
       stmt_has n live s (tree.continue at) names h stand = (point_has n live false (plain_label at names) h stand.0, tt)
