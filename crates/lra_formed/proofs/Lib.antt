@@ -3,6 +3,8 @@ pub mod Faultless
 pub mod Good
 -- Labels in text order.
 pub mod Numbered
+-- At each point as many names as variables.
+pub mod Named
 -- Whole programs.
 pub mod Whole
 -- Literals of tokens, of trees, and of a source's tree.

@@ -36,14 +36,14 @@ run_is_range n m (x ∷ xs) r =
 
 -- how many labels the parts have: the names that live don't change it ---------------------------------------------------
 
-count_live : (live : List (List ℕ)) (t : tree.StmtTree) → length (stmt_labels live t) ≡ stmt_count t
+pub count_live : (live : List (List ℕ)) (t : tree.StmtTree) → length (stmt_labels live t) ≡ stmt_count t
 count_live live t = sym (length-map (stmt_labels live t) told) ∙ ap length (told_stmt live t) ∙ length-map (stmt_labels [] t) told
 
-count_declarators : (live : List (List ℕ)) (ds : List tree.DeclaratorTree) → length (declarator_labels live ds) ≡ length ds
+pub count_declarators : (live : List (List ℕ)) (ds : List tree.DeclaratorTree) → length (declarator_labels live ds) ≡ length ds
 count_declarators live [] = refl
 count_declarators live (d ∷ ds) = ap suc (count_declarators (live ++ d.name.word ∷ []) ds)
 
-count_items : (live : List (List ℕ)) (items : tree.ItemsTree) (end : Place) → length (items_labels live items end) ≡ suc (items_count items)
+pub count_items : (live : List (List ℕ)) (items : tree.ItemsTree) (end : Place) → length (items_labels live items end) ≡ suc (items_count items)
 count_items live tree.no_items end = refl
 count_items live (tree.declaration d items) end =
     let a = length-append (declarator_labels live (d.first ∷ d.rest)) (items_labels (with_names live (d.first ∷ d.rest)) items end) in
@@ -54,9 +54,14 @@ count_items live (tree.statement t items) end =
     let b = count_live live t in
     let e = count_items live items end in omega arith
 
-count_step : (live : List (List ℕ)) (e : Option tree.AssignTree) → length (step_labels live e) ≡ step_count e
+pub count_step : (live : List (List ℕ)) (e : Option tree.AssignTree) → length (step_labels live e) ≡ step_count e
 count_step live None = refl
 count_step live (Some a) = refl
+
+pub count_init : (live : List (List ℕ)) (i : tree.InitTree) → length (init_labels live i) ≡ init_count i
+count_init live tree.no_init = refl
+count_init live (tree.declared d) = count_declarators live (d.first ∷ d.rest) ∙ sym (count_declarators [] (d.first ∷ d.rest))
+count_init live (tree.assigned a) = refl
 
 -- where the numbers of the parts end
 block_end : (n : ℕ) (items : tree.ItemsTree) (end : Place) → suc (n + items_count items) ≡ n + stmt_count (tree.block items end)

@@ -1,5 +1,5 @@
 -- Which programs are well-formed, and which sources have no recursion.
-use Rattle.std.specs.Prelude.{◌≡◌, ℕ, List, []}
+use Rattle.std.specs.Prelude.{◌≡◌, ℕ, List, [], length, Some, slice_get}
 use Rattle.lra_tree.specs.declared.tokens.Token.{Token}
 use Rattle.lra_tree.specs.Trees.{FileTree}
 use Rattle.lra_tree.specs.Tokens.{Lex}
@@ -7,6 +7,10 @@ use Rattle.lra_tree.specs.Faults.{Language, IsTree}
 use Rattle.lra_tree.specs.NameFaults.{name_faults}
 use Rattle.lra_tree.specs.Resolve.{resolve}
 use Rattle.lra_tree.specs.WellFormed.{IsWellFormed}
+use Rattle.lra_tree.specs.Labels.{labels_of}
+use Rattle.lra_tree.specs.Sites.{Site, sites_of}
+use Rattle.lra_tree.specs.ReportText.{shown_names}
+use Rattle.lra_tree.specs.Listing.{globals_named, live_names}
 use Rattle.lra_tree.specs.Built.{Built}
 use Rattle.lra_tree.specs.Refuse.{NotRecursive, Accepts}
 use Rattle.lra_formed.specs.Literals.{HasSmallLiterals}
@@ -30,3 +34,10 @@ EachAcceptedIsWellFormed L = (source : List ℕ) (t : FileTree) → Accepts L so
 -- no call of a source that is taken today reaches its own function: there is none
 abbrev pub BuiltAreNotRecursive : Type 0
 BuiltAreNotRecursive = (tokens : List Token) (t : FileTree) → IsTree Built tokens t → NotRecursive t
+
+-- at each point of a source as many names are printed as variables live there
+abbrev pub NamesAreAsMany : Type 0
+NamesAreAsMany = (t : FileTree) (q : ℕ) (s : Site) → slice_get (sites_of (resolve t)) q ≡ Some s → length (live_names (globals_named t.parts) (labels_of t) s) ≡ s.live
+
+abbrev pub ShownNamesAreAsMany : Type 0
+ShownNamesAreAsMany = (t : FileTree) (q : ℕ) (s : Site) → slice_get (sites_of (resolve t)) q ≡ Some s → length (shown_names (live_names (globals_named t.parts) (labels_of t) s)) ≡ s.live
