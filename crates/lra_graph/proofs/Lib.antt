@@ -22,3 +22,4 @@ pub mod Shown
 pub mod LiveInside
 pub mod Standing
 pub mod Sizes
+pub mod Programs

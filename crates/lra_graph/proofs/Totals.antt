@@ -1,7 +1,9 @@
 -- A whole program written out: its points are those of the definition, its tree is the definition's, and it is refused for the limit that
 -- stopped the writing.
-use Rattle.std.proofs.Common.{◌≡◌, ℕ, suc, List, [], ◌∷◌, ◌++◌, length, Option, Some, None, Bool, true, false, refl, sym, ◌∙◌, subst, arith, append-nil, append_assoc, length-append, add-zero}
+use Rattle.std.proofs.Common.{◌≡◌, ℕ, zero, suc, ◌≤◌, ◌<◌, List, [], ◌∷◌, ◌++◌, length, Option, Some, None, Bool, true, false, slice_get, refl, sym, ap, ◌∙◌, subst, arith, append-nil, append_assoc, length-append, add-zero}
 use Rattle.std.specs.Prelude.{nat_lt, if◌then◌else◌}
+use Rattle.std.proofs.lemmas.Bool.{lt-ltb}
+use Rattle.std.proofs.lemmas.Option.{none-some, same_Some}
 use Rattle.lra_tree.specs.declared.refusals.Refusal.{Refusal}
 use Rattle.lra_tree.specs.Program.{Program}
 use Rattle.lra_tree.specs.Labels.{Labelled}
@@ -42,6 +44,26 @@ walk_fault ls S (comes s ∷ es) =
     same_fault ls (nat_lt greatest_live s.live) (nat_lt greatest_points (suc (length S))) (Variables s.label) (Points s.label) (walk (S ++ s ∷ []) es) (limit_fault ls (suc (length S)) es)
     (subst (λ n. fault_in ls (walk (S ++ s ∷ []) es) ≡ limit_fault ls n es) longer (walk_fault ls (S ++ s ∷ []) es))
 walk_fault ls S (one_call_more at ∷ es) = refl
+
+-- no point has more live variables than may be
+few_there : (n : ℕ) (full : Bool) (x y : Limit) (r : Progress) (U : List Site) → chosen (nat_lt greatest_live n) full x y r ≡ passed U → n ≤ 24
+few_there n full x y r U e =
+    let no : 24 < n → ⊥ = λ l. not_passed x U (subst (λ many. chosen many full x y r ≡ passed U) (lt-ltb greatest_live n l) e) in
+    omega (arith, no)
+
+pub few_live : (S : List Site) (es : List Event) (U : List Site) → walk S es ≡ passed U → (q : ℕ) (s : Site) → slice_get (sites_in es) q ≡ Some s → s.live ≤ 24
+few_live S [] U e q s f = absurd (none-some s f)
+few_live S (comes t ∷ es) U e zero s f =
+    subst (λ (z : Site). z.live ≤ 24) (same_Some t s f) (few_there t.live (nat_lt greatest_points (suc (length S))) (Variables t.label) (Points t.label) (walk (S ++ t ∷ []) es) U e)
+few_live S (comes t ∷ es) U e (suc q) s f =
+    few_live (S ++ t ∷ []) es U (chosen_passed (nat_lt greatest_live t.live) (nat_lt greatest_points (suc (length S))) (Variables t.label) (Points t.label) (walk (S ++ t ∷ []) es) U e) q s f
+few_live S (one_call_more at ∷ es) U e q s f = absurd (not_passed (Calls at) U e)
+
+pub none_refused : (P : Program) (U : List Site) (ls : List Labelled) → walk [] (events_of P) ≡ passed U → limit_fault ls 0 (events_of P) ≡ None
+none_refused P U ls e = sym (walk_fault ls [] (events_of P)) ∙ ap (fault_in ls) e
+
+pub refused_there : (P : Program) (x : Limit) (ls : List Labelled) → walk [] (events_of P) ≡ stopped x → limit_fault ls 0 (events_of P) ≡ Some (refusal_of ls x)
+refused_there P x ls e = sym (walk_fault ls [] (events_of P)) ∙ ap (fault_in ls) e
 
 abbrev pub first_frame : Program → Frame
 first_frame P = record { base = length P.globals; live = length P.globals; calls_left = 32; loop_length = None; back = None }

@@ -4,14 +4,18 @@
 //! program. Here it is proved that the two agree, and `build` makes the tree.
 #![tactic(auto)]
 
+mod build;
 mod forms;
 mod frame;
 mod points;
+mod refused;
 
 ghost use Rattle.lra_tree.specs.Agree.{GraphsAgree};
 ghost use Rattle.lra_graph.specs.Agreement.{WellFormedAreDistinct, WellFormedAgree};
 
+pub use build::build;
 pub use points::{GraphError, Limit};
+pub use refused::refusal;
 
 /// A program's tree and its runs come to the same points with the same stores, and fail the same assertions.
 ///
