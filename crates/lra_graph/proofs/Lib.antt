@@ -15,6 +15,7 @@ pub mod DistinctSites
 -- Parts of a program written out: their points, their trees, and where a limit stops them.
 pub mod Walking
 pub mod Writing
+pub mod Calling
 pub mod Stopping
 pub mod Totals
 -- What the code's values stand for, where parts stand, and why the writing ends.
@@ -23,3 +24,5 @@ pub mod LiveInside
 pub mod Standing
 pub mod Sizes
 pub mod Programs
+-- What labels say of a limit's place.
+pub mod LabelPlaces

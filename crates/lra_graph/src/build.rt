@@ -1,18 +1,18 @@
 //! Calls written out: the tree of a program and its points. A call is written out where it stands, so a function that is called twice has its
 //! points twice, under two paths.
 
-ghost use Rattle.std.specs.Prelude.{◌≡◌, ◌<◌, ◌≤◌, ◌+◌, ◌^◌, ◌++◌, ◌∷◌, ℕ, List, [], length, map, slice_get, IfOk, MatchOption, Option, None, Some, true};
-ghost use Rattle.lra_tree.specs.Agree.{IsGraph, Agrees};
-ghost use Rattle.lra_tree.specs.Labels.{Labelled};
+mod whole;
+
+pub use whole::build_graph;
+
+ghost use Rattle.std.specs.Prelude.{◌≡◌, ◌<◌, ◌≤◌, ◌+◌, ◌^◌, ◌++◌, ◌∷◌, ℕ, [], length, map, IfOk, MatchOption, Option, true};
 ghost use Rattle.lra_tree.specs.Program as resolved;
-ghost use Rattle.lra_tree.specs.Refuse.{limit_fault};
-ghost use Rattle.lra_tree.specs.Sites as points;
-ghost use Rattle.lra_tree.specs.Sites.{comes, plain_site, live_behind, stmt_events, items_events, source_events, given_events, call_events, events_of, sites_of};
+ghost use Rattle.lra_tree.specs.Sites.{comes, plain_site, live_behind, stmt_events, items_events, source_events, given_events, call_events};
 ghost use Rattle.lra_tree.specs.Value.{index_of};
 ghost use Rattle.lra_tree.specs.WellFormed.{IsWellFormed};
 ghost use Rattle.lra_tree.specs.ProgramViews.{slot_view, cond_view, call_view, source_view, given_view, stmt_view, item_view, items_of, program_view};
 ghost use Rattle.lra_tree.specs.GraphViews.{node_view, site_view, exit_view};
-ghost use Rattle.lra_graph.specs.Limits.{walk, stopped, OnLimit, refusal_of};
+ghost use Rattle.lra_graph.specs.Limits.{walk, stopped, OnLimit};
 ghost use Rattle.lra_graph.specs.Building.{StmtStands, ItemsStand, GivenStands, CallStands, WritesStmt, WritesItems, WritesSource, WritesDeclared, WritesLoop, WritesReturn, LeavesLoop, inside};
 
 use crate::forms::{
@@ -20,8 +20,8 @@ use crate::forms::{
     rounds,
 };
 use crate::frame::{Back, Frame};
-use crate::points::{GREATEST_CALLS, GraphError, Limit, add_point};
-use lra_tree::graph::{Exit, Graph, Node, Op, Path, Site};
+use crate::points::{GraphError, Limit, add_point};
+use lra_tree::graph::{Exit, Node, Op, Path, Site};
 use lra_tree::program::{BlockItem, Call, Cond, Program, Slot, Source, Stmt};
 use std::alloc::Global;
 
@@ -466,135 +466,4 @@ fn inline_call(
         target,
     };
     Ok(called(alloc, place, &call.arguments, parameters, body)?)
-}
-
-/// The program's tree and its points, or the first limit that it passes.
-pub fn build(alloc: Global, program: &Program) -> Result<Graph, GraphError>
-    requires { IsWellFormed (program_view program.now) }
-    ensures graph { IfOk result (λ g. IsGraph (program_view program.now) (node_view g.tree)) }
-    ensures agrees { IfOk result (λ g. Agrees (program_view program.now) (node_view g.tree)) }
-    ensures sites { IfOk result (λ g. map site_view g.sites.items ≡ sites_of (program_view program.now)) }
-    ensures few { IfOk result (λ _. (q : ℕ) (s : points.Site) → slice_get (sites_of (program_view program.now)) q ≡ Some s → s.live ≤ 24) }
-    ensures within { IfOk result (λ _. (ls : List Labelled) → limit_fault ls 0 (events_of (program_view program.now)) ≡ None) }
-    ensures limit { OnLimit result (λ x. (ls : List Labelled) → limit_fault ls 0 (events_of (program_view program.now)) ≡ Some (refusal_of ls x)) }
-{
-    let main = &program.functions[program.main];
-    let path = Path::empty(alloc);
-    let globals = program.globals.len();
-    let frame = Frame {
-        base: globals,
-        live: globals,
-        calls_left: GREATEST_CALLS,
-        loop_length: None,
-        back: None,
-    };
-    let mut sites = Vec::new(alloc);
-    let items = &main.body.items;
-    let (body, last) = inline_items(alloc, program, &path, frame, items, &mut sites)?;
-    let end = add_point(alloc, &path, main.end, last, false, &mut sites)?;
-    let tree = in_turn(alloc, body, Node::Point(end))?;
-    Ok(Graph { tree, sites })
-}
-
-#[cfg(test)]
-mod tests {
-    use super::*;
-    use lra_tree::Comparison;
-    use lra_tree::program::{BlockItems, Declarator, Expr, Function};
-    use std::test::Fail;
-
-    /// `x == 2`
-    fn is_two(rt: &HostRuntime) -> Cond {
-        Cond::Compare(
-            Comparison::Equal,
-            Expr::Read(Slot::Local(0)),
-            Expr::Literal(2),
-        )
-    }
-
-    /// `long g=5; int main(void){long x; x=2; if(x==2) assert(x==2);}`
-    fn small(rt: &HostRuntime) -> Result<Program, Fail> {
-        let mut items = Vec::new(rt.alloc());
-        items.push(BlockItem::Declaration(Declarator {
-            label: 1,
-            source: None,
-        }))?;
-        let two = Source::Value(Expr::Literal(2));
-        items.push(BlockItem::Statement(Stmt::Assign(2, Slot::Local(0), two)))?;
-        let test = Box::new(rt.alloc(), Stmt::Assert(4, is_two(rt)))?;
-        let absent = Box::new(rt.alloc(), Stmt::Absent)?;
-        items.push(BlockItem::Statement(Stmt::If(3, is_two(rt), test, absent)))?;
-        let mut functions = Vec::new(rt.alloc());
-        functions.push(Function {
-            parameters: 0,
-            body: BlockItems { items },
-            end: 5,
-        })?;
-        let mut globals = Vec::new(rt.alloc());
-        globals.push(5)?;
-        Ok(Program {
-            globals,
-            functions,
-            main: 0,
-        })
-    }
-
-    fn halves(node: &Node) -> Option<(&Node, &Node)> {
-        match node {
-            Node::Seq(first, second) => Some((first, second)),
-            _ => None,
-        }
-    }
-
-    /// What stands behind the point.
-    fn behind_its_point(node: &Node, number: usize) -> Option<&Node> {
-        let (first, rest) = halves(node)?;
-        match first {
-            Node::Point(point) if *point == number => Some(rest),
-            _ => None,
-        }
-    }
-
-    /// Whether it is the tree of the small program.
-    fn is_small(tree: &Node) -> Option<bool> {
-        let (body, end) = halves(tree)?;
-        let (declared, rest) = halves(body)?;
-        let (assigned, rest) = halves(rest)?;
-        let (choice, nothing) = halves(rest)?;
-        let fresh = matches!(behind_its_point(declared, 0)?, Node::Act(0, Op::Append));
-        let given = match behind_its_point(assigned, 1)? {
-            Node::Act(1, Op::Give(1, Some(1), Expr::Literal(2))) => true,
-            _ => false,
-        };
-        let tested = match behind_its_point(choice, 2)? {
-            Node::Choose(2, 1, _, on_true, on_false) => {
-                matches!(&**on_false, Node::Empty)
-                    && matches!(behind_its_point(on_true, 3)?, Node::Check(3, 1, _))
-            }
-            _ => false,
-        };
-        let ends = matches!(nothing, Node::Empty) && matches!(end, Node::Point(4));
-        Some(fresh && given && tested && ends)
-    }
-
-    #[test]
-    fn a_small_program_is_written_out(rt: HostRuntime) -> Result<(), Fail> {
-        let graph = build(rt.alloc(), &small(&rt)?)?;
-        assert_eq!(rt; is_small(&graph.tree), Some(true));
-        assert_eq!(rt; graph.sites.len(), 5);
-        let points = [
-            (1, 1, false),
-            (2, 2, false),
-            (3, 2, false),
-            (4, 2, true),
-            (5, 2, false),
-        ];
-        for (site, (label, live, asserts)) in graph.sites.iter().zip(points) {
-            assert_eq!(rt; site.label, label);
-            assert_eq!(rt; site.live, live);
-            assert_eq!(rt; site.asserts, asserts);
-            assert!(rt; site.path.as_slice().is_empty());
-        }
-        Ok(())
-    }
 }

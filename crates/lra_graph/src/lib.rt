@@ -1,7 +1,7 @@
 //! The graph of a program: its calls written out as a tree of operations.
 //!
 //! The definitions stand in `lra_tree`: the runs of a program, trees of operations with their runs, and which tree stands for which
-//! program. Here it is proved that the two agree, and `build` makes the tree.
+//! program. Here it is proved that the two agree, and `build_graph` makes the tree.
 #![tactic(auto)]
 
 mod build;
@@ -13,7 +13,7 @@ mod refused;
 ghost use Rattle.lra_tree.specs.Agree.{GraphsAgree};
 ghost use Rattle.lra_graph.specs.Agreement.{WellFormedAreDistinct, WellFormedAgree};
 
-pub use build::build;
+pub use build::build_graph;
 pub use points::{GraphError, Limit};
 pub use refused::refusal;
 
