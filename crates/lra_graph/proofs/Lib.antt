@@ -23,6 +23,7 @@ pub mod Shown
 pub mod LiveInside
 pub mod Standing
 pub mod Sizes
+pub mod Items
 pub mod Programs
 -- What labels say of a limit's place.
 pub mod LabelPlaces
