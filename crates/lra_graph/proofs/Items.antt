@@ -15,6 +15,7 @@ use Rattle.lra_graph.specs.Limits.{Progress, passed, stopped, walk}
 use Rattle.lra_graph.specs.Building.{inside, ItemsStand, WritesItems}
 use Rattle.lra_graph.proofs.Walking.{walk_stop}
 use Rattle.lra_graph.proofs.Stopping.{second_stopped, third_stopped, middle_stopped}
+use Rattle.lra_graph.proofs.Writing.{none_written}
 use Rattle.lra_graph.proofs.Shown.{shown_declaration, shown_statement}
 use Rattle.lra_graph.proofs.Sizes.{size_stmt, size_items, size_functions, weight, calls_end}
 
@@ -42,6 +43,9 @@ items_stand_as P r b b' e x = subst (λ z. ItemsStand P r z) e x
 pub items_as : (P : program.Program) (path : List ℕ) (r : Frame) (S U : List Site) (b b' : program.BlockItems) (g : graph.Node) → b ≡ b' → WritesItems P path r S b' g U → WritesItems P path r S b g U
 items_as P path r S U b b' g e x = subst (λ z. WritesItems P path r S z g U) (sym e) x
 
+pub none_shown : (P : program.Program) (path : List ℕ) (r : Frame) (S : List Site) (all : program.BlockItems) (g : graph.Node) → all ≡ no_more → g ≡ graph.empty → WritesItems P path r S all g S
+none_shown P path r S all g e f = items_as P path r S S all no_more g e (subst (λ z. WritesItems P path r S no_more z S) (sym f) (none_written P path r S))
+
 module _ (P : program.Program) (path : List ℕ) (r : Frame) (S : List Site) (all : program.BlockItems) where
   items_stopped : (b : program.BlockItems) (w : Progress) → all ≡ b → walk S (items_events (inside P path r) path r.live b) ≡ w → walk S (items_events (inside P path r) path r.live all) ≡ w
   items_stopped b w e h = subst (λ z. walk S (items_events (inside P path r) path r.live z) ≡ w) (sym e) h
@@ -58,11 +62,11 @@ module _ (P : program.Program) (path : List ℕ) (r : Frame) (S : List Site) (al
           (middle_stopped S V (plain_site path d.label r.live ∷ []) (given_events (inside P path r) path (suc r.live) d.source) (items_events (inside P path r) path (suc r.live) b) x point
           (subst (λ z. walk V (given_events (inside P path r) path z d.source) ≡ stopped x) same h))
 
-      pub declaration_at_others : (W : List Site) (x : Limit) → walk V (given_events (inside P path r) path n d.source) ≡ passed W → walk W (items_events (inside P path r) path n b) ≡ stopped x
+      pub declaration_at_others : (W : List Site) (x : Limit) → walk V (given_events (inside P path r) path (suc r.live) d.source) ≡ passed W → walk W (items_events (inside P path r) path n b) ≡ stopped x
           → walk S (items_events (inside P path r) path r.live all) ≡ stopped x
       declaration_at_others W x g h = items_stopped (declaration d b) (stopped x) e
           (third_stopped S V W (plain_site path d.label r.live ∷ []) (given_events (inside P path r) path (suc r.live) d.source) (items_events (inside P path r) path (suc r.live) b) x point
-          (subst (λ z. walk V (given_events (inside P path r) path z d.source) ≡ passed W) same g) (subst (λ z. walk W (items_events (inside P path r) path z b) ≡ stopped x) same h))
+          g (subst (λ z. walk W (items_events (inside P path r) path z b) ≡ stopped x) same h))
 
   -- behind a statement
   module _ (s : program.Stmt) (b : program.BlockItems) (e : all ≡ statement s b) where

@@ -1,6 +1,6 @@
 -- What a list of labels from a walk over a tree says of the label with a number.
-use Rattle.std.proofs.Common.{◌≡◌, ℕ, zero, suc, ◌-◌, List, map, Option, Some, None, option_map, slice_get, refl, sym, ap, ◌∙◌, subst, arith}
-use Rattle.std.proofs.lemmas.Option.{none-some, same_Some, slice_get-map}
+use Rattle.std.proofs.Common.{◌≡◌, ℕ, zero, suc, ◌-◌, ◌≤◌, ◌<◌, List, length, map, Option, Some, None, option_map, slice_get, get_or, inl, inr, refl, sym, ap, ◌∙◌, subst, arith}
+use Rattle.std.proofs.lemmas.Option.{none-some, same_Some, slice_get-map, slice_get_cases, slice_get_read}
 use Rattle.lra_tree.specs.declared.trees.Identifier.{Identifier}
 use Rattle.lra_tree.specs.declared.labels.Label.{Label}
 use Rattle.lra_tree.specs.declared.refusals.Place.{Place}
@@ -27,17 +27,22 @@ none_told None e = refl
 none_told (Some x) e = absurd (none-some (told x) (sym e))
 
 module _ (ls : List Labelled) (labels : List Label) (n : ℕ) (e : labels ≡ map told ls) where
-  pub place_at_none : n ≡ 0 → label_at ls n ≡ None
-  place_at_none z = ap (label_at ls) z
+  pub place_none : (n ≡ 0 → ⊥) → length labels ≤ n - 1 → label_at ls n ≡ None
+  place_none some past = none_told (label_at ls n) (got ls labels n None e some (elim ((slice_get_cases labels (n - 1)).1) [
+    | inl h ↦ let l = h.1 in absurd (omega (arith, l, past))
+    | inr h ↦ h.1
+  ]))
 
-  pub place_none : (n ≡ 0 → ⊥) → slice_get labels (n - 1) ≡ None → label_at ls n ≡ None
-  place_none some f = none_told (label_at ls n) (got ls labels n None e some f)
+  -- where one is read
+  module _ (l : Label) (some : n ≡ 0 → ⊥) (within : n - 1 < length labels) (read : l ≡ get_or labels (n - 1) l) where
+    found : option_map told (label_at ls n) ≡ Some l
+    found = got ls labels n (Some l) e some (slice_get_read labels (length labels) (n - 1) l refl within read)
 
-  pub place_some : (l : Label) → (n ≡ 0 → ⊥) → slice_get labels (n - 1) ≡ Some l → l.place ≡ label_place (label_at ls n)
-  place_some l some f = sym (place_told (label_at ls n) l (got ls labels n (Some l) e some f))
+    pub place_some : l.place ≡ label_place (label_at ls n)
+    place_some = sym (place_told (label_at ls n) l found)
 
-  pub called_some : (l : Label) (x : Identifier) → (n ≡ 0 → ⊥) → slice_get labels (n - 1) ≡ Some l → l.called ≡ Some x → x.place ≡ called_place (label_at ls n)
-  called_some l x some f c = sym (called_told (label_at ls n) l (got ls labels n (Some l) e some f) ∙ ap identifier_place c)
+    pub called_some : (x : Identifier) → l.called ≡ Some x → x.place ≡ called_place (label_at ls n)
+    called_some x c = sym (called_told (label_at ls n) l found ∙ ap identifier_place c)
 
-  pub called_none : (l : Label) → (n ≡ 0 → ⊥) → slice_get labels (n - 1) ≡ Some l → l.called ≡ None → called_place (label_at ls n) ≡ record { line = 1; column = 1 }
-  called_none l some f c = called_told (label_at ls n) l (got ls labels n (Some l) e some f) ∙ ap identifier_place c
+    pub called_none : l.called ≡ None → called_place (label_at ls n) ≡ record { line = 1; column = 1 }
+    called_none c = called_told (label_at ls n) l found ∙ ap identifier_place c

@@ -50,24 +50,16 @@ pub fn build_graph(alloc: Global, program: &Program) -> Result<Graph, GraphError
 #[cfg(test)]
 mod tests {
     use super::*;
-    use lra_tree::Comparison;
     use lra_tree::graph::Op;
     use lra_tree::program::{
         BlockItem, BlockItems, Cond, Declarator, Expr, Function, Slot, Source, Stmt,
     };
     use std::test::Fail;
 
-    /// `x == 2`
-    fn is_two(rt: &HostRuntime) -> Cond {
-        Cond::Compare(
-            Comparison::Equal,
-            Expr::Read(Slot::Local(0)),
-            Expr::Literal(2),
-        )
-    }
-
-    /// `long g=5; int main(void){long x; x=2; if(x==2) assert(x==2);}`
-    fn small(rt: &HostRuntime) -> Result<Program, Fail> {
+    /// `int main(void){long x; x=2; if(x) assert(x);}`
+    fn small(rt: &HostRuntime) -> Result<Program, Fail>
+        ensures { IfOk result (λ p. IsWellFormed (program_view p)) }
+    {
         let mut items = Vec::new(rt.alloc());
         items.push(BlockItem::Declaration(Declarator {
             label: 1,
@@ -75,19 +67,19 @@ mod tests {
         }))?;
         let two = Source::Value(Expr::Literal(2));
         items.push(BlockItem::Statement(Stmt::Assign(2, Slot::Local(0), two)))?;
-        let test = Box::new(rt.alloc(), Stmt::Assert(4, is_two(rt)))?;
+        let holds = Cond::Nonzero(Expr::Read(Slot::Local(0)));
+        let assertion = Box::new(rt.alloc(), Stmt::Assert(4, holds))?;
         let absent = Box::new(rt.alloc(), Stmt::Absent)?;
-        items.push(BlockItem::Statement(Stmt::If(3, is_two(rt), test, absent)))?;
+        let holds = Cond::Nonzero(Expr::Read(Slot::Local(0)));
+        items.push(BlockItem::Statement(Stmt::If(3, holds, assertion, absent)))?;
         let mut functions = Vec::new(rt.alloc());
         functions.push(Function {
             parameters: 0,
             body: BlockItems { items },
             end: 5,
         })?;
-        let mut globals = Vec::new(rt.alloc());
-        globals.push(5)?;
         Ok(Program {
-            globals,
+            globals: Vec::new(rt.alloc()),
             functions,
             main: 0,
         })
@@ -117,13 +109,13 @@ mod tests {
         let (choice, nothing) = halves(rest)?;
         let fresh = matches!(behind_its_point(declared, 0)?, Node::Act(0, Op::Append));
         let given = match behind_its_point(assigned, 1)? {
-            Node::Act(1, Op::Give(1, Some(1), Expr::Literal(2))) => true,
+            Node::Act(1, Op::Give(0, Some(0), Expr::Literal(2))) => true,
             _ => false,
         };
         let tested = match behind_its_point(choice, 2)? {
-            Node::Choose(2, 1, _, on_true, on_false) => {
+            Node::Choose(2, 0, _, on_true, on_false) => {
                 matches!(&**on_false, Node::Empty)
-                    && matches!(behind_its_point(on_true, 3)?, Node::Check(3, 1, _))
+                    && matches!(behind_its_point(on_true, 3)?, Node::Check(3, 0, _))
             }
             _ => false,
         };
@@ -137,11 +129,11 @@ mod tests {
         assert_eq!(rt; is_small(&graph.tree), Some(true));
         assert_eq!(rt; graph.sites.len(), 5);
         let points = [
-            (1, 1, false),
-            (2, 2, false),
-            (3, 2, false),
-            (4, 2, true),
-            (5, 2, false),
+            (1, 0, false),
+            (2, 1, false),
+            (3, 1, false),
+            (4, 1, true),
+            (5, 1, false),
         ];
         for (site, (label, live, asserts)) in graph.sites.iter().zip(points) {
             assert_eq!(rt; site.label, label);
