@@ -1,5 +1,5 @@
 -- Where a part is stopped by a limit, the whole is.
-use Rattle.std.proofs.Common.{◌≡◌, ℕ, List, ◌++◌, Result, Err, sym, subst}
+use Rattle.std.proofs.Common.{◌≡◌, ℕ, List, ◌++◌, Result, Err, IfOk, sym, subst}
 use Rattle.lra_tree.specs.Program.{Stmt, Program}
 use Rattle.lra_tree.specs.Sites.{Site, Event, stmt_events}
 use Rattle.lra_graph.specs.declared.points.Limit.{Limit}
@@ -31,3 +31,15 @@ third_stopped S V W es fs gs x e f g = walk_then S es (fs ++ gs) V (stopped x) e
 -- in the second of three
 pub middle_stopped : (S V : List Site) (es fs gs : List Event) (x : Limit) → walk S es ≡ passed V → walk V fs ≡ stopped x → walk S (es ++ (fs ++ gs)) ≡ stopped x
 middle_stopped S V es fs gs x e f = walk_then S es (fs ++ gs) V (stopped x) e (walk_stop V fs gs x f)
+
+-- errors handed on --------------------------------------------------------------------------------------------------
+
+pub ok_at_err : {A E : Type 0} (b : Result A E) (d : E) (X : A → Type 0) → b ≡ Err d → IfOk b X
+ok_at_err b d X i = rw i tt
+
+pub limit_memory : {A : Type 0} (b : Result A GraphError) (d : GraphError) (Y : Limit → Type 0) → b ≡ Err d → d ≡ Memory → OnLimit b Y
+limit_memory b d Y i j = rw (i, j) tt
+
+pub limit_by : {A : Type 0} (b : Result A GraphError) (d e : GraphError) (S V : List Site) (es fs : List Event) → b ≡ Err d → d ≡ e → ((x : Limit) → walk V fs ≡ stopped x → walk S es ≡ stopped x)
+    → OnError e (λ x. walk V fs ≡ stopped x) → OnLimit b (λ x. walk S es ≡ stopped x)
+limit_by b d e S V es fs i j f h = rw (i, j) (error_as e (λ x. walk V fs ≡ stopped x) (λ x. walk S es ≡ stopped x) f h)

@@ -4,6 +4,7 @@
 //! program. Here it is proved that the two agree, and `build` makes the tree.
 #![tactic(auto)]
 
+mod build;
 mod forms;
 mod frame;
 mod points;

@@ -1,0 +1,604 @@
+-- Each form is written out as its definition says, and stopped where one of its parts is.
+use Rattle.std.proofs.Common.{◌≡◌, ◌+◌, ◌++◌, ◌∷◌, [], map, refl, ap, ◌∙◌, subst, arith, Some, None}
+use Rattle.std.proofs.lemmas.Result.{err_from_is_err_and}
+use Rattle.lra_tree.specs.Step.{give}
+use Rattle.lra_tree.specs.Graph.{act}
+use Rattle.lra_tree.specs.Sites.{plain_site, stmt_events, source_events, given_events, items_events, call_events}
+use Rattle.lra_tree.specs.ProgramViews.{slot_view, expr_view, cond_view, call_view, source_view, given_view, stmt_view, item_view, items_of, program_view}
+use Rattle.lra_tree.specs.GraphViews.{node_view, site_view}
+use Rattle.lra_graph.specs.Limits.{walk, stopped}
+use Rattle.lra_graph.specs.Building.{StmtStands, inside}
+use Rattle.lra_graph.proofs.Walking.{walk_stop, walk_then}
+use Rattle.lra_graph.proofs.Stopping.{ok_at_err, limit_memory, limit_by, stmt_stopped, second_stopped}
+use Rattle.lra_graph.proofs.Shown.{shown_empty, shown_point, shown_act, shown_leave, shown_absent, shown_nothing, shown_block, shown_assign, shown_call, shown_if, shown_loop, shown_return, shown_break, shown_continue}
+use Rattle.lra_graph.proofs.Writing.{stmt_as, absent_written, nothing_written, block_written, assign_written, call_written, if_written, rounds_written, fresh_written, given_written, value_written, return_any_written, end_any_written}
+use Rattle.lra_graph.proofs.Standing.{assigned_fits, assign_stands, break_stands, continue_stands}
+use Rattle.lra_graph.proofs.build.+inline.Goals as goal
+
+pub inline_call-returns-then-frame-eq0-clause-limit : goal.inline_call-returns-then-frame-eq0-clause-limit
+inline_call-returns-then-frame-eq0-clause-limit t c = ?
+
+pub inline_call-index-function-requires : goal.inline_call-index-function-requires
+inline_call-index-function-requires t c = ?
+
+pub inline_call-returns-in_err-inner_path-clause-written : goal.inline_call-returns-in_err-inner_path-clause-written
+inline_call-returns-in_err-inner_path-clause-written t c = let p = err_from_is_err_and c.from_residual.result c.from_residual.ensures.1 in ok_at_err c.from_residual.result p.0 _ p.1
+
+pub inline_call-returns-in_err-inner_path-clause-limit : goal.inline_call-returns-in_err-inner_path-clause-limit
+inline_call-returns-in_err-inner_path-clause-limit t c = let p = err_from_is_err_and c.from_residual.result c.from_residual.ensures.1 in limit_memory c.from_residual.result p.0 _ p.1 p.2
+
+pub inline_call-overflow_add-inner : goal.inline_call-overflow_add-inner
+inline_call-overflow_add-inner t c = ?
+
+pub inline_call-overflow_sub-inner : goal.inline_call-overflow_sub-inner
+inline_call-overflow_sub-inner t c = ?
+
+pub inline_call-inline_items-requires : goal.inline_call-inline_items-requires
+inline_call-inline_items-requires t c = ?
+
+pub inline_call-returns-in_err-body-clause-written : goal.inline_call-returns-in_err-body-clause-written
+inline_call-returns-in_err-body-clause-written t c = let p = err_from_is_err_and c.from_residual-in_err-body.result c.from_residual-in_err-body.ensures.1 in ok_at_err c.from_residual-in_err-body.result p.0 _ p.1
+
+pub inline_call-returns-in_err-body-clause-limit : goal.inline_call-returns-in_err-body-clause-limit
+inline_call-returns-in_err-body-clause-limit t c = ?
+
+pub inline_call-returns-in_err-end-clause-written : goal.inline_call-returns-in_err-end-clause-written
+inline_call-returns-in_err-end-clause-written t c = let p = err_from_is_err_and c.from_residual-in_err-end.result c.from_residual-in_err-end.ensures.1 in ok_at_err c.from_residual-in_err-end.result p.0 _ p.1
+
+pub inline_call-returns-in_err-end-clause-limit : goal.inline_call-returns-in_err-end-clause-limit
+inline_call-returns-in_err-end-clause-limit t c = ?
+
+pub inline_call-called-requires : goal.inline_call-called-requires
+inline_call-called-requires t c = ?
+
+pub inline_call-returns-in_err-called-clause-written : goal.inline_call-returns-in_err-called-clause-written
+inline_call-returns-in_err-called-clause-written t c = let p = err_from_is_err_and c.from_residual-in_err-called.result c.from_residual-in_err-called.ensures.1 in ok_at_err c.from_residual-in_err-called.result p.0 _ p.1
+
+pub inline_call-returns-in_err-called-clause-limit : goal.inline_call-returns-in_err-called-clause-limit
+inline_call-returns-in_err-called-clause-limit t c = let p = err_from_is_err_and c.from_residual-in_err-called.result c.from_residual-in_err-called.ensures.1 in limit_memory c.from_residual-in_err-called.result p.0 _ p.1 p.2
+
+pub inline_call-returns-clause-written : goal.inline_call-returns-clause-written
+inline_call-returns-clause-written t c = ?
+
+pub inline_declared-overflow_add-behind_it : goal.inline_declared-overflow_add-behind_it
+inline_declared-overflow_add-behind_it t c = let h = c.requires.few in record { fits = omega arith }
+
+pub inline_declared-inline_source-requires : goal.inline_declared-inline_source-requires
+inline_declared-inline_source-requires t c = ?
+
+pub inline_declared-returns-in_err-given-in-Some-clause-written : goal.inline_declared-returns-in_err-given-in-Some-clause-written
+inline_declared-returns-in_err-given-in-Some-clause-written t c = let p = err_from_is_err_and c.from_residual.result c.from_residual.ensures.1 in ok_at_err c.from_residual.result p.0 _ p.1
+
+pub inline_declared-returns-in_err-given-in-Some-clause-limit : goal.inline_declared-returns-in_err-given-in-Some-clause-limit
+inline_declared-returns-in_err-given-in-Some-clause-limit t c = ?
+
+pub inline_declared-returns-in_err-behind-in-Some-clause-written : goal.inline_declared-returns-in_err-behind-in-Some-clause-written
+inline_declared-returns-in_err-behind-in-Some-clause-written t c = let p = err_from_is_err_and c.from_residual-in_err-behind-in-Some.result c.from_residual-in_err-behind-in-Some.ensures.1 in ok_at_err c.from_residual-in_err-behind-in-Some.result p.0 _ p.1
+
+pub inline_declared-returns-in_err-behind-in-Some-clause-limit : goal.inline_declared-returns-in_err-behind-in-Some-clause-limit
+inline_declared-returns-in_err-behind-in-Some-clause-limit t c = let p = err_from_is_err_and c.from_residual-in_err-behind-in-Some.result c.from_residual-in_err-behind-in-Some.ensures.1 in limit_memory c.from_residual-in_err-behind-in-Some.result p.0 _ p.1 p.2
+
+pub inline_declared-returns-in-None-clause-written : goal.inline_declared-returns-in-None-clause-written
+inline_declared-returns-in-None-clause-written t c = rw c.in-None.is (fresh_written (program_view c.args.program.now) c.args.path.now c.args.frame _ c.args.point _ (shown_act c.args.point _))
+
+pub inline_declared-returns-in_ok-behind-in-Some-clause-written : goal.inline_declared-returns-in_ok-behind-in-Some-clause-written
+inline_declared-returns-in_ok-behind-in-Some-clause-written t c = rw c.in-Some.is (given_written (program_view c.args.program.now) c.args.path.now c.args.frame _ _ c.args.point (c.args.frame.live + 1) (source_view c.in-Some.source) _ _ (omega arith) c.in_ok-given-in-Some.ensures.written c.in_ok-behind-in-Some.ensures)
+
+pub inline_end-inline_call-requires : goal.inline_end-inline_call-requires
+inline_end-inline_call-requires t c = ?
+
+pub inline_end-returns-in_err-given-in-Some-Result-clause-written : goal.inline_end-returns-in_err-given-in-Some-Result-clause-written
+inline_end-returns-in_err-given-in-Some-Result-clause-written t c = let p = err_from_is_err_and c.from_residual.result c.from_residual.ensures.1 in ok_at_err c.from_residual.result p.0 _ p.1
+
+pub inline_end-returns-in_err-given-in-Some-Result-clause-limit : goal.inline_end-returns-in_err-given-in-Some-Result-clause-limit
+inline_end-returns-in_err-given-in-Some-Result-clause-limit t c = ?
+
+pub inline_end-returns-in_err-in_turn-in-Some-Result-clause-written : goal.inline_end-returns-in_err-in_turn-in-Some-Result-clause-written
+inline_end-returns-in_err-in_turn-in-Some-Result-clause-written t c = let p = err_from_is_err_and c.from_residual-in_err-in_turn-in-Some-Result.result c.from_residual-in_err-in_turn-in-Some-Result.ensures.1 in ok_at_err c.from_residual-in_err-in_turn-in-Some-Result.result p.0 _ p.1
+
+pub inline_end-returns-in_err-in_turn-in-Some-Result-clause-limit : goal.inline_end-returns-in_err-in_turn-in-Some-Result-clause-limit
+inline_end-returns-in_err-in_turn-in-Some-Result-clause-limit t c = let p = err_from_is_err_and c.from_residual-in_err-in_turn-in-Some-Result.result c.from_residual-in_err-in_turn-in-Some-Result.ensures.1 in limit_memory c.from_residual-in_err-in_turn-in-Some-Result.result p.0 _ p.1 p.2
+
+pub inline_end-returns-in_ok-in_turn-in-Some-Result-clause-written : goal.inline_end-returns-in_ok-in_turn-in-Some-Result-clause-written
+inline_end-returns-in_ok-in_turn-in-Some-Result-clause-written t c = ?
+
+pub inline_end-returns-in-Some-Value-clause-written : goal.inline_end-returns-in-Some-Value-clause-written
+inline_end-returns-in-Some-Value-clause-written t c = ?
+
+pub inline_end-returns-in-None-clause-written : goal.inline_end-returns-in-None-clause-written
+inline_end-returns-in-None-clause-written t c = rw c.in-None.is (end_any_written (program_view c.args.program.now) c.args.path.now c.args.frame _ c.args.point c.requires.back _ (shown_leave c.args.frame.live _))
+
+pub inline_for-returns-in_default-live_inside-clause-limit : goal.inline_for-returns-in_default-live_inside-clause-limit
+inline_for-returns-in_default-live_inside-clause-limit t c = ?
+
+pub inline_for-returns-in_err-point-in-Loop-clause-written : goal.inline_for-returns-in_err-point-in-Loop-clause-written
+inline_for-returns-in_err-point-in-Loop-clause-written t c = let p = err_from_is_err_and c.from_residual.result c.from_residual.ensures.1 in ok_at_err c.from_residual.result p.0 _ p.1
+
+pub inline_for-returns-in_err-point-in-Loop-clause-limit : goal.inline_for-returns-in_err-point-in-Loop-clause-limit
+inline_for-returns-in_err-point-in-Loop-clause-limit t c = ?
+
+pub inline_for-inline_items-requires : goal.inline_for-inline_items-requires
+inline_for-inline_items-requires t c = ?
+
+pub inline_for-returns-in_err-init-in-Loop-clause-written : goal.inline_for-returns-in_err-init-in-Loop-clause-written
+inline_for-returns-in_err-init-in-Loop-clause-written t c = let p = err_from_is_err_and c.from_residual-in_err-init-in-Loop.result c.from_residual-in_err-init-in-Loop.ensures.1 in ok_at_err c.from_residual-in_err-init-in-Loop.result p.0 _ p.1
+
+pub inline_for-returns-in_err-init-in-Loop-clause-limit : goal.inline_for-returns-in_err-init-in-Loop-clause-limit
+inline_for-returns-in_err-init-in-Loop-clause-limit t c = ?
+
+pub inline_for-inline_loop-requires : goal.inline_for-inline_loop-requires
+inline_for-inline_loop-requires t c = ?
+
+pub inline_for-returns-in_err-again-in-Loop-clause-written : goal.inline_for-returns-in_err-again-in-Loop-clause-written
+inline_for-returns-in_err-again-in-Loop-clause-written t c = let p = err_from_is_err_and c.from_residual-in_err-again-in-Loop.result c.from_residual-in_err-again-in-Loop.ensures.1 in ok_at_err c.from_residual-in_err-again-in-Loop.result p.0 _ p.1
+
+pub inline_for-returns-in_err-again-in-Loop-clause-limit : goal.inline_for-returns-in_err-again-in-Loop-clause-limit
+inline_for-returns-in_err-again-in-Loop-clause-limit t c = ?
+
+pub inline_for-returns-in_err-rest-in-Loop-clause-written : goal.inline_for-returns-in_err-rest-in-Loop-clause-written
+inline_for-returns-in_err-rest-in-Loop-clause-written t c = let p = err_from_is_err_and c.from_residual-in_err-rest-in-Loop.result c.from_residual-in_err-rest-in-Loop.ensures.1 in ok_at_err c.from_residual-in_err-rest-in-Loop.result p.0 _ p.1
+
+pub inline_for-returns-in_err-rest-in-Loop-clause-limit : goal.inline_for-returns-in_err-rest-in-Loop-clause-limit
+inline_for-returns-in_err-rest-in-Loop-clause-limit t c = let p = err_from_is_err_and c.from_residual-in_err-rest-in-Loop.result c.from_residual-in_err-rest-in-Loop.ensures.1 in limit_memory c.from_residual-in_err-rest-in-Loop.result p.0 _ p.1 p.2
+
+pub inline_for-returns-in_err-in_turn-in-Loop-clause-written : goal.inline_for-returns-in_err-in_turn-in-Loop-clause-written
+inline_for-returns-in_err-in_turn-in-Loop-clause-written t c = let p = err_from_is_err_and c.from_residual-in_err-in_turn-in-Loop.result c.from_residual-in_err-in_turn-in-Loop.ensures.1 in ok_at_err c.from_residual-in_err-in_turn-in-Loop.result p.0 _ p.1
+
+pub inline_for-returns-in_err-in_turn-in-Loop-clause-limit : goal.inline_for-returns-in_err-in_turn-in-Loop-clause-limit
+inline_for-returns-in_err-in_turn-in-Loop-clause-limit t c = let p = err_from_is_err_and c.from_residual-in_err-in_turn-in-Loop.result c.from_residual-in_err-in_turn-in-Loop.ensures.1 in limit_memory c.from_residual-in_err-in_turn-in-Loop.result p.0 _ p.1 p.2
+
+pub inline_for-unreachable-requires : goal.inline_for-unreachable-requires
+inline_for-unreachable-requires t c = ?
+
+pub inline_for-unreachable-unreachable : goal.inline_for-unreachable-unreachable
+inline_for-unreachable-unreachable t c = ?
+
+pub inline_for-returns-clause-written : goal.inline_for-returns-clause-written
+inline_for-returns-clause-written t c = ?
+
+pub inline_items-bounds-items-0 : goal.inline_items-bounds-items-0
+inline_items-bounds-items-0 t c = ?
+
+pub inline_items-bounds-0 : goal.inline_items-bounds-0
+inline_items-bounds-0 t c = ?
+
+pub inline_items-slice_bounds-rest-count : goal.inline_items-slice_bounds-rest-count
+inline_items-slice_bounds-rest-count t c = ?
+
+pub inline_items-bounds-items-0-in-Declaration-1 : goal.inline_items-bounds-items-0-in-Declaration-1
+inline_items-bounds-items-0-in-Declaration-1 t c = ?
+
+pub inline_items-slice_bounds-rest-start : goal.inline_items-slice_bounds-rest-start
+inline_items-slice_bounds-rest-start t c = ?
+
+pub inline_items-slice_bounds-rest-end : goal.inline_items-slice_bounds-rest-end
+inline_items-slice_bounds-rest-end t c = ?
+
+pub inline_items-returns-in_err-point-in-Declaration-clause-last : goal.inline_items-returns-in_err-point-in-Declaration-clause-last
+inline_items-returns-in_err-point-in-Declaration-clause-last t c = let p = err_from_is_err_and c.from_residual.result c.from_residual.ensures.1 in ok_at_err c.from_residual.result p.0 _ p.1
+
+pub inline_items-returns-in_err-point-in-Declaration-clause-written : goal.inline_items-returns-in_err-point-in-Declaration-clause-written
+inline_items-returns-in_err-point-in-Declaration-clause-written t c = let p = err_from_is_err_and c.from_residual.result c.from_residual.ensures.1 in ok_at_err c.from_residual.result p.0 _ p.1
+
+pub inline_items-returns-in_err-point-in-Declaration-clause-limit : goal.inline_items-returns-in_err-point-in-Declaration-clause-limit
+inline_items-returns-in_err-point-in-Declaration-clause-limit t c = ?
+
+pub inline_items-inline_declared-requires : goal.inline_items-inline_declared-requires
+inline_items-inline_declared-requires t c = ?
+
+pub inline_items-returns-in_err-given-in-Declaration-clause-last : goal.inline_items-returns-in_err-given-in-Declaration-clause-last
+inline_items-returns-in_err-given-in-Declaration-clause-last t c = let p = err_from_is_err_and c.from_residual-in_err-given-in-Declaration.result c.from_residual-in_err-given-in-Declaration.ensures.1 in ok_at_err c.from_residual-in_err-given-in-Declaration.result p.0 _ p.1
+
+pub inline_items-returns-in_err-given-in-Declaration-clause-written : goal.inline_items-returns-in_err-given-in-Declaration-clause-written
+inline_items-returns-in_err-given-in-Declaration-clause-written t c = let p = err_from_is_err_and c.from_residual-in_err-given-in-Declaration.result c.from_residual-in_err-given-in-Declaration.ensures.1 in ok_at_err c.from_residual-in_err-given-in-Declaration.result p.0 _ p.1
+
+pub inline_items-returns-in_err-given-in-Declaration-clause-limit : goal.inline_items-returns-in_err-given-in-Declaration-clause-limit
+inline_items-returns-in_err-given-in-Declaration-clause-limit t c = ?
+
+pub inline_items-returns-in_err-declared-in-Declaration-clause-last : goal.inline_items-returns-in_err-declared-in-Declaration-clause-last
+inline_items-returns-in_err-declared-in-Declaration-clause-last t c = let p = err_from_is_err_and c.from_residual-in_err-declared-in-Declaration.result c.from_residual-in_err-declared-in-Declaration.ensures.1 in ok_at_err c.from_residual-in_err-declared-in-Declaration.result p.0 _ p.1
+
+pub inline_items-returns-in_err-declared-in-Declaration-clause-written : goal.inline_items-returns-in_err-declared-in-Declaration-clause-written
+inline_items-returns-in_err-declared-in-Declaration-clause-written t c = let p = err_from_is_err_and c.from_residual-in_err-declared-in-Declaration.result c.from_residual-in_err-declared-in-Declaration.ensures.1 in ok_at_err c.from_residual-in_err-declared-in-Declaration.result p.0 _ p.1
+
+pub inline_items-returns-in_err-declared-in-Declaration-clause-limit : goal.inline_items-returns-in_err-declared-in-Declaration-clause-limit
+inline_items-returns-in_err-declared-in-Declaration-clause-limit t c = let p = err_from_is_err_and c.from_residual-in_err-declared-in-Declaration.result c.from_residual-in_err-declared-in-Declaration.ensures.1 in limit_memory c.from_residual-in_err-declared-in-Declaration.result p.0 _ p.1 p.2
+
+pub inline_items-overflow_add-behind : goal.inline_items-overflow_add-behind
+inline_items-overflow_add-behind t c = ?
+
+pub inline_items-inline_items-requires : goal.inline_items-inline_items-requires
+inline_items-inline_items-requires t c = ?
+
+pub inline_items-returns-in_err-others-in-Declaration-clause-last : goal.inline_items-returns-in_err-others-in-Declaration-clause-last
+inline_items-returns-in_err-others-in-Declaration-clause-last t c = let p = err_from_is_err_and c.from_residual-in_err-others-in-Declaration.result c.from_residual-in_err-others-in-Declaration.ensures.1 in ok_at_err c.from_residual-in_err-others-in-Declaration.result p.0 _ p.1
+
+pub inline_items-returns-in_err-others-in-Declaration-clause-written : goal.inline_items-returns-in_err-others-in-Declaration-clause-written
+inline_items-returns-in_err-others-in-Declaration-clause-written t c = let p = err_from_is_err_and c.from_residual-in_err-others-in-Declaration.result c.from_residual-in_err-others-in-Declaration.ensures.1 in ok_at_err c.from_residual-in_err-others-in-Declaration.result p.0 _ p.1
+
+pub inline_items-returns-in_err-others-in-Declaration-clause-limit : goal.inline_items-returns-in_err-others-in-Declaration-clause-limit
+inline_items-returns-in_err-others-in-Declaration-clause-limit t c = ?
+
+pub inline_items-returns-in_err-in_turn-in-Declaration-clause-last : goal.inline_items-returns-in_err-in_turn-in-Declaration-clause-last
+inline_items-returns-in_err-in_turn-in-Declaration-clause-last t c = let p = err_from_is_err_and c.from_residual-in_err-in_turn-in-Declaration.result c.from_residual-in_err-in_turn-in-Declaration.ensures.1 in ok_at_err c.from_residual-in_err-in_turn-in-Declaration.result p.0 _ p.1
+
+pub inline_items-returns-in_err-in_turn-in-Declaration-clause-written : goal.inline_items-returns-in_err-in_turn-in-Declaration-clause-written
+inline_items-returns-in_err-in_turn-in-Declaration-clause-written t c = let p = err_from_is_err_and c.from_residual-in_err-in_turn-in-Declaration.result c.from_residual-in_err-in_turn-in-Declaration.ensures.1 in ok_at_err c.from_residual-in_err-in_turn-in-Declaration.result p.0 _ p.1
+
+pub inline_items-returns-in_err-in_turn-in-Declaration-clause-limit : goal.inline_items-returns-in_err-in_turn-in-Declaration-clause-limit
+inline_items-returns-in_err-in_turn-in-Declaration-clause-limit t c = let p = err_from_is_err_and c.from_residual-in_err-in_turn-in-Declaration.result c.from_residual-in_err-in_turn-in-Declaration.ensures.1 in limit_memory c.from_residual-in_err-in_turn-in-Declaration.result p.0 _ p.1 p.2
+
+pub inline_items-slice_bounds-rest-count-in-Statement-1 : goal.inline_items-slice_bounds-rest-count-in-Statement-1
+inline_items-slice_bounds-rest-count-in-Statement-1 t c = ?
+
+pub inline_items-bounds-items-0-in-Statement-1 : goal.inline_items-bounds-items-0-in-Statement-1
+inline_items-bounds-items-0-in-Statement-1 t c = ?
+
+pub inline_items-slice_bounds-rest-start-in-Statement-1 : goal.inline_items-slice_bounds-rest-start-in-Statement-1
+inline_items-slice_bounds-rest-start-in-Statement-1 t c = ?
+
+pub inline_items-slice_bounds-rest-end-in-Statement-1 : goal.inline_items-slice_bounds-rest-end-in-Statement-1
+inline_items-slice_bounds-rest-end-in-Statement-1 t c = ?
+
+pub inline_items-inline_stmt-requires : goal.inline_items-inline_stmt-requires
+inline_items-inline_stmt-requires t c = ?
+
+pub inline_items-returns-in_err-first-in-Statement-clause-last : goal.inline_items-returns-in_err-first-in-Statement-clause-last
+inline_items-returns-in_err-first-in-Statement-clause-last t c = let p = err_from_is_err_and c.from_residual-in_err-first-in-Statement.result c.from_residual-in_err-first-in-Statement.ensures.1 in ok_at_err c.from_residual-in_err-first-in-Statement.result p.0 _ p.1
+
+pub inline_items-returns-in_err-first-in-Statement-clause-written : goal.inline_items-returns-in_err-first-in-Statement-clause-written
+inline_items-returns-in_err-first-in-Statement-clause-written t c = let p = err_from_is_err_and c.from_residual-in_err-first-in-Statement.result c.from_residual-in_err-first-in-Statement.ensures.1 in ok_at_err c.from_residual-in_err-first-in-Statement.result p.0 _ p.1
+
+pub inline_items-returns-in_err-first-in-Statement-clause-limit : goal.inline_items-returns-in_err-first-in-Statement-clause-limit
+inline_items-returns-in_err-first-in-Statement-clause-limit t c = ?
+
+pub inline_items-inline_items-requires-in-Statement : goal.inline_items-inline_items-requires-in-Statement
+inline_items-inline_items-requires-in-Statement t c = ?
+
+pub inline_items-returns-in_err-others-in-Statement-clause-last : goal.inline_items-returns-in_err-others-in-Statement-clause-last
+inline_items-returns-in_err-others-in-Statement-clause-last t c = let p = err_from_is_err_and c.from_residual-in_err-others-in-Statement.result c.from_residual-in_err-others-in-Statement.ensures.1 in ok_at_err c.from_residual-in_err-others-in-Statement.result p.0 _ p.1
+
+pub inline_items-returns-in_err-others-in-Statement-clause-written : goal.inline_items-returns-in_err-others-in-Statement-clause-written
+inline_items-returns-in_err-others-in-Statement-clause-written t c = let p = err_from_is_err_and c.from_residual-in_err-others-in-Statement.result c.from_residual-in_err-others-in-Statement.ensures.1 in ok_at_err c.from_residual-in_err-others-in-Statement.result p.0 _ p.1
+
+pub inline_items-returns-in_err-others-in-Statement-clause-limit : goal.inline_items-returns-in_err-others-in-Statement-clause-limit
+inline_items-returns-in_err-others-in-Statement-clause-limit t c = ?
+
+pub inline_items-returns-in_err-in_turn-in-Statement-clause-last : goal.inline_items-returns-in_err-in_turn-in-Statement-clause-last
+inline_items-returns-in_err-in_turn-in-Statement-clause-last t c = let p = err_from_is_err_and c.from_residual-in_err-in_turn-in-Statement.result c.from_residual-in_err-in_turn-in-Statement.ensures.1 in ok_at_err c.from_residual-in_err-in_turn-in-Statement.result p.0 _ p.1
+
+pub inline_items-returns-in_err-in_turn-in-Statement-clause-written : goal.inline_items-returns-in_err-in_turn-in-Statement-clause-written
+inline_items-returns-in_err-in_turn-in-Statement-clause-written t c = let p = err_from_is_err_and c.from_residual-in_err-in_turn-in-Statement.result c.from_residual-in_err-in_turn-in-Statement.ensures.1 in ok_at_err c.from_residual-in_err-in_turn-in-Statement.result p.0 _ p.1
+
+pub inline_items-returns-in_err-in_turn-in-Statement-clause-limit : goal.inline_items-returns-in_err-in_turn-in-Statement-clause-limit
+inline_items-returns-in_err-in_turn-in-Statement-clause-limit t c = let p = err_from_is_err_and c.from_residual-in_err-in_turn-in-Statement.result c.from_residual-in_err-in_turn-in-Statement.ensures.1 in limit_memory c.from_residual-in_err-in_turn-in-Statement.result p.0 _ p.1 p.2
+
+pub inline_items-returns-in-empty-clause-last : goal.inline_items-returns-in-empty-clause-last
+inline_items-returns-in-empty-clause-last t c = ?
+
+pub inline_items-returns-in-empty-clause-written : goal.inline_items-returns-in-empty-clause-written
+inline_items-returns-in-empty-clause-written t c = ?
+
+pub inline_items-returns-in_ok-in_turn-in-Declaration-clause-last : goal.inline_items-returns-in_ok-in_turn-in-Declaration-clause-last
+inline_items-returns-in_ok-in_turn-in-Declaration-clause-last t c = ?
+
+pub inline_items-returns-in_ok-in_turn-in-Declaration-clause-written : goal.inline_items-returns-in_ok-in_turn-in-Declaration-clause-written
+inline_items-returns-in_ok-in_turn-in-Declaration-clause-written t c = ?
+
+pub inline_items-returns-in_ok-in_turn-in-Statement-clause-last : goal.inline_items-returns-in_ok-in_turn-in-Statement-clause-last
+inline_items-returns-in_ok-in_turn-in-Statement-clause-last t c = ?
+
+pub inline_items-returns-in_ok-in_turn-in-Statement-clause-written : goal.inline_items-returns-in_ok-in_turn-in-Statement-clause-written
+inline_items-returns-in_ok-in_turn-in-Statement-clause-written t c = ?
+
+pub inline_loop-inline_stmt-requires : goal.inline_loop-inline_stmt-requires
+inline_loop-inline_stmt-requires t c = ?
+
+pub inline_loop-returns-in_err-step-clause-written : goal.inline_loop-returns-in_err-step-clause-written
+inline_loop-returns-in_err-step-clause-written t c = let p = err_from_is_err_and c.from_residual.result c.from_residual.ensures.1 in ok_at_err c.from_residual.result p.0 _ p.1
+
+pub inline_loop-returns-in_err-step-clause-limit : goal.inline_loop-returns-in_err-step-clause-limit
+inline_loop-returns-in_err-step-clause-limit t c = ?
+
+pub inline_loop-inline_stmt-requires-2 : goal.inline_loop-inline_stmt-requires-2
+inline_loop-inline_stmt-requires-2 t c = ?
+
+pub inline_loop-returns-in_err-body-clause-written : goal.inline_loop-returns-in_err-body-clause-written
+inline_loop-returns-in_err-body-clause-written t c = let p = err_from_is_err_and c.from_residual-in_err-body.result c.from_residual-in_err-body.ensures.1 in ok_at_err c.from_residual-in_err-body.result p.0 _ p.1
+
+pub inline_loop-returns-in_err-body-clause-limit : goal.inline_loop-returns-in_err-body-clause-limit
+inline_loop-returns-in_err-body-clause-limit t c = ?
+
+pub inline_loop-returns-in_err-rounds-clause-written : goal.inline_loop-returns-in_err-rounds-clause-written
+inline_loop-returns-in_err-rounds-clause-written t c = let p = err_from_is_err_and c.from_residual-in_err-rounds.result c.from_residual-in_err-rounds.ensures.1 in ok_at_err c.from_residual-in_err-rounds.result p.0 _ p.1
+
+pub inline_loop-returns-in_err-rounds-clause-limit : goal.inline_loop-returns-in_err-rounds-clause-limit
+inline_loop-returns-in_err-rounds-clause-limit t c = let p = err_from_is_err_and c.from_residual-in_err-rounds.result c.from_residual-in_err-rounds.ensures.1 in limit_memory c.from_residual-in_err-rounds.result p.0 _ p.1 p.2
+
+pub inline_loop-returns-clause-written : goal.inline_loop-returns-clause-written
+inline_loop-returns-clause-written t c = rounds_written (program_view c.args.program.now) c.args.path.now c.args.frame _ _ _ c.args.point (cond_view c.args.cond.now) (stmt_view c.args.body.now) (stmt_view c.args.step.now) _ _ _ c.in_ok-step.ensures.written c.in_ok-body.ensures.written c.in_ok-rounds.ensures
+
+pub inline_return-returns-in_err-returned-in-None-clause-written : goal.inline_return-returns-in_err-returned-in-None-clause-written
+inline_return-returns-in_err-returned-in-None-clause-written t c = let p = err_from_is_err_and c.from_residual.result c.from_residual.ensures.1 in ok_at_err c.from_residual.result p.0 _ p.1
+
+pub inline_return-returns-in_err-returned-in-None-clause-limit : goal.inline_return-returns-in_err-returned-in-None-clause-limit
+inline_return-returns-in_err-returned-in-None-clause-limit t c = let p = err_from_is_err_and c.from_residual.result c.from_residual.ensures.1 in limit_memory c.from_residual.result p.0 _ p.1 p.2
+
+pub inline_return-returns-in_err-copy-in-Some-Value-clause-written : goal.inline_return-returns-in_err-copy-in-Some-Value-clause-written
+inline_return-returns-in_err-copy-in-Some-Value-clause-written t c = let p = err_from_is_err_and c.from_residual-in_err-copy-in-Some-Value.result c.from_residual-in_err-copy-in-Some-Value.ensures.1 in ok_at_err c.from_residual-in_err-copy-in-Some-Value.result p.0 _ p.1
+
+pub inline_return-returns-in_err-copy-in-Some-Value-clause-limit : goal.inline_return-returns-in_err-copy-in-Some-Value-clause-limit
+inline_return-returns-in_err-copy-in-Some-Value-clause-limit t c = let p = err_from_is_err_and c.from_residual-in_err-copy-in-Some-Value.result c.from_residual-in_err-copy-in-Some-Value.ensures.1 in limit_memory c.from_residual-in_err-copy-in-Some-Value.result p.0 _ p.1 p.2
+
+pub inline_return-returns-in_err-returned-in-Some-Value-clause-written : goal.inline_return-returns-in_err-returned-in-Some-Value-clause-written
+inline_return-returns-in_err-returned-in-Some-Value-clause-written t c = let p = err_from_is_err_and c.from_residual-in_err-returned-in-Some-Value.result c.from_residual-in_err-returned-in-Some-Value.ensures.1 in ok_at_err c.from_residual-in_err-returned-in-Some-Value.result p.0 _ p.1
+
+pub inline_return-returns-in_err-returned-in-Some-Value-clause-limit : goal.inline_return-returns-in_err-returned-in-Some-Value-clause-limit
+inline_return-returns-in_err-returned-in-Some-Value-clause-limit t c = let p = err_from_is_err_and c.from_residual-in_err-returned-in-Some-Value.result c.from_residual-in_err-returned-in-Some-Value.ensures.1 in limit_memory c.from_residual-in_err-returned-in-Some-Value.result p.0 _ p.1 p.2
+
+pub inline_return-inline_call-requires : goal.inline_return-inline_call-requires
+inline_return-inline_call-requires t c = ?
+
+pub inline_return-returns-in_err-given-in-Some-Result-clause-written : goal.inline_return-returns-in_err-given-in-Some-Result-clause-written
+inline_return-returns-in_err-given-in-Some-Result-clause-written t c = let p = err_from_is_err_and c.from_residual-in_err-given-in-Some-Result.result c.from_residual-in_err-given-in-Some-Result.ensures.1 in ok_at_err c.from_residual-in_err-given-in-Some-Result.result p.0 _ p.1
+
+pub inline_return-returns-in_err-given-in-Some-Result-clause-limit : goal.inline_return-returns-in_err-given-in-Some-Result-clause-limit
+inline_return-returns-in_err-given-in-Some-Result-clause-limit t c = ?
+
+pub inline_return-returns-in_err-leave-in-Some-Result-clause-written : goal.inline_return-returns-in_err-leave-in-Some-Result-clause-written
+inline_return-returns-in_err-leave-in-Some-Result-clause-written t c = let p = err_from_is_err_and c.from_residual-in_err-leave-in-Some-Result.result c.from_residual-in_err-leave-in-Some-Result.ensures.1 in ok_at_err c.from_residual-in_err-leave-in-Some-Result.result p.0 _ p.1
+
+pub inline_return-returns-in_err-leave-in-Some-Result-clause-limit : goal.inline_return-returns-in_err-leave-in-Some-Result-clause-limit
+inline_return-returns-in_err-leave-in-Some-Result-clause-limit t c = let p = err_from_is_err_and c.from_residual-in_err-leave-in-Some-Result.result c.from_residual-in_err-leave-in-Some-Result.ensures.1 in limit_memory c.from_residual-in_err-leave-in-Some-Result.result p.0 _ p.1 p.2
+
+pub inline_return-returns-in_err-in_turn-in-Some-Result-clause-written : goal.inline_return-returns-in_err-in_turn-in-Some-Result-clause-written
+inline_return-returns-in_err-in_turn-in-Some-Result-clause-written t c = let p = err_from_is_err_and c.from_residual-in_err-in_turn-in-Some-Result.result c.from_residual-in_err-in_turn-in-Some-Result.ensures.1 in ok_at_err c.from_residual-in_err-in_turn-in-Some-Result.result p.0 _ p.1
+
+pub inline_return-returns-in_err-in_turn-in-Some-Result-clause-limit : goal.inline_return-returns-in_err-in_turn-in-Some-Result-clause-limit
+inline_return-returns-in_err-in_turn-in-Some-Result-clause-limit t c = let p = err_from_is_err_and c.from_residual-in_err-in_turn-in-Some-Result.result c.from_residual-in_err-in_turn-in-Some-Result.ensures.1 in limit_memory c.from_residual-in_err-in_turn-in-Some-Result.result p.0 _ p.1 p.2
+
+pub inline_return-returns-in_ok-returned-in-None-clause-written : goal.inline_return-returns-in_ok-returned-in-None-clause-written
+inline_return-returns-in_ok-returned-in-None-clause-written t c = rw c.in-None.is (return_any_written (program_view c.args.program.now) c.args.path.now c.args.frame _ c.args.point c.args.back c.requires.back (c.requires.stands.back_low c.args.back c.requires.back) _ c.in_ok-returned-in-None.ensures)
+
+pub inline_return-returns-in_ok-returned-in-Some-Value-clause-written : goal.inline_return-returns-in_ok-returned-in-Some-Value-clause-written
+inline_return-returns-in_ok-returned-in-Some-Value-clause-written t c = ?
+
+pub inline_return-returns-in_ok-in_turn-in-Some-Result-clause-written : goal.inline_return-returns-in_ok-in_turn-in-Some-Result-clause-written
+inline_return-returns-in_ok-in_turn-in-Some-Result-clause-written t c = ?
+
+pub inline_source-returns-in_err-value-in-Value-clause-written : goal.inline_source-returns-in_err-value-in-Value-clause-written
+inline_source-returns-in_err-value-in-Value-clause-written t c = let p = err_from_is_err_and c.from_residual.result c.from_residual.ensures.1 in ok_at_err c.from_residual.result p.0 _ p.1
+
+pub inline_source-returns-in_err-value-in-Value-clause-limit : goal.inline_source-returns-in_err-value-in-Value-clause-limit
+inline_source-returns-in_err-value-in-Value-clause-limit t c = let p = err_from_is_err_and c.from_residual.result c.from_residual.ensures.1 in limit_memory c.from_residual.result p.0 _ p.1 p.2
+
+pub inline_source-inline_call-requires : goal.inline_source-inline_call-requires
+inline_source-inline_call-requires t c = ?
+
+pub inline_source-returns-in_ok-value-in-Value-clause-written : goal.inline_source-returns-in_ok-value-in-Value-clause-written
+inline_source-returns-in_ok-value-in-Value-clause-written t c = rw c.in-Value.is (value_written (program_view c.args.program.now) c.args.path.now c.args.frame _ c.args.point c.args.target (expr_view c.in-Value.value) _ (shown_act c.args.point _ ∙ ap (λ z. act c.args.point (give c.args.frame.base c.args.target z)) c.in_ok-value-in-Value.ensures))
+
+pub inline_source-returns-in-Result-clause-written : goal.inline_source-returns-in-Result-clause-written
+inline_source-returns-in-Result-clause-written t c = ?
+
+pub inline_source-returns-in-Result-clause-limit : goal.inline_source-returns-in-Result-clause-limit
+inline_source-returns-in-Result-clause-limit t c = ?
+
+pub inline_stmt-returns-in_err-point-in-Nothing-clause-written : goal.inline_stmt-returns-in_err-point-in-Nothing-clause-written
+inline_stmt-returns-in_err-point-in-Nothing-clause-written t c = let p = err_from_is_err_and c.from_residual.result c.from_residual.ensures.1 in ok_at_err c.from_residual.result p.0 _ p.1
+
+pub inline_stmt-returns-in_err-point-in-Nothing-clause-limit : goal.inline_stmt-returns-in_err-point-in-Nothing-clause-limit
+inline_stmt-returns-in_err-point-in-Nothing-clause-limit t c = let p = err_from_is_err_and c.from_residual.result c.from_residual.ensures.1 in limit_by c.from_residual.result p.0 _ (map site_view c.args.sites.now.items) (map site_view c.args.sites.now.items) (stmt_events (inside (program_view c.args.program.now) c.args.path.now c.args.frame) c.args.path.now c.args.frame.live (stmt_view c.args.stmt.now)) (plain_site c.args.path.now c.in-Nothing.label c.args.frame.live ∷ []) p.1 p.2 (λ x h. stmt_stopped (program_view c.args.program.now) c.args.path.now c.args.frame (map site_view c.args.sites.now.items) _ _ (stopped x) (ap stmt_view c.in-Nothing.is ∙ shown_nothing c.in-Nothing.label) (walk_stop (map site_view c.args.sites.now.items) (plain_site c.args.path.now c.in-Nothing.label c.args.frame.live ∷ []) [] x h)) c.in_err-point-in-Nothing.ensures.limit
+
+pub inline_stmt-inline_items-requires : goal.inline_stmt-inline_items-requires
+inline_stmt-inline_items-requires t c = ?
+
+pub inline_stmt-returns-in_err-items-in-Block-clause-written : goal.inline_stmt-returns-in_err-items-in-Block-clause-written
+inline_stmt-returns-in_err-items-in-Block-clause-written t c = let p = err_from_is_err_and c.from_residual-in_err-items-in-Block.result c.from_residual-in_err-items-in-Block.ensures.1 in ok_at_err c.from_residual-in_err-items-in-Block.result p.0 _ p.1
+
+pub inline_stmt-returns-in_err-items-in-Block-clause-limit : goal.inline_stmt-returns-in_err-items-in-Block-clause-limit
+inline_stmt-returns-in_err-items-in-Block-clause-limit t c = ?
+
+pub inline_stmt-returns-in_err-point-in-Block-clause-written : goal.inline_stmt-returns-in_err-point-in-Block-clause-written
+inline_stmt-returns-in_err-point-in-Block-clause-written t c = let p = err_from_is_err_and c.from_residual-in_err-point-in-Block.result c.from_residual-in_err-point-in-Block.ensures.1 in ok_at_err c.from_residual-in_err-point-in-Block.result p.0 _ p.1
+
+pub inline_stmt-returns-in_err-point-in-Block-clause-limit : goal.inline_stmt-returns-in_err-point-in-Block-clause-limit
+inline_stmt-returns-in_err-point-in-Block-clause-limit t c = ?
+
+pub inline_stmt-returns-in_err-end-in-Block-clause-written : goal.inline_stmt-returns-in_err-end-in-Block-clause-written
+inline_stmt-returns-in_err-end-in-Block-clause-written t c = let p = err_from_is_err_and c.from_residual-in_err-end-in-Block.result c.from_residual-in_err-end-in-Block.ensures.1 in ok_at_err c.from_residual-in_err-end-in-Block.result p.0 _ p.1
+
+pub inline_stmt-returns-in_err-end-in-Block-clause-limit : goal.inline_stmt-returns-in_err-end-in-Block-clause-limit
+inline_stmt-returns-in_err-end-in-Block-clause-limit t c = let p = err_from_is_err_and c.from_residual-in_err-end-in-Block.result c.from_residual-in_err-end-in-Block.ensures.1 in limit_memory c.from_residual-in_err-end-in-Block.result p.0 _ p.1 p.2
+
+pub inline_stmt-returns-in_err-in_turn-in-Block-clause-written : goal.inline_stmt-returns-in_err-in_turn-in-Block-clause-written
+inline_stmt-returns-in_err-in_turn-in-Block-clause-written t c = let p = err_from_is_err_and c.from_residual-in_err-in_turn-in-Block.result c.from_residual-in_err-in_turn-in-Block.ensures.1 in ok_at_err c.from_residual-in_err-in_turn-in-Block.result p.0 _ p.1
+
+pub inline_stmt-returns-in_err-in_turn-in-Block-clause-limit : goal.inline_stmt-returns-in_err-in_turn-in-Block-clause-limit
+inline_stmt-returns-in_err-in_turn-in-Block-clause-limit t c = let p = err_from_is_err_and c.from_residual-in_err-in_turn-in-Block.result c.from_residual-in_err-in_turn-in-Block.ensures.1 in limit_memory c.from_residual-in_err-in_turn-in-Block.result p.0 _ p.1 p.2
+
+pub inline_stmt-returns-in_err-point-in-Assign-clause-written : goal.inline_stmt-returns-in_err-point-in-Assign-clause-written
+inline_stmt-returns-in_err-point-in-Assign-clause-written t c = let p = err_from_is_err_and c.from_residual-in_err-point-in-Assign.result c.from_residual-in_err-point-in-Assign.ensures.1 in ok_at_err c.from_residual-in_err-point-in-Assign.result p.0 _ p.1
+
+pub inline_stmt-returns-in_err-point-in-Assign-clause-limit : goal.inline_stmt-returns-in_err-point-in-Assign-clause-limit
+inline_stmt-returns-in_err-point-in-Assign-clause-limit t c = let p = err_from_is_err_and c.from_residual-in_err-point-in-Assign.result c.from_residual-in_err-point-in-Assign.ensures.1 in limit_by c.from_residual-in_err-point-in-Assign.result p.0 _ (map site_view c.args.sites.now.items) (map site_view c.args.sites.now.items) (stmt_events (inside (program_view c.args.program.now) c.args.path.now c.args.frame) c.args.path.now c.args.frame.live (stmt_view c.args.stmt.now)) (plain_site c.args.path.now c.in-Assign.label c.args.frame.live ∷ []) p.1 p.2 (λ x h. stmt_stopped (program_view c.args.program.now) c.args.path.now c.args.frame (map site_view c.args.sites.now.items) _ _ (stopped x) (ap stmt_view c.in-Assign.is ∙ shown_assign c.in-Assign.label c.in-Assign.slot c.in-Assign.source) (walk_stop (map site_view c.args.sites.now.items) (plain_site c.args.path.now c.in-Assign.label c.args.frame.live ∷ []) (source_events (inside (program_view c.args.program.now) c.args.path.now c.args.frame) c.args.path.now c.args.frame.live (source_view c.in-Assign.source)) x h)) c.in_err-point-in-Assign.ensures.limit
+
+pub inline_stmt-place_of-requires : goal.inline_stmt-place_of-requires
+inline_stmt-place_of-requires t c = assigned_fits (program_view c.args.program.now) c.args.frame c.in-Assign.label (slot_view c.in-Assign.slot) (source_view c.in-Assign.source) (subst (StmtStands (program_view c.args.program.now) c.args.frame) (ap stmt_view c.in-Assign.is ∙ shown_assign c.in-Assign.label c.in-Assign.slot c.in-Assign.source) c.requires.stands) c.in_ok-point-in-Assign.ensures.few
+
+pub inline_stmt-inline_source-requires : goal.inline_stmt-inline_source-requires
+inline_stmt-inline_source-requires t c = (?, (c.requires.well, (omega (arith, c.in_ok-point-in-Assign.ensures.few), assign_stands (program_view c.args.program.now) c.args.frame c.in-Assign.label (slot_view c.in-Assign.slot) (source_view c.in-Assign.source) (subst (StmtStands (program_view c.args.program.now) c.args.frame) (ap stmt_view c.in-Assign.is ∙ shown_assign c.in-Assign.label c.in-Assign.slot c.in-Assign.source) c.requires.stands))))
+
+pub inline_stmt-returns-in_err-given-in-Assign-clause-written : goal.inline_stmt-returns-in_err-given-in-Assign-clause-written
+inline_stmt-returns-in_err-given-in-Assign-clause-written t c = let p = err_from_is_err_and c.from_residual-in_err-given-in-Assign.result c.from_residual-in_err-given-in-Assign.ensures.1 in ok_at_err c.from_residual-in_err-given-in-Assign.result p.0 _ p.1
+
+pub inline_stmt-returns-in_err-given-in-Assign-clause-limit : goal.inline_stmt-returns-in_err-given-in-Assign-clause-limit
+inline_stmt-returns-in_err-given-in-Assign-clause-limit t c = let p = err_from_is_err_and c.from_residual-in_err-given-in-Assign.result c.from_residual-in_err-given-in-Assign.ensures.1 in limit_by c.from_residual-in_err-given-in-Assign.result p.0 _ (map site_view c.args.sites.now.items) (map site_view c.add_point-in-Assign.new.sites.items) (stmt_events (inside (program_view c.args.program.now) c.args.path.now c.args.frame) c.args.path.now c.args.frame.live (stmt_view c.args.stmt.now)) (source_events (inside (program_view c.args.program.now) c.args.path.now c.args.frame) c.args.path.now c.args.frame.live (source_view c.in-Assign.source)) p.1 p.2 (λ x h. stmt_stopped (program_view c.args.program.now) c.args.path.now c.args.frame (map site_view c.args.sites.now.items) _ _ (stopped x) (ap stmt_view c.in-Assign.is ∙ shown_assign c.in-Assign.label c.in-Assign.slot c.in-Assign.source) (second_stopped (map site_view c.args.sites.now.items) (map site_view c.add_point-in-Assign.new.sites.items) (plain_site c.args.path.now c.in-Assign.label c.args.frame.live ∷ []) (source_events (inside (program_view c.args.program.now) c.args.path.now c.args.frame) c.args.path.now c.args.frame.live (source_view c.in-Assign.source)) x c.in_ok-point-in-Assign.ensures.walked h)) c.in_err-given-in-Assign.ensures.limit
+
+pub inline_stmt-returns-in_err-behind_point-in-Assign-clause-written : goal.inline_stmt-returns-in_err-behind_point-in-Assign-clause-written
+inline_stmt-returns-in_err-behind_point-in-Assign-clause-written t c = let p = err_from_is_err_and c.from_residual-in_err-behind_point-in-Assign.result c.from_residual-in_err-behind_point-in-Assign.ensures.1 in ok_at_err c.from_residual-in_err-behind_point-in-Assign.result p.0 _ p.1
+
+pub inline_stmt-returns-in_err-behind_point-in-Assign-clause-limit : goal.inline_stmt-returns-in_err-behind_point-in-Assign-clause-limit
+inline_stmt-returns-in_err-behind_point-in-Assign-clause-limit t c = let p = err_from_is_err_and c.from_residual-in_err-behind_point-in-Assign.result c.from_residual-in_err-behind_point-in-Assign.ensures.1 in limit_memory c.from_residual-in_err-behind_point-in-Assign.result p.0 _ p.1 p.2
+
+pub inline_stmt-returns-in_err-point-in-Call-clause-written : goal.inline_stmt-returns-in_err-point-in-Call-clause-written
+inline_stmt-returns-in_err-point-in-Call-clause-written t c = let p = err_from_is_err_and c.from_residual-in_err-point-in-Call.result c.from_residual-in_err-point-in-Call.ensures.1 in ok_at_err c.from_residual-in_err-point-in-Call.result p.0 _ p.1
+
+pub inline_stmt-returns-in_err-point-in-Call-clause-limit : goal.inline_stmt-returns-in_err-point-in-Call-clause-limit
+inline_stmt-returns-in_err-point-in-Call-clause-limit t c = let p = err_from_is_err_and c.from_residual-in_err-point-in-Call.result c.from_residual-in_err-point-in-Call.ensures.1 in limit_by c.from_residual-in_err-point-in-Call.result p.0 _ (map site_view c.args.sites.now.items) (map site_view c.args.sites.now.items) (stmt_events (inside (program_view c.args.program.now) c.args.path.now c.args.frame) c.args.path.now c.args.frame.live (stmt_view c.args.stmt.now)) (plain_site c.args.path.now c.in-Call.label c.args.frame.live ∷ []) p.1 p.2 (λ x h. stmt_stopped (program_view c.args.program.now) c.args.path.now c.args.frame (map site_view c.args.sites.now.items) _ _ (stopped x) (ap stmt_view c.in-Call.is ∙ shown_call c.in-Call.label c.in-Call.call) (walk_stop (map site_view c.args.sites.now.items) (plain_site c.args.path.now c.in-Call.label c.args.frame.live ∷ []) ((inside (program_view c.args.program.now) c.args.path.now c.args.frame) c.args.path.now c.args.frame.live (call_view c.in-Call.call)) x h)) c.in_err-point-in-Call.ensures.limit
+
+pub inline_stmt-inline_call-requires : goal.inline_stmt-inline_call-requires
+inline_stmt-inline_call-requires t c = ?
+
+pub inline_stmt-returns-in_err-given-in-Call-clause-written : goal.inline_stmt-returns-in_err-given-in-Call-clause-written
+inline_stmt-returns-in_err-given-in-Call-clause-written t c = let p = err_from_is_err_and c.from_residual-in_err-given-in-Call.result c.from_residual-in_err-given-in-Call.ensures.1 in ok_at_err c.from_residual-in_err-given-in-Call.result p.0 _ p.1
+
+pub inline_stmt-returns-in_err-given-in-Call-clause-limit : goal.inline_stmt-returns-in_err-given-in-Call-clause-limit
+inline_stmt-returns-in_err-given-in-Call-clause-limit t c = let p = err_from_is_err_and c.from_residual-in_err-given-in-Call.result c.from_residual-in_err-given-in-Call.ensures.1 in limit_by c.from_residual-in_err-given-in-Call.result p.0 _ (map site_view c.args.sites.now.items) (map site_view c.add_point-in-Call.new.sites.items) (stmt_events (inside (program_view c.args.program.now) c.args.path.now c.args.frame) c.args.path.now c.args.frame.live (stmt_view c.args.stmt.now)) ((inside (program_view c.args.program.now) c.args.path.now c.args.frame) c.args.path.now c.args.frame.live (call_view c.in-Call.call)) p.1 p.2 (λ x h. stmt_stopped (program_view c.args.program.now) c.args.path.now c.args.frame (map site_view c.args.sites.now.items) _ _ (stopped x) (ap stmt_view c.in-Call.is ∙ shown_call c.in-Call.label c.in-Call.call) (second_stopped (map site_view c.args.sites.now.items) (map site_view c.add_point-in-Call.new.sites.items) (plain_site c.args.path.now c.in-Call.label c.args.frame.live ∷ []) ((inside (program_view c.args.program.now) c.args.path.now c.args.frame) c.args.path.now c.args.frame.live (call_view c.in-Call.call)) x c.in_ok-point-in-Call.ensures.walked h)) c.in_err-given-in-Call.ensures.limit
+
+pub inline_stmt-returns-in_err-behind_point-in-Call-clause-written : goal.inline_stmt-returns-in_err-behind_point-in-Call-clause-written
+inline_stmt-returns-in_err-behind_point-in-Call-clause-written t c = let p = err_from_is_err_and c.from_residual-in_err-behind_point-in-Call.result c.from_residual-in_err-behind_point-in-Call.ensures.1 in ok_at_err c.from_residual-in_err-behind_point-in-Call.result p.0 _ p.1
+
+pub inline_stmt-returns-in_err-behind_point-in-Call-clause-limit : goal.inline_stmt-returns-in_err-behind_point-in-Call-clause-limit
+inline_stmt-returns-in_err-behind_point-in-Call-clause-limit t c = let p = err_from_is_err_and c.from_residual-in_err-behind_point-in-Call.result c.from_residual-in_err-behind_point-in-Call.ensures.1 in limit_memory c.from_residual-in_err-behind_point-in-Call.result p.0 _ p.1 p.2
+
+pub inline_stmt-returns-in_err-point-in-If-clause-written : goal.inline_stmt-returns-in_err-point-in-If-clause-written
+inline_stmt-returns-in_err-point-in-If-clause-written t c = let p = err_from_is_err_and c.from_residual-in_err-point-in-If.result c.from_residual-in_err-point-in-If.ensures.1 in ok_at_err c.from_residual-in_err-point-in-If.result p.0 _ p.1
+
+pub inline_stmt-returns-in_err-point-in-If-clause-limit : goal.inline_stmt-returns-in_err-point-in-If-clause-limit
+inline_stmt-returns-in_err-point-in-If-clause-limit t c = let p = err_from_is_err_and c.from_residual-in_err-point-in-If.result c.from_residual-in_err-point-in-If.ensures.1 in limit_by c.from_residual-in_err-point-in-If.result p.0 _ (map site_view c.args.sites.now.items) (map site_view c.args.sites.now.items) (stmt_events (inside (program_view c.args.program.now) c.args.path.now c.args.frame) c.args.path.now c.args.frame.live (stmt_view c.args.stmt.now)) (plain_site c.args.path.now c.in-If.label c.args.frame.live ∷ []) p.1 p.2 (λ x h. stmt_stopped (program_view c.args.program.now) c.args.path.now c.args.frame (map site_view c.args.sites.now.items) _ _ (stopped x) (ap stmt_view c.in-If.is ∙ shown_if c.in-If.label c.in-If.cond c.in-If.on_true c.in-If.on_false) (walk_stop (map site_view c.args.sites.now.items) (plain_site c.args.path.now c.in-If.label c.args.frame.live ∷ []) (stmt_events (inside (program_view c.args.program.now) c.args.path.now c.args.frame) c.args.path.now c.args.frame.live (stmt_view c.in-If.on_true.value) ++ stmt_events (inside (program_view c.args.program.now) c.args.path.now c.args.frame) c.args.path.now c.args.frame.live (stmt_view c.in-If.on_false.value)) x h)) c.in_err-point-in-If.ensures.limit
+
+pub inline_stmt-inline_stmt-requires : goal.inline_stmt-inline_stmt-requires
+inline_stmt-inline_stmt-requires t c = ?
+
+pub inline_stmt-returns-in_err-on_true-in-If-clause-written : goal.inline_stmt-returns-in_err-on_true-in-If-clause-written
+inline_stmt-returns-in_err-on_true-in-If-clause-written t c = let p = err_from_is_err_and c.from_residual-in_err-on_true-in-If.result c.from_residual-in_err-on_true-in-If.ensures.1 in ok_at_err c.from_residual-in_err-on_true-in-If.result p.0 _ p.1
+
+pub inline_stmt-returns-in_err-on_true-in-If-clause-limit : goal.inline_stmt-returns-in_err-on_true-in-If-clause-limit
+inline_stmt-returns-in_err-on_true-in-If-clause-limit t c = ?
+
+pub inline_stmt-inline_stmt-requires-in-If : goal.inline_stmt-inline_stmt-requires-in-If
+inline_stmt-inline_stmt-requires-in-If t c = ?
+
+pub inline_stmt-returns-in_err-on_false-in-If-clause-written : goal.inline_stmt-returns-in_err-on_false-in-If-clause-written
+inline_stmt-returns-in_err-on_false-in-If-clause-written t c = let p = err_from_is_err_and c.from_residual-in_err-on_false-in-If.result c.from_residual-in_err-on_false-in-If.ensures.1 in ok_at_err c.from_residual-in_err-on_false-in-If.result p.0 _ p.1
+
+pub inline_stmt-returns-in_err-on_false-in-If-clause-limit : goal.inline_stmt-returns-in_err-on_false-in-If-clause-limit
+inline_stmt-returns-in_err-on_false-in-If-clause-limit t c = ?
+
+pub inline_stmt-returns-in_err-chosen-in-If-clause-written : goal.inline_stmt-returns-in_err-chosen-in-If-clause-written
+inline_stmt-returns-in_err-chosen-in-If-clause-written t c = let p = err_from_is_err_and c.from_residual-in_err-chosen-in-If.result c.from_residual-in_err-chosen-in-If.ensures.1 in ok_at_err c.from_residual-in_err-chosen-in-If.result p.0 _ p.1
+
+pub inline_stmt-returns-in_err-chosen-in-If-clause-limit : goal.inline_stmt-returns-in_err-chosen-in-If-clause-limit
+inline_stmt-returns-in_err-chosen-in-If-clause-limit t c = let p = err_from_is_err_and c.from_residual-in_err-chosen-in-If.result c.from_residual-in_err-chosen-in-If.ensures.1 in limit_memory c.from_residual-in_err-chosen-in-If.result p.0 _ p.1 p.2
+
+pub inline_stmt-returns-in_err-behind_point-in-If-clause-written : goal.inline_stmt-returns-in_err-behind_point-in-If-clause-written
+inline_stmt-returns-in_err-behind_point-in-If-clause-written t c = let p = err_from_is_err_and c.from_residual-in_err-behind_point-in-If.result c.from_residual-in_err-behind_point-in-If.ensures.1 in ok_at_err c.from_residual-in_err-behind_point-in-If.result p.0 _ p.1
+
+pub inline_stmt-returns-in_err-behind_point-in-If-clause-limit : goal.inline_stmt-returns-in_err-behind_point-in-If-clause-limit
+inline_stmt-returns-in_err-behind_point-in-If-clause-limit t c = let p = err_from_is_err_and c.from_residual-in_err-behind_point-in-If.result c.from_residual-in_err-behind_point-in-If.ensures.1 in limit_memory c.from_residual-in_err-behind_point-in-If.result p.0 _ p.1 p.2
+
+pub inline_stmt-returns-in_err-point-in-Loop-clause-written : goal.inline_stmt-returns-in_err-point-in-Loop-clause-written
+inline_stmt-returns-in_err-point-in-Loop-clause-written t c = let p = err_from_is_err_and c.from_residual-in_err-point-in-Loop.result c.from_residual-in_err-point-in-Loop.ensures.1 in ok_at_err c.from_residual-in_err-point-in-Loop.result p.0 _ p.1
+
+pub inline_stmt-returns-in_err-point-in-Loop-clause-limit : goal.inline_stmt-returns-in_err-point-in-Loop-clause-limit
+inline_stmt-returns-in_err-point-in-Loop-clause-limit t c = let p = err_from_is_err_and c.from_residual-in_err-point-in-Loop.result c.from_residual-in_err-point-in-Loop.ensures.1 in limit_by c.from_residual-in_err-point-in-Loop.result p.0 _ (map site_view c.args.sites.now.items) (map site_view c.args.sites.now.items) (stmt_events (inside (program_view c.args.program.now) c.args.path.now c.args.frame) c.args.path.now c.args.frame.live (stmt_view c.args.stmt.now)) (plain_site c.args.path.now c.in-Loop.label c.args.frame.live ∷ []) p.1 p.2 (λ x h. stmt_stopped (program_view c.args.program.now) c.args.path.now c.args.frame (map site_view c.args.sites.now.items) _ _ (stopped x) (ap stmt_view c.in-Loop.is ∙ shown_loop c.in-Loop.label c.in-Loop.cond c.in-Loop.body c.in-Loop.step) (walk_stop (map site_view c.args.sites.now.items) (plain_site c.args.path.now c.in-Loop.label c.args.frame.live ∷ []) (stmt_events (inside (program_view c.args.program.now) c.args.path.now c.args.frame) c.args.path.now c.args.frame.live (stmt_view c.in-Loop.step.value) ++ stmt_events (inside (program_view c.args.program.now) c.args.path.now c.args.frame) c.args.path.now c.args.frame.live (stmt_view c.in-Loop.body.value)) x h)) c.in_err-point-in-Loop.ensures.limit
+
+pub inline_stmt-inline_loop-requires : goal.inline_stmt-inline_loop-requires
+inline_stmt-inline_loop-requires t c = ?
+
+pub inline_stmt-inline_for-requires : goal.inline_stmt-inline_for-requires
+inline_stmt-inline_for-requires t c = ?
+
+pub inline_stmt-leave_loop-requires : goal.inline_stmt-leave_loop-requires
+inline_stmt-leave_loop-requires t c = break_stands (program_view c.args.program.now) c.args.frame c.in-Break.label (subst (StmtStands (program_view c.args.program.now) c.args.frame) (ap stmt_view c.in-Break.is ∙ shown_break c.in-Break.label) c.requires.stands)
+
+pub inline_stmt-leave_loop-requires-in-Continue : goal.inline_stmt-leave_loop-requires-in-Continue
+inline_stmt-leave_loop-requires-in-Continue t c = continue_stands (program_view c.args.program.now) c.args.frame c.in-Continue.label (subst (StmtStands (program_view c.args.program.now) c.args.frame) (ap stmt_view c.in-Continue.is ∙ shown_continue c.in-Continue.label) c.requires.stands)
+
+pub inline_stmt-returns-in_err-point-in-Return-clause-written : goal.inline_stmt-returns-in_err-point-in-Return-clause-written
+inline_stmt-returns-in_err-point-in-Return-clause-written t c = let p = err_from_is_err_and c.from_residual-in_err-point-in-Return.result c.from_residual-in_err-point-in-Return.ensures.1 in ok_at_err c.from_residual-in_err-point-in-Return.result p.0 _ p.1
+
+pub inline_stmt-returns-in_err-point-in-Return-clause-limit : goal.inline_stmt-returns-in_err-point-in-Return-clause-limit
+inline_stmt-returns-in_err-point-in-Return-clause-limit t c = let p = err_from_is_err_and c.from_residual-in_err-point-in-Return.result c.from_residual-in_err-point-in-Return.ensures.1 in limit_by c.from_residual-in_err-point-in-Return.result p.0 _ (map site_view c.args.sites.now.items) (map site_view c.args.sites.now.items) (stmt_events (inside (program_view c.args.program.now) c.args.path.now c.args.frame) c.args.path.now c.args.frame.live (stmt_view c.args.stmt.now)) (plain_site c.args.path.now c.in-Return.label c.args.frame.live ∷ []) p.1 p.2 (λ x h. stmt_stopped (program_view c.args.program.now) c.args.path.now c.args.frame (map site_view c.args.sites.now.items) _ _ (stopped x) (ap stmt_view c.in-Return.is ∙ shown_return c.in-Return.label c.in-Return.source) (walk_stop (map site_view c.args.sites.now.items) (plain_site c.args.path.now c.in-Return.label c.args.frame.live ∷ []) (given_events (inside (program_view c.args.program.now) c.args.path.now c.args.frame) c.args.path.now c.args.frame.live (given_view c.in-Return.source)) x h)) c.in_err-point-in-Return.ensures.limit
+
+pub inline_stmt-inline_return-requires : goal.inline_stmt-inline_return-requires
+inline_stmt-inline_return-requires t c = ?
+
+pub inline_stmt-returns-in_err-left-in-Some-clause-written : goal.inline_stmt-returns-in_err-left-in-Some-clause-written
+inline_stmt-returns-in_err-left-in-Some-clause-written t c = let p = err_from_is_err_and c.from_residual-in_err-left-in-Some.result c.from_residual-in_err-left-in-Some.ensures.1 in ok_at_err c.from_residual-in_err-left-in-Some.result p.0 _ p.1
+
+pub inline_stmt-returns-in_err-left-in-Some-clause-limit : goal.inline_stmt-returns-in_err-left-in-Some-clause-limit
+inline_stmt-returns-in_err-left-in-Some-clause-limit t c = ?
+
+pub inline_stmt-inline_end-requires : goal.inline_stmt-inline_end-requires
+inline_stmt-inline_end-requires t c = ?
+
+pub inline_stmt-returns-in_err-left-in-None-clause-written : goal.inline_stmt-returns-in_err-left-in-None-clause-written
+inline_stmt-returns-in_err-left-in-None-clause-written t c = let p = err_from_is_err_and c.from_residual-in_err-left-in-None.result c.from_residual-in_err-left-in-None.ensures.1 in ok_at_err c.from_residual-in_err-left-in-None.result p.0 _ p.1
+
+pub inline_stmt-returns-in_err-left-in-None-clause-limit : goal.inline_stmt-returns-in_err-left-in-None-clause-limit
+inline_stmt-returns-in_err-left-in-None-clause-limit t c = ?
+
+pub inline_stmt-returns-in_err-behind_point-in-Return-clause-written : goal.inline_stmt-returns-in_err-behind_point-in-Return-clause-written
+inline_stmt-returns-in_err-behind_point-in-Return-clause-written t c = let p = err_from_is_err_and c.from_residual-in_err-behind_point-in-Return.result c.from_residual-in_err-behind_point-in-Return.ensures.1 in ok_at_err c.from_residual-in_err-behind_point-in-Return.result p.0 _ p.1
+
+pub inline_stmt-returns-in_err-behind_point-in-Return-clause-limit : goal.inline_stmt-returns-in_err-behind_point-in-Return-clause-limit
+inline_stmt-returns-in_err-behind_point-in-Return-clause-limit t c = let p = err_from_is_err_and c.from_residual-in_err-behind_point-in-Return.result c.from_residual-in_err-behind_point-in-Return.ensures.1 in limit_memory c.from_residual-in_err-behind_point-in-Return.result p.0 _ p.1 p.2
+
+pub inline_stmt-returns-in-Absent-clause-written : goal.inline_stmt-returns-in-Absent-clause-written
+inline_stmt-returns-in-Absent-clause-written t c = stmt_as (program_view c.args.program.now) c.args.path.now c.args.frame _ _ _ _ _ _ (ap stmt_view c.in-Absent.is ∙ shown_absent) shown_empty (absent_written (program_view c.args.program.now) c.args.path.now c.args.frame _)
+
+pub inline_stmt-returns-in_ok-point-in-Nothing-clause-written : goal.inline_stmt-returns-in_ok-point-in-Nothing-clause-written
+inline_stmt-returns-in_ok-point-in-Nothing-clause-written t c = stmt_as (program_view c.args.program.now) c.args.path.now c.args.frame _ _ _ _ _ _ (ap stmt_view c.in-Nothing.is ∙ shown_nothing c.in-Nothing.label) (shown_point c.in_ok-point-in-Nothing.point) (nothing_written (program_view c.args.program.now) c.args.path.now c.args.frame _ _ c.in_ok-point-in-Nothing.point c.in-Nothing.label c.in_ok-point-in-Nothing.ensures.number c.in_ok-point-in-Nothing.ensures.walked)
+
+pub inline_stmt-returns-in_ok-in_turn-in-Block-clause-written : goal.inline_stmt-returns-in_ok-in_turn-in-Block-clause-written
+inline_stmt-returns-in_ok-in_turn-in-Block-clause-written t c = stmt_as (program_view c.args.program.now) c.args.path.now c.args.frame _ _ _ _ _ _ (ap stmt_view c.in-Block.is ∙ shown_block c.in-Block.items c.in-Block.end) refl (block_written (program_view c.args.program.now) c.args.path.now c.args.frame _ _ _ c.in_ok-point-in-Block.point c.in_ok-items-in-Block.last c.in-Block.end _ _ _ _ (rw c.deref.ensures.value at c.in_ok-items-in-Block.ensures.written) (rw c.deref.ensures.value at c.in_ok-items-in-Block.ensures.last) c.in_ok-point-in-Block.ensures.number c.in_ok-point-in-Block.ensures.walked c.in_ok-end-in-Block.ensures c.in_ok-in_turn-in-Block.ensures)
+
+pub inline_stmt-returns-in_ok-behind_point-in-Assign-clause-written : goal.inline_stmt-returns-in_ok-behind_point-in-Assign-clause-written
+inline_stmt-returns-in_ok-behind_point-in-Assign-clause-written t c = stmt_as (program_view c.args.program.now) c.args.path.now c.args.frame _ _ _ _ _ _ (ap stmt_view c.in-Assign.is ∙ shown_assign c.in-Assign.label c.in-Assign.slot c.in-Assign.source) refl (assign_written (program_view c.args.program.now) c.args.path.now c.args.frame _ _ _ c.in_ok-point-in-Assign.point c.in-Assign.label c.place_of.result (slot_view c.in-Assign.slot) (source_view c.in-Assign.source) _ _ c.in_ok-point-in-Assign.ensures.number c.in_ok-point-in-Assign.ensures.walked c.place_of.ensures c.in_ok-given-in-Assign.ensures.written c.in_ok-behind_point-in-Assign.ensures)
+
+pub inline_stmt-returns-in_ok-behind_point-in-Call-clause-written : goal.inline_stmt-returns-in_ok-behind_point-in-Call-clause-written
+inline_stmt-returns-in_ok-behind_point-in-Call-clause-written t c = stmt_as (program_view c.args.program.now) c.args.path.now c.args.frame _ _ _ _ _ _ (ap stmt_view c.in-Call.is ∙ shown_call c.in-Call.label c.in-Call.call) refl (call_written (program_view c.args.program.now) c.args.path.now c.args.frame _ _ _ c.in_ok-point-in-Call.point c.in-Call.label (call_view c.in-Call.call) _ _ c.in_ok-point-in-Call.ensures.number c.in_ok-point-in-Call.ensures.walked c.in_ok-given-in-Call.ensures.written c.in_ok-behind_point-in-Call.ensures)
+
+pub inline_stmt-returns-in_ok-behind_point-in-If-clause-written : goal.inline_stmt-returns-in_ok-behind_point-in-If-clause-written
+inline_stmt-returns-in_ok-behind_point-in-If-clause-written t c = stmt_as (program_view c.args.program.now) c.args.path.now c.args.frame _ _ _ _ _ _ (ap stmt_view c.in-If.is ∙ shown_if c.in-If.label c.in-If.cond c.in-If.on_true c.in-If.on_false) refl (if_written (program_view c.args.program.now) c.args.path.now c.args.frame _ _ _ _ c.in_ok-point-in-If.point c.in-If.label (cond_view c.in-If.cond) (stmt_view c.in-If.on_true.value) (stmt_view c.in-If.on_false.value) _ _ _ _ c.in_ok-point-in-If.ensures.number c.in_ok-point-in-If.ensures.walked (rw c.deref-in-If.ensures at c.in_ok-on_true-in-If.ensures.written) (rw c.deref-in-If-2.ensures at c.in_ok-on_false-in-If.ensures.written) c.in_ok-chosen-in-If.ensures c.in_ok-behind_point-in-If.ensures)
+
+pub inline_stmt-returns-in_ok-point-in-Loop-clause-written : goal.inline_stmt-returns-in_ok-point-in-Loop-clause-written
+inline_stmt-returns-in_ok-point-in-Loop-clause-written t c = ?
+
+pub inline_stmt-returns-in_ok-point-in-Loop-clause-limit : goal.inline_stmt-returns-in_ok-point-in-Loop-clause-limit
+inline_stmt-returns-in_ok-point-in-Loop-clause-limit t c = ?
+
+pub inline_stmt-returns-in-For-clause-written : goal.inline_stmt-returns-in-For-clause-written
+inline_stmt-returns-in-For-clause-written t c = ?
+
+pub inline_stmt-returns-in-For-clause-limit : goal.inline_stmt-returns-in-For-clause-limit
+inline_stmt-returns-in-For-clause-limit t c = ?
+
+pub inline_stmt-returns-in-Break-clause-written : goal.inline_stmt-returns-in-Break-clause-written
+inline_stmt-returns-in-Break-clause-written t c = ?
+
+pub inline_stmt-returns-in-Break-clause-limit : goal.inline_stmt-returns-in-Break-clause-limit
+inline_stmt-returns-in-Break-clause-limit t c = ?
+
+pub inline_stmt-returns-in-Continue-clause-written : goal.inline_stmt-returns-in-Continue-clause-written
+inline_stmt-returns-in-Continue-clause-written t c = ?
+
+pub inline_stmt-returns-in-Continue-clause-limit : goal.inline_stmt-returns-in-Continue-clause-limit
+inline_stmt-returns-in-Continue-clause-limit t c = ?
+
+pub inline_stmt-returns-in_ok-behind_point-in-Return-clause-written : goal.inline_stmt-returns-in_ok-behind_point-in-Return-clause-written
+inline_stmt-returns-in_ok-behind_point-in-Return-clause-written t c = ?
+
+pub inline_stmt-returns-in-Assert-clause-written : goal.inline_stmt-returns-in-Assert-clause-written
+inline_stmt-returns-in-Assert-clause-written t c = ?
+
+pub inline_stmt-returns-in-Assert-clause-limit : goal.inline_stmt-returns-in-Assert-clause-limit
+inline_stmt-returns-in-Assert-clause-limit t c = ?
+
+pub inline_stmt-returns-in-Assume-clause-written : goal.inline_stmt-returns-in-Assume-clause-written
+inline_stmt-returns-in-Assume-clause-written t c = ?
+
+pub inline_stmt-returns-in-Assume-clause-limit : goal.inline_stmt-returns-in-Assume-clause-limit
+inline_stmt-returns-in-Assume-clause-limit t c = ?
