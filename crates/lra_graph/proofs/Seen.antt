@@ -1,11 +1,12 @@
 -- What holds of a part holds of it as the code sees it, behind its references.
-use Rattle.std.proofs.Common.{◌≡◌, ℕ, List, ◌++◌, Option, sym, subst}
+use Rattle.std.proofs.Common.{◌≡◌, ℕ, List, ◌++◌, Option, Result, sym, subst}
 use Rattle.lra_tree.specs.Program.{Cond, Source, Stmt, for, BlockItems, Program}
 use Rattle.lra_tree.specs.Graph.{Node}
-use Rattle.lra_tree.specs.Sites.{Site, stmt_events, items_events}
+use Rattle.lra_tree.specs.Sites.{Site, given_events, stmt_events, items_events}
 use Rattle.lra_graph.specs.declared.frame.Frame.{Frame}
-use Rattle.lra_graph.specs.Limits.{Progress, walk}
-use Rattle.lra_graph.specs.Building.{StmtStands, ItemsStand, inside, WritesLoop, WritesReturn}
+use Rattle.lra_graph.specs.declared.points.GraphError.{GraphError}
+use Rattle.lra_graph.specs.Limits.{Progress, walk, stopped, OnLimit}
+use Rattle.lra_graph.specs.Building.{StmtStands, ItemsStand, GivenStands, inside, WritesLoop, WritesReturn}
 
 module _ (P : Program) (r : Frame) where
   pub stmt_seen : (s s' : Stmt) → s' ≡ s → StmtStands P r s → StmtStands P r s'
@@ -16,6 +17,16 @@ module _ (P : Program) (r : Frame) where
 
   pub for_seen : (b b' : BlockItems) (s s' : Stmt) → b' ≡ b → s' ≡ s → StmtStands P r (for b s) → StmtStands P r (for b' s')
   for_seen b b' s s' e f x = subst (λ z. StmtStands P r (for z s')) (sym e) (subst (λ z. StmtStands P r (for b z)) (sym f) x)
+
+  pub given_seen : (o o' : Option Source) → o ≡ o' → GivenStands P r o → GivenStands P r o'
+  given_seen o o' e x = subst (λ z. GivenStands P r z) e x
+
+  pub given_limit : {A : Type 0} (path : List ℕ) (S : List Site) (b : Result A GraphError) (o o' : Option Source) → o ≡ o' → OnLimit b (λ x. walk S (given_events (inside P path r) path r.live o') ≡ stopped x)
+      → OnLimit b (λ x. walk S (given_events (inside P path r) path r.live o) ≡ stopped x)
+  given_limit path S b o o' e h = subst (λ z. OnLimit b (λ x. walk S (given_events (inside P path r) path r.live z) ≡ stopped x)) (sym e) h
+
+  pub given_returned : (path : List ℕ) (S U : List Site) (q : ℕ) (o o' : Option Source) (g : Node) → o ≡ o' → WritesReturn P path r q S o' g U → WritesReturn P path r q S o g U
+  given_returned path S U q o o' g e x = subst (λ z. WritesReturn P path r q S z g U) (sym e) x
 
   module _ (path : List ℕ) (S : List Site) (w : Progress) where
     pub stmt_walked : (n : ℕ) (s s' : Stmt) → s' ≡ s → walk S (stmt_events (inside P path r) path n s') ≡ w → walk S (stmt_events (inside P path r) path n s) ≡ w

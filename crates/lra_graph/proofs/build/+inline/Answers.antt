@@ -2,7 +2,7 @@
 use Rattle.std.proofs.Common.{◌≡◌, ◌+◌, ◌++◌, ◌∷◌, [], map, refl, ap, ◌∙◌, subst, arith, Some, None, Vec, Global}
 use Rattle.std.proofs.lemmas.Result.{err_from_is_err_and}
 use Rattle.lra_tree.specs.declared.graph.Site.{Site}
-use Rattle.lra_tree.specs.Program.{loop, for, break, continue, assert, assume}
+use Rattle.lra_tree.specs.Program.{value, result, loop, for, break, continue, assert, assume}
 use Rattle.lra_tree.specs.Step.{give}
 use Rattle.lra_tree.specs.Graph.{act, seq}
 use Rattle.lra_tree.specs.Inlined.{return_node}
@@ -15,9 +15,9 @@ use Rattle.lra_graph.proofs.Walking.{walk_stop, walk_then}
 use Rattle.lra_graph.proofs.Stopping.{ok_at_err, limit_memory, limit_by, stmt_stopped, second_stopped, middle_stopped, third_stopped, for_too_many, for_at_point, for_at_begin, for_at_round}
 use Rattle.lra_graph.proofs.Handed.{stmt_limit, loop_limit, for_limit, loop_handed, for_handed, break_handed, continue_handed, any_handed}
 use Rattle.lra_graph.proofs.Falling.{part_falls, block_falls, assign_falls, call_falls, true_falls, false_falls, loop_falls, for_falls, return_falls, step_falls, body_falls, init_falls, again_falls}
-use Rattle.lra_graph.proofs.Seen.{stmt_seen, items_seen, for_seen, stmt_walked, items_walked, round_walked, loop_seen, return_seen}
+use Rattle.lra_graph.proofs.Seen.{given_seen, given_limit, given_returned, stmt_seen, items_seen, for_seen, stmt_walked, items_walked, round_walked, loop_seen, return_seen}
 use Rattle.lra_graph.proofs.ForLoops.{only_loops}
-use Rattle.lra_graph.proofs.Shown.{shown_empty, shown_point, shown_act, shown_leave, shown_absent, shown_nothing, shown_block, shown_assign, shown_call, shown_if, shown_loop, shown_for, shown_return, shown_break, shown_continue, shown_assert, shown_assume}
+use Rattle.lra_graph.proofs.Shown.{shown_value, shown_result, shown_empty, shown_point, shown_act, shown_leave, shown_absent, shown_nothing, shown_block, shown_assign, shown_call, shown_if, shown_loop, shown_for, shown_return, shown_break, shown_continue, shown_assert, shown_assume}
 use Rattle.lra_graph.proofs.Writing.{stmt_as, absent_written, nothing_written, block_written, assign_written, call_written, if_written, rounds_written, fresh_written, given_written, value_written, return_any_written, end_any_written, for_written, return_written, return_value_written, return_call_written, end_value_written, end_call_written}
 use Rattle.lra_graph.proofs.Standing.{assigned_fits, block_stands, assign_stands, call_stands, true_stands, false_stands, return_stands, result_stands, body_stands, step_stands, init_stands, for_again, break_stands, continue_stands}
 use Rattle.lra_graph.proofs.build.+inline.Goals as goal
@@ -93,13 +93,13 @@ pub inline_declared-returns-in_ok-behind-in-Some-clause-written : goal.inline_de
 inline_declared-returns-in_ok-behind-in-Some-clause-written t c = rw c.in-Some.is (given_written (program_view c.args.program.now) c.args.path.now c.args.frame _ _ c.args.point (c.args.frame.live + 1) (source_view c.in-Some.source) _ _ (omega arith) c.in_ok-given-in-Some.ensures.written c.in_ok-behind-in-Some.ensures)
 
 pub inline_end-inline_call-requires : goal.inline_end-inline_call-requires
-inline_end-inline_call-requires t c = (part_falls (program_view c.args.program.now) c.args.frame.calls_left t 2 4 c.decreases (omega arith), (c.requires.well, (omega (arith, c.requires.few), result_stands (program_view c.args.program.now) c.args.frame (call_view c.in-Some-Result.call) (rw (c.in-Some-Result.is ∙ ap (λ z. Some z) c.in-Some-Result.field-0-is) at c.requires.stands))))
+inline_end-inline_call-requires t c = (part_falls (program_view c.args.program.now) c.args.frame.calls_left t 2 4 c.decreases (omega arith), (c.requires.well, (omega (arith, c.requires.few), result_stands (program_view c.args.program.now) c.args.frame (call_view c.in-Some-Result.call) (given_seen (program_view c.args.program.now) c.args.frame (given_view c.args.source.now) (Some (result (call_view c.in-Some-Result.call))) (shown_result c.args.source.now c.in-Some-Result.field-0 c.in-Some-Result.call c.in-Some-Result.is c.in-Some-Result.field-0-is) c.requires.stands))))
 
 pub inline_end-returns-in_err-given-in-Some-Result-clause-written : goal.inline_end-returns-in_err-given-in-Some-Result-clause-written
 inline_end-returns-in_err-given-in-Some-Result-clause-written t c = let p = err_from_is_err_and c.from_residual.result c.from_residual.ensures.1 in ok_at_err c.from_residual.result p.0 _ p.1
 
 pub inline_end-returns-in_err-given-in-Some-Result-clause-limit : goal.inline_end-returns-in_err-given-in-Some-Result-clause-limit
-inline_end-returns-in_err-given-in-Some-Result-clause-limit t c = let p = err_from_is_err_and c.from_residual.result c.from_residual.ensures.1 in rw (c.in-Some-Result.is ∙ ap (λ z. Some z) c.in-Some-Result.field-0-is) (limit_by c.from_residual.result p.0 _ (map site_view c.args.sites.now.items) (map site_view c.args.sites.now.items) ((inside (program_view c.args.program.now) c.args.path.now c.args.frame) c.args.path.now c.args.frame.live (call_view c.in-Some-Result.call)) ((inside (program_view c.args.program.now) c.args.path.now c.args.frame) c.args.path.now c.args.frame.live (call_view c.in-Some-Result.call)) p.1 p.2 (λ x h. h) c.in_err-given-in-Some-Result.ensures.limit)
+inline_end-returns-in_err-given-in-Some-Result-clause-limit t c = let p = err_from_is_err_and c.from_residual.result c.from_residual.ensures.1 in given_limit (program_view c.args.program.now) c.args.frame c.args.path.now (map site_view c.args.sites.now.items) c.from_residual.result (given_view c.args.source.now) (Some (result (call_view c.in-Some-Result.call))) (shown_result c.args.source.now c.in-Some-Result.field-0 c.in-Some-Result.call c.in-Some-Result.is c.in-Some-Result.field-0-is) (limit_by c.from_residual.result p.0 _ (map site_view c.args.sites.now.items) (map site_view c.args.sites.now.items) ((inside (program_view c.args.program.now) c.args.path.now c.args.frame) c.args.path.now c.args.frame.live (call_view c.in-Some-Result.call)) ((inside (program_view c.args.program.now) c.args.path.now c.args.frame) c.args.path.now c.args.frame.live (call_view c.in-Some-Result.call)) p.1 p.2 (λ x h. h) c.in_err-given-in-Some-Result.ensures.limit)
 
 pub inline_end-returns-in_err-in_turn-in-Some-Result-clause-written : goal.inline_end-returns-in_err-in_turn-in-Some-Result-clause-written
 inline_end-returns-in_err-in_turn-in-Some-Result-clause-written t c = let p = err_from_is_err_and c.from_residual-in_err-in_turn-in-Some-Result.result c.from_residual-in_err-in_turn-in-Some-Result.ensures.1 in ok_at_err c.from_residual-in_err-in_turn-in-Some-Result.result p.0 _ p.1
@@ -108,10 +108,10 @@ pub inline_end-returns-in_err-in_turn-in-Some-Result-clause-limit : goal.inline_
 inline_end-returns-in_err-in_turn-in-Some-Result-clause-limit t c = let p = err_from_is_err_and c.from_residual-in_err-in_turn-in-Some-Result.result c.from_residual-in_err-in_turn-in-Some-Result.ensures.1 in limit_memory c.from_residual-in_err-in_turn-in-Some-Result.result p.0 _ p.1 p.2
 
 pub inline_end-returns-in_ok-in_turn-in-Some-Result-clause-written : goal.inline_end-returns-in_ok-in_turn-in-Some-Result-clause-written
-inline_end-returns-in_ok-in_turn-in-Some-Result-clause-written t c = rw (c.in-Some-Result.is ∙ ap (λ z. Some z) c.in-Some-Result.field-0-is) (end_call_written (program_view c.args.program.now) c.args.path.now c.args.frame _ c.args.point c.requires.back _ (call_view c.in-Some-Result.call) _ _ c.in_ok-given-in-Some-Result.ensures.written (c.in_ok-in_turn-in-Some-Result.ensures ∙ ap (λ z. seq (node_view c.in_ok-given-in-Some-Result.given) z) (shown_leave c.args.frame.live _)))
+inline_end-returns-in_ok-in_turn-in-Some-Result-clause-written t c = given_returned (program_view c.args.program.now) c.args.frame c.args.path.now _ _ c.args.point (given_view c.args.source.now) (Some (result (call_view c.in-Some-Result.call))) _ (shown_result c.args.source.now c.in-Some-Result.field-0 c.in-Some-Result.call c.in-Some-Result.is c.in-Some-Result.field-0-is) (end_call_written (program_view c.args.program.now) c.args.path.now c.args.frame _ c.args.point c.requires.back _ (call_view c.in-Some-Result.call) _ _ c.in_ok-given-in-Some-Result.ensures.written (c.in_ok-in_turn-in-Some-Result.ensures ∙ ap (λ z. seq (node_view c.in_ok-given-in-Some-Result.given) z) (shown_leave c.args.frame.live _)))
 
 pub inline_end-returns-in-Some-Value-clause-written : goal.inline_end-returns-in-Some-Value-clause-written
-inline_end-returns-in-Some-Value-clause-written t c = rw (c.in-Some-Value.is ∙ ap (λ z. Some z) c.in-Some-Value.field-0-is) (end_value_written (program_view c.args.program.now) c.args.path.now c.args.frame _ c.args.point c.requires.back _ _ (shown_leave c.args.frame.live _))
+inline_end-returns-in-Some-Value-clause-written t c = given_returned (program_view c.args.program.now) c.args.frame c.args.path.now _ _ c.args.point (given_view c.args.source.now) (Some (value (expr_view c.in-Some-Value.field-0-0))) _ (shown_value c.args.source.now c.in-Some-Value.field-0 c.in-Some-Value.field-0-0 c.in-Some-Value.is c.in-Some-Value.field-0-is) (end_value_written (program_view c.args.program.now) c.args.path.now c.args.frame _ c.args.point c.requires.back (expr_view c.in-Some-Value.field-0-0) _ (shown_leave c.args.frame.live _))
 
 pub inline_end-returns-in-None-clause-written : goal.inline_end-returns-in-None-clause-written
 inline_end-returns-in-None-clause-written t c = rw c.in-None.is (end_any_written (program_view c.args.program.now) c.args.path.now c.args.frame _ c.args.point c.requires.back _ (shown_leave c.args.frame.live _))
@@ -345,13 +345,13 @@ pub inline_return-returns-in_err-returned-in-Some-Value-clause-limit : goal.inli
 inline_return-returns-in_err-returned-in-Some-Value-clause-limit t c = let p = err_from_is_err_and c.from_residual-in_err-returned-in-Some-Value.result c.from_residual-in_err-returned-in-Some-Value.ensures.1 in limit_memory c.from_residual-in_err-returned-in-Some-Value.result p.0 _ p.1 p.2
 
 pub inline_return-inline_call-requires : goal.inline_return-inline_call-requires
-inline_return-inline_call-requires t c = (part_falls (program_view c.args.program.now) c.args.frame.calls_left t 2 4 c.decreases (omega arith), (c.requires.well, (omega (arith, c.requires.few), result_stands (program_view c.args.program.now) c.args.frame (call_view c.in-Some-Result.call) (rw (c.in-Some-Result.is ∙ ap (λ z. Some z) c.in-Some-Result.field-0-is) at c.requires.stands))))
+inline_return-inline_call-requires t c = (part_falls (program_view c.args.program.now) c.args.frame.calls_left t 2 4 c.decreases (omega arith), (c.requires.well, (omega (arith, c.requires.few), result_stands (program_view c.args.program.now) c.args.frame (call_view c.in-Some-Result.call) (given_seen (program_view c.args.program.now) c.args.frame (given_view c.args.source.now) (Some (result (call_view c.in-Some-Result.call))) (shown_result c.args.source.now c.in-Some-Result.field-0 c.in-Some-Result.call c.in-Some-Result.is c.in-Some-Result.field-0-is) c.requires.stands))))
 
 pub inline_return-returns-in_err-given-in-Some-Result-clause-written : goal.inline_return-returns-in_err-given-in-Some-Result-clause-written
 inline_return-returns-in_err-given-in-Some-Result-clause-written t c = let p = err_from_is_err_and c.from_residual-in_err-given-in-Some-Result.result c.from_residual-in_err-given-in-Some-Result.ensures.1 in ok_at_err c.from_residual-in_err-given-in-Some-Result.result p.0 _ p.1
 
 pub inline_return-returns-in_err-given-in-Some-Result-clause-limit : goal.inline_return-returns-in_err-given-in-Some-Result-clause-limit
-inline_return-returns-in_err-given-in-Some-Result-clause-limit t c = let p = err_from_is_err_and c.from_residual-in_err-given-in-Some-Result.result c.from_residual-in_err-given-in-Some-Result.ensures.1 in rw (c.in-Some-Result.is ∙ ap (λ z. Some z) c.in-Some-Result.field-0-is) (limit_by c.from_residual-in_err-given-in-Some-Result.result p.0 _ (map site_view c.args.sites.now.items) (map site_view c.args.sites.now.items) ((inside (program_view c.args.program.now) c.args.path.now c.args.frame) c.args.path.now c.args.frame.live (call_view c.in-Some-Result.call)) ((inside (program_view c.args.program.now) c.args.path.now c.args.frame) c.args.path.now c.args.frame.live (call_view c.in-Some-Result.call)) p.1 p.2 (λ x h. h) c.in_err-given-in-Some-Result.ensures.limit)
+inline_return-returns-in_err-given-in-Some-Result-clause-limit t c = let p = err_from_is_err_and c.from_residual-in_err-given-in-Some-Result.result c.from_residual-in_err-given-in-Some-Result.ensures.1 in given_limit (program_view c.args.program.now) c.args.frame c.args.path.now (map site_view c.args.sites.now.items) c.from_residual-in_err-given-in-Some-Result.result (given_view c.args.source.now) (Some (result (call_view c.in-Some-Result.call))) (shown_result c.args.source.now c.in-Some-Result.field-0 c.in-Some-Result.call c.in-Some-Result.is c.in-Some-Result.field-0-is) (limit_by c.from_residual-in_err-given-in-Some-Result.result p.0 _ (map site_view c.args.sites.now.items) (map site_view c.args.sites.now.items) ((inside (program_view c.args.program.now) c.args.path.now c.args.frame) c.args.path.now c.args.frame.live (call_view c.in-Some-Result.call)) ((inside (program_view c.args.program.now) c.args.path.now c.args.frame) c.args.path.now c.args.frame.live (call_view c.in-Some-Result.call)) p.1 p.2 (λ x h. h) c.in_err-given-in-Some-Result.ensures.limit)
 
 pub inline_return-returns-in_err-leave-in-Some-Result-clause-written : goal.inline_return-returns-in_err-leave-in-Some-Result-clause-written
 inline_return-returns-in_err-leave-in-Some-Result-clause-written t c = let p = err_from_is_err_and c.from_residual-in_err-leave-in-Some-Result.result c.from_residual-in_err-leave-in-Some-Result.ensures.1 in ok_at_err c.from_residual-in_err-leave-in-Some-Result.result p.0 _ p.1
@@ -369,10 +369,10 @@ pub inline_return-returns-in_ok-returned-in-None-clause-written : goal.inline_re
 inline_return-returns-in_ok-returned-in-None-clause-written t c = rw c.in-None.is (return_any_written (program_view c.args.program.now) c.args.path.now c.args.frame _ c.args.point c.args.back c.requires.back (c.requires.stands.back_low c.args.back c.requires.back) _ c.in_ok-returned-in-None.ensures)
 
 pub inline_return-returns-in_ok-returned-in-Some-Value-clause-written : goal.inline_return-returns-in_ok-returned-in-Some-Value-clause-written
-inline_return-returns-in_ok-returned-in-Some-Value-clause-written t c = rw (c.in-Some-Value.is ∙ ap (λ z. Some z) c.in-Some-Value.field-0-is) (return_value_written (program_view c.args.program.now) c.args.path.now c.args.frame _ c.args.point c.args.back c.requires.back (c.requires.stands.back_low c.args.back c.requires.back) (expr_view c.in-Some-Value.value) _ (c.in_ok-returned-in-Some-Value.ensures ∙ ap (λ z. return_node c.args.point (give c.args.frame.base c.args.back.target z) c.args.back.length c.args.frame.live) c.in_ok-copy-in-Some-Value.ensures))
+inline_return-returns-in_ok-returned-in-Some-Value-clause-written t c = given_returned (program_view c.args.program.now) c.args.frame c.args.path.now _ _ c.args.point (given_view c.args.source.now) (Some (value (expr_view c.in-Some-Value.value))) _ (shown_value c.args.source.now c.in-Some-Value.field-0 c.in-Some-Value.value c.in-Some-Value.is c.in-Some-Value.field-0-is) (return_value_written (program_view c.args.program.now) c.args.path.now c.args.frame _ c.args.point c.args.back c.requires.back (c.requires.stands.back_low c.args.back c.requires.back) (expr_view c.in-Some-Value.value) _ (c.in_ok-returned-in-Some-Value.ensures ∙ ap (λ z. return_node c.args.point (give c.args.frame.base c.args.back.target z) c.args.back.length c.args.frame.live) c.in_ok-copy-in-Some-Value.ensures))
 
 pub inline_return-returns-in_ok-in_turn-in-Some-Result-clause-written : goal.inline_return-returns-in_ok-in_turn-in-Some-Result-clause-written
-inline_return-returns-in_ok-in_turn-in-Some-Result-clause-written t c = rw (c.in-Some-Result.is ∙ ap (λ z. Some z) c.in-Some-Result.field-0-is) (return_call_written (program_view c.args.program.now) c.args.path.now c.args.frame _ c.args.point c.args.back c.requires.back (c.requires.stands.back_low c.args.back c.requires.back) _ (call_view c.in-Some-Result.call) _ _ _ c.in_ok-given-in-Some-Result.ensures.written c.in_ok-leave-in-Some-Result.ensures c.in_ok-in_turn-in-Some-Result.ensures)
+inline_return-returns-in_ok-in_turn-in-Some-Result-clause-written t c = given_returned (program_view c.args.program.now) c.args.frame c.args.path.now _ _ c.args.point (given_view c.args.source.now) (Some (result (call_view c.in-Some-Result.call))) _ (shown_result c.args.source.now c.in-Some-Result.field-0 c.in-Some-Result.call c.in-Some-Result.is c.in-Some-Result.field-0-is) (return_call_written (program_view c.args.program.now) c.args.path.now c.args.frame _ c.args.point c.args.back c.requires.back (c.requires.stands.back_low c.args.back c.requires.back) _ (call_view c.in-Some-Result.call) _ _ _ c.in_ok-given-in-Some-Result.ensures.written c.in_ok-leave-in-Some-Result.ensures c.in_ok-in_turn-in-Some-Result.ensures)
 
 pub inline_source-returns-in_err-value-in-Value-clause-written : goal.inline_source-returns-in_err-value-in-Value-clause-written
 inline_source-returns-in_err-value-in-Value-clause-written t c = let p = err_from_is_err_and c.from_residual.result c.from_residual.ensures.1 in ok_at_err c.from_residual.result p.0 _ p.1
