@@ -15,6 +15,7 @@ pub mod DistinctSites
 -- Parts of a program written out: their points, their trees, and where a limit stops them.
 pub mod Walking
 pub mod Writing
+pub mod Calling
 pub mod Stopping
 pub mod Handed
 pub mod Totals
@@ -26,3 +27,7 @@ pub mod Seen
 pub mod ForLoops
 pub mod Sizes
 pub mod Falling
+pub mod Items
+pub mod Programs
+-- What labels say of a limit's place.
+pub mod LabelPlaces

@@ -45,6 +45,9 @@ pub limit_by : {A : Type 0} (b : Result A GraphError) (d e : GraphError) (S V : 
     → OnError e (λ x. walk V fs ≡ stopped x) → OnLimit b (λ x. walk S es ≡ stopped x)
 limit_by b d e S V es fs i j f h = rw (i, j) (error_as e (λ x. walk V fs ≡ stopped x) (λ x. walk S es ≡ stopped x) f h)
 
+pub limit_to : {A : Type 0} (b : Result A GraphError) (d e : GraphError) (X Y : Limit → Type 0) → b ≡ Err d → d ≡ e → ((x : Limit) → X x → Y x) → OnError e X → OnLimit b Y
+limit_to b d e X Y i j f h = rw (i, j) (error_as e X Y f h)
+
 -- what a call answers is handed on -----------------------------------------------------------------------------------
 
 pub ok_through : {A E : Type 0} (b : Result A E) (X Y : A → Type 0) → ((a : A) → X a → Y a) → IfOk b X → IfOk b Y

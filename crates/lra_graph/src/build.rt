@@ -1,6 +1,10 @@
 //! Calls written out: the tree of a program and its points. A call is written out where it stands, so a function that is called twice has its
 //! points twice, under two paths.
 
+mod whole;
+
+pub use whole::build_graph;
+
 ghost use Rattle.std.specs.Prelude.{◌≡◌, ◌<◌, ◌≤◌, ◌+◌, ◌^◌, ◌++◌, ◌∷◌, ℕ, [], length, map, IfOk, MatchOption, Option, true};
 ghost use Rattle.lra_tree.specs.Program as resolved;
 ghost use Rattle.lra_tree.specs.Sites.{comes, plain_site, live_behind, stmt_events, items_events, source_events, given_events, call_events};
@@ -195,25 +199,29 @@ fn inline_items(
     ensures written { IfOk result (λ r. WritesItems (program_view program.now) path.now frame (map site_view sites.old.items) (items_of (map item_view items.now)) (node_view r.0) (map site_view sites.new.items)) }
     ensures limit { OnLimit result (λ x. walk (map site_view sites.old.items) (items_events (inside (program_view program.now) path.now frame) path.now frame.live (items_of (map item_view items.now))) ≡ stopped x) }
 {
-    match items {
-        [] => Ok((Node::Empty, frame.live)),
-        [BlockItem::Declaration(declarator), rest @ ..] => {
-            let point = add_point(alloc, path, declarator.label, frame.live, false, sites)?;
-            let source = &declarator.source;
-            let given = inline_declared(alloc, program, path, frame, point, source, sites)?;
-            let declared = behind_point(alloc, point, given)?;
-            let behind = Frame {
-                live: frame.live + 1,
-                ..frame
-            };
-            let (others, last) = inline_items(alloc, program, path, behind, rest, sites)?;
-            Ok((in_turn(alloc, declared, others)?, last))
-        }
-        [BlockItem::Statement(stmt), rest @ ..] => {
-            let first = inline_stmt(alloc, program, path, frame, stmt, sites)?;
-            let (others, last) = inline_items(alloc, program, path, frame, rest, sites)?;
-            Ok((in_turn(alloc, first, others)?, last))
-        }
+    match items.split_first() {
+        None => Ok((Node::Empty, frame.live)),
+        Some((item, rest)) => match item {
+            BlockItem::Declaration(declarator) => {
+                let point = add_point(alloc, path, declarator.label, frame.live, false, sites)?;
+                let source = &declarator.source;
+                let given = inline_declared(alloc, program, path, frame, point, source, sites)?;
+                let declared = behind_point(alloc, point, given)?;
+                let behind = Frame {
+                    live: frame.live + 1,
+                    ..frame
+                };
+                let (others, last) = inline_items(alloc, program, path, behind, rest, sites)?;
+                let all = in_turn(alloc, declared, others)?;
+                Ok((all, last))
+            }
+            BlockItem::Statement(stmt) => {
+                let first = inline_stmt(alloc, program, path, frame, stmt, sites)?;
+                let (others, last) = inline_items(alloc, program, path, frame, rest, sites)?;
+                let all = in_turn(alloc, first, others)?;
+                Ok((all, last))
+            }
+        },
     }
 }
 

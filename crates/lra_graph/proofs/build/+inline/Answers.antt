@@ -1,33 +1,36 @@
 -- Each form is written out as its definition says, and stopped where one of its parts is.
-use Rattle.std.proofs.Common.{◌≡◌, ◌+◌, ◌++◌, ◌∷◌, [], map, refl, ap, ◌∙◌, subst, arith, Some, None, Vec, Global}
+use Rattle.std.proofs.Common.{◌≡◌, ◌+◌, ◌++◌, ◌∷◌, [], map, refl, ap, ◌∙◌, subst, arith, Some, None, Vec, Global, ◌-◌, sym}
 use Rattle.std.proofs.lemmas.Result.{err_from_is_err_and}
 use Rattle.lra_tree.specs.declared.graph.Site.{Site}
-use Rattle.lra_tree.specs.Program.{value, result, loop, for, break, continue, assert, assume}
+use Rattle.lra_tree.specs.Program.{value, result, loop, for, break, continue, assert, assume, no_more}
 use Rattle.lra_tree.specs.Step.{give}
 use Rattle.lra_tree.specs.Graph.{act, seq}
 use Rattle.lra_tree.specs.Inlined.{return_node}
 use Rattle.lra_tree.specs.Sites.{plain_site, live_behind, stmt_events, source_events, given_events, items_events, call_events}
-use Rattle.lra_tree.specs.ProgramViews.{slot_view, expr_view, cond_view, call_view, source_view, given_view, stmt_view, item_view, items_of, program_view}
+use Rattle.lra_tree.specs.ProgramViews.{slot_view, expr_view, cond_view, call_view, source_view, given_view, stmt_view, item_view, items_of, program_view, declarator_view, function_view}
 use Rattle.lra_tree.specs.GraphViews.{node_view, site_view}
 use Rattle.lra_graph.specs.Limits.{walk, passed, stopped}
-use Rattle.lra_graph.specs.Building.{StmtStands, inside, WritesReturn}
+use Rattle.lra_graph.specs.Building.{StmtStands, inside, WritesReturn, WritesItems}
 use Rattle.lra_graph.proofs.Walking.{walk_stop, walk_then}
 use Rattle.lra_graph.proofs.Stopping.{ok_at_err, limit_memory, limit_by, stmt_stopped, second_stopped, middle_stopped, third_stopped, for_too_many, for_at_point, for_at_begin, for_at_round}
 use Rattle.lra_graph.proofs.Handed.{stmt_limit, loop_limit, for_limit, loop_handed, for_handed, break_handed, continue_handed, any_handed}
 use Rattle.lra_graph.proofs.Falling.{part_falls, block_falls, assign_falls, call_falls, true_falls, false_falls, loop_falls, for_falls, return_falls, step_falls, body_falls, init_falls, again_falls}
 use Rattle.lra_graph.proofs.Seen.{given_seen, given_limit, given_returned, stmt_seen, items_seen, for_seen, stmt_walked, items_walked, round_walked, loop_seen, return_seen}
 use Rattle.lra_graph.proofs.ForLoops.{only_loops}
-use Rattle.lra_graph.proofs.Shown.{shown_value, shown_result, shown_empty, shown_point, shown_act, shown_leave, shown_absent, shown_nothing, shown_block, shown_assign, shown_call, shown_if, shown_loop, shown_for, shown_return, shown_break, shown_continue, shown_assert, shown_assume}
-use Rattle.lra_graph.proofs.Writing.{stmt_as, absent_written, nothing_written, block_written, assign_written, call_written, if_written, rounds_written, fresh_written, given_written, value_written, return_any_written, end_any_written, for_written, return_written, return_value_written, return_call_written, end_value_written, end_call_written}
-use Rattle.lra_graph.proofs.Standing.{assigned_fits, block_stands, assign_stands, call_stands, true_stands, false_stands, return_stands, result_stands, body_stands, step_stands, init_stands, for_again, break_stands, continue_stands}
+use Rattle.lra_graph.proofs.Shown.{shown_value, shown_result, shown_empty, shown_point, shown_act, shown_leave, shown_absent, shown_nothing, shown_block, shown_assign, shown_call, shown_if, shown_loop, shown_for, shown_return, shown_break, shown_continue, shown_assert, shown_assume, shown_items}
+use Rattle.lra_graph.proofs.Writing.{stmt_as, absent_written, nothing_written, block_written, assign_written, call_written, if_written, rounds_written, fresh_written, given_written, value_written, return_any_written, end_any_written, for_written, return_written, return_value_written, return_call_written, end_value_written, end_call_written, none_written, declaration_written, statement_written}
+use Rattle.lra_graph.proofs.Standing.{assigned_fits, block_stands, assign_stands, call_stands, true_stands, false_stands, return_stands, result_stands, body_stands, step_stands, init_stands, for_again, break_stands, continue_stands, first_stands, others_stand, declared_stands, behind_stand, callee_stands}
+use Rattle.lra_graph.proofs.Calling.{one_less, no_call_more, call_at_body, call_at_end, invoked}
+use Rattle.lra_graph.proofs.Programs.{called_below, called_found, called_fits, called_wide, arguments_fit}
+use Rattle.lra_graph.proofs.Items.{first_declared, first_stated, none_left, items_stand_as, items_as, declaration_at_point, declaration_at_given, declaration_at_others, statement_at_first, statement_at_others, none_last, declared_last, stated_last, lighter, source_lighter, behind_lighter, first_lighter, others_lighter, callee_lighter}
 use Rattle.lra_graph.proofs.build.+inline.Goals as goal
 use Rattle.lra_graph.proofs.build.+inline.Goals.{inline_stmt-in-Some+in_ok-left-in-Some, inline_stmt-in-None+in_ok-left-in-None}
 
 pub inline_call-returns-then-frame-eq0-clause-limit : goal.inline_call-returns-then-frame-eq0-clause-limit
-inline_call-returns-then-frame-eq0-clause-limit t c = ?
+inline_call-returns-then-frame-eq0-clause-limit t c = no_call_more (program_view c.args.program.now) c.args.path.now c.args.frame.calls_left c.args.frame.live (map site_view c.args.sites.now.items) (call_view c.args.call.now) c.if-frame-eq0.true
 
 pub inline_call-index-function-requires : goal.inline_call-index-function-requires
-inline_call-index-function-requires t c = ?
+inline_call-index-function-requires t c = called_below c.args.program.now c.args.frame c.args.call.now c.requires.stands
 
 pub inline_call-returns-in_err-inner_path-clause-written : goal.inline_call-returns-in_err-inner_path-clause-written
 inline_call-returns-in_err-inner_path-clause-written t c = let p = err_from_is_err_and c.from_residual.result c.from_residual.ensures.1 in ok_at_err c.from_residual.result p.0 _ p.1
@@ -36,28 +39,28 @@ pub inline_call-returns-in_err-inner_path-clause-limit : goal.inline_call-return
 inline_call-returns-in_err-inner_path-clause-limit t c = let p = err_from_is_err_and c.from_residual.result c.from_residual.ensures.1 in limit_memory c.from_residual.result p.0 _ p.1 p.2
 
 pub inline_call-overflow_add-inner : goal.inline_call-overflow_add-inner
-inline_call-overflow_add-inner t c = ?
+inline_call-overflow_add-inner t c = record { fits = arguments_fit c.args.frame.live c.len-parameters.result c.args.call.now c.len-parameters.ensures c.requires.few }
 
 pub inline_call-overflow_sub-inner : goal.inline_call-overflow_sub-inner
-inline_call-overflow_sub-inner t c = ?
+inline_call-overflow_sub-inner t c = let h = c.if-frame-eq0.false in omega (arith, h)
 
 pub inline_call-inline_items-requires : goal.inline_call-inline_items-requires
-inline_call-inline_items-requires t c = ?
+inline_call-inline_items-requires t c = (callee_lighter (program_view c.args.program.now) c.args.call.now.function c.args.frame.calls_left t (function_view c.index-function.result.now) (items_of (map item_view c.deref.result.now)) c.decreases (called_found c.args.program.now c.args.frame c.args.call.now c.requires.stands c.index-function.result.now c.index-function.ensures) c.if-frame-eq0.false (ap (λ z. items_of (map item_view z)) c.deref.ensures.value ∙ sym (shown_items c.index-function.result.now.body)), (c.requires.well, items_stand_as (program_view c.args.program.now) _ _ _ (sym (ap (λ z. items_of (map item_view z)) c.deref.ensures.value ∙ sym (shown_items c.index-function.result.now.body))) (callee_stands (program_view c.args.program.now) c.args.frame c.args.frame.live (c.args.frame.calls_left - 1) (c.args.frame.live + c.len-parameters.result) c.args.target (call_view c.args.call.now) (function_view c.index-function.result.now) c.requires.well c.requires.stands (called_found c.args.program.now c.args.frame c.args.call.now c.requires.stands c.index-function.result.now c.index-function.ensures) refl (ap (λ z. c.args.frame.live + z) (called_wide c.args.program.now c.args.frame c.args.call.now c.requires.stands c.index-function.result.now c.index-function.ensures c.len-parameters.result c.len-parameters.ensures)))))
 
 pub inline_call-returns-in_err-body-clause-written : goal.inline_call-returns-in_err-body-clause-written
 inline_call-returns-in_err-body-clause-written t c = let p = err_from_is_err_and c.from_residual-in_err-body.result c.from_residual-in_err-body.ensures.1 in ok_at_err c.from_residual-in_err-body.result p.0 _ p.1
 
 pub inline_call-returns-in_err-body-clause-limit : goal.inline_call-returns-in_err-body-clause-limit
-inline_call-returns-in_err-body-clause-limit t c = ?
+inline_call-returns-in_err-body-clause-limit t c = let p = err_from_is_err_and c.from_residual-in_err-body.result c.from_residual-in_err-body.ensures.1 in limit_by c.from_residual-in_err-body.result p.0 _ (map site_view c.args.sites.now.items) (map site_view c.args.sites.now.items) (call_events (program_view c.args.program.now) c.args.frame.calls_left c.args.path.now c.args.frame.live (call_view c.args.call.now)) (items_events (call_events (program_view c.args.program.now) (c.args.frame.calls_left - 1)) c.in_ok-inner_path.inner_path (c.args.frame.live + c.len-parameters.result) (items_of (map item_view c.deref.result.now))) p.1 p.2 (call_at_body (program_view c.args.program.now) c.args.path.now c.args.frame (map site_view c.args.sites.now.items) (call_view c.args.call.now) (function_view c.index-function.result.now) (c.args.frame.calls_left - 1) c.args.target c.in_ok-inner_path.inner_path c.len-parameters.result (items_of (map item_view c.deref.result.now)) (one_less c.args.frame.calls_left c.if-frame-eq0.false) (called_found c.args.program.now c.args.frame c.args.call.now c.requires.stands c.index-function.result.now c.index-function.ensures) c.in_ok-inner_path.ensures (called_wide c.args.program.now c.args.frame c.args.call.now c.requires.stands c.index-function.result.now c.index-function.ensures c.len-parameters.result c.len-parameters.ensures) (ap (λ z. items_of (map item_view z)) c.deref.ensures.value ∙ sym (shown_items c.index-function.result.now.body))) c.in_err-body.ensures.limit
 
 pub inline_call-returns-in_err-end-clause-written : goal.inline_call-returns-in_err-end-clause-written
 inline_call-returns-in_err-end-clause-written t c = let p = err_from_is_err_and c.from_residual-in_err-end.result c.from_residual-in_err-end.ensures.1 in ok_at_err c.from_residual-in_err-end.result p.0 _ p.1
 
 pub inline_call-returns-in_err-end-clause-limit : goal.inline_call-returns-in_err-end-clause-limit
-inline_call-returns-in_err-end-clause-limit t c = ?
+inline_call-returns-in_err-end-clause-limit t c = let p = err_from_is_err_and c.from_residual-in_err-end.result c.from_residual-in_err-end.ensures.1 in limit_by c.from_residual-in_err-end.result p.0 _ (map site_view c.args.sites.now.items) (map site_view c.inline_items.new.sites.items) (call_events (program_view c.args.program.now) c.args.frame.calls_left c.args.path.now c.args.frame.live (call_view c.args.call.now)) (plain_site c.in_ok-inner_path.inner_path c.index-function.result.now.end c.in_ok-body.last ∷ []) p.1 p.2 (λ x h. call_at_end (program_view c.args.program.now) c.args.path.now c.args.frame (map site_view c.args.sites.now.items) (call_view c.args.call.now) (function_view c.index-function.result.now) (c.args.frame.calls_left - 1) c.args.target c.in_ok-inner_path.inner_path c.len-parameters.result (items_of (map item_view c.deref.result.now)) (one_less c.args.frame.calls_left c.if-frame-eq0.false) (called_found c.args.program.now c.args.frame c.args.call.now c.requires.stands c.index-function.result.now c.index-function.ensures) c.in_ok-inner_path.ensures (called_wide c.args.program.now c.args.frame c.args.call.now c.requires.stands c.index-function.result.now c.index-function.ensures c.len-parameters.result c.len-parameters.ensures) (ap (λ z. items_of (map item_view z)) c.deref.ensures.value ∙ sym (shown_items c.index-function.result.now.body)) (map site_view c.inline_items.new.sites.items) c.in_ok-body.last x c.in_ok-body.ensures.last c.in_ok-body.ensures.written.walked h) c.in_err-end.ensures.limit
 
 pub inline_call-called-requires : goal.inline_call-called-requires
-inline_call-called-requires t c = ?
+inline_call-called-requires t c = arguments_fit c.args.frame.live c.len-parameters.result c.args.call.now c.len-parameters.ensures c.requires.few
 
 pub inline_call-returns-in_err-called-clause-written : goal.inline_call-returns-in_err-called-clause-written
 inline_call-returns-in_err-called-clause-written t c = let p = err_from_is_err_and c.from_residual-in_err-called.result c.from_residual-in_err-called.ensures.1 in ok_at_err c.from_residual-in_err-called.result p.0 _ p.1
@@ -66,19 +69,19 @@ pub inline_call-returns-in_err-called-clause-limit : goal.inline_call-returns-in
 inline_call-returns-in_err-called-clause-limit t c = let p = err_from_is_err_and c.from_residual-in_err-called.result c.from_residual-in_err-called.ensures.1 in limit_memory c.from_residual-in_err-called.result p.0 _ p.1 p.2
 
 pub inline_call-returns-clause-written : goal.inline_call-returns-clause-written
-inline_call-returns-clause-written t c = ?
+inline_call-returns-clause-written t c = invoked (program_view c.args.program.now) c.args.path.now c.args.frame (map site_view c.args.sites.now.items) (call_view c.args.call.now) (function_view c.index-function.result.now) (c.args.frame.calls_left - 1) c.args.target c.in_ok-inner_path.inner_path c.len-parameters.result (items_of (map item_view c.deref.result.now)) (one_less c.args.frame.calls_left c.if-frame-eq0.false) (called_found c.args.program.now c.args.frame c.args.call.now c.requires.stands c.index-function.result.now c.index-function.ensures) c.in_ok-inner_path.ensures (called_wide c.args.program.now c.args.frame c.args.call.now c.requires.stands c.index-function.result.now c.index-function.ensures c.len-parameters.result c.len-parameters.ensures) (ap (λ z. items_of (map item_view z)) c.deref.ensures.value ∙ sym (shown_items c.index-function.result.now.body)) _ _ c.args.point c.in_ok-end.end c.in_ok-body.last _ _ (called_fits c.args.program.now c.args.frame c.args.call.now c.requires.stands c.index-function.result.now c.index-function.ensures) c.in_ok-body.ensures.written c.in_ok-body.ensures.last c.in_ok-end.ensures.number c.in_ok-end.ensures.walked (rw c.deref-2.ensures.value at c.in_ok-called.ensures)
 
 pub inline_declared-overflow_add-behind_it : goal.inline_declared-overflow_add-behind_it
 inline_declared-overflow_add-behind_it t c = let h = c.requires.few in record { fits = omega arith }
 
 pub inline_declared-inline_source-requires : goal.inline_declared-inline_source-requires
-inline_declared-inline_source-requires t c = ?
+inline_declared-inline_source-requires t c = (lighter (program_view c.args.program.now) c.args.frame.calls_left t 3 4 c.decreases (omega arith), (c.requires.well, ((let h = c.requires.few in omega arith), rw c.in-Some.is at c.requires.stands)))
 
 pub inline_declared-returns-in_err-given-in-Some-clause-written : goal.inline_declared-returns-in_err-given-in-Some-clause-written
 inline_declared-returns-in_err-given-in-Some-clause-written t c = let p = err_from_is_err_and c.from_residual.result c.from_residual.ensures.1 in ok_at_err c.from_residual.result p.0 _ p.1
 
 pub inline_declared-returns-in_err-given-in-Some-clause-limit : goal.inline_declared-returns-in_err-given-in-Some-clause-limit
-inline_declared-returns-in_err-given-in-Some-clause-limit t c = ?
+inline_declared-returns-in_err-given-in-Some-clause-limit t c = let p = err_from_is_err_and c.from_residual.result c.from_residual.ensures.1 in rw c.in-Some.is (limit_by c.from_residual.result p.0 _ (map site_view c.args.sites.now.items) (map site_view c.args.sites.now.items) (source_events (inside (program_view c.args.program.now) c.args.path.now c.args.frame) c.args.path.now (c.args.frame.live + 1) (source_view c.in-Some.source)) (source_events (inside (program_view c.args.program.now) c.args.path.now c.args.frame) c.args.path.now (c.args.frame.live + 1) (source_view c.in-Some.source)) p.1 p.2 (λ x h. h) c.in_err-given-in-Some.ensures.limit)
 
 pub inline_declared-returns-in_err-behind-in-Some-clause-written : goal.inline_declared-returns-in_err-behind-in-Some-clause-written
 inline_declared-returns-in_err-behind-in-Some-clause-written t c = let p = err_from_is_err_and c.from_residual-in_err-behind-in-Some.result c.from_residual-in_err-behind-in-Some.ensures.1 in ok_at_err c.from_residual-in_err-behind-in-Some.result p.0 _ p.1
@@ -164,24 +167,6 @@ inline_for-unreachable-unreachable t c = only_loops c.args.again.now c.requires.
 pub inline_for-returns-clause-written : goal.inline_for-returns-clause-written
 inline_for-returns-clause-written t c = stmt_as (program_view c.args.program.now) c.args.path.now c.args.frame _ _ (for (items_of (map item_view c.args.init.now)) (stmt_view c.args.again.now)) (for (items_of (map item_view c.args.init.now)) (loop c.in-Loop.label (cond_view c.in-Loop.cond) (stmt_view c.in-Loop.body.value) (stmt_view c.in-Loop.step.value))) _ _ (ap (λ z. for (items_of (map item_view c.args.init.now)) z) (ap stmt_view c.in-Loop.is ∙ shown_loop c.in-Loop.label c.in-Loop.cond c.in-Loop.body c.in-Loop.step)) refl (for_written (program_view c.args.program.now) c.args.path.now c.args.frame _ _ _ _ c.in_ok-point-in-Loop.point c.in-Loop.label c.in-Some.live (items_of (map item_view c.args.init.now)) (cond_view c.in-Loop.cond) (stmt_view c.in-Loop.body.value) (stmt_view c.in-Loop.step.value) _ _ _ _ c.in_ok-point-in-Loop.ensures.number c.in-Some.ensures c.in_ok-point-in-Loop.ensures.walked c.in_ok-init-in-Loop.ensures.written (loop_seen (program_view c.args.program.now) c.args.path.now (record c.args.frame { live = c.in-Some.live }) _ _ c.in_ok-point-in-Loop.point (cond_view c.in-Loop.cond) (stmt_view c.in-Loop.body.value) (stmt_view c.deref.result.now) (stmt_view c.in-Loop.step.value) (stmt_view c.deref-in-Loop.result.now) _ (ap stmt_view c.deref.ensures) (ap stmt_view c.deref-in-Loop.ensures) c.in_ok-again-in-Loop.ensures.written) (c.in_ok-rest-in-Loop.ensures ∙ ap (λ z. seq (node_view c.in_ok-again-in-Loop.again) z) (shown_act c.in_ok-point-in-Loop.point _)) c.in_ok-in_turn-in-Loop.ensures)
 
-pub inline_items-bounds-items-0 : goal.inline_items-bounds-items-0
-inline_items-bounds-items-0 t c = ?
-
-pub inline_items-bounds-0 : goal.inline_items-bounds-0
-inline_items-bounds-0 t c = ?
-
-pub inline_items-slice_bounds-rest-count : goal.inline_items-slice_bounds-rest-count
-inline_items-slice_bounds-rest-count t c = ?
-
-pub inline_items-bounds-items-0-in-Declaration-1 : goal.inline_items-bounds-items-0-in-Declaration-1
-inline_items-bounds-items-0-in-Declaration-1 t c = ?
-
-pub inline_items-slice_bounds-rest-start : goal.inline_items-slice_bounds-rest-start
-inline_items-slice_bounds-rest-start t c = ?
-
-pub inline_items-slice_bounds-rest-end : goal.inline_items-slice_bounds-rest-end
-inline_items-slice_bounds-rest-end t c = ?
-
 pub inline_items-returns-in_err-point-in-Declaration-clause-last : goal.inline_items-returns-in_err-point-in-Declaration-clause-last
 inline_items-returns-in_err-point-in-Declaration-clause-last t c = let p = err_from_is_err_and c.from_residual.result c.from_residual.ensures.1 in ok_at_err c.from_residual.result p.0 _ p.1
 
@@ -189,10 +174,10 @@ pub inline_items-returns-in_err-point-in-Declaration-clause-written : goal.inlin
 inline_items-returns-in_err-point-in-Declaration-clause-written t c = let p = err_from_is_err_and c.from_residual.result c.from_residual.ensures.1 in ok_at_err c.from_residual.result p.0 _ p.1
 
 pub inline_items-returns-in_err-point-in-Declaration-clause-limit : goal.inline_items-returns-in_err-point-in-Declaration-clause-limit
-inline_items-returns-in_err-point-in-Declaration-clause-limit t c = ?
+inline_items-returns-in_err-point-in-Declaration-clause-limit t c = let p = err_from_is_err_and c.from_residual.result c.from_residual.ensures.1 in limit_by c.from_residual.result p.0 _ (map site_view c.args.sites.now.items) (map site_view c.args.sites.now.items) (items_events (inside (program_view c.args.program.now) c.args.path.now c.args.frame) c.args.path.now c.args.frame.live (items_of (map item_view c.args.items.now))) (plain_site c.args.path.now c.in-Declaration.declarator.label c.args.frame.live ∷ []) p.1 p.2 (declaration_at_point (program_view c.args.program.now) c.args.path.now c.args.frame (map site_view c.args.sites.now.items) (items_of (map item_view c.args.items.now)) (declarator_view c.in-Declaration.declarator) (items_of (map item_view c.in-Some.rest.now)) (first_declared c.args.items.now c.in-Some.item.now c.in-Some.rest.now c.in-Some.ensures.cases.0 c.in-Declaration.declarator c.in-Declaration.is)) c.in_err-point-in-Declaration.ensures.limit
 
 pub inline_items-inline_declared-requires : goal.inline_items-inline_declared-requires
-inline_items-inline_declared-requires t c = ?
+inline_items-inline_declared-requires t c = (source_lighter (program_view c.args.program.now) c.args.frame.calls_left t (items_of (map item_view c.args.items.now)) c.decreases (declarator_view c.in-Declaration.declarator) (items_of (map item_view c.in-Some.rest.now)) (first_declared c.args.items.now c.in-Some.item.now c.in-Some.rest.now c.in-Some.ensures.cases.0 c.in-Declaration.declarator c.in-Declaration.is), (c.requires.well, (c.in_ok-point-in-Declaration.ensures.few, declared_stands (program_view c.args.program.now) c.args.frame (c.args.frame.live + 1) (declarator_view c.in-Declaration.declarator) (items_of (map item_view c.in-Some.rest.now)) (omega arith) (items_stand_as (program_view c.args.program.now) c.args.frame _ _ (first_declared c.args.items.now c.in-Some.item.now c.in-Some.rest.now c.in-Some.ensures.cases.0 c.in-Declaration.declarator c.in-Declaration.is) c.requires.stands))))
 
 pub inline_items-returns-in_err-given-in-Declaration-clause-last : goal.inline_items-returns-in_err-given-in-Declaration-clause-last
 inline_items-returns-in_err-given-in-Declaration-clause-last t c = let p = err_from_is_err_and c.from_residual-in_err-given-in-Declaration.result c.from_residual-in_err-given-in-Declaration.ensures.1 in ok_at_err c.from_residual-in_err-given-in-Declaration.result p.0 _ p.1
@@ -201,7 +186,7 @@ pub inline_items-returns-in_err-given-in-Declaration-clause-written : goal.inlin
 inline_items-returns-in_err-given-in-Declaration-clause-written t c = let p = err_from_is_err_and c.from_residual-in_err-given-in-Declaration.result c.from_residual-in_err-given-in-Declaration.ensures.1 in ok_at_err c.from_residual-in_err-given-in-Declaration.result p.0 _ p.1
 
 pub inline_items-returns-in_err-given-in-Declaration-clause-limit : goal.inline_items-returns-in_err-given-in-Declaration-clause-limit
-inline_items-returns-in_err-given-in-Declaration-clause-limit t c = ?
+inline_items-returns-in_err-given-in-Declaration-clause-limit t c = let p = err_from_is_err_and c.from_residual-in_err-given-in-Declaration.result c.from_residual-in_err-given-in-Declaration.ensures.1 in limit_by c.from_residual-in_err-given-in-Declaration.result p.0 _ (map site_view c.args.sites.now.items) (map site_view c.add_point.new.sites.items) (items_events (inside (program_view c.args.program.now) c.args.path.now c.args.frame) c.args.path.now c.args.frame.live (items_of (map item_view c.args.items.now))) (given_events (inside (program_view c.args.program.now) c.args.path.now c.args.frame) c.args.path.now (c.args.frame.live + 1) (given_view c.in-Declaration.declarator.source)) p.1 p.2 (declaration_at_given (program_view c.args.program.now) c.args.path.now c.args.frame (map site_view c.args.sites.now.items) (items_of (map item_view c.args.items.now)) (declarator_view c.in-Declaration.declarator) (items_of (map item_view c.in-Some.rest.now)) (first_declared c.args.items.now c.in-Some.item.now c.in-Some.rest.now c.in-Some.ensures.cases.0 c.in-Declaration.declarator c.in-Declaration.is) (map site_view c.add_point.new.sites.items) (c.args.frame.live + 1) c.in_ok-point-in-Declaration.ensures.walked (omega arith)) c.in_err-given-in-Declaration.ensures.limit
 
 pub inline_items-returns-in_err-declared-in-Declaration-clause-last : goal.inline_items-returns-in_err-declared-in-Declaration-clause-last
 inline_items-returns-in_err-declared-in-Declaration-clause-last t c = let p = err_from_is_err_and c.from_residual-in_err-declared-in-Declaration.result c.from_residual-in_err-declared-in-Declaration.ensures.1 in ok_at_err c.from_residual-in_err-declared-in-Declaration.result p.0 _ p.1
@@ -213,10 +198,10 @@ pub inline_items-returns-in_err-declared-in-Declaration-clause-limit : goal.inli
 inline_items-returns-in_err-declared-in-Declaration-clause-limit t c = let p = err_from_is_err_and c.from_residual-in_err-declared-in-Declaration.result c.from_residual-in_err-declared-in-Declaration.ensures.1 in limit_memory c.from_residual-in_err-declared-in-Declaration.result p.0 _ p.1 p.2
 
 pub inline_items-overflow_add-behind : goal.inline_items-overflow_add-behind
-inline_items-overflow_add-behind t c = ?
+inline_items-overflow_add-behind t c = let h = c.in_ok-point-in-Declaration.ensures.few in record { fits = omega arith }
 
 pub inline_items-inline_items-requires : goal.inline_items-inline_items-requires
-inline_items-inline_items-requires t c = ?
+inline_items-inline_items-requires t c = (behind_lighter (program_view c.args.program.now) c.args.frame.calls_left t (items_of (map item_view c.args.items.now)) c.decreases (declarator_view c.in-Declaration.declarator) (items_of (map item_view c.in-Some.rest.now)) (first_declared c.args.items.now c.in-Some.item.now c.in-Some.rest.now c.in-Some.ensures.cases.0 c.in-Declaration.declarator c.in-Declaration.is), (c.requires.well, behind_stand (program_view c.args.program.now) c.args.frame (c.args.frame.live + 1) (declarator_view c.in-Declaration.declarator) (items_of (map item_view c.in-Some.rest.now)) (omega arith) (items_stand_as (program_view c.args.program.now) c.args.frame _ _ (first_declared c.args.items.now c.in-Some.item.now c.in-Some.rest.now c.in-Some.ensures.cases.0 c.in-Declaration.declarator c.in-Declaration.is) c.requires.stands)))
 
 pub inline_items-returns-in_err-others-in-Declaration-clause-last : goal.inline_items-returns-in_err-others-in-Declaration-clause-last
 inline_items-returns-in_err-others-in-Declaration-clause-last t c = let p = err_from_is_err_and c.from_residual-in_err-others-in-Declaration.result c.from_residual-in_err-others-in-Declaration.ensures.1 in ok_at_err c.from_residual-in_err-others-in-Declaration.result p.0 _ p.1
@@ -225,31 +210,10 @@ pub inline_items-returns-in_err-others-in-Declaration-clause-written : goal.inli
 inline_items-returns-in_err-others-in-Declaration-clause-written t c = let p = err_from_is_err_and c.from_residual-in_err-others-in-Declaration.result c.from_residual-in_err-others-in-Declaration.ensures.1 in ok_at_err c.from_residual-in_err-others-in-Declaration.result p.0 _ p.1
 
 pub inline_items-returns-in_err-others-in-Declaration-clause-limit : goal.inline_items-returns-in_err-others-in-Declaration-clause-limit
-inline_items-returns-in_err-others-in-Declaration-clause-limit t c = ?
-
-pub inline_items-returns-in_err-in_turn-in-Declaration-clause-last : goal.inline_items-returns-in_err-in_turn-in-Declaration-clause-last
-inline_items-returns-in_err-in_turn-in-Declaration-clause-last t c = let p = err_from_is_err_and c.from_residual-in_err-in_turn-in-Declaration.result c.from_residual-in_err-in_turn-in-Declaration.ensures.1 in ok_at_err c.from_residual-in_err-in_turn-in-Declaration.result p.0 _ p.1
-
-pub inline_items-returns-in_err-in_turn-in-Declaration-clause-written : goal.inline_items-returns-in_err-in_turn-in-Declaration-clause-written
-inline_items-returns-in_err-in_turn-in-Declaration-clause-written t c = let p = err_from_is_err_and c.from_residual-in_err-in_turn-in-Declaration.result c.from_residual-in_err-in_turn-in-Declaration.ensures.1 in ok_at_err c.from_residual-in_err-in_turn-in-Declaration.result p.0 _ p.1
-
-pub inline_items-returns-in_err-in_turn-in-Declaration-clause-limit : goal.inline_items-returns-in_err-in_turn-in-Declaration-clause-limit
-inline_items-returns-in_err-in_turn-in-Declaration-clause-limit t c = let p = err_from_is_err_and c.from_residual-in_err-in_turn-in-Declaration.result c.from_residual-in_err-in_turn-in-Declaration.ensures.1 in limit_memory c.from_residual-in_err-in_turn-in-Declaration.result p.0 _ p.1 p.2
-
-pub inline_items-slice_bounds-rest-count-in-Statement-1 : goal.inline_items-slice_bounds-rest-count-in-Statement-1
-inline_items-slice_bounds-rest-count-in-Statement-1 t c = ?
-
-pub inline_items-bounds-items-0-in-Statement-1 : goal.inline_items-bounds-items-0-in-Statement-1
-inline_items-bounds-items-0-in-Statement-1 t c = ?
-
-pub inline_items-slice_bounds-rest-start-in-Statement-1 : goal.inline_items-slice_bounds-rest-start-in-Statement-1
-inline_items-slice_bounds-rest-start-in-Statement-1 t c = ?
-
-pub inline_items-slice_bounds-rest-end-in-Statement-1 : goal.inline_items-slice_bounds-rest-end-in-Statement-1
-inline_items-slice_bounds-rest-end-in-Statement-1 t c = ?
+inline_items-returns-in_err-others-in-Declaration-clause-limit t c = let p = err_from_is_err_and c.from_residual-in_err-others-in-Declaration.result c.from_residual-in_err-others-in-Declaration.ensures.1 in limit_by c.from_residual-in_err-others-in-Declaration.result p.0 _ (map site_view c.args.sites.now.items) (map site_view c.inline_declared.new.sites.items) (items_events (inside (program_view c.args.program.now) c.args.path.now c.args.frame) c.args.path.now c.args.frame.live (items_of (map item_view c.args.items.now))) (items_events (inside (program_view c.args.program.now) c.args.path.now c.args.frame) c.args.path.now (c.args.frame.live + 1) (items_of (map item_view c.in-Some.rest.now))) p.1 p.2 (λ x h. declaration_at_others (program_view c.args.program.now) c.args.path.now c.args.frame (map site_view c.args.sites.now.items) (items_of (map item_view c.args.items.now)) (declarator_view c.in-Declaration.declarator) (items_of (map item_view c.in-Some.rest.now)) (first_declared c.args.items.now c.in-Some.item.now c.in-Some.rest.now c.in-Some.ensures.cases.0 c.in-Declaration.declarator c.in-Declaration.is) (map site_view c.add_point.new.sites.items) (c.args.frame.live + 1) c.in_ok-point-in-Declaration.ensures.walked (omega arith) (map site_view c.inline_declared.new.sites.items) x c.in_ok-given-in-Declaration.ensures.written.walked h) c.in_err-others-in-Declaration.ensures.limit
 
 pub inline_items-inline_stmt-requires : goal.inline_items-inline_stmt-requires
-inline_items-inline_stmt-requires t c = ?
+inline_items-inline_stmt-requires t c = (first_lighter (program_view c.args.program.now) c.args.frame.calls_left t (items_of (map item_view c.args.items.now)) c.decreases (stmt_view c.in-Statement.stmt) (items_of (map item_view c.in-Some.rest.now)) (first_stated c.args.items.now c.in-Some.item.now c.in-Some.rest.now c.in-Some.ensures.cases.0 c.in-Statement.stmt c.in-Statement.is), (c.requires.well, first_stands (program_view c.args.program.now) c.args.frame (stmt_view c.in-Statement.stmt) (items_of (map item_view c.in-Some.rest.now)) (items_stand_as (program_view c.args.program.now) c.args.frame _ _ (first_stated c.args.items.now c.in-Some.item.now c.in-Some.rest.now c.in-Some.ensures.cases.0 c.in-Statement.stmt c.in-Statement.is) c.requires.stands)))
 
 pub inline_items-returns-in_err-first-in-Statement-clause-last : goal.inline_items-returns-in_err-first-in-Statement-clause-last
 inline_items-returns-in_err-first-in-Statement-clause-last t c = let p = err_from_is_err_and c.from_residual-in_err-first-in-Statement.result c.from_residual-in_err-first-in-Statement.ensures.1 in ok_at_err c.from_residual-in_err-first-in-Statement.result p.0 _ p.1
@@ -258,10 +222,10 @@ pub inline_items-returns-in_err-first-in-Statement-clause-written : goal.inline_
 inline_items-returns-in_err-first-in-Statement-clause-written t c = let p = err_from_is_err_and c.from_residual-in_err-first-in-Statement.result c.from_residual-in_err-first-in-Statement.ensures.1 in ok_at_err c.from_residual-in_err-first-in-Statement.result p.0 _ p.1
 
 pub inline_items-returns-in_err-first-in-Statement-clause-limit : goal.inline_items-returns-in_err-first-in-Statement-clause-limit
-inline_items-returns-in_err-first-in-Statement-clause-limit t c = ?
+inline_items-returns-in_err-first-in-Statement-clause-limit t c = let p = err_from_is_err_and c.from_residual-in_err-first-in-Statement.result c.from_residual-in_err-first-in-Statement.ensures.1 in limit_by c.from_residual-in_err-first-in-Statement.result p.0 _ (map site_view c.args.sites.now.items) (map site_view c.args.sites.now.items) (items_events (inside (program_view c.args.program.now) c.args.path.now c.args.frame) c.args.path.now c.args.frame.live (items_of (map item_view c.args.items.now))) (stmt_events (inside (program_view c.args.program.now) c.args.path.now c.args.frame) c.args.path.now c.args.frame.live (stmt_view c.in-Statement.stmt)) p.1 p.2 (statement_at_first (program_view c.args.program.now) c.args.path.now c.args.frame (map site_view c.args.sites.now.items) (items_of (map item_view c.args.items.now)) (stmt_view c.in-Statement.stmt) (items_of (map item_view c.in-Some.rest.now)) (first_stated c.args.items.now c.in-Some.item.now c.in-Some.rest.now c.in-Some.ensures.cases.0 c.in-Statement.stmt c.in-Statement.is)) c.in_err-first-in-Statement.ensures.limit
 
 pub inline_items-inline_items-requires-in-Statement : goal.inline_items-inline_items-requires-in-Statement
-inline_items-inline_items-requires-in-Statement t c = ?
+inline_items-inline_items-requires-in-Statement t c = (others_lighter (program_view c.args.program.now) c.args.frame.calls_left t (items_of (map item_view c.args.items.now)) c.decreases (stmt_view c.in-Statement.stmt) (items_of (map item_view c.in-Some.rest.now)) (first_stated c.args.items.now c.in-Some.item.now c.in-Some.rest.now c.in-Some.ensures.cases.0 c.in-Statement.stmt c.in-Statement.is), (c.requires.well, others_stand (program_view c.args.program.now) c.args.frame (stmt_view c.in-Statement.stmt) (items_of (map item_view c.in-Some.rest.now)) (items_stand_as (program_view c.args.program.now) c.args.frame _ _ (first_stated c.args.items.now c.in-Some.item.now c.in-Some.rest.now c.in-Some.ensures.cases.0 c.in-Statement.stmt c.in-Statement.is) c.requires.stands)))
 
 pub inline_items-returns-in_err-others-in-Statement-clause-last : goal.inline_items-returns-in_err-others-in-Statement-clause-last
 inline_items-returns-in_err-others-in-Statement-clause-last t c = let p = err_from_is_err_and c.from_residual-in_err-others-in-Statement.result c.from_residual-in_err-others-in-Statement.ensures.1 in ok_at_err c.from_residual-in_err-others-in-Statement.result p.0 _ p.1
@@ -270,34 +234,7 @@ pub inline_items-returns-in_err-others-in-Statement-clause-written : goal.inline
 inline_items-returns-in_err-others-in-Statement-clause-written t c = let p = err_from_is_err_and c.from_residual-in_err-others-in-Statement.result c.from_residual-in_err-others-in-Statement.ensures.1 in ok_at_err c.from_residual-in_err-others-in-Statement.result p.0 _ p.1
 
 pub inline_items-returns-in_err-others-in-Statement-clause-limit : goal.inline_items-returns-in_err-others-in-Statement-clause-limit
-inline_items-returns-in_err-others-in-Statement-clause-limit t c = ?
-
-pub inline_items-returns-in_err-in_turn-in-Statement-clause-last : goal.inline_items-returns-in_err-in_turn-in-Statement-clause-last
-inline_items-returns-in_err-in_turn-in-Statement-clause-last t c = let p = err_from_is_err_and c.from_residual-in_err-in_turn-in-Statement.result c.from_residual-in_err-in_turn-in-Statement.ensures.1 in ok_at_err c.from_residual-in_err-in_turn-in-Statement.result p.0 _ p.1
-
-pub inline_items-returns-in_err-in_turn-in-Statement-clause-written : goal.inline_items-returns-in_err-in_turn-in-Statement-clause-written
-inline_items-returns-in_err-in_turn-in-Statement-clause-written t c = let p = err_from_is_err_and c.from_residual-in_err-in_turn-in-Statement.result c.from_residual-in_err-in_turn-in-Statement.ensures.1 in ok_at_err c.from_residual-in_err-in_turn-in-Statement.result p.0 _ p.1
-
-pub inline_items-returns-in_err-in_turn-in-Statement-clause-limit : goal.inline_items-returns-in_err-in_turn-in-Statement-clause-limit
-inline_items-returns-in_err-in_turn-in-Statement-clause-limit t c = let p = err_from_is_err_and c.from_residual-in_err-in_turn-in-Statement.result c.from_residual-in_err-in_turn-in-Statement.ensures.1 in limit_memory c.from_residual-in_err-in_turn-in-Statement.result p.0 _ p.1 p.2
-
-pub inline_items-returns-in-empty-clause-last : goal.inline_items-returns-in-empty-clause-last
-inline_items-returns-in-empty-clause-last t c = ?
-
-pub inline_items-returns-in-empty-clause-written : goal.inline_items-returns-in-empty-clause-written
-inline_items-returns-in-empty-clause-written t c = ?
-
-pub inline_items-returns-in_ok-in_turn-in-Declaration-clause-last : goal.inline_items-returns-in_ok-in_turn-in-Declaration-clause-last
-inline_items-returns-in_ok-in_turn-in-Declaration-clause-last t c = ?
-
-pub inline_items-returns-in_ok-in_turn-in-Declaration-clause-written : goal.inline_items-returns-in_ok-in_turn-in-Declaration-clause-written
-inline_items-returns-in_ok-in_turn-in-Declaration-clause-written t c = ?
-
-pub inline_items-returns-in_ok-in_turn-in-Statement-clause-last : goal.inline_items-returns-in_ok-in_turn-in-Statement-clause-last
-inline_items-returns-in_ok-in_turn-in-Statement-clause-last t c = ?
-
-pub inline_items-returns-in_ok-in_turn-in-Statement-clause-written : goal.inline_items-returns-in_ok-in_turn-in-Statement-clause-written
-inline_items-returns-in_ok-in_turn-in-Statement-clause-written t c = ?
+inline_items-returns-in_err-others-in-Statement-clause-limit t c = let p = err_from_is_err_and c.from_residual-in_err-others-in-Statement.result c.from_residual-in_err-others-in-Statement.ensures.1 in limit_by c.from_residual-in_err-others-in-Statement.result p.0 _ (map site_view c.args.sites.now.items) (map site_view c.inline_stmt.new.sites.items) (items_events (inside (program_view c.args.program.now) c.args.path.now c.args.frame) c.args.path.now c.args.frame.live (items_of (map item_view c.args.items.now))) (items_events (inside (program_view c.args.program.now) c.args.path.now c.args.frame) c.args.path.now c.args.frame.live (items_of (map item_view c.in-Some.rest.now))) p.1 p.2 (λ x h. statement_at_others (program_view c.args.program.now) c.args.path.now c.args.frame (map site_view c.args.sites.now.items) (items_of (map item_view c.args.items.now)) (stmt_view c.in-Statement.stmt) (items_of (map item_view c.in-Some.rest.now)) (first_stated c.args.items.now c.in-Some.item.now c.in-Some.rest.now c.in-Some.ensures.cases.0 c.in-Statement.stmt c.in-Statement.is) (map site_view c.inline_stmt.new.sites.items) x c.in_ok-first-in-Statement.ensures.written.walked h) c.in_err-others-in-Statement.ensures.limit
 
 pub inline_loop-inline_stmt-requires : goal.inline_loop-inline_stmt-requires
 inline_loop-inline_stmt-requires t c = (step_falls (program_view c.args.program.now) c.args.frame.calls_left t (stmt_view c.args.body.now) (stmt_view c.args.step.now) c.decreases, (c.requires.well, c.requires.step_stands))
@@ -381,16 +318,16 @@ pub inline_source-returns-in_err-value-in-Value-clause-limit : goal.inline_sourc
 inline_source-returns-in_err-value-in-Value-clause-limit t c = let p = err_from_is_err_and c.from_residual.result c.from_residual.ensures.1 in limit_memory c.from_residual.result p.0 _ p.1 p.2
 
 pub inline_source-inline_call-requires : goal.inline_source-inline_call-requires
-inline_source-inline_call-requires t c = ?
+inline_source-inline_call-requires t c = (lighter (program_view c.args.program.now) c.args.frame.calls_left t 2 3 c.decreases (omega arith), (c.requires.well, (c.requires.few, result_stands (program_view c.args.program.now) c.args.frame (call_view c.in-Result.call) (rw c.in-Result.is at c.requires.stands))))
 
 pub inline_source-returns-in_ok-value-in-Value-clause-written : goal.inline_source-returns-in_ok-value-in-Value-clause-written
 inline_source-returns-in_ok-value-in-Value-clause-written t c = rw c.in-Value.is (value_written (program_view c.args.program.now) c.args.path.now c.args.frame _ c.args.point c.args.target (expr_view c.in-Value.value) _ (shown_act c.args.point _ ∙ ap (λ z. act c.args.point (give c.args.frame.base c.args.target z)) c.in_ok-value-in-Value.ensures))
 
 pub inline_source-returns-in-Result-clause-written : goal.inline_source-returns-in-Result-clause-written
-inline_source-returns-in-Result-clause-written t c = ?
+inline_source-returns-in-Result-clause-written t c = rw c.in-Result.is c.inline_call.ensures.written
 
 pub inline_source-returns-in-Result-clause-limit : goal.inline_source-returns-in-Result-clause-limit
-inline_source-returns-in-Result-clause-limit t c = ?
+inline_source-returns-in-Result-clause-limit t c = rw c.in-Result.is c.inline_call.ensures.limit
 
 pub inline_stmt-returns-in_err-point-in-Nothing-clause-written : goal.inline_stmt-returns-in_err-point-in-Nothing-clause-written
 inline_stmt-returns-in_err-point-in-Nothing-clause-written t c = let p = err_from_is_err_and c.from_residual.result c.from_residual.ensures.1 in ok_at_err c.from_residual.result p.0 _ p.1
@@ -610,3 +547,39 @@ inline_stmt-returns-in-Assume-clause-written t c = any_handed (program_view c.ar
 
 pub inline_stmt-returns-in-Assume-clause-limit : goal.inline_stmt-returns-in-Assume-clause-limit
 inline_stmt-returns-in-Assume-clause-limit t c = stmt_limit (program_view c.args.program.now) c.args.path.now c.args.frame (map site_view c.args.sites.now.items) c.assumption_of.result (stmt_view c.args.stmt.now) (assume c.in-Assume.label (cond_view c.in-Assume.cond)) (ap stmt_view c.in-Assume.is ∙ shown_assume c.in-Assume.label c.in-Assume.cond) c.assumption_of.ensures.limit
+
+pub inline_items-returns-in-None-clause-last : goal.inline_items-returns-in-None-clause-last
+inline_items-returns-in-None-clause-last t c = none_last c.args.frame.live (items_of (map item_view c.args.items.now)) (none_left c.args.items.now c.in-None.ensures.cases)
+
+pub inline_items-returns-in-None-clause-written : goal.inline_items-returns-in-None-clause-written
+inline_items-returns-in-None-clause-written t c = items_as (program_view c.args.program.now) c.args.path.now c.args.frame _ _ _ _ _ (none_left c.args.items.now c.in-None.ensures.cases) (subst (λ z. WritesItems (program_view c.args.program.now) c.args.path.now c.args.frame _ no_more z _) (sym shown_empty) (none_written (program_view c.args.program.now) c.args.path.now c.args.frame _))
+
+pub inline_items-returns-in_ok-all-in-Declaration-clause-last : goal.inline_items-returns-in_ok-all-in-Declaration-clause-last
+inline_items-returns-in_ok-all-in-Declaration-clause-last t c = declared_last c.args.frame.live (c.args.frame.live + 1) _ (declarator_view c.in-Declaration.declarator) (items_of (map item_view c.in-Some.rest.now)) (items_of (map item_view c.args.items.now)) (first_declared c.args.items.now c.in-Some.item.now c.in-Some.rest.now c.in-Some.ensures.cases.0 c.in-Declaration.declarator c.in-Declaration.is) (omega arith) c.in_ok-others-in-Declaration.ensures.last
+
+pub inline_items-returns-in_ok-all-in-Declaration-clause-written : goal.inline_items-returns-in_ok-all-in-Declaration-clause-written
+inline_items-returns-in_ok-all-in-Declaration-clause-written t c = items_as (program_view c.args.program.now) c.args.path.now c.args.frame _ _ _ _ _ (first_declared c.args.items.now c.in-Some.item.now c.in-Some.rest.now c.in-Some.ensures.cases.0 c.in-Declaration.declarator c.in-Declaration.is) (declaration_written (program_view c.args.program.now) c.args.path.now c.args.frame _ _ _ _ c.in_ok-point-in-Declaration.point (c.args.frame.live + 1) (declarator_view c.in-Declaration.declarator) (items_of (map item_view c.in-Some.rest.now)) _ _ _ _ c.in_ok-point-in-Declaration.ensures.number (omega arith) c.in_ok-point-in-Declaration.ensures.walked c.in_ok-given-in-Declaration.ensures.written c.in_ok-others-in-Declaration.ensures.written c.in_ok-declared-in-Declaration.ensures c.in_ok-all-in-Declaration.ensures)
+
+pub inline_items-returns-in_ok-all-in-Statement-clause-last : goal.inline_items-returns-in_ok-all-in-Statement-clause-last
+inline_items-returns-in_ok-all-in-Statement-clause-last t c = stated_last c.args.frame.live _ (stmt_view c.in-Statement.stmt) (items_of (map item_view c.in-Some.rest.now)) (items_of (map item_view c.args.items.now)) (first_stated c.args.items.now c.in-Some.item.now c.in-Some.rest.now c.in-Some.ensures.cases.0 c.in-Statement.stmt c.in-Statement.is) c.in_ok-others-in-Statement.ensures.last
+
+pub inline_items-returns-in_ok-all-in-Statement-clause-written : goal.inline_items-returns-in_ok-all-in-Statement-clause-written
+inline_items-returns-in_ok-all-in-Statement-clause-written t c = items_as (program_view c.args.program.now) c.args.path.now c.args.frame _ _ _ _ _ (first_stated c.args.items.now c.in-Some.item.now c.in-Some.rest.now c.in-Some.ensures.cases.0 c.in-Statement.stmt c.in-Statement.is) (statement_written (program_view c.args.program.now) c.args.path.now c.args.frame _ _ _ (stmt_view c.in-Statement.stmt) (items_of (map item_view c.in-Some.rest.now)) _ _ _ c.in_ok-first-in-Statement.ensures.written c.in_ok-others-in-Statement.ensures.written c.in_ok-all-in-Statement.ensures)
+
+pub inline_items-returns-in_err-all-in-Declaration-clause-last : goal.inline_items-returns-in_err-all-in-Declaration-clause-last
+inline_items-returns-in_err-all-in-Declaration-clause-last t c = let p = err_from_is_err_and c.from_residual-in_err-all-in-Declaration.result c.from_residual-in_err-all-in-Declaration.ensures.1 in ok_at_err c.from_residual-in_err-all-in-Declaration.result p.0 _ p.1
+
+pub inline_items-returns-in_err-all-in-Declaration-clause-written : goal.inline_items-returns-in_err-all-in-Declaration-clause-written
+inline_items-returns-in_err-all-in-Declaration-clause-written t c = let p = err_from_is_err_and c.from_residual-in_err-all-in-Declaration.result c.from_residual-in_err-all-in-Declaration.ensures.1 in ok_at_err c.from_residual-in_err-all-in-Declaration.result p.0 _ p.1
+
+pub inline_items-returns-in_err-all-in-Declaration-clause-limit : goal.inline_items-returns-in_err-all-in-Declaration-clause-limit
+inline_items-returns-in_err-all-in-Declaration-clause-limit t c = let p = err_from_is_err_and c.from_residual-in_err-all-in-Declaration.result c.from_residual-in_err-all-in-Declaration.ensures.1 in limit_memory c.from_residual-in_err-all-in-Declaration.result p.0 _ p.1 p.2
+
+pub inline_items-returns-in_err-all-in-Statement-clause-last : goal.inline_items-returns-in_err-all-in-Statement-clause-last
+inline_items-returns-in_err-all-in-Statement-clause-last t c = let p = err_from_is_err_and c.from_residual-in_err-all-in-Statement.result c.from_residual-in_err-all-in-Statement.ensures.1 in ok_at_err c.from_residual-in_err-all-in-Statement.result p.0 _ p.1
+
+pub inline_items-returns-in_err-all-in-Statement-clause-written : goal.inline_items-returns-in_err-all-in-Statement-clause-written
+inline_items-returns-in_err-all-in-Statement-clause-written t c = let p = err_from_is_err_and c.from_residual-in_err-all-in-Statement.result c.from_residual-in_err-all-in-Statement.ensures.1 in ok_at_err c.from_residual-in_err-all-in-Statement.result p.0 _ p.1
+
+pub inline_items-returns-in_err-all-in-Statement-clause-limit : goal.inline_items-returns-in_err-all-in-Statement-clause-limit
+inline_items-returns-in_err-all-in-Statement-clause-limit t c = let p = err_from_is_err_and c.from_residual-in_err-all-in-Statement.result c.from_residual-in_err-all-in-Statement.ensures.1 in limit_memory c.from_residual-in_err-all-in-Statement.result p.0 _ p.1 p.2

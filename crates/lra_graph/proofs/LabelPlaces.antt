@@ -1,0 +1,41 @@
+-- What a list of labels from a walk over a tree says of the label with a number.
+use Rattle.std.proofs.Common.{◌≡◌, ℕ, zero, suc, ◌-◌, List, map, Option, Some, None, option_map, slice_get, refl, sym, ap, ◌∙◌, subst}
+use Rattle.std.proofs.lemmas.Option.{none-some, same_Some, slice_get-map}
+use Rattle.lra_tree.specs.declared.trees.Identifier.{Identifier}
+use Rattle.lra_tree.specs.declared.labels.Label.{Label}
+use Rattle.lra_tree.specs.declared.refusals.Place.{Place}
+use Rattle.lra_tree.specs.Labels.{Labelled, label_at}
+use Rattle.lra_tree.specs.Walk.{told}
+use Rattle.lra_tree.specs.Refuse.{label_place, identifier_place, called_place}
+
+got : (ls : List Labelled) (labels : List Label) (n : ℕ) (o : Option Label) → labels ≡ map told ls → (n ≡ 0 → ⊥) → slice_get labels (n - 1) ≡ o → option_map told (label_at ls n) ≡ o
+got ls labels zero o e some f = absurd (some refl)
+got ls labels (suc k) o e some f = sym (slice_get-map told ls k) ∙ ap (λ (v : List Label). slice_get v k) (sym e) ∙ f
+
+place_told : (o : Option Labelled) (l : Label) → option_map told o ≡ Some l → label_place o ≡ l.place
+place_told None l e = absurd (none-some l e)
+place_told (Some x) l e = ap (λ (z : Label). z.place) (same_Some (told x) l e)
+
+called_told : (o : Option Labelled) (l : Label) → option_map told o ≡ Some l → called_place o ≡ identifier_place l.called
+called_told None l e = absurd (none-some l e)
+called_told (Some x) l e = ap (λ (z : Label). identifier_place z.called) (same_Some (told x) l e)
+
+none_told : (o : Option Labelled) → option_map told o ≡ None → o ≡ None
+none_told None e = refl
+none_told (Some x) e = absurd (none-some (told x) (sym e))
+
+module _ (ls : List Labelled) (labels : List Label) (n : ℕ) (e : labels ≡ map told ls) where
+  pub place_at_none : n ≡ 0 → label_at ls n ≡ None
+  place_at_none z = ap (label_at ls) z
+
+  pub place_none : (n ≡ 0 → ⊥) → slice_get labels (n - 1) ≡ None → label_at ls n ≡ None
+  place_none some f = none_told (label_at ls n) (got ls labels n None e some f)
+
+  pub place_some : (l : Label) → (n ≡ 0 → ⊥) → slice_get labels (n - 1) ≡ Some l → l.place ≡ label_place (label_at ls n)
+  place_some l some f = sym (place_told (label_at ls n) l (got ls labels n (Some l) e some f))
+
+  pub called_some : (l : Label) (x : Identifier) → (n ≡ 0 → ⊥) → slice_get labels (n - 1) ≡ Some l → l.called ≡ Some x → x.place ≡ called_place (label_at ls n)
+  called_some l x some f c = sym (called_told (label_at ls n) l (got ls labels n (Some l) e some f) ∙ ap identifier_place c)
+
+  pub called_none : (l : Label) → (n ≡ 0 → ⊥) → slice_get labels (n - 1) ≡ Some l → l.called ≡ None → called_place (label_at ls n) ≡ record { line = 1; column = 1 }
+  called_none l some f c = called_told (label_at ls n) l (got ls labels n (Some l) e some f) ∙ ap identifier_place c
