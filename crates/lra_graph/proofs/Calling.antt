@@ -1,5 +1,5 @@
 -- A call written out as the code has it: the callee's path, its body and the number of its parameters are known by equations.
-use Rattle.std.proofs.Common.{◌≡◌, ℕ, suc, ◌+◌, ◌-◌, List, [], ◌∷◌, length, Option, Some, None, slice_get, refl, sym, ap, ◌∙◌, subst, arith}
+use Rattle.std.proofs.Common.{◌≡◌, ℕ, suc, ◌+◌, ◌-◌, List, [], ◌∷◌, length, Option, Some, None, false, slice_get, refl, sym, ap, ◌∙◌, subst, arith}
 use Rattle.lra_tree.specs.Program.{Call, result, BlockItems, Function, Program}
 use Rattle.lra_tree.specs.Graph.{Node}
 use Rattle.lra_tree.specs.Sites.{Site, plain_site, live_behind, items_events, function_events, call_events}

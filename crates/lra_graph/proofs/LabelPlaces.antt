@@ -1,5 +1,5 @@
 -- What a list of labels from a walk over a tree says of the label with a number.
-use Rattle.std.proofs.Common.{◌≡◌, ℕ, zero, suc, ◌-◌, List, map, Option, Some, None, option_map, slice_get, refl, sym, ap, ◌∙◌, subst}
+use Rattle.std.proofs.Common.{◌≡◌, ℕ, zero, suc, ◌-◌, List, map, Option, Some, None, option_map, slice_get, refl, sym, ap, ◌∙◌, subst, arith}
 use Rattle.std.proofs.lemmas.Option.{none-some, same_Some, slice_get-map}
 use Rattle.lra_tree.specs.declared.trees.Identifier.{Identifier}
 use Rattle.lra_tree.specs.declared.labels.Label.{Label}
@@ -10,7 +10,9 @@ use Rattle.lra_tree.specs.Refuse.{label_place, identifier_place, called_place}
 
 got : (ls : List Labelled) (labels : List Label) (n : ℕ) (o : Option Label) → labels ≡ map told ls → (n ≡ 0 → ⊥) → slice_get labels (n - 1) ≡ o → option_map told (label_at ls n) ≡ o
 got ls labels zero o e some f = absurd (some refl)
-got ls labels (suc k) o e some f = sym (slice_get-map told ls k) ∙ ap (λ (v : List Label). slice_get v k) (sym e) ∙ f
+got ls labels (suc k) o e some f =
+    let same : suc k - 1 ≡ k = omega arith in
+    sym (slice_get-map told ls k) ∙ ap (λ (v : List Label). slice_get v k) (sym e) ∙ subst (λ n. slice_get labels n ≡ o) same f
 
 place_told : (o : Option Labelled) (l : Label) → option_map told o ≡ Some l → label_place o ≡ l.place
 place_told None l e = absurd (none-some l e)
