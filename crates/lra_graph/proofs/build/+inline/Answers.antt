@@ -22,7 +22,7 @@ use Rattle.lra_graph.proofs.Writing.{stmt_as, absent_written, nothing_written, b
 use Rattle.lra_graph.proofs.Standing.{assigned_fits, block_stands, assign_stands, call_stands, true_stands, false_stands, return_stands, result_stands, body_stands, step_stands, init_stands, for_again, break_stands, continue_stands, first_stands, others_stand, declared_stands, behind_stand, callee_stands}
 use Rattle.lra_graph.proofs.Calling.{one_less, no_call_more, call_at_body, call_at_end, invoked}
 use Rattle.lra_graph.proofs.Programs.{called_below, called_found, called_fits, called_wide, arguments_fit}
-use Rattle.lra_graph.proofs.Items.{first_declared, first_stated, none_left, items_stand_as, items_as, declaration_at_point, declaration_at_given, declaration_at_others, statement_at_first, statement_at_others, none_last, declared_last, stated_last, lighter, source_lighter, behind_lighter, first_lighter, others_lighter, callee_lighter}
+use Rattle.lra_graph.proofs.Items.{first_declared, first_stated, none_left, none_shown, items_stand_as, items_as, declaration_at_point, declaration_at_given, declaration_at_others, statement_at_first, statement_at_others, none_last, declared_last, stated_last, lighter, source_lighter, behind_lighter, first_lighter, others_lighter, callee_lighter}
 use Rattle.lra_graph.proofs.build.+inline.Goals as goal
 use Rattle.lra_graph.proofs.build.+inline.Goals.{inline_stmt-in-Some+in_ok-left-in-Some, inline_stmt-in-None+in_ok-left-in-None}
 
@@ -552,7 +552,7 @@ pub inline_items-returns-in-None-clause-last : goal.inline_items-returns-in-None
 inline_items-returns-in-None-clause-last t c = none_last c.args.frame.live (items_of (map item_view c.args.items.now)) (none_left c.args.items.now c.in-None.ensures.cases)
 
 pub inline_items-returns-in-None-clause-written : goal.inline_items-returns-in-None-clause-written
-inline_items-returns-in-None-clause-written t c = items_as (program_view c.args.program.now) c.args.path.now c.args.frame _ _ _ _ _ (none_left c.args.items.now c.in-None.ensures.cases) (subst (λ z. WritesItems (program_view c.args.program.now) c.args.path.now c.args.frame _ no_more z _) (sym shown_empty) (none_written (program_view c.args.program.now) c.args.path.now c.args.frame _))
+inline_items-returns-in-None-clause-written t c = none_shown (program_view c.args.program.now) c.args.path.now c.args.frame (map site_view c.args.sites.now.items) (items_of (map item_view c.args.items.now)) _ (none_left c.args.items.now c.in-None.ensures.cases) shown_empty
 
 pub inline_items-returns-in_ok-all-in-Declaration-clause-last : goal.inline_items-returns-in_ok-all-in-Declaration-clause-last
 inline_items-returns-in_ok-all-in-Declaration-clause-last t c = declared_last c.args.frame.live (c.args.frame.live + 1) _ (declarator_view c.in-Declaration.declarator) (items_of (map item_view c.in-Some.rest.now)) (items_of (map item_view c.args.items.now)) (first_declared c.args.items.now c.in-Some.item.now c.in-Some.rest.now c.in-Some.ensures.cases.0 c.in-Declaration.declarator c.in-Declaration.is) (omega arith) c.in_ok-others-in-Declaration.ensures.last
