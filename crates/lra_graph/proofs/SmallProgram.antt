@@ -3,13 +3,13 @@ use Rattle.std.proofs.Common.{◌≡◌, ℕ, ℤ, List, [], ◌∷◌, map, Non
 use Rattle.lra_tree.specs.Program.{Expr, literal, read, local, Cond, nonzero, value, Stmt, absent, assign, if, assert, BlockItems, no_more, declaration, statement, Function, Program}
 use Rattle.lra_tree.specs.WellFormed.{IsWellFormed}
 use Rattle.lra_tree.specs.ProgramViews.{slot_view, expr_view, cond_view, stmt_view, item_view, items_of, function_view, function_or, program_view}
-use Rattle.lra_tree.specs.declared.program.Slot as code_slot
+use Rattle.lra_tree.specs.declared.program.Slot.TheVariants as code_slot
 use Rattle.lra_tree.specs.declared.program.Slot.{Slot}
 use Rattle.lra_tree.specs.declared.program.Expr as code_expr
 use Rattle.lra_tree.specs.declared.program.Expr.{the_lemmas as expr_lemmas}
 use Rattle.lra_tree.specs.declared.program.Cond as code_cond
 use Rattle.lra_tree.specs.declared.program.Cond.{the_lemmas as cond_lemmas}
-use Rattle.lra_tree.specs.declared.program.Source as code_source
+use Rattle.lra_tree.specs.declared.program.Source.TheVariants as code_source
 use Rattle.lra_tree.specs.declared.program.Declarator.{Declarator}
 use Rattle.lra_tree.specs.declared.program.Stmt as code
 use Rattle.lra_tree.specs.declared.program.BlockItem as code_item
@@ -42,8 +42,8 @@ small_well : IsWellFormed small_program
 small_well = record {
   globals = tt;
   labels = refl;
-  functions = ((tt, ((omega arith, omega arith), ((omega arith, (omega arith, tt)), tt))), tt);
-  main = (0, (omega arith, refl));
+  functions = ((tt, (omega arith, omega arith), (omega arith, omega arith, tt), tt), tt);
+  main = (0, omega arith, refl);
   alone = refl;
 }
 
