@@ -96,13 +96,13 @@ pub inline_declared-returns-in_ok-behind-in-Some-clause-written : goal.inline_de
 inline_declared-returns-in_ok-behind-in-Some-clause-written t c = rw c.in-Some.is (given_written (program_view c.args.program.now) c.args.path.now c.args.frame _ _ c.args.point (c.args.frame.live + 1) (source_view c.in-Some.source) _ _ (omega arith) c.in_ok-given-in-Some.ensures.written c.in_ok-behind-in-Some.ensures)
 
 pub inline_end-inline_call-requires : goal.inline_end-inline_call-requires
-inline_end-inline_call-requires t c = (part_falls (program_view c.args.program.now) c.args.frame.calls_left t 2 4 c.decreases (omega arith), (c.requires.well, (omega (arith, c.requires.few), result_stands (program_view c.args.program.now) c.args.frame (call_view c.in-Some-Result.call) (given_seen (program_view c.args.program.now) c.args.frame (given_view c.args.source.now) (Some (result (call_view c.in-Some-Result.call))) (shown_result c.args.source.now c.in-Some-Result.field-0 c.in-Some-Result.call c.in-Some-Result.is c.in-Some-Result.field-0-is) c.requires.stands))))
+inline_end-inline_call-requires t c = (part_falls (program_view c.args.program.now) c.args.frame.calls_left t 2 4 c.decreases (omega arith), (c.requires.well, (omega (arith, c.requires.few), result_stands (program_view c.args.program.now) c.args.frame (call_view c.in-Some-Result.call) (given_seen (program_view c.args.program.now) c.args.frame (given_view c.args.source.now) (Some (result (call_view c.in-Some-Result.call))) (shown_result c.args.source.now c.in-Some-Result.field-0 c.in-Some-Result.call c.in-Some-Result.is (rw c.in-Some-Result.is at c.in-Some-Result.field-0-is)) c.requires.stands))))
 
 pub inline_end-returns-in_err-given-in-Some-Result-clause-written : goal.inline_end-returns-in_err-given-in-Some-Result-clause-written
 inline_end-returns-in_err-given-in-Some-Result-clause-written t c = let p = err_from_is_err_and c.from_residual.result c.from_residual.ensures.1 in ok_at_err c.from_residual.result p.0 _ p.1
 
 pub inline_end-returns-in_err-given-in-Some-Result-clause-limit : goal.inline_end-returns-in_err-given-in-Some-Result-clause-limit
-inline_end-returns-in_err-given-in-Some-Result-clause-limit t c = let p = err_from_is_err_and c.from_residual.result c.from_residual.ensures.1 in given_limit (program_view c.args.program.now) c.args.frame c.args.path.now (map site_view c.args.sites.now.items) c.from_residual.result (given_view c.args.source.now) (Some (result (call_view c.in-Some-Result.call))) (shown_result c.args.source.now c.in-Some-Result.field-0 c.in-Some-Result.call c.in-Some-Result.is c.in-Some-Result.field-0-is) (limit_by c.from_residual.result p.0 _ (map site_view c.args.sites.now.items) (map site_view c.args.sites.now.items) ((inside (program_view c.args.program.now) c.args.path.now c.args.frame) c.args.path.now c.args.frame.live (call_view c.in-Some-Result.call)) ((inside (program_view c.args.program.now) c.args.path.now c.args.frame) c.args.path.now c.args.frame.live (call_view c.in-Some-Result.call)) p.1 p.2 (λ x h. h) c.in_err-given-in-Some-Result.ensures.limit)
+inline_end-returns-in_err-given-in-Some-Result-clause-limit t c = let p = err_from_is_err_and c.from_residual.result c.from_residual.ensures.1 in given_limit (program_view c.args.program.now) c.args.frame c.args.path.now (map site_view c.args.sites.now.items) c.from_residual.result (given_view c.args.source.now) (Some (result (call_view c.in-Some-Result.call))) (shown_result c.args.source.now c.in-Some-Result.field-0 c.in-Some-Result.call c.in-Some-Result.is (rw c.in-Some-Result.is at c.in-Some-Result.field-0-is)) (limit_by c.from_residual.result p.0 _ (map site_view c.args.sites.now.items) (map site_view c.args.sites.now.items) ((inside (program_view c.args.program.now) c.args.path.now c.args.frame) c.args.path.now c.args.frame.live (call_view c.in-Some-Result.call)) ((inside (program_view c.args.program.now) c.args.path.now c.args.frame) c.args.path.now c.args.frame.live (call_view c.in-Some-Result.call)) p.1 p.2 (λ x h. h) c.in_err-given-in-Some-Result.ensures.limit)
 
 pub inline_end-returns-in_err-in_turn-in-Some-Result-clause-written : goal.inline_end-returns-in_err-in_turn-in-Some-Result-clause-written
 inline_end-returns-in_err-in_turn-in-Some-Result-clause-written t c = let p = err_from_is_err_and c.from_residual-in_err-in_turn-in-Some-Result.result c.from_residual-in_err-in_turn-in-Some-Result.ensures.1 in ok_at_err c.from_residual-in_err-in_turn-in-Some-Result.result p.0 _ p.1
@@ -111,10 +111,10 @@ pub inline_end-returns-in_err-in_turn-in-Some-Result-clause-limit : goal.inline_
 inline_end-returns-in_err-in_turn-in-Some-Result-clause-limit t c = let p = err_from_is_err_and c.from_residual-in_err-in_turn-in-Some-Result.result c.from_residual-in_err-in_turn-in-Some-Result.ensures.1 in limit_memory c.from_residual-in_err-in_turn-in-Some-Result.result p.0 _ p.1 p.2
 
 pub inline_end-returns-in_ok-in_turn-in-Some-Result-clause-written : goal.inline_end-returns-in_ok-in_turn-in-Some-Result-clause-written
-inline_end-returns-in_ok-in_turn-in-Some-Result-clause-written t c = given_returned (program_view c.args.program.now) c.args.frame c.args.path.now _ _ c.args.point (given_view c.args.source.now) (Some (result (call_view c.in-Some-Result.call))) _ (shown_result c.args.source.now c.in-Some-Result.field-0 c.in-Some-Result.call c.in-Some-Result.is c.in-Some-Result.field-0-is) (end_call_written (program_view c.args.program.now) c.args.path.now c.args.frame _ c.args.point c.requires.back _ (call_view c.in-Some-Result.call) _ _ c.in_ok-given-in-Some-Result.ensures.written (c.in_ok-in_turn-in-Some-Result.ensures ∙ ap (λ z. seq (node_view c.in_ok-given-in-Some-Result.given) z) (shown_leave c.args.frame.live _)))
+inline_end-returns-in_ok-in_turn-in-Some-Result-clause-written t c = given_returned (program_view c.args.program.now) c.args.frame c.args.path.now _ _ c.args.point (given_view c.args.source.now) (Some (result (call_view c.in-Some-Result.call))) _ (shown_result c.args.source.now c.in-Some-Result.field-0 c.in-Some-Result.call c.in-Some-Result.is (rw c.in-Some-Result.is at c.in-Some-Result.field-0-is)) (end_call_written (program_view c.args.program.now) c.args.path.now c.args.frame _ c.args.point c.requires.back _ (call_view c.in-Some-Result.call) _ _ c.in_ok-given-in-Some-Result.ensures.written (c.in_ok-in_turn-in-Some-Result.ensures ∙ ap (λ z. seq (node_view c.in_ok-given-in-Some-Result.given) z) (shown_leave c.args.frame.live _)))
 
 pub inline_end-returns-in-Some-Value-clause-written : goal.inline_end-returns-in-Some-Value-clause-written
-inline_end-returns-in-Some-Value-clause-written t c = given_returned (program_view c.args.program.now) c.args.frame c.args.path.now _ _ c.args.point (given_view c.args.source.now) (Some (value (expr_view c.in-Some-Value.field-0-0))) _ (shown_value c.args.source.now c.in-Some-Value.field-0 c.in-Some-Value.field-0-0 c.in-Some-Value.is c.in-Some-Value.field-0-is) (end_value_written (program_view c.args.program.now) c.args.path.now c.args.frame _ c.args.point c.requires.back (expr_view c.in-Some-Value.field-0-0) _ (shown_leave c.args.frame.live _))
+inline_end-returns-in-Some-Value-clause-written t c = given_returned (program_view c.args.program.now) c.args.frame c.args.path.now _ _ c.args.point (given_view c.args.source.now) (Some (value (expr_view c.in-Some-Value.field-0-0))) _ (shown_value c.args.source.now c.in-Some-Value.field-0 c.in-Some-Value.field-0-0 c.in-Some-Value.is (rw c.in-Some-Value.is at c.in-Some-Value.field-0-is)) (end_value_written (program_view c.args.program.now) c.args.path.now c.args.frame _ c.args.point c.requires.back (expr_view c.in-Some-Value.field-0-0) _ (shown_leave c.args.frame.live _))
 
 pub inline_end-returns-in-None-clause-written : goal.inline_end-returns-in-None-clause-written
 inline_end-returns-in-None-clause-written t c = rw c.in-None.is (end_any_written (program_view c.args.program.now) c.args.path.now c.args.frame _ c.args.point c.requires.back _ (shown_leave c.args.frame.live _))
@@ -282,13 +282,13 @@ pub inline_return-returns-in_err-returned-in-Some-Value-clause-limit : goal.inli
 inline_return-returns-in_err-returned-in-Some-Value-clause-limit t c = let p = err_from_is_err_and c.from_residual-in_err-returned-in-Some-Value.result c.from_residual-in_err-returned-in-Some-Value.ensures.1 in limit_memory c.from_residual-in_err-returned-in-Some-Value.result p.0 _ p.1 p.2
 
 pub inline_return-inline_call-requires : goal.inline_return-inline_call-requires
-inline_return-inline_call-requires t c = (part_falls (program_view c.args.program.now) c.args.frame.calls_left t 2 4 c.decreases (omega arith), (c.requires.well, (omega (arith, c.requires.few), result_stands (program_view c.args.program.now) c.args.frame (call_view c.in-Some-Result.call) (given_seen (program_view c.args.program.now) c.args.frame (given_view c.args.source.now) (Some (result (call_view c.in-Some-Result.call))) (shown_result c.args.source.now c.in-Some-Result.field-0 c.in-Some-Result.call c.in-Some-Result.is c.in-Some-Result.field-0-is) c.requires.stands))))
+inline_return-inline_call-requires t c = (part_falls (program_view c.args.program.now) c.args.frame.calls_left t 2 4 c.decreases (omega arith), (c.requires.well, (omega (arith, c.requires.few), result_stands (program_view c.args.program.now) c.args.frame (call_view c.in-Some-Result.call) (given_seen (program_view c.args.program.now) c.args.frame (given_view c.args.source.now) (Some (result (call_view c.in-Some-Result.call))) (shown_result c.args.source.now c.in-Some-Result.field-0 c.in-Some-Result.call c.in-Some-Result.is (rw c.in-Some-Result.is at c.in-Some-Result.field-0-is)) c.requires.stands))))
 
 pub inline_return-returns-in_err-given-in-Some-Result-clause-written : goal.inline_return-returns-in_err-given-in-Some-Result-clause-written
 inline_return-returns-in_err-given-in-Some-Result-clause-written t c = let p = err_from_is_err_and c.from_residual-in_err-given-in-Some-Result.result c.from_residual-in_err-given-in-Some-Result.ensures.1 in ok_at_err c.from_residual-in_err-given-in-Some-Result.result p.0 _ p.1
 
 pub inline_return-returns-in_err-given-in-Some-Result-clause-limit : goal.inline_return-returns-in_err-given-in-Some-Result-clause-limit
-inline_return-returns-in_err-given-in-Some-Result-clause-limit t c = let p = err_from_is_err_and c.from_residual-in_err-given-in-Some-Result.result c.from_residual-in_err-given-in-Some-Result.ensures.1 in given_limit (program_view c.args.program.now) c.args.frame c.args.path.now (map site_view c.args.sites.now.items) c.from_residual-in_err-given-in-Some-Result.result (given_view c.args.source.now) (Some (result (call_view c.in-Some-Result.call))) (shown_result c.args.source.now c.in-Some-Result.field-0 c.in-Some-Result.call c.in-Some-Result.is c.in-Some-Result.field-0-is) (limit_by c.from_residual-in_err-given-in-Some-Result.result p.0 _ (map site_view c.args.sites.now.items) (map site_view c.args.sites.now.items) ((inside (program_view c.args.program.now) c.args.path.now c.args.frame) c.args.path.now c.args.frame.live (call_view c.in-Some-Result.call)) ((inside (program_view c.args.program.now) c.args.path.now c.args.frame) c.args.path.now c.args.frame.live (call_view c.in-Some-Result.call)) p.1 p.2 (λ x h. h) c.in_err-given-in-Some-Result.ensures.limit)
+inline_return-returns-in_err-given-in-Some-Result-clause-limit t c = let p = err_from_is_err_and c.from_residual-in_err-given-in-Some-Result.result c.from_residual-in_err-given-in-Some-Result.ensures.1 in given_limit (program_view c.args.program.now) c.args.frame c.args.path.now (map site_view c.args.sites.now.items) c.from_residual-in_err-given-in-Some-Result.result (given_view c.args.source.now) (Some (result (call_view c.in-Some-Result.call))) (shown_result c.args.source.now c.in-Some-Result.field-0 c.in-Some-Result.call c.in-Some-Result.is (rw c.in-Some-Result.is at c.in-Some-Result.field-0-is)) (limit_by c.from_residual-in_err-given-in-Some-Result.result p.0 _ (map site_view c.args.sites.now.items) (map site_view c.args.sites.now.items) ((inside (program_view c.args.program.now) c.args.path.now c.args.frame) c.args.path.now c.args.frame.live (call_view c.in-Some-Result.call)) ((inside (program_view c.args.program.now) c.args.path.now c.args.frame) c.args.path.now c.args.frame.live (call_view c.in-Some-Result.call)) p.1 p.2 (λ x h. h) c.in_err-given-in-Some-Result.ensures.limit)
 
 pub inline_return-returns-in_err-leave-in-Some-Result-clause-written : goal.inline_return-returns-in_err-leave-in-Some-Result-clause-written
 inline_return-returns-in_err-leave-in-Some-Result-clause-written t c = let p = err_from_is_err_and c.from_residual-in_err-leave-in-Some-Result.result c.from_residual-in_err-leave-in-Some-Result.ensures.1 in ok_at_err c.from_residual-in_err-leave-in-Some-Result.result p.0 _ p.1
@@ -306,10 +306,10 @@ pub inline_return-returns-in_ok-returned-in-None-clause-written : goal.inline_re
 inline_return-returns-in_ok-returned-in-None-clause-written t c = rw c.in-None.is (return_any_written (program_view c.args.program.now) c.args.path.now c.args.frame _ c.args.point c.args.back c.requires.back (c.requires.stands.back_low c.args.back c.requires.back) _ c.in_ok-returned-in-None.ensures)
 
 pub inline_return-returns-in_ok-returned-in-Some-Value-clause-written : goal.inline_return-returns-in_ok-returned-in-Some-Value-clause-written
-inline_return-returns-in_ok-returned-in-Some-Value-clause-written t c = given_returned (program_view c.args.program.now) c.args.frame c.args.path.now _ _ c.args.point (given_view c.args.source.now) (Some (value (expr_view c.in-Some-Value.value))) _ (shown_value c.args.source.now c.in-Some-Value.field-0 c.in-Some-Value.value c.in-Some-Value.is c.in-Some-Value.field-0-is) (return_value_written (program_view c.args.program.now) c.args.path.now c.args.frame _ c.args.point c.args.back c.requires.back (c.requires.stands.back_low c.args.back c.requires.back) (expr_view c.in-Some-Value.value) _ (c.in_ok-returned-in-Some-Value.ensures ∙ ap (λ z. return_node c.args.point (give c.args.frame.base c.args.back.target z) c.args.back.length c.args.frame.live) c.in_ok-copy-in-Some-Value.ensures))
+inline_return-returns-in_ok-returned-in-Some-Value-clause-written t c = given_returned (program_view c.args.program.now) c.args.frame c.args.path.now _ _ c.args.point (given_view c.args.source.now) (Some (value (expr_view c.in-Some-Value.value))) _ (shown_value c.args.source.now c.in-Some-Value.field-0 c.in-Some-Value.value c.in-Some-Value.is (rw c.in-Some-Value.is at c.in-Some-Value.field-0-is)) (return_value_written (program_view c.args.program.now) c.args.path.now c.args.frame _ c.args.point c.args.back c.requires.back (c.requires.stands.back_low c.args.back c.requires.back) (expr_view c.in-Some-Value.value) _ (c.in_ok-returned-in-Some-Value.ensures ∙ ap (λ z. return_node c.args.point (give c.args.frame.base c.args.back.target z) c.args.back.length c.args.frame.live) c.in_ok-copy-in-Some-Value.ensures))
 
 pub inline_return-returns-in_ok-in_turn-in-Some-Result-clause-written : goal.inline_return-returns-in_ok-in_turn-in-Some-Result-clause-written
-inline_return-returns-in_ok-in_turn-in-Some-Result-clause-written t c = given_returned (program_view c.args.program.now) c.args.frame c.args.path.now _ _ c.args.point (given_view c.args.source.now) (Some (result (call_view c.in-Some-Result.call))) _ (shown_result c.args.source.now c.in-Some-Result.field-0 c.in-Some-Result.call c.in-Some-Result.is c.in-Some-Result.field-0-is) (return_call_written (program_view c.args.program.now) c.args.path.now c.args.frame _ c.args.point c.args.back c.requires.back (c.requires.stands.back_low c.args.back c.requires.back) _ (call_view c.in-Some-Result.call) _ _ _ c.in_ok-given-in-Some-Result.ensures.written c.in_ok-leave-in-Some-Result.ensures c.in_ok-in_turn-in-Some-Result.ensures)
+inline_return-returns-in_ok-in_turn-in-Some-Result-clause-written t c = given_returned (program_view c.args.program.now) c.args.frame c.args.path.now _ _ c.args.point (given_view c.args.source.now) (Some (result (call_view c.in-Some-Result.call))) _ (shown_result c.args.source.now c.in-Some-Result.field-0 c.in-Some-Result.call c.in-Some-Result.is (rw c.in-Some-Result.is at c.in-Some-Result.field-0-is)) (return_call_written (program_view c.args.program.now) c.args.path.now c.args.frame _ c.args.point c.args.back c.requires.back (c.requires.stands.back_low c.args.back c.requires.back) _ (call_view c.in-Some-Result.call) _ _ _ c.in_ok-given-in-Some-Result.ensures.written c.in_ok-leave-in-Some-Result.ensures c.in_ok-in_turn-in-Some-Result.ensures)
 
 pub inline_source-returns-in_err-value-in-Value-clause-written : goal.inline_source-returns-in_err-value-in-Value-clause-written
 inline_source-returns-in_err-value-in-Value-clause-written t c = let p = err_from_is_err_and c.from_residual.result c.from_residual.ensures.1 in ok_at_err c.from_residual.result p.0 _ p.1
