@@ -42,7 +42,7 @@ small_well : IsWellFormed small_program
 small_well = record {
   globals = tt;
   labels = refl;
-  functions = ((tt, (omega arith, omega arith), (omega arith, omega arith, tt), tt), tt);
+  functions = ((tt, ((omega arith, omega arith), ((omega arith, omega arith, tt), tt))), tt);
   main = (0, omega arith, refl);
   alone = refl;
 }
