@@ -20,14 +20,14 @@ pub no_call_more : (P : Program) (path : List ℕ) (left live : ℕ) (S : List S
 no_call_more P path left live S c none = subst (λ z. walk S (call_events P z path live c) ≡ stopped (Calls c.label)) (sym none) refl
 
 module _ (P : Program) (path : List ℕ) (r : Frame) (S : List Site) (c : Call) (fn : Function) (less : ℕ) (x : Option ℕ) (p : List ℕ) (k : ℕ) (b : BlockItems)
-  (left : r.calls_left ≡ suc less) (found : slice_get P.functions c.function ≡ Some fn) (within : p ≡ c.label ∷ path) (wide : k ≡ fn.parameters) (body : b ≡ fn.body) where
+    (left : r.calls_left ≡ suc less) (found : slice_get P.functions c.function ≡ Some fn) (within : p ≡ c.label ∷ path) (wide : k ≡ fn.parameters) (body : b ≡ fn.body) where
   call_walk : (w : Progress) → walk S (function_events (call_events P less) (c.label ∷ path) r.live (Some fn)) ≡ w → walk S (call_events P r.calls_left path r.live c) ≡ w
   call_walk w e = subst (λ z. walk S (call_events P z path r.live c) ≡ w) (sym left) (subst (λ o. walk S (function_events (call_events P less) (c.label ∷ path) r.live o) ≡ w) (sym found) e)
 
   items_as : (w : Progress) → walk S (items_events (call_events P less) p (r.live + k) b) ≡ w → walk S (items_events (call_events P less) (c.label ∷ path) (r.live + fn.parameters) fn.body) ≡ w
   items_as w e =
       subst (λ z. walk S (items_events (call_events P less) (c.label ∷ path) (r.live + fn.parameters) z) ≡ w) body
-          (subst (λ z. walk S (items_events (call_events P less) (c.label ∷ path) (r.live + z) b) ≡ w) wide (subst (λ z. walk S (items_events (call_events P less) z (r.live + k) b) ≡ w) within e))
+      (subst (λ z. walk S (items_events (call_events P less) (c.label ∷ path) (r.live + z) b) ≡ w) wide (subst (λ z. walk S (items_events (call_events P less) z (r.live + k) b) ≡ w) within e))
 
   lives_as : (n : ℕ) → n ≡ live_behind (r.live + k) b → n ≡ live_behind (r.live + fn.parameters) fn.body
   lives_as n same = same ∙ ap (λ z. live_behind (r.live + z) b) wide ∙ ap (λ z. live_behind (r.live + fn.parameters) z) body
@@ -53,7 +53,7 @@ module _ (P : Program) (path : List ℕ) (r : Frame) (S : List Site) (c : Call) 
       → g ≡ call_node q e r.base r.live x c.arguments k h → WritesSource P path r q x S (result c) g U
   invoked V U q e n h g fits y same i pointed a =
       let y' = subst (λ z. WritesItems P (c.label ∷ path) (inner fn.parameters) S z h V) body
-          (subst (λ z. WritesItems P (c.label ∷ path) (inner z) S b h V) wide (subst (λ z. WritesItems P z (inner k) S b h V) within y)) in
+      (subst (λ z. WritesItems P (c.label ∷ path) (inner z) S b h V) wide (subst (λ z. WritesItems P z (inner k) S b h V) within y)) in
       let pointed' : Pointed V (record { path = c.label ∷ path; label = fn.end; live = n; asserts = false }) U = subst (λ z. Pointed V (record { path = z; label = fn.end; live = n; asserts = false }) U) within pointed in
       let a' : g ≡ call_node q e r.base r.live x c.arguments fn.parameters h = subst (λ z. g ≡ call_node q e r.base r.live x c.arguments z h) wide a in
       result_written P path r S V U q e n less x c fn h g left found fits y' (lives_as n same) i pointed' a'

@@ -117,7 +117,7 @@ module _ (P : Program) (well : IsWellFormed P) (p : List ℕ) (r : Frame) (S : L
   writes_as : (h : Node) (V : List Site) → WritesItems P p r S b h V → WritesItems P [] (first_frame P) [] P.main.body h V
   writes_as h V x =
       subst (λ z. WritesItems P [] (first_frame P) [] z h V) (sym body)
-          (subst (λ z. WritesItems P [] (first_frame P) z b h V) none (subst (λ z. WritesItems P [] z S b h V) first (subst (λ z. WritesItems P z r S b h V) from x)))
+      (subst (λ z. WritesItems P [] (first_frame P) z b h V) none (subst (λ z. WritesItems P [] z S b h V) first (subst (λ z. WritesItems P z r S b h V) from x)))
 
   lives_as : (n : ℕ) → n ≡ live_behind r.live b → n ≡ live_behind (length P.globals) P.main.body
   lives_as n same = same ∙ ap (λ (z : Frame). live_behind z.live b) first ∙ ap (λ z. live_behind (length P.globals) z) (sym body)
@@ -145,8 +145,8 @@ module _ (P : Program) (well : IsWellFormed P) (p : List ℕ) (r : Frame) (S : L
   pub refused_in_items : (x : Limit) → walk S (items_events (inside P p r) p r.live b) ≡ stopped x → (ls : List Labelled) → limit_fault ls 0 (events_of P) ≡ Some (refusal_of ls x)
   refused_in_items x e ls = refused_there P x ls (items_stopped P well.alone x
       (subst (λ z. walk [] (items_events (call_events P 32) [] (length P.globals) z) ≡ stopped x) (sym body)
-          (subst (λ z. walk z (items_events (call_events P 32) [] (length P.globals) b) ≡ stopped x) none
-          (subst (λ (z : Frame). walk S (items_events (inside P [] z) [] z.live b) ≡ stopped x) first (subst (λ z. walk S (items_events (inside P z r) z r.live b) ≡ stopped x) from e)))))
+      (subst (λ z. walk z (items_events (call_events P 32) [] (length P.globals) b) ≡ stopped x) none
+      (subst (λ (z : Frame). walk S (items_events (inside P [] z) [] z.live b) ≡ stopped x) first (subst (λ z. walk S (items_events (inside P z r) z r.live b) ≡ stopped x) from e)))))
 
   pub refused_at_end : (V : List Site) (h : Node) (n : ℕ) (x : Limit) → n ≡ live_behind r.live b → WritesItems P p r S b h V → walk V (plain_site p at n ∷ []) ≡ stopped x → (ls : List Labelled) → limit_fault ls 0 (events_of P) ≡ Some (refusal_of ls x)
   refused_at_end V h n x same y e ls = refused_there P x ls (end_stopped P well.alone V x (writes_as h V y).walked (end_as n V (stopped x) same e))

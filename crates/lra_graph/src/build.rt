@@ -3,8 +3,6 @@
 
 mod whole;
 
-pub use whole::build_graph;
-
 ghost use Rattle.std.specs.Prelude.{◌≡◌, ◌<◌, ◌≤◌, ◌+◌, ◌^◌, ◌++◌, ◌∷◌, ℕ, [], length, map, IfOk, MatchOption, Option, true};
 ghost use Rattle.lra_tree.specs.Program as resolved;
 ghost use Rattle.lra_tree.specs.Sites.{comes, plain_site, live_behind, stmt_events, items_events, source_events, given_events, call_events};
@@ -24,6 +22,7 @@ use crate::points::{GraphError, Limit, add_point};
 use lra_tree::graph::{Exit, Node, Op, Path, Site};
 use lra_tree::program::{BlockItem, Call, Cond, Program, Slot, Source, Stmt};
 use std::alloc::Global;
+pub use whole::build_graph;
 
 /// Where a variable stands in the store.
 fn place_of(base: usize, slot: Slot) -> usize
@@ -90,11 +89,7 @@ fn assertion(
 {
     let point = add_point(alloc, path, label, frame.live, true, sites)?;
     let cond = cond.copy(alloc)?;
-    Ok(behind_point(
-        alloc,
-        point,
-        Node::Check(point, frame.base, cond),
-    )?)
+    Ok(behind_point(alloc, point, Node::Check(point, frame.base, cond))?)
 }
 
 fn assumption_of(
@@ -251,8 +246,9 @@ fn inline_declared(
                 live: frame.live + 1,
                 ..frame
             };
-            let given =
-                inline_source(alloc, program, path, behind_it, point, target, source, sites)?;
+            let given = inline_source(
+                alloc, program, path, behind_it, point, target, source, sites,
+            )?;
             Ok(behind(alloc, point, Op::Append, given)?)
         }
     }
@@ -316,8 +312,17 @@ fn inline_for(
             let point = add_point(alloc, path, *label, live, false, sites)?;
             let (init, _) = inline_items(alloc, program, path, frame, init, sites)?;
             let behind_init = Frame { live, ..frame };
-            let again =
-                inline_loop(alloc, program, path, behind_init, point, cond, body, step, sites)?;
+            let again = inline_loop(
+                alloc,
+                program,
+                path,
+                behind_init,
+                point,
+                cond,
+                body,
+                step,
+                sites,
+            )?;
             let end = Node::Act(point, Op::Keep(frame.live));
             let rest = in_turn(alloc, again, end)?;
             Ok(in_turn(alloc, init, rest)?)
