@@ -1,6 +1,6 @@
 -- The program of a test is well-formed: `int main(void){long x; x=2; if(x) assert(x);}`.
 use Rattle.std.proofs.Common.{◌≡◌, ℕ, ℤ, List, [], ◌∷◌, map, None, slice_get, refl, sym, ap, ◌∙◌, subst, rules, arith, Box, Global}
-use Rattle.lra_tree.specs.Program.{Expr, literal, read, local, Cond, nonzero, value, Stmt, absent, assign, if, assert, BlockItems, no_more, declaration, statement, Function, Program}
+use Rattle.lra_tree.specs.Program.{literal, read, local, Cond, nonzero, value, Stmt, absent, assign, if, assert, BlockItems, no_more, declaration, statement, Function, Program}
 use Rattle.lra_tree.specs.WellFormed.{IsWellFormed}
 use Rattle.lra_tree.specs.ProgramViews.{slot_view, expr_view, cond_view, stmt_view, item_view, items_of, function_view, function_or, program_view}
 use Rattle.lra_tree.specs.declared.program.Slot.TheVariants as code_slot
