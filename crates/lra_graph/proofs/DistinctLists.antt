@@ -46,7 +46,7 @@ differ_apart [] ys d x i j = i
 differ_apart (y ∷ xs) ys d x (inl e) j = d.0 (in_right y xs ys (subst (λ z. IsIn z ys) e j))
 differ_apart (y ∷ xs) ys d x (inr i) j = differ_apart xs ys d.1 x i j
 
-in_range : (x a n : ℕ) → IsIn x (range_with_len a n) → a ≤ x
+pub in_range : (x a n : ℕ) → IsIn x (range_with_len a n) → a ≤ x
 in_range x a zero i = absurd i
 in_range x a (suc n) (inl e) = omega arith
 in_range x a (suc n) (inr i) = let h = in_range x (a + 1) n i in omega arith
@@ -65,6 +65,11 @@ pub in_at : {A : Type 0} (xs : List A) (i : ℕ) (x : A) → slice_get xs i ≡ 
 in_at [] i x e = absurd (none-some x e)
 in_at (y ∷ xs) zero x e = inl (sym (same_Some y x e))
 in_at (y ∷ xs) (suc i) x e = inr (in_at xs i x e)
+
+pub in_piece : {A B : Type 0} (f : A → List B) (xs : List A) (i : ℕ) (x : A) (y : B) → slice_get xs i ≡ Some x → IsIn y (f x) → IsIn y (flat_map f xs)
+in_piece f [] i x y e here = absurd (none-some x e)
+in_piece f (z ∷ xs) zero x y e here = in_left y (f z) (flat_map f xs) (subst (λ w. IsIn y (f w)) (sym (same_Some z x e)) here)
+in_piece f (z ∷ xs) (suc i) x y e here = in_right y (f z) (flat_map f xs) (in_piece f xs i x y e here)
 
 pub one_place : {A : Type 0} (xs : List A) (i j : ℕ) (x : A) → AllDiffer xs → slice_get xs i ≡ Some x → slice_get xs j ≡ Some x → i ≡ j
 one_place [] i j x d e f = absurd (none-some x e)

@@ -148,7 +148,7 @@ module _ (P : Program) (well : IsWellFormed P) where
         (spread_function P (call_events P more) (spread_call more) (c.label ∷ path) live good.callee (all_at P P.functions c.function good.callee well.functions good.is_callee) (labels_differ c.function good.callee good.is_callee))),
   )
 
-  main_at : (i : ℕ) × (slice_get P.functions i ≡ Some P.main)
+  pub main_at : (i : ℕ) × (slice_get P.functions i ≡ Some P.main)
   main_at = (well.main.0, slice_get-get_or P.functions well.main.0 P.main well.main.1 ∙ ap Some well.main.2)
 
   spread_program : Spread [] (function_numbers P.main) (keys_in (events_of P))

@@ -15,10 +15,21 @@ pub mod DistinctSites
 -- Parts of a program written out: their points, their trees, and where a limit stops them.
 pub mod Walking
 pub mod Writing
+pub mod Calling
 pub mod Stopping
+pub mod Handed
 pub mod Totals
 -- What the code's values stand for, where parts stand, and why the writing ends.
 pub mod Shown
 pub mod LiveInside
 pub mod Standing
+pub mod Seen
+pub mod ForLoops
 pub mod Sizes
+pub mod Falling
+pub mod Items
+pub mod Programs
+-- What labels say of a limit's place.
+pub mod LabelPlaces
+-- A program by hand.
+pub mod SmallProgram

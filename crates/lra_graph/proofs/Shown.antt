@@ -1,10 +1,12 @@
 -- What values of the code's types stand for, form by form.
-use Rattle.std.proofs.Common.{◌≡◌, ℕ, map, Option, rules, Box, Global}
+use Rattle.std.proofs.Common.{◌≡◌, ℕ, map, Option, Some, ap, ◌∙◌, rules, Box, Global}
 use Rattle.lra_tree.specs.Program as program
 use Rattle.lra_tree.specs.Graph as graph
 use Rattle.lra_tree.specs.declared.program.Slot.{Slot}
 use Rattle.lra_tree.specs.declared.program.Cond.{Cond}
 use Rattle.lra_tree.specs.declared.program.Source.{Source}
+use Rattle.lra_tree.specs.declared.program.Source.TheVariants as code_source
+use Rattle.lra_tree.specs.declared.program.Expr.{Expr}
 use Rattle.lra_tree.specs.declared.program.Declarator.{Declarator}
 use Rattle.lra_tree.specs.declared.program.Call.{Call}
 use Rattle.lra_tree.specs.declared.program.BlockItem.{BlockItem, the_lemmas as item_lemmas}
@@ -16,7 +18,7 @@ use Rattle.lra_tree.specs.declared.graph.Op.{Op}
 use Rattle.lra_tree.specs.declared.graph.Exit.{Exit}
 use Rattle.lra_tree.specs.declared.graph.Node.{Node, the_lemmas as node_lemmas}
 use Rattle.lra_tree.specs.declared.graph.Node as code_node
-use Rattle.lra_tree.specs.ProgramViews.{slot_view, cond_view, call_view, source_view, given_view, declarator_view, stmt_view, item_view, items_of, items_view}
+use Rattle.lra_tree.specs.ProgramViews.{slot_view, expr_view, cond_view, call_view, source_view, given_view, declarator_view, stmt_view, item_view, items_of, items_view}
 use Rattle.lra_tree.specs.GraphViews.{op_view, exit_view, node_view}
 
 pub shown_empty : node_view code_node.Empty ≡ graph.empty
@@ -81,3 +83,9 @@ shown_assert at c = search (rules, stmt_lemmas)
 
 pub shown_assume : (at : ℕ) (c : Cond) → stmt_view (code.Assume at c) ≡ program.assume at (cond_view c)
 shown_assume at c = search (rules, stmt_lemmas)
+
+pub shown_result : (o : Option Source) (x : Source) (c : Call) → o ≡ Some x → x ≡ code_source.Result c → given_view o ≡ Some (program.result (call_view c))
+shown_result o x c e f = ap given_view e ∙ ap (λ (y : Source). Some (source_view y)) f
+
+pub shown_value : (o : Option Source) (x : Source) (v : Expr) → o ≡ Some x → x ≡ code_source.Value v → given_view o ≡ Some (program.value (expr_view v))
+shown_value o x v e f = ap given_view e ∙ ap (λ (y : Source). Some (source_view y)) f

@@ -1,5 +1,5 @@
 -- Where a part of a well-formed program stands, its own parts stand.
-use Rattle.std.proofs.Common.{◌≡◌, ℕ, suc, ◌+◌, ◌≤◌, ◌<◌, length, Option, Some, None, Bool, true, false, slice_get, refl, ap, subst, arith}
+use Rattle.std.proofs.Common.{◌≡◌, ℕ, suc, ◌+◌, ◌≤◌, ◌<◌, length, Option, Some, None, Bool, true, false, slice_get, refl, sym, ap, ◌∙◌, subst, arith}
 use Rattle.std.proofs.lemmas.Option.{none-some, same_Some}
 use Rattle.lra_tree.specs.Program.{Slot, local, Cond, Call, Source, result, Declarator, Stmt, block, assign, call, if, loop, for, break, continue, return, BlockItems, no_more, declaration, statement, Function, Program}
 use Rattle.lra_tree.specs.Sites.{live_behind}
@@ -7,7 +7,7 @@ use Rattle.lra_tree.specs.WellFormed.{IsLive, IsWellFormed}
 use Rattle.lra_graph.specs.declared.frame.Frame.{Frame}
 use Rattle.lra_graph.specs.declared.frame.Back.{Back}
 use Rattle.lra_graph.specs.Building.{Stands, StmtStands, ItemsStand, GivenStands, CallStands}
-use Rattle.lra_graph.proofs.DistinctSites.{all_at}
+use Rattle.lra_graph.proofs.DistinctSites.{all_at, main_at}
 use Rattle.lra_graph.proofs.LiveInside.{live_low}
 
 stands_as : (r : Frame) (X Y : Bool → ℕ → Type 0) → ((b : Bool) (n : ℕ) → X b n → Y b n) → Stands r X → Stands r Y
@@ -139,6 +139,23 @@ module _ (P : Program) (r : Frame) where
     loop_low = λ m e. absurd (none-some m e);
     back_low = λ b e. let h = ap (λ (z : Back). z.length) (same_Some _ b e) in omega arith;
   }
+    where
+      false_true : false ≡ true → ⊥
+      false_true e = cc
+
+  -- the body of `main`
+  pub main_stands : IsWellFormed P → r.base ≤ r.live → r.loop_length ≡ None → r.back ≡ None → ItemsStand P r P.main.body
+  main_stands well low no_loop no_back =
+      let at = main_at P well in
+      record {
+        in_loop = false;
+        own = P.main.parameters;
+        good = all_at P P.functions at.0 P.main well.functions at.1;
+        within = let alone = well.alone in omega (arith, alone);
+        loops = λ e. absurd (false_true e);
+        loop_low = λ m e. absurd (none-some m (sym no_loop ∙ e));
+        back_low = λ b e. absurd (none-some b (sym no_back ∙ e));
+      }
     where
       false_true : false ≡ true → ⊥
       false_true e = cc

@@ -1,14 +1,15 @@
 -- Where a part is stopped by a limit, the whole is.
-use Rattle.std.proofs.Common.{◌≡◌, ℕ, List, ◌++◌, Result, Err, sym, subst}
-use Rattle.lra_tree.specs.Program.{Stmt, Program}
-use Rattle.lra_tree.specs.Sites.{Site, Event, stmt_events}
+use Rattle.std.proofs.Common.{◌≡◌, ℕ, ◌<◌, false, List, [], ◌∷◌, ◌++◌, Result, Ok, Err, IfOk, sym, subst}
+use Rattle.lra_tree.specs.Program.{Cond, Stmt, loop, for, BlockItems, Program}
+use Rattle.lra_tree.specs.Sites.{Site, Event, plain_site, live_behind, stmt_events, items_events}
 use Rattle.lra_graph.specs.declared.points.Limit.{Limit}
+use Rattle.lra_graph.specs.declared.points.Limit.TheVariants.{Variables}
 use Rattle.lra_graph.specs.declared.points.GraphError.{GraphError}
 use Rattle.lra_graph.specs.declared.points.GraphError.TheVariants.{Passed, Memory}
 use Rattle.lra_graph.specs.declared.frame.Frame.{Frame}
 use Rattle.lra_graph.specs.Limits.{Progress, passed, stopped, walk, OnError, OnLimit}
 use Rattle.lra_graph.specs.Building.{inside}
-use Rattle.lra_graph.proofs.Walking.{walk_then, walk_stop}
+use Rattle.lra_graph.proofs.Walking.{walk_then, walk_stop, too_many}
 
 pub error_as : (e : GraphError) (X Y : Limit → Type 0) → ((x : Limit) → X x → Y x) → OnError e X → OnError e Y
 error_as (Passed x) X Y f h = f x h
@@ -31,3 +32,59 @@ third_stopped S V W es fs gs x e f g = walk_then S es (fs ++ gs) V (stopped x) e
 -- in the second of three
 pub middle_stopped : (S V : List Site) (es fs gs : List Event) (x : Limit) → walk S es ≡ passed V → walk V fs ≡ stopped x → walk S (es ++ (fs ++ gs)) ≡ stopped x
 middle_stopped S V es fs gs x e f = walk_then S es (fs ++ gs) V (stopped x) e (walk_stop V fs gs x f)
+
+-- errors handed on --------------------------------------------------------------------------------------------------
+
+pub ok_at_err : {A E : Type 0} (b : Result A E) (d : E) (X : A → Type 0) → b ≡ Err d → IfOk b X
+ok_at_err b d X i = rw i tt
+
+pub limit_memory : {A : Type 0} (b : Result A GraphError) (d : GraphError) (Y : Limit → Type 0) → b ≡ Err d → d ≡ Memory → OnLimit b Y
+limit_memory b d Y i j = rw (i, j) tt
+
+pub limit_by : {A : Type 0} (b : Result A GraphError) (d e : GraphError) (S V : List Site) (es fs : List Event) → b ≡ Err d → d ≡ e → ((x : Limit) → walk V fs ≡ stopped x → walk S es ≡ stopped x)
+    → OnError e (λ x. walk V fs ≡ stopped x) → OnLimit b (λ x. walk S es ≡ stopped x)
+limit_by b d e S V es fs i j f h = rw (i, j) (error_as e (λ x. walk V fs ≡ stopped x) (λ x. walk S es ≡ stopped x) f h)
+
+pub limit_to : {A : Type 0} (b : Result A GraphError) (d e : GraphError) (X Y : Limit → Type 0) → b ≡ Err d → d ≡ e → ((x : Limit) → X x → Y x) → OnError e X → OnLimit b Y
+limit_to b d e X Y i j f h = rw (i, j) (error_as e X Y f h)
+
+-- what a call answers is handed on -----------------------------------------------------------------------------------
+
+pub ok_through : {A E : Type 0} (b : Result A E) (X Y : A → Type 0) → ((a : A) → X a → Y a) → IfOk b X → IfOk b Y
+ok_through (Ok a) X Y f h = f a h
+ok_through (Err e) X Y f h = tt
+
+pub limit_through : {A : Type 0} (b : Result A GraphError) (X Y : Limit → Type 0) → ((x : Limit) → X x → Y x) → OnLimit b X → OnLimit b Y
+limit_through (Ok a) X Y f h = tt
+limit_through (Err e) X Y f h = error_as e X Y f h
+
+-- in a `for` -------------------------------------------------------------------------------------------------------------
+
+module _ (P : Program) (path : List ℕ) (r : Frame) (S : List Site) (init : BlockItems) (at : ℕ) (c : Cond) (s t : Stmt) where
+  abbrev own : ℕ → List Event
+  own n = plain_site path at n ∷ []
+
+  abbrev begin : List Event
+  begin = items_events (inside P path r) path r.live init
+
+  abbrev round : ℕ → List Event
+  round n = stmt_events (inside P path r) path n t ++ stmt_events (inside P path r) path n s
+
+  abbrev whole : List Event
+  whole = stmt_events (inside P path r) path r.live (for init (loop at c s t))
+
+  abbrev last : ℕ
+  last = live_behind r.live init
+
+  pub for_too_many : 24 < last → walk S whole ≡ stopped (Variables at)
+  for_too_many l = too_many S (record { path = path; label = at; live = last; asserts = false }) (begin ++ round last) l
+
+  pub for_at_point : (n : ℕ) (x : Limit) → n ≡ last → walk S (own n) ≡ stopped x → walk S whole ≡ stopped x
+  for_at_point n x same h = walk_stop S (own last) (begin ++ round last) x (subst (λ z. walk S (own z) ≡ stopped x) same h)
+
+  pub for_at_begin : (V : List Site) (n : ℕ) (x : Limit) → n ≡ last → walk S (own n) ≡ passed V → walk V begin ≡ stopped x → walk S whole ≡ stopped x
+  for_at_begin V n x same e h = middle_stopped S V (own last) begin (round last) x (subst (λ z. walk S (own z) ≡ passed V) same e) h
+
+  pub for_at_round : (V W : List Site) (n : ℕ) (x : Limit) → n ≡ last → walk S (own n) ≡ passed V → walk V begin ≡ passed W → walk W (round n) ≡ stopped x → walk S whole ≡ stopped x
+  for_at_round V W n x same e f h =
+      third_stopped S V W (own last) begin (round last) x (subst (λ z. walk S (own z) ≡ passed V) same e) f (subst (λ z. walk W (round z) ≡ stopped x) same h)

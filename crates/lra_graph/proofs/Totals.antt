@@ -1,21 +1,24 @@
 -- A whole program written out: its points are those of the definition, its tree is the definition's, and it is refused for the limit that
 -- stopped the writing.
-use Rattle.std.proofs.Common.{◌≡◌, ℕ, suc, List, [], ◌∷◌, ◌++◌, length, Option, Some, None, Bool, true, false, refl, sym, ◌∙◌, subst, arith, append-nil, append_assoc, length-append, add-zero}
+use Rattle.std.proofs.Common.{◌≡◌, ℕ, zero, suc, ◌≤◌, ◌<◌, List, [], ◌∷◌, ◌++◌, length, Option, Some, None, Bool, true, false, slice_get, refl, sym, ap, ◌∙◌, subst, arith, append-nil, append_assoc, length-append, add-zero}
 use Rattle.std.specs.Prelude.{nat_lt, if◌then◌else◌}
+use Rattle.std.proofs.lemmas.Bool.{lt-ltb}
+use Rattle.std.proofs.lemmas.Option.{none-some, same_Some}
 use Rattle.lra_tree.specs.declared.refusals.Refusal.{Refusal}
-use Rattle.lra_tree.specs.Program.{Program}
+use Rattle.lra_tree.specs.Program.{BlockItems, Program}
 use Rattle.lra_tree.specs.Labels.{Labelled}
 use Rattle.lra_tree.specs.Graph.{Node, seq, point}
 use Rattle.lra_tree.specs.Sites.{Site, Event, comes, one_call_more, plain_site, live_behind, items_events, call_events, events_of, sites_in, sites_of}
 use Rattle.lra_tree.specs.Inlined.{Has, InlAll, main_frame}
 use Rattle.lra_tree.specs.Agree.{IsGraph}
+use Rattle.lra_tree.specs.WellFormed.{IsWellFormed}
 use Rattle.lra_tree.specs.Refuse.{greatest_live, greatest_points, limit_fault}
 use Rattle.lra_graph.specs.declared.points.Limit.{Limit}
 use Rattle.lra_graph.specs.declared.points.Limit.TheVariants.{Variables, Points, Calls}
 use Rattle.lra_graph.specs.declared.frame.Frame.{Frame}
 use Rattle.lra_graph.specs.Limits.{Progress, passed, stopped, walk, refusal_of}
-use Rattle.lra_graph.specs.Building.{WritesItems, IsFrame}
-use Rattle.lra_graph.proofs.Walking.{walk_then, chosen, chosen_passed, point_there, one_longer, begins_same, passed_same, not_passed}
+use Rattle.lra_graph.specs.Building.{inside, WritesItems, IsFrame}
+use Rattle.lra_graph.proofs.Walking.{walk_then, walk_stop, chosen, chosen_passed, point_there, one_longer, begins_same, passed_same, not_passed}
 use Rattle.lra_graph.proofs.Writing.{Pointed, pointed_begins}
 
 pub walk_sites : (S : List Site) (es : List Event) (U : List Site) → walk S es ≡ passed U → U ≡ S ++ sites_in es
@@ -43,6 +46,26 @@ walk_fault ls S (comes s ∷ es) =
     (subst (λ n. fault_in ls (walk (S ++ s ∷ []) es) ≡ limit_fault ls n es) longer (walk_fault ls (S ++ s ∷ []) es))
 walk_fault ls S (one_call_more at ∷ es) = refl
 
+-- no point has more live variables than may be
+few_there : (n : ℕ) (full : Bool) (x y : Limit) (r : Progress) (U : List Site) → chosen (nat_lt greatest_live n) full x y r ≡ passed U → n ≤ 24
+few_there n full x y r U e =
+    let no : 24 < n → ⊥ = λ l. not_passed x U (subst (λ many. chosen many full x y r ≡ passed U) (lt-ltb greatest_live n l) e) in
+    omega (arith, no)
+
+pub few_live : (S : List Site) (es : List Event) (U : List Site) → walk S es ≡ passed U → (q : ℕ) (s : Site) → slice_get (sites_in es) q ≡ Some s → s.live ≤ 24
+few_live S [] U e q s f = absurd (none-some s f)
+few_live S (comes t ∷ es) U e zero s f =
+    subst (λ (z : Site). z.live ≤ 24) (same_Some t s f) (few_there t.live (nat_lt greatest_points (suc (length S))) (Variables t.label) (Points t.label) (walk (S ++ t ∷ []) es) U e)
+few_live S (comes t ∷ es) U e (suc q) s f =
+    few_live (S ++ t ∷ []) es U (chosen_passed (nat_lt greatest_live t.live) (nat_lt greatest_points (suc (length S))) (Variables t.label) (Points t.label) (walk (S ++ t ∷ []) es) U e) q s f
+few_live S (one_call_more at ∷ es) U e q s f = absurd (not_passed (Calls at) U e)
+
+pub none_refused : (P : Program) (U : List Site) (ls : List Labelled) → walk [] (events_of P) ≡ passed U → limit_fault ls 0 (events_of P) ≡ None
+none_refused P U ls e = sym (walk_fault ls [] (events_of P)) ∙ ap (fault_in ls) e
+
+pub refused_there : (P : Program) (x : Limit) (ls : List Labelled) → walk [] (events_of P) ≡ stopped x → limit_fault ls 0 (events_of P) ≡ Some (refusal_of ls x)
+refused_there P x ls e = sym (walk_fault ls [] (events_of P)) ∙ ap (fault_in ls) e
+
 abbrev pub first_frame : Program → Frame
 first_frame P = record { base = length P.globals; live = length P.globals; calls_left = 32; loop_length = None; back = None }
 
@@ -61,6 +84,16 @@ module _ (P : Program) (alone : P.main.parameters ≡ 0) where
   whole_walk V U h x e = subst (λ es. walk [] es ≡ passed U) events_are
       (walk_then [] (items_events (call_events P 32) [] (length P.globals) P.main.body) (plain_site [] P.main.end (live_behind (length P.globals) P.main.body) ∷ []) V (passed U) x.walked e)
 
+  -- where the items are stopped, and where their end is
+  pub items_stopped : (x : Limit) → walk [] (items_events (call_events P 32) [] (length P.globals) P.main.body) ≡ stopped x → walk [] (events_of P) ≡ stopped x
+  items_stopped x e = subst (λ es. walk [] es ≡ stopped x) events_are
+      (walk_stop [] (items_events (call_events P 32) [] (length P.globals) P.main.body) (plain_site [] P.main.end (live_behind (length P.globals) P.main.body) ∷ []) x e)
+
+  pub end_stopped : (V : List Site) (x : Limit) → walk [] (items_events (call_events P 32) [] (length P.globals) P.main.body) ≡ passed V
+      → walk V (plain_site [] P.main.end (live_behind (length P.globals) P.main.body) ∷ []) ≡ stopped x → walk [] (events_of P) ≡ stopped x
+  end_stopped V x e f = subst (λ es. walk [] es ≡ stopped x) events_are
+      (walk_then [] (items_events (call_events P 32) [] (length P.globals) P.main.body) (plain_site [] P.main.end (live_behind (length P.globals) P.main.body) ∷ []) V (stopped x) e f)
+
   pub whole_sites : (U : List Site) → walk [] (events_of P) ≡ passed U → U ≡ sites_of P
   whole_sites U e = walk_sites [] (events_of P) U e
 
@@ -78,3 +111,42 @@ module _ (P : Program) (alone : P.main.parameters ≡ 0) where
         all = rw (← same) (one_longer V U (last_site n) e);
         parts = rw (← i) a;
       }
+
+-- as the code has it: the path, the frame, the points, the items and the label of the end are known by equations
+module _ (P : Program) (well : IsWellFormed P) (p : List ℕ) (r : Frame) (S : List Site) (b : BlockItems) (at : ℕ) (from : p ≡ []) (first : r ≡ first_frame P) (none : S ≡ []) (body : P.main.body ≡ b) (ends : P.main.end ≡ at) where
+  writes_as : (h : Node) (V : List Site) → WritesItems P p r S b h V → WritesItems P [] (first_frame P) [] P.main.body h V
+  writes_as h V x =
+      subst (λ z. WritesItems P [] (first_frame P) [] z h V) (sym body)
+      (subst (λ z. WritesItems P [] (first_frame P) z b h V) none (subst (λ z. WritesItems P [] z S b h V) first (subst (λ z. WritesItems P z r S b h V) from x)))
+
+  lives_as : (n : ℕ) → n ≡ live_behind r.live b → n ≡ live_behind (length P.globals) P.main.body
+  lives_as n same = same ∙ ap (λ (z : Frame). live_behind z.live b) first ∙ ap (λ z. live_behind (length P.globals) z) (sym body)
+
+  end_as : (n : ℕ) (V : List Site) (w : Progress) → n ≡ live_behind r.live b → walk V (plain_site p at n ∷ []) ≡ w → walk V (plain_site [] P.main.end (live_behind (length P.globals) P.main.body) ∷ []) ≡ w
+  end_as n V w same e =
+      subst (λ z. walk V (plain_site [] P.main.end z ∷ []) ≡ w) (lives_as n same) (subst (λ z. walk V (plain_site [] z n ∷ []) ≡ w) (sym ends) (subst (λ z. walk V (plain_site z at n ∷ []) ≡ w) from e))
+
+  module _ (V U : List Site) (n q : ℕ) (h : Node) (same : n ≡ live_behind r.live b) (x : WritesItems P p r S b h V) (e : walk V (plain_site p at n ∷ []) ≡ passed U) where
+    pub made_walk : walk [] (events_of P) ≡ passed U
+    made_walk = whole_walk P well.alone V U h (writes_as h V x) (end_as n V (passed U) same e)
+
+    pub made_sites : U ≡ sites_of P
+    made_sites = whole_sites P well.alone U made_walk
+
+    pub made_graph : (g : Node) → q ≡ length V → g ≡ seq h (point q) → IsGraph P g
+    made_graph g i a = whole_graph P well.alone V U h g q (writes_as h V x) (end_as n V (passed U) same e) i a
+
+    pub made_few : (k : ℕ) (s : Site) → slice_get (sites_of P) k ≡ Some s → s.live ≤ 24
+    made_few k s f = few_live [] (events_of P) U made_walk k s f
+
+    pub made_within : (ls : List Labelled) → limit_fault ls 0 (events_of P) ≡ None
+    made_within ls = none_refused P U ls made_walk
+
+  pub refused_in_items : (x : Limit) → walk S (items_events (inside P p r) p r.live b) ≡ stopped x → (ls : List Labelled) → limit_fault ls 0 (events_of P) ≡ Some (refusal_of ls x)
+  refused_in_items x e ls = refused_there P x ls (items_stopped P well.alone x
+      (subst (λ z. walk [] (items_events (call_events P 32) [] (length P.globals) z) ≡ stopped x) (sym body)
+      (subst (λ z. walk z (items_events (call_events P 32) [] (length P.globals) b) ≡ stopped x) none
+      (subst (λ (z : Frame). walk S (items_events (inside P [] z) [] z.live b) ≡ stopped x) first (subst (λ z. walk S (items_events (inside P z r) z r.live b) ≡ stopped x) from e)))))
+
+  pub refused_at_end : (V : List Site) (h : Node) (n : ℕ) (x : Limit) → n ≡ live_behind r.live b → WritesItems P p r S b h V → walk V (plain_site p at n ∷ []) ≡ stopped x → (ls : List Labelled) → limit_fault ls 0 (events_of P) ≡ Some (refusal_of ls x)
+  refused_at_end V h n x same y e ls = refused_there P x ls (end_stopped P well.alone V x (writes_as h V y).walked (end_as n V (stopped x) same e))

@@ -49,6 +49,9 @@ module _ (P : Program) (path : List ℕ) (r : Frame) where
   has_point : (S U T : List Site) (f : inlined.Frame) (at n : ℕ) (asserts : Bool) → Pointed S (site at n asserts) U → Begins U T → IsFrame path r f → HasSite T (length S) f n at asserts
   has_point S U T f at n asserts e b is = rw is.path (point_there S U T (site at n asserts) e b)
 
+  pub stmt_as : (S U : List Site) (s s' : Stmt) (g g' : Node) → s ≡ s' → g ≡ g' → WritesStmt P path r S s' g' U → WritesStmt P path r S s g U
+  stmt_as S U s s' g g' e f x = subst (λ z. WritesStmt P path r S z g U) (sym e) (subst (λ z. WritesStmt P path r S s' z U) (sym f) x)
+
   pub absent_written : (S : List Site) → WritesStmt P path r S absent empty S
   absent_written S = record { walked = refl; placed = λ T f b is. as_absent f N (length S) }
 

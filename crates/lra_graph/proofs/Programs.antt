@@ -1,0 +1,83 @@
+-- Which function of the defined program a function of the code's stands for, and that `main` is one of them.
+use Rattle.std.proofs.Common.{◌≡◌, ℕ, ◌+◌, ◌≤◌, ◌<◌, [], ◌∷◌, length, map, Some, None, option_map, slice_get, get_or, inl, inr, refl, sym, ap, ◌∙◌, subst, arith}
+use Rattle.std.specs.Vec.{vec_len}
+use Rattle.std.proofs.lemmas.List.{length-map}
+use Rattle.std.proofs.lemmas.Option.{none-some, same_Some, slice_get-map, slice_get_cases, slice_get_read, get_or_from_slice_get}
+use Rattle.lra_tree.specs.Program as resolved
+use Rattle.lra_tree.specs.declared.program.Call.{Call}
+use Rattle.lra_tree.specs.declared.program.Function.{Function}
+use Rattle.lra_tree.specs.declared.program.Program.{Program}
+use Rattle.lra_tree.specs.ProgramViews.{expr_view, call_view, item_view, items_of, function_view, function_or, program_view}
+use Rattle.lra_tree.specs.WellFormed.{items_numbers, function_numbers, IsWellFormed}
+use Rattle.lra_graph.proofs.DistinctLists.{IsIn, in_right, in_piece, in_range}
+use Rattle.lra_graph.proofs.DistinctSites.{main_at}
+use Rattle.lra_graph.specs.declared.frame.Frame.{Frame}
+use Rattle.lra_graph.specs.Building.{CallStands}
+use Rattle.lra_graph.proofs.Shown.{shown_items}
+use Rattle.lra_graph.proofs.Standing.{the_callee}
+use Rattle.lra_graph.proofs.Totals.{first_frame}
+
+-- labels are counted from 1
+end_counts : (P : resolved.Program) → IsWellFormed P → 1 ≤ P.main.end
+end_counts P well =
+    let at = main_at P well in
+    let here : IsIn P.main.end (function_numbers P.main) = in_right P.main.end (items_numbers P.main.body) (P.main.end ∷ []) (inl refl) in
+    in_range P.main.end 1 _ (subst (IsIn P.main.end) well.labels (in_piece function_numbers P.functions at.0 P.main P.main.end at.1 here))
+
+pub main_there : (p : Program) → IsWellFormed (program_view p) → p.main < length p.functions.items
+main_there p well = elim ((slice_get_cases p.functions.items p.main).1) [
+  | inl h ↦ h.1
+  | inr h ↦
+      let same : (program_view p).main.end ≡ 0 = ap (λ o. (function_or o).end) (slice_get-map function_view p.functions.items p.main ∙ ap (option_map function_view) h.1) in
+      let low : 1 ≤ 0 = subst (λ n. 1 ≤ n) same (end_counts (program_view p) well) in
+      absurd (omega arith)
+]
+
+pub main_below : (p : Program) → IsWellFormed (program_view p) → p.main < vec_len p.functions
+main_below p well = let l = main_there p well in let ok = p.functions.ok.0 in omega (arith, l, ok)
+
+pub main_read : (p : Program) (f : Function) → IsWellFormed (program_view p) → f ≡ get_or p.functions.items p.main f → slice_get p.functions.items p.main ≡ Some f
+main_read p f well read = slice_get_read p.functions.items (length p.functions.items) p.main f refl (main_there p well) read
+
+pub frame_first : (p : Program) (n : ℕ) → n ≡ vec_len p.globals → (let r : Frame = record { base = n; live = n; calls_left = 32; loop_length = None; back = None } in r) ≡ first_frame (program_view p)
+frame_first p n e = ap (λ z. record { base = z; live = z; calls_left = 32; loop_length = None; back = None }) (e ∙ p.globals.ok.0)
+
+module _ (p : Program) (f : Function) where
+  pub function_there : (i : ℕ) → slice_get p.functions.items i ≡ Some f → slice_get (program_view p).functions i ≡ Some (function_view f)
+  function_there i e = slice_get-map function_view p.functions.items i ∙ ap (option_map function_view) e
+
+  pub main_body : slice_get p.functions.items p.main ≡ Some f → (program_view p).main.body ≡ items_of (map item_view f.body.items.items)
+  main_body e = ap (λ o. (function_or o).body) (function_there p.main e) ∙ shown_items f.body
+
+  pub main_end : slice_get p.functions.items p.main ≡ Some f → (program_view p).main.end ≡ f.end
+  main_end e = ap (λ o. (function_or o).end) (function_there p.main e)
+
+-- the callee of a call that stands in the program
+module _ (p : Program) (r : Frame) (c : Call) (stands : CallStands (program_view p) r (call_view c)) where
+  pub called_below : c.function < vec_len p.functions
+  called_below = elim ((slice_get_cases p.functions.items c.function).1) [
+    | inl h ↦ let l = h.1 in let ok = p.functions.ok.0 in omega (arith, l, ok)
+    | inr h ↦ absurd (none-some _ (sym (slice_get-map function_view p.functions.items c.function ∙ ap (option_map function_view) h.1) ∙ (the_callee (program_view p) r (call_view c) stands).1))
+  ]
+
+  module _ (f : Function) (read : f ≡ get_or p.functions.items c.function f) where
+    pub called_found : slice_get (program_view p).functions c.function ≡ Some (function_view f)
+    called_found = elim ((slice_get_cases p.functions.items c.function).1) [
+      | inl h ↦ function_there p f c.function (h.2 ∙ ap (λ z. Some z) (sym (read ∙ get_or_from_slice_get p.functions.items c.function h.0 f h.2)))
+      | inr h ↦ absurd (none-some _ (sym (slice_get-map function_view p.functions.items c.function ∙ ap (option_map function_view) h.1) ∙ (the_callee (program_view p) r (call_view c) stands).1))
+    ]
+
+    pub called_fits : length (call_view c).arguments ≡ f.parameters
+    called_fits =
+        let z = the_callee (program_view p) r (call_view c) stands in
+        z.2 ∙ ap (λ (g : resolved.Function). g.parameters) (same_Some z.0 (function_view f) (sym z.1 ∙ called_found))
+
+    pub called_wide : (k : ℕ) → k ≡ vec_len c.arguments → k ≡ f.parameters
+    called_wide k e = e ∙ c.arguments.ok.0 ∙ sym (length-map c.arguments.items expr_view) ∙ called_fits
+
+-- as many arguments as there may be fit behind the variables that live
+pub arguments_fit : (live k : ℕ) (c : Call) → k ≡ vec_len c.arguments → live ≤ 25 → live + k < 18446744073709551616
+arguments_fit live k c e few =
+    let within = c.arguments.ok.1 in
+    let small = c.arguments.small in
+    omega (arith, e, few, within, small)

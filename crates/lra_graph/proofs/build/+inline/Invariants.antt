@@ -1,0 +1,32 @@
+-- Each call makes its path longer; inside a function the parts get smaller.
+use Rattle.std.proofs.Common.{◌+◌, map}
+use Rattle.lra_tree.specs.ProgramViews.{stmt_view, item_view, items_of, program_view}
+use Rattle.lra_graph.proofs.Sizes.{size_stmt, size_items, weight}
+use Rattle.lra_graph.proofs.build.+inline.Given as goal
+
+abbrev pub decreases-inline_stmt : goal.decreases-inline_stmt
+decreases-inline_stmt l = weight (program_view l.program.now) l.frame.calls_left (size_stmt (stmt_view l.stmt.now))
+
+abbrev pub decreases-inline_items : goal.decreases-inline_items
+decreases-inline_items l = weight (program_view l.program.now) l.frame.calls_left (size_items (items_of (map item_view l.items.now)))
+
+abbrev pub decreases-inline_declared : goal.decreases-inline_declared
+decreases-inline_declared l = weight (program_view l.program.now) l.frame.calls_left 4
+
+abbrev pub decreases-inline_loop : goal.decreases-inline_loop
+decreases-inline_loop l = weight (program_view l.program.now) l.frame.calls_left (1 + (size_stmt (stmt_view l.body.now) + size_stmt (stmt_view l.step.now)))
+
+abbrev pub decreases-inline_for : goal.decreases-inline_for
+decreases-inline_for l = weight (program_view l.program.now) l.frame.calls_left (1 + (size_items (items_of (map item_view l.init.now)) + size_stmt (stmt_view l.again.now)))
+
+abbrev pub decreases-inline_return : goal.decreases-inline_return
+decreases-inline_return l = weight (program_view l.program.now) l.frame.calls_left 4
+
+abbrev pub decreases-inline_end : goal.decreases-inline_end
+decreases-inline_end l = weight (program_view l.program.now) l.frame.calls_left 4
+
+abbrev pub decreases-inline_source : goal.decreases-inline_source
+decreases-inline_source l = weight (program_view l.program.now) l.frame.calls_left 3
+
+abbrev pub decreases-inline_call : goal.decreases-inline_call
+decreases-inline_call l = weight (program_view l.program.now) l.frame.calls_left 2

@@ -1,0 +1,146 @@
+//! The tree of a whole program and its points: those of `main`'s items, and the point of its end.
+
+ghost use Rattle.std.specs.Prelude.{◌≡◌, ◌≤◌, ℕ, List, map, slice_get, IfOk, None, Some};
+ghost use Rattle.lra_tree.specs.Agree.{IsGraph, Agrees};
+ghost use Rattle.lra_tree.specs.Labels.{Labelled};
+ghost use Rattle.lra_tree.specs.Refuse.{limit_fault};
+ghost use Rattle.lra_tree.specs.Sites as points;
+ghost use Rattle.lra_tree.specs.Sites.{events_of, sites_of};
+ghost use Rattle.lra_tree.specs.WellFormed.{IsWellFormed};
+ghost use Rattle.lra_tree.specs.ProgramViews.{program_view};
+ghost use Rattle.lra_tree.specs.GraphViews.{node_view, site_view};
+ghost use Rattle.lra_graph.specs.Limits.{OnLimit, refusal_of};
+
+use super::inline_items;
+use crate::forms::in_turn;
+use crate::frame::Frame;
+use crate::points::{GREATEST_CALLS, GraphError, add_point};
+use lra_tree::graph::{Graph, Node, Path};
+use lra_tree::program::Program;
+use std::alloc::Global;
+
+/// The program's tree and its points, or the first limit that it passes.
+pub fn build_graph(alloc: Global, program: &Program) -> Result<Graph, GraphError>
+    requires { IsWellFormed (program_view program.now) }
+    ensures graph { IfOk result (λ g. IsGraph (program_view program.now) (node_view g.tree)) }
+    ensures agrees { IfOk result (λ g. Agrees (program_view program.now) (node_view g.tree)) }
+    ensures sites { IfOk result (λ g. map site_view g.sites.items ≡ sites_of (program_view program.now)) }
+    ensures few { IfOk result (λ _. (q : ℕ) (s : points.Site) → slice_get (sites_of (program_view program.now)) q ≡ Some s → s.live ≤ 24) }
+    ensures within { IfOk result (λ _. (ls : List Labelled) → limit_fault ls 0 (events_of (program_view program.now)) ≡ None) }
+    ensures limit { OnLimit result (λ x. (ls : List Labelled) → limit_fault ls 0 (events_of (program_view program.now)) ≡ Some (refusal_of ls x)) }
+{
+    let main = &program.functions[program.main];
+    let path = Path::empty(alloc);
+    let globals = program.globals.len();
+    let frame = Frame {
+        base: globals,
+        live: globals,
+        calls_left: GREATEST_CALLS,
+        loop_length: None,
+        back: None,
+    };
+    let mut sites = Vec::new(alloc);
+    let items = &main.body.items;
+    let (body, last) = inline_items(alloc, program, &path, frame, items, &mut sites)?;
+    let end = add_point(alloc, &path, main.end, last, false, &mut sites)?;
+    let tree = in_turn(alloc, body, Node::Point(end))?;
+    Ok(Graph { tree, sites })
+}
+
+#[cfg(test)]
+mod tests {
+    use super::*;
+    use lra_tree::graph::Op;
+    use lra_tree::program::{
+        BlockItem, BlockItems, Cond, Declarator, Expr, Function, Slot, Source, Stmt,
+    };
+    use std::test::Fail;
+
+    /// `int main(void){long x; x=2; if(x) assert(x);}`
+    fn small(rt: &HostRuntime) -> Result<Program, Fail>
+        ensures { IfOk result (λ p. IsWellFormed (program_view p)) }
+    {
+        let mut items = Vec::new(rt.alloc());
+        items.push(BlockItem::Declaration(Declarator {
+            label: 1,
+            source: None,
+        }))?;
+        let two = Source::Value(Expr::Literal(2));
+        items.push(BlockItem::Statement(Stmt::Assign(2, Slot::Local(0), two)))?;
+        let holds = Cond::Nonzero(Expr::Read(Slot::Local(0)));
+        let assertion = Box::new(rt.alloc(), Stmt::Assert(4, holds))?;
+        let absent = Box::new(rt.alloc(), Stmt::Absent)?;
+        let holds = Cond::Nonzero(Expr::Read(Slot::Local(0)));
+        items.push(BlockItem::Statement(Stmt::If(3, holds, assertion, absent)))?;
+        let mut functions = Vec::new(rt.alloc());
+        functions.push(Function {
+            parameters: 0,
+            body: BlockItems { items },
+            end: 5,
+        })?;
+        Ok(Program {
+            globals: Vec::new(rt.alloc()),
+            functions,
+            main: 0,
+        })
+    }
+
+    fn halves(node: &Node) -> Option<(&Node, &Node)> {
+        match node {
+            Node::Seq(first, second) => Some((first, second)),
+            _ => None,
+        }
+    }
+
+    /// What stands behind the point.
+    fn behind_its_point(node: &Node, number: usize) -> Option<&Node> {
+        let (first, rest) = halves(node)?;
+        match first {
+            Node::Point(point) if *point == number => Some(rest),
+            _ => None,
+        }
+    }
+
+    /// Whether it is the tree of the small program.
+    fn is_small(tree: &Node) -> Option<bool> {
+        let (body, end) = halves(tree)?;
+        let (declared, rest) = halves(body)?;
+        let (assigned, rest) = halves(rest)?;
+        let (choice, nothing) = halves(rest)?;
+        let fresh = matches!(behind_its_point(declared, 0)?, Node::Act(0, Op::Append));
+        let given = match behind_its_point(assigned, 1)? {
+            Node::Act(1, Op::Give(0, Some(0), Expr::Literal(2))) => true,
+            _ => false,
+        };
+        let tested = match behind_its_point(choice, 2)? {
+            Node::Choose(2, 0, _, on_true, on_false) => {
+                matches!(&**on_false, Node::Empty)
+                    && matches!(behind_its_point(on_true, 3)?, Node::Check(3, 0, _))
+            }
+            _ => false,
+        };
+        let ends = matches!(nothing, Node::Empty) && matches!(end, Node::Point(4));
+        Some(fresh && given && tested && ends)
+    }
+
+    #[test]
+    fn a_small_program_is_written_out(rt: HostRuntime) -> Result<(), Fail> {
+        let graph = build_graph(rt.alloc(), &small(&rt)?)?;
+        assert_eq!(rt; is_small(&graph.tree), Some(true));
+        assert_eq!(rt; graph.sites.len(), 5);
+        let points = [
+            (1, 0, false),
+            (2, 1, false),
+            (3, 1, false),
+            (4, 1, true),
+            (5, 1, false),
+        ];
+        for (site, (label, live, asserts)) in graph.sites.iter().zip(points) {
+            assert_eq!(rt; site.label, label);
+            assert_eq!(rt; site.live, live);
+            assert_eq!(rt; site.asserts, asserts);
+            assert!(rt; site.path.as_slice().is_empty());
+        }
+        Ok(())
+    }
+}
