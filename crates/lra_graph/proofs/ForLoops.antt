@@ -1,5 +1,5 @@
 -- A statement that is shown as a loop is one.
-use Rattle.std.proofs.Common.{◌≡◌, ℕ, Bool, true, false, refl, sym, ap, subst, ◌∙◌, Box, Global, rules}
+use Rattle.std.proofs.Common.{◌≡◌, ℕ, Bool, true, false, refl, sym, subst, ◌∙◌, Box, Global, rules}
 use Rattle.lra_tree.specs.declared.program.Cond.{Cond}
 use Rattle.lra_tree.specs.declared.program.Stmt.{Stmt, the_lemmas}
 use Rattle.lra_tree.specs.declared.program.Stmt as code

@@ -1,15 +1,14 @@
 -- What a call answers is handed on as that of the whole statement.
-use Rattle.std.proofs.Common.{◌≡◌, ◌≢◌, ℕ, ◌≤◌, List, [], ◌∷◌, ◌++◌, length, false, Some, Result, Ok, Err, IfOk, sym, ap, ◌∙◌, subst}
-use Rattle.lra_tree.specs.Program.{Cond, Source, Stmt, loop, for, break, continue, return, BlockItems, Program}
-use Rattle.lra_tree.specs.Graph.{Exit, broken, continued, returned, Node, seq, point}
-use Rattle.lra_tree.specs.Sites.{Site, Event, plain_site, stmt_events, items_events}
-use Rattle.lra_graph.specs.declared.points.Limit.{Limit}
+use Rattle.std.proofs.Common.{◌≡◌, ℕ, ◌≤◌, List, [], ◌∷◌, ◌++◌, length, Some, Result, IfOk, sym, subst}
+use Rattle.lra_tree.specs.Program.{Cond, Stmt, loop, for, break, continue, BlockItems, Program}
+use Rattle.lra_tree.specs.Graph.{broken, continued, returned, Node}
+use Rattle.lra_tree.specs.Sites.{Site, Event, plain_site, stmt_events}
 use Rattle.lra_graph.specs.declared.points.GraphError.{GraphError}
 use Rattle.lra_graph.specs.declared.frame.Frame.{Frame}
 use Rattle.lra_graph.specs.Limits.{walk, passed, stopped, OnLimit}
-use Rattle.lra_graph.specs.Building.{inside, WritesStmt, WritesLoop, WritesReturn, leaving, LeavesLoop}
-use Rattle.lra_graph.proofs.Stopping.{ok_through, limit_through, stmt_stopped, second_stopped}
-use Rattle.lra_graph.proofs.Writing.{Pointed, stmt_as, loop_written, return_written}
+use Rattle.lra_graph.specs.Building.{inside, WritesStmt, WritesLoop, LeavesLoop}
+use Rattle.lra_graph.proofs.Stopping.{ok_through, limit_through, second_stopped}
+use Rattle.lra_graph.proofs.Writing.{loop_written}
 
 not_broken : broken ≡ returned → ⊥
 not_broken e = cc

@@ -2,7 +2,7 @@
 use Rattle.std.proofs.Common.{◌≡◌, ◌+◌, ◌++◌, ◌∷◌, [], map, refl, ap, ◌∙◌, subst, arith, Some, None, Vec, Global, ◌-◌, sym}
 use Rattle.std.proofs.lemmas.Result.{err_from_is_err_and}
 use Rattle.lra_tree.specs.declared.graph.Site.{Site}
-use Rattle.lra_tree.specs.Program.{value, result, loop, for, break, continue, assert, assume, no_more}
+use Rattle.lra_tree.specs.Program.{value, result, loop, for, break, continue, assert, assume}
 use Rattle.lra_tree.specs.Step.{give}
 use Rattle.lra_tree.specs.Graph.{act, seq}
 use Rattle.lra_tree.specs.Inlined.{return_node}
@@ -10,15 +10,15 @@ use Rattle.lra_tree.specs.Sites.{plain_site, live_behind, stmt_events, source_ev
 use Rattle.lra_tree.specs.ProgramViews.{slot_view, expr_view, cond_view, call_view, source_view, given_view, stmt_view, item_view, items_of, program_view, declarator_view, function_view}
 use Rattle.lra_tree.specs.GraphViews.{node_view, site_view}
 use Rattle.lra_graph.specs.Limits.{walk, passed, stopped}
-use Rattle.lra_graph.specs.Building.{StmtStands, inside, WritesReturn, WritesItems}
-use Rattle.lra_graph.proofs.Walking.{walk_stop, walk_then}
+use Rattle.lra_graph.specs.Building.{StmtStands, inside, WritesReturn}
+use Rattle.lra_graph.proofs.Walking.{walk_stop}
 use Rattle.lra_graph.proofs.Stopping.{ok_at_err, limit_memory, limit_by, stmt_stopped, second_stopped, middle_stopped, third_stopped, for_too_many, for_at_point, for_at_begin, for_at_round}
 use Rattle.lra_graph.proofs.Handed.{stmt_limit, loop_limit, for_limit, loop_handed, for_handed, break_handed, continue_handed, any_handed}
 use Rattle.lra_graph.proofs.Falling.{part_falls, block_falls, assign_falls, call_falls, true_falls, false_falls, loop_falls, for_falls, return_falls, step_falls, body_falls, init_falls, again_falls}
 use Rattle.lra_graph.proofs.Seen.{given_seen, given_limit, given_returned, stmt_seen, items_seen, for_seen, stmt_walked, items_walked, round_walked, loop_seen, return_seen}
 use Rattle.lra_graph.proofs.ForLoops.{only_loops}
 use Rattle.lra_graph.proofs.Shown.{shown_value, shown_result, shown_empty, shown_point, shown_act, shown_leave, shown_absent, shown_nothing, shown_block, shown_assign, shown_call, shown_if, shown_loop, shown_for, shown_return, shown_break, shown_continue, shown_assert, shown_assume, shown_items}
-use Rattle.lra_graph.proofs.Writing.{stmt_as, absent_written, nothing_written, block_written, assign_written, call_written, if_written, rounds_written, fresh_written, given_written, value_written, return_any_written, end_any_written, for_written, return_written, return_value_written, return_call_written, end_value_written, end_call_written, none_written, declaration_written, statement_written}
+use Rattle.lra_graph.proofs.Writing.{stmt_as, absent_written, nothing_written, block_written, assign_written, call_written, if_written, rounds_written, fresh_written, given_written, value_written, return_any_written, end_any_written, for_written, return_written, return_value_written, return_call_written, end_value_written, end_call_written, declaration_written, statement_written}
 use Rattle.lra_graph.proofs.Standing.{assigned_fits, block_stands, assign_stands, call_stands, true_stands, false_stands, return_stands, result_stands, body_stands, step_stands, init_stands, for_again, break_stands, continue_stands, first_stands, others_stand, declared_stands, behind_stand, callee_stands}
 use Rattle.lra_graph.proofs.Calling.{one_less, no_call_more, call_at_body, call_at_end, invoked}
 use Rattle.lra_graph.proofs.Programs.{called_below, called_found, called_fits, called_wide, arguments_fit}

@@ -1,4 +1,4 @@
-use Rattle.std.proofs.Common.{◌∙◌, refl}
+use Rattle.std.proofs.Common.{◌∙◌}
 use Rattle.lra_graph.proofs.LiveInside.{declared_behind, stated_behind, none_behind, beyond}
 use Rattle.lra_graph.proofs.build.live_inside.Goals as goal
 use Rattle.lra_graph.proofs.build.live_inside.Goals.{in-Declaration+in-Some, in-Statement}
