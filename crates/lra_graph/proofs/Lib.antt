@@ -31,5 +31,3 @@ pub mod Items
 pub mod Programs
 -- What labels say of a limit's place.
 pub mod LabelPlaces
--- A program by hand.
-pub mod SmallProgram
