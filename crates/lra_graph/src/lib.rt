@@ -1,19 +1,19 @@
 //! The graph of a program: its calls written out as a tree of operations.
 //!
 //! The definitions stand in `lra_tree`: the runs of a program, trees of operations with their runs, and which tree stands for which
-//! program. Here it is proved that the two agree, and `build_graph` makes the tree.
+//! program. Here it is proved that the two agree, and `build` makes the tree.
 #![tactic(auto)]
 
-mod build;
 mod forms;
 mod frame;
+mod inlining;
 mod points;
 mod refused;
 
 ghost use Rattle.lra_tree.specs.Agree.{GraphsAgree};
 ghost use Rattle.lra_graph.specs.Agreement.{WellFormedAreDistinct, WellFormedAgree};
 
-pub use build::build_graph;
+pub use inlining::build;
 pub use points::{GraphError, Limit};
 pub use refused::refusal;
 

@@ -2,7 +2,7 @@ use Rattle.std.proofs.Common.{◌∙◌, ap}
 use Rattle.lra_tree.specs.Graph.{Node, seq, point, check}
 use Rattle.lra_graph.proofs.Shown.{shown_check}
 use Rattle.lra_graph.proofs.Writing.{assert_written}
-use Rattle.lra_graph.proofs.build.assertion.Goals as goal
+use Rattle.lra_graph.proofs.inlining.assertion.Goals as goal
 
 pub returns-clause-written : goal.returns-clause-written
 returns-clause-written c = λ P. assert_written P c.args.path.now c.args.frame _ _ c.in_ok-point.point c.args.label _ _ c.in_ok-point.ensures.number c.in_ok-point.ensures.walked

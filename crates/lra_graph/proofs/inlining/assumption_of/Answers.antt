@@ -3,7 +3,7 @@ use Rattle.lra_tree.specs.Step.{test}
 use Rattle.lra_tree.specs.Graph.{Node, seq, point, act}
 use Rattle.lra_graph.proofs.Shown.{shown_act}
 use Rattle.lra_graph.proofs.Writing.{assume_written}
-use Rattle.lra_graph.proofs.build.assumption_of.Goals as goal
+use Rattle.lra_graph.proofs.inlining.assumption_of.Goals as goal
 
 pub returns-clause-written : goal.returns-clause-written
 returns-clause-written c = λ P. assume_written P c.args.path.now c.args.frame _ _ c.in_ok-point.point c.args.label _ _ c.in_ok-point.ensures.number c.in_ok-point.ensures.walked

@@ -22,7 +22,7 @@ use crate::points::{GraphError, Limit, add_point};
 use lra_tree::graph::{Exit, Node, Op, Path, Site};
 use lra_tree::program::{BlockItem, Call, Cond, Program, Slot, Source, Stmt};
 use std::alloc::Global;
-pub use whole::build_graph;
+pub use whole::build;
 
 /// Where a variable stands in the store.
 fn place_of(base: usize, slot: Slot) -> usize

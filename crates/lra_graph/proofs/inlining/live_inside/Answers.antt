@@ -1,7 +1,7 @@
 use Rattle.std.proofs.Common.{◌∙◌}
 use Rattle.lra_graph.proofs.LiveInside.{declared_behind, stated_behind, none_behind, beyond}
-use Rattle.lra_graph.proofs.build.live_inside.Goals as goal
-use Rattle.lra_graph.proofs.build.live_inside.Goals.{in-Declaration+in-Some, in-Statement}
+use Rattle.lra_graph.proofs.inlining.live_inside.Goals as goal
+use Rattle.lra_graph.proofs.inlining.live_inside.Goals.{in-Declaration+in-Some, in-Statement}
 
 pub returns-in-None : goal.returns-in-None
 returns-in-None c = beyond c.args.items.now c.items.item-index c.items.inside _ c.item-item.result c.in-Declaration.field-0 c.items-test.true c.item-item.is c.in-Declaration.is c.items.invariant c.in-None.ensures

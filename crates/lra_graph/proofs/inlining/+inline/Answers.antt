@@ -23,8 +23,8 @@ use Rattle.lra_graph.proofs.Standing.{assigned_fits, block_stands, assign_stands
 use Rattle.lra_graph.proofs.Calling.{one_less, no_call_more, call_at_body, call_at_end, invoked}
 use Rattle.lra_graph.proofs.Programs.{called_below, called_found, called_fits, called_wide, arguments_fit}
 use Rattle.lra_graph.proofs.Items.{first_declared, first_stated, none_left, none_shown, items_stand_as, items_as, declaration_at_point, declaration_at_given, declaration_at_others, statement_at_first, statement_at_others, none_last, declared_last, stated_last, lighter, source_lighter, behind_lighter, first_lighter, others_lighter, callee_lighter}
-use Rattle.lra_graph.proofs.build.+inline.Goals as goal
-use Rattle.lra_graph.proofs.build.+inline.Goals.{inline_stmt-in-Some+in_ok-left-in-Some, inline_stmt-in-None+in_ok-left-in-None}
+use Rattle.lra_graph.proofs.inlining.+inline.Goals as goal
+use Rattle.lra_graph.proofs.inlining.+inline.Goals.{inline_stmt-in-Some+in_ok-left-in-Some, inline_stmt-in-None+in_ok-left-in-None}
 
 pub inline_call-returns-then-frame-eq0-clause-limit : goal.inline_call-returns-then-frame-eq0-clause-limit
 inline_call-returns-then-frame-eq0-clause-limit t c = no_call_more (program_view c.args.program.now) c.args.path.now c.args.frame.calls_left c.args.frame.live (map site_view c.args.sites.now.items) (call_view c.args.call.now) c.if-frame-eq0.true

@@ -2,7 +2,7 @@
 use Rattle.std.proofs.Common.{◌≡◌, map, drop}
 use Rattle.lra_tree.specs.Sites.{live_behind}
 use Rattle.lra_tree.specs.ProgramViews.{item_view, items_of}
-use Rattle.lra_graph.proofs.build.live_inside.Given as goal
+use Rattle.lra_graph.proofs.inlining.live_inside.Given as goal
 
 abbrev pub invariant-items : goal.invariant-items
 invariant-items l = live_behind l.inside (items_of (map item_view (drop l.item-index l.items))) ≡ live_behind l.live (items_of (map item_view l.items))

@@ -20,7 +20,7 @@ use lra_tree::program::Program;
 use std::alloc::Global;
 
 /// The program's tree and its points, or the first limit that it passes.
-pub fn build_graph(alloc: Global, program: &Program) -> Result<Graph, GraphError>
+pub fn build(alloc: Global, program: &Program) -> Result<Graph, GraphError>
     requires { IsWellFormed (program_view program.now) }
     ensures graph { IfOk result (λ g. IsGraph (program_view program.now) (node_view g.tree)) }
     ensures agrees { IfOk result (λ g. Agrees (program_view program.now) (node_view g.tree)) }
@@ -125,7 +125,7 @@ mod tests {
 
     #[test]
     fn a_small_program_is_written_out(rt: HostRuntime) -> Result<(), Fail> {
-        let graph = build_graph(rt.alloc(), &small(&rt)?)?;
+        let graph = build(rt.alloc(), &small(&rt)?)?;
         assert_eq!(rt; is_small(&graph.tree), Some(true));
         assert_eq!(rt; graph.sites.len(), 5);
         let points = [

@@ -16,7 +16,7 @@ use Rattle.lra_graph.proofs.Shown.{shown_point}
 use Rattle.lra_graph.proofs.Standing.{main_stands}
 use Rattle.lra_graph.proofs.Stopping.{limit_to}
 use Rattle.lra_graph.proofs.Totals.{made_graph, made_sites, made_few, made_within, refused_in_items, refused_at_end}
-use Rattle.lra_graph.proofs.build.whole.build_graph.Goals as goal
+use Rattle.lra_graph.proofs.inlining.whole.build.Goals as goal
 
 pub index-main-requires : goal.index-main-requires
 index-main-requires c = main_below c.args.program.now c.requires

@@ -1,5 +1,5 @@
 use Rattle.std.proofs.Common.{refl}
-use Rattle.lra_graph.proofs.build.place_of.Goals as goal
+use Rattle.lra_graph.proofs.inlining.place_of.Goals as goal
 
 pub overflow_add-result : goal.overflow_add-result
 overflow_add-result c = let h = c.requires c.in-Local.place (rw c.in-Local.is refl) in record { fits = h }

@@ -2,7 +2,7 @@
 use Rattle.std.proofs.Common.{◌+◌, map}
 use Rattle.lra_tree.specs.ProgramViews.{stmt_view, item_view, items_of, program_view}
 use Rattle.lra_graph.proofs.Sizes.{size_stmt, size_items, weight}
-use Rattle.lra_graph.proofs.build.+inline.Given as goal
+use Rattle.lra_graph.proofs.inlining.+inline.Given as goal
 
 abbrev pub decreases-inline_stmt : goal.decreases-inline_stmt
 decreases-inline_stmt l = weight (program_view l.program.now) l.frame.calls_left (size_stmt (stmt_view l.stmt.now))
