@@ -324,3 +324,10 @@ tree_fits P g well few graph =
     let good : AreGoodItems P false 0 P.main.body = subst (λ (k : ℕ). AreGoodItems P false k P.main.body) well.alone (contains_at (IsGoodFunction P) P.functions P.main well.functions well.main) in
     let body : Fit (main_frame P) n graph.live graph.body = fit_all P (sites_of P) few well graph.inlined false 0 st fw good in
     subst (λ (h : Node). TreeFits h n) (sym graph.parts) (seq_fit {f = main_frame P} graph.body (point graph.last) fw body (point_fit graph.last)).fits
+
+-- no more globals than variables may live
+pub few_globals : (P : Program) (g : Node) → AllFew (sites_of P) → IsGraph P g → length P.globals ≤ 24
+few_globals P g few graph =
+    let fw : Few graph.live = few graph.last _ graph.ends in
+    let low : length P.globals ≤ graph.live = low_all graph.inlined in
+    omega (arith, fw, low)

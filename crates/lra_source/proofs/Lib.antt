@@ -5,9 +5,9 @@ pub mod Numbering
 pub mod Flags
 pub mod Reports
 pub mod BuiltAnswer
-pub mod Endings
 pub mod ReadSteps
 pub mod StageSteps
+pub mod StateSteps
 pub mod Widths
 pub mod Handing
 pub mod ReportSteps

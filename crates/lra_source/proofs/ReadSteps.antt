@@ -1,5 +1,6 @@
 -- What the stages of the reading answer, as answers of the source.
 use Rattle.std.proofs.Common.{◌≡◌, ◌≤◌, ◌<◌, ℕ, List, length, take, refl, sym, ◌∙◌, subst, arith}
+use Rattle.std.proofs.lemmas.List.{length-take}
 use Rattle.lra_tree.specs.declared.refusals.Cause.{Cause}
 use Rattle.lra_tree.specs.declared.refusals.Cause.TheVariants.{TooLong}
 use Rattle.lra_tree.specs.declared.refusals.Place.{Place}
@@ -9,12 +10,19 @@ use Rattle.lra_tree.specs.Tokens.{place_behind, Lex, IsTokenFault}
 use Rattle.lra_tree.specs.Faults.{IsTree, IsTextFault}
 use Rattle.lra_tree.specs.Built.{Built}
 use Rattle.lra_tree.specs.Refuse.{greatest_length, RefusesTree, Refuse, too_long, bad_token, bad_text, bad_tree}
+use Rattle.lra_tree.specs.declared.refusals.Refusal.{Refusal}
+use Rattle.lra_parse.specs.Answer.{IfRefusal}
+use Rattle.lra_parse.specs.declared.parser.ParseError.{ParseError}
+use Rattle.lra_parse.specs.declared.parser.ParseError.TheVariants.{Refused}
 use Rattle.lra_source.specs.Stages.{HasTree}
-use Rattle.lra_source.proofs.Endings.{lex_ends}
 
 pub limit_is : greatest_length ≡ 65536
 unfolding greatest_length
 limit_is = refl
+
+-- the first n bytes of a longer source are n
+pub taken : (n : ℕ) (source : List ℕ) → n < length source → n ≡ length (take n source)
+taken n source h = omega (arith, length-take n source)
 
 within : (source : List ℕ) → length source ≤ 65536 → length source ≤ greatest_length
 within source l = rw limit_is l
@@ -44,4 +52,6 @@ tree_refused source t c at has fault = bad_tree has.tokens t c at has.not_long h
 
 pub ruleset lexing = (tokens_refused)
 
-pub ruleset parsing = (long_refused, lex_ends, text_refused, has_tree)
+-- the fault of a text, where that is the answer
+pub fault_of : (tokens : List Token) (e : ParseError) (r : Refusal) → e ≡ Refused r → IfRefusal (λ (x : Refusal). IsTextFault Built tokens x.cause x.place) e → IsTextFault Built tokens r.cause r.place
+fault_of tokens e r is fault = subst (IfRefusal (λ (x : Refusal). IsTextFault Built tokens x.cause x.place)) is fault

@@ -22,7 +22,7 @@ use Rattle.lra_listing.specs.Given.{AreStates, AreVerdicts, state_of, told_of, t
 use Rattle.lra_source.specs.Analysed.{shown_state}
 use Rattle.lra_source.specs.Answers.{settings_of}
 use Rattle.lra_source.specs.Stages.{HasGraph, IsToldOf}
-use Rattle.lra_source.proofs.Fitting.{tree_fits}
+use Rattle.lra_source.proofs.Fitting.{tree_fits, few_globals}
 use Rattle.lra_source.proofs.Numbering.{numbered}
 use Rattle.lra_source.proofs.Handing.{states_as_many, of_assertions, of_all, states_wide, flag_there, box_dims, box_shows_wide}
 
@@ -30,6 +30,12 @@ use Rattle.lra_source.proofs.Handing.{states_as_many, of_assertions, of_all, sta
 
 pub fits : (t : FileTree) (g : Node) (sites : List Site) (globals : List ℤ) → HasGraph t g sites → (resolve t).globals ≡ globals → TreeFits g (length globals)
 fits t g sites globals has is = subst (λ (l : List ℤ). TreeFits g (length l)) is (tree_fits (resolve t) g has.well has.few has.is_graph)
+
+pub small_globals : (t : FileTree) (g : Node) (sites : List Site) (globals : List ℤ) → HasGraph t g sites → (resolve t).globals ≡ globals → length globals ≤ 2 ^ 30
+small_globals t g sites globals has is =
+    let few = few_globals (resolve t) g has.few has.is_graph in
+    let same : length (resolve t).globals ≡ length globals = ap length is in
+    omega (arith, few, same)
 
 pub is_numbered : (t : FileTree) (g : Node) (sites : List Site) → HasGraph t g sites → IsNumbered sites g
 is_numbered t g sites has = subst (λ (T : List Site). IsNumbered T g) (sym has.points) (numbered (resolve t) g has.is_graph)

@@ -1,6 +1,6 @@
 -- What the stages behind the reading answer, as answers of the tree and of the source.
 use Rattle.std.proofs.Common.{◌≡◌, ◌≤◌, ℕ, List, [], ◌∷◌, map, Option, Some, None, refl, sym, ap, ◌∙◌, subst}
-use Rattle.std.specs.Prelude.{slice_get}
+use Rattle.std.specs.Prelude.{slice_get, Result, Ok, Err, IfOk}
 use Rattle.lra_tree.specs.declared.refusals.Refusal.{Refusal}
 use Rattle.lra_tree.specs.declared.refusals.Cause.{Cause}
 use Rattle.lra_tree.specs.declared.refusals.Place.{Place}
@@ -17,17 +17,23 @@ use Rattle.lra_tree.specs.Agree.{IsGraph, Agrees}
 use Rattle.lra_tree.specs.WellFormed.{IsWellFormed}
 use Rattle.lra_tree.specs.Built.{Built}
 use Rattle.lra_tree.specs.Report.{box, Options, Report}
-use Rattle.lra_tree.specs.Refuse.{limit_fault, NotRecursive, RefusesTree, bad_name, past_limit, Accepts}
+use Rattle.lra_tree.specs.Refuse.{limit_fault, NotRecursive, RefusesTree, bad_name, past_limit, Refuse, Accepts}
+use Rattle.lra_report.specs.declared.report.Report as shown
+use Rattle.lra_report.specs.View.{report_of}
 use Rattle.lra_names.specs.Outcome.{first_fault}
 use Rattle.lra_graph.specs.declared.points.Limit.{Limit}
-use Rattle.lra_graph.specs.Limits.{refusal_of}
+use Rattle.lra_graph.specs.declared.points.GraphError.{GraphError}
+use Rattle.lra_graph.specs.declared.points.GraphError.TheVariants.{Passed}
+use Rattle.lra_graph.specs.Limits.{refusal_of, OnError}
 use Rattle.lra_formed.proofs.Callless.{built_not_recursive}
 use Rattle.lra_formed.proofs.Spelled.{spelled_are_small}
 use Rattle.lra_formed.proofs.Whole.{well_formed}
 use Rattle.lra_source.specs.Claims.{AreFew}
-use Rattle.lra_source.specs.Answers.{settings_of, IsAnswered}
+use Rattle.lra_source.specs.declared.error.SourceError.{SourceError}
+use Rattle.lra_source.specs.declared.error.SourceError.TheVariants.{Refused, Memory}
+use Rattle.lra_source.specs.Answers.{settings_of, IsAnswered, IfRefused}
 use Rattle.lra_source.specs.Stages.{HasTree, HasGraph, IsToldOf}
-use Rattle.lra_source.proofs.Reports.{is_report}
+use Rattle.lra_source.proofs.Reports.{sound, is_report}
 use Rattle.lra_source.proofs.ReadSteps.{tree_refused}
 
 -- names --------------------------------------------------------------------------------------------------------------
@@ -56,6 +62,10 @@ has_graph t P g sites is names well graph agrees points few within = record {
   points = subst (λ (Q : Program). sites ≡ sites_of Q) is points;
 }
 
+-- the limit that is passed, where that is the answer
+pub limit_passed : (P : Limit → Type 0) (e : GraphError) (x : Limit) → e ≡ Passed x → OnError e P → P x
+limit_passed P e x is h = subst (λ (y : GraphError). OnError y P) is h
+
 -- a tree whose program passes a limit
 pub limit_refused : (t : FileTree) (P : Program) (x : Limit) (r : Refusal) (labels : List Label) → P ≡ resolve t → name_faults t ≡ [] → NotRecursive t
     → ((ls : List Labelled) → limit_fault ls 0 (events_of P) ≡ Some (refusal_of ls x)) → labels ≡ walked t → ((ls : List Labelled) → labels ≡ map told ls → r ≡ refusal_of ls x)
@@ -64,8 +74,6 @@ limit_refused t P x r labels is names straight passed walk told_by =
     let same : r ≡ refusal_of (labels_of t) x = told_by (labels_of t) walk in
     let there : limit_fault (labels_of t) 0 (events_of (resolve t)) ≡ Some (refusal_of (labels_of t) x) = subst (λ (Q : Program). limit_fault (labels_of t) 0 (events_of Q) ≡ Some (refusal_of (labels_of t) x)) is (passed (labels_of t)) in
     past_limit r names straight (there ∙ ap Some (sym same))
-
-pub ruleset building = (has_graph, limit_refused)
 
 -- answers ------------------------------------------------------------------------------------------------------------
 
@@ -89,10 +97,29 @@ accepted o source t r has is = record {
 
 -- a source whose tree's report is told
 pub is_answered : (o : Options) (source : List ℕ) (t : FileTree) (r : Report) → HasTree source t → IsToldOf o t r → o.domain ≡ box → 1 ≤ o.parts → IsAnswered o source r
-is_answered o source t r has is domain some = record {
-  domain = domain;
-  report = is_report (settings_of o) t r is.lists is.analysed is.agrees o source domain some is.options (accepted o source t r has is);
-  analysed = is.analysed;
-}
+is_answered o source t r has is domain some =
+    let whole = is_report (settings_of o) t r is.lists is.analysed is.agrees o source domain some is.options (accepted o source t r has is) in
+    record {
+      domain = domain;
+      report = record {
+        options = is.options;
+        tree = t;
+        accepted = accepted o source t r has is;
+        lists = is.lists;
+        parts = whole.parts;
+        sound = sound (settings_of o) t r is.lists is.analysed is.agrees;
+        flag = whole.flag;
+      };
+      analysed = is.analysed;
+    }
 
-pub ruleset answering = (straight, well, is_answered, tree_refused)
+-- and so with what a tree's answer is, whichever it is
+module _ (o : Options) (source : List ℕ) (t : FileTree) (has : HasTree source t) where
+  pub each_answered : (x : Result shown.Report SourceError) → o.domain ≡ box → 1 ≤ o.parts → IfOk x (λ r. IsToldOf o t (report_of r)) → IfOk x (λ r. IsAnswered o source (report_of r))
+  each_answered (Ok r) domain some is = is_answered o source t (report_of r) has is domain some
+  each_answered (Err e) domain some is = tt
+
+  pub each_refused : (x : Result shown.Report SourceError) → IfRefused x (λ (r : Refusal). RefusesTree t r.cause r.place) → IfRefused x (λ (r : Refusal). Refuse Built source r.cause r.place)
+  each_refused (Ok r) fault = tt
+  each_refused (Err (Refused r)) fault = tree_refused source t r.cause r.place has fault
+  each_refused (Err Memory) fault = tt

@@ -47,7 +47,7 @@ fn report_graph(
     let solution = analyse::<Boxes>(alloc, &settings, globals, graph)?;
     let states = states_of(alloc, &solution.values)?;
     let sites = graph.sites.as_slice();
-    list(
+    let report = list(
         alloc,
         tree,
         sites,
@@ -55,7 +55,8 @@ fn report_graph(
         states,
         &solution.verdicts,
         solution.flagged,
-    )
+    )?;
+    Ok(report)
 }
 
 /// The report of a tree, or its refusal: its first fault of names, or the first limit that its program passes.
@@ -72,7 +73,6 @@ fn report_tree(alloc: Global, options: Options, tree: &Tree) -> Result<Report, S
 
 /// The report of a source over boxes, or its one refusal; memory may be wanting. A source past the limit of 65,536 bytes is refused by its
 /// first bytes, so that no more than one byte past the limit need be given.
-#[tactic(auto, using(crate::proofs::StageSteps::answering))]
 pub fn analyse_source(alloc: Global, options: Options, bytes: &[u8]) -> Result<Report, SourceError>
     requires domain { options.domain ≡ Box }
     requires parts { 1 ≤ options.parts }

@@ -34,7 +34,6 @@ pub fn program_of(alloc: Global, tree: &Tree) -> Result<Program, SourceError>
 }
 
 /// The tree of operations of a program and its points, or the refusal for the first limit that is passed.
-#[tactic(auto, using(crate::proofs::StageSteps::building))]
 pub fn graph_of(alloc: Global, tree: &Tree, program: &Program) -> Result<Graph, SourceError>
     requires program { program_view program.now ≡ resolve (tree_view tree.now) }
     requires clean { name_faults (tree_view tree.now) ≡ [] }

@@ -32,7 +32,6 @@ fn read_tokens(alloc: Global, bytes: &[u8]) -> Result<Vec<Token>, SourceError>
 }
 
 /// The tree of a source, or its refusal.
-#[tactic(auto, using(crate::proofs::ReadSteps::parsing))]
 pub fn read_tree(alloc: Global, bytes: &[u8]) -> Result<Tree, SourceError>
     requires { length bytes.now + 1 < 2 ^ 32 }
     ensures found { IfOk result (λ t. HasTree bytes.now (tree_view t)) }

@@ -10,11 +10,12 @@ use lra_report::Part;
 use std::alloc::{AllocError, Global};
 
 /// The parts of a value, which have no generators.
+#[tactic(auto, using(crate::proofs::StateSteps::pushed))]
 fn state_of(alloc: Global, value: &Boxes) -> Result<Vec<Part>, AllocError>
     ensures { IfOk result (λ s. s.items ≡ shown_state box_meaning value.now) }
 {
     let mut state = Vec::new(alloc);
-    for part in value.parts(alloc)? {
+    'each: for part in value.parts(alloc)? {
         state.push(Part::new(part, None))?;
     }
     Ok(state)
@@ -25,7 +26,7 @@ pub fn states_of(alloc: Global, values: &[Boxes]) -> Result<Vec<Vec<Part>>, Allo
     ensures { IfOk result (λ states. map (λ s. s.items) states.items ≡ map (shown_state box_meaning) values.now) }
 {
     let mut states = Vec::new(alloc);
-    for value in values {
+    'values: for value in values {
         states.push(state_of(alloc, value)?)?;
     }
     Ok(states)

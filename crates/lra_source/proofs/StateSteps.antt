@@ -1,0 +1,18 @@
+-- A state so far, and one part more.
+use Rattle.std.proofs.Common.{◌≡◌, List, [], ◌∷◌, ◌++◌, map, refl, ap, sym, ◌∙◌}
+use Rattle.std.proofs.lemmas.List.{map-append}
+use Rattle.lra_sys.specs.Listed.{Listed}
+use Rattle.lra_sys.specs.declared.system.ConKind.{ConKind}
+use Rattle.lra_report.specs.Rows.{shown_rows}
+use Rattle.lra_tree.specs.Report.{Part, Row}
+use Rattle.lra_source.specs.Analysed.{shown_part}
+
+part_is : (p : Part) (y : Listed ConKind) → p.rows ≡ shown_rows y.rows y.kinds → p.generators ≡ [] → p ≡ shown_part y
+part_is p y rows none =
+    ap (λ (rs : List Row). record { rows = rs; generators = p.generators }) rows
+    ∙ ap (λ gs. record { rows = shown_rows y.rows y.kinds; generators = gs }) none
+
+pub pushed : (old new : List Part) (p : Part) (ys : List (Listed ConKind)) (y : Listed ConKind) → old ≡ map shown_part ys → new ≡ old ++ p ∷ [] → p.rows ≡ shown_rows y.rows y.kinds → p.generators ≡ []
+    → new ≡ map shown_part (ys ++ y ∷ [])
+pushed old new p ys y so_far is rows none =
+    is ∙ ap (λ (l : List Part). l ++ p ∷ []) so_far ∙ ap (λ (q : Part). map shown_part ys ++ q ∷ []) (part_is p y rows none) ∙ sym (map-append shown_part ys (y ∷ []))

@@ -1,0 +1,11 @@
+use Rattle.std.proofs.Common.{◌≡◌, ◌∙◌, map, ap, sym, rules}
+use Rattle.std.proofs.lemmas.List.{map-id}
+use Rattle.std.proofs.lemmas.Iterator.Consumers.{YieldsList-end}
+use Rattle.std.proofs.lemmas.Iterator.Adapters.{YieldsList-from_vec}
+use Rattle.lra_source.specs.Analysed.{shown_part}
+use Rattle.lra_source.proofs.StateSteps.{pushed}
+use Rattle.lra_source.proofs.states.state_of.Goals as goal
+
+pub each-preserved : goal.each-preserved
+each-preserved c =
+    pushed c.each.state.items c.push.new.self.items c.new.result c.each.yielded c.in-Some.part c.each.invariant c.in_ok-push.ensures.items c.new.ensures.rows c.new.ensures.generators
