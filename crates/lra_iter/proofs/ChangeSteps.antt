@@ -1,14 +1,14 @@
 -- Steps of the proofs on changes of values.
 use Rattle.std.proofs.Common.{◌≡◌, ℕ, suc, ◌+◌, List, [], ◌∷◌, ◌++◌, Option, Some, None, length, refl, sym, ap, ◌∙◌, subst}
 use Rattle.lra_lin.specs.Form.{Form}
-use Rattle.lra_domain.specs.Actions.{Action, assign, forget, embed, dims_after}
+use Rattle.lra_domain.specs.Actions.{Action, embed, dims_after}
 use Rattle.lra_domain.specs.declared.Exactness.{Exactness}
 use Rattle.lra_domain.specs.declared.Exactness.TheVariants.{Exact, Flagged}
 use Rattle.lra_domain.specs.Meaning.{Meaning, Meets}
 use Rattle.lra_tree.specs.Program.{Expr}
 use Rattle.lra_tree.specs.Linear as linear
-use Rattle.lra_flow.specs.Operations.{dropping, worse}
-use Rattle.lra_flow.specs.Changes.{set_to, append_set, AreDone}
+use Rattle.lra_flow.specs.Operations.{worse}
+use Rattle.lra_flow.specs.Changes.{set_to, append_set}
 use Rattle.lra_flow.proofs.FormLemmas.{form_wide}
 use Rattle.lra_iter.specs.Forms.{as_linear, IsForm}
 use Rattle.lra_iter.specs.Changes.{Does}

@@ -1,23 +1,20 @@
 -- Steps of the proofs on tests and conditions.
-use Rattle.std.proofs.Common.{rules, Box, Vec, Global, ◌≡◌, ℕ, zero, suc, ℤ, pos, negsuc, List, [], ◌∷◌, Option, Some, None, Bool, true, false, length, map, refl, sym, ap, ◌∙◌, subst, arith}
-use Rattle.std.specs.Prelude.{◌-ℤ◌, replicate, option_map, not}
+use Rattle.std.proofs.Common.{rules, Box, Vec, Global, ◌≡◌, ℕ, ℤ, pos, negsuc, List, [], ◌∷◌, Option, Some, None, true, false, length, map, refl, ap, ◌∙◌, subst, arith}
+use Rattle.std.specs.Prelude.{◌-ℤ◌, replicate, option_map}
 use Rattle.std.proofs.lemmas.Int.{ints}
 use Rattle.lra_lin.specs.Form.{Form}
-use Rattle.lra_lin.specs.declared.test.Test.{Test}
 use Rattle.lra_domain.specs.Meaning.{Meaning}
 use Rattle.lra_domain.specs.declared.Exactness.{Exactness}
 use Rattle.lra_tree.specs.declared.trees.Comparison as declared
 use Rattle.lra_tree.specs.declared.trees.Comparison.TheVariants.{Below, AtMost, Above, AtLeast, Equal, Differs}
 use Rattle.lra_tree.specs.Views.{comparison_view}
-use Rattle.lra_tree.specs.Program.{minus, Expr, binary, Cond, both_of, either_of}
-use Rattle.lra_tree.specs.Program as program
+use Rattle.lra_tree.specs.Program.{minus, Expr, binary, Cond}
 use Rattle.lra_tree.specs.declared.program.Cond as declared_cond
 use Rattle.lra_tree.specs.declared.program.Cond.{All, Any, the_lemmas}
 use Rattle.lra_tree.specs.ProgramViews.{all_of, any_of, cond_view}
-use Rattle.lra_tree.specs.Value.{◌>>=◌}
 use Rattle.lra_tree.specs.Linear as linear
 use Rattle.lra_tree.specs.Linear.{entrywise, combined, fitting, constant_form, less_one, opposite_less_one, form_of, operator_form, difference_form, at_least_zero}
-use Rattle.lra_tree.specs.Condition.{Pushed, first_then, one_or, push}
+use Rattle.lra_tree.specs.Condition.{first_then, one_or, push}
 use Rattle.lra_flow.specs.Changes.{as_form}
 use Rattle.lra_iter.specs.Forms.{as_linear, IsForm}
 use Rattle.lra_flow.proofs.FormLemmas.{form_wide}

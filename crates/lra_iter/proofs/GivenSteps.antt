@@ -1,6 +1,6 @@
 -- Steps of the proofs on given rows.
-use Rattle.std.proofs.Common.{◌≡◌, ℕ, suc, ℤ, pos, negsuc, ◌*ℤ◌, List, [], ◌∷◌, ◌++◌, Option, Some, None, Bool, true, false, length, map, refl, sym, ap, ◌∙◌, subst, append_assoc, append-nil}
-use Rattle.std.specs.Prelude.{option_map, ◌-ℤ◌}
+use Rattle.std.proofs.Common.{◌≡◌, ℕ, suc, ℤ, pos, negsuc, ◌*ℤ◌, List, [], ◌∷◌, ◌++◌, Option, Some, None, Bool, true, false, length, map, refl, sym, ap, ◌∙◌, append_assoc, append-nil}
+use Rattle.std.specs.Prelude.{◌-ℤ◌}
 use Rattle.std.proofs.lemmas.List.{map-append, length-map}
 use Rattle.lra_tree.specs.Report.{equality, inequality}
 use Rattle.lra_flow.proofs.FormLemmas.{fitting_same}
@@ -14,15 +14,14 @@ use Rattle.lra_tree.specs.declared.trees.Comparison as declared
 use Rattle.lra_tree.specs.declared.trees.Comparison.TheVariants.{Below, AtMost, Above, AtLeast, Equal, Differs}
 use Rattle.lra_tree.specs.Views.{comparison_view}
 use Rattle.lra_tree.specs.ProgramViews.{all_of, any_of}
-use Rattle.lra_tree.specs.Program.{Expr, Cond}
+use Rattle.lra_tree.specs.Program.{Cond}
 use Rattle.lra_tree.specs.Linear as linear
 use Rattle.lra_tree.specs.Linear.{fitting, at_least_zero, difference_form, comparison_test}
 use Rattle.lra_tree.specs.Condition.{push}
-use Rattle.lra_flow.specs.Given.{row_of, opposite_row, test_rows, atom_rows, pushed_rows}
-use Rattle.lra_iter.specs.Forms.{as_linear, IsForm}
+use Rattle.lra_flow.specs.Given.{row_of, test_rows, atom_rows, pushed_rows}
+use Rattle.lra_iter.specs.Forms.{as_linear}
 use Rattle.lra_iter.specs.Conditions.{as_test, IsTest, in_turn_of, either_of}
 use Rattle.lra_iter.specs.Given.{HasMore}
-use Rattle.lra_iter.proofs.FormSteps.{some_only}
 use Rattle.lra_iter.proofs.CondSteps.{all_true, any_false, all_false, any_true}
 
 -- more and more

@@ -10,3 +10,4 @@ mod Tabled
 mod Filling
 mod Solving
 mod SampleTree
+mod PassSteps

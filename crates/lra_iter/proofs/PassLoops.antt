@@ -1,8 +1,13 @@
 -- The size of a tree, and what the loops of a pass keep.
-use Rattle.std.proofs.Common.{◌≡◌, ℕ, zero, suc, ◌+◌, ◌-◌, List, [], ◌∷◌, ◌++◌, Option, Some, None, take, drop, refl, sym, ap, subst, ◌∙◌, arith}
+use Rattle.std.proofs.Common.{◌≡◌, ◌≢◌, ℕ, zero, suc, ◌+◌, ◌-◌, ◌^◌, ◌<◌, Bool, true, false, List, [], ◌∷◌, ◌++◌, Option, take, drop, refl, sym, ap, subst, ◌∙◌, arith}
 use Rattle.std.specs.Prelude.{slice_index_or}
-use Rattle.lra_domain.specs.Rank.{RankFits}
-use Rattle.lra_domain.specs.Meaning.{Meaning}
+use Rattle.lra_domain.specs.declared.Rank.{Rank}
+use Rattle.lra_domain.specs.declared.Mode.TheVariants.{Join}
+use Rattle.lra_domain.specs.Rank.{RankFits, RankBelow}
+use Rattle.lra_domain.specs.Meaning.{Meaning, Starts, Values, Stays, Grew, Joins}
+use Rattle.lra_domain.proofs.RankNumbers.{phased, phased_joins, phased_falls}
+use Rattle.lra_sys.specs.Listed.{Listed}
+use Rattle.lra_sys.specs.declared.system.ConKind.{ConKind}
 use Rattle.lra_domain.specs.declared.Exactness.{Exactness}
 use Rattle.lra_tree.specs.declared.graph.Node.{Node}
 use Rattle.lra_tree.specs.declared.graph.Node.TheFolds.{fold-Node}
@@ -11,7 +16,8 @@ use Rattle.lra_tree.specs.Program.{Cond}
 use Rattle.lra_tree.specs.Graph as graph
 use Rattle.lra_flow.specs.declared.Settings.{Settings}
 use Rattle.lra_flow.specs.Operations.{dropping}
-use Rattle.lra_flow.specs.Pass.{Result, noted, first_of_call, mode_at, Pass, GoesRound, GoesFrom, Grows, Narrows}
+use Rattle.lra_flow.specs.Given.{given_rows}
+use Rattle.lra_flow.specs.Pass.{Result, noted, mode_at, Pass, GoesRound, Grows, Narrows}
 use Rattle.lra_iter.specs.Outcome.{AllHave, HasGrown, JumpsFit}
 
 abbrev pub size_step : Node-F ℕ → ℕ
@@ -42,26 +48,83 @@ pub record NarrowLoop {V H : Type 0} (m : Meaning V H) (set : Settings) (q base 
   pub narrows : (v : V) (r : Result V) → Narrows V H (dropping m) q base c (Pass V H (dropping m) set a) left first top last v r
       → Narrows V H (dropping m) q base c (Pass V H (dropping m) set a) set.narrow first u s v r
 
--- one round of narrowing more
-pub narrow_next : {V H : Type 0} (m : Meaning V H) (set : Settings) (q base : ℕ) (c : Cond) (a : graph.Node) (first u : V) (s : Result V) (left k : ℕ) (top next : V) (last turned : Result V) (e : Exactness)
-    → NarrowLoop m set q base c a first u s left top last → left ≡ suc k → (dropping m).joined first last.normal e next
-    → GoesRound V H (dropping m) q base c (Pass V H (dropping m) set a) (noted q e last.flag) next turned
-    → m.dims next ≡ m.dims first → m.dims turned.normal ≡ m.dims first → JumpsFit m a (m.dims first) turned → NarrowLoop m set q base c a first u s k next turned
-narrow_next {V} {H} m set q base c a first u s left k top next last turned e loop is joined round dims behind jumps = record {
-  dims = dims;
-  behind = behind;
-  jumps = jumps;
-  narrows = λ v r h. loop.narrows v r (subst (λ (n : ℕ). Narrows V H (dropping m) q base c (Pass V H (dropping m) set a) n first top last v r) (sym is) (next, turned, e, joined, round, h));
-}
+module _ {V H : Type 0} (m : Meaning V H) (set : Settings) (q base : ℕ) (c : Cond) (a : graph.Node) where
+  -- a head begins
+  pub grow_starts : (first : V) (f : Option ℕ) (rows : Listed ConKind) (head : H) → rows ≡ given_rows (m.dims first) base c → Starts m first rows head → m.head_dims head ≡ m.dims first → RankFits (m.rank head)
+      → GrowLoop m set q base c a first f set.delay f head
+  grow_starts first f rows head is starts dims fits = record {
+    dims = dims;
+    fits = fits;
+    grows = λ later v r h. (head, later, (subst (λ (x : Listed ConKind). Starts m first x head) is starts, dims), h);
+  }
 
--- what comes out first behind a call
-pub returns_first : {V : Type 0} (rs ys xs : List V) (n x : V) → ys ≡ rs ++ n ∷ [] → x ≡ slice_index_or ys 0 x → xs ≡ take 0 ys ++ drop 1 ys → first_of_call rs n ≡ (x, xs)
-returns_first {V} [] ys xs n x is first others =
+  -- it doesn't grow more
+  pub grow_stable : (first : V) (f : Option ℕ) (left : ℕ) (so_far : Option ℕ) (head : H) (v : V) (e : Exactness) (s : Result V) → GrowLoop m set q base c a first f left so_far head
+      → Values m head e v → m.dims v ≡ m.head_dims head → GoesRound V H (dropping m) q base c (Pass V H (dropping m) set a) (noted q e so_far) v s
+      → Stays m head s.normal (mode_at set.limited left) → m.dims s.normal ≡ m.head_dims head → HasGrown m set q base c a first f v s
+  grow_stable first f left so_far head v e s loop values dims round stays behind = loop.grows [] v s ((e, (values, dims), round), (stays, behind))
+
+  -- it grows by what its round left
+  pub grow_next : (first : V) (f : Option ℕ) (left left' : ℕ) (so_far : Option ℕ) (head next : H) (v : V) (e d : Exactness) (s : Result V) → GrowLoop m set q base c a first f left so_far head
+      → Values m head e v → m.dims v ≡ m.head_dims head → GoesRound V H (dropping m) q base c (Pass V H (dropping m) set a) (noted q e so_far) v s
+      → Grew m head s.normal (mode_at set.limited left) d next → m.dims s.normal ≡ m.head_dims head → m.head_dims next ≡ m.head_dims head → RankFits (m.rank next)
+      → left' ≡ left - 1 → GrowLoop m set q base c a first f left' (noted q d s.flag) next
+  grow_next first f left left' so_far head next v e d s loop values dims round grew behind kept fits is = record {
+    dims = kept ∙ loop.dims;
+    fits = fits;
+    grows = λ later w r h. loop.grows (next ∷ later) w r (
+      v,
+      s,
+      d,
+      (e, (values, dims), round),
+      (grew, behind, kept),
+      subst (λ (n : ℕ). Grows V H (dropping m) q base c (Pass V H (dropping m) set a) set.limited n (noted q d s.flag) next later w r) is h,
+    );
+  }
+
+  -- a narrowing begins
+  pub narrow_starts : (first u : V) (s : Result V) → m.dims u ≡ m.dims first → m.dims s.normal ≡ m.dims first → JumpsFit m a (m.dims first) s → NarrowLoop m set q base c a first u s set.narrow u s
+  narrow_starts first u s dims behind jumps = record { dims = dims; behind = behind; jumps = jumps; narrows = λ v r h. h }
+
+  -- one round of narrowing more
+  pub narrow_next : (first u : V) (s : Result V) (left k : ℕ) (top next : V) (last turned : Result V) (e : Exactness)
+      → NarrowLoop m set q base c a first u s left top last → left ≡ suc k → Joins m first last.normal e next
+      → GoesRound V H (dropping m) q base c (Pass V H (dropping m) set a) (noted q e last.flag) next turned
+      → m.dims next ≡ m.dims first → m.dims turned.normal ≡ m.dims first → JumpsFit m a (m.dims first) turned → NarrowLoop m set q base c a first u s k next turned
+  narrow_next first u s left k top next last turned e loop is joined round dims behind jumps = record {
+    dims = dims;
+    behind = behind;
+    jumps = jumps;
+    narrows = λ v r h. loop.narrows v r (subst (λ (n : ℕ). Narrows V H (dropping m) q base c (Pass V H (dropping m) set a) n first top last v r) (sym is) (next, turned, e, (joined, loop.behind, dims), round, h));
+  }
+
+  -- no round is left
+  pub narrow_ends : (first u : V) (s : Result V) (left : ℕ) (top : V) (last : Result V) → NarrowLoop m set q base c a first u s left top last → left ≡ 0
+      → Narrows V H (dropping m) q base c (Pass V H (dropping m) set a) set.narrow first u s top last
+  narrow_ends first u s left top last loop is =
+      loop.narrows top last (subst (λ (n : ℕ). Narrows V H (dropping m) q base c (Pass V H (dropping m) set a) n first top last top last) (sym is) (refl, refl))
+
+not_join : (limited : Bool) → mode_at limited 0 ≡ Join → ⊥
+not_join true e = cc
+not_join false e = cc
+
+-- a round less of joining, or a lower rank
+pub grow_falls : (limited : Bool) (left left' : ℕ) (r r' : Rank) → RankFits r' → left' ≡ left - 1 → (mode_at limited left ≢ Join → RankBelow r' r) → phased (2 ^ 64) left' r' < phased (2 ^ 64) left r
+grow_falls limited zero left' r r' fits is below = phased_falls zero left' r r' fits is (below (not_join limited))
+grow_falls limited (suc k) left' r r' fits is below = phased_joins (suc k) left' r r' fits (omega arith)
+
+have_append : {V H : Type 0} (m : Meaning V H) (k : ℕ) (vs : List V) (n : V) → AllHave m k vs → m.dims n ≡ k → AllHave m k (vs ++ n ∷ [])
+have_append m k [] n h is = (is, tt)
+have_append m k (v ∷ vs) n h is = (h.0, have_append m k vs n h.1 is)
+
+-- what comes out behind a call has as many dimensions as its end
+pub returns_have : {V H : Type 0} (m : Meaning V H) (rs ys xs : List V) (n x : V) → ys ≡ rs ++ n ∷ [] → x ≡ slice_index_or ys 0 x → xs ≡ take 0 ys ++ drop 1 ys → AllHave m (m.dims n) rs → (m.dims x ≡ m.dims n) × AllHave m (m.dims x) xs
+returns_have {V} m [] ys xs n x is first others have =
     let one : x ≡ n = subst (λ (zs : List V). x ≡ slice_index_or zs 0 x) is first in
     let none : xs ≡ [] = subst (λ (zs : List V). xs ≡ take 0 zs ++ drop 1 zs) is others in
-    let p : V × List V = (x, xs) in
-    let t : (n, []) ≡ p = ap (λ (y : V). pair y []) (sym one) ∙ ap (pair x) (sym none) in t
-  where
-    pair : V → List V → V × List V
-    pair y ys = (y, ys)
-returns_first {V} (v ∷ vs) ys xs n x is first others = ?
+    (ap m.dims one, subst (λ (zs : List V). AllHave m (m.dims x) zs) (sym none) tt)
+returns_have {V} m (v ∷ vs) ys xs n x is first others have =
+    let one : x ≡ v = subst (λ (zs : List V). x ≡ slice_index_or zs 0 x) is first in
+    let more : xs ≡ vs ++ n ∷ [] = subst (λ (zs : List V). xs ≡ take 0 zs ++ drop 1 zs) is others in
+    let same : m.dims x ≡ m.dims n = ap m.dims one ∙ have.0 in
+    (same, subst (λ (k : ℕ). AllHave m k xs) (sym same) (subst (λ (zs : List V). AllHave m (m.dims n) zs) (sym more) (have_append m (m.dims n) vs n have.1 refl)))

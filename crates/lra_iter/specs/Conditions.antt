@@ -1,10 +1,9 @@
 -- Tests and conditions of the code's types, and what they leave of a value with the exactness of what led to it.
-use Rattle.std.specs.Prelude.{◌≡◌, ℕ, Bool, true, false, not, List, [], ◌∷◌, Option, option_map}
-use Rattle.lra_lin.specs.Form.{Form}
+use Rattle.std.specs.Prelude.{◌≡◌, ℕ, Bool, not, List, [], ◌∷◌, Option, option_map}
 use Rattle.lra_lin.specs.declared.test.Test.{Test}
 use Rattle.lra_domain.specs.declared.Exactness.{Exactness}
 use Rattle.lra_domain.specs.Meaning.{Meaning}
-use Rattle.lra_tree.specs.Program.{Comparison, differs, Cond}
+use Rattle.lra_tree.specs.Program.{Comparison, Cond}
 use Rattle.lra_tree.specs.Linear as linear
 use Rattle.lra_tree.specs.Condition.{Pushed, first_then, one_or, push, IsTestedBy, IsAtom, IsPushed}
 use Rattle.lra_flow.specs.Operations.{dropping}

@@ -1,18 +1,15 @@
 //! The pass over a tree of operations.
 
-ghost use Rattle.std.specs.Prelude.{◌≡◌, ◌≤◌, ◌^◌, ◌++◌, ◌∷◌, [], List, Option, ℕ, map, true, false, IfOk, OnOk};
-ghost use Rattle.std.specs.List.{Contains};
+ghost use Rattle.std.specs.Prelude.{◌≡◌, ◌≤◌, ◌^◌, IfOk};
 ghost use Rattle.lra_tree.specs.Graph.{broken, continued, returned, check, choose, iterate};
 ghost use Rattle.lra_tree.specs.ProgramViews.{cond_view};
 ghost use Rattle.lra_tree.specs.GraphViews.{node_view, exit_view};
 ghost use Rattle.lra_flow.specs.declared.Settings.{Settings};
 ghost use Rattle.lra_flow.specs.Operations.{dropping};
-ghost use Rattle.lra_flow.specs.Changes.{AreJoined};
-ghost use Rattle.lra_flow.specs.Given.{given_rows};
-ghost use Rattle.lra_flow.specs.Pass.{Pass, GoesRound, Grows, Narrows, noted, mode_at, caught, behind, in_turn};
+ghost use Rattle.lra_flow.specs.Pass.{Pass, GoesRound, Narrows, mode_at, in_turn};
 ghost use Rattle.lra_flow.specs.Sound.{jumps_of};
-ghost use Rattle.lra_iter.specs.Fits.{live_behind, JumpsWith, TreeFits};
-ghost use Rattle.lra_iter.specs.Outcome.{entry_view, seen, AllHave, Catches, JumpsFit, HasGrown};
+ghost use Rattle.lra_iter.specs.Fits.{live_behind, TreeFits};
+ghost use Rattle.lra_iter.specs.Outcome.{seen, AllHave, Catches, JumpsFit, HasGrown};
 
 use crate::changes::change;
 use crate::conditions::leave;
@@ -160,6 +157,24 @@ fn catch_returns<D: Domain>(
     })
 }
 
+/// Jumps of this kind come out here.
+fn catch_jumps<D: Domain>(
+    alloc: Global,
+    point: usize,
+    exit: Exit,
+    inner: Outcome<D>,
+) -> Result<Outcome<D>, AllocError>
+    requires { AllHave D.meaning (D.meaning.dims inner.normal) (jumps_of (exit_view exit) (seen inner)) }
+    ensures caught { IfOk result (λ r. Catches D.meaning point (exit_view exit) (seen inner) (seen r)) }
+    ensures dims { IfOk result (λ r. D.meaning.dims r.normal ≡ D.meaning.dims inner.normal) }
+{
+    match exit {
+        Exit::Broken => catch_breaks(alloc, point, inner),
+        Exit::Continued => catch_continues(alloc, point, inner),
+        Exit::Returned => catch_returns(alloc, point, inner),
+    }
+}
+
 /// An assertion: where its condition is false, and then where it is true.
 fn pass_check<D: Domain>(
     alloc: Global,
@@ -172,6 +187,7 @@ fn pass_check<D: Domain>(
     requires { D.meaning.dims value ≤ 2 ^ 30 }
     ensures pass { IfOk result (λ r. (settings : Settings) → Pass D D.Head (dropping D.meaning) settings (check point base (cond_view condition.now)) flag value (seen r)) }
     ensures dims { IfOk result (λ r. D.meaning.dims r.normal ≡ D.meaning.dims value) }
+    ensures jumps { IfOk result (λ r. JumpsFit D.meaning (check point base (cond_view condition.now)) (D.meaning.dims value) (seen r)) }
 {
     let mut off = value.copy(alloc)?;
     let one = leave(alloc, base, condition, false, &mut off, Exactness::Exact)?;
@@ -204,8 +220,10 @@ fn round<D: Domain>(
 {
     let mut on = value.copy(alloc)?;
     let exactness = leave(alloc, base, condition, true, &mut on, Exactness::Exact)?;
-    let mut outcome = pass(alloc, settings, body, on, note(point, exactness, flag))?;
-    outcome.entries.insert(0, Entry::Value(point, value.copy(alloc)?))?;
+    let inside = note(point, exactness, flag);
+    let mut outcome = pass(alloc, settings, body, on, inside)?;
+    let found = value.copy(alloc)?;
+    outcome.entries.insert(0, Entry::Value(point, found))?;
     Ok(outcome)
 }
 
@@ -237,7 +255,14 @@ fn grow<D: Domain>(
         let (value, exactness) = D::value(alloc, &head)?;
         let so_far_here = note(point, exactness, so_far);
         let outcome = round(
-            alloc, settings, point, base, condition, body, &value, so_far_here,
+            alloc,
+            settings,
+            point,
+            base,
+            condition,
+            body,
+            &value,
+            so_far_here,
         )?;
         match D::grow(&mut head, &outcome.normal, mode_of(settings.limited, left))? {
             Grown::Stable => return Ok((value, outcome)),
@@ -276,16 +301,8 @@ fn narrow<D: Domain>(
     'narrowing: while left > 0 {
         let mut next = first.copy(alloc)?;
         let exactness = next.join(&last.normal)?;
-        let turned = round(
-            alloc,
-            settings,
-            point,
-            base,
-            condition,
-            body,
-            &next,
-            note(point, exactness, last.flag),
-        )?;
+        let so_far = note(point, exactness, last.flag);
+        let turned = round(alloc, settings, point, base, condition, body, &next, so_far)?;
         top = next;
         last = turned;
         left -= 1;
@@ -317,8 +334,9 @@ fn pass_loop<D: Domain>(
         alloc, settings, point, base, condition, body, &value, grown, outcome,
     )?;
     let exactness = leave(alloc, base, condition, false, &mut top, Exactness::Exact)?;
+    let flag = note(point, exactness, last.flag);
     last.normal = top;
-    last.flag = note(point, exactness, last.flag);
+    last.flag = flag;
     Ok(last)
 }
 
@@ -343,14 +361,17 @@ fn pass_choice<D: Domain>(
 {
     let mut on = value.copy(alloc)?;
     let one = leave(alloc, base, condition, true, &mut on, Exactness::Exact)?;
-    let mut first = pass(alloc, settings, yes, on, note(point, one, flag))?;
+    let on_flag = note(point, one, flag);
+    let first = pass(alloc, settings, yes, on, on_flag)?;
     let mut off = value;
     let two = leave(alloc, base, condition, false, &mut off, Exactness::Exact)?;
-    let mut second = pass(alloc, settings, no, off, note(point, two, first.flag))?;
+    let off_flag = note(point, two, first.flag);
+    let mut second = pass(alloc, settings, no, off, off_flag)?;
     let mut normal = first.normal.copy(alloc)?;
     let joined = normal.join(&second.normal)?;
+    let flag = note(point, joined, second.flag);
     second.normal = normal;
-    second.flag = note(point, joined, second.flag);
+    second.flag = flag;
     let both = in_a_row(first, second)?;
     Ok(both)
 }
@@ -373,19 +394,16 @@ pub fn pass<D: Domain>(
     match node {
         Node::Empty => Ok(Outcome::going_on(alloc, Vec::new(alloc), value, flag)),
         Node::Point(point) => {
+            let found = value.copy(alloc)?;
             let mut entries = Vec::new(alloc);
-            entries.push(Entry::Value(*point, value.copy(alloc)?))?;
+            entries.push(Entry::Value(*point, found))?;
             Ok(Outcome::going_on(alloc, entries, value, flag))
         }
         Node::Act(point, op) => {
             let mut after = value;
             let exactness = change(alloc, op, &mut after)?;
-            Ok(Outcome::going_on(
-                alloc,
-                Vec::new(alloc),
-                after,
-                note(*point, exactness, flag),
-            ))
+            let flag = note(*point, exactness, flag);
+            Ok(Outcome::going_on(alloc, Vec::new(alloc), after, flag))
         }
         Node::Check(point, base, condition) => {
             let outcome = pass_check(alloc, *point, *base, condition, value, flag)?;
@@ -410,11 +428,7 @@ pub fn pass<D: Domain>(
         }
         Node::Catch(point, exit, body) => {
             let inner = pass(alloc, settings, body, value, flag)?;
-            let outcome = match exit {
-                Exit::Broken => catch_breaks(alloc, *point, inner)?,
-                Exit::Continued => catch_continues(alloc, *point, inner)?,
-                Exit::Returned => catch_returns(alloc, *point, inner)?,
-            };
+            let outcome = catch_jumps(alloc, *point, *exit, inner)?;
             Ok(outcome)
         }
         Node::Leave(live, exit) => {

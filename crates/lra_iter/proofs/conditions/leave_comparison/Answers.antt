@@ -1,4 +1,4 @@
-use Rattle.std.proofs.Common.{rules, ◌≡◌, ◌∙◌, sym, Some, length}
+use Rattle.std.proofs.Common.{Some}
 use Rattle.lra_tree.specs.ProgramViews.{expr_view}
 use Rattle.lra_tree.specs.Linear.{difference_form}
 use Rattle.lra_iter.specs.Forms.{as_linear, IsForm}

@@ -1,7 +1,4 @@
 use Rattle.std.proofs.Common.{length}
-use Rattle.std.proofs.Common.{◌≡◌, ◌++◌}
-use Rattle.std.specs.List.{list_all}
-use Rattle.lra_tree.specs.Value.{is_word}
 use Rattle.lra_tree.specs.Linear.{entrywise}
 use Rattle.lra_iter.specs.Forms.{sum_of}
 use Rattle.lra_iter.proofs.FormSteps.{SoFar}

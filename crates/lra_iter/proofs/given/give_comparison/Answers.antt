@@ -1,7 +1,6 @@
-use Rattle.std.proofs.Common.{◌≡◌, Some, arith}
 use Rattle.lra_tree.specs.ProgramViews.{expr_view}
 use Rattle.lra_tree.specs.Linear.{difference_form}
-use Rattle.lra_iter.specs.Forms.{as_linear, IsForm}
+use Rattle.lra_iter.specs.Forms.{as_linear}
 use Rattle.lra_iter.proofs.CondSteps.{difference_wide, difference_there}
 use Rattle.lra_iter.proofs.FormSteps.{some_only}
 use Rattle.lra_iter.proofs.GivenSteps.{rows_by_test}

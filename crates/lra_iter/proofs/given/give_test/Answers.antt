@@ -1,4 +1,4 @@
-use Rattle.std.proofs.Common.{rules, ◌≡◌, ◌∙◌, ap, suc, length, sym}
+use Rattle.std.proofs.Common.{◌∙◌, ap, suc, sym}
 use Rattle.lra_iter.proofs.GivenSteps.{test_wide}
 use Rattle.lra_iter.proofs.given.give_test.Goals as goal
 

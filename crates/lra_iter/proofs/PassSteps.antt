@@ -1,0 +1,178 @@
+-- Steps of the proofs on the pass.
+use Rattle.std.proofs.Common.{rules, Box, Vec, Global, map, ◌≡◌, ℕ, zero, suc, ◌+◌, ◌<◌, List, [], ◌∷◌, ◌++◌, Option, false, refl, sym, ap, subst, ◌∙◌, inl, inr, arith}
+use Rattle.std.specs.Prelude.{◌⊎◌}
+use Rattle.std.specs.List.{Contains, insert}
+use Rattle.std.proofs.lemmas.List.Elements.{Contains-append_cases}
+use Rattle.lra_domain.specs.Meaning.{Meaning}
+use Rattle.lra_domain.specs.declared.Exactness.{Exactness}
+use Rattle.lra_tree.specs.declared.program.Cond as declared_cond
+use Rattle.lra_tree.specs.declared.graph.Exit as declared_exit
+use Rattle.lra_tree.specs.declared.graph.Op as declared_op
+use Rattle.lra_tree.specs.declared.graph.Node.{Node, Empty, Point, Act, Check, Seq, Choose, Iterate, Catch, Leave, the_lemmas}
+use Rattle.lra_tree.specs.ProgramViews.{cond_view}
+use Rattle.lra_tree.specs.GraphViews.{exit_view, op_view, node_view}
+use Rattle.lra_tree.specs.Program.{Cond}
+use Rattle.lra_tree.specs.Graph.{Exit, broken, continued, returned}
+use Rattle.lra_tree.specs.Graph as graph
+use Rattle.lra_flow.specs.declared.Settings.{Settings}
+use Rattle.lra_flow.specs.Operations.{dropping}
+use Rattle.lra_flow.specs.Conditions.{Leaves}
+use Rattle.lra_flow.specs.Pass.{Entry, value, Result, noted, goes_on, jumps, in_turn, behind, Pass, Narrows}
+use Rattle.lra_flow.specs.Sound.{jumps_of}
+use Rattle.lra_iter.specs.Fits.{live_behind, JumpsWith, TreeFits}
+use Rattle.lra_iter.specs.declared.outcome.Entry as entry
+use Rattle.lra_iter.specs.declared.outcome.Entry.TheVariants as entry_variants
+use Rattle.lra_iter.specs.declared.outcome.Outcome.{Outcome}
+use Rattle.lra_iter.specs.Outcome.{entry_view, seen, AllHave, Catches, JumpsFit, HasGrown}
+use Rattle.lra_iter.proofs.PassLoops.{node_size}
+
+-- the views of the nine forms
+pub empty_view : node_view Empty ≡ graph.empty
+empty_view = search (rules, the_lemmas)
+
+pub point_view : (q : ℕ) → node_view (Point q) ≡ graph.point q
+point_view q = search (rules, the_lemmas)
+
+pub act_view : (q : ℕ) (o : declared_op.Op) → node_view (Act q o) ≡ graph.act q (op_view o)
+act_view q o = search (rules, the_lemmas)
+
+pub check_view : (q base : ℕ) (c : declared_cond.Cond) → node_view (Check q base c) ≡ graph.check q base (cond_view c)
+check_view q base c = search (rules, the_lemmas)
+
+pub seq_view : (a b : Box Node Global) → node_view (Seq a b) ≡ graph.seq (node_view a.value) (node_view b.value)
+seq_view a b = search (rules, the_lemmas)
+
+pub choose_view : (q base : ℕ) (c : declared_cond.Cond) (a b : Box Node Global) → node_view (Choose q base c a b) ≡ graph.choose q base (cond_view c) (node_view a.value) (node_view b.value)
+choose_view q base c a b = search (rules, the_lemmas)
+
+pub iterate_view : (q base : ℕ) (c : declared_cond.Cond) (a : Box Node Global) → node_view (Iterate q base c a) ≡ graph.iterate q base (cond_view c) (node_view a.value)
+iterate_view q base c a = search (rules, the_lemmas)
+
+pub catch_view : (q : ℕ) (k : declared_exit.Exit) (a : Box Node Global) → node_view (Catch q k a) ≡ graph.catch q (exit_view k) (node_view a.value)
+catch_view q k a = search (rules, the_lemmas)
+
+pub leave_view : (n : ℕ) (k : declared_exit.Exit) → node_view (Leave n k) ≡ graph.leave n (exit_view k)
+leave_view n k = search (rules, the_lemmas)
+
+-- the sizes of those with trees in them
+pub seq_size : (a b : Box Node Global) → node_size (Seq a b) ≡ 1 + (node_size a.value + node_size b.value)
+seq_size a b = search (rules, the_lemmas)
+
+pub choose_size : (q base : ℕ) (c : declared_cond.Cond) (a b : Box Node Global) → node_size (Choose q base c a b) ≡ 1 + (node_size a.value + node_size b.value)
+choose_size q base c a b = search (rules, the_lemmas)
+
+pub iterate_size : (q base : ℕ) (c : declared_cond.Cond) (a : Box Node Global) → node_size (Iterate q base c a) ≡ 1 + node_size a.value
+iterate_size q base c a = search (rules, the_lemmas)
+
+pub catch_size : (q : ℕ) (k : declared_exit.Exit) (a : Box Node Global) → node_size (Catch q k a) ≡ 1 + node_size a.value
+catch_size q k a = search (rules, the_lemmas)
+
+no_element : {X : Type 0} (u : X) → Contains [] u → ⊥
+no_element u h = let below : h.0 < 0 = h.1 in omega arith
+
+one_element : {X : Type 0} (v u : X) → Contains (v ∷ []) u → u ≡ v
+one_element v u (zero, below, is) = sym is
+one_element v u (suc k, below, is) = absurd (omega arith)
+
+in_both : {X : Type 0} (P Q : X → Type 0) (xs ys : List X) (u : X) → (Contains xs u → P u) → (Contains ys u → Q u) → Contains (xs ++ ys) u → P u ⊎ Q u
+in_both P Q xs ys u p q h = elim (Contains-append_cases xs ys u h) [ inl x ↦ inl (p x) | inr y ↦ inr (q y) ]
+
+module _ {V H : Type 0} (m : Meaning V H) where
+  -- without a jump
+  pub going_on_fits : (g : graph.Node) (n : ℕ) (xs : List (Entry V)) (v : V) (f : Option ℕ) → JumpsFit m g n (goes_on xs v f)
+  going_on_fits g n xs v f = fits
+    where
+      fits : (k : Exit) (u : V) → Contains (jumps_of k (goes_on xs v f)) u → JumpsWith g n k (m.dims u)
+      fits broken u h = absurd (no_element u h)
+      fits continued u h = absurd (no_element u h)
+      fits returned u h = absurd (no_element u h)
+
+  -- one behind the other
+  pub seq_fits : (a b : graph.Node) (n : ℕ) (s t r : Result V) (v : V) (f : Option ℕ) → r ≡ in_turn s t v f → JumpsFit m a n s → JumpsFit m b (live_behind a n) t → JumpsFit m (graph.seq a b) n r
+  seq_fits a b n s t r v f is one two = subst (λ (x : Result V). JumpsFit m (graph.seq a b) n x) (sym is) fits
+    where
+      fits : (k : Exit) (u : V) → Contains (jumps_of k (in_turn s t v f)) u → JumpsWith (graph.seq a b) n k (m.dims u)
+      fits broken u h = in_both (λ x. JumpsWith a n broken (m.dims x)) (λ x. JumpsWith b (live_behind a n) broken (m.dims x)) s.breaks t.breaks u (one broken u) (two broken u) h
+      fits continued u h = in_both (λ x. JumpsWith a n continued (m.dims x)) (λ x. JumpsWith b (live_behind a n) continued (m.dims x)) s.continues t.continues u (one continued u) (two continued u) h
+      fits returned u h = in_both (λ x. JumpsWith a n returned (m.dims x)) (λ x. JumpsWith b (live_behind a n) returned (m.dims x)) s.returns t.returns u (one returned u) (two returned u) h
+
+  pub choose_fits : (q base : ℕ) (c : Cond) (a b : graph.Node) (n : ℕ) (s t r : Result V) (v : V) (f : Option ℕ) → r ≡ in_turn s t v f → JumpsFit m a n s → JumpsFit m b n t → JumpsFit m (graph.choose q base c a b) n r
+  choose_fits q base c a b n s t r v f is one two = subst (λ (x : Result V). JumpsFit m (graph.choose q base c a b) n x) (sym is) fits
+    where
+      fits : (k : Exit) (u : V) → Contains (jumps_of k (in_turn s t v f)) u → JumpsWith (graph.choose q base c a b) n k (m.dims u)
+      fits broken u h = in_both (λ x. JumpsWith a n broken (m.dims x)) (λ x. JumpsWith b n broken (m.dims x)) s.breaks t.breaks u (one broken u) (two broken u) h
+      fits continued u h = in_both (λ x. JumpsWith a n continued (m.dims x)) (λ x. JumpsWith b n continued (m.dims x)) s.continues t.continues u (one continued u) (two continued u) h
+      fits returned u h = in_both (λ x. JumpsWith a n returned (m.dims x)) (λ x. JumpsWith b n returned (m.dims x)) s.returns t.returns u (one returned u) (two returned u) h
+
+  -- the jumps of another result
+  pub same_jumps_fit : (g : graph.Node) (n : ℕ) (s r : Result V) → r.breaks ≡ s.breaks → r.continues ≡ s.continues → r.returns ≡ s.returns → JumpsFit m g n s → JumpsFit m g n r
+  same_jumps_fit g n s r breaks continues returns inner = fits
+    where
+      fits : (k : Exit) (u : V) → Contains (jumps_of k r) u → JumpsWith g n k (m.dims u)
+      fits broken u h = inner broken u (subst (λ (vs : List V). Contains vs u) breaks h)
+      fits continued u h = inner continued u (subst (λ (vs : List V). Contains vs u) continues h)
+      fits returned u h = inner returned u (subst (λ (vs : List V). Contains vs u) returns h)
+
+  -- behind a catch
+  behind_fits : (q : ℕ) (j : Exit) (a : graph.Node) (n : ℕ) (s : Result V) (w : V) (f : Option ℕ) → JumpsFit m a n s → (k : Exit) (u : V) → Contains (jumps_of k (behind j s w f)) u → JumpsWith (graph.catch q j a) n k (m.dims u)
+  behind_fits q broken a n s w f inner broken u h = absurd (no_element u h)
+  behind_fits q broken a n s w f inner continued u h = (λ e. cc, inner continued u h)
+  behind_fits q broken a n s w f inner returned u h = (λ e. cc, inner returned u h)
+  behind_fits q continued a n s w f inner broken u h = (λ e. cc, inner broken u h)
+  behind_fits q continued a n s w f inner continued u h = absurd (no_element u h)
+  behind_fits q continued a n s w f inner returned u h = (λ e. cc, inner returned u h)
+  behind_fits q returned a n s w f inner broken u h = (λ e. cc, inner broken u h)
+  behind_fits q returned a n s w f inner continued u h = (λ e. cc, inner continued u h)
+  behind_fits q returned a n s w f inner returned u h = absurd (no_element u h)
+
+  pub catch_fits : (q : ℕ) (j : Exit) (a : graph.Node) (n : ℕ) (s r : Result V) → JumpsFit m a n s → Catches m q j s r → JumpsFit m (graph.catch q j a) n r
+  catch_fits q j a n s r inner (w, e, joined, is) = subst (λ (x : Result V). JumpsFit m (graph.catch q j a) n x) (sym is) (behind_fits q j a n s w (noted q e s.flag) inner)
+
+  pub catch_passes : (set : Settings) (q : ℕ) (j : Exit) (a : graph.Node) (f : Option ℕ) (v : V) (s r : Result V) → Pass V H (dropping m) set a f v s → Catches m q j s r → Pass V H (dropping m) set (graph.catch q j a) f v r
+  catch_passes set q j a f v s r pass (w, e, joined, is) = (w, e, s, pass, joined, is)
+
+  -- a jump
+  leave_fits : (l : ℕ) (j : Exit) (n : ℕ) (v w : V) (f : Option ℕ) → m.dims v ≡ n → (k : Exit) (u : V) → Contains (jumps_of k (jumps j v w f)) u → JumpsWith (graph.leave l j) n k (m.dims u)
+  leave_fits l broken n v w f is broken u h = (refl, ap m.dims (one_element v u h) ∙ is)
+  leave_fits l broken n v w f is continued u h = absurd (no_element u h)
+  leave_fits l broken n v w f is returned u h = absurd (no_element u h)
+  leave_fits l continued n v w f is broken u h = absurd (no_element u h)
+  leave_fits l continued n v w f is continued u h = (refl, ap m.dims (one_element v u h) ∙ is)
+  leave_fits l continued n v w f is returned u h = absurd (no_element u h)
+  leave_fits l returned n v w f is broken u h = absurd (no_element u h)
+  leave_fits l returned n v w f is continued u h = absurd (no_element u h)
+  leave_fits l returned n v w f is returned u h = (refl, ap m.dims (one_element v u h) ∙ is)
+
+  pub jump_fits : (l : ℕ) (j : Exit) (v w : V) (f : Option ℕ) (r : Result V) → r ≡ jumps j v w f → JumpsFit m (graph.leave l j) (m.dims v) r
+  jump_fits l j v w f r is = subst (λ (x : Result V). JumpsFit m (graph.leave l j) (m.dims v) x) (sym is) (leave_fits l j (m.dims v) v w f refl)
+
+  jump_normal : (k : Exit) (v w : V) (f : Option ℕ) → (jumps k v w f).normal ≡ w
+  jump_normal broken v w f = refl
+  jump_normal continued v w f = refl
+  jump_normal returned v w f = refl
+
+  pub jump_dims : (l : ℕ) (j : Exit) (v w : V) (f : Option ℕ) (r : Result V) → r ≡ jumps j v w f → m.dims w ≡ l → m.dims r.normal ≡ l
+  jump_dims l j v w f r is dims = ap (λ (x : Result V). m.dims x.normal) is ∙ ap m.dims (jump_normal j v w f) ∙ dims
+
+  pub none_fits : (g : graph.Node) (n : ℕ) (xs : List (Entry V)) (v : V) (f : Option ℕ) (r : Result V) → r ≡ goes_on xs v f → JumpsFit m g n r
+  none_fits g n xs v f r is = subst (λ (x : Result V). JumpsFit m g n x) (sym is) (going_on_fits g n xs v f)
+
+  -- what comes out has as many dimensions as the others
+  all_have : (n : ℕ) (vs : List V) → ((u : V) → Contains vs u → m.dims u ≡ n) → AllHave m n vs
+  all_have n [] h = tt
+  all_have n (v ∷ vs) h = (h v (0, omega arith, refl), all_have n vs (λ u i. h u (suc i.0, omega (arith, i.1), i.2)))
+
+  pub caught_have : (q : ℕ) (k : Exit) (a : graph.Node) (n : ℕ) (s : Result V) → TreeFits (graph.catch q k a) n → JumpsFit m a n s → m.dims s.normal ≡ live_behind a n → AllHave m (m.dims s.normal) (jumps_of k s)
+  caught_have q k a n s fits jumps dims = all_have (m.dims s.normal) (jumps_of k s) (λ u h. fits.1 (m.dims u) (jumps k u h) ∙ sym dims)
+
+  -- a loop
+  pub loop_passes : (set : Settings) (q base : ℕ) (c : Cond) (a : graph.Node) (f : Option ℕ) (first u top out : V) (s t : Result V) (e : Exactness)
+      → HasGrown m set q base c a first f u s → Narrows V H (dropping m) q base c (Pass V H (dropping m) set a) set.narrow first u s top t → Leaves (dropping m) base c false top e out
+      → Pass V H (dropping m) set (graph.iterate q base c a) f first (record t { normal = out; flag = noted q e t.flag })
+  loop_passes set q base c a f first u top out s t e (h, later, started, grows) narrows leaves = (h, later, u, top, out, s, t, e, started, grows, narrows, leaves, refl)
+
+-- the value at a loop's point comes first
+pub entered : {V : Type 0} (o : Outcome V) (es : Vec (entry.Entry V) Global) (q : ℕ) (v w : V) → es.items ≡ insert o.entries.items 0 (entry_variants.Value q w) → w ≡ v
+    → seen (record o { entries = es }) ≡ record (seen o) { entries = value q v ∷ (seen o).entries }
+entered {V} o es q v w is same =
+    ap (λ (xs : List (Entry V)). record (seen o) { entries = xs }) (ap (map entry_view) is ∙ ap (λ (x : V). value q x ∷ map entry_view o.entries.items) same)
