@@ -108,16 +108,16 @@ module _ {V H : Type 0} (m : Meaning V H) (n : ℕ) where
         there : (q : ℕ) (w : V) → slice_get (slice_set values p (Some v)) q ≡ Some (Some w) → Contains (xs ++ value p v ∷ []) (value q w)
         there q w e = elim (cases_eq p q) [
           | inl same ↦ (let at : Some (Some v) ≡ Some (Some w) = sym here ∙ (subst (λ (k : ℕ). slice_get (slice_set values p (Some v)) k ≡ Some (Some w)) (sym same) e) in
-            let is : v ≡ w = same_Some v w (same_Some (Some v) (Some w) at) in
-            subst (λ (k : ℕ). Contains (xs ++ value p v ∷ []) (value k w)) same (subst (λ (x : V). Contains (xs ++ value p v ∷ []) (value p x)) is (Contains-push xs (value p v))))
+              let is : v ≡ w = same_Some v w (same_Some (Some v) (Some w) at) in
+              subst (λ (k : ℕ). Contains (xs ++ value p v ∷ []) (value k w)) same (subst (λ (x : V). Contains (xs ++ value p v ∷ []) (value p x)) is (Contains-push xs (value p v))))
           | inr other ↦ Contains-append_left xs (value p v ∷ []) (value q w) ((tabled.is_value q w).0 (sym (place_other values p q (Some v) other) ∙ e))
         ]
 
         back : (q : ℕ) (w : V) → Contains (xs ++ value p v ∷ []) (value q w) → slice_get (slice_set values p (Some v)) q ≡ Some (Some w)
         back q w h = elim (cases_eq p q) [
           | inl same ↦ (let k : Contains (xs ++ value p v ∷ []) (value p w) = subst (λ (j : ℕ). Contains (xs ++ value p v ∷ []) (value j w)) (sym same) h in
-            let is : v ≡ w = one_value V p v w (xs ++ value p v ∷ []) few (Contains-push xs (value p v)) k in
-            subst (λ (j : ℕ). slice_get (slice_set values p (Some v)) j ≡ Some (Some w)) same (here ∙ ap (λ (x : V). Some (Some x)) is))
+              let is : v ≡ w = one_value V p v w (xs ++ value p v ∷ []) few (Contains-push xs (value p v)) k in
+              subst (λ (j : ℕ). slice_get (slice_set values p (Some v)) j ≡ Some (Some w)) same (here ∙ ap (λ (x : V). Some (Some x)) is))
           | inr other ↦ elim (Contains-push_cases xs (value p v) (value q w) h) [
             | inl i ↦ place_other values p q (Some v) other ∙ (tabled.is_value q w).1 i
             | inr e ↦ absurd (other (value_parts V p q v w e).0)
@@ -139,8 +139,8 @@ module _ {V H : Type 0} (m : Meaning V H) (n : ℕ) where
         there : (q : ℕ) (b : Bool) → slice_get (slice_set verdicts p (Some proved)) q ≡ Some (Some b) → (w : V) × Contains (xs ++ failing p u ∷ []) (failing q w) × (IsTrue b ↔ IsUnreachable m w)
         there q b e = elim (cases_eq p q) [
           | inl same ↦ (let at : Some (Some proved) ≡ Some (Some b) = sym here ∙ (subst (λ (k : ℕ). slice_get (slice_set verdicts p (Some proved)) k ≡ Some (Some b)) (sym same) e) in
-            let is : proved ≡ b = same_Some proved b (same_Some (Some proved) (Some b) at) in
-            (u, subst (λ (k : ℕ). Contains (xs ++ failing p u ∷ []) (failing k u)) same (Contains-push xs (failing p u)), subst (λ (x : Bool). IsTrue x ↔ IsUnreachable m u) is so))
+              let is : proved ≡ b = same_Some proved b (same_Some (Some proved) (Some b) at) in
+              (u, subst (λ (k : ℕ). Contains (xs ++ failing p u ∷ []) (failing k u)) same (Contains-push xs (failing p u)), subst (λ (x : Bool). IsTrue x ↔ IsUnreachable m u) is so))
           | inr other ↦ (let k = tabled.is_verdict q b (sym (place_other verdicts p q (Some proved) other) ∙ e) in (k.0, Contains-append_left xs (failing p u ∷ []) (failing q k.0) k.1, k.2))
         ]
 
@@ -159,9 +159,9 @@ module _ {A : Type 0} where
   all_filled : (t : List (Option A)) → ((q : ℕ) → q < length t → (x : A) × (slice_get t q ≡ Some (Some x))) → map (λ (x : A). Some x) (flat_map option_to_list t) ≡ t
   all_filled [] f = refl
   all_filled (o ∷ t) f =
-    let first = f 0 (omega arith) in
-    let is : o ≡ Some first.0 = same_Some o (Some first.0) first.1 in
-    subst (λ (p : Option A). map (λ (x : A). Some x) (flat_map option_to_list (p ∷ t)) ≡ p ∷ t) (sym is) (ap (λ (ps : List (Option A)). Some first.0 ∷ ps) (all_filled t (λ q h. f (suc q) (omega (arith, h)))))
+      let first = f 0 (omega arith) in
+      let is : o ≡ Some first.0 = same_Some o (Some first.0) first.1 in
+      subst (λ (p : Option A). map (λ (x : A). Some x) (flat_map option_to_list (p ∷ t)) ≡ p ∷ t) (sym is) (ap (λ (ps : List (Option A)). Some first.0 ∷ ps) (all_filled t (λ q h. f (suc q) (omega (arith, h)))))
 
   held : (o : Option A) (x : A) → option_map (λ (y : A). Some y) o ≡ Some (Some x) → o ≡ Some x
   held None x e = absurd (none-some (Some x) e)
@@ -169,8 +169,8 @@ module _ {A : Type 0} where
 
   held_place : (vs : List A) (t : List (Option A)) (q : ℕ) (x : A) → map (λ (y : A). Some y) vs ≡ t → (slice_get vs q ≡ Some x) ↔ (slice_get t q ≡ Some (Some x))
   held_place vs t q x is =
-    let at : option_map (λ (y : A). Some y) (slice_get vs q) ≡ slice_get t q = sym (slice_get-map (λ (y : A). Some y) vs q) ∙ ap (λ (s : List (Option A)). slice_get s q) is in
-    (λ e. sym at ∙ ap (λ (o : Option A). option_map (λ (y : A). Some y) o) e, λ e. held (slice_get vs q) x (at ∙ e))
+      let at : option_map (λ (y : A). Some y) (slice_get vs q) ≡ slice_get t q = sym (slice_get-map (λ (y : A). Some y) vs q) ∙ ap (λ (s : List (Option A)). slice_get s q) is in
+      (λ e. sym at ∙ ap (λ (o : Option A). option_map (λ (y : A). Some y) o) e, λ e. held (slice_get vs q) x (at ∙ e))
 
   pair_parts : (p q : ℕ) (x y : A) → (let a : ℕ × A = (p, x) in a) ≡ (q, y) → (p ≡ q) × (x ≡ y)
   pair_parts p q x y e = (ap (λ (a : ℕ × A). a.0) e, ap (λ (a : ℕ × A). a.1) e)
@@ -188,12 +188,12 @@ module _ {A : Type 0} where
   filled_has n (None ∷ t) zero x e = absurd (none-some x (same_Some None (Some x) e))
   filled_has n (None ∷ t) (suc q) x e = let k : suc n + q ≡ n + suc q = omega arith in subst (λ (p : ℕ). Contains (filled_from (suc n) t) (p, x)) k (filled_has (suc n) t q x e)
   filled_has n (Some y ∷ t) zero x e =
-    let is : y ≡ x = same_Some y x (same_Some (Some y) (Some x) e) in
-    let k : n ≡ n + 0 = omega arith in
-    subst (λ (p : ℕ). Contains (filled_from n (Some y ∷ t)) (p, x)) k (subst (λ (z : A). Contains (filled_from n (Some y ∷ t)) (n, z)) is (contains_head (n, y) (filled_from (suc n) t)))
+      let is : y ≡ x = same_Some y x (same_Some (Some y) (Some x) e) in
+      let k : n ≡ n + 0 = omega arith in
+      subst (λ (p : ℕ). Contains (filled_from n (Some y ∷ t)) (p, x)) k (subst (λ (z : A). Contains (filled_from n (Some y ∷ t)) (n, z)) is (contains_head (n, y) (filled_from (suc n) t)))
   filled_has n (Some y ∷ t) (suc q) x e =
-    let k : suc n + q ≡ n + suc q = omega arith in
-    subst (λ (p : ℕ). Contains (filled_from n (Some y ∷ t)) (p, x)) k (contains_tail (n, y) (suc n + q, x) (filled_from (suc n) t) (filled_has (suc n) t q x e))
+      let k : suc n + q ≡ n + suc q = omega arith in
+      subst (λ (p : ℕ). Contains (filled_from n (Some y ∷ t)) (p, x)) k (contains_tail (n, y) (suc n + q, x) (filled_from (suc n) t) (filled_has (suc n) t q x e))
 
   filled_low : (n : ℕ) (t : List (Option A)) (j : ℕ) (b : ℕ × A) → slice_get (filled_from n t) j ≡ Some b → n ≤ b.0
   filled_low n [] j b e = absurd (none-some b e)
@@ -206,7 +206,7 @@ module _ {A : Type 0} where
   filled_order n (None ∷ t) i j a b h d e = filled_order (suc n) t i j a b h d e
   filled_order n (Some y ∷ t) i zero a b h d e = absurd (omega (arith, h))
   filled_order n (Some y ∷ t) zero (suc j) a b h d e =
-    let is : n ≡ a.0 = ap (λ (c : ℕ × A). c.0) (same_Some (n, y) a d) in let low = filled_low (suc n) t j b e in omega (arith, is, low)
+      let is : n ≡ a.0 = ap (λ (c : ℕ × A). c.0) (same_Some (n, y) a d) in let low = filled_low (suc n) t j b e in omega (arith, is, low)
   filled_order n (Some y ∷ t) (suc i) (suc j) a b h d e = filled_order (suc n) t i j a b (omega (arith, h)) d e
 
 -- the assertions among the sites are the filled places

@@ -1,7 +1,6 @@
 //! What a pass over a tree of operations gives.
 
 ghost use Rattle.std.specs.Prelude.{◌≡◌, ◌∷◌, [], ◌++◌, map, IfOk, OnOk};
-
 ghost use Rattle.lra_tree.specs.GraphViews.{exit_view};
 ghost use Rattle.lra_flow.specs.Operations.{dropping};
 ghost use Rattle.lra_flow.specs.Changes.{AreJoined};

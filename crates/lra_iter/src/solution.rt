@@ -64,7 +64,13 @@ pub fn analyse<D: Domain>(
 {
     let mut value = D::universe(alloc, 0, settings.parts)?;
     let exactness = append_globals(alloc, globals, &mut value)?;
-    let outcome = pass(alloc, settings, &graph.tree, value, note(0, exactness, None))?;
+    let outcome = pass(
+        alloc,
+        settings,
+        &graph.tree,
+        value,
+        note(0, exactness, None),
+    )?;
     let solution = solution_of(alloc, &graph.sites, outcome)?;
     Ok(solution)
 }

@@ -56,10 +56,7 @@ pub fn held_in<T: Drop>(alloc: Global, table: Vec<Option<T>>) -> Result<Vec<T>, 
 }
 
 /// What the filled places hold, with the places' numbers.
-pub fn numbered_in(
-    alloc: Global,
-    table: &[Option<bool>],
-) -> Result<Vec<(usize, bool)>, AllocError>
+pub fn numbered_in(alloc: Global, table: &[Option<bool>]) -> Result<Vec<(usize, bool)>, AllocError>
     ensures { IfOk result (λ numbered. numbered.items ≡ filled_from 0 table.now) }
 {
     let mut numbered = Vec::new(alloc);

@@ -65,13 +65,7 @@ fn assertion(alloc: Global, point: usize, condition: Cond) -> Result<Node, Alloc
 fn choice(alloc: Global, condition: Cond, yes: Node, no: Node) -> Result<Node, AllocError>
     ensures { IfOk result (λ g. node_view g ≡ graph.seq (graph.point 1) (graph.choose 1 0 (cond_view condition) (node_view yes) (node_view no))) }
 {
-    let branches = Node::Choose(
-        1,
-        0,
-        condition,
-        Box::new(alloc, yes)?,
-        Box::new(alloc, no)?,
-    );
+    let branches = Node::Choose(1, 0, condition, Box::new(alloc, yes)?, Box::new(alloc, no)?);
     behind_point(alloc, 1, branches)
 }
 
@@ -138,7 +132,10 @@ fn a_small_program(rt: HostRuntime) -> Result<(), AllocError> {
         let found = rows_of(alloc, value)?;
         assert_eq!(rt; found.as_slice(), *rows, "point {point}");
     }
-    assert_eq!(rt; solution.verdicts.as_slice(), [(2, true), (3, false)].as_slice());
+    assert_eq!(rt;
+        solution.verdicts.as_slice(),
+        [(2, true), (3, false)].as_slice()
+    );
     assert_eq!(rt; solution.flagged, None);
     Ok(())
 }

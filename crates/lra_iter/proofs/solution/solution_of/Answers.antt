@@ -21,7 +21,7 @@ pub returns-clause-points : goal.returns-clause-points
 returns-clause-points g c =
     let sites = c.args.sites.now in
     let count = values_count g.D.Domain.meaning (map site_view sites) (seen c.args.outcome) (length sites) c.in_ok-tables.tables.values.items c.in_ok-tables.tables.verdicts.items (sym (length-map sites site_view)) c.requires
-        c.in_ok-tables.ensures c.in_ok-held_in.field-0.items c.in_ok-held_in.ensures in
+    c.in_ok-tables.ensures c.in_ok-held_in.field-0.items c.in_ok-held_in.ensures in
     rw (length-map sites site_view) at count
 
 pub returns-clause-assertions : goal.returns-clause-assertions
