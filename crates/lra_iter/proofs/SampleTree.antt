@@ -1,4 +1,4 @@
--- The tree of the worked example fits, and has each of its points once.
+-- The tree of the worked example has each of its points once.
 use Rattle.std.proofs.Common.{◌≡◌, ℕ, zero, suc, ◌+◌, ◌<◌, ◌≤◌, ◌^◌, List, [], ◌∷◌, length, map, Option, Some, None, Bool, cond, refl, sym, ap, ◌∙◌, subst, arith}
 use Rattle.std.specs.Prelude.{slice_get, option_map}
 use Rattle.std.proofs.lemmas.List.{length-map}
@@ -7,7 +7,8 @@ use Rattle.lra_tree.specs.Program.{Expr, Cond}
 use Rattle.lra_tree.specs.Step.{append, give}
 use Rattle.lra_tree.specs.Graph.{Node, point, act, check, seq, choose}
 use Rattle.lra_tree.specs.Sites.{Site}
-use Rattle.lra_iter.specs.Fits.{TreeFits}
+use Rattle.lra_tree.specs.declared.graph.Site as coded
+use Rattle.lra_tree.specs.GraphViews.{site_view}
 use Rattle.lra_iter.specs.Numbers.{one_if, values_in, checks_in, asserts_of, IsNumbered}
 use Rattle.lra_iter.specs.Sample.{sample_asserts}
 use Rattle.lra_iter.proofs.Counting.{one_other}
@@ -20,13 +21,6 @@ past : {A : Type 0} (xs : List A) (k : ℕ) → slice_get xs k ≡ None → leng
 past [] k e = omega arith
 past (x ∷ xs) zero e = absurd (none-some x (sym e))
 past (x ∷ xs) (suc k) e = let h = past xs k e in omega (arith, h)
-
-pub sample_fits : (g : Node) (e : Expr) (c d f : Cond) → g ≡ sample_tree e c d f → TreeFits g 0
-sample_fits g e c d f is = subst (λ (t : Node). TreeFits t 0) (sym is) (
-  tt,
-  omega arith,
-  (omega arith, omega arith, (omega arith, omega arith, ((tt, omega arith, ((tt, omega arith, tt), (tt, omega arith, tt), refl)), omega arith, tt))),
-)
 
 flag_count : Option Bool → ℕ
 flag_count None = 0
@@ -77,3 +71,7 @@ sample_numbered T g e c d f is are = subst (λ (t : Node). IsNumbered T t) (sym 
   where
     long : length T ≡ 5
     long = sym (length-map T (λ (s : Site). s.asserts)) ∙ ap length are
+
+pub asserts_seen : (sites : List coded.Site) → map (λ (s : Site). s.asserts) (map site_view sites) ≡ map (λ (s : coded.Site). s.asserts) sites
+asserts_seen [] = refl
+asserts_seen (s ∷ sites) = ap (λ (bs : List Bool). s.asserts ∷ bs) (asserts_seen sites)

@@ -33,6 +33,20 @@ fn in_turn(alloc: Global, first: Node, second: Node) -> Result<Node, AllocError>
     Ok(Node::Seq(Box::new(alloc, first)?, Box::new(alloc, second)?))
 }
 
+/// The point, then the tree.
+fn behind_point(alloc: Global, point: usize, node: Node) -> Result<Node, AllocError>
+    ensures { IfOk result (λ g. node_view g ≡ graph.seq (graph.point point) (node_view node)) }
+{
+    in_turn(alloc, Node::Point(point), node)
+}
+
+/// The tree, then the point.
+fn before_point(alloc: Global, node: Node, point: usize) -> Result<Node, AllocError>
+    ensures { IfOk result (λ g. node_view g ≡ graph.seq (node_view node) (graph.point point)) }
+{
+    in_turn(alloc, node, Node::Point(point))
+}
+
 /// The operation at the first point, then the tree.
 fn behind(alloc: Global, op: Op, node: Node) -> Result<Node, AllocError>
     ensures { IfOk result (λ g. node_view g ≡ graph.seq (graph.act 0 (op_view op)) (node_view node)) }
@@ -44,7 +58,7 @@ fn behind(alloc: Global, op: Op, node: Node) -> Result<Node, AllocError>
 fn assertion(alloc: Global, point: usize, condition: Cond) -> Result<Node, AllocError>
     ensures { IfOk result (λ g. node_view g ≡ graph.seq (graph.point point) (graph.check point 0 (cond_view condition))) }
 {
-    in_turn(alloc, Node::Point(point), Node::Check(point, 0, condition))
+    behind_point(alloc, point, Node::Check(point, 0, condition))
 }
 
 /// The second point and its branches.
@@ -52,7 +66,7 @@ fn choice(alloc: Global, condition: Cond, yes: Node, no: Node) -> Result<Node, A
     ensures { IfOk result (λ g. node_view g ≡ graph.seq (graph.point 1) (graph.choose 1 0 (cond_view condition) (node_view yes) (node_view no))) }
 {
     let branches = Node::Choose(1, 0, condition, Box::new(alloc, yes)?, Box::new(alloc, no)?);
-    in_turn(alloc, Node::Point(1), branches)
+    behind_point(alloc, 1, branches)
 }
 
 /// The points: the third and the fourth are assertions.
@@ -79,10 +93,10 @@ fn sample(alloc: Global) -> Result<Graph, AllocError>
     let yes = assertion(alloc, 2, at_least(0))?;
     let no = assertion(alloc, 3, at_least(0))?;
     let branches = choice(alloc, at_least(1), yes, no)?;
-    let rest = in_turn(alloc, branches, Node::Point(4))?;
+    let rest = before_point(alloc, branches, 4)?;
     let given = behind(alloc, Op::Give(0, Some(0), Expr::Input), rest)?;
     let declared = behind(alloc, Op::Append, given)?;
-    let tree = in_turn(alloc, Node::Point(0), declared)?;
+    let tree = behind_point(alloc, 0, declared)?;
     let sites = sites(alloc)?;
     Ok(Graph { tree, sites })
 }
