@@ -1,4 +1,5 @@
 /* What a C compiler needs to compile the programs here: input, assume and assert. */
+#pragma once
 #include <assert.h>
 #include <stdio.h>
 #include <stdlib.h>
