@@ -1,5 +1,5 @@
 -- From what a source deserves to how a call ends that answers it. The rest of the crate knows of a source what stands here.
-use Rattle.std.proofs.Common.{◌∙◌, ◌≡◌, ◌≤◌, ◌<◌, ℕ, List, ◌++◌, length, take, refl, ap, sym, subst, arith, absurd}
+use Rattle.std.proofs.Common.{◌∙◌, ◌≡◌, ◌≤◌, ◌<◌, ℕ, List, ◌++◌, length, take, refl, ap, sym, subst, arith}
 use Rattle.std.proofs.lemmas.Grind.{common_steps}
 use Rattle.std.proofs.lemmas.List.{take-append-le}
 use Rattle.lra_tree.specs.declared.refusals.Cause.{Cause}

@@ -48,10 +48,10 @@ pub unread_front : (left : Option (List ℕ)) (n : ℕ) → LosesFront left left
 unread_front None n = ([], tt, omega arith)
 unread_front (Some bytes) n = ([], refl, omega arith)
 
-whole_front : (old new : Option (List ℕ)) (n : ℕ) (bytes : List ℕ) → Consumes old new bytes → length bytes ≤ n → LosesFront old new n
+pub whole_front : (old new : Option (List ℕ)) (n : ℕ) (bytes : List ℕ) → Consumes old new bytes → length bytes ≤ n → LosesFront old new n
 whole_front old new n bytes taken within = (bytes, taken, omega arith)
 
-past_front : (old new : Option (List ℕ)) (n : ℕ) (bytes : List ℕ) → Consumes old new bytes → length bytes ≡ n + 1 → LosesFront old new n
+pub past_front : (old new : Option (List ℕ)) (n : ℕ) (bytes : List ℕ) → Consumes old new bytes → length bytes ≡ n + 1 → LosesFront old new n
 past_front old new n bytes taken past = (bytes, taken, omega arith)
 
 -- one byte past the limit says as much as the whole input --------------------------

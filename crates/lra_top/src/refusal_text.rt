@@ -1,9 +1,12 @@
 // The text of a source's refusal.
-ghost use Rattle.std.specs.Prelude.{◌≡◌, IfOk, string_bytes};
+ghost use Rattle.std.specs.Prelude.{◌≡◌, ◌++◌, codes, IfOk, OnOk, string_bytes};
+ghost use Rattle.std.specs.Fmt.{decimal};
+ghost use Rattle.lra_tree.specs.ReportText.{text_line, place_text};
 ghost use Rattle.lra_tree.specs.Refuse.{cause_number, cause_name, refusal_text};
 
 use lra_tree::{Cause, Place, Refusal};
 use std::alloc::{AllocError, Global};
+use std::fmt::Write;
 
 /// The number of a cause, from 1.
 fn number_of(cause: Cause) -> u32
@@ -47,12 +50,21 @@ fn name_of(cause: Cause) -> &'static str
     }
 }
 
+/// Adds the line of a refusal with this number and name.
+fn push_refusal(text: &mut String, number: u32, name: &str, place: Place) -> Result<(), AllocError>
+    ensures { OnOk result (string_bytes text.new ≡ string_bytes text.old
+        ++ text_line (codes "refused " ++ decimal number ++ codes " " ++ name.now ++ codes " at " ++ place_text place)) }
+{
+    let Place { line, column } = place;
+    writeln!(text, "refused {number} {name} at {line}:{column}")
+}
+
 /// `refused NUMBER NAME at LINE:COLUMN` with a line feed.
 pub fn refusal_text(alloc: Global, refusal: Refusal) -> Result<String, AllocError>
     ensures { IfOk result (λ text. string_bytes text ≡ refusal_text refusal.cause refusal.place) }
 {
-    let number = number_of(refusal.cause);
+    let mut text = String::new(alloc);
     let name = name_of(refusal.cause);
-    let Place { line, column } = refusal.place;
-    format!(in alloc; "refused {number} {name} at {line}:{column}\n")
+    push_refusal(&mut text, number_of(refusal.cause), name, refusal.place)?;
+    Ok(text)
 }

@@ -2,7 +2,7 @@
 ghost use Rattle.std.specs.Prelude.{◌≡◌, ◌≤◌, ◌<◌, ◌+◌, ◌^◌, length, IfOk};
 ghost use Rattle.lra_tree.specs.ReportText.{report_text, unknown_count};
 ghost use Rattle.lra_tree.specs.Refuse as refuse;
-ghost use Rattle.lra_report.specs.View as report;
+ghost use Rattle.lra_report.specs.View as view;
 ghost use Rattle.lra_words.specs.Built.{HasBuiltOptions};
 ghost use Rattle.lra_top.specs.SourceAnswer.{DeservesSource, IsReportStatus};
 ghost use Rattle.lra_top.specs.Run.{domain_of, options_of};
@@ -20,7 +20,7 @@ use std::alloc::{AllocError, Global};
 pub const LIMIT: usize = 65536;
 
 fn report_domain(domain: Domain) -> lra_report::Domain
-    ensures { report.domain_of result ≡ domain_of domain }
+    ensures { view.domain_of result ≡ domain_of domain }
 {
     match domain {
         Domain::Poly => lra_report::Domain::Poly,
@@ -31,7 +31,7 @@ fn report_domain(domain: Domain) -> lra_report::Domain
 
 /// The options as a report has them.
 fn report_options(options: AnalyseOptions) -> Options
-    ensures { report.options_of result ≡ options_of options }
+    ensures { view.options_of result ≡ options_of options }
 {
     Options {
         domain: report_domain(options.domain),
@@ -44,7 +44,7 @@ fn report_options(options: AnalyseOptions) -> Options
 
 /// The status of a report.
 fn status_of(report: &Report) -> Status
-    ensures { IsReportStatus (unknown_count (report.report_of report.now).verdicts) result }
+    ensures { IsReportStatus (unknown_count (view.report_of report.now).verdicts) result }
 {
     if report.unknown_count() == 0 {
         Status::Proved
@@ -55,8 +55,8 @@ fn status_of(report: &Report) -> Status
 
 /// The text of a report, and its status.
 fn answer_report(alloc: Global, report: &Report) -> Result<Answer, AllocError>
-    ensures text { IfOk result (λ a. a.text.items ≡ report_text (report.report_of report.now)) }
-    ensures status { IfOk result (λ a. IsReportStatus (unknown_count (report.report_of report.now).verdicts) a.status) }
+    ensures text { IfOk result (λ a. a.text.items ≡ report_text (view.report_of report.now)) }
+    ensures status { IfOk result (λ a. IsReportStatus (unknown_count (view.report_of report.now).verdicts) a.status) }
 {
     let status = status_of(report);
     Ok(Answer {
