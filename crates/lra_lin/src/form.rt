@@ -7,10 +7,18 @@ use std::alloc::{AllocError, Global};
 use std::marker::Model;
 
 /// A linear form `constant + c1*x1 + .. + cn*xn`, with a coefficient for each dimension.
-#[derive(Drop)]
 pub struct LinExpr {
     constant: i64,
     coefficients: Vec<i64>,
+}
+
+impl Drop for LinExpr {
+    fn drop(self) {
+        let LinExpr {
+            constant: _,
+            coefficients: _,
+        } = self;
+    }
 }
 
 impl Model for LinExpr {

@@ -15,10 +15,15 @@ pub enum TestKind {
 }
 
 /// The test `expr >= 0` or `expr = 0`.
-#[derive(Drop)]
 pub struct Test {
     pub expr: LinExpr,
     pub kind: TestKind,
+}
+
+impl Drop for Test {
+    fn drop(self) {
+        let Test { expr: _, kind: _ } = self;
+    }
 }
 
 impl Test {

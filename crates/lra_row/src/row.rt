@@ -26,9 +26,14 @@ use std::marker::Model;
 
 /// A row of numbers of the range: the coefficients of a linear constraint, or the coordinates of a generator. Column 0 has the
 /// constant or the divisor.
-#[derive(Drop)]
 pub struct Row {
     entries: Entries,
+}
+
+impl Drop for Row {
+    fn drop(self) {
+        let Row { entries: _ } = self;
+    }
 }
 
 impl Model for Row {

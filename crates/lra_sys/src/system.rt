@@ -29,11 +29,20 @@ pub type ConSys = System<ConKind>;
 pub type GenSys = System<GenKind>;
 
 /// Rows of n + 1 columns, in order, each with a kind.
-#[derive(Drop)]
 pub struct System<K: Copy> {
     dims: usize,
     rows: Vec<Row>,
     kinds: Vec<K>,
+}
+
+impl<K: Copy> Drop for System<K> {
+    fn drop(self) {
+        let System {
+            dims: _,
+            rows: _,
+            kinds: _,
+        } = self;
+    }
 }
 
 impl<K: Copy> Model for System<K> {

@@ -16,7 +16,6 @@ pub enum Exit {
 
 /// A least change of the store: a number is a place in it, or its length. The first number of `Give`, `Push` and `Test` is where the
 /// variables of the call that runs begin.
-#[derive(Drop)]
 pub enum Op {
     /// A new variable, of any value.
     Append,
@@ -32,9 +31,21 @@ pub enum Op {
     Test(usize, Cond, bool),
 }
 
+impl Drop for Op {
+    fn drop(self) {
+        match self {
+            Op::Append => {}
+            Op::Give(_, _, _) => {}
+            Op::GiveAny(_) => {}
+            Op::Push(_, _) => {}
+            Op::Keep(_) => {}
+            Op::Test(_, _, _) => {}
+        }
+    }
+}
+
 /// A tree of operations. The first number is that of the point to which an operation belongs; the number before a condition is where the
 /// variables of its call begin.
-#[derive(Drop)]
 pub enum Node {
     Empty,
     Point(usize),
@@ -53,10 +64,31 @@ pub enum Node {
     Leave(usize, Exit),
 }
 
+impl Drop for Node {
+    fn drop(self) {
+        match self {
+            Node::Empty => {}
+            Node::Point(_) => {}
+            Node::Act(_, _) => {}
+            Node::Check(_, _, _) => {}
+            Node::Seq(_, _) => {}
+            Node::Choose(_, _, _, _, _) => {}
+            Node::Iterate(_, _, _, _) => {}
+            Node::Catch(_, _, _) => {}
+            Node::Leave(_, _) => {}
+        }
+    }
+}
+
 /// The labels of the calls that lead to a point, the innermost first.
-#[derive(Drop)]
 pub struct Path {
     calls: Vec<usize>,
+}
+
+impl Drop for Path {
+    fn drop(self) {
+        let Path { calls: _ } = self;
+    }
 }
 
 impl Model for Path {
@@ -68,7 +100,6 @@ impl Model for Path {
 }
 
 /// A point.
-#[derive(Drop)]
 pub struct Site {
     pub path: Path,
     pub label: usize,
@@ -78,11 +109,27 @@ pub struct Site {
     pub asserts: bool,
 }
 
+impl Drop for Site {
+    fn drop(self) {
+        let Site {
+            path: _,
+            label: _,
+            live: _,
+            asserts: _,
+        } = self;
+    }
+}
+
 /// The tree of a program, and its points in the order of their numbers.
-#[derive(Drop)]
 pub struct Graph {
     pub tree: Node,
     pub sites: Vec<Site>,
+}
+
+impl Drop for Graph {
+    fn drop(self) {
+        let Graph { tree: _, sites: _ } = self;
+    }
 }
 
 impl Path {

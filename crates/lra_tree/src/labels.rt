@@ -15,10 +15,18 @@ use crate::trees::{
 use std::alloc::{AllocError, Global};
 
 /// A statement, a declarator or a block's end: its place, and the called name where it holds a call.
-#[derive(Drop)]
 pub struct Label {
     pub place: Place,
     pub called: Option<Identifier>,
+}
+
+impl Drop for Label {
+    fn drop(self) {
+        let Label {
+            place: _,
+            called: _,
+        } = self;
+    }
 }
 
 /// The labels of a source in their order.

@@ -15,7 +15,6 @@ pub enum Slot {
 }
 
 #[cycle(resolved_expression)]
-#[derive(Drop)]
 pub enum Expr {
     /// Below 2^63.
     Literal(u64),
@@ -27,15 +26,36 @@ pub enum Expr {
     Chain(Box<Expr>, Vec<Operation>),
 }
 
+impl Drop for Expr {
+    #[cycle(resolved_expression_drop)]
+    fn drop(self) {
+        match self {
+            Expr::Literal(_) => {}
+            Expr::Read(_) => {}
+            Expr::Input => {}
+            Expr::Negate(_) => {}
+            Expr::Chain(_, _) => {}
+        }
+    }
+}
+
 /// An operator and its right operand.
 #[cycle(resolved_expression)]
-#[derive(Drop)]
 pub struct Operation {
     pub operator: Operator,
     pub operand: Expr,
 }
 
-#[derive(Drop)]
+impl Drop for Operation {
+    #[cycle(resolved_expression_drop)]
+    fn drop(self) {
+        let Operation {
+            operator: _,
+            operand: _,
+        } = self;
+    }
+}
+
 pub enum Cond {
     Compare(Comparison, Expr, Expr),
     /// `e != 0`
@@ -47,30 +67,66 @@ pub enum Cond {
     Any(Box<Cond>, Vec<Cond>),
 }
 
+impl Drop for Cond {
+    fn drop(self) {
+        match self {
+            Cond::Compare(_, _, _) => {}
+            Cond::Nonzero(_) => {}
+            Cond::Opposite(_) => {}
+            Cond::All(_, _) => {}
+            Cond::Any(_, _) => {}
+        }
+    }
+}
+
 /// A call under a label of its own: the callee's place in the list of functions, and the arguments.
-#[derive(Drop)]
 pub struct Call {
     pub label: usize,
     pub function: usize,
     pub arguments: Vec<Expr>,
 }
 
+impl Drop for Call {
+    fn drop(self) {
+        let Call {
+            label: _,
+            function: _,
+            arguments: _,
+        } = self;
+    }
+}
+
 /// What a variable gets, or a `return` gives.
-#[derive(Drop)]
 pub enum Source {
     Value(Expr),
     Result(Call),
 }
 
-#[derive(Drop)]
+impl Drop for Source {
+    fn drop(self) {
+        match self {
+            Source::Value(_) => {}
+            Source::Result(_) => {}
+        }
+    }
+}
+
 pub struct Declarator {
     pub label: usize,
     pub source: Option<Source>,
 }
 
+impl Drop for Declarator {
+    fn drop(self) {
+        let Declarator {
+            label: _,
+            source: _,
+        } = self;
+    }
+}
+
 /// A statement under its label.
 #[cycle(resolved_statement)]
-#[derive(Drop)]
 pub enum Stmt {
     /// No `else`, or no step of a `for`.
     Absent,
@@ -93,20 +149,55 @@ pub enum Stmt {
     Assume(usize, Cond),
 }
 
+impl Drop for Stmt {
+    #[cycle(resolved_statement_drop)]
+    fn drop(self) {
+        match self {
+            Stmt::Absent => {}
+            Stmt::Nothing(_) => {}
+            Stmt::Block(_, _) => {}
+            Stmt::Assign(_, _, _) => {}
+            Stmt::Call(_, _) => {}
+            Stmt::If(_, _, _, _) => {}
+            Stmt::Loop(_, _, _, _) => {}
+            Stmt::For(_, _) => {}
+            Stmt::Break(_) => {}
+            Stmt::Continue(_) => {}
+            Stmt::Return(_, _) => {}
+            Stmt::Assert(_, _) => {}
+            Stmt::Assume(_, _) => {}
+        }
+    }
+}
+
 #[cycle(resolved_statement)]
-#[derive(Drop)]
 pub enum BlockItem {
     Declaration(Declarator),
     Statement(Stmt),
 }
 
+impl Drop for BlockItem {
+    #[cycle(resolved_statement_drop)]
+    fn drop(self) {
+        match self {
+            BlockItem::Declaration(_) => {}
+            BlockItem::Statement(_) => {}
+        }
+    }
+}
+
 #[cycle(resolved_statement)]
-#[derive(Drop)]
 pub struct BlockItems {
     pub items: Vec<BlockItem>,
 }
 
-#[derive(Drop)]
+impl Drop for BlockItems {
+    #[cycle(resolved_statement_drop)]
+    fn drop(self) {
+        let BlockItems { items: _ } = self;
+    }
+}
+
 pub struct Function {
     /// How many parameters it has.
     pub parameters: usize,
@@ -115,7 +206,16 @@ pub struct Function {
     pub end: usize,
 }
 
-#[derive(Drop)]
+impl Drop for Function {
+    fn drop(self) {
+        let Function {
+            parameters: _,
+            body: _,
+            end: _,
+        } = self;
+    }
+}
+
 pub struct Program {
     /// The first values of the global variables.
     pub globals: Vec<i64>,
@@ -123,6 +223,16 @@ pub struct Program {
     pub functions: Vec<Function>,
     /// The place of `main` among them.
     pub main: usize,
+}
+
+impl Drop for Program {
+    fn drop(self) {
+        let Program {
+            globals: _,
+            functions: _,
+            main: _,
+        } = self;
+    }
 }
 
 impl Expr {

@@ -82,9 +82,14 @@ pub enum Mark {
 }
 
 /// A name.
-#[derive(Drop)]
 pub struct Word {
     text: String,
+}
+
+impl Drop for Word {
+    fn drop(self) {
+        let Word { text: _ } = self;
+    }
 }
 
 impl Model for Word {
@@ -96,7 +101,6 @@ impl Model for Word {
 }
 
 /// What a token is.
-#[derive(Drop)]
 pub enum Kind {
     Name(Word),
     /// A literal's value, at most 2^63 - 1.
@@ -110,10 +114,28 @@ pub enum Kind {
     End,
 }
 
-#[derive(Drop)]
+impl Drop for Kind {
+    fn drop(self) {
+        match self {
+            Kind::Name(_) => {}
+            Kind::Number(_) => {}
+            Kind::Mark(_) => {}
+            Kind::Reserved => {}
+            Kind::Unclosed => {}
+            Kind::End => {}
+        }
+    }
+}
+
 pub struct Token {
     pub kind: Kind,
     pub place: Place,
+}
+
+impl Drop for Token {
+    fn drop(self) {
+        let Token { kind: _, place: _ } = self;
+    }
 }
 
 impl Word {

@@ -1,17 +1,24 @@
 //! Trees of sources. A chain of operators is its first operand and a list of the others, so a tree is no deeper than its source is nested.
 //! A part keeps the places that refusals and points name, and no others.
 
-ghost use Rattle.std.specs.Prelude.{◌≡◌, IfOk};
+ghost use Rattle.std.specs.Prelude.{◌≡◌, ◌≢◌, map, IfOk, MatchResult};
+ghost use Rattle.lra_tree.specs.Trees.{ExprTree, value, test, conjunction};
+ghost use Rattle.lra_tree.specs.Views.{all_tests, any_conjunction, expr_view, test_view, conjunction_view, cond_view};
 
 use crate::refusals::Place;
 use crate::tokens::Word;
 use std::alloc::AllocError;
 
 /// A name and its place.
-#[derive(Drop)]
 pub struct Identifier {
     pub word: Word,
     pub place: Place,
+}
+
+impl Drop for Identifier {
+    fn drop(self) {
+        let Identifier { word: _, place: _ } = self;
+    }
 }
 
 impl Identifier {
@@ -27,7 +34,6 @@ impl Identifier {
 
 /// A sign, a literal, a variable, `input()`, or an expression in parentheses.
 #[cycle(expression)]
-#[derive(Drop)]
 pub enum Unary {
     Negated(Box<Unary>),
     Positive(Box<Unary>),
@@ -35,6 +41,20 @@ pub enum Unary {
     Variable(Identifier),
     Input,
     Group(Box<Expr>),
+}
+
+impl Drop for Unary {
+    #[cycle(expression_drop)]
+    fn drop(self) {
+        match self {
+            Unary::Negated(_) => {}
+            Unary::Positive(_) => {}
+            Unary::Literal(_) => {}
+            Unary::Variable(_) => {}
+            Unary::Input => {}
+            Unary::Group(_) => {}
+        }
+    }
 }
 
 /// `*`, `/`, `%`
@@ -46,17 +66,32 @@ pub enum FactorOperator {
 }
 
 #[cycle(expression)]
-#[derive(Drop)]
 pub struct Factor {
     pub operator: FactorOperator,
     pub unary: Unary,
 }
 
+impl Drop for Factor {
+    #[cycle(expression_drop)]
+    fn drop(self) {
+        let Factor {
+            operator: _,
+            unary: _,
+        } = self;
+    }
+}
+
 #[cycle(expression)]
-#[derive(Drop)]
 pub struct Term {
     pub first: Unary,
     pub rest: Vec<Factor>,
+}
+
+impl Drop for Term {
+    #[cycle(expression_drop)]
+    fn drop(self) {
+        let Term { first: _, rest: _ } = self;
+    }
 }
 
 /// `+`, `-`
@@ -67,17 +102,32 @@ pub enum SumOperator {
 }
 
 #[cycle(expression)]
-#[derive(Drop)]
 pub struct Summand {
     pub operator: SumOperator,
     pub term: Term,
 }
 
+impl Drop for Summand {
+    #[cycle(expression_drop)]
+    fn drop(self) {
+        let Summand {
+            operator: _,
+            term: _,
+        } = self;
+    }
+}
+
 #[cycle(expression)]
-#[derive(Drop)]
 pub struct Expr {
     pub first: Term,
     pub rest: Vec<Summand>,
+}
+
+impl Drop for Expr {
+    #[cycle(expression_drop)]
+    fn drop(self) {
+        let Expr { first: _, rest: _ } = self;
+    }
 }
 
 #[derive(Clone, Copy, PartialEq, Eq, Debug)]
@@ -92,16 +142,25 @@ pub enum Comparison {
 
 /// What `!` stands before.
 #[cycle(condition)]
-#[derive(Drop)]
 pub enum Negation {
     Again(Box<Negation>),
     Operand(Unary),
     Strict(Box<Cond>),
 }
 
+impl Drop for Negation {
+    #[cycle(condition_drop)]
+    fn drop(self) {
+        match self {
+            Negation::Again(_) => {}
+            Negation::Operand(_) => {}
+            Negation::Strict(_) => {}
+        }
+    }
+}
+
 /// A part of a chain of `&&`. A group isn't an expression alone.
 #[cycle(condition)]
-#[derive(Drop)]
 pub enum Test {
     Opposite(Negation),
     Value(Expr),
@@ -109,38 +168,117 @@ pub enum Test {
     Group(Box<Cond>),
 }
 
+impl Drop for Test {
+    #[cycle(condition_drop)]
+    fn drop(self) {
+        match self {
+            Test::Opposite(_) => {}
+            Test::Value(_) => {}
+            Test::Compare(_, _, _) => {}
+            Test::Group(_) => {}
+        }
+    }
+}
+
+impl Test {
+    /// The expression of a test that is one alone, or else the test.
+    pub fn into_value(self) -> Result<Expr, Test>
+        ensures { MatchResult result (λ e. test_view self ≡ value (expr_view e)) (λ t. (test_view t ≡ test_view self) × ((e : ExprTree) → test_view self ≢ value e)) }
+    {
+        match self {
+            Test::Value(expr) => Ok(expr),
+            Test::Opposite(negation) => Err(Test::Opposite(negation)),
+            Test::Compare(left, comparison, right) => Err(Test::Compare(left, comparison, right)),
+            Test::Group(cond) => Err(Test::Group(cond)),
+        }
+    }
+}
+
 /// A chain of `&&`.
 #[cycle(condition)]
-#[derive(Drop)]
 pub struct Conjunction {
     pub first: Test,
     pub rest: Vec<Test>,
 }
 
+impl Drop for Conjunction {
+    #[cycle(condition_drop)]
+    fn drop(self) {
+        let Conjunction { first: _, rest: _ } = self;
+    }
+}
+
+impl Conjunction {
+    /// The first test and the others.
+    pub fn into_parts(self) -> (Test, Vec<Test>)
+        ensures { conjunction_view self ≡ all_tests (test (test_view result.0)) (map test_view result.1.items) }
+    {
+        let Conjunction { first, rest } = self;
+        (first, rest)
+    }
+}
+
 /// A chain of `||`.
 #[cycle(condition)]
-#[derive(Drop)]
 pub struct Cond {
     pub first: Conjunction,
     pub rest: Vec<Conjunction>,
 }
 
-#[derive(Drop)]
+impl Drop for Cond {
+    #[cycle(condition_drop)]
+    fn drop(self) {
+        let Cond { first: _, rest: _ } = self;
+    }
+}
+
+impl Cond {
+    /// The first chain of `&&` and the others.
+    pub fn into_parts(self) -> (Conjunction, Vec<Conjunction>)
+        ensures { cond_view self ≡ any_conjunction (conjunction (conjunction_view result.0)) (map conjunction_view result.1.items) }
+    {
+        let Cond { first, rest } = self;
+        (first, rest)
+    }
+}
+
 pub struct Arguments {
     pub items: Vec<Expr>,
 }
 
-#[derive(Drop)]
+impl Drop for Arguments {
+    fn drop(self) {
+        let Arguments { items: _ } = self;
+    }
+}
+
 pub struct Call {
     pub name: Identifier,
     pub arguments: Arguments,
 }
 
+impl Drop for Call {
+    fn drop(self) {
+        let Call {
+            name: _,
+            arguments: _,
+        } = self;
+    }
+}
+
 /// What a variable gets, or a `return` gives.
-#[derive(Drop)]
 pub enum Source {
     Value(Expr),
     Result(Call),
+}
+
+impl Drop for Source {
+    fn drop(self) {
+        match self {
+            Source::Value(_) => {}
+            Source::Result(_) => {}
+        }
+    }
 }
 
 /// The operator of `x op= e`.
@@ -160,7 +298,6 @@ pub enum Step {
     Decrement,
 }
 
-#[derive(Drop)]
 pub enum Assign {
     /// `x = source`
     Set(Identifier, Source),
@@ -172,29 +309,58 @@ pub enum Assign {
     Before(Place, Step, Identifier),
 }
 
-#[derive(Drop)]
+impl Drop for Assign {
+    fn drop(self) {
+        match self {
+            Assign::Set(_, _) => {}
+            Assign::Update(_, _, _) => {}
+            Assign::After(_, _) => {}
+            Assign::Before(_, _, _) => {}
+        }
+    }
+}
+
 pub struct Declarator {
     pub name: Identifier,
     pub source: Option<Source>,
 }
 
-#[derive(Drop)]
+impl Drop for Declarator {
+    fn drop(self) {
+        let Declarator { name: _, source: _ } = self;
+    }
+}
+
 pub struct Declaration {
     pub first: Declarator,
     pub rest: Vec<Declarator>,
 }
 
+impl Drop for Declaration {
+    fn drop(self) {
+        let Declaration { first: _, rest: _ } = self;
+    }
+}
+
 /// How a `for` begins.
-#[derive(Drop)]
 pub enum Init {
     Nothing,
     Declaration(Declaration),
     Assign(Assign),
 }
 
+impl Drop for Init {
+    fn drop(self) {
+        match self {
+            Init::Nothing => {}
+            Init::Declaration(_) => {}
+            Init::Assign(_) => {}
+        }
+    }
+}
+
 /// A statement, with the place of its first token where no part of it has that place.
 #[cycle(statement)]
-#[derive(Drop)]
 pub enum Stmt {
     Block(Block),
     Nothing(Place),
@@ -211,27 +377,67 @@ pub enum Stmt {
     Assume(Place, Cond),
 }
 
+impl Drop for Stmt {
+    #[cycle(statement_drop)]
+    fn drop(self) {
+        match self {
+            Stmt::Block(_) => {}
+            Stmt::Nothing(_) => {}
+            Stmt::Assign(_) => {}
+            Stmt::Call(_) => {}
+            Stmt::If(_, _, _) => {}
+            Stmt::IfElse(_, _, _, _) => {}
+            Stmt::While(_, _, _) => {}
+            Stmt::For(_, _, _, _, _) => {}
+            Stmt::Break(_) => {}
+            Stmt::Continue(_) => {}
+            Stmt::Return(_, _) => {}
+            Stmt::Assert(_, _) => {}
+            Stmt::Assume(_, _) => {}
+        }
+    }
+}
+
 #[cycle(statement)]
-#[derive(Drop)]
 pub enum BlockItem {
     Declaration(Declaration),
     Statement(Stmt),
 }
 
+impl Drop for BlockItem {
+    #[cycle(statement_drop)]
+    fn drop(self) {
+        match self {
+            BlockItem::Declaration(_) => {}
+            BlockItem::Statement(_) => {}
+        }
+    }
+}
+
 /// A block's items, and the place of its `}`.
 #[cycle(statement)]
-#[derive(Drop)]
 pub struct Block {
     pub items: Vec<BlockItem>,
     pub end: Place,
 }
 
-#[derive(Drop)]
+impl Drop for Block {
+    #[cycle(statement_drop)]
+    fn drop(self) {
+        let Block { items: _, end: _ } = self;
+    }
+}
+
 pub struct Parameters {
     pub items: Vec<Identifier>,
 }
 
-#[derive(Drop)]
+impl Drop for Parameters {
+    fn drop(self) {
+        let Parameters { items: _ } = self;
+    }
+}
+
 pub struct Function {
     /// Whether it has a result; `void` has none.
     pub has_result: bool,
@@ -240,20 +446,40 @@ pub struct Function {
     pub body: Block,
 }
 
-#[derive(Drop)]
+impl Drop for Function {
+    fn drop(self) {
+        let Function {
+            has_result: _,
+            name: _,
+            parameters: _,
+            body: _,
+        } = self;
+    }
+}
+
 pub struct Global {
     pub name: Identifier,
     /// Its signed literal.
     pub value: Option<i64>,
 }
 
-#[derive(Drop)]
+impl Drop for Global {
+    fn drop(self) {
+        let Global { name: _, value: _ } = self;
+    }
+}
+
 pub struct Globals {
     pub first: Global,
     pub rest: Vec<Global>,
 }
 
-#[derive(Drop)]
+impl Drop for Globals {
+    fn drop(self) {
+        let Globals { first: _, rest: _ } = self;
+    }
+}
+
 pub enum Item {
     /// It declares nothing, and nothing of it is kept.
     Prototype,
@@ -261,9 +487,24 @@ pub enum Item {
     Function(Function),
 }
 
+impl Drop for Item {
+    fn drop(self) {
+        match self {
+            Item::Prototype => {}
+            Item::Globals(_) => {}
+            Item::Function(_) => {}
+        }
+    }
+}
+
 /// A source, and the place of its end.
-#[derive(Drop)]
 pub struct Tree {
     pub items: Vec<Item>,
     pub end: Place,
+}
+
+impl Drop for Tree {
+    fn drop(self) {
+        let Tree { items: _, end: _ } = self;
+    }
 }
