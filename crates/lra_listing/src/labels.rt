@@ -15,14 +15,18 @@ use std::alloc::{AllocError, Global};
 use std::marker::Model;
 
 /// A variable: its name stands behind those of a list before.
-#[derive(Drop)]
 struct Entry {
     name: Word,
     outer: usize,
 }
 
+impl Drop for Entry {
+    fn drop(self) {
+        let Entry { name: _, outer: _ } = self;
+    }
+}
+
 /// A label, with the numbers of its lists of names.
-#[derive(Drop)]
 struct Label {
     place: Place,
     called: Option<Identifier>,
@@ -30,11 +34,30 @@ struct Label {
     live_in_call: usize,
 }
 
+impl Drop for Label {
+    fn drop(self) {
+        let Label {
+            place: _,
+            called: _,
+            live: _,
+            live_in_call: _,
+        } = self;
+    }
+}
+
 /// Lists of names by their numbers, and labels. The list 0 has no name.
-#[derive(Drop)]
 pub struct Labels {
     entries: Vec<Entry>,
     labels: Vec<Label>,
+}
+
+impl Drop for Labels {
+    fn drop(self) {
+        let Labels {
+            entries: _,
+            labels: _,
+        } = self;
+    }
 }
 
 impl Model for Labels {

@@ -8,10 +8,18 @@ use lra_sys::{ConSys, GenSys};
 use std::marker::Model;
 
 /// A conjunction of rows, and over polyhedra its generators: a point's divisor is above 0, a ray and a line have 0 there.
-#[derive(Drop)]
 pub struct Part {
     rows: ConSys,
     generators: Option<GenSys>,
+}
+
+impl Drop for Part {
+    fn drop(self) {
+        let Part {
+            rows: _,
+            generators: _,
+        } = self;
+    }
 }
 
 impl Model for Part {

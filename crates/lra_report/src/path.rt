@@ -9,10 +9,15 @@ use lra_tree::Place;
 use std::alloc::{AllocError, Global};
 
 /// A call on the way to a point: the called name and its place.
-#[derive(Drop)]
 pub struct CallPlace {
     pub name: String,
     pub place: Place,
+}
+
+impl Drop for CallPlace {
+    fn drop(self) {
+        let CallPlace { name: _, place: _ } = self;
+    }
 }
 
 /// Appends a call.

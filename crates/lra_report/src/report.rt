@@ -25,15 +25,19 @@ pub struct Options {
 }
 
 /// A point of the program: its statement's label, and the labels of the calls that lead to it, the innermost first.
-#[derive(Drop)]
 pub struct Point {
     pub path: Vec<usize>,
     pub label: usize,
 }
 
+impl Drop for Point {
+    fn drop(self) {
+        let Point { path: _, label: _ } = self;
+    }
+}
+
 /// A point with its number, its path and place as they are printed, the printed names of its variables, and its state: one of the
 /// parts holds, and no part says that no run comes here.
-#[derive(Drop)]
 pub struct PointReport {
     pub number: u32,
     pub point: Point,
@@ -43,8 +47,20 @@ pub struct PointReport {
     pub state: Vec<Part>,
 }
 
+impl Drop for PointReport {
+    fn drop(self) {
+        let PointReport {
+            number: _,
+            point: _,
+            path: _,
+            place: _,
+            names: _,
+            state: _,
+        } = self;
+    }
+}
+
 /// An assertion's point, and whether no run fails it.
-#[derive(Drop)]
 pub struct Verdict {
     pub number: u32,
     pub point: Point,
@@ -53,13 +69,35 @@ pub struct Verdict {
     pub proved: bool,
 }
 
+impl Drop for Verdict {
+    fn drop(self) {
+        let Verdict {
+            number: _,
+            point: _,
+            path: _,
+            place: _,
+            proved: _,
+        } = self;
+    }
+}
+
 /// A report. `flagged` is the number of the point to which the first flagged operation belongs.
-#[derive(Drop)]
 pub struct Report {
     pub options: Options,
     pub flagged: Option<u32>,
     pub points: Vec<PointReport>,
     pub verdicts: Vec<Verdict>,
+}
+
+impl Drop for Report {
+    fn drop(self) {
+        let Report {
+            options: _,
+            flagged: _,
+            points: _,
+            verdicts: _,
+        } = self;
+    }
 }
 
 impl Report {

@@ -8,9 +8,14 @@ use std::alloc::{AllocError, Global};
 use std::marker::Model;
 
 /// The names of variables, oldest first.
-#[derive(Drop)]
 pub struct Names {
     texts: Vec<String>,
+}
+
+impl Drop for Names {
+    fn drop(self) {
+        let Names { texts: _ } = self;
+    }
 }
 
 impl Model for Names {
