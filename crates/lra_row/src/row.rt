@@ -69,6 +69,14 @@ impl Row {
         self.entries.len()
     }
 
+    /// The entries, column 0 first.
+    pub fn entries(&self) -> &[i128]
+        ensures entries { result.now ≡ self.now }
+        ensures in_range { All InRange result.now }
+    {
+        self.entries.as_slice()
+    }
+
     /// The entry of a column.
     #[tactic(auto, using(crate::proofs::RowLemmas::entry_at))]
     pub fn get(&self, column: usize) -> i128

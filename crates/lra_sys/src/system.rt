@@ -2,6 +2,7 @@
 
 ghost use Rattle.std.specs.Prelude.{◌≡◌, ◌++◌, ◌∷◌, [], suc, ◌<◌, ◌^◌, length, IfOk, OnOk, OnErr};
 ghost use Rattle.std.specs.List.{All};
+ghost use Rattle.lra_linear.specs.Range.{InRange};
 
 use lra_row::Row;
 use std::alloc::{AllocError, Global};
@@ -48,13 +49,15 @@ impl<K: Copy> Drop for System<K> {
 impl<K: Copy> Model for System<K> {
     ghost use Rattle.std.specs.Prelude.{◌≡◌, suc, length};
     ghost use Rattle.std.specs.List.{All};
+    ghost use Rattle.lra_linear.specs.Range.{InRange};
     ghost use Rattle.lra_sys.specs.Listed.{Listed};
 
     ghost Value = { Listed K };
 
     ghost view = { λ s. record { dims = s.dims; rows = s.rows.items; kinds = s.kinds.items } };
 
-    ghost invariant = { λ s. (length s.rows.items ≡ length s.kinds.items) × All (λ r. length r ≡ suc s.dims) s.rows.items };
+    ghost invariant = { λ s. (length s.rows.items ≡ length s.kinds.items)
+        × All (λ r. length r ≡ suc s.dims) s.rows.items × All (All InRange) s.rows.items };
 }
 
 impl<K: Copy> System<K> {
@@ -89,6 +92,7 @@ impl<K: Copy> System<K> {
     {
         self.rows.reserve(1)?;
         self.kinds.reserve(1)?;
+        let _entries = row.entries();
         let _ = self.rows.push(row);
         let _ = self.kinds.push(kind);
         Ok(())
@@ -98,6 +102,7 @@ impl<K: Copy> System<K> {
     pub fn rows(&self) -> &[Row]
         ensures rows { result.now ≡ self.now.rows }
         ensures widths { All (λ r. length r ≡ suc self.now.dims) result.now }
+        ensures in_range { All (All InRange) result.now }
     {
         self.rows.as_slice()
     }
