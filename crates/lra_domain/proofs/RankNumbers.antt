@@ -33,13 +33,16 @@ digits_fit b r f1 f2 f3 f4 =
 abbrev pub phased : ℕ → ℕ → Rank → ℕ
 phased b left r = left * (b * (b * (b * b))) + digits b r
 
+fits_below : (n : ℕ) → n < 2 ^ 62 → n < 2 ^ 64
+fits_below n h = omega arith
+
 -- a round of joining less
 pub phased_joins : (left left' : ℕ) (r r' : Rank) → RankFits r' → left' < left → phased (2 ^ 64) left' r' < phased (2 ^ 64) left r
 phased_joins left left' r r' f h =
-    step_head _ left left' _ _ (digits_fit (2 ^ 64) r' f.fits_first f.fits_second f.fits_third f.fits_fourth) h
+    step_head _ left left' _ _ (digits_fit (2 ^ 64) r' (fits_below _ f.fits_first) (fits_below _ f.fits_second) (fits_below _ f.fits_third) (fits_below _ f.fits_fourth)) h
 
 -- the rank fell
 pub phased_falls : (left left' : ℕ) (r r' : Rank) → RankFits r' → left' ≡ left → RankBelow r' r → phased (2 ^ 64) left' r' < phased (2 ^ 64) left r
 phased_falls left left' r r' f e h =
-    let fell : digits (2 ^ 64) r' < digits (2 ^ 64) r = digits_below (2 ^ 64) r' r f.fits_second f.fits_third f.fits_fourth h in
+    let fell : digits (2 ^ 64) r' < digits (2 ^ 64) r = digits_below (2 ^ 64) r' r (fits_below _ f.fits_second) (fits_below _ f.fits_third) (fits_below _ f.fits_fourth) h in
     rw e (omega arith)

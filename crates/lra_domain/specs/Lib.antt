@@ -2,4 +2,5 @@ pub mod Actions
 pub mod Parts
 pub mod Rank
 pub mod Meaning
+pub mod Laws
 pub mod DomainExamples

@@ -1,6 +1,6 @@
 -- What a domain's values and heads mean.
 -- The value that contracts see is the content of a value or a head: so equal contents are equal values.
-use Rattle.std.specs.Prelude.{◌≡◌, ℕ, ℤ, List, length, ◌⊎◌}
+use Rattle.std.specs.Prelude.{◌≡◌, ℕ, ℤ, List, ◌⊎◌}
 use Rattle.lra_sys.specs.Listed.{Listed}
 use Rattle.lra_sys.specs.declared.system.ConKind.{ConKind}
 use Rattle.lra_domain.specs.Actions.{Action, Leads, Within}
@@ -8,6 +8,8 @@ use Rattle.lra_domain.specs.declared.Mode.{Mode}
 use Rattle.lra_domain.specs.declared.Rank.{Rank}
 use Rattle.lra_domain.specs.declared.Exactness.{Exactness}
 use Rattle.lra_domain.specs.declared.Exactness.TheVariants.{Exact, Flagged}
+use Rattle.lra_domain.specs.declared.Included.{Included}
+use Rattle.lra_domain.specs.declared.Included.TheVariants.{No, Wide}
 
 -- V: contents of values; H: contents of heads
 pub record Meaning (V H : Type 0) : Type 1 where
@@ -38,9 +40,11 @@ pub record Meaning (V H : Type 0) : Type 1 where
   pub head_covered : H → H → Type 0
   -- the head that starts with the value, for the given rows
   pub started : V → Listed ConKind → H → Type 0
-  -- next is included in the head; when that may stay undecided
+  -- next is included in the head; what the inclusion may answer: Wide only where it strains
   pub stays : H → V → Mode → Type 0
-  pub stay_strains : H → V → Mode → Type 0
+  pub answers : H → V → Mode → Included → Type 0
+  -- what a head may become where the inclusion answers Wide: a head with all stores, as a content
+  pub given_up : H → Mode → H → Type 0
   -- the defined growth of the head by next; when its join or its widening may be flagged
   pub grown : H → V → Mode → H → Type 0
   pub grow_strains : H → V → Mode → Type 0
@@ -52,18 +56,18 @@ pub record Meaning (V H : Type 0) : Type 1 where
 pub record Meets {V H : Type 0} (m : Meaning V H) (step : Action) (old : V) (exactness : Exactness) (new : V) : Type 0 where
   -- each store to which the change may lead is kept
   pub stores : (s t : List ℤ) → m.has old s → Leads step s t → m.has new t
-  -- an exact result is the defined one
+  -- the result covers the defined one; an exact one is it, a flagged one comes only from a strain
+  pub covers : (v : V) → m.done step old v → m.covered v new
   pub exact : exactness ≡ Exact → m.done step old new
-  -- a flagged one covers it, and comes only from a strain
-  pub covers : exactness ≡ Flagged → (v : V) → m.done step old v → m.covered v new
   pub flagged : exactness ≡ Flagged → m.strains step old
 
 -- a join of two values
 pub record Joins {V H : Type 0} (m : Meaning V H) (one two : V) (exactness : Exactness) (new : V) : Type 0 where
-  pub left : Within (m.has one) (m.has new)
-  pub right : Within (m.has two) (m.has new)
+  -- the result covers both operands, and the defined join
+  pub left : m.covered one new
+  pub right : m.covered two new
+  pub covers : (v : V) → m.joined one two v → m.covered v new
   pub exact : exactness ≡ Exact → m.joined one two new
-  pub covers : exactness ≡ Flagged → (v : V) → m.joined one two v → m.covered v new
   pub flagged : exactness ≡ Flagged → m.join_strains one two
 
 -- a head that starts with a value
@@ -71,34 +75,27 @@ pub record Starts {V H : Type 0} (m : Meaning V H) (first : V) (given : Listed C
   pub stores : Within (m.has first) (m.head_has head)
   pub started : m.started first given head
 
--- a head that is stable under next
-pub record Stays {V H : Type 0} (m : Meaning V H) (head : H) (next : V) (mode : Mode) : Type 0 where
-  pub stores : Within (m.has next) (m.head_has head)
-  pub stays : m.stays head next mode
-
--- the head has all stores of its dimensions
-abbrev pub HasAll : {V H : Type 0} → Meaning V H → H → Type 0
-HasAll m h = (s : List ℤ) → length s ≡ m.head_dims h → m.head_has h s
-
--- a growth by next may be flagged: its inclusion strains, or next isn't in the head and the join or the widening strains
+-- a growth by next may be flagged: its inclusion strains, or answers that next isn't in the head, and the join or the widening strains
 abbrev pub GrowthStrains : {V H : Type 0} → Meaning V H → H → V → Mode → Type 0
-GrowthStrains m old next mode = m.stay_strains old next mode ⊎ ((¬ m.stays old next mode) × m.grow_strains old next mode)
+GrowthStrains m old next mode = m.answers old next mode Wide ⊎ (m.answers old next mode No × m.grow_strains old next mode)
 
 -- a head that grew by next
 pub record Grew {V H : Type 0} (m : Meaning V H) (old : H) (next : V) (mode : Mode) (exactness : Exactness) (new : H) : Type 0 where
   pub kept : Within (m.head_has old) (m.head_has new)
   pub added : Within (m.has next) (m.head_has new)
-  -- an exact growth is the defined one, by a next that isn't in the head
-  pub moved : exactness ≡ Exact → ¬ m.stays old next mode
+  -- the head covers the defined growth
+  pub covers : (h : H) → m.grown old next mode h → m.head_covered h new
+  -- an exact growth is the defined one, where the inclusion answers No
+  pub moved : exactness ≡ Exact → m.answers old next mode No
   pub exact : exactness ≡ Exact → m.grown old next mode new
-  pub covers : exactness ≡ Flagged → (h : H) → m.grown old next mode h → m.head_covered h new
-  -- a flag comes from a strain: of the inclusion, and then the new head has all stores, whether next was in the old one or not;
-  -- or of the join or the widening, by a next that isn't in the head
-  pub flagged : exactness ≡ Flagged → (m.stay_strains old next mode × HasAll m new) ⊎ ((¬ m.stays old next mode) × m.grow_strains old next mode)
+  -- a flagged one comes from an inclusion that strains, and then the head is given up; or from a join or a widening that strains,
+  -- where the inclusion answers No
+  pub flagged : exactness ≡ Flagged → (m.answers old next mode Wide × m.given_up old mode new) ⊎ (m.answers old next mode No × m.grow_strains old next mode)
 
 -- the value of a head
 pub record Values {V H : Type 0} (m : Meaning V H) (head : H) (exactness : Exactness) (new : V) : Type 0 where
   pub stores : Within (m.head_has head) (m.has new)
+  -- the value covers the defined one; an exact one is it, a flagged one comes only from a strain
+  pub covers : (v : V) → m.valued head v → m.covered v new
   pub exact : exactness ≡ Exact → m.valued head new
-  pub covers : exactness ≡ Flagged → (v : V) → m.valued head v → m.covered v new
   pub flagged : exactness ≡ Flagged → m.value_strains head

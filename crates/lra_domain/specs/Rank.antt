@@ -10,9 +10,9 @@ RankBelow a b =
     ⊎ ((a.first ≡ b.first) × (a.second ≡ b.second) × (a.third < b.third))
     ⊎ ((a.first ≡ b.first) × (a.second ≡ b.second) × (a.third ≡ b.third) × (a.fourth < b.fourth))
 
--- each number is a u64
+-- each number is far below 2^64, so that two ranks can be added
 pub record RankFits (a : Rank) : Type 0 where
-  pub fits_first : a.first < 2 ^ 64
-  pub fits_second : a.second < 2 ^ 64
-  pub fits_third : a.third < 2 ^ 64
-  pub fits_fourth : a.fourth < 2 ^ 64
+  pub fits_first : a.first < 2 ^ 62
+  pub fits_second : a.second < 2 ^ 62
+  pub fits_third : a.third < 2 ^ 62
+  pub fits_fourth : a.fourth < 2 ^ 62

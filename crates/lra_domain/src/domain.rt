@@ -2,7 +2,8 @@ ghost use Rattle.std.specs.Prelude.{◌≡◌, ◌≢◌, ◌+◌, ◌-◌, ◌^
 ghost use Rattle.lra_domain.specs.Rank.{RankBelow, RankFits};
 ghost use Rattle.lra_domain.specs.Actions.{Within, assign, forget, test, embed, remove_last};
 ghost use Rattle.lra_domain.specs.Parts.{SomePartHolds};
-ghost use Rattle.lra_domain.specs.Meaning.{Meaning, Meets, Joins, Starts, Stays, Grew, Values};
+ghost use Rattle.lra_domain.specs.Meaning.{Meaning, Meets, Joins, Starts, Grew, Values};
+ghost use Rattle.lra_domain.specs.Laws.{Laws, PlainLaws};
 
 use crate::{Exactness, Grown, Included, Mode, Rank};
 use lra_lin::{LinExpr, Test};
@@ -19,8 +20,13 @@ use std::alloc::{AllocError, Global};
 /// leaves the head's, and a call that answers an error leaves its value's. Leave allocators and spare room out of the view.
 ///
 /// **Meaning.** Give one record, `meaning`: which stores a value or head `has`, how many dimensions, the `parts` (lists of
-/// rows; a value without parts has no store), the defined result of each call as a relation on contents, when each call
-/// may strain, which content another `covers`, and the `rank` of a head.
+/// rows), the defined result of each call as a relation on contents, when each call may strain, which content another
+/// `covers`, and the `rank` of a head.
+///
+/// **Laws.** Give one record, `laws`, that this meaning keeps over all contents, also those that no value has: a store has
+/// as many numbers as there are dimensions (so say the length in `has`); what `universal` allows has all stores of its
+/// dimensions, what `void` allows none, and neither has a value without parts; what is covered, or lies in a head, has no
+/// store beyond those of what covers it, or of the head.
 ///
 /// **Stores.** `universe` has all lists of `n` numbers, `empty` none. `assign` keeps each store with `x` replaced by the
 /// form's value there, `forget` each with `x` replaced by anything, `test` each that passes, `join` those of both
@@ -28,19 +34,23 @@ use std::alloc::{AllocError, Global};
 /// keeps the first value's stores, `value` the head's; after `Grew` the head has all of the old head and of next; `Stable`
 /// comes only where next lies in the head. `included` says `Yes`, and `is_empty` true, only where it is so.
 ///
-/// **Exactness.** `Exact`, `Yes` and `No` give the defined result. `Flagged` gives one that covers it; `Flagged` and `Wide`
-/// come only where the call strains on its operands. After `Grew(Exact)` next did not lie in the head before. Where the
-/// inclusion of next strains, `grow` answers `Grew(Flagged)` and the head has all stores, whether next lay in it or not; any
-/// other `Grew(Flagged)` comes from a join or a widening that strains, by a next that did not lie in the head.
+/// **Exactness.** Each result covers the defined one, and that of a join both operands. An `Exact` one is the defined one; a
+/// `Flagged` one comes only where the call strains on its operands. `included` answers `Yes` and `No` by what is so, `Wide`
+/// only where it strains.
+///
+/// **Heads.** `answers` tells what the inclusion of next in a head may answer: `Yes` only where next lies in it, `No` only
+/// where it doesn't, `Wide` only where it strains. `grow` answers `Stable` only with `Yes`, `Grew(Exact)` only with `No`.
+/// `Grew(Flagged)` comes with `Wide`, and then the head is given up: it has all stores, as a content that `given_up` allows;
+/// or with `No`, where the join or the widening strains.
 ///
 /// **Ranks.** After `Grew` in mode `Widen` or `Limited` the rank is lower than before, also when flagged: this is why an
-/// iteration ends. Each number of a rank is a u64.
+/// iteration ends. Each number of a rank is below 2^62, so that two ranks can be added, with carries.
 ///
 /// **Parts.** `parts` gives the rows that mean the value: a list of `dims` numbers is a store exactly where all rows of some
 /// part hold; each row has one column more than `dims`. `is_empty` says yes exactly where there is no part.
 ///
-/// The calls' only conditions are equal dimensions, places in range, and at most 2^30 dimensions. `cap` (how many parts a
-/// value may have) is of use to powersets alone. An `AllocError` can come from any call that answers a `Result`.
+/// The calls' only conditions are equal dimensions, places in range, at most 2^30 dimensions, and a `cap` (how many parts a
+/// value may have, of use to powersets alone) of at least 1. An `AllocError` can come from any call that answers a `Result`.
 pub trait Domain: Sized + Drop {
     /// A value that grows at the head of a loop.
     type Head: Drop;
@@ -50,14 +60,16 @@ pub trait Domain: Sized + Drop {
 
     /// The value of `n` dimensions with all stores.
     fn universe(alloc: Global, n: usize, cap: u32) -> Result<Self, AllocError>
-        requires { n ≤ 2 ^ 30 }
+        requires few { n ≤ 2 ^ 30 }
+        requires cap { 1 ≤ cap }
         ensures stores { IfOk result (λ v. (s : List ℤ) → (meaning.has v s ↔ (length s ≡ n))) }
         ensures defined { IfOk result (λ v. meaning.universal n cap v) }
         ensures dims { IfOk result (λ v. meaning.dims v ≡ n) };
 
     /// The value of `n` dimensions with no store.
     fn empty(alloc: Global, n: usize, cap: u32) -> Result<Self, AllocError>
-        requires { n ≤ 2 ^ 30 }
+        requires few { n ≤ 2 ^ 30 }
+        requires cap { 1 ≤ cap }
         ensures stores { IfOk result (λ v. (s : List ℤ) → ¬ meaning.has v s) }
         ensures defined { IfOk result (λ v. meaning.void n cap v) }
         ensures dims { IfOk result (λ v. meaning.dims v ≡ n) };
@@ -148,7 +160,7 @@ pub trait Domain: Sized + Drop {
         requires { meaning.head_dims head.old ≡ meaning.dims next.now }
         ensures dims { meaning.head_dims head.new ≡ meaning.head_dims head.old }
         ensures stable { IfOk result (λ g. g ≡ Grown.Stable → head.new ≡ head.old) }
-        ensures stays { IfOk result (λ g. g ≡ Grown.Stable → Stays meaning head.old next.now mode) }
+        ensures stays { IfOk result (λ g. g ≡ Grown.Stable → meaning.answers head.old next.now mode Included.Yes) }
         ensures grew { IfOk result (λ g. (a : Exactness) → g ≡ Grown.Grew a → Grew meaning head.old next.now mode a head.new) }
         ensures lower { IfOk result (λ g. (a : Exactness) → g ≡ Grown.Grew a → mode ≢ Mode.Join → RankBelow (meaning.rank head.new) (meaning.rank head.old)) }
         ensures fits { OnOk result (RankFits (meaning.rank head.new)) }
@@ -163,15 +175,12 @@ pub trait Domain: Sized + Drop {
     fn rank(head: &Self::Head) -> Rank
         ensures { result ≡ meaning.rank head.now };
 
-    /// What is covered has no store beyond those of what covers it.
-    ghost covered_stores: { (a b : Self) → meaning.covered a b → Within (meaning.has a) (meaning.has b) };
-
-    /// The same of heads.
-    ghost head_covered_stores: { (a b : Self.Head) → meaning.head_covered a b → Within (meaning.head_has a) (meaning.head_has b) };
+    /// What the meaning keeps, over all contents.
+    ghost laws: { Laws meaning };
 }
 
 /// A domain whose values have one part at most: polyhedra, boxes, octagons. Its ranks begin with 1.
 pub trait Plain: Domain {
-    /// The first number of a rank is 1.
-    ghost first_is_one: { (h : Self.Head) → (Self.meaning.rank h).first ≡ 1 };
+    /// What the meaning keeps further, so that sets of such values can be made.
+    ghost plain: { PlainLaws Self.meaning };
 }
