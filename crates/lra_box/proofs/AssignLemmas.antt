@@ -16,7 +16,8 @@ use Rattle.lra_box.proofs.SumLemmas.{end_sum_holds}
 use Rattle.lra_box.proofs.BoxLemmas.{assign_keeps, bound_holds}
 use Rattle.lra_box.proofs.SoundLemmas.{some_store, not_crossed, set_sound}
 use Rattle.lra_box.proofs.ExtremeLemmas.{end_is_extreme}
-use Rattle.lra_box.proofs.WithinLemmas.{intervals_within_refl, low_within_refl, high_within_refl, set_within}
+use Rattle.lra_box.specs.Covering.{intervals_within_refl, low_within_refl, high_within_refl}
+use Rattle.lra_box.proofs.WithinLemmas.{set_within}
 
 read_set : (is : List Interval) (k : ℕ) (i : Interval) → k < length is → slice_index_or (slice_set is k i) k open_interval ≡ i
 read_set [] k i h = absurd (omega arith)

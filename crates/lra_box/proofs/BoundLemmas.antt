@@ -122,7 +122,7 @@ rank_fits b few fit = record {
   fits_fourth = fourth b.dims b.bounds few fit;
 }
   where
-    fourth : (n : ℕ) (o : Option (List Interval)) → n ≤ 2 ^ 30 → BoundsFit n o → rank_number n o < 2 ^ 64
+    fourth : (n : ℕ) (o : Option (List Interval)) → n ≤ 2 ^ 30 → BoundsFit n o → rank_number n o < 2 ^ 62
     fourth n None few fit = omega arith
     fourth n (Some is) few fit = omega (arith, finite_bound is)
 

@@ -1,5 +1,5 @@
 -- What the tables keep, and how the rank falls.
-use Rattle.std.proofs.Common.{◌≡◌, ℕ, zero, suc, ℤ, List, [], ◌∷◌, length, replicate, Option, None, Some, refl, arith}
+use Rattle.std.proofs.Common.{◌≡◌, ℕ, zero, suc, ℤ, List, [], ◌∷◌, length, Option, None, Some, refl, arith}
 use Rattle.std.specs.Prelude.{slice_set}
 use Rattle.std.proofs.lemmas.Int.{ints, clamps}
 use Rattle.lra_lin.specs.Form.{Form, form_value}
@@ -9,7 +9,7 @@ use Rattle.lra_box.specs.declared.interval.Side.{Side}
 use Rattle.lra_box.specs.declared.interval.Side.TheVariants.{Low, High}
 use Rattle.lra_domain.specs.declared.Exactness.{Exactness}
 use Rattle.lra_domain.specs.declared.Exactness.TheVariants.{Exact, Flagged}
-use Rattle.lra_box.specs.Bounds.{open_interval, BoundHolds, InInterval, InBounds, end_sum, SumPasses, IsBound}
+use Rattle.lra_box.specs.Bounds.{BoundHolds, InInterval, InBounds, end_sum, SumPasses, IsBound}
 use Rattle.lra_box.specs.Tables.{lesser_low, greater_high, joined_intervals}
 use Rattle.lra_box.proofs.SumLemmas.{end_sum_holds}
 
@@ -44,12 +44,6 @@ assign_keeps is x e low high long l h s inside =
       bound_holds Low _ _ low _ l (end_sum_holds Low e.constant e.coefficients is s inside long),
       bound_holds High _ _ high _ h (end_sum_holds High e.constant e.coefficients is s inside long),
     )
-
-pub in_open : (s : List ℤ) (n : ℕ) → length s ≡ n → InBounds (replicate n open_interval) s
-in_open [] zero e = tt
-in_open [] (suc n) e = absurd (omega arith)
-in_open (x ∷ xs) zero e = absurd (omega arith)
-in_open (x ∷ xs) (suc n) e = ((tt, tt), in_open xs n (omega arith))
 
 pub low_left : (a b : Option ℤ) (x : ℤ) → BoundHolds Low a x → BoundHolds Low (lesser_low a b) x
 low_left None b x h = tt

@@ -15,7 +15,8 @@ use Rattle.lra_box.specs.Refine.{tightened, others_most, place_refined, refined,
 use Rattle.lra_box.proofs.BoxLemmas.{in_set}
 use Rattle.lra_box.proofs.RefineLemmas.{place_holds, none_stays, passes_stay}
 use Rattle.lra_box.proofs.SoundLemmas.{not_crossed, set_sound}
-use Rattle.lra_box.proofs.WithinLemmas.{OneWithin, intervals_within_refl, low_within_refl, high_within_refl, within_refl, within_trans}
+use Rattle.lra_box.specs.Covering.{intervals_within_refl, low_within_refl, high_within_refl, within_refl, within_trans}
+use Rattle.lra_box.proofs.WithinLemmas.{OneWithin}
 use Rattle.lra_box.proofs.MonotoneLemmas.{tightened_in, put_within, refine_place_within}
 
 -- a place tightened by a computed bound of the others

@@ -1,12 +1,13 @@
 -- What forgetting, embedding and removal keep.
-use Rattle.std.proofs.Common.{◌≡◌, ℕ, zero, suc, ◌+◌, ◌-◌, ◌≤◌, ℤ, List, [], ◌∷◌, ◌++◌, length, take, replicate, Option, None, Some, refl, ◌∙◌, arith, length-append}
+use Rattle.std.proofs.Common.{◌≡◌, ℕ, zero, suc, ◌+◌, ◌-◌, ◌≤◌, ℤ, List, [], ◌∷◌, ◌++◌, length, take, replicate, Option, None, Some, refl, ap, ◌∙◌, arith, length-append}
 use Rattle.std.specs.Prelude.{slice_set}
 use Rattle.std.proofs.Math.ListN.{length-set}
 use Rattle.lra_box.specs.declared.interval.Interval.{Interval}
 use Rattle.lra_box.specs.Bounds.{InBounds, open_interval}
 use Rattle.lra_box.specs.Content.{BoundsFit, BoundsSound}
 use Rattle.lra_box.specs.Tables.{has_bounds, on_bounds}
-use Rattle.lra_box.proofs.BoxLemmas.{in_open, in_length}
+use Rattle.lra_box.specs.Covering.{in_open}
+use Rattle.lra_box.proofs.BoxLemmas.{in_length}
 use Rattle.lra_box.proofs.SoundLemmas.{set_sound, open_sound, take_sound, append_sound, open_all_sound}
 
 pub set_fit : (n x : ℕ) (i : Interval) (b : Option (List Interval)) → BoundsFit n b → BoundsFit n (on_bounds (λ is. slice_set is x i) b)
@@ -63,6 +64,14 @@ in_take (suc m) (i ∷ is) (x ∷ xs) h = (h.0, in_take m is xs h.1)
 pub has_length : (n : ℕ) (b : Option (List Interval)) (s : List ℤ) → BoundsFit n b → has_bounds b s → length s ≡ n
 has_length n None s f h = absurd h
 has_length n (Some is) s f h = in_length is s h ∙ f
+
+pub taken_length : (n k : ℕ) (s : List ℤ) → length s ≡ n → length (take (length s - k) s) ≡ n - k
+taken_length n k s e = cut (length s - k) s (omega arith) ∙ ap (λ (j : ℕ). j - k) e
+  where
+    cut : (j : ℕ) (t : List ℤ) → j ≤ length t → length (take j t) ≡ j
+    cut zero t h = refl
+    cut (suc j) [] h = absurd (omega arith)
+    cut (suc j) (x ∷ t) h = omega (arith, cut j t (omega arith))
 
 pub has_taken : (n k : ℕ) (b : Option (List Interval)) (s : List ℤ) → BoundsFit n b → has_bounds b s → has_bounds (on_bounds (λ is. take (n - k) is) b) (take (length s - k) s)
 has_taken n k b s f h = rw (has_length n b s f h) (taken b h)

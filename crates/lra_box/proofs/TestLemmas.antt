@@ -13,7 +13,7 @@ use Rattle.lra_box.specs.declared.interval.Interval.{Interval}
 use Rattle.lra_box.specs.Content.{BoundsSound}
 use Rattle.lra_box.specs.Refine.{refined, some_occurs, ge_tested, tested, RefinePasses, TestPasses}
 use Rattle.lra_box.specs.Answers.{TestedTo}
-use Rattle.lra_box.proofs.WithinLemmas.{within_refl, within_trans}
+use Rattle.lra_box.specs.Covering.{within_refl, within_trans}
 use Rattle.lra_box.proofs.MonotoneLemmas.{ge_tested_within}
 
 refined_none : (a : ℤ) (cs : List ℤ) (k : ℕ) → refined a cs k None ≡ None

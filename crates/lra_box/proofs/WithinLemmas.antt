@@ -1,4 +1,4 @@
--- Being within: reflexive, transitive, and kept by the tables of a test.
+-- Being within is kept by the tables of a test.
 use Rattle.std.proofs.Common.{◌≡◌, ℕ, zero, suc, ℤ, List, [], ◌∷◌, Option, None, Some, true, refl, ap, arith}
 use Rattle.std.specs.Prelude.{slice_set, slice_index_or}
 use Rattle.std.proofs.lemmas.Int.{ints}
@@ -6,52 +6,11 @@ use Rattle.std.proofs.lemmas.Bool.{false≢true}
 use Rattle.lra_box.specs.declared.interval.Interval.{Interval}
 use Rattle.lra_box.specs.Bounds.{open_interval, crossed, crossed_ends}
 use Rattle.lra_box.specs.Tables.{LowWithin, HighWithin, IntervalsWithin, BoundsWithin}
-
-pub low_within_refl : (a : Option ℤ) → LowWithin a a
-low_within_refl None = tt
-low_within_refl (Some a) = omega (arith, ints)
-
-pub high_within_refl : (a : Option ℤ) → HighWithin a a
-high_within_refl None = tt
-high_within_refl (Some a) = omega (arith, ints)
-
-pub low_within_trans : (a b c : Option ℤ) → LowWithin a b → LowWithin b c → LowWithin a c
-low_within_trans a b None p q = tt
-low_within_trans a None (Some c) p q = absurd q
-low_within_trans None (Some b) (Some c) p q = absurd p
-low_within_trans (Some a) (Some b) (Some c) p q = omega (arith, ints)
-
-pub high_within_trans : (a b c : Option ℤ) → HighWithin a b → HighWithin b c → HighWithin a c
-high_within_trans a b None p q = tt
-high_within_trans a None (Some c) p q = absurd q
-high_within_trans None (Some b) (Some c) p q = absurd p
-high_within_trans (Some a) (Some b) (Some c) p q = omega (arith, ints)
+use Rattle.lra_box.specs.Covering.{low_within_refl, high_within_refl, intervals_within_refl, within_refl}
 
 -- one interval within another
 abbrev pub OneWithin : Interval → Interval → Type 0
 OneWithin i j = LowWithin i.low j.low × HighWithin i.high j.high
-
-pub intervals_within_refl : (is : List Interval) → IntervalsWithin is is
-intervals_within_refl [] = tt
-intervals_within_refl (i ∷ is) = (low_within_refl i.low, high_within_refl i.high, intervals_within_refl is)
-
-intervals_within_trans : (is js ks : List Interval) → IntervalsWithin is js → IntervalsWithin js ks → IntervalsWithin is ks
-intervals_within_trans [] [] ks p q = q
-intervals_within_trans [] (j ∷ js) ks p q = absurd p
-intervals_within_trans (i ∷ is) [] ks p q = absurd p
-intervals_within_trans (i ∷ is) (j ∷ js) [] p q = absurd q
-intervals_within_trans (i ∷ is) (j ∷ js) (k ∷ ks) p q =
-    (low_within_trans i.low j.low k.low p.0 q.0, high_within_trans i.high j.high k.high p.1 q.1, intervals_within_trans is js ks p.2 q.2)
-
-pub within_refl : (a : Option (List Interval)) → BoundsWithin a a
-within_refl None = tt
-within_refl (Some is) = intervals_within_refl is
-
-pub within_trans : (a b c : Option (List Interval)) → BoundsWithin a b → BoundsWithin b c → BoundsWithin a c
-within_trans None b c p q = tt
-within_trans (Some is) None c p q = absurd p
-within_trans (Some is) (Some js) None p q = absurd q
-within_trans (Some is) (Some js) (Some ks) p q = intervals_within_trans is js ks p q
 
 pub set_within : (is js : List Interval) (k : ℕ) (i j : Interval) → IntervalsWithin is js → OneWithin i j → IntervalsWithin (slice_set is k i) (slice_set js k j)
 set_within [] [] k i j h w = h

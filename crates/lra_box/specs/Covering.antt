@@ -1,10 +1,18 @@
--- Wider bounds have each store of narrower ones: why what is covered has no further store.
-use Rattle.std.proofs.Common.{ℤ, List, [], ◌∷◌, Option, None, Some, arith}
-use Rattle.std.proofs.lemmas.Int.{ints}
+-- Being within: wider bounds have each store of narrower ones, and the join of two bounds is the narrowest that is wider than both.
+use Rattle.std.proofs.Common.{◌≡◌, ℕ, zero, suc, ℤ, List, [], ◌∷◌, length, replicate, Option, None, Some, arith}
+use Rattle.std.proofs.lemmas.Int.{ints, clamps}
 use Rattle.lra_box.specs.declared.interval.Interval.{Interval}
 use Rattle.lra_box.specs.declared.interval.Side.TheVariants.{Low, High}
-use Rattle.lra_box.specs.Bounds.{BoundHolds, InBounds}
-use Rattle.lra_box.specs.Tables.{has_bounds, LowWithin, HighWithin, IntervalsWithin, BoundsWithin}
+use Rattle.lra_box.specs.Bounds.{BoundHolds, InBounds, open_interval}
+use Rattle.lra_box.specs.Content.{BoundsFit}
+use Rattle.lra_box.specs.Tables.{has_bounds, lesser_low, greater_high, joined_intervals, joined_bounds, LowWithin, HighWithin, IntervalsWithin, BoundsWithin}
+
+-- bounds that are all absent hold of every number
+pub in_open : (s : List ℤ) (n : ℕ) → length s ≡ n → InBounds (replicate n open_interval) s
+in_open [] zero e = tt
+in_open [] (suc n) e = absurd (omega arith)
+in_open (x ∷ xs) zero e = absurd (omega arith)
+in_open (x ∷ xs) (suc n) e = ((tt, tt), in_open xs n (omega arith))
 
 -- a wider bound holds of what the narrower one does
 low_wider : (a b : Option ℤ) (x : ℤ) → LowWithin a b → BoundHolds Low a x → BoundHolds Low b x
@@ -29,3 +37,116 @@ pub has_wider : (a b : Option (List Interval)) (s : List ℤ) → BoundsWithin a
 has_wider None b s w h = absurd h
 has_wider (Some is) None s w h = absurd w
 has_wider (Some is) (Some js) s w h = in_wider is js s w h
+
+pub low_within_refl : (a : Option ℤ) → LowWithin a a
+low_within_refl None = tt
+low_within_refl (Some a) = omega (arith, ints)
+
+pub high_within_refl : (a : Option ℤ) → HighWithin a a
+high_within_refl None = tt
+high_within_refl (Some a) = omega (arith, ints)
+
+pub low_within_trans : (a b c : Option ℤ) → LowWithin a b → LowWithin b c → LowWithin a c
+low_within_trans a b None p q = tt
+low_within_trans a None (Some c) p q = absurd q
+low_within_trans None (Some b) (Some c) p q = absurd p
+low_within_trans (Some a) (Some b) (Some c) p q = omega (arith, ints)
+
+pub high_within_trans : (a b c : Option ℤ) → HighWithin a b → HighWithin b c → HighWithin a c
+high_within_trans a b None p q = tt
+high_within_trans a None (Some c) p q = absurd q
+high_within_trans None (Some b) (Some c) p q = absurd p
+high_within_trans (Some a) (Some b) (Some c) p q = omega (arith, ints)
+
+pub intervals_within_refl : (is : List Interval) → IntervalsWithin is is
+intervals_within_refl [] = tt
+intervals_within_refl (i ∷ is) = (low_within_refl i.low, high_within_refl i.high, intervals_within_refl is)
+
+intervals_within_trans : (is js ks : List Interval) → IntervalsWithin is js → IntervalsWithin js ks → IntervalsWithin is ks
+intervals_within_trans [] [] ks p q = q
+intervals_within_trans [] (j ∷ js) ks p q = absurd p
+intervals_within_trans (i ∷ is) [] ks p q = absurd p
+intervals_within_trans (i ∷ is) (j ∷ js) [] p q = absurd q
+intervals_within_trans (i ∷ is) (j ∷ js) (k ∷ ks) p q =
+    (low_within_trans i.low j.low k.low p.0 q.0, high_within_trans i.high j.high k.high p.1 q.1, intervals_within_trans is js ks p.2 q.2)
+
+pub within_refl : (a : Option (List Interval)) → BoundsWithin a a
+within_refl None = tt
+within_refl (Some is) = intervals_within_refl is
+
+pub within_trans : (a b c : Option (List Interval)) → BoundsWithin a b → BoundsWithin b c → BoundsWithin a c
+within_trans None b c p q = tt
+within_trans (Some is) None c p q = absurd p
+within_trans (Some is) (Some js) None p q = absurd q
+within_trans (Some is) (Some js) (Some ks) p q = intervals_within_trans is js ks p q
+
+-- ---- joins
+
+low_left : (a b : Option ℤ) → LowWithin a (lesser_low a b)
+low_left None b = tt
+low_left (Some a) None = tt
+low_left (Some a) (Some b) = omega (arith, ints, clamps)
+
+low_right : (a b : Option ℤ) → LowWithin b (lesser_low a b)
+low_right None b = tt
+low_right (Some a) None = tt
+low_right (Some a) (Some b) = omega (arith, ints, clamps)
+
+high_left : (a b : Option ℤ) → HighWithin a (greater_high a b)
+high_left None b = tt
+high_left (Some a) None = tt
+high_left (Some a) (Some b) = omega (arith, ints, clamps)
+
+high_right : (a b : Option ℤ) → HighWithin b (greater_high a b)
+high_right None b = tt
+high_right (Some a) None = tt
+high_right (Some a) (Some b) = omega (arith, ints, clamps)
+
+low_least : (a b c : Option ℤ) → LowWithin a c → LowWithin b c → LowWithin (lesser_low a b) c
+low_least a b None p q = tt
+low_least None b (Some c) p q = absurd p
+low_least (Some a) None (Some c) p q = absurd q
+low_least (Some a) (Some b) (Some c) p q = omega (arith, ints, clamps)
+
+high_least : (a b c : Option ℤ) → HighWithin a c → HighWithin b c → HighWithin (greater_high a b) c
+high_least a b None p q = tt
+high_least None b (Some c) p q = absurd p
+high_least (Some a) None (Some c) p q = absurd q
+high_least (Some a) (Some b) (Some c) p q = omega (arith, ints, clamps)
+
+joined_left : (is js : List Interval) → length is ≡ length js → IntervalsWithin is (joined_intervals is js)
+joined_left [] js e = tt
+joined_left (i ∷ is) [] e = absurd (omega arith)
+joined_left (i ∷ is) (j ∷ js) e = (low_left i.low j.low, high_left i.high j.high, joined_left is js (omega arith))
+
+joined_right : (is js : List Interval) → length is ≡ length js → IntervalsWithin js (joined_intervals is js)
+joined_right [] [] e = tt
+joined_right [] (j ∷ js) e = absurd (omega arith)
+joined_right (i ∷ is) [] e = absurd (omega arith)
+joined_right (i ∷ is) (j ∷ js) e = (low_right i.low j.low, high_right i.high j.high, joined_right is js (omega arith))
+
+joined_least : (is js ks : List Interval) → IntervalsWithin is ks → IntervalsWithin js ks → IntervalsWithin (joined_intervals is js) ks
+joined_least [] js ks p q = p
+joined_least (i ∷ is) [] [] p q = q
+joined_least (i ∷ is) [] (k ∷ ks) p q = absurd q
+joined_least (i ∷ is) (j ∷ js) [] p q = absurd p
+joined_least (i ∷ is) (j ∷ js) (k ∷ ks) p q =
+    (low_least i.low j.low k.low p.0 q.0, high_least i.high j.high k.high p.1 q.1, joined_least is js ks p.2 q.2)
+
+-- the join of bounds of as many dimensions is wider than both
+pub left_within : (n : ℕ) (a b : Option (List Interval)) → BoundsFit n a → BoundsFit n b → BoundsWithin a (joined_bounds a b)
+left_within n None b f g = tt
+left_within n (Some is) None f g = intervals_within_refl is
+left_within n (Some is) (Some js) f g = joined_left is js (omega arith)
+
+pub right_within : (n : ℕ) (a b : Option (List Interval)) → BoundsFit n a → BoundsFit n b → BoundsWithin b (joined_bounds a b)
+right_within n None b f g = within_refl b
+right_within n (Some is) None f g = tt
+right_within n (Some is) (Some js) f g = joined_right is js (omega arith)
+
+-- what is wider than both is wider than their join
+pub least_within : (a b c : Option (List Interval)) → BoundsWithin a c → BoundsWithin b c → BoundsWithin (joined_bounds a b) c
+least_within None b c p q = q
+least_within (Some is) None c p q = p
+least_within (Some is) (Some js) None p q = absurd p
+least_within (Some is) (Some js) (Some ks) p q = joined_least is js ks p q

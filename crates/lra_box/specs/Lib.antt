@@ -7,4 +7,5 @@ pub mod Extremes
 pub mod Answers
 pub mod Parts
 pub mod Meaning
+pub mod Laws
 pub mod BoxExamples

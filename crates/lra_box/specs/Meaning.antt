@@ -1,6 +1,8 @@
 -- The meaning of boxes.
-use Rattle.std.specs.Prelude.{◌≡◌, replicate, Some, None}
+use Rattle.std.specs.Prelude.{◌≡◌, ℕ, ℤ, List, length, replicate, Some, None}
 use Rattle.lra_domain.specs.Actions.{Action}
+use Rattle.lra_domain.specs.declared.Included.{Included}
+use Rattle.lra_domain.specs.declared.Included.TheVariants.{Yes, No, Wide}
 use Rattle.lra_domain.specs.Meaning.{Meaning}
 use Rattle.lra_box.specs.Bounds.{open_interval}
 use Rattle.lra_box.specs.Extremes.{AssignsExtremes}
@@ -13,27 +15,46 @@ pub record StepsTo (step : Action) (old new : Content) : Type 0 where
   pub table : new ≡ stepped step old
   pub extremes : AssignsExtremes step old.bounds new.bounds
 
+-- the list is a store of the box: a number for each dimension, within the bounds
+abbrev pub BoxHas : Content → List ℤ → Type 0
+BoxHas b s = (length s ≡ b.dims) × has_bounds b.bounds s
+
+-- the box of n dimensions without bounds
+abbrev pub whole : ℕ → Content
+whole n = record { dims = n; bounds = Some (replicate n open_interval) }
+
+-- the first lies in the second, bound by bound
+abbrev pub BoxWithin : Content → Content → Type 0
+BoxWithin a b = (a.dims ≡ b.dims) × BoundsWithin a.bounds b.bounds
+
+-- an inclusion answers what is so, and never strains
+abbrev pub BoxAnswers : Content → Content → Included → Type 0
+BoxAnswers h a Yes = BoxWithin a h
+BoxAnswers h a No = ¬ BoxWithin a h
+BoxAnswers h a Wide = ⊥
+
 abbrev pub box_meaning : Meaning Content Content
 box_meaning = record {
-  has = λ b s. has_bounds b.bounds s;
+  has = BoxHas;
   dims = λ b. b.dims;
   parts = λ b. box_parts b.dims b.bounds;
-  covered = λ a b. BoundsWithin a.bounds b.bounds;
-  universal = λ n cap b. b ≡ record { dims = n; bounds = Some (replicate n open_interval) };
+  covered = BoxWithin;
+  universal = λ n cap b. b ≡ whole n;
   void = λ n cap b. b ≡ record { dims = n; bounds = None };
   done = StepsTo;
   strains = StepPasses;
   joined = λ a b c. c ≡ record a { bounds = joined_bounds a.bounds b.bounds };
   join_strains = λ a b. ⊥;
-  inside = λ a b. BoundsWithin a.bounds b.bounds;
+  inside = BoxWithin;
   inside_strains = λ a b. ⊥;
-  head_has = λ b s. has_bounds b.bounds s;
+  head_has = BoxHas;
   head_dims = λ b. b.dims;
   rank = rank_of;
-  head_covered = λ a b. BoundsWithin a.bounds b.bounds;
+  head_covered = BoxWithin;
   started = λ a given h. h ≡ a;
-  stays = λ h a mode. BoundsWithin a.bounds h.bounds;
-  stay_strains = λ h a mode. ⊥;
+  stays = λ h a mode. BoxWithin a h;
+  answers = λ h a mode i. BoxAnswers h a i;
+  given_up = λ old mode new. new ≡ whole old.dims;
   grown = λ h a mode g. g ≡ record h { bounds = grown_bounds mode h.bounds a.bounds };
   grow_strains = λ h a mode. ⊥;
   valued = λ h a. a ≡ h;

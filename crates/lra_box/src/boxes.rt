@@ -38,11 +38,9 @@ impl Domain for Boxes {
 
     ghost meaning = { box_meaning };
 
-    ghost use Rattle.lra_box.specs.Covering.{has_wider};
+    ghost use Rattle.lra_box.specs.Laws.{box_laws};
 
-    ghost covered_stores = { λ a b w s h. has_wider a.bounds b.bounds s w h };
-
-    ghost head_covered_stores = { λ a b w s h. has_wider a.bounds b.bounds s w h };
+    ghost laws = { box_laws };
 
     fn universe(alloc: Global, n: usize, _cap: u32) -> Result<Self, AllocError> {
         Ok(Boxes {
@@ -165,5 +163,7 @@ impl Domain for Boxes {
 }
 
 impl Plain for Boxes {
-    ghost first_is_one = { λ h. refl };
+    ghost use Rattle.lra_box.specs.Laws.{box_plain};
+
+    ghost plain = { box_plain };
 }

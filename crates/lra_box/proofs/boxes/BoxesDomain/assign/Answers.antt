@@ -1,4 +1,5 @@
-use Rattle.std.proofs.Common.{rules, refl, ◌≡◌, to_z, of_z}
+use Rattle.std.proofs.Common.{rules, refl, ◌≡◌, ◌∙◌, ℤ, to_z, of_z}
+use Rattle.std.proofs.Math.ListN.{length-set}
 use Rattle.std.specs.Int.{w64, w128}
 use Rattle.lra_box.proofs.boxes.BoxesDomain.assign.Goals as goal
 
@@ -11,8 +12,8 @@ returns-clause-meets c =
     let row : c.as_slice.result.now ≡ c.args.e.now.coefficients = search rules in
     let to = rw (constant, row) at c.assign_in.ensures in
     rw (← c.self.view_is) (record {
-      stores = λ s t h l. rw l (to.stores s h);
+      stores = λ s t h l. rw l (length-set {A = ℤ} s c.args.x _ ∙ h.0, to.stores s h.1);
       exact = λ e. record { table = rw (to.exact e) refl; extremes = to.extremes e };
-      covers = λ e v d. rw d.table to.covers;
+      covers = λ v d. rw d.table (refl, to.covers);
       flagged = to.flagged;
     })

@@ -1,4 +1,5 @@
-use Rattle.std.proofs.Common.{refl}
+use Rattle.std.proofs.Common.{◌≡◌, ◌+◌, ℕ, refl, arith, ◌∙◌, length-append}
+use Rattle.lra_box.specs.Covering.{within_refl}
 use Rattle.lra_box.proofs.StepLemmas.{embedded_fit, embedded_sound, has_embedded}
 use Rattle.lra_box.specs.Content.{seen}
 use Rattle.lra_box.proofs.boxes.BoxesDomain.embed.Goals as goal
@@ -12,8 +13,11 @@ invariant_of-self-2 c = (
 
 pub returns-clause-meets : goal.returns-clause-meets
 returns-clause-meets c = rw (c.in_ok-embed_in.ensures.ok, ← c.self.view_is) (record {
-  stores = λ s t h k. rw k.2 (has_embedded c.args.k (seen c.self.inside.bounds) s k.0 k.1 h);
+  stores = λ s t h k. rw k.2 (length-append s k.0 ∙ both h.0 k.1, has_embedded c.args.k (seen c.self.inside.bounds) s k.0 k.1 h.1);
   exact = λ e. record { table = refl; extremes = tt };
-  covers = λ e. cc;
+  covers = λ v d. rw d.table (refl, within_refl _);
   flagged = λ e. cc;
 })
+  where
+    both : {a b n k : ℕ} → a ≡ n → b ≡ k → a + b ≡ n + k
+    both e f = omega arith

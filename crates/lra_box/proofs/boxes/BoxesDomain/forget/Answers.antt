@@ -1,4 +1,6 @@
-use Rattle.std.proofs.Common.{refl}
+use Rattle.std.proofs.Common.{refl, ◌∙◌, ℤ}
+use Rattle.std.proofs.Math.ListN.{length-set}
+use Rattle.lra_box.specs.Covering.{within_refl}
 use Rattle.lra_box.specs.Bounds.{open_interval}
 use Rattle.lra_box.proofs.BoundLemmas.{has_forgotten}
 use Rattle.lra_box.proofs.StepLemmas.{set_fit, forgotten_sound}
@@ -10,8 +12,8 @@ invariant_of-self c = (c.self.invariant.0, rw c.forget_in.ensures (set_fit c.sel
 
 pub returns-clause-meets : goal.returns-clause-meets
 returns-clause-meets c = rw (c.forget_in.ensures, ← c.self.view_is) (record {
-  stores = λ s t h k. rw k.1 (has_forgotten c.args.x _ s k.0 h);
+  stores = λ s t h k. rw k.1 (length-set {A = ℤ} s c.args.x k.0 ∙ h.0, has_forgotten c.args.x _ s k.0 h.1);
   exact = λ e. record { table = refl; extremes = tt };
-  covers = λ e. cc;
+  covers = λ v d. rw d.table (refl, within_refl _);
   flagged = λ e. cc;
 })

@@ -2,15 +2,14 @@ use Rattle.std.proofs.Common.{◌≡◌, refl, ap, sym, ◌∙◌, inr}
 use Rattle.std.proofs.lemmas.Bool.{false≢true}
 use Rattle.lra_box.specs.Content.{Content, BoundsFit, seen}
 use Rattle.lra_box.proofs.BoundLemmas.{grown_fit, has_grown_old, has_grown_new, grown_falls, rank_fits}
-use Rattle.lra_box.specs.Covering.{has_wider}
+use Rattle.lra_box.specs.Covering.{within_refl}
 use Rattle.lra_box.proofs.SoundLemmas.{grown_sound}
 use Rattle.lra_box.proofs.boxes.BoxesDomain.grow.Goals as goal
 
 pub returns-then-is_within-clause-stays : goal.returns-then-is_within-clause-stays
-returns-then-is_within-clause-stays c = λ e. rw (← c.head.view_is, ← c.next.view_is) (record {
-  stores = λ s h. has_wider (seen c.next.inside.bounds) (seen c.head.inside.bounds) s (c.is_within.ensures.0 c.if-is_within.true) h;
-  stays = c.is_within.ensures.0 c.if-is_within.true;
-})
+returns-then-is_within-clause-stays c = λ e.
+    let same : c.next.inside.dims ≡ c.head.inside.dims = ap (λ (b : Content). b.dims) c.next.view_is ∙ sym c.requires ∙ sym (ap (λ (b : Content). b.dims) c.head.view_is) in
+    rw (← c.head.view_is, ← c.next.view_is) (same, c.is_within.ensures.0 c.if-is_within.true)
 
 pub returns-then-is_within-clause-fits : goal.returns-then-is_within-clause-fits
 returns-then-is_within-clause-fits c = rw (← c.head.view_is) (rank_fits _ c.head.invariant.0 c.head.invariant.1)
@@ -25,11 +24,11 @@ returns-clause-grew c = λ a e.
     let same : c.next.inside.dims ≡ c.head.inside.dims = ap (λ (b : Content). b.dims) c.next.view_is ∙ sym c.requires ∙ sym (ap (λ (b : Content). b.dims) c.head.view_is) in
     let fit : BoundsFit c.head.inside.dims (seen c.next.inside.bounds) = rw (← same) c.next.invariant.1 in
     rw (c.in_ok-grown.ensures, ← c.head.view_is, ← c.next.view_is) (record {
-      kept = λ s h. has_grown_old c.args.mode c.head.inside.dims _ _ s c.head.invariant.1 fit h;
-      added = λ s h. has_grown_new c.args.mode c.head.inside.dims _ _ s c.head.invariant.1 fit h;
-      moved = λ x w. absurd (false≢true (rw c.if-is_within.false at (c.is_within.ensures.1 w)));
+      kept = λ s h. (h.0, has_grown_old c.args.mode c.head.inside.dims _ _ s c.head.invariant.1 fit h.1);
+      added = λ s h. (h.0 ∙ same, has_grown_new c.args.mode c.head.inside.dims _ _ s c.head.invariant.1 fit h.1);
+      covers = λ h d. rw d (refl, within_refl _);
+      moved = λ x w. absurd (false≢true (rw c.if-is_within.false at (c.is_within.ensures.1 w.1)));
       exact = λ x. refl;
-      covers = λ x. cc;
       flagged = λ x. cc;
     })
 

@@ -1,6 +1,7 @@
 use Rattle.std.proofs.Common.{◌≡◌, refl, ap, sym, ◌∙◌}
 use Rattle.lra_box.specs.Content.{Content, BoundsFit, seen}
-use Rattle.lra_box.proofs.BoundLemmas.{joined_fit, has_joined_left, has_joined_right}
+use Rattle.lra_box.proofs.BoundLemmas.{joined_fit}
+use Rattle.lra_box.specs.Covering.{within_refl, left_within, right_within}
 use Rattle.lra_box.proofs.SoundLemmas.{joined_sound}
 use Rattle.lra_box.proofs.boxes.BoxesDomain.join.Goals as goal
 
@@ -14,9 +15,9 @@ returns-clause-joins c =
     let same : c.other.inside.dims ≡ c.self.inside.dims = ap (λ (b : Content). b.dims) c.other.view_is ∙ sym c.requires ∙ sym (ap (λ (b : Content). b.dims) c.self.view_is) in
     let fit : BoundsFit c.self.inside.dims (seen c.other.inside.bounds) = rw (← same) c.other.invariant.1 in
     rw (c.in_ok-joined.ensures, ← c.self.view_is, ← c.other.view_is) (record {
-      left = λ s h. has_joined_left c.self.inside.dims _ _ s c.self.invariant.1 fit h;
-      right = λ s h. has_joined_right c.self.inside.dims _ _ s c.self.invariant.1 fit h;
+      left = (refl, left_within c.self.inside.dims _ _ c.self.invariant.1 fit);
+      right = (same, right_within c.self.inside.dims _ _ c.self.invariant.1 fit);
       exact = λ e. refl;
-      covers = λ e. cc;
+      covers = λ v d. rw d (refl, within_refl _);
       flagged = λ e. cc;
     })

@@ -1,5 +1,6 @@
 use Rattle.std.proofs.Common.{refl, arith, ◌-◌}
-use Rattle.lra_box.proofs.StepLemmas.{taken_fit, taken_sound, has_taken}
+use Rattle.lra_box.specs.Covering.{within_refl}
+use Rattle.lra_box.proofs.StepLemmas.{taken_length, taken_fit, taken_sound, has_taken}
 use Rattle.lra_box.specs.Content.{seen}
 use Rattle.lra_box.proofs.boxes.BoxesDomain.remove_last.Goals as goal
 
@@ -13,8 +14,8 @@ invariant_of-self c =
 
 pub returns-clause-meets : goal.returns-clause-meets
 returns-clause-meets c = rw (c.truncate_in.ensures, ← c.self.view_is) (record {
-  stores = λ s t h k. rw k (has_taken c.self.inside.dims c.args.k (seen c.self.inside.bounds) s c.self.invariant.1 h);
+  stores = λ s t h k. rw k (taken_length c.self.inside.dims c.args.k s h.0, has_taken c.self.inside.dims c.args.k (seen c.self.inside.bounds) s c.self.invariant.1 h.1);
   exact = λ e. record { table = refl; extremes = tt };
-  covers = λ e. cc;
+  covers = λ v d. rw d.table (refl, within_refl _);
   flagged = λ e. cc;
 })
