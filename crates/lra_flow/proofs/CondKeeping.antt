@@ -1,20 +1,20 @@
 -- A condition's value keeps each store at which the condition is so.
-use Rattle.std.proofs.Common.{◌≡◌, ℕ, zero, suc, ◌++◌, ℤ, pos, negsuc, List, [], ◌∷◌, Option, Some, None, Bool, true, false, length, refl, sym, ap, subst, ◌∙◌, arith, inl, inr}
+use Rattle.std.proofs.Common.{◌≡◌, ℕ, zero, suc, ℤ, pos, negsuc, List, Option, Some, None, Bool, true, false, length, refl, sym, ap, subst, ◌∙◌, arith, inl, inr}
 use Rattle.std.specs.Prelude.{not, if◌then◌else◌, IsTrue, ◌⊎◌, int_le, ◌-ℤ◌, ◌≤ℤ◌}
 use Rattle.std.proofs.lemmas.Int.{ints}
 use Rattle.lra_domain.specs.Actions.{Leads}
 use Rattle.lra_domain.specs.declared.Exactness.{Exactness}
-use Rattle.lra_domain.specs.declared.Exactness.TheVariants.{Exact}
 use Rattle.lra_domain.specs.Meaning.{Meaning}
+use Rattle.lra_domain.specs.Laws.{Laws}
 use Rattle.lra_tree.specs.Program.{Comparison, below, at_most, above, at_least, equal, differs, Expr, literal, Cond, compare, nonzero, opposite, both_of, either_of}
-use Rattle.lra_tree.specs.Value.{◌>>=◌, Drawn, is_zero, compares, value_of, truth_of}
+use Rattle.lra_tree.specs.Value.{Drawn, is_zero, compares, value_of, truth_of}
 use Rattle.lra_tree.specs.Report.{RowKind, equality, inequality}
 use Rattle.lra_tree.specs.Linear as linear
 use Rattle.lra_tree.specs.Linear.{Test, Passes, comparison_test, difference_form}
 use Rattle.lra_tree.specs.Condition.{opposite_comparison, push, IsPushed, IsAtom, IsTestedBy}
 use Rattle.lra_flow.specs.Operations.{dropping}
-use Rattle.lra_flow.specs.Conditions.{kind_of, tested, testing, Leaves}
-use Rattle.lra_flow.proofs.FormLemmas.{bind_some, some_first, test_is_right, differs_by_tests, difference_is_right, Compared, compared}
+use Rattle.lra_flow.specs.Conditions.{tested, testing}
+use Rattle.lra_flow.proofs.FormLemmas.{bind_some, some_first, test_is_right, differs_by_tests, difference_is_right, compared}
 use Rattle.lra_flow.proofs.Keeping.{as_form_value}
 
 -- what `!` does to a comparison
@@ -68,7 +68,7 @@ or_false : (so : Bool) (rest left : List ℤ) (d : Drawn Bool) → (if so then S
 or_false true rest left d e = absurd (let no : true ≡ false = some_first true false rest left e in cc)
 or_false false rest left d e = (refl, e)
 
-module _ (V H : Type 0) (m : Meaning V H) (base : ℕ) (store : List ℤ) where
+module _ (V H : Type 0) (m : Meaning V H) (laws : Laws m) (base : ℕ) (store : List ℤ) where
   -- the first answer of a condition
   answered : (c : Cond) (draws rest : List ℤ) (so wanted : Bool) → so ≡ wanted → truth_of c base store draws ≡ Some (so, rest) → truth_of c base store draws ≡ Some (wanted, rest)
   answered c draws rest so wanted e got = subst (λ (b : Bool). truth_of c base store draws ≡ Some (b, rest)) e got
@@ -87,12 +87,12 @@ module _ (V H : Type 0) (m : Meaning V H) (base : ℕ) (store : List ℤ) where
   differs_keeps : (less more w : V × Exactness) (d : linear.Form) (x y : ℤ) (one two : Option Test) → linear.form_value d store ≡ x -ℤ y → IsTrue (compares differs x y)
       → comparison_test below d ≡ one → comparison_test above d ≡ two → (v : V × Exactness) → IsTestedBy (V × Exactness) (testing (dropping m)) (length store) base one v less → IsTestedBy (V × Exactness) (testing (dropping m)) (length store) base two v more
       → (e : Exactness) → (dropping m).joined less.0 more.0 e w.0 → Keeps v → Keeps w
-  differs_keeps less more w d x y None two is so same also v first second e joined h = joined.0.left store (kept v less first h)
-  differs_keeps less more w d x y (Some t) None is so same also v first second e joined h = joined.0.right store (kept v more second h)
+  differs_keeps less more w d x y None two is so same also v first second e joined h = laws.covered_stores less.0 w.0 joined.0.left store (kept v less first h)
+  differs_keeps less more w d x y (Some t) None is so same also v first second e joined h = laws.covered_stores more.0 w.0 joined.0.right store (kept v more second h)
   differs_keeps less more w d x y (Some t) (Some u) is so same also v first second e joined h =
       elim ((differs_by_tests d t u store x y is same also).0 so) [
-        | inl a ↦ joined.0.left store (test_keeps (length store) (Some t) v less (λ r k. let it : t ≡ r = cc in subst (λ (z : Test). Passes z store) it a) first h)
-        | inr b ↦ joined.0.right store (test_keeps (length store) (Some u) v more (λ r k. let it : u ≡ r = cc in subst (λ (z : Test). Passes z store) it b) second h)
+        | inl a ↦ laws.covered_stores less.0 w.0 joined.0.left store (test_keeps (length store) (Some t) v less (λ r k. let it : t ≡ r = cc in subst (λ (z : Test). Passes z store) it a) first h)
+        | inr b ↦ laws.covered_stores more.0 w.0 joined.0.right store (test_keeps (length store) (Some u) v more (λ r k. let it : u ≡ r = cc in subst (λ (z : Test). Passes z store) it b) second h)
       ]
 
   atom_keeps : (op : Comparison) (d : linear.Form) (x y : ℤ) (v w : V × Exactness) → linear.form_value d store ≡ x -ℤ y → IsTrue (compares op x y)
@@ -145,14 +145,14 @@ module _ (V H : Type 0) (m : Meaning V H) (base : ℕ) (store : List ℤ) where
   cond_keeps (both_of a b) false draws left v w ran (first, mid, second, one, off, two, (e, joined, worst)) h =
       let (r, got, to) = bind_some (truth_of a base store draws) (λ r. if r.0 then truth_of b base store r.1 else Some (false, r.1)) (false, left) ran in
       elim (and_false r.0 r.1 left (truth_of b base store r.1) to) [
-        | inl so ↦ joined.0.left store (cond_keeps a false draws r.1 v first (answered a draws r.1 r.0 false so got) one h)
-        | inr so ↦ joined.0.right store (cond_keeps b false r.1 left mid second so.1 two (cond_keeps a true draws r.1 v mid (answered a draws r.1 r.0 true so.0 got) off h))
+        | inl so ↦ laws.covered_stores first.0 w.0 joined.0.left store (cond_keeps a false draws r.1 v first (answered a draws r.1 r.0 false so got) one h)
+        | inr so ↦ laws.covered_stores second.0 w.0 joined.0.right store (cond_keeps b false r.1 left mid second so.1 two (cond_keeps a true draws r.1 v mid (answered a draws r.1 r.0 true so.0 got) off h))
       ]
   cond_keeps (either_of a b) true draws left v w ran (first, mid, second, one, off, two, (e, joined, worst)) h =
       let (r, got, to) = bind_some (truth_of a base store draws) (λ r. if r.0 then Some (true, r.1) else truth_of b base store r.1) (true, left) ran in
       elim (or_true r.0 r.1 left (truth_of b base store r.1) to) [
-        | inl so ↦ joined.0.left store (cond_keeps a true draws r.1 v first (answered a draws r.1 r.0 true so got) one h)
-        | inr so ↦ joined.0.right store (cond_keeps b true r.1 left mid second so.1 two (cond_keeps a false draws r.1 v mid (answered a draws r.1 r.0 false so.0 got) off h))
+        | inl so ↦ laws.covered_stores first.0 w.0 joined.0.left store (cond_keeps a true draws r.1 v first (answered a draws r.1 r.0 true so got) one h)
+        | inr so ↦ laws.covered_stores second.0 w.0 joined.0.right store (cond_keeps b true r.1 left mid second so.1 two (cond_keeps a false draws r.1 v mid (answered a draws r.1 r.0 false so.0 got) off h))
       ]
   cond_keeps (either_of a b) false draws left v w ran (mid, one, two) h =
       let (r, got, to) = bind_some (truth_of a base store draws) (λ r. if r.0 then Some (true, r.1) else truth_of b base store r.1) (false, left) ran in

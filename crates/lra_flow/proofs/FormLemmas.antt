@@ -1,14 +1,14 @@
 -- The linear form of an expression has the expression's value wherever there is one, and the test of a comparison passes exactly where
 -- the comparison is true.
-use Rattle.std.proofs.Common.{◌≡◌, ℕ, zero, suc, ◌+◌, ℤ, pos, negsuc, ◌+ℤ◌, ◌*ℤ◌, List, [], ◌∷◌, Option, Some, None, Bool, true, false, length, refl, sym, ap, subst, ◌∙◌, arith, inl, inr}
+use Rattle.std.proofs.Common.{◌≡◌, ℕ, zero, suc, ℤ, pos, negsuc, ◌+ℤ◌, ◌*ℤ◌, List, [], ◌∷◌, Option, Some, None, Bool, true, false, length, refl, sym, ap, subst, ◌∙◌, arith, inl, inr}
 use Rattle.std.specs.Prelude.{◌-ℤ◌, ◌≤ℤ◌, map, replicate, slice_set, slice_get, if◌then◌else◌, ◌&&◌, IsTrue, ◌↔◌, ◌⊎◌, int_lt, int_le, not}
 use Rattle.std.specs.List.{list_all}
 use Rattle.std.proofs.lemmas.Int.{ints}
 use Rattle.lra_linear.proofs.Ring.{ring, v, ⊖, ◌⊕◌, ◌⊗◌}
 use Rattle.lra_tree.specs.Program.{Operator, plus, minus, times, over, modulo, Comparison, below, at_most, above, at_least, equal, differs, Expr, literal, read, input, negate, binary, compare}
 use Rattle.lra_tree.specs.Value.{◌>>=◌, word, is_word, is_zero, index_of, apply, compares, value_of, truth_of}
-use Rattle.lra_tree.specs.Report.{dot, RowKind, equality, inequality}
-use Rattle.lra_tree.specs.Linear.{Form, form_value, fitting, entrywise, combined, scaled, is_constant, product_form, operator_form, constant_form, variable_form, form_of, FormsAreRight, Test, Passes, opposite_less_one, opposite_form, less_one, at_least_zero, comparison_test, difference_form, TestsAreRight, DiffersIsRight}
+use Rattle.lra_tree.specs.Report.{dot, equality, inequality}
+use Rattle.lra_tree.specs.Linear.{Form, form_value, fitting, entrywise, combined, scaled, is_constant, operator_form, constant_form, variable_form, form_of, FormsAreRight, Test, Passes, opposite_less_one, opposite_form, less_one, at_least_zero, comparison_test, difference_form, TestsAreRight, DiffersIsRight}
 
 -- what led to something
 pub bind_some : {A B : Type 0} (o : Option A) (f : A → Option B) (y : B) → (o >>= f) ≡ Some y → (x : A) × (o ≡ Some x) × (f x ≡ Some y)

@@ -1,26 +1,17 @@
 -- Each least change of a value keeps the stores to which the change of the program leads.
-use Rattle.std.proofs.Common.{◌≡◌, ℕ, zero, suc, ◌+◌, ◌-◌, ◌≤◌, ◌++◌, ℤ, pos, negsuc, ◌+ℤ◌, List, [], ◌∷◌, Option, Some, None, Bool, true, false, length, take, refl, sym, ap, subst, ◌∙◌, arith, inl, inr, append_assoc, append-nil, length-append}
-use Rattle.std.specs.Prelude.{◌-ℤ◌, ◌*ℤ◌, not, slice_set, slice_get, if◌then◌else◌, IsTrue, ◌⊎◌, int_le}
-use Rattle.std.proofs.lemmas.Int.{ints}
+use Rattle.std.proofs.Common.{◌≡◌, ℕ, zero, suc, ◌+◌, ◌-◌, ◌≤◌, ◌++◌, ℤ, pos, ◌+ℤ◌, List, [], ◌∷◌, Option, Some, None, Bool, length, take, refl, sym, ap, subst, ◌∙◌, arith, append_assoc, append-nil, length-append}
+use Rattle.std.specs.Prelude.{◌-ℤ◌, ◌*ℤ◌, slice_set, slice_get}
 use Rattle.lra_linear.specs.Vectors.{product}
 use Rattle.lra_linear.proofs.Products.{product_none}
-use Rattle.lra_domain.specs.Actions.{Action, assign, forget, embed, remove_last, Leads, dims_after}
+use Rattle.lra_domain.specs.Actions.{Action, forget, embed, Leads}
 use Rattle.lra_lin.specs.Form.{form_value}
-use Rattle.lra_domain.specs.declared.Exactness.{Exactness}
-use Rattle.lra_domain.specs.Meaning.{Meaning}
-use Rattle.lra_tree.specs.Program.{Comparison, below, at_most, above, at_least, equal, differs, Expr, literal, read, input, negate, binary, Cond, compare, nonzero, opposite, both_of, either_of}
-use Rattle.lra_tree.specs.Value.{◌>>=◌, word, is_zero, index_of, apply, compares, Drawn, draw, value_of, values_of, truth_of}
+use Rattle.lra_tree.specs.Program.{Expr, literal, read, input, negate, binary, Cond}
+use Rattle.lra_tree.specs.Value.{◌>>=◌, word, index_of, apply, Drawn, draw, value_of, values_of}
 use Rattle.lra_tree.specs.Step.{State, Op, append, give, give_any, push, keep, test, put, given, pushed, run_op}
-use Rattle.lra_tree.specs.Report.{RowKind, equality, inequality, dot}
+use Rattle.lra_tree.specs.Report.{dot}
 use Rattle.lra_tree.specs.Linear as linear
-use Rattle.lra_tree.specs.Condition.{opposite_comparison, IsPushed, IsAtom, IsTestedBy}
-use Rattle.lra_tree.specs.Condition as condition
-use Rattle.lra_flow.specs.Operations.{dropping, worse}
-use Rattle.lra_flow.specs.Changes.{as_form, set_to, push_all, drop_last, actions_of, AreDone}
-use Rattle.lra_flow.specs.Conditions.{kind_of, tested, testing, Leaves}
-use Rattle.lra_flow.specs.Pass.{Changes}
-use Rattle.lra_flow.specs.Sound.{ChangesKeep}
-use Rattle.lra_flow.proofs.FormLemmas.{bind_some, some_first, pair_first, forms_are_right, test_is_right, differs_by_tests, difference_is_right, Compared, compared}
+use Rattle.lra_flow.specs.Changes.{as_form, set_to, push_all, drop_last, actions_of}
+use Rattle.lra_flow.proofs.FormLemmas.{bind_some, pair_first, forms_are_right}
 
 -- values with more variables -------------------------------------------------------------------------------------------
 

@@ -8,8 +8,5 @@ pub mod CondKeeping
 -- The values of a derivation have all stores of the runs.
 pub mod Sound
 pub mod Keeps
--- Worked examples over boxes.
-mod LoopExamples
-mod NestedExamples
-mod CallExamples
+-- Single definitions on small operands.
 mod PieceExamples

@@ -1,22 +1,19 @@
 -- Single definitions of the iteration on small operands.
-use Rattle.std.proofs.Common.{◌≡◌, ℕ, pos, negsuc, [], ◌∷◌, None, Some, refl, inl, inr, ◌^◌, ◌-◌, arith}
-use Rattle.std.proofs.lemmas.Int.{ints}
+use Rattle.std.proofs.Common.{◌≡◌, ℕ, ℤ, pos, negsuc, List, [], ◌∷◌, None, Some, refl}
+use Rattle.lra_lin.specs.Form.{Form}
 use Rattle.lra_domain.specs.Actions.{assign, forget, embed, remove_last}
-use Rattle.lra_domain.specs.declared.Exactness.TheVariants.{Exact, Flagged}
+use Rattle.lra_domain.specs.declared.Exactness.TheVariants.{Flagged}
 use Rattle.lra_domain.specs.declared.Mode.TheVariants.{Join, Widen, Limited}
 use Rattle.std.specs.Prelude.{true, false}
 use Rattle.lra_tree.specs.Program.{local, plus, below, equal, Expr, literal, read, input, binary, compare, opposite, either_of}
 use Rattle.lra_tree.specs.Step.{give, push, keep}
-use Rattle.lra_tree.specs.Graph.{broken, returned, act, seq, leave}
-use Rattle.lra_box.specs.Bounds.{form}
-use Rattle.lra_box.specs.Content.{Content}
-use Rattle.lra_box.specs.Meaning.{box_meaning}
-use Rattle.lra_flow.specs.Operations.{straining}
+use Rattle.lra_tree.specs.Graph.{broken, returned}
 use Rattle.lra_flow.specs.Changes.{actions_of, first_values}
 use Rattle.lra_flow.specs.Given.{given_rows}
-use Rattle.lra_flow.specs.Pass.{Result, noted, caught, goes_on, jumps, mode_at, Pass}
-use Rattle.lra_flow.proofs.LoopExamples.{boxes, one, between, at_least, narrowed}
-use Rattle.lra_flow.proofs.NestedExamples.{two, nowhere}
+use Rattle.lra_flow.specs.Pass.{Result, noted, caught, mode_at}
+
+abbrev form : ℤ → List ℤ → Form
+form c cs = record { constant = c; coefficients = cs }
 
 abbrev i : Expr
 i = read (local 0)
@@ -71,22 +68,3 @@ broken_order = refl
 
 returned_order : caught returned two_jumps ≡ (3, 4 ∷ 9 ∷ [])
 returned_order = refl
-
--- a `break` in a block with a variable of its own goes out without it; behind the `break` it still lives
-cut_break : Pass Content Content boxes (narrowed 1) (seq (act 6 (keep 1)) (leave 2 broken)) None (two (between 0 3) (between 1 1)) (jumps broken (one (between 0 3)) nowhere None)
-cut_break = (
-  goes_on [] (one (between 0 3)) None,
-  jumps broken (one (between 0 3)) nowhere None,
-  (one (between 0 3), Exact, (one (between 0 3), Exact, Exact, (refl, record { table = refl; extremes = tt }), (refl, refl), refl), refl),
-  (nowhere, refl, refl),
-  refl,
-)
-
--- i = i + 1 of i in 0..2^127 - 1 strains: the new bound would pass the range
-strained_example : Pass Content Content (straining box_meaning) (narrowed 1) (act 5 (give 0 (Some 0) (binary plus i (literal 1)))) None (one (between 0 (2 ^ 127 - 1))) (goes_on [] (one (at_least 1)) (Some 5))
-strained_example = (
-  one (at_least 1),
-  Flagged,
-  (one (at_least 1), Flagged, Exact, (λ h. cc, λ h. inr (inr (inl (λ k. omega (arith, ints, k))))), (refl, refl), refl),
-  refl,
-)

@@ -5,6 +5,7 @@ use Rattle.std.proofs.lemmas.List.Elements.{Contains-append_left, Contains-appen
 use Rattle.lra_linear.proofs.Membership.{contains_cases, contains_head, contains_tail}
 use Rattle.lra_domain.specs.Actions.{Within}
 use Rattle.lra_domain.specs.Meaning.{Meaning}
+use Rattle.lra_domain.specs.Laws.{Laws}
 use Rattle.lra_domain.specs.declared.Exactness.{Exactness}
 use Rattle.lra_tree.specs.Program.{Cond}
 use Rattle.lra_tree.specs.Step.{State, run_op, test}
@@ -12,7 +13,7 @@ use Rattle.lra_tree.specs.Graph.{Exit, broken, continued, returned, normal, Node
 use Rattle.lra_flow.specs.declared.Settings.{Settings}
 use Rattle.lra_flow.specs.Operations.{dropping}
 use Rattle.lra_flow.specs.Changes.{AreJoined}
-use Rattle.lra_flow.specs.Pass.{Entry, value, failing, Result, noted, first_of_call, caught, in_turn, behind, jumps, GoesRound, Grows, Narrows, Pass}
+use Rattle.lra_flow.specs.Pass.{Entry, value, failing, Result, noted, first_of_call, caught, in_turn, behind, jumps, GoesRound, Grows, Narrows, mode_at, Pass}
 use Rattle.lra_flow.specs.Sound.{jumps_of, ChangesKeep, Covers}
 
 left_jump : {V : Type 0} (k : Exit) (r s : Result V) (v : V) (f : Option ℕ) (u : V) → Contains (jumps_of k r) u → Contains (jumps_of k (in_turn r s v f)) u
@@ -58,15 +59,15 @@ behind_jump returned broken r v f n u h = h
 behind_jump returned continued r v f n u h = h
 behind_jump returned returned r v f n u h = absurd (n refl)
 
-module _ (V H : Type 0) (m : Meaning V H) (keeps : ChangesKeep m) where
+module _ (V H : Type 0) (m : Meaning V H) (laws : Laws m) (keeps : ChangesKeep m) where
   -- joins
   joined_all : (v : V) (us : List V) (e : Exactness) (w : V) → AreJoined (dropping m) v us e w
       → ((st : List ℤ) → m.has v st → m.has w st) × ((u : V) → Contains us u → (st : List ℤ) → m.has u st → m.has w st)
   joined_all v [] e w h = (λ st k. subst (λ (x : V). m.has x st) (sym h.0) k, λ u k. absurd (omega (arith, k.1)))
   joined_all v (u ∷ us) e w (x, c, d, one, rest, is) =
       let r = joined_all x us d w rest in (
-        λ st k. r.0 st (one.0.left st k),
-        λ y there st k. elim (contains_cases u y us there) [ inl same ↦ r.0 st (one.0.right st (subst (λ (z : V). m.has z st) (sym same) k)) | inr later ↦ r.1 y later st k ],
+        λ st k. r.0 st (laws.covered_stores v x one.0.left st k),
+        λ y there st k. elim (contains_cases u y us there) [ inl same ↦ r.0 st (laws.covered_stores u x one.0.right st (subst (λ (z : V). m.has z st) (sym same) k)) | inr later ↦ r.1 y later st k ],
       )
 
   joined_call : (vs : List V) (n : V) (e : Exactness) (w : V) → AreJoined (dropping m) (first_of_call vs n).0 (first_of_call vs n).1 e w
@@ -88,7 +89,7 @@ module _ (V H : Type 0) (m : Meaning V H) (keeps : ChangesKeep m) where
 abbrev Round : ℕ → Cond → Node → State → State → Type 0
 Round base c a u v = (w : State) × (run_op (test base c true) u ≡ Some w) × Ends a w normal v
 
-module _ (V H : Type 0) (m : Meaning V H) (keeps : ChangesKeep m) (set : Settings) (q base : ℕ) (c : Cond) (a : Node)
+module _ (V H : Type 0) (m : Meaning V H) (laws : Laws m) (keeps : ChangesKeep m) (set : Settings) (q base : ℕ) (c : Cond) (a : Node)
     (inside : (f : Option ℕ) (v : V) (r : Result V) → Pass V H (dropping m) set a f v r → (s : State) → m.has v s.store → Covers m a s r) where
   round_keeps : (f : Option ℕ) (v : V) (r : Result V) → GoesRound V H (dropping m) q base c (Pass V H (dropping m) set a) f v r
       → (s t : State) → m.has v s.store → Round base c a s t → m.has r.normal t.store
@@ -101,7 +102,7 @@ module _ (V H : Type 0) (m : Meaning V H) (keeps : ChangesKeep m) (set : Setting
       × ((s t : State) → m.head_has last s.store → Round base c a s t → m.head_has last t.store)
       × ((g : Option ℕ) × GoesRound V H (dropping m) q base c (Pass V H (dropping m) set a) g v r)
   grows_keeps limited left f h [] v r ((e, valued, turn), stays) =
-      (h, λ st k. k, valued.0.stores, λ s t k one. stays.0.stores t.store (round_keeps (noted q e f) v r turn s t (valued.0.stores s.store k) one), (noted q e f, turn))
+      (h, λ st k. k, valued.0.stores, λ s t k one. laws.stays_stores h r.normal (mode_at limited left) (laws.answers_yes h r.normal (mode_at limited left) stays.0) t.store (round_keeps (noted q e f) v r turn s t (valued.0.stores s.store k) one), (noted q e f, turn))
   grows_keeps limited left f h (next ∷ later) v r (u, x, e, turn, grown, rest) =
       let i = grows_keeps limited (left - 1) (noted q e x.flag) next later v r rest in
       (i.0, λ st k. i.1 st (grown.0.kept st k), i.2, i.3, i.4)
@@ -124,15 +125,15 @@ module _ (V H : Type 0) (m : Meaning V H) (keeps : ChangesKeep m) (set : Setting
       narrows_keeps more first next y v r rest s k reached (noted q e x.flag, turn)
     where
       reached : (n : ℕ) (t : State) → Rounds (Round base c a) n s t → m.has next t.store
-      reached zero t is = joined.0.left t.store (subst (λ (z : State). m.has first z.store) (sym is) k)
-      reached (suc n) t (w, before, one) = joined.0.right t.store (round_keeps turned.0 u x turned.1 w t (all n w before) one)
+      reached zero t is = laws.covered_stores first next joined.0.left t.store (subst (λ (z : State). m.has first z.store) (sym is) k)
+      reached (suc n) t (w, before, one) = laws.covered_stores x.normal next joined.0.right t.store (round_keeps turned.0 u x turned.1 w t (all n w before) one)
 
   closed_rounds : (h : H) → ((s t : State) → m.head_has h s.store → Round base c a s t → m.head_has h t.store) → (s : State) → m.head_has h s.store
       → (n : ℕ) (t : State) → Rounds (Round base c a) n s t → m.head_has h t.store
   closed_rounds h closed s k zero t is = subst (λ (z : State). m.head_has h z.store) (sym is) k
   closed_rounds h closed s k (suc n) t (w, before, one) = closed w t (closed_rounds h closed s k n w before) one
 
-module _ (V H : Type 0) (m : Meaning V H) (keeps : ChangesKeep m) where
+module _ (V H : Type 0) (m : Meaning V H) (laws : Laws m) (keeps : ChangesKeep m) where
   pub covers : (set : Settings) (g : Node) (f : Option ℕ) (v : V) (r : Result V) → Pass V H (dropping m) set g f v r → (s : State) → m.has v s.store → Covers m g s r
   covers set empty f v r is s k = subst (λ (y : Result V). Covers m empty s y) (sym is) (record {
     ends = λ t e. subst (λ (z : State). m.has v z.store) (sym e) k;
@@ -180,7 +181,7 @@ module _ (V H : Type 0) (m : Meaning V H) (keeps : ChangesKeep m) where
       let j : (t : State) → run_op (test base c true) s ≡ Some t → Covers m a t x = λ t ran. covers set a (noted q d f) on x one t (keeps (test base c true) v d on is_on s t k ran) in
       let l : (t : State) → run_op (test base c false) s ≡ Some t → Covers m b t y = λ t ran. covers set b (noted q e x.flag) off y two t (keeps (test base c false) v e off is_off s t k ran) in
       subst (λ (z : Result V). Covers m (choose q base c a b) s z) (sym is) (record {
-        ends = λ t h. elim h [ inl n ↦ joined.0.left t.store ((j n.0 n.1).ends t n.2) | inr n ↦ joined.0.right t.store ((l n.0 n.1).ends t n.2) ];
+        ends = λ t h. elim h [ inl n ↦ laws.covered_stores x.normal w joined.0.left t.store ((j n.0 n.1).ends t n.2) | inr n ↦ laws.covered_stores y.normal w joined.0.right t.store ((l n.0 n.1).ends t n.2) ];
         leaves = λ kind t h. elim h [
           | inl n ↦ let o = (j n.0 n.1).leaves kind t n.2 in (o.0, left_jump kind x y w (noted q i y.flag) o.0 o.1, o.2)
           | inr n ↦ let o = (l n.0 n.1).leaves kind t n.2 in (o.0, right_jump kind x y w (noted q i y.flag) o.0 o.1, o.2)
@@ -195,9 +196,9 @@ module _ (V H : Type 0) (m : Meaning V H) (keeps : ChangesKeep m) where
         ];
       })
   covers set (iterate q base c a) f v r (h, later, u, top, out, x, y, e, started, grown, narrowed, off, is) s k =
-      let g = grows_keeps V H m keeps set q base c a (covers set a) set.limited set.delay f h later u x grown in
-      let n = narrows_keeps V H m keeps set q base c a (covers set a) set.narrow v u x top y narrowed s k
-      (λ n t rounds. g.2 t.store (closed_rounds V H m keeps set q base c a (covers set a) g.0 g.3 s (g.1 s.store (started.0.stores s.store k)) n t rounds)) g.4 in
+      let g = grows_keeps V H m laws keeps set q base c a (covers set a) set.limited set.delay f h later u x grown in
+      let n = narrows_keeps V H m laws keeps set q base c a (covers set a) set.narrow v u x top y narrowed s k
+      (λ n t rounds. g.2 t.store (closed_rounds V H m laws keeps set q base c a (covers set a) g.0 g.3 s (g.1 s.store (started.0.stores s.store k)) n t rounds)) g.4 in
       let turn = n.1.1 in
       let w = turn.0 in
       let z = turn.2 in
@@ -215,7 +216,7 @@ module _ (V H : Type 0) (m : Meaning V H) (keeps : ChangesKeep m) where
       }))
   covers set (catch q kind a) f v r (w, e, x, one, joined, is) s k =
       let i = covers set a f v x one s k in
-      let j = joined_caught V H m keeps kind x e w joined in
+      let j = joined_caught V H m laws keeps kind x e w joined in
       subst (λ (y : Result V). Covers m (catch q kind a) s y) (sym is) (record {
         ends = λ t h. subst (λ (y : V). m.has y t.store) (sym (behind_normal kind x w (noted q e x.flag))) (elim h [ inl l ↦ j.0 t.store (i.ends t l) | inr l ↦ let o = i.leaves kind t l in j.1 o.0 o.1 t.store o.2 ]);
         leaves = λ other t h. let o = i.leaves other t h.1 in (o.0, behind_jump kind other x w (noted q e x.flag) h.0 o.0 o.1, o.2);

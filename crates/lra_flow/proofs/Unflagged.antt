@@ -1,6 +1,7 @@
 -- What a derivation with drops says of the written iteration.
 use Rattle.std.proofs.Common.{◌≡◌, ℕ, Option, None, Some, refl, inl, inr}
 use Rattle.lra_domain.specs.Meaning.{Meaning}
+use Rattle.lra_domain.specs.Laws.{Laws}
 use Rattle.lra_domain.specs.declared.Exactness.{Exactness}
 use Rattle.lra_domain.specs.declared.Exactness.TheVariants.{Exact, Flagged}
 use Rattle.lra_tree.specs.Program.{Program}
@@ -28,35 +29,35 @@ none_flagged = record { parts = exact_parts; before = exact_before }
 pub any_matters : Matters (λ e. Unit {0}) (λ f. Unit {0})
 any_matters = record { parts = λ c d k. (tt, tt); before = λ q e f k. (tt, tt) }
 
-exact_ones : {V H : Type 0} (m : Meaning V H) → Transfers (λ e. e ≡ Exact) (dropping m) (defined m)
-exact_ones m = record {
+exact_ones : {V H : Type 0} (m : Meaning V H) → Laws m → Transfers (λ e. e ≡ Exact) (dropping m) (defined m)
+exact_ones m laws = record {
   changed = λ step v e w k h. (k, h.0.exact k);
   joined = λ u v e w k h. (k, h.0.exact k);
   started = λ v rows h s. s.0.started;
-  stays = λ h v mode s. s.0.stays;
-  grown = λ h v mode e next k g. (k, g.0.moved k, g.0.exact k);
+  stays = λ h v mode s. laws.answers_yes h v mode s.0;
+  grown = λ h v mode e next k g. (k, laws.answers_no h v mode (g.0.moved k), g.0.exact k);
   valued = λ h e v k s. (k, s.0.exact k);
 }
 
-strained_ones : {V H : Type 0} (m : Meaning V H) → Transfers (λ e. Unit {0}) (dropping m) (straining m)
-strained_ones m = record {
+strained_ones : {V H : Type 0} (m : Meaning V H) → Laws m → Transfers (λ e. Unit {0}) (dropping m) (straining m)
+strained_ones m laws = record {
   changed = λ step v e w k h. (h.0.exact, h.0.flagged);
   joined = λ u v e w k h. (h.0.exact, h.0.flagged);
   started = λ v rows h s. s.0.started;
-  stays = λ h v mode s. s.0.stays;
-  grown = λ h v mode e next k g. (λ is. (g.0.moved is, g.0.exact is), λ is. elim (g.0.flagged is) [ inl a ↦ inl a.0 | inr b ↦ inr b ]);
+  stays = λ h v mode s. laws.answers_yes h v mode s.0;
+  grown = λ h v mode e next k g. (λ is. (laws.answers_no h v mode (g.0.moved is), g.0.exact is), λ is. elim (g.0.flagged is) [ inl a ↦ inl a.0 | inr b ↦ inr b ]);
   valued = λ h e v k s. (s.0.exact, s.0.flagged);
 }
 
 -- a derivation without a flag is the written iteration
-pub unflagged_is_written : {V H : Type 0} (m : Meaning V H) (set : Settings) (P : Program) (g : Node) (r : Result V) → Derivation m set P g r → Unflagged r → Written m set P g r
-unflagged_is_written {V} {H} m set P g r (none, first, e, universal, values, pass) is =
-    let p = passes V H (dropping m) (defined m) (λ e. e ≡ Exact) (λ f. f ≡ None) none_flagged (exact_ones m) set g (noted 0 e None) first r is pass in
+pub unflagged_is_written : {V H : Type 0} (m : Meaning V H) → Laws m → (set : Settings) (P : Program) (g : Node) (r : Result V) → Derivation m set P g r → Unflagged r → Written m set P g r
+unflagged_is_written {V} {H} m laws set P g r (none, first, e, universal, values, pass) is =
+    let p = passes V H (dropping m) (defined m) (λ e. e ≡ Exact) (λ f. f ≡ None) none_flagged (exact_ones m laws) set g (noted 0 e None) first r is pass in
     let k = exact_before 0 e None p.0 in
-    (none, first, e, universal, done V H (dropping m) (defined m) (λ e. e ≡ Exact) (λ f. f ≡ None) none_flagged (exact_ones m) (first_values 0 P.globals) none e first k.0 values, p.1)
+    (none, first, e, universal, done V H (dropping m) (defined m) (λ e. e ≡ Exact) (λ f. f ≡ None) none_flagged (exact_ones m laws) (first_values 0 P.globals) none e first k.0 values, p.1)
 
 -- the first flagged operation strains on the operands of the written iteration
-pub flagged_strains : {V H : Type 0} (m : Meaning V H) (set : Settings) (P : Program) (g : Node) (r : Result V) (q : ℕ) → Derivation m set P g r → r.flag ≡ Some q → Strains m set P g q
-flagged_strains {V} {H} m set P g r q (none, first, e, universal, values, pass) is =
-    let p = passes V H (dropping m) (straining m) (λ e. Unit {0}) (λ f. Unit {0}) any_matters (strained_ones m) set g (noted 0 e None) first r tt pass in
-    (r, (none, first, e, universal, done V H (dropping m) (straining m) (λ e. Unit {0}) (λ f. Unit {0}) any_matters (strained_ones m) (first_values 0 P.globals) none e first tt values, p.1), is)
+pub flagged_strains : {V H : Type 0} (m : Meaning V H) → Laws m → (set : Settings) (P : Program) (g : Node) (r : Result V) (q : ℕ) → Derivation m set P g r → r.flag ≡ Some q → Strains m set P g q
+flagged_strains {V} {H} m laws set P g r q (none, first, e, universal, values, pass) is =
+    let p = passes V H (dropping m) (straining m) (λ e. Unit {0}) (λ f. Unit {0}) any_matters (strained_ones m laws) set g (noted 0 e None) first r tt pass in
+    (r, (none, first, e, universal, done V H (dropping m) (straining m) (λ e. Unit {0}) (λ f. Unit {0}) any_matters (strained_ones m laws) (first_values 0 P.globals) none e first tt values, p.1), is)

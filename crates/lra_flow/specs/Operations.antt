@@ -7,7 +7,8 @@ use Rattle.lra_domain.specs.Actions.{Action, dims_after}
 use Rattle.lra_domain.specs.declared.Mode.{Mode}
 use Rattle.lra_domain.specs.declared.Exactness.{Exactness}
 use Rattle.lra_domain.specs.declared.Exactness.TheVariants.{Exact, Flagged}
-use Rattle.lra_domain.specs.Meaning.{Meaning, Meets, Joins, Starts, Stays, GrowthStrains, Grew, Values}
+use Rattle.lra_domain.specs.declared.Included.TheVariants.{Yes}
+use Rattle.lra_domain.specs.Meaning.{Meaning, Meets, Joins, Starts, GrowthStrains, Grew, Values}
 
 pub record Operations (V H : Type 0) : Type 1 where
   pub dims : V → ℕ
@@ -46,7 +47,7 @@ dropping m = record {
   changed = λ step v e w. Meets m step v e w × (m.dims w ≡ dims_after step (m.dims v));
   joined = λ u v e w. Joins m u v e w × (m.dims v ≡ m.dims u) × (m.dims w ≡ m.dims u);
   started = λ v rows h. Starts m v rows h × (m.head_dims h ≡ m.dims v);
-  stays = λ h v mode. Stays m h v mode × (m.dims v ≡ m.head_dims h);
+  stays = λ h v mode. m.answers h v mode Yes × (m.dims v ≡ m.head_dims h);
   grown = λ h v mode e next. Grew m h v mode e next × (m.dims v ≡ m.head_dims h) × (m.head_dims next ≡ m.head_dims h);
   valued = λ h e v. Values m h e v × (m.dims v ≡ m.head_dims h);
 }

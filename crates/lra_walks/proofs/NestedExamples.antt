@@ -24,7 +24,7 @@ use Rattle.lra_box.proofs.WithinLemmas.{low_within_refl, high_within_refl}
 use Rattle.lra_flow.specs.declared.Settings.{Settings}
 use Rattle.lra_flow.specs.Pass.{Entry, value, failing, Result, goes_on, jumps, GoesRound, GoesFrom, Grows, Narrows, Pass}
 use Rattle.lra_flow.specs.Analysis.{Written, IsUnreachable}
-use Rattle.lra_flow.proofs.LoopExamples.{boxes, between, at_least, one, none, narrowed, between_sound, declared, declaring}
+use Rattle.lra_walks.proofs.LoopExamples.{boxes, between, at_least, one, none, narrowed, between_sound, declared, declaring}
 
 -- the box of both variables
 abbrev pub two : Interval → Interval → Content

@@ -1,4 +1,5 @@
-//! An analysis over boxes of `long x = input(); if (x >= 1) assert(x >= 0); else assert(x >= 0);` and its end.
+//! Analyses over boxes of `long x = input(); if (..) assert(x >= 0); else assert(x >= 0);` and its end, where the condition is `x >= 1` in
+//! parentheses of ever more levels.
 
 ghost use Rattle.std.specs.Prelude.{◌≡◌, map, IfOk};
 ghost use Rattle.lra_tree.specs.Graph as graph;
@@ -6,12 +7,12 @@ ghost use Rattle.lra_tree.specs.ProgramViews.{cond_view};
 ghost use Rattle.lra_tree.specs.GraphViews.{op_view, node_view, site_view};
 ghost use Rattle.lra_iter.specs.Fits.{TreeFits};
 ghost use Rattle.lra_iter.specs.Numbers.{IsNumbered};
-ghost use Rattle.lra_iter.specs.Sample.{sample_asserts};
+ghost use Rattle.lra_walks.specs.Sample.{sample_asserts};
 
-use crate::analyse;
 use lra_box::Boxes;
 use lra_domain::Domain;
 use lra_flow::Settings;
+use lra_iter::analyse;
 use lra_tree::Comparison;
 use lra_tree::graph::{Graph, Node, Op, Path, Site};
 use lra_tree::program::{Cond, Expr, Slot};
@@ -24,6 +25,22 @@ fn at_least(bound: u64) -> Cond {
         Expr::Read(Slot::Local(0)),
         Expr::Literal(bound),
     )
+}
+
+/// `x >= 1`, behind which so many levels of parentheses say `|| x >= 1` and `&& x >= 1` in turn.
+fn nested(alloc: Global, levels: u32) -> Result<Cond, AllocError> {
+    let mut condition = at_least(1);
+    'levels: for level in 0..levels {
+        let mut others = Vec::new(alloc);
+        others.push(at_least(1))?;
+        let first = Box::new(alloc, condition)?;
+        condition = if level % 2 == 0 {
+            Cond::Any(first, others)
+        } else {
+            Cond::All(first, others)
+        };
+    }
+    Ok(condition)
 }
 
 /// The one, then the other.
@@ -86,13 +103,13 @@ fn sites(alloc: Global) -> Result<Vec<Site>, AllocError>
 }
 
 /// The tree and its points.
-fn sample(alloc: Global) -> Result<Graph, AllocError>
+fn sample(alloc: Global, condition: Cond) -> Result<Graph, AllocError>
     ensures fits { IfOk result (λ g. TreeFits (node_view g.tree) 0) }
     ensures numbered { IfOk result (λ g. IsNumbered (map site_view g.sites.items) (node_view g.tree)) }
 {
     let yes = assertion(alloc, 2, at_least(0))?;
     let no = assertion(alloc, 3, at_least(0))?;
-    let branches = choice(alloc, at_least(1), yes, no)?;
+    let branches = choice(alloc, condition, yes, no)?;
     let rest = before_point(alloc, branches, 4)?;
     let given = behind(alloc, Op::Give(0, Some(0), Expr::Input), rest)?;
     let declared = behind(alloc, Op::Append, given)?;
@@ -114,28 +131,32 @@ fn rows_of(alloc: Global, value: &Boxes) -> Result<Vec<[i128; 2]>, AllocError> {
     Ok(rows)
 }
 
-/// Where x >= 1 the assertion x >= 0 is proved, and elsewhere it isn't; x >= 0 holds at the end.
+/// Where x >= 1 the assertion x >= 0 is proved, and elsewhere it isn't; x >= 0 holds at the end. Sixty-three levels take the time of sixty-three
+/// comparisons: were each side of a condition made by itself, nobody would wait for it.
 #[test]
-fn a_small_program(rt: HostRuntime) -> Result<(), AllocError> {
+fn levels_of_conditions(rt: HostRuntime) -> Result<(), AllocError> {
     let alloc = rt.alloc();
-    let graph = sample(alloc)?;
     let settings = Settings {
         parts: 1,
         delay: 1,
         narrow: 1,
         limited: false,
     };
-    let solution = analyse::<Boxes>(alloc, &settings, &[], &graph)?;
     let want: [&[[i128; 2]]; 5] = [&[], &[], &[[-1, 1]], &[[0, -1]], &[[0, 1]]];
-    assert_eq!(rt; solution.values.len(), 5);
-    for (point, (value, rows)) in solution.values.iter().zip(want.iter()).enumerate() {
-        let found = rows_of(alloc, value)?;
-        assert_eq!(rt; found.as_slice(), *rows, "point {point}");
+    'levels: for levels in &[0, 1, 63] {
+        let graph = sample(alloc, nested(alloc, *levels)?)?;
+        let solution = analyse::<Boxes>(alloc, &settings, &[], &graph)?;
+        let mut found = Vec::new(alloc);
+        'points: for value in &solution.values {
+            found.push(rows_of(alloc, value)?)?;
+        }
+        let same = found
+            .iter()
+            .map(|rows| rows.as_slice())
+            .eq(want.iter().copied());
+        assert!(rt; same, "{levels} levels");
+        let judged = solution.verdicts.as_slice() == [(2, true), (3, false)].as_slice();
+        assert!(rt; judged && solution.flagged.is_none(), "{levels} levels");
     }
-    assert_eq!(rt;
-        solution.verdicts.as_slice(),
-        [(2, true), (3, false)].as_slice()
-    );
-    assert_eq!(rt; solution.flagged, None);
     Ok(())
 }

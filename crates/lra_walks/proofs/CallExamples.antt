@@ -19,8 +19,8 @@ use Rattle.lra_box.specs.Meaning.{StepsTo, box_meaning}
 use Rattle.lra_box.proofs.ExtremeLemmas.{end_is_extreme}
 use Rattle.lra_flow.specs.Pass.{Entry, value, Result, goes_on, jumps, Pass}
 use Rattle.lra_flow.specs.Analysis.{Written}
-use Rattle.lra_flow.proofs.LoopExamples.{boxes, between, one, none, narrowed, between_sound}
-use Rattle.lra_flow.proofs.NestedExamples.{two, nowhere}
+use Rattle.lra_walks.proofs.LoopExamples.{boxes, between, one, none, narrowed, between_sound}
+use Rattle.lra_walks.proofs.NestedExamples.{two, nowhere}
 
 abbrev called : Call
 called = record { label = 6; function = 0; arguments = literal 0 ∷ [] }

@@ -4,13 +4,13 @@ use Rattle.lra_tree.specs.Graph.{Node, point, act, check, seq, choose}
 use Rattle.lra_tree.specs.declared.program.Expr.TheVariants.{Input}
 use Rattle.lra_tree.specs.ProgramViews.{cond_view, expr_view}
 use Rattle.lra_tree.specs.GraphViews.{node_view, site_view}
-use Rattle.lra_iter.proofs.SampleTree.{sample_numbered, asserts_seen}
-use Rattle.lra_iter.proofs.tests.sample.Goals as goal
+use Rattle.lra_walks.proofs.SampleTree.{sample_numbered, asserts_seen}
+use Rattle.lra_walks.proofs.tests.sample.Goals as goal
 
 pub returns-clause-numbered : goal.returns-clause-numbered
 returns-clause-numbered c =
-    let branches = c.in_ok-branches.ensures ∙ ap (λ (t : Node). seq (point 1) (choose 1 0 (cond_view c.at_least-3.result) t (node_view c.in_ok-no.no))) c.in_ok-yes.ensures
-    ∙ ap (λ (t : Node). seq (point 1) (choose 1 0 (cond_view c.at_least-3.result) (seq (point 2) (check 2 0 (cond_view c.at_least.result))) t)) c.in_ok-no.ensures in
+    let branches = c.in_ok-branches.ensures ∙ ap (λ (t : Node). seq (point 1) (choose 1 0 (cond_view c.args.condition) t (node_view c.in_ok-no.no))) c.in_ok-yes.ensures
+    ∙ ap (λ (t : Node). seq (point 1) (choose 1 0 (cond_view c.args.condition) (seq (point 2) (check 2 0 (cond_view c.at_least.result))) t)) c.in_ok-no.ensures in
     let rest = c.in_ok-rest.ensures ∙ ap (λ (t : Node). seq t (point 4)) branches in
     let given = c.in_ok-given.ensures ∙ ap (λ (t : Node). seq (act 0 (give 0 (Some 0) (expr_view Input))) t) rest in
     let tree = c.in_ok-tree.ensures ∙ ap (λ (t : Node). seq (point 0) t) (c.in_ok-declared.ensures ∙ ap (λ (t : Node). seq (act 0 append) t) given) in
