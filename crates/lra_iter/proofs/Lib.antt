@@ -1,6 +1,7 @@
 mod FormSteps
 mod CondSizes
 mod CondSteps
+mod SideSteps
 mod ChangeSteps
 mod GivenSteps
 mod PassLoops
@@ -9,5 +10,6 @@ mod GlobalSteps
 mod Tabled
 mod Filling
 mod Solving
-mod SampleTree
+pub mod Covering
+pub mod Widths
 mod PassSteps

@@ -3,8 +3,9 @@ use Rattle.std.proofs.Common.{◌≡◌, ◌≢◌, ℕ, zero, suc, ◌+◌, ◌
 use Rattle.std.specs.Prelude.{slice_index_or}
 use Rattle.lra_domain.specs.declared.Rank.{Rank}
 use Rattle.lra_domain.specs.declared.Mode.TheVariants.{Join}
+use Rattle.lra_domain.specs.declared.Included.TheVariants.{Yes}
 use Rattle.lra_domain.specs.Rank.{RankFits, RankBelow}
-use Rattle.lra_domain.specs.Meaning.{Meaning, Starts, Values, Stays, Grew, Joins}
+use Rattle.lra_domain.specs.Meaning.{Meaning, Starts, Values, Grew, Joins}
 use Rattle.lra_domain.proofs.RankNumbers.{phased, phased_joins, phased_falls}
 use Rattle.lra_sys.specs.Listed.{Listed}
 use Rattle.lra_sys.specs.declared.system.ConKind.{ConKind}
@@ -61,7 +62,7 @@ module _ {V H : Type 0} (m : Meaning V H) (set : Settings) (q base : ℕ) (c : C
   -- it doesn't grow more
   pub grow_stable : (first : V) (f : Option ℕ) (left : ℕ) (so_far : Option ℕ) (head : H) (v : V) (e : Exactness) (s : Result V) → GrowLoop m set q base c a first f left so_far head
       → Values m head e v → m.dims v ≡ m.head_dims head → GoesRound V H (dropping m) q base c (Pass V H (dropping m) set a) (noted q e so_far) v s
-      → Stays m head s.normal (mode_at set.limited left) → m.dims s.normal ≡ m.head_dims head → HasGrown m set q base c a first f v s
+      → m.answers head s.normal (mode_at set.limited left) Yes → m.dims s.normal ≡ m.head_dims head → HasGrown m set q base c a first f v s
   grow_stable first f left so_far head v e s loop values dims round stays behind = loop.grows [] v s ((e, (values, dims), round), (stays, behind))
 
   -- it grows by what its round left

@@ -1,7 +1,8 @@
 -- What a derivation's values, verdicts and first flag say of the written iteration.
-use Rattle.std.proofs.Common.{◌≡◌, ℕ, List, Option, None, Some, Bool, sym, ◌∙◌, subst}
+use Rattle.std.proofs.Common.{◌≡◌, ℕ, List, Option, None, Bool, sym, ◌∙◌, subst}
 use Rattle.std.specs.Prelude.{ℤ}
 use Rattle.lra_domain.specs.Meaning.{Meaning}
+use Rattle.lra_domain.specs.Laws.{Laws}
 use Rattle.lra_domain.specs.declared.Exactness.{Exactness}
 use Rattle.lra_tree.specs.Program.{Program}
 use Rattle.lra_tree.specs.Graph.{Node}
@@ -14,14 +15,14 @@ use Rattle.lra_flow.proofs.Unflagged.{unflagged_is_written, flagged_strains}
 use Rattle.lra_iter.specs.Changes.{Does}
 use Rattle.lra_iter.specs.Solved.{IsSolved}
 
-pub solved : {V H : Type 0} (m : Meaning V H) (settings : Settings) (P : Program) (tree : Node) (result : Result V) (values : List V) (verdicts : List (ℕ × Bool)) (flagged : Option ℕ) → Derivation m settings P tree result
+pub solved : {V H : Type 0} (m : Meaning V H) → Laws m → (settings : Settings) (P : Program) (tree : Node) (result : Result V) (values : List V) (verdicts : List (ℕ × Bool)) (flagged : Option ℕ) → Derivation m settings P tree result
     → Solves m result values verdicts flagged → IsSolved m settings P tree values verdicts flagged
-solved m settings P tree result values verdicts flagged derived solves = record {
+solved m laws settings P tree result values verdicts flagged derived solves = record {
   result = result;
   derived = derived;
   solves = solves;
-  written = λ none. unflagged_is_written m settings P tree result derived (sym solves.is_flagged ∙ none);
-  strained = λ q is. flagged_strains m settings P tree result q derived (sym solves.is_flagged ∙ is);
+  written = λ none. unflagged_is_written m laws settings P tree result derived (sym solves.is_flagged ∙ none);
+  strained = λ q is. flagged_strains m laws settings P tree result q derived (sym solves.is_flagged ∙ is);
 }
 
 -- from the value that has all stores, by the globals' first values and a pass

@@ -1,12 +1,12 @@
 -- What stands in tables is what a pass found.
-use Rattle.std.proofs.Common.{◌≡◌, ◌≢◌, ℕ, zero, suc, ◌+◌, ◌≤◌, ◌<◌, ◌⊎◌, List, [], ◌∷◌, ◌++◌, length, map, take, get_or, Option, Some, None, Bool, inl, inr, refl, sym, ap, ◌∙◌, subst, arith}
+use Rattle.std.proofs.Common.{◌≡◌, ◌≢◌, ℕ, zero, suc, ◌+◌, ◌≤◌, ◌<◌, List, [], ◌∷◌, ◌++◌, length, map, take, get_or, Option, Some, None, Bool, inl, inr, refl, sym, ap, ◌∙◌, subst, arith}
 use Rattle.std.specs.Prelude.{◌↔◌, IsTrue, slice_get, slice_set, replicate, flat_map, option_map, cond, true, false}
 use Rattle.std.specs.List.{Contains}
 use Rattle.std.specs.Option.{option_to_list}
 use Rattle.std.proofs.lemmas.Bool.{cases_eq, cases_lt, cond-true, cond-false, false_from_ne_true}
-use Rattle.std.proofs.lemmas.List.{length-replicate, length-set, length-map, map-append}
+use Rattle.std.proofs.lemmas.List.{length-replicate, length-set, length-map}
 use Rattle.std.proofs.lemmas.List.Elements.{Contains-append_left, Contains-push, Contains-push_cases}
-use Rattle.std.proofs.lemmas.Option.{none-some, same_Some, slice_get-map, slice_get_within, slice_get_past}
+use Rattle.std.proofs.lemmas.Option.{none-some, same_Some, slice_get-map, slice_get_past}
 use Rattle.lra_linear.proofs.Membership.{contains_none, contains_head, contains_tail, contains_cases}
 use Rattle.lra_domain.specs.Meaning.{Meaning}
 use Rattle.lra_tree.specs.Sites.{Site}
@@ -16,7 +16,7 @@ use Rattle.lra_flow.specs.Analysis.{IsUnreachable, Solves}
 use Rattle.lra_iter.specs.Numbers.{asserts_of}
 use Rattle.lra_iter.specs.Counts.{values_at, failing_at, AreCounted, AreApart}
 use Rattle.lra_iter.specs.Tables.{AreTabled, filled_from}
-use Rattle.lra_iter.proofs.Counting.{values_append, failing_append, value_counted, failing_counted, counted_value, counted_failing, one_value, one_failing, asserts_few}
+use Rattle.lra_iter.proofs.Counting.{values_append, failing_append, value_counted, failing_counted, counted_value, counted_failing, one_value, asserts_few}
 
 -- places -------------------------------------------------------------------------------------------------------------
 

@@ -1,11 +1,13 @@
 pub mod Forms
 pub mod Conditions
+pub mod Sides
 pub mod Changes
 pub mod Given
 pub mod Outcome
 pub mod Fits
+pub mod Lives
 pub mod Numbers
 pub mod Counts
 pub mod Tables
 pub mod Solved
-pub mod Sample
+pub mod Sound

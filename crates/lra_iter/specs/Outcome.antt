@@ -15,7 +15,7 @@ use Rattle.lra_flow.specs.Sound.{jumps_of}
 use Rattle.lra_iter.specs.Fits.{JumpsWith}
 use Rattle.lra_flow.specs.Operations.{dropping}
 use Rattle.lra_flow.specs.Changes.{AreJoined}
-use Rattle.lra_flow.specs.Pass.{Entry, value, failing, Result, noted, caught, behind, Pass, Grows}
+use Rattle.lra_flow.specs.Pass.{Entry, value, failing, Result, noted, in_turn, caught, behind, Pass, Grows}
 
 abbrev pub entry_view : {V : Type 0} → entry.Entry V → Entry V
 entry_view (Value q v) = value q v
@@ -39,6 +39,10 @@ AllHave m n (v ∷ vs) = (m.dims v ≡ n) × AllHave m n vs
 -- the jumps of this kind come out and are joined at this point
 abbrev pub Catches : {V H : Type 0} → Meaning V H → ℕ → Exit → Result V → Result V → Type 0
 Catches {V} m q k s r = (w : V) × (e : Exactness) × AreJoined (dropping m) (caught k s).0 (caught k s).1 e w × (r ≡ behind k s w (noted q e s.flag))
+
+-- both branches of a choice, whose ends are joined at this point
+abbrev pub AreMet : {V H : Type 0} → Meaning V H → ℕ → Result V → Result V → Result V → Type 0
+AreMet {V} m q s t r = (w : V) × (e : Exactness) × (dropping m).joined s.normal t.normal e w × (r ≡ in_turn s t w (noted q e t.flag))
 
 -- each value with which the tree is left by a jump has as many dimensions as live there
 abbrev pub JumpsFit : {V H : Type 0} → Meaning V H → Node → ℕ → Result V → Type 0

@@ -8,7 +8,8 @@ ghost use Rattle.lra_tree.specs.Linear.{form_of};
 ghost use Rattle.lra_flow.specs.Changes.{set_to, append_set, push_all, drop_last};
 ghost use Rattle.lra_iter.specs.Changes.{Does, ChangesTo, OpFits, dims_behind};
 
-use crate::conditions::{leave, worse_of};
+use crate::comparisons::worse_of;
+use crate::conditions::leave;
 use crate::forms::form_of_expression;
 use lra_domain::{Domain, Exactness};
 use lra_tree::graph::Op;

@@ -12,7 +12,7 @@ ghost use Rattle.lra_iter.specs.Forms.{as_linear};
 ghost use Rattle.lra_iter.specs.Conditions.{in_turn_of};
 ghost use Rattle.lra_iter.specs.Given.{HasMore};
 
-use crate::conditions::{difference_of, opposite_of, test_of};
+use crate::comparisons::{difference_of, opposite_of, test_of};
 use lra_lin::LinExpr;
 use lra_row::Row;
 use lra_sys::{ConKind, ConSys};

@@ -5,7 +5,7 @@ ghost use Rattle.lra_tree.specs.Linear.{constant_form};
 ghost use Rattle.lra_flow.specs.Changes.{append_set, first_values};
 ghost use Rattle.lra_iter.specs.Changes.{Does};
 
-use crate::conditions::worse_of;
+use crate::comparisons::worse_of;
 use crate::forms::constant_of;
 use lra_domain::{Domain, Exactness};
 use std::alloc::{AllocError, Global};

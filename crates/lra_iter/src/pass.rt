@@ -9,17 +9,19 @@ ghost use Rattle.lra_flow.specs.Operations.{dropping};
 ghost use Rattle.lra_flow.specs.Pass.{Pass, GoesRound, Narrows, mode_at, in_turn};
 ghost use Rattle.lra_flow.specs.Sound.{jumps_of};
 ghost use Rattle.lra_iter.specs.Fits.{live_behind, TreeFits};
-ghost use Rattle.lra_iter.specs.Outcome.{seen, AllHave, Catches, JumpsFit, HasGrown};
+ghost use Rattle.lra_iter.specs.Outcome.{seen, AllHave, AreMet, Catches, JumpsFit, HasGrown};
 
 use crate::changes::change;
 use crate::conditions::leave;
 use crate::given::given_of;
 use crate::outcome::{Entry, Outcome, join_all, note};
+use crate::sides::{Kept, split};
 use lra_domain::{Domain, Exactness, Grown, Mode};
 use lra_flow::Settings;
 use lra_tree::graph::{Exit, Node};
 use lra_tree::program::Cond;
 use std::alloc::{AllocError, Global};
+use std::mem;
 
 /// What both find, the one behind the other; the second's value goes on.
 fn in_a_row<D: Drop>(first: Outcome<D>, second: Outcome<D>) -> Result<Outcome<D>, AllocError>
@@ -189,14 +191,36 @@ fn pass_check<D: Domain>(
     ensures dims { IfOk result (λ r. D.meaning.dims r.normal ≡ D.meaning.dims value) }
     ensures jumps { IfOk result (λ r. JumpsFit D.meaning (check point base (cond_view condition.now)) (D.meaning.dims value) (seen r)) }
 {
-    let mut off = value.copy(alloc)?;
-    let one = leave(alloc, base, condition, false, &mut off, Exactness::Exact)?;
-    let mut on = value;
-    let two = leave(alloc, base, condition, true, &mut on, Exactness::Exact)?;
+    let from = Kept {
+        value,
+        exactness: Exactness::Exact,
+    };
+    let sides = split(alloc, base, condition, from)?;
+    let on = sides.on;
+    let off = sides.off;
+    let flag = note(point, on.exactness, note(point, off.exactness, flag));
     let mut entries = Vec::new(alloc);
-    entries.push(Entry::Failing(point, off))?;
-    let flag = note(point, two, note(point, one, flag));
-    Ok(Outcome::going_on(alloc, entries, on, flag))
+    entries.push(Entry::Failing(point, off.value))?;
+    Ok(Outcome::going_on(alloc, entries, on.value, flag))
+}
+
+/// Both branches of a choice, whose ends are joined at this point.
+fn meet_again<D: Domain>(
+    point: usize,
+    first: Outcome<D>,
+    second: Outcome<D>,
+) -> Result<Outcome<D>, AllocError>
+    requires { D.meaning.dims first.normal ≡ D.meaning.dims second.normal }
+    ensures joined { IfOk result (λ r. AreMet D.meaning point (seen first) (seen second) (seen r)) }
+    ensures dims { IfOk result (λ r. D.meaning.dims r.normal ≡ D.meaning.dims first.normal) }
+{
+    let mut one = first;
+    let mut two = second;
+    let exactness = one.normal.join(&two.normal)?;
+    two.flag = note(point, exactness, two.flag);
+    mem::swap(&mut one.normal, &mut two.normal);
+    let both = in_a_row(one, two)?;
+    Ok(both)
 }
 
 /// Once round a loop from a value at its head.
@@ -211,6 +235,7 @@ fn round<D: Domain>(
     value: &D,
     flag: Option<usize>,
 ) -> Result<Outcome<D>, AllocError>
+    requires parts { 1 ≤ settings.now.parts }
     requires few { D.meaning.dims value.now ≤ 2 ^ 30 }
     requires fits { TreeFits (node_view body.now) (D.meaning.dims value.now) }
     requires closed { live_behind (node_view body.now) (D.meaning.dims value.now) ≡ D.meaning.dims value.now }
@@ -239,6 +264,7 @@ fn grow<D: Domain>(
     first: &D,
     flag: Option<usize>,
 ) -> Result<(D, Outcome<D>), AllocError>
+    requires parts { 1 ≤ settings.now.parts }
     requires few { D.meaning.dims first.now ≤ 2 ^ 30 }
     requires fits { TreeFits (node_view body.now) (D.meaning.dims first.now) }
     requires closed { live_behind (node_view body.now) (D.meaning.dims first.now) ≡ D.meaning.dims first.now }
@@ -285,6 +311,7 @@ fn narrow<D: Domain>(
     value: D,
     outcome: Outcome<D>,
 ) -> Result<(D, Outcome<D>), AllocError>
+    requires parts { 1 ≤ settings.now.parts }
     requires few { D.meaning.dims first.now ≤ 2 ^ 30 }
     requires fits { TreeFits (node_view body.now) (D.meaning.dims first.now) }
     requires closed { live_behind (node_view body.now) (D.meaning.dims first.now) ≡ D.meaning.dims first.now }
@@ -322,6 +349,7 @@ fn pass_loop<D: Domain>(
     value: D,
     flag: Option<usize>,
 ) -> Result<Outcome<D>, AllocError>
+    requires parts { 1 ≤ settings.now.parts }
     requires few { D.meaning.dims value ≤ 2 ^ 30 }
     requires fits { TreeFits (node_view body.now) (D.meaning.dims value) }
     requires closed { live_behind (node_view body.now) (D.meaning.dims value) ≡ D.meaning.dims value }
@@ -353,26 +381,25 @@ fn pass_choice<D: Domain>(
     value: D,
     flag: Option<usize>,
 ) -> Result<Outcome<D>, AllocError>
+    requires parts { 1 ≤ settings.now.parts }
     requires few { D.meaning.dims value ≤ 2 ^ 30 }
     requires fits { TreeFits (choose point base (cond_view condition.now) (node_view yes.now) (node_view no.now)) (D.meaning.dims value) }
     ensures pass { IfOk result (λ r. Pass D D.Head (dropping D.meaning) settings.now (choose point base (cond_view condition.now) (node_view yes.now) (node_view no.now)) flag value (seen r)) }
     ensures dims { IfOk result (λ r. D.meaning.dims r.normal ≡ live_behind (node_view yes.now) (D.meaning.dims value)) }
     ensures jumps { IfOk result (λ r. JumpsFit D.meaning (choose point base (cond_view condition.now) (node_view yes.now) (node_view no.now)) (D.meaning.dims value) (seen r)) }
 {
-    let mut on = value.copy(alloc)?;
-    let one = leave(alloc, base, condition, true, &mut on, Exactness::Exact)?;
-    let on_flag = note(point, one, flag);
-    let first = pass(alloc, settings, yes, on, on_flag)?;
-    let mut off = value;
-    let two = leave(alloc, base, condition, false, &mut off, Exactness::Exact)?;
-    let off_flag = note(point, two, first.flag);
-    let mut second = pass(alloc, settings, no, off, off_flag)?;
-    let mut normal = first.normal.copy(alloc)?;
-    let joined = normal.join(&second.normal)?;
-    let flag = note(point, joined, second.flag);
-    second.normal = normal;
-    second.flag = flag;
-    let both = in_a_row(first, second)?;
+    let from = Kept {
+        value,
+        exactness: Exactness::Exact,
+    };
+    let sides = split(alloc, base, condition, from)?;
+    let on = sides.on;
+    let off = sides.off;
+    let on_flag = note(point, on.exactness, flag);
+    let first = pass(alloc, settings, yes, on.value, on_flag)?;
+    let off_flag = note(point, off.exactness, first.flag);
+    let second = pass(alloc, settings, no, off.value, off_flag)?;
+    let both = meet_again(point, first, second)?;
     Ok(both)
 }
 
@@ -385,6 +412,7 @@ pub fn pass<D: Domain>(
     value: D,
     flag: Option<usize>,
 ) -> Result<Outcome<D>, AllocError>
+    requires parts { 1 ≤ settings.now.parts }
     requires few { D.meaning.dims value ≤ 2 ^ 30 }
     requires fits { TreeFits (node_view node.now) (D.meaning.dims value) }
     ensures pass { IfOk result (λ r. Pass D D.Head (dropping D.meaning) settings.now (node_view node.now) flag value (seen r)) }

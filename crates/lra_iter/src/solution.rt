@@ -6,10 +6,12 @@ ghost use Rattle.lra_tree.specs.GraphViews.{node_view, site_view};
 ghost use Rattle.lra_tree.specs.Listing.{assertions_from};
 ghost use Rattle.lra_flow.specs.Analysis.{Solves};
 ghost use Rattle.lra_iter.specs.Fits.{TreeFits};
+ghost use Rattle.lra_iter.specs.Lives.{PointsHave, AreWide};
 ghost use Rattle.lra_iter.specs.Outcome.{entry_view, seen};
 ghost use Rattle.lra_iter.specs.Numbers.{IsNumbered};
 ghost use Rattle.lra_iter.specs.Counts.{AreCounted};
 ghost use Rattle.lra_iter.specs.Solved.{IsSolved};
+ghost use Rattle.lra_iter.specs.Sound.{HoldsInTree};
 
 use crate::globals::append_globals;
 use crate::outcome::{Outcome, note};
@@ -55,10 +57,13 @@ pub fn analyse<D: Domain>(
     globals: &[i64],
     graph: &Graph,
 ) -> Result<Solution<D>, AllocError>
+    requires parts { 1 ≤ settings.now.parts }
     requires few { length globals.now ≤ 2 ^ 30 }
     requires fits { TreeFits (node_view graph.now.tree) (length globals.now) }
     requires numbered { IsNumbered (map site_view graph.now.sites.items) (node_view graph.now.tree) }
     ensures solved { IfOk result (λ s. (P : Program) → P.globals ≡ globals.now → IsSolved D.meaning settings.now P (node_view graph.now.tree) s.values.items s.verdicts.items s.flagged) }
+    ensures sound { IfOk result (λ s. HoldsInTree D.meaning globals.now (node_view graph.now.tree) s.values.items s.verdicts.items) }
+    ensures wide { IfOk result (λ s. PointsHave (map site_view graph.now.sites.items) (node_view graph.now.tree) (length globals.now) → AreWide D.meaning (map site_view graph.now.sites.items) s.values.items) }
     ensures points { IfOk result (λ s. length s.values.items ≡ length graph.now.sites.items) }
     ensures assertions { IfOk result (λ s. map (λ v. v.0) s.verdicts.items ≡ map (λ a. a.0) (assertions_from 0 (map site_view graph.now.sites.items))) }
 {

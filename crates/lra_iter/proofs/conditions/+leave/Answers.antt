@@ -1,6 +1,7 @@
-use Rattle.std.proofs.Common.{rules, ◌≡◌, ◌∷◌, refl, sym, ◌∙◌, map}
+use Rattle.std.proofs.Common.{rules, ◌≡◌, ◌∷◌, map}
 use Rattle.lra_tree.specs.ProgramViews.{cond_view}
 use Rattle.lra_iter.proofs.CondSteps.{all_view, any_view, all_true, any_false, all_false, any_true}
+use Rattle.lra_iter.proofs.SideSteps.{either_step}
 use Rattle.lra_iter.proofs.conditions.+leave.Goals as goal
 
 pub leave-returns-in_ok-exactness-in-All-clause-leaves : goal.leave-returns-in_ok-exactness-in-All-clause-leaves
@@ -32,19 +33,6 @@ leave_in_turn-returns-clause-leaves g t c =
 pub leave_either-returns-clause-leaves : goal.leave_either-returns-clause-leaves
 leave_either-returns-clause-leaves g t c =
     let rest : c.args.rest.now ≡ c.in-Some.next.now ∷ c.in-Some.later.now = search rules in
-    let one = rw c.in_ok-left.ensures at c.in_ok-one.ensures.leaves in
-    let one_dims = rw c.in_ok-left.ensures at c.in_ok-one.ensures.dims in
-    let two = rw c.in_ok-off.ensures.dims at c.in_ok-two.ensures.leaves in
-    rw rest (
-      (c.leave-2.new.value, c.in_ok-one.one),
-      (c.leave-3.new.value, c.in_ok-off.off),
-      (c.leave_either.new.value, c.in_ok-two.two),
-      one,
-      c.in_ok-off.ensures.leaves,
-      two,
-      (
-        c.in_ok-joined.joined,
-        (c.in_ok-joined.ensures.joins, c.in_ok-two.ensures.dims ∙ c.in_ok-off.ensures.dims ∙ sym one_dims, c.in_ok-joined.ensures.dims),
-        rw (c.worse_of-2.ensures, c.worse_of.ensures) refl,
-      ),
-    )
+    let sides = rw c.in_ok-copied.ensures at c.in_ok-sides.ensures in
+    rw rest (either_step g.D.Domain.meaning c.args.base c.args.wanted (cond_view c.args.first.now) (cond_view c.in-Some.next.now) (map cond_view c.in-Some.later.now) (record { value = c.args.value.now; exactness = c.args.before }) c.in_ok-sides.sides
+    (record { value = c.leave_either.new.value; exactness = c.in_ok-two.two }) c.in_ok-joined.joined sides c.in_ok-two.ensures.leaves c.in_ok-joined.ensures)

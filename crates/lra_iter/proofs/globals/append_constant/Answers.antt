@@ -1,6 +1,4 @@
-use Rattle.std.proofs.Common.{rules, ◌≡◌, ◌+◌, arith, ◌∙◌, sym}
-use Rattle.lra_tree.specs.Linear.{constant_form}
-use Rattle.lra_iter.specs.Forms.{as_linear}
+use Rattle.std.proofs.Common.{◌+◌, arith}
 use Rattle.lra_iter.proofs.GlobalSteps.{constant_wide, appended}
 use Rattle.lra_iter.proofs.globals.append_constant.Goals as goal
 

@@ -1,6 +1,7 @@
 use Rattle.std.proofs.Common.{rules, ◌≡◌, ◌≤◌, ◌-◌, ◌^◌, suc, [], refl, sym, ap, ◌∙◌, arith}
 use Rattle.std.specs.List.{insert}
-use Rattle.lra_domain.specs.Meaning.{Stays, Grew}
+use Rattle.lra_domain.specs.declared.Included.TheVariants.{Yes}
+use Rattle.lra_domain.specs.Meaning.{Grew}
 use Rattle.lra_tree.specs.ProgramViews.{cond_view}
 use Rattle.lra_tree.specs.GraphViews.{node_view, exit_view}
 use Rattle.lra_tree.specs.Graph as graph
@@ -63,7 +64,7 @@ grow-grow-requires g t c = sym (c.in_ok-outcome.ensures.dims ∙ c.in_ok-value.e
 pub grow-returns-in-Stable-clause-grows : goal.grow-returns-in-Stable-clause-grows
 grow-returns-in-Stable-clause-grows g t c =
     let m = g.D.Domain.meaning in
-    let stays : Stays m c.head.head c.in_ok-outcome.outcome.normal (mode_at c.args.settings.now.limited c.head.left) = rw (← c.mode_of.ensures) (c.in_ok-grow.ensures.stays c.in-Stable.is) in
+    let stays : m.answers c.head.head c.in_ok-outcome.outcome.normal (mode_at c.args.settings.now.limited c.head.left) Yes = rw (← c.mode_of.ensures) (c.in_ok-grow.ensures.stays c.in-Stable.is) in
     let round = rw c.note-so_far_here.ensures at c.in_ok-outcome.ensures.round in
     grow_stable m c.args.settings.now c.args.point c.args.base (cond_view c.args.condition.now) (node_view c.args.body.now) c.args.first.now c.args.flag c.head.left c.head.so_far c.head.head
     c.in_ok-value.value c.in_ok-value.exactness (seen c.in_ok-outcome.outcome) c.head.invariant c.in_ok-value.ensures.values c.in_ok-value.ensures.dims round stays
@@ -151,65 +152,41 @@ pass_loop-returns-clause-jumps g t c =
 pub pass_choice-pass-requires : goal.pass_choice-pass-requires
 pass_choice-pass-requires g t c =
     let m = g.D.Domain.meaning in
-    let same : m.dims c.leave.new.value ≡ m.dims c.args.value = c.in_ok-one.ensures.dims ∙ ap m.dims c.in_ok-on.ensures in
-    let few : m.dims c.leave.new.value ≤ 2 ^ 30 = rw same c.requires.few in
-    let fits : TreeFits (node_view c.args.yes.now) (m.dims c.leave.new.value) = rw same c.requires.fits.0 in
+    let same : m.dims c.in_ok-sides.sides.on.value ≡ m.dims c.args.value = c.in_ok-sides.ensures.on_dims in
+    let few : m.dims c.in_ok-sides.sides.on.value ≤ 2 ^ 30 = rw same c.requires.few in
+    let fits : TreeFits (node_view c.args.yes.now) (m.dims c.in_ok-sides.sides.on.value) = rw same c.requires.fits.0 in
     search rules
 
 pub pass_choice-pass-requires-2 : goal.pass_choice-pass-requires-2
 pass_choice-pass-requires-2 g t c =
     let m = g.D.Domain.meaning in
-    let same : m.dims c.leave-2.new.value ≡ m.dims c.args.value = c.in_ok-two.ensures.dims in
-    let few : m.dims c.leave-2.new.value ≤ 2 ^ 30 = rw same c.requires.few in
-    let fits : TreeFits (node_view c.args.no.now) (m.dims c.leave-2.new.value) = rw same c.requires.fits.1 in
+    let same : m.dims c.in_ok-sides.sides.off.value ≡ m.dims c.args.value = c.in_ok-sides.ensures.off_dims in
+    let few : m.dims c.in_ok-sides.sides.off.value ≤ 2 ^ 30 = rw same c.requires.few in
+    let fits : TreeFits (node_view c.args.no.now) (m.dims c.in_ok-sides.sides.off.value) = rw same c.requires.fits.1 in
     search rules
 
-pub pass_choice-join-requires : goal.pass_choice-join-requires
-pass_choice-join-requires g t c =
-    let m = g.D.Domain.meaning in
-    let on : m.dims c.leave.new.value ≡ m.dims c.args.value = c.in_ok-one.ensures.dims ∙ ap m.dims c.in_ok-on.ensures in
-    ap m.dims c.in_ok-normal.ensures ∙ c.in_ok-first.ensures.dims ∙ ap (live_behind (node_view c.args.yes.now)) on ∙ sym c.requires.fits.2 ∙ ap (live_behind (node_view c.args.no.now)) (sym c.in_ok-two.ensures.dims) ∙ sym c.in_ok-second.ensures.dims
+pub pass_choice-meet_again-requires : goal.pass_choice-meet_again-requires
+pass_choice-meet_again-requires g t c =
+    c.in_ok-first.ensures.dims ∙ ap (live_behind (node_view c.args.yes.now)) c.in_ok-sides.ensures.on_dims ∙ sym c.requires.fits.2 ∙ ap (live_behind (node_view c.args.no.now)) (sym c.in_ok-sides.ensures.off_dims) ∙ sym c.in_ok-second.ensures.dims
 
 pub pass_choice-returns-clause-pass : goal.pass_choice-returns-clause-pass
 pass_choice-returns-clause-pass g t c =
-    let m = g.D.Domain.meaning in
-    let on : m.dims c.leave.new.value ≡ m.dims c.args.value = c.in_ok-one.ensures.dims ∙ ap m.dims c.in_ok-on.ensures in
-    let alike : m.dims c.in_ok-second.second.normal ≡ m.dims c.in_ok-first.first.normal =
-    sym (c.in_ok-first.ensures.dims ∙ ap (live_behind (node_view c.args.yes.now)) on ∙ sym c.requires.fits.2 ∙ ap (live_behind (node_view c.args.no.now)) (sym c.in_ok-two.ensures.dims) ∙ sym c.in_ok-second.ensures.dims) in
-    let leaves = rw c.in_ok-on.ensures at c.in_ok-one.ensures.leaves in
     let yes = rw c.note-on_flag.ensures at c.in_ok-first.ensures.pass in
     let no = rw c.note-off_flag.ensures at c.in_ok-second.ensures.pass in
-    let joins = rw c.in_ok-normal.ensures at c.in_ok-joined.ensures.joins in
-    let both = rw c.note-flag.ensures at c.in_ok-both.ensures in (
-      c.leave.new.value,
-      c.leave-2.new.value,
-      c.join.new.self,
-      c.in_ok-one.one,
-      c.in_ok-two.two,
-      c.in_ok-joined.joined,
-      seen c.in_ok-first.first,
-      seen c.in_ok-second.second,
-      leaves,
-      yes,
-      c.in_ok-two.ensures.leaves,
-      no,
-      (joins, alike, c.in_ok-joined.ensures.dims ∙ ap m.dims c.in_ok-normal.ensures),
-      both,
-    )
+    let sides = c.in_ok-sides.sides in
+    let met = c.in_ok-both.ensures.joined in
+    (sides.on.value, sides.off.value, met.0, sides.on.exactness, sides.off.exactness, met.1, seen c.in_ok-first.first, seen c.in_ok-second.second, c.in_ok-sides.ensures.on, yes, c.in_ok-sides.ensures.off, no, met.2, met.3)
 
 pub pass_choice-returns-clause-dims : goal.pass_choice-returns-clause-dims
-pass_choice-returns-clause-dims g t c =
-    let m = g.D.Domain.meaning in
-    let on : m.dims c.leave.new.value ≡ m.dims c.args.value = c.in_ok-one.ensures.dims ∙ ap m.dims c.in_ok-on.ensures in
-    ap (λ (r : Result _). m.dims r.normal) c.in_ok-both.ensures ∙ c.in_ok-joined.ensures.dims ∙ ap m.dims c.in_ok-normal.ensures ∙ c.in_ok-first.ensures.dims ∙ ap (live_behind (node_view c.args.yes.now)) on
+pass_choice-returns-clause-dims g t c = c.in_ok-both.ensures.dims ∙ c.in_ok-first.ensures.dims ∙ ap (live_behind (node_view c.args.yes.now)) c.in_ok-sides.ensures.on_dims
 
 pub pass_choice-returns-clause-jumps : goal.pass_choice-returns-clause-jumps
 pass_choice-returns-clause-jumps g t c =
     let m = g.D.Domain.meaning in
-    let on : m.dims c.leave.new.value ≡ m.dims c.args.value = c.in_ok-one.ensures.dims ∙ ap m.dims c.in_ok-on.ensures in
-    let yes = rw on at c.in_ok-first.ensures.jumps in
-    let no = rw c.in_ok-two.ensures.dims at c.in_ok-second.ensures.jumps in
-    choose_fits m c.args.point c.args.base (cond_view c.args.condition.now) (node_view c.args.yes.now) (node_view c.args.no.now) (m.dims c.args.value) (seen c.in_ok-first.first) (seen c.in_ok-second.second) _ _ _ c.in_ok-both.ensures yes no
+    let yes = rw c.in_ok-sides.ensures.on_dims at c.in_ok-first.ensures.jumps in
+    let no = rw c.in_ok-sides.ensures.off_dims at c.in_ok-second.ensures.jumps in
+    let met = c.in_ok-both.ensures.joined in
+    choose_fits m c.args.point c.args.base (cond_view c.args.condition.now) (node_view c.args.yes.now) (node_view c.args.no.now) (m.dims c.args.value) (seen c.in_ok-first.first) (seen c.in_ok-second.second) (seen c.in_ok-both.both) met.0 (noted c.args.point met.1 (seen c.in_ok-second.second).flag) met.3 yes no
 
 pub pass-change-requires-clause-fits : goal.pass-change-requires-clause-fits
 pass-change-requires-clause-fits g t c = rw (c.in-Act.is, act_view c.in-Act.point c.in-Act.op) at c.requires.fits
@@ -363,7 +340,7 @@ pass-returns-in_ok-outcome-in-Catch-clause-jumps g t c =
     (seen c.in_ok-inner-in-Catch.inner) (seen c.in_ok-outcome-in-Catch.outcome) jumps c.in_ok-outcome-in-Catch.ensures.caught)
 
 pub pass-empty-requires : goal.pass-empty-requires
-pass-empty-requires g t c = rw (c.in-Leave.is, leave_view c.in-Leave.live c.in-Leave.exit) at c.requires.fits
+pass-empty-requires g t c = record { few = rw (c.in-Leave.is, leave_view c.in-Leave.live c.in-Leave.exit) at c.requires.fits; cap = c.requires.parts }
 
 pub pass-returns-in_ok-outcome-in-Leave-clause-pass : goal.pass-returns-in_ok-outcome-in-Leave-clause-pass
 pass-returns-in_ok-outcome-in-Leave-clause-pass g t c = rw (c.in-Leave.is, leave_view c.in-Leave.live c.in-Leave.exit) (c.in_ok-nothing-in-Leave.nothing, c.in_ok-nothing-in-Leave.ensures.defined, c.in_ok-outcome-in-Leave.ensures)

@@ -1,9 +1,11 @@
-use Rattle.std.proofs.Common.{◌≡◌, map}
+use Rattle.std.proofs.Common.{◌≡◌, length, map, arith}
 use Rattle.lra_tree.specs.GraphViews.{node_view, site_view}
 use Rattle.lra_flow.specs.Operations.{dropping}
 use Rattle.lra_iter.specs.Outcome.{seen}
 use Rattle.lra_iter.proofs.Counting.{pass_counted}
 use Rattle.lra_iter.proofs.Solving.{solved, derived_from}
+use Rattle.lra_iter.proofs.Covering.{begun_covers, covered_holds}
+use Rattle.lra_iter.proofs.Widths.{found_wide}
 use Rattle.lra_iter.proofs.solution.analyse.Goals as goal
 
 pub solution_of-requires : goal.solution_of-requires
@@ -21,4 +23,29 @@ returns-clause-solved g c P same =
     let done = rw c.in_ok-value.ensures.dims at c.in_ok-exactness.ensures.appends in
     let pass = rw c.note.ensures at c.in_ok-outcome.ensures.pass in
     let derived = derived_from m c.args.settings.now P (node_view graph.tree) c.args.globals.now c.in_ok-value.value c.append_globals.new.value c.in_ok-exactness.exactness result same c.in_ok-value.ensures.defined done pass in
-    solved m c.args.settings.now P (node_view graph.tree) result solution.values.items solution.verdicts.items solution.flagged derived c.in_ok-solution.ensures.solves
+    solved m g.met.D.Domain.laws c.args.settings.now P (node_view graph.tree) result solution.values.items solution.verdicts.items solution.flagged derived c.in_ok-solution.ensures.solves
+
+pub returns-clause-sound : goal.returns-clause-sound
+returns-clause-sound g c =
+    let m = g.D.Domain.meaning in
+    let graph = c.args.graph.now in
+    let result = seen c.in_ok-outcome.outcome in
+    let solution = c.in_ok-solution.solution in
+    let done = rw c.in_ok-value.ensures.dims at c.in_ok-exactness.ensures.appends in
+    let pass = rw c.note.ensures at c.in_ok-outcome.ensures.pass in
+    let counted = pass_counted (dropping m) (map site_view graph.sites.items) c.args.settings.now (node_view graph.tree) c.note.result c.append_globals.new.value result c.requires.numbered c.in_ok-outcome.ensures.pass in
+    covered_holds m g.met.D.Domain.laws c.args.globals.now (node_view graph.tree) result (map site_view graph.sites.items) solution.values.items solution.verdicts.items solution.flagged
+    (begun_covers m g.met.D.Domain.laws c.args.settings.now c.args.globals.now (node_view graph.tree) c.in_ok-value.value c.append_globals.new.value c.in_ok-exactness.exactness result c.in_ok-value.ensures.defined done pass)
+    counted c.in_ok-solution.ensures.solves
+
+pub returns-clause-wide : goal.returns-clause-wide
+returns-clause-wide g c lives =
+    let m = g.D.Domain.meaning in
+    let graph = c.args.graph.now in
+    let solution = c.in_ok-solution.solution in
+    let begins : m.dims c.append_globals.new.value ≡ length c.args.globals.now =
+    let one = c.in_ok-exactness.ensures.dims in
+    let whole = c.in_ok-value.ensures.dims in
+    omega (arith, one, whole) in
+    found_wide m g.met.D.Domain.laws (map site_view graph.sites.items) c.args.settings.now (node_view graph.tree) c.note.result c.append_globals.new.value (seen c.in_ok-outcome.outcome) (length c.args.globals.now)
+    solution.values.items solution.verdicts.items solution.flagged c.in_ok-outcome.ensures.pass begins c.in_ok-solution.ensures.solves lives

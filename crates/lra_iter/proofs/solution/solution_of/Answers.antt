@@ -1,4 +1,4 @@
-use Rattle.std.proofs.Common.{◌≡◌, map, length, refl, sym}
+use Rattle.std.proofs.Common.{map, length, refl, sym}
 use Rattle.std.proofs.lemmas.List.{length-map}
 use Rattle.lra_tree.specs.GraphViews.{site_view}
 use Rattle.lra_iter.specs.Outcome.{entry_view, seen}

@@ -1,4 +1,4 @@
-use Rattle.std.proofs.Common.{◌≡◌, ◌∷◌, [], ◌++◌, ◌+◌, List, ap, ◌∙◌}
+use Rattle.std.proofs.Common.{ap, ◌∙◌}
 use Rattle.std.proofs.Common.{Vec, Global, ℕ, Bool}
 use Rattle.lra_iter.proofs.Filling.{place_some, place_none}
 use Rattle.lra_iter.proofs.tables.numbered_in.Goals as goal

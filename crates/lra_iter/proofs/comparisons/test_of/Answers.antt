@@ -1,7 +1,7 @@
 use Rattle.lra_tree.specs.Linear.{opposite_less_one, opposite_form}
 use Rattle.lra_iter.specs.Forms.{as_linear}
 use Rattle.lra_iter.proofs.CondSteps.{answer_is}
-use Rattle.lra_iter.proofs.conditions.test_of.Goals as goal
+use Rattle.lra_iter.proofs.comparisons.test_of.Goals as goal
 
 pub returns-in_ok-form-in-Below : goal.returns-in_ok-form-in-Below
 returns-in_ok-form-in-Below c =

@@ -2,7 +2,7 @@ use Rattle.std.proofs.Common.{rules, ◌≡◌, pos, length}
 use Rattle.lra_tree.specs.Linear.{constant_form}
 use Rattle.lra_iter.specs.Forms.{as_linear}
 use Rattle.lra_iter.proofs.CondSteps.{less_one_is}
-use Rattle.lra_iter.proofs.conditions.less_one_of.Goals as goal
+use Rattle.lra_iter.proofs.comparisons.less_one_of.Goals as goal
 
 pub returns : goal.returns
 returns c =

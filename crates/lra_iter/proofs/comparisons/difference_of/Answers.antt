@@ -1,6 +1,6 @@
 use Rattle.lra_tree.specs.ProgramViews.{expr_view}
 use Rattle.lra_iter.proofs.CondSteps.{difference_is}
-use Rattle.lra_iter.proofs.conditions.difference_of.Goals as goal
+use Rattle.lra_iter.proofs.comparisons.difference_of.Goals as goal
 
 pub returns : goal.returns
 returns c =

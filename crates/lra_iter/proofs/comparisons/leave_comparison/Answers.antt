@@ -4,7 +4,7 @@ use Rattle.lra_tree.specs.Linear.{difference_form}
 use Rattle.lra_iter.specs.Forms.{as_linear, IsForm}
 use Rattle.lra_iter.proofs.CondSteps.{difference_wide, difference_there, compares_by_test}
 use Rattle.lra_iter.proofs.FormSteps.{some_only}
-use Rattle.lra_iter.proofs.conditions.leave_comparison.Goals as goal
+use Rattle.lra_iter.proofs.comparisons.leave_comparison.Goals as goal
 
 pub leave_differs-requires-clause-width : goal.leave_differs-requires-clause-width
 leave_differs-requires-clause-width g c =

@@ -1,5 +1,5 @@
 use Rattle.std.proofs.Common.{refl, sym, ◌∙◌}
-use Rattle.lra_iter.proofs.conditions.leave_differs.Goals as goal
+use Rattle.lra_iter.proofs.comparisons.leave_differs.Goals as goal
 
 pub returns-clause-leaves : goal.returns-clause-leaves
 returns-clause-leaves g c =
