@@ -1,0 +1,16 @@
+-- Lists of truth values.
+use Rattle.std.specs.Prelude.{◌≡◌, ℕ, Bool, true, false, ◌&&◌, List, [], ◌∷◌, slice_index_or}
+
+-- the truth value at a place, false past the end
+abbrev pub value_at : List Bool → ℕ → Bool
+value_at values k = slice_index_or values k false
+
+-- where a value of the first list is true, that of the second is
+abbrev pub IsSubset : List Bool → List Bool → Type 0
+IsSubset xs ys = (k : ℕ) → value_at xs k ≡ true → value_at ys k ≡ true
+
+-- true where both are
+abbrev pub both : List Bool → List Bool → List Bool
+both [] ys = []
+both (x ∷ xs) [] = []
+both (x ∷ xs) (y ∷ ys) = (x && y) ∷ both xs ys

@@ -1,0 +1,91 @@
+//! Lists of truth values as words.
+
+ghost use Rattle.std.specs.Prelude.{◌≡◌, ℕ, ◌<◌, ◌≤◌, ◌↔◌, Bool, true, false, List, length, replicate, slice_set, IfOk, IsTrue};
+ghost use Rattle.lra_bits.specs.TruthValues.{value_at, IsSubset, both};
+ghost use Rattle.lra_bits.specs.Words.{bit_of, unpacked, words_needed, ArePacked};
+
+use crate::words;
+use std::alloc::{AllocError, Global};
+use std::marker::Model;
+
+const WORD: usize = 64;
+
+/// A list of truth values, packed into words of 64 bits.
+#[derive(Drop)]
+pub struct BitRow {
+    width: usize,
+    words: Vec<u64>,
+}
+
+impl Model for BitRow {
+    ghost Value = { List Bool };
+
+    ghost view = { λ r. unpacked r.width r.words.items };
+
+    ghost invariant = { λ r. (length r.words.items ≡ words_needed r.width) × ((k : ℕ) → r.width ≤ k → bit_of r.words.items k ≡ false) };
+}
+
+impl BitRow {
+    /// So many truth values, all false.
+    pub fn new(alloc: Global, width: usize) -> Result<BitRow, AllocError>
+        ensures { IfOk result (λ row. row ≡ replicate width false) }
+    {
+        let words = vec![in alloc; 0u64; width.div_ceil(WORD)]?;
+        Ok(BitRow { width, words })
+    }
+
+    /// The number of truth values.
+    pub fn width(&self) -> usize
+        ensures { result ≡ length self.now }
+    {
+        self.width
+    }
+
+    /// The words: truth value `k` is bit `k % 64` of word `k / 64`, and the bits that are not used are 0.
+    pub fn words(&self) -> &[u64]
+        ensures { ArePacked self.now result.now }
+    {
+        self.words.as_slice()
+    }
+
+    /// The truth value at a place.
+    pub fn get(&self, k: usize) -> bool
+        requires { k < length self.now }
+        ensures { result ≡ value_at self.now k }
+    {
+        (self.words[k / WORD] >> (k % WORD)) & 1 == 1
+    }
+
+    /// Puts a truth value at a place.
+    pub fn set(&mut self, k: usize, v: bool)
+        requires { k < length self.old }
+        ensures { self.new ≡ slice_set self.old k v }
+    {
+        let bit = 1u64 << (k % WORD);
+        if v {
+            self.words[k / WORD] |= bit;
+        } else {
+            self.words[k / WORD] &= !bit;
+        }
+    }
+
+    /// Each value that is true is true in the other list too.
+    pub fn subset(&self, other: &BitRow) -> bool
+        requires { length self.now ≡ length other.now }
+        ensures { IsTrue result ↔ IsSubset self.now other.now }
+    {
+        words::are_within(&self.words, &other.words)
+    }
+
+    /// The list that is true where both are.
+    pub fn common(&self, other: &BitRow) -> Result<BitRow, AllocError>
+        requires { length self.now ≡ length other.now }
+        ensures { IfOk result (λ row. row ≡ both self.now other.now) }
+    {
+        let words = words::common(*self.words.allocator(), &self.words, &other.words)?;
+        Ok(BitRow {
+            width: self.width,
+            words,
+        })
+    }
+}

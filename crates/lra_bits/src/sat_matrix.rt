@@ -1,0 +1,85 @@
+//! Matrices of truth values, which say which rows are tight at which vectors.
+
+ghost use Rattle.std.specs.Prelude.{◌≡◌, ◌<◌, ◌++◌, ◌∷◌, [], length, OnOk, OnErr, slice_index_or};
+ghost use Rattle.std.specs.List.{All};
+ghost use Rattle.lra_bits.specs.Matrix.{Matrix, unmarked};
+
+use crate::bit_row::BitRow;
+use std::alloc::{AllocError, Global};
+use std::marker::Model;
+
+/// Rows of truth values, all of one width.
+#[derive(Drop)]
+pub struct SatMatrix {
+    width: usize,
+    rows: Vec<BitRow>,
+}
+
+impl Model for SatMatrix {
+    ghost Value = { Matrix };
+
+    ghost view = { λ m. record { width = m.width; rows = m.rows.items } };
+
+    ghost invariant = { λ m. All (λ r. length r ≡ m.width) m.rows.items };
+}
+
+impl SatMatrix {
+    /// A matrix of no rows.
+    pub fn new(alloc: Global, width: usize) -> SatMatrix
+        ensures { result ≡ record { width = width; rows = [] } }
+    {
+        SatMatrix {
+            width,
+            rows: Vec::new(alloc),
+        }
+    }
+
+    /// The number of columns.
+    pub fn width(&self) -> usize
+        ensures width { result ≡ self.now.width }
+        ensures equal { All (λ r. length r ≡ self.now.width) self.now.rows }
+    {
+        self.width
+    }
+
+    /// The number of rows.
+    pub fn height(&self) -> usize
+        ensures { result ≡ length self.now.rows }
+    {
+        self.rows.len()
+    }
+
+    /// The row at a place.
+    pub fn row(&self, i: usize) -> &BitRow
+        requires { i < length self.now.rows }
+        ensures row { result.now ≡ slice_index_or self.now.rows i [] }
+        ensures width { length result.now ≡ self.now.width }
+    {
+        &self.rows[i]
+    }
+
+    /// Puts a row behind the others.
+    pub fn add_row(&mut self, row: BitRow) -> Result<(), AllocError>
+        requires { length row ≡ self.old.width }
+        ensures added { OnOk result (self.new ≡ record self.old { rows = self.old.rows ++ row ∷ [] }) }
+        ensures unchanged { OnErr result (self.new ≡ self.old) }
+    {
+        self.rows.push(row)?;
+        Ok(())
+    }
+
+    /// Takes out the rows that are marked as gone; the others keep their order.
+    pub fn remove_rows(&mut self, gone: &BitRow)
+        requires { length gone.now ≡ length self.old.rows }
+        ensures { self.new ≡ record self.old { rows = unmarked gone.now self.old.rows } }
+    {
+        let mut kept = 0;
+        for k in 0..self.rows.len() {
+            if !gone.get(k) {
+                self.rows.swap(kept, k);
+                kept += 1;
+            }
+        }
+        self.rows.truncate(kept);
+    }
+}

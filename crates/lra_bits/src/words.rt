@@ -1,0 +1,28 @@
+//! Two lists of words, word by word.
+
+ghost use Rattle.std.specs.Prelude.{◌≡◌, ◌<◌, ◌^◌, ◌↔◌, length, IfOk, IsTrue};
+ghost use Rattle.std.specs.List.{All};
+ghost use Rattle.lra_bits.specs.Words.{common_words, AreWithin};
+
+use std::alloc::{AllocError, Global};
+
+// The bits that are set in both.
+pub fn common(alloc: Global, xs: &[u64], ys: &[u64]) -> Result<Vec<u64>, AllocError>
+    requires { length xs.now ≡ length ys.now }
+    ensures { IfOk result (λ words. words.items ≡ common_words xs.now ys.now) }
+{
+    let mut words = Vec::with_capacity(alloc, xs.len())?;
+    for (x, y) in xs.iter().zip(ys) {
+        words.push(x & y)?;
+    }
+    Ok(words)
+}
+
+// Each bit that is set in the first is set in the second.
+pub fn are_within(xs: &[u64], ys: &[u64]) -> bool
+    requires { length xs.now ≡ length ys.now }
+    ensures within { IsTrue result ↔ AreWithin xs.now ys.now }
+    ensures fit { All (λ x. x < 2 ^ 64) xs.now }
+{
+    xs.iter().zip(ys).all(|(x, y)| x & y == *x)
+}
