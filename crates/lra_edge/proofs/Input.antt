@@ -18,6 +18,10 @@ piece_lost a b c xs ys limit (Err Failed) is before piece within = cc
 piece_lost a b c xs ys limit (Err Memory) is before piece within =
     (xs ++ ys, Consumes-trans a b c xs ys before piece, rw length-append within)
 
+-- a piece that was read stands behind the bytes before it
+pub piece_taken : (a b c : Option (List ℕ)) (xs ys bytes : List ℕ) → Consumes a b xs → Consumes b c ys → bytes ≡ xs ++ ys → Consumes a c bytes
+piece_taken a b c xs ys bytes before piece is = rw is (Consumes-trans a b c xs ys before piece)
+
 -- a piece that a read put into the room below the limit ends below the limit
 pub piece_within : (held limit count room : ℕ) (into chunk : List ℕ) → held ≤ limit → count ≤ length into
     → length into ≡ length (take room chunk) → room ≤ limit + 1 - held → held + length (take count into) ≤ limit + 1

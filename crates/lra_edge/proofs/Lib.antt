@@ -1,4 +1,5 @@
 pub mod Bytes
+pub mod CallSteps
 pub mod CausesExamples
 pub mod Input
 pub mod MemoryExamples

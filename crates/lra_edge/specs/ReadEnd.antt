@@ -2,6 +2,7 @@
 use Rattle.std.specs.Prelude.{◌≡◌, ◌≤◌, ◌+◌, ℕ, List, length, Option, Result, Ok, Err, Vec}
 use Rattle.std.specs.Io.KnownBytes.{Consumes, IsAtEnd}
 use Rattle.std.specs.declared.alloc.Global.{Global}
+use Rattle.lra_edge.specs.Calls.{Calls, StopsAtFault}
 use Rattle.lra_edge.specs.Causes.{Rose}
 use Rattle.lra_edge.specs.declared.whole.ReadEnd.{ReadEnd}
 use Rattle.lra_edge.specs.declared.whole.ReadEnd.TheVariants.{TooLong, Failed, Memory}
@@ -34,3 +35,10 @@ ReadCause before now (Ok bytes) = now ≡ before
 ReadCause before now (Err (TooLong bytes)) = now ≡ before
 ReadCause before now (Err Failed) = Rose before now
 ReadCause before now (Err Memory) = now ≡ before
+
+-- the reads that were made: a read that failed was the last one, and every other answer comes of reads that succeeded
+abbrev pub ReadCalls : {S : Type 0} → (S → S → Type 0) → (S → S → Type 0) → S → S → Result (Vec ℕ Global) ReadEnd → Type 0
+ReadCalls succeeds fails old new (Ok bytes) = Calls succeeds old new
+ReadCalls succeeds fails old new (Err (TooLong bytes)) = Calls succeeds old new
+ReadCalls succeeds fails old new (Err Failed) = StopsAtFault succeeds fails old new
+ReadCalls succeeds fails old new (Err Memory) = Calls succeeds old new

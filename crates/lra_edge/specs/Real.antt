@@ -11,3 +11,10 @@ pub record Counted (D : Type 0) : Type 0 where
 abbrev pub CountsFault : {T E : Type 0} → ℕ → ℕ → Result T E → Type 0
 CountsFault before now (Ok _) = now ≡ before
 CountsFault before now (Err _) = now ≡ next_count before
+
+-- the contents before and after a call that succeeds, and those of one that fails
+abbrev pub GoesOn : {D : Type 0} → Counted D → Counted D → Type 0
+GoesOn old new = new.faults ≡ old.faults
+
+abbrev pub Stops : {D : Type 0} → Counted D → Counted D → Type 0
+Stops old new = new.faults ≡ next_count old.faults

@@ -1,6 +1,6 @@
 // The whole input, up to a limit.
 ghost use Rattle.std.specs.Prelude.{◌≡◌, ◌+◌, ◌^◌, ◌<◌};
-ghost use Rattle.lra_edge.specs.ReadEnd.{ReadsWhole, ReadCause};
+ghost use Rattle.lra_edge.specs.ReadEnd.{ReadsWhole, ReadCause, ReadCalls};
 ghost use Rattle.lra_edge.specs.declared.whole.ReadEnd.TheVariants.{Memory};
 
 use crate::{Failed, Source};
@@ -27,7 +27,8 @@ impl From<AllocError> for ReadEnd {
     }
 }
 
-/// Reads to the end of the input, or one byte past the limit. A read that fails ends it at once.
+/// Reads to the end of the input, or one byte past the limit. A read that fails ends it at once: no read comes after it.
+#[tactic(auto, using(crate::proofs::CallSteps::calling))]
 pub fn read_whole<S: Source>(
     alloc: Global,
     source: &mut S,
@@ -36,6 +37,7 @@ pub fn read_whole<S: Source>(
     requires { limit + 1 < 2 ^ 64 }
     ensures whole { ReadsWhole (S.left source.old) (S.left source.new) limit result }
     ensures cause { ReadCause (S.faults source.old) (S.faults source.new) result }
+    ensures calls { ReadCalls S.succeeds S.fails source.old source.new result }
 {
     let mut bytes = Vec::new(alloc);
     let mut chunk = [0; 4096];

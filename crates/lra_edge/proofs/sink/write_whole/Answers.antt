@@ -1,0 +1,7 @@
+use Rattle.std.proofs.Common.{arith, refl}
+use Rattle.std.proofs.KnownBytes.{Appends-nil}
+use Rattle.lra_edge.specs.Calls.{none}
+use Rattle.lra_edge.proofs.sink.write_whole.Goals as goal
+
+pub loop-done-init : goal.loop-done-init
+loop-done-init g c = (omega arith, Appends-nil _, refl, none, omega arith)
