@@ -1,23 +1,10 @@
 -- When a condition is an expression alone.
-use Rattle.std.proofs.Common.{rules, ◌≡◌, ℕ, Bool, true, false, List, [], ◌∷◌, length, map, Option, Some, None, ◌==◌, eq-eqb, refl, sym, ap, subst, ◌∙◌, vec_len, arith, Box, Global, Vec}
+use Rattle.std.proofs.Common.{◌≡◌, ◌≢◌, ℕ, Bool, true, false, List, [], ◌∷◌, length, map, Option, Some, None, ◌==◌, eq-eqb, refl, sym, ap, ◌∙◌, vec_len, arith, Global, Vec}
 use Rattle.std.proofs.lemmas.Grind.{common_steps}
 use Rattle.std.proofs.lemmas.Bool.{eqb-true}
-use Rattle.lra_tree.specs.declared.trees.Cond.{Cond, out-Cond}
-use Rattle.lra_tree.specs.declared.trees.Conjunction.{Conjunction}
-use Rattle.lra_tree.specs.declared.trees.Test.{Test, Value, Opposite, Compare, Group}
-use Rattle.lra_tree.specs.declared.trees.Comparison.{Comparison}
-use Rattle.lra_tree.specs.declared.trees.Negation.{Negation, the_lemmas}
-use Rattle.lra_tree.specs.declared.trees.Expr.{Expr}
 use Rattle.lra_tree.specs.Trees.{ExprTree, TestTree, value, opposite, compare, group_of, test, ConjunctionTree, and, CondTree, conjunction, or}
-use Rattle.lra_tree.specs.Views.{all_tests, any_conjunction, expr_view, comparison_view, test_view, negation_view, conjunction_view, cond_view}
+use Rattle.lra_tree.specs.Views.{all_tests, any_conjunction}
 use Rattle.lra_parse.specs.Expressions.{alone}
-
--- a condition by its parts
-abbrev pub Parts : Cond → CondTree
-Parts c = any_conjunction (conjunction (all_tests (test (test_view (out-Cond c).first.first)) (map test_view (out-Cond c).first.rest.items))) (map conjunction_view (out-Cond c).rest.items)
-
-pub view_open : (c : Cond) → cond_view c ≡ Parts c
-view_open c = search (rules, the_lemmas)
 
 or_none : (c : CondTree) (d : ConjunctionTree) (cs : List ConjunctionTree) → alone (any_conjunction (or c d) cs) ≡ None
 or_none c d [] = refl
@@ -54,41 +41,37 @@ full_is v b e off h =
     let both : true ≡ false = sym on ∙ sym e ∙ off in
     cc
 
-map_full : {X Y : Type 0} (f : X → Y) (xs : List X) → (xs ≡ [] → ⊥) → map f xs ≡ [] → ⊥
+pub map_full : {X Y : Type 0} (f : X → Y) (xs : List X) → (xs ≡ [] → ⊥) → map f xs ≡ [] → ⊥
 map_full f [] h e = h refl
 map_full f (x ∷ xs) h e = cc
 
 -- what `alone` answers
-abbrev pub Answers : Cond → Cond → Type 0
-Answers r c = (cond_view r ≡ cond_view c) × (alone (cond_view c) ≡ None)
+abbrev pub Answers : CondTree → CondTree → Type 0
+Answers r c = (r ≡ c) × (alone c ≡ None)
 
-pub value_is : (e : Expr) → test_view (Value e) ≡ value (expr_view e)
-value_is e = search (rules, the_lemmas)
+other_none : (t : TestTree) → ((e : ExprTree) → t ≢ value e) → alone (conjunction (test t)) ≡ None
+other_none (opposite n) h = refl
+other_none (value e) h = absurd (h e refl)
+other_none (compare a op b) h = refl
+other_none (group_of c) h = refl
 
-pub opposite_is : (n : Negation) → test_view (Opposite n) ≡ opposite (negation_view n)
-opposite_is n = search (rules, the_lemmas)
+-- the condition is c, of a first chain k and the others ks; k is of a first test t and the others ts
+module _ (c : CondTree) (k : ConjunctionTree) (ks : List ConjunctionTree) (t : TestTree) (ts : List TestTree) (parts : c ≡ any_conjunction (conjunction k) ks) (first : k ≡ all_tests (test t) ts) where
+  whole : c ≡ any_conjunction (conjunction (all_tests (test t) ts)) ks
+  whole = parts ∙ ap (λ (j : ConjunctionTree). any_conjunction (conjunction j) ks) first
 
-pub compare_is : (a : Expr) (op : Comparison) (b : Expr) → test_view (Compare a op b) ≡ compare (expr_view a) (comparison_view op) (expr_view b)
-compare_is a op b = search (rules, the_lemmas)
+  short : ks ≡ [] → ts ≡ [] → c ≡ conjunction (test t)
+  short none one = whole ∙ ap (λ (js : List ConjunctionTree). any_conjunction (conjunction (all_tests (test t) ts)) js) none ∙ ap (λ (us : List TestTree). conjunction (all_tests (test t) us)) one
 
-pub group_is : (c : Box Cond Global) → test_view (Group c) ≡ group_of (cond_view c.value)
-group_is c = search (rules, the_lemmas)
+  pub lone_value : (e : ExprTree) → ks ≡ [] → ts ≡ [] → t ≡ value e → alone c ≡ Some e
+  lone_value e none one v = ap alone (short none one ∙ ap (λ (u : TestTree). conjunction (test u)) v)
 
-pub lone_value : (c : Cond) (e : Expr) → (out-Cond c).rest.items ≡ [] → (out-Cond c).first.rest.items ≡ [] → (out-Cond c).first.first ≡ Value e → alone (cond_view c) ≡ Some (expr_view e)
-lone_value c e r t f = rw (view_open c, r, t, f, value_is e) refl
+  pub more_conjunctions : (r : CondTree) → (ks ≡ [] → ⊥) → r ≡ any_conjunction (conjunction (all_tests (test t) ts)) ks → Answers r c
+  more_conjunctions r h e = (e ∙ sym whole, ap alone whole ∙ rest_none (all_tests (test t) ts) ks h)
 
-pub more_conjunctions : (c r : Cond) → ((out-Cond c).rest.items ≡ [] → ⊥) → cond_view r ≡ Parts c → Answers r c
-more_conjunctions c r h e = (e ∙ sym (view_open c), ap alone (view_open c) ∙ rest_none (all_tests (test (test_view (out-Cond c).first.first)) (map test_view (out-Cond c).first.rest.items)) (map conjunction_view (out-Cond c).rest.items) (map_full conjunction_view (out-Cond c).rest.items h))
+  pub more_tests : (r : CondTree) → (ts ≡ [] → ⊥) → r ≡ any_conjunction (conjunction (all_tests (test t) ts)) ks → Answers r c
+  more_tests r h e = (e ∙ sym whole, ap alone whole ∙ tests_none t ts ks h)
 
-pub more_tests : (c r : Cond) → ((out-Cond c).first.rest.items ≡ [] → ⊥) → cond_view r ≡ Parts c → Answers r c
-more_tests c r h e = (e ∙ sym (view_open c), ap alone (view_open c) ∙ tests_none (test_view (out-Cond c).first.first) (map test_view (out-Cond c).first.rest.items) (map conjunction_view (out-Cond c).rest.items) (map_full test_view (out-Cond c).first.rest.items h))
-
-abbrev pub With : Cond → TestTree → CondTree
-With c t = any_conjunction (conjunction (all_tests (test t) (map test_view (out-Cond c).first.rest.items))) (map conjunction_view (out-Cond c).rest.items)
-
-pub other_test : (c r : Cond) (t : Test) (u : TestTree) → (out-Cond c).rest.items ≡ [] → (out-Cond c).first.rest.items ≡ [] → (out-Cond c).first.first ≡ t → test_view t ≡ u → alone (conjunction (test u)) ≡ None
-    → cond_view r ≡ With c (test_view t) → Answers r c
-other_test c r t u rs ts f v n e =
-    let whole : cond_view c ≡ With c u = view_open c ∙ ap (λ (k : Test). With c (test_view k)) f ∙ ap (λ (k : TestTree). With c k) v in
-    let short : With c u ≡ conjunction (test u) = rw (rs, ts) refl in
-    (e ∙ ap (λ (k : TestTree). With c k) v ∙ sym whole, ap alone (whole ∙ short) ∙ n)
+  pub other_test : (r : CondTree) (u : TestTree) → ks ≡ [] → ts ≡ [] → u ≡ t → ((e : ExprTree) → t ≢ value e) → r ≡ any_conjunction (conjunction (all_tests (test u) ts)) ks → Answers r c
+  other_test r u none one same other e =
+      (e ∙ ap (λ (v : TestTree). any_conjunction (conjunction (all_tests (test v) ts)) ks) same ∙ sym whole, ap alone (short none one) ∙ other_none t other)

@@ -14,18 +14,6 @@ use Rattle.lra_tree.specs.declared.tokens.Mark.TheVariants as mark
 use Rattle.lra_parse.specs.Expressions.{behind}
 use Rattle.lra_parse.proofs.Exact.{test, ok_is}
 
--- `&rest[1..]`
-abbrev pub rest_of : Text → Text
-rest_of T = take (length T - 1) (drop 1 T)
-
-pub rest_is : (T : Text) → take (length T - 1) (drop 1 T) ≡ drop 1 T
-rest_is [] = refl
-rest_is (t ∷ T) = let e : length (t ∷ T) - 1 ≡ length T = omega arith in rw e (take_all (length T) T (omega arith))
-
-pub shorter_rest : (T : Text) → length (take (length T - 1) (drop 1 T)) ≤ length T
-shorter_rest [] = omega arith
-shorter_rest (k ∷ T) = rw (rest_is (k ∷ T)) (omega arith)
-
 module _ {A : Type 0} (more : Option Token → Bool) (step : A → Parse A) where
   -- the loop, from here on, gives the result
   abbrev pub Left : A → Text → Read A → Type 0
@@ -54,29 +42,29 @@ module _ {I A O : Type 0} (op : Option Token → Option O) (at_end : op None ≡
   none_some : (k : O) → op None ≡ Some k → ⊥
   none_some k e = let f : None ≡ Some k = sym at_end ∙ e in cc
 
-  pub chain_turn : (a : A) (k : O) (i : I) (T R : Text) (result : Read A) → Left More (chain_step op grow p) a T result → op (first T) ≡ Some k → p (rest_of T) ≡ Ok (i, R) → length R ≤ length (rest_of T)
+  pub chain_turn : (a : A) (k : O) (i : I) (T U R : Text) (result : Read A) → Left More (chain_step op grow p) a T result → op (first T) ≡ Some k → U ≡ tail T → p U ≡ Ok (i, R) → length R ≤ length U
       → Left More (chain_step op grow p) (grow a k i) R result
-  chain_turn a k i [] R result l on e sh = absurd (none_some k on)
-  chain_turn a k i (t ∷ T) R result l on e sh =
-      let e' : p T ≡ Ok (i, R) = rw (rest_is (t ∷ T)) at e in
+  chain_turn a k i [] U R result l on u e sh = absurd (none_some k on)
+  chain_turn a k i (t ∷ T) U R result l on u e sh =
+      let e' : p T ≡ Ok (i, R) = subst (λ (W : Text). p W ≡ Ok (i, R)) u e in
       let s : chain_step op grow p a (t ∷ T) ≡ Ok (grow a k i, R) = rw (on, e') refl in
-      let less : length R ≤ length T = rw (rest_is (t ∷ T)) at sh in
+      let less : length R ≤ length T = subst (λ (W : Text). length R ≤ length W) u sh in
       turn_on More (chain_step op grow p) a (grow a k i) (t ∷ T) R result l (rw on refl) s (omega arith)
 
-  pub grown_turn : (a b : A) (k : O) (i : I) (T R : Text) (result : Read A) → b ≡ grow a k i → Left More (chain_step op grow p) a T result → op (first T) ≡ Some k → p (rest_of T) ≡ Ok (i, R) → length R ≤ length (rest_of T)
+  pub grown_turn : (a b : A) (k : O) (i : I) (T U R : Text) (result : Read A) → b ≡ grow a k i → Left More (chain_step op grow p) a T result → op (first T) ≡ Some k → U ≡ tail T → p U ≡ Ok (i, R) → length R ≤ length U
       → Left More (chain_step op grow p) b R result
-  grown_turn a b k i T R result g l on e sh = subst (λ (c : A). Left More (chain_step op grow p) c R result) (sym g) (chain_turn a k i T R result l on e sh)
+  grown_turn a b k i T U R result g l on u e sh = subst (λ (c : A). Left More (chain_step op grow p) c R result) (sym g) (chain_turn a k i T U R result l on u e sh)
 
-  chain_err : (a : A) (k : O) (T : Text) (f : Fault) (result : Read A) → Left More (chain_step op grow p) a T result → op (first T) ≡ Some k → p (rest_of T) ≡ Err f → result ≡ Err f
-  chain_err a k [] f result l on e = absurd (none_some k on)
-  chain_err a k (t ∷ T) f result l on e =
-      let e' : p T ≡ Err f = rw (rest_is (t ∷ T)) at e in
+  chain_err : (a : A) (k : O) (T U : Text) (f : Fault) (result : Read A) → Left More (chain_step op grow p) a T result → op (first T) ≡ Some k → U ≡ tail T → p U ≡ Err f → result ≡ Err f
+  chain_err a k [] U f result l on u e = absurd (none_some k on)
+  chain_err a k (t ∷ T) U f result l on u e =
+      let e' : p T ≡ Err f = subst (λ (W : Text). p W ≡ Err f) u e in
       turn_err More (chain_step op grow p) a (t ∷ T) f result l (rw on refl) (omega arith) (rw (on, e') refl)
 
   -- the exit by `?` in a turn
-  pub chain_exit : (a : A) (k : O) (T : Text) (e : Stopped) (result : Read A) → Left More (chain_step op grow p) a T result → op (first T) ≡ Some k → GivesErr e (p (rest_of T)) → GivesErr e result
-  chain_exit a k T stopped.Memory result l on g = tt
-  chain_exit a k T (stopped.Fault f) result l on g = chain_err a k T f result l on g
+  pub chain_exit : (a : A) (k : O) (T U : Text) (e : Stopped) (result : Read A) → Left More (chain_step op grow p) a T result → op (first T) ≡ Some k → U ≡ tail T → GivesErr e (p U) → GivesErr e result
+  chain_exit a k T U stopped.Memory result l on u g = tt
+  chain_exit a k T U (stopped.Fault f) result l on u g = chain_err a k T U f result l on u g
 
   pub chain_end : (a : A) (T : Text) (result : Read A) → Left More (chain_step op grow p) a T result → op (first T) ≡ None → result ≡ Ok (a, T)
   chain_end a T result l off = turn_off More (chain_step op grow p) a T result l (rw off refl)
@@ -84,11 +72,11 @@ module _ {I A O : Type 0} (op : Option Token → Option O) (at_end : op None ≡
 -- an accumulator that grows at the end of a list
 module _ {I A O X : Type 0} (op : Option Token → Option O) (at_end : op None ≡ None) (grow : A → O → I → A) (p : Parse I) (all : List (O × I) → A)
     (all_push : (xs : List (O × I)) (x : O × I) → all (xs ++ x ∷ []) ≡ grow (all xs) x.0 x.1) (view : X → O × I) where
-  pub pushed_turn : (items : List X) (item : X) (pushed : List X) (k : O) (i : I) (T R : Text) (result : Read A) → pushed ≡ items ++ item ∷ [] → view item ≡ (k, i)
-      → Left (λ o. has (op o)) (chain_step op grow p) (all (map view items)) T result → Some k ≡ op (first T) → p (rest_of T) ≡ Ok (i, R) → length R ≤ length (rest_of T)
+  pub pushed_turn : (items : List X) (item : X) (pushed : List X) (k : O) (i : I) (T U R : Text) (result : Read A) → pushed ≡ items ++ item ∷ [] → view item ≡ (k, i)
+      → Left (λ o. has (op o)) (chain_step op grow p) (all (map view items)) T result → Some k ≡ op (first T) → U ≡ tail T → p U ≡ Ok (i, R) → length R ≤ length U
       → Left (λ o. has (op o)) (chain_step op grow p) (all (map view pushed)) R result
-  pushed_turn items item pushed k i T R result e f l on s sh =
-      let turned = chain_turn op at_end grow p (all (map view items)) k i T R result l (sym on) s sh in
+  pushed_turn items item pushed k i T U R result e f l on u s sh =
+      let turned = chain_turn op at_end grow p (all (map view items)) k i T U R result l (sym on) u s sh in
       let grown : all (map view pushed) ≡ grow (all (map view items)) k i =
       ap (λ (xs : List X). all (map view xs)) e ∙ ap all (map_push view items item ∙ ap (λ (x : O × I). map view items ++ x ∷ []) f) ∙ all_push (map view items) (k, i) in
       subst (λ (a : A). Left (λ o. has (op o)) (chain_step op grow p) a R result) (sym grown) turned
@@ -106,24 +94,24 @@ expect_value {A} m a b T R e = elim (test (is_mark m (first T))) [
 
 -- lists: a turn behind a mark
 module _ {I : Type 0} (m : Mark) (p : Parse I) where
-  pub comma_turn : (a b : List I) (i : I) (T R : Text) (result : Read (List I)) → b ≡ a ++ i ∷ [] → Left (is_mark m) (list_step (behind m p)) a T result → true ≡ is_mark m (first T) → p (rest_of T) ≡ Ok (i, R) → length R ≤ length (rest_of T)
+  pub comma_turn : (a b : List I) (i : I) (T U R : Text) (result : Read (List I)) → b ≡ a ++ i ∷ [] → Left (is_mark m) (list_step (behind m p)) a T result → true ≡ is_mark m (first T) → U ≡ tail T → p U ≡ Ok (i, R) → length R ≤ length U
       → Left (is_mark m) (list_step (behind m p)) b R result
-  comma_turn a b i [] R result g l on e sh = absurd cc
-  comma_turn a b i (t ∷ T) R result g l on e sh =
-      let e' : p T ≡ Ok (i, R) = rw (rest_is (t ∷ T)) at e in
+  comma_turn a b i [] U R result g l on u e sh = absurd cc
+  comma_turn a b i (t ∷ T) U R result g l on u e sh =
+      let e' : p T ≡ Ok (i, R) = subst (λ (W : Text). p W ≡ Ok (i, R)) u e in
       let s : list_step (behind m p) a (t ∷ T) ≡ Ok (a ++ i ∷ [], R) = rw (sym on, e') refl in
-      let less : length R ≤ length T = rw (rest_is (t ∷ T)) at sh in
+      let less : length R ≤ length T = subst (λ (W : Text). length R ≤ length W) u sh in
       subst (λ (c : List I). Left (is_mark m) (list_step (behind m p)) c R result) (sym g) (turn_on (is_mark m) (list_step (behind m p)) a (a ++ i ∷ []) (t ∷ T) R result l (sym on) s (omega arith))
 
-  comma_err : (a : List I) (T : Text) (f : Fault) (result : Read (List I)) → Left (is_mark m) (list_step (behind m p)) a T result → true ≡ is_mark m (first T) → p (rest_of T) ≡ Err f → result ≡ Err f
-  comma_err a [] f result l on e = absurd cc
-  comma_err a (t ∷ T) f result l on e =
-      let e' : p T ≡ Err f = rw (rest_is (t ∷ T)) at e in
+  comma_err : (a : List I) (T U : Text) (f : Fault) (result : Read (List I)) → Left (is_mark m) (list_step (behind m p)) a T result → true ≡ is_mark m (first T) → U ≡ tail T → p U ≡ Err f → result ≡ Err f
+  comma_err a [] U f result l on u e = absurd cc
+  comma_err a (t ∷ T) U f result l on u e =
+      let e' : p T ≡ Err f = subst (λ (W : Text). p W ≡ Err f) u e in
       turn_err (is_mark m) (list_step (behind m p)) a (t ∷ T) f result l (sym on) (omega arith) (rw (sym on, e') refl)
 
-  pub comma_exit : (a : List I) (T : Text) (e : Stopped) (result : Read (List I)) → Left (is_mark m) (list_step (behind m p)) a T result → true ≡ is_mark m (first T) → GivesErr e (p (rest_of T)) → GivesErr e result
-  comma_exit a T stopped.Memory result l on g = tt
-  comma_exit a T (stopped.Fault f) result l on g = comma_err a T f result l on g
+  pub comma_exit : (a : List I) (T U : Text) (e : Stopped) (result : Read (List I)) → Left (is_mark m) (list_step (behind m p)) a T result → true ≡ is_mark m (first T) → U ≡ tail T → GivesErr e (p U) → GivesErr e result
+  comma_exit a T U stopped.Memory result l on u g = tt
+  comma_exit a T U (stopped.Fault f) result l on u g = comma_err a T U f result l on u g
 
 -- an item, and then a list
 module _ {A B : Type 0} (p : Parse A) (f : A × List A → B) where

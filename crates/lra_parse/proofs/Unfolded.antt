@@ -13,7 +13,7 @@ use Rattle.lra_parse.specs.Tests.{first, is_mark, is_kind}
 use Rattle.lra_parse.specs.Reading.{Text, Read, Parse, stop, ◌>>=◌, seq, map_read, tail, expect, take_by, taken, next_name, next_number, number_of, identifier_of, one_of, has}
 use Rattle.lra_parse.specs.Expressions.{behind, in_parens, unary_marks, unary_mark, unary_form, unary_at, expr_at, negated_at, positive_at, grouped_at, TestMark, at_not, at_open, test_mark, test_form, negation_form, tests, test_at, negation_at, cond_at, opposed_at, closed_at, after_group, negation_of}
 use Rattle.lra_parse.proofs.Exact.{ok_is}
-use Rattle.lra_parse.proofs.Turning.{rest_is, expect_value}
+use Rattle.lra_parse.proofs.Turning.{expect_value}
 
 pub unary_is : (d : ℕ) (T : Text) → unary_at d T ≡ unary_form (negated_at d) (positive_at d) (grouped_at d) (unary_mark (first T)) T
 unfolding unary_at
@@ -78,11 +78,11 @@ pub no_table : {A : Type 0} (ks : List (Mark × A)) (o : Option Token) → ((m :
 no_table [] o h = refl
 no_table (k ∷ ks) o h = rw (h k.0) (no_table ks o h)
 
-pub literal_gives : (d : ℕ) (T : Text) (v : ℕ) → next_number (first T) ≡ Some v → unary_at d T ≡ Ok (literal v, take (length T - 1) (drop 1 T))
+pub literal_gives : (d : ℕ) (T : Text) (v : ℕ) → next_number (first T) ≡ Some v → unary_at d T ≡ Ok (literal v, tail T)
 literal_gives d [] v e = absurd cc
 literal_gives d (t ∷ T) v e =
     let none : unary_mark (Some t) ≡ None = no_table unary_marks (Some t) (λ m. number_mark t.kind v m e) in
-    rw (unary_is d (t ∷ T), none, e, rest_is (t ∷ T)) refl
+    rw (unary_is d (t ∷ T), none, e) refl
 
 taken_name : (o : Option Identifier) (T R : Text) (x : Identifier) → taken o T ≡ Ok (x, R) → (o ≡ Some x)
 taken_name None T R x e = absurd cc

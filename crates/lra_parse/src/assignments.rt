@@ -7,7 +7,7 @@ ghost use Rattle.lra_parse.specs.Reading.{Gives, map_read};
 ghost use Rattle.lra_parse.specs.Statements.{skip, commas, update_operator, next_step, source_at, assign_rest, step_first, assign_at, type_words, given, declarator_at, declaration_of, declaration_at};
 
 use crate::expressions::read_expr;
-use crate::reading::{Stopped, expect, next_is, read_name, stop};
+use crate::reading::{Stopped, expect, next_is, read_name, stop, tail};
 use lra_tree::{
     Assign, Cause, Declaration, Declarator, Identifier, Mark, Operator, Place, Source, Step, Token,
 };
@@ -51,7 +51,7 @@ pub fn skip(rest: &[Token], mark: Mark) -> &[Token]
     ensures value { result.now ≡ skip mark rest.now }
 {
     if next_is(rest, mark) {
-        &rest[1..]
+        tail(rest)
     } else {
         rest
     }
@@ -73,7 +73,7 @@ fn read_step_first(alloc: Global, rest: &[Token]) -> Result<(Assign, &[Token]), 
 {
     match next_step(rest) {
         Some((step, place)) => {
-            let (name, after) = read_name(alloc, &rest[1..])?;
+            let (name, after) = read_name(alloc, tail(rest))?;
             Ok((Assign::Before(place, step, name), after))
         }
         None => stop(Cause::Syntax, rest),
@@ -91,17 +91,16 @@ fn read_assign_rest(
     ensures gives { Gives (λ r. (assign_view r.0, r.1.now)) result (assign_rest depth name rest.now) }
 {
     if next_is(rest, Mark::Assign) {
-        let behind = expect(rest, Mark::Assign)?;
-        let (source, after) = read_source(alloc, behind, depth)?;
+        let (source, after) = read_source(alloc, tail(rest), depth)?;
         return Ok((Assign::Set(name, source), after));
     }
     match update_operator(rest) {
         Some(operator) => {
-            let (expr, after) = read_expr(alloc, &rest[1..], depth)?;
+            let (expr, after) = read_expr(alloc, tail(rest), depth)?;
             Ok((Assign::Update(name, operator, expr), after))
         }
         None => match next_step(rest) {
-            Some((step, _place)) => Ok((Assign::After(name, step), &rest[1..])),
+            Some((step, _place)) => Ok((Assign::After(name, step), tail(rest))),
             None => stop(Cause::Syntax, rest),
         },
     }
@@ -143,8 +142,7 @@ fn read_declarator(
 {
     let (name, behind) = read_name(alloc, rest)?;
     if next_is(behind, Mark::Assign) {
-        let value = expect(behind, Mark::Assign)?;
-        let (source, after) = read_source(alloc, value, depth)?;
+        let (source, after) = read_source(alloc, tail(behind), depth)?;
         let source = Some(source);
         return Ok((Declarator { name, source }, after));
     }
@@ -163,7 +161,7 @@ fn read_declarators(
     let (first, mut left) = read_declarator(alloc, rest, depth)?;
     let mut declarators = Vec::new(alloc);
     'declarators: while next_is(left, Mark::Comma) {
-        let (declarator, after) = read_declarator(alloc, &left[1..], depth)?;
+        let (declarator, after) = read_declarator(alloc, tail(left), depth)?;
         declarators.push(declarator)?;
         left = after;
     }

@@ -8,7 +8,7 @@ ghost use Rattle.lra_parse.specs.Reading.{Gives};
 ghost use Rattle.lra_parse.specs.Expressions.{next_comparison, unary_at, compared, alone, after_group, opposed_at, closed_at, test_at, negation_at, negation_of, conjunction_at, cond_at};
 
 use crate::expressions::{read_expr, read_factors, read_summands, read_unary};
-use crate::reading::{Stopped, expect, next_is, stop};
+use crate::reading::{Stopped, expect, next_is, stop, tail};
 use lra_tree::{Cause, Comparison, Cond, Conjunction, Expr, Mark, Negation, Test, Token, Unary};
 use std::alloc::Global;
 
@@ -47,24 +47,17 @@ fn one_test(first: Test, tests: Vec<Test>, rest: Vec<Conjunction>) -> Cond
 fn alone(cond: Cond) -> Result<Expr, Cond>
     ensures { MatchResult result (λ e. alone (cond_view cond) ≡ Some (expr_view e)) (λ c. (cond_view c ≡ cond_view cond) × (alone (cond_view cond) ≡ None)) }
 {
-    let Cond { first, rest } = cond;
-    let Conjunction {
-        first: test,
-        rest: tests,
-    } = first;
+    let (first, rest) = cond.into_parts();
+    let (test, tests) = first.into_parts();
     if !rest.is_empty() {
         return Err(one_test(test, tests, rest));
     }
     if !tests.is_empty() {
         return Err(one_test(test, tests, rest));
     }
-    match test {
-        Test::Value(expr) => Ok(expr),
-        Test::Opposite(negation) => Err(one_test(Test::Opposite(negation), tests, rest)),
-        Test::Compare(left, comparison, right) => {
-            Err(one_test(Test::Compare(left, comparison, right), tests, rest))
-        }
-        Test::Group(cond) => Err(one_test(Test::Group(cond), tests, rest)),
+    match test.into_value() {
+        Ok(expr) => Ok(expr),
+        Err(other) => Err(one_test(other, tests, rest)),
     }
 }
 
@@ -80,7 +73,7 @@ fn read_compared(
 {
     match next_comparison(rest) {
         Some(comparison) => {
-            let (right, after) = read_expr(alloc, &rest[1..], depth)?;
+            let (right, after) = read_expr(alloc, tail(rest), depth)?;
             Ok((Test::Compare(left, comparison, right), after))
         }
         None => Ok((Test::Value(left), rest)),
@@ -205,7 +198,7 @@ fn read_conjunction(
     let (first, mut left) = read_test(alloc, rest, depth)?;
     let mut tests = Vec::new(alloc);
     'tests: while next_is(left, Mark::And) {
-        let (test, after) = read_test(alloc, &left[1..], depth)?;
+        let (test, after) = read_test(alloc, tail(left), depth)?;
         tests.push(test)?;
         left = after;
     }
@@ -221,7 +214,7 @@ pub fn read_cond(alloc: Global, rest: &[Token], depth: usize) -> Result<(Cond, &
     let (first, mut left) = read_conjunction(alloc, rest, depth)?;
     let mut conjunctions = Vec::new(alloc);
     'conjunctions: while next_is(left, Mark::Or) {
-        let (conjunction, after) = read_conjunction(alloc, &left[1..], depth)?;
+        let (conjunction, after) = read_conjunction(alloc, tail(left), depth)?;
         conjunctions.push(conjunction)?;
         left = after;
     }

@@ -7,7 +7,7 @@ ghost use Rattle.lra_parse.specs.Tests.{first};
 ghost use Rattle.lra_parse.specs.Reading.{Gives};
 ghost use Rattle.lra_parse.specs.Expressions.{factor_operator, sum_operator, unary_at, negated_at, positive_at, grouped_at, read_input, factors, term_of, summands, expr_at};
 
-use crate::reading::{Stopped, expect, next_is, next_number, read_name, stop};
+use crate::reading::{Stopped, expect, next_is, next_number, read_name, stop, tail};
 use lra_tree::{
     Cause, Expr, Factor, FactorOperator, Mark, SumOperator, Summand, Term, Token, Unary,
 };
@@ -72,7 +72,7 @@ pub fn read_unary(alloc: Global, rest: &[Token], depth: usize) -> Result<(Unary,
         return read_input(rest);
     }
     if let Some(value) = next_number(rest) {
-        return Ok((Unary::Literal(value), &rest[1..]));
+        return Ok((Unary::Literal(value), tail(rest)));
     }
     let (name, after) = read_name(alloc, rest)?;
     Ok((Unary::Variable(name), after))
@@ -135,7 +135,7 @@ pub fn read_factors(
     let mut left = rest;
     let mut factors = Vec::new(alloc);
     'factors: while let Some(operator) = factor_operator(left) {
-        let (unary, after) = read_unary(alloc, &left[1..], depth)?;
+        let (unary, after) = read_unary(alloc, tail(left), depth)?;
         factors.push(Factor { operator, unary })?;
         left = after;
     }
@@ -171,7 +171,7 @@ pub fn read_summands(
     let mut left = rest;
     let mut summands = Vec::new(alloc);
     'summands: while let Some(operator) = sum_operator(left) {
-        let (term, after) = read_term(alloc, &left[1..], depth)?;
+        let (term, after) = read_term(alloc, tail(left), depth)?;
         summands.push(Summand { operator, term })?;
         left = after;
     }

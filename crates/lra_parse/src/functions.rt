@@ -7,7 +7,7 @@ ghost use Rattle.lra_parse.specs.Reading.{Gives, take_by};
 ghost use Rattle.lra_parse.specs.Files.{next_main, next_end, read_head, function_at, begins_part, file_at};
 
 use crate::assignments::{read_type, skip};
-use crate::reading::{Stopped, expect, next_is, read_name, stop};
+use crate::reading::{Stopped, expect, next_is, read_name, stop, tail};
 use crate::statements::read_body;
 use lra_tree::{Cause, Function, Identifier, Item, Kind, Mark, Parameters, Place, Token, Tree};
 use std::alloc::Global;
@@ -31,8 +31,7 @@ fn read_head(alloc: Global, rest: &[Token]) -> Result<((bool, Identifier), &[Tok
     ensures gives { Gives (λ r. (r.0, r.1.now)) result (read_head rest.now) }
 {
     if next_is(rest, Mark::Int) {
-        let int = expect(rest, Mark::Int)?;
-        let (name, after) = read_main(alloc, int)?;
+        let (name, after) = read_main(alloc, tail(rest))?;
         return Ok(((true, name), after));
     }
     if next_is(rest, Mark::Long) {
@@ -41,8 +40,7 @@ fn read_head(alloc: Global, rest: &[Token]) -> Result<((bool, Identifier), &[Tok
         return Ok(((true, name), after));
     }
     if next_is(rest, Mark::Void) {
-        let void = expect(rest, Mark::Void)?;
-        let (name, after) = read_main(alloc, void)?;
+        let (name, after) = read_main(alloc, tail(rest))?;
         return Ok(((false, name), after));
     }
     stop(Cause::Syntax, rest)
@@ -90,7 +88,7 @@ fn read_end(rest: &[Token]) -> Result<(Place, &[Token]), Stopped>
 {
     match rest.first() {
         Some(token) => match &token.kind {
-            Kind::End => Ok((token.place, &rest[1..])),
+            Kind::End => Ok((token.place, tail(rest))),
             _ => stop(Cause::Syntax, rest),
         },
         None => stop(Cause::Syntax, rest),

@@ -14,8 +14,6 @@ mod functions;
 mod parser;
 mod reading;
 mod statements;
-#[cfg(test)]
-mod tests;
 
 pub use parser::{ParseError, parse};
 

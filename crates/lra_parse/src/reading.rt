@@ -1,21 +1,21 @@
 //! Tests of the next token, single tokens, and faults.
 
-ghost use Rattle.std.specs.Prelude.{◌≡◌, ℕ, ◌<◌, length, IfOk};
+ghost use Rattle.std.specs.Prelude.{◌≡◌, ℕ, ◌<◌, ◌≤◌, length, IfOk};
 ghost use Rattle.lra_parse.specs.Tests.{is_mark, first};
-ghost use Rattle.lra_parse.specs.Reading.{Gives, expect, expect_at, next_name, next_number, take_by};
+ghost use Rattle.lra_parse.specs.Reading.{Gives, expect, expect_at, next_name, next_number, tail, take_by};
 
 use lra_tree::{Cause, Identifier, Kind, Mark, Place, Token};
 use std::alloc::{AllocError, AllocFailed, Global};
 
 /// Where reading stopped: at the token from which on so many are left.
-#[derive(Clone, Copy, PartialEq, Eq, Debug)]
+#[derive(Clone, Copy)]
 pub struct Fault {
     pub cause: Cause,
     pub left: usize,
 }
 
 /// Why there is no tree.
-#[derive(Clone, Copy, PartialEq, Eq, Debug)]
+#[derive(Clone, Copy)]
 pub enum Stopped {
     Memory,
     Fault(Fault),
@@ -64,13 +64,24 @@ pub fn next_is(rest: &[Token], mark: Mark) -> bool
     }
 }
 
+/// What comes behind the next token, if there is one.
+pub fn tail(rest: &[Token]) -> &[Token]
+    ensures shorter { length result.now ≤ length rest.now }
+    ensures value { result.now ≡ tail rest.now }
+{
+    match rest.split_first() {
+        Some((_token, behind)) => behind,
+        None => rest,
+    }
+}
+
 /// What comes behind the mark.
 pub fn expect(rest: &[Token], mark: Mark) -> Result<&[Token], Stopped>
     ensures shorter { IfOk result (λ r. length r.now < length rest.now) }
     ensures gives { Gives (λ r. (tt {0}, r.now)) result (expect mark (tt {0}) rest.now) }
 {
     if next_is(rest, mark) {
-        Ok(&rest[1..])
+        Ok(tail(rest))
     } else {
         stop(Cause::Syntax, rest)
     }
@@ -82,7 +93,7 @@ pub fn expect_at(rest: &[Token], mark: Mark) -> Result<(Place, &[Token]), Stoppe
     ensures gives { Gives (λ r. (r.0, r.1.now)) result (expect_at mark rest.now) }
 {
     if next_is(rest, mark) {
-        Ok((rest[0].place, &rest[1..]))
+        Ok((rest[0].place, tail(rest)))
     } else {
         stop(Cause::Syntax, rest)
     }
@@ -111,7 +122,7 @@ pub fn read_name(alloc: Global, rest: &[Token]) -> Result<(Identifier, &[Token])
             Kind::Name(word) => {
                 let word = word.copy(alloc)?;
                 let place = token.place;
-                Ok((Identifier { word, place }, &rest[1..]))
+                Ok((Identifier { word, place }, tail(rest)))
             }
             _ => stop(Cause::Syntax, rest),
         },

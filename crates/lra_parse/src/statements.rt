@@ -12,7 +12,7 @@ ghost use Rattle.lra_parse.specs.Statements.{stmt_mark, begins_stmt, begins_item
 
 use crate::assignments::{next_step, read_assign, read_declaration};
 use crate::conditions::read_cond;
-use crate::reading::{Stopped, expect, expect_at, next_is, stop};
+use crate::reading::{Stopped, expect, expect_at, next_is, stop, tail};
 use lra_tree::{Block, BlockItem, Cause, Cond, Kind, Mark, Place, Stmt, Token};
 use std::alloc::Global;
 
@@ -181,8 +181,7 @@ fn read_else(
 {
     let first = Box::new(alloc, branch)?;
     if next_is(rest, Mark::Else) {
-        let word = expect(rest, Mark::Else)?;
-        let (other, after) = read_branch(alloc, word, depth)?;
+        let (other, after) = read_branch(alloc, tail(rest), depth)?;
         let second = Box::new(alloc, other)?;
         return Ok((Stmt::IfElse(place, cond, first, second), after));
     }

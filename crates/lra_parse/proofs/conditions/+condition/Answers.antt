@@ -6,7 +6,7 @@ use Rattle.lra_tree.specs.Trees.{NegationTree, opposite_again, TestTree, test, C
 use Rattle.lra_tree.specs.Views.{all_tests, any_conjunction, test_view, negation_view, conjunction_view, cond_view, unary_view}
 use Rattle.lra_parse.specs.Tests.{first}
 use Rattle.lra_parse.specs.Expressions.{next_and, next_or, test_at, negation_at, negation_of, conjunction_at, cond_at}
-use Rattle.lra_parse.proofs.Turning.{grown_turn, list_grown, chain_exit, chain_end, shorter_rest}
+use Rattle.lra_parse.proofs.Turning.{grown_turn, list_grown, chain_exit, chain_end}
 use Rattle.lra_parse.proofs.Viewed.{again_is, operand_is, opposite_is, conjunction_is, cond_is, and_push, or_push}
 use Rattle.lra_parse.proofs.Unfolded.{one_on, one_off, opposite_gives, again_gives, strict_gives, operand_gives}
 use Rattle.lra_parse.proofs.conditions.+condition.Goals as goal
@@ -33,11 +33,11 @@ read_negation-returns-clause-gives t c =
 
 pub read_conjunction-tests-preserved : goal.read_conjunction-tests-preserved
 read_conjunction-tests-preserved t c = record {
-  room = omega (arith, c.in_ok-test.ensures.shorter, shorter_rest c.tests.left.now);
+  room = omega (arith, c.in_ok-test.ensures.shorter, c.tail.ensures.shorter);
   same = grown_turn next_and refl (λ c k t. and c t) (test_at c.args.depth) _ _
-      (tt {0}) (test_view c.in_ok-test.test) c.tests.left.now c.in_ok-test.after.now (conjunction_at c.args.depth c.args.rest.now)
+      (tt {0}) (test_view c.in_ok-test.test) c.tests.left.now c.tail.result.now c.in_ok-test.after.now (conjunction_at c.args.depth c.args.rest.now)
       (list_grown (all_tests _) test_view c.tests.tests.items c.push.new.self.items c.in_ok-test.test c.in_ok-push.ensures.items ∙ and_push _ (map test_view c.tests.tests.items) (test_view c.in_ok-test.test))
-      c.tests.invariant.same (one_on mark.And (first c.tests.left.now) c.tests-test.ensures) c.in_ok-test.ensures.gives c.in_ok-test.ensures.shorter;
+      c.tests.invariant.same (one_on mark.And (first c.tests.left.now) c.tests-test.ensures) c.tail.ensures.value c.in_ok-test.ensures.gives c.in_ok-test.ensures.shorter;
 }
 
 pub read_conjunction-returns-clause-gives : goal.read_conjunction-returns-clause-gives
@@ -48,18 +48,18 @@ read_conjunction-returns-clause-gives t c =
 pub read_conjunction-returns-in_err-test-clause-gives : goal.read_conjunction-returns-in_err-test-clause-gives
 read_conjunction-returns-in_err-test-clause-gives t c =
     let p = err_from_is_err_and c.from_residual-in_err-test.result c.from_residual-in_err-test.ensures.1 in
-    rw (p.1, p.2) (chain_exit next_and refl (λ c k t. and c t) (test_at c.args.depth) _ (tt {0}) c.tests.left.now c.in_err-test.field-0.0 (conjunction_at c.args.depth c.args.rest.now)
-    c.tests.invariant.same (one_on mark.And (first c.tests.left.now) c.tests-test.ensures) c.in_err-test.ensures.gives)
+    rw (p.1, p.2) (chain_exit next_and refl (λ c k t. and c t) (test_at c.args.depth) _ (tt {0}) c.tests.left.now c.tail.result.now c.in_err-test.field-0.0 (conjunction_at c.args.depth c.args.rest.now)
+    c.tests.invariant.same (one_on mark.And (first c.tests.left.now) c.tests-test.ensures) c.tail.ensures.value c.in_err-test.ensures.gives)
 
 pub read_cond-conjunctions-preserved : goal.read_cond-conjunctions-preserved
 read_cond-conjunctions-preserved t c = record {
-  room = omega (arith, c.in_ok-conjunction.ensures.shorter, shorter_rest c.conjunctions.left.now);
+  room = omega (arith, c.in_ok-conjunction.ensures.shorter, c.tail.ensures.shorter);
   same = grown_turn next_or refl (λ c k d. or c d) (conjunction_at c.args.depth) (any_conjunction (conjunction (conjunction_view c.in_ok-first.first)) (map conjunction_view c.conjunctions.conjunctions.items))
       (any_conjunction (conjunction (conjunction_view c.in_ok-first.first)) (map conjunction_view c.push.new.self.items))
-      (tt {0}) (conjunction_view c.in_ok-conjunction.conjunction) c.conjunctions.left.now c.in_ok-conjunction.after.now (cond_at c.args.depth c.args.rest.now)
+      (tt {0}) (conjunction_view c.in_ok-conjunction.conjunction) c.conjunctions.left.now c.tail.result.now c.in_ok-conjunction.after.now (cond_at c.args.depth c.args.rest.now)
       (list_grown (any_conjunction (conjunction (conjunction_view c.in_ok-first.first))) conjunction_view c.conjunctions.conjunctions.items c.push.new.self.items c.in_ok-conjunction.conjunction c.in_ok-push.ensures.items
       ∙ or_push (conjunction (conjunction_view c.in_ok-first.first)) (map conjunction_view c.conjunctions.conjunctions.items) (conjunction_view c.in_ok-conjunction.conjunction))
-      c.conjunctions.invariant.same (one_on mark.Or (first c.conjunctions.left.now) c.conjunctions-test.ensures) c.in_ok-conjunction.ensures.gives c.in_ok-conjunction.ensures.shorter;
+      c.conjunctions.invariant.same (one_on mark.Or (first c.conjunctions.left.now) c.conjunctions-test.ensures) c.tail.ensures.value c.in_ok-conjunction.ensures.gives c.in_ok-conjunction.ensures.shorter;
 }
 
 pub read_cond-returns-clause-gives : goal.read_cond-returns-clause-gives
@@ -70,5 +70,5 @@ read_cond-returns-clause-gives t c =
 pub read_cond-returns-in_err-conjunction-clause-gives : goal.read_cond-returns-in_err-conjunction-clause-gives
 read_cond-returns-in_err-conjunction-clause-gives t c =
     let p = err_from_is_err_and c.from_residual-in_err-conjunction.result c.from_residual-in_err-conjunction.ensures.1 in
-    rw (p.1, p.2) (chain_exit next_or refl (λ c k d. or c d) (conjunction_at c.args.depth) _ (tt {0}) c.conjunctions.left.now c.in_err-conjunction.field-0.0 (cond_at c.args.depth c.args.rest.now)
-    c.conjunctions.invariant.same (one_on mark.Or (first c.conjunctions.left.now) c.conjunctions-test.ensures) c.in_err-conjunction.ensures.gives)
+    rw (p.1, p.2) (chain_exit next_or refl (λ c k d. or c d) (conjunction_at c.args.depth) _ (tt {0}) c.conjunctions.left.now c.tail.result.now c.in_err-conjunction.field-0.0 (cond_at c.args.depth c.args.rest.now)
+    c.conjunctions.invariant.same (one_on mark.Or (first c.conjunctions.left.now) c.conjunctions-test.ensures) c.tail.ensures.value c.in_err-conjunction.ensures.gives)
