@@ -8,12 +8,12 @@ use Rattle.lra_tree.specs.declared.tokens.Mark.{Mark}
 use Rattle.lra_tree.specs.declared.tokens.Mark.TheVariants as mark
 use Rattle.lra_tree.specs.declared.tokens.Token.{Token}
 use Rattle.lra_tree.specs.Program.{below}
-use Rattle.lra_tree.specs.Trees.{group, ExprTree, value, compare, group_of, CondTree, expression, set, StmtTree, nothing, assign, if_only, if_else, no_items, declaration, statement, FileTree}
+use Rattle.lra_tree.specs.Trees.{group, ExprTree, value, compare, group_of, CondTree, expression, set, no_init, StmtTree, block, nothing, assign, if_only, if_else, while, for, no_items, declaration, statement, FileTree}
 use Rattle.lra_tree.specs.Texts.{Piece, Pieces, plain}
 use Rattle.lra_tree.specs.Grammar.{IsExpr, IsTest, IsStmt, Spells}
 use Rattle.lra_tree.specs.Faults.{IsTextFault}
 use Rattle.lra_tree.proofs.LowByTest.{low_by}
-use Rattle.lra_tree.proofs.TreeSamples.{at, x_at, alone, number, use_of, tested, declared_as, main_of}
+use Rattle.lra_tree.proofs.TreeSamples.{at, name_at, x_at, alone, number, use_of, tested, declared_as, main_of}
 
 abbrev piece : Kind → ℕ → ℕ → Piece
 piece k c level = (record { kind = k; place = at c }, level)
@@ -57,6 +57,155 @@ nearest_else = (
 -- catches an `else` that may belong to the outer `if`: no text has that tree
 no_farther_else : (o l : ℕ) (z : Pieces) → IsStmt o l farther z → ⊥
 no_farther_else o l z s = s.1 tt
+
+-- and through loops
+abbrev letter : ℕ → ℕ → CondTree
+letter a c = tested (value (use_of (name_at (a ∷ []) c)))
+
+-- if(a) while(b) for(;;) if(c) ; else ;
+abbrev nearest_in_loops : StmtTree
+nearest_in_loops = if_only (at 1) (letter 97 4) (while (at 7) (letter 98 13) (for (at 16) no_init None None (if_else (at 24) (letter 99 27) (nothing (at 30)) (nothing (at 37)))))
+
+-- the levels: a loop's body is one level more
+nearest_else_in_loops : IsStmt 0 1 nearest_in_loops (marked mark.If 1 0 ∷ marked mark.OpenParen 3 0 ∷ piece (Name (codes "a")) 4 0 ∷ marked mark.CloseParen 5 0
+    ∷ marked mark.While 7 2 ∷ marked mark.OpenParen 12 0 ∷ piece (Name (codes "b")) 13 0 ∷ marked mark.CloseParen 14 0
+    ∷ marked mark.For 16 3 ∷ marked mark.OpenParen 19 0 ∷ marked mark.Semicolon 20 0 ∷ marked mark.Semicolon 21 0 ∷ marked mark.CloseParen 22 0
+    ∷ marked mark.If 24 4 ∷ marked mark.OpenParen 26 0 ∷ piece (Name (codes "c")) 27 0 ∷ marked mark.CloseParen 28 0
+    ∷ marked mark.Semicolon 30 5 ∷ marked mark.Else 32 0 ∷ marked mark.Semicolon 37 5 ∷ [])
+nearest_else_in_loops = (
+  _,
+  _,
+  refl,
+  refl,
+  (
+    _,
+    _,
+    refl,
+    (_, _, refl, (at 3, refl), (_, _, refl, refl, (at 5, refl))),
+    (
+      _,
+      _,
+      refl,
+      refl,
+      (
+        _,
+        _,
+        refl,
+        (_, _, refl, (at 12, refl), (_, _, refl, refl, (at 14, refl))),
+        (
+          _,
+          _,
+          refl,
+          refl,
+          (
+            _,
+            _,
+            refl,
+            (at 19, refl),
+            (
+              _,
+              _,
+              refl,
+              (at 20, refl),
+              (
+                _,
+                _,
+                refl,
+                refl,
+                (
+                  _,
+                  _,
+                  refl,
+                  (at 21, refl),
+                  (
+                    _,
+                    _,
+                    refl,
+                    refl,
+                    (
+                      _,
+                      _,
+                      refl,
+                      (at 22, refl),
+                      (
+                        (_, _, refl, refl, (_, _, refl, (_, _, refl, (at 26, refl), (_, _, refl, refl, (at 28, refl))), (_, _, refl, refl, (_, _, refl, (at 32, refl), refl)))),
+                        λ e. e,
+                      ),
+                    ),
+                  ),
+                ),
+              ),
+            ),
+          ),
+        ),
+      ),
+    ),
+  ),
+)
+
+-- catches loops that hide an `if` from the `else` behind them: no text has the tree whose `else` belongs to the outer `if`
+no_else_past_loops : (o l : ℕ) (z : Pieces)
+    → IsStmt o l (if_else (at 1) (letter 97 4) (while (at 7) (letter 98 13) (for (at 16) no_init None None (if_only (at 24) (letter 99 27) (nothing (at 30))))) (nothing (at 37))) z → ⊥
+no_else_past_loops o l z s = s.1 tt
+
+-- if(a) { while(b) if(c) ; } else ; : braces leave the `else` to the outer `if`
+else_behind_block : IsStmt 0 1 (if_else (at 1) (letter 97 4) (block (statement (while (at 9) (letter 98 15) (if_only (at 18) (letter 99 21) (nothing (at 24)))) no_items) (at 26)) (nothing (at 33)))
+    (marked mark.If 1 0 ∷ marked mark.OpenParen 3 0 ∷ piece (Name (codes "a")) 4 0 ∷ marked mark.CloseParen 5 0 ∷ marked mark.OpenBrace 7 2
+    ∷ marked mark.While 9 0 ∷ marked mark.OpenParen 14 0 ∷ piece (Name (codes "b")) 15 0 ∷ marked mark.CloseParen 16 0
+    ∷ marked mark.If 18 3 ∷ marked mark.OpenParen 20 0 ∷ piece (Name (codes "c")) 21 0 ∷ marked mark.CloseParen 22 0 ∷ marked mark.Semicolon 24 4
+    ∷ marked mark.CloseBrace 26 0 ∷ marked mark.Else 28 0 ∷ marked mark.Semicolon 33 2 ∷ [])
+else_behind_block = (
+  (
+    _,
+    _,
+    refl,
+    refl,
+    (
+      _,
+      _,
+      refl,
+      (_, _, refl, (at 3, refl), (_, _, refl, refl, (at 5, refl))),
+      (
+        _,
+        _,
+        refl,
+        (
+          _,
+          _,
+          refl,
+          (at 7, refl),
+          (
+            _,
+            _,
+            refl,
+            (
+              _,
+              _,
+              refl,
+              (
+                _,
+                _,
+                refl,
+                refl,
+                (
+                  _,
+                  _,
+                  refl,
+                  (_, _, refl, (at 14, refl), (_, _, refl, refl, (at 16, refl))),
+                  (_, _, refl, refl, (_, _, refl, (_, _, refl, (at 20, refl), (_, _, refl, refl, (at 22, refl))), refl)),
+                ),
+              ),
+              refl,
+            ),
+            refl,
+          ),
+        ),
+        (_, _, refl, (at 28, refl), refl),
+      ),
+    ),
+  ),
+  λ e. e,
+)
 
 -- conditions in parentheses ------------------------------------------------------------------------------------------
 

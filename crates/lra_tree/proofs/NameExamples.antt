@@ -6,14 +6,14 @@ use Rattle.std.specs.Prelude.{Contains}
 use Rattle.lra_tree.specs.declared.refusals.Refusal.{Refusal}
 use Rattle.lra_tree.specs.declared.trees.Identifier.{Identifier}
 use Rattle.lra_tree.specs.declared.refusals.Cause.{Cause}
-use Rattle.lra_tree.specs.declared.refusals.Cause.TheVariants.{NoMain, UnknownName, DuplicateName, BadCall, Misplaced}
+use Rattle.lra_tree.specs.declared.refusals.Cause.TheVariants.{NoMain, UnknownName, DuplicateName, BadCall, Misplaced, Recursive}
 use Rattle.lra_tree.specs.Program as program
 use Rattle.lra_tree.specs.Trees.{value, compare, conjunction, test, and, or, expression, result, set, after, increment, declared, block, nothing, assign, call, for, break, return, no_items, declaration, statement, globals, function, FileTree, FunctionTree}
 use Rattle.lra_tree.specs.Labels.{labels_of, places_of}
 use Rattle.lra_tree.specs.NameFaults.{name_faults}
 use Rattle.lra_tree.specs.Resolve.{resolve, resolve_cond}
 use Rattle.lra_tree.specs.Reach.{calls_of, Reaches, there, by_call, IsRecursive, IsFirstRecursive}
-use Rattle.lra_tree.specs.Refuse.{NotRecursive}
+use Rattle.lra_tree.specs.Refuse.{NotRecursive, RefusesTree, recursive}
 use Rattle.lra_tree.proofs.RunExamples as run
 use Rattle.lra_tree.proofs.TreeSamples.{at, name_at, x_at, number, use_of, tested, call_of, declared_as, function_of, void_of, main_of, one_variable, called_twice}
 
@@ -184,3 +184,45 @@ not_at (b ∷ d ∷ front) behind c e r = cc
 
 main_called_allowed : (name_faults main_called ≡ []) × NotRecursive main_called
 main_called_allowed = (refl, λ at r. not_at r.0 r.1 r.2 r.3 r.5)
+
+-- int main(void){ f(); } void f(void){ g(); } void g(void){ f(); }
+-- f and g reach each other, and f's call is the first in text order: main's call of f isn't recursive, since f never reaches main
+abbrev one_another : FileTree
+one_another = record {
+  parts = function (function_of (codes "main") 5 [] (statement (call (call_of (name_at (codes "f") 17) [])) no_items) 22)
+      ∷ function (void_of (codes "f") 29 [] (statement (call (call_of (name_at (codes "g") 38) [])) no_items) 43)
+      ∷ function (void_of (codes "g") 50 [] (statement (call (call_of (name_at (codes "f") 59) [])) no_items) 64) ∷ [];
+  end = at 65;
+}
+
+-- main isn't called: all called names are of one letter
+only_call : (c d : Identifier) → Contains (d ∷ []) c → d ≡ c
+only_call c d (zero, l, s) = s
+only_call c d (suc k, l, s) = absurd (omega (arith, l))
+
+called_name_short : (f : FunctionTree) (c : Identifier) → Contains (functions_of one_another) f → Contains (calls_of f) c → length c.word ≡ 1
+called_name_short f c (zero, l, s) calls =
+    ap (λ (d : Identifier). length d.word) (sym (only_call c (name_at (codes "f") 17) (subst (λ (g : FunctionTree). Contains (calls_of g) c) (sym s) calls)))
+called_name_short f c (suc zero, l, s) calls =
+    ap (λ (d : Identifier). length d.word) (sym (only_call c (name_at (codes "g") 38) (subst (λ (g : FunctionTree). Contains (calls_of g) c) (sym s) calls)))
+called_name_short f c (suc (suc zero), l, s) calls =
+    ap (λ (d : Identifier). length d.word) (sym (only_call c (name_at (codes "f") 59) (subst (λ (g : FunctionTree). Contains (calls_of g) c) (sym s) calls)))
+called_name_short f c (suc (suc (suc k)), l, s) calls = omega (arith, l)
+
+main_not_reached : (g : List ℕ) → length g ≡ 1 → Reaches one_another (codes "main") g → ⊥
+main_not_reached _ e there = omega (arith, e)
+main_not_reached _ e (by_call f g c r) = main_not_reached g (sym (ap (length {A = ℕ}) c.called_name) ∙ called_name_short c.function c.called c.is_there c.calls) r
+
+one_another_recursive : IsFirstRecursive one_another (at 38)
+one_another_recursive = (
+  (codes "main", name_at (codes "f") 17) ∷ [],
+  (codes "g", name_at (codes "f") 59) ∷ [],
+  (codes "f", name_at (codes "g") 38),
+  refl,
+  refl,
+  by_call _ _ (record { function = _; is_there = (2, omega arith, refl); name = refl; called = name_at (codes "f") 59; calls = (0, omega arith, refl); called_name = refl }) there,
+  (main_not_reached (codes "f") refl, tt),
+)
+
+one_another_refused : RefusesTree one_another Recursive (at 38)
+one_another_refused = recursive (at 38) refl one_another_recursive

@@ -11,7 +11,7 @@ use Rattle.lra_tree.specs.declared.trees.Identifier.{Identifier}
 use Rattle.lra_tree.specs.Lexeme.{IsOpen, IsLiteral, decimal_base, number_word, number, word, mark_word, unclosed, name, mark_of, comment}
 use Rattle.lra_tree.specs.declared.tokens.Kind.{Kind}
 use Rattle.lra_tree.specs.Tokens.{is_blank, blank, line_comment, block_comment, skipped_line, NoGap, gap, token, Lex, place_behind, place_from}
-use Rattle.lra_tree.specs.Trees.{DeclaratorTree, nothing, call, ItemsTree, no_items, declaration, statement, PartTree, function, FileTree, assign, break, set, expression}
+use Rattle.lra_tree.specs.Trees.{DeclaratorTree, nothing, call, ItemsTree, no_items, declaration, statement, PartTree, function, FileTree, assign, for, declared, break, set, expression}
 use Rattle.lra_tree.specs.Labels.{labels_of}
 use Rattle.lra_tree.specs.Resolve.{resolve}
 use Rattle.lra_tree.specs.Sites.{events_of}
@@ -46,6 +46,35 @@ too_many_variables = refl
 
 variables_enough : limits (with_variables 23) ≡ None
 variables_enough = refl
+
+-- int main(void){ long v1,..,vN; for(long i=0;;) ; }
+abbrev with_for : ℕ → FileTree
+with_for n = main_of (declaration (record { first = record { name = name_at (codes "v") 22; source = None }; rest = variables n })
+    (statement (for (at 114) (declared (declared_as (name_at (codes "i") 123) (Some (expression (number_of 0))))) None None (nothing (at 130))) no_items)) 132
+
+-- i is the 25th: the first point where it lives is that of the word `for`, which comes before its declarator's
+too_many_in_for : limits (with_for 23) ≡ Some (record { cause = TooManyVariables; place = at 114 })
+too_many_in_for = refl
+
+enough_in_for : limits (with_for 22) ≡ None
+enough_in_for = refl
+
+-- void f(long d){;} int main(void){ long v1,..,vN; f(0); }
+abbrev with_callee : ℕ → FileTree
+with_callee n = record {
+  parts = function (void_of (codes "f") 6 (name_at (codes "d") 13 ∷ []) (statement (nothing (at 16)) no_items) 17)
+      ∷ function (function_of (codes "main") 23 []
+      (declaration (record { first = record { name = name_at (codes "v") 40; source = None }; rest = variables n }) (statement (call (call_of (name_at (codes "f") 132) (number_of 0 ∷ []))) no_items)) 138)
+      ∷ [];
+  end = at 139;
+}
+
+-- d is the 25th, at the callee's first point: main's variables count there
+too_many_in_callee : limits (with_callee 23) ≡ Some (record { cause = TooManyVariables; place = at 16 })
+too_many_in_callee = refl
+
+enough_in_callee : limits (with_callee 22) ≡ None
+enough_in_callee = refl
 
 -- so many `;` from a column on
 abbrev semicolons : ℕ → ℕ → ItemsTree

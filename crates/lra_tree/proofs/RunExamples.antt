@@ -2,8 +2,10 @@
 -- Labels number statements, declarators and ends of blocks in text order from 1, over the whole source.
 use Rattle.std.proofs.Common.{◌≡◌, ℕ, zero, suc, ℤ, pos, negsuc, List, [], ◌∷◌, Option, Some, None, refl}
 use Rattle.lra_tree.specs.Program.{global, local, plus, minus, over, times, below, at_least, equal, differs, Expr, literal, read, input, negate, binary, compare, nonzero, value, result, Declarator, Stmt, absent, nothing, block, assign, call, if, loop, for, break, continue, return, assert, assume, BlockItems, no_more, declaration, statement, Function, Program}
-use Rattle.lra_tree.specs.Step.{Config, next}
+use Rattle.lra_tree.specs.Step.{Config, Item, run, all, end_of, turn, Here, next}
 use Rattle.lra_tree.specs.Run.{start, label_on, Fails}
+use Rattle.lra_tree.specs.Resolve.{resolve}
+use Rattle.lra_tree.proofs.TreeSamples.{call_in_step, repeated_step}
 
 -- call path, label and store of the points on the way
 abbrev Visits : Type 0
@@ -217,3 +219,42 @@ assumed = main_alone (declaration (set_to 1 input) (statement (assume 2 (compare
 
 assumed_run : (visited assumed (pos 9 ∷ pos 0 ∷ []) ≡ ([], 1, []) ∷ ([], 2, pos 0 ∷ []) ∷ []) × (visited assumed (pos 9 ∷ pos 4 ∷ []) ≡ ([], 1, []) ∷ ([], 2, pos 4 ∷ []) ∷ ([], 3, pos 4 ∷ []) ∷ ([], 4, pos 1 ∷ []) ∷ [])
 assumed_run = (refl, refl)
+
+-- long k(long d){ return d+1; } long h(long a){ for(long i=0;i<a;i=k(i)) ; return k(a); } int main(void){ long m=h(2); }
+-- each round's step calls k from the step's label, and m gets what the call in `return` gives
+call_in_step_run : visited (resolve call_in_step) (pos 7 ∷ pos 8 ∷ []) ≡
+    ([], 9, []) ∷ (9 ∷ [], 4, pos 7 ∷ pos 2 ∷ []) ∷ (9 ∷ [], 3, pos 7 ∷ pos 2 ∷ pos 0 ∷ []) ∷ (9 ∷ [], 6, pos 7 ∷ pos 2 ∷ pos 0 ∷ [])
+    ∷ (9 ∷ [], 5, pos 7 ∷ pos 2 ∷ pos 0 ∷ []) ∷ (5 ∷ 9 ∷ [], 1, pos 7 ∷ pos 2 ∷ pos 0 ∷ pos 0 ∷ []) ∷ (9 ∷ [], 3, pos 7 ∷ pos 2 ∷ pos 1 ∷ [])
+    ∷ (9 ∷ [], 6, pos 7 ∷ pos 2 ∷ pos 1 ∷ []) ∷ (9 ∷ [], 5, pos 7 ∷ pos 2 ∷ pos 1 ∷ []) ∷ (5 ∷ 9 ∷ [], 1, pos 7 ∷ pos 2 ∷ pos 1 ∷ pos 1 ∷ [])
+    ∷ (9 ∷ [], 3, pos 7 ∷ pos 2 ∷ pos 2 ∷ []) ∷ (9 ∷ [], 7, pos 7 ∷ pos 2 ∷ []) ∷ (7 ∷ 9 ∷ [], 1, pos 7 ∷ pos 2 ∷ pos 2 ∷ []) ∷ ([], 10, pos 3 ∷ []) ∷ []
+call_in_step_run = refl
+
+-- long k(long d){ return d+1; } int main(void){ for(long i=0;i<9;i=k(i)){ if(i<2) continue; break; } ; }
+-- the step comes behind each `continue`, with its call, and never behind `break`
+repeated_step_run : visited (resolve repeated_step) (pos 6 ∷ []) ≡
+    ([], 4, []) ∷ ([], 3, pos 0 ∷ []) ∷ ([], 6, pos 0 ∷ []) ∷ ([], 7, pos 0 ∷ []) ∷ ([], 5, pos 0 ∷ []) ∷ (5 ∷ [], 1, pos 0 ∷ pos 0 ∷ [])
+    ∷ ([], 3, pos 1 ∷ []) ∷ ([], 6, pos 1 ∷ []) ∷ ([], 7, pos 1 ∷ []) ∷ ([], 5, pos 1 ∷ []) ∷ (5 ∷ [], 1, pos 1 ∷ pos 1 ∷ [])
+    ∷ ([], 3, pos 2 ∷ []) ∷ ([], 6, pos 2 ∷ []) ∷ ([], 8, pos 2 ∷ []) ∷ ([], 10, []) ∷ ([], 11, []) ∷ []
+repeated_step_run = refl
+
+abbrev with_items : List Item → Here → List ℤ → List ℤ → Config
+with_items items here store draws = record { items = items; here = here; state = record { store = store; draws = draws } }
+
+-- `continue` in a block of a loop's body: the round's end is on top, whose next items are the step and the loop; the block's variable is gone
+behind_continue : (P : Program) (step again : Stmt) (rest : BlockItems) (k : List Item) (h : Here) (x y : ℤ) (draws : List ℤ)
+    → next P (with_items (run (continue 7) ∷ all rest ∷ end_of 9 1 ∷ turn step again 1 ∷ k) h (x ∷ y ∷ []) draws) ≡ Some (with_items (turn step again 1 ∷ k) h (x ∷ []) draws)
+behind_continue P step again rest k h x y draws = refl
+
+behind_turn : (P : Program) (step again : Stmt) (k : List Item) (h : Here) (store draws : List ℤ)
+    → next P (with_items (turn step again 1 ∷ k) h store draws) ≡ Some (with_items (run step ∷ run again ∷ k) h store draws)
+behind_turn P step again k h store draws = refl
+
+-- `break` there: neither the step nor the loop is left
+behind_break : (P : Program) (step again : Stmt) (rest : BlockItems) (k : List Item) (h : Here) (x y : ℤ) (draws : List ℤ)
+    → next P (with_items (run (break 8) ∷ all rest ∷ end_of 9 1 ∷ turn step again 1 ∷ k) h (x ∷ y ∷ []) draws) ≡ Some (with_items k h (x ∷ []) draws)
+behind_break P step again rest k h x y draws = refl
+
+-- `continue` in a loop that stands in another loop's body: the inner round's end is on top, and the outer step waits
+inner_continue : (P : Program) (step again inner : Stmt) (k : List Item) (h : Here) (x : ℤ) (draws : List ℤ)
+    → next P (with_items (run (continue 7) ∷ turn absent inner 1 ∷ end_of 9 1 ∷ turn step again 1 ∷ k) h (x ∷ []) draws) ≡ Some (with_items (turn absent inner 1 ∷ end_of 9 1 ∷ turn step again 1 ∷ k) h (x ∷ []) draws)
+inner_continue P step again inner k h x draws = refl

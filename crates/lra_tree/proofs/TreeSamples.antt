@@ -2,8 +2,8 @@
 use Rattle.std.specs.Prelude.{ℕ, List, [], ◌∷◌, codes, Option, Some, None, true, false, suc}
 use Rattle.lra_tree.specs.declared.refusals.Place.{Place}
 use Rattle.lra_tree.specs.declared.trees.Identifier.{Identifier}
-use Rattle.lra_tree.specs.Program.{at_least, equal}
-use Rattle.lra_tree.specs.Trees.{UnaryTree, literal, variable, unary, ExprTree, term, plus, TestTree, compare, conjunction, test, CondTree, CallTree, SourceTree, expression, result, set, DeclarationTree, assign, return, assert, ItemsTree, no_items, declaration, statement, FunctionTree, function, FileTree}
+use Rattle.lra_tree.specs.Program.{below, at_least, equal}
+use Rattle.lra_tree.specs.Trees.{UnaryTree, literal, variable, unary, ExprTree, term, plus, TestTree, compare, conjunction, test, CondTree, CallTree, SourceTree, expression, result, set, DeclarationTree, declared, block, nothing, assign, if_only, for, break, continue, return, assert, ItemsTree, no_items, declaration, statement, FunctionTree, function, FileTree}
 
 -- of the first line
 abbrev pub at : ℕ → Place
@@ -58,4 +58,36 @@ called_twice = record {
       (statement (assert (at 79) (tested (compare (use_of (x_at 86)) equal (number 3)))) no_items))) 93)
       ∷ [];
   end = at 94;
+}
+
+-- long k(long d){ return d+1; } and the functions behind it
+abbrev next_number : FunctionTree
+next_number = function_of (codes "k") 6 (name_at (codes "d") 13 ∷ []) (statement (return (at 17) (Some (expression (plus (use_of (name_at (codes "d") 24)) (unary (literal 1)))))) no_items) 29
+
+-- long k(long d){ return d+1; } long h(long a){ for(long i=0;i<a;i=k(i)) ; return k(a); } int main(void){ long m=h(2); }
+abbrev pub call_in_step : FileTree
+call_in_step = record {
+  parts = function next_number
+      ∷ function (function_of (codes "h") 36 (name_at (codes "a") 43 ∷ [])
+      (statement (for (at 47) (declared (declared_as (name_at (codes "i") 56) (Some (expression (number 0)))))
+      (Some (tested (compare (use_of (name_at (codes "i") 60)) below (use_of (name_at (codes "a") 62)))))
+      (Some (set (name_at (codes "i") 64) (result (call_of (name_at (codes "k") 66) (use_of (name_at (codes "i") 68) ∷ []))))) (nothing (at 72)))
+      (statement (return (at 74) (Some (result (call_of (name_at (codes "k") 81) (use_of (name_at (codes "a") 83) ∷ []))))) no_items)) 87)
+      ∷ function (function_of (codes "main") 93 [] (declaration (declared_as (name_at (codes "m") 110) (Some (result (call_of (name_at (codes "h") 112) (number 2 ∷ []))))) no_items) 118)
+      ∷ [];
+  end = at 119;
+}
+
+-- long k(long d){ return d+1; } int main(void){ for(long i=0;i<9;i=k(i)){ if(i<2) continue; break; } ; }
+abbrev pub repeated_step : FileTree
+repeated_step = record {
+  parts = function next_number
+      ∷ function (function_of (codes "main") 35 []
+      (statement (for (at 47) (declared (declared_as (name_at (codes "i") 56) (Some (expression (number 0)))))
+      (Some (tested (compare (use_of (name_at (codes "i") 60)) below (number 9))))
+      (Some (set (name_at (codes "i") 64) (result (call_of (name_at (codes "k") 66) (use_of (name_at (codes "i") 68) ∷ [])))))
+      (block (statement (if_only (at 73) (tested (compare (use_of (name_at (codes "i") 76)) below (number 2))) (continue (at 81))) (statement (break (at 91)) no_items)) (at 98)))
+      (statement (nothing (at 100)) no_items)) 102)
+      ∷ [];
+  end = at 103;
 }
