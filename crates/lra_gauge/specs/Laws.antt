@@ -1,0 +1,69 @@
+-- The laws of gauges.
+use Rattle.std.proofs.Common.{◌≡◌, ℕ, zero, suc, ◌<◌, ◌≤◌, ℤ, List, [], length, refl, sym, subst, ◌∙◌, arith}
+use Rattle.std.proofs.Math.Nat.{max-le}
+use Rattle.lra_domain.specs.Actions.{Within}
+use Rattle.lra_domain.specs.Laws.{Laws, PlainLaws}
+use Rattle.lra_gauge.specs.declared.gauge.Gauge.{Gauge}
+use Rattle.lra_gauge.specs.Bounds.{unbounded}
+use Rattle.lra_gauge.specs.Meaning.{GaugeHas, Under, IsGauge, gauge_parts, gauge_meaning}
+
+under_has : (a b : Gauge) → Under a b → Within (GaugeHas a) (GaugeHas b)
+under_has a b u s h = let more = u.1 in let some = h.1 in (h.0 ∙ u.0, omega arith)
+
+whole_has : (n : ℕ) (v : Gauge) → IsGauge n unbounded v → (s : List ℤ) → length s ≡ n → GaugeHas v s
+whole_has n v is s long = let all = is.1 in (long ∙ sym is.0, omega arith)
+
+none_has : (n : ℕ) (v : Gauge) → IsGauge n 0 v → (s : List ℤ) → ¬ GaugeHas v s
+none_has n v is s h = let none = is.1 in let some = h.1 in omega arith
+
+partless_has : (n bound : ℕ) → gauge_parts n bound ≡ [] → ¬ (0 < bound)
+partless_has n zero e h = omega arith
+partless_has n (suc bound) e h = cc
+
+partless_under : (n k a b : ℕ) → a ≤ b → gauge_parts k b ≡ [] → gauge_parts n a ≡ []
+partless_under n k zero b u e = refl
+partless_under n k (suc a) zero u e = absurd (omega arith)
+partless_under n k (suc a) (suc b) u e = cc
+
+pub gauge_laws : Laws gauge_meaning
+gauge_laws = record {
+  sized = λ v s h. h.0;
+  head_sized = λ h s own. own.0;
+  universal_dims = λ n cap v is. is.0;
+  universal_stores = λ n cap v is s long. whole_has n v is s long;
+  void_dims = λ n cap v is. is.0;
+  void_stores = λ n cap v is s h. none_has n v is s h;
+  partless = λ v e s h. partless_has v.dims v.bound e h.1;
+  covered_stores = under_has;
+  head_covered_stores = under_has;
+  stays_stores = λ h v mode u. under_has v h u;
+  answers_yes = λ h v mode u. u;
+  answers_no = λ h v mode u. u;
+  given_up_stores = λ old mode new is s long. whole_has old.dims new is s long;
+}
+
+under_refl : (a : Gauge) → Under a a
+under_refl a = (refl, omega arith)
+
+under_trans : (a b c : Gauge) → Under a b → Under b c → Under a c
+under_trans a b c u v = let one = u.1 in let two = v.1 in (u.0 ∙ v.0, omega arith)
+
+joined_under : (a b j c : Gauge) → gauge_meaning.joined a b j → Under a c → Under b c → Under j c
+joined_under a b j c is u v = (is.0 ∙ u.0, subst (λ (n : ℕ). n ≤ c.bound) (sym is.1) (max-le u.1 v.1))
+
+same_under : (a b : Gauge) → a ≡ b → Under a b
+same_under a b e = subst (λ (c : Gauge). Under a c) e (under_refl a)
+
+pub gauge_plain : PlainLaws gauge_meaning
+gauge_plain = record {
+  covered_reflexive = under_refl;
+  covered_transitive = under_trans;
+  inside_covered = λ a b. (λ u. u, λ u. u);
+  partless_covered = λ a b u e. partless_under a.dims b.dims a.bound b.bound u.1 e;
+  joined_covered = joined_under;
+  stays_covered = λ h a b mode u v. under_trans a b h u v;
+  stays_joined = λ h a b j mode is u v. joined_under a b j h is u v;
+  stays_value = λ h v mode e. same_under v h e;
+  stays_started = λ h v given mode e. same_under v h (sym e);
+  rank_first = λ h. refl;
+}
