@@ -27,7 +27,8 @@ pub record Laws {V H : Type 0} (m : Meaning V H) : Type 0 where
   pub answers_yes : (h : H) (v : V) (mode : Mode) → m.answers h v mode Yes → m.stays h v mode
   pub answers_no : (h : H) (v : V) (mode : Mode) → m.answers h v mode No → ¬ m.stays h v mode
   -- a head that is given up has all stores
-  pub given_up_stores : (old : H) (mode : Mode) (new : H) → m.given_up old mode new → (s : List ℤ) → length s ≡ m.head_dims old → m.head_has new s
+  pub given_up_stores : (old : H) (mode : Mode) (new : H) → m.given_up old mode new
+      → (s : List ℤ) → length s ≡ m.head_dims old → m.head_has new s
 
 -- what values of one part at most keep further, so that sets of them can be made
 pub record PlainLaws {V H : Type 0} (m : Meaning V H) : Type 0 where
@@ -39,9 +40,10 @@ pub record PlainLaws {V H : Type 0} (m : Meaning V H) : Type 0 where
   pub partless_covered : (a b : V) → m.covered a b → m.parts b ≡ [] → m.parts a ≡ []
   -- what covers both operands covers their join
   pub joined_covered : (a b j c : V) → m.joined a b j → m.covered a c → m.covered b c → m.covered j c
-  -- what lies in a head: what is covered by such a value, the join of two such values, the head's value, the head's first value
+  -- what lies in a head: its value, its first value, what is covered by what lies in it, and the join of what lies in it
   pub stays_covered : (h : H) (a b : V) (mode : Mode) → m.covered a b → m.stays h b mode → m.stays h a mode
-  pub stays_joined : (h : H) (a b j : V) (mode : Mode) → m.joined a b j → m.stays h a mode → m.stays h b mode → m.stays h j mode
+  pub stays_joined : (h : H) (a b j : V) (mode : Mode)
+      → m.joined a b j → m.stays h a mode → m.stays h b mode → m.stays h j mode
   pub stays_value : (h : H) (v : V) (mode : Mode) → m.valued h v → m.stays h v mode
   pub stays_started : (h : H) (v : V) (given : Listed ConKind) (mode : Mode) → m.started v given h → m.stays h v mode
   -- the first number of a rank is 1

@@ -53,7 +53,8 @@ pub record Meaning (V H : Type 0) : Type 1 where
   pub value_strains : H → Type 0
 
 -- a change of the old value to the new one, with this exactness
-pub record Meets {V H : Type 0} (m : Meaning V H) (step : Action) (old : V) (exactness : Exactness) (new : V) : Type 0 where
+pub record Meets {V H : Type 0} (m : Meaning V H) (step : Action) (old : V) (exactness : Exactness) (new : V)
+    : Type 0 where
   -- each store to which the change may lead is kept
   pub stores : (s t : List ℤ) → m.has old s → Leads step s t → m.has new t
   -- the result covers the defined one; an exact one is it, a flagged one comes only from a strain
@@ -75,12 +76,16 @@ pub record Starts {V H : Type 0} (m : Meaning V H) (first : V) (given : Listed C
   pub stores : Within (m.has first) (m.head_has head)
   pub started : m.started first given head
 
--- a growth by next may be flagged: its inclusion strains, or answers that next isn't in the head, and the join or the widening strains
+-- a growth by next may be flagged: its inclusion strains, or answers that next isn't in the head, and then the join or the
+-- widening strains
 abbrev pub GrowthStrains : {V H : Type 0} → Meaning V H → H → V → Mode → Type 0
-GrowthStrains m old next mode = m.answers old next mode Wide ⊎ (m.answers old next mode No × m.grow_strains old next mode)
+GrowthStrains m old next mode =
+    m.answers old next mode Wide
+    ⊎ (m.answers old next mode No × m.grow_strains old next mode)
 
 -- a head that grew by next
-pub record Grew {V H : Type 0} (m : Meaning V H) (old : H) (next : V) (mode : Mode) (exactness : Exactness) (new : H) : Type 0 where
+pub record Grew {V H : Type 0} (m : Meaning V H) (old : H) (next : V) (mode : Mode) (exactness : Exactness) (new : H)
+    : Type 0 where
   pub kept : Within (m.head_has old) (m.head_has new)
   pub added : Within (m.has next) (m.head_has new)
   -- the head covers the defined growth
@@ -88,9 +93,10 @@ pub record Grew {V H : Type 0} (m : Meaning V H) (old : H) (next : V) (mode : Mo
   -- an exact growth is the defined one, where the inclusion answers No
   pub moved : exactness ≡ Exact → m.answers old next mode No
   pub exact : exactness ≡ Exact → m.grown old next mode new
-  -- a flagged one comes from an inclusion that strains, and then the head is given up; or from a join or a widening that strains,
-  -- where the inclusion answers No
-  pub flagged : exactness ≡ Flagged → (m.answers old next mode Wide × m.given_up old mode new) ⊎ (m.answers old next mode No × m.grow_strains old next mode)
+  -- a flagged one comes from an inclusion that strains, and then the head is given up; or from a join or a widening that
+  -- strains, where the inclusion answers No
+  pub flagged : exactness ≡ Flagged
+      → (m.answers old next mode Wide × m.given_up old mode new) ⊎ (m.answers old next mode No × m.grow_strains old next mode)
 
 -- the value of a head
 pub record Values {V H : Type 0} (m : Meaning V H) (head : H) (exactness : Exactness) (new : V) : Type 0 where

@@ -14,43 +14,46 @@ use std::alloc::{AllocError, Global};
 ///
 /// A store is a list of whole numbers, one for each dimension. An author of a further domain owes the following.
 ///
-/// **Contents.** Give `Self` and `Head` an `impl Model` whose `Value` is exactly the content: the dimensions, and what
-/// tells the value apart (bounds, canonical rows and generators, entries, parts with their cap; for a head its given rows
-/// too). Then equal contents are equal values: `copy` gives the same content, `same` says whether two are equal, `Stable`
-/// leaves the head's, and a call that answers an error leaves its value's. Leave allocators and spare room out of the view.
+/// **Contents.** Give `Self` and `Head` an `impl Model` whose `Value` is exactly the content: the dimensions, and
+/// what tells the value apart (bounds, canonical rows and generators, entries, parts with their cap; for a head its
+/// given rows too). Then equal contents are equal values: `copy` gives the same content, `same` says whether two are
+/// equal, `Stable` leaves the head's, and a call that answers an error leaves its value's. Leave allocators and spare
+/// room out of the view.
 ///
-/// **Meaning.** Give one record, `meaning`: which stores a value or head `has`, how many dimensions, the `parts` (lists of
-/// rows), the defined result of each call as a relation on contents, when each call may strain, which content another
-/// `covers`, and the `rank` of a head.
+/// **Meaning.** Give one record, `meaning`: which stores a value or head `has`, how many dimensions, the `parts`
+/// (lists of rows), the defined result of each call as a relation on contents, when each call may strain, which
+/// content another `covers`, and the `rank` of a head.
 ///
-/// **Laws.** Give one record, `laws`, that this meaning keeps over all contents, also those that no value has: a store has
-/// as many numbers as there are dimensions (so say the length in `has`); what `universal` allows has all stores of its
-/// dimensions, what `void` allows none, and neither has a value without parts; what is covered, or lies in a head, has no
-/// store beyond those of what covers it, or of the head.
+/// **Laws.** Give one record, `laws`, that this meaning keeps over all contents, also those that no value has: a
+/// store has as many numbers as there are dimensions (so say the length in `has`); what `universal` allows has `n`
+/// dimensions and all their stores, what `void` allows has `n` and no store, and a value without parts has no store;
+/// what is covered, or lies in a head, has no store beyond those of what covers it, or of the head.
 ///
-/// **Stores.** `universe` has all lists of `n` numbers, `empty` none. `assign` keeps each store with `x` replaced by the
-/// form's value there, `forget` each with `x` replaced by anything, `test` each that passes, `join` those of both
-/// operands, `embed` each with `k` numbers of any kind appended, `remove_last` each without its last `k` numbers. `start`
-/// keeps the first value's stores, `value` the head's; after `Grew` the head has all of the old head and of next; `Stable`
-/// comes only where next lies in the head. `included` says `Yes`, and `is_empty` true, only where it is so.
+/// **Stores.** `universe` has all lists of `n` numbers, `empty` none. `assign` keeps each store with `x` replaced by
+/// the form's value there, `forget` each with `x` replaced by anything, `test` each that passes, `join` those of both
+/// operands, `embed` each with `k` numbers of any kind appended, `remove_last` each without its last `k` numbers.
+/// `start` keeps the first value's stores, `value` the head's; after `Grew` the head has all of the old head and of
+/// next; `Stable` comes only where next lies in the head. `included` says `Yes`, and `is_empty` true, only where it
+/// is so.
 ///
-/// **Exactness.** Each result covers the defined one, and that of a join both operands. An `Exact` one is the defined one; a
-/// `Flagged` one comes only where the call strains on its operands. `included` answers `Yes` and `No` by what is so, `Wide`
-/// only where it strains.
+/// **Exactness.** Each result covers the defined one, and that of a join both operands. An `Exact` one is the defined
+/// one; a `Flagged` one comes only where the call strains on its operands. `included` answers `Yes` and `No` by what
+/// is so, `Wide` only where it strains.
 ///
-/// **Heads.** `answers` tells what the inclusion of next in a head may answer: `Yes` only where next lies in it, `No` only
-/// where it doesn't, `Wide` only where it strains. `grow` answers `Stable` only with `Yes`, `Grew(Exact)` only with `No`.
-/// `Grew(Flagged)` comes with `Wide`, and then the head is given up: it has all stores, as a content that `given_up` allows;
-/// or with `No`, where the join or the widening strains.
+/// **Heads.** `answers` tells what the inclusion of next in a head may answer: `Yes` only where next lies in it, `No`
+/// only where it doesn't, `Wide` only where it strains. `grow` answers `Stable` only with `Yes`, `Grew(Exact)` only
+/// with `No`. `Grew(Flagged)` comes with `Wide`, and then the head is given up: it has all stores, as a content that
+/// `given_up` allows; or with `No`, where the join or the widening strains.
 ///
-/// **Ranks.** After `Grew` in mode `Widen` or `Limited` the rank is lower than before, also when flagged: this is why an
-/// iteration ends. Each number of a rank is below 2^62, so that two ranks can be added, with carries.
+/// **Ranks.** After `Grew` in mode `Widen` or `Limited` the rank is lower than before, also when flagged: this is why
+/// an iteration ends. Each number of a rank is below 2^62, so that two ranks can be added, with carries.
 ///
-/// **Parts.** `parts` gives the rows that mean the value: a list of `dims` numbers is a store exactly where all rows of some
-/// part hold; each row has one column more than `dims`. `is_empty` says yes exactly where there is no part.
+/// **Parts.** `parts` gives the rows that mean the value: a list of `dims` numbers is a store exactly where all rows
+/// of some part hold; each row has one column more than `dims`. `is_empty` says yes exactly where there is no part.
 ///
-/// The calls' only conditions are equal dimensions, places in range, at most 2^30 dimensions, and a `cap` (how many parts a
-/// value may have, of use to powersets alone) of at least 1. An `AllocError` can come from any call that answers a `Result`.
+/// The calls' only conditions are equal dimensions, places in range, at most 2^30 dimensions, and a `cap` (how many
+/// parts a value may have, of use to powersets alone) of at least 1. An `AllocError` can come from any call that
+/// answers a `Result`.
 pub trait Domain: Sized + Drop {
     /// A value that grows at the head of a loop.
     type Head: Drop;
