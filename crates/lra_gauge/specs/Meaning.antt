@@ -1,4 +1,5 @@
--- The meaning of gauges: a value has all stores of its dimensions or none, and bounds a number beside them that no change touches.
+-- The meaning of gauges: a value has all stores of its dimensions or none, and bounds a number beside them that no change
+-- touches.
 use Rattle.std.specs.Prelude.{◌≡◌, ℕ, zero, suc, ◌-◌, ◌<◌, ◌≤◌, max, ℤ, List, [], ◌∷◌, length}
 use Rattle.lra_sys.specs.Listed.{Listed}
 use Rattle.lra_sys.specs.declared.system.ConKind.{ConKind}

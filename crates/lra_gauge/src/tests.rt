@@ -10,7 +10,7 @@ fn gauge(bound: u8) -> Gauge
     Gauge { dims: 1, bound }
 }
 
-/// Sums up to 60 are joined, sums up to 100 compared; a head is given up where its inclusion strains, though next lies in it.
+/// Sums up to 60 are joined, sums up to 100 compared; a head whose inclusion strains is given up, though next lies in it.
 #[test]
 fn strains(rt: HostRuntime) -> Result<(), AllocError> {
     let exact = Grown::Grew(Exactness::Exact);
