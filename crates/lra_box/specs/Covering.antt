@@ -1,4 +1,5 @@
--- Being within: wider bounds have each store of narrower ones, and the join of two bounds is the narrowest that is wider than both.
+-- Being within: wider bounds have each store of narrower ones, and the join of two bounds is the narrowest that is wider
+-- than both.
 use Rattle.std.proofs.Common.{◌≡◌, ℕ, zero, suc, ℤ, List, [], ◌∷◌, length, replicate, Option, None, Some, arith}
 use Rattle.std.proofs.lemmas.Int.{ints, clamps}
 use Rattle.lra_box.specs.declared.interval.Interval.{Interval}

@@ -15,11 +15,20 @@ use std::alloc::{AllocError, Global};
 use std::marker::Model;
 
 /// A box: empty, or an interval for each dimension, whose lower bound is at most its upper one.
-#[derive(Drop)]
 pub struct Boxes {
     alloc: Global,
     dims: usize,
     bounds: Bounds,
+}
+
+impl Drop for Boxes {
+    fn drop(self) {
+        let Boxes {
+            alloc: _,
+            dims: _,
+            bounds: _,
+        } = self;
+    }
 }
 
 impl Model for Boxes {

@@ -1,28 +1,55 @@
-ghost use Rattle.std.specs.Prelude.{◌≡◌, IfOk};
+ghost use Rattle.std.specs.Prelude.{◌≡◌, ◌<◌, length, IfOk};
 
 use crate::Boxes;
 use lra_domain::{Domain, Exactness, Included, Mode};
 use lra_lin::{LinExpr, Test, TestKind};
+use lra_row::Row;
 use lra_sys::{ConKind, ConSys};
 use std::alloc::{AllocError, Global};
+
+/// Assigns the form of this constant and these factors, through the bound.
+fn set_by<D: Domain>(
+    alloc: Global,
+    value: &mut D,
+    x: usize,
+    constant: i64,
+    factors: &[i64],
+) -> Result<Exactness, AllocError>
+    requires place { x < D.meaning.dims value.old }
+    requires width { length factors.now ≡ D.meaning.dims value.old }
+    ensures { D.meaning.dims value.new ≡ D.meaning.dims value.old }
+{
+    let form = LinExpr::new(alloc, constant, factors)?;
+    let exactness = value.assign(x, &form)?;
+    Ok(exactness)
+}
+
+/// Keeps where the form isn't negative, through the bound.
+fn keep_by<D: Domain>(
+    alloc: Global,
+    value: &mut D,
+    constant: i64,
+    factors: &[i64],
+) -> Result<Exactness, AllocError>
+    requires { length factors.now ≡ D.meaning.dims value.old }
+    ensures { D.meaning.dims value.new ≡ D.meaning.dims value.old }
+{
+    let test = Test {
+        expr: LinExpr::new(alloc, constant, factors)?,
+        kind: TestKind::Ge,
+    };
+    let exactness = value.test(&test)?;
+    Ok(exactness)
+}
 
 /// x = 3 and 3 <= y <= 10, by an assignment and two tests through the bound.
 fn value_by<D: Domain>(alloc: Global) -> Result<D, AllocError>
     ensures { IfOk result (λ v. D.meaning.dims v ≡ 2) }
 {
     let mut value = D::universe(alloc, 2, 1)?;
-    let three = LinExpr::new(alloc, 3, &[0, 0])?;
-    value.assign(0, &three)?;
-    let above = Test {
-        expr: LinExpr::new(alloc, 0, &[-1, 1])?,
-        kind: TestKind::Ge,
-    };
-    value.test(&above)?;
-    let below = Test {
-        expr: LinExpr::new(alloc, 10, &[0, -1])?,
-        kind: TestKind::Ge,
-    };
-    value.test(&below)?;
+    set_by(alloc, &mut value, 0, 3, &[0, 0])?;
+    keep_by(alloc, &mut value, 0, &[-1, 1])?;
+    keep_by(alloc, &mut value, 10, &[0, -1])?;
     Ok(value)
 }
 
@@ -55,16 +82,14 @@ fn resizes_by<D: Domain>(value: &mut D) -> Result<usize, AllocError>
 /// A head of 0, joined with 1, widened by 2, through the bound: its value, and its ranks.
 fn head_by<D: Domain>(alloc: Global) -> Result<(D, [u64; 3]), AllocError> {
     let mut value = D::universe(alloc, 1, 1)?;
-    let zero = LinExpr::new(alloc, 0, &[0])?;
-    value.assign(0, &zero)?;
+    set_by(alloc, &mut value, 0, 0, &[0])?;
     let given = ConSys::new(alloc, 1);
     let mut head = D::start(alloc, &value, &given)?;
     let first = D::rank(&head).fourth;
-    let next = LinExpr::new(alloc, 1, &[1])?;
-    value.assign(0, &next)?;
+    set_by(alloc, &mut value, 0, 1, &[1])?;
     D::grow(&mut head, &value, Mode::Join)?;
     let second = D::rank(&head).fourth;
-    value.assign(0, &next)?;
+    set_by(alloc, &mut value, 0, 1, &[1])?;
     D::grow(&mut head, &value, Mode::Widen)?;
     let (last, _exactness) = D::value(alloc, &head)?;
     Ok((last, [first, second, D::rank(&head).fourth]))
@@ -74,6 +99,25 @@ fn head_by<D: Domain>(alloc: Global) -> Result<(D, [u64; 3]), AllocError> {
 fn parts_by<D: Domain>(alloc: Global, value: &D) -> Result<Vec<ConSys>, AllocError> {
     let parts = value.parts(alloc)?;
     Ok(parts)
+}
+
+fn is_row(row: &Row, numbers: &[i128; 3]) -> bool {
+    for (column, number) in numbers.iter().enumerate() {
+        if column >= row.width() || row.get(column) != *number {
+            return false;
+        }
+    }
+    row.width() == 3
+}
+
+/// Whether the part has these rows, in this order.
+fn has_rows(part: &ConSys, want: &[([i128; 3], ConKind)]) -> bool {
+    for ((row, kind), (numbers, right)) in part.rows().iter().zip(part.kinds()).zip(want.iter()) {
+        if *kind != *right || !is_row(row, numbers) {
+            return false;
+        }
+    }
+    part.rows().len() == want.len()
 }
 
 /// The rows are x = 3, y >= 3, y <= 10, in this order.
@@ -90,22 +134,7 @@ fn values_of_boxes(rt: HostRuntime) -> Result<(), AllocError> {
         ([10, 0, -1], ConKind::Ge),
     ];
     for part in &parts {
-        assert_eq!(rt; part.rows().len(), 3);
-        for (place, ((row, kind), (numbers, right))) in part
-            .rows()
-            .iter()
-            .zip(part.kinds())
-            .zip(want.iter())
-            .enumerate()
-        {
-            assert_eq!(rt; *kind, *right, "row {place}");
-            assert_eq!(rt; row.width(), 3);
-            for (column, number) in numbers.iter().enumerate() {
-                if column < row.width() {
-                    assert_eq!(rt; row.get(column), *number, "row {place}");
-                }
-            }
-        }
+        assert!(rt; has_rows(part, &want));
     }
     Ok(())
 }
@@ -128,13 +157,50 @@ fn heads_of_boxes(rt: HostRuntime) -> Result<(), AllocError> {
 fn passing_the_range(rt: HostRuntime) -> Result<(), AllocError> {
     let alloc = rt.alloc();
     let mut value = <Boxes as Domain>::universe(alloc, 2, 1)?;
-    let most = LinExpr::new(alloc, i64::MAX, &[0, 0])?;
-    assert_eq!(rt; value.assign(0, &most)?, Exactness::Exact);
-    let large = LinExpr::new(alloc, 0, &[i64::MAX, 0])?;
-    assert_eq!(rt; value.assign(0, &large)?, Exactness::Exact);
-    assert_eq!(rt; value.assign(0, &large)?, Exactness::Flagged);
-    // x is without bounds now: the sum ends there, and nothing behind it passes
-    let both = LinExpr::new(alloc, 0, &[1, i64::MAX])?;
-    assert_eq!(rt; value.assign(1, &both)?, Exactness::Exact);
+    // x is without bounds in the end: the last sum ends there, and nothing behind it passes
+    let rows = [
+        (0, i64::MAX, [0, 0], Exactness::Exact),
+        (0, 0, [i64::MAX, 0], Exactness::Exact),
+        (0, 0, [i64::MAX, 0], Exactness::Flagged),
+        (1, 0, [1, i64::MAX], Exactness::Exact),
+    ];
+    for (x, constant, factors, want) in rows {
+        assert!(rt; value.dims() == 2 && x < 2);
+        let found = set_by(alloc, &mut value, x, constant, &factors)?;
+        assert_eq!(rt; found, want, "{x} by {constant}");
+    }
+    Ok(())
+}
+
+/// x and y from 0 to 2 * (2^63 - 1)^2, just below 2^127.
+fn near_the_range<D: Domain>(alloc: Global) -> Result<D, AllocError>
+    ensures { IfOk result (λ v. D.meaning.dims v ≡ 2) }
+{
+    let mut value = D::universe(alloc, 2, 1)?;
+    keep_by(alloc, &mut value, 0, &[1, 0])?;
+    keep_by(alloc, &mut value, i64::MAX, &[-1, 0])?;
+    set_by(alloc, &mut value, 0, 0, &[i64::MAX, 0])?;
+    set_by(alloc, &mut value, 0, 0, &[2, 0])?;
+    set_by(alloc, &mut value, 1, 0, &[1, 0])?;
+    Ok(value)
+}
+
+/// Of a sum only the bound goes that passes the range: the upper one of x + y, the lower one of -x - y.
+#[test]
+fn sums_passing_the_range(rt: HostRuntime) -> Result<(), AllocError> {
+    let most = 170141183460469231694793815568465002498;
+    for (factors, kept) in [([1, 1], [0, 1, 0]), ([-1, -1], [0, -1, 0])] {
+        let mut value = near_the_range::<Boxes>(rt.alloc())?;
+        let found = set_by(rt.alloc(), &mut value, 0, 0, &factors)?;
+        assert_eq!(rt; found, Exactness::Flagged);
+        let want = [
+            (kept, ConKind::Ge),
+            ([0, 0, 1], ConKind::Ge),
+            ([most, 0, -1], ConKind::Ge),
+        ];
+        for part in &parts_by(rt.alloc(), &value)? {
+            assert!(rt; has_rows(part, &want));
+        }
+    }
     Ok(())
 }
