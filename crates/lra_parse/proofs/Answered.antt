@@ -1,6 +1,5 @@
 -- From the reader of a file to the tree, and to the first fault.
-use Rattle.std.proofs.Common.{◌≡◌, ◌≢◌, ℕ, suc, ◌+◌, ◌-◌, ◌≤◌, ◌<◌, List, [], ◌∷◌, ◌++◌, length, ◌⊎◌, inl, inr, Option, Some, None, Ok, Err, refl, sym, ap, subst, ◌∙◌, append_assoc, length-append, get_or, arith}
-use Rattle.std.specs.Bool.{⊤}
+use Rattle.std.proofs.Common.{◌≡◌, ◌≢◌, suc, ◌+◌, ◌-◌, ◌≤◌, ◌<◌, List, [], ◌∷◌, ◌++◌, length, inl, inr, Option, Some, None, Ok, Err, refl, sym, ap, subst, ◌∙◌, append_assoc, length-append, get_or, arith}
 use Rattle.std.specs.List.{AllByRecursion}
 use Rattle.std.proofs.lemmas.List.{append-nil, get_or_at}
 use Rattle.lra_tree.specs.declared.refusals.Place.{Place}
@@ -8,17 +7,17 @@ use Rattle.lra_tree.specs.declared.refusals.Cause.{Cause}
 use Rattle.lra_tree.specs.declared.refusals.Cause.TheVariants.{Syntax, TooDeep}
 use Rattle.lra_tree.specs.declared.tokens.Kind.TheVariants.{End}
 use Rattle.lra_tree.specs.declared.tokens.Token.{Token}
-use Rattle.lra_tree.specs.Texts.{Piece, Pieces, plain}
+use Rattle.lra_tree.specs.Texts.{Pieces, plain}
 use Rattle.lra_tree.specs.Trees.{PartTree, FileTree}
-use Rattle.lra_tree.specs.Faults.{IsLow, IsTree, CanBegin, IsAtFault, IsTextFault}
+use Rattle.lra_tree.specs.Faults.{IsTree, CanBegin, IsAtFault, IsTextFault}
 use Rattle.lra_tree.specs.Built.{Built}
 use Rattle.lra_parse.specs.declared.reading.Fault.{Fault}
 use Rattle.lra_parse.specs.Tests.{first}
-use Rattle.lra_parse.specs.Reading.{Text, Read, Parse, stop, ◌>>=◌, seq, map_read, take_by, taken}
+use Rattle.lra_parse.specs.Reading.{Text, Read, stop, ◌>>=◌, map_read, take_by, taken}
 use Rattle.lra_parse.specs.Files.{EndsOnce, parts_at, next_end, file_of, file_at}
-use Rattle.lra_parse.proofs.Exact.{Low, Within, Goes, Fails, Exact, plain-append, bind_err}
+use Rattle.lra_parse.proofs.Exact.{Low, Within, Goes, plain-append, bind_err}
 use Rattle.lra_parse.proofs.Tokens.{IsInner}
-use Rattle.lra_parse.proofs.ExactFiles.{AnyToken, exact_parts, exact_file}
+use Rattle.lra_parse.proofs.ExactFiles.{exact_parts}
 use Rattle.lra_parse.proofs.Laws.{the_file, read_whole}
 
 -- nothing stands behind the end --------------------------------------------------------------------------------------

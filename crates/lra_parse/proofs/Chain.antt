@@ -1,18 +1,16 @@
 -- Chains, items with operators between them; and lists, items one behind the other.
-use Rattle.std.proofs.Common.{◌≡◌, ℕ, ◌+◌, zero, suc, ◌≤◌, ◌<◌, Bool, true, false, cond, ◌⊎◌, List, [], ◌∷◌, ◌++◌, length, Option, Some, None, Result, Ok, Err, refl, sym, ap, subst, ◌∙◌, append_assoc, arith, inl, inr}
-use Rattle.std.specs.Bool.{⊤}
+use Rattle.std.proofs.Common.{◌≡◌, ℕ, Bool, true, false, List, [], ◌∷◌, ◌++◌, Option, Some, None, refl, sym, ap, subst, ◌∙◌, append_assoc}
 use Rattle.std.proofs.lemmas.List.{append-nil}
 use Rattle.lra_tree.specs.declared.refusals.Place.{Place}
 use Rattle.lra_tree.specs.declared.tokens.Mark.{Mark}
 use Rattle.lra_tree.specs.declared.tokens.Kind.TheVariants.{Mark as MarkOf}
 use Rattle.lra_tree.specs.declared.tokens.Token.{Token}
-use Rattle.lra_tree.specs.Texts.{Piece, Pieces, plain, Texts, ◌⋅◌, empty, mark}
-use Rattle.lra_parse.specs.Tests.{first, is_mark}
-use Rattle.lra_parse.specs.Reading.{Text, Read, Parse, seq, map_read, turns, take_by, has, one_of, chain_step, chain_rest, chain, list_step, list_of}
-use Rattle.lra_parse.proofs.Exact.{Exact, Any, Free, test, first_or, first_or-is, first_or-both, nonempty, Both, then}
-use Rattle.lra_parse.proofs.Forms.{rename, widen, retell, entry, mapped, same_where, Taken}
+use Rattle.lra_tree.specs.Texts.{Pieces, Texts, ◌⋅◌, empty, mark}
+use Rattle.lra_parse.specs.Reading.{Parse, take_by, has, chain_step, chain_rest, chain, list_step, list_of}
+use Rattle.lra_parse.proofs.Exact.{Exact, Any, Free, first_or, then}
+use Rattle.lra_parse.proofs.Forms.{rename, retell, entry, mapped}
 use Rattle.lra_parse.proofs.Turns.{Steps, none, turn, step_last, exact_turns}
-use Rattle.lra_parse.proofs.Tokens.{IsInner, some_place}
+use Rattle.lra_parse.proofs.Tokens.{IsInner}
 
 -- pieces in other brackets
 pub regroup : (x y a b : Pieces) → x ≡ a ++ b → x ++ y ≡ a ++ (b ++ y)

@@ -2,17 +2,17 @@
 -- it reads a value a where the text begins with one of a's texts S a, whose levels are at most n, and F a holds of the token behind it; then no other;
 -- else it stops at the first token with which no text of V begins, or that opens a level past n, having looked at nothing behind it.
 -- Each token that is read meets Q. V has the texts of which those of S are some; mostly it is S.
-use Rattle.std.proofs.Common.{◌≡◌, ℕ, zero, suc, ◌≤◌, ◌<◌, Bool, true, false, cond, ◌⊎◌, List, [], ◌∷◌, ◌++◌, length, Option, Some, None, Result, Ok, Err, refl, sym, ap, subst, ◌∙◌, append_assoc, length-append, arith, inl, inr}
+use Rattle.std.proofs.Common.{◌≡◌, ℕ, ◌≤◌, ◌<◌, Bool, true, false, ◌⊎◌, [], ◌∷◌, ◌++◌, length, Option, Some, None, Ok, Err, refl, sym, ap, subst, ◌∙◌, append_assoc, inl, inr}
 use Rattle.std.specs.Bool.{⊤}
 use Rattle.std.specs.List.{AllByRecursion}
-use Rattle.std.proofs.lemmas.List.{append-nil, append_cancel_left, append_cancel_right}
+use Rattle.std.proofs.lemmas.List.{append_cancel_right}
 use Rattle.lra_tree.specs.declared.refusals.Cause.{Cause}
 use Rattle.lra_tree.specs.declared.refusals.Cause.TheVariants.{Syntax, TooDeep}
 use Rattle.lra_tree.specs.declared.tokens.Token.{Token}
-use Rattle.lra_tree.specs.Texts.{Piece, Pieces, plain, Texts, ◌⋅◌}
+use Rattle.lra_tree.specs.Texts.{Piece, Pieces, plain, ◌⋅◌}
 use Rattle.lra_parse.specs.declared.reading.Fault.{Fault}
 use Rattle.lra_parse.specs.Tests.{first}
-use Rattle.lra_parse.specs.Reading.{Text, Read, Parse, stop, ◌>>=◌, seq, done_with}
+use Rattle.lra_parse.specs.Reading.{Text, Read, Parse, stop, ◌>>=◌, seq}
 
 -- no token opens a level past n
 abbrev pub Low : ℕ → Pieces → Type 0

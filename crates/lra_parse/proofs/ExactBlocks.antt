@@ -1,9 +1,9 @@
 -- The readers of blocks, branches and their levels are exact.
-use Rattle.std.proofs.Common.{◌≡◌, ℕ, ◌+◌, zero, suc, ◌≤◌, ◌<◌, Bool, true, false, cond, ◌||◌, ◌&&◌, ◌⊎◌, List, [], ◌∷◌, ◌++◌, Option, Some, None, Ok, Err, refl, sym, ap, subst, ◌∙◌, append_assoc, arith, inl, inr, option_map}
+use Rattle.std.proofs.Common.{◌≡◌, ℕ, ◌+◌, zero, suc, ◌≤◌, ◌<◌, Bool, true, false, ◌||◌, ◌&&◌, ◌⊎◌, List, [], ◌∷◌, ◌++◌, Option, Some, None, refl, sym, ap, subst, ◌∙◌, arith, inl, inr, option_map}
 use Rattle.std.specs.Bool.{⊤}
 use Rattle.std.proofs.lemmas.List.{append-nil}
 use Rattle.lra_tree.specs.declared.refusals.Place.{Place}
-use Rattle.lra_tree.specs.declared.refusals.Cause.TheVariants.{Syntax, TooDeep}
+use Rattle.lra_tree.specs.declared.refusals.Cause.TheVariants.{TooDeep}
 use Rattle.lra_tree.specs.declared.tokens.Mark.{Mark}
 use Rattle.lra_tree.specs.declared.tokens.Mark.TheVariants as mark
 use Rattle.lra_tree.specs.declared.tokens.Kind.{Kind}
@@ -12,23 +12,23 @@ use Rattle.lra_tree.specs.declared.tokens.Token.{Token}
 use Rattle.lra_tree.specs.declared.trees.Identifier.{Identifier}
 use Rattle.lra_tree.specs.declared.trees.Step.{Step}
 use Rattle.lra_tree.specs.declared.trees.Step.TheVariants as step
-use Rattle.lra_tree.specs.Texts.{Piece, Pieces, plain, Texts, ◌⋅◌, empty, opens, mark as spells, opens_at, name}
+use Rattle.lra_tree.specs.Texts.{Piece, Pieces, Texts, ◌⋅◌, opens, opens_at}
 use Rattle.lra_tree.specs.Trees.{DeclarationTree, StmtTree, block, nothing, assign, call, if_only, if_else, while, for, break, continue, return, assert, assume, increment, after, before, ItemsTree, no_items, declaration, statement}
 use Rattle.lra_tree.specs.Views.{step_view}
 use Rattle.lra_tree.specs.Grammar.{IsStmt, AreItems}
 use Rattle.lra_tree.specs.Built.{IsBuiltDeclaration, IsBuiltStmt, AreBuiltStmts, AreBuiltItems}
-use Rattle.lra_parse.specs.Tests.{first, is_mark}
-use Rattle.lra_parse.specs.Reading.{Text, Parse, stop, seq, map_read, expect_at, next_name, identifier_of, has, one_of, list_of}
-use Rattle.lra_parse.specs.Statements.{next_step, step_marks, declaration_at, StmtMark, at_nothing, at_if, at_assert, at_assume, stmt_marks, stmt_mark, begins_assign, begins_stmt, simple_of, ItemTree, declared, stated, put, items_from, begins_item, stated_of, item_of, items_of, body_of, block_from, too_deep, levels, branch_at, block_at, simple_at, item_at, items_at}
-use Rattle.lra_parse.proofs.Marks.{is_mark_some, is_mark_self}
+use Rattle.lra_parse.specs.Tests.{is_mark}
+use Rattle.lra_parse.specs.Reading.{Parse, stop, map_read, identifier_of, has, one_of}
+use Rattle.lra_parse.specs.Statements.{next_step, step_marks, StmtMark, at_nothing, at_if, at_assert, at_assume, stmt_marks, stmt_mark, begins_stmt, ItemTree, declared, stated, items_from, begins_item, stated_of, item_of, items_of, body_of, block_from, too_deep, levels, branch_at, block_at, simple_at, items_at}
+use Rattle.lra_parse.proofs.Marks.{is_mark_some}
 use Rattle.lra_parse.proofs.Exact.{Exact, Any, Free, Both, test, first_or, then}
 use Rattle.lra_parse.proofs.Forms.{rename, widen, retell, entry, given as given_fact, mapped, branch, exact_stop, exact_deep}
 use Rattle.lra_parse.proofs.Tokens.{IsInner, exact_expect_at, some_place, some_name}
 use Rattle.lra_parse.proofs.Chain.{regroup, Items, AfterLast, all_last, exact_list}
-use Rattle.lra_parse.proofs.Parts.{token, exact_behind, table_mark, by_table}
+use Rattle.lra_parse.proofs.Parts.{token, exact_behind, table_mark}
 use Rattle.lra_parse.proofs.ExactExpressions.{Of, first_opened, opened_over}
 use Rattle.lra_parse.proofs.ExactConditions.{some_cond}
-use Rattle.lra_parse.proofs.ExactStatements.{mark_of_step, step_self, DeclarationText, exact_declaration, AfterStmt, StmtText, IsBlock, SimpleText, mark_of_stmt, SimpleAt, from_simple, placed_first, assign_no_mark, AssignText, from_assign, exact_simple}
+use Rattle.lra_parse.proofs.ExactStatements.{mark_of_step, DeclarationText, exact_declaration, AfterStmt, StmtText, IsBlock, SimpleText, mark_of_stmt, SimpleAt, from_simple, placed_first, assign_no_mark, AssignText, from_assign, exact_simple}
 
 -- how a statement begins ------------------------------------------------------------------------------------------
 

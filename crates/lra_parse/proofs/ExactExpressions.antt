@@ -1,26 +1,24 @@
 -- The readers of expressions are exact.
-use Rattle.std.proofs.Common.{◌≡◌, ℕ, ◌+◌, zero, suc, ◌≤◌, ◌<◌, Bool, true, false, cond, ◌⊎◌, List, [], ◌∷◌, ◌++◌, Option, Some, None, Ok, Err, refl, sym, ap, subst, ◌∙◌, append_assoc, arith, inl, inr}
+use Rattle.std.proofs.Common.{◌≡◌, ℕ, ◌+◌, zero, suc, ◌≤◌, ◌<◌, true, false, ◌⊎◌, [], ◌∷◌, ◌++◌, Option, Some, None, refl, sym, ap, subst, ◌∙◌, arith, inl, inr}
 use Rattle.std.specs.Bool.{⊤}
-use Rattle.std.proofs.lemmas.List.{append-nil}
 use Rattle.lra_tree.specs.declared.refusals.Place.{Place}
-use Rattle.lra_tree.specs.declared.refusals.Cause.TheVariants.{Syntax, TooDeep}
+use Rattle.lra_tree.specs.declared.refusals.Cause.TheVariants.{TooDeep}
 use Rattle.lra_tree.specs.declared.tokens.Mark.{Mark}
 use Rattle.lra_tree.specs.declared.tokens.Mark.TheVariants as mark
-use Rattle.lra_tree.specs.declared.tokens.Kind.TheVariants.{Name, Number, Mark as MarkOf}
 use Rattle.lra_tree.specs.declared.tokens.Token.{Token}
 use Rattle.lra_tree.specs.declared.trees.FactorOperator.{FactorOperator}
 use Rattle.lra_tree.specs.declared.trees.FactorOperator.TheVariants as factor
 use Rattle.lra_tree.specs.declared.trees.SumOperator.{SumOperator}
 use Rattle.lra_tree.specs.declared.trees.SumOperator.TheVariants as sum
-use Rattle.lra_tree.specs.Texts.{Piece, Pieces, plain, Texts, ◌⋅◌, opens, mark as spells, name, number}
+use Rattle.lra_tree.specs.Texts.{Piece, Pieces, Texts, ◌⋅◌, opens, mark as spells, name, number}
 use Rattle.lra_tree.specs.Trees.{UnaryTree, negated, positive, literal, variable, input, group, TermTree, unary, times, over, modulo, ExprTree, term, plus, minus}
 use Rattle.lra_tree.specs.Views.{further_factor, further_term}
 use Rattle.lra_tree.specs.Grammar.{IsUnary, IsTerm, IsExpr}
-use Rattle.lra_parse.specs.Tests.{first, is_mark}
-use Rattle.lra_parse.specs.Reading.{Text, Parse, stop, seq, map_read, expect, take_by, next_name, next_number, has, one_of, chain, chain_rest}
-use Rattle.lra_parse.specs.Expressions.{factor_operators, factor_operator, sum_operators, sum_operator, behind, ended, in_parens, factors, term_of, summands, expr_of, UnaryMark, at_minus, at_plus, at_group, at_input, unary_marks, unary_mark, read_literal, read_variable, read_input, atom, unary_form, unary_at, expr_at}
-use Rattle.lra_parse.proofs.Exact.{Exact, Any, Free, first_or, first_or-both, then}
-use Rattle.lra_parse.proofs.Forms.{rename, widen, retell, entry, mapped, choose, branch, exact_deep}
+use Rattle.lra_parse.specs.Tests.{first}
+use Rattle.lra_parse.specs.Reading.{Parse, stop, next_number, has}
+use Rattle.lra_parse.specs.Expressions.{factor_operators, factor_operator, sum_operators, sum_operator, factors, term_of, summands, expr_of, UnaryMark, at_minus, at_plus, at_group, at_input, unary_marks, unary_mark, read_input, atom, unary_form, unary_at, expr_at}
+use Rattle.lra_parse.proofs.Exact.{Exact, Any, Free, first_or}
+use Rattle.lra_parse.proofs.Forms.{rename, widen, entry, mapped, choose, branch, exact_deep}
 use Rattle.lra_parse.proofs.Tokens.{IsInner, exact_expect, exact_name, exact_number, exact_operator, some_place, some_name}
 use Rattle.lra_parse.proofs.Chain.{IsFollow, IsOperator, Step_to, Split, split_more, split_start, whole, steps_first, exact_rest, exact_chain}
 use Rattle.lra_parse.proofs.Turns.{Steps}

@@ -1,8 +1,7 @@
 -- The reader of a file is exact.
-use Rattle.std.proofs.Common.{◌≡◌, ℕ, ◌+◌, zero, suc, ◌≤◌, ◌<◌, Bool, true, false, cond, bytes_eq, codes, ◌⊎◌, List, [], ◌∷◌, ◌++◌, Option, Some, None, Ok, Err, refl, sym, ap, subst, ◌∙◌, append_assoc, arith, inl, inr}
+use Rattle.std.proofs.Common.{◌≡◌, ℕ, ◌+◌, Bool, true, false, bytes_eq, codes, List, [], ◌∷◌, ◌++◌, Option, Some, None, refl, sym, ap, subst, ◌∙◌, arith, inl, inr}
 use Rattle.std.specs.Bool.{⊤}
 use Rattle.std.specs.List.{AllByRecursion}
-use Rattle.std.proofs.lemmas.List.{append-nil}
 use Rattle.std.proofs.lemmas.Slice.Eq.{bytes_eq-Decides}
 use Rattle.lra_tree.specs.declared.refusals.Place.{Place}
 use Rattle.lra_tree.specs.declared.tokens.Mark.{Mark}
@@ -11,19 +10,18 @@ use Rattle.lra_tree.specs.declared.tokens.Kind.{Kind}
 use Rattle.lra_tree.specs.declared.tokens.Kind.TheVariants.{Name, Number, Mark as MarkOf, Reserved, Unclosed, End}
 use Rattle.lra_tree.specs.declared.tokens.Token.{Token}
 use Rattle.lra_tree.specs.declared.trees.Identifier.{Identifier}
-use Rattle.lra_tree.specs.Texts.{Piece, Pieces, plain, Texts, ◌⋅◌, ◌∣◌, empty, opens, mark as spells, opens_at, name, end_at}
+use Rattle.lra_tree.specs.Texts.{Pieces, Texts, ◌⋅◌, ◌∣◌, empty, opens, mark as spells, name, end_at}
 use Rattle.lra_tree.specs.Trees.{ItemsTree, no_items, FunctionTree, PartTree, prototype, globals, function, FileTree}
-use Rattle.lra_tree.specs.Grammar.{IsType, IsMainName, IsHead, IsFunction, AreItems, IsPart, AreParts, Spells}
+use Rattle.lra_tree.specs.Grammar.{IsType, IsHead, IsFunction, IsPart, AreParts}
 use Rattle.lra_tree.specs.Built.{AreBuiltItems, IsBuiltFunction, IsBuiltPart, Built}
-use Rattle.lra_parse.specs.Tests.{first, is_mark}
-use Rattle.lra_parse.specs.Reading.{Text, Parse, stop, seq, map_read, take_by, taken, next_name, identifier_of, has, one_of, list_of}
-use Rattle.lra_parse.specs.Statements.{skip, items_at}
-use Rattle.lra_parse.specs.Files.{is_main, next_main, HeadMark, at_int, at_type, at_void, head_marks, head_mark, head_form, read_head, function_of, read_rest, function_at, begins_part, parts_at, end_of, next_end, file_of, file_at}
+use Rattle.lra_parse.specs.Tests.{is_mark}
+use Rattle.lra_parse.specs.Reading.{take_by, identifier_of}
+use Rattle.lra_parse.specs.Files.{is_main, next_main, HeadMark, at_int, at_type, at_void, head_mark, head_form, read_head, function_of, function_at, begins_part, parts_at, end_of, next_end, file_of, file_at}
 use Rattle.lra_parse.proofs.Exact.{Exact, Any, Free, Both, test, first_or, first_or-both, then}
-use Rattle.lra_parse.proofs.Forms.{rename, widen, retell, entry, loose, mapped, choose, Taken, exact_stop, exact_take}
+use Rattle.lra_parse.proofs.Forms.{rename, widen, retell, entry, loose, mapped, choose, exact_stop, exact_take}
 use Rattle.lra_parse.proofs.Tokens.{IsInner, name_is, some_place}
 use Rattle.lra_parse.proofs.Chain.{regroup, Items, AfterLast, all_last, exact_list}
-use Rattle.lra_parse.proofs.Parts.{token, exact_behind, table_mark}
+use Rattle.lra_parse.proofs.Parts.{exact_behind}
 use Rattle.lra_parse.proofs.ExactExpressions.{Of, first_opened}
 use Rattle.lra_parse.proofs.ExactStatements.{exact_skip, exact_type}
 use Rattle.lra_parse.proofs.ExactBlocks.{BodyText, exact_function_body}

@@ -1,13 +1,12 @@
 -- The readers of assignments, declarations and statements are exact.
-use Rattle.std.proofs.Common.{◌≡◌, ℕ, ◌+◌, zero, suc, ◌≤◌, ◌<◌, Bool, true, false, cond, ◌||◌, ◌&&◌, ◌⊎◌, List, [], ◌∷◌, ◌++◌, Option, Some, None, Ok, Err, refl, sym, ap, subst, ◌∙◌, append_assoc, arith, inl, inr, option_map}
+use Rattle.std.proofs.Common.{◌≡◌, ℕ, ◌+◌, ◌≤◌, Bool, true, false, cond, ◌⊎◌, List, [], ◌∷◌, ◌++◌, Option, Some, None, Ok, Err, refl, sym, ap, subst, ◌∙◌, arith, inl, inr, option_map}
 use Rattle.std.specs.Bool.{⊤}
 use Rattle.std.specs.List.{AllByRecursion}
 use Rattle.std.proofs.lemmas.List.{append-nil}
 use Rattle.lra_tree.specs.declared.refusals.Place.{Place}
-use Rattle.lra_tree.specs.declared.refusals.Cause.TheVariants.{Syntax, TooDeep}
 use Rattle.lra_tree.specs.declared.tokens.Mark.{Mark}
 use Rattle.lra_tree.specs.declared.tokens.Mark.TheVariants as mark
-use Rattle.lra_tree.specs.declared.tokens.Kind.TheVariants.{Name, Number, Mark as MarkOf}
+use Rattle.lra_tree.specs.declared.tokens.Kind.TheVariants.{Name, Mark as MarkOf}
 use Rattle.lra_tree.specs.declared.tokens.Token.{Token}
 use Rattle.lra_tree.specs.declared.trees.Identifier.{Identifier}
 use Rattle.lra_tree.specs.declared.trees.Operator.{Operator}
@@ -15,22 +14,22 @@ use Rattle.lra_tree.specs.declared.trees.Operator.TheVariants as operator
 use Rattle.lra_tree.specs.declared.trees.Step.{Step}
 use Rattle.lra_tree.specs.declared.trees.Step.TheVariants as step
 use Rattle.lra_tree.specs.Program as program
-use Rattle.lra_tree.specs.Texts.{Piece, Pieces, plain, Texts, ◌⋅◌, ◌∣◌, empty, opens, mark as spells, opens_at, name, further, separated}
-use Rattle.lra_tree.specs.Trees.{ExprTree, CondTree, SourceTree, expression, result, StepTree, increment, decrement, AssignTree, set, update, after, before, DeclaratorTree, DeclarationTree, StmtTree, block, nothing, assign, call, if_only, if_else, while, for, break, continue, return, assert, assume, ItemsTree, no_items, declaration, statement}
+use Rattle.lra_tree.specs.Texts.{Pieces, Texts, ◌⋅◌, ◌∣◌, empty, opens, mark as spells, opens_at, name, further, separated}
+use Rattle.lra_tree.specs.Trees.{CondTree, SourceTree, expression, result, StepTree, increment, decrement, AssignTree, set, update, after, before, DeclaratorTree, DeclarationTree, StmtTree, block, nothing, assign, call, if_only, if_else, while, for, break, continue, return, assert, assume}
 use Rattle.lra_tree.specs.Views.{operator_view, step_view}
-use Rattle.lra_tree.specs.Grammar.{IsExpr, IsCond, InParens, IsSource, update_mark, step_mark, IsAssign, IsType, IsGiven, IsDeclarator, IsDeclaration, TakesElse, closed, IsStmt, AreItems}
-use Rattle.lra_tree.specs.Built.{IsBuiltSource, IsBuiltAssign, IsBuiltGiven, IsBuiltDeclaration, IsBuiltStmt, AreBuiltStmts, AreBuiltItems}
+use Rattle.lra_tree.specs.Grammar.{IsExpr, InParens, IsSource, update_mark, step_mark, IsAssign, IsType, IsDeclarator, IsDeclaration, TakesElse, IsStmt}
+use Rattle.lra_tree.specs.Built.{IsBuiltSource, IsBuiltAssign, IsBuiltGiven, IsBuiltDeclaration, IsBuiltStmt}
 use Rattle.lra_parse.specs.Tests.{first, is_mark}
-use Rattle.lra_parse.specs.Reading.{Text, Read, Parse, stop, ◌>>=◌, seq, map_read, done_with, tail, expect, expect_at, place_of, taken, take_by, next_name, identifier_of, has, one_of, list_of}
-use Rattle.lra_parse.specs.Expressions.{factor_operator, sum_operator, behind, ended, in_parens, expr_at, cond_at}
-use Rattle.lra_parse.specs.Statements.{skip, commas, update_operators, update_operator, step_marks, next_step, source_at, assign_rest, step_first, assign_at, type_words, given, declarator_at, declaration_of, declaration_at, StmtMark, at_nothing, at_if, at_assert, at_assume, stmt_marks, stmt_mark, begins_assign, begins_stmt, else_part, read_if, read_check, simple_form, simple_of, ItemTree, declared, stated, put, items_from, begins_item, stated_of, item_of, items_of, body_of, block_from, too_deep, levels, branch_at, block_at, simple_at, item_at, items_at}
+use Rattle.lra_parse.specs.Reading.{Text, Read, Parse, ◌>>=◌, seq, tail, expect, take_by, has, one_of}
+use Rattle.lra_parse.specs.Expressions.{behind, in_parens, cond_at}
+use Rattle.lra_parse.specs.Statements.{skip, commas, update_operators, update_operator, step_marks, next_step, source_at, assign_rest, assign_at, type_words, given, declarator_at, declaration_of, declaration_at, StmtMark, at_nothing, at_if, at_assert, at_assume, stmt_mark, else_part, read_if, read_check, simple_form, simple_of}
 use Rattle.lra_parse.proofs.Marks.{is_mark_some, is_mark_self}
-use Rattle.lra_parse.proofs.Exact.{Exact, Any, Free, Both, test, first_or, first_or-is, first_or-both, then, bind_ok, bind_err}
-use Rattle.lra_parse.proofs.Forms.{rename, widen, retell, entry, follows, given as given_fact, mapped, choose, branch, where_told, same_where, Taken, exact_done, exact_stop, exact_deep, exact_take}
-use Rattle.lra_parse.proofs.Tokens.{IsInner, AreMarks, table_is, exact_expect, exact_expect_at, exact_name, exact_operator, some_place, some_name}
-use Rattle.lra_parse.proofs.Chain.{regroup, joined_left, joined_right, Items, AfterLast, all_last, exact_list}
-use Rattle.lra_parse.proofs.Parts.{token, exact_behind, exact_ended, mark_follows, table_mark, by_table}
-use Rattle.lra_parse.proofs.ExactExpressions.{AfterExpr, some_expr, Of, first_opened, opened_over, exact_expr}
+use Rattle.lra_parse.proofs.Exact.{Exact, Any, Free, Both, first_or, then}
+use Rattle.lra_parse.proofs.Forms.{rename, widen, retell, entry, given as given_fact, mapped, choose, branch, same_where, exact_done, exact_take}
+use Rattle.lra_parse.proofs.Tokens.{IsInner, table_is, exact_expect_at, exact_name, exact_operator, some_place, some_name}
+use Rattle.lra_parse.proofs.Chain.{regroup, joined_left, joined_right, Items, AfterLast, exact_list}
+use Rattle.lra_parse.proofs.Parts.{token, exact_behind, exact_ended, by_table}
+use Rattle.lra_parse.proofs.ExactExpressions.{AfterExpr, some_expr, Of, first_opened, exact_expr}
 use Rattle.lra_parse.proofs.ExactConditions.{some_cond, exact_cond, exact_parens}
 
 -- optional marks and lists with commas -----------------------------------------------------------------------------

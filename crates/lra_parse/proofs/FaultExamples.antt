@@ -1,5 +1,5 @@
 -- First faults of two sources, found by reading their tokens.
-use Rattle.std.proofs.Common.{◌≡◌, ◌≢◌, ℕ, Bool, true, false, cond, List, [], ◌∷◌, ◌++◌, codes, Err, refl, inl, inr}
+use Rattle.std.proofs.Common.{◌≡◌, ◌≢◌, ℕ, Bool, true, false, cond, [], ◌∷◌, ◌++◌, codes, Err, refl, inl, inr}
 use Rattle.std.specs.List.{AllByRecursion}
 use Rattle.lra_tree.specs.declared.refusals.Place.{Place}
 use Rattle.lra_tree.specs.declared.refusals.Cause.TheVariants.{Syntax}
@@ -10,7 +10,7 @@ use Rattle.lra_tree.specs.declared.tokens.Kind.TheVariants.{Name, Number, Mark a
 use Rattle.lra_tree.specs.declared.tokens.Token.{Token}
 use Rattle.lra_tree.specs.Faults.{IsTextFault}
 use Rattle.lra_tree.specs.Built.{Built}
-use Rattle.lra_parse.specs.Reading.{Text, Read, stop, loop}
+use Rattle.lra_parse.specs.Reading.{Text, loop}
 use Rattle.lra_parse.specs.Expressions.{unary_at, tests}
 use Rattle.lra_parse.specs.Statements.{levels}
 use Rattle.lra_parse.specs.Files.{EndsOnce, file_at}

@@ -1,18 +1,13 @@
 -- Exact readers of single tokens, and of one of several forms.
-use Rattle.std.proofs.Common.{◌≡◌, ℕ, zero, suc, ◌≤◌, ◌<◌, Bool, true, false, cond, ◌⊎◌, List, [], ◌∷◌, ◌++◌, length, Option, Some, None, Result, Ok, Err, refl, sym, ap, subst, ◌∙◌, append_assoc, arith, inl, inr}
+use Rattle.std.proofs.Common.{◌≡◌, ℕ, ◌≤◌, ◌<◌, Bool, true, false, cond, ◌⊎◌, [], ◌∷◌, ◌++◌, length, Option, Some, None, Ok, Err, refl, sym, ap, subst, ◌∙◌, arith, inl, inr}
 use Rattle.std.specs.Bool.{⊤}
-use Rattle.std.proofs.lemmas.List.{append-nil, append_cancel_right}
-use Rattle.lra_tree.specs.declared.refusals.Place.{Place}
 use Rattle.lra_tree.specs.declared.refusals.Cause.TheVariants.{Syntax, TooDeep}
-use Rattle.lra_tree.specs.declared.tokens.Mark.{Mark}
-use Rattle.lra_tree.specs.declared.tokens.Kind.TheVariants.{Mark as MarkOf}
 use Rattle.lra_tree.specs.declared.tokens.Token.{Token}
-use Rattle.lra_tree.specs.Texts.{Piece, Pieces, plain, Texts, ◌⋅◌, opens, opens_at}
+use Rattle.lra_tree.specs.Texts.{Piece, Pieces, plain}
 use Rattle.lra_parse.specs.declared.reading.Fault.{Fault}
-use Rattle.lra_parse.specs.Tests.{first, is_mark}
-use Rattle.lra_parse.specs.Reading.{Text, Read, Parse, stop, ◌>>=◌, seq, map_read, done_with, tail, past, expect, expect_at, place_of, taken, take_by}
-use Rattle.lra_parse.proofs.Marks.{is_mark_some, is_mark_self}
-use Rattle.lra_parse.proofs.Exact.{Low, Within, Fails, Exact, Any, Free, bind_ok, bind_err, ok_is, test, first_same, first_or, first_or-is, first_or-on, nonempty, Low-right, Both, then}
+use Rattle.lra_parse.specs.Tests.{first}
+use Rattle.lra_parse.specs.Reading.{Text, Read, Parse, stop, ◌>>=◌, map_read, done_with, past, taken, take_by}
+use Rattle.lra_parse.proofs.Exact.{Low, Within, Fails, Exact, Any, Free, bind_ok, bind_err, ok_is, first_same, first_or, first_or-is, first_or-on, nonempty}
 
 free : (x : Pieces) → Within (λ t. ⊤) x
 free [] = tt

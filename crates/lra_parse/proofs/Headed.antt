@@ -1,15 +1,14 @@
 -- Readers of functions and files as the code takes them.
-use Rattle.std.proofs.Common.{◌≡◌, ℕ, ◌<◌, ◌≤◌, Bool, true, false, cond, bytes_eq, codes, List, [], ◌∷◌, ◌++◌, length, Option, Some, None, Ok, Err, refl, sym, ap, subst, ◌∙◌, arith}
+use Rattle.std.proofs.Common.{◌≡◌, ℕ, ◌<◌, Bool, true, false, bytes_eq, codes, List, [], ◌∷◌, ◌++◌, length, Option, Some, None, Ok, Err, refl, sym, ap, subst, arith}
 use Rattle.lra_tree.specs.declared.refusals.Place.{Place}
 use Rattle.lra_tree.specs.declared.refusals.Cause.TheVariants.{Syntax}
-use Rattle.lra_tree.specs.declared.tokens.Token.{Token}
 use Rattle.lra_tree.specs.declared.trees.Identifier.{Identifier}
 use Rattle.lra_tree.specs.Trees.{FunctionTree, PartTree, function}
 use Rattle.lra_parse.specs.declared.reading.Fault.{Fault}
 use Rattle.lra_parse.specs.declared.reading.Stopped.{Stopped}
 use Rattle.lra_parse.specs.declared.reading.Stopped.TheVariants as stopped
 use Rattle.lra_parse.specs.Tests.{first}
-use Rattle.lra_parse.specs.Reading.{Text, Read, Parse, stop, ◌>>=◌, map_read, tail, take_by, taken, next_name, list_step, GivesErr}
+use Rattle.lra_parse.specs.Reading.{Text, Read, Parse, stop, map_read, tail, take_by, taken, next_name, list_step, GivesErr}
 use Rattle.lra_parse.specs.Files.{is_main, next_main, function_at, begins_part, parts_at, next_end, file_of, file_at}
 use Rattle.lra_parse.proofs.Exact.{ok_is}
 use Rattle.lra_parse.proofs.Turning.{Left, turn_on, turn_err, turn_off}

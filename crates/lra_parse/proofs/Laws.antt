@@ -1,20 +1,15 @@
 -- What an exact reader tells of its language: one tree, and one first fault.
-use Rattle.std.proofs.Common.{◌≡◌, ◌≢◌, ℕ, zero, suc, ◌+◌, ◌≤◌, ◌<◌, List, [], ◌∷◌, ◌++◌, length, ◌⊎◌, inl, inr, Option, Some, None, Ok, Err, refl, sym, ap, subst, ◌∙◌, append_assoc, length-append, arith}
-use Rattle.std.specs.Bool.{⊤}
-use Rattle.std.specs.List.{AllByRecursion}
-use Rattle.std.proofs.lemmas.List.{append-nil, append_cancel_left}
+use Rattle.std.proofs.Common.{◌≡◌, ℕ, suc, ◌+◌, ◌≤◌, ◌<◌, [], ◌∷◌, ◌++◌, length, ◌⊎◌, inl, inr, Ok, Err, refl, sym, ap, subst, ◌∙◌, append_assoc, length-append, arith}
+use Rattle.std.proofs.lemmas.List.{append-nil}
 use Rattle.std.proofs.lemmas.Bool.{cases_lt}
-use Rattle.lra_tree.specs.declared.refusals.Place.{Place}
 use Rattle.lra_tree.specs.declared.refusals.Cause.{Cause}
 use Rattle.lra_tree.specs.declared.refusals.Cause.TheVariants.{Syntax, TooDeep}
 use Rattle.lra_tree.specs.declared.tokens.Token.{Token}
-use Rattle.lra_tree.specs.Texts.{Piece, Pieces, plain, Texts}
+use Rattle.lra_tree.specs.Texts.{Piece, Pieces, plain}
 use Rattle.lra_tree.specs.Trees.{FileTree}
-use Rattle.lra_tree.specs.Faults.{Language, greatest_level, IsLow, IsTree, CanBegin, CanBeginLow, IsAtFault, IsTextFault, OneTree, OneTextFault}
+use Rattle.lra_tree.specs.Faults.{greatest_level, IsLow, IsTree, CanBegin, CanBeginLow, IsAtFault, OneTree, OneTextFault}
 use Rattle.lra_tree.specs.Built.{Built}
-use Rattle.lra_parse.specs.declared.reading.Fault.{Fault}
-use Rattle.lra_parse.specs.Tests.{first}
-use Rattle.lra_parse.specs.Reading.{Text, Read, Parse, stop}
+use Rattle.lra_parse.specs.Reading.{Text, Read, stop}
 use Rattle.lra_parse.specs.Files.{file_at}
 use Rattle.lra_parse.proofs.Exact.{Low, Exact, Any, Free, ok_is, plain-append}
 use Rattle.lra_parse.proofs.ExactFiles.{AnyToken, exact_file}

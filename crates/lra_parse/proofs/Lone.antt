@@ -1,5 +1,5 @@
 -- When a condition is an expression alone.
-use Rattle.std.proofs.Common.{◌≡◌, ◌≢◌, ℕ, Bool, true, false, List, [], ◌∷◌, length, map, Option, Some, None, ◌==◌, eq-eqb, refl, sym, ap, ◌∙◌, vec_len, arith, Global, Vec}
+use Rattle.std.proofs.Common.{◌≡◌, ◌≢◌, Bool, true, false, List, [], ◌∷◌, length, map, Some, None, ◌==◌, eq-eqb, refl, sym, ap, ◌∙◌, vec_len, arith, Global, Vec}
 use Rattle.std.proofs.lemmas.Grind.{common_steps}
 use Rattle.std.proofs.lemmas.Bool.{eqb-true}
 use Rattle.lra_tree.specs.Trees.{ExprTree, TestTree, value, opposite, compare, group_of, test, ConjunctionTree, and, CondTree, conjunction, or}

@@ -1,5 +1,5 @@
 -- Marks told apart by their numbers.
-use Rattle.std.proofs.Common.{◌≡◌, ℕ, Bool, true, false, nat_eq, List, [], ◌∷◌, slice_get, Option, Some, None, refl, sym, ap, subst, eq-eqb, ◌∙◌, rules}
+use Rattle.std.proofs.Common.{◌≡◌, ℕ, true, nat_eq, List, [], ◌∷◌, slice_get, Some, refl, ap, eq-eqb, ◌∙◌}
 use denote.Enum.Declared.{tag_of}
 use denote.Enum.Bare.{sameb, same_true}
 use Rattle.lra_tree.specs.contracts.tokens.Mark.{the_type}

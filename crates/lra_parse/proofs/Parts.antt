@@ -1,19 +1,17 @@
 -- Exact readers behind and before a mark, and what a table tells of the next token.
-use Rattle.std.proofs.Common.{◌≡◌, ℕ, zero, suc, ◌≤◌, ◌<◌, Bool, true, false, cond, ◌⊎◌, List, [], ◌∷◌, ◌++◌, Option, Some, None, Ok, Err, refl, sym, ap, subst, ◌∙◌, append_assoc, arith, inl, inr}
-use Rattle.std.specs.Bool.{⊤}
-use Rattle.std.proofs.lemmas.List.{append-nil}
+use Rattle.std.proofs.Common.{◌≡◌, ℕ, ◌≤◌, true, List, [], ◌∷◌, Option, Some, None, refl, sym, ap, subst, arith}
 use Rattle.lra_tree.specs.declared.refusals.Place.{Place}
 use Rattle.lra_tree.specs.declared.tokens.Mark.{Mark}
 use Rattle.lra_tree.specs.declared.tokens.Kind.TheVariants.{Mark as MarkOf}
 use Rattle.lra_tree.specs.declared.tokens.Token.{Token}
-use Rattle.lra_tree.specs.Texts.{Piece, Pieces, plain, Texts, ◌⋅◌, opens, opens_at, mark}
-use Rattle.lra_parse.specs.Tests.{first, is_mark}
-use Rattle.lra_parse.specs.Reading.{Text, Parse, seq, expect, expect_at, has, one_of}
+use Rattle.lra_tree.specs.Texts.{Pieces, ◌⋅◌, opens, mark}
+use Rattle.lra_parse.specs.Tests.{is_mark}
+use Rattle.lra_parse.specs.Reading.{Parse, has, one_of}
 use Rattle.lra_parse.specs.Expressions.{behind, ended}
 use Rattle.lra_parse.proofs.Marks.{is_mark_some}
-use Rattle.lra_parse.proofs.Exact.{Exact, Any, Free, Both, then, first_or}
-use Rattle.lra_parse.proofs.Forms.{rename, widen, retell, entry}
-use Rattle.lra_parse.proofs.Tokens.{IsInner, exact_expect, exact_expect_at, some_place, AreMarks, table_is}
+use Rattle.lra_parse.proofs.Exact.{Exact, Any, Free, then, first_or}
+use Rattle.lra_parse.proofs.Forms.{rename, entry}
+use Rattle.lra_parse.proofs.Tokens.{IsInner, exact_expect, some_place, AreMarks, table_is}
 
 abbrev pub token : Mark → Place → Token
 token m at = record { kind = MarkOf m; place = at }

@@ -1,10 +1,9 @@
 -- Readers of statements as the code takes them.
-use Rattle.std.proofs.Common.{◌≡◌, ℕ, zero, suc, ◌+◌, ◌-◌, ◌≤◌, ◌<◌, Bool, true, false, cond, ◌&&◌, List, [], ◌∷◌, ◌++◌, length, map, Option, Some, None, Ok, Err, refl, sym, ap, subst, ◌∙◌, arith, rules, Box, Global}
+use Rattle.std.proofs.Common.{◌≡◌, ℕ, zero, suc, ◌-◌, ◌<◌, Bool, true, false, ◌&&◌, List, [], ◌∷◌, ◌++◌, length, map, None, Ok, Err, refl, sym, ap, subst, ◌∙◌, arith, rules, Box, Global}
 use Rattle.std.proofs.lemmas.List.{map_push}
 use Rattle.lra_tree.specs.declared.refusals.Place.{Place}
-use Rattle.lra_tree.specs.declared.refusals.Cause.TheVariants.{Syntax, TooDeep}
+use Rattle.lra_tree.specs.declared.refusals.Cause.TheVariants.{TooDeep}
 use Rattle.lra_tree.specs.declared.tokens.Mark.TheVariants as mark
-use Rattle.lra_tree.specs.declared.tokens.Token.{Token}
 use Rattle.lra_tree.specs.declared.trees.Cond.{Cond}
 use Rattle.lra_tree.specs.declared.trees.Declaration.{Declaration}
 use Rattle.lra_tree.specs.declared.trees.BlockItem.{BlockItem, the_lemmas, Declaration as DeclarationItem, Statement as StatementItem}
@@ -13,15 +12,14 @@ use Rattle.lra_tree.specs.declared.trees.Block.{Block}
 use Rattle.lra_tree.specs.declared.trees.BlockItem.TheOpen.{Block-F}
 use Rattle.lra_tree.specs.declared.trees.BlockItem.TheViews.{roll-Block}
 use Rattle.lra_tree.specs.declared.trees.BlockItem.TheFolds.{fold-roll-Block}
-use Rattle.lra_tree.specs.Trees.{DeclarationTree, StmtTree, block, if_only, if_else, CondTree, ItemsTree, no_items, declaration, statement}
+use Rattle.lra_tree.specs.Trees.{DeclarationTree, StmtTree, if_only, if_else, CondTree, ItemsTree, no_items, declaration, statement}
 use Rattle.lra_tree.specs.Views as views
 use Rattle.lra_tree.specs.Views.{cond_view, declaration_view, stmt_view, item_view, block_view, item_step, stmt_step, block_step}
 use Rattle.lra_parse.specs.declared.reading.Fault.{Fault}
 use Rattle.lra_parse.specs.declared.reading.Stopped.{Stopped}
 use Rattle.lra_parse.specs.declared.reading.Stopped.TheVariants as stopped
 use Rattle.lra_parse.specs.Tests.{first, is_mark}
-use Rattle.lra_parse.specs.Reading.{Text, Read, Parse, stop, ◌>>=◌, seq, map_read, tail, expect, expect_at, loop, list_step, list_of, GivesErr}
-use Rattle.lra_parse.specs.Expressions.{behind}
+use Rattle.lra_parse.specs.Reading.{Text, Read, Parse, stop, ◌>>=◌, map_read, tail, expect, expect_at, list_step, GivesErr}
 use Rattle.lra_parse.specs.Statements.{else_part, declaration_at, ItemTree, declared, stated, put, items_from, begins_item, stated_of, body_of, block_from, too_deep, levels, branch_at, block_at, simple_at, item_at, items_at, put_list, put_all, ArePut}
 use Rattle.lra_parse.proofs.Exact.{ok_is}
 use Rattle.lra_parse.proofs.Turning.{Left, turn_on, turn_err, turn_off}
@@ -149,6 +147,9 @@ module _ (declares : Bool) (d : ℕ) where
   -- items that put what the code's items put, and the loop from there on
   abbrev pub State : List BlockItem → Text → Read (List ItemTree) → Type 0
   State items T result = (is : List ItemTree) × ArePut (map item_view items) is × Left (begins_item declares) (list_step (item_at declares d)) is T result
+
+  pub state_start : (items : List BlockItem) (T : Text) → items ≡ [] → State items T (items_at declares d T)
+  state_start items T e = ([], (λ t. ap (λ (is : List BlockItem). put_all (map item_view is) t) e), (length T, omega arith, refl))
 
   pub state_turn : (items pushed : List BlockItem) (item : BlockItem) (T R : Text) (result : Read (List ItemTree)) → pushed ≡ items ++ item ∷ [] → State items T result → true ≡ begins_item declares (first T)
       → map_read put (item_at declares d) T ≡ Ok (item_view item, R) → length R < length T → State pushed R result

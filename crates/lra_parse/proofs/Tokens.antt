@@ -1,5 +1,5 @@
 -- Exact readers of single tokens.
-use Rattle.std.proofs.Common.{◌≡◌, ℕ, zero, suc, ◌≤◌, Bool, true, false, cond, List, [], ◌∷◌, ◌++◌, Option, Some, None, Ok, Err, refl, sym, ap, subst, ◌∙◌, arith, inl, inr}
+use Rattle.std.proofs.Common.{◌≡◌, ℕ, ◌≤◌, Bool, true, false, cond, List, [], ◌∷◌, Option, Some, None, Ok, refl, sym, ap, subst, ◌∙◌, arith, inl, inr}
 use Rattle.lra_tree.specs.declared.refusals.Place.{Place}
 use Rattle.lra_tree.specs.declared.refusals.Cause.TheVariants.{Syntax}
 use Rattle.lra_tree.specs.declared.tokens.Mark.{Mark}
@@ -7,12 +7,12 @@ use Rattle.lra_tree.specs.declared.tokens.Kind.{Kind}
 use Rattle.lra_tree.specs.declared.tokens.Kind.TheVariants.{Name, Number, Mark as MarkOf, Reserved, Unclosed, End}
 use Rattle.lra_tree.specs.declared.tokens.Token.{Token}
 use Rattle.lra_tree.specs.declared.trees.Identifier.{Identifier}
-use Rattle.lra_tree.specs.Texts.{Piece, Pieces, plain, opens, opens_at, mark, name, number}
+use Rattle.lra_tree.specs.Texts.{opens, opens_at, mark, name, number}
 use Rattle.lra_parse.specs.Tests.{first, is_mark}
-use Rattle.lra_parse.specs.Reading.{Text, Read, Parse, stop, tail, expect, expect_at, place_of, take_by, taken, next_name, identifier_of, next_number, number_of, one_of}
+use Rattle.lra_parse.specs.Reading.{Text, stop, tail, expect, expect_at, place_of, take_by, taken, next_name, identifier_of, next_number, number_of, one_of}
 use Rattle.lra_parse.proofs.Marks.{is_mark_some, is_mark_self}
 use Rattle.lra_parse.proofs.Exact.{Exact, Any, Free, test}
-use Rattle.lra_parse.proofs.Forms.{retell, same_where, Taken, exact_take}
+use Rattle.lra_parse.proofs.Forms.{retell, same_where, exact_take}
 
 -- it isn't the end
 abbrev pub IsInner : Token → Type 0

@@ -1,6 +1,6 @@
 -- A turn of a loop, as the code takes it.
-use Rattle.std.proofs.Common.{◌≡◌, ℕ, zero, suc, ◌+◌, ◌-◌, ◌≤◌, ◌<◌, Bool, true, false, cond, List, [], ◌∷◌, ◌++◌, length, map, take, drop, slice_get, Option, Some, None, Result, Ok, Err, refl, sym, ap, subst, ◌∙◌, arith, inl, inr}
-use Rattle.std.proofs.lemmas.List.{take_all, map_push}
+use Rattle.std.proofs.Common.{◌≡◌, ℕ, zero, suc, ◌≤◌, ◌<◌, Bool, true, false, List, [], ◌∷◌, ◌++◌, length, map, Option, Some, None, Ok, Err, refl, sym, ap, subst, ◌∙◌, arith, inl, inr}
+use Rattle.std.proofs.lemmas.List.{map_push}
 use Rattle.lra_tree.specs.declared.refusals.Cause.TheVariants.{Syntax}
 use Rattle.lra_tree.specs.declared.tokens.Mark.{Mark}
 use Rattle.lra_tree.specs.declared.tokens.Token.{Token}
@@ -8,7 +8,7 @@ use Rattle.lra_parse.specs.declared.reading.Fault.{Fault}
 use Rattle.lra_parse.specs.declared.reading.Stopped.{Stopped}
 use Rattle.lra_parse.specs.declared.reading.Stopped.TheVariants as stopped
 use Rattle.lra_parse.specs.Tests.{first, is_mark}
-use Rattle.lra_parse.specs.Reading.{Text, Read, Parse, stop, ◌>>=◌, loop, expect, GivesErr, has, seq, map_read, take_by, taken, tail, chain_step, list_step, list_of}
+use Rattle.lra_parse.specs.Reading.{Text, Read, Parse, stop, loop, expect, GivesErr, has, map_read, tail, turns, chain, chain_step, list_step, list_of}
 use Rattle.lra_parse.specs.Statements.{commas}
 use Rattle.lra_tree.specs.declared.tokens.Mark.TheVariants as mark
 use Rattle.lra_parse.specs.Expressions.{behind}
@@ -33,6 +33,16 @@ module _ {A : Type 0} (more : Option Token → Bool) (step : A → Parse A) wher
   unfolding loop
   turn_off a T result (zero, le, e) off = sym e
   turn_off a T result (suc n, le, e) off = sym e ∙ rw off refl
+
+-- before the first turn
+pub turns_start : {A Y : Type 0} (more : Option Token → Bool) (step : A → Parse A) (all : List Y → A) (ys : List Y) (a : A) (T : Text) → ys ≡ [] → all [] ≡ a → Left more step (all ys) T (turns more step a T)
+turns_start {A} more step all ys a T e f = (length T, omega arith, ap (λ (b : A). loop more step (length T) b T) (ap all e ∙ f))
+
+pub chain_start : {I A O Y : Type 0} (op : Option Token → Option O) (start : I → A) (grow : A → O → I → A) (p : Parse I) (all : List Y → A) (ys : List Y) (i : I) (T M : Text) → p T ≡ Ok (i, M) → ys ≡ [] → all [] ≡ start i
+    → Left (λ o. has (op o)) (chain_step op grow p) (all ys) M (chain op start grow p T)
+chain_start {A = A} op start grow p all ys i T M g e f =
+    let whole : chain op start grow p T ≡ turns (λ o. has (op o)) (chain_step op grow p) (start i) M = rw g refl in
+    subst (λ (r : Read A). Left (λ o. has (op o)) (chain_step op grow p) (all ys) M r) (sym whole) (turns_start (λ o. has (op o)) (chain_step op grow p) all ys (start i) M e f)
 
 -- chains: an operator and an item a turn
 module _ {I A O : Type 0} (op : Option Token → Option O) (at_end : op None ≡ None) (grow : A → O → I → A) (p : Parse I) where

@@ -1,6 +1,6 @@
 -- Trees that values of the code stand for.
-use Rattle.std.proofs.Common.{◌≡◌, ℕ, List, [], ◌∷◌, ◌++◌, map, rules, refl, ap, ◌∙◌, Box, Global}
-use Rattle.lra_tree.specs.declared.trees.Unary.{Unary, Literal, Variable, Negated, Positive, Group, the_lemmas}
+use Rattle.std.proofs.Common.{◌≡◌, ℕ, List, [], ◌∷◌, ◌++◌, map, rules, refl, Box, Global}
+use Rattle.lra_tree.specs.declared.trees.Unary.{Unary, Literal, Variable, Group, the_lemmas}
 use Rattle.lra_tree.specs.declared.trees.Factor.{Factor}
 use Rattle.lra_tree.specs.declared.trees.Term.{Term}
 use Rattle.lra_tree.specs.declared.trees.Summand.{Summand}

@@ -1,8 +1,8 @@
 -- The reader of a whole file, and the shape of the lists of tokens that are read.
-use Rattle.std.specs.Prelude.{◌≡◌, ◌≢◌, ℕ, zero, suc, Bool, true, false, cond, bytes_eq, codes, List, [], ◌∷◌, ◌++◌, Option, Some, None, Ok, Err}
+use Rattle.std.specs.Prelude.{◌≡◌, ◌≢◌, ℕ, Bool, true, false, cond, bytes_eq, codes, List, [], ◌∷◌, ◌++◌, Option, Some, None}
 use Rattle.std.specs.List.{AllByRecursion}
 use Rattle.lra_tree.specs.declared.refusals.Place.{Place}
-use Rattle.lra_tree.specs.declared.refusals.Cause.TheVariants.{Syntax, TooDeep}
+use Rattle.lra_tree.specs.declared.refusals.Cause.TheVariants.{Syntax}
 use Rattle.lra_tree.specs.declared.tokens.Mark.{Mark}
 use Rattle.lra_tree.specs.declared.tokens.Mark.TheVariants as mark
 use Rattle.lra_tree.specs.declared.tokens.Kind.{Kind}
@@ -10,8 +10,8 @@ use Rattle.lra_tree.specs.declared.tokens.Kind.TheVariants.{Name, Number, Mark a
 use Rattle.lra_tree.specs.declared.tokens.Token.{Token}
 use Rattle.lra_tree.specs.declared.trees.Identifier.{Identifier}
 use Rattle.lra_tree.specs.Trees.{ItemsTree, FunctionTree, PartTree, function, FileTree}
-use Rattle.lra_parse.specs.Tests.{first, is_mark}
-use Rattle.lra_parse.specs.Reading.{Text, Parse, stop, seq, map_read, expect, take_by, next_name, has, one_of, list_of}
+use Rattle.lra_parse.specs.Tests.{first}
+use Rattle.lra_parse.specs.Reading.{Parse, stop, seq, map_read, take_by, next_name, has, one_of, list_of}
 use Rattle.lra_parse.specs.Expressions.{behind}
 use Rattle.lra_parse.specs.Statements.{skip, type_words, body_of, items_at}
 

@@ -1,5 +1,5 @@
 -- Readers of assignments, declarations and statements. d levels of nesting are left.
-use Rattle.std.specs.Prelude.{◌≡◌, ℕ, zero, suc, Bool, true, false, cond, ◌||◌, ◌&&◌, List, [], ◌∷◌, Option, Some, None, Ok, Err, option_map}
+use Rattle.std.specs.Prelude.{◌≡◌, ℕ, zero, suc, Bool, true, false, cond, ◌||◌, ◌&&◌, List, [], ◌∷◌, Option, Some, None, Ok, option_map}
 use Rattle.lra_tree.specs.declared.refusals.Place.{Place}
 use Rattle.lra_tree.specs.declared.refusals.Cause.TheVariants.{Syntax, TooDeep}
 use Rattle.lra_tree.specs.declared.tokens.Mark.{Mark}
@@ -10,7 +10,7 @@ use Rattle.lra_tree.specs.declared.trees.Operator.{Operator}
 use Rattle.lra_tree.specs.declared.trees.Operator.TheVariants as operator
 use Rattle.lra_tree.specs.declared.trees.Step.{Step}
 use Rattle.lra_tree.specs.declared.trees.Step.TheVariants as step
-use Rattle.lra_tree.specs.Trees.{ExprTree, CondTree, SourceTree, expression, AssignTree, set, update, after, before, DeclaratorTree, DeclarationTree, StmtTree, block, nothing, assign, if_only, if_else, assert, assume, ItemsTree, no_items, declaration, statement}
+use Rattle.lra_tree.specs.Trees.{CondTree, SourceTree, expression, AssignTree, set, update, after, before, DeclaratorTree, DeclarationTree, StmtTree, block, nothing, assign, if_only, if_else, assert, assume, ItemsTree, no_items, declaration, statement}
 use Rattle.lra_tree.specs.Views.{operator_view, step_view}
 use Rattle.lra_parse.specs.Tests.{first, is_mark}
 use Rattle.lra_parse.specs.Reading.{Text, Parse, stop, seq, map_read, done_with, tail, expect, expect_at, place_of, take_by, next_name, has, one_of, list_of}

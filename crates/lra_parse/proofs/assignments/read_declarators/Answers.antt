@@ -1,4 +1,4 @@
-use Rattle.std.proofs.Common.{◌≡◌, ◌≤◌, length, ℕ, List, Ok, refl, sym, ◌∙◌, arith, map}
+use Rattle.std.proofs.Common.{List, [], refl, sym, arith, map}
 use Rattle.std.proofs.lemmas.Result.{err_from_is_err_and}
 use Rattle.lra_tree.specs.declared.tokens.Mark.TheVariants as mark
 use Rattle.lra_tree.specs.Trees.{DeclaratorTree}
@@ -7,8 +7,14 @@ use Rattle.lra_parse.specs.Tests.{is_mark}
 use Rattle.lra_parse.specs.Reading.{list_step}
 use Rattle.lra_parse.specs.Expressions.{behind}
 use Rattle.lra_parse.specs.Statements.{declarator_at, declaration_of}
-use Rattle.lra_parse.proofs.Turning.{turn_off, list_grown, comma_turn, comma_exit, commas_gives, commas_exit}
+use Rattle.lra_parse.proofs.Turning.{turns_start, turn_off, list_grown, comma_turn, comma_exit, commas_gives, commas_exit}
 use Rattle.lra_parse.proofs.assignments.read_declarators.Goals as goal
+
+pub declarators-init : goal.declarators-init
+declarators-init c = record {
+  room = c.in_ok-first.ensures.shorter;
+  same = turns_start (is_mark mark.Comma) (list_step (behind mark.Comma (declarator_at c.args.depth))) (map declarator_view) c.new-declarators.result.items [] c.in_ok-first.left.now c.new-declarators.ensures.items refl;
+}
 
 pub declarators-preserved : goal.declarators-preserved
 declarators-preserved c = record {

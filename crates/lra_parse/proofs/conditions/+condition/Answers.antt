@@ -1,12 +1,14 @@
-use Rattle.std.proofs.Common.{◌≡◌, ◌≤◌, length, ℕ, List, [], ◌∷◌, ◌++◌, Option, Some, None, Ok, Err, refl, sym, ap, ◌∙◌, arith, map}
+use Rattle.std.proofs.Common.{List, Ok, refl, sym, ap, ◌∙◌, arith, map}
 use Rattle.std.proofs.lemmas.Result.{err_from_is_err_and}
 use Rattle.lra_tree.specs.declared.tokens.Mark.TheVariants as mark
 use Rattle.lra_tree.specs.declared.trees.Negation.{Negation}
+use Rattle.lra_tree.specs.declared.trees.Test.{Test}
+use Rattle.lra_tree.specs.declared.trees.Conjunction.{Conjunction}
 use Rattle.lra_tree.specs.Trees.{NegationTree, opposite_again, TestTree, test, ConjunctionTree, and, CondTree, conjunction, or}
 use Rattle.lra_tree.specs.Views.{all_tests, any_conjunction, test_view, negation_view, conjunction_view, cond_view, unary_view}
 use Rattle.lra_parse.specs.Tests.{first}
-use Rattle.lra_parse.specs.Expressions.{next_and, next_or, test_at, negation_at, negation_of, conjunction_at, cond_at}
-use Rattle.lra_parse.proofs.Turning.{grown_turn, list_grown, chain_exit, chain_end}
+use Rattle.lra_parse.specs.Expressions.{next_and, next_or, test_at, conjunction_at, cond_at}
+use Rattle.lra_parse.proofs.Turning.{chain_start, grown_turn, list_grown, chain_exit, chain_end}
 use Rattle.lra_parse.proofs.Viewed.{again_is, operand_is, opposite_is, conjunction_is, cond_is, and_push, or_push}
 use Rattle.lra_parse.proofs.Unfolded.{one_on, one_off, opposite_gives, again_gives, strict_gives, operand_gives}
 use Rattle.lra_parse.proofs.conditions.+condition.Goals as goal
@@ -31,6 +33,13 @@ read_negation-returns-clause-gives t c =
     operand_gives c.args.depth c.args.rest.now c.in_ok-unary.behind.now (unary_view c.in_ok-unary.unary) c.if-next_is.ensures c.if-next_is-2.ensures c.in_ok-unary.ensures.gives
     ∙ ap (λ (x : NegationTree). Ok (x, c.in_ok-unary.behind.now)) (sym (operand_is c.in_ok-unary.unary))
 
+pub read_conjunction-tests-init : goal.read_conjunction-tests-init
+read_conjunction-tests-init t c = record {
+  room = c.in_ok-first.ensures.shorter;
+  same = chain_start next_and test (λ c k t. and c t) (test_at c.args.depth) (λ (ts : List Test). all_tests (test (test_view c.in_ok-first.first)) (map test_view ts)) c.new-tests.result.items
+      (test_view c.in_ok-first.first) c.args.rest.now c.in_ok-first.left.now c.in_ok-first.ensures.gives c.new-tests.ensures.items refl;
+}
+
 pub read_conjunction-tests-preserved : goal.read_conjunction-tests-preserved
 read_conjunction-tests-preserved t c = record {
   room = omega (arith, c.in_ok-test.ensures.shorter, c.tail.ensures.shorter);
@@ -50,6 +59,14 @@ read_conjunction-returns-in_err-test-clause-gives t c =
     let p = err_from_is_err_and c.from_residual-in_err-test.result c.from_residual-in_err-test.ensures.1 in
     rw (p.1, p.2) (chain_exit next_and refl (λ c k t. and c t) (test_at c.args.depth) _ (tt {0}) c.tests.left.now c.tail.result.now c.in_err-test.field-0.0 (conjunction_at c.args.depth c.args.rest.now)
     c.tests.invariant.same (one_on mark.And (first c.tests.left.now) c.tests-test.ensures) c.tail.ensures.value c.in_err-test.ensures.gives)
+
+pub read_cond-conjunctions-init : goal.read_cond-conjunctions-init
+read_cond-conjunctions-init t c = record {
+  room = c.in_ok-first.ensures.shorter;
+  same = chain_start next_or conjunction (λ c k d. or c d) (conjunction_at c.args.depth)
+      (λ (ks : List Conjunction). any_conjunction (conjunction (conjunction_view c.in_ok-first.first)) (map conjunction_view ks)) c.new-conjunctions.result.items
+      (conjunction_view c.in_ok-first.first) c.args.rest.now c.in_ok-first.left.now c.in_ok-first.ensures.gives c.new-conjunctions.ensures.items refl;
+}
 
 pub read_cond-conjunctions-preserved : goal.read_cond-conjunctions-preserved
 read_cond-conjunctions-preserved t c = record {

@@ -1,14 +1,14 @@
-use Rattle.std.proofs.Common.{rules, ◌≡◌, ◌≤◌, length, IfOk, ℕ, ◌+◌, ◌-◌, ◌*◌, ◌<◌, Bool, true, false, List, [], ◌∷◌, ◌++◌, Option, Some, None, Ok, Err, refl, sym, ap, subst, ◌∙◌, arith, map, take, drop, Bor}
+use Rattle.std.proofs.Common.{List, Ok, refl, sym, ap, ◌∙◌, arith, map}
 use Rattle.std.proofs.lemmas.Result.{err_from_is_err_and}
-use Rattle.std.proofs.lemmas.List.{map_push}
 use Rattle.lra_tree.specs.declared.trees.Unary.{Unary, Literal}
 use Rattle.lra_tree.specs.declared.trees.Expr.{Expr}
-use Rattle.lra_tree.specs.Trees.{UnaryTree, TermTree, ExprTree, unary, term, literal, variable, group}
+use Rattle.lra_tree.specs.declared.trees.Factor.{Factor}
+use Rattle.lra_tree.specs.declared.trees.Summand.{Summand}
+use Rattle.lra_tree.specs.Trees.{UnaryTree, TermTree, ExprTree, unary, term, group}
 use Rattle.lra_tree.specs.Views.{unary_view, term_view, expr_view, factor_view, summand_view, product, sum_of, further_factor, further_term}
-use Rattle.lra_parse.specs.Tests.{first}
-use Rattle.lra_parse.specs.Reading.{Text, tail}
-use Rattle.lra_parse.specs.Expressions.{factor_operator, sum_operator, unary_at, negated_at, positive_at, grouped_at, read_input, factors, term_of, summands, expr_at}
-use Rattle.lra_parse.proofs.Turning.{pushed_turn, chain_exit, chain_end}
+use Rattle.lra_parse.specs.Reading.{Text, has, tail, chain_step}
+use Rattle.lra_parse.specs.Expressions.{factor_operator, sum_operator, unary_at, factors, term_of, summands}
+use Rattle.lra_parse.proofs.Turning.{turns_start, pushed_turn, chain_exit, chain_end}
 use Rattle.lra_parse.proofs.Viewed.{literal_is, variable_is, group_is, factor_is, term_is, summand_is, expr_is, product_push, sum_push}
 use Rattle.lra_parse.proofs.Unfolded.{literal_gives, variable_gives, grouped_gives}
 use Rattle.lra_parse.proofs.expressions.+expression.Goals as goal
@@ -23,6 +23,14 @@ pub read_group-returns-clause-gives : goal.read_group-returns-clause-gives
 read_group-returns-clause-gives t c =
     grouped_gives c.args.depth c.args.rest.now c.in_ok-opened.opened.now c.in_ok-expr.after.now c.in_ok-closed.closed.now (expr_view c.in_ok-expr.expr) c.if-depth-eq0.false c.in_ok-opened.ensures.gives c.in_ok-expr.ensures.gives c.in_ok-closed.ensures.gives
     ∙ ap (λ (u : UnaryTree). Ok (u, c.in_ok-closed.closed.now)) (sym (group_is c.in_ok-new.field-0 ∙ ap (λ (e : Expr). group (expr_view e)) c.in_ok-new.ensures.ok))
+
+pub read_factors-factors-init : goal.read_factors-factors-init
+read_factors-factors-init t c = record {
+  room = omega arith;
+  kept = refl;
+  same = turns_start (λ o. has (factor_operator o)) (chain_step factor_operator further_factor (unary_at c.args.depth)) (λ (fs : List Factor). product (unary (unary_view c.args.first)) (map factor_view fs))
+      c.new-factors.result.items (unary (unary_view c.args.first)) c.args.rest.now c.new-factors.ensures.items refl;
+}
 
 pub read_factors-factors-preserved : goal.read_factors-factors-preserved
 read_factors-factors-preserved t c = record {
@@ -43,6 +51,13 @@ read_factors-returns-in_err-unary-clause-gives t c =
     let p = err_from_is_err_and c.from_residual.result c.from_residual.ensures.1 in
     rw (p.1, p.2) (chain_exit factor_operator refl further_factor (unary_at c.args.depth) (product (unary (unary_view c.args.first)) (map factor_view c.factors.factors.items)) c.in-Some.operator c.factors.left.now c.tail.result.now c.in_err-unary.field-0.0 _
     c.factors.invariant.same (sym c.in-Some.ensures) c.tail.ensures.value c.in_err-unary.ensures.gives)
+
+pub read_summands-summands-init : goal.read_summands-summands-init
+read_summands-summands-init t c = record {
+  room = omega arith;
+  same = turns_start (λ o. has (sum_operator o)) (chain_step sum_operator further_term (term_of (unary_at c.args.depth))) (λ (ss : List Summand). sum_of (term (term_view c.args.first)) (map summand_view ss))
+      c.new-summands.result.items (term (term_view c.args.first)) c.args.rest.now c.new-summands.ensures.items refl;
+}
 
 pub read_summands-summands-preserved : goal.read_summands-summands-preserved
 read_summands-summands-preserved t c = record {

@@ -1,9 +1,9 @@
-use Rattle.std.proofs.Common.{◌≡◌, ◌≤◌, ◌<◌, length, ℕ, List, [], Ok, refl, sym, ap, ◌∙◌, arith, map}
+use Rattle.std.proofs.Common.{List, ap, map}
 use Rattle.std.proofs.lemmas.Result.{err_from_is_err_and}
 use Rattle.lra_tree.specs.declared.trees.Item.TheVariants as item
 use Rattle.lra_tree.specs.Trees.{PartTree}
 use Rattle.lra_tree.specs.Views.{function_view, part_view}
-use Rattle.lra_parse.specs.Files.{parts_at, file_at}
+use Rattle.lra_parse.specs.Files.{parts_at}
 use Rattle.lra_parse.proofs.Turning.{list_grown}
 use Rattle.lra_parse.proofs.Headed.{parts_start, part_turn, file_exit, end_exit, file_gives}
 use Rattle.lra_parse.proofs.functions.read_file.Goals as goal

@@ -1,4 +1,4 @@
-use Rattle.std.proofs.Common.{◌≡◌, ◌≤◌, ◌<◌, ◌-◌, length, subst, arith}
+use Rattle.std.proofs.Common.{subst, arith}
 use Rattle.lra_tree.specs.declared.tokens.Token.{Token}
 use Rattle.lra_tree.specs.Faults.{IsTextFault}
 use Rattle.lra_tree.specs.Built.{Built}

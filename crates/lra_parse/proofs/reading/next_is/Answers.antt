@@ -1,7 +1,5 @@
-use Rattle.std.proofs.Common.{◌≡◌, Bool, Option, Some, refl, sym, ap, ◌∙◌}
-use Rattle.lra_tree.specs.declared.tokens.Token.{Token}
-use Rattle.lra_parse.specs.Tests.{is_mark, first}
-use Rattle.lra_parse.proofs.Marks.{same_is, next_mark}
+use Rattle.std.proofs.Common.{◌∙◌}
+use Rattle.lra_parse.proofs.Marks.{next_mark}
 use Rattle.lra_parse.proofs.reading.next_is.Goals as goal
 
 pub returns-in-Mark : goal.returns-in-Mark

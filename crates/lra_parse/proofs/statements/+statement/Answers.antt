@@ -1,11 +1,16 @@
-use Rattle.std.proofs.Common.{◌≡◌, ◌≤◌, ◌<◌, length, ℕ, List, Ok, refl, sym, ap, ◌∙◌, arith, map}
+use Rattle.std.proofs.Common.{Ok, sym, ap, ◌∙◌, arith}
 use Rattle.std.proofs.lemmas.Result.{err_from_is_err_and}
 use Rattle.lra_tree.specs.declared.refusals.Place.{Place}
 use Rattle.lra_tree.specs.Trees.{StmtTree, ItemsTree}
-use Rattle.lra_tree.specs.Views.{cond_view, stmt_view, item_view, block_view}
-use Rattle.lra_parse.specs.Statements.{branch_at, item_at, items_at, body_of}
-use Rattle.lra_parse.proofs.Stated.{state_turn, body_exit, end_exit, body_gives, body_view, block_stmt, branch_block}
+use Rattle.lra_tree.specs.Views.{block_view}
+use Rattle.lra_parse.proofs.Stated.{state_start, state_turn, body_exit, end_exit, body_gives, body_view, block_stmt, branch_block}
 use Rattle.lra_parse.proofs.statements.+statement.Goals as goal
+
+pub read_body-items-init : goal.read_body-items-init
+read_body-items-init t c = record {
+  room = c.in_ok-left.ensures.shorter;
+  state = state_start c.args.declares c.args.depth c.new-items.result.items c.in_ok-left.left.now c.new-items.ensures.items;
+}
 
 pub read_body-items-preserved : goal.read_body-items-preserved
 read_body-items-preserved t c = record {
