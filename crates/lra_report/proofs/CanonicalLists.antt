@@ -35,12 +35,12 @@ leads_up c cs (suc q) h = lead_up cs q (λ j k. h.before (suc j) (omega arith, i
 -- a row of an echelon form as an equality
 pub spelled_equality : (r : List ℤ) (p : ℕ) → Leads r p → AllByRecursion InRange r → IsSpelledRow (report_row r con.Eq)
 spelled_equality [] p h i = absurd (let above = h.here in omega (arith, ints, above))
-spelled_equality (c ∷ cs) p h i = record { directed = leads_up c cs p h; constant_in = i.0; coefficients_in = i.1 }
+spelled_equality (c ∷ cs) p h i = record { directed = leads_up c cs p h; in_range = record { constant_in = i.0; coefficients_in = i.1 } }
 
 -- any row as an inequality
 pub spelled_inequality : (r : List ℤ) → AllByRecursion InRange r → IsSpelledRow (report_row r con.Ge)
-spelled_inequality [] i = record { directed = tt; constant_in = omega arith; coefficients_in = tt }
-spelled_inequality (c ∷ cs) i = record { directed = tt; constant_in = i.0; coefficients_in = i.1 }
+spelled_inequality [] i = record { directed = tt; in_range = record { constant_in = omega arith; coefficients_in = tt } }
+spelled_inequality (c ∷ cs) i = record { directed = tt; in_range = record { constant_in = i.0; coefficients_in = i.1 } }
 
 -- points are in lowest terms
 pub spelled_point : (r : List ℤ) → FitsKind gen.Point r → IsPrimitive r → AllByRecursion InRange r → IsSpelledGenerator (report_generator r gen.Point)

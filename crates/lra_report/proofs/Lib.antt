@@ -8,6 +8,7 @@ pub mod LiveWords
 pub mod NameTexts
 pub mod Numbers
 pub mod OneText
+pub mod RowRanges
 pub mod RowTexts
 pub mod SitePaths
 pub mod SourceTexts

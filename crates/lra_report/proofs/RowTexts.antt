@@ -284,10 +284,10 @@ row_same ns r s u v hn lr ls hr hs eu ev e =
     let behind_s = signed_decimal (turned (not c) s.constant) ++ v in
     let forms = form_same (map (turned b) r.coefficients) (map (turned c) s.coefficients) ns (relation_text r.kind b ++ behind_r) (relation_text s.kind c ++ behind_s)
     (up_cases b r.coefficients refl) (up_cases c s.coefficients refl) (length_turned b r.coefficients ∙ lr) (length_turned c s.coefficients ∙ ls)
-    (all_turned_in b r.coefficients hr.coefficients_in) (all_turned_in c s.coefficients hs.coefficients_in) hn (relation_behind r.kind b behind_r) (relation_behind s.kind c behind_s)
+    (all_turned_in b r.coefficients hr.in_range.coefficients_in) (all_turned_in c s.coefficients hs.in_range.coefficients_in) hn (relation_behind r.kind b behind_r) (relation_behind s.kind c behind_s)
     (sym (row_pieces ns r u) ∙ e ∙ row_pieces ns s v) in
     let relations = relation_same r.kind s.kind b c behind_r behind_s (directed r.kind r.coefficients hr.directed) (directed s.kind s.coefficients hs.directed) forms.1 in
-    let numbers = signed_same (turned (not b) r.constant) (turned (not c) s.constant) u v (short_in_range (turned (not b) r.constant) (turned_in (not b) r.constant hr.constant_in)) (short_in_range (turned (not c) s.constant) (turned_in (not c) s.constant hs.constant_in)) eu ev relations.rest in
+    let numbers = signed_same (turned (not b) r.constant) (turned (not c) s.constant) u v (short_in_range (turned (not b) r.constant) (turned_in (not b) r.constant hr.in_range.constant_in)) (short_in_range (turned (not c) s.constant) (turned_in (not c) s.constant hs.in_range.constant_in)) eu ev relations.rest in
     let coefficients : r.coefficients ≡ s.coefficients = all_turned_same b r.coefficients s.coefficients (forms.0 ∙ ap (λ t. map (turned t) s.coefficients) (sym relations.turn)) in
     let constants : r.constant ≡ s.constant = turned_same (not b) r.constant s.constant (numbers.0 ∙ ap (λ t. turned (not t) s.constant) (sym relations.turn)) in
     (row_by r.kind s.kind r.constant s.constant r.coefficients s.coefficients relations.kind constants coefficients, numbers.1)
@@ -335,4 +335,4 @@ pub row_not_true : (ns : List (List ℕ)) (r : Row) (u w : List ℕ) → AreShow
 row_not_true ns r u w hn hr e =
     let b = is_turned r.coefficients in
     let behind = signed_decimal (turned (not b) r.constant) ++ u in
-    form_not_true (map (turned b) r.coefficients) ns (relation_text r.kind b ++ behind) w (all_turned_in b r.coefficients hr.coefficients_in) hn (relation_behind r.kind b behind) (sym (row_pieces ns r u) ∙ e)
+    form_not_true (map (turned b) r.coefficients) ns (relation_text r.kind b ++ behind) w (all_turned_in b r.coefficients hr.in_range.coefficients_in) hn (relation_behind r.kind b behind) (sym (row_pieces ns r u) ∙ e)

@@ -1,10 +1,12 @@
 -- Lists of constraints and of generators, as a report shows them.
 use Rattle.std.specs.Prelude.{ℤ, List, [], ◌∷◌, Option, Some, None}
+use Rattle.std.specs.List.{AllByRecursion}
+use Rattle.lra_linear.specs.Range.{InRange}
 use Rattle.lra_sys.specs.declared.system.ConKind.{ConKind}
 use Rattle.lra_sys.specs.declared.system.GenKind.{GenKind}
 use Rattle.lra_sys.specs.Listed.{Listed, FitKinds}
 use Rattle.lra_show.specs.Shown.{report_row, report_generator}
-use Rattle.lra_tree.specs.Report.{Row, Generator}
+use Rattle.lra_tree.specs.Report.{Row, Generator, Part}
 
 -- each row with its kind
 abbrev pub shown_by : {K R : Type 0} → (List ℤ → K → R) → List (List ℤ) → List K → List R
@@ -27,3 +29,12 @@ optional_generators (Some g) = shown_generators g.rows g.kinds
 abbrev pub FitOptionally : Option (Listed GenKind) → Type 0
 FitOptionally None = Unit {0}
 FitOptionally (Some g) = FitKinds g.rows g.kinds
+
+-- a row's numbers are in the range of those that are computed with
+pub record IsRowInRange (r : Row) : Type 0 where
+  pub constant_in : InRange r.constant
+  pub coefficients_in : AllByRecursion InRange r.coefficients
+
+-- those of all rows of a part
+abbrev pub IsPartInRange : Part → Type 0
+IsPartInRange p = AllByRecursion IsRowInRange p.rows

@@ -15,6 +15,7 @@ use Rattle.lra_tree.specs.Report.{RowKind, equality, inequality, Row, GeneratorK
 use Rattle.lra_tree.specs.ReportText.{is_turned, report_text}
 use Rattle.lra_tree.specs.Parts.{DividesAs}
 use Rattle.lra_tree.specs.Listing.{Lists, HasWidth, live_names, globals_named, IsReportOf}
+use Rattle.lra_report.specs.Rows.{IsRowInRange}
 
 -- the first coefficient of an equality that isn't 0 is above 0
 abbrev pub IsDirected : RowKind → List ℤ → Type 0
@@ -23,8 +24,7 @@ IsDirected inequality cs = ⊤
 
 pub record IsSpelledRow (r : Row) : Type 0 where
   pub directed : IsDirected r.kind r.coefficients
-  pub constant_in : InRange r.constant
-  pub coefficients_in : AllByRecursion InRange r.coefficients
+  pub in_range : IsRowInRange r
 
 -- only 1 divides the divisor of a point and all its numbers
 abbrev pub IsReduced : GeneratorKind → ℕ → List ℤ → Type 0

@@ -2,7 +2,7 @@
 
 ghost use Rattle.std.specs.Prelude.{◌≡◌, [], MatchOption, length};
 ghost use Rattle.lra_sys.specs.Listed.{FitKinds};
-ghost use Rattle.lra_report.specs.Rows.{shown_rows, shown_generators, optional_generators, FitOptionally};
+ghost use Rattle.lra_report.specs.Rows.{shown_rows, shown_generators, optional_generators, FitOptionally, IsPartInRange};
 
 use lra_sys::{ConSys, GenSys};
 use std::marker::Model;
@@ -35,11 +35,14 @@ impl Model for Part {
 
 impl Part {
     /// A part of these rows and generators, none over boxes and octagons.
+    #[tactic(auto, using(crate::proofs::RowRanges::rows_in_range))]
     pub fn new(rows: ConSys, generators: Option<GenSys>) -> Part
         requires { FitOptionally generators }
         ensures rows { result.rows ≡ shown_rows rows.rows rows.kinds }
         ensures generators { result.generators ≡ optional_generators generators }
+        ensures in_range { IsPartInRange result }
     {
+        let _listed = rows.rows();
         Part { rows, generators }
     }
 
