@@ -9,6 +9,7 @@ use Rattle.lra_sys.specs.declared.system.ConKind.{ConKind}
 use Rattle.lra_show.specs.Shown.{report_row}
 use Rattle.lra_report.specs.Rows.{shown_rows}
 use Rattle.lra_domain.specs.Meaning.{Meaning}
+use Rattle.lra_domain.specs.Laws.{Laws}
 use Rattle.lra_box.specs.declared.interval.Interval.{Interval}
 use Rattle.lra_box.specs.Content.{Content}
 use Rattle.lra_box.specs.Parts.{bound_row, is_single, low_rows, high_rows, equal_rows, unequal_rows, box_rows, box_system, box_parts}
@@ -30,7 +31,8 @@ use Rattle.lra_listing.specs.Given.{IsAssertion}
 use Rattle.lra_source.specs.Analysed.{shown_part, shown_state}
 use Rattle.lra_source.proofs.Numbering.{numbered}
 use Rattle.lra_source.proofs.Flags.{graph_below, iteration_below}
-use Rattle.lra_source.proofs.Widths.{HasDims, values_wide}
+use Rattle.lra_iter.proofs.Widths.{values_wide}
+use Rattle.lra_source.proofs.Widths.{graph_lives}
 
 -- lists --------------------------------------------------------------------------------------------------------------
 
@@ -132,19 +134,13 @@ module _ {V H : Type 0} (m : Meaning V H) (settings : Settings) (P : Program) (g
   states_as_many = length-map values (shown_state m) ∙ as_many
 
   -- each state has a number for each variable that lives at its point
-  pub states_wide : HasDims m → ShowsWide m → (q : ℕ) (s : Site) (state : State) → slice_get (sites_of P) q ≡ Some s → slice_get (map (shown_state m) values) q ≡ Some state → AllByRecursion (HasWidth s.live) state
-  states_wide law shows q s state there got =
+  pub states_wide : Laws m → ShowsWide m → (q : ℕ) (s : Site) (state : State) → slice_get (sites_of P) q ≡ Some s → slice_get (map (shown_state m) values) q ≡ Some state → AllByRecursion (HasWidth s.live) state
+  states_wide laws shows q s state there got =
       let (v, value_there, is) = image_of (shown_state m) values q state got in
-      let dims : m.dims v ≡ s.live = values_wide m settings P g r law graph derived q v s ((solves.is_value q v).0 value_there) there in
+      let dims : m.dims v ≡ s.live = values_wide m laws (sites_of P) settings P g r (graph_lives P g graph) derived q v s ((solves.is_value q v).0 value_there) there in
       subst (λ (x : State). AllByRecursion (HasWidth s.live) x) is (subst (λ (n : ℕ). AllByRecursion (HasWidth n) (shown_state m v)) dims (shows v))
 
 -- boxes --------------------------------------------------------------------------------------------------------------
-
-pub box_dims : HasDims box_meaning
-box_dims = record {
-  universal = λ n cap v is. ap (λ (c : Content). c.dims) is;
-  void = λ n cap v is. ap (λ (c : Content). c.dims) is;
-}
 
 -- a column more than there are dimensions
 abbrev AreWide : ℕ → List (List ℤ) → Type 0

@@ -1,6 +1,7 @@
 -- What an iteration finds holds in all runs.
 use Rattle.std.proofs.Common.{◌≡◌, ℕ, List, Bool, true, Option, refl}
 use Rattle.lra_domain.specs.Meaning.{Meaning}
+use Rattle.lra_domain.specs.Laws.{Laws}
 use Rattle.lra_tree.specs.Program.{Program}
 use Rattle.lra_tree.specs.Graph.{Node}
 use Rattle.lra_tree.specs.Agree.{IsGraph, Agrees}
@@ -8,13 +9,13 @@ use Rattle.lra_flow.specs.declared.Settings.{Settings}
 use Rattle.lra_flow.specs.Operations.{dropping}
 use Rattle.lra_iter.specs.Solved.{IsSolved}
 use Rattle.lra_iter.proofs.Counting.{iteration_fails_once}
-use Rattle.lra_source.specs.Soundness.{Begins, EmptyWithoutParts, HoldsInRuns, SolvedAreSound}
+use Rattle.lra_source.specs.Soundness.{HoldsInRuns, SolvedAreSound}
 use Rattle.lra_source.proofs.Numbering.{numbered}
 use Rattle.lra_source.proofs.Sound.{value_there, proved_holds}
 
-pub solved_holds : (V H : Type 0) (m : Meaning V H) → SolvedAreSound m
-solved_holds V H m begins empty settings P tree values verdicts flagged solved graph agrees = record {
-  stores = value_there V H m begins settings P tree solved.result solved.derived agrees empty values verdicts flagged solved.solves;
-  proved = λ q s there listed. proved_holds V H m begins settings P tree solved.result solved.derived agrees empty values verdicts flagged solved.solves
+pub solved_holds : (V H : Type 0) (m : Meaning V H) → Laws m → SolvedAreSound m
+solved_holds V H m laws settings P tree values verdicts flagged solved graph agrees = record {
+  stores = value_there V H m laws settings P tree solved.result solved.derived agrees values verdicts flagged solved.solves;
+  proved = λ q s there listed. proved_holds V H m laws settings P tree solved.result solved.derived agrees values verdicts flagged solved.solves
       (iteration_fails_once (dropping m) settings P tree solved.result (numbered P tree graph) solved.derived) q s true there listed refl;
 }

@@ -24,7 +24,8 @@ use Rattle.lra_source.specs.Answers.{settings_of}
 use Rattle.lra_source.specs.Stages.{HasGraph, IsToldOf}
 use Rattle.lra_source.proofs.Fitting.{tree_fits, few_globals}
 use Rattle.lra_source.proofs.Numbering.{numbered}
-use Rattle.lra_source.proofs.Handing.{states_as_many, of_assertions, of_all, states_wide, flag_there, box_dims, box_shows_wide}
+use Rattle.lra_box.specs.Laws.{box_laws}
+use Rattle.lra_source.proofs.Handing.{states_as_many, of_assertions, of_all, states_wide, flag_there, box_shows_wide}
 
 -- what the iteration asks --------------------------------------------------------------------------------------------
 
@@ -73,7 +74,7 @@ module _ (t : FileTree) (g : Node) (sites : List Site) (has : HasGraph t g sites
   pub states_handed : (states : List State) → states ≡ map (shown_state box_meaning) values → AreStates (sites_of (resolve t)) states
   states_handed states is = record {
     as_many = ap length is ∙ states_as_many box_meaning settings (resolve t) g solved.result values verdicts flagged has.is_graph solved.derived solved.solves;
-    wide = λ q s state there got. states_wide box_meaning settings (resolve t) g solved.result values verdicts flagged has.is_graph solved.derived solved.solves box_dims box_shows_wide q s state there
+    wide = λ q s state there got. states_wide box_meaning settings (resolve t) g solved.result values verdicts flagged has.is_graph solved.derived solved.solves box_laws box_shows_wide q s state there
         (ap (λ (l : List State). slice_get l q) (sym is) ∙ got);
   }
 

@@ -19,6 +19,7 @@ use Rattle.lra_box.specs.Content.{Content}
 use Rattle.lra_box.specs.Tables.{has_bounds}
 use Rattle.lra_box.specs.Parts.{box_parts}
 use Rattle.lra_box.specs.Meaning.{box_meaning}
+use Rattle.lra_box.specs.Laws.{box_laws}
 use Rattle.lra_box.proofs.PartLemmas.{parts_mean}
 use Rattle.lra_tree.specs.Linear as linear
 use Rattle.lra_flow.proofs.Keeping.{as_form_value}
@@ -37,6 +38,7 @@ use Rattle.lra_tree.specs.Listing.{AreListed, Lists, assertions_from, globals_na
 use Rattle.lra_flow.specs.declared.Settings.{Settings}
 use Rattle.lra_flow.specs.Operations.{dropping}
 use Rattle.lra_domain.specs.Meaning.{Meaning}
+use Rattle.lra_domain.specs.Laws.{Laws}
 use Rattle.lra_tree.specs.Graph.{Node}
 use Rattle.lra_flow.specs.Pass.{Result}
 use Rattle.lra_flow.specs.Analysis.{Derivation, Solves}
@@ -46,7 +48,6 @@ use Rattle.lra_iter.specs.Numbers.{IsBelow}
 use Rattle.lra_source.proofs.Numbering.{numbered}
 use Rattle.lra_iter.proofs.Counting.{iteration_fails_once}
 use Rattle.lra_source.proofs.Flags.{graph_below, iteration_below}
-use Rattle.lra_source.specs.Soundness.{Begins, EmptyWithoutParts}
 use Rattle.lra_source.proofs.Sound.{value_there, proved_holds, listed_all, judged_all, assertion_site}
 
 -- rows ---------------------------------------------------------------------------------------------------------------
@@ -89,16 +90,6 @@ content_holds n (Some is) s h l = parts_hold (box_parts n (Some is)) s ((parts_m
 
 box_holds : (v : Content) (s : List ℤ) → has_bounds v.bounds s → length s ≡ v.dims → Holds (shown_state box_meaning v) s
 box_holds v s h l = content_holds v.dims v.bounds s h l
-
-box_begins : Begins box_meaning
-box_begins cap v is = (subst (λ (c : Content). has_bounds c.bounds []) (sym is) tt, ap (λ (c : Content). c.dims) is)
-
-none_left : (n : ℕ) (b : Option (List Interval)) (s : List ℤ) → box_parts n b ≡ [] → has_bounds b s → ⊥
-none_left n None s e h = h
-none_left n (Some is) s e h = let wrong : ⊥ = cc in wrong
-
-box_empty : EmptyWithoutParts box_meaning
-box_empty v e s h = none_left v.dims v.bounds s e h
 
 one_part : (n : ℕ) (b : Option (List Interval)) → length (box_parts n b) ≤ 1
 one_part n None = omega arith
@@ -148,11 +139,11 @@ listed_length o ls n (s ∷ ss) (p ∷ ps) l = ap suc (listed_length o ls (suc n
 module _ (settings : Settings) (t : FileTree) (r : Report) (lists : Lists t r) (x : IsAnalysed box_meaning settings (resolve t) r) (agrees : Agrees (resolve t) x.tree) where
   invariant : (k : ℕ) (s : Site) (p : PointReport) → slice_get (sites_of (resolve t)) k ≡ Some s → slice_get r.points k ≡ Some p → p.point ≡ point_of s → IsInvariant (resolve t) p
   invariant k s p there listed is store at =
-      let (v, found, has, long) = value_there Content Content box_meaning box_begins settings (resolve t) x.tree x.result x.derived agrees box_empty x.values x.verdicts x.flagged x.solves k s store there
+      let (v, found, has, long) = value_there Content Content box_meaning box_laws settings (resolve t) x.tree x.result x.derived agrees x.values x.verdicts x.flagged x.solves k s store there
       (subst (λ y. At (resolve t) y store) is at) in
       let (w, found', state) = map_at (λ (q : PointReport). q.state) (shown_state box_meaning) r.points x.values x.states k p listed in
       let same : v ≡ w = same_Some v w (sym found ∙ found') in
-      subst (λ (y : State). Holds y store) (sym (state ∙ ap (shown_state box_meaning) (sym same))) (box_holds v store has long)
+      subst (λ (y : State). Holds y store) (sym (state ∙ ap (shown_state box_meaning) (sym same))) (box_holds v store has.1 long)
 
   right : (k : ℕ) (a : ℕ × Site) (v : Verdict) → slice_get (assertions_from 1 (sites_of (resolve t))) k ≡ Some a → slice_get r.verdicts k ≡ Some v → (v.number ≡ a.0) × (v.point ≡ point_of a.1) → IsRight (resolve t) v
   right k a v there listed (number, point) proved fails =
@@ -160,7 +151,7 @@ module _ (settings : Settings) (t : FileTree) (r : Report) (lists : Lists t r) (
       let (y, found, told) = map_at verdict_told told_verdict r.verdicts x.verdicts x.proved k v listed in
       let place : y.0 ≡ q = numbers v.number y.0 a.0 q (ap (λ (z : ℕ × Bool). z.0) told) number is in
       let same : y ≡ (q, v.proved) = pair y.0 q y.1 v.proved place (sym (ap (λ (z : ℕ × Bool). z.1) told)) in
-      proved_holds Content Content box_meaning box_begins settings (resolve t) x.tree x.result x.derived agrees box_empty x.values x.verdicts x.flagged x.solves
+      proved_holds Content Content box_meaning box_laws settings (resolve t) x.tree x.result x.derived agrees x.values x.verdicts x.flagged x.solves
       (iteration_fails_once (dropping box_meaning) settings (resolve t) x.tree x.result (numbered (resolve t) x.tree x.is_graph) x.derived)
       q a.1 v.proved site (subst (λ (z : ℕ × Bool). Contains x.verdicts z) same (got x.verdicts k y found)) proved (subst (λ z. Fails (resolve t) z) point fails)
     where
@@ -217,11 +208,11 @@ module _ (settings : Settings) (t : FileTree) (r : Report) (lists : Lists t r) (
 -- analyses -----------------------------------------------------------------------------------------------------------
 
 -- a derivation with drops whose values, verdicts and flag a report tells
-pub analysed : {V H : Type 0} (m : Meaning V H) (settings : Settings) (P : Program) (r : Report) (tree : Node) (result : Result V) (values : List V) (verdicts : List (ℕ × Bool)) (flagged : Option ℕ)
+pub analysed : {V H : Type 0} (m : Meaning V H) → Laws m → (settings : Settings) (P : Program) (r : Report) (tree : Node) (result : Result V) (values : List V) (verdicts : List (ℕ × Bool)) (flagged : Option ℕ)
     → IsGraph P tree → Derivation m settings P tree result → Solves m result values verdicts flagged
     → map (λ (p : PointReport). p.state) r.points ≡ map (shown_state m) values → map verdict_told r.verdicts ≡ map told_verdict verdicts → r.flagged ≡ option_map suc flagged
     → IsAnalysed m settings P r
-analysed m settings P r tree result values verdicts flagged graph derived solves states proved flag = record {
+analysed m laws settings P r tree result values verdicts flagged graph derived solves states proved flag = record {
   tree = tree;
   is_graph = graph;
   result = result;
@@ -230,8 +221,8 @@ analysed m settings P r tree result values verdicts flagged graph derived solves
   flagged = flagged;
   solves = solves;
   derived = derived;
-  written = λ none. unflagged_is_written m settings P tree result derived (sym solves.is_flagged ∙ none);
-  strained = λ q is. flagged_strains m settings P tree result q derived (sym solves.is_flagged ∙ is);
+  written = λ none. unflagged_is_written m laws settings P tree result derived (sym solves.is_flagged ∙ none);
+  strained = λ q is. flagged_strains m laws settings P tree result q derived (sym solves.is_flagged ∙ is);
   states = states;
   proved = proved;
   flag = flag;

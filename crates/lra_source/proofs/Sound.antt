@@ -5,6 +5,7 @@ use Rattle.std.specs.List.{AllByRecursion, Contains}
 use Rattle.std.proofs.lemmas.Int.{ints}
 use Rattle.std.proofs.lemmas.Option.{none-some, same_Some}
 use Rattle.lra_domain.specs.Meaning.{Meaning}
+use Rattle.lra_domain.specs.Laws.{Laws}
 use Rattle.lra_domain.specs.declared.Exactness.{Exactness}
 use Rattle.lra_lin.specs.Form.{form_value}
 use Rattle.lra_tree.specs.Linear as linear
@@ -23,63 +24,32 @@ use Rattle.lra_flow.specs.Pass.{failing, Result, noted}
 use Rattle.lra_flow.specs.Analysis.{Derivation, Solves, IsUnreachable}
 use Rattle.lra_flow.specs.Sound.{Covers}
 use Rattle.lra_flow.proofs.Keeping.{as_form_value}
-use Rattle.lra_flow.proofs.Keeps.{sizing, pass_covers}
-use Rattle.lra_source.specs.Soundness.{Begins, EmptyWithoutParts}
+use Rattle.lra_iter.proofs.Covering.{begun_covers}
 
--- the globals at their first values ---------------------------------------------------------------------------------
-
-zeros : (n : ℕ) (xs : List ℤ) → dot (replicate n (pos 0)) xs ≡ pos 0
-zeros zero xs = refl
-zeros (suc n) [] = refl
-zeros (suc n) (x ∷ xs) = rw (zeros n xs) (omega (arith, ints))
-
-constant_value : (n : ℕ) (z : ℤ) (s : List ℤ) → form_value (as_form (linear.constant_form n z)) s ≡ z
-constant_value n z s = as_form_value (linear.constant_form n z) s ∙ ap (λ (y : ℤ). z +ℤ y) (zeros n s) ∙ (let same : z +ℤ pos 0 ≡ z = omega (arith, ints) in same)
-
-set_last : (xs : List ℤ) (z : ℤ) → slice_set (xs ++ z ∷ []) (length xs) z ≡ xs ++ z ∷ []
-set_last [] z = refl
-set_last (x ∷ xs) z = ap (λ (ys : List ℤ). x ∷ ys) (set_last xs z)
+-- runs -----------------------------------------------------------------------------------------------------------------
 
 module _ (V H : Type 0) (m : Meaning V H) where
-  first_done : (zs : List ℤ) (live : ℕ) (v : V) (e : Exactness) (w : V) (s : List ℤ) → AreDone (dropping m) (first_values live zs) v e w → m.has v s → length s ≡ live → m.dims v ≡ live
-      → m.has w (s ++ zs) × (m.dims w ≡ live + length zs)
-  first_done [] live v e w s (same, exact) h l d =
-      (subst (λ (x : V). m.has x (s ++ [])) (sym same) (subst (λ (xs : List ℤ). m.has v xs) (sym (append-nil s)) h), ap (λ (x : V). m.dims x) same ∙ omega (arith, d))
-  first_done (z ∷ zs) live v e w s (x, c, c', one, (y, d, d', two, rest, worse'), worse) h l k =
-      let u = s ++ z ∷ [] in
-      let long : length u ≡ suc live = length-append s (z ∷ []) ∙ omega (arith, l) in
-      let has_x : m.has x u = one.0.stores s u h (z ∷ [], refl, refl) in
-      let led : u ≡ slice_set u live (form_value (as_form (linear.constant_form (suc live) z)) u) =
-      sym (rw (constant_value (suc live) z u) (subst (λ (n : ℕ). slice_set u n z ≡ u) l (set_last s z))) in
-      let has_y : m.has y u = two.0.stores u u has_x led in
-      let dims_x : m.dims x ≡ suc live = one.1 ∙ omega (arith, k) in
-      let dims_y : m.dims y ≡ suc live = two.1 ∙ dims_x in
-      let later = first_done zs (suc live) y d' w u rest has_y long dims_y in
-      (subst (λ (xs : List ℤ). m.has w xs) (append_assoc s (z ∷ []) zs) later.0, later.1 ∙ omega arith)
-
-  module _ (law : Begins m) (set : Settings) (P : Program) (g : Node) (r : Result V) where
+  module _ (laws : Laws m) (set : Settings) (P : Program) (g : Node) (r : Result V) where
     -- from the globals on, whatever is drawn, the iteration has the stores of the tree's runs
-    pub derivation_covers : Derivation m set P g r → (draws : List ℤ) → Covers (sizing m) g (begins P draws) r
-    derivation_covers (none, first, e, universal, values, pass) draws =
-        let b = law set.parts none universal in
-        let f = first_done P.globals 0 none e first [] values b.0 refl b.1 in
-        pass_covers m set g (noted 0 e None) first r pass (begins P draws) f.0 (let n : length P.globals ≡ m.dims first = omega (arith, f.1) in n)
+    pub derivation_covers : Derivation m set P g r → (draws : List ℤ) → Covers m g (begins P draws) r
+    derivation_covers (none, first, e, universal, values, pass) draws = begun_covers m laws set P.globals g none first e r universal values pass draws
 
-    module _ (derived : Derivation m set P g r) (agrees : Agrees P g) (empty : EmptyWithoutParts m) (values : List V) (verdicts : List (ℕ × Bool)) (flagged : Option ℕ) (solves : Solves m r values verdicts flagged) where
+    module _ (derived : Derivation m set P g r) (agrees : Agrees P g) (values : List V) (verdicts : List (ℕ × Bool)) (flagged : Option ℕ) (solves : Solves m r values verdicts flagged) where
       -- where a run comes to a point, the value there has its store
       pub value_there : (q : ℕ) (s : Site) (store : List ℤ) → slice_get (sites_of P) q ≡ Some s → At P (point_of s) store
           → (v : V) × (slice_get values q ≡ Some v) × m.has v store × (length store ≡ m.dims v)
       value_there q s store there at =
           let (draws, words, t, comes, is) = (agrees.comes q s store there).0 at in
           let (v, found, has) = (derivation_covers derived draws).comes q t comes in
-          (v, (solves.is_value q v).1 found, subst (λ (xs : List ℤ). m.has v xs) is has.0, subst (λ (xs : List ℤ). length xs ≡ m.dims v) is has.1)
+          let there : m.has v store = subst (λ (xs : List ℤ). m.has v xs) is has in
+          (v, (solves.is_value q v).1 found, there, laws.sized v store there)
 
       -- where a run fails an assertion, a value where its condition is false has its store
       pub failing_there : (q : ℕ) (s : Site) → slice_get (sites_of P) q ≡ Some s → Fails P (point_of s) → (v : V) × (store : List ℤ) × Contains r.entries (failing q v) × m.has v store
       failing_there q s there fails =
           let (draws, words, failed) = (agrees.fails q s there).0 fails in
           let (v, t, found, has) = (derivation_covers derived draws).fails q failed in
-          (v, t.store, found, has.0)
+          (v, t.store, found, has)
 
       -- one value for each assertion
       abbrev pub OneFailing : Type 0
@@ -89,7 +59,7 @@ module _ (V H : Type 0) (m : Meaning V H) where
       proved_holds one q s proved there listed is fails =
           let (v, store, found, has) = failing_there q s there fails in
           let (u, seen, so) = solves.is_verdict q proved listed in
-          empty u (so.0 is) store (subst (λ (x : V). m.has x store) (one q v u found seen) has)
+          laws.partless u (so.0 is) store (subst (λ (x : V). m.has x store) (one q v u found seen) has)
 
 -- reports ------------------------------------------------------------------------------------------------------------
 

@@ -1,4 +1,4 @@
--- The value that an iteration has at a point has a dimension for each variable that lives there.
+-- A program's tree comes to each point with as many variables as live there.
 use Rattle.std.proofs.Common.{◌≡◌, ℕ, zero, suc, ◌+◌, ◌-◌, ◌++◌, ◌≤◌, List, [], ◌∷◌, length, Option, Some, None, Bool, true, false, inl, inr, refl, sym, ap, ◌∙◌, subst, arith}
 use Rattle.std.specs.Prelude.{ℤ, slice_get}
 use Rattle.std.specs.List.{AllByRecursion, Contains}
@@ -8,6 +8,7 @@ use Rattle.lra_domain.specs.Actions.{Action, dims_after}
 use Rattle.lra_domain.specs.declared.Exactness.{Exactness}
 use Rattle.lra_domain.specs.declared.Exactness.TheVariants.{Exact}
 use Rattle.lra_domain.specs.Meaning.{Meaning}
+use Rattle.lra_domain.specs.Laws.{Laws}
 use Rattle.lra_tree.specs.Program.{Comparison, below, at_most, above, at_least, equal, differs, Expr, Cond, Source, Stmt, BlockItems, Program}
 use Rattle.lra_tree.specs.Linear as linear
 use Rattle.lra_tree.specs.Linear.{Test, comparison_test, difference_form}
@@ -26,24 +27,9 @@ use Rattle.lra_flow.specs.Pass.{Entry, value, failing, Result, noted, jumps, fir
 use Rattle.lra_flow.specs.Analysis.{Derivation}
 use Rattle.lra_iter.specs.Changes.{dims_behind}
 use Rattle.lra_iter.specs.Fits.{live_behind}
+use Rattle.lra_iter.specs.Lives.{LiveAt, PointsHave}
 
 -- trees --------------------------------------------------------------------------------------------------------------
-
--- a point of this number has so many live variables
-abbrev pub LiveAt : List Site → ℕ → ℕ → Type 0
-LiveAt T q n = (s : Site) → slice_get T q ≡ Some s → n ≡ s.live
-
--- begun with n variables, the tree comes to each of its points with as many as live there
-abbrev pub PointsHave : List Site → Node → ℕ → Type 0
-PointsHave T empty n = Unit {0}
-PointsHave T (point q) n = LiveAt T q n
-PointsHave T (act q op) n = Unit {0}
-PointsHave T (check q base c) n = Unit {0}
-PointsHave T (seq a b) n = PointsHave T a n × PointsHave T b (live_behind a n)
-PointsHave T (choose q base c a b) n = PointsHave T a n × PointsHave T b n
-PointsHave T (iterate q base c a) n = LiveAt T q n × PointsHave T a n × (live_behind a n ≡ n)
-PointsHave T (catch q k a) n = PointsHave T a n
-PointsHave T (leave m k) n = Unit {0}
 
 live_at : (T : List Site) (f : Frame) (q n at : ℕ) (b : Bool) → HasSite T q f n at b → LiveAt T q n
 live_at T f q n at b has s there = ap (λ (x : Site). x.live) (same_Some _ s (sym has ∙ there))
@@ -135,187 +121,9 @@ module _ (T : List Site) where
           (then_lives _ _ (acts r' (give_any x) refl) (keeps r' n (omega arith))))) in
           then_lives _ _ (acts q (step.push f.here.base c.arguments) (ap (λ (k : ℕ). n + k) j)) (record { points = inner.points; behind = inner.behind })
 
-graph_lives : (P : Program) (g : Node) → IsGraph P g → PointsHave (sites_of P) g (length P.globals)
+pub graph_lives : (P : Program) (g : Node) → IsGraph P g → PointsHave (sites_of P) g (length P.globals)
 graph_lives P g graph =
     let T = sites_of P in
     let body = lives_all T P graph.inlined in
     let last = at_point T graph.last (live_at T (main_frame P) graph.last graph.live P.main.end _ graph.ends) in
     subst (λ (h : Node). PointsHave T h (length P.globals)) (sym graph.parts) (then_lives T graph.body (point graph.last) body last).points
-
--- operations ---------------------------------------------------------------------------------------------------------
-
--- the value of so many dimensions that has all stores has them, and so has the one that has none
-pub record HasDims {V H : Type 0} (m : Meaning V H) : Type 0 where
-  pub universal : (n cap : ℕ) (v : V) → m.universal n cap v → m.dims v ≡ n
-  pub void : (n cap : ℕ) (v : V) → m.void n cap v → m.dims v ≡ n
-
--- how many dimensions there are after the changes
-abbrev all_after : List Action → ℕ → ℕ
-all_after [] n = n
-all_after (change ∷ changes) n = all_after changes (dims_after change n)
-
-set_after : (x : ℕ) (o : Option linear.Form) (n : ℕ) → dims_after (set_to x o) n ≡ n
-set_after x None n = refl
-set_after x (Some f) n = refl
-
-push_after : (live base : ℕ) (es : List Expr) (n : ℕ) → all_after (push_all live base es) n ≡ n + length es
-push_after live base [] n = omega arith
-push_after live base (e ∷ es) n =
-    ap (all_after (push_all (suc live) base es)) (set_after live (linear.form_of (suc live) base e) (n + 1)) ∙ push_after (suc live) base es (n + 1) ∙ omega arith
-
-drop_after : (k n : ℕ) → all_after (drop_last k) n ≡ n - k
-drop_after zero n = omega arith
-drop_after (suc k) n = refl
-
-first_after : (zs : List ℤ) (live n : ℕ) → all_after (first_values live zs) n ≡ n + length zs
-first_after [] live n = omega arith
-first_after (z ∷ zs) live n = first_after zs (suc live) (n + 1) ∙ omega arith
-
-module _ (V H : Type 0) (m : Meaning V H) where
-  done_dims : (changes : List Action) (v : V) (e : Exactness) (w : V) → AreDone (dropping m) changes v e w → m.dims w ≡ all_after changes (m.dims v)
-  done_dims [] v e w (same, exact) = ap (λ (x : V). m.dims x) same
-  done_dims (change ∷ changes) v e w (x, c, d, one, rest, worst) = done_dims changes x d w rest ∙ ap (all_after changes) one.1
-
-  test_dims : (live base : ℕ) (o : Option Test) (v w : V × Exactness) → IsTestedBy (V × Exactness) (testing (dropping m)) live base o v w → m.dims w.0 ≡ m.dims v.0
-  test_dims live base None v w is = ap (λ (x : V × Exactness). m.dims x.0) is
-  test_dims live base (Some t) v w (e, done, worst) = done.1
-
-  atom_dims : (live base : ℕ) (op : Comparison) (o : Option linear.Form) (v w : V × Exactness) → IsAtom (V × Exactness) (testing (dropping m)) live base op o v w → m.dims w.0 ≡ m.dims v.0
-  atom_dims live base op None v w is = ap (λ (x : V × Exactness). m.dims x.0) is
-  atom_dims live base differs (Some d) v w (less, more, one, two, (e, joined, worst)) = joined.2 ∙ test_dims live base (comparison_test below d) v less one
-  atom_dims live base below (Some d) v w is = test_dims live base (comparison_test below d) v w is
-  atom_dims live base at_most (Some d) v w is = test_dims live base (comparison_test at_most d) v w is
-  atom_dims live base above (Some d) v w is = test_dims live base (comparison_test above d) v w is
-  atom_dims live base at_least (Some d) v w is = test_dims live base (comparison_test at_least d) v w is
-  atom_dims live base equal (Some d) v w is = test_dims live base (comparison_test equal d) v w is
-
-  pushed_dims : (live base : ℕ) (p : Pushed) (v w : V × Exactness) → IsPushed (V × Exactness) (testing (dropping m)) live base p v w → m.dims w.0 ≡ m.dims v.0
-  pushed_dims live base (atom op a b) v w is = atom_dims live base op (difference_form live base a b) v w is
-  pushed_dims live base (first_then a b) v w (x, one, two) = pushed_dims live base b x w two ∙ pushed_dims live base a v x one
-  pushed_dims live base (one_or a opposed b) v w (left, x, right, one, off, two, (e, joined, worst)) = joined.2 ∙ pushed_dims live base a v left one
-
-  leaves_dims : (base : ℕ) (c : Cond) (wanted : Bool) (v : V) (e : Exactness) (w : V) → Leaves (dropping m) base c wanted v e w → m.dims w ≡ m.dims v
-  leaves_dims base c wanted v e w is = pushed_dims (m.dims v) base (push wanted c) (v, Exact) (w, e) is
-
-  changes_dims : (op : Op) (v : V) (e : Exactness) (w : V) → Changes V H (dropping m) op v e w → m.dims w ≡ dims_behind op (m.dims v)
-  changes_dims append v e w is = done_dims (actions_of (m.dims v) append) v e w is ∙ omega arith
-  changes_dims (give base None x) v e w is = done_dims [] v e w is
-  changes_dims (give base (Some x) y) v e w is = done_dims (actions_of (m.dims v) (give base (Some x) y)) v e w is ∙ set_after x (linear.form_of (m.dims v) base y) (m.dims v)
-  changes_dims (give_any None) v e w is = done_dims [] v e w is
-  changes_dims (give_any (Some x)) v e w is = done_dims (actions_of (m.dims v) (give_any (Some x))) v e w is
-  changes_dims (step.push base es) v e w is = done_dims (push_all (m.dims v) base es) v e w is ∙ push_after (m.dims v) base es (m.dims v)
-  changes_dims (keep k) v e w is = done_dims (drop_last (m.dims v - k)) v e w is ∙ drop_after (m.dims v - k) (m.dims v)
-  changes_dims (test base c wanted) v e w is = leaves_dims base c wanted v e w is
-
-  joined_dims : (v : V) (us : List V) (e : Exactness) (w : V) → AreJoined (dropping m) v us e w → m.dims w ≡ m.dims v
-  joined_dims v [] e w (same, exact) = ap (λ (x : V). m.dims x) same
-  joined_dims v (u ∷ us) e w (x, c, d, one, rest, worst) = joined_dims x us d w rest ∙ one.2
-
-  -- what joins has the dimensions of the whole
-  last_joined : (v : V) (us : List V) (n : V) (e : Exactness) (w : V) → AreJoined (dropping m) v (us ++ n ∷ []) e w → m.dims w ≡ m.dims n
-  last_joined v [] n e w (x, c, d, one, (same, exact), worst) = ap (λ (y : V). m.dims y) same ∙ one.2 ∙ sym one.1
-  last_joined v (u ∷ us) n e w (x, c, d, one, rest, worst) = last_joined x us n d w rest
-
-  returned_dims : (rs : List V) (n : V) (e : Exactness) (w : V) → AreJoined (dropping m) (first_of_call rs n).0 (first_of_call rs n).1 e w → m.dims w ≡ m.dims n
-  returned_dims [] n e w is = joined_dims n [] e w is
-  returned_dims (v ∷ vs) n e w is = last_joined v vs n e w is
-
-  caught_dims : (k : Exit) (r : Result V) (e : Exactness) (w : V) → AreJoined (dropping m) (caught k r).0 (caught k r).1 e w → m.dims w ≡ m.dims r.normal
-  caught_dims broken r e w is = joined_dims r.normal r.breaks e w is
-  caught_dims continued r e w is = joined_dims r.normal r.continues e w is
-  caught_dims returned r e w is = returned_dims r.returns r.normal e w is
-
-  -- passes -----------------------------------------------------------------------------------------------------------
-
-  module _ (T : List Site) where
-    abbrev EntryHas : Entry V → Type 0
-    EntryHas (value q v) = LiveAt T q (m.dims v)
-    EntryHas (failing q v) = Unit {0}
-
-    -- the values at points have as many dimensions as variables live there, and the one that goes on has n
-    pub record Wide (n : ℕ) (r : Result V) : Type 0 where
-      pub normal : m.dims r.normal ≡ n
-      pub entries : AllByRecursion EntryHas r.entries
-
-    wide_is : (n : ℕ) (r s : Result V) → r ≡ s → Wide n s → Wide n r
-    wide_is n r s is h = subst (λ (x : Result V). Wide n x) (sym is) h
-
-    both_wide : (xs ys : List (Entry V)) → AllByRecursion EntryHas xs → AllByRecursion EntryHas ys → AllByRecursion EntryHas (xs ++ ys)
-    both_wide [] ys h i = i
-    both_wide (x ∷ xs) ys h i = (h.0, both_wide xs ys h.1 i)
-
-    live_same : (q n k : ℕ) → k ≡ n → LiveAt T q n → LiveAt T q k
-    live_same q n k e h = λ s there. e ∙ h s there
-
-    behind_wide : (j : Exit) (r : Result V) (v : V) (f : Option ℕ) (n : ℕ) → m.dims v ≡ n → AllByRecursion EntryHas r.entries → Wide n (behind j r v f)
-    behind_wide broken r v f n e h = record { normal = e; entries = h }
-    behind_wide continued r v f n e h = record { normal = e; entries = h }
-    behind_wide returned r v f n e h = record { normal = e; entries = h }
-
-    jump_wide : (j : Exit) (v nothing : V) (f : Option ℕ) (n : ℕ) → m.dims nothing ≡ n → Wide n (jumps j v nothing f)
-    jump_wide broken v nothing f n e = record { normal = e; entries = tt }
-    jump_wide continued v nothing f n e = record { normal = e; entries = tt }
-    jump_wide returned v nothing f n e = record { normal = e; entries = tt }
-
-    -- of a loop at whose head n variables live
-    module _ (q base : ℕ) (c : Cond) (body : Through V) (n : ℕ) (here : LiveAt T q n) (inside : (f : Option ℕ) (v : V) (r : Result V) → body f v r → m.dims v ≡ n → Wide n r) where
-      round_wide : (f : Option ℕ) (v : V) (r : Result V) → GoesRound V H (dropping m) q base c body f v r → m.dims v ≡ n → Wide n r
-      round_wide f v r (w, e, s, on, turn, is) h =
-          let x : Wide n s = inside (noted q e f) w s turn (leaves_dims base c true v e w on ∙ h) in
-          wide_is n r _ is (record { normal = x.normal; entries = (live_same q n (m.dims v) h here, x.entries) })
-
-      -- the value and the result of the last round
-      pub record Turned (v : V) (r : Result V) : Type 0 where
-        pub top : m.dims v ≡ n
-        pub result : Wide n r
-
-      grows_wide : (limited : Bool) (left : ℕ) (f : Option ℕ) (h : H) (later : List H) (v : V) (r : Result V) → Grows V H (dropping m) q base c body limited left f h later v r → m.head_dims h ≡ n → Turned v r
-      grows_wide limited left f h [] v r ((e, valued, turn), stays) k =
-          let top : m.dims v ≡ n = valued.1 ∙ k in
-          record { top = top; result = round_wide (noted q e f) v r turn top }
-      grows_wide limited left f h (next ∷ later) v r (u, s, e, turn, grown, rest) k = grows_wide limited (left - 1) (noted q e s.flag) next later v r rest (grown.2 ∙ k)
-
-      narrows_wide : (more : ℕ) (first u : V) (s : Result V) (v : V) (r : Result V) → Narrows V H (dropping m) q base c body more first u s v r → m.dims first ≡ n → Turned u s → Turned v r
-      narrows_wide zero first u s v r (same, is) k x = record { top = ap (λ (y : V). m.dims y) same ∙ x.top; result = wide_is n r s is x.result }
-      narrows_wide (suc more) first u s v r (next, t, e, joined, turn, rest) k x =
-          let top : m.dims next ≡ n = joined.2 ∙ k in
-          narrows_wide more first next t v r rest k (record { top = top; result = round_wide (noted q e s.flag) next t turn top })
-
-    module _ (law : HasDims m) (set : Settings) where
-      pass_wide : (g : Node) (f : Option ℕ) (v : V) (r : Result V) (n : ℕ) → Pass V H (dropping m) set g f v r → m.dims v ≡ n → PointsHave T g n → Wide (live_behind g n) r
-      pass_wide empty f v r n is h p = wide_is n r _ is (record { normal = h; entries = tt })
-      pass_wide (point q) f v r n is h p = wide_is n r _ is (record { normal = h; entries = (live_same q n (m.dims v) h p, tt) })
-      pass_wide (act q op) f v r n (w, e, done, is) h p = wide_is (dims_behind op n) r _ is (record { normal = changes_dims op v e w done ∙ ap (dims_behind op) h; entries = tt })
-      pass_wide (check q base c) f v r n (u, w, d, e, off, on, is) h p = wide_is n r _ is (record { normal = leaves_dims base c true v e w on ∙ h; entries = (tt, tt) })
-      pass_wide (seq a b) f v r n (s, t, one, two, is) h p =
-          let x = pass_wide a f v s n one h p.0 in
-          let y = pass_wide b s.flag s.normal t (live_behind a n) two x.normal p.1 in
-          wide_is (live_behind b (live_behind a n)) r _ is (record { normal = y.normal; entries = both_wide s.entries t.entries x.entries y.entries })
-      pass_wide (choose q base c a b) f v r n (on, off, w, d, e, i, s, t, is_on, one, is_off, two, joined, is) h p =
-          let x = pass_wide a (noted q d f) on s n one (leaves_dims base c true v d on is_on ∙ h) p.0 in
-          let y = pass_wide b (noted q e s.flag) off t n two (leaves_dims base c false v e off is_off ∙ h) p.1 in
-          wide_is (live_behind a n) r _ is (record { normal = joined.2 ∙ x.normal; entries = both_wide s.entries t.entries x.entries y.entries })
-      pass_wide (iterate q base c a) f v r n (k, later, u, top, out, s, t, e, started, grown, narrowed, off, is) h p =
-          let inside : (f' : Option ℕ) (v' : V) (r' : Result V) → Pass V H (dropping m) set a f' v' r' → m.dims v' ≡ n → Wide n r' =
-          λ f' v' r' turn d. subst (λ (j : ℕ). Wide j r') p.2 (pass_wide a f' v' r' n turn d p.1) in
-          let x = grows_wide q base c (Pass V H (dropping m) set a) n p.0 inside set.limited set.delay f k later u s grown (started.1 ∙ h) in
-          let y = narrows_wide q base c (Pass V H (dropping m) set a) n p.0 inside set.narrow v u s top t narrowed h x in
-          wide_is n r _ is (record { normal = leaves_dims base c false top e out off ∙ y.top; entries = y.result.entries })
-      pass_wide (catch q k a) f v r n (w, e, s, one, joined, is) h p =
-          let x = pass_wide a f v s n one h p in
-          wide_is (live_behind a n) r _ is (behind_wide k s w (noted q e s.flag) (live_behind a n) (caught_dims k s e w joined ∙ x.normal) x.entries)
-      pass_wide (leave l k) f v r n (w, nothing, is) h p = wide_is l r _ is (jump_wide k v w f l (law.void l set.parts w nothing))
-
-    entry_has : (xs : List (Entry V)) (q : ℕ) (v : V) → AllByRecursion EntryHas xs → Contains xs (value q v) → LiveAt T q (m.dims v)
-    entry_has [] q v h there = absurd (contains_none (value q v) there)
-    entry_has (x ∷ xs) q v h there = elim (contains_cases x (value q v) xs there) [ inl same ↦ subst EntryHas same h.0 | inr later ↦ entry_has xs q v h.1 later ]
-
--- each value that an iteration has at a point has as many dimensions as variables live there
-pub values_wide : {V H : Type 0} (m : Meaning V H) (settings : Settings) (P : Program) (g : Node) (r : Result V) → HasDims m → IsGraph P g → Derivation m settings P g r
-    → (q : ℕ) (v : V) (s : Site) → Contains r.entries (value q v) → slice_get (sites_of P) q ≡ Some s → m.dims v ≡ s.live
-values_wide {V} {H} m settings P g r law graph (none, first, e, universal, begun, pass) q v s found there =
-    let T = sites_of P in
-    let n = length P.globals in
-    let begins : m.dims first ≡ n = done_dims V H m (first_values 0 P.globals) none e first begun ∙ first_after P.globals 0 (m.dims none) ∙ (let zero_dims = law.universal 0 settings.parts none universal in omega (arith, zero_dims)) in
-    let wide = pass_wide V H m T law settings g (noted 0 e None) first r n pass begins (graph_lives P g graph) in
-    entry_has V H m T r.entries q v wide.entries found s there

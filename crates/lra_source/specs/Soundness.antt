@@ -1,5 +1,5 @@
 -- Soundness, over any domain: what an iteration finds holds in all runs.
-use Rattle.std.specs.Prelude.{◌≡◌, ℕ, ℤ, List, [], length, Bool, true, Option, Some, slice_get}
+use Rattle.std.specs.Prelude.{◌≡◌, ℕ, ℤ, List, length, Bool, true, Option, Some, slice_get}
 use Rattle.std.specs.List.{Contains}
 use Rattle.lra_domain.specs.Meaning.{Meaning}
 use Rattle.lra_tree.specs.Program.{Program}
@@ -8,16 +8,7 @@ use Rattle.lra_tree.specs.Run.{At, Fails}
 use Rattle.lra_tree.specs.Sites.{Site, sites_of}
 use Rattle.lra_tree.specs.Agree.{IsGraph, point_of, Agrees}
 use Rattle.lra_flow.specs.declared.Settings.{Settings}
-use Rattle.lra_flow.specs.Analysis.{IsUnreachable}
 use Rattle.lra_iter.specs.Solved.{IsSolved}
-
--- the value of no dimensions with all stores has the store without variables
-abbrev pub Begins : {V H : Type 0} → Meaning V H → Type 0
-Begins {V} m = (cap : ℕ) (v : V) → m.universal 0 cap v → m.has v [] × (m.dims v ≡ 0)
-
--- nothing is in a value without parts
-abbrev pub EmptyWithoutParts : {V H : Type 0} → Meaning V H → Type 0
-EmptyWithoutParts {V} m = (v : V) → IsUnreachable m v → (s : List ℤ) → m.has v s → ⊥
 
 -- the value at a point has each store that a run brings there, and no assertion that is proved fails
 pub record HoldsInRuns {V H : Type 0} (m : Meaning V H) (P : Program) (values : List V) (verdicts : List (ℕ × Bool)) : Type 0 where
@@ -27,6 +18,6 @@ pub record HoldsInRuns {V H : Type 0} (m : Meaning V H) (P : Program) (values : 
 
 -- so it is with what is found over a tree that agrees with its program's runs
 abbrev pub SolvedAreSound : {V H : Type 0} → Meaning V H → Type 0
-SolvedAreSound {V} m = Begins m → EmptyWithoutParts m
-    → (settings : Settings) (P : Program) (tree : Node) (values : List V) (verdicts : List (ℕ × Bool)) (flagged : Option ℕ) → IsSolved m settings P tree values verdicts flagged → IsGraph P tree → Agrees P tree
+SolvedAreSound {V} m =
+    (settings : Settings) (P : Program) (tree : Node) (values : List V) (verdicts : List (ℕ × Bool)) (flagged : Option ℕ) → IsSolved m settings P tree values verdicts flagged → IsGraph P tree → Agrees P tree
     → HoldsInRuns m P values verdicts

@@ -34,6 +34,7 @@ fn report_graph(
     globals: &[i64],
     graph: &Graph,
 ) -> Result<Report, AllocError>
+    requires parts { 1 ≤ options.parts }
     requires graph { HasGraph (tree_view tree.now) (node_view graph.now.tree) (map site_view graph.now.sites.items) }
     requires globals { (resolve (tree_view tree.now)).globals ≡ globals.now }
     ensures { IfOk result (λ r. IsToldOf (options_of options) (tree_view tree.now) (report_of r)) }
@@ -61,6 +62,7 @@ fn report_graph(
 
 /// The report of a tree, or its refusal: its first fault of names, or the first limit that its program passes.
 fn report_tree(alloc: Global, options: Options, tree: &Tree) -> Result<Report, SourceError>
+    requires parts { 1 ≤ options.parts }
     requires straight { NotRecursive (tree_view tree.now) }
     requires well { name_faults (tree_view tree.now) ≡ [] → IsWellFormed (resolve (tree_view tree.now)) }
     ensures told { IfOk result (λ r. IsToldOf (options_of options) (tree_view tree.now) (report_of r)) }

@@ -28,8 +28,7 @@ pub fn analyses_are_right()
     ensures reports { AnalysedAreReports }
 {}
 
-/// What an iteration over a domain finds holds in all runs, where the domain's value of no dimensions has the store without variables and
-/// nothing is in a value without parts.
+/// What an iteration over a domain finds holds in all runs.
 pub fn solved_are_sound<D: Domain>()
     ensures { SolvedAreSound D.meaning }
 {}
