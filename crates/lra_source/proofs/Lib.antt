@@ -10,5 +10,7 @@ pub mod StageSteps
 pub mod StateSteps
 pub mod Widths
 pub mod Handing
+pub mod Readable
+pub mod OneText
 pub mod ReportSteps
 pub mod Holding

@@ -1,6 +1,7 @@
 -- From the tree of operations of a source to its report: what the iteration and the listing ask, and what they give.
 use Rattle.std.proofs.Common.{◌≡◌, ◌≤◌, ◌<◌, ◌+◌, ◌^◌, ℕ, zero, suc, ℤ, List, [], ◌∷◌, length, map, Bool, true, false, Option, Some, None, refl, sym, ap, ◌∙◌, subst, arith}
 use Rattle.std.specs.Prelude.{option_map, nat_lt, if◌then◌else◌, slice_get}
+use Rattle.std.specs.List.{AllByRecursion}
 use Rattle.std.proofs.lemmas.Bool.Decides.{nat_tests}
 use Rattle.lra_tree.specs.declared.refusals.Refusal.{Refusal}
 use Rattle.lra_tree.specs.Trees.{FileTree}
@@ -19,6 +20,7 @@ use Rattle.lra_iter.specs.Fits.{TreeFits}
 use Rattle.lra_iter.specs.Numbers.{IsNumbered}
 use Rattle.lra_iter.specs.Solved.{IsSolved}
 use Rattle.lra_listing.specs.Given.{AreStates, AreVerdicts, state_of, told_of, told}
+use Rattle.lra_report.specs.Rows.{IsPartInRange}
 use Rattle.lra_source.specs.Analysed.{shown_state}
 use Rattle.lra_source.specs.Answers.{settings_of}
 use Rattle.lra_source.specs.Stages.{HasGraph, IsToldOf}
@@ -26,6 +28,7 @@ use Rattle.lra_source.proofs.Fitting.{tree_fits, few_globals}
 use Rattle.lra_source.proofs.Numbering.{numbered}
 use Rattle.lra_box.specs.Laws.{box_laws}
 use Rattle.lra_source.proofs.Handing.{states_as_many, of_assertions, of_all, states_wide, flag_there, box_shows_wide}
+use Rattle.lra_source.proofs.Readable.{readable}
 
 -- what the iteration asks --------------------------------------------------------------------------------------------
 
@@ -91,9 +94,10 @@ module _ (t : FileTree) (g : Node) (sites : List Site) (has : HasGraph t g sites
 -- the report ---------------------------------------------------------------------------------------------------------
 
 pub is_told : (o : Options) (t : FileTree) (g : Node) (sites : List Site) (values : List Content) (verdicts : List (ℕ × Bool)) (flagged : Option ℕ) (states : List State) (r : Report) → HasGraph t g sites
-    → IsSolved box_meaning (settings_of o) (resolve t) g values verdicts flagged → states ≡ map (shown_state box_meaning) values → r.options ≡ o → Lists t r → map state_of r.points ≡ states
+    → IsSolved box_meaning (settings_of o) (resolve t) g values verdicts flagged → states ≡ map (shown_state box_meaning) values
+    → AllByRecursion (AllByRecursion IsPartInRange) states → r.options ≡ o → Lists t r → map state_of r.points ≡ states
     → map told_of r.verdicts ≡ map told verdicts → r.flagged ≡ option_map suc flagged → IsToldOf o t r
-is_told o t g sites values verdicts flagged states r has solved are options lists shown judged flag = record {
+is_told o t g sites values verdicts flagged states r has solved are in_range options lists shown judged flag = record {
   names = has.names;
   within = has.within;
   options = options;
@@ -114,4 +118,12 @@ is_told o t g sites values verdicts flagged states r has solved are options list
     flag = flag;
   };
   agrees = has.agrees;
+  readable = readable t r values flagged lists (shown ∙ are) (subst (AllByRecursion (AllByRecursion IsPartInRange)) (sym shown) in_range) flag low;
 }
+  where
+    low : (q : ℕ) → flagged ≡ Some q → q < 2048
+    low q is =
+        let there = flag_handed t g sites has (settings_of o) values verdicts flagged solved q is in
+        let few = few_points t g sites has in
+        let same : length sites ≡ length (sites_of (resolve t)) = ap length has.points in
+        omega (arith, there, few, same)

@@ -44,6 +44,7 @@ use Rattle.lra_flow.specs.Pass.{Result}
 use Rattle.lra_flow.specs.Analysis.{Derivation, Solves}
 use Rattle.lra_flow.proofs.Unflagged.{unflagged_is_written, flagged_strains}
 use Rattle.lra_source.specs.Analysed.{shown_part, shown_state, told_verdict, verdict_told, IsAnalysed}
+use Rattle.lra_source.specs.Answers.{IsBoxAnalysed}
 use Rattle.lra_iter.specs.Numbers.{IsBelow}
 use Rattle.lra_source.proofs.Numbering.{numbered}
 use Rattle.lra_iter.proofs.Counting.{iteration_fails_once}
@@ -136,7 +137,7 @@ listed_length o ls n (s ∷ ss) (p ∷ ps) l = ap suc (listed_length o ls (suc n
 
 -- reports ------------------------------------------------------------------------------------------------------------
 
-module _ (settings : Settings) (t : FileTree) (r : Report) (lists : Lists t r) (x : IsAnalysed box_meaning settings (resolve t) r) (agrees : Agrees (resolve t) x.tree) where
+module _ (settings : Settings) (t : FileTree) (r : Report) (lists : Lists t r) (x : IsBoxAnalysed settings (resolve t) r) (agrees : Agrees (resolve t) x.tree) where
   invariant : (k : ℕ) (s : Site) (p : PointReport) → slice_get (sites_of (resolve t)) k ≡ Some s → slice_get r.points k ≡ Some p → p.point ≡ point_of s → IsInvariant (resolve t) p
   invariant k s p there listed is store at =
       let (v, found, has, long) = value_there Content Content box_meaning box_laws settings (resolve t) x.tree x.result x.derived agrees x.values x.verdicts x.flagged x.solves k s store there
@@ -208,11 +209,11 @@ module _ (settings : Settings) (t : FileTree) (r : Report) (lists : Lists t r) (
 -- analyses -----------------------------------------------------------------------------------------------------------
 
 -- a derivation with drops whose values, verdicts and flag a report tells
-pub analysed : {V H : Type 0} (m : Meaning V H) → Laws m → (settings : Settings) (P : Program) (r : Report) (tree : Node) (result : Result V) (values : List V) (verdicts : List (ℕ × Bool)) (flagged : Option ℕ)
+pub analysed : {V H : Type 0} (m : Meaning V H) → Laws m → (shown : V → State) (settings : Settings) (P : Program) (r : Report) (tree : Node) (result : Result V) (values : List V) (verdicts : List (ℕ × Bool)) (flagged : Option ℕ)
     → IsGraph P tree → Derivation m settings P tree result → Solves m result values verdicts flagged
-    → map (λ (p : PointReport). p.state) r.points ≡ map (shown_state m) values → map verdict_told r.verdicts ≡ map told_verdict verdicts → r.flagged ≡ option_map suc flagged
-    → IsAnalysed m settings P r
-analysed m laws settings P r tree result values verdicts flagged graph derived solves states proved flag = record {
+    → map (λ (p : PointReport). p.state) r.points ≡ map shown values → map verdict_told r.verdicts ≡ map told_verdict verdicts → r.flagged ≡ option_map suc flagged
+    → IsAnalysed m shown settings P r
+analysed m laws shown settings P r tree result values verdicts flagged graph derived solves states proved flag = record {
   tree = tree;
   is_graph = graph;
   result = result;

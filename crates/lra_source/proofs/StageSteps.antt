@@ -111,6 +111,7 @@ is_answered o source t r has is domain some =
         flag = whole.flag;
       };
       analysed = is.analysed;
+      readable = is.readable;
     }
 
 -- and so with what a tree's answer is, whichever it is

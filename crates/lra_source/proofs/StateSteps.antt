@@ -1,9 +1,11 @@
--- A state so far, and one part more.
-use Rattle.std.proofs.Common.{◌≡◌, List, [], ◌∷◌, ◌++◌, map, refl, ap, sym, ◌∙◌}
+-- A state so far, and one part more; states so far, and one state more.
+use Rattle.std.proofs.Common.{◌≡◌, List, [], ◌∷◌, ◌++◌, map, refl, ap, sym, ◌∙◌, subst}
+use Rattle.std.specs.List.{AllByRecursion}
 use Rattle.std.proofs.lemmas.List.{map-append}
 use Rattle.lra_sys.specs.Listed.{Listed}
 use Rattle.lra_sys.specs.declared.system.ConKind.{ConKind}
-use Rattle.lra_report.specs.Rows.{shown_rows}
+use Rattle.lra_report.specs.Rows.{shown_rows, IsPartInRange}
+use Rattle.lra_report.proofs.Every.{every_append}
 use Rattle.lra_tree.specs.Report.{Part, Row}
 use Rattle.lra_source.specs.Analysed.{shown_part}
 
@@ -16,3 +18,12 @@ pub pushed : (old new : List Part) (p : Part) (ys : List (Listed ConKind)) (y : 
     → new ≡ map shown_part (ys ++ y ∷ [])
 pushed old new p ys y so_far is rows none =
     is ∙ ap (λ (l : List Part). l ++ p ∷ []) so_far ∙ ap (λ (q : Part). map shown_part ys ++ q ∷ []) (part_is p y rows none) ∙ sym (map-append shown_part ys (y ∷ []))
+
+pub pushed_in_range : (old new : List Part) (p : Part) → AllByRecursion IsPartInRange old → new ≡ old ++ p ∷ [] → IsPartInRange p → AllByRecursion IsPartInRange new
+pushed_in_range old new p so_far is one = subst (AllByRecursion IsPartInRange) (sym is) (every_append IsPartInRange old (p ∷ []) so_far (one, tt))
+
+pub all_pushed_in_range : {X : Type 0} (state : X → List Part) (old new : List X) (x : X) → AllByRecursion (AllByRecursion IsPartInRange) (map state old) → new ≡ old ++ x ∷ [] → AllByRecursion IsPartInRange (state x)
+    → AllByRecursion (AllByRecursion IsPartInRange) (map state new)
+all_pushed_in_range state old new x so_far is one =
+    subst (AllByRecursion (AllByRecursion IsPartInRange)) (sym (ap (map state) is ∙ map-append state old (x ∷ [])))
+    (every_append (AllByRecursion IsPartInRange) (map state old) (state x ∷ []) so_far (one, tt))

@@ -1,4 +1,4 @@
--- What a report tells of the iteration over a program: the value at each point by its rows, the verdicts, the first flagged point.
+-- What a report tells of the iteration over a program: the value at each point by what is shown of it, the verdicts, the first flagged point.
 use Rattle.std.specs.Prelude.{◌≡◌, ℕ, suc, List, [], map, Bool, Option, None, Some, option_map}
 use Rattle.lra_sys.specs.Listed.{Listed}
 use Rattle.lra_sys.specs.declared.system.ConKind.{ConKind}
@@ -16,6 +16,7 @@ use Rattle.lra_flow.specs.Analysis.{Written, Derivation, Strains, Solves}
 abbrev pub shown_part : Listed ConKind → Part
 shown_part p = record { rows = shown_rows p.rows p.kinds; generators = [] }
 
+-- what is shown of a value by its parts' rows alone
 abbrev pub shown_state : {V H : Type 0} → Meaning V H → V → State
 shown_state m v = map shown_part (m.parts v)
 
@@ -26,7 +27,8 @@ told_verdict v = (suc v.0, v.1)
 abbrev pub verdict_told : Verdict → ℕ × Bool
 verdict_told v = (v.number, v.proved)
 
-pub record IsAnalysed {V H : Type 0} (m : Meaning V H) (settings : Settings) (P : Program) (r : Report) : Type 0 where
+-- `shown` is what the domain shows of a value
+pub record IsAnalysed {V H : Type 0} (m : Meaning V H) (shown : V → State) (settings : Settings) (P : Program) (r : Report) : Type 0 where
   pub tree : Node
   pub is_graph : IsGraph P tree
   pub result : Result V
@@ -40,6 +42,6 @@ pub record IsAnalysed {V H : Type 0} (m : Meaning V H) (settings : Settings) (P 
   pub written : flagged ≡ None → Written m settings P tree result
   pub strained : (q : ℕ) → flagged ≡ Some q → Strains m settings P tree q
   -- and the report tells it
-  pub states : map (λ (p : PointReport). p.state) r.points ≡ map (shown_state m) values
+  pub states : map (λ (p : PointReport). p.state) r.points ≡ map shown values
   pub proved : map verdict_told r.verdicts ≡ map told_verdict verdicts
   pub flag : r.flagged ≡ option_map suc flagged

@@ -4,6 +4,7 @@ use Rattle.lra_tree.specs.Trees.{FileTree}
 use Rattle.lra_tree.specs.Program.{Program}
 use Rattle.lra_tree.specs.Graph.{Node}
 use Rattle.lra_tree.specs.Report.{box, Options, Report, IsSound}
+use Rattle.lra_tree.specs.ReportText.{report_text}
 use Rattle.lra_tree.specs.Resolve.{resolve}
 use Rattle.lra_tree.specs.Sites.{Site, sites_of}
 use Rattle.lra_tree.specs.Agree.{IsGraph, Agrees}
@@ -11,11 +12,10 @@ use Rattle.lra_tree.specs.WellFormed.{IsWellFormed}
 use Rattle.lra_tree.specs.Built.{Built}
 use Rattle.lra_tree.specs.Refuse.{greatest_live, Accepts}
 use Rattle.lra_tree.specs.Listing.{Lists, IsReportOf}
-use Rattle.lra_box.specs.Meaning.{box_meaning}
 use Rattle.lra_flow.specs.declared.Settings.{Settings}
 use Rattle.lra_iter.specs.Fits.{TreeFits}
 use Rattle.lra_iter.specs.Numbers.{AreBelow, IsNumbered}
-use Rattle.lra_source.specs.Analysed.{IsAnalysed}
+use Rattle.lra_source.specs.Answers.{IsBoxAnalysed, IsAnswered}
 
 -- no more variables live at a point than are taken
 abbrev pub AreFew : List Site → Type 0
@@ -31,9 +31,13 @@ TreesAreNumbered = (P : Program) (g : Node) → IsGraph P g → IsNumbered (site
 
 -- where tree and runs agree: the states hold in all runs, and no assertion that is marked proved fails
 abbrev pub AnalysedAreSound : Type 0
-AnalysedAreSound = (settings : Settings) (t : FileTree) (r : Report) (x : IsAnalysed box_meaning settings (resolve t) r) → Agrees (resolve t) x.tree → Lists t r → IsSound (resolve t) r
+AnalysedAreSound = (settings : Settings) (t : FileTree) (r : Report) (x : IsBoxAnalysed settings (resolve t) r) → Agrees (resolve t) x.tree → Lists t r → IsSound (resolve t) r
 
 -- and of an accepted source it is a report
 abbrev pub AnalysedAreReports : Type 0
-AnalysedAreReports = (o : Options) (settings : Settings) (source : List ℕ) (t : FileTree) (r : Report) (x : IsAnalysed box_meaning settings (resolve t) r) → Agrees (resolve t) x.tree → Lists t r
+AnalysedAreReports = (o : Options) (settings : Settings) (source : List ℕ) (t : FileTree) (r : Report) (x : IsBoxAnalysed settings (resolve t) r) → Agrees (resolve t) x.tree → Lists t r
     → o.domain ≡ box → 1 ≤ o.parts → r.options ≡ o → Accepts Built source t → IsReportOf Built o source r
+
+-- two answers to one source under one list of options that have the same text are the same report
+abbrev pub OneAnsweredText : Type 0
+OneAnsweredText = (o : Options) (source : List ℕ) (r s : Report) → IsAnswered o source r → IsAnswered o source s → report_text r ≡ report_text s → r ≡ s

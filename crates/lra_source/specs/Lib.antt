@@ -1,5 +1,5 @@
 pub mod Analysed
 pub mod Soundness
-pub mod Claims
 pub mod Answers
+pub mod Claims
 pub mod Stages

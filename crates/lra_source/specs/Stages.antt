@@ -15,10 +15,9 @@ use Rattle.lra_tree.specs.WellFormed.{IsWellFormed}
 use Rattle.lra_tree.specs.Report.{Options, Report}
 use Rattle.lra_tree.specs.Listing.{Lists}
 use Rattle.lra_tree.specs.Refuse.{greatest_length, limit_fault}
-use Rattle.lra_box.specs.Meaning.{box_meaning}
+use Rattle.lra_report.specs.Spelled.{IsReadable}
 use Rattle.lra_source.specs.Claims.{AreFew}
-use Rattle.lra_source.specs.Analysed.{IsAnalysed}
-use Rattle.lra_source.specs.Answers.{settings_of}
+use Rattle.lra_source.specs.Answers.{settings_of, IsBoxAnalysed}
 
 -- a source that isn't too long, and its tree
 pub record HasTree (source : List ℕ) (t : FileTree) : Type 0 where
@@ -37,11 +36,12 @@ pub record HasGraph (t : FileTree) (tree : Node) (sites : List Site) : Type 0 wh
   pub agrees : Agrees (resolve t) tree
   pub points : sites ≡ sites_of (resolve t)
 
--- a report that lists the points of such a tree, and tells what an analysis of its program found
+-- a report that lists the points of such a tree, tells what an analysis of its program found, and can be read back from its text
 pub record IsToldOf (o : Options) (t : FileTree) (r : Report) : Type 0 where
   pub names : name_faults t ≡ []
   pub within : limit_fault (labels_of t) 0 (events_of (resolve t)) ≡ None
   pub options : r.options ≡ o
   pub lists : Lists t r
-  pub analysed : IsAnalysed box_meaning (settings_of o) (resolve t) r
+  pub analysed : IsBoxAnalysed (settings_of o) (resolve t) r
   pub agrees : Agrees (resolve t) analysed.tree
+  pub readable : IsReadable r

@@ -4,7 +4,7 @@ ghost use Rattle.lra_tree.specs.Built.{Built};
 ghost use Rattle.lra_tree.specs.Refuse.{OneAnswer};
 ghost use Rattle.lra_tree.specs.Linear.{FormsAreRight, TestsAreRight, DiffersIsRight};
 ghost use Rattle.lra_source.specs.Soundness.{SolvedAreSound};
-ghost use Rattle.lra_source.specs.Claims.{TreesFit, TreesAreNumbered, AnalysedAreSound, AnalysedAreReports};
+ghost use Rattle.lra_source.specs.Claims.{TreesFit, TreesAreNumbered, AnalysedAreSound, AnalysedAreReports, OneAnsweredText};
 
 use lra_domain::Domain;
 
@@ -14,6 +14,13 @@ pub fn one_answer()
 {
     lra_lex::one_reading();
     lra_parse::one_tree();
+}
+
+/// Two reports that answer one source under one list of options and have the same text are the same report.
+pub fn one_answered_text()
+    ensures { OneAnsweredText }
+{
+    one_answer();
 }
 
 /// The tree of operations of a well-formed program fits the iteration, and has each point once.

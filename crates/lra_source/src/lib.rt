@@ -1,7 +1,7 @@
 //! What a source deserves: its one refusal, or its report over boxes.
 //!
 //! [`analyse_source`] goes through the stages: tokens, tree, program, tree of operations, iteration, report. `proofs/` joins the laws of the
-//! parts: one reading and one tree make one answer; the tree of operations of a well-formed program fits the iteration, and has each point
+//! parts: one reading and one tree make one answer, and its text makes one report; the tree of operations of a well-formed program fits the iteration, and has each point
 //! once; so what an iteration finds holds in all runs.
 #![tactic(auto)]
 
@@ -14,4 +14,6 @@ mod states;
 
 pub use answer::analyse_source;
 pub use error::SourceError;
-pub use laws::{analyses_are_right, forms_are_right, one_answer, solved_are_sound, trees_fit};
+pub use laws::{
+    analyses_are_right, forms_are_right, one_answer, one_answered_text, solved_are_sound, trees_fit,
+};

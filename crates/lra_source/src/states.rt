@@ -1,7 +1,9 @@
 //! The values of boxes as the states of a report.
 
 ghost use Rattle.std.specs.Prelude.{◌≡◌, ◌++◌, map, IfOk};
+ghost use Rattle.std.specs.List.{AllByRecursion};
 ghost use Rattle.lra_box.specs.Meaning.{box_meaning};
+ghost use Rattle.lra_report.specs.Rows.{IsPartInRange};
 ghost use Rattle.lra_source.specs.Analysed.{shown_state};
 
 use lra_box::Boxes;
@@ -12,7 +14,8 @@ use std::alloc::{AllocError, Global};
 /// The parts of a value, which have no generators.
 #[tactic(auto, using(crate::proofs::StateSteps::pushed))]
 fn state_of(alloc: Global, value: &Boxes) -> Result<Vec<Part>, AllocError>
-    ensures { IfOk result (λ s. s.items ≡ shown_state box_meaning value.now) }
+    ensures shown { IfOk result (λ s. s.items ≡ shown_state box_meaning value.now) }
+    ensures in_range { IfOk result (λ s. AllByRecursion IsPartInRange s.items) }
 {
     let mut state = Vec::new(alloc);
     'each: for part in value.parts(alloc)? {
@@ -23,7 +26,8 @@ fn state_of(alloc: Global, value: &Boxes) -> Result<Vec<Part>, AllocError>
 
 /// The states of all values in order.
 pub fn states_of(alloc: Global, values: &[Boxes]) -> Result<Vec<Vec<Part>>, AllocError>
-    ensures { IfOk result (λ states. map (λ s. s.items) states.items ≡ map (shown_state box_meaning) values.now) }
+    ensures shown { IfOk result (λ states. map (λ s. s.items) states.items ≡ map (shown_state box_meaning) values.now) }
+    ensures in_range { IfOk result (λ states. AllByRecursion (AllByRecursion IsPartInRange) (map (λ s. s.items) states.items)) }
 {
     let mut states = Vec::new(alloc);
     'values: for value in values {

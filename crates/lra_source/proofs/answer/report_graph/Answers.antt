@@ -31,7 +31,7 @@ list-requires-clause-states c =
     states_handed (tree_view c.args.tree.now) (node_view c.args.graph.now.tree) (map site_view c.args.graph.now.sites.items) c.requires.graph (settings_of (options_of c.args.options))
     c.in_ok-solution.solution.values.items c.in_ok-solution.solution.verdicts.items c.in_ok-solution.solution.flagged
     (c.in_ok-solution.ensures.solved (resolve (tree_view c.args.tree.now)) c.requires.globals)
-    _ (c.in_ok-states.ensures ∙ ap (map _) c.deref.ensures.value)
+    _ (c.in_ok-states.ensures.shown ∙ ap (map _) c.deref.ensures.value)
 
 pub list-requires-clause-verdicts : goal.list-requires-clause-verdicts
 list-requires-clause-verdicts c =
@@ -55,5 +55,5 @@ returns c =
     is_told (options_of c.args.options) (tree_view c.args.tree.now) (node_view c.args.graph.now.tree) (map site_view c.args.graph.now.sites.items)
     c.in_ok-solution.solution.values.items c.in_ok-solution.solution.verdicts.items c.in_ok-solution.solution.flagged (map (λ x. x.items) c.in_ok-states.states.items) (report_of c.in_ok-report.report) c.requires.graph
     (c.in_ok-solution.ensures.solved (resolve (tree_view c.args.tree.now)) c.requires.globals)
-    (c.in_ok-states.ensures ∙ ap (map _) c.deref.ensures.value) (ap options_of c.in_ok-report.ensures.options) c.in_ok-report.ensures.lists c.in_ok-report.ensures.states
+    (c.in_ok-states.ensures.shown ∙ ap (map _) c.deref.ensures.value) c.in_ok-states.ensures.in_range (ap options_of c.in_ok-report.ensures.options) c.in_ok-report.ensures.lists c.in_ok-report.ensures.states
     (c.in_ok-report.ensures.verdicts ∙ ap (map told) c.deref-2.ensures.value) c.in_ok-report.ensures.flag

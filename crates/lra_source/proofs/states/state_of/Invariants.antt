@@ -1,7 +1,12 @@
--- So far the parts that were taken are there.
+-- So far the parts that were taken are there, with numbers of the range.
 use Rattle.std.proofs.Common.{◌≡◌, map}
+use Rattle.std.specs.List.{AllByRecursion}
+use Rattle.lra_report.specs.Rows.{IsPartInRange}
 use Rattle.lra_source.specs.Analysed.{shown_part}
 use Rattle.lra_source.proofs.states.state_of.Given as goal
 
 abbrev pub invariant-each : goal.invariant-each
-invariant-each l = l.state.items ≡ map shown_part l.yielded
+invariant-each l = record {
+  shown : l.state.items ≡ map shown_part l.yielded;
+  in_range : AllByRecursion IsPartInRange l.state.items;
+}

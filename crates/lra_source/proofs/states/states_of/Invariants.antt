@@ -1,9 +1,14 @@
--- So far the states of the first values are there.
+-- So far the states of the first values are there, with numbers of the range.
 use Rattle.std.proofs.Common.{◌≡◌, map, take, Vec, Global}
+use Rattle.std.specs.List.{AllByRecursion}
 use Rattle.lra_report.specs.declared.part.Part.{Part}
+use Rattle.lra_report.specs.Rows.{IsPartInRange}
 use Rattle.lra_box.specs.Meaning.{box_meaning}
 use Rattle.lra_source.specs.Analysed.{shown_state}
 use Rattle.lra_source.proofs.states.states_of.Given as goal
 
 abbrev pub invariant-values : goal.invariant-values
-invariant-values l = map (λ s. s.items) l.states.items ≡ map (shown_state box_meaning) (take l.value-index l.values)
+invariant-values l = record {
+  shown : map (λ s. s.items) l.states.items ≡ map (shown_state box_meaning) (take l.value-index l.values);
+  in_range : AllByRecursion (AllByRecursion IsPartInRange) (map (λ s. s.items) l.states.items);
+}

@@ -1,0 +1,5 @@
+use Rattle.lra_source.proofs.OneText.{one_text}
+use Rattle.lra_source.proofs.laws.one_answered_text.Goals as goal
+
+pub returns : goal.returns
+returns c = one_text c.one_answer.ensures
