@@ -1,4 +1,5 @@
--- What a report tells of the iteration over a program: the value at each point by what is shown of it, the verdicts, the first flagged point.
+-- What a report tells of the iteration over a program: what is shown of each point's value, the verdicts, the first flagged
+-- point.
 use Rattle.std.specs.Prelude.{◌≡◌, ℕ, suc, List, [], map, Bool, Option, None, Some, option_map}
 use Rattle.lra_sys.specs.Listed.{Listed}
 use Rattle.lra_sys.specs.declared.system.ConKind.{ConKind}
@@ -28,7 +29,8 @@ abbrev pub verdict_told : Verdict → ℕ × Bool
 verdict_told v = (v.number, v.proved)
 
 -- `shown` is what the domain shows of a value
-pub record IsAnalysed {V H : Type 0} (m : Meaning V H) (shown : V → State) (settings : Settings) (P : Program) (r : Report) : Type 0 where
+pub record IsAnalysed {V H : Type 0} (m : Meaning V H) (shown : V → State) (settings : Settings) (P : Program)
+    (r : Report) : Type 0 where
   pub tree : Node
   pub is_graph : IsGraph P tree
   pub result : Result V
@@ -37,7 +39,7 @@ pub record IsAnalysed {V H : Type 0} (m : Meaning V H) (shown : V → State) (se
   pub verdicts : List (ℕ × Bool)
   pub flagged : Option ℕ
   pub solves : Solves m result values verdicts flagged
-  -- a derivation with drops; without a flag the written iteration; the first flag stands where the written iteration strains
+  -- a derivation with drops; without a flag the written iteration; the first flag is where the written iteration strains
   pub derived : Derivation m settings P tree result
   pub written : flagged ≡ None → Written m settings P tree result
   pub strained : (q : ℕ) → flagged ≡ Some q → Strains m settings P tree q

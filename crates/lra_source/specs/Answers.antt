@@ -21,7 +21,7 @@ settings_of o = record { parts = o.parts; delay = o.delay; narrow = o.narrow; li
 abbrev pub IsBoxAnalysed : Settings → Program → Report → Type 0
 IsBoxAnalysed = IsAnalysed box_meaning (shown_state box_meaning)
 
--- the report can be read back from its text
+-- such a report; it is told by its text, which has numbers of the range and each part as wide as its point has names
 pub record IsAnswered (o : Options) (source : List ℕ) (r : Report) : Type 0 where
   pub domain : o.domain ≡ box
   pub report : IsReportOf Built o source r

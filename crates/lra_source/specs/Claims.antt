@@ -31,13 +31,17 @@ TreesAreNumbered = (P : Program) (g : Node) → IsGraph P g → IsNumbered (site
 
 -- where tree and runs agree: the states hold in all runs, and no assertion that is marked proved fails
 abbrev pub AnalysedAreSound : Type 0
-AnalysedAreSound = (settings : Settings) (t : FileTree) (r : Report) (x : IsBoxAnalysed settings (resolve t) r) → Agrees (resolve t) x.tree → Lists t r → IsSound (resolve t) r
+AnalysedAreSound = (settings : Settings) (t : FileTree) (r : Report) (x : IsBoxAnalysed settings (resolve t) r)
+    → Agrees (resolve t) x.tree → Lists t r → IsSound (resolve t) r
 
 -- and of an accepted source it is a report
 abbrev pub AnalysedAreReports : Type 0
-AnalysedAreReports = (o : Options) (settings : Settings) (source : List ℕ) (t : FileTree) (r : Report) (x : IsBoxAnalysed settings (resolve t) r) → Agrees (resolve t) x.tree → Lists t r
+AnalysedAreReports = (o : Options) (settings : Settings) (source : List ℕ) (t : FileTree) (r : Report)
+    → (x : IsBoxAnalysed settings (resolve t) r)
+    → Agrees (resolve t) x.tree → Lists t r
     → o.domain ≡ box → 1 ≤ o.parts → r.options ≡ o → Accepts Built source t → IsReportOf Built o source r
 
 -- two answers to one source under one list of options that have the same text are the same report
 abbrev pub OneAnsweredText : Type 0
-OneAnsweredText = (o : Options) (source : List ℕ) (r s : Report) → IsAnswered o source r → IsAnswered o source s → report_text r ≡ report_text s → r ≡ s
+OneAnsweredText = (o : Options) (source : List ℕ) (r s : Report)
+    → IsAnswered o source r → IsAnswered o source s → report_text r ≡ report_text s → r ≡ s

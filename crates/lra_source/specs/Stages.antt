@@ -36,7 +36,7 @@ pub record HasGraph (t : FileTree) (tree : Node) (sites : List Site) : Type 0 wh
   pub agrees : Agrees (resolve t) tree
   pub points : sites ≡ sites_of (resolve t)
 
--- a report that lists the points of such a tree, tells what an analysis of its program found, and can be read back from its text
+-- a report that lists the points of such a tree, tells what an analysis of its program found, and is told by its text
 pub record IsToldOf (o : Options) (t : FileTree) (r : Report) : Type 0 where
   pub names : name_faults t ≡ []
   pub within : limit_fault (labels_of t) 0 (events_of (resolve t)) ≡ None

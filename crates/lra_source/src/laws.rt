@@ -4,7 +4,8 @@ ghost use Rattle.lra_tree.specs.Built.{Built};
 ghost use Rattle.lra_tree.specs.Refuse.{OneAnswer};
 ghost use Rattle.lra_tree.specs.Linear.{FormsAreRight, TestsAreRight, DiffersIsRight};
 ghost use Rattle.lra_source.specs.Soundness.{SolvedAreSound};
-ghost use Rattle.lra_source.specs.Claims.{TreesFit, TreesAreNumbered, AnalysedAreSound, AnalysedAreReports, OneAnsweredText};
+ghost use Rattle.lra_source.specs.Claims.{OneAnsweredText};
+ghost use Rattle.lra_source.specs.Claims.{TreesFit, TreesAreNumbered, AnalysedAreSound, AnalysedAreReports};
 
 use lra_domain::Domain;
 

@@ -1,8 +1,9 @@
 //! What a source deserves: its one refusal, or its report over boxes.
 //!
-//! [`analyse_source`] goes through the stages: tokens, tree, program, tree of operations, iteration, report. `proofs/` joins the laws of the
-//! parts: one reading and one tree make one answer, and its text makes one report; the tree of operations of a well-formed program fits the iteration, and has each point
-//! once; so what an iteration finds holds in all runs.
+//! [`analyse_source`] goes through the stages: tokens, tree, program, tree of operations, iteration, report. `proofs/`
+//! joins the laws of the parts: one reading and one tree make one answer, and its text makes one report; the tree of
+//! operations of a well-formed program fits the iteration, and has each point once; so what an iteration finds holds in
+//! all runs.
 #![tactic(auto)]
 
 mod answer;

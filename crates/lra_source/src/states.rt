@@ -27,7 +27,8 @@ fn state_of(alloc: Global, value: &Boxes) -> Result<Vec<Part>, AllocError>
 /// The states of all values in order.
 pub fn states_of(alloc: Global, values: &[Boxes]) -> Result<Vec<Vec<Part>>, AllocError>
     ensures shown { IfOk result (λ states. map (λ s. s.items) states.items ≡ map (shown_state box_meaning) values.now) }
-    ensures in_range { IfOk result (λ states. AllByRecursion (AllByRecursion IsPartInRange) (map (λ s. s.items) states.items)) }
+    ensures in_range { IfOk result (λ states.
+        AllByRecursion (AllByRecursion IsPartInRange) (map (λ s. s.items) states.items)) }
 {
     let mut states = Vec::new(alloc);
     'values: for value in values {
