@@ -119,12 +119,9 @@ fn sample_command<'a>(alloc: Global) -> Result<Command<'a>, AllocError>
 pub(crate) fn declare<'a>(alloc: Global) -> Result<Command<'a>, AllocError>
     ensures { IfOk result (λ c. DeclaresCommandLine (app_of c)) }
 {
-    let analyse = analyse_command(alloc)?;
-    let sample = sample_command(alloc)?;
-    let calc = Command::new(alloc, "calc");
     let app = Command::new(alloc, "lra").subcommand_required(true);
-    let app = app.subcommand(analyse)?;
-    let app = app.subcommand(sample)?;
-    let app = app.subcommand(calc)?;
+    let app = app.subcommand(analyse_command(alloc)?)?;
+    let app = app.subcommand(sample_command(alloc)?)?;
+    let app = app.subcommand(Command::new(alloc, "calc"))?;
     Ok(app)
 }

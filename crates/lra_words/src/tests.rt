@@ -2,7 +2,7 @@ use crate::chosen::{AnalyseOptions, Command, Domain};
 use crate::words::{Refusal, asked, command};
 use std::test::Fail;
 
-static DEFAULTS: AnalyseOptions = AnalyseOptions {
+const DEFAULTS: AnalyseOptions = AnalyseOptions {
     domain: Domain::Poly,
     parts: 1,
     delay: 1,
@@ -10,6 +10,173 @@ static DEFAULTS: AnalyseOptions = AnalyseOptions {
     limited: false,
     json: false,
 };
+
+const BOXES: AnalyseOptions = AnalyseOptions {
+    domain: Domain::Box,
+    ..DEFAULTS
+};
+
+/// Lines, the commands that they give, and whether these are carried out.
+static TAKEN: [(&str, Command, bool); 27] = [
+    ("lra analyse", Command::Analyse(DEFAULTS), false),
+    ("other analyse", Command::Analyse(DEFAULTS), false),
+    ("lra analyse --", Command::Analyse(DEFAULTS), false),
+    (
+        "lra analyse --domain poly",
+        Command::Analyse(DEFAULTS),
+        false,
+    ),
+    ("lra analyse --domain box", Command::Analyse(BOXES), true),
+    (
+        "lra analyse --domain=oct",
+        Command::Analyse(AnalyseOptions {
+            domain: Domain::Oct,
+            ..DEFAULTS
+        }),
+        false,
+    ),
+    (
+        "lra analyse --parts 1 --domain=box",
+        Command::Analyse(BOXES),
+        true,
+    ),
+    (
+        "lra analyse --parts=16",
+        Command::Analyse(AnalyseOptions {
+            parts: 16,
+            ..DEFAULTS
+        }),
+        false,
+    ),
+    (
+        "lra analyse --domain box --parts 2",
+        Command::Analyse(AnalyseOptions { parts: 2, ..BOXES }),
+        false,
+    ),
+    (
+        "lra analyse --delay 0",
+        Command::Analyse(AnalyseOptions {
+            delay: 0,
+            ..DEFAULTS
+        }),
+        false,
+    ),
+    (
+        "lra analyse --delay=8",
+        Command::Analyse(AnalyseOptions {
+            delay: 8,
+            ..DEFAULTS
+        }),
+        false,
+    ),
+    (
+        "lra analyse --delay=+2",
+        Command::Analyse(AnalyseOptions {
+            delay: 2,
+            ..DEFAULTS
+        }),
+        false,
+    ),
+    (
+        "lra analyse --delay +3",
+        Command::Analyse(AnalyseOptions {
+            delay: 3,
+            ..DEFAULTS
+        }),
+        false,
+    ),
+    (
+        "lra analyse --delay=007",
+        Command::Analyse(AnalyseOptions {
+            delay: 7,
+            ..DEFAULTS
+        }),
+        false,
+    ),
+    (
+        "lra analyse --delay 3 --domain box --limited",
+        Command::Analyse(AnalyseOptions {
+            delay: 3,
+            limited: true,
+            ..BOXES
+        }),
+        true,
+    ),
+    (
+        "lra analyse --narrow=0",
+        Command::Analyse(AnalyseOptions {
+            narrow: 0,
+            ..DEFAULTS
+        }),
+        false,
+    ),
+    (
+        "lra analyse --narrow 4 --domain=box --delay 0",
+        Command::Analyse(AnalyseOptions {
+            delay: 0,
+            narrow: 4,
+            ..BOXES
+        }),
+        true,
+    ),
+    (
+        "lra analyse --limited",
+        Command::Analyse(AnalyseOptions {
+            limited: true,
+            ..DEFAULTS
+        }),
+        false,
+    ),
+    (
+        "lra analyse --json",
+        Command::Analyse(AnalyseOptions {
+            json: true,
+            ..DEFAULTS
+        }),
+        false,
+    ),
+    (
+        "lra analyse --domain box --json",
+        Command::Analyse(AnalyseOptions {
+            json: true,
+            ..BOXES
+        }),
+        false,
+    ),
+    (
+        "lra analyse --json --narrow 3 --limited --delay=2 --parts 5 --domain oct --",
+        Command::Analyse(AnalyseOptions {
+            domain: Domain::Oct,
+            parts: 5,
+            delay: 2,
+            narrow: 3,
+            limited: true,
+            json: true,
+        }),
+        false,
+    ),
+    (
+        "lra sample --seed 0 --size 0",
+        Command::Sample { seed: 0, size: 0 },
+        false,
+    ),
+    (
+        "lra sample --size=400 --seed=18446744073709551615",
+        Command::Sample {
+            seed: 18446744073709551615,
+            size: 400,
+        },
+        false,
+    ),
+    (
+        "lra sample --seed +5 --size=+7 --",
+        Command::Sample { seed: 5, size: 7 },
+        false,
+    ),
+    ("other calc", Command::Calc, true),
+    ("lra calc", Command::Calc, true),
+    ("lra calc --", Command::Calc, true),
+];
 
 /// The words of a line, between single spaces.
 fn words_of(rt: &HostRuntime, line: &str) -> Result<Vec<String>, Fail> {
@@ -21,143 +188,12 @@ fn words_of(rt: &HostRuntime, line: &str) -> Result<Vec<String>, Fail> {
 }
 
 #[test]
-fn options_are_read(rt: HostRuntime) -> Result<(), Fail> {
-    let table = [
-        ("lra analyse", DEFAULTS),
-        ("other analyse", DEFAULTS),
-        ("lra analyse --", DEFAULTS),
-        ("lra analyse --domain poly", DEFAULTS),
-        (
-            "lra analyse --domain box",
-            AnalyseOptions {
-                domain: Domain::Box,
-                ..DEFAULTS
-            },
-        ),
-        (
-            "lra analyse --domain=oct",
-            AnalyseOptions {
-                domain: Domain::Oct,
-                ..DEFAULTS
-            },
-        ),
-        ("lra analyse --parts 1", DEFAULTS),
-        (
-            "lra analyse --parts=16",
-            AnalyseOptions {
-                parts: 16,
-                ..DEFAULTS
-            },
-        ),
-        (
-            "lra analyse --delay 0",
-            AnalyseOptions {
-                delay: 0,
-                ..DEFAULTS
-            },
-        ),
-        (
-            "lra analyse --delay=8",
-            AnalyseOptions {
-                delay: 8,
-                ..DEFAULTS
-            },
-        ),
-        (
-            "lra analyse --delay=+2",
-            AnalyseOptions {
-                delay: 2,
-                ..DEFAULTS
-            },
-        ),
-        (
-            "lra analyse --delay +3",
-            AnalyseOptions {
-                delay: 3,
-                ..DEFAULTS
-            },
-        ),
-        (
-            "lra analyse --delay=007",
-            AnalyseOptions {
-                delay: 7,
-                ..DEFAULTS
-            },
-        ),
-        (
-            "lra analyse --narrow=0",
-            AnalyseOptions {
-                narrow: 0,
-                ..DEFAULTS
-            },
-        ),
-        (
-            "lra analyse --narrow 4",
-            AnalyseOptions {
-                narrow: 4,
-                ..DEFAULTS
-            },
-        ),
-        (
-            "lra analyse --limited",
-            AnalyseOptions {
-                limited: true,
-                ..DEFAULTS
-            },
-        ),
-        (
-            "lra analyse --json",
-            AnalyseOptions {
-                json: true,
-                ..DEFAULTS
-            },
-        ),
-        (
-            "lra analyse --json --narrow 3 --limited --delay=2 --parts 5 --domain oct --",
-            AnalyseOptions {
-                domain: Domain::Oct,
-                parts: 5,
-                delay: 2,
-                narrow: 3,
-                limited: true,
-                json: true,
-            },
-        ),
-    ];
-    for (line, options) in table {
+fn words_are_taken(rt: HostRuntime) -> Result<(), Fail> {
+    for &(line, chosen, built) in TAKEN.iter() {
         let words = words_of(&rt, line)?;
-        assert!(rt;
-            command(rt.alloc(), &words) == Ok(Command::Analyse(options)),
-            "{line}"
-        );
-    }
-    Ok(())
-}
-
-#[test]
-fn other_commands_are_read(rt: HostRuntime) -> Result<(), Fail> {
-    let table = [
-        (
-            "lra sample --seed 0 --size 0",
-            Command::Sample { seed: 0, size: 0 },
-        ),
-        (
-            "lra sample --size=400 --seed=18446744073709551615",
-            Command::Sample {
-                seed: 18446744073709551615,
-                size: 400,
-            },
-        ),
-        (
-            "lra sample --seed +5 --size=+7 --",
-            Command::Sample { seed: 5, size: 7 },
-        ),
-        ("lra calc", Command::Calc),
-        ("lra calc --", Command::Calc),
-    ];
-    for (line, wanted) in table {
-        let words = words_of(&rt, line)?;
-        assert!(rt; command(rt.alloc(), &words) == Ok(wanted), "{line}");
+        let wanted = if built { Some(chosen) } else { None };
+        let taken = command(rt.alloc(), &words) == Ok(chosen);
+        assert!(rt; taken && asked(rt.alloc(), &words) == Ok(wanted), "{line}");
     }
     Ok(())
 }
@@ -246,82 +282,10 @@ static REFUSED: [&str; 75] = [
 #[test]
 fn other_words_are_refused(rt: HostRuntime) -> Result<(), Fail> {
     assert!(rt; command(rt.alloc(), &[]) == Err(Refusal::Usage), "no words");
-    for line in REFUSED {
+    for line in REFUSED.iter() {
         let words = words_of(&rt, line)?;
-        assert!(rt;
-            command(rt.alloc(), &words) == Err(Refusal::Usage),
-            "{line}"
-        );
-    }
-    Ok(())
-}
-
-#[test]
-fn boxes_and_scripts_are_built(rt: HostRuntime) {
-    let boxes = AnalyseOptions {
-        domain: Domain::Box,
-        ..DEFAULTS
-    };
-    let table = [
-        (Command::Analyse(boxes), true),
-        (
-            Command::Analyse(AnalyseOptions {
-                delay: 0,
-                narrow: 4,
-                limited: true,
-                ..boxes
-            }),
-            true,
-        ),
-        (
-            Command::Analyse(AnalyseOptions { parts: 2, ..boxes }),
-            false,
-        ),
-        (
-            Command::Analyse(AnalyseOptions {
-                json: true,
-                ..boxes
-            }),
-            false,
-        ),
-        (Command::Analyse(DEFAULTS), false),
-        (
-            Command::Analyse(AnalyseOptions {
-                domain: Domain::Oct,
-                ..boxes
-            }),
-            false,
-        ),
-        (Command::Sample { seed: 1, size: 1 }, false),
-        (Command::Calc, true),
-    ];
-    for (command, wanted) in table {
-        assert!(rt; command.is_built() == wanted);
-    }
-}
-
-#[test]
-fn built_commands_are_asked(rt: HostRuntime) -> Result<(), Fail> {
-    let boxes = AnalyseOptions {
-        domain: Domain::Box,
-        delay: 3,
-        limited: true,
-        ..DEFAULTS
-    };
-    let table = [
-        (
-            "lra analyse --delay 3 --domain box --limited",
-            Some(Command::Analyse(boxes)),
-        ),
-        ("lra calc", Some(Command::Calc)),
-        ("lra analyse", None),
-        ("lra analyse --domain box --json", None),
-        ("lra sample --seed 1 --size 1", None),
-        ("lra calc x", None),
-    ];
-    for (line, wanted) in table {
-        let words = words_of(&rt, line)?;
-        assert!(rt; asked(rt.alloc(), &words) == Ok(wanted), "{line}");
+        let refused = command(rt.alloc(), &words) == Err(Refusal::Usage);
+        assert!(rt; refused && asked(rt.alloc(), &words) == Ok(None), "{line}");
     }
     Ok(())
 }
