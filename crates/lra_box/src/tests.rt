@@ -79,20 +79,33 @@ fn resizes_by<D: Domain>(value: &mut D) -> Result<usize, AllocError>
     Ok(dims)
 }
 
+/// Adds 1 to the one dimension and grows the head by that, through the bound: the last number of the head's rank.
+fn grow_by<D: Domain>(
+    alloc: Global,
+    head: &mut D::Head,
+    value: &mut D,
+    mode: Mode,
+) -> Result<u64, AllocError>
+    requires head { D.meaning.head_dims head.old ≡ 1 }
+    requires value { D.meaning.dims value.old ≡ 1 }
+    ensures head { D.meaning.head_dims head.new ≡ 1 }
+    ensures value { D.meaning.dims value.new ≡ 1 }
+{
+    set_by(alloc, value, 0, 1, &[1])?;
+    D::grow(head, value, mode)?;
+    Ok(D::rank(head).fourth)
+}
+
 /// A head of 0, joined with 1, widened by 2, through the bound: its value, and its ranks.
 fn head_by<D: Domain>(alloc: Global) -> Result<(D, [u64; 3]), AllocError> {
     let mut value = D::universe(alloc, 1, 1)?;
     set_by(alloc, &mut value, 0, 0, &[0])?;
-    let given = ConSys::new(alloc, 1);
-    let mut head = D::start(alloc, &value, &given)?;
+    let mut head = D::start(alloc, &value, &ConSys::new(alloc, 1))?;
     let first = D::rank(&head).fourth;
-    set_by(alloc, &mut value, 0, 1, &[1])?;
-    D::grow(&mut head, &value, Mode::Join)?;
-    let second = D::rank(&head).fourth;
-    set_by(alloc, &mut value, 0, 1, &[1])?;
-    D::grow(&mut head, &value, Mode::Widen)?;
+    let second = grow_by(alloc, &mut head, &mut value, Mode::Join)?;
+    let third = grow_by(alloc, &mut head, &mut value, Mode::Widen)?;
     let (last, _exactness) = D::value(alloc, &head)?;
-    Ok((last, [first, second, D::rank(&head).fourth]))
+    Ok((last, [first, second, third]))
 }
 
 /// The rows of the parts, through the bound.
