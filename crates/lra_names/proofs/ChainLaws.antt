@@ -77,29 +77,41 @@ term_view_is = fold_out-Term UnaryTree ExprTree (FactorOperator × UnaryTree) (S
 expr_view_is : (e : Expr) → expr_view e ≡ sum_of (term (term_view (out-Expr e).first)) (map summand_view (out-Expr e).rest.items)
 expr_view_is = fold_out-Expr UnaryTree ExprTree (FactorOperator × UnaryTree) (SumOperator × TermTree) TermTree unary_step expr_step factor_step summand_step term_step
 
+abbrev pub faults_of_factor : Scope → Factor → List Refusal
+faults_of_factor s f = factor_faults s (factor_view f)
+
+abbrev pub factor_means : Scope → Factor → program.Operator × program.Expr
+factor_means s f = resolve_factor s (factor_view f)
+
 pub code_term_faults : (s : Scope) (t : Term)
-    → term_faults s (term_view t) ≡ unary_faults s (unary_view (out-Term t).first) ++ flat_map (λ f. factor_faults s (factor_view f)) (out-Term t).rest.items
+    → term_faults s (term_view t) ≡ unary_faults s (unary_view (out-Term t).first) ++ flat_map (faults_of_factor s) (out-Term t).rest.items
 code_term_faults s t =
     ap (term_faults s) (term_view_is t)
     ∙ product_faults s (unary (unary_view (out-Term t).first)) (map factor_view (out-Term t).rest.items)
     ∙ ap (λ (l : List Refusal). unary_faults s (unary_view (out-Term t).first) ++ l) (flat_map-map (factor_faults s) factor_view (out-Term t).rest.items)
 
 pub code_term_means : (s : Scope) (t : Term)
-    → resolve_term s (term_view t) ≡ chained (resolve_unary s (unary_view (out-Term t).first)) (map (λ f. resolve_factor s (factor_view f)) (out-Term t).rest.items)
+    → resolve_term s (term_view t) ≡ chained (resolve_unary s (unary_view (out-Term t).first)) (map (factor_means s) (out-Term t).rest.items)
 code_term_means s t =
     ap (resolve_term s) (term_view_is t)
     ∙ product_means s (unary (unary_view (out-Term t).first)) (map factor_view (out-Term t).rest.items)
     ∙ ap (chained (resolve_unary s (unary_view (out-Term t).first))) (map-map (resolve_factor s) factor_view (out-Term t).rest.items)
 
+abbrev pub faults_of_summand : Scope → Summand → List Refusal
+faults_of_summand s f = summand_faults s (summand_view f)
+
+abbrev pub summand_means : Scope → Summand → program.Operator × program.Expr
+summand_means s f = resolve_summand s (summand_view f)
+
 pub code_expr_faults : (s : Scope) (e : Expr)
-    → expr_faults s (expr_view e) ≡ term_faults s (term_view (out-Expr e).first) ++ flat_map (λ f. summand_faults s (summand_view f)) (out-Expr e).rest.items
+    → expr_faults s (expr_view e) ≡ term_faults s (term_view (out-Expr e).first) ++ flat_map (faults_of_summand s) (out-Expr e).rest.items
 code_expr_faults s e =
     ap (expr_faults s) (expr_view_is e)
     ∙ sum_faults s (term (term_view (out-Expr e).first)) (map summand_view (out-Expr e).rest.items)
     ∙ ap (λ (l : List Refusal). term_faults s (term_view (out-Expr e).first) ++ l) (flat_map-map (summand_faults s) summand_view (out-Expr e).rest.items)
 
 pub code_expr_means : (s : Scope) (e : Expr)
-    → resolve_expr s (expr_view e) ≡ chained (resolve_term s (term_view (out-Expr e).first)) (map (λ f. resolve_summand s (summand_view f)) (out-Expr e).rest.items)
+    → resolve_expr s (expr_view e) ≡ chained (resolve_term s (term_view (out-Expr e).first)) (map (summand_means s) (out-Expr e).rest.items)
 code_expr_means s e =
     ap (resolve_expr s) (expr_view_is e)
     ∙ sum_means s (term (term_view (out-Expr e).first)) (map summand_view (out-Expr e).rest.items)
@@ -111,17 +123,17 @@ pub ruleset expr_rules = (code_expr_faults, code_expr_means, tells_front, tells_
 
 -- the whole chain's meaning, where all operands are there
 pub term_found : (s : Scope) (t : Term) (v w : program.Expr) (os : List (program.Operator × program.Expr)) (fs : List Factor) (n : ℕ)
-    → v ≡ chained w os → w ≡ resolve_unary s (unary_view (out-Term t).first) → os ≡ map (λ f. resolve_factor s (factor_view f)) (take n fs)
+    → v ≡ chained w os → w ≡ resolve_unary s (unary_view (out-Term t).first) → os ≡ map (factor_means s) (take n fs)
     → length fs ≤ n → fs ≡ (out-Term t).rest.items → v ≡ resolve_term s (term_view t)
 term_found s t v w os fs n e first found all is =
     let whole : take n fs ≡ fs = take_all n fs all in
-    e ∙ ap (λ (x : program.Expr). chained x os) first ∙ ap (chained (resolve_unary s (unary_view (out-Term t).first))) (found ∙ ap (map (λ f. resolve_factor s (factor_view f))) (whole ∙ is))
+    e ∙ ap (λ (x : program.Expr). chained x os) first ∙ ap (chained (resolve_unary s (unary_view (out-Term t).first))) (found ∙ ap (map (factor_means s)) (whole ∙ is))
     ∙ sym (code_term_means s t)
 
 pub sum_found : (s : Scope) (e : Expr) (v w : program.Expr) (os : List (program.Operator × program.Expr)) (fs : List Summand) (n : ℕ)
-    → v ≡ chained w os → w ≡ resolve_term s (term_view (out-Expr e).first) → os ≡ map (λ f. resolve_summand s (summand_view f)) (take n fs)
+    → v ≡ chained w os → w ≡ resolve_term s (term_view (out-Expr e).first) → os ≡ map (summand_means s) (take n fs)
     → length fs ≤ n → fs ≡ (out-Expr e).rest.items → v ≡ resolve_expr s (expr_view e)
 sum_found s e v w os fs n d first found all is =
     let whole : take n fs ≡ fs = take_all n fs all in
-    d ∙ ap (λ (x : program.Expr). chained x os) first ∙ ap (chained (resolve_term s (term_view (out-Expr e).first))) (found ∙ ap (map (λ f. resolve_summand s (summand_view f))) (whole ∙ is))
+    d ∙ ap (λ (x : program.Expr). chained x os) first ∙ ap (chained (resolve_term s (term_view (out-Expr e).first))) (found ∙ ap (map (summand_means s)) (whole ∙ is))
     ∙ sym (code_expr_means s e)

@@ -57,15 +57,21 @@ all_means s t ts =
 conjunction_view_is : (c : Conjunction) → conjunction_view c ≡ all_tests (test (test_view (out-Conjunction c).first)) (map test_view (out-Conjunction c).rest.items)
 conjunction_view_is = fold_out-Conjunction NegationTree TestTree CondTree ConjunctionTree negation_step test_step cond_step conjunction_step
 
+abbrev pub faults_of_test : Scope → Test → List Refusal
+faults_of_test s t = test_faults s (test_view t)
+
+abbrev pub test_means : Scope → Test → program.Cond
+test_means s t = resolve_test s (test_view t)
+
 pub code_conjunction_faults : (s : Scope) (c : Conjunction)
-    → conjunction_faults s (conjunction_view c) ≡ test_faults s (test_view (out-Conjunction c).first) ++ flat_map (λ t. test_faults s (test_view t)) (out-Conjunction c).rest.items
+    → conjunction_faults s (conjunction_view c) ≡ test_faults s (test_view (out-Conjunction c).first) ++ flat_map (faults_of_test s) (out-Conjunction c).rest.items
 code_conjunction_faults s c =
     ap (conjunction_faults s) (conjunction_view_is c)
     ∙ all_tests_faults s (test (test_view (out-Conjunction c).first)) (map test_view (out-Conjunction c).rest.items)
     ∙ ap (λ (l : List Refusal). test_faults s (test_view (out-Conjunction c).first) ++ l) (flat_map-map (test_faults s) test_view (out-Conjunction c).rest.items)
 
 code_conjunction_means : (s : Scope) (c : Conjunction)
-    → resolve_conjunction s (conjunction_view c) ≡ chain.all_of (resolve_test s (test_view (out-Conjunction c).first)) (map (λ t. resolve_test s (test_view t)) (out-Conjunction c).rest.items)
+    → resolve_conjunction s (conjunction_view c) ≡ chain.all_of (resolve_test s (test_view (out-Conjunction c).first)) (map (test_means s) (out-Conjunction c).rest.items)
 code_conjunction_means s c =
     ap (resolve_conjunction s) (conjunction_view_is c)
     ∙ all_means s (test_view (out-Conjunction c).first) (map test_view (out-Conjunction c).rest.items)
@@ -73,12 +79,12 @@ code_conjunction_means s c =
 
 -- the whole chain's meaning, where all operands are there
 pub conjunction_found : (s : Scope) (c : Conjunction) (v w : program.Cond) (cs : List program.Cond) (ts : List Test) (n : ℕ)
-    → v ≡ chain.all_of w cs → w ≡ resolve_test s (test_view (out-Conjunction c).first) → cs ≡ map (λ t. resolve_test s (test_view t)) (take n ts)
+    → v ≡ chain.all_of w cs → w ≡ resolve_test s (test_view (out-Conjunction c).first) → cs ≡ map (test_means s) (take n ts)
     → length ts ≤ n → ts ≡ (out-Conjunction c).rest.items → v ≡ resolve_conjunction s (conjunction_view c)
 conjunction_found s c v w cs ts n e first found all is =
     let whole : take n ts ≡ ts = take_all n ts all in
     e ∙ ap (λ (x : program.Cond). chain.all_of x cs) first
-    ∙ ap (chain.all_of (resolve_test s (test_view (out-Conjunction c).first))) (found ∙ ap (map (λ t. resolve_test s (test_view t))) (whole ∙ is))
+    ∙ ap (chain.all_of (resolve_test s (test_view (out-Conjunction c).first))) (found ∙ ap (map (test_means s)) (whole ∙ is))
     ∙ sym (code_conjunction_means s c)
 
 -- chains of `||` -----------------------------------------------------------------------------------------------------
@@ -120,27 +126,33 @@ any_means s a bs =
 cond_view_is : (c : Cond) → cond_view c ≡ any_conjunction (conjunction (conjunction_view (out-Cond c).first)) (map conjunction_view (out-Cond c).rest.items)
 cond_view_is = fold_out-Cond NegationTree TestTree CondTree ConjunctionTree negation_step test_step cond_step conjunction_step
 
+abbrev pub faults_of_conjunction : Scope → Conjunction → List Refusal
+faults_of_conjunction s d = conjunction_faults s (conjunction_view d)
+
+abbrev pub conjunction_means : Scope → Conjunction → program.Cond
+conjunction_means s d = resolve_conjunction s (conjunction_view d)
+
 pub code_cond_faults : (s : Scope) (c : Cond)
-    → cond_faults s (cond_view c) ≡ conjunction_faults s (conjunction_view (out-Cond c).first) ++ flat_map (λ d. conjunction_faults s (conjunction_view d)) (out-Cond c).rest.items
+    → cond_faults s (cond_view c) ≡ conjunction_faults s (conjunction_view (out-Cond c).first) ++ flat_map (faults_of_conjunction s) (out-Cond c).rest.items
 code_cond_faults s c =
     ap (cond_faults s) (cond_view_is c)
     ∙ any_conjunction_faults s (conjunction (conjunction_view (out-Cond c).first)) (map conjunction_view (out-Cond c).rest.items)
     ∙ ap (λ (l : List Refusal). conjunction_faults s (conjunction_view (out-Cond c).first) ++ l) (flat_map-map (conjunction_faults s) conjunction_view (out-Cond c).rest.items)
 
 code_cond_means : (s : Scope) (c : Cond)
-    → resolve_cond s (cond_view c) ≡ chain.any_of (resolve_conjunction s (conjunction_view (out-Cond c).first)) (map (λ d. resolve_conjunction s (conjunction_view d)) (out-Cond c).rest.items)
+    → resolve_cond s (cond_view c) ≡ chain.any_of (resolve_conjunction s (conjunction_view (out-Cond c).first)) (map (conjunction_means s) (out-Cond c).rest.items)
 code_cond_means s c =
     ap (resolve_cond s) (cond_view_is c)
     ∙ any_means s (conjunction_view (out-Cond c).first) (map conjunction_view (out-Cond c).rest.items)
     ∙ ap (chain.any_of (resolve_conjunction s (conjunction_view (out-Cond c).first))) (map-map (resolve_conjunction s) conjunction_view (out-Cond c).rest.items)
 
 pub cond_found : (s : Scope) (c : Cond) (v w : program.Cond) (cs : List program.Cond) (ds : List Conjunction) (n : ℕ)
-    → v ≡ chain.any_of w cs → w ≡ resolve_conjunction s (conjunction_view (out-Cond c).first) → cs ≡ map (λ d. resolve_conjunction s (conjunction_view d)) (take n ds)
+    → v ≡ chain.any_of w cs → w ≡ resolve_conjunction s (conjunction_view (out-Cond c).first) → cs ≡ map (conjunction_means s) (take n ds)
     → length ds ≤ n → ds ≡ (out-Cond c).rest.items → v ≡ resolve_cond s (cond_view c)
 cond_found s c v w cs ds n e first found all is =
     let whole : take n ds ≡ ds = take_all n ds all in
     e ∙ ap (λ (x : program.Cond). chain.any_of x cs) first
-    ∙ ap (chain.any_of (resolve_conjunction s (conjunction_view (out-Cond c).first))) (found ∙ ap (map (λ d. resolve_conjunction s (conjunction_view d))) (whole ∙ is))
+    ∙ ap (chain.any_of (resolve_conjunction s (conjunction_view (out-Cond c).first))) (found ∙ ap (map (conjunction_means s)) (whole ∙ is))
     ∙ sym (code_cond_means s c)
 
 pub ruleset conjunction_rules = (code_conjunction_faults, tells_front, tells_behind)

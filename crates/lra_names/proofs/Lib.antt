@@ -1,5 +1,7 @@
 -- Errors that tell the first fault.
 pub mod Telling
+-- Loops over the parts of a chain.
+pub mod Loops
 -- Chains of operators.
 pub mod ChainLaws
 pub mod CondLaws

@@ -2,12 +2,12 @@
 
 ghost use Rattle.std.specs.Prelude.{◌≡◌, ◌||◌, ◌&&◌, not, nat_eq, ◌∷◌, [], map, length, flat_map, Option, Some, None, option_map, IfOk, MatchOption};
 ghost use Rattle.lra_tree.specs.Program.{binary, literal, read, value};
-ghost use Rattle.lra_tree.specs.Views.{operator_view, step_view, function_view, call_view as tree_call_view, source_view as tree_source_view, assign_view, expr_view as tree_expr_view};
+ghost use Rattle.lra_tree.specs.Views.{operator_view, step_view, function_view, call_view as tree_call_view, source_view as tree_source_view, assign_view};
 ghost use Rattle.lra_tree.specs.ProgramViews.{slot_view, expr_view, call_view, source_view, given_view, stmt_view};
 ghost use Rattle.lra_tree.specs.Scope.{function_named};
-ghost use Rattle.lra_tree.specs.NameFaults.{called_faults, call_faults, expr_faults, source_faults, given_faults, assign_faults};
-ghost use Rattle.lra_tree.specs.Resolve.{function_place, resolve_expr, resolve_call, resolve_source, resolve_given, resolve_assign, step_operator};
-ghost use Rattle.lra_names.specs.Calls.{functions_at};
+ghost use Rattle.lra_tree.specs.NameFaults.{called_faults, call_faults, source_faults, given_faults, assign_faults};
+ghost use Rattle.lra_tree.specs.Resolve.{function_place, resolve_call, resolve_source, resolve_given, resolve_assign, step_operator};
+ghost use Rattle.lra_names.specs.Calls.{functions_at, argument_faults, resolve_argument};
 ghost use Rattle.lra_names.specs.Outcome.{TellsOf};
 
 use crate::errors::{NamesError, refuse};
@@ -73,8 +73,8 @@ fn resolve_arguments(
     scope: &Scope,
     arguments: &[Expr],
 ) -> Result<Vec<program::Expr>, NamesError>
-    ensures told { TellsOf (flat_map (λ e. expr_faults scope.now (tree_expr_view e)) arguments.now) result }
-    ensures found { IfOk result (λ v. map expr_view v.items ≡ map (λ e. resolve_expr scope.now (tree_expr_view e)) arguments.now) }
+    ensures told { TellsOf (flat_map (argument_faults scope.now) arguments.now) result }
+    ensures found { IfOk result (λ v. map expr_view v.items ≡ map (resolve_argument scope.now) arguments.now) }
 {
     let mut values = Vec::new(alloc);
     'arguments: for argument in arguments {

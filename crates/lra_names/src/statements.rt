@@ -1,17 +1,17 @@
 //! Statements, each under its label.
 
 ghost use Rattle.std.specs.Prelude.{◌≡◌, ◌+◌, ◌++◌, ◌∷◌, [], ℕ, List, suc, not, false, map, option_map, IfOk, OnOk, IfErr};
-ghost use Rattle.lra_tree.specs.Program.{BlockItems, no_more};
+ghost use Rattle.lra_tree.specs.Program.{no_more, call as call_stmt};
 ghost use Rattle.lra_tree.specs.Trees.{ItemsTree, block as tree_block};
-ghost use Rattle.lra_tree.specs.Views.{stmt_view, block_view, item_view, init_view, source_view, assign_view, cond_view as tree_cond_view};
+ghost use Rattle.lra_tree.specs.Views.{stmt_view, block_view, item_view, init_view, source_view, call_view, assign_view, cond_view as tree_cond_view};
 ghost use Rattle.lra_tree.specs.ProgramViews.{stmt_view as program_stmt_view, items_view, item_view as program_item_view, given_view, cond_view};
 ghost use Rattle.lra_tree.specs.Scope.{for_scope};
-ghost use Rattle.lra_tree.specs.NameFaults.{fault_if, return_faults, init_faults, test_of_for_faults, step_faults, stmt_faults, items_faults};
-ghost use Rattle.lra_tree.specs.Resolve.{resolve_given, resolve_init, resolve_for_test, resolve_step, resolve_stmt, resolve_items, stmt_count, items_count, init_count, step_count};
+ghost use Rattle.lra_tree.specs.NameFaults.{fault_if, call_faults, assign_faults, return_faults, init_faults, test_of_for_faults, step_faults, stmt_faults, items_faults};
+ghost use Rattle.lra_tree.specs.Resolve.{resolve_call, resolve_assign, resolve_given, resolve_cond, resolve_init, resolve_for_test, resolve_step, resolve_stmt, resolve_items, stmt_count, items_count, init_count, step_count};
 ghost use Rattle.lra_tree.specs.declared.refusals.Cause.TheVariants.{Misplaced};
 ghost use Rattle.lra_names.specs.Calls.{functions_at};
 ghost use Rattle.lra_names.specs.Scopes.{Extends};
-ghost use Rattle.lra_names.specs.Statements.{around_of, followed};
+ghost use Rattle.lra_names.specs.Statements.{around_of, followed, choice, loop_of, for_of, return_of};
 ghost use Rattle.lra_names.specs.Outcome.{Tells, TellsOf};
 
 use crate::calls::{resolve_assign, resolve_call, resolve_given};
@@ -19,8 +19,10 @@ use crate::conditions::resolve_cond;
 use crate::declarations::{add_declaration, take_label};
 use crate::errors::{NamesError, refuse};
 use crate::scopes::Scope;
-use lra_tree::{Assign, Block, BlockItem, Cause, Cond, Init, Item, Place, Source, Stmt, program};
-use std::alloc::Global;
+use lra_tree::{
+    Assign, Block, BlockItem, Call, Cause, Cond, Init, Item, Place, Source, Stmt, program,
+};
+use std::alloc::{AllocError, Global};
 
 /// The items of a block.
 #[tactic(auto, using(crate::proofs::StatementLaws::followed_end))]
@@ -30,35 +32,73 @@ fn block_of(items: Vec<program::BlockItem>) -> program::BlockItems
     program::BlockItems { items }
 }
 
-/// `break` and `continue` stand in loops.
-fn check_jump(in_loop: bool, place: Place) -> Result<(), NamesError>
-    ensures { TellsOf (fault_if (not in_loop) Misplaced place) result }
+/// The label of a `break` or a `continue`, which stand in loops.
+fn take_jump_label(in_loop: bool, next: &mut usize, place: Place) -> Result<usize, NamesError>
+    ensures told { TellsOf (fault_if (not in_loop) Misplaced place) result }
+    ensures label { IfOk result (λ n. n ≡ next.old) }
+    ensures counted { OnOk result (next.new ≡ suc next.old) }
 {
     if in_loop {
-        Ok(())
+        take_label(next)
     } else {
         refuse(Cause::Misplaced, place)
     }
 }
 
-/// What a `return` gives; only a function with a result gives one.
+/// An assignment under the next label.
+fn resolve_assignment(
+    alloc: Global,
+    parts: &[Item],
+    scope: &Scope,
+    next: &mut usize,
+    assign: &Assign,
+) -> Result<program::Stmt, NamesError>
+    ensures told { TellsOf (assign_faults (functions_at parts.now) scope.now (assign_view assign.now)) result }
+    ensures found { IfOk result (λ s. program_stmt_view s ≡ resolve_assign (functions_at parts.now) scope.now next.old (assign_view assign.now)) }
+    ensures counted { OnOk result (next.new ≡ suc next.old) }
+{
+    let label = take_label(next)?;
+    resolve_assign(alloc, parts, scope, label, assign)
+}
+
+/// A call whose result isn't used.
+fn resolve_call_alone(
+    alloc: Global,
+    parts: &[Item],
+    scope: &Scope,
+    next: &mut usize,
+    call: &Call,
+) -> Result<program::Stmt, NamesError>
+    ensures told { TellsOf (call_faults (functions_at parts.now) scope.now (call_view call.now) false) result }
+    ensures found { IfOk result (λ s. program_stmt_view s ≡ call_stmt next.old (resolve_call (functions_at parts.now) scope.now next.old (call_view call.now))) }
+    ensures counted { OnOk result (next.new ≡ suc next.old) }
+{
+    let label = take_label(next)?;
+    let call = resolve_call(alloc, parts, scope, label, call, false)?;
+    Ok(program::Stmt::Call(label, call))
+}
+
+/// A `return`; only a function with a result gives one.
 #[tactic(auto, using(crate::proofs::Telling::telling_rules))]
 fn resolve_return(
     alloc: Global,
     parts: &[Item],
     has_result: bool,
     scope: &Scope,
-    label: usize,
+    next: &mut usize,
     place: Place,
     source: &Option<Source>,
-) -> Result<Option<program::Source>, NamesError>
+) -> Result<program::Stmt, NamesError>
     ensures told { TellsOf (return_faults (around_of parts.now has_result false) scope.now place (option_map source_view source.now)) result }
-    ensures found { IfOk result (λ e. given_view e ≡ resolve_given (functions_at parts.now) scope.now label (option_map source_view source.now)) }
+    ensures found { IfOk result (λ s. program_stmt_view s ≡ return_of next.old (resolve_given (functions_at parts.now) scope.now next.old (option_map source_view source.now))) }
+    ensures counted { OnOk result (next.new ≡ suc next.old) }
 {
     if source.is_some() && !has_result {
         return refuse(Cause::BadCall, place);
     }
-    resolve_given(alloc, parts, scope, label, source)
+    let label = take_label(next)?;
+    let source = resolve_given(alloc, parts, scope, label, source)?;
+    Ok(program::Stmt::Return(label, source))
 }
 
 /// Begins the scope of a `for`, and resolves how it begins.
@@ -87,8 +127,7 @@ fn resolve_init(
             Ok(block_of(items))
         }
         Init::Assign(assign) => {
-            let label = take_label(next)?;
-            let stmt = resolve_assign(alloc, parts, scope, label, assign)?;
+            let stmt = resolve_assignment(alloc, parts, scope, next, assign)?;
             items.push(program::BlockItem::Statement(stmt))?;
             scope.enter();
             Ok(block_of(items))
@@ -124,11 +163,95 @@ fn resolve_step(
 {
     match step {
         None => Ok(program::Stmt::Absent),
-        Some(assign) => {
-            let label = take_label(next)?;
-            let stmt = resolve_assign(alloc, parts, scope, label, assign)?;
-            Ok(stmt)
-        }
+        Some(assign) => resolve_assignment(alloc, parts, scope, next, assign),
+    }
+}
+
+/// What stands in the parentheses of a `for`.
+struct ForHead {
+    init: program::BlockItems,
+    test: program::Cond,
+    step: program::Stmt,
+}
+
+impl Drop for ForHead {
+    fn drop(self) {
+        let ForHead {
+            init: _,
+            test: _,
+            step: _,
+        } = self;
+    }
+}
+
+/// Begins the scope of a `for`, and resolves what stands in its parentheses.
+#[tactic(auto, using(crate::proofs::Telling::telling_rules))]
+fn resolve_for_head(
+    alloc: Global,
+    parts: &[Item],
+    scope: &mut Scope,
+    next: &mut usize,
+    init: &Init,
+    test: &Option<Cond>,
+    step: &Option<Assign>,
+) -> Result<ForHead, NamesError>
+    ensures told { TellsOf (init_faults (functions_at parts.now) scope.old (init_view init.now) ++ test_of_for_faults (for_scope scope.old (init_view init.now)) (option_map tree_cond_view test.now) ++ step_faults (functions_at parts.now) (for_scope scope.old (init_view init.now)) (option_map assign_view step.now)) result }
+    ensures begun { IfOk result (λ h. items_view h.init ≡ resolve_init (functions_at parts.now) scope.old next.old (init_view init.now)) }
+    ensures tested { IfOk result (λ h. cond_view h.test ≡ resolve_for_test (for_scope scope.old (init_view init.now)) (option_map tree_cond_view test.now)) }
+    ensures stepped { IfOk result (λ h. program_stmt_view h.step ≡ resolve_step (functions_at parts.now) (for_scope scope.old (init_view init.now)) (next.old + init_count (init_view init.now)) (option_map assign_view step.now)) }
+    ensures entered { OnOk result (scope.new ≡ for_scope scope.old (init_view init.now)) }
+    ensures counted { OnOk result (next.new ≡ next.old + init_count (init_view init.now) + step_count (option_map assign_view step.now)) }
+{
+    let init = resolve_init(alloc, parts, scope, next, init)?;
+    let test = resolve_for_test(alloc, scope, test)?;
+    let step = resolve_step(alloc, parts, scope, next, step)?;
+    Ok(ForHead { init, test, step })
+}
+
+/// A choice of two statements.
+fn choose(
+    alloc: Global,
+    label: usize,
+    cond: program::Cond,
+    branch: program::Stmt,
+    other: program::Stmt,
+) -> Result<program::Stmt, AllocError>
+    ensures { IfOk result (λ s. program_stmt_view s ≡ choice label (cond_view cond) (program_stmt_view branch) (program_stmt_view other)) }
+{
+    let branch = Box::new(alloc, branch)?;
+    let other = Box::new(alloc, other)?;
+    Ok(program::Stmt::If(label, cond, branch, other))
+}
+
+/// A loop, with a step behind each round.
+fn repeat(
+    alloc: Global,
+    label: usize,
+    cond: program::Cond,
+    body: program::Stmt,
+    step: program::Stmt,
+) -> Result<program::Stmt, AllocError>
+    ensures { IfOk result (λ s. program_stmt_view s ≡ loop_of label (cond_view cond) (program_stmt_view body) (program_stmt_view step)) }
+{
+    let body = Box::new(alloc, body)?;
+    let step = Box::new(alloc, step)?;
+    Ok(program::Stmt::Loop(label, cond, body, step))
+}
+
+impl ForHead {
+    /// The whole `for`.
+    fn into_loop(
+        self,
+        alloc: Global,
+        label: usize,
+        body: program::Stmt,
+    ) -> Result<program::Stmt, AllocError>
+        ensures { IfOk result (λ s. program_stmt_view s ≡ for_of (items_view self.init) (loop_of label (cond_view self.test) (program_stmt_view body) (program_stmt_view self.step))) }
+    {
+        let ForHead { init, test, step } = self;
+        let again = repeat(alloc, label, test, body, step)?;
+        let again = Box::new(alloc, again)?;
+        Ok(program::Stmt::For(init, again))
     }
 }
 
@@ -154,68 +277,46 @@ fn resolve_stmt(
             let label = take_label(next)?;
             Ok(program::Stmt::Nothing(label))
         }
-        Stmt::Assign(assign) => {
-            let label = take_label(next)?;
-            resolve_assign(alloc, parts, scope, label, assign)
-        }
-        Stmt::Call(call) => {
-            let label = take_label(next)?;
-            let call = resolve_call(alloc, parts, scope, label, call, false)?;
-            Ok(program::Stmt::Call(label, call))
-        }
+        Stmt::Assign(assign) => resolve_assignment(alloc, parts, scope, next, assign),
+        Stmt::Call(call) => resolve_call_alone(alloc, parts, scope, next, call),
         Stmt::If(_, cond, branch) => {
             let label = take_label(next)?;
             let cond = resolve_cond(alloc, scope, cond)?;
             let branch = resolve_stmt(alloc, parts, has_result, in_loop, scope, next, branch)?;
-            let branch = Box::new(alloc, branch)?;
-            let other = Box::new(alloc, program::Stmt::Absent)?;
-            Ok(program::Stmt::If(label, cond, branch, other))
+            Ok(choose(alloc, label, cond, branch, program::Stmt::Absent)?)
         }
         Stmt::IfElse(_, cond, branch, other) => {
             let label = take_label(next)?;
             let cond = resolve_cond(alloc, scope, cond)?;
             let branch = resolve_stmt(alloc, parts, has_result, in_loop, scope, next, branch)?;
             let other = resolve_stmt(alloc, parts, has_result, in_loop, scope, next, other)?;
-            let branch = Box::new(alloc, branch)?;
-            let other = Box::new(alloc, other)?;
-            Ok(program::Stmt::If(label, cond, branch, other))
+            Ok(choose(alloc, label, cond, branch, other)?)
         }
         Stmt::While(_, cond, body) => {
             let label = take_label(next)?;
             let cond = resolve_cond(alloc, scope, cond)?;
             let body = resolve_stmt(alloc, parts, has_result, true, scope, next, body)?;
-            let body = Box::new(alloc, body)?;
-            let step = Box::new(alloc, program::Stmt::Absent)?;
-            Ok(program::Stmt::Loop(label, cond, body, step))
+            Ok(repeat(alloc, label, cond, body, program::Stmt::Absent)?)
         }
-        Stmt::For(_, init, cond, step, body) => {
+        Stmt::For(_, init, test, step, body) => {
             let label = take_label(next)?;
             let count = scope.count();
             let outer = scope.outer();
-            let init = resolve_init(alloc, parts, scope, next, init)?;
-            let cond = resolve_for_test(alloc, scope, cond)?;
-            let step = resolve_step(alloc, parts, scope, next, step)?;
+            let head = resolve_for_head(alloc, parts, scope, next, init, test, step)?;
             let body = resolve_stmt(alloc, parts, has_result, true, scope, next, body)?;
             scope.leave(count, outer);
-            let body = Box::new(alloc, body)?;
-            let step = Box::new(alloc, step)?;
-            let again = Box::new(alloc, program::Stmt::Loop(label, cond, body, step))?;
-            Ok(program::Stmt::For(init, again))
+            Ok(head.into_loop(alloc, label, body)?)
         }
         Stmt::Break(place) => {
-            check_jump(in_loop, *place)?;
-            let label = take_label(next)?;
+            let label = take_jump_label(in_loop, next, *place)?;
             Ok(program::Stmt::Break(label))
         }
         Stmt::Continue(place) => {
-            check_jump(in_loop, *place)?;
-            let label = take_label(next)?;
+            let label = take_jump_label(in_loop, next, *place)?;
             Ok(program::Stmt::Continue(label))
         }
         Stmt::Return(place, source) => {
-            let label = take_label(next)?;
-            let source = resolve_return(alloc, parts, has_result, scope, label, *place, source)?;
-            Ok(program::Stmt::Return(label, source))
+            resolve_return(alloc, parts, has_result, scope, next, *place, source)
         }
         Stmt::Assert(_, cond) => {
             let label = take_label(next)?;

@@ -1,13 +1,94 @@
-use Rattle.std.proofs.Common.{arith}
-use Rattle.lra_names.proofs.CondLaws.{conjunction_found, cond_found}
+use Rattle.std.proofs.Common.{map, ap, arith}
+use Rattle.lra_tree.specs.ProgramViews.{cond_view}
+use Rattle.lra_names.proofs.Telling.{parts_clean}
+use Rattle.lra_names.proofs.Loops.{memory_told, first_told, part_told, all_clean, rest_clean, parts_found}
+use Rattle.lra_names.proofs.CondLaws.{faults_of_test, test_means, faults_of_conjunction, conjunction_means, code_conjunction_faults, code_cond_faults, conjunction_found, cond_found}
 use Rattle.lra_names.proofs.conditions.+condition.Goals as goal
+
+pub resolve_conjunction-returns-in_err-first-clause-told : goal.resolve_conjunction-returns-in_err-first-clause-told
+resolve_conjunction-returns-in_err-first-clause-told t c =
+    first_told _ _ _ c.from_residual.result _ (code_conjunction_faults c.args.scope.now c.args.conjunction.now) c.from_residual.ensures.1 c.in_err-first.ensures.told
+
+pub resolve_conjunction-tests-init : goal.resolve_conjunction-tests-init
+resolve_conjunction-tests-init t c = record {
+  first = c.in_ok-first.ensures.found;
+  clean = rest_clean (faults_of_test c.args.scope.now) c.deref-test-items.result.now _ _ _ (code_conjunction_faults c.args.scope.now c.args.conjunction.now) c.in_ok-first.ensures.told
+      c.deref-test-items.ensures.value;
+  found = ap (map cond_view) c.new-rest.ensures.items;
+}
+
+pub resolve_conjunction-tests-preserved : goal.resolve_conjunction-tests-preserved
+resolve_conjunction-tests-preserved t c = record {
+  first = c.tests.invariant.first;
+  clean = parts_clean (faults_of_test c.args.scope.now) c.deref-test-items.result.now c.tests.test-index c.test-item.result _ c.tests-test.true c.test-item.is c.tests.invariant.clean
+      c.in_ok-further.ensures.told;
+  found = parts_found cond_view (test_means c.args.scope.now) c.deref-test-items.result.now c.tests.test-index c.test-item.result c.tests.rest.items c.push.new.self.items c.in_ok-further.further
+      c.tests-test.true c.test-item.is c.in_ok-push.ensures.items c.in_ok-further.ensures.found c.tests.invariant.found;
+}
+
+pub resolve_conjunction-returns-in_err-further-clause-told : goal.resolve_conjunction-returns-in_err-further-clause-told
+resolve_conjunction-returns-in_err-further-clause-told t c =
+    part_told (faults_of_test c.args.scope.now) c.deref-test-items.result.now c.tests.test-index c.test-item.result _ c.from_residual-in_err-further.result _
+    c.tests-test.true c.test-item.is c.tests.invariant.clean c.from_residual-in_err-further.ensures.1 c.in_err-further.ensures.told
+
+pub resolve_conjunction-returns-in_err-push-clause-told : goal.resolve_conjunction-returns-in_err-push-clause-told
+resolve_conjunction-returns-in_err-push-clause-told t c =
+    memory_told _ c.from_residual-in_err-push.result c.from_residual-in_err-push.ensures.1
+
+pub resolve_conjunction-returns-in_err-all-clause-told : goal.resolve_conjunction-returns-in_err-all-clause-told
+resolve_conjunction-returns-in_err-all-clause-told t c =
+    memory_told _ c.from_residual-in_err-all.result c.from_residual-in_err-all.ensures.1
+
+pub resolve_conjunction-returns-clause-told : goal.resolve_conjunction-returns-clause-told
+resolve_conjunction-returns-clause-told t c =
+    all_clean (faults_of_test c.args.scope.now) c.deref-test-items.result.now c.tests.test-index _ c.tests.invariant.clean c.tests-test.false
 
 pub resolve_conjunction-returns-clause-found : goal.resolve_conjunction-returns-clause-found
 resolve_conjunction-returns-clause-found t c =
     conjunction_found c.args.scope.now c.args.conjunction.now _ _ _ c.deref-test-items.result.now c.tests.test-index c.in_ok-all.ensures c.tests.invariant.first c.tests.invariant.found
     (omega arith) c.deref-test-items.ensures.value
 
+pub resolve_cond-returns-in_err-first-clause-told : goal.resolve_cond-returns-in_err-first-clause-told
+resolve_cond-returns-in_err-first-clause-told t c =
+    first_told _ _ _ c.from_residual.result _ (code_cond_faults c.args.scope.now c.args.cond.now) c.from_residual.ensures.1 c.in_err-first.ensures.told
+
+pub resolve_cond-conjunctions-init : goal.resolve_cond-conjunctions-init
+resolve_cond-conjunctions-init t c = record {
+  first = c.in_ok-first.ensures.found;
+  clean = rest_clean (faults_of_conjunction c.args.scope.now) c.deref-conjunction-items.result.now _ _ _ (code_cond_faults c.args.scope.now c.args.cond.now) c.in_ok-first.ensures.told
+      c.deref-conjunction-items.ensures.value;
+  found = ap (map cond_view) c.new-rest.ensures.items;
+}
+
+pub resolve_cond-conjunctions-preserved : goal.resolve_cond-conjunctions-preserved
+resolve_cond-conjunctions-preserved t c = record {
+  first = c.conjunctions.invariant.first;
+  clean = parts_clean (faults_of_conjunction c.args.scope.now) c.deref-conjunction-items.result.now c.conjunctions.conjunction-index c.conjunction-item.result _ c.conjunctions-test.true
+      c.conjunction-item.is c.conjunctions.invariant.clean c.in_ok-further.ensures.told;
+  found = parts_found cond_view (conjunction_means c.args.scope.now) c.deref-conjunction-items.result.now c.conjunctions.conjunction-index c.conjunction-item.result
+      c.conjunctions.rest.items c.push.new.self.items c.in_ok-further.further
+      c.conjunctions-test.true c.conjunction-item.is c.in_ok-push.ensures.items c.in_ok-further.ensures.found c.conjunctions.invariant.found;
+}
+
+pub resolve_cond-returns-in_err-further-clause-told : goal.resolve_cond-returns-in_err-further-clause-told
+resolve_cond-returns-in_err-further-clause-told t c =
+    part_told (faults_of_conjunction c.args.scope.now) c.deref-conjunction-items.result.now c.conjunctions.conjunction-index c.conjunction-item.result _ c.from_residual-in_err-further.result _
+    c.conjunctions-test.true c.conjunction-item.is c.conjunctions.invariant.clean c.from_residual-in_err-further.ensures.1 c.in_err-further.ensures.told
+
+pub resolve_cond-returns-in_err-push-clause-told : goal.resolve_cond-returns-in_err-push-clause-told
+resolve_cond-returns-in_err-push-clause-told t c =
+    memory_told _ c.from_residual-in_err-push.result c.from_residual-in_err-push.ensures.1
+
+pub resolve_cond-returns-in_err-any-clause-told : goal.resolve_cond-returns-in_err-any-clause-told
+resolve_cond-returns-in_err-any-clause-told t c =
+    memory_told _ c.from_residual-in_err-any.result c.from_residual-in_err-any.ensures.1
+
+pub resolve_cond-returns-clause-told : goal.resolve_cond-returns-clause-told
+resolve_cond-returns-clause-told t c =
+    all_clean (faults_of_conjunction c.args.scope.now) c.deref-conjunction-items.result.now c.conjunctions.conjunction-index _ c.conjunctions.invariant.clean c.conjunctions-test.false
+
 pub resolve_cond-returns-clause-found : goal.resolve_cond-returns-clause-found
 resolve_cond-returns-clause-found t c =
-    cond_found c.args.scope.now c.args.cond.now _ _ _ c.deref-conjunction-items.result.now c.conjunctions.conjunction-index c.in_ok-any.ensures c.conjunctions.invariant.first c.conjunctions.invariant.found
+    cond_found c.args.scope.now c.args.cond.now _ _ _ c.deref-conjunction-items.result.now c.conjunctions.conjunction-index c.in_ok-any.ensures c.conjunctions.invariant.first
+    c.conjunctions.invariant.found
     (omega arith) c.deref-conjunction-items.ensures.value

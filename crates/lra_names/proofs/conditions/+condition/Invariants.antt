@@ -3,23 +3,22 @@ use Rattle.std.proofs.Common.{◌≡◌, map, take, drop}
 use Rattle.std.specs.List.{flat_map}
 use Rattle.lra_tree.specs.declared.trees.Conjunction.{out-Conjunction}
 use Rattle.lra_tree.specs.declared.trees.Cond.{out-Cond}
-use Rattle.lra_tree.specs.Views.{test_view, conjunction_view, cond_view as tree_cond_view}
+use Rattle.lra_tree.specs.Views.{conjunction_view, cond_view as tree_cond_view}
 use Rattle.lra_tree.specs.ProgramViews.{cond_view}
-use Rattle.lra_tree.specs.NameFaults.{test_faults, conjunction_faults, cond_faults}
-use Rattle.lra_tree.specs.Resolve.{resolve_test}
-use Rattle.lra_names.specs.Chains.{resolve_conjunction}
+use Rattle.lra_tree.specs.NameFaults.{conjunction_faults, cond_faults}
+use Rattle.lra_names.proofs.CondLaws.{faults_of_test, test_means, faults_of_conjunction, conjunction_means}
 use Rattle.lra_names.proofs.conditions.+condition.Given as goal
 
 abbrev pub invariant-resolve_conjunction-tests : goal.invariant-resolve_conjunction-tests
 invariant-resolve_conjunction-tests l = record {
-  first : cond_view l.first ≡ resolve_test l.scope (test_view (out-Conjunction l.conjunction).first);
-  clean : conjunction_faults l.scope (conjunction_view l.conjunction) ≡ flat_map (λ t. test_faults l.scope (test_view t)) (drop l.test-index l.test-items);
-  found : map cond_view l.rest.items ≡ map (λ t. resolve_test l.scope (test_view t)) (take l.test-index l.test-items);
+  first : cond_view l.first ≡ test_means l.scope (out-Conjunction l.conjunction).first;
+  clean : conjunction_faults l.scope (conjunction_view l.conjunction) ≡ flat_map (faults_of_test l.scope) (drop l.test-index l.test-items);
+  found : map cond_view l.rest.items ≡ map (test_means l.scope) (take l.test-index l.test-items);
 }
 
 abbrev pub invariant-resolve_cond-conjunctions : goal.invariant-resolve_cond-conjunctions
 invariant-resolve_cond-conjunctions l = record {
-  first : cond_view l.first ≡ resolve_conjunction l.scope (conjunction_view (out-Cond l.cond).first);
-  clean : cond_faults l.scope (tree_cond_view l.cond) ≡ flat_map (λ d. conjunction_faults l.scope (conjunction_view d)) (drop l.conjunction-index l.conjunction-items);
-  found : map cond_view l.rest.items ≡ map (λ d. resolve_conjunction l.scope (conjunction_view d)) (take l.conjunction-index l.conjunction-items);
+  first : cond_view l.first ≡ conjunction_means l.scope (out-Cond l.cond).first;
+  clean : cond_faults l.scope (tree_cond_view l.cond) ≡ flat_map (faults_of_conjunction l.scope) (drop l.conjunction-index l.conjunction-items);
+  found : map cond_view l.rest.items ≡ map (conjunction_means l.scope) (take l.conjunction-index l.conjunction-items);
 }

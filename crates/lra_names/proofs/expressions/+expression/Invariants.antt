@@ -3,23 +3,23 @@ use Rattle.std.proofs.Common.{◌≡◌, map, take, drop}
 use Rattle.std.specs.List.{flat_map}
 use Rattle.lra_tree.specs.declared.trees.Term.{out-Term}
 use Rattle.lra_tree.specs.declared.trees.Expr.{out-Expr}
-use Rattle.lra_tree.specs.Views.{unary_view, term_view, factor_view, summand_view, expr_view as tree_expr_view}
+use Rattle.lra_tree.specs.Views.{unary_view, term_view, expr_view as tree_expr_view}
 use Rattle.lra_tree.specs.ProgramViews.{expr_view, operation_view}
 use Rattle.lra_tree.specs.NameFaults.{term_faults, expr_faults}
 use Rattle.lra_tree.specs.Resolve.{resolve_unary, resolve_term}
-use Rattle.lra_names.specs.Chains.{factor_faults, resolve_factor, summand_faults, resolve_summand}
+use Rattle.lra_names.proofs.ChainLaws.{faults_of_factor, factor_means, faults_of_summand, summand_means}
 use Rattle.lra_names.proofs.expressions.+expression.Given as goal
 
 abbrev pub invariant-resolve_term-factors : goal.invariant-resolve_term-factors
 invariant-resolve_term-factors l = record {
   first : expr_view l.first ≡ resolve_unary l.scope (unary_view (out-Term l.term).first);
-  clean : term_faults l.scope (term_view l.term) ≡ flat_map (λ f. factor_faults l.scope (factor_view f)) (drop l.factor-index l.factor-items);
-  found : map operation_view l.rest.items ≡ map (λ f. resolve_factor l.scope (factor_view f)) (take l.factor-index l.factor-items);
+  clean : term_faults l.scope (term_view l.term) ≡ flat_map (faults_of_factor l.scope) (drop l.factor-index l.factor-items);
+  found : map operation_view l.rest.items ≡ map (factor_means l.scope) (take l.factor-index l.factor-items);
 }
 
 abbrev pub invariant-resolve_expr-summands : goal.invariant-resolve_expr-summands
 invariant-resolve_expr-summands l = record {
   first : expr_view l.first ≡ resolve_term l.scope (term_view (out-Expr l.expr).first);
-  clean : expr_faults l.scope (tree_expr_view l.expr) ≡ flat_map (λ f. summand_faults l.scope (summand_view f)) (drop l.summand-index l.summand-items);
-  found : map operation_view l.rest.items ≡ map (λ f. resolve_summand l.scope (summand_view f)) (take l.summand-index l.summand-items);
+  clean : expr_faults l.scope (tree_expr_view l.expr) ≡ flat_map (faults_of_summand l.scope) (drop l.summand-index l.summand-items);
+  found : map operation_view l.rest.items ≡ map (summand_means l.scope) (take l.summand-index l.summand-items);
 }
