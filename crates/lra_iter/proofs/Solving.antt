@@ -12,7 +12,7 @@ use Rattle.lra_flow.specs.Changes.{first_values}
 use Rattle.lra_flow.specs.Pass.{Result, noted, Pass}
 use Rattle.lra_flow.specs.Analysis.{Derivation, Solves}
 use Rattle.lra_flow.proofs.Unflagged.{unflagged_is_written, flagged_strains}
-use Rattle.lra_iter.specs.Changes.{Does}
+use Rattle.lra_change.specs.Changes.{Does}
 use Rattle.lra_iter.specs.Solved.{IsSolved}
 
 pub solved : {V H : Type 0} (m : Meaning V H) → Laws m → (settings : Settings) (P : Program) (tree : Node) (result : Result V) (values : List V) (verdicts : List (ℕ × Bool)) (flagged : Option ℕ) → Derivation m settings P tree result

@@ -1,8 +1,3 @@
-pub mod Forms
-pub mod Conditions
-pub mod Sides
-pub mod Changes
-pub mod Given
 pub mod Outcome
 pub mod Fits
 pub mod Lives

@@ -7,7 +7,7 @@ ghost use Rattle.lra_flow.specs.Changes.{AreJoined};
 ghost use Rattle.lra_flow.specs.Pass.{noted, goes_on, jumps};
 ghost use Rattle.lra_iter.specs.Outcome.{entry_view, seen, AllHave};
 
-use crate::comparisons::worse_of;
+use lra_change::worse_of;
 use lra_domain::{Domain, Exactness};
 use lra_tree::graph::Exit;
 use std::alloc::{AllocError, Global};

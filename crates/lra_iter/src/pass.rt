@@ -11,13 +11,11 @@ ghost use Rattle.lra_flow.specs.Sound.{jumps_of};
 ghost use Rattle.lra_iter.specs.Fits.{live_behind, TreeFits};
 ghost use Rattle.lra_iter.specs.Outcome.{seen, AllHave, AreMet, Catches, JumpsFit, HasGrown};
 
-use crate::changes::change;
-use crate::conditions::leave;
-use crate::given::given_of;
 use crate::outcome::{Entry, Outcome, join_all, note};
-use crate::sides::{Kept, split};
+use lra_change::{Kept, change, leave, split};
 use lra_domain::{Domain, Exactness, Grown, Mode};
 use lra_flow::Settings;
+use lra_forms::given_of;
 use lra_tree::graph::{Exit, Node};
 use lra_tree::program::Cond;
 use std::alloc::{AllocError, Global};

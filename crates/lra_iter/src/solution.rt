@@ -13,10 +13,10 @@ ghost use Rattle.lra_iter.specs.Counts.{AreCounted};
 ghost use Rattle.lra_iter.specs.Solved.{IsSolved};
 ghost use Rattle.lra_iter.specs.Sound.{HoldsInTree};
 
-use crate::globals::append_globals;
 use crate::outcome::{Outcome, note};
 use crate::pass::pass;
 use crate::tables::{held_in, numbered_in, tables_of};
+use lra_change::append_globals;
 use lra_domain::Domain;
 use lra_flow::Settings;
 use lra_tree::graph::{Graph, Site};

@@ -13,7 +13,7 @@ use Rattle.lra_tree.specs.Sites as sites
 use Rattle.lra_tree.specs.Inlined.{Frame, callee, Inl, InlAll, Declares, Loops, Gives, as_nothing, as_block, as_absent, as_assign, as_call, as_if, as_loop, as_for, as_break, as_continue, as_return, as_return_value, as_return_call, as_end, as_end_value, as_end_call, as_assert, as_assume, as_none, as_declaration, as_statement, as_fresh, as_given, is_loop, as_value, as_result, loop_node, call_node, return_node, main_frame}
 use Rattle.lra_tree.specs.Agree.{IsGraph}
 use Rattle.lra_tree.specs.WellFormed.{IsLive, IsGoodSource, IsGoodGiven, IsGoodStmt, AreGoodItems, IsGoodFunction, IsWellFormed}
-use Rattle.lra_iter.specs.Changes.{dims_behind, PlaceFits, OpFits}
+use Rattle.lra_change.specs.Changes.{dims_behind, PlaceFits, OpFits}
 use Rattle.lra_iter.specs.Fits.{live_behind, JumpsWith, TreeFits}
 
 -- how many live where a jump leads

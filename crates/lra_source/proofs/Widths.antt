@@ -25,7 +25,7 @@ use Rattle.lra_flow.specs.Changes.{set_to, push_all, drop_last, actions_of, firs
 use Rattle.lra_flow.specs.Conditions.{testing, Leaves}
 use Rattle.lra_flow.specs.Pass.{Entry, value, failing, Result, noted, jumps, first_of_call, caught, behind, Through, Changes, GoesRound, Grows, Narrows, Pass}
 use Rattle.lra_flow.specs.Analysis.{Derivation}
-use Rattle.lra_iter.specs.Changes.{dims_behind}
+use Rattle.lra_change.specs.Changes.{dims_behind}
 use Rattle.lra_iter.specs.Fits.{live_behind}
 use Rattle.lra_iter.specs.Lives.{LiveAt, PointsHave}
 

@@ -1,0 +1,61 @@
+-- Steps of the proofs on changes of values.
+use Rattle.std.proofs.Common.{◌≡◌, ℕ, suc, ◌+◌, List, [], ◌∷◌, ◌++◌, Option, Some, None, length, refl, sym, ap, ◌∙◌, subst}
+use Rattle.lra_lin.specs.Form.{Form}
+use Rattle.lra_domain.specs.Actions.{Action, embed, dims_after}
+use Rattle.lra_domain.specs.declared.Exactness.{Exactness}
+use Rattle.lra_domain.specs.declared.Exactness.TheVariants.{Exact, Flagged}
+use Rattle.lra_domain.specs.Meaning.{Meaning, Meets}
+use Rattle.lra_tree.specs.Program.{Expr}
+use Rattle.lra_tree.specs.Linear as linear
+use Rattle.lra_flow.specs.Operations.{worse}
+use Rattle.lra_flow.specs.Changes.{set_to, append_set}
+use Rattle.lra_flow.proofs.FormLemmas.{form_wide}
+use Rattle.lra_forms.specs.Forms.{as_linear, IsForm}
+use Rattle.lra_change.specs.Changes.{Does}
+use Rattle.lra_forms.proofs.FormSteps.{some_only}
+
+worse_exact : (e : Exactness) → e ≡ worse e Exact
+worse_exact Exact = refl
+worse_exact Flagged = refl
+
+worse_worse : (a b c : Exactness) → worse (worse a b) c ≡ worse a (worse b c)
+worse_worse Exact b c = refl
+worse_worse Flagged b c = refl
+
+-- one change alone
+pub done_one : {V H : Type 0} (m : Meaning V H) (step : Action) (v : V) (e : Exactness) (w : V) → Meets m step v e w → m.dims w ≡ dims_after step (m.dims v) → Does m (step ∷ []) v e w
+done_one m step v e w meets dims = (w, e, Exact, (meets, dims), (refl, refl), worse_exact e)
+
+pub done_none : {V H : Type 0} (m : Meaning V H) (v : V) → Does m [] v Exact v
+done_none m v = (refl, refl)
+
+pub done_both : {V H : Type 0} (m : Meaning V H) (one two : List Action) (v x w : V) (d e : Exactness) → Does m one v d x → Does m two x e w → Does m (one ++ two) v (worse d e) w
+done_both {V} m [] two v x w d e (same, exact) h = subst (λ (a : Exactness). Does m two v a w) (sym (ap (λ (a : Exactness). worse a e) exact)) (subst (λ (y : V). Does m two y e w) same h)
+done_both {V} m (step ∷ steps) two v x w d e (y, a, b, one, rest, is) h =
+    (y, a, worse b e, one, done_both m steps two y x w b e rest h, ap (λ (c : Exactness). worse c e) is ∙ worse_worse a b e)
+
+set_dims : (x : ℕ) (o : Option linear.Form) (n : ℕ) → dims_after (set_to x o) n ≡ n
+set_dims x None n = refl
+set_dims x (Some f) n = refl
+
+pub done_set : {V H : Type 0} (m : Meaning V H) (x : ℕ) (o : Option linear.Form) (v : V) (e : Exactness) (w : V) → Meets m (set_to x o) v e w → m.dims w ≡ m.dims v → Does m (set_to x o ∷ []) v e w
+done_set m x o v e w meets dims = done_one m (set_to x o) v e w meets (dims ∙ sym (set_dims x o (m.dims v)))
+
+-- a new variable and its value
+pub done_append : {V H : Type 0} (m : Meaning V H) (base : ℕ) (e : Expr) (v x w : V) (c d : Exactness) → Meets m (embed 1) v c x → m.dims x ≡ m.dims v + 1 → suc (m.dims v) ≡ m.dims v + 1
+    → Meets m (set_to (m.dims v) (linear.form_of (m.dims x) base e)) x d w → m.dims w ≡ m.dims x → Does m (append_set (m.dims v) (linear.form_of (suc (m.dims v)) base e)) v (worse c d) w
+done_append m base e v x w c d first dims one second same =
+    let live : m.dims x ≡ suc (m.dims v) = dims ∙ sym one in (
+      x,
+      c,
+      d,
+      (first, dims),
+      done_set m (m.dims v) (linear.form_of (suc (m.dims v)) base e) x d w (subst (λ (n : ℕ). Meets m (set_to (m.dims v) (linear.form_of n base e)) x d w) live second) same,
+      refl,
+    )
+
+-- a form that is there has a coefficient for each variable
+pub form_there : (live n base : ℕ) (e : Expr) (o : Option Form) (f : Form) → live ≡ n → o ≡ Some f → IsForm (linear.form_of live base e) o → length f.coefficients ≡ n
+form_there live n base e o f is some h =
+    let there : IsForm (linear.form_of live base e) (Some f) = subst (λ (x : Option Form). IsForm (linear.form_of live base e) x) some h in
+    (form_wide live base e (as_linear f) (some_only (linear.form_of live base e) f there)).width ∙ is

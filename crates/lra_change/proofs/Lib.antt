@@ -1,0 +1,4 @@
+mod CompareSteps
+mod SideSteps
+mod ChangeSteps
+mod GlobalSteps

@@ -1,0 +1,127 @@
+//! What a least change of the program does to a value.
+
+ghost use Rattle.std.specs.Prelude.{◌≡◌, ◌≤◌, ◌<◌, ◌+◌, ◌-◌, ◌^◌, suc, map, length, IfOk, OnOk};
+ghost use Rattle.lra_domain.specs.Meaning.{Meets};
+ghost use Rattle.lra_tree.specs.ProgramViews.{expr_view};
+ghost use Rattle.lra_tree.specs.GraphViews.{op_view};
+ghost use Rattle.lra_tree.specs.Linear.{form_of};
+ghost use Rattle.lra_flow.specs.Changes.{set_to, append_set, push_all, drop_last};
+ghost use Rattle.lra_change.specs.Changes.{Does, ChangesTo, OpFits, dims_behind};
+
+use crate::comparisons::worse_of;
+use crate::conditions::leave;
+use lra_domain::{Domain, Exactness};
+use lra_forms::form_of_expression;
+use lra_tree::graph::Op;
+use lra_tree::program::Expr;
+use std::alloc::{AllocError, Global};
+
+/// The variable at the place gets the expression's value: that of its form, or any value where there is none.
+fn set<D: Domain>(
+    alloc: Global,
+    base: usize,
+    place: usize,
+    e: &Expr,
+    value: &mut D,
+) -> Result<Exactness, AllocError>
+    requires few { D.meaning.dims value.old < 2 ^ 62 }
+    requires place { place < D.meaning.dims value.old }
+    ensures sets { IfOk result (λ a. Meets D.meaning (set_to place (form_of (D.meaning.dims value.old) base (expr_view e.now))) value.old a value.new) }
+    ensures dims { OnOk result (D.meaning.dims value.new ≡ D.meaning.dims value.old) }
+{
+    match form_of_expression(alloc, value.dims(), base, e)? {
+        None => {
+            let exactness = value.forget(place)?;
+            Ok(exactness)
+        }
+        Some(form) => {
+            let exactness = value.assign(place, &form)?;
+            Ok(exactness)
+        }
+    }
+}
+
+/// A new variable, with the value of an argument.
+fn push_one<D: Domain>(
+    alloc: Global,
+    base: usize,
+    e: &Expr,
+    value: &mut D,
+) -> Result<Exactness, AllocError>
+    requires { D.meaning.dims value.old < 2 ^ 30 }
+    ensures pushes { IfOk result (λ a. Does D.meaning (append_set (D.meaning.dims value.old) (form_of (suc (D.meaning.dims value.old)) base (expr_view e.now))) value.old a value.new) }
+    ensures dims { OnOk result (D.meaning.dims value.new ≡ suc (D.meaning.dims value.old)) }
+{
+    let place = value.dims();
+    let one = value.embed(1)?;
+    let two = set(alloc, base, place, e, value)?;
+    Ok(worse_of(one, two))
+}
+
+/// The arguments, each a new variable with its value.
+fn push_all_of<D: Domain>(
+    alloc: Global,
+    base: usize,
+    es: &[Expr],
+    value: &mut D,
+) -> Result<Exactness, AllocError>
+    requires { D.meaning.dims value.old + length es.now ≤ 2 ^ 30 }
+    ensures pushes { IfOk result (λ a. Does D.meaning (push_all (D.meaning.dims value.old) base (map expr_view es.now)) value.old a value.new) }
+    ensures dims { OnOk result (D.meaning.dims value.new ≡ D.meaning.dims value.old + length es.now) }
+{
+    let Some((first, later)) = es.split_first() else {
+        return Ok(Exactness::Exact);
+    };
+    let one = push_one(alloc, base, first, value)?;
+    let others = push_all_of(alloc, base, later, value)?;
+    Ok(worse_of(one, others))
+}
+
+/// Only the oldest `n` variables stay.
+fn keep<D: Domain>(n: usize, value: &mut D) -> Result<Exactness, AllocError>
+    ensures keeps { IfOk result (λ a. Does D.meaning (drop_last (D.meaning.dims value.old - n)) value.old a value.new) }
+    ensures dims { OnOk result (D.meaning.dims value.new ≡ D.meaning.dims value.old - (D.meaning.dims value.old - n)) }
+{
+    let dims = value.dims();
+    if dims <= n {
+        return Ok(Exactness::Exact);
+    }
+    let exactness = value.remove_last(dims - n)?;
+    Ok(exactness)
+}
+
+/// What the least change of the program does to the value.
+pub fn change<D: Domain>(alloc: Global, op: &Op, value: &mut D) -> Result<Exactness, AllocError>
+    requires few { D.meaning.dims value.old ≤ 2 ^ 30 }
+    requires fits { OpFits (op_view op.now) (D.meaning.dims value.old) }
+    ensures changes { IfOk result (λ a. ChangesTo D.meaning (op_view op.now) value.old a value.new) }
+    ensures dims { OnOk result (D.meaning.dims value.new ≡ dims_behind (op_view op.now) (D.meaning.dims value.old)) }
+{
+    match op {
+        Op::Append => {
+            let exactness = value.embed(1)?;
+            Ok(exactness)
+        }
+        Op::Give(_, None, _) | Op::GiveAny(None) => Ok(Exactness::Exact),
+        Op::Give(base, Some(place), e) => {
+            let exactness = set(alloc, *base, *place, e, value)?;
+            Ok(exactness)
+        }
+        Op::GiveAny(Some(place)) => {
+            let exactness = value.forget(*place)?;
+            Ok(exactness)
+        }
+        Op::Push(base, es) => {
+            let exactness = push_all_of(alloc, *base, es.as_slice(), value)?;
+            Ok(exactness)
+        }
+        Op::Keep(n) => {
+            let exactness = keep(*n, value)?;
+            Ok(exactness)
+        }
+        Op::Test(base, condition, wanted) => {
+            let exactness = leave(alloc, *base, condition, *wanted, value, Exactness::Exact)?;
+            Ok(exactness)
+        }
+    }
+}

@@ -1,0 +1,100 @@
+//! What a comparison leaves of a value.
+
+ghost use Rattle.std.specs.Prelude.{◌≡◌, ◌<◌, ◌^◌, Some, length, IfOk, OnOk};
+ghost use Rattle.lra_tree.specs.Program.{differs};
+ghost use Rattle.lra_tree.specs.Views.{comparison_view};
+ghost use Rattle.lra_tree.specs.ProgramViews.{expr_view};
+ghost use Rattle.lra_tree.specs.Linear.{difference_form, comparison_test};
+ghost use Rattle.lra_flow.specs.Operations.{worse};
+ghost use Rattle.lra_forms.specs.Forms.{as_linear};
+ghost use Rattle.lra_change.specs.Conditions.{Tests, Compares};
+
+use lra_domain::{Domain, Exactness};
+use lra_forms::{difference_of, test_of};
+use lra_lin::LinExpr;
+use lra_tree::Comparison;
+use lra_tree::program::Expr;
+use std::alloc::{AllocError, Global};
+
+/// Flagged where one of the two is.
+pub fn worse_of(one: Exactness, two: Exactness) -> Exactness
+    ensures { result ≡ worse one two }
+{
+    match one {
+        Exactness::Exact => two,
+        Exactness::Flagged => Exactness::Flagged,
+    }
+}
+
+/// What the comparison's test leaves of the value; all of it where there is none.
+fn leave_test<D: Domain>(
+    alloc: Global,
+    base: usize,
+    op: Comparison,
+    d: &LinExpr,
+    value: &mut D,
+    before: Exactness,
+) -> Result<Exactness, AllocError>
+    requires few { D.meaning.dims value.old < 2 ^ 62 }
+    requires width { length d.now.coefficients ≡ D.meaning.dims value.old }
+    ensures leaves { IfOk result (λ e. Tests D.meaning (D.meaning.dims value.old) base (comparison_test (comparison_view op) (as_linear d.now)) value.old before value.new e) }
+    ensures dims { OnOk result (D.meaning.dims value.new ≡ D.meaning.dims value.old) }
+{
+    match test_of(alloc, op, d)? {
+        None => Ok(before),
+        Some(test) => {
+            let exactness = value.test(&test)?;
+            Ok(worse_of(before, exactness))
+        }
+    }
+}
+
+/// What `<` or `>` leaves of the value.
+fn leave_differs<D: Domain>(
+    alloc: Global,
+    base: usize,
+    d: &LinExpr,
+    value: &mut D,
+    before: Exactness,
+) -> Result<Exactness, AllocError>
+    requires few { D.meaning.dims value.old < 2 ^ 62 }
+    requires width { length d.now.coefficients ≡ D.meaning.dims value.old }
+    ensures leaves { IfOk result (λ e. Compares D.meaning (D.meaning.dims value.old) base differs (Some (as_linear d.now)) value.old before value.new e) }
+    ensures dims { OnOk result (D.meaning.dims value.new ≡ D.meaning.dims value.old) }
+{
+    let mut less = value.copy(alloc)?;
+    let one = leave_test(alloc, base, Comparison::Below, d, &mut less, before)?;
+    let two = leave_test(alloc, base, Comparison::Above, d, value, before)?;
+    let joined = less.join(value)?;
+    *value = less;
+    Ok(worse_of(worse_of(one, two), joined))
+}
+
+/// What a comparison leaves of the value; all of it where the difference isn't linear.
+pub fn leave_comparison<D: Domain>(
+    alloc: Global,
+    base: usize,
+    op: Comparison,
+    left: &Expr,
+    right: &Expr,
+    value: &mut D,
+    before: Exactness,
+) -> Result<Exactness, AllocError>
+    requires { D.meaning.dims value.old < 2 ^ 62 }
+    ensures leaves { IfOk result (λ e. Compares D.meaning (D.meaning.dims value.old) base (comparison_view op) (difference_form (D.meaning.dims value.old) base (expr_view left.now) (expr_view right.now)) value.old before value.new e) }
+    ensures dims { OnOk result (D.meaning.dims value.new ≡ D.meaning.dims value.old) }
+{
+    let Some(d) = difference_of(alloc, value.dims(), base, left, right)? else {
+        return Ok(before);
+    };
+    match op {
+        Comparison::Differs => {
+            let exactness = leave_differs(alloc, base, &d, value, before)?;
+            Ok(exactness)
+        }
+        _ => {
+            let exactness = leave_test(alloc, base, op, &d, value, before)?;
+            Ok(exactness)
+        }
+    }
+}

@@ -1,0 +1,133 @@
+//! What a condition leaves of a value.
+
+ghost use Rattle.std.specs.Prelude.{◌≡◌, ◌<◌, ◌^◌, map, IfOk, OnOk};
+ghost use Rattle.lra_tree.specs.ProgramViews.{cond_view};
+ghost use Rattle.lra_tree.specs.Condition.{push};
+ghost use Rattle.lra_forms.specs.Conditions.{in_turn_of, either_of};
+ghost use Rattle.lra_change.specs.Conditions.{Pushes};
+
+use crate::comparisons::leave_comparison;
+use crate::sides::{Kept, divide, join_kept};
+use lra_domain::{Domain, Exactness};
+use lra_forms::opposite_of;
+use lra_tree::Comparison;
+use lra_tree::program::{Cond, Expr};
+use std::alloc::{AllocError, Global};
+
+/// What `condition`, wanted true or false, leaves of the value: `!` is pushed to the comparisons; `&&` is the one behind the other; `||`
+/// joins what its left side leaves with what the right one leaves where the left one is false.
+#[cycle(leave)]
+pub fn leave<D: Domain>(
+    alloc: Global,
+    base: usize,
+    condition: &Cond,
+    wanted: bool,
+    value: &mut D,
+    before: Exactness,
+) -> Result<Exactness, AllocError>
+    requires { D.meaning.dims value.old < 2 ^ 62 }
+    ensures leaves { IfOk result (λ e. Pushes D.meaning (D.meaning.dims value.old) base (push wanted (cond_view condition.now)) value.old before value.new e) }
+    ensures dims { OnOk result (D.meaning.dims value.new ≡ D.meaning.dims value.old) }
+{
+    match condition {
+        Cond::Compare(op, left, right) => {
+            let op = if wanted { *op } else { opposite_of(*op) };
+            let exactness = leave_comparison(alloc, base, op, left, right, value, before)?;
+            Ok(exactness)
+        }
+        Cond::Nonzero(e) => {
+            let op = if wanted {
+                Comparison::Differs
+            } else {
+                Comparison::Equal
+            };
+            let zero = Expr::Literal(0);
+            let exactness = leave_comparison(alloc, base, op, e, &zero, value, before)?;
+            Ok(exactness)
+        }
+        Cond::Opposite(inner) => {
+            let exactness = leave(alloc, base, inner, !wanted, value, before)?;
+            Ok(exactness)
+        }
+        Cond::All(first, rest) => {
+            let rest = rest.as_slice();
+            let exactness = if wanted {
+                leave_in_turn(alloc, base, first, rest, true, value, before)?
+            } else {
+                leave_either(alloc, base, first, rest, false, value, before)?
+            };
+            Ok(exactness)
+        }
+        Cond::Any(first, rest) => {
+            let rest = rest.as_slice();
+            let exactness = if wanted {
+                leave_either(alloc, base, first, rest, true, value, before)?
+            } else {
+                leave_in_turn(alloc, base, first, rest, false, value, before)?
+            };
+            Ok(exactness)
+        }
+    }
+}
+
+/// What all of the conditions leave, one behind the other.
+#[cycle(leave)]
+fn leave_in_turn<D: Domain>(
+    alloc: Global,
+    base: usize,
+    first: &Cond,
+    rest: &[Cond],
+    wanted: bool,
+    value: &mut D,
+    before: Exactness,
+) -> Result<Exactness, AllocError>
+    requires { D.meaning.dims value.old < 2 ^ 62 }
+    ensures leaves { IfOk result (λ e. Pushes D.meaning (D.meaning.dims value.old) base (in_turn_of wanted (cond_view first.now) (map cond_view rest.now)) value.old before value.new e) }
+    ensures dims { OnOk result (D.meaning.dims value.new ≡ D.meaning.dims value.old) }
+{
+    let one = leave(alloc, base, first, wanted, value, before)?;
+    let Some((next, later)) = rest.split_first() else {
+        return Ok(one);
+    };
+    let two = leave_in_turn(alloc, base, next, later, wanted, value, one)?;
+    Ok(two)
+}
+
+/// What the first of the conditions leaves, joined with what the others leave where it isn't so.
+#[cycle(leave)]
+fn leave_either<D: Domain>(
+    alloc: Global,
+    base: usize,
+    first: &Cond,
+    rest: &[Cond],
+    wanted: bool,
+    value: &mut D,
+    before: Exactness,
+) -> Result<Exactness, AllocError>
+    requires { D.meaning.dims value.old < 2 ^ 62 }
+    ensures leaves { IfOk result (λ e. Pushes D.meaning (D.meaning.dims value.old) base (either_of wanted (cond_view first.now) (map cond_view rest.now)) value.old before value.new e) }
+    ensures dims { OnOk result (D.meaning.dims value.new ≡ D.meaning.dims value.old) }
+{
+    let Some((next, later)) = rest.split_first() else {
+        let only = leave(alloc, base, first, wanted, value, before)?;
+        return Ok(only);
+    };
+    let copied = value.copy(alloc)?;
+    let from = Kept {
+        value: copied,
+        exactness: before,
+    };
+    let sides = divide(alloc, base, first, wanted, from)?;
+    let left = sides.on;
+    let off = sides.off;
+    let so_far = off.exactness;
+    let mut right = off.value;
+    let two = leave_either(alloc, base, next, later, wanted, &mut right, so_far)?;
+    let other = Kept {
+        value: right,
+        exactness: two,
+    };
+    let joined = join_kept(left, other)?;
+    *value = joined.value;
+    Ok(joined.exactness)
+}

@@ -1,0 +1,14 @@
+//! What conditions and least changes of a program do to a value, for any domain.
+#![tactic(auto)]
+
+mod changes;
+mod comparisons;
+mod conditions;
+mod globals;
+mod sides;
+
+pub use changes::change;
+pub use comparisons::worse_of;
+pub use conditions::leave;
+pub use globals::append_globals;
+pub use sides::{Kept, Sides, split};

@@ -1,0 +1,193 @@
+//! What a condition leaves of a value where it is true, together with what it leaves where it is false.
+
+ghost use Rattle.std.specs.Prelude.{◌≡◌, ◌<◌, ◌^◌, map, not, true, false, IfOk};
+ghost use Rattle.lra_tree.specs.Views.{comparison_view};
+ghost use Rattle.lra_tree.specs.ProgramViews.{expr_view, cond_view};
+ghost use Rattle.lra_tree.specs.Condition.{atom, opposite_comparison, push};
+ghost use Rattle.lra_forms.specs.Conditions.{in_turn_of, either_of};
+ghost use Rattle.lra_change.specs.Sides.{Splits, AreJoinedTo};
+
+use crate::comparisons::{leave_comparison, worse_of};
+use lra_domain::{Domain, Exactness};
+use lra_forms::opposite_of;
+use lra_tree::Comparison;
+use lra_tree::program::{Cond, Expr};
+use std::alloc::{AllocError, Global};
+
+/// A value, with the exactness of what led to it.
+#[derive(Drop)]
+pub struct Kept<D> {
+    pub value: D,
+    pub exactness: Exactness,
+}
+
+/// What a condition leaves of a value: where it is true, and where it is false. The flags of the one aren't those of the other.
+#[derive(Drop)]
+pub struct Sides<D> {
+    pub on: Kept<D>,
+    pub off: Kept<D>,
+}
+
+/// The first joined with the second.
+pub fn join_kept<D: Domain>(one: Kept<D>, two: Kept<D>) -> Result<Kept<D>, AllocError>
+    requires { D.meaning.dims one.value ≡ D.meaning.dims two.value }
+    ensures { IfOk result (λ r. AreJoinedTo D.meaning one two r) }
+{
+    let Kept {
+        mut value,
+        exactness,
+    } = one;
+    let joined = value.join(&two.value)?;
+    Ok(Kept {
+        value,
+        exactness: worse_of(worse_of(exactness, two.exactness), joined),
+    })
+}
+
+/// Both sides of a comparison.
+fn split_comparison<D: Domain>(
+    alloc: Global,
+    base: usize,
+    op: Comparison,
+    left: &Expr,
+    right: &Expr,
+    from: Kept<D>,
+) -> Result<Sides<D>, AllocError>
+    requires { D.meaning.dims from.value < 2 ^ 62 }
+    ensures { IfOk result (λ s. Splits D.meaning base (atom (comparison_view op) (expr_view left.now) (expr_view right.now)) (atom (opposite_comparison (comparison_view op)) (expr_view left.now) (expr_view right.now)) from s) }
+{
+    let Kept {
+        value: mut on,
+        exactness: before,
+    } = from;
+    let mut off = on.copy(alloc)?;
+    let one = leave_comparison(alloc, base, op, left, right, &mut on, before)?;
+    let two = leave_comparison(alloc, base, opposite_of(op), left, right, &mut off, before)?;
+    Ok(Sides {
+        on: Kept {
+            value: on,
+            exactness: one,
+        },
+        off: Kept {
+            value: off,
+            exactness: two,
+        },
+    })
+}
+
+/// Both sides of `condition`, each of its comparisons taken once: `&&` goes on with what its left side leaves, `||` with what that leaves where
+/// it is false; the other side of each is a join.
+#[cycle(split)]
+pub fn split<D: Domain>(
+    alloc: Global,
+    base: usize,
+    condition: &Cond,
+    from: Kept<D>,
+) -> Result<Sides<D>, AllocError>
+    requires { D.meaning.dims from.value < 2 ^ 62 }
+    ensures { IfOk result (λ s. Splits D.meaning base (push true (cond_view condition.now)) (push false (cond_view condition.now)) from s) }
+{
+    match condition {
+        Cond::Compare(op, left, right) => {
+            let sides = split_comparison(alloc, base, *op, left, right, from)?;
+            Ok(sides)
+        }
+        Cond::Nonzero(e) => {
+            let zero = Expr::Literal(0);
+            let sides = split_comparison(alloc, base, Comparison::Differs, e, &zero, from)?;
+            Ok(sides)
+        }
+        Cond::Opposite(inner) => {
+            let Sides { on, off } = split(alloc, base, inner, from)?;
+            Ok(Sides { on: off, off: on })
+        }
+        Cond::All(first, rest) => {
+            let sides = split_all(alloc, base, first, rest.as_slice(), from)?;
+            Ok(sides)
+        }
+        Cond::Any(first, rest) => {
+            let sides = split_any(alloc, base, first, rest.as_slice(), from)?;
+            Ok(sides)
+        }
+    }
+}
+
+/// Both sides of a chain of `&&`.
+#[cycle(split)]
+fn split_all<D: Domain>(
+    alloc: Global,
+    base: usize,
+    first: &Cond,
+    rest: &[Cond],
+    from: Kept<D>,
+) -> Result<Sides<D>, AllocError>
+    requires { D.meaning.dims from.value < 2 ^ 62 }
+    ensures { IfOk result (λ s. Splits D.meaning base (in_turn_of true (cond_view first.now) (map cond_view rest.now)) (either_of false (cond_view first.now) (map cond_view rest.now)) from s) }
+{
+    let one = split(alloc, base, first, from)?;
+    let Some((next, later)) = rest.split_first() else {
+        return Ok(one);
+    };
+    let Sides { on, off } = one;
+    let others = split_all(alloc, base, next, later, on)?;
+    let Sides {
+        on: last,
+        off: more,
+    } = others;
+    let joined = join_kept(off, more)?;
+    Ok(Sides {
+        on: last,
+        off: joined,
+    })
+}
+
+/// Both sides of a chain of `||`.
+#[cycle(split)]
+fn split_any<D: Domain>(
+    alloc: Global,
+    base: usize,
+    first: &Cond,
+    rest: &[Cond],
+    from: Kept<D>,
+) -> Result<Sides<D>, AllocError>
+    requires { D.meaning.dims from.value < 2 ^ 62 }
+    ensures { IfOk result (λ s. Splits D.meaning base (either_of true (cond_view first.now) (map cond_view rest.now)) (in_turn_of false (cond_view first.now) (map cond_view rest.now)) from s) }
+{
+    let one = split(alloc, base, first, from)?;
+    let Some((next, later)) = rest.split_first() else {
+        return Ok(one);
+    };
+    let Sides { on, off } = one;
+    let others = split_any(alloc, base, next, later, off)?;
+    let Sides {
+        on: more,
+        off: last,
+    } = others;
+    let joined = join_kept(on, more)?;
+    Ok(Sides {
+        on: joined,
+        off: last,
+    })
+}
+
+/// The side where the condition is as wanted comes first, as if that were true.
+pub fn divide<D: Domain>(
+    alloc: Global,
+    base: usize,
+    condition: &Cond,
+    wanted: bool,
+    from: Kept<D>,
+) -> Result<Sides<D>, AllocError>
+    requires { D.meaning.dims from.value < 2 ^ 62 }
+    ensures { IfOk result (λ s. Splits D.meaning base (push wanted (cond_view condition.now)) (push (not wanted) (cond_view condition.now)) from s) }
+{
+    let sides = split(alloc, base, condition, from)?;
+    if wanted {
+        Ok(sides)
+    } else {
+        Ok(Sides {
+            on: sides.off,
+            off: sides.on,
+        })
+    }
+}

@@ -1,0 +1,107 @@
+-- Steps of the proofs on linear forms.
+use Rattle.std.proofs.Common.{rules, ◌≡◌, ◌+◌, ◌<◌, map, drop, drop-cons, get_or, length, ℕ, zero, suc, ℤ, pos, ◌++◌, List, [], ◌∷◌, Option, Some, None, Bool, true, false, refl, sym, ap, subst, ◌∙◌, append_assoc, FitsSigned, arith}
+use Rattle.std.specs.Int.{w64}
+use Rattle.std.proofs.lemmas.Int.{ints}
+use Rattle.std.specs.Prelude.{◌&&◌, if◌then◌else◌, replicate, option_map}
+use Rattle.std.specs.List.{list_all}
+use Rattle.lra_tree.specs.Value.{◌>>=◌, word, is_word}
+use Rattle.lra_lin.specs.Form.{Form}
+use Rattle.lra_tree.specs.Program.{Operator, Expr, binary}
+use Rattle.lra_tree.specs.declared.program.Operation.{Operation}
+use Rattle.lra_tree.specs.ProgramViews.{chained, expr_view, operation_view}
+use Rattle.lra_tree.specs.Views.{operator_view}
+use Rattle.lra_tree.specs.declared.program.Expr.{the_lemmas}
+use Rattle.lra_tree.specs.Linear as linear
+use Rattle.lra_forms.specs.Forms.{as_linear, IsForm, rest_form}
+use Rattle.lra_flow.specs.Changes.{as_form}
+use Rattle.lra_flow.proofs.Keeping.{some_is}
+
+-- of all numbers these are there, and these come; those that are there have 64 bits
+pub record SoFar (all there left : List ℤ) : Type 0 where
+  pub is : all ≡ there ++ left
+  pub words : list_all is_word all ≡ list_all is_word left
+
+word_is : (z x : ℤ) (b : Bool) → is_word z ≡ b → Some x ≡ (if b then Some z else None) → (x ≡ z) × (b ≡ true)
+word_is z x true is e = (some_is x z e, refl)
+word_is z x false is e = cc
+
+-- one more of them
+pub so_far_next : (all there left : List ℤ) (z x : ℤ) → SoFar all there (z ∷ left) → Some x ≡ word z → SoFar all (there ++ x ∷ []) left
+so_far_next all there left z x so_far e =
+    let fits = word_is z x (is_word z) refl e in
+    record {
+      is = so_far.is ∙ ap (λ (y : ℤ). there ++ y ∷ left) (sym fits.0) ∙ sym (append_assoc there (x ∷ []) left);
+      words = so_far.words ∙ ap (λ (b : Bool). b && list_all is_word left) fits.1;
+    }
+
+zeros_words : (n : ℕ) → list_all is_word (replicate n (pos 0)) ≡ true
+zeros_words zero = refl
+zeros_words (suc n) = zeros_words n
+
+word_fits : (z : ℤ) → FitsSigned w64 z → is_word z ≡ true
+word_fits z h = grind (arith, ints)
+
+form_if : (b : Bool) (g : linear.Form) (f : Form) → b ≡ true → g ≡ as_linear f → IsForm (if b then Some g else None) (Some f)
+form_if true g f e same = ap (λ (x : linear.Form). Some (as_form x)) (sym same)
+form_if false g f e same = absurd (let no : false ≡ true = e in cc)
+
+-- a literal of 64 bits
+pub literal_form : (live n : ℕ) (k : ℤ) (f : Form) → k ≡ pos n → FitsSigned w64 k → as_linear f ≡ linear.constant_form live k → IsForm (linear.fitting (linear.constant_form live (pos n))) (Some f)
+literal_form live n k f same fits is =
+    let word_n : is_word (pos n) ≡ true = subst (λ (z : ℤ). is_word z ≡ true) same (word_fits k fits) in
+    let all : (is_word (pos n) && list_all is_word (replicate live (pos 0))) ≡ true = rw (word_n, zeros_words live) refl in
+    form_if (is_word (pos n) && list_all is_word (replicate live (pos 0))) (linear.constant_form live (pos n)) f all (subst (λ (z : ℤ). linear.constant_form live z ≡ as_linear f) same (sym is))
+
+-- a chain goes on from what is there
+pub chain_form : (live base : ℕ) (e : Expr) (os : List (Operator × Expr)) → linear.form_of live base (chained e os) ≡ rest_form live base (linear.form_of live base e) os
+chain_form live base e [] = refl
+chain_form live base e (o ∷ os) = chain_form live base (binary o.0 e o.1) os
+
+pub chain_none : (live base : ℕ) (os : List (Operator × Expr)) → rest_form live base None os ≡ None
+chain_none live base [] = refl
+chain_none live base (o ∷ os) = chain_none live base os
+
+pub none_only : (o : Option linear.Form) → IsForm o None → o ≡ None
+none_only None h = refl
+none_only (Some f) h = cc
+
+pub some_only : (o : Option linear.Form) (f : Form) → IsForm o (Some f) → o ≡ Some (as_linear f)
+some_only None f h = cc
+some_only (Some g) f h = let same : f ≡ as_form g = some_is f (as_form g) h in ap (λ (x : Form). Some (as_linear x)) (sym same)
+
+pub operation_is : (o : Operation) → operation_view o ≡ (operator_view o.operator, expr_view o.operand)
+operation_is o = search (rules, the_lemmas)
+
+-- the chain as far as operation i, with the form f
+module _ (live base : ℕ) (first : Option linear.Form) (f : linear.Form) (os : List Operation) (i : ℕ) (o : Operation) where
+  abbrev pub ChainAt : linear.Form → ℕ → Type 0
+  ChainAt g n = rest_form live base (Some g) (map operation_view (drop n os)) ≡ rest_form live base first (map operation_view os)
+
+  behind_is : i < length os → o ≡ get_or os i o → ChainAt f i
+      → rest_form live base (linear.form_of live base (expr_view o.operand) >>= λ y. linear.operator_form (operator_view o.operator) f y) (map operation_view (drop (i + 1) os)) ≡ rest_form live base first (map operation_view os)
+  behind_is below is so_far =
+      let split : drop i os ≡ o ∷ drop (i + 1) os = drop-cons os i o below ∙ ap (λ (x : Operation). x ∷ drop (suc i) os) (sym is) ∙ ap (λ (n : ℕ). o ∷ drop n os) (let one : suc i ≡ i + 1 = omega arith in one) in
+      let here = subst (λ (xs : List Operation). rest_form live base (Some f) (map operation_view xs) ≡ rest_form live base first (map operation_view os)) split so_far in
+      subst (λ (p : Operator × Expr). rest_form live base (linear.form_of live base p.1 >>= λ y. linear.operator_form p.0 f y) (map operation_view (drop (i + 1) os)) ≡ rest_form live base first (map operation_view os))
+      (operation_is o) here
+
+  -- an operand without a form
+  pub chain_stops : i < length os → o ≡ get_or os i o → ChainAt f i → IsForm (linear.form_of live base (expr_view o.operand)) None → IsForm (rest_form live base first (map operation_view os)) None
+  chain_stops below is so_far none =
+      let whole = behind_is below is so_far in
+      let it = rw (none_only (linear.form_of live base (expr_view o.operand)) none) at whole in
+      ap (option_map as_form) (sym (chain_none live base (map operation_view (drop (i + 1) os))) ∙ it)
+
+  -- an operand with which the operator makes no form
+  pub chain_fails : (y : Form) → i < length os → o ≡ get_or os i o → ChainAt f i → IsForm (linear.form_of live base (expr_view o.operand)) (Some y)
+      → IsForm (linear.operator_form (operator_view o.operator) f (as_linear y)) None → IsForm (rest_form live base first (map operation_view os)) None
+  chain_fails y below is so_far some none =
+      let whole = behind_is below is so_far in
+      let it = rw (some_only (linear.form_of live base (expr_view o.operand)) y some, none_only (linear.operator_form (operator_view o.operator) f (as_linear y)) none) at whole in
+      ap (option_map as_form) (sym (chain_none live base (map operation_view (drop (i + 1) os))) ∙ it)
+
+  pub chain_next : (y z : Form) → i < length os → o ≡ get_or os i o → ChainAt f i → IsForm (linear.form_of live base (expr_view o.operand)) (Some y)
+      → IsForm (linear.operator_form (operator_view o.operator) f (as_linear y)) (Some z) → ChainAt (as_linear z) (i + 1)
+  chain_next y z below is so_far some also =
+      let whole = behind_is below is so_far in
+      rw (some_only (linear.form_of live base (expr_view o.operand)) y some, some_only (linear.operator_form (operator_view o.operator) f (as_linear y)) z also) at whole

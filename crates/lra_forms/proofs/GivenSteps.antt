@@ -1,0 +1,78 @@
+-- Steps of the proofs on given rows.
+use Rattle.std.proofs.Common.{◌≡◌, ℕ, suc, ℤ, pos, negsuc, ◌*ℤ◌, List, [], ◌∷◌, ◌++◌, Option, Some, None, Bool, true, false, length, map, refl, sym, ap, ◌∙◌, append_assoc, append-nil}
+use Rattle.std.specs.Prelude.{◌-ℤ◌}
+use Rattle.std.proofs.lemmas.List.{map-append, length-map}
+use Rattle.lra_tree.specs.Report.{equality, inequality}
+use Rattle.lra_flow.proofs.FormLemmas.{fitting_same}
+use Rattle.lra_flow.proofs.Keeping.{some_is}
+use Rattle.lra_lin.specs.Form.{Form}
+use Rattle.lra_lin.specs.declared.test.Test.{Test}
+use Rattle.lra_sys.specs.Listed.{Listed}
+use Rattle.lra_sys.specs.declared.system.ConKind.{ConKind}
+use Rattle.lra_sys.specs.declared.system.ConKind.TheVariants.{Ge}
+use Rattle.lra_tree.specs.declared.trees.Comparison as declared
+use Rattle.lra_tree.specs.declared.trees.Comparison.TheVariants.{Below, AtMost, Above, AtLeast, Equal, Differs}
+use Rattle.lra_tree.specs.Views.{comparison_view}
+use Rattle.lra_tree.specs.ProgramViews.{all_of, any_of}
+use Rattle.lra_tree.specs.Program.{Cond}
+use Rattle.lra_tree.specs.Linear as linear
+use Rattle.lra_tree.specs.Linear.{fitting, at_least_zero, difference_form, comparison_test}
+use Rattle.lra_tree.specs.Condition.{push}
+use Rattle.lra_flow.specs.Given.{row_of, test_rows, atom_rows, pushed_rows}
+use Rattle.lra_forms.specs.Forms.{as_linear}
+use Rattle.lra_forms.specs.Conditions.{as_test, IsTest, in_turn_of, either_of}
+use Rattle.lra_forms.specs.Given.{HasMore}
+use Rattle.lra_forms.proofs.CondSteps.{all_true, any_false, all_false, any_true}
+
+-- more and more
+pub more_none : (s : Listed ConKind) → HasMore s s []
+more_none s = record { dims = refl; are = sym (append-nil s.rows); kinds = sym (append-nil s.kinds) }
+
+pub more_both : (s t u : Listed ConKind) (xs ys : List (List ℤ)) → HasMore s t xs → HasMore t u ys → HasMore s u (xs ++ ys)
+more_both s t u xs ys h k = record {
+  dims = k.dims ∙ h.dims;
+  are = k.are ∙ ap (λ (rs : List (List ℤ)). rs ++ ys) h.are ∙ append_assoc s.rows xs ys;
+  kinds = k.kinds ∙ ap (λ (ks : List ConKind). ks ++ map (λ (r : List ℤ). Ge) ys) h.kinds ∙ append_assoc s.kinds (map (λ (r : List ℤ). Ge) xs) (map (λ (r : List ℤ). Ge) ys) ∙
+      ap (λ (ks : List ConKind). s.kinds ++ ks) (sym (map-append (λ (r : List ℤ). Ge) xs ys));
+}
+
+-- the rows of a chain don't tell `&&` from `||`
+either_rows : (live base : ℕ) (wanted : Bool) (c : Cond) (cs : List Cond) → pushed_rows live base (either_of wanted c cs) ≡ pushed_rows live base (in_turn_of wanted c cs)
+either_rows live base wanted c [] = refl
+either_rows live base wanted c (d ∷ ds) = ap (λ (rs : List (List ℤ)). pushed_rows live base (push wanted c) ++ rs) (either_rows live base wanted d ds)
+
+pub all_rows : (live base : ℕ) (wanted : Bool) (c : Cond) (cs : List Cond) → pushed_rows live base (push wanted (all_of c cs)) ≡ pushed_rows live base (in_turn_of wanted c cs)
+all_rows live base true c cs = ap (pushed_rows live base) (all_true c cs)
+all_rows live base false c cs = ap (pushed_rows live base) (all_false c cs) ∙ either_rows live base false c cs
+
+pub any_rows : (live base : ℕ) (wanted : Bool) (c : Cond) (cs : List Cond) → pushed_rows live base (push wanted (any_of c cs)) ≡ pushed_rows live base (in_turn_of wanted c cs)
+any_rows live base true c cs = ap (pushed_rows live base) (any_true c cs) ∙ either_rows live base true c cs
+any_rows live base false c cs = ap (pushed_rows live base) (any_false c cs)
+
+-- a test has as many coefficients as the difference
+from_form_wide : (o : Option linear.Form) (n : ℕ) → ((f : linear.Form) → o ≡ Some f → length f.coefficients ≡ n) → (t : Test) → IsTest (at_least_zero o) (Some t) → length t.expr.coefficients ≡ n
+from_form_wide None n wide t h = cc
+from_form_wide (Some f) n wide t h = ap (λ (x : Test). length x.expr.coefficients) (some_is t (as_test (record { kind = inequality; form = f })) h) ∙ wide f refl
+
+same_wide : (f g : linear.Form) (n : ℕ) → fitting f ≡ Some g → length f.coefficients ≡ n → length g.coefficients ≡ n
+same_wide f g n e h = sym (ap (λ (x : linear.Form). length x.coefficients) (fitting_same f g e)) ∙ h
+
+pub test_wide : (op : declared.Comparison) (d : Form) (t : Test) → IsTest (comparison_test (comparison_view op) (as_linear d)) (Some t) → length t.expr.coefficients ≡ length d.coefficients
+test_wide Below d t h = from_form_wide _ _ (λ f e. same_wide (record { constant = (pos 0 -ℤ d.constant) -ℤ pos 1; coefficients = map (λ c. pos 0 -ℤ c) d.coefficients }) f _ e (length-map d.coefficients (λ c. pos 0 -ℤ c))) t h
+test_wide AtMost d t h = from_form_wide _ _ (λ f e. same_wide (record { constant = negsuc 0 *ℤ d.constant; coefficients = map (λ c. negsuc 0 *ℤ c) d.coefficients }) f _ e (length-map d.coefficients (λ c. negsuc 0 *ℤ c))) t h
+test_wide Above d t h = from_form_wide _ _ (λ f e. same_wide (record { constant = d.constant -ℤ pos 1; coefficients = d.coefficients }) f _ e refl) t h
+test_wide AtLeast d t h = ap (λ (x : Test). length x.expr.coefficients) (some_is t (as_test (record { kind = inequality; form = as_linear d })) h)
+test_wide Equal d t h = ap (λ (x : Test). length x.expr.coefficients) (some_is t (as_test (record { kind = equality; form = as_linear d })) h)
+test_wide Differs d t h = cc
+
+pub row_width : (f : Form) (more : ℤ) → length (row_of (as_linear f) more) ≡ suc (length f.coefficients)
+row_width f more = refl
+
+-- the rows of other comparisons than `==` and `!=`
+pub rows_by_test : (op : declared.Comparison) (d : linear.Form) → (op ≡ Equal → ⊥) → (op ≡ Differs → ⊥) → atom_rows (comparison_view op) (Some d) ≡ test_rows (comparison_test (comparison_view op) d)
+rows_by_test Below d n m = refl
+rows_by_test AtMost d n m = refl
+rows_by_test Above d n m = refl
+rows_by_test AtLeast d n m = refl
+rows_by_test Equal d n m = absurd (n refl)
+rows_by_test Differs d n m = absurd (m refl)

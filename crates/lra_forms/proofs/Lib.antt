@@ -1,0 +1,4 @@
+pub mod FormSteps
+pub mod CondSizes
+pub mod CondSteps
+mod GivenSteps

@@ -1,0 +1,26 @@
+use Rattle.lra_tree.specs.ProgramViews.{expr_view}
+use Rattle.lra_tree.specs.Linear.{difference_form}
+use Rattle.lra_forms.specs.Forms.{as_linear}
+use Rattle.lra_forms.proofs.CondSteps.{difference_wide, difference_there}
+use Rattle.lra_forms.proofs.FormSteps.{some_only}
+use Rattle.lra_forms.proofs.GivenSteps.{rows_by_test}
+use Rattle.lra_forms.proofs.given.give_comparison.Goals as goal
+
+pub give_difference-requires : goal.give_difference-requires
+give_difference-requires c =
+    let n = c.args.rows.now.dims in
+    let is = difference_there c.dims.result n c.args.base (expr_view c.args.left.now) (expr_view c.args.right.now) c.in_ok-d.field-0 c.in-Some.d c.dims.ensures c.in-Some.is c.in_ok-d.ensures in
+    difference_wide n c.args.base (expr_view c.args.left.now) (expr_view c.args.right.now) c.in-Some.d is
+
+pub give_test-requires : goal.give_test-requires
+give_test-requires c =
+    let n = c.args.rows.now.dims in
+    let is = difference_there c.dims.result n c.args.base (expr_view c.args.left.now) (expr_view c.args.right.now) c.in_ok-d.field-0 c.in-Some.d c.dims.ensures c.in-Some.is c.in_ok-d.ensures in
+    let width = difference_wide n c.args.base (expr_view c.args.left.now) (expr_view c.args.right.now) c.in-Some.d is in
+    record { few = rw width c.requires; width = width }
+
+pub returns : goal.returns
+returns c =
+    let n = c.args.rows.now.dims in
+    let is = difference_there c.dims.result n c.args.base (expr_view c.args.left.now) (expr_view c.args.right.now) c.in_ok-d.field-0 c.in-Some.d c.dims.ensures c.in-Some.is c.in_ok-d.ensures in
+    rw (some_only (difference_form n c.args.base (expr_view c.args.left.now) (expr_view c.args.right.now)) c.in-Some.d is, rows_by_test c.args.op (as_linear c.in-Some.d) c.in_default-op.not-Equal c.in_default-op.not-Differs) c.in_ok-give_test-in_default-op.ensures

@@ -1,0 +1,112 @@
+//! The test of a comparison, and the comparison that is true where it is false.
+
+ghost use Rattle.std.specs.Prelude.{◌≡◌, ◌<◌, ◌^◌, length, IfOk, option_map};
+ghost use Rattle.lra_tree.specs.Views.{comparison_view};
+ghost use Rattle.lra_tree.specs.ProgramViews.{expr_view};
+ghost use Rattle.lra_tree.specs.Linear.{difference_form, comparison_test, less_one, opposite_less_one, at_least_zero};
+ghost use Rattle.lra_tree.specs.Condition.{opposite_comparison};
+ghost use Rattle.lra_forms.specs.Forms.{as_linear, IsForm};
+ghost use Rattle.lra_forms.specs.Conditions.{IsTest};
+
+use crate::forms::{constant_of, form_of_expression, multiple_of, sum_of_forms};
+use lra_lin::{LinExpr, Test, TestKind};
+use lra_tree::Comparison;
+use lra_tree::program::Expr;
+use std::alloc::{AllocError, Global};
+
+/// The form minus one, where all its numbers have 64 bits.
+fn less_one_of(alloc: Global, d: &LinExpr) -> Result<Option<LinExpr>, AllocError>
+    requires { length d.now.coefficients < 2 ^ 62 }
+    ensures { IfOk result (λ o. IsForm (less_one (as_linear d.now)) o) }
+{
+    let one = constant_of(alloc, d.coefficients().len(), &1)?;
+    let form = sum_of_forms(alloc, true, d, &one)?;
+    Ok(form)
+}
+
+/// Minus the form, minus one, where all its numbers have 64 bits.
+fn opposite_less_one_of(alloc: Global, d: &LinExpr) -> Result<Option<LinExpr>, AllocError>
+    requires { length d.now.coefficients < 2 ^ 62 }
+    ensures { IfOk result (λ o. IsForm (opposite_less_one (as_linear d.now)) o) }
+{
+    let minus_one = constant_of(alloc, d.coefficients().len(), &-1)?;
+    let form = sum_of_forms(alloc, true, &minus_one, d)?;
+    Ok(form)
+}
+
+fn at_least_zero_of(form: Option<LinExpr>) -> Option<Test>
+    ensures { IsTest (at_least_zero (option_map as_linear form)) result }
+{
+    match form {
+        None => None,
+        Some(expr) => Some(Test {
+            expr,
+            kind: TestKind::Ge,
+        }),
+    }
+}
+
+/// The test of a comparison whose left side minus its right one is `d`; none of `!=`, nor where a number passes 64 bits.
+pub fn test_of(alloc: Global, op: Comparison, d: &LinExpr) -> Result<Option<Test>, AllocError>
+    requires { length d.now.coefficients < 2 ^ 62 }
+    ensures { IfOk result (λ o. IsTest (comparison_test (comparison_view op) (as_linear d.now)) o) }
+{
+    match op {
+        Comparison::Below => {
+            let form = opposite_less_one_of(alloc, d)?;
+            Ok(at_least_zero_of(form))
+        }
+        Comparison::AtMost => {
+            let form = multiple_of(alloc, -1, d)?;
+            Ok(at_least_zero_of(form))
+        }
+        Comparison::Above => {
+            let form = less_one_of(alloc, d)?;
+            Ok(at_least_zero_of(form))
+        }
+        Comparison::AtLeast => Ok(Some(Test {
+            expr: d.copy(alloc)?,
+            kind: TestKind::Ge,
+        })),
+        Comparison::Equal => Ok(Some(Test {
+            expr: d.copy(alloc)?,
+            kind: TestKind::Eq,
+        })),
+        Comparison::Differs => Ok(None),
+    }
+}
+
+/// The form of the left side minus the right one.
+pub fn difference_of(
+    alloc: Global,
+    live: usize,
+    base: usize,
+    left: &Expr,
+    right: &Expr,
+) -> Result<Option<LinExpr>, AllocError>
+    requires { live < 2 ^ 62 }
+    ensures { IfOk result (λ o. IsForm (difference_form live base (expr_view left.now) (expr_view right.now)) o) }
+{
+    let Some(one) = form_of_expression(alloc, live, base, left)? else {
+        return Ok(None);
+    };
+    let Some(other) = form_of_expression(alloc, live, base, right)? else {
+        return Ok(None);
+    };
+    let form = sum_of_forms(alloc, true, &one, &other)?;
+    Ok(form)
+}
+
+/// The comparison that is true where this one is false.
+pub fn opposite_of(op: Comparison) -> Comparison
+    ensures { comparison_view result ≡ opposite_comparison (comparison_view op) }
+{
+    match op {
+        Comparison::Below => Comparison::AtLeast,
+        Comparison::AtMost => Comparison::Above,
+        Comparison::Above => Comparison::AtMost,
+        Comparison::AtLeast => Comparison::Below,
+        Comparison::Equal => Comparison::Differs,
+        Comparison::Differs => Comparison::Equal,
+    }
+}

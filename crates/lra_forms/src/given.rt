@@ -1,0 +1,195 @@
+//! The rows that a loop's condition gives to its head.
+
+ghost use Rattle.std.specs.Prelude.{◌≡◌, ◌<◌, ◌^◌, ℤ, pos, ◌+ℤ◌, ◌≤ℤ◌, neg_ℤ, ◌∷◌, ◌++◌, [], suc, map, length, IfOk, OnOk, Some, option_map, if◌then◌else◌};
+ghost use Rattle.std.specs.List.{All};
+ghost use Rattle.lra_linear.specs.Range.{InRange};
+ghost use Rattle.lra_tree.specs.Views.{comparison_view};
+ghost use Rattle.lra_tree.specs.ProgramViews.{expr_view, cond_view};
+ghost use Rattle.lra_tree.specs.Linear.{difference_form, comparison_test};
+ghost use Rattle.lra_tree.specs.Condition.{push};
+ghost use Rattle.lra_flow.specs.Given.{row_of, opposite_row, test_rows, atom_rows, pushed_rows, given_rows};
+ghost use Rattle.lra_forms.specs.Forms.{as_linear};
+ghost use Rattle.lra_forms.specs.Conditions.{in_turn_of};
+ghost use Rattle.lra_forms.specs.Given.{HasMore};
+
+use crate::comparisons::{difference_of, opposite_of, test_of};
+use lra_lin::LinExpr;
+use lra_row::Row;
+use lra_sys::{ConKind, ConSys};
+use lra_tree::Comparison;
+use lra_tree::program::{Cond, Expr};
+use std::alloc::{AllocError, Global};
+
+/// The row `form + more >= 0`, where `more` is 0 or 1.
+fn row_of_form(alloc: Global, form: &LinExpr, more: bool) -> Result<Row, AllocError>
+    ensures { IfOk result (λ r. r ≡ row_of (as_linear form.now) (if more then pos 1 else pos 0)) }
+{
+    let mut numbers = Vec::new(alloc);
+    numbers.push(form.constant() as i128 + more as i128)?;
+    let mut left = form.coefficients();
+    while let Some((coefficient, behind)) = left.split_first() {
+        numbers.push(*coefficient as i128)?;
+        left = behind;
+    }
+    let row = Row::from_slice(alloc, numbers.as_slice())?;
+    Ok(row)
+}
+
+/// The number times -1 comes last.
+fn push_negated(numbers: &mut Vec<i128>, number: &i64) -> Result<(), AllocError>
+    ensures items { OnOk result (numbers.new.items ≡ numbers.old.items ++ neg_ℤ number.now ∷ []) }
+    ensures range { InRange (neg_ℤ number.now) }
+{
+    numbers.push(-(*number as i128))?;
+    Ok(())
+}
+
+/// The row `-form >= 0`.
+fn opposite_row_of(alloc: Global, form: &LinExpr) -> Result<Row, AllocError>
+    ensures { IfOk result (λ r. r ≡ opposite_row (as_linear form.now)) }
+{
+    let mut numbers = Vec::new(alloc);
+    push_negated(&mut numbers, &form.constant())?;
+    let mut left = form.coefficients();
+    while let Some((coefficient, behind)) = left.split_first() {
+        push_negated(&mut numbers, coefficient)?;
+        left = behind;
+    }
+    let row = Row::from_slice(alloc, numbers.as_slice())?;
+    Ok(row)
+}
+
+/// The rows of a test `e >= 0`: e >= 0 and e + 1 >= 0.
+fn give_test(
+    alloc: Global,
+    op: Comparison,
+    d: &LinExpr,
+    rows: &mut ConSys,
+) -> Result<(), AllocError>
+    requires few { length d.now.coefficients < 2 ^ 62 }
+    requires width { length d.now.coefficients ≡ rows.old.dims }
+    ensures { OnOk result (HasMore rows.old rows.new (test_rows (comparison_test (comparison_view op) (as_linear d.now)))) }
+{
+    let Some(test) = test_of(alloc, op, d)? else {
+        return Ok(());
+    };
+    rows.push(row_of_form(alloc, &test.expr, false)?, ConKind::Ge)?;
+    rows.push(row_of_form(alloc, &test.expr, true)?, ConKind::Ge)?;
+    Ok(())
+}
+
+/// The rows of `==` and `!=`: d >= 0 and -d >= 0.
+fn give_difference(alloc: Global, d: &LinExpr, rows: &mut ConSys) -> Result<(), AllocError>
+    requires { length d.now.coefficients ≡ rows.old.dims }
+    ensures { OnOk result (HasMore rows.old rows.new (row_of (as_linear d.now) (pos 0) ∷ opposite_row (as_linear d.now) ∷ [])) }
+{
+    rows.push(row_of_form(alloc, d, false)?, ConKind::Ge)?;
+    rows.push(opposite_row_of(alloc, d)?, ConKind::Ge)?;
+    Ok(())
+}
+
+/// The rows of a comparison; none where its difference isn't linear.
+fn give_comparison(
+    alloc: Global,
+    base: usize,
+    op: Comparison,
+    left: &Expr,
+    right: &Expr,
+    rows: &mut ConSys,
+) -> Result<(), AllocError>
+    requires { rows.old.dims < 2 ^ 62 }
+    ensures { OnOk result (HasMore rows.old rows.new (atom_rows (comparison_view op) (difference_form rows.old.dims base (expr_view left.now) (expr_view right.now)))) }
+{
+    let Some(d) = difference_of(alloc, rows.dims(), base, left, right)? else {
+        return Ok(());
+    };
+    match op {
+        Comparison::Equal | Comparison::Differs => {
+            give_difference(alloc, &d, rows)?;
+            Ok(())
+        }
+        _ => {
+            give_test(alloc, op, &d, rows)?;
+            Ok(())
+        }
+    }
+}
+
+/// The rows of a condition, wanted true or false: those of its comparisons in text order.
+#[cycle(give)]
+fn give(
+    alloc: Global,
+    base: usize,
+    condition: &Cond,
+    wanted: bool,
+    rows: &mut ConSys,
+) -> Result<(), AllocError>
+    requires { rows.old.dims < 2 ^ 62 }
+    ensures { OnOk result (HasMore rows.old rows.new (pushed_rows rows.old.dims base (push wanted (cond_view condition.now)))) }
+{
+    match condition {
+        Cond::Compare(op, left, right) => {
+            let op = if wanted { *op } else { opposite_of(*op) };
+            give_comparison(alloc, base, op, left, right, rows)?;
+            Ok(())
+        }
+        Cond::Nonzero(e) => {
+            let op = if wanted {
+                Comparison::Differs
+            } else {
+                Comparison::Equal
+            };
+            let zero = Expr::Literal(0);
+            give_comparison(alloc, base, op, e, &zero, rows)?;
+            Ok(())
+        }
+        Cond::Opposite(inner) => {
+            give(alloc, base, inner, !wanted, rows)?;
+            Ok(())
+        }
+        Cond::All(first, rest) => {
+            give_chain(alloc, base, first, rest.as_slice(), wanted, rows)?;
+            Ok(())
+        }
+        Cond::Any(first, rest) => {
+            give_chain(alloc, base, first, rest.as_slice(), wanted, rows)?;
+            Ok(())
+        }
+    }
+}
+
+/// The rows of a chain of conditions.
+#[cycle(give)]
+fn give_chain(
+    alloc: Global,
+    base: usize,
+    first: &Cond,
+    rest: &[Cond],
+    wanted: bool,
+    rows: &mut ConSys,
+) -> Result<(), AllocError>
+    requires { rows.old.dims < 2 ^ 62 }
+    ensures { OnOk result (HasMore rows.old rows.new (pushed_rows rows.old.dims base (in_turn_of wanted (cond_view first.now) (map cond_view rest.now)))) }
+{
+    give(alloc, base, first, wanted, rows)?;
+    let Some((next, later)) = rest.split_first() else {
+        return Ok(());
+    };
+    give_chain(alloc, base, next, later, wanted, rows)?;
+    Ok(())
+}
+
+/// The rows that the condition of a loop gives to its head, over so many live variables.
+pub fn given_of(
+    alloc: Global,
+    live: usize,
+    base: usize,
+    condition: &Cond,
+) -> Result<ConSys, AllocError>
+    requires { live < 2 ^ 62 }
+    ensures { IfOk result (λ s. s ≡ given_rows live base (cond_view condition.now)) }
+{
+    let mut rows = ConSys::new(alloc, live);
+    give(alloc, base, condition, true, &mut rows)?;
+    Ok(rows)
+}

@@ -1,8 +1,0 @@
-use Rattle.lra_iter.proofs.CondSizes.{cond_size, chain_size}
-use Rattle.lra_iter.proofs.given.+give.Given as goal
-
-abbrev pub decreases-give : goal.decreases-give
-decreases-give l = cond_size l.condition.now
-
-abbrev pub decreases-give_chain : goal.decreases-give_chain
-decreases-give_chain l = chain_size l.first.now l.rest.now
