@@ -16,22 +16,12 @@ use std::collections::BTreeMap;
 use std::fmt::Write;
 
 /// A script behind its `dims`: what each name stands for, what was printed, and the first line that was flagged.
+#[derive(Drop)]
 pub struct Session {
     pub dims: usize,
     pub made: BTreeMap<String, ConSys>,
     pub printed: String,
     pub flagged: Option<usize>,
-}
-
-impl Drop for Session {
-    fn drop(self) {
-        let Session {
-            dims: _,
-            made: _,
-            printed: _,
-            flagged: _,
-        } = self;
-    }
 }
 
 /// How many numbers the first row has that has not as many as are needed.
