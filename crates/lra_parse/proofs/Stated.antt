@@ -102,6 +102,9 @@ else_gives b at c t u T U R e f g =
     let g' : b (tail T) ≡ Ok (u, R) = subst (λ (W : Text). b W ≡ Ok (u, R)) same g in
     rw (sym e) (rw g' refl)
 
+pub close_gives : (is : ItemsTree) (T R : Text) (end : Place) → expect_at mark.CloseBrace T ≡ Ok (end, R) → map_read {B = ItemsTree × Place} (λ (e : Place). (is, e)) (expect_at mark.CloseBrace) T ≡ Ok ((is, end), R)
+close_gives is T R end g = rw g refl
+
 -- the loop of a block ----------------------------------------------------------------------------------------------
 
 put_last : (is : List ItemTree) (i : ItemTree) (t : ItemsTree) → put_list (is ++ i ∷ []) t ≡ put_list is (put i t)
@@ -180,14 +183,9 @@ module _ (declares : Bool) (d : ℕ) where
   body_exit items S M T stopped.Memory o l on g = tt
   body_exit items S M T (stopped.Fault f) o l on g = rw (o, state_err items T f (items_at declares d M) l on (nonempty T on) g) refl
 
-  -- the exit at the end
-  pub end_exit : (items : List BlockItem) (S M T : Text) (e : Stopped) → expect mark.OpenBrace (tt {0}) S ≡ Ok (tt {0}, M) → State items T (items_at declares d M) → false ≡ begins_item declares (first T)
-      → GivesErr e (expect_at mark.CloseBrace T) → GivesErr e (body_of (items_at declares d) S)
-  end_exit items S M T stopped.Memory o l off g = tt
-  end_exit items S M T (stopped.Fault f) o l off g = let s = state_end items T (items_at declares d M) l off in rw (o, s.2, g) refl
-
-  pub body_gives : (items : List BlockItem) (S M T R : Text) (end : Place) → expect mark.OpenBrace (tt {0}) S ≡ Ok (tt {0}, M) → State items T (items_at declares d M) → false ≡ begins_item declares (first T)
-      → expect_at mark.CloseBrace T ≡ Ok (end, R) → body_of (items_at declares d) S ≡ Ok ((views.items_of (map item_view items), end), R)
-  body_gives items S M T R end o l off g =
+  -- the end
+  pub body_closes : (items : List BlockItem) (S M T : Text) → expect mark.OpenBrace (tt {0}) S ≡ Ok (tt {0}, M) → State items T (items_at declares d M) → false ≡ begins_item declares (first T)
+      → body_of (items_at declares d) S ≡ map_read (λ (end : Place). (views.items_of (map item_view items), end)) (expect_at mark.CloseBrace) T
+  body_closes items S M T o l off =
       let s = state_end items T (items_at declares d M) l off in
-      rw (o, s.2, g) (ap (λ (i : ItemsTree). Ok ((i, end), R)) (sym (same_items (map item_view items) s.0 s.1)))
+      rw (o, s.2) (ap (λ (i : ItemsTree). map_read (λ (end : Place). (i, end)) (expect_at mark.CloseBrace) T) (sym (same_items (map item_view items) s.0 s.1)))

@@ -1,5 +1,5 @@
 -- A turn of a loop, as the code takes it.
-use Rattle.std.proofs.Common.{◌≡◌, ℕ, zero, suc, ◌≤◌, ◌<◌, Bool, true, false, List, [], ◌∷◌, ◌++◌, length, map, Option, Some, None, Ok, Err, refl, sym, ap, subst, ◌∙◌, arith, inl, inr}
+use Rattle.std.proofs.Common.{◌≡◌, ℕ, zero, suc, ◌≤◌, ◌<◌, Bool, true, false, List, [], ◌∷◌, ◌++◌, length, map, Option, Some, None, Result, Ok, Err, IfOk, Bor, refl, sym, ap, subst, ◌∙◌, arith, inl, inr}
 use Rattle.std.proofs.lemmas.List.{map_push}
 use Rattle.lra_tree.specs.declared.refusals.Cause.TheVariants.{Syntax}
 use Rattle.lra_tree.specs.declared.tokens.Mark.{Mark}
@@ -34,12 +34,19 @@ module _ {A : Type 0} (more : Option Token → Bool) (step : A → Parse A) wher
   turn_off a T result (zero, le, e) off = sym e
   turn_off a T result (suc n, le, e) off = sym e ∙ rw off refl
 
+-- a result that is handed on
+pub ok_shorter : {X : Type 0} (result : Result (X × Bor Text) Stopped) (T S : Text) → length T < length S
+    → IfOk result (λ r. length r.1.now < length T) → IfOk result (λ r. length r.1.now < length S)
+ok_shorter (Ok x) T S less h = omega (arith, h)
+ok_shorter (Err e) T S less h = tt
+
 -- before the first turn
-pub turns_start : {A Y : Type 0} (more : Option Token → Bool) (step : A → Parse A) (all : List Y → A) (ys : List Y) (a : A) (T : Text) → ys ≡ [] → all [] ≡ a → Left more step (all ys) T (turns more step a T)
+pub turns_start : {A Y : Type 0} (more : Option Token → Bool) (step : A → Parse A) (all : List Y → A) (ys : List Y) (a : A) (T : Text)
+    → ys ≡ [] → all [] ≡ a → Left more step (all ys) T (turns more step a T)
 turns_start {A} more step all ys a T e f = (length T, omega arith, ap (λ (b : A). loop more step (length T) b T) (ap all e ∙ f))
 
-pub chain_start : {I A O Y : Type 0} (op : Option Token → Option O) (start : I → A) (grow : A → O → I → A) (p : Parse I) (all : List Y → A) (ys : List Y) (i : I) (T M : Text) → p T ≡ Ok (i, M) → ys ≡ [] → all [] ≡ start i
-    → Left (λ o. has (op o)) (chain_step op grow p) (all ys) M (chain op start grow p T)
+pub chain_start : {I A O Y : Type 0} (op : Option Token → Option O) (start : I → A) (grow : A → O → I → A) (p : Parse I) (all : List Y → A) (ys : List Y) (i : I) (T M : Text)
+    → p T ≡ Ok (i, M) → ys ≡ [] → all [] ≡ start i → Left (λ o. has (op o)) (chain_step op grow p) (all ys) M (chain op start grow p T)
 chain_start {A = A} op start grow p all ys i T M g e f =
     let whole : chain op start grow p T ≡ turns (λ o. has (op o)) (chain_step op grow p) (start i) M = rw g refl in
     subst (λ (r : Read A). Left (λ o. has (op o)) (chain_step op grow p) (all ys) M r) (sym whole) (turns_start (λ o. has (op o)) (chain_step op grow p) all ys (start i) M e f)

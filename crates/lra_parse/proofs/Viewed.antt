@@ -1,5 +1,6 @@
 -- Trees that values of the code stand for.
-use Rattle.std.proofs.Common.{◌≡◌, ℕ, List, [], ◌∷◌, ◌++◌, map, rules, refl, Box, Global}
+use Rattle.std.proofs.Common.{◌≡◌, ℕ, ◌≤◌, List, [], ◌∷◌, ◌++◌, length, map, Result, Ok, Err, IfOk, rules, refl, sym, ap, subst, ◌∙◌, Bor, Box, Global}
+use Rattle.std.specs.Prelude.{MatchResult}
 use Rattle.lra_tree.specs.declared.trees.Unary.{Unary, Literal, Variable, Group, the_lemmas}
 use Rattle.lra_tree.specs.declared.trees.Factor.{Factor}
 use Rattle.lra_tree.specs.declared.trees.Term.{Term}
@@ -18,6 +19,9 @@ use Rattle.lra_tree.specs.declared.trees.Cond.{Cond}
 use Rattle.lra_tree.specs.declared.trees.Negation.TheOpen.{Conjunction-F, Cond-F}
 use Rattle.lra_tree.specs.declared.trees.Negation.TheViews.{roll-Conjunction, roll-Cond}
 use Rattle.lra_tree.specs.declared.trees.Negation.TheFolds.{fold-roll-Conjunction, fold-roll-Cond}
+use Rattle.lra_parse.specs.declared.reading.Stopped.{Stopped}
+use Rattle.lra_parse.specs.declared.reading.Stopped.TheVariants as stopped
+use Rattle.lra_parse.specs.Reading.{Text, Read, Gives, GivesErr}
 use Rattle.lra_tree.specs.Trees as tree
 use Rattle.lra_tree.specs.Views.{unary_view, unary_step, factor_view, factor_step, term_view, term_step, summand_view, summand_step, expr_view, expr_step, product, sum_of, further_factor, further_term, negation_view, negation_step, test_view, test_step, conjunction_view, conjunction_step, cond_view, cond_step, all_tests, any_conjunction}
 
@@ -76,3 +80,14 @@ conjunction_is = fold-roll-Conjunction tree.NegationTree tree.TestTree tree.Cond
 
 pub cond_is : (x : Cond-F Negation Test Cond Conjunction) → cond_view (roll-Cond x) ≡ any_conjunction (tree.conjunction (conjunction_view x.first)) (map conjunction_view x.rest.items)
 cond_is = fold-roll-Cond tree.NegationTree tree.TestTree tree.CondTree tree.ConjunctionTree negation_step test_step cond_step conjunction_step
+
+-- behind `!`, a negation that is handed on
+pub negation_handed : (result : Result (Negation × Bor Text) Stopped) (n : tree.NegationTree) (R : Text) (read : Read tree.NegationTree) → read ≡ Ok (n, R)
+    → MatchResult result (λ r. (negation_view r.0 ≡ n) × (r.1.now ≡ R)) (λ e. e ≡ stopped.Memory) → Gives (λ r. (negation_view r.0, r.1.now)) result read
+negation_handed (Ok x) n R read e m = rw (m.0, m.1) e
+negation_handed (Err s) n R read e m = subst (λ (k : Stopped). GivesErr k read) (sym m) tt
+
+pub negation_shorter : (result : Result (Negation × Bor Text) Stopped) (n : tree.NegationTree) (R T : Text) → length R ≤ length T
+    → MatchResult result (λ r. (negation_view r.0 ≡ n) × (r.1.now ≡ R)) (λ e. e ≡ stopped.Memory) → IfOk result (λ r. length r.1.now ≤ length T)
+negation_shorter (Ok x) n R T le m = subst (λ (S : Text). length S ≤ length T) (sym m.1) le
+negation_shorter (Err s) n R T le m = tt

@@ -1,7 +1,7 @@
 //! Conditions. A function reads where `depth` levels of nesting are left.
 
 ghost use Rattle.std.specs.Prelude.{◌≡◌, ◌≤◌, length, map, IfOk, MatchResult};
-ghost use Rattle.lra_tree.specs.Trees.{test, conjunction};
+ghost use Rattle.lra_tree.specs.Trees.{test, conjunction, opposite_again};
 ghost use Rattle.lra_tree.specs.Views.{all_tests, any_conjunction, expr_view, test_view, negation_view, conjunction_view, cond_view};
 ghost use Rattle.lra_parse.specs.Tests.{first};
 ghost use Rattle.lra_parse.specs.Reading.{Gives};
@@ -101,13 +101,27 @@ fn read_after_group(
     }
 }
 
-/// What `!` stands before, if it is a condition in parentheses.
-fn group_opposed(alloc: Global, cond: Cond) -> Result<Negation, Stopped>
-    ensures { MatchResult result (λ n. negation_view n ≡ negation_of (cond_view cond)) (λ e. e ≡ Stopped.Memory) }
+/// What `!` stands before, if it is another `!`, and the text behind it.
+fn opposed_again(
+    alloc: Global,
+    negation: Negation,
+    rest: &[Token],
+) -> Result<(Negation, &[Token]), Stopped>
+    ensures { MatchResult result (λ r. (negation_view r.0 ≡ opposite_again (negation_view negation)) × (r.1.now ≡ rest.now)) (λ e. e ≡ Stopped.Memory) }
+{
+    Ok((Negation::Again(Box::new(alloc, negation)?), rest))
+}
+
+/// What `!` stands before, if it is a condition in parentheses, and the text behind them.
+fn group_opposed(alloc: Global, cond: Cond, rest: &[Token]) -> Result<(Negation, &[Token]), Stopped>
+    ensures { MatchResult result (λ r. (negation_view r.0 ≡ negation_of (cond_view cond)) × (r.1.now ≡ rest.now)) (λ e. e ≡ Stopped.Memory) }
 {
     match alone(cond) {
-        Ok(expr) => Ok(Negation::Operand(Unary::Group(Box::new(alloc, expr)?))),
-        Err(cond) => Ok(Negation::Strict(Box::new(alloc, cond)?)),
+        Ok(expr) => {
+            let grouped = Unary::Group(Box::new(alloc, expr)?);
+            Ok((Negation::Operand(grouped), rest))
+        }
+        Err(cond) => Ok((Negation::Strict(Box::new(alloc, cond)?), rest)),
     }
 }
 
@@ -157,12 +171,11 @@ fn read_negation(
 {
     if next_is(rest, Mark::Not) {
         let (negation, after) = read_opposed(alloc, rest, depth)?;
-        return Ok((Negation::Again(Box::new(alloc, negation)?), after));
+        return opposed_again(alloc, negation, after);
     }
     if next_is(rest, Mark::OpenParen) {
         let (cond, closed) = read_closed(alloc, rest, depth)?;
-        let grouped = group_opposed(alloc, cond)?;
-        return Ok((grouped, closed));
+        return group_opposed(alloc, cond, closed);
     }
     let (unary, behind) = read_unary(alloc, rest, depth)?;
     Ok((Negation::Operand(unary), behind))

@@ -1,11 +1,11 @@
 //! Statements. A function reads where `depth` levels of nesting are left.
 
-ghost use Rattle.std.specs.Prelude.{◌≡◌, ◌<◌, ◌≤◌, ◌&&◌, length, IfOk};
-ghost use Rattle.lra_tree.specs.Views.{cond_view, stmt_view, item_view, block_view};
+ghost use Rattle.std.specs.Prelude.{◌≡◌, ◌<◌, ◌≤◌, ◌&&◌, length, map, IfOk};
+ghost use Rattle.lra_tree.specs.Views.{cond_view, stmt_view, item_view, items_of, block_view};
 ghost use Rattle.lra_tree.specs.Trees.{assert, assume};
-ghost use Rattle.lra_tree.specs.declared.tokens.Mark.TheVariants.{Long, Assert, Assume};
+ghost use Rattle.lra_tree.specs.declared.tokens.Mark.TheVariants.{Long, Assert, Assume, CloseBrace};
 ghost use Rattle.lra_parse.specs.Tests.{first, is_mark};
-ghost use Rattle.lra_parse.specs.Reading.{Gives, map_read, has};
+ghost use Rattle.lra_parse.specs.Reading.{Gives, expect_at, map_read, has};
 ghost use Rattle.lra_parse.specs.Reading.{next_name};
 ghost use Rattle.lra_parse.specs.Expressions.{in_parens, cond_at};
 ghost use Rattle.lra_parse.specs.Statements.{stmt_mark, begins_stmt, begins_item, read_nothing, read_assigned, read_check, read_if, else_part, simple_at, branch_at, block_at, item_at, items_at, body_of, put};
@@ -131,6 +131,15 @@ fn read_assume(alloc: Global, rest: &[Token], depth: usize) -> Result<(Stmt, &[T
     let (cond, closed) = read_parens(alloc, word, depth)?;
     let after = expect(closed, Mark::Semicolon)?;
     Ok((Stmt::Assume(place, cond), after))
+}
+
+/// The block of these items, whose brace comes next.
+fn read_close(items: Vec<BlockItem>, rest: &[Token]) -> Result<(Block, &[Token]), Stopped>
+    ensures shorter { IfOk result (λ r. length r.1.now < length rest.now) }
+    ensures gives { Gives (λ r. (block_view r.0, r.1.now)) result (map_read (λ end. (items_of (map item_view items.items), end)) (expect_at CloseBrace) rest.now) }
+{
+    let (end, behind) = expect_at(rest, Mark::CloseBrace)?;
+    Ok((Block { items, end }, behind))
 }
 
 /// A branch, whose first token opens a level.
@@ -263,6 +272,5 @@ pub fn read_body(
         items.push(item)?;
         left = after;
     }
-    let (end, behind) = expect_at(left, Mark::CloseBrace)?;
-    Ok((Block { items, end }, behind))
+    read_close(items, left)
 }

@@ -1,15 +1,14 @@
 use Rattle.std.proofs.Common.{List, Ok, refl, sym, ap, ◌∙◌, arith, map}
 use Rattle.std.proofs.lemmas.Result.{err_from_is_err_and}
 use Rattle.lra_tree.specs.declared.tokens.Mark.TheVariants as mark
-use Rattle.lra_tree.specs.declared.trees.Negation.{Negation}
 use Rattle.lra_tree.specs.declared.trees.Test.{Test}
 use Rattle.lra_tree.specs.declared.trees.Conjunction.{Conjunction}
 use Rattle.lra_tree.specs.Trees.{NegationTree, opposite_again, TestTree, test, ConjunctionTree, and, CondTree, conjunction, or}
 use Rattle.lra_tree.specs.Views.{all_tests, any_conjunction, test_view, negation_view, conjunction_view, cond_view, unary_view}
 use Rattle.lra_parse.specs.Tests.{first}
-use Rattle.lra_parse.specs.Expressions.{next_and, next_or, test_at, conjunction_at, cond_at}
+use Rattle.lra_parse.specs.Expressions.{next_and, next_or, test_at, negation_at, negation_of, conjunction_at, cond_at}
 use Rattle.lra_parse.proofs.Turning.{chain_start, grown_turn, list_grown, chain_exit, chain_end}
-use Rattle.lra_parse.proofs.Viewed.{again_is, operand_is, opposite_is, conjunction_is, cond_is, and_push, or_push}
+use Rattle.lra_parse.proofs.Viewed.{operand_is, opposite_is, conjunction_is, cond_is, and_push, or_push, negation_handed, negation_shorter}
 use Rattle.lra_parse.proofs.Unfolded.{one_on, one_off, opposite_gives, again_gives, strict_gives, operand_gives}
 use Rattle.lra_parse.proofs.conditions.+condition.Goals as goal
 
@@ -18,15 +17,23 @@ read_test-returns-then-next_is-clause-gives t c =
     opposite_gives c.args.depth c.args.rest.now c.in_ok-negation.after.now (negation_view c.in_ok-negation.negation) c.if-next_is.ensures c.in_ok-negation.ensures.gives
     ∙ ap (λ (x : TestTree). Ok (x, c.in_ok-negation.after.now)) (sym (opposite_is c.in_ok-negation.negation))
 
+pub read_negation-returns-then-next_is-clause-shorter : goal.read_negation-returns-then-next_is-clause-shorter
+read_negation-returns-then-next_is-clause-shorter t c =
+    negation_shorter c.opposed_again.result (opposite_again (negation_view c.in_ok-negation.negation)) c.in_ok-negation.after.now c.args.rest.now c.in_ok-negation.ensures.shorter c.opposed_again.ensures
+
 pub read_negation-returns-then-next_is-clause-gives : goal.read_negation-returns-then-next_is-clause-gives
 read_negation-returns-then-next_is-clause-gives t c =
-    again_gives c.args.depth c.args.rest.now c.in_ok-negation.after.now (negation_view c.in_ok-negation.negation) c.if-next_is.ensures c.in_ok-negation.ensures.gives
-    ∙ ap (λ (x : NegationTree). Ok (x, c.in_ok-negation.after.now)) (sym (again_is c.in_ok-new.field-0 ∙ ap (λ (n : Negation). opposite_again (negation_view n)) c.in_ok-new.ensures.ok))
+    negation_handed c.opposed_again.result (opposite_again (negation_view c.in_ok-negation.negation)) c.in_ok-negation.after.now (negation_at c.args.depth c.args.rest.now)
+    (again_gives c.args.depth c.args.rest.now c.in_ok-negation.after.now (negation_view c.in_ok-negation.negation) c.if-next_is.ensures c.in_ok-negation.ensures.gives) c.opposed_again.ensures
+
+pub read_negation-returns-then-next_is-2-clause-shorter : goal.read_negation-returns-then-next_is-2-clause-shorter
+read_negation-returns-then-next_is-2-clause-shorter t c =
+    negation_shorter c.group_opposed.result (negation_of (cond_view c.in_ok-cond.cond)) c.in_ok-cond.closed.now c.args.rest.now c.in_ok-cond.ensures.shorter c.group_opposed.ensures
 
 pub read_negation-returns-then-next_is-2-clause-gives : goal.read_negation-returns-then-next_is-2-clause-gives
 read_negation-returns-then-next_is-2-clause-gives t c =
-    strict_gives c.args.depth c.args.rest.now c.in_ok-cond.closed.now (cond_view c.in_ok-cond.cond) c.if-next_is.ensures c.if-next_is-2.ensures c.in_ok-cond.ensures.gives
-    ∙ ap (λ (x : NegationTree). Ok (x, c.in_ok-cond.closed.now)) (sym c.in_ok-grouped.ensures)
+    negation_handed c.group_opposed.result (negation_of (cond_view c.in_ok-cond.cond)) c.in_ok-cond.closed.now (negation_at c.args.depth c.args.rest.now)
+    (strict_gives c.args.depth c.args.rest.now c.in_ok-cond.closed.now (cond_view c.in_ok-cond.cond) c.if-next_is.ensures c.if-next_is-2.ensures c.in_ok-cond.ensures.gives) c.group_opposed.ensures
 
 pub read_negation-returns-clause-gives : goal.read_negation-returns-clause-gives
 read_negation-returns-clause-gives t c =

@@ -1,9 +1,13 @@
-use Rattle.std.proofs.Common.{Ok, sym, ap, ◌∙◌, arith}
+use Rattle.std.proofs.Common.{List, Bor, subst, Ok, sym, ap, ◌∙◌, arith}
 use Rattle.std.proofs.lemmas.Result.{err_from_is_err_and}
 use Rattle.lra_tree.specs.declared.refusals.Place.{Place}
 use Rattle.lra_tree.specs.Trees.{StmtTree, ItemsTree}
 use Rattle.lra_tree.specs.Views.{block_view}
-use Rattle.lra_parse.proofs.Stated.{state_start, state_turn, body_exit, end_exit, body_gives, body_view, block_stmt, branch_block}
+use Rattle.lra_tree.specs.declared.tokens.Token.{Token}
+use Rattle.lra_tree.specs.declared.trees.Block.{Block}
+use Rattle.lra_parse.specs.Reading.{Read, Gives}
+use Rattle.lra_parse.proofs.Turning.{ok_shorter}
+use Rattle.lra_parse.proofs.Stated.{state_start, state_turn, body_exit, body_closes, block_stmt, branch_block}
 use Rattle.lra_parse.proofs.statements.+statement.Goals as goal
 
 pub read_body-items-init : goal.read_body-items-init
@@ -23,15 +27,14 @@ read_body-returns-in_err-item-clause-gives t c =
     let p = err_from_is_err_and c.from_residual-in_err-item.result c.from_residual-in_err-item.ensures.1 in
     rw (p.1, p.2) (body_exit c.args.declares c.args.depth c.items.items.items c.args.rest.now c.in_ok-left.left.now c.items.left.now c.in_err-item.field-0.0 c.in_ok-left.ensures.gives c.items.invariant.state c.items-test.ensures c.in_err-item.ensures.gives)
 
-pub read_body-returns-in_err-end-clause-gives : goal.read_body-returns-in_err-end-clause-gives
-read_body-returns-in_err-end-clause-gives t c =
-    let p = err_from_is_err_and c.from_residual-in_err-end.result c.from_residual-in_err-end.ensures.1 in
-    rw (p.1, p.2) (end_exit c.args.declares c.args.depth c.items.items.items c.args.rest.now c.in_ok-left.left.now c.items.left.now c.in_err-end.field-0.0 c.in_ok-left.ensures.gives c.items.invariant.state c.items-test.ensures c.in_err-end.ensures.gives)
+pub read_body-returns-clause-shorter : goal.read_body-returns-clause-shorter
+read_body-returns-clause-shorter t c = ok_shorter c.read_close.result c.items.left.now c.args.rest.now c.items.invariant.room c.read_close.ensures.shorter
 
 pub read_body-returns-clause-gives : goal.read_body-returns-clause-gives
 read_body-returns-clause-gives t c =
-    body_gives c.args.declares c.args.depth c.items.items.items c.args.rest.now c.in_ok-left.left.now c.items.left.now c.in_ok-end.behind.now c.in_ok-end.end c.in_ok-left.ensures.gives c.items.invariant.state c.items-test.ensures c.in_ok-end.ensures.gives
-    ∙ ap (λ (b : ItemsTree × Place). Ok (b, c.in_ok-end.behind.now)) (sym (body_view (record { items = c.items.items; end = c.in_ok-end.end })))
+    subst (λ (r : Read (ItemsTree × Place)). Gives (λ (x : Block × Bor (List Token)). (block_view x.0, x.1.now)) c.read_close.result r)
+    (sym (body_closes c.args.declares c.args.depth c.items.items.items c.args.rest.now c.in_ok-left.left.now c.items.left.now c.in_ok-left.ensures.gives c.items.invariant.state c.items-test.ensures))
+    c.read_close.ensures.gives
 
 pub read_branch-returns-then-next_is-clause-gives : goal.read_branch-returns-then-next_is-clause-gives
 read_branch-returns-then-next_is-clause-gives t c =
