@@ -1,5 +1,10 @@
 //! Worked rows.
 
+ghost use Rattle.std.specs.Prelude.{◌≡◌, ◌<ℤ◌, pos, length};
+ghost use Rattle.std.specs.List.{All};
+ghost use Rattle.lra_linear.specs.Range.{InRange};
+ghost use Rattle.lra_linear.specs.Vectors.{product};
+
 use super::*;
 use std::alloc::Global;
 use std::cmp::Ordering;
@@ -76,6 +81,84 @@ fn excesses(rt: HostRuntime) -> Result<(), Fail> {
         })
     );
     assert!(rt; large.blend(1, 1, &ones).is_err());
+    Ok(())
+}
+
+// What passes the range, where no row is made for it.
+fn passing(made: Result<Row, RowError>) -> Option<Excess> {
+    match made {
+        Ok(_) => None,
+        Err(RowError::Memory) => None,
+        Err(RowError::Excess(excess)) => Some(excess),
+    }
+}
+
+// What passes in the combination of two rows on either side of a third.
+fn combining(alloc: Global, u: &[i128], v: &[i128], c: &[i128]) -> Result<Option<Excess>, Fail>
+    requires u_numbers { All InRange u.now }
+    requires v_numbers { All InRange v.now }
+    requires c_numbers { All InRange c.now }
+    requires u_width { length u.now ≡ length c.now }
+    requires v_width { length v.now ≡ length c.now }
+    requires above { pos 0 <ℤ product c.now u.now }
+    requires below { product c.now v.now <ℤ pos 0 }
+{
+    let u = Row::from_slice(alloc, u)?;
+    let v = Row::from_slice(alloc, v)?;
+    let c = Row::from_slice(alloc, c)?;
+    Ok(passing(Row::combine(&u, &v, &c)))
+}
+
+/// Each place at which a number may pass: in `c.u`, in `c.v`, and in the sum of the two multiples, products and sums.
+#[test]
+fn excesses_of_combinations(rt: HostRuntime) -> Result<(), Fail> {
+    let alloc = rt.alloc();
+    for (got, op, left, right) in [
+        (
+            combining(alloc, &[MAX, 1], &[-1, 0], &[2, 0])?,
+            Operation::Product,
+            2,
+            MAX,
+        ),
+        (
+            combining(alloc, &[MAX, 1], &[-MAX, -1], &[1, 1])?,
+            Operation::Sum,
+            MAX,
+            1,
+        ),
+        (
+            combining(alloc, &[1, 0], &[-MAX, 0], &[2, 0])?,
+            Operation::Product,
+            2,
+            -MAX,
+        ),
+        (
+            combining(alloc, &[1, 0], &[-MAX, -1], &[1, 1])?,
+            Operation::Sum,
+            -MAX,
+            -1,
+        ),
+        (
+            combining(alloc, &[MAX, 1], &[0, -2], &[0, 1])?,
+            Operation::Product,
+            2,
+            MAX,
+        ),
+        (
+            combining(alloc, &[0, 2], &[-MAX, -1], &[0, 1])?,
+            Operation::Product,
+            2,
+            -MAX,
+        ),
+        (
+            combining(alloc, &[MAX, 1], &[3, -1], &[0, 1])?,
+            Operation::Sum,
+            MAX,
+            3,
+        ),
+    ] {
+        assert_eq!(rt; got, Some(Excess { op, left, right }));
+    }
     Ok(())
 }
 
