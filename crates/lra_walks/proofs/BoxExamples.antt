@@ -1,5 +1,5 @@
 -- Single definitions of the iteration on small boxes.
-use Rattle.std.proofs.Common.{pos, [], ◌∷◌, None, Some, refl, inl, inr, ◌^◌, ◌-◌, arith}
+use Rattle.std.proofs.Common.{[], None, Some, refl, inl, inr, ◌^◌, ◌-◌, arith}
 use Rattle.std.proofs.lemmas.Int.{ints}
 use Rattle.lra_domain.specs.declared.Exactness.TheVariants.{Exact, Flagged}
 use Rattle.lra_tree.specs.Program.{local, plus, Expr, literal, read, binary}

@@ -1,8 +1,8 @@
 -- The tree of the worked example has each of its points once.
-use Rattle.std.proofs.Common.{◌≡◌, ℕ, zero, suc, ◌+◌, ◌<◌, ◌≤◌, ◌^◌, List, [], ◌∷◌, length, map, Option, Some, None, Bool, cond, refl, sym, ap, ◌∙◌, subst, arith}
+use Rattle.std.proofs.Common.{◌≡◌, ℕ, zero, suc, ◌<◌, ◌≤◌, List, [], ◌∷◌, length, map, Option, Some, None, Bool, cond, refl, sym, ap, ◌∙◌, subst, arith}
 use Rattle.std.specs.Prelude.{slice_get, option_map}
 use Rattle.std.proofs.lemmas.List.{length-map}
-use Rattle.std.proofs.lemmas.Option.{none-some, slice_get-map, slice_get_within, slice_get_past}
+use Rattle.std.proofs.lemmas.Option.{none-some, slice_get-map, slice_get_within}
 use Rattle.lra_tree.specs.Program.{Expr, Cond}
 use Rattle.lra_tree.specs.Step.{append, give}
 use Rattle.lra_tree.specs.Graph.{Node, point, act, check, seq, choose}
