@@ -2,82 +2,272 @@
 
 use crate::errors::NamesError;
 use crate::functions::resolve;
-use lra_tree::program::{BlockItem, Slot, Stmt};
+use lra_tree::program::{BlockItem as ProgramItem, Slot, Stmt as ProgramStmt};
 use lra_tree::{
-    Assign, Block, Cause, Declaration, Declarator, Function, Identifier, Item, Parameters, Place,
-    Refusal, Tree, Word,
+    Arguments, Assign, Block, BlockItem, Call, Cause, Declaration, Declarator, Function, Global,
+    Globals, Identifier, Item, Parameters, Place, Refusal, Source, Step, Stmt, Tree, Word,
 };
 use std::alloc::AllocError;
 use std::test::Fail;
 
-/// A place in the first line.
-fn at(column: u32) -> Place {
-    Place { line: 1, column }
+/// All that a function's block has.
+#[derive(Clone, Copy)]
+enum Body {
+    /// `;`
+    Nothing,
+    /// `break;`
+    Break,
+    /// `continue;`
+    Continue,
+    /// `int x, x;`
+    Declare,
+    /// `x++;`
+    Count,
+    /// `f();`
+    Call,
+    /// `return f();`
+    Return,
 }
 
-fn identifier(rt: &HostRuntime, name: &str, column: u32) -> Result<Identifier, AllocError> {
+/// A line of a source.
+#[derive(Clone, Copy)]
+enum Part {
+    /// A prototype.
+    Prototype,
+    /// `int x;`
+    Global,
+    /// A function with a result or none, its name, how many parameters `a` it has, and its body.
+    Function(bool, &'static str, usize, Body),
+}
+
+/// Where a function or a global variable is named.
+const NAME: u32 = 5;
+
+/// Where a function has its parameters.
+const PARAMETER: u32 = 10;
+
+/// Where a function's statement begins.
+const STATEMENT: u32 = 20;
+
+/// Where the second name of a statement stands.
+const SECOND: u32 = 27;
+
+fn identifier(
+    rt: &HostRuntime,
+    name: &str,
+    line: u32,
+    column: u32,
+) -> Result<Identifier, AllocError> {
     Ok(Identifier {
         word: Word::from_str(rt.alloc(), name)?,
-        place: at(column),
+        place: Place { line, column },
     })
 }
 
-/// `int main(void){long x;NAME++;}`
-fn counted(rt: &HostRuntime, name: &str) -> Result<Tree, Fail> {
-    let mut items = Vec::new(rt.alloc());
-    items.push(lra_tree::BlockItem::Declaration(Declaration {
-        first: Declarator {
-            name: identifier(rt, "x", 21)?,
-            source: None,
-        },
-        rest: Vec::new(rt.alloc()),
-    }))?;
-    let step = Assign::After(identifier(rt, name, 23)?, lra_tree::Step::Increment);
-    items.push(lra_tree::BlockItem::Statement(lra_tree::Stmt::Assign(step)))?;
-    let main = Function {
-        has_result: true,
-        name: identifier(rt, "main", 5)?,
-        parameters: Parameters {
+/// `f()`
+fn call(rt: &HostRuntime, line: u32, column: u32) -> Result<Call, AllocError> {
+    Ok(Call {
+        name: identifier(rt, "f", line, column)?,
+        arguments: Arguments {
             items: Vec::new(rt.alloc()),
         },
-        body: Block { items, end: at(27) },
-    };
-    let mut parts = Vec::new(rt.alloc());
-    parts.push(Item::Function(main))?;
-    Ok(Tree {
-        items: parts,
-        end: at(28),
     })
 }
 
-/// Whether the item counts up the first local variable under the label 2.
-fn counts_up(item: &BlockItem) -> bool {
+/// `x`
+fn declarator(rt: &HostRuntime, line: u32, column: u32) -> Result<Declarator, AllocError> {
+    Ok(Declarator {
+        name: identifier(rt, "x", line, column)?,
+        source: None,
+    })
+}
+
+/// `int x, x;`
+fn declaration(rt: &HostRuntime, line: u32) -> Result<Declaration, AllocError> {
+    let mut rest = Vec::new(rt.alloc());
+    rest.push(declarator(rt, line, SECOND)?)?;
+    Ok(Declaration {
+        first: declarator(rt, line, STATEMENT)?,
+        rest,
+    })
+}
+
+fn item(rt: &HostRuntime, line: u32, body: Body) -> Result<BlockItem, AllocError> {
+    let place = Place {
+        line,
+        column: STATEMENT,
+    };
+    match body {
+        Body::Nothing => Ok(BlockItem::Statement(Stmt::Nothing(place))),
+        Body::Break => Ok(BlockItem::Statement(Stmt::Break(place))),
+        Body::Continue => Ok(BlockItem::Statement(Stmt::Continue(place))),
+        Body::Declare => Ok(BlockItem::Declaration(declaration(rt, line)?)),
+        Body::Count => {
+            let x = identifier(rt, "x", line, STATEMENT)?;
+            Ok(BlockItem::Statement(Stmt::Assign(Assign::After(x, Step::Increment))))
+        }
+        Body::Call => Ok(BlockItem::Statement(Stmt::Call(call(rt, line, STATEMENT)?))),
+        Body::Return => {
+            let source = Source::Result(call(rt, line, SECOND)?);
+            Ok(BlockItem::Statement(Stmt::Return(place, Some(source))))
+        }
+    }
+}
+
+fn parameters(rt: &HostRuntime, line: u32, count: usize) -> Result<Parameters, AllocError> {
+    let mut items = Vec::new(rt.alloc());
+    for _ in 0..count {
+        items.push(identifier(rt, "a", line, PARAMETER)?)?;
+    }
+    Ok(Parameters { items })
+}
+
+fn block(rt: &HostRuntime, line: u32, body: Body) -> Result<Block, AllocError> {
+    let mut items = Vec::new(rt.alloc());
+    items.push(item(rt, line, body)?)?;
+    Ok(Block {
+        items,
+        end: Place { line, column: 40 },
+    })
+}
+
+fn file_item(rt: &HostRuntime, line: u32, part: Part) -> Result<Item, AllocError> {
+    match part {
+        Part::Prototype => Ok(Item::Prototype),
+        Part::Global => Ok(Item::Globals(Globals {
+            first: Global {
+                name: identifier(rt, "x", line, NAME)?,
+                value: None,
+            },
+            rest: Vec::new(rt.alloc()),
+        })),
+        Part::Function(has_result, name, count, body) => Ok(Item::Function(Function {
+            has_result,
+            name: identifier(rt, name, line, NAME)?,
+            parameters: parameters(rt, line, count)?,
+            body: block(rt, line, body)?,
+        })),
+    }
+}
+
+/// A source of two lines.
+fn tree(rt: &HostRuntime, first: Part, second: Part) -> Result<Tree, AllocError> {
+    let mut items = Vec::new(rt.alloc());
+    items.push(file_item(rt, 1, first)?)?;
+    items.push(file_item(rt, 2, second)?)?;
+    Ok(Tree {
+        items,
+        end: Place { line: 3, column: 1 },
+    })
+}
+
+/// Whether the item counts up the first global variable under the label 1.
+fn counts_up(item: &ProgramItem) -> bool {
     match item {
-        BlockItem::Statement(Stmt::Assign(label, slot, _)) => *label == 2
-            && *slot == Slot::Local(0),
+        ProgramItem::Statement(ProgramStmt::Assign(label, slot, _)) => *label == 1
+            && *slot == Slot::Global(0),
         _ => false,
     }
 }
 
 #[test]
 fn a_source_has_its_program(rt: HostRuntime) -> Result<(), Fail> {
-    let program = resolve(rt.alloc(), &counted(&rt, "x")?)?;
+    let main = Part::Function(true, "main", 0, Body::Count);
+    let program = resolve(rt.alloc(), &tree(&rt, Part::Global, main)?)?;
     assert_eq!(rt; program.main, 0);
     assert_eq!(rt; program.functions.len(), 1);
     let main = &program.functions[0];
-    assert_eq!(rt; main.end, 3);
-    assert_eq!(rt; main.body.items.len(), 2);
-    assert!(rt; counts_up(&main.body.items[1]));
+    assert_eq!(rt; main.end, 2);
+    assert_eq!(rt; main.body.items.len(), 1);
+    assert!(rt; counts_up(&main.body.items[0]));
     Ok(())
 }
 
 #[test]
-fn an_unknown_name_is_refused_at_its_place(rt: HostRuntime) -> Result<(), Fail> {
-    let tree = counted(&rt, "y")?;
-    let refusal = Refusal {
-        cause: Cause::UnknownName,
-        place: at(23),
-    };
-    assert!(rt; matches!(resolve(rt.alloc(), &tree), Err(NamesError::Refused(r)) if r == refusal));
+fn a_source_is_refused_at_its_first_fault(rt: HostRuntime) -> Result<(), Fail> {
+    use Body::{Break, Call, Continue, Count, Declare, Nothing, Return};
+    use Part::{Function, Global, Prototype};
+    let main = Function(true, "main", 0, Nothing);
+    for (first, second, cause, line, column) in [
+        (
+            Prototype,
+            Function(true, "main", 0, Count),
+            Cause::UnknownName,
+            2,
+            STATEMENT,
+        ),
+        (
+            Prototype,
+            Function(true, "main", 0, Call),
+            Cause::UnknownName,
+            2,
+            STATEMENT,
+        ),
+        (Global, Global, Cause::DuplicateName, 2, NAME),
+        (main, main, Cause::DuplicateName, 2, NAME),
+        (
+            Function(false, "f", 2, Nothing),
+            main,
+            Cause::DuplicateName,
+            1,
+            PARAMETER,
+        ),
+        (
+            Prototype,
+            Function(true, "main", 0, Declare),
+            Cause::DuplicateName,
+            2,
+            SECOND,
+        ),
+        (
+            Function(false, "f", 1, Nothing),
+            Function(true, "main", 0, Call),
+            Cause::BadCall,
+            2,
+            STATEMENT,
+        ),
+        (
+            Function(false, "f", 0, Nothing),
+            Function(true, "main", 0, Return),
+            Cause::BadCall,
+            2,
+            SECOND,
+        ),
+        (
+            Function(true, "f", 0, Nothing),
+            Function(false, "main", 0, Return),
+            Cause::BadCall,
+            2,
+            STATEMENT,
+        ),
+        (
+            Prototype,
+            Function(true, "main", 0, Break),
+            Cause::Misplaced,
+            2,
+            STATEMENT,
+        ),
+        (
+            Prototype,
+            Function(true, "main", 0, Continue),
+            Cause::Misplaced,
+            2,
+            STATEMENT,
+        ),
+        (
+            Prototype,
+            Function(true, "main", 1, Nothing),
+            Cause::NoMain,
+            3,
+            1,
+        ),
+    ] {
+        let refusal = Refusal {
+            cause,
+            place: Place { line, column },
+        };
+        let answer = resolve(rt.alloc(), &tree(&rt, first, second)?);
+        assert!(rt; matches!(answer, Err(NamesError::Refused(r)) if r == refusal));
+    }
     Ok(())
 }
