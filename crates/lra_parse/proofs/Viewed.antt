@@ -1,5 +1,5 @@
 -- Trees that values of the code stand for.
-use Rattle.std.proofs.Common.{◌≡◌, ℕ, ◌≤◌, List, [], ◌∷◌, ◌++◌, length, map, Result, Ok, Err, IfOk, rules, refl, sym, ap, subst, ◌∙◌, Bor, Box, Global}
+use Rattle.std.proofs.Common.{◌≡◌, ℕ, ◌≤◌, List, [], ◌∷◌, ◌++◌, length, map, Result, Ok, Err, IfOk, rules, refl, sym, subst, Bor, Box, Global}
 use Rattle.std.specs.Prelude.{MatchResult}
 use Rattle.lra_tree.specs.declared.trees.Unary.{Unary, Literal, Variable, Group, the_lemmas}
 use Rattle.lra_tree.specs.declared.trees.Factor.{Factor}
