@@ -39,48 +39,36 @@ fn numbers(rt: HostRuntime) {
     assert_eq!(rt; ratio_cmp(-1, 3, 1, MAX), Ordering::Less);
 }
 
+/// Rows that are made, with their entries.
 #[test]
-fn products(rt: HostRuntime) -> Result<(), Fail> {
-    let c = Row::from_slice(rt.alloc(), &[1, -2, 3])?;
-    let r = Row::from_slice(rt.alloc(), &[4, 5, 6])?;
-    assert_eq!(rt; c.width(), 3);
-    assert_eq!(rt; r.width(), 3);
-    assert_eq!(rt; c.dot(&r), Ok(12));
-    assert_eq!(rt; c.copy()?.compare(&c), Ordering::Equal);
-    Ok(())
-}
-
-#[test]
-fn excesses(rt: HostRuntime) -> Result<(), Fail> {
-    let ones = Row::from_slice(rt.alloc(), &[1, 1, 1])?;
-    let large = Row::from_slice(rt.alloc(), &[MAX, 1, MAX])?;
-    assert_eq!(rt; ones.width(), 3);
-    assert_eq!(rt; large.width(), 3);
-    let sum = Excess {
-        op: Operation::Sum,
-        left: MAX,
-        right: 1,
-    };
-    assert_eq!(rt;
-        ones.dot(&large),
-        Err(sum),
-        "the first partial sum that passes"
-    );
-    let product = Excess {
-        op: Operation::Product,
-        left: MAX,
-        right: MAX,
-    };
-    assert_eq!(rt; large.dot(&large), Err(product));
-    assert_eq!(rt;
-        large.value_at(2, &[0, 0]),
-        Err(Excess {
-            op: Operation::Product,
-            left: MAX,
-            right: 2
-        })
-    );
-    assert!(rt; large.blend(1, 1, &ones).is_err());
+fn rows(rt: HostRuntime) -> Result<(), Fail> {
+    let alloc = rt.alloc();
+    let c = Row::from_slice(alloc, &[1, -2, 3])?;
+    let row = Row::from_slice(alloc, &[1, 2, 3])?;
+    let form = Row::from_slice(alloc, &[5, 1, -1])?;
+    assert_eq!(rt; c.dot(&form), Ok(0));
+    assert_eq!(rt; row.compare(&form), Ordering::Greater, "2 3 1 after 1 -1 5");
+    let substituted = row.substitute(1, &form).map_err(|_| "no row")?;
+    let u = Row::from_slice(alloc, &[1, 1])?;
+    let v = Row::from_slice(alloc, &[6, -1])?;
+    let combined = Row::combine(&u, &v, &Row::from_slice(alloc, &[0, 2])?).map_err(|_| "no row")?;
+    let mut even = Row::from_slice(alloc, &[4, 0, -6])?.negate()?;
+    even.lowest_terms();
+    let nine = Row::from_slice(alloc, &[1, 2, 3, 4, 5, 6, 7, 8, 9])?;
+    let zero = nine
+        .negate()?
+        .blend(1, 1, &nine.copy()?)
+        .map_err(|_| "no row")?;
+    for (made, pivot, entries) in [
+        (&substituted, 1, [11, 2, 1].as_slice()),
+        (&combined, 0, [1, 0].as_slice()),
+        (&even, 2, [-2, 0, 3].as_slice()),
+        (&zero, 0, [0, 0, 0, 0, 0, 0, 0, 0, 0].as_slice()),
+    ] {
+        assert_eq!(rt; made.entries(), entries);
+        assert_eq!(rt; made.width(), entries.len());
+        assert_eq!(rt; made.pivot(), pivot);
+    }
     Ok(())
 }
 
@@ -162,53 +150,23 @@ fn excesses_of_combinations(rt: HostRuntime) -> Result<(), Fail> {
     Ok(())
 }
 
+/// Those of values and of substitutions.
 #[test]
-fn combination(rt: HostRuntime) -> Result<(), Fail> {
-    let c = Row::from_slice(rt.alloc(), &[0, 2])?;
-    let u = Row::from_slice(rt.alloc(), &[1, 1])?;
-    let v = Row::from_slice(rt.alloc(), &[6, -1])?;
-    let between = Row::combine(&u, &v, &c).map_err(|_| "no row")?;
-    assert_eq!(rt;
-        between.compare(&Row::from_slice(rt.alloc(), &[1, 0])?),
-        Ordering::Equal,
-        "2 u + 2 v is 14 0"
-    );
-    Ok(())
-}
-
-#[test]
-fn substitution(rt: HostRuntime) -> Result<(), Fail> {
-    let form = Row::from_slice(rt.alloc(), &[5, 1, -1])?;
-    let row = Row::from_slice(rt.alloc(), &[1, 2, 3])?;
-    let made = row.substitute(1, &form).map_err(|_| "no row")?;
-    assert_eq!(rt;
-        made.compare(&Row::from_slice(rt.alloc(), &[11, 2, 1])?),
-        Ordering::Equal,
-        "2 times the form in place of x1"
-    );
-    assert_eq!(rt; row.compare(&made), Ordering::Greater, "2 3 1 after 2 1 11");
-    Ok(())
-}
-
-#[test]
-fn signs_and_divisors(rt: HostRuntime) -> Result<(), Fail> {
-    let mut even = Row::from_slice(rt.alloc(), &[4, 0, -6])?.negate()?;
-    even.lowest_terms();
-    assert_eq!(rt;
-        even.compare(&Row::from_slice(rt.alloc(), &[-2, 0, 3])?),
-        Ordering::Equal
-    );
-    assert_eq!(rt; even.pivot(), 2);
-    Ok(())
-}
-
-#[test]
-fn rows_past_eight_columns(rt: HostRuntime) -> Result<(), Fail> {
-    let row = Row::from_slice(rt.alloc(), &[1, 2, 3, 4, 5, 6, 7, 8, 9])?;
-    assert_eq!(rt; row.width(), 9);
-    let same = row.copy()?;
-    assert_eq!(rt; row.compare(&same), Ordering::Equal);
-    let zero = row.negate()?.blend(1, 1, &same).map_err(|_| "no row")?;
-    assert_eq!(rt; zero.pivot(), 0);
+fn excesses(rt: HostRuntime) -> Result<(), Fail> {
+    let large = Row::from_slice(rt.alloc(), &[MAX, 2])?;
+    let form = Row::from_slice(rt.alloc(), &[1, MAX])?;
+    for (got, op, left, right) in [
+        (large.value_at(2, &[0]).err(), Operation::Product, MAX, 2),
+        (large.value_at(1, &[1]).err(), Operation::Sum, MAX, 2),
+        (passing(large.substitute(1, &form)), Operation::Sum, MAX, 2),
+        (
+            passing(form.substitute(1, &large)),
+            Operation::Product,
+            MAX,
+            MAX,
+        ),
+    ] {
+        assert_eq!(rt; got, Some(Excess { op, left, right }));
+    }
     Ok(())
 }
