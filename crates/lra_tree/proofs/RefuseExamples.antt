@@ -64,7 +64,8 @@ abbrev with_callee : ℕ → FileTree
 with_callee n = record {
   parts = function (void_of (codes "f") 6 (name_at (codes "d") 13 ∷ []) (statement (nothing (at 16)) no_items) 17)
       ∷ function (function_of (codes "main") 23 []
-      (declaration (record { first = record { name = name_at (codes "v") 40; source = None }; rest = variables n }) (statement (call (call_of (name_at (codes "f") 132) (number_of 0 ∷ []))) no_items)) 138)
+      (declaration (record { first = record { name = name_at (codes "v") 40; source = None }; rest = variables n })
+      (statement (call (call_of (name_at (codes "f") 132) (number_of 0 ∷ []))) no_items)) 138)
       ∷ [];
   end = at 139;
 }

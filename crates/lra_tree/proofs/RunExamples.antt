@@ -256,5 +256,6 @@ behind_break P step again rest k h x y draws = refl
 
 -- `continue` in a loop that stands in another loop's body: the inner round's end is on top, and the outer step waits
 inner_continue : (P : Program) (step again inner : Stmt) (k : List Item) (h : Here) (x : ℤ) (draws : List ℤ)
-    → next P (with_items (run (continue 7) ∷ turn absent inner 1 ∷ end_of 9 1 ∷ turn step again 1 ∷ k) h (x ∷ []) draws) ≡ Some (with_items (turn absent inner 1 ∷ end_of 9 1 ∷ turn step again 1 ∷ k) h (x ∷ []) draws)
+    → next P (with_items (run (continue 7) ∷ turn absent inner 1 ∷ end_of 9 1 ∷ turn step again 1 ∷ k) h (x ∷ []) draws)
+    ≡ Some (with_items (turn absent inner 1 ∷ end_of 9 1 ∷ turn step again 1 ∷ k) h (x ∷ []) draws)
 inner_continue P step again inner k h x draws = refl
