@@ -427,6 +427,55 @@ static ANSWERS: [(&str, Pieces, (u64, u64), Status, &str); 65] = [
     ),
     (
         BOXES,
+        ("int main(void){ long x; x = ", "+ ", 63, ""),
+        SOUND,
+        Status::Refused,
+        "refused 4 Syntax at 1:155\n",
+    ),
+    (
+        BOXES,
+        ("int main(void){ assert(", "(", 63, ""),
+        SOUND,
+        Status::Refused,
+        "refused 4 Syntax at 1:87\n",
+    ),
+    (
+        BOXES,
+        ("int main(void){;else", "", 0, ""),
+        SOUND,
+        Status::Refused,
+        "refused 4 Syntax at 1:17\n",
+    ),
+    (
+        BOXES,
+        ("int main(void){{long x;}}", "", 0, ""),
+        SOUND,
+        Status::Refused,
+        "refused 4 Syntax at 1:17\n",
+    ),
+    (
+        BOXES,
+        ("int main(void){ if() }", "", 0, ""),
+        SOUND,
+        Status::Refused,
+        "refused 4 Syntax at 1:20\n",
+    ),
+    (
+        BOXES,
+        ("int main(void){ assert(input()<input()<", "", 0, ""),
+        SOUND,
+        Status::Refused,
+        "refused 4 Syntax at 1:39\n",
+    ),
+    (
+        BOXES,
+        ("int main(void){ while }", "", 0, ""),
+        SOUND,
+        Status::Refused,
+        "refused 4 Syntax at 1:17\n",
+    ),
+    (
+        BOXES,
         ("", "", 0, ""),
         SOUND,
         Status::Refused,
@@ -662,6 +711,28 @@ static LINES: [(&str, Pieces, &str); 25] = [
         BOXES,
         ("int main(void){ long x=5; { x -= 7; } x++; }", "", 0, ""),
         "point 5 main 1:44\n  row x = -1\n",
+    ),
+    // the nearest if has the else
+    (
+        BOXES,
+        (
+            "int main(void){ long x=0; if(0) if(1) x=1; else x=2; assert(x==0); }",
+            "",
+            0,
+            "",
+        ),
+        "assert 6 main 1:54 proved\n",
+    ),
+    // 60 alternations of && and ||, one inside the other, cost no more than as many comparisons
+    (
+        BOXES,
+        (
+            "int main(void){ long x; assume(",
+            "(0<x||(x<9&&",
+            30,
+            "0<x)))))))))))))))))))))))))))))))))))))))))))))))))))))))))))));}",
+        ),
+        "point 3 main 1:457\n  row x >= 1\n",
     ),
     (
         BOXES,
