@@ -133,7 +133,7 @@ flagged at line 5
 ";
 
 /// Words, a source, the read and the write that are to fail, the status, and the whole text that is written.
-static ANSWERS: [(&str, Pieces, (u64, u64), Status, &str); 65] = [
+static ANSWERS: [(&str, Pieces, (u64, u64), Status, &str); 72] = [
     (BOXES, PROVED, SOUND, Status::Proved, PROVED_REPORT),
     (BOXES, UNKNOWN, SOUND, Status::Unknown, UNKNOWN_REPORT),
     (BOXES, BOUNDED, SOUND, Status::Unknown, BOUNDED_REPORT),
@@ -566,7 +566,7 @@ static ANSWERS: [(&str, Pieces, (u64, u64), Status, &str); 65] = [
 ];
 
 /// Words, a source whose assertions are all proved, and lines of its report.
-static LINES: [(&str, Pieces, &str); 25] = [
+static LINES: [(&str, Pieces, &str); 27] = [
     (
         "lra analyse --domain=box",
         PROVED,
