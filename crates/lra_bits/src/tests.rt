@@ -29,7 +29,7 @@ fn rows(rt: HostRuntime) -> Result<(), Fail> {
         assert_eq!(rt; even.subset(&third), width < 3);
         assert!(rt; sixth.subset(&even));
         let common = even.common(&third)?;
-        for k in 0..width {
+        for k in 0..common.width() {
             assert_eq!(rt; common.get(k), k.is_multiple_of(6));
         }
         let mut matrix = SatMatrix::new(rt.alloc(), width);
