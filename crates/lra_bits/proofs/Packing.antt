@@ -1,16 +1,14 @@
 -- The truth values of words, one place at a time.
-use Rattle.std.proofs.Common.{◌≡◌, ◌≢◌, ℕ, zero, suc, ◌+◌, ◌/◌, ◌%◌, ◌^◌, ◌*◌, ◌<◌, ◌≤◌, Bool, true, false, cond, List, [], ◌∷◌, length, get_or, set, replicate, refl, ap, sym, subst, ◌∙◌, arith, nat_eq, bit_and, bit_or, get_or-set_same, get_or-set_other, inl, inr}
-use Rattle.std.specs.Prelude.{◌&&◌, ◌==◌, ◌-◌, min}
-use Rattle.std.specs.Int.{bit_at, w64, bit_not}
-use Rattle.std.specs.List.{range_with_len}
+use Rattle.std.proofs.Common.{◌≡◌, ◌≢◌, ℕ, ◌/◌, ◌%◌, ◌^◌, ◌*◌, ◌<◌, ◌≤◌, Bool, true, false, List, length, get_or, set, replicate, ap, sym, ◌∙◌, arith, nat_eq, bit_and, bit_or, get_or-set_same, get_or-set_other, inl, inr}
+use Rattle.std.specs.Prelude.{◌==◌, ◌-◌}
+use Rattle.std.specs.Int.{bit_at, w64}
 use Rattle.std.proofs.lemmas.Bool.{cases_eq, cases_lt}
-use Rattle.std.proofs.lemmas.Bool.Decides.{nat_tests}
 use Rattle.std.proofs.lemmas.Nat.{mod_below}
 use Rattle.std.proofs.lemmas.List.{ext_get_or, get_or_past, get_or-replicate, length-replicate, length-set}
 use Rattle.std.proofs.lemmas.List.FromFn.{length-map-range_with_len, get_or-map-range_with_len}
-use Rattle.std.proofs.lemmas.Nat.Bits.{shr_and_one, bit_at-zero, bit_at-lt, bit_at_and, bit_at_set_same, bit_at_set_other, bit_at_clear_same, bit_at_clear_other, same_from_bits_below}
+use Rattle.std.proofs.lemmas.Nat.Bits.{shr_and_one, bit_at-zero, bit_at_set_same, bit_at_set_other, bit_at_clear_same, bit_at_clear_other}
 use Rattle.std.proofs.lemmas.Grind.{get_or_default_zero}
-use Rattle.lra_bits.specs.TruthValues.{value_at, IsSubset, both}
+use Rattle.lra_bits.specs.TruthValues.{value_at}
 use Rattle.lra_bits.specs.Words.{bit_of, unpacked, words_needed, ArePacked}
 
 -- ---- unpacked words

@@ -29,13 +29,14 @@ fn rows(rt: HostRuntime) -> Result<(), Fail> {
         assert_eq!(rt; even.subset(&third), width < 3);
         assert!(rt; sixth.subset(&even));
         let common = even.common(&third)?;
+        assert_eq!(rt; common.width(), width);
         for k in 0..common.width() {
             assert_eq!(rt; common.get(k), k.is_multiple_of(6));
         }
         let mut matrix = SatMatrix::new(rt.alloc(), width);
         matrix.add_row(even)?;
         matrix.add_row(third)?;
-        matrix.add_row(common)?;
+        matrix.add_row(row_of(rt.alloc(), width, 6)?)?;
         matrix.remove_rows(&row_of(rt.alloc(), 3, 2)?);
         assert_eq!(rt; matrix.height(), 1);
         assert!(rt; sixth.subset(matrix.row(0)));

@@ -1,4 +1,4 @@
-use Rattle.std.proofs.Common.{◌≡◌, List, length, sym, ◌∙◌, ap}
+use Rattle.std.proofs.Common.{sym, ◌∙◌, ap}
 use Rattle.lra_bits.specs.Words.{unpacked, words_needed}
 use Rattle.lra_bits.proofs.Packing.{same_width}
 use Rattle.lra_bits.proofs.Pairs.{common_is, common_unused}

@@ -1,6 +1,6 @@
-use Rattle.std.proofs.Common.{◌≡◌, ℕ, get_or, ◌<◌, ◌^◌, List, length, sym, ◌∙◌, ap, rules, arith}
+use Rattle.std.proofs.Common.{◌<◌, ◌^◌, sym, ◌∙◌, ap}
 use Rattle.std.specs.List.{All}
-use Rattle.lra_bits.specs.Words.{unpacked, words_needed, AreWithin}
+use Rattle.lra_bits.specs.Words.{unpacked, words_needed}
 use Rattle.lra_bits.proofs.Packing.{same_width}
 use Rattle.lra_bits.proofs.Pairs.{words_subset, subset_words}
 use Rattle.lra_bits.proofs.bit_row.BitRow.subset.Goals as goal

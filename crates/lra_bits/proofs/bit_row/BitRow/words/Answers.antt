@@ -1,5 +1,5 @@
-use Rattle.std.proofs.Common.{List, ℕ, Bool, subst}
-use Rattle.lra_bits.specs.Words.{ArePacked, unpacked}
+use Rattle.std.proofs.Common.{List, Bool, subst}
+use Rattle.lra_bits.specs.Words.{ArePacked}
 use Rattle.lra_bits.proofs.Packing.{all_packed}
 use Rattle.lra_bits.proofs.bit_row.BitRow.words.Goals as goal
 

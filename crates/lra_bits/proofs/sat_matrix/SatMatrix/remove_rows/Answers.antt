@@ -1,9 +1,9 @@
-use Rattle.std.proofs.Common.{◌≡◌, ℕ, ◌+◌, ◌<◌, List, Bool, length, sym, ◌∙◌, ap, subst, arith, []}
+use Rattle.std.proofs.Common.{◌≡◌, ℕ, ◌<◌, List, Bool, length, sym, ◌∙◌, ap, subst, arith, []}
 use Rattle.std.specs.Vec.{vec_len}
 use Rattle.std.specs.List.{All}
 use Rattle.std.proofs.lemmas.Grind.{common_steps}
 use Rattle.lra_bits.specs.Matrix.{Matrix, unmarked}
-use Rattle.lra_bits.proofs.Removal.{kept_gone, kept_stays, kept_end, ends_all, IsPartlyKept}
+use Rattle.lra_bits.proofs.Removal.{kept_gone, kept_stays, kept_end, ends_all}
 use Rattle.lra_bits.proofs.sat_matrix.SatMatrix.remove_rows.Goals as goal
 use Rattle.lra_bits.proofs.sat_matrix.SatMatrix.remove_rows.Goals.{then-not-get, else-not-get}
 
