@@ -1,5 +1,5 @@
 -- The meaning of boxes.
-use Rattle.std.specs.Prelude.{◌≡◌, ℕ, ℤ, List, length, replicate, Some, None}
+use Rattle.std.specs.Prelude.{◌≡◌, ◌≤◌, ℕ, ℤ, List, length, replicate, Some, None}
 use Rattle.lra_domain.specs.Actions.{Action}
 use Rattle.lra_domain.specs.declared.Included.{Included}
 use Rattle.lra_domain.specs.declared.Included.TheVariants.{Yes, No, Wide}
@@ -38,6 +38,7 @@ box_meaning = record {
   has = BoxHas;
   dims = λ b. b.dims;
   parts = λ b. box_parts b.dims b.bounds;
+  capped = λ b c. 1 ≤ c;
   covered = BoxWithin;
   universal = λ n cap b. b ≡ whole n;
   void = λ n cap b. b ≡ record { dims = n; bounds = None };
@@ -49,6 +50,7 @@ box_meaning = record {
   inside_strains = λ a b. ⊥;
   head_has = BoxHas;
   head_dims = λ b. b.dims;
+  head_capped = λ b c. 1 ≤ c;
   rank = rank_of;
   head_covered = BoxWithin;
   started = λ a given h. h ≡ a;

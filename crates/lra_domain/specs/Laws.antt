@@ -1,5 +1,5 @@
 -- What every meaning keeps. The laws are of all contents, those among them that no value has.
-use Rattle.std.specs.Prelude.{◌≡◌, ◌↔◌, ℕ, ℤ, List, [], length}
+use Rattle.std.specs.Prelude.{◌≡◌, ◌↔◌, ◌≤◌, ℕ, ℤ, List, [], length}
 use Rattle.lra_sys.specs.Listed.{Listed}
 use Rattle.lra_sys.specs.declared.system.ConKind.{ConKind}
 use Rattle.lra_domain.specs.Actions.{Within}
@@ -16,6 +16,10 @@ pub record Laws {V H : Type 0} (m : Meaning V H) : Type 0 where
   pub universal_stores : (n cap : ℕ) (v : V) → m.universal n cap v → (s : List ℤ) → length s ≡ n → m.has v s
   pub void_dims : (n cap : ℕ) (v : V) → m.void n cap v → m.dims v ≡ n
   pub void_stores : (n cap : ℕ) (v : V) → m.void n cap v → (s : List ℤ) → ¬ m.has v s
+  -- a value has no more parts than its caps; a universal and a void one of some cap are capped by it
+  pub capped_parts : (v : V) (c : ℕ) → m.capped v c → length (m.parts v) ≤ c
+  pub universal_capped : (n cap : ℕ) (v : V) → 1 ≤ cap → m.universal n cap v → m.capped v cap
+  pub void_capped : (n cap : ℕ) (v : V) → 1 ≤ cap → m.void n cap v → m.capped v cap
   -- a value without parts has no store
   pub partless : (v : V) → m.parts v ≡ [] → (s : List ℤ) → ¬ m.has v s
   -- what is covered has no store beyond those of what covers it
@@ -26,12 +30,20 @@ pub record Laws {V H : Type 0} (m : Meaning V H) : Type 0 where
   -- an inclusion answers Yes only where next lies in the head, No only where it doesn't
   pub answers_yes : (h : H) (v : V) (mode : Mode) → m.answers h v mode Yes → m.stays h v mode
   pub answers_no : (h : H) (v : V) (mode : Mode) → m.answers h v mode No → ¬ m.stays h v mode
-  -- a head that is given up has all stores
+  -- a head that is given up has all stores, and its value is universal
   pub given_up_stores : (old : H) (mode : Mode) (new : H) → m.given_up old mode new
       → (s : List ℤ) → length s ≡ m.head_dims old → m.head_has new s
+  pub given_up_value : (old : H) (mode : Mode) (new : H) (v : V) → m.given_up old mode new → m.valued new v
+      → (cap : ℕ) × m.universal (m.head_dims old) cap v
 
 -- what values of one part at most keep further, so that sets of them can be made
 pub record PlainLaws {V H : Type 0} (m : Meaning V H) : Type 0 where
+  pub one_part : (v : V) → length (m.parts v) ≤ 1
+  -- there is one universal value, whatever the cap; one join, one head that starts with a value, one value of a head
+  pub one_universal : (n c d : ℕ) (v w : V) → m.universal n c v → m.universal n d w → v ≡ w
+  pub one_joined : (a b v w : V) → m.joined a b v → m.joined a b w → v ≡ w
+  pub one_started : (v : V) (given : Listed ConKind) (g h : H) → m.started v given g → m.started v given h → g ≡ h
+  pub one_valued : (h : H) (v w : V) → m.valued h v → m.valued h w → v ≡ w
   pub covered_reflexive : (a : V) → m.covered a a
   pub covered_transitive : (a b c : V) → m.covered a b → m.covered b c → m.covered a c
   -- a value is included in those that cover it
@@ -46,5 +58,7 @@ pub record PlainLaws {V H : Type 0} (m : Meaning V H) : Type 0 where
       → m.joined a b j → m.stays h a mode → m.stays h b mode → m.stays h j mode
   pub stays_value : (h : H) (v : V) (mode : Mode) → m.valued h v → m.stays h v mode
   pub stays_started : (h : H) (v : V) (given : Listed ConKind) (mode : Mode) → m.started v given h → m.stays h v mode
+  -- a head that starts with a value has no store beyond it
+  pub started_stores : (h : H) (v : V) (given : Listed ConKind) → m.started v given h → Within (m.head_has h) (m.has v)
   -- the first number of a rank is 1
   pub rank_first : (h : H) → (m.rank h).first ≡ 1

@@ -17,8 +17,9 @@ pub record Meaning (V H : Type 0) : Type 1 where
   pub has : V → List ℤ → Type 0
   -- how many dimensions it has
   pub dims : V → ℕ
-  -- the lists of rows that mean the value, part by part
+  -- the lists of rows that mean the value, part by part; it may have so many
   pub parts : V → List (Listed ConKind)
+  pub capped : V → ℕ → Type 0
   -- the first is covered by the second
   pub covered : V → V → Type 0
   -- the value of n dimensions and this cap that has all stores; that has none
@@ -36,6 +37,8 @@ pub record Meaning (V H : Type 0) : Type 1 where
   -- the list is a store of the head
   pub head_has : H → List ℤ → Type 0
   pub head_dims : H → ℕ
+  -- its values may have so many parts
+  pub head_capped : H → ℕ → Type 0
   pub rank : H → Rank
   pub head_covered : H → H → Type 0
   -- the head that starts with the value, for the given rows

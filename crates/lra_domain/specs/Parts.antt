@@ -1,5 +1,6 @@
 -- Where the rows of a part hold. A store x1, .., xn is the point 1, x1, .., xn of the rows' columns.
-use Rattle.std.specs.Prelude.{ℤ, pos, List, [], ◌∷◌, ◌⊎◌}
+-- And how many parts there may be.
+use Rattle.std.specs.Prelude.{ℕ, ℤ, pos, List, [], ◌∷◌, ◌⊎◌}
 use Rattle.lra_linear.specs.Descriptions.{Con}
 use Rattle.lra_sys.specs.Listed.{Listed, constraints}
 use Rattle.lra_sys.specs.declared.system.ConKind.{ConKind}
@@ -8,3 +9,7 @@ use Rattle.lra_sys.specs.declared.system.ConKind.{ConKind}
 abbrev pub SomePartHolds : List (Listed ConKind) → List ℤ → Type 0
 SomePartHolds [] s = ⊥
 SomePartHolds (p ∷ ps) s = Con (constraints p) (pos 1 ∷ s) ⊎ SomePartHolds ps s
+
+-- each cap of the first is one of the second
+abbrev pub CapsWithin : (ℕ → Type 0) → (ℕ → Type 0) → Type 0
+CapsWithin p q = (c : ℕ) → p c → q c

@@ -1,7 +1,7 @@
 ghost use Rattle.std.specs.Prelude.{◌≡◌, ◌≢◌, ◌+◌, ◌-◌, ◌^◌, ◌≤◌, ◌<◌, ◌↔◌, ℤ, List, [], length, All, IfOk, OnErr, OnOk, IsTrue};
 ghost use Rattle.lra_domain.specs.Rank.{RankBelow, RankFits};
 ghost use Rattle.lra_domain.specs.Actions.{Within, assign, forget, test, embed, remove_last};
-ghost use Rattle.lra_domain.specs.Parts.{SomePartHolds};
+ghost use Rattle.lra_domain.specs.Parts.{SomePartHolds, CapsWithin};
 ghost use Rattle.lra_domain.specs.Meaning.{Meaning, Meets, Joins, Starts, Grew, Values};
 ghost use Rattle.lra_domain.specs.Laws.{Laws, PlainLaws};
 
@@ -27,7 +27,8 @@ use std::alloc::{AllocError, Global};
 /// **Laws.** Give one record, `laws`, that this meaning keeps over all contents, also those that no value has: a
 /// store has as many numbers as there are dimensions (so say the length in `has`); what `universal` allows has `n`
 /// dimensions and all their stores, what `void` allows has `n` and no store, and a value without parts has no store;
-/// what is covered, or lies in a head, has no store beyond those of what covers it, or of the head.
+/// what is covered, or lies in a head, has no store beyond those of what covers it, or of the head; the value of a
+/// head that is given up is universal.
 ///
 /// **Stores.** `universe` has all lists of `n` numbers, `empty` none. `assign` keeps each store with `x` replaced by
 /// the form's value there, `forget` each with `x` replaced by anything, `test` each that passes, `join` those of both
@@ -51,9 +52,12 @@ use std::alloc::{AllocError, Global};
 /// **Parts.** `parts` gives the rows that mean the value: a list of `dims` numbers is a store exactly where all rows
 /// of some part hold; each row has one column more than `dims`. `is_empty` says yes exactly where there is no part.
 ///
-/// The calls' only conditions are equal dimensions, places in range, at most 2^30 dimensions, and a `cap` (how many
-/// parts a value may have, of use to powersets alone) of at least 1. An `AllocError` can come from any call that
-/// answers a `Result`.
+/// **Caps.** A value may have several caps, numbers of parts that it never passes; `capped` names them, `head_capped`
+/// those of a head. What `universal` and `void` allow with a cap of at least 1 has that cap. Each call keeps the caps:
+/// of two operands those that both have. A domain of one part at most takes all numbers from 1 on.
+///
+/// The calls' only conditions are equal dimensions, places in range, at most 2^30 dimensions, and a `cap` (of use to
+/// powersets alone) of at least 1. An `AllocError` can come from any call that answers a `Result`.
 pub trait Domain: Sized + Drop {
     /// A value that grows at the head of a loop.
     type Head: Drop;
@@ -108,6 +112,7 @@ pub trait Domain: Sized + Drop {
         requires width { length e.now.coefficients ≡ meaning.dims self.old }
         ensures meets { IfOk result (λ a. Meets meaning (assign x e.now) self.old a self.new) }
         ensures dims { meaning.dims self.new ≡ meaning.dims self.old }
+        ensures capped { CapsWithin (meaning.capped self.old) (meaning.capped self.new) }
         ensures err { OnErr result (self.new ≡ self.old) };
 
     /// Dimension `x` gets any value.
@@ -115,6 +120,7 @@ pub trait Domain: Sized + Drop {
         requires { x < meaning.dims self.old }
         ensures meets { IfOk result (λ a. Meets meaning (forget x) self.old a self.new) }
         ensures dims { meaning.dims self.new ≡ meaning.dims self.old }
+        ensures capped { CapsWithin (meaning.capped self.old) (meaning.capped self.new) }
         ensures err { OnErr result (self.new ≡ self.old) };
 
     /// Only stores that pass the test need stay.
@@ -122,6 +128,7 @@ pub trait Domain: Sized + Drop {
         requires { length t.now.expr.coefficients ≡ meaning.dims self.old }
         ensures meets { IfOk result (λ a. Meets meaning (test t.now.kind t.now.expr) self.old a self.new) }
         ensures dims { meaning.dims self.new ≡ meaning.dims self.old }
+        ensures capped { CapsWithin (meaning.capped self.old) (meaning.capped self.new) }
         ensures err { OnErr result (self.new ≡ self.old) };
 
     /// The stores of the other come in.
@@ -129,6 +136,8 @@ pub trait Domain: Sized + Drop {
         requires { meaning.dims self.old ≡ meaning.dims other.now }
         ensures joins { IfOk result (λ a. Joins meaning self.old other.now a self.new) }
         ensures dims { meaning.dims self.new ≡ meaning.dims self.old }
+        ensures capped { CapsWithin (λ c. meaning.capped self.old c × meaning.capped other.now c)
+            (meaning.capped self.new) }
         ensures err { OnErr result (self.new ≡ self.old) };
 
     /// `k` new dimensions of any value come last.
@@ -136,6 +145,7 @@ pub trait Domain: Sized + Drop {
         requires { meaning.dims self.old + k ≤ 2 ^ 30 }
         ensures meets { IfOk result (λ a. Meets meaning (embed k) self.old a self.new) }
         ensures dims { OnOk result (meaning.dims self.new ≡ meaning.dims self.old + k) }
+        ensures capped { CapsWithin (meaning.capped self.old) (meaning.capped self.new) }
         ensures err { OnErr result (self.new ≡ self.old) };
 
     /// The last `k` dimensions go.
@@ -143,6 +153,7 @@ pub trait Domain: Sized + Drop {
         requires { k ≤ meaning.dims self.old }
         ensures meets { IfOk result (λ a. Meets meaning (remove_last k) self.old a self.new) }
         ensures dims { OnOk result (meaning.dims self.new ≡ meaning.dims self.old - k) }
+        ensures capped { CapsWithin (meaning.capped self.old) (meaning.capped self.new) }
         ensures err { OnErr result (self.new ≡ self.old) };
 
     /// The rows that mean the value, part by part.
@@ -156,12 +167,15 @@ pub trait Domain: Sized + Drop {
         requires { given.now.dims ≡ meaning.dims first.now }
         ensures starts { IfOk result (λ h. Starts meaning first.now given.now h) }
         ensures dims { IfOk result (λ h. meaning.head_dims h ≡ meaning.dims first.now) }
+        ensures capped { IfOk result (λ h. CapsWithin (meaning.capped first.now) (meaning.head_capped h)) }
         ensures fits { IfOk result (λ h. RankFits (meaning.rank h)) };
 
     /// Grows the head so that it has the stores of next, unless it has them.
     fn grow(head: &mut Self::Head, next: &Self, mode: Mode) -> Result<Grown, AllocError>
         requires { meaning.head_dims head.old ≡ meaning.dims next.now }
         ensures dims { meaning.head_dims head.new ≡ meaning.head_dims head.old }
+        ensures capped { CapsWithin (λ c. meaning.head_capped head.old c × meaning.capped next.now c)
+            (meaning.head_capped head.new) }
         ensures stable { IfOk result (λ g. g ≡ Grown.Stable → head.new ≡ head.old) }
         ensures stays { IfOk result (λ g. g ≡ Grown.Stable → meaning.answers head.old next.now mode Included.Yes) }
         ensures grew { IfOk result (λ g. (a : Exactness) → g ≡ Grown.Grew a → Grew meaning head.old next.now mode a head.new) }
@@ -172,7 +186,8 @@ pub trait Domain: Sized + Drop {
     /// The value of the head.
     fn value(alloc: Global, head: &Self::Head) -> Result<(Self, Exactness), AllocError>
         ensures values { IfOk result (λ r. Values meaning head.now r.1 r.0) }
-        ensures dims { IfOk result (λ r. meaning.dims r.0 ≡ meaning.head_dims head.now) };
+        ensures dims { IfOk result (λ r. meaning.dims r.0 ≡ meaning.head_dims head.now) }
+        ensures capped { IfOk result (λ r. CapsWithin (meaning.head_capped head.now) (meaning.capped r.0)) };
 
     /// The rank of the head.
     fn rank(head: &Self::Head) -> Rank

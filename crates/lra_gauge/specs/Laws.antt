@@ -1,5 +1,5 @@
 -- The laws of gauges.
-use Rattle.std.proofs.Common.{◌≡◌, ℕ, zero, suc, ◌<◌, ◌≤◌, ℤ, List, [], length, refl, sym, subst, ◌∙◌, arith}
+use Rattle.std.proofs.Common.{◌≡◌, ℕ, zero, suc, max, ◌<◌, ◌≤◌, ℤ, List, [], length, refl, sym, subst, ◌∙◌, arith}
 use Rattle.std.proofs.Math.Nat.{max-le}
 use Rattle.lra_domain.specs.Actions.{Within}
 use Rattle.lra_domain.specs.Laws.{Laws, PlainLaws}
@@ -20,6 +20,19 @@ partless_has : (n bound : ℕ) → gauge_parts n bound ≡ [] → ¬ (0 < bound)
 partless_has n zero e h = omega arith
 partless_has n (suc bound) e h = cc
 
+one_gauge_part : (n bound : ℕ) → length (gauge_parts n bound) ≤ 1
+one_gauge_part n zero = omega arith
+one_gauge_part n (suc bound) = omega arith
+
+few_parts : (v : Gauge) (c : ℕ) → 1 ≤ c → length (gauge_parts v.dims v.bound) ≤ c
+few_parts v c some = let one = one_gauge_part v.dims v.bound in omega arith
+
+the_gauge : (n bound : ℕ) (v : Gauge) → IsGauge n bound v → v ≡ record { dims = n; bound = bound }
+the_gauge n bound v is = rw (← is.0, ← is.1) refl
+
+same_gauge : (n bound : ℕ) (v w : Gauge) → IsGauge n bound v → IsGauge n bound w → v ≡ w
+same_gauge n bound v w is so = the_gauge n bound v is ∙ sym (the_gauge n bound w so)
+
 partless_under : (n k a b : ℕ) → a ≤ b → gauge_parts k b ≡ [] → gauge_parts n a ≡ []
 partless_under n k zero b u e = refl
 partless_under n k (suc a) zero u e = absurd (omega arith)
@@ -33,6 +46,9 @@ gauge_laws = record {
   universal_stores = λ n cap v is s long. whole_has n v is s long;
   void_dims = λ n cap v is. is.0;
   void_stores = λ n cap v is s h. none_has n v is s h;
+  capped_parts = few_parts;
+  universal_capped = λ n cap v some is. some;
+  void_capped = λ n cap v some is. some;
   partless = λ v e s h. partless_has v.dims v.bound e h.1;
   covered_stores = under_has;
   head_covered_stores = under_has;
@@ -40,6 +56,7 @@ gauge_laws = record {
   answers_yes = λ h v mode u. u;
   answers_no = λ h v mode u. u;
   given_up_stores = λ old mode new is s long. whole_has old.dims new is s long;
+  given_up_value = λ old mode new v is e. (1, subst (λ (g : Gauge). IsGauge old.dims unbounded g) (sym e) is);
 }
 
 under_refl : (a : Gauge) → Under a a
@@ -56,6 +73,11 @@ same_under a b e = subst (λ (c : Gauge). Under a c) e (under_refl a)
 
 pub gauge_plain : PlainLaws gauge_meaning
 gauge_plain = record {
+  one_part = λ v. one_gauge_part v.dims v.bound;
+  one_universal = λ n c d v w is so. same_gauge n unbounded v w is so;
+  one_joined = λ a b v w is so. same_gauge a.dims (max a.bound b.bound) v w is so;
+  one_started = λ v given g h e f. e ∙ sym f;
+  one_valued = λ h v w e f. e ∙ sym f;
   covered_reflexive = under_refl;
   covered_transitive = under_trans;
   inside_covered = λ a b. (λ u. u, λ u. u);
@@ -65,5 +87,6 @@ gauge_plain = record {
   stays_joined = λ h a b j mode is u v. joined_under a b j h is u v;
   stays_value = λ h v mode e. same_under v h e;
   stays_started = λ h v given mode e. same_under v h (sym e);
+  started_stores = λ h v given e. under_has h v (same_under h v e);
   rank_first = λ h. refl;
 }

@@ -37,6 +37,7 @@ gauge_meaning = record {
   has = GaugeHas;
   dims = λ v. v.dims;
   parts = λ v. gauge_parts v.dims v.bound;
+  capped = λ v c. 1 ≤ c;
   covered = Under;
   universal = λ n cap v. IsGauge n unbounded v;
   void = λ n cap v. IsGauge n 0 v;
@@ -48,6 +49,7 @@ gauge_meaning = record {
   inside_strains = λ a b. Passes 100 b.bound a.bound;
   head_has = GaugeHas;
   head_dims = λ h. h.dims;
+  head_capped = λ h c. 1 ≤ c;
   rank = λ h. record { first = 1; second = 0; third = 0; fourth = unbounded - h.bound };
   head_covered = Under;
   started = λ v given h. h ≡ v;
