@@ -16,7 +16,7 @@ use Rattle.lra_words.specs.declared.chosen.Command.TheVariants.{Analyse, Sample,
 use Rattle.lra_words.proofs.OneCommand.{one_asked, asks_not_none}
 use Rattle.lra_top.specs.SourceAnswer.{limit, IsTooLong, IsUnrefused}
 use Rattle.lra_top.specs.Ends.{IsAnswer, EndsInUsage, EndsInRefusal, EndsInReport, EndsInOutput, IsReportOrMemory, IsOutputOrMemory}
-use Rattle.lra_top.specs.Run.{IsInput, options_of, usage_text, DeservesInput, Deserves, IsDeserved}
+use Rattle.lra_top.specs.Run.{IsInput, options_of, usage_text, AsksSome, DeservesInput, Deserves, IsDeserved}
 use Rattle.lra_top.specs.Prepared.{IsInputText}
 use Rattle.lra_top.proofs.SourceWays.{longer_source, source_answer, source_refused, source_reported, source_unrefused, source_too_long}
 use Rattle.lra_top.proofs.ScriptWays.{longer_script, too_long_answer, script_answer, script_refusal, script_output}
@@ -100,6 +100,9 @@ deserved_asked words left text status c asks d = record {
 
 pub some_asked : (words : List (List ℕ)) (asked : Option Command) (c : Command) → AsksFor words asked → asked ≡ Some c → AsksNone words → ⊥
 some_asked words asked c asks is none = let h : Asks words c = subst (AsksFor words) is asks in asks_not_none words c h none
+
+pub asked_some : (words : List (List ℕ)) (asked : Option Command) (c : Command) → AsksFor words asked → asked ≡ Some c → AsksSome words
+asked_some words asked c asks is = (c, subst (AsksFor words) is asks)
 
 pub none_asked : (words : List (List ℕ)) (asked : Option Command) → AsksFor words asked → asked ≡ None → AsksNone words
 none_asked words asked asks is = let h : AsksNone words = subst (AsksFor words) is asks in h

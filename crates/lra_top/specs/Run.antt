@@ -35,6 +35,10 @@ DeservesInput (Analyse options) bytes text status = DeservesSource (options_of o
 DeservesInput (Sample seed size) bytes text status = ⊥
 DeservesInput Calc bytes text status = DeservesScript bytes text status
 
+-- the words ask for a command
+abbrev pub AsksSome : List (List ℕ) → Type 0
+AsksSome words = (c : Command) × Asks words c
+
 -- the words ask for a command of which the input deserves the text
 pub record DeservesCommand (words : List (List ℕ)) (bytes text : List ℕ) (status : Status) : Type 0 where
   pub command : Command

@@ -15,7 +15,7 @@ ghost use Rattle.lra_tree.specs.Built.{Built};
 ghost use Rattle.lra_tree.specs.Refuse.{Refuse, Accepts};
 ghost use Rattle.lra_top.specs.SourceAnswer.{limit, IsTooLong, IsUnrefused};
 ghost use Rattle.lra_top.specs.ScriptAnswer.{DeservesScript};
-ghost use Rattle.lra_top.specs.Run.{usage_text, DeservesInput, IsDeserved, Writes, WritesPart, ReadsInput};
+ghost use Rattle.lra_top.specs.Run.{usage_text, AsksSome, DeservesInput, IsDeserved, Writes, WritesPart, ReadsInput};
 ghost use Rattle.lra_top.specs.Ends.{EndsInUsage, EndsInRefusal, EndsInReport, EndsInOutput, IsReportOrMemory, IsOutputOrMemory};
 ghost use Rattle.lra_top.specs.Prepared.{IsInputText, PrepareCause};
 
@@ -119,6 +119,7 @@ fn prepare<S: Source>(alloc: Global, words: &[String], source: &mut S) -> Result
     ensures unread { AsksNone (map string_bytes words.now) → S.left source.new ≡ S.left source.old }
     ensures untouched { AsksNone (map string_bytes words.now) → S.faults source.new ≡ S.faults source.old }
     ensures untaken { AsksNone (map string_bytes words.now) → IsErrOf result NoAnswer.ReadFault → ⊥ }
+    ensures taken { IsErrOf result NoAnswer.ReadFault → AsksSome (map string_bytes words.now) }
 {
     match asked(alloc, words)? {
         Some(command) => prepare_input(alloc, command, source),
@@ -174,8 +175,9 @@ pub fn run<S: Source, K: Sink>(
     // Whatever the answer, at most one byte past the limit is read.
     ensures front { LosesFront (S.left source.old) (S.left source.new) limit }
 
-    // A fault is the answer only where its count rose, and every other answer leaves the counts.
+    // A fault is the answer only where its count rose, that of reading only to a command; every other answer leaves the counts.
     ensures read_fault { result ≡ Status.ReadFault → Rose (S.faults source.old) (S.faults source.new) }
+    ensures read_asked { result ≡ Status.ReadFault → AsksSome (map string_bytes words.now) }
     ensures no_read_fault { result ≢ Status.ReadFault → S.faults source.new ≡ S.faults source.old }
     ensures write_fault { result ≡ Status.WriteFault → Rose (K.faults sink.old) (K.faults sink.new) }
     ensures no_write_fault { result ≢ Status.WriteFault → K.faults sink.new ≡ K.faults sink.old }

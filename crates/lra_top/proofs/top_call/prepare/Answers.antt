@@ -1,6 +1,6 @@
 use Rattle.std.proofs.Common.{map, string_bytes}
 use Rattle.lra_words.proofs.OneCommand.{asks_not_none}
-use Rattle.lra_top.proofs.Ways.{some_asked, none_asked, deserved_usage}
+use Rattle.lra_top.proofs.Ways.{some_asked, asked_some, none_asked, deserved_usage}
 use Rattle.lra_top.proofs.top_call.prepare.Goals as goal
 
 pub returns-in-Some-clause-unread : goal.returns-in-Some-clause-unread
@@ -11,6 +11,9 @@ returns-in-Some-clause-untouched g c = λ none. absurd (some_asked (map string_b
 
 pub returns-in-Some-clause-untaken : goal.returns-in-Some-clause-untaken
 returns-in-Some-clause-untaken g c = λ none failed. some_asked (map string_bytes c.args.words.now) _ _ c.in_ok-command.ensures.asks c.in-Some.is none
+
+pub returns-in-Some-clause-taken : goal.returns-in-Some-clause-taken
+returns-in-Some-clause-taken g c = λ failed. asked_some (map string_bytes c.args.words.now) _ _ c.in_ok-command.ensures.asks c.in-Some.is
 
 pub returns-in_ok-refuse_words-in-None-clause-deserved : goal.returns-in_ok-refuse_words-in-None-clause-deserved
 returns-in_ok-refuse_words-in-None-clause-deserved g c =
