@@ -1,8 +1,9 @@
--- The part of the grammar that is taken today. The other productions are empty cases of it until they come, so their first token is at fault:
--- functions but `main`, globals, prototypes, calls, loops, `break`, `continue`, `return`, and declarations in a block inside a function's body.
+-- The part of the grammar that is taken today. The other productions are empty cases of it until they come, so their
+-- first token is at fault: functions but `main`, globals, prototypes, calls, and declarations in the head of a `for` or in
+-- a block inside a function's body.
 use Rattle.std.specs.Prelude.{◌≡◌, [], ◌∷◌, codes, Option, Some, None, ⊤}
 use Rattle.std.specs.List.{AllByRecursion}
-use Rattle.lra_tree.specs.Trees.{SourceTree, expression, result, AssignTree, set, update, after, before, DeclaratorTree, DeclarationTree, StmtTree, block, nothing, assign, call, if_only, if_else, while, for, break, continue, return, assert, assume, ItemsTree, no_items, declaration, statement, FunctionTree, PartTree, prototype, globals, function}
+use Rattle.lra_tree.specs.Trees.{SourceTree, expression, result, AssignTree, set, update, after, before, DeclaratorTree, DeclarationTree, InitTree, no_init, declared, assigned, StmtTree, block, nothing, assign, call, if_only, if_else, while, for, break, continue, return, assert, assume, ItemsTree, no_items, declaration, statement, FunctionTree, PartTree, prototype, globals, function}
 use Rattle.lra_tree.specs.Grammar.{Spells}
 use Rattle.lra_tree.specs.Faults.{Language}
 
@@ -16,9 +17,20 @@ IsBuiltAssign (update x op e) = ⊤
 IsBuiltAssign (after x s) = ⊤
 IsBuiltAssign (before at s x) = ⊤
 
+-- what is declared gets, or a `return` gives
 abbrev pub IsBuiltGiven : Option SourceTree → Type 0
 IsBuiltGiven None = ⊤
 IsBuiltGiven (Some e) = IsBuiltSource e
+
+-- the head of a `for`
+abbrev pub IsBuiltInit : InitTree → Type 0
+IsBuiltInit no_init = ⊤
+IsBuiltInit (declared d) = ⊥
+IsBuiltInit (assigned a) = IsBuiltAssign a
+
+abbrev pub IsBuiltStep : Option AssignTree → Type 0
+IsBuiltStep None = ⊤
+IsBuiltStep (Some a) = IsBuiltAssign a
 
 abbrev pub IsBuiltDeclaration : DeclarationTree → Type 0
 IsBuiltDeclaration d = AllByRecursion (λ (x : DeclaratorTree). IsBuiltGiven x.source) (d.first ∷ d.rest)
@@ -31,11 +43,11 @@ abbrev mutual
   IsBuiltStmt (call c) = ⊥
   IsBuiltStmt (if_only at c t) = IsBuiltStmt t
   IsBuiltStmt (if_else at c t e) = IsBuiltStmt t × IsBuiltStmt e
-  IsBuiltStmt (while at c b) = ⊥
-  IsBuiltStmt (for at i c e b) = ⊥
-  IsBuiltStmt (break at) = ⊥
-  IsBuiltStmt (continue at) = ⊥
-  IsBuiltStmt (return at e) = ⊥
+  IsBuiltStmt (while at c b) = IsBuiltStmt b
+  IsBuiltStmt (for at i c e b) = IsBuiltInit i × IsBuiltStep e × IsBuiltStmt b
+  IsBuiltStmt (break at) = ⊤
+  IsBuiltStmt (continue at) = ⊤
+  IsBuiltStmt (return at e) = IsBuiltGiven e
   IsBuiltStmt (assert at c) = ⊤
   IsBuiltStmt (assume at c) = ⊤
 
