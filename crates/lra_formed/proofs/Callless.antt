@@ -7,8 +7,8 @@ use Rattle.lra_tree.specs.declared.tokens.Token.{Token}
 use Rattle.lra_tree.specs.declared.trees.Identifier.{Identifier}
 use Rattle.lra_tree.specs.Trees as tree
 use Rattle.lra_tree.specs.Scope.{functions_in}
-use Rattle.lra_tree.specs.Labels.{Labelled, called_in, called_of, called_by, with_names, declarator_labels, stmt_labels, items_labels}
-use Rattle.lra_tree.specs.Built.{Built, IsBuiltSource, IsBuiltGiven, IsBuiltAssign, IsBuiltStmt, AreBuiltStmts, AreBuiltItems, IsBuiltPart}
+use Rattle.lra_tree.specs.Labels.{Labelled, called_in, called_of, called_by, with_names, declarator_labels, init_labels, live_in_for, step_labels, stmt_labels, items_labels}
+use Rattle.lra_tree.specs.Built.{Built, IsBuiltSource, IsBuiltGiven, IsBuiltAssign, IsBuiltInit, IsBuiltStep, IsBuiltStmt, AreBuiltStmts, AreBuiltItems, IsBuiltPart}
 use Rattle.lra_tree.specs.Faults.{IsTree}
 use Rattle.lra_tree.specs.Reach.{called_names, calls_in}
 use Rattle.lra_tree.specs.Refuse.{NotRecursive}
@@ -47,6 +47,15 @@ declarators_call_nothing : (live : List (List ℕ)) (ds : List tree.DeclaratorTr
 declarators_call_nothing live [] h = refl
 declarators_call_nothing live (d ∷ ds) h = label_then (called_of d.source) (declarator_labels (live ++ d.name.word ∷ []) ds) (no_call_given d.source h.0) (declarators_call_nothing (live ++ d.name.word ∷ []) ds h.1)
 
+init_calls_nothing : (live : List (List ℕ)) (i : tree.InitTree) → IsBuiltInit i → CallsNothing (init_labels live i)
+init_calls_nothing live tree.no_init h = refl
+init_calls_nothing live (tree.declared d) h = absurd h
+init_calls_nothing live (tree.assigned a) h = label_then (called_by a) [] (no_call_by a h) refl
+
+step_calls_nothing : (live : List (List ℕ)) (a : Option tree.AssignTree) → IsBuiltStep a → CallsNothing (step_labels live a)
+step_calls_nothing live None h = refl
+step_calls_nothing live (Some a) h = label_then (called_by a) [] (no_call_by a h) refl
+
 mutual
   stmt_calls_nothing : (live : List (List ℕ)) (t : tree.StmtTree) → IsBuiltStmt t → CallsNothing (stmt_labels live t)
   stmt_calls_nothing live (tree.block items end) h = stmts_call_nothing live items end h
@@ -55,11 +64,14 @@ mutual
   stmt_calls_nothing live (tree.call c) h = absurd h
   stmt_calls_nothing live (tree.if_only at c t) h = stmt_calls_nothing live t h
   stmt_calls_nothing live (tree.if_else at c t u) h = nothing_then (stmt_labels live t) (stmt_labels live u) (stmt_calls_nothing live t h.0) (stmt_calls_nothing live u h.1)
-  stmt_calls_nothing live (tree.while at c t) h = absurd h
-  stmt_calls_nothing live (tree.for at i c a t) h = absurd h
-  stmt_calls_nothing live (tree.break at) h = absurd h
-  stmt_calls_nothing live (tree.continue at) h = absurd h
-  stmt_calls_nothing live (tree.return at a) h = absurd h
+  stmt_calls_nothing live (tree.while at c t) h = stmt_calls_nothing live t h
+  stmt_calls_nothing live (tree.for at i c a t) h =
+      let inside = live_in_for live i in
+      nothing_then (init_labels live i ++ step_labels inside a) (stmt_labels inside t)
+      (nothing_then (init_labels live i) (step_labels inside a) (init_calls_nothing live i h.0) (step_calls_nothing inside a h.1)) (stmt_calls_nothing inside t h.2)
+  stmt_calls_nothing live (tree.break at) h = refl
+  stmt_calls_nothing live (tree.continue at) h = refl
+  stmt_calls_nothing live (tree.return at a) h = label_then (called_of a) [] (no_call_given a h) refl
   stmt_calls_nothing live (tree.assert at c) h = refl
   stmt_calls_nothing live (tree.assume at c) h = refl
 

@@ -13,13 +13,13 @@ use Rattle.lra_tree.specs.declared.trees.Identifier.{Identifier}
 use Rattle.lra_tree.specs.declared.trees.Step.{Step}
 use Rattle.lra_tree.specs.declared.trees.Step.TheVariants as step
 use Rattle.lra_tree.specs.Texts.{Piece, Pieces, Texts, ◌⋅◌, opens, opens_at}
-use Rattle.lra_tree.specs.Trees.{DeclarationTree, StmtTree, block, nothing, assign, call, if_only, if_else, while, for, break, continue, return, assert, assume, increment, after, before, ItemsTree, no_items, declaration, statement}
+use Rattle.lra_tree.specs.Trees.{DeclarationTree, StmtTree, block, nothing, assign, call, if_only, if_else, while, for, break, continue, return, assert, assume, increment, after, before, no_init, ItemsTree, no_items, declaration, statement}
 use Rattle.lra_tree.specs.Views.{step_view}
 use Rattle.lra_tree.specs.Grammar.{IsStmt, AreItems}
 use Rattle.lra_tree.specs.Built.{IsBuiltDeclaration, IsBuiltStmt, AreBuiltStmts, AreBuiltItems}
 use Rattle.lra_parse.specs.Tests.{is_mark}
 use Rattle.lra_parse.specs.Reading.{Parse, stop, map_read, identifier_of, has, one_of}
-use Rattle.lra_parse.specs.Statements.{next_step, step_marks, StmtMark, at_nothing, at_if, at_assert, at_assume, stmt_marks, stmt_mark, begins_stmt, ItemTree, declared, stated, items_from, begins_item, stated_of, item_of, items_of, body_of, block_from, too_deep, levels, branch_at, block_at, simple_at, items_at}
+use Rattle.lra_parse.specs.Statements.{next_step, step_marks, StmtMark, at_nothing, at_if, at_while, at_for, at_break, at_continue, at_return, at_assert, at_assume, stmt_marks, stmt_mark, begins_stmt, ItemTree, declared, stated, items_from, begins_item, stated_of, item_of, items_of, body_of, block_from, too_deep, levels, branch_at, block_at, simple_at, items_at}
 use Rattle.lra_parse.proofs.Marks.{is_mark_some}
 use Rattle.lra_parse.proofs.Exact.{Exact, Any, Free, Both, test, first_or, then}
 use Rattle.lra_parse.proofs.Forms.{rename, widen, retell, entry, given as given_fact, mapped, branch, exact_stop, exact_deep}
@@ -28,7 +28,8 @@ use Rattle.lra_parse.proofs.Chain.{regroup, Items, AfterLast, all_last, exact_li
 use Rattle.lra_parse.proofs.Parts.{token, exact_behind, table_mark}
 use Rattle.lra_parse.proofs.ExactExpressions.{Of, first_opened, opened_over}
 use Rattle.lra_parse.proofs.ExactConditions.{some_cond}
-use Rattle.lra_parse.proofs.ExactStatements.{mark_of_step, DeclarationText, exact_declaration, AfterStmt, StmtText, IsBlock, SimpleText, mark_of_stmt, SimpleAt, from_simple, placed_first, assign_no_mark, AssignText, from_assign, exact_simple}
+use Rattle.lra_parse.proofs.ExactAssignments.{mark_of_step, AssignText, from_assign, placed_first, assign_no_mark, DeclarationText, exact_declaration}
+use Rattle.lra_parse.proofs.ExactStatements.{AfterStmt, StmtText, IsBlock, SimpleText, mark_of_stmt, SimpleAt, from_simple, exact_simple}
 
 -- how a statement begins ------------------------------------------------------------------------------------------
 
@@ -36,6 +37,11 @@ simple_first : (o l : ℕ) (k : Option StmtMark) (t : StmtTree) (z : Pieces) (i 
     → ((x : Identifier) → P (Some (record { kind = Name x.word; place = x.place }))) → ((s : Step) (at : Place) → P (Some (token (mark_of_step s) at))) → P (first_or z i)
 simple_first o l (Some at_nothing) t z i (at, f, s) P marks names steps = placed_first P mark.Semicolon at o z [] z i (sym (append-nil z)) s (marks at_nothing at)
 simple_first o l (Some at_if) t z i (at, (x, y, e, s, r)) P marks names steps = placed_first P mark.If at o x y z i e s (marks at_if at)
+simple_first o l (Some at_while) t z i (at, (x, y, e, s, r)) P marks names steps = placed_first P mark.While at o x y z i e s (marks at_while at)
+simple_first o l (Some at_for) t z i (at, (x, y, e, s, r)) P marks names steps = placed_first P mark.For at o x y z i e s (marks at_for at)
+simple_first o l (Some at_break) t z i (at, f, (x, y, e, s, r)) P marks names steps = placed_first P mark.Break at o x y z i e s (marks at_break at)
+simple_first o l (Some at_continue) t z i (at, f, (x, y, e, s, r)) P marks names steps = placed_first P mark.Continue at o x y z i e s (marks at_continue at)
+simple_first o l (Some at_return) t z i (at, (x, y, e, s, r)) P marks names steps = placed_first P mark.Return at o x y z i e s (marks at_return at)
 simple_first o l (Some at_assert) t z i (at, (x, y, e, s, r)) P marks names steps = placed_first P mark.Assert at o x y z i e s (marks at_assert at)
 simple_first o l (Some at_assume) t z i (at, (x, y, e, s, r)) P marks names steps = placed_first P mark.Assume at o x y z i e s (marks at_assume at)
 simple_first o l None t z i (a, f, (x, y, e, s, r)) P marks names steps = assign_no_mark o l a x y z i e s P names steps
@@ -93,12 +99,22 @@ stmt_begins P h o l t z i s = elim (is_block t) [
 stmt_self : (m : StmtMark) (at : Place) → stmt_mark (Some (token (mark_of_stmt m) at)) ≡ Some m
 stmt_self at_nothing at = refl
 stmt_self at_if at = refl
+stmt_self at_while at = refl
+stmt_self at_for at = refl
+stmt_self at_break at = refl
+stmt_self at_continue at = refl
+stmt_self at_return at = refl
 stmt_self at_assert at = refl
 stmt_self at_assume at = refl
 
 begin_marks : (m : StmtMark) (at : Place) → begins_stmt (Some (token (mark_of_stmt m) at)) ≡ true
 begin_marks at_nothing at = refl
 begin_marks at_if at = refl
+begin_marks at_while at = refl
+begin_marks at_for at = refl
+begin_marks at_break at = refl
+begin_marks at_continue at = refl
+begin_marks at_return at = refl
 begin_marks at_assert at = refl
 begin_marks at_assume at = refl
 
@@ -112,12 +128,22 @@ all_begin = record { braces = λ at. refl; marks = begin_marks; names = λ x. re
 not_brace_marks : (m : StmtMark) (at : Place) → is_mark mark.OpenBrace (Some (token (mark_of_stmt m) at)) ≡ false
 not_brace_marks at_nothing at = refl
 not_brace_marks at_if at = refl
+not_brace_marks at_while at = refl
+not_brace_marks at_for at = refl
+not_brace_marks at_break at = refl
+not_brace_marks at_continue at = refl
+not_brace_marks at_return at = refl
 not_brace_marks at_assert at = refl
 not_brace_marks at_assume at = refl
 
 not_long_marks : (m : StmtMark) (at : Place) → is_mark mark.Long (Some (token (mark_of_stmt m) at)) ≡ false
 not_long_marks at_nothing at = refl
 not_long_marks at_if at = refl
+not_long_marks at_while at = refl
+not_long_marks at_for at = refl
+not_long_marks at_break at = refl
+not_long_marks at_continue at = refl
+not_long_marks at_return at = refl
 not_long_marks at_assert at = refl
 not_long_marks at_assume at = refl
 
@@ -144,6 +170,13 @@ start_mark : (o : ℕ) (m : StmtMark) (at : Place) → Starts o (token (mark_of_
 start_mark o at_nothing at = (nothing at, [], (refl, tt))
 start_mark o at_if at =
     (if_only at (some_cond o).0 (nothing some_place), _, ((_, _, refl, refl, (_, _, refl, (_, _, refl, (some_place, refl), (_, _, refl, (some_cond o).2, (some_place, refl))), refl)), tt))
+start_mark o at_while at =
+    (while at (some_cond o).0 (nothing some_place), _, ((_, _, refl, refl, (_, _, refl, (_, _, refl, (some_place, refl), (_, _, refl, (some_cond o).2, (some_place, refl))), refl)), tt))
+start_mark o at_for at =
+    (for at no_init None None (nothing some_place), _, ((_, _, refl, refl, (_, _, refl, (some_place, refl), (_, _, refl, (some_place, refl), (_, _, refl, refl, (_, _, refl, (some_place, refl), (_, _, refl, refl, (_, _, refl, (some_place, refl), refl))))))), (tt, tt, tt)))
+start_mark o at_break at = (break at, _, ((_, _, refl, refl, (some_place, refl)), tt))
+start_mark o at_continue at = (continue at, _, ((_, _, refl, refl, (some_place, refl)), tt))
+start_mark o at_return at = (return at None, _, ((_, _, refl, refl, (_, _, refl, refl, (some_place, refl))), tt))
 start_mark o at_assert at = (assert at (some_cond o).0, _, ((_, _, refl, refl, (_, _, refl, (_, _, refl, (some_place, refl), (_, _, refl, (some_cond o).2, (some_place, refl))), (some_place, refl))), tt))
 start_mark o at_assume at = (assume at (some_cond o).0, _, ((_, _, refl, refl, (_, _, refl, (_, _, refl, (some_place, refl), (_, _, refl, (some_cond o).2, (some_place, refl))), (some_place, refl))), tt))
 
@@ -187,7 +220,7 @@ starts o t e = elim (test (is_mark mark.OpenBrace (Some t))) [
   | inr off ↦ elim (test (has (stmt_mark (Some t)))) [
     | inl on ↦
         let m = some_of (stmt_mark (Some t)) on in
-        let k = the_token mark_of_stmt t m.0 (table_mark mark_of_stmt stmt_marks (refl, (refl, (refl, (refl, tt)))) (Some t) m.0 m.1) in
+        let k = the_token mark_of_stmt t m.0 (table_mark mark_of_stmt stmt_marks (refl, (refl, (refl, (refl, (refl, (refl, (refl, (refl, (refl, tt))))))))) (Some t) m.0 m.1) in
         subst (Starts o) (sym k.1) (start_mark o m.0 k.0)
     | inr off' ↦ elim (test (has (one_of step_marks (Some t)))) [
       | inl on ↦
@@ -514,11 +547,11 @@ stmt_over n o l (assign a) z h ((x, y, e, s, r), b) = assign_over n o l a x y z 
 stmt_over n o l (call c) z h s = absurd s.1
 stmt_over n o l (if_only at c t) z h ((x, y, e, s, r), b) = placed_over n o mark.If at x y z h e s
 stmt_over n o l (if_else at c t d) z h (((x, y, e, s, r), k), b) = placed_over n o mark.If at x y z h e s
-stmt_over n o l (while at c b) z h s = absurd s.1
-stmt_over n o l (for at i c e b) z h s = absurd s.1
-stmt_over n o l (break at) z h s = absurd s.1
-stmt_over n o l (continue at) z h s = absurd s.1
-stmt_over n o l (return at e) z h s = absurd s.1
+stmt_over n o l (while at c b) z h ((x, y, f, s, r), k) = placed_over n o mark.While at x y z h f s
+stmt_over n o l (for at i c e b) z h ((x, y, f, s, r), k) = placed_over n o mark.For at x y z h f s
+stmt_over n o l (break at) z h ((x, y, f, s, r), k) = placed_over n o mark.Break at x y z h f s
+stmt_over n o l (continue at) z h ((x, y, f, s, r), k) = placed_over n o mark.Continue at x y z h f s
+stmt_over n o l (return at e) z h ((x, y, f, s, r), k) = placed_over n o mark.Return at x y z h f s
 stmt_over n o l (assert at c) z h ((x, y, e, s, r), b) = placed_over n o mark.Assert at x y z h e s
 stmt_over n o l (assume at c) z h ((x, y, e, s, r), b) = placed_over n o mark.Assume at x y z h e s
 

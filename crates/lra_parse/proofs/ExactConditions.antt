@@ -391,7 +391,7 @@ last_conjunction (or c a) o s p q r = (last_test a o s p q, r)
 pub cond_closes : (c : CondTree) (at : Place) → AfterCond c (Some (token mark.CloseParen at))
 cond_closes c at = (last_conjunction c _ refl refl refl refl, refl)
 
-cond_stops : (c : CondTree) (at : Place) → AfterCond c (Some (token mark.Semicolon at))
+pub cond_stops : (c : CondTree) (at : Place) → AfterCond c (Some (token mark.Semicolon at))
 cond_stops c at = (last_conjunction c _ refl refl refl refl, refl)
 
 conjunction_follow : IsFollow next_and one_test (λ (c : ConjunctionTree) (k : Unit {0}) (t : TestTree). and c t) AfterTest LastTest

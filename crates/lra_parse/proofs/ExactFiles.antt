@@ -23,7 +23,7 @@ use Rattle.lra_parse.proofs.Tokens.{IsInner, name_is, some_place}
 use Rattle.lra_parse.proofs.Chain.{regroup, Items, AfterLast, all_last, exact_list}
 use Rattle.lra_parse.proofs.Parts.{exact_behind}
 use Rattle.lra_parse.proofs.ExactExpressions.{Of, first_opened}
-use Rattle.lra_parse.proofs.ExactStatements.{exact_skip, exact_type}
+use Rattle.lra_parse.proofs.ExactAssignments.{exact_skip, exact_type}
 use Rattle.lra_parse.proofs.ExactBlocks.{BodyText, exact_function_body}
 
 -- `main` -----------------------------------------------------------------------------------------------------------

@@ -1,405 +1,29 @@
--- The readers of assignments, declarations and statements are exact.
-use Rattle.std.proofs.Common.{◌≡◌, ℕ, ◌+◌, ◌≤◌, Bool, true, false, cond, ◌⊎◌, List, [], ◌∷◌, ◌++◌, Option, Some, None, Ok, Err, refl, sym, ap, subst, ◌∙◌, arith, inl, inr, option_map}
+-- The readers of statements that are no block are exact.
+use Rattle.std.proofs.Common.{◌≡◌, ℕ, ◌+◌, ◌≤◌, true, false, ◌⊎◌, [], ◌++◌, Option, Some, None, refl, sym, ap, subst, ◌∙◌, arith, inl, inr}
 use Rattle.std.specs.Bool.{⊤}
-use Rattle.std.specs.List.{AllByRecursion}
 use Rattle.std.proofs.lemmas.List.{append-nil}
 use Rattle.lra_tree.specs.declared.refusals.Place.{Place}
 use Rattle.lra_tree.specs.declared.tokens.Mark.{Mark}
 use Rattle.lra_tree.specs.declared.tokens.Mark.TheVariants as mark
-use Rattle.lra_tree.specs.declared.tokens.Kind.TheVariants.{Name, Mark as MarkOf}
 use Rattle.lra_tree.specs.declared.tokens.Token.{Token}
-use Rattle.lra_tree.specs.declared.trees.Identifier.{Identifier}
-use Rattle.lra_tree.specs.declared.trees.Operator.{Operator}
-use Rattle.lra_tree.specs.declared.trees.Operator.TheVariants as operator
 use Rattle.lra_tree.specs.declared.trees.Step.{Step}
 use Rattle.lra_tree.specs.declared.trees.Step.TheVariants as step
-use Rattle.lra_tree.specs.Program as program
-use Rattle.lra_tree.specs.Texts.{Pieces, Texts, ◌⋅◌, ◌∣◌, empty, opens, mark as spells, opens_at, name, further, separated}
-use Rattle.lra_tree.specs.Trees.{CondTree, SourceTree, expression, result, StepTree, increment, decrement, AssignTree, set, update, after, before, DeclaratorTree, DeclarationTree, StmtTree, block, nothing, assign, call, if_only, if_else, while, for, break, continue, return, assert, assume}
-use Rattle.lra_tree.specs.Views.{operator_view, step_view}
-use Rattle.lra_tree.specs.Grammar.{IsExpr, InParens, IsSource, update_mark, step_mark, IsAssign, IsType, IsDeclarator, IsDeclaration, TakesElse, IsStmt}
-use Rattle.lra_tree.specs.Built.{IsBuiltSource, IsBuiltAssign, IsBuiltGiven, IsBuiltDeclaration, IsBuiltStmt}
-use Rattle.lra_parse.specs.Tests.{first, is_mark}
-use Rattle.lra_parse.specs.Reading.{Text, Read, Parse, ◌>>=◌, seq, tail, expect, take_by, has, one_of}
-use Rattle.lra_parse.specs.Expressions.{behind, in_parens, cond_at}
-use Rattle.lra_parse.specs.Statements.{skip, commas, update_operators, update_operator, step_marks, next_step, source_at, assign_rest, assign_at, type_words, given, declarator_at, declaration_of, declaration_at, StmtMark, at_nothing, at_if, at_assert, at_assume, stmt_mark, else_part, read_if, read_check, simple_form, simple_of}
-use Rattle.lra_parse.proofs.Marks.{is_mark_some, is_mark_self}
+use Rattle.lra_tree.specs.Texts.{Pieces, Texts, ◌⋅◌, opens, mark as spells, opens_at}
+use Rattle.lra_tree.specs.Trees.{CondTree, AssignTree, InitTree, StmtTree, block, nothing, assign, call, if_only, if_else, while, for, break, continue, return, assert, assume}
+use Rattle.lra_tree.specs.Grammar.{InParens, TakesElse, IsStmt}
+use Rattle.lra_tree.specs.Built.{IsBuiltStmt}
+use Rattle.lra_parse.specs.Tests.{is_mark}
+use Rattle.lra_parse.specs.Reading.{Parse, seq}
+use Rattle.lra_parse.specs.Expressions.{in_parens, cond_at}
+use Rattle.lra_parse.specs.Statements.{StmtMark, at_nothing, at_if, at_while, at_for, at_break, at_continue, at_return, at_assert, at_assume, stmt_mark, else_part, read_if, read_while, for_of, read_for, read_jump, read_return, read_check, simple_form, simple_of}
 use Rattle.lra_parse.proofs.Exact.{Exact, Any, Free, Both, first_or, then}
-use Rattle.lra_parse.proofs.Forms.{rename, widen, retell, entry, given as given_fact, mapped, choose, branch, same_where, exact_done, exact_take}
-use Rattle.lra_parse.proofs.Tokens.{IsInner, table_is, exact_expect_at, exact_name, exact_operator, some_place, some_name}
-use Rattle.lra_parse.proofs.Chain.{regroup, joined_left, joined_right, Items, AfterLast, exact_list}
-use Rattle.lra_parse.proofs.Parts.{token, exact_behind, exact_ended, by_table}
-use Rattle.lra_parse.proofs.ExactExpressions.{AfterExpr, some_expr, Of, first_opened, exact_expr}
+use Rattle.lra_parse.proofs.Forms.{rename, widen, entry, given as given_fact, mapped, choose, branch, exact_done}
+use Rattle.lra_parse.proofs.Tokens.{IsInner, exact_expect_at, some_place}
+use Rattle.lra_parse.proofs.Parts.{token, exact_behind, exact_ended}
+use Rattle.lra_parse.proofs.ExactExpressions.{Of, first_opened}
 use Rattle.lra_parse.proofs.ExactConditions.{some_cond, exact_cond, exact_parens}
-
--- optional marks and lists with commas -----------------------------------------------------------------------------
-
-skip_is : {A : Type 0} (m : Mark) (p : Parse A) (T : Text) (v : Bool) → is_mark m (first T) ≡ v → cond v (behind m p T) (p T) ≡ p (cond v (tail T) T)
-skip_is m p T true e = rw e refl
-skip_is m p T false e = refl
-
-skip_sides : {A : Type 0} (m : Mark) (S : A → Pieces → Type 0) (b : A) (z : Pieces) → ((spells m ∣ empty) ⋅ S b) z → (opens m 0 ⋅ S b) z ⊎ S b z
-skip_sides m S b z (x, y, e, inl s, t) = inl (x, y, e, s, t)
-skip_sides m S b z (x, y, e, inr s, t) = inr (subst (S b) (sym (e ∙ ap (λ (k : Pieces). k ++ y) s)) t)
-
--- a mark that may be there
-pub exact_skip : {n : ℕ} {A : Type 0} {p : Parse A} {S : A → Pieces → Type 0} {F : A → Option Token → Type 0} (m : Mark) → Exact n IsInner p Any S S F → (some : (a : A) × (x : Pieces) × S a x)
-    → (begins : (a : A) (x : Pieces) (o : Option Token) → S a x → (x ≡ [] → F a o) → is_mark m (first_or x o) ≡ false)
-    → Exact n IsInner (λ T. p (skip m T)) Any (λ b. (spells m ∣ empty) ⋅ S b) (λ b. (spells m ∣ empty) ⋅ S b) F
-exact_skip {n} {A} {p} {S = S} {F = F} m P some begins =
-    let q = exact_behind m 0 (omega arith) P some in
-    let W : A → Pieces → Type 0 = λ b. (spells m ∣ empty) ⋅ S b in
-    let t = branch (is_mark m) (entry (widen q W (λ b z s. (s.0, s.1, s.2, inl s.3, s.4))) (λ o. ⊤ × (is_mark m o ≡ true)) (λ o h. tt))
-    (entry (widen P W (λ b z s. ([], z, refl, inr refl, s))) (λ o. ⊤ × (is_mark m o ≡ false)) (λ o h. tt))
-    (λ b z o s f. first_opened (λ i. is_mark m i ≡ true) m 0 s.0 s.1 z o s.2 s.3 (λ at. is_mark_self m (token m at) refl)) begins in
-    let s = same_where t (λ T. p (skip m T)) (λ T i. skip_is m p T (is_mark m (first T)) refl) in
-    rename s W
-    (λ b z s. elim s [ inl k ↦ (k.0, k.1, k.2, inl k.3, k.4) | inr k ↦ ([], z, refl, inr refl, k) ])
-    (λ b z s. skip_sides m S b z s)
-
-items_further : {A : Type 0} (S : A → Texts) (is : List A) (z : Pieces) → Items (λ a. opens mark.Comma 0 ⋅ S a) is z → further S is z
-items_further S [] z e = e
-items_further S (i ∷ is) z (x, y, e, s, r) = joined_right (opens mark.Comma 0) (S i) (further S is) z (x, y, e, s, items_further S is y r)
-
-further_items : {A : Type 0} (S : A → Texts) (is : List A) (z : Pieces) → further S is z → Items (λ a. opens mark.Comma 0 ⋅ S a) is z
-further_items S [] z e = e
-further_items S (i ∷ is) z (x, y, e, s, (u, v, f, r, t)) = joined_left (opens mark.Comma 0) (S i) (Items (λ a. opens mark.Comma 0 ⋅ S a) is) z (x, y, e, s, (u, v, f, r, further_items S is v t))
-
-abbrev pub AfterCommas : {A : Type 0} → (A → Option Token → Type 0) → A × List A → Option Token → Type 0
-AfterCommas F b o = AfterLast F (F b.0) b.1 o × (is_mark mark.Comma o ≡ false)
-
-commas_first : {A : Type 0} (S : A → Texts) (F : A → Option Token → Type 0) (fine : (a : A) (at : Place) → F a (Some (token mark.Comma at))) (a : A) (is : List A) (y : Pieces) (o : Option Token)
-    → Items (λ a. opens mark.Comma 0 ⋅ S a) is y → (y ≡ [] → AfterLast F (F a) is o) → F a (first_or y o)
-commas_first S F fine a [] y o e f = rw e (f e)
-commas_first S F fine a (i ∷ is) y o (u, v, e, (p, q, g, s, t), r) f = first_opened (F a) mark.Comma 0 p (q ++ v) y o (e ∙ regroup u v p q g) s (fine a)
-
-pub exact_commas : {n : ℕ} {A : Type 0} {p : Parse A} {S : A → Pieces → Type 0} {F : A → Option Token → Type 0} → Exact n IsInner p Any S S F → (some : (a : A) × (x : Pieces) × S a x)
-    → (fine : (a : A) (at : Place) → F a (Some (token mark.Comma at)))
-    → Exact n IsInner (commas p) Any (λ b z. separated S (b.0 ∷ b.1) z) (λ b z. separated S (b.0 ∷ b.1) z) (AfterCommas F)
-exact_commas {n} {A} {p} {S = S} {F = F} P some fine =
-    let item = entry (exact_behind mark.Comma 0 (omega arith) P some) (λ o. is_mark mark.Comma o ≡ true) (λ o h. tt) in
-    let goes : (a : A) (o : Option Token) → is_mark mark.Comma o ≡ true → F a o = λ a o e. by_table (λ (u : Unit {0}). mark.Comma) ((mark.Comma, tt {0}) ∷ []) (refl, tt) (F a) (λ u at. fine a at) o (rw e refl) in
-    let list = λ (a : A). exact_list (is_mark mark.Comma) item (F a) refl (λ i x s. first_opened (λ i. is_mark mark.Comma i ≡ true) mark.Comma 0 s.0 s.1 x None s.2 s.3 (λ at. refl)) goes (λ o e. goes a o e) in
-    let t = then P (λ a. mapped (list a) (λ further. (a, further)) (AfterCommas F) (λ i o f. f) (λ i o f. f)) (λ b z. separated S (b.0 ∷ b.1) z)
-    (λ a b y o s f. commas_first S F fine a s.0 y o s.2 (λ e. let g : AfterCommas F (a, s.0) o = subst (λ (c : A × List A). AfterCommas F c o) (sym s.1) (f e) in g.0))
-    (λ a z v. ((a, []), [], (z, [], refl, v, refl)))
-    (λ a b x y s r. subst (λ (c : A × List A). separated S (c.0 ∷ c.1) (x ++ y)) r.1 (x, y, refl, s, items_further S r.0 y r.2)) in
-    rename t (λ b z. separated S (b.0 ∷ b.1) z)
-    (λ b z s. subst (λ (c : A × List A). separated S (c.0 ∷ c.1) z) s.1.4.1 (s.1.0, s.1.1, s.1.2, s.1.3, items_further S s.1.4.0 s.1.1 s.1.4.2))
-    (λ b z s. (b.0, (s.0, s.1, s.2, s.3, (b.1, refl, further_items S b.1 s.1 s.4))))
-
--- operators --------------------------------------------------------------------------------------------------------
-
-abbrev pub mark_of_update : Operator → Mark
-mark_of_update op = update_mark (operator_view op)
-
-update_self : (k : Operator) (at : Place) → update_operator (Some (token (mark_of_update k) at)) ≡ Some k
-update_self operator.Plus at = refl
-update_self operator.Minus at = refl
-update_self operator.Times at = refl
-update_self operator.Over at = refl
-update_self operator.Modulo at = refl
-
-exact_update : (n : ℕ) → Exact n IsInner (take_by update_operator) Any (λ k z. spells (mark_of_update k) z) (λ k z. spells (mark_of_update k) z) Free
-exact_update n = exact_operator n mark_of_update update_operators (refl, (refl, (refl, (refl, (refl, tt))))) update_self refl operator.Plus
-
-operator_of : (op : program.Operator) → (k : Operator) × (operator_view k ≡ op)
-operator_of program.plus = (operator.Plus, refl)
-operator_of program.minus = (operator.Minus, refl)
-operator_of program.times = (operator.Times, refl)
-operator_of program.over = (operator.Over, refl)
-operator_of program.modulo = (operator.Modulo, refl)
-
-abbrev pub mark_of_step : Step → Mark
-mark_of_step s = step_mark (step_view s)
-
-step_of : (s : StepTree) → (k : Step) × (step_view k ≡ s)
-step_of increment = (step.Increment, refl)
-step_of decrement = (step.Decrement, refl)
-
-pub step_self : (k : Step) (at : Place) → next_step (Some (token (mark_of_step k) at)) ≡ Some (k, at)
-step_self step.Increment at = refl
-step_self step.Decrement at = refl
-
-mapped_some : (at : Place) (m : Option Step) (a : Step × Place) → option_map (λ s. (s, at)) m ≡ Some a → (m ≡ Some a.0) × (at ≡ a.1)
-mapped_some at None a e = absurd cc
-mapped_some at (Some s) a e = let f : (s, at) ≡ a = cc in (ap (λ (p : Step × Place). Some p.0) f, ap (λ (p : Step × Place). p.1) f)
-
-step_token : (t : Token) (a : Step × Place) → next_step (Some t) ≡ Some a → t ≡ token (mark_of_step a.0) a.1
-step_token t a e =
-    let m = mapped_some t.place (one_of step_marks (Some t)) a e in
-    let k = is_mark_some (mark_of_step a.0) t (table_is mark_of_step step_marks (refl, (refl, tt)) (Some t) a.0 m.0) in
-    k ∙ ap (λ (p : Place). token (mark_of_step a.0) p) m.1
-
-abbrev pub StepText : ℕ → Step × Place → Texts
-StepText o s z = opens_at (mark_of_step s.0) s.1 o z
-
-exact_step : (n o : ℕ) → o ≤ n → Exact n IsInner (take_by next_step) Any (StepText o) (StepText o) Free
-exact_step n o low =
-    let t = exact_take n IsInner next_step o low refl (λ t a e f. let k = ap (λ (u : Token). u.kind) (step_token t a e) in let g : MarkOf (mark_of_step a.0) ≡ _ = sym k ∙ f in cc)
-    (step.Increment, some_place) (token mark.Increment some_place) refl in
-    retell t (StepText o) (λ a z s. s.1 ∙ ap (λ (u : Token). (u, o) ∷ []) (step_token s.0 a s.2)) (λ a z s. (token (mark_of_step a.0) a.1, s, step_self a.0 a.1))
-
--- sources ----------------------------------------------------------------------------------------------------------
-
-abbrev pub AfterSource : SourceTree → Option Token → Type 0
-AfterSource (expression e) o = AfterExpr e o
-AfterSource (result c) o = ⊤
-
-abbrev pub SourceText : ℕ → SourceTree → Texts
-SourceText l e z = IsSource l e z × IsBuiltSource e
-
-some_source : (l : ℕ) → (e : SourceTree) × (x : Pieces) × SourceText l e x
-some_source l = (expression (some_expr l).0, (some_expr l).1, ((some_expr l).2, tt))
-
-to_source : (l : ℕ) (b : SourceTree) (z : Pieces) → Of expression (IsExpr l) b z → SourceText l b z
-to_source l b z (e, f, s) = subst (λ (c : SourceTree). SourceText l c z) f (s, tt)
-
-from_source : (l : ℕ) (b : SourceTree) (z : Pieces) → SourceText l b z → Of expression (IsExpr l) b z
-from_source l (expression e) z s = (e, refl, s.0)
-from_source l (result c) z s = absurd s.1
-
-exact_source : (n d l : ℕ) → d + l ≡ n → Exact n IsInner (source_at d) Any (SourceText l) (SourceText l) AfterSource
-exact_source n d l h = retell (mapped (exact_expr n d l h) expression AfterSource (λ e o f. f) (λ e o f. f)) (SourceText l) (λ b z s. to_source l b z s) (λ b z s. from_source l b z s)
-
--- assignments ------------------------------------------------------------------------------------------------------
-
-abbrev pub AfterAssign : AssignTree → Option Token → Type 0
-AfterAssign (set x e) o = AfterSource e o
-AfterAssign (update x op e) o = AfterExpr e o
-AfterAssign (after x s) o = ⊤
-AfterAssign (before at s x) o = ⊤
-
-abbrev pub AssignText : ℕ → ℕ → AssignTree → Texts
-AssignText o l a z = IsAssign o l a z × IsBuiltAssign a
-
-abbrev SetText : ℕ → Identifier → AssignTree → Texts
-SetText l x b = opens mark.Assign 0 ⋅ Of (set x) (SourceText l) b
-
-abbrev UpdateText : ℕ → Identifier → AssignTree → Texts
-UpdateText l x b z = Both (λ op z. spells (mark_of_update op) z) (λ op b. Of (update x (operator_view op)) (IsExpr l) b) b z
-
-abbrev AfterText : Identifier → AssignTree → Texts
-AfterText x b z = Of (λ (s : Step × Place). after x (step_view s.0)) (StepText 0) b z
-
--- behind the name
-abbrev RestText : ℕ → Identifier → AssignTree → Texts
-RestText l x b z = SetText l x b z ⊎ (UpdateText l x b z ⊎ AfterText x b z)
-
-update_begins : (l : ℕ) (x : Identifier) (b : AssignTree) (z : Pieces) (o : Option Token) → UpdateText l x b z → has (update_operator (first_or z o)) ≡ true
-update_begins l x b z o (op, (u, v, e, s, r)) = first_opened (λ i. has (update_operator i) ≡ true) (mark_of_update op) 0 u v z o e s (λ at. rw (update_self op at) refl)
-
-update_not_set : (op : Operator) (at : Place) → is_mark mark.Assign (Some (token (mark_of_update op) at)) ≡ false
-update_not_set operator.Plus at = refl
-update_not_set operator.Minus at = refl
-update_not_set operator.Times at = refl
-update_not_set operator.Over at = refl
-update_not_set operator.Modulo at = refl
-
-update_no_set : (l : ℕ) (x : Identifier) (b : AssignTree) (z : Pieces) (o : Option Token) → UpdateText l x b z → is_mark mark.Assign (first_or z o) ≡ false
-update_no_set l x b z o (op, (u, v, e, s, r)) = first_opened (λ i. is_mark mark.Assign i ≡ false) (mark_of_update op) 0 u v z o e s (λ at. update_not_set op at)
-
-step_not : (s : Step) (at : Place) → (has (update_operator (Some (token (mark_of_step s) at))) ≡ false) × (is_mark mark.Assign (Some (token (mark_of_step s) at)) ≡ false)
-step_not step.Increment at = (refl, refl)
-step_not step.Decrement at = (refl, refl)
-
-step_no_update : (x : Identifier) (b : AssignTree) (z : Pieces) (o : Option Token) → AfterText x b z → has (update_operator (first_or z o)) ≡ false
-step_no_update x b z o (s, f, e) = rw e (step_not s.0 s.1).0
-
-step_no_set : (x : Identifier) (b : AssignTree) (z : Pieces) (o : Option Token) → AfterText x b z → is_mark mark.Assign (first_or z o) ≡ false
-step_no_set x b z o (s, f, e) = rw e (step_not s.0 s.1).1
-
-exact_assign_rest : (n d l : ℕ) → d + l ≡ n → (x : Identifier) → Exact n IsInner (assign_rest d x) Any (RestText l x) (RestText l x) AfterAssign
-exact_assign_rest n d l h x =
-    let sets = exact_behind mark.Assign 0 (omega arith) (mapped (exact_source n d l h) (set x) AfterAssign (λ e o f. f) (λ e o f. f)) (set x (some_source l).0, (some_source l).1, ((some_source l).0, refl, (some_source l).2)) in
-    let updates = then (exact_update n) (λ op. mapped (exact_expr n d l h) (update x (operator_view op)) AfterAssign (λ e o f. f) (λ e o f. f)) (UpdateText l x)
-    (λ op b y o s f. tt)
-    (λ op z v. (update x (operator_view op) (some_expr l).0, (some_expr l).1, (op, (z, (some_expr l).1, refl, v, ((some_expr l).0, refl, (some_expr l).2)))))
-    (λ op b u v s r. (op, (u, v, refl, s, r))) in
-    let steps = mapped (exact_step n 0 (omega arith)) (λ (s : Step × Place). after x (step_view s.0)) AfterAssign (λ s o f. tt) (λ s o f. tt) in
-    let b1 = branch (λ o. has (update_operator o)) {E = λ o. ⊤ × (is_mark mark.Assign o ≡ false)}
-    (entry (widen updates (λ b z. UpdateText l x b z ⊎ AfterText x b z) (λ b z s. inl s)) (λ o. (⊤ × (is_mark mark.Assign o ≡ false)) × (has (update_operator o) ≡ true)) (λ o i. tt))
-    (entry (widen steps (λ b z. UpdateText l x b z ⊎ AfterText x b z) (λ b z s. inr s)) (λ o. (⊤ × (is_mark mark.Assign o ≡ false)) × (has (update_operator o) ≡ false)) (λ o i. tt))
-    (λ b z o s f. update_begins l x b z o s) (λ b z o s f. step_no_update x b z o s) in
-    branch (is_mark mark.Assign) (entry (widen sets (RestText l x) (λ b z s. inl s)) (λ o. ⊤ × (is_mark mark.Assign o ≡ true)) (λ o i. tt))
-    (widen b1 (RestText l x) (λ b z s. inr s))
-    (λ b z o s f. first_opened (λ i. is_mark mark.Assign i ≡ true) mark.Assign 0 s.0 s.1 z o s.2 s.3 (λ at. refl))
-    (λ b z o s f. elim s [ inl u ↦ update_no_set l x b z o u | inr u ↦ step_no_set x b z o u ])
-
-abbrev BeforeText : ℕ → AssignTree → Texts
-BeforeText o b z = Both (StepText o) (λ s b. Of (before s.1 (step_view s.0)) (λ x. name x 0) b) b z
-
-abbrev NamedText : ℕ → ℕ → AssignTree → Texts
-NamedText o l b z = Both (λ x. name x o) (RestText l) b z
-
-rest_assign : (o l : ℕ) (x : Identifier) (b : AssignTree) (u v z : Pieces) → z ≡ u ++ v → name x o u → RestText l x b v → AssignText o l b z
-rest_assign o l x b u v z e s (inl (p, q, f, m, (a, g, t))) = subst (λ (c : AssignTree). AssignText o l c z) g ((u, v, e, s, (p, q, f, m, t.0)), t.1)
-rest_assign o l x b u v z e s (inr (inl (op, (p, q, f, m, (a, g, t))))) = subst (λ (c : AssignTree). AssignText o l c z) g ((u, v, e, s, (p, q, f, m, t)), tt)
-rest_assign o l x b u v z e s (inr (inr (k, g, t))) = subst (λ (c : AssignTree). AssignText o l c z) g ((u, v, e, s, (k.1, t)), tt)
-
-pub to_assign : (o l : ℕ) (b : AssignTree) (z : Pieces) → BeforeText o b z ⊎ NamedText o l b z → AssignText o l b z
-to_assign o l b z (inl (s, (u, v, e, m, (x, g, t)))) = subst (λ (c : AssignTree). AssignText o l c z) g ((u, v, e, m, t), tt)
-to_assign o l b z (inr (x, (u, v, e, s, r))) = rest_assign o l x b u v z e s r
-
-pub from_assign : (o l : ℕ) (b : AssignTree) (z : Pieces) → AssignText o l b z → BeforeText o b z ⊎ NamedText o l b z
-from_assign o l (set x a) z ((u, v, e, s, (p, q, f, m, t)), k) = inr (x, (u, v, e, s, inl (p, q, f, m, (a, refl, (t, k)))))
-from_assign o l (update x op a) z ((u, v, e, s, (p, q, f, m, t)), k) =
-    let c = operator_of op in
-    inr (x, (u, v, e, s, inr (inl (c.0, (p, q, f, subst (λ (i : program.Operator). spells (update_mark i) p) (sym c.1) m, (a, ap (λ (i : program.Operator). update x i a) c.1, t))))))
-from_assign o l (after x s) z ((u, v, e, m, (at, t)), k) =
-    let c = step_of s in
-    inr (x, (u, v, e, m, inr (inr ((c.0, at), ap (λ (i : StepTree). after x i) c.1, subst (λ (i : StepTree). opens_at (step_mark i) at 0 v) (sym c.1) t))))
-from_assign o l (before at s x) z ((u, v, e, m, t), k) =
-    let c = step_of s in
-    inl ((c.0, at), (u, v, e, subst (λ (i : StepTree). opens_at (step_mark i) at o u) (sym c.1) m, (x, ap (λ (i : StepTree). before at i x) c.1, t)))
-
-before_begins : (o : ℕ) (b : AssignTree) (z : Pieces) (k : Option Token) → BeforeText o b z → has (next_step (first_or z k)) ≡ true
-before_begins o b z k (s, (u, v, e, m, r)) = rw (e, m) (rw (step_self s.0 s.1) refl)
-
-named_begins : (o l : ℕ) (b : AssignTree) (z : Pieces) (k : Option Token) → NamedText o l b z → has (next_step (first_or z k)) ≡ false
-named_begins o l b z k (x, (u, v, e, s, r)) = rw (e, s) refl
-
-some_assign : (o l : ℕ) → (a : AssignTree) × (x : Pieces) × AssignText o l a x
-some_assign o l = (after some_name increment, _, ((_, _, refl, refl, (some_place, refl)), tt))
-
-pub exact_assign : (n d l o : ℕ) → d + l ≡ n → o ≤ n → Exact n IsInner (assign_at d) Any (AssignText o l) (AssignText o l) AfterAssign
-exact_assign n d l o h low =
-    let befores = then (exact_step n o low) (λ s. mapped (exact_name n 0 (omega arith)) (before s.1 (step_view s.0)) AfterAssign (λ x k f. tt) (λ x k f. tt)) (BeforeText o)
-    (λ s b y k t f. tt)
-    (λ s z v. (before s.1 (step_view s.0) some_name, _, (s, (z, _, refl, v, (some_name, refl, refl)))))
-    (λ s b u v t r. (s, (u, v, refl, t, r))) in
-    let named = then (exact_name n o low) (exact_assign_rest n d l h) (NamedText o l)
-    (λ x b y k s f. tt)
-    (λ x z v. (after x increment, _, (x, (z, _, refl, v, inr (inr ((step.Increment, some_place), refl, refl))))))
-    (λ x b u v s r. (x, (u, v, refl, s, r))) in
-    let t = branch (λ k. has (next_step k)) (entry (widen befores (λ b z. BeforeText o b z ⊎ NamedText o l b z) (λ b z s. inl s)) (λ k. ⊤ × (has (next_step k) ≡ true)) (λ k i. tt))
-    (entry (widen named (λ b z. BeforeText o b z ⊎ NamedText o l b z) (λ b z s. inr s)) (λ k. ⊤ × (has (next_step k) ≡ false)) (λ k i. tt))
-    (λ b z k s f. before_begins o b z k s) (λ b z k s f. named_begins o l b z k s) in
-    retell t (AssignText o l) (λ b z s. to_assign o l b z s) (λ b z s. from_assign o l b z s)
-
--- declarations -----------------------------------------------------------------------------------------------------
-
-twice : {A : Type 0} (r : Read (Unit {0})) (f : Text → Text) (p : Parse A) → ((r >>= (λ x. Ok (tt {0}, f x.1))) >>= (λ x. p x.1)) ≡ (r >>= (λ x. p (f x.1)))
-twice (Ok x) f p = refl
-twice (Err e) f p = refl
-
-type_out : (R : Texts) (z : Pieces) → (opens mark.Long 0 ⋅ ((spells mark.Long ∣ empty) ⋅ ((spells mark.Int ∣ empty) ⋅ R))) z → (IsType ⋅ R) z
-type_out R z (x, y, e, s, t) = joined_left (opens mark.Long 0) ((spells mark.Long ∣ empty) ⋅ (spells mark.Int ∣ empty)) R z (x, y, e, s, joined_left (spells mark.Long ∣ empty) (spells mark.Int ∣ empty) R y t)
-
-type_in : (R : Texts) (z : Pieces) → (IsType ⋅ R) z → (opens mark.Long 0 ⋅ ((spells mark.Long ∣ empty) ⋅ ((spells mark.Int ∣ empty) ⋅ R))) z
-type_in R z s = let k = joined_right (opens mark.Long 0) ((spells mark.Long ∣ empty) ⋅ (spells mark.Int ∣ empty)) R z s in (k.0, k.1, k.2, k.3, joined_right (spells mark.Long ∣ empty) (spells mark.Int ∣ empty) R k.1 k.4)
-
-skipped_first : {A : Type 0} (S : A → Texts) (F : A → Option Token → Type 0) (m k : Mark) → ((at : Place) → is_mark m (Some (token k at)) ≡ false) → (begins : (a : A) (x : Pieces) (o : Option Token) → S a x → (x ≡ [] → F a o) → is_mark m (first_or x o) ≡ false)
-    → (a : A) (x : Pieces) (o : Option Token) → ((spells k ∣ empty) ⋅ S a) x → (x ≡ [] → F a o) → is_mark m (first_or x o) ≡ false
-skipped_first S F m k other begins a x o (u, v, e, inl s, t) f = first_opened (λ i. is_mark m i ≡ false) k 0 u v x o e s other
-skipped_first S F m k other begins a x o (u, v, e, inr s, t) f =
-    let same : x ≡ v = e ∙ ap (λ (w : Pieces). w ++ v) s in
-    subst (λ (w : Pieces). is_mark m (first_or w o) ≡ false) (sym same) (begins a v o t (λ i. f (same ∙ i)))
-
--- behind a type
-pub exact_type : {n : ℕ} {A : Type 0} {p : Parse A} {S : A → Pieces → Type 0} {F : A → Option Token → Type 0} → Exact n IsInner p Any S S F → (some : (a : A) × (x : Pieces) × S a x)
-    → (begins : (m : Mark) (a : A) (x : Pieces) (o : Option Token) → S a x → (x ≡ [] → F a o) → is_mark m (first_or x o) ≡ false)
-    → Exact n IsInner (seq type_words (λ _. p)) Any (λ b. IsType ⋅ S b) (λ b. IsType ⋅ S b) F
-exact_type {n} {A} {p} {S = S} {F = F} P some begins =
-    let ints = exact_skip mark.Int P some (begins mark.Int) in
-    let some_int : (a : A) × (x : Pieces) × ((spells mark.Int ∣ empty) ⋅ S a) x = (some.0, some.1, ([], some.1, refl, inr refl, some.2)) in
-    let longs = exact_skip mark.Long ints some_int (λ a x o s f. skipped_first S F mark.Long mark.Int (λ at. refl) (begins mark.Long) a x o s f) in
-    let some_long : (a : A) × (x : Pieces) × ((spells mark.Long ∣ empty) ⋅ ((spells mark.Int ∣ empty) ⋅ S a)) x = (some.0, some.1, ([], some.1, refl, inr refl, some_int.2)) in
-    let t = exact_behind mark.Long 0 (omega arith) longs some_long in
-    let s = same_where t (seq type_words (λ _. p)) (λ T i. sym (twice (expect mark.Long (tt {0}) T) (λ T. skip mark.Int (skip mark.Long T)) p)) in
-    retell s (λ b. IsType ⋅ S b) (λ b z s. type_out (S b) z s) (λ b z s. type_in (S b) z s)
-
-abbrev AfterGiven : Option SourceTree → Option Token → Type 0
-AfterGiven None o = is_mark mark.Assign o ≡ false
-AfterGiven (Some e) o = AfterSource e o
-
-abbrev AfterDeclarator : DeclaratorTree → Option Token → Type 0
-AfterDeclarator d o = AfterGiven d.source o
-
-abbrev DeclaratorText : ℕ → DeclaratorTree → Texts
-DeclaratorText l d z = IsDeclarator l d z × IsBuiltGiven d.source
-
-abbrev with_source : Identifier → SourceTree → DeclaratorTree
-with_source x e = record { name = x; source = Some e }
-
-abbrev alone_name : Identifier → DeclaratorTree
-alone_name x = record { name = x; source = None }
-
-abbrev GivenText : ℕ → Identifier → DeclaratorTree → Texts
-GivenText l x b z = (opens mark.Assign 0 ⋅ Of (with_source x) (SourceText l) b) z ⊎ ((b ≡ alone_name x) × (z ≡ []))
-
-not_given : (x : Identifier) (b : DeclaratorTree) (z : Pieces) (o : Option Token) → b ≡ alone_name x → z ≡ [] → (z ≡ [] → AfterDeclarator b o) → is_mark mark.Assign (first_or z o) ≡ false
-not_given x b z o e f h = rw f (let g : AfterDeclarator (alone_name x) o = subst (λ (c : DeclaratorTree). AfterDeclarator c o) e (h f) in g)
-
-exact_given : (n d l : ℕ) → d + l ≡ n → (x : Identifier) → Exact n IsInner (given d x) Any (GivenText l x) (GivenText l x) AfterDeclarator
-exact_given n d l h x =
-    let some = exact_behind mark.Assign 0 (omega arith) (mapped (exact_source n d l h) (with_source x) AfterDeclarator (λ e o f. f) (λ e o f. f)) (with_source x (some_source l).0, (some_source l).1, ((some_source l).0, refl, (some_source l).2)) in
-    branch (is_mark mark.Assign) (entry (widen some (GivenText l x) (λ b z s. inl s)) (λ o. ⊤ × (is_mark mark.Assign o ≡ true)) (λ o i. tt))
-    (widen (exact_done n IsInner (alone_name x) (λ o. ⊤ × (is_mark mark.Assign o ≡ false)) (λ b z. (b ≡ alone_name x) × (z ≡ [])) AfterDeclarator (λ o i. i.1)) (GivenText l x) (λ b z s. inr s))
-    (λ b z o s f. first_opened (λ i. is_mark mark.Assign i ≡ true) mark.Assign 0 s.0 s.1 z o s.2 s.3 (λ at. refl))
-    (λ b z o s f. not_given x b z o s.0 s.1 f)
-
-to_declarator : (l : ℕ) (b : DeclaratorTree) (z : Pieces) → Both (λ x. name x 0) (GivenText l) b z → DeclaratorText l b z
-to_declarator l b z (x, (u, v, e, s, inl (p, q, f, m, (a, g, t)))) = subst (λ (c : DeclaratorTree). DeclaratorText l c z) g ((u, v, e, s, (p, q, f, m, t.0)), t.1)
-to_declarator l b z (x, (u, v, e, s, inr (g, f))) = subst (λ (c : DeclaratorTree). DeclaratorText l c z) (sym g) ((u, v, e, s, f), tt)
-
-from_given : (l : ℕ) (x : Identifier) (m : Option SourceTree) (z : Pieces) → DeclaratorText l (record { name = x; source = m }) z → Both (λ x. name x 0) (GivenText l) (record { name = x; source = m }) z
-from_given l x None z ((u, v, e, s, t), k) = (x, (u, v, e, s, inr (refl, t)))
-from_given l x (Some a) z ((u, v, e, s, (p, q, f, m, t)), k) = (x, (u, v, e, s, inl (p, q, f, m, (a, refl, (t, k)))))
-
-some_declarator : (l : ℕ) → (d : DeclaratorTree) × (x : Pieces) × DeclaratorText l d x
-some_declarator l = (alone_name some_name, _, ((_, _, refl, refl, refl), tt))
-
-exact_declarator : (n d l : ℕ) → d + l ≡ n → Exact n IsInner (declarator_at d) Any (DeclaratorText l) (DeclaratorText l) AfterDeclarator
-exact_declarator n d l h =
-    let t = then (exact_name n 0 (omega arith)) (exact_given n d l h) (λ b z. Both (λ x. name x 0) (GivenText l) b z)
-    (λ x b y o s f. tt) (λ x z v. (alone_name x, [], (x, (z, [], refl, v, inr (refl, refl))))) (λ x b u v s r. (x, (u, v, refl, s, r))) in
-    retell t (DeclaratorText l) (λ b z s. to_declarator l b z s) (λ b z s. from_given l b.name b.source z s)
-
--- a fact of each item
-further_both : {A : Type 0} (R : A → Texts) (P : A → Type 0) (is : List A) (z : Pieces) → further (λ a z. R a z × P a) is z → further R is z × AllByRecursion P is
-further_both R P [] z e = (e, tt)
-further_both R P (i ∷ is) z (x, y, e, s, (u, v, f, (r, p), t)) = let k = further_both R P is v t in ((x, y, e, s, (u, v, f, r, k.0)), (p, k.1))
-
-both_further : {A : Type 0} (R : A → Texts) (P : A → Type 0) (is : List A) (z : Pieces) → further R is z → AllByRecursion P is → further (λ a z. R a z × P a) is z
-both_further R P [] z e h = e
-both_further R P (i ∷ is) z (x, y, e, s, (u, v, f, r, t)) h = (x, y, e, s, (u, v, f, (r, h.0), both_further R P is v t h.1))
-
-abbrev pub DeclarationText : ℕ → DeclarationTree → Texts
-DeclarationText l d z = IsDeclaration l d z × IsBuiltDeclaration d
-
-abbrev Declared : ℕ → DeclarationTree → Texts
-Declared l b = Of declaration_of (λ ds. separated (DeclaratorText l) (ds.0 ∷ ds.1)) b
-
-to_declaration : (l : ℕ) (b : DeclarationTree) (z : Pieces) → (IsType ⋅ (Declared l b ⋅ spells mark.Semicolon)) z → DeclarationText l b z
-to_declaration l b z (x, y, e, s, (u, v, f, (ds, g, (p, q, i, r, t)), m)) =
-    let k = further_both (IsDeclarator l) (λ (d : DeclaratorTree). IsBuiltGiven d.source) ds.1 q t in
-    subst (λ (c : DeclarationTree). DeclarationText l c z) g ((x, y, e, s, (u, v, f, (p, q, i, r.0, k.0), m)), (r.1, k.1))
-
-from_declaration : (l : ℕ) (b : DeclarationTree) (z : Pieces) → DeclarationText l b z → (IsType ⋅ (Declared l b ⋅ spells mark.Semicolon)) z
-from_declaration l b z ((x, y, e, s, (u, v, f, (p, q, i, r, t), m)), h) =
-    (x, y, e, s, (u, v, f, ((b.first, b.rest), refl, (p, q, i, (r, h.0), both_further (IsDeclarator l) (λ (d : DeclaratorTree). IsBuiltGiven d.source) b.rest q t h.1)), m))
-
-given_stops : (m : Option SourceTree) (at : Place) → AfterGiven m (Some (token mark.Semicolon at)) × AfterGiven m (Some (token mark.Comma at))
-given_stops None at = (refl, refl)
-given_stops (Some (expression e)) at = (((tt, refl), refl), ((tt, refl), refl))
-given_stops (Some (result c)) at = (tt, tt)
-
-last_stops : (ds : List DeclaratorTree) (d : DeclaratorTree) (at : Place) → AfterLast AfterDeclarator (AfterDeclarator d) ds (Some (token mark.Semicolon at))
-last_stops [] d at = (given_stops d.source at).0
-last_stops (e ∷ ds) d at = last_stops ds e at
-
-declared_begins : (l : ℕ) (m : Mark) (b : DeclarationTree) (x : Pieces) (o : Option Token) → (Declared l b ⋅ spells mark.Semicolon) x → is_mark m (first_or x o) ≡ false
-declared_begins l m b x o (u, v, f, (ds, g, (p, q, i, ((a, c, j, s, t), k), r)), w) = rw (f, i, j, s) refl
-
-pub exact_declaration : (n d l : ℕ) → d + l ≡ n → Exact n IsInner (declaration_at d) Any (DeclarationText l) (DeclarationText l) Free
-exact_declaration n d l h =
-    let list = exact_commas (exact_declarator n d l h) (some_declarator l) (λ a at. (given_stops a.source at).1) in
-    let made = mapped list declaration_of (λ b o. AfterCommas AfterDeclarator (b.first, b.rest) o) (λ i o f. f) (λ i o f. f) in
-    let whole = exact_ended mark.Semicolon made (λ b at. (last_stops b.rest b.first at, refl)) in
-    let some = some_declarator l in
-    let t = exact_type whole (declaration_of (some.0, []), _, (_, _, refl, ((some.0, []), refl, (_, _, refl, some.2, refl)), (some_place, refl))) (λ m b x o s f. declared_begins l m b x o s) in
-    retell t (DeclarationText l) (λ b z s. to_declaration l b z s) (λ b z s. from_declaration l b z s)
+use Rattle.lra_parse.proofs.ExactAssignments.{mark_of_step, SourceText, AssignText, exact_assign, placed_first, assign_no_mark, assign_stops}
+use Rattle.lra_parse.proofs.ExactHeads.{OptionText, exact_returned, to_returned, from_returned, HeadText, some_head, exact_head, head_rest, rest_head}
 
 -- statements -------------------------------------------------------------------------------------------------------
 
@@ -430,6 +54,11 @@ SimpleText o l t z = StmtText o l t z × (IsBlock t → ⊥)
 abbrev pub mark_of_stmt : StmtMark → Mark
 mark_of_stmt at_nothing = mark.Semicolon
 mark_of_stmt at_if = mark.If
+mark_of_stmt at_while = mark.While
+mark_of_stmt at_for = mark.For
+mark_of_stmt at_break = mark.Break
+mark_of_stmt at_continue = mark.Continue
+mark_of_stmt at_return = mark.Return
 mark_of_stmt at_assert = mark.Assert
 mark_of_stmt at_assume = mark.Assume
 
@@ -445,6 +74,18 @@ BranchedText l at c b z = Both (BranchText l) (ElseText l at c) b z
 abbrev pub IfText : ℕ → ℕ → StmtTree → Texts
 IfText o l b z = Both (λ at z. opens_at mark.If at o z) (λ at b z. Both (InParens l) (BranchedText l at) b z) b z
 
+abbrev pub WhileText : ℕ → ℕ → StmtTree → Texts
+WhileText o l b z = Both (λ at z. opens_at mark.While at o z) (λ at b z. Both (InParens l) (λ c b. Of (while at c) (BranchText l) b) b z) b z
+
+abbrev pub ForText : ℕ → ℕ → StmtTree → Texts
+ForText o l b z = Both (λ at z. opens_at mark.For at o z) (λ at b z. Both (HeadText l) (λ h b. Of (for_of at h) (BranchText l) b) b z) b z
+
+abbrev pub JumpText : ℕ → Mark → (Place → StmtTree) → StmtTree → Texts
+JumpText o m make b = Of make (λ at. opens_at m at o ⋅ spells mark.Semicolon) b
+
+abbrev pub ReturnText : ℕ → ℕ → StmtTree → Texts
+ReturnText o l b z = Both (λ at z. opens_at mark.Return at o z) (λ at b. Of (return at) (λ e. OptionText (SourceText l) e ⋅ spells mark.Semicolon) b) b z
+
 abbrev pub CheckText : ℕ → ℕ → Mark → (Place → CondTree → StmtTree) → StmtTree → Texts
 CheckText o l m make b z = Both (λ at z. opens_at m at o z) (λ at b. Of (make at) (λ c. InParens l c ⋅ spells mark.Semicolon) b) b z
 
@@ -452,6 +93,11 @@ CheckText o l m make b z = Both (λ at z. opens_at m at o z) (λ at b. Of (make 
 abbrev pub SimpleAt : ℕ → ℕ → Option StmtMark → StmtTree → Texts
 SimpleAt o l (Some at_nothing) b = Of nothing (λ at z. opens_at mark.Semicolon at o z) b
 SimpleAt o l (Some at_if) b = IfText o l b
+SimpleAt o l (Some at_while) b = WhileText o l b
+SimpleAt o l (Some at_for) b = ForText o l b
+SimpleAt o l (Some at_break) b = JumpText o mark.Break break b
+SimpleAt o l (Some at_continue) b = JumpText o mark.Continue continue b
+SimpleAt o l (Some at_return) b = ReturnText o l b
 SimpleAt o l (Some at_assert) b = CheckText o l mark.Assert assert b
 SimpleAt o l (Some at_assume) b = CheckText o l mark.Assume assume b
 SimpleAt o l None b = Of assign (λ a. AssignText o l a ⋅ spells mark.Semicolon) b
@@ -463,12 +109,38 @@ if_simple o l at c t b x y u v p q z e s f h g k (inr (w, n)) =
     let whole : v ≡ p = g ∙ ap (λ (i : Pieces). p ++ i) n ∙ append-nil p in
     subst (λ (d : StmtTree). SimpleText o l d z) (sym w) (((x, y, e, s, (u, v, f, h, subst (λ (i : Pieces). IsStmt (l + 1) (l + 1) t i) (sym whole) k.0)), k.1), (λ d. d))
 
+while_simple : (o l : ℕ) (b : StmtTree) (z : Pieces) → WhileText o l b z → SimpleText o l b z
+while_simple o l b z (at, (x, y, e, s, (c, (u, v, f, h, (t, g, r))))) = subst (λ (d : StmtTree). SimpleText o l d z) g (((x, y, e, s, (u, v, f, h, r.0)), r.1), (λ d. d))
+
+for_simple : (o l : ℕ) (b : StmtTree) (z : Pieces) → ForText o l b z → SimpleText o l b z
+for_simple o l b z (at, (x, y, e, s, (h, (u, v, f, k, (t, g, r))))) =
+    let rest = head_rest l h (λ w. IsStmt (l + 1) (l + 1) t w) y (u, v, f, k, r.0) in
+    subst (λ (d : StmtTree). SimpleText o l d z) g (((x, y, e, s, rest.0), (rest.1, rest.2, r.1)), (λ d. d))
+
+jump_simple : (o l : ℕ) (m : Mark) (make : Place → StmtTree) → ((at : Place) (z : Pieces) → (opens_at m at o ⋅ spells mark.Semicolon) z → SimpleText o l (make at) z) → (b : StmtTree) (z : Pieces) → JumpText o m make b z → SimpleText o l b z
+jump_simple o l m make whole b z (at, g, t) = subst (λ (d : StmtTree). SimpleText o l d z) g (whole at z t)
+
+return_simple : (o l : ℕ) (b : StmtTree) (z : Pieces) → ReturnText o l b z → SimpleText o l b z
+return_simple o l b z (at, (x, y, e, s, (a, g, (u, v, f, r, t)))) =
+    let k = to_returned l a u r in
+    subst (λ (d : StmtTree). SimpleText o l d z) g (((x, y, e, s, (u, v, f, k.0, t)), k.1), (λ d. d))
+
 to_simple : (o l : ℕ) (k : Option StmtMark) (b : StmtTree) (z : Pieces) → SimpleAt o l k b z → SimpleText o l b z
 to_simple o l (Some at_nothing) b z (at, f, s) = subst (λ (d : StmtTree). SimpleText o l d z) f ((s, tt), (λ d. d))
 to_simple o l (Some at_if) b z (at, (x, y, e, s, (c, (u, v, f, h, (t, (p, q, g, k, r)))))) = if_simple o l at c t b x y u v p q z e s f h g k r
+to_simple o l (Some at_while) b z s = while_simple o l b z s
+to_simple o l (Some at_for) b z s = for_simple o l b z s
+to_simple o l (Some at_break) b z s = jump_simple o l mark.Break break (λ at w t. ((t, tt), (λ d. d))) b z s
+to_simple o l (Some at_continue) b z s = jump_simple o l mark.Continue continue (λ at w t. ((t, tt), (λ d. d))) b z s
+to_simple o l (Some at_return) b z s = return_simple o l b z s
 to_simple o l (Some at_assert) b z (at, (x, y, e, s, (c, f, t))) = subst (λ (d : StmtTree). SimpleText o l d z) f (((x, y, e, s, t), tt), (λ d. d))
 to_simple o l (Some at_assume) b z (at, (x, y, e, s, (c, f, t))) = subst (λ (d : StmtTree). SimpleText o l d z) f (((x, y, e, s, t), tt), (λ d. d))
 to_simple o l None b z (a, f, (x, y, e, s, t)) = subst (λ (d : StmtTree). SimpleText o l d z) f (((x, y, e, s.0, t), s.1), (λ d. d))
+
+simple_for : (o l : ℕ) (at : Place) (i : InitTree) (c : Option CondTree) (a : Option AssignTree) (t : StmtTree) (z : Pieces) → StmtText o l (for at i c a t) z → ForText o l (for at i c a t) z
+simple_for o l at i c a t z ((x, y, e, s, r), k) =
+    let w = rest_head l i c a (λ w. IsStmt (l + 1) (l + 1) t w) y r k.0 k.1 in
+    (at, (x, y, e, s, ((i, c, a), (w.0, w.1, w.2, w.3, (t, refl, (w.4, k.2))))))
 
 pub from_simple : (o l : ℕ) (b : StmtTree) (z : Pieces) → SimpleText o l b z → (k : Option StmtMark) × SimpleAt o l k b z
 from_simple o l (block is end) z (s, n) = absurd (n tt)
@@ -478,45 +150,32 @@ from_simple o l (call c) z (s, n) = absurd s.1
 from_simple o l (if_only at c t) z (((x, y, e, s, (u, v, f, h, r)), k), n) = (Some at_if, (at, (x, y, e, s, (c, (u, v, f, h, (t, (v, [], sym (append-nil v), (r, k), inr (refl, refl))))))))
 from_simple o l (if_else at c t d) z ((((x, y, e, s, (u, v, f, h, (p, q, g, r, (i, j, w, m, a)))), shut), k), n) =
     (Some at_if, (at, (x, y, e, s, (c, (u, v, f, h, (t, (p, q, g, (r, k.0), inl ((i, j, w, m, (d, refl, (a, k.1))), shut))))))))
-from_simple o l (while at c b) z (s, n) = absurd s.1
-from_simple o l (for at i c e b) z (s, n) = absurd s.1
-from_simple o l (break at) z (s, n) = absurd s.1
-from_simple o l (continue at) z (s, n) = absurd s.1
-from_simple o l (return at e) z (s, n) = absurd s.1
+from_simple o l (while at c t) z (((x, y, e, s, (u, v, f, h, r)), k), n) = (Some at_while, (at, (x, y, e, s, (c, (u, v, f, h, (t, refl, (r, k)))))))
+from_simple o l (for at i c a t) z (s, n) = (Some at_for, simple_for o l at i c a t z s)
+from_simple o l (break at) z (((x, y, e, s, t), k), n) = (Some at_break, (at, refl, (x, y, e, s, t)))
+from_simple o l (continue at) z (((x, y, e, s, t), k), n) = (Some at_continue, (at, refl, (x, y, e, s, t)))
+from_simple o l (return at a) z (((x, y, e, s, (u, v, f, r, t)), k), n) = (Some at_return, (at, (x, y, e, s, (a, refl, (u, v, f, from_returned l a u r k, t)))))
 from_simple o l (assert at c) z (((x, y, e, s, t), k), n) = (Some at_assert, (at, (x, y, e, s, (c, refl, t))))
 from_simple o l (assume at c) z (((x, y, e, s, t), k), n) = (Some at_assume, (at, (x, y, e, s, (c, refl, t))))
-
--- a text that begins with a mark at a place
-pub placed_first : (P : Option Token → Type 0) (m : Mark) (at : Place) (o : ℕ) (x y z : Pieces) (k : Option Token) → z ≡ x ++ y → opens_at m at o x → P (Some (token m at)) → P (first_or z k)
-placed_first P m at o x y z k e s f = subst (λ (w : Pieces). P (first_or w k)) (sym (e ∙ ap (λ (v : Pieces). v ++ y) s)) f
 
 step_stmt : (s : Step) (at : Place) → stmt_mark (Some (token (mark_of_step s) at)) ≡ None
 step_stmt step.Increment at = refl
 step_stmt step.Decrement at = refl
 
-pub assign_no_mark : (o l : ℕ) (a : AssignTree) (x y z : Pieces) (k : Option Token) → z ≡ x ++ y → AssignText o l a x → (P : Option Token → Type 0) → ((i : Identifier) → P (Some (record { kind = Name i.word; place = i.place })))
-    → ((s : Step) (at : Place) → P (Some (token (mark_of_step s) at))) → P (first_or z k)
-assign_no_mark o l a x y z k e s P named stepped = elim (from_assign o l a x s) [
-  | inl (j, (u, v, f, m, r)) ↦ subst (λ (w : Pieces). P (first_or w k)) (sym (e ∙ regroup x y u v f ∙ ap (λ (w : Pieces). w ++ (v ++ y)) m)) (stepped j.0 j.1)
-  | inr (i, (u, v, f, m, r)) ↦ subst (λ (w : Pieces). P (first_or w k)) (sym (e ∙ regroup x y u v f ∙ ap (λ (w : Pieces). w ++ (v ++ y)) m)) (named i)
-]
-
 simple_begins : (o l : ℕ) (k : Option StmtMark) (b : StmtTree) (z : Pieces) (i : Option Token) → SimpleAt o l k b z → stmt_mark (first_or z i) ≡ k
 simple_begins o l (Some at_nothing) b z i (at, f, s) = placed_first (λ j. stmt_mark j ≡ Some at_nothing) mark.Semicolon at o z [] z i (sym (append-nil z)) s refl
 simple_begins o l (Some at_if) b z i (at, (x, y, e, s, t)) = placed_first (λ j. stmt_mark j ≡ Some at_if) mark.If at o x y z i e s refl
+simple_begins o l (Some at_while) b z i (at, (x, y, e, s, t)) = placed_first (λ j. stmt_mark j ≡ Some at_while) mark.While at o x y z i e s refl
+simple_begins o l (Some at_for) b z i (at, (x, y, e, s, t)) = placed_first (λ j. stmt_mark j ≡ Some at_for) mark.For at o x y z i e s refl
+simple_begins o l (Some at_break) b z i (at, f, (x, y, e, s, t)) = placed_first (λ j. stmt_mark j ≡ Some at_break) mark.Break at o x y z i e s refl
+simple_begins o l (Some at_continue) b z i (at, f, (x, y, e, s, t)) = placed_first (λ j. stmt_mark j ≡ Some at_continue) mark.Continue at o x y z i e s refl
+simple_begins o l (Some at_return) b z i (at, (x, y, e, s, t)) = placed_first (λ j. stmt_mark j ≡ Some at_return) mark.Return at o x y z i e s refl
 simple_begins o l (Some at_assert) b z i (at, (x, y, e, s, t)) = placed_first (λ j. stmt_mark j ≡ Some at_assert) mark.Assert at o x y z i e s refl
 simple_begins o l (Some at_assume) b z i (at, (x, y, e, s, t)) = placed_first (λ j. stmt_mark j ≡ Some at_assume) mark.Assume at o x y z i e s refl
 simple_begins o l None b z i (a, f, (x, y, e, s, t)) = assign_no_mark o l a x y z i e s (λ j. stmt_mark j ≡ None) (λ n. refl) step_stmt
 
 some_stmt : (o l : ℕ) → (t : StmtTree) × (x : Pieces) × StmtText o l t x
 some_stmt o l = (nothing some_place, _, (refl, tt))
-
-assign_stops : (a : AssignTree) (at : Place) → AfterAssign a (Some (token mark.Semicolon at))
-assign_stops (set x (expression e)) at = ((tt, refl), refl)
-assign_stops (set x (result c)) at = tt
-assign_stops (update x op e) at = ((tt, refl), refl)
-assign_stops (after x s) at = tt
-assign_stops (before p s x) at = tt
 
 module _ (n d l o : ℕ) (h : d + l ≡ n) (low : o ≤ n) (branches : Parse StmtTree) (B : Exact n IsInner branches Any (BranchText l) (BranchText l) AfterStmt) where
   conds : Exact n IsInner (in_parens (cond_at d)) Any (InParens l) (InParens l) Free
@@ -561,6 +220,40 @@ module _ (n d l o : ℕ) (h : d + l ≡ n) (low : o ≤ n) (branches : Parse Stm
       (λ at z v. let c = some_cond l in let t = some at c.0 in (t.0, _, (at, (z, _, refl, v, (c.0, (_, t.1, refl, (_, _, refl, (some_place, refl), (_, _, refl, c.2, (some_place, refl))), t.2))))))
       (λ at b x y s r. (at, (x, y, refl, s, r)))
 
+  exact_while : Exact n IsInner (read_while d branches) Any (WhileText o l) (WhileText o l) AfterStmt
+  exact_while =
+      let some = some_stmt (l + 1) (l + 1) in
+      let inner = λ (at : Place). then conds (λ c. mapped B (while at c) AfterStmt (λ t k f. f) (λ t k f. f)) (λ b z. Both (InParens l) (λ c b. Of (while at c) (BranchText l) b) b z)
+      (λ c b y k s f. tt)
+      (λ c z v. (while at c some.0, _, (c, (z, _, refl, v, (some.0, refl, some.2)))))
+      (λ c b x y s r. (c, (x, y, refl, s, r))) in
+      then (exact_expect_at n mark.While o low) inner (WhileText o l)
+      (λ at b y k s f. tt)
+      (λ at z v. let c = some_cond l in (while at c.0 some.0, _, (at, (z, _, refl, v, (c.0, (_, _, refl, (_, _, refl, (some_place, refl), (_, _, refl, c.2, (some_place, refl))), (some.0, refl, some.2)))))))
+      (λ at b x y s r. (at, (x, y, refl, s, r)))
+
+  exact_for : Exact n IsInner (read_for d branches) Any (ForText o l) (ForText o l) AfterStmt
+  exact_for =
+      let some = some_stmt (l + 1) (l + 1) in
+      let inner = λ (at : Place). then (exact_head n d l h) (λ k. mapped B (for_of at k) AfterStmt (λ t i f. f) (λ t i f. f)) (λ b z. Both (HeadText l) (λ k b. Of (for_of at k) (BranchText l) b) b z)
+      (λ k b y i s f. tt)
+      (λ k z v. (for_of at k some.0, _, (k, (z, _, refl, v, (some.0, refl, some.2)))))
+      (λ k b x y s r. (k, (x, y, refl, s, r))) in
+      then (exact_expect_at n mark.For o low) inner (ForText o l)
+      (λ at b y k s f. tt)
+      (λ at z v. let k = some_head l in (for_of at k.0 some.0, _, (at, (z, _, refl, v, (k.0, (_, _, refl, k.2, (some.0, refl, some.2)))))))
+      (λ at b x y s r. (at, (x, y, refl, s, r)))
+
+  exact_jump : (m : Mark) (make : Place → StmtTree) → ((at : Place) → TakesElse (make at) → ⊥) → Exact n IsInner (read_jump m make) Any (JumpText o m make) (JumpText o m make) AfterStmt
+  exact_jump m make closes = mapped (exact_ended mark.Semicolon (exact_expect_at n m o low) (λ at p. tt)) make AfterStmt (λ at k f t. absurd (closes at t)) (λ at k f. tt)
+
+  exact_return : Exact n IsInner (read_return d) Any (ReturnText o l) (ReturnText o l) AfterStmt
+  exact_return =
+      then (exact_expect_at n mark.Return o low) (λ at. mapped (exact_returned n d l h) (return at) AfterStmt (λ e k f t. absurd t) (λ e k f. tt)) (ReturnText o l)
+      (λ at b y k s f. tt)
+      (λ at z v. (return at None, _, (at, (z, _, refl, v, (None, refl, ([], _, refl, refl, (some_place, refl)))))))
+      (λ at b x y s r. (at, (x, y, refl, s, r)))
+
   exact_check : (m : Mark) (make : Place → CondTree → StmtTree) → ((at : Place) (c : CondTree) → TakesElse (make at c) → ⊥) → Exact n IsInner (read_check d m make) Any (CheckText o l m make) (CheckText o l m make) AfterStmt
   exact_check m make closes =
       let c = some_cond l in
@@ -575,6 +268,11 @@ module _ (n d l o : ℕ) (h : d + l ≡ n) (low : o ≤ n) (branches : Parse Stm
   each_simple : (k : Option StmtMark) → Exact n IsInner (simple_form d branches k) (SimpleKey k) (SimpleAt o l k) (SimpleText o l) AfterStmt
   each_simple (Some at_nothing) = entry (widen (mapped (exact_expect_at n mark.Semicolon o low) nothing AfterStmt (λ at k f t. absurd t) (λ at k f. tt)) (SimpleText o l) (λ b z s. to_simple o l (Some at_nothing) b z s)) (SimpleKey (Some at_nothing)) (λ k i. tt)
   each_simple (Some at_if) = entry (widen exact_if (SimpleText o l) (λ b z s. to_simple o l (Some at_if) b z s)) (SimpleKey (Some at_if)) (λ k i. tt)
+  each_simple (Some at_while) = entry (widen exact_while (SimpleText o l) (λ b z s. while_simple o l b z s)) (SimpleKey (Some at_while)) (λ k i. tt)
+  each_simple (Some at_for) = entry (widen exact_for (SimpleText o l) (λ b z s. for_simple o l b z s)) (SimpleKey (Some at_for)) (λ k i. tt)
+  each_simple (Some at_break) = entry (widen (exact_jump mark.Break break (λ at t. t)) (SimpleText o l) (λ b z s. to_simple o l (Some at_break) b z s)) (SimpleKey (Some at_break)) (λ k i. tt)
+  each_simple (Some at_continue) = entry (widen (exact_jump mark.Continue continue (λ at t. t)) (SimpleText o l) (λ b z s. to_simple o l (Some at_continue) b z s)) (SimpleKey (Some at_continue)) (λ k i. tt)
+  each_simple (Some at_return) = entry (widen exact_return (SimpleText o l) (λ b z s. return_simple o l b z s)) (SimpleKey (Some at_return)) (λ k i. tt)
   each_simple (Some at_assert) = entry (widen (exact_check mark.Assert assert (λ at c t. t)) (SimpleText o l) (λ b z s. to_simple o l (Some at_assert) b z s)) (SimpleKey (Some at_assert)) (λ k i. tt)
   each_simple (Some at_assume) = entry (widen (exact_check mark.Assume assume (λ at c t. t)) (SimpleText o l) (λ b z s. to_simple o l (Some at_assume) b z s)) (SimpleKey (Some at_assume)) (λ k i. tt)
   each_simple None =

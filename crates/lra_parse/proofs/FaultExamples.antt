@@ -17,17 +17,17 @@ use Rattle.lra_parse.specs.Files.{EndsOnce, file_at}
 use Rattle.lra_parse.proofs.Exact.{test}
 use Rattle.lra_parse.proofs.Answered.{text_fault}
 
-abbrev in_line : ℕ → Place
+abbrev pub in_line : ℕ → Place
 in_line column = record { line = 1; column = column }
 
-abbrev token_at : Kind → ℕ → Token
+abbrev pub token_at : Kind → ℕ → Token
 token_at k column = record { kind = k; place = in_line column }
 
-abbrev mark_token : Mark → ℕ → Token
+abbrev pub mark_token : Mark → ℕ → Token
 mark_token m column = token_at (MarkOf m) column
 
 -- none of the tokens is the end
-abbrev is_inner : Kind → Bool
+abbrev pub is_inner : Kind → Bool
 is_inner End = false
 is_inner k = true
 
@@ -35,11 +35,11 @@ inner : (k : Kind) → is_inner k ≡ true → k ≡ End → ⊥
 inner End e f = cc
 inner k e f = cc
 
-abbrev all_inner : Text → Bool
+abbrev pub all_inner : Text → Bool
 all_inner [] = true
 all_inner (t ∷ T) = cond (is_inner t.kind) (all_inner T) false
 
-no_end : (T : Text) → all_inner T ≡ true → AllByRecursion (λ (t : Token). t.kind ≢ End) T
+pub no_end : (T : Text) → all_inner T ≡ true → AllByRecursion (λ (t : Token). t.kind ≢ End) T
 no_end [] e = tt
 no_end (t ∷ T) e = elim (test (is_inner t.kind)) [
   | inl on ↦ let e' : all_inner T ≡ true = rw on at e in (inner t.kind on, no_end T e')
@@ -47,7 +47,7 @@ no_end (t ∷ T) e = elim (test (is_inner t.kind)) [
 ]
 
 -- `int main(void){`
-abbrev main_head : Text → Text
+abbrev pub main_head : Text → Text
 main_head T = mark_token mark.Int 1 ∷ token_at (Name (codes "main")) 5 ∷ mark_token mark.OpenParen 9 ∷ mark_token mark.Void 10 ∷ mark_token mark.CloseParen 14 ∷ mark_token mark.OpenBrace 15 ∷ T
 
 -- `int main(void){ /*`: the comment isn't closed

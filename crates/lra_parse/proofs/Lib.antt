@@ -11,6 +11,8 @@ pub mod Chain
 pub mod Parts
 pub mod ExactExpressions
 pub mod ExactConditions
+pub mod ExactAssignments
+pub mod ExactHeads
 pub mod ExactStatements
 pub mod ExactBlocks
 pub mod ExactFiles
@@ -20,3 +22,4 @@ pub mod Headed
 pub mod Answered
 pub mod Ended
 pub mod FaultExamples
+pub mod LoopExamples

@@ -1,27 +1,25 @@
 -- Readers of statements as the code takes them.
-use Rattle.std.proofs.Common.{◌≡◌, ℕ, zero, suc, ◌-◌, ◌<◌, Bool, true, false, ◌&&◌, List, [], ◌∷◌, ◌++◌, length, map, None, Ok, Err, refl, sym, ap, subst, ◌∙◌, arith, rules, Box, Global}
+use Rattle.std.proofs.Common.{◌≡◌, ℕ, zero, suc, ◌-◌, ◌<◌, Bool, true, false, ◌&&◌, List, [], ◌∷◌, ◌++◌, length, map, None, Ok, Err, refl, sym, ap, ◌∙◌, arith, rules}
 use Rattle.std.proofs.lemmas.List.{map_push}
 use Rattle.lra_tree.specs.declared.refusals.Place.{Place}
 use Rattle.lra_tree.specs.declared.refusals.Cause.TheVariants.{TooDeep}
 use Rattle.lra_tree.specs.declared.tokens.Mark.TheVariants as mark
-use Rattle.lra_tree.specs.declared.trees.Cond.{Cond}
 use Rattle.lra_tree.specs.declared.trees.Declaration.{Declaration}
 use Rattle.lra_tree.specs.declared.trees.BlockItem.{BlockItem, the_lemmas, Declaration as DeclarationItem, Statement as StatementItem}
-use Rattle.lra_tree.specs.declared.trees.Stmt.{Stmt, Block as BlockStmt, If, IfElse}
+use Rattle.lra_tree.specs.declared.trees.Stmt.{Stmt, Block as BlockStmt}
 use Rattle.lra_tree.specs.declared.trees.Block.{Block}
 use Rattle.lra_tree.specs.declared.trees.BlockItem.TheOpen.{Block-F}
 use Rattle.lra_tree.specs.declared.trees.BlockItem.TheViews.{roll-Block}
 use Rattle.lra_tree.specs.declared.trees.BlockItem.TheFolds.{fold-roll-Block}
-use Rattle.lra_tree.specs.Trees.{DeclarationTree, StmtTree, if_only, if_else, CondTree, ItemsTree, no_items, declaration, statement}
+use Rattle.lra_tree.specs.Trees.{DeclarationTree, StmtTree, ItemsTree, no_items, declaration, statement}
 use Rattle.lra_tree.specs.Views as views
 use Rattle.lra_tree.specs.Views.{cond_view, declaration_view, stmt_view, item_view, block_view, item_step, stmt_step, block_step}
 use Rattle.lra_parse.specs.declared.reading.Fault.{Fault}
 use Rattle.lra_parse.specs.declared.reading.Stopped.{Stopped}
 use Rattle.lra_parse.specs.declared.reading.Stopped.TheVariants as stopped
 use Rattle.lra_parse.specs.Tests.{first, is_mark}
-use Rattle.lra_parse.specs.Reading.{Text, Read, Parse, stop, ◌>>=◌, map_read, tail, expect, expect_at, list_step, GivesErr}
-use Rattle.lra_parse.specs.Statements.{else_part, declaration_at, ItemTree, declared, stated, put, items_from, begins_item, stated_of, body_of, block_from, too_deep, levels, branch_at, block_at, simple_at, item_at, items_at, put_list, put_all, ArePut}
-use Rattle.lra_parse.proofs.Exact.{ok_is}
+use Rattle.lra_parse.specs.Reading.{Text, Read, Parse, stop, ◌>>=◌, map_read, expect, expect_at, list_step, GivesErr}
+use Rattle.lra_parse.specs.Statements.{declaration_at, ItemTree, declared, stated, put, items_from, begins_item, stated_of, body_of, block_from, too_deep, levels, branch_at, block_at, simple_at, item_at, items_at, put_list, put_all, ArePut}
 use Rattle.lra_parse.proofs.Turning.{Left, turn_on, turn_err, turn_off}
 
 pub branch_zero : (d : ℕ) (T : Text) → d ≡ 0 → branch_at d T ≡ too_deep T
@@ -72,6 +70,10 @@ item_simple declares d T e f = rw (sym e, sym f) (twice (simple_at d T) stated p
 
 pub ruleset item_rules = (item_declared, item_block, item_simple)
 
+pub item_other : (declares : Bool) (d : ℕ) (T R : Text) (t : StmtTree) → false ≡ (declares && is_mark mark.Long (first T)) → false ≡ is_mark mark.OpenBrace (first T) → simple_at d T ≡ Ok (t, R)
+    → map_read put (item_at declares d) T ≡ Ok ((λ (items : ItemsTree). statement t items), R)
+item_other declares d T R t e f g = item_simple declares d T e f ∙ rw g refl
+
 pub declaration_item : (x : Declaration) → item_view (DeclarationItem x) ≡ (λ (t : ItemsTree). declaration (declaration_view x) t)
 declaration_item x = search (rules, the_lemmas)
 
@@ -81,26 +83,10 @@ statement_item x = search (rules, the_lemmas)
 pub block_stmt : (b : Block) → stmt_view (BlockStmt b) ≡ block_from (block_view b)
 block_stmt b = search (rules, the_lemmas)
 
-pub if_view : (at : Place) (c : Cond) (b : Box Stmt Global) → stmt_view (If at c b) ≡ if_only at (cond_view c) (stmt_view b.value)
-if_view at c b = search (rules, the_lemmas)
-
-pub else_view : (at : Place) (c : Cond) (a b : Box Stmt Global) → stmt_view (IfElse at c a b) ≡ if_else at (cond_view c) (stmt_view a.value) (stmt_view b.value)
-else_view at c a b = search (rules, the_lemmas)
-
 pub body_view : (x : Block-F BlockItem Stmt Block) → block_view (roll-Block x) ≡ (views.items_of (map item_view x.items.items), x.end)
 body_view = fold-roll-Block (ItemsTree → ItemsTree) StmtTree (ItemsTree × Place) item_step stmt_step block_step
 
 -- branches ---------------------------------------------------------------------------------------------------------
-
-pub only_gives : (b : Parse StmtTree) (at : Place) (c : CondTree) (t : StmtTree) (T : Text) → false ≡ is_mark mark.Else (first T) → else_part b at c t T ≡ Ok (if_only at c t, T)
-only_gives b at c t T e = rw (sym e) refl
-
-pub else_gives : (b : Parse StmtTree) (at : Place) (c : CondTree) (t u : StmtTree) (T U R : Text) → true ≡ is_mark mark.Else (first T) → expect mark.Else (tt {0}) T ≡ Ok (tt {0}, U) → b U ≡ Ok (u, R) → else_part b at c t T ≡ Ok (if_else at c t u, R)
-else_gives b at c t u T U R e f g =
-    let f' : (let r : Read (Unit {0}) = Ok (tt {0}, tail T) in r) ≡ Ok (tt {0}, U) = rw (sym e) at f in
-    let same : U ≡ tail T = sym (ap (λ (p : Unit {0} × Text). p.1) (ok_is (tt {0}, tail T) (tt {0}, U) f')) in
-    let g' : b (tail T) ≡ Ok (u, R) = subst (λ (W : Text). b W ≡ Ok (u, R)) same g in
-    rw (sym e) (rw g' refl)
 
 pub close_gives : (is : ItemsTree) (T R : Text) (end : Place) → expect_at mark.CloseBrace T ≡ Ok (end, R) → map_read {B = ItemsTree × Place} (λ (e : Place). (is, e)) (expect_at mark.CloseBrace) T ≡ Ok ((is, end), R)
 close_gives is T R end g = rw g refl

@@ -9,7 +9,7 @@ use Rattle.lra_parse.specs.declared.reading.Stopped.{Stopped}
 use Rattle.lra_parse.specs.declared.reading.Stopped.TheVariants as stopped
 use Rattle.lra_parse.specs.Tests.{first, is_mark}
 use Rattle.lra_parse.specs.Reading.{Text, Read, Parse, stop, loop, expect, GivesErr, has, map_read, tail, turns, chain, chain_step, list_step, list_of}
-use Rattle.lra_parse.specs.Statements.{commas}
+use Rattle.lra_parse.specs.Statements.{commas, up_to}
 use Rattle.lra_tree.specs.declared.tokens.Mark.TheVariants as mark
 use Rattle.lra_parse.specs.Expressions.{behind}
 use Rattle.lra_parse.proofs.Exact.{test, ok_is}
@@ -108,6 +108,20 @@ expect_value {A} m a b T R e = elim (test (is_mark m (first T))) [
   | inl on ↦ let e' : (let r : Read A = Ok (a, tail T) in r) ≡ Ok (a, R) = rw on at e in rw on (ap (λ (r : A × Text). Ok (b, r.1)) (ok_is (a, tail T) (a, R) e'))
   | inr off ↦ let e' : (let r : Read A = stop Syntax T in r) ≡ Ok (a, R) = rw off at e in absurd cc
 ]
+
+pub expect_err : {A B : Type 0} (m : Mark) (a : A) (b : B) (T : Text) (f : Fault) → expect m a T ≡ Err f → expect m b T ≡ Err f
+expect_err {A} m a b T f e = elim (test (is_mark m (first T))) [
+  | inl on ↦ let e' : (let r : Read A = Ok (a, tail T) in r) ≡ Err f = rw on at e in absurd cc
+  | inr off ↦
+      let e' : (let r : Read A = stop Syntax T in r) ≡ Err f = rw off at e in
+      let same : record { cause = Syntax; left = length T } ≡ f = cc in
+      rw off (ap (λ (g : Fault). Err g) same)
+]
+
+-- the exit by `?` where the mark doesn't come behind a part
+pub up_to_exit : {A : Type 0} (m : Mark) (p : Parse A) (T M : Text) (a : A) (e : Stopped) → false ≡ is_mark m (first T) → p T ≡ Ok (a, M) → GivesErr e (expect m (tt {0}) M) → GivesErr e (up_to m p T)
+up_to_exit m p T M a stopped.Memory off g h = tt
+up_to_exit m p T M a (stopped.Fault f) off g h = rw (sym off, g) (expect_err m (tt {0}) (Some a) M f h)
 
 -- lists: a turn behind a mark
 module _ {I : Type 0} (m : Mark) (p : Parse I) where

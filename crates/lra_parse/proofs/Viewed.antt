@@ -12,7 +12,7 @@ use Rattle.lra_tree.specs.declared.trees.Unary.TheViews.{roll-Term, roll-Expr, r
 use Rattle.lra_tree.specs.declared.trees.Unary.TheFolds.{fold-roll-Term, fold-roll-Expr, fold-roll-Factor, fold-roll-Summand}
 use Rattle.lra_tree.specs.declared.trees.FactorOperator.{FactorOperator}
 use Rattle.lra_tree.specs.declared.trees.SumOperator.{SumOperator}
-use Rattle.lra_tree.specs.declared.trees.Negation.{Negation, Again, Operand, the_lemmas as negation_lemmas}
+use Rattle.lra_tree.specs.declared.trees.Negation.{Negation, Operand, the_lemmas as negation_lemmas}
 use Rattle.lra_tree.specs.declared.trees.Test.{Test, Opposite}
 use Rattle.lra_tree.specs.declared.trees.Conjunction.{Conjunction}
 use Rattle.lra_tree.specs.declared.trees.Cond.{Cond}
@@ -65,9 +65,6 @@ or_push c [] d = refl
 or_push c (e ∷ ds) d = or_push (tree.or c e) ds d
 
 -- conditions -------------------------------------------------------------------------------------------------------
-
-pub again_is : (n : Box Negation Global) → negation_view (Again n) ≡ tree.opposite_again (negation_view n.value)
-again_is n = search (rules, negation_lemmas)
 
 pub operand_is : (u : Unary) → negation_view (Operand u) ≡ tree.value_of_unary (unary_view u)
 operand_is u = search (rules, negation_lemmas)

@@ -2,5 +2,6 @@ pub mod Tests
 pub mod Reading
 pub mod Expressions
 pub mod Statements
+pub mod Heads
 pub mod Files
 pub mod Answer

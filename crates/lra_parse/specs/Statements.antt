@@ -10,7 +10,7 @@ use Rattle.lra_tree.specs.declared.trees.Operator.{Operator}
 use Rattle.lra_tree.specs.declared.trees.Operator.TheVariants as operator
 use Rattle.lra_tree.specs.declared.trees.Step.{Step}
 use Rattle.lra_tree.specs.declared.trees.Step.TheVariants as step
-use Rattle.lra_tree.specs.Trees.{CondTree, SourceTree, expression, AssignTree, set, update, after, before, DeclaratorTree, DeclarationTree, StmtTree, block, nothing, assign, if_only, if_else, assert, assume, ItemsTree, no_items, declaration, statement}
+use Rattle.lra_tree.specs.Trees.{CondTree, SourceTree, expression, AssignTree, set, update, after, before, DeclaratorTree, DeclarationTree, InitTree, no_init, assigned, StmtTree, block, nothing, assign, if_only, if_else, while, for, break, continue, return, assert, assume, ItemsTree, no_items, declaration, statement}
 use Rattle.lra_tree.specs.Views.{operator_view, step_view}
 use Rattle.lra_parse.specs.Tests.{first, is_mark}
 use Rattle.lra_parse.specs.Reading.{Text, Parse, stop, seq, map_read, done_with, tail, expect, expect_at, place_of, take_by, next_name, has, one_of, list_of}
@@ -83,11 +83,17 @@ declaration_at d = seq type_words (λ _. ended mark.Semicolon (map_read declarat
 pub data StmtMark : Type 0 where
   at_nothing : StmtMark
   at_if : StmtMark
+  at_while : StmtMark
+  at_for : StmtMark
+  at_break : StmtMark
+  at_continue : StmtMark
+  at_return : StmtMark
   at_assert : StmtMark
   at_assume : StmtMark
 
 abbrev pub stmt_marks : List (Mark × StmtMark)
-stmt_marks = (mark.Semicolon, at_nothing) ∷ (mark.If, at_if) ∷ (mark.Assert, at_assert) ∷ (mark.Assume, at_assume) ∷ []
+stmt_marks = (mark.Semicolon, at_nothing) ∷ (mark.If, at_if) ∷ (mark.While, at_while) ∷ (mark.For, at_for) ∷ (mark.Break, at_break)
+    ∷ (mark.Continue, at_continue) ∷ (mark.Return, at_return) ∷ (mark.Assert, at_assert) ∷ (mark.Assume, at_assume) ∷ []
 
 abbrev pub stmt_mark : Option Token → Option StmtMark
 stmt_mark o = one_of stmt_marks o
@@ -104,6 +110,39 @@ else_part branch at c t T = cond (is_mark mark.Else (first T)) (behind mark.Else
 abbrev pub read_if : ℕ → Parse StmtTree → Parse StmtTree
 read_if d branch = seq (expect_at mark.If) (λ at. seq (in_parens (cond_at d)) (λ c. seq branch (else_part branch at c)))
 
+abbrev pub read_while : ℕ → Parse StmtTree → Parse StmtTree
+read_while d branch = seq (expect_at mark.While) (λ at. seq (in_parens (cond_at d)) (λ c. map_read (while at c) branch))
+
+-- p up to the mark, or the mark alone
+abbrev pub option_at : {A : Type 0} → Mark → Parse A → Parse (Option A)
+option_at m p T = cond (is_mark m (first T)) (done_with None T) (map_read Some p T)
+
+abbrev pub up_to : {A : Type 0} → Mark → Parse A → Parse (Option A)
+up_to m p = ended m (option_at m p)
+
+abbrev pub init_of : Option AssignTree → InitTree
+init_of None = no_init
+init_of (Some a) = assigned a
+
+-- the parentheses of a `for`: its beginning, its test and its step
+abbrev pub for_head_at : ℕ → Parse (InitTree × Option CondTree × Option AssignTree)
+for_head_at d =
+    behind mark.OpenParen (seq (up_to mark.Semicolon (assign_at d))
+    (λ i. seq (up_to mark.Semicolon (cond_at d)) (λ c. map_read (λ e. (init_of i, c, e)) (up_to mark.CloseParen (assign_at d)))))
+
+abbrev pub for_of : Place → InitTree × Option CondTree × Option AssignTree → StmtTree → StmtTree
+for_of at h b = for at h.0 h.1 h.2 b
+
+abbrev pub read_for : ℕ → Parse StmtTree → Parse StmtTree
+read_for d branch = seq (expect_at mark.For) (λ at. seq (for_head_at d) (λ h. map_read (for_of at h) branch))
+
+-- `break;` and `continue;`
+abbrev pub read_jump : Mark → (Place → StmtTree) → Parse StmtTree
+read_jump m make = map_read make (ended mark.Semicolon (expect_at m))
+
+abbrev pub read_return : ℕ → Parse StmtTree
+read_return d = seq (expect_at mark.Return) (λ at. map_read (return at) (up_to mark.Semicolon (source_at d)))
+
 -- `assert` and `assume`
 abbrev pub read_check : ℕ → Mark → (Place → CondTree → StmtTree) → Parse StmtTree
 read_check d m make = seq (expect_at m) (λ at. map_read (make at) (ended mark.Semicolon (in_parens (cond_at d))))
@@ -118,6 +157,11 @@ read_assigned d = map_read assign (ended mark.Semicolon (assign_at d))
 abbrev pub simple_form : ℕ → Parse StmtTree → Option StmtMark → Parse StmtTree
 simple_form d branch (Some at_nothing) = read_nothing
 simple_form d branch (Some at_if) = read_if d branch
+simple_form d branch (Some at_while) = read_while d branch
+simple_form d branch (Some at_for) = read_for d branch
+simple_form d branch (Some at_break) = read_jump mark.Break break
+simple_form d branch (Some at_continue) = read_jump mark.Continue continue
+simple_form d branch (Some at_return) = read_return d
 simple_form d branch (Some at_assert) = read_check d mark.Assert assert
 simple_form d branch (Some at_assume) = read_check d mark.Assume assume
 simple_form d branch None = read_assigned d

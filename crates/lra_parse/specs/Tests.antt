@@ -1,5 +1,5 @@
 -- Tests of the next token.
-use Rattle.std.specs.Prelude.{ℕ, Bool, false, nat_eq, List, [], ◌∷◌, Option, Some, None}
+use Rattle.std.specs.Prelude.{ℕ, Bool, false, ◌||◌, nat_eq, List, [], ◌∷◌, Option, Some, None}
 use Rattle.lra_tree.specs.declared.tokens.Mark.{Mark}
 use Rattle.lra_tree.specs.declared.tokens.Mark.TheVariants as mark
 use Rattle.lra_tree.specs.declared.tokens.Kind.{Kind}
@@ -67,3 +67,9 @@ is_mark m (Some t) = is_kind m t.kind
 abbrev pub first : List Token → Option Token
 first [] = None
 first (t ∷ T) = Some t
+
+abbrev pub is_loop : Option Token → Bool
+is_loop o = is_mark mark.While o || is_mark mark.For o
+
+abbrev pub is_jump : Option Token → Bool
+is_jump o = is_mark mark.Break o || is_mark mark.Continue o || is_mark mark.Return o

@@ -57,8 +57,12 @@ pub fn skip(rest: &[Token], mark: Mark) -> &[Token]
     }
 }
 
-/// What a variable gets.
-fn read_source(alloc: Global, rest: &[Token], depth: usize) -> Result<(Source, &[Token]), Stopped>
+/// What a variable gets, or a `return` gives.
+pub fn read_source(
+    alloc: Global,
+    rest: &[Token],
+    depth: usize,
+) -> Result<(Source, &[Token]), Stopped>
     ensures shorter { IfOk result (λ r. length r.1.now ≤ length rest.now) }
     ensures gives { Gives (λ r. (source_view r.0, r.1.now)) result (source_at depth rest.now) }
 {

@@ -11,6 +11,7 @@ mod assignments;
 mod conditions;
 mod expressions;
 mod functions;
+mod loops;
 mod parser;
 mod reading;
 mod statements;

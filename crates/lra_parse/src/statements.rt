@@ -8,10 +8,13 @@ ghost use Rattle.lra_parse.specs.Tests.{first, is_mark};
 ghost use Rattle.lra_parse.specs.Reading.{Gives, expect_at, map_read, has};
 ghost use Rattle.lra_parse.specs.Reading.{next_name};
 ghost use Rattle.lra_parse.specs.Expressions.{in_parens, cond_at};
-ghost use Rattle.lra_parse.specs.Statements.{stmt_mark, begins_stmt, begins_item, read_nothing, read_assigned, read_check, read_if, else_part, simple_at, branch_at, block_at, item_at, items_at, body_of, put};
+ghost use Rattle.lra_parse.specs.Statements.{stmt_mark, begins_stmt, begins_item, read_nothing, read_assigned, read_check, read_if, else_part, read_while, read_for, simple_at, branch_at, block_at, item_at, items_at, body_of, put};
 
 use crate::assignments::{next_step, read_assign, read_declaration};
 use crate::conditions::read_cond;
+use crate::loops::{
+    ForHead, begins_jump, begins_loop, read_break, read_continue, read_for_head, read_return,
+};
 use crate::reading::{Stopped, expect, expect_at, next_is, stop, tail};
 use lra_tree::{Block, BlockItem, Cause, Cond, Kind, Mark, Place, Stmt, Token};
 use std::alloc::Global;
@@ -37,6 +40,12 @@ fn begins_simple(rest: &[Token]) -> bool
         return true;
     }
     if next_is(rest, Mark::If) {
+        return true;
+    }
+    if begins_loop(rest) {
+        return true;
+    }
+    if begins_jump(rest) {
         return true;
     }
     if next_is(rest, Mark::Assert) {
@@ -209,6 +218,33 @@ fn read_if(alloc: Global, rest: &[Token], depth: usize) -> Result<(Stmt, &[Token
     read_else(alloc, place, cond, branch, behind, depth)
 }
 
+/// A `while`, with its body.
+#[cycle(statement)]
+fn read_while(alloc: Global, rest: &[Token], depth: usize) -> Result<(Stmt, &[Token]), Stopped>
+    ensures shorter { IfOk result (λ r. length r.1.now < length rest.now) }
+    ensures gives { Gives (λ r. (stmt_view r.0, r.1.now)) result (read_while depth (branch_at depth) rest.now) }
+{
+    let (place, word) = expect_at(rest, Mark::While)?;
+    let (cond, closed) = read_parens(alloc, word, depth)?;
+    let (branch, behind) = read_branch(alloc, closed, depth)?;
+    let body = Box::new(alloc, branch)?;
+    Ok((Stmt::While(place, cond, body), behind))
+}
+
+/// A `for`, with its body.
+#[cycle(statement)]
+fn read_for(alloc: Global, rest: &[Token], depth: usize) -> Result<(Stmt, &[Token]), Stopped>
+    ensures shorter { IfOk result (λ r. length r.1.now < length rest.now) }
+    ensures gives { Gives (λ r. (stmt_view r.0, r.1.now)) result (read_for depth (branch_at depth) rest.now) }
+{
+    let (place, word) = expect_at(rest, Mark::For)?;
+    let (head, closed) = read_for_head(alloc, word, depth)?;
+    let (branch, behind) = read_branch(alloc, closed, depth)?;
+    let body = Box::new(alloc, branch)?;
+    let ForHead { init, test, step } = head;
+    Ok((Stmt::For(place, init, test, step, body), behind))
+}
+
 /// A statement that is no block.
 #[cycle(statement)]
 fn read_simple(alloc: Global, rest: &[Token], depth: usize) -> Result<(Stmt, &[Token]), Stopped>
@@ -220,6 +256,21 @@ fn read_simple(alloc: Global, rest: &[Token], depth: usize) -> Result<(Stmt, &[T
     }
     if next_is(rest, Mark::If) {
         return read_if(alloc, rest, depth);
+    }
+    if next_is(rest, Mark::While) {
+        return read_while(alloc, rest, depth);
+    }
+    if next_is(rest, Mark::For) {
+        return read_for(alloc, rest, depth);
+    }
+    if next_is(rest, Mark::Break) {
+        return read_break(rest);
+    }
+    if next_is(rest, Mark::Continue) {
+        return read_continue(rest);
+    }
+    if next_is(rest, Mark::Return) {
+        return read_return(alloc, rest, depth);
     }
     if next_is(rest, Mark::Assert) {
         return read_assert(alloc, rest, depth);

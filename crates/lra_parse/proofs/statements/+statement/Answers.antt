@@ -2,12 +2,12 @@ use Rattle.std.proofs.Common.{List, Bor, subst, Ok, sym, ap, ◌∙◌, arith}
 use Rattle.std.proofs.lemmas.Result.{err_from_is_err_and}
 use Rattle.lra_tree.specs.declared.refusals.Place.{Place}
 use Rattle.lra_tree.specs.Trees.{StmtTree, ItemsTree}
-use Rattle.lra_tree.specs.Views.{block_view}
+use Rattle.lra_tree.specs.Views.{block_view, stmt_view}
 use Rattle.lra_tree.specs.declared.tokens.Token.{Token}
 use Rattle.lra_tree.specs.declared.trees.Block.{Block}
 use Rattle.lra_parse.specs.Reading.{Read, Gives}
 use Rattle.lra_parse.proofs.Turning.{ok_shorter}
-use Rattle.lra_parse.proofs.Stated.{state_start, state_turn, body_exit, body_closes, block_stmt, branch_block}
+use Rattle.lra_parse.proofs.Stated.{state_start, state_turn, body_exit, body_closes, block_stmt, branch_block, item_other, statement_item}
 use Rattle.lra_parse.proofs.statements.+statement.Goals as goal
 
 pub read_body-items-init : goal.read_body-items-init
@@ -40,3 +40,8 @@ pub read_branch-returns-then-next_is-clause-gives : goal.read_branch-returns-the
 read_branch-returns-then-next_is-clause-gives t c =
     branch_block c.args.depth c.args.rest.now c.in_ok-block.after.now (block_view c.in_ok-block.block) c.if-depth-eq0.false c.if-next_is.ensures c.in_ok-block.ensures.gives
     ∙ ap (λ (s : StmtTree). Ok (s, c.in_ok-block.after.now)) (sym (block_stmt c.in_ok-block.block))
+
+pub read_item-returns-clause-gives : goal.read_item-returns-clause-gives
+read_item-returns-clause-gives t c =
+    item_other c.args.declares c.args.depth c.args.rest.now c.in_ok-stmt.left.now (stmt_view c.in_ok-stmt.stmt) c.if-begins_declaration.ensures c.if-next_is.ensures c.in_ok-stmt.ensures.gives
+    ∙ ap (λ (i : ItemsTree → ItemsTree). Ok (i, c.in_ok-stmt.left.now)) (sym (statement_item c.in_ok-stmt.stmt))
