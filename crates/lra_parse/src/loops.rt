@@ -8,22 +8,41 @@ ghost use Rattle.lra_tree.specs.declared.tokens.Mark.TheVariants.{Break, Continu
 ghost use Rattle.lra_parse.specs.Tests.{first, is_loop, is_jump};
 ghost use Rattle.lra_parse.specs.Reading.{Gives};
 ghost use Rattle.lra_parse.specs.Expressions.{cond_at};
-ghost use Rattle.lra_parse.specs.Statements.{source_at, assign_at, up_to, init_of, for_head_at};
+ghost use Rattle.lra_parse.specs.Statements.{source_at, assign_at, up_to, init_of, for_of, for_head_at};
 ghost use Rattle.lra_parse.specs.Statements.{read_jump, read_return};
 ghost use Rattle.lra_parse.specs.Heads.{head_view};
 
 use crate::assignments::{read_assign, read_source};
 use crate::conditions::read_cond;
 use crate::reading::{Stopped, expect, expect_at, next_is, tail};
-use lra_tree::{Assign, Cond, Init, Mark, Source, Stmt, Token};
+use lra_tree::{Assign, Cond, Init, Mark, Place, Source, Stmt, Token};
 use std::alloc::Global;
 
 /// What stands in the parentheses of a `for`.
-#[derive(Drop)]
 pub struct ForHead {
     pub init: Init,
     pub test: Option<Cond>,
     pub step: Option<Assign>,
+}
+
+impl Drop for ForHead {
+    fn drop(self) {
+        let ForHead {
+            init: _,
+            test: _,
+            step: _,
+        } = self;
+    }
+}
+
+impl ForHead {
+    /// The loop with this head.
+    pub fn into_stmt(self, place: Place, body: Box<Stmt>) -> Stmt
+        ensures { stmt_view result ≡ for_of place (head_view self) (stmt_view body.value) }
+    {
+        let ForHead { init, test, step } = self;
+        Stmt::For(place, init, test, step, body)
+    }
 }
 
 /// Whether the next token begins a loop.

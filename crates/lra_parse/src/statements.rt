@@ -13,7 +13,7 @@ ghost use Rattle.lra_parse.specs.Statements.{stmt_mark, begins_stmt, begins_item
 use crate::assignments::{next_step, read_assign, read_declaration};
 use crate::conditions::read_cond;
 use crate::loops::{
-    ForHead, begins_jump, begins_loop, read_break, read_continue, read_for_head, read_return,
+    begins_jump, begins_loop, read_break, read_continue, read_for_head, read_return,
 };
 use crate::reading::{Stopped, expect, expect_at, next_is, stop, tail};
 use lra_tree::{Block, BlockItem, Cause, Cond, Kind, Mark, Place, Stmt, Token};
@@ -241,8 +241,7 @@ fn read_for(alloc: Global, rest: &[Token], depth: usize) -> Result<(Stmt, &[Toke
     let (head, closed) = read_for_head(alloc, word, depth)?;
     let (branch, behind) = read_branch(alloc, closed, depth)?;
     let body = Box::new(alloc, branch)?;
-    let ForHead { init, test, step } = head;
-    Ok((Stmt::For(place, init, test, step, body), behind))
+    Ok((head.into_stmt(place, body), behind))
 }
 
 /// A statement that is no block.
