@@ -44,6 +44,12 @@ module _ (V H : Type 0) (m : Meaning V H) where
           let there : m.has v store = subst (λ (xs : List ℤ). m.has v xs) is has in
           (v, (solves.is_value q v).1 found, there, laws.sized v store there)
 
+      -- no run comes where the value has no part
+      pub none_comes : (q : ℕ) (s : Site) (v : V) (store : List ℤ) → slice_get (sites_of P) q ≡ Some s → slice_get values q ≡ Some v → IsUnreachable m v → At P (point_of s) store → ⊥
+      none_comes q s v store there found none at =
+          let (w, got, has, long) = value_there q s store there at in
+          laws.partless v none store (subst (λ (x : V). m.has x store) (sym (same_Some v w (sym found ∙ got))) has)
+
       -- where a run fails an assertion, a value where its condition is false has its store
       pub failing_there : (q : ℕ) (s : Site) → slice_get (sites_of P) q ≡ Some s → Fails P (point_of s) → (v : V) × (store : List ℤ) × Contains r.entries (failing q v) × m.has v store
       failing_there q s there fails =
