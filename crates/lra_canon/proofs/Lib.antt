@@ -1,0 +1,5 @@
+-- Lemmas on rows: chains of reductions, what solutions tell, orders; and worked rows.
+pub mod Chains
+pub mod Solutions
+pub mod Orders
+pub mod CanonExamples

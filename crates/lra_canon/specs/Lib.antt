@@ -1,0 +1,3 @@
+-- What is made of rows so that each set has one spelling, and where a number passes the range in it.
+pub mod Reduced
+pub mod Ordered

@@ -1,0 +1,49 @@
+//! The orders of lists that are shown.
+
+ghost use Rattle.std.specs.Prelude.{◌≡◌, OnOk, OnErr};
+ghost use Rattle.std.specs.List.Sorted.{IsPermutation, IsSorted};
+ghost use Rattle.lra_canon.specs.Ordered.{cmp_by, pivot_cmp, IsOneOrder};
+
+use lra_row::Row;
+use std::alloc::AllocError;
+use std::cmp::Ordering;
+
+/// What the rows of a list are, which decides their order.
+#[derive(Clone, Copy, Debug, PartialEq, Eq)]
+pub enum Order {
+    /// Inequalities: by the first column other than 0 from 1 up, then the greater one first.
+    Inequalities,
+    /// Points or rays: by their columns, column 0 last.
+    Generators,
+    /// Equalities or lines: by pivot, column 0 last.
+    Pivots,
+}
+
+fn compare_pivots(left: &Row, right: &Row) -> Ordering
+    ensures { result ≡ pivot_cmp left.now right.now }
+{
+    let (first, second) = (left.pivot(), right.pivot());
+    (first == 0).cmp(&(second == 0)).then(first.cmp(&second))
+}
+
+fn compare_by(order: Order, left: &Row, right: &Row) -> Ordering
+    ensures { result ≡ cmp_by order left.now right.now }
+{
+    match order {
+        Order::Inequalities => left.pivot().cmp(&right.pivot()).then(right.compare(left)),
+        Order::Generators => left.compare(right),
+        Order::Pivots => compare_pivots(left, right),
+    }
+}
+
+/// Puts the rows in order. Lists with the same rows, each as often, become equal, with `Pivots` where the pivots
+/// differ. Want of memory leaves the list as it was.
+pub fn canonical_order(rows: &mut Vec<Row>, order: Order) -> Result<(), AllocError>
+    ensures same { IsPermutation rows.old.items rows.new.items }
+    ensures sorted { OnOk result (IsSorted (cmp_by order) rows.new.items) }
+    ensures one { OnOk result (IsOneOrder order rows.old.items rows.new.items) }
+    ensures unchanged { OnErr result (rows.new.items ≡ rows.old.items) }
+{
+    rows.sort_by(|left, right| compare_by(order, left, right))?;
+    Ok(())
+}

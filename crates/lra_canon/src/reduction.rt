@@ -1,0 +1,78 @@
+//! Reductions of a row by an echelon form.
+
+ghost use Rattle.std.specs.Prelude.{◌≡◌, ◌<◌, length, neg_ℤ, IfOk, IfErr, OnOk, OnErr};
+ghost use Rattle.std.specs.List.{All};
+ghost use Rattle.lra_linear.specs.Range.{InRange};
+ghost use Rattle.lra_canon.specs.Reduced.{IsForm, SameSolutions, IsReducedBy, IsOneReduced, IsCleared};
+ghost use Rattle.lra_canon.specs.Reduced.{IsClearingExcess, IsChainEnd, IsFirstExcess, IsReductionExcess};
+
+use lra_row::{Row, RowError};
+
+// The number times -1.
+fn opposite(number: i128) -> i128
+    requires { InRange number }
+    ensures { result ≡ neg_ℤ number }
+{
+    -number
+}
+
+// The row with 0 at the line's pivot.
+pub(crate) fn clear(row: Row, line: &Row) -> Result<Row, RowError>
+    requires width { length row ≡ length line.now }
+    requires wide { 0 < length row }
+    ensures ok { IfOk result (IsCleared line.now row) }
+    ensures excess { IfErr result (IsClearingExcess line.now row) }
+{
+    let column = line.pivot();
+    let here = row.get(column);
+    if here == 0 {
+        return Ok(row);
+    }
+    let leading = line.get(column);
+    let factor = opposite(here);
+    match row.blend(leading, factor, line) {
+        Ok(mut next) => {
+            next.lowest_terms();
+            Ok(next)
+        }
+        Err(error) => Err(error),
+    }
+}
+
+// The row reduced by the form.
+#[tactic(auto, using(crate::proofs::Chains::partly_start, crate::proofs::Chains::partly_passes, crate::proofs::Chains::partly_first))]
+pub(crate) fn reduced(row: &Row, form: &[Row]) -> Result<Row, RowError>
+    requires widths { All (λ line. length line ≡ length row.now) form.now }
+    requires wide { 0 < length row.now }
+    requires form { IsForm form.now }
+    ensures reduced { IfOk result (IsReducedBy form.now row.now) }
+    ensures chain { IfOk result (IsChainEnd form.now row.now) }
+    ensures first { IfErr result (IsFirstExcess form.now row.now) }
+    ensures excess { IfErr result (IsReductionExcess form.now row.now) }
+{
+    let mut now = row.copy()?;
+    for line in form {
+        now = clear(now, line)?;
+    }
+    now.lowest_terms();
+    Ok(now)
+}
+
+/// Clears the row at the pivot of each row of the echelon form and takes it in lowest terms: with the form's equalities
+/// its solutions stay the same, and rows with the same solutions become equal. Or names the first number that passes
+/// the range, the rows of the form taken in their order, and leaves the row as it was.
+pub fn reduce(row: &mut Row, form: &[Row]) -> Result<(), RowError>
+    requires widths { All (λ line. length line ≡ length row.old) form.now }
+    requires wide { 0 < length row.old }
+    requires form { IsForm form.now }
+    ensures reduced { OnOk result (IsReducedBy form.now row.old row.new) }
+    ensures same { OnOk result (SameSolutions form.now row.old row.new) }
+    ensures one { OnOk result (IsOneReduced form.now row.old row.new) }
+    ensures chain { OnOk result (IsChainEnd form.now row.old row.new) }
+    ensures first { IfErr result (IsFirstExcess form.now row.old) }
+    ensures excess { IfErr result (IsReductionExcess form.now row.old) }
+    ensures unchanged { OnErr result (row.new ≡ row.old) }
+{
+    *row = reduced(row, form)?;
+    Ok(())
+}

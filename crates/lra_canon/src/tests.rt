@@ -1,0 +1,115 @@
+//! Worked rows.
+
+ghost use Rattle.std.specs.Prelude.{◌≡◌, ◌∷◌, [], length, IfOk};
+ghost use Rattle.std.specs.List.{All};
+ghost use Rattle.lra_linear.specs.Range.{InRange};
+ghost use Rattle.lra_canon.specs.Reduced.{IsForm};
+
+use super::*;
+use lra_row::{Excess, Operation, Row, RowError};
+use std::alloc::{AllocError, Global};
+use std::cmp::Ordering;
+use std::test::Fail;
+
+const MAX: i128 = i128::MAX;
+
+// Three rows as a list.
+fn three(
+    alloc: Global,
+    first: &[i128],
+    second: &[i128],
+    third: &[i128],
+) -> Result<Vec<Row>, AllocError>
+    requires first { All InRange first.now }
+    requires second { All InRange second.now }
+    requires third { All InRange third.now }
+    ensures { IfOk result (λ rows. rows.items ≡ first.now ∷ second.now ∷ third.now ∷ []) }
+{
+    let mut rows = Vec::new(alloc);
+    rows.push(Row::from_slice(alloc, first)?)?;
+    rows.push(Row::from_slice(alloc, second)?)?;
+    rows.push(Row::from_slice(alloc, third)?)?;
+    Ok(rows)
+}
+
+fn same_rows(rows: &[Row], want: &[Row]) -> bool {
+    rows.len() == want.len()
+        && rows
+            .iter()
+            .zip(want)
+            .all(|(row, other)| row.compare(other) == Ordering::Equal)
+}
+
+/// Each order with rows that another order would leave as they stand.
+#[test]
+fn orders(rt: HostRuntime) -> Result<(), Fail> {
+    let alloc = rt.alloc();
+    for (order, mut rows, want) in [
+        (
+            Order::Inequalities,
+            three(alloc, &[0, 0, 1], &[1, -1, 0], &[0, 1, 0])?,
+            three(alloc, &[0, 1, 0], &[1, -1, 0], &[0, 0, 1])?,
+        ),
+        (
+            Order::Generators,
+            three(alloc, &[1, 0, 2], &[1, 0, 0], &[2, -1, 0])?,
+            three(alloc, &[2, -1, 0], &[1, 0, 0], &[1, 0, 2])?,
+        ),
+        (
+            Order::Pivots,
+            three(alloc, &[1, 0, 0], &[0, 0, 1], &[0, 3, 1])?,
+            three(alloc, &[0, 3, 1], &[0, 0, 1], &[1, 0, 0])?,
+        ),
+    ] {
+        canonical_order(&mut rows, order)?;
+        assert!(rt; same_rows(&rows, &want));
+    }
+    Ok(())
+}
+
+// The form of the equality 2 x1 + x2 = 0.
+#[tactic(auto, using(crate::proofs::CanonExamples::sloped_is_form))]
+fn sloped(alloc: Global) -> Result<Vec<Row>, AllocError>
+    ensures form { IfOk result (λ form. IsForm form.items) }
+    ensures widths { IfOk result (λ form. All (λ line. length line ≡ 3) form.items) }
+{
+    let mut form = Vec::new(alloc);
+    form.push(Row::from_slice(alloc, &[0, 2, 1])?)?;
+    Ok(form)
+}
+
+// What a row of three columns becomes, or the first number that passes.
+fn reducing(alloc: Global, numbers: &[i128]) -> Result<Result<Row, Excess>, Fail>
+    requires numbers { All InRange numbers.now }
+    requires width { length numbers.now ≡ 3 }
+{
+    let form = sloped(alloc)?;
+    let mut row = Row::from_slice(alloc, numbers)?;
+    match reduce(&mut row, &form) {
+        Ok(()) => Ok(Ok(row)),
+        Err(RowError::Excess(excess)) => Ok(Err(excess)),
+        Err(RowError::Memory) => Err("no memory".into()),
+    }
+}
+
+/// Rows by 2 x1 + x2 = 0: their entry of column 1 is cleared by the factors 2 and minus that entry.
+#[test]
+fn reductions(rt: HostRuntime) -> Result<(), Fail> {
+    let alloc = rt.alloc();
+    for (got, want) in [
+        (reducing(alloc, &[1, 3, 4])?, [2, 0, 5].as_slice()),
+        (reducing(alloc, &[4, 0, 6])?, [2, 0, 3].as_slice()),
+        (reducing(alloc, &[-1, -2, 0])?, [-1, 0, 1].as_slice()),
+        (reducing(alloc, &[0, 4, 2])?, [0, 0, 0].as_slice()),
+    ] {
+        let row = got.map_err(|_| "passes")?;
+        assert_eq!(rt; row.entries(), want);
+    }
+    for (got, op, left, right) in [
+        (reducing(alloc, &[MAX, 1, 0])?, Operation::Product, 2, MAX),
+        (reducing(alloc, &[0, MAX, 1])?, Operation::Product, 2, MAX),
+    ] {
+        assert_eq!(rt; got.err(), Some(Excess { op, left, right }));
+    }
+    Ok(())
+}
