@@ -114,6 +114,34 @@ assert 5 main 1:44 proved
 verdicts proved 1 unknown 1
 ";
 
+/// An endless loop: behind it nothing is reached.
+const ENDLESS: Pieces = ("int main(void){ while(1){} assert(0); }", "", 0, "");
+
+const ENDLESS_REPORT: &str = "analysis box parts 1 delay 1 narrow 1 limited no
+flagged 0
+point 1 main 1:17
+  row true
+point 2 main 1:26
+  row true
+point 3 main 1:28
+  unreachable
+point 4 main 1:39
+  unreachable
+assert 3 main 1:28 proved
+verdicts proved 1 unknown 0
+";
+
+/// A loop that counts to ten.
+const COUNTING: Pieces = ("int main(void){ long i=0; while(i<10) i=i+1; }", "", 0, "");
+
+/// A loop in a loop, which is left by `break` and by `return`.
+const NESTED: Pieces = (
+    "int main(void){ long a=0, b=0; while(a<5){ b=0; while(1){ if(b>=3) break; ",
+    "",
+    0,
+    "if(input()) return 0; b=b+1; } a=a+1; } assert(a==5); }",
+);
+
 const HOLDS: Pieces = (
     "dims 2
 con P >= 0 1 0 ; >= 4 -1 -1
@@ -133,7 +161,7 @@ flagged at line 5
 ";
 
 /// Words, a source, the read and the write that are to fail, the status, and the whole text that is written.
-static ANSWERS: [(&str, Pieces, (u64, u64), Status, &str); 72] = [
+static ANSWERS: [(&str, Pieces, (u64, u64), Status, &str); 84] = [
     (BOXES, PROVED, SOUND, Status::Proved, PROVED_REPORT),
     (BOXES, UNKNOWN, SOUND, Status::Unknown, UNKNOWN_REPORT),
     (BOXES, BOUNDED, SOUND, Status::Unknown, BOUNDED_REPORT),
@@ -144,6 +172,7 @@ static ANSWERS: [(&str, Pieces, (u64, u64), Status, &str); 72] = [
         Status::Unknown,
         UNREACHABLE_REPORT,
     ),
+    (BOXES, ENDLESS, SOUND, Status::Proved, ENDLESS_REPORT),
     // devices that fail; a seventh read and a 25th write aren't made
     (BOXES, PROVED, (1, 0), Status::ReadFault, ""),
     (BOXES, PROVED, (2, 0), Status::ReadFault, ""),
@@ -427,6 +456,20 @@ static ANSWERS: [(&str, Pieces, (u64, u64), Status, &str); 72] = [
     ),
     (
         BOXES,
+        ("int main(void){", "while(1)", 64, ";}"),
+        SOUND,
+        Status::Refused,
+        "refused 5 TooDeep at 1:528\n",
+    ),
+    (
+        BOXES,
+        ("int main(void){", "for(;;)", 64, ";}"),
+        SOUND,
+        Status::Refused,
+        "refused 5 TooDeep at 1:464\n",
+    ),
+    (
+        BOXES,
         ("int main(void){ long x; x = ", "+ ", 63, ""),
         SOUND,
         Status::Refused,
@@ -472,7 +515,35 @@ static ANSWERS: [(&str, Pieces, (u64, u64), Status, &str); 72] = [
         ("int main(void){ while }", "", 0, ""),
         SOUND,
         Status::Refused,
-        "refused 4 Syntax at 1:17\n",
+        "refused 4 Syntax at 1:23\n",
+    ),
+    (
+        BOXES,
+        ("int main(void){ while() }", "", 0, ""),
+        SOUND,
+        Status::Refused,
+        "refused 4 Syntax at 1:23\n",
+    ),
+    (
+        BOXES,
+        ("int main(void){ for(long i=0;", "", 0, ""),
+        SOUND,
+        Status::Refused,
+        "refused 4 Syntax at 1:21\n",
+    ),
+    (
+        BOXES,
+        ("int main(void){ for(;;;", "", 0, ""),
+        SOUND,
+        Status::Refused,
+        "refused 4 Syntax at 1:23\n",
+    ),
+    (
+        BOXES,
+        ("int main(void){ break }", "", 0, ""),
+        SOUND,
+        Status::Refused,
+        "refused 4 Syntax at 1:23\n",
     ),
     (
         BOXES,
@@ -546,6 +617,41 @@ static ANSWERS: [(&str, Pieces, (u64, u64), Status, &str); 72] = [
     ),
     (
         BOXES,
+        ("int main(void){ break; }", "", 0, ""),
+        SOUND,
+        Status::Refused,
+        "refused 10 Misplaced at 1:17\n",
+    ),
+    (
+        BOXES,
+        ("int main(void){ continue; }", "", 0, ""),
+        SOUND,
+        Status::Refused,
+        "refused 10 Misplaced at 1:17\n",
+    ),
+    (
+        BOXES,
+        ("int main(void){ while(1) ; if(1) break; }", "", 0, ""),
+        SOUND,
+        Status::Refused,
+        "refused 10 Misplaced at 1:34\n",
+    ),
+    (
+        BOXES,
+        ("int main(void){ x = 1; break; }", "", 0, ""),
+        SOUND,
+        Status::Refused,
+        "refused 7 UnknownName at 1:17\n",
+    ),
+    (
+        BOXES,
+        ("int main(void){ break; x = 1; }", "", 0, ""),
+        SOUND,
+        Status::Refused,
+        "refused 10 Misplaced at 1:17\n",
+    ),
+    (
+        BOXES,
         (
             "int main(void){ long v1,v2,v3,v4,v5,v6,v7,v8,v9,v10,v11,v12",
             "",
@@ -566,7 +672,7 @@ static ANSWERS: [(&str, Pieces, (u64, u64), Status, &str); 72] = [
 ];
 
 /// Words, a source whose assertions are all proved, and lines of its report.
-static LINES: [(&str, Pieces, &str); 27] = [
+static LINES: [(&str, Pieces, &str); 40] = [
     (
         "lra analyse --domain=box",
         PROVED,
@@ -722,6 +828,89 @@ static LINES: [(&str, Pieces, &str); 27] = [
             "",
         ),
         "assert 6 main 1:54 proved\n",
+    ),
+    // loops: what widening, narrowing and the exits leave
+    (
+        BOXES,
+        COUNTING,
+        "point 2 main 1:27\n  row i >= 0\n  row i <= 10\n",
+    ),
+    (BOXES, COUNTING, "point 4 main 1:46\n  row i = 10\n"),
+    (
+        "lra analyse --domain box --narrow 0",
+        COUNTING,
+        "point 2 main 1:27\n  row i >= 0\npoint 3 main 1:39\n",
+    ),
+    (
+        "lra analyse --domain box --narrow 0",
+        COUNTING,
+        "point 4 main 1:46\n  row i >= 10\nverdicts proved 0 unknown 0\n",
+    ),
+    (
+        "lra analyse --domain box --narrow 0 --limited",
+        COUNTING,
+        "point 4 main 1:46\n  row i >= 10\n",
+    ),
+    (
+        "lra analyse --domain box --narrow 0 --delay 3",
+        (
+            "int main(void){ long i=0; while(i<3) i=i+1; assert(i==3); }",
+            "",
+            0,
+            "",
+        ),
+        "point 2 main 1:27\n  row i >= 0\n  row i <= 3\n",
+    ),
+    (
+        BOXES,
+        NESTED,
+        "point 9 main 1:87\n  row a >= 0\n  row a <= 4\n  row b >= 0\n  row b <= 2\n",
+    ),
+    (
+        BOXES,
+        NESTED,
+        "point 14 main 1:115\n  row a = 5\n  row b >= 0\n  row b <= 3\n",
+    ),
+    // the step follows `continue`; the nearest if has the else, through loops too; behind a `return` nothing is reached
+    (
+        BOXES,
+        (
+            "int main(void){ long i, n=0; for(i=0; i<3; i++){ continue; n=1; } assert(i==3 && n==0); }",
+            "",
+            0,
+            "",
+        ),
+        "point 5 main 1:44\n  row n = 0\n  row i >= 0\n  row i <= 2\n",
+    ),
+    (
+        BOXES,
+        (
+            "int main(void){ long x=0; if(0) while(1) if(1) x=1; else x=2; assert(x==0); }",
+            "",
+            0,
+            "",
+        ),
+        "point 7 main 1:63\n  row x = 0\n",
+    ),
+    (
+        BOXES,
+        (
+            "int main(void){ long x=0; if(1) for(;;) if(x>4) break; else x=x+1; assert(x==5); }",
+            "",
+            0,
+            "",
+        ),
+        "point 5 main 1:49\n  row x = 5\n",
+    ),
+    (
+        BOXES,
+        ("int main(void){ return 1; assert(0); }", "", 0, ""),
+        "point 2 main 1:27\n  unreachable\n",
+    ),
+    (
+        "lra analyse --domain box --narrow 0",
+        ("int main(void){", "while(0)", 63, ";}"),
+        "point 63 main 1:512\n",
     ),
     // 60 alternations of && and ||, one inside the other, cost no more than as many comparisons
     (
