@@ -1,34 +1,27 @@
 -- What an iteration over a program's tree hands to whoever lists it: as many values as points, each as wide as its point, and one verdict for
 -- each assertion.
-use Rattle.std.proofs.Common.{◌≡◌, ℕ, zero, suc, ◌++◌, ◌≤◌, ◌<◌, List, [], ◌∷◌, length, map, Option, Some, None, Bool, true, false, cond, refl, sym, ap, ◌∙◌, subst, arith}
-use Rattle.std.specs.Prelude.{ℤ, pos, negsuc, neg_ℤ, replicate, slice_get, IsTrue, if◌then◌else◌}
+use Rattle.std.proofs.Common.{◌≡◌, ℕ, zero, suc, ◌≤◌, ◌<◌, List, [], ◌∷◌, length, map, Option, Some, None, Bool, true, false, cond, refl, sym, ap, ◌∙◌, subst, arith}
+use Rattle.std.specs.Prelude.{slice_get, IsTrue}
 use Rattle.std.specs.List.{AllByRecursion, Contains}
-use Rattle.std.proofs.lemmas.List.{length-replicate, length-map}
+use Rattle.std.proofs.lemmas.List.{length-map}
 use Rattle.std.proofs.lemmas.Option.{none-some, same_Some}
-use Rattle.lra_sys.specs.declared.system.ConKind.{ConKind}
-use Rattle.lra_show.specs.Shown.{report_row}
-use Rattle.lra_report.specs.Rows.{shown_rows}
+use Rattle.lra_linear.proofs.Membership.{contains_head, contains_tail}
 use Rattle.lra_domain.specs.Meaning.{Meaning}
 use Rattle.lra_domain.specs.Laws.{Laws}
-use Rattle.lra_box.specs.declared.interval.Interval.{Interval}
-use Rattle.lra_box.specs.Content.{Content}
-use Rattle.lra_box.specs.Parts.{bound_row, is_single, low_rows, high_rows, equal_rows, unequal_rows, box_rows, box_system, box_parts}
-use Rattle.lra_box.specs.Meaning.{box_meaning}
 use Rattle.lra_tree.specs.Program.{Program}
 use Rattle.lra_tree.specs.Graph.{Node}
 use Rattle.lra_tree.specs.Sites.{Site, sites_of}
 use Rattle.lra_tree.specs.Agree.{IsGraph}
-use Rattle.lra_tree.specs.Report.{Row, State}
+use Rattle.lra_tree.specs.Report.{Domain, State}
 use Rattle.lra_tree.specs.Listing.{HasWidth}
 use Rattle.lra_flow.specs.declared.Settings.{Settings}
 use Rattle.lra_flow.specs.Operations.{dropping}
 use Rattle.lra_flow.specs.Pass.{Result}
 use Rattle.lra_flow.specs.Analysis.{Derivation, Solves}
-use Rattle.lra_flow.proofs.FormLemmas.{set_length}
 use Rattle.lra_iter.specs.Numbers.{values_in, checks_in, asserts_of, IsNumbered, IsBelow}
 use Rattle.lra_iter.proofs.Counting.{Found, iteration_found, value_counted, failing_counted, counted_value, counted_failing}
 use Rattle.lra_listing.specs.Given.{IsAssertion}
-use Rattle.lra_source.specs.Analysed.{shown_part, shown_state}
+use Rattle.lra_source.specs.Shown.{AreShown}
 use Rattle.lra_source.proofs.Numbering.{numbered}
 use Rattle.lra_source.proofs.Flags.{graph_below, iteration_below}
 use Rattle.lra_iter.proofs.Widths.{values_wide}
@@ -48,6 +41,12 @@ image_of f [] k y e = absurd (none-some y e)
 image_of f (x ∷ xs) zero y e = (x, refl, same_Some (f x) y e)
 image_of f (x ∷ xs) (suc k) y e = image_of f xs k y e
 
+-- what stands at a place is in the list
+pub contained : {A : Type 0} (xs : List A) (k : ℕ) (x : A) → slice_get xs k ≡ Some x → Contains xs x
+contained [] k x e = absurd (none-some x e)
+contained (y ∷ xs) zero x e = subst (λ (z : _). Contains (y ∷ xs) z) (same_Some y x e) (contains_head y xs)
+contained (y ∷ xs) (suc k) x e = contains_tail y x xs (contained xs k x e)
+
 -- assertions ---------------------------------------------------------------------------------------------------------
 
 counted_asserts : (b : Bool) → 1 ≤ cond b 1 0 → IsTrue b
@@ -63,10 +62,6 @@ asserts_counted true h = omega arith
 asserts_counted false h = absurd (let no : false ≡ true = h in cc)
 
 -- what is handed over ------------------------------------------------------------------------------------------------
-
--- each part that tells a value has a number for each of its dimensions
-abbrev pub ShowsWide : {V H : Type 0} → Meaning V H → Type 0
-ShowsWide {V} m = (v : V) → AllByRecursion (HasWidth (m.dims v)) (shown_state m v)
 
 module _ {V H : Type 0} (m : Meaning V H) (settings : Settings) (P : Program) (g : Node) (r : Result V) (values : List V) (verdicts : List (ℕ × Bool)) (flagged : Option ℕ)
     (graph : IsGraph P g) (derived : Derivation m settings P g r) (solves : Solves m r values verdicts flagged) where
@@ -129,66 +124,19 @@ module _ {V H : Type 0} (m : Meaning V H) (settings : Settings) (P : Program) (g
       let below = iteration_below V H (dropping m) n settings P g r (omega (arith, all)) (graph_below P g graph) derived in
       subst (λ (o : Option ℕ). IsBelow n o) (sym solves.is_flagged ∙ is) below
 
-  -- as many states as points
-  pub states_as_many : length (map (shown_state m) values) ≡ length (sites_of P)
-  states_as_many = length-map values (shown_state m) ∙ as_many
+  -- a value has a dimension for each variable that lives at its point
+  pub value_dims : Laws m → (q : ℕ) (v : V) (s : Site) → slice_get values q ≡ Some v → slice_get (sites_of P) q ≡ Some s → m.dims v ≡ s.live
+  value_dims laws q v s there site = values_wide m laws (sites_of P) settings P g r (graph_lives P g graph) derived q v s ((solves.is_value q v).0 there) site
 
-  -- each state has a number for each variable that lives at its point
-  pub states_wide : Laws m → ShowsWide m → (q : ℕ) (s : Site) (state : State) → slice_get (sites_of P) q ≡ Some s → slice_get (map (shown_state m) values) q ≡ Some state → AllByRecursion (HasWidth s.live) state
-  states_wide laws shows q s state there got =
-      let (v, value_there, is) = image_of (shown_state m) values q state got in
-      let dims : m.dims v ≡ s.live = values_wide m laws (sites_of P) settings P g r (graph_lives P g graph) derived q v s ((solves.is_value q v).0 value_there) there in
-      subst (λ (x : State). AllByRecursion (HasWidth s.live) x) is (subst (λ (n : ℕ). AllByRecursion (HasWidth n) (shown_state m v)) dims (shows v))
+  module _ (shown : V → State) where
+    -- as many states as points
+    pub states_as_many : length (map shown values) ≡ length (sites_of P)
+    states_as_many = length-map values shown ∙ as_many
 
--- boxes --------------------------------------------------------------------------------------------------------------
-
--- a column more than there are dimensions
-abbrev AreWide : ℕ → List (List ℤ) → Type 0
-AreWide n rows = AllByRecursion (λ (r : List ℤ). length r ≡ suc n) rows
-
-both_wide : (n : ℕ) (xs ys : List (List ℤ)) → AreWide n xs → AreWide n ys → AreWide n (xs ++ ys)
-both_wide n [] ys h i = i
-both_wide n (x ∷ xs) ys h i = (h.0, both_wide n xs ys h.1 i)
-
-row_wide : (n k : ℕ) (c f : ℤ) → length (bound_row n k c f) ≡ suc n
-row_wide n k c f = ap suc (set_length (replicate n (pos 0)) k f ∙ length-replicate n (pos 0))
-
-low_wide : (n k : ℕ) (o : Option ℤ) → AreWide n (low_rows n k o)
-low_wide n k None = tt
-low_wide n k (Some l) = (row_wide n k (neg_ℤ l) (pos 1), tt)
-
-high_wide : (n k : ℕ) (o : Option ℤ) → AreWide n (high_rows n k o)
-high_wide n k None = tt
-high_wide n k (Some h) = (row_wide n k h (negsuc 0), tt)
-
-chosen_wide : (n : ℕ) (b : Bool) (xs ys : List (List ℤ)) → AreWide n xs → AreWide n ys → AreWide n (if b then xs else ys)
-chosen_wide n true xs ys h i = h
-chosen_wide n false xs ys h i = i
-
-equal_wide : (n k : ℕ) (is : List Interval) → AreWide n (equal_rows n k is)
-equal_wide n k [] = tt
-equal_wide n k (i ∷ is) = both_wide n (if is_single i then low_rows n k i.low else []) (equal_rows n (suc k) is) (chosen_wide n (is_single i) (low_rows n k i.low) [] (low_wide n k i.low) tt) (equal_wide n (suc k) is)
-
-unequal_wide : (n k : ℕ) (is : List Interval) → AreWide n (unequal_rows n k is)
-unequal_wide n k [] = tt
-unequal_wide n k (i ∷ is) =
-    let both = both_wide n (low_rows n k i.low) (high_rows n k i.high) (low_wide n k i.low) (high_wide n k i.high) in
-    both_wide n (if is_single i then [] else low_rows n k i.low ++ high_rows n k i.high) (unequal_rows n (suc k) is) (chosen_wide n (is_single i) [] (low_rows n k i.low ++ high_rows n k i.high) tt both) (unequal_wide n (suc k) is)
-
-shown_wide : (n : ℕ) (rows : List (List ℤ)) (kinds : List ConKind) → AreWide n rows → AllByRecursion (λ (r : Row). length r.coefficients ≡ n) (shown_rows rows kinds)
-shown_wide n [] kinds h = tt
-shown_wide n (r ∷ rows) [] h = tt
-shown_wide n (r ∷ rows) (k ∷ kinds) h = (shown r h.0, shown_wide n rows kinds h.1)
-  where
-    shown : (r : List ℤ) → length r ≡ suc n → length (report_row r k).coefficients ≡ n
-    shown [] e = absurd (omega (arith, e))
-    shown (c ∷ cs) e = omega (arith, e)
-
-pub box_shows_wide : ShowsWide box_meaning
-box_shows_wide v = parts v.bounds
-  where
-    parts : (b : Option (List Interval)) → AllByRecursion (HasWidth v.dims) (map shown_part (box_parts v.dims b))
-    parts None = tt
-    parts (Some is) =
-        let rows = both_wide v.dims (equal_rows v.dims 0 is) (unequal_rows v.dims 0 is) (equal_wide v.dims 0 is) (unequal_wide v.dims 0 is) in
-        ((shown_wide v.dims (box_rows v.dims is) (box_system v.dims is).kinds rows, tt), tt)
+    -- each state has a number for each variable that lives at its point
+    pub states_wide : Laws m → (domain : Domain) → AreShown m domain shown values → (q : ℕ) (s : Site) (state : State) → slice_get (sites_of P) q ≡ Some s → slice_get (map shown values) q ≡ Some state
+        → AllByRecursion (HasWidth s.live) state
+    states_wide laws domain are q s state there got =
+        let (v, value_there, is) = image_of shown values q state got in
+        let dims : m.dims v ≡ s.live = value_dims laws q v s value_there there in
+        subst (λ (x : State). AllByRecursion (HasWidth s.live) x) is (subst (λ (n : ℕ). AllByRecursion (HasWidth n) (shown v)) dims (are v (contained values q v value_there)).wide)

@@ -1,15 +1,10 @@
 -- What an iteration finds holds in all runs.
-use Rattle.std.proofs.Common.{◌≡◌, ℕ, List, Bool, true, Option, refl}
+use Rattle.std.proofs.Common.{true, refl}
 use Rattle.lra_domain.specs.Meaning.{Meaning}
 use Rattle.lra_domain.specs.Laws.{Laws}
-use Rattle.lra_tree.specs.Program.{Program}
-use Rattle.lra_tree.specs.Graph.{Node}
-use Rattle.lra_tree.specs.Agree.{IsGraph, Agrees}
-use Rattle.lra_flow.specs.declared.Settings.{Settings}
 use Rattle.lra_flow.specs.Operations.{dropping}
-use Rattle.lra_iter.specs.Solved.{IsSolved}
 use Rattle.lra_iter.proofs.Counting.{iteration_fails_once}
-use Rattle.lra_source.specs.Soundness.{HoldsInRuns, SolvedAreSound}
+use Rattle.lra_source.specs.Soundness.{SolvedAreSound}
 use Rattle.lra_source.proofs.Numbering.{numbered}
 use Rattle.lra_source.proofs.Sound.{value_there, proved_holds, none_comes}
 

@@ -3,6 +3,7 @@ pub mod Fitting
 pub mod Sound
 pub mod Numbering
 pub mod Flags
+pub mod BoxShown
 pub mod Reports
 pub mod BuiltAnswer
 pub mod ReadSteps

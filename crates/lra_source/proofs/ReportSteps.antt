@@ -1,33 +1,31 @@
 -- From the tree of operations of a source to its report: what the iteration and the listing ask, and what they give.
-use Rattle.std.proofs.Common.{◌≡◌, ◌≤◌, ◌<◌, ◌+◌, ◌^◌, ℕ, zero, suc, ℤ, List, [], ◌∷◌, length, map, Bool, true, false, Option, Some, None, refl, sym, ap, ◌∙◌, subst, arith}
+use Rattle.std.proofs.Common.{◌≡◌, ◌≤◌, ◌<◌, ◌+◌, ◌^◌, ℕ, suc, ℤ, List, [], ◌∷◌, length, map, Bool, true, false, Option, Some, None, refl, sym, ap, ◌∙◌, subst, arith}
 use Rattle.std.specs.Prelude.{option_map, nat_lt, if◌then◌else◌, slice_get}
 use Rattle.std.specs.List.{AllByRecursion}
 use Rattle.std.proofs.lemmas.Bool.Decides.{nat_tests}
 use Rattle.lra_tree.specs.declared.refusals.Refusal.{Refusal}
 use Rattle.lra_tree.specs.Trees.{FileTree}
-use Rattle.lra_tree.specs.Program.{Program}
 use Rattle.lra_tree.specs.Graph.{Node}
 use Rattle.lra_tree.specs.Labels.{Labelled, labels_of}
 use Rattle.lra_tree.specs.Sites.{Site, Event, comes, one_call_more, events_of, sites_in, sites_of}
 use Rattle.lra_tree.specs.Resolve.{resolve}
-use Rattle.lra_tree.specs.Report.{Options, State, Report}
+use Rattle.lra_tree.specs.Report.{Domain, Options, State, Report}
 use Rattle.lra_tree.specs.Listing.{Lists}
 use Rattle.lra_tree.specs.Refuse.{greatest_live, greatest_points, limit_fault}
-use Rattle.lra_box.specs.Content.{Content}
-use Rattle.lra_box.specs.Meaning.{box_meaning}
+use Rattle.lra_domain.specs.Meaning.{Meaning}
+use Rattle.lra_domain.specs.Laws.{Laws}
 use Rattle.lra_flow.specs.declared.Settings.{Settings}
 use Rattle.lra_iter.specs.Fits.{TreeFits}
 use Rattle.lra_iter.specs.Numbers.{IsNumbered}
 use Rattle.lra_iter.specs.Solved.{IsSolved}
 use Rattle.lra_listing.specs.Given.{AreStates, AreVerdicts, state_of, told_of, told}
-use Rattle.lra_report.specs.Rows.{IsPartInRange}
-use Rattle.lra_source.specs.Analysed.{shown_state}
+use Rattle.lra_report.specs.Spelled.{IsSpelledPart}
+use Rattle.lra_source.specs.Shown.{AreShown, AreCapped}
 use Rattle.lra_source.specs.Answers.{settings_of}
 use Rattle.lra_source.specs.Stages.{HasGraph, IsToldOf}
 use Rattle.lra_source.proofs.Fitting.{tree_fits, few_globals}
 use Rattle.lra_source.proofs.Numbering.{numbered}
-use Rattle.lra_box.specs.Laws.{box_laws}
-use Rattle.lra_source.proofs.Handing.{states_as_many, of_assertions, of_all, states_wide, flag_there, box_shows_wide}
+use Rattle.lra_source.proofs.Handing.{states_as_many, of_assertions, of_all, states_wide, flag_there}
 use Rattle.lra_source.proofs.Readable.{readable}
 
 -- what the iteration asks --------------------------------------------------------------------------------------------
@@ -72,32 +70,33 @@ few_points t g sites has =
 
 -- what the listing asks ----------------------------------------------------------------------------------------------
 
-module _ (t : FileTree) (g : Node) (sites : List Site) (has : HasGraph t g sites) (settings : Settings) (values : List Content) (verdicts : List (ℕ × Bool)) (flagged : Option ℕ)
-    (solved : IsSolved box_meaning settings (resolve t) g values verdicts flagged) where
-  pub states_handed : (states : List State) → states ≡ map (shown_state box_meaning) values → AreStates (sites_of (resolve t)) states
-  states_handed states is = record {
-    as_many = ap length is ∙ states_as_many box_meaning settings (resolve t) g solved.result values verdicts flagged has.is_graph solved.derived solved.solves;
-    wide = λ q s state there got. states_wide box_meaning settings (resolve t) g solved.result values verdicts flagged has.is_graph solved.derived solved.solves box_laws box_shows_wide q s state there
+module _ {V H : Type 0} (m : Meaning V H) (t : FileTree) (g : Node) (sites : List Site) (has : HasGraph t g sites) (settings : Settings)
+    (values : List V) (verdicts : List (ℕ × Bool)) (flagged : Option ℕ) (solved : IsSolved m settings (resolve t) g values verdicts flagged) where
+  pub states_handed : Laws m → (domain : Domain) (shown : V → State) → AreShown m domain shown values → (states : List State) → states ≡ map shown values → AreStates (sites_of (resolve t)) states
+  states_handed laws domain shown are states is = record {
+    as_many = ap length is ∙ states_as_many m settings (resolve t) g solved.result values verdicts flagged has.is_graph solved.derived solved.solves shown;
+    wide = λ q s state there got. states_wide m settings (resolve t) g solved.result values verdicts flagged has.is_graph solved.derived solved.solves shown laws domain are q s state there
         (ap (λ (l : List State). slice_get l q) (sym is) ∙ got);
   }
 
   pub verdicts_handed : AreVerdicts (sites_of (resolve t)) verdicts
   verdicts_handed = record {
-    of_assertions = of_assertions box_meaning settings (resolve t) g solved.result values verdicts flagged has.is_graph solved.derived solved.solves;
-    of_all = of_all box_meaning settings (resolve t) g solved.result values verdicts flagged has.is_graph solved.derived solved.solves;
+    of_assertions = of_assertions m settings (resolve t) g solved.result values verdicts flagged has.is_graph solved.derived solved.solves;
+    of_all = of_all m settings (resolve t) g solved.result values verdicts flagged has.is_graph solved.derived solved.solves;
     in_order = solved.solves.in_order;
   }
 
   pub flag_handed : (q : ℕ) → flagged ≡ Some q → q < length (sites_of (resolve t))
-  flag_handed = flag_there box_meaning settings (resolve t) g solved.result values verdicts flagged has.is_graph solved.derived solved.solves
+  flag_handed = flag_there m settings (resolve t) g solved.result values verdicts flagged has.is_graph solved.derived solved.solves
 
 -- the report ---------------------------------------------------------------------------------------------------------
 
-pub is_told : (o : Options) (t : FileTree) (g : Node) (sites : List Site) (values : List Content) (verdicts : List (ℕ × Bool)) (flagged : Option ℕ) (states : List State) (r : Report) → HasGraph t g sites
-    → IsSolved box_meaning (settings_of o) (resolve t) g values verdicts flagged → states ≡ map (shown_state box_meaning) values
-    → AllByRecursion (AllByRecursion IsPartInRange) states → r.options ≡ o → Lists t r → map state_of r.points ≡ states
-    → map told_of r.verdicts ≡ map told verdicts → r.flagged ≡ option_map suc flagged → IsToldOf o t r
-is_told o t g sites values verdicts flagged states r has solved are in_range options lists shown judged flag = record {
+pub is_told : {V H : Type 0} (m : Meaning V H) (shown : V → State) (domain : Domain) (o : Options) (t : FileTree) (g : Node) (sites : List Site)
+    (values : List V) (verdicts : List (ℕ × Bool)) (flagged : Option ℕ) (states : List State) (r : Report)
+    → HasGraph t g sites → IsSolved m (settings_of o) (resolve t) g values verdicts flagged → states ≡ map shown values → AreShown m domain shown values → AreCapped m o.parts values
+    → AllByRecursion (AllByRecursion IsSpelledPart) states → r.options ≡ o → Lists t r → map state_of r.points ≡ states
+    → map told_of r.verdicts ≡ map told verdicts → r.flagged ≡ option_map suc flagged → IsToldOf m shown domain o t r
+is_told m shown domain o t g sites values verdicts flagged states r has solved are are_shown are_capped spelled options lists same judged flag = record {
   names = has.names;
   within = has.within;
   options = options;
@@ -113,17 +112,19 @@ is_told o t g sites values verdicts flagged states r has solved are in_range opt
     derived = solved.derived;
     written = solved.written;
     strained = solved.strained;
-    states = shown ∙ are;
+    states = same ∙ are;
     proved = judged;
     flag = flag;
   };
+  are_shown = are_shown;
+  are_capped = are_capped;
   agrees = has.agrees;
-  readable = readable t r values flagged lists (shown ∙ are) (subst (AllByRecursion (AllByRecursion IsPartInRange)) (sym shown) in_range) flag low;
+  readable = readable t r flagged lists (subst (AllByRecursion (AllByRecursion IsSpelledPart)) (sym same) spelled) flag low;
 }
   where
     low : (q : ℕ) → flagged ≡ Some q → q < 2048
     low q is =
-        let there = flag_handed t g sites has (settings_of o) values verdicts flagged solved q is in
+        let there = flag_handed m t g sites has (settings_of o) values verdicts flagged solved q is in
         let few = few_points t g sites has in
         let same : length sites ≡ length (sites_of (resolve t)) = ap length has.points in
         omega (arith, there, few, same)

@@ -1,29 +1,23 @@
 -- What an iteration over a program's tree says of the program's runs.
-use Rattle.std.proofs.Common.{◌≡◌, ℕ, zero, suc, ◌+◌, ◌++◌, ◌∷◌, [], List, length, Option, Some, None, Bool, true, false, refl, sym, ap, ◌∙◌, subst, arith, append-nil, append_assoc, length-append}
-use Rattle.std.specs.Prelude.{ℤ, pos, ◌+ℤ◌, slice_get, slice_set, replicate, IsTrue, cond}
+use Rattle.std.proofs.Common.{◌≡◌, ℕ, zero, suc, ◌+◌, ◌∷◌, [], List, length, Option, Some, Bool, true, false, refl, sym, ap, ◌∙◌, subst, arith}
+use Rattle.std.specs.Prelude.{ℤ, slice_get, IsTrue, cond}
 use Rattle.std.specs.List.{AllByRecursion, Contains}
-use Rattle.std.proofs.lemmas.Int.{ints}
 use Rattle.std.proofs.lemmas.Option.{none-some, same_Some}
 use Rattle.lra_domain.specs.Meaning.{Meaning}
 use Rattle.lra_domain.specs.Laws.{Laws}
-use Rattle.lra_domain.specs.declared.Exactness.{Exactness}
-use Rattle.lra_lin.specs.Form.{form_value}
-use Rattle.lra_tree.specs.Linear as linear
 use Rattle.lra_tree.specs.Program.{Program}
 use Rattle.lra_tree.specs.Run.{At, Fails}
 use Rattle.lra_tree.specs.Graph.{Node}
-use Rattle.lra_tree.specs.Report.{dot, PointReport, Verdict}
+use Rattle.lra_tree.specs.Report.{PointReport, Verdict}
 use Rattle.lra_tree.specs.Labels.{Labelled}
 use Rattle.lra_tree.specs.Sites.{Site, sites_of}
 use Rattle.lra_tree.specs.Agree.{begins, point_of, Agrees}
-use Rattle.lra_tree.specs.Listing.{AreListed, AreJudged, assertions_from}
+use Rattle.lra_tree.specs.ReportText.{shown_names}
+use Rattle.lra_tree.specs.Listing.{live_names, AreListed, AreJudged, assertions_from}
 use Rattle.lra_flow.specs.declared.Settings.{Settings}
-use Rattle.lra_flow.specs.Operations.{dropping}
-use Rattle.lra_flow.specs.Changes.{as_form, first_values, AreDone}
-use Rattle.lra_flow.specs.Pass.{failing, Result, noted}
+use Rattle.lra_flow.specs.Pass.{failing, Result}
 use Rattle.lra_flow.specs.Analysis.{Derivation, Solves, IsUnreachable}
 use Rattle.lra_flow.specs.Sound.{Covers}
-use Rattle.lra_flow.proofs.Keeping.{as_form_value}
 use Rattle.lra_iter.proofs.Covering.{begun_covers}
 
 -- runs -----------------------------------------------------------------------------------------------------------------
@@ -69,13 +63,18 @@ module _ (V H : Type 0) (m : Meaning V H) where
 
 -- reports ------------------------------------------------------------------------------------------------------------
 
+-- a point of this site, with the names of its variables
+abbrev pub IsListed : List (List ℕ) → List Labelled → Site → PointReport → Type 0
+IsListed outside ls s p = (p.point ≡ point_of s) × (p.names ≡ shown_names (live_names outside ls s))
+
 -- what holds of each listed point of a site holds of all
 pub listed_all : (Q : PointReport → Type 0) (outside : List (List ℕ)) (ls : List Labelled) (number : ℕ) (ss : List Site) (ps : List PointReport) → AreListed outside ls number ss ps
-    → ((k : ℕ) (s : Site) (p : PointReport) → slice_get ss k ≡ Some s → slice_get ps k ≡ Some p → p.point ≡ point_of s → Q p) → AllByRecursion Q ps
+    → ((k : ℕ) (s : Site) (p : PointReport) → slice_get ss k ≡ Some s → slice_get ps k ≡ Some p → IsListed outside ls s p → Q p) → AllByRecursion Q ps
 listed_all Q o ls n [] [] l f = tt
 listed_all Q o ls n [] (p ∷ ps) l f = absurd l
 listed_all Q o ls n (s ∷ ss) [] l f = absurd l
-listed_all Q o ls n (s ∷ ss) (p ∷ ps) l f = (f 0 s p refl refl (ap (λ (x : PointReport). x.point) l.0), listed_all Q o ls (suc n) ss ps l.2 (λ k. f (suc k)))
+listed_all Q o ls n (s ∷ ss) (p ∷ ps) l f =
+    (f 0 s p refl refl (ap (λ (x : PointReport). x.point) l.0, ap (λ (x : PointReport). x.names) l.0), listed_all Q o ls (suc n) ss ps l.2 (λ k. f (suc k)))
 
 pub judged_all : (Q : Verdict → Type 0) (ls : List Labelled) (xs : List (ℕ × Site)) (vs : List Verdict) → AreJudged ls xs vs
     → ((k : ℕ) (x : ℕ × Site) (v : Verdict) → slice_get xs k ≡ Some x → slice_get vs k ≡ Some v → (v.number ≡ x.0) × (v.point ≡ point_of x.1) → Q v) → AllByRecursion Q vs

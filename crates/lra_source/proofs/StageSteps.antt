@@ -1,9 +1,7 @@
 -- What the stages behind the reading answer, as answers of the tree and of the source.
-use Rattle.std.proofs.Common.{◌≡◌, ◌≤◌, ℕ, List, [], ◌∷◌, map, Option, Some, None, refl, sym, ap, ◌∙◌, subst}
-use Rattle.std.specs.Prelude.{slice_get, Result, Ok, Err, IfOk}
+use Rattle.std.proofs.Common.{◌≡◌, ℕ, List, [], ◌∷◌, map, Some, None, sym, ap, ◌∙◌, subst}
+use Rattle.std.specs.Prelude.{Result, Ok, Err, IfOk}
 use Rattle.lra_tree.specs.declared.refusals.Refusal.{Refusal}
-use Rattle.lra_tree.specs.declared.refusals.Cause.{Cause}
-use Rattle.lra_tree.specs.declared.refusals.Place.{Place}
 use Rattle.lra_tree.specs.declared.labels.Label.{Label}
 use Rattle.lra_tree.specs.Trees.{FileTree}
 use Rattle.lra_tree.specs.Program.{Program}
@@ -16,9 +14,9 @@ use Rattle.lra_tree.specs.NameFaults.{name_faults}
 use Rattle.lra_tree.specs.Agree.{IsGraph, Agrees}
 use Rattle.lra_tree.specs.WellFormed.{IsWellFormed}
 use Rattle.lra_tree.specs.Built.{Built}
-use Rattle.lra_tree.specs.Report.{box, Options, Report}
+use Rattle.lra_tree.specs.Report.{Domain, box, Options, State, Report}
 use Rattle.lra_tree.specs.Refuse.{limit_fault, NotRecursive, RefusesTree, bad_name, past_limit, Refuse, Accepts}
-use Rattle.lra_report.specs.declared.report.Report as shown
+use Rattle.lra_report.specs.declared.report.Report as code
 use Rattle.lra_report.specs.View.{report_of}
 use Rattle.lra_names.specs.Outcome.{first_fault}
 use Rattle.lra_graph.specs.declared.points.Limit.{Limit}
@@ -31,8 +29,13 @@ use Rattle.lra_formed.proofs.Whole.{well_formed}
 use Rattle.lra_source.specs.Claims.{AreFew}
 use Rattle.lra_source.specs.declared.error.SourceError.{SourceError}
 use Rattle.lra_source.specs.declared.error.SourceError.TheVariants.{Refused, Memory}
-use Rattle.lra_source.specs.Answers.{settings_of, IsAnswered, IfRefused}
-use Rattle.lra_source.specs.Stages.{HasTree, HasGraph, IsToldOf}
+use Rattle.lra_domain.specs.Meaning.{Meaning}
+use Rattle.lra_domain.specs.Laws.{Laws}
+use Rattle.lra_box.specs.Meaning.{box_meaning}
+use Rattle.lra_box.specs.Laws.{box_laws}
+use Rattle.lra_source.specs.Shown.{shown_state}
+use Rattle.lra_source.specs.Answers.{settings_of, IsAnsweredOver, IsAnswered, IfRefused}
+use Rattle.lra_source.specs.Stages.{HasTree, HasGraph, IsToldOf, IsBoxToldOf}
 use Rattle.lra_source.proofs.Reports.{sound, is_report}
 use Rattle.lra_source.proofs.ReadSteps.{tree_refused}
 
@@ -84,43 +87,45 @@ straight source t has = built_not_recursive has.tokens t has.parsed
 pub well : (source : List ℕ) (t : FileTree) → HasTree source t → name_faults t ≡ [] → IsWellFormed (resolve t)
 well source t has names = well_formed t (spelled_are_small source has.tokens t has.parsed.0 has.lexed has.parsed.1.0 has.parsed.2) names
 
-accepted : (o : Options) (source : List ℕ) (t : FileTree) (r : Report) → HasTree source t → IsToldOf o t r → Accepts Built source t
-accepted o source t r has is = record {
-  tokens = has.tokens;
-  not_long = has.not_long;
-  lexed = has.lexed;
-  parsed = has.parsed;
-  names = is.names;
-  not_recursive = straight source t has;
-  within = is.within;
-}
+module _ {V H : Type 0} (m : Meaning V H) (laws : Laws m) (shown : V → State) (domain : Domain) (o : Options) (source : List ℕ) (t : FileTree) (r : Report)
+    (has : HasTree source t) (is : IsToldOf m shown domain o t r) where
+  accepted : Accepts Built source t
+  accepted = record {
+    tokens = has.tokens;
+    not_long = has.not_long;
+    lexed = has.lexed;
+    parsed = has.parsed;
+    names = is.names;
+    not_recursive = straight source t has;
+    within = is.within;
+  }
 
--- a source whose tree's report is told
-pub is_answered : (o : Options) (source : List ℕ) (t : FileTree) (r : Report) → HasTree source t → IsToldOf o t r → o.domain ≡ box → 1 ≤ o.parts → IsAnswered o source r
-is_answered o source t r has is domain some =
-    let whole = is_report (settings_of o) t r is.lists is.analysed is.agrees o source domain some is.options (accepted o source t r has is) in
-    record {
-      domain = domain;
-      report = record {
-        options = is.options;
-        tree = t;
-        accepted = accepted o source t r has is;
-        lists = is.lists;
-        parts = whole.parts;
-        sound = sound (settings_of o) t r is.lists is.analysed is.agrees;
-        flag = whole.flag;
-      };
-      analysed = is.analysed;
-      readable = is.readable;
-    }
+  -- a source whose tree's report is told
+  pub is_answered : o.domain ≡ domain → IsAnsweredOver m shown domain o source r
+  is_answered same =
+      let whole = is_report m laws domain shown (settings_of o) t r is.lists is.analysed is.are_shown is.agrees o source same is.are_capped is.options accepted in
+      record {
+        domain_is = same;
+        report = record {
+          options = is.options;
+          tree = t;
+          accepted = accepted;
+          lists = is.lists;
+          parts = whole.parts;
+          sound = sound m laws domain shown (settings_of o) t r is.lists is.analysed is.are_shown is.agrees;
+          flag = whole.flag;
+        };
+        analysed = is.analysed;
+        readable = is.readable;
+      }
 
 -- and so with what a tree's answer is, whichever it is
 module _ (o : Options) (source : List ℕ) (t : FileTree) (has : HasTree source t) where
-  pub each_answered : (x : Result shown.Report SourceError) → o.domain ≡ box → 1 ≤ o.parts → IfOk x (λ r. IsToldOf o t (report_of r)) → IfOk x (λ r. IsAnswered o source (report_of r))
-  each_answered (Ok r) domain some is = is_answered o source t (report_of r) has is domain some
-  each_answered (Err e) domain some is = tt
+  pub each_answered : (x : Result code.Report SourceError) → o.domain ≡ box → IfOk x (λ r. IsBoxToldOf o t (report_of r)) → IfOk x (λ r. IsAnswered o source (report_of r))
+  each_answered (Ok r) domain is = is_answered box_meaning box_laws (shown_state box_meaning) box o source t (report_of r) has is domain
+  each_answered (Err e) domain is = tt
 
-  pub each_refused : (x : Result shown.Report SourceError) → IfRefused x (λ (r : Refusal). RefusesTree t r.cause r.place) → IfRefused x (λ (r : Refusal). Refuse Built source r.cause r.place)
+  pub each_refused : (x : Result code.Report SourceError) → IfRefused x (λ (r : Refusal). RefusesTree t r.cause r.place) → IfRefused x (λ (r : Refusal). Refuse Built source r.cause r.place)
   each_refused (Ok r) fault = tt
   each_refused (Err (Refused r)) fault = tree_refused source t r.cause r.place has fault
   each_refused (Err Memory) fault = tt

@@ -1,5 +1,5 @@
 -- A state so far, and one part more; states so far, and one state more.
-use Rattle.std.proofs.Common.{◌≡◌, List, [], ◌∷◌, ◌++◌, map, refl, ap, sym, ◌∙◌, subst}
+use Rattle.std.proofs.Common.{◌≡◌, List, [], ◌∷◌, ◌++◌, map, ap, sym, ◌∙◌, subst}
 use Rattle.std.specs.List.{AllByRecursion}
 use Rattle.std.proofs.lemmas.List.{map-append}
 use Rattle.lra_sys.specs.Listed.{Listed}
@@ -7,7 +7,7 @@ use Rattle.lra_sys.specs.declared.system.ConKind.{ConKind}
 use Rattle.lra_report.specs.Rows.{shown_rows, IsPartInRange}
 use Rattle.lra_report.proofs.Every.{every_append}
 use Rattle.lra_tree.specs.Report.{Part, Row}
-use Rattle.lra_source.specs.Analysed.{shown_part}
+use Rattle.lra_source.specs.Shown.{shown_part}
 
 part_is : (p : Part) (y : Listed ConKind) → p.rows ≡ shown_rows y.rows y.kinds → p.generators ≡ [] → p ≡ shown_part y
 part_is p y rows none =

@@ -1,25 +1,14 @@
 -- What a report tells of the iteration over a program: what is shown of each point's value, the verdicts, the first flagged
 -- point.
-use Rattle.std.specs.Prelude.{◌≡◌, ℕ, suc, List, [], map, Bool, Option, None, Some, option_map}
-use Rattle.lra_sys.specs.Listed.{Listed}
-use Rattle.lra_sys.specs.declared.system.ConKind.{ConKind}
-use Rattle.lra_report.specs.Rows.{shown_rows}
+use Rattle.std.specs.Prelude.{◌≡◌, ℕ, suc, List, map, Bool, Option, None, Some, option_map}
 use Rattle.lra_domain.specs.Meaning.{Meaning}
 use Rattle.lra_tree.specs.Program.{Program}
 use Rattle.lra_tree.specs.Graph.{Node}
 use Rattle.lra_tree.specs.Agree.{IsGraph}
-use Rattle.lra_tree.specs.Report.{Part, State, PointReport, Verdict, Report}
+use Rattle.lra_tree.specs.Report.{State, PointReport, Verdict, Report}
 use Rattle.lra_flow.specs.declared.Settings.{Settings}
 use Rattle.lra_flow.specs.Pass.{Result}
 use Rattle.lra_flow.specs.Analysis.{Written, Derivation, Strains, Solves}
-
--- a part without generators
-abbrev pub shown_part : Listed ConKind → Part
-shown_part p = record { rows = shown_rows p.rows p.kinds; generators = [] }
-
--- what is shown of a value by its parts' rows alone
-abbrev pub shown_state : {V H : Type 0} → Meaning V H → V → State
-shown_state m v = map shown_part (m.parts v)
 
 -- a verdict as a report tells it; a point's number in a report is one more than in the iteration
 abbrev pub told_verdict : ℕ × Bool → ℕ × Bool

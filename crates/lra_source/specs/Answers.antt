@@ -1,15 +1,16 @@
--- What a source deserves over boxes: its one refusal (`Refuse`), or a report of it that tells the analysis.
+-- What a source deserves: its one refusal (`Refuse`), or a report of it that tells the analysis; over boxes today.
 use Rattle.std.specs.Prelude.{◌≡◌, ℕ, List, ⊤, Result, Ok, Err}
 use Rattle.lra_tree.specs.declared.refusals.Refusal.{Refusal}
-use Rattle.lra_tree.specs.Report.{box, Options, Report}
-use Rattle.lra_tree.specs.Program.{Program}
+use Rattle.lra_tree.specs.Report.{Domain, box, Options, State, Report}
 use Rattle.lra_tree.specs.Resolve.{resolve}
 use Rattle.lra_tree.specs.Built.{Built}
 use Rattle.lra_tree.specs.Listing.{IsReportOf}
 use Rattle.lra_report.specs.Spelled.{IsReadable}
+use Rattle.lra_domain.specs.Meaning.{Meaning}
 use Rattle.lra_box.specs.Meaning.{box_meaning}
 use Rattle.lra_flow.specs.declared.Settings.{Settings}
-use Rattle.lra_source.specs.Analysed.{shown_state, IsAnalysed}
+use Rattle.lra_source.specs.Shown.{shown_state}
+use Rattle.lra_source.specs.Analysed.{IsAnalysed}
 use Rattle.lra_source.specs.declared.error.SourceError.{SourceError}
 use Rattle.lra_source.specs.declared.error.SourceError.TheVariants.{Refused, Memory}
 
@@ -17,16 +18,18 @@ use Rattle.lra_source.specs.declared.error.SourceError.TheVariants.{Refused, Mem
 abbrev pub settings_of : Options → Settings
 settings_of o = record { parts = o.parts; delay = o.delay; narrow = o.narrow; limited = o.limited }
 
--- the report tells an analysis over boxes, of which the rows are shown
-abbrev pub IsBoxAnalysed : Settings → Program → Report → Type 0
-IsBoxAnalysed = IsAnalysed box_meaning (shown_state box_meaning)
-
--- such a report; it is told by its text, which has numbers of the range and each part as wide as its point has names
-pub record IsAnswered (o : Options) (source : List ℕ) (r : Report) : Type 0 where
-  pub domain : o.domain ≡ box
+-- a report of the source that tells an analysis over this domain; it is told by its text, which has numbers of the range
+-- and each part as wide as its point has names
+pub record IsAnsweredOver {V H : Type 0} (m : Meaning V H) (shown : V → State) (domain : Domain) (o : Options)
+    (source : List ℕ) (r : Report) : Type 0 where
+  pub domain_is : o.domain ≡ domain
   pub report : IsReportOf Built o source r
-  pub analysed : IsBoxAnalysed (settings_of o) (resolve report.tree) r
+  pub analysed : IsAnalysed m shown (settings_of o) (resolve report.tree) r
   pub readable : IsReadable r
+
+-- what is answered today: over boxes, of which the rows are shown
+abbrev pub IsAnswered : Options → List ℕ → Report → Type 0
+IsAnswered = IsAnsweredOver box_meaning (shown_state box_meaning) box
 
 abbrev pub IfRefusal : (Refusal → Type 0) → SourceError → Type 0
 IfRefusal P (Refused r) = P r

@@ -1,9 +1,9 @@
--- What follows of the tree of a well-formed program, and of a report that tells an analysis over boxes.
+-- What follows of the tree of a well-formed program, and of a report that tells an analysis.
 use Rattle.std.specs.Prelude.{◌≡◌, ◌≤◌, ℕ, List, length, slice_get, Some}
 use Rattle.lra_tree.specs.Trees.{FileTree}
 use Rattle.lra_tree.specs.Program.{Program}
 use Rattle.lra_tree.specs.Graph.{Node}
-use Rattle.lra_tree.specs.Report.{box, Options, Report, IsSound}
+use Rattle.lra_tree.specs.Report.{Domain, box, Options, State, Report, IsSound}
 use Rattle.lra_tree.specs.ReportText.{report_text}
 use Rattle.lra_tree.specs.Resolve.{resolve}
 use Rattle.lra_tree.specs.Sites.{Site, sites_of}
@@ -15,7 +15,12 @@ use Rattle.lra_tree.specs.Listing.{Lists, IsReportOf}
 use Rattle.lra_flow.specs.declared.Settings.{Settings}
 use Rattle.lra_iter.specs.Fits.{TreeFits}
 use Rattle.lra_iter.specs.Numbers.{AreBelow, IsNumbered}
-use Rattle.lra_source.specs.Answers.{IsBoxAnalysed, IsAnswered}
+use Rattle.lra_domain.specs.Meaning.{Meaning}
+use Rattle.lra_box.specs.Content.{Content}
+use Rattle.lra_box.specs.Meaning.{box_meaning}
+use Rattle.lra_source.specs.Shown.{IsShown, AreShown, AreCapped, shown_state}
+use Rattle.lra_source.specs.Analysed.{IsAnalysed}
+use Rattle.lra_source.specs.Answers.{IsAnswered}
 
 -- no more variables live at a point than are taken
 abbrev pub AreFew : List Site → Type 0
@@ -29,17 +34,24 @@ TreesFit = (P : Program) (g : Node) → IsWellFormed P → AreFew (sites_of P) �
 abbrev pub TreesAreNumbered : Type 0
 TreesAreNumbered = (P : Program) (g : Node) → IsGraph P g → IsNumbered (sites_of P) g × AreBelow (length (sites_of P)) g
 
--- where tree and runs agree: the states hold in all runs, and no assertion that is marked proved fails
-abbrev pub AnalysedAreSound : Type 0
-AnalysedAreSound = (settings : Settings) (t : FileTree) (r : Report) (x : IsBoxAnalysed settings (resolve t) r)
+-- where tree and runs agree, and values are shown as they are: the states hold in all runs, and no assertion that is
+-- marked proved fails
+abbrev pub AnalysedAreSound : {V H : Type 0} → Meaning V H → Type 0
+AnalysedAreSound {V} m = (domain : Domain) (shown : V → State) (settings : Settings) (t : FileTree) (r : Report)
+    → (x : IsAnalysed m shown settings (resolve t) r) → AreShown m domain shown x.values
     → Agrees (resolve t) x.tree → Lists t r → IsSound (resolve t) r
 
--- and of an accepted source it is a report
-abbrev pub AnalysedAreReports : Type 0
-AnalysedAreReports = (o : Options) (settings : Settings) (source : List ℕ) (t : FileTree) (r : Report)
-    → (x : IsBoxAnalysed settings (resolve t) r)
-    → Agrees (resolve t) x.tree → Lists t r
-    → o.domain ≡ box → 1 ≤ o.parts → r.options ≡ o → Accepts Built source t → IsReportOf Built o source r
+-- and of an accepted source it is a report, where no value has more parts than the options say
+abbrev pub AnalysedAreReports : {V H : Type 0} → Meaning V H → Type 0
+AnalysedAreReports {V} m = (shown : V → State) (o : Options) (settings : Settings) (source : List ℕ) (t : FileTree)
+    (r : Report)
+    → (x : IsAnalysed m shown settings (resolve t) r)
+    → AreShown m o.domain shown x.values → AreCapped m o.parts x.values
+    → Agrees (resolve t) x.tree → Lists t r → r.options ≡ o → Accepts Built source t → IsReportOf Built o source r
+
+-- each box is shown by its rows
+abbrev pub BoxesAreShown : Type 0
+BoxesAreShown = (v : Content) → IsShown box_meaning box v (shown_state box_meaning v)
 
 -- two answers to one source under one list of options that have the same text are the same report
 abbrev pub OneAnsweredText : Type 0

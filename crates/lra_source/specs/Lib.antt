@@ -1,3 +1,4 @@
+pub mod Shown
 pub mod Analysed
 pub mod Soundness
 pub mod Answers

@@ -11,8 +11,8 @@ use Rattle.lra_flow.specs.declared.Settings.{Settings}
 use Rattle.lra_flow.specs.Analysis.{IsUnreachable}
 use Rattle.lra_iter.specs.Solved.{IsSolved}
 
--- the value at a point has each store that a run brings there, no assertion that is proved fails, and no run comes where the
--- value has no part
+-- the value at a point has each store that a run brings there, no assertion that is proved fails, and no run comes where
+-- the value has no part
 pub record HoldsInRuns {V H : Type 0} (m : Meaning V H) (P : Program) (values : List V) (verdicts : List (ℕ × Bool)) : Type 0 where
   pub stores : (q : ℕ) (s : Site) (store : List ℤ) → slice_get (sites_of P) q ≡ Some s → At P (point_of s) store
       → (v : V) × (slice_get values q ≡ Some v) × m.has v store × (length store ≡ m.dims v)

@@ -12,12 +12,16 @@ use Rattle.lra_tree.specs.Graph.{Node}
 use Rattle.lra_tree.specs.Sites.{Site, events_of, sites_of}
 use Rattle.lra_tree.specs.Agree.{IsGraph, Agrees}
 use Rattle.lra_tree.specs.WellFormed.{IsWellFormed}
-use Rattle.lra_tree.specs.Report.{Options, Report}
+use Rattle.lra_tree.specs.Report.{Domain, box, Options, State, Report}
 use Rattle.lra_tree.specs.Listing.{Lists}
 use Rattle.lra_tree.specs.Refuse.{greatest_length, limit_fault}
 use Rattle.lra_report.specs.Spelled.{IsReadable}
+use Rattle.lra_domain.specs.Meaning.{Meaning}
+use Rattle.lra_box.specs.Meaning.{box_meaning}
+use Rattle.lra_source.specs.Shown.{AreShown, AreCapped, shown_state}
+use Rattle.lra_source.specs.Analysed.{IsAnalysed}
 use Rattle.lra_source.specs.Claims.{AreFew}
-use Rattle.lra_source.specs.Answers.{settings_of, IsBoxAnalysed}
+use Rattle.lra_source.specs.Answers.{settings_of}
 
 -- a source that isn't too long, and its tree
 pub record HasTree (source : List ℕ) (t : FileTree) : Type 0 where
@@ -36,12 +40,20 @@ pub record HasGraph (t : FileTree) (tree : Node) (sites : List Site) : Type 0 wh
   pub agrees : Agrees (resolve t) tree
   pub points : sites ≡ sites_of (resolve t)
 
--- a report that lists the points of such a tree, tells what an analysis of its program found, and is told by its text
-pub record IsToldOf (o : Options) (t : FileTree) (r : Report) : Type 0 where
+-- a report that lists the points of such a tree, tells what an analysis of its program found over this domain, shows the
+-- values as they are, and is told by its text
+pub record IsToldOf {V H : Type 0} (m : Meaning V H) (shown : V → State) (domain : Domain) (o : Options) (t : FileTree)
+    (r : Report) : Type 0 where
   pub names : name_faults t ≡ []
   pub within : limit_fault (labels_of t) 0 (events_of (resolve t)) ≡ None
   pub options : r.options ≡ o
   pub lists : Lists t r
-  pub analysed : IsBoxAnalysed (settings_of o) (resolve t) r
+  pub analysed : IsAnalysed m shown (settings_of o) (resolve t) r
+  pub are_shown : AreShown m domain shown analysed.values
+  pub are_capped : AreCapped m o.parts analysed.values
   pub agrees : Agrees (resolve t) analysed.tree
   pub readable : IsReadable r
+
+-- over boxes, of which the rows are shown
+abbrev pub IsBoxToldOf : Options → FileTree → Report → Type 0
+IsBoxToldOf = IsToldOf box_meaning (shown_state box_meaning) box

@@ -11,7 +11,7 @@ ghost use Rattle.lra_tree.specs.Refuse.{NotRecursive, RefusesTree, Refuse};
 ghost use Rattle.lra_report.specs.View.{options_of, report_of};
 ghost use Rattle.lra_report.specs.declared.report.Domain.TheVariants.{Box};
 ghost use Rattle.lra_source.specs.Answers.{IsAnswered, IfRefused};
-ghost use Rattle.lra_source.specs.Stages.{HasGraph, IsToldOf};
+ghost use Rattle.lra_source.specs.Stages.{HasGraph, IsBoxToldOf};
 
 use crate::error::SourceError;
 use crate::program::{graph_of, program_of};
@@ -37,7 +37,7 @@ fn report_graph(
     requires parts { 1 ≤ options.parts }
     requires graph { HasGraph (tree_view tree.now) (node_view graph.now.tree) (map site_view graph.now.sites.items) }
     requires globals { (resolve (tree_view tree.now)).globals ≡ globals.now }
-    ensures { IfOk result (λ r. IsToldOf (options_of options) (tree_view tree.now) (report_of r)) }
+    ensures { IfOk result (λ r. IsBoxToldOf (options_of options) (tree_view tree.now) (report_of r)) }
 {
     let settings = Settings {
         parts: options.parts,
@@ -65,7 +65,7 @@ fn report_tree(alloc: Global, options: Options, tree: &Tree) -> Result<Report, S
     requires parts { 1 ≤ options.parts }
     requires straight { NotRecursive (tree_view tree.now) }
     requires well { name_faults (tree_view tree.now) ≡ [] → IsWellFormed (resolve (tree_view tree.now)) }
-    ensures told { IfOk result (λ r. IsToldOf (options_of options) (tree_view tree.now) (report_of r)) }
+    ensures told { IfOk result (λ r. IsBoxToldOf (options_of options) (tree_view tree.now) (report_of r)) }
     ensures refused { IfRefused result (λ r. RefusesTree (tree_view tree.now) r.cause r.place) }
 {
     let program = program_of(alloc, tree)?;

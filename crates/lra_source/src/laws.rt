@@ -4,8 +4,8 @@ ghost use Rattle.lra_tree.specs.Built.{Built};
 ghost use Rattle.lra_tree.specs.Refuse.{OneAnswer};
 ghost use Rattle.lra_tree.specs.Linear.{FormsAreRight, TestsAreRight, DiffersIsRight};
 ghost use Rattle.lra_source.specs.Soundness.{SolvedAreSound};
-ghost use Rattle.lra_source.specs.Claims.{OneAnsweredText};
-ghost use Rattle.lra_source.specs.Claims.{TreesFit, TreesAreNumbered, AnalysedAreSound, AnalysedAreReports};
+ghost use Rattle.lra_source.specs.Claims.{OneAnsweredText, TreesFit, TreesAreNumbered};
+ghost use Rattle.lra_source.specs.Claims.{AnalysedAreSound, AnalysedAreReports, BoxesAreShown};
 
 use lra_domain::Domain;
 
@@ -30,10 +30,16 @@ pub fn trees_fit()
     ensures numbered { TreesAreNumbered }
 {}
 
-/// What a report tells of an analysis over boxes holds in all runs, and the report is one of its source.
-pub fn analyses_are_right()
-    ensures sound { AnalysedAreSound }
-    ensures reports { AnalysedAreReports }
+/// What a report tells of an analysis over a domain holds in all runs, and the report is one of its source, where values
+/// are shown as they are and have no more parts than the options say.
+pub fn analyses_are_right<D: Domain>()
+    ensures sound { AnalysedAreSound D.meaning }
+    ensures reports { AnalysedAreReports D.meaning }
+{}
+
+/// Boxes are shown as they are by their rows.
+pub fn boxes_are_shown()
+    ensures { BoxesAreShown }
 {}
 
 /// What an iteration over a domain finds holds in all runs.

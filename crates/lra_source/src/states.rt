@@ -1,10 +1,10 @@
 //! The values of boxes as the states of a report.
 
-ghost use Rattle.std.specs.Prelude.{◌≡◌, ◌++◌, map, IfOk};
+ghost use Rattle.std.specs.Prelude.{◌≡◌, map, IfOk};
 ghost use Rattle.std.specs.List.{AllByRecursion};
 ghost use Rattle.lra_box.specs.Meaning.{box_meaning};
 ghost use Rattle.lra_report.specs.Rows.{IsPartInRange};
-ghost use Rattle.lra_source.specs.Analysed.{shown_state};
+ghost use Rattle.lra_source.specs.Shown.{shown_state};
 
 use lra_box::Boxes;
 use lra_domain::Domain;

@@ -12,7 +12,7 @@ report_tree-requires-clause-well c = well c.args.bytes.now (tree_view c.in_ok-tr
 
 pub returns-clause-answered : goal.returns-clause-answered
 returns-clause-answered c =
-    each_answered (options_of c.args.options) c.args.bytes.now (tree_view c.in_ok-tree.tree) c.in_ok-tree.ensures.found c.report_tree.result (ap domain_of c.requires.domain) c.requires.parts c.report_tree.ensures.told
+    each_answered (options_of c.args.options) c.args.bytes.now (tree_view c.in_ok-tree.tree) c.in_ok-tree.ensures.found c.report_tree.result (ap domain_of c.requires.domain) c.report_tree.ensures.told
 
 pub returns-clause-refused : goal.returns-clause-refused
 returns-clause-refused c =

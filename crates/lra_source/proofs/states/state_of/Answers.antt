@@ -1,8 +1,3 @@
-use Rattle.std.proofs.Common.{◌≡◌, ◌∙◌, map, ap, sym, rules}
-use Rattle.std.proofs.lemmas.List.{map-id}
-use Rattle.std.proofs.lemmas.Iterator.Consumers.{YieldsList-end}
-use Rattle.std.proofs.lemmas.Iterator.Adapters.{YieldsList-from_vec}
-use Rattle.lra_source.specs.Analysed.{shown_part}
 use Rattle.lra_source.proofs.StateSteps.{pushed, pushed_in_range}
 use Rattle.lra_source.proofs.states.state_of.Goals as goal
 

@@ -2,7 +2,7 @@
 use Rattle.std.proofs.Common.{◌≡◌, map}
 use Rattle.std.specs.List.{AllByRecursion}
 use Rattle.lra_report.specs.Rows.{IsPartInRange}
-use Rattle.lra_source.specs.Analysed.{shown_part}
+use Rattle.lra_source.specs.Shown.{shown_part}
 use Rattle.lra_source.proofs.states.state_of.Given as goal
 
 abbrev pub invariant-each : goal.invariant-each

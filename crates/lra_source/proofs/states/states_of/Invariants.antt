@@ -1,10 +1,9 @@
 -- So far the states of the first values are there, with numbers of the range.
-use Rattle.std.proofs.Common.{◌≡◌, map, take, Vec, Global}
+use Rattle.std.proofs.Common.{◌≡◌, map, take}
 use Rattle.std.specs.List.{AllByRecursion}
-use Rattle.lra_report.specs.declared.part.Part.{Part}
 use Rattle.lra_report.specs.Rows.{IsPartInRange}
 use Rattle.lra_box.specs.Meaning.{box_meaning}
-use Rattle.lra_source.specs.Analysed.{shown_state}
+use Rattle.lra_source.specs.Shown.{shown_state}
 use Rattle.lra_source.proofs.states.states_of.Given as goal
 
 abbrev pub invariant-values : goal.invariant-values
