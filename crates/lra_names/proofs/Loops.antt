@@ -37,25 +37,6 @@ pub second_told : {T : Type 0} (whole a b : List Refusal) (r : Result T NamesErr
     → whole ≡ a ++ b → a ≡ [] → IsErrAnd r (λ y. y ≡ e) → Tells b e → TellsOf whole r
 second_told whole a b r e split clean is h = let t = tells_behind a b e clean h in exit_tells whole r e is (rw split t)
 
--- exits by the error of each of three parts, and all three without faults
-pub first_of_three_told : {T : Type 0} (whole a b d : List Refusal) (r : Result T NamesError) (e : NamesError)
-    → whole ≡ a ++ b ++ d → IsErrAnd r (λ y. y ≡ e) → Tells a e → TellsOf whole r
-first_of_three_told whole a b d r e split is h =
-    let t = tells_front (a ++ b) d e (tells_front a b e h) in exit_tells whole r e is (rw split t)
-
-pub second_of_three_told : {T : Type 0} (whole a b d : List Refusal) (r : Result T NamesError) (e : NamesError)
-    → whole ≡ a ++ b ++ d → a ≡ [] → IsErrAnd r (λ y. y ≡ e) → Tells b e → TellsOf whole r
-second_of_three_told whole a b d r e split clean is h =
-    let t = tells_front (a ++ b) d e (tells_behind a b e clean h) in exit_tells whole r e is (rw split t)
-
-pub third_of_three_told : {T : Type 0} (whole a b d : List Refusal) (r : Result T NamesError) (e : NamesError)
-    → whole ≡ a ++ b ++ d → a ≡ [] → b ≡ [] → IsErrAnd r (λ y. y ≡ e) → Tells d e → TellsOf whole r
-third_of_three_told whole a b d r e split clean also is h =
-    let t = tells_behind (a ++ b) d e (rw (clean, also)) h in exit_tells whole r e is (rw split t)
-
-pub three_clean : (whole a b d : List Refusal) → whole ≡ a ++ b ++ d → a ≡ [] → b ≡ [] → d ≡ [] → whole ≡ []
-three_clean whole a b d split clean also h = split ∙ rw (clean, also, h)
-
 -- two parts without faults
 pub both_clean : (whole a b : List Refusal) → whole ≡ a ++ b → a ≡ [] → b ≡ [] → whole ≡ []
 both_clean whole a b split clean h = split ∙ rw (clean, h)

@@ -1,9 +1,12 @@
 -- How many labels the parts of statements have; how scopes are left; lists of items.
-use Rattle.std.proofs.Common.{◌≡◌, ℕ, suc, ◌+◌, List, [], ◌∷◌, ◌++◌, length, map, refl, sym, ap, ◌∙◌, append_assoc, append-nil, length-append, arith, Option, Some, None, option_map, rules, Vec, Box, Global}
+use Rattle.std.proofs.Common.{◌≡◌, ℕ, suc, ◌+◌, List, [], ◌∷◌, ◌++◌, length, map, refl, sym, ap, ◌∙◌, append_assoc, append-nil, length-append, arith, Option, Some, None, option_map, rules, Vec, Box, Global, Result}
+use Rattle.std.specs.Result.{OnOk}
+use Rattle.lra_names.specs.declared.errors.NamesError.{NamesError}
 use Rattle.std.proofs.lemmas.List.{length-map, map-append, take-append-le}
 use Rattle.std.proofs.Math.Seq.{take-length}
+use Rattle.std.proofs.Math.Nat.{le-max_left, le-max_right}
 use Rattle.lra_tree.specs.declared.refusals.Place.{Place}
-use Rattle.lra_tree.specs.Trees.{CondTree, AssignTree, DeclaratorTree, DeclarationTree, InitTree, no_init, declared, assigned, StmtTree, block, if_only, if_else, while, for, ItemsTree, no_items, declaration, statement, FunctionTree}
+use Rattle.lra_tree.specs.Trees.{CondTree, AssignTree, DeclaratorTree, DeclarationTree, InitTree, no_init, declared, assigned, StmtTree, block, if_else, for, ItemsTree, no_items, declaration, statement, FunctionTree}
 use Rattle.lra_tree.specs.declared.program.BlockItem.{BlockItem, the_lemmas}
 use Rattle.lra_tree.specs.declared.program.BlockItem as program_item
 use Rattle.lra_tree.specs.declared.program.Stmt.{Stmt as ProgramStmt}
@@ -21,8 +24,6 @@ use Rattle.lra_tree.specs.Views.{items_of, item_view, block_view, init_view, dec
 use Rattle.lra_tree.specs.Program as program
 use Rattle.lra_tree.specs.ProgramViews as view
 use Rattle.lra_tree.specs.Scope.{Scope, with_local, with_declarators, inner, for_scope}
-use Rattle.lra_tree.specs.declared.refusals.Refusal.{Refusal}
-use Rattle.lra_tree.specs.NameFaults.{Around, in_a_loop, cond_faults, init_faults, test_of_for_faults, step_faults, stmt_faults}
 use Rattle.lra_tree.specs.Labels.{with_names, declarator_labels, init_labels, step_labels, stmt_labels, items_labels, live_in_for}
 use Rattle.lra_tree.specs.Walk.{told}
 use Rattle.lra_tree.specs.Resolve.{resolve_stmt, resolve_items, stmt_count, items_count, init_count, step_count}
@@ -144,46 +145,23 @@ statement_found F s s' n n' item t r old new is added e scope next rest =
     rw (is, v, added, map-append view.item_view old (program_item.Statement r ∷ []), w, e, scope, next)
     (sym (followed_push (map view.item_view old) (program.statement (resolve_stmt F s n (stmt_view t))) (resolve_items F s (n + stmt_count (stmt_view t)) rest)))
 
-pub for_counted : (stmt : Stmt) (at : Place) (i : Init) (c : Option Cond) (e : Option Assign) (b : Box Stmt Global) (n n1 n2 n3 : ℕ)
-    → stmt ≡ code_stmt.For at i c e b → n1 ≡ suc n → n2 ≡ n1 + init_count (init_view i) + step_count (option_map assign_view e)
-    → n3 ≡ n2 + stmt_count (stmt_view b.value) → n3 ≡ n + stmt_count (stmt_view stmt)
-for_counted stmt at i c e b n n1 n2 n3 is p q r =
+-- of a `for` whose call was handed on
+pub for_counted : {T : Type 0} (r : Result T NamesError) (stmt : Stmt) (at : Place) (i : Init) (c : Option Cond) (e : Option Assign) (b : Box Stmt Global) (t : Stmt) (n m : ℕ)
+    → stmt ≡ code_stmt.For at i c e b → t ≡ b.value
+    → OnOk r (m ≡ suc n + init_count (init_view i) + step_count (option_map assign_view e) + stmt_count (stmt_view t)) → OnOk r (m ≡ n + stmt_count (stmt_view stmt))
+for_counted r stmt at i c e b t n m is same h =
     let v : stmt_view (code_stmt.For at i c e b) ≡ for at (init_view i) (option_map cond_view c) (option_map assign_view e) (stmt_view b.value) = search (rules, stmt_lemmas) in
     let x = count_for at (init_view i) (option_map cond_view c) (option_map assign_view e) (stmt_view b.value) in
-    rw (is, v) (omega arith)
+    let whole : n + stmt_count (stmt_view stmt) ≡ suc n + init_count (init_view i) + step_count (option_map assign_view e) + stmt_count (stmt_view t) = rw (is, v, same) (omega arith) in
+    rw whole h
 
--- the faults of a statement with parts ---------------------------------------------------------------------------------------
+pub ruleset stmt_rules = (count_if_else, count_for)
 
-pub if_faults : (A : Around) (s : Scope) (stmt : Stmt) (at : Place) (c : Cond) (b : Box Stmt Global) (t : Stmt) → stmt ≡ code_stmt.If at c b → t ≡ b.value
-    → stmt_faults A s (stmt_view stmt) ≡ cond_faults s (cond_view c) ++ stmt_faults A s (stmt_view t)
-if_faults A s stmt at c b t is same =
-    let v : stmt_view (code_stmt.If at c b) ≡ if_only at (cond_view c) (stmt_view b.value) = search (rules, stmt_lemmas) in rw (is, v, same)
+pub ruleset arm_rules = (tells_front, tells_behind)
 
-pub if_else_faults : (A : Around) (s after : Scope) (stmt : Stmt) (at : Place) (c : Cond) (b e : Box Stmt Global) (t u : Stmt)
-    → stmt ≡ code_stmt.IfElse at c b e → t ≡ b.value → u ≡ e.value → after ≡ s
-    → stmt_faults A s (stmt_view stmt) ≡ cond_faults s (cond_view c) ++ stmt_faults A s (stmt_view t) ++ stmt_faults A after (stmt_view u)
-if_else_faults A s after stmt at c b e t u is same also kept =
-    let v : stmt_view (code_stmt.IfElse at c b e) ≡ if_else at (cond_view c) (stmt_view b.value) (stmt_view e.value) = search (rules, stmt_lemmas) in
-    rw (is, v, same, also, kept)
+pub ruleset if_else_rules = (le-max_left, le-max_right, tells_front, tells_behind)
 
-pub while_faults : (A : Around) (s : Scope) (stmt : Stmt) (at : Place) (c : Cond) (b : Box Stmt Global) (t : Stmt) → stmt ≡ code_stmt.While at c b → t ≡ b.value
-    → stmt_faults A s (stmt_view stmt) ≡ cond_faults s (cond_view c) ++ stmt_faults (in_a_loop A) s (stmt_view t)
-while_faults A s stmt at c b t is same =
-    let v : stmt_view (code_stmt.While at c b) ≡ while at (cond_view c) (stmt_view b.value) = search (rules, stmt_lemmas) in rw (is, v, same)
-
--- of what stands in the parentheses of a `for`
-abbrev pub head_faults : List FunctionTree → Scope → InitTree → Option CondTree → Option AssignTree → List Refusal
-head_faults F s i c e = init_faults F s i ++ test_of_for_faults (for_scope s i) c ++ step_faults F (for_scope s i) e
-
-pub loop_faults : (A : Around) (s u : Scope) (stmt : Stmt) (at : Place) (i : Init) (c : Option Cond) (e : Option Assign) (b : Box Stmt Global) (t : Stmt)
-    → stmt ≡ code_stmt.For at i c e b → t ≡ b.value → u ≡ for_scope s (init_view i)
-    → stmt_faults A s (stmt_view stmt)
-    ≡ head_faults A.functions s (init_view i) (option_map cond_view c) (option_map assign_view e) ++ stmt_faults (in_a_loop A) u (stmt_view t)
-loop_faults A s u stmt at i c e b t is same scope =
-    let v : stmt_view (code_stmt.For at i c e b) ≡ for at (init_view i) (option_map cond_view c) (option_map assign_view e) (stmt_view b.value) = search (rules, stmt_lemmas) in
-    rw (is, v, same, scope)
-
-pub ruleset statement_rules = (count_if_else, count_for, left_for, tells_front, tells_behind)
+pub ruleset for_rules = (left_for, tells_front, tells_behind)
 
 pub ruleset block_rules = (count_block, left_inner)
 

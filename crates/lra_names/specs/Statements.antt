@@ -1,20 +1,27 @@
 -- Where statements stand, and lists of items that are built from the front.
-use Rattle.std.specs.Prelude.{ℕ, Bool, List, [], ◌∷◌, Option}
-use Rattle.lra_tree.specs.declared.trees.Item.{Item}
+use Rattle.std.specs.Prelude.{ℕ, List, [], ◌∷◌, ◌++◌, Option}
+use Rattle.lra_tree.specs.Trees.{CondTree, AssignTree, InitTree, FunctionTree}
+use Rattle.lra_tree.specs.Scope.{Scope, for_scope}
+use Rattle.lra_tree.specs.declared.refusals.Refusal.{Refusal}
+use Rattle.lra_names.specs.declared.around.Around.{Around}
 use Rattle.lra_names.specs.Calls.{functions_at}
 use Rattle.lra_tree.specs.NameFaults as faults
 use Rattle.lra_tree.specs.Program as program
 
 -- among these parts, in a function with a result or not, in a loop or not
-abbrev pub around_of : List Item → Bool → Bool → faults.Around
-around_of parts has_result in_loop = record { functions = functions_at parts; has_result = has_result; in_loop = in_loop }
+abbrev pub around_of : Around → faults.Around
+around_of a = record { functions = functions_at a.parts.now; has_result = a.has_result; in_loop = a.in_loop }
+
+-- the faults of what stands in the parentheses of a `for`
+abbrev pub head_faults : List FunctionTree → Scope → InitTree → Option CondTree → Option AssignTree → List Refusal
+head_faults F s i c e = faults.init_faults F s i ++ faults.test_of_for_faults (for_scope s i) c ++ faults.step_faults F (for_scope s i) e
 
 -- some items, each of which is what it puts before those behind it, before others
 abbrev pub followed : List (program.BlockItems → program.BlockItems) → program.BlockItems → program.BlockItems
 followed [] items = items
 followed (f ∷ fs) items = f (followed fs items)
 
--- a choice, a loop, a `for` and a `return`, whose own names are words of the code
+-- a choice, a loop, a `for`, a `return`, a `break` and a `continue`, whose own names are words of the code
 abbrev pub choice : ℕ → program.Cond → program.Stmt → program.Stmt → program.Stmt
 choice n c t e = program.if n c t e
 
@@ -26,3 +33,9 @@ for_of items again = program.for items again
 
 abbrev pub return_of : ℕ → Option program.Source → program.Stmt
 return_of n e = program.return n e
+
+abbrev pub break_of : ℕ → program.Stmt
+break_of n = program.break n
+
+abbrev pub continue_of : ℕ → program.Stmt
+continue_of n = program.continue n

@@ -12,6 +12,7 @@ ghost use Rattle.lra_names.specs.Calls.{functions_at};
 ghost use Rattle.lra_names.specs.Mains.{main_place};
 ghost use Rattle.lra_names.specs.Outcome.{Tells, TellsOf};
 
+use crate::around::Around;
 use crate::declarations::take_label;
 use crate::errors::{NamesError, refuse};
 use crate::scopes::{Scope, is_same};
@@ -60,15 +61,13 @@ fn resolve_function(
     ensures counted { OnOk result (next.new ≡ next.old + suc (items_count (tree_function_view function.now).body)) }
 {
     declare_parameters(alloc, scope, &function.parameters.items)?;
-    let body = resolve_items(
+    let around = Around {
         alloc,
         parts,
-        function.has_result,
-        false,
-        scope,
-        next,
-        &function.body,
-    )?;
+        has_result: function.has_result,
+        in_loop: false,
+    };
+    let body = resolve_items(&around, scope, next, &function.body)?;
     let end = take_label(next)?;
     Ok(program::Function {
         parameters: function.parameters.items.len(),

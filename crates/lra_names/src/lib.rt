@@ -1,13 +1,16 @@
 //! The names of a source: each is a variable or a function, or the source is refused.
 #![tactic(auto)]
 
+mod around;
 mod calls;
 mod conditions;
 mod declarations;
 mod errors;
 mod expressions;
 mod functions;
+mod heads;
 mod scopes;
+mod simple;
 mod statements;
 #[cfg(test)]
 mod tests;

@@ -1,5 +1,9 @@
--- The items that are left, in the scope of those before them, are as all of them in the scope of the block.
-use Rattle.std.proofs.Common.{◌≡◌, ◌+◌, map, drop}
+-- The items that are left, in the scope of those before them, are as all of them in the scope of the block. A call goes down the
+-- tree, or hands on what it was given: the arms of a statement stand above the statements in them.
+use Rattle.std.proofs.Common.{◌≡◌, ◌+◌, ◌*◌, max, map, drop}
+use Rattle.lra_tree.proofs.trees.Stmt.TheLaws.{the_size}
+use Rattle.lra_tree.proofs.trees.Block.TheLaws.{the_size as block_size}
+use Rattle.lra_tree.proofs.trees.BlockItem.TheLaws.{the_size as item_size}
 use Rattle.lra_tree.specs.Views.{items_of, item_view}
 use Rattle.lra_tree.specs.ProgramViews.{item_view as program_item_view}
 use Rattle.lra_tree.specs.NameFaults.{items_faults}
@@ -11,10 +15,34 @@ use Rattle.lra_names.proofs.statements.+statement.Given as goal
 
 abbrev pub invariant-resolve_items-items : goal.invariant-resolve_items-items
 invariant-resolve_items-items l = record {
-  clean : items_faults (around_of l.parts l.has_result l.in_loop) l.fn.scope (items_of (map item_view l.item-items))
-      ≡ items_faults (around_of l.parts l.has_result l.in_loop) l.scope (items_of (map item_view (drop l.item-index l.item-items)));
-  found : resolve_items (functions_at l.parts) l.fn.scope l.fn.next (items_of (map item_view l.item-items))
-      ≡ followed (map program_item_view l.items.items) (resolve_items (functions_at l.parts) l.scope l.next (items_of (map item_view (drop l.item-index l.item-items))));
+  clean : items_faults (around_of l.around) l.fn.scope (items_of (map item_view l.item-items))
+      ≡ items_faults (around_of l.around) l.scope (items_of (map item_view (drop l.item-index l.item-items)));
+  found : resolve_items (functions_at l.around.parts.now) l.fn.scope l.fn.next (items_of (map item_view l.item-items))
+      ≡ followed (map program_item_view l.items.items) (resolve_items (functions_at l.around.parts.now) l.scope l.next (items_of (map item_view (drop l.item-index l.item-items))));
   extended : Extends l.fn.scope l.scope;
   counted : l.next + items_count (items_of (map item_view (drop l.item-index l.item-items))) ≡ l.fn.next + items_count (items_of (map item_view l.item-items));
 }
+
+abbrev pub decreases-add_item : goal.decreases-add_item
+decreases-add_item l = 2 * item_size l.item.now
+
+abbrev pub decreases-resolve_stmt : goal.decreases-resolve_stmt
+decreases-resolve_stmt l = 2 * the_size l.stmt.now
+
+abbrev pub decreases-resolve_if : goal.decreases-resolve_if
+decreases-resolve_if l = 2 * the_size l.branch.now + 1
+
+abbrev pub decreases-resolve_if_else : goal.decreases-resolve_if_else
+decreases-resolve_if_else l = 2 * max (the_size l.branch.now) (the_size l.other.now) + 1
+
+abbrev pub decreases-resolve_while : goal.decreases-resolve_while
+decreases-resolve_while l = 2 * the_size l.body.now + 1
+
+abbrev pub decreases-resolve_for : goal.decreases-resolve_for
+decreases-resolve_for l = 2 * the_size l.body.now + 1
+
+abbrev pub decreases-resolve_block : goal.decreases-resolve_block
+decreases-resolve_block l = 2 * block_size l.block.now + 1
+
+abbrev pub decreases-resolve_items : goal.decreases-resolve_items
+decreases-resolve_items l = 2 * block_size l.block.now

@@ -1,6 +1,6 @@
 use Rattle.std.proofs.Common.{◌+◌, ℕ, ap, sym, ◌∙◌}
 use Rattle.lra_names.proofs.StatementLaws.{code_init_count}
-use Rattle.lra_names.proofs.statements.resolve_init.Goals as goal
+use Rattle.lra_names.proofs.heads.resolve_init.Goals as goal
 
 pub returns-in_ok-add_declaration-in-Declaration-clause-counted : goal.returns-in_ok-add_declaration-in-Declaration-clause-counted
 returns-in_ok-add_declaration-in-Declaration-clause-counted c =

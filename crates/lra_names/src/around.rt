@@ -1,0 +1,31 @@
+//! Where a statement stands.
+
+ghost use Rattle.std.specs.Prelude.{◌≡◌};
+ghost use Rattle.lra_tree.specs.NameFaults.{in_a_loop};
+ghost use Rattle.lra_names.specs.Statements.{around_of};
+
+use lra_tree::Item;
+use std::alloc::Global;
+
+/// Among which parts of the source a statement stands, and in what kind of function and of statement.
+#[derive(Clone, Copy)]
+pub struct Around<'a> {
+    pub alloc: Global,
+    pub parts: &'a [Item],
+    pub has_result: bool,
+    pub in_loop: bool,
+}
+
+impl<'a> Around<'a> {
+    /// Where the body of a loop stands that stands here.
+    pub fn in_a_loop(&self) -> Around<'a>
+        ensures { around_of result ≡ in_a_loop (around_of self.now) }
+    {
+        Around {
+            alloc: self.alloc,
+            parts: self.parts,
+            has_result: self.has_result,
+            in_loop: true,
+        }
+    }
+}

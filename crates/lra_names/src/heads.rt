@@ -1,0 +1,265 @@
+//! What stands in the parentheses of a statement.
+
+ghost use Rattle.std.specs.Prelude.{◌≡◌, ◌+◌, ◌++◌, suc, map, option_map, IfOk, OnOk, IfErr};
+ghost use Rattle.lra_tree.specs.Program.{no_more, assert as assert_stmt, assume as assume_stmt};
+ghost use Rattle.lra_tree.specs.Views.{init_view, assign_view, cond_view as tree_cond_view};
+ghost use Rattle.lra_tree.specs.ProgramViews.{stmt_view, items_view, item_view, cond_view};
+ghost use Rattle.lra_tree.specs.Scope.{for_scope};
+ghost use Rattle.lra_tree.specs.NameFaults.{cond_faults, init_faults, test_of_for_faults, step_faults};
+ghost use Rattle.lra_tree.specs.Resolve.{resolve_cond, resolve_init, resolve_for_test, resolve_step, init_count, step_count};
+ghost use Rattle.lra_names.specs.Calls.{functions_at};
+ghost use Rattle.lra_names.specs.Statements.{followed, choice, loop_of, for_of, head_faults};
+ghost use Rattle.lra_names.specs.Outcome.{TellsOf};
+
+use crate::around::Around;
+use crate::conditions::resolve_cond;
+use crate::declarations::{add_declaration, take_label};
+use crate::errors::NamesError;
+use crate::scopes::Scope;
+use crate::simple::resolve_assignment;
+use lra_tree::{Assign, Cond, Init, Item, program};
+use std::alloc::Global;
+
+/// The label of a statement with a condition, and the condition.
+pub struct Head {
+    label: usize,
+    cond: program::Cond,
+}
+
+impl Drop for Head {
+    fn drop(self) {
+        let Head { label: _, cond: _ } = self;
+    }
+}
+
+impl Head {
+    /// A choice of two statements.
+    pub fn choose(
+        self,
+        alloc: Global,
+        branch: program::Stmt,
+        other: program::Stmt,
+    ) -> Result<program::Stmt, NamesError>
+        ensures found { IfOk result (λ s. stmt_view s ≡ choice self.label (cond_view self.cond) (stmt_view branch) (stmt_view other)) }
+        ensures memory { IfErr result (λ e. e ≡ NamesError.Memory) }
+    {
+        let Head { label, cond } = self;
+        let branch = Box::new(alloc, branch)?;
+        let other = Box::new(alloc, other)?;
+        Ok(program::Stmt::If(label, cond, branch, other))
+    }
+
+    /// A loop, with a step behind each round.
+    pub fn repeat(
+        self,
+        alloc: Global,
+        body: program::Stmt,
+        step: program::Stmt,
+    ) -> Result<program::Stmt, NamesError>
+        ensures found { IfOk result (λ s. stmt_view s ≡ loop_of self.label (cond_view self.cond) (stmt_view body) (stmt_view step)) }
+        ensures memory { IfErr result (λ e. e ≡ NamesError.Memory) }
+    {
+        let Head { label, cond } = self;
+        let body = Box::new(alloc, body)?;
+        let step = Box::new(alloc, step)?;
+        Ok(program::Stmt::Loop(label, cond, body, step))
+    }
+
+    /// An `assert`.
+    fn into_assert(self) -> program::Stmt
+        ensures { stmt_view result ≡ assert_stmt self.label (cond_view self.cond) }
+    {
+        let Head { label, cond } = self;
+        program::Stmt::Assert(label, cond)
+    }
+
+    /// An `assume`.
+    fn into_assume(self) -> program::Stmt
+        ensures { stmt_view result ≡ assume_stmt self.label (cond_view self.cond) }
+    {
+        let Head { label, cond } = self;
+        program::Stmt::Assume(label, cond)
+    }
+}
+
+/// The next label, and the condition of the statement under it.
+#[tactic(auto, using(crate::proofs::Loops::wanting_told))]
+pub fn resolve_head(
+    alloc: Global,
+    scope: &Scope,
+    next: &mut usize,
+    cond: &Cond,
+) -> Result<Head, NamesError>
+    ensures told { TellsOf (cond_faults scope.now (tree_cond_view cond.now)) result }
+    ensures label { IfOk result (λ h. h.label ≡ next.old) }
+    ensures found { IfOk result (λ h. cond_view h.cond ≡ resolve_cond scope.now (tree_cond_view cond.now)) }
+    ensures counted { OnOk result (next.new ≡ suc next.old) }
+{
+    let label = take_label(next)?;
+    let cond = resolve_cond(alloc, scope, cond)?;
+    Ok(Head { label, cond })
+}
+
+pub fn resolve_assert(
+    alloc: Global,
+    scope: &Scope,
+    next: &mut usize,
+    cond: &Cond,
+) -> Result<program::Stmt, NamesError>
+    ensures told { TellsOf (cond_faults scope.now (tree_cond_view cond.now)) result }
+    ensures found { IfOk result (λ s. stmt_view s ≡ assert_stmt next.old (resolve_cond scope.now (tree_cond_view cond.now))) }
+    ensures counted { OnOk result (next.new ≡ suc next.old) }
+{
+    let head = resolve_head(alloc, scope, next, cond)?;
+    Ok(head.into_assert())
+}
+
+pub fn resolve_assume(
+    alloc: Global,
+    scope: &Scope,
+    next: &mut usize,
+    cond: &Cond,
+) -> Result<program::Stmt, NamesError>
+    ensures told { TellsOf (cond_faults scope.now (tree_cond_view cond.now)) result }
+    ensures found { IfOk result (λ s. stmt_view s ≡ assume_stmt next.old (resolve_cond scope.now (tree_cond_view cond.now))) }
+    ensures counted { OnOk result (next.new ≡ suc next.old) }
+{
+    let head = resolve_head(alloc, scope, next, cond)?;
+    Ok(head.into_assume())
+}
+
+/// The items of a block.
+#[tactic(auto, using(crate::proofs::StatementLaws::followed_end))]
+pub fn block_of(items: Vec<program::BlockItem>) -> program::BlockItems
+    ensures { items_view result ≡ followed (map item_view items.items) no_more }
+{
+    program::BlockItems { items }
+}
+
+/// Begins the scope of a `for`, and resolves how it begins.
+#[tactic(auto, using(crate::proofs::StatementLaws::init_rules))]
+fn resolve_init(
+    alloc: Global,
+    parts: &[Item],
+    scope: &mut Scope,
+    next: &mut usize,
+    init: &Init,
+) -> Result<program::BlockItems, NamesError>
+    ensures told { TellsOf (init_faults (functions_at parts.now) scope.old (init_view init.now)) result }
+    ensures found { IfOk result (λ b. items_view b ≡ resolve_init (functions_at parts.now) scope.old next.old (init_view init.now)) }
+    ensures entered { OnOk result (scope.new ≡ for_scope scope.old (init_view init.now)) }
+    ensures counted { OnOk result (next.new ≡ next.old + init_count (init_view init.now)) }
+{
+    let mut items = Vec::new(alloc);
+    match init {
+        Init::Nothing => {
+            scope.enter();
+            Ok(block_of(items))
+        }
+        Init::Declaration(declaration) => {
+            scope.enter();
+            add_declaration(alloc, parts, scope, next, declaration, &mut items)?;
+            Ok(block_of(items))
+        }
+        Init::Assign(assign) => {
+            let stmt = resolve_assignment(alloc, parts, scope, next, assign)?;
+            items.push(program::BlockItem::Statement(stmt))?;
+            scope.enter();
+            Ok(block_of(items))
+        }
+    }
+}
+
+/// A test that isn't there is true.
+fn resolve_for_test(
+    alloc: Global,
+    scope: &Scope,
+    test: &Option<Cond>,
+) -> Result<program::Cond, NamesError>
+    ensures told { TellsOf (test_of_for_faults scope.now (option_map tree_cond_view test.now)) result }
+    ensures found { IfOk result (λ c. cond_view c ≡ resolve_for_test scope.now (option_map tree_cond_view test.now)) }
+{
+    match test {
+        None => Ok(program::Cond::Nonzero(program::Expr::Literal(1))),
+        Some(cond) => resolve_cond(alloc, scope, cond),
+    }
+}
+
+fn resolve_step(
+    alloc: Global,
+    parts: &[Item],
+    scope: &Scope,
+    next: &mut usize,
+    step: &Option<Assign>,
+) -> Result<program::Stmt, NamesError>
+    ensures told { TellsOf (step_faults (functions_at parts.now) scope.now (option_map assign_view step.now)) result }
+    ensures found { IfOk result (λ s. stmt_view s ≡ resolve_step (functions_at parts.now) scope.now next.old (option_map assign_view step.now)) }
+    ensures counted { OnOk result (next.new ≡ next.old + step_count (option_map assign_view step.now)) }
+{
+    match step {
+        None => Ok(program::Stmt::Absent),
+        Some(assign) => resolve_assignment(alloc, parts, scope, next, assign),
+    }
+}
+
+/// What stands in the parentheses of a `for`, in the source.
+#[derive(Clone, Copy)]
+pub struct Rounds<'a> {
+    pub init: &'a Init,
+    pub test: &'a Option<Cond>,
+    pub step: &'a Option<Assign>,
+}
+
+/// What it means, and the label of the `for`.
+pub struct ForHead {
+    init: program::BlockItems,
+    head: Head,
+    step: program::Stmt,
+}
+
+impl Drop for ForHead {
+    fn drop(self) {
+        let ForHead {
+            init: _,
+            head: _,
+            step: _,
+        } = self;
+    }
+}
+
+impl ForHead {
+    /// The whole `for`.
+    pub fn into_loop(self, alloc: Global, body: program::Stmt) -> Result<program::Stmt, NamesError>
+        ensures found { IfOk result (λ s. stmt_view s ≡ for_of (items_view self.init) (loop_of self.head.label (cond_view self.head.cond) (stmt_view body) (stmt_view self.step))) }
+        ensures memory { IfErr result (λ e. e ≡ NamesError.Memory) }
+    {
+        let ForHead { init, head, step } = self;
+        let again = head.repeat(alloc, body, step)?;
+        let again = Box::new(alloc, again)?;
+        Ok(program::Stmt::For(init, again))
+    }
+}
+
+/// Takes the label of a `for`, begins its scope, and resolves what stands in its parentheses.
+#[tactic(auto, using(crate::proofs::Telling::telling_rules))]
+pub fn resolve_for_head(
+    around: &Around<'_>,
+    scope: &mut Scope,
+    next: &mut usize,
+    rounds: &Rounds<'_>,
+) -> Result<ForHead, NamesError>
+    ensures told { TellsOf (head_faults (functions_at around.now.parts.now) scope.old (init_view rounds.now.init.now) (option_map tree_cond_view rounds.now.test.now) (option_map assign_view rounds.now.step.now)) result }
+    ensures label { IfOk result (λ h. h.head.label ≡ next.old) }
+    ensures begun { IfOk result (λ h. items_view h.init ≡ resolve_init (functions_at around.now.parts.now) scope.old (suc next.old) (init_view rounds.now.init.now)) }
+    ensures tested { IfOk result (λ h. cond_view h.head.cond ≡ resolve_for_test (for_scope scope.old (init_view rounds.now.init.now)) (option_map tree_cond_view rounds.now.test.now)) }
+    ensures stepped { IfOk result (λ h. stmt_view h.step ≡ resolve_step (functions_at around.now.parts.now) (for_scope scope.old (init_view rounds.now.init.now)) (suc next.old + init_count (init_view rounds.now.init.now)) (option_map assign_view rounds.now.step.now)) }
+    ensures entered { OnOk result (scope.new ≡ for_scope scope.old (init_view rounds.now.init.now)) }
+    ensures counted { OnOk result (next.new ≡ suc next.old + init_count (init_view rounds.now.init.now) + step_count (option_map assign_view rounds.now.step.now)) }
+{
+    let label = take_label(next)?;
+    let init = resolve_init(around.alloc, around.parts, scope, next, rounds.init)?;
+    let cond = resolve_for_test(around.alloc, scope, rounds.test)?;
+    let step = resolve_step(around.alloc, around.parts, scope, next, rounds.step)?;
+    let head = Head { label, cond };
+    Ok(ForHead { init, head, step })
+}

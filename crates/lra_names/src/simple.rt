@@ -1,0 +1,126 @@
+//! Statements without parts that are statements, each under its label.
+
+ghost use Rattle.std.specs.Prelude.{◌≡◌, [], suc, not, false, option_map, IfOk, OnOk};
+ghost use Rattle.lra_tree.specs.Program.{nothing, call as call_stmt};
+ghost use Rattle.lra_tree.specs.Views.{source_view, call_view, assign_view};
+ghost use Rattle.lra_tree.specs.ProgramViews.{stmt_view};
+ghost use Rattle.lra_tree.specs.NameFaults.{fault_if, call_faults, assign_faults, return_faults};
+ghost use Rattle.lra_tree.specs.Resolve.{resolve_call, resolve_assign, resolve_given};
+ghost use Rattle.lra_tree.specs.declared.refusals.Cause.TheVariants.{Misplaced};
+ghost use Rattle.lra_names.specs.Calls.{functions_at};
+ghost use Rattle.lra_names.specs.Statements.{around_of, break_of, continue_of, return_of};
+ghost use Rattle.lra_names.specs.Outcome.{TellsOf};
+
+use crate::around::Around;
+use crate::calls::{resolve_assign, resolve_call, resolve_given};
+use crate::declarations::take_label;
+use crate::errors::{NamesError, refuse};
+use crate::scopes::Scope;
+use lra_tree::{Assign, Call, Cause, Item, Place, Source, program};
+use std::alloc::Global;
+
+/// A statement that does nothing.
+#[tactic(auto, using(crate::proofs::Loops::wanting_told))]
+pub fn resolve_nothing(next: &mut usize) -> Result<program::Stmt, NamesError>
+    ensures told { TellsOf [] result }
+    ensures found { IfOk result (λ s. stmt_view s ≡ nothing next.old) }
+    ensures counted { OnOk result (next.new ≡ suc next.old) }
+{
+    let label = take_label(next)?;
+    Ok(program::Stmt::Nothing(label))
+}
+
+/// An assignment under the next label.
+pub fn resolve_assignment(
+    alloc: Global,
+    parts: &[Item],
+    scope: &Scope,
+    next: &mut usize,
+    assign: &Assign,
+) -> Result<program::Stmt, NamesError>
+    ensures told { TellsOf (assign_faults (functions_at parts.now) scope.now (assign_view assign.now)) result }
+    ensures found { IfOk result (λ s. stmt_view s ≡ resolve_assign (functions_at parts.now) scope.now next.old (assign_view assign.now)) }
+    ensures counted { OnOk result (next.new ≡ suc next.old) }
+{
+    let label = take_label(next)?;
+    resolve_assign(alloc, parts, scope, label, assign)
+}
+
+/// A call whose result isn't used.
+pub fn resolve_call_alone(
+    alloc: Global,
+    parts: &[Item],
+    scope: &Scope,
+    next: &mut usize,
+    call: &Call,
+) -> Result<program::Stmt, NamesError>
+    ensures told { TellsOf (call_faults (functions_at parts.now) scope.now (call_view call.now) false) result }
+    ensures found { IfOk result (λ s. stmt_view s ≡ call_stmt next.old (resolve_call (functions_at parts.now) scope.now next.old (call_view call.now))) }
+    ensures counted { OnOk result (next.new ≡ suc next.old) }
+{
+    let label = take_label(next)?;
+    let call = resolve_call(alloc, parts, scope, label, call, false)?;
+    Ok(program::Stmt::Call(label, call))
+}
+
+/// The label of a `break` or a `continue`, which stand in loops.
+fn take_jump_label(in_loop: bool, next: &mut usize, place: Place) -> Result<usize, NamesError>
+    ensures told { TellsOf (fault_if (not in_loop) Misplaced place) result }
+    ensures label { IfOk result (λ n. n ≡ next.old) }
+    ensures counted { OnOk result (next.new ≡ suc next.old) }
+{
+    if in_loop {
+        take_label(next)
+    } else {
+        refuse(Cause::Misplaced, place)
+    }
+}
+
+/// A `break`, in a loop or not.
+pub fn resolve_break(
+    in_loop: bool,
+    next: &mut usize,
+    place: Place,
+) -> Result<program::Stmt, NamesError>
+    ensures told { TellsOf (fault_if (not in_loop) Misplaced place) result }
+    ensures found { IfOk result (λ s. stmt_view s ≡ break_of next.old) }
+    ensures counted { OnOk result (next.new ≡ suc next.old) }
+{
+    let label = take_jump_label(in_loop, next, place)?;
+    Ok(program::Stmt::Break(label))
+}
+
+/// A `continue`, in a loop or not.
+pub fn resolve_continue(
+    in_loop: bool,
+    next: &mut usize,
+    place: Place,
+) -> Result<program::Stmt, NamesError>
+    ensures told { TellsOf (fault_if (not in_loop) Misplaced place) result }
+    ensures found { IfOk result (λ s. stmt_view s ≡ continue_of next.old) }
+    ensures counted { OnOk result (next.new ≡ suc next.old) }
+{
+    let label = take_jump_label(in_loop, next, place)?;
+    Ok(program::Stmt::Continue(label))
+}
+
+/// A `return`; only a function with a result gives one.
+#[tactic(auto, using(crate::proofs::Telling::telling_rules))]
+pub fn resolve_return(
+    around: &Around<'_>,
+    scope: &Scope,
+    next: &mut usize,
+    place: Place,
+    source: &Option<Source>,
+) -> Result<program::Stmt, NamesError>
+    ensures told { TellsOf (return_faults (around_of around.now) scope.now place (option_map source_view source.now)) result }
+    ensures found { IfOk result (λ s. stmt_view s ≡ return_of next.old (resolve_given (functions_at around.now.parts.now) scope.now next.old (option_map source_view source.now))) }
+    ensures counted { OnOk result (next.new ≡ suc next.old) }
+{
+    if source.is_some() && !around.has_result {
+        return refuse(Cause::BadCall, place);
+    }
+    let label = take_label(next)?;
+    let source = resolve_given(around.alloc, around.parts, scope, label, source)?;
+    Ok(program::Stmt::Return(label, source))
+}
