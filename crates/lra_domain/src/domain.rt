@@ -197,7 +197,8 @@ pub trait Domain: Sized + Drop {
     ghost laws: { Laws meaning };
 }
 
-/// A domain whose values have one part at most: polyhedra, boxes, octagons. Its ranks begin with 1.
+/// A domain whose values have one part at most: polyhedra, boxes, octagons. Its ranks begin with 1. Its meaning allows one
+/// universal value, one join of two values, one head that starts with a value, and one value of a head.
 pub trait Plain: Domain {
     /// What the meaning keeps further, so that sets of such values can be made.
     ghost plain: { PlainLaws Self.meaning };
