@@ -8,7 +8,7 @@ use Rattle.lra_tree.specs.declared.trees.Identifier.{Identifier}
 use Rattle.lra_tree.specs.Trees as tree
 use Rattle.lra_tree.specs.Scope.{functions_in}
 use Rattle.lra_tree.specs.Labels.{Labelled, called_in, called_of, called_by, with_names, declarator_labels, init_labels, live_in_for, step_labels, stmt_labels, items_labels}
-use Rattle.lra_tree.specs.Built.{Built, IsBuiltSource, IsBuiltGiven, IsBuiltAssign, IsBuiltInit, IsBuiltStep, IsBuiltStmt, AreBuiltStmts, AreBuiltItems, IsBuiltPart}
+use Rattle.lra_tree.specs.Built.{Built, IsBuiltSource, IsBuiltGiven, IsBuiltAssign, IsBuiltInit, IsBuiltStep, IsBuiltStmt, AreBuiltItems, IsBuiltPart}
 use Rattle.lra_tree.specs.Faults.{IsTree}
 use Rattle.lra_tree.specs.Reach.{called_names, calls_in}
 use Rattle.lra_tree.specs.Refuse.{NotRecursive}
@@ -49,7 +49,7 @@ declarators_call_nothing live (d ∷ ds) h = label_then (called_of d.source) (de
 
 init_calls_nothing : (live : List (List ℕ)) (i : tree.InitTree) → IsBuiltInit i → CallsNothing (init_labels live i)
 init_calls_nothing live tree.no_init h = refl
-init_calls_nothing live (tree.declared d) h = absurd h
+init_calls_nothing live (tree.declared d) h = declarators_call_nothing live (d.first ∷ d.rest) h
 init_calls_nothing live (tree.assigned a) h = label_then (called_by a) [] (no_call_by a h) refl
 
 step_calls_nothing : (live : List (List ℕ)) (a : Option tree.AssignTree) → IsBuiltStep a → CallsNothing (step_labels live a)
@@ -58,7 +58,7 @@ step_calls_nothing live (Some a) h = label_then (called_by a) [] (no_call_by a h
 
 mutual
   stmt_calls_nothing : (live : List (List ℕ)) (t : tree.StmtTree) → IsBuiltStmt t → CallsNothing (stmt_labels live t)
-  stmt_calls_nothing live (tree.block items end) h = stmts_call_nothing live items end h
+  stmt_calls_nothing live (tree.block items end) h = items_call_nothing live items end h
   stmt_calls_nothing live (tree.nothing at) h = refl
   stmt_calls_nothing live (tree.assign a) h = label_then (called_by a) [] (no_call_by a h) refl
   stmt_calls_nothing live (tree.call c) h = absurd h
@@ -75,17 +75,12 @@ mutual
   stmt_calls_nothing live (tree.assert at c) h = refl
   stmt_calls_nothing live (tree.assume at c) h = refl
 
-  stmts_call_nothing : (live : List (List ℕ)) (items : tree.ItemsTree) (end : Place) → AreBuiltStmts items → CallsNothing (items_labels live items end)
-  stmts_call_nothing live tree.no_items end h = refl
-  stmts_call_nothing live (tree.declaration d items) end h = absurd h
-  stmts_call_nothing live (tree.statement t items) end h = nothing_then (stmt_labels live t) (items_labels live items end) (stmt_calls_nothing live t h.0) (stmts_call_nothing live items end h.1)
-
-items_call_nothing : (live : List (List ℕ)) (items : tree.ItemsTree) (end : Place) → AreBuiltItems items → CallsNothing (items_labels live items end)
-items_call_nothing live tree.no_items end h = refl
-items_call_nothing live (tree.declaration d items) end h =
-    let ds = d.first ∷ d.rest in
-    nothing_then (declarator_labels live ds) (items_labels (with_names live ds) items end) (declarators_call_nothing live ds h.0) (items_call_nothing (with_names live ds) items end h.1)
-items_call_nothing live (tree.statement t items) end h = nothing_then (stmt_labels live t) (items_labels live items end) (stmt_calls_nothing live t h.0) (items_call_nothing live items end h.1)
+  items_call_nothing : (live : List (List ℕ)) (items : tree.ItemsTree) (end : Place) → AreBuiltItems items → CallsNothing (items_labels live items end)
+  items_call_nothing live tree.no_items end h = refl
+  items_call_nothing live (tree.declaration d items) end h =
+      let ds = d.first ∷ d.rest in
+      nothing_then (declarator_labels live ds) (items_labels (with_names live ds) items end) (declarators_call_nothing live ds h.0) (items_call_nothing (with_names live ds) items end h.1)
+  items_call_nothing live (tree.statement t items) end h = nothing_then (stmt_labels live t) (items_labels live items end) (stmt_calls_nothing live t h.0) (items_call_nothing live items end h.1)
 
 no_calls_in : (ps : List tree.PartTree) → AllByRecursion IsBuiltPart ps → calls_in (functions_in ps) ≡ []
 no_calls_in [] h = refl

@@ -419,6 +419,9 @@ last_stops (e ∷ ds) d at = last_stops ds e at
 declared_begins : (l : ℕ) (m : Mark) (b : DeclarationTree) (x : Pieces) (o : Option Token) → (Declared l b ⋅ spells mark.Semicolon) x → is_mark m (first_or x o) ≡ false
 declared_begins l m b x o (u, v, f, (ds, g, (p, q, i, ((a, c, j, s, t), k), r)), w) = rw (f, i, j, s) refl
 
+pub declaration_first : (l : ℕ) (d : DeclarationTree) (z : Pieces) (k : Option Token) → DeclarationText l d z → is_mark mark.Long (first_or z k) ≡ true
+declaration_first l d z k ((x, y, e, (u, v, f, s, r), t), b) = first_opened (λ i. is_mark mark.Long i ≡ true) mark.Long 0 u (v ++ y) z k (e ∙ regroup x y u v f) s (λ at. refl)
+
 pub exact_declaration : (n d l : ℕ) → d + l ≡ n → Exact n IsInner (declaration_at d) Any (DeclarationText l) (DeclarationText l) Free
 exact_declaration n d l h =
     let list = exact_commas (exact_declarator n d l h) (some_declarator l) (λ a at. (given_stops a.source at).1) in

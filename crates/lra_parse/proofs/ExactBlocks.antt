@@ -1,5 +1,5 @@
 -- The readers of blocks, branches and their levels are exact.
-use Rattle.std.proofs.Common.{◌≡◌, ℕ, ◌+◌, zero, suc, ◌≤◌, ◌<◌, Bool, true, false, ◌||◌, ◌&&◌, ◌⊎◌, List, [], ◌∷◌, ◌++◌, Option, Some, None, refl, sym, ap, subst, ◌∙◌, arith, inl, inr, option_map}
+use Rattle.std.proofs.Common.{◌≡◌, ℕ, ◌+◌, zero, suc, ◌≤◌, ◌<◌, Bool, true, false, ◌||◌, ◌⊎◌, List, [], ◌∷◌, ◌++◌, Option, Some, None, refl, sym, ap, subst, ◌∙◌, arith, inl, inr, option_map}
 use Rattle.std.specs.Bool.{⊤}
 use Rattle.std.proofs.lemmas.List.{append-nil}
 use Rattle.lra_tree.specs.declared.refusals.Place.{Place}
@@ -13,22 +13,22 @@ use Rattle.lra_tree.specs.declared.trees.Identifier.{Identifier}
 use Rattle.lra_tree.specs.declared.trees.Step.{Step}
 use Rattle.lra_tree.specs.declared.trees.Step.TheVariants as step
 use Rattle.lra_tree.specs.Texts.{Piece, Pieces, Texts, ◌⋅◌, opens, opens_at}
-use Rattle.lra_tree.specs.Trees.{DeclarationTree, StmtTree, block, nothing, assign, call, if_only, if_else, while, for, break, continue, return, assert, assume, increment, after, before, no_init, ItemsTree, no_items, declaration, statement}
+use Rattle.lra_tree.specs.Trees.{StmtTree, block, nothing, assign, call, if_only, if_else, while, for, break, continue, return, assert, assume, increment, after, before, no_init, ItemsTree, no_items, declaration, statement}
 use Rattle.lra_tree.specs.Views.{step_view}
 use Rattle.lra_tree.specs.Grammar.{IsStmt, AreItems}
-use Rattle.lra_tree.specs.Built.{IsBuiltDeclaration, IsBuiltStmt, AreBuiltStmts, AreBuiltItems}
+use Rattle.lra_tree.specs.Built.{IsBuiltStmt, AreBuiltItems}
 use Rattle.lra_parse.specs.Tests.{is_mark}
 use Rattle.lra_parse.specs.Reading.{Parse, stop, map_read, identifier_of, has, one_of}
 use Rattle.lra_parse.specs.Statements.{next_step, step_marks, StmtMark, at_nothing, at_if, at_while, at_for, at_break, at_continue, at_return, at_assert, at_assume, stmt_marks, stmt_mark, begins_stmt, ItemTree, declared, stated, items_from, begins_item, stated_of, item_of, items_of, body_of, block_from, too_deep, levels, branch_at, block_at, simple_at, items_at}
 use Rattle.lra_parse.proofs.Marks.{is_mark_some}
 use Rattle.lra_parse.proofs.Exact.{Exact, Any, Free, Both, test, first_or, then}
-use Rattle.lra_parse.proofs.Forms.{rename, widen, retell, entry, given as given_fact, mapped, branch, exact_stop, exact_deep}
+use Rattle.lra_parse.proofs.Forms.{rename, widen, retell, entry, mapped, branch, exact_stop, exact_deep}
 use Rattle.lra_parse.proofs.Tokens.{IsInner, exact_expect_at, some_place, some_name}
 use Rattle.lra_parse.proofs.Chain.{regroup, Items, AfterLast, all_last, exact_list}
 use Rattle.lra_parse.proofs.Parts.{token, exact_behind, table_mark}
 use Rattle.lra_parse.proofs.ExactExpressions.{Of, first_opened, opened_over}
 use Rattle.lra_parse.proofs.ExactConditions.{some_cond}
-use Rattle.lra_parse.proofs.ExactAssignments.{mark_of_step, AssignText, from_assign, placed_first, assign_no_mark, DeclarationText, exact_declaration}
+use Rattle.lra_parse.proofs.ExactAssignments.{mark_of_step, AssignText, from_assign, placed_first, assign_no_mark, DeclarationText, declaration_first, exact_declaration}
 use Rattle.lra_parse.proofs.ExactStatements.{AfterStmt, StmtText, IsBlock, SimpleText, mark_of_stmt, SimpleAt, from_simple, exact_simple}
 
 -- how a statement begins ------------------------------------------------------------------------------------------
@@ -242,13 +242,9 @@ abbrev pub StatedText : ℕ → StmtTree → Texts
 StatedText l (block is end) = IsStmt (l + 1) (l + 1) (block is end)
 StatedText l t = IsStmt 0 l t
 
-abbrev pub ItemText : Bool → ℕ → ItemTree → Texts
-ItemText declares l (declared d) z = DeclarationText l d z × (declares ≡ true)
-ItemText declares l (stated t) z = StatedText l t z × IsBuiltStmt t
-
-abbrev pub AreBuilt : Bool → ItemsTree → Type 0
-AreBuilt true = AreBuiltItems
-AreBuilt false = AreBuiltStmts
+abbrev pub ItemText : ℕ → ItemTree → Texts
+ItemText l (declared d) z = DeclarationText l d z
+ItemText l (stated t) z = StatedText l t z × IsBuiltStmt t
 
 stated_in : (l : ℕ) (t : StmtTree) (items : ItemsTree) (z : Pieces) → (StatedText l t ⋅ AreItems l items) z → AreItems l (statement t items) z
 stated_in l (block is end) items z h = h
@@ -280,61 +276,28 @@ stated_out l (return at e) items z h = h
 stated_out l (assert at c) items z h = h
 stated_out l (assume at c) items z h = h
 
-built_none : (declares : Bool) → AreBuilt declares no_items
-built_none true = tt
-built_none false = tt
+pub to_items : (l : ℕ) (is : List ItemTree) (z : Pieces) → Items (ItemText l) is z → AreItems l (items_from is) z × AreBuiltItems (items_from is)
+to_items l [] z e = (e, tt)
+to_items l (declared d ∷ is) z (x, y, e, s, r) =
+    let k = to_items l is y r in
+    ((x, y, e, s.0, k.0), (s.1, k.1))
+to_items l (stated t ∷ is) z (x, y, e, s, r) =
+    let k = to_items l is y r in
+    (stated_in l t (items_from is) z (x, y, e, s.0, k.0), (s.1, k.1))
 
-built_declaration : (declares : Bool) (d : DeclarationTree) (items : ItemsTree) → declares ≡ true → IsBuiltDeclaration d → AreBuilt declares items → AreBuilt declares (declaration d items)
-built_declaration true d items e b bs = (b, bs)
-built_declaration false d items e b bs = absurd cc
-
-built_statement : (declares : Bool) (t : StmtTree) (items : ItemsTree) → IsBuiltStmt t → AreBuilt declares items → AreBuilt declares (statement t items)
-built_statement true t items b bs = (b, bs)
-built_statement false t items b bs = (b, bs)
-
-declaration_built : (declares : Bool) (d : DeclarationTree) (items : ItemsTree) → AreBuilt declares (declaration d items) → (declares ≡ true) × IsBuiltDeclaration d × AreBuilt declares items
-declaration_built true d items h = (refl, h.0, h.1)
-declaration_built false d items h = absurd h
-
-statement_built : (declares : Bool) (t : StmtTree) (items : ItemsTree) → AreBuilt declares (statement t items) → IsBuiltStmt t × AreBuilt declares items
-statement_built true t items h = (h.0, h.1)
-statement_built false t items h = (h.0, h.1)
-
-pub to_items : (declares : Bool) (l : ℕ) (is : List ItemTree) (z : Pieces) → Items (ItemText declares l) is z → AreItems l (items_from is) z × AreBuilt declares (items_from is)
-to_items declares l [] z e = (e, built_none declares)
-to_items declares l (declared d ∷ is) z (x, y, e, (s, f), r) =
-    let k = to_items declares l is y r in
-    ((x, y, e, s.0, k.0), built_declaration declares d (items_from is) f s.1 k.1)
-to_items declares l (stated t ∷ is) z (x, y, e, s, r) =
-    let k = to_items declares l is y r in
-    (stated_in l t (items_from is) z (x, y, e, s.0, k.0), built_statement declares t (items_from is) s.1 k.1)
-
-pub from_items : (declares : Bool) (l : ℕ) (items : ItemsTree) (z : Pieces) → AreItems l items z → AreBuilt declares items → (is : List ItemTree) × (items_from is ≡ items) × Items (ItemText declares l) is z
-from_items declares l no_items z e b = ([], refl, e)
-from_items declares l (declaration d items) z (x, y, e, s, r) b =
-    let p = declaration_built declares d items b in
-    let k = from_items declares l items y r p.2 in
-    (declared d ∷ k.0, ap (λ (i : ItemsTree). declaration d i) k.1, (x, y, e, ((s, p.1), p.0), k.2))
-from_items declares l (statement t items) z h b =
-    let p = statement_built declares t items b in
+pub from_items : (l : ℕ) (items : ItemsTree) (z : Pieces) → AreItems l items z → AreBuiltItems items → (is : List ItemTree) × (items_from is ≡ items) × Items (ItemText l) is z
+from_items l no_items z e b = ([], refl, e)
+from_items l (declaration d items) z (x, y, e, s, r) b =
+    let k = from_items l items y r b.1 in
+    (declared d ∷ k.0, ap (λ (i : ItemsTree). declaration d i) k.1, (x, y, e, (s, b.0), k.2))
+from_items l (statement t items) z h b =
     let o = stated_out l t items z h in
-    let k = from_items declares l items o.1 o.4 p.1 in
-    (stated t ∷ k.0, ap (λ (i : ItemsTree). statement t i) k.1, (o.0, o.1, o.2, (o.3, p.0), k.2))
+    let k = from_items l items o.1 o.4 b.1 in
+    (stated t ∷ k.0, ap (λ (i : ItemsTree). statement t i) k.1, (o.0, o.1, o.2, (o.3, b.0), k.2))
 
 abbrev pub AfterItem : ItemTree → Option Token → Type 0
 AfterItem (declared d) o = ⊤
 AfterItem (stated t) o = AfterStmt t o
-
-and_both : (a b : Bool) → (a && b) ≡ true → (a ≡ true) × (b ≡ true)
-and_both true b e = (refl, e)
-and_both false b e = absurd cc
-
-and_true : (a b : Bool) → a ≡ true → b ≡ true → (a && b) ≡ true
-and_true a b e f = rw (e, f) refl
-
-and_false : (a b : Bool) → b ≡ false → (a && b) ≡ false
-and_false true b e = e
-and_false false b e = refl
 
 -- a block with its level, or another statement ------------------------------------------------------------------------
 
@@ -404,16 +367,13 @@ or_right : (a b : Bool) → b ≡ true → (a || b) ≡ true
 or_right true b e = refl
 or_right false b e = e
 
-item_stmt : (declares : Bool) (l : ℕ) (t : StmtTree) (z : Pieces) (k : Option Token) → BlockText (l + 1) (l + 1) t z ⊎ SimpleText 0 l t z → begins_item declares (first_or z k) ≡ true
-item_stmt declares l t z k (inl s) = or_left (begins_stmt (first_or z k)) _ (stmt_begins (λ o. begins_stmt o ≡ true) all_begin (l + 1) (l + 1) t z k s.0)
-item_stmt declares l t z k (inr s) = or_left (begins_stmt (first_or z k)) _ (stmt_begins (λ o. begins_stmt o ≡ true) all_begin 0 l t z k s.0)
+item_stmt : (l : ℕ) (t : StmtTree) (z : Pieces) (k : Option Token) → BlockText (l + 1) (l + 1) t z ⊎ SimpleText 0 l t z → begins_item (first_or z k) ≡ true
+item_stmt l t z k (inl s) = or_left (begins_stmt (first_or z k)) _ (stmt_begins (λ o. begins_stmt o ≡ true) all_begin (l + 1) (l + 1) t z k s.0)
+item_stmt l t z k (inr s) = or_left (begins_stmt (first_or z k)) _ (stmt_begins (λ o. begins_stmt o ≡ true) all_begin 0 l t z k s.0)
 
-declaration_first : (l : ℕ) (d : DeclarationTree) (z : Pieces) (k : Option Token) → DeclarationText l d z → is_mark mark.Long (first_or z k) ≡ true
-declaration_first l d z k ((x, y, e, (u, v, f, s, r), t), b) = first_opened (λ i. is_mark mark.Long i ≡ true) mark.Long 0 u (v ++ y) z k (e ∙ regroup x y u v f) s (λ at. refl)
-
-item_first : (declares : Bool) (l : ℕ) (i : ItemTree) (z : Pieces) (k : Option Token) → ItemText declares l i z → begins_item declares (first_or z k) ≡ true
-item_first declares l (declared d) z k (s, h) = or_right (begins_stmt (first_or z k)) _ (and_true declares (is_mark mark.Long (first_or z k)) h (declaration_first l d z k s))
-item_first declares l (stated t) z k s = item_stmt declares l t z k (from_stated l t z s)
+item_first : (l : ℕ) (i : ItemTree) (z : Pieces) (k : Option Token) → ItemText l i z → begins_item (first_or z k) ≡ true
+item_first l (declared d) z k s = or_right (begins_stmt (first_or z k)) _ (declaration_first l d z k s)
+item_first l (stated t) z k s = item_stmt l t z k (from_stated l t z s)
 
 stated_long : (l : ℕ) (t : StmtTree) (z : Pieces) (k : Option Token) → StatedText l t z × IsBuiltStmt t → is_mark mark.Long (first_or z k) ≡ false
 stated_long l t z k s = elim (from_stated l t z s) [
@@ -422,84 +382,70 @@ stated_long l t z k s = elim (from_stated l t z s) [
 ]
 
 -- no item begins with `else`
-else_begins : (declares : Bool) (at : Place) → begins_item declares (Some (token mark.Else at)) ≡ false
-else_begins true at = refl
-else_begins false at = refl
-
-end_begins : (declares : Bool) → begins_item declares None ≡ false
-end_begins true = refl
-end_begins false = refl
-
-close_begins : (declares : Bool) (at : Place) → begins_item declares (Some (token mark.CloseBrace at)) ≡ false
-close_begins true at = refl
-close_begins false at = refl
-
-not_else : (declares : Bool) (o : Option Token) → begins_item declares o ≡ true → is_mark mark.Else o ≡ false
-not_else declares None e = refl
-not_else declares (Some t) e = elim (test (is_mark mark.Else (Some t))) [
-  | inl on ↦
-      let same : begins_item declares (Some t) ≡ false = ap (λ (u : Token). begins_item declares (Some u)) (is_mark_some mark.Else t on) ∙ else_begins declares t.place in
-      absurd cc
+not_else : (o : Option Token) → begins_item o ≡ true → is_mark mark.Else o ≡ false
+not_else None e = refl
+not_else (Some t) e = elim (test (is_mark mark.Else (Some t))) [
+  | inl on ↦ let same : begins_item (Some t) ≡ false = ap (λ (u : Token). begins_item (Some u)) (is_mark_some mark.Else t on) in absurd cc
   | inr off ↦ off
 ]
 
-item_allowed : (declares : Bool) (i : ItemTree) (o : Option Token) → begins_item declares o ≡ true → AfterItem i o
-item_allowed declares (declared d) o e = tt
-item_allowed declares (stated t) o e = λ k. not_else declares o e
+item_allowed : (i : ItemTree) (o : Option Token) → begins_item o ≡ true → AfterItem i o
+item_allowed (declared d) o e = tt
+item_allowed (stated t) o e = λ k. not_else o e
 
 item_closes : (i : ItemTree) (at : Place) → AfterItem i (Some (token mark.CloseBrace at))
 item_closes (declared d) at = tt
 item_closes (stated t) at = λ k. refl
 
-abbrev pub BodyText : Bool → ℕ → ℕ → ItemsTree × Place → Texts
-BodyText declares o l b z = (opens mark.OpenBrace o ⋅ (AreItems l b.0 ⋅ opens_at mark.CloseBrace b.1 0)) z × AreBuilt declares b.0
+abbrev pub BodyText : ℕ → ℕ → ItemsTree × Place → Texts
+BodyText o l b z = (opens mark.OpenBrace o ⋅ (AreItems l b.0 ⋅ opens_at mark.CloseBrace b.1 0)) z × AreBuiltItems b.0
 
-abbrev ItemsText : Bool → ℕ → ItemsTree × Place → Texts
-ItemsText declares l b z = Both (λ is z. Items (ItemText declares l) is z) (λ is b. Of (λ end. (items_from is, end)) (λ end z. opens_at mark.CloseBrace end 0 z) b) b z
+abbrev ItemsText : ℕ → ItemsTree × Place → Texts
+ItemsText l b z = Both (λ is z. Items (ItemText l) is z) (λ is b. Of (λ end. (items_from is, end)) (λ end z. opens_at mark.CloseBrace end 0 z) b) b z
 
-to_body : (declares : Bool) (o l : ℕ) (b : ItemsTree × Place) (z : Pieces) → (opens mark.OpenBrace o ⋅ ItemsText declares l b) z → BodyText declares o l b z
-to_body declares o l b z (x, y, e, s, (is, (u, v, f, r, (end, g, t)))) =
-    let k = to_items declares l is u r in
-    subst (λ (c : ItemsTree × Place). BodyText declares o l c z) g ((x, y, e, s, (u, v, f, k.0, t)), k.1)
+to_body : (o l : ℕ) (b : ItemsTree × Place) (z : Pieces) → (opens mark.OpenBrace o ⋅ ItemsText l b) z → BodyText o l b z
+to_body o l b z (x, y, e, s, (is, (u, v, f, r, (end, g, t)))) =
+    let k = to_items l is u r in
+    subst (λ (c : ItemsTree × Place). BodyText o l c z) g ((x, y, e, s, (u, v, f, k.0, t)), k.1)
 
-from_body : (declares : Bool) (o l : ℕ) (b : ItemsTree × Place) (z : Pieces) → BodyText declares o l b z → (opens mark.OpenBrace o ⋅ ItemsText declares l b) z
-from_body declares o l b z ((x, y, e, s, (u, v, f, r, t)), h) =
-    let k = from_items declares l b.0 u r h in
+from_body : (o l : ℕ) (b : ItemsTree × Place) (z : Pieces) → BodyText o l b z → (opens mark.OpenBrace o ⋅ ItemsText l b) z
+from_body o l b z ((x, y, e, s, (u, v, f, r, t)), h) =
+    let k = from_items l b.0 u r h in
     (x, y, e, s, (k.0, (u, v, f, k.2, (b.1, ap (λ (i : ItemsTree). (i, b.1)) k.1, t))))
 
-item_sides : (declares : Bool) (l : ℕ) (i : ItemTree) (z : Pieces) → ItemText declares l i z → (Of declared (DeclarationText l) i z × (declares ≡ true)) ⊎ Of stated (λ t z. StatedText l t z × IsBuiltStmt t) i z
-item_sides declares l (declared d) z s = inl ((d, refl, s.0), s.1)
-item_sides declares l (stated t) z s = inr (t, refl, s)
+item_sides : (l : ℕ) (i : ItemTree) (z : Pieces) → ItemText l i z → Of declared (DeclarationText l) i z ⊎ Of stated (λ t z. StatedText l t z × IsBuiltStmt t) i z
+item_sides l (declared d) z s = inl (d, refl, s)
+item_sides l (stated t) z s = inr (t, refl, s)
 
-module _ (n d l : ℕ) (simple inner : Parse StmtTree) (h : d + l ≡ n) (declares : Bool) (I : Exact n IsInner inner (λ k. ⊤ × (is_mark mark.OpenBrace k ≡ true)) (BlockText (l + 1) (l + 1)) (BlockText (l + 1) (l + 1)) AfterStmt)
+module _ (n d l : ℕ) (simple inner : Parse StmtTree) (h : d + l ≡ n) (I : Exact n IsInner inner (λ k. ⊤ × (is_mark mark.OpenBrace k ≡ true)) (BlockText (l + 1) (l + 1)) (BlockText (l + 1) (l + 1)) AfterStmt)
     (S : Exact n IsInner simple Any (SimpleText 0 l) (SimpleText 0 l) AfterStmt) where
-  exact_item : Exact n IsInner (item_of declares d simple inner) Any (ItemText declares l) (ItemText declares l) AfterItem
+  exact_item : Exact n IsInner (item_of d simple inner) Any (ItemText l) (ItemText l) AfterItem
   exact_item =
-      let D = given_fact (entry (mapped (exact_declaration n d l h) declared AfterItem (λ i o f. tt) (λ i o f. tt)) (λ k. ⊤ × ((declares && is_mark mark.Long k) ≡ true)) (λ k i. tt)) (declares ≡ true) (λ k i. (and_both declares (is_mark mark.Long k) i.1).0) in
+      let D = entry (mapped (exact_declaration n d l h) declared AfterItem (λ i o f. tt) (λ i o f. tt)) (λ k. ⊤ × (is_mark mark.Long k ≡ true)) (λ k i. tt) in
       let stmts = exact_stated {o = 0} {l = l} I (λ t z k s. block_first (l + 1) (l + 1) t z k s (λ i. is_mark mark.OpenBrace i ≡ true) (λ at. refl)) S in
       let T = retell stmts (λ t z. StatedText l t z × IsBuiltStmt t) (λ t z s. to_stated l t z s) (λ t z s. from_stated l t z s) in
       let T' = mapped T stated AfterItem (λ t o f. f) (λ t o f. f) in
-      let W = ItemText declares l in
-      let b = branch (λ k. declares && is_mark mark.Long k) (widen D W (λ i z s. subst (λ (c : ItemTree). W c z) s.0.1 (s.0.2, s.1)))
-      (entry (widen T' W (λ i z s. subst (λ (c : ItemTree). W c z) s.1 s.2)) (λ k. ⊤ × ((declares && is_mark mark.Long k) ≡ false)) (λ k i. tt))
-      (λ i z k s f. and_true declares (is_mark mark.Long (first_or z k)) s.1 (declaration_first l s.0.0 z k s.0.2))
-      (λ i z k s f. and_false declares (is_mark mark.Long (first_or z k)) (stated_long l s.0 z k s.2)) in
-      rename b W (λ i z s. elim s [ inl k ↦ subst (λ (c : ItemTree). W c z) k.0.1 (k.0.2, k.1) | inr k ↦ subst (λ (c : ItemTree). W c z) k.1 k.2 ]) (λ i z s. item_sides declares l i z s)
+      let W = ItemText l in
+      let b = branch (is_mark mark.Long) (widen D W (λ i z s. subst (λ (c : ItemTree). W c z) s.1 s.2))
+      (entry (widen T' W (λ i z s. subst (λ (c : ItemTree). W c z) s.1 s.2)) (λ k. ⊤ × (is_mark mark.Long k ≡ false)) (λ k i. tt))
+      (λ i z k s f. declaration_first l s.0 z k s.2)
+      (λ i z k s f. stated_long l s.0 z k s.2) in
+      rename b W (λ i z s. elim s [ inl k ↦ subst (λ (c : ItemTree). W c z) k.1 k.2 | inr k ↦ subst (λ (c : ItemTree). W c z) k.1 k.2 ]) (λ i z s. item_sides l i z s)
 
-  closing : (is : List ItemTree) (end : Place) (y : Pieces) (k : Option Token) → opens_at mark.CloseBrace end 0 y → AfterLast AfterItem Any is (first_or y k) × (begins_item declares (first_or y k) ≡ false)
-  closing is end y k e = rw e (all_last AfterItem Any is (Some (token mark.CloseBrace end)) tt (λ i. item_closes i end), close_begins declares end)
+  closing : (is : List ItemTree) (end : Place) (y : Pieces) (k : Option Token) → opens_at mark.CloseBrace end 0 y → AfterLast AfterItem Any is (first_or y k) × (begins_item (first_or y k) ≡ false)
+  closing is end y k e = rw e (all_last AfterItem Any is (Some (token mark.CloseBrace end)) tt (λ i. item_closes i end), refl)
 
   -- the items, with the braces round them
-  pub exact_body : (o : ℕ) → o ≤ n → Exact n IsInner (body_of (items_of declares d simple inner)) Any (BodyText declares o l) (BodyText declares o l) Free
+  pub exact_body : (o : ℕ) → o ≤ n → Exact n IsInner (body_of (items_of d simple inner)) Any (BodyText o l) (BodyText o l) Free
   exact_body o low =
-      let list = exact_list (begins_item declares) (entry exact_item (λ k. begins_item declares k ≡ true) (λ k i. tt)) Any (end_begins declares) (λ i x s. item_first declares l i x None s) (item_allowed declares) (λ k e. tt) in
-      let inside = then list (λ is. entry (mapped (exact_expect_at n mark.CloseBrace 0 (omega arith)) (λ end. (items_from is, end)) Free (λ a k f. tt) (λ a k f. tt)) (λ k. AfterLast AfterItem Any is k × (begins_item declares k ≡ false)) (λ k i. tt))
-      (ItemsText declares l)
+      let list = exact_list begins_item (entry exact_item (λ k. begins_item k ≡ true) (λ k i. tt)) Any refl (λ i x s. item_first l i x None s) item_allowed (λ k e. tt) in
+      let inside = then list (λ is. entry (mapped (exact_expect_at n mark.CloseBrace 0 (omega arith)) (λ end. (items_from is, end)) Free (λ a k f. tt) (λ a k f. tt)) (λ k. AfterLast AfterItem Any is k × (begins_item k ≡ false)) (λ k i. tt))
+      (ItemsText l)
       (λ is b y k s f. closing is s.0 y k s.2)
       (λ is z v. ((items_from is, some_place), _, (is, (z, _, refl, v, (some_place, refl, refl)))))
       (λ is b x y s r. (is, (x, y, refl, s, r))) in
       let whole = exact_behind mark.OpenBrace o low inside ((no_items, some_place), _, ([], ([], _, refl, refl, (some_place, refl, refl)))) in
-      retell whole (BodyText declares o l) (λ b z s. to_body declares o l b z s) (λ b z s. from_body declares o l b z s)
+      retell whole (BodyText o l) (λ b z s. to_body o l b z s) (λ b z s. from_body o l b z s)
 
 -- levels -----------------------------------------------------------------------------------------------------------
 
@@ -513,10 +459,10 @@ Opened o z = (t : Piece) × (w : Pieces) × (z ≡ t ∷ w) × (t.1 ≡ o)
 abbrev Over : {A : Type 0} → ℕ → (A → Texts) → Token → Type 0
 Over {A} n S t = (a : A) × (o : ℕ) × (w : Pieces) × S a ((t, o) ∷ w) × (n < o)
 
-to_block : (o l : ℕ) (t : StmtTree) (z : Pieces) → Of block_from (BodyText false o l) t z → BlockText o l t z
+to_block : (o l : ℕ) (t : StmtTree) (z : Pieces) → Of block_from (BodyText o l) t z → BlockText o l t z
 to_block o l t z (b, f, s) = subst (λ (c : StmtTree). BlockText o l c z) f (s, tt)
 
-from_block : (o l : ℕ) (t : StmtTree) (z : Pieces) → BlockText o l t z → Of block_from (BodyText false o l) t z
+from_block : (o l : ℕ) (t : StmtTree) (z : Pieces) → BlockText o l t z → Of block_from (BodyText o l) t z
 from_block o l (block is end) z (s, b) = ((is, end), refl, s)
 from_block o l (nothing at) z s = absurd s.1
 from_block o l (assign a) z s = absurd s.1
@@ -562,16 +508,16 @@ exact_too_deep n o h =
     let b = branch begins_stmt deep none (λ t z k s f. stmt_begins (λ i. begins_stmt i ≡ true) all_begin o o t z k s) (λ t z k s f. absurd s) in
     rename b (StmtText o o) (λ t z s. elim s [ inl k ↦ k | inr k ↦ absurd k ]) (λ t z s. inl s)
 
-exact_deep_block : (n o : ℕ) → n < o → Exact n IsInner (λ T. stop TooDeep T) AtBrace (BodyText false o o) (BodyText false o o) Free
-exact_deep_block n o h = exact_deep n IsInner AtBrace (BodyText false o o) (BodyText false o o) Free
+exact_deep_block : (n o : ℕ) → n < o → Exact n IsInner (λ T. stop TooDeep T) AtBrace (BodyText o o) (BodyText o o) Free
+exact_deep_block n o h = exact_deep n IsInner AtBrace (BodyText o o) (BodyText o o) Free
     (λ b z s. opened_over n o mark.OpenBrace s.0.0 s.0.1 z h s.0.2 s.0.3)
-    (λ t i. subst (Over n (BodyText false o o)) (sym (is_mark_some mark.OpenBrace t i)) ((no_items, some_place), o, _, ((_, _, refl, (t.place, refl), (_, _, refl, refl, refl)), tt), h))
+    (λ t i. subst (Over n (BodyText o o)) (sym (is_mark_some mark.OpenBrace t i)) ((no_items, some_place), o, _, ((_, _, refl, (t.place, refl), (_, _, refl, refl, refl)), tt), h))
     (λ i. cc)
 
 abbrev pub AreExact : ℕ → ℕ → ℕ → Type 0
-AreExact n d l = Exact n IsInner (branch_at d) Any (StmtText (l + 1) (l + 1)) (StmtText (l + 1) (l + 1)) AfterStmt × Exact n IsInner (block_at d) AtBrace (BodyText false (l + 1) (l + 1)) (BodyText false (l + 1) (l + 1)) Free
+AreExact n d l = Exact n IsInner (branch_at d) Any (StmtText (l + 1) (l + 1)) (StmtText (l + 1) (l + 1)) AfterStmt × Exact n IsInner (block_at d) AtBrace (BodyText (l + 1) (l + 1)) (BodyText (l + 1) (l + 1)) Free
 
-exact_block_stmt : (n d l : ℕ) → Exact n IsInner (block_at d) AtBrace (BodyText false (l + 1) (l + 1)) (BodyText false (l + 1) (l + 1)) Free
+exact_block_stmt : (n d l : ℕ) → Exact n IsInner (block_at d) AtBrace (BodyText (l + 1) (l + 1)) (BodyText (l + 1) (l + 1)) Free
     → Exact n IsInner (map_read block_from (block_at d)) (λ k. ⊤ × (is_mark mark.OpenBrace k ≡ true)) (BlockText (l + 1) (l + 1)) (BlockText (l + 1) (l + 1)) AfterStmt
 exact_block_stmt n d l B =
     entry (retell (mapped B block_from AfterStmt (λ b k f t. absurd t) (λ b k f. tt)) (BlockText (l + 1) (l + 1)) (λ t z s. to_block (l + 1) (l + 1) t z s) (λ t z s. from_block (l + 1) (l + 1) t z s))
@@ -585,13 +531,13 @@ exact_levels n (suc d) l h =
     let low : l + 1 ≤ n = omega arith in
     let inner = exact_levels n d (l + 1) k in
     let simple = λ (o : ℕ) (j : o ≤ n). exact_simple n d (l + 1) o k j (branch_at d) inner.0 in
-    let B = exact_body n d (l + 1) (simple_at d) (map_read block_from (block_at d)) k false (exact_block_stmt n d (l + 1) inner.1) (simple 0 (omega arith)) (l + 1) low in
+    let B = exact_body n d (l + 1) (simple_at d) (map_read block_from (block_at d)) k (exact_block_stmt n d (l + 1) inner.1) (simple 0 (omega arith)) (l + 1) low in
     let blocks = entry B AtBrace (λ k i. tt) in
     let T = exact_stated {o = l + 1} {l = l + 1} (exact_block_stmt n (suc d) l blocks) (λ t z k s. block_first (l + 1) (l + 1) t z k s (λ i. is_mark mark.OpenBrace i ≡ true) (λ at. refl)) (simple (l + 1) low) in
     (retell T (StmtText (l + 1) (l + 1)) (λ t z s. either_stmt (l + 1) (l + 1) t z s) (λ t z s. stmt_either (l + 1) (l + 1) t z s), blocks)
 
 -- the body of a function, at its level
-pub exact_function_body : (n d : ℕ) → d + 1 ≡ n → Exact n IsInner (body_of (items_at true d)) Any (BodyText true 1 1) (BodyText true 1 1) Free
+pub exact_function_body : (n d : ℕ) → d + 1 ≡ n → Exact n IsInner (body_of (items_at d)) Any (BodyText 1 1) (BodyText 1 1) Free
 exact_function_body n d h =
     let inner = exact_levels n d 1 h in
-    exact_body n d 1 (simple_at d) (map_read block_from (block_at d)) h true (exact_block_stmt n d 1 inner.1) (exact_simple n d 1 0 h (omega arith) (branch_at d) inner.0) 1 (omega arith)
+    exact_body n d 1 (simple_at d) (map_read block_from (block_at d)) h (exact_block_stmt n d 1 inner.1) (exact_simple n d 1 0 h (omega arith) (branch_at d) inner.0) 1 (omega arith)

@@ -127,7 +127,7 @@ exact_head n = rename (choose head_mark (each_head n) (λ k h z o s f. head_begi
 -- functions --------------------------------------------------------------------------------------------------------
 
 abbrev RestText : ItemsTree × Place → Texts
-RestText b = opens mark.CloseParen 0 ⋅ BodyText true 1 1 b
+RestText b = opens mark.CloseParen 0 ⋅ BodyText 1 1 b
 
 abbrev ParamsText : ItemsTree × Place → Texts
 ParamsText b = opens mark.OpenParen 0 ⋅ ((spells mark.Void ∣ empty) ⋅ RestText b)
@@ -135,7 +135,7 @@ ParamsText b = opens mark.OpenParen 0 ⋅ ((spells mark.Void ∣ empty) ⋅ Rest
 abbrev FunctionText : FunctionTree → Texts
 FunctionText f z = IsFunction f z × IsBuiltFunction f
 
-some_body : (b : ItemsTree × Place) × (z : Pieces) × BodyText true 1 1 b z
+some_body : (b : ItemsTree × Place) × (z : Pieces) × BodyText 1 1 b z
 some_body = ((no_items, some_place), _, ((_, _, refl, (some_place, refl), (_, _, refl, refl, refl)), tt))
 
 some_rest : (b : ItemsTree × Place) × (z : Pieces) × RestText b z

@@ -14,16 +14,16 @@ use Rattle.lra_tree.specs.Grammar.{IsUnary, IsTerm, IsExpr, IsTest, IsConjunctio
 use Rattle.lra_tree.specs.Built.{IsBuiltGiven, IsBuiltInit, IsBuiltStep}
 use Rattle.lra_parse.specs.Tests.{is_mark}
 use Rattle.lra_parse.specs.Reading.{Parse}
-use Rattle.lra_parse.specs.Statements.{source_at, up_to, init_of, for_head_at}
+use Rattle.lra_parse.specs.Statements.{source_at, up_to, init_of, init_at, for_head_at}
 use Rattle.lra_parse.proofs.Marks.{is_mark_self}
 use Rattle.lra_parse.proofs.Exact.{Exact, Any, Free, Both, first_or, first_or-both, then}
-use Rattle.lra_parse.proofs.Forms.{widen, retell, entry, mapped, branch, exact_done}
+use Rattle.lra_parse.proofs.Forms.{rename, widen, retell, entry, mapped, branch, exact_done}
 use Rattle.lra_parse.proofs.Tokens.{IsInner, some_place}
 use Rattle.lra_parse.proofs.Chain.{regroup}
 use Rattle.lra_parse.proofs.Parts.{token, exact_behind, exact_ended}
 use Rattle.lra_parse.proofs.ExactExpressions.{Of, first_opened}
 use Rattle.lra_parse.proofs.ExactConditions.{cond_stops, exact_cond}
-use Rattle.lra_parse.proofs.ExactAssignments.{mark_of_step, SourceText, source_stops, exact_source, AssignText, assign_no_mark, assign_stops, assign_closes, exact_assign}
+use Rattle.lra_parse.proofs.ExactAssignments.{mark_of_step, SourceText, source_stops, exact_source, AssignText, assign_no_mark, assign_stops, assign_closes, exact_assign, DeclarationText, declaration_first, exact_declaration}
 
 -- first tokens: no expression and no condition begins with `;` --------------------------------------------------------
 
@@ -132,42 +132,65 @@ from_returned l (Some a) z s h = (s, h)
 abbrev pub ForHeadTree : Type 0
 ForHeadTree = InitTree × Option CondTree × Option AssignTree
 
-abbrev pub StepText : ℕ → Option AssignTree → Option CondTree → ForHeadTree → Texts
-StepText l i c h = Of (λ (e : Option AssignTree). (init_of i, c, e)) (λ e. OptionText (AssignText 0 l) e ⋅ spells mark.CloseParen) h
+abbrev pub InitText : ℕ → InitTree → Texts
+InitText l i z = IsInit l i z × IsBuiltInit i
 
-abbrev pub TestText : ℕ → Option AssignTree → ForHeadTree → Texts
+abbrev FirstAssign : ℕ → Option AssignTree → Texts
+FirstAssign l i = OptionText (AssignText 0 l) i ⋅ spells mark.Semicolon
+
+first_assign : (l : ℕ) (i : Option AssignTree) (z : Pieces) → FirstAssign l i z → InitText l (init_of i) z
+first_assign l None z (x, y, e, s, m) = (subst (λ (w : Pieces). spells mark.Semicolon w) (sym (e ∙ ap (λ (w : Pieces). w ++ y) s)) m, tt)
+first_assign l (Some a) z (x, y, e, s, m) = ((x, y, e, s.0, m), s.1)
+
+first_no_long : (l : ℕ) (i : Option AssignTree) (z : Pieces) (k : Option Token) → FirstAssign l i z → is_mark mark.Long (first_or z k) ≡ false
+first_no_long l None z k s = let w : spells mark.Semicolon z = (first_assign l None z s).0 in first_opened (λ o. is_mark mark.Long o ≡ false) mark.Semicolon 0 z [] z k (sym (append-nil z)) w (λ at. refl)
+first_no_long l (Some a) z k (x, y, e, s, m) = subst (λ (w : Pieces). is_mark mark.Long (first_or w k) ≡ false) (sym e)
+    (subst (λ (o : Option Token). is_mark mark.Long o ≡ false) (sym (first_or-both x y k)) (assign_is_not mark.Long refl refl l a x (first_or y k) s))
+
+init_sides : (l : ℕ) (i : InitTree) (z : Pieces) → InitText l i z → Of declared (DeclarationText l) i z ⊎ Of init_of (FirstAssign l) i z
+init_sides l no_init z (s, h) = inr (None, refl, ([], z, refl, refl, s))
+init_sides l (declared d) z s = inl (d, refl, s)
+init_sides l (assigned a) z ((x, y, e, s, m), h) = inr (Some a, refl, (x, y, e, (s, h), m))
+
+exact_init : (n d l : ℕ) → d + l ≡ n → Exact n IsInner (init_at d) Any (InitText l) (InitText l) Free
+exact_init n d l h =
+    let low : 0 ≤ n = omega arith in
+    let W = InitText l in
+    let D = entry (mapped (exact_declaration n d l h) declared Free (λ i o f. tt) (λ i o f. tt)) (λ k. ⊤ × (is_mark mark.Long k ≡ true)) (λ k i. tt) in
+    let A = mapped (exact_up_to mark.Semicolon (exact_assign n d l 0 h low) (assign_is_not mark.Semicolon refl refl l) assign_stops) init_of Free (λ i o f. tt) (λ i o f. tt) in
+    let b = branch (is_mark mark.Long) (widen D W (λ i z s. subst (λ (c : InitTree). W c z) s.1 s.2))
+    (entry (widen A W (λ i z s. subst (λ (c : InitTree). W c z) s.1 (first_assign l s.0 z s.2))) (λ k. ⊤ × (is_mark mark.Long k ≡ false)) (λ k i. tt))
+    (λ i z k s f. declaration_first l s.0 z k s.2)
+    (λ i z k s f. first_no_long l s.0 z k s.2) in
+    rename b W (λ i z s. elim s [ inl k ↦ subst (λ (c : InitTree). W c z) k.1 k.2 | inr k ↦ subst (λ (c : InitTree). W c z) k.1 (first_assign l k.0 z k.2) ]) (λ i z s. init_sides l i z s)
+
+abbrev pub StepText : ℕ → InitTree → Option CondTree → ForHeadTree → Texts
+StepText l i c h = Of (λ (e : Option AssignTree). (i, c, e)) (λ e. OptionText (AssignText 0 l) e ⋅ spells mark.CloseParen) h
+
+abbrev pub TestText : ℕ → InitTree → ForHeadTree → Texts
 TestText l i h z = Both (λ c. OptionText (IsCond l) c ⋅ spells mark.Semicolon) (StepText l i) h z
 
 abbrev pub HeadText : ℕ → ForHeadTree → Texts
-HeadText l h = opens mark.OpenParen 0 ⋅ (λ z. Both (λ i. OptionText (AssignText 0 l) i ⋅ spells mark.Semicolon) (TestText l) h z)
+HeadText l h = opens mark.OpenParen 0 ⋅ (λ z. Both (InitText l) (TestText l) h z)
 
 -- `(;;)`
 pub some_head : (l : ℕ) → (h : ForHeadTree) × (z : Pieces) × HeadText l h z
-some_head l = ((no_init, None, None), _, (_, _, refl, (some_place, refl), (None, (_, _, refl, ([], _, refl, refl, (some_place, refl)), (None, (_, _, refl, ([], _, refl, refl, (some_place, refl)), (None, refl, ([], _, refl, refl, (some_place, refl)))))))))
+some_head l = ((no_init, None, None), _, (_, _, refl, (some_place, refl), (no_init, (_, _, refl, ((some_place, refl), tt), (None, (_, _, refl, ([], _, refl, refl, (some_place, refl)), (None, refl, ([], _, refl, refl, (some_place, refl)))))))))
 
 pub exact_head : (n d l : ℕ) → d + l ≡ n → Exact n IsInner (for_head_at d) Any (HeadText l) (HeadText l) Free
 exact_head n d l h =
     let low : 0 ≤ n = omega arith in
     let A = exact_assign n d l 0 h low in
-    let steps = λ (i : Option AssignTree) (c : Option CondTree). mapped (exact_up_to mark.CloseParen A (assign_is_not mark.CloseParen refl refl l) assign_closes) (λ (e : Option AssignTree). (init_of i, c, e)) Free (λ e o f. tt) (λ e o f. tt) in
-    let tests = λ (i : Option AssignTree). then (exact_up_to mark.Semicolon (exact_cond n d l h) (cond_inside l) cond_stops) (steps i) (TestText l i)
+    let steps = λ (i : InitTree) (c : Option CondTree). mapped (exact_up_to mark.CloseParen A (assign_is_not mark.CloseParen refl refl l) assign_closes) (λ (e : Option AssignTree). (i, c, e)) Free (λ e o f. tt) (λ e o f. tt) in
+    let tests = λ (i : InitTree). then (exact_up_to mark.Semicolon (exact_cond n d l h) (cond_inside l) cond_stops) (steps i) (TestText l i)
     (λ c b y o s f. tt)
-    (λ c z v. ((init_of i, c, None), _, (c, (z, _, refl, v, (None, refl, ([], _, refl, refl, (some_place, refl)))))))
+    (λ c z v. ((i, c, None), _, (c, (z, _, refl, v, (None, refl, ([], _, refl, refl, (some_place, refl)))))))
     (λ c b x y s r. (c, (x, y, refl, s, r))) in
-    let all = then (exact_up_to mark.Semicolon A (assign_is_not mark.Semicolon refl refl l) assign_stops) tests (λ b z. Both (λ i. OptionText (AssignText 0 l) i ⋅ spells mark.Semicolon) (TestText l) b z)
+    let all = then (exact_init n d l h) tests (λ b z. Both (InitText l) (TestText l) b z)
     (λ i b y o s f. tt)
-    (λ i z v. ((init_of i, None, None), _, (i, (z, _, refl, v, (None, (_, _, refl, ([], _, refl, refl, (some_place, refl)), (None, refl, ([], _, refl, refl, (some_place, refl)))))))))
+    (λ i z v. ((i, None, None), _, (i, (z, _, refl, v, (None, (_, _, refl, ([], _, refl, refl, (some_place, refl)), (None, refl, ([], _, refl, refl, (some_place, refl)))))))))
     (λ i b x y s r. (i, (x, y, refl, s, r))) in
     exact_behind mark.OpenParen 0 low all ((some_head l).0, _, (some_head l).2.4)
-
-pub to_init : (l : ℕ) (i : Option AssignTree) (z : Pieces) → (OptionText (AssignText 0 l) i ⋅ spells mark.Semicolon) z → IsInit l (init_of i) z × IsBuiltInit (init_of i)
-to_init l None z (x, y, e, s, m) = (subst (λ (w : Pieces). spells mark.Semicolon w) (sym (e ∙ ap (λ (w : Pieces). w ++ y) s)) m, tt)
-to_init l (Some a) z (x, y, e, s, m) = ((x, y, e, s.0, m), s.1)
-
-pub from_init : (l : ℕ) (i : InitTree) (z : Pieces) → IsInit l i z → IsBuiltInit i → (j : Option AssignTree) × (init_of j ≡ i) × (OptionText (AssignText 0 l) j ⋅ spells mark.Semicolon) z
-from_init l no_init z s h = (None, refl, ([], z, refl, refl, s))
-from_init l (declared d) z s h = absurd h
-from_init l (assigned a) z (x, y, e, s, m) h = (Some a, refl, (x, y, e, (s, h), m))
 
 pub to_test : (l : ℕ) (c : Option CondTree) (z : Pieces) → OptionText (IsCond l) c z → IsForTest l c z
 to_test l None z s = s
@@ -191,7 +214,6 @@ ForRest l i c e R = spells mark.OpenParen ⋅ IsInit l i ⋅ IsForTest l c ⋅ s
 
 pub head_rest : (l : ℕ) (h : ForHeadTree) (R : Texts) (z : Pieces) → (HeadText l h ⋅ R) z → ForRest l h.0 h.1 h.2 R z × IsBuiltInit h.0 × IsBuiltStep h.2
 head_rest l h R z (u, v, k, (p, q, f, s, (i, (a, b, g, si, (c, (x, y, w, (x1, x2, w1, sc, m), (e, same, (y1, y2, w2, se, n))))))), r) =
-    let I = to_init l i a si in
     let E = to_step l e y1 se in
     subst (λ (k : ForHeadTree). ForRest l k.0 k.1 k.2 R z × IsBuiltInit k.0 × IsBuiltStep k.2) same (
       (
@@ -203,7 +225,7 @@ head_rest l h R z (u, v, k, (p, q, f, s, (i, (a, b, g, si, (c, (x, y, w, (x1, x2
           a,
           b ++ v,
           regroup q v a b g,
-          I.0,
+          si.0,
           (
             x1,
             (x2 ++ y) ++ v,
@@ -213,14 +235,13 @@ head_rest l h R z (u, v, k, (p, q, f, s, (i, (a, b, g, si, (c, (x, y, w, (x1, x2
           ),
         ),
       ),
-      I.1,
+      si.1,
       E.1,
     )
 
 pub rest_head : (l : ℕ) (i : InitTree) (c : Option CondTree) (e : Option AssignTree) (R : Texts) (z : Pieces) → ForRest l i c e R z → IsBuiltInit i → IsBuiltStep e → (HeadText l (i, c, e) ⋅ R) z
 rest_head l i c e R z (p, q, f, s, (a, b, g, si, (x1, x2, w1, sc, (y1, y2, w2, m, (x3, x4, w3, se, (y3, v, w4, n, r)))))) hi he =
-    let I = from_init l i a si hi in
-    let t : TestText l I.0 (init_of I.0, c, e) ((x1 ++ y1) ++ (x3 ++ y3)) = (c, (x1 ++ y1, x3 ++ y3, refl, (x1, y1, refl, from_test l c x1 sc, m), (e, refl, (x3, y3, refl, from_step l e x3 se he, n)))) in
-    let head : HeadText l (init_of I.0, c, e) (p ++ (a ++ ((x1 ++ y1) ++ (x3 ++ y3)))) = (p, a ++ ((x1 ++ y1) ++ (x3 ++ y3)), refl, s, (I.0, (a, (x1 ++ y1) ++ (x3 ++ y3), refl, I.2, t))) in
+    let t : TestText l i (i, c, e) ((x1 ++ y1) ++ (x3 ++ y3)) = (c, (x1 ++ y1, x3 ++ y3, refl, (x1, y1, refl, from_test l c x1 sc, m), (e, refl, (x3, y3, refl, from_step l e x3 se he, n)))) in
+    let head : HeadText l (i, c, e) (p ++ (a ++ ((x1 ++ y1) ++ (x3 ++ y3)))) = (p, a ++ ((x1 ++ y1) ++ (x3 ++ y3)), refl, s, (i, (a, (x1 ++ y1) ++ (x3 ++ y3), refl, (si, hi), t))) in
     let whole : z ≡ (p ++ (a ++ ((x1 ++ y1) ++ (x3 ++ y3)))) ++ v = rw (f, g, w1, w2, w3, w4) (simp append_assoc) in
-    (p ++ (a ++ ((x1 ++ y1) ++ (x3 ++ y3))), v, whole, subst (λ (j : InitTree). HeadText l (j, c, e) (p ++ (a ++ ((x1 ++ y1) ++ (x3 ++ y3))))) I.1 head, r)
+    (p ++ (a ++ ((x1 ++ y1) ++ (x3 ++ y3))), v, whole, head, r)

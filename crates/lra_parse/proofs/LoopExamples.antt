@@ -1,11 +1,11 @@
 -- Trees and first faults of sources with loops, found by reading their tokens.
-use Rattle.std.proofs.Common.{◌≡◌, ℕ, ◌+◌, zero, suc, true, [], ◌∷◌, ◌++◌, codes, Some, None, Ok, Err, refl}
+use Rattle.std.proofs.Common.{◌≡◌, ℕ, ◌+◌, zero, suc, true, List, [], ◌∷◌, ◌++◌, codes, Some, None, Ok, Err, refl}
 use Rattle.lra_tree.specs.declared.refusals.Cause.TheVariants.{Syntax, TooDeep}
 use Rattle.lra_tree.specs.declared.tokens.Mark.TheVariants as mark
 use Rattle.lra_tree.specs.declared.tokens.Kind.TheVariants.{Name, Number, End}
 use Rattle.lra_tree.specs.Faults.{IsTree, IsTextFault}
 use Rattle.lra_tree.specs.Built.{Built}
-use Rattle.lra_tree.specs.Trees.{literal, unary, ExprTree, term, value, conjunction, test, CondTree, expression, no_init, StmtTree, nothing, if_only, if_else, while, for, break, return, ItemsTree, no_items, statement, function, FileTree}
+use Rattle.lra_tree.specs.Trees.{literal, unary, ExprTree, term, value, conjunction, test, CondTree, expression, DeclarationTree, no_init, declared, StmtTree, block, nothing, if_only, if_else, while, for, break, return, ItemsTree, no_items, declaration, statement, function, FileTree}
 use Rattle.lra_parse.specs.Reading.{Text, loop}
 use Rattle.lra_parse.specs.Expressions.{unary_at, tests}
 use Rattle.lra_parse.specs.Statements.{levels}
@@ -55,17 +55,28 @@ cut_off_stops = refl
 pub cut_off_head : IsTextFault Built (ended_at cut_off 23) Syntax (in_line 23)
 cut_off_head = text_fault (ended_at cut_off 23) (record { cause = Syntax; left = 1 }) (ends cut_off 23 refl) cut_off_stops (token_at End 23) refl
 
--- int main(void){ for(long i;;) ; }: declarations in heads aren't taken yet
+-- int main(void){ for(long i=0,;;) ; }: a comma asks for another name
 abbrev declares : Text
-declares = main_head (mark_token mark.For 17 ∷ mark_token mark.OpenParen 20 ∷ mark_token mark.Long 21 ∷ token_at (Name (codes "i")) 26 ∷ mark_token mark.Semicolon 27 ∷ mark_token mark.Semicolon 28 ∷ mark_token mark.CloseParen 29
-    ∷ mark_token mark.Semicolon 31 ∷ mark_token mark.CloseBrace 33 ∷ [])
+declares = main_head (mark_token mark.For 17 ∷ mark_token mark.OpenParen 20 ∷ mark_token mark.Long 21 ∷ token_at (Name (codes "i")) 26 ∷ mark_token mark.Assign 27 ∷ token_at (Number 0) 28 ∷ mark_token mark.Comma 29 ∷ mark_token mark.Semicolon 30
+    ∷ mark_token mark.Semicolon 31 ∷ mark_token mark.CloseParen 32 ∷ mark_token mark.Semicolon 34 ∷ mark_token mark.CloseBrace 36 ∷ [])
 
-declares_stops : file_at 63 (ended_at declares 34) ≡ Err (record { cause = Syntax; left = 8 })
+declares_stops : file_at 63 (ended_at declares 37) ≡ Err (record { cause = Syntax; left = 6 })
 unfolding loop unary_at tests levels
 declares_stops = refl
 
-pub declaration_in_head : IsTextFault Built (ended_at declares 34) Syntax (in_line 21)
-declaration_in_head = text_fault (ended_at declares 34) (record { cause = Syntax; left = 8 }) (ends declares 34 refl) declares_stops (mark_token mark.Long 21) refl
+pub unfinished_declaration : IsTextFault Built (ended_at declares 37) Syntax (in_line 30)
+unfinished_declaration = text_fault (ended_at declares 37) (record { cause = Syntax; left = 6 }) (ends declares 37 refl) declares_stops (mark_token mark.Semicolon 30) refl
+
+-- int main(void){ if(1) long i; }: a branch is a statement, and a declaration is none
+abbrev declared_branch : Text
+declared_branch = main_head (mark_token mark.If 17 ∷ mark_token mark.OpenParen 19 ∷ token_at (Number 1) 20 ∷ mark_token mark.CloseParen 21 ∷ mark_token mark.Long 23 ∷ token_at (Name (codes "i")) 28 ∷ mark_token mark.Semicolon 29 ∷ mark_token mark.CloseBrace 31 ∷ [])
+
+declared_branch_stops : file_at 63 (ended_at declared_branch 32) ≡ Err (record { cause = Syntax; left = 5 })
+unfolding loop unary_at tests levels
+declared_branch_stops = refl
+
+pub declaration_as_branch : IsTextFault Built (ended_at declared_branch 32) Syntax (in_line 23)
+declaration_as_branch = text_fault (ended_at declared_branch 32) (record { cause = Syntax; left = 5 }) (ends declared_branch 32 refl) declared_branch_stops (mark_token mark.Long 23) refl
 
 -- int main(void){ for(;;1) ; }: an expression is no step
 abbrev stepless : Text
@@ -104,6 +115,26 @@ jumps_read = refl
 
 pub jumps_found : IsTree Built (ended_at jumps 35) jumps_tree
 jumps_found = tree_found (ended_at jumps 35) [] jumps_tree (ends jumps 35 refl) jumps_read
+
+-- int main(void){ for(long i;;) { long j; ; long k; } }
+abbrev inner : Text
+inner = main_head (mark_token mark.For 17 ∷ mark_token mark.OpenParen 20 ∷ mark_token mark.Long 21 ∷ token_at (Name (codes "i")) 26 ∷ mark_token mark.Semicolon 27 ∷ mark_token mark.Semicolon 28 ∷ mark_token mark.CloseParen 29
+    ∷ mark_token mark.OpenBrace 31 ∷ mark_token mark.Long 33 ∷ token_at (Name (codes "j")) 38 ∷ mark_token mark.Semicolon 39 ∷ mark_token mark.Semicolon 41 ∷ mark_token mark.Long 43 ∷ token_at (Name (codes "k")) 48 ∷ mark_token mark.Semicolon 49
+    ∷ mark_token mark.CloseBrace 51 ∷ mark_token mark.CloseBrace 53 ∷ [])
+
+abbrev one_name : List ℕ → ℕ → DeclarationTree
+one_name word column = record { first = record { name = record { word = word; place = in_line column }; source = None }; rest = [] }
+
+abbrev inner_tree : FileTree
+inner_tree = main_of (statement (for (in_line 17) (declared (one_name (codes "i") 26)) None None
+    (block (declaration (one_name (codes "j") 38) (statement (nothing (in_line 41)) (declaration (one_name (codes "k") 48) no_items))) (in_line 51))) no_items) 53
+
+inner_read : file_at 63 (ended_at inner 54) ≡ Ok (inner_tree, [])
+unfolding loop unary_at tests levels
+inner_read = refl
+
+pub inner_found : IsTree Built (ended_at inner 54) inner_tree
+inner_found = tree_found (ended_at inner 54) [] inner_tree (ends inner 54 refl) inner_read
 
 -- int main(void){ if(1) while(2) for(;;) if(3) ; else ; }: the `else` belongs to the nearest `if`
 abbrev nearest : Text

@@ -1,5 +1,5 @@
 -- Readers of statements as the code takes them.
-use Rattle.std.proofs.Common.{◌≡◌, ℕ, zero, suc, ◌-◌, ◌<◌, Bool, true, false, ◌&&◌, List, [], ◌∷◌, ◌++◌, length, map, None, Ok, Err, refl, sym, ap, ◌∙◌, arith, rules}
+use Rattle.std.proofs.Common.{◌≡◌, ℕ, zero, suc, ◌-◌, ◌<◌, Bool, true, false, cond, List, [], ◌∷◌, ◌++◌, length, map, Ok, Err, refl, sym, ap, ◌∙◌, arith, rules}
 use Rattle.std.proofs.lemmas.List.{map_push}
 use Rattle.lra_tree.specs.declared.refusals.Place.{Place}
 use Rattle.lra_tree.specs.declared.refusals.Cause.TheVariants.{TooDeep}
@@ -13,7 +13,7 @@ use Rattle.lra_tree.specs.declared.trees.BlockItem.TheViews.{roll-Block}
 use Rattle.lra_tree.specs.declared.trees.BlockItem.TheFolds.{fold-roll-Block}
 use Rattle.lra_tree.specs.Trees.{DeclarationTree, StmtTree, ItemsTree, no_items, declaration, statement}
 use Rattle.lra_tree.specs.Views as views
-use Rattle.lra_tree.specs.Views.{cond_view, declaration_view, stmt_view, item_view, block_view, item_step, stmt_step, block_step}
+use Rattle.lra_tree.specs.Views.{declaration_view, stmt_view, item_view, block_view, item_step, stmt_step, block_step}
 use Rattle.lra_parse.specs.declared.reading.Fault.{Fault}
 use Rattle.lra_parse.specs.declared.reading.Stopped.{Stopped}
 use Rattle.lra_parse.specs.declared.reading.Stopped.TheVariants as stopped
@@ -40,10 +40,10 @@ unfolding levels
 block_zero zero T h = refl
 block_zero (suc d) T h = absurd (omega arith)
 
-pub block_some : (d : ℕ) (T : Text) → (d ≡ 0 → ⊥) → block_at d T ≡ body_of (items_at false (d - 1)) T
+pub block_some : (d : ℕ) (T : Text) → (d ≡ 0 → ⊥) → block_at d T ≡ body_of (items_at (d - 1)) T
 unfolding levels
 block_some zero T h = absurd (h refl)
-block_some (suc d) T h = let e : d ≡ suc d - 1 = omega arith in ap (λ (k : ℕ). body_of (items_at false k) T) e
+block_some (suc d) T h = let e : d ≡ suc d - 1 = omega arith in ap (λ (k : ℕ). body_of (items_at k) T) e
 
 pub ruleset branch_rules = (branch_zero, branch_some)
 
@@ -59,20 +59,27 @@ thrice : {A B C D : Type 0} (r : Read A) (f : A → B) (g : B → C) (h : C → 
 thrice (Ok x) f g h = refl
 thrice (Err e) f g h = refl
 
-pub item_declared : (declares : Bool) (d : ℕ) (T : Text) → true ≡ (declares && is_mark mark.Long (first T)) → map_read put (item_at declares d) T ≡ map_read (λ (x : DeclarationTree) (t : ItemsTree). declaration x t) (declaration_at d) T
-item_declared declares d T e = rw (sym e) (twice (declaration_at d T) declared put)
+on_side : {A : Type 0} (b : Bool) (x y : A) → true ≡ b → cond b x y ≡ x
+on_side true x y e = refl
+on_side false x y e = absurd cc
 
-pub item_block : (declares : Bool) (d : ℕ) (T : Text) → false ≡ (declares && is_mark mark.Long (first T)) → true ≡ is_mark mark.OpenBrace (first T) → map_read put (item_at declares d) T ≡ map_read (λ (b : ItemsTree × Place) (t : ItemsTree). statement (block_from b) t) (block_at d) T
-item_block declares d T e f = rw (sym e, sym f) (thrice (block_at d T) block_from stated put)
+pub item_declared : (d : ℕ) (T : Text) → true ≡ is_mark mark.Long (first T) → map_read put (item_at d) T ≡ map_read (λ (x : DeclarationTree) (t : ItemsTree). declaration x t) (declaration_at d) T
+item_declared d T e =
+    let side : item_at d T ≡ map_read declared (declaration_at d) T =
+    on_side (is_mark mark.Long (first T)) (map_read declared (declaration_at d) T) (map_read stated (stated_of (simple_at d) (map_read block_from (block_at d))) T) e in
+    ap (λ (r : Read ItemTree). r >>= (λ x. Ok (put x.0, x.1))) side ∙ twice (declaration_at d T) declared put
 
-pub item_simple : (declares : Bool) (d : ℕ) (T : Text) → false ≡ (declares && is_mark mark.Long (first T)) → false ≡ is_mark mark.OpenBrace (first T) → map_read put (item_at declares d) T ≡ map_read (λ (x : StmtTree) (t : ItemsTree). statement x t) (simple_at d) T
-item_simple declares d T e f = rw (sym e, sym f) (twice (simple_at d T) stated put)
+pub item_block : (d : ℕ) (T : Text) → false ≡ is_mark mark.Long (first T) → true ≡ is_mark mark.OpenBrace (first T) → map_read put (item_at d) T ≡ map_read (λ (b : ItemsTree × Place) (t : ItemsTree). statement (block_from b) t) (block_at d) T
+item_block d T e f = rw (sym e, sym f) (thrice (block_at d T) block_from stated put)
+
+pub item_simple : (d : ℕ) (T : Text) → false ≡ is_mark mark.Long (first T) → false ≡ is_mark mark.OpenBrace (first T) → map_read put (item_at d) T ≡ map_read (λ (x : StmtTree) (t : ItemsTree). statement x t) (simple_at d) T
+item_simple d T e f = rw (sym e, sym f) (twice (simple_at d T) stated put)
 
 pub ruleset item_rules = (item_declared, item_block, item_simple)
 
-pub item_other : (declares : Bool) (d : ℕ) (T R : Text) (t : StmtTree) → false ≡ (declares && is_mark mark.Long (first T)) → false ≡ is_mark mark.OpenBrace (first T) → simple_at d T ≡ Ok (t, R)
-    → map_read put (item_at declares d) T ≡ Ok ((λ (items : ItemsTree). statement t items), R)
-item_other declares d T R t e f g = item_simple declares d T e f ∙ rw g refl
+pub item_other : (d : ℕ) (T R : Text) (t : StmtTree) → false ≡ is_mark mark.Long (first T) → false ≡ is_mark mark.OpenBrace (first T) → simple_at d T ≡ Ok (t, R)
+    → map_read put (item_at d) T ≡ Ok ((λ (items : ItemsTree). statement t items), R)
+item_other d T R t e f g = item_simple d T e f ∙ rw g refl
 
 pub declaration_item : (x : Declaration) → item_view (DeclarationItem x) ≡ (λ (t : ItemsTree). declaration (declaration_view x) t)
 declaration_item x = search (rules, the_lemmas)
@@ -122,56 +129,52 @@ from_list (i ∷ is) = ap (put i) (from_list is)
 pub same_items : (fs : List (ItemsTree → ItemsTree)) (is : List ItemTree) → ArePut fs is → views.items_of fs ≡ items_from is
 same_items fs is h = items_all fs ∙ h no_items ∙ sym (from_list is)
 
-no_end : (b : Bool) → true ≡ begins_item b None → 0 < 0
-no_end true e = absurd cc
-no_end false e = absurd cc
-
 step_ok : (p : Parse ItemTree) (is : List ItemTree) (i : ItemTree) (T R : Text) → p T ≡ Ok (i, R) → list_step p is T ≡ Ok (is ++ i ∷ [], R)
 step_ok p is i T R e = rw e refl
 
 step_err : (p : Parse ItemTree) (is : List ItemTree) (T : Text) (f : Fault) → p T ≡ Err f → list_step p is T ≡ Err f
 step_err p is T f e = rw e refl
 
-module _ (declares : Bool) (d : ℕ) where
+module _ (d : ℕ) where
   -- items that put what the code's items put, and the loop from there on
   abbrev pub State : List BlockItem → Text → Read (List ItemTree) → Type 0
-  State items T result = (is : List ItemTree) × ArePut (map item_view items) is × Left (begins_item declares) (list_step (item_at declares d)) is T result
+  State items T result = (is : List ItemTree) × ArePut (map item_view items) is × Left begins_item (list_step (item_at d)) is T result
 
-  pub state_start : (items : List BlockItem) (T : Text) → items ≡ [] → State items T (items_at declares d T)
+  pub state_start : (items : List BlockItem) (T : Text) → items ≡ [] → State items T (items_at d T)
   state_start items T e = ([], (λ t. ap (λ (is : List BlockItem). put_all (map item_view is) t) e), (length T, omega arith, refl))
 
-  pub state_turn : (items pushed : List BlockItem) (item : BlockItem) (T R : Text) (result : Read (List ItemTree)) → pushed ≡ items ++ item ∷ [] → State items T result → true ≡ begins_item declares (first T)
-      → map_read put (item_at declares d) T ≡ Ok (item_view item, R) → length R < length T → State pushed R result
+  pub state_turn : (items pushed : List BlockItem) (item : BlockItem) (T R : Text) (result : Read (List ItemTree)) → pushed ≡ items ++ item ∷ [] → State items T result → true ≡ begins_item (first T)
+      → map_read put (item_at d) T ≡ Ok (item_view item, R) → length R < length T → State pushed R result
   state_turn items pushed item T R result e (is, h, l) on g less =
-      let i = put_some (item_at declares d T) (item_view item) R g in
-      let s : list_step (item_at declares d) is T ≡ Ok (is ++ i.0 ∷ [], R) = step_ok (item_at declares d) is i.0 T R i.1 in (
+      let i = put_some (item_at d T) (item_view item) R g in
+      let s : list_step (item_at d) is T ≡ Ok (is ++ i.0 ∷ [], R) = step_ok (item_at d) is i.0 T R i.1 in (
         is ++ i.0 ∷ [],
         (λ t. ap (λ (fs : List (ItemsTree → ItemsTree)). put_all fs t) (ap (map item_view) e ∙ map_push item_view items item) ∙ all_last (map item_view items) (item_view item) t ∙ h (item_view item t)
             ∙ ap (λ (f : ItemsTree → ItemsTree). put_list is (f t)) (sym i.2) ∙ sym (put_last is i.0 t)),
-        turn_on (begins_item declares) (list_step (item_at declares d)) is (is ++ i.0 ∷ []) T R result l (sym on) s less,
+        turn_on begins_item (list_step (item_at d)) is (is ++ i.0 ∷ []) T R result l (sym on) s less,
       )
 
-  state_err : (items : List BlockItem) (T : Text) (f : Fault) (result : Read (List ItemTree)) → State items T result → true ≡ begins_item declares (first T) → 0 < length T → map_read put (item_at declares d) T ≡ Err f → result ≡ Err f
+  state_err : (items : List BlockItem) (T : Text) (f : Fault) (result : Read (List ItemTree)) → State items T result → true ≡ begins_item (first T) → 0 < length T → map_read put (item_at d) T ≡ Err f → result ≡ Err f
   state_err items T f result (is, h, l) on some g =
-      let s : list_step (item_at declares d) is T ≡ Err f = step_err (item_at declares d) is T f (put_err (item_at declares d T) f g) in
-      turn_err (begins_item declares) (list_step (item_at declares d)) is T f result l (sym on) some s
+      let s : list_step (item_at d) is T ≡ Err f = step_err (item_at d) is T f (put_err (item_at d T) f g) in
+      turn_err begins_item (list_step (item_at d)) is T f result l (sym on) some s
 
-  pub state_end : (items : List BlockItem) (T : Text) (result : Read (List ItemTree)) → State items T result → false ≡ begins_item declares (first T) → (is : List ItemTree) × ArePut (map item_view items) is × (result ≡ Ok (is, T))
-  state_end items T result (is, h, l) off = (is, h, turn_off (begins_item declares) (list_step (item_at declares d)) is T result l (sym off))
+  pub state_end : (items : List BlockItem) (T : Text) (result : Read (List ItemTree)) → State items T result → false ≡ begins_item (first T) → (is : List ItemTree) × ArePut (map item_view items) is × (result ≡ Ok (is, T))
+  state_end items T result (is, h, l) off = (is, h, turn_off begins_item (list_step (item_at d)) is T result l (sym off))
 
-  nonempty : (T : Text) → true ≡ begins_item declares (first T) → 0 < length T
-  nonempty [] e = no_end declares e
+  nonempty : (T : Text) → true ≡ begins_item (first T) → 0 < length T
+  nonempty [] e = absurd cc
   nonempty (t ∷ T) e = omega arith
 
   -- the exit by `?` in a turn
-  pub body_exit : (items : List BlockItem) (S M T : Text) (e : Stopped) → expect mark.OpenBrace (tt {0}) S ≡ Ok (tt {0}, M) → State items T (items_at declares d M) → true ≡ begins_item declares (first T)
-      → GivesErr e (map_read put (item_at declares d) T) → GivesErr e (body_of (items_at declares d) S)
+  pub body_exit : (items : List BlockItem) (S M T : Text) (e : Stopped) → expect mark.OpenBrace (tt {0}) S ≡ Ok (tt {0}, M) → State items T (items_at d M) → true ≡ begins_item (first T)
+      → GivesErr e (map_read put (item_at d) T) → GivesErr e (body_of (items_at d) S)
   body_exit items S M T stopped.Memory o l on g = tt
-  body_exit items S M T (stopped.Fault f) o l on g = rw (o, state_err items T f (items_at declares d M) l on (nonempty T on) g) refl
+  body_exit items S M T (stopped.Fault f) o l on g = rw (o, state_err items T f (items_at d M) l on (nonempty T on) g) refl
 
   -- the end
-  pub body_closes : (items : List BlockItem) (S M T : Text) → expect mark.OpenBrace (tt {0}) S ≡ Ok (tt {0}, M) → State items T (items_at declares d M) → false ≡ begins_item declares (first T)
-      → body_of (items_at declares d) S ≡ map_read (λ (end : Place). (views.items_of (map item_view items), end)) (expect_at mark.CloseBrace) T
+  pub body_closes : (items : List BlockItem) (S M T : Text) → expect mark.OpenBrace (tt {0}) S ≡ Ok (tt {0}, M) → State items T (items_at d M) → false ≡ begins_item (first T)
+      → body_of (items_at d) S ≡ map_read (λ (end : Place). (views.items_of (map item_view items), end)) (expect_at mark.CloseBrace) T
   body_closes items S M T o l off =
-      let s = state_end items T (items_at declares d M) l off in
+      let s = state_end items T (items_at d M) l off in
       rw (o, s.2) (ap (λ (i : ItemsTree). map_read (λ (end : Place). (i, end)) (expect_at mark.CloseBrace) T) (sym (same_items (map item_view items) s.0 s.1)))

@@ -60,7 +60,7 @@ function_of h b = record { has_result = h.0; name = h.1; parameters = []; body =
 
 -- no parameters, and the body
 abbrev pub read_rest : ℕ → Parse (ItemsTree × Place)
-read_rest d = behind mark.CloseParen (body_of (items_at true d))
+read_rest d = behind mark.CloseParen (body_of (items_at d))
 
 -- d levels are left inside
 abbrev pub function_at : ℕ → Parse FunctionTree

@@ -1,5 +1,5 @@
 -- Readers of assignments, declarations and statements. d levels of nesting are left.
-use Rattle.std.specs.Prelude.{◌≡◌, ℕ, zero, suc, Bool, true, false, cond, ◌||◌, ◌&&◌, List, [], ◌∷◌, Option, Some, None, Ok, option_map}
+use Rattle.std.specs.Prelude.{◌≡◌, ℕ, zero, suc, Bool, true, cond, ◌||◌, List, [], ◌∷◌, Option, Some, None, Ok, option_map}
 use Rattle.lra_tree.specs.declared.refusals.Place.{Place}
 use Rattle.lra_tree.specs.declared.refusals.Cause.TheVariants.{Syntax, TooDeep}
 use Rattle.lra_tree.specs.declared.tokens.Mark.{Mark}
@@ -10,7 +10,7 @@ use Rattle.lra_tree.specs.declared.trees.Operator.{Operator}
 use Rattle.lra_tree.specs.declared.trees.Operator.TheVariants as operator
 use Rattle.lra_tree.specs.declared.trees.Step.{Step}
 use Rattle.lra_tree.specs.declared.trees.Step.TheVariants as step
-use Rattle.lra_tree.specs.Trees.{CondTree, SourceTree, expression, AssignTree, set, update, after, before, DeclaratorTree, DeclarationTree, InitTree, no_init, assigned, StmtTree, block, nothing, assign, if_only, if_else, while, for, break, continue, return, assert, assume, ItemsTree, no_items, declaration, statement}
+use Rattle.lra_tree.specs.Trees.{CondTree, SourceTree, expression, AssignTree, set, update, after, before, DeclaratorTree, DeclarationTree, InitTree, no_init, assigned, declared as declared_first, StmtTree, block, nothing, assign, if_only, if_else, while, for, break, continue, return, assert, assume, ItemsTree, no_items, declaration, statement}
 use Rattle.lra_tree.specs.Views.{operator_view, step_view}
 use Rattle.lra_parse.specs.Tests.{first, is_mark}
 use Rattle.lra_parse.specs.Reading.{Text, Parse, stop, seq, map_read, done_with, tail, expect, expect_at, place_of, take_by, next_name, has, one_of, list_of}
@@ -124,11 +124,14 @@ abbrev pub init_of : Option AssignTree → InitTree
 init_of None = no_init
 init_of (Some a) = assigned a
 
+-- what a loop begins with, and the semicolon behind it
+abbrev pub init_at : ℕ → Parse InitTree
+init_at d T = cond (is_mark mark.Long (first T)) (map_read declared_first (declaration_at d) T) (map_read init_of (up_to mark.Semicolon (assign_at d)) T)
+
 -- the parentheses of a `for`: its beginning, its test and its step
 abbrev pub for_head_at : ℕ → Parse (InitTree × Option CondTree × Option AssignTree)
 for_head_at d =
-    behind mark.OpenParen (seq (up_to mark.Semicolon (assign_at d))
-    (λ i. seq (up_to mark.Semicolon (cond_at d)) (λ c. map_read (λ e. (init_of i, c, e)) (up_to mark.CloseParen (assign_at d)))))
+    behind mark.OpenParen (seq (init_at d) (λ i. seq (up_to mark.Semicolon (cond_at d)) (λ c. map_read (λ e. (i, c, e)) (up_to mark.CloseParen (assign_at d)))))
 
 abbrev pub for_of : Place → InitTree × Option CondTree × Option AssignTree → StmtTree → StmtTree
 for_of at h b = for at h.0 h.1 h.2 b
@@ -182,20 +185,18 @@ abbrev pub items_from : List ItemTree → ItemsTree
 items_from [] = no_items
 items_from (i ∷ is) = put i (items_from is)
 
--- whether declarations are items here
-abbrev pub begins_item : Bool → Option Token → Bool
-begins_item declares o = begins_stmt o || (declares && is_mark mark.Long o)
+abbrev pub begins_item : Option Token → Bool
+begins_item o = begins_stmt o || is_mark mark.Long o
 
 abbrev pub stated_of : Parse StmtTree → Parse StmtTree → Parse StmtTree
 stated_of simple inner T = cond (is_mark mark.OpenBrace (first T)) (inner T) (simple T)
 
 -- inner reads a block
-abbrev pub item_of : Bool → ℕ → Parse StmtTree → Parse StmtTree → Parse ItemTree
-item_of declares d simple inner T =
-    cond (declares && is_mark mark.Long (first T)) (map_read declared (declaration_at d) T) (map_read stated (stated_of simple inner) T)
+abbrev pub item_of : ℕ → Parse StmtTree → Parse StmtTree → Parse ItemTree
+item_of d simple inner T = cond (is_mark mark.Long (first T)) (map_read declared (declaration_at d) T) (map_read stated (stated_of simple inner) T)
 
-abbrev pub items_of : Bool → ℕ → Parse StmtTree → Parse StmtTree → Parse (List ItemTree)
-items_of declares d simple inner = list_of (begins_item declares) (item_of declares d simple inner)
+abbrev pub items_of : ℕ → Parse StmtTree → Parse StmtTree → Parse (List ItemTree)
+items_of d simple inner = list_of begins_item (item_of d simple inner)
 
 abbrev pub body_of : Parse (List ItemTree) → Parse (ItemsTree × Place)
 body_of items = behind mark.OpenBrace (seq items (λ is. map_read (λ end. (items_from is, end)) (expect_at mark.CloseBrace)))
@@ -211,8 +212,8 @@ too_deep T = cond (begins_stmt (first T)) (stop TooDeep T) (stop Syntax T)
 unfoldable pub levels : ℕ → Parse StmtTree × Parse (ItemsTree × Place)
 levels zero = (too_deep, (λ T. stop TooDeep T))
 levels (suc d) = (
-  stated_of (simple_of d (levels d).0) (map_read block_from (body_of (items_of false d (simple_of d (levels d).0) (map_read block_from (levels d).1)))),
-  body_of (items_of false d (simple_of d (levels d).0) (map_read block_from (levels d).1)),
+  stated_of (simple_of d (levels d).0) (map_read block_from (body_of (items_of d (simple_of d (levels d).0) (map_read block_from (levels d).1)))),
+  body_of (items_of d (simple_of d (levels d).0) (map_read block_from (levels d).1)),
 )
 
 abbrev pub branch_at : ℕ → Parse StmtTree
@@ -224,11 +225,11 @@ block_at d = (levels d).1
 abbrev pub simple_at : ℕ → Parse StmtTree
 simple_at d = simple_of d (branch_at d)
 
-abbrev pub item_at : Bool → ℕ → Parse ItemTree
-item_at declares d = item_of declares d (simple_at d) (map_read block_from (block_at d))
+abbrev pub item_at : ℕ → Parse ItemTree
+item_at d = item_of d (simple_at d) (map_read block_from (block_at d))
 
-abbrev pub items_at : Bool → ℕ → Parse (List ItemTree)
-items_at declares d = list_of (begins_item declares) (item_at declares d)
+abbrev pub items_at : ℕ → Parse (List ItemTree)
+items_at d = list_of begins_item (item_at d)
 
 -- items, as what they put before the items behind them -------------------------------------------------------------------
 

@@ -54,7 +54,7 @@ fn read_function(alloc: Global, rest: &[Token]) -> Result<(Function, &[Token]), 
     let ((has_result, name), head) = read_head(alloc, rest)?;
     let opened = expect(head, Mark::OpenParen)?;
     let closed = expect(skip(opened, Mark::Void), Mark::CloseParen)?;
-    let (body, after) = read_body(alloc, closed, 63, true)?;
+    let (body, after) = read_body(alloc, closed, 63)?;
     let parameters = Parameters {
         items: Vec::new(alloc),
     };

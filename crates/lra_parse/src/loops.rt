@@ -8,11 +8,11 @@ ghost use Rattle.lra_tree.specs.declared.tokens.Mark.TheVariants.{Break, Continu
 ghost use Rattle.lra_parse.specs.Tests.{first, is_loop, is_jump};
 ghost use Rattle.lra_parse.specs.Reading.{Gives};
 ghost use Rattle.lra_parse.specs.Expressions.{cond_at};
-ghost use Rattle.lra_parse.specs.Statements.{source_at, assign_at, up_to, init_of, for_of, for_head_at};
+ghost use Rattle.lra_parse.specs.Statements.{source_at, assign_at, up_to, init_of, init_at, for_of, for_head_at};
 ghost use Rattle.lra_parse.specs.Statements.{read_jump, read_return};
 ghost use Rattle.lra_parse.specs.Heads.{head_view};
 
-use crate::assignments::{read_assign, read_source};
+use crate::assignments::{read_assign, read_declaration, read_source};
 use crate::conditions::read_cond;
 use crate::reading::{Stopped, expect, expect_at, next_is, tail};
 use lra_tree::{Assign, Cond, Init, Mark, Place, Source, Stmt, Token};
@@ -103,7 +103,7 @@ fn read_test_to(
     Ok((Some(cond), after))
 }
 
-/// What a loop begins with.
+/// The assignment that a loop begins with, or nothing.
 fn init_of(assign: Option<Assign>) -> Init
     ensures { init_view result ≡ init_of (option_map assign_view assign) }
 {
@@ -111,6 +111,19 @@ fn init_of(assign: Option<Assign>) -> Init
         Some(assign) => Init::Assign(assign),
         None => Init::Nothing,
     }
+}
+
+/// What a loop begins with, and the semicolon behind it.
+fn read_init(alloc: Global, rest: &[Token], depth: usize) -> Result<(Init, &[Token]), Stopped>
+    ensures shorter { IfOk result (λ r. length r.1.now ≤ length rest.now) }
+    ensures gives { Gives (λ r. (init_view r.0, r.1.now)) result (init_at depth rest.now) }
+{
+    if next_is(rest, Mark::Long) {
+        let (declaration, after) = read_declaration(alloc, rest, depth)?;
+        return Ok((Init::Declaration(declaration), after));
+    }
+    let (assign, behind) = read_assign_to(alloc, rest, depth, Mark::Semicolon)?;
+    Ok((init_of(assign), behind))
 }
 
 /// The parentheses of a `for`, and what stands between.
@@ -123,8 +136,7 @@ pub fn read_for_head(
     ensures gives { Gives (λ r. (head_view r.0, r.1.now)) result (for_head_at depth rest.now) }
 {
     let opened = expect(rest, Mark::OpenParen)?;
-    let (first, begun) = read_assign_to(alloc, opened, depth, Mark::Semicolon)?;
-    let init = init_of(first);
+    let (init, begun) = read_init(alloc, opened, depth)?;
     let (test, tested) = read_test_to(alloc, begun, depth)?;
     let (step, closed) = read_assign_to(alloc, tested, depth, Mark::CloseParen)?;
     Ok((ForHead { init, test, step }, closed))

@@ -1,10 +1,10 @@
 //! Statements. A function reads where `depth` levels of nesting are left.
 
-ghost use Rattle.std.specs.Prelude.{◌≡◌, ◌<◌, ◌≤◌, ◌&&◌, length, map, IfOk};
+ghost use Rattle.std.specs.Prelude.{◌≡◌, ◌<◌, ◌≤◌, length, map, IfOk};
 ghost use Rattle.lra_tree.specs.Views.{cond_view, stmt_view, item_view, items_of, block_view};
 ghost use Rattle.lra_tree.specs.Trees.{assert, assume};
-ghost use Rattle.lra_tree.specs.declared.tokens.Mark.TheVariants.{Long, Assert, Assume, CloseBrace};
-ghost use Rattle.lra_parse.specs.Tests.{first, is_mark};
+ghost use Rattle.lra_tree.specs.declared.tokens.Mark.TheVariants.{Assert, Assume, CloseBrace};
+ghost use Rattle.lra_parse.specs.Tests.{first};
 ghost use Rattle.lra_parse.specs.Reading.{Gives, expect_at, map_read, has};
 ghost use Rattle.lra_parse.specs.Reading.{next_name};
 ghost use Rattle.lra_parse.specs.Expressions.{in_parens, cond_at};
@@ -70,24 +70,14 @@ fn begins_stmt(rest: &[Token]) -> bool
     next_is_name(rest)
 }
 
-// Whether the next token begins a declaration, where one may stand.
-fn begins_declaration(rest: &[Token], declares: bool) -> bool
-    ensures { result ≡ (declares && is_mark Long (first rest.now)) }
-{
-    if declares {
-        return next_is(rest, Mark::Long);
-    }
-    false
-}
-
 // Whether the next token begins an item of a block.
-fn begins_item(rest: &[Token], declares: bool) -> bool
-    ensures { result ≡ begins_item declares (first rest.now) }
+fn begins_item(rest: &[Token]) -> bool
+    ensures { result ≡ begins_item (first rest.now) }
 {
     if begins_stmt(rest) {
         return true;
     }
-    begins_declaration(rest, declares)
+    next_is(rest, Mark::Long)
 }
 
 /// `;`
@@ -181,7 +171,7 @@ fn read_block(alloc: Global, rest: &[Token], depth: usize) -> Result<(Block, &[T
     if depth == 0 {
         return stop(Cause::TooDeep, rest);
     }
-    read_body(alloc, rest, depth - 1, false)
+    read_body(alloc, rest, depth - 1)
 }
 
 /// What comes behind the first branch of an `if`.
@@ -280,19 +270,14 @@ fn read_simple(alloc: Global, rest: &[Token], depth: usize) -> Result<(Stmt, &[T
     read_assigned(alloc, rest, depth)
 }
 
-/// An item of a block: a declaration where one may stand, or a statement.
+/// An item of a block: a declaration or a statement.
 #[cycle(statement)]
 #[tactic(auto, using(crate::proofs::Stated::item_rules))]
-fn read_item(
-    alloc: Global,
-    rest: &[Token],
-    depth: usize,
-    declares: bool,
-) -> Result<(BlockItem, &[Token]), Stopped>
+fn read_item(alloc: Global, rest: &[Token], depth: usize) -> Result<(BlockItem, &[Token]), Stopped>
     ensures shorter { IfOk result (λ r. length r.1.now < length rest.now) }
-    ensures gives { Gives (λ r. (item_view r.0, r.1.now)) result (map_read put (item_at declares depth) rest.now) }
+    ensures gives { Gives (λ r. (item_view r.0, r.1.now)) result (map_read put (item_at depth) rest.now) }
 {
-    if begins_declaration(rest, declares) {
+    if next_is(rest, Mark::Long) {
         let (declaration, after) = read_declaration(alloc, rest, depth)?;
         return Ok((BlockItem::Declaration(declaration), after));
     }
@@ -304,21 +289,16 @@ fn read_item(
     Ok((BlockItem::Statement(stmt), left))
 }
 
-/// Items with the braces round them; declarations are items where `declares` says so.
+/// Items with the braces round them.
 #[cycle(statement)]
-pub fn read_body(
-    alloc: Global,
-    rest: &[Token],
-    depth: usize,
-    declares: bool,
-) -> Result<(Block, &[Token]), Stopped>
+pub fn read_body(alloc: Global, rest: &[Token], depth: usize) -> Result<(Block, &[Token]), Stopped>
     ensures shorter { IfOk result (λ r. length r.1.now < length rest.now) }
-    ensures gives { Gives (λ r. (block_view r.0, r.1.now)) result (body_of (items_at declares depth) rest.now) }
+    ensures gives { Gives (λ r. (block_view r.0, r.1.now)) result (body_of (items_at depth) rest.now) }
 {
     let mut left = expect(rest, Mark::OpenBrace)?;
     let mut items = Vec::new(alloc);
-    'items: while begins_item(left, declares) {
-        let (item, after) = read_item(alloc, left, depth, declares)?;
+    'items: while begins_item(left) {
+        let (item, after) = read_item(alloc, left, depth)?;
         items.push(item)?;
         left = after;
     }

@@ -34,8 +34,12 @@ endless_taken : IsBuiltStmt (for (at 17) no_init None None (nothing (at 25)))
 endless_taken = (tt, tt, tt)
 
 -- for(long x;;) ;
-declared_not_taken : (c : Option CondTree) (e : Option AssignTree) (b : StmtTree) → IsBuiltStmt (for (at 17) (declared (declared_as (x_at 26) None)) c e b) → ⊥
-declared_not_taken c e b h = absurd h.0
+declared_taken : IsBuiltStmt (for (at 17) (declared (declared_as (x_at 26) None)) None None (nothing (at 30)))
+declared_taken = ((tt, tt), tt, tt)
+
+-- for(long x=f();;) ;
+called_beginning_not_taken : (c : Option CondTree) (e : Option AssignTree) (b : StmtTree) → IsBuiltStmt (for (at 17) (declared (declared_as (x_at 26) (Some (result (call_of (name_at (codes "f") 28) []))))) c e b) → ⊥
+called_beginning_not_taken c e b h = absurd h.0.0
 
 -- for(;;x=f()) ;
 called_step_not_taken : (i : InitTree) (b : StmtTree) → IsBuiltStmt (for (at 17) i None (Some (set (x_at 23) (result (call_of (name_at (codes "f") 25) [])))) b) → ⊥
@@ -45,6 +49,10 @@ called_step_not_taken i b h = absurd h.1
 called_result_not_taken : IsBuiltStmt (return (at 17) (Some (result (call_of (name_at (codes "f") 24) [])))) → ⊥
 called_result_not_taken h = absurd h
 
--- { long x; } inside a body
-inner_declaration_not_taken : IsBuiltStmt (block (declaration (declared_as (x_at 24) None) no_items) (at 27)) → ⊥
-inner_declaration_not_taken h = absurd h
+-- { long x; { long x=1; } } inside a body
+inner_declarations_taken : IsBuiltStmt (block (declaration (declared_as (x_at 24) None) (statement (block (declaration (declared_as (x_at 34) (Some (expression (number 1)))) no_items) (at 39)) no_items)) (at 41))
+inner_declarations_taken = ((tt, tt), (((tt, tt), tt), tt))
+
+-- { long x=f(); } inside a body
+called_declaration_not_taken : IsBuiltStmt (block (declaration (declared_as (x_at 24) (Some (result (call_of (name_at (codes "f") 26) [])))) no_items) (at 31)) → ⊥
+called_declaration_not_taken h = absurd h.0.0

@@ -1,6 +1,5 @@
 -- The part of the grammar that is taken today. The other productions are empty cases of it until they come, so their
--- first token is at fault: functions but `main`, globals, prototypes, calls, and declarations in the head of a `for` or in
--- a block inside a function's body.
+-- first token is at fault: functions but `main`, globals, prototypes and calls.
 use Rattle.std.specs.Prelude.{◌≡◌, [], ◌∷◌, codes, Option, Some, None, ⊤}
 use Rattle.std.specs.List.{AllByRecursion}
 use Rattle.lra_tree.specs.Trees.{SourceTree, expression, result, AssignTree, set, update, after, before, DeclaratorTree, DeclarationTree, InitTree, no_init, declared, assigned, StmtTree, block, nothing, assign, call, if_only, if_else, while, for, break, continue, return, assert, assume, ItemsTree, no_items, declaration, statement, FunctionTree, PartTree, prototype, globals, function}
@@ -22,22 +21,22 @@ abbrev pub IsBuiltGiven : Option SourceTree → Type 0
 IsBuiltGiven None = ⊤
 IsBuiltGiven (Some e) = IsBuiltSource e
 
+abbrev pub IsBuiltDeclaration : DeclarationTree → Type 0
+IsBuiltDeclaration d = AllByRecursion (λ (x : DeclaratorTree). IsBuiltGiven x.source) (d.first ∷ d.rest)
+
 -- the head of a `for`
 abbrev pub IsBuiltInit : InitTree → Type 0
 IsBuiltInit no_init = ⊤
-IsBuiltInit (declared d) = ⊥
+IsBuiltInit (declared d) = IsBuiltDeclaration d
 IsBuiltInit (assigned a) = IsBuiltAssign a
 
 abbrev pub IsBuiltStep : Option AssignTree → Type 0
 IsBuiltStep None = ⊤
 IsBuiltStep (Some a) = IsBuiltAssign a
 
-abbrev pub IsBuiltDeclaration : DeclarationTree → Type 0
-IsBuiltDeclaration d = AllByRecursion (λ (x : DeclaratorTree). IsBuiltGiven x.source) (d.first ∷ d.rest)
-
 abbrev mutual
   pub IsBuiltStmt : StmtTree → Type 0
-  IsBuiltStmt (block items end) = AreBuiltStmts items
+  IsBuiltStmt (block items end) = AreBuiltItems items
   IsBuiltStmt (nothing at) = ⊤
   IsBuiltStmt (assign a) = IsBuiltAssign a
   IsBuiltStmt (call c) = ⊥
@@ -51,17 +50,11 @@ abbrev mutual
   IsBuiltStmt (assert at c) = ⊤
   IsBuiltStmt (assume at c) = ⊤
 
-  -- a block inside a function's body holds statements alone
-  pub AreBuiltStmts : ItemsTree → Type 0
-  AreBuiltStmts no_items = ⊤
-  AreBuiltStmts (declaration d items) = ⊥
-  AreBuiltStmts (statement t items) = IsBuiltStmt t × AreBuiltStmts items
-
--- the items of a function's body
-abbrev pub AreBuiltItems : ItemsTree → Type 0
-AreBuiltItems no_items = ⊤
-AreBuiltItems (declaration d items) = IsBuiltDeclaration d × AreBuiltItems items
-AreBuiltItems (statement t items) = IsBuiltStmt t × AreBuiltItems items
+  -- the items of a block, and of a function's body
+  pub AreBuiltItems : ItemsTree → Type 0
+  AreBuiltItems no_items = ⊤
+  AreBuiltItems (declaration d items) = IsBuiltDeclaration d × AreBuiltItems items
+  AreBuiltItems (statement t items) = IsBuiltStmt t × AreBuiltItems items
 
 -- `main` without parameters
 pub record IsBuiltFunction (f : FunctionTree) : Type 0 where

@@ -33,7 +33,7 @@ decreases-read_body l = 9 * l.depth + 8
 abbrev pub invariant-read_body-items : goal.invariant-read_body-items
 invariant-read_body-items l = record {
   room : length l.left < length l.fn.rest;
-  state : State l.fn.declares l.fn.depth l.items.items l.left (items_at l.fn.declares l.fn.depth l.initial.left);
+  state : State l.fn.depth l.items.items l.left (items_at l.fn.depth l.initial.left);
 }
 
 abbrev pub decreases-read_body-items : goal.decreases-read_body-items
