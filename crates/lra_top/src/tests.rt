@@ -491,10 +491,10 @@ static ANSWERS: [(&str, Pieces, (u64, u64), Status, &str); 84] = [
     ),
     (
         BOXES,
-        ("int main(void){{long x;}}", "", 0, ""),
+        ("int main(void){ if(1) long x; }", "", 0, ""),
         SOUND,
         Status::Refused,
-        "refused 4 Syntax at 1:17\n",
+        "refused 4 Syntax at 1:23\n",
     ),
     (
         BOXES,
@@ -529,7 +529,7 @@ static ANSWERS: [(&str, Pieces, (u64, u64), Status, &str); 84] = [
         ("int main(void){ for(long i=0;", "", 0, ""),
         SOUND,
         Status::Refused,
-        "refused 4 Syntax at 1:21\n",
+        "refused 4 Syntax at 1:30\n",
     ),
     (
         BOXES,
@@ -672,7 +672,7 @@ static ANSWERS: [(&str, Pieces, (u64, u64), Status, &str); 84] = [
 ];
 
 /// Words, a source whose assertions are all proved, and lines of its report.
-static LINES: [(&str, Pieces, &str); 40] = [
+static LINES: [(&str, Pieces, &str); 43] = [
     (
         "lra analyse --domain=box",
         PROVED,
@@ -870,6 +870,37 @@ static LINES: [(&str, Pieces, &str); 40] = [
         BOXES,
         NESTED,
         "point 14 main 1:115\n  row a = 5\n  row b >= 0\n  row b <= 3\n",
+    ),
+    // variables of inner blocks and of the head of a `for` hide those outside, and end there
+    (
+        BOXES,
+        (
+            "int main(void){ long x=1; { long x=2; x=x+1; } assert(x==1); }",
+            "",
+            0,
+            "",
+        ),
+        "point 3 main 1:39\n  row x~1 = 1\n  row x = 2\n",
+    ),
+    (
+        BOXES,
+        (
+            "int main(void){ long s=0; for(long i=0;i<4;i++){ long s=i; if(s>1) break; } assert(s==0); }",
+            "",
+            0,
+            "",
+        ),
+        "point 2 main 1:27\n  row s = 0\n  row i >= 0\n  row i <= 4\npoint 3 main 1:36\n  row s = 0\n",
+    ),
+    (
+        BOXES,
+        (
+            "int main(void){ long s=0; for(long i=0;i<4;i++){ long s=i; if(s>1) break; } assert(s==0); }",
+            "",
+            0,
+            "",
+        ),
+        "point 7 main 1:68\n  row s~1 = 0\n  row i >= 0\n  row i <= 3\n  row s >= 2\n  row s <= 3\n",
     ),
     // the step follows `continue`; the nearest if has the else, through loops too; behind a `return` nothing is reached
     (
