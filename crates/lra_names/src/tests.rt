@@ -5,7 +5,7 @@ use crate::functions::resolve;
 use lra_tree::program::{BlockItem as ProgramItem, Slot, Stmt as ProgramStmt};
 use lra_tree::{
     Arguments, Assign, Block, BlockItem, Call, Cause, Declaration, Declarator, Function, Global,
-    Globals, Identifier, Item, Parameters, Place, Refusal, Source, Step, Stmt, Tree, Word,
+    Globals, Identifier, Init, Item, Parameters, Place, Refusal, Source, Step, Stmt, Tree, Word,
 };
 use std::alloc::AllocError;
 use std::test::Fail;
@@ -19,6 +19,8 @@ enum Body {
     Break,
     /// `continue;`
     Continue,
+    /// `for (;;) break;`
+    Loop,
     /// `int x, x;`
     Declare,
     /// `x++;`
@@ -92,6 +94,17 @@ fn declaration(rt: &HostRuntime, line: u32) -> Result<Declaration, AllocError> {
     })
 }
 
+/// `for (;;) break;`
+fn endless(rt: &HostRuntime, line: u32) -> Result<Stmt, AllocError> {
+    let column = STATEMENT;
+    let leave = Stmt::Break(Place {
+        line,
+        column: SECOND,
+    });
+    let body = Box::new(rt.alloc(), leave)?;
+    Ok(Stmt::For(Place { line, column }, Init::Nothing, None, None, body))
+}
+
 fn item(rt: &HostRuntime, line: u32, body: Body) -> Result<BlockItem, AllocError> {
     let place = Place {
         line,
@@ -101,6 +114,7 @@ fn item(rt: &HostRuntime, line: u32, body: Body) -> Result<BlockItem, AllocError
         Body::Nothing => Ok(BlockItem::Statement(Stmt::Nothing(place))),
         Body::Break => Ok(BlockItem::Statement(Stmt::Break(place))),
         Body::Continue => Ok(BlockItem::Statement(Stmt::Continue(place))),
+        Body::Loop => Ok(BlockItem::Statement(endless(rt, line)?)),
         Body::Declare => Ok(BlockItem::Declaration(declaration(rt, line)?)),
         Body::Count => {
             let x = identifier(rt, "x", line, STATEMENT)?;
@@ -185,7 +199,7 @@ fn a_source_has_its_program(rt: HostRuntime) -> Result<(), Fail> {
 
 #[test]
 fn a_source_is_refused_at_its_first_fault(rt: HostRuntime) -> Result<(), Fail> {
-    use Body::{Break, Call, Continue, Count, Declare, Nothing, Return};
+    use Body::{Break, Call, Continue, Count, Declare, Loop, Nothing, Return};
     use Part::{Function, Global, Prototype};
     let main = Function(true, "main", 0, Nothing);
     for (first, second, cause, line, column) in [
@@ -252,6 +266,20 @@ fn a_source_is_refused_at_its_first_fault(rt: HostRuntime) -> Result<(), Fail> {
             Function(true, "main", 0, Continue),
             Cause::Misplaced,
             2,
+            STATEMENT,
+        ),
+        (
+            Function(false, "f", 0, Loop),
+            Function(true, "main", 0, Break),
+            Cause::Misplaced,
+            2,
+            STATEMENT,
+        ),
+        (
+            Function(false, "f", 0, Continue),
+            Function(true, "main", 0, Count),
+            Cause::Misplaced,
+            1,
             STATEMENT,
         ),
         (
