@@ -175,8 +175,8 @@ fn read_returned(
         return Ok((None, tail(rest)));
     }
     let (source, behind) = read_source(alloc, rest, depth)?;
-    let after = expect(behind, Mark::Semicolon)?;
-    Ok((Some(source), after))
+    let end = expect(behind, Mark::Semicolon)?;
+    Ok((Some(source), end))
 }
 
 /// `return;`, or with what it gives.
