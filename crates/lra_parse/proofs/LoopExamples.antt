@@ -3,9 +3,11 @@ use Rattle.std.proofs.Common.{◌≡◌, ℕ, ◌+◌, zero, suc, true, List, []
 use Rattle.lra_tree.specs.declared.refusals.Cause.TheVariants.{Syntax, TooDeep}
 use Rattle.lra_tree.specs.declared.tokens.Mark.TheVariants as mark
 use Rattle.lra_tree.specs.declared.tokens.Kind.TheVariants.{Name, Number, End}
+use Rattle.lra_tree.specs.declared.trees.Identifier.{Identifier}
+use Rattle.lra_tree.specs.Program.{below}
 use Rattle.lra_tree.specs.Faults.{IsTree, IsTextFault}
 use Rattle.lra_tree.specs.Built.{Built}
-use Rattle.lra_tree.specs.Trees.{literal, unary, ExprTree, term, value, conjunction, test, CondTree, expression, DeclarationTree, no_init, declared, StmtTree, block, nothing, if_only, if_else, while, for, break, return, ItemsTree, no_items, declaration, statement, function, FileTree}
+use Rattle.lra_tree.specs.Trees.{literal, unary, ExprTree, term, value, conjunction, test, CondTree, expression, DeclarationTree, no_init, declared, StmtTree, block, nothing, if_only, if_else, while, for, break, return, ItemsTree, no_items, declaration, statement, function, FileTree, variable, compare, set, increment, before, assigned, continue}
 use Rattle.lra_parse.specs.Reading.{Text, loop}
 use Rattle.lra_parse.specs.Expressions.{unary_at, tests}
 use Rattle.lra_parse.specs.Statements.{levels}
@@ -24,6 +26,9 @@ ends T column e = record { front = T; last = token_at End column; parts = refl; 
 abbrev main_of : ItemsTree → ℕ → FileTree
 main_of body column =
     record { parts = function (record { has_result = true; name = record { word = codes "main"; place = in_line 5 }; parameters = []; body = body; end = in_line column }) ∷ []; end = in_line (column + 1) }
+
+abbrev x_at : ℕ → Identifier
+x_at column = record { word = codes "x"; place = in_line column }
 
 abbrev number : ℕ → ExprTree
 number n = term (unary (literal n))
@@ -135,6 +140,22 @@ inner_read = refl
 
 pub inner_found : IsTree Built (ended_at inner 54) inner_tree
 inner_found = tree_found (ended_at inner 54) [] inner_tree (ends inner 54 refl) inner_read
+
+-- int main(void){ for(x=0;x<9;++x) continue; return; }
+abbrev whole_for : Text
+whole_for = main_head (mark_token mark.For 17 ∷ mark_token mark.OpenParen 20 ∷ token_at (Name (codes "x")) 21 ∷ mark_token mark.Assign 22 ∷ token_at (Number 0) 23 ∷ mark_token mark.Semicolon 24 ∷ token_at (Name (codes "x")) 25 ∷ mark_token mark.Less 26 ∷ token_at (Number 9) 27
+    ∷ mark_token mark.Semicolon 28 ∷ mark_token mark.Increment 29 ∷ token_at (Name (codes "x")) 31 ∷ mark_token mark.CloseParen 32 ∷ mark_token mark.Continue 34 ∷ mark_token mark.Semicolon 42 ∷ mark_token mark.Return 44 ∷ mark_token mark.Semicolon 50 ∷ mark_token mark.CloseBrace 52 ∷ [])
+
+abbrev whole_for_tree : FileTree
+whole_for_tree = main_of (statement (for (in_line 17) (assigned (set (x_at 21) (expression (number 0)))) (Some (conjunction (test (compare (term (unary (variable (x_at 25)))) below (number 9))))) (Some (before (in_line 29) increment (x_at 31))) (continue (in_line 34)))
+    (statement (return (in_line 44) None) no_items)) 52
+
+whole_for_read : file_at 63 (ended_at whole_for 53) ≡ Ok (whole_for_tree, [])
+unfolding loop unary_at tests levels
+whole_for_read = refl
+
+pub whole_for_found : IsTree Built (ended_at whole_for 53) whole_for_tree
+whole_for_found = tree_found (ended_at whole_for 53) [] whole_for_tree (ends whole_for 53 refl) whole_for_read
 
 -- int main(void){ if(1) while(2) for(;;) if(3) ; else ; }: the `else` belongs to the nearest `if`
 abbrev nearest : Text
