@@ -197,99 +197,102 @@ fn a_source_has_its_program(rt: HostRuntime) -> Result<(), Fail> {
     Ok(())
 }
 
+/// `int main() { ; }`
+const MAIN: Part = Part::Function(true, "main", 0, Body::Nothing);
+
+/// Two lines of a source, and its first fault.
+static FAULTS: [(Part, Part, Cause, u32, u32); 14] = [
+    (
+        Part::Prototype,
+        Part::Function(true, "main", 0, Body::Count),
+        Cause::UnknownName,
+        2,
+        STATEMENT,
+    ),
+    (
+        Part::Prototype,
+        Part::Function(true, "main", 0, Body::Call),
+        Cause::UnknownName,
+        2,
+        STATEMENT,
+    ),
+    (Part::Global, Part::Global, Cause::DuplicateName, 2, NAME),
+    (MAIN, MAIN, Cause::DuplicateName, 2, NAME),
+    (
+        Part::Function(false, "f", 2, Body::Nothing),
+        MAIN,
+        Cause::DuplicateName,
+        1,
+        PARAMETER,
+    ),
+    (
+        Part::Prototype,
+        Part::Function(true, "main", 0, Body::Declare),
+        Cause::DuplicateName,
+        2,
+        SECOND,
+    ),
+    (
+        Part::Function(false, "f", 1, Body::Nothing),
+        Part::Function(true, "main", 0, Body::Call),
+        Cause::BadCall,
+        2,
+        STATEMENT,
+    ),
+    (
+        Part::Function(false, "f", 0, Body::Nothing),
+        Part::Function(true, "main", 0, Body::Return),
+        Cause::BadCall,
+        2,
+        SECOND,
+    ),
+    (
+        Part::Function(true, "f", 0, Body::Nothing),
+        Part::Function(false, "main", 0, Body::Return),
+        Cause::BadCall,
+        2,
+        STATEMENT,
+    ),
+    (
+        Part::Prototype,
+        Part::Function(true, "main", 0, Body::Break),
+        Cause::Misplaced,
+        2,
+        STATEMENT,
+    ),
+    (
+        Part::Prototype,
+        Part::Function(true, "main", 0, Body::Continue),
+        Cause::Misplaced,
+        2,
+        STATEMENT,
+    ),
+    (
+        Part::Function(false, "f", 0, Body::Loop),
+        Part::Function(true, "main", 0, Body::Break),
+        Cause::Misplaced,
+        2,
+        STATEMENT,
+    ),
+    (
+        Part::Function(false, "f", 0, Body::Continue),
+        Part::Function(true, "main", 0, Body::Count),
+        Cause::Misplaced,
+        1,
+        STATEMENT,
+    ),
+    (
+        Part::Prototype,
+        Part::Function(true, "main", 1, Body::Nothing),
+        Cause::NoMain,
+        3,
+        1,
+    ),
+];
+
 #[test]
 fn a_source_is_refused_at_its_first_fault(rt: HostRuntime) -> Result<(), Fail> {
-    use Body::{Break, Call, Continue, Count, Declare, Loop, Nothing, Return};
-    use Part::{Function, Global, Prototype};
-    let main = Function(true, "main", 0, Nothing);
-    for (first, second, cause, line, column) in [
-        (
-            Prototype,
-            Function(true, "main", 0, Count),
-            Cause::UnknownName,
-            2,
-            STATEMENT,
-        ),
-        (
-            Prototype,
-            Function(true, "main", 0, Call),
-            Cause::UnknownName,
-            2,
-            STATEMENT,
-        ),
-        (Global, Global, Cause::DuplicateName, 2, NAME),
-        (main, main, Cause::DuplicateName, 2, NAME),
-        (
-            Function(false, "f", 2, Nothing),
-            main,
-            Cause::DuplicateName,
-            1,
-            PARAMETER,
-        ),
-        (
-            Prototype,
-            Function(true, "main", 0, Declare),
-            Cause::DuplicateName,
-            2,
-            SECOND,
-        ),
-        (
-            Function(false, "f", 1, Nothing),
-            Function(true, "main", 0, Call),
-            Cause::BadCall,
-            2,
-            STATEMENT,
-        ),
-        (
-            Function(false, "f", 0, Nothing),
-            Function(true, "main", 0, Return),
-            Cause::BadCall,
-            2,
-            SECOND,
-        ),
-        (
-            Function(true, "f", 0, Nothing),
-            Function(false, "main", 0, Return),
-            Cause::BadCall,
-            2,
-            STATEMENT,
-        ),
-        (
-            Prototype,
-            Function(true, "main", 0, Break),
-            Cause::Misplaced,
-            2,
-            STATEMENT,
-        ),
-        (
-            Prototype,
-            Function(true, "main", 0, Continue),
-            Cause::Misplaced,
-            2,
-            STATEMENT,
-        ),
-        (
-            Function(false, "f", 0, Loop),
-            Function(true, "main", 0, Break),
-            Cause::Misplaced,
-            2,
-            STATEMENT,
-        ),
-        (
-            Function(false, "f", 0, Continue),
-            Function(true, "main", 0, Count),
-            Cause::Misplaced,
-            1,
-            STATEMENT,
-        ),
-        (
-            Prototype,
-            Function(true, "main", 1, Nothing),
-            Cause::NoMain,
-            3,
-            1,
-        ),
-    ] {
+    for &(first, second, cause, line, column) in FAULTS.iter() {
         let refusal = Refusal {
             cause,
             place: Place { line, column },
