@@ -1,5 +1,5 @@
 -- Worked rows, by the definitions.
-use Rattle.std.proofs.Common.{◌≡◌, ℕ, ◌^◌, ◌-◌, List, [], ◌∷◌, refl, pos, negsuc, ℤ, Ok, arith, inl, inr}
+use Rattle.std.proofs.Common.{◌≡◌, ℕ, ◌^◌, ◌-◌, List, [], ◌∷◌, length, refl, pos, negsuc, ℤ, Ok, arith, inl, inr}
 use Rattle.std.specs.declared.cmp.Ordering.TheVariants.{Less}
 use Rattle.std.proofs.lemmas.Int.{ints}
 use Rattle.lra_linear.specs.declared.Operation.TheVariants.{Product}
@@ -8,6 +8,8 @@ use Rattle.lra_linear.specs.Vectors.{entry}
 use Rattle.lra_linear.proofs.LowestTerms.{primitive_at}
 use Rattle.lra_linear.proofs.Membership.{contains_none}
 use Rattle.lra_linear.specs.Reduction.{checked_clearing}
+use Rattle.std.proofs.lemmas.List.Elements.{All-cons}
+use Rattle.lra_canon.specs.Echelons.{HaveOneWidth}
 use Rattle.lra_canon.specs.Ordered.{cmp_by}
 use Rattle.lra_canon.specs.Reduced.{IsForm, FirstPassing}
 use Rattle.lra_canon.specs.declared.order.Order.TheVariants.{Inequalities, Generators, Pivots}
@@ -42,6 +44,10 @@ greatest = pos (2 ^ 127 - 1)
 
 pub greatest_passes : FirstPassing (sloped ∷ []) (greatest ∷ pos 1 ∷ pos 0 ∷ []) (record { op = Product; left = pos 2; right = greatest })
 greatest_passes = record { earlier = []; line = sloped; later = []; is = refl; last = greatest ∷ pos 1 ∷ pos 0 ∷ []; clears = refl; cancels = λ e. absurd (omega (arith, ints, e)); passes = refl }
+
+-- three rows of three columns
+pub three_wide : (a b c : List ℤ) → length a ≡ 3 → length b ≡ 3 → length c ≡ 3 → HaveOneWidth (a ∷ b ∷ c ∷ [])
+three_wide a b c la lb lc = (3, omega arith, All-cons (λ (r : List ℤ). length r ≡ 3) a (b ∷ c ∷ []) la (All-cons (λ (r : List ℤ). length r ≡ 3) b (c ∷ []) lb (All-cons (λ (r : List ℤ). length r ≡ 3) c [] lc (λ k d h. absurd (omega (arith, h))))))
 
 -- ---- orders
 -- of inequalities with one pivot the greater stands first; column 0 decides last

@@ -4,13 +4,16 @@ use Rattle.std.specs.Int.{w128}
 use Rattle.std.proofs.lemmas.Bool.{cases_lt}
 use Rattle.std.proofs.lemmas.Int.{ints, to_z-of_z}
 use Rattle.std.proofs.lemmas.List.{take_more, take_all}
+use Rattle.std.proofs.lemmas.List.Elements.{Contains-append_left, Contains-append_right}
 use Rattle.std.specs.List.{Contains}
+use Rattle.lra_linear.specs.declared.Excess as E
 use Rattle.lra_linear.specs.Vectors.{entry}
 use Rattle.lra_linear.specs.LowestTerms.{IsLowest}
 use Rattle.lra_linear.specs.Echelon.{pivot}
 use Rattle.lra_linear.specs.CheckedArithmetic.{checked_blend}
-use Rattle.lra_linear.specs.Reduction.{ClearingStep, StepWithin, Follows}
+use Rattle.lra_linear.specs.Reduction.{ClearingStep, Follows, ReductionPasses}
 use Rattle.lra_linear.proofs.CheckedArithmetic.{checked_blend_is}
+use Rattle.lra_linear.proofs.Membership.{contains_head, contains_tail}
 use Rattle.lra_linear.proofs.Pivots.{echelon_positive, echelon_apart_at}
 use Rattle.lra_linear.proofs.Products.{entry_blend, blend_length}
 use Rattle.lra_linear.proofs.Ring.{ring, v, ⊖, ◌⊕◌, ◌⊗◌}
@@ -19,7 +22,7 @@ use Rattle.lra_linear.proofs.Spans.{spanned_linear, spanned_row, spanned_zero}
 use Rattle.lra_row.specs.declared.error.RowError.{RowError}
 use Rattle.lra_row.specs.declared.error.RowError.TheVariants.{Excess, Memory}
 use Rattle.lra_row.specs.Rows.{IsExcessOf}
-use Rattle.lra_canon.specs.Reduced.{IsForm, IsAlong, IsReducedBy, IsCleared, IsClearingExcess, Clears, IsChainEnd, IsFirstExcess, IsReductionExcess}
+use Rattle.lra_canon.specs.Reduced.{IsForm, IsAlong, IsReducedBy, IsCleared, IsClearingExcess, Clears, FirstPassing, IsChainEnd, IsFirstExcess, IsReductionExcess}
 
 -- ---- one step
 pub step_entry : (line r next : List ℤ) → length r ≡ length line → (s : ClearingStep line r next) → (j : ℕ) → pos s.lowest.times *ℤ entry next j ≡ (entry line (pivot line) *ℤ entry r j) +ℤ (neg_ℤ (entry r (pivot line)) *ℤ entry line j)
@@ -48,10 +51,6 @@ step_keeps line r next e s q h k =
 clears_more : (form : List (List ℤ)) (line start now next : List ℤ) → Clears form start now → IsCleared line now next → Clears (form ++ line ∷ []) start next
 clears_more [] line start now next f c = (next, subst (λ (x : List ℤ). IsCleared line x next) f c, refl)
 clears_more (x ∷ form) line start now next f c = (f.0, f.1, clears_more form line f.0 now next f.2 c)
-
-follows_more : (form : List (List ℤ)) (start now next : List ℤ) (steps : List (List ℤ)) → Follows form start steps now → StepWithin form now next → Follows form start (steps ++ next ∷ []) next
-follows_more form start now next [] f s = (subst (λ (x : List ℤ). StepWithin form x next) (sym f) s, refl)
-follows_more form start now next (x ∷ steps) f s = (f.0, follows_more form x now next steps f.1 s)
 
 -- ---- along the form
 along_same : (form : List (List ℤ)) (r t : List ℤ) → t ≡ r → IsAlong form r t
@@ -99,18 +98,15 @@ along_lowest form r now next l a = record {
 }
 
 -- ---- the loop
--- cleared of the first i rows of the form, in at most i steps
+-- cleared of the first i rows of the form
 pub record IsPartly (form : List (List ℤ)) (i : ℕ) (start now : List ℤ) : Type 0 where
-  pub steps : List (List ℤ)
-  pub few : length steps ≤ i
-  pub follows : Follows form start steps now
   pub clears : Clears (take i form) start now
   pub same_length : length now ≡ length start
   pub along : IsAlong form start now
   pub zeros : (k : ℕ) → k < i → entry now (pivot (get_or form k [])) ≡ pos 0
 
 pub partly_start : (form : List (List ℤ)) (start now : List ℤ) → now ≡ start → IsPartly form 0 start now
-partly_start form start now e = record { steps = []; few = omega arith; follows = sym e; clears = e; same_length = ap length e; along = along_same form start now e; zeros = λ k h. absurd (omega arith) }
+partly_start form start now e = record { clears = e; same_length = ap length e; along = along_same form start now e; zeros = λ k h. absurd (omega arith) }
 
 get_same : (form : List (List ℤ)) (i : ℕ) (line : List ℤ) → i < length form → get_or form i line ≡ get_or form i []
 get_same [] i line h = absurd (omega (arith, h))
@@ -128,9 +124,6 @@ one_more form i line start now next h g f c =
 pub partly_more : (form : List (List ℤ)) (i : ℕ) (start now line next : List ℤ) → IsForm form → i < length form → line ≡ get_or form i line → length line ≡ length start → IsPartly form i start now → IsCleared line now next → IsPartly form (i + 1) start next
 partly_more form i start now line next f h g w p (inl e) =
     record {
-      steps = p.steps;
-      few = omega (arith, p.few);
-      follows = subst (λ (x : List ℤ). Follows form start p.steps x) (sym e.1) p.follows;
       clears = one_more form i line start now next h g p.clears (inl e);
       same_length = ap length e.1 ∙ p.same_length;
       along = subst (λ (x : List ℤ). IsAlong form start x) (sym e.1) p.along;
@@ -142,9 +135,6 @@ partly_more form i start now line next f h g w p (inl e) =
 partly_more form i start now line next f h g w p (inr s) =
     let has : Contains form line = (i, h, sym g) in
     record {
-      steps = p.steps ++ next ∷ [];
-      few = omega (arith, length-append p.steps (next ∷ []), p.few);
-      follows = follows_more form start now next p.steps p.follows (record { line = line; has = has; by = s });
       clears = one_more form i line start now next h g p.clears (inr s);
       same_length = step_length line now next (p.same_length ∙ sym w) s ∙ p.same_length;
       along = along_step form start line now next has (echelon_positive form f.0 f.1 line has) (p.same_length ∙ sym w) s p.along;
@@ -157,7 +147,7 @@ partly_more form i start now line next f h g w p (inr s) =
     }
 
 -- the form round a row
-split_at : (form : List (List ℤ)) (i : ℕ) (line : List ℤ) → i < length form → line ≡ get_or form i line → form ≡ take i form ++ line ∷ drop (i + 1) form
+pub split_at : (form : List (List ℤ)) (i : ℕ) (line : List ℤ) → i < length form → line ≡ get_or form i line → form ≡ take i form ++ line ∷ drop (i + 1) form
 split_at [] i line h g = absurd (omega (arith, h))
 split_at (x ∷ form) zero line h g = ap (λ (y : List ℤ). y ∷ form) (sym g)
 split_at (x ∷ form) (suc i) line h g =
@@ -169,10 +159,41 @@ partly_first form i start now line Memory h g p x = tt
 partly_first form i start now line (Excess e) h g p x =
     record { earlier = take i form; line = line; later = drop (i + 1) form; is = split_at form i line h g; last = now; clears = p.clears; cancels = x.0; passes = x.1 }
 
-pub partly_passes : (form : List (List ℤ)) (i : ℕ) (start now line : List ℤ) (e : RowError) → i < length form → line ≡ get_or form i line → IsPartly form i start now → IsClearingExcess line now e → IsReductionExcess form start e
-partly_passes form i start now line Memory h g p x = tt
-partly_passes form i start now line (Excess e) h g p x =
-    record { steps = p.steps; few = omega (arith, p.few); last = now; follows = p.follows; line = line; has = (i, h, sym g); cancels = x.0; passes = x.1 }
+-- the steps that are made, as a chain of any order
+pub record Made (form : List (List ℤ)) (most : ℕ) (r last : List ℤ) : Type 0 where
+  pub steps : List (List ℤ)
+  pub few : length steps ≤ most
+  pub follows : Follows form r steps last
+
+chain_made : (form rows : List (List ℤ)) (r last : List ℤ) → ((x : List ℤ) → Contains rows x → Contains form x) → Clears rows r last → Made form (length rows) r last
+chain_made form [] r last h c = record { steps = []; few = omega arith; follows = sym c }
+chain_made form (x ∷ rows) r last h (next, inl e, c) =
+    let i = chain_made form rows next last (λ y k. h y (contains_tail x y rows k)) c in
+    record { steps = i.steps; few = omega (arith, i.few); follows = subst (λ (y : List ℤ). Follows form y i.steps last) e.1 i.follows }
+chain_made form (x ∷ rows) r last h (next, inr s, c) =
+    let i = chain_made form rows next last (λ y k. h y (contains_tail x y rows k)) c in
+    record { steps = next ∷ i.steps; few = omega (arith, i.few); follows = (record { line = x; has = h x (contains_head x rows); by = s }, i.follows) }
+
+-- the first number that passes is the strain of a reduction
+pub chain_passes : (form : List (List ℤ)) (r : List ℤ) (e : E.Excess) (most : ℕ) → length form ≤ most → FirstPassing form r e → ReductionPasses most form r e
+chain_passes form r e most l x =
+    let in_form : (y : List ℤ) → Contains (x.earlier ++ x.line ∷ x.later) y → Contains form y = λ y k. subst (λ (rows : List (List ℤ)). Contains rows y) (sym x.is) k in
+    let m = chain_made form x.earlier r x.last (λ y k. in_form y (Contains-append_left x.earlier (x.line ∷ x.later) y k)) x.clears in
+    let long = ap length x.is ∙ length-append x.earlier (x.line ∷ x.later) in
+    record {
+      steps = m.steps;
+      few = omega (arith, m.few, l, long);
+      last = x.last;
+      follows = m.follows;
+      line = x.line;
+      has = in_form x.line (Contains-append_right x.earlier (x.line ∷ x.later) x.line (contains_head x.line x.later));
+      cancels = x.cancels;
+      passes = x.passes;
+    }
+
+pub first_strains : (form : List (List ℤ)) (start : List ℤ) (e : RowError) → IsFirstExcess form start e → IsReductionExcess form start e
+first_strains form start Memory x = tt
+first_strains form start (Excess e) x = chain_passes form start e (length form) (omega arith) x
 
 pub partly_end : (form : List (List ℤ)) (i : ℕ) (start now end : List ℤ) → i ≡ length form → IsPartly form i start now → IsLowest now end → IsReducedBy form start end
 partly_end form i start now end e p l = record {

