@@ -4,5 +4,7 @@ pub mod Solutions
 pub mod Extension
 pub mod EchelonSteps
 pub mod EchelonRows
+pub mod Marks
+pub mod Irredundant
 pub mod Orders
 pub mod CanonExamples

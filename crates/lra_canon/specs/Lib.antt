@@ -1,4 +1,5 @@
 -- What is made of rows so that each set has one spelling, and where a number passes the range in it.
 pub mod Reduced
 pub mod Echelons
+pub mod Irredundant
 pub mod Ordered

@@ -1,13 +1,16 @@
-//! Canonical rows: echelon forms, reductions by them, and the orders in which rows are shown.
+//! Canonical rows: echelon forms, reductions by them, inequalities without redundant ones, and the orders in which
+//! rows are shown.
 #![tactic(auto)]
 
 mod forms;
 mod order;
 mod reduction;
+mod redundancy;
 
 pub use forms::echelon;
 pub use order::{Order, canonical_order};
 pub use reduction::reduce;
+pub use redundancy::drop_redundant;
 
 #[cfg(test)]
 mod tests;

@@ -7,6 +7,7 @@ ghost use Rattle.lra_canon.specs.Reduced.{IsForm};
 ghost use Rattle.lra_canon.specs.Echelons.{HaveOneWidth};
 
 use super::*;
+use lra_bits::{BitRow, SatMatrix};
 use lra_row::{Excess, Operation, Row, RowError};
 use std::alloc::{AllocError, Global};
 use std::test::Fail;
@@ -25,7 +26,8 @@ fn three(
     requires second { All InRange second.now }
     requires third { All InRange third.now }
     requires widths { (length first.now ≡ 3) × (length second.now ≡ 3) × (length third.now ≡ 3) }
-    ensures { IfOk result (λ rows. HaveOneWidth rows.items) }
+    ensures width { IfOk result (λ rows. HaveOneWidth rows.items) }
+    ensures height { IfOk result (λ rows. length rows.items ≡ 3) }
 {
     let mut rows = Vec::new(alloc);
     rows.push(Row::from_slice(alloc, first)?)?;
@@ -169,6 +171,96 @@ fn reductions(rt: HostRuntime) -> Result<(), Fail> {
         (reducing(alloc, &[0, MAX, 1])?, Operation::Product, 2, MAX),
     ] {
         assert_eq!(rt; got.err(), Some(Excess { op, left, right }));
+    }
+    Ok(())
+}
+
+// Truth values, packed.
+fn bits_of(alloc: Global, values: &[bool]) -> Result<BitRow, AllocError>
+    ensures { IfOk result (λ row. length row ≡ length values.now) }
+{
+    let mut row = BitRow::new(alloc, values.len())?;
+    for k in 0..values.len() {
+        row.set(k, values[k]);
+    }
+    Ok(row)
+}
+
+// A matrix of three rows.
+fn matrix_of(
+    alloc: Global,
+    first: &[bool],
+    second: &[bool],
+    third: &[bool],
+) -> Result<SatMatrix, AllocError>
+    requires second { length second.now ≡ length first.now }
+    requires third { length third.now ≡ length first.now }
+    ensures { IfOk result (λ matrix. length matrix.rows ≡ 3) }
+{
+    let mut matrix = SatMatrix::new(alloc, first.len());
+    matrix.add_row(bits_of(alloc, first)?)?;
+    matrix.add_row(bits_of(alloc, second)?)?;
+    matrix.add_row(bits_of(alloc, third)?)?;
+    Ok(matrix)
+}
+
+fn has_bits(row: &BitRow, want: &[bool]) -> bool {
+    row.width() == want.len()
+        && (0..row.width())
+            .zip(want)
+            .all(|(k, value)| row.get(k) == *value)
+}
+
+// The matrix without its redundant rows, with the rows.
+fn dropping(rows: Vec<Row>, matrix: SatMatrix) -> Result<(Vec<Row>, SatMatrix), AllocError>
+    requires { length matrix.rows ≡ length rows.items }
+{
+    let mut left = rows;
+    let mut bits = matrix;
+    drop_redundant(&mut left, &mut bits)?;
+    Ok((left, bits))
+}
+
+/// In the triangle with the corners (0, 0), (0, 2), (2, 0): its sides stay; x1 <= 3 is tight nowhere and goes; of
+/// x1 >= 0 twice one stays.
+#[test]
+fn redundant_rows(rt: HostRuntime) -> Result<(), Fail> {
+    let alloc = rt.alloc();
+    let first = [true, true, false];
+    let second = [true, false, true];
+    let third = [false, true, true];
+    let none = [false, false, false];
+    for ((rows, matrix), want, last) in [
+        (
+            dropping(
+                three(alloc, &[0, 1, 0], &[0, 0, 1], &[2, -1, -1])?,
+                matrix_of(alloc, &first, &second, &third)?,
+            )?,
+            [[0, 1, 0], [0, 0, 1], [2, -1, -1]].as_slice(),
+            third,
+        ),
+        (
+            dropping(
+                three(alloc, &[3, -1, 0], &[0, 1, 0], &[0, 0, 1])?,
+                matrix_of(alloc, &none, &first, &second)?,
+            )?,
+            [[0, 1, 0], [0, 0, 1]].as_slice(),
+            second,
+        ),
+        (
+            dropping(
+                three(alloc, &[0, 0, 1], &[0, 1, 0], &[0, 1, 0])?,
+                matrix_of(alloc, &second, &first, &first)?,
+            )?,
+            [[0, 0, 1], [0, 1, 0]].as_slice(),
+            first,
+        ),
+    ] {
+        assert!(rt; has_rows(&rows, want));
+        assert_eq!(rt; matrix.height(), want.len());
+        if matrix.height() > 0 {
+            assert!(rt; has_bits(matrix.row(matrix.height() - 1), last.as_slice()));
+        }
     }
     Ok(())
 }
