@@ -6,3 +6,4 @@ mod Solving
 pub mod Covering
 pub mod Widths
 mod PassSteps
+mod PassRows

@@ -5,10 +5,8 @@ use Rattle.lra_domain.specs.declared.Rank.{Rank}
 use Rattle.lra_domain.specs.declared.Mode.TheVariants.{Join}
 use Rattle.lra_domain.specs.declared.Included.TheVariants.{Yes}
 use Rattle.lra_domain.specs.Rank.{RankFits, RankBelow}
-use Rattle.lra_domain.specs.Meaning.{Meaning, Starts, Values, Grew, Joins}
+use Rattle.lra_domain.specs.Meaning.{Meaning, Values, Grew}
 use Rattle.lra_domain.proofs.RankNumbers.{phased, phased_joins, phased_falls}
-use Rattle.lra_sys.specs.Listed.{Listed}
-use Rattle.lra_sys.specs.declared.system.ConKind.{ConKind}
 use Rattle.lra_domain.specs.declared.Exactness.{Exactness}
 use Rattle.lra_tree.specs.declared.graph.Node.{Node}
 use Rattle.lra_tree.specs.declared.graph.Node.TheFolds.{fold-Node}
@@ -16,9 +14,10 @@ use Rattle.lra_tree.specs.declared.graph.Node.TheOpen.{Node-F}
 use Rattle.lra_tree.specs.Program.{Cond}
 use Rattle.lra_tree.specs.Graph as graph
 use Rattle.lra_flow.specs.declared.Settings.{Settings}
-use Rattle.lra_flow.specs.Operations.{dropping}
+use Rattle.lra_flow.specs.Operations.{Operations, dropping}
+use Rattle.lra_flow.specs.Changes.{AreJoined}
 use Rattle.lra_flow.specs.Given.{given_rows}
-use Rattle.lra_flow.specs.Pass.{Result, noted, mode_at, Pass, GoesRound, Grows, Narrows}
+use Rattle.lra_flow.specs.Pass.{Result, noted, first_of_call, mode_at, Pass, GoesRound, Grows, Narrows}
 use Rattle.lra_iter.specs.Outcome.{AllHave, HasGrown, JumpsFit}
 
 abbrev pub size_step : Node-F ℕ → ℕ
@@ -51,13 +50,8 @@ pub record NarrowLoop {V H : Type 0} (m : Meaning V H) (set : Settings) (q base 
 
 module _ {V H : Type 0} (m : Meaning V H) (set : Settings) (q base : ℕ) (c : Cond) (a : graph.Node) where
   -- a head begins
-  pub grow_starts : (first : V) (f : Option ℕ) (rows : Listed ConKind) (head : H) → rows ≡ given_rows (m.dims first) base c → Starts m first rows head → m.head_dims head ≡ m.dims first → RankFits (m.rank head)
-      → GrowLoop m set q base c a first f set.delay f head
-  grow_starts first f rows head is starts dims fits = record {
-    dims = dims;
-    fits = fits;
-    grows = λ later v r h. (head, later, (subst (λ (x : Listed ConKind). Starts m first x head) is starts, dims), h);
-  }
+  pub grow_starts : (first : V) (f : Option ℕ) (head : H) → (dropping m).started first (given_rows (m.dims first) base c) head → RankFits (m.rank head) → GrowLoop m set q base c a first f set.delay f head
+  grow_starts first f head begins fits = record { dims = begins.1; fits = fits; grows = λ later v r h. (head, later, begins, h) }
 
   -- it doesn't grow more
   pub grow_stable : (first : V) (f : Option ℕ) (left : ℕ) (so_far : Option ℕ) (head : H) (v : V) (e : Exactness) (s : Result V) → GrowLoop m set q base c a first f left so_far head
@@ -88,15 +82,16 @@ module _ {V H : Type 0} (m : Meaning V H) (set : Settings) (q base : ℕ) (c : C
   narrow_starts first u s dims behind jumps = record { dims = dims; behind = behind; jumps = jumps; narrows = λ v r h. h }
 
   -- one round of narrowing more
-  pub narrow_next : (first u : V) (s : Result V) (left k : ℕ) (top next : V) (last turned : Result V) (e : Exactness)
-      → NarrowLoop m set q base c a first u s left top last → left ≡ suc k → Joins m first last.normal e next
-      → GoesRound V H (dropping m) q base c (Pass V H (dropping m) set a) (noted q e last.flag) next turned
-      → m.dims next ≡ m.dims first → m.dims turned.normal ≡ m.dims first → JumpsFit m a (m.dims first) turned → NarrowLoop m set q base c a first u s k next turned
-  narrow_next first u s left k top next last turned e loop is joined round dims behind jumps = record {
-    dims = dims;
-    behind = behind;
-    jumps = jumps;
-    narrows = λ v r h. loop.narrows v r (subst (λ (n : ℕ). Narrows V H (dropping m) q base c (Pass V H (dropping m) set a) n first top last v r) (sym is) (next, turned, e, (joined, loop.behind, dims), round, h));
+  pub narrow_next : (first u : V) (s : Result V) (left k : ℕ) (top next : V) (last turned : Result V) (e : Exactness) (f : Option ℕ)
+      → NarrowLoop m set q base c a first u s left top last → left ≡ suc k → (dropping m).joined first last.normal e next → f ≡ noted q e last.flag
+      → GoesRound V H (dropping m) q base c (Pass V H (dropping m) set a) f next turned
+      → m.dims turned.normal ≡ m.dims next → JumpsFit m a (m.dims next) turned → NarrowLoop m set q base c a first u s k next turned
+  narrow_next first u s left k top next last turned e f loop is joined flagged round behind jumps = record {
+    dims = joined.2;
+    behind = behind ∙ joined.2;
+    jumps = subst (λ (n : ℕ). JumpsFit m a n turned) joined.2 jumps;
+    narrows = λ v r h. loop.narrows v r (subst (λ (n : ℕ). Narrows V H (dropping m) q base c (Pass V H (dropping m) set a) n first top last v r) (sym is)
+        (next, turned, e, joined, subst (λ (x : Option ℕ). GoesRound V H (dropping m) q base c (Pass V H (dropping m) set a) x next turned) flagged round, h));
   }
 
   -- no round is left
@@ -129,3 +124,15 @@ returns_have {V} m (v ∷ vs) ys xs n x is first others have =
     let more : xs ≡ vs ++ n ∷ [] = subst (λ (zs : List V). xs ≡ take 0 zs ++ drop 1 zs) is others in
     let same : m.dims x ≡ m.dims n = ap m.dims one ∙ have.0 in
     (same, subst (λ (k : ℕ). AllHave m k xs) (sym same) (subst (λ (zs : List V). AllHave m (m.dims n) zs) (sym more) (have_append m (m.dims n) vs n have.1 refl)))
+
+-- the first of what comes out behind a call, and the others: what returned, and then its end
+pub returns_joined : {V H : Type 0} (ops : Operations V H) (rs ys xs : List V) (n x w : V) (e : Exactness) → ys ≡ rs ++ n ∷ [] → x ≡ slice_index_or ys 0 x → xs ≡ take 0 ys ++ drop 1 ys
+    → AreJoined ops x xs e w → AreJoined ops (first_of_call rs n).0 (first_of_call rs n).1 e w
+returns_joined {V} ops [] ys xs n x w e is first others joined =
+    let one : x ≡ n = subst (λ (zs : List V). x ≡ slice_index_or zs 0 x) is first in
+    let none : xs ≡ [] = subst (λ (zs : List V). xs ≡ take 0 zs ++ drop 1 zs) is others in
+    subst (λ (y : V). AreJoined ops y [] e w) one (subst (λ (zs : List V). AreJoined ops x zs e w) none joined)
+returns_joined {V} ops (v ∷ vs) ys xs n x w e is first others joined =
+    let one : x ≡ v = subst (λ (zs : List V). x ≡ slice_index_or zs 0 x) is first in
+    let more : xs ≡ vs ++ n ∷ [] = subst (λ (zs : List V). xs ≡ take 0 zs ++ drop 1 zs) is others in
+    subst (λ (y : V). AreJoined ops y (vs ++ n ∷ []) e w) one (subst (λ (zs : List V). AreJoined ops x zs e w) more joined)

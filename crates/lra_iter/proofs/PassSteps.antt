@@ -1,6 +1,8 @@
 -- Steps of the proofs on the pass.
 use Rattle.std.proofs.Common.{rules, Box, Vec, Global, map, ◌≡◌, ℕ, zero, suc, ◌+◌, ◌<◌, List, [], ◌∷◌, ◌++◌, Option, false, refl, sym, ap, subst, ◌∙◌, inl, inr, arith}
-use Rattle.std.specs.Prelude.{◌⊎◌}
+use Rattle.std.specs.Prelude.{◌⊎◌, IfOk, true}
+use Rattle.std.specs.Prelude as outcome_or
+use Rattle.std.proofs.lemmas.Result.{IfOk-weaker}
 use Rattle.std.specs.List.{Contains, insert}
 use Rattle.std.proofs.lemmas.List.Elements.{Contains-append_cases}
 use Rattle.lra_domain.specs.Meaning.{Meaning}
@@ -23,7 +25,7 @@ use Rattle.lra_iter.specs.Fits.{live_behind, JumpsWith, TreeFits}
 use Rattle.lra_iter.specs.declared.outcome.Entry as entry
 use Rattle.lra_iter.specs.declared.outcome.Entry.TheVariants as entry_variants
 use Rattle.lra_iter.specs.declared.outcome.Outcome.{Outcome}
-use Rattle.lra_iter.specs.Outcome.{entry_view, seen, AllHave, Catches, JumpsFit, HasGrown}
+use Rattle.lra_iter.specs.Outcome.{entry_view, seen, AllHave, AreMet, Catches, JumpsFit, HasGrown, IsPassed, LeavesWith}
 use Rattle.lra_iter.proofs.PassLoops.{node_size}
 
 -- the views of the nine forms
@@ -39,33 +41,63 @@ act_view q o = search (rules, the_lemmas)
 pub check_view : (q base : ℕ) (c : declared_cond.Cond) → node_view (Check q base c) ≡ graph.check q base (cond_view c)
 check_view q base c = search (rules, the_lemmas)
 
-pub seq_view : (a b : Box Node Global) → node_view (Seq a b) ≡ graph.seq (node_view a.value) (node_view b.value)
+seq_view : (a b : Box Node Global) → node_view (Seq a b) ≡ graph.seq (node_view a.value) (node_view b.value)
 seq_view a b = search (rules, the_lemmas)
 
-pub choose_view : (q base : ℕ) (c : declared_cond.Cond) (a b : Box Node Global) → node_view (Choose q base c a b) ≡ graph.choose q base (cond_view c) (node_view a.value) (node_view b.value)
+choose_view : (q base : ℕ) (c : declared_cond.Cond) (a b : Box Node Global) → node_view (Choose q base c a b) ≡ graph.choose q base (cond_view c) (node_view a.value) (node_view b.value)
 choose_view q base c a b = search (rules, the_lemmas)
 
-pub iterate_view : (q base : ℕ) (c : declared_cond.Cond) (a : Box Node Global) → node_view (Iterate q base c a) ≡ graph.iterate q base (cond_view c) (node_view a.value)
+iterate_view : (q base : ℕ) (c : declared_cond.Cond) (a : Box Node Global) → node_view (Iterate q base c a) ≡ graph.iterate q base (cond_view c) (node_view a.value)
 iterate_view q base c a = search (rules, the_lemmas)
 
-pub catch_view : (q : ℕ) (k : declared_exit.Exit) (a : Box Node Global) → node_view (Catch q k a) ≡ graph.catch q (exit_view k) (node_view a.value)
+catch_view : (q : ℕ) (k : declared_exit.Exit) (a : Box Node Global) → node_view (Catch q k a) ≡ graph.catch q (exit_view k) (node_view a.value)
 catch_view q k a = search (rules, the_lemmas)
 
 pub leave_view : (n : ℕ) (k : declared_exit.Exit) → node_view (Leave n k) ≡ graph.leave n (exit_view k)
 leave_view n k = search (rules, the_lemmas)
 
 -- the sizes of those with trees in them
-pub seq_size : (a b : Box Node Global) → node_size (Seq a b) ≡ 1 + (node_size a.value + node_size b.value)
+seq_size : (a b : Box Node Global) → node_size (Seq a b) ≡ 1 + (node_size a.value + node_size b.value)
 seq_size a b = search (rules, the_lemmas)
 
-pub choose_size : (q base : ℕ) (c : declared_cond.Cond) (a b : Box Node Global) → node_size (Choose q base c a b) ≡ 1 + (node_size a.value + node_size b.value)
+choose_size : (q base : ℕ) (c : declared_cond.Cond) (a b : Box Node Global) → node_size (Choose q base c a b) ≡ 1 + (node_size a.value + node_size b.value)
 choose_size q base c a b = search (rules, the_lemmas)
 
-pub iterate_size : (q base : ℕ) (c : declared_cond.Cond) (a : Box Node Global) → node_size (Iterate q base c a) ≡ 1 + node_size a.value
+iterate_size : (q base : ℕ) (c : declared_cond.Cond) (a : Box Node Global) → node_size (Iterate q base c a) ≡ 1 + node_size a.value
 iterate_size q base c a = search (rules, the_lemmas)
 
-pub catch_size : (q : ℕ) (k : declared_exit.Exit) (a : Box Node Global) → node_size (Catch q k a) ≡ 1 + node_size a.value
+catch_size : (q : ℕ) (k : declared_exit.Exit) (a : Box Node Global) → node_size (Catch q k a) ≡ 1 + node_size a.value
 catch_size q k a = search (rules, the_lemmas)
+
+-- the same of a tree that is one of these forms, by the trees in it
+module _ (n x y : Node) (a b : Box Node Global) (one : x ≡ a.value) (two : y ≡ b.value) where
+  pub seq_shown : n ≡ Seq a b → node_view n ≡ graph.seq (node_view x) (node_view y)
+  seq_shown is = ap node_view is ∙ seq_view a b ∙ ap (λ z. graph.seq (node_view z) (node_view b.value)) (sym one) ∙ ap (λ z. graph.seq (node_view x) (node_view z)) (sym two)
+
+  pub seq_sized : n ≡ Seq a b → node_size n ≡ 1 + (node_size x + node_size y)
+  seq_sized is = ap node_size is ∙ seq_size a b ∙ ap (λ z. 1 + (node_size z + node_size b.value)) (sym one) ∙ ap (λ z. 1 + (node_size x + node_size z)) (sym two)
+
+  module _ (q base : ℕ) (c : declared_cond.Cond) (is : n ≡ Choose q base c a b) where
+    pub choose_shown : node_view n ≡ graph.choose q base (cond_view c) (node_view x) (node_view y)
+    choose_shown = ap node_view is ∙ choose_view q base c a b ∙ ap (λ z. graph.choose q base (cond_view c) (node_view z) (node_view b.value)) (sym one) ∙ ap (λ z. graph.choose q base (cond_view c) (node_view x) (node_view z)) (sym two)
+
+    pub choose_sized : node_size n ≡ 1 + (node_size x + node_size y)
+    choose_sized = ap node_size is ∙ choose_size q base c a b ∙ ap (λ z. 1 + (node_size z + node_size b.value)) (sym one) ∙ ap (λ z. 1 + (node_size x + node_size z)) (sym two)
+
+module _ (n x : Node) (a : Box Node Global) (one : x ≡ a.value) where
+  module _ (q base : ℕ) (c : declared_cond.Cond) (is : n ≡ Iterate q base c a) where
+    pub iterate_shown : node_view n ≡ graph.iterate q base (cond_view c) (node_view x)
+    iterate_shown = ap node_view is ∙ iterate_view q base c a ∙ ap (λ z. graph.iterate q base (cond_view c) (node_view z)) (sym one)
+
+    pub iterate_sized : node_size n ≡ 1 + node_size x
+    iterate_sized = ap node_size is ∙ iterate_size q base c a ∙ ap (λ z. 1 + node_size z) (sym one)
+
+  module _ (q : ℕ) (k : declared_exit.Exit) (is : n ≡ Catch q k a) where
+    pub catch_shown : node_view n ≡ graph.catch q (exit_view k) (node_view x)
+    catch_shown = ap node_view is ∙ catch_view q k a ∙ ap (λ z. graph.catch q (exit_view k) (node_view z)) (sym one)
+
+    pub catch_sized : node_size n ≡ 1 + node_size x
+    catch_sized = ap node_size is ∙ catch_size q k a ∙ ap (λ z. 1 + node_size z) (sym one)
 
 no_element : {X : Type 0} (u : X) → Contains [] u → ⊥
 no_element u h = let below : h.0 < 0 = h.1 in omega arith
@@ -166,13 +198,59 @@ module _ {V H : Type 0} (m : Meaning V H) where
   caught_have q k a n s fits jumps dims = all_have (m.dims s.normal) (jumps_of k s) (λ u h. fits.1 (m.dims u) (jumps k u h) ∙ sym dims)
 
   -- a loop
-  pub loop_passes : (set : Settings) (q base : ℕ) (c : Cond) (a : graph.Node) (f : Option ℕ) (first u top out : V) (s t : Result V) (e : Exactness)
-      → HasGrown m set q base c a first f u s → Narrows V H (dropping m) q base c (Pass V H (dropping m) set a) set.narrow first u s top t → Leaves (dropping m) base c false top e out
-      → Pass V H (dropping m) set (graph.iterate q base c a) f first (record t { normal = out; flag = noted q e t.flag })
-  loop_passes set q base c a f first u top out s t e (h, later, started, grows) narrows leaves = (h, later, u, top, out, s, t, e, started, grows, narrows, leaves, refl)
+  pub loop_passed : (set : Settings) (q base : ℕ) (c : Cond) (a : graph.Node) (f : Option ℕ) (first u top : V) (s t r : Result V)
+      → HasGrown m set q base c a first f u s → Narrows V H (dropping m) q base c (Pass V H (dropping m) set a) set.narrow first u s top t → LeavesWith m q base c top t r
+      → m.dims top ≡ m.dims first → m.dims r.normal ≡ m.dims top → JumpsFit m a (m.dims first) t → IsPassed m set (graph.iterate q base c a) f first r
+  loop_passed set q base c a f first u top s t r (h, later, started, grows) narrows (out, e, leaves, is) dims left inner = record {
+    pass = (h, later, u, top, out, s, t, e, started, grows, narrows, leaves, is);
+    dims = left ∙ dims;
+    jumps = subst (λ (x : Result V). JumpsFit m (graph.iterate q base c a) (m.dims first) x) (sym is) (same_jumps_fit (graph.iterate q base c a) (m.dims first) t _ refl refl refl inner);
+  }
+
+  -- a choice
+  pub choice_passed : (set : Settings) (q base : ℕ) (c : Cond) (a b : graph.Node) (f : Option ℕ) (v on off : V) (d e : Exactness) (s t r : Result V)
+      → Leaves (dropping m) base c true v d on → m.dims on ≡ m.dims v → IsPassed m set a (noted q d f) on s
+      → Leaves (dropping m) base c false v e off → m.dims off ≡ m.dims v → IsPassed m set b (noted q e s.flag) off t
+      → AreMet m q s t r → m.dims r.normal ≡ m.dims s.normal → IsPassed m set (graph.choose q base c a b) f v r
+  choice_passed set q base c a b f v on off d e s t r holds wide one fails wide' two (w, i, joined, is) left = record {
+    pass = (on, off, w, d, e, i, s, t, holds, one.pass, fails, two.pass, joined, is);
+    dims = left ∙ one.dims ∙ ap (live_behind a) wide;
+    jumps = choose_fits q base c a b (m.dims v) s t r w (noted q i t.flag) is (subst (λ (n : ℕ). JumpsFit m a n s) wide one.jumps) (subst (λ (n : ℕ). JumpsFit m b n t) wide' two.jumps);
+  }
+
+  -- both ends have as many dimensions
+  pub ends_meet : (set : Settings) (q base : ℕ) (c : Cond) (a b : graph.Node) (f g : Option ℕ) (n : ℕ) (on off : V) (s t : Result V) → TreeFits (graph.choose q base c a b) n → m.dims on ≡ n → m.dims off ≡ n
+      → IsPassed m set a f on s → IsPassed m set b g off t → m.dims s.normal ≡ m.dims t.normal
+  ends_meet set q base c a b f g n on off s t fits wide wide' one two = one.dims ∙ ap (live_behind a) wide ∙ sym fits.2 ∙ ap (live_behind b) (sym wide') ∙ sym two.dims
+
+-- what is handed on as the pass of a tree that is the other
+module _ {V H E : Type 0} (m : Meaning V H) (set : Settings) (g g' : graph.Node) (f : Option ℕ) (v : V) (R : outcome_or.Result (Outcome V) E) (same : g ≡ g') where
+  module _ (h : IfOk R (λ r. IsPassed m set g' f v (seen r))) where
+    pub given_pass : IfOk R (λ r. Pass V H (dropping m) set g f v (seen r))
+    given_pass = IfOk-weaker R (λ r. IsPassed m set g' f v (seen r)) (λ r. Pass V H (dropping m) set g f v (seen r)) (λ r p. subst (λ z. Pass V H (dropping m) set z f v (seen r)) (sym same) p.pass) h
+
+    pub given_dims : IfOk R (λ r. m.dims r.normal ≡ live_behind g (m.dims v))
+    given_dims = IfOk-weaker R (λ r. IsPassed m set g' f v (seen r)) (λ r. m.dims r.normal ≡ live_behind g (m.dims v)) (λ r p. subst (λ z. m.dims r.normal ≡ live_behind z (m.dims v)) (sym same) p.dims) h
+
+    pub given_jumps : IfOk R (λ r. JumpsFit m g (m.dims v) (seen r))
+    given_jumps = IfOk-weaker R (λ r. IsPassed m set g' f v (seen r)) (λ r. JumpsFit m g (m.dims v) (seen r)) (λ r p. subst (λ z. JumpsFit m z (m.dims v) (seen r)) (sym same) p.jumps) h
+
+  -- and of one whose jumps come out
+  module _ (q : ℕ) (k : Exit) (a : graph.Node) (is : g' ≡ graph.catch q k a) (s : Result V) (inner : IsPassed m set a f v s) where
+    pub caught_pass : IfOk R (λ r. Catches m q k s (seen r)) → IfOk R (λ r. Pass V H (dropping m) set g f v (seen r))
+    caught_pass h = IfOk-weaker R (λ r. Catches m q k s (seen r)) (λ r. Pass V H (dropping m) set g f v (seen r))
+        (λ r p. subst (λ z. Pass V H (dropping m) set z f v (seen r)) (sym (same ∙ is)) (catch_passes m set q k a f v s (seen r) inner.pass p)) h
+
+    pub caught_dims : IfOk R (λ r. m.dims r.normal ≡ m.dims s.normal) → IfOk R (λ r. m.dims r.normal ≡ live_behind g (m.dims v))
+    caught_dims h = IfOk-weaker R (λ r. m.dims r.normal ≡ m.dims s.normal) (λ r. m.dims r.normal ≡ live_behind g (m.dims v))
+        (λ r p. subst (λ z. m.dims r.normal ≡ live_behind z (m.dims v)) (sym (same ∙ is)) (p ∙ inner.dims)) h
+
+    pub caught_jumps : IfOk R (λ r. Catches m q k s (seen r)) → IfOk R (λ r. JumpsFit m g (m.dims v) (seen r))
+    caught_jumps h = IfOk-weaker R (λ r. Catches m q k s (seen r)) (λ r. JumpsFit m g (m.dims v) (seen r))
+        (λ r p. subst (λ z. JumpsFit m z (m.dims v) (seen r)) (sym (same ∙ is)) (catch_fits m q k a (m.dims v) s (seen r) inner.jumps p)) h
 
 -- the value at a loop's point comes first
-pub entered : {V : Type 0} (o : Outcome V) (es : Vec (entry.Entry V) Global) (q : ℕ) (v w : V) → es.items ≡ insert o.entries.items 0 (entry_variants.Value q w) → w ≡ v
-    → seen (record o { entries = es }) ≡ record (seen o) { entries = value q v ∷ (seen o).entries }
+pub entered : {V : Type 0} (o : Outcome V) (es : Vec (entry.Entry V) Global) (q : ℕ) (v w : V) → es.items ≡ insert o.found.entries.items 0 (entry_variants.Value q w) → w ≡ v
+    → seen (record o { found = record o.found { entries = es } }) ≡ record (seen o) { entries = value q v ∷ (seen o).entries }
 entered {V} o es q v w is same =
-    ap (λ (xs : List (Entry V)). record (seen o) { entries = xs }) (ap (map entry_view) is ∙ ap (λ (x : V). value q x ∷ map entry_view o.entries.items) same)
+    ap (λ (xs : List (Entry V)). record (seen o) { entries = xs }) (ap (map entry_view) is ∙ ap (λ (x : V). value q x ∷ map entry_view o.found.entries.items) same)

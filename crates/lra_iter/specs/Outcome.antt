@@ -1,8 +1,9 @@
 -- What a pass in code gives, as the result of a pass.
-use Rattle.std.specs.Prelude.{◌≡◌, ℕ, List, [], ◌∷◌, map}
+use Rattle.std.specs.Prelude.{◌≡◌, ℕ, false, List, [], ◌∷◌, map}
 use Rattle.lra_domain.specs.Meaning.{Meaning}
 use Rattle.lra_iter.specs.declared.outcome.Entry as entry
 use Rattle.lra_iter.specs.declared.outcome.Entry.TheVariants.{Value, Failing}
+use Rattle.lra_iter.specs.declared.outcome.Found.{Found}
 use Rattle.lra_iter.specs.declared.outcome.Outcome.{Outcome}
 use Rattle.lra_domain.specs.declared.Exactness.{Exactness}
 use Rattle.std.specs.Prelude.{Option}
@@ -10,9 +11,10 @@ use Rattle.std.specs.List.{Contains}
 use Rattle.lra_tree.specs.Program.{Cond}
 use Rattle.lra_tree.specs.Graph.{Exit, Node}
 use Rattle.lra_flow.specs.declared.Settings.{Settings}
+use Rattle.lra_flow.specs.Conditions.{Leaves}
 use Rattle.lra_flow.specs.Given.{given_rows}
 use Rattle.lra_flow.specs.Sound.{jumps_of}
-use Rattle.lra_iter.specs.Fits.{JumpsWith}
+use Rattle.lra_iter.specs.Fits.{live_behind, JumpsWith}
 use Rattle.lra_flow.specs.Operations.{dropping}
 use Rattle.lra_flow.specs.Changes.{AreJoined}
 use Rattle.lra_flow.specs.Pass.{Entry, value, failing, Result, noted, in_turn, caught, behind, Pass, Grows}
@@ -21,15 +23,23 @@ abbrev pub entry_view : {V : Type 0} → entry.Entry V → Entry V
 entry_view (Value q v) = value q v
 entry_view (Failing q v) = failing q v
 
-abbrev pub seen : {V : Type 0} → Outcome V → Result V
-seen r = record {
-  entries = map entry_view r.entries.items;
-  normal = r.normal;
-  breaks = r.breaks.items;
-  continues = r.continues.items;
-  returns = r.returns.items;
-  flag = r.flag;
+-- what is found on the way, with this value and flag at its end
+abbrev pub ended : {V : Type 0} → Found V → V → Option ℕ → Result V
+ended x v f = record {
+  entries = map entry_view x.entries.items;
+  normal = v;
+  breaks = x.breaks.items;
+  continues = x.continues.items;
+  returns = x.returns.items;
+  flag = f;
 }
+
+abbrev pub seen : {V : Type 0} → Outcome V → Result V
+seen r = ended r.found r.normal r.flag
+
+-- what the first two found, one behind the other, is the third, whatever their ends
+abbrev pub AreInTurn : {V : Type 0} → Found V → Found V → Found V → Type 0
+AreInTurn {V} x y z = (u v w : V) (d e f : Option ℕ) → ended z w f ≡ in_turn (ended x u d) (ended y v e) w f
 
 -- each value has so many dimensions
 abbrev pub AllHave : {V H : Type 0} → Meaning V H → ℕ → List V → Type 0
@@ -47,6 +57,16 @@ AreMet {V} m q s t r = (w : V) × (e : Exactness) × (dropping m).joined s.norma
 -- each value with which the tree is left by a jump has as many dimensions as live there
 abbrev pub JumpsFit : {V H : Type 0} → Meaning V H → Node → ℕ → Result V → Type 0
 JumpsFit {V} m g n r = (k : Exit) (u : V) → Contains (jumps_of k r) u → JumpsWith g n k (m.dims u)
+
+-- a loop is left with what its last round found, and with the value at its head where the condition is false
+abbrev pub LeavesWith : {V H : Type 0} → Meaning V H → ℕ → ℕ → Cond → V → Result V → Result V → Type 0
+LeavesWith {V} m q base c top s r = (out : V) × (e : Exactness) × Leaves (dropping m) base c false top e out × (r ≡ record s { normal = out; flag = noted q e s.flag })
+
+-- a pass over the tree, behind which, and at whose jumps, values have as many dimensions as live there
+pub record IsPassed {V H : Type 0} (m : Meaning V H) (set : Settings) (g : Node) (f : Option ℕ) (v : V) (r : Result V) : Type 0 where
+  pub pass : Pass V H (dropping m) set g f v r
+  pub dims : m.dims r.normal ≡ live_behind g (m.dims v)
+  pub jumps : JumpsFit m g (m.dims v) r
 
 -- a loop's head that starts with a value grows until it is stable, with this value and round at last
 abbrev pub HasGrown : {V H : Type 0} → Meaning V H → Settings → ℕ → ℕ → Cond → Node → V → Option ℕ → V → Result V → Type 0

@@ -1,6 +1,8 @@
 //! The iteration over a program's tree of operations, for any domain.
 #![tactic(auto)]
 
+mod catches;
+mod leaves;
 mod outcome;
 mod pass;
 mod solution;

@@ -1,16 +1,18 @@
 //! What a pass over a tree of operations gives.
 
-ghost use Rattle.std.specs.Prelude.{◌≡◌, ◌∷◌, [], ◌++◌, map, IfOk, OnOk};
+ghost use Rattle.std.specs.Prelude.{◌≡◌, ℕ, Option, map, IfOk, OnOk};
+ghost use Rattle.lra_tree.specs.Graph.{broken, continued, returned};
 ghost use Rattle.lra_tree.specs.GraphViews.{exit_view};
 ghost use Rattle.lra_flow.specs.Operations.{dropping};
 ghost use Rattle.lra_flow.specs.Changes.{AreJoined};
-ghost use Rattle.lra_flow.specs.Pass.{noted, goes_on, jumps};
-ghost use Rattle.lra_iter.specs.Outcome.{entry_view, seen, AllHave};
+ghost use Rattle.lra_flow.specs.Pass.{noted, goes_on, jumps, behind};
+ghost use Rattle.lra_iter.specs.Outcome.{entry_view, ended, seen, AllHave, AreInTurn};
 
 use lra_change::worse_of;
 use lra_domain::{Domain, Exactness};
 use lra_tree::graph::Exit;
 use std::alloc::{AllocError, Global};
+use std::mem;
 
 /// What is found on the way, with the number of its point.
 #[derive(Drop)]
@@ -21,14 +23,29 @@ pub enum Entry<D> {
     Failing(usize, D),
 }
 
-/// What a pass gives: its entries in the order in which they are found, the values of its jumps in text order, the value behind the tree,
-/// and the point of the first flagged operation.
-#[derive(Drop)]
-pub struct Outcome<D> {
+/// What is found on the way: entries in the order in which they are found, and the values of the jumps in text order.
+pub struct Found<D> {
     pub entries: Vec<Entry<D>>,
     pub breaks: Vec<D>,
     pub continues: Vec<D>,
     pub returns: Vec<D>,
+}
+
+impl<D: Drop> Drop for Found<D> {
+    fn drop(self) {
+        let Found {
+            entries: _,
+            breaks: _,
+            continues: _,
+            returns: _,
+        } = self;
+    }
+}
+
+/// What a pass gives: what is found on the way, the value behind the tree, and the point of the first flagged operation.
+#[derive(Drop)]
+pub struct Outcome<D> {
+    pub found: Found<D>,
     pub normal: D,
     pub flag: Option<usize>,
 }
@@ -44,6 +61,69 @@ pub fn note(point: usize, exactness: Exactness, flag: Option<usize>) -> Option<u
     }
 }
 
+impl<D: Drop> Found<D> {
+    /// What the other found comes behind; nothing is left in the other.
+    pub fn append(&mut self, more: &mut Found<D>) -> Result<(), AllocError>
+        ensures { OnOk result (AreInTurn self.old more.old self.new) }
+    {
+        self.entries.append(&mut more.entries)?;
+        self.breaks.append(&mut more.breaks)?;
+        self.continues.append(&mut more.continues)?;
+        self.returns.append(&mut more.returns)?;
+        Ok(())
+    }
+
+    /// What a pass found comes behind; its end is handed out.
+    pub fn take(&mut self, outcome: Outcome<D>) -> Result<(D, Option<usize>), AllocError>
+        ensures { IfOk result (λ r. AreInTurn self.old outcome.found self.new × (r.0 ≡ outcome.normal) × (r.1 ≡ outcome.flag)) }
+    {
+        let Outcome {
+            mut found,
+            normal,
+            flag,
+        } = outcome;
+        self.append(&mut found)?;
+        Ok((normal, flag))
+    }
+
+    /// The values of `break` come out.
+    pub fn take_breaks(&mut self, alloc: Global) -> Vec<D>
+        ensures taken { result.items ≡ self.old.breaks.items }
+        ensures left { (v w : D) (f g : Option ℕ) → ended self.new w g ≡ behind broken (ended self.old v f) w g }
+    {
+        mem::replace(&mut self.breaks, Vec::new(alloc))
+    }
+
+    /// The values of `continue` come out.
+    pub fn take_continues(&mut self, alloc: Global) -> Vec<D>
+        ensures taken { result.items ≡ self.old.continues.items }
+        ensures left { (v w : D) (f g : Option ℕ) → ended self.new w g ≡ behind continued (ended self.old v f) w g }
+    {
+        mem::replace(&mut self.continues, Vec::new(alloc))
+    }
+
+    /// The values of `return` come out.
+    pub fn take_returns(&mut self, alloc: Global) -> Vec<D>
+        ensures taken { result.items ≡ self.old.returns.items }
+        ensures left { (v w : D) (f g : Option ℕ) → ended self.new w g ≡ behind returned (ended self.old v f) w g }
+    {
+        mem::replace(&mut self.returns, Vec::new(alloc))
+    }
+
+    /// The entries alone.
+    pub fn into_entries(self) -> Vec<Entry<D>>
+        ensures { result ≡ self.entries }
+    {
+        let Found {
+            entries,
+            breaks: _,
+            continues: _,
+            returns: _,
+        } = self;
+        entries
+    }
+}
+
 impl<D: Drop> Outcome<D> {
     /// Without a jump.
     pub fn going_on(
@@ -54,11 +134,14 @@ impl<D: Drop> Outcome<D> {
     ) -> Outcome<D>
         ensures { seen result ≡ goes_on (map entry_view entries.items) normal flag }
     {
-        Outcome {
+        let found = Found {
             entries,
             breaks: Vec::new(alloc),
             continues: Vec::new(alloc),
             returns: Vec::new(alloc),
+        };
+        Outcome {
+            found,
             normal,
             flag,
         }
@@ -78,9 +161,9 @@ impl<D: Drop> Outcome<D> {
         taken.push(value)?;
         let mut outcome = Outcome::going_on(alloc, Vec::new(alloc), nothing, flag);
         match exit {
-            Exit::Broken => outcome.breaks = taken,
-            Exit::Continued => outcome.continues = taken,
-            Exit::Returned => outcome.returns = taken,
+            Exit::Broken => outcome.found.breaks = taken,
+            Exit::Continued => outcome.found.continues = taken,
+            Exit::Returned => outcome.found.returns = taken,
         }
         Ok(outcome)
     }

@@ -7,7 +7,7 @@ ghost use Rattle.lra_tree.specs.Listing.{assertions_from};
 ghost use Rattle.lra_flow.specs.Analysis.{Solves};
 ghost use Rattle.lra_iter.specs.Fits.{TreeFits};
 ghost use Rattle.lra_iter.specs.Lives.{PointsHave, AreWide};
-ghost use Rattle.lra_iter.specs.Outcome.{entry_view, seen};
+ghost use Rattle.lra_iter.specs.Outcome.{seen};
 ghost use Rattle.lra_iter.specs.Numbers.{IsNumbered};
 ghost use Rattle.lra_iter.specs.Counts.{AreCounted};
 ghost use Rattle.lra_iter.specs.Solved.{IsSolved};
@@ -37,16 +37,18 @@ fn solution_of<D: Domain>(
     sites: &[Site],
     outcome: Outcome<D>,
 ) -> Result<Solution<D>, AllocError>
-    requires { AreCounted (map site_view sites.now) (map entry_view outcome.entries.items) }
+    requires { AreCounted (map site_view sites.now) (seen outcome).entries }
     ensures solves { IfOk result (λ s. Solves D.meaning (seen outcome) s.values.items s.verdicts.items s.flagged) }
     ensures points { IfOk result (λ s. length s.values.items ≡ length sites.now) }
     ensures assertions { IfOk result (λ s. map (λ v. v.0) s.verdicts.items ≡ map (λ a. a.0) (assertions_from 0 (map site_view sites.now))) }
 {
-    let tables = tables_of(alloc, sites.len(), outcome.entries)?;
+    let flagged = outcome.flag;
+    let entries = outcome.found.into_entries();
+    let tables = tables_of(alloc, sites.len(), entries)?;
     Ok(Solution {
         values: held_in(alloc, tables.values)?,
         verdicts: numbered_in(alloc, &tables.verdicts)?,
-        flagged: outcome.flag,
+        flagged,
     })
 }
 

@@ -1,32 +1,35 @@
 use Rattle.std.proofs.Common.{map, length, refl, sym}
 use Rattle.std.proofs.lemmas.List.{length-map}
 use Rattle.lra_tree.specs.GraphViews.{site_view}
-use Rattle.lra_iter.specs.Outcome.{entry_view, seen}
+use Rattle.lra_iter.specs.Outcome.{seen}
 use Rattle.lra_iter.proofs.Tabled.{apart, tables_solve, values_count, verdicts_count}
 use Rattle.lra_iter.proofs.solution.solution_of.Goals as goal
 
 pub tables_of-requires : goal.tables_of-requires
 tables_of-requires g c =
     let sites = c.args.sites.now in
-    apart (map site_view sites) (map (entry_view {V = g.row.D.Denot}) c.args.outcome.entries.items) c.requires (length sites) (sym (length-map sites site_view))
+    rw c.into_entries-entries.ensures (apart (map site_view sites) (seen c.args.outcome).entries c.requires (length sites) (sym (length-map sites site_view)))
 
 pub returns-clause-solves : goal.returns-clause-solves
 returns-clause-solves g c =
     let sites = c.args.sites.now in
+    let tabled = rw c.into_entries-entries.ensures at c.in_ok-tables.ensures in
     let verdicts = rw c.deref.ensures.value at c.in_ok-numbered_in.ensures in
     tables_solve g.D.Domain.meaning (map site_view sites) (seen c.args.outcome) (length sites) c.in_ok-tables.tables.values.items c.in_ok-tables.tables.verdicts.items (sym (length-map sites site_view)) c.requires
-    c.in_ok-tables.ensures c.in_ok-held_in.field-0.items c.in_ok-numbered_in.field-0.items c.args.outcome.flag c.in_ok-held_in.ensures verdicts refl
+    tabled c.in_ok-held_in.field-0.items c.in_ok-numbered_in.field-0.items c.args.outcome.flag c.in_ok-held_in.ensures verdicts refl
 
 pub returns-clause-points : goal.returns-clause-points
 returns-clause-points g c =
     let sites = c.args.sites.now in
+    let tabled = rw c.into_entries-entries.ensures at c.in_ok-tables.ensures in
     let count = values_count g.D.Domain.meaning (map site_view sites) (seen c.args.outcome) (length sites) c.in_ok-tables.tables.values.items c.in_ok-tables.tables.verdicts.items (sym (length-map sites site_view)) c.requires
-    c.in_ok-tables.ensures c.in_ok-held_in.field-0.items c.in_ok-held_in.ensures in
+    tabled c.in_ok-held_in.field-0.items c.in_ok-held_in.ensures in
     rw (length-map sites site_view) at count
 
 pub returns-clause-assertions : goal.returns-clause-assertions
 returns-clause-assertions g c =
     let sites = c.args.sites.now in
+    let tabled = rw c.into_entries-entries.ensures at c.in_ok-tables.ensures in
     let verdicts = rw c.deref.ensures.value at c.in_ok-numbered_in.ensures in
     verdicts_count g.D.Domain.meaning (map site_view sites) (seen c.args.outcome) (length sites) c.in_ok-tables.tables.values.items c.in_ok-tables.tables.verdicts.items (sym (length-map sites site_view)) c.requires
-    c.in_ok-tables.ensures c.in_ok-numbered_in.field-0.items verdicts
+    tabled c.in_ok-numbered_in.field-0.items verdicts

@@ -1,0 +1,18 @@
+use Rattle.std.proofs.Common.{ap, ◌∙◌}
+use Rattle.lra_tree.specs.Graph.{continued}
+use Rattle.lra_flow.specs.Operations.{dropping}
+use Rattle.lra_flow.specs.Changes.{AreJoined}
+use Rattle.lra_flow.specs.Pass.{behind}
+use Rattle.lra_iter.specs.Outcome.{seen}
+use Rattle.lra_iter.proofs.catches.catch_continues.Goals as goal
+
+pub returns-clause-caught : goal.returns-clause-caught
+returns-clause-caught g c =
+    let inner = c.args.inner in
+    let joined : AreJoined (dropping g.D.Domain.meaning) inner.normal inner.found.continues.items c.in_ok-exactness.exactness c.join_all.new.value =
+    rw (c.as_slice.ensures.value, c.take_continues-jumps.ensures.taken) at c.in_ok-exactness.ensures.joined in (
+      c.join_all.new.value,
+      c.in_ok-exactness.exactness,
+      joined,
+      c.take_continues-jumps.ensures.left inner.normal c.join_all.new.value inner.flag c.note.result ∙ ap (λ f. behind continued (seen inner) c.join_all.new.value f) c.note.ensures,
+    )

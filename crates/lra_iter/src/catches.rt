@@ -1,0 +1,104 @@
+//! Jumps that come out of a tree.
+
+ghost use Rattle.std.specs.Prelude.{◌≡◌, IfOk};
+ghost use Rattle.lra_tree.specs.Graph.{broken, continued, returned};
+ghost use Rattle.lra_tree.specs.GraphViews.{exit_view};
+ghost use Rattle.lra_flow.specs.Sound.{jumps_of};
+ghost use Rattle.lra_iter.specs.Outcome.{seen, AllHave, Catches};
+
+use crate::outcome::{Outcome, join_all, note};
+use lra_domain::Domain;
+use lra_tree::graph::Exit;
+use std::alloc::{AllocError, Global};
+
+/// `break` comes out here.
+fn catch_breaks<D: Domain>(
+    alloc: Global,
+    point: usize,
+    inner: Outcome<D>,
+) -> Result<Outcome<D>, AllocError>
+    requires { AllHave D.meaning (D.meaning.dims inner.normal) inner.found.breaks.items }
+    ensures caught { IfOk result (λ r. Catches D.meaning point broken (seen inner) (seen r)) }
+    ensures dims { IfOk result (λ r. D.meaning.dims r.normal ≡ D.meaning.dims inner.normal) }
+{
+    let Outcome {
+        mut found,
+        mut normal,
+        flag,
+    } = inner;
+    let jumps = found.take_breaks(alloc);
+    let exactness = join_all(&mut normal, jumps.as_slice())?;
+    Ok(Outcome {
+        found,
+        normal,
+        flag: note(point, exactness, flag),
+    })
+}
+
+/// `continue` comes out here.
+fn catch_continues<D: Domain>(
+    alloc: Global,
+    point: usize,
+    inner: Outcome<D>,
+) -> Result<Outcome<D>, AllocError>
+    requires { AllHave D.meaning (D.meaning.dims inner.normal) inner.found.continues.items }
+    ensures caught { IfOk result (λ r. Catches D.meaning point continued (seen inner) (seen r)) }
+    ensures dims { IfOk result (λ r. D.meaning.dims r.normal ≡ D.meaning.dims inner.normal) }
+{
+    let Outcome {
+        mut found,
+        mut normal,
+        flag,
+    } = inner;
+    let jumps = found.take_continues(alloc);
+    let exactness = join_all(&mut normal, jumps.as_slice())?;
+    Ok(Outcome {
+        found,
+        normal,
+        flag: note(point, exactness, flag),
+    })
+}
+
+/// `return` comes out here: what returned comes before the end of the call's body.
+fn catch_returns<D: Domain>(
+    alloc: Global,
+    point: usize,
+    inner: Outcome<D>,
+) -> Result<Outcome<D>, AllocError>
+    requires { AllHave D.meaning (D.meaning.dims inner.normal) inner.found.returns.items }
+    ensures caught { IfOk result (λ r. Catches D.meaning point returned (seen inner) (seen r)) }
+    ensures dims { IfOk result (λ r. D.meaning.dims r.normal ≡ D.meaning.dims inner.normal) }
+{
+    let Outcome {
+        mut found,
+        normal,
+        flag,
+    } = inner;
+    let mut jumps = found.take_returns(alloc);
+    jumps.push(normal)?;
+    let mut first = jumps.remove(0);
+    let exactness = join_all(&mut first, jumps.as_slice())?;
+    Ok(Outcome {
+        found,
+        normal: first,
+        flag: note(point, exactness, flag),
+    })
+}
+
+/// Jumps of this kind come out here, and are joined at this point.
+pub fn catch_jumps<D: Domain>(
+    alloc: Global,
+    point: usize,
+    exit: Exit,
+    inner: Outcome<D>,
+) -> Result<Outcome<D>, AllocError>
+    requires { AllHave D.meaning (D.meaning.dims inner.normal) (jumps_of (exit_view exit) (seen inner)) }
+    ensures caught { IfOk result (λ r. Catches D.meaning point (exit_view exit) (seen inner) (seen r)) }
+    ensures dims { IfOk result (λ r. D.meaning.dims r.normal ≡ D.meaning.dims inner.normal) }
+{
+    match exit {
+        Exit::Broken => catch_breaks(alloc, point, inner),
+        Exit::Continued => catch_continues(alloc, point, inner),
+        Exit::Returned => catch_returns(alloc, point, inner),
+    }
+}

@@ -1,0 +1,92 @@
+//! The pass over trees with no tree in them.
+
+ghost use Rattle.std.specs.Prelude.{◌≡◌, ◌≤◌, ◌^◌, IfOk};
+ghost use Rattle.lra_tree.specs.Graph.{act, check, leave, point as point_node};
+ghost use Rattle.lra_tree.specs.ProgramViews.{cond_view};
+ghost use Rattle.lra_tree.specs.GraphViews.{exit_view, op_view};
+ghost use Rattle.lra_flow.specs.declared.Settings.{Settings};
+ghost use Rattle.lra_change.specs.Changes.{dims_behind, OpFits};
+ghost use Rattle.lra_iter.specs.Outcome.{seen, IsPassed};
+
+use crate::outcome::{Entry, Outcome, note};
+use lra_change::{Kept, change, split};
+use lra_domain::{Domain, Exactness};
+use lra_flow::Settings;
+use lra_tree::graph::{Exit, Op};
+use lra_tree::program::Cond;
+use std::alloc::{AllocError, Global};
+
+/// A point: its value is found.
+pub fn pass_point<D: Domain>(
+    alloc: Global,
+    point: usize,
+    value: D,
+    flag: Option<usize>,
+) -> Result<Outcome<D>, AllocError>
+    ensures { (settings : Settings) → IfOk result (λ r. IsPassed D.meaning settings (point_node point) flag value (seen r)) }
+{
+    let mut entries = Vec::new(alloc);
+    entries.push(Entry::Value(point, value.copy(alloc)?))?;
+    Ok(Outcome::going_on(alloc, entries, value, flag))
+}
+
+/// A least change.
+pub fn pass_act<D: Domain>(
+    alloc: Global,
+    point: usize,
+    op: &Op,
+    value: D,
+    flag: Option<usize>,
+) -> Result<Outcome<D>, AllocError>
+    requires few { D.meaning.dims value ≤ 2 ^ 30 }
+    requires fits { OpFits (op_view op.now) (D.meaning.dims value) }
+    ensures { (settings : Settings) → IfOk result (λ r. IsPassed D.meaning settings (act point (op_view op.now)) flag value (seen r)) }
+{
+    let mut after = value;
+    let exactness = change(alloc, op, &mut after)?;
+    let flag = note(point, exactness, flag);
+    Ok(Outcome::going_on(alloc, Vec::new(alloc), after, flag))
+}
+
+/// An assertion: where its condition is false, and then where it is true.
+pub fn pass_check<D: Domain>(
+    alloc: Global,
+    point: usize,
+    base: usize,
+    condition: &Cond,
+    value: D,
+    flag: Option<usize>,
+) -> Result<Outcome<D>, AllocError>
+    requires { D.meaning.dims value ≤ 2 ^ 30 }
+    ensures { (settings : Settings) → IfOk result (λ r. IsPassed D.meaning settings (check point base (cond_view condition.now)) flag value (seen r)) }
+{
+    let from = Kept {
+        value,
+        exactness: Exactness::Exact,
+    };
+    let sides = split(alloc, base, condition, from)?;
+    let on = sides.on;
+    let off = sides.off;
+    let flag = note(point, on.exactness, note(point, off.exactness, flag));
+    let mut entries = Vec::new(alloc);
+    entries.push(Entry::Failing(point, off.value))?;
+    Ok(Outcome::going_on(alloc, entries, on.value, flag))
+}
+
+/// A jump: it takes the value.
+pub fn pass_leave<D: Domain>(
+    alloc: Global,
+    settings: &Settings,
+    live: usize,
+    exit: Exit,
+    value: D,
+    flag: Option<usize>,
+) -> Result<Outcome<D>, AllocError>
+    requires parts { 1 ≤ settings.now.parts }
+    requires few { live ≤ 2 ^ 30 }
+    ensures { IfOk result (λ r. IsPassed D.meaning settings.now (leave live (exit_view exit)) flag value (seen r)) }
+{
+    let nothing = D::empty(alloc, live, settings.parts)?;
+    let outcome = Outcome::jumping(alloc, exit, value, nothing, flag)?;
+    Ok(outcome)
+}
