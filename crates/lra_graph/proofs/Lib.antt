@@ -28,6 +28,7 @@ pub mod ForLoops
 pub mod Sizes
 pub mod Falling
 pub mod Items
+mod ItemRows
 pub mod Programs
 -- What labels say of a limit's place.
 pub mod LabelPlaces

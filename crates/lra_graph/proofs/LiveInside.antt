@@ -19,7 +19,7 @@ live_low n (statement s b) = live_low n b
 abbrev pub behind_items : ℕ → List BlockItem → ℕ
 behind_items n items = live_behind n (items_of (map item_view items))
 
-items_at : (items : List BlockItem) (i : ℕ) (x : BlockItem) → i < length items → x ≡ get_or items i x → drop i items ≡ x ∷ drop (i + 1) items
+pub items_at : (items : List BlockItem) (i : ℕ) (x : BlockItem) → i < length items → x ≡ get_or items i x → drop i items ≡ x ∷ drop (i + 1) items
 items_at items i x l e = drop-cons items i x l ∙ ap (λ (y : BlockItem). y ∷ drop (suc i) items) (sym e) ∙ rw add-one refl
 
 pub declared_behind : (items : List BlockItem) (i n n' : ℕ) (x : BlockItem) (d : Declarator) → i < length items → x ≡ get_or items i x → x ≡ code_item.Declaration d → n' ≡ n + 1 → behind_items n' (drop (i + 1) items) ≡ behind_items n (drop i items)

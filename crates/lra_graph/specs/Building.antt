@@ -1,13 +1,14 @@
 -- What is owed for each part of a program that is written out: its points stand behind those before it, and whatever points follow, its tree is
 -- that of the definition.
-use Rattle.std.specs.Prelude.{◌≡◌, ◌≢◌, ℕ, suc, ◌+◌, ◌≤◌, Bool, true, List, ◌++◌, length, Option, Some, None, slice_get}
+use Rattle.std.specs.Prelude.{◌≡◌, ◌≢◌, ℕ, suc, ◌+◌, ◌≤◌, Bool, true, List, [], ◌∷◌, ◌++◌, length, Option, Some, None, slice_get}
 use Rattle.lra_tree.specs.Program.{Cond, Call, Source, Stmt, loop, break, continue, return, BlockItems, Program}
 use Rattle.lra_tree.specs.Step as step
 use Rattle.lra_tree.specs.Graph.{Exit, broken, continued, returned, Node, seq, point}
 use Rattle.lra_tree.specs.Sites.{Site, Event, live_behind, source_events, given_events, stmt_events, items_events, call_events}
 use Rattle.lra_tree.specs.Inlined as inlined
 use Rattle.lra_tree.specs.WellFormed.{IsGoodCall, IsGoodGiven, IsGoodStmt, AreGoodItems}
-use Rattle.lra_graph.specs.Limits.{walk, passed}
+use Rattle.lra_graph.specs.Limits.{walk, passed, stopped}
+use Rattle.lra_graph.specs.declared.points.Limit.{Limit}
 use Rattle.lra_graph.specs.declared.frame.Frame.{Frame}
 use Rattle.lra_graph.specs.declared.frame.Back.{Back}
 
@@ -84,6 +85,27 @@ module _ (P : Program) (path : List ℕ) (r : Frame) where
   abbrev pub WritesReturn : ℕ → List Site → Option Source → Node → List Site → Type 0
   WritesReturn q S o g U = Writes path r (given_events inside path r.live o) S U
       (λ T f. (at : ℕ) → length S ≡ suc q → inlined.Has T q f r.live at → inlined.Inl P T f r.live q (return at o) (seq (point q) g) r.live (length U))
+
+-- the parts one after the other, and this tree behind them
+abbrev pub row : List Node → Node → Node
+row [] h = h
+row (g ∷ gs) h = seq g (row gs h)
+
+-- an item takes what stands behind it: it stands in the frame with some items behind it
+abbrev pub ItemStands : Program → Frame → (BlockItems → BlockItems) → Type 0
+ItemStands P r item = (b : BlockItems) × ItemsStand P r (item b)
+
+module _ (P : Program) (path : List ℕ) (r : Frame) where
+  -- it is written out, and n live behind it: whatever stands behind it then begins there
+  pub record WritesItem (S : List Site) (item : BlockItems → BlockItems) (g : Node) (n : ℕ) (V : List Site) : Type 0 where
+    pub live : (b : BlockItems) → live_behind n b ≡ live_behind r.live (item b)
+    pub stands : (b : BlockItems) → ItemsStand P r (item b) → ItemsStand P (record r { live = n }) b
+    pub writes : (b : BlockItems) (h : Node) (U : List Site) → WritesItems P path (record r { live = n }) V b h U → WritesItems P path r S (item b) (seq g h) U
+    pub stops : (b : BlockItems) (x : Limit) → walk V (items_events (inside P path r) path n b) ≡ stopped x → walk S (items_events (inside P path r) path r.live (item b)) ≡ stopped x
+
+  -- it passes a limit, whatever stands behind it
+  abbrev pub StopsItem : List Site → (BlockItems → BlockItems) → Limit → Type 0
+  StopsItem S item x = (b : BlockItems) → walk S (items_events (inside P path r) path r.live (item b)) ≡ stopped x
 
 -- `break` and `continue`: the statement that leaves the loop so
 abbrev pub leaving : Exit → ℕ → Stmt

@@ -1,11 +1,12 @@
 //! The forms of which a program's tree is made.
 
-ghost use Rattle.std.specs.Prelude.{◌≡◌, ◌+◌, ◌<◌, ◌^◌, map, IfOk};
+ghost use Rattle.std.specs.Prelude.{◌≡◌, ◌+◌, ◌<◌, ◌^◌, ◌++◌, ◌∷◌, [], map, IfOk};
 ghost use Rattle.lra_tree.specs.Step as step;
 ghost use Rattle.lra_tree.specs.Graph as graph;
 ghost use Rattle.lra_tree.specs.Inlined.{loop_node, call_node, return_node};
 ghost use Rattle.lra_tree.specs.ProgramViews.{expr_view, cond_view};
 ghost use Rattle.lra_tree.specs.GraphViews.{op_view, exit_view, node_view};
+ghost use Rattle.lra_graph.specs.Building.{row};
 
 use lra_tree::graph::{Exit, Node, Op};
 use lra_tree::program::{Cond, Expr, copy_expressions};
@@ -16,6 +17,26 @@ pub fn in_turn(alloc: Global, first: Node, second: Node) -> Result<Node, AllocEr
     ensures { IfOk result (λ g. node_view g ≡ graph.seq (node_view first) (node_view second)) }
 {
     Ok(Node::Seq(Box::new(alloc, first)?, Box::new(alloc, second)?))
+}
+
+/// One part more, behind the others.
+pub fn add_part(parts: &mut Vec<Node>, part: Node) -> Result<(), AllocError>
+    ensures { IfOk result (λ _. parts.new.items ≡ parts.old.items ++ part ∷ []) }
+{
+    parts.push(part)?;
+    Ok(())
+}
+
+/// The parts one after the other, behind the last of which nothing is done.
+pub fn in_a_row(alloc: Global, parts: Vec<Node>) -> Result<Node, AllocError>
+    ensures { IfOk result (λ g. node_view g ≡ row (map node_view parts.items) graph.empty) }
+{
+    let mut left = parts;
+    let mut row = Node::Empty;
+    'parts: while let Some(part) = left.pop() {
+        row = in_turn(alloc, part, row)?;
+    }
+    Ok(row)
 }
 
 fn caught(alloc: Global, point: usize, exit: Exit, body: Node) -> Result<Node, AllocError>

@@ -11,11 +11,11 @@ ghost use Rattle.lra_tree.specs.WellFormed.{IsWellFormed};
 ghost use Rattle.lra_tree.specs.ProgramViews.{slot_view, cond_view, call_view, source_view, given_view, stmt_view, item_view, items_of, program_view};
 ghost use Rattle.lra_tree.specs.GraphViews.{node_view, site_view, exit_view};
 ghost use Rattle.lra_graph.specs.Limits.{walk, stopped, OnLimit};
-ghost use Rattle.lra_graph.specs.Building.{StmtStands, ItemsStand, GivenStands, CallStands, WritesStmt, WritesItems, WritesSource, WritesDeclared, WritesLoop, WritesReturn, LeavesLoop, inside};
+ghost use Rattle.lra_graph.specs.Building.{StmtStands, ItemsStand, GivenStands, CallStands, WritesStmt, WritesItems, ItemStands, WritesItem, StopsItem, WritesSource, WritesDeclared, WritesLoop, WritesReturn, LeavesLoop, inside};
 
 use crate::forms::{
-    CallPlace, behind, behind_point, block_end, called, choice, cut_and_leave, in_turn, returned,
-    rounds,
+    CallPlace, add_part, behind, behind_point, block_end, called, choice, cut_and_leave, in_a_row,
+    in_turn, returned, rounds,
 };
 use crate::frame::{Back, Frame};
 use crate::points::{GraphError, Limit, add_point};
@@ -178,7 +178,6 @@ fn inline_stmt(
 }
 
 /// The items, and how many variables live behind them.
-#[tactic(none)]
 #[cycle(inline)]
 fn inline_items(
     alloc: Global,
@@ -194,29 +193,46 @@ fn inline_items(
     ensures written { IfOk result (λ r. WritesItems (program_view program.now) path.now frame (map site_view sites.old.items) (items_of (map item_view items.now)) (node_view r.0) (map site_view sites.new.items)) }
     ensures limit { OnLimit result (λ x. walk (map site_view sites.old.items) (items_events (inside (program_view program.now) path.now frame) path.now frame.live (items_of (map item_view items.now))) ≡ stopped x) }
 {
-    match items.split_first() {
-        None => Ok((Node::Empty, frame.live)),
-        Some((item, rest)) => match item {
-            BlockItem::Declaration(declarator) => {
-                let point = add_point(alloc, path, declarator.label, frame.live, false, sites)?;
-                let source = &declarator.source;
-                let given = inline_declared(alloc, program, path, frame, point, source, sites)?;
-                let declared = behind_point(alloc, point, given)?;
-                let behind = Frame {
-                    live: frame.live + 1,
-                    ..frame
-                };
-                let (others, last) = inline_items(alloc, program, path, behind, rest, sites)?;
-                let all = in_turn(alloc, declared, others)?;
-                Ok((all, last))
-            }
-            BlockItem::Statement(stmt) => {
-                let first = inline_stmt(alloc, program, path, frame, stmt, sites)?;
-                let (others, last) = inline_items(alloc, program, path, frame, rest, sites)?;
-                let all = in_turn(alloc, first, others)?;
-                Ok((all, last))
-            }
-        },
+    let mut parts = Vec::new(alloc);
+    let mut live = frame.live;
+    'items: for item in items {
+        let here = Frame { live, ..frame };
+        let (part, after) = inline_item(alloc, program, path, here, item, sites)?;
+        add_part(&mut parts, part)?;
+        live = after;
+    }
+    let all = in_a_row(alloc, parts)?;
+    Ok((all, live))
+}
+
+/// An item, and how many variables live behind it.
+#[tactic(none)]
+#[cycle(inline)]
+fn inline_item(
+    alloc: Global,
+    program: &Program,
+    path: &Path,
+    frame: Frame,
+    item: &BlockItem,
+    sites: &mut Vec<Site>,
+) -> Result<(Node, usize), GraphError>
+    requires well { IsWellFormed (program_view program.now) }
+    requires stands { ItemStands (program_view program.now) frame (item_view item.now) }
+    ensures written { IfOk result (λ r. WritesItem (program_view program.now) path.now frame (map site_view sites.old.items) (item_view item.now) (node_view r.0) r.1 (map site_view sites.new.items)) }
+    ensures limit { OnLimit result (λ x. StopsItem (program_view program.now) path.now frame (map site_view sites.old.items) (item_view item.now) x) }
+{
+    match item {
+        BlockItem::Declaration(declarator) => {
+            let point = add_point(alloc, path, declarator.label, frame.live, false, sites)?;
+            let source = &declarator.source;
+            let given = inline_declared(alloc, program, path, frame, point, source, sites)?;
+            let declared = behind_point(alloc, point, given)?;
+            Ok((declared, frame.live + 1))
+        }
+        BlockItem::Statement(stmt) => {
+            let part = inline_stmt(alloc, program, path, frame, stmt, sites)?;
+            Ok((part, frame.live))
+        }
     }
 }
 

@@ -1,5 +1,5 @@
 -- Each form is written out as its definition says, and stopped where one of its parts is.
-use Rattle.std.proofs.Common.{◌≡◌, ◌+◌, ◌++◌, ◌∷◌, [], map, refl, ap, ◌∙◌, subst, arith, Some, None, Vec, Global, ◌-◌, sym}
+use Rattle.std.proofs.Common.{rules, ◌≡◌, ◌+◌, ◌++◌, ◌∷◌, [], map, refl, ap, ◌∙◌, subst, arith, Some, None, Vec, Global, ◌-◌, sym}
 use Rattle.std.proofs.lemmas.Result.{err_from_is_err_and}
 use Rattle.lra_tree.specs.declared.graph.Site.{Site}
 use Rattle.lra_tree.specs.Program.{value, result, loop, for, break, continue, assert, assume}
@@ -10,7 +10,7 @@ use Rattle.lra_tree.specs.Sites.{plain_site, live_behind, stmt_events, source_ev
 use Rattle.lra_tree.specs.ProgramViews.{slot_view, expr_view, cond_view, call_view, source_view, given_view, stmt_view, item_view, items_of, program_view, declarator_view, function_view}
 use Rattle.lra_tree.specs.GraphViews.{node_view, site_view}
 use Rattle.lra_graph.specs.Limits.{walk, passed, stopped}
-use Rattle.lra_graph.specs.Building.{StmtStands, inside, WritesReturn}
+use Rattle.lra_graph.specs.Building.{StmtStands, StopsItem, inside, WritesReturn}
 use Rattle.lra_graph.proofs.Walking.{walk_stop}
 use Rattle.lra_graph.proofs.Stopping.{ok_at_err, limit_memory, limit_by, stmt_stopped, second_stopped, middle_stopped, third_stopped, for_too_many, for_at_point, for_at_begin, for_at_round}
 use Rattle.lra_graph.proofs.Handed.{stmt_limit, loop_limit, for_limit, loop_handed, for_handed, break_handed, continue_handed, any_handed}
@@ -18,13 +18,95 @@ use Rattle.lra_graph.proofs.Falling.{part_falls, block_falls, assign_falls, call
 use Rattle.lra_graph.proofs.Seen.{given_seen, given_limit, given_returned, stmt_seen, items_seen, for_seen, stmt_walked, items_walked, round_walked, loop_seen, return_seen}
 use Rattle.lra_graph.proofs.ForLoops.{only_loops}
 use Rattle.lra_graph.proofs.Shown.{shown_value, shown_result, shown_empty, shown_point, shown_act, shown_leave, shown_absent, shown_nothing, shown_block, shown_assign, shown_call, shown_if, shown_loop, shown_for, shown_return, shown_break, shown_continue, shown_assert, shown_assume, shown_items}
-use Rattle.lra_graph.proofs.Writing.{stmt_as, absent_written, nothing_written, block_written, assign_written, call_written, if_written, rounds_written, fresh_written, given_written, value_written, return_any_written, end_any_written, for_written, return_written, return_value_written, return_call_written, end_value_written, end_call_written, declaration_written, statement_written}
-use Rattle.lra_graph.proofs.Standing.{assigned_fits, block_stands, assign_stands, call_stands, true_stands, false_stands, return_stands, result_stands, body_stands, step_stands, init_stands, for_again, break_stands, continue_stands, first_stands, others_stand, declared_stands, behind_stand, callee_stands}
+use Rattle.lra_graph.proofs.Writing.{stmt_as, absent_written, nothing_written, block_written, assign_written, call_written, if_written, rounds_written, fresh_written, given_written, value_written, return_any_written, end_any_written, for_written, return_written, return_value_written, return_call_written, end_value_written, end_call_written}
+use Rattle.lra_graph.proofs.Standing.{assigned_fits, block_stands, assign_stands, call_stands, true_stands, false_stands, return_stands, result_stands, body_stands, step_stands, init_stands, for_again, break_stands, continue_stands, callee_stands}
 use Rattle.lra_graph.proofs.Calling.{one_less, no_call_more, call_at_body, call_at_end, invoked}
 use Rattle.lra_graph.proofs.Programs.{called_below, called_found, called_fits, called_wide, arguments_fit}
-use Rattle.lra_graph.proofs.Items.{first_declared, first_stated, none_left, none_shown, items_stand_as, items_as, declaration_at_point, declaration_at_given, declaration_at_others, statement_at_first, statement_at_others, none_last, declared_last, stated_last, lighter, source_lighter, behind_lighter, first_lighter, others_lighter, callee_lighter}
+use Rattle.lra_graph.proofs.Items.{items_stand_as, lighter, callee_lighter}
+use Rattle.lra_graph.proofs.ItemRows.{declared_item, declared_stops, given_stops, given_item_stands, stated_item, stated_stops, stated_item_stands, item_declared, item_stated, declared_falls, stated_falls, items_begin, item_falls, item_stands, item_stopped, items_step, items_last, items_end, stopped_by}
 use Rattle.lra_graph.proofs.inlining.+inline.Goals as goal
 use Rattle.lra_graph.proofs.inlining.+inline.Goals.{inline_stmt-in-Some+in_ok-left-in-Some, inline_stmt-in-None+in_ok-left-in-None}
+
+pub inline_items-items-init : goal.inline_items-items-init
+inline_items-items-init t c = let none : c.new-parts.result.items ≡ [] = search rules in items_begin (program_view c.args.program.now) c.args.path.now c.args.frame (map site_view c.args.sites.now.items) (items_of (map item_view c.args.items.now)) c.new-parts.result.items none c.requires.stands
+
+pub inline_items-inline_item-requires : goal.inline_items-inline_item-requires
+inline_items-inline_item-requires t c = (item_falls (program_view c.args.program.now) c.args.path.now c.args.frame (map site_view c.args.sites.now.items) (items_of (map item_view c.args.items.now)) c.args.items.now c.items.item-index c.item-item.result c.items.parts.items c.items.live (map site_view c.items.sites.items) c.items-test.true c.item-item.is c.items.invariant c.args.frame.calls_left t c.decreases, (c.requires.well, item_stands (program_view c.args.program.now) c.args.path.now c.args.frame (map site_view c.args.sites.now.items) (items_of (map item_view c.args.items.now)) c.args.items.now c.items.item-index c.item-item.result c.items.parts.items c.items.live (map site_view c.items.sites.items) c.items-test.true c.item-item.is c.items.invariant))
+
+pub inline_items-items-preserved : goal.inline_items-items-preserved
+inline_items-items-preserved t c = items_step (program_view c.args.program.now) c.args.path.now c.args.frame (map site_view c.args.sites.now.items) (items_of (map item_view c.args.items.now)) c.args.items.now c.items.item-index c.item-item.result c.items.parts.items c.items.live (map site_view c.items.sites.items) c.items-test.true c.item-item.is c.items.invariant c.in_ok-part.part c.add_part.new.parts.items c.in_ok-part.after (map site_view c.inline_item.new.sites.items) c.in_ok-add_part.ensures c.in_ok-part.ensures.written
+
+pub inline_item-returns-in_err-point-in-Declaration-clause-written : goal.inline_item-returns-in_err-point-in-Declaration-clause-written
+inline_item-returns-in_err-point-in-Declaration-clause-written t c = let p = err_from_is_err_and c.from_residual.result c.from_residual.ensures.1 in ok_at_err c.from_residual.result p.0 _ p.1
+
+pub inline_item-returns-in_err-point-in-Declaration-clause-limit : goal.inline_item-returns-in_err-point-in-Declaration-clause-limit
+inline_item-returns-in_err-point-in-Declaration-clause-limit t c = let p = err_from_is_err_and c.from_residual.result c.from_residual.ensures.1 in stopped_by c.from_residual.result p.0 _ (λ x. walk (map site_view c.args.sites.now.items) (plain_site c.args.path.now c.in-Declaration.declarator.label c.args.frame.live ∷ []) ≡ stopped x) (λ x. StopsItem (program_view c.args.program.now) c.args.path.now c.args.frame (map site_view c.args.sites.now.items) (item_view c.args.item.now) x) p.1 p.2 (declared_stops (program_view c.args.program.now) c.args.path.now c.args.frame (map site_view c.args.sites.now.items) (item_view c.args.item.now) (declarator_view c.in-Declaration.declarator) (item_declared c.args.item.now c.in-Declaration.declarator c.in-Declaration.is)) c.in_err-point-in-Declaration.ensures.limit
+
+pub inline_item-inline_declared-requires : goal.inline_item-inline_declared-requires
+inline_item-inline_declared-requires t c = (declared_falls (program_view c.args.program.now) c.args.frame.calls_left t c.args.item.now c.decreases c.in-Declaration.declarator c.in-Declaration.is, (c.requires.well, (c.in_ok-point-in-Declaration.ensures.few, given_item_stands (program_view c.args.program.now) c.args.path.now c.args.frame (map site_view c.args.sites.now.items) (item_view c.args.item.now) (declarator_view c.in-Declaration.declarator) (item_declared c.args.item.now c.in-Declaration.declarator c.in-Declaration.is) (c.args.frame.live + 1) (omega arith) c.requires.stands)))
+
+pub inline_item-returns-in_err-given-in-Declaration-clause-written : goal.inline_item-returns-in_err-given-in-Declaration-clause-written
+inline_item-returns-in_err-given-in-Declaration-clause-written t c = let p = err_from_is_err_and c.from_residual-in_err-given-in-Declaration.result c.from_residual-in_err-given-in-Declaration.ensures.1 in ok_at_err c.from_residual-in_err-given-in-Declaration.result p.0 _ p.1
+
+pub inline_item-returns-in_err-given-in-Declaration-clause-limit : goal.inline_item-returns-in_err-given-in-Declaration-clause-limit
+inline_item-returns-in_err-given-in-Declaration-clause-limit t c = let p = err_from_is_err_and c.from_residual-in_err-given-in-Declaration.result c.from_residual-in_err-given-in-Declaration.ensures.1 in stopped_by c.from_residual-in_err-given-in-Declaration.result p.0 _ (λ x. walk (map site_view c.add_point.new.sites.items) (given_events (inside (program_view c.args.program.now) c.args.path.now c.args.frame) c.args.path.now (c.args.frame.live + 1) (given_view c.in-Declaration.declarator.source)) ≡ stopped x) (λ x. StopsItem (program_view c.args.program.now) c.args.path.now c.args.frame (map site_view c.args.sites.now.items) (item_view c.args.item.now) x) p.1 p.2 (given_stops (program_view c.args.program.now) c.args.path.now c.args.frame (map site_view c.args.sites.now.items) (item_view c.args.item.now) (declarator_view c.in-Declaration.declarator) (item_declared c.args.item.now c.in-Declaration.declarator c.in-Declaration.is) (map site_view c.add_point.new.sites.items) (c.args.frame.live + 1) c.in_ok-point-in-Declaration.ensures.walked (omega arith)) c.in_err-given-in-Declaration.ensures.limit
+
+pub inline_item-returns-in_err-declared-in-Declaration-clause-written : goal.inline_item-returns-in_err-declared-in-Declaration-clause-written
+inline_item-returns-in_err-declared-in-Declaration-clause-written t c = let p = err_from_is_err_and c.from_residual-in_err-declared-in-Declaration.result c.from_residual-in_err-declared-in-Declaration.ensures.1 in ok_at_err c.from_residual-in_err-declared-in-Declaration.result p.0 _ p.1
+
+pub inline_item-returns-in_err-declared-in-Declaration-clause-limit : goal.inline_item-returns-in_err-declared-in-Declaration-clause-limit
+inline_item-returns-in_err-declared-in-Declaration-clause-limit t c = let p = err_from_is_err_and c.from_residual-in_err-declared-in-Declaration.result c.from_residual-in_err-declared-in-Declaration.ensures.1 in limit_memory c.from_residual-in_err-declared-in-Declaration.result p.0 _ p.1 p.2
+
+pub inline_item-overflow_add-result : goal.inline_item-overflow_add-result
+inline_item-overflow_add-result t c = let h = c.in_ok-point-in-Declaration.ensures.few in record { fits = omega arith }
+
+pub inline_item-returns-in_ok-declared-in-Declaration-clause-written : goal.inline_item-returns-in_ok-declared-in-Declaration-clause-written
+inline_item-returns-in_ok-declared-in-Declaration-clause-written t c = declared_item (program_view c.args.program.now) c.args.path.now c.args.frame (map site_view c.args.sites.now.items) (item_view c.args.item.now) (declarator_view c.in-Declaration.declarator) (item_declared c.args.item.now c.in-Declaration.declarator c.in-Declaration.is) (map site_view c.add_point.new.sites.items) (map site_view c.inline_declared.new.sites.items) c.in_ok-point-in-Declaration.point (c.args.frame.live + 1) (node_view c.in_ok-given-in-Declaration.given) (node_view c.in_ok-declared-in-Declaration.declared) c.in_ok-point-in-Declaration.ensures.number (omega arith) c.in_ok-point-in-Declaration.ensures.walked c.in_ok-given-in-Declaration.ensures.written c.in_ok-declared-in-Declaration.ensures
+
+pub inline_item-inline_stmt-requires : goal.inline_item-inline_stmt-requires
+inline_item-inline_stmt-requires t c = (stated_falls (program_view c.args.program.now) c.args.frame.calls_left t c.args.item.now c.decreases c.in-Statement.stmt c.in-Statement.is, (c.requires.well, stated_item_stands (program_view c.args.program.now) c.args.path.now c.args.frame (map site_view c.args.sites.now.items) (item_view c.args.item.now) (stmt_view c.in-Statement.stmt) (item_stated c.args.item.now c.in-Statement.stmt c.in-Statement.is) c.requires.stands))
+
+pub inline_item-returns-in_err-part-in-Statement-clause-written : goal.inline_item-returns-in_err-part-in-Statement-clause-written
+inline_item-returns-in_err-part-in-Statement-clause-written t c = let p = err_from_is_err_and c.from_residual-in_err-part-in-Statement.result c.from_residual-in_err-part-in-Statement.ensures.1 in ok_at_err c.from_residual-in_err-part-in-Statement.result p.0 _ p.1
+
+pub inline_item-returns-in_err-part-in-Statement-clause-limit : goal.inline_item-returns-in_err-part-in-Statement-clause-limit
+inline_item-returns-in_err-part-in-Statement-clause-limit t c = let p = err_from_is_err_and c.from_residual-in_err-part-in-Statement.result c.from_residual-in_err-part-in-Statement.ensures.1 in stopped_by c.from_residual-in_err-part-in-Statement.result p.0 _ (λ x. walk (map site_view c.args.sites.now.items) (stmt_events (inside (program_view c.args.program.now) c.args.path.now c.args.frame) c.args.path.now c.args.frame.live (stmt_view c.in-Statement.stmt)) ≡ stopped x) (λ x. StopsItem (program_view c.args.program.now) c.args.path.now c.args.frame (map site_view c.args.sites.now.items) (item_view c.args.item.now) x) p.1 p.2 (stated_stops (program_view c.args.program.now) c.args.path.now c.args.frame (map site_view c.args.sites.now.items) (item_view c.args.item.now) (stmt_view c.in-Statement.stmt) (item_stated c.args.item.now c.in-Statement.stmt c.in-Statement.is)) c.in_err-part-in-Statement.ensures.limit
+
+pub inline_item-returns-in_ok-part-in-Statement-clause-written : goal.inline_item-returns-in_ok-part-in-Statement-clause-written
+inline_item-returns-in_ok-part-in-Statement-clause-written t c = stated_item (program_view c.args.program.now) c.args.path.now c.args.frame (map site_view c.args.sites.now.items) (item_view c.args.item.now) (stmt_view c.in-Statement.stmt) (item_stated c.args.item.now c.in-Statement.stmt c.in-Statement.is) (map site_view c.inline_stmt.new.sites.items) (node_view c.in_ok-part-in-Statement.part) c.in_ok-part-in-Statement.ensures.written
+
+pub inline_items-returns-in_err-part-clause-last : goal.inline_items-returns-in_err-part-clause-last
+inline_items-returns-in_err-part-clause-last t c = let p = err_from_is_err_and c.from_residual.result c.from_residual.ensures.1 in ok_at_err c.from_residual.result p.0 _ p.1
+
+pub inline_items-returns-in_err-part-clause-written : goal.inline_items-returns-in_err-part-clause-written
+inline_items-returns-in_err-part-clause-written t c = let p = err_from_is_err_and c.from_residual.result c.from_residual.ensures.1 in ok_at_err c.from_residual.result p.0 _ p.1
+
+pub inline_items-returns-in_err-part-clause-limit : goal.inline_items-returns-in_err-part-clause-limit
+inline_items-returns-in_err-part-clause-limit t c = let p = err_from_is_err_and c.from_residual.result c.from_residual.ensures.1 in stopped_by c.from_residual.result p.0 _ (λ x. StopsItem (program_view c.args.program.now) c.args.path.now (record c.args.frame { live = c.items.live }) (map site_view c.items.sites.items) (item_view c.item-item.result) x) (λ x. walk (map site_view c.args.sites.now.items) (items_events (inside (program_view c.args.program.now) c.args.path.now c.args.frame) c.args.path.now c.args.frame.live (items_of (map item_view c.args.items.now))) ≡ stopped x) p.1 p.2 (item_stopped (program_view c.args.program.now) c.args.path.now c.args.frame (map site_view c.args.sites.now.items) (items_of (map item_view c.args.items.now)) c.args.items.now c.items.item-index c.item-item.result c.items.parts.items c.items.live (map site_view c.items.sites.items) c.items-test.true c.item-item.is c.items.invariant) c.in_err-part.ensures.limit
+
+pub inline_items-returns-in_err-add_part-clause-last : goal.inline_items-returns-in_err-add_part-clause-last
+inline_items-returns-in_err-add_part-clause-last t c = let p = err_from_is_err_and c.from_residual-in_err-add_part.result c.from_residual-in_err-add_part.ensures.1 in ok_at_err c.from_residual-in_err-add_part.result p.0 _ p.1
+
+pub inline_items-returns-in_err-add_part-clause-written : goal.inline_items-returns-in_err-add_part-clause-written
+inline_items-returns-in_err-add_part-clause-written t c = let p = err_from_is_err_and c.from_residual-in_err-add_part.result c.from_residual-in_err-add_part.ensures.1 in ok_at_err c.from_residual-in_err-add_part.result p.0 _ p.1
+
+pub inline_items-returns-in_err-add_part-clause-limit : goal.inline_items-returns-in_err-add_part-clause-limit
+inline_items-returns-in_err-add_part-clause-limit t c = let p = err_from_is_err_and c.from_residual-in_err-add_part.result c.from_residual-in_err-add_part.ensures.1 in limit_memory c.from_residual-in_err-add_part.result p.0 _ p.1 p.2
+
+pub inline_items-returns-in_err-all-clause-last : goal.inline_items-returns-in_err-all-clause-last
+inline_items-returns-in_err-all-clause-last t c = let p = err_from_is_err_and c.from_residual-in_err-all.result c.from_residual-in_err-all.ensures.1 in ok_at_err c.from_residual-in_err-all.result p.0 _ p.1
+
+pub inline_items-returns-in_err-all-clause-written : goal.inline_items-returns-in_err-all-clause-written
+inline_items-returns-in_err-all-clause-written t c = let p = err_from_is_err_and c.from_residual-in_err-all.result c.from_residual-in_err-all.ensures.1 in ok_at_err c.from_residual-in_err-all.result p.0 _ p.1
+
+pub inline_items-returns-in_err-all-clause-limit : goal.inline_items-returns-in_err-all-clause-limit
+inline_items-returns-in_err-all-clause-limit t c = let p = err_from_is_err_and c.from_residual-in_err-all.result c.from_residual-in_err-all.ensures.1 in limit_memory c.from_residual-in_err-all.result p.0 _ p.1 p.2
+
+pub inline_items-returns-clause-last : goal.inline_items-returns-clause-last
+inline_items-returns-clause-last t c = items_last (program_view c.args.program.now) c.args.path.now c.args.frame (map site_view c.args.sites.now.items) (items_of (map item_view c.args.items.now)) c.args.items.now c.items.item-index c.items.parts.items c.items.live (map site_view c.items.sites.items) c.items-test.false c.items.invariant
+
+pub inline_items-returns-clause-written : goal.inline_items-returns-clause-written
+inline_items-returns-clause-written t c = items_end (program_view c.args.program.now) c.args.path.now c.args.frame (map site_view c.args.sites.now.items) (items_of (map item_view c.args.items.now)) c.args.items.now c.items.item-index c.items.parts.items c.items.live (map site_view c.items.sites.items) c.items-test.false c.items.invariant (node_view c.in_ok-all.all) c.in_ok-all.ensures
 
 pub inline_call-returns-then-frame-eq0-clause-limit : goal.inline_call-returns-then-frame-eq0-clause-limit
 inline_call-returns-then-frame-eq0-clause-limit t c = no_call_more (program_view c.args.program.now) c.args.path.now c.args.frame.calls_left c.args.frame.live (map site_view c.args.sites.now.items) (call_view c.args.call.now) c.if-frame-eq0.true
@@ -166,75 +248,6 @@ inline_for-unreachable-unreachable t c = only_loops c.args.again.now c.requires.
 
 pub inline_for-returns-clause-written : goal.inline_for-returns-clause-written
 inline_for-returns-clause-written t c = stmt_as (program_view c.args.program.now) c.args.path.now c.args.frame _ _ (for (items_of (map item_view c.args.init.now)) (stmt_view c.args.again.now)) (for (items_of (map item_view c.args.init.now)) (loop c.in-Loop.label (cond_view c.in-Loop.cond) (stmt_view c.in-Loop.body.value) (stmt_view c.in-Loop.step.value))) _ _ (ap (λ z. for (items_of (map item_view c.args.init.now)) z) (ap stmt_view c.in-Loop.is ∙ shown_loop c.in-Loop.label c.in-Loop.cond c.in-Loop.body c.in-Loop.step)) refl (for_written (program_view c.args.program.now) c.args.path.now c.args.frame _ _ _ _ c.in_ok-point-in-Loop.point c.in-Loop.label c.in-Some.live (items_of (map item_view c.args.init.now)) (cond_view c.in-Loop.cond) (stmt_view c.in-Loop.body.value) (stmt_view c.in-Loop.step.value) _ _ _ _ c.in_ok-point-in-Loop.ensures.number c.in-Some.ensures c.in_ok-point-in-Loop.ensures.walked c.in_ok-init-in-Loop.ensures.written (loop_seen (program_view c.args.program.now) c.args.path.now (record c.args.frame { live = c.in-Some.live }) _ _ c.in_ok-point-in-Loop.point (cond_view c.in-Loop.cond) (stmt_view c.in-Loop.body.value) (stmt_view c.deref.result.now) (stmt_view c.in-Loop.step.value) (stmt_view c.deref-in-Loop.result.now) _ (ap stmt_view c.deref.ensures) (ap stmt_view c.deref-in-Loop.ensures) c.in_ok-again-in-Loop.ensures.written) (c.in_ok-rest-in-Loop.ensures ∙ ap (λ z. seq (node_view c.in_ok-again-in-Loop.again) z) (shown_act c.in_ok-point-in-Loop.point _)) c.in_ok-in_turn-in-Loop.ensures)
-
-pub inline_items-returns-in_err-point-in-Declaration-clause-last : goal.inline_items-returns-in_err-point-in-Declaration-clause-last
-inline_items-returns-in_err-point-in-Declaration-clause-last t c = let p = err_from_is_err_and c.from_residual.result c.from_residual.ensures.1 in ok_at_err c.from_residual.result p.0 _ p.1
-
-pub inline_items-returns-in_err-point-in-Declaration-clause-written : goal.inline_items-returns-in_err-point-in-Declaration-clause-written
-inline_items-returns-in_err-point-in-Declaration-clause-written t c = let p = err_from_is_err_and c.from_residual.result c.from_residual.ensures.1 in ok_at_err c.from_residual.result p.0 _ p.1
-
-pub inline_items-returns-in_err-point-in-Declaration-clause-limit : goal.inline_items-returns-in_err-point-in-Declaration-clause-limit
-inline_items-returns-in_err-point-in-Declaration-clause-limit t c = let p = err_from_is_err_and c.from_residual.result c.from_residual.ensures.1 in limit_by c.from_residual.result p.0 _ (map site_view c.args.sites.now.items) (map site_view c.args.sites.now.items) (items_events (inside (program_view c.args.program.now) c.args.path.now c.args.frame) c.args.path.now c.args.frame.live (items_of (map item_view c.args.items.now))) (plain_site c.args.path.now c.in-Declaration.declarator.label c.args.frame.live ∷ []) p.1 p.2 (declaration_at_point (program_view c.args.program.now) c.args.path.now c.args.frame (map site_view c.args.sites.now.items) (items_of (map item_view c.args.items.now)) (declarator_view c.in-Declaration.declarator) (items_of (map item_view c.in-Some.rest.now)) (first_declared c.args.items.now c.in-Some.item.now c.in-Some.rest.now c.in-Some.ensures.cases.0 c.in-Declaration.declarator c.in-Declaration.is)) c.in_err-point-in-Declaration.ensures.limit
-
-pub inline_items-inline_declared-requires : goal.inline_items-inline_declared-requires
-inline_items-inline_declared-requires t c = (source_lighter (program_view c.args.program.now) c.args.frame.calls_left t (items_of (map item_view c.args.items.now)) c.decreases (declarator_view c.in-Declaration.declarator) (items_of (map item_view c.in-Some.rest.now)) (first_declared c.args.items.now c.in-Some.item.now c.in-Some.rest.now c.in-Some.ensures.cases.0 c.in-Declaration.declarator c.in-Declaration.is), (c.requires.well, (c.in_ok-point-in-Declaration.ensures.few, declared_stands (program_view c.args.program.now) c.args.frame (c.args.frame.live + 1) (declarator_view c.in-Declaration.declarator) (items_of (map item_view c.in-Some.rest.now)) (omega arith) (items_stand_as (program_view c.args.program.now) c.args.frame _ _ (first_declared c.args.items.now c.in-Some.item.now c.in-Some.rest.now c.in-Some.ensures.cases.0 c.in-Declaration.declarator c.in-Declaration.is) c.requires.stands))))
-
-pub inline_items-returns-in_err-given-in-Declaration-clause-last : goal.inline_items-returns-in_err-given-in-Declaration-clause-last
-inline_items-returns-in_err-given-in-Declaration-clause-last t c = let p = err_from_is_err_and c.from_residual-in_err-given-in-Declaration.result c.from_residual-in_err-given-in-Declaration.ensures.1 in ok_at_err c.from_residual-in_err-given-in-Declaration.result p.0 _ p.1
-
-pub inline_items-returns-in_err-given-in-Declaration-clause-written : goal.inline_items-returns-in_err-given-in-Declaration-clause-written
-inline_items-returns-in_err-given-in-Declaration-clause-written t c = let p = err_from_is_err_and c.from_residual-in_err-given-in-Declaration.result c.from_residual-in_err-given-in-Declaration.ensures.1 in ok_at_err c.from_residual-in_err-given-in-Declaration.result p.0 _ p.1
-
-pub inline_items-returns-in_err-given-in-Declaration-clause-limit : goal.inline_items-returns-in_err-given-in-Declaration-clause-limit
-inline_items-returns-in_err-given-in-Declaration-clause-limit t c = let p = err_from_is_err_and c.from_residual-in_err-given-in-Declaration.result c.from_residual-in_err-given-in-Declaration.ensures.1 in limit_by c.from_residual-in_err-given-in-Declaration.result p.0 _ (map site_view c.args.sites.now.items) (map site_view c.add_point.new.sites.items) (items_events (inside (program_view c.args.program.now) c.args.path.now c.args.frame) c.args.path.now c.args.frame.live (items_of (map item_view c.args.items.now))) (given_events (inside (program_view c.args.program.now) c.args.path.now c.args.frame) c.args.path.now (c.args.frame.live + 1) (given_view c.in-Declaration.declarator.source)) p.1 p.2 (declaration_at_given (program_view c.args.program.now) c.args.path.now c.args.frame (map site_view c.args.sites.now.items) (items_of (map item_view c.args.items.now)) (declarator_view c.in-Declaration.declarator) (items_of (map item_view c.in-Some.rest.now)) (first_declared c.args.items.now c.in-Some.item.now c.in-Some.rest.now c.in-Some.ensures.cases.0 c.in-Declaration.declarator c.in-Declaration.is) (map site_view c.add_point.new.sites.items) (c.args.frame.live + 1) c.in_ok-point-in-Declaration.ensures.walked (omega arith)) c.in_err-given-in-Declaration.ensures.limit
-
-pub inline_items-returns-in_err-declared-in-Declaration-clause-last : goal.inline_items-returns-in_err-declared-in-Declaration-clause-last
-inline_items-returns-in_err-declared-in-Declaration-clause-last t c = let p = err_from_is_err_and c.from_residual-in_err-declared-in-Declaration.result c.from_residual-in_err-declared-in-Declaration.ensures.1 in ok_at_err c.from_residual-in_err-declared-in-Declaration.result p.0 _ p.1
-
-pub inline_items-returns-in_err-declared-in-Declaration-clause-written : goal.inline_items-returns-in_err-declared-in-Declaration-clause-written
-inline_items-returns-in_err-declared-in-Declaration-clause-written t c = let p = err_from_is_err_and c.from_residual-in_err-declared-in-Declaration.result c.from_residual-in_err-declared-in-Declaration.ensures.1 in ok_at_err c.from_residual-in_err-declared-in-Declaration.result p.0 _ p.1
-
-pub inline_items-returns-in_err-declared-in-Declaration-clause-limit : goal.inline_items-returns-in_err-declared-in-Declaration-clause-limit
-inline_items-returns-in_err-declared-in-Declaration-clause-limit t c = let p = err_from_is_err_and c.from_residual-in_err-declared-in-Declaration.result c.from_residual-in_err-declared-in-Declaration.ensures.1 in limit_memory c.from_residual-in_err-declared-in-Declaration.result p.0 _ p.1 p.2
-
-pub inline_items-overflow_add-behind : goal.inline_items-overflow_add-behind
-inline_items-overflow_add-behind t c = let h = c.in_ok-point-in-Declaration.ensures.few in record { fits = omega arith }
-
-pub inline_items-inline_items-requires : goal.inline_items-inline_items-requires
-inline_items-inline_items-requires t c = (behind_lighter (program_view c.args.program.now) c.args.frame.calls_left t (items_of (map item_view c.args.items.now)) c.decreases (declarator_view c.in-Declaration.declarator) (items_of (map item_view c.in-Some.rest.now)) (first_declared c.args.items.now c.in-Some.item.now c.in-Some.rest.now c.in-Some.ensures.cases.0 c.in-Declaration.declarator c.in-Declaration.is), (c.requires.well, behind_stand (program_view c.args.program.now) c.args.frame (c.args.frame.live + 1) (declarator_view c.in-Declaration.declarator) (items_of (map item_view c.in-Some.rest.now)) (omega arith) (items_stand_as (program_view c.args.program.now) c.args.frame _ _ (first_declared c.args.items.now c.in-Some.item.now c.in-Some.rest.now c.in-Some.ensures.cases.0 c.in-Declaration.declarator c.in-Declaration.is) c.requires.stands)))
-
-pub inline_items-returns-in_err-others-in-Declaration-clause-last : goal.inline_items-returns-in_err-others-in-Declaration-clause-last
-inline_items-returns-in_err-others-in-Declaration-clause-last t c = let p = err_from_is_err_and c.from_residual-in_err-others-in-Declaration.result c.from_residual-in_err-others-in-Declaration.ensures.1 in ok_at_err c.from_residual-in_err-others-in-Declaration.result p.0 _ p.1
-
-pub inline_items-returns-in_err-others-in-Declaration-clause-written : goal.inline_items-returns-in_err-others-in-Declaration-clause-written
-inline_items-returns-in_err-others-in-Declaration-clause-written t c = let p = err_from_is_err_and c.from_residual-in_err-others-in-Declaration.result c.from_residual-in_err-others-in-Declaration.ensures.1 in ok_at_err c.from_residual-in_err-others-in-Declaration.result p.0 _ p.1
-
-pub inline_items-returns-in_err-others-in-Declaration-clause-limit : goal.inline_items-returns-in_err-others-in-Declaration-clause-limit
-inline_items-returns-in_err-others-in-Declaration-clause-limit t c = let p = err_from_is_err_and c.from_residual-in_err-others-in-Declaration.result c.from_residual-in_err-others-in-Declaration.ensures.1 in limit_by c.from_residual-in_err-others-in-Declaration.result p.0 _ (map site_view c.args.sites.now.items) (map site_view c.inline_declared.new.sites.items) (items_events (inside (program_view c.args.program.now) c.args.path.now c.args.frame) c.args.path.now c.args.frame.live (items_of (map item_view c.args.items.now))) (items_events (inside (program_view c.args.program.now) c.args.path.now c.args.frame) c.args.path.now (c.args.frame.live + 1) (items_of (map item_view c.in-Some.rest.now))) p.1 p.2 (λ x h. declaration_at_others (program_view c.args.program.now) c.args.path.now c.args.frame (map site_view c.args.sites.now.items) (items_of (map item_view c.args.items.now)) (declarator_view c.in-Declaration.declarator) (items_of (map item_view c.in-Some.rest.now)) (first_declared c.args.items.now c.in-Some.item.now c.in-Some.rest.now c.in-Some.ensures.cases.0 c.in-Declaration.declarator c.in-Declaration.is) (map site_view c.add_point.new.sites.items) (c.args.frame.live + 1) c.in_ok-point-in-Declaration.ensures.walked (omega arith) (map site_view c.inline_declared.new.sites.items) x c.in_ok-given-in-Declaration.ensures.written.walked h) c.in_err-others-in-Declaration.ensures.limit
-
-pub inline_items-inline_stmt-requires : goal.inline_items-inline_stmt-requires
-inline_items-inline_stmt-requires t c = (first_lighter (program_view c.args.program.now) c.args.frame.calls_left t (items_of (map item_view c.args.items.now)) c.decreases (stmt_view c.in-Statement.stmt) (items_of (map item_view c.in-Some.rest.now)) (first_stated c.args.items.now c.in-Some.item.now c.in-Some.rest.now c.in-Some.ensures.cases.0 c.in-Statement.stmt c.in-Statement.is), (c.requires.well, first_stands (program_view c.args.program.now) c.args.frame (stmt_view c.in-Statement.stmt) (items_of (map item_view c.in-Some.rest.now)) (items_stand_as (program_view c.args.program.now) c.args.frame _ _ (first_stated c.args.items.now c.in-Some.item.now c.in-Some.rest.now c.in-Some.ensures.cases.0 c.in-Statement.stmt c.in-Statement.is) c.requires.stands)))
-
-pub inline_items-returns-in_err-first-in-Statement-clause-last : goal.inline_items-returns-in_err-first-in-Statement-clause-last
-inline_items-returns-in_err-first-in-Statement-clause-last t c = let p = err_from_is_err_and c.from_residual-in_err-first-in-Statement.result c.from_residual-in_err-first-in-Statement.ensures.1 in ok_at_err c.from_residual-in_err-first-in-Statement.result p.0 _ p.1
-
-pub inline_items-returns-in_err-first-in-Statement-clause-written : goal.inline_items-returns-in_err-first-in-Statement-clause-written
-inline_items-returns-in_err-first-in-Statement-clause-written t c = let p = err_from_is_err_and c.from_residual-in_err-first-in-Statement.result c.from_residual-in_err-first-in-Statement.ensures.1 in ok_at_err c.from_residual-in_err-first-in-Statement.result p.0 _ p.1
-
-pub inline_items-returns-in_err-first-in-Statement-clause-limit : goal.inline_items-returns-in_err-first-in-Statement-clause-limit
-inline_items-returns-in_err-first-in-Statement-clause-limit t c = let p = err_from_is_err_and c.from_residual-in_err-first-in-Statement.result c.from_residual-in_err-first-in-Statement.ensures.1 in limit_by c.from_residual-in_err-first-in-Statement.result p.0 _ (map site_view c.args.sites.now.items) (map site_view c.args.sites.now.items) (items_events (inside (program_view c.args.program.now) c.args.path.now c.args.frame) c.args.path.now c.args.frame.live (items_of (map item_view c.args.items.now))) (stmt_events (inside (program_view c.args.program.now) c.args.path.now c.args.frame) c.args.path.now c.args.frame.live (stmt_view c.in-Statement.stmt)) p.1 p.2 (statement_at_first (program_view c.args.program.now) c.args.path.now c.args.frame (map site_view c.args.sites.now.items) (items_of (map item_view c.args.items.now)) (stmt_view c.in-Statement.stmt) (items_of (map item_view c.in-Some.rest.now)) (first_stated c.args.items.now c.in-Some.item.now c.in-Some.rest.now c.in-Some.ensures.cases.0 c.in-Statement.stmt c.in-Statement.is)) c.in_err-first-in-Statement.ensures.limit
-
-pub inline_items-inline_items-requires-in-Statement : goal.inline_items-inline_items-requires-in-Statement
-inline_items-inline_items-requires-in-Statement t c = (others_lighter (program_view c.args.program.now) c.args.frame.calls_left t (items_of (map item_view c.args.items.now)) c.decreases (stmt_view c.in-Statement.stmt) (items_of (map item_view c.in-Some.rest.now)) (first_stated c.args.items.now c.in-Some.item.now c.in-Some.rest.now c.in-Some.ensures.cases.0 c.in-Statement.stmt c.in-Statement.is), (c.requires.well, others_stand (program_view c.args.program.now) c.args.frame (stmt_view c.in-Statement.stmt) (items_of (map item_view c.in-Some.rest.now)) (items_stand_as (program_view c.args.program.now) c.args.frame _ _ (first_stated c.args.items.now c.in-Some.item.now c.in-Some.rest.now c.in-Some.ensures.cases.0 c.in-Statement.stmt c.in-Statement.is) c.requires.stands)))
-
-pub inline_items-returns-in_err-others-in-Statement-clause-last : goal.inline_items-returns-in_err-others-in-Statement-clause-last
-inline_items-returns-in_err-others-in-Statement-clause-last t c = let p = err_from_is_err_and c.from_residual-in_err-others-in-Statement.result c.from_residual-in_err-others-in-Statement.ensures.1 in ok_at_err c.from_residual-in_err-others-in-Statement.result p.0 _ p.1
-
-pub inline_items-returns-in_err-others-in-Statement-clause-written : goal.inline_items-returns-in_err-others-in-Statement-clause-written
-inline_items-returns-in_err-others-in-Statement-clause-written t c = let p = err_from_is_err_and c.from_residual-in_err-others-in-Statement.result c.from_residual-in_err-others-in-Statement.ensures.1 in ok_at_err c.from_residual-in_err-others-in-Statement.result p.0 _ p.1
-
-pub inline_items-returns-in_err-others-in-Statement-clause-limit : goal.inline_items-returns-in_err-others-in-Statement-clause-limit
-inline_items-returns-in_err-others-in-Statement-clause-limit t c = let p = err_from_is_err_and c.from_residual-in_err-others-in-Statement.result c.from_residual-in_err-others-in-Statement.ensures.1 in limit_by c.from_residual-in_err-others-in-Statement.result p.0 _ (map site_view c.args.sites.now.items) (map site_view c.inline_stmt.new.sites.items) (items_events (inside (program_view c.args.program.now) c.args.path.now c.args.frame) c.args.path.now c.args.frame.live (items_of (map item_view c.args.items.now))) (items_events (inside (program_view c.args.program.now) c.args.path.now c.args.frame) c.args.path.now c.args.frame.live (items_of (map item_view c.in-Some.rest.now))) p.1 p.2 (λ x h. statement_at_others (program_view c.args.program.now) c.args.path.now c.args.frame (map site_view c.args.sites.now.items) (items_of (map item_view c.args.items.now)) (stmt_view c.in-Statement.stmt) (items_of (map item_view c.in-Some.rest.now)) (first_stated c.args.items.now c.in-Some.item.now c.in-Some.rest.now c.in-Some.ensures.cases.0 c.in-Statement.stmt c.in-Statement.is) (map site_view c.inline_stmt.new.sites.items) x c.in_ok-first-in-Statement.ensures.written.walked h) c.in_err-others-in-Statement.ensures.limit
 
 pub inline_loop-inline_stmt-requires : goal.inline_loop-inline_stmt-requires
 inline_loop-inline_stmt-requires t c = (step_falls (program_view c.args.program.now) c.args.frame.calls_left t (stmt_view c.args.body.now) (stmt_view c.args.step.now) c.decreases, (c.requires.well, c.requires.step_stands))
@@ -547,39 +560,3 @@ inline_stmt-returns-in-Assume-clause-written t c = any_handed (program_view c.ar
 
 pub inline_stmt-returns-in-Assume-clause-limit : goal.inline_stmt-returns-in-Assume-clause-limit
 inline_stmt-returns-in-Assume-clause-limit t c = stmt_limit (program_view c.args.program.now) c.args.path.now c.args.frame (map site_view c.args.sites.now.items) c.assumption_of.result (stmt_view c.args.stmt.now) (assume c.in-Assume.label (cond_view c.in-Assume.cond)) (ap stmt_view c.in-Assume.is ∙ shown_assume c.in-Assume.label c.in-Assume.cond) c.assumption_of.ensures.limit
-
-pub inline_items-returns-in-None-clause-last : goal.inline_items-returns-in-None-clause-last
-inline_items-returns-in-None-clause-last t c = none_last c.args.frame.live (items_of (map item_view c.args.items.now)) (none_left c.args.items.now c.in-None.ensures.cases)
-
-pub inline_items-returns-in-None-clause-written : goal.inline_items-returns-in-None-clause-written
-inline_items-returns-in-None-clause-written t c = none_shown (program_view c.args.program.now) c.args.path.now c.args.frame (map site_view c.args.sites.now.items) (items_of (map item_view c.args.items.now)) _ (none_left c.args.items.now c.in-None.ensures.cases) shown_empty
-
-pub inline_items-returns-in_ok-all-in-Declaration-clause-last : goal.inline_items-returns-in_ok-all-in-Declaration-clause-last
-inline_items-returns-in_ok-all-in-Declaration-clause-last t c = declared_last c.args.frame.live (c.args.frame.live + 1) _ (declarator_view c.in-Declaration.declarator) (items_of (map item_view c.in-Some.rest.now)) (items_of (map item_view c.args.items.now)) (first_declared c.args.items.now c.in-Some.item.now c.in-Some.rest.now c.in-Some.ensures.cases.0 c.in-Declaration.declarator c.in-Declaration.is) (omega arith) c.in_ok-others-in-Declaration.ensures.last
-
-pub inline_items-returns-in_ok-all-in-Declaration-clause-written : goal.inline_items-returns-in_ok-all-in-Declaration-clause-written
-inline_items-returns-in_ok-all-in-Declaration-clause-written t c = items_as (program_view c.args.program.now) c.args.path.now c.args.frame _ _ _ _ _ (first_declared c.args.items.now c.in-Some.item.now c.in-Some.rest.now c.in-Some.ensures.cases.0 c.in-Declaration.declarator c.in-Declaration.is) (declaration_written (program_view c.args.program.now) c.args.path.now c.args.frame _ _ _ _ c.in_ok-point-in-Declaration.point (c.args.frame.live + 1) (declarator_view c.in-Declaration.declarator) (items_of (map item_view c.in-Some.rest.now)) _ _ _ _ c.in_ok-point-in-Declaration.ensures.number (omega arith) c.in_ok-point-in-Declaration.ensures.walked c.in_ok-given-in-Declaration.ensures.written c.in_ok-others-in-Declaration.ensures.written c.in_ok-declared-in-Declaration.ensures c.in_ok-all-in-Declaration.ensures)
-
-pub inline_items-returns-in_ok-all-in-Statement-clause-last : goal.inline_items-returns-in_ok-all-in-Statement-clause-last
-inline_items-returns-in_ok-all-in-Statement-clause-last t c = stated_last c.args.frame.live _ (stmt_view c.in-Statement.stmt) (items_of (map item_view c.in-Some.rest.now)) (items_of (map item_view c.args.items.now)) (first_stated c.args.items.now c.in-Some.item.now c.in-Some.rest.now c.in-Some.ensures.cases.0 c.in-Statement.stmt c.in-Statement.is) c.in_ok-others-in-Statement.ensures.last
-
-pub inline_items-returns-in_ok-all-in-Statement-clause-written : goal.inline_items-returns-in_ok-all-in-Statement-clause-written
-inline_items-returns-in_ok-all-in-Statement-clause-written t c = items_as (program_view c.args.program.now) c.args.path.now c.args.frame _ _ _ _ _ (first_stated c.args.items.now c.in-Some.item.now c.in-Some.rest.now c.in-Some.ensures.cases.0 c.in-Statement.stmt c.in-Statement.is) (statement_written (program_view c.args.program.now) c.args.path.now c.args.frame _ _ _ (stmt_view c.in-Statement.stmt) (items_of (map item_view c.in-Some.rest.now)) _ _ _ c.in_ok-first-in-Statement.ensures.written c.in_ok-others-in-Statement.ensures.written c.in_ok-all-in-Statement.ensures)
-
-pub inline_items-returns-in_err-all-in-Declaration-clause-last : goal.inline_items-returns-in_err-all-in-Declaration-clause-last
-inline_items-returns-in_err-all-in-Declaration-clause-last t c = let p = err_from_is_err_and c.from_residual-in_err-all-in-Declaration.result c.from_residual-in_err-all-in-Declaration.ensures.1 in ok_at_err c.from_residual-in_err-all-in-Declaration.result p.0 _ p.1
-
-pub inline_items-returns-in_err-all-in-Declaration-clause-written : goal.inline_items-returns-in_err-all-in-Declaration-clause-written
-inline_items-returns-in_err-all-in-Declaration-clause-written t c = let p = err_from_is_err_and c.from_residual-in_err-all-in-Declaration.result c.from_residual-in_err-all-in-Declaration.ensures.1 in ok_at_err c.from_residual-in_err-all-in-Declaration.result p.0 _ p.1
-
-pub inline_items-returns-in_err-all-in-Declaration-clause-limit : goal.inline_items-returns-in_err-all-in-Declaration-clause-limit
-inline_items-returns-in_err-all-in-Declaration-clause-limit t c = let p = err_from_is_err_and c.from_residual-in_err-all-in-Declaration.result c.from_residual-in_err-all-in-Declaration.ensures.1 in limit_memory c.from_residual-in_err-all-in-Declaration.result p.0 _ p.1 p.2
-
-pub inline_items-returns-in_err-all-in-Statement-clause-last : goal.inline_items-returns-in_err-all-in-Statement-clause-last
-inline_items-returns-in_err-all-in-Statement-clause-last t c = let p = err_from_is_err_and c.from_residual-in_err-all-in-Statement.result c.from_residual-in_err-all-in-Statement.ensures.1 in ok_at_err c.from_residual-in_err-all-in-Statement.result p.0 _ p.1
-
-pub inline_items-returns-in_err-all-in-Statement-clause-written : goal.inline_items-returns-in_err-all-in-Statement-clause-written
-inline_items-returns-in_err-all-in-Statement-clause-written t c = let p = err_from_is_err_and c.from_residual-in_err-all-in-Statement.result c.from_residual-in_err-all-in-Statement.ensures.1 in ok_at_err c.from_residual-in_err-all-in-Statement.result p.0 _ p.1
-
-pub inline_items-returns-in_err-all-in-Statement-clause-limit : goal.inline_items-returns-in_err-all-in-Statement-clause-limit
-inline_items-returns-in_err-all-in-Statement-clause-limit t c = let p = err_from_is_err_and c.from_residual-in_err-all-in-Statement.result c.from_residual-in_err-all-in-Statement.ensures.1 in limit_memory c.from_residual-in_err-all-in-Statement.result p.0 _ p.1 p.2

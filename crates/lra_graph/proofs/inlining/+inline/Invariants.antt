@@ -1,6 +1,9 @@
 -- Each call makes its path longer; inside a function the parts get smaller.
-use Rattle.std.proofs.Common.{◌+◌, map}
+use Rattle.std.proofs.Common.{◌+◌, ◌-◌, map, drop}
+use Rattle.lra_tree.specs.Program.{no_more}
 use Rattle.lra_tree.specs.ProgramViews.{stmt_view, item_view, items_of, program_view}
+use Rattle.lra_tree.specs.GraphViews.{node_view, site_view}
+use Rattle.lra_graph.proofs.ItemRows.{ItemsLoop}
 use Rattle.lra_graph.proofs.Sizes.{size_stmt, size_items, weight}
 use Rattle.lra_graph.proofs.inlining.+inline.Given as goal
 
@@ -9,6 +12,12 @@ decreases-inline_stmt l = weight (program_view l.program.now) l.frame.calls_left
 
 abbrev pub decreases-inline_items : goal.decreases-inline_items
 decreases-inline_items l = weight (program_view l.program.now) l.frame.calls_left (size_items (items_of (map item_view l.items.now)))
+
+abbrev pub invariant-inline_items-items : goal.invariant-inline_items-items
+invariant-inline_items-items l = ItemsLoop (program_view l.program) l.path l.frame (map site_view l.fn.sites.items) (items_of (map item_view l.items)) (items_of (map item_view (drop l.item-index l.items))) (map node_view l.parts.items) l.live (map site_view l.sites.items)
+
+abbrev pub decreases-inline_item : goal.decreases-inline_item
+decreases-inline_item l = weight (program_view l.program.now) l.frame.calls_left (size_items (item_view l.item.now no_more) - 1)
 
 abbrev pub decreases-inline_declared : goal.decreases-inline_declared
 decreases-inline_declared l = weight (program_view l.program.now) l.frame.calls_left 4
