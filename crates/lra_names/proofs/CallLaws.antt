@@ -1,22 +1,14 @@
--- The faults of a call are those of the called name, then those of its arguments in their order; those of an assignment are of its variable first.
+-- The faults of a call are those of the called name, then those of its arguments in their order.
 use Rattle.std.proofs.Common.{◌≡◌, List, map, length, ◌++◌, Bool}
 use Rattle.std.specs.List.{flat_map}
 use Rattle.std.proofs.lemmas.List.Folds.{flat_map-map}
 use Rattle.std.proofs.lemmas.Simd.{map-map}
 use Rattle.std.proofs.lemmas.List.{length-map}
 use Rattle.lra_tree.specs.declared.trees.Call.{Call}
-use Rattle.lra_tree.specs.declared.refusals.Place.{Place}
-use Rattle.lra_tree.specs.declared.trees.Identifier.{Identifier}
-use Rattle.lra_tree.specs.declared.trees.Expr.{Expr}
-use Rattle.lra_tree.specs.declared.trees.Operator.{Operator}
-use Rattle.lra_tree.specs.declared.trees.Step.{Step}
-use Rattle.lra_tree.specs.declared.trees.Source.{Source}
-use Rattle.lra_tree.specs.declared.trees.Assign.{Assign}
-use Rattle.lra_tree.specs.declared.trees.Assign.TheVariants as assign
 use Rattle.lra_tree.specs.Trees.{FunctionTree}
-use Rattle.lra_tree.specs.Views.{expr_view, call_view, source_view, assign_view}
+use Rattle.lra_tree.specs.Views.{expr_view, call_view}
 use Rattle.lra_tree.specs.Scope.{Scope, function_named}
-use Rattle.lra_tree.specs.NameFaults.{use_faults, called_faults, call_faults, expr_faults, source_faults, assign_faults}
+use Rattle.lra_tree.specs.NameFaults.{called_faults, call_faults, expr_faults}
 use Rattle.lra_tree.specs.Resolve.{resolve_expr}
 use Rattle.lra_names.specs.Calls.{argument_faults, resolve_argument}
 use Rattle.lra_names.proofs.Telling.{tells_front, tells_behind}
@@ -31,20 +23,5 @@ code_call_faults F s c used =
 
 pub code_arguments : (s : Scope) (c : Call) → map (resolve_expr s) (call_view c).arguments ≡ map (resolve_argument s) c.arguments.items.items
 code_arguments s c = map-map (resolve_expr s) expr_view c.arguments.items.items
-
-pub set_faults : (F : List FunctionTree) (s : Scope) (a : Assign) (x : Identifier) (e : Source) → a ≡ assign.Set x e
-    → assign_faults F s (assign_view a) ≡ use_faults s x ++ source_faults F s (source_view e)
-set_faults F s a x e is = rw is
-
-pub update_faults : (F : List FunctionTree) (s : Scope) (a : Assign) (x : Identifier) (op : Operator) (e : Expr) → a ≡ assign.Update x op e
-    → assign_faults F s (assign_view a) ≡ use_faults s x ++ expr_faults s (expr_view e)
-update_faults F s a x op e is = rw is
-
-pub after_faults : (F : List FunctionTree) (s : Scope) (a : Assign) (x : Identifier) (step : Step) → a ≡ assign.After x step → assign_faults F s (assign_view a) ≡ use_faults s x
-after_faults F s a x step is = rw is
-
-pub before_faults : (F : List FunctionTree) (s : Scope) (a : Assign) (at : Place) (step : Step) (x : Identifier) → a ≡ assign.Before at step x
-    → assign_faults F s (assign_view a) ≡ use_faults s x
-before_faults F s a at step x is = rw is
 
 pub ruleset call_rules = (code_call_faults, code_arguments, tells_front, tells_behind)

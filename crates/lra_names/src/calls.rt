@@ -1,12 +1,12 @@
 //! Calls, and what variables get.
 
-ghost use Rattle.std.specs.Prelude.{◌≡◌, ◌||◌, ◌&&◌, not, nat_eq, ◌∷◌, [], map, length, flat_map, Option, Some, None, option_map, IfOk, MatchOption};
-ghost use Rattle.lra_tree.specs.Program.{binary, literal, read, value};
-ghost use Rattle.lra_tree.specs.Views.{operator_view, step_view, function_view, call_view as tree_call_view, source_view as tree_source_view, assign_view};
+ghost use Rattle.std.specs.Prelude.{◌≡◌, ◌||◌, ◌&&◌, not, nat_eq, ◌∷◌, ◌++◌, [], map, length, flat_map, Option, Some, None, option_map, IfOk, MatchOption};
+ghost use Rattle.lra_tree.specs.Program.{assign as assign_stmt, binary, literal, read, value};
+ghost use Rattle.lra_tree.specs.Views.{operator_view, step_view, function_view, expr_view as tree_expr_view, call_view as tree_call_view, source_view as tree_source_view, assign_view};
 ghost use Rattle.lra_tree.specs.ProgramViews.{slot_view, expr_view, call_view, source_view, given_view, stmt_view};
 ghost use Rattle.lra_tree.specs.Scope.{function_named};
-ghost use Rattle.lra_tree.specs.NameFaults.{called_faults, call_faults, source_faults, given_faults, assign_faults};
-ghost use Rattle.lra_tree.specs.Resolve.{function_place, resolve_call, resolve_source, resolve_given, resolve_assign, step_operator};
+ghost use Rattle.lra_tree.specs.NameFaults.{use_faults, expr_faults, called_faults, call_faults, source_faults, given_faults, assign_faults};
+ghost use Rattle.lra_tree.specs.Resolve.{variable, function_place, resolve_expr, resolve_call, resolve_source, resolve_given, resolve_assign, step_operator};
 ghost use Rattle.lra_names.specs.Calls.{functions_at, argument_faults, resolve_argument};
 ghost use Rattle.lra_names.specs.Outcome.{TellsOf};
 
@@ -178,7 +178,59 @@ fn stepped(alloc: Global, slot: Slot, step: Step) -> Result<program::Source, All
     updated(alloc, slot, step_operator(step), program::Expr::Literal(1))
 }
 
+/// `x = e`
 #[tactic(auto, using(crate::proofs::Telling::telling_rules))]
+fn resolve_set(
+    alloc: Global,
+    parts: &[Item],
+    scope: &Scope,
+    label: usize,
+    x: &Identifier,
+    source: &Source,
+) -> Result<program::Stmt, NamesError>
+    ensures told { TellsOf (use_faults scope.now x.now ++ source_faults (functions_at parts.now) scope.now (tree_source_view source.now)) result }
+    ensures found { IfOk result (λ s. stmt_view s ≡ assign_stmt label (variable scope.now x.now) (resolve_source (functions_at parts.now) scope.now label (tree_source_view source.now))) }
+{
+    let slot = resolve_variable(scope, x)?;
+    let source = resolve_source(alloc, parts, scope, label, source)?;
+    Ok(program::Stmt::Assign(label, slot, source))
+}
+
+/// `x op= e`
+#[tactic(auto, using(crate::proofs::Telling::telling_rules))]
+fn resolve_update(
+    alloc: Global,
+    scope: &Scope,
+    label: usize,
+    x: &Identifier,
+    operator: Operator,
+    expr: &Expr,
+) -> Result<program::Stmt, NamesError>
+    ensures told { TellsOf (use_faults scope.now x.now ++ expr_faults scope.now (tree_expr_view expr.now)) result }
+    ensures found { IfOk result (λ s. stmt_view s ≡ assign_stmt label (variable scope.now x.now) (value (binary (operator_view operator) (read (variable scope.now x.now)) (resolve_expr scope.now (tree_expr_view expr.now))))) }
+{
+    let slot = resolve_variable(scope, x)?;
+    let operand = resolve_expr(alloc, scope, expr)?;
+    let source = updated(alloc, slot, operator, operand)?;
+    Ok(program::Stmt::Assign(label, slot, source))
+}
+
+/// `x++`, `x--`, and with the sign in front.
+fn resolve_increment(
+    alloc: Global,
+    scope: &Scope,
+    label: usize,
+    x: &Identifier,
+    step: Step,
+) -> Result<program::Stmt, NamesError>
+    ensures told { TellsOf (use_faults scope.now x.now) result }
+    ensures found { IfOk result (λ s. stmt_view s ≡ assign_stmt label (variable scope.now x.now) (value (binary (step_operator (step_view step)) (read (variable scope.now x.now)) (literal 1)))) }
+{
+    let slot = resolve_variable(scope, x)?;
+    let source = stepped(alloc, slot, step)?;
+    Ok(program::Stmt::Assign(label, slot, source))
+}
+
 pub fn resolve_assign(
     alloc: Global,
     parts: &[Item],
@@ -190,26 +242,11 @@ pub fn resolve_assign(
     ensures found { IfOk result (λ s. stmt_view s ≡ resolve_assign (functions_at parts.now) scope.now label (assign_view assign.now)) }
 {
     match assign {
-        Assign::Set(x, source) => {
-            let slot = resolve_variable(scope, x)?;
-            let source = resolve_source(alloc, parts, scope, label, source)?;
-            Ok(program::Stmt::Assign(label, slot, source))
-        }
+        Assign::Set(x, source) => resolve_set(alloc, parts, scope, label, x, source),
         Assign::Update(x, operator, expr) => {
-            let slot = resolve_variable(scope, x)?;
-            let operand = resolve_expr(alloc, scope, expr)?;
-            let source = updated(alloc, slot, *operator, operand)?;
-            Ok(program::Stmt::Assign(label, slot, source))
+            resolve_update(alloc, scope, label, x, *operator, expr)
         }
-        Assign::After(x, step) => {
-            let slot = resolve_variable(scope, x)?;
-            let source = stepped(alloc, slot, *step)?;
-            Ok(program::Stmt::Assign(label, slot, source))
-        }
-        Assign::Before(_, step, x) => {
-            let slot = resolve_variable(scope, x)?;
-            let source = stepped(alloc, slot, *step)?;
-            Ok(program::Stmt::Assign(label, slot, source))
-        }
+        Assign::After(x, step) => resolve_increment(alloc, scope, label, x, *step),
+        Assign::Before(_, step, x) => resolve_increment(alloc, scope, label, x, *step),
     }
 }

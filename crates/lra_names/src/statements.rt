@@ -46,11 +46,11 @@ fn resolve_stmt(
             resolve_assignment(around.alloc, around.parts, scope, next, assign)
         }
         Stmt::Call(call) => resolve_call_alone(around.alloc, around.parts, scope, next, call),
-        Stmt::If(_, cond, branch) => resolve_if(around, scope, next, branch, cond),
+        Stmt::If(_, cond, branch) => resolve_if(around, scope, next, cond, branch),
         Stmt::IfElse(_, cond, branch, other) => {
-            resolve_if_else(around, scope, next, branch, other, cond)
+            resolve_if_else(around, scope, next, cond, branch, other)
         }
-        Stmt::While(_, cond, body) => resolve_while(around, scope, next, body, cond),
+        Stmt::While(_, cond, body) => resolve_while(around, scope, next, cond, body),
         Stmt::For(_, init, test, step, body) => {
             resolve_for(around, scope, next, &Rounds { init, test, step }, body)
         }
@@ -68,8 +68,8 @@ fn resolve_if(
     around: &Around<'_>,
     scope: &mut Scope,
     next: &mut usize,
-    branch: &Stmt,
     cond: &Cond,
+    branch: &Stmt,
 ) -> Result<program::Stmt, NamesError>
     ensures told { TellsOf (cond_faults scope.old (cond_view cond.now) ++ stmt_faults (around_of around.now) scope.old (stmt_view branch.now)) result }
     ensures found { IfOk result (λ s. program_stmt_view s ≡ choice next.old (resolve_cond scope.old (cond_view cond.now)) (resolve_stmt (functions_at around.now.parts.now) scope.old (suc next.old) (stmt_view branch.now)) absent) }
@@ -87,9 +87,9 @@ fn resolve_if_else(
     around: &Around<'_>,
     scope: &mut Scope,
     next: &mut usize,
+    cond: &Cond,
     branch: &Stmt,
     other: &Stmt,
-    cond: &Cond,
 ) -> Result<program::Stmt, NamesError>
     ensures told { TellsOf (cond_faults scope.old (cond_view cond.now) ++ stmt_faults (around_of around.now) scope.old (stmt_view branch.now) ++ stmt_faults (around_of around.now) scope.old (stmt_view other.now)) result }
     ensures found { IfOk result (λ s. program_stmt_view s ≡ choice next.old (resolve_cond scope.old (cond_view cond.now)) (resolve_stmt (functions_at around.now.parts.now) scope.old (suc next.old) (stmt_view branch.now)) (resolve_stmt (functions_at around.now.parts.now) scope.old (suc next.old + stmt_count (stmt_view branch.now)) (stmt_view other.now))) }
@@ -108,8 +108,8 @@ fn resolve_while(
     around: &Around<'_>,
     scope: &mut Scope,
     next: &mut usize,
-    body: &Stmt,
     cond: &Cond,
+    body: &Stmt,
 ) -> Result<program::Stmt, NamesError>
     ensures told { TellsOf (cond_faults scope.old (cond_view cond.now) ++ stmt_faults (in_a_loop (around_of around.now)) scope.old (stmt_view body.now)) result }
     ensures found { IfOk result (λ s. program_stmt_view s ≡ loop_of next.old (resolve_cond scope.old (cond_view cond.now)) (resolve_stmt (functions_at around.now.parts.now) scope.old (suc next.old) (stmt_view body.now)) absent) }
