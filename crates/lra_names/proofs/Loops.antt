@@ -1,5 +1,5 @@
 -- Loops over the parts of a chain: what each part's value and its faults say of the whole.
-use Rattle.std.proofs.Common.{◌≡◌, ℕ, ◌+◌, ◌<◌, ◌≤◌, List, [], ◌∷◌, ◌++◌, length, map, take, drop, get_or, sym, ap, ◌∙◌, Result}
+use Rattle.std.proofs.Common.{◌≡◌, ℕ, ◌+◌, ◌<◌, ◌≤◌, List, [], ◌∷◌, ◌++◌, length, map, take, drop, get_or, sym, ap, ◌∙◌, Result, Ok, Err}
 use Rattle.std.specs.Result.{IsErrAnd, IfErr}
 use Rattle.std.specs.List.{flat_map}
 use Rattle.std.proofs.lemmas.List.{map_push, map_more, take_all, at_drop_more, at_drop_all}
@@ -16,6 +16,11 @@ memory_told whole r is = exit_tells whole r Memory is (tt {0})
 -- an exit by an error that wants memory
 pub wanting_told : {T : Type 0} (whole : List Refusal) (r : Result T NamesError) (e : NamesError) → e ≡ Memory → IsErrAnd r (λ y. y ≡ e) → TellsOf whole r
 wanting_told whole r e m is = let t : Tells whole e = rw m (tt {0}) in exit_tells whole r e is t
+
+-- a result that is handed on, of a call that fails for want of memory alone
+pub made_told : {T : Type 0} (whole : List Refusal) (r : Result T NamesError) → whole ≡ [] → IfErr r (λ y. y ≡ Memory) → TellsOf whole r
+made_told whole (Ok v) clean wants = clean
+made_told whole (Err e) clean wants = rw wants (tt {0})
 
 -- the same of all that may come behind a part
 pub memory_told_all : {T X : Type 0} (faults : X → List Refusal) (r : Result T NamesError)

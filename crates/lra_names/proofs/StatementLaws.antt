@@ -1,15 +1,16 @@
 -- How many labels the parts of statements have; how scopes are left; lists of items.
-use Rattle.std.proofs.Common.{◌≡◌, ℕ, suc, ◌+◌, List, [], ◌∷◌, ◌++◌, length, map, refl, sym, ap, ◌∙◌, append_assoc, append-nil, length-append, arith, Option, Some, None, option_map, rules, Vec, Box, Global, Result}
-use Rattle.std.specs.Result.{OnOk}
+use Rattle.std.proofs.Common.{◌≡◌, ℕ, suc, ◌+◌, List, [], ◌∷◌, ◌++◌, length, map, refl, sym, ap, ◌∙◌, append_assoc, append-nil, length-append, arith, Option, Some, None, option_map, rules, Vec, Box, Global, Result, Ok, Err}
+use Rattle.std.specs.Result.{IfOk, OnOk}
 use Rattle.lra_names.specs.declared.errors.NamesError.{NamesError}
 use Rattle.std.proofs.lemmas.List.{length-map, map-append, take-append-le}
 use Rattle.std.proofs.Math.Seq.{take-length}
 use Rattle.std.proofs.Math.Nat.{le-max_left, le-max_right}
 use Rattle.lra_tree.specs.declared.refusals.Place.{Place}
-use Rattle.lra_tree.specs.Trees.{CondTree, AssignTree, DeclaratorTree, DeclarationTree, InitTree, no_init, declared, assigned, StmtTree, block, if_else, for, ItemsTree, no_items, declaration, statement, FunctionTree}
+use Rattle.lra_tree.specs.Trees.{CondTree, AssignTree, DeclaratorTree, DeclarationTree, InitTree, no_init, declared, assigned, StmtTree, block, if_only, while, if_else, for, ItemsTree, no_items, declaration, statement, FunctionTree, nothing, assign, call, break, continue, return, assert, assume}
 use Rattle.lra_tree.specs.declared.program.BlockItem.{BlockItem, the_lemmas}
 use Rattle.lra_tree.specs.declared.program.BlockItem as program_item
 use Rattle.lra_tree.specs.declared.program.Stmt.{Stmt as ProgramStmt}
+use Rattle.lra_tree.specs.declared.program.Stmt as program_stmt
 use Rattle.lra_tree.specs.declared.trees.BlockItem.{the_lemmas as tree_lemmas}
 use Rattle.lra_tree.specs.declared.trees.BlockItem as code_item
 use Rattle.lra_tree.specs.declared.trees.Block.{Block}
@@ -20,7 +21,9 @@ use Rattle.lra_tree.specs.declared.trees.Stmt.{Stmt, the_lemmas as stmt_lemmas}
 use Rattle.lra_tree.specs.declared.trees.Stmt as code_stmt
 use Rattle.lra_tree.specs.declared.trees.Cond.{Cond}
 use Rattle.lra_tree.specs.declared.trees.Assign.{Assign}
-use Rattle.lra_tree.specs.Views.{items_of, item_view, block_view, init_view, declaration_view, declarator_view, stmt_view, cond_view, assign_view}
+use Rattle.lra_tree.specs.declared.trees.Call.{Call}
+use Rattle.lra_tree.specs.declared.trees.Source.{Source}
+use Rattle.lra_tree.specs.Views.{items_of, item_view, block_view, init_view, declaration_view, declarator_view, stmt_view, cond_view, assign_view, call_view, source_view}
 use Rattle.lra_tree.specs.Program as program
 use Rattle.lra_tree.specs.ProgramViews as view
 use Rattle.lra_tree.specs.Scope.{Scope, with_local, with_declarators, inner, for_scope}
@@ -29,7 +32,7 @@ use Rattle.lra_tree.specs.Walk.{told}
 use Rattle.lra_tree.specs.Resolve.{resolve_stmt, resolve_items, stmt_count, items_count, init_count, step_count}
 use Rattle.lra_tree.proofs.Walking.{told_stmt}
 use Rattle.lra_names.specs.Scopes.{with_more, Extends, left_to}
-use Rattle.lra_names.specs.Statements.{followed}
+use Rattle.lra_names.specs.Statements.{followed, choice, loop_of, for_of}
 use Rattle.lra_names.proofs.Telling.{tells_front, tells_behind}
 use Rattle.lra_names.proofs.DeclarationLaws.{followed_push}
 
@@ -145,23 +148,90 @@ statement_found F s s' n n' item t r old new is added e scope next rest =
     rw (is, v, added, map-append view.item_view old (program_item.Statement r ∷ []), w, e, scope, next)
     (sym (followed_push (map view.item_view old) (program.statement (resolve_stmt F s n (stmt_view t))) (resolve_items F s (n + stmt_count (stmt_view t)) rest)))
 
--- of a `for` whose call was handed on
-pub for_counted : {T : Type 0} (r : Result T NamesError) (stmt : Stmt) (at : Place) (i : Init) (c : Option Cond) (e : Option Assign) (b : Box Stmt Global) (t : Stmt) (n m : ℕ)
+-- what stands for each form of the code's statements ------------------------------------------------------------------------
+
+pub block_is : (stmt : Stmt) (b : Block) → stmt ≡ code_stmt.Block b → stmt_view stmt ≡ block (block_view b).0 (block_view b).1
+block_is stmt b is = let v : stmt_view (code_stmt.Block b) ≡ block (block_view b).0 (block_view b).1 = search (rules, stmt_lemmas) in rw (is, v)
+
+pub nothing_is : (stmt : Stmt) (at : Place) → stmt ≡ code_stmt.Nothing at → stmt_view stmt ≡ nothing at
+nothing_is stmt at is = let v : stmt_view (code_stmt.Nothing at) ≡ nothing at = search (rules, stmt_lemmas) in rw (is, v)
+
+pub assign_is : (stmt : Stmt) (a : Assign) → stmt ≡ code_stmt.Assign a → stmt_view stmt ≡ assign (assign_view a)
+assign_is stmt a is = let v : stmt_view (code_stmt.Assign a) ≡ assign (assign_view a) = search (rules, stmt_lemmas) in rw (is, v)
+
+pub call_is : (stmt : Stmt) (c : Call) → stmt ≡ code_stmt.Call c → stmt_view stmt ≡ call (call_view c)
+call_is stmt c is = let v : stmt_view (code_stmt.Call c) ≡ call (call_view c) = search (rules, stmt_lemmas) in rw (is, v)
+
+pub break_is : (stmt : Stmt) (at : Place) → stmt ≡ code_stmt.Break at → stmt_view stmt ≡ break at
+break_is stmt at is = let v : stmt_view (code_stmt.Break at) ≡ break at = search (rules, stmt_lemmas) in rw (is, v)
+
+pub continue_is : (stmt : Stmt) (at : Place) → stmt ≡ code_stmt.Continue at → stmt_view stmt ≡ continue at
+continue_is stmt at is = let v : stmt_view (code_stmt.Continue at) ≡ continue at = search (rules, stmt_lemmas) in rw (is, v)
+
+pub return_is : (stmt : Stmt) (at : Place) (e : Option Source) → stmt ≡ code_stmt.Return at e → stmt_view stmt ≡ return at (option_map source_view e)
+return_is stmt at e is = let v : stmt_view (code_stmt.Return at e) ≡ return at (option_map source_view e) = search (rules, stmt_lemmas) in rw (is, v)
+
+pub assert_is : (stmt : Stmt) (at : Place) (c : Cond) → stmt ≡ code_stmt.Assert at c → stmt_view stmt ≡ assert at (cond_view c)
+assert_is stmt at c is = let v : stmt_view (code_stmt.Assert at c) ≡ assert at (cond_view c) = search (rules, stmt_lemmas) in rw (is, v)
+
+pub assume_is : (stmt : Stmt) (at : Place) (c : Cond) → stmt ≡ code_stmt.Assume at c → stmt_view stmt ≡ assume at (cond_view c)
+assume_is stmt at c is = let v : stmt_view (code_stmt.Assume at c) ≡ assume at (cond_view c) = search (rules, stmt_lemmas) in rw (is, v)
+
+pub if_is : (stmt : Stmt) (at : Place) (c : Cond) (b : Box Stmt Global) (t : Stmt) → stmt ≡ code_stmt.If at c b → t ≡ b.value
+    → stmt_view stmt ≡ if_only at (cond_view c) (stmt_view t)
+if_is stmt at c b t is same =
+    let v : stmt_view (code_stmt.If at c b) ≡ if_only at (cond_view c) (stmt_view b.value) = search (rules, stmt_lemmas) in rw (is, v, same)
+
+pub if_else_is : (stmt : Stmt) (at : Place) (c : Cond) (b e : Box Stmt Global) (t u : Stmt) → stmt ≡ code_stmt.IfElse at c b e → t ≡ b.value → u ≡ e.value
+    → stmt_view stmt ≡ if_else at (cond_view c) (stmt_view t) (stmt_view u)
+if_else_is stmt at c b e t u is same also =
+    let v : stmt_view (code_stmt.IfElse at c b e) ≡ if_else at (cond_view c) (stmt_view b.value) (stmt_view e.value) = search (rules, stmt_lemmas) in
+    rw (is, v, same, also)
+
+pub while_is : (stmt : Stmt) (at : Place) (c : Cond) (b : Box Stmt Global) (t : Stmt) → stmt ≡ code_stmt.While at c b → t ≡ b.value
+    → stmt_view stmt ≡ while at (cond_view c) (stmt_view t)
+while_is stmt at c b t is same =
+    let v : stmt_view (code_stmt.While at c b) ≡ while at (cond_view c) (stmt_view b.value) = search (rules, stmt_lemmas) in rw (is, v, same)
+
+pub for_is : (stmt : Stmt) (at : Place) (i : Init) (c : Option Cond) (e : Option Assign) (b : Box Stmt Global) (t : Stmt)
     → stmt ≡ code_stmt.For at i c e b → t ≡ b.value
-    → OnOk r (m ≡ suc n + init_count (init_view i) + step_count (option_map assign_view e) + stmt_count (stmt_view t)) → OnOk r (m ≡ n + stmt_count (stmt_view stmt))
-for_counted r stmt at i c e b t n m is same h =
+    → stmt_view stmt ≡ for at (init_view i) (option_map cond_view c) (option_map assign_view e) (stmt_view t)
+for_is stmt at i c e b t is same =
     let v : stmt_view (code_stmt.For at i c e b) ≡ for at (init_view i) (option_map cond_view c) (option_map assign_view e) (stmt_view b.value) = search (rules, stmt_lemmas) in
-    let x = count_for at (init_view i) (option_map cond_view c) (option_map assign_view e) (stmt_view b.value) in
-    let whole : n + stmt_count (stmt_view stmt) ≡ suc n + init_count (init_view i) + step_count (option_map assign_view e) + stmt_count (stmt_view t) = rw (is, v, same) (omega arith) in
-    rw whole h
+    rw (is, v, same)
 
-pub ruleset stmt_rules = (count_if_else, count_for)
+-- what is told of a result, where a call is handed on
+pub kept_so : {T : Type 0} {P : Type 0} (r : Result T NamesError) → P → OnOk r P
+kept_so (Ok v) h = h
+kept_so (Err e) h = tt {0}
 
-pub ruleset arm_rules = (tells_front, tells_behind)
+pub counted_so : {T : Type 0} (r : Result T NamesError) (n m k count : ℕ) → k ≡ n + count → OnOk r (m ≡ k) → OnOk r (m ≡ n + count)
+counted_so r n m k count e h = rw (sym e) h
 
-pub ruleset if_else_rules = (le-max_left, le-max_right, tells_front, tells_behind)
+pub one_counted : {T : Type 0} (r : Result T NamesError) (n m count : ℕ) → count ≡ 1 → OnOk r (m ≡ suc n) → OnOk r (m ≡ n + count)
+one_counted r n m count e h = counted_so r n m (suc n) count (omega (arith, e)) h
 
-pub ruleset for_rules = (left_for, tells_front, tells_behind)
+-- what a statement means whose parts are there
+pub absent_is : view.stmt_view program_stmt.Absent ≡ program.absent
+absent_is = search (rules, the_lemmas)
+
+pub choice_found : (r : Result ProgramStmt NamesError) (n l : ℕ) (c d : program.Cond) (t u e f : program.Stmt)
+    → IfOk r (λ s. view.stmt_view s ≡ choice l c t e) → l ≡ n → c ≡ d → t ≡ u → e ≡ f → IfOk r (λ s. view.stmt_view s ≡ choice n d u f)
+choice_found (Ok s) n l c d t u e f h p q v w = h ∙ rw (p, q, v, w)
+choice_found (Err x) n l c d t u e f h p q v w = tt {0}
+
+pub loop_found : (r : Result ProgramStmt NamesError) (n l : ℕ) (c d : program.Cond) (t u e f : program.Stmt)
+    → IfOk r (λ s. view.stmt_view s ≡ loop_of l c t e) → l ≡ n → c ≡ d → t ≡ u → e ≡ f → IfOk r (λ s. view.stmt_view s ≡ loop_of n d u f)
+loop_found (Ok s) n l c d t u e f h p q v w = h ∙ rw (p, q, v, w)
+loop_found (Err x) n l c d t u e f h p q v w = tt {0}
+
+pub for_found : (r : Result ProgramStmt NamesError) (i j : program.BlockItems) (n l : ℕ) (c d : program.Cond) (t u e f : program.Stmt)
+    → IfOk r (λ s. view.stmt_view s ≡ for_of i (loop_of l c t e)) → i ≡ j → l ≡ n → c ≡ d → t ≡ u → e ≡ f
+    → IfOk r (λ s. view.stmt_view s ≡ for_of j (loop_of n d u f))
+for_found (Ok s) i j n l c d t u e f h o p q v w = h ∙ rw (o, p, q, v, w)
+for_found (Err x) i j n l c d t u e f h o p q v w = tt {0}
+
+pub ruleset if_else_rules = (le-max_left, le-max_right)
 
 pub ruleset block_rules = (count_block, left_inner)
 

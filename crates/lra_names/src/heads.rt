@@ -241,7 +241,6 @@ impl ForHead {
 }
 
 /// Takes the label of a `for`, begins its scope, and resolves what stands in its parentheses.
-#[tactic(auto, using(crate::proofs::Telling::telling_rules))]
 pub fn resolve_for_head(
     around: &Around<'_>,
     scope: &mut Scope,

@@ -27,7 +27,6 @@ use crate::simple::{
 use lra_tree::{Block, BlockItem, Cond, Stmt, program};
 
 #[cycle(statement)]
-#[tactic(auto, using(crate::proofs::StatementLaws::stmt_rules))]
 fn resolve_stmt(
     around: &Around<'_>,
     scope: &mut Scope,
@@ -63,7 +62,6 @@ fn resolve_stmt(
 }
 
 #[cycle(statement)]
-#[tactic(auto, using(crate::proofs::StatementLaws::arm_rules))]
 fn resolve_if(
     around: &Around<'_>,
     scope: &mut Scope,
@@ -103,7 +101,6 @@ fn resolve_if_else(
 }
 
 #[cycle(statement)]
-#[tactic(auto, using(crate::proofs::StatementLaws::arm_rules))]
 fn resolve_while(
     around: &Around<'_>,
     scope: &mut Scope,
@@ -122,7 +119,7 @@ fn resolve_while(
 }
 
 #[cycle(statement)]
-#[tactic(auto, using(crate::proofs::StatementLaws::for_rules))]
+#[tactic(auto, using(crate::proofs::StatementLaws::left_for))]
 fn resolve_for(
     around: &Around<'_>,
     scope: &mut Scope,
