@@ -1,6 +1,6 @@
 -- Loops over the parts of a chain: what each part's value and its faults say of the whole.
 use Rattle.std.proofs.Common.{◌≡◌, ℕ, ◌+◌, ◌<◌, ◌≤◌, List, [], ◌∷◌, ◌++◌, length, map, take, drop, get_or, sym, ap, ◌∙◌, Result, Ok, Err}
-use Rattle.std.specs.Result.{IsErrAnd, IfErr}
+use Rattle.std.specs.Result.{IsErrAnd, IfOk, IfErr}
 use Rattle.std.specs.List.{flat_map}
 use Rattle.std.proofs.lemmas.List.{map_push, map_more, take_all, at_drop_more, at_drop_all}
 use Rattle.lra_tree.specs.declared.refusals.Refusal.{Refusal}
@@ -21,6 +21,11 @@ wanting_told whole r e m is = let t : Tells whole e = rw m (tt {0}) in exit_tell
 pub made_told : {T : Type 0} (whole : List Refusal) (r : Result T NamesError) → whole ≡ [] → IfErr r (λ y. y ≡ Memory) → TellsOf whole r
 made_told whole (Ok v) clean wants = clean
 made_told whole (Err e) clean wants = rw wants (tt {0})
+
+-- and what it means
+pub found_so : {T E : Type 0} (r : Result T NamesError) (view : T → E) (a b : E) → a ≡ b → IfOk r (λ v. view v ≡ a) → IfOk r (λ v. view v ≡ b)
+found_so (Ok v) view a b e h = h ∙ e
+found_so (Err x) view a b e h = tt {0}
 
 -- the same of all that may come behind a part
 pub memory_told_all : {T X : Type 0} (faults : X → List Refusal) (r : Result T NamesError)

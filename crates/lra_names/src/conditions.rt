@@ -1,6 +1,6 @@
 //! Conditions: chains of `&&` and of `||` over tests.
 
-ghost use Rattle.std.specs.Prelude.{◌≡◌, map, IfOk};
+ghost use Rattle.std.specs.Prelude.{◌≡◌, map, IfOk, IfErr};
 ghost use Rattle.lra_tree.specs.Views.{negation_view, test_view, conjunction_view, cond_view as tree_cond_view};
 ghost use Rattle.lra_tree.specs.ProgramViews.{cond_view, all_of, any_of};
 ghost use Rattle.lra_tree.specs.NameFaults.{negation_faults, test_faults, conjunction_faults, cond_faults};
@@ -12,15 +12,16 @@ use crate::errors::NamesError;
 use crate::expressions::{resolve_expr, resolve_unary};
 use crate::scopes::Scope;
 use lra_tree::{Cond, Conjunction, Negation, Test, program};
-use std::alloc::{AllocError, Global};
+use std::alloc::Global;
 
 /// A chain of `&&`, or its only operand.
 fn all(
     alloc: Global,
     first: program::Cond,
     rest: Vec<program::Cond>,
-) -> Result<program::Cond, AllocError>
-    ensures { IfOk result (λ c. cond_view c ≡ all_of (cond_view first) (map cond_view rest.items)) }
+) -> Result<program::Cond, NamesError>
+    ensures found { IfOk result (λ c. cond_view c ≡ all_of (cond_view first) (map cond_view rest.items)) }
+    ensures memory { IfErr result (λ e. e ≡ NamesError.Memory) }
 {
     if rest.is_empty() {
         Ok(first)
@@ -34,8 +35,9 @@ fn any(
     alloc: Global,
     first: program::Cond,
     rest: Vec<program::Cond>,
-) -> Result<program::Cond, AllocError>
-    ensures { IfOk result (λ c. cond_view c ≡ any_of (cond_view first) (map cond_view rest.items)) }
+) -> Result<program::Cond, NamesError>
+    ensures found { IfOk result (λ c. cond_view c ≡ any_of (cond_view first) (map cond_view rest.items)) }
+    ensures memory { IfErr result (λ e. e ≡ NamesError.Memory) }
 {
     if rest.is_empty() {
         Ok(first)
@@ -106,7 +108,7 @@ fn resolve_conjunction(
         let further = resolve_test(alloc, scope, test)?;
         rest.push(further)?;
     }
-    Ok(all(alloc, first, rest)?)
+    all(alloc, first, rest)
 }
 
 #[cycle(condition)]
@@ -121,5 +123,5 @@ pub fn resolve_cond(alloc: Global, scope: &Scope, cond: &Cond) -> Result<program
         let further = resolve_conjunction(alloc, scope, conjunction)?;
         rest.push(further)?;
     }
-    Ok(any(alloc, first, rest)?)
+    any(alloc, first, rest)
 }

@@ -1,6 +1,6 @@
 //! Expressions: each variable is a place in the store.
 
-ghost use Rattle.std.specs.Prelude.{◌≡◌, map, IfOk, flat_map};
+ghost use Rattle.std.specs.Prelude.{◌≡◌, map, IfOk, IfErr, flat_map};
 ghost use Rattle.lra_tree.specs.Views.{operator_view, unary_view, term_view, factor_view, summand_view, expr_view as tree_expr_view};
 ghost use Rattle.lra_tree.specs.ProgramViews.{slot_view, expr_view, operation_view, chained};
 ghost use Rattle.lra_tree.specs.NameFaults.{use_faults, unary_faults, term_faults, expr_faults};
@@ -15,7 +15,7 @@ use lra_tree::{
     Cause, Expr, Factor, FactorOperator, Identifier, Operator, SumOperator, Summand, Term, Unary,
     program,
 };
-use std::alloc::{AllocError, Global};
+use std::alloc::Global;
 
 /// The variable that a name means; `UnknownName` where none is in scope.
 pub fn resolve_variable(scope: &Scope, x: &Identifier) -> Result<Slot, NamesError>
@@ -33,8 +33,9 @@ fn chain(
     alloc: Global,
     first: program::Expr,
     rest: Vec<Operation>,
-) -> Result<program::Expr, AllocError>
-    ensures { IfOk result (λ e. expr_view e ≡ chained (expr_view first) (map operation_view rest.items)) }
+) -> Result<program::Expr, NamesError>
+    ensures found { IfOk result (λ e. expr_view e ≡ chained (expr_view first) (map operation_view rest.items)) }
+    ensures memory { IfErr result (λ e. e ≡ NamesError.Memory) }
 {
     if rest.is_empty() {
         Ok(first)
@@ -119,7 +120,7 @@ fn resolve_term(alloc: Global, scope: &Scope, term: &Term) -> Result<program::Ex
         let operation = resolve_factor(alloc, scope, factor)?;
         rest.push(operation)?;
     }
-    Ok(chain(alloc, first, rest)?)
+    chain(alloc, first, rest)
 }
 
 #[cycle(expression)]
@@ -134,5 +135,5 @@ pub fn resolve_expr(alloc: Global, scope: &Scope, expr: &Expr) -> Result<program
         let operation = resolve_summand(alloc, scope, summand)?;
         rest.push(operation)?;
     }
-    Ok(chain(alloc, first, rest)?)
+    chain(alloc, first, rest)
 }

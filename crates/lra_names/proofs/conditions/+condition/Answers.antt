@@ -1,7 +1,7 @@
-use Rattle.std.proofs.Common.{map, ap, arith}
+use Rattle.std.proofs.Common.{map, ap, arith, refl}
 use Rattle.lra_tree.specs.ProgramViews.{cond_view}
 use Rattle.lra_names.proofs.Telling.{parts_clean}
-use Rattle.lra_names.proofs.Loops.{memory_told, first_told, part_told, all_clean, rest_clean, parts_found}
+use Rattle.lra_names.proofs.Loops.{memory_told, first_told, part_told, made_told, found_so, all_clean, rest_clean, parts_found}
 use Rattle.lra_names.proofs.CondLaws.{faults_of_test, test_means, faults_of_conjunction, conjunction_means, code_conjunction_faults, code_cond_faults, conjunction_found, cond_found}
 use Rattle.lra_names.proofs.conditions.+condition.Goals as goal
 
@@ -35,18 +35,17 @@ pub resolve_conjunction-returns-in_err-push-clause-told : goal.resolve_conjuncti
 resolve_conjunction-returns-in_err-push-clause-told t c =
     memory_told _ c.from_residual-in_err-push.result c.from_residual-in_err-push.ensures.1
 
-pub resolve_conjunction-returns-in_err-all-clause-told : goal.resolve_conjunction-returns-in_err-all-clause-told
-resolve_conjunction-returns-in_err-all-clause-told t c =
-    memory_told _ c.from_residual-in_err-all.result c.from_residual-in_err-all.ensures.1
-
 pub resolve_conjunction-returns-clause-told : goal.resolve_conjunction-returns-clause-told
 resolve_conjunction-returns-clause-told t c =
-    all_clean (faults_of_test c.args.scope.now) c.deref-test-items.result.now c.tests.test-index _ c.tests.invariant.clean c.tests-test.false
+    made_told _ c.all.result (all_clean (faults_of_test c.args.scope.now) c.deref-test-items.result.now c.tests.test-index _ c.tests.invariant.clean c.tests-test.false)
+    c.all.ensures.memory
 
 pub resolve_conjunction-returns-clause-found : goal.resolve_conjunction-returns-clause-found
 resolve_conjunction-returns-clause-found t c =
-    conjunction_found c.args.scope.now c.args.conjunction.now _ _ _ c.deref-test-items.result.now c.tests.test-index c.in_ok-all.ensures c.tests.invariant.first c.tests.invariant.found
-    (omega arith) c.deref-test-items.ensures.value
+    found_so c.all.result cond_view _ _
+    (conjunction_found c.args.scope.now c.args.conjunction.now _ _ _ c.deref-test-items.result.now c.tests.test-index refl c.tests.invariant.first c.tests.invariant.found
+    (omega arith) c.deref-test-items.ensures.value)
+    c.all.ensures.found
 
 pub resolve_cond-returns-in_err-first-clause-told : goal.resolve_cond-returns-in_err-first-clause-told
 resolve_cond-returns-in_err-first-clause-told t c =
@@ -79,16 +78,15 @@ pub resolve_cond-returns-in_err-push-clause-told : goal.resolve_cond-returns-in_
 resolve_cond-returns-in_err-push-clause-told t c =
     memory_told _ c.from_residual-in_err-push.result c.from_residual-in_err-push.ensures.1
 
-pub resolve_cond-returns-in_err-any-clause-told : goal.resolve_cond-returns-in_err-any-clause-told
-resolve_cond-returns-in_err-any-clause-told t c =
-    memory_told _ c.from_residual-in_err-any.result c.from_residual-in_err-any.ensures.1
-
 pub resolve_cond-returns-clause-told : goal.resolve_cond-returns-clause-told
 resolve_cond-returns-clause-told t c =
-    all_clean (faults_of_conjunction c.args.scope.now) c.deref-conjunction-items.result.now c.conjunctions.conjunction-index _ c.conjunctions.invariant.clean c.conjunctions-test.false
+    made_told _ c.any.result (all_clean (faults_of_conjunction c.args.scope.now) c.deref-conjunction-items.result.now c.conjunctions.conjunction-index _ c.conjunctions.invariant.clean c.conjunctions-test.false)
+    c.any.ensures.memory
 
 pub resolve_cond-returns-clause-found : goal.resolve_cond-returns-clause-found
 resolve_cond-returns-clause-found t c =
-    cond_found c.args.scope.now c.args.cond.now _ _ _ c.deref-conjunction-items.result.now c.conjunctions.conjunction-index c.in_ok-any.ensures c.conjunctions.invariant.first
+    found_so c.any.result cond_view _ _
+    (cond_found c.args.scope.now c.args.cond.now _ _ _ c.deref-conjunction-items.result.now c.conjunctions.conjunction-index refl c.conjunctions.invariant.first
     c.conjunctions.invariant.found
-    (omega arith) c.deref-conjunction-items.ensures.value
+    (omega arith) c.deref-conjunction-items.ensures.value)
+    c.any.ensures.found

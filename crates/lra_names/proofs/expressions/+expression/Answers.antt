@@ -1,7 +1,7 @@
-use Rattle.std.proofs.Common.{map, ap, arith}
-use Rattle.lra_tree.specs.ProgramViews.{operation_view}
+use Rattle.std.proofs.Common.{map, ap, arith, refl}
+use Rattle.lra_tree.specs.ProgramViews.{expr_view, operation_view}
 use Rattle.lra_names.proofs.Telling.{parts_clean}
-use Rattle.lra_names.proofs.Loops.{memory_told, first_told, part_told, all_clean, rest_clean, parts_found}
+use Rattle.lra_names.proofs.Loops.{memory_told, first_told, part_told, made_told, found_so, all_clean, rest_clean, parts_found}
 use Rattle.lra_names.proofs.ChainLaws.{faults_of_factor, factor_means, faults_of_summand, summand_means, code_term_faults, code_expr_faults, term_found, sum_found}
 use Rattle.lra_names.proofs.expressions.+expression.Goals as goal
 
@@ -36,18 +36,17 @@ pub resolve_term-returns-in_err-push-clause-told : goal.resolve_term-returns-in_
 resolve_term-returns-in_err-push-clause-told t c =
     memory_told _ c.from_residual-in_err-push.result c.from_residual-in_err-push.ensures.1
 
-pub resolve_term-returns-in_err-chain-clause-told : goal.resolve_term-returns-in_err-chain-clause-told
-resolve_term-returns-in_err-chain-clause-told t c =
-    memory_told _ c.from_residual-in_err-chain.result c.from_residual-in_err-chain.ensures.1
-
 pub resolve_term-returns-clause-told : goal.resolve_term-returns-clause-told
 resolve_term-returns-clause-told t c =
-    all_clean (faults_of_factor c.args.scope.now) c.deref-factor-items.result.now c.factors.factor-index _ c.factors.invariant.clean c.factors-test.false
+    made_told _ c.chain.result (all_clean (faults_of_factor c.args.scope.now) c.deref-factor-items.result.now c.factors.factor-index _ c.factors.invariant.clean c.factors-test.false)
+    c.chain.ensures.memory
 
 pub resolve_term-returns-clause-found : goal.resolve_term-returns-clause-found
 resolve_term-returns-clause-found t c =
-    term_found c.args.scope.now c.args.term.now _ _ _ c.deref-factor-items.result.now c.factors.factor-index c.in_ok-chain.ensures c.factors.invariant.first c.factors.invariant.found
-    (omega arith) c.deref-factor-items.ensures.value
+    found_so c.chain.result expr_view _ _
+    (term_found c.args.scope.now c.args.term.now _ _ _ c.deref-factor-items.result.now c.factors.factor-index refl c.factors.invariant.first c.factors.invariant.found
+    (omega arith) c.deref-factor-items.ensures.value)
+    c.chain.ensures.found
 
 pub resolve_expr-returns-in_err-first-clause-told : goal.resolve_expr-returns-in_err-first-clause-told
 resolve_expr-returns-in_err-first-clause-told t c =
@@ -80,15 +79,14 @@ pub resolve_expr-returns-in_err-push-clause-told : goal.resolve_expr-returns-in_
 resolve_expr-returns-in_err-push-clause-told t c =
     memory_told _ c.from_residual-in_err-push.result c.from_residual-in_err-push.ensures.1
 
-pub resolve_expr-returns-in_err-chain-clause-told : goal.resolve_expr-returns-in_err-chain-clause-told
-resolve_expr-returns-in_err-chain-clause-told t c =
-    memory_told _ c.from_residual-in_err-chain.result c.from_residual-in_err-chain.ensures.1
-
 pub resolve_expr-returns-clause-told : goal.resolve_expr-returns-clause-told
 resolve_expr-returns-clause-told t c =
-    all_clean (faults_of_summand c.args.scope.now) c.deref-summand-items.result.now c.summands.summand-index _ c.summands.invariant.clean c.summands-test.false
+    made_told _ c.chain.result (all_clean (faults_of_summand c.args.scope.now) c.deref-summand-items.result.now c.summands.summand-index _ c.summands.invariant.clean c.summands-test.false)
+    c.chain.ensures.memory
 
 pub resolve_expr-returns-clause-found : goal.resolve_expr-returns-clause-found
 resolve_expr-returns-clause-found t c =
-    sum_found c.args.scope.now c.args.expr.now _ _ _ c.deref-summand-items.result.now c.summands.summand-index c.in_ok-chain.ensures c.summands.invariant.first c.summands.invariant.found
-    (omega arith) c.deref-summand-items.ensures.value
+    found_so c.chain.result expr_view _ _
+    (sum_found c.args.scope.now c.args.expr.now _ _ _ c.deref-summand-items.result.now c.summands.summand-index refl c.summands.invariant.first c.summands.invariant.found
+    (omega arith) c.deref-summand-items.ensures.value)
+    c.chain.ensures.found
