@@ -1,0 +1,43 @@
+-- Which places are come to, and how a search comes to them.
+use Rattle.std.specs.Prelude.{◌≡◌, ◌<◌, ◌+◌, ◌⊎◌, ℕ, Bool, true, false, List, length, slice_index_or, slice_get, Some, Contains}
+use Rattle.std.specs.List.{sum_by}
+
+-- those that a search begins with, and those in the row of one that is come to
+pub data Comes (rows : List (List ℕ)) (start : List ℕ) : ℕ → Type 0 where
+  begins : (k : ℕ) → k < length rows → Contains start k → Comes rows start k
+  goes_on : (j k : ℕ) (row : List ℕ) → k < length rows → Comes rows start j → slice_get rows j ≡ Some row → Contains row k
+      → Comes rows start k
+
+-- marked in a list of truth values
+abbrev pub IsMet : List Bool → ℕ → Type 0
+IsMet met k = slice_index_or met k false ≡ true
+
+-- how many are not met
+abbrev pub missing : Bool → ℕ
+missing true = 0
+missing false = 1
+
+abbrev pub unmet : List Bool → ℕ
+unmet met = sum_by missing met
+
+-- some places are met: those that weren't are open then
+pub record Grows (places : List ℕ) (met : List Bool) (open_ones : List ℕ) (met_then : List Bool) (open_then : List ℕ)
+    : Type 0 where
+  pub size : length met_then ≡ length met
+  pub kept : (k : ℕ) → IsMet met k → IsMet met_then k
+  pub meets : (k : ℕ) → k < length met → Contains places k → IsMet met_then k
+  pub only : (k : ℕ) → IsMet met_then k → IsMet met k ⊎ Contains places k
+  pub still_open : (k : ℕ) → Contains open_ones k → Contains open_then k
+  pub opens : (k : ℕ) → IsMet met_then k → IsMet met k ⊎ Contains open_then k
+  pub open_met : (k : ℕ) → Contains open_then k → Contains open_ones k ⊎ IsMet met_then k
+  pub work : unmet met_then + length open_then ≡ unmet met + length open_ones
+
+-- All that is met is come to; what a search begins with is met, and so is the row of each place that is met, unless the
+-- place is still open.
+pub record IsUnderWay (rows : List (List ℕ)) (start : List ℕ) (met : List Bool) (open_ones : List ℕ) : Type 0 where
+  pub size : length met ≡ length rows
+  pub sound : (k : ℕ) → IsMet met k → Comes rows start k
+  pub begun : (k : ℕ) → k < length rows → Contains start k → IsMet met k
+  pub closed : (j : ℕ) → IsMet met j
+      → Contains open_ones j ⊎ ((row : List ℕ) (k : ℕ) → slice_get rows j ≡ Some row → k < length rows → Contains row k → IsMet met k)
+  pub open_met : (k : ℕ) → Contains open_ones k → IsMet met k

@@ -1,0 +1,11 @@
+//! Recursion: the first call of a source, in text order, whose callee reaches the function that holds it.
+#![tactic(auto)]
+
+mod called;
+mod places;
+mod recursion;
+mod search;
+#[cfg(test)]
+mod tests;
+
+pub use recursion::first_recursive;

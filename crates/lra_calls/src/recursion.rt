@@ -1,0 +1,67 @@
+//! The first call whose callee reaches the function that holds it.
+
+ghost use Rattle.std.specs.Prelude.{◌≡◌, ◌↔◌, map, IsTrue, IfOk, MatchOption};
+ghost use Rattle.std.specs.List.{AllByRecursion};
+ghost use Rattle.lra_tree.specs.Views.{tree_view};
+ghost use Rattle.lra_tree.specs.Reach.{IsFirstRecursive};
+ghost use Rattle.lra_tree.specs.Refuse.{NotRecursive};
+ghost use Rattle.lra_calls.specs.Called.{caller_view};
+ghost use Rattle.lra_calls.specs.Places.{rows_of};
+ghost use Rattle.lra_calls.specs.Recursion.{IsBack, IsFirstBack};
+
+use crate::called::{Caller, callers};
+use crate::places::{add_places, rows};
+use crate::search::reached;
+use lra_tree::{Identifier, Place, Tree};
+use std::alloc::{AllocError, Global};
+
+/// Whether a function of the called name comes to the function at a place.
+fn is_back(
+    alloc: Global,
+    callers: &[Caller],
+    rows: &[Vec<usize>],
+    place: usize,
+    call: &Identifier,
+) -> Result<bool, AllocError>
+    requires { map (λ row. row.items) rows.now ≡ rows_of (map caller_view callers.now) }
+    ensures { IfOk result (λ b. IsTrue b ↔ IsBack (map caller_view callers.now) place call.now) }
+{
+    let mut start = Vec::new(alloc);
+    add_places(callers, &call.word, &mut start)?;
+    let met = reached(alloc, rows, &start)?;
+    Ok(place < met.len() && met[place])
+}
+
+/// The place of the first of these calls that comes back to the function at a place.
+fn first_back(
+    alloc: Global,
+    callers: &[Caller],
+    rows: &[Vec<usize>],
+    place: usize,
+    calls: &[Identifier],
+) -> Result<Option<Place>, AllocError>
+    requires { map (λ row. row.items) rows.now ≡ rows_of (map caller_view callers.now) }
+    ensures { IfOk result (λ o. MatchOption o (AllByRecursion (λ c. IsBack (map caller_view callers.now) place c → ⊥) calls.now) (IsFirstBack (map caller_view callers.now) place calls.now)) }
+{
+    'calls: for call in calls {
+        if is_back(alloc, callers, rows, place, call)? {
+            return Ok(Some(call.place));
+        }
+    }
+    Ok(None)
+}
+
+/// The place of the first call, in text order, whose callee reaches the function that holds it.
+pub fn first_recursive(alloc: Global, tree: &Tree) -> Result<Option<Place>, AllocError>
+    ensures { IfOk result (λ o. MatchOption o (NotRecursive (tree_view tree.now)) (IsFirstRecursive (tree_view tree.now))) }
+{
+    let callers = callers(alloc, &tree.items)?;
+    let rows = rows(alloc, &callers)?;
+    'callers: for (place, caller) in callers.iter().enumerate() {
+        match first_back(alloc, &callers, &rows, place, &caller.calls)? {
+            Some(at) => return Ok(Some(at)),
+            None => {}
+        }
+    }
+    Ok(None)
+}
