@@ -98,6 +98,7 @@ pub is_told : {V H : Type 0} (m : Meaning V H) (shown : V → State) (domain : D
     → map told_of r.verdicts ≡ map told verdicts → r.flagged ≡ option_map suc flagged → IsToldOf m shown domain o t r
 is_told m shown domain o t g sites values verdicts flagged states r has solved are are_shown are_capped spelled options lists same judged flag = record {
   names = has.names;
+  straight = has.straight;
   within = has.within;
   options = options;
   lists = lists;

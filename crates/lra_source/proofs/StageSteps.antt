@@ -1,7 +1,10 @@
 -- What the stages behind the reading answer, as answers of the tree and of the source.
 use Rattle.std.proofs.Common.{◌≡◌, ℕ, List, [], ◌∷◌, map, Some, None, sym, ap, ◌∙◌, subst}
-use Rattle.std.specs.Prelude.{Result, Ok, Err, IfOk}
+use Rattle.std.specs.Prelude.{Option, Result, Ok, Err, IfOk, MatchOption}
 use Rattle.lra_tree.specs.declared.refusals.Refusal.{Refusal}
+use Rattle.lra_tree.specs.declared.refusals.Place.{Place}
+use Rattle.lra_tree.specs.declared.refusals.Cause.TheVariants.{Recursive}
+use Rattle.lra_tree.specs.Reach.{IsFirstRecursive}
 use Rattle.lra_tree.specs.declared.labels.Label.{Label}
 use Rattle.lra_tree.specs.Trees.{FileTree}
 use Rattle.lra_tree.specs.Program.{Program}
@@ -15,7 +18,7 @@ use Rattle.lra_tree.specs.Agree.{IsGraph, Agrees}
 use Rattle.lra_tree.specs.WellFormed.{IsWellFormed}
 use Rattle.lra_tree.specs.Built.{Built}
 use Rattle.lra_tree.specs.Report.{Domain, box, Options, State, Report}
-use Rattle.lra_tree.specs.Refuse.{limit_fault, NotRecursive, RefusesTree, bad_name, past_limit, Refuse, Accepts}
+use Rattle.lra_tree.specs.Refuse.{limit_fault, NotRecursive, RefusesTree, bad_name, recursive, past_limit, Refuse, Accepts}
 use Rattle.lra_report.specs.declared.report.Report as code
 use Rattle.lra_report.specs.View.{report_of}
 use Rattle.lra_names.specs.Outcome.{first_fault}
@@ -23,7 +26,6 @@ use Rattle.lra_graph.specs.declared.points.Limit.{Limit}
 use Rattle.lra_graph.specs.declared.points.GraphError.{GraphError}
 use Rattle.lra_graph.specs.declared.points.GraphError.TheVariants.{Passed}
 use Rattle.lra_graph.specs.Limits.{refusal_of, OnError}
-use Rattle.lra_formed.proofs.Callless.{built_not_recursive}
 use Rattle.lra_formed.proofs.Spelled.{spelled_are_small}
 use Rattle.lra_formed.proofs.Whole.{well_formed}
 use Rattle.lra_source.specs.Claims.{AreFew}
@@ -51,12 +53,24 @@ names_refused t r e = let (further, is) = first_is (name_faults t) r e in bad_na
 
 pub ruleset naming = (names_refused)
 
+-- recursion ----------------------------------------------------------------------------------------------------------
+
+-- what a search for the first recursive call answers
+pub none_recursive : (t : FileTree) (x : Option Place) → MatchOption x (NotRecursive t) (IsFirstRecursive t) → x ≡ None → NotRecursive t
+none_recursive t x h is = subst (λ (y : Option Place). MatchOption y (NotRecursive t) (IsFirstRecursive t)) is h
+
+pub recursive_refused : (t : FileTree) (x : Option Place) (at : Place) → name_faults t ≡ [] → MatchOption x (NotRecursive t) (IsFirstRecursive t) → x ≡ Some at → RefusesTree t Recursive at
+recursive_refused t x at names h is = recursive at names (subst (λ (y : Option Place). MatchOption y (NotRecursive t) (IsFirstRecursive t)) is h)
+
+pub ruleset recursing = (none_recursive, recursive_refused)
+
 -- trees of operations ------------------------------------------------------------------------------------------------
 
-pub has_graph : (t : FileTree) (P : Program) (g : Node) (sites : List Site) → P ≡ resolve t → name_faults t ≡ [] → IsWellFormed (resolve t) → IsGraph P g → Agrees P g → sites ≡ sites_of P
+pub has_graph : (t : FileTree) (P : Program) (g : Node) (sites : List Site) → P ≡ resolve t → name_faults t ≡ [] → NotRecursive t → IsWellFormed (resolve t) → IsGraph P g → Agrees P g → sites ≡ sites_of P
     → AreFew (sites_of P) → ((ls : List Labelled) → limit_fault ls 0 (events_of P) ≡ None) → HasGraph t g sites
-has_graph t P g sites is names well graph agrees points few within = record {
+has_graph t P g sites is names straight well graph agrees points few within = record {
   names = names;
+  straight = straight;
   well = well;
   within = subst (λ (Q : Program). limit_fault (labels_of t) 0 (events_of Q) ≡ None) is (within (labels_of t));
   few = subst (λ (Q : Program). AreFew (sites_of Q)) is few;
@@ -80,10 +94,7 @@ limit_refused t P x r labels is names straight passed walk told_by =
 
 -- answers ------------------------------------------------------------------------------------------------------------
 
--- the tree of a source has no recursion, and without faults of names its program is well-formed
-pub straight : (source : List ℕ) (t : FileTree) → HasTree source t → NotRecursive t
-straight source t has = built_not_recursive has.tokens t has.parsed
-
+-- without faults of names the program of a source's tree is well-formed
 pub well : (source : List ℕ) (t : FileTree) → HasTree source t → name_faults t ≡ [] → IsWellFormed (resolve t)
 well source t has names = well_formed t (spelled_are_small source has.tokens t has.parsed.0 has.lexed has.parsed.1.0 has.parsed.2) names
 
@@ -96,7 +107,7 @@ module _ {V H : Type 0} (m : Meaning V H) (laws : Laws m) (shown : V → State) 
     lexed = has.lexed;
     parsed = has.parsed;
     names = is.names;
-    not_recursive = straight source t has;
+    not_recursive = is.straight;
     within = is.within;
   }
 

@@ -14,7 +14,7 @@ use Rattle.lra_tree.specs.Agree.{IsGraph, Agrees}
 use Rattle.lra_tree.specs.WellFormed.{IsWellFormed}
 use Rattle.lra_tree.specs.Report.{Domain, box, Options, State, Report}
 use Rattle.lra_tree.specs.Listing.{Lists}
-use Rattle.lra_tree.specs.Refuse.{greatest_length, limit_fault}
+use Rattle.lra_tree.specs.Refuse.{greatest_length, limit_fault, NotRecursive}
 use Rattle.lra_report.specs.Spelled.{IsReadable}
 use Rattle.lra_domain.specs.Meaning.{Meaning}
 use Rattle.lra_box.specs.Meaning.{box_meaning}
@@ -30,9 +30,11 @@ pub record HasTree (source : List ℕ) (t : FileTree) : Type 0 where
   pub lexed : Lex source tokens
   pub parsed : IsTree Built tokens t
 
--- a tree whose names have no fault and whose program passes no limit, the tree of operations of that program, and its points
+-- a tree whose names have no fault, that has no recursion and whose program passes no limit, the tree of operations of that
+-- program, and its points
 pub record HasGraph (t : FileTree) (tree : Node) (sites : List Site) : Type 0 where
   pub names : name_faults t ≡ []
+  pub straight : NotRecursive t
   pub well : IsWellFormed (resolve t)
   pub within : limit_fault (labels_of t) 0 (events_of (resolve t)) ≡ None
   pub few : AreFew (sites_of (resolve t))
@@ -45,6 +47,7 @@ pub record HasGraph (t : FileTree) (tree : Node) (sites : List Site) : Type 0 wh
 pub record IsToldOf {V H : Type 0} (m : Meaning V H) (shown : V → State) (domain : Domain) (o : Options) (t : FileTree)
     (r : Report) : Type 0 where
   pub names : name_faults t ≡ []
+  pub straight : NotRecursive t
   pub within : limit_fault (labels_of t) 0 (events_of (resolve t)) ≡ None
   pub options : r.options ≡ o
   pub lists : Lists t r

@@ -7,14 +7,14 @@ ghost use Rattle.lra_tree.specs.NameFaults.{name_faults};
 ghost use Rattle.lra_tree.specs.Resolve.{resolve};
 ghost use Rattle.lra_tree.specs.WellFormed.{IsWellFormed};
 ghost use Rattle.lra_tree.specs.Built.{Built};
-ghost use Rattle.lra_tree.specs.Refuse.{NotRecursive, RefusesTree, Refuse};
+ghost use Rattle.lra_tree.specs.Refuse.{RefusesTree, Refuse};
 ghost use Rattle.lra_report.specs.View.{options_of, report_of};
 ghost use Rattle.lra_report.specs.declared.report.Domain.TheVariants.{Box};
 ghost use Rattle.lra_source.specs.Answers.{IsAnswered, IfRefused};
 ghost use Rattle.lra_source.specs.Stages.{HasGraph, IsBoxToldOf};
 
 use crate::error::SourceError;
-use crate::program::{graph_of, program_of};
+use crate::program::{check_calls, graph_of, program_of};
 use crate::reading::read_tree;
 use crate::states::states_of;
 use lra_box::Boxes;
@@ -60,15 +60,16 @@ fn report_graph(
     Ok(report)
 }
 
-/// The report of a tree, or its refusal: its first fault of names, or the first limit that its program passes.
+/// The report of a tree, or its refusal: its first fault of names, its first recursive call, or the first limit that its
+/// program passes.
 fn report_tree(alloc: Global, options: Options, tree: &Tree) -> Result<Report, SourceError>
     requires parts { 1 ≤ options.parts }
-    requires straight { NotRecursive (tree_view tree.now) }
     requires well { name_faults (tree_view tree.now) ≡ [] → IsWellFormed (resolve (tree_view tree.now)) }
     ensures told { IfOk result (λ r. IsBoxToldOf (options_of options) (tree_view tree.now) (report_of r)) }
     ensures refused { IfRefused result (λ r. RefusesTree (tree_view tree.now) r.cause r.place) }
 {
     let program = program_of(alloc, tree)?;
+    check_calls(alloc, tree)?;
     let graph = graph_of(alloc, tree, &program)?;
     Ok(report_graph(alloc, options, tree, &program.globals, &graph)?)
 }

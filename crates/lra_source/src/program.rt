@@ -12,11 +12,12 @@ ghost use Rattle.lra_source.specs.Answers.{IfRefused};
 ghost use Rattle.lra_source.specs.Stages.{HasGraph};
 
 use crate::error::SourceError;
+use lra_calls::first_recursive;
 use lra_graph::{GraphError, build, refusal};
 use lra_names::{NamesError, resolve};
 use lra_tree::graph::Graph;
 use lra_tree::program::Program;
-use lra_tree::{Tree, walk};
+use lra_tree::{Cause, Refusal, Tree, walk};
 use std::alloc::Global;
 
 /// The program of a source without faults of names, or the first such fault.
@@ -30,6 +31,22 @@ pub fn program_of(alloc: Global, tree: &Tree) -> Result<Program, SourceError>
         Ok(program) => Ok(program),
         Err(NamesError::Refused(refusal)) => Err(SourceError::Refused(refusal)),
         Err(NamesError::Memory) => Err(SourceError::Memory),
+    }
+}
+
+/// That no function reaches itself by calls, or the refusal of the first call by which one does.
+#[tactic(auto, using(crate::proofs::StageSteps::recursing))]
+pub fn check_calls(alloc: Global, tree: &Tree) -> Result<(), SourceError>
+    requires clean { name_faults (tree_view tree.now) ≡ [] }
+    ensures straight { OnOk result (NotRecursive (tree_view tree.now)) }
+    ensures refused { IfRefused result (λ r. RefusesTree (tree_view tree.now) r.cause r.place) }
+{
+    match first_recursive(alloc, tree)? {
+        None => Ok(()),
+        Some(place) => Err(SourceError::Refused(Refusal {
+            cause: Cause::Recursive,
+            place,
+        })),
     }
 }
 

@@ -1,11 +1,8 @@
 use Rattle.lra_tree.specs.Views.{tree_view}
 use Rattle.std.proofs.Common.{ap}
 use Rattle.lra_report.specs.View.{domain_of, options_of}
-use Rattle.lra_source.proofs.StageSteps.{straight, well, each_answered, each_refused}
+use Rattle.lra_source.proofs.StageSteps.{well, each_answered, each_refused}
 use Rattle.lra_source.proofs.answer.analyse_source.Goals as goal
-
-pub report_tree-requires-clause-straight : goal.report_tree-requires-clause-straight
-report_tree-requires-clause-straight c = straight c.args.bytes.now (tree_view c.in_ok-tree.tree) c.in_ok-tree.ensures.found
 
 pub report_tree-requires-clause-well : goal.report_tree-requires-clause-well
 report_tree-requires-clause-well c = well c.args.bytes.now (tree_view c.in_ok-tree.tree) c.in_ok-tree.ensures.found

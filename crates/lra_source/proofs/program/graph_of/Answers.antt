@@ -12,7 +12,7 @@ use Rattle.lra_source.proofs.program.graph_of.Goals as goal
 pub returns-in-Ok-clause-graph : goal.returns-in-Ok-clause-graph
 returns-in-Ok-clause-graph c =
     let b = c.in-Ok.ensures in
-    has_graph (tree_view c.args.tree.now) (program_view c.args.program.now) (node_view c.in-Ok.graph.tree) (map site_view c.in-Ok.graph.sites.items) c.requires.program c.requires.clean c.requires.well
+    has_graph (tree_view c.args.tree.now) (program_view c.args.program.now) (node_view c.in-Ok.graph.tree) (map site_view c.in-Ok.graph.sites.items) c.requires.program c.requires.clean c.requires.straight c.requires.well
     b.graph b.agrees b.sites b.few b.within
 
 pub returns-in_ok-labels-in-Err-Passed-clause-refused : goal.returns-in_ok-labels-in-Err-Passed-clause-refused
