@@ -30,13 +30,9 @@ pub(crate) fn clear(row: Row, line: &Row) -> Result<Row, RowError>
     }
     let leading = line.get(column);
     let factor = opposite(here);
-    match row.blend(leading, factor, line) {
-        Ok(mut next) => {
-            next.lowest_terms();
-            Ok(next)
-        }
-        Err(error) => Err(error),
-    }
+    let mut next = row.blend(leading, factor, line)?;
+    next.lowest_terms();
+    Ok(next)
 }
 
 // The row reduced by the form.

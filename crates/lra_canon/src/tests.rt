@@ -44,86 +44,83 @@ fn has_rows(rows: &[Row], want: &[[i128; 3]]) -> bool {
             .all(|(row, numbers)| row.entries() == numbers.as_slice())
 }
 
+// Whether the order puts the rows so.
+fn is_order(mut rows: Vec<Row>, order: Order, want: &[[i128; 3]]) -> Result<bool, AllocError> {
+    canonical_order(&mut rows, order)?;
+    Ok(has_rows(&rows, want))
+}
+
 /// Each order with rows that another order would leave as they stand.
 #[test]
 fn orders(rt: HostRuntime) -> Result<(), Fail> {
     let alloc = rt.alloc();
-    for (order, mut rows, want) in [
-        (
-            Order::Inequalities,
+    let inequalities = [[0, 1, 0], [1, -1, 0], [0, 0, 1]];
+    let points = [[2, -1, 0], [1, 0, 0], [1, 0, 2]];
+    let lines = [[0, 3, 1], [0, 0, 1], [1, 0, 0]];
+    for is_so in [
+        is_order(
             three(alloc, &[0, 0, 1], &[1, -1, 0], &[0, 1, 0])?,
-            [[0, 1, 0], [1, -1, 0], [0, 0, 1]],
-        ),
-        (
-            Order::Generators,
+            Order::Inequalities,
+            &inequalities,
+        )?,
+        is_order(
             three(alloc, &[1, 0, 2], &[1, 0, 0], &[2, -1, 0])?,
-            [[2, -1, 0], [1, 0, 0], [1, 0, 2]],
-        ),
-        (
-            Order::Pivots,
+            Order::Generators,
+            &points,
+        )?,
+        is_order(
             three(alloc, &[1, 0, 0], &[0, 0, 1], &[0, 3, 1])?,
-            [[0, 3, 1], [0, 0, 1], [1, 0, 0]],
-        ),
+            Order::Pivots,
+            &lines,
+        )?,
     ] {
-        canonical_order(&mut rows, order)?;
-        assert!(rt; has_rows(&rows, want.as_slice()));
+        assert!(rt; is_so);
     }
     Ok(())
 }
 
-// The echelon form, or the first number that passes.
-fn forming(lines: Vec<Row>) -> Result<Result<Vec<Row>, Excess>, Fail>
+// What passes, where it isn't memory.
+fn excess_of(answer: Result<(), RowError>) -> Option<Excess> {
+    match answer {
+        Err(RowError::Excess(excess)) => Some(excess),
+        _ => None,
+    }
+}
+
+// Whether this is the echelon form.
+fn is_form(mut lines: Vec<Row>, want: &[[i128; 3]]) -> bool
     requires { HaveOneWidth lines.items }
 {
-    let mut form = lines;
-    match echelon(&mut form) {
-        Ok(()) => Ok(Ok(form)),
-        Err(RowError::Excess(excess)) => Ok(Err(excess)),
-        Err(RowError::Memory) => Err("no memory".into()),
-    }
+    echelon(&mut lines).is_ok() && has_rows(&lines, want)
+}
+
+// The first number that passes, if one does.
+fn form_passes(mut lines: Vec<Row>) -> Option<Excess>
+    requires { HaveOneWidth lines.items }
+{
+    excess_of(echelon(&mut lines))
 }
 
 /// All columns, column 0 last; and x1 = 2 x2 twice: the second row goes, the first is turned and cleared.
 #[test]
 fn forms(rt: HostRuntime) -> Result<(), Fail> {
-    let alloc = rt.alloc();
-    let whole = [[0, 1, 0], [0, 0, 1], [1, 0, 0]];
-    let point = [[1, 1, 0], [1, 0, 2]];
-    for (got, want) in [
-        (
-            forming(three(alloc, &[0, 2, 1], &[0, 1, 2], &[1, 1, 1])?)?,
-            whole.as_slice(),
-        ),
-        (
-            forming(three(alloc, &[0, -2, 4], &[0, 1, -2], &[3, 0, 6])?)?,
-            point.as_slice(),
-        ),
-    ] {
-        let form = got.map_err(|_| "passes")?;
-        assert!(rt; has_rows(&form, want));
-    }
+    let whole = three(rt.alloc(), &[0, 2, 1], &[0, 1, 2], &[1, 1, 1])?;
+    assert!(rt; is_form(whole, &[[0, 1, 0], [0, 0, 1], [1, 0, 0]]));
+    let point = three(rt.alloc(), &[0, -2, 4], &[0, 1, -2], &[3, 0, 6])?;
+    assert!(rt; is_form(point, &[[1, 1, 0], [1, 0, 2]]));
     Ok(())
 }
 
 /// A number passes as a row is reduced, and as a row of the form is cleared at the pivot of the next one.
 #[test]
 fn excesses_of_forms(rt: HostRuntime) -> Result<(), Fail> {
-    let alloc = rt.alloc();
+    let reducing = form_passes(three(rt.alloc(), &[0, 2, 1], &[MAX, 1, 0], &[0, 0, 1])?);
+    let clearing = form_passes(three(rt.alloc(), &[MAX, 1, 1], &[-1, 0, 1], &[0, 0, 0])?);
     for (got, op, left, right) in [
-        (
-            forming(three(alloc, &[0, 2, 1], &[MAX, 1, 0], &[0, 0, 1])?)?,
-            Operation::Product,
-            2,
-            MAX,
-        ),
-        (
-            forming(three(alloc, &[MAX, 1, 1], &[-1, 0, 1], &[0, 0, 0])?)?,
-            Operation::Sum,
-            MAX,
-            1,
-        ),
+        (reducing, Operation::Product, 2, MAX),
+        (clearing, Operation::Sum, MAX, 1),
     ] {
-        assert_eq!(rt; got.err(), Some(Excess { op, left, right }));
+        assert_eq!(rt; got, Some(Excess { op, left, right }));
     }
     Ok(())
 }
@@ -139,38 +136,55 @@ fn sloped(alloc: Global) -> Result<Vec<Row>, AllocError>
     Ok(form)
 }
 
-// What a row of three columns becomes, or the first number that passes.
-fn reducing(alloc: Global, numbers: &[i128]) -> Result<Result<Row, Excess>, Fail>
+// Whether the row is reduced to this one.
+fn is_reduced(alloc: Global, numbers: &[i128], want: &[i128]) -> Result<bool, AllocError>
     requires numbers { All InRange numbers.now }
     requires width { length numbers.now ≡ 3 }
 {
     let form = sloped(alloc)?;
     let mut row = Row::from_slice(alloc, numbers)?;
-    match reduce(&mut row, &form) {
-        Ok(()) => Ok(Ok(row)),
-        Err(RowError::Excess(excess)) => Ok(Err(excess)),
-        Err(RowError::Memory) => Err("no memory".into()),
-    }
+    Ok(reduce(&mut row, &form).is_ok() && row.entries() == want)
+}
+
+// The first number that passes, if one does.
+fn reduction_passes(alloc: Global, numbers: &[i128]) -> Result<Option<Excess>, AllocError>
+    requires numbers { All InRange numbers.now }
+    requires width { length numbers.now ≡ 3 }
+{
+    let form = sloped(alloc)?;
+    let mut row = Row::from_slice(alloc, numbers)?;
+    Ok(excess_of(reduce(&mut row, &form)))
 }
 
 /// Rows by 2 x1 + x2 = 0: their entry of column 1 is cleared by the factors 2 and minus that entry.
 #[test]
 fn reductions(rt: HostRuntime) -> Result<(), Fail> {
     let alloc = rt.alloc();
-    for (got, want) in [
-        (reducing(alloc, &[1, 3, 4])?, [2, 0, 5].as_slice()),
-        (reducing(alloc, &[4, 0, 6])?, [2, 0, 3].as_slice()),
-        (reducing(alloc, &[-1, -2, 0])?, [-1, 0, 1].as_slice()),
-        (reducing(alloc, &[0, 4, 2])?, [0, 0, 0].as_slice()),
+    for is_so in [
+        is_reduced(alloc, &[1, 3, 4], &[2, 0, 5])?,
+        is_reduced(alloc, &[4, 0, 6], &[2, 0, 3])?,
+        is_reduced(alloc, &[-1, -2, 0], &[-1, 0, 1])?,
+        is_reduced(alloc, &[0, 4, 2], &[0, 0, 0])?,
     ] {
-        let row = got.map_err(|_| "passes")?;
-        assert_eq!(rt; row.entries(), want);
+        assert!(rt; is_so);
     }
-    for (got, op, left, right) in [
-        (reducing(alloc, &[MAX, 1, 0])?, Operation::Product, 2, MAX),
-        (reducing(alloc, &[0, MAX, 1])?, Operation::Product, 2, MAX),
-    ] {
-        assert_eq!(rt; got.err(), Some(Excess { op, left, right }));
+    Ok(())
+}
+
+/// A number passes in column 0, and one in column 1.
+#[test]
+fn excesses_of_reductions(rt: HostRuntime) -> Result<(), Fail> {
+    let first = reduction_passes(rt.alloc(), &[MAX, 1, 0])?;
+    let second = reduction_passes(rt.alloc(), &[0, MAX, 1])?;
+    for got in [first, second] {
+        assert_eq!(rt;
+            got,
+            Some(Excess {
+                op: Operation::Product,
+                left: 2,
+                right: MAX
+            })
+        );
     }
     Ok(())
 }
@@ -211,56 +225,52 @@ fn has_bits(row: &BitRow, want: &[bool]) -> bool {
             .all(|(k, value)| row.get(k) == *value)
 }
 
-// The matrix without its redundant rows, with the rows.
-fn dropping(rows: Vec<Row>, matrix: SatMatrix) -> Result<(Vec<Row>, SatMatrix), AllocError>
+// Whether these rows are left, the last of the matrix among them.
+fn leaves(
+    mut rows: Vec<Row>,
+    mut matrix: SatMatrix,
+    want: &[[i128; 3]],
+    last: &[bool],
+) -> Result<bool, AllocError>
     requires { length matrix.rows ≡ length rows.items }
 {
-    let mut left = rows;
-    let mut bits = matrix;
-    drop_redundant(&mut left, &mut bits)?;
-    Ok((left, bits))
+    drop_redundant(&mut rows, &mut matrix)?;
+    let height = matrix.height();
+    if height != want.len() || height == 0 {
+        return Ok(false);
+    }
+    Ok(has_rows(&rows, want) && has_bits(matrix.row(height - 1), last))
 }
 
-/// In the triangle with the corners (0, 0), (0, 2), (2, 0): its sides stay; x1 <= 3 is tight nowhere and goes; of
-/// x1 >= 0 twice one stays.
+const FIRST: [bool; 3] = [true, true, false];
+
+const SECOND: [bool; 3] = [true, false, true];
+
+const THIRD: [bool; 3] = [false, true, true];
+
+/// In the triangle with the corners (0, 0), (0, 2), (2, 0) the sides stay.
 #[test]
-fn redundant_rows(rt: HostRuntime) -> Result<(), Fail> {
-    let alloc = rt.alloc();
-    let first = [true, true, false];
-    let second = [true, false, true];
-    let third = [false, true, true];
-    let none = [false, false, false];
-    for ((rows, matrix), want, last) in [
-        (
-            dropping(
-                three(alloc, &[0, 1, 0], &[0, 0, 1], &[2, -1, -1])?,
-                matrix_of(alloc, &first, &second, &third)?,
-            )?,
-            [[0, 1, 0], [0, 0, 1], [2, -1, -1]].as_slice(),
-            third,
-        ),
-        (
-            dropping(
-                three(alloc, &[3, -1, 0], &[0, 1, 0], &[0, 0, 1])?,
-                matrix_of(alloc, &none, &first, &second)?,
-            )?,
-            [[0, 1, 0], [0, 0, 1]].as_slice(),
-            second,
-        ),
-        (
-            dropping(
-                three(alloc, &[0, 0, 1], &[0, 1, 0], &[0, 1, 0])?,
-                matrix_of(alloc, &second, &first, &first)?,
-            )?,
-            [[0, 0, 1], [0, 1, 0]].as_slice(),
-            first,
-        ),
-    ] {
-        assert!(rt; has_rows(&rows, want));
-        assert_eq!(rt; matrix.height(), want.len());
-        if matrix.height() > 0 {
-            assert!(rt; has_bits(matrix.row(matrix.height() - 1), last.as_slice()));
-        }
-    }
+fn sides(rt: HostRuntime) -> Result<(), Fail> {
+    let rows = three(rt.alloc(), &[0, 1, 0], &[0, 0, 1], &[2, -1, -1])?;
+    let matrix = matrix_of(rt.alloc(), &FIRST, &SECOND, &THIRD)?;
+    assert!(rt; leaves(rows, matrix, &[[0, 1, 0], [0, 0, 1], [2, -1, -1]], &THIRD)?);
+    Ok(())
+}
+
+/// x1 <= 3 is tight nowhere there, and goes.
+#[test]
+fn loose_rows(rt: HostRuntime) -> Result<(), Fail> {
+    let rows = three(rt.alloc(), &[3, -1, 0], &[0, 1, 0], &[0, 0, 1])?;
+    let matrix = matrix_of(rt.alloc(), &[false, false, false], &FIRST, &SECOND)?;
+    assert!(rt; leaves(rows, matrix, &[[0, 1, 0], [0, 0, 1]], &SECOND)?);
+    Ok(())
+}
+
+/// Of x1 >= 0 twice one stays.
+#[test]
+fn doubles(rt: HostRuntime) -> Result<(), Fail> {
+    let rows = three(rt.alloc(), &[0, 0, 1], &[0, 1, 0], &[0, 1, 0])?;
+    let matrix = matrix_of(rt.alloc(), &SECOND, &FIRST, &FIRST)?;
+    assert!(rt; leaves(rows, matrix, &[[0, 0, 1], [0, 1, 0]], &FIRST)?);
     Ok(())
 }
