@@ -1,16 +1,22 @@
 -- The faults of a chain of conditions are those of its operands in their order, and it means the chain, nested to the right, of what they mean.
-use Rattle.std.proofs.Common.{◌≡◌, ℕ, ◌≤◌, length, take, List, [], ◌∷◌, ◌++◌, map, refl, sym, ap, ◌∙◌, append_assoc, append-nil, Option, Some, None}
+use Rattle.std.proofs.Common.{◌≡◌, ℕ, ◌≤◌, length, take, List, [], ◌∷◌, ◌++◌, map, refl, sym, ap, ◌∙◌, append_assoc, append-nil, Option, Some, None, rules, Box, Global}
 use Rattle.std.specs.List.{flat_map}
 use Rattle.std.proofs.lemmas.List.Folds.{flat_map-map}
 use Rattle.std.proofs.lemmas.Simd.{map-map}
 use Rattle.std.proofs.lemmas.List.{take_all}
 use Rattle.lra_tree.specs.declared.refusals.Refusal.{Refusal}
 use Rattle.lra_tree.specs.declared.trees.Negation.TheFolds.{fold_out-Conjunction, fold_out-Cond}
+use Rattle.lra_tree.specs.declared.trees.Negation.{Negation, the_lemmas as cond_lemmas}
+use Rattle.lra_tree.specs.declared.trees.Negation as code_negation
 use Rattle.lra_tree.specs.declared.trees.Test.{Test}
+use Rattle.lra_tree.specs.declared.trees.Test as code_test
+use Rattle.lra_tree.specs.declared.trees.Unary.{Unary}
+use Rattle.lra_tree.specs.declared.trees.Expr.{Expr}
+use Rattle.lra_tree.specs.declared.trees.Comparison.{Comparison}
 use Rattle.lra_tree.specs.declared.trees.Conjunction.{Conjunction, out-Conjunction}
 use Rattle.lra_tree.specs.declared.trees.Cond.{Cond, out-Cond}
-use Rattle.lra_tree.specs.Trees.{NegationTree, TestTree, ConjunctionTree, test, and, CondTree, conjunction, or}
-use Rattle.lra_tree.specs.Views.{all_tests, any_conjunction, negation_step, test_step, conjunction_step, cond_step, test_view, conjunction_view, cond_view}
+use Rattle.lra_tree.specs.Trees.{NegationTree, opposite_again, value_of_unary, TestTree, opposite, value, compare, ConjunctionTree, test, and, CondTree, conjunction, or}
+use Rattle.lra_tree.specs.Views.{all_tests, any_conjunction, negation_step, test_step, conjunction_step, cond_step, unary_view, expr_view, comparison_view, negation_view, test_view, conjunction_view, cond_view}
 use Rattle.lra_tree.specs.Program as program
 use Rattle.lra_tree.specs.ProgramViews as chain
 use Rattle.lra_tree.specs.Scope.{Scope}
@@ -154,6 +160,24 @@ cond_found s c v w cs ds n e first found all is =
     e ∙ ap (λ (x : program.Cond). chain.any_of x cs) first
     ∙ ap (chain.any_of (resolve_conjunction s (conjunction_view (out-Cond c).first))) (found ∙ ap (map (conjunction_means s)) (whole ∙ is))
     ∙ sym (code_cond_means s c)
+
+-- what stands for each form of the code's negations and tests -----------------------------------------------------------
+
+pub again_is : (n : Negation) (b : Box Negation Global) (t : Negation) → n ≡ code_negation.Again b → t ≡ b.value → negation_view n ≡ opposite_again (negation_view t)
+again_is n b t is same = let v : negation_view (code_negation.Again b) ≡ opposite_again (negation_view b.value) = search (rules, cond_lemmas) in rw (is, v, same)
+
+pub operand_is : (n : Negation) (u : Unary) → n ≡ code_negation.Operand u → negation_view n ≡ value_of_unary (unary_view u)
+operand_is n u is = let v : negation_view (code_negation.Operand u) ≡ value_of_unary (unary_view u) = search (rules, cond_lemmas) in rw (is, v)
+
+pub opposite_is : (t : Test) (n : Negation) → t ≡ code_test.Opposite n → test_view t ≡ opposite (negation_view n)
+opposite_is t n is = let v : test_view (code_test.Opposite n) ≡ opposite (negation_view n) = search (rules, cond_lemmas) in rw (is, v)
+
+pub value_is : (t : Test) (e : Expr) → t ≡ code_test.Value e → test_view t ≡ value (expr_view e)
+value_is t e is = let v : test_view (code_test.Value e) ≡ value (expr_view e) = search (rules, cond_lemmas) in rw (is, v)
+
+pub compare_is : (t : Test) (a : Expr) (op : Comparison) (b : Expr) → t ≡ code_test.Compare a op b → test_view t ≡ compare (expr_view a) (comparison_view op) (expr_view b)
+compare_is t a op b is =
+    let v : test_view (code_test.Compare a op b) ≡ compare (expr_view a) (comparison_view op) (expr_view b) = search (rules, cond_lemmas) in rw (is, v)
 
 pub ruleset conjunction_rules = (code_conjunction_faults, tells_front, tells_behind)
 

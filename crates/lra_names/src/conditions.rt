@@ -69,7 +69,6 @@ fn resolve_negation(
 }
 
 #[cycle(condition)]
-#[tactic(auto, using(crate::proofs::Telling::telling_rules))]
 fn resolve_test(alloc: Global, scope: &Scope, test: &Test) -> Result<program::Cond, NamesError>
     ensures told { TellsOf (test_faults scope.now (test_view test.now)) result }
     ensures found { IfOk result (λ c. cond_view c ≡ resolve_test scope.now (test_view test.now)) }

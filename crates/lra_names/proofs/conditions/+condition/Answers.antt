@@ -1,8 +1,9 @@
-use Rattle.std.proofs.Common.{map, ap, arith, refl}
+use Rattle.std.proofs.Common.{map, ap, arith, refl, ◌∙◌}
 use Rattle.lra_tree.specs.ProgramViews.{cond_view}
+use Rattle.lra_tree.specs.NameFaults.{negation_faults, test_faults}
 use Rattle.lra_names.proofs.Telling.{parts_clean}
-use Rattle.lra_names.proofs.Loops.{memory_told, first_told, part_told, made_told, found_so, all_clean, rest_clean, parts_found}
-use Rattle.lra_names.proofs.CondLaws.{faults_of_test, test_means, faults_of_conjunction, conjunction_means, code_conjunction_faults, code_cond_faults, conjunction_found, cond_found}
+use Rattle.lra_names.proofs.Loops.{memory_told, only_told, first_told, second_told, both_clean, part_told, made_told, found_so, all_clean, rest_clean, parts_found}
+use Rattle.lra_names.proofs.CondLaws.{faults_of_test, test_means, faults_of_conjunction, conjunction_means, code_conjunction_faults, code_cond_faults, conjunction_found, cond_found, again_is, operand_is, opposite_is, value_is, compare_is}
 use Rattle.lra_names.proofs.conditions.+condition.Goals as goal
 
 pub resolve_conjunction-returns-in_err-first-clause-told : goal.resolve_conjunction-returns-in_err-first-clause-told
@@ -90,3 +91,59 @@ resolve_cond-returns-clause-found t c =
     c.conjunctions.invariant.found
     (omega arith) c.deref-conjunction-items.ensures.value)
     c.any.ensures.found
+
+pub resolve_negation-returns-in_err-inner-in-Again-clause-told : goal.resolve_negation-returns-in_err-inner-in-Again-clause-told
+resolve_negation-returns-in_err-inner-in-Again-clause-told t c =
+    only_told _ _ c.from_residual.result _ (ap (negation_faults c.args.scope.now) (again_is c.args.negation.now c.in-Again.inner c.deref.result.now c.in-Again.is c.deref.ensures)) c.from_residual.ensures.1 c.in_err-inner-in-Again.ensures.told
+
+pub resolve_negation-returns-in_err-new-in-Again-clause-told : goal.resolve_negation-returns-in_err-new-in-Again-clause-told
+resolve_negation-returns-in_err-new-in-Again-clause-told t c =
+    memory_told _ c.from_residual-in_err-new-in-Again.result c.from_residual-in_err-new-in-Again.ensures.1
+
+pub resolve_negation-returns-in_err-operand-in-Operand-clause-told : goal.resolve_negation-returns-in_err-operand-in-Operand-clause-told
+resolve_negation-returns-in_err-operand-in-Operand-clause-told t c =
+    only_told _ _ c.from_residual-in_err-operand-in-Operand.result _ (ap (negation_faults c.args.scope.now) (operand_is c.args.negation.now c.in-Operand.unary c.in-Operand.is)) c.from_residual-in_err-operand-in-Operand.ensures.1
+    c.in_err-operand-in-Operand.ensures.told
+
+pub resolve_negation-returns-in_ok-new-in-Again-clause-told : goal.resolve_negation-returns-in_ok-new-in-Again-clause-told
+resolve_negation-returns-in_ok-new-in-Again-clause-told t c =
+    ap (negation_faults c.args.scope.now) (again_is c.args.negation.now c.in-Again.inner c.deref.result.now c.in-Again.is c.deref.ensures) ∙ c.in_ok-inner-in-Again.ensures.told
+
+pub resolve_negation-returns-in_ok-operand-in-Operand-clause-told : goal.resolve_negation-returns-in_ok-operand-in-Operand-clause-told
+resolve_negation-returns-in_ok-operand-in-Operand-clause-told t c =
+    ap (negation_faults c.args.scope.now) (operand_is c.args.negation.now c.in-Operand.unary c.in-Operand.is) ∙ c.in_ok-operand-in-Operand.ensures.told
+
+pub resolve_test-returns-in_err-inner-in-Opposite-clause-told : goal.resolve_test-returns-in_err-inner-in-Opposite-clause-told
+resolve_test-returns-in_err-inner-in-Opposite-clause-told t c =
+    only_told _ _ c.from_residual.result _ (ap (test_faults c.args.scope.now) (opposite_is c.args.test.now c.in-Opposite.negation c.in-Opposite.is)) c.from_residual.ensures.1 c.in_err-inner-in-Opposite.ensures.told
+
+pub resolve_test-returns-in_err-new-in-Opposite-clause-told : goal.resolve_test-returns-in_err-new-in-Opposite-clause-told
+resolve_test-returns-in_err-new-in-Opposite-clause-told t c =
+    memory_told _ c.from_residual-in_err-new-in-Opposite.result c.from_residual-in_err-new-in-Opposite.ensures.1
+
+pub resolve_test-returns-in_err-value-in-Value-clause-told : goal.resolve_test-returns-in_err-value-in-Value-clause-told
+resolve_test-returns-in_err-value-in-Value-clause-told t c =
+    only_told _ _ c.from_residual-in_err-value-in-Value.result _ (ap (test_faults c.args.scope.now) (value_is c.args.test.now c.in-Value.expr c.in-Value.is)) c.from_residual-in_err-value-in-Value.ensures.1
+    c.in_err-value-in-Value.ensures.told
+
+pub resolve_test-returns-in_err-left-in-Compare-clause-told : goal.resolve_test-returns-in_err-left-in-Compare-clause-told
+resolve_test-returns-in_err-left-in-Compare-clause-told t c =
+    first_told _ _ _ c.from_residual-in_err-left-in-Compare.result _ (ap (test_faults c.args.scope.now) (compare_is c.args.test.now c.in-Compare.left c.in-Compare.comparison c.in-Compare.right c.in-Compare.is)) c.from_residual-in_err-left-in-Compare.ensures.1
+    c.in_err-left-in-Compare.ensures.told
+
+pub resolve_test-returns-in_err-right-in-Compare-clause-told : goal.resolve_test-returns-in_err-right-in-Compare-clause-told
+resolve_test-returns-in_err-right-in-Compare-clause-told t c =
+    second_told _ _ _ c.from_residual-in_err-right-in-Compare.result _ (ap (test_faults c.args.scope.now) (compare_is c.args.test.now c.in-Compare.left c.in-Compare.comparison c.in-Compare.right c.in-Compare.is)) c.in_ok-left-in-Compare.ensures.told
+    c.from_residual-in_err-right-in-Compare.ensures.1 c.in_err-right-in-Compare.ensures.told
+
+pub resolve_test-returns-in_ok-new-in-Opposite-clause-told : goal.resolve_test-returns-in_ok-new-in-Opposite-clause-told
+resolve_test-returns-in_ok-new-in-Opposite-clause-told t c =
+    ap (test_faults c.args.scope.now) (opposite_is c.args.test.now c.in-Opposite.negation c.in-Opposite.is) ∙ c.in_ok-inner-in-Opposite.ensures.told
+
+pub resolve_test-returns-in_ok-value-in-Value-clause-told : goal.resolve_test-returns-in_ok-value-in-Value-clause-told
+resolve_test-returns-in_ok-value-in-Value-clause-told t c =
+    ap (test_faults c.args.scope.now) (value_is c.args.test.now c.in-Value.expr c.in-Value.is) ∙ c.in_ok-value-in-Value.ensures.told
+
+pub resolve_test-returns-in_ok-right-in-Compare-clause-told : goal.resolve_test-returns-in_ok-right-in-Compare-clause-told
+resolve_test-returns-in_ok-right-in-Compare-clause-told t c =
+    both_clean _ _ _ (ap (test_faults c.args.scope.now) (compare_is c.args.test.now c.in-Compare.left c.in-Compare.comparison c.in-Compare.right c.in-Compare.is)) c.in_ok-left-in-Compare.ensures.told c.in_ok-right-in-Compare.ensures.told
