@@ -9,7 +9,5 @@ pub mod Named
 pub mod Whole
 -- Literals of tokens, of trees, and of a source's tree.
 pub mod Spelled
--- Sources without calls.
-pub mod Callless
 -- Worked examples.
 mod LiteralExamples

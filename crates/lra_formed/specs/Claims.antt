@@ -1,4 +1,4 @@
--- Which programs are well-formed, and which sources have no recursion.
+-- Which programs are well-formed, and that points have a name for each variable.
 use Rattle.std.specs.Prelude.{◌≡◌, ℕ, List, [], length, Some, slice_get}
 use Rattle.lra_tree.specs.declared.tokens.Token.{Token}
 use Rattle.lra_tree.specs.Trees.{FileTree}
@@ -11,8 +11,7 @@ use Rattle.lra_tree.specs.Labels.{labels_of}
 use Rattle.lra_tree.specs.Sites.{Site, sites_of}
 use Rattle.lra_tree.specs.ReportText.{shown_names}
 use Rattle.lra_tree.specs.Listing.{globals_named, live_names}
-use Rattle.lra_tree.specs.Built.{Built}
-use Rattle.lra_tree.specs.Refuse.{NotRecursive, Accepts}
+use Rattle.lra_tree.specs.Refuse.{Accepts}
 use Rattle.lra_formed.specs.Literals.{HasSmallLiterals}
 
 -- the program of a tree whose literals are small and whose names have no faults is well-formed
@@ -30,10 +29,6 @@ ReadAreWellFormed L = (source : List ℕ) (tokens : List Token) (t : FileTree) �
 -- and so is that of each accepted source
 abbrev pub EachAcceptedIsWellFormed : Language → Type 0
 EachAcceptedIsWellFormed L = (source : List ℕ) (t : FileTree) → Accepts L source t → IsWellFormed (resolve t)
-
--- no call of a source that is taken today reaches its own function: there is none
-abbrev pub BuiltAreNotRecursive : Type 0
-BuiltAreNotRecursive = (tokens : List Token) (t : FileTree) → IsTree Built tokens t → NotRecursive t
 
 -- at each point of a source as many names are printed as variables live there
 abbrev pub NamesAreAsMany : Type 0

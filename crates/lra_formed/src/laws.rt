@@ -3,7 +3,7 @@
 ghost use Rattle.lra_tree.specs.Grammar.{Spells};
 ghost use Rattle.lra_tree.specs.Built.{Built};
 ghost use Rattle.lra_tree.specs.WellFormed.{AcceptedAreWellFormed};
-ghost use Rattle.lra_formed.specs.Claims.{FaultlessAreWellFormed, LiteralsAreSmall, ReadAreWellFormed, EachAcceptedIsWellFormed, BuiltAreNotRecursive, NamesAreAsMany, ShownNamesAreAsMany};
+ghost use Rattle.lra_formed.specs.Claims.{FaultlessAreWellFormed, LiteralsAreSmall, ReadAreWellFormed, EachAcceptedIsWellFormed, NamesAreAsMany, ShownNamesAreAsMany};
 
 /// The program of a source without faults of names is well-formed.
 pub fn faultless_are_well_formed()
@@ -14,11 +14,6 @@ pub fn faultless_are_well_formed()
     ensures built { ReadAreWellFormed Built }
     ensures accepted { AcceptedAreWellFormed }
     ensures accepted_built { EachAcceptedIsWellFormed Built }
-{}
-
-/// What is taken of the grammar so far has no calls, and so no recursion.
-pub fn built_are_not_recursive()
-    ensures { BuiltAreNotRecursive }
 {}
 
 /// At each point of a source as many names are printed as variables live there.

@@ -1,8 +1,8 @@
-//! Programs of sources without faults of names: well-formed, and so far without recursion; and their points have a name for each variable.
+//! Programs of sources without faults of names are well-formed, and their points have a name for each variable.
 //!
 //! The definitions stand in `lra_tree`: the grammar, the faults of names, the program that a tree means, and well-formed programs.
 #![tactic(auto)]
 
 mod laws;
 
-pub use laws::{built_are_not_recursive, faultless_are_well_formed, names_are_as_many};
+pub use laws::{faultless_are_well_formed, names_are_as_many};

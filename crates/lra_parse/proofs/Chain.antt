@@ -44,6 +44,23 @@ module _ {I A O : Type 0} (mark_of : O → Mark) (start : I → A) (grow : A →
   pub split_start : (i : I) (z : Pieces) → IsItem i z → Split (start i) z
   split_start i z s = (i, (z, [], sym (append-nil z), s, none))
 
+  module _ (P : A → Type 0) (grown : (a : A) (k : O) (i : I) → P (grow a k i) → ⊥) where
+    steps_not : (b a : A) (y : Pieces) → (P a → ⊥) → Steps Step_to b a y → P b → ⊥
+    steps_not b a y h none = h
+    steps_not b a y h (turn {a = _} {c = c} {x = u} {y = v} (k, (q, r, e, m, (i, g, s))) t) = steps_not b c v (λ j. grown a k i (subst P (sym g) j)) t
+
+    -- nothing that a step grew has P
+    pub no_steps : (b a : A) (y : Pieces) → Steps Step_to b a y → P b → (y ≡ []) × (b ≡ a)
+    no_steps b a y none j = (refl, refl)
+    no_steps b a y (turn {a = _} {c = c} {x = u} {y = v} (k, (q, r, e, m, (i, g, s))) t) j = absurd (steps_not b c v (λ j. grown a k i (subst P (sym g) j)) t j)
+
+  -- the first token of steps, or of what comes behind none
+  pub first_of_steps : (b a : A) (y : Pieces) (o : Option Token) (P : Option Token → Type 0) → Steps Step_to b a y → ((k : O) (at : Place) → P (Some (record { kind = MarkOf (mark_of k); place = at })))
+      → (y ≡ [] → b ≡ a → P o) → P (first_or y o)
+  first_of_steps b a y o P none marks f = f refl refl
+  first_of_steps b a y o P (turn {a = _} {c = c} {x = u} {y = v} (k, (q, r, e, m, g)) t) marks f =
+      subst (λ (w : Pieces). P (first_or (w ++ v) o)) (sym (e ∙ ap (λ (w : Pieces). w ++ r) m.1)) (marks k m.0)
+
   module _ (IsChain : A → Pieces → Type 0) (grows : (a : A) (k : O) (i : I) (x y : Pieces) → IsChain a x → (mark (mark_of k) ⋅ IsItem i) y → IsChain (grow a k i) (x ++ y)) where
     pub whole : (b a : A) (x y : Pieces) → IsChain a x → Steps Step_to b a y → IsChain b (x ++ y)
     whole b a x y h none = subst (IsChain b) (sym (append-nil x)) h

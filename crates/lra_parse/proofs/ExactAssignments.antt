@@ -1,7 +1,6 @@
 -- The readers of assignments and declarations are exact.
-use Rattle.std.proofs.Common.{◌≡◌, ℕ, ◌+◌, ◌≤◌, Bool, true, false, cond, ◌⊎◌, List, [], ◌∷◌, ◌++◌, Option, Some, None, Ok, Err, refl, sym, ap, subst, ◌∙◌, arith, inl, inr, option_map}
+use Rattle.std.proofs.Common.{◌≡◌, ℕ, ◌+◌, ◌≤◌, true, false, ◌⊎◌, List, [], ◌∷◌, ◌++◌, Option, Some, None, Ok, Err, refl, sym, ap, subst, ◌∙◌, arith, inl, inr, option_map}
 use Rattle.std.specs.Bool.{⊤}
-use Rattle.std.specs.List.{AllByRecursion}
 use Rattle.lra_tree.specs.declared.refusals.Place.{Place}
 use Rattle.lra_tree.specs.declared.tokens.Mark.{Mark}
 use Rattle.lra_tree.specs.declared.tokens.Mark.TheVariants as mark
@@ -13,78 +12,22 @@ use Rattle.lra_tree.specs.declared.trees.Operator.TheVariants as operator
 use Rattle.lra_tree.specs.declared.trees.Step.{Step}
 use Rattle.lra_tree.specs.declared.trees.Step.TheVariants as step
 use Rattle.lra_tree.specs.Program as program
-use Rattle.lra_tree.specs.Texts.{Pieces, Texts, ◌⋅◌, ◌∣◌, empty, opens, mark as spells, opens_at, name, further, separated}
+use Rattle.lra_tree.specs.Texts.{Pieces, Texts, ◌⋅◌, ◌∣◌, empty, opens, mark as spells, opens_at, name, separated}
 use Rattle.lra_tree.specs.Trees.{SourceTree, expression, result, StepTree, increment, decrement, AssignTree, set, update, after, before, DeclaratorTree, DeclarationTree}
 use Rattle.lra_tree.specs.Views.{operator_view, step_view}
 use Rattle.lra_tree.specs.Grammar.{IsExpr, IsSource, update_mark, step_mark, IsAssign, IsType, IsDeclarator, IsDeclaration}
-use Rattle.lra_tree.specs.Built.{IsBuiltSource, IsBuiltAssign, IsBuiltGiven, IsBuiltDeclaration}
-use Rattle.lra_parse.specs.Tests.{first, is_mark}
-use Rattle.lra_parse.specs.Reading.{Text, Read, Parse, ◌>>=◌, seq, tail, expect, take_by, has, one_of}
-use Rattle.lra_parse.specs.Expressions.{behind}
-use Rattle.lra_parse.specs.Statements.{skip, commas, update_operators, update_operator, step_marks, next_step, source_at, assign_rest, assign_at, type_words, given, declarator_at, declaration_of, declaration_at}
-use Rattle.lra_parse.proofs.Marks.{is_mark_some, is_mark_self}
+use Rattle.lra_parse.specs.Tests.{is_mark}
+use Rattle.lra_parse.specs.Reading.{Text, Read, Parse, ◌>>=◌, seq, expect, take_by, has, one_of}
+use Rattle.lra_parse.specs.Statements.{skip, update_operators, update_operator, step_marks, next_step, assign_rest, assign_at, type_words, given, declarator_at, declaration_of, declaration_at}
+use Rattle.lra_parse.proofs.Marks.{is_mark_some}
 use Rattle.lra_parse.proofs.Exact.{Exact, Any, Free, Both, first_or, then}
-use Rattle.lra_parse.proofs.Forms.{rename, widen, retell, entry, mapped, branch, same_where, exact_done, exact_take}
+use Rattle.lra_parse.proofs.Forms.{widen, retell, entry, mapped, branch, same_where, exact_done, exact_take}
 use Rattle.lra_parse.proofs.Tokens.{IsInner, table_is, exact_name, exact_operator, some_place, some_name}
-use Rattle.lra_parse.proofs.Chain.{regroup, joined_left, joined_right, Items, AfterLast, exact_list}
-use Rattle.lra_parse.proofs.Parts.{token, exact_behind, exact_ended, by_table}
+use Rattle.lra_parse.proofs.Chain.{regroup, joined_left, joined_right, AfterLast}
+use Rattle.lra_parse.proofs.Parts.{token, exact_behind, exact_ended}
 use Rattle.lra_parse.proofs.ExactExpressions.{AfterExpr, some_expr, Of, first_opened, exact_expr}
-
--- optional marks and lists with commas -----------------------------------------------------------------------------
-
-skip_is : {A : Type 0} (m : Mark) (p : Parse A) (T : Text) (v : Bool) → is_mark m (first T) ≡ v → cond v (behind m p T) (p T) ≡ p (cond v (tail T) T)
-skip_is m p T true e = rw e refl
-skip_is m p T false e = refl
-
-skip_sides : {A : Type 0} (m : Mark) (S : A → Pieces → Type 0) (b : A) (z : Pieces) → ((spells m ∣ empty) ⋅ S b) z → (opens m 0 ⋅ S b) z ⊎ S b z
-skip_sides m S b z (x, y, e, inl s, t) = inl (x, y, e, s, t)
-skip_sides m S b z (x, y, e, inr s, t) = inr (subst (S b) (sym (e ∙ ap (λ (k : Pieces). k ++ y) s)) t)
-
--- a mark that may be there
-pub exact_skip : {n : ℕ} {A : Type 0} {p : Parse A} {S : A → Pieces → Type 0} {F : A → Option Token → Type 0} (m : Mark) → Exact n IsInner p Any S S F → (some : (a : A) × (x : Pieces) × S a x)
-    → (begins : (a : A) (x : Pieces) (o : Option Token) → S a x → (x ≡ [] → F a o) → is_mark m (first_or x o) ≡ false)
-    → Exact n IsInner (λ T. p (skip m T)) Any (λ b. (spells m ∣ empty) ⋅ S b) (λ b. (spells m ∣ empty) ⋅ S b) F
-exact_skip {n} {A} {p} {S = S} {F = F} m P some begins =
-    let q = exact_behind m 0 (omega arith) P some in
-    let W : A → Pieces → Type 0 = λ b. (spells m ∣ empty) ⋅ S b in
-    let t = branch (is_mark m) (entry (widen q W (λ b z s. (s.0, s.1, s.2, inl s.3, s.4))) (λ o. ⊤ × (is_mark m o ≡ true)) (λ o h. tt))
-    (entry (widen P W (λ b z s. ([], z, refl, inr refl, s))) (λ o. ⊤ × (is_mark m o ≡ false)) (λ o h. tt))
-    (λ b z o s f. first_opened (λ i. is_mark m i ≡ true) m 0 s.0 s.1 z o s.2 s.3 (λ at. is_mark_self m (token m at) refl)) begins in
-    let s = same_where t (λ T. p (skip m T)) (λ T i. skip_is m p T (is_mark m (first T)) refl) in
-    rename s W
-    (λ b z s. elim s [ inl k ↦ (k.0, k.1, k.2, inl k.3, k.4) | inr k ↦ ([], z, refl, inr refl, k) ])
-    (λ b z s. skip_sides m S b z s)
-
-items_further : {A : Type 0} (S : A → Texts) (is : List A) (z : Pieces) → Items (λ a. opens mark.Comma 0 ⋅ S a) is z → further S is z
-items_further S [] z e = e
-items_further S (i ∷ is) z (x, y, e, s, r) = joined_right (opens mark.Comma 0) (S i) (further S is) z (x, y, e, s, items_further S is y r)
-
-further_items : {A : Type 0} (S : A → Texts) (is : List A) (z : Pieces) → further S is z → Items (λ a. opens mark.Comma 0 ⋅ S a) is z
-further_items S [] z e = e
-further_items S (i ∷ is) z (x, y, e, s, (u, v, f, r, t)) = joined_left (opens mark.Comma 0) (S i) (Items (λ a. opens mark.Comma 0 ⋅ S a) is) z (x, y, e, s, (u, v, f, r, further_items S is v t))
-
-abbrev pub AfterCommas : {A : Type 0} → (A → Option Token → Type 0) → A × List A → Option Token → Type 0
-AfterCommas F b o = AfterLast F (F b.0) b.1 o × (is_mark mark.Comma o ≡ false)
-
-commas_first : {A : Type 0} (S : A → Texts) (F : A → Option Token → Type 0) (fine : (a : A) (at : Place) → F a (Some (token mark.Comma at))) (a : A) (is : List A) (y : Pieces) (o : Option Token)
-    → Items (λ a. opens mark.Comma 0 ⋅ S a) is y → (y ≡ [] → AfterLast F (F a) is o) → F a (first_or y o)
-commas_first S F fine a [] y o e f = rw e (f e)
-commas_first S F fine a (i ∷ is) y o (u, v, e, (p, q, g, s, t), r) f = first_opened (F a) mark.Comma 0 p (q ++ v) y o (e ∙ regroup u v p q g) s (fine a)
-
-pub exact_commas : {n : ℕ} {A : Type 0} {p : Parse A} {S : A → Pieces → Type 0} {F : A → Option Token → Type 0} → Exact n IsInner p Any S S F → (some : (a : A) × (x : Pieces) × S a x)
-    → (fine : (a : A) (at : Place) → F a (Some (token mark.Comma at)))
-    → Exact n IsInner (commas p) Any (λ b z. separated S (b.0 ∷ b.1) z) (λ b z. separated S (b.0 ∷ b.1) z) (AfterCommas F)
-exact_commas {n} {A} {p} {S = S} {F = F} P some fine =
-    let item = entry (exact_behind mark.Comma 0 (omega arith) P some) (λ o. is_mark mark.Comma o ≡ true) (λ o h. tt) in
-    let goes : (a : A) (o : Option Token) → is_mark mark.Comma o ≡ true → F a o = λ a o e. by_table (λ (u : Unit {0}). mark.Comma) ((mark.Comma, tt {0}) ∷ []) (refl, tt) (F a) (λ u at. fine a at) o (rw e refl) in
-    let list = λ (a : A). exact_list (is_mark mark.Comma) item (F a) refl (λ i x s. first_opened (λ i. is_mark mark.Comma i ≡ true) mark.Comma 0 s.0 s.1 x None s.2 s.3 (λ at. refl)) goes (λ o e. goes a o e) in
-    let t = then P (λ a. mapped (list a) (λ further. (a, further)) (AfterCommas F) (λ i o f. f) (λ i o f. f)) (λ b z. separated S (b.0 ∷ b.1) z)
-    (λ a b y o s f. commas_first S F fine a s.0 y o s.2 (λ e. let g : AfterCommas F (a, s.0) o = subst (λ (c : A × List A). AfterCommas F c o) (sym s.1) (f e) in g.0))
-    (λ a z v. ((a, []), [], (z, [], refl, v, refl)))
-    (λ a b x y s r. subst (λ (c : A × List A). separated S (c.0 ∷ c.1) (x ++ y)) r.1 (x, y, refl, s, items_further S r.0 y r.2)) in
-    rename t (λ b z. separated S (b.0 ∷ b.1) z)
-    (λ b z s. subst (λ (c : A × List A). separated S (c.0 ∷ c.1) z) s.1.4.1 (s.1.0, s.1.1, s.1.2, s.1.3, items_further S s.1.4.0 s.1.1 s.1.4.2))
-    (λ b z s. (b.0, (s.0, s.1, s.2, s.3, (b.1, refl, further_items S b.1 s.1 s.4))))
+use Rattle.lra_parse.proofs.ExactLists.{exact_skip, AfterCommas, exact_commas}
+use Rattle.lra_parse.proofs.ExactSources.{AfterSource, some_source, exact_source}
 
 -- operators --------------------------------------------------------------------------------------------------------
 
@@ -138,32 +81,6 @@ exact_step n o low =
     (step.Increment, some_place) (token mark.Increment some_place) refl in
     retell t (StepText o) (λ a z s. s.1 ∙ ap (λ (u : Token). (u, o) ∷ []) (step_token s.0 a s.2)) (λ a z s. (token (mark_of_step a.0) a.1, s, step_self a.0 a.1))
 
--- sources ----------------------------------------------------------------------------------------------------------
-
-abbrev pub AfterSource : SourceTree → Option Token → Type 0
-AfterSource (expression e) o = AfterExpr e o
-AfterSource (result c) o = ⊤
-
-abbrev pub SourceText : ℕ → SourceTree → Texts
-SourceText l e z = IsSource l e z × IsBuiltSource e
-
-pub some_source : (l : ℕ) → (e : SourceTree) × (x : Pieces) × SourceText l e x
-some_source l = (expression (some_expr l).0, (some_expr l).1, ((some_expr l).2, tt))
-
-to_source : (l : ℕ) (b : SourceTree) (z : Pieces) → Of expression (IsExpr l) b z → SourceText l b z
-to_source l b z (e, f, s) = subst (λ (c : SourceTree). SourceText l c z) f (s, tt)
-
-from_source : (l : ℕ) (b : SourceTree) (z : Pieces) → SourceText l b z → Of expression (IsExpr l) b z
-from_source l (expression e) z s = (e, refl, s.0)
-from_source l (result c) z s = absurd s.1
-
-pub exact_source : (n d l : ℕ) → d + l ≡ n → Exact n IsInner (source_at d) Any (SourceText l) (SourceText l) AfterSource
-exact_source n d l h = retell (mapped (exact_expr n d l h) expression AfterSource (λ e o f. f) (λ e o f. f)) (SourceText l) (λ b z s. to_source l b z s) (λ b z s. from_source l b z s)
-
-pub source_stops : (e : SourceTree) (at : Place) → AfterSource e (Some (token mark.Semicolon at))
-source_stops (expression e) at = ((tt, refl), refl)
-source_stops (result c) at = tt
-
 -- assignments ------------------------------------------------------------------------------------------------------
 
 abbrev pub AfterAssign : AssignTree → Option Token → Type 0
@@ -172,11 +89,8 @@ AfterAssign (update x op e) o = AfterExpr e o
 AfterAssign (after x s) o = ⊤
 AfterAssign (before at s x) o = ⊤
 
-abbrev pub AssignText : ℕ → ℕ → AssignTree → Texts
-AssignText o l a z = IsAssign o l a z × IsBuiltAssign a
-
 abbrev SetText : ℕ → Identifier → AssignTree → Texts
-SetText l x b = opens mark.Assign 0 ⋅ Of (set x) (SourceText l) b
+SetText l x b = opens mark.Assign 0 ⋅ Of (set x) (IsSource l) b
 
 abbrev UpdateText : ℕ → Identifier → AssignTree → Texts
 UpdateText l x b z = Both (λ op z. spells (mark_of_update op) z) (λ op b. Of (update x (operator_view op)) (IsExpr l) b) b z
@@ -185,7 +99,7 @@ abbrev AfterText : Identifier → AssignTree → Texts
 AfterText x b z = Of (λ (s : Step × Place). after x (step_view s.0)) (StepText 0) b z
 
 -- behind the name
-abbrev RestText : ℕ → Identifier → AssignTree → Texts
+abbrev pub RestText : ℕ → Identifier → AssignTree → Texts
 RestText l x b z = SetText l x b z ⊎ (UpdateText l x b z ⊎ AfterText x b z)
 
 update_begins : (l : ℕ) (x : Identifier) (b : AssignTree) (z : Pieces) (o : Option Token) → UpdateText l x b z → has (update_operator (first_or z o)) ≡ true
@@ -211,7 +125,7 @@ step_no_update x b z o (s, f, e) = rw e (step_not s.0 s.1).0
 step_no_set : (x : Identifier) (b : AssignTree) (z : Pieces) (o : Option Token) → AfterText x b z → is_mark mark.Assign (first_or z o) ≡ false
 step_no_set x b z o (s, f, e) = rw e (step_not s.0 s.1).1
 
-exact_assign_rest : (n d l : ℕ) → d + l ≡ n → (x : Identifier) → Exact n IsInner (assign_rest d x) Any (RestText l x) (RestText l x) AfterAssign
+pub exact_assign_rest : (n d l : ℕ) → d + l ≡ n → (x : Identifier) → Exact n IsInner (assign_rest d x) Any (RestText l x) (RestText l x) AfterAssign
 exact_assign_rest n d l h x =
     let sets = exact_behind mark.Assign 0 (omega arith) (mapped (exact_source n d l h) (set x) AfterAssign (λ e o f. f) (λ e o f. f)) (set x (some_source l).0, (some_source l).1, ((some_source l).0, refl, (some_source l).2)) in
     let updates = then (exact_update n) (λ op. mapped (exact_expr n d l h) (update x (operator_view op)) AfterAssign (λ e o f. f) (λ e o f. f)) (UpdateText l x)
@@ -228,30 +142,47 @@ exact_assign_rest n d l h x =
     (λ b z o s f. first_opened (λ i. is_mark mark.Assign i ≡ true) mark.Assign 0 s.0 s.1 z o s.2 s.3 (λ at. refl))
     (λ b z o s f. elim s [ inl u ↦ update_no_set l x b z o u | inr u ↦ step_no_set x b z o u ])
 
-abbrev BeforeText : ℕ → AssignTree → Texts
+update_no_open : (op : Operator) (at : Place) → is_mark mark.OpenParen (Some (token (mark_of_update op) at)) ≡ false
+update_no_open operator.Plus at = refl
+update_no_open operator.Minus at = refl
+update_no_open operator.Times at = refl
+update_no_open operator.Over at = refl
+update_no_open operator.Modulo at = refl
+
+step_no_open : (s : Step) (at : Place) → is_mark mark.OpenParen (Some (token (mark_of_step s) at)) ≡ false
+step_no_open step.Increment at = refl
+step_no_open step.Decrement at = refl
+
+-- no parenthesis comes behind the name
+pub rest_no_open : (l : ℕ) (x : Identifier) (b : AssignTree) (u v z : Pieces) (o : Option Token) → z ≡ u ++ v → RestText l x b u → is_mark mark.OpenParen (first_or z o) ≡ false
+rest_no_open l x b u v z o e (inl (p, q, f, m, r)) = first_opened (λ i. is_mark mark.OpenParen i ≡ false) mark.Assign 0 p (q ++ v) z o (e ∙ regroup u v p q f) m (λ at. refl)
+rest_no_open l x b u v z o e (inr (inl (op, (p, q, f, m, r)))) = first_opened (λ i. is_mark mark.OpenParen i ≡ false) (mark_of_update op) 0 p (q ++ v) z o (e ∙ regroup u v p q f) m (λ at. update_no_open op at)
+rest_no_open l x b u v z o e (inr (inr (s, g, f))) = rw (e, f) (step_no_open s.0 s.1)
+
+abbrev pub BeforeText : ℕ → AssignTree → Texts
 BeforeText o b z = Both (StepText o) (λ s b. Of (before s.1 (step_view s.0)) (λ x. name x 0) b) b z
 
-abbrev NamedText : ℕ → ℕ → AssignTree → Texts
+abbrev pub NamedText : ℕ → ℕ → AssignTree → Texts
 NamedText o l b z = Both (λ x. name x o) (RestText l) b z
 
-rest_assign : (o l : ℕ) (x : Identifier) (b : AssignTree) (u v z : Pieces) → z ≡ u ++ v → name x o u → RestText l x b v → AssignText o l b z
-rest_assign o l x b u v z e s (inl (p, q, f, m, (a, g, t))) = subst (λ (c : AssignTree). AssignText o l c z) g ((u, v, e, s, (p, q, f, m, t.0)), t.1)
-rest_assign o l x b u v z e s (inr (inl (op, (p, q, f, m, (a, g, t))))) = subst (λ (c : AssignTree). AssignText o l c z) g ((u, v, e, s, (p, q, f, m, t)), tt)
-rest_assign o l x b u v z e s (inr (inr (k, g, t))) = subst (λ (c : AssignTree). AssignText o l c z) g ((u, v, e, s, (k.1, t)), tt)
+pub rest_assign : (o l : ℕ) (x : Identifier) (b : AssignTree) (u v z : Pieces) → z ≡ u ++ v → name x o u → RestText l x b v → IsAssign o l b z
+rest_assign o l x b u v z e s (inl (p, q, f, m, (a, g, t))) = subst (λ (c : AssignTree). IsAssign o l c z) g (u, v, e, s, (p, q, f, m, t))
+rest_assign o l x b u v z e s (inr (inl (op, (p, q, f, m, (a, g, t))))) = subst (λ (c : AssignTree). IsAssign o l c z) g (u, v, e, s, (p, q, f, m, t))
+rest_assign o l x b u v z e s (inr (inr (k, g, t))) = subst (λ (c : AssignTree). IsAssign o l c z) g (u, v, e, s, (k.1, t))
 
-pub to_assign : (o l : ℕ) (b : AssignTree) (z : Pieces) → BeforeText o b z ⊎ NamedText o l b z → AssignText o l b z
-to_assign o l b z (inl (s, (u, v, e, m, (x, g, t)))) = subst (λ (c : AssignTree). AssignText o l c z) g ((u, v, e, m, t), tt)
+pub to_assign : (o l : ℕ) (b : AssignTree) (z : Pieces) → BeforeText o b z ⊎ NamedText o l b z → IsAssign o l b z
+to_assign o l b z (inl (s, (u, v, e, m, (x, g, t)))) = subst (λ (c : AssignTree). IsAssign o l c z) g (u, v, e, m, t)
 to_assign o l b z (inr (x, (u, v, e, s, r))) = rest_assign o l x b u v z e s r
 
-pub from_assign : (o l : ℕ) (b : AssignTree) (z : Pieces) → AssignText o l b z → BeforeText o b z ⊎ NamedText o l b z
-from_assign o l (set x a) z ((u, v, e, s, (p, q, f, m, t)), k) = inr (x, (u, v, e, s, inl (p, q, f, m, (a, refl, (t, k)))))
-from_assign o l (update x op a) z ((u, v, e, s, (p, q, f, m, t)), k) =
+pub from_assign : (o l : ℕ) (b : AssignTree) (z : Pieces) → IsAssign o l b z → BeforeText o b z ⊎ NamedText o l b z
+from_assign o l (set x a) z (u, v, e, s, (p, q, f, m, t)) = inr (x, (u, v, e, s, inl (p, q, f, m, (a, refl, t))))
+from_assign o l (update x op a) z (u, v, e, s, (p, q, f, m, t)) =
     let c = operator_of op in
     inr (x, (u, v, e, s, inr (inl (c.0, (p, q, f, subst (λ (i : program.Operator). spells (update_mark i) p) (sym c.1) m, (a, ap (λ (i : program.Operator). update x i a) c.1, t))))))
-from_assign o l (after x s) z ((u, v, e, m, (at, t)), k) =
+from_assign o l (after x s) z (u, v, e, m, (at, t)) =
     let c = step_of s in
     inr (x, (u, v, e, m, inr (inr ((c.0, at), ap (λ (i : StepTree). after x i) c.1, subst (λ (i : StepTree). opens_at (step_mark i) at 0 v) (sym c.1) t))))
-from_assign o l (before at s x) z ((u, v, e, m, t), k) =
+from_assign o l (before at s x) z (u, v, e, m, t) =
     let c = step_of s in
     inl ((c.0, at), (u, v, e, subst (λ (i : StepTree). opens_at (step_mark i) at o u) (sym c.1) m, (x, ap (λ (i : StepTree). before at i x) c.1, t)))
 
@@ -261,10 +192,10 @@ before_begins o b z k (s, (u, v, e, m, r)) = rw (e, m) (rw (step_self s.0 s.1) r
 named_begins : (o l : ℕ) (b : AssignTree) (z : Pieces) (k : Option Token) → NamedText o l b z → has (next_step (first_or z k)) ≡ false
 named_begins o l b z k (x, (u, v, e, s, r)) = rw (e, s) refl
 
-pub some_assign : (o l : ℕ) → (a : AssignTree) × (x : Pieces) × AssignText o l a x
-some_assign o l = (after some_name increment, _, ((_, _, refl, refl, (some_place, refl)), tt))
+pub some_assign : (o l : ℕ) → (a : AssignTree) × (x : Pieces) × IsAssign o l a x
+some_assign o l = (after some_name increment, _, (_, _, refl, refl, (some_place, refl)))
 
-pub exact_assign : (n d l o : ℕ) → d + l ≡ n → o ≤ n → Exact n IsInner (assign_at d) Any (AssignText o l) (AssignText o l) AfterAssign
+pub exact_assign : (n d l o : ℕ) → d + l ≡ n → o ≤ n → Exact n IsInner (assign_at d) Any (IsAssign o l) (IsAssign o l) AfterAssign
 exact_assign n d l o h low =
     let befores = then (exact_step n o low) (λ s. mapped (exact_name n 0 (omega arith)) (before s.1 (step_view s.0)) AfterAssign (λ x k f. tt) (λ x k f. tt)) (BeforeText o)
     (λ s b y k t f. tt)
@@ -277,13 +208,13 @@ exact_assign n d l o h low =
     let t = branch (λ k. has (next_step k)) (entry (widen befores (λ b z. BeforeText o b z ⊎ NamedText o l b z) (λ b z s. inl s)) (λ k. ⊤ × (has (next_step k) ≡ true)) (λ k i. tt))
     (entry (widen named (λ b z. BeforeText o b z ⊎ NamedText o l b z) (λ b z s. inr s)) (λ k. ⊤ × (has (next_step k) ≡ false)) (λ k i. tt))
     (λ b z k s f. before_begins o b z k s) (λ b z k s f. named_begins o l b z k s) in
-    retell t (AssignText o l) (λ b z s. to_assign o l b z s) (λ b z s. from_assign o l b z s)
+    retell t (IsAssign o l) (λ b z s. to_assign o l b z s) (λ b z s. from_assign o l b z s)
 
 -- a text that begins with a mark at a place
 pub placed_first : (P : Option Token → Type 0) (m : Mark) (at : Place) (o : ℕ) (x y z : Pieces) (k : Option Token) → z ≡ x ++ y → opens_at m at o x → P (Some (token m at)) → P (first_or z k)
 placed_first P m at o x y z k e s f = subst (λ (w : Pieces). P (first_or w k)) (sym (e ∙ ap (λ (v : Pieces). v ++ y) s)) f
 
-pub assign_no_mark : (o l : ℕ) (a : AssignTree) (x y z : Pieces) (k : Option Token) → z ≡ x ++ y → AssignText o l a x → (P : Option Token → Type 0) → ((i : Identifier) → P (Some (record { kind = Name i.word; place = i.place })))
+pub assign_no_mark : (o l : ℕ) (a : AssignTree) (x y z : Pieces) (k : Option Token) → z ≡ x ++ y → IsAssign o l a x → (P : Option Token → Type 0) → ((i : Identifier) → P (Some (record { kind = Name i.word; place = i.place })))
     → ((s : Step) (at : Place) → P (Some (token (mark_of_step s) at))) → P (first_or z k)
 assign_no_mark o l a x y z k e s P named stepped = elim (from_assign o l a x s) [
   | inl (j, (u, v, f, m, r)) ↦ subst (λ (w : Pieces). P (first_or w k)) (sym (e ∙ regroup x y u v f ∙ ap (λ (w : Pieces). w ++ (v ++ y)) m)) (stepped j.0 j.1)
@@ -291,14 +222,14 @@ assign_no_mark o l a x y z k e s P named stepped = elim (from_assign o l a x s) 
 ]
 
 pub assign_stops : (a : AssignTree) (at : Place) → AfterAssign a (Some (token mark.Semicolon at))
-assign_stops (set x (expression e)) at = ((tt, refl), refl)
+assign_stops (set x (expression e)) at = (((tt, refl), refl), (λ i. refl))
 assign_stops (set x (result c)) at = tt
 assign_stops (update x op e) at = ((tt, refl), refl)
 assign_stops (after x s) at = tt
 assign_stops (before p s x) at = tt
 
 pub assign_closes : (a : AssignTree) (at : Place) → AfterAssign a (Some (token mark.CloseParen at))
-assign_closes (set x (expression e)) at = ((tt, refl), refl)
+assign_closes (set x (expression e)) at = (((tt, refl), refl), (λ i. refl))
 assign_closes (set x (result c)) at = tt
 assign_closes (update x op e) at = ((tt, refl), refl)
 assign_closes (after x s) at = tt
@@ -343,9 +274,6 @@ AfterGiven (Some e) o = AfterSource e o
 abbrev AfterDeclarator : DeclaratorTree → Option Token → Type 0
 AfterDeclarator d o = AfterGiven d.source o
 
-abbrev DeclaratorText : ℕ → DeclaratorTree → Texts
-DeclaratorText l d z = IsDeclarator l d z × IsBuiltGiven d.source
-
 abbrev with_source : Identifier → SourceTree → DeclaratorTree
 with_source x e = record { name = x; source = Some e }
 
@@ -353,7 +281,7 @@ abbrev alone_name : Identifier → DeclaratorTree
 alone_name x = record { name = x; source = None }
 
 abbrev GivenText : ℕ → Identifier → DeclaratorTree → Texts
-GivenText l x b z = (opens mark.Assign 0 ⋅ Of (with_source x) (SourceText l) b) z ⊎ ((b ≡ alone_name x) × (z ≡ []))
+GivenText l x b z = (opens mark.Assign 0 ⋅ Of (with_source x) (IsSource l) b) z ⊎ ((b ≡ alone_name x) × (z ≡ []))
 
 not_given : (x : Identifier) (b : DeclaratorTree) (z : Pieces) (o : Option Token) → b ≡ alone_name x → z ≡ [] → (z ≡ [] → AfterDeclarator b o) → is_mark mark.Assign (first_or z o) ≡ false
 not_given x b z o e f h = rw f (let g : AfterDeclarator (alone_name x) o = subst (λ (c : DeclaratorTree). AfterDeclarator c o) e (h f) in g)
@@ -366,50 +294,35 @@ exact_given n d l h x =
     (λ b z o s f. first_opened (λ i. is_mark mark.Assign i ≡ true) mark.Assign 0 s.0 s.1 z o s.2 s.3 (λ at. refl))
     (λ b z o s f. not_given x b z o s.0 s.1 f)
 
-to_declarator : (l : ℕ) (b : DeclaratorTree) (z : Pieces) → Both (λ x. name x 0) (GivenText l) b z → DeclaratorText l b z
-to_declarator l b z (x, (u, v, e, s, inl (p, q, f, m, (a, g, t)))) = subst (λ (c : DeclaratorTree). DeclaratorText l c z) g ((u, v, e, s, (p, q, f, m, t.0)), t.1)
-to_declarator l b z (x, (u, v, e, s, inr (g, f))) = subst (λ (c : DeclaratorTree). DeclaratorText l c z) (sym g) ((u, v, e, s, f), tt)
+to_declarator : (l : ℕ) (b : DeclaratorTree) (z : Pieces) → Both (λ x. name x 0) (GivenText l) b z → IsDeclarator l b z
+to_declarator l b z (x, (u, v, e, s, inl (p, q, f, m, (a, g, t)))) = subst (λ (c : DeclaratorTree). IsDeclarator l c z) g (u, v, e, s, (p, q, f, m, t))
+to_declarator l b z (x, (u, v, e, s, inr (g, f))) = subst (λ (c : DeclaratorTree). IsDeclarator l c z) (sym g) (u, v, e, s, f)
 
-from_given : (l : ℕ) (x : Identifier) (m : Option SourceTree) (z : Pieces) → DeclaratorText l (record { name = x; source = m }) z → Both (λ x. name x 0) (GivenText l) (record { name = x; source = m }) z
-from_given l x None z ((u, v, e, s, t), k) = (x, (u, v, e, s, inr (refl, t)))
-from_given l x (Some a) z ((u, v, e, s, (p, q, f, m, t)), k) = (x, (u, v, e, s, inl (p, q, f, m, (a, refl, (t, k)))))
+from_given : (l : ℕ) (x : Identifier) (m : Option SourceTree) (z : Pieces) → IsDeclarator l (record { name = x; source = m }) z → Both (λ x. name x 0) (GivenText l) (record { name = x; source = m }) z
+from_given l x None z (u, v, e, s, t) = (x, (u, v, e, s, inr (refl, t)))
+from_given l x (Some a) z (u, v, e, s, (p, q, f, m, t)) = (x, (u, v, e, s, inl (p, q, f, m, (a, refl, t))))
 
-some_declarator : (l : ℕ) → (d : DeclaratorTree) × (x : Pieces) × DeclaratorText l d x
-some_declarator l = (alone_name some_name, _, ((_, _, refl, refl, refl), tt))
+some_declarator : (l : ℕ) → (d : DeclaratorTree) × (x : Pieces) × IsDeclarator l d x
+some_declarator l = (alone_name some_name, _, (_, _, refl, refl, refl))
 
-exact_declarator : (n d l : ℕ) → d + l ≡ n → Exact n IsInner (declarator_at d) Any (DeclaratorText l) (DeclaratorText l) AfterDeclarator
+exact_declarator : (n d l : ℕ) → d + l ≡ n → Exact n IsInner (declarator_at d) Any (IsDeclarator l) (IsDeclarator l) AfterDeclarator
 exact_declarator n d l h =
     let t = then (exact_name n 0 (omega arith)) (exact_given n d l h) (λ b z. Both (λ x. name x 0) (GivenText l) b z)
     (λ x b y o s f. tt) (λ x z v. (alone_name x, [], (x, (z, [], refl, v, inr (refl, refl))))) (λ x b u v s r. (x, (u, v, refl, s, r))) in
-    retell t (DeclaratorText l) (λ b z s. to_declarator l b z s) (λ b z s. from_given l b.name b.source z s)
-
--- a fact of each item
-further_both : {A : Type 0} (R : A → Texts) (P : A → Type 0) (is : List A) (z : Pieces) → further (λ a z. R a z × P a) is z → further R is z × AllByRecursion P is
-further_both R P [] z e = (e, tt)
-further_both R P (i ∷ is) z (x, y, e, s, (u, v, f, (r, p), t)) = let k = further_both R P is v t in ((x, y, e, s, (u, v, f, r, k.0)), (p, k.1))
-
-both_further : {A : Type 0} (R : A → Texts) (P : A → Type 0) (is : List A) (z : Pieces) → further R is z → AllByRecursion P is → further (λ a z. R a z × P a) is z
-both_further R P [] z e h = e
-both_further R P (i ∷ is) z (x, y, e, s, (u, v, f, r, t)) h = (x, y, e, s, (u, v, f, (r, h.0), both_further R P is v t h.1))
-
-abbrev pub DeclarationText : ℕ → DeclarationTree → Texts
-DeclarationText l d z = IsDeclaration l d z × IsBuiltDeclaration d
+    retell t (IsDeclarator l) (λ b z s. to_declarator l b z s) (λ b z s. from_given l b.name b.source z s)
 
 abbrev Declared : ℕ → DeclarationTree → Texts
-Declared l b = Of declaration_of (λ ds. separated (DeclaratorText l) (ds.0 ∷ ds.1)) b
+Declared l b = Of declaration_of (λ ds. separated (IsDeclarator l) (ds.0 ∷ ds.1)) b
 
-to_declaration : (l : ℕ) (b : DeclarationTree) (z : Pieces) → (IsType ⋅ (Declared l b ⋅ spells mark.Semicolon)) z → DeclarationText l b z
-to_declaration l b z (x, y, e, s, (u, v, f, (ds, g, (p, q, i, r, t)), m)) =
-    let k = further_both (IsDeclarator l) (λ (d : DeclaratorTree). IsBuiltGiven d.source) ds.1 q t in
-    subst (λ (c : DeclarationTree). DeclarationText l c z) g ((x, y, e, s, (u, v, f, (p, q, i, r.0, k.0), m)), (r.1, k.1))
+to_declaration : (l : ℕ) (b : DeclarationTree) (z : Pieces) → (IsType ⋅ (Declared l b ⋅ spells mark.Semicolon)) z → IsDeclaration l b z
+to_declaration l b z (x, y, e, s, (u, v, f, (ds, g, t), m)) = subst (λ (c : DeclarationTree). IsDeclaration l c z) g (x, y, e, s, (u, v, f, t, m))
 
-from_declaration : (l : ℕ) (b : DeclarationTree) (z : Pieces) → DeclarationText l b z → (IsType ⋅ (Declared l b ⋅ spells mark.Semicolon)) z
-from_declaration l b z ((x, y, e, s, (u, v, f, (p, q, i, r, t), m)), h) =
-    (x, y, e, s, (u, v, f, ((b.first, b.rest), refl, (p, q, i, (r, h.0), both_further (IsDeclarator l) (λ (d : DeclaratorTree). IsBuiltGiven d.source) b.rest q t h.1)), m))
+from_declaration : (l : ℕ) (b : DeclarationTree) (z : Pieces) → IsDeclaration l b z → (IsType ⋅ (Declared l b ⋅ spells mark.Semicolon)) z
+from_declaration l b z (x, y, e, s, (u, v, f, t, m)) = (x, y, e, s, (u, v, f, ((b.first, b.rest), refl, t), m))
 
 given_stops : (m : Option SourceTree) (at : Place) → AfterGiven m (Some (token mark.Semicolon at)) × AfterGiven m (Some (token mark.Comma at))
 given_stops None at = (refl, refl)
-given_stops (Some (expression e)) at = (((tt, refl), refl), ((tt, refl), refl))
+given_stops (Some (expression e)) at = ((((tt, refl), refl), (λ i. refl)), (((tt, refl), refl), (λ i. refl)))
 given_stops (Some (result c)) at = (tt, tt)
 
 last_stops : (ds : List DeclaratorTree) (d : DeclaratorTree) (at : Place) → AfterLast AfterDeclarator (AfterDeclarator d) ds (Some (token mark.Semicolon at))
@@ -417,16 +330,16 @@ last_stops [] d at = (given_stops d.source at).0
 last_stops (e ∷ ds) d at = last_stops ds e at
 
 declared_begins : (l : ℕ) (m : Mark) (b : DeclarationTree) (x : Pieces) (o : Option Token) → (Declared l b ⋅ spells mark.Semicolon) x → is_mark m (first_or x o) ≡ false
-declared_begins l m b x o (u, v, f, (ds, g, (p, q, i, ((a, c, j, s, t), k), r)), w) = rw (f, i, j, s) refl
+declared_begins l m b x o (u, v, f, (ds, g, (p, q, i, (a, c, j, s, t), r)), w) = rw (f, i, j, s) refl
 
-pub declaration_first : (l : ℕ) (d : DeclarationTree) (z : Pieces) (k : Option Token) → DeclarationText l d z → is_mark mark.Long (first_or z k) ≡ true
-declaration_first l d z k ((x, y, e, (u, v, f, s, r), t), b) = first_opened (λ i. is_mark mark.Long i ≡ true) mark.Long 0 u (v ++ y) z k (e ∙ regroup x y u v f) s (λ at. refl)
+pub declaration_first : (l : ℕ) (d : DeclarationTree) (z : Pieces) (k : Option Token) → IsDeclaration l d z → is_mark mark.Long (first_or z k) ≡ true
+declaration_first l d z k (x, y, e, (u, v, f, s, r), t) = first_opened (λ i. is_mark mark.Long i ≡ true) mark.Long 0 u (v ++ y) z k (e ∙ regroup x y u v f) s (λ at. refl)
 
-pub exact_declaration : (n d l : ℕ) → d + l ≡ n → Exact n IsInner (declaration_at d) Any (DeclarationText l) (DeclarationText l) Free
+pub exact_declaration : (n d l : ℕ) → d + l ≡ n → Exact n IsInner (declaration_at d) Any (IsDeclaration l) (IsDeclaration l) Free
 exact_declaration n d l h =
     let list = exact_commas (exact_declarator n d l h) (some_declarator l) (λ a at. (given_stops a.source at).1) in
     let made = mapped list declaration_of (λ b o. AfterCommas AfterDeclarator (b.first, b.rest) o) (λ i o f. f) (λ i o f. f) in
     let whole = exact_ended mark.Semicolon made (λ b at. (last_stops b.rest b.first at, refl)) in
     let some = some_declarator l in
     let t = exact_type whole (declaration_of (some.0, []), _, (_, _, refl, ((some.0, []), refl, (_, _, refl, some.2, refl)), (some_place, refl))) (λ m b x o s f. declared_begins l m b x o s) in
-    retell t (DeclarationText l) (λ b z s. to_declaration l b z s) (λ b z s. from_declaration l b z s)
+    retell t (IsDeclaration l) (λ b z s. to_declaration l b z s) (λ b z s. from_declaration l b z s)

@@ -15,8 +15,7 @@ use Rattle.lra_tree.specs.declared.trees.Step.TheVariants as step
 use Rattle.lra_tree.specs.Texts.{Piece, Pieces, Texts, ◌⋅◌, opens, opens_at}
 use Rattle.lra_tree.specs.Trees.{StmtTree, block, nothing, assign, call, if_only, if_else, while, for, break, continue, return, assert, assume, increment, after, before, no_init, ItemsTree, no_items, declaration, statement}
 use Rattle.lra_tree.specs.Views.{step_view}
-use Rattle.lra_tree.specs.Grammar.{IsStmt, AreItems}
-use Rattle.lra_tree.specs.Built.{IsBuiltStmt, AreBuiltItems}
+use Rattle.lra_tree.specs.Grammar.{IsAssign, IsDeclaration, IsStmt, AreItems}
 use Rattle.lra_parse.specs.Tests.{is_mark}
 use Rattle.lra_parse.specs.Reading.{Parse, stop, map_read, identifier_of, has, one_of}
 use Rattle.lra_parse.specs.Statements.{next_step, step_marks, StmtMark, at_nothing, at_if, at_while, at_for, at_break, at_continue, at_return, at_assert, at_assume, stmt_marks, stmt_mark, begins_stmt, ItemTree, declared, stated, items_from, begins_item, stated_of, item_of, items_of, body_of, block_from, too_deep, levels, branch_at, block_at, simple_at, items_at}
@@ -28,8 +27,8 @@ use Rattle.lra_parse.proofs.Chain.{regroup, Items, AfterLast, all_last, exact_li
 use Rattle.lra_parse.proofs.Parts.{token, exact_behind, table_mark}
 use Rattle.lra_parse.proofs.ExactExpressions.{Of, first_opened, opened_over}
 use Rattle.lra_parse.proofs.ExactConditions.{some_cond}
-use Rattle.lra_parse.proofs.ExactAssignments.{mark_of_step, AssignText, from_assign, placed_first, assign_no_mark, DeclarationText, declaration_first, exact_declaration}
-use Rattle.lra_parse.proofs.ExactStatements.{AfterStmt, StmtText, IsBlock, SimpleText, mark_of_stmt, SimpleAt, from_simple, exact_simple}
+use Rattle.lra_parse.proofs.ExactAssignments.{mark_of_step, from_assign, placed_first, assign_no_mark, declaration_first, exact_declaration}
+use Rattle.lra_parse.proofs.ExactStatements.{AfterStmt, IsBlock, SimpleText, mark_of_stmt, SimpleAt, from_simple, exact_simple}
 
 -- how a statement begins ------------------------------------------------------------------------------------------
 
@@ -44,7 +43,8 @@ simple_first o l (Some at_continue) t z i (at, f, (x, y, e, s, r)) P marks names
 simple_first o l (Some at_return) t z i (at, (x, y, e, s, r)) P marks names steps = placed_first P mark.Return at o x y z i e s (marks at_return at)
 simple_first o l (Some at_assert) t z i (at, (x, y, e, s, r)) P marks names steps = placed_first P mark.Assert at o x y z i e s (marks at_assert at)
 simple_first o l (Some at_assume) t z i (at, (x, y, e, s, r)) P marks names steps = placed_first P mark.Assume at o x y z i e s (marks at_assume at)
-simple_first o l None t z i (a, f, (x, y, e, s, r)) P marks names steps = assign_no_mark o l a x y z i e s P names steps
+simple_first o l None t z i (inl (x, (u, v, e, s, r))) P marks names steps = subst (λ (w : Pieces). P (first_or w i)) (sym (e ∙ ap (λ (w : Pieces). w ++ v) s)) (names x)
+simple_first o l None t z i (inr ((a, f, (x, y, e, s, r)), k)) P marks names steps = assign_no_mark o l a x y z i e s P names steps
 
 -- a block, or none
 is_block : (t : StmtTree) → IsBlock t ⊎ (IsBlock t → ⊥)
@@ -63,10 +63,10 @@ is_block (assert at c) = inr (λ b. b)
 is_block (assume at c) = inr (λ b. b)
 
 abbrev BlockText : ℕ → ℕ → StmtTree → Texts
-BlockText o l t z = StmtText o l t z × IsBlock t
+BlockText o l t z = IsStmt o l t z × IsBlock t
 
 block_first : (o l : ℕ) (t : StmtTree) (z : Pieces) (i : Option Token) → BlockText o l t z → (P : Option Token → Type 0) → ((at : Place) → P (Some (token mark.OpenBrace at))) → P (first_or z i)
-block_first o l (block is end) z i (((x, y, e, s, r), k), b) P f = first_opened P mark.OpenBrace o x y z i e s f
+block_first o l (block is end) z i ((x, y, e, s, r), b) P f = first_opened P mark.OpenBrace o x y z i e s f
 block_first o l (nothing at) z i s P f = absurd s.1
 block_first o l (assign a) z i s P f = absurd s.1
 block_first o l (call c) z i s P f = absurd s.1
@@ -90,7 +90,7 @@ pub record Begins (P : Option Token → Type 0) : Type 0 where
 simple_begins : (P : Option Token → Type 0) → Begins P → (o l : ℕ) (t : StmtTree) (z : Pieces) (i : Option Token) → SimpleText o l t z → P (first_or z i)
 simple_begins P h o l t z i s = let k = from_simple o l t z s in simple_first o l k.0 t z i k.1 P h.marks h.names h.steps
 
-stmt_begins : (P : Option Token → Type 0) → Begins P → (o l : ℕ) (t : StmtTree) (z : Pieces) (i : Option Token) → StmtText o l t z → P (first_or z i)
+stmt_begins : (P : Option Token → Type 0) → Begins P → (o l : ℕ) (t : StmtTree) (z : Pieces) (i : Option Token) → IsStmt o l t z → P (first_or z i)
 stmt_begins P h o l t z i s = elim (is_block t) [
   | inl b ↦ block_first o l t z i (s, b) P h.braces
   | inr b ↦ simple_begins P h o l t z i (s, b)
@@ -161,30 +161,30 @@ no_long = record { braces = λ at. refl; marks = not_long_marks; names = λ x. r
 -- a statement that begins with each token that begins one ----------------------------------------------------------
 
 abbrev Starts : ℕ → Token → Type 0
-Starts o t = (a : StmtTree) × (w : Pieces) × StmtText o o a ((t, o) ∷ w)
+Starts o t = (a : StmtTree) × (w : Pieces) × IsStmt o o a ((t, o) ∷ w)
 
 start_brace : (o : ℕ) (at : Place) → Starts o (token mark.OpenBrace at)
-start_brace o at = (block no_items some_place, _, ((_, _, refl, (at, refl), (_, _, refl, refl, refl)), tt))
+start_brace o at = (block no_items some_place, _, (_, _, refl, (at, refl), (_, _, refl, refl, refl)))
 
 start_mark : (o : ℕ) (m : StmtMark) (at : Place) → Starts o (token (mark_of_stmt m) at)
-start_mark o at_nothing at = (nothing at, [], (refl, tt))
+start_mark o at_nothing at = (nothing at, [], refl)
 start_mark o at_if at =
-    (if_only at (some_cond o).0 (nothing some_place), _, ((_, _, refl, refl, (_, _, refl, (_, _, refl, (some_place, refl), (_, _, refl, (some_cond o).2, (some_place, refl))), refl)), tt))
+    (if_only at (some_cond o).0 (nothing some_place), _, (_, _, refl, refl, (_, _, refl, (_, _, refl, (some_place, refl), (_, _, refl, (some_cond o).2, (some_place, refl))), refl)))
 start_mark o at_while at =
-    (while at (some_cond o).0 (nothing some_place), _, ((_, _, refl, refl, (_, _, refl, (_, _, refl, (some_place, refl), (_, _, refl, (some_cond o).2, (some_place, refl))), refl)), tt))
+    (while at (some_cond o).0 (nothing some_place), _, (_, _, refl, refl, (_, _, refl, (_, _, refl, (some_place, refl), (_, _, refl, (some_cond o).2, (some_place, refl))), refl)))
 start_mark o at_for at =
-    (for at no_init None None (nothing some_place), _, ((_, _, refl, refl, (_, _, refl, (some_place, refl), (_, _, refl, (some_place, refl), (_, _, refl, refl, (_, _, refl, (some_place, refl), (_, _, refl, refl, (_, _, refl, (some_place, refl), refl))))))), (tt, tt, tt)))
-start_mark o at_break at = (break at, _, ((_, _, refl, refl, (some_place, refl)), tt))
-start_mark o at_continue at = (continue at, _, ((_, _, refl, refl, (some_place, refl)), tt))
-start_mark o at_return at = (return at None, _, ((_, _, refl, refl, (_, _, refl, refl, (some_place, refl))), tt))
-start_mark o at_assert at = (assert at (some_cond o).0, _, ((_, _, refl, refl, (_, _, refl, (_, _, refl, (some_place, refl), (_, _, refl, (some_cond o).2, (some_place, refl))), (some_place, refl))), tt))
-start_mark o at_assume at = (assume at (some_cond o).0, _, ((_, _, refl, refl, (_, _, refl, (_, _, refl, (some_place, refl), (_, _, refl, (some_cond o).2, (some_place, refl))), (some_place, refl))), tt))
+    (for at no_init None None (nothing some_place), _, (_, _, refl, refl, (_, _, refl, (some_place, refl), (_, _, refl, (some_place, refl), (_, _, refl, refl, (_, _, refl, (some_place, refl), (_, _, refl, refl, (_, _, refl, (some_place, refl), refl))))))))
+start_mark o at_break at = (break at, _, (_, _, refl, refl, (some_place, refl)))
+start_mark o at_continue at = (continue at, _, (_, _, refl, refl, (some_place, refl)))
+start_mark o at_return at = (return at None, _, (_, _, refl, refl, (_, _, refl, refl, (some_place, refl))))
+start_mark o at_assert at = (assert at (some_cond o).0, _, (_, _, refl, refl, (_, _, refl, (_, _, refl, (some_place, refl), (_, _, refl, (some_cond o).2, (some_place, refl))), (some_place, refl))))
+start_mark o at_assume at = (assume at (some_cond o).0, _, (_, _, refl, refl, (_, _, refl, (_, _, refl, (some_place, refl), (_, _, refl, (some_cond o).2, (some_place, refl))), (some_place, refl))))
 
 start_step : (o : ℕ) (s : Step) (at : Place) → Starts o (token (mark_of_step s) at)
-start_step o s at = (assign (before at (step_view s) some_name), _, ((_, _, refl, (_, _, refl, refl, refl), (some_place, refl)), tt))
+start_step o s at = (assign (before at (step_view s) some_name), _, (_, _, refl, (_, _, refl, refl, refl), (some_place, refl)))
 
 start_name : (o : ℕ) (x : Identifier) → Starts o (record { kind = Name x.word; place = x.place })
-start_name o x = (assign (after x increment), _, ((_, _, refl, (_, _, refl, refl, (some_place, refl)), (some_place, refl)), tt))
+start_name o x = (assign (after x increment), _, (_, _, refl, (_, _, refl, refl, (some_place, refl)), (some_place, refl)))
 
 named : (k : Kind) (at : Place) → has (identifier_of k at) ≡ true → (x : Identifier) × (k ≡ Name x.word) × (at ≡ x.place)
 named (Name w) at e = (record { word = w; place = at }, refl, refl)
@@ -243,8 +243,8 @@ StatedText l (block is end) = IsStmt (l + 1) (l + 1) (block is end)
 StatedText l t = IsStmt 0 l t
 
 abbrev pub ItemText : ℕ → ItemTree → Texts
-ItemText l (declared d) z = DeclarationText l d z
-ItemText l (stated t) z = StatedText l t z × IsBuiltStmt t
+ItemText l (declared d) z = IsDeclaration l d z
+ItemText l (stated t) z = StatedText l t z
 
 stated_in : (l : ℕ) (t : StmtTree) (items : ItemsTree) (z : Pieces) → (StatedText l t ⋅ AreItems l items) z → AreItems l (statement t items) z
 stated_in l (block is end) items z h = h
@@ -276,24 +276,20 @@ stated_out l (return at e) items z h = h
 stated_out l (assert at c) items z h = h
 stated_out l (assume at c) items z h = h
 
-pub to_items : (l : ℕ) (is : List ItemTree) (z : Pieces) → Items (ItemText l) is z → AreItems l (items_from is) z × AreBuiltItems (items_from is)
-to_items l [] z e = (e, tt)
-to_items l (declared d ∷ is) z (x, y, e, s, r) =
-    let k = to_items l is y r in
-    ((x, y, e, s.0, k.0), (s.1, k.1))
-to_items l (stated t ∷ is) z (x, y, e, s, r) =
-    let k = to_items l is y r in
-    (stated_in l t (items_from is) z (x, y, e, s.0, k.0), (s.1, k.1))
+pub to_items : (l : ℕ) (is : List ItemTree) (z : Pieces) → Items (ItemText l) is z → AreItems l (items_from is) z
+to_items l [] z e = e
+to_items l (declared d ∷ is) z (x, y, e, s, r) = (x, y, e, s, to_items l is y r)
+to_items l (stated t ∷ is) z (x, y, e, s, r) = stated_in l t (items_from is) z (x, y, e, s, to_items l is y r)
 
-pub from_items : (l : ℕ) (items : ItemsTree) (z : Pieces) → AreItems l items z → AreBuiltItems items → (is : List ItemTree) × (items_from is ≡ items) × Items (ItemText l) is z
-from_items l no_items z e b = ([], refl, e)
-from_items l (declaration d items) z (x, y, e, s, r) b =
-    let k = from_items l items y r b.1 in
-    (declared d ∷ k.0, ap (λ (i : ItemsTree). declaration d i) k.1, (x, y, e, (s, b.0), k.2))
-from_items l (statement t items) z h b =
+pub from_items : (l : ℕ) (items : ItemsTree) (z : Pieces) → AreItems l items z → (is : List ItemTree) × (items_from is ≡ items) × Items (ItemText l) is z
+from_items l no_items z e = ([], refl, e)
+from_items l (declaration d items) z (x, y, e, s, r) =
+    let k = from_items l items y r in
+    (declared d ∷ k.0, ap (λ (i : ItemsTree). declaration d i) k.1, (x, y, e, s, k.2))
+from_items l (statement t items) z h =
     let o = stated_out l t items z h in
-    let k = from_items l items o.1 o.4 b.1 in
-    (stated t ∷ k.0, ap (λ (i : ItemsTree). statement t i) k.1, (o.0, o.1, o.2, (o.3, b.0), k.2))
+    let k = from_items l items o.1 o.4 in
+    (stated t ∷ k.0, ap (λ (i : ItemsTree). statement t i) k.1, (o.0, o.1, o.2, o.3, k.2))
 
 abbrev pub AfterItem : ItemTree → Option Token → Type 0
 AfterItem (declared d) o = ⊤
@@ -310,7 +306,7 @@ exact_stated {o = o} {l = l} {T = T} I begins S =
     (λ t z k s f. begins t z k s)
     (λ t z k s f. let c = from_simple o l t z s in simple_first o l c.0 t z k c.1 (λ i. is_mark mark.OpenBrace i ≡ false) not_brace_marks (λ x. refl) not_brace_steps)
 
-to_stated : (l : ℕ) (t : StmtTree) (z : Pieces) → BlockText (l + 1) (l + 1) t z ⊎ SimpleText 0 l t z → StatedText l t z × IsBuiltStmt t
+to_stated : (l : ℕ) (t : StmtTree) (z : Pieces) → BlockText (l + 1) (l + 1) t z ⊎ SimpleText 0 l t z → StatedText l t z
 to_stated l (block is end) z (inl s) = s.0
 to_stated l (block is end) z (inr s) = absurd (s.1 tt)
 to_stated l (nothing at) z (inl s) = absurd s.1
@@ -338,7 +334,7 @@ to_stated l (assert at c) z (inr s) = s.0
 to_stated l (assume at c) z (inl s) = absurd s.1
 to_stated l (assume at c) z (inr s) = s.0
 
-from_stated : (l : ℕ) (t : StmtTree) (z : Pieces) → StatedText l t z × IsBuiltStmt t → BlockText (l + 1) (l + 1) t z ⊎ SimpleText 0 l t z
+from_stated : (l : ℕ) (t : StmtTree) (z : Pieces) → StatedText l t z → BlockText (l + 1) (l + 1) t z ⊎ SimpleText 0 l t z
 from_stated l (block is end) z s = inl (s, tt)
 from_stated l (nothing at) z s = inr (s, (λ b. b))
 from_stated l (assign a) z s = inr (s, (λ b. b))
@@ -353,11 +349,11 @@ from_stated l (return at e) z s = inr (s, (λ b. b))
 from_stated l (assert at c) z s = inr (s, (λ b. b))
 from_stated l (assume at c) z s = inr (s, (λ b. b))
 
-either_stmt : (o l : ℕ) (t : StmtTree) (z : Pieces) → BlockText o l t z ⊎ SimpleText o l t z → StmtText o l t z
+either_stmt : (o l : ℕ) (t : StmtTree) (z : Pieces) → BlockText o l t z ⊎ SimpleText o l t z → IsStmt o l t z
 either_stmt o l t z (inl s) = s.0
 either_stmt o l t z (inr s) = s.0
 
-stmt_either : (o l : ℕ) (t : StmtTree) (z : Pieces) → StmtText o l t z → BlockText o l t z ⊎ SimpleText o l t z
+stmt_either : (o l : ℕ) (t : StmtTree) (z : Pieces) → IsStmt o l t z → BlockText o l t z ⊎ SimpleText o l t z
 stmt_either o l t z s = elim (is_block t) [ inl b ↦ inl (s, b) | inr b ↦ inr (s, b) ]
 
 or_left : (a b : Bool) → a ≡ true → (a || b) ≡ true
@@ -375,7 +371,7 @@ item_first : (l : ℕ) (i : ItemTree) (z : Pieces) (k : Option Token) → ItemTe
 item_first l (declared d) z k s = or_right (begins_stmt (first_or z k)) _ (declaration_first l d z k s)
 item_first l (stated t) z k s = item_stmt l t z k (from_stated l t z s)
 
-stated_long : (l : ℕ) (t : StmtTree) (z : Pieces) (k : Option Token) → StatedText l t z × IsBuiltStmt t → is_mark mark.Long (first_or z k) ≡ false
+stated_long : (l : ℕ) (t : StmtTree) (z : Pieces) (k : Option Token) → StatedText l t z → is_mark mark.Long (first_or z k) ≡ false
 stated_long l t z k s = elim (from_stated l t z s) [
   | inl b ↦ stmt_begins (λ o. is_mark mark.Long o ≡ false) no_long (l + 1) (l + 1) t z k b.0
   | inr b ↦ stmt_begins (λ o. is_mark mark.Long o ≡ false) no_long 0 l t z k b.0
@@ -398,22 +394,21 @@ item_closes (declared d) at = tt
 item_closes (stated t) at = λ k. refl
 
 abbrev pub BodyText : ℕ → ℕ → ItemsTree × Place → Texts
-BodyText o l b z = (opens mark.OpenBrace o ⋅ (AreItems l b.0 ⋅ opens_at mark.CloseBrace b.1 0)) z × AreBuiltItems b.0
+BodyText o l b = opens mark.OpenBrace o ⋅ (AreItems l b.0 ⋅ opens_at mark.CloseBrace b.1 0)
 
 abbrev ItemsText : ℕ → ItemsTree × Place → Texts
 ItemsText l b z = Both (λ is z. Items (ItemText l) is z) (λ is b. Of (λ end. (items_from is, end)) (λ end z. opens_at mark.CloseBrace end 0 z) b) b z
 
 to_body : (o l : ℕ) (b : ItemsTree × Place) (z : Pieces) → (opens mark.OpenBrace o ⋅ ItemsText l b) z → BodyText o l b z
 to_body o l b z (x, y, e, s, (is, (u, v, f, r, (end, g, t)))) =
-    let k = to_items l is u r in
-    subst (λ (c : ItemsTree × Place). BodyText o l c z) g ((x, y, e, s, (u, v, f, k.0, t)), k.1)
+    subst (λ (c : ItemsTree × Place). BodyText o l c z) g (x, y, e, s, (u, v, f, to_items l is u r, t))
 
 from_body : (o l : ℕ) (b : ItemsTree × Place) (z : Pieces) → BodyText o l b z → (opens mark.OpenBrace o ⋅ ItemsText l b) z
-from_body o l b z ((x, y, e, s, (u, v, f, r, t)), h) =
-    let k = from_items l b.0 u r h in
+from_body o l b z (x, y, e, s, (u, v, f, r, t)) =
+    let k = from_items l b.0 u r in
     (x, y, e, s, (k.0, (u, v, f, k.2, (b.1, ap (λ (i : ItemsTree). (i, b.1)) k.1, t))))
 
-item_sides : (l : ℕ) (i : ItemTree) (z : Pieces) → ItemText l i z → Of declared (DeclarationText l) i z ⊎ Of stated (λ t z. StatedText l t z × IsBuiltStmt t) i z
+item_sides : (l : ℕ) (i : ItemTree) (z : Pieces) → ItemText l i z → Of declared (IsDeclaration l) i z ⊎ Of stated (λ t z. StatedText l t z) i z
 item_sides l (declared d) z s = inl (d, refl, s)
 item_sides l (stated t) z s = inr (t, refl, s)
 
@@ -423,7 +418,7 @@ module _ (n d l : ℕ) (simple inner : Parse StmtTree) (h : d + l ≡ n) (I : Ex
   exact_item =
       let D = entry (mapped (exact_declaration n d l h) declared AfterItem (λ i o f. tt) (λ i o f. tt)) (λ k. ⊤ × (is_mark mark.Long k ≡ true)) (λ k i. tt) in
       let stmts = exact_stated {o = 0} {l = l} I (λ t z k s. block_first (l + 1) (l + 1) t z k s (λ i. is_mark mark.OpenBrace i ≡ true) (λ at. refl)) S in
-      let T = retell stmts (λ t z. StatedText l t z × IsBuiltStmt t) (λ t z s. to_stated l t z s) (λ t z s. from_stated l t z s) in
+      let T = retell stmts (λ t z. StatedText l t z) (λ t z s. to_stated l t z s) (λ t z s. from_stated l t z s) in
       let T' = mapped T stated AfterItem (λ t o f. f) (λ t o f. f) in
       let W = ItemText l in
       let b = branch (is_mark mark.Long) (widen D W (λ i z s. subst (λ (c : ItemTree). W c z) s.1 s.2))
@@ -480,42 +475,42 @@ from_block o l (assume at c) z s = absurd s.1
 placed_over : (n o : ℕ) (m : Mark) (at : Place) (x y z : Pieces) → n < o → z ≡ x ++ y → opens_at m at o x → (t : Piece) × (w : Pieces) × (z ≡ t ∷ w) × (n < t.1)
 placed_over n o m at x y z h e s = ((token m at, o), y, e ∙ ap (λ (v : Pieces). v ++ y) s, h)
 
-assign_over : (n o l : ℕ) (a : _) (x y z : Pieces) → n < o → z ≡ x ++ y → AssignText o l a x → (t : Piece) × (w : Pieces) × (z ≡ t ∷ w) × (n < t.1)
+assign_over : (n o l : ℕ) (a : _) (x y z : Pieces) → n < o → z ≡ x ++ y → IsAssign o l a x → (t : Piece) × (w : Pieces) × (z ≡ t ∷ w) × (n < t.1)
 assign_over n o l a x y z h e s = elim (from_assign o l a x s) [
   | inl (j, (u, v, f, m, r)) ↦ (_, v ++ y, e ∙ regroup x y u v f ∙ ap (λ (w : Pieces). w ++ (v ++ y)) m, h)
   | inr (i, (u, v, f, m, r)) ↦ (_, v ++ y, e ∙ regroup x y u v f ∙ ap (λ (w : Pieces). w ++ (v ++ y)) m, h)
 ]
 
-stmt_over : (n o l : ℕ) (t : StmtTree) (z : Pieces) → n < o → StmtText o l t z → (p : Piece) × (w : Pieces) × (z ≡ p ∷ w) × (n < p.1)
-stmt_over n o l (block is end) z h ((x, y, e, s, r), b) = opened_over n o mark.OpenBrace x y z h e s
-stmt_over n o l (nothing at) z h (s, b) = placed_over n o mark.Semicolon at z [] z h (sym (append-nil z)) s
-stmt_over n o l (assign a) z h ((x, y, e, s, r), b) = assign_over n o l a x y z h e (s, b)
-stmt_over n o l (call c) z h s = absurd s.1
-stmt_over n o l (if_only at c t) z h ((x, y, e, s, r), b) = placed_over n o mark.If at x y z h e s
-stmt_over n o l (if_else at c t d) z h (((x, y, e, s, r), k), b) = placed_over n o mark.If at x y z h e s
-stmt_over n o l (while at c b) z h ((x, y, f, s, r), k) = placed_over n o mark.While at x y z h f s
-stmt_over n o l (for at i c e b) z h ((x, y, f, s, r), k) = placed_over n o mark.For at x y z h f s
-stmt_over n o l (break at) z h ((x, y, f, s, r), k) = placed_over n o mark.Break at x y z h f s
-stmt_over n o l (continue at) z h ((x, y, f, s, r), k) = placed_over n o mark.Continue at x y z h f s
-stmt_over n o l (return at e) z h ((x, y, f, s, r), k) = placed_over n o mark.Return at x y z h f s
-stmt_over n o l (assert at c) z h ((x, y, e, s, r), b) = placed_over n o mark.Assert at x y z h e s
-stmt_over n o l (assume at c) z h ((x, y, e, s, r), b) = placed_over n o mark.Assume at x y z h e s
+stmt_over : (n o l : ℕ) (t : StmtTree) (z : Pieces) → n < o → IsStmt o l t z → (p : Piece) × (w : Pieces) × (z ≡ p ∷ w) × (n < p.1)
+stmt_over n o l (block is end) z h (x, y, e, s, r) = opened_over n o mark.OpenBrace x y z h e s
+stmt_over n o l (nothing at) z h s = placed_over n o mark.Semicolon at z [] z h (sym (append-nil z)) s
+stmt_over n o l (assign a) z h (x, y, e, s, r) = assign_over n o l a x y z h e s
+stmt_over n o l (call c) z h (x, y, e, (p, q, f, m, r), t) = (_, q ++ y, e ∙ regroup x y p q f ∙ ap (λ (w : Pieces). w ++ (q ++ y)) m, h)
+stmt_over n o l (if_only at c t) z h (x, y, e, s, r) = placed_over n o mark.If at x y z h e s
+stmt_over n o l (if_else at c t d) z h ((x, y, e, s, r), k) = placed_over n o mark.If at x y z h e s
+stmt_over n o l (while at c b) z h (x, y, f, s, r) = placed_over n o mark.While at x y z h f s
+stmt_over n o l (for at i c e b) z h (x, y, f, s, r) = placed_over n o mark.For at x y z h f s
+stmt_over n o l (break at) z h (x, y, f, s, r) = placed_over n o mark.Break at x y z h f s
+stmt_over n o l (continue at) z h (x, y, f, s, r) = placed_over n o mark.Continue at x y z h f s
+stmt_over n o l (return at e) z h (x, y, f, s, r) = placed_over n o mark.Return at x y z h f s
+stmt_over n o l (assert at c) z h (x, y, e, s, r) = placed_over n o mark.Assert at x y z h e s
+stmt_over n o l (assume at c) z h (x, y, e, s, r) = placed_over n o mark.Assume at x y z h e s
 
-exact_too_deep : (n o : ℕ) → n < o → Exact n IsInner too_deep Any (StmtText o o) (StmtText o o) AfterStmt
+exact_too_deep : (n o : ℕ) → n < o → Exact n IsInner too_deep Any (IsStmt o o) (IsStmt o o) AfterStmt
 exact_too_deep n o h =
-    let deep = exact_deep n IsInner (λ k. ⊤ × (begins_stmt k ≡ true)) (StmtText o o) (StmtText o o) AfterStmt (λ t z s. stmt_over n o o t z h s) (λ t i. let s = starts o t i.1 in (s.0, o, s.1, s.2, h)) (λ i. let e = i.1 in cc) in
-    let none = exact_stop {n = n} {Q = IsInner} (λ k. ⊤ × (begins_stmt k ≡ false)) (StmtText o o) AfterStmt (nothing some_place) ((token mark.Semicolon some_place, o) ∷ []) (refl, tt) in
+    let deep = exact_deep n IsInner (λ k. ⊤ × (begins_stmt k ≡ true)) (IsStmt o o) (IsStmt o o) AfterStmt (λ t z s. stmt_over n o o t z h s) (λ t i. let s = starts o t i.1 in (s.0, o, s.1, s.2, h)) (λ i. let e = i.1 in cc) in
+    let none = exact_stop {n = n} {Q = IsInner} (λ k. ⊤ × (begins_stmt k ≡ false)) (IsStmt o o) AfterStmt (nothing some_place) ((token mark.Semicolon some_place, o) ∷ []) refl in
     let b = branch begins_stmt deep none (λ t z k s f. stmt_begins (λ i. begins_stmt i ≡ true) all_begin o o t z k s) (λ t z k s f. absurd s) in
-    rename b (StmtText o o) (λ t z s. elim s [ inl k ↦ k | inr k ↦ absurd k ]) (λ t z s. inl s)
+    rename b (IsStmt o o) (λ t z s. elim s [ inl k ↦ k | inr k ↦ absurd k ]) (λ t z s. inl s)
 
 exact_deep_block : (n o : ℕ) → n < o → Exact n IsInner (λ T. stop TooDeep T) AtBrace (BodyText o o) (BodyText o o) Free
 exact_deep_block n o h = exact_deep n IsInner AtBrace (BodyText o o) (BodyText o o) Free
-    (λ b z s. opened_over n o mark.OpenBrace s.0.0 s.0.1 z h s.0.2 s.0.3)
-    (λ t i. subst (Over n (BodyText o o)) (sym (is_mark_some mark.OpenBrace t i)) ((no_items, some_place), o, _, ((_, _, refl, (t.place, refl), (_, _, refl, refl, refl)), tt), h))
+    (λ b z s. opened_over n o mark.OpenBrace s.0 s.1 z h s.2 s.3)
+    (λ t i. subst (Over n (BodyText o o)) (sym (is_mark_some mark.OpenBrace t i)) ((no_items, some_place), o, _, (_, _, refl, (t.place, refl), (_, _, refl, refl, refl)), h))
     (λ i. cc)
 
 abbrev pub AreExact : ℕ → ℕ → ℕ → Type 0
-AreExact n d l = Exact n IsInner (branch_at d) Any (StmtText (l + 1) (l + 1)) (StmtText (l + 1) (l + 1)) AfterStmt × Exact n IsInner (block_at d) AtBrace (BodyText (l + 1) (l + 1)) (BodyText (l + 1) (l + 1)) Free
+AreExact n d l = Exact n IsInner (branch_at d) Any (IsStmt (l + 1) (l + 1)) (IsStmt (l + 1) (l + 1)) AfterStmt × Exact n IsInner (block_at d) AtBrace (BodyText (l + 1) (l + 1)) (BodyText (l + 1) (l + 1)) Free
 
 exact_block_stmt : (n d l : ℕ) → Exact n IsInner (block_at d) AtBrace (BodyText (l + 1) (l + 1)) (BodyText (l + 1) (l + 1)) Free
     → Exact n IsInner (map_read block_from (block_at d)) (λ k. ⊤ × (is_mark mark.OpenBrace k ≡ true)) (BlockText (l + 1) (l + 1)) (BlockText (l + 1) (l + 1)) AfterStmt
@@ -534,7 +529,7 @@ exact_levels n (suc d) l h =
     let B = exact_body n d (l + 1) (simple_at d) (map_read block_from (block_at d)) k (exact_block_stmt n d (l + 1) inner.1) (simple 0 (omega arith)) (l + 1) low in
     let blocks = entry B AtBrace (λ k i. tt) in
     let T = exact_stated {o = l + 1} {l = l + 1} (exact_block_stmt n (suc d) l blocks) (λ t z k s. block_first (l + 1) (l + 1) t z k s (λ i. is_mark mark.OpenBrace i ≡ true) (λ at. refl)) (simple (l + 1) low) in
-    (retell T (StmtText (l + 1) (l + 1)) (λ t z s. either_stmt (l + 1) (l + 1) t z s) (λ t z s. stmt_either (l + 1) (l + 1) t z s), blocks)
+    (retell T (IsStmt (l + 1) (l + 1)) (λ t z s. either_stmt (l + 1) (l + 1) t z s) (λ t z s. stmt_either (l + 1) (l + 1) t z s), blocks)
 
 -- the body of a function, at its level
 pub exact_function_body : (n d : ℕ) → d + 1 ≡ n → Exact n IsInner (body_of (items_at d)) Any (BodyText 1 1) (BodyText 1 1) Free

@@ -80,7 +80,7 @@ AfterTest (group_of c) o = ⊤
 
 -- the first token of an expression ---------------------------------------------------------------------------------
 
-abbrev Begun : Pieces → Type 0
+abbrev pub Begun : Pieces → Type 0
 Begun z = (t : Piece) × (w : Pieces) × (z ≡ t ∷ w)
 
 begun_by : (m : Mark) (o : ℕ) (x y z : Pieces) → z ≡ x ++ y → opens m o x → Begun z
@@ -97,16 +97,16 @@ unary_begun l (group e) z (x, y, f, s, t) = begun_by mark.OpenParen (l + 1) x y 
 begun_front : (x y z : Pieces) → z ≡ x ++ y → Begun x → Begun z
 begun_front x y z e b = (b.0, b.1 ++ y, e ∙ ap (λ (v : Pieces). v ++ y) b.2)
 
-expr_begun : (l : ℕ) (e : ExprTree) (z : Pieces) → IsExpr l e z → Begun z
+pub expr_begun : (l : ℕ) (e : ExprTree) (z : Pieces) → IsExpr l e z → Begun z
 expr_begun l e z h =
     let p = split_expr l e z h in
     let q = split_term l p.0 p.1.0 p.1.3 in
     begun_front p.1.0 p.1.1 z p.1.2 (begun_front q.1.0 q.1.1 p.1.0 q.1.2 (unary_begun l q.0 q.1.0 q.1.3))
 
-begun_long : (z : Pieces) → Begun z → z ≡ [] → ⊥
+pub begun_long : (z : Pieces) → Begun z → z ≡ [] → ⊥
 begun_long z b e = let f = b.2 in cc
 
-begun_first : (z : Pieces) (o : Option Token) → Begun z → first_or z o ≡ first_or z None
+pub begun_first : (z : Pieces) (o : Option Token) → Begun z → first_or z o ≡ first_or z None
 begun_first z o b = rw (b.2) refl
 
 -- behind an expression ---------------------------------------------------------------------------------------------

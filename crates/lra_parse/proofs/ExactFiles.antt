@@ -13,7 +13,7 @@ use Rattle.lra_tree.specs.declared.trees.Identifier.{Identifier}
 use Rattle.lra_tree.specs.Texts.{Pieces, Texts, ◌⋅◌, ◌∣◌, empty, opens, mark as spells, name, end_at}
 use Rattle.lra_tree.specs.Trees.{ItemsTree, no_items, FunctionTree, PartTree, prototype, globals, function, FileTree}
 use Rattle.lra_tree.specs.Grammar.{IsType, IsHead, IsFunction, IsPart, AreParts}
-use Rattle.lra_tree.specs.Built.{AreBuiltItems, IsBuiltFunction, IsBuiltPart, Built}
+use Rattle.lra_tree.specs.Built.{IsBuiltFunction, IsBuiltPart, Built}
 use Rattle.lra_parse.specs.Tests.{is_mark}
 use Rattle.lra_parse.specs.Reading.{take_by, identifier_of}
 use Rattle.lra_parse.specs.Files.{is_main, next_main, HeadMark, at_int, at_type, at_void, head_mark, head_form, read_head, function_of, function_at, begins_part, parts_at, end_of, next_end, file_of, file_at}
@@ -23,7 +23,8 @@ use Rattle.lra_parse.proofs.Tokens.{IsInner, name_is, some_place}
 use Rattle.lra_parse.proofs.Chain.{regroup, Items, AfterLast, all_last, exact_list}
 use Rattle.lra_parse.proofs.Parts.{exact_behind}
 use Rattle.lra_parse.proofs.ExactExpressions.{Of, first_opened}
-use Rattle.lra_parse.proofs.ExactAssignments.{exact_skip, exact_type}
+use Rattle.lra_parse.proofs.ExactLists.{exact_skip}
+use Rattle.lra_parse.proofs.ExactAssignments.{exact_type}
 use Rattle.lra_parse.proofs.ExactBlocks.{BodyText, exact_function_body}
 
 -- `main` -----------------------------------------------------------------------------------------------------------
@@ -136,7 +137,7 @@ abbrev FunctionText : FunctionTree → Texts
 FunctionText f z = IsFunction f z × IsBuiltFunction f
 
 some_body : (b : ItemsTree × Place) × (z : Pieces) × BodyText 1 1 b z
-some_body = ((no_items, some_place), _, ((_, _, refl, (some_place, refl), (_, _, refl, refl, refl)), tt))
+some_body = ((no_items, some_place), _, (_, _, refl, (some_place, refl), (_, _, refl, refl, refl)))
 
 some_rest : (b : ItemsTree × Place) × (z : Pieces) × RestText b z
 some_rest = (some_body.0, _, (_, _, refl, (some_place, refl), some_body.2))
@@ -145,19 +146,19 @@ some_params : (b : ItemsTree × Place) × (z : Pieces) × ParamsText b z
 some_params = (some_rest.0, _, (_, _, refl, (some_place, refl), ([], _, refl, inr refl, some_rest.2)))
 
 to_function : (f : FunctionTree) (z : Pieces) → Both HeadText (λ h b. Of (function_of h) ParamsText b) f z → FunctionText f z
-to_function f z (h, (x, y, e, s, (b, g, (p, q, i, r, (u, v, j, t, (k, l, m, w, (c, a))))))) =
-    subst (λ (d : FunctionTree). FunctionText d z) g ((x, y, e, s.0, (p, q, i, r, (u, v, j, t, (k, l, m, w, c)))), record { is_main = s.1; alone = refl; body = a })
+to_function f z (h, (x, y, e, s, (b, g, (p, q, i, r, (u, v, j, t, c))))) =
+    subst (λ (d : FunctionTree). FunctionText d z) g ((x, y, e, s.0, (p, q, i, r, (u, v, j, t, c))), record { is_main = s.1; alone = refl })
 
 params_empty : (f : FunctionTree) → f.parameters ≡ [] → f ≡ function_of (f.has_result, f.name) (f.body, f.end)
 params_empty f e = ap (λ (ps : List Identifier). record { has_result = f.has_result; name = f.name; parameters = ps; body = f.body; end = f.end }) e
 
-opened_function : (f : FunctionTree) → f ≡ function_of (f.has_result, f.name) (f.body, f.end) → (z : Pieces) → main_word f.name → AreBuiltItems f.body → IsFunction (function_of (f.has_result, f.name) (f.body, f.end)) z
+opened_function : (f : FunctionTree) → f ≡ function_of (f.has_result, f.name) (f.body, f.end) → (z : Pieces) → main_word f.name → IsFunction (function_of (f.has_result, f.name) (f.body, f.end)) z
     → Both HeadText (λ h b. Of (function_of h) ParamsText b) f z
-opened_function f g z w a (x, y, e, s, (p, q, i, r, (u, v, j, t, (k, l, m, o, c)))) =
-    ((f.has_result, f.name), (x, y, e, (s, w), ((f.body, f.end), sym g, (p, q, i, r, (u, v, j, t, (k, l, m, o, (c, a)))))))
+opened_function f g z w (x, y, e, s, (p, q, i, r, (u, v, j, t, c))) =
+    ((f.has_result, f.name), (x, y, e, (s, w), ((f.body, f.end), sym g, (p, q, i, r, (u, v, j, t, c)))))
 
 from_function : (f : FunctionTree) (z : Pieces) → FunctionText f z → Both HeadText (λ h b. Of (function_of h) ParamsText b) f z
-from_function f z s = opened_function f (params_empty f s.1.alone) z s.1.is_main s.1.body (subst (λ (d : FunctionTree). IsFunction d z) (params_empty f s.1.alone) s.0)
+from_function f z s = opened_function f (params_empty f s.1.alone) z s.1.is_main (subst (λ (d : FunctionTree). IsFunction d z) (params_empty f s.1.alone) s.0)
 
 exact_function : (n d : ℕ) → d + 1 ≡ n → Exact n IsInner (function_at d) Any FunctionText FunctionText Free
 exact_function n d h =

@@ -9,9 +9,8 @@ use Rattle.lra_tree.specs.declared.tokens.Token.{Token}
 use Rattle.lra_tree.specs.declared.trees.Step.{Step}
 use Rattle.lra_tree.specs.declared.trees.Step.TheVariants as step
 use Rattle.lra_tree.specs.Texts.{Pieces, Texts, ◌⋅◌, empty, opens, mark as spells}
-use Rattle.lra_tree.specs.Trees.{UnaryTree, negated, positive, literal, variable, input, group, TermTree, unary, times, over, modulo, ExprTree, term, plus, minus, TestTree, opposite, value, compare, group_of, ConjunctionTree, test, and, CondTree, conjunction, or, SourceTree, expression, result, AssignTree, InitTree, no_init, declared, assigned}
-use Rattle.lra_tree.specs.Grammar.{IsUnary, IsTerm, IsExpr, IsTest, IsConjunction, IsCond, IsInit, IsForTest, IsForStep, IsReturned}
-use Rattle.lra_tree.specs.Built.{IsBuiltGiven, IsBuiltInit, IsBuiltStep}
+use Rattle.lra_tree.specs.Trees.{TestTree, opposite, value, compare, group_of, ConjunctionTree, test, and, CondTree, conjunction, or, SourceTree, AssignTree, InitTree, no_init, declared, assigned}
+use Rattle.lra_tree.specs.Grammar.{IsTest, IsConjunction, IsCond, IsSource, IsAssign, IsDeclaration, IsInit, IsForTest, IsForStep, IsReturned}
 use Rattle.lra_parse.specs.Tests.{is_mark}
 use Rattle.lra_parse.specs.Reading.{Parse}
 use Rattle.lra_parse.specs.Statements.{source_at, up_to, init_of, init_at, for_head_at}
@@ -23,40 +22,16 @@ use Rattle.lra_parse.proofs.Chain.{regroup}
 use Rattle.lra_parse.proofs.Parts.{token, exact_behind, exact_ended}
 use Rattle.lra_parse.proofs.ExactExpressions.{Of, first_opened}
 use Rattle.lra_parse.proofs.ExactConditions.{cond_stops, exact_cond}
-use Rattle.lra_parse.proofs.ExactAssignments.{mark_of_step, SourceText, source_stops, exact_source, AssignText, assign_no_mark, assign_stops, assign_closes, exact_assign, DeclarationText, declaration_first, exact_declaration}
+use Rattle.lra_parse.proofs.ExactSources.{Inside, front, expr_inside, source_stops, source_no_stop, exact_source}
+use Rattle.lra_parse.proofs.ExactAssignments.{mark_of_step, assign_no_mark, assign_stops, assign_closes, exact_assign, declaration_first, exact_declaration}
 
--- first tokens: no expression and no condition begins with `;` --------------------------------------------------------
-
-abbrev Inside : Option Token → Type 0
-Inside o = is_mark mark.Semicolon o ≡ false
-
-front : (x y z : Pieces) (k : Option Token) → z ≡ x ++ y → Inside (first_or x (first_or y k)) → Inside (first_or z k)
-front x y z k e f = subst (λ (w : Pieces). Inside (first_or w k)) (sym e) (subst Inside (sym (first_or-both x y k)) f)
-
-unary_inside : (l : ℕ) (a : UnaryTree) (z : Pieces) (k : Option Token) → IsUnary l a z → Inside (first_or z k)
-unary_inside l (negated u) z k (x, y, e, s, t) = first_opened Inside mark.Minus (l + 1) x y z k e s (λ at. refl)
-unary_inside l (positive u) z k (x, y, e, s, t) = first_opened Inside mark.Plus (l + 1) x y z k e s (λ at. refl)
-unary_inside l (literal i) z k s = rw (s.1) refl
-unary_inside l (variable x) z k s = rw s refl
-unary_inside l input z k (x, y, e, s, t) = first_opened Inside mark.Input 0 x y z k e s (λ at. refl)
-unary_inside l (group a) z k (x, y, e, s, t) = first_opened Inside mark.OpenParen (l + 1) x y z k e s (λ at. refl)
-
-term_inside : (l : ℕ) (a : TermTree) (z : Pieces) (k : Option Token) → IsTerm l a z → Inside (first_or z k)
-term_inside l (unary u) z k h = unary_inside l u z k h
-term_inside l (times t u) z k (x, y, e, h, s) = front x y z k e (term_inside l t x (first_or y k) h)
-term_inside l (over t u) z k (x, y, e, h, s) = front x y z k e (term_inside l t x (first_or y k) h)
-term_inside l (modulo t u) z k (x, y, e, h, s) = front x y z k e (term_inside l t x (first_or y k) h)
-
-expr_inside : (l : ℕ) (a : ExprTree) (z : Pieces) (k : Option Token) → IsExpr l a z → Inside (first_or z k)
-expr_inside l (term t) z k h = term_inside l t z k h
-expr_inside l (plus a t) z k (x, y, e, h, s) = front x y z k e (expr_inside l a x (first_or y k) h)
-expr_inside l (minus a t) z k (x, y, e, h, s) = front x y z k e (expr_inside l a x (first_or y k) h)
+-- first tokens -------------------------------------------------------------------------------------------------------
 
 test_inside : (l : ℕ) (a : TestTree) (z : Pieces) (k : Option Token) → IsTest l a z → Inside (first_or z k)
-test_inside l (opposite a) z k (x, y, e, s, t) = first_opened Inside mark.Not (l + 1) x y z k e s (λ at. refl)
+test_inside l (opposite a) z k (x, y, e, s, t) = first_opened Inside mark.Not (l + 1) x y z k e s (λ at. (refl, refl))
 test_inside l (value a) z k h = expr_inside l a z k h
 test_inside l (compare a op b) z k (x, y, e, h, s) = front x y z k e (expr_inside l a x (first_or y k) h)
-test_inside l (group_of c) z k ((x, y, e, s, t), h) = first_opened Inside mark.OpenParen (l + 1) x y z k e s (λ at. refl)
+test_inside l (group_of c) z k ((x, y, e, s, t), h) = first_opened Inside mark.OpenParen (l + 1) x y z k e s (λ at. (refl, refl))
 
 conjunction_inside : (l : ℕ) (a : ConjunctionTree) (z : Pieces) (k : Option Token) → IsConjunction l a z → Inside (first_or z k)
 conjunction_inside l (test t) z k h = test_inside l t z k h
@@ -66,15 +41,11 @@ cond_inside : (l : ℕ) (a : CondTree) (z : Pieces) (k : Option Token) → IsCon
 cond_inside l (conjunction c) z k h = conjunction_inside l c z k h
 cond_inside l (or c d) z k (x, y, e, h, s) = front x y z k e (cond_inside l c x (first_or y k) h)
 
-source_inside : (l : ℕ) (a : SourceTree) (z : Pieces) (k : Option Token) → SourceText l a z → Inside (first_or z k)
-source_inside l (expression a) z k s = expr_inside l a z k s.0
-source_inside l (result c) z k s = absurd s.1
-
 step_is_not : (m : Mark) → is_mark m (Some (token mark.Increment some_place)) ≡ false → is_mark m (Some (token mark.Decrement some_place)) ≡ false → (s : Step) (at : Place) → is_mark m (Some (token (mark_of_step s) at)) ≡ false
 step_is_not m e f step.Increment at = e
 step_is_not m e f step.Decrement at = f
 
-assign_is_not : (m : Mark) → is_mark m (Some (token mark.Increment some_place)) ≡ false → is_mark m (Some (token mark.Decrement some_place)) ≡ false → (l : ℕ) (a : AssignTree) (z : Pieces) (k : Option Token) → AssignText 0 l a z → is_mark m (first_or z k) ≡ false
+assign_is_not : (m : Mark) → is_mark m (Some (token mark.Increment some_place)) ≡ false → is_mark m (Some (token mark.Decrement some_place)) ≡ false → (l : ℕ) (a : AssignTree) (z : Pieces) (k : Option Token) → IsAssign 0 l a z → is_mark m (first_or z k) ≡ false
 assign_is_not m e f l a z k s = assign_no_mark 0 l a z [] z k (sym (append-nil z)) s (λ i. is_mark m i ≡ false) (λ x. refl) (step_is_not m e f)
 
 -- a part up to a mark, or the mark alone --------------------------------------------------------------------------------
@@ -116,46 +87,43 @@ exact_up_to {n} {A} {p} {S = S} {F = F} m P inside fine =
 
 -- what a `return` gives -------------------------------------------------------------------------------------------------
 
-pub exact_returned : (n d l : ℕ) → d + l ≡ n → Exact n IsInner (up_to mark.Semicolon (source_at d)) Any (λ e. OptionText (SourceText l) e ⋅ spells mark.Semicolon) (λ e. OptionText (SourceText l) e ⋅ spells mark.Semicolon) Free
-exact_returned n d l h = exact_up_to mark.Semicolon (exact_source n d l h) (source_inside l) source_stops
+pub exact_returned : (n d l : ℕ) → d + l ≡ n → Exact n IsInner (up_to mark.Semicolon (source_at d)) Any (λ e. OptionText (IsSource l) e ⋅ spells mark.Semicolon) (λ e. OptionText (IsSource l) e ⋅ spells mark.Semicolon) Free
+exact_returned n d l h = exact_up_to mark.Semicolon (exact_source n d l h) (source_no_stop l) source_stops
 
-pub to_returned : (l : ℕ) (e : Option SourceTree) (z : Pieces) → OptionText (SourceText l) e z → IsReturned l e z × IsBuiltGiven e
-to_returned l None z s = (s, tt)
-to_returned l (Some a) z s = (s.0, s.1)
+pub to_returned : (l : ℕ) (e : Option SourceTree) (z : Pieces) → OptionText (IsSource l) e z → IsReturned l e z
+to_returned l None z s = s
+to_returned l (Some a) z s = s
 
-pub from_returned : (l : ℕ) (e : Option SourceTree) (z : Pieces) → IsReturned l e z → IsBuiltGiven e → OptionText (SourceText l) e z
-from_returned l None z s h = s
-from_returned l (Some a) z s h = (s, h)
+pub from_returned : (l : ℕ) (e : Option SourceTree) (z : Pieces) → IsReturned l e z → OptionText (IsSource l) e z
+from_returned l None z s = s
+from_returned l (Some a) z s = s
 
 -- the head of a `for` ---------------------------------------------------------------------------------------------------
 
 abbrev pub ForHeadTree : Type 0
 ForHeadTree = InitTree × Option CondTree × Option AssignTree
 
-abbrev pub InitText : ℕ → InitTree → Texts
-InitText l i z = IsInit l i z × IsBuiltInit i
-
 abbrev FirstAssign : ℕ → Option AssignTree → Texts
-FirstAssign l i = OptionText (AssignText 0 l) i ⋅ spells mark.Semicolon
+FirstAssign l i = OptionText (IsAssign 0 l) i ⋅ spells mark.Semicolon
 
-first_assign : (l : ℕ) (i : Option AssignTree) (z : Pieces) → FirstAssign l i z → InitText l (init_of i) z
-first_assign l None z (x, y, e, s, m) = (subst (λ (w : Pieces). spells mark.Semicolon w) (sym (e ∙ ap (λ (w : Pieces). w ++ y) s)) m, tt)
-first_assign l (Some a) z (x, y, e, s, m) = ((x, y, e, s.0, m), s.1)
+first_assign : (l : ℕ) (i : Option AssignTree) (z : Pieces) → FirstAssign l i z → IsInit l (init_of i) z
+first_assign l None z (x, y, e, s, m) = subst (λ (w : Pieces). spells mark.Semicolon w) (sym (e ∙ ap (λ (w : Pieces). w ++ y) s)) m
+first_assign l (Some a) z s = s
 
 first_no_long : (l : ℕ) (i : Option AssignTree) (z : Pieces) (k : Option Token) → FirstAssign l i z → is_mark mark.Long (first_or z k) ≡ false
-first_no_long l None z k s = let w : spells mark.Semicolon z = (first_assign l None z s).0 in first_opened (λ o. is_mark mark.Long o ≡ false) mark.Semicolon 0 z [] z k (sym (append-nil z)) w (λ at. refl)
+first_no_long l None z k s = let w : spells mark.Semicolon z = first_assign l None z s in first_opened (λ o. is_mark mark.Long o ≡ false) mark.Semicolon 0 z [] z k (sym (append-nil z)) w (λ at. refl)
 first_no_long l (Some a) z k (x, y, e, s, m) = subst (λ (w : Pieces). is_mark mark.Long (first_or w k) ≡ false) (sym e)
     (subst (λ (o : Option Token). is_mark mark.Long o ≡ false) (sym (first_or-both x y k)) (assign_is_not mark.Long refl refl l a x (first_or y k) s))
 
-init_sides : (l : ℕ) (i : InitTree) (z : Pieces) → InitText l i z → Of declared (DeclarationText l) i z ⊎ Of init_of (FirstAssign l) i z
-init_sides l no_init z (s, h) = inr (None, refl, ([], z, refl, refl, s))
+init_sides : (l : ℕ) (i : InitTree) (z : Pieces) → IsInit l i z → Of declared (IsDeclaration l) i z ⊎ Of init_of (FirstAssign l) i z
+init_sides l no_init z s = inr (None, refl, ([], z, refl, refl, s))
 init_sides l (declared d) z s = inl (d, refl, s)
-init_sides l (assigned a) z ((x, y, e, s, m), h) = inr (Some a, refl, (x, y, e, (s, h), m))
+init_sides l (assigned a) z s = inr (Some a, refl, s)
 
-exact_init : (n d l : ℕ) → d + l ≡ n → Exact n IsInner (init_at d) Any (InitText l) (InitText l) Free
+exact_init : (n d l : ℕ) → d + l ≡ n → Exact n IsInner (init_at d) Any (IsInit l) (IsInit l) Free
 exact_init n d l h =
     let low : 0 ≤ n = omega arith in
-    let W = InitText l in
+    let W = IsInit l in
     let D = entry (mapped (exact_declaration n d l h) declared Free (λ i o f. tt) (λ i o f. tt)) (λ k. ⊤ × (is_mark mark.Long k ≡ true)) (λ k i. tt) in
     let A = mapped (exact_up_to mark.Semicolon (exact_assign n d l 0 h low) (assign_is_not mark.Semicolon refl refl l) assign_stops) init_of Free (λ i o f. tt) (λ i o f. tt) in
     let b = branch (is_mark mark.Long) (widen D W (λ i z s. subst (λ (c : InitTree). W c z) s.1 s.2))
@@ -165,28 +133,28 @@ exact_init n d l h =
     rename b W (λ i z s. elim s [ inl k ↦ subst (λ (c : InitTree). W c z) k.1 k.2 | inr k ↦ subst (λ (c : InitTree). W c z) k.1 (first_assign l k.0 z k.2) ]) (λ i z s. init_sides l i z s)
 
 abbrev pub StepText : ℕ → InitTree → Option CondTree → ForHeadTree → Texts
-StepText l i c h = Of (λ (e : Option AssignTree). (i, c, e)) (λ e. OptionText (AssignText 0 l) e ⋅ spells mark.CloseParen) h
+StepText l i c h = Of (λ (e : Option AssignTree). (i, c, e)) (λ e. OptionText (IsAssign 0 l) e ⋅ spells mark.CloseParen) h
 
 abbrev pub TestText : ℕ → InitTree → ForHeadTree → Texts
 TestText l i h z = Both (λ c. OptionText (IsCond l) c ⋅ spells mark.Semicolon) (StepText l i) h z
 
 abbrev pub HeadText : ℕ → ForHeadTree → Texts
-HeadText l h = opens mark.OpenParen 0 ⋅ (λ z. Both (InitText l) (TestText l) h z)
+HeadText l h = opens mark.OpenParen 0 ⋅ (λ z. Both (IsInit l) (TestText l) h z)
 
 -- `(;;)`
 pub some_head : (l : ℕ) → (h : ForHeadTree) × (z : Pieces) × HeadText l h z
-some_head l = ((no_init, None, None), _, (_, _, refl, (some_place, refl), (no_init, (_, _, refl, ((some_place, refl), tt), (None, (_, _, refl, ([], _, refl, refl, (some_place, refl)), (None, refl, ([], _, refl, refl, (some_place, refl)))))))))
+some_head l = ((no_init, None, None), _, (_, _, refl, (some_place, refl), (no_init, (_, _, refl, (some_place, refl), (None, (_, _, refl, ([], _, refl, refl, (some_place, refl)), (None, refl, ([], _, refl, refl, (some_place, refl)))))))))
 
 pub exact_head : (n d l : ℕ) → d + l ≡ n → Exact n IsInner (for_head_at d) Any (HeadText l) (HeadText l) Free
 exact_head n d l h =
     let low : 0 ≤ n = omega arith in
     let A = exact_assign n d l 0 h low in
     let steps = λ (i : InitTree) (c : Option CondTree). mapped (exact_up_to mark.CloseParen A (assign_is_not mark.CloseParen refl refl l) assign_closes) (λ (e : Option AssignTree). (i, c, e)) Free (λ e o f. tt) (λ e o f. tt) in
-    let tests = λ (i : InitTree). then (exact_up_to mark.Semicolon (exact_cond n d l h) (cond_inside l) cond_stops) (steps i) (TestText l i)
+    let tests = λ (i : InitTree). then (exact_up_to mark.Semicolon (exact_cond n d l h) (λ c z o s. (cond_inside l c z o s).0) cond_stops) (steps i) (TestText l i)
     (λ c b y o s f. tt)
     (λ c z v. ((i, c, None), _, (c, (z, _, refl, v, (None, refl, ([], _, refl, refl, (some_place, refl)))))))
     (λ c b x y s r. (c, (x, y, refl, s, r))) in
-    let all = then (exact_init n d l h) tests (λ b z. Both (InitText l) (TestText l) b z)
+    let all = then (exact_init n d l h) tests (λ b z. Both (IsInit l) (TestText l) b z)
     (λ i b y o s f. tt)
     (λ i z v. ((i, None, None), _, (i, (z, _, refl, v, (None, (_, _, refl, ([], _, refl, refl, (some_place, refl)), (None, refl, ([], _, refl, refl, (some_place, refl)))))))))
     (λ i b x y s r. (i, (x, y, refl, s, r))) in
@@ -200,48 +168,43 @@ pub from_test : (l : ℕ) (c : Option CondTree) (z : Pieces) → IsForTest l c z
 from_test l None z s = s
 from_test l (Some c) z s = s
 
-pub to_step : (l : ℕ) (e : Option AssignTree) (z : Pieces) → OptionText (AssignText 0 l) e z → IsForStep l e z × IsBuiltStep e
-to_step l None z s = (s, tt)
-to_step l (Some a) z s = (s.0, s.1)
+pub to_step : (l : ℕ) (e : Option AssignTree) (z : Pieces) → OptionText (IsAssign 0 l) e z → IsForStep l e z
+to_step l None z s = s
+to_step l (Some a) z s = s
 
-pub from_step : (l : ℕ) (e : Option AssignTree) (z : Pieces) → IsForStep l e z → IsBuiltStep e → OptionText (AssignText 0 l) e z
-from_step l None z s h = s
-from_step l (Some a) z s h = (s, h)
+pub from_step : (l : ℕ) (e : Option AssignTree) (z : Pieces) → IsForStep l e z → OptionText (IsAssign 0 l) e z
+from_step l None z s = s
+from_step l (Some a) z s = s
 
 -- the parentheses of a `for`, and what comes behind them
 abbrev pub ForRest : ℕ → InitTree → Option CondTree → Option AssignTree → Texts → Texts
 ForRest l i c e R = spells mark.OpenParen ⋅ IsInit l i ⋅ IsForTest l c ⋅ spells mark.Semicolon ⋅ IsForStep l e ⋅ spells mark.CloseParen ⋅ R
 
-pub head_rest : (l : ℕ) (h : ForHeadTree) (R : Texts) (z : Pieces) → (HeadText l h ⋅ R) z → ForRest l h.0 h.1 h.2 R z × IsBuiltInit h.0 × IsBuiltStep h.2
+pub head_rest : (l : ℕ) (h : ForHeadTree) (R : Texts) (z : Pieces) → (HeadText l h ⋅ R) z → ForRest l h.0 h.1 h.2 R z
 head_rest l h R z (u, v, k, (p, q, f, s, (i, (a, b, g, si, (c, (x, y, w, (x1, x2, w1, sc, m), (e, same, (y1, y2, w2, se, n))))))), r) =
-    let E = to_step l e y1 se in
-    subst (λ (k : ForHeadTree). ForRest l k.0 k.1 k.2 R z × IsBuiltInit k.0 × IsBuiltStep k.2) same (
+    subst (λ (k : ForHeadTree). ForRest l k.0 k.1 k.2 R z) same (
+      p,
+      q ++ v,
+      k ∙ regroup u v p q f,
+      s,
       (
-        p,
-        q ++ v,
-        k ∙ regroup u v p q f,
-        s,
+        a,
+        b ++ v,
+        regroup q v a b g,
+        si,
         (
-          a,
-          b ++ v,
-          regroup q v a b g,
-          si.0,
-          (
-            x1,
-            (x2 ++ y) ++ v,
-            regroup b v x1 (x2 ++ y) (w ∙ regroup x y x1 x2 w1),
-            to_test l c x1 sc,
-            (x2, y ++ v, append_assoc x2 y v, m, (y1, y2 ++ v, regroup y v y1 y2 w2, E.0, (y2, v, refl, n, r))),
-          ),
+          x1,
+          (x2 ++ y) ++ v,
+          regroup b v x1 (x2 ++ y) (w ∙ regroup x y x1 x2 w1),
+          to_test l c x1 sc,
+          (x2, y ++ v, append_assoc x2 y v, m, (y1, y2 ++ v, regroup y v y1 y2 w2, to_step l e y1 se, (y2, v, refl, n, r))),
         ),
       ),
-      si.1,
-      E.1,
     )
 
-pub rest_head : (l : ℕ) (i : InitTree) (c : Option CondTree) (e : Option AssignTree) (R : Texts) (z : Pieces) → ForRest l i c e R z → IsBuiltInit i → IsBuiltStep e → (HeadText l (i, c, e) ⋅ R) z
-rest_head l i c e R z (p, q, f, s, (a, b, g, si, (x1, x2, w1, sc, (y1, y2, w2, m, (x3, x4, w3, se, (y3, v, w4, n, r)))))) hi he =
-    let t : TestText l i (i, c, e) ((x1 ++ y1) ++ (x3 ++ y3)) = (c, (x1 ++ y1, x3 ++ y3, refl, (x1, y1, refl, from_test l c x1 sc, m), (e, refl, (x3, y3, refl, from_step l e x3 se he, n)))) in
-    let head : HeadText l (i, c, e) (p ++ (a ++ ((x1 ++ y1) ++ (x3 ++ y3)))) = (p, a ++ ((x1 ++ y1) ++ (x3 ++ y3)), refl, s, (i, (a, (x1 ++ y1) ++ (x3 ++ y3), refl, (si, hi), t))) in
+pub rest_head : (l : ℕ) (i : InitTree) (c : Option CondTree) (e : Option AssignTree) (R : Texts) (z : Pieces) → ForRest l i c e R z → (HeadText l (i, c, e) ⋅ R) z
+rest_head l i c e R z (p, q, f, s, (a, b, g, si, (x1, x2, w1, sc, (y1, y2, w2, m, (x3, x4, w3, se, (y3, v, w4, n, r)))))) =
+    let t : TestText l i (i, c, e) ((x1 ++ y1) ++ (x3 ++ y3)) = (c, (x1 ++ y1, x3 ++ y3, refl, (x1, y1, refl, from_test l c x1 sc, m), (e, refl, (x3, y3, refl, from_step l e x3 se, n)))) in
+    let head : HeadText l (i, c, e) (p ++ (a ++ ((x1 ++ y1) ++ (x3 ++ y3)))) = (p, a ++ ((x1 ++ y1) ++ (x3 ++ y3)), refl, s, (i, (a, (x1 ++ y1) ++ (x3 ++ y3), refl, si, t))) in
     let whole : z ≡ (p ++ (a ++ ((x1 ++ y1) ++ (x3 ++ y3)))) ++ v = rw (f, g, w1, w2, w3, w4) (simp append_assoc) in
     (p ++ (a ++ ((x1 ++ y1) ++ (x3 ++ y3))), v, whole, head, r)

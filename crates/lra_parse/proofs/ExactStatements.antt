@@ -1,37 +1,36 @@
 -- The readers of statements that are no block are exact.
-use Rattle.std.proofs.Common.{◌≡◌, ℕ, ◌+◌, ◌≤◌, true, false, ◌⊎◌, [], ◌++◌, Option, Some, None, refl, sym, ap, subst, ◌∙◌, arith, inl, inr}
+use Rattle.std.proofs.Common.{◌≡◌, ℕ, ◌+◌, ◌≤◌, true, false, ◌⊎◌, [], ◌∷◌, ◌++◌, Option, Some, None, refl, sym, ap, subst, ◌∙◌, append_assoc, arith, inl, inr}
 use Rattle.std.specs.Bool.{⊤}
 use Rattle.std.proofs.lemmas.List.{append-nil}
 use Rattle.lra_tree.specs.declared.refusals.Place.{Place}
 use Rattle.lra_tree.specs.declared.tokens.Mark.{Mark}
 use Rattle.lra_tree.specs.declared.tokens.Mark.TheVariants as mark
 use Rattle.lra_tree.specs.declared.tokens.Token.{Token}
+use Rattle.lra_tree.specs.declared.trees.Identifier.{Identifier}
 use Rattle.lra_tree.specs.declared.trees.Step.{Step}
 use Rattle.lra_tree.specs.declared.trees.Step.TheVariants as step
-use Rattle.lra_tree.specs.Texts.{Pieces, Texts, ◌⋅◌, opens, mark as spells, opens_at}
-use Rattle.lra_tree.specs.Trees.{CondTree, AssignTree, InitTree, StmtTree, block, nothing, assign, call, if_only, if_else, while, for, break, continue, return, assert, assume}
-use Rattle.lra_tree.specs.Grammar.{InParens, TakesElse, IsStmt}
-use Rattle.lra_tree.specs.Built.{IsBuiltStmt}
+use Rattle.lra_tree.specs.Texts.{Pieces, Texts, ◌⋅◌, opens, mark as spells, opens_at, name}
+use Rattle.lra_tree.specs.Trees.{CondTree, CallTree, AssignTree, increment, after, InitTree, StmtTree, block, nothing, assign, call, if_only, if_else, while, for, break, continue, return, assert, assume}
+use Rattle.lra_tree.specs.Grammar.{InParens, IsSource, IsAssign, TakesElse, IsStmt}
 use Rattle.lra_parse.specs.Tests.{is_mark}
-use Rattle.lra_parse.specs.Reading.{Parse, seq}
+use Rattle.lra_parse.specs.Reading.{Parse, seq, next_name, has}
 use Rattle.lra_parse.specs.Expressions.{in_parens, cond_at}
-use Rattle.lra_parse.specs.Statements.{StmtMark, at_nothing, at_if, at_while, at_for, at_break, at_continue, at_return, at_assert, at_assume, stmt_mark, else_part, read_if, read_while, for_of, read_for, read_jump, read_return, read_check, simple_form, simple_of}
+use Rattle.lra_parse.specs.Statements.{StmtMark, at_nothing, at_if, at_while, at_for, at_break, at_continue, at_return, at_assert, at_assume, stmt_mark, else_part, read_if, read_while, for_of, read_for, read_jump, read_return, read_check, named_rest, read_assigned, simple_form, simple_of}
 use Rattle.lra_parse.proofs.Exact.{Exact, Any, Free, Both, first_or, then}
-use Rattle.lra_parse.proofs.Forms.{rename, widen, entry, given as given_fact, mapped, choose, branch, exact_done}
-use Rattle.lra_parse.proofs.Tokens.{IsInner, exact_expect_at, some_place}
+use Rattle.lra_parse.proofs.Forms.{rename, widen, entry, given as given_fact, mapped, choose, branch, where_told, exact_done}
+use Rattle.lra_parse.proofs.Tokens.{IsInner, exact_expect_at, exact_name, some_place}
+use Rattle.lra_parse.proofs.Chain.{regroup}
 use Rattle.lra_parse.proofs.Parts.{token, exact_behind, exact_ended}
 use Rattle.lra_parse.proofs.ExactExpressions.{Of, first_opened}
 use Rattle.lra_parse.proofs.ExactConditions.{some_cond, exact_cond, exact_parens}
-use Rattle.lra_parse.proofs.ExactAssignments.{mark_of_step, SourceText, AssignText, exact_assign, placed_first, assign_no_mark, assign_stops}
+use Rattle.lra_parse.proofs.ExactSources.{CallText, exact_call_rest, call_out, call_in}
+use Rattle.lra_parse.proofs.ExactAssignments.{mark_of_step, RestText, rest_assign, rest_no_open, BeforeText, NamedText, from_assign, exact_assign_rest, exact_assign, placed_first, assign_no_mark, assign_stops}
 use Rattle.lra_parse.proofs.ExactHeads.{OptionText, exact_returned, to_returned, from_returned, HeadText, some_head, exact_head, head_rest, rest_head}
 
 -- statements -------------------------------------------------------------------------------------------------------
 
 abbrev pub AfterStmt : StmtTree → Option Token → Type 0
 AfterStmt t o = TakesElse t → is_mark mark.Else o ≡ false
-
-abbrev pub StmtText : ℕ → ℕ → StmtTree → Texts
-StmtText o l t z = IsStmt o l t z × IsBuiltStmt t
 
 abbrev pub IsBlock : StmtTree → Type 0
 IsBlock (block is end) = ⊤
@@ -49,7 +48,7 @@ IsBlock (assert at c) = ⊥
 IsBlock (assume at c) = ⊥
 
 abbrev pub SimpleText : ℕ → ℕ → StmtTree → Texts
-SimpleText o l t z = StmtText o l t z × (IsBlock t → ⊥)
+SimpleText o l t z = IsStmt o l t z × (IsBlock t → ⊥)
 
 abbrev pub mark_of_stmt : StmtMark → Mark
 mark_of_stmt at_nothing = mark.Semicolon
@@ -63,7 +62,7 @@ mark_of_stmt at_assert = mark.Assert
 mark_of_stmt at_assume = mark.Assume
 
 abbrev pub BranchText : ℕ → StmtTree → Texts
-BranchText l t = StmtText (l + 1) (l + 1) t
+BranchText l t = IsStmt (l + 1) (l + 1) t
 
 abbrev pub ElseText : ℕ → Place → CondTree → StmtTree → StmtTree → Texts
 ElseText l at c t b z = ((opens mark.Else 0 ⋅ Of (if_else at c t) (BranchText l) b) z × (TakesElse t → ⊥)) ⊎ ((b ≡ if_only at c t) × (z ≡ []))
@@ -84,10 +83,21 @@ abbrev pub JumpText : ℕ → Mark → (Place → StmtTree) → StmtTree → Tex
 JumpText o m make b = Of make (λ at. opens_at m at o ⋅ spells mark.Semicolon) b
 
 abbrev pub ReturnText : ℕ → ℕ → StmtTree → Texts
-ReturnText o l b z = Both (λ at z. opens_at mark.Return at o z) (λ at b. Of (return at) (λ e. OptionText (SourceText l) e ⋅ spells mark.Semicolon) b) b z
+ReturnText o l b z = Both (λ at z. opens_at mark.Return at o z) (λ at b. Of (return at) (λ e. OptionText (IsSource l) e ⋅ spells mark.Semicolon) b) b z
 
 abbrev pub CheckText : ℕ → ℕ → Mark → (Place → CondTree → StmtTree) → StmtTree → Texts
 CheckText o l m make b z = Both (λ at z. opens_at m at o z) (λ at b. Of (make at) (λ c. InParens l c ⋅ spells mark.Semicolon) b) b z
+
+-- behind a name that a statement begins with
+abbrev NamedRest : ℕ → Identifier → StmtTree → Texts
+NamedRest l x b z = Of call (λ c. CallText l x c ⋅ spells mark.Semicolon) b z ⊎ Of assign (λ a. RestText l x a ⋅ spells mark.Semicolon) b z
+
+abbrev NamedStmt : ℕ → ℕ → StmtTree → Texts
+NamedStmt o l b z = Both (λ x. name x o) (NamedRest l) b z
+
+-- an assignment that begins with no name
+abbrev SteppedStmt : ℕ → ℕ → StmtTree → Texts
+SteppedStmt o l b z = Of assign (λ a. IsAssign o l a ⋅ spells mark.Semicolon) b z × (has (next_name (first_or z None)) ≡ false)
 
 -- the forms, by what the next token is
 abbrev pub SimpleAt : ℕ → ℕ → Option StmtMark → StmtTree → Texts
@@ -100,63 +110,84 @@ SimpleAt o l (Some at_continue) b = JumpText o mark.Continue continue b
 SimpleAt o l (Some at_return) b = ReturnText o l b
 SimpleAt o l (Some at_assert) b = CheckText o l mark.Assert assert b
 SimpleAt o l (Some at_assume) b = CheckText o l mark.Assume assume b
-SimpleAt o l None b = Of assign (λ a. AssignText o l a ⋅ spells mark.Semicolon) b
+SimpleAt o l None b = λ z. NamedStmt o l b z ⊎ SteppedStmt o l b z
 
 if_simple : (o l : ℕ) (at : Place) (c : CondTree) (t b : StmtTree) (x y u v p q z : Pieces) → z ≡ x ++ y → opens_at mark.If at o x → y ≡ u ++ v → InParens l c u → v ≡ p ++ q → BranchText l t p → ElseText l at c t b q → SimpleText o l b z
 if_simple o l at c t b x y u v p q z e s f h g k (inl ((i, j, n, m, (a, w, r)), shut)) =
-    subst (λ (d : StmtTree). SimpleText o l d z) w ((((x, y, e, s, (u, v, f, h, (p, q, g, k.0, (i, j, n, m, r.0)))), shut), (k.1, r.1)), (λ d. d))
+    subst (λ (d : StmtTree). SimpleText o l d z) w (((x, y, e, s, (u, v, f, h, (p, q, g, k, (i, j, n, m, r)))), shut), (λ d. d))
 if_simple o l at c t b x y u v p q z e s f h g k (inr (w, n)) =
     let whole : v ≡ p = g ∙ ap (λ (i : Pieces). p ++ i) n ∙ append-nil p in
-    subst (λ (d : StmtTree). SimpleText o l d z) (sym w) (((x, y, e, s, (u, v, f, h, subst (λ (i : Pieces). IsStmt (l + 1) (l + 1) t i) (sym whole) k.0)), k.1), (λ d. d))
+    subst (λ (d : StmtTree). SimpleText o l d z) (sym w) ((x, y, e, s, (u, v, f, h, subst (λ (i : Pieces). IsStmt (l + 1) (l + 1) t i) (sym whole) k)), (λ d. d))
 
 while_simple : (o l : ℕ) (b : StmtTree) (z : Pieces) → WhileText o l b z → SimpleText o l b z
-while_simple o l b z (at, (x, y, e, s, (c, (u, v, f, h, (t, g, r))))) = subst (λ (d : StmtTree). SimpleText o l d z) g (((x, y, e, s, (u, v, f, h, r.0)), r.1), (λ d. d))
+while_simple o l b z (at, (x, y, e, s, (c, (u, v, f, h, (t, g, r))))) = subst (λ (d : StmtTree). SimpleText o l d z) g ((x, y, e, s, (u, v, f, h, r)), (λ d. d))
 
 for_simple : (o l : ℕ) (b : StmtTree) (z : Pieces) → ForText o l b z → SimpleText o l b z
 for_simple o l b z (at, (x, y, e, s, (h, (u, v, f, k, (t, g, r))))) =
-    let rest = head_rest l h (λ w. IsStmt (l + 1) (l + 1) t w) y (u, v, f, k, r.0) in
-    subst (λ (d : StmtTree). SimpleText o l d z) g (((x, y, e, s, rest.0), (rest.1, rest.2, r.1)), (λ d. d))
+    subst (λ (d : StmtTree). SimpleText o l d z) g ((x, y, e, s, head_rest l h (λ w. IsStmt (l + 1) (l + 1) t w) y (u, v, f, k, r)), (λ d. d))
 
 jump_simple : (o l : ℕ) (m : Mark) (make : Place → StmtTree) → ((at : Place) (z : Pieces) → (opens_at m at o ⋅ spells mark.Semicolon) z → SimpleText o l (make at) z) → (b : StmtTree) (z : Pieces) → JumpText o m make b z → SimpleText o l b z
 jump_simple o l m make whole b z (at, g, t) = subst (λ (d : StmtTree). SimpleText o l d z) g (whole at z t)
 
 return_simple : (o l : ℕ) (b : StmtTree) (z : Pieces) → ReturnText o l b z → SimpleText o l b z
-return_simple o l b z (at, (x, y, e, s, (a, g, (u, v, f, r, t)))) =
-    let k = to_returned l a u r in
-    subst (λ (d : StmtTree). SimpleText o l d z) g (((x, y, e, s, (u, v, f, k.0, t)), k.1), (λ d. d))
+return_simple o l b z (at, (x, y, e, s, (a, g, (u, v, f, r, t)))) = subst (λ (d : StmtTree). SimpleText o l d z) g ((x, y, e, s, (u, v, f, to_returned l a u r, t)), (λ d. d))
+
+named_simple : (o l : ℕ) (b : StmtTree) (z : Pieces) → NamedStmt o l b z → SimpleText o l b z
+named_simple o l b z (x, (u, v, e, s, inl (c, g, (p, q, f, r, t)))) =
+    subst (λ (d : StmtTree). SimpleText o l d z) g ((u ++ p, q, e ∙ ap (λ (w : Pieces). u ++ w) f ∙ sym (append_assoc u p q), call_out o l x c u p s r, t), (λ d. d))
+named_simple o l b z (x, (u, v, e, s, inr (a, g, (p, q, f, r, t)))) =
+    subst (λ (d : StmtTree). SimpleText o l d z) g ((u ++ p, q, e ∙ ap (λ (w : Pieces). u ++ w) f ∙ sym (append_assoc u p q), rest_assign o l x a u p (u ++ p) refl s r, t), (λ d. d))
+
+assign_simple : (o l : ℕ) (b : StmtTree) (z : Pieces) → Of assign (λ a. IsAssign o l a ⋅ spells mark.Semicolon) b z → SimpleText o l b z
+assign_simple o l b z (a, g, t) = subst (λ (d : StmtTree). SimpleText o l d z) g (t, (λ d. d))
 
 to_simple : (o l : ℕ) (k : Option StmtMark) (b : StmtTree) (z : Pieces) → SimpleAt o l k b z → SimpleText o l b z
-to_simple o l (Some at_nothing) b z (at, f, s) = subst (λ (d : StmtTree). SimpleText o l d z) f ((s, tt), (λ d. d))
+to_simple o l (Some at_nothing) b z (at, f, s) = subst (λ (d : StmtTree). SimpleText o l d z) f (s, (λ d. d))
 to_simple o l (Some at_if) b z (at, (x, y, e, s, (c, (u, v, f, h, (t, (p, q, g, k, r)))))) = if_simple o l at c t b x y u v p q z e s f h g k r
 to_simple o l (Some at_while) b z s = while_simple o l b z s
 to_simple o l (Some at_for) b z s = for_simple o l b z s
-to_simple o l (Some at_break) b z s = jump_simple o l mark.Break break (λ at w t. ((t, tt), (λ d. d))) b z s
-to_simple o l (Some at_continue) b z s = jump_simple o l mark.Continue continue (λ at w t. ((t, tt), (λ d. d))) b z s
+to_simple o l (Some at_break) b z s = jump_simple o l mark.Break break (λ at w t. (t, (λ d. d))) b z s
+to_simple o l (Some at_continue) b z s = jump_simple o l mark.Continue continue (λ at w t. (t, (λ d. d))) b z s
 to_simple o l (Some at_return) b z s = return_simple o l b z s
-to_simple o l (Some at_assert) b z (at, (x, y, e, s, (c, f, t))) = subst (λ (d : StmtTree). SimpleText o l d z) f (((x, y, e, s, t), tt), (λ d. d))
-to_simple o l (Some at_assume) b z (at, (x, y, e, s, (c, f, t))) = subst (λ (d : StmtTree). SimpleText o l d z) f (((x, y, e, s, t), tt), (λ d. d))
-to_simple o l None b z (a, f, (x, y, e, s, t)) = subst (λ (d : StmtTree). SimpleText o l d z) f (((x, y, e, s.0, t), s.1), (λ d. d))
+to_simple o l (Some at_assert) b z (at, (x, y, e, s, (c, f, t))) = subst (λ (d : StmtTree). SimpleText o l d z) f ((x, y, e, s, t), (λ d. d))
+to_simple o l (Some at_assume) b z (at, (x, y, e, s, (c, f, t))) = subst (λ (d : StmtTree). SimpleText o l d z) f ((x, y, e, s, t), (λ d. d))
+to_simple o l None b z (inl s) = named_simple o l b z s
+to_simple o l None b z (inr s) = assign_simple o l b z s.0
 
-simple_for : (o l : ℕ) (at : Place) (i : InitTree) (c : Option CondTree) (a : Option AssignTree) (t : StmtTree) (z : Pieces) → StmtText o l (for at i c a t) z → ForText o l (for at i c a t) z
-simple_for o l at i c a t z ((x, y, e, s, r), k) =
-    let w = rest_head l i c a (λ w. IsStmt (l + 1) (l + 1) t w) y r k.0 k.1 in
-    (at, (x, y, e, s, ((i, c, a), (w.0, w.1, w.2, w.3, (t, refl, (w.4, k.2))))))
+simple_for : (o l : ℕ) (at : Place) (i : InitTree) (c : Option CondTree) (a : Option AssignTree) (t : StmtTree) (z : Pieces) → IsStmt o l (for at i c a t) z → ForText o l (for at i c a t) z
+simple_for o l at i c a t z (x, y, e, s, r) =
+    let w = rest_head l i c a (λ w. IsStmt (l + 1) (l + 1) t w) y r in
+    (at, (x, y, e, s, ((i, c, a), (w.0, w.1, w.2, w.3, (t, refl, w.4)))))
+
+simple_call : (o l : ℕ) (c : CallTree) (z : Pieces) → IsStmt o l (call c) z → NamedStmt o l (call c) z
+simple_call o l c z (x, y, e, (p, q, f, m, r), t) = (c.name, (p, q ++ y, e ∙ regroup x y p q f, m, inl (c, refl, (q, y, refl, call_in l c q r, t))))
+
+simple_assign : (o l : ℕ) (a : AssignTree) (x y z : Pieces) → z ≡ x ++ y → IsAssign o l a x → spells mark.Semicolon y → BeforeText o a x ⊎ NamedText o l a x → SimpleAt o l None (assign a) z
+simple_assign o l a x y z e s t (inl (j, (u, v, f, m, r))) = inr ((a, refl, (x, y, e, s, t)), rw (e, f, m) refl)
+simple_assign o l a x y z e s t (inr (i, (u, v, f, m, r))) = inl (i, (u, v ++ y, e ∙ regroup x y u v f, m, inr (a, refl, (v, y, refl, r, t))))
 
 pub from_simple : (o l : ℕ) (b : StmtTree) (z : Pieces) → SimpleText o l b z → (k : Option StmtMark) × SimpleAt o l k b z
 from_simple o l (block is end) z (s, n) = absurd (n tt)
-from_simple o l (nothing at) z ((s, k), n) = (Some at_nothing, (at, refl, s))
-from_simple o l (assign a) z (((x, y, e, s, t), k), n) = (None, (a, refl, (x, y, e, (s, k), t)))
-from_simple o l (call c) z (s, n) = absurd s.1
-from_simple o l (if_only at c t) z (((x, y, e, s, (u, v, f, h, r)), k), n) = (Some at_if, (at, (x, y, e, s, (c, (u, v, f, h, (t, (v, [], sym (append-nil v), (r, k), inr (refl, refl))))))))
-from_simple o l (if_else at c t d) z ((((x, y, e, s, (u, v, f, h, (p, q, g, r, (i, j, w, m, a)))), shut), k), n) =
-    (Some at_if, (at, (x, y, e, s, (c, (u, v, f, h, (t, (p, q, g, (r, k.0), inl ((i, j, w, m, (d, refl, (a, k.1))), shut))))))))
-from_simple o l (while at c t) z (((x, y, e, s, (u, v, f, h, r)), k), n) = (Some at_while, (at, (x, y, e, s, (c, (u, v, f, h, (t, refl, (r, k)))))))
+from_simple o l (nothing at) z (s, n) = (Some at_nothing, (at, refl, s))
+from_simple o l (assign a) z ((x, y, e, s, t), n) = (None, simple_assign o l a x y z e s t (from_assign o l a x s))
+from_simple o l (call c) z (s, n) = (None, inl (simple_call o l c z s))
+from_simple o l (if_only at c t) z ((x, y, e, s, (u, v, f, h, r)), n) = (Some at_if, (at, (x, y, e, s, (c, (u, v, f, h, (t, (v, [], sym (append-nil v), r, inr (refl, refl))))))))
+from_simple o l (if_else at c t d) z (((x, y, e, s, (u, v, f, h, (p, q, g, r, (i, j, w, m, a)))), shut), n) =
+    (Some at_if, (at, (x, y, e, s, (c, (u, v, f, h, (t, (p, q, g, r, inl ((i, j, w, m, (d, refl, a)), shut))))))))
+from_simple o l (while at c t) z ((x, y, e, s, (u, v, f, h, r)), n) = (Some at_while, (at, (x, y, e, s, (c, (u, v, f, h, (t, refl, r))))))
 from_simple o l (for at i c a t) z (s, n) = (Some at_for, simple_for o l at i c a t z s)
-from_simple o l (break at) z (((x, y, e, s, t), k), n) = (Some at_break, (at, refl, (x, y, e, s, t)))
-from_simple o l (continue at) z (((x, y, e, s, t), k), n) = (Some at_continue, (at, refl, (x, y, e, s, t)))
-from_simple o l (return at a) z (((x, y, e, s, (u, v, f, r, t)), k), n) = (Some at_return, (at, (x, y, e, s, (a, refl, (u, v, f, from_returned l a u r k, t)))))
-from_simple o l (assert at c) z (((x, y, e, s, t), k), n) = (Some at_assert, (at, (x, y, e, s, (c, refl, t))))
-from_simple o l (assume at c) z (((x, y, e, s, t), k), n) = (Some at_assume, (at, (x, y, e, s, (c, refl, t))))
+from_simple o l (break at) z ((x, y, e, s, t), n) = (Some at_break, (at, refl, (x, y, e, s, t)))
+from_simple o l (continue at) z ((x, y, e, s, t), n) = (Some at_continue, (at, refl, (x, y, e, s, t)))
+from_simple o l (return at a) z ((x, y, e, s, (u, v, f, r, t)), n) = (Some at_return, (at, (x, y, e, s, (a, refl, (u, v, f, from_returned l a u r, t)))))
+from_simple o l (assert at c) z ((x, y, e, s, t), n) = (Some at_assert, (at, (x, y, e, s, (c, refl, t))))
+from_simple o l (assume at c) z ((x, y, e, s, t), n) = (Some at_assume, (at, (x, y, e, s, (c, refl, t))))
+
+some_none : {A : Type 0} {a : A} → (let o : Option A = Some a in o) ≡ None → ⊥
+some_none e = cc
+
+same_first : (z : Pieces) (k : Option Token) → (z ≡ [] → ⊥) → first_or z k ≡ first_or z None
+same_first [] k h = absurd (h refl)
+same_first (t ∷ z) k h = refl
 
 step_stmt : (s : Step) (at : Place) → stmt_mark (Some (token (mark_of_step s) at)) ≡ None
 step_stmt step.Increment at = refl
@@ -172,10 +203,23 @@ simple_begins o l (Some at_continue) b z i (at, f, (x, y, e, s, t)) = placed_fir
 simple_begins o l (Some at_return) b z i (at, (x, y, e, s, t)) = placed_first (λ j. stmt_mark j ≡ Some at_return) mark.Return at o x y z i e s refl
 simple_begins o l (Some at_assert) b z i (at, (x, y, e, s, t)) = placed_first (λ j. stmt_mark j ≡ Some at_assert) mark.Assert at o x y z i e s refl
 simple_begins o l (Some at_assume) b z i (at, (x, y, e, s, t)) = placed_first (λ j. stmt_mark j ≡ Some at_assume) mark.Assume at o x y z i e s refl
-simple_begins o l None b z i (a, f, (x, y, e, s, t)) = assign_no_mark o l a x y z i e s (λ j. stmt_mark j ≡ None) (λ n. refl) step_stmt
+simple_begins o l None b z i (inl (x, (u, v, e, s, r))) = rw (e, s) refl
+simple_begins o l None b z i (inr ((a, f, (x, y, e, s, t)), k)) = assign_no_mark o l a x y z i e s (λ j. stmt_mark j ≡ None) (λ n. refl) step_stmt
 
-some_stmt : (o l : ℕ) → (t : StmtTree) × (x : Pieces) × StmtText o l t x
-some_stmt o l = (nothing some_place, _, (refl, tt))
+call_open : (l : ℕ) (x : Identifier) (c : CallTree) (u v z : Pieces) (k : Option Token) → z ≡ u ++ v → CallText l x c u → is_mark mark.OpenParen (first_or z k) ≡ true
+call_open l x c u v z k e (p, q, f, s, r) = first_opened (λ i. is_mark mark.OpenParen i ≡ true) mark.OpenParen 0 p (q ++ v) z k (e ∙ regroup u v p q f) s (λ at. refl)
+
+-- an assignment has a first token
+assign_long : (o l : ℕ) (a : AssignTree) (x y z : Pieces) → z ≡ x ++ y → IsAssign o l a x → z ≡ [] → ⊥
+assign_long o l a x y z e s n =
+    let f : (first_or z None ≡ None) → ⊥ = assign_no_mark o l a x y z None e s (λ i. (i ≡ None) → ⊥) (λ i. some_none) (λ i at. some_none) in
+    f (ap (λ (w : Pieces). first_or w None) n)
+
+assign_again : (o l : ℕ) (a : AssignTree) (x y z : Pieces) (k : Option Token) → z ≡ x ++ y → IsAssign o l a x → has (next_name (first_or z None)) ≡ false → has (next_name (first_or z k)) ≡ false
+assign_again o l a x y z k e s f = ap (λ (i : Option Token). has (next_name i)) (same_first z k (assign_long o l a x y z e s)) ∙ f
+
+some_stmt : (o l : ℕ) → (t : StmtTree) × (x : Pieces) × IsStmt o l t x
+some_stmt o l = (nothing some_place, _, refl)
 
 module _ (n d l o : ℕ) (h : d + l ≡ n) (low : o ≤ n) (branches : Parse StmtTree) (B : Exact n IsInner branches Any (BranchText l) (BranchText l) AfterStmt) where
   conds : Exact n IsInner (in_parens (cond_at d)) Any (InParens l) (InParens l) Free
@@ -262,6 +306,29 @@ module _ (n d l o : ℕ) (h : d + l ≡ n) (low : o ≤ n) (branches : Parse Stm
       (λ at z v. (make at c.0, _, (at, (z, _, refl, v, (c.0, refl, (_, _, refl, (_, _, refl, (some_place, refl), (_, _, refl, c.2, (some_place, refl))), (some_place, refl)))))))
       (λ at b x y s r. (at, (x, y, refl, s, r)))
 
+  exact_named : (x : Identifier) → Exact n IsInner (named_rest d x) Any (NamedRest l x) (NamedRest l x) AfterStmt
+  exact_named x =
+      let calls = mapped (exact_ended mark.Semicolon (exact_call_rest n d l h x) (λ c at. tt)) call AfterStmt (λ c k f t. absurd t) (λ c k f. tt) in
+      let assigns = mapped (exact_ended mark.Semicolon (exact_assign_rest n d l h x) assign_stops) assign AfterStmt (λ a k f t. absurd t) (λ a k f. tt) in
+      branch (is_mark mark.OpenParen) (entry (widen calls (NamedRest l x) (λ b z s. inl s)) (λ k. ⊤ × (is_mark mark.OpenParen k ≡ true)) (λ k i. tt))
+      (entry (widen assigns (NamedRest l x) (λ b z s. inr s)) (λ k. ⊤ × (is_mark mark.OpenParen k ≡ false)) (λ k i. tt))
+      (λ b z k s f. call_open l x s.0 s.2.0 s.2.1 z k s.2.2 s.2.3)
+      (λ b z k s f. rest_no_open l x s.0 s.2.0 s.2.1 z k s.2.2 s.2.3)
+
+  -- an assignment or a call, with its semicolon
+  exact_assigned : Exact n IsInner (read_assigned d) Any (SimpleAt o l None) (SimpleText o l) AfterStmt
+  exact_assigned =
+      let named = then (exact_name n o low) exact_named (NamedStmt o l)
+      (λ x b y k s f. tt)
+      (λ x z v. (assign (after x increment), _, (x, (z, _, refl, v, inr (after x increment, refl, (_, _, refl, inr (inr ((step.Increment, some_place), refl, refl)), (some_place, refl)))))))
+      (λ x b u v s r. (x, (u, v, refl, s, r))) in
+      let assigns = mapped (exact_ended mark.Semicolon (exact_assign n d l o h low) assign_stops) assign AfterStmt (λ a k f t. absurd t) (λ a k f. tt) in
+      let stepped = where_told assigns (λ k. has (next_name k)) false (λ b z s. assign_long o l s.0 s.2.0 s.2.1 z s.2.2 s.2.3) in
+      branch (λ k. has (next_name k)) (entry (widen named (SimpleText o l) (λ b z s. named_simple o l b z s)) (λ k. ⊤ × (has (next_name k) ≡ true)) (λ k i. tt))
+      (entry (widen stepped (SimpleText o l) (λ b z s. assign_simple o l b z s)) (λ k. ⊤ × (has (next_name k) ≡ false)) (λ k i. (i.1, tt)))
+      (λ b z k s f. rw (s.1.2, s.1.3) refl)
+      (λ b z k s f. assign_again o l s.0.0 s.0.2.0 s.0.2.1 z k s.0.2.2 s.0.2.3 s.1)
+
   abbrev SimpleKey : Option StmtMark → Option Token → Type 0
   SimpleKey k i = (stmt_mark i ≡ k) × Any i
 
@@ -275,8 +342,7 @@ module _ (n d l o : ℕ) (h : d + l ≡ n) (low : o ≤ n) (branches : Parse Stm
   each_simple (Some at_return) = entry (widen exact_return (SimpleText o l) (λ b z s. return_simple o l b z s)) (SimpleKey (Some at_return)) (λ k i. tt)
   each_simple (Some at_assert) = entry (widen (exact_check mark.Assert assert (λ at c t. t)) (SimpleText o l) (λ b z s. to_simple o l (Some at_assert) b z s)) (SimpleKey (Some at_assert)) (λ k i. tt)
   each_simple (Some at_assume) = entry (widen (exact_check mark.Assume assume (λ at c t. t)) (SimpleText o l) (λ b z s. to_simple o l (Some at_assume) b z s)) (SimpleKey (Some at_assume)) (λ k i. tt)
-  each_simple None =
-      entry (widen (mapped (exact_ended mark.Semicolon (exact_assign n d l o h low) assign_stops) assign AfterStmt (λ a k f t. absurd t) (λ a k f. tt)) (SimpleText o l) (λ b z s. to_simple o l None b z s)) (SimpleKey None) (λ k i. tt)
+  each_simple None = entry exact_assigned (SimpleKey None) (λ k i. tt)
 
   pub exact_simple : Exact n IsInner (simple_of d branches) Any (SimpleText o l) (SimpleText o l) AfterStmt
   exact_simple = rename (choose stmt_mark each_simple (λ k b z i s f. simple_begins o l k b z i s)) (SimpleText o l) (λ b z s. to_simple o l s.0 b z s.1) (λ b z s. from_simple o l b z s)

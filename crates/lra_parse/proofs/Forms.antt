@@ -66,6 +66,16 @@ module _ {n : ℕ} {Q : Token → Type 0} {A : Type 0} {p : Parse A} {E : Option
     one = λ x y a b R s s' low low' i f f' e. P.one x y a b R s s' low low' i (into a _ f) (into b _ f') e;
   }
 
+  -- what its beginning tells of the token behind a text
+  pub noted : (G : A → Option Token → Type 0) → ((a : A) (x : Pieces) (o : Option Token) → S a x → E (first_or x o) → G a o) → Exact n Q p E S V (λ a o. F a o × G a o)
+  noted G h = record {
+    ok = λ T a R i e. let l = P.ok T a R i e in (l.0, l.1, l.2, l.3, l.4, (l.5, h a l.0 (first R) l.4 (subst E (ap first l.1 ∙ sym (first_or-is l.0 R)) i)));
+    err = P.err;
+    again = λ x a R s low i f. P.again x a R s low i f.0;
+    deep = P.deep;
+    one = λ x y a b R s s' low low' i f f' e. P.one x y a b R s s' low low' i f.0 f'.0 e;
+  }
+
   -- a fact that holds wherever the reader begins
   pub given : (G : Type 0) → ((o : Option Token) → E o → G) → Exact n Q p E (λ a x. S a x × G) (λ a x. V a x × G) F
   given G h = record {

@@ -16,21 +16,21 @@ use Rattle.lra_parse.proofs.Answered.{tree_found, text_fault}
 use Rattle.lra_parse.proofs.FaultExamples.{in_line, token_at, mark_token, all_inner, no_end, main_head}
 
 -- the tokens, and the end
-abbrev ended_at : Text → ℕ → Text
+abbrev pub ended_at : Text → ℕ → Text
 ended_at T column = T ++ token_at End column ∷ []
 
-ends : (T : Text) (column : ℕ) → all_inner T ≡ true → EndsOnce (ended_at T column)
+pub ends : (T : Text) (column : ℕ) → all_inner T ≡ true → EndsOnce (ended_at T column)
 ends T column e = record { front = T; last = token_at End column; parts = refl; is_end = refl; no_other = no_end T e }
 
 -- int main(void){ and the body, up to the `}` and the end
-abbrev main_of : ItemsTree → ℕ → FileTree
+abbrev pub main_of : ItemsTree → ℕ → FileTree
 main_of body column =
     record { parts = function (record { has_result = true; name = record { word = codes "main"; place = in_line 5 }; parameters = []; body = body; end = in_line column }) ∷ []; end = in_line (column + 1) }
 
 abbrev x_at : ℕ → Identifier
 x_at column = record { word = codes "x"; place = in_line column }
 
-abbrev number : ℕ → ExprTree
+abbrev pub number : ℕ → ExprTree
 number n = term (unary (literal n))
 
 abbrev nonzero : ℕ → CondTree

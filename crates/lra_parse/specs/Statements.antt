@@ -1,4 +1,4 @@
--- Readers of assignments, declarations and statements. d levels of nesting are left.
+-- Readers of calls, assignments, declarations and statements. d levels of nesting are left.
 use Rattle.std.specs.Prelude.{◌≡◌, ℕ, zero, suc, Bool, true, cond, ◌||◌, List, [], ◌∷◌, Option, Some, None, Ok, option_map}
 use Rattle.lra_tree.specs.declared.refusals.Place.{Place}
 use Rattle.lra_tree.specs.declared.refusals.Cause.TheVariants.{Syntax, TooDeep}
@@ -10,11 +10,11 @@ use Rattle.lra_tree.specs.declared.trees.Operator.{Operator}
 use Rattle.lra_tree.specs.declared.trees.Operator.TheVariants as operator
 use Rattle.lra_tree.specs.declared.trees.Step.{Step}
 use Rattle.lra_tree.specs.declared.trees.Step.TheVariants as step
-use Rattle.lra_tree.specs.Trees.{CondTree, SourceTree, expression, AssignTree, set, update, after, before, DeclaratorTree, DeclarationTree, InitTree, no_init, assigned, declared as declared_first, StmtTree, block, nothing, assign, if_only, if_else, while, for, break, continue, return, assert, assume, ItemsTree, no_items, declaration, statement}
+use Rattle.lra_tree.specs.Trees.{UnaryTree, variable, unary, ExprTree, term, CondTree, CallTree, SourceTree, expression, result, AssignTree, set, update, after, before, DeclaratorTree, DeclarationTree, InitTree, no_init, assigned, declared as declared_first, StmtTree, block, nothing, assign, call, if_only, if_else, while, for, break, continue, return, assert, assume, ItemsTree, no_items, declaration, statement}
 use Rattle.lra_tree.specs.Views.{operator_view, step_view}
 use Rattle.lra_parse.specs.Tests.{first, is_mark}
 use Rattle.lra_parse.specs.Reading.{Text, Parse, stop, seq, map_read, done_with, tail, expect, expect_at, place_of, take_by, next_name, has, one_of, list_of}
-use Rattle.lra_parse.specs.Expressions.{behind, ended, in_parens, expr_at, cond_at}
+use Rattle.lra_parse.specs.Expressions.{behind, ended, in_parens, factors, summands, unary_at, expr_at, cond_at}
 
 -- the text behind the mark, if it is there
 abbrev pub skip : Mark → Text → Text
@@ -23,6 +23,33 @@ skip m T = cond (is_mark m (first T)) (tail T) T
 -- items with commas between them
 abbrev pub commas : {A : Type 0} → Parse A → Parse (A × List A)
 commas p = seq p (λ a. map_read (λ further. (a, further)) (list_of (is_mark mark.Comma) (behind mark.Comma p)))
+
+-- calls, and what a variable gets or a `return` gives --------------------------------------------------------------------
+
+abbrev pub listed : {A : Type 0} → A × List A → List A
+listed es = es.0 ∷ es.1
+
+-- behind the opening parenthesis
+abbrev pub arguments_at : ℕ → Parse (List ExprTree)
+arguments_at d T = cond (is_mark mark.CloseParen (first T)) (expect mark.CloseParen [] T) (ended mark.CloseParen (map_read listed (commas (expr_at d))) T)
+
+abbrev pub call_of : Identifier → List ExprTree → CallTree
+call_of x es = record { name = x; arguments = es }
+
+-- behind the name of a function
+abbrev pub call_rest : ℕ → Identifier → Parse CallTree
+call_rest d x = behind mark.OpenParen (map_read (call_of x) (arguments_at d))
+
+-- behind a unary that an expression begins with
+abbrev pub source_from : ℕ → UnaryTree → Parse SourceTree
+source_from d a = seq (factors (unary_at d) (unary a)) (λ t. map_read expression (summands (unary_at d) (term t)))
+
+-- behind a name
+abbrev pub source_rest : ℕ → Identifier → Parse SourceTree
+source_rest d x T = cond (is_mark mark.OpenParen (first T)) (map_read result (call_rest d x) T) (source_from d (variable x) T)
+
+abbrev pub source_at : ℕ → Parse SourceTree
+source_at d T = cond (has (next_name (first T))) (seq (take_by next_name) (source_rest d) T) (map_read expression (expr_at d) T)
 
 -- assignments ------------------------------------------------------------------------------------------------------
 
@@ -39,9 +66,6 @@ step_marks = (mark.Increment, step.Increment) ∷ (mark.Decrement, step.Decremen
 -- `++` or `--`, with its place
 abbrev pub next_step : Option Token → Option (Step × Place)
 next_step o = option_map (λ s. (s, place_of o)) (one_of step_marks o)
-
-abbrev pub source_at : ℕ → Parse SourceTree
-source_at d = map_read expression (expr_at d)
 
 -- behind the name of the variable
 abbrev pub assign_rest : ℕ → Identifier → Parse AssignTree
@@ -79,7 +103,7 @@ declaration_at d = seq type_words (λ _. ended mark.Semicolon (map_read declarat
 
 -- statements -------------------------------------------------------------------------------------------------------
 
--- the marks that begin a statement that is no block and no assignment
+-- the marks that begin a statement that is no block, no assignment and no call
 pub data StmtMark : Type 0 where
   at_nothing : StmtMark
   at_if : StmtMark
@@ -153,8 +177,13 @@ read_check d m make = seq (expect_at m) (λ at. map_read (make at) (ended mark.S
 abbrev pub read_nothing : Parse StmtTree
 read_nothing = map_read nothing (expect_at mark.Semicolon)
 
+-- behind a name that a statement begins with
+abbrev pub named_rest : ℕ → Identifier → Parse StmtTree
+named_rest d x T = cond (is_mark mark.OpenParen (first T)) (map_read call (ended mark.Semicolon (call_rest d x)) T) (map_read assign (ended mark.Semicolon (assign_rest d x)) T)
+
+-- an assignment or a call
 abbrev pub read_assigned : ℕ → Parse StmtTree
-read_assigned d = map_read assign (ended mark.Semicolon (assign_at d))
+read_assigned d T = cond (has (next_name (first T))) (seq (take_by next_name) (named_rest d) T) (map_read assign (ended mark.Semicolon (assign_at d)) T)
 
 -- the forms of a statement that is no block; branch reads a branch
 abbrev pub simple_form : ℕ → Parse StmtTree → Option StmtMark → Parse StmtTree

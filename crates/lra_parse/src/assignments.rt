@@ -1,15 +1,16 @@
 //! Assignments and declarations. A function reads where `depth` levels of nesting are left.
 
 ghost use Rattle.std.specs.Prelude.{◌≡◌, ◌<◌, ◌≤◌, length, IfOk};
-ghost use Rattle.lra_tree.specs.Views.{source_view, assign_view, declarator_view, declaration_view};
+ghost use Rattle.lra_tree.specs.Views.{assign_view, declarator_view, declaration_view};
 ghost use Rattle.lra_parse.specs.Tests.{first};
 ghost use Rattle.lra_parse.specs.Reading.{Gives, map_read};
-ghost use Rattle.lra_parse.specs.Statements.{skip, commas, update_operator, next_step, source_at, assign_rest, step_first, assign_at, type_words, given, declarator_at, declaration_of, declaration_at};
+ghost use Rattle.lra_parse.specs.Statements.{skip, commas, update_operator, next_step, assign_rest, step_first, assign_at, type_words, given, declarator_at, declaration_of, declaration_at};
 
+use crate::calls::read_source;
 use crate::expressions::read_expr;
 use crate::reading::{Stopped, expect, next_is, read_name, stop, tail};
 use lra_tree::{
-    Assign, Cause, Declaration, Declarator, Identifier, Mark, Operator, Place, Source, Step, Token,
+    Assign, Cause, Declaration, Declarator, Identifier, Mark, Operator, Place, Step, Token,
 };
 use std::alloc::Global;
 
@@ -57,19 +58,6 @@ pub fn skip(rest: &[Token], mark: Mark) -> &[Token]
     }
 }
 
-/// What a variable gets, or a `return` gives.
-pub fn read_source(
-    alloc: Global,
-    rest: &[Token],
-    depth: usize,
-) -> Result<(Source, &[Token]), Stopped>
-    ensures shorter { IfOk result (λ r. length r.1.now ≤ length rest.now) }
-    ensures gives { Gives (λ r. (source_view r.0, r.1.now)) result (source_at depth rest.now) }
-{
-    let (expr, after) = read_expr(alloc, rest, depth)?;
-    Ok((Source::Value(expr), after))
-}
-
 /// `++x` or `--x`
 fn read_step_first(alloc: Global, rest: &[Token]) -> Result<(Assign, &[Token]), Stopped>
     ensures shorter { IfOk result (λ r. length r.1.now < length rest.now) }
@@ -85,7 +73,7 @@ fn read_step_first(alloc: Global, rest: &[Token]) -> Result<(Assign, &[Token]), 
 }
 
 /// The assignment to a variable whose name was read.
-fn read_assign_rest(
+pub fn read_assign_rest(
     alloc: Global,
     name: Identifier,
     rest: &[Token],

@@ -8,6 +8,7 @@ ghost use Rattle.lra_tree.specs.Faults.{OneTree, OneTextFault};
 ghost use Rattle.lra_tree.specs.Built.{Built};
 
 mod assignments;
+mod calls;
 mod conditions;
 mod expressions;
 mod functions;

@@ -12,7 +12,8 @@ ghost use Rattle.lra_parse.specs.Statements.{source_at, assign_at, up_to, init_o
 ghost use Rattle.lra_parse.specs.Statements.{read_jump, read_return};
 ghost use Rattle.lra_parse.specs.Heads.{head_view};
 
-use crate::assignments::{read_assign, read_declaration, read_source};
+use crate::assignments::{read_assign, read_declaration};
+use crate::calls::read_source;
 use crate::conditions::read_cond;
 use crate::reading::{Stopped, expect, expect_at, next_is, tail};
 use lra_tree::{Assign, Cond, Init, Mark, Place, Source, Stmt, Token};

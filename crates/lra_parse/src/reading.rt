@@ -2,7 +2,7 @@
 
 ghost use Rattle.std.specs.Prelude.{◌≡◌, ℕ, ◌<◌, ◌≤◌, length, IfOk};
 ghost use Rattle.lra_parse.specs.Tests.{is_mark, first};
-ghost use Rattle.lra_parse.specs.Reading.{Gives, expect, expect_at, next_name, next_number, tail, take_by};
+ghost use Rattle.lra_parse.specs.Reading.{Gives, expect, expect_at, has, next_name, next_number, tail, take_by};
 
 use lra_tree::{Cause, Identifier, Kind, Mark, Place, Token};
 use std::alloc::{AllocError, AllocFailed, Global};
@@ -109,6 +109,19 @@ pub fn next_number(rest: &[Token]) -> Option<u64>
             _ => None,
         },
         None => None,
+    }
+}
+
+/// Whether the next token is a name.
+pub fn next_is_name(rest: &[Token]) -> bool
+    ensures { result ≡ has (next_name (first rest.now)) }
+{
+    match rest.first() {
+        Some(token) => match &token.kind {
+            Kind::Name(_word) => true,
+            _ => false,
+        },
+        None => false,
     }
 }
 

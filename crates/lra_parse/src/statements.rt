@@ -6,33 +6,20 @@ ghost use Rattle.lra_tree.specs.Trees.{assert, assume};
 ghost use Rattle.lra_tree.specs.declared.tokens.Mark.TheVariants.{Assert, Assume, CloseBrace};
 ghost use Rattle.lra_parse.specs.Tests.{first};
 ghost use Rattle.lra_parse.specs.Reading.{Gives, expect_at, map_read, has};
-ghost use Rattle.lra_parse.specs.Reading.{next_name};
 ghost use Rattle.lra_parse.specs.Expressions.{in_parens, cond_at};
-ghost use Rattle.lra_parse.specs.Statements.{stmt_mark, begins_stmt, begins_item, read_nothing, read_assigned, read_check, read_if, else_part, read_while, read_for, simple_at, branch_at, block_at, item_at, items_at, body_of, put};
+ghost use Rattle.lra_parse.specs.Statements.{stmt_mark, begins_stmt, begins_item, read_nothing, named_rest, read_assigned, read_check, read_if, else_part, read_while, read_for, simple_at, branch_at, block_at, item_at, items_at, body_of, put};
 
-use crate::assignments::{next_step, read_assign, read_declaration};
+use crate::assignments::{next_step, read_assign, read_assign_rest, read_declaration};
+use crate::calls::read_call;
 use crate::conditions::read_cond;
 use crate::loops::{
     begins_jump, begins_loop, read_break, read_continue, read_for_head, read_return,
 };
-use crate::reading::{Stopped, expect, expect_at, next_is, stop, tail};
-use lra_tree::{Block, BlockItem, Cause, Cond, Kind, Mark, Place, Stmt, Token};
+use crate::reading::{Stopped, expect, expect_at, next_is, next_is_name, read_name, stop, tail};
+use lra_tree::{Block, BlockItem, Cause, Cond, Identifier, Mark, Place, Stmt, Token};
 use std::alloc::Global;
 
-// Whether the next token is a name.
-fn next_is_name(rest: &[Token]) -> bool
-    ensures { result ≡ has (next_name (first rest.now)) }
-{
-    match rest.first() {
-        Some(token) => match &token.kind {
-            Kind::Name(_word) => true,
-            _ => false,
-        },
-        None => false,
-    }
-}
-
-// Whether the next token is a mark that begins a statement which is no block and no assignment.
+// Whether the next token is a mark that begins a statement which is no block, no assignment and no call.
 fn begins_simple(rest: &[Token]) -> bool
     ensures { result ≡ has (stmt_mark (first rest.now)) }
 {
@@ -89,13 +76,37 @@ fn read_nothing(rest: &[Token]) -> Result<(Stmt, &[Token]), Stopped>
     Ok((Stmt::Nothing(place), after))
 }
 
-/// An assignment with its semicolon.
+/// A call or an assignment with its semicolon, behind the name that it begins with.
+fn read_named(
+    alloc: Global,
+    name: Identifier,
+    rest: &[Token],
+    depth: usize,
+) -> Result<(Stmt, &[Token]), Stopped>
+    ensures shorter { IfOk result (λ r. length r.1.now < length rest.now) }
+    ensures gives { Gives (λ r. (stmt_view r.0, r.1.now)) result (named_rest depth name rest.now) }
+{
+    if next_is(rest, Mark::OpenParen) {
+        let (call, closed) = read_call(alloc, name, rest, depth)?;
+        let behind = expect(closed, Mark::Semicolon)?;
+        return Ok((Stmt::Call(call), behind));
+    }
+    let (assign, end) = read_assign_rest(alloc, name, rest, depth)?;
+    let after = expect(end, Mark::Semicolon)?;
+    Ok((Stmt::Assign(assign), after))
+}
+
+/// An assignment or a call, with its semicolon.
 fn read_assigned(alloc: Global, rest: &[Token], depth: usize) -> Result<(Stmt, &[Token]), Stopped>
     ensures shorter { IfOk result (λ r. length r.1.now < length rest.now) }
     ensures gives { Gives (λ r. (stmt_view r.0, r.1.now)) result (read_assigned depth rest.now) }
 {
-    let (assign, behind) = read_assign(alloc, rest, depth)?;
-    let after = expect(behind, Mark::Semicolon)?;
+    if next_is_name(rest) {
+        let (name, behind) = read_name(alloc, rest)?;
+        return read_named(alloc, name, behind, depth);
+    }
+    let (assign, end) = read_assign(alloc, rest, depth)?;
+    let after = expect(end, Mark::Semicolon)?;
     Ok((Stmt::Assign(assign), after))
 }
 
