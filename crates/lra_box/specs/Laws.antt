@@ -52,6 +52,7 @@ box_laws = record {
   answers_yes = λ h v mode w. w;
   answers_no = λ h v mode w. w;
   given_up_stores = λ old mode new e s l. whole_has old.dims new e s l;
+  given_up_valued = λ old mode new e. (new, refl);
   given_up_value = λ old mode new v e is. (1, is ∙ e);
 }
 

@@ -13,7 +13,7 @@ use std::cmp::Ordering;
 pub enum Order {
     /// Inequalities: by the first column other than 0 from 1 up, then the greater one first.
     Inequalities,
-    /// Points or rays: by their columns, column 0 last.
+    /// Points alone, or rays alone: by their columns, column 0 last. A list of both has its points first.
     Generators,
     /// Equalities or lines: by pivot, column 0 last.
     Pivots,

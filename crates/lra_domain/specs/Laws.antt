@@ -30,9 +30,10 @@ pub record Laws {V H : Type 0} (m : Meaning V H) : Type 0 where
   -- an inclusion answers Yes only where next lies in the head, No only where it doesn't
   pub answers_yes : (h : H) (v : V) (mode : Mode) → m.answers h v mode Yes → m.stays h v mode
   pub answers_no : (h : H) (v : V) (mode : Mode) → m.answers h v mode No → ¬ m.stays h v mode
-  -- a head that is given up has all stores, and its value is universal
+  -- a head that is given up has all stores; it has a defined value, and each such value is universal
   pub given_up_stores : (old : H) (mode : Mode) (new : H) → m.given_up old mode new
       → (s : List ℤ) → length s ≡ m.head_dims old → m.head_has new s
+  pub given_up_valued : (old : H) (mode : Mode) (new : H) → m.given_up old mode new → (v : V) × m.valued new v
   pub given_up_value : (old : H) (mode : Mode) (new : H) (v : V) → m.given_up old mode new → m.valued new v
       → (cap : ℕ) × m.universal (m.head_dims old) cap v
 

@@ -56,6 +56,7 @@ gauge_laws = record {
   answers_yes = λ h v mode u. u;
   answers_no = λ h v mode u. u;
   given_up_stores = λ old mode new is s long. whole_has old.dims new is s long;
+  given_up_valued = λ old mode new is. (new, refl);
   given_up_value = λ old mode new v is e. (1, subst (λ (g : Gauge). IsGauge old.dims unbounded g) (sym e) is);
 }
 

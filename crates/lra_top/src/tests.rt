@@ -161,7 +161,7 @@ flagged at line 5
 ";
 
 /// Words, a source, the read and the write that are to fail, the status, and the whole text that is written.
-static ANSWERS: [(&str, Pieces, (u64, u64), Status, &str); 84] = [
+static ANSWERS: [(&str, Pieces, (u64, u64), Status, &str); 89] = [
     (BOXES, PROVED, SOUND, Status::Proved, PROVED_REPORT),
     (BOXES, UNKNOWN, SOUND, Status::Unknown, UNKNOWN_REPORT),
     (BOXES, BOUNDED, SOUND, Status::Unknown, BOUNDED_REPORT),
@@ -596,6 +596,13 @@ static ANSWERS: [(&str, Pieces, (u64, u64), Status, &str); 84] = [
     ),
     (
         BOXES,
+        ("int main(void){ f(); }", "", 0, ""),
+        SOUND,
+        Status::Refused,
+        "refused 7 UnknownName at 1:17\n",
+    ),
+    (
+        BOXES,
         ("int main(void){ long x; long x; }", "", 0, ""),
         SOUND,
         Status::Refused,
@@ -614,6 +621,13 @@ static ANSWERS: [(&str, Pieces, (u64, u64), Status, &str); 84] = [
         SOUND,
         Status::Refused,
         "refused 8 DuplicateName at 1:22\n",
+    ),
+    (
+        BOXES,
+        ("int main(void){ main(1); }", "", 0, ""),
+        SOUND,
+        Status::Refused,
+        "refused 9 BadCall at 1:17\n",
     ),
     (
         BOXES,
@@ -649,6 +663,32 @@ static ANSWERS: [(&str, Pieces, (u64, u64), Status, &str); 84] = [
         SOUND,
         Status::Refused,
         "refused 10 Misplaced at 1:17\n",
+    ),
+    (
+        BOXES,
+        ("int main(void){ main(); }", "", 0, ""),
+        SOUND,
+        Status::Refused,
+        "refused 11 Recursive at 1:17\n",
+    ),
+    (
+        BOXES,
+        ("int main(void){ long x=main(); break; }", "", 0, ""),
+        SOUND,
+        Status::Refused,
+        "refused 10 Misplaced at 1:32\n",
+    ),
+    (
+        BOXES,
+        (
+            "int main(void){ long x=1; x=main(); return main(); }",
+            "",
+            0,
+            "",
+        ),
+        SOUND,
+        Status::Refused,
+        "refused 11 Recursive at 1:29\n",
     ),
     (
         BOXES,
