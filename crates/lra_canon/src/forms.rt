@@ -1,6 +1,7 @@
 //! Reduced echelon forms.
 
-ghost use Rattle.std.specs.Prelude.{◌≡◌, ◌≤◌, ◌<◌, ◌↔◌, ◌++◌, ℕ, List, ℤ, [], length, take, IsTrue, IfOk, IfErr, OnOk, OnErr, slice_index_or};
+ghost use Rattle.std.specs.Prelude.{◌≡◌, ◌≤◌, ◌<◌, ◌↔◌, ◌++◌, ℕ, [], length, slice_index_or};
+ghost use Rattle.std.specs.Prelude.{IsTrue, IfOk, IfErr, OnOk, OnErr};
 ghost use Rattle.std.specs.List.{All};
 ghost use Rattle.lra_linear.specs.Echelon.{Before, IsEchelonOf, pivot};
 ghost use Rattle.lra_canon.specs.Reduced.{IsForm};

@@ -69,8 +69,8 @@ fn remove_marked(rows: &mut Vec<Row>, gone: &BitRow)
 
 /// Takes out the redundant inequalities, and their rows of the matrix. Where row `i` of the matrix tells at which
 /// generators row `i` is tight, the rows that stay have the same solutions, and lists with the same solutions get the
-/// same rows. A row goes where another one that is left is tight wherever it is (Le Verge 1992, Fukuda and Prodon 1996);
-/// no number is computed. Want of memory leaves both lists as they were.
+/// same rows. A row goes where another one that is left is tight wherever it is (Le Verge 1992, Fukuda and Prodon
+/// 1996); no number is computed. Want of memory leaves both lists as they were.
 pub fn drop_redundant(rows: &mut Vec<Row>, saturation: &mut SatMatrix) -> Result<(), AllocError>
     requires { length saturation.old.rows ≡ length rows.old.items }
     ensures kept { OnOk result (AreKept rows.old.items rows.new.items saturation.old saturation.new) }

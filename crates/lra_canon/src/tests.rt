@@ -50,32 +50,24 @@ fn is_order(mut rows: Vec<Row>, order: Order, want: &[[i128; 3]]) -> Result<bool
     Ok(has_rows(&rows, want))
 }
 
-/// Each order with rows that another order would leave as they stand.
+/// Inequalities with rows that another order would leave as they stand.
+#[test]
+fn order_of_inequalities(rt: HostRuntime) -> Result<(), Fail> {
+    let rows = three(rt.alloc(), &[0, 0, 1], &[1, -1, 0], &[0, 1, 0])?;
+    let want = [[0, 1, 0], [1, -1, 0], [0, 0, 1]];
+    assert!(rt; is_order(rows, Order::Inequalities, &want)?);
+    Ok(())
+}
+
+/// Likewise generators, whose column 0 decides last, and lines, of which one has no other column.
 #[test]
 fn orders(rt: HostRuntime) -> Result<(), Fail> {
-    let alloc = rt.alloc();
-    let inequalities = [[0, 1, 0], [1, -1, 0], [0, 0, 1]];
-    let points = [[2, -1, 0], [1, 0, 0], [1, 0, 2]];
-    let lines = [[0, 3, 1], [0, 0, 1], [1, 0, 0]];
-    for is_so in [
-        is_order(
-            three(alloc, &[0, 0, 1], &[1, -1, 0], &[0, 1, 0])?,
-            Order::Inequalities,
-            &inequalities,
-        )?,
-        is_order(
-            three(alloc, &[1, 0, 2], &[1, 0, 0], &[2, -1, 0])?,
-            Order::Generators,
-            &points,
-        )?,
-        is_order(
-            three(alloc, &[1, 0, 0], &[0, 0, 1], &[0, 3, 1])?,
-            Order::Pivots,
-            &lines,
-        )?,
-    ] {
-        assert!(rt; is_so);
-    }
+    let points = three(rt.alloc(), &[1, 0, 2], &[1, 0, 0], &[2, -1, 0])?;
+    let want = [[2, -1, 0], [1, 0, 0], [1, 0, 2]];
+    assert!(rt; is_order(points, Order::Generators, &want)?);
+    let lines = three(rt.alloc(), &[1, 0, 0], &[0, 0, 1], &[0, 3, 1])?;
+    let want = [[0, 3, 1], [0, 0, 1], [1, 0, 0]];
+    assert!(rt; is_order(lines, Order::Pivots, &want)?);
     Ok(())
 }
 
@@ -111,17 +103,29 @@ fn forms(rt: HostRuntime) -> Result<(), Fail> {
     Ok(())
 }
 
-/// A number passes as a row is reduced, and as a row of the form is cleared at the pivot of the next one.
+/// 2 times the greatest number passes as the second row is reduced by the first.
 #[test]
-fn excesses_of_forms(rt: HostRuntime) -> Result<(), Fail> {
-    let reducing = form_passes(three(rt.alloc(), &[0, 2, 1], &[MAX, 1, 0], &[0, 0, 1])?);
-    let clearing = form_passes(three(rt.alloc(), &[MAX, 1, 1], &[-1, 0, 1], &[0, 0, 0])?);
-    for (got, op, left, right) in [
-        (reducing, Operation::Product, 2, MAX),
-        (clearing, Operation::Sum, MAX, 1),
-    ] {
-        assert_eq!(rt; got, Some(Excess { op, left, right }));
-    }
+fn excess_of_a_row(rt: HostRuntime) -> Result<(), Fail> {
+    let rows = three(rt.alloc(), &[0, 2, 1], &[MAX, 1, 0], &[0, 0, 1])?;
+    let want = Excess {
+        op: Operation::Product,
+        left: 2,
+        right: MAX,
+    };
+    assert_eq!(rt; form_passes(rows), Some(want));
+    Ok(())
+}
+
+/// The greatest number and 1 pass as the first row is cleared at the pivot of the second.
+#[test]
+fn excess_of_the_form(rt: HostRuntime) -> Result<(), Fail> {
+    let rows = three(rt.alloc(), &[MAX, 1, 1], &[-1, 0, 1], &[0, 0, 0])?;
+    let want = Excess {
+        op: Operation::Sum,
+        left: MAX,
+        right: 1,
+    };
+    assert_eq!(rt; form_passes(rows), Some(want));
     Ok(())
 }
 
@@ -156,13 +160,19 @@ fn reduction_passes(alloc: Global, numbers: &[i128]) -> Result<Option<Excess>, A
     Ok(excess_of(reduce(&mut row, &form)))
 }
 
+/// A row that is 0 at the pivot takes no step, but lowest terms.
+#[test]
+fn no_reduction(rt: HostRuntime) -> Result<(), Fail> {
+    assert!(rt; is_reduced(rt.alloc(), &[4, 0, 6], &[2, 0, 3])?);
+    Ok(())
+}
+
 /// Rows by 2 x1 + x2 = 0: their entry of column 1 is cleared by the factors 2 and minus that entry.
 #[test]
 fn reductions(rt: HostRuntime) -> Result<(), Fail> {
     let alloc = rt.alloc();
     for is_so in [
         is_reduced(alloc, &[1, 3, 4], &[2, 0, 5])?,
-        is_reduced(alloc, &[4, 0, 6], &[2, 0, 3])?,
         is_reduced(alloc, &[-1, -2, 0], &[-1, 0, 1])?,
         is_reduced(alloc, &[0, 4, 2], &[0, 0, 0])?,
     ] {
