@@ -17,7 +17,7 @@ use crate::declarations::{add_declaration, take_label};
 use crate::errors::NamesError;
 use crate::scopes::Scope;
 use crate::simple::resolve_assignment;
-use lra_tree::{Assign, Cond, Init, Item, program};
+use lra_tree::{Assign, Cond, Init, program};
 use std::alloc::Global;
 
 /// The label of a statement with a condition, and the condition.
@@ -101,7 +101,7 @@ pub fn resolve_head(
 }
 
 pub fn resolve_assert(
-    alloc: Global,
+    around: &Around<'_>,
     scope: &Scope,
     next: &mut usize,
     cond: &Cond,
@@ -110,12 +110,12 @@ pub fn resolve_assert(
     ensures found { IfOk result (λ s. stmt_view s ≡ assert_stmt next.old (resolve_cond scope.now (tree_cond_view cond.now))) }
     ensures counted { OnOk result (next.new ≡ suc next.old) }
 {
-    let head = resolve_head(alloc, scope, next, cond)?;
+    let head = resolve_head(around.alloc, scope, next, cond)?;
     Ok(head.into_assert())
 }
 
 pub fn resolve_assume(
-    alloc: Global,
+    around: &Around<'_>,
     scope: &Scope,
     next: &mut usize,
     cond: &Cond,
@@ -124,7 +124,7 @@ pub fn resolve_assume(
     ensures found { IfOk result (λ s. stmt_view s ≡ assume_stmt next.old (resolve_cond scope.now (tree_cond_view cond.now))) }
     ensures counted { OnOk result (next.new ≡ suc next.old) }
 {
-    let head = resolve_head(alloc, scope, next, cond)?;
+    let head = resolve_head(around.alloc, scope, next, cond)?;
     Ok(head.into_assume())
 }
 
@@ -139,18 +139,17 @@ pub fn block_of(items: Vec<program::BlockItem>) -> program::BlockItems
 /// Begins the scope of a `for`, and resolves how it begins.
 #[tactic(auto, using(crate::proofs::StatementLaws::init_rules))]
 fn resolve_init(
-    alloc: Global,
-    parts: &[Item],
+    around: &Around<'_>,
     scope: &mut Scope,
     next: &mut usize,
     init: &Init,
 ) -> Result<program::BlockItems, NamesError>
-    ensures told { TellsOf (init_faults (functions_at parts.now) scope.old (init_view init.now)) result }
-    ensures found { IfOk result (λ b. items_view b ≡ resolve_init (functions_at parts.now) scope.old next.old (init_view init.now)) }
+    ensures told { TellsOf (init_faults (functions_at around.now.parts.now) scope.old (init_view init.now)) result }
+    ensures found { IfOk result (λ b. items_view b ≡ resolve_init (functions_at around.now.parts.now) scope.old next.old (init_view init.now)) }
     ensures entered { OnOk result (scope.new ≡ for_scope scope.old (init_view init.now)) }
     ensures counted { OnOk result (next.new ≡ next.old + init_count (init_view init.now)) }
 {
-    let mut items = Vec::new(alloc);
+    let mut items = Vec::new(around.alloc);
     match init {
         Init::Nothing => {
             scope.enter();
@@ -158,11 +157,18 @@ fn resolve_init(
         }
         Init::Declaration(declaration) => {
             scope.enter();
-            add_declaration(alloc, parts, scope, next, declaration, &mut items)?;
+            add_declaration(
+                around.alloc,
+                around.parts,
+                scope,
+                next,
+                declaration,
+                &mut items,
+            )?;
             Ok(block_of(items))
         }
         Init::Assign(assign) => {
-            let stmt = resolve_assignment(alloc, parts, scope, next, assign)?;
+            let stmt = resolve_assignment(around, scope, next, assign)?;
             items.push(program::BlockItem::Statement(stmt))?;
             scope.enter();
             Ok(block_of(items))
@@ -186,19 +192,18 @@ fn resolve_for_test(
 }
 
 fn resolve_step(
-    alloc: Global,
-    parts: &[Item],
+    around: &Around<'_>,
     scope: &Scope,
     next: &mut usize,
     step: &Option<Assign>,
 ) -> Result<program::Stmt, NamesError>
-    ensures told { TellsOf (step_faults (functions_at parts.now) scope.now (option_map assign_view step.now)) result }
-    ensures found { IfOk result (λ s. stmt_view s ≡ resolve_step (functions_at parts.now) scope.now next.old (option_map assign_view step.now)) }
+    ensures told { TellsOf (step_faults (functions_at around.now.parts.now) scope.now (option_map assign_view step.now)) result }
+    ensures found { IfOk result (λ s. stmt_view s ≡ resolve_step (functions_at around.now.parts.now) scope.now next.old (option_map assign_view step.now)) }
     ensures counted { OnOk result (next.new ≡ next.old + step_count (option_map assign_view step.now)) }
 {
     match step {
         None => Ok(program::Stmt::Absent),
-        Some(assign) => resolve_assignment(alloc, parts, scope, next, assign),
+        Some(assign) => resolve_assignment(around, scope, next, assign),
     }
 }
 
@@ -256,9 +261,9 @@ pub fn resolve_for_head(
     ensures counted { OnOk result (next.new ≡ suc next.old + init_count (init_view rounds.now.init.now) + step_count (option_map assign_view rounds.now.step.now)) }
 {
     let label = take_label(next)?;
-    let init = resolve_init(around.alloc, around.parts, scope, next, rounds.init)?;
+    let init = resolve_init(around, scope, next, rounds.init)?;
     let cond = resolve_for_test(around.alloc, scope, rounds.test)?;
-    let step = resolve_step(around.alloc, around.parts, scope, next, rounds.step)?;
+    let step = resolve_step(around, scope, next, rounds.step)?;
     let head = Head { label, cond };
     Ok(ForHead { init, head, step })
 }

@@ -16,8 +16,7 @@ use crate::calls::{resolve_assign, resolve_call, resolve_given};
 use crate::declarations::take_label;
 use crate::errors::{NamesError, refuse};
 use crate::scopes::Scope;
-use lra_tree::{Assign, Call, Cause, Item, Place, Source, program};
-use std::alloc::Global;
+use lra_tree::{Assign, Call, Cause, Place, Source, program};
 
 /// A statement that does nothing.
 #[tactic(auto, using(crate::proofs::Loops::wanting_told))]
@@ -32,34 +31,32 @@ pub fn resolve_nothing(next: &mut usize) -> Result<program::Stmt, NamesError>
 
 /// An assignment under the next label.
 pub fn resolve_assignment(
-    alloc: Global,
-    parts: &[Item],
+    around: &Around<'_>,
     scope: &Scope,
     next: &mut usize,
     assign: &Assign,
 ) -> Result<program::Stmt, NamesError>
-    ensures told { TellsOf (assign_faults (functions_at parts.now) scope.now (assign_view assign.now)) result }
-    ensures found { IfOk result (λ s. stmt_view s ≡ resolve_assign (functions_at parts.now) scope.now next.old (assign_view assign.now)) }
+    ensures told { TellsOf (assign_faults (functions_at around.now.parts.now) scope.now (assign_view assign.now)) result }
+    ensures found { IfOk result (λ s. stmt_view s ≡ resolve_assign (functions_at around.now.parts.now) scope.now next.old (assign_view assign.now)) }
     ensures counted { OnOk result (next.new ≡ suc next.old) }
 {
     let label = take_label(next)?;
-    resolve_assign(alloc, parts, scope, label, assign)
+    resolve_assign(around.alloc, around.parts, scope, label, assign)
 }
 
 /// A call whose result isn't used.
 pub fn resolve_call_alone(
-    alloc: Global,
-    parts: &[Item],
+    around: &Around<'_>,
     scope: &Scope,
     next: &mut usize,
     call: &Call,
 ) -> Result<program::Stmt, NamesError>
-    ensures told { TellsOf (call_faults (functions_at parts.now) scope.now (call_view call.now) false) result }
-    ensures found { IfOk result (λ s. stmt_view s ≡ call_stmt next.old (resolve_call (functions_at parts.now) scope.now next.old (call_view call.now))) }
+    ensures told { TellsOf (call_faults (functions_at around.now.parts.now) scope.now (call_view call.now) false) result }
+    ensures found { IfOk result (λ s. stmt_view s ≡ call_stmt next.old (resolve_call (functions_at around.now.parts.now) scope.now next.old (call_view call.now))) }
     ensures counted { OnOk result (next.new ≡ suc next.old) }
 {
     let label = take_label(next)?;
-    let call = resolve_call(alloc, parts, scope, label, call, false)?;
+    let call = resolve_call(around.alloc, around.parts, scope, label, call, false)?;
     Ok(program::Stmt::Call(label, call))
 }
 
@@ -78,29 +75,29 @@ fn take_jump_label(in_loop: bool, next: &mut usize, place: Place) -> Result<usiz
 
 /// A `break`, in a loop or not.
 pub fn resolve_break(
-    in_loop: bool,
+    around: &Around<'_>,
     next: &mut usize,
     place: Place,
 ) -> Result<program::Stmt, NamesError>
-    ensures told { TellsOf (fault_if (not in_loop) Misplaced place) result }
+    ensures told { TellsOf (fault_if (not around.now.in_loop) Misplaced place) result }
     ensures found { IfOk result (λ s. stmt_view s ≡ break_of next.old) }
     ensures counted { OnOk result (next.new ≡ suc next.old) }
 {
-    let label = take_jump_label(in_loop, next, place)?;
+    let label = take_jump_label(around.in_loop, next, place)?;
     Ok(program::Stmt::Break(label))
 }
 
 /// A `continue`, in a loop or not.
 pub fn resolve_continue(
-    in_loop: bool,
+    around: &Around<'_>,
     next: &mut usize,
     place: Place,
 ) -> Result<program::Stmt, NamesError>
-    ensures told { TellsOf (fault_if (not in_loop) Misplaced place) result }
+    ensures told { TellsOf (fault_if (not around.now.in_loop) Misplaced place) result }
     ensures found { IfOk result (λ s. stmt_view s ≡ continue_of next.old) }
     ensures counted { OnOk result (next.new ≡ suc next.old) }
 {
-    let label = take_jump_label(in_loop, next, place)?;
+    let label = take_jump_label(around.in_loop, next, place)?;
     Ok(program::Stmt::Continue(label))
 }
 

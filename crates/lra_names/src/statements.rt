@@ -41,10 +41,8 @@ fn resolve_stmt(
     match stmt {
         Stmt::Block(block) => resolve_block(around, scope, next, block),
         Stmt::Nothing(_) => resolve_nothing(next),
-        Stmt::Assign(assign) => {
-            resolve_assignment(around.alloc, around.parts, scope, next, assign)
-        }
-        Stmt::Call(call) => resolve_call_alone(around.alloc, around.parts, scope, next, call),
+        Stmt::Assign(assign) => resolve_assignment(around, scope, next, assign),
+        Stmt::Call(call) => resolve_call_alone(around, scope, next, call),
         Stmt::If(_, cond, branch) => resolve_if(around, scope, next, cond, branch),
         Stmt::IfElse(_, cond, branch, other) => {
             resolve_if_else(around, scope, next, cond, branch, other)
@@ -53,11 +51,11 @@ fn resolve_stmt(
         Stmt::For(_, init, test, step, body) => {
             resolve_for(around, scope, next, &Rounds { init, test, step }, body)
         }
-        Stmt::Break(place) => resolve_break(around.in_loop, next, *place),
-        Stmt::Continue(place) => resolve_continue(around.in_loop, next, *place),
+        Stmt::Break(place) => resolve_break(around, next, *place),
+        Stmt::Continue(place) => resolve_continue(around, next, *place),
         Stmt::Return(place, source) => resolve_return(around, scope, next, *place, source),
-        Stmt::Assert(_, cond) => resolve_assert(around.alloc, scope, next, cond),
-        Stmt::Assume(_, cond) => resolve_assume(around.alloc, scope, next, cond),
+        Stmt::Assert(_, cond) => resolve_assert(around, scope, next, cond),
+        Stmt::Assume(_, cond) => resolve_assume(around, scope, next, cond),
     }
 }
 
