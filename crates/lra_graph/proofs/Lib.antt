@@ -29,6 +29,7 @@ pub mod Sizes
 pub mod Falling
 pub mod Items
 mod ItemRows
+mod CallingExample
 pub mod Programs
 -- What labels say of a limit's place.
 pub mod LabelPlaces

@@ -50,9 +50,10 @@ pub fn build(alloc: Global, program: &Program) -> Result<Graph, GraphError>
 #[cfg(test)]
 mod tests {
     use super::*;
+    use crate::points::Limit;
     use lra_tree::graph::Op;
     use lra_tree::program::{
-        BlockItem, BlockItems, Cond, Declarator, Expr, Function, Slot, Source, Stmt,
+        BlockItem, BlockItems, Call, Cond, Declarator, Expr, Function, Slot, Source, Stmt,
     };
     use std::test::Fail;
 
@@ -141,6 +142,72 @@ mod tests {
             assert_eq!(rt; site.asserts, asserts);
             assert!(rt; site.path.as_slice().is_empty());
         }
+        Ok(())
+    }
+
+    /// `void f(void){} int main(void){f();}`
+    fn calling(rt: &HostRuntime) -> Result<Program, Fail>
+        ensures { IfOk result (λ p. IsWellFormed (program_view p)) }
+    {
+        let mut functions = Vec::new(rt.alloc());
+        functions.push(Function {
+            parameters: 0,
+            body: BlockItems {
+                items: Vec::new(rt.alloc()),
+            },
+            end: 1,
+        })?;
+        let mut items = Vec::new(rt.alloc());
+        items.push(BlockItem::Statement(Stmt::Call(
+            2,
+            Call {
+                label: 2,
+                function: 0,
+                arguments: Vec::new(rt.alloc()),
+            },
+        )))?;
+        functions.push(Function {
+            parameters: 0,
+            body: BlockItems { items },
+            end: 3,
+        })?;
+        Ok(Program {
+            globals: Vec::new(rt.alloc()),
+            functions,
+            main: 1,
+        })
+    }
+
+    /// How many points the items of `main` have, where so many calls may still be made on a path.
+    fn count_points(
+        rt: &HostRuntime,
+        program: &Program,
+        calls_left: usize,
+    ) -> Result<usize, GraphError>
+        requires { IsWellFormed (program_view program.now) }
+    {
+        let main = &program.functions[program.main];
+        let path = Path::empty(rt.alloc());
+        let globals = program.globals.len();
+        let frame = Frame {
+            base: globals,
+            live: globals,
+            calls_left,
+            loop_length: None,
+            back: None,
+        };
+        let mut sites = Vec::new(rt.alloc());
+        let items = &main.body.items;
+        let _written = inline_items(rt.alloc(), program, &path, frame, items, &mut sites)?;
+        Ok(sites.len())
+    }
+
+    #[test]
+    fn a_call_past_the_limit_is_told(rt: HostRuntime) -> Result<(), Fail> {
+        let program = calling(&rt)?;
+        assert_eq!(rt; count_points(&rt, &program, 1), Ok(2));
+        let past = Err(GraphError::Passed(Limit::Calls(2)));
+        assert_eq!(rt; count_points(&rt, &program, 0), past);
         Ok(())
     }
 }
