@@ -16,10 +16,10 @@ use Rattle.lra_parse.proofs.Answered.{tree_found, text_fault}
 use Rattle.lra_parse.proofs.FaultExamples.{in_line, token_at, mark_token, main_head}
 use Rattle.lra_parse.proofs.LoopExamples.{ended_at, ends, main_of, number}
 
-abbrev word_at : List ℕ → ℕ → Token
+abbrev pub word_at : List ℕ → ℕ → Token
 word_at word column = token_at (Name word) column
 
-abbrev named_at : List ℕ → ℕ → Identifier
+abbrev pub named_at : List ℕ → ℕ → Identifier
 named_at word column = record { word = word; place = in_line column }
 
 -- trees -------------------------------------------------------------------------------------------------------------

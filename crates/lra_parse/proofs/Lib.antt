@@ -27,3 +27,4 @@ pub mod Ended
 pub mod FaultExamples
 pub mod LoopExamples
 pub mod CallExamples
+pub mod FunctionExamples

@@ -10,10 +10,10 @@ use Rattle.lra_tree.specs.declared.tokens.Kind.TheVariants.{Name, Number, Mark a
 use Rattle.lra_tree.specs.declared.tokens.Token.{Token}
 use Rattle.lra_tree.specs.declared.trees.Identifier.{Identifier}
 use Rattle.lra_tree.specs.Trees.{ItemsTree, FunctionTree, PartTree, function, FileTree}
-use Rattle.lra_parse.specs.Tests.{first}
-use Rattle.lra_parse.specs.Reading.{Parse, stop, seq, map_read, take_by, next_name, has, one_of, list_of}
-use Rattle.lra_parse.specs.Expressions.{behind}
-use Rattle.lra_parse.specs.Statements.{skip, type_words, body_of, items_at}
+use Rattle.lra_parse.specs.Tests.{first, is_mark}
+use Rattle.lra_parse.specs.Reading.{Parse, stop, seq, map_read, expect, take_by, next_name, has, one_of, list_of}
+use Rattle.lra_parse.specs.Expressions.{behind, ended}
+use Rattle.lra_parse.specs.Statements.{commas, listed, type_words, body_of, items_at}
 
 -- the last token, and no other, is the end
 pub record EndsOnce (tokens : List Token) : Type 0 where
@@ -48,23 +48,29 @@ head_mark o = one_of head_marks o
 -- whether there is a result, and the name
 abbrev pub head_form : Option HeadMark → Parse (Bool × Identifier)
 head_form (Some at_int) = behind mark.Int (map_read (λ x. (true, x)) (take_by next_main))
-head_form (Some at_type) = seq type_words (λ _. map_read (λ x. (true, x)) (take_by next_main))
-head_form (Some at_void) = behind mark.Void (map_read (λ x. (false, x)) (take_by next_main))
+head_form (Some at_type) = seq type_words (λ _. map_read (λ x. (true, x)) (take_by next_name))
+head_form (Some at_void) = behind mark.Void (map_read (λ x. (false, x)) (take_by next_name))
 head_form None = stop Syntax
 
 abbrev pub read_head : Parse (Bool × Identifier)
 read_head T = head_form (head_mark (first T)) T
 
-abbrev pub function_of : Bool × Identifier → ItemsTree × Place → FunctionTree
-function_of h b = record { has_result = h.0; name = h.1; parameters = []; body = b.0; end = b.1 }
+-- a type and a name
+abbrev pub parameter_at : Parse Identifier
+parameter_at = seq type_words (λ _. take_by next_name)
 
--- no parameters, and the body
-abbrev pub read_rest : ℕ → Parse (ItemsTree × Place)
-read_rest d = behind mark.CloseParen (body_of (items_at d))
+-- parameters with commas between them, `void` or nothing, and the closing parenthesis
+abbrev pub parameters_at : Parse (List Identifier)
+parameters_at T =
+    cond (is_mark mark.CloseParen (first T)) (expect mark.CloseParen [] T)
+    (cond (is_mark mark.Void (first T)) (behind mark.Void (expect mark.CloseParen []) T) (ended mark.CloseParen (map_read listed (commas parameter_at)) T))
+
+abbrev pub function_of : Bool × Identifier → List Identifier → ItemsTree × Place → FunctionTree
+function_of h ps b = record { has_result = h.0; name = h.1; parameters = ps; body = b.0; end = b.1 }
 
 -- d levels are left inside
 abbrev pub function_at : ℕ → Parse FunctionTree
-function_at d = seq read_head (λ h. map_read (function_of h) (behind mark.OpenParen (λ T. read_rest d (skip mark.Void T))))
+function_at d = seq read_head (λ h. behind mark.OpenParen (seq parameters_at (λ ps. map_read (function_of h ps) (body_of (items_at d)))))
 
 abbrev pub begins_part : Option Token → Bool
 begins_part o = has (head_mark o)

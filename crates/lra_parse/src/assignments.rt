@@ -47,7 +47,7 @@ pub fn next_step(rest: &[Token]) -> Option<(Step, Place)>
 }
 
 /// What comes behind the mark, if it is the next token, or else all.
-pub fn skip(rest: &[Token], mark: Mark) -> &[Token]
+fn skip(rest: &[Token], mark: Mark) -> &[Token]
     ensures shorter { length result.now ≤ length rest.now }
     ensures value { result.now ≡ skip mark rest.now }
 {
