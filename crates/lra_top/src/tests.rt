@@ -161,7 +161,7 @@ flagged at line 5
 ";
 
 /// Words, a source, the read and the write that are to fail, the status, and the whole text that is written.
-static ANSWERS: [(&str, Pieces, (u64, u64), Status, &str); 89] = [
+static ANSWERS: [(&str, Pieces, (u64, u64), Status, &str); 102] = [
     (BOXES, PROVED, SOUND, Status::Proved, PROVED_REPORT),
     (BOXES, UNKNOWN, SOUND, Status::Unknown, UNKNOWN_REPORT),
     (BOXES, BOUNDED, SOUND, Status::Unknown, BOUNDED_REPORT),
@@ -692,6 +692,102 @@ static ANSWERS: [(&str, Pieces, (u64, u64), Status, &str); 89] = [
     ),
     (
         BOXES,
+        ("void f(void){} int main(void){ f(1); }", "", 0, ""),
+        SOUND,
+        Status::Refused,
+        "refused 9 BadCall at 1:32\n",
+    ),
+    (
+        BOXES,
+        ("void f(void){} int main(void){ long x=f(); }", "", 0, ""),
+        SOUND,
+        Status::Refused,
+        "refused 9 BadCall at 1:39\n",
+    ),
+    (
+        BOXES,
+        ("void f(void){ return 1; } int main(void){}", "", 0, ""),
+        SOUND,
+        Status::Refused,
+        "refused 9 BadCall at 1:15\n",
+    ),
+    (
+        BOXES,
+        ("void f(void){ f(); } int main(void){}", "", 0, ""),
+        SOUND,
+        Status::Refused,
+        "refused 11 Recursive at 1:15\n",
+    ),
+    (
+        BOXES,
+        (
+            "void f(void){ g(); } void g(void){ f(); } int main(void){ f(); }",
+            "",
+            0,
+            "",
+        ),
+        SOUND,
+        Status::Refused,
+        "refused 11 Recursive at 1:15\n",
+    ),
+    (
+        BOXES,
+        ("void f(long x, long x){} int main(void){}", "", 0, ""),
+        SOUND,
+        Status::Refused,
+        "refused 8 DuplicateName at 1:21\n",
+    ),
+    (
+        BOXES,
+        ("void f(void){} long f(void){} int main(void){}", "", 0, ""),
+        SOUND,
+        Status::Refused,
+        "refused 8 DuplicateName at 1:21\n",
+    ),
+    (
+        BOXES,
+        ("long x; int main(void){}", "", 0, ""),
+        SOUND,
+        Status::Refused,
+        "refused 4 Syntax at 1:7\n",
+    ),
+    (
+        BOXES,
+        ("void f(void); int main(void){}", "", 0, ""),
+        SOUND,
+        Status::Refused,
+        "refused 4 Syntax at 1:13\n",
+    ),
+    (
+        BOXES,
+        ("int f(void){} int main(void){}", "", 0, ""),
+        SOUND,
+        Status::Refused,
+        "refused 4 Syntax at 1:5\n",
+    ),
+    (
+        BOXES,
+        ("void f(void,long a){} int main(void){}", "", 0, ""),
+        SOUND,
+        Status::Refused,
+        "refused 4 Syntax at 1:12\n",
+    ),
+    (
+        BOXES,
+        ("int main(void){ f(); } void g(void){}", "", 0, ""),
+        SOUND,
+        Status::Refused,
+        "refused 7 UnknownName at 1:17\n",
+    ),
+    (
+        BOXES,
+        ("void main(long x){}", "", 0, ""),
+        SOUND,
+        Status::Refused,
+        "refused 6 NoMain at 1:20\n",
+    ),
+    (
+        BOXES,
         (
             "int main(void){ long v1,v2,v3,v4,v5,v6,v7,v8,v9,v10,v11,v12",
             "",
@@ -712,7 +808,7 @@ static ANSWERS: [(&str, Pieces, (u64, u64), Status, &str); 89] = [
 ];
 
 /// Words, a source whose assertions are all proved, and lines of its report.
-static LINES: [(&str, Pieces, &str); 43] = [
+static LINES: [(&str, Pieces, &str); 53] = [
     (
         "lra analyse --domain=box",
         PROVED,
@@ -982,6 +1078,107 @@ static LINES: [(&str, Pieces, &str); 43] = [
         "lra analyse --domain box --narrow 0",
         ("int main(void){", "while(0)", 63, ";}"),
         "point 63 main 1:512\n",
+    ),
+    // functions: paths of calls, names that callers' hide, globals, results
+    (
+        BOXES,
+        (
+            "long inc(long x){ x=x+1; return x; } int main(void){ long x=inc(1); x=inc(x); assert(x==3); }",
+            "",
+            0,
+            "",
+        ),
+        "point 2 main/inc@1:61 1:19\n  row x = 1\n",
+    ),
+    (
+        BOXES,
+        (
+            "long inc(long x){ x=x+1; return x; } int main(void){ long x=inc(1); x=inc(x); assert(x==3); }",
+            "",
+            0,
+            "",
+        ),
+        "point 4 main/inc@1:61 1:36\n  unreachable\n",
+    ),
+    (
+        BOXES,
+        (
+            "long inc(long x){ x=x+1; return x; } int main(void){ long x=inc(1); x=inc(x); assert(x==3); }",
+            "",
+            0,
+            "",
+        ),
+        "point 6 main/inc@1:71 1:19\n  row x~1 = 2\n  row x = 2\n",
+    ),
+    (
+        BOXES,
+        (
+            "long inc(long x){ x=x+1; return x; } int main(void){ long x=inc(1); x=inc(x); assert(x==3); }",
+            "",
+            0,
+            "",
+        ),
+        "point 9 main 1:79\n  row x = 3\n",
+    ),
+    (
+        BOXES,
+        (
+            "long k(long d){ return d+1; } long h(long a){ for(long i=0;i<a;i=k(i)) ; return k(a); } int main(void){ long m=h(2); }",
+            "",
+            0,
+            "",
+        ),
+        "point 2 main/h@1:112 1:47\n",
+    ),
+    (
+        BOXES,
+        (
+            "long k(long d){ return d+1; } long h(long a){ for(long i=0;i<a;i=k(i)) ; return k(a); } int main(void){ long m=h(2); }",
+            "",
+            0,
+            "",
+        ),
+        "point 5 main/h@1:112/k@1:66 1:17\n",
+    ),
+    (
+        BOXES,
+        (
+            "long k(long d){ return d+1; } long h(long a){ for(long i=0;i<a;i=k(i)) ; return k(a); } int main(void){ long m=h(2); }",
+            "",
+            0,
+            "",
+        ),
+        "point 10 main/h@1:112/k@1:81 ",
+    ),
+    (
+        BOXES,
+        (
+            "long k(long d){ return d+1; } long h(long a){ for(long i=0;i<a;i=k(i)) ; return k(a); } int main(void){ long m=h(2); }",
+            "",
+            0,
+            "",
+        ),
+        "point 12 main 1:118\n",
+    ),
+    (
+        BOXES,
+        (
+            "long f(long a, long b){ return a-b; } int main(void){ long x=f(5,3); assert(x==2); }",
+            "",
+            0,
+            "",
+        ),
+        "point 4 main 1:70\n  row x = 2\n",
+    ),
+    (
+        BOXES,
+        (
+            "long f(void){ while(1){ if(input()) return 7; } } int main(void){ long x; x=f(); assert(x==7); }",
+            "",
+            0,
+            "",
+        ),
+        "main 1:82\n  row x = 7\n",
     ),
     // 60 alternations of && and ||, one inside the other, cost no more than as many comparisons
     (
