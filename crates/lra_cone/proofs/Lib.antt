@@ -1,0 +1,11 @@
+-- The lemmas, from bottom to top.
+pub mod PairLists
+pub mod Filling
+pub mod Flattening
+pub mod TightRows
+pub mod RayCase
+pub mod Cutting
+pub mod Taking
+pub mod Stepped
+pub mod StrainLemmas
+pub mod WholeSpace

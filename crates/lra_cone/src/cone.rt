@@ -1,0 +1,210 @@
+//! Cones.
+
+ghost use Rattle.std.specs.Prelude.{◌≡◌, ◌++◌, ◌∷◌, [], suc, pos, ◌<◌, ◌≤◌};
+ghost use Rattle.std.specs.Prelude.{◌^◌, Some, length, map, IfOk, IfErr, OnOk, OnErr};
+ghost use Rattle.std.specs.List.{All};
+ghost use Rattle.lra_linear.specs.Range.{InRange};
+ghost use Rattle.lra_linear.specs.Vectors.{product};
+ghost use Rattle.lra_linear.specs.OperationStrain.{unit_row};
+ghost use Rattle.lra_linear.specs.Cones.{all_rows};
+ghost use Rattle.lra_linear.specs.ConeStrain.{IsMet};
+ghost use Rattle.lra_sys.specs.Listed.{constraints, is_equality};
+ghost use Rattle.lra_cone.specs.Cones.{Shape, IsCone, IsTakenIn, saturation_of, whole_space};
+ghost use Rattle.lra_cone.specs.Steps.{IsLastAcross};
+ghost use Rattle.lra_cone.specs.Strains.{IsConeError};
+
+use crate::line_step::{flat_lines, flat_rays, flat_saturation, turned};
+use crate::products::{last_across, products};
+use crate::ray_step::{Cut, RAY_LIMIT, cut_rays};
+use crate::saturation::remove_rows;
+use crate::strained::{ConeError, Family, Strained};
+use lra_bits::SatMatrix;
+use lra_row::Row;
+use lra_sys::{ConKind, ConSys};
+use std::alloc::{AllocError, Global};
+use std::marker::Model;
+
+/// The solutions of the rows taken in so far, by lines and rays in their canonical form: none is redundant. The
+/// saturation matrix says which rows are tight at which rays; it is changed with the rays.
+pub struct Cone {
+    taken: ConSys,
+    lines: Vec<Row>,
+    rays: Vec<Row>,
+    saturation: SatMatrix,
+}
+
+impl Drop for Cone {
+    fn drop(self) {
+        let Cone {
+            taken: _,
+            lines: _,
+            rays: _,
+            saturation: _,
+        } = self;
+    }
+}
+
+impl Model for Cone {
+    ghost use Rattle.std.specs.Prelude.{◌≡◌, length};
+    ghost use Rattle.lra_sys.specs.Listed.{constraints};
+    ghost use Rattle.lra_cone.specs.Cones.{Shape, IsCone, saturation_of};
+
+    ghost Value = { Shape };
+
+    ghost view = { λ s.
+        record { dims = s.taken.dims; taken = constraints s.taken; lines = s.lines.items; rays = s.rays.items } };
+
+    ghost invariant = { λ s.
+        IsCone (record { dims = s.taken.dims; taken = constraints s.taken; lines = s.lines.items; rays = s.rays.items })
+        × (s.saturation ≡ saturation_of (constraints s.taken) s.rays.items)
+        × (length s.taken.rows ≡ length s.taken.kinds) };
+}
+
+impl Cone {
+    /// All vectors of n + 1 columns: no row is taken in.
+    pub fn whole(alloc: Global, n: usize) -> Result<Cone, AllocError>
+        requires { n < 2 ^ 62 }
+        ensures { IfOk result (λ cone. cone ≡ whole_space n) }
+    {
+        let mut lines = Vec::with_capacity(alloc, n + 1)?;
+        for column in 1..n + 1 {
+            lines.push(unit(alloc, n, column)?)?;
+        }
+        lines.push(unit(alloc, n, 0)?)?;
+        Ok(Cone {
+            taken: ConSys::new(alloc, n),
+            lines,
+            rays: Vec::new(alloc),
+            saturation: SatMatrix::new(alloc, 0),
+        })
+    }
+
+    /// The number of dimensions: a row has one column more.
+    pub fn dims(&self) -> usize
+        ensures { result ≡ self.now.dims }
+    {
+        self.taken.dims()
+    }
+
+    /// The rows taken in, in their order.
+    pub fn taken(&self) -> &ConSys
+        ensures dims { result.now.dims ≡ self.now.dims }
+        ensures taken { constraints result.now ≡ self.now.taken }
+    {
+        &self.taken
+    }
+
+    /// The lines, by pivot.
+    pub fn lines(&self) -> &[Row]
+        ensures lines { result.now ≡ self.now.lines }
+        ensures cone { IsCone self.now }
+    {
+        self.lines.as_slice()
+    }
+
+    /// The rays.
+    pub fn rays(&self) -> &[Row]
+        ensures rays { result.now ≡ self.now.rays }
+        ensures cone { IsCone self.now }
+    {
+        self.rays.as_slice()
+    }
+
+    /// Which of the rows taken in are tight at which of the rays.
+    pub fn saturation(&self) -> &SatMatrix
+        ensures { result.now ≡ saturation_of self.now.taken self.now.rays }
+    {
+        &self.saturation
+    }
+
+    /// Takes a row in: the cone becomes that of its vectors at which the row holds. Where that strains, or where there
+    /// is no memory, the cone stays as it was.
+    pub fn add_row(&mut self, row: &Row, kind: ConKind) -> Result<(), ConeError>
+        requires { length row.now ≡ suc self.old.dims }
+        ensures dims { self.new.dims ≡ self.old.dims }
+        ensures taken { OnOk result (self.new.taken ≡ self.old.taken ++ record { row = row.now; equal = is_equality kind } ∷ []) }
+        ensures met { OnOk result (IsMet (suc self.old.dims) (is_equality kind) row.now
+            (all_rows self.old.lines self.old.rays) (all_rows self.new.lines self.new.rays)) }
+        ensures strained { IfErr result (IsConeError self.old (is_equality kind) row.now) }
+        ensures unchanged { OnErr result (self.new ≡ self.old) }
+    {
+        let alloc = *self.lines.allocator();
+        let of_lines = products(alloc, row, &self.lines, Family::Lines)?;
+        let of_rays = products(alloc, row, &self.rays, Family::Rays)?;
+        match last_across(&of_lines) {
+            Some(place) => self.flatten(row, kind, place, &of_lines, &of_rays),
+            None => self.cut(row, kind, &of_rays),
+        }
+    }
+
+    // Takes a row in where its product with the line at the place, and with none behind it, isn't 0.
+    fn flatten(
+        &mut self,
+        row: &Row,
+        kind: ConKind,
+        place: usize,
+        of_lines: &[i128],
+        of_rays: &[i128],
+    ) -> Result<(), ConeError>
+        requires width { length row.now ≡ suc self.old.dims }
+        requires of_lines { of_lines.now ≡ map (product row.now) self.old.lines }
+        requires of_rays { of_rays.now ≡ map (product row.now) self.old.rays }
+        requires lines_in_range { All InRange of_lines.now }
+        requires rays_in_range { All InRange of_rays.now }
+        requires last { IsLastAcross of_lines.now (length of_lines.now) (Some place) }
+        ensures ok { OnOk result (IsTakenIn self.old (record { row = row.now; equal = is_equality kind }) self.new) }
+        ensures strained { IfErr result (IsConeError self.old (is_equality kind) row.now) }
+        ensures unchanged { OnErr result (self.new ≡ self.old) }
+    {
+        let alloc = *self.lines.allocator();
+        let line = turned(&self.lines, place, of_lines[place])?;
+        let lines = flat_lines(alloc, &self.lines, of_lines, &line)?;
+        let rays = flat_rays(alloc, &self.rays, of_rays, &line, kind)?;
+        let saturation = flat_saturation(alloc, &self.saturation, kind)?;
+        if rays.len() > RAY_LIMIT {
+            return Err(ConeError::Strained(Strained::TooMany(rays.len())));
+        }
+        self.taken.push(row.copy()?, kind)?;
+        self.lines = lines;
+        self.rays = rays;
+        self.saturation = saturation;
+        Ok(())
+    }
+
+    // Takes a row in where its product with each line is 0.
+    fn cut(&mut self, row: &Row, kind: ConKind, products: &[i128]) -> Result<(), ConeError>
+        requires width { length row.now ≡ suc self.old.dims }
+        requires flat { All (λ l. product row.now l ≡ pos 0) self.old.lines }
+        requires of_rays { products.now ≡ map (product row.now) self.old.rays }
+        requires in_range { All InRange products.now }
+        ensures ok { OnOk result (IsTakenIn self.old (record { row = row.now; equal = is_equality kind }) self.new) }
+        ensures strained { IfErr result (IsConeError self.old (is_equality kind) row.now) }
+        ensures unchanged { OnErr result (self.new ≡ self.old) }
+    {
+        let alloc = *self.lines.allocator();
+        let made = cut_rays(alloc, &self.rays, &self.saturation, products, kind)?;
+        let Cut {
+            gone,
+            rays: mut new_rays,
+            saturation,
+        } = made;
+        self.rays.reserve(new_rays.len())?;
+        self.taken.push(row.copy()?, kind)?;
+        let _ = self.rays.append(&mut new_rays);
+        remove_rows(&mut self.rays, &gone);
+        self.saturation = saturation;
+        Ok(())
+    }
+}
+
+// The unit row of a column.
+fn unit(alloc: Global, n: usize, column: usize) -> Result<Row, AllocError>
+    requires small { n < 2 ^ 62 }
+    requires column { column ≤ n }
+    ensures { IfOk result (λ row. row ≡ unit_row n column) }
+{
+    let mut numbers = vec![in alloc; 0i128; n + 1]?;
+    numbers[column] = 1;
+    let row = Row::from_slice(alloc, &numbers)?;
+    Ok(row)
+}
