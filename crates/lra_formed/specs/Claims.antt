@@ -11,7 +11,6 @@ use Rattle.lra_tree.specs.Labels.{labels_of}
 use Rattle.lra_tree.specs.Sites.{Site, sites_of}
 use Rattle.lra_tree.specs.ReportText.{shown_names}
 use Rattle.lra_tree.specs.Listing.{globals_named, live_names}
-use Rattle.lra_tree.specs.Refuse.{Accepts}
 use Rattle.lra_formed.specs.Literals.{HasSmallLiterals}
 
 -- the program of a tree whose literals are small and whose names have no faults is well-formed
@@ -25,10 +24,6 @@ LiteralsAreSmall L = (source : List ℕ) (tokens : List Token) (t : FileTree) �
 -- so the program of a source without faults of names is well-formed
 abbrev pub ReadAreWellFormed : Language → Type 0
 ReadAreWellFormed L = (source : List ℕ) (tokens : List Token) (t : FileTree) → Lex source tokens → IsTree L tokens t → name_faults t ≡ [] → IsWellFormed (resolve t)
-
--- and so is that of each accepted source
-abbrev pub EachAcceptedIsWellFormed : Language → Type 0
-EachAcceptedIsWellFormed L = (source : List ℕ) (t : FileTree) → Accepts L source t → IsWellFormed (resolve t)
 
 -- at each point of a source as many names are printed as variables live there
 abbrev pub NamesAreAsMany : Type 0

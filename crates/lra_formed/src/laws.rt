@@ -1,19 +1,15 @@
 //! Laws: each of these does nothing, and its contract is the theorem.
 
 ghost use Rattle.lra_tree.specs.Grammar.{Spells};
-ghost use Rattle.lra_tree.specs.Built.{Built};
 ghost use Rattle.lra_tree.specs.WellFormed.{AcceptedAreWellFormed};
-ghost use Rattle.lra_formed.specs.Claims.{FaultlessAreWellFormed, LiteralsAreSmall, ReadAreWellFormed, EachAcceptedIsWellFormed, NamesAreAsMany, ShownNamesAreAsMany};
+ghost use Rattle.lra_formed.specs.Claims.{FaultlessAreWellFormed, LiteralsAreSmall, ReadAreWellFormed, NamesAreAsMany, ShownNamesAreAsMany};
 
 /// The program of a source without faults of names is well-formed.
 pub fn faultless_are_well_formed()
     ensures trees { FaultlessAreWellFormed }
     ensures literals { LiteralsAreSmall Spells }
-    ensures built_literals { LiteralsAreSmall Built }
     ensures read { ReadAreWellFormed Spells }
-    ensures built { ReadAreWellFormed Built }
     ensures accepted { AcceptedAreWellFormed }
-    ensures accepted_built { EachAcceptedIsWellFormed Built }
 {}
 
 /// At each point of a source as many names are printed as variables live there.

@@ -10,7 +10,7 @@ use Rattle.lra_tree.specs.declared.tokens.Token.{Token}
 use Rattle.lra_tree.specs.Texts.{Pieces, plain}
 use Rattle.lra_tree.specs.Trees.{PartTree, FileTree}
 use Rattle.lra_tree.specs.Faults.{IsTree, CanBegin, IsAtFault, IsTextFault}
-use Rattle.lra_tree.specs.Built.{Built}
+use Rattle.lra_tree.specs.Grammar.{Spells}
 use Rattle.lra_parse.specs.declared.reading.Fault.{Fault}
 use Rattle.lra_parse.specs.Tests.{first}
 use Rattle.lra_parse.specs.Reading.{Text, Read, stop, ◌>>=◌, map_read, take_by, taken}
@@ -32,13 +32,13 @@ nothing_behind [] (f ∷ F) e l R h k all = let same : e ≡ f = cc in absurd (a
 nothing_behind (y ∷ Y) [] e l R h k all = absurd (something Y e R cc)
 nothing_behind (y ∷ Y) (f ∷ F) e l R h k all = nothing_behind Y F e l R (cc) k all.1
 
-all_read : (T R : Text) (t : FileTree) (x : Pieces) → EndsOnce T → T ≡ plain x ++ R → Built t x → R ≡ []
-all_read T R t x ends e ((y, z, f, parts, last), b) =
+all_read : (T R : Text) (t : FileTree) (x : Pieces) → EndsOnce T → T ≡ plain x ++ R → Spells t x → R ≡ []
+all_read T R t x ends e (y, z, f, parts, last) =
     let whole : plain x ++ R ≡ plain y ++ record { kind = End; place = t.end } ∷ R =
     ap (λ (w : Pieces). plain w ++ R) (f ∙ ap (λ (v : Pieces). y ++ v) last) ∙ ap (λ (w : Text). w ++ R) (plain-append y ((record { kind = End; place = t.end }, 0) ∷ [])) ∙ append_assoc (plain y) (record { kind = End; place = t.end } ∷ []) R in
     nothing_behind (plain y) ends.front (record { kind = End; place = t.end }) ends.last R (sym whole ∙ sym e ∙ ends.parts) refl ends.no_other
 
-pub tree_found : (T R : Text) (t : FileTree) → EndsOnce T → file_at 63 T ≡ Ok (t, R) → IsTree Built T t
+pub tree_found : (T R : Text) (t : FileTree) → EndsOnce T → file_at 63 T ≡ Ok (t, R) → IsTree Spells T t
 tree_found T R t ends e =
     let l = the_file.ok T t R tt e in
     let none : R ≡ [] = all_read T R t l.0 ends l.1 l.4 in
@@ -81,7 +81,7 @@ cause_in (Ok x) = Syntax
 cause_in (Err f) = f.cause
 
 -- with this token no text begins
-no_text : (x : Pieces) (r : Token) → ((Y : Text) → first Y ≡ Some r → file_at 63 (plain x ++ Y) ≡ stop Syntax Y) → CanBegin Built (plain x ++ r ∷ []) → ⊥
+no_text : (x : Pieces) (r : Token) → ((Y : Text) → first Y ≡ Some r → file_at 63 (plain x ++ Y) ≡ stop Syntax Y) → CanBegin Spells (plain x ++ r ∷ []) → ⊥
 no_text x r local (t, u, v, s, e) =
     let whole : plain (u ++ v) ≡ plain x ++ r ∷ plain v = plain-append u v ∙ ap (λ (T : Text). T ++ plain v) e ∙ append_assoc (plain x) (r ∷ []) (plain v) in
     let here : file_at 63 (plain (u ++ v)) ≡ stop Syntax (r ∷ plain v) = subst (λ (T : Text). file_at 63 T ≡ stop Syntax (r ∷ plain v)) (sym whole) (local (r ∷ plain v) refl) in
@@ -90,12 +90,12 @@ no_text x r local (t, u, v, s, e) =
       | inr k ↦ two_causes (ap cause_in (sym k.1 ∙ here))
     ]
 
-at_fault : (c : Cause) (t : FileTree) (x w : Pieces) (r : Token) (R : Text) → Built t (x ++ w) → Low 64 x → Goes 64 c w (r ∷ R)
-    → ((Y : Text) → first Y ≡ Some r → file_at 63 (plain x ++ Y) ≡ stop c Y) → IsAtFault Built c (plain x) r
+at_fault : (c : Cause) (t : FileTree) (x w : Pieces) (r : Token) (R : Text) → Spells t (x ++ w) → Low 64 x → Goes 64 c w (r ∷ R)
+    → ((Y : Text) → first Y ≡ Some r → file_at 63 (plain x ++ Y) ≡ stop c Y) → IsAtFault Spells c (plain x) r
 at_fault Syntax t x w r R s low goes local = ((t, x, w, s, refl, low), no_text x r local)
 at_fault TooDeep t x [] r R s low goes local = absurd goes
 at_fault TooDeep t x (p ∷ w) r R s low goes local =
-    (t, x, p.1, w, subst (λ (k : Token). Built t (x ++ (k, p.1) ∷ w)) goes.0 s, refl, low, goes.1)
+    (t, x, p.1, w, subst (λ (k : Token). Spells t (x ++ (k, p.1) ∷ w)) goes.0 s, refl, low, goes.1)
 at_fault c t x w r R s low goes local = absurd goes
 
 -- the token at fault, with what stands before and behind it
@@ -104,10 +104,10 @@ pub record StopsAt (T : Text) (f : Fault) : Type 0 where
   pub token : Token
   pub rest : Text
   pub parts : T ≡ front ++ token ∷ rest
-  pub faulty : IsAtFault Built f.cause front token
+  pub faulty : IsAtFault Spells f.cause front token
   pub left : f.left ≡ suc (length rest)
 
-stops_with : (T : Text) (f : Fault) (x w : Pieces) (rest : Text) (t : FileTree) → 0 < f.left → T ≡ plain x ++ rest → f.left ≡ length rest → Built t (x ++ w) → Low 64 x → Goes 64 f.cause w rest
+stops_with : (T : Text) (f : Fault) (x w : Pieces) (rest : Text) (t : FileTree) → 0 < f.left → T ≡ plain x ++ rest → f.left ≡ length rest → Spells t (x ++ w) → Low 64 x → Goes 64 f.cause w rest
     → ((Y : Text) → first Y ≡ first rest → file_at 63 (plain x ++ Y) ≡ stop f.cause Y) → StopsAt T f
 stops_with T f x w [] t some e l s low goes local = absurd (omega (arith, l))
 stops_with T f x w (r ∷ R) t some e l s low goes local =
@@ -131,7 +131,7 @@ pub fault_within : (T : Text) (f : Fault) → EndsOnce T → file_at 63 T ≡ Er
 fault_within T f ends e = (some_left T f ends e, (fault_index T f (stops_at T f ends e)).1)
 
 -- the refusal at the token at fault
-pub text_fault : (T : Text) (f : Fault) → EndsOnce T → file_at 63 T ≡ Err f → (t : Token) → t ≡ get_or T (length T - f.left) t → IsTextFault Built T f.cause t.place
+pub text_fault : (T : Text) (f : Fault) → EndsOnce T → file_at 63 T ≡ Err f → (t : Token) → t ≡ get_or T (length T - f.left) t → IsTextFault Spells T f.cause t.place
 text_fault T f ends e t is =
     let s = stops_at T f ends e in
     (s.front, s.token, s.rest, s.parts, s.faulty, ap (λ (k : Token). k.place) (is ∙ fault_token T f s t))

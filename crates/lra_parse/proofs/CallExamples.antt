@@ -6,7 +6,7 @@ use Rattle.lra_tree.specs.declared.tokens.Token.{Token}
 use Rattle.lra_tree.specs.declared.tokens.Kind.TheVariants.{Name, Number}
 use Rattle.lra_tree.specs.declared.trees.Identifier.{Identifier}
 use Rattle.lra_tree.specs.Faults.{IsTree, IsTextFault}
-use Rattle.lra_tree.specs.Built.{Built}
+use Rattle.lra_tree.specs.Grammar.{Spells}
 use Rattle.lra_tree.specs.Trees.{variable, unary, term, result, set, assign, call, return, no_items, statement, FileTree}
 use Rattle.lra_parse.specs.Reading.{Text, loop}
 use Rattle.lra_parse.specs.Expressions.{unary_at, tests}
@@ -39,7 +39,7 @@ called_read : file_at 63 (ended_at called 48) ≡ Ok (called_tree, [])
 unfolding loop unary_at tests levels
 called_read = refl
 
-pub called_found : IsTree Built (ended_at called 48) called_tree
+pub called_found : IsTree Spells (ended_at called 48) called_tree
 called_found = tree_found (ended_at called 48) [] called_tree (ends called 48 refl) called_read
 
 -- faults ------------------------------------------------------------------------------------------------------------
@@ -53,7 +53,7 @@ summed_stops : file_at 63 (ended_at summed 28) ≡ Err (record { cause = Syntax;
 unfolding loop unary_at tests levels
 summed_stops = refl
 
-pub call_in_sum : IsTextFault Built (ended_at summed 28) Syntax (in_line 23)
+pub call_in_sum : IsTextFault Spells (ended_at summed 28) Syntax (in_line 23)
 call_in_sum = text_fault (ended_at summed 28) (record { cause = Syntax; left = 5 }) (ends summed 28 refl) summed_stops (mark_token mark.Plus 23) refl
 
 -- int main(void){ x=y+f(1); }: nor behind an operator
@@ -65,7 +65,7 @@ added_stops : file_at 63 (ended_at added 28) ≡ Err (record { cause = Syntax; l
 unfolding loop unary_at tests levels
 added_stops = refl
 
-pub call_behind_sum : IsTextFault Built (ended_at added 28) Syntax (in_line 22)
+pub call_behind_sum : IsTextFault Spells (ended_at added 28) Syntax (in_line 22)
 call_behind_sum = text_fault (ended_at added 28) (record { cause = Syntax; left = 6 }) (ends added 28 refl) added_stops (mark_token mark.OpenParen 22) refl
 
 -- int main(void){ x+=f(1); }: what `+=` adds is an expression
@@ -76,7 +76,7 @@ updated_stops : file_at 63 (ended_at updated 27) ≡ Err (record { cause = Synta
 unfolding loop unary_at tests levels
 updated_stops = refl
 
-pub call_in_update : IsTextFault Built (ended_at updated 27) Syntax (in_line 21)
+pub call_in_update : IsTextFault Spells (ended_at updated 27) Syntax (in_line 21)
 call_in_update = text_fault (ended_at updated 27) (record { cause = Syntax; left = 6 }) (ends updated 27 refl) updated_stops (mark_token mark.OpenParen 21) refl
 
 -- int main(void){ f(1,); }: a comma asks for another argument
@@ -87,7 +87,7 @@ trailing_stops : file_at 63 (ended_at trailing 25) ≡ Err (record { cause = Syn
 unfolding loop unary_at tests levels
 trailing_stops = refl
 
-pub missing_argument : IsTextFault Built (ended_at trailing 25) Syntax (in_line 21)
+pub missing_argument : IsTextFault Spells (ended_at trailing 25) Syntax (in_line 21)
 missing_argument = text_fault (ended_at trailing 25) (record { cause = Syntax; left = 4 }) (ends trailing 25 refl) trailing_stops (mark_token mark.CloseParen 21) refl
 
 -- int main(void){ f(g(1)); }: an argument is an expression, and no call
@@ -99,7 +99,7 @@ inner_call_stops : file_at 63 (ended_at inner_call 27) ≡ Err (record { cause =
 unfolding loop unary_at tests levels
 inner_call_stops = refl
 
-pub call_as_argument : IsTextFault Built (ended_at inner_call 27) Syntax (in_line 20)
+pub call_as_argument : IsTextFault Spells (ended_at inner_call 27) Syntax (in_line 20)
 call_as_argument = text_fault (ended_at inner_call 27) (record { cause = Syntax; left = 7 }) (ends inner_call 27 refl) inner_call_stops (mark_token mark.OpenParen 20) refl
 
 -- int main(void){ f; }: a name alone is no statement
@@ -110,5 +110,5 @@ alone_stops : file_at 63 (ended_at alone 21) ≡ Err (record { cause = Syntax; l
 unfolding loop unary_at tests levels
 alone_stops = refl
 
-pub name_alone : IsTextFault Built (ended_at alone 21) Syntax (in_line 18)
+pub name_alone : IsTextFault Spells (ended_at alone 21) Syntax (in_line 18)
 name_alone = text_fault (ended_at alone 21) (record { cause = Syntax; left = 3 }) (ends alone 21 refl) alone_stops (mark_token mark.Semicolon 18) refl

@@ -256,12 +256,13 @@ skipped_first S F m k other begins a x o (u, v, e, inr s, t) f =
 
 -- behind a type
 pub exact_type : {n : ℕ} {A : Type 0} {p : Parse A} {S : A → Pieces → Type 0} {F : A → Option Token → Type 0} → Exact n IsInner p Any S S F → (some : (a : A) × (x : Pieces) × S a x)
-    → (begins : (m : Mark) (a : A) (x : Pieces) (o : Option Token) → S a x → (x ≡ [] → F a o) → is_mark m (first_or x o) ≡ false)
+    → (no_int : (a : A) (x : Pieces) (o : Option Token) → S a x → (x ≡ [] → F a o) → is_mark mark.Int (first_or x o) ≡ false)
+    → (no_long : (a : A) (x : Pieces) (o : Option Token) → S a x → (x ≡ [] → F a o) → is_mark mark.Long (first_or x o) ≡ false)
     → Exact n IsInner (seq type_words (λ _. p)) Any (λ b. IsType ⋅ S b) (λ b. IsType ⋅ S b) F
-exact_type {n} {A} {p} {S = S} {F = F} P some begins =
-    let ints = exact_skip mark.Int P some (begins mark.Int) in
+exact_type {n} {A} {p} {S = S} {F = F} P some no_int no_long =
+    let ints = exact_skip mark.Int P some no_int in
     let some_int : (a : A) × (x : Pieces) × ((spells mark.Int ∣ empty) ⋅ S a) x = (some.0, some.1, ([], some.1, refl, inr refl, some.2)) in
-    let longs = exact_skip mark.Long ints some_int (λ a x o s f. skipped_first S F mark.Long mark.Int (λ at. refl) (begins mark.Long) a x o s f) in
+    let longs = exact_skip mark.Long ints some_int (λ a x o s f. skipped_first S F mark.Long mark.Int (λ at. refl) no_long a x o s f) in
     let some_long : (a : A) × (x : Pieces) × ((spells mark.Long ∣ empty) ⋅ ((spells mark.Int ∣ empty) ⋅ S a)) x = (some.0, some.1, ([], some.1, refl, inr refl, some_int.2)) in
     let t = exact_behind mark.Long 0 (omega arith) longs some_long in
     let s = same_where t (seq type_words (λ _. p)) (λ T i. sym (twice (expect mark.Long (tt {0}) T) (λ T. skip mark.Int (skip mark.Long T)) p)) in
@@ -341,5 +342,5 @@ exact_declaration n d l h =
     let made = mapped list declaration_of (λ b o. AfterCommas AfterDeclarator (b.first, b.rest) o) (λ i o f. f) (λ i o f. f) in
     let whole = exact_ended mark.Semicolon made (λ b at. (last_stops b.rest b.first at, refl)) in
     let some = some_declarator l in
-    let t = exact_type whole (declaration_of (some.0, []), _, (_, _, refl, ((some.0, []), refl, (_, _, refl, some.2, refl)), (some_place, refl))) (λ m b x o s f. declared_begins l m b x o s) in
+    let t = exact_type whole (declaration_of (some.0, []), _, (_, _, refl, ((some.0, []), refl, (_, _, refl, some.2, refl)), (some_place, refl))) (λ b x o s f. declared_begins l mark.Int b x o s) (λ b x o s f. declared_begins l mark.Long b x o s) in
     retell t (IsDeclaration l) (λ b z s. to_declaration l b z s) (λ b z s. from_declaration l b z s)

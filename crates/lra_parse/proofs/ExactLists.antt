@@ -9,7 +9,7 @@ use Rattle.lra_tree.specs.Texts.{Pieces, Texts, ◌⋅◌, ◌∣◌, empty, ope
 use Rattle.lra_parse.specs.Tests.{first, is_mark}
 use Rattle.lra_parse.specs.Reading.{Text, Parse, tail}
 use Rattle.lra_parse.specs.Expressions.{behind}
-use Rattle.lra_parse.specs.Statements.{skip, commas}
+use Rattle.lra_parse.specs.Statements.{skip, commas_from, commas}
 use Rattle.lra_parse.proofs.Marks.{is_mark_self}
 use Rattle.lra_parse.proofs.Exact.{Exact, Any, first_or, then}
 use Rattle.lra_parse.proofs.Forms.{rename, widen, entry, mapped, branch, same_where}
@@ -61,17 +61,23 @@ commas_first : {A : Type 0} (S : A → Texts) (F : A → Option Token → Type 0
 commas_first S F fine a [] y o e f = rw e (f e)
 commas_first S F fine a (i ∷ is) y o (u, v, e, (p, q, g, s, t), r) f = first_opened (F a) mark.Comma 0 p (q ++ v) y o (e ∙ regroup u v p q g) s (fine a)
 
+-- where q reads the items behind the first
+pub exact_commas_from : {n : ℕ} {A : Type 0} {p q : Parse A} {S S' : A → Pieces → Type 0} {F : A → Option Token → Type 0} → Exact n IsInner p Any S S F → Exact n IsInner q Any S' S' F
+    → (some : (a : A) × (x : Pieces) × S' a x) → (fine : (a : A) (at : Place) → F a (Some (token mark.Comma at)))
+    → Exact n IsInner (commas_from p q) Any (λ b. S b.0 ⋅ further S' b.1) (λ b. S b.0 ⋅ further S' b.1) (AfterCommas F)
+exact_commas_from {n} {A} {p} {q} {S = S} {S' = S'} {F = F} P P' some fine =
+    let item = entry (exact_behind mark.Comma 0 (omega arith) P' some) (λ o. is_mark mark.Comma o ≡ true) (λ o h. tt) in
+    let goes : (a : A) (o : Option Token) → is_mark mark.Comma o ≡ true → F a o = λ a o e. by_table (λ (u : Unit {0}). mark.Comma) ((mark.Comma, tt {0}) ∷ []) (refl, tt) (F a) (λ u at. fine a at) o (rw e refl) in
+    let list = λ (a : A). exact_list (is_mark mark.Comma) item (F a) refl (λ i x s. first_opened (λ i. is_mark mark.Comma i ≡ true) mark.Comma 0 s.0 s.1 x None s.2 s.3 (λ at. refl)) goes (λ o e. goes a o e) in
+    let t = then P (λ a. mapped (list a) (λ further. (a, further)) (AfterCommas F) (λ i o f. f) (λ i o f. f)) (λ b z. (S b.0 ⋅ further S' b.1) z)
+    (λ a b y o s f. commas_first S' F fine a s.0 y o s.2 (λ e. let g : AfterCommas F (a, s.0) o = subst (λ (c : A × List A). AfterCommas F c o) (sym s.1) (f e) in g.0))
+    (λ a z v. ((a, []), [], (z, [], refl, v, refl)))
+    (λ a b x y s r. subst (λ (c : A × List A). (S c.0 ⋅ further S' c.1) (x ++ y)) r.1 (x, y, refl, s, items_further S' r.0 y r.2)) in
+    rename t (λ b. S b.0 ⋅ further S' b.1)
+    (λ b z s. subst (λ (c : A × List A). (S c.0 ⋅ further S' c.1) z) s.1.4.1 (s.1.0, s.1.1, s.1.2, s.1.3, items_further S' s.1.4.0 s.1.1 s.1.4.2))
+    (λ b z s. (b.0, (s.0, s.1, s.2, s.3, (b.1, refl, further_items S' b.1 s.1 s.4))))
+
 pub exact_commas : {n : ℕ} {A : Type 0} {p : Parse A} {S : A → Pieces → Type 0} {F : A → Option Token → Type 0} → Exact n IsInner p Any S S F → (some : (a : A) × (x : Pieces) × S a x)
     → (fine : (a : A) (at : Place) → F a (Some (token mark.Comma at)))
     → Exact n IsInner (commas p) Any (λ b z. separated S (b.0 ∷ b.1) z) (λ b z. separated S (b.0 ∷ b.1) z) (AfterCommas F)
-exact_commas {n} {A} {p} {S = S} {F = F} P some fine =
-    let item = entry (exact_behind mark.Comma 0 (omega arith) P some) (λ o. is_mark mark.Comma o ≡ true) (λ o h. tt) in
-    let goes : (a : A) (o : Option Token) → is_mark mark.Comma o ≡ true → F a o = λ a o e. by_table (λ (u : Unit {0}). mark.Comma) ((mark.Comma, tt {0}) ∷ []) (refl, tt) (F a) (λ u at. fine a at) o (rw e refl) in
-    let list = λ (a : A). exact_list (is_mark mark.Comma) item (F a) refl (λ i x s. first_opened (λ i. is_mark mark.Comma i ≡ true) mark.Comma 0 s.0 s.1 x None s.2 s.3 (λ at. refl)) goes (λ o e. goes a o e) in
-    let t = then P (λ a. mapped (list a) (λ further. (a, further)) (AfterCommas F) (λ i o f. f) (λ i o f. f)) (λ b z. separated S (b.0 ∷ b.1) z)
-    (λ a b y o s f. commas_first S F fine a s.0 y o s.2 (λ e. let g : AfterCommas F (a, s.0) o = subst (λ (c : A × List A). AfterCommas F c o) (sym s.1) (f e) in g.0))
-    (λ a z v. ((a, []), [], (z, [], refl, v, refl)))
-    (λ a b x y s r. subst (λ (c : A × List A). separated S (c.0 ∷ c.1) (x ++ y)) r.1 (x, y, refl, s, items_further S r.0 y r.2)) in
-    rename t (λ b z. separated S (b.0 ∷ b.1) z)
-    (λ b z s. subst (λ (c : A × List A). separated S (c.0 ∷ c.1) z) s.1.4.1 (s.1.0, s.1.1, s.1.2, s.1.3, items_further S s.1.4.0 s.1.1 s.1.4.2))
-    (λ b z s. (b.0, (s.0, s.1, s.2, s.3, (b.1, refl, further_items S b.1 s.1 s.4))))
+exact_commas P some fine = exact_commas_from P P some fine

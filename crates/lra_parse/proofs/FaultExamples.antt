@@ -9,7 +9,7 @@ use Rattle.lra_tree.specs.declared.tokens.Kind.{Kind}
 use Rattle.lra_tree.specs.declared.tokens.Kind.TheVariants.{Name, Number, Mark as MarkOf, Unclosed, End}
 use Rattle.lra_tree.specs.declared.tokens.Token.{Token}
 use Rattle.lra_tree.specs.Faults.{IsTextFault}
-use Rattle.lra_tree.specs.Built.{Built}
+use Rattle.lra_tree.specs.Grammar.{Spells}
 use Rattle.lra_parse.specs.Reading.{Text, loop}
 use Rattle.lra_parse.specs.Expressions.{unary_at, tests}
 use Rattle.lra_parse.specs.Statements.{levels}
@@ -61,7 +61,7 @@ unclosed_stops : file_at 63 (unclosed_front ++ token_at End 19 ∷ []) ≡ Err (
 unfolding loop unary_at tests levels
 unclosed_stops = refl
 
-pub unclosed_comment : IsTextFault Built (unclosed_front ++ token_at End 19 ∷ []) Syntax (in_line 17)
+pub unclosed_comment : IsTextFault Spells (unclosed_front ++ token_at End 19 ∷ []) Syntax (in_line 17)
 unclosed_comment = text_fault (unclosed_front ++ token_at End 19 ∷ []) (record { cause = Syntax; left = 2 }) unclosed_ends unclosed_stops (token_at Unclosed 17) refl
 
 -- `int main(void){ long x; x = (x<1)+1; }`: a condition in parentheses is no expression
@@ -82,5 +82,5 @@ compared_stops : file_at 63 compared_tokens ≡ Err (record { cause = Syntax; le
 unfolding loop unary_at tests levels
 compared_stops = refl
 
-pub compared_expression : IsTextFault Built compared_tokens Syntax (in_line 31)
+pub compared_expression : IsTextFault Spells compared_tokens Syntax (in_line 31)
 compared_expression = text_fault compared_tokens (record { cause = Syntax; left = 8 }) compared_ends compared_stops (mark_token mark.Less 31) refl

@@ -4,7 +4,7 @@ use Rattle.lra_tree.specs.declared.refusals.Cause.TheVariants.{Syntax}
 use Rattle.lra_tree.specs.declared.tokens.Mark.TheVariants as mark
 use Rattle.lra_tree.specs.declared.tokens.Kind.TheVariants.{Number}
 use Rattle.lra_tree.specs.Faults.{IsTree, IsTextFault}
-use Rattle.lra_tree.specs.Built.{Built}
+use Rattle.lra_tree.specs.Grammar.{Spells}
 use Rattle.lra_tree.specs.Trees.{call, no_items, statement, function, FileTree}
 use Rattle.lra_parse.specs.Reading.{Text, loop}
 use Rattle.lra_parse.specs.Expressions.{unary_at, tests}
@@ -41,7 +41,7 @@ three_read : file_at 63 (ended_at three 64) ≡ Ok (three_tree, [])
 unfolding loop unary_at tests levels
 three_read = refl
 
-pub three_found : IsTree Built (ended_at three 64) three_tree
+pub three_found : IsTree Spells (ended_at three 64) three_tree
 three_found = tree_found (ended_at three 64) [] three_tree (ends three 64 refl) three_read
 
 -- int f(void){}: the type `int` alone is that of `main`
@@ -52,7 +52,7 @@ int_result_stops : file_at 63 (ended_at int_result 14) ≡ Err (record { cause =
 unfolding loop unary_at tests levels
 int_result_stops = refl
 
-pub int_function : IsTextFault Built (ended_at int_result 14) Syntax (in_line 5)
+pub int_function : IsTextFault Spells (ended_at int_result 14) Syntax (in_line 5)
 int_function = text_fault (ended_at int_result 14) (record { cause = Syntax; left = 7 }) (ends int_result 14 refl) int_result_stops (word_at (codes "f") 5) refl
 
 -- void f(void,long a){}: nothing stands beside `void`
@@ -64,27 +64,5 @@ void_more_stops : file_at 63 (ended_at void_more 22) ≡ Err (record { cause = S
 unfolding loop unary_at tests levels
 void_more_stops = refl
 
-pub void_and_more : IsTextFault Built (ended_at void_more 22) Syntax (in_line 12)
+pub void_and_more : IsTextFault Spells (ended_at void_more 22) Syntax (in_line 12)
 void_and_more = text_fault (ended_at void_more 22) (record { cause = Syntax; left = 7 }) (ends void_more 22 refl) void_more_stops (mark_token mark.Comma 12) refl
-
--- long x;: globals aren't taken yet
-abbrev lone_global : Text
-lone_global = mark_token mark.Long 1 ∷ word_at (codes "x") 6 ∷ mark_token mark.Semicolon 7 ∷ []
-
-lone_global_stops : file_at 63 (ended_at lone_global 8) ≡ Err (record { cause = Syntax; left = 2 })
-unfolding loop unary_at tests levels
-lone_global_stops = refl
-
-pub global_not_taken : IsTextFault Built (ended_at lone_global 8) Syntax (in_line 7)
-global_not_taken = text_fault (ended_at lone_global 8) (record { cause = Syntax; left = 2 }) (ends lone_global 8 refl) lone_global_stops (mark_token mark.Semicolon 7) refl
-
--- void f(void);: nor are prototypes
-abbrev lone_prototype : Text
-lone_prototype = mark_token mark.Void 1 ∷ word_at (codes "f") 6 ∷ mark_token mark.OpenParen 7 ∷ mark_token mark.Void 8 ∷ mark_token mark.CloseParen 12 ∷ mark_token mark.Semicolon 13 ∷ []
-
-lone_prototype_stops : file_at 63 (ended_at lone_prototype 14) ≡ Err (record { cause = Syntax; left = 2 })
-unfolding loop unary_at tests levels
-lone_prototype_stops = refl
-
-pub prototype_not_taken : IsTextFault Built (ended_at lone_prototype 14) Syntax (in_line 13)
-prototype_not_taken = text_fault (ended_at lone_prototype 14) (record { cause = Syntax; left = 2 }) (ends lone_prototype 14 refl) lone_prototype_stops (mark_token mark.Semicolon 13) refl

@@ -1,17 +1,19 @@
--- Readers of functions and files as the code takes them.
+-- Readers of parts and files as the code takes them.
 use Rattle.std.proofs.Common.{◌≡◌, ℕ, ◌<◌, Bool, true, false, bytes_eq, codes, List, [], ◌∷◌, ◌++◌, length, Option, Some, None, Ok, Err, refl, sym, ap, subst, arith}
 use Rattle.lra_tree.specs.declared.refusals.Place.{Place}
 use Rattle.lra_tree.specs.declared.refusals.Cause.TheVariants.{Syntax}
+use Rattle.lra_tree.specs.declared.tokens.Mark.{Mark}
 use Rattle.lra_tree.specs.declared.trees.Identifier.{Identifier}
-use Rattle.lra_tree.specs.Trees.{FunctionTree, PartTree, function}
+use Rattle.lra_tree.specs.Trees.{PartTree}
 use Rattle.lra_parse.specs.declared.reading.Fault.{Fault}
 use Rattle.lra_parse.specs.declared.reading.Stopped.{Stopped}
 use Rattle.lra_parse.specs.declared.reading.Stopped.TheVariants as stopped
 use Rattle.lra_parse.specs.Tests.{first}
-use Rattle.lra_parse.specs.Reading.{Text, Read, Parse, stop, map_read, tail, take_by, taken, next_name, list_step, GivesErr}
-use Rattle.lra_parse.specs.Files.{is_main, next_main, function_at, begins_part, parts_at, next_end, file_of, file_at}
-use Rattle.lra_parse.proofs.Exact.{ok_is}
-use Rattle.lra_parse.proofs.Turning.{Left, turn_on, turn_err, turn_off}
+use Rattle.lra_parse.specs.Reading.{Text, Read, Parse, stop, map_read, tail, expect, take_by, taken, next_name, list_step, GivesErr}
+use Rattle.lra_parse.specs.Expressions.{ended}
+use Rattle.lra_parse.specs.Files.{is_main, next_main, part_at, begins_part, parts_at, next_end, file_of, file_at}
+use Rattle.lra_parse.proofs.Exact.{bind_ok, ok_is}
+use Rattle.lra_parse.proofs.Turning.{Left, turn_on, turn_err, turn_off, expect_err}
 
 -- the name `main` ----------------------------------------------------------------------------------------------------
 
@@ -50,7 +52,7 @@ main_exit T e g = given_none (next_name (first T)) T e g
 
 module _ (d : ℕ) where
   abbrev part_step : List PartTree → Parse (List PartTree)
-  part_step = list_step (map_read function (function_at d))
+  part_step = list_step (part_at d)
 
   -- the loop from here on gives the result
   abbrev pub PartsLeft : List PartTree → Text → Read (List PartTree) → Type 0
@@ -59,23 +61,23 @@ module _ (d : ℕ) where
   pub parts_start : (ps : List PartTree) (S : Text) → ps ≡ [] → PartsLeft ps S (parts_at d S)
   parts_start ps S e = subst (λ (rs : List PartTree). PartsLeft rs S (parts_at d S)) (sym e) (length S, omega arith, refl)
 
-  pub part_turn : (ps qs : List PartTree) (f : FunctionTree) (T R : Text) (result : Read (List PartTree)) → qs ≡ ps ++ function f ∷ [] → PartsLeft ps T result → true ≡ begins_part (first T)
-      → function_at d T ≡ Ok (f, R) → length R < length T → PartsLeft qs R result
-  part_turn ps qs f T R result e l on g less =
-      let s : part_step ps T ≡ Ok (ps ++ function f ∷ [], R) = rw g refl in
-      subst (λ (rs : List PartTree). PartsLeft rs R result) (sym e) (turn_on begins_part part_step ps (ps ++ function f ∷ []) T R result l (sym on) s less)
+  pub part_turn : (ps qs : List PartTree) (p : PartTree) (T R : Text) (result : Read (List PartTree)) → qs ≡ ps ++ p ∷ [] → PartsLeft ps T result → true ≡ begins_part (first T)
+      → part_at d T ≡ Ok (p, R) → length R < length T → PartsLeft qs R result
+  part_turn ps qs p T R result e l on g less =
+      let s : part_step ps T ≡ Ok (ps ++ p ∷ [], R) = rw g refl in
+      subst (λ (rs : List PartTree). PartsLeft rs R result) (sym e) (turn_on begins_part part_step ps (ps ++ p ∷ []) T R result l (sym on) s less)
 
   some_part : (T : Text) → true ≡ begins_part (first T) → 0 < length T
   some_part [] e = absurd cc
   some_part (t ∷ T) e = omega arith
 
-  part_err : (ps : List PartTree) (T : Text) (f : Fault) (result : Read (List PartTree)) → PartsLeft ps T result → true ≡ begins_part (first T) → function_at d T ≡ Err f → result ≡ Err f
+  part_err : (ps : List PartTree) (T : Text) (f : Fault) (result : Read (List PartTree)) → PartsLeft ps T result → true ≡ begins_part (first T) → part_at d T ≡ Err f → result ≡ Err f
   part_err ps T f result l on g =
       let s : part_step ps T ≡ Err f = rw g refl in
       turn_err begins_part part_step ps T f result l (sym on) (some_part T on) s
 
   -- the exit by `?` in a turn
-  pub file_exit : (ps : List PartTree) (S T : Text) (e : Stopped) → PartsLeft ps T (parts_at d S) → true ≡ begins_part (first T) → GivesErr e (function_at d T) → GivesErr e (file_at d S)
+  pub file_exit : (ps : List PartTree) (S T : Text) (e : Stopped) → PartsLeft ps T (parts_at d S) → true ≡ begins_part (first T) → GivesErr e (part_at d T) → GivesErr e (file_at d S)
   file_exit ps S T stopped.Memory l on g = tt
   file_exit ps S T (stopped.Fault f) l on g = rw (part_err ps T f (parts_at d S) l on g) refl
 
@@ -89,3 +91,14 @@ module _ (d : ℕ) where
 
   pub file_gives : (ps : List PartTree) (S T R : Text) (at : Place) → PartsLeft ps T (parts_at d S) → false ≡ begins_part (first T) → take_by next_end T ≡ Ok (at, R) → file_at d S ≡ Ok (file_of ps at, R)
   file_gives ps S T R at l off g = rw (parts_end ps S T l off, g) refl
+
+-- globals ------------------------------------------------------------------------------------------------------------
+
+-- the exit by `?` where the mark doesn't come behind them
+pub ended_exit : {A B : Type 0} (m : Mark) (p : Parse A) (f : A → B) (T M : Text) (b : B) (s : Stopped) → map_read f p T ≡ Ok (b, M) → GivesErr s (expect m (tt {0}) M) → GivesErr s (map_read f (ended m p) T)
+ended_exit m p f T M b stopped.Memory e g = tt
+ended_exit {A} {B} m p f T M b (stopped.Fault d) e g =
+    let k = bind_ok (p T) (λ r. Ok (f r.0, r.1)) (b, M) e in
+    let same : k.0.1 ≡ M = ap (λ (r : B × Text). r.1) (ok_is (f k.0.0, k.0.1) (b, M) k.2) in
+    let stops : expect m k.0.0 k.0.1 ≡ Err d = expect_err m (tt {0}) k.0.0 k.0.1 d (subst (λ (R : Text). expect m (tt {0}) R ≡ Err d) (sym same) g) in
+    rw (k.1, stops) refl

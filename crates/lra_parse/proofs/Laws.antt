@@ -8,7 +8,7 @@ use Rattle.lra_tree.specs.declared.tokens.Token.{Token}
 use Rattle.lra_tree.specs.Texts.{Piece, Pieces, plain}
 use Rattle.lra_tree.specs.Trees.{FileTree}
 use Rattle.lra_tree.specs.Faults.{greatest_level, IsLow, IsTree, CanBegin, CanBeginLow, IsAtFault, OneTree, OneTextFault}
-use Rattle.lra_tree.specs.Built.{Built}
+use Rattle.lra_tree.specs.Grammar.{Spells}
 use Rattle.lra_parse.specs.Reading.{Text, Read, stop}
 use Rattle.lra_parse.specs.Files.{file_at}
 use Rattle.lra_parse.proofs.Exact.{Low, Exact, Any, Free, ok_is, plain-append}
@@ -26,8 +26,8 @@ low_level m (p ∷ x) h = (omega arith, low_level m x (omega arith))
 
 -- one tree ---------------------------------------------------------------------------------------------------------
 
-pub built_one : OneTree Built
-built_one s t x y a b e =
+pub spelled_one : OneTree Spells
+spelled_one s t x y a b e =
     let m = level_of x + level_of y in
     let P = exact_file (m + 1) m (omega arith) in
     let lx : Low (m + 1) x = low_level (m + 1) x (omega arith) in
@@ -52,14 +52,14 @@ low_or_deep (t ∷ x) = elim (cases_lt 64 t.1) [
   ]
 ]
 
-abbrev pub the_file : Exact 64 AnyToken (file_at 63) Any Built Built Free
+abbrev pub the_file : Exact 64 AnyToken (file_at 63) Any Spells Spells Free
 the_file = exact_file 64 63 refl
 
 -- a whole text is read, or stops as too deep
-pub read_whole : (t : FileTree) (x : Pieces) → Built t x → (file_at 63 (plain x) ≡ Ok (t, [])) ⊎ ((T : Text) × (file_at 63 (plain x) ≡ stop TooDeep T))
+pub read_whole : (t : FileTree) (x : Pieces) → Spells t x → (file_at 63 (plain x) ≡ Ok (t, [])) ⊎ ((T : Text) × (file_at 63 (plain x) ≡ stop TooDeep T))
 read_whole t x s = elim (low_or_deep x) [
   | inl low ↦ inl (subst (λ (T : Text). file_at 63 T ≡ Ok (t, [])) (append-nil (plain x)) (the_file.again x t [] s low tt tt))
-  | inr d ↦ inr (d.1.0 ∷ plain d.2, subst (λ (T : Text). file_at 63 T ≡ stop TooDeep (d.1.0 ∷ plain d.2)) (sym (ap plain d.3 ∙ plain-append d.0 (d.1 ∷ d.2))) (the_file.deep d.0 d.1 d.2 t (plain d.2) (subst (Built t) d.3 s) d.4 d.5 tt))
+  | inr d ↦ inr (d.1.0 ∷ plain d.2, subst (λ (T : Text). file_at 63 T ≡ stop TooDeep (d.1.0 ∷ plain d.2)) (sym (ap plain d.3 ∙ plain-append d.0 (d.1 ∷ d.2))) (the_file.deep d.0 d.1 d.2 t (plain d.2) (subst (Spells t) d.3 s) d.4 d.5 tt))
 ]
 
 -- where two texts part
@@ -87,8 +87,8 @@ cut (p ∷ x) (t ∷ F) G e =
     let k = cut x F G cc in
     (p ∷ k.0, k.1, ap (λ (y : Pieces). p ∷ y) k.2, (let f = k.3 in cc), k.4)
 
-begins_less : (F G : Text) → CanBegin Built (F ++ G) → CanBegin Built F
-begins_less F G (t, x, y, s, e) = let k = cut x F G e in (t, k.0, k.1 ++ y, subst (Built t) (ap (λ (z : Pieces). z ++ y) k.2 ∙ append_assoc k.0 k.1 y) s, k.3)
+begins_less : (F G : Text) → CanBegin Spells (F ++ G) → CanBegin Spells F
+begins_less F G (t, x, y, s, e) = let k = cut x F G e in (t, k.0, k.1 ++ y, subst (Spells t) (ap (λ (z : Pieces). z ++ y) k.2 ∙ append_assoc k.0 k.1 y) s, k.3)
 
 cause_of : {A : Type 0} → Read A → Cause
 cause_of (Ok x) = Syntax
@@ -113,14 +113,14 @@ plain_length [] = refl
 plain_length (p ∷ x) = ap suc (plain_length x)
 
 abbrev Past : Text → Token → Type 0
-Past F u = (t : FileTree) × (x : Pieces) × (level : ℕ) × (y : Pieces) × Built t (x ++ (u, level) ∷ y) × (plain x ≡ F) × IsLow x × (greatest_level < level)
+Past F u = (t : FileTree) × (x : Pieces) × (level : ℕ) × (y : Pieces) × Spells t (x ++ (u, level) ∷ y) × (plain x ≡ F) × IsLow x × (greatest_level < level)
 
 -- reading stops at a token that is too deep, whatever comes behind it
 stops : (F : Text) (u : Token) (Y : Text) → Past F u → file_at 63 (F ++ u ∷ Y) ≡ stop TooDeep (u ∷ Y)
 stops F u Y (t, x, level, y, s, e, low, past) = subst (λ (G : Text). file_at 63 (G ++ u ∷ Y) ≡ stop TooDeep (u ∷ Y)) e (the_file.deep x (u, level) y t Y s low past tt)
 
 -- no text that is low so far goes over it
-not_over : (F : Text) (u : Token) (w : Text) → Past F u → CanBeginLow Built (F ++ u ∷ w) → ⊥
+not_over : (F : Text) (u : Token) (w : Text) → Past F u → CanBeginLow Spells (F ++ u ∷ w) → ⊥
 not_over F u w p (t, x, y, s, e, low) =
     let whole : plain (x ++ y) ≡ F ++ u ∷ (w ++ plain y) = plain-append x y ∙ ap (λ (T : Text). T ++ plain y) e ∙ append_assoc F (u ∷ w) (plain y) in
     let stop_here : file_at 63 (plain (x ++ y)) ≡ stop TooDeep (u ∷ (w ++ plain y)) = subst (λ (T : Text). file_at 63 T ≡ stop TooDeep (u ∷ (w ++ plain y))) (sym whole) (stops F u (w ++ plain y) p) in
@@ -131,7 +131,7 @@ not_over F u w p (t, x, y, s, e, low) =
           absurd cc
       | inr d ↦
           let r : file_at 63 (plain (x ++ y)) ≡ stop TooDeep (d.1.0 ∷ plain d.2) =
-          subst (λ (T : Text). file_at 63 T ≡ stop TooDeep (d.1.0 ∷ plain d.2)) (sym (ap plain d.3 ∙ plain-append d.0 (d.1 ∷ d.2))) (the_file.deep d.0 d.1 d.2 t (plain d.2) (subst (Built t) d.3 s) d.4 d.5 tt) in
+          subst (λ (T : Text). file_at 63 T ≡ stop TooDeep (d.1.0 ∷ plain d.2)) (sym (ap plain d.3 ∙ plain-append d.0 (d.1 ∷ d.2))) (the_file.deep d.0 d.1 d.2 t (plain d.2) (subst (Spells t) d.3 s) d.4 d.5 tt) in
           let same = same_left (d.1.0 ∷ plain d.2) (u ∷ (w ++ plain y)) (sym r ∙ stop_here) in
           let far = behind_low x y d.0 d.1 d.2 d.3 low d.5 in
           let sizes = ap length d.3 in
@@ -139,44 +139,44 @@ not_over F u w p (t, x, y, s, e, low) =
     ]
 
 -- the text up to the token begins some text
-past_begins : (F : Text) (u : Token) → Past F u → CanBegin Built (F ++ u ∷ [])
+past_begins : (F : Text) (u : Token) → Past F u → CanBegin Spells (F ++ u ∷ [])
 past_begins F u (t, x, level, y, s, e, low, past) =
-    (t, x ++ (u, level) ∷ [], y, subst (Built t) (sym (append_assoc x ((u, level) ∷ []) y)) s, plain-append x ((u, level) ∷ []) ∙ ap (λ (T : Text). T ++ u ∷ []) e)
+    (t, x ++ (u, level) ∷ [], y, subst (Spells t) (sym (append_assoc x ((u, level) ∷ []) y)) s, plain-append x ((u, level) ∷ []) ∙ ap (λ (T : Text). T ++ u ∷ []) e)
 
-low_begins : (F : Text) → CanBeginLow Built F → CanBegin Built F
+low_begins : (F : Text) → CanBeginLow Spells F → CanBegin Spells F
 low_begins F (t, x, y, s, e, low) = (t, x, y, s, e)
 
-longer : (F : Text) (t : Token) (w : Text) → CanBegin Built (F ++ t ∷ w) → CanBegin Built (F ++ t ∷ [])
-longer F t w b = begins_less (F ++ t ∷ []) w (subst (CanBegin Built) (sym (append_assoc F (t ∷ []) w)) b)
+longer : (F : Text) (t : Token) (w : Text) → CanBegin Spells (F ++ t ∷ w) → CanBegin Spells (F ++ t ∷ [])
+longer F t w b = begins_less (F ++ t ∷ []) w (subst (CanBegin Spells) (sym (append_assoc F (t ∷ []) w)) b)
 
 abbrev Same : Cause → Cause → Token → Token → Type 0
 Same c d t u = (c ≡ d) × (t ≡ u)
 
-syntax_syntax : (F G : Text) (t u : Token) → Parted F G t u → IsAtFault Built Syntax F t → IsAtFault Built Syntax G u → t ≡ u
+syntax_syntax : (F G : Text) (t u : Token) → Parted F G t u → IsAtFault Spells Syntax F t → IsAtFault Spells Syntax G u → t ≡ u
 syntax_syntax F G t u (inl s) a b = s.1
-syntax_syntax F G t u (inr (inl s)) a b = absurd (b.1 (longer G u s.0 (subst (CanBegin Built) s.1 (low_begins F a.0))))
-syntax_syntax F G t u (inr (inr s)) a b = absurd (a.1 (longer F t s.0 (subst (CanBegin Built) s.1 (low_begins G b.0))))
+syntax_syntax F G t u (inr (inl s)) a b = absurd (b.1 (longer G u s.0 (subst (CanBegin Spells) s.1 (low_begins F a.0))))
+syntax_syntax F G t u (inr (inr s)) a b = absurd (a.1 (longer F t s.0 (subst (CanBegin Spells) s.1 (low_begins G b.0))))
 
-syntax_deep : (F G : Text) (t u : Token) → Parted F G t u → IsAtFault Built Syntax F t → Past G u → ⊥
-syntax_deep F G t u (inl s) a p = a.1 (subst (λ (v : Token). CanBegin Built (F ++ v ∷ [])) (sym s.1) (subst (λ (H : Text). CanBegin Built (H ++ u ∷ [])) (sym s.0) (past_begins G u p)))
-syntax_deep F G t u (inr (inl s)) a p = not_over G u s.0 p (subst (CanBeginLow Built) s.1 a.0)
-syntax_deep F G t u (inr (inr s)) a p = a.1 (longer F t (s.0 ++ u ∷ []) (subst (CanBegin Built) (ap (λ (H : Text). H ++ u ∷ []) s.1 ∙ append_assoc F (t ∷ s.0) (u ∷ [])) (past_begins G u p)))
+syntax_deep : (F G : Text) (t u : Token) → Parted F G t u → IsAtFault Spells Syntax F t → Past G u → ⊥
+syntax_deep F G t u (inl s) a p = a.1 (subst (λ (v : Token). CanBegin Spells (F ++ v ∷ [])) (sym s.1) (subst (λ (H : Text). CanBegin Spells (H ++ u ∷ [])) (sym s.0) (past_begins G u p)))
+syntax_deep F G t u (inr (inl s)) a p = not_over G u s.0 p (subst (CanBeginLow Spells) s.1 a.0)
+syntax_deep F G t u (inr (inr s)) a p = a.1 (longer F t (s.0 ++ u ∷ []) (subst (CanBegin Spells) (ap (λ (H : Text). H ++ u ∷ []) s.1 ∙ append_assoc F (t ∷ s.0) (u ∷ [])) (past_begins G u p)))
 
 deep_deep : (F G : Text) (t u : Token) → Parted F G t u → Past F t → Past G u → t ≡ u
 deep_deep F G t u (inl s) p q = s.1
 deep_deep F G t u (inr (inl s)) p q =
-    let low : CanBeginLow Built F = (p.0, p.1, (t, p.2) ∷ p.3, p.4, p.5, p.6) in
-    absurd (not_over G u s.0 q (subst (CanBeginLow Built) s.1 low))
+    let low : CanBeginLow Spells F = (p.0, p.1, (t, p.2) ∷ p.3, p.4, p.5, p.6) in
+    absurd (not_over G u s.0 q (subst (CanBeginLow Spells) s.1 low))
 deep_deep F G t u (inr (inr s)) p q =
-    let low : CanBeginLow Built G = (q.0, q.1, (u, q.2) ∷ q.3, q.4, q.5, q.6) in
-    absurd (not_over F t s.0 p (subst (CanBeginLow Built) s.1 low))
+    let low : CanBeginLow Spells G = (q.0, q.1, (u, q.2) ∷ q.3, q.4, q.5, q.6) in
+    absurd (not_over F t s.0 p (subst (CanBeginLow Spells) s.1 low))
 
 turned : (F G : Text) (t u : Token) → Parted F G t u → Parted G F u t
 turned F G t u (inl s) = inl (sym s.0, sym s.1)
 turned F G t u (inr (inl s)) = inr (inr s)
 turned F G t u (inr (inr s)) = inr (inl s)
 
-one_fault : (c d : Cause) (F G : Text) (t u : Token) → Parted F G t u → IsAtFault Built c F t → IsAtFault Built d G u → Same c d t u
+one_fault : (c d : Cause) (F G : Text) (t u : Token) → Parted F G t u → IsAtFault Spells c F t → IsAtFault Spells d G u → Same c d t u
 one_fault Syntax Syntax F G t u p a b = (refl, syntax_syntax F G t u p a b)
 one_fault Syntax TooDeep F G t u p a b = absurd (syntax_deep F G t u p a b)
 one_fault TooDeep Syntax F G t u p a b = absurd (syntax_deep G F u t (turned F G t u p) b a)
@@ -185,20 +185,20 @@ one_fault TooDeep d F G t u p a b = absurd b
 one_fault Syntax d F G t u p a b = absurd b
 one_fault c d F G t u p a b = absurd a
 
-tree_read : (tokens : Text) (t : FileTree) → IsTree Built tokens t → file_at 63 tokens ≡ Ok (t, [])
+tree_read : (tokens : Text) (t : FileTree) → IsTree Spells tokens t → file_at 63 tokens ≡ Ok (t, [])
 tree_read tokens t (x, s, e, low) = subst (λ (T : Text). file_at 63 T ≡ Ok (t, [])) (append-nil (plain x) ∙ e) (the_file.again x t [] s low tt tt)
 
-no_fault : (tokens : Text) (t : FileTree) (c : Cause) (F : Text) (u : Token) (R : Text) → IsTree Built tokens t → tokens ≡ F ++ u ∷ R → IsAtFault Built c F u → ⊥
+no_fault : (tokens : Text) (t : FileTree) (c : Cause) (F : Text) (u : Token) (R : Text) → IsTree Spells tokens t → tokens ≡ F ++ u ∷ R → IsAtFault Spells c F u → ⊥
 no_fault tokens t Syntax F u R (x, s, e, low) p a =
-    a.1 (longer F u R (t, x, [], subst (Built t) (sym (append-nil x)) s, e ∙ p))
+    a.1 (longer F u R (t, x, [], subst (Spells t) (sym (append-nil x)) s, e ∙ p))
 no_fault tokens t TooDeep F u R tree p a =
     let r : file_at 63 tokens ≡ stop TooDeep (u ∷ R) = subst (λ (T : Text). file_at 63 T ≡ stop TooDeep (u ∷ R)) (sym p) (stops F u R a) in
     let both : (let k : Read FileTree = Ok (t, []) in k) ≡ stop TooDeep (u ∷ R) = sym (tree_read tokens t tree) ∙ r in
     cc
 no_fault tokens t c F u R tree p a = absurd a
 
-pub built_one_fault : OneTextFault Built
-built_one_fault tokens = (
+pub spelled_one_fault : OneTextFault Spells
+spelled_one_fault tokens = (
   (λ c d p q a b.
       let k = one_fault c d a.0 b.0 a.1 b.1 (parted a.0 b.0 a.1 b.1 a.2 b.2 (sym a.3 ∙ b.3)) a.4 b.4 in
       (k.0, a.5 ∙ ap (λ (t : Token). t.place) k.1 ∙ sym b.5)),

@@ -17,7 +17,12 @@ pub mod ExactAssignments
 pub mod ExactHeads
 pub mod ExactStatements
 pub mod ExactBlocks
+pub mod ExactLeads
+pub mod Named
+pub mod ExactParameters
+pub mod ExactGlobals
 pub mod ExactFiles
+pub mod Small
 pub mod Laws
 pub mod Called
 pub mod Stated
@@ -28,3 +33,5 @@ pub mod FaultExamples
 pub mod LoopExamples
 pub mod CallExamples
 pub mod FunctionExamples
+pub mod PrototypeExamples
+pub mod GlobalExamples

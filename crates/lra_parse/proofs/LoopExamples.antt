@@ -6,7 +6,7 @@ use Rattle.lra_tree.specs.declared.tokens.Kind.TheVariants.{Name, Number, End}
 use Rattle.lra_tree.specs.declared.trees.Identifier.{Identifier}
 use Rattle.lra_tree.specs.Program.{below}
 use Rattle.lra_tree.specs.Faults.{IsTree, IsTextFault}
-use Rattle.lra_tree.specs.Built.{Built}
+use Rattle.lra_tree.specs.Grammar.{Spells}
 use Rattle.lra_tree.specs.Trees.{literal, unary, ExprTree, term, value, conjunction, test, CondTree, expression, DeclarationTree, no_init, declared, StmtTree, block, nothing, if_only, if_else, while, for, break, return, ItemsTree, no_items, declaration, statement, function, FileTree, variable, compare, set, increment, before, assigned, continue}
 use Rattle.lra_parse.specs.Reading.{Text, loop}
 use Rattle.lra_parse.specs.Expressions.{unary_at, tests}
@@ -46,7 +46,7 @@ unopened_stops : file_at 63 (ended_at unopened 29) ≡ Err (record { cause = Syn
 unfolding loop unary_at tests levels
 unopened_stops = refl
 
-pub unopened_loop : IsTextFault Built (ended_at unopened 29) Syntax (in_line 23)
+pub unopened_loop : IsTextFault Spells (ended_at unopened 29) Syntax (in_line 23)
 unopened_loop = text_fault (ended_at unopened 29) (record { cause = Syntax; left = 5 }) (ends unopened 29 refl) unopened_stops (token_at (Number 1) 23) refl
 
 -- int main(void){ for(;;
@@ -57,7 +57,7 @@ cut_off_stops : file_at 63 (ended_at cut_off 23) ≡ Err (record { cause = Synta
 unfolding loop unary_at tests levels
 cut_off_stops = refl
 
-pub cut_off_head : IsTextFault Built (ended_at cut_off 23) Syntax (in_line 23)
+pub cut_off_head : IsTextFault Spells (ended_at cut_off 23) Syntax (in_line 23)
 cut_off_head = text_fault (ended_at cut_off 23) (record { cause = Syntax; left = 1 }) (ends cut_off 23 refl) cut_off_stops (token_at End 23) refl
 
 -- int main(void){ for(long i=0,;;) ; }: a comma asks for another name
@@ -69,7 +69,7 @@ declares_stops : file_at 63 (ended_at declares 37) ≡ Err (record { cause = Syn
 unfolding loop unary_at tests levels
 declares_stops = refl
 
-pub unfinished_declaration : IsTextFault Built (ended_at declares 37) Syntax (in_line 30)
+pub unfinished_declaration : IsTextFault Spells (ended_at declares 37) Syntax (in_line 30)
 unfinished_declaration = text_fault (ended_at declares 37) (record { cause = Syntax; left = 6 }) (ends declares 37 refl) declares_stops (mark_token mark.Semicolon 30) refl
 
 -- int main(void){ if(1) long i; }: a branch is a statement, and a declaration is none
@@ -80,7 +80,7 @@ declared_branch_stops : file_at 63 (ended_at declared_branch 32) ≡ Err (record
 unfolding loop unary_at tests levels
 declared_branch_stops = refl
 
-pub declaration_as_branch : IsTextFault Built (ended_at declared_branch 32) Syntax (in_line 23)
+pub declaration_as_branch : IsTextFault Spells (ended_at declared_branch 32) Syntax (in_line 23)
 declaration_as_branch = text_fault (ended_at declared_branch 32) (record { cause = Syntax; left = 5 }) (ends declared_branch 32 refl) declared_branch_stops (mark_token mark.Long 23) refl
 
 -- int main(void){ for(;;1) ; }: an expression is no step
@@ -91,7 +91,7 @@ stepless_stops : file_at 63 (ended_at stepless 29) ≡ Err (record { cause = Syn
 unfolding loop unary_at tests levels
 stepless_stops = refl
 
-pub expression_as_step : IsTextFault Built (ended_at stepless 29) Syntax (in_line 23)
+pub expression_as_step : IsTextFault Spells (ended_at stepless 29) Syntax (in_line 23)
 expression_as_step = text_fault (ended_at stepless 29) (record { cause = Syntax; left = 5 }) (ends stepless 29 refl) stepless_stops (token_at (Number 1) 23) refl
 
 -- int main(void){ while(1) ; else ; }: no `if` is near
@@ -102,7 +102,7 @@ lone_else_stops : file_at 63 (ended_at lone_else 36) ≡ Err (record { cause = S
 unfolding loop unary_at tests levels
 lone_else_stops = refl
 
-pub else_behind_loop : IsTextFault Built (ended_at lone_else 36) Syntax (in_line 28)
+pub else_behind_loop : IsTextFault Spells (ended_at lone_else 36) Syntax (in_line 28)
 else_behind_loop = text_fault (ended_at lone_else 36) (record { cause = Syntax; left = 4 }) (ends lone_else 36 refl) lone_else_stops (mark_token mark.Else 28) refl
 
 -- trees -------------------------------------------------------------------------------------------------------------
@@ -118,7 +118,7 @@ jumps_read : file_at 63 (ended_at jumps 35) ≡ Ok (jumps_tree, [])
 unfolding loop unary_at tests levels
 jumps_read = refl
 
-pub jumps_found : IsTree Built (ended_at jumps 35) jumps_tree
+pub jumps_found : IsTree Spells (ended_at jumps 35) jumps_tree
 jumps_found = tree_found (ended_at jumps 35) [] jumps_tree (ends jumps 35 refl) jumps_read
 
 -- int main(void){ for(long i;;) { long j; ; long k; } }
@@ -138,7 +138,7 @@ inner_read : file_at 63 (ended_at inner 54) ≡ Ok (inner_tree, [])
 unfolding loop unary_at tests levels
 inner_read = refl
 
-pub inner_found : IsTree Built (ended_at inner 54) inner_tree
+pub inner_found : IsTree Spells (ended_at inner 54) inner_tree
 inner_found = tree_found (ended_at inner 54) [] inner_tree (ends inner 54 refl) inner_read
 
 -- int main(void){ for(x=0;x<9;++x) continue; return; }
@@ -154,7 +154,7 @@ whole_for_read : file_at 63 (ended_at whole_for 53) ≡ Ok (whole_for_tree, [])
 unfolding loop unary_at tests levels
 whole_for_read = refl
 
-pub whole_for_found : IsTree Built (ended_at whole_for 53) whole_for_tree
+pub whole_for_found : IsTree Spells (ended_at whole_for 53) whole_for_tree
 whole_for_found = tree_found (ended_at whole_for 53) [] whole_for_tree (ends whole_for 53 refl) whole_for_read
 
 -- int main(void){ if(1) while(2) for(;;) if(3) ; else ; }: the `else` belongs to the nearest `if`
@@ -170,7 +170,7 @@ nearest_read : file_at 63 (ended_at nearest 56) ≡ Ok (nearest_tree, [])
 unfolding loop unary_at tests levels
 nearest_read = refl
 
-pub nearest_found : IsTree Built (ended_at nearest 56) nearest_tree
+pub nearest_found : IsTree Spells (ended_at nearest 56) nearest_tree
 nearest_found = tree_found (ended_at nearest 56) [] nearest_tree (ends nearest 56 refl) nearest_read
 
 -- levels: a loop's body opens one, from its first token on -------------------------------------------------------------
@@ -192,7 +192,7 @@ lowest_read : file_at 63 (ended_at lowest 460) ≡ Ok (main_of (statement (loops
 unfolding loop unary_at tests levels
 lowest_read = refl
 
-pub lowest_found : IsTree Built (ended_at lowest 460) (main_of (statement (loops_tree 63 17 (nothing (in_line 458))) no_items) 459)
+pub lowest_found : IsTree Spells (ended_at lowest 460) (main_of (statement (loops_tree 63 17 (nothing (in_line 458))) no_items) 459)
 lowest_found = tree_found (ended_at lowest 460) [] (main_of (statement (loops_tree 63 17 (nothing (in_line 458))) no_items) 459) (ends lowest 460 refl) lowest_read
 
 -- int main(void){ 64 times `for(;;)`, and `;}`: the `;` opens level 65
@@ -203,5 +203,5 @@ too_low_stops : file_at 63 (ended_at too_low 467) ≡ Err (record { cause = TooD
 unfolding loop unary_at tests levels
 too_low_stops = refl
 
-pub body_too_deep : IsTextFault Built (ended_at too_low 467) TooDeep (in_line 465)
+pub body_too_deep : IsTextFault Spells (ended_at too_low 467) TooDeep (in_line 465)
 body_too_deep = text_fault (ended_at too_low 467) (record { cause = TooDeep; left = 3 }) (ends too_low 467 refl) too_low_stops (mark_token mark.Semicolon 465) refl

@@ -9,7 +9,7 @@ use Rattle.lra_parse.specs.declared.reading.Stopped.{Stopped}
 use Rattle.lra_parse.specs.declared.reading.Stopped.TheVariants as stopped
 use Rattle.lra_parse.specs.Tests.{first, is_mark}
 use Rattle.lra_parse.specs.Reading.{Text, Read, Parse, stop, loop, expect, GivesErr, has, map_read, tail, turns, chain, chain_step, list_step, list_of}
-use Rattle.lra_parse.specs.Statements.{commas, up_to}
+use Rattle.lra_parse.specs.Statements.{commas_from, commas, up_to}
 use Rattle.lra_tree.specs.declared.tokens.Mark.TheVariants as mark
 use Rattle.lra_parse.specs.Expressions.{behind}
 use Rattle.lra_parse.proofs.Exact.{test, ok_is}
@@ -152,3 +152,12 @@ module _ {A B : Type 0} (p : Parse A) (f : A × List A → B) where
   pub commas_exit : (a : A) (T M : Text) (s : Stopped) → p T ≡ Ok (a, M) → GivesErr s (list_of (is_mark mark.Comma) (behind mark.Comma p) M) → GivesErr s (map_read f (commas p) T)
   commas_exit a T M stopped.Memory e g = tt
   commas_exit a T M (stopped.Fault d) e g = rw (e, g) refl
+
+-- where q reads the items behind the first
+module _ {A B : Type 0} (p q : Parse A) (f : A × List A → B) where
+  pub from_gives : (a : A) (is : List A) (T M R : Text) → p T ≡ Ok (a, M) → list_of (is_mark mark.Comma) (behind mark.Comma q) M ≡ Ok (is, R) → map_read f (commas_from p q) T ≡ Ok (f (a, is), R)
+  from_gives a is T M R e g = rw (e, g) refl
+
+  pub from_exit : (a : A) (T M : Text) (s : Stopped) → p T ≡ Ok (a, M) → GivesErr s (list_of (is_mark mark.Comma) (behind mark.Comma q) M) → GivesErr s (map_read f (commas_from p q) T)
+  from_exit a T M stopped.Memory e g = tt
+  from_exit a T M (stopped.Fault d) e g = rw (e, g) refl

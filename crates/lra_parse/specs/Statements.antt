@@ -20,9 +20,12 @@ use Rattle.lra_parse.specs.Expressions.{behind, ended, in_parens, factors, summa
 abbrev pub skip : Mark → Text → Text
 skip m T = cond (is_mark m (first T)) (tail T) T
 
--- items with commas between them
+-- items with commas between them; p reads the first
+abbrev pub commas_from : {A : Type 0} → Parse A → Parse A → Parse (A × List A)
+commas_from p q = seq p (λ a. map_read (λ further. (a, further)) (list_of (is_mark mark.Comma) (behind mark.Comma q)))
+
 abbrev pub commas : {A : Type 0} → Parse A → Parse (A × List A)
-commas p = seq p (λ a. map_read (λ further. (a, further)) (list_of (is_mark mark.Comma) (behind mark.Comma p)))
+commas p = commas_from p p
 
 -- calls, and what a variable gets or a `return` gives --------------------------------------------------------------------
 

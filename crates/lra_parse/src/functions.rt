@@ -1,16 +1,21 @@
-//! Functions and whole files.
+//! Parts and whole files.
 
-ghost use Rattle.std.specs.Prelude.{◌≡◌, ◌<◌, ◌≤◌, [], ◌∷◌, length, IfOk};
-ghost use Rattle.lra_tree.specs.Views.{function_view, tree_view};
+ghost use Rattle.std.specs.Prelude.{◌≡◌, ◌<◌, ◌≤◌, [], ◌∷◌, length, Some, option_map, IfOk};
+ghost use Rattle.lra_tree.specs.Views.{block_view, function_view, part_view, tree_view};
+ghost use Rattle.lra_parse.specs.declared.functions.Lead.TheVariants as lead;
 ghost use Rattle.lra_parse.specs.Tests.{first};
-ghost use Rattle.lra_parse.specs.Reading.{Gives, map_read, take_by};
+ghost use Rattle.lra_parse.specs.Reading.{Gives, map_read, take_by, has};
 ghost use Rattle.lra_parse.specs.Statements.{commas, listed};
-ghost use Rattle.lra_parse.specs.Files.{next_main, next_end, read_head, parameter_at, parameters_at, function_at, begins_part, file_at};
+ghost use Rattle.lra_parse.specs.Files.{AreSmall, next_main, next_end, next_built_in, named, called, at_type, at_void, lead_form, plain_lead, read_lead, ends_parameter, name_or_none, parameter_at, parameters_at, names_of, signature_of, function_of, ending, signature_at, rest_at, part_at, begins_part, file_at};
+ghost use Rattle.lra_parse.specs.Heads.{signature_view};
 
 use crate::assignments::read_type;
-use crate::reading::{Stopped, expect, next_is, read_name, stop, tail};
+use crate::globals::read_globals;
+use crate::reading::{Stopped, expect, next_is, next_is_name, read_name, stop, tail};
 use crate::statements::read_body;
-use lra_tree::{Cause, Function, Identifier, Item, Kind, Mark, Parameters, Place, Token, Tree};
+use lra_tree::{
+    Block, Cause, Function, Identifier, Item, Kind, Mark, Parameters, Place, Token, Tree,
+};
 use std::alloc::{AllocError, Global};
 
 /// The name `main`.
@@ -26,39 +31,174 @@ fn read_main(alloc: Global, rest: &[Token]) -> Result<(Identifier, &[Token]), St
     }
 }
 
-/// Whether the function has a result, and its name: behind `int` only `main`.
-fn read_head(alloc: Global, rest: &[Token]) -> Result<((bool, Identifier), &[Token]), Stopped>
+/// What a part begins with.
+pub enum Lead {
+    /// `int main`.
+    Main(Identifier),
+    /// A type and a name.
+    Typed(Identifier),
+    /// `void` and a name.
+    Void(Identifier),
+    /// `extern`, or `input`, `assert` or `assume` in place of a name: what no function begins with.
+    Bare,
+}
+
+impl Drop for Lead {
+    fn drop(self) {
+        match self {
+            Lead::Main(_) => {}
+            Lead::Typed(_) => {}
+            Lead::Void(_) => {}
+            Lead::Bare => {}
+        }
+    }
+}
+
+impl Lead {
+    /// The part, behind this.
+    fn read_rest(self, alloc: Global, rest: &[Token]) -> Result<(Item, &[Token]), Stopped>
+        requires { AreSmall rest.now }
+        ensures shorter { IfOk result (λ r. length r.1.now < length rest.now) }
+        ensures gives { Gives (λ r. (part_view r.0, r.1.now)) result (rest_at 63 self rest.now) }
+    {
+        match self {
+            Lead::Main(name) => read_signature(alloc, Some((true, name)), rest),
+            Lead::Typed(name) => read_typed(alloc, name, rest),
+            Lead::Void(name) => read_signature(alloc, Some((false, name)), rest),
+            Lead::Bare => read_signature(alloc, None, rest),
+        }
+    }
+}
+
+// Whether the next token is a word that a prototype may have in place of a name.
+fn next_is_built_in(rest: &[Token]) -> bool
+    ensures { result ≡ has (next_built_in (first rest.now)) }
+{
+    if next_is(rest, Mark::Input) {
+        return true;
+    }
+    if next_is(rest, Mark::Assert) {
+        return true;
+    }
+    next_is(rest, Mark::Assume)
+}
+
+// What a part with this name begins with, behind a type or behind `void`.
+fn named(has_result: bool, name: Identifier) -> Lead
+    ensures { result ≡ named has_result name }
+{
+    if has_result {
+        Lead::Typed(name)
+    } else {
+        Lead::Void(name)
+    }
+}
+
+/// A name, or a word in its place.
+fn read_called(alloc: Global, has_result: bool, rest: &[Token]) -> Result<(Lead, &[Token]), Stopped>
+    ensures shorter { IfOk result (λ r. length r.1.now ≤ length rest.now) }
+    ensures gives { Gives (λ r. (r.0, r.1.now)) result (called has_result rest.now) }
+{
+    if next_is_built_in(rest) {
+        return Ok((Lead::Bare, tail(rest)));
+    }
+    let (name, after) = read_name(alloc, rest)?;
+    Ok((named(has_result, name), after))
+}
+
+/// A type, and a name or a word in its place.
+fn read_typed_lead(alloc: Global, rest: &[Token]) -> Result<(Lead, &[Token]), Stopped>
     ensures shorter { IfOk result (λ r. length r.1.now < length rest.now) }
-    ensures gives { Gives (λ r. (r.0, r.1.now)) result (read_head rest.now) }
+    ensures gives { Gives (λ r. (r.0, r.1.now)) result (lead_form (Some at_type) rest.now) }
+{
+    let words = read_type(rest)?;
+    let (lead, after) = read_called(alloc, true, words)?;
+    Ok((lead, after))
+}
+
+/// `void`, and a name or a word in its place.
+fn read_void_lead(alloc: Global, rest: &[Token]) -> Result<(Lead, &[Token]), Stopped>
+    ensures shorter { IfOk result (λ r. length r.1.now < length rest.now) }
+    ensures gives { Gives (λ r. (r.0, r.1.now)) result (lead_form (Some at_void) rest.now) }
+{
+    let word = expect(rest, Mark::Void)?;
+    let (lead, after) = read_called(alloc, false, word)?;
+    Ok((lead, after))
+}
+
+/// What a part begins with behind `extern`, or without it: behind `int` only `main`.
+fn read_plain_lead(alloc: Global, rest: &[Token]) -> Result<(Lead, &[Token]), Stopped>
+    ensures shorter { IfOk result (λ r. length r.1.now < length rest.now) }
+    ensures gives { Gives (λ r. (r.0, r.1.now)) result (plain_lead rest.now) }
 {
     if next_is(rest, Mark::Int) {
-        let (name, after) = read_main(alloc, tail(rest))?;
-        return Ok(((true, name), after));
+        let word = expect(rest, Mark::Int)?;
+        let (name, after) = read_main(alloc, word)?;
+        return Ok((Lead::Main(name), after));
     }
     if next_is(rest, Mark::Long) {
-        let words = read_type(rest)?;
-        let (name, after) = read_name(alloc, words)?;
-        return Ok(((true, name), after));
+        return read_typed_lead(alloc, rest);
     }
     if next_is(rest, Mark::Void) {
-        let (name, after) = read_name(alloc, tail(rest))?;
-        return Ok(((false, name), after));
+        return read_void_lead(alloc, rest);
     }
     stop(Cause::Syntax, rest)
 }
 
-/// A type, and the name of a parameter.
-fn read_parameter(alloc: Global, rest: &[Token]) -> Result<(Identifier, &[Token]), Stopped>
+/// What a part begins with.
+fn read_lead(alloc: Global, rest: &[Token]) -> Result<(Lead, &[Token]), Stopped>
+    ensures shorter { IfOk result (λ r. length r.1.now < length rest.now) }
+    ensures gives { Gives (λ r. (r.0, r.1.now)) result (read_lead rest.now) }
+{
+    if next_is(rest, Mark::Extern) {
+        let word = expect(rest, Mark::Extern)?;
+        let (_lead, after) = read_plain_lead(alloc, word)?;
+        return Ok((Lead::Bare, after));
+    }
+    let (lead, after) = read_plain_lead(alloc, rest)?;
+    Ok((lead, after))
+}
+
+// Whether the next token is a mark behind a parameter.
+fn ends_parameter(rest: &[Token]) -> bool
+    ensures { result ≡ ends_parameter (first rest.now) }
+{
+    if next_is(rest, Mark::Comma) {
+        return true;
+    }
+    next_is(rest, Mark::CloseParen)
+}
+
+/// A name, or nothing where a parameter ends.
+fn read_name_or_none(
+    alloc: Global,
+    rest: &[Token],
+) -> Result<(Option<Identifier>, &[Token]), Stopped>
+    ensures shorter { IfOk result (λ r. length r.1.now ≤ length rest.now) }
+    ensures gives { Gives (λ r. (r.0, r.1.now)) result (name_or_none rest.now) }
+{
+    if next_is_name(rest) {
+        let (name, after) = read_name(alloc, rest)?;
+        return Ok((Some(name), after));
+    }
+    if ends_parameter(rest) {
+        return Ok((None, rest));
+    }
+    stop(Cause::Syntax, rest)
+}
+
+/// A type, and the name of a parameter, if it has one.
+fn read_parameter(alloc: Global, rest: &[Token]) -> Result<(Option<Identifier>, &[Token]), Stopped>
     ensures shorter { IfOk result (λ r. length r.1.now < length rest.now) }
     ensures gives { Gives (λ r. (r.0, r.1.now)) result (parameter_at rest.now) }
 {
     let words = read_type(rest)?;
-    let (name, after) = read_name(alloc, words)?;
+    let (name, after) = read_name_or_none(alloc, words)?;
     Ok((name, after))
 }
 
-// The list of this name.
-fn alone(alloc: Global, first: Identifier) -> Result<Vec<Identifier>, AllocError>
+// The list of this parameter.
+fn alone(alloc: Global, first: Option<Identifier>) -> Result<Vec<Option<Identifier>>, AllocError>
     ensures { IfOk result (λ v. v.items ≡ first ∷ []) }
 {
     let mut items = Vec::new(alloc);
@@ -67,9 +207,9 @@ fn alone(alloc: Global, first: Identifier) -> Result<Vec<Identifier>, AllocError
 }
 
 /// Parameters with commas between them.
-fn read_many(alloc: Global, rest: &[Token]) -> Result<(Parameters, &[Token]), Stopped>
+fn read_many(alloc: Global, rest: &[Token]) -> Result<(Vec<Option<Identifier>>, &[Token]), Stopped>
     ensures shorter { IfOk result (λ r. length r.1.now ≤ length rest.now) }
-    ensures gives { Gives (λ r. (r.0.items.items, r.1.now)) result (map_read listed (commas parameter_at) rest.now) }
+    ensures gives { Gives (λ r. (r.0.items, r.1.now)) result (map_read listed (commas parameter_at) rest.now) }
 {
     let (first, mut left) = read_parameter(alloc, rest)?;
     let mut items = alone(alloc, first)?;
@@ -78,59 +218,182 @@ fn read_many(alloc: Global, rest: &[Token]) -> Result<(Parameters, &[Token]), St
         items.push(parameter)?;
         left = after;
     }
-    Ok((Parameters { items }, left))
+    Ok((items, left))
 }
 
-// No parameters.
-fn none(alloc: Global) -> Parameters
-    ensures { result.items.items ≡ [] }
-{
-    Parameters {
-        items: Vec::new(alloc),
-    }
-}
-
-/// The parameters of a function, behind the opening parenthesis, with the closing one.
-fn read_parameters(alloc: Global, rest: &[Token]) -> Result<(Parameters, &[Token]), Stopped>
+/// Parameters, behind the opening parenthesis, with the closing one.
+fn read_parameters(
+    alloc: Global,
+    rest: &[Token],
+) -> Result<(Vec<Option<Identifier>>, &[Token]), Stopped>
     ensures shorter { IfOk result (λ r. length r.1.now ≤ length rest.now) }
-    ensures gives { Gives (λ r. (r.0.items.items, r.1.now)) result (parameters_at rest.now) }
+    ensures gives { Gives (λ r. (r.0.items, r.1.now)) result (parameters_at rest.now) }
 {
     if next_is(rest, Mark::CloseParen) {
-        return Ok((none(alloc), tail(rest)));
+        return Ok((Vec::new(alloc), tail(rest)));
     }
     if next_is(rest, Mark::Void) {
         let after = expect(tail(rest), Mark::CloseParen)?;
-        return Ok((none(alloc), after));
+        return Ok((Vec::new(alloc), after));
     }
     let (parameters, behind) = read_many(alloc, rest)?;
     let closed = expect(behind, Mark::CloseParen)?;
     Ok((parameters, closed))
 }
 
-/// A function; its body's brace opens the first level.
-fn read_function(alloc: Global, rest: &[Token]) -> Result<(Function, &[Token]), Stopped>
-    ensures shorter { IfOk result (λ r. length r.1.now < length rest.now) }
-    ensures gives { Gives (λ r. (function_view r.0, r.1.now)) result (function_at 63 rest.now) }
+/// The names of parameters, if each has one.
+fn names_of(
+    alloc: Global,
+    parameters: Vec<Option<Identifier>>,
+) -> Result<Option<Parameters>, AllocError>
+    ensures { IfOk result (λ o. option_map (λ p. p.items.items) o ≡ names_of parameters.items) }
 {
-    let ((has_result, name), head) = read_head(alloc, rest)?;
-    let opened = expect(head, Mark::OpenParen)?;
-    let (parameters, closed) = read_parameters(alloc, opened)?;
-    let (body, after) = read_body(alloc, closed, 63)?;
-    Ok((
+    let mut items = Vec::new(alloc);
+    let mut are_named = true;
+    'names: for parameter in parameters {
+        match parameter {
+            Some(name) => items.push(name)?,
+            None => are_named = false,
+        }
+    }
+    if are_named {
+        Ok(Some(Parameters { items }))
+    } else {
+        Ok(None)
+    }
+}
+
+/// What a function has before its body.
+struct Signature {
+    has_result: bool,
+    name: Identifier,
+    parameters: Parameters,
+}
+
+impl Drop for Signature {
+    fn drop(self) {
+        let Signature {
+            has_result: _,
+            name: _,
+            parameters: _,
+        } = self;
+    }
+}
+
+impl Signature {
+    // The function with this body.
+    fn into_function(self, body: Block) -> Function
+        ensures { function_view result ≡ function_of (signature_view self) (block_view body) }
+    {
+        let Signature {
+            has_result,
+            name,
+            parameters,
+        } = self;
         Function {
             has_result,
             name,
             parameters,
             body,
-        },
-        after,
-    ))
+        }
+    }
 }
 
-// Whether the next token begins a function.
+// What a function has, if there is a name, and each parameter has one.
+fn signature_of(
+    alloc: Global,
+    head: Option<(bool, Identifier)>,
+    parameters: Vec<Option<Identifier>>,
+) -> Result<Option<Signature>, AllocError>
+    ensures { IfOk result (λ o. option_map signature_view o ≡ signature_of head parameters.items) }
+{
+    let (has_result, name) = match head {
+        Some(head) => head,
+        None => return Ok(None),
+    };
+    match names_of(alloc, parameters)? {
+        Some(parameters) => Ok(Some(Signature {
+            has_result,
+            name,
+            parameters,
+        })),
+        None => Ok(None),
+    }
+}
+
+/// What comes behind the parameters: a body, whose brace opens the first level, or a semicolon.
+fn read_ending(
+    alloc: Global,
+    signature: Option<Signature>,
+    rest: &[Token],
+) -> Result<(Item, &[Token]), Stopped>
+    ensures shorter { IfOk result (λ r. length r.1.now < length rest.now) }
+    ensures gives { Gives (λ r. (part_view r.0, r.1.now)) result (ending 63 (option_map signature_view signature) rest.now) }
+{
+    match signature {
+        Some(signature) => {
+            if next_is(rest, Mark::OpenBrace) {
+                let (body, after) = read_body(alloc, rest, 63)?;
+                return Ok((Item::Function(signature.into_function(body)), after));
+            }
+            let after = expect(rest, Mark::Semicolon)?;
+            Ok((Item::Prototype, after))
+        }
+        None => {
+            let after = expect(rest, Mark::Semicolon)?;
+            Ok((Item::Prototype, after))
+        }
+    }
+}
+
+/// A function or a prototype, behind what it begins with.
+fn read_signature(
+    alloc: Global,
+    head: Option<(bool, Identifier)>,
+    rest: &[Token],
+) -> Result<(Item, &[Token]), Stopped>
+    ensures shorter { IfOk result (λ r. length r.1.now < length rest.now) }
+    ensures gives { Gives (λ r. (part_view r.0, r.1.now)) result (signature_at 63 head rest.now) }
+{
+    let opened = expect(rest, Mark::OpenParen)?;
+    let (parameters, closed) = read_parameters(alloc, opened)?;
+    let signature = signature_of(alloc, head, parameters)?;
+    let (item, after) = read_ending(alloc, signature, closed)?;
+    Ok((item, after))
+}
+
+/// A part, behind a type and a name.
+fn read_typed(alloc: Global, name: Identifier, rest: &[Token]) -> Result<(Item, &[Token]), Stopped>
+    requires { AreSmall rest.now }
+    ensures shorter { IfOk result (λ r. length r.1.now < length rest.now) }
+    ensures gives { Gives (λ r. (part_view r.0, r.1.now)) result (rest_at 63 (lead.Typed name) rest.now) }
+{
+    if next_is(rest, Mark::OpenParen) {
+        let (item, after) = read_signature(alloc, Some((true, name)), rest)?;
+        return Ok((item, after));
+    }
+    let (item, after) = read_globals(alloc, name, rest)?;
+    Ok((item, after))
+}
+
+/// A function, a prototype or globals.
+fn read_part(alloc: Global, rest: &[Token]) -> Result<(Item, &[Token]), Stopped>
+    requires { AreSmall rest.now }
+    ensures shorter { IfOk result (λ r. length r.1.now < length rest.now) }
+    ensures gives { Gives (λ r. (part_view r.0, r.1.now)) result (part_at 63 rest.now) }
+{
+    let (lead, behind) = read_lead(alloc, rest)?;
+    let (item, after) = lead.read_rest(alloc, behind)?;
+    Ok((item, after))
+}
+
+// Whether the next token begins a part.
 fn begins_part(rest: &[Token]) -> bool
     ensures { result ≡ begins_part (first rest.now) }
 {
+    if next_is(rest, Mark::Extern) {
+        return true;
+    }
     if next_is(rest, Mark::Int) {
         return true;
     }
@@ -153,15 +416,16 @@ fn read_end(rest: &[Token]) -> Result<(Place, &[Token]), Stopped>
     }
 }
 
-/// Functions, and the end.
+/// Parts, and the end.
 pub fn read_file(alloc: Global, rest: &[Token]) -> Result<(Tree, &[Token]), Stopped>
+    requires { AreSmall rest.now }
     ensures { Gives (λ r. (tree_view r.0, r.1.now)) result (file_at 63 rest.now) }
 {
     let mut left = rest;
     let mut items = Vec::new(alloc);
-    'functions: while begins_part(left) {
-        let (function, after) = read_function(alloc, left)?;
-        items.push(Item::Function(function))?;
+    'parts: while begins_part(left) {
+        let (item, after) = read_part(alloc, left)?;
+        items.push(item)?;
         left = after;
     }
     let (end, behind) = read_end(left)?;

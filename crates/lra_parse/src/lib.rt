@@ -5,13 +5,14 @@
 #![tactic(auto)]
 
 ghost use Rattle.lra_tree.specs.Faults.{OneTree, OneTextFault};
-ghost use Rattle.lra_tree.specs.Built.{Built};
+ghost use Rattle.lra_tree.specs.Grammar.{Spells};
 
 mod assignments;
 mod calls;
 mod conditions;
 mod expressions;
 mod functions;
+mod globals;
 mod loops;
 mod parser;
 mod reading;
@@ -19,8 +20,8 @@ mod statements;
 
 pub use parser::{ParseError, parse};
 
-/// A law of the language that is taken: no text has two trees, and no list of tokens has two first faults, or a fault and a tree.
+/// A law of the language: no text has two trees, and no list of tokens has two first faults, or a fault and a tree.
 pub fn one_tree()
-    ensures tree { OneTree Built }
-    ensures fault { OneTextFault Built }
+    ensures tree { OneTree Spells }
+    ensures fault { OneTextFault Spells }
 {}

@@ -1,10 +1,10 @@
 //! The tree of a list of tokens, or its first fault.
 
 ghost use Rattle.std.specs.Prelude.{◌≡◌, Err, IfOk};
-ghost use Rattle.lra_tree.specs.Built.{Built};
+ghost use Rattle.lra_tree.specs.Grammar.{Spells};
 ghost use Rattle.lra_tree.specs.Faults.{IsTree, IsTextFault};
 ghost use Rattle.lra_tree.specs.Views.{tree_view};
-ghost use Rattle.lra_parse.specs.Files.{EndsOnce, file_at};
+ghost use Rattle.lra_parse.specs.Files.{EndsOnce, AreSmall, file_at};
 ghost use Rattle.lra_parse.specs.Answer.{IfRefused};
 
 use crate::functions::read_file;
@@ -25,7 +25,7 @@ pub enum ParseError {
 fn refusal(tokens: &[Token], fault: Fault) -> Refusal
     requires ends { EndsOnce tokens.now }
     requires stops { file_at 63 tokens.now ≡ Err fault }
-    ensures { IsTextFault Built tokens.now result.cause result.place }
+    ensures { IsTextFault Spells tokens.now result.cause result.place }
 {
     let index = tokens.len() - fault.left;
     Refusal {
@@ -34,13 +34,14 @@ fn refusal(tokens: &[Token], fault: Fault) -> Refusal
     }
 }
 
-/// The tree of the tokens, whose last and no other is the end; or the first fault: the first token with which no source begins, or that opens
+/// The tree of the tokens, whose last and no other is the end, and whose numbers are below 2^63; or the first fault: the first token with which no source begins, or that opens
 /// a level past the 64th. Both are exact: no text has two trees, and a fault is the only one (`one_tree`). The time is linear in the number of
 /// tokens, and calls nest at most in proportion to the levels.
 pub fn parse(alloc: Global, tokens: &[Token]) -> Result<Tree, ParseError>
-    requires { EndsOnce tokens.now }
-    ensures found { IfOk result (λ t. IsTree Built tokens.now (tree_view t)) }
-    ensures refused { IfRefused result (λ r. IsTextFault Built tokens.now r.cause r.place) }
+    requires ends { EndsOnce tokens.now }
+    requires small { AreSmall tokens.now }
+    ensures found { IfOk result (λ t. IsTree Spells tokens.now (tree_view t)) }
+    ensures refused { IfRefused result (λ r. IsTextFault Spells tokens.now r.cause r.place) }
 {
     match read_file(alloc, tokens) {
         Ok((tree, _behind)) => Ok(tree),

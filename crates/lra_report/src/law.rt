@@ -1,7 +1,6 @@
 //! One text, one report.
 
 ghost use Rattle.lra_tree.specs.Grammar.{Spells};
-ghost use Rattle.lra_tree.specs.Built.{Built};
 ghost use Rattle.lra_report.specs.Spelled.{OneText, OneAcceptedText, OneSourceText};
 ghost use Rattle.lra_report.specs.View.{report_of};
 
@@ -14,5 +13,4 @@ pub fn one_text(first: &Report, second: &Report)
     ensures program { OneText (report_of first.now) (report_of second.now) }
     ensures accepted { OneAcceptedText (report_of first.now) (report_of second.now) }
     ensures source { OneSourceText Spells (report_of first.now) (report_of second.now) }
-    ensures taken { OneSourceText Built (report_of first.now) (report_of second.now) }
 {}

@@ -5,7 +5,7 @@ pub mod Numbering
 pub mod Flags
 pub mod BoxShown
 pub mod Reports
-pub mod BuiltAnswer
+pub mod EachAnswer
 pub mod ReadSteps
 pub mod StageSteps
 pub mod StateSteps

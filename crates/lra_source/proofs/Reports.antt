@@ -4,7 +4,7 @@ use Rattle.std.specs.Prelude.{slice_get, option_map}
 use Rattle.std.specs.List.{AllByRecursion, Contains}
 use Rattle.std.proofs.lemmas.Option.{none-some, same_Some}
 use Rattle.lra_tree.specs.Trees.{FileTree}
-use Rattle.lra_tree.specs.Built.{Built}
+use Rattle.lra_tree.specs.Grammar.{Spells}
 use Rattle.lra_tree.specs.Program.{Program}
 use Rattle.lra_tree.specs.Run.{At, Fails}
 use Rattle.lra_tree.specs.Resolve.{resolve}
@@ -123,7 +123,7 @@ module _ {V H : Type 0} (m : Meaning V H) (laws : Laws m) (domain : Domain) (sho
             (subst (λ (d : Domain). AllByRecursion (Tells d (length p.names)) (shown v)) (sym same) (subst (λ (n : ℕ). AllByRecursion (Tells domain n) (shown v)) named one.tell));
       }
 
-  pub is_report : (o : Options) (source : List ℕ) → o.domain ≡ domain → AreCapped m o.parts x.values → r.options ≡ o → Accepts Built source t → IsReportOf Built o source r
+  pub is_report : (o : Options) (source : List ℕ) → o.domain ≡ domain → AreCapped m o.parts x.values → r.options ≡ o → Accepts Spells source t → IsReportOf Spells o source r
   is_report o source same capped options accepted = record {
     options = options;
     tree = t;

@@ -16,7 +16,7 @@ use Rattle.lra_tree.specs.Resolve.{resolve}
 use Rattle.lra_tree.specs.NameFaults.{name_faults}
 use Rattle.lra_tree.specs.Agree.{IsGraph, Agrees}
 use Rattle.lra_tree.specs.WellFormed.{IsWellFormed}
-use Rattle.lra_tree.specs.Built.{Built}
+use Rattle.lra_tree.specs.Grammar.{Spells}
 use Rattle.lra_tree.specs.Report.{Domain, box, Options, State, Report}
 use Rattle.lra_tree.specs.Refuse.{limit_fault, NotRecursive, RefusesTree, bad_name, recursive, past_limit, Refuse, Accepts}
 use Rattle.lra_report.specs.declared.report.Report as code
@@ -96,11 +96,11 @@ limit_refused t P x r labels is names straight passed walk told_by =
 
 -- without faults of names the program of a source's tree is well-formed
 pub well : (source : List ℕ) (t : FileTree) → HasTree source t → name_faults t ≡ [] → IsWellFormed (resolve t)
-well source t has names = well_formed t (spelled_are_small source has.tokens t has.parsed.0 has.lexed has.parsed.1.0 has.parsed.2) names
+well source t has names = well_formed t (spelled_are_small source has.tokens t has.parsed.0 has.lexed has.parsed.1 has.parsed.2) names
 
 module _ {V H : Type 0} (m : Meaning V H) (laws : Laws m) (shown : V → State) (domain : Domain) (o : Options) (source : List ℕ) (t : FileTree) (r : Report)
     (has : HasTree source t) (is : IsToldOf m shown domain o t r) where
-  accepted : Accepts Built source t
+  accepted : Accepts Spells source t
   accepted = record {
     tokens = has.tokens;
     not_long = has.not_long;
@@ -136,7 +136,7 @@ module _ (o : Options) (source : List ℕ) (t : FileTree) (has : HasTree source 
   each_answered (Ok r) domain is = is_answered box_meaning box_laws (shown_state box_meaning) box o source t (report_of r) has is domain
   each_answered (Err e) domain is = tt
 
-  pub each_refused : (x : Result code.Report SourceError) → IfRefused x (λ (r : Refusal). RefusesTree t r.cause r.place) → IfRefused x (λ (r : Refusal). Refuse Built source r.cause r.place)
+  pub each_refused : (x : Result code.Report SourceError) → IfRefused x (λ (r : Refusal). RefusesTree t r.cause r.place) → IfRefused x (λ (r : Refusal). Refuse Spells source r.cause r.place)
   each_refused (Ok r) fault = tt
   each_refused (Err (Refused r)) fault = tree_refused source t r.cause r.place has fault
   each_refused (Err Memory) fault = tt

@@ -3,7 +3,7 @@ use Rattle.std.specs.Prelude.{◌≡◌, ℕ, List, ⊤, Result, Ok, Err}
 use Rattle.lra_tree.specs.declared.refusals.Refusal.{Refusal}
 use Rattle.lra_tree.specs.Report.{Domain, box, Options, State, Report}
 use Rattle.lra_tree.specs.Resolve.{resolve}
-use Rattle.lra_tree.specs.Built.{Built}
+use Rattle.lra_tree.specs.Grammar.{Spells}
 use Rattle.lra_tree.specs.Listing.{IsReportOf}
 use Rattle.lra_report.specs.Spelled.{IsReadable}
 use Rattle.lra_domain.specs.Meaning.{Meaning}
@@ -23,7 +23,7 @@ settings_of o = record { parts = o.parts; delay = o.delay; narrow = o.narrow; li
 pub record IsAnsweredOver {V H : Type 0} (m : Meaning V H) (shown : V → State) (domain : Domain) (o : Options)
     (source : List ℕ) (r : Report) : Type 0 where
   pub domain_is : o.domain ≡ domain
-  pub report : IsReportOf Built o source r
+  pub report : IsReportOf Spells o source r
   pub analysed : IsAnalysed m shown (settings_of o) (resolve report.tree) r
   pub readable : IsReadable r
 

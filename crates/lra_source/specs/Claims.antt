@@ -9,7 +9,7 @@ use Rattle.lra_tree.specs.Resolve.{resolve}
 use Rattle.lra_tree.specs.Sites.{Site, sites_of}
 use Rattle.lra_tree.specs.Agree.{IsGraph, Agrees}
 use Rattle.lra_tree.specs.WellFormed.{IsWellFormed}
-use Rattle.lra_tree.specs.Built.{Built}
+use Rattle.lra_tree.specs.Grammar.{Spells}
 use Rattle.lra_tree.specs.Refuse.{greatest_live, Accepts}
 use Rattle.lra_tree.specs.Listing.{Lists, IsReportOf}
 use Rattle.lra_flow.specs.declared.Settings.{Settings}
@@ -47,7 +47,7 @@ AnalysedAreReports {V} m = (shown : V → State) (o : Options) (settings : Setti
     (r : Report)
     → (x : IsAnalysed m shown settings (resolve t) r)
     → AreShown m o.domain shown x.values → AreCapped m o.parts x.values
-    → Agrees (resolve t) x.tree → Lists t r → r.options ≡ o → Accepts Built source t → IsReportOf Built o source r
+    → Agrees (resolve t) x.tree → Lists t r → r.options ≡ o → Accepts Spells source t → IsReportOf Spells o source r
 
 -- each box is shown by its rows
 abbrev pub BoxesAreShown : Type 0

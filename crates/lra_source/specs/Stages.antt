@@ -4,7 +4,7 @@ use Rattle.lra_tree.specs.declared.tokens.Token.{Token}
 use Rattle.lra_tree.specs.Trees.{FileTree}
 use Rattle.lra_tree.specs.Tokens.{Lex}
 use Rattle.lra_tree.specs.Faults.{IsTree}
-use Rattle.lra_tree.specs.Built.{Built}
+use Rattle.lra_tree.specs.Grammar.{Spells}
 use Rattle.lra_tree.specs.NameFaults.{name_faults}
 use Rattle.lra_tree.specs.Labels.{labels_of}
 use Rattle.lra_tree.specs.Resolve.{resolve}
@@ -28,7 +28,7 @@ pub record HasTree (source : List ℕ) (t : FileTree) : Type 0 where
   pub tokens : List Token
   pub not_long : length source ≤ greatest_length
   pub lexed : Lex source tokens
-  pub parsed : IsTree Built tokens t
+  pub parsed : IsTree Spells tokens t
 
 -- a tree whose names have no fault, that has no recursion and whose program passes no limit, the tree of operations of that
 -- program, and its points

@@ -6,7 +6,7 @@ ghost use Rattle.lra_tree.specs.GraphViews.{node_view, site_view};
 ghost use Rattle.lra_tree.specs.NameFaults.{name_faults};
 ghost use Rattle.lra_tree.specs.Resolve.{resolve};
 ghost use Rattle.lra_tree.specs.WellFormed.{IsWellFormed};
-ghost use Rattle.lra_tree.specs.Built.{Built};
+ghost use Rattle.lra_tree.specs.Grammar.{Spells};
 ghost use Rattle.lra_tree.specs.Refuse.{RefusesTree, Refuse};
 ghost use Rattle.lra_report.specs.View.{options_of, report_of};
 ghost use Rattle.lra_report.specs.declared.report.Domain.TheVariants.{Box};
@@ -81,7 +81,7 @@ pub fn analyse_source(alloc: Global, options: Options, bytes: &[u8]) -> Result<R
     requires parts { 1 ≤ options.parts }
     requires bound { length bytes.now + 1 < 2 ^ 32 }
     ensures answered { IfOk result (λ r. IsAnswered (options_of options) bytes.now (report_of r)) }
-    ensures refused { IfRefused result (λ r. Refuse Built bytes.now r.cause r.place) }
+    ensures refused { IfRefused result (λ r. Refuse Spells bytes.now r.cause r.place) }
 {
     let tree = read_tree(alloc, bytes)?;
     report_tree(alloc, options, &tree)

@@ -1,6 +1,6 @@
 //! Laws: each of these does nothing, and its contract is the theorem.
 
-ghost use Rattle.lra_tree.specs.Built.{Built};
+ghost use Rattle.lra_tree.specs.Grammar.{Spells};
 ghost use Rattle.lra_tree.specs.Refuse.{OneAnswer};
 ghost use Rattle.lra_tree.specs.Linear.{FormsAreRight, TestsAreRight, DiffersIsRight};
 ghost use Rattle.lra_source.specs.Soundness.{SolvedAreSound};
@@ -11,7 +11,7 @@ use lra_domain::Domain;
 
 /// A source is accepted with at most one tree, or refused for at most one cause at one place; never both.
 pub fn one_answer()
-    ensures { OneAnswer Built }
+    ensures { OneAnswer Spells }
 {
     lra_lex::one_reading();
     lra_parse::one_tree();

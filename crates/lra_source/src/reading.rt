@@ -3,7 +3,7 @@
 ghost use Rattle.std.specs.Prelude.{◌≤◌, ◌<◌, ◌+◌, ◌^◌, length, IfOk};
 ghost use Rattle.lra_tree.specs.Tokens.{Lex};
 ghost use Rattle.lra_tree.specs.Views.{tree_view};
-ghost use Rattle.lra_tree.specs.Built.{Built};
+ghost use Rattle.lra_tree.specs.Grammar.{Spells};
 ghost use Rattle.lra_tree.specs.Refuse.{Refuse};
 ghost use Rattle.lra_source.specs.Answers.{IfRefused};
 ghost use Rattle.lra_source.specs.Stages.{HasTree};
@@ -22,7 +22,7 @@ pub const GREATEST_LENGTH: usize = 65_536;
 fn read_tokens(alloc: Global, bytes: &[u8]) -> Result<Vec<Token>, SourceError>
     requires { length bytes.now ≤ 65536 }
     ensures found { IfOk result (λ v. Lex bytes.now v.items) }
-    ensures refused { IfRefused result (λ r. Refuse Built bytes.now r.cause r.place) }
+    ensures refused { IfRefused result (λ r. Refuse Spells bytes.now r.cause r.place) }
 {
     match tokens(alloc, bytes) {
         Ok(tokens) => Ok(tokens),
@@ -35,7 +35,7 @@ fn read_tokens(alloc: Global, bytes: &[u8]) -> Result<Vec<Token>, SourceError>
 pub fn read_tree(alloc: Global, bytes: &[u8]) -> Result<Tree, SourceError>
     requires { length bytes.now + 1 < 2 ^ 32 }
     ensures found { IfOk result (λ t. HasTree bytes.now (tree_view t)) }
-    ensures refused { IfRefused result (λ r. Refuse Built bytes.now r.cause r.place) }
+    ensures refused { IfRefused result (λ r. Refuse Spells bytes.now r.cause r.place) }
 {
     if bytes.len() > GREATEST_LENGTH {
         let place = place_behind(&bytes[..GREATEST_LENGTH]);

@@ -9,10 +9,10 @@ use Rattle.lra_tree.specs.Trees.{FileTree}
 use Rattle.lra_tree.specs.Tokens.{place_behind}
 use Rattle.lra_tree.specs.Report.{Options, Report}
 use Rattle.lra_tree.specs.ReportText.{report_text, unknown_count}
-use Rattle.lra_tree.specs.Built.{Built}
+use Rattle.lra_tree.specs.Grammar.{Spells}
 use Rattle.lra_tree.specs.Refuse.{greatest_length, Refuse, too_long, bad_token, bad_text, bad_tree, refusal_text, Accepts}
 use Rattle.lra_source.specs.Answers.{IsAnswered}
-use Rattle.lra_source.proofs.BuiltAnswer.{built_answer}
+use Rattle.lra_source.proofs.EachAnswer.{each_answer}
 use Rattle.lra_top.specs.SourceAnswer.{limit, IsTooLong, IsUnrefused, IsRefusal, IsReport, IsReportStatus, DeservesSource}
 use Rattle.lra_top.specs.Ends.{IsAnswer, EndsInRefusal, EndsInReport}
 use Rattle.lra_top.proofs.ScriptWays.{past_limit}
@@ -37,7 +37,7 @@ deserves_report o bytes r text WriteFault answered written counted = counted
 deserves_report o bytes r text Memory answered written counted = counted
 
 -- a source that is refused deserves the refusal's
-pub deserves_refusal : (o : Options) (bytes text : List ℕ) (c : Cause) (at : Place) (status : Status) → Refuse Built bytes c at → text ≡ refusal_text c at → status ≡ Refused
+pub deserves_refusal : (o : Options) (bytes text : List ℕ) (c : Cause) (at : Place) (status : Status) → Refuse Spells bytes c at → text ≡ refusal_text c at → status ≡ Refused
     → DeservesSource o bytes text status
 deserves_refusal o bytes text c at status refused written s = rw s (record { cause = c; place = at; refused = refused; written = written })
 
@@ -48,13 +48,13 @@ pub ruleset deserving = (deserves_report, deserves_refusal)
 not_past : (bytes : List ℕ) → limit < length bytes → length bytes ≤ greatest_length → ⊥
 not_past bytes long within = let past : greatest_length < length bytes = past_limit bytes long in omega arith
 
-longer_too_long : (bytes rest : List ℕ) → greatest_length < length bytes → Refuse Built (bytes ++ rest) TooLong (place_behind (take greatest_length bytes))
+longer_too_long : (bytes rest : List ℕ) → greatest_length < length bytes → Refuse Spells (bytes ++ rest) TooLong (place_behind (take greatest_length bytes))
 longer_too_long bytes rest past =
     let longer : greatest_length < length (bytes ++ rest) = grind (arith, common_steps) in
     let reached : greatest_length ≤ length bytes = omega arith in
-    subst (λ (front : List ℕ). Refuse Built (bytes ++ rest) TooLong (place_behind front)) (take-append-le greatest_length bytes rest reached) (too_long longer)
+    subst (λ (front : List ℕ). Refuse Spells (bytes ++ rest) TooLong (place_behind front)) (take-append-le greatest_length bytes rest reached) (too_long longer)
 
-longer_refused : (bytes rest : List ℕ) (c : Cause) (at : Place) → limit < length bytes → Refuse Built bytes c at → Refuse Built (bytes ++ rest) c at
+longer_refused : (bytes rest : List ℕ) (c : Cause) (at : Place) → limit < length bytes → Refuse Spells bytes c at → Refuse Spells (bytes ++ rest) c at
 longer_refused bytes rest _ _ long (too_long past) = longer_too_long bytes rest past
 longer_refused bytes rest _ _ long (bad_token c p l e) = absurd (not_past bytes long l)
 longer_refused bytes rest _ _ long (bad_text tokens c p l lexed e) = absurd (not_past bytes long l)
@@ -80,11 +80,11 @@ source_answer o bytes text ReadFault d = d
 source_answer o bytes text WriteFault d = d
 source_answer o bytes text Memory d = d
 
-not_reported : (o : Options) (bytes text : List ℕ) (n : ℕ) (c : Cause) (at : Place) → IsReport o bytes text n → Refuse Built bytes c at → ⊥
-not_reported o bytes text n c at d refused = (built_answer bytes).2 d.answered.report.tree c at d.answered.report.accepted refused
+not_reported : (o : Options) (bytes text : List ℕ) (n : ℕ) (c : Cause) (at : Place) → IsReport o bytes text n → Refuse Spells bytes c at → ⊥
+not_reported o bytes text n c at d refused = (each_answer bytes).2 d.answered.report.tree c at d.answered.report.accepted refused
 
 -- a source that is refused
-pub source_refused : (o : Options) (bytes text : List ℕ) (status : Status) (c : Cause) (at : Place) → DeservesSource o bytes text status → Refuse Built bytes c at → EndsInRefusal status
+pub source_refused : (o : Options) (bytes text : List ℕ) (status : Status) (c : Cause) (at : Place) → DeservesSource o bytes text status → Refuse Spells bytes c at → EndsInRefusal status
 source_refused o bytes text Proved c at d refused = not_reported o bytes text 0 c at d refused
 source_refused o bytes text Unknown c at d refused = not_reported o bytes text d.0 c at d.2 refused
 source_refused o bytes text Refused c at d refused = tt
@@ -97,10 +97,10 @@ pub source_too_long : (o : Options) (bytes text : List ℕ) (status : Status) �
 source_too_long o bytes text status d long = source_refused o bytes text status TooLong _ d (too_long (past_limit bytes long))
 
 -- a source that is accepted
-pub source_reported : (o : Options) (bytes text : List ℕ) (status : Status) (t : FileTree) → DeservesSource o bytes text status → Accepts Built bytes t → EndsInReport status
+pub source_reported : (o : Options) (bytes text : List ℕ) (status : Status) (t : FileTree) → DeservesSource o bytes text status → Accepts Spells bytes t → EndsInReport status
 source_reported o bytes text Proved t d accepted = tt
 source_reported o bytes text Unknown t d accepted = tt
-source_reported o bytes text Refused t d accepted = (built_answer bytes).2 t d.cause d.place accepted d.refused
+source_reported o bytes text Refused t d accepted = (each_answer bytes).2 t d.cause d.place accepted d.refused
 source_reported o bytes text Usage t d accepted = d
 source_reported o bytes text ReadFault t d accepted = tt
 source_reported o bytes text WriteFault t d accepted = tt

@@ -5,7 +5,7 @@ use Rattle.std.specs.Io.KnownBytes.{Consumes, IsAtEnd}
 use Rattle.lra_tree.specs.declared.refusals.Cause.{Cause}
 use Rattle.lra_tree.specs.declared.refusals.Place.{Place}
 use Rattle.lra_tree.specs.Trees.{FileTree}
-use Rattle.lra_tree.specs.Built.{Built}
+use Rattle.lra_tree.specs.Grammar.{Spells}
 use Rattle.lra_tree.specs.Refuse.{Refuse, Accepts}
 use Rattle.lra_edge.specs.ReadEnd.{LosesFront}
 use Rattle.lra_calc.specs.Script as script
@@ -166,12 +166,12 @@ pub too_long_status : (words : List (List ℕ)) (left : Option (List ℕ)) (text
 too_long_status words left text status told c d asks tells long = too_long_of c told text status (told_input words left text status told c d asks tells) long
 
 pub refused_status : (words : List (List ℕ)) (left : Option (List ℕ)) (text : List ℕ) (status : Status) (told : List ℕ) (options : AnalyseOptions) (cause : Cause) (at : Place)
-    → IsDeserved words left text status → Asks words (Analyse options) → left ≡ Some told → Refuse Built told cause at → EndsInRefusal status
+    → IsDeserved words left text status → Asks words (Analyse options) → left ≡ Some told → Refuse Spells told cause at → EndsInRefusal status
 refused_status words left text status told options cause at d asks tells refused =
     source_refused (options_of options) told text status cause at (told_input words left text status told (Analyse options) d asks tells) refused
 
 pub accepted_status : (words : List (List ℕ)) (left : Option (List ℕ)) (text : List ℕ) (status : Status) (told : List ℕ) (options : AnalyseOptions) (t : FileTree)
-    → IsDeserved words left text status → Asks words (Analyse options) → left ≡ Some told → Accepts Built told t → EndsInReport status
+    → IsDeserved words left text status → Asks words (Analyse options) → left ≡ Some told → Accepts Spells told t → EndsInReport status
 accepted_status words left text status told options t d asks tells accepted =
     source_reported (options_of options) told text status t (told_input words left text status told (Analyse options) d asks tells) accepted
 

@@ -4,7 +4,7 @@ use Rattle.lra_tree.specs.declared.refusals.Cause.{Cause}
 use Rattle.lra_tree.specs.declared.refusals.Place.{Place}
 use Rattle.lra_tree.specs.Report.{Options, Report}
 use Rattle.lra_tree.specs.ReportText.{report_text, unknown_count}
-use Rattle.lra_tree.specs.Built.{Built}
+use Rattle.lra_tree.specs.Grammar.{Spells}
 use Rattle.lra_tree.specs.Refuse.{Refuse, refusal_text}
 use Rattle.lra_source.specs.Answers.{IsAnswered}
 use Rattle.lra_top.specs.declared.status.Status.{Status}
@@ -19,13 +19,13 @@ IsTooLong bytes = limit < length bytes
 
 -- the source has no cause of refusal
 abbrev pub IsUnrefused : List ℕ → Type 0
-IsUnrefused bytes = (cause : Cause) (place : Place) → Refuse Built bytes cause place → ⊥
+IsUnrefused bytes = (cause : Cause) (place : Place) → Refuse Spells bytes cause place → ⊥
 
 -- the text is that of the source's refusal
 pub record IsRefusal (bytes text : List ℕ) : Type 0 where
   pub cause : Cause
   pub place : Place
-  pub refused : Refuse Built bytes cause place
+  pub refused : Refuse Spells bytes cause place
   pub written : text ≡ refusal_text cause place
 
 -- the text is that of a report which the source deserves under these options, and in which so many verdicts are unknown

@@ -542,11 +542,11 @@ static REFUSALS: [(Pieces, &str); 69] = [
         "refused 8 DuplicateName at 1:21\n",
     ),
     (
-        ("long x; int main(void){}", "", 0, ""),
-        "refused 4 Syntax at 1:7\n",
+        ("long g=1+1; int main(void){}", "", 0, ""),
+        "refused 4 Syntax at 1:9\n",
     ),
     (
-        ("void f(void); int main(void){}", "", 0, ""),
+        ("void f(long){} int main(void){}", "", 0, ""),
         "refused 4 Syntax at 1:13\n",
     ),
     (
@@ -581,7 +581,7 @@ static REFUSALS: [(Pieces, &str); 69] = [
 ];
 
 /// Words, a source whose assertions are all proved, and lines of its report.
-static LINES: [(&str, Pieces, &str); 53] = [
+static LINES: [(&str, Pieces, &str); 58] = [
     (
         "lra analyse --domain=box",
         PROVED,
@@ -851,6 +851,42 @@ static LINES: [(&str, Pieces, &str); 53] = [
         "lra analyse --domain box --narrow 0",
         ("int main(void){", "while(0)", 63, ";}"),
         "point 63 main 1:512\n",
+    ),
+    // globals and prototypes
+    (
+        BOXES,
+        ("long x; int main(void){}", "", 0, ""),
+        "point 1 main 1:24\n  row x = 0\nverdicts proved 0 unknown 0\n",
+    ),
+    (
+        BOXES,
+        ("long g=-5; int main(void){ assert(g<0); }", "", 0, ""),
+        "point 1 main 1:28\n  row g = -5\n",
+    ),
+    (
+        BOXES,
+        ("void f(void); int main(void){}", "", 0, ""),
+        "point 1 main 1:30\n  row true\nverdicts proved 0 unknown 0\n",
+    ),
+    (
+        BOXES,
+        (
+            "long g=2; void f(void){ g=g+1; } int main(void){ f(); f(); assert(g==4); }",
+            "",
+            0,
+            "",
+        ),
+        "point 3 main/f@1:50 1:32\n  row g = 3\n",
+    ),
+    (
+        BOXES,
+        (
+            "long g=2; void f(void){ g=g+1; } int main(void){ f(); f(); assert(g==4); }",
+            "",
+            0,
+            "",
+        ),
+        "point 7 main 1:60\n  row g = 4\n",
     ),
     // functions: paths of calls, names that callers' hide, globals, results
     (

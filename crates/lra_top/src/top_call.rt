@@ -11,7 +11,7 @@ ghost use Rattle.lra_words.specs.declared.chosen.Command.TheVariants.{Analyse, C
 ghost use Rattle.lra_tree.specs.declared.refusals.Cause.{Cause};
 ghost use Rattle.lra_tree.specs.declared.refusals.Place.{Place};
 ghost use Rattle.lra_tree.specs.Trees.{FileTree};
-ghost use Rattle.lra_tree.specs.Built.{Built};
+ghost use Rattle.lra_tree.specs.Grammar.{Spells};
 ghost use Rattle.lra_tree.specs.Refuse.{Refuse, Accepts};
 ghost use Rattle.lra_top.specs.SourceAnswer.{limit, IsTooLong, IsUnrefused};
 ghost use Rattle.lra_top.specs.ScriptAnswer.{DeservesScript};
@@ -162,10 +162,10 @@ pub fn run<S: Source, K: Sink>(
     ensures too_long { (c : Command) → Asks (map string_bytes words.now) c →
         (bytes : List ℕ) → S.left source.old ≡ Some bytes → IsTooLong bytes → EndsInRefusal result }
     ensures source_refused { (options : AnalyseOptions) → Asks (map string_bytes words.now) (Analyse options) →
-        (bytes : List ℕ) → S.left source.old ≡ Some bytes → (cause : Cause) (at : Place) → Refuse Built bytes cause at →
+        (bytes : List ℕ) → S.left source.old ≡ Some bytes → (cause : Cause) (at : Place) → Refuse Spells bytes cause at →
         EndsInRefusal result }
     ensures accepted { (options : AnalyseOptions) → Asks (map string_bytes words.now) (Analyse options) →
-        (bytes : List ℕ) → S.left source.old ≡ Some bytes → (tree : FileTree) → Accepts Built bytes tree → EndsInReport result }
+        (bytes : List ℕ) → S.left source.old ≡ Some bytes → (tree : FileTree) → Accepts Spells bytes tree → EndsInReport result }
     ensures script_refused { Asks (map string_bytes words.now) Calc → (bytes : List ℕ) → S.left source.old ≡ Some bytes →
         (r : script.Refusal) → script.answer_to bytes ≡ Err r → EndsInRefusal result }
     ensures script_ran { Asks (map string_bytes words.now) Calc → (bytes : List ℕ) → S.left source.old ≡ Some bytes →

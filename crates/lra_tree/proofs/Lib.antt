@@ -21,6 +21,5 @@ mod WellFormedExamples
 -- Refusals at their places.
 mod LowByTest
 mod GrammarExamples
-mod BuiltExamples
 mod FirstTokens
 mod RefuseExamples

@@ -17,7 +17,6 @@ pub mod Views
 pub mod Texts
 pub mod Grammar
 pub mod Faults
-pub mod Built
 pub mod Scope
 pub mod NameFaults
 pub mod Labels

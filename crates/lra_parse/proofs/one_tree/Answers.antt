@@ -1,8 +1,8 @@
-use Rattle.lra_parse.proofs.Laws.{built_one, built_one_fault}
+use Rattle.lra_parse.proofs.Laws.{spelled_one, spelled_one_fault}
 use Rattle.lra_parse.proofs.one_tree.Goals as goal
 
 pub returns-clause-tree : goal.returns-clause-tree
-returns-clause-tree c = built_one
+returns-clause-tree c = spelled_one
 
 pub returns-clause-fault : goal.returns-clause-fault
-returns-clause-fault c = built_one_fault
+returns-clause-fault c = spelled_one_fault

@@ -8,17 +8,8 @@ returns-clause-trees c t small e = well_formed t small e
 pub returns-clause-literals : goal.returns-clause-literals
 returns-clause-literals c source tokens t lexed parsed = spelled_are_small source tokens t parsed.0 lexed parsed.1 parsed.2
 
-pub returns-clause-built_literals : goal.returns-clause-built_literals
-returns-clause-built_literals c source tokens t lexed parsed = spelled_are_small source tokens t parsed.0 lexed parsed.1.0 parsed.2
-
 pub returns-clause-read : goal.returns-clause-read
 returns-clause-read c source tokens t lexed parsed e = well_formed t (spelled_are_small source tokens t parsed.0 lexed parsed.1 parsed.2) e
 
-pub returns-clause-built : goal.returns-clause-built
-returns-clause-built c source tokens t lexed parsed e = well_formed t (spelled_are_small source tokens t parsed.0 lexed parsed.1.0 parsed.2) e
-
 pub returns-clause-accepted : goal.returns-clause-accepted
 returns-clause-accepted c source t a = well_formed t (spelled_are_small source a.tokens t a.parsed.0 a.lexed a.parsed.1 a.parsed.2) a.names
-
-pub returns-clause-accepted_built : goal.returns-clause-accepted_built
-returns-clause-accepted_built c source t a = well_formed t (spelled_are_small source a.tokens t a.parsed.0 a.lexed a.parsed.1.0 a.parsed.2) a.names

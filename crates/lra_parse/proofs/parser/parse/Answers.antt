@@ -3,4 +3,4 @@ use Rattle.lra_parse.proofs.Answered.{tree_found}
 use Rattle.lra_parse.proofs.parser.parse.Goals as goal
 
 pub returns-in-Ok-clause-found : goal.returns-in-Ok-clause-found
-returns-in-Ok-clause-found c = tree_found c.args.tokens.now c.in-Ok._behind.now (tree_view c.in-Ok.tree) c.requires c.in-Ok.ensures
+returns-in-Ok-clause-found c = tree_found c.args.tokens.now c.in-Ok._behind.now (tree_view c.in-Ok.tree) c.requires.ends c.in-Ok.ensures

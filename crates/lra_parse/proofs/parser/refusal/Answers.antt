@@ -1,7 +1,7 @@
 use Rattle.std.proofs.Common.{subst, arith}
 use Rattle.lra_tree.specs.declared.tokens.Token.{Token}
 use Rattle.lra_tree.specs.Faults.{IsTextFault}
-use Rattle.lra_tree.specs.Built.{Built}
+use Rattle.lra_tree.specs.Grammar.{Spells}
 use Rattle.lra_parse.proofs.Answered.{fault_within, text_fault}
 use Rattle.lra_parse.proofs.parser.refusal.Goals as goal
 
@@ -15,4 +15,4 @@ pub bounds-tokens-index-2 : goal.bounds-tokens-index-2
 bounds-tokens-index-2 c = let w = fault_within c.args.tokens.now c.args.fault c.requires.ends c.requires.stops in omega (arith, w.0, w.1)
 
 pub returns : goal.returns
-returns c = subst (λ (t : Token). IsTextFault Built c.args.tokens.now c.args.fault.cause t.place) c.index-tokens-index.is (text_fault c.args.tokens.now c.args.fault c.requires.ends c.requires.stops c.index-tokens-index.result c.index-tokens-index.is)
+returns c = subst (λ (t : Token). IsTextFault Spells c.args.tokens.now c.args.fault.cause t.place) c.index-tokens-index.is (text_fault c.args.tokens.now c.args.fault c.requires.ends c.requires.stops c.index-tokens-index.result c.index-tokens-index.is)

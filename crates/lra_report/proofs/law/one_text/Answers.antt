@@ -1,5 +1,4 @@
 use Rattle.lra_tree.specs.Grammar.{Spells}
-use Rattle.lra_tree.specs.Built.{Built}
 use Rattle.lra_report.specs.View.{report_of}
 use Rattle.lra_report.proofs.OneText.{one_report}
 use Rattle.lra_report.proofs.SourceTexts.{one_accepted, one_source}
@@ -13,6 +12,3 @@ returns-clause-accepted c = one_accepted (report_of c.args.first.now) (report_of
 
 pub returns-clause-source : goal.returns-clause-source
 returns-clause-source c = one_source Spells (λ t z h. h) (report_of c.args.first.now) (report_of c.args.second.now)
-
-pub returns-clause-taken : goal.returns-clause-taken
-returns-clause-taken c = one_source Built (λ t z h. h.0) (report_of c.args.first.now) (report_of c.args.second.now)

@@ -1,6 +1,6 @@
-use Rattle.lra_tree.specs.Built.{Built}
+use Rattle.lra_tree.specs.Grammar.{Spells}
 use Rattle.lra_source.proofs.OneAnswer as law
 use Rattle.lra_source.proofs.laws.one_answer.Goals as goal
 
 pub returns : goal.returns
-returns c = law.one_answer Built c.one_reading.ensures c.one_tree.ensures.tree c.one_tree.ensures.fault
+returns c = law.one_answer Spells c.one_reading.ensures c.one_tree.ensures.tree c.one_tree.ensures.fault

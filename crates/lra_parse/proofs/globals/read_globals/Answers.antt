@@ -1,0 +1,13 @@
+use Rattle.std.proofs.lemmas.Result.{err_from_is_err_and}
+use Rattle.lra_tree.specs.declared.tokens.Mark.TheVariants as mark
+use Rattle.lra_tree.specs.Trees.{globals}
+use Rattle.lra_tree.specs.Views.{globals_view}
+use Rattle.lra_parse.specs.Statements.{commas_from}
+use Rattle.lra_parse.specs.Files.{value_at, global_at, globals_of}
+use Rattle.lra_parse.proofs.Headed.{ended_exit}
+use Rattle.lra_parse.proofs.globals.read_globals.Goals as goal
+
+pub returns-in_err-after-clause-gives : goal.returns-in_err-after-clause-gives
+returns-in_err-after-clause-gives c =
+    let p = err_from_is_err_and c.from_residual-in_err-after.result c.from_residual-in_err-after.ensures.1 in
+    rw (p.1, p.2) (ended_exit mark.Semicolon (commas_from (value_at c.args.name) global_at) globals_of c.args.rest.now c.in_ok-globals.behind.now (globals (globals_view c.in_ok-globals.globals)) c.in_err-after.field-0.0 c.in_ok-globals.ensures.gives c.in_err-after.ensures.gives)

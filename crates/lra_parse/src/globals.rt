@@ -1,0 +1,114 @@
+//! Globals.
+
+ghost use Rattle.std.specs.Prelude.{◌≡◌, ◌<◌, ◌≤◌, pos, length, IfOk};
+ghost use Rattle.lra_tree.specs.Views.{global_view, globals_view, part_view};
+ghost use Rattle.lra_tree.specs.Trees.{globals};
+ghost use Rattle.lra_parse.specs.Reading.{Gives, map_read};
+ghost use Rattle.lra_parse.specs.Statements.{commas_from};
+ghost use Rattle.lra_parse.specs.Files.{AreSmall, opposite, signed_at, value_at, global_at, globals_of, globals_at};
+
+use crate::reading::{Stopped, expect, next_is, next_number, read_name, stop, tail};
+use lra_tree::{Cause, Global as Variable, Globals, Identifier, Item, Mark, Token};
+use std::alloc::Global;
+
+// A number of 63 bits.
+fn number(value: u64) -> i64
+    requires { value < 9223372036854775808 }
+    ensures { result ≡ pos value }
+{
+    value as i64
+}
+
+// The opposite of a number of 63 bits.
+fn opposite(value: u64) -> i64
+    requires { value < 9223372036854775808 }
+    ensures { result ≡ opposite value }
+{
+    -(value as i64)
+}
+
+/// A literal, with or without a sign.
+fn read_signed(rest: &[Token]) -> Result<(i64, &[Token]), Stopped>
+    requires { AreSmall rest.now }
+    ensures shorter { IfOk result (λ r. length r.1.now ≤ length rest.now) }
+    ensures gives { Gives (λ r. (r.0, r.1.now)) result (signed_at rest.now) }
+{
+    if next_is(rest, Mark::Minus) {
+        let behind = expect(rest, Mark::Minus)?;
+        return match next_number(behind) {
+            Some(value) => Ok((opposite(value), tail(behind))),
+            None => stop(Cause::Syntax, behind),
+        };
+    }
+    match next_number(rest) {
+        Some(value) => Ok((number(value), tail(rest))),
+        None => stop(Cause::Syntax, rest),
+    }
+}
+
+/// What a global gets, behind its name.
+fn read_value(name: Identifier, rest: &[Token]) -> Result<(Variable, &[Token]), Stopped>
+    requires { AreSmall rest.now }
+    ensures shorter { IfOk result (λ r. length r.1.now ≤ length rest.now) }
+    ensures gives { Gives (λ r. (global_view r.0, r.1.now)) result (value_at name rest.now) }
+{
+    if next_is(rest, Mark::Assign) {
+        let behind = expect(rest, Mark::Assign)?;
+        let (value, after) = read_signed(behind)?;
+        let value = Some(value);
+        return Ok((Variable { name, value }, after));
+    }
+    Ok((Variable { name, value: None }, rest))
+}
+
+/// A global: its name, and what it gets.
+fn read_global(alloc: Global, rest: &[Token]) -> Result<(Variable, &[Token]), Stopped>
+    requires { AreSmall rest.now }
+    ensures shorter { IfOk result (λ r. length r.1.now ≤ length rest.now) }
+    ensures gives { Gives (λ r. (global_view r.0, r.1.now)) result (global_at rest.now) }
+{
+    let (name, behind) = read_name(alloc, rest)?;
+    let (global, after) = read_value(name, behind)?;
+    Ok((global, after))
+}
+
+/// Globals with commas between them, behind the name of the first.
+fn read_many(
+    alloc: Global,
+    name: Identifier,
+    rest: &[Token],
+) -> Result<(Globals, &[Token]), Stopped>
+    requires { AreSmall rest.now }
+    ensures shorter { IfOk result (λ r. length r.1.now ≤ length rest.now) }
+    ensures gives { Gives (λ r. (globals (globals_view r.0), r.1.now)) result (map_read globals_of (commas_from (value_at name) global_at) rest.now) }
+{
+    let (first, mut left) = read_value(name, rest)?;
+    let mut globals = Vec::new(alloc);
+    'globals: while next_is(left, Mark::Comma) {
+        let (global, after) = read_global(alloc, tail(left))?;
+        globals.push(global)?;
+        left = after;
+    }
+    Ok((
+        Globals {
+            first,
+            rest: globals,
+        },
+        left,
+    ))
+}
+
+/// Globals with their semicolon, behind the name of the first.
+pub fn read_globals(
+    alloc: Global,
+    name: Identifier,
+    rest: &[Token],
+) -> Result<(Item, &[Token]), Stopped>
+    requires { AreSmall rest.now }
+    ensures shorter { IfOk result (λ r. length r.1.now < length rest.now) }
+    ensures gives { Gives (λ r. (part_view r.0, r.1.now)) result (globals_at name rest.now) }
+{
+    let (globals, behind) = read_many(alloc, name, rest)?;
+    let after = expect(behind, Mark::Semicolon)?;
+    Ok((Item::Globals(globals), after))
+}
