@@ -1,0 +1,12 @@
+use Rattle.std.proofs.Common.{◌≡◌, ◌++◌, length}
+use Rattle.lra_dbm.specs.Pointwise.{greater_cells}
+use Rattle.lra_dbm.proofs.pointwise.greater_all.Given as goal
+
+abbrev pub invariant-loop-one : goal.invariant-loop-one
+invariant-loop-one l = record {
+  same_length : length l.ours ≡ length l.theirs;
+  rest : l.all.items ++ greater_cells l.ours l.theirs ≡ greater_cells l.left l.right;
+}
+
+abbrev pub decreases-loop-one : goal.decreases-loop-one
+decreases-loop-one l = length l.ours

@@ -1,0 +1,9 @@
+pub mod Entry
+pub mod Tight
+pub mod Cells
+pub mod Steps
+pub mod Closing
+pub mod Pointwise
+pub mod Closure
+pub mod Clearing
+pub mod Answers

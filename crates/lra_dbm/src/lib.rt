@@ -1,0 +1,11 @@
+//! Octagonal matrices: bounds on the differences of signed variables (Miné, 2006), and their tight closure over whole
+//! numbers (Bagnara, Hill and Zaffanella, 2008).
+#![tactic(auto)]
+
+mod cells;
+mod clearing;
+mod matrix;
+mod pointwise;
+mod steps;
+
+pub use matrix::{Closing, Matrix};

@@ -1,0 +1,200 @@
+//! Matrices of bounds on differences.
+
+ghost use Rattle.std.specs.Prelude.{◌≡◌, ◌≤◌, ◌<◌, ◌+◌, ◌-◌, ◌^◌, ◌*◌, ◌↔◌, pos, Some, ℕ, IsTrue, IfOk, OnOk, OnErr};
+ghost use Rattle.lra_linear.specs.Range.{InRange};
+ghost use Rattle.lra_dbm.specs.Cells.{IsMatrix, entered, entry_at, outside, forgotten, first_entries, size};
+ghost use Rattle.lra_dbm.specs.Steps.{progress};
+ghost use Rattle.lra_dbm.specs.Closing.{Closes, closing};
+ghost use Rattle.lra_dbm.specs.Pointwise.{CellsWithin, greater_cells, stable_cells, finite_cells};
+ghost use Rattle.lra_dbm.specs.Closure.{LeastJoin};
+ghost use Rattle.lra_dbm.specs.Answers.{is_empty, is_flagged};
+
+use crate::cells::{enter, entry};
+use crate::clearing::{clear, grow, shrink};
+use crate::pointwise::{all_within, count_cells, join_cells, widen_cells};
+use crate::steps::close;
+use lra_domain::Exactness;
+use std::alloc::{AllocError, Global};
+use std::marker::Model;
+
+/// Upper bounds on the differences of the 2n signed variables of n variables: signed variable 2k is `+x_k`, and 2k + 1
+/// is `-x_k`. The entry at `i` and `j` bounds `v_j - v_i`. Half of the entries are kept: the others are their coherent
+/// twins.
+pub struct Matrix {
+    dims: usize,
+    cells: Vec<Option<i128>>,
+}
+
+impl Drop for Matrix {
+    fn drop(self) {
+        let Matrix { dims: _, cells: _ } = self;
+    }
+}
+
+impl Model for Matrix {
+    ghost use Rattle.std.specs.Prelude.{◌≤◌, ◌^◌};
+    ghost use Rattle.lra_dbm.specs.Cells.{Content, IsMatrix};
+
+    ghost Value = { Content };
+
+    ghost view = { λ m. record { dims = m.dims; cells = m.cells.items } };
+
+    ghost invariant = { λ m. (m.dims ≤ 2 ^ 30) × IsMatrix m.dims m.cells.items };
+}
+
+/// What closing found: whether the matrix has a store.
+#[derive(Clone, Copy, Debug, PartialEq, Eq)]
+pub enum Closing {
+    Closed,
+    Empty,
+}
+
+impl Matrix {
+    /// All entries of `n` variables infinite, those of the diagonal 0.
+    pub fn new(alloc: Global, n: usize) -> Result<Matrix, AllocError>
+        requires { n ≤ 2 ^ 30 }
+        ensures dims { IfOk result (λ m. m.dims ≡ n) }
+        ensures entries { IfOk result (λ m. (i j : ℕ) → entry_at m i j ≡ outside i j) }
+    {
+        let mut cells = Vec::new(alloc);
+        grow(&mut cells, 0, n)?;
+        Ok(Matrix { dims: n, cells })
+    }
+
+    /// The number of variables.
+    pub fn dims(&self) -> usize
+        ensures dims { result ≡ self.now.dims }
+        ensures few { result ≤ 2 ^ 30 }
+        ensures is { IsMatrix self.now.dims self.now.cells }
+    {
+        self.dims
+    }
+
+    /// The entry at `i` and `j`, none exactly where it is infinite.
+    pub fn bound(&self, i: usize, j: usize) -> Option<i128>
+        requires row { i < 2 * self.now.dims }
+        requires column { j < 2 * self.now.dims }
+        ensures { result ≡ entry_at self.now i j }
+    {
+        entry(self.dims, &self.cells, i, j)
+    }
+
+    /// The entry at `i` and `j` and its coherent twin become the lesser of themselves and `k`.
+    pub fn enter(&mut self, i: usize, j: usize, k: i128)
+        requires row { i < 2 * self.old.dims }
+        requires column { j < 2 * self.old.dims }
+        requires range { InRange k }
+        ensures { self.new ≡ record self.old { cells = entered i j (Some k) self.old.cells } }
+    {
+        enter(self.dims, &mut self.cells, i, j, k);
+    }
+
+    /// Closes the matrix in place by numbered steps: shortest paths, rounding of the unary entries, strengthening
+    /// (Bagnara, Hill and Zaffanella, 2008). Empty comes only where there is no store. Otherwise the stores stay, and
+    /// the matrix is tight where no number of the steps passes the range. A number that passes counts as infinite and
+    /// flags.
+    pub fn close(&mut self) -> (Closing, Exactness)
+        ensures dims { self.new.dims ≡ self.old.dims }
+        ensures steps { closing self.old.dims self.old.cells
+            ≡ record { empty = is_empty result.0; progress = progress self.new.cells (is_flagged result.1) } }
+        ensures closes { Closes self.old.dims self.old.cells self.new.cells (is_empty result.0) (is_flagged result.1) }
+    {
+        let found = close(self.dims, &mut self.cells);
+        let closing = if found.is_empty {
+            Closing::Empty
+        } else {
+            Closing::Closed
+        };
+        let exactness = if found.is_flagged {
+            Exactness::Flagged
+        } else {
+            Exactness::Exact
+        };
+        (closing, exactness)
+    }
+
+    /// All entries of variable `x` become infinite, those of the diagonal apart.
+    pub fn forget(&mut self, x: usize)
+        requires { x < self.old.dims }
+        ensures dims { self.new.dims ≡ self.old.dims }
+        ensures entries { (i j : ℕ) → entry_at self.new i j ≡ forgotten x (entry_at self.old) i j }
+    {
+        clear(self.dims, &mut self.cells, x);
+    }
+
+    /// `k` variables without bounds come last.
+    pub fn embed(&mut self, k: usize) -> Result<(), AllocError>
+        requires { self.old.dims + k ≤ 2 ^ 30 }
+        ensures dims { OnOk result (self.new.dims ≡ self.old.dims + k) }
+        ensures entries { OnOk result ((i j : ℕ) → entry_at self.new i j ≡ entry_at self.old i j) }
+        ensures err { OnErr result (self.new ≡ self.old) }
+    {
+        grow(&mut self.cells, self.dims, k)?;
+        self.dims += k;
+        Ok(())
+    }
+
+    /// The last `k` variables go with their entries.
+    pub fn remove_last(&mut self, k: usize)
+        requires { k ≤ self.old.dims }
+        ensures dims { self.new.dims ≡ self.old.dims - k }
+        ensures entries { (i j : ℕ) → entry_at self.new i j ≡ first_entries self.new.dims (entry_at self.old) i j }
+    {
+        let dims = self.dims - k;
+        shrink(&mut self.cells, self.dims, dims);
+        self.dims = dims;
+    }
+
+    /// The same matrix again.
+    pub fn copy(&self, alloc: Global) -> Result<Matrix, AllocError>
+        ensures { IfOk result (λ m. m ≡ self.now) }
+    {
+        Ok(Matrix {
+            dims: self.dims,
+            cells: Vec::from_slice(alloc, self.cells.as_slice())?,
+        })
+    }
+
+    /// Whether each entry is at most that of the other.
+    pub fn is_within(&self, other: &Matrix) -> bool
+        requires { self.now.dims ≡ other.now.dims }
+        ensures { IsTrue result ↔ CellsWithin self.now.cells other.now.cells }
+    {
+        all_within(&self.cells, &other.cells)
+    }
+
+    /// The entries that are the greater of both. Where both matrices are tight, they are the least that have the stores
+    /// of both.
+    pub fn join(&self, other: &Matrix, alloc: Global) -> Result<Matrix, AllocError>
+        requires { self.now.dims ≡ other.now.dims }
+        ensures joined { IfOk result (λ m. m ≡ record self.now { cells = greater_cells self.now.cells other.now.cells }) }
+        ensures least { IfOk result (λ m.
+            LeastJoin self.now.dims (entry_at self.now) (entry_at other.now) (entry_at m)) }
+    {
+        let cells = join_cells(alloc, self.dims, &self.cells, &other.cells)?;
+        Ok(Matrix {
+            dims: self.dims,
+            cells,
+        })
+    }
+
+    /// The entries at which the other's is at most this one's; the others are infinite.
+    pub fn widen(&self, other: &Matrix, alloc: Global) -> Result<Matrix, AllocError>
+        requires dims { self.now.dims ≡ other.now.dims }
+        requires diagonal { (i : ℕ) → entry_at self.now i i ≡ Some (pos 0) }
+        ensures { IfOk result (λ m. m ≡ record self.now { cells = stable_cells self.now.cells other.now.cells }) }
+    {
+        Ok(Matrix {
+            dims: self.dims,
+            cells: widen_cells(alloc, self.dims, &self.cells, &other.cells)?,
+        })
+    }
+
+    /// How many of the kept entries are finite.
+    pub fn count(&self) -> u64
+        ensures count { result ≡ finite_cells self.now.cells }
+        ensures most { result ≤ size self.now.dims }
+    {
+        count_cells(self.dims, &self.cells)
+    }
+}
