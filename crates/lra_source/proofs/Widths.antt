@@ -1,30 +1,13 @@
 -- A program's tree comes to each point with as many variables as live there.
-use Rattle.std.proofs.Common.{◌≡◌, ℕ, zero, suc, ◌+◌, ◌-◌, ◌++◌, ◌≤◌, List, [], ◌∷◌, length, Option, Some, None, Bool, true, false, inl, inr, refl, sym, ap, ◌∙◌, subst, arith}
-use Rattle.std.specs.Prelude.{ℤ, slice_get}
-use Rattle.std.specs.List.{AllByRecursion, Contains}
+use Rattle.std.proofs.Common.{◌≡◌, ℕ, suc, ◌+◌, ◌-◌, ◌≤◌, List, length, Option, Bool, true, refl, sym, ap, ◌∙◌, subst, arith}
 use Rattle.std.proofs.lemmas.Option.{same_Some}
-use Rattle.lra_linear.proofs.Membership.{contains_none, contains_cases}
-use Rattle.lra_domain.specs.Actions.{Action, dims_after}
-use Rattle.lra_domain.specs.declared.Exactness.{Exactness}
-use Rattle.lra_domain.specs.declared.Exactness.TheVariants.{Exact}
-use Rattle.lra_domain.specs.Meaning.{Meaning}
-use Rattle.lra_domain.specs.Laws.{Laws}
-use Rattle.lra_tree.specs.Program.{Comparison, below, at_most, above, at_least, equal, differs, Expr, Cond, Source, Stmt, BlockItems, Program}
-use Rattle.lra_tree.specs.Linear as linear
-use Rattle.lra_tree.specs.Linear.{Test, comparison_test, difference_form}
-use Rattle.lra_tree.specs.Condition.{Pushed, atom, first_then, one_or, push, IsTestedBy, IsAtom, IsPushed}
+use Rattle.lra_tree.specs.Program.{Cond, Source, Stmt, BlockItems, Program}
 use Rattle.lra_tree.specs.Step as step
 use Rattle.lra_tree.specs.Step.{Op, append, give, give_any, keep, test}
-use Rattle.lra_tree.specs.Graph.{Exit, broken, continued, returned, Node, empty, point, act, check, seq, choose, iterate, catch, leave}
+use Rattle.lra_tree.specs.Graph.{Exit, broken, continued, returned, Node, point, act, seq, catch, leave}
 use Rattle.lra_tree.specs.Sites.{Site, sites_of}
 use Rattle.lra_tree.specs.Inlined.{Frame, callee, HasSite, Inl, InlAll, Declares, Loops, Gives, as_nothing, as_block, as_absent, as_assign, as_call, as_if, as_loop, as_for, as_break, as_continue, as_return, as_return_value, as_return_call, as_end, as_end_value, as_end_call, as_assert, as_assume, as_none, as_declaration, as_statement, as_fresh, as_given, is_loop, as_value, as_result, loop_node, return_node, main_frame}
 use Rattle.lra_tree.specs.Agree.{IsGraph}
-use Rattle.lra_flow.specs.declared.Settings.{Settings}
-use Rattle.lra_flow.specs.Operations.{dropping}
-use Rattle.lra_flow.specs.Changes.{set_to, push_all, drop_last, actions_of, first_values, AreDone, AreJoined}
-use Rattle.lra_flow.specs.Conditions.{testing, Leaves}
-use Rattle.lra_flow.specs.Pass.{Entry, value, failing, Result, noted, jumps, first_of_call, caught, behind, Through, Changes, GoesRound, Grows, Narrows, Pass}
-use Rattle.lra_flow.specs.Analysis.{Derivation}
 use Rattle.lra_change.specs.Changes.{dims_behind}
 use Rattle.lra_iter.specs.Fits.{live_behind}
 use Rattle.lra_iter.specs.Lives.{LiveAt, PointsHave}

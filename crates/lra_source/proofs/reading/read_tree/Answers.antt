@@ -1,4 +1,4 @@
-use Rattle.std.proofs.Common.{◌≡◌, ◌≤◌, List, length, arith, refl, sym, subst}
+use Rattle.std.proofs.Common.{◌≤◌, List, length, arith, refl, sym, subst}
 use Rattle.lra_tree.specs.declared.tokens.Token.{Token}
 use Rattle.lra_tree.specs.declared.refusals.Cause.TheVariants.{TooLong}
 use Rattle.lra_tree.specs.declared.refusals.Place.{Place}
@@ -21,12 +21,12 @@ pub returns-then-bytes-gt-GREATEST_LENGTH-clause-refused : goal.returns-then-byt
 returns-then-bytes-gt-GREATEST_LENGTH-clause-refused c =
     subst (λ (p : Place). Refuse Spells c.args.bytes.now TooLong p) (sym c.place_behind-place.ensures) (long_refused c.args.bytes.now 65536 refl c.if-bytes-gt-GREATEST_LENGTH.true)
 
-pub parse-requires-ends : goal.parse-requires-ends
-parse-requires-ends c =
+pub parse-requires-clause-ends : goal.parse-requires-clause-ends
+parse-requires-clause-ends c =
     subst EndsOnce (sym c.deref.ensures.value) (lexed_end c.args.bytes.now c.in_ok-tokens.tokens.items c.in_ok-tokens.ensures.found)
 
-pub parse-requires-small : goal.parse-requires-small
-parse-requires-small c =
+pub parse-requires-clause-small : goal.parse-requires-clause-small
+parse-requires-clause-small c =
     subst AreSmall (sym c.deref.ensures.value) (lexed_small c.args.bytes.now c.in_ok-tokens.tokens.items c.in_ok-tokens.ensures.found)
 
 pub returns-in-Ok-clause-found : goal.returns-in-Ok-clause-found
