@@ -6,3 +6,5 @@ mod Meeting
 mod Placing
 -- What is come to by places is what functions reach, and the first call that comes back.
 mod Reaching
+-- Each source has a first recursive call, or none.
+pub mod Deciding

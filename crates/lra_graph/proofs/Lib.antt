@@ -19,6 +19,8 @@ pub mod Calling
 pub mod Stopping
 pub mod Handed
 pub mod Totals
+-- A program that passes no limit has a tree.
+pub mod Existing
 -- What the code's values stand for, where parts stand, and why the writing ends.
 pub mod Shown
 pub mod LiveInside

@@ -19,7 +19,7 @@ not_passed x U e = cc
 pub passed_same : (S U : List Site) → passed S ≡ passed U → S ≡ U
 passed_same S U e = cc
 
-chosen_then : (many full : Bool) (x y : Limit) (r r' w : Progress) (U : List Site) → chosen many full x y r ≡ passed U → (r ≡ passed U → r' ≡ w) → chosen many full x y r' ≡ w
+pub chosen_then : (many full : Bool) (x y : Limit) (r r' w : Progress) (U : List Site) → chosen many full x y r ≡ passed U → (r ≡ passed U → r' ≡ w) → chosen many full x y r' ≡ w
 chosen_then true full x y r r' w U e h = absurd (not_passed x U e)
 chosen_then false true x y r r' w U e h = absurd (not_passed y U e)
 chosen_then false false x y r r' w U e h = h e

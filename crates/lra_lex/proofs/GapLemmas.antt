@@ -221,6 +221,16 @@ no_close fresh rest h c d k =
       unclosed = λ _. (drop 2 rest, e, o);
     }
 
+second_star : (rest : List ℕ) → opens_comment rest ≡ true → get_or rest 1 0 ≡ 42
+second_star rest h = eqb-true (get_or rest 1 0) 42 (and_parts (nat_eq (get_or rest 0 0) 47) (nat_eq (get_or rest 1 0) 42) h).1
+
+-- a slash that opens no comment
+pub slash_no_gap : (fresh : Bool) (rest : List ℕ) → get_or rest 0 0 ≡ 47 → (get_or rest 1 0 ≡ 47 → ⊥) → (get_or rest 1 0 ≡ 42 → ⊥) → HasNoGap fresh rest
+slash_no_gap fresh rest c slash star = record {
+  no_gap = λ before f. no_gap before rest (rw c refl) (λ _ x. slash x) (λ x. absurd (star (second_star rest x))) (λ _ i. sharp_first rest i c);
+  unclosed = λ x. absurd (star (second_star rest x));
+}
+
 pub else_no_gap : (fresh : Bool) (rest : List ℕ) → is_blank (get_or rest 0 0) ≡ false → (get_or rest 0 0 ≡ 47 → ⊥) → (fresh ≡ true → IsInclude rest → ⊥) → HasNoGap fresh rest
 else_no_gap fresh rest b s i = record {
   no_gap = λ before f. no_gap before rest b (λ x _. s x) (λ x. absurd (s (slash_first rest x))) (λ x. i (f ∙ front_fresh before x));

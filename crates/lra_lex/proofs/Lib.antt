@@ -11,5 +11,6 @@ pub mod GapLemmas
 -- The token at the front, and how far a source is read.
 pub mod TokenLemmas
 pub mod ReadingLemmas
--- A source has one reading.
+-- A source has one reading, and it has one.
 pub mod OneReadingLemmas
+pub mod EachReading

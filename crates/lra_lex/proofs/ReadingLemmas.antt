@@ -29,7 +29,7 @@ faulty BadByte before rest l n h = (λ e. let k = ap (λ (z : List ℕ). length 
 faulty BadLiteral before rest l n h = (n, h.0, h.1, h.2, h.3)
 faulty _ before rest l n h = absurd h
 
-fault_at : (place : Place) (fresh : Bool) (rest : List ℕ) (r : Refusal) → 0 < length rest → HasNoGap fresh rest → (r.place ≡ place) × HasFault r.cause rest → FaultsAt place fresh rest r
+pub fault_at : (place : Place) (fresh : Bool) (rest : List ℕ) (r : Refusal) → 0 < length rest → HasNoGap fresh rest → (r.place ≡ place) × HasFault r.cause rest → FaultsAt place fresh rest r
 fault_at place fresh rest r l n h = record { at_place = h.0; faulty = λ before f. faulty r.cause before rest l (n.no_gap before f) h.1 }
 
 pub refusal_at : (place : Place) (fresh : Bool) (rest : List ℕ) (e : LexError) → 0 < length rest → HasNoGap fresh rest → IfRefusal (λ r. (r.place ≡ place) × HasFault r.cause rest) e → IfRefusal (FaultsAt place fresh rest) e

@@ -8,6 +8,7 @@ pub mod Reports
 pub mod EachAnswer
 pub mod ReadSteps
 pub mod StageSteps
+pub mod SomeAnswer
 pub mod StateSteps
 pub mod Widths
 pub mod Handing

@@ -1,5 +1,7 @@
--- What follows of the tree of a well-formed program, and of a report that tells an analysis.
-use Rattle.std.specs.Prelude.{◌≡◌, ◌≤◌, ℕ, List, length, slice_get, Some}
+-- What each source deserves; what follows of the tree of a well-formed program, and of a report that tells an analysis.
+use Rattle.std.specs.Prelude.{◌≡◌, ◌≤◌, ◌⊎◌, ℕ, List, length, slice_get, Some}
+use Rattle.lra_tree.specs.declared.refusals.Cause.{Cause}
+use Rattle.lra_tree.specs.declared.refusals.Place.{Place}
 use Rattle.lra_tree.specs.Trees.{FileTree}
 use Rattle.lra_tree.specs.Program.{Program}
 use Rattle.lra_tree.specs.Graph.{Node}
@@ -10,7 +12,7 @@ use Rattle.lra_tree.specs.Sites.{Site, sites_of}
 use Rattle.lra_tree.specs.Agree.{IsGraph, Agrees}
 use Rattle.lra_tree.specs.WellFormed.{IsWellFormed}
 use Rattle.lra_tree.specs.Grammar.{Spells}
-use Rattle.lra_tree.specs.Refuse.{greatest_live, Accepts}
+use Rattle.lra_tree.specs.Refuse.{greatest_live, Refuse, Accepts}
 use Rattle.lra_tree.specs.Listing.{Lists, IsReportOf}
 use Rattle.lra_flow.specs.declared.Settings.{Settings}
 use Rattle.lra_iter.specs.Fits.{TreeFits}
@@ -21,6 +23,23 @@ use Rattle.lra_box.specs.Meaning.{box_meaning}
 use Rattle.lra_source.specs.Shown.{IsShown, AreShown, AreCapped, shown_state}
 use Rattle.lra_source.specs.Analysed.{IsAnalysed}
 use Rattle.lra_source.specs.Answers.{IsAnswered}
+
+-- the source is refused for some cause at some place; if it is too long, for that
+abbrev pub HasRefusal : List ℕ → Type 0
+HasRefusal source = (cause : Cause) × (at : Place) × Refuse Spells source cause at
+
+-- the source is accepted, with tokens and a tree, and its program has a tree of operations that comes to the points
+-- of its runs
+pub record IsAccepted (source : List ℕ) : Type 0 where
+  pub tree : FileTree
+  pub accepted : Accepts Spells source tree
+  pub operations : Node
+  pub is_graph : IsGraph (resolve tree) operations
+  pub agrees : Agrees (resolve tree) operations
+
+-- every list of bytes is refused or accepted, and none is both
+abbrev pub EachAnswer : Type 0
+EachAnswer = (source : List ℕ) → (HasRefusal source ⊎ IsAccepted source) × (HasRefusal source → IsAccepted source → ⊥)
 
 -- no more variables live at a point than are taken
 abbrev pub AreFew : List Site → Type 0

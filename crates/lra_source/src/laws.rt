@@ -4,7 +4,7 @@ ghost use Rattle.lra_tree.specs.Grammar.{Spells};
 ghost use Rattle.lra_tree.specs.Refuse.{OneAnswer};
 ghost use Rattle.lra_tree.specs.Linear.{FormsAreRight, TestsAreRight, DiffersIsRight};
 ghost use Rattle.lra_source.specs.Soundness.{SolvedAreSound};
-ghost use Rattle.lra_source.specs.Claims.{OneAnsweredText, TreesFit, TreesAreNumbered};
+ghost use Rattle.lra_source.specs.Claims.{EachAnswer, OneAnsweredText, TreesFit, TreesAreNumbered};
 ghost use Rattle.lra_source.specs.Claims.{AnalysedAreSound, AnalysedAreReports, BoxesAreShown};
 
 use lra_domain::Domain;
@@ -15,6 +15,14 @@ pub fn one_answer()
 {
     lra_lex::one_reading();
     lra_parse::one_tree();
+}
+
+/// Every list of bytes is refused, one of more than 65,536 bytes for that, or accepted with its tree and the tree of
+/// operations of its program; never both.
+pub fn each_answer()
+    ensures { EachAnswer }
+{
+    one_answer();
 }
 
 /// Two reports that answer one source under one list of options and have the same text are the same report.

@@ -1,0 +1,223 @@
+-- Each well-formed program that passes no limit has a tree of operations.
+use Rattle.std.proofs.Common.{◌≡◌, ℕ, zero, suc, ◌+◌, ◌≤◌, List, [], ◌∷◌, ◌++◌, length, Option, Some, None, refl, sym, ap, ◌∙◌, subst, arith}
+use Rattle.std.specs.Prelude.{nat_lt}
+use Rattle.std.proofs.lemmas.Option.{none-some}
+use Rattle.lra_tree.specs.Program.{Call, Source, value, result, Stmt, absent, nothing, block, assign, call, if, loop, for, break, continue, return, assert, assume, BlockItems, no_more, declaration, statement, Program}
+use Rattle.lra_tree.specs.Value.{index_of}
+use Rattle.lra_tree.specs.Step.{append, give, give_any, keep}
+use Rattle.lra_tree.specs.Graph.{returned, Node, empty, point, act, seq, choose, leave}
+use Rattle.lra_tree.specs.Labels.{Labelled}
+use Rattle.lra_tree.specs.Sites.{Site, Event, comes, one_call_more, plain_site, live_behind, source_events, given_events, stmt_events, items_events, function_events, call_events, events_of}
+use Rattle.lra_tree.specs.Inlined.{return_node, call_node, loop_node}
+use Rattle.lra_tree.specs.Agree.{IsGraph}
+use Rattle.lra_tree.specs.WellFormed.{IsWellFormed}
+use Rattle.lra_tree.specs.Refuse.{greatest_live, greatest_points, limit_fault}
+use Rattle.lra_graph.specs.declared.points.Limit.TheVariants.{Variables, Points, Calls}
+use Rattle.lra_graph.specs.declared.frame.Frame.{Frame}
+use Rattle.lra_graph.specs.declared.frame.Back.{Back}
+use Rattle.lra_graph.specs.Limits.{Progress, passed, stopped, walk}
+use Rattle.lra_graph.specs.Building.{inside, StmtStands, ItemsStand, GivenStands, CallStands, WritesStmt, WritesItems, WritesSource, WritesDeclared, WritesReturn}
+use Rattle.lra_graph.proofs.Walking.{not_passed, passed_same, chosen_then, chosen_passed}
+use Rattle.lra_graph.proofs.Writing.{absent_written, nothing_written, block_written, assign_written, call_written, if_written, rounds_written, loop_written, break_written, continue_written, assert_written, assume_written, for_written, return_written, return_any_written, return_value_written, return_call_written, end_any_written, end_value_written, end_call_written, none_written, statement_written, declaration_written, fresh_written, given_written, value_written}
+use Rattle.lra_graph.proofs.Calling.{no_call_more, invoked}
+use Rattle.lra_graph.proofs.Standing.{block_stands, assign_stands, call_stands, true_stands, false_stands, return_stands, first_stands, others_stand, result_stands, declared_stands, behind_stand, body_stands, step_stands, init_stands, for_again, callee_stands, main_stands, the_callee, break_stands, continue_stands}
+use Rattle.lra_graph.proofs.Totals.{fault_in, walk_fault, first_frame, events_are, whole_graph}
+
+-- what passes, passes up to each place
+abbrev Parts : List Site → List Event → List Event → List Site → Type 0
+Parts S es fs U = (V : List Site) × (walk S es ≡ passed V) × (walk V fs ≡ passed U)
+
+walk_parts : (S : List Site) (es fs : List Event) (U : List Site) → walk S (es ++ fs) ≡ passed U → Parts S es fs U
+walk_parts S [] fs U e = (S, refl, e)
+walk_parts S (comes s ∷ es) fs U e =
+    let behind = chosen_passed (nat_lt greatest_live s.live) (nat_lt greatest_points (suc (length S))) (Variables s.label) (Points s.label) (walk (S ++ s ∷ []) (es ++ fs)) U e in
+    let (V, a, b) = walk_parts (S ++ s ∷ []) es fs U behind in (
+      V,
+      chosen_then (nat_lt greatest_live s.live) (nat_lt greatest_points (suc (length S))) (Variables s.label) (Points s.label) (walk (S ++ s ∷ []) (es ++ fs)) (walk (S ++ s ∷ []) es) (passed V) U e (λ _. a),
+      b,
+    )
+walk_parts S (one_call_more at ∷ es) fs U e = absurd (not_passed (Calls at) U e)
+
+module _ (P : Program) where
+  abbrev HasSource : List ℕ → Frame → ℕ → Option ℕ → List Site → List Site → Source → Type 0
+  HasSource path r q x S U e = (g : Node) × WritesSource P path r q x S e g U
+
+  -- calls that may make so many calls more are written out
+  abbrev HaveCalls : ℕ → Type 0
+  HaveCalls more = (c : Call) (path : List ℕ) (r : Frame) (q : ℕ) (x : Option ℕ) (S U : List Site) → r.calls_left ≡ more → CallStands P r c
+      → walk S (inside P path r path r.live c) ≡ passed U → HasSource path r q x S U (result c)
+
+  module _ (more : ℕ) (calls : HaveCalls more) where
+    source : (e : Source) (path : List ℕ) (r : Frame) (q : ℕ) (x : Option ℕ) (S U : List Site) → r.calls_left ≡ more → GivenStands P r (Some e)
+        → walk S (source_events (inside P path r) path r.live e) ≡ passed U → HasSource path r q x S U e
+    source (value e) path r q x S U left stands w =
+        let g = act q (give r.base x e) in
+        (g, subst (λ V. WritesSource P path r q x S (value e) g V) (passed_same S U w) (value_written P path r S q x e g refl))
+    source (result c) path r q x S U left stands w = calls c path r q x S U left (result_stands P r c stands) w
+
+    given : (o : Option Source) (path : List ℕ) (r : Frame) (q : ℕ) (S U : List Site) → r.calls_left ≡ more → GivenStands P (record r { live = suc r.live }) o
+        → walk S (given_events (inside P path r) path (suc r.live) o) ≡ passed U → (g : Node) × WritesDeclared P path r q S o g U
+    given None path r q S U left stands w =
+        (act q append, subst (λ V. WritesDeclared P path r q S None (act q append) V) (passed_same S U w) (fresh_written P path r S q (act q append) refl))
+    given (Some e) path r q S U left stands w =
+        let (h, y) = source e path (record r { live = suc r.live }) q (Some r.live) S U left stands w in
+        (seq (act q append) h, given_written P path r S U q (suc r.live) e h (seq (act q append) h) refl y refl)
+
+    abbrev HasReturn : List ℕ → Frame → ℕ → List Site → List Site → Option Source → Type 0
+    HasReturn path r q S U o = (g : Node) × WritesReturn P path r q S o g U
+
+    -- back to a caller
+    returned_to : (o : Option Source) (b : Back) (path : List ℕ) (r : Frame) (q : ℕ) (S U : List Site) → r.back ≡ Some b → b.length ≤ r.live → r.calls_left ≡ more → GivenStands P r o
+        → walk S (given_events (inside P path r) path r.live o) ≡ passed U → HasReturn path r q S U o
+    returned_to None b path r q S U back low left stands w =
+        let g = return_node q (give_any b.target) b.length r.live in
+        (g, subst (λ V. WritesReturn P path r q S None g V) (passed_same S U w) (return_any_written P path r S q b back low g refl))
+    returned_to (Some (value e)) b path r q S U back low left stands w =
+        let g = return_node q (give r.base b.target e) b.length r.live in
+        (g, subst (λ V. WritesReturn P path r q S (Some (value e)) g V) (passed_same S U w) (return_value_written P path r S q b back low e g refl))
+    returned_to (Some (result c)) b path r q S U back low left stands w =
+        let (h, y) = calls c path r q b.target S U left (result_stands P r c stands) w in
+        let k = seq (act q (keep b.length)) (leave r.live returned) in
+        (seq h k, return_call_written P path r S q b back low U c h k (seq h k) y refl refl)
+
+    -- out of `main`
+    returned_out : (o : Option Source) (path : List ℕ) (r : Frame) (q : ℕ) (S U : List Site) → r.back ≡ None → r.calls_left ≡ more → GivenStands P r o
+        → walk S (given_events (inside P path r) path r.live o) ≡ passed U → HasReturn path r q S U o
+    returned_out None path r q S U back left stands w =
+        let g = leave r.live returned in
+        (g, subst (λ V. WritesReturn P path r q S None g V) (passed_same S U w) (end_any_written P path r S q back g refl))
+    returned_out (Some (value e)) path r q S U back left stands w =
+        let g = leave r.live returned in
+        (g, subst (λ V. WritesReturn P path r q S (Some (value e)) g V) (passed_same S U w) (end_value_written P path r S q back e g refl))
+    returned_out (Some (result c)) path r q S U back left stands w =
+        let (h, y) = calls c path r q None S U left (result_stands P r c stands) w in
+        let g = seq h (leave r.live returned) in
+        (g, end_call_written P path r S q back U c h g y refl)
+
+    returned_by : (back : Option Back) (o : Option Source) (path : List ℕ) (r : Frame) (q : ℕ) (S U : List Site) → r.back ≡ back → ((b : Back) → r.back ≡ Some b → b.length ≤ r.live)
+        → r.calls_left ≡ more → GivenStands P r o → walk S (given_events (inside P path r) path r.live o) ≡ passed U → HasReturn path r q S U o
+    returned_by None o path r q S U is low left stands w = returned_out o path r q S U is left stands w
+    returned_by (Some b) o path r q S U is low left stands w = returned_to o b path r q S U is (low b is) left stands w
+
+    mutual
+      stmt : (s : Stmt) (path : List ℕ) (r : Frame) (S U : List Site) → r.calls_left ≡ more → StmtStands P r s
+          → walk S (stmt_events (inside P path r) path r.live s) ≡ passed U → (g : Node) × WritesStmt P path r S s g U
+      stmt absent path r S U left stands w = (empty, subst (λ V. WritesStmt P path r S absent empty V) (passed_same S U w) (absent_written P path r S))
+      stmt (nothing at) path r S U left stands w = (point (length S), nothing_written P path r S U (length S) at refl w)
+      stmt (block b end) path r S U left stands w =
+          let n = live_behind r.live b in
+          let (V, a, e) = walk_parts S (items_events (inside P path r) path r.live b) (plain_site path end n ∷ []) U w in
+          let (h, x) = items b path r S V left (block_stands P r b end stands) a in
+          let tail = seq (point (length V)) (act (length V) (keep r.live)) in
+          (seq h tail, block_written P path r S V U (length V) n end b h tail (seq h tail) x refl refl e refl refl)
+      stmt (assign at v e) path r S U left stands w =
+          let (V, a, f) = walk_parts S (plain_site path at r.live ∷ []) (source_events (inside P path r) path r.live e) U w in
+          let (h, y) = source e path r (length S) (Some (index_of r.base v)) V U left (assign_stands P r at v e stands) f in
+          let g = seq (point (length S)) h in
+          (g, assign_written P path r S V U (length S) at (index_of r.base v) v e h g refl a refl y refl)
+      stmt (call at c) path r S U left stands w =
+          let (V, a, f) = walk_parts S (plain_site path at r.live ∷ []) (inside P path r path r.live c) U w in
+          let (h, y) = calls c path r (length S) None V U left (call_stands P r at c stands) f in
+          let g = seq (point (length S)) h in
+          (g, call_written P path r S V U (length S) at c h g refl a y refl)
+      stmt (if at c s t) path r S U left stands w =
+          let (V, a, e) = walk_parts S (plain_site path at r.live ∷ []) (stmt_events (inside P path r) path r.live s ++ stmt_events (inside P path r) path r.live t) U w in
+          let (W, b, d) = walk_parts V (stmt_events (inside P path r) path r.live s) (stmt_events (inside P path r) path r.live t) U e in
+          let (h, x) = stmt s path r V W left (true_stands P r at c s t stands) b in
+          let (h', y) = stmt t path r W U left (false_stands P r at c s t stands) d in
+          let branches = choose (length S) r.base c h h' in
+          (seq (point (length S)) branches, if_written P path r S V W U (length S) at c s t h h' branches (seq (point (length S)) branches) refl a x y refl refl)
+      stmt (loop at c s t) path r S U left stands w =
+          let (V, a, e) = walk_parts S (plain_site path at r.live ∷ []) (stmt_events (inside P path r) path r.live t ++ stmt_events (inside P path r) path r.live s) U w in
+          let (W, b, d) = walk_parts V (stmt_events (inside P path r) path r.live t) (stmt_events (inside P path r) path r.live s) U e in
+          let (h, x) = stmt t path (record r { loop_length = None }) V W left (step_stands P r at c s t stands) b in
+          let (h', y) = stmt s path (record r { loop_length = Some r.live }) W U left (body_stands P r at c s t stands) d in
+          let rounds = loop_node (length S) r.base c h' h in
+          (rounds, loop_written P path r S V U (length S) at c s t rounds refl a (rounds_written P path r V W U (length S) c s t h' h rounds x y refl))
+      stmt (for init (loop at c s t)) path r S U left stands w =
+          let n = live_behind r.live init in
+          let again = stmt_events (inside P path r) path n t ++ stmt_events (inside P path r) path n s in
+          let (V, a, e) = walk_parts S (plain_site path at n ∷ []) (items_events (inside P path r) path r.live init ++ again) U w in
+          let (W, b, d) = walk_parts V (items_events (inside P path r) path r.live init) again U e in
+          let (X, i, j) = walk_parts W (stmt_events (inside P path r) path n t) (stmt_events (inside P path r) path n s) U d in
+          let (k, z) = items init path r V W left (init_stands P r init (loop at c s t) stands) b in
+          let inner = for_again P r init at c s t n refl stands in
+          let (h, x) = stmt t path (record r { live = n; loop_length = None }) W X left (step_stands P (record r { live = n }) at c s t inner) i in
+          let (h', y) = stmt s path (record r { live = n; loop_length = Some n }) X U left (body_stands P (record r { live = n }) at c s t inner) j in
+          let rounds = loop_node (length S) r.base c h' h in
+          let tail = seq rounds (act (length S) (keep r.live)) in (
+            seq k tail,
+            for_written P path r S V W U (length S) at n init c s t k rounds tail (seq k tail) refl refl a z
+                (rounds_written P path (record r { live = n }) W X U (length S) c s t h' h rounds x y refl) refl refl,
+          )
+      stmt (for init absent) path r S U left stands w = absurd stands.good.1
+      stmt (for init (nothing at)) path r S U left stands w = absurd stands.good.1
+      stmt (for init (block b end)) path r S U left stands w = absurd stands.good.1
+      stmt (for init (assign at v e)) path r S U left stands w = absurd stands.good.1
+      stmt (for init (call at c)) path r S U left stands w = absurd stands.good.1
+      stmt (for init (if at c s t)) path r S U left stands w = absurd stands.good.1
+      stmt (for init (for d s)) path r S U left stands w = absurd stands.good.1
+      stmt (for init (break at)) path r S U left stands w = absurd stands.good.1
+      stmt (for init (continue at)) path r S U left stands w = absurd stands.good.1
+      stmt (for init (return at o)) path r S U left stands w = absurd stands.good.1
+      stmt (for init (assert at c)) path r S U left stands w = absurd stands.good.1
+      stmt (for init (assume at c)) path r S U left stands w = absurd stands.good.1
+      stmt (break at) path r S U left stands w =
+          let (m, is) = break_stands P r at stands in
+          (_, break_written P path r S U (length S) at m _ _ refl w is (stands.loop_low m is) refl refl)
+      stmt (continue at) path r S U left stands w =
+          let (m, is) = continue_stands P r at stands in
+          (_, continue_written P path r S U (length S) at m _ _ refl w is (stands.loop_low m is) refl refl)
+      stmt (return at o) path r S U left stands w =
+          let (V, a, e) = walk_parts S (plain_site path at r.live ∷ []) (given_events (inside P path r) path r.live o) U w in
+          let (h, y) = returned_by r.back o path r (length S) V U refl stands.back_low left (return_stands P r at o stands) e in
+          (seq (point (length S)) h, return_written P path r S V U (length S) at o h (seq (point (length S)) h) refl a y refl)
+      stmt (assert at c) path r S U left stands w = (_, assert_written P path r S U (length S) at c _ refl w refl)
+      stmt (assume at c) path r S U left stands w = (_, assume_written P path r S U (length S) at c _ refl w refl)
+
+      items : (b : BlockItems) (path : List ℕ) (r : Frame) (S U : List Site) → r.calls_left ≡ more → ItemsStand P r b
+          → walk S (items_events (inside P path r) path r.live b) ≡ passed U → (g : Node) × WritesItems P path r S b g U
+      items no_more path r S U left stands w = (empty, subst (λ V. WritesItems P path r S no_more empty V) (passed_same S U w) (none_written P path r S))
+      items (declaration d b) path r S U left stands w =
+          let rest = items_events (inside P path r) path (suc r.live) b in
+          let (V, a, e) = walk_parts S (plain_site path d.label r.live ∷ []) (given_events (inside P path r) path (suc r.live) d.source ++ rest) U w in
+          let (W, f, i) = walk_parts V (given_events (inside P path r) path (suc r.live) d.source) rest U e in
+          let (h, x) = given d.source path r (length S) V W left (declared_stands P r (suc r.live) d b refl stands) f in
+          let (k, y) = items b path (record r { live = suc r.live }) W U left (behind_stand P r (suc r.live) d b refl stands) i in
+          let first = seq (point (length S)) h in
+          (seq first k, declaration_written P path r S V W U (length S) (suc r.live) d b h first k (seq first k) refl refl a x y refl refl)
+      items (statement s b) path r S U left stands w =
+          let (V, a, e) = walk_parts S (stmt_events (inside P path r) path r.live s) (items_events (inside P path r) path r.live b) U w in
+          let (h, x) = stmt s path r S V left (first_stands P r s b stands) a in
+          let (k, y) = items b path r V U left (others_stand P r s b stands) e in
+          (seq h k, statement_written P path r S V U s b h k (seq h k) x y refl)
+
+  module _ (well : IsWellFormed P) where
+    have_calls : (more : ℕ) → HaveCalls more
+    have_calls zero c path r q x S U left stands w = absurd (not_passed (Calls c.label) U (sym (no_call_more P path r.calls_left r.live S c left) ∙ w))
+    have_calls (suc more) c path r q x S U left stands w =
+        let (fn, found, fits) = the_callee P r c stands in
+        let n = live_behind (r.live + fn.parameters) fn.body in
+        let here : walk S (call_events P (suc more) path r.live c) ≡ passed U = subst (λ z. walk S (call_events P z path r.live c) ≡ passed U) left w in
+        let inner : walk S (function_events (call_events P more) (c.label ∷ path) r.live (Some fn)) ≡ passed U =
+        subst (λ o. walk S (function_events (call_events P more) (c.label ∷ path) r.live o) ≡ passed U) found here in
+        let (V, a, e) = walk_parts S (items_events (call_events P more) (c.label ∷ path) (r.live + fn.parameters) fn.body) (plain_site (c.label ∷ path) fn.end n ∷ []) U inner in
+        let frame : Frame = record { base = r.live; live = r.live + fn.parameters; calls_left = more; loop_length = None; back = Some (record { target = x; length = r.live }) } in
+        let (h, y) = items more (have_calls more) fn.body (c.label ∷ path) frame S V refl (callee_stands P r r.live more (r.live + fn.parameters) x c fn well stands found refl refl) a in
+        let g = call_node q (length V) r.base r.live x c.arguments fn.parameters h in
+        (g, invoked P path r S c fn more x (c.label ∷ path) fn.parameters fn.body left found refl refl refl V U q (length V) n h g fits y refl refl e refl)
+
+    main_graph : (U : List Site) → walk [] (events_of P) ≡ passed U → (g : Node) × IsGraph P g
+    main_graph U w =
+        let n = live_behind (length P.globals) P.main.body in
+        let (V, a, e) = walk_parts [] (items_events (call_events P 32) [] (length P.globals) P.main.body) (plain_site [] P.main.end n ∷ []) U
+        (subst (λ es. walk [] es ≡ passed U) (sym (events_are P well.alone)) w) in
+        let (h, y) = items 32 (have_calls 32) P.main.body [] (first_frame P) [] V refl (main_stands P (first_frame P) well (omega arith) refl refl) a in
+        (seq h (point (length V)), whole_graph P well.alone V U h (seq h (point (length V))) (length V) y e refl refl)
+
+    walked_graph : (p : Progress) → walk [] (events_of P) ≡ p → (ls : List Labelled) → limit_fault ls 0 (events_of P) ≡ None → (g : Node) × IsGraph P g
+    walked_graph (passed U) e ls none = main_graph U e
+    walked_graph (stopped x) e ls none = absurd (none-some _ (sym none ∙ sym (walk_fault ls [] (events_of P)) ∙ ap (fault_in ls) e))
+
+    pub has_graph : (ls : List Labelled) → limit_fault ls 0 (events_of P) ≡ None → (g : Node) × IsGraph P g
+    has_graph ls none = walked_graph (walk [] (events_of P)) refl ls none
