@@ -11,7 +11,8 @@ use Rattle.lra_box.specs.declared.interval.Side.{Side}
 use Rattle.lra_box.specs.declared.interval.Side.TheVariants.{Low, High}
 use Rattle.lra_box.specs.Bounds.{BoundHolds, InBounds, open_interval}
 use Rattle.lra_box.specs.Content.{Content, BoundsFit}
-use Rattle.lra_box.specs.Tables.{has_bounds, on_bounds, joined_intervals, joined_bounds, widened_low, widened_high, widened_intervals, widened_bounds, grown_bounds, LowWithin, HighWithin, IntervalsWithin, BoundsWithin, finite, finite_bounds, rank_number, rank_of, lesser_low, greater_high}
+use Rattle.lra_box.specs.Tables.{has_bounds, on_bounds, joined_intervals, joined_bounds, widened_low, widened_high, widened_intervals, widened_bounds, grown_bounds, LowWithin, HighWithin}
+use Rattle.lra_box.specs.Tables.{IntervalsWithin, BoundsWithin, finite, finite_bounds, rank_number, rank_of, lesser_low, greater_high}
 use Rattle.lra_box.proofs.BoxLemmas.{in_joined_left, in_joined_right, in_set}
 
 pub widen_low_old : (a b : Option ℤ) (x : ℤ) → BoundHolds Low a x → BoundHolds Low (widened_low a b) x
@@ -131,15 +132,18 @@ low_falls : (a b : Option ℤ) → (finite (widened_low a (lesser_low a b)) ≤ 
 low_falls None b = (omega arith, inr tt)
 low_falls (Some a) None = (omega arith, inl (omega arith))
 low_falls (Some a) (Some b) =
-    elim (int_lt (int_min a b) a) as (λ v. int_lt (int_min a b) a ≡ v → (finite (cond v None (Some a)) ≤ 1) × ((finite (cond v None (Some a)) < 1) ⊎ (a ≤ℤ b))) [ true ↦ λ e. (omega arith, inl (omega arith)) | false ↦ λ e. (omega arith, inr (grind (arith, ints, clamps))) ] refl
+    elim (int_lt (int_min a b) a) as (λ v. int_lt (int_min a b) a ≡ v → (finite (cond v None (Some a)) ≤ 1) × ((finite (cond v None (Some a)) < 1) ⊎ (a ≤ℤ b)))
+    [ true ↦ λ e. (omega arith, inl (omega arith)) | false ↦ λ e. (omega arith, inr (grind (arith, ints, clamps))) ] refl
 
 high_falls : (a b : Option ℤ) → (finite (widened_high a (greater_high a b)) ≤ finite a) × ((finite (widened_high a (greater_high a b)) < finite a) ⊎ HighWithin b a)
 high_falls None b = (omega arith, inr tt)
 high_falls (Some a) None = (omega arith, inl (omega arith))
 high_falls (Some a) (Some b) =
-    elim (int_lt a (int_max a b)) as (λ v. int_lt a (int_max a b) ≡ v → (finite (cond v None (Some a)) ≤ 1) × ((finite (cond v None (Some a)) < 1) ⊎ (b ≤ℤ a))) [ true ↦ λ e. (omega arith, inl (omega arith)) | false ↦ λ e. (omega arith, inr (grind (arith, ints, clamps))) ] refl
+    elim (int_lt a (int_max a b)) as (λ v. int_lt a (int_max a b) ≡ v → (finite (cond v None (Some a)) ≤ 1) × ((finite (cond v None (Some a)) < 1) ⊎ (b ≤ℤ a)))
+    [ true ↦ λ e. (omega arith, inl (omega arith)) | false ↦ λ e. (omega arith, inr (grind (arith, ints, clamps))) ] refl
 
-falls : (is js : List Interval) → length is ≡ length js → (finite_bounds (widened_intervals is (joined_intervals is js)) ≤ finite_bounds is) × ((finite_bounds (widened_intervals is (joined_intervals is js)) < finite_bounds is) ⊎ IntervalsWithin js is)
+falls : (is js : List Interval) → length is ≡ length js → (finite_bounds (widened_intervals is (joined_intervals is js)) ≤ finite_bounds is) ×
+    ((finite_bounds (widened_intervals is (joined_intervals is js)) < finite_bounds is) ⊎ IntervalsWithin js is)
 falls [] [] e = (omega arith, inr tt)
 falls [] (j ∷ js) e = absurd (omega arith)
 falls (i ∷ is) [] e = absurd (omega arith)

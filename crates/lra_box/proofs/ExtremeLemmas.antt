@@ -119,13 +119,15 @@ product_endless High (negsuc n) i b h e =
     (x.0, (x.1.0, λ k. omega (arith, ints, clamps)))
 
 -- the sum's end is a value of the form
-sum_reached : (side : Side) (a : ℤ) (cs : List ℤ) (is : List Interval) (b : ℤ) → AllSound is → length cs ≡ length is → end_sum side a cs is ≡ Some b → (s : List ℤ) × (InBounds is s × (a +ℤ product cs s ≡ b))
+sum_reached : (side : Side) (a : ℤ) (cs : List ℤ) (is : List Interval) (b : ℤ) → AllSound is → length cs ≡ length is → end_sum side a cs is ≡ Some b → (s : List ℤ) ×
+    (InBounds is s × (a +ℤ product cs s ≡ b))
 sum_reached side a [] [] b h l e = let k = some_injective a b e in ([], (tt, omega (arith, ints)))
 sum_reached side a [] (i ∷ is) b h l e = absurd (omega arith)
 sum_reached side a (c ∷ cs) [] b h l e = absurd (omega arith)
 sum_reached side a (c ∷ cs) (i ∷ is) b h l e = by_product (λ p. sum_reached side (a +ℤ p) cs is b h.1 (omega arith)) (end_product side c i) refl e
   where
-    by_product : ((p : ℤ) → end_sum side (a +ℤ p) cs is ≡ Some b → (s : List ℤ) × (InBounds is s × ((a +ℤ p) +ℤ product cs s ≡ b))) → (o : Option ℤ) → end_product side c i ≡ o → option_and_then (λ p. end_sum side (a +ℤ p) cs is) o ≡ Some b → (s : List ℤ) × (InBounds (i ∷ is) s × (a +ℤ product (c ∷ cs) s ≡ b))
+    by_product : ((p : ℤ) → end_sum side (a +ℤ p) cs is ≡ Some b → (s : List ℤ) × (InBounds is s × ((a +ℤ p) +ℤ product cs s ≡ b))) → (o : Option ℤ) → end_product side c i ≡ o →
+        option_and_then (λ p. end_sum side (a +ℤ p) cs is) o ≡ Some b → (s : List ℤ) × (InBounds (i ∷ is) s × (a +ℤ product (c ∷ cs) s ≡ b))
     by_product later None o e = cc
     by_product later (Some p) o e =
         let x = product_reached side c i p h.0.1 o in
@@ -144,12 +146,14 @@ carried Low a p q r b e h = λ k. h (omega (arith, ints))
 carried High a p q r b e h = λ k. h (omega (arith, ints))
 
 -- without an end there is a value beyond each number
-sum_endless : (side : Side) (a : ℤ) (cs : List ℤ) (is : List Interval) (b : ℤ) → AllSound is → length cs ≡ length is → end_sum side a cs is ≡ None → (s : List ℤ) × (InBounds is s × (¬ BoundHolds side (Some b) (a +ℤ product cs s)))
+sum_endless : (side : Side) (a : ℤ) (cs : List ℤ) (is : List Interval) (b : ℤ) → AllSound is → length cs ≡ length is → end_sum side a cs is ≡ None → (s : List ℤ) ×
+    (InBounds is s × (¬ BoundHolds side (Some b) (a +ℤ product cs s)))
 sum_endless side a [] is b h l e = cc
 sum_endless side a (c ∷ cs) [] b h l e = absurd (omega arith)
 sum_endless side a (c ∷ cs) (i ∷ is) b h l e = by_product (λ p. sum_endless side (a +ℤ p) cs is b h.1 (omega arith)) (end_product side c i) refl e
   where
-    by_product : ((p : ℤ) → end_sum side (a +ℤ p) cs is ≡ None → (s : List ℤ) × (InBounds is s × (¬ BoundHolds side (Some b) ((a +ℤ p) +ℤ product cs s)))) → (o : Option ℤ) → end_product side c i ≡ o → option_and_then (λ p. end_sum side (a +ℤ p) cs is) o ≡ None → (s : List ℤ) × (InBounds (i ∷ is) s × (¬ BoundHolds side (Some b) (a +ℤ product (c ∷ cs) s)))
+    by_product : ((p : ℤ) → end_sum side (a +ℤ p) cs is ≡ None → (s : List ℤ) × (InBounds is s × (¬ BoundHolds side (Some b) ((a +ℤ p) +ℤ product cs s)))) → (o : Option ℤ) → end_product side c i ≡ o →
+        option_and_then (λ p. end_sum side (a +ℤ p) cs is) o ≡ None → (s : List ℤ) × (InBounds (i ∷ is) s × (¬ BoundHolds side (Some b) (a +ℤ product (c ∷ cs) s)))
     by_product later None o e =
         let rest = some_store is h.1 in
         let x = product_endless side c i ((b +ℤ neg_ℤ a) +ℤ neg_ℤ (product cs rest.0)) h.0.1 o in

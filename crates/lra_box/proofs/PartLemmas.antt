@@ -1,5 +1,6 @@
 -- The rows of a box mean it.
-use Rattle.std.proofs.Common.{◌≡◌, ℕ, zero, suc, ◌+◌, ◌<◌, ℤ, pos, negsuc, List, [], ◌∷◌, ◌++◌, length, replicate, drop, Option, None, Some, Bool, true, false, cond, ◌⊎◌, inl, inr, ◌↔◌, refl, ap, ◌∙◌, subst, append_assoc, arith}
+use Rattle.std.proofs.Common.{◌≡◌, ℕ, zero, suc, ◌+◌, ◌<◌, ℤ, pos, negsuc, List, [], ◌∷◌, ◌++◌, length, replicate, drop, Option, None, Some, Bool, true, false, cond, ◌⊎◌, inl, inr, ◌↔◌, refl, ap, ◌∙◌}
+use Rattle.std.proofs.Common.{subst, append_assoc, arith}
 use Rattle.std.specs.Prelude.{◌+ℤ◌, ◌*ℤ◌, neg_ℤ, slice_set, slice_index_or}
 use Rattle.std.specs.List.{All}
 use Rattle.std.proofs.lemmas.Int.{ints}
@@ -7,9 +8,10 @@ use Rattle.std.proofs.lemmas.List.Elements.{All-cons, All-nil}
 use Rattle.std.proofs.Math.Seq.{drop-cons}
 use Rattle.lra_linear.specs.Range.{InRange}
 use Rattle.lra_linear.specs.Vectors.{product}
-use Rattle.lra_sys.specs.declared.system.ConKind.{ConKind}
-use Rattle.lra_sys.specs.declared.system.ConKind.TheVariants.{Ge, Eq}
-use Rattle.lra_sys.specs.Listed.{given_by, is_equality}
+use Rattle.lra_linear.specs.declared.ConKind.{ConKind}
+use Rattle.lra_linear.specs.declared.ConKind.TheVariants.{Ge, Eq}
+use Rattle.lra_sys.specs.Listed.{given_by}
+use Rattle.lra_linear.specs.Kinds.{is_equality}
 use Rattle.lra_linear.specs.Descriptions.{Given, Holds, Con}
 use Rattle.lra_linear.proofs.Membership.{contains_none, contains_head, contains_tail, contains_cases}
 use Rattle.lra_domain.specs.Parts.{SomePartHolds}

@@ -63,7 +63,8 @@ tightened_zero None i = refl
 tightened_zero (Some m) i = refl
 
 -- a form's value is the term of a place and the rest
-pub product_apart : (cs xs : List ℤ) (k : ℕ) → k < length cs → length cs ≡ length xs → product cs xs ≡ (slice_index_or cs k (pos 0) *ℤ slice_index_or xs k (pos 0)) +ℤ product (slice_set cs k (pos 0)) xs
+pub product_apart : (cs xs : List ℤ) (k : ℕ) → k < length cs → length cs ≡ length xs →
+    product cs xs ≡ (slice_index_or cs k (pos 0) *ℤ slice_index_or xs k (pos 0)) +ℤ product (slice_set cs k (pos 0)) xs
 product_apart [] xs k h e = absurd (omega arith)
 product_apart (c ∷ cs) [] k h e = absurd (omega arith)
 product_apart (c ∷ cs) (x ∷ xs) zero h e = let z : pos 0 *ℤ x ≡ pos 0 = grind (arith, ints) in rw z (omega (arith, ints))

@@ -73,7 +73,8 @@ module _ (a : ℤ) (cs : List ℤ) (k : ℕ) (start is : List Interval) (i : Int
       same j = (low_within_refl j.low, high_within_refl j.high)
 
       by_either : (o : Option ℤ) → (o ≡ None) ⊎ (o ≡ others_most a cs k is) → OneWithin (place_refined a cs k is) (tightened (slice_index_or cs k (pos 0)) o (slice_index_or is k open_interval))
-      by_either o (inl e) = rw e (tightened_in (slice_index_or cs k (pos 0)) (others_most a cs k is) (slice_index_or is k open_interval) (slice_index_or is k open_interval) (same (slice_index_or is k open_interval)))
+      by_either o (inl e) = rw e (tightened_in (slice_index_or cs k (pos 0)) (others_most a cs k is) (slice_index_or is k open_interval) (slice_index_or is k open_interval)
+          (same (slice_index_or is k open_interval)))
       by_either o (inr e) = rw e (same (place_refined a cs k is))
 
   covered : BoundsWithin (refined a cs (suc k) (Some start)) (cond (crossed i) None (Some (slice_set is k i)))

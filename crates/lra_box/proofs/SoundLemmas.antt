@@ -78,8 +78,13 @@ joined_all_sound : (is js : List Interval) → AllSound is → AllSound js → A
 joined_all_sound [] js h k = tt
 joined_all_sound (i ∷ is) [] h k = tt
 joined_all_sound (i ∷ is) (j ∷ js) h k =
-    let x = some_number i h.0.1 in
-    (((low_range i.low j.low h.0.0.0 k.0.0.0, high_range i.high j.high h.0.0.1 k.0.0.1), not_crossed (record { low = lesser_low i.low j.low; high = greater_high i.high j.high }) x.0 (low_left i.low j.low x.0 x.1.0, high_left i.high j.high x.0 x.1.1)), joined_all_sound is js h.1 k.1)
+    let x = some_number i h.0.1 in (
+      (
+        (low_range i.low j.low h.0.0.0 k.0.0.0, high_range i.high j.high h.0.0.1 k.0.0.1),
+        not_crossed (record { low = lesser_low i.low j.low; high = greater_high i.high j.high }) x.0 (low_left i.low j.low x.0 x.1.0, high_left i.high j.high x.0 x.1.1),
+      ),
+      joined_all_sound is js h.1 k.1,
+    )
 
 by_test : (t : Bool) (a : ℤ) → InRange a → IfSome (cond t None (Some a)) InRange
 by_test true a h = tt
@@ -99,8 +104,14 @@ widened_all_sound : (is js : List Interval) → AllSound is → AllSound (widene
 widened_all_sound [] js h = tt
 widened_all_sound (i ∷ is) [] h = tt
 widened_all_sound (i ∷ is) (j ∷ js) h =
-    let x = some_number i h.0.1 in
-    (((widen_low_range i.low j.low h.0.0.0, widen_high_range i.high j.high h.0.0.1), not_crossed (record { low = widened_low i.low j.low; high = widened_high i.high j.high }) x.0 (widen_low_old i.low j.low x.0 x.1.0, widen_high_old i.high j.high x.0 x.1.1)), widened_all_sound is js h.1)
+    let x = some_number i h.0.1 in (
+      (
+        (widen_low_range i.low j.low h.0.0.0, widen_high_range i.high j.high h.0.0.1),
+        not_crossed (record { low = widened_low i.low j.low; high = widened_high i.high j.high }) x.0
+            (widen_low_old i.low j.low x.0 x.1.0, widen_high_old i.high j.high x.0 x.1.1),
+      ),
+      widened_all_sound is js h.1,
+    )
 
 pub joined_sound : (a b : Option (List Interval)) → BoundsSound a → BoundsSound b → BoundsSound (joined_bounds a b)
 joined_sound None b h k = k

@@ -47,7 +47,8 @@ ends_alone : (side : Side) (a : ℤ) → BoundHolds side (Some a) (a +ℤ pos 0)
 ends_alone Low a = omega (arith, ints)
 ends_alone High a = omega (arith, ints)
 
-end_sum_step : (side : Side) (a : ℤ) (o : Option ℤ) (q r : ℤ) (next : ℤ → Option ℤ) → BoundHolds side o q → ((p : ℤ) → BoundHolds side (next p) ((a +ℤ p) +ℤ r)) → BoundHolds side (option_and_then next o) (a +ℤ (q +ℤ r))
+end_sum_step : (side : Side) (a : ℤ) (o : Option ℤ) (q r : ℤ) (next : ℤ → Option ℤ) → BoundHolds side o q → ((p : ℤ) → BoundHolds side (next p) ((a +ℤ p) +ℤ r)) →
+    BoundHolds side (option_and_then next o) (a +ℤ (q +ℤ r))
 end_sum_step side a None q r next h later = tt
 end_sum_step side a (Some p) q r next h later = weaken side (next p) _ _ (later p) (shift side a p q r h)
 

@@ -5,7 +5,7 @@ use Rattle.std.proofs.lemmas.Int.{ints}
 use Rattle.std.proofs.lemmas.Bool.{false≢true}
 use Rattle.lra_linear.specs.Vectors.{product}
 use Rattle.lra_lin.specs.Form.{Form, form_value, Passes}
-use Rattle.lra_lin.specs.declared.test.TestKind.TheVariants.{Eq}
+use Rattle.lra_linear.specs.declared.ConKind.TheVariants.{Eq}
 use Rattle.lra_lin.proofs.FormLemmas.{product_negated}
 use Rattle.lra_domain.specs.declared.Exactness.{Exactness}
 use Rattle.lra_domain.specs.declared.Exactness.TheVariants.{Exact, Flagged}
@@ -89,7 +89,8 @@ zero_both a p v w q is_v zero_v is_q is_w = (omega (arith, ints), omega (arith, 
 -- an equality as two tests
 pub equal_tested : (f : Form) (old mid new : Option (List Interval)) (e1 e2 e : Exactness)
     → TestedTo (ge_tested f.constant f.coefficients old) (RefinePasses f.constant f.coefficients (length f.coefficients) old) (λ s. pos 0 ≤ℤ (f.constant +ℤ product f.coefficients s)) old mid e1
-    → TestedTo (ge_tested (neg_ℤ f.constant) (map neg_ℤ f.coefficients) mid) (RefinePasses (neg_ℤ f.constant) (map neg_ℤ f.coefficients) (length (map neg_ℤ f.coefficients)) mid) (λ s. pos 0 ≤ℤ (neg_ℤ f.constant +ℤ product (map neg_ℤ f.coefficients) s)) mid new e2
+    → TestedTo (ge_tested (neg_ℤ f.constant) (map neg_ℤ f.coefficients) mid) (RefinePasses (neg_ℤ f.constant) (map neg_ℤ f.coefficients) (length (map neg_ℤ f.coefficients)) mid)
+    (λ s. pos 0 ≤ℤ (neg_ℤ f.constant +ℤ product (map neg_ℤ f.coefficients) s)) mid new e2
     → (e ≡ Exact → (e1 ≡ Exact) × (e2 ≡ Exact)) → (e ≡ Flagged → (e1 ≡ Flagged) ⊎ ((e1 ≡ Exact) × (e2 ≡ Flagged)))
     → TestedTo (tested Eq f old) (TestPasses Eq f old) (Passes Eq f) old new e
 equal_tested f old mid new e1 e2 e one two both either = record {
@@ -97,7 +98,8 @@ equal_tested f old mid new e1 e2 e one two both either = record {
   flagged = λ k. strained (either k);
   covers = within_trans _ _ _ (ge_tested_within (neg_ℤ f.constant) (map neg_ℤ f.coefficients) _ _ one.covers) two.covers;
   stores = λ s h k.
-      let z = zero_both f.constant (product f.coefficients s) (form_value f s) (neg_ℤ f.constant +ℤ product (map neg_ℤ f.coefficients) s) (product (map neg_ℤ f.coefficients) s) refl k (product_negated f.coefficients s) refl in
+      let z = zero_both f.constant (product f.coefficients s) (form_value f s) (neg_ℤ f.constant +ℤ product (map neg_ℤ f.coefficients) s) (product (map neg_ℤ f.coefficients) s) refl k
+      (product_negated f.coefficients s) refl in
       two.stores s (one.stores s h z.0) z.1;
   sound = two.sound;
   fit = λ n h. two.fit n (one.fit n h);

@@ -10,7 +10,8 @@ use Rattle.lra_box.specs.Tables.{has_bounds, on_bounds, assigned, AssignPasses, 
 use Rattle.lra_box.specs.Extremes.{AssignsExtremes}
 
 -- bounds tested to new ones: the table's unless flagged, and wider ones with each store that passes then
-pub record TestedTo (table : Option (List Interval)) (passes : Type 0) (keeps : List ℤ → Type 0) (old new : Option (List Interval)) (e : Exactness) : Type 0 where
+pub record TestedTo (table : Option (List Interval)) (passes : Type 0) (keeps : List ℤ → Type 0)
+    (old new : Option (List Interval)) (e : Exactness) : Type 0 where
   pub exact : e ≡ Exact → new ≡ table
   pub flagged : e ≡ Flagged → passes
   pub covers : BoundsWithin table new

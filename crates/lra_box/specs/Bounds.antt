@@ -1,5 +1,6 @@
 -- Intervals, what they hold, and the ends of a form's values over them.
-use Rattle.std.specs.Prelude.{◌≡◌, zero, suc, Bool, false, int_lt, ℤ, pos, negsuc, ◌+ℤ◌, ◌*ℤ◌, ◌≤ℤ◌, List, [], ◌∷◌, Option, None, Some, option_and_then, IfSome, IsSomeAnd, ◌⊎◌}
+use Rattle.std.specs.Prelude.{◌≡◌, zero, suc, Bool, false, int_lt, ℤ, pos, negsuc, ◌+ℤ◌, ◌*ℤ◌, ◌≤ℤ◌, List, [], ◌∷◌}
+use Rattle.std.specs.Prelude.{Option, None, Some, option_and_then, IfSome, IsSomeAnd, ◌⊎◌}
 use Rattle.lra_linear.specs.Range.{InRange}
 use Rattle.lra_lin.specs.Form.{Form, form_value}
 use Rattle.lra_domain.specs.declared.Exactness.TheVariants.{Exact, Flagged}
@@ -85,7 +86,8 @@ abbrev pub SumPasses : Side → ℤ → List ℤ → List Interval → Type 0
 SumPasses side a [] is = ⊥
 SumPasses side a (c ∷ cs) [] = ⊥
 SumPasses side a (c ∷ cs) (i ∷ is) =
-    ProductPasses side c i ⊎ IsSomeAnd (end_product side c i) (λ p. (¬ InRange (a +ℤ p)) ⊎ SumPasses side (a +ℤ p) cs is)
+    ProductPasses side c i ⊎ IsSomeAnd (end_product side c i)
+    (λ p. (¬ InRange (a +ℤ p)) ⊎ SumPasses side (a +ℤ p) cs is)
 
 -- a computed bound is the table's, where nothing passes; it is absent and flagged only where something passes
 pub record IsBound (table : Option ℤ) (passes : Type 0) (b : Bound) : Type 0 where

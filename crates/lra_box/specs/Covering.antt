@@ -1,12 +1,13 @@
--- Being within: wider bounds have each store of narrower ones, and the join of two bounds is the narrowest that is wider
--- than both.
+-- Being within: wider bounds have each store of narrower ones, and the join of two bounds is the narrowest that is
+-- wider than both.
 use Rattle.std.proofs.Common.{◌≡◌, ℕ, zero, suc, ℤ, List, [], ◌∷◌, length, replicate, Option, None, Some, arith}
 use Rattle.std.proofs.lemmas.Int.{ints, clamps}
 use Rattle.lra_box.specs.declared.interval.Interval.{Interval}
 use Rattle.lra_box.specs.declared.interval.Side.TheVariants.{Low, High}
 use Rattle.lra_box.specs.Bounds.{BoundHolds, InBounds, open_interval}
 use Rattle.lra_box.specs.Content.{BoundsFit}
-use Rattle.lra_box.specs.Tables.{has_bounds, lesser_low, greater_high, joined_intervals, joined_bounds, LowWithin, HighWithin, IntervalsWithin, BoundsWithin}
+use Rattle.lra_box.specs.Tables.{has_bounds, lesser_low, greater_high, joined_intervals, joined_bounds, LowWithin}
+use Rattle.lra_box.specs.Tables.{HighWithin, IntervalsWithin, BoundsWithin}
 
 -- bounds that are all absent hold of every number
 pub in_open : (s : List ℤ) (n : ℕ) → length s ≡ n → InBounds (replicate n open_interval) s
@@ -31,7 +32,10 @@ in_wider [] [] s w h = h
 in_wider [] (j ∷ js) s w h = absurd w
 in_wider (i ∷ is) [] s w h = absurd w
 in_wider (i ∷ is) (j ∷ js) [] w h = absurd h
-in_wider (i ∷ is) (j ∷ js) (x ∷ xs) w h = ((low_wider i.low j.low x w.0 h.0.0, high_wider i.high j.high x w.1 h.0.1), in_wider is js xs w.2 h.1)
+in_wider (i ∷ is) (j ∷ js) (x ∷ xs) w h = (
+  (low_wider i.low j.low x w.0 h.0.0, high_wider i.high j.high x w.1 h.0.1),
+  in_wider is js xs w.2 h.1,
+)
 
 -- a store of the bounds is one of wider bounds
 pub has_wider : (a b : Option (List Interval)) (s : List ℤ) → BoundsWithin a b → has_bounds a s → has_bounds b s
@@ -63,13 +67,17 @@ pub intervals_within_refl : (is : List Interval) → IntervalsWithin is is
 intervals_within_refl [] = tt
 intervals_within_refl (i ∷ is) = (low_within_refl i.low, high_within_refl i.high, intervals_within_refl is)
 
-intervals_within_trans : (is js ks : List Interval) → IntervalsWithin is js → IntervalsWithin js ks → IntervalsWithin is ks
+intervals_within_trans : (is js ks : List Interval) → IntervalsWithin is js → IntervalsWithin js ks →
+    IntervalsWithin is ks
 intervals_within_trans [] [] ks p q = q
 intervals_within_trans [] (j ∷ js) ks p q = absurd p
 intervals_within_trans (i ∷ is) [] ks p q = absurd p
 intervals_within_trans (i ∷ is) (j ∷ js) [] p q = absurd q
-intervals_within_trans (i ∷ is) (j ∷ js) (k ∷ ks) p q =
-    (low_within_trans i.low j.low k.low p.0 q.0, high_within_trans i.high j.high k.high p.1 q.1, intervals_within_trans is js ks p.2 q.2)
+intervals_within_trans (i ∷ is) (j ∷ js) (k ∷ ks) p q = (
+  low_within_trans i.low j.low k.low p.0 q.0,
+  high_within_trans i.high j.high k.high p.1 q.1,
+  intervals_within_trans is js ks p.2 q.2,
+)
 
 pub within_refl : (a : Option (List Interval)) → BoundsWithin a a
 within_refl None = tt
@@ -126,7 +134,8 @@ joined_right [] (j ∷ js) e = absurd (omega arith)
 joined_right (i ∷ is) [] e = absurd (omega arith)
 joined_right (i ∷ is) (j ∷ js) e = (low_right i.low j.low, high_right i.high j.high, joined_right is js (omega arith))
 
-joined_least : (is js ks : List Interval) → IntervalsWithin is ks → IntervalsWithin js ks → IntervalsWithin (joined_intervals is js) ks
+joined_least : (is js ks : List Interval) → IntervalsWithin is ks → IntervalsWithin js ks →
+    IntervalsWithin (joined_intervals is js) ks
 joined_least [] js ks p q = p
 joined_least (i ∷ is) [] [] p q = q
 joined_least (i ∷ is) [] (k ∷ ks) p q = absurd q
@@ -135,18 +144,21 @@ joined_least (i ∷ is) (j ∷ js) (k ∷ ks) p q =
     (low_least i.low j.low k.low p.0 q.0, high_least i.high j.high k.high p.1 q.1, joined_least is js ks p.2 q.2)
 
 -- the join of bounds of as many dimensions is wider than both
-pub left_within : (n : ℕ) (a b : Option (List Interval)) → BoundsFit n a → BoundsFit n b → BoundsWithin a (joined_bounds a b)
+pub left_within : (n : ℕ) (a b : Option (List Interval)) → BoundsFit n a → BoundsFit n b →
+    BoundsWithin a (joined_bounds a b)
 left_within n None b f g = tt
 left_within n (Some is) None f g = intervals_within_refl is
 left_within n (Some is) (Some js) f g = joined_left is js (omega arith)
 
-pub right_within : (n : ℕ) (a b : Option (List Interval)) → BoundsFit n a → BoundsFit n b → BoundsWithin b (joined_bounds a b)
+pub right_within : (n : ℕ) (a b : Option (List Interval)) → BoundsFit n a → BoundsFit n b →
+    BoundsWithin b (joined_bounds a b)
 right_within n None b f g = within_refl b
 right_within n (Some is) None f g = tt
 right_within n (Some is) (Some js) f g = joined_right is js (omega arith)
 
 -- what is wider than both is wider than their join
-pub least_within : (a b c : Option (List Interval)) → BoundsWithin a c → BoundsWithin b c → BoundsWithin (joined_bounds a b) c
+pub least_within : (a b c : Option (List Interval)) → BoundsWithin a c → BoundsWithin b c →
+    BoundsWithin (joined_bounds a b) c
 least_within None b c p q = q
 least_within (Some is) None c p q = p
 least_within (Some is) (Some js) None p q = absurd p

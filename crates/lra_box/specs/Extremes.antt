@@ -10,7 +10,8 @@ abbrev pub AssignsExtremes : Action → Option (List Interval) → Option (List 
 AssignsExtremes (assign x e) None b = Unit {0}
 AssignsExtremes (assign x e) (Some is) None = ⊥
 AssignsExtremes (assign x e) (Some is) (Some js) =
-    IsExtreme Low is e (slice_index_or js x open_interval).low × IsExtreme High is e (slice_index_or js x open_interval).high
+    IsExtreme Low is e (slice_index_or js x open_interval).low ×
+    IsExtreme High is e (slice_index_or js x open_interval).high
 AssignsExtremes (forget x) a b = Unit {0}
 AssignsExtremes (test kind e) a b = Unit {0}
 AssignsExtremes (embed k) a b = Unit {0}

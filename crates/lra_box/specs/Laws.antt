@@ -63,7 +63,8 @@ box_within_trans : (a b c : Content) → BoxWithin a b → BoxWithin b c → Box
 box_within_trans a b c v w = (v.0 ∙ w.0, within_trans a.bounds b.bounds c.bounds v.1 w.1)
 
 joined_within : (a b j c : Content) → box_meaning.joined a b j → BoxWithin a c → BoxWithin b c → BoxWithin j c
-joined_within a b j c e v w = subst (λ (d : Content). BoxWithin d c) (sym e) (v.0, least_within a.bounds b.bounds c.bounds v.1 w.1)
+joined_within a b j c e v w = subst (λ (d : Content). BoxWithin d c) (sym e)
+    (v.0, least_within a.bounds b.bounds c.bounds v.1 w.1)
 
 pub same_within : (a b : Content) → a ≡ b → BoxWithin a b
 same_within a b e = subst (λ (c : Content). BoxWithin a c) e (box_within_refl a)

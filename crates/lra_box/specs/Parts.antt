@@ -1,9 +1,11 @@
--- The rows that mean a box: `x = l` where both bounds are equal, else its finite bounds as inequalities; the equalities first.
-use Rattle.std.specs.Prelude.{ℕ, suc, ℤ, pos, negsuc, neg_ℤ, List, [], ◌∷◌, ◌++◌, length, replicate, slice_set, Option, None, Some, Bool, false, if◌then◌else◌}
+-- The rows that mean a box: `x = l` where both bounds are equal, else its finite bounds as inequalities; the equalities
+-- first.
+use Rattle.std.specs.Prelude.{ℕ, suc, ℤ, pos, negsuc, neg_ℤ, List, [], ◌∷◌, ◌++◌, length, replicate, slice_set, Option}
+use Rattle.std.specs.Prelude.{None, Some, Bool, false, if◌then◌else◌}
 use Rattle.std.specs.Ordering.{int_eq}
 use Rattle.lra_sys.specs.Listed.{Listed}
-use Rattle.lra_sys.specs.declared.system.ConKind.{ConKind}
-use Rattle.lra_sys.specs.declared.system.ConKind.TheVariants.{Ge, Eq}
+use Rattle.lra_linear.specs.declared.ConKind.{ConKind}
+use Rattle.lra_linear.specs.declared.ConKind.TheVariants.{Ge, Eq}
 use Rattle.lra_box.specs.declared.interval.Interval.{Interval}
 
 -- the row `constant + factor * x_k` in n dimensions
@@ -36,7 +38,8 @@ equal_rows n k (i ∷ is) = (if is_single i then low_rows n k i.low else []) ++ 
 -- their inequalities
 abbrev pub unequal_rows : ℕ → ℕ → List Interval → List (List ℤ)
 unequal_rows n k [] = []
-unequal_rows n k (i ∷ is) = (if is_single i then [] else low_rows n k i.low ++ high_rows n k i.high) ++ unequal_rows n (suc k) is
+unequal_rows n k (i ∷ is) = (if is_single i then [] else low_rows n k i.low ++ high_rows n k i.high) ++
+    unequal_rows n (suc k) is
 
 abbrev pub box_rows : ℕ → List Interval → List (List ℤ)
 box_rows n is = equal_rows n 0 is ++ unequal_rows n 0 is

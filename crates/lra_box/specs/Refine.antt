@@ -1,9 +1,10 @@
 -- A test refines the bounds, variable by variable.
-use Rattle.std.specs.Prelude.{◌≡◌, ◌≢◌, ℕ, zero, suc, ℤ, pos, negsuc, neg_ℤ, List, [], ◌∷◌, map, length, slice_set, slice_index_or, Option, None, Some, ◌⊎◌, int_lt, Bool, true, false, if◌then◌else◌}
+use Rattle.std.specs.Prelude.{◌≡◌, ◌≢◌, ℕ, zero, suc, ℤ, pos, negsuc, neg_ℤ, List, [], ◌∷◌, map, length, slice_set}
+use Rattle.std.specs.Prelude.{slice_index_or, Option, None, Some, ◌⊎◌, int_lt, Bool, true, false, if◌then◌else◌}
 use Rattle.std.specs.Int.{int_min, int_max, int_div_euclid}
 use Rattle.lra_lin.specs.Form.{Form}
-use Rattle.lra_lin.specs.declared.test.TestKind.{TestKind}
-use Rattle.lra_lin.specs.declared.test.TestKind.TheVariants.{Ge, Eq}
+use Rattle.lra_linear.specs.declared.ConKind.{ConKind}
+use Rattle.lra_linear.specs.declared.ConKind.TheVariants.{Ge, Eq}
 use Rattle.lra_domain.specs.declared.Exactness.{Exactness}
 use Rattle.lra_domain.specs.declared.Exactness.TheVariants.{Exact, Flagged}
 use Rattle.lra_box.specs.declared.interval.Interval.{Interval}
@@ -19,8 +20,8 @@ abbrev pub lowered : Option ℤ → ℤ → ℤ
 lowered None b = b
 lowered (Some a) b = int_min a b
 
--- the numbers x of the interval for which c*x + m is not negative, where m is finite: at least -floor(m / c) for a positive c,
--- at most floor(m / -c) for a negative one
+-- the numbers x of the interval for which c*x + m is not negative, where m is finite: at least -floor(m / c) for a
+-- positive c, at most floor(m / -c) for a negative one
 abbrev pub tightened : ℤ → Option ℤ → Interval → Interval
 tightened c None i = i
 tightened (pos zero) (Some m) i = i
@@ -32,12 +33,14 @@ abbrev pub others_most : ℤ → List ℤ → ℕ → List Interval → Option �
 others_most a cs k is = end_sum High a (slice_set cs k (pos 0)) is
 
 abbrev pub place_refined : ℤ → List ℤ → ℕ → List Interval → Interval
-place_refined a cs k is = tightened (slice_index_or cs k (pos 0)) (others_most a cs k is) (slice_index_or is k open_interval)
+place_refined a cs k is = tightened (slice_index_or cs k (pos 0)) (others_most a cs k is)
+    (slice_index_or is k open_interval)
 
 -- one place: the bounds with its interval tightened, or none where it is crossed then
 abbrev pub refine_place : ℤ → List ℤ → ℕ → Option (List Interval) → Option (List Interval)
 refine_place a cs k None = None
-refine_place a cs k (Some is) = if crossed (place_refined a cs k is) then None else Some (slice_set is k (place_refined a cs k is))
+refine_place a cs k (Some is) = if crossed (place_refined a cs k is) then None
+    else Some (slice_set is k (place_refined a cs k is))
 
 -- the first places, in order, each on the bounds as refined so far
 abbrev pub refined : ℤ → List ℤ → ℕ → Option (List Interval) → Option (List Interval)
@@ -59,7 +62,7 @@ abbrev pub ge_tested : ℤ → List ℤ → Option (List Interval) → Option (L
 ge_tested a cs b = if some_occurs cs then refined a cs (length cs) b else (if int_lt a (pos 0) then None else b)
 
 -- `e = 0` is `e >= 0`, then `-e >= 0`
-abbrev pub tested : TestKind → Form → Option (List Interval) → Option (List Interval)
+abbrev pub tested : ConKind → Form → Option (List Interval) → Option (List Interval)
 tested Ge e b = ge_tested e.constant e.coefficients b
 tested Eq e b = ge_tested (neg_ℤ e.constant) (map neg_ℤ e.coefficients) (ge_tested e.constant e.coefficients b)
 
@@ -73,16 +76,18 @@ abbrev pub RefinePasses : ℤ → List ℤ → ℕ → Option (List Interval) �
 RefinePasses a cs zero b = ⊥
 RefinePasses a cs (suc k) b = RefinePasses a cs k b ⊎ PlacePasses a cs k (refined a cs k b)
 
-abbrev pub TestPasses : TestKind → Form → Option (List Interval) → Type 0
+abbrev pub TestPasses : ConKind → Form → Option (List Interval) → Type 0
 TestPasses Ge e b = RefinePasses e.constant e.coefficients (length e.coefficients) b
 TestPasses Eq e b =
     RefinePasses e.constant e.coefficients (length e.coefficients) b
-    ⊎ RefinePasses (neg_ℤ e.constant) (map neg_ℤ e.coefficients) (length e.coefficients) (ge_tested e.constant e.coefficients b)
+    ⊎ RefinePasses (neg_ℤ e.constant) (map neg_ℤ e.coefficients) (length e.coefficients)
+    (ge_tested e.constant e.coefficients b)
 
 -- what tightening a place may answer
 pub record TightAt (a : ℤ) (cs : List ℤ) (k : ℕ) (is : List Interval) (i : Interval) (e : Exactness) : Type 0 where
   pub exact : e ≡ Exact → i ≡ place_refined a cs k is
   pub flagged : e ≡ Flagged → PlacePasses a cs k (Some is)
   -- by what the others add at most, or not at all
-  pub either : (o : Option ℤ) × ((o ≡ None) ⊎ (o ≡ others_most a cs k is)) × (i ≡ tightened (slice_index_or cs k (pos 0)) o (slice_index_or is k open_interval))
+  pub either : (o : Option ℤ) × ((o ≡ None) ⊎ (o ≡ others_most a cs k is)) ×
+      (i ≡ tightened (slice_index_or cs k (pos 0)) o (slice_index_or is k open_interval))
   pub range : EndsInRange i

@@ -1,5 +1,6 @@
 -- The tables of boxes: what each call makes of the bounds, and when it may be flagged.
-use Rattle.std.specs.Prelude.{ℕ, ◌+◌, ◌*◌, ◌-◌, ℤ, ◌≤ℤ◌, int_lt, cond, List, [], ◌∷◌, ◌++◌, take, replicate, slice_set, Option, None, Some, ◌⊎◌}
+use Rattle.std.specs.Prelude.{ℕ, ◌+◌, ◌*◌, ◌-◌, ℤ, ◌≤ℤ◌, int_lt, cond, List, [], ◌∷◌, ◌++◌, take, replicate, slice_set}
+use Rattle.std.specs.Prelude.{Option, None, Some, ◌⊎◌}
 use Rattle.std.specs.Int.{int_min, int_max}
 use Rattle.lra_lin.specs.Form.{Form}
 use Rattle.lra_domain.specs.Actions.{Action, assign, forget, test, embed, remove_last}
@@ -23,7 +24,10 @@ on_bounds f None = None
 on_bounds f (Some is) = Some (f is)
 
 abbrev pub assigned : ℕ → Form → List Interval → List Interval
-assigned x e is = slice_set is x (record { low = end_sum Low e.constant e.coefficients is; high = end_sum High e.constant e.coefficients is })
+assigned x e is = slice_set is x (record {
+  low = end_sum Low e.constant e.coefficients is;
+  high = end_sum High e.constant e.coefficients is;
+})
 
 abbrev pub AssignPasses : Form → Option (List Interval) → Type 0
 AssignPasses e None = ⊥
@@ -43,7 +47,8 @@ greater_high (Some a) (Some b) = Some (int_max a b)
 abbrev pub joined_intervals : List Interval → List Interval → List Interval
 joined_intervals [] is = []
 joined_intervals (i ∷ is) [] = []
-joined_intervals (i ∷ is) (j ∷ js) = record { low = lesser_low i.low j.low; high = greater_high i.high j.high } ∷ joined_intervals is js
+joined_intervals (i ∷ is) (j ∷ js) = record { low = lesser_low i.low j.low; high = greater_high i.high j.high } ∷
+    joined_intervals is js
 
 abbrev pub joined_bounds : Option (List Interval) → Option (List Interval) → Option (List Interval)
 joined_bounds None b = b
@@ -101,7 +106,8 @@ widened_high (Some a) (Some b) = cond (int_lt a b) None (Some a)
 abbrev pub widened_intervals : List Interval → List Interval → List Interval
 widened_intervals [] is = []
 widened_intervals (i ∷ is) [] = []
-widened_intervals (i ∷ is) (j ∷ js) = record { low = widened_low i.low j.low; high = widened_high i.high j.high } ∷ widened_intervals is js
+widened_intervals (i ∷ is) (j ∷ js) = record { low = widened_low i.low j.low; high = widened_high i.high j.high } ∷
+    widened_intervals is js
 
 abbrev pub widened_bounds : Option (List Interval) → Option (List Interval) → Option (List Interval)
 widened_bounds None b = b

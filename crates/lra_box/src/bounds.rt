@@ -1,6 +1,7 @@
 //! The bounds of a box: an interval for each dimension, or none where it is empty.
 
-ghost use Rattle.std.specs.Prelude.{◌≡◌, ◌+◌, ◌-◌, pos, neg_ℤ, ◌+ℤ◌, ◌≤ℤ◌, ◌≤◌, ◌<◌, ◌^◌, ◌++◌, All, IfOk, OnErr, OnOk, IsTrue, ◌↔◌, None, Some, length, map, replicate, slice_set, take, List};
+ghost use Rattle.std.specs.Prelude.{◌≡◌, ◌+◌, ◌-◌, pos, neg_ℤ, ◌+ℤ◌, ◌≤ℤ◌, ◌≤◌, ◌<◌, ◌^◌, ◌++◌, All, IfOk, OnErr, OnOk};
+ghost use Rattle.std.specs.Prelude.{IsTrue, ◌↔◌, None, Some, length, map, replicate, slice_set, take, List};
 ghost use Rattle.lra_linear.specs.Range.{InRange};
 ghost use Rattle.lra_linear.specs.Vectors.{product};
 ghost use Rattle.lra_lin.specs.Form.{Passes};
@@ -8,14 +9,16 @@ ghost use Rattle.lra_box.specs.declared.interval.Interval.{Interval};
 ghost use Rattle.lra_box.specs.Bounds.{form, open_interval};
 ghost use Rattle.lra_box.specs.Content.{seen, BoundsFit, BoundsSound};
 ghost use Rattle.lra_box.specs.Refine.{ge_tested, tested, RefinePasses, TestPasses};
-ghost use Rattle.lra_box.specs.Tables.{on_bounds, joined_bounds, widened_bounds, grown_bounds, BoundsWithin, rank_number};
+ghost use Rattle.lra_box.specs.Tables.{on_bounds, joined_bounds, widened_bounds, grown_bounds, BoundsWithin};
+ghost use Rattle.lra_box.specs.Tables.{rank_number};
 ghost use Rattle.lra_box.specs.Answers.{AssignedTo, TestedTo};
 
 use crate::interval::Interval;
 use crate::intervals::{all_within, assign_bounds, count_bounds, join_all, widen_all};
 use crate::refine::{occurs, refine_all, worse};
 use lra_domain::{Exactness, Mode, Rank};
-use lra_lin::{LinExpr, Test, TestKind};
+use lra_lin::{LinExpr, Test};
+use lra_linear::ConKind;
 use std::alloc::{AllocError, Global};
 
 /// The intervals of a box, or none where it is empty.
@@ -106,7 +109,9 @@ fn test_ge(bounds: &mut Bounds, constant: i128, factors: &mut [i128]) -> Exactne
     requires range { InRange constant }
     requires factors { All InRange factors.old }
     requires sound { BoundsSound (seen bounds.old) }
-    ensures tested { TestedTo (ge_tested constant factors.old (seen bounds.old)) (RefinePasses constant factors.old (length factors.old) (seen bounds.old)) (λ s. pos 0 ≤ℤ (constant +ℤ product factors.old s)) (seen bounds.old) (seen bounds.new) result }
+    ensures tested { TestedTo (ge_tested constant factors.old (seen bounds.old))
+        (RefinePasses constant factors.old (length factors.old) (seen bounds.old))
+        (λ s. pos 0 ≤ℤ (constant +ℤ product factors.old s)) (seen bounds.old) (seen bounds.new) result }
 {
     let Some(intervals) = bounds else {
         return Exactness::Exact;
@@ -137,7 +142,8 @@ fn test_eq(
     requires negated { opposite.old ≡ map neg_ℤ factors.old }
     requires opposites { All InRange opposite.old }
     requires sound { BoundsSound (seen bounds.old) }
-    ensures tested { let e = form constant factors.old in TestedTo (tested TestKind.Eq e (seen bounds.old)) (TestPasses TestKind.Eq e (seen bounds.old)) (Passes TestKind.Eq e) (seen bounds.old) (seen bounds.new) result }
+    ensures tested { let e = form constant factors.old in TestedTo (tested ConKind.Eq e (seen bounds.old))
+        (TestPasses ConKind.Eq e (seen bounds.old)) (Passes ConKind.Eq e) (seen bounds.old) (seen bounds.new) result }
 {
     let one = test_ge(bounds, constant, factors);
     let two = test_ge(bounds, -constant, opposite);
@@ -148,14 +154,16 @@ fn test_eq(
 pub fn test_in(alloc: Global, bounds: &mut Bounds, t: &Test) -> Result<Exactness, AllocError>
     requires width { BoundsFit (length t.now.expr.coefficients) (seen bounds.old) }
     requires sound { BoundsSound (seen bounds.old) }
-    ensures tested { IfOk result (λ e. TestedTo (tested t.now.kind t.now.expr (seen bounds.old)) (TestPasses t.now.kind t.now.expr (seen bounds.old)) (Passes t.now.kind t.now.expr) (seen bounds.old) (seen bounds.new) e) }
+    ensures tested { IfOk result (λ e. TestedTo (tested t.now.kind t.now.expr (seen bounds.old))
+        (TestPasses t.now.kind t.now.expr (seen bounds.old)) (Passes t.now.kind t.now.expr) (seen bounds.old)
+        (seen bounds.new) e) }
     ensures err { OnErr result (seen bounds.new ≡ seen bounds.old) }
 {
     let constant = t.expr.constant() as i128;
     let mut row = wide_row(alloc, &t.expr)?;
     match t.kind {
-        TestKind::Ge => Ok(test_ge(bounds, constant, row.as_mut_slice())),
-        TestKind::Eq => {
+        ConKind::Ge => Ok(test_ge(bounds, constant, row.as_mut_slice())),
+        ConKind::Eq => {
             let mut opposite = opposite_row(alloc, &t.expr)?;
             Ok(test_eq(
                 bounds,

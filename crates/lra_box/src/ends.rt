@@ -56,11 +56,13 @@ fn product_end(side: Side, c: i128, interval: Interval) -> Bound
     }
 }
 
-/// The least or the greatest value of `constant + coefficients` over the intervals, summed from the constant on in column order.
+/// The least or the greatest value of `constant + coefficients` over the intervals, summed from the constant on in
+/// column order.
 pub fn sum_end(side: Side, constant: i128, coefficients: &[i128], bounds: &[Interval]) -> Bound
     requires width { length coefficients.now ≡ length bounds.now }
     requires range { InRange constant }
-    ensures bound { IsBound (end_sum side constant coefficients.now bounds.now) (SumPasses side constant coefficients.now bounds.now) result }
+    ensures bound { IsBound (end_sum side constant coefficients.now bounds.now)
+        (SumPasses side constant coefficients.now bounds.now) result }
     ensures range { IfSome result.value InRange }
 {
     let mut sum = constant;

@@ -4,7 +4,8 @@ ghost use Rattle.std.specs.Prelude.{◌≡◌, ◌↔◌, IsTrue, IfSome};
 ghost use Rattle.lra_linear.specs.Range.{InRange};
 ghost use Rattle.lra_box.specs.Bounds.{crossed, EndsInRange};
 ghost use Rattle.lra_box.specs.Refine.{raised, lowered, tightened};
-ghost use Rattle.lra_box.specs.Tables.{lesser_low, greater_high, widened_low, widened_high, LowWithin, HighWithin, finite};
+ghost use Rattle.lra_box.specs.Tables.{lesser_low, greater_high, widened_low, widened_high, LowWithin, HighWithin};
+ghost use Rattle.lra_box.specs.Tables.{finite};
 
 /// The whole numbers from `low` to `high`; an end without a bound is open.
 #[derive(Clone, Copy, Debug, PartialEq, Eq)]

@@ -1,8 +1,9 @@
 //! The rows that mean a box.
 
-ghost use Rattle.std.specs.Prelude.{◌≡◌, ◌^◌, ◌≤◌, ◌<◌, ◌+◌, ◌++◌, [], All, replicate, length, IfOk, OnOk, IfSome, if◌then◌else◌};
+ghost use Rattle.std.specs.Prelude.{◌≡◌, ◌^◌, ◌≤◌, ◌<◌, ◌+◌, ◌++◌, [], All, replicate, length, IfOk, OnOk, IfSome};
+ghost use Rattle.std.specs.Prelude.{if◌then◌else◌};
 ghost use Rattle.lra_linear.specs.Range.{InRange};
-ghost use Rattle.lra_sys.specs.declared.system.ConKind.TheVariants.{Ge, Eq};
+ghost use Rattle.lra_linear.specs.declared.ConKind.TheVariants.{Ge, Eq};
 ghost use Rattle.lra_box.specs.Bounds.{AllSound, EndsInRange};
 ghost use Rattle.lra_box.specs.Parts.{bound_row, is_single, low_rows, high_rows, equal_rows, unequal_rows, box_system};
 
@@ -97,8 +98,10 @@ fn push_equal(
     requires dims { system.old.dims ≡ n }
     requires range { EndsInRange interval }
     ensures dims { system.new.dims ≡ n }
-    ensures rows { OnOk result (system.new.rows ≡ system.old.rows ++ (if is_single interval then low_rows n k interval.low else [])) }
-    ensures kinds { OnOk result (system.new.kinds ≡ system.old.kinds ++ replicate (length (if is_single interval then low_rows n k interval.low else [])) Eq) }
+    ensures rows { OnOk result (system.new.rows ≡ system.old.rows ++
+        (if is_single interval then low_rows n k interval.low else [])) }
+    ensures kinds { OnOk result (system.new.kinds ≡ system.old.kinds ++
+        replicate (length (if is_single interval then low_rows n k interval.low else [])) Eq) }
 {
     if is_single(interval) {
         push_low(alloc, system, n, k, interval.low, ConKind::Eq)
@@ -119,8 +122,11 @@ fn push_unequal(
     requires dims { system.old.dims ≡ n }
     requires range { EndsInRange interval }
     ensures dims { system.new.dims ≡ n }
-    ensures rows { OnOk result (system.new.rows ≡ system.old.rows ++ (if is_single interval then [] else low_rows n k interval.low ++ high_rows n k interval.high)) }
-    ensures kinds { OnOk result (system.new.kinds ≡ system.old.kinds ++ replicate (length (if is_single interval then [] else low_rows n k interval.low ++ high_rows n k interval.high)) Ge) }
+    ensures rows { OnOk result (system.new.rows ≡ system.old.rows ++
+        (if is_single interval then [] else low_rows n k interval.low ++ high_rows n k interval.high)) }
+    ensures kinds { OnOk result (system.new.kinds ≡ system.old.kinds ++
+        replicate (length (if is_single interval then [] else low_rows n k interval.low ++ high_rows n k interval.high))
+        Ge) }
 {
     if is_single(interval) {
         return Ok(());
@@ -134,8 +140,10 @@ fn push_equals(alloc: Global, system: &mut ConSys, intervals: &[Interval]) -> Re
     requires dims { system.old.dims ≡ length intervals.now }
     requires sound { AllSound intervals.now }
     ensures dims { system.new.dims ≡ length intervals.now }
-    ensures rows { OnOk result (system.new.rows ≡ system.old.rows ++ equal_rows (length intervals.now) 0 intervals.now) }
-    ensures kinds { OnOk result (system.new.kinds ≡ system.old.kinds ++ replicate (length (equal_rows (length intervals.now) 0 intervals.now)) Eq) }
+    ensures rows { OnOk result (system.new.rows ≡ system.old.rows ++
+        equal_rows (length intervals.now) 0 intervals.now) }
+    ensures kinds { OnOk result (system.new.kinds ≡ system.old.kinds ++
+        replicate (length (equal_rows (length intervals.now) 0 intervals.now)) Eq) }
 {
     let mut k = 0;
     let mut left = intervals;
@@ -156,8 +164,10 @@ fn push_unequals(
     requires dims { system.old.dims ≡ length intervals.now }
     requires sound { AllSound intervals.now }
     ensures dims { system.new.dims ≡ length intervals.now }
-    ensures rows { OnOk result (system.new.rows ≡ system.old.rows ++ unequal_rows (length intervals.now) 0 intervals.now) }
-    ensures kinds { OnOk result (system.new.kinds ≡ system.old.kinds ++ replicate (length (unequal_rows (length intervals.now) 0 intervals.now)) Ge) }
+    ensures rows { OnOk result (system.new.rows ≡ system.old.rows ++
+        unequal_rows (length intervals.now) 0 intervals.now) }
+    ensures kinds { OnOk result (system.new.kinds ≡ system.old.kinds ++
+        replicate (length (unequal_rows (length intervals.now) 0 intervals.now)) Ge) }
 {
     let mut k = 0;
     let mut left = intervals;

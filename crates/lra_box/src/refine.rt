@@ -1,6 +1,7 @@
 //! A test refines the intervals, place by place.
 
-ghost use Rattle.std.specs.Prelude.{◌≡◌, ◌≢◌, ◌↔◌, pos, ◌<◌, length, IsTrue, None, Some, ◌⊎◌, All, if◌then◌else◌, ◌+ℤ◌, ◌≤ℤ◌, slice_index_or};
+ghost use Rattle.std.specs.Prelude.{◌≡◌, ◌≢◌, ◌↔◌, pos, ◌<◌, length, IsTrue, None, Some, ◌⊎◌, All, if◌then◌else◌, ◌+ℤ◌};
+ghost use Rattle.std.specs.Prelude.{◌≤ℤ◌, slice_index_or};
 ghost use Rattle.lra_domain.specs.declared.Exactness.TheVariants.{Exact, Flagged};
 ghost use Rattle.lra_linear.specs.Range.{InRange};
 ghost use Rattle.lra_linear.specs.Vectors.{product};
@@ -83,7 +84,10 @@ pub fn refine_all(bounds: &mut [Interval], constant: i128, factors: &mut [i128])
     requires range { InRange constant }
     requires factors { All InRange factors.old }
     requires sound { AllSound bounds.old }
-    ensures tested { TestedTo (refined constant factors.old (length factors.old) (Some bounds.old)) (RefinePasses constant factors.old (length factors.old) (Some bounds.old)) (λ s. pos 0 ≤ℤ (constant +ℤ product factors.old s)) (Some bounds.old) (if result.is_crossed then None else Some bounds.new) result.exactness }
+    ensures tested { TestedTo (refined constant factors.old (length factors.old) (Some bounds.old))
+        (RefinePasses constant factors.old (length factors.old) (Some bounds.old))
+        (λ s. pos 0 ≤ℤ (constant +ℤ product factors.old s)) (Some bounds.old)
+        (if result.is_crossed then None else Some bounds.new) result.exactness }
     ensures factors { factors.new ≡ factors.old }
 {
     let mut exactness = Exactness::Exact;

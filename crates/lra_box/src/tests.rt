@@ -2,7 +2,8 @@ ghost use Rattle.std.specs.Prelude.{◌≡◌, ◌<◌, length, IfOk};
 
 use crate::Boxes;
 use lra_domain::{Domain, Exactness, Included, Mode};
-use lra_lin::{LinExpr, Test, TestKind};
+use lra_lin::{LinExpr, Test};
+use lra_linear::ConKind;
 use lra_row::Row;
 use lra_sys::{ConKind, ConSys};
 use std::alloc::{AllocError, Global};
@@ -36,7 +37,7 @@ fn keep_by<D: Domain>(
 {
     let test = Test {
         expr: LinExpr::new(alloc, constant, factors)?,
-        kind: TestKind::Ge,
+        kind: ConKind::Ge,
     };
     let exactness = value.test(&test)?;
     Ok(exactness)

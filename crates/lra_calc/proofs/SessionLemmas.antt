@@ -13,10 +13,11 @@ use Rattle.lra_linear.specs.CheckedArithmetic.{checked_product}
 use Rattle.lra_linear.specs.Descriptions.{Given, Holds, HoldsWith}
 use Rattle.lra_linear.proofs.CheckedArithmetic.{checked_product_value}
 use Rattle.lra_linear.proofs.Membership.{contains_none, contains_head, contains_tail, contains_cases}
-use Rattle.lra_sys.specs.declared.system.ConKind.{ConKind}
+use Rattle.lra_linear.specs.declared.ConKind.{ConKind}
 use Rattle.lra_sys.specs.declared.membership.Holds as H
 use Rattle.lra_sys.specs.declared.membership.Holds.TheVariants.{Yes, No, Wide}
-use Rattle.lra_sys.specs.Listed.{Listed, given_by, is_equality, constraints}
+use Rattle.lra_sys.specs.Listed.{Listed, given_by, constraints}
+use Rattle.lra_linear.specs.Kinds.{is_equality}
 use Rattle.lra_sys.specs.Membership.{HoldsInRange, IsAnswer}
 use Rattle.lra_calc.specs.Script as script
 use Rattle.lra_calc.specs.Views.{constraint_of, answered}

@@ -10,7 +10,7 @@ ghost use Rattle.lra_cone.specs.Steps.{IsTurned, IsFlattened, flattening};
 ghost use Rattle.lra_cone.specs.Steps.{PushesFlattened, AreFlatLines, AreFlatRays, flat_matrix};
 ghost use Rattle.lra_cone.specs.Strains.{strained_pair, IsFlatteningError};
 ghost use Rattle.lra_cone.specs.declared.strained.Family.TheVariants.{Lines, Rays};
-ghost use Rattle.lra_sys.specs.Listed.{is_equality};
+ghost use Rattle.lra_linear.specs.Kinds.{is_equality};
 
 use crate::products::opposite;
 use crate::saturation::{all_true, lengthened, one_more, push_lengthened};

@@ -6,7 +6,7 @@ ghost use Rattle.std.specs.List.{All};
 ghost use Rattle.lra_linear.specs.LowestTerms.{IsLowest};
 ghost use Rattle.lra_linear.specs.Range.{InRange};
 ghost use Rattle.lra_linear.specs.ConeStrain.{row_limit};
-ghost use Rattle.lra_sys.specs.Listed.{is_equality};
+ghost use Rattle.lra_linear.specs.Kinds.{is_equality};
 ghost use Rattle.lra_cone.specs.Pairs.{HaveOneWidth, pair_sum, AreCombined, tight_rows, cut_matrix, IsCut};
 ghost use Rattle.lra_cone.specs.Steps.{outside_marks, inside_count};
 ghost use Rattle.lra_cone.specs.Strains.{IsPairError, ArePairsError, IsCutError};

@@ -1,7 +1,7 @@
 -- What the least changes of a program do to stores.
 use Rattle.std.specs.Prelude.{◌≡◌, ℕ, ◌+◌, ◌-◌, ℤ, List, ◌++◌, length, take, slice_set}
 use Rattle.lra_lin.specs.Form.{Form, form_value, Passes}
-use Rattle.lra_lin.specs.declared.test.TestKind.{TestKind}
+use Rattle.lra_linear.specs.declared.ConKind.{ConKind}
 
 -- every store of the first is one of the second
 abbrev pub Within : (List ℤ → Type 0) → (List ℤ → Type 0) → Type 0
@@ -11,7 +11,7 @@ Within p q = (s : List ℤ) → p s → q s
 pub data Action : Type 0 where
   assign : ℕ → Form → Action
   forget : ℕ → Action
-  test : TestKind → Form → Action
+  test : ConKind → Form → Action
   embed : ℕ → Action
   remove_last : ℕ → Action
 

@@ -6,7 +6,8 @@ use Rattle.lra_linear.specs.Descriptions.{Holds, equality}
 use Rattle.lra_domain.specs.Rank.{RankBelow}
 
 -- y = x + 1 at x = 4, y = 0
-pub assign_example : Leads (assign 1 (record { constant = pos 1; coefficients = pos 1 ∷ pos 0 ∷ [] })) (pos 4 ∷ pos 0 ∷ []) (pos 4 ∷ pos 5 ∷ [])
+pub assign_example : Leads (assign 1 (record { constant = pos 1; coefficients = pos 1 ∷ pos 0 ∷ [] }))
+    (pos 4 ∷ pos 0 ∷ []) (pos 4 ∷ pos 5 ∷ [])
 assign_example = refl
 
 -- the last variable goes
@@ -22,5 +23,6 @@ pub row_example : Holds (equality (pos 4 ∷ negsuc 0 ∷ [])) (pos 1 ∷ pos 4 
 row_example = refl
 
 -- an earlier number decides
-pub rank_example : RankBelow (record { first = 1; second = 2; third = 9; fourth = 9 }) (record { first = 1; second = 3; third = 0; fourth = 0 })
+pub rank_example : RankBelow (record { first = 1; second = 2; third = 9; fourth = 9 })
+    (record { first = 1; second = 3; third = 0; fourth = 0 })
 rank_example = inr (inl (refl, lit< tt))

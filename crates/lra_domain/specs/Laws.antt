@@ -1,7 +1,7 @@
 -- What every meaning keeps. The laws are of all contents, those among them that no value has.
 use Rattle.std.specs.Prelude.{◌≡◌, ◌↔◌, ◌≤◌, ℕ, ℤ, List, [], length}
 use Rattle.lra_sys.specs.Listed.{Listed}
-use Rattle.lra_sys.specs.declared.system.ConKind.{ConKind}
+use Rattle.lra_linear.specs.declared.ConKind.{ConKind}
 use Rattle.lra_domain.specs.Actions.{Within}
 use Rattle.lra_domain.specs.declared.Mode.{Mode}
 use Rattle.lra_domain.specs.declared.Included.TheVariants.{Yes, No}
@@ -53,7 +53,8 @@ pub record PlainLaws {V H : Type 0} (m : Meaning V H) : Type 0 where
   pub partless_covered : (a b : V) → m.covered a b → m.parts b ≡ [] → m.parts a ≡ []
   -- what covers both operands covers their join
   pub joined_covered : (a b j c : V) → m.joined a b j → m.covered a c → m.covered b c → m.covered j c
-  -- what lies in a head: its value, its first value, what is covered by what lies in it, and the join of what lies in it
+  -- what lies in a head: its value, its first value, what is covered by what lies in it, and the join of what lies in
+  -- it
   pub stays_covered : (h : H) (a b : V) (mode : Mode) → m.covered a b → m.stays h b mode → m.stays h a mode
   pub stays_joined : (h : H) (a b j : V) (mode : Mode)
       → m.joined a b j → m.stays h a mode → m.stays h b mode → m.stays h j mode

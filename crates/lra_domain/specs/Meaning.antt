@@ -2,7 +2,7 @@
 -- The value that contracts see is the content of a value or a head: so equal contents are equal values.
 use Rattle.std.specs.Prelude.{◌≡◌, ℕ, ℤ, List, ◌⊎◌}
 use Rattle.lra_sys.specs.Listed.{Listed}
-use Rattle.lra_sys.specs.declared.system.ConKind.{ConKind}
+use Rattle.lra_linear.specs.declared.ConKind.{ConKind}
 use Rattle.lra_domain.specs.Actions.{Action, Leads, Within}
 use Rattle.lra_domain.specs.declared.Mode.{Mode}
 use Rattle.lra_domain.specs.declared.Rank.{Rank}
@@ -79,8 +79,8 @@ pub record Starts {V H : Type 0} (m : Meaning V H) (first : V) (given : Listed C
   pub stores : Within (m.has first) (m.head_has head)
   pub started : m.started first given head
 
--- a growth by next may be flagged: its inclusion strains, or answers that next isn't in the head, and then the join or the
--- widening strains
+-- a growth by next may be flagged: its inclusion strains, or answers that next isn't in the head, and then the join or
+-- the widening strains
 abbrev pub GrowthStrains : {V H : Type 0} → Meaning V H → H → V → Mode → Type 0
 GrowthStrains m old next mode =
     m.answers old next mode Wide
@@ -96,10 +96,11 @@ pub record Grew {V H : Type 0} (m : Meaning V H) (old : H) (next : V) (mode : Mo
   -- an exact growth is the defined one, where the inclusion answers No
   pub moved : exactness ≡ Exact → m.answers old next mode No
   pub exact : exactness ≡ Exact → m.grown old next mode new
-  -- a flagged one comes from an inclusion that strains, and then the head is given up; or from a join or a widening that
-  -- strains, where the inclusion answers No
+  -- a flagged one comes from an inclusion that strains, and then the head is given up; or from a join or a widening
+  -- that strains, where the inclusion answers No
   pub flagged : exactness ≡ Flagged
-      → (m.answers old next mode Wide × m.given_up old mode new) ⊎ (m.answers old next mode No × m.grow_strains old next mode)
+      → (m.answers old next mode Wide × m.given_up old mode new) ⊎
+      (m.answers old next mode No × m.grow_strains old next mode)
 
 -- the value of a head
 pub record Values {V H : Type 0} (m : Meaning V H) (head : H) (exactness : Exactness) (new : V) : Type 0 where

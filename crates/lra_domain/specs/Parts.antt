@@ -3,7 +3,7 @@
 use Rattle.std.specs.Prelude.{ℕ, ℤ, pos, List, [], ◌∷◌, ◌⊎◌}
 use Rattle.lra_linear.specs.Descriptions.{Con}
 use Rattle.lra_sys.specs.Listed.{Listed, constraints}
-use Rattle.lra_sys.specs.declared.system.ConKind.{ConKind}
+use Rattle.lra_linear.specs.declared.ConKind.{ConKind}
 
 -- all rows of some part hold at the store
 abbrev pub SomePartHolds : List (Listed ConKind) → List ℤ → Type 0

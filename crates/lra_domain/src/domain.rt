@@ -1,4 +1,5 @@
-ghost use Rattle.std.specs.Prelude.{◌≡◌, ◌≢◌, ◌+◌, ◌-◌, ◌^◌, ◌≤◌, ◌<◌, ◌↔◌, ℤ, List, [], length, All, IfOk, OnErr, OnOk, IsTrue};
+ghost use Rattle.std.specs.Prelude.{◌≡◌, ◌≢◌, ◌+◌, ◌-◌, ◌^◌, ◌≤◌, ◌<◌, ◌↔◌, ℤ, List, [], length, All, IfOk, OnErr};
+ghost use Rattle.std.specs.Prelude.{OnOk, IsTrue};
 ghost use Rattle.lra_domain.specs.Rank.{RankBelow, RankFits};
 ghost use Rattle.lra_domain.specs.Actions.{Within, assign, forget, test, embed, remove_last};
 ghost use Rattle.lra_domain.specs.Parts.{SomePartHolds, CapsWithin};
@@ -160,7 +161,8 @@ pub trait Domain: Sized + Drop {
     fn parts(&self, alloc: Global) -> Result<Vec<ConSys>, AllocError>
         ensures parts { IfOk result (λ ps. ps.items ≡ meaning.parts self.now) }
         ensures dims { IfOk result (λ ps. All (λ p. p.dims ≡ meaning.dims self.now) ps.items) }
-        ensures mean { IfOk result (λ ps. (s : List ℤ) → length s ≡ meaning.dims self.now → (meaning.has self.now s ↔ SomePartHolds ps.items s)) };
+        ensures mean { IfOk result (λ ps. (s : List ℤ) → length s ≡ meaning.dims self.now →
+            (meaning.has self.now s ↔ SomePartHolds ps.items s)) };
 
     /// The head that starts with the value; `given` are the rows that limit its growth.
     fn start(alloc: Global, first: &Self, given: &ConSys) -> Result<Self::Head, AllocError>
@@ -178,8 +180,10 @@ pub trait Domain: Sized + Drop {
             (meaning.head_capped head.new) }
         ensures stable { IfOk result (λ g. g ≡ Grown.Stable → head.new ≡ head.old) }
         ensures stays { IfOk result (λ g. g ≡ Grown.Stable → meaning.answers head.old next.now mode Included.Yes) }
-        ensures grew { IfOk result (λ g. (a : Exactness) → g ≡ Grown.Grew a → Grew meaning head.old next.now mode a head.new) }
-        ensures lower { IfOk result (λ g. (a : Exactness) → g ≡ Grown.Grew a → mode ≢ Mode.Join → RankBelow (meaning.rank head.new) (meaning.rank head.old)) }
+        ensures grew { IfOk result (λ g. (a : Exactness) → g ≡ Grown.Grew a →
+            Grew meaning head.old next.now mode a head.new) }
+        ensures lower { IfOk result (λ g. (a : Exactness) → g ≡ Grown.Grew a → mode ≢ Mode.Join →
+            RankBelow (meaning.rank head.new) (meaning.rank head.old)) }
         ensures fits { OnOk result (RankFits (meaning.rank head.new)) }
         ensures err { OnErr result (head.new ≡ head.old) };
 
@@ -197,8 +201,8 @@ pub trait Domain: Sized + Drop {
     ghost laws: { Laws meaning };
 }
 
-/// A domain whose values have one part at most: polyhedra, boxes, octagons. Its ranks begin with 1. Its meaning allows one
-/// universal value, one join of two values, one head that starts with a value, and one value of a head.
+/// A domain whose values have one part at most: polyhedra, boxes, octagons. Its ranks begin with 1. Its meaning allows
+/// one universal value, one join of two values, one head that starts with a value, and one value of a head.
 pub trait Plain: Domain {
     /// What the meaning keeps further, so that sets of such values can be made.
     ghost plain: { PlainLaws Self.meaning };

@@ -37,7 +37,8 @@ ReadCause before now (Err Failed) = Rose before now
 ReadCause before now (Err Memory) = now ≡ before
 
 -- the reads that were made: a read that failed was the last one, and every other answer comes of reads that succeeded
-abbrev pub ReadCalls : {S : Type 0} → (S → S → Type 0) → (S → S → Type 0) → S → S → Result (Vec ℕ Global) ReadEnd → Type 0
+abbrev pub ReadCalls : {S : Type 0} → (S → S → Type 0) → (S → S → Type 0) → S → S → Result (Vec ℕ Global) ReadEnd →
+    Type 0
 ReadCalls succeeds fails old new (Ok bytes) = Calls succeeds old new
 ReadCalls succeeds fails old new (Err (TooLong bytes)) = Calls succeeds old new
 ReadCalls succeeds fails old new (Err Failed) = StopsAtFault succeeds fails old new

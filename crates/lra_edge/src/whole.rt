@@ -27,7 +27,8 @@ impl From<AllocError> for ReadEnd {
     }
 }
 
-/// Reads to the end of the input, or one byte past the limit. A read that fails ends it at once: no read comes after it.
+/// Reads to the end of the input, or one byte past the limit. A read that fails ends it at once: no read comes after
+/// it.
 #[tactic(auto, using(crate::proofs::CallSteps::calling))]
 pub fn read_whole<S: Source>(
     alloc: Global,

@@ -1,7 +1,7 @@
 -- A value where a condition is true, or where it is false: by the cases of the condition, with the exactness of all its operations.
 use Rattle.std.specs.Prelude.{◌≡◌, ℕ, Bool}
-use Rattle.lra_lin.specs.declared.test.TestKind.{TestKind}
-use Rattle.lra_lin.specs.declared.test.TestKind.TheVariants.{Ge, Eq}
+use Rattle.lra_linear.specs.declared.ConKind.{ConKind}
+use Rattle.lra_linear.specs.declared.ConKind.TheVariants.{Ge, Eq}
 use Rattle.lra_domain.specs.Actions.{Action, test}
 use Rattle.lra_domain.specs.declared.Exactness.{Exactness}
 use Rattle.lra_domain.specs.declared.Exactness.TheVariants.{Exact}
@@ -12,7 +12,7 @@ use Rattle.lra_tree.specs.Condition.{Actions, IsCond}
 use Rattle.lra_flow.specs.Operations.{Operations, worse}
 use Rattle.lra_flow.specs.Changes.{as_form}
 
-abbrev pub kind_of : RowKind → TestKind
+abbrev pub kind_of : RowKind → ConKind
 kind_of equality = Eq
 kind_of inequality = Ge
 

@@ -1,8 +1,8 @@
 -- The rows that a loop's condition gives to its head: from the condition's atoms in text order.
 use Rattle.std.specs.Prelude.{ℕ, ℤ, pos, neg_ℤ, ◌+ℤ◌, List, [], ◌∷◌, ◌++◌, map, Option, None, Some, true}
 use Rattle.lra_sys.specs.Listed.{Listed}
-use Rattle.lra_sys.specs.declared.system.ConKind.{ConKind}
-use Rattle.lra_sys.specs.declared.system.ConKind.TheVariants.{Ge}
+use Rattle.lra_linear.specs.declared.ConKind.{ConKind}
+use Rattle.lra_linear.specs.declared.ConKind.TheVariants.{Ge}
 use Rattle.lra_tree.specs.Program.{Comparison, equal, differs, Cond}
 use Rattle.lra_tree.specs.Linear.{Form, Test, comparison_test, difference_form}
 use Rattle.lra_tree.specs.Condition.{Pushed, atom, first_then, one_or, push}

@@ -2,7 +2,7 @@
 -- definition of the iteration serves for the written one, for one in which operations may be flagged, and for where one strains.
 use Rattle.std.specs.Prelude.{◌≡◌, ℕ}
 use Rattle.lra_sys.specs.Listed.{Listed}
-use Rattle.lra_sys.specs.declared.system.ConKind.{ConKind}
+use Rattle.lra_linear.specs.declared.ConKind.{ConKind}
 use Rattle.lra_domain.specs.Actions.{Action, dims_after}
 use Rattle.lra_domain.specs.declared.Mode.{Mode}
 use Rattle.lra_domain.specs.declared.Exactness.{Exactness}

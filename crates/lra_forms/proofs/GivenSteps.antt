@@ -8,8 +8,8 @@ use Rattle.lra_flow.proofs.Keeping.{some_is}
 use Rattle.lra_lin.specs.Form.{Form}
 use Rattle.lra_lin.specs.declared.test.Test.{Test}
 use Rattle.lra_sys.specs.Listed.{Listed}
-use Rattle.lra_sys.specs.declared.system.ConKind.{ConKind}
-use Rattle.lra_sys.specs.declared.system.ConKind.TheVariants.{Ge}
+use Rattle.lra_linear.specs.declared.ConKind.{ConKind}
+use Rattle.lra_linear.specs.declared.ConKind.TheVariants.{Ge}
 use Rattle.lra_tree.specs.declared.trees.Comparison as declared
 use Rattle.lra_tree.specs.declared.trees.Comparison.TheVariants.{Below, AtMost, Above, AtLeast, Equal, Differs}
 use Rattle.lra_tree.specs.Views.{comparison_view}

@@ -9,7 +9,8 @@ ghost use Rattle.lra_forms.specs.Forms.{as_linear, IsForm};
 ghost use Rattle.lra_forms.specs.Conditions.{IsTest};
 
 use crate::forms::{constant_of, form_of_expression, multiple_of, sum_of_forms};
-use lra_lin::{LinExpr, Test, TestKind};
+use lra_lin::{LinExpr, Test};
+use lra_linear::ConKind;
 use lra_tree::Comparison;
 use lra_tree::program::Expr;
 use std::alloc::{AllocError, Global};
@@ -41,7 +42,7 @@ fn at_least_zero_of(form: Option<LinExpr>) -> Option<Test>
         None => None,
         Some(expr) => Some(Test {
             expr,
-            kind: TestKind::Ge,
+            kind: ConKind::Ge,
         }),
     }
 }
@@ -66,11 +67,11 @@ pub fn test_of(alloc: Global, op: Comparison, d: &LinExpr) -> Result<Option<Test
         }
         Comparison::AtLeast => Ok(Some(Test {
             expr: d.copy(alloc)?,
-            kind: TestKind::Ge,
+            kind: ConKind::Ge,
         })),
         Comparison::Equal => Ok(Some(Test {
             expr: d.copy(alloc)?,
-            kind: TestKind::Eq,
+            kind: ConKind::Eq,
         })),
         Comparison::Differs => Ok(None),
     }

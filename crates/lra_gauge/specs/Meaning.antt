@@ -1,8 +1,8 @@
--- The meaning of gauges: a value has all stores of its dimensions or none, and bounds a number beside them that no change
--- touches.
+-- The meaning of gauges: a value has all stores of its dimensions or none, and bounds a number beside them that no
+-- change touches.
 use Rattle.std.specs.Prelude.{◌≡◌, ℕ, zero, suc, ◌-◌, ◌<◌, ◌≤◌, max, ℤ, List, [], ◌∷◌, length}
 use Rattle.lra_sys.specs.Listed.{Listed}
-use Rattle.lra_sys.specs.declared.system.ConKind.{ConKind}
+use Rattle.lra_linear.specs.declared.ConKind.{ConKind}
 use Rattle.lra_domain.specs.Actions.{dims_after}
 use Rattle.lra_domain.specs.declared.Included.{Included}
 use Rattle.lra_domain.specs.declared.Included.TheVariants.{Yes, No, Wide}

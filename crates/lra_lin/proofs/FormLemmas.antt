@@ -43,7 +43,8 @@ opposite_sign k d v w e is_v is_e is_w = (λ h n. omega (arith, ints), λ h. gri
 
 -- the opposite form is not negative exactly where the form is negative
 pub opposite_holds : (f : Form) (s : List ℤ) → (pos 0 ≤ℤ form_value (opposite_form f) s) ↔ (¬ (pos 0 ≤ℤ form_value f s))
-opposite_holds f s = opposite_sign f.constant (product f.coefficients s) (form_value f s) (form_value (opposite_form f) s) (product (map neg_ℤ f.coefficients) s) refl (product_negated f.coefficients s) refl
+opposite_holds f s = opposite_sign f.constant (product f.coefficients s) (form_value f s) (form_value (opposite_form f) s) (product (map neg_ℤ f.coefficients) s) refl
+    (product_negated f.coefficients s) refl
 
 -- a list fits exactly where its rest does, if its first number does
 pub fits_later : (c : ℤ) (cs : List ℤ) → FitsSigned w64 c → (All (FitsSigned w64) cs ↔ All (FitsSigned w64) (c ∷ cs))

@@ -5,8 +5,8 @@ use Rattle.std.specs.Int.{w64}
 use Rattle.std.specs.List.{All}
 use Rattle.lra_linear.specs.Range.{InRange}
 use Rattle.lra_linear.specs.Vectors.{product}
-use Rattle.lra_lin.specs.declared.test.TestKind.{TestKind}
-use Rattle.lra_lin.specs.declared.test.TestKind.TheVariants.{Ge, Eq}
+use Rattle.lra_linear.specs.declared.ConKind.{ConKind}
+use Rattle.lra_linear.specs.declared.ConKind.TheVariants.{Ge, Eq}
 
 -- a linear form: its constant, and one coefficient for each dimension
 pub record Form : Type 0 where
@@ -28,12 +28,12 @@ SummingPasses a (c ∷ cs) [] = ⊥
 SummingPasses a (c ∷ cs) (x ∷ xs) = (¬ AddsInRange a c x) ⊎ SummingPasses (a +ℤ (c *ℤ x)) cs xs
 
 -- a test of a form: `form >= 0` or `form = 0`
-abbrev pub KindHolds : TestKind → ℤ → Type 0
+abbrev pub KindHolds : ConKind → ℤ → Type 0
 KindHolds Ge v = pos 0 ≤ℤ v
 KindHolds Eq v = v ≡ pos 0
 
 -- the store passes the test
-abbrev pub Passes : TestKind → Form → List ℤ → Type 0
+abbrev pub Passes : ConKind → Form → List ℤ → Type 0
 Passes kind f s = KindHolds kind (form_value f s)
 
 -- -f - 1

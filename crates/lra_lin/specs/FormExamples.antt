@@ -11,5 +11,6 @@ pub value_example : form_value three_two_x_minus_y (pos 5 ∷ pos 4 ∷ []) ≡ 
 value_example = refl
 
 -- the opposite of x - 10 >= 0 is 9 - x >= 0
-pub opposite_example : opposite_form (record { constant = negsuc 9; coefficients = pos 1 ∷ [] }) ≡ record { constant = pos 9; coefficients = negsuc 0 ∷ [] }
+pub opposite_example : opposite_form (record { constant = negsuc 9; coefficients = pos 1 ∷ [] }) ≡
+    record { constant = pos 9; coefficients = negsuc 0 ∷ [] }
 opposite_example = refl

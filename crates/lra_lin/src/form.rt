@@ -61,8 +61,8 @@ impl LinExpr {
         self.coefficients.as_slice()
     }
 
-    /// The form's value at the store `point`, summed from the constant on in column order; `None` exactly where a product
-    /// or a partial sum passes the range -(2^127 - 1) to 2^127 - 1.
+    /// The form's value at the store `point`, summed from the constant on in column order; `None` exactly where a
+    /// product or a partial sum passes the range -(2^127 - 1) to 2^127 - 1.
     pub fn eval(&self, point: &[i64]) -> Option<i128>
         ensures value { IfSome result (λ v. v ≡ form_value self.now point.now) }
         ensures none { IsNone result ↔ SummingPasses self.now.constant self.now.coefficients point.now }
@@ -82,7 +82,8 @@ fn plus_product(sum: i128, factor: &i64, number: &i64) -> Option<i128>
 
 #[tactic(auto, using(crate::proofs::FormLemmas::product_nothing))]
 fn sum_of(constant: i64, coefficients: &[i64], point: &[i64]) -> Option<i128>
-    ensures value { IfSome result (λ v. v ≡ form_value (record { constant = constant; coefficients = coefficients.now }) point.now) }
+    ensures value { IfSome result (λ v. v ≡ form_value
+        (record { constant = constant; coefficients = coefficients.now }) point.now) }
     ensures none { IsNone result ↔ SummingPasses constant coefficients.now point.now }
 {
     let mut sum = constant as i128;

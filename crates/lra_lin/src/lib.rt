@@ -5,7 +5,7 @@ pub mod form;
 pub mod test;
 
 pub use form::LinExpr;
-pub use test::{Test, TestKind};
+pub use test::Test;
 
 #[cfg(test)]
 mod tests;

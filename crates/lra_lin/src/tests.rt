@@ -1,4 +1,5 @@
-use crate::{LinExpr, Test, TestKind};
+use crate::{LinExpr, Test};
+use lra_linear::ConKind;
 use std::alloc::AllocError;
 
 /// Values of forms: 3 + 2x - y at small stores, and sums at the limits of i64.
@@ -19,10 +20,10 @@ fn values_of_forms(rt: HostRuntime) -> Result<(), AllocError> {
 #[test]
 fn opposites(rt: HostRuntime) -> Result<(), AllocError> {
     for (kind, constant, coefficient, want) in [
-        (TestKind::Ge, -10, 1, Some((9, -1))),
-        (TestKind::Ge, i64::MIN, 3, Some((i64::MAX, -3))),
-        (TestKind::Ge, 0, i64::MIN, None),
-        (TestKind::Eq, 0, 1, None),
+        (ConKind::Ge, -10, 1, Some((9, -1))),
+        (ConKind::Ge, i64::MIN, 3, Some((i64::MAX, -3))),
+        (ConKind::Ge, 0, i64::MIN, None),
+        (ConKind::Eq, 0, 1, None),
     ] {
         let test = Test {
             expr: LinExpr::new(rt.alloc(), constant, &[coefficient])?,

@@ -1,6 +1,7 @@
 -- Pairs of rays that are not adjacent can be left out of a step (Fukuda and Prodon 1996): a pair with a third ray that is tight
 -- wherever both are is a sum of vectors at which more rows are tight, by induction on the number of rows that are not tight.
-use Rattle.std.proofs.Common.{Bool, List, [], ap, arith, cond, false, inl, inr, length, neg_ℤ, negsuc, pos, refl, subst, suc, sym, true, zero, ℕ, ℤ, ◌*ℤ◌, ◌*◌, ◌++◌, ◌+ℤ◌, ◌+◌, ◌<ℤ◌, ◌<◌, ◌∙◌, ◌∷◌, ◌≡◌, ◌≤ℤ◌, ◌≤◌, ◌⊎◌}
+use Rattle.std.proofs.Common.{Bool, List, [], ap, arith, cond, false, inl, inr, length, neg_ℤ, negsuc, pos, refl, subst, suc, sym, true, zero, ℕ, ℤ, ◌*ℤ◌, ◌*◌, ◌++◌, ◌+ℤ◌, ◌+◌, ◌<ℤ◌, ◌<◌, ◌∙◌, ◌∷◌}
+use Rattle.std.proofs.Common.{◌≡◌, ◌≤ℤ◌, ◌≤◌, ◌⊎◌}
 use Rattle.std.proofs.Math.IntN.{+ℤ_comm}
 use Rattle.std.proofs.lemmas.Bool.{cases_lt}
 use Rattle.std.proofs.lemmas.Int.{ints}
@@ -96,7 +97,8 @@ earlier k m a b at bt ha hat low ok =
     (add_nonnegative _ _ (mul_nonnegative (neg_ℤ ((k *ℤ a) +ℤ neg_ℤ (m *ℤ b))) at (negated_low _ low) hat) (mul_nonnegative a ((k *ℤ at) +ℤ neg_ℤ (m *ℤ bt)) ha ok))
 
 no_gap : (k m : ℕ) (a b : ℤ) → a ≡ pos 0 → b ≡ pos 0 → gap k m a b <ℤ pos 0 → ⊥
-no_gap k m a b e f h = let g : gap k m a b ≡ pos 0 = ap (λ z. gap k m z b) e ∙ ap (λ z. gap k m (pos 0) z) f ∙ ring (v (pos k) ⊗ v (pos 0) ⊕ ⊖ (v (pos m) ⊗ v (pos 0))) (v (pos 0)) (omega arith) in omega (arith, ints, h, g)
+no_gap k m a b e f h = let g : gap k m a b ≡ pos 0 = ap (λ z. gap k m z b) e ∙ ap (λ z. gap k m (pos 0) z) f ∙ ring (v (pos k) ⊗ v (pos 0) ⊕ ⊖ (v (pos m) ⊗ v (pos 0))) (v (pos 0)) (omega arith) in
+    omega (arith, ints, h, g)
 
 level : (n l : ℕ) (a b : ℤ) → b ≡ pos n → a ≡ pos l → gap n l a b ≡ pos 0
 level n l a b e f = ap (λ z. (z *ℤ a) +ℤ neg_ℤ (pos l *ℤ b)) (sym e) ∙ ap (λ z. (b *ℤ a) +ℤ neg_ℤ (z *ℤ b)) (sym f) ∙ ring (v b ⊗ v a ⊕ ⊖ (v a ⊗ v b)) (v (pos 0)) (omega arith)
@@ -187,7 +189,8 @@ both_positive k a p q = grind arith
 -- ---- one step with pairs left out: what is told of the setting stands in `AdjacentStep`
 module _ {w : ℕ} {c : List ℤ} {system rays lines target : List (List ℤ)} (g : AdjacentStep w c system rays lines target) where
   -- f t + y = k r with f above 0, for two different rays: not so
-  clash : (r t : List ℤ) → Contains rays r → Contains rays t → ¬ (t ≡ r) → (f k : ℕ) (y : ℕ → ℤ) → 0 < f → Generated (rays ++ lines) y → ((j : ℕ) → (pos f *ℤ entry t j) +ℤ y j ≡ pos k *ℤ entry r j) → ⊥
+  clash : (r t : List ℤ) → Contains rays r → Contains rays t → ¬ (t ≡ r) → (f k : ℕ) (y : ℕ → ℤ) → 0 < f → Generated (rays ++ lines) y → ((j : ℕ) → (pos f *ℤ entry t j) +ℤ y j ≡ pos k *ℤ entry r j) →
+      ⊥
   clash r t hr ht ne zero k y p gy e = absurd (omega arith)
   clash r t hr ht ne (suc f) k y p gy e =
       let gt : Generated (rays ++ lines) (entry t) = generated_row (rays ++ lines) t (Contains-append_left rays lines t ht) in
@@ -208,14 +211,16 @@ module _ {w : ℕ} {c : List ℤ} {system rays lines target : List (List ℤ)} (
   negative_line : (l : ℕ → ℤ) → Generated lines l → Generated (rays ++ lines) (λ j. neg_ℤ (l j))
   negative_line l h = line_in (λ j. neg_ℤ (l j)) (g.reversed l h)
 
-  apart_flat : (p n t x : List ℤ) → Contains rays p → Contains rays n → Contains rays t → ¬ (t ≡ p) → (a b : ℕ) → 0 < a → ((j : ℕ) → entry x j ≡ (pos a *ℤ entry p j) +ℤ (pos b *ℤ entry n j)) → Apart x t
+  apart_flat : (p n t x : List ℤ) → Contains rays p → Contains rays n → Contains rays t → ¬ (t ≡ p) → (a b : ℕ) → 0 < a → ((j : ℕ) → entry x j ≡ (pos a *ℤ entry p j) +ℤ (pos b *ℤ entry n j)) →
+      Apart x t
   apart_flat p n t x hp hn ht ne a b pa xe k zero l pk gl e =
       clash p t hp ht ne k 0 (λ j. neg_ℤ (l j)) pk (negative_line l gl)
       (λ j. ap (λ z. z +ℤ neg_ℤ (l j)) (e j) ∙ ring ((v (pos 0) ⊗ v (entry x j) ⊕ v (l j)) ⊕ ⊖ (v (l j))) (v (pos 0) ⊗ v (entry p j)) (omega arith))
   apart_flat p n t x hp hn ht ne a b pa xe k (suc m) l pk gl e =
       clash t p ht hp (λ s. ne (sym s)) (suc m * a) k (λ j. (pos (suc m * b) *ℤ entry n j) +ℤ l j) (grind (arith, pa))
       (generated_plus (rays ++ lines) (λ j. pos (suc m * b) *ℤ entry n j) l (generated_times (rays ++ lines) (suc m * b) (entry n) (ray_in n hn)) (line_in l gl))
-      (λ j. ring (v (pos (suc m * a)) ⊗ v (entry p j) ⊕ (v (pos (suc m * b)) ⊗ v (entry n j) ⊕ v (l j))) (v (pos (suc m)) ⊗ (v (pos a) ⊗ v (entry p j) ⊕ v (pos b) ⊗ v (entry n j)) ⊕ v (l j)) (omega arith) ∙
+      (λ j. ring (v (pos (suc m * a)) ⊗ v (entry p j) ⊕ (v (pos (suc m * b)) ⊗ v (entry n j) ⊕ v (l j))) (v (pos (suc m)) ⊗ (v (pos a) ⊗ v (entry p j) ⊕ v (pos b) ⊗ v (entry n j)) ⊕ v (l j))
+      (omega arith) ∙
       ap (λ z. (pos (suc m) *ℤ z) +ℤ l j) (sym (xe j)) ∙ sym (e j))
 
   -- q = a t + d n, x = a p + b n
@@ -277,7 +282,8 @@ module _ {w : ℕ} {c : List ℤ} {system rays lines target : List (List ℤ)} (
 
   less_dot : (k m : ℕ) (x q s : List ℤ) → length x ≡ length q → dot s (entry (less k m x q)) ≡ gap k m (dot s (entry x)) (dot s (entry q))
   less_dot k m x q s e =
-      dot_same s (entry (less k m x q)) (λ j. (pos k *ℤ entry x j) +ℤ (neg_ℤ (pos m) *ℤ entry q j)) (entry_blend (pos k) (neg_ℤ (pos m)) x q e) ∙ dot_linear s (pos k) (neg_ℤ (pos m)) (entry x) (entry q) ∙
+      dot_same s (entry (less k m x q)) (λ j. (pos k *ℤ entry x j) +ℤ (neg_ℤ (pos m) *ℤ entry q j)) (entry_blend (pos k) (neg_ℤ (pos m)) x q e) ∙
+      dot_linear s (pos k) (neg_ℤ (pos m)) (entry x) (entry q) ∙
       ring (v (pos k) ⊗ v (dot s (entry x)) ⊕ ⊖ (v (pos m)) ⊗ v (dot s (entry q))) (v (pos k) ⊗ v (dot s (entry x)) ⊕ ⊖ (v (pos m) ⊗ v (dot s (entry q)))) (omega arith)
 
   gap_zero : (k m : ℕ) (a b : ℤ) → a ≡ pos 0 → b ≡ pos 0 → gap k m a b ≡ pos 0
@@ -314,7 +320,8 @@ module _ {w : ℕ} {c : List ℤ} {system rays lines target : List (List ℤ)} (
   reached x q px pq t s has n =
       let r = reach (entry x) (entry q) system px.solves pq.solves t system (λ y k. k) in
       let same : length x ≡ length q = px.width ∙ sym pq.width in
-      let kp : 0 < r.k = above_none r.k (λ e. no_k r.m (dot s (entry x)) (dot s (entry q)) r.positive (pq.solves s has) n (subst (λ (k : ℕ). pos 0 ≤ℤ gap k r.m (dot s (entry x)) (dot s (entry q))) e (r.meets s has))) in
+      let kp : 0 < r.k = above_none r.k (λ e. no_k r.m (dot s (entry x)) (dot s (entry q)) r.positive (pq.solves s has) n
+      (subst (λ (k : ℕ). pos 0 ≤ℤ gap k r.m (dot s (entry x)) (dot s (entry q))) e (r.meets s has))) in
       let y = less r.k r.m x q in
       let ds : (z : List ℤ) → dot z (entry y) ≡ gap r.k r.m (dot z (entry x)) (dot z (entry q)) = λ z. less_dot r.k r.m x q z same in
       record {
@@ -322,7 +329,12 @@ module _ {w : ℕ} {c : List ℤ} {system rays lines target : List (List ℤ)} (
         m = r.m;
         k_positive = kp;
         m_positive = r.positive;
-        point = record { width = blend_length (pos r.k) (neg_ℤ (pos r.m)) x q same ∙ px.width; solves = λ z k. subst (λ u. pos 0 ≤ℤ u) (sym (ds z)) (r.meets z k); flat = ds c ∙ gap_zero r.k r.m _ _ px.flat pq.flat };
+        point = record {
+          width = blend_length (pos r.k) (neg_ℤ (pos r.m)) x q same ∙ px.width;
+          solves = λ z k. subst (λ u. pos 0 ≤ℤ u) (sym (ds z)) (r.meets z k);
+          flat = ds c ∙
+              gap_zero r.k r.m _ _ px.flat pq.flat;
+        };
         lower_count = elim r.tight [
           | inl e ↦ absurd (omega (arith, kp, e))
           | inr b ↦ loose_lt system (entry x) (entry y) (λ z k e. ds z ∙ gap_zero r.k r.m _ _ e (t z k e)) b.0 b.1 (not_zero _ b.2) (ds b.0 ∙ b.3)
@@ -331,10 +343,12 @@ module _ {w : ℕ} {c : List ℤ} {system rays lines target : List (List ℤ)} (
 
   sum_zero_front : (k m d : ℕ) (a b e : ℤ) → 0 < k → pos 0 ≤ℤ a → pos 0 ≤ℤ b → pos 0 ≤ℤ e → (pos k *ℤ a) +ℤ ((pos m *ℤ b) +ℤ (pos d *ℤ e)) ≡ pos 0 → a ≡ pos 0
   sum_zero_front zero m d a b e p h i j s = absurd (omega arith)
-  sum_zero_front (suc k) m d a b e p h i j s = tight_sum a ((pos m *ℤ b) +ℤ (pos d *ℤ e)) (pos 0) k h (add_nonnegative _ _ (mul_nonnegative (pos m) b (omega (arith, ints)) i) (mul_nonnegative (pos d) e (omega (arith, ints)) j)) s
+  sum_zero_front (suc k) m d a b e p h i j s = tight_sum a ((pos m *ℤ b) +ℤ (pos d *ℤ e)) (pos 0) k h
+      (add_nonnegative _ _ (mul_nonnegative (pos m) b (omega (arith, ints)) i) (mul_nonnegative (pos d) e (omega (arith, ints)) j)) s
 
   -- x, where some q that is no multiple of it is tight wherever x is, from what has fewer rows that are not tight
-  third_case : (x q : List ℤ) → Point x → Point q → TightToo system (entry x) (entry q) → Apart x q → ((y : List ℤ) → Point y → loose system (entry y) < loose system (entry x) → Generated target (entry y)) → Generated target (entry x)
+  third_case : (x q : List ℤ) → Point x → Point q → TightToo system (entry x) (entry q) → Apart x q →
+      ((y : List ℤ) → Point y → loose system (entry y) < loose system (entry x) → Generated target (entry y)) → Generated target (entry x)
   third_case x q px pq t apart ih = elim (some_loose system (entry q)) [
     | inl all ↦ absurd (apart 1 0 (entry q) (omega arith) (g.hidden q pq.width all) (λ j. ring (v (pos 1) ⊗ v (entry q j)) (v (pos 0) ⊗ v (entry x j) ⊕ v (entry q j)) (omega arith)))
     | inr s ↦
@@ -347,10 +361,12 @@ module _ {w : ℕ} {c : List ℤ} {system rays lines target : List (List ℤ)} (
           | inl lt ↦
               generated_divided target r1.k (entry x) r1.k_positive
               (generated_same target (λ j. entry y1 j +ℤ (pos r1.m *ℤ entry q j)) (λ j. pos r1.k *ℤ entry x j)
-              (λ j. ap (λ z. z +ℤ (pos r1.m *ℤ entry q j)) (e1 j) ∙ ring ((v (pos r1.k) ⊗ v (entry x j) ⊕ ⊖ (v (pos r1.m)) ⊗ v (entry q j)) ⊕ v (pos r1.m) ⊗ v (entry q j)) (v (pos r1.k) ⊗ v (entry x j)) (omega arith))
+              (λ j. ap (λ z. z +ℤ (pos r1.m *ℤ entry q j)) (e1 j) ∙ ring ((v (pos r1.k) ⊗ v (entry x j) ⊕ ⊖ (v (pos r1.m)) ⊗ v (entry q j)) ⊕ v (pos r1.m) ⊗ v (entry q j))
+              (v (pos r1.k) ⊗ v (entry x j)) (omega arith))
               (generated_plus target (entry y1) (λ j. pos r1.m *ℤ entry q j) g1 (generated_times target r1.m (entry q) (ih q pq lt))))
           | inr ge ↦
-              let back : TightToo system (entry q) (entry x) = λ z k e. elim (dec_zero (dot z (entry x))) [ inl f ↦ f | inr f ↦ absurd (let lt = loose_lt system (entry x) (entry q) t z k f e in omega (arith, lt, ge)) ] in
+              let back : TightToo system (entry q) (entry x) = λ z k e. elim (dec_zero (dot z (entry x)))
+              [ inl f ↦ f | inr f ↦ absurd (let lt = loose_lt system (entry x) (entry q) t z k f e in omega (arith, lt, ge)) ] in
               let sx : ¬ (dot s.0 (entry x) ≡ pos 0) = λ e. s.2 (t s.0 s.1 e) in
               let r2 = reached q x pq px back s.0 s.1 sx in
               let y2 = less r2.k r2.m q x in
@@ -363,7 +379,8 @@ module _ {w : ℕ} {c : List ℤ} {system rays lines target : List (List ℤ)} (
                 | inl d ↦
                     generated_divided target d.0 (entry x) d.2
                     (generated_same target (λ j. (pos r2.k *ℤ entry y1 j) +ℤ (pos r1.m *ℤ entry y2 j)) (λ j. pos d.0 *ℤ entry x j)
-                    (λ j. ap (λ z. (pos r2.k *ℤ z) +ℤ (pos r1.m *ℤ entry y2 j)) (e1 j) ∙ ap (λ z. (pos r2.k *ℤ ((pos r1.k *ℤ entry x j) +ℤ (neg_ℤ (pos r1.m) *ℤ entry q j))) +ℤ (pos r1.m *ℤ z)) (e2 j) ∙
+                    (λ j. ap (λ z. (pos r2.k *ℤ z) +ℤ (pos r1.m *ℤ entry y2 j)) (e1 j) ∙ ap (λ z. (pos r2.k *ℤ ((pos r1.k *ℤ entry x j) +ℤ (neg_ℤ (pos r1.m) *ℤ entry q j))) +ℤ (pos r1.m *ℤ z))
+                    (e2 j) ∙
                     ring (v (pos r2.k) ⊗ (v (pos r1.k) ⊗ v (entry x j) ⊕ ⊖ (v (pos r1.m)) ⊗ v (entry q j)) ⊕ v (pos r1.m) ⊗ (v (pos r2.k) ⊗ v (entry q j) ⊕ ⊖ (v (pos r2.m)) ⊗ v (entry x j)))
                     ((v (pos (r1.k * r2.k)) ⊕ ⊖ (v (pos (r1.m * r2.m)))) ⊗ v (entry x j)) (omega arith) ∙
                     ap (λ (n : ℕ). (pos n +ℤ neg_ℤ (pos (r1.m * r2.m))) *ℤ entry x j) d.1 ∙
@@ -380,7 +397,8 @@ module _ {w : ℕ} {c : List ℤ} {system rays lines target : List (List ℤ)} (
                     ((v (pos (r1.k * r2.k + d.0)) ⊕ ⊖ (v (pos (r1.m * r2.m)))) ⊗ v a) (omega arith) ∙
                     ap (λ (n : ℕ). (pos n +ℤ neg_ℤ (pos (r1.m * r2.m))) *ℤ a) (sym d.1) ∙ ring ((v (pos (r1.m * r2.m)) ⊕ ⊖ (v (pos (r1.m * r2.m)))) ⊗ v a) (v (pos 0)) (omega arith)) in
                     absurd (apart r1.m r1.k (λ j. neg_ℤ (entry y1 j)) r1.m_positive (g.reversed (entry y1) (g.hidden y1 r1.point.width zero1))
-                    (λ j. ring (v (pos r1.m) ⊗ v (entry q j)) (v (pos r1.k) ⊗ v (entry x j) ⊕ ⊖ (v (pos r1.k) ⊗ v (entry x j) ⊕ ⊖ (v (pos r1.m)) ⊗ v (entry q j))) (omega arith) ∙ ap (λ z. (pos r1.k *ℤ entry x j) +ℤ neg_ℤ z) (sym (e1 j))))
+                    (λ j. ring (v (pos r1.m) ⊗ v (entry q j)) (v (pos r1.k) ⊗ v (entry x j) ⊕ ⊖ (v (pos r1.k) ⊗ v (entry x j) ⊕ ⊖ (v (pos r1.m)) ⊗ v (entry q j))) (omega arith) ∙
+                    ap (λ z. (pos r1.k *ℤ entry x j) +ℤ neg_ℤ z) (sym (e1 j))))
               ]
         ]
   ]
@@ -422,7 +440,8 @@ module _ {w : ℕ} {c : List ℤ} {system rays lines target : List (List ℤ)} (
       let ap0 = neg_positive (dot c (entry n)) a.0 down a.1 in
       let bp0 = positive_nat (dot c (entry p)) b.0 up b.1 in
       let e : (j : ℕ) → entry (pair c p n) j ≡ (pos a.0 *ℤ entry p j) +ℤ (pos b.0 *ℤ entry n j) =
-      λ j. entry_blend (neg_ℤ (dot c (entry n))) (dot c (entry p)) p n same j ∙ ap (λ z. (z *ℤ entry p j) +ℤ (dot c (entry p) *ℤ entry n j)) a.1 ∙ ap (λ z. (pos a.0 *ℤ entry p j) +ℤ (z *ℤ entry n j)) b.1 in
+      λ j. entry_blend (neg_ℤ (dot c (entry n))) (dot c (entry p)) p n same j ∙ ap (λ z. (z *ℤ entry p j) +ℤ (dot c (entry p) *ℤ entry n j)) a.1 ∙
+      ap (λ z. (pos a.0 *ℤ entry p j) +ℤ (z *ℤ entry n j)) b.1 in
       let d : (s : List ℤ) → dot s (entry (pair c p n)) ≡ (pos a.0 *ℤ dot s (entry p)) +ℤ (pos b.0 *ℤ dot s (entry n)) =
       λ s. dot_same s (entry (pair c p n)) (λ j. (pos a.0 *ℤ entry p j) +ℤ (pos b.0 *ℤ entry n j)) e ∙ dot_linear s (pos a.0) (pos b.0) (entry p) (entry n) in
       record {
@@ -436,7 +455,8 @@ module _ {w : ℕ} {c : List ℤ} {system rays lines target : List (List ℤ)} (
         dots = d;
         point = record {
           width = blend_length (neg_ℤ (dot c (entry n))) (dot c (entry p)) p n same ∙ row_width p hp;
-          solves = λ s k. subst (λ z. pos 0 ≤ℤ z) (sym (d s)) (add_nonnegative _ _ (mul_nonnegative (pos a.0) (dot s (entry p)) (omega (arith, ints)) (ray_solves p hp s k)) (mul_nonnegative (pos b.0) (dot s (entry n)) (omega (arith, ints)) (ray_solves n hn s k)));
+          solves = λ s k. subst (λ z. pos 0 ≤ℤ z) (sym (d s)) (add_nonnegative _ _ (mul_nonnegative (pos a.0) (dot s (entry p)) (omega (arith, ints)) (ray_solves p hp s k))
+              (mul_nonnegative (pos b.0) (dot s (entry n)) (omega (arith, ints)) (ray_solves n hn s k)));
           flat = d c ∙ ap (λ z. (z *ℤ dot c (entry p)) +ℤ (pos b.0 *ℤ dot c (entry n))) (sym a.1) ∙ ap (λ z. (neg_ℤ (dot c (entry n)) *ℤ dot c (entry p)) +ℤ (z *ℤ dot c (entry n))) (sym b.1) ∙
               ring (⊖ (v (dot c (entry n))) ⊗ v (dot c (entry p)) ⊕ v (dot c (entry p)) ⊗ v (dot c (entry n))) (v (pos 0)) (omega arith);
         };
@@ -459,16 +479,19 @@ module _ {w : ℕ} {c : List ℤ} {system rays lines target : List (List ℤ)} (
           | inr low ↦
               let q = between p r hp t.has up low in
               third_case (pair c p n) (pair c p r) x.point q.point
-              (λ s k e. q.dots s ∙ ap (λ z. (pos q.a *ℤ z) +ℤ (pos q.b *ℤ dot s (entry r))) (ends s k e).0 ∙ ap (λ z. (pos q.a *ℤ pos 0) +ℤ (pos q.b *ℤ z)) (third s k e) ∙ ring (v (pos q.a) ⊗ v (pos 0) ⊕ v (pos q.b) ⊗ v (pos 0)) (v (pos 0)) (omega arith))
+              (λ s k e. q.dots s ∙ ap (λ z. (pos q.a *ℤ z) +ℤ (pos q.b *ℤ dot s (entry r))) (ends s k e).0 ∙ ap (λ z. (pos q.a *ℤ pos 0) +ℤ (pos q.b *ℤ z)) (third s k e) ∙
+              ring (v (pos q.a) ⊗ v (pos 0) ⊕ v (pos q.b) ⊗ v (pos 0)) (v (pos 0)) (omega arith))
               (apart_mixed n p r (pair c p n) (pair c p r) hn hp t.has t.not_n x.b x.a q.a x.b_positive (λ j. x.is j ∙ +ℤ_comm (pos x.a *ℤ entry p j) (pos x.b *ℤ entry n j))
               (λ j. q.is j ∙ ap (λ (m : ℕ). (pos q.a *ℤ entry p j) +ℤ (pos m *ℤ entry r j)) (pos_same q.b x.b _ q.b_is x.b_is) ∙ +ℤ_comm (pos q.a *ℤ entry p j) (pos x.b *ℤ entry r j))) ih
           | inl nn ↦ elim (above_zero (dot c (entry r)) nn) [
             | inl z ↦
-                third_case (pair c p n) r x.point (record { width = row_width r t.has; solves = ray_solves r t.has; flat = z }) third (apart_flat p n r (pair c p n) hp hn t.has t.not_p x.a x.b x.a_positive x.is) ih
+                third_case (pair c p n) r x.point (record { width = row_width r t.has; solves = ray_solves r t.has; flat = z }) third
+                (apart_flat p n r (pair c p n) hp hn t.has t.not_p x.a x.b x.a_positive x.is) ih
             | inr high ↦
                 let q = between r n t.has hn high down in
                 third_case (pair c p n) (pair c r n) x.point q.point
-                (λ s k e. q.dots s ∙ ap (λ z. (pos q.a *ℤ z) +ℤ (pos q.b *ℤ dot s (entry n))) (third s k e) ∙ ap (λ z. (pos q.a *ℤ pos 0) +ℤ (pos q.b *ℤ z)) (ends s k e).1 ∙ ring (v (pos q.a) ⊗ v (pos 0) ⊕ v (pos q.b) ⊗ v (pos 0)) (v (pos 0)) (omega arith))
+                (λ s k e. q.dots s ∙ ap (λ z. (pos q.a *ℤ z) +ℤ (pos q.b *ℤ dot s (entry n))) (third s k e) ∙ ap (λ z. (pos q.a *ℤ pos 0) +ℤ (pos q.b *ℤ z)) (ends s k e).1 ∙
+                ring (v (pos q.a) ⊗ v (pos 0) ⊕ v (pos q.b) ⊗ v (pos 0)) (v (pos 0)) (omega arith))
                 (apart_mixed p n r (pair c p n) (pair c r n) hp hn t.has t.not_p x.a x.b q.b x.a_positive x.is
                 (λ j. q.is j ∙ ap (λ (m : ℕ). (pos m *ℤ entry r j) +ℤ (pos q.b *ℤ entry n j)) (pos_same q.a x.a _ q.a_is x.a_is))) ih
           ]
@@ -477,14 +500,16 @@ module _ {w : ℕ} {c : List ℤ} {system rays lines target : List (List ℤ)} (
 
   -- a point from the pairs of the rows that it uses
   from_pairs : (x : List ℤ) → Point x →
-      ((p n : List ℤ) → Contains rays p → Contains rays n → pos 0 <ℤ dot c (entry p) → dot c (entry n) <ℤ pos 0 → TightToo system (entry x) (entry (pair c p n)) → Generated target (entry (pair c p n))) → Generated target (entry x)
+      ((p n : List ℤ) → Contains rays p → Contains rays n → pos 0 <ℤ dot c (entry p) → dot c (entry n) <ℤ pos 0 → TightToo system (entry x) (entry (pair c p n)) →
+      Generated target (entry (pair c p n))) → Generated target (entry x)
   from_pairs x px pc =
       let rows = rays ++ lines in
       let gx = g.dual.solutions x px.width px.solves in
       let u = support system rows g.dual.meets gx.factors in
       let whole : ℕ → ℤ = sum_of gx.factors rows in
       let tight : (s : List ℤ) → dot s (entry x) ≡ pos 0 → dot s whole ≡ pos 0 = λ s e.
-      dot_same s whole (λ j. pos gx.multiple *ℤ entry x j) (λ j. sym (gx.is_sum j)) ∙ dot_scale s (pos gx.multiple) (entry x) ∙ ap (λ z. pos gx.multiple *ℤ z) e ∙ ring (v (pos gx.multiple) ⊗ v (pos 0)) (v (pos 0)) (omega arith) in
+      dot_same s whole (λ j. pos gx.multiple *ℤ entry x j) (λ j. sym (gx.is_sum j)) ∙ dot_scale s (pos gx.multiple) (entry x) ∙ ap (λ z. pos gx.multiple *ℤ z) e ∙
+      ring (v (pos gx.multiple) ⊗ v (pos 0)) (v (pos 0)) (omega arith) in
       let gu : Generated u.used (entry x) = record { multiple = gx.multiple; positive = gx.positive; factors = u.factors; is_sum = λ j. gx.is_sum j ∙ u.is j } in
       let widths : (r : List ℤ) → Contains u.used r → length r ≡ w = λ r k. g.dual.row_widths r (u.from r k).0 in
       let st = step_rows_are c w u.used widths in
@@ -517,7 +542,8 @@ module _ {w : ℕ} {c : List ℤ} {system rays lines target : List (List ℤ)} (
 
   claim : (fuel : ℕ) (x : List ℤ) → Point x → loose system (entry x) ≤ fuel → Generated target (entry x)
   claim zero x px h = from_pairs x px (λ p n hp hn up down t. pair_case p n hp hn up down (λ y py lt. absurd (let le = loose_le system (entry x) (entry (pair c p n)) t in omega (arith, lt, le, h))))
-  claim (suc fuel) x px h = from_pairs x px (λ p n hp hn up down t. pair_case p n hp hn up down (λ y py lt. claim fuel y py (let le = loose_le system (entry x) (entry (pair c p n)) t in omega (arith, lt, le, h))))
+  claim (suc fuel) x px h = from_pairs x px (λ p n hp hn up down t. pair_case p n hp hn up down
+      (λ y py lt. claim fuel y py (let le = loose_le system (entry x) (entry (pair c p n)) t in omega (arith, lt, le, h))))
 
   -- every pair is generated, though only those that no third ray stands between are there
   pub adjacent_pairs_suffice : (p n : List ℤ) → Contains rays p → Contains rays n → pos 0 <ℤ dot c (entry p) → dot c (entry n) <ℤ pos 0 → Generated target (entry (pair c p n))

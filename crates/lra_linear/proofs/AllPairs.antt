@@ -67,13 +67,16 @@ pairs_of_has c u (x ∷ rays) n k h = elim (contains_cases x n rays k) [
     under true i = contains_tail (blend (neg_ℤ (dot c (entry x))) (dot c (entry u)) u x) (blend (neg_ℤ (dot c (entry n))) (dot c (entry u)) u n) (pairs_of c u rays) i
     under false i = i
 
-pairs_has : (c : List ℤ) (rays all : List (List ℤ)) (p n : List ℤ) → Contains rays p → Contains all n → pos 0 <ℤ dot c (entry p) → dot c (entry n) <ℤ pos 0 → Contains (pairs c rays all) (blend (neg_ℤ (dot c (entry n))) (dot c (entry p)) p n)
+pairs_has : (c : List ℤ) (rays all : List (List ℤ)) (p n : List ℤ) → Contains rays p → Contains all n → pos 0 <ℤ dot c (entry p) → dot c (entry n) <ℤ pos 0 →
+    Contains (pairs c rays all) (blend (neg_ℤ (dot c (entry n))) (dot c (entry p)) p n)
 pairs_has c [] all p n k m h l = absurd (omega (arith, k.1))
 pairs_has c (x ∷ rays) all p n k m h l = elim (contains_cases x p rays k) [
   | inl e ↦ Contains-append_left (cond (int_lt (pos 0) (dot c (entry x))) (pairs_of c x all) []) (pairs c rays all) (blend (neg_ℤ (dot c (entry n))) (dot c (entry p)) p n)
       (subst (λ y. Contains (cond (int_lt (pos 0) (dot c (entry x))) (pairs_of c x all) []) (blend (neg_ℤ (dot c (entry n))) (dot c (entry y)) y n)) e
-      (subst (λ t. Contains (cond t (pairs_of c x all) []) (blend (neg_ℤ (dot c (entry n))) (dot c (entry x)) x n)) (lt_yes (pos 0) (dot c (entry x)) (subst (λ y. pos 0 <ℤ dot c (entry y)) (sym e) h)) (pairs_of_has c x all n m l)))
-  | inr d ↦ Contains-append_right (cond (int_lt (pos 0) (dot c (entry x))) (pairs_of c x all) []) (pairs c rays all) (blend (neg_ℤ (dot c (entry n))) (dot c (entry p)) p n) (pairs_has c rays all p n d m h l)
+      (subst (λ t. Contains (cond t (pairs_of c x all) []) (blend (neg_ℤ (dot c (entry n))) (dot c (entry x)) x n)) (lt_yes (pos 0) (dot c (entry x)) (subst (λ y. pos 0 <ℤ dot c (entry y)) (sym e) h))
+      (pairs_of_has c x all n m l)))
+  | inr d ↦ Contains-append_right (cond (int_lt (pos 0) (dot c (entry x))) (pairs_of c x all) []) (pairs c rays all) (blend (neg_ℤ (dot c (entry n))) (dot c (entry p)) p n)
+      (pairs_has c rays all p n d m h l)
 ]
 
 -- which pair a row is
@@ -115,14 +118,30 @@ pub pairs_only : (c : List ℤ) (rays all : List (List ℤ)) (t : List ℤ) → 
 pairs_only c [] all t k = absurd (omega (arith, k.1))
 pairs_only c (x ∷ rays) all t k = elim (Contains-append_cases (cond (int_lt (pos 0) (dot c (entry x))) (pairs_of c x all) []) (pairs c rays all) t k) [
   | inl i ↦ by_test c x rays all t (int_lt (pos 0) (dot c (entry x))) refl i
-  | inr i ↦ let d = pairs_only c rays all t i in record { up = d.up; down = d.down; has_up = contains_tail x d.up rays d.has_up; has_down = d.has_down; above = d.above; below = d.below; is_pair = d.is_pair }
+  | inr i ↦ let d = pairs_only c rays all t i in record {
+    up = d.up;
+    down = d.down;
+    has_up = contains_tail x d.up rays d.has_up;
+    has_down = d.has_down;
+    above = d.above;
+    below = d.below;
+    is_pair = d.is_pair;
+  }
 ]
   where
     said : (z : ℤ) → true ≡ int_lt (pos 0) z → pos 0 <ℤ z
     said z h = omega (arith, ints)
 
     by_test : (c x : List ℤ) (rays all : List (List ℤ)) (t : List ℤ) (b : Bool) → b ≡ int_lt (pos 0) (dot c (entry x)) → Contains (cond b (pairs_of c x all) []) t → PairOf c (x ∷ rays) all t
-    by_test c x rays all t true e k = let d = pairs_of_only c x all t k in record { up = x; down = d.down; has_up = contains_head x rays; has_down = d.has_down; above = said (dot c (entry x)) e; below = d.below; is_pair = d.is_pair }
+    by_test c x rays all t true e k = let d = pairs_of_only c x all t k in record {
+      up = x;
+      down = d.down;
+      has_up = contains_head x rays;
+      has_down = d.has_down;
+      above = said (dot c (entry x)) e;
+      below = d.below;
+      is_pair = d.is_pair;
+    }
     by_test c x rays all t false e k = absurd (omega (arith, k.1))
 
 -- a pair has product 0
@@ -136,13 +155,15 @@ pair_flat c p n t e i =
 
 -- and lies in the cone
 pair_inside : (c : List ℤ) (rays : List (List ℤ)) (p n : List ℤ) → Contains rays p → Contains rays n → pos 0 <ℤ dot c (entry p) → dot c (entry n) <ℤ pos 0 →
-    ((j : ℕ) → entry (blend (neg_ℤ (dot c (entry n))) (dot c (entry p)) p n) j ≡ (neg_ℤ (dot c (entry n)) *ℤ entry p j) +ℤ (dot c (entry p) *ℤ entry n j)) → Generated rays (entry (blend (neg_ℤ (dot c (entry n))) (dot c (entry p)) p n))
+    ((j : ℕ) → entry (blend (neg_ℤ (dot c (entry n))) (dot c (entry p)) p n) j ≡ (neg_ℤ (dot c (entry n)) *ℤ entry p j) +ℤ (dot c (entry p) *ℤ entry n j)) →
+    Generated rays (entry (blend (neg_ℤ (dot c (entry n))) (dot c (entry p)) p n))
 pair_inside c rays p n k m h l e =
     let a = neg_nat (dot c (entry n)) l in
     let b = as_nat (dot c (entry p)) (positive_is_nonnegative (dot c (entry p)) h) in
     generated_same rays (λ j. (pos a.0 *ℤ entry p j) +ℤ (pos b.0 *ℤ entry n j)) (entry (blend (neg_ℤ (dot c (entry n))) (dot c (entry p)) p n))
     (λ j. ap (λ z. (z *ℤ entry p j) +ℤ (pos b.0 *ℤ entry n j)) (sym a.1) ∙ ap (λ z. (neg_ℤ (dot c (entry n)) *ℤ entry p j) +ℤ (z *ℤ entry n j)) (sym b.1) ∙ sym (e j))
-    (generated_plus rays (λ j. pos a.0 *ℤ entry p j) (λ j. pos b.0 *ℤ entry n j) (generated_times rays a.0 (entry p) (generated_row rays p k)) (generated_times rays b.0 (entry n) (generated_row rays n m)))
+    (generated_plus rays (λ j. pos a.0 *ℤ entry p j) (λ j. pos b.0 *ℤ entry n j) (generated_times rays a.0 (entry p) (generated_row rays p k))
+    (generated_times rays b.0 (entry n) (generated_row rays n m)))
 
 -- ---- the step
 -- the rows of all pairs are a step

@@ -31,7 +31,8 @@ spanned_in_cone lines rays u g =
 
 -- and so does its opposite
 spanned_negative : (lines : List (List ℤ)) (u : ℕ → ℤ) → Spanned lines u → Spanned lines (λ j. neg_ℤ (u j))
-spanned_negative lines u g = spanned_same lines (λ j. (negsuc 0 *ℤ u j) +ℤ (pos 0 *ℤ u j)) (λ j. neg_ℤ (u j)) (λ j. ring (v (negsuc 0) ⊗ v (u j) ⊕ v (pos 0) ⊗ v (u j)) (⊖ (v (u j))) (omega arith)) (spanned_linear lines (negsuc 0) (pos 0) u u g g)
+spanned_negative lines u g = spanned_same lines (λ j. (negsuc 0 *ℤ u j) +ℤ (pos 0 *ℤ u j)) (λ j. neg_ℤ (u j)) (λ j. ring (v (negsuc 0) ⊗ v (u j) ⊕ v (pos 0) ⊗ v (u j)) (⊖ (v (u j))) (omega arith))
+    (spanned_linear lines (negsuc 0) (pos 0) u u g g)
 
 -- from m u = l + s and n (-u) = k + t
 opposite : (m n u l s k t : ℤ) → m *ℤ u ≡ l +ℤ s → n *ℤ neg_ℤ u ≡ k +ℤ t → ((n *ℤ l) +ℤ (m *ℤ k)) +ℤ (m *ℤ t) ≡ n *ℤ neg_ℤ s
@@ -86,7 +87,8 @@ take_out (t ∷ front) r back (f ∷ fs) =
       own = i.own;
       factors = f ∷ i.factors;
       is = λ j. ap (λ z. (pos f *ℤ entry t j) +ℤ z) (i.is j) ∙
-          ring (v (pos f) ⊗ v (entry t j) ⊕ (v (pos i.own) ⊗ v (entry r j) ⊕ v (sum_of i.factors (front ++ back) j))) (v (pos i.own) ⊗ v (entry r j) ⊕ (v (pos f) ⊗ v (entry t j) ⊕ v (sum_of i.factors (front ++ back) j))) (omega arith);
+          ring (v (pos f) ⊗ v (entry t j) ⊕ (v (pos i.own) ⊗ v (entry r j) ⊕ v (sum_of i.factors (front ++ back) j)))
+          (v (pos i.own) ⊗ v (entry r j) ⊕ (v (pos f) ⊗ v (entry t j) ⊕ v (sum_of i.factors (front ++ back) j))) (omega arith);
     }
 
 -- a vector of the cone as a multiple of one ray, a sum of the others and a line
@@ -102,7 +104,8 @@ parts_of lines front r back x g =
       line = signed_sum d.free lines;
       on_line = lines_generated lines d.free;
       whole = λ j. d.is_sum j ∙ ap (λ z. signed_sum d.free lines j +ℤ z) (t.is j) ∙
-          ring (v (signed_sum d.free lines j) ⊕ (v (pos t.own) ⊗ v (entry r j) ⊕ v (sum_of t.factors (front ++ back) j))) (v (pos t.own) ⊗ v (entry r j) ⊕ (v (sum_of t.factors (front ++ back) j) ⊕ v (signed_sum d.free lines j))) (omega arith);
+          ring (v (signed_sum d.free lines j) ⊕ (v (pos t.own) ⊗ v (entry r j) ⊕ v (sum_of t.factors (front ++ back) j)))
+          (v (pos t.own) ⊗ v (entry r j) ⊕ (v (sum_of t.factors (front ++ back) j) ⊕ v (signed_sum d.free lines j))) (omega arith);
     }
 
 -- ---- each ray is extreme
@@ -142,7 +145,13 @@ SameCone lines rays lines' rays' = (u : ℕ → ℤ) → (Generated (all_rows li
 on_lines : (lines : List (List ℤ)) (l : ℕ → ℤ) → Generated (both_ways lines) l → Spanned lines l
 on_lines lines l g =
     let d = described_generated lines [] l g in
-    record { multiple = d.multiple; positive = d.positive; factors = d.free; is_sum = λ j. d.is_sum j ∙ ap (λ z. signed_sum d.free lines j +ℤ z) (nothing d.factors j) ∙ ring (v (signed_sum d.free lines j) ⊕ v (pos 0)) (v (signed_sum d.free lines j)) (omega arith) }
+    record {
+      multiple = d.multiple;
+      positive = d.positive;
+      factors = d.free;
+      is_sum = λ j. d.is_sum j ∙ ap (λ z. signed_sum d.free lines j +ℤ z) (nothing d.factors j) ∙
+          ring (v (signed_sum d.free lines j) ⊕ v (pos 0)) (v (signed_sum d.free lines j)) (omega arith);
+    }
   where
     nothing : (fs : List ℕ) (j : ℕ) → sum_of fs [] j ≡ pos 0
     nothing [] j = refl
@@ -150,7 +159,8 @@ on_lines lines l g =
 
 -- one line list, two ray lists of one cone: each ray of the one is in the other
 ray_found : (w : ℕ) (lines rays rays' : List (List ℤ)) → ((t : List ℤ) → Contains rays t → length t ≡ w) → ((t : List ℤ) → Contains rays' t → length t ≡ w) →
-    (c : IsCanonical lines rays) → ((t : List ℤ) → Contains rays' t → (q : ℕ) → Contains c.pivots q → entry t q ≡ pos 0) → ((t : List ℤ) → Contains rays' t → Generated (all_rows lines rays) (entry t)) →
+    (c : IsCanonical lines rays) → ((t : List ℤ) → Contains rays' t → (q : ℕ) → Contains c.pivots q → entry t q ≡ pos 0) →
+    ((t : List ℤ) → Contains rays' t → Generated (all_rows lines rays) (entry t)) →
     IsCanonical lines rays' → (r : List ℤ) → Contains rays r → Generated (all_rows lines rays') (entry r) → Contains rays' r
 ray_found w lines rays rays' wr wr' c red inside c' r k g =
     let cone = all_rows lines rays in
@@ -168,14 +178,16 @@ ray_found w lines rays rays' wr wr' c red inside c' r k g =
     ap (λ z. (pos b.times *ℤ pos 0) +ℤ neg_ℤ (pos b.other *ℤ z)) (c.reduced r k q i) ∙
     ring (v (pos b.times) ⊗ v (pos 0) ⊕ ⊖ (v (pos b.other) ⊗ v (pos 0))) (v (pos 0)) (omega arith) in
     let flat : (j : ℕ) → l j ≡ pos 0 = all_zero lines c.pivots c.echelon l (on_lines lines l b.on_line) zero_at in
-    let multiples : (j : ℕ) → pos b.times *ℤ entry t j ≡ pos b.other *ℤ entry r j = λ j. b.is_beside j ∙ ap (λ z. (pos b.other *ℤ entry r j) +ℤ z) (flat j) ∙ ring (v (pos b.other) ⊗ v (entry r j) ⊕ v (pos 0)) (v (pos b.other) ⊗ v (entry r j)) (omega arith) in
+    let multiples : (j : ℕ) → pos b.times *ℤ entry t j ≡ pos b.other *ℤ entry r j = λ j. b.is_beside j ∙ ap (λ z. (pos b.other *ℤ entry r j) +ℤ z) (flat j) ∙
+    ring (v (pos b.other) ⊗ v (entry r j) ⊕ v (pos 0)) (v (pos b.other) ⊗ v (entry r j)) (omega arith) in
     let mn : b.times ≡ b.other = same_multiple b.times b.other t r (c'.lowest t f.1) (c.lowest r k) multiples in
     let same : t ≡ r = row_same t r (wr' t f.1 ∙ sym (wr r k)) (λ j. cancel_same b.times (entry t j) (entry r j) b.positive (multiples j ∙ ap (λ (n : ℕ). pos n *ℤ entry r j) (sym mn))) in
     subst (λ (x : List ℤ). Contains rays' x) same f.1
 
 -- canonical descriptions of one cone have equal lines and the same rays
 pub canonical_unique : (w : ℕ) (lines rays lines' rays' : List (List ℤ)) →
-    ((t : List ℤ) → Contains lines t → length t ≡ w) → ((t : List ℤ) → Contains rays t → length t ≡ w) → ((t : List ℤ) → Contains lines' t → length t ≡ w) → ((t : List ℤ) → Contains rays' t → length t ≡ w) →
+    ((t : List ℤ) → Contains lines t → length t ≡ w) → ((t : List ℤ) → Contains rays t → length t ≡ w) → ((t : List ℤ) → Contains lines' t → length t ≡ w) →
+    ((t : List ℤ) → Contains rays' t → length t ≡ w) →
     IsCanonical lines rays → IsCanonical lines' rays' → SameCone lines rays lines' rays' →
     (lines ≡ lines') × ((r : List ℤ) → (Contains rays r → Contains rays' r) × (Contains rays' r → Contains rays r))
 canonical_unique w lines rays lines' rays' wl wr wl' wr' c c' same =
@@ -197,9 +209,11 @@ canonical_unique w lines rays lines' rays' wl wr wl' wr' c c' same =
       e.0,
       λ r. (
         λ k. ray_found w lines rays rays' wr wr' c (λ t i q m. c'.reduced t i q (subst (λ (x : List ℕ). Contains x q) e.1 m))
-            (λ t i. (same' (entry t)).1 (generated_left rays' (both_ways lines) (entry t) (generated_row rays' t i))) d r k ((same' (entry r)).0 (generated_left rays (both_ways lines) (entry r) (generated_row rays r k))),
+            (λ t i. (same' (entry t)).1 (generated_left rays' (both_ways lines) (entry t) (generated_row rays' t i))) d r k
+            ((same' (entry r)).0 (generated_left rays (both_ways lines) (entry r) (generated_row rays r k))),
         λ k. ray_found w lines rays' rays wr' wr d' (λ t i q m. c.reduced t i q (subst (λ (x : List ℕ). Contains x q) (sym e.1) m))
-            (λ t i. (same' (entry t)).0 (generated_left rays (both_ways lines) (entry t) (generated_row rays t i))) c r k ((same' (entry r)).1 (generated_left rays' (both_ways lines) (entry r) (generated_row rays' r k))),
+            (λ t i. (same' (entry t)).0 (generated_left rays (both_ways lines) (entry t) (generated_row rays t i))) c r k
+            ((same' (entry r)).1 (generated_left rays' (both_ways lines) (entry r) (generated_row rays' r k))),
       ),
     )
 
@@ -222,10 +236,14 @@ pub same_from_dual : (w : ℕ) (system rows other : List (List ℤ)) → AreDual
 same_from_dual w system rows other d e u g = generated_through other rows u (λ t k. e.solutions t (d.row_widths t k) (d.meets t k)) g
 
 -- one spelling: two canonical descriptions of one system have equal lines, the same rays, and as many
-pub one_spelling : (w : ℕ) (system lines rays lines' rays' : List (List ℤ)) → AreDual w system (all_rows lines rays) → AreDual w system (all_rows lines' rays') → IsCanonical lines rays → IsCanonical lines' rays' →
+pub one_spelling : (w : ℕ) (system lines rays lines' rays' : List (List ℤ)) → AreDual w system (all_rows lines rays) → AreDual w system (all_rows lines' rays') → IsCanonical lines rays →
+    IsCanonical lines' rays' →
     (lines ≡ lines') × ((r : List ℤ) → (Contains rays r → Contains rays' r) × (Contains rays' r → Contains rays r)) × (length rays ≡ length rays')
 one_spelling w system lines rays lines' rays' d e c c' =
-    let same : SameCone lines rays lines' rays' = λ u. (same_from_dual w system (all_rows lines rays) (all_rows lines' rays') d e u, same_from_dual w system (all_rows lines' rays') (all_rows lines rays) e d u) in
+    let same : SameCone lines rays lines' rays' = λ u. (
+      same_from_dual w system (all_rows lines rays) (all_rows lines' rays') d e u,
+      same_from_dual w system (all_rows lines' rays') (all_rows lines rays) e d u,
+    ) in
     let x = canonical_unique w lines rays lines' rays'
     (λ t k. d.row_widths t (Contains-append_right rays (both_ways lines) t (in_lines lines t k))) (λ t k. d.row_widths t (Contains-append_left rays (both_ways lines) t k))
     (λ t k. e.row_widths t (Contains-append_right rays' (both_ways lines') t (in_lines lines' t k))) (λ t k. e.row_widths t (Contains-append_left rays' (both_ways lines') t k)) c c' same in
@@ -235,5 +253,6 @@ one_spelling w system lines rays lines' rays' d e c c' =
     (x.0, x.1, same_length)
 
 -- where one canonical list is too long, each is
-pub too_many : (w limit : ℕ) (system lines rays lines' rays' : List (List ℤ)) → AreDual w system (all_rows lines rays) → AreDual w system (all_rows lines' rays') → IsCanonical lines rays → IsCanonical lines' rays' → limit < length rays → limit < length rays'
+pub too_many : (w limit : ℕ) (system lines rays lines' rays' : List (List ℤ)) → AreDual w system (all_rows lines rays) → AreDual w system (all_rows lines' rays') → IsCanonical lines rays →
+    IsCanonical lines' rays' → limit < length rays → limit < length rays'
 too_many w limit system lines rays lines' rays' d e c c' h = let x = one_spelling w system lines rays lines' rays' d e c c' in omega (arith, x.2)

@@ -37,7 +37,8 @@ checked_product_from_is s (x ∷ xs) [] p e = ok_same p s (sym e) ∙ sym (+ℤ_
 checked_product_from_is s (x ∷ xs) (y ∷ ys) p e =
     product_tests s x y (product xs ys) p (checked_product_from (s +ℤ (x *ℤ y)) xs ys) (in_range (x *ℤ y)) (in_range (s +ℤ (x *ℤ y))) _ _ (checked_product_from_is (s +ℤ (x *ℤ y)) xs ys p) e
 
-range_tests : (m n p : ℤ) (rest : Number) (b d : Bool) (f g : Excess) → d ≡ in_range n → (InRange n → rest ≡ Ok p → InRange p) → cond {A = Number} b (cond {A = Number} d rest (Err f)) (Err g) ≡ Ok p → InRange p
+range_tests : (m n p : ℤ) (rest : Number) (b d : Bool) (f g : Excess) → d ≡ in_range n → (InRange n → rest ≡ Ok p → InRange p) → cond {A = Number} b (cond {A = Number} d rest (Err f)) (Err g) ≡ Ok p →
+    InRange p
 range_tests m n p rest true true f g t ih e = ih (grind (arith, nat_tests)) e
 range_tests m n p rest true false f g t ih e = cc
 range_tests m n p rest false d f g t ih e = cc
@@ -82,7 +83,8 @@ parts_is z zs rs (Ok y) (Ok ys) h k r =
 pub checked_blend_is : (a b : ℤ) (us vs rs : List ℤ) → checked_blend a b us vs ≡ Ok rs → rs ≡ blend a b us vs
 checked_blend_is a b [] vs rs e = cc
 checked_blend_is a b (u ∷ us) [] rs e = cc
-checked_blend_is a b (u ∷ us) (v ∷ vs) rs e = parts_is ((a *ℤ u) +ℤ (b *ℤ v)) (blend a b us vs) rs (checked_entry a b u v) (checked_blend a b us vs) (checked_entry_is a b u v) (checked_blend_is a b us vs) e
+checked_blend_is a b (u ∷ us) (v ∷ vs) rs e = parts_is ((a *ℤ u) +ℤ (b *ℤ v)) (blend a b us vs) rs (checked_entry a b u v) (checked_blend a b us vs) (checked_entry_is a b u v)
+    (checked_blend_is a b us vs) e
 
 entry_in : (x e : ℤ) (f g h : Excess) (p q r : Bool) → r ≡ in_range x → cond {A = Number} p (cond {A = Number} q (cond {A = Number} r (Ok x) (Err f)) (Err g)) (Err h) ≡ Ok e → InRange e
 entry_in x e f g h true true true l k = let i : e ≡ x = cc in subst InRange (sym i) (grind (arith, nat_tests))
@@ -90,7 +92,8 @@ entry_in x e f g h true true false l k = cc
 entry_in x e f g h true false r l k = cc
 entry_in x e f g h false q r l k = cc
 
-parts_in : (rs : List ℤ) (x : Number) (xs : Result (List ℤ) Excess) → ((y : ℤ) → x ≡ Ok y → InRange y) → ((ys : List ℤ) → xs ≡ Ok ys → AllByRecursion InRange ys) → then_rest x xs ≡ Ok rs → AllByRecursion InRange rs
+parts_in : (rs : List ℤ) (x : Number) (xs : Result (List ℤ) Excess) → ((y : ℤ) → x ≡ Ok y → InRange y) → ((ys : List ℤ) → xs ≡ Ok ys → AllByRecursion InRange ys) → then_rest x xs ≡ Ok rs →
+    AllByRecursion InRange rs
 parts_in rs (Err f) xs h k r = cc
 parts_in rs (Ok y) (Err f) h k r = cc
 parts_in rs (Ok y) (Ok ys) h k r = let e : y ∷ ys ≡ rs = cc in subst (AllByRecursion InRange) e (h y refl, k ys refl)

@@ -131,7 +131,8 @@ column_nonneg : (rows : List (List ℤ)) (j : ℕ) → ((t : List ℤ) → Conta
 column_nonneg rows j h [] = omega (arith, ints)
 column_nonneg [] j h (f ∷ fs) = omega (arith, ints)
 column_nonneg (r ∷ rows) j h (f ∷ fs) =
-    add_nonnegative (pos f *ℤ entry r j) (sum_of fs rows j) (mul_nonnegative (pos f) (entry r j) (omega (arith, ints)) (h r (contains_head r rows))) (column_nonneg rows j (λ t k. h t (contains_tail r t rows k)) fs)
+    add_nonnegative (pos f *ℤ entry r j) (sum_of fs rows j) (mul_nonnegative (pos f) (entry r j) (omega (arith, ints)) (h r (contains_head r rows)))
+    (column_nonneg rows j (λ t k. h t (contains_tail r t rows k)) fs)
 
 -- so a vector that is negative there is not generated
 pub not_from_above : (rows : List (List ℤ)) (u : ℕ → ℤ) (j : ℕ) → ((t : List ℤ) → Contains rows t → pos 0 ≤ℤ entry t j) → u j <ℤ pos 0 → ¬ (Generated rows u)

@@ -105,7 +105,8 @@ pub solves_con : (rows : List Given) (x : List ℤ) → Solves (system_of rows) 
 solves_con rows x h g k = by_kind g.equal refl
   where
     by_kind : (b : Bool) → g.equal ≡ b → HoldsWith b (product g.row x)
-    by_kind true e = between_opposites (product g.row x) (dot (negated g.row) (entry x)) (negated_dot g.row (entry x)) (h g.row (system_has rows g k)) (h (negated g.row) (system_has_negated rows g k e))
+    by_kind true e = between_opposites (product g.row x) (dot (negated g.row) (entry x)) (negated_dot g.row (entry x)) (h g.row (system_has rows g k))
+        (h (negated g.row) (system_has_negated rows g k e))
     by_kind false e = h g.row (system_has rows g k)
 
 -- row by row
@@ -205,7 +206,8 @@ in_system list t k = elim (Contains-append_cases (rays_of list) (both_ways (line
 -- generators give a point exactly where their rows generate it
 pub gen_generated : (list : List Given) (u : ℕ → ℤ) → Described (lines_of list) (rays_of list) u → Generated (system_of list) u
 gen_generated list u d =
-    generated_through (system_of list) (all_rows (lines_of list) (rays_of list)) u (λ t k. generated_row (system_of list) t (in_system list t k)) (generated_described (lines_of list) (rays_of list) u d)
+    generated_through (system_of list) (all_rows (lines_of list) (rays_of list)) u (λ t k. generated_row (system_of list) t (in_system list t k))
+    (generated_described (lines_of list) (rays_of list) u d)
 
 pub generated_gen : (list : List Given) (u : ℕ → ℤ) → Generated (system_of list) u → Described (lines_of list) (rays_of list) u
 generated_gen list u g =

@@ -20,7 +20,8 @@ pub consequence_met : (w : ℕ) (system rows : List (List ℤ)) → AreDual w sy
 consequence_met w system rows d c g r k = generated_nonneg r system c (λ s m. subst (λ z. pos 0 ≤ℤ z) (product_comm s r) (d.meets r k s m)) g
 
 -- the step with an inequality keeps the two descriptions dual
-pub dual_step : (w : ℕ) (c : List ℤ) (system rows target : List (List ℤ)) → AreDual w system rows → length c ≡ w → ((t : List ℤ) → Contains target t → length t ≡ w) → StepOf c rows target → AreDual w (c ∷ system) target
+pub dual_step : (w : ℕ) (c : List ℤ) (system rows target : List (List ℤ)) → AreDual w system rows → length c ≡ w → ((t : List ℤ) → Contains target t → length t ≡ w) → StepOf c rows target →
+    AreDual w (c ∷ system) target
 dual_step w c system rows target d lc lt s =
     record {
       system_widths = λ x k. elim (contains_cases c x system k) [ inl e ↦ ap length (sym e) ∙ lc | inr i ↦ d.system_widths x i ];
@@ -83,7 +84,8 @@ line_consequences c l w rows target gens s lc full x lx h =
     (generated_times (c ∷ gens) n.0 (entry c) (generated_row (c ∷ gens) c (contains_head c gens)))))
 
 -- the step with a line keeps the two descriptions dual
-pub dual_line_step : (w : ℕ) (c l : List ℤ) (system rows target : List (List ℤ)) → AreDual w system rows → length c ≡ w → ((t : List ℤ) → Contains target t → length t ≡ w) → LineTarget c l rows target → AreDual w (c ∷ system) target
+pub dual_line_step : (w : ℕ) (c l : List ℤ) (system rows target : List (List ℤ)) → AreDual w system rows → length c ≡ w → ((t : List ℤ) → Contains target t → length t ≡ w) →
+    LineTarget c l rows target → AreDual w (c ∷ system) target
 dual_line_step w c l system rows target d lc lt s =
     record {
       system_widths = λ x k. elim (contains_cases c x system k) [ inl e ↦ ap length (sym e) ∙ lc | inr i ↦ d.system_widths x i ];

@@ -48,8 +48,10 @@ before_trans : (i j k : ℕ) → Before i j → Before j k → Before i k
 before_trans i j k h l = (h.0, elim l.1 [ inl m ↦ inl (elim h.1 [ inl n ↦ omega arith | inr n ↦ absurd (let z = l.0 in omega arith) ]) | inr m ↦ inr m ])
 
 -- the form with the row in its place, and the rows before it cleared, is an echelon form
-pub echelon_insert : (r : List ℤ) (p : ℕ) (low new high : List (List ℤ)) (lows highs : List ℕ) → Leads r p → IsPrimitive r → ((q : ℕ) → Contains (lows ++ highs) q → entry r q ≡ pos 0) → ((q : ℕ) → Contains lows q → Before q p) →
-    ((t : List ℤ) → Contains high t → (j : ℕ) → Before j p ⊎ (j ≡ p) → entry t j ≡ pos 0) → length low ≡ length lows → ClearedRows r p low new → IsEchelon (low ++ high) (lows ++ highs) → IsEchelon (new ++ r ∷ high) (lows ++ p ∷ highs)
+pub echelon_insert : (r : List ℤ) (p : ℕ) (low new high : List (List ℤ)) (lows highs : List ℕ) → Leads r p → IsPrimitive r → ((q : ℕ) → Contains (lows ++ highs) q → entry r q ≡ pos 0) →
+    ((q : ℕ) → Contains lows q → Before q p) →
+    ((t : List ℤ) → Contains high t → (j : ℕ) → Before j p ⊎ (j ≡ p) → entry t j ≡ pos 0) → length low ≡ length lows → ClearedRows r p low new → IsEchelon (low ++ high) (lows ++ highs) →
+    IsEchelon (new ++ r ∷ high) (lows ++ p ∷ highs)
 echelon_insert r p [] [] high [] highs l pr z b hz e f ech = (l, pr, hz, z, ech)
 echelon_insert r p [] [] high (q ∷ lows) highs l pr z b hz e f ech = absurd (omega (arith, e))
 echelon_insert r p [] (t ∷ new) high lows highs l pr z b hz e f ech = absurd f
@@ -58,7 +60,8 @@ echelon_insert r p (k ∷ low) (t ∷ new) high [] highs l pr z b hz e f ech = a
 echelon_insert r p (k ∷ low) (t ∷ new) high (q ∷ lows) highs l pr z b hz e f ech =
     let i = echelon_insert r p low new high lows highs l pr (λ s m. z s (contains_tail q s (lows ++ highs) m)) (λ s m. b s (contains_tail q s lows m)) hz (omega (arith, e)) f.1 ech.4 in
     let qp : Before q p = b q (contains_head q lows) in
-    let r_early : (j : ℕ) → Before j q ⊎ (j ≡ q) → entry r j ≡ pos 0 = λ j h. elim h [ inl m ↦ l.before j (before_trans j q p m qp) | inr m ↦ ap (entry r) m ∙ z q (contains_head q (lows ++ highs)) ] in
+    let r_early : (j : ℕ) → Before j q ⊎ (j ≡ q) → entry r j ≡ pos 0 = λ j h. elim h [ inl m ↦ l.before j (before_trans j q p m qp) | inr m ↦ ap (entry r) m ∙ z q (contains_head q (lows ++ highs)) ]
+    in
     let a = entry r p in
     let c = entry k p in
     let here : pos 0 <ℤ entry t q =
@@ -85,7 +88,8 @@ echelon_insert r p (k ∷ low) (t ∷ new) high (q ∷ lows) highs l pr z b hz e
     )
 
 -- the images exist, in lowest terms, whatever passes where they are computed
-pub cleared_exist : (r : List ℤ) (p : ℕ) (es : List (List ℤ)) → ((e : List ℤ) → Contains es e → (s : List ℤ) × ((j : ℕ) → entry s j ≡ (entry r p *ℤ entry e j) +ℤ (neg_ℤ (entry e p) *ℤ entry r j))) → (ts : List (List ℤ)) × ClearedRows r p es ts
+pub cleared_exist : (r : List ℤ) (p : ℕ) (es : List (List ℤ)) → ((e : List ℤ) → Contains es e → (s : List ℤ) × ((j : ℕ) → entry s j ≡ (entry r p *ℤ entry e j) +ℤ (neg_ℤ (entry e p) *ℤ entry r j))) →
+    (ts : List (List ℤ)) × ClearedRows r p es ts
 cleared_exist r p [] f = ([], tt)
 cleared_exist r p (e ∷ es) f =
     let s = f e (contains_head e es) in

@@ -32,7 +32,8 @@ earlier : (p q sa bs at bt : ℤ) → pos 0 <ℤ q → bs <ℤ pos 0 → bt <ℤ
     pos 0 ≤ℤ (q *ℤ ((neg_ℤ bs *ℤ at) +ℤ neg_ℤ (neg_ℤ sa *ℤ bt)))
 earlier p q sa bs at bt hq hs ht low ok =
     let one : pos 0 ≤ℤ (neg_ℤ bs *ℤ ((q *ℤ at) +ℤ neg_ℤ (p *ℤ bt))) = mul_nonnegative (neg_ℤ bs) ((q *ℤ at) +ℤ neg_ℤ (p *ℤ bt)) (omega (arith, ints)) ok in
-    let two : pos 0 ≤ℤ (neg_ℤ bt *ℤ neg_ℤ ((q *ℤ sa) +ℤ neg_ℤ (p *ℤ bs))) = mul_nonnegative (neg_ℤ bt) (neg_ℤ ((q *ℤ sa) +ℤ neg_ℤ (p *ℤ bs))) (omega (arith, ints)) (negated ((q *ℤ sa) +ℤ neg_ℤ (p *ℤ bs)) low) in
+    let two : pos 0 ≤ℤ (neg_ℤ bt *ℤ neg_ℤ ((q *ℤ sa) +ℤ neg_ℤ (p *ℤ bs))) = mul_nonnegative (neg_ℤ bt) (neg_ℤ ((q *ℤ sa) +ℤ neg_ℤ (p *ℤ bs))) (omega (arith, ints))
+    (negated ((q *ℤ sa) +ℤ neg_ℤ (p *ℤ bs)) low) in
     subst (λ z. pos 0 ≤ℤ z)
     (ring (⊖ (v bs) ⊗ (v q ⊗ v at ⊕ ⊖ (v p ⊗ v bt)) ⊕ ⊖ (v bt) ⊗ ⊖ (v q ⊗ v sa ⊕ ⊖ (v p ⊗ v bs))) (v q ⊗ (⊖ (v bs) ⊗ v at ⊕ ⊖ (⊖ (v sa) ⊗ v bt))) (omega arith))
     (add_nonnegative _ _ one two)
@@ -132,10 +133,12 @@ met x g rows target st h l s k =
                 let at = dot x (entry w.0) in
                 let bt = dot g (entry w.0) in
                 elim (above_zero b nn) [
-                  | inl z ↦ subst (λ y. pos 0 ≤ℤ ((pos q *ℤ a) +ℤ neg_ℤ (pos p *ℤ y))) (sym z) (subst (λ y. pos 0 ≤ℤ y) (ring (v (pos q) ⊗ v a) (v (pos q) ⊗ v a ⊕ ⊖ (v (pos p) ⊗ v (pos 0))) (omega arith)) qa)
+                  | inl z ↦ subst (λ y. pos 0 ≤ℤ ((pos q *ℤ a) +ℤ neg_ℤ (pos p *ℤ y))) (sym z) (subst (λ y. pos 0 ≤ℤ y)
+                      (ring (v (pos q) ⊗ v a) (v (pos q) ⊗ v a ⊕ ⊖ (v (pos p) ⊗ v (pos 0))) (omega arith)) qa)
                   | inr bp ↦
                       let pair : pos 0 ≤ℤ ((neg_ℤ bt *ℤ a) +ℤ (b *ℤ at)) =
-                      subst (λ y. pos 0 ≤ℤ y) (dot_linear x (neg_ℤ bt) b (entry s) (entry w.0)) (generated_nonneg x target (λ j. (neg_ℤ bt *ℤ entry s j) +ℤ (b *ℤ entry w.0 j)) h (st.pairs s w.0 k w.1 bp w.2)) in
+                      subst (λ y. pos 0 ≤ℤ y) (dot_linear x (neg_ℤ bt) b (entry s) (entry w.0)) (generated_nonneg x target (λ j. (neg_ℤ bt *ℤ entry s j) +ℤ (b *ℤ entry w.0 j)) h
+                      (st.pairs s w.0 k w.1 bp w.2)) in
                       let m = neg_nat bt w.2 in
                       let e : pos q *ℤ ((neg_ℤ bt *ℤ a) +ℤ (b *ℤ at)) ≡ pos m.0 *ℤ slack p q a b =
                       ring (v (pos q) ⊗ (⊖ (v bt) ⊗ v a ⊕ v b ⊗ v at)) (⊖ (v bt) ⊗ (v (pos q) ⊗ v a ⊕ ⊖ (v (pos p) ⊗ v b)) ⊕ v b ⊗ (v (pos q) ⊗ v at ⊕ ⊖ (v (pos p) ⊗ v bt))) (omega arith) ∙

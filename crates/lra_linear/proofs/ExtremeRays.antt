@@ -83,8 +83,10 @@ needed_splits r others lines free k x y px py e =
     elim (compare_two p q) [
       | inl d ↦
           let rest = others ++ lines in
-          let gx : Generated rest (λ j. pos b *ℤ (sx j +ℤ px.line j)) = generated_times rest b (λ j. sx j +ℤ px.line j) (generated_plus rest sx px.line (generated_left others lines sx (sum_generated others px.factors)) (generated_right others lines px.line px.on_line)) in
-          let gy : Generated rest (λ j. pos a *ℤ (sy j +ℤ py.line j)) = generated_times rest a (λ j. sy j +ℤ py.line j) (generated_plus rest sy py.line (generated_left others lines sy (sum_generated others py.factors)) (generated_right others lines py.line py.on_line)) in
+          let gx : Generated rest (λ j. pos b *ℤ (sx j +ℤ px.line j)) = generated_times rest b (λ j. sx j +ℤ px.line j)
+          (generated_plus rest sx px.line (generated_left others lines sx (sum_generated others px.factors)) (generated_right others lines px.line px.on_line)) in
+          let gy : Generated rest (λ j. pos a *ℤ (sy j +ℤ py.line j)) = generated_times rest a (λ j. sy j +ℤ py.line j)
+          (generated_plus rest sy py.line (generated_left others lines sy (sum_generated others py.factors)) (generated_right others lines py.line py.on_line)) in
           absurd (free.needed (generated_divided rest d.0 (entry r) d.2
           (generated_same rest (λ j. pos b *ℤ (sx j +ℤ px.line j) +ℤ pos a *ℤ (sy j +ℤ py.line j)) (λ j. pos d.0 *ℤ entry r j)
           (λ j. cancel (pos p) (pos q) (pos d.0) (entry r j) _ (ap pos d.1) (bal j))
@@ -94,14 +96,16 @@ needed_splits r others lines free k x y px py e =
           let more : (u : ℕ → ℤ) → Generated (others ++ lines) u → Generated cone u = generated_more r (others ++ lines) in
           let gl1 : Generated cone px.line = more px.line (generated_right others lines px.line px.on_line) in
           let gy : Generated cone (λ j. sy j +ℤ py.line j) =
-          more (λ j. sy j +ℤ py.line j) (generated_plus (others ++ lines) sy py.line (generated_left others lines sy (sum_generated others py.factors)) (generated_right others lines py.line py.on_line)) in
+          more (λ j. sy j +ℤ py.line j) (generated_plus (others ++ lines) sy py.line (generated_left others lines sy (sum_generated others py.factors))
+          (generated_right others lines py.line py.on_line)) in
           let gr : Generated cone (entry r) = generated_row cone r (contains_head r (others ++ lines)) in
           let neg : Generated cone (λ j. pos b *ℤ neg_ℤ (sx j)) =
           generated_same cone (λ j. (pos d.0 *ℤ entry r j +ℤ pos b *ℤ px.line j) +ℤ pos a *ℤ (sy j +ℤ py.line j)) (λ j. pos b *ℤ neg_ℤ (sx j))
           (λ j.
           let s = pos b *ℤ (sx j +ℤ px.line j) +ℤ pos a *ℤ (sy j +ℤ py.line j) in
           ap (λ z. (z +ℤ pos b *ℤ px.line j) +ℤ pos a *ℤ (sy j +ℤ py.line j)) (sym (cancel_left (pos p) (pos d.0) (entry r j) s (bal j ∙ ap (λ n. (pos n *ℤ entry r j) +ℤ s) d.1))) ∙
-          ring ((⊖ (v (pos b) ⊗ (v (sx j) ⊕ v (px.line j)) ⊕ v (pos a) ⊗ (v (sy j) ⊕ v (py.line j))) ⊕ v (pos b) ⊗ v (px.line j)) ⊕ v (pos a) ⊗ (v (sy j) ⊕ v (py.line j))) (v (pos b) ⊗ ⊖ (v (sx j))) (omega arith))
+          ring ((⊖ (v (pos b) ⊗ (v (sx j) ⊕ v (px.line j)) ⊕ v (pos a) ⊗ (v (sy j) ⊕ v (py.line j))) ⊕ v (pos b) ⊗ v (px.line j)) ⊕ v (pos a) ⊗ (v (sy j) ⊕ v (py.line j))) (v (pos b) ⊗ ⊖ (v (sx j)))
+          (omega arith))
           (generated_plus cone (λ j. pos d.0 *ℤ entry r j +ℤ pos b *ℤ px.line j) (λ j. pos a *ℤ (sy j +ℤ py.line j))
           (generated_plus cone (λ j. pos d.0 *ℤ entry r j) (λ j. pos b *ℤ px.line j) (generated_times cone d.0 (entry r) gr) (generated_times cone b px.line gl1))
           (generated_times cone a (λ j. sy j +ℤ py.line j) gy)) in
@@ -120,10 +124,13 @@ needed_splits r others lines free k x y px py e =
 
 -- an extreme ray stands, up to a multiple and a line, in each list of rows that generates it
 pub extreme_found : (cone lines : List (List ℤ)) (r : List ℤ) → IsExtreme cone lines r → ((u : ℕ → ℤ) → Generated lines u → Generated cone u) →
-    (rows : List (List ℤ)) → ((t : List ℤ) → Contains rows t → Generated cone (entry t)) → (fs : List ℕ) (l : ℕ → ℤ) → Generated lines l → (k : ℕ) → 0 < k → ((j : ℕ) → pos k *ℤ entry r j ≡ sum_of fs rows j +ℤ l j) →
+    (rows : List (List ℤ)) → ((t : List ℤ) → Contains rows t → Generated cone (entry t)) → (fs : List ℕ) (l : ℕ → ℤ) → Generated lines l → (k : ℕ) → 0 < k →
+    ((j : ℕ) → pos k *ℤ entry r j ≡ sum_of fs rows j +ℤ l j) →
     (t : List ℤ) × Contains rows t × Beside lines r t
-extreme_found cone lines r x sub rows h [] l g k p e = absurd (x.apart (generated_divided lines k (entry r) p (generated_same lines l (λ j. pos k *ℤ entry r j) (λ j. ring (v (l j)) (v (pos 0) ⊕ v (l j)) (omega arith) ∙ sym (e j)) g)))
-extreme_found cone lines r x sub [] h (f ∷ fs) l g k p e = absurd (x.apart (generated_divided lines k (entry r) p (generated_same lines l (λ j. pos k *ℤ entry r j) (λ j. ring (v (l j)) (v (pos 0) ⊕ v (l j)) (omega arith) ∙ sym (e j)) g)))
+extreme_found cone lines r x sub rows h [] l g k p e = absurd (x.apart (generated_divided lines k (entry r) p
+    (generated_same lines l (λ j. pos k *ℤ entry r j) (λ j. ring (v (l j)) (v (pos 0) ⊕ v (l j)) (omega arith) ∙ sym (e j)) g)))
+extreme_found cone lines r x sub [] h (f ∷ fs) l g k p e = absurd (x.apart (generated_divided lines k (entry r) p
+    (generated_same lines l (λ j. pos k *ℤ entry r j) (λ j. ring (v (l j)) (v (pos 0) ⊕ v (l j)) (omega arith) ∙ sym (e j)) g)))
 extreme_found cone lines r x sub (t ∷ rows) h (zero ∷ fs) l g k p e =
     let i = extreme_found cone lines r x sub rows (λ y m. h y (contains_tail t y rows m)) fs l g k p
     (λ j. e j ∙ ring ((v (pos 0) ⊗ v (entry t j) ⊕ v (sum_of fs rows j)) ⊕ v (l j)) (v (sum_of fs rows j) ⊕ v (l j)) (omega arith)) in
@@ -134,5 +141,9 @@ extreme_found cone lines r x sub (t ∷ rows) h (suc f ∷ fs) l g k p e =
     let gt : Generated cone (entry t) = h t (contains_head t rows) in
     -- t + (f t + s + l) = k r
     let y : ℕ → ℤ = λ j. (pos f *ℤ entry t j) +ℤ (s j +ℤ l j) in
-    let gy : Generated cone y = generated_plus cone (λ j. pos f *ℤ entry t j) (λ j. s j +ℤ l j) (generated_times cone f (entry t) gt) rest in
-    (t, contains_head t rows, x.splits k t y gt gy (λ j. ring (v (entry t j) ⊕ (v (pos f) ⊗ v (entry t j) ⊕ (v (s j) ⊕ v (l j)))) ((v (pos (suc f)) ⊗ v (entry t j) ⊕ v (s j)) ⊕ v (l j)) (omega arith) ∙ sym (e j)))
+    let gy : Generated cone y = generated_plus cone (λ j. pos f *ℤ entry t j) (λ j. s j +ℤ l j) (generated_times cone f (entry t) gt) rest in (
+      t,
+      contains_head t rows,
+      x.splits k t y gt gy (λ j. ring (v (entry t j) ⊕ (v (pos f) ⊗ v (entry t j) ⊕ (v (s j) ⊕ v (l j)))) ((v (pos (suc f)) ⊗ v (entry t j) ⊕ v (s j)) ⊕ v (l j))
+          (omega arith) ∙ sym (e j)),
+    )

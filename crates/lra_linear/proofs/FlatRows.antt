@@ -86,7 +86,8 @@ pub record Dropped (l : List ℤ) (rows : List (List ℤ)) (ps : List ℕ) : Typ
   pub zero_at : (q : ℕ) → Contains pivots q → entry l q ≡ pos 0
 
 -- the rows before the line, made flat, and the rows after it are an echelon form
-pub echelon_drop : (c l line : List ℤ) (before after new : List (List ℤ)) (ps : List ℕ) → ((j : ℕ) → entry line j ≡ pos 0 → entry l j ≡ pos 0) → pos 0 <ℤ dot c (entry l) → Flats c l before new → IsEchelon (before ++ line ∷ after) ps → Dropped l (new ++ after) ps
+pub echelon_drop : (c l line : List ℤ) (before after new : List (List ℤ)) (ps : List ℕ) → ((j : ℕ) → entry line j ≡ pos 0 → entry l j ≡ pos 0) → pos 0 <ℤ dot c (entry l) → Flats c l before new →
+    IsEchelon (before ++ line ∷ after) ps → Dropped l (new ++ after) ps
 echelon_drop c l line [] after [] [] z p f ech = absurd ech
 echelon_drop c l line [] after [] (q ∷ ps) z p f ech = record { pivots = ps; echelon = ech.4; sub = λ r k. contains_tail q r ps k; zero_at = λ r k. z r (ech.3 r k) }
 echelon_drop c l line [] after (t ∷ new) ps z p f ech = absurd f
@@ -125,10 +126,12 @@ flat_dot c l r t f =
     let a = dot c (entry l) in
     let b = dot c (entry r) in
     no_product f.times (dot c (entry t)) f.positive
-    (sym (dot_scale c (pos f.times) (entry t)) ∙ dot_same c (λ j. pos f.times *ℤ entry t j) (λ j. (a *ℤ entry r j) +ℤ (neg_ℤ b *ℤ entry l j)) f.is ∙ dot_linear c a (neg_ℤ b) (entry r) (entry l) ∙ ring (v a ⊗ v b ⊕ ⊖ (v b) ⊗ v a) (v (pos 0)) (omega arith))
+    (sym (dot_scale c (pos f.times) (entry t)) ∙ dot_same c (λ j. pos f.times *ℤ entry t j) (λ j. (a *ℤ entry r j) +ℤ (neg_ℤ b *ℤ entry l j)) f.is ∙ dot_linear c a (neg_ℤ b) (entry r) (entry l) ∙
+    ring (v a ⊗ v b ⊕ ⊖ (v b) ⊗ v a) (v (pos 0)) (omega arith))
 
 -- a flat row lies in a cone that has its row and the line in both directions
-pub flat_inside : (c l r t : List ℤ) (cone : List (List ℤ)) → pos 0 <ℤ dot c (entry l) → ((z : ℤ) → Generated cone (λ j. z *ℤ entry l j)) → Flat c l r t → Generated cone (entry r) → Generated cone (entry t)
+pub flat_inside : (c l r t : List ℤ) (cone : List (List ℤ)) → pos 0 <ℤ dot c (entry l) → ((z : ℤ) → Generated cone (λ j. z *ℤ entry l j)) → Flat c l r t → Generated cone (entry r) →
+    Generated cone (entry t)
 flat_inside c l r t cone p line f g =
     let a = dot c (entry l) in
     let b = dot c (entry r) in
@@ -138,7 +141,8 @@ flat_inside c l r t cone p line f g =
     (generated_plus cone (λ j. pos n.0 *ℤ entry r j) (λ j. neg_ℤ b *ℤ entry l j) (generated_times cone n.0 (entry r) g) (line (neg_ℤ b))))
 
 -- and its row lies in one that has the flat row and the line
-pub flat_back : (c l r t : List ℤ) (cone : List (List ℤ)) → pos 0 <ℤ dot c (entry l) → ((z : ℤ) → Generated cone (λ j. z *ℤ entry l j)) → Flat c l r t → Generated cone (entry t) → Generated cone (entry r)
+pub flat_back : (c l r t : List ℤ) (cone : List (List ℤ)) → pos 0 <ℤ dot c (entry l) → ((z : ℤ) → Generated cone (λ j. z *ℤ entry l j)) → Flat c l r t → Generated cone (entry t) →
+    Generated cone (entry r)
 flat_back c l r t cone p line f g =
     let a = dot c (entry l) in
     let b = dot c (entry r) in
@@ -149,19 +153,22 @@ flat_back c l r t cone p line f g =
     (generated_plus cone (λ j. pos f.times *ℤ entry t j) (λ j. b *ℤ entry l j) (generated_times cone f.times (entry t) g) (line b)))
 
 -- the same of their negatives
-pub flat_back_negative : (c l r t : List ℤ) (cone : List (List ℤ)) → pos 0 <ℤ dot c (entry l) → ((z : ℤ) → Generated cone (λ j. z *ℤ entry l j)) → Flat c l r t → Generated cone (λ j. neg_ℤ (entry t j)) → Generated cone (λ j. neg_ℤ (entry r j))
+pub flat_back_negative : (c l r t : List ℤ) (cone : List (List ℤ)) → pos 0 <ℤ dot c (entry l) → ((z : ℤ) → Generated cone (λ j. z *ℤ entry l j)) → Flat c l r t →
+    Generated cone (λ j. neg_ℤ (entry t j)) → Generated cone (λ j. neg_ℤ (entry r j))
 flat_back_negative c l r t cone p line f g =
     let a = dot c (entry l) in
     let b = dot c (entry r) in
     let n = as_nat a (omega (arith, ints, p)) in
     generated_divided cone n.0 (λ j. neg_ℤ (entry r j)) (positive_nat a n.0 p n.1)
     (generated_same cone (λ j. (pos f.times *ℤ neg_ℤ (entry t j)) +ℤ (neg_ℤ b *ℤ entry l j)) (λ j. pos n.0 *ℤ neg_ℤ (entry r j))
-    (λ j. ring (v (pos f.times) ⊗ ⊖ (v (entry t j)) ⊕ ⊖ (v b) ⊗ v (entry l j)) (⊖ (v (pos f.times) ⊗ v (entry t j)) ⊕ ⊖ (v b) ⊗ v (entry l j)) (omega arith) ∙ ap (λ y. neg_ℤ y +ℤ (neg_ℤ b *ℤ entry l j)) (f.is j) ∙
+    (λ j. ring (v (pos f.times) ⊗ ⊖ (v (entry t j)) ⊕ ⊖ (v b) ⊗ v (entry l j)) (⊖ (v (pos f.times) ⊗ v (entry t j)) ⊕ ⊖ (v b) ⊗ v (entry l j)) (omega arith) ∙
+    ap (λ y. neg_ℤ y +ℤ (neg_ℤ b *ℤ entry l j)) (f.is j) ∙
     ring (⊖ (v a ⊗ v (entry r j) ⊕ ⊖ (v b) ⊗ v (entry l j)) ⊕ ⊖ (v b) ⊗ v (entry l j)) (v a ⊗ ⊖ (v (entry r j))) (omega arith) ∙ ap (λ y. y *ℤ neg_ℤ (entry r j)) n.1)
     (generated_plus cone (λ j. pos f.times *ℤ neg_ℤ (entry t j)) (λ j. neg_ℤ b *ℤ entry l j) (generated_times cone f.times (λ j. neg_ℤ (entry t j)) g) (line (neg_ℤ b))))
 
 -- also where the flat row is 0
-pub flat_back_zero : (c l r t : List ℤ) (cone : List (List ℤ)) → pos 0 <ℤ dot c (entry l) → ((z : ℤ) → Generated cone (λ j. z *ℤ entry l j)) → Flat c l r t → ((j : ℕ) → entry t j ≡ pos 0) → Generated cone (entry r)
+pub flat_back_zero : (c l r t : List ℤ) (cone : List (List ℤ)) → pos 0 <ℤ dot c (entry l) → ((z : ℤ) → Generated cone (λ j. z *ℤ entry l j)) → Flat c l r t → ((j : ℕ) → entry t j ≡ pos 0) →
+    Generated cone (entry r)
 flat_back_zero c l r t cone p line f h = flat_back c l r t cone p line f (generated_same cone (λ j. pos 0) (entry t) (λ j. sym (h j)) (generated_zero cone))
 
 -- where all rows are flat, what they generate is
@@ -173,7 +180,8 @@ generated_flat c rows u h g =
   where
     other : (c : List ℤ) (u : ℕ → ℤ) → dot (negated c) u ≡ neg_ℤ (dot c u)
     other [] u = refl
-    other (x ∷ c) u = ap (λ y. (neg_ℤ x *ℤ u 0) +ℤ y) (other c (λ j. u (suc j))) ∙ ring (⊖ (v x) ⊗ v (u 0) ⊕ ⊖ (v (dot c (λ j. u (suc j))))) (⊖ (v x ⊗ v (u 0) ⊕ v (dot c (λ j. u (suc j))))) (omega arith)
+    other (x ∷ c) u = ap (λ y. (neg_ℤ x *ℤ u 0) +ℤ y) (other c (λ j. u (suc j))) ∙ ring (⊖ (v x) ⊗ v (u 0) ⊕ ⊖ (v (dot c (λ j. u (suc j))))) (⊖ (v x ⊗ v (u 0) ⊕ v (dot c (λ j. u (suc j)))))
+        (omega arith)
 
     both : (z : ℤ) → pos 0 ≤ℤ z → pos 0 ≤ℤ neg_ℤ z → z ≡ pos 0
     both z h k = omega (arith, ints, h, k)
@@ -193,7 +201,8 @@ signed_primitive l s (inr e) p = λ d h. p d (λ j. subst (λ (n : ℕ). d ∣ n
     abs_neg z = omega (arith, ints)
 
 -- each line of the new list is on the old lines, with either sign
-pub lines_inside : (c l line : List ℤ) (before after new : List (List ℤ)) → (l ≡ line) ⊎ (l ≡ negated line) → pos 0 <ℤ dot c (entry l) → Flats c l before new → (t : List ℤ) → Contains (both_ways (new ++ after)) t → Generated (both_ways (before ++ line ∷ after)) (entry t)
+pub lines_inside : (c l line : List ℤ) (before after new : List (List ℤ)) → (l ≡ line) ⊎ (l ≡ negated line) → pos 0 <ℤ dot c (entry l) → Flats c l before new → (t : List ℤ) →
+    Contains (both_ways (new ++ after)) t → Generated (both_ways (before ++ line ∷ after)) (entry t)
 lines_inside c l line before after new s p f t k =
     let lines = before ++ line ∷ after in
     let x = signed_from (new ++ after) t k in
@@ -208,13 +217,15 @@ lines_inside c l line before after new s p f t k =
           elim x.sign [
             | inl e ↦ subst (λ (y : List ℤ). Generated (both_ways lines) (entry y)) (sym e) (flat_inside c l o.row x.line (both_ways lines) p mult o.flat (plain o.row m))
             | inr e ↦ subst (λ (y : List ℤ). Generated (both_ways lines) (entry y)) (sym e)
-                (generated_same (both_ways lines) (λ j. neg_ℤ (entry x.line j)) (entry (negated x.line)) (λ j. sym (entry_negated x.line j)) (flat_inside_negative c l o.row x.line (both_ways lines) p mult o.flat (minus o.row m)))
+                (generated_same (both_ways lines) (λ j. neg_ℤ (entry x.line j)) (entry (negated x.line)) (λ j. sym (entry_negated x.line j))
+                (flat_inside_negative c l o.row x.line (both_ways lines) p mult o.flat (minus o.row m)))
           ]
       | inr n ↦
           let m : Contains lines x.line = Contains-append_right before (line ∷ after) x.line (contains_tail line x.line after n) in
           elim x.sign [
             | inl e ↦ subst (λ (y : List ℤ). Generated (both_ways lines) (entry y)) (sym e) (plain x.line m)
-            | inr e ↦ subst (λ (y : List ℤ). Generated (both_ways lines) (entry y)) (sym e) (generated_same (both_ways lines) (λ j. neg_ℤ (entry x.line j)) (entry (negated x.line)) (λ j. sym (entry_negated x.line j)) (minus x.line m))
+            | inr e ↦ subst (λ (y : List ℤ). Generated (both_ways lines) (entry y)) (sym e)
+                (generated_same (both_ways lines) (λ j. neg_ℤ (entry x.line j)) (entry (negated x.line)) (λ j. sym (entry_negated x.line j)) (minus x.line m))
           ]
     ]
   where
@@ -224,13 +235,15 @@ lines_inside c l line before after new s p f t k =
     other : (rows : List (List ℤ)) (k : List ℤ) → Generated rows (λ j. negsuc 0 *ℤ entry k j) → Generated rows (λ j. neg_ℤ (entry k j))
     other rows k g = generated_same rows (λ j. negsuc 0 *ℤ entry k j) (λ j. neg_ℤ (entry k j)) (λ j. ring (v (negsuc 0) ⊗ v (entry k j)) (⊖ (v (entry k j))) (omega arith)) g
 
-    flat_inside_negative : (c l r t : List ℤ) (cone : List (List ℤ)) → pos 0 <ℤ dot c (entry l) → ((z : ℤ) → Generated cone (λ j. z *ℤ entry l j)) → Flat c l r t → Generated cone (λ j. neg_ℤ (entry r j)) → Generated cone (λ j. neg_ℤ (entry t j))
+    flat_inside_negative : (c l r t : List ℤ) (cone : List (List ℤ)) → pos 0 <ℤ dot c (entry l) → ((z : ℤ) → Generated cone (λ j. z *ℤ entry l j)) → Flat c l r t →
+        Generated cone (λ j. neg_ℤ (entry r j)) → Generated cone (λ j. neg_ℤ (entry t j))
     flat_inside_negative c l r t cone p line f g =
         let a = dot c (entry l) in
         let b = dot c (entry r) in
         let n = as_nat a (omega (arith, ints, p)) in
         generated_divided cone f.times (λ j. neg_ℤ (entry t j)) f.positive
         (generated_same cone (λ j. (pos n.0 *ℤ neg_ℤ (entry r j)) +ℤ (b *ℤ entry l j)) (λ j. pos f.times *ℤ neg_ℤ (entry t j))
-        (λ j. ap (λ y. (y *ℤ neg_ℤ (entry r j)) +ℤ (b *ℤ entry l j)) (sym n.1) ∙ ring (v a ⊗ ⊖ (v (entry r j)) ⊕ v b ⊗ v (entry l j)) (⊖ (v a ⊗ v (entry r j) ⊕ ⊖ (v b) ⊗ v (entry l j))) (omega arith) ∙ ap neg_ℤ (sym (f.is j)) ∙
+        (λ j. ap (λ y. (y *ℤ neg_ℤ (entry r j)) +ℤ (b *ℤ entry l j)) (sym n.1) ∙ ring (v a ⊗ ⊖ (v (entry r j)) ⊕ v b ⊗ v (entry l j)) (⊖ (v a ⊗ v (entry r j) ⊕ ⊖ (v b) ⊗ v (entry l j)))
+        (omega arith) ∙ ap neg_ℤ (sym (f.is j)) ∙
         ring (⊖ (v (pos f.times) ⊗ v (entry t j))) (v (pos f.times) ⊗ ⊖ (v (entry t j))) (omega arith))
         (generated_plus cone (λ j. pos n.0 *ℤ neg_ℤ (entry r j)) (λ j. b *ℤ entry l j) (generated_times cone n.0 (λ j. neg_ℤ (entry r j)) g) (line b)))

@@ -10,7 +10,8 @@ use Rattle.lra_linear.specs.LowestTerms.{IsPrimitive}
 use Rattle.lra_linear.specs.Vectors.{dot, entry, negated}
 use Rattle.lra_linear.proofs.Combinations.{generated_row, generated_same, generated_times, generated_zero}
 use Rattle.lra_linear.proofs.Duality.{LineTarget, dual_line_step, dual_step}
-use Rattle.lra_linear.proofs.FlatRows.{Dropped, echelon_drop, flat_back, flat_back_negative, flat_back_zero, flat_dot, flat_inside, flat_split, flat_zero, flats_from, flats_to, generated_flat, lines_inside, member_primitive, signed_primitive}
+use Rattle.lra_linear.proofs.FlatRows.{Dropped, echelon_drop, flat_back, flat_back_negative, flat_back_zero, flat_dot, flat_inside, flat_split, flat_zero, flats_from, flats_to, generated_flat}
+use Rattle.lra_linear.proofs.FlatRows.{lines_inside, member_primitive, signed_primitive}
 use Rattle.lra_linear.proofs.LinearMaps.{generated_left, generated_nonneg, generated_right, generated_through}
 use Rattle.lra_linear.proofs.Lines.{line_multiple, signed_from, signed_multiple, signed_zero}
 use Rattle.lra_linear.proofs.Membership.{contains_cases, contains_head, contains_split, contains_tail}
@@ -23,25 +24,30 @@ one_times : (rows : List (List ℤ)) (k : List ℤ) → Generated rows (λ j. po
 one_times rows k g = generated_same rows (λ j. pos 1 *ℤ entry k j) (entry k) (λ j. ring (v (pos 1) ⊗ v (entry k j)) (v (entry k j)) (omega arith)) g
 
 -- the new lines are flat
-lines_flat_dot : (c l : List ℤ) (before after new : List (List ℤ)) → Flats c l before new → ((k : List ℤ) → Contains after k → dot c (entry k) ≡ pos 0) → (t : List ℤ) → Contains (both_ways (new ++ after)) t → dot c (entry t) ≡ pos 0
+lines_flat_dot : (c l : List ℤ) (before after new : List (List ℤ)) → Flats c l before new → ((k : List ℤ) → Contains after k → dot c (entry k) ≡ pos 0) → (t : List ℤ) →
+    Contains (both_ways (new ++ after)) t → dot c (entry t) ≡ pos 0
 lines_flat_dot c l before after new f fa t k =
     let x = signed_from (new ++ after) t k in
-    let plain : dot c (entry x.line) ≡ pos 0 = elim (Contains-append_cases new after x.line x.has) [ inl n ↦ let o = flats_from c l before new f x.line n in flat_dot c l o.row x.line o.flat | inr n ↦ fa x.line n ] in
+    let plain : dot c (entry x.line) ≡ pos 0 = elim (Contains-append_cases new after x.line x.has)
+    [ inl n ↦ let o = flats_from c l before new f x.line n in flat_dot c l o.row x.line o.flat | inr n ↦ fa x.line n ] in
     elim x.sign [
       | inl e ↦ ap (λ (y : List ℤ). dot c (entry y)) e ∙ plain
       | inr e ↦ ap (λ (y : List ℤ). dot c (entry y)) e ∙ dot_negated c x.line ∙ ap neg_ℤ plain
     ]
 
 -- what the new rows generate, the old ones do, with some of the rays left out
-new_inside : (c l line : List ℤ) (before after new first last front back others : List (List ℤ)) → (l ≡ line) ⊎ (l ≡ negated line) → pos 0 <ℤ dot c (entry l) → Flats c l before new → Flats c l first front → Flats c l last back →
-    ((o : List ℤ) → Contains others o → Contains (front ++ back) o ⊎ (o ≡ l)) → (u : ℕ → ℤ) → Generated (all_rows (new ++ after) others) u → Generated (all_rows (before ++ line ∷ after) (first ++ last)) u
+new_inside : (c l line : List ℤ) (before after new first last front back others : List (List ℤ)) → (l ≡ line) ⊎ (l ≡ negated line) → pos 0 <ℤ dot c (entry l) → Flats c l before new →
+    Flats c l first front → Flats c l last back →
+    ((o : List ℤ) → Contains others o → Contains (front ++ back) o ⊎ (o ≡ l)) → (u : ℕ → ℤ) → Generated (all_rows (new ++ after) others) u →
+    Generated (all_rows (before ++ line ∷ after) (first ++ last)) u
 new_inside c l line before after new first last front back others s p f ff fb among u g =
     let lines = before ++ line ∷ after in
     let rays = first ++ last in
     let cone = all_rows lines rays in
     let has : Contains lines line = Contains-append_right before (line ∷ after) line (contains_head line after) in
     let mult : (z : ℤ) → Generated cone (λ j. z *ℤ entry l j) = λ z. generated_right rays (both_ways lines) (λ j. z *ℤ entry l j) (signed_multiple lines line l z has s) in
-    let ray : (r t : List ℤ) → Contains rays r → Flat c l r t → Generated cone (entry t) = λ r t k x. flat_inside c l r t cone p mult x (generated_left rays (both_ways lines) (entry r) (generated_row rays r k)) in
+    let ray : (r t : List ℤ) → Contains rays r → Flat c l r t → Generated cone (entry t) =
+    λ r t k x. flat_inside c l r t cone p mult x (generated_left rays (both_ways lines) (entry r) (generated_row rays r k)) in
     generated_through cone (all_rows (new ++ after) others) u
     (λ t k. elim (Contains-append_cases others (both_ways (new ++ after)) t k) [
       | inl i ↦ elim (among t i) [
@@ -55,7 +61,8 @@ new_inside c l line before after new first last front back others s p f ff fb am
     ]) g
 
 -- a flat ray is needed
-flat_needed : (c l line : List ℤ) (before after new rays front : List (List ℤ)) (t : List ℤ) (back others : List (List ℤ)) → IsCanonical (before ++ line ∷ after) rays → (l ≡ line) ⊎ (l ≡ negated line) → pos 0 <ℤ dot c (entry l) → Flats c l before new →
+flat_needed : (c l line : List ℤ) (before after new rays front : List (List ℤ)) (t : List ℤ) (back others : List (List ℤ)) → IsCanonical (before ++ line ∷ after) rays → (l ≡ line) ⊎
+    (l ≡ negated line) → pos 0 <ℤ dot c (entry l) → Flats c l before new →
     Flats c l rays (front ++ t ∷ back) → ((o : List ℤ) → Contains others o → Contains (front ++ back) o ⊎ (o ≡ l)) → ¬ (Generated (all_rows (new ++ after) others) (entry t))
 flat_needed c l line before after new rays front t back others k s p f fr among g =
     let lines = before ++ line ∷ after in
@@ -63,31 +70,37 @@ flat_needed c l line before after new rays front t back others k s p f fr among 
     let cone = all_rows lines (x.first ++ x.last) in
     let has : Contains lines line = Contains-append_right before (line ∷ after) line (contains_head line after) in
     let mult : (z : ℤ) → Generated cone (λ j. z *ℤ entry l j) = λ z. generated_right (x.first ++ x.last) (both_ways lines) (λ j. z *ℤ entry l j) (signed_multiple lines line l z has s) in
-    k.needed x.first x.row x.last x.is (flat_back c l x.row t cone p mult x.flat (new_inside c l line before after new x.first x.last front back others s p f x.front_flat x.back_flat among (entry t) g))
+    k.needed x.first x.row x.last x.is (flat_back c l x.row t cone p mult x.flat (new_inside c l line before after new x.first x.last front back others s p f x.front_flat x.back_flat among
+    (entry t) g))
 
 -- a split of a list with l in front
-split_head : (l : List ℤ) (rays front : List (List ℤ)) (t : List ℤ) (back : List (List ℤ)) → l ∷ rays ≡ front ++ t ∷ back → ((front ≡ []) × (t ≡ l) × (back ≡ rays)) ⊎ ((more : List (List ℤ)) × (front ≡ l ∷ more) × (rays ≡ more ++ t ∷ back))
+split_head : (l : List ℤ) (rays front : List (List ℤ)) (t : List ℤ) (back : List (List ℤ)) → l ∷ rays ≡ front ++ t ∷ back → ((front ≡ []) × (t ≡ l) × (back ≡ rays)) ⊎
+    ((more : List (List ℤ)) × (front ≡ l ∷ more) × (rays ≡ more ++ t ∷ back))
 split_head l rays [] t back e = inl (refl, cc, cc)
 split_head l rays (x ∷ front) t back e = let a : x ≡ l = cc in let b : rays ≡ front ++ t ∷ back = cc in inr (front, ap (λ (y : List ℤ). y ∷ front) a, b)
 
 -- all parts of a canonical description, for an inequality and for an equality
-canonical_core : (equal : Bool) (c l line : List ℤ) (before after new rays flat : List (List ℤ)) → IsCanonical (before ++ line ∷ after) rays → (l ≡ line) ⊎ (l ≡ negated line) → pos 0 <ℤ dot c (entry l) → ((k : List ℤ) → Contains after k → dot c (entry k) ≡ pos 0) → Flats c l before new →
+canonical_core : (equal : Bool) (c l line : List ℤ) (before after new rays flat : List (List ℤ)) → IsCanonical (before ++ line ∷ after) rays → (l ≡ line) ⊎ (l ≡ negated line) →
+    pos 0 <ℤ dot c (entry l) → ((k : List ℤ) → Contains after k → dot c (entry k) ≡ pos 0) → Flats c l before new →
     Flats c l rays flat → IsCanonical (new ++ after) (cond equal flat (l ∷ flat))
 canonical_core equal c l line before after new rays flat k s p fa f fr =
     let lines = before ++ line ∷ after in
     let has : Contains lines line = Contains-append_right before (line ∷ after) line (contains_head line after) in
     let d = echelon_drop c l line before after new k.pivots (λ j h. signed_zero line l s j h) p f k.echelon in
-    let reduced : (t : List ℤ) → Contains flat t → (q : ℕ) → Contains d.pivots q → entry t q ≡ pos 0 = λ t i q m. let o = flats_from c l rays flat fr t i in flat_zero c l o.row t o.flat q (k.reduced o.row o.has q (d.sub q m)) (d.zero_at q m) in
+    let reduced : (t : List ℤ) → Contains flat t → (q : ℕ) → Contains d.pivots q → entry t q ≡ pos 0 =
+    λ t i q m. let o = flats_from c l rays flat fr t i in flat_zero c l o.row t o.flat q (k.reduced o.row o.has q (d.sub q m)) (d.zero_at q m) in
     let lowest : (t : List ℤ) → Contains flat t → IsPrimitive t = λ t i.
     let o = flats_from c l rays flat fr t i in
     elim o.flat.lowest [
       | inl y ↦ y
       | inr y ↦
           let x = contains_split rays o.row o.has in
-          absurd (k.needed x.front o.row x.back x.is (generated_right (x.front ++ x.back) (both_ways lines) (entry o.row) (flat_back_zero c l o.row t (both_ways lines) p (λ z. signed_multiple lines line l z has s) o.flat y)))
+          absurd (k.needed x.front o.row x.back x.is (generated_right (x.front ++ x.back) (both_ways lines) (entry o.row)
+          (flat_back_zero c l o.row t (both_ways lines) p (λ z. signed_multiple lines line l z has s) o.flat y)))
     ] in
     let mult : (z : ℤ) → Generated (all_rows lines rays) (λ j. z *ℤ entry l j) = λ z. generated_right rays (both_ways lines) (λ j. z *ℤ entry l j) (signed_multiple lines line l z has s) in
-    let pointed : (others : List (List ℤ)) → ((o : List ℤ) → Contains others o → Contains flat o ⊎ (o ≡ l)) → (t : List ℤ) → Contains flat t → ¬ (Generated (all_rows (new ++ after) others) (λ j. neg_ℤ (entry t j))) = λ others among t i g.
+    let pointed : (others : List (List ℤ)) → ((o : List ℤ) → Contains others o → Contains flat o ⊎ (o ≡ l)) → (t : List ℤ) → Contains flat t →
+    ¬ (Generated (all_rows (new ++ after) others) (λ j. neg_ℤ (entry t j))) = λ others among t i g.
     let o = flats_from c l rays flat fr t i in
     k.pointed o.row o.has (flat_back_negative c l o.row t (all_rows lines rays) p mult o.flat
     (new_inside c l line before after new [] rays [] flat others s p f tt fr (λ y m. among y m) (λ j. neg_ℤ (entry t j)) g)) in
@@ -100,8 +113,10 @@ canonical_core equal c l line before after new rays flat k s p fa f fr =
     clash_negative : (z : ℤ) → pos 0 <ℤ z → pos 0 ≤ℤ neg_ℤ z → ⊥
     clash_negative z h e = omega (arith, ints, h, e)
 
-    by_kind : (b : Bool) → (d : Dropped l (new ++ after) k.pivots) → ((t : List ℤ) → Contains flat t → (q : ℕ) → Contains d.pivots q → entry t q ≡ pos 0) → ((t : List ℤ) → Contains flat t → IsPrimitive t) →
-        ((others : List (List ℤ)) → ((o : List ℤ) → Contains others o → Contains flat o ⊎ (o ≡ l)) → (t : List ℤ) → Contains flat t → ¬ (Generated (all_rows (new ++ after) others) (λ j. neg_ℤ (entry t j)))) →
+    by_kind : (b : Bool) → (d : Dropped l (new ++ after) k.pivots) → ((t : List ℤ) → Contains flat t → (q : ℕ) → Contains d.pivots q → entry t q ≡ pos 0) →
+        ((t : List ℤ) → Contains flat t → IsPrimitive t) →
+        ((others : List (List ℤ)) → ((o : List ℤ) → Contains others o → Contains flat o ⊎ (o ≡ l)) → (t : List ℤ) → Contains flat t →
+        ¬ (Generated (all_rows (new ++ after) others) (λ j. neg_ℤ (entry t j)))) →
         ((t : List ℤ) → Contains (all_rows (new ++ after) flat) t → dot c (entry t) ≡ pos 0) → IsCanonical (new ++ after) (cond b flat (l ∷ flat))
     by_kind true d reduced lowest pointed flat_row =
         record {
@@ -118,13 +133,15 @@ canonical_core equal c l line before after new rays flat k s p fa f fr =
           echelon = d.echelon;
           reduced = λ t i q m. elim (contains_cases l t flat i) [ inl e ↦ ap (λ (y : List ℤ). entry y q) (sym e) ∙ d.zero_at q m | inr n ↦ reduced t n q m ];
           lowest = λ t i. elim (contains_cases l t flat i) [
-            | inl e ↦ subst IsPrimitive e (signed_primitive line l s (member_primitive (before ++ line ∷ after) k.pivots line k.echelon (Contains-append_right before (line ∷ after) line (contains_head line after))))
+            | inl e ↦ subst IsPrimitive e (signed_primitive line l s (member_primitive (before ++ line ∷ after) k.pivots line k.echelon
+                (Contains-append_right before (line ∷ after) line (contains_head line after))))
             | inr n ↦ lowest t n
           ];
           needed = λ front t back e. elim (split_head l flat front t back e) [
             | inl x ↦ λ g. not_both (dot c (entry l)) p
                 (generated_flat c (all_rows (new ++ after) flat) (entry l) flat_row
-                (subst (λ (y : List (List ℤ)). Generated (all_rows (new ++ after) y) (entry l)) (ap (λ (y : List (List ℤ)). y ++ back) x.0 ∙ x.2) (subst (λ (y : List ℤ). Generated (all_rows (new ++ after) (front ++ back)) (entry y)) x.1 g)))
+                (subst (λ (y : List (List ℤ)). Generated (all_rows (new ++ after) y) (entry l)) (ap (λ (y : List (List ℤ)). y ++ back) x.0 ∙ x.2)
+                (subst (λ (y : List ℤ). Generated (all_rows (new ++ after) (front ++ back)) (entry y)) x.1 g)))
             | inr x ↦ flat_needed c l line before after new rays x.0 t back (front ++ back) k s p f (subst (λ (y : List (List ℤ)). Flats c l rays y) x.2 fr)
                 (λ o m. elim (contains_cases l o (x.0 ++ back) (subst (λ (y : List (List ℤ)). Contains (y ++ back) o) x.1 m)) [ inl q ↦ inr (sym q) | inr q ↦ inl q ])
           ];
@@ -132,13 +149,18 @@ canonical_core equal c l line before after new rays flat k s p fa f fr =
             | inl e ↦ λ g. clash_negative (dot c (entry l)) p
                 (subst (λ z. pos 0 ≤ℤ z) (ap (λ (y : List ℤ). dot c (λ j. neg_ℤ (entry y j))) (sym e) ∙ dot_minus c (entry l))
                 (generated_nonneg c (all_rows (new ++ after) (l ∷ flat)) (λ j. neg_ℤ (entry t j))
-                (λ r m. elim (contains_cases l r (all_rows (new ++ after) flat) m) [ inl q ↦ subst (λ (y : List ℤ). pos 0 ≤ℤ dot c (entry y)) q (omega (arith, ints, p)) | inr q ↦ subst (λ z. pos 0 ≤ℤ z) (sym (flat_row r q)) (omega (arith, ints)) ]) g))
+                (λ r m. elim (contains_cases l r (all_rows (new ++ after) flat) m) [
+                  | inl q ↦ subst (λ (y : List ℤ). pos 0 ≤ℤ dot c (entry y)) q (omega (arith, ints, p))
+                  | inr q ↦ subst
+                      (λ z. pos 0 ≤ℤ z) (sym (flat_row r q)) (omega (arith, ints))
+                ]) g))
             | inr n ↦ pointed (l ∷ flat) (λ o m. elim (contains_cases l o flat m) [ inl q ↦ inr (sym q) | inr q ↦ inl q ]) t n
           ];
         }
 
 -- any multiple of (c.l) k - (c.k) l, for an old line k, is on the new lines
-old_line : (c l line : List ℤ) (before after new : List (List ℤ)) → (l ≡ line) ⊎ (l ≡ negated line) → ((k : List ℤ) → Contains after k → dot c (entry k) ≡ pos 0) → Flats c l before new → (k : List ℤ) → Contains (before ++ line ∷ after) k → (z : ℤ) →
+old_line : (c l line : List ℤ) (before after new : List (List ℤ)) → (l ≡ line) ⊎ (l ≡ negated line) → ((k : List ℤ) → Contains after k → dot c (entry k) ≡ pos 0) → Flats c l before new →
+    (k : List ℤ) → Contains (before ++ line ∷ after) k → (z : ℤ) →
     Generated (both_ways (new ++ after)) (λ j. z *ℤ ((dot c (entry l) *ℤ entry k j) +ℤ (dot c (entry k) *ℤ neg_ℤ (entry l j))))
 old_line c l line before after new s fa f k i z =
     let rows = both_ways (new ++ after) in
@@ -155,7 +177,8 @@ old_line c l line before after new s fa f k i z =
         | inl e ↦ generated_same rows (λ j. pos 0) (λ j. z *ℤ ((a *ℤ entry k j) +ℤ (b *ℤ neg_ℤ (entry l j)))) (λ j. sym (nothing line k l (sym e) s j z)) (generated_zero rows)
         | inr n ↦
             generated_same rows (λ j. (z *ℤ a) *ℤ entry k j) (λ j. z *ℤ ((a *ℤ entry k j) +ℤ (b *ℤ neg_ℤ (entry l j))))
-            (λ j. ring ((v z ⊗ v a) ⊗ v (entry k j)) (v z ⊗ (v a ⊗ v (entry k j) ⊕ v (pos 0) ⊗ ⊖ (v (entry l j)))) (omega arith) ∙ ap (λ y. z *ℤ ((a *ℤ entry k j) +ℤ (y *ℤ neg_ℤ (entry l j)))) (sym (fa k n)))
+            (λ j. ring ((v z ⊗ v a) ⊗ v (entry k j)) (v z ⊗ (v a ⊗ v (entry k j) ⊕ v (pos 0) ⊗ ⊖ (v (entry l j)))) (omega arith) ∙
+            ap (λ y. z *ℤ ((a *ℤ entry k j) +ℤ (y *ℤ neg_ℤ (entry l j)))) (sym (fa k n)))
             (line_multiple (new ++ after) k (z *ℤ a) (Contains-append_right new after k n))
       ]
     ]
@@ -171,7 +194,8 @@ old_line c l line before after new s fa f k i z =
         ring (v z ⊗ (⊖ (v (dot c (entry k))) ⊗ v (entry k j) ⊕ v (dot c (entry k)) ⊗ ⊖ (⊖ (v (entry k j))))) (v (pos 0)) (omega arith)
 
 -- the new rows are what the step with a line wants
-line_kept : (c l line : List ℤ) (before after new rays flat : List (List ℤ)) → (l ≡ line) ⊎ (l ≡ negated line) → pos 0 <ℤ dot c (entry l) → ((k : List ℤ) → Contains after k → dot c (entry k) ≡ pos 0) → Flats c l before new → Flats c l rays flat →
+line_kept : (c l line : List ℤ) (before after new rays flat : List (List ℤ)) → (l ≡ line) ⊎ (l ≡ negated line) → pos 0 <ℤ dot c (entry l) →
+    ((k : List ℤ) → Contains after k → dot c (entry k) ≡ pos 0) → Flats c l before new → Flats c l rays flat →
     LineTarget c l (all_rows (before ++ line ∷ after) rays) (all_rows (new ++ after) (l ∷ flat))
 line_kept c l line before after new rays flat s p fa f fr =
     let lines = before ++ line ∷ after in
@@ -189,7 +213,8 @@ line_kept c l line before after new rays flat s p fa f fr =
                   let o = flats_to c l rays flat fr r m in
                   generated_same target (λ j. pos o.flat.times *ℤ entry o.image j) (λ j. (a *ℤ entry r j) +ℤ (b *ℤ neg_ℤ (entry l j)))
                   (λ j. o.flat.is j ∙ ring (v a ⊗ v (entry r j) ⊕ ⊖ (v b) ⊗ v (entry l j)) (v a ⊗ v (entry r j) ⊕ v b ⊗ ⊖ (v (entry l j))) (omega arith))
-                  (generated_times target o.flat.times (entry o.image) (generated_row target o.image (contains_tail l o.image (all_rows (new ++ after) flat) (Contains-append_left flat (both_ways (new ++ after)) o.image o.has))))
+                  (generated_times target o.flat.times (entry o.image) (generated_row target o.image
+                  (contains_tail l o.image (all_rows (new ++ after) flat) (Contains-append_left flat (both_ways (new ++ after)) o.image o.has))))
               | inr m ↦
                   let x = signed_from lines r m in
                   let q = x.line in
@@ -199,15 +224,19 @@ line_kept c l line before after new rays flat s p fa f fr =
                         (λ j. ring (v (pos 1) ⊗ (v a ⊗ v (entry q j) ⊕ v (dot c (entry q)) ⊗ ⊖ (v (entry l j)))) (v a ⊗ v (entry q j) ⊕ v (dot c (entry q)) ⊗ ⊖ (v (entry l j))) (omega arith))
                         (on_new (λ j. pos 1 *ℤ ((a *ℤ entry q j) +ℤ (dot c (entry q) *ℤ neg_ℤ (entry l j)))) (old_line c l line before after new s fa f q x.has (pos 1))))
                     | inr e ↦ subst (λ (y : List ℤ). Generated target (λ j. (a *ℤ entry y j) +ℤ (dot c (entry y) *ℤ neg_ℤ (entry l j)))) (sym e)
-                        (generated_same target (λ j. negsuc 0 *ℤ ((a *ℤ entry q j) +ℤ (dot c (entry q) *ℤ neg_ℤ (entry l j)))) (λ j. (a *ℤ entry (negated q) j) +ℤ (dot c (entry (negated q)) *ℤ neg_ℤ (entry l j)))
-                        (λ j. ring (v (negsuc 0) ⊗ (v a ⊗ v (entry q j) ⊕ v (dot c (entry q)) ⊗ ⊖ (v (entry l j)))) (v a ⊗ ⊖ (v (entry q j)) ⊕ ⊖ (v (dot c (entry q))) ⊗ ⊖ (v (entry l j))) (omega arith) ∙
-                        ap (λ y. (a *ℤ y) +ℤ (neg_ℤ (dot c (entry q)) *ℤ neg_ℤ (entry l j))) (sym (entry_negated q j)) ∙ ap (λ y. (a *ℤ entry (negated q) j) +ℤ (y *ℤ neg_ℤ (entry l j))) (sym (dot_negated c q)))
+                        (generated_same target (λ j. negsuc 0 *ℤ ((a *ℤ entry q j) +ℤ (dot c (entry q) *ℤ neg_ℤ (entry l j))))
+                        (λ j. (a *ℤ entry (negated q) j) +ℤ (dot c (entry (negated q)) *ℤ neg_ℤ (entry l j)))
+                        (λ j. ring (v (negsuc 0) ⊗ (v a ⊗ v (entry q j) ⊕ v (dot c (entry q)) ⊗ ⊖ (v (entry l j)))) (v a ⊗ ⊖ (v (entry q j)) ⊕ ⊖ (v (dot c (entry q))) ⊗ ⊖ (v (entry l j)))
+                        (omega arith) ∙
+                        ap (λ y. (a *ℤ y) +ℤ (neg_ℤ (dot c (entry q)) *ℤ neg_ℤ (entry l j))) (sym (entry_negated q j)) ∙
+                        ap (λ y. (a *ℤ entry (negated q) j) +ℤ (y *ℤ neg_ℤ (entry l j))) (sym (dot_negated c q)))
                         (on_new (λ j. negsuc 0 *ℤ ((a *ℤ entry q j) +ℤ (dot c (entry q) *ℤ neg_ℤ (entry l j)))) (old_line c l line before after new s fa f q x.has (negsuc 0))))
                   ]
             ];
       };
       inside = λ t k. (
-        new_inside c l line before after new [] rays [] flat (l ∷ flat) s p f tt fr (λ o m. elim (contains_cases l o flat m) [ inl q ↦ inr (sym q) | inr q ↦ inl q ]) (entry t) (generated_row target t k),
+        new_inside c l line before after new [] rays [] flat (l ∷ flat) s p f tt fr (λ o m. elim (contains_cases l o flat m) [ inl q ↦ inr (sym q) | inr q ↦ inl q ]) (entry t)
+            (generated_row target t k),
         elim (contains_cases l t (all_rows (new ++ after) flat) k) [
           | inl e ↦ subst (λ (y : List ℤ). pos 0 ≤ℤ dot c (entry y)) e (omega (arith, ints, p))
           | inr m ↦ subst (λ z. pos 0 ≤ℤ z) (sym (all_flat c l before after new rays flat f fa fr t m)) (omega (arith, ints))
@@ -215,14 +244,16 @@ line_kept c l line before after new rays flat s p fa f fr =
       );
     }
   where
-    all_flat : (c l : List ℤ) (before after new rays flat : List (List ℤ)) → Flats c l before new → ((k : List ℤ) → Contains after k → dot c (entry k) ≡ pos 0) → Flats c l rays flat → (t : List ℤ) → Contains (all_rows (new ++ after) flat) t → dot c (entry t) ≡ pos 0
+    all_flat : (c l : List ℤ) (before after new rays flat : List (List ℤ)) → Flats c l before new → ((k : List ℤ) → Contains after k → dot c (entry k) ≡ pos 0) → Flats c l rays flat → (t : List ℤ) →
+        Contains (all_rows (new ++ after) flat) t → dot c (entry t) ≡ pos 0
     all_flat c l before after new rays flat f fa fr t i = elim (Contains-append_cases flat (both_ways (new ++ after)) t i) [
       | inl m ↦ let o = flats_from c l rays flat fr t m in flat_dot c l o.row t o.flat
       | inr m ↦ lines_flat_dot c l before after new f fa t m
     ]
 
 -- each new row but l is flat
-all_flat_rows : (c l : List ℤ) (before after new rays flat : List (List ℤ)) → Flats c l before new → ((k : List ℤ) → Contains after k → dot c (entry k) ≡ pos 0) → Flats c l rays flat → (t : List ℤ) → Contains (all_rows (new ++ after) flat) t → dot c (entry t) ≡ pos 0
+all_flat_rows : (c l : List ℤ) (before after new rays flat : List (List ℤ)) → Flats c l before new → ((k : List ℤ) → Contains after k → dot c (entry k) ≡ pos 0) → Flats c l rays flat → (t : List ℤ) →
+    Contains (all_rows (new ++ after) flat) t → dot c (entry t) ≡ pos 0
 all_flat_rows c l before after new rays flat f fa fr t i = elim (Contains-append_cases flat (both_ways (new ++ after)) t i) [
   | inl m ↦ let o = flats_from c l rays flat fr t m in flat_dot c l o.row t o.flat
   | inr m ↦ lines_flat_dot c l before after new f fa t m
@@ -247,7 +278,8 @@ second_step c l rest p h =
   where
     other : (c : List ℤ) (u : ℕ → ℤ) → dot (negated c) u ≡ neg_ℤ (dot c u)
     other [] u = refl
-    other (x ∷ c) u = ap (λ y. (neg_ℤ x *ℤ u 0) +ℤ y) (other c (λ j. u (suc j))) ∙ ring (⊖ (v x) ⊗ v (u 0) ⊕ ⊖ (v (dot c (λ j. u (suc j))))) (⊖ (v x ⊗ v (u 0) ⊕ v (dot c (λ j. u (suc j))))) (omega arith)
+    other (x ∷ c) u = ap (λ y. (neg_ℤ x *ℤ u 0) +ℤ y) (other c (λ j. u (suc j))) ∙ ring (⊖ (v x) ⊗ v (u 0) ⊕ ⊖ (v (dot c (λ j. u (suc j))))) (⊖ (v x ⊗ v (u 0) ⊕ v (dot c (λ j. u (suc j)))))
+        (omega arith)
 
     falls : (z : ℤ) → pos 0 <ℤ z → neg_ℤ z ≤ℤ pos 0
     falls z h = omega (arith, ints, h)
@@ -276,15 +308,19 @@ swap_rows w x y s rows d =
     ]
 
 -- the theorem of the case of a line
-pub line_case_kept : (w : ℕ) (equal : Bool) (c : List ℤ) (lines rays new_lines new_rays : List (List ℤ)) → LineCase equal c lines rays new_lines new_rays → IsCanonical lines rays → IsCanonical new_lines new_rays
+pub line_case_kept : (w : ℕ) (equal : Bool) (c : List ℤ) (lines rays new_lines new_rays : List (List ℤ)) → LineCase equal c lines rays new_lines new_rays → IsCanonical lines rays →
+    IsCanonical new_lines new_rays
 line_case_kept w equal c lines rays new_lines new_rays x k =
     subst (λ (y : List (List ℤ)). IsCanonical new_lines y) (sym x.are_rays)
     (subst (λ (y : List (List ℤ)). IsCanonical y (cond equal x.flat_rays (x.signed ∷ x.flat_rays))) (sym x.are_lines)
-    (canonical_core equal c x.signed x.line x.before x.after x.new_before rays x.flat_rays (subst (λ (y : List (List ℤ)). IsCanonical y rays) x.is_lines k) x.sign x.above x.flat_after x.lines_flat x.rays_flat))
+    (canonical_core equal c x.signed x.line x.before x.after x.new_before rays x.flat_rays
+    (subst (λ (y : List (List ℤ)). IsCanonical y rays) x.is_lines k) x.sign x.above x.flat_after x.lines_flat x.rays_flat))
 
 -- and dual to the system with the row
-pub line_case_dual : (w : ℕ) (equal : Bool) (c : List ℤ) (lines rays new_lines new_rays : List (List ℤ)) → LineCase equal c lines rays new_lines new_rays → length c ≡ w → ((t : List ℤ) → Contains (all_rows lines rays) t → length t ≡ w) →
-    ((t : List ℤ) → Contains (all_rows new_lines new_rays) t → length t ≡ w) → (system : List (List ℤ)) → AreDual w system (all_rows lines rays) → AreDual w (cond equal (c ∷ negated c ∷ system) (c ∷ system)) (all_rows new_lines new_rays)
+pub line_case_dual : (w : ℕ) (equal : Bool) (c : List ℤ) (lines rays new_lines new_rays : List (List ℤ)) → LineCase equal c lines rays new_lines new_rays → length c ≡ w →
+    ((t : List ℤ) → Contains (all_rows lines rays) t → length t ≡ w) →
+    ((t : List ℤ) → Contains (all_rows new_lines new_rays) t → length t ≡ w) → (system : List (List ℤ)) → AreDual w system (all_rows lines rays) →
+    AreDual w (cond equal (c ∷ negated c ∷ system) (c ∷ system)) (all_rows new_lines new_rays)
 line_case_dual w equal c lines rays new_lines new_rays x lc wo wn system d =
     let l = x.signed in
     let new = x.new_before in
@@ -292,10 +328,17 @@ line_case_dual w equal c lines rays new_lines new_rays x lc wo wn system d =
     let d0 = subst (λ (y : List (List ℤ)). AreDual w system (all_rows y rays)) x.is_lines d in
     let kept = line_kept c l x.line x.before x.after new rays x.flat_rays x.sign x.above x.flat_after x.lines_flat x.rays_flat in
     let has : Contains (x.before ++ x.line ∷ x.after) x.line = Contains-append_right x.before (x.line ∷ x.after) x.line (contains_head x.line x.after) in
-    let l_width : length l ≡ w = elim x.sign [ inl e ↦ ap length e ∙ line_width x.line (subst (λ (y : List (List ℤ)). Contains y x.line) (sym x.is_lines) has) | inr e ↦ ap length e ∙ negated_length x.line ∙ line_width x.line (subst (λ (y : List (List ℤ)). Contains y x.line) (sym x.is_lines) has) ] in
-    let flat_widths : (t : List ℤ) → Contains target t → length t ≡ w = λ t k. wn t (subst (λ (y : List (List ℤ)). Contains (all_rows new_lines y) t) (sym x.are_rays) (subst (λ (y : List (List ℤ)). Contains (all_rows y (cond equal x.flat_rays (l ∷ x.flat_rays))) t) (sym x.are_lines) (among equal l (new ++ x.after) x.flat_rays t k))) in
-    let d1 = dual_line_step w c l system (all_rows (x.before ++ x.line ∷ x.after) rays) (l ∷ target) d0 lc (λ t k. elim (contains_cases l t target k) [ inl e ↦ ap length (sym e) ∙ l_width | inr m ↦ flat_widths t m ]) kept in
-    let d2 = dual_step w (negated c) (c ∷ system) (l ∷ target) target d1 (negated_length c ∙ lc) flat_widths (second_step c l target x.above (all_flat_rows c l x.before x.after new rays x.flat_rays x.lines_flat x.flat_after x.rays_flat)) in
+    let l_width : length l ≡ w = elim x.sign [
+      | inl e ↦ ap length e ∙ line_width x.line (subst (λ (y : List (List ℤ)). Contains y x.line) (sym x.is_lines) has)
+      | inr e ↦ ap length e ∙
+          negated_length x.line ∙ line_width x.line (subst (λ (y : List (List ℤ)). Contains y x.line) (sym x.is_lines) has)
+    ] in
+    let flat_widths : (t : List ℤ) → Contains target t → length t ≡ w = λ t k. wn t (subst (λ (y : List (List ℤ)). Contains (all_rows new_lines y) t) (sym x.are_rays)
+    (subst (λ (y : List (List ℤ)). Contains (all_rows y (cond equal x.flat_rays (l ∷ x.flat_rays))) t) (sym x.are_lines) (among equal l (new ++ x.after) x.flat_rays t k))) in
+    let d1 = dual_line_step w c l system (all_rows (x.before ++ x.line ∷ x.after) rays) (l ∷ target) d0 lc
+    (λ t k. elim (contains_cases l t target k) [ inl e ↦ ap length (sym e) ∙ l_width | inr m ↦ flat_widths t m ]) kept in
+    let d2 = dual_step w (negated c) (c ∷ system) (l ∷ target) target d1 (negated_length c ∙ lc) flat_widths
+    (second_step c l target x.above (all_flat_rows c l x.before x.after new rays x.flat_rays x.lines_flat x.flat_after x.rays_flat)) in
     subst (λ (y : List (List ℤ)). AreDual w (cond equal (c ∷ negated c ∷ system) (c ∷ system)) (all_rows new_lines y)) (sym x.are_rays)
     (subst (λ (y : List (List ℤ)). AreDual w (cond equal (c ∷ negated c ∷ system) (c ∷ system)) (all_rows y (cond equal x.flat_rays (l ∷ x.flat_rays)))) (sym x.are_lines)
     (choose equal l (new ++ x.after) x.flat_rays d1 (swap_rows w (negated c) c system target d2)))
@@ -305,12 +348,17 @@ line_case_dual w equal c lines rays new_lines new_rays x lc wo wn system d =
       where
         in_both : (rows : List (List ℤ)) (k : List ℤ) → Contains rows k → Contains (both_ways rows) k
         in_both [] k m = absurd (omega (arith, m.1))
-        in_both (x ∷ rows) k m = elim (contains_cases x k rows m) [ inl e ↦ subst (Contains (both_ways (x ∷ rows))) e (contains_head x (negated x ∷ both_ways rows)) | inr n ↦ contains_tail x k (negated x ∷ both_ways rows) (contains_tail (negated x) k (both_ways rows) (in_both rows k n)) ]
+        in_both (x ∷ rows) k m = elim (contains_cases x k rows m) [
+          | inl e ↦ subst (Contains (both_ways (x ∷ rows))) e (contains_head x (negated x ∷ both_ways rows))
+          | inr n ↦ contains_tail x k
+              (negated x ∷ both_ways rows) (contains_tail (negated x) k (both_ways rows) (in_both rows k n))
+        ]
 
     among : (b : Bool) (l : List ℤ) (new flat : List (List ℤ)) (t : List ℤ) → Contains (all_rows new flat) t → Contains (all_rows new (cond b flat (l ∷ flat))) t
     among true l new flat t k = k
     among false l new flat t k = contains_tail l t (all_rows new flat) k
 
-    choose : (b : Bool) (l : List ℤ) (new flat : List (List ℤ)) → AreDual w (c ∷ system) (l ∷ all_rows new flat) → AreDual w (c ∷ negated c ∷ system) (all_rows new flat) → AreDual w (cond b (c ∷ negated c ∷ system) (c ∷ system)) (all_rows new (cond b flat (l ∷ flat)))
+    choose : (b : Bool) (l : List ℤ) (new flat : List (List ℤ)) → AreDual w (c ∷ system) (l ∷ all_rows new flat) → AreDual w (c ∷ negated c ∷ system) (all_rows new flat) →
+        AreDual w (cond b (c ∷ negated c ∷ system) (c ∷ system)) (all_rows new (cond b flat (l ∷ flat)))
     choose true l new flat x y = y
     choose false l new flat x y = x

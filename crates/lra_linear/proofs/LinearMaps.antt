@@ -17,7 +17,8 @@ abbrev pub bent : List ℤ → ℤ → (ℕ → ℤ) → (ℕ → ℤ) → ℕ �
 bent c a w u j = (a *ℤ u j) +ℤ (dot c u *ℤ w j)
 
 -- for a sum of rows
-bent_sum : (c : List ℤ) (a : ℤ) (w : ℕ → ℤ) (rows target : List (List ℤ)) → ((r : List ℤ) → Contains rows r → Generated target (bent c a w (entry r))) → (fs : List ℕ) → Generated target (bent c a w (sum_of fs rows))
+bent_sum : (c : List ℤ) (a : ℤ) (w : ℕ → ℤ) (rows target : List (List ℤ)) → ((r : List ℤ) → Contains rows r → Generated target (bent c a w (entry r))) → (fs : List ℕ) →
+    Generated target (bent c a w (sum_of fs rows))
 bent_sum c a w rows target h [] = generated_same target (λ j. pos 0) (bent c a w (λ j. pos 0))
     (λ j. ring (v (pos 0)) (v a ⊗ v (pos 0) ⊕ v (pos 0) ⊗ v (w j)) (omega arith) ∙ ap (λ d. (a *ℤ pos 0) +ℤ (d *ℤ w j)) (sym (dot_zero c))) (generated_zero target)
 bent_sum c a w [] target h (f ∷ fs) = generated_same target (λ j. pos 0) (bent c a w (λ j. pos 0))
@@ -38,7 +39,8 @@ bent_sum c a w (r ∷ rows) target h (f ∷ fs) =
     (generated_plus target (λ j. pos f *ℤ bent c a w x j) (bent c a w s) one rest)
 
 -- for each vector that the rows generate
-pub generated_bent : (c : List ℤ) (a : ℤ) (w : ℕ → ℤ) (rows target : List (List ℤ)) (u : ℕ → ℤ) → ((r : List ℤ) → Contains rows r → Generated target (bent c a w (entry r))) → Generated rows u → Generated target (bent c a w u)
+pub generated_bent : (c : List ℤ) (a : ℤ) (w : ℕ → ℤ) (rows target : List (List ℤ)) (u : ℕ → ℤ) → ((r : List ℤ) → Contains rows r → Generated target (bent c a w (entry r))) → Generated rows u →
+    Generated target (bent c a w u)
 generated_bent c a w rows target u h g =
     generated_divided target g.multiple (bent c a w u) g.positive
     (generated_same target (bent c a w (sum_of g.factors rows)) (λ j. pos g.multiple *ℤ bent c a w u j)
@@ -68,7 +70,11 @@ generated_left rows more u g = generated_through (rows ++ more) rows u (λ t k. 
   where
     contains_left : (xs ys : List (List ℤ)) (t : List ℤ) → Contains xs t → Contains (xs ++ ys) t
     contains_left [] ys t k = absurd (omega (arith, k.1))
-    contains_left (x ∷ xs) ys t k = elim (contains_cases x t xs k) [ inl e ↦ subst (Contains (x ∷ xs ++ ys)) e (contains_head x (xs ++ ys)) | inr d ↦ contains_tail x t (xs ++ ys) (contains_left xs ys t d) ]
+    contains_left (x ∷ xs) ys t k = elim (contains_cases x t xs k) [
+      | inl e ↦ subst (Contains (x ∷ xs ++ ys)) e (contains_head x (xs ++ ys))
+      | inr d ↦ contains_tail x t (xs ++ ys)
+          (contains_left xs ys t d)
+    ]
 
 -- and so do longer lists
 pub generated_right : (rows more : List (List ℤ)) (u : ℕ → ℤ) → Generated more u → Generated (rows ++ more) u

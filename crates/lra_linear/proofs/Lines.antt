@@ -16,7 +16,8 @@ line_times l rows (pos n) = generated_times (l ∷ negated l ∷ rows) n (entry 
 line_times l rows (negsuc n) =
     generated_same (l ∷ negated l ∷ rows) (λ j. pos (suc n) *ℤ entry (negated l) j) (λ j. negsuc n *ℤ entry l j)
     (λ j. ap (λ z. pos (suc n) *ℤ z) (entry_negated l j) ∙ ring (v (pos (suc n)) ⊗ ⊖ (v (entry l j))) (v (negsuc n) ⊗ v (entry l j)) (omega arith))
-    (generated_times (l ∷ negated l ∷ rows) (suc n) (entry (negated l)) (generated_row (l ∷ negated l ∷ rows) (negated l) (contains_tail l (negated l) (negated l ∷ rows) (contains_head (negated l) rows))))
+    (generated_times (l ∷ negated l ∷ rows) (suc n) (entry (negated l)) (generated_row (l ∷ negated l ∷ rows) (negated l)
+    (contains_tail l (negated l) (negated l ∷ rows) (contains_head (negated l) rows))))
 
 -- each signed sum of lines
 pub lines_generated : (lines : List (List ℤ)) (zs : List ℤ) → Generated (both_ways lines) (signed_sum zs lines)
@@ -89,7 +90,11 @@ described_generated lines rays u g =
 -- ---- rows of lines in both directions
 pub in_lines : (lines : List (List ℤ)) (t : List ℤ) → Contains lines t → Contains (both_ways lines) t
 in_lines [] t k = absurd (omega (arith, k.1))
-in_lines (x ∷ lines) t k = elim (contains_cases x t lines k) [ inl e ↦ subst (Contains (both_ways (x ∷ lines))) e (contains_head x (negated x ∷ both_ways lines)) | inr n ↦ contains_tail x t (negated x ∷ both_ways lines) (contains_tail (negated x) t (both_ways lines) (in_lines lines t n)) ]
+in_lines (x ∷ lines) t k = elim (contains_cases x t lines k) [
+  | inl e ↦ subst (Contains (both_ways (x ∷ lines))) e (contains_head x (negated x ∷ both_ways lines))
+  | inr n ↦ contains_tail x t
+      (negated x ∷ both_ways lines) (contains_tail (negated x) t (both_ways lines) (in_lines lines t n))
+]
 
 -- both directions are there
 pub in_lines_negated : (lines : List (List ℤ)) (t : List ℤ) → Contains lines t → Contains (both_ways lines) (negated t)

@@ -107,7 +107,16 @@ quotients_length g (x ∷ xs) = ap suc (quotients_length g xs)
 
 -- divided by the greatest divisor, a row is in lowest terms
 by_divisor : (r : List ℤ) (g : ℕ) → ((j : ℕ) → g ∣ unsigned_abs (entry r j)) → ((m d : ℕ) → ((j : ℕ) → d ∣ (m * unsigned_abs (entry r j))) → d ∣ (m * g)) → (t : List ℤ) × IsLowest r t
-by_divisor r zero divides scaled = (r, record { same_length = refl; times = 1; positive = omega arith; is_multiple = λ j. ring (v (pos 1) ⊗ v (entry r j)) (v (entry r j)) (omega arith); lowest = inr (λ j. nothing (entry r j) (divides j)) })
+by_divisor r zero divides scaled = (
+  r,
+  record {
+    same_length = refl;
+    times = 1;
+    positive = omega arith;
+    is_multiple = λ j. ring (v (pos 1) ⊗ v (entry r j)) (v (entry r j)) (omega arith);
+    lowest = inr (λ j. nothing (entry r j) (divides j));
+  },
+)
   where
     nothing : (z : ℤ) → 0 ∣ unsigned_abs z → z ≡ pos 0
     nothing z d = let e = mul-div_cancel' 0 d in omega (arith, ints, e)
@@ -118,7 +127,8 @@ by_divisor r (suc g) divides scaled = (
     times = suc g;
     positive = omega arith;
     is_multiple = quotients_are (suc g) r divides;
-    lowest = inl (λ d h. dvd_antisymm (dvd_of_mul-dvd-mul_right {k = suc g} d (omega arith) (scaled 1 (d * suc g) (λ j. subst (λ (n : ℕ). (d * suc g) ∣ n) (size r g divides j) (mul-dvd-mul_right d (h j) (suc g))))) (one-dvd d));
+    lowest = inl (λ d h. dvd_antisymm (dvd_of_mul-dvd-mul_right {k = suc g} d (omega arith)
+        (scaled 1 (d * suc g) (λ j. subst (λ (n : ℕ). (d * suc g) ∣ n) (size r g divides j) (mul-dvd-mul_right d (h j) (suc g))))) (one-dvd d));
   },
 )
   where

@@ -115,7 +115,8 @@ pub filter_from : {A : Type 0} (test : A → Bool) (xs : List A) (x : A) → Con
 filter_from test [] x k = absurd (contains_none x k)
 filter_from test (y ∷ xs) x k = by_test (test y) refl k (λ d. filter_from test xs x d)
   where
-    by_test : (b : Bool) → test y ≡ b → Contains (cond b (y ∷ filter test xs) (filter test xs)) x → (Contains (filter test xs) x → Contains xs x × (test x ≡ true)) → Contains (y ∷ xs) x × (test x ≡ true)
+    by_test : (b : Bool) → test y ≡ b → Contains (cond b (y ∷ filter test xs) (filter test xs)) x → (Contains (filter test xs) x → Contains xs x × (test x ≡ true)) → Contains (y ∷ xs) x ×
+        (test x ≡ true)
     by_test true e k rest = elim (contains_cases y x (filter test xs) k) [
       | inl s ↦ (subst (Contains (y ∷ xs)) s (contains_head y xs), ap test (sym s) ∙ e)
       | inr d ↦ let i = rest d in (contains_tail y x xs i.0, i.1)

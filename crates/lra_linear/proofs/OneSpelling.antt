@@ -1,7 +1,8 @@
 -- One spelling: the canonical lists of a polyhedron are those of each polyhedron with the same points, whatever made them. Where
 -- there is a point p, a ray r is a direction in which p + k r stays in the set for each k, so the points alone determine the cone of
 -- points and rays, and its canonical descriptions are unique.
-use Rattle.std.proofs.Common.{Bool, List, [], ap, arith, false, inl, inr, length, neg_ℤ, negsuc, pos, refl, subst, suc, sym, true, zero, ℕ, ℤ, ◌*ℤ◌, ◌*◌, ◌++◌, ◌+ℤ◌, ◌<ℤ◌, ◌<◌, ◌∙◌, ◌∷◌, ◌≡◌, ◌≢◌, ◌≤ℤ◌, ◌⊎◌}
+use Rattle.std.proofs.Common.{Bool, List, [], ap, arith, false, inl, inr, length, neg_ℤ, negsuc, pos, refl, subst, suc, sym, true, zero, ℕ, ℤ, ◌*ℤ◌, ◌*◌, ◌++◌, ◌+ℤ◌, ◌<ℤ◌, ◌<◌, ◌∙◌, ◌∷◌, ◌≡◌, ◌≢◌}
+use Rattle.std.proofs.Common.{◌≤ℤ◌, ◌⊎◌}
 use Rattle.std.proofs.lemmas.Int.{ints}
 use Rattle.std.proofs.lemmas.List.Elements.{Contains-append_cases, Contains-append_left, Contains-append_right}
 use Rattle.std.specs.List.{Contains}
@@ -97,7 +98,8 @@ direction_solves n system rows other d points b t kb h kt z c i =
     far (product c b) (product c t)
     (λ k. subst (λ y. pos 0 ≤ℤ y) (gone_product c b t k same) (points (gone b t k)
     (record { width = blend_length (pos 1) (pos k) b t same ∙ d.row_widths b kb; divisor = subst (λ y. pos 0 <ℤ y) (sym (gone_divisor b t k same z)) h })
-    (λ s m. subst (λ y. pos 0 ≤ℤ y) (sym (gone_product s b t k same)) (add_nonnegative (product s b) (pos k *ℤ product s t) (d.meets b kb s m) (mul_nonnegative (pos k) (product s t) (omega (arith, ints)) (d.meets t kt s m))))
+    (λ s m. subst (λ y. pos 0 ≤ℤ y) (sym (gone_product s b t k same)) (add_nonnegative (product s b) (pos k *ℤ product s t) (d.meets b kb s m)
+    (mul_nonnegative (pos k) (product s t) (omega (arith, ints)) (d.meets t kt s m))))
     c i))
   where
     same : length b ≡ length t
@@ -118,7 +120,8 @@ dual_same_cone w system rows other d widths there back = record {
   system_widths = d.system_widths;
   row_widths = widths;
   solutions = λ u l s. generated_through other rows (entry u) there (d.solutions u l s);
-  consequences = λ c l s. d.consequences c l (λ t k. subst (λ y. pos 0 ≤ℤ y) (product_comm c t) (generated_nonneg c other (entry t) (λ o m. subst (λ y. pos 0 ≤ℤ y) (product_comm o c) (s o m)) (there t k)));
+  consequences = λ c l s. d.consequences c l (λ t k. subst (λ y. pos 0 ≤ℤ y) (product_comm c t)
+      (generated_nonneg c other (entry t) (λ o m. subst (λ y. pos 0 ≤ℤ y) (product_comm o c) (s o m)) (there t k)));
   meets = λ r k c m. generated_nonneg c rows (entry r) (λ t i. d.meets t i c m) (back r k);
 }
 
@@ -143,12 +146,14 @@ cone_solved p h x is_point c r k = elim (Contains-append_cases h.facets (both_wa
   | inl f ↦ elim (h.all_shown r f) [
     | inl e ↦ subst (λ y. pos 0 ≤ℤ product y x) (sym e) (positive (entry x 0) (product (positivity p.dims) x) (positivity_product p.dims x) is_point.divisor)
     | inr i ↦ c (record { row = r; equal = false })
-        (subst (λ l. Contains l (record { row = r; equal = false })) (sym h.rows_are) (Contains-append_right (given_as true h.equalities) (given_as false h.inequalities) (record { row = r; equal = false }) (given_has false h.inequalities r i)))
+        (subst (λ l. Contains l (record { row = r; equal = false })) (sym h.rows_are) (Contains-append_right (given_as true h.equalities) (given_as false h.inequalities)
+        (record { row = r; equal = false }) (given_has false h.inequalities r i)))
   ]
   | inr b ↦
       let s = signed_from h.equalities r b in
       let e : product s.line x ≡ pos 0 = c (record { row = s.line; equal = true })
-      (subst (λ l. Contains l (record { row = s.line; equal = true })) (sym h.rows_are) (Contains-append_left (given_as true h.equalities) (given_as false h.inequalities) (record { row = s.line; equal = true }) (given_has true h.equalities s.line s.has))) in
+      (subst (λ l. Contains l (record { row = s.line; equal = true })) (sym h.rows_are) (Contains-append_left (given_as true h.equalities) (given_as false h.inequalities)
+      (record { row = s.line; equal = true }) (given_has true h.equalities s.line s.has))) in
       elim s.sign [
         | inl q ↦ subst (λ y. pos 0 ≤ℤ product y x) (sym q) (zero_at_least (product s.line x) e)
         | inr q ↦ subst (λ y. pos 0 ≤ℤ product y x) (sym q) (opposite_of_zero (product s.line x) (dot (negated s.line) (entry x)) (negated_dot s.line (entry x)) e)
@@ -206,13 +211,17 @@ with_points p q h k e same =
     let bq = some_member k.points k.some_point in
     let in_gp : Contains gp bp.0 = Contains-append_left (h.points ++ h.rays) (both_ways h.lines) bp.0 (Contains-append_left h.points h.rays bp.0 bp.1) in
     let in_gq : Contains gq bq.0 = Contains-append_left (k.points ++ k.rays) (both_ways k.lines) bq.0 (Contains-append_left k.points k.rays bq.0 bq.1) in
-    let to_q : (t : List ℤ) → Contains gp t → Generated gq (entry t) = λ t i. dq.solutions t (h.dual.row_widths t i) (rows_solve p.dims sp gp sq h.dual there bp.0 in_gp (h.divisors bp.0 bp.1) (columns_of p h) t i) in
-    let to_p : (t : List ℤ) → Contains gq t → Generated gp (entry t) = λ t i. h.dual.solutions t (dq.row_widths t i) (rows_solve p.dims sq gq sp dq back bq.0 in_gq (k.divisors bq.0 bq.1) (columns_of q k) t i) in
+    let to_q : (t : List ℤ) → Contains gp t → Generated gq (entry t) = λ t i. dq.solutions t (h.dual.row_widths t i)
+    (rows_solve p.dims sp gp sq h.dual there bp.0 in_gp (h.divisors bp.0 bp.1) (columns_of p h) t i) in
+    let to_p : (t : List ℤ) → Contains gq t → Generated gp (entry t) = λ t i. h.dual.solutions t (dq.row_widths t i)
+    (rows_solve p.dims sq gq sp dq back bq.0 in_gq (k.divisors bq.0 bq.1) (columns_of q k) t i) in
     let d : AreDual (suc p.dims) sp gq = dual_same_cone (suc p.dims) sp gp gq h.dual dq.row_widths to_q to_p in
     let g = one_spelling (suc p.dims) sp h.lines (h.points ++ h.rays) k.lines (k.points ++ k.rays) h.dual d h.generators_canonical k.generators_canonical in
-    let c = one_spelling (suc p.dims) gq h.equalities h.facets k.equalities k.facets (dual_flipped (suc p.dims) sp gq d) (dual_flipped (suc p.dims) sq gq dq) h.constraints_canonical k.constraints_canonical in
+    let c = one_spelling (suc p.dims) gq h.equalities h.facets k.equalities k.facets (dual_flipped (suc p.dims) sp gq d)
+    (dual_flipped (suc p.dims) sq gq dq) h.constraints_canonical k.constraints_canonical in
     let positive : positivity q.dims ≡ positivity p.dims = ap positivity e in
-    let inequalities : h.inequalities ≡ k.inequalities = same_ascending inequality_cmp (never_both inequality_cmp inequality_cmp_total) h.inequalities k.inequalities h.inequalities_ascend k.inequalities_ascend (λ r. (
+    let inequalities : h.inequalities ≡ k.inequalities = same_ascending inequality_cmp (never_both inequality_cmp inequality_cmp_total) h.inequalities k.inequalities h.inequalities_ascend
+    k.inequalities_ascend (λ r. (
       λ i. elim (k.all_shown r ((c.1 r).0 (h.shown r i).0)) [ inl x ↦ absurd ((h.shown r i).1 (x ∙ positive)) | inr x ↦ x ],
       λ i. elim (h.all_shown r ((c.1 r).1 (k.shown r i).0)) [ inl x ↦ absurd ((k.shown r i).1 (x ∙ sym positive)) | inr x ↦ x ],
     )) in
@@ -238,7 +247,8 @@ one_sided p q none h e within =
     let i = Contains-append_left (h.points ++ h.rays) (both_ways h.lines) b.0 (Contains-append_left h.points h.rays b.0 b.1) in
     let is_point : IsPoint p.dims b.0 = record { width = h.dual.row_widths b.0 i ∙ ap suc e; divisor = h.divisors b.0 b.1 } in
     let holds = within b.0 is_point (rows_hold q h b.0 (h.dual.meets b.0 i)) in
-    falsity_never p.dims b.0 is_point (holds (record { row = falsity p.dims; equal = false }) (subst (λ l. Contains l (record { row = falsity p.dims; equal = false })) (sym none.0) (contains_head (let g : Given = record { row = falsity p.dims; equal = false } in g) [])))
+    falsity_never p.dims b.0 is_point (holds (record { row = falsity p.dims; equal = false })
+    (subst (λ l. Contains l (record { row = falsity p.dims; equal = false })) (sym none.0) (contains_head (let g : Given = record { row = falsity p.dims; equal = false } in g) [])))
 
 -- polyhedra with the same points have equal lists of constraints and of generators
 pub same_points_same_lists : (p q : Polyhedron) → IsPolyhedron p → IsPolyhedron q → q.dims ≡ p.dims → SameSet p.dims (Con p.rows) (Con q.rows) → p ≡ q

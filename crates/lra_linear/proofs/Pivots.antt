@@ -64,7 +64,8 @@ echelon_apart (x ∷ front) r back (p ∷ ps) e t k = elim (contains_cases x t (
 ]
 
 -- by index
-pub echelon_apart_at : (form : List (List ℤ)) (ps : List ℕ) → IsEchelon form ps → (i k : ℕ) → i < length form → k < length form → i ≢ k → entry (slice_index_or form i []) (pivot (slice_index_or form k [])) ≡ pos 0
+pub echelon_apart_at : (form : List (List ℤ)) (ps : List ℕ) → IsEchelon form ps → (i k : ℕ) → i < length form → k < length form → i ≢ k →
+    entry (slice_index_or form i []) (pivot (slice_index_or form k [])) ≡ pos 0
 echelon_apart_at [] ps e i k h l n = absurd (omega (arith, h))
 echelon_apart_at (x ∷ form) [] e i k h l n = absurd e
 echelon_apart_at (x ∷ form) (p ∷ ps) e zero zero h l n = absurd (n refl)

@@ -58,13 +58,15 @@ append_none (x ∷ xs) = ap (λ l. x ∷ l) (append_none xs)
 pub generators_lines : (p : Polyhedron) (h : HasPoint p) → lines_of p.generators ≡ h.lines
 generators_lines p h =
     ap lines_of h.generators_are ∙ lines_of_append (given_as false h.points ++ given_as false h.rays) (given_as true h.lines) ∙
-    ap (λ l. l ++ lines_of (given_as true h.lines)) (lines_of_append (given_as false h.points) (given_as false h.rays) ∙ ap (λ l. l ++ lines_of (given_as false h.rays)) (lines_of_rays h.points) ∙ lines_of_rays h.rays) ∙
+    ap (λ l. l ++ lines_of (given_as true h.lines)) (lines_of_append (given_as false h.points) (given_as false h.rays) ∙ ap (λ l. l ++ lines_of (given_as false h.rays)) (lines_of_rays h.points) ∙
+    lines_of_rays h.rays) ∙
     lines_of_lines h.lines
 
 pub generators_rays : (p : Polyhedron) (h : HasPoint p) → rays_of p.generators ≡ h.points ++ h.rays
 generators_rays p h =
     ap rays_of h.generators_are ∙ rays_of_append (given_as false h.points ++ given_as false h.rays) (given_as true h.lines) ∙
-    ap (λ l. l ++ rays_of (given_as true h.lines)) (rays_of_append (given_as false h.points) (given_as false h.rays) ∙ ap (λ l. l ++ rays_of (given_as false h.rays)) (rays_of_rays h.points) ∙ ap (λ l. h.points ++ l) (rays_of_rays h.rays)) ∙
+    ap (λ l. l ++ rays_of (given_as true h.lines)) (rays_of_append (given_as false h.points) (given_as false h.rays) ∙ ap (λ l. l ++ rays_of (given_as false h.rays)) (rays_of_rays h.points) ∙
+    ap (λ l. h.points ++ l) (rays_of_rays h.rays)) ∙
     ap (λ l. (h.points ++ h.rays) ++ l) (rays_of_lines h.lines) ∙ append_none (h.points ++ h.rays)
 
 -- ---- constraints and generators
@@ -93,7 +95,8 @@ gen_none n x p g = not_both (entry x 0) p.divisor (no_product g.multiple (entry 
 pub con_gen : (p : Polyhedron) → IsPolyhedron p → SameSet p.dims (Con p.rows) (Gen p.generators)
 con_gen p (inl none) = (
   λ x is_point c. absurd (falsity_never p.dims x is_point
-      (c (record { row = falsity p.dims; equal = false }) (subst (λ l. Contains l (record { row = falsity p.dims; equal = false })) (sym none.0) (contains_head (let g : Given = record { row = falsity p.dims; equal = false } in g) [])))),
+      (c (record { row = falsity p.dims; equal = false }) (subst (λ l. Contains l (record { row = falsity p.dims; equal = false })) (sym none.0)
+      (contains_head (let g : Given = record { row = falsity p.dims; equal = false } in g) [])))),
   λ x is_point g. absurd (gen_none p.dims x is_point (subst (λ l. Gen l x) none.1 g)),
 )
 con_gen p (inr h) = (

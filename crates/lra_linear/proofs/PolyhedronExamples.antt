@@ -20,7 +20,8 @@ pub product_three : (c x : List ℤ) → length c ≡ 3 → product c x ≡ (ent
 product_three [] x e = absurd (omega (arith, e))
 product_three (a ∷ []) x e = absurd (omega (arith, e))
 product_three (a ∷ b ∷ []) x e = absurd (omega (arith, e))
-product_three (a ∷ b ∷ d ∷ []) x e = ring (v a ⊗ v (entry x 0) ⊕ (v b ⊗ v (entry x 1) ⊕ (v d ⊗ v (entry x 2) ⊕ v (pos 0)))) (v a ⊗ v (entry x 0) ⊕ (v b ⊗ v (entry x 1) ⊕ v d ⊗ v (entry x 2))) (omega arith)
+product_three (a ∷ b ∷ d ∷ []) x e = ring (v a ⊗ v (entry x 0) ⊕ (v b ⊗ v (entry x 1) ⊕ (v d ⊗ v (entry x 2) ⊕ v (pos 0)))) (v a ⊗ v (entry x 0) ⊕ (v b ⊗ v (entry x 1) ⊕ v d ⊗ v (entry x 2)))
+    (omega arith)
 product_three (a ∷ b ∷ d ∷ f ∷ more) x e = absurd (omega (arith, e))
 
 -- ---- the hull of the point (0, 1) and the line x2 = 0 is the strip of all points with x2 from 0 to 1
@@ -71,18 +72,22 @@ hull_is_strip = (
       (con_none x)),
   λ x p c d l valid.
       let at : (t : ℤ) → pos 0 ≤ℤ (entry d 0 +ℤ (t *ℤ entry d 1)) = λ t.
-      subst (λ z. pos 0 ≤ℤ z) (product_three d (pos 1 ∷ t ∷ pos 0 ∷ []) l ∙ ring (v (entry d 0) ⊗ v (pos 1) ⊕ (v (entry d 1) ⊗ v t ⊕ v (entry d 2) ⊗ v (pos 0))) (v (entry d 0) ⊕ v t ⊗ v (entry d 1)) (omega arith))
+      subst (λ z. pos 0 ≤ℤ z) (product_three d (pos 1 ∷ t ∷ pos 0 ∷ []) l ∙ ring (v (entry d 0) ⊗ v (pos 1) ⊕ (v (entry d 1) ⊗ v t ⊕ v (entry d 2) ⊗ v (pos 0))) (v (entry d 0) ⊕ v t ⊗ v (entry d 1))
+      (omega arith))
       (valid (pos 1 ∷ t ∷ pos 0 ∷ []) (record { width = refl; divisor = omega (arith, ints) }) (inr (below_is t))) in
       let flat : entry d 1 ≡ pos 0 = level (entry d 0) (entry d 1) at in
       let low : pos 0 ≤ℤ entry d 0 = let z = at (pos 0) in omega (arith, ints, z) in
       let high : pos 0 ≤ℤ (entry d 0 +ℤ entry d 2) =
-      subst (λ z. pos 0 ≤ℤ z) (product_three d (pos 1 ∷ pos 0 ∷ pos 1 ∷ []) l ∙ ring (v (entry d 0) ⊗ v (pos 1) ⊕ (v (entry d 1) ⊗ v (pos 0) ⊕ v (entry d 2) ⊗ v (pos 1))) (v (entry d 0) ⊕ v (entry d 2)) (omega arith))
+      subst (λ z. pos 0 ≤ℤ z) (product_three d (pos 1 ∷ pos 0 ∷ pos 1 ∷ []) l ∙ ring (v (entry d 0) ⊗ v (pos 1) ⊕ (v (entry d 1) ⊗ v (pos 0) ⊕ v (entry d 2) ⊗ v (pos 1)))
+      (v (entry d 0) ⊕ v (entry d 2)) (omega arith))
       (valid (pos 1 ∷ pos 0 ∷ pos 1 ∷ []) (record { width = refl; divisor = omega (arith, ints) }) (inl above_is)) in
       let up : pos 0 ≤ℤ entry x 2 = let z = con_head (inequality (pos 0 ∷ pos 0 ∷ pos 1 ∷ [])) (inequality (pos 1 ∷ pos 0 ∷ negsuc 0 ∷ []) ∷ []) x c in omega (arith, ints, z) in
       let under : pos 0 ≤ℤ (entry x 0 +ℤ neg_ℤ (entry x 2)) =
-      let z = con_head (inequality (pos 1 ∷ pos 0 ∷ negsuc 0 ∷ [])) [] x (con_tail (inequality (pos 0 ∷ pos 0 ∷ pos 1 ∷ [])) (inequality (pos 1 ∷ pos 0 ∷ negsuc 0 ∷ []) ∷ []) x c) in omega (arith, ints, z) in
+      let z = con_head (inequality (pos 1 ∷ pos 0 ∷ negsuc 0 ∷ [])) [] x (con_tail (inequality (pos 0 ∷ pos 0 ∷ pos 1 ∷ [])) (inequality (pos 1 ∷ pos 0 ∷ negsuc 0 ∷ []) ∷ []) x c) in omega
+      (arith, ints, z) in
       subst (λ z. pos 0 ≤ℤ z)
-      (ring (v (entry d 0) ⊗ (v (entry x 0) ⊕ ⊖ (v (entry x 2))) ⊕ (v (entry d 0) ⊕ v (entry d 2)) ⊗ v (entry x 2)) (v (entry d 0) ⊗ v (entry x 0) ⊕ (v (pos 0) ⊗ v (entry x 1) ⊕ v (entry d 2) ⊗ v (entry x 2))) (omega arith) ∙
+      (ring (v (entry d 0) ⊗ (v (entry x 0) ⊕ ⊖ (v (entry x 2))) ⊕ (v (entry d 0) ⊕ v (entry d 2)) ⊗ v (entry x 2))
+      (v (entry d 0) ⊗ v (entry x 0) ⊕ (v (pos 0) ⊗ v (entry x 1) ⊕ v (entry d 2) ⊗ v (entry x 2))) (omega arith) ∙
       ap (λ y. (entry d 0 *ℤ entry x 0) +ℤ ((y *ℤ entry x 1) +ℤ (entry d 2 *ℤ entry x 2))) (sym flat) ∙ sym (product_three d x l))
       (add_nonnegative (entry d 0 *ℤ (entry x 0 +ℤ neg_ℤ (entry x 2))) ((entry d 0 +ℤ entry d 2) *ℤ entry x 2)
       (mul_nonnegative (entry d 0) (entry x 0 +ℤ neg_ℤ (entry x 2)) low under) (mul_nonnegative (entry d 0 +ℤ entry d 2) (entry x 2) high up)),

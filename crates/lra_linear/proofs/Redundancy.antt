@@ -52,20 +52,25 @@ drop_keeps w system lines front r back d pointed t k tight =
     let p = parts_of lines front r back (entry y) g in
     let m = p.multiple in
     let s : ℕ → ℤ = λ j. sum_of p.factors (front ++ back) j +ℤ p.line j in
-    let gs : Generated rest s = generated_plus rest (sum_of p.factors (front ++ back)) p.line (generated_left (front ++ back) (both_ways lines) (sum_of p.factors (front ++ back)) (sum_generated (front ++ back) p.factors)) (generated_right (front ++ back) (both_ways lines) p.line p.on_line) in
+    let gs : Generated rest s = generated_plus rest (sum_of p.factors (front ++ back)) p.line
+    (generated_left (front ++ back) (both_ways lines) (sum_of p.factors (front ++ back)) (sum_generated (front ++ back) p.factors))
+    (generated_right (front ++ back) (both_ways lines) p.line p.on_line) in
     let whole : (j : ℕ) → pos m *ℤ ((pos n *ℤ entry r j) +ℤ (negsuc 0 *ℤ entry t j)) ≡ (pos p.own *ℤ entry r j) +ℤ s j = λ j. ap (λ z. pos m *ℤ z) (sym (ye j)) ∙ p.whole j in
     elim (compare_two (m * n) p.own) [
       | inl e ↦
           generated_divided rest e.0 (entry r) e.2
-          (generated_same rest (λ j. (pos m *ℤ entry t j) +ℤ s j) (λ j. pos e.0 *ℤ entry r j) (λ j. more_left (pos m) (pos n) (pos p.own) (pos e.0) (entry r j) (entry t j) (s j) (whole j) (ap pos e.1))
+          (generated_same rest (λ j. (pos m *ℤ entry t j) +ℤ s j) (λ j. pos e.0 *ℤ entry r j)
+          (λ j. more_left (pos m) (pos n) (pos p.own) (pos e.0) (entry r j) (entry t j) (s j) (whole j) (ap pos e.1))
           (generated_plus rest (λ j. pos m *ℤ entry t j) s (generated_times rest m (entry t) (generated_left (front ++ back) (both_ways lines) (entry t) (generated_row (front ++ back) t k))) gs))
       | inr e ↦
-          let wide : (u : ℕ → ℤ) → Generated rest u → Generated all u = λ u h. generated_through all rest u (λ q i. generated_row all q (elim (Contains-append_cases (front ++ back) (both_ways lines) q i) [
+          let wide : (u : ℕ → ℤ) → Generated rest u → Generated all u = λ u h. generated_through all rest u
+          (λ q i. generated_row all q (elim (Contains-append_cases (front ++ back) (both_ways lines) q i) [
             | inl a ↦ Contains-append_left rays (both_ways lines) q (contains_middle front r back q (contains_tail r q (front ++ back) a))
             | inr a ↦ Contains-append_right rays (both_ways lines) q a
           ])) h in
           absurd (pointed t in_t (generated_divided all m (λ j. neg_ℤ (entry t j)) p.positive
-          (generated_same all (λ j. (pos e.0 *ℤ entry r j) +ℤ s j) (λ j. pos m *ℤ neg_ℤ (entry t j)) (λ j. more_right (pos m) (pos n) (pos p.own) (pos e.0) (entry r j) (entry t j) (s j) (whole j) (ap pos e.1))
+          (generated_same all (λ j. (pos e.0 *ℤ entry r j) +ℤ s j) (λ j. pos m *ℤ neg_ℤ (entry t j))
+          (λ j. more_right (pos m) (pos n) (pos p.own) (pos e.0) (entry r j) (entry t j) (s j) (whole j) (ap pos e.1))
           (generated_plus all (λ j. pos e.0 *ℤ entry r j) s (generated_times all e.0 (entry r) (generated_row all r has_r)) (wide s gs)))))
     ]
 
@@ -83,7 +88,14 @@ record Picked (rows : List (List ℤ)) (u : ℕ → ℤ) : Type 0 where
 pick : (rows : List (List ℤ)) (fs : List ℕ) → ((j : ℕ) → sum_of fs rows j ≡ pos 0) ⊎ Picked rows (sum_of fs rows)
 pick rows [] = inl (λ j. refl)
 pick [] (f ∷ fs) = inl (λ j. refl)
-pick (r ∷ rows) (suc f ∷ fs) = inr (record { row = r; has = contains_head r rows; less = f; rest = sum_of fs rows; on_rest = generated_more r rows (sum_of fs rows) (sum_generated rows fs); is = λ j. refl })
+pick (r ∷ rows) (suc f ∷ fs) = inr (record {
+  row = r;
+  has = contains_head r rows;
+  less = f;
+  rest = sum_of fs rows;
+  on_rest = generated_more r rows (sum_of fs rows) (sum_generated rows fs);
+  is = λ j. refl;
+})
 pick (r ∷ rows) (zero ∷ fs) = elim (pick rows fs) [
   | inl z ↦ inl (λ j. ap (λ y. (pos 0 *ℤ entry r j) +ℤ y) (z j) ∙ ring (v (pos 0) ⊗ v (entry r j) ⊕ v (pos 0)) (v (pos 0)) (omega arith))
   | inr p ↦ inr (record {
@@ -92,12 +104,14 @@ pick (r ∷ rows) (zero ∷ fs) = elim (pick rows fs) [
     less = p.less;
     rest = p.rest;
     on_rest = generated_more r rows p.rest p.on_rest;
-    is = λ j. ap (λ y. (pos 0 *ℤ entry r j) +ℤ y) (p.is j) ∙ ring (v (pos 0) ⊗ v (entry r j) ⊕ v ((pos (suc p.less) *ℤ entry p.row j) +ℤ p.rest j)) (v ((pos (suc p.less) *ℤ entry p.row j) +ℤ p.rest j)) (omega arith);
+    is = λ j. ap (λ y. (pos 0 *ℤ entry r j) +ℤ y) (p.is j) ∙ ring (v (pos 0) ⊗ v (entry r j) ⊕ v ((pos (suc p.less) *ℤ entry p.row j) +ℤ p.rest j))
+        (v ((pos (suc p.less) *ℤ entry p.row j) +ℤ p.rest j)) (omega arith);
   })
 ]
 
 -- a row that the others generate has another one among them that is tight wherever it is
-pub redundant_tight : (w : ℕ) (system lines others : List (List ℤ)) (r : List ℤ) → ((t : List ℤ) → Contains (all_rows lines others) t → Solves system (entry t)) → ¬ (Generated (both_ways lines) (entry r)) → Generated (all_rows lines others) (entry r) →
+pub redundant_tight : (w : ℕ) (system lines others : List (List ℤ)) (r : List ℤ) → ((t : List ℤ) → Contains (all_rows lines others) t → Solves system (entry t)) →
+    ¬ (Generated (both_ways lines) (entry r)) → Generated (all_rows lines others) (entry r) →
     (t : List ℤ) × Contains others t × TightToo system (entry r) (entry t)
 redundant_tight w system lines others r meets off g =
     let d = described_generated lines others (entry r) g in
@@ -105,7 +119,8 @@ redundant_tight w system lines others r meets off g =
     let l : ℕ → ℤ = signed_sum d.free lines in
     let gl : Generated (both_ways lines) l = lines_generated lines d.free in
     elim (pick others d.factors) [
-      | inl z ↦ absurd (off (generated_divided (both_ways lines) m (entry r) d.positive (generated_same (both_ways lines) l (λ j. pos m *ℤ entry r j) (λ j. sym (d.is_sum j ∙ ap (λ y. l j +ℤ y) (z j) ∙ ring (v (l j) ⊕ v (pos 0)) (v (l j)) (omega arith))) gl)))
+      | inl z ↦ absurd (off (generated_divided (both_ways lines) m (entry r) d.positive (generated_same (both_ways lines) l (λ j. pos m *ℤ entry r j)
+          (λ j. sym (d.is_sum j ∙ ap (λ y. l j +ℤ y) (z j) ∙ ring (v (l j) ⊕ v (pos 0)) (v (l j)) (omega arith))) gl)))
       | inr p ↦ (
         p.row,
         p.has,
@@ -119,24 +134,29 @@ redundant_tight w system lines others r meets off g =
             (ap (λ y. (pos (suc p.less) *ℤ dot s (entry p.row)) +ℤ y) (ring (v (dot s rest)) (v (pos 1) ⊗ v (dot s rest)) (omega arith)) ∙
             sym (dot_linear s (pos (suc p.less)) (pos 1) (entry p.row) rest) ∙
             dot_same s (λ j. (pos (suc p.less) *ℤ entry p.row j) +ℤ (pos 1 *ℤ rest j)) (λ j. pos m *ℤ entry r j)
-            (λ j. ring (v (pos (suc p.less)) ⊗ v (entry p.row j) ⊕ v (pos 1) ⊗ (v (p.rest j) ⊕ v (l j))) (v (l j) ⊕ (v (pos (suc p.less)) ⊗ v (entry p.row j) ⊕ v (p.rest j))) (omega arith) ∙ ap (λ y. l j +ℤ y) (sym (p.is j)) ∙ sym (d.is_sum j)) ∙
+            (λ j. ring (v (pos (suc p.less)) ⊗ v (entry p.row j) ⊕ v (pos 1) ⊗ (v (p.rest j) ⊕ v (l j))) (v (l j) ⊕ (v (pos (suc p.less)) ⊗ v (entry p.row j) ⊕ v (p.rest j))) (omega arith) ∙
+            ap (λ y. l j +ℤ y) (sym (p.is j)) ∙ sym (d.is_sum j)) ∙
             dot_scale s (pos m) (entry r) ∙ ap (λ y. pos m *ℤ y) tight ∙ ring (v (pos m) ⊗ v (pos 0)) (v (pos 0)) (omega arith)),
       )
     ]
 
 -- ---- the step without a line keeps rays pointed
 -- a ray that stays
-pub kept_pointed : (old new : List (List ℤ)) → ((u : ℕ → ℤ) → Generated new u → Generated old u) → (r : List ℤ) → ¬ (Generated old (λ j. neg_ℤ (entry r j))) → ¬ (Generated new (λ j. neg_ℤ (entry r j)))
+pub kept_pointed : (old new : List (List ℤ)) → ((u : ℕ → ℤ) → Generated new u → Generated old u) → (r : List ℤ) → ¬ (Generated old (λ j. neg_ℤ (entry r j))) →
+    ¬ (Generated new (λ j. neg_ℤ (entry r j)))
 kept_pointed old new sub r h g = h (sub (λ j. neg_ℤ (entry r j)) g)
 
 -- and a pair
-pub pair_pointed : (old new : List (List ℤ)) → ((u : ℕ → ℤ) → Generated new u → Generated old u) → (p n t : List ℤ) (a b : ℤ) (k : ℕ) → Contains old n → ¬ (Generated old (λ j. neg_ℤ (entry p j))) → pos 0 <ℤ a → pos 0 ≤ℤ b →
+pub pair_pointed : (old new : List (List ℤ)) → ((u : ℕ → ℤ) → Generated new u → Generated old u) → (p n t : List ℤ) (a b : ℤ) (k : ℕ) → Contains old n → ¬ (Generated old (λ j. neg_ℤ (entry p j))) →
+    pos 0 <ℤ a → pos 0 ≤ℤ b →
     ((j : ℕ) → pos k *ℤ entry t j ≡ (a *ℤ entry p j) +ℤ (b *ℤ entry n j)) → ¬ (Generated new (λ j. neg_ℤ (entry t j)))
 pair_pointed old new sub p n t a b k has h above low e g =
     let x = as_nat a (omega (arith, ints, above)) in
     let y = as_nat b low in
     h (generated_divided old x.0 (λ j. neg_ℤ (entry p j)) (positive_nat a x.0 above x.1)
     (generated_same old (λ j. (pos k *ℤ neg_ℤ (entry t j)) +ℤ (pos y.0 *ℤ entry n j)) (λ j. pos x.0 *ℤ neg_ℤ (entry p j))
-    (λ j. ring (v (pos k) ⊗ ⊖ (v (entry t j)) ⊕ v (pos y.0) ⊗ v (entry n j)) (⊖ (v (pos k) ⊗ v (entry t j)) ⊕ v (pos y.0) ⊗ v (entry n j)) (omega arith) ∙ ap (λ z. neg_ℤ z +ℤ (pos y.0 *ℤ entry n j)) (e j) ∙ ap (λ z. neg_ℤ ((a *ℤ entry p j) +ℤ (b *ℤ entry n j)) +ℤ (z *ℤ entry n j)) (sym y.1) ∙
+    (λ j. ring (v (pos k) ⊗ ⊖ (v (entry t j)) ⊕ v (pos y.0) ⊗ v (entry n j)) (⊖ (v (pos k) ⊗ v (entry t j)) ⊕ v (pos y.0) ⊗ v (entry n j)) (omega arith) ∙
+    ap (λ z. neg_ℤ z +ℤ (pos y.0 *ℤ entry n j)) (e j) ∙ ap (λ z. neg_ℤ ((a *ℤ entry p j) +ℤ (b *ℤ entry n j)) +ℤ (z *ℤ entry n j)) (sym y.1) ∙
     ring (⊖ (v a ⊗ v (entry p j) ⊕ v b ⊗ v (entry n j)) ⊕ v b ⊗ v (entry n j)) (v a ⊗ ⊖ (v (entry p j))) (omega arith) ∙ ap (λ z. z *ℤ neg_ℤ (entry p j)) x.1)
-    (generated_plus old (λ j. pos k *ℤ neg_ℤ (entry t j)) (λ j. pos y.0 *ℤ entry n j) (generated_times old k (λ j. neg_ℤ (entry t j)) (sub (λ j. neg_ℤ (entry t j)) g)) (generated_times old y.0 (entry n) (generated_row old n has)))))
+    (generated_plus old (λ j. pos k *ℤ neg_ℤ (entry t j)) (λ j. pos y.0 *ℤ entry n j) (generated_times old k (λ j. neg_ℤ (entry t j)) (sub (λ j. neg_ℤ (entry t j)) g))
+    (generated_times old y.0 (entry n) (generated_row old n has)))))

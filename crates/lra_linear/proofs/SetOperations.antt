@@ -58,7 +58,11 @@ substituted_product k form r x e h =
 -- the rows of a mapped list
 map_has : (f : Given → Given) (xs : List Given) (g : Given) → Contains xs g → Contains (map f xs) (f g)
 map_has f [] g k = absurd (contains_none g k)
-map_has f (x ∷ xs) g k = elim (contains_cases x g xs k) [ inl e ↦ subst (λ y. Contains (map f (x ∷ xs)) (f y)) e (contains_head (f x) (map f xs)) | inr d ↦ contains_tail (f x) (f g) (map f xs) (map_has f xs g d) ]
+map_has f (x ∷ xs) g k = elim (contains_cases x g xs k) [
+  | inl e ↦ subst (λ y. Contains (map f (x ∷ xs)) (f y)) e (contains_head (f x) (map f xs))
+  | inr d ↦ contains_tail (f x) (f g) (map f xs)
+      (map_has f xs g d)
+]
 
 map_from : (f : Given → Given) (xs : List Given) (t : Given) → Contains (map f xs) t → (g : Given) × Contains xs g × (f g ≡ t)
 map_from f [] t k = absurd (contains_none t k)
@@ -73,7 +77,8 @@ preimage_con n k form rows low lf widths = (
   λ x p c t i.
       let f = map_from (λ r. record { row = substituted k form r.row; equal = r.equal }) rows t i in
       subst (λ y. Holds y x) f.2 (subst (λ z. HoldsWith f.0.equal z) (sym (same f.0 x p f.1)) (c f.0 f.1)),
-  λ x p c g i. subst (λ z. HoldsWith g.equal z) (same g x p i) (c (record { row = substituted k form g.row; equal = g.equal }) (map_has (λ r. record { row = substituted k form r.row; equal = r.equal }) rows g i)),
+  λ x p c g i. subst (λ z. HoldsWith g.equal z) (same g x p i) (c (record { row = substituted k form g.row; equal = g.equal })
+      (map_has (λ r. record { row = substituted k form r.row; equal = r.equal }) rows g i)),
 )
   where
     same : (g : Given) (x : List ℤ) → IsPoint n x → Contains rows g → product (substituted k form g.row) x ≡ product g.row (assigned k form x)
@@ -105,10 +110,15 @@ valid_on_rows n generators h c valid t k = elim (h.columns t k) [
   | inl p ↦ valid t (record { width = h.widths t k; divisor = p }) (generated_gen generators (entry t) (generated_row (system_of generators) t k))
   | inr z ↦ far (product c h.vertex) (product c t)
       (λ m. subst (λ y. pos 0 ≤ℤ y) (gone_product c h.vertex t m same)
-      (valid (gone h.vertex t m) (record { width = blend_length (pos 1) (pos m) h.vertex t same ∙ h.widths h.vertex h.has; divisor = subst (λ y. pos 0 <ℤ y) (sym (gone_divisor h.vertex t m same z)) h.divisor })
-      (generated_gen generators (entry (gone h.vertex t m)) (generated_same (system_of generators) (λ j. (pos 1 *ℤ entry h.vertex j) +ℤ (pos m *ℤ entry t j)) (entry (gone h.vertex t m)) (λ j. sym (gone_entry h.vertex t m same j))
+      (valid (gone h.vertex t m) (record {
+        width = blend_length (pos 1) (pos m) h.vertex t same ∙ h.widths h.vertex h.has;
+        divisor = subst (λ y. pos 0 <ℤ y) (sym (gone_divisor h.vertex t m same z)) h.divisor;
+      })
+      (generated_gen generators (entry (gone h.vertex t m)) (generated_same (system_of generators) (λ j. (pos 1 *ℤ entry h.vertex j) +ℤ (pos m *ℤ entry t j)) (entry (gone h.vertex t m))
+      (λ j. sym (gone_entry h.vertex t m same j))
       (generated_plus (system_of generators) (λ j. pos 1 *ℤ entry h.vertex j) (λ j. pos m *ℤ entry t j)
-      (generated_times (system_of generators) 1 (entry h.vertex) (generated_row (system_of generators) h.vertex h.has)) (generated_times (system_of generators) m (entry t) (generated_row (system_of generators) t k)))))))
+      (generated_times (system_of generators) 1 (entry h.vertex) (generated_row (system_of generators) h.vertex h.has))
+      (generated_times (system_of generators) m (entry t) (generated_row (system_of generators) t k)))))))
 ]
   where
     same : length h.vertex ≡ length t
@@ -132,8 +142,10 @@ pub hull_of_two : (n : ℕ) (system : List (List ℤ)) (generators more : List G
     SameSet n (Hull n (Union (Gen generators) (Gen more))) (Gen (generators ++ more))
 hull_of_two n system generators more d h k = hull_gen n (Union (Gen generators) (Gen more)) system (generators ++ more) d
     (λ x p m. generated_gen (generators ++ more) (entry x) (elim m [
-      | inl a ↦ generated_through (system_of (generators ++ more)) (system_of generators) (entry x) (λ t i. generated_row (system_of (generators ++ more)) t (system_append_in generators more t (inl i))) (gen_generated generators (entry x) a)
-      | inr b ↦ generated_through (system_of (generators ++ more)) (system_of more) (entry x) (λ t i. generated_row (system_of (generators ++ more)) t (system_append_in generators more t (inr i))) (gen_generated more (entry x) b)
+      | inl a ↦ generated_through (system_of (generators ++ more)) (system_of generators) (entry x)
+          (λ t i. generated_row (system_of (generators ++ more)) t (system_append_in generators more t (inl i))) (gen_generated generators (entry x) a)
+      | inr b ↦ generated_through (system_of (generators ++ more)) (system_of more) (entry x) (λ t i. generated_row (system_of (generators ++ more)) t (system_append_in generators more t (inr i)))
+          (gen_generated more (entry x) b)
     ]))
     (λ c l valid t i. elim (system_append generators more t i) [
       | inl a ↦ valid_on_rows n generators h c (λ y p m. valid y p (inl m)) t a

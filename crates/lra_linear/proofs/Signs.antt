@@ -79,7 +79,8 @@ pub positive_part : (n : ℕ) (z y : ℤ) → 0 < n → pos n *ℤ z ≡ y → p
 positive_part zero z y p e h = absurd (omega arith)
 positive_part (suc n) (pos zero) y p e h = absurd (omega (arith, ints, e, h))
 positive_part (suc n) (pos (suc z)) y p e h = omega (arith, ints)
-positive_part (suc n) (negsuc z) y p e h = absurd (let k : y ≡ negsuc n *ℤ pos (suc z) = sym e ∙ ring (v (pos (suc n)) ⊗ v (negsuc z)) (v (negsuc n) ⊗ v (pos (suc z))) (omega arith) in below n z y k h)
+positive_part (suc n) (negsuc z) y p e h = absurd (let k : y ≡ negsuc n *ℤ pos (suc z) = sym e ∙ ring (v (pos (suc n)) ⊗ v (negsuc z)) (v (negsuc n) ⊗ v (pos (suc z))) (omega arith) in below n z y k
+    h)
   where
     below : (n z : ℕ) (y : ℤ) → y ≡ negsuc n *ℤ pos (suc z) → pos 0 <ℤ y → ⊥
     below n z y k h = omega (arith, ints, k, h)
@@ -101,7 +102,8 @@ no_factor z a h e =
 -- a positive factor on both sides goes
 pub cancel_same : (n : ℕ) (a b : ℤ) → 0 < n → pos n *ℤ a ≡ pos n *ℤ b → a ≡ b
 cancel_same n a b h e =
-    apart a b (no_product n (a +ℤ neg_ℤ b) h (ring (v (pos n) ⊗ (v a ⊕ ⊖ (v b))) (v (pos n) ⊗ v a ⊕ ⊖ (v (pos n) ⊗ v b)) (omega arith) ∙ ap (λ y. y +ℤ neg_ℤ (pos n *ℤ b)) e ∙ ring (v (pos n) ⊗ v b ⊕ ⊖ (v (pos n) ⊗ v b)) (v (pos 0)) (omega arith)))
+    apart a b (no_product n (a +ℤ neg_ℤ b) h (ring (v (pos n) ⊗ (v a ⊕ ⊖ (v b))) (v (pos n) ⊗ v a ⊕ ⊖ (v (pos n) ⊗ v b)) (omega arith) ∙ ap (λ y. y +ℤ neg_ℤ (pos n *ℤ b)) e ∙
+    ring (v (pos n) ⊗ v b ⊕ ⊖ (v (pos n) ⊗ v b)) (v (pos 0)) (omega arith)))
   where
     apart : (a b : ℤ) → a +ℤ neg_ℤ b ≡ pos 0 → a ≡ b
     apart a b e = omega (arith, ints, e)

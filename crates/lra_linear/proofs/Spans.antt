@@ -122,7 +122,8 @@ drop_head r rows p u h zeros e g = by_factors g.factors g.is_sum
     by_factors [] s = record { multiple = g.multiple; positive = g.positive; factors = []; is_sum = s }
     by_factors (z ∷ zs) s =
         let at : z *ℤ entry r p ≡ pos 0 =
-        ring (v z ⊗ v (entry r p)) (v z ⊗ v (entry r p) ⊕ v (pos 0)) (omega arith) ∙ ap (λ y. (z *ℤ entry r p) +ℤ y) (sym (sum_zero zs rows p zeros)) ∙ sym (s p) ∙ ap (λ y. pos g.multiple *ℤ y) e ∙ ring (v (pos g.multiple) ⊗ v (pos 0)) (v (pos 0)) (omega arith) in
+        ring (v z ⊗ v (entry r p)) (v z ⊗ v (entry r p) ⊕ v (pos 0)) (omega arith) ∙ ap (λ y. (z *ℤ entry r p) +ℤ y) (sym (sum_zero zs rows p zeros)) ∙ sym (s p) ∙ ap (λ y. pos g.multiple *ℤ y) e ∙
+        ring (v (pos g.multiple) ⊗ v (pos 0)) (v (pos 0)) (omega arith) in
         let zz : z ≡ pos 0 = no_factor z (entry r p) h at in
         record {
           multiple = g.multiple;
@@ -211,13 +212,15 @@ leads_inside : (r : List ℤ) (p : ℕ) → Leads r p → p < length r
 leads_inside r p l = elim (cases_lt p (length r)) [ inl h ↦ h | inr h ↦ absurd (not_both (entry r p) l.here (entry_past r p h)) ]
 
 -- no more rows than columns after the one that is passed
-few_above : (w lo : ℕ) (rows : List (List ℤ)) (ps : List ℕ) → ((t : List ℤ) → Contains rows t → length t ≡ w) → IsEchelon rows ps → ((t : List ℤ) → Contains rows t → (j : ℕ) → 0 < j → j ≤ lo → entry t j ≡ pos 0) → lo < w → length rows + lo ≤ w
+few_above : (w lo : ℕ) (rows : List (List ℤ)) (ps : List ℕ) → ((t : List ℤ) → Contains rows t → length t ≡ w) → IsEchelon rows ps →
+    ((t : List ℤ) → Contains rows t → (j : ℕ) → 0 < j → j ≤ lo → entry t j ≡ pos 0) → lo < w → length rows + lo ≤ w
 few_above w lo [] ps width ech low h = omega arith
 few_above w lo (r ∷ rows) [] width ech low h = absurd ech
-few_above w lo (r ∷ rows) (zero ∷ ps) width ech low h = elim rows as (λ (x : List (List ℤ)). ((t : List ℤ) → Contains x t → (j : ℕ) → Before j 0 ⊎ (j ≡ 0) → entry t j ≡ pos 0) → IsEchelon x ps → length (r ∷ x) + lo ≤ w) [
-  | [] ↦ λ z e. omega arith
-  | ◌∷◌ t more ↦ λ z e. absurd (nothing t more ps z e)
-] ech.2 ech.4
+few_above w lo (r ∷ rows) (zero ∷ ps) width ech low h = elim rows as (λ (x : List (List ℤ)). ((t : List ℤ) → Contains x t → (j : ℕ) → Before j 0 ⊎ (j ≡ 0) → entry t j ≡ pos 0) → IsEchelon x ps →
+    length (r ∷ x) + lo ≤ w) [
+      | [] ↦ λ z e. omega arith
+      | ◌∷◌ t more ↦ λ z e. absurd (nothing t more ps z e)
+    ] ech.2 ech.4
   where
     nothing : (t : List ℤ) (more : List (List ℤ)) (ps : List ℕ) → ((s : List ℤ) → Contains (t ∷ more) s → (j : ℕ) → Before j 0 ⊎ (j ≡ 0) → entry s j ≡ pos 0) → IsEchelon (t ∷ more) ps → ⊥
     nothing t more [] z e = e
@@ -226,7 +229,8 @@ few_above w lo (r ∷ rows) (zero ∷ ps) width ech low h = elim rows as (λ (x 
 few_above w lo (r ∷ rows) (suc p ∷ ps) width ech low h =
     let inside : suc p < w = subst (λ (n : ℕ). suc p < n) (width r (contains_head r rows)) (leads_inside r (suc p) ech.0) in
     let above : lo < suc p = elim (cases_lt lo (suc p)) [ inl k ↦ k | inr k ↦ absurd (not_both (entry r (suc p)) ech.0.here (low r (contains_head r rows) (suc p) (omega arith) k)) ] in
-    let i = few_above w (suc p) rows ps (λ t k. width t (contains_tail r t rows k)) ech.4 (λ t k j a b. ech.2 t k j (elim (cases_lt j (suc p)) [ inl m ↦ inl (a, inl m) | inr m ↦ inr (omega arith) ])) inside in
+    let i = few_above w (suc p) rows ps (λ t k. width t (contains_tail r t rows k)) ech.4
+    (λ t k j a b. ech.2 t k j (elim (cases_lt j (suc p)) [ inl m ↦ inl (a, inl m) | inr m ↦ inr (omega arith) ])) inside in
     omega (arith, i)
 
 -- no more rows than columns

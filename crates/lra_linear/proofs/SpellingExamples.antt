@@ -61,7 +61,8 @@ quadrant_dual = record {
         factors = a.0 ∷ c.0 ∷ b.0 ∷ [];
         is_sum = λ j.
             ring (v (pos 1) ⊗ v (entry u j)) (v (entry u j)) (omega arith) ∙ sum_of_units u l a.0 b.0 c.0 a.1 b.1 c.1 j ∙
-            ring (v (pos a.0) ⊗ v (entry e0 j) ⊕ (v (pos b.0) ⊗ v (entry e1 j) ⊕ v (pos c.0) ⊗ v (entry e2 j))) (v (pos a.0) ⊗ v (entry e0 j) ⊕ (v (pos c.0) ⊗ v (entry e2 j) ⊕ (v (pos b.0) ⊗ v (entry e1 j) ⊕ v (pos 0)))) (omega arith);
+            ring (v (pos a.0) ⊗ v (entry e0 j) ⊕ (v (pos b.0) ⊗ v (entry e1 j) ⊕ v (pos c.0) ⊗ v (entry e2 j)))
+            (v (pos a.0) ⊗ v (entry e0 j) ⊕ (v (pos c.0) ⊗ v (entry e2 j) ⊕ (v (pos b.0) ⊗ v (entry e1 j) ⊕ v (pos 0)))) (omega arith);
       };
   consequences = λ u l s.
       let a = as_nat (entry u 0) (let z = s e0 (contains_head e0 (e2 ∷ e1 ∷ [])) in omega (arith, ints, z)) in
@@ -73,7 +74,8 @@ quadrant_dual = record {
         factors = b.0 ∷ c.0 ∷ a.0 ∷ [];
         is_sum = λ j.
             ring (v (pos 1) ⊗ v (entry u j)) (v (entry u j)) (omega arith) ∙ sum_of_units u l a.0 b.0 c.0 a.1 b.1 c.1 j ∙
-            ring (v (pos a.0) ⊗ v (entry e0 j) ⊕ (v (pos b.0) ⊗ v (entry e1 j) ⊕ v (pos c.0) ⊗ v (entry e2 j))) (v (pos b.0) ⊗ v (entry e1 j) ⊕ (v (pos c.0) ⊗ v (entry e2 j) ⊕ (v (pos a.0) ⊗ v (entry e0 j) ⊕ v (pos 0)))) (omega arith);
+            ring (v (pos a.0) ⊗ v (entry e0 j) ⊕ (v (pos b.0) ⊗ v (entry e1 j) ⊕ v (pos c.0) ⊗ v (entry e2 j)))
+            (v (pos b.0) ⊗ v (entry e1 j) ⊕ (v (pos c.0) ⊗ v (entry e2 j) ⊕ (v (pos a.0) ⊗ v (entry e0 j) ⊕ v (pos 0)))) (omega arith);
       };
   meets = λ r k c m. each_three (λ t. pos 0 ≤ℤ product c t) e0 e2 e1 (each_three (λ t. pos 0 ≤ℤ product t e0) e1 e2 e0 (omega (arith, ints)) (omega (arith, ints)) (omega (arith, ints)) c m)
       (each_three (λ t. pos 0 ≤ℤ product t e2) e1 e2 e0 (omega (arith, ints)) (omega (arith, ints)) (omega (arith, ints)) c m)
@@ -95,9 +97,12 @@ units_canonical a b c i j k p q r = record {
       (not_from_zero (a ∷ c ∷ []) (entry b) j (each_two (λ t. entry t j ≡ pos 0) a c q.1 q.2) (subst (λ z. pos 0 <ℤ z) (sym q.0) (omega (arith, ints))))
       (not_from_zero (a ∷ b ∷ []) (entry c) k (each_two (λ t. entry t k ≡ pos 0) a b r.1 r.2) (subst (λ z. pos 0 <ℤ z) (sym r.0) (omega (arith, ints))));
   pointed = each_three (λ t. ¬ (Generated (a ∷ b ∷ c ∷ []) (λ x. neg_ℤ (entry t x)))) a b c
-      (not_from_above (a ∷ b ∷ c ∷ []) (λ x. neg_ℤ (entry a x)) i (each_three (λ t. pos 0 ≤ℤ entry t i) a b c (at_least (entry a i) (inl p.0)) (at_least (entry b i) (inr p.1)) (at_least (entry c i) (inr p.2))) (minus (entry a i) p.0))
-      (not_from_above (a ∷ b ∷ c ∷ []) (λ x. neg_ℤ (entry b x)) j (each_three (λ t. pos 0 ≤ℤ entry t j) a b c (at_least (entry a j) (inr q.1)) (at_least (entry b j) (inl q.0)) (at_least (entry c j) (inr q.2))) (minus (entry b j) q.0))
-      (not_from_above (a ∷ b ∷ c ∷ []) (λ x. neg_ℤ (entry c x)) k (each_three (λ t. pos 0 ≤ℤ entry t k) a b c (at_least (entry a k) (inr r.1)) (at_least (entry b k) (inr r.2)) (at_least (entry c k) (inl r.0))) (minus (entry c k) r.0));
+      (not_from_above (a ∷ b ∷ c ∷ []) (λ x. neg_ℤ (entry a x)) i (each_three (λ t. pos 0 ≤ℤ entry t i) a b c (at_least (entry a i) (inl p.0)) (at_least (entry b i) (inr p.1))
+      (at_least (entry c i) (inr p.2))) (minus (entry a i) p.0))
+      (not_from_above (a ∷ b ∷ c ∷ []) (λ x. neg_ℤ (entry b x)) j (each_three (λ t. pos 0 ≤ℤ entry t j) a b c (at_least (entry a j) (inr q.1)) (at_least (entry b j) (inl q.0))
+      (at_least (entry c j) (inr q.2))) (minus (entry b j) q.0))
+      (not_from_above (a ∷ b ∷ c ∷ []) (λ x. neg_ℤ (entry c x)) k (each_three (λ t. pos 0 ≤ℤ entry t k) a b c (at_least (entry a k) (inr r.1)) (at_least (entry b k) (inr r.2))
+      (at_least (entry c k) (inl r.0))) (minus (entry c k) r.0));
 }
   where
     at_least : (z : ℤ) → (z ≡ pos 1) ⊎ (z ≡ pos 0) → pos 0 ≤ℤ z
@@ -146,8 +151,10 @@ plain_is_quadrant = record {
   dimensions = refl;
   canonical = inr quadrant_has_point;
   points = (
-    λ x p c. con_cons (inequality e1) (inequality e2 ∷ []) x (con_head (inequality e1) [] x (con_tail (inequality e2) (inequality e1 ∷ []) x c)) (con_cons (inequality e2) [] x (con_head (inequality e2) (inequality e1 ∷ []) x c) (con_none x)),
-    λ x p c. con_cons (inequality e2) (inequality e1 ∷ []) x (con_head (inequality e2) [] x (con_tail (inequality e1) (inequality e2 ∷ []) x c)) (con_cons (inequality e1) [] x (con_head (inequality e1) (inequality e2 ∷ []) x c) (con_none x)),
+    λ x p c. con_cons (inequality e1) (inequality e2 ∷ []) x (con_head (inequality e1) [] x (con_tail (inequality e2) (inequality e1 ∷ []) x c))
+        (con_cons (inequality e2) [] x (con_head (inequality e2) (inequality e1 ∷ []) x c) (con_none x)),
+    λ x p c. con_cons (inequality e2) (inequality e1 ∷ []) x (con_head (inequality e2) [] x (con_tail (inequality e1) (inequality e2 ∷ []) x c))
+        (con_cons (inequality e1) [] x (con_head (inequality e1) (inequality e2 ∷ []) x c) (con_none x)),
   );
 }
 

@@ -91,7 +91,14 @@ record Split (c : List ℤ) (rows all target : List (List ℤ)) (fs : List ℕ) 
 -- by recursion on the rows
 split : (c : List ℤ) (all target : List (List ℤ)) → StepOf c all target → (rows : List (List ℤ)) → ((r : List ℤ) → Contains rows r → Contains all r) → (fs : List ℕ) → Split c rows all target fs
 split c all target s rows sub [] = record { front = λ j. pos 0; made = generated_zero target; factors = []; rest = []; negative = λ n k. absurd (omega (arith, k.1)); whole = λ j. omega (arith, ints) }
-split c all target s [] sub (f ∷ fs) = record { front = λ j. pos 0; made = generated_zero target; factors = []; rest = []; negative = λ n k. absurd (omega (arith, k.1)); whole = λ j. omega (arith, ints) }
+split c all target s [] sub (f ∷ fs) = record {
+  front = λ j. pos 0;
+  made = generated_zero target;
+  factors = [];
+  rest = [];
+  negative = λ n k. absurd (omega (arith, k.1));
+  whole = λ j. omega (arith, ints);
+}
 split c all target s (r ∷ rows) sub (f ∷ fs) =
     let i = split c all target s rows (λ y k. sub y (contains_tail r y rows k)) fs in
     let x : ℕ → ℤ = entry r in

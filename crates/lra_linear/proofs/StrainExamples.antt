@@ -1,7 +1,8 @@
 -- Worked examples of strain: a list of constraints that strains by its third row only, in one dimension; an image one of whose
 -- numbers passes the range, and one whose numbers just fit; two points that fit, since a line isn't taken with itself; and an
 -- inclusion that fails at a line. M is the greatest number of the range.
-use Rattle.std.proofs.Common.{Bool, Err, List, Ok, Result, [], ap, arith, inl, inr, length, neg_ℤ, negsuc, pos, refl, subst, suc, sym, true, zero, ℕ, ℤ, ◌*ℤ◌, ◌+ℤ◌, ◌++◌, ◌-◌, ◌<◌, ◌^◌, ◌∙◌, ◌∷◌, ◌≡◌, ◌≤ℤ◌, ◌⊎◌}
+use Rattle.std.proofs.Common.{Bool, Err, List, Ok, Result, [], ap, arith, inl, inr, length, neg_ℤ, negsuc, pos, refl, subst, suc, sym, true, zero, ℕ, ℤ, ◌*ℤ◌, ◌+ℤ◌, ◌++◌, ◌-◌, ◌<◌, ◌^◌, ◌∙◌, ◌∷◌, ◌≡◌}
+use Rattle.std.proofs.Common.{◌≤ℤ◌, ◌⊎◌}
 use Rattle.std.specs.Prelude.{is_ok, ◌&&◌}
 use Rattle.std.proofs.lemmas.Int.{ints}
 use Rattle.std.specs.List.{Contains, list_all}
@@ -127,8 +128,12 @@ plane_dual = record {
     positive = omega arith;
     factors = [];
     is_sum = λ j. ap (λ z. pos 1 *ℤ z) (two_columns c l (pos 0) (pos 0)
-        (between (entry c 0) (s unit (contains_tail up unit (down ∷ unit ∷ negated unit ∷ []) (contains_tail down unit (unit ∷ negated unit ∷ []) (contains_head unit (negated unit ∷ []))))) (s (negated unit) (contains_tail up (negated unit) (down ∷ unit ∷ negated unit ∷ []) (contains_tail down (negated unit) (unit ∷ negated unit ∷ []) (contains_tail unit (negated unit) (negated unit ∷ []) (contains_head (negated unit) []))))) (omega (arith, ints)) (omega (arith, ints)))
-        (between (entry c 1) (s up (contains_head up (down ∷ unit ∷ negated unit ∷ []))) (s down (contains_tail up down (down ∷ unit ∷ negated unit ∷ []) (contains_head down (unit ∷ negated unit ∷ [])))) (omega (arith, ints)) (omega (arith, ints))) j) ∙ zeros_there j;
+        (between (entry c 0) (s unit (contains_tail up unit (down ∷ unit ∷ negated unit ∷ []) (contains_tail down unit (unit ∷ negated unit ∷ []) (contains_head unit (negated unit ∷ [])))))
+        (s (negated unit) (contains_tail up (negated unit) (down ∷ unit ∷ negated unit ∷ [])
+        (contains_tail down (negated unit) (unit ∷ negated unit ∷ []) (contains_tail unit (negated unit) (negated unit ∷ []) (contains_head (negated unit) []))))) (omega (arith, ints))
+        (omega (arith, ints)))
+        (between (entry c 1) (s up (contains_head up (down ∷ unit ∷ negated unit ∷ []))) (s down
+        (contains_tail up down (down ∷ unit ∷ negated unit ∷ []) (contains_head down (unit ∷ negated unit ∷ [])))) (omega (arith, ints)) (omega (arith, ints))) j) ∙ zeros_there j;
   };
   meets = λ r k c n. absurd (contains_none c n);
 }
@@ -164,7 +169,8 @@ half_canonical = record {
   needed = split_one (λ others t. ¬ (Generated (all_rows (up ∷ []) others) (entry t))) unit
       (not_from_zero (up ∷ down ∷ []) (entry unit) 0 (each_two (λ t. entry t 0 ≡ pos 0) up down refl refl) (omega (arith, ints)));
   pointed = each_one (λ t. ¬ (Generated (all_rows (up ∷ []) (unit ∷ [])) (λ j. neg_ℤ (entry t j)))) unit
-      (not_from_above (unit ∷ up ∷ down ∷ []) (λ j. neg_ℤ (entry unit j)) 0 (each_three (λ t. pos 0 ≤ℤ entry t 0) unit up down (omega (arith, ints)) (omega (arith, ints)) (omega (arith, ints))) (omega (arith, ints)));
+      (not_from_above (unit ∷ up ∷ down ∷ []) (λ j. neg_ℤ (entry unit j)) 0 (each_three (λ t. pos 0 ≤ℤ entry t 0) unit up down (omega (arith, ints)) (omega (arith, ints)) (omega (arith, ints)))
+      (omega (arith, ints)));
 }
 
 pub half_dual : AreDual 2 (positive ∷ []) (all_rows (up ∷ []) (unit ∷ []))
@@ -178,8 +184,15 @@ half_dual = record {
       let a = as_nat (entry c 0) (let z = s unit (contains_head unit (up ∷ down ∷ [])) in omega (arith, ints, z)) in
       let x = s up (contains_tail unit up (up ∷ down ∷ []) (contains_head up (down ∷ []))) in
       let y = s down (contains_tail unit down (up ∷ down ∷ []) (contains_tail up down (down ∷ []) (contains_head down []))) in
-      record { multiple = 1; positive = omega arith; factors = a.0 ∷ []; is_sum = λ j. ap (λ z. pos 1 *ℤ z) (two_columns c l (pos a.0) (pos 0) a.1 (omega (arith, ints, x, y)) j) ∙ first_column a.0 j };
-  meets = λ r k c n. each_one (λ y. pos 0 ≤ℤ product y r) positive (each_three (λ t. pos 0 ≤ℤ product positive t) unit up down (omega (arith, ints)) (omega (arith, ints)) (omega (arith, ints)) r k) c n;
+      record {
+        multiple = 1;
+        positive = omega arith;
+        factors = a.0 ∷ [];
+        is_sum = λ j. ap (λ z. pos 1 *ℤ z) (two_columns c l (pos a.0) (pos 0) a.1 (omega (arith, ints, x, y)) j) ∙
+            first_column a.0 j;
+      };
+  meets = λ r k c n. each_one (λ y. pos 0 ≤ℤ product y r) positive (each_three (λ t. pos 0 ≤ℤ product positive t) unit up down (omega (arith, ints)) (omega (arith, ints)) (omega (arith, ints)) r k) c
+      n;
 }
   where
     spread : (u : List ℤ) → length u ≡ 2 → (a : ℕ) → entry u 0 ≡ pos a → (j : ℕ) → pos 1 *ℤ entry u j ≡ ((entry u 1 *ℤ entry up j) +ℤ pos 0) +ℤ ((pos a *ℤ entry unit j) +ℤ pos 0)
@@ -220,12 +233,26 @@ corner_dual = record {
       let x = s from_minus (contains_tail positive from_minus (from_minus ∷ []) (contains_head from_minus [])) in
       let a = as_nat (entry u 0) (let z = s positive (contains_head positive (from_minus ∷ [])) in omega (arith, ints, z)) in
       let b = as_nat ((pos greatest *ℤ entry u 0) +ℤ entry u 1) (omega (arith, ints, x)) in
-      record { multiple = 1; positive = omega arith; factors = b.0 ∷ a.0 ∷ []; is_sum = λ j. ap (λ z. pos 1 *ℤ z) (two_columns u l (pos a.0) (pos b.0 +ℤ neg_ℤ (pos greatest *ℤ pos a.0)) a.1 (moved (pos greatest) (entry u 0) (entry u 1) (pos a.0) (pos b.0) a.1 b.1) j) ∙ corner (pos greatest) (pos a.0) (pos b.0) j };
+      record {
+        multiple = 1;
+        positive = omega arith;
+        factors = b.0 ∷ a.0 ∷ [];
+        is_sum = λ j. ap (λ z. pos 1 *ℤ z)
+            (two_columns u l (pos a.0) (pos b.0 +ℤ neg_ℤ (pos greatest *ℤ pos a.0)) a.1 (moved (pos greatest) (entry u 0) (entry u 1) (pos a.0) (pos b.0) a.1 b.1) j) ∙
+            corner (pos greatest) (pos a.0) (pos b.0) j;
+      };
   consequences = λ c l s.
       let a = as_nat (entry c 1) (let z = s up (contains_head up (vertex ∷ [])) in omega (arith, ints, z)) in
       let x = s vertex (contains_tail up vertex (vertex ∷ []) (contains_head vertex [])) in
       let b = as_nat (entry c 0 +ℤ neg_ℤ (pos greatest *ℤ entry c 1)) (omega (arith, ints, x)) in
-      record { multiple = 1; positive = omega arith; factors = b.0 ∷ a.0 ∷ []; is_sum = λ j. ap (λ z. pos 1 *ℤ z) (two_columns c l (pos b.0 +ℤ (pos greatest *ℤ pos a.0)) (pos a.0) (back (pos greatest) (entry c 0) (entry c 1) (pos a.0) (pos b.0) a.1 b.1) a.1 j) ∙ rows (pos greatest) (pos a.0) (pos b.0) j };
+      record {
+        multiple = 1;
+        positive = omega arith;
+        factors = b.0 ∷ a.0 ∷ [];
+        is_sum = λ j. ap (λ z. pos 1 *ℤ z)
+            (two_columns c l (pos b.0 +ℤ (pos greatest *ℤ pos a.0)) (pos a.0) (back (pos greatest) (entry c 0) (entry c 1) (pos a.0) (pos b.0) a.1 b.1) a.1 j) ∙
+            rows (pos greatest) (pos a.0) (pos b.0) j;
+      };
   meets = λ r k c n. each_two (λ t. pos 0 ≤ℤ product c t) up vertex
       (each_two (λ t. pos 0 ≤ℤ product t up) positive from_minus (omega (arith, ints)) (omega (arith, ints)) c n)
       (each_two (λ t. pos 0 ≤ℤ product t vertex) positive from_minus (omega (arith, ints)) (omega (arith, ints)) c n) r k;
@@ -316,9 +343,11 @@ far_canonical = record {
   reduced = λ r k q n. each_one (λ t. entry t q ≡ pos 0) unit (elim (contains_cases 1 q [] n) [ inl e ↦ ap (entry unit) (sym e) | inr x ↦ absurd (contains_none q x) ]) r k;
   lowest = each_one IsPrimitive unit (primitive_at unit 0 refl);
   needed = split_one (λ others t. ¬ (Generated (all_rows (far_line ∷ []) others) (entry t))) unit
-      (separated (negated far_point) (far_line ∷ negated far_line ∷ []) (entry unit) (each_two (λ t. pos 0 ≤ℤ product (negated far_point) t) far_line (negated far_line) (omega (arith, ints)) (omega (arith, ints))) (omega (arith, ints)));
+      (separated (negated far_point) (far_line ∷ negated far_line ∷ []) (entry unit) (each_two (λ t. pos 0 ≤ℤ product (negated far_point) t) far_line (negated far_line) (omega (arith, ints))
+      (omega (arith, ints))) (omega (arith, ints)));
   pointed = each_one (λ t. ¬ (Generated far_rows (λ j. neg_ℤ (entry t j)))) unit
-      (separated far_point far_rows (λ j. neg_ℤ (entry unit j)) (each_three (λ t. pos 0 ≤ℤ product far_point t) unit far_line (negated far_line) (omega (arith, ints)) (omega (arith, ints)) (omega (arith, ints))) (omega (arith, ints)));
+      (separated far_point far_rows (λ j. neg_ℤ (entry unit j)) (each_three (λ t. pos 0 ≤ℤ product far_point t) unit far_line (negated far_line) (omega (arith, ints)) (omega (arith, ints))
+      (omega (arith, ints))) (omega (arith, ints)));
 }
 
 pub far_dual : AreDual 2 (system_of (generator far_point ∷ [])) far_rows
@@ -327,14 +356,29 @@ far_dual = record {
   row_widths = each_three (λ t. length t ≡ 2) unit far_line (negated far_line) refl refl refl;
   solutions = λ u l s.
       let a = as_nat (entry u 0 +ℤ (pos (2 ^ 100) *ℤ entry u 1)) (let z = s far_point (contains_head far_point []) in omega (arith, ints, z)) in
-      generated_described (far_line ∷ []) (unit ∷ []) (entry u) (record { multiple = 1; positive = omega arith; free = entry u 1 ∷ []; factors = a.0 ∷ []; is_sum = λ j. ap (λ z. pos 1 *ℤ z) (two_columns u l (pos a.0 +ℤ neg_ℤ (pos (2 ^ 100) *ℤ entry u 1)) (entry u 1) (moved (pos (2 ^ 100)) (entry u 0) (entry u 1) (pos a.0) a.1) refl j) ∙ spread (pos (2 ^ 100)) (pos a.0) (entry u 1) j });
+      generated_described (far_line ∷ []) (unit ∷ []) (entry u) (record {
+        multiple = 1;
+        positive = omega arith;
+        free = entry u 1 ∷ [];
+        factors = a.0 ∷ [];
+        is_sum = λ j. ap (λ z. pos 1 *ℤ z) (two_columns u l (pos a.0 +ℤ neg_ℤ (pos (2 ^ 100) *ℤ entry u 1)) (entry u 1) (moved (pos (2 ^ 100)) (entry u 0) (entry u 1) (pos a.0) a.1) refl j) ∙
+            spread (pos (2 ^ 100)) (pos a.0) (entry u 1) j;
+      });
   consequences = λ c l s.
       let a = as_nat (entry c 0) (let z = s unit (contains_head unit (far_line ∷ negated far_line ∷ [])) in omega (arith, ints, z)) in
       let x = s far_line (contains_tail unit far_line (far_line ∷ negated far_line ∷ []) (contains_head far_line (negated far_line ∷ []))) in
-      let y = s (negated far_line) (contains_tail unit (negated far_line) (far_line ∷ negated far_line ∷ []) (contains_tail far_line (negated far_line) (negated far_line ∷ []) (contains_head (negated far_line) []))) in
+      let y = s (negated far_line) (contains_tail unit (negated far_line) (far_line ∷ negated far_line ∷ [])
+      (contains_tail far_line (negated far_line) (negated far_line ∷ []) (contains_head (negated far_line) []))) in
       let e = a.1 in
-      record { multiple = 1; positive = omega arith; factors = a.0 ∷ []; is_sum = λ j. ap (λ z. pos 1 *ℤ z) (two_columns c l (pos a.0) (pos (2 ^ 100) *ℤ pos a.0) a.1 (omega (arith, ints, x, y, e)) j) ∙ columns (pos (2 ^ 100)) (pos a.0) j };
-  meets = λ r k c n. each_one (λ y. pos 0 ≤ℤ product y r) far_point (each_three (λ t. pos 0 ≤ℤ product far_point t) unit far_line (negated far_line) (omega (arith, ints)) (omega (arith, ints)) (omega (arith, ints)) r k) c n;
+      record {
+        multiple = 1;
+        positive = omega arith;
+        factors = a.0 ∷ [];
+        is_sum = λ j. ap (λ z. pos 1 *ℤ z)
+            (two_columns c l (pos a.0) (pos (2 ^ 100) *ℤ pos a.0) a.1 (omega (arith, ints, x, y, e)) j) ∙ columns (pos (2 ^ 100)) (pos a.0) j;
+      };
+  meets = λ r k c n. each_one (λ y. pos 0 ≤ℤ product y r) far_point (each_three (λ t. pos 0 ≤ℤ product far_point t) unit far_line (negated far_line) (omega (arith, ints)) (omega (arith, ints))
+      (omega (arith, ints)) r k) c n;
 }
   where
     moved : (m x y a : ℤ) → x +ℤ (m *ℤ y) ≡ a → x ≡ a +ℤ neg_ℤ (m *ℤ y)

@@ -38,10 +38,22 @@ on_way : (t : ℕ) → OnTheWay 2 (Gen origin) (Gen one_step) (pos 1 ∷ pos t �
 on_way t = record {
   start = pos 1 ∷ pos 0 ∷ pos 0 ∷ [];
   starts = record { width = refl; divisor = omega (arith, ints) };
-  in_first = record { multiple = 1; positive = omega arith; free = []; factors = 1 ∷ []; is_sum = λ j. ring (v (pos 1) ⊗ v (entry (pos 1 ∷ pos 0 ∷ pos 0 ∷ []) j)) (v (pos 0) ⊕ (v (pos 1) ⊗ v (entry (pos 1 ∷ pos 0 ∷ pos 0 ∷ []) j) ⊕ v (pos 0))) (omega arith) };
+  in_first = record {
+    multiple = 1;
+    positive = omega arith;
+    free = [];
+    factors = 1 ∷ [];
+    is_sum = λ j. ring (v (pos 1) ⊗ v (entry (pos 1 ∷ pos 0 ∷ pos 0 ∷ []) j)) (v (pos 0) ⊕ (v (pos 1) ⊗ v (entry (pos 1 ∷ pos 0 ∷ pos 0 ∷ []) j) ⊕ v (pos 0))) (omega arith);
+  };
   step = pos 1 ∷ pos 1 ∷ pos 2 ∷ [];
   steps = record { width = refl; divisor = omega (arith, ints) };
-  in_second = record { multiple = 1; positive = omega arith; free = []; factors = 1 ∷ []; is_sum = λ j. ring (v (pos 1) ⊗ v (entry (pos 1 ∷ pos 1 ∷ pos 2 ∷ []) j)) (v (pos 0) ⊕ (v (pos 1) ⊗ v (entry (pos 1 ∷ pos 1 ∷ pos 2 ∷ []) j) ⊕ v (pos 0))) (omega arith) };
+  in_second = record {
+    multiple = 1;
+    positive = omega arith;
+    free = [];
+    factors = 1 ∷ [];
+    is_sum = λ j. ring (v (pos 1) ⊗ v (entry (pos 1 ∷ pos 1 ∷ pos 2 ∷ []) j)) (v (pos 0) ⊕ (v (pos 1) ⊗ v (entry (pos 1 ∷ pos 1 ∷ pos 2 ∷ []) j) ⊕ v (pos 0))) (omega arith);
+  };
   times = t;
   same = columns;
 }
@@ -123,7 +135,8 @@ elapse_is_ray = (
       let sloped : entry x 2 ≡ pos 2 *ℤ entry x 1 = let z = con_head slope (upward ∷ []) x c in omega (arith, ints, z) in
       let up : pos 0 ≤ℤ entry x 1 = let z = con_head upward [] x (con_tail slope (upward ∷ []) x c) in omega (arith, ints, z, sloped) in
       subst (λ z. pos 0 ≤ℤ z)
-      (ring (v (entry d 0) ⊗ v (entry x 0) ⊕ (v (entry d 1) ⊕ v (pos 2) ⊗ v (entry d 2)) ⊗ v (entry x 1)) (v (entry d 0) ⊗ v (entry x 0) ⊕ (v (entry d 1) ⊗ v (entry x 1) ⊕ v (entry d 2) ⊗ (v (pos 2) ⊗ v (entry x 1)))) (omega arith) ∙
+      (ring (v (entry d 0) ⊗ v (entry x 0) ⊕ (v (entry d 1) ⊕ v (pos 2) ⊗ v (entry d 2)) ⊗ v (entry x 1))
+      (v (entry d 0) ⊗ v (entry x 0) ⊕ (v (entry d 1) ⊗ v (entry x 1) ⊕ v (entry d 2) ⊗ (v (pos 2) ⊗ v (entry x 1)))) (omega arith) ∙
       ap (λ y. (entry d 0 *ℤ entry x 0) +ℤ ((entry d 1 *ℤ entry x 1) +ℤ (entry d 2 *ℤ y))) (sym sloped) ∙ sym (product_three d x l))
       (add_nonnegative (entry d 0 *ℤ entry x 0) ((entry d 1 +ℤ (pos 2 *ℤ entry d 2)) *ℤ entry x 1)
       (mul_nonnegative (entry d 0) (entry x 0) low (positive_is_nonnegative (entry x 0) p.divisor)) (mul_nonnegative (entry d 1 +ℤ (pos 2 *ℤ entry d 2)) (entry x 1) along up)),
@@ -166,7 +179,8 @@ forget_is_half_plane = (
 abbrev plus_one : List ℤ
 plus_one = pos 1 ∷ pos 1 ∷ pos 0 ∷ []
 
-same_one : (x f : List ℤ) → IsPoint 2 x → IsPoint 2 f → SamePoint (assigned 1 plus_one x) (assigned 1 plus_one f) → (entry x 1 *ℤ entry f 0 ≡ entry f 1 *ℤ entry x 0) × (entry x 2 *ℤ entry f 0 ≡ entry f 2 *ℤ entry x 0)
+same_one : (x f : List ℤ) → IsPoint 2 x → IsPoint 2 f → SamePoint (assigned 1 plus_one x) (assigned 1 plus_one f) → (entry x 1 *ℤ entry f 0 ≡ entry f 1 *ℤ entry x 0) ×
+    (entry x 2 *ℤ entry f 0 ≡ entry f 2 *ℤ entry x 0)
 same_one x f p q s =
     let x0 = entry_set_other x 1 0 (product plus_one x) zero_not_one in
     let f0 = entry_set_other f 1 0 (product plus_one f) zero_not_one in
@@ -202,5 +216,6 @@ back_in_ray x p i =
     ring ((v (pos 2) ⊗ v (entry i.from 1)) ⊗ v (entry x 0)) (v (pos 2) ⊗ (v (entry i.from 1) ⊗ v (entry x 0))) (omega arith) ∙ ap (λ z. pos 2 *ℤ z) (sym s.0) ∙
     ring (v (pos 2) ⊗ (v (entry x 1) ⊗ v f0)) (v f0 ⊗ (v (pos 2) ⊗ v (entry x 1))) (omega arith)) in
     let high : pos 0 ≤ℤ entry x 2 = divided f0 (entry x 2) i.is_point.divisor
-    (subst (λ z. pos 0 ≤ℤ z) (sym s.1 ∙ ring (v (entry x 2) ⊗ v f0) (v f0 ⊗ v (entry x 2)) (omega arith)) (mul_nonnegative (entry i.from 2) (entry x 0) up (positive_is_nonnegative (entry x 0) p.divisor))) in
+    (subst (λ z. pos 0 ≤ℤ z) (sym s.1 ∙ ring (v (entry x 2) ⊗ v f0) (v f0 ⊗ v (entry x 2)) (omega arith))
+    (mul_nonnegative (entry i.from 2) (entry x 0) up (positive_is_nonnegative (entry x 0) p.divisor))) in
     con_cons slope (upward ∷ []) x (omega (arith, ints, two)) (con_cons upward [] x (omega (arith, ints, high)) (con_none x))

@@ -57,7 +57,8 @@ rows_at_least r generators h t k =
     ]
 
 -- and for an equality its negative too
-rows_at_most : (r : Given) (generators : List Given) → r.equal ≡ true → list_all (holds_with r) generators ≡ true → (t : List ℤ) → Contains (system_of generators) t → pos 0 ≤ℤ dot (negated r.row) (entry t)
+rows_at_most : (r : Given) (generators : List Given) → r.equal ≡ true → list_all (holds_with r) generators ≡ true → (t : List ℤ) → Contains (system_of generators) t →
+    pos 0 ≤ℤ dot (negated r.row) (entry t)
 rows_at_most r generators q h t k =
     let f = system_from generators t k in
     let e = with_equality r.equal f.given.equal q (product r.row f.given.row) (list_all_at (holds_with r) generators h f.given f.has) in
@@ -89,8 +90,10 @@ test_said false false z h e f = let k : true ≡ int_le (pos 0) z = omega (arith
 pub generators_hold : (n : ℕ) (generators : List Given) → HasVertex n generators → (r : Given) → ((x : List ℤ) → IsPoint n x → Gen generators x → Holds r x) → list_all (holds_with r) generators ≡ true
 generators_hold n generators h r valid = list_all_from (holds_with r) generators (λ g k.
     test_said r.equal g.equal (product r.row g.row) (low g.row (system_has generators g k))
-    (λ e. between_opposites (product r.row g.row) (dot (negated r.row) (entry g.row)) (negated_dot r.row (entry g.row)) (low g.row (system_has generators g k)) (high e g.row (system_has generators g k)))
-    (λ e. between_opposites (product r.row g.row) (product r.row (negated g.row)) (dot_negated r.row g.row) (low g.row (system_has generators g k)) (low (negated g.row) (system_has_negated generators g k e))))
+    (λ e. between_opposites (product r.row g.row) (dot (negated r.row) (entry g.row)) (negated_dot r.row (entry g.row)) (low g.row (system_has generators g k))
+    (high e g.row (system_has generators g k)))
+    (λ e. between_opposites (product r.row g.row) (product r.row (negated g.row)) (dot_negated r.row g.row) (low g.row (system_has generators g k))
+    (low (negated g.row) (system_has_negated generators g k e))))
   where
     opposite : (b : Bool) → b ≡ true → (z y : ℤ) → y ≡ neg_ℤ z → HoldsWith b z → pos 0 ≤ℤ y
     opposite true q z y e f = omega (arith, ints, e, f)

@@ -1,6 +1,7 @@
--- Arithmetic on rows that answers with the first number that passes the range, where there is one. Columns are taken from 0 up;
--- in each column the products come before the sum. That an Ok is the product, or the sum of the two multiples, is proved in
--- proofs/CheckedArithmetic.
+-- Arithmetic on rows that answers with the first number that passes the range, where there is one. Columns are taken
+-- from 0 up;
+-- in each column the products come before the sum. That an Ok is the product, or the sum of the two multiples, is
+-- proved in proofs/CheckedArithmetic.
 use Rattle.std.specs.Prelude.{ℕ, ℤ, pos, ◌+ℤ◌, ◌*ℤ◌, neg_ℤ, List, [], ◌∷◌, Result, Ok, Err, cond}
 use Rattle.lra_linear.specs.declared.Excess.{Excess}
 use Rattle.lra_linear.specs.declared.Operation.TheVariants.{Product, Sum}
@@ -13,7 +14,8 @@ checked_product_from sum [] ys = Ok sum
 checked_product_from sum (x ∷ xs) [] = Ok sum
 checked_product_from sum (x ∷ xs) (y ∷ ys) =
     cond (in_range (x *ℤ y))
-    (cond (in_range (sum +ℤ (x *ℤ y))) (checked_product_from (sum +ℤ (x *ℤ y)) xs ys) (Err (record { op = Sum; left = sum; right = x *ℤ y })))
+    (cond (in_range (sum +ℤ (x *ℤ y))) (checked_product_from (sum +ℤ (x *ℤ y)) xs ys)
+    (Err (record { op = Sum; left = sum; right = x *ℤ y })))
     (Err (record { op = Product; left = x; right = y }))
 
 -- the product of two rows, the row named first on the left of each product
@@ -25,7 +27,8 @@ abbrev pub checked_entry : ℤ → ℤ → ℤ → ℤ → Result ℤ Excess
 checked_entry a b u v =
     cond (in_range (a *ℤ u))
     (cond (in_range (b *ℤ v))
-    (cond (in_range ((a *ℤ u) +ℤ (b *ℤ v))) (Ok ((a *ℤ u) +ℤ (b *ℤ v))) (Err (record { op = Sum; left = a *ℤ u; right = b *ℤ v })))
+    (cond (in_range ((a *ℤ u) +ℤ (b *ℤ v))) (Ok ((a *ℤ u) +ℤ (b *ℤ v)))
+    (Err (record { op = Sum; left = a *ℤ u; right = b *ℤ v })))
     (Err (record { op = Product; left = b; right = v })))
     (Err (record { op = Product; left = a; right = u }))
 
@@ -48,7 +51,8 @@ and_then (Err e) next = Err e
 -- the combination (-c.v) u + (c.u) v, whose product with c is 0
 abbrev pub checked_combination : List ℤ → List ℤ → List ℤ → Result (List ℤ) Excess
 checked_combination u v c =
-    and_then (checked_product c u) (λ above. and_then (checked_product c v) (λ below. checked_blend (neg_ℤ below) above u v))
+    and_then (checked_product c u) (λ above. and_then (checked_product c v)
+    (λ below. checked_blend (neg_ℤ below) above u v))
 
 -- u + b v of two numbers, and of two rows
 abbrev pub checked_added_entry : ℤ → ℤ → ℤ → Result ℤ Excess

@@ -1,6 +1,6 @@
--- What strains a cone of lines and rays when a further row c is taken in: a product of c with one of its rows passes the range, or
--- the combination of two of them; or the cone with c has more rays than a description may have. A coefficient past the range is no
--- strain by itself, only in such a product or combination.
+-- What strains a cone of lines and rays when a further row c is taken in: a product of c with one of its rows passes
+-- the range, or the combination of two of them; or the cone with c has more rays than a description may have. A
+-- coefficient past the range is no strain by itself, only in such a product or combination.
 use Rattle.std.specs.Prelude.{◌≡◌, ◌≢◌, ℕ, ◌<◌, ◌⊎◌, ℤ, pos, neg_ℤ, ◌<ℤ◌, Bool, List, length, Ok, Err}
 use Rattle.std.specs.List.{Contains}
 use Rattle.lra_linear.specs.declared.Excess as E
@@ -13,8 +13,8 @@ use Rattle.lra_linear.specs.Cones.{all_rows, AreDual}
 use Rattle.lra_linear.specs.Canonical.{IsCanonical}
 use Rattle.lra_linear.specs.DoubleDescription.{with_row}
 
--- the most inequalities, and the most points and rays together, of a description; equalities and lines are not counted, the
--- positivity row is where it isn't redundant
+-- the most inequalities, and the most points and rays together, of a description; equalities and lines are not counted,
+-- the positivity row is where it isn't redundant
 abbrev pub row_limit : ℕ
 row_limit = 4096
 
@@ -24,7 +24,8 @@ pub record ProductPasses (c : List ℤ) (rows : List (List ℤ)) (e : E.Excess) 
   pub has : Contains rows row
   pub passes : checked_product c row ≡ Err e
 
--- two of the rows, the one above 0 and the other below; a line, which stands there in both directions, isn't taken with itself
+-- two of the rows, the one above 0 and the other below; a line, which stands there in both directions, isn't taken with
+-- itself
 pub record PairAcross (c : List ℤ) (rows : List (List ℤ)) (up down : List ℤ) : Type 0 where
   pub has_up : Contains rows up
   pub has_down : Contains rows down
@@ -61,5 +62,6 @@ pub record HasTooMany (w : ℕ) (equal : Bool) (c : List ℤ) (lines rays : List
   pub long : row_limit < length new_rays
 
 abbrev pub ConeStrains : ℕ → Bool → List ℤ → List (List ℤ) → List (List ℤ) → Cause → Type 0
-ConeStrains w equal c lines rays (Excess e) = ProductPasses c (all_rows lines rays) e ⊎ PairPasses c (all_rows lines rays) e
+ConeStrains w equal c lines rays (Excess e) = ProductPasses c (all_rows lines rays) e ⊎
+    PairPasses c (all_rows lines rays) e
 ConeStrains w equal c lines rays TooMany = HasTooMany w equal c lines rays

@@ -1,6 +1,6 @@
 -- Convex cones of vectors of whole numbers, by inequalities and by generators (Minkowski 1896, Weyl 1935, Farkas 1902).
--- A vector counts as generated where some positive whole multiple of it is a sum of the rows with whole factors, so no fraction
--- is needed. A line is a row that may be taken with a factor of either sign.
+-- A vector counts as generated where some positive whole multiple of it is a sum of the rows with whole factors, so no
+-- fraction is needed. A line is a row that may be taken with a factor of either sign.
 use Rattle.std.specs.Prelude.{◌≡◌, ℕ, ◌<◌, ℤ, pos, ◌+ℤ◌, ◌*ℤ◌, ◌≤ℤ◌, List, [], ◌∷◌, ◌++◌, length}
 use Rattle.std.specs.List.{Contains}
 use Rattle.lra_linear.specs.Vectors.{entry, dot, negated, sum_of, signed_sum}
@@ -16,7 +16,8 @@ pub record Generated (rows : List (List ℤ)) (u : ℕ → ℤ) : Type 0 where
 abbrev pub Solves : List (List ℤ) → (ℕ → ℤ) → Type 0
 Solves system u = (c : List ℤ) → Contains system c → pos 0 ≤ℤ dot c u
 
--- some positive multiple of u is a sum of lines, with factors of either sign, and of rays, with factors that are not negative
+-- some positive multiple of u is a sum of lines, with factors of either sign, and of rays, with factors that are not
+-- negative
 pub record Described (lines rays : List (List ℤ)) (u : ℕ → ℤ) : Type 0 where
   pub multiple : ℕ
   pub positive : 0 < multiple
@@ -33,8 +34,9 @@ both_ways (l ∷ lines) = l ∷ negated l ∷ both_ways lines
 abbrev pub all_rows : List (List ℤ) → List (List ℤ) → List (List ℤ)
 all_rows lines rays = rays ++ both_ways lines
 
--- The system and the rows, all of one width, are the two descriptions of one cone: the solutions of the system are what the rows
--- generate, and the inequalities that the rows meet are what the system generates. By `meets` each also lies in the other.
+-- The system and the rows, all of one width, are the two descriptions of one cone: the solutions of the system are what
+-- the rows generate, and the inequalities that the rows meet are what the system generates. By `meets` each also lies
+-- in the other.
 pub record AreDual (width : ℕ) (system rows : List (List ℤ)) : Type 0 where
   pub system_widths : (c : List ℤ) → Contains system c → length c ≡ width
   pub row_widths : (r : List ℤ) → Contains rows r → length r ≡ width

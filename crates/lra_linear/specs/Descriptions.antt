@@ -6,8 +6,8 @@ use Rattle.lra_linear.specs.Cones.{Described}
 use Rattle.lra_linear.specs.DoubleDescription.{with_row}
 use Rattle.lra_linear.specs.Points.{PointSet}
 
--- A row of a description. A constraint c0, .., cn is an inequality or, with `equal`, an equality. A generator is a point or a ray, or
--- with `equal` a line; `IsGenerator` says what column 0 then holds.
+-- A row of a description. A constraint c0, .., cn is an inequality or, with `equal`, an equality. A generator is a
+-- point or a ray, or with `equal` a line; `IsGenerator` says what column 0 then holds.
 pub record Given : Type 0 where
   pub row : List ℤ
   pub equal : Bool
@@ -69,7 +69,7 @@ Holds g x = HoldsWith g.equal (product g.row x)
 abbrev pub Con : List Given → PointSet
 Con rows x = (g : Given) → Contains rows g → Holds g x
 
--- the points some positive multiple of which is a sum of generators with whole factors, not negative for points and rays; the list is
--- meant to be `AreGenerators`, since any row is added as its columns are
+-- the points some positive multiple of which is a sum of generators with whole factors, not negative for points and
+-- rays; the list is meant to be `AreGenerators`, since any row is added as its columns are
 abbrev pub Gen : List Given → PointSet
 Gen generators x = Described (lines_of generators) (rays_of generators) (entry x)

@@ -1,5 +1,5 @@
--- Spans of rows and their reduced echelon form. The columns are taken in the order 1, 2, 3 and on, and column 0 last, since
--- column 0 holds a constraint's constant or a point's divisor.
+-- Spans of rows and their reduced echelon form. The columns are taken in the order 1, 2, 3 and on, and column 0 last,
+-- since column 0 holds a constraint's constant or a point's divisor.
 use Rattle.std.specs.Prelude.{◌≡◌, ℕ, suc, ◌<◌, ◌⊎◌, ℤ, pos, ◌*ℤ◌, ◌<ℤ◌, List, [], ◌∷◌, cond}
 use Rattle.std.specs.Ordering.{int_eq}
 use Rattle.std.specs.List.{Contains}
@@ -22,14 +22,15 @@ pub record Leads (r : List ℤ) (p : ℕ) : Type 0 where
   pub before : (j : ℕ) → Before j p → entry r j ≡ pos 0
   pub here : pos 0 <ℤ entry r p
 
--- Rows with their pivots: each row is in lowest terms, positive at its pivot and 0 before it; the later rows are 0 up to this
--- pivot, and the row is 0 at the later pivots.
+-- Rows with their pivots: each row is in lowest terms, positive at its pivot and 0 before it; the later rows are 0 up
+-- to this pivot, and the row is 0 at the later pivots.
 abbrev pub IsEchelon : List (List ℤ) → List ℕ → Type 0
 IsEchelon [] [] = Unit {0}
 IsEchelon [] (p ∷ ps) = ⊥
 IsEchelon (r ∷ rows) [] = ⊥
 IsEchelon (r ∷ rows) (p ∷ ps) =
-    Leads r p × IsPrimitive r × ((t : List ℤ) → Contains rows t → (j : ℕ) → Before j p ⊎ (j ≡ p) → entry t j ≡ pos 0) × ((q : ℕ) → Contains ps q → entry r q ≡ pos 0) × IsEchelon rows ps
+    Leads r p × IsPrimitive r × ((t : List ℤ) → Contains rows t → (j : ℕ) → Before j p ⊎ (j ≡ p) → entry t j ≡ pos 0) ×
+    ((q : ℕ) → Contains ps q → entry r q ≡ pos 0) × IsEchelon rows ps
 
 -- the form is a reduced echelon form with the span of the rows
 pub record IsEchelonOf (form rows : List (List ℤ)) : Type 0 where

@@ -14,6 +14,7 @@ pub mod Saturation
 -- Polyhedra as sets of rational points
 pub mod Points
 pub mod Descriptions
+pub mod Kinds
 pub mod SetOperations
 pub mod RowOrder
 pub mod Polyhedra

@@ -1,9 +1,10 @@
--- Strain of the operations on polyhedra. An operation takes in a list of constraints, or of generators; it strains where that list
--- strains, where the canonical list of the other kind of its exact result does, or where a number passes as a row of the list is
--- formed. Inclusion, the greatest value of a form, and the widenings strain where one of their products passes. Polyhedra stand here
--- by their canonical lists, so the strain of an operation depends on the sets alone. Rows are taken in as they are formed, not in
--- lowest terms; k is a column, from 1 to n.
-use Rattle.std.specs.Prelude.{◌≡◌, ℕ, suc, ◌+◌, ◌-◌, ◌&&◌, ◌⊎◌, ℤ, pos, true, List, [], ◌∷◌, ◌++◌, take, slice_set, Result, Err, map}
+-- Strain of the operations on polyhedra. An operation takes in a list of constraints, or of generators; it strains
+-- where that list strains, where the canonical list of the other kind of its exact result does, or where a number
+-- passes as a row of the list is formed. Inclusion, the greatest value of a form, and the widenings strain where one of
+-- their products passes. Polyhedra stand here by their canonical lists, so the strain of an operation depends on the
+-- sets alone. Rows are taken in as they are formed, not in lowest terms; k is a column, from 1 to n.
+use Rattle.std.specs.Prelude.{◌≡◌, ℕ, suc, ◌+◌, ◌-◌, ◌&&◌, ◌⊎◌, ℤ, pos, true, List, [], ◌∷◌, ◌++◌, take, slice_set}
+use Rattle.std.specs.Prelude.{Result, Err, map}
 use Rattle.std.specs.List.{Contains, filter}
 use Rattle.lra_linear.specs.declared.Excess as E
 use Rattle.lra_linear.specs.declared.Cause.TheVariants.{Excess}
@@ -11,7 +12,8 @@ use Rattle.lra_linear.specs.Vectors.{cleared, substituted, zeros, units}
 use Rattle.lra_linear.specs.CheckedArithmetic.{checked_product, checked_substitution}
 use Rattle.lra_linear.specs.Points.{PointSet}
 use Rattle.lra_linear.specs.Descriptions.{Given, inequality, line, given_as, Holds, Con, Gen}
-use Rattle.lra_linear.specs.SetOperations.{Meet, Union, Hull, assigned, Image, Preimage, Forget, Embed, RemoveLast, TimeElapse}
+use Rattle.lra_linear.specs.SetOperations.{Meet, Union, Hull, assigned, Image, Preimage, Forget, Embed, RemoveLast}
+use Rattle.lra_linear.specs.SetOperations.{TimeElapse}
 use Rattle.lra_linear.specs.Polyhedra.{Polyhedron, positivity, IsPolyhedronOf}
 use Rattle.lra_linear.specs.Widening.{is_tight, is_valid, Standard, Limited}
 use Rattle.lra_linear.specs.Strain.{Loss, Strains}
@@ -28,13 +30,15 @@ pub record ResultStrains (n : ℕ) (P : PointSet) (list : Polyhedron → List Gi
 
 -- an operation that takes in these constraints, or generators, and has the exact result P
 abbrev pub ConstraintsStrain : ℕ → PointSet → List Given → Loss → Type 0
-ConstraintsStrain n P taken loss = Strains (suc n) (with_positivity n taken) loss ⊎ ResultStrains n P (λ p. p.generators) loss
+ConstraintsStrain n P taken loss = Strains (suc n) (with_positivity n taken) loss ⊎
+    ResultStrains n P (λ p. p.generators) loss
 
 abbrev pub GeneratorsStrain : ℕ → PointSet → List Given → Loss → Type 0
 GeneratorsStrain n P taken loss = Strains (suc n) taken loss ⊎ ResultStrains n P (λ p. with_positivity n p.rows) loss
 
 -- a number passes as one of the rows is formed; as chosen stand those before it, all as they are before they are formed
-pub record FormingPasses {A : Type 0} (formed : Given → Result A E.Excess) (rows : List Given) (loss : Loss) : Type 0 where
+pub record FormingPasses {A : Type 0} (formed : Given → Result A E.Excess) (rows : List Given)
+    (loss : Loss) : Type 0 where
   pub later : List Given
   pub is : rows ≡ loss.chosen ++ loss.further ∷ later
   pub excess : E.Excess
@@ -85,8 +89,9 @@ pub record IsResultList (n : ℕ) (P : PointSet) (generators : List Given) : Typ
   pub is_result : IsPolyhedronOf n P result
   pub are : generators ≡ result.generators
 
--- a product of a row of Q, or of a given row, with a generator of P, of Q or of the exact result R passes; no row stands as chosen
--- (the products of P's own rows with P's generators, by which tightness is told, are none of these: they must be known to fit)
+-- a product of a row of Q, or of a given row, with a generator of P, of Q or of the exact result R passes; no row
+-- stands as chosen (the products of P's own rows with P's generators, by which tightness is told, are none of these:
+-- they must be known to fit)
 pub record WideningPasses (p q : Polyhedron) (given : List Given) (R : PointSet) (loss : Loss) : Type 0 where
   pub excess : E.Excess
   pub is_cause : loss.cause ≡ Excess excess
@@ -97,14 +102,16 @@ pub record WideningPasses (p q : Polyhedron) (given : List Given) (R : PointSet)
   pub nothing : loss.chosen ≡ []
 
 abbrev pub StandardStrains : Polyhedron → Polyhedron → Loss → Type 0
-StandardStrains p q loss = ConstraintsStrain p.dims (Standard p q) (tight_on p q) loss ⊎ WideningPasses p q [] (Standard p q) loss
+StandardStrains p q loss = ConstraintsStrain p.dims (Standard p q) (tight_on p q) loss ⊎
+    WideningPasses p q [] (Standard p q) loss
 
 abbrev pub LimitedStrains : Polyhedron → Polyhedron → List Given → Loss → Type 0
 LimitedStrains p q given loss =
-    ConstraintsStrain p.dims (Limited p q given) (tight_on p q ++ valid_on p q given) loss ⊎ WideningPasses p q given (Limited p q given) loss
+    ConstraintsStrain p.dims (Limited p q given) (tight_on p q ++ valid_on p q given) loss ⊎
+    WideningPasses p q given (Limited p q given) loss
 
--- ---- hull and time-elapse: the canonical generators of both, for time-elapse the second's points as rays; where one has no point,
--- still those of the other
+-- ---- hull and time-elapse: the canonical generators of both, for time-elapse the second's points as rays; where one
+-- has no point, still those of the other
 abbrev pub HullStrains : Polyhedron → Polyhedron → Loss → Type 0
 HullStrains p q = GeneratorsStrain p.dims (Hull p.dims (Union (Con p.rows) (Con q.rows))) (p.generators ++ q.generators)
 
@@ -112,7 +119,8 @@ abbrev pub as_directions : List Given → List Given
 as_directions generators = map (λ g. record { row = cleared 0 g.row; equal = g.equal }) generators
 
 abbrev pub TimeElapseStrains : Polyhedron → Polyhedron → Loss → Type 0
-TimeElapseStrains p q = GeneratorsStrain p.dims (TimeElapse p.dims (Con p.rows) (Con q.rows)) (p.generators ++ as_directions q.generators)
+TimeElapseStrains p q = GeneratorsStrain p.dims (TimeElapse p.dims (Con p.rows) (Con q.rows))
+    (p.generators ++ as_directions q.generators)
 
 -- ---- images: the mapped generators
 abbrev pub mapped : ℕ → List ℤ → List Given → List Given
@@ -128,12 +136,14 @@ abbrev pub unit_row : ℕ → ℕ → List ℤ
 unit_row n k = slice_set (zeros (suc n)) k (pos 1)
 
 abbrev pub ForgetStrains : ℕ → Polyhedron → Loss → Type 0
-ForgetStrains k p = GeneratorsStrain p.dims (Forget p.dims k (Con p.rows)) (p.generators ++ line (unit_row p.dims k) ∷ [])
+ForgetStrains k p = GeneratorsStrain p.dims (Forget p.dims k (Con p.rows))
+    (p.generators ++ line (unit_row p.dims k) ∷ [])
 
 -- the generators with k more columns, then a line for each of these
 abbrev pub embedded : ℕ → Polyhedron → List Given
 embedded k p =
-    map (λ g. record { row = g.row ++ zeros k; equal = g.equal }) p.generators ++ given_as true (map (λ u. zeros (suc p.dims) ++ u) (units k))
+    map (λ g. record { row = g.row ++ zeros k; equal = g.equal }) p.generators ++
+    given_as true (map (λ u. zeros (suc p.dims) ++ u) (units k))
 
 abbrev pub EmbedStrains : ℕ → Polyhedron → Loss → Type 0
 EmbedStrains k p = GeneratorsStrain (p.dims + k) (Embed p.dims (Con p.rows)) (embedded k p)
@@ -143,9 +153,11 @@ abbrev pub shortened : ℕ → List Given → List Given
 shortened n generators = map (λ g. record { row = take (suc n) g.row; equal = g.equal }) generators
 
 abbrev pub RemoveLastStrains : ℕ → Polyhedron → Loss → Type 0
-RemoveLastStrains k p = GeneratorsStrain (p.dims - k) (RemoveLast (p.dims - k) k (Con p.rows)) (shortened (p.dims - k) p.generators)
+RemoveLastStrains k p = GeneratorsStrain (p.dims - k) (RemoveLast (p.dims - k) k (Con p.rows))
+    (shortened (p.dims - k) p.generators)
 
--- ---- inclusion of P in Q: a product of a row of Q with a generator of P; the greatest value of a form: its product with a generator
+-- ---- inclusion of P in Q: a product of a row of Q with a generator of P; the greatest value of a form: its product
+-- with a generator
 abbrev pub InclusionStrains : Polyhedron → Polyhedron → E.Excess → Type 0
 InclusionStrains p q e = ProductsPass q.rows p.generators e
 

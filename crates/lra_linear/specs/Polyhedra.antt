@@ -1,6 +1,7 @@
--- A closed polyhedron of n dimensions by its two canonical lists. Both are canonical descriptions of cones of n + 1 columns: that of
--- all valid constraints, and that of all generators. The positivity row, which says that column 0 is at least 0, is always
--- valid, and is left out of the list. A polyhedron without a point has the one row -1 >= 0 and no generator.
+-- A closed polyhedron of n dimensions by its two canonical lists. Both are canonical descriptions of cones of n + 1
+-- columns: that of all valid constraints, and that of all generators. The positivity row, which says that column 0 is
+-- at least 0, is always valid, and is left out of the list. A polyhedron without a point has the one row -1 >= 0 and no
+-- generator.
 use Rattle.std.specs.Prelude.{◌≡◌, ◌≢◌, ℕ, suc, ◌⊎◌, ℤ, pos, negsuc, ◌<ℤ◌, true, false, List, [], ◌∷◌, ◌++◌}
 use Rattle.std.specs.List.{Contains}
 use Rattle.lra_linear.specs.Vectors.{entry, zeros}
@@ -25,8 +26,8 @@ abbrev pub falsity : ℕ → List ℤ
 falsity n = negsuc 0 ∷ zeros n
 
 -- ---- with a point
--- Equalities, then inequalities; points, then rays, then lines. Equalities and lines are in the order of their pivots, as their
--- echelon forms are. The facets are the inequalities, with the positivity row where that isn't redundant.
+-- Equalities, then inequalities; points, then rays, then lines. Equalities and lines are in the order of their pivots,
+-- as their echelon forms are. The facets are the inequalities, with the positivity row where that isn't redundant.
 pub record HasPoint (p : Polyhedron) : Type 0 where
   pub equalities : List (List ℤ)
   pub inequalities : List (List ℤ)

@@ -1,5 +1,5 @@
--- Reductions of a row by an echelon form: chains of steps, each of which makes the entry in one pivot's column 0, and where in such
--- a chain a number passes the range.
+-- Reductions of a row by an echelon form: chains of steps, each of which makes the entry in one pivot's column 0, and
+-- where in such a chain a number passes the range.
 use Rattle.std.specs.Prelude.{◌≡◌, ℕ, ◌<◌, ℤ, pos, neg_ℤ, List, [], ◌∷◌, length, Result, Ok, Err}
 use Rattle.std.specs.List.{Contains}
 use Rattle.lra_linear.specs.declared.Excess.{Excess}
@@ -8,8 +8,8 @@ use Rattle.lra_linear.specs.LowestTerms.{IsLowest}
 use Rattle.lra_linear.specs.Echelon.{pivot}
 use Rattle.lra_linear.specs.CheckedArithmetic.{checked_blend}
 
--- (the line's entry at its pivot) r - (r's entry there) line: 0 at the pivot; or the first number that passes. The two factors are
--- taken as they are, not divided by what divides both.
+-- (the line's entry at its pivot) r - (r's entry there) line: 0 at the pivot; or the first number that passes. The two
+-- factors are taken as they are, not divided by what divides both.
 abbrev pub checked_clearing : List ℤ → List ℤ → Result (List ℤ) Excess
 checked_clearing line r = checked_blend (entry line (pivot line)) (neg_ℤ (entry r (pivot line))) r line
 

@@ -1,4 +1,5 @@
--- The orders of the lists that are shown. Rows are compared by the entries of columns 1, 2, 3 and on, and by that of column 0 last.
+-- The orders of the lists that are shown. Rows are compared by the entries of columns 1, 2, 3 and on, and by that of
+-- column 0 last.
 use Rattle.std.specs.Prelude.{◌≡◌, ℤ, List, [], ◌∷◌, ◌++◌}
 use Rattle.std.specs.Ordering.{int_cmp, nat_cmp, ordering_then}
 use Rattle.std.specs.Cmp.Lexicographic.{slice_cmp}

@@ -1,6 +1,8 @@
--- Operations on sets of rational points, said of the points alone. A form e0, e1, .., en is the affine map e0 + e1 x1 + .. + en xn;
--- at the point den, num1, .., numn it is (its product with that row) / den. In an image, a preimage and where a coordinate may be
--- anything, k is a column, from 1 to n: the dimension that is k - 1 when counted from 0. Column 0 is the divisor.
+-- Operations on sets of rational points, said of the points alone. A form e0, e1, .., en is the affine map e0 + e1 x1 +
+-- .. + en xn;
+-- at the point den, num1, .., numn it is (its product with that row) / den. In an image, a preimage and where a
+-- coordinate may be anything, k is a column, from 1 to n: the dimension that is k - 1 when counted from 0. Column 0 is
+-- the divisor.
 use Rattle.std.specs.Prelude.{◌≡◌, ◌≢◌, ℕ, suc, ◌+◌, ◌<◌, ◌⊎◌, ℤ, pos, ◌+ℤ◌, ◌*ℤ◌, ◌≤ℤ◌, List, length, take, slice_set}
 use Rattle.lra_linear.specs.Vectors.{entry, product}
 use Rattle.lra_linear.specs.Points.{IsPoint, SamePoint, PointSet}
@@ -19,7 +21,8 @@ ValidOn n P g = (x : List ℤ) → IsPoint n x → P x → Holds g x
 -- ---- hull: x is in it exactly where each inequality with whole coefficients that is valid on P holds at x
 -- (the hull of several sets is that of their union)
 abbrev pub Hull : ℕ → PointSet → PointSet
-Hull n P x = (c : List ℤ) → length c ≡ suc n → ((y : List ℤ) → IsPoint n y → P y → pos 0 ≤ℤ product c y) → pos 0 ≤ℤ product c x
+Hull n P x = (c : List ℤ) → length c ≡ suc n → ((y : List ℤ) → IsPoint n y → P y → pos 0 ≤ℤ product c y) →
+    pos 0 ≤ℤ product c x
 
 -- ---- images: the point with the form's value as coordinate k
 abbrev pub assigned : ℕ → List ℤ → List ℤ → List ℤ
@@ -67,7 +70,8 @@ pub record OnTheWay (n : ℕ) (P Q : PointSet) (x : List ℤ) : Type 0 where
   pub steps : IsPoint n step
   pub in_second : Q step
   pub times : ℕ
-  pub same : (j : ℕ) → 0 < j → (entry x j *ℤ entry start 0) *ℤ entry step 0 ≡ entry x 0 *ℤ ((entry start j *ℤ entry step 0) +ℤ ((pos times *ℤ entry step j) *ℤ entry start 0))
+  pub same : (j : ℕ) → 0 < j → (entry x j *ℤ entry start 0) *ℤ entry step 0 ≡
+      entry x 0 *ℤ ((entry start j *ℤ entry step 0) +ℤ ((pos times *ℤ entry step j) *ℤ entry start 0))
 
 abbrev pub TimeElapse : ℕ → PointSet → PointSet → PointSet
 TimeElapse n P Q = Hull n (OnTheWay n P Q)

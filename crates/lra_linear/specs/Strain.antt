@@ -1,14 +1,16 @@
--- Strain: from which numbers, exactly, a list that is taken in row by row may lose a row. The list is one of constraints, with the
--- positivity row first, or one of generators. Let S be a beginning of it and c the next row, or a row of S; let S* be the canonical
--- description of the other kind of what S describes. The list strains where a number passes the range
--- (1) in the product of c with a row of S*, or in what c and two rows of S* combine to, a line of S* in either direction, but not
--- with itself;
+-- Strain: from which numbers, exactly, a list that is taken in row by row may lose a row. The list is one of
+-- constraints, with the positivity row first, or one of generators. Let S be a beginning of it and c the next row, or a
+-- row of S; let S* be the canonical description of the other kind of what S describes. The list strains where a number
+-- passes the range (1) in the product of c with a row of S*, or in what c and two rows of S* combine to, a line of S*
+-- in either direction, but not with itself;
 -- (2) in a reduction, of at most as many steps as there are columns, by an echelon form;
 -- or where (3) S with c has a canonical description of one of the two kinds with too many rows.
 -- The rows that a reduction starts from, and the echelon forms by which it goes, are those of one kind:
--- of the list's own kind, from a row of S, of the canonical description of S, or another such form, by the echelon form of the first
--- few of those rows of S that are tight at all of S* (they hold as equalities; of generators, they can be taken both ways);
--- of the other kind, from a row of S*, a combination of two of them by c, or the other form, by the lines of S* or of (S with c)*.
+-- of the list's own kind, from a row of S, of the canonical description of S, or another such form, by the echelon form
+-- of the first few of those rows of S that are tight at all of S* (they hold as equalities; of generators, they can be
+-- taken both ways);
+-- of the other kind, from a row of S*, a combination of two of them by c, or the other form, by the lines of S* or of
+-- (S with c)*.
 -- No row of a form is cleared by itself in that form; a row of S that equals it is another row.
 -- Each is said with its witness: the lists, the rows, the steps before the one that passes.
 use Rattle.std.specs.Prelude.{◌≡◌, ◌≢◌, ℕ, ◌<◌, ◌⊎◌, ℤ, pos, Bool, true, false, cond, List, [], ◌∷◌, ◌++◌, length, take}
@@ -66,7 +68,8 @@ pub record OwnReductionPasses (w : ℕ) (chosen : List Given) (rays : List (List
   pub form : List (List ℤ)
   pub is_form : IsOwnForm (rows_of chosen) rays form
   pub start : List ℤ
-  pub from : Contains (rows_of chosen) start ⊎ InCanonical w (system_of chosen) form start ⊎ InOtherForm (IsOwnForm (rows_of chosen) rays) form start
+  pub from : Contains (rows_of chosen) start ⊎ InCanonical w (system_of chosen) form start ⊎
+      InOtherForm (IsOwnForm (rows_of chosen) rays) form start
   pub passes : ReductionPasses w form start e
 
 -- ---- (2) reductions of the other kind
@@ -83,7 +86,8 @@ IsOtherForm w system lines form = (form ≡ lines) ⊎ IsNewLines w system form
 abbrev pub InOther : List (List ℤ) → List (List ℤ) → List (List ℤ) → List ℤ → Type 0
 InOther lines rays form r = Contains rays r ⊎ (Contains (both_ways lines) r × (form ≢ lines))
 
-pub record OtherReductionPasses (w : ℕ) (chosen : List Given) (further : Given) (lines rays : List (List ℤ)) (e : E.Excess) : Type 0 where
+pub record OtherReductionPasses (w : ℕ) (chosen : List Given) (further : Given) (lines rays : List (List ℤ))
+    (e : E.Excess) : Type 0 where
   pub form : List (List ℤ)
   pub is_form : IsOtherForm w (with_row further.equal further.row (system_of chosen)) lines form
   pub start : List ℤ
@@ -101,10 +105,12 @@ pub record OwnTooMany (w : ℕ) (system : List (List ℤ)) : Type 0 where
 -- ---- the strain
 abbrev pub IsStrained : ℕ → List Given → Given → List (List ℤ) → List (List ℤ) → Cause → Type 0
 IsStrained w chosen further lines rays (Excess e) =
-    ProductPasses further.row (all_rows lines rays) e ⊎ PairPasses further.row (all_rows lines rays) e ⊎ OwnReductionPasses w chosen rays e
+    ProductPasses further.row (all_rows lines rays) e ⊎ PairPasses further.row (all_rows lines rays) e ⊎
+    OwnReductionPasses w chosen rays e
     ⊎ OtherReductionPasses w chosen further lines rays e
 IsStrained w chosen further lines rays TooMany =
-    HasTooMany w further.equal further.row lines rays ⊎ OwnTooMany w (with_row further.equal further.row (system_of chosen))
+    HasTooMany w further.equal further.row lines rays ⊎
+    OwnTooMany w (with_row further.equal further.row (system_of chosen))
 
 -- the list strains, as the loss tells: with the beginning `chosen` and the row `further`, the next one or one of those
 pub record Strains (w : ℕ) (all : List Given) (loss : Loss) : Type 0 where

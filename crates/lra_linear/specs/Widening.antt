@@ -1,6 +1,6 @@
--- The standard widening of polyhedra (after Halbwachs 1979) and the limited one, on canonical lists, so that they depend on the two
--- sets alone. A row is tight on P where the generators of P with which its product is 0 are all of P's, or are exactly those with
--- which some row of P has product 0.
+-- The standard widening of polyhedra (after Halbwachs 1979) and the limited one, on canonical lists, so that they
+-- depend on the two sets alone. A row is tight on P where the generators of P with which its product is 0 are all of
+-- P's, or are exactly those with which some row of P has product 0.
 use Rattle.std.specs.Prelude.{pos, Bool, ◌||◌, cond, int_le, IsTrue, List, [], ◌∷◌}
 use Rattle.std.specs.List.{Contains, list_all, list_any}
 use Rattle.std.specs.Ordering.{int_eq}
@@ -39,4 +39,5 @@ is_valid p r = list_all (holds_with r) p.generators
 -- that set met with each given row that is valid on both
 abbrev pub Limited : Polyhedron → Polyhedron → List Given → PointSet
 Limited p q given x =
-    Standard p q x × ((g : Given) → Contains given g → ValidOn p.dims (Con p.rows) g → ValidOn q.dims (Con q.rows) g → Holds g x)
+    Standard p q x × ((g : Given) → Contains given g → ValidOn p.dims (Con p.rows) g → ValidOn q.dims (Con q.rows) g →
+    Holds g x)

@@ -1,5 +1,9 @@
-//! Linear mathematics over lists of whole numbers: definitions and lemmas, no function.
+//! Linear mathematics over lists of whole numbers: definitions and lemmas, and the few types that they speak of.
 #![tactic(auto)]
+
+ghost use Rattle.std.specs.Prelude.{◌↔◌, IsTrue};
+ghost use Rattle.lra_linear.specs.Descriptions.{HoldsWith};
+ghost use Rattle.lra_linear.specs.Kinds.{is_equality};
 
 /// Which of the two operations of a product of rows passes the range.
 #[derive(Clone, Copy, Debug, PartialEq, Eq)]
@@ -21,4 +25,23 @@ pub struct Excess {
 pub enum Cause {
     Excess(Excess),
     TooMany,
+}
+
+/// What a constraint asks of its product with a point, and a test of its form's value: to be at least 0, or to be 0.
+#[derive(Clone, Copy, Debug, PartialEq, Eq)]
+pub enum ConKind {
+    Ge,
+    Eq,
+}
+
+impl ConKind {
+    /// Whether a value is as the kind asks.
+    pub fn accepts(self, value: i128) -> bool
+        ensures { IsTrue result ↔ HoldsWith (is_equality self) value }
+    {
+        match self {
+            ConKind::Ge => value >= 0,
+            ConKind::Eq => value == 0,
+        }
+    }
 }

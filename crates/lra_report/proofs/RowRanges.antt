@@ -3,7 +3,7 @@ use Rattle.std.proofs.Common.{ℤ, List, [], ◌∷◌, arith}
 use Rattle.std.specs.List.{All, AllByRecursion}
 use Rattle.std.proofs.lemmas.List.Elements.{All-head, All-tail}
 use Rattle.lra_linear.specs.Range.{InRange}
-use Rattle.lra_sys.specs.declared.system.ConKind.{ConKind}
+use Rattle.lra_linear.specs.declared.ConKind.{ConKind}
 use Rattle.lra_show.specs.Shown.{report_row}
 use Rattle.lra_report.specs.Rows.{shown_rows, IsRowInRange}
 

@@ -7,15 +7,18 @@ use Rattle.lra_linear.specs.CheckedArithmetic.{checked_product_from, checked_ent
 use Rattle.lra_linear.proofs.CheckedArithmetic.{in_range_yes, in_range_no}
 
 -- ---- products
-pub product_passes : (s x y : ℤ) (xs ys xs' ys' : List ℤ) (e : Excess) → xs ≡ x ∷ xs' → ys ≡ y ∷ ys' → (¬ (InRange (x *ℤ y))) × (e ≡ record { op = Product; left = x; right = y }) → Err e ≡ checked_product_from s xs ys
+pub product_passes : (s x y : ℤ) (xs ys xs' ys' : List ℤ) (e : Excess) → xs ≡ x ∷ xs' → ys ≡ y ∷ ys' → (¬ (InRange (x *ℤ y))) × (e ≡ record { op = Product; left = x; right = y }) →
+    Err e ≡ checked_product_from s xs ys
 product_passes s x y xs ys xs' ys' e h k p = rw (h, k, in_range_no (x *ℤ y) p.0) (ap Err p.1)
 
-pub sum_passes : (s x y z : ℤ) (xs ys xs' ys' : List ℤ) (e : Excess) → xs ≡ x ∷ xs' → ys ≡ y ∷ ys' → InRange (x *ℤ y) × (z ≡ x *ℤ y) → (¬ (InRange (s +ℤ z))) × (e ≡ record { op = Sum; left = s; right = z }) → Err e ≡ checked_product_from s xs ys
+pub sum_passes : (s x y z : ℤ) (xs ys xs' ys' : List ℤ) (e : Excess) → xs ≡ x ∷ xs' → ys ≡ y ∷ ys' → InRange (x *ℤ y) × (z ≡ x *ℤ y) → (¬ (InRange (s +ℤ z))) ×
+    (e ≡ record { op = Sum; left = s; right = z }) → Err e ≡ checked_product_from s xs ys
 sum_passes s x y z xs ys xs' ys' e h k p q =
     rw (h, k, in_range_yes (x *ℤ y) p.0, in_range_no (s +ℤ (x *ℤ y)) (subst (λ (n : ℤ). ¬ (InRange (s +ℤ n))) p.1 q.0))
     (ap Err q.1 ∙ ap (λ (n : ℤ). Err (record { op = Sum; left = s; right = n })) p.1)
 
-pub column_taken : (s x y z n : ℤ) (xs ys xs' ys' : List ℤ) → xs ≡ x ∷ xs' → ys ≡ y ∷ ys' → InRange (x *ℤ y) × (z ≡ x *ℤ y) → InRange (s +ℤ z) × (n ≡ s +ℤ z) → checked_product_from n xs' ys' ≡ checked_product_from s xs ys
+pub column_taken : (s x y z n : ℤ) (xs ys xs' ys' : List ℤ) → xs ≡ x ∷ xs' → ys ≡ y ∷ ys' → InRange (x *ℤ y) × (z ≡ x *ℤ y) → InRange (s +ℤ z) × (n ≡ s +ℤ z) →
+    checked_product_from n xs' ys' ≡ checked_product_from s xs ys
 column_taken s x y z n xs ys xs' ys' h k p q =
     rw (h, k, in_range_yes (x *ℤ y) p.0, in_range_yes (s +ℤ (x *ℤ y)) (subst (λ (n : ℤ). InRange (s +ℤ n)) p.1 q.0))
     (ap (λ (m : ℤ). checked_product_from m xs' ys') (q.1 ∙ ap (λ (m : ℤ). s +ℤ m) p.1))
@@ -54,7 +57,8 @@ prepend_more xs x (Err e) = refl
 pub blend_passes : (a b u w : ℤ) (us vs us' vs' out : List ℤ) (e : Excess) → us ≡ u ∷ us' → vs ≡ w ∷ vs' → Err e ≡ checked_entry a b u w → prepend out (checked_blend a b us vs) ≡ Err e
 blend_passes a b u w us vs us' vs' out e h k p = rw (h, k, ← p) refl
 
-pub blend_taken : (a b u w z : ℤ) (us vs us' vs' out new : List ℤ) → us ≡ u ∷ us' → vs ≡ w ∷ vs' → Ok z ≡ checked_entry a b u w → new ≡ out ++ z ∷ [] → prepend new (checked_blend a b us' vs') ≡ prepend out (checked_blend a b us vs)
+pub blend_taken : (a b u w z : ℤ) (us vs us' vs' out new : List ℤ) → us ≡ u ∷ us' → vs ≡ w ∷ vs' → Ok z ≡ checked_entry a b u w → new ≡ out ++ z ∷ [] →
+    prepend new (checked_blend a b us' vs') ≡ prepend out (checked_blend a b us vs)
 blend_taken a b u w z us vs us' vs' out new h k p n = rw (h, k, ← p, n) (prepend_more out z (checked_blend a b us' vs'))
 
 pub blend_end : (a b : ℤ) (us vs out : List ℤ) → (us ≡ []) ⊎ (vs ≡ []) → prepend out (checked_blend a b us vs) ≡ Ok out

@@ -37,7 +37,8 @@ combined_positive u w c row l above below h =
       left = a.0;
       right = b.0;
       positive = (h.positive, nonzero (product c w) a.0 below a.1, positive_nat (product c u) b.0 above b.1);
-      is_sum = λ j. h.is_multiple j ∙ entry_blend (neg_ℤ (product c w)) (product c u) u w l j ∙ ap (λ (x : ℤ). (x *ℤ entry u j) +ℤ (product c u *ℤ entry w j)) a.1 ∙ ap (λ (x : ℤ). (pos a.0 *ℤ entry u j) +ℤ (x *ℤ entry w j)) b.1;
+      is_sum = λ j. h.is_multiple j ∙ entry_blend (neg_ℤ (product c w)) (product c u) u w l j ∙ ap (λ (x : ℤ). (x *ℤ entry u j) +ℤ (product c u *ℤ entry w j)) a.1 ∙
+          ap (λ (x : ℤ). (pos a.0 *ℤ entry u j) +ℤ (x *ℤ entry w j)) b.1;
     }
   where
     nonzero : (z : ℤ) (n : ℕ) → z <ℤ pos 0 → neg_ℤ z ≡ pos n → 0 < n
@@ -47,7 +48,8 @@ combined_positive u w c row l above below h =
 pub combined_read : (u w c row : List ℤ) (above below opposite : ℤ) → above ≡ product c u → below ≡ product c w → opposite ≡ neg_ℤ below → row ≡ blend opposite above u w → row ≡ combined u w c
 combined_read u w c row above below opposite a b o r = r ∙ ap (λ (n : ℤ). blend n above u w) (o ∙ ap neg_ℤ b) ∙ ap (λ (n : ℤ). blend (neg_ℤ (product c w)) n u w) a
 
-pub checked_read : (u w c : List ℤ) (above below opposite : ℤ) → Ok above ≡ checked_product c u → Ok below ≡ checked_product c w → opposite ≡ neg_ℤ below → checked_blend opposite above u w ≡ checked_combination u w c
+pub checked_read : (u w c : List ℤ) (above below opposite : ℤ) → Ok above ≡ checked_product c u → Ok below ≡ checked_product c w → opposite ≡ neg_ℤ below →
+    checked_blend opposite above u w ≡ checked_combination u w c
 checked_read u w c above below opposite a b o = ap (λ (n : ℤ). checked_blend n above u w) o ∙ sym (combination_is u w c above below a b)
 
 -- ---- substitution
@@ -73,7 +75,8 @@ pub blend_added : (b : ℤ) (us ws : List ℤ) → All InRange us → checked_bl
 blend_added b [] ws h = refl
 blend_added b (u ∷ us) [] h = refl
 blend_added b (u ∷ us) (w ∷ ws) h =
-    ap (λ r. then_rest r (checked_blend (pos 1) b us ws)) (entry_added b u w (All-head InRange u us h)) ∙ ap (λ r. then_rest (checked_added_entry b u w) r) (blend_added b us ws (All-tail InRange u us h))
+    ap (λ r. then_rest r (checked_blend (pos 1) b us ws)) (entry_added b u w (All-head InRange u us h)) ∙
+    ap (λ r. then_rest (checked_added_entry b u w) r) (blend_added b us ws (All-tail InRange u us h))
 
 pub substitution_read : (x : ℕ) (form row rest : List ℤ) (e : ℤ) → e ≡ entry row x → rest ≡ cleared x row → blend (pos 1) e rest form ≡ substituted x form row
 substitution_read x form row rest e f r = ap (λ (n : ℤ). blend (pos 1) n rest form) f ∙ ap (λ (us : List ℤ). blend (pos 1) (entry row x) us form) r

@@ -62,9 +62,17 @@ floor_below (negsuc a) (negsuc b) n r =
 pub floor_law : (a b : ℤ) → ¬ (b ≡ pos 0) → IsFloor a b (floor_quotient a b)
 floor_law a (pos zero) z = absurd (z refl)
 floor_law (pos a) (pos (suc b)) z = (omega (arith, ints), omega (arith, ints))
-floor_law (negsuc a) (pos (suc b)) z = (omega (arith, ints), let q = a / suc b in subst (λ (x : ℤ). negsuc a <ℤ x) (ring (⊖ (v (pos (q * suc b)))) ((v (negsuc q) ⊕ v (pos 1)) ⊗ v (pos (suc b))) (omega arith)) (omega (arith, ints)))
+floor_law (negsuc a) (pos (suc b)) z = (
+  omega (arith, ints),
+  let q = a / suc b in subst (λ (x : ℤ). negsuc a <ℤ x)
+      (ring (⊖ (v (pos (q * suc b)))) ((v (negsuc q) ⊕ v (pos 1)) ⊗ v (pos (suc b))) (omega arith)) (omega (arith, ints)),
+)
 floor_law (pos zero) (negsuc b) z = (omega (arith, ints), omega (arith, ints))
-floor_law (pos (suc a)) (negsuc b) z = (omega (arith, ints), let q = a / suc b in subst (λ (x : ℤ). x <ℤ pos (suc a)) (ring (v (pos (q * suc b))) ((v (negsuc q) ⊕ v (pos 1)) ⊗ v (negsuc b)) (omega arith)) (omega (arith, ints)))
+floor_law (pos (suc a)) (negsuc b) z = (
+  omega (arith, ints),
+  let q = a / suc b in subst (λ (x : ℤ). x <ℤ pos (suc a))
+      (ring (v (pos (q * suc b))) ((v (negsuc q) ⊕ v (pos 1)) ⊗ v (negsuc b)) (omega arith)) (omega (arith, ints)),
+)
 floor_law (negsuc a) (negsuc b) z = (omega (arith, ints), omega (arith, ints))
 
 -- the smaller quotient fits 128 bits

@@ -19,7 +19,8 @@ later_by : {A : Type 0} (o : Excess) (operations : List Excess) (r : Result A Ex
 later_by o operations (Ok x) f h = All-cons Fits o operations f h
 later_by o operations (Err e) f h = record { earlier = o ∷ h.earlier; later = h.later; is = ap (λ os. o ∷ os) h.is; fit = All-cons Fits o h.earlier f h.fit; passes = h.passes }
 
-operation_first : {A : Type 0} (o : Excess) (operations : List Excess) (r : Result A Excess) → NamesFirst operations r → NamesFirst (o ∷ operations) (cond (in_range (result_of o.op o.left o.right)) r (Err o))
+operation_first : {A : Type 0} (o : Excess) (operations : List Excess) (r : Result A Excess) → NamesFirst operations r →
+    NamesFirst (o ∷ operations) (cond (in_range (result_of o.op o.left o.right)) r (Err o))
 operation_first {A} o operations r h = by_test (in_range (result_of o.op o.left o.right)) refl
   where
     by_test : (b : Bool) → b ≡ in_range (result_of o.op o.left o.right) → NamesFirst {A = A} (o ∷ operations) (cond b r (Err o))
@@ -55,7 +56,8 @@ entry_made z operations (Ok zs) h = h
 entry_made z operations (Err e) h = h
 
 -- the rest of the row after an operation of this column
-in_column : (o : Excess) (operations : List Excess) (r : Result ℤ Excess) (rest : Entries) → NamesFirst operations (then_rest r rest) → NamesFirst (o ∷ operations) (then_rest (cond (in_range (result_of o.op o.left o.right)) r (Err o)) rest)
+in_column : (o : Excess) (operations : List Excess) (r : Result ℤ Excess) (rest : Entries) → NamesFirst operations (then_rest r rest) →
+    NamesFirst (o ∷ operations) (then_rest (cond (in_range (result_of o.op o.left o.right)) r (Err o)) rest)
 in_column o operations r rest h =
     by_value (o ∷ operations) _ _ (rest_after (in_range (result_of o.op o.left o.right)) o r rest) (operation_first o operations (then_rest r rest) h)
 
@@ -82,13 +84,26 @@ names_added b (u ∷ us) (w ∷ vs) =
     in_column times (plus ∷ later) _ rest (in_column plus later _ rest (entry_made (u +ℤ (b *ℤ w)) later rest (names_added b us vs)))
 
 -- ---- one calculation after another
-pub names_then : {A B : Type 0} (front back : List Excess) (r : Result A Excess) (next : A → Result B Excess) → NamesFirst front r → ((x : A) → r ≡ Ok x → NamesFirst back (next x)) → NamesFirst (front ++ back) (and_then r next)
+pub names_then : {A B : Type 0} (front back : List Excess) (r : Result A Excess) (next : A → Result B Excess) → NamesFirst front r → ((x : A) → r ≡ Ok x → NamesFirst back (next x)) →
+    NamesFirst (front ++ back) (and_then r next)
 names_then {A} {B} front back (Ok x) next h k = after (next x) (k x refl)
   where
     after : (q : Result B Excess) → NamesFirst back q → NamesFirst (front ++ back) q
     after (Ok y) p = All-append Fits front back h p
-    after (Err e) p = record { earlier = front ++ p.earlier; later = p.later; is = ap (λ os. front ++ os) p.is ∙ sym (append_assoc front p.earlier (e ∷ p.later)); fit = All-append Fits front p.earlier h p.fit; passes = p.passes }
-names_then front back (Err e) next h k = record { earlier = h.earlier; later = h.later ++ back; is = ap (λ os. os ++ back) h.is ∙ append_assoc h.earlier (e ∷ h.later) back; fit = h.fit; passes = h.passes }
+    after (Err e) p = record {
+      earlier = front ++ p.earlier;
+      later = p.later;
+      is = ap (λ os. front ++ os) p.is ∙ sym (append_assoc front p.earlier (e ∷ p.later));
+      fit = All-append Fits front p.earlier h p.fit;
+      passes = p.passes;
+    }
+names_then front back (Err e) next h k = record {
+  earlier = h.earlier;
+  later = h.later ++ back;
+  is = ap (λ os. os ++ back) h.is ∙ append_assoc h.earlier (e ∷ h.later) back;
+  fit = h.fit;
+  passes = h.passes;
+}
 
 -- ---- calls that may want memory
 pub names_error : {B : Type 0} (operations : List Excess) (q : Result B Excess) (e : RowError) → NamesFirst operations q → IsExcessOf q e → IsFirstNamed operations e
@@ -98,7 +113,8 @@ names_error operations q of_row.Memory n h = tt
 pub names_made : {B : Type 0} (operations : List Excess) (q : Result B Excess) (x : B) → NamesFirst operations q → q ≡ Ok x → All Fits operations
 names_made {B} operations q x n h = subst (λ (z : Result B Excess). NamesFirst operations z) h n
 
-pub names_result : (operations : List Excess) (q : Result (List ℤ) Excess) (r : Result (List ℤ) RowError) → NamesFirst operations q → IfOk r (λ row. q ≡ Ok row) → IfErr r (IsExcessOf q) → NamesFirstOrMemory operations r
+pub names_result : (operations : List Excess) (q : Result (List ℤ) Excess) (r : Result (List ℤ) RowError) → NamesFirst operations q → IfOk r (λ row. q ≡ Ok row) → IfErr r (IsExcessOf q) →
+    NamesFirstOrMemory operations r
 names_result operations q (Ok row) n h k = names_made operations q row n h
 names_result operations q (Err e) n h k = names_error operations q e n k
 

@@ -59,7 +59,8 @@ rem_bounds (negsuc a) (pos (suc d)) h = (omega (arith, ints), omega (arith, ints
 rem_bounds n (negsuc d) h = absurd (omega (arith, ints, h))
 
 -- the quotients differ
-pub ratio_apart : (n1 d1 n2 d2 : ℤ) → pos 0 <ℤ d1 → pos 0 <ℤ d2 → ¬ (int_div_euclid n1 d1 ≡ int_div_euclid n2 d2) → int_cmp (int_div_euclid n1 d1) (int_div_euclid n2 d2) ≡ int_cmp (n1 *ℤ d2) (n2 *ℤ d1)
+pub ratio_apart : (n1 d1 n2 d2 : ℤ) → pos 0 <ℤ d1 → pos 0 <ℤ d2 → ¬ (int_div_euclid n1 d1 ≡ int_div_euclid n2 d2) →
+    int_cmp (int_div_euclid n1 d1) (int_div_euclid n2 d2) ≡ int_cmp (n1 *ℤ d2) (n2 *ℤ d1)
 ratio_apart n1 d1 n2 d2 e1 e2 ne =
     let p = int_div_euclid n1 d1 in
     let q = int_div_euclid n2 d2 in

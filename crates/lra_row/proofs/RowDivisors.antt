@@ -30,9 +30,11 @@ divisor_taken m n x row g h k = record {
     all zero = dvd_trans g k.first h.1
     all (suc j) = k.divides j
 
-pub divisor_further : (m n i : ℕ) (row : List ℤ) → i < length row → IsGcd m (unsigned_abs (get_or row i (pos 0))) n → ((g : ℕ) → IsGcdWith m (drop i row) g → IsGcdWith 0 row g) → (g : ℕ) → IsGcdWith n (drop (i + 1) row) g → IsGcdWith 0 row g
+pub divisor_further : (m n i : ℕ) (row : List ℤ) → i < length row → IsGcd m (unsigned_abs (get_or row i (pos 0))) n → ((g : ℕ) → IsGcdWith m (drop i row) g → IsGcdWith 0 row g) → (g : ℕ) →
+    IsGcdWith n (drop (i + 1) row) g → IsGcdWith 0 row g
 divisor_further m n i row h k all g d =
-    all g (subst (λ (r : List ℤ). IsGcdWith m r g) (sym (drop-cons row i (pos 0) h)) (divisor_taken m n (get_or row i (pos 0)) (drop (suc i) row) g k (subst (λ (j : ℕ). IsGcdWith n (drop j row) g) (add-one i) d)))
+    all g (subst (λ (r : List ℤ). IsGcdWith m r g) (sym (drop-cons row i (pos 0) h)) (divisor_taken m n (get_or row i (pos 0)) (drop (suc i) row) g k
+    (subst (λ (j : ℕ). IsGcdWith n (drop j row) g) (add-one i) d)))
 
 pub divisor_whole : (m i : ℕ) (row : List ℤ) → length row ≤ i → ((g : ℕ) → IsGcdWith m (drop i row) g → IsGcdWith 0 row g) → IsRowGcd row m
 divisor_whole m i row h all = divisor_start row m (all m (subst (λ (r : List ℤ). IsGcdWith m r m) (sym (drop_all i row h)) (divisor_end m)))

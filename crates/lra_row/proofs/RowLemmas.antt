@@ -1,5 +1,6 @@
 -- Entries, opposite rows, and rows divided by the greatest number that divides each entry.
-use Rattle.std.proofs.Common.{arith, ◌≡◌, ℕ, zero, suc, ◌<◌, ◌≤◌, ◌*◌, ◌/◌, List, [], ◌∷◌, length, map, get_or, take, drop, ◌++◌, append-nil, ap, sym, ◌∙◌, refl, subst, pos, negsuc, ℤ, ◌*ℤ◌, neg_ℤ, ◌≤ℤ◌, ◌<ℤ◌, unsigned_abs, int_div, inl, inr}
+use Rattle.std.proofs.Common.{arith, ◌≡◌, ℕ, zero, suc, ◌<◌, ◌≤◌, ◌*◌, ◌/◌, List, [], ◌∷◌, length, map, get_or, take, drop, ◌++◌, append-nil, ap, sym, ◌∙◌, refl, subst, pos, negsuc, ℤ, ◌*ℤ◌, neg_ℤ}
+use Rattle.std.proofs.Common.{◌≤ℤ◌, ◌<ℤ◌, unsigned_abs, int_div, inl, inr}
 use Rattle.std.specs.Int.{◌∣◌}
 use Rattle.std.specs.List.{All, refill}
 use Rattle.std.proofs.lemmas.List.{drop_all, take_all}
@@ -64,7 +65,8 @@ divided_length (x ∷ xs) d = ap suc (divided_length xs d)
 divided_primitive : (xs : List ℤ) (g : ℕ) → 0 < g → IsRowGcd xs g → IsPrimitive (divided (pos g) xs)
 divided_primitive xs zero p h d k = absurd (omega arith)
 divided_primitive xs (suc g) p h d k =
-    dvd_antisymm (dvd_of_mul-dvd-mul_right {k = suc g} d (omega arith) (subst (λ (n : ℕ). (d * suc g) ∣ n) (sym (one g)) (h.greatest (d * suc g) (λ j. subst (λ (n : ℕ). (d * suc g) ∣ n) (size j) (mul-dvd-mul_right d (k j) (suc g)))))) (one-dvd d)
+    dvd_antisymm (dvd_of_mul-dvd-mul_right {k = suc g} d (omega arith) (subst (λ (n : ℕ). (d * suc g) ∣ n) (sym (one g))
+    (h.greatest (d * suc g) (λ j. subst (λ (n : ℕ). (d * suc g) ∣ n) (size j) (mul-dvd-mul_right d (k j) (suc g)))))) (one-dvd d)
   where
     one : (g : ℕ) → 1 * suc g ≡ suc g
     one g = omega arith

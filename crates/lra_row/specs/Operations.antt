@@ -1,5 +1,5 @@
--- The products and sums of a calculation, in their order. An operation is written as the excess that names it where its value
--- passes the range.
+-- The products and sums of a calculation, in their order. An operation is written as the excess that names it where its
+-- value passes the range.
 use Rattle.std.specs.Prelude.{◌≡◌, ℤ, pos, ◌+ℤ◌, ◌*ℤ◌, List, [], ◌∷◌, ◌++◌, Result, Ok, Err, All}
 use Rattle.lra_linear.specs.declared.Excess.{Excess}
 use Rattle.lra_linear.specs.declared.Operation.{Operation}

@@ -1,11 +1,13 @@
 //! Arithmetic on the entries of rows.
 
-ghost use Rattle.std.specs.Prelude.{◌≡◌, ◌≤◌, ◌<◌, ◌≤ℤ◌, ◌+◌, ◌∷◌, ℕ, pos, ◌*ℤ◌, ◌<ℤ◌, length, IfOk, IfErr, unsigned_abs, map, int_div, slice_index_or};
+ghost use Rattle.std.specs.Prelude.{◌≡◌, ◌≤◌, ◌<◌, ◌≤ℤ◌, ◌+◌, ◌∷◌, ℕ, pos, ◌*ℤ◌, ◌<ℤ◌, length, IfOk, IfErr};
+ghost use Rattle.std.specs.Prelude.{unsigned_abs, map, int_div, slice_index_or};
 ghost use Rattle.std.specs.List.{All};
 ghost use Rattle.std.specs.Int.{◌∣◌};
 ghost use Rattle.lra_linear.specs.Range.{InRange};
 ghost use Rattle.lra_linear.specs.Vectors.{entry, negated};
-ghost use Rattle.lra_linear.specs.CheckedArithmetic.{checked_product_from, checked_product, checked_entry, checked_blend};
+ghost use Rattle.lra_linear.specs.CheckedArithmetic.{checked_product_from, checked_product, checked_entry};
+ghost use Rattle.lra_linear.specs.CheckedArithmetic.{checked_blend};
 ghost use Rattle.lra_row.specs.Rows.{IsExcessOf, IsRowGcd};
 ghost use Rattle.lra_linear.specs.Echelon.{pivot};
 ghost use Rattle.lra_linear.specs.RowOrder.{constant_last, row_cmp};

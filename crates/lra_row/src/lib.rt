@@ -1,7 +1,7 @@
 //! Exact whole numbers of 128 bits, and rows of them.
 //!
-//! The range is -(2^127 - 1) to 2^127 - 1. Each answer is the whole number itself, or it names the first product or partial sum
-//! that passes the range.
+//! The range is -(2^127 - 1) to 2^127 - 1. Each answer is the whole number itself, or it names the first product or
+//! partial sum that passes the range.
 #![tactic(auto)]
 
 mod entries;

@@ -1,13 +1,15 @@
 //! Rows of exact numbers.
 
-ghost use Rattle.std.specs.Prelude.{◌≡◌, ◌≤◌, ◌<◌, ℕ, ℤ, pos, neg_ℤ, ◌+ℤ◌, ◌*ℤ◌, ◌<ℤ◌, length, List, ◌∷◌, ◌+◌, IfOk, IfErr};
+ghost use Rattle.std.specs.Prelude.{◌≡◌, ◌≤◌, ◌<◌, ℕ, ℤ, pos, neg_ℤ, ◌+ℤ◌, ◌*ℤ◌, ◌<ℤ◌, length, List, ◌∷◌, ◌+◌, IfOk};
+ghost use Rattle.std.specs.Prelude.{IfErr};
 ghost use Rattle.std.specs.List.{All};
 ghost use Rattle.std.specs.Cmp.{IsTotalOrder};
 ghost use Rattle.std.specs.FinMap.{IsAntisymmetric};
 ghost use Rattle.lra_linear.specs.Range.{InRange};
 ghost use Rattle.lra_linear.specs.Vectors.{entry, dot, product, negated, blend, combined, cleared, substituted};
 ghost use Rattle.lra_linear.specs.LowestTerms.{IsLowest};
-ghost use Rattle.lra_linear.specs.CheckedArithmetic.{checked_product, checked_blend, checked_combination, checked_substitution};
+ghost use Rattle.lra_linear.specs.CheckedArithmetic.{checked_product, checked_blend, checked_combination};
+ghost use Rattle.lra_linear.specs.CheckedArithmetic.{checked_substitution};
 ghost use Rattle.lra_linear.specs.SetOperations.{assigned};
 ghost use Rattle.lra_row.specs.Operations.{NamesFirst, NamesFirstOrMemory, product_operations, blend_operations};
 ghost use Rattle.lra_row.specs.Rows.{IsExcessOf, combination_operations, IsPositiveSum, substitution_operations};
@@ -24,8 +26,8 @@ use std::alloc::{AllocError, Global};
 use std::cmp::Ordering;
 use std::marker::Model;
 
-/// A row of numbers of the range: the coefficients of a linear constraint, or the coordinates of a generator. Column 0 has the
-/// constant or the divisor.
+/// A row of numbers of the range: the coefficients of a linear constraint, or the coordinates of a generator. Column 0
+/// has the constant or the divisor.
 pub struct Row {
     entries: Entries,
 }
@@ -119,8 +121,8 @@ impl Row {
         entries::product_at(self.entries.as_slice(), divisor, numerators)
     }
 
-    /// `a` times this row and `b` times the other, or the first product or sum that passes: columns from 0 up, in each the
-    /// product with this row, that with the other, and their sum.
+    /// `a` times this row and `b` times the other, or the first product or sum that passes: columns from 0 up, in each
+    /// the product with this row, that with the other, and their sum.
     #[tactic(auto, using(lra_linear::proofs::CheckedArithmetic::checked_blend_is, lra_linear::proofs::CheckedArithmetic::checked_blend_in_range))]
     pub fn blend(&self, a: i128, b: i128, other: &Row) -> Result<Row, RowError>
         requires { length self.now ≡ length other.now }
@@ -134,8 +136,8 @@ impl Row {
         Ok(Row { entries })
     }
 
-    /// `(-c.v) u + (c.u) v` in lowest terms, for `c.u` above 0 and `c.v` below: its product with `c` is 0. Or the first product or
-    /// sum that passes: those of `c.u`, of `c.v`, then those of the sum, columns from 0 up.
+    /// `(-c.v) u + (c.u) v` in lowest terms, for `c.u` above 0 and `c.v` below: its product with `c` is 0. Or the first
+    /// product or sum that passes: those of `c.u`, of `c.v`, then those of the sum, columns from 0 up.
     pub fn combine(u: &Row, v: &Row, c: &Row) -> Result<Row, RowError>
         requires u_width { length u.now ≡ length c.now }
         requires v_width { length v.now ≡ length c.now }
@@ -163,13 +165,15 @@ impl Row {
         self.entries.as_mut_slice()[column] = 0;
     }
 
-    /// The row with the entry of column `x` times the form in place of `x`: its product with a point is that of this row with the
-    /// point whose coordinate `x` is the form's value. Or the first product or sum that passes, columns from 0 up.
+    /// The row with the entry of column `x` times the form in place of `x`: its product with a point is that of this
+    /// row with the point whose coordinate `x` is the form's value. Or the first product or sum that passes, columns
+    /// from 0 up.
     pub fn substitute(&self, x: usize, form: &Row) -> Result<Row, RowError>
         requires column { x < length self.now }
         requires width { length form.now ≡ length self.now }
         ensures value { IfOk result (λ row. row ≡ substituted x form.now self.now) }
-        ensures assigns { IfOk result (λ row. (u : List ℤ) → length u ≡ length self.now → product row u ≡ product self.now (assigned x form.now u)) }
+        ensures assigns { IfOk result (λ row. (u : List ℤ) → length u ≡ length self.now →
+            product row u ≡ product self.now (assigned x form.now u)) }
         ensures excess { IfErr result (IsExcessOf (checked_substitution x form.now self.now)) }
         ensures first { NamesFirstOrMemory (substitution_operations x form.now self.now) result }
     {

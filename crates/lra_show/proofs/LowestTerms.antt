@@ -21,7 +21,8 @@ greatest_is_gcd (suc k) m n g is above low =
     choice (nat_eq (m % suc k) 0) (nat_eq (n % suc k) 0) (suc k) (greatest_divisor k m n) g
     (λ a b. let most : suc k ≤ g = le_from_IsGcd m n g (suc k) is above (dvd_of_mod-eq-zero (suc k) (eqb-true (m % suc k) 0 a)) (dvd_of_mod-eq-zero (suc k) (eqb-true (n % suc k) 0 b)) in omega arith)
     (λ neither.
-    let other : g ≡ suc k → ⊥ = λ e. neither (eq-eqb (m % suc k) 0 (mod-eq-zero_of_dvd (suc k) (subst (λ x. x ∣ m) e is.0))) (eq-eqb (n % suc k) 0 (mod-eq-zero_of_dvd (suc k) (subst (λ x. x ∣ n) e is.1))) in
+    let other : g ≡ suc k → ⊥ = λ e. neither (eq-eqb (m % suc k) 0 (mod-eq-zero_of_dvd (suc k) (subst (λ x. x ∣ m) e is.0)))
+            (eq-eqb (n % suc k) 0 (mod-eq-zero_of_dvd (suc k) (subst (λ x. x ∣ n) e is.1))) in
     greatest_is_gcd k m n g is above (omega (arith, other)))
 
 -- the common divisor of a number and of one above 0
@@ -36,12 +37,14 @@ common_above z d g above is sign = let low = above_zero z d g above is in omega 
 
 -- what is left of the divisor is above 0
 pub divisor_left : (z d g : ℤ) → pos 0 <ℤ d → IsGcd (nat_abs z) (nat_abs d) (nat_abs g) → pos 0 ≤ℤ g → pos 0 <ℤ int_div d g
-divisor_left z (pos d) (pos g) above is sign = let low = above_zero z (pos d) (pos g) above is in let most = at_most_divisor z (pos d) (pos g) above is in let left : 1 ≤ d / g = le-div 1 d g low (omega arith) in omega (arith, ints, left)
+divisor_left z (pos d) (pos g) above is sign =
+    let low = above_zero z (pos d) (pos g) above is in let most = at_most_divisor z (pos d) (pos g) above is in let left : 1 ≤ d / g = le-div 1 d g low (omega arith) in omega (arith, ints, left)
 divisor_left z (pos d) (negsuc g) above is sign = absurd (omega (arith, ints))
 divisor_left z (negsuc d) g above is sign = absurd (omega (arith, ints))
 
 pub lowest_text : (z d g : ℤ) → pos 0 <ℤ d → IsGcd (nat_abs z) (nat_abs d) (nat_abs g) → pos 0 ≤ℤ g → fraction_text (int_div z g) (nat_abs (int_div d g)) ≡ coordinate_text z (nat_abs d)
-lowest_text z (pos d) (pos g) above is sign = ap (λ k. fraction_text (int_div z (pos k)) (d / k)) (sym (greatest_is_gcd d (nat_abs z) d g is (above_zero z (pos d) (pos g) above is) (at_most_divisor z (pos d) (pos g) above is)))
+lowest_text z (pos d) (pos g) above is sign = ap (λ k. fraction_text (int_div z (pos k)) (d / k))
+    (sym (greatest_is_gcd d (nat_abs z) d g is (above_zero z (pos d) (pos g) above is) (at_most_divisor z (pos d) (pos g) above is)))
 lowest_text z (pos d) (negsuc g) above is sign = absurd (omega (arith, ints))
 lowest_text z (negsuc d) g above is sign = absurd (omega (arith, ints))
 

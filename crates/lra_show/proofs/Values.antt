@@ -31,4 +31,5 @@ values_end f value t all zs names j before end =
   where
     ends : (length names ≤ j) ⊎ (length zs ≤ j + 1) → t ≡ all
     ends (inl cut) = sym (append-nil t) ∙ ap (λ ns. t ++ values_text value (map f ns) (drop (j + 1) zs)) (sym (drop_all j names cut)) ∙ before
-    ends (inr cut) = sym (append-nil t) ∙ ap (λ ys. t ++ ys) (sym (values_none value (map f (drop j names)))) ∙ ap (λ ys. t ++ values_text value (map f (drop j names)) ys) (sym (drop_all (j + 1) zs cut)) ∙ before
+    ends (inr cut) = sym (append-nil t) ∙ ap (λ ys. t ++ ys) (sym (values_none value (map f (drop j names)))) ∙
+        ap (λ ys. t ++ values_text value (map f (drop j names)) ys) (sym (drop_all (j + 1) zs cut)) ∙ before

@@ -1,7 +1,7 @@
 -- Rows of constraints and of generators, as a report shows them.
 use Rattle.std.specs.Prelude.{ℕ, zero, suc, ℤ, pos, negsuc, nat_abs, Bool, true, false, List, [], ◌∷◌}
-use Rattle.lra_sys.specs.declared.ConKind.{ConKind}
-use Rattle.lra_sys.specs.declared.ConKind.TheVariants as con
+use Rattle.lra_linear.specs.declared.ConKind.{ConKind}
+use Rattle.lra_linear.specs.declared.ConKind.TheVariants as con
 use Rattle.lra_sys.specs.declared.GenKind.{GenKind}
 use Rattle.lra_sys.specs.declared.GenKind.TheVariants as gen
 use Rattle.lra_tree.specs.Report.{RowKind, equality, inequality, Row, GeneratorKind, point, ray, line, Generator}

@@ -1,6 +1,7 @@
 //! The text of a generator.
 
-ghost use Rattle.std.specs.Prelude.{◌≡◌, ◌++◌, ◌∷◌, [], ℤ, pos, ◌<ℤ◌, ◌<◌, nat_abs, int_div, map, drop, OnOk, IfOk, string_bytes, length, codes};
+ghost use Rattle.std.specs.Prelude.{◌≡◌, ◌++◌, ◌∷◌, [], ℤ, pos, ◌<ℤ◌, ◌<◌, nat_abs, int_div, map, drop, OnOk, IfOk};
+ghost use Rattle.std.specs.Prelude.{string_bytes, length, codes};
 ghost use Rattle.lra_linear.specs.Range.{InRange};
 ghost use Rattle.lra_linear.specs.Vectors.{entry};
 ghost use Rattle.lra_sys.specs.Listed.{FitsKind};
@@ -16,7 +17,8 @@ use std::alloc::{AllocError, Global};
 #[tactic(auto, using(crate::proofs::LowestTerms::whole_text, crate::proofs::LowestTerms::divided_text))]
 fn push_fraction(text: &mut String, numerator: i128, divisor: i128) -> Result<(), AllocError>
     requires { pos 0 <ℤ divisor }
-    ensures { OnOk result (string_bytes text.new ≡ string_bytes text.old ++ report.fraction_text numerator (nat_abs divisor)) }
+    ensures { OnOk result (string_bytes text.new ≡ string_bytes text.old ++
+        report.fraction_text numerator (nat_abs divisor)) }
 {
     if divisor == 1 {
         write!(text, "{numerator}")
@@ -39,7 +41,8 @@ fn push_coordinate(text: &mut String, numerator: i128, divisor: i128) -> Result<
     requires numerator_in { InRange numerator }
     requires divisor_in { InRange divisor }
     requires divides { pos 0 <ℤ divisor }
-    ensures { OnOk result (string_bytes text.new ≡ string_bytes text.old ++ report.coordinate_text numerator (nat_abs divisor)) }
+    ensures { OnOk result (string_bytes text.new ≡ string_bytes text.old ++
+        report.coordinate_text numerator (nat_abs divisor)) }
 {
     let common = gcd(numerator, divisor);
     push_fraction(text, quotient(numerator, common), quotient(divisor, common))
@@ -49,7 +52,8 @@ fn push_coordinate(text: &mut String, numerator: i128, divisor: i128) -> Result<
 fn push_value(text: &mut String, row: &Row, kind: GenKind, column: usize) -> Result<(), AllocError>
     requires inside { column < length row.now }
     requires fits { FitsKind kind row.now }
-    ensures { OnOk result (string_bytes text.new ≡ string_bytes text.old ++ report.value_text (report_generator_kind kind) (nat_abs (entry row.now 0)) (entry row.now column)) }
+    ensures { OnOk result (string_bytes text.new ≡ string_bytes text.old ++
+        report.value_text (report_generator_kind kind) (nat_abs (entry row.now 0)) (entry row.now column)) }
 {
     let number = row.get(column);
     match kind {
@@ -66,7 +70,9 @@ fn push_values(
     names: &[String],
 ) -> Result<(), AllocError>
     requires { FitsKind kind row.now }
-    ensures { OnOk result (string_bytes text.new ≡ string_bytes text.old ++ report.values_text (report.value_text (report_generator_kind kind) (nat_abs (entry row.now 0))) (map string_bytes names.now) (drop 1 row.now)) }
+    ensures { OnOk result (string_bytes text.new ≡ string_bytes text.old ++
+        report.values_text (report.value_text (report_generator_kind kind) (nat_abs (entry row.now 0)))
+        (map string_bytes names.now) (drop 1 row.now)) }
 {
     let columns = names.len().min(row.width().saturating_sub(1));
     for index in 0..columns {
@@ -85,7 +91,8 @@ pub fn generator_text(
     names: &Names,
 ) -> Result<String, AllocError>
     requires { FitsKind kind row.now }
-    ensures { IfOk result (λ shown. string_bytes shown ≡ report.generator_text names.now (report_generator row.now kind)) }
+    ensures { IfOk result (λ shown. string_bytes shown ≡
+        report.generator_text names.now (report_generator row.now kind)) }
 {
     let mut text = String::new(alloc);
     text.push_str(match kind {

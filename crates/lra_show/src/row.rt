@@ -1,6 +1,7 @@
 //! The text of a constraint.
 
-ghost use Rattle.std.specs.Prelude.{◌≡◌, ◌≢◌, ◌++◌, ◌<◌, ◌∷◌, [], ℤ, pos, suc, map, drop, OnOk, IfOk, string_bytes, length, not, unsigned_abs, ◌&&◌};
+ghost use Rattle.std.specs.Prelude.{◌≡◌, ◌≢◌, ◌++◌, ◌<◌, ◌∷◌, [], ℤ, pos, suc, map, drop, OnOk, IfOk, string_bytes};
+ghost use Rattle.std.specs.Prelude.{length, not, unsigned_abs, ◌&&◌};
 ghost use Rattle.lra_linear.specs.Range.{InRange};
 ghost use Rattle.lra_linear.specs.Vectors.{entry};
 ghost use Rattle.lra_tree.specs.ReportText as report;
@@ -20,7 +21,8 @@ fn push_term(
     name: &str,
 ) -> Result<(), AllocError>
     requires { coefficient ≢ pos 0 }
-    ensures { OnOk result (string_bytes text.new ≡ string_bytes text.old ++ rest_text is_first (coefficient ∷ []) (name.now ∷ [])) }
+    ensures { OnOk result (string_bytes text.new ≡ string_bytes text.old ++
+        rest_text is_first (coefficient ∷ []) (name.now ∷ [])) }
 {
     if !is_first {
         text.push_str(if coefficient < 0 { " - " } else { " + " })?;
@@ -39,7 +41,8 @@ fn push_coefficient(
     coefficient: i128,
     name: &str,
 ) -> Result<bool, AllocError>
-    ensures written { OnOk result (string_bytes text.new ≡ string_bytes text.old ++ rest_text is_first (coefficient ∷ []) (name.now ∷ [])) }
+    ensures written { OnOk result (string_bytes text.new ≡
+        string_bytes text.old ++ rest_text is_first (coefficient ∷ []) (name.now ∷ [])) }
     ensures next { IfOk result (λ next. next ≡ (is_first && is_zero coefficient)) }
 {
     if coefficient == 0 {
@@ -68,7 +71,9 @@ fn push_column(
     name: &str,
 ) -> Result<bool, AllocError>
     requires { column < length row.now }
-    ensures written { OnOk result (string_bytes text.new ≡ string_bytes text.old ++ rest_text is_first (report.turned is_turned (entry row.now column) ∷ []) (name.now ∷ [])) }
+    ensures written { OnOk result (string_bytes text.new ≡
+        string_bytes text.old ++ rest_text is_first (report.turned is_turned (entry row.now column) ∷ [])
+        (name.now ∷ [])) }
     ensures next { IfOk result (λ next. next ≡ (is_first && is_zero (report.turned is_turned (entry row.now column)))) }
 {
     let coefficient = turned(is_turned, row.get(column));
@@ -76,7 +81,8 @@ fn push_column(
 }
 
 /// Whether the first coefficient other than 0 is below 0.
-#[tactic(auto, using(crate::proofs::Terms::turned_less, crate::proofs::Terms::turned_greater, crate::proofs::Terms::turned_equal, crate::proofs::Terms::turned_end))]
+#[tactic(auto, using(crate::proofs::Terms::turned_less, crate::proofs::Terms::turned_greater,
+    crate::proofs::Terms::turned_equal, crate::proofs::Terms::turned_end))]
 fn is_turned(row: &Row) -> bool
     ensures { result ≡ report.is_turned (drop 1 row.now) }
 {
@@ -97,7 +103,8 @@ fn push_form(
     is_turned: bool,
     names: &[String],
 ) -> Result<(), AllocError>
-    ensures { OnOk result (string_bytes text.new ≡ string_bytes text.old ++ report.form_text (map (report.turned is_turned) (drop 1 row.now)) (map string_bytes names.now)) }
+    ensures { OnOk result (string_bytes text.new ≡ string_bytes text.old ++
+        report.form_text (map (report.turned is_turned) (drop 1 row.now)) (map string_bytes names.now)) }
 {
     let mut is_first = true;
     let columns = names.len().min(row.width().saturating_sub(1));

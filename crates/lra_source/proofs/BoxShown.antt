@@ -7,9 +7,10 @@ use Rattle.std.proofs.lemmas.List.{length-replicate, length-map}
 use Rattle.lra_linear.specs.Vectors.{product}
 use Rattle.lra_linear.specs.Descriptions.{Given, Con, HoldsWith}
 use Rattle.lra_linear.proofs.Membership.{contains_head, contains_tail}
-use Rattle.lra_sys.specs.Listed.{Listed, given_by, is_equality}
-use Rattle.lra_sys.specs.declared.system.ConKind.{ConKind}
-use Rattle.lra_sys.specs.declared.system.ConKind.TheVariants.{Ge, Eq}
+use Rattle.lra_sys.specs.Listed.{Listed, given_by}
+use Rattle.lra_linear.specs.Kinds.{is_equality}
+use Rattle.lra_linear.specs.declared.ConKind.{ConKind}
+use Rattle.lra_linear.specs.declared.ConKind.TheVariants.{Ge, Eq}
 use Rattle.lra_show.specs.Shown.{report_row}
 use Rattle.lra_report.specs.Rows.{shown_rows, IsRowInRange, IsPartInRange}
 use Rattle.lra_report.specs.Spelled.{IsDirected, IsSpelledRow, IsSpelledPart}

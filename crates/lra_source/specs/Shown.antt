@@ -2,7 +2,7 @@
 use Rattle.std.specs.Prelude.{◌≡◌, ℕ, ℤ, List, [], length, map}
 use Rattle.std.specs.List.{AllByRecursion, Contains}
 use Rattle.lra_sys.specs.Listed.{Listed}
-use Rattle.lra_sys.specs.declared.system.ConKind.{ConKind}
+use Rattle.lra_linear.specs.declared.ConKind.{ConKind}
 use Rattle.lra_report.specs.Rows.{shown_rows}
 use Rattle.lra_domain.specs.Meaning.{Meaning}
 use Rattle.lra_tree.specs.Report.{Domain, Part, State, Holds}

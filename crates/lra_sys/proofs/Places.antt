@@ -45,7 +45,8 @@ answer_end equal rows kinds i x h = subst (λ (rs : List (List ℤ)). IsAnswerFr
 -- ---- the set of points
 pub answer_tells : (list : List Given) (x : List ℤ) (answer : H.Holds) → IsAnswer list x answer → TellsMembership list x answer
 answer_tells list x Yes a = λ g k. (All-contains (HoldsInRange x) list g a k).1
-answer_tells list x (No place) a = λ con. a.here.1 (con a.constraint (subst (λ gs. Contains gs a.constraint) (sym a.is) (Contains-append_right a.earlier (a.constraint ∷ a.later) a.constraint (contains_head a.constraint a.later))))
+answer_tells list x (No place) a = λ con. a.here.1 (con a.constraint (subst (λ gs. Contains gs a.constraint) (sym a.is)
+    (Contains-append_right a.earlier (a.constraint ∷ a.later) a.constraint (contains_head a.constraint a.later))))
 answer_tells list x (Wide place) a = tt
 
 -- ---- one turn of the loop over rows and kinds, at the place i with the row r
@@ -58,13 +59,16 @@ ok_of p q e = subst (λ (z : Result ℤ Excess). IsOk z) e refl
 err_of : (f : Excess) (q : Result ℤ Excess) → Err f ≡ q → IsErr q
 err_of f q e = subst (λ (z : Result ℤ Excess). IsErr z) e refl
 
-from_here : {K : Type 0} (equal : K → Bool) (rows : List (List ℤ)) (kinds : List K) (x : List ℤ) (i : ℕ) (r : List ℤ) (k : K) (answer : H.Holds) → i < length rows → i < length kinds → r ≡ get_or rows i r →
-    Continues equal rows kinds x i → IsAnswerFrom i (record { row = r; equal = equal (get_or kinds i k) } ∷ given_by equal (drop (i + 1) rows) (drop (i + 1) kinds)) x answer → IsAnswer (given_by equal rows kinds) x answer
+from_here : {K : Type 0} (equal : K → Bool) (rows : List (List ℤ)) (kinds : List K) (x : List ℤ) (i : ℕ) (r : List ℤ) (k : K) (answer : H.Holds) → i < length rows → i < length kinds →
+    r ≡ get_or rows i r →
+    Continues equal rows kinds x i → IsAnswerFrom i (record { row = r; equal = equal (get_or kinds i k) } ∷ given_by equal (drop (i + 1) rows) (drop (i + 1) kinds)) x answer →
+    IsAnswer (given_by equal rows kinds) x answer
 from_here equal rows kinds x i r k answer h l e all a =
     let same = given_from equal rows kinds i r k h l ∙ ap (λ (t : List ℤ). record { row = t; equal = equal (get_or kinds i k) } ∷ given_by equal (drop (i + 1) rows) (drop (i + 1) kinds)) (sym e) in
     all answer (subst (λ (gs : List Given). IsAnswerFrom i gs x answer) (sym same) a)
 
-pub wide_at : {K : Type 0} (equal : K → Bool) (rows : List (List ℤ)) (kinds : List K) (x : List ℤ) (i : ℕ) (r : List ℤ) (k : K) (f : Excess) → i < length rows → i < length kinds → r ≡ get_or rows i r →
+pub wide_at : {K : Type 0} (equal : K → Bool) (rows : List (List ℤ)) (kinds : List K) (x : List ℤ) (i : ℕ) (r : List ℤ) (k : K) (f : Excess) → i < length rows → i < length kinds →
+    r ≡ get_or rows i r →
     Continues equal rows kinds x i → Err f ≡ checked_product r x → IsAnswer (given_by equal rows kinds) x (Wide i)
 wide_at equal rows kinds x i r k f h l e all p = from_here equal rows kinds x i r k (Wide i) h l e all (first_here (IsWide x) x i _ _ (err_of f (checked_product r x) p))
 

@@ -2,8 +2,8 @@
 use Rattle.std.specs.Prelude.{◌≡◌, ℕ, ℤ, pos, ◌<ℤ◌, Bool, true, false, List, [], ◌∷◌}
 use Rattle.lra_linear.specs.Vectors.{entry}
 use Rattle.lra_linear.specs.Descriptions.{Given}
-use Rattle.lra_sys.specs.declared.system.ConKind.{ConKind}
-use Rattle.lra_sys.specs.declared.system.ConKind.TheVariants as con
+use Rattle.lra_linear.specs.Kinds.{is_equality}
+use Rattle.lra_linear.specs.declared.ConKind.{ConKind}
 use Rattle.lra_sys.specs.declared.system.GenKind.{GenKind}
 use Rattle.lra_sys.specs.declared.system.GenKind.TheVariants as gen
 
@@ -17,10 +17,6 @@ abbrev pub given_by : {K : Type 0} → (K → Bool) → List (List ℤ) → List
 given_by equal [] kinds = []
 given_by equal (r ∷ rows) [] = []
 given_by equal (r ∷ rows) (k ∷ kinds) = record { row = r; equal = equal k } ∷ given_by equal rows kinds
-
-abbrev pub is_equality : ConKind → Bool
-is_equality con.Ge = false
-is_equality con.Eq = true
 
 abbrev pub constraints : Listed ConKind → List Given
 constraints s = given_by is_equality s.rows s.kinds

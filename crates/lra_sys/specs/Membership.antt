@@ -1,5 +1,5 @@
--- Membership of a point, tried constraint by constraint: the first that fails or whose product with the point passes the range
--- decides.
+-- Membership of a point, tried constraint by constraint: the first that fails or whose product with the point passes
+-- the range decides.
 use Rattle.std.specs.Prelude.{◌≡◌, ℕ, ◌+◌, ℤ, List, ◌∷◌, ◌++◌, length, IsOk, IsErr, All}
 use Rattle.lra_linear.specs.CheckedArithmetic.{checked_product}
 use Rattle.lra_linear.specs.Descriptions.{Given, Holds, Con}
@@ -17,7 +17,8 @@ FailsInRange x g = IsOk (checked_product g.row x) × (¬ (Holds g x))
 abbrev pub IsWide : List ℤ → Given → Type 0
 IsWide x g = IsErr (checked_product g.row x)
 
--- the constraint at the place is the first that does not hold in the range, and it is as told; places are counted from `start`
+-- the constraint at the place is the first that does not hold in the range, and it is as told; places are counted from
+-- `start`
 pub record FirstAt (Here : Given → Type 0) (x : List ℤ) (start : ℕ) (list : List Given) (place : ℕ) : Type 0 where
   pub earlier : List Given
   pub constraint : Given

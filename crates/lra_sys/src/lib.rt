@@ -4,8 +4,9 @@
 mod membership;
 mod system;
 
+pub use lra_linear::ConKind;
 pub use membership::Holds;
-pub use system::{ConKind, ConSys, GenKind, GenSys};
+pub use system::{ConSys, GenKind, GenSys};
 
 #[cfg(test)]
 mod tests;

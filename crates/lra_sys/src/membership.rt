@@ -3,31 +3,21 @@
 ghost use Rattle.std.specs.Prelude.{◌≡◌, ◌↔◌, IsTrue, suc, pos, ◌<ℤ◌, ◌∷◌, length};
 ghost use Rattle.std.specs.List.{All};
 ghost use Rattle.lra_linear.specs.Descriptions.{HoldsWith};
-ghost use Rattle.lra_sys.specs.Listed.{is_equality, given_by, constraints};
+ghost use Rattle.lra_sys.specs.Listed.{given_by, constraints};
+ghost use Rattle.lra_linear.specs.Kinds.{is_equality};
 ghost use Rattle.lra_sys.specs.Membership.{IsAnswer, TellsMembership};
 
-use crate::system::{ConKind, ConSys};
+use crate::system::ConSys;
+use lra_linear::ConKind;
 use lra_row::Row;
 
-/// Whether a point meets all constraints: the place, from 0, of the first that fails, or whose product with the point passes the
-/// range, decides.
+/// Whether a point meets all constraints: the place, from 0, of the first that fails, or whose product with the point
+/// passes the range, decides.
 #[derive(Clone, Copy, Debug, PartialEq, Eq)]
 pub enum Holds {
     Yes,
     No(usize),
     Wide(usize),
-}
-
-impl ConKind {
-    /// Whether a product with a point is as the kind asks.
-    pub fn accepts(self, product: i128) -> bool
-        ensures { IsTrue result ↔ HoldsWith (is_equality self) product }
-    {
-        match self {
-            ConKind::Ge => product >= 0,
-            ConKind::Eq => product == 0,
-        }
-    }
 }
 
 fn first_deciding(rows: &[Row], kinds: &[ConKind], num: &[i128], den: i128) -> Holds
@@ -49,7 +39,8 @@ fn first_deciding(rows: &[Row], kinds: &[ConKind], num: &[i128], den: i128) -> H
 }
 
 impl ConSys {
-    /// Whether the constraints hold at the point `num / den`: numerators of the coordinates, and their divisor, which is at least
+    /// Whether the constraints hold at the point `num / den`: numerators of the coordinates, and their divisor, which
+    /// is at least
     /// 1.
     #[tactic(auto, using(crate::proofs::Places::answer_tells))]
     pub fn holds_at(&self, num: &[i128], den: i128) -> Holds

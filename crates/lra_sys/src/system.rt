@@ -4,18 +4,13 @@ ghost use Rattle.std.specs.Prelude.{◌≡◌, ◌++◌, ◌∷◌, [], suc, ◌
 ghost use Rattle.std.specs.List.{All};
 ghost use Rattle.lra_linear.specs.Range.{InRange};
 
+use lra_linear::ConKind;
 use lra_row::Row;
 use std::alloc::{AllocError, Global};
 use std::marker::Model;
 
-/// What a constraint asks of its product with a point: to be at least 0, or to be 0.
-#[derive(Clone, Copy, Debug, PartialEq, Eq)]
-pub enum ConKind {
-    Ge,
-    Eq,
-}
-
-/// What a generator is. Column 0 of a point is its divisor, at least 1; rays and lines have 0 there. A list takes any row.
+/// What a generator is. Column 0 of a point is its divisor, at least 1; rays and lines have 0 there. A list takes any
+/// row.
 #[derive(Clone, Copy, Debug, PartialEq, Eq)]
 pub enum GenKind {
     Point,

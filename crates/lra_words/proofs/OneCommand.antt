@@ -21,7 +21,8 @@ use Rattle.lra_words.proofs.SameFaults.{built_same}
 named : List Text → ValueParser
 named names = vp.Names (record { ref_ptr = (0, 0); now = map {B = Bor Text} (λ (name : Text). record { ref_ptr = (0, 0); now = name }) names })
 
-names_moved : (names : List (Bor Text)) → map {B = Bor Text} (λ (name : Bor Text). record { ref_ptr = (0, 0); now = name.now }) names ≡ map {B = Bor Text} (λ (name : Text). record { ref_ptr = (0, 0); now = name }) (map (λ (name : Bor Text). name.now) names)
+names_moved : (names : List (Bor Text)) → map {B = Bor Text} (λ (name : Bor Text). record { ref_ptr = (0, 0); now = name.now }) names ≡
+    map {B = Bor Text} (λ (name : Text). record { ref_ptr = (0, 0); now = name }) (map (λ (name : Bor Text). name.now) names)
 names_moved [] = refl
 names_moved (name ∷ rest) = ap (λ (names : List (Bor Text)). record { ref_ptr = (0, 0); now = name.now } ∷ names) (names_moved rest)
 

@@ -7,14 +7,19 @@ use Rattle.std.specs.Option.{option_map_or}
 use Rattle.std.specs.Str.{bytes_eq, chars}
 use Rattle.std.proofs.lemmas.Slice.Eq.{bytes_eq-Decides}
 use Rattle.clap.specs.Facts.{parser_of_value, unwrap_or_range}
-use Rattle.clap.specs.Faults.{action_fault, bundle_step_fault, check_fault, default_fault, level_fault, defaults_fault, flags_fault, given_default_fault, long_fault, option_fault, react_fault, repeat_fault, set_fault, settle_fault, short_fault, bundle_fault, flag_word_fault, other_fault, step_fault, turn_fault, use_fault, values_fault, walk_fault, word_fault}
+use Rattle.clap.specs.Faults.{action_fault, bundle_step_fault, check_fault, default_fault, level_fault, defaults_fault, flags_fault, given_default_fault, long_fault, option_fault, react_fault}
+use Rattle.clap.specs.Faults.{repeat_fault, set_fault, settle_fault, short_fault, bundle_fault, flag_word_fault, other_fault, step_fault, turn_fault, use_fault, values_fault, walk_fault, word_fault}
 use Rattle.clap.specs.Kinds.{Kinds, or_else, range_kinds}
 use Rattle.clap.specs.Lexer.{long_of, short_of}
 use Rattle.clap.specs.Simple.{Shape}
 use Rattle.clap.specs.Takes.{is_given}
 use Rattle.clap.specs.ValueTests.{accepts}
 use Rattle.clap.specs.Values.{read_as}
-use Rattle.clap.specs.Walk.{Held, Names, Outcome, Row, Rule, Step, Text, Waiting, Walk, action_of, after_flag, after_step, arg_by_id, arg_by_index, arg_by_long, arg_by_short, at_row, attached_value, bundle, bundle_met, bundle_step, done, finished, first_of, has_row, idle, is_empty, long_met, long_or_other, more_values, most_values, next, nothing_held, rows_after, short_or_plain, subcommand_or_other, to_positional, one_of, option, option_met, option_word, plain, plain_word, positional, reacted, reading_by, refused, settled, settled_rows, short_met, subcommand, subcommand_met, takes_values, trailing, used, value, values_or_missing, waits, walk, walk_from, walked, walked_from, with_default, with_values, without, word_met}
+use Rattle.clap.specs.Walk.{Held, Names, Outcome, Row, Rule, Step, Text, Waiting, Walk, action_of, after_flag, after_step, arg_by_id, arg_by_index, arg_by_long, arg_by_short, at_row, attached_value}
+use Rattle.clap.specs.Walk.{bundle, bundle_met, bundle_step, done, finished, first_of, has_row, idle, is_empty, long_met, long_or_other, more_values, most_values, next, nothing_held, rows_after}
+use Rattle.clap.specs.Walk.{short_or_plain, subcommand_or_other, to_positional, one_of, option, option_met, option_word, plain, plain_word, positional, reacted, reading_by, refused, settled}
+use Rattle.clap.specs.Walk.{settled_rows, short_met, subcommand, subcommand_met, takes_values, trailing, used, value, values_or_missing, waits, walk, walk_from, walked, walked_from, with_default}
+use Rattle.clap.specs.Walk.{with_values, without, word_met}
 use Rattle.clap.specs.declared.builder.action.ArgAction.TheVariants.{Help, Set, SetTrue}
 use Rattle.clap.specs.declared.error.kind.ErrorKind.TheVariants as kind
 use Rattle.clap.specs.declared.parser.matches.ValueSource.{ValueSource}
@@ -205,7 +210,8 @@ module _ (s : Shape) (once : s.args_override_self ≡ false) (own : AllOwn s.rul
   unfolding bundle_met flags_fault
   bundle_keeps zero flags skip so_far h e fit = fit
   bundle_keeps (suc k) flags skip so_far h e fit =
-      step_keeps (bundle_met s.rules k) (flags_fault s.rules s.args_override_self k) (λ more left before held f kept. bundle_keeps k more left before held f kept) (slice_get (chars flags) 0) flags skip so_far h e fit
+      step_keeps (bundle_met s.rules k) (flags_fault s.rules s.args_override_self k) (λ more left before held f kept. bundle_keeps k more left before held f kept)
+      (slice_get (chars flags) 0) flags skip so_far h e fit
 
   plain_rows : (w : Waiting) (word : Text) (h : Held) → (plain_word s.rules w word h).0.rows ≡ h.rows
   plain_rows idle word h = refl

@@ -76,7 +76,8 @@ pub chosen_of : (m : ArgMatches) (r : Option (Bor Text × Bor ArgMatches)) (name
 chosen_of m r name inner chosen names rows is chose =
     let its_name = rw is at names in
     let its_rows = rw is at rows in
-    chose ∙ ap command_of (whole name.now (rows_of (found_of inner.now)) (subcommand_rows_of m) (its_name ∙ sym (option_map_map _ (λ (q : Text × List Row). q.0) (out-ArgMatches m).subcommand)) its_rows)
+    chose ∙ ap command_of (whole name.now (rows_of (found_of inner.now)) (subcommand_rows_of m)
+    (its_name ∙ sym (option_map_map _ (λ (q : Text × List Row). q.0) (out-ArgMatches m).subcommand)) its_rows)
   where
     whole : (n : Text) (w : List Row) (o : Option (Text × List Row)) → Some n ≡ option_map (λ q. q.0) o → Some w ≡ option_map (λ q. q.1) o → Some (n, w) ≡ o
     whole n w None e f = cc

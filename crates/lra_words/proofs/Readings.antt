@@ -29,7 +29,8 @@ module _ {E : Type 0} (gives : Text → Result ℕ E → Type 0) (k : ℕ) (pars
   number_read : (t : Text) (r : Option ℕ) → ReadsOne gives t r → r ≡ number_below (2 ^ k) t
   number_read t (Some n) h =
       let p = parses t (Ok n) h in
-      rw (lt-ltb 0 (length (without_leading_plus t)) p.0.0.0, digits_pass (without_leading_plus t) p.0.0.1, lt-ltb (digits_value 10 (without_leading_plus t)) (2 ^ k) p.0.1) (ap (λ (v : ℕ). Some v) p.1)
+      rw (lt-ltb 0 (length (without_leading_plus t)) p.0.0.0, digits_pass (without_leading_plus t) p.0.0.1, lt-ltb (digits_value 10 (without_leading_plus t)) (2 ^ k) p.0.1)
+      (ap (λ (v : ℕ). Some v) p.1)
   number_read t None h = go (is_numeral (without_leading_plus t) && nat_lt (digits_value 10 (without_leading_plus t)) (2 ^ k)) refl
     where
       go : (b : Bool) → (is_numeral (without_leading_plus t) && nat_lt (digits_value 10 (without_leading_plus t)) (2 ^ k)) ≡ b → None ≡ number_below (2 ^ k) t

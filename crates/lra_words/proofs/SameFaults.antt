@@ -6,21 +6,26 @@ use Rattle.std.specs.Option.{option_map_or}
 use Rattle.std.specs.Str.{bytes_eq, chars}
 use Rattle.std.specs.Borrow.{Bor}
 use Rattle.clap.specs.Facts.{explicit_source, parser_of_value, unwrap_or_range}
-use Rattle.clap.specs.Faults.{action_fault, bundle_fault, bundle_step_fault, built_fault, check_fault, count_fault, default_fault, defaults_fault, entered_fault, flag_word_fault, flags_fault, level_fault, long_fault, option_fault, other_fault, positional_fault, react_fault, repeat_fault, set_fault, settle_fault, short_fault, step_fault, stray_fault, turn_fault, use_fault, values_fault, walk_fault, word_fault}
+use Rattle.clap.specs.Faults.{action_fault, bundle_fault, bundle_step_fault, built_fault, check_fault, count_fault, default_fault, defaults_fault, entered_fault, flag_word_fault, flags_fault}
+use Rattle.clap.specs.Faults.{level_fault, long_fault, option_fault, other_fault, positional_fault, react_fault, repeat_fault, set_fault, settle_fault, short_fault, step_fault, stray_fault}
+use Rattle.clap.specs.Faults.{turn_fault, use_fault, values_fault, walk_fault, word_fault}
 use Rattle.clap.specs.Kinds.{Kinds, check_kinds, or_else, range_kinds, request_kinds, value_kinds, values_kinds}
 use Rattle.clap.specs.Lexer.{long_of, short_of}
 use Rattle.clap.specs.Matches.{count_text}
 use Rattle.clap.specs.Simple.{App, Shape, entered, label_of, names_of}
 use Rattle.clap.specs.Takes.{is_given}
 use Rattle.clap.specs.Values.{same_text}
-use Rattle.clap.specs.Walk.{Held, Names, Row, Rule, Step, Text, Waiting, Walk, action_of, answers_to, arg_by_id, arg_by_index, arg_by_long, arg_by_short, attached_value, count_of, finished, has_row, is_empty, is_pending, most_values, next, nothing_held, reacted, settled, subcommand, subcommand_met, takes_several, takes_values, trailing, value, values_or_missing, walk, walk_from, walked, with_default, word_met}
+use Rattle.clap.specs.Walk.{Held, Names, Row, Rule, Step, Text, Waiting, Walk, action_of, answers_to, arg_by_id, arg_by_index, arg_by_long, arg_by_short, attached_value, count_of, finished, has_row}
+use Rattle.clap.specs.Walk.{is_empty, is_pending, most_values, next, nothing_held, reacted, settled, subcommand, subcommand_met, takes_several, takes_values, trailing, value, values_or_missing, walk}
+use Rattle.clap.specs.Walk.{walk_from, walked, with_default, word_met}
 use Rattle.clap.specs.declared.builder.action.ArgAction.{ArgAction}
 use Rattle.clap.specs.declared.builder.action.ArgAction.TheVariants.{Set, Append, SetTrue, SetFalse, Count, Help, HelpShort, HelpLong, Version}
 use Rattle.clap.specs.declared.error.kind.ErrorKind.TheVariants as kind
 use Rattle.clap.specs.declared.builder.value_parser.ValueParser.{ValueParser}
 use Rattle.clap.specs.declared.builder.value_parser.ValueParser.TheVariants as vp
 use Rattle.clap.proofs.WalkLemmas.{list_any-map}
-use Rattle.lra_words.proofs.SameWalk.{placed, placed_in, in_rule, in_shape, in_app, if_same, by_id, by_long, by_short, by_index, missing_same, settled_same, reacted_same, word_met_same, walked_same, walk_same, with_default_same, finished_same, label_found, names_same, entered_same, stop_same}
+use Rattle.lra_words.proofs.SameWalk.{placed, placed_in, in_rule, in_shape, in_app, if_same, by_id, by_long, by_short, by_index, missing_same, settled_same, reacted_same, word_met_same, walked_same}
+use Rattle.lra_words.proofs.SameWalk.{walk_same, with_default_same, finished_same, label_found, names_same, entered_same, stop_same}
 
 or_same : (k l m n : Kinds) → k ≡ l → m ≡ n → or_else k m ≡ or_else l n
 or_same k l m n p q = ap (λ (x : Kinds). or_else x m) p ∙ ap (λ (x : Kinds). or_else l x) q
@@ -195,7 +200,8 @@ check_same s rows has =
     (sym (list_any-map (λ (a : Rule). a.required && not (is_given a.id rows)) in_rule s.rules))
 
 ending_same : (s : Shape) (h : Held) (has : Bool) (below : Kinds)
-    → or_else below (or_else (settle_fault (map in_rule s.rules) s.args_override_self h) (or_else (defaults_fault (settled (map in_rule s.rules) h).rows (map in_rule s.rules)) (check_fault (in_shape s) (finished (map in_rule s.rules) h) has)))
+    → or_else below (or_else (settle_fault (map in_rule s.rules) s.args_override_self h)
+    (or_else (defaults_fault (settled (map in_rule s.rules) h).rows (map in_rule s.rules)) (check_fault (in_shape s) (finished (map in_rule s.rules) h) has)))
     ≡ or_else below (or_else (settle_fault s.rules s.args_override_self h) (or_else (defaults_fault (settled s.rules h).rows s.rules) (check_fault s (finished s.rules h) has)))
 ending_same s h has below =
     ap (or_else below) (or_same _ _ _ _ (settle_same s.rules s.args_override_self h)
@@ -205,7 +211,9 @@ ending_same s h has below =
 level_same : (s : Shape) (names : Names) (h : Held) (words : List Text) (has : Bool) (below : Kinds) → level_fault (in_shape s) names h words has below ≡ level_fault s names h words has below
 level_same s names h words has below =
     or_same _ _ _ _ (walk_fault_same s names (walk_from h) words)
-    (ap (λ (w : Walk). or_else below (or_else (settle_fault (map in_rule s.rules) s.args_override_self w.held) (or_else (defaults_fault (settled (map in_rule s.rules) w.held).rows (map in_rule s.rules)) (check_fault (in_shape s) (finished (map in_rule s.rules) w.held) has)))) (walk_same s.rules names h words)
+    (ap (λ (w : Walk). or_else below (or_else (settle_fault (map in_rule s.rules) s.args_override_self w.held)
+    (or_else (defaults_fault (settled (map in_rule s.rules) w.held).rows (map in_rule s.rules)) (check_fault (in_shape s) (finished (map in_rule s.rules) w.held) has))))
+    (walk_same s.rules names h words)
     ∙ ending_same s (walk s.rules names h words).held has below)
 
 entered_level_same : (o : Option Shape) (words : List Text)

@@ -19,4 +19,7 @@ returns c =
     let one = rw (to_z-of_z w128 c.args.constant c.ranges.constant) at c.test_ge-one.ensures.tested in
     let minus : pos 0 -ℤ c.args.constant ≡ neg_ℤ c.args.constant = omega (arith, ints) in
     let two = rw (to_z-of_z w128 c.args.constant c.ranges.constant, minus, to_z-of_z w128 (neg_ℤ c.args.constant) fit, c.requires.negated) at c.test_ge-two.ensures.tested in
-    record { tested = equal_tested (form c.args.constant c.args.factors.now) (seen c.args.bounds.now) (seen c.test_ge-one.new.bounds) (seen c.test_ge-two.new.bounds) _ _ _ one two c.worse.ensures.exact c.worse.ensures.flagged }
+    record {
+      tested = equal_tested (form c.args.constant c.args.factors.now) (seen c.args.bounds.now) (seen c.test_ge-one.new.bounds)
+          (seen c.test_ge-two.new.bounds) _ _ _ one two c.worse.ensures.exact c.worse.ensures.flagged;
+    }

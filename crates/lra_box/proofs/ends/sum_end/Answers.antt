@@ -13,7 +13,8 @@ loop-factor-preserved c =
     let passes = rw (f, i) at c.loop-factor.invariant.passes in
     let fit : FitsSigned w128 c.in-Some-add.more = search rules in
     let product : end_product c.args.side c.in-Some-Some.factor.now c.in-Some-Some.interval.now ≡ Some c.in-Some.p = search rules in
-    let step = sum_step c.args.side (to_z w128 c.loop-factor.sum-bits) c.in-Some-Some.factor.now c.in-Some.p c.in-Some-add.more c.in-Some-Some.interval.now c.in-Some-Some.factors_left.now c.in-Some-Some.intervals_left.now product (search rules) in
+    let step = sum_step c.args.side (to_z w128 c.loop-factor.sum-bits) c.in-Some-Some.factor.now c.in-Some.p c.in-Some-add.more c.in-Some-Some.interval.now c.in-Some-Some.factors_left.now
+    c.in-Some-Some.intervals_left.now product (search rules) in
     rw (to_z-of_z w128 c.in-Some-add.more fit) (record {
       range = search rules;
       same_length = search rules;

@@ -9,10 +9,12 @@ pub returns-in-Flagged : goal.returns-in-Flagged
 returns-in-Flagged c =
     let low = rw (to_z-of_z w128 c.args.constant c.ranges.constant) at c.sum_end-low.ensures.bound in
     let high = rw (to_z-of_z w128 c.args.constant c.ranges.constant) at c.sum_end-high.ensures.bound in
-    assigned_to c.args.bounds.now c.args.x (form c.args.constant c.args.factors.now) c.sum_end-low.result c.sum_end-high.result Flagged c.requires.place c.requires.width c.requires.sound low high c.sum_end-low.ensures.range c.sum_end-high.ensures.range (flagged_first _ _ c.in-Flagged.is)
+    assigned_to c.args.bounds.now c.args.x (form c.args.constant c.args.factors.now) c.sum_end-low.result c.sum_end-high.result Flagged c.requires.place c.requires.width c.requires.sound low high
+    c.sum_end-low.ensures.range c.sum_end-high.ensures.range (flagged_first _ _ c.in-Flagged.is)
 
 pub returns-in-Exact : goal.returns-in-Exact
 returns-in-Exact c =
     let low = rw (to_z-of_z w128 c.args.constant c.ranges.constant) at c.sum_end-low.ensures.bound in
     let high = rw (to_z-of_z w128 c.args.constant c.ranges.constant) at c.sum_end-high.ensures.bound in
-    assigned_to c.args.bounds.now c.args.x (form c.args.constant c.args.factors.now) c.sum_end-low.result c.sum_end-high.result _ c.requires.place c.requires.width c.requires.sound low high c.sum_end-low.ensures.range c.sum_end-high.ensures.range (flagged_second _ _ c.in-Exact.is)
+    assigned_to c.args.bounds.now c.args.x (form c.args.constant c.args.factors.now) c.sum_end-low.result c.sum_end-high.result _ c.requires.place c.requires.width c.requires.sound low high
+    c.sum_end-low.ensures.range c.sum_end-high.ensures.range (flagged_second _ _ c.in-Exact.is)

@@ -1,5 +1,5 @@
 use Rattle.std.proofs.Common.{rules, arith, suc, add-one, ◌≡◌, ◌∷◌, length}
-use Rattle.lra_sys.specs.declared.system.ConKind.TheVariants.{Eq}
+use Rattle.lra_linear.specs.declared.ConKind.TheVariants.{Eq}
 use Rattle.lra_box.specs.Parts.{equal_rows}
 use Rattle.lra_box.proofs.PartLemmas.{rows_added, kinds_added}
 use Rattle.lra_box.proofs.parts.push_equals.Goals as goal
@@ -16,5 +16,6 @@ loop-interval-preserved c =
       dims = search rules;
       sound = sound.1;
       rows = rw add-one (rows_added c.loop-interval.system.rows _ (equal_rows (length c.args.intervals.now) (suc c.loop-interval.k) c.in-Some.later.now) _ _ c.in_ok-push_equal.ensures.rows rows);
-      kinds = rw add-one (kinds_added Eq c.loop-interval.system.kinds _ _ _ (equal_rows (length c.args.intervals.now) (suc c.loop-interval.k) c.in-Some.later.now) c.in_ok-push_equal.ensures.kinds kinds);
+      kinds = rw add-one (kinds_added Eq c.loop-interval.system.kinds _ _ _ (equal_rows (length c.args.intervals.now) (suc c.loop-interval.k) c.in-Some.later.now) c.in_ok-push_equal.ensures.kinds
+          kinds);
     }

@@ -1,5 +1,5 @@
 use Rattle.std.proofs.Common.{rules, arith, suc, add-one, ◌≡◌, ◌∷◌, length}
-use Rattle.lra_sys.specs.declared.system.ConKind.TheVariants.{Ge}
+use Rattle.lra_linear.specs.declared.ConKind.TheVariants.{Ge}
 use Rattle.lra_box.specs.Parts.{unequal_rows}
 use Rattle.lra_box.proofs.PartLemmas.{rows_added, kinds_added}
 use Rattle.lra_box.proofs.parts.push_unequals.Goals as goal
@@ -16,5 +16,6 @@ loop-interval-preserved c =
       dims = search rules;
       sound = sound.1;
       rows = rw add-one (rows_added c.loop-interval.system.rows _ (unequal_rows (length c.args.intervals.now) (suc c.loop-interval.k) c.in-Some.later.now) _ _ c.in_ok-push_unequal.ensures.rows rows);
-      kinds = rw add-one (kinds_added Ge c.loop-interval.system.kinds _ _ _ (unequal_rows (length c.args.intervals.now) (suc c.loop-interval.k) c.in-Some.later.now) c.in_ok-push_unequal.ensures.kinds kinds);
+      kinds = rw add-one (kinds_added Ge c.loop-interval.system.kinds _ _ _ (unequal_rows (length c.args.intervals.now) (suc c.loop-interval.k) c.in-Some.later.now) c.in_ok-push_unequal.ensures.kinds
+          kinds);
     }

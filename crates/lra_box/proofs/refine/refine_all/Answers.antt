@@ -19,7 +19,8 @@ returns-then-is_crossed-clause-tested c =
     let place : c.loop-k.k < length c.args.factors.now = omega arith in
     let width : length c.args.factors.now ≡ length c.loop-k.bounds = omega arith in
     let on : crossed c.tight_at-tight.result.interval ≡ true = sym c.is_crossed.ensures ∙ c.if-is_crossed.true in
-    refine_stops c.args.constant c.args.factors.now c.loop-k.k c.args.bounds.now c.loop-k.bounds _ c.loop-k.exactness c.tight_at-tight.result.exactness c.worse-exactness.result place width state tight c.worse-exactness.ensures.exact c.worse-exactness.ensures.flagged on (length c.args.factors.now) place
+    refine_stops c.args.constant c.args.factors.now c.loop-k.k c.args.bounds.now c.loop-k.bounds _ c.loop-k.exactness c.tight_at-tight.result.exactness c.worse-exactness.result place width state tight
+    c.worse-exactness.ensures.exact c.worse-exactness.ensures.flagged on (length c.args.factors.now) place
 
 pub loop-k-preserved : goal.loop-k-preserved
 loop-k-preserved c =
@@ -30,7 +31,8 @@ loop-k-preserved c =
     let on : crossed c.tight_at-tight.result.interval ≡ false = sym c.is_crossed.ensures ∙ c.if-is_crossed.false in
     record {
       same = c.tight_at-tight.ensures.factors ∙ c.loop-k.invariant.same;
-      state = rw (to_z-of_z w128 c.args.constant c.ranges.constant, add-one) (refine_on c.args.constant c.args.factors.now c.loop-k.k c.args.bounds.now c.loop-k.bounds _ c.loop-k.exactness c.tight_at-tight.result.exactness c.worse-exactness.result place width state tight c.worse-exactness.ensures.exact c.worse-exactness.ensures.flagged on);
+      state = rw (to_z-of_z w128 c.args.constant c.ranges.constant, add-one) (refine_on c.args.constant c.args.factors.now c.loop-k.k c.args.bounds.now c.loop-k.bounds _ c.loop-k.exactness
+          c.tight_at-tight.result.exactness c.worse-exactness.result place width state tight c.worse-exactness.ensures.exact c.worse-exactness.ensures.flagged on);
     }
 
 pub returns-clause-tested : goal.returns-clause-tested

@@ -1,5 +1,5 @@
 use Rattle.std.proofs.Common.{◌≡◌, ◌≤◌, take}
-use Rattle.lra_sys.specs.Listed.{is_equality}
+use Rattle.lra_linear.specs.Kinds.{is_equality}
 use Rattle.lra_cone.specs.Steps.{inside_count}
 use Rattle.lra_cone.proofs.ray_step.count_inside.Given as goal
 

@@ -1,6 +1,6 @@
 use Rattle.std.proofs.Common.{arith, sym, length, ◌≡◌}
 use Rattle.std.proofs.lemmas.Grind.{common_steps}
-use Rattle.lra_sys.specs.Listed.{is_equality}
+use Rattle.lra_linear.specs.Kinds.{is_equality}
 use Rattle.lra_cone.proofs.Cutting.{pairs_up, pairs_down, pairs_tight, marks_many}
 use Rattle.lra_cone.proofs.ray_step.cut_rays.Goals as goal
 

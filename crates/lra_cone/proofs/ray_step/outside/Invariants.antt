@@ -1,5 +1,5 @@
 use Rattle.std.proofs.Common.{length, ◌+◌, slice_index_or, pos, not}
-use Rattle.lra_sys.specs.Listed.{is_equality}
+use Rattle.lra_linear.specs.Kinds.{is_equality}
 use Rattle.lra_cone.specs.Steps.{IsFilled, is_inside}
 use Rattle.lra_cone.proofs.ray_step.outside.Given as goal
 

@@ -17,7 +17,8 @@ loop-factor-preserved c =
     let value = rw (f, n) at c.loop-factor.invariant.value in
     let passes = rw (f, n) at c.loop-factor.invariant.passes in
     let fit : FitsSigned w128 c.in-Some-plus_product.more = search rules in
-    let step = summing_step (to_z w128 c.loop-factor.sum-bits) c.in-Some.factor.now c.in-Some-split_first.number.now c.in-Some-plus_product.more c.in-Some.factors_left.now c.in-Some-split_first.numbers_left.now c.in-Some-plus_product.ensures.0 (sym c.in-Some-plus_product.ensures.1) in
+    let step = summing_step (to_z w128 c.loop-factor.sum-bits) c.in-Some.factor.now c.in-Some-split_first.number.now c.in-Some-plus_product.more c.in-Some.factors_left.now
+    c.in-Some-split_first.numbers_left.now c.in-Some-plus_product.ensures.0 (sym c.in-Some-plus_product.ensures.1) in
     rw (to_z-of_z w128 c.in-Some-plus_product.more fit) (record {
       value = sym step.0 ∙ value;
       passes = (λ h. passes.0 (step.1 h), λ h. step.2 (passes.1 h));

@@ -1,5 +1,5 @@
 use Rattle.std.proofs.Common.{arith, get_or}
-use Rattle.lra_sys.specs.declared.system.ConKind.TheVariants as con
+use Rattle.lra_linear.specs.declared.ConKind.TheVariants as con
 use Rattle.lra_show.proofs.NamesShown.{drop_front}
 use Rattle.lra_show.specs.Shown.{report_row}
 use Rattle.lra_report.specs.Lines.{row_line}

@@ -1,9 +1,9 @@
 use Rattle.std.proofs.Common.{rules, arith, FitsSigned, ◌∷◌, refl, drop}
 use Rattle.std.specs.Int.{w128}
 use Rattle.std.proofs.lemmas.Int.{to_z-of_z}
-use Rattle.lra_sys.specs.declared.system.ConKind.TheVariants.{Ge}
+use Rattle.lra_linear.specs.declared.ConKind.TheVariants.{Ge}
 use Rattle.lra_sys.specs.declared.membership.Holds.TheVariants.{Yes}
-use Rattle.lra_sys.specs.Listed.{is_equality}
+use Rattle.lra_linear.specs.Kinds.{is_equality}
 use Rattle.lra_sys.proofs.Places.{wide_at, no_at, next_place, answer_end}
 use Rattle.lra_sys.proofs.membership.first_deciding.Goals as goal
 

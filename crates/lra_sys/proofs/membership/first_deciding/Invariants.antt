@@ -1,6 +1,7 @@
 use Rattle.std.proofs.Common.{drop, ◌∷◌}
 use Rattle.lra_sys.specs.declared.membership.Holds as H
-use Rattle.lra_sys.specs.Listed.{given_by, is_equality}
+use Rattle.lra_sys.specs.Listed.{given_by}
+use Rattle.lra_linear.specs.Kinds.{is_equality}
 use Rattle.lra_sys.specs.Membership.{IsAnswer, IsAnswerFrom}
 use Rattle.lra_sys.proofs.membership.first_deciding.Given as goal
 

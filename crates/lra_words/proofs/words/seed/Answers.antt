@@ -5,4 +5,5 @@ use Rattle.lra_words.proofs.Readings.{number_got}
 use Rattle.lra_words.proofs.words.seed.Goals as goal
 
 pub returns : goal.returns
-returns c = number_got (λ t r. ParsesUnsigned 64 10 t r × ExplainsUnsignedError 10 t r × HasUnsignedDigitsIfOk t r) 64 (λ t r h. h.0) (found_of c.args.matches.now) (codes "seed") c.get_one.result c.get_one.ensures.none c.get_one.ensures.value
+returns c = number_got (λ t r. ParsesUnsigned 64 10 t r × ExplainsUnsignedError 10 t r × HasUnsignedDigitsIfOk t r) 64 (λ t r h. h.0) (found_of c.args.matches.now)
+    (codes "seed") c.get_one.result c.get_one.ensures.none c.get_one.ensures.value

@@ -8,7 +8,11 @@ use Rattle.lra_box.specs.Content.{seen}
 use Rattle.lra_box.proofs.boxes.BoxesDomain.forget.Goals as goal
 
 pub invariant_of-self : goal.invariant_of-self
-invariant_of-self c = (c.self.invariant.0, rw c.forget_in.ensures (set_fit c.self.inside.dims c.args.x open_interval (seen c.self.inside.bounds) c.self.invariant.1), rw c.forget_in.ensures (forgotten_sound c.args.x (seen c.self.inside.bounds) c.self.invariant.2))
+invariant_of-self c = (
+  c.self.invariant.0,
+  rw c.forget_in.ensures (set_fit c.self.inside.dims c.args.x open_interval (seen c.self.inside.bounds) c.self.invariant.1),
+  rw c.forget_in.ensures (forgotten_sound c.args.x (seen c.self.inside.bounds) c.self.invariant.2),
+)
 
 pub returns-clause-meets : goal.returns-clause-meets
 returns-clause-meets c = rw (c.forget_in.ensures, ← c.self.view_is) (record {

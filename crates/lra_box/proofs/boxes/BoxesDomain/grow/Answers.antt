@@ -16,8 +16,12 @@ returns-then-is_within-clause-fits c = rw (← c.head.view_is) (rank_fits _ c.he
 
 pub invariant_of-head : goal.invariant_of-head
 invariant_of-head c =
-    let same : c.next.inside.dims ≡ c.head.inside.dims = ap (λ (b : Content). b.dims) c.next.view_is ∙ sym c.requires ∙ sym (ap (λ (b : Content). b.dims) c.head.view_is) in
-    (c.head.invariant.0, rw c.in_ok-grown.ensures (grown_fit c.args.mode c.head.inside.dims (seen c.head.inside.bounds) (seen c.next.inside.bounds) c.head.invariant.1 (rw (← same) c.next.invariant.1)), rw c.in_ok-grown.ensures (grown_sound c.args.mode (seen c.head.inside.bounds) (seen c.next.inside.bounds) c.head.invariant.2 c.next.invariant.2))
+    let same : c.next.inside.dims ≡ c.head.inside.dims = ap (λ (b : Content). b.dims) c.next.view_is ∙ sym c.requires ∙ sym (ap (λ (b : Content). b.dims) c.head.view_is) in (
+      c.head.invariant.0,
+      rw c.in_ok-grown.ensures (grown_fit c.args.mode c.head.inside.dims (seen c.head.inside.bounds) (seen c.next.inside.bounds) c.head.invariant.1
+          (rw (← same) c.next.invariant.1)),
+      rw c.in_ok-grown.ensures (grown_sound c.args.mode (seen c.head.inside.bounds) (seen c.next.inside.bounds) c.head.invariant.2 c.next.invariant.2),
+    )
 
 pub returns-clause-grew : goal.returns-clause-grew
 returns-clause-grew c = λ a e.
@@ -36,9 +40,16 @@ pub returns-clause-lower : goal.returns-clause-lower
 returns-clause-lower c = λ a e m.
     let same : c.next.inside.dims ≡ c.head.inside.dims = ap (λ (b : Content). b.dims) c.next.view_is ∙ sym c.requires ∙ sym (ap (λ (b : Content). b.dims) c.head.view_is) in
     let fit : BoundsFit c.head.inside.dims (seen c.next.inside.bounds) = rw (← same) c.next.invariant.1 in
-    rw (c.in_ok-grown.ensures, ← c.head.view_is) (inr (inr (inr (refl, refl, refl, grown_falls c.args.mode c.head.inside.dims (seen c.head.inside.bounds) (seen c.next.inside.bounds) m c.head.invariant.1 fit (λ w. absurd (false≢true (rw c.if-is_within.false at (c.is_within.ensures.1 w))))))))
+    rw (c.in_ok-grown.ensures, ← c.head.view_is) (inr (inr (inr (
+      refl,
+      refl,
+      refl,
+      grown_falls c.args.mode c.head.inside.dims (seen c.head.inside.bounds)
+          (seen c.next.inside.bounds) m c.head.invariant.1 fit (λ w. absurd (false≢true (rw c.if-is_within.false at (c.is_within.ensures.1 w)))),
+    ))))
 
 pub returns-clause-fits : goal.returns-clause-fits
 returns-clause-fits c =
     let same : c.next.inside.dims ≡ c.head.inside.dims = ap (λ (b : Content). b.dims) c.next.view_is ∙ sym c.requires ∙ sym (ap (λ (b : Content). b.dims) c.head.view_is) in
-    rw c.in_ok-grown.ensures (rank_fits _ c.head.invariant.0 (grown_fit c.args.mode c.head.inside.dims (seen c.head.inside.bounds) (seen c.next.inside.bounds) c.head.invariant.1 (rw (← same) c.next.invariant.1)))
+    rw c.in_ok-grown.ensures (rank_fits _ c.head.invariant.0 (grown_fit c.args.mode c.head.inside.dims (seen c.head.inside.bounds) (seen c.next.inside.bounds) c.head.invariant.1
+    (rw (← same) c.next.invariant.1)))

@@ -7,8 +7,11 @@ use Rattle.lra_box.proofs.boxes.BoxesDomain.join.Goals as goal
 
 pub invariant_of-self : goal.invariant_of-self
 invariant_of-self c =
-    let same : c.other.inside.dims ≡ c.self.inside.dims = ap (λ (b : Content). b.dims) c.other.view_is ∙ sym c.requires ∙ sym (ap (λ (b : Content). b.dims) c.self.view_is) in
-    (c.self.invariant.0, rw c.in_ok-joined.ensures (joined_fit c.self.inside.dims (seen c.self.inside.bounds) (seen c.other.inside.bounds) c.self.invariant.1 (rw (← same) c.other.invariant.1)), rw c.in_ok-joined.ensures (joined_sound (seen c.self.inside.bounds) (seen c.other.inside.bounds) c.self.invariant.2 c.other.invariant.2))
+    let same : c.other.inside.dims ≡ c.self.inside.dims = ap (λ (b : Content). b.dims) c.other.view_is ∙ sym c.requires ∙ sym (ap (λ (b : Content). b.dims) c.self.view_is) in (
+      c.self.invariant.0,
+      rw c.in_ok-joined.ensures (joined_fit c.self.inside.dims (seen c.self.inside.bounds) (seen c.other.inside.bounds) c.self.invariant.1 (rw (← same) c.other.invariant.1)),
+      rw c.in_ok-joined.ensures (joined_sound (seen c.self.inside.bounds) (seen c.other.inside.bounds) c.self.invariant.2 c.other.invariant.2),
+    )
 
 pub returns-clause-joins : goal.returns-clause-joins
 returns-clause-joins c =

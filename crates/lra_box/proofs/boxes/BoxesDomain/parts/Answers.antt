@@ -7,5 +7,6 @@ use Rattle.lra_box.proofs.boxes.BoxesDomain.parts.Goals.{in-Some+in_ok-system_of
 
 pub returns-clause-mean : goal.returns-clause-mean
 returns-clause-mean c =
-    let is : c.match-self.parts.items ≡ box_parts c.self.inside.dims (seen c.self.inside.bounds) = elim c.match-self.branch [ in-Some+in_ok-system_of+in_ok-push w ↦ search rules | in_default w ↦ search rules ] in
+    let is : c.match-self.parts.items ≡ box_parts c.self.inside.dims (seen c.self.inside.bounds) =
+    elim c.match-self.branch [ in-Some+in_ok-system_of+in_ok-push w ↦ search rules | in_default w ↦ search rules ] in
     rw (← c.self.view_is, is) (λ s long. let mean = parts_mean c.self.inside.dims (seen c.self.inside.bounds) s c.self.invariant.1 long in (λ h. mean.0 h.1, λ h. (long, mean.1 h)))

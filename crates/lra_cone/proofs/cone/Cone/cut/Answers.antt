@@ -10,8 +10,9 @@ use Rattle.lra_linear.specs.Vectors.{product}
 use Rattle.lra_linear.specs.Cones.{all_rows}
 use Rattle.lra_linear.specs.ConeStrain.{IsMet}
 use Rattle.lra_linear.specs.Descriptions.{Given}
-use Rattle.lra_sys.specs.Listed.{constraints, given_by, is_equality}
-use Rattle.lra_sys.specs.declared.system.ConKind.{ConKind}
+use Rattle.lra_sys.specs.Listed.{constraints, given_by}
+use Rattle.lra_linear.specs.Kinds.{is_equality}
+use Rattle.lra_linear.specs.declared.ConKind.{ConKind}
 use Rattle.lra_cone.specs.Cones.{Shape, IsCone, IsTakenIn, saturation_of}
 use Rattle.lra_cone.specs.Pairs.{IsCut}
 use Rattle.lra_cone.specs.Strains.{IsConeError, IsCutError}

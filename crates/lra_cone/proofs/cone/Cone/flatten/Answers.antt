@@ -7,8 +7,9 @@ use Rattle.std.proofs.lemmas.List.{length-map}
 use Rattle.std.proofs.lemmas.List.Elements.{Contains-get_or}
 use Rattle.lra_linear.specs.Vectors.{product}
 use Rattle.lra_linear.specs.Descriptions.{Given}
-use Rattle.lra_sys.specs.Listed.{constraints, given_by, is_equality}
-use Rattle.lra_sys.specs.declared.system.ConKind.{ConKind}
+use Rattle.lra_sys.specs.Listed.{constraints, given_by}
+use Rattle.lra_linear.specs.Kinds.{is_equality}
+use Rattle.lra_linear.specs.declared.ConKind.{ConKind}
 use Rattle.lra_linear.specs.ConeStrain.{row_limit}
 use Rattle.lra_cone.specs.Cones.{Shape, IsCone, IsTakenIn, saturation_of}
 use Rattle.lra_cone.specs.Steps.{IsTurned, AreFlatLines, AreFlatRays, flat_matrix}

@@ -1,6 +1,7 @@
 use Rattle.std.proofs.Common.{arith, sym, ◌∙◌, ap, subst, List, [], ℤ, length}
 use Rattle.lra_linear.specs.Descriptions.{Given}
-use Rattle.lra_sys.specs.Listed.{constraints, given_by, is_equality}
+use Rattle.lra_sys.specs.Listed.{constraints, given_by}
+use Rattle.lra_linear.specs.Kinds.{is_equality}
 use Rattle.lra_cone.specs.Cones.{IsCone, saturation_of}
 use Rattle.lra_cone.proofs.WholeSpace.{columns_start, columns_step, columns_end, whole_cone, whole_made}
 use Rattle.lra_cone.proofs.cone.Cone.whole.Goals as goal

@@ -19,7 +19,8 @@ returns-in_err-below-clause-first c =
     let x = c.in_err-below.field-0.0 in
     let r = err_from_is_err_and c.from_residual-in_err-below.result c.from_residual-in_err-below.ensures.1 in
     rw (r.1, r.2)
-    (names_error (combination_operations u w k) (checked_combination u w k) (of_row.Excess x) (names_combination u w k) (combination_passes u w k c.in_ok-above.above x c.in_ok-above.ensures.exact c.in_err-below.ensures.exact))
+    (names_error (combination_operations u w k) (checked_combination u w k) (of_row.Excess x) (names_combination u w k)
+    (combination_passes u w k c.in_ok-above.above x c.in_ok-above.ensures.exact c.in_err-below.ensures.exact))
 
 pub returns-in_err-row-clause-first : goal.returns-in_err-row-clause-first
 returns-in_err-row-clause-first c =
@@ -44,7 +45,8 @@ returns-clause-flat c =
     let fb : FitsSigned w128 c.in_ok-below.below = search rules in
     let fo : FitsSigned w128 c.opposite.result = search rules in
     let row = c.lowest_terms.new.self in
-    let e = combined_read u w k c.in_ok-row.row c.in_ok-above.above c.in_ok-below.below c.opposite.result c.in_ok-above.ensures.value c.in_ok-below.ensures.value (simp to_z-of_z at c.opposite.ensures.value) (simp to_z-of_z at c.in_ok-row.ensures.value) in
+    let e = combined_read u w k c.in_ok-row.row c.in_ok-above.above c.in_ok-below.below c.opposite.result c.in_ok-above.ensures.value c.in_ok-below.ensures.value
+    (simp to_z-of_z at c.opposite.ensures.value) (simp to_z-of_z at c.in_ok-row.ensures.value) in
     combined_flat u w k row (c.requires.u_width ∙ sym c.requires.v_width) (subst (λ (z : List ℤ). IsLowest z row) e c.lowest_terms.ensures)
 
 pub returns-clause-positive : goal.returns-clause-positive
@@ -56,7 +58,8 @@ returns-clause-positive c =
     let fb : FitsSigned w128 c.in_ok-below.below = search rules in
     let fo : FitsSigned w128 c.opposite.result = search rules in
     let row = c.lowest_terms.new.self in
-    let e = combined_read u w k c.in_ok-row.row c.in_ok-above.above c.in_ok-below.below c.opposite.result c.in_ok-above.ensures.value c.in_ok-below.ensures.value (simp to_z-of_z at c.opposite.ensures.value) (simp to_z-of_z at c.in_ok-row.ensures.value) in
+    let e = combined_read u w k c.in_ok-row.row c.in_ok-above.above c.in_ok-below.below c.opposite.result c.in_ok-above.ensures.value c.in_ok-below.ensures.value
+    (simp to_z-of_z at c.opposite.ensures.value) (simp to_z-of_z at c.in_ok-row.ensures.value) in
     combined_positive u w k row (c.requires.u_width ∙ sym c.requires.v_width) c.requires.above c.requires.below (subst (λ (z : List ℤ). IsLowest z row) e c.lowest_terms.ensures)
 
 pub returns-clause-first : goal.returns-clause-first

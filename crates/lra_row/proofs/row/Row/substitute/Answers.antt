@@ -19,7 +19,8 @@ returns-clause-assigns c =
     let fe : FitsSigned w128 c.get.result = search rules in
     let r : c.clear.new.self ≡ cleared x row = c.clear.ensures.cleared ∙ ap (cleared x) c.in_ok-rest.ensures in
     let v = simp to_z-of_z at c.blend.ensures.value in
-    IfOk-weaker c.blend.result _ _ (λ out e u k. ap (λ (z : List ℤ). product z u) (e ∙ substitution_read x form row c.clear.new.self c.get.result c.get.ensures.entry r) ∙ substituted_product x form row u (sym c.requires.width) (omega (arith, k, c.requires.column))) v
+    IfOk-weaker c.blend.result _ _ (λ out e u k. ap (λ (z : List ℤ). product z u) (e ∙ substitution_read x form row c.clear.new.self c.get.result c.get.ensures.entry r) ∙
+    substituted_product x form row u (sym c.requires.width) (omega (arith, k, c.requires.column))) v
 
 pub returns-clause-excess : goal.returns-clause-excess
 returns-clause-excess c =
