@@ -16,7 +16,8 @@ use Rattle.lra_tree.specs.declared.trees.Comparison.{Comparison}
 use Rattle.lra_tree.specs.declared.trees.Conjunction.{Conjunction, out-Conjunction}
 use Rattle.lra_tree.specs.declared.trees.Cond.{Cond, out-Cond}
 use Rattle.lra_tree.specs.Trees.{NegationTree, opposite_again, value_of_unary, TestTree, opposite, value, compare, ConjunctionTree, test, and, CondTree, conjunction, or}
-use Rattle.lra_tree.specs.Views.{all_tests, any_conjunction, negation_step, test_step, conjunction_step, cond_step, unary_view, expr_view, comparison_view, negation_view, test_view, conjunction_view, cond_view}
+use Rattle.lra_tree.specs.Views.{all_tests, any_conjunction, negation_step, test_step, conjunction_step, cond_step, unary_view, expr_view, comparison_view, negation_view, test_view}
+use Rattle.lra_tree.specs.Views.{conjunction_view, cond_view}
 use Rattle.lra_tree.specs.Program as program
 use Rattle.lra_tree.specs.ProgramViews as chain
 use Rattle.lra_tree.specs.Scope.{Scope}

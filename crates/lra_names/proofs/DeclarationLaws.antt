@@ -30,6 +30,7 @@ pub declarator_found : (F : List FunctionTree) (s s' : Scope) (n n' : ℕ) (d : 
 declarator_found F s s' n n' d r old new is e scope next rest more =
     let v : item_view (code_item.Declaration r) ≡ program.declaration (declarator_view r) = search (rules, the_lemmas) in
     rw (is, map-append item_view old (code_item.Declaration r ∷ []), v, e, scope, next)
-    (sym (followed_push (map item_view old) (program.declaration (record { label = n; source = resolve_given F (with_local s d.name.word) n d.source })) (resolve_declarators F (with_local s d.name.word) (suc n) rest more)))
+    (sym (followed_push (map item_view old) (program.declaration (record { label = n; source = resolve_given F (with_local s d.name.word) n d.source }))
+    (resolve_declarators F (with_local s d.name.word) (suc n) rest more)))
 
 pub ruleset declarator_rules = (followed_push, declarators_split, tells_front, tells_behind)

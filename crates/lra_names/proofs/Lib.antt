@@ -7,8 +7,12 @@ pub mod ChainLaws
 pub mod CondLaws
 -- Calls.
 pub mod CallLaws
+-- Names with an index.
+pub mod NameLaws
 -- Declarations and statements.
 pub mod DeclarationLaws
 pub mod StatementLaws
+-- Functions by their names.
+pub mod SignatureLaws
 -- Functions and the whole.
 pub mod FunctionLaws

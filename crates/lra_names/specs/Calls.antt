@@ -24,4 +24,5 @@ resolve_argument s e = resolve_expr s (expr_view e)
 
 -- of one declarator
 abbrev pub declarator_faults : List FunctionTree → Scope → DeclaratorTree → List Refusal
-declarator_faults F s d = fault_if (is_declared s d.name.word) DuplicateName d.name.place ++ given_faults F (with_local s d.name.word) d.source
+declarator_faults F s d = fault_if (is_declared s d.name.word) DuplicateName d.name.place
+    ++ given_faults F (with_local s d.name.word) d.source

@@ -8,13 +8,14 @@ use Rattle.lra_names.specs.Calls.{functions_at}
 use Rattle.lra_tree.specs.NameFaults as faults
 use Rattle.lra_tree.specs.Program as program
 
--- among these parts, in a function with a result or not, in a loop or not
+-- among the functions of these parts, in a function with a result or not, in a loop or not
 abbrev pub around_of : Around → faults.Around
-around_of a = record { functions = functions_at a.parts.now; has_result = a.has_result; in_loop = a.in_loop }
+around_of a = record { functions = functions_at a.functions.now; has_result = a.has_result; in_loop = a.in_loop }
 
 -- the faults of what stands in the parentheses of a `for`
 abbrev pub head_faults : List FunctionTree → Scope → InitTree → Option CondTree → Option AssignTree → List Refusal
-head_faults F s i c e = faults.init_faults F s i ++ faults.test_of_for_faults (for_scope s i) c ++ faults.step_faults F (for_scope s i) e
+head_faults F s i c e = faults.init_faults F s i ++ faults.test_of_for_faults (for_scope s i) c
+    ++ faults.step_faults F (for_scope s i) e
 
 -- some items, each of which is what it puts before those behind it, before others
 abbrev pub followed : List (program.BlockItems → program.BlockItems) → program.BlockItems → program.BlockItems

@@ -4,14 +4,14 @@ ghost use Rattle.std.specs.Prelude.{◌≡◌};
 ghost use Rattle.lra_tree.specs.NameFaults.{in_a_loop};
 ghost use Rattle.lra_names.specs.Statements.{around_of};
 
-use lra_tree::Item;
+use crate::signatures::Functions;
 use std::alloc::Global;
 
-/// Among which parts of the source a statement stands, and in what kind of function and of statement.
+/// Among which functions a statement stands, and in what kind of function and of statement.
 #[derive(Clone, Copy)]
 pub struct Around<'a> {
     pub alloc: Global,
-    pub parts: &'a [Item],
+    pub functions: &'a Functions<'a>,
     pub has_result: bool,
     pub in_loop: bool,
 }
@@ -23,7 +23,7 @@ impl<'a> Around<'a> {
     {
         Around {
             alloc: self.alloc,
-            parts: self.parts,
+            functions: self.functions,
             has_result: self.has_result,
             in_loop: true,
         }

@@ -1,68 +1,52 @@
 //! Calls, and what variables get.
 
-ghost use Rattle.std.specs.Prelude.{◌≡◌, ◌||◌, ◌&&◌, not, nat_eq, ◌∷◌, ◌++◌, [], map, length, flat_map, Option, Some, None, option_map, IfOk, MatchOption};
+ghost use Rattle.std.specs.Prelude.{◌≡◌, ◌||◌, ◌&&◌, not, nat_eq, ◌∷◌, ◌++◌, [], map, length, flat_map, Option, Some};
+ghost use Rattle.std.specs.Prelude.{None, option_map, IfOk};
 ghost use Rattle.lra_tree.specs.Program.{assign as assign_stmt, binary, literal, read, value};
-ghost use Rattle.lra_tree.specs.Views.{operator_view, step_view, function_view, expr_view as tree_expr_view, call_view as tree_call_view, source_view as tree_source_view, assign_view};
+ghost use Rattle.lra_tree.specs.Views.{operator_view, step_view, expr_view as tree_expr_view};
+ghost use Rattle.lra_tree.specs.Views.{call_view as tree_call_view, source_view as tree_source_view, assign_view};
 ghost use Rattle.lra_tree.specs.ProgramViews.{slot_view, expr_view, call_view, source_view, given_view, stmt_view};
 ghost use Rattle.lra_tree.specs.Scope.{function_named};
-ghost use Rattle.lra_tree.specs.NameFaults.{use_faults, expr_faults, called_faults, call_faults, source_faults, given_faults, assign_faults};
-ghost use Rattle.lra_tree.specs.Resolve.{variable, function_place, resolve_expr, resolve_call, resolve_source, resolve_given, resolve_assign, step_operator};
+ghost use Rattle.lra_tree.specs.NameFaults.{use_faults, expr_faults, called_faults, call_faults, source_faults};
+ghost use Rattle.lra_tree.specs.NameFaults.{given_faults, assign_faults};
+ghost use Rattle.lra_tree.specs.Resolve.{variable, function_place, resolve_expr, resolve_call, resolve_source};
+ghost use Rattle.lra_tree.specs.Resolve.{resolve_given, resolve_assign, step_operator};
 ghost use Rattle.lra_names.specs.Calls.{functions_at, argument_faults, resolve_argument};
 ghost use Rattle.lra_names.specs.Outcome.{TellsOf};
 
 use crate::errors::{NamesError, refuse};
 use crate::expressions::{resolve_expr, resolve_variable};
-use crate::scopes::{Scope, is_same};
+use crate::scopes::Scope;
+use crate::signatures::{Functions, Signature};
 use lra_tree::program::{Operation, Slot};
-use lra_tree::{
-    Assign, Call, Cause, Expr, Function, Identifier, Item, Operator, Source, Step, Word, program,
-};
+use lra_tree::{Assign, Call, Cause, Expr, Identifier, Operator, Source, Step, program};
 use std::alloc::{AllocError, Global};
 
-/// The first function of this name, and its place in the list of functions.
-fn find_function<'a>(parts: &'a [Item], name: &Word) -> Option<(usize, &'a Function)>
-    ensures { MatchOption result (function_named (functions_at parts.now) name.now ≡ None) (λ r. (function_named (functions_at parts.now) name.now ≡ Some (function_view r.1.now)) × (function_place (functions_at parts.now) name.now ≡ r.0)) }
+/// Whether a function can't be called so.
+fn is_bad_call(signature: Signature, count: usize, used: bool) -> bool
+    ensures { result ≡ not (nat_eq signature.parameters count) || (used && not signature.has_result) }
 {
-    let mut place = 0;
-    'parts: for item in parts {
-        match item {
-            Item::Prototype => {}
-            Item::Globals(_) => {}
-            Item::Function(function) => {
-                if is_same(name, &function.name.word) {
-                    return Some((place, function));
-                }
-                place += 1;
-            }
-        }
-    }
-    None
-}
-
-/// Whether the function can't be called so.
-fn is_bad_call(function: &Function, count: usize, used: bool) -> bool
-    ensures { result ≡ not (nat_eq (length (function_view function.now).parameters) count) || (used && not (function_view function.now).has_result) }
-{
-    function.parameters.items.len() != count || (used && !function.has_result)
+    signature.parameters != count || (used && !signature.has_result)
 }
 
 /// The place of the called function, where it has so many parameters, and a result if one is used.
 fn resolve_called(
-    parts: &[Item],
+    functions: &Functions<'_>,
     name: &Identifier,
     count: usize,
     used: bool,
 ) -> Result<usize, NamesError>
-    ensures told { TellsOf (called_faults (function_named (functions_at parts.now) name.now.word) name.now count used) result }
-    ensures found { IfOk result (λ p. p ≡ function_place (functions_at parts.now) name.now.word) }
+    ensures told { TellsOf (called_faults (function_named (functions_at functions.now) name.now.word) name.now count
+        used) result }
+    ensures found { IfOk result (λ p. p ≡ function_place (functions_at functions.now) name.now.word) }
 {
-    match find_function(parts, &name.word) {
+    match functions.named(&name.word) {
         None => refuse(Cause::UnknownName, name.place),
-        Some((place, function)) => {
-            if is_bad_call(function, count, used) {
+        Some(signature) => {
+            if is_bad_call(signature, count, used) {
                 refuse(Cause::BadCall, name.place)
             } else {
-                Ok(place)
+                Ok(signature.place)
             }
         }
     }
@@ -88,16 +72,17 @@ fn resolve_arguments(
 #[tactic(auto, using(crate::proofs::CallLaws::call_rules))]
 pub fn resolve_call(
     alloc: Global,
-    parts: &[Item],
+    functions: &Functions<'_>,
     scope: &Scope,
     label: usize,
     call: &Call,
     used: bool,
 ) -> Result<program::Call, NamesError>
-    ensures told { TellsOf (call_faults (functions_at parts.now) scope.now (tree_call_view call.now) used) result }
-    ensures found { IfOk result (λ c. call_view c ≡ resolve_call (functions_at parts.now) scope.now label (tree_call_view call.now)) }
+    ensures told { TellsOf (call_faults (functions_at functions.now) scope.now (tree_call_view call.now) used) result }
+    ensures found { IfOk result (λ c. call_view c ≡ resolve_call (functions_at functions.now) scope.now label
+        (tree_call_view call.now)) }
 {
-    let function = resolve_called(parts, &call.name, call.arguments.items.len(), used)?;
+    let function = resolve_called(functions, &call.name, call.arguments.items.len(), used)?;
     let arguments = resolve_arguments(alloc, scope, &call.arguments.items)?;
     Ok(program::Call {
         label,
@@ -108,13 +93,14 @@ pub fn resolve_call(
 
 pub fn resolve_source(
     alloc: Global,
-    parts: &[Item],
+    functions: &Functions<'_>,
     scope: &Scope,
     label: usize,
     source: &Source,
 ) -> Result<program::Source, NamesError>
-    ensures told { TellsOf (source_faults (functions_at parts.now) scope.now (tree_source_view source.now)) result }
-    ensures found { IfOk result (λ e. source_view e ≡ resolve_source (functions_at parts.now) scope.now label (tree_source_view source.now)) }
+    ensures told { TellsOf (source_faults (functions_at functions.now) scope.now (tree_source_view source.now)) result }
+    ensures found { IfOk result (λ e. source_view e ≡ resolve_source (functions_at functions.now) scope.now label
+        (tree_source_view source.now)) }
 {
     match source {
         Source::Value(expr) => {
@@ -122,7 +108,7 @@ pub fn resolve_source(
             Ok(program::Source::Value(value))
         }
         Source::Result(call) => {
-            let call = resolve_call(alloc, parts, scope, label, call, true)?;
+            let call = resolve_call(alloc, functions, scope, label, call, true)?;
             Ok(program::Source::Result(call))
         }
     }
@@ -130,18 +116,20 @@ pub fn resolve_source(
 
 pub fn resolve_given(
     alloc: Global,
-    parts: &[Item],
+    functions: &Functions<'_>,
     scope: &Scope,
     label: usize,
     source: &Option<Source>,
 ) -> Result<Option<program::Source>, NamesError>
-    ensures told { TellsOf (given_faults (functions_at parts.now) scope.now (option_map tree_source_view source.now)) result }
-    ensures found { IfOk result (λ e. given_view e ≡ resolve_given (functions_at parts.now) scope.now label (option_map tree_source_view source.now)) }
+    ensures told { TellsOf (given_faults (functions_at functions.now) scope.now
+        (option_map tree_source_view source.now)) result }
+    ensures found { IfOk result (λ e. given_view e ≡ resolve_given (functions_at functions.now) scope.now label
+        (option_map tree_source_view source.now)) }
 {
     match source {
         None => Ok(None),
         Some(source) => {
-            let source = resolve_source(alloc, parts, scope, label, source)?;
+            let source = resolve_source(alloc, functions, scope, label, source)?;
             Ok(Some(source))
         }
     }
@@ -154,7 +142,8 @@ fn updated(
     operator: Operator,
     operand: program::Expr,
 ) -> Result<program::Source, AllocError>
-    ensures { IfOk result (λ e. source_view e ≡ value (binary (operator_view operator) (read (slot_view slot)) (expr_view operand))) }
+    ensures { IfOk result (λ e. source_view e ≡ value (binary (operator_view operator) (read (slot_view slot))
+        (expr_view operand))) }
 {
     let mut rest = Vec::new(alloc);
     rest.push(Operation { operator, operand })?;
@@ -173,7 +162,8 @@ fn step_operator(step: Step) -> Operator
 
 /// `x++` and `++x` alike: one more, or one less.
 fn stepped(alloc: Global, slot: Slot, step: Step) -> Result<program::Source, AllocError>
-    ensures { IfOk result (λ e. source_view e ≡ value (binary (step_operator (step_view step)) (read (slot_view slot)) (literal 1))) }
+    ensures { IfOk result (λ e. source_view e ≡ value (binary (step_operator (step_view step)) (read (slot_view slot))
+        (literal 1))) }
 {
     updated(alloc, slot, step_operator(step), program::Expr::Literal(1))
 }
@@ -182,17 +172,19 @@ fn stepped(alloc: Global, slot: Slot, step: Step) -> Result<program::Source, All
 #[tactic(auto, using(crate::proofs::Telling::telling_rules))]
 fn resolve_set(
     alloc: Global,
-    parts: &[Item],
+    functions: &Functions<'_>,
     scope: &Scope,
     label: usize,
     x: &Identifier,
     source: &Source,
 ) -> Result<program::Stmt, NamesError>
-    ensures told { TellsOf (use_faults scope.now x.now ++ source_faults (functions_at parts.now) scope.now (tree_source_view source.now)) result }
-    ensures found { IfOk result (λ s. stmt_view s ≡ assign_stmt label (variable scope.now x.now) (resolve_source (functions_at parts.now) scope.now label (tree_source_view source.now))) }
+    ensures told { TellsOf (use_faults scope.now x.now ++ source_faults (functions_at functions.now) scope.now
+        (tree_source_view source.now)) result }
+    ensures found { IfOk result (λ s. stmt_view s ≡ assign_stmt label (variable scope.now x.now)
+        (resolve_source (functions_at functions.now) scope.now label (tree_source_view source.now))) }
 {
     let slot = resolve_variable(scope, x)?;
-    let source = resolve_source(alloc, parts, scope, label, source)?;
+    let source = resolve_source(alloc, functions, scope, label, source)?;
     Ok(program::Stmt::Assign(label, slot, source))
 }
 
@@ -207,7 +199,9 @@ fn resolve_update(
     expr: &Expr,
 ) -> Result<program::Stmt, NamesError>
     ensures told { TellsOf (use_faults scope.now x.now ++ expr_faults scope.now (tree_expr_view expr.now)) result }
-    ensures found { IfOk result (λ s. stmt_view s ≡ assign_stmt label (variable scope.now x.now) (value (binary (operator_view operator) (read (variable scope.now x.now)) (resolve_expr scope.now (tree_expr_view expr.now))))) }
+    ensures found { IfOk result (λ s. stmt_view s ≡ assign_stmt label (variable scope.now x.now)
+        (value (binary (operator_view operator) (read (variable scope.now x.now))
+        (resolve_expr scope.now (tree_expr_view expr.now))))) }
 {
     let slot = resolve_variable(scope, x)?;
     let operand = resolve_expr(alloc, scope, expr)?;
@@ -224,7 +218,8 @@ fn resolve_increment(
     step: Step,
 ) -> Result<program::Stmt, NamesError>
     ensures told { TellsOf (use_faults scope.now x.now) result }
-    ensures found { IfOk result (λ s. stmt_view s ≡ assign_stmt label (variable scope.now x.now) (value (binary (step_operator (step_view step)) (read (variable scope.now x.now)) (literal 1)))) }
+    ensures found { IfOk result (λ s. stmt_view s ≡ assign_stmt label (variable scope.now x.now)
+        (value (binary (step_operator (step_view step)) (read (variable scope.now x.now)) (literal 1)))) }
 {
     let slot = resolve_variable(scope, x)?;
     let source = stepped(alloc, slot, step)?;
@@ -233,16 +228,17 @@ fn resolve_increment(
 
 pub fn resolve_assign(
     alloc: Global,
-    parts: &[Item],
+    functions: &Functions<'_>,
     scope: &Scope,
     label: usize,
     assign: &Assign,
 ) -> Result<program::Stmt, NamesError>
-    ensures told { TellsOf (assign_faults (functions_at parts.now) scope.now (assign_view assign.now)) result }
-    ensures found { IfOk result (λ s. stmt_view s ≡ resolve_assign (functions_at parts.now) scope.now label (assign_view assign.now)) }
+    ensures told { TellsOf (assign_faults (functions_at functions.now) scope.now (assign_view assign.now)) result }
+    ensures found { IfOk result (λ s. stmt_view s ≡ resolve_assign (functions_at functions.now) scope.now label
+        (assign_view assign.now)) }
 {
     match assign {
-        Assign::Set(x, source) => resolve_set(alloc, parts, scope, label, x, source),
+        Assign::Set(x, source) => resolve_set(alloc, functions, scope, label, x, source),
         Assign::Update(x, operator, expr) => {
             resolve_update(alloc, scope, label, x, *operator, expr)
         }

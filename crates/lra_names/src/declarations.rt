@@ -15,7 +15,8 @@ ghost use Rattle.lra_names.specs.Outcome.{Tells, TellsOf};
 use crate::calls::resolve_given;
 use crate::errors::{NamesError, refuse};
 use crate::scopes::Scope;
-use lra_tree::{Cause, Declaration, Declarator, Item, program};
+use crate::signatures::Functions;
+use lra_tree::{Cause, Declaration, Declarator, program};
 use std::alloc::Global;
 
 /// The next label. One that can't be counted wants memory, like the tree that has so many.
@@ -38,13 +39,19 @@ pub fn take_label(next: &mut usize) -> Result<usize, NamesError>
 #[tactic(auto, using(crate::proofs::Telling::telling_rules))]
 fn resolve_declarator(
     alloc: Global,
-    parts: &[Item],
+    functions: &Functions<'_>,
     scope: &mut Scope,
     next: &mut usize,
     declarator: &Declarator,
 ) -> Result<program::Declarator, NamesError>
-    ensures told { TellsOf (declarator_faults (functions_at parts.now) scope.old (declarator_view declarator.now)) result }
-    ensures found { IfOk result (λ d. program_declarator_view d ≡ record { label = next.old; source = resolve_given (functions_at parts.now) (with_local scope.old declarator.now.name.word) next.old (option_map source_view declarator.now.source) }) }
+    ensures told { TellsOf (declarator_faults (functions_at functions.now) scope.old (declarator_view declarator.now))
+        result }
+    ensures found { IfOk result (λ d. program_declarator_view d
+        ≡ record {
+          label = next.old;
+          source = resolve_given (functions_at functions.now)
+              (with_local scope.old declarator.now.name.word) next.old (option_map source_view declarator.now.source);
+        }) }
     ensures declared { OnOk result (scope.new ≡ with_local scope.old declarator.now.name.word) }
     ensures counted { OnOk result (next.new ≡ suc next.old) }
 {
@@ -53,7 +60,7 @@ fn resolve_declarator(
     }
     scope.declare(alloc, &declarator.name.word)?;
     let label = take_label(next)?;
-    let source = resolve_given(alloc, parts, scope, label, &declarator.source)?;
+    let source = resolve_given(alloc, functions, scope, label, &declarator.source)?;
     Ok(program::Declarator { label, source })
 }
 
@@ -61,19 +68,27 @@ fn resolve_declarator(
 #[tactic(auto, using(crate::proofs::DeclarationLaws::declarator_rules))]
 fn add_declarator(
     alloc: Global,
-    parts: &[Item],
+    functions: &Functions<'_>,
     scope: &mut Scope,
     next: &mut usize,
     declarator: &Declarator,
     items: &mut Vec<program::BlockItem>,
 ) -> Result<(), NamesError>
-    ensures told { IfErr result (λ e. (rest : List DeclaratorTree) → Tells (declarators_faults (functions_at parts.now) scope.old (declarator_view declarator.now ∷ rest)) e) }
-    ensures clean { OnOk result ((rest : List DeclaratorTree) → declarators_faults (functions_at parts.now) scope.old (declarator_view declarator.now ∷ rest) ≡ declarators_faults (functions_at parts.now) scope.new rest) }
-    ensures found { OnOk result ((rest : List DeclaratorTree) (more : BlockItems) → followed (map item_view items.old.items) (resolve_declarators (functions_at parts.now) scope.old next.old (declarator_view declarator.now ∷ rest) more) ≡ followed (map item_view items.new.items) (resolve_declarators (functions_at parts.now) scope.new next.new rest more)) }
+    ensures told { IfErr result (λ e. (rest : List DeclaratorTree)
+        → Tells (declarators_faults (functions_at functions.now) scope.old (declarator_view declarator.now ∷ rest))
+        e) }
+    ensures clean { OnOk result ((rest : List DeclaratorTree)
+        → declarators_faults (functions_at functions.now) scope.old (declarator_view declarator.now ∷ rest)
+        ≡ declarators_faults (functions_at functions.now) scope.new rest) }
+    ensures found { OnOk result ((rest : List DeclaratorTree) (more : BlockItems)
+        → followed (map item_view items.old.items) (resolve_declarators
+        (functions_at functions.now) scope.old next.old (declarator_view declarator.now ∷ rest) more)
+        ≡ followed (map item_view items.new.items) (resolve_declarators
+        (functions_at functions.now) scope.new next.new rest more)) }
     ensures declared { OnOk result (scope.new ≡ with_local scope.old declarator.now.name.word) }
     ensures counted { OnOk result (next.new ≡ suc next.old) }
 {
-    let resolved = resolve_declarator(alloc, parts, scope, next, declarator)?;
+    let resolved = resolve_declarator(alloc, functions, scope, next, declarator)?;
     items.push(program::BlockItem::Declaration(resolved))?;
     Ok(())
 }
@@ -81,20 +96,25 @@ fn add_declarator(
 /// Resolves the declarators of a declaration into further items.
 pub fn add_declaration(
     alloc: Global,
-    parts: &[Item],
+    functions: &Functions<'_>,
     scope: &mut Scope,
     next: &mut usize,
     declaration: &Declaration,
     items: &mut Vec<program::BlockItem>,
 ) -> Result<(), NamesError>
-    ensures told { TellsOf (declarators_faults (functions_at parts.now) scope.old (declarator_view declaration.now.first ∷ map declarator_view declaration.now.rest.items)) result }
-    ensures found { OnOk result ((more : BlockItems) → followed (map item_view items.old.items) (resolve_declarators (functions_at parts.now) scope.old next.old (declarator_view declaration.now.first ∷ map declarator_view declaration.now.rest.items) more) ≡ followed (map item_view items.new.items) more) }
-    ensures declared { OnOk result (scope.new ≡ with_declarators scope.old (declarator_view declaration.now.first ∷ map declarator_view declaration.now.rest.items)) }
+    ensures told { TellsOf (declarators_faults (functions_at functions.now) scope.old
+        (declarator_view declaration.now.first ∷ map declarator_view declaration.now.rest.items)) result }
+    ensures found { OnOk result ((more : BlockItems) → followed (map item_view items.old.items)
+        (resolve_declarators (functions_at functions.now) scope.old next.old
+        (declarator_view declaration.now.first ∷ map declarator_view declaration.now.rest.items) more)
+        ≡ followed (map item_view items.new.items) more) }
+    ensures declared { OnOk result (scope.new ≡ with_declarators scope.old
+        (declarator_view declaration.now.first ∷ map declarator_view declaration.now.rest.items)) }
     ensures counted { OnOk result (next.new ≡ next.old + suc (length declaration.now.rest.items)) }
 {
-    add_declarator(alloc, parts, scope, next, &declaration.first, items)?;
+    add_declarator(alloc, functions, scope, next, &declaration.first, items)?;
     'declarators: for declarator in &declaration.rest {
-        add_declarator(alloc, parts, scope, next, declarator, items)?;
+        add_declarator(alloc, functions, scope, next, declarator, items)?;
     }
     Ok(())
 }

@@ -1,11 +1,13 @@
 //! Expressions: each variable is a place in the store.
 
 ghost use Rattle.std.specs.Prelude.{◌≡◌, map, IfOk, IfErr, flat_map};
-ghost use Rattle.lra_tree.specs.Views.{operator_view, unary_view, term_view, factor_view, summand_view, expr_view as tree_expr_view};
+ghost use Rattle.lra_tree.specs.Views.{operator_view, unary_view, term_view, factor_view, summand_view};
+ghost use Rattle.lra_tree.specs.Views.{expr_view as tree_expr_view};
 ghost use Rattle.lra_tree.specs.ProgramViews.{slot_view, expr_view, operation_view, chained};
 ghost use Rattle.lra_tree.specs.NameFaults.{use_faults, unary_faults, term_faults, expr_faults};
 ghost use Rattle.lra_tree.specs.Resolve.{variable, resolve_unary, resolve_term, resolve_expr};
-ghost use Rattle.lra_names.specs.Chains.{factor_operator, sum_operator, factor_faults, resolve_factor, summand_faults, resolve_summand};
+ghost use Rattle.lra_names.specs.Chains.{factor_operator, sum_operator, factor_faults, resolve_factor};
+ghost use Rattle.lra_names.specs.Chains.{summand_faults, resolve_summand};
 ghost use Rattle.lra_names.specs.Outcome.{TellsOf};
 
 use crate::errors::{NamesError, refuse};

@@ -1,13 +1,16 @@
 //! Functions, global variables, and the whole source.
 
-ghost use Rattle.std.specs.Prelude.{◌≡◌, ◌+◌, ◌++◌, ◌∷◌, [], ℕ, List, suc, true, false, map, length, IfOk, OnOk, IfErr, MatchOption};
+ghost use Rattle.std.specs.Prelude.{◌≡◌, ◌+◌, ◌++◌, ◌∷◌, [], ℕ, List, suc, true, false, map, length, IfOk, OnOk};
+ghost use Rattle.std.specs.Prelude.{IfErr, MatchOption};
 ghost use Rattle.std.specs.List.{list_any};
 ghost use Rattle.lra_tree.specs.Trees.{GlobalTree, PartTree, function as part_function};
 ghost use Rattle.lra_tree.specs.Views.{global_view, function_view as tree_function_view, part_view, tree_view};
 ghost use Rattle.lra_tree.specs.ProgramViews.{function_view, program_view};
 ghost use Rattle.lra_tree.specs.Scope.{function_scope, is_main};
-ghost use Rattle.lra_tree.specs.NameFaults.{is_taken, parameters_faults, function_faults, globals_faults, global_names, parts_faults, name_faults};
-ghost use Rattle.lra_tree.specs.Resolve.{resolve_function, global_value, globals_in, resolve_parts, items_count, resolve};
+ghost use Rattle.lra_tree.specs.NameFaults.{parameters_faults, function_faults, globals_faults, global_names};
+ghost use Rattle.lra_tree.specs.NameFaults.{parts_faults, name_faults};
+ghost use Rattle.lra_tree.specs.Resolve.{resolve_function, global_value, globals_in, resolve_parts, items_count};
+ghost use Rattle.lra_tree.specs.Resolve.{resolve};
 ghost use Rattle.lra_names.specs.Calls.{functions_at};
 ghost use Rattle.lra_names.specs.Mains.{main_place};
 ghost use Rattle.lra_names.specs.Outcome.{Tells, TellsOf};
@@ -15,18 +18,13 @@ ghost use Rattle.lra_names.specs.Outcome.{Tells, TellsOf};
 use crate::around::Around;
 use crate::declarations::take_label;
 use crate::errors::{NamesError, refuse};
-use crate::scopes::{Scope, is_same};
+use crate::names::Names;
+use crate::scopes::Scope;
+use crate::signatures::Functions;
 use crate::statements::resolve_items;
 use lra_tree::program::Program;
-use lra_tree::{Cause, Function, Globals, Identifier, Item, Tree, Word, program};
+use lra_tree::{Cause, Function, Globals, Identifier, Item, Tree, program};
 use std::alloc::Global;
-
-/// Whether the name is one of these.
-fn is_taken(name: &Word, names: &[Word]) -> bool
-    ensures { result ≡ is_taken name.now names.now }
-{
-    names.iter().any(|word| is_same(name, word))
-}
 
 /// Begins a function's scope with its parameters.
 fn declare_parameters(
@@ -50,20 +48,22 @@ fn declare_parameters(
 #[tactic(auto, using(crate::proofs::FunctionLaws::function_rules))]
 fn resolve_function(
     alloc: Global,
-    parts: &[Item],
+    functions: &Functions<'_>,
     scope: &mut Scope,
     next: &mut usize,
     function: &Function,
 ) -> Result<program::Function, NamesError>
-    ensures told { TellsOf (function_faults (functions_at parts.now) scope.old.globals (tree_function_view function.now)) result }
-    ensures found { IfOk result (λ f. function_view f ≡ resolve_function (functions_at parts.now) scope.old.globals next.old (tree_function_view function.now)) }
+    ensures told { TellsOf (function_faults (functions_at functions.now) scope.old.globals
+        (tree_function_view function.now)) result }
+    ensures found { IfOk result (λ f. function_view f ≡ resolve_function
+        (functions_at functions.now) scope.old.globals next.old (tree_function_view function.now)) }
     ensures outside { OnOk result (scope.new.globals ≡ scope.old.globals) }
     ensures counted { OnOk result (next.new ≡ next.old + suc (items_count (tree_function_view function.now).body)) }
 {
     declare_parameters(alloc, scope, &function.parameters.items)?;
     let around = Around {
         alloc,
-        parts,
+        functions,
         has_result: function.has_result,
         in_loop: false,
     };
@@ -80,7 +80,7 @@ fn resolve_function(
 #[derive(Drop)]
 pub struct Resolved {
     /// The names of the file scope.
-    names: Vec<Word>,
+    names: Names,
     scope: Scope,
     /// The next label.
     next: usize,
@@ -94,19 +94,23 @@ fn add_global(
     resolved: &mut Resolved,
     global: &lra_tree::Global,
 ) -> Result<(), NamesError>
-    ensures told { IfErr result (λ e. (rest : List GlobalTree) → Tells (globals_faults resolved.old.names.items (global_view global.now ∷ rest)) e) }
-    ensures clean { OnOk result ((rest : List GlobalTree) → globals_faults resolved.old.names.items (global_view global.now ∷ rest) ≡ globals_faults resolved.new.names.items rest) }
-    ensures named { OnOk result (resolved.new.names.items ≡ resolved.old.names.items ++ global.now.name.word ∷ []) }
-    ensures scoped { OnOk result (resolved.new.scope.globals ≡ resolved.old.scope.globals ++ global.now.name.word ∷ []) }
-    ensures valued { OnOk result (resolved.new.globals.items ≡ resolved.old.globals.items ++ global_value (global_view global.now) ∷ []) }
+    ensures told { IfErr result (λ e. (rest : List GlobalTree)
+        → Tells (globals_faults resolved.old.names (global_view global.now ∷ rest)) e) }
+    ensures clean { OnOk result ((rest : List GlobalTree)
+        → globals_faults resolved.old.names (global_view global.now ∷ rest)
+        ≡ globals_faults resolved.new.names rest) }
+    ensures named { OnOk result (resolved.new.names ≡ resolved.old.names ++ global.now.name.word ∷ []) }
+    ensures scoped { OnOk result (resolved.new.scope.globals ≡ resolved.old.scope.globals ++ global.now.name.word
+        ∷ []) }
+    ensures valued { OnOk result (resolved.new.globals.items ≡ resolved.old.globals.items
+        ++ global_value (global_view global.now) ∷ []) }
     ensures next { OnOk result (resolved.new.next ≡ resolved.old.next) }
     ensures functions { OnOk result (resolved.new.functions.items ≡ resolved.old.functions.items) }
 {
-    if is_taken(&global.name.word, &resolved.names) {
+    if resolved.names.has_behind(0, &global.name.word) {
         return refuse(Cause::DuplicateName, global.name.place);
     }
-    let word = global.name.word.copy(alloc)?;
-    resolved.names.push(word)?;
+    resolved.names.push(alloc, &global.name.word)?;
     resolved.scope.declare_global(alloc, &global.name.word)?;
     let value = match global.value {
         Some(value) => value,
@@ -117,10 +121,14 @@ fn add_global(
 }
 
 fn add_globals(alloc: Global, resolved: &mut Resolved, globals: &Globals) -> Result<(), NamesError>
-    ensures told { TellsOf (globals_faults resolved.old.names.items (global_view globals.now.first ∷ map global_view globals.now.rest.items)) result }
-    ensures named { OnOk result (resolved.new.names.items ≡ resolved.old.names.items ++ global_names (global_view globals.now.first ∷ map global_view globals.now.rest.items)) }
-    ensures scoped { OnOk result (resolved.new.scope.globals ≡ resolved.old.scope.globals ++ global_names (global_view globals.now.first ∷ map global_view globals.now.rest.items)) }
-    ensures valued { OnOk result (resolved.new.globals.items ≡ resolved.old.globals.items ++ map global_value (global_view globals.now.first ∷ map global_view globals.now.rest.items)) }
+    ensures told { TellsOf (globals_faults resolved.old.names
+        (global_view globals.now.first ∷ map global_view globals.now.rest.items)) result }
+    ensures named { OnOk result (resolved.new.names ≡ resolved.old.names
+        ++ global_names (global_view globals.now.first ∷ map global_view globals.now.rest.items)) }
+    ensures scoped { OnOk result (resolved.new.scope.globals ≡ resolved.old.scope.globals
+        ++ global_names (global_view globals.now.first ∷ map global_view globals.now.rest.items)) }
+    ensures valued { OnOk result (resolved.new.globals.items ≡ resolved.old.globals.items
+        ++ map global_value (global_view globals.now.first ∷ map global_view globals.now.rest.items)) }
     ensures next { OnOk result (resolved.new.next ≡ resolved.old.next) }
     ensures functions { OnOk result (resolved.new.functions.items ≡ resolved.old.functions.items) }
 {
@@ -134,23 +142,30 @@ fn add_globals(alloc: Global, resolved: &mut Resolved, globals: &Globals) -> Res
 #[tactic(auto, using(crate::proofs::FunctionLaws::part_rules))]
 fn add_function(
     alloc: Global,
-    parts: &[Item],
+    functions: &Functions<'_>,
     resolved: &mut Resolved,
     function: &Function,
 ) -> Result<(), NamesError>
-    ensures told { IfErr result (λ e. (rest : List PartTree) → Tells (parts_faults (functions_at parts.now) resolved.old.names.items resolved.old.scope.globals (part_function (tree_function_view function.now) ∷ rest)) e) }
-    ensures clean { OnOk result ((rest : List PartTree) → parts_faults (functions_at parts.now) resolved.old.names.items resolved.old.scope.globals (part_function (tree_function_view function.now) ∷ rest) ≡ parts_faults (functions_at parts.now) resolved.new.names.items resolved.new.scope.globals rest) }
-    ensures found { OnOk result ((rest : List PartTree) → map function_view resolved.old.functions.items ++ resolve_parts (functions_at parts.now) resolved.old.scope.globals resolved.old.next (part_function (tree_function_view function.now) ∷ rest) ≡ map function_view resolved.new.functions.items ++ resolve_parts (functions_at parts.now) resolved.new.scope.globals resolved.new.next rest) }
+    ensures told { IfErr result (λ e. (rest : List PartTree)
+        → Tells (parts_faults (functions_at functions.now) resolved.old.names resolved.old.scope.globals
+        (part_function (tree_function_view function.now) ∷ rest)) e) }
+    ensures clean { OnOk result ((rest : List PartTree)
+        → parts_faults (functions_at functions.now) resolved.old.names resolved.old.scope.globals
+        (part_function (tree_function_view function.now) ∷ rest)
+        ≡ parts_faults (functions_at functions.now) resolved.new.names resolved.new.scope.globals rest) }
+    ensures found { OnOk result ((rest : List PartTree) → map function_view resolved.old.functions.items
+        ++ resolve_parts (functions_at functions.now) resolved.old.scope.globals resolved.old.next
+        (part_function (tree_function_view function.now) ∷ rest) ≡ map function_view resolved.new.functions.items
+        ++ resolve_parts (functions_at functions.now) resolved.new.scope.globals resolved.new.next rest) }
     ensures valued { OnOk result (resolved.new.globals.items ≡ resolved.old.globals.items) }
 {
-    if is_taken(&function.name.word, &resolved.names) {
+    if resolved.names.has_behind(0, &function.name.word) {
         return refuse(Cause::DuplicateName, function.name.place);
     }
-    let word = function.name.word.copy(alloc)?;
-    resolved.names.push(word)?;
+    resolved.names.push(alloc, &function.name.word)?;
     let one = resolve_function(
         alloc,
-        parts,
+        functions,
         &mut resolved.scope,
         &mut resolved.next,
         function,
@@ -162,14 +177,23 @@ fn add_function(
 #[tactic(auto, using(crate::proofs::FunctionLaws::part_rules))]
 fn add_part(
     alloc: Global,
-    parts: &[Item],
+    functions: &Functions<'_>,
     resolved: &mut Resolved,
     item: &Item,
 ) -> Result<(), NamesError>
-    ensures told { IfErr result (λ e. (rest : List PartTree) → Tells (parts_faults (functions_at parts.now) resolved.old.names.items resolved.old.scope.globals (part_view item.now ∷ rest)) e) }
-    ensures clean { OnOk result ((rest : List PartTree) → parts_faults (functions_at parts.now) resolved.old.names.items resolved.old.scope.globals (part_view item.now ∷ rest) ≡ parts_faults (functions_at parts.now) resolved.new.names.items resolved.new.scope.globals rest) }
-    ensures found { OnOk result ((rest : List PartTree) → map function_view resolved.old.functions.items ++ resolve_parts (functions_at parts.now) resolved.old.scope.globals resolved.old.next (part_view item.now ∷ rest) ≡ map function_view resolved.new.functions.items ++ resolve_parts (functions_at parts.now) resolved.new.scope.globals resolved.new.next rest) }
-    ensures valued { OnOk result ((rest : List PartTree) → resolved.old.globals.items ++ globals_in (part_view item.now ∷ rest) ≡ resolved.new.globals.items ++ globals_in rest) }
+    ensures told { IfErr result (λ e. (rest : List PartTree)
+        → Tells (parts_faults (functions_at functions.now) resolved.old.names resolved.old.scope.globals
+        (part_view item.now ∷ rest)) e) }
+    ensures clean { OnOk result ((rest : List PartTree)
+        → parts_faults (functions_at functions.now) resolved.old.names resolved.old.scope.globals
+        (part_view item.now ∷ rest) ≡ parts_faults (functions_at functions.now) resolved.new.names
+        resolved.new.scope.globals rest) }
+    ensures found { OnOk result ((rest : List PartTree) → map function_view resolved.old.functions.items
+        ++ resolve_parts (functions_at functions.now) resolved.old.scope.globals resolved.old.next
+        (part_view item.now ∷ rest) ≡ map function_view resolved.new.functions.items
+        ++ resolve_parts (functions_at functions.now) resolved.new.scope.globals resolved.new.next rest) }
+    ensures valued { OnOk result ((rest : List PartTree) → resolved.old.globals.items
+        ++ globals_in (part_view item.now ∷ rest) ≡ resolved.new.globals.items ++ globals_in rest) }
 {
     match item {
         Item::Prototype => Ok(()),
@@ -178,7 +202,7 @@ fn add_part(
             Ok(())
         }
         Item::Function(function) => {
-            add_function(alloc, parts, resolved, function)?;
+            add_function(alloc, functions, resolved, function)?;
             Ok(())
         }
     }
@@ -192,7 +216,8 @@ fn is_main(function: &Function) -> bool
 
 /// The place of the first `main` without parameters in the list of functions.
 fn find_main(parts: &[Item]) -> Option<usize>
-    ensures { MatchOption result (list_any is_main (functions_at parts.now) ≡ false) (λ k. (list_any is_main (functions_at parts.now) ≡ true) × (k ≡ main_place (functions_at parts.now))) }
+    ensures { MatchOption result (list_any is_main (functions_at parts.now) ≡ false)
+        (λ k. (list_any is_main (functions_at parts.now) ≡ true) × (k ≡ main_place (functions_at parts.now))) }
 {
     let mut place = 0;
     'parts: for item in parts {
@@ -211,31 +236,35 @@ fn find_main(parts: &[Item]) -> Option<usize>
 }
 
 /// All parts of the source.
-fn resolve_all(alloc: Global, parts: &[Item]) -> Result<Resolved, NamesError>
-    ensures told { TellsOf (parts_faults (functions_at parts.now) [] [] (map part_view parts.now)) result }
-    ensures found { IfOk result (λ r. map function_view r.functions.items ≡ resolve_parts (functions_at parts.now) [] 1 (map part_view parts.now)) }
-    ensures valued { IfOk result (λ r. r.globals.items ≡ globals_in (map part_view parts.now)) }
+fn resolve_all(alloc: Global, functions: &Functions<'_>) -> Result<Resolved, NamesError>
+    ensures told { TellsOf (parts_faults (functions_at functions.now) [] [] (map part_view functions.now)) result }
+    ensures found { IfOk result (λ r. map function_view r.functions.items
+        ≡ resolve_parts (functions_at functions.now) [] 1 (map part_view functions.now)) }
+    ensures valued { IfOk result (λ r. r.globals.items ≡ globals_in (map part_view functions.now)) }
 {
     let mut resolved = Resolved {
-        names: Vec::new(alloc),
+        names: Names::new(alloc),
         scope: Scope::outermost(alloc),
         next: 1,
         globals: Vec::new(alloc),
         functions: Vec::new(alloc),
     };
+    let parts = functions.parts();
     'parts: for item in parts {
-        add_part(alloc, parts, &mut resolved, item)?;
+        add_part(alloc, functions, &mut resolved, item)?;
     }
     Ok(resolved)
 }
 
-/// The program that a source means, with its statements labelled in text order from 1; or its first fault of names, or want of memory.
+/// The program that a source means, with its statements labelled in text order from 1; or its first fault of names,
+/// or want of memory.
 #[tactic(auto, using(crate::proofs::FunctionLaws::main_rules))]
 pub fn resolve(alloc: Global, tree: &Tree) -> Result<Program, NamesError>
     ensures told { TellsOf (name_faults (tree_view tree.now)) result }
     ensures found { IfOk result (λ p. program_view p ≡ resolve (tree_view tree.now)) }
 {
-    let resolved = resolve_all(alloc, &tree.items)?;
+    let functions = Functions::new(alloc, &tree.items)?;
+    let resolved = resolve_all(alloc, &functions)?;
     match find_main(&tree.items) {
         None => refuse(Cause::NoMain, tree.end),
         Some(main) => Ok(Program {

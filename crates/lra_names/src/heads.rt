@@ -6,7 +6,8 @@ ghost use Rattle.lra_tree.specs.Views.{init_view, assign_view, cond_view as tree
 ghost use Rattle.lra_tree.specs.ProgramViews.{stmt_view, items_view, item_view, cond_view};
 ghost use Rattle.lra_tree.specs.Scope.{for_scope};
 ghost use Rattle.lra_tree.specs.NameFaults.{cond_faults, init_faults, test_of_for_faults, step_faults};
-ghost use Rattle.lra_tree.specs.Resolve.{resolve_cond, resolve_init, resolve_for_test, resolve_step, init_count, step_count};
+ghost use Rattle.lra_tree.specs.Resolve.{resolve_cond, resolve_init, resolve_for_test, resolve_step, init_count};
+ghost use Rattle.lra_tree.specs.Resolve.{step_count};
 ghost use Rattle.lra_names.specs.Calls.{functions_at};
 ghost use Rattle.lra_names.specs.Statements.{followed, choice, loop_of, for_of, head_faults};
 ghost use Rattle.lra_names.specs.Outcome.{TellsOf};
@@ -40,7 +41,8 @@ impl Head {
         branch: program::Stmt,
         other: program::Stmt,
     ) -> Result<program::Stmt, NamesError>
-        ensures found { IfOk result (λ s. stmt_view s ≡ choice self.label (cond_view self.cond) (stmt_view branch) (stmt_view other)) }
+        ensures found { IfOk result (λ s. stmt_view s ≡ choice self.label (cond_view self.cond) (stmt_view branch)
+            (stmt_view other)) }
         ensures memory { IfErr result (λ e. e ≡ NamesError.Memory) }
     {
         let Head { label, cond } = self;
@@ -56,7 +58,8 @@ impl Head {
         body: program::Stmt,
         step: program::Stmt,
     ) -> Result<program::Stmt, NamesError>
-        ensures found { IfOk result (λ s. stmt_view s ≡ loop_of self.label (cond_view self.cond) (stmt_view body) (stmt_view step)) }
+        ensures found { IfOk result (λ s. stmt_view s ≡ loop_of self.label (cond_view self.cond) (stmt_view body)
+            (stmt_view step)) }
         ensures memory { IfErr result (λ e. e ≡ NamesError.Memory) }
     {
         let Head { label, cond } = self;
@@ -107,7 +110,8 @@ pub fn resolve_assert(
     cond: &Cond,
 ) -> Result<program::Stmt, NamesError>
     ensures told { TellsOf (cond_faults scope.now (tree_cond_view cond.now)) result }
-    ensures found { IfOk result (λ s. stmt_view s ≡ assert_stmt next.old (resolve_cond scope.now (tree_cond_view cond.now))) }
+    ensures found { IfOk result (λ s. stmt_view s ≡ assert_stmt next.old
+        (resolve_cond scope.now (tree_cond_view cond.now))) }
     ensures counted { OnOk result (next.new ≡ suc next.old) }
 {
     let head = resolve_head(around.alloc, scope, next, cond)?;
@@ -121,7 +125,8 @@ pub fn resolve_assume(
     cond: &Cond,
 ) -> Result<program::Stmt, NamesError>
     ensures told { TellsOf (cond_faults scope.now (tree_cond_view cond.now)) result }
-    ensures found { IfOk result (λ s. stmt_view s ≡ assume_stmt next.old (resolve_cond scope.now (tree_cond_view cond.now))) }
+    ensures found { IfOk result (λ s. stmt_view s ≡ assume_stmt next.old
+        (resolve_cond scope.now (tree_cond_view cond.now))) }
     ensures counted { OnOk result (next.new ≡ suc next.old) }
 {
     let head = resolve_head(around.alloc, scope, next, cond)?;
@@ -144,8 +149,9 @@ fn resolve_init(
     next: &mut usize,
     init: &Init,
 ) -> Result<program::BlockItems, NamesError>
-    ensures told { TellsOf (init_faults (functions_at around.now.parts.now) scope.old (init_view init.now)) result }
-    ensures found { IfOk result (λ b. items_view b ≡ resolve_init (functions_at around.now.parts.now) scope.old next.old (init_view init.now)) }
+    ensures told { TellsOf (init_faults (functions_at around.now.functions.now) scope.old (init_view init.now)) result }
+    ensures found { IfOk result (λ b. items_view b ≡ resolve_init
+        (functions_at around.now.functions.now) scope.old next.old (init_view init.now)) }
     ensures entered { OnOk result (scope.new ≡ for_scope scope.old (init_view init.now)) }
     ensures counted { OnOk result (next.new ≡ next.old + init_count (init_view init.now)) }
 {
@@ -159,7 +165,7 @@ fn resolve_init(
             scope.enter();
             add_declaration(
                 around.alloc,
-                around.parts,
+                around.functions,
                 scope,
                 next,
                 declaration,
@@ -197,8 +203,10 @@ fn resolve_step(
     next: &mut usize,
     step: &Option<Assign>,
 ) -> Result<program::Stmt, NamesError>
-    ensures told { TellsOf (step_faults (functions_at around.now.parts.now) scope.now (option_map assign_view step.now)) result }
-    ensures found { IfOk result (λ s. stmt_view s ≡ resolve_step (functions_at around.now.parts.now) scope.now next.old (option_map assign_view step.now)) }
+    ensures told { TellsOf (step_faults (functions_at around.now.functions.now) scope.now
+        (option_map assign_view step.now)) result }
+    ensures found { IfOk result (λ s. stmt_view s ≡ resolve_step
+        (functions_at around.now.functions.now) scope.now next.old (option_map assign_view step.now)) }
     ensures counted { OnOk result (next.new ≡ next.old + step_count (option_map assign_view step.now)) }
 {
     match step {
@@ -235,7 +243,8 @@ impl Drop for ForHead {
 impl ForHead {
     /// The whole `for`.
     pub fn into_loop(self, alloc: Global, body: program::Stmt) -> Result<program::Stmt, NamesError>
-        ensures found { IfOk result (λ s. stmt_view s ≡ for_of (items_view self.init) (loop_of self.head.label (cond_view self.head.cond) (stmt_view body) (stmt_view self.step))) }
+        ensures found { IfOk result (λ s. stmt_view s ≡ for_of (items_view self.init)
+            (loop_of self.head.label (cond_view self.head.cond) (stmt_view body) (stmt_view self.step))) }
         ensures memory { IfErr result (λ e. e ≡ NamesError.Memory) }
     {
         let ForHead { init, head, step } = self;
@@ -252,13 +261,22 @@ pub fn resolve_for_head(
     next: &mut usize,
     rounds: &Rounds<'_>,
 ) -> Result<ForHead, NamesError>
-    ensures told { TellsOf (head_faults (functions_at around.now.parts.now) scope.old (init_view rounds.now.init.now) (option_map tree_cond_view rounds.now.test.now) (option_map assign_view rounds.now.step.now)) result }
+    ensures told { TellsOf (head_faults (functions_at around.now.functions.now) scope.old
+        (init_view rounds.now.init.now) (option_map tree_cond_view rounds.now.test.now)
+        (option_map assign_view rounds.now.step.now)) result }
     ensures label { IfOk result (λ h. h.head.label ≡ next.old) }
-    ensures begun { IfOk result (λ h. items_view h.init ≡ resolve_init (functions_at around.now.parts.now) scope.old (suc next.old) (init_view rounds.now.init.now)) }
-    ensures tested { IfOk result (λ h. cond_view h.head.cond ≡ resolve_for_test (for_scope scope.old (init_view rounds.now.init.now)) (option_map tree_cond_view rounds.now.test.now)) }
-    ensures stepped { IfOk result (λ h. stmt_view h.step ≡ resolve_step (functions_at around.now.parts.now) (for_scope scope.old (init_view rounds.now.init.now)) (suc next.old + init_count (init_view rounds.now.init.now)) (option_map assign_view rounds.now.step.now)) }
+    ensures begun { IfOk result (λ h. items_view h.init
+        ≡ resolve_init (functions_at around.now.functions.now) scope.old (suc next.old)
+        (init_view rounds.now.init.now)) }
+    ensures tested { IfOk result (λ h. cond_view h.head.cond
+        ≡ resolve_for_test (for_scope scope.old (init_view rounds.now.init.now))
+        (option_map tree_cond_view rounds.now.test.now)) }
+    ensures stepped { IfOk result (λ h. stmt_view h.step
+        ≡ resolve_step (functions_at around.now.functions.now) (for_scope scope.old (init_view rounds.now.init.now))
+        (suc next.old + init_count (init_view rounds.now.init.now)) (option_map assign_view rounds.now.step.now)) }
     ensures entered { OnOk result (scope.new ≡ for_scope scope.old (init_view rounds.now.init.now)) }
-    ensures counted { OnOk result (next.new ≡ suc next.old + init_count (init_view rounds.now.init.now) + step_count (option_map assign_view rounds.now.step.now)) }
+    ensures counted { OnOk result (next.new ≡ suc next.old + init_count (init_view rounds.now.init.now)
+        + step_count (option_map assign_view rounds.now.step.now)) }
 {
     let label = take_label(next)?;
     let init = resolve_init(around, scope, next, rounds.init)?;

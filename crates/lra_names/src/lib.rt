@@ -9,7 +9,9 @@ mod errors;
 mod expressions;
 mod functions;
 mod heads;
+mod names;
 mod scopes;
+mod signatures;
 mod simple;
 mod statements;
 #[cfg(test)]

@@ -1,11 +1,11 @@
 //! Scopes: the variables that can be named, oldest first.
 
-ghost use Rattle.std.specs.Prelude.{◌≡◌, ◌≤◌, ◌∷◌, ◌++◌, [], length, take, bytes_eq, Option, IfOk};
-ghost use Rattle.lra_tree.specs.Scope.{newest, slot_of, is_declared, with_local, inner};
+ghost use Rattle.std.specs.Prelude.{◌≡◌, ◌∷◌, ◌++◌, [], length, option_map, IfOk};
+ghost use Rattle.lra_tree.specs.Scope.{slot_of, is_declared, with_local, inner};
 ghost use Rattle.lra_tree.specs.ProgramViews.{slot_view};
-ghost use Rattle.std.specs.Prelude.{option_map};
 ghost use Rattle.lra_names.specs.Scopes.{left_to};
 
+use crate::names::Names;
 use lra_tree::Word;
 use lra_tree::program::Slot;
 use std::alloc::{AllocError, Global};
@@ -14,8 +14,8 @@ use std::marker::Model;
 /// The variables that can be named, oldest first.
 #[derive(Drop)]
 pub struct Scope {
-    globals: Vec<Word>,
-    locals: Vec<Word>,
+    globals: Names,
+    locals: Names,
     /// How many of the locals the scopes around this one declare.
     outer: usize,
 }
@@ -25,27 +25,7 @@ impl Model for Scope {
 
     ghost Value = { Scope };
 
-    ghost view = { λ s. record { globals = s.globals.items; locals = s.locals.items; outer = s.outer } };
-}
-
-/// Whether the two are one name.
-pub fn is_same(word: &Word, name: &Word) -> bool
-    ensures { result ≡ bytes_eq word.now name.now }
-{
-    word.as_slice() == name.as_slice()
-}
-
-/// The place of the newest word of this name.
-fn newest(name: &Word, words: &[Word]) -> Option<usize>
-    ensures { result ≡ newest name.now words.now }
-{
-    let mut found = None;
-    'words: for (place, word) in words.iter().enumerate() {
-        if is_same(word, name) {
-            found = Some(place);
-        }
-    }
-    found
+    ghost view = { λ s. record { globals = s.globals; locals = s.locals; outer = s.outer } };
 }
 
 impl Scope {
@@ -53,9 +33,9 @@ impl Scope {
     pub fn slot_of(&self, name: &Word) -> Option<Slot>
         ensures { option_map slot_view result ≡ slot_of self.now name.now }
     {
-        match newest(name, &self.locals) {
+        match self.locals.newest(name) {
             Some(place) => Some(Slot::Local(place)),
-            None => match newest(name, &self.globals) {
+            None => match self.globals.newest(name) {
                 Some(place) => Some(Slot::Global(place)),
                 None => None,
             },
@@ -66,19 +46,14 @@ impl Scope {
     pub fn declare(&mut self, alloc: Global, name: &Word) -> Result<(), AllocError>
         ensures { IfOk result (λ _. self.new ≡ with_local self.old name.now) }
     {
-        let word = name.copy(alloc)?;
-        self.locals.push(word)?;
-        Ok(())
+        self.locals.push(alloc, name)
     }
 
     /// Whether this scope has declared the name.
     pub fn is_declared(&self, name: &Word) -> bool
         ensures { result ≡ is_declared self.now name.now }
     {
-        self.locals
-            .iter()
-            .skip(self.outer)
-            .any(|word| is_same(name, word))
+        self.locals.has_behind(self.outer, name)
     }
 
     /// How many locals there are.
@@ -115,26 +90,25 @@ impl Scope {
         ensures { result ≡ record { globals = []; locals = []; outer = 0 } }
     {
         Scope {
-            globals: Vec::new(alloc),
-            locals: Vec::new(alloc),
+            globals: Names::new(alloc),
+            locals: Names::new(alloc),
             outer: 0,
         }
     }
 
     /// Declares a further global variable.
     pub fn declare_global(&mut self, alloc: Global, name: &Word) -> Result<(), AllocError>
-        ensures { IfOk result (λ _. self.new ≡ record { globals = self.old.globals ++ name.now ∷ []; locals = self.old.locals; outer = self.old.outer }) }
+        ensures { IfOk result (λ _. self.new ≡
+            record { globals = self.old.globals ++ name.now ∷ []; locals = self.old.locals; outer = self.old.outer }) }
     {
-        let word = name.copy(alloc)?;
-        self.globals.push(word)?;
-        Ok(())
+        self.globals.push(alloc, name)
     }
 
     /// Begins a function: no local is declared.
     pub fn begin_function(&mut self)
         ensures { self.new ≡ record { globals = self.old.globals; locals = []; outer = 0 } }
     {
-        self.locals.clear();
+        self.locals.truncate(0);
         self.outer = 0;
     }
 }

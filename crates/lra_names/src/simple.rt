@@ -36,12 +36,14 @@ pub fn resolve_assignment(
     next: &mut usize,
     assign: &Assign,
 ) -> Result<program::Stmt, NamesError>
-    ensures told { TellsOf (assign_faults (functions_at around.now.parts.now) scope.now (assign_view assign.now)) result }
-    ensures found { IfOk result (λ s. stmt_view s ≡ resolve_assign (functions_at around.now.parts.now) scope.now next.old (assign_view assign.now)) }
+    ensures told { TellsOf (assign_faults (functions_at around.now.functions.now) scope.now (assign_view assign.now))
+        result }
+    ensures found { IfOk result (λ s. stmt_view s ≡ resolve_assign
+        (functions_at around.now.functions.now) scope.now next.old (assign_view assign.now)) }
     ensures counted { OnOk result (next.new ≡ suc next.old) }
 {
     let label = take_label(next)?;
-    resolve_assign(around.alloc, around.parts, scope, label, assign)
+    resolve_assign(around.alloc, around.functions, scope, label, assign)
 }
 
 /// A call whose result isn't used.
@@ -51,12 +53,14 @@ pub fn resolve_call_alone(
     next: &mut usize,
     call: &Call,
 ) -> Result<program::Stmt, NamesError>
-    ensures told { TellsOf (call_faults (functions_at around.now.parts.now) scope.now (call_view call.now) false) result }
-    ensures found { IfOk result (λ s. stmt_view s ≡ call_stmt next.old (resolve_call (functions_at around.now.parts.now) scope.now next.old (call_view call.now))) }
+    ensures told { TellsOf (call_faults (functions_at around.now.functions.now) scope.now (call_view call.now) false)
+        result }
+    ensures found { IfOk result (λ s. stmt_view s ≡ call_stmt next.old
+        (resolve_call (functions_at around.now.functions.now) scope.now next.old (call_view call.now))) }
     ensures counted { OnOk result (next.new ≡ suc next.old) }
 {
     let label = take_label(next)?;
-    let call = resolve_call(around.alloc, around.parts, scope, label, call, false)?;
+    let call = resolve_call(around.alloc, around.functions, scope, label, call, false)?;
     Ok(program::Stmt::Call(label, call))
 }
 
@@ -110,14 +114,17 @@ pub fn resolve_return(
     place: Place,
     source: &Option<Source>,
 ) -> Result<program::Stmt, NamesError>
-    ensures told { TellsOf (return_faults (around_of around.now) scope.now place (option_map source_view source.now)) result }
-    ensures found { IfOk result (λ s. stmt_view s ≡ return_of next.old (resolve_given (functions_at around.now.parts.now) scope.now next.old (option_map source_view source.now))) }
+    ensures told { TellsOf (return_faults (around_of around.now) scope.now place (option_map source_view source.now))
+        result }
+    ensures found { IfOk result (λ s. stmt_view s ≡ return_of next.old
+        (resolve_given (functions_at around.now.functions.now) scope.now next.old
+        (option_map source_view source.now))) }
     ensures counted { OnOk result (next.new ≡ suc next.old) }
 {
     if source.is_some() && !around.has_result {
         return refuse(Cause::BadCall, place);
     }
     let label = take_label(next)?;
-    let source = resolve_given(around.alloc, around.parts, scope, label, source)?;
+    let source = resolve_given(around.alloc, around.functions, scope, label, source)?;
     Ok(program::Stmt::Return(label, source))
 }

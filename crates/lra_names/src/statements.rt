@@ -4,10 +4,12 @@ ghost use Rattle.std.specs.Prelude.{◌≡◌, ◌+◌, ◌++◌, suc, map, opti
 ghost use Rattle.lra_tree.specs.Program.{absent};
 ghost use Rattle.lra_tree.specs.Trees.{ItemsTree, block as tree_block};
 ghost use Rattle.lra_tree.specs.Views.{stmt_view, block_view, item_view, init_view, assign_view, cond_view};
-ghost use Rattle.lra_tree.specs.ProgramViews.{stmt_view as program_stmt_view, items_view, item_view as program_item_view};
+ghost use Rattle.lra_tree.specs.ProgramViews.{stmt_view as program_stmt_view, items_view};
+ghost use Rattle.lra_tree.specs.ProgramViews.{item_view as program_item_view};
 ghost use Rattle.lra_tree.specs.Scope.{for_scope};
 ghost use Rattle.lra_tree.specs.NameFaults.{in_a_loop, cond_faults, stmt_faults, items_faults};
-ghost use Rattle.lra_tree.specs.Resolve.{resolve_cond, resolve_init, resolve_for_test, resolve_step, resolve_stmt, resolve_items, stmt_count, items_count, init_count, step_count};
+ghost use Rattle.lra_tree.specs.Resolve.{resolve_cond, resolve_init, resolve_for_test, resolve_step, resolve_stmt};
+ghost use Rattle.lra_tree.specs.Resolve.{resolve_items, stmt_count, items_count, init_count, step_count};
 ghost use Rattle.lra_names.specs.Calls.{functions_at};
 ghost use Rattle.lra_names.specs.Scopes.{Extends};
 ghost use Rattle.lra_names.specs.Statements.{around_of, followed, choice, loop_of, for_of, head_faults};
@@ -34,7 +36,8 @@ fn resolve_stmt(
     stmt: &Stmt,
 ) -> Result<program::Stmt, NamesError>
     ensures told { TellsOf (stmt_faults (around_of around.now) scope.old (stmt_view stmt.now)) result }
-    ensures found { IfOk result (λ s. program_stmt_view s ≡ resolve_stmt (functions_at around.now.parts.now) scope.old next.old (stmt_view stmt.now)) }
+    ensures found { IfOk result (λ s. program_stmt_view s
+        ≡ resolve_stmt (functions_at around.now.functions.now) scope.old next.old (stmt_view stmt.now)) }
     ensures kept { OnOk result (scope.new ≡ scope.old) }
     ensures counted { OnOk result (next.new ≡ next.old + stmt_count (stmt_view stmt.now)) }
 {
@@ -67,8 +70,12 @@ fn resolve_if(
     cond: &Cond,
     branch: &Stmt,
 ) -> Result<program::Stmt, NamesError>
-    ensures told { TellsOf (cond_faults scope.old (cond_view cond.now) ++ stmt_faults (around_of around.now) scope.old (stmt_view branch.now)) result }
-    ensures found { IfOk result (λ s. program_stmt_view s ≡ choice next.old (resolve_cond scope.old (cond_view cond.now)) (resolve_stmt (functions_at around.now.parts.now) scope.old (suc next.old) (stmt_view branch.now)) absent) }
+    ensures told { TellsOf (cond_faults scope.old (cond_view cond.now)
+        ++ stmt_faults (around_of around.now) scope.old (stmt_view branch.now)) result }
+    ensures found { IfOk result (λ s. program_stmt_view s
+        ≡ choice next.old (resolve_cond scope.old (cond_view cond.now))
+        (resolve_stmt (functions_at around.now.functions.now) scope.old (suc next.old) (stmt_view branch.now))
+        absent) }
     ensures kept { OnOk result (scope.new ≡ scope.old) }
     ensures counted { OnOk result (next.new ≡ suc next.old + stmt_count (stmt_view branch.now)) }
 {
@@ -87,10 +94,17 @@ fn resolve_if_else(
     branch: &Stmt,
     other: &Stmt,
 ) -> Result<program::Stmt, NamesError>
-    ensures told { TellsOf (cond_faults scope.old (cond_view cond.now) ++ stmt_faults (around_of around.now) scope.old (stmt_view branch.now) ++ stmt_faults (around_of around.now) scope.old (stmt_view other.now)) result }
-    ensures found { IfOk result (λ s. program_stmt_view s ≡ choice next.old (resolve_cond scope.old (cond_view cond.now)) (resolve_stmt (functions_at around.now.parts.now) scope.old (suc next.old) (stmt_view branch.now)) (resolve_stmt (functions_at around.now.parts.now) scope.old (suc next.old + stmt_count (stmt_view branch.now)) (stmt_view other.now))) }
+    ensures told { TellsOf (cond_faults scope.old (cond_view cond.now)
+        ++ stmt_faults (around_of around.now) scope.old (stmt_view branch.now)
+        ++ stmt_faults (around_of around.now) scope.old (stmt_view other.now)) result }
+    ensures found { IfOk result (λ s. program_stmt_view s
+        ≡ choice next.old (resolve_cond scope.old (cond_view cond.now))
+        (resolve_stmt (functions_at around.now.functions.now) scope.old (suc next.old) (stmt_view branch.now))
+        (resolve_stmt (functions_at around.now.functions.now) scope.old
+        (suc next.old + stmt_count (stmt_view branch.now)) (stmt_view other.now))) }
     ensures kept { OnOk result (scope.new ≡ scope.old) }
-    ensures counted { OnOk result (next.new ≡ suc next.old + stmt_count (stmt_view branch.now) + stmt_count (stmt_view other.now)) }
+    ensures counted { OnOk result (next.new ≡ suc next.old + stmt_count (stmt_view branch.now)
+        + stmt_count (stmt_view other.now)) }
 {
     let head = resolve_head(around.alloc, scope, next, cond)?;
     let branch = resolve_stmt(around, scope, next, branch)?;
@@ -106,8 +120,11 @@ fn resolve_while(
     cond: &Cond,
     body: &Stmt,
 ) -> Result<program::Stmt, NamesError>
-    ensures told { TellsOf (cond_faults scope.old (cond_view cond.now) ++ stmt_faults (in_a_loop (around_of around.now)) scope.old (stmt_view body.now)) result }
-    ensures found { IfOk result (λ s. program_stmt_view s ≡ loop_of next.old (resolve_cond scope.old (cond_view cond.now)) (resolve_stmt (functions_at around.now.parts.now) scope.old (suc next.old) (stmt_view body.now)) absent) }
+    ensures told { TellsOf (cond_faults scope.old (cond_view cond.now)
+        ++ stmt_faults (in_a_loop (around_of around.now)) scope.old (stmt_view body.now)) result }
+    ensures found { IfOk result (λ s. program_stmt_view s
+        ≡ loop_of next.old (resolve_cond scope.old (cond_view cond.now))
+        (resolve_stmt (functions_at around.now.functions.now) scope.old (suc next.old) (stmt_view body.now)) absent) }
     ensures kept { OnOk result (scope.new ≡ scope.old) }
     ensures counted { OnOk result (next.new ≡ suc next.old + stmt_count (stmt_view body.now)) }
 {
@@ -125,10 +142,23 @@ fn resolve_for(
     rounds: &Rounds<'_>,
     body: &Stmt,
 ) -> Result<program::Stmt, NamesError>
-    ensures told { TellsOf (head_faults (functions_at around.now.parts.now) scope.old (init_view rounds.now.init.now) (option_map cond_view rounds.now.test.now) (option_map assign_view rounds.now.step.now) ++ stmt_faults (in_a_loop (around_of around.now)) (for_scope scope.old (init_view rounds.now.init.now)) (stmt_view body.now)) result }
-    ensures found { IfOk result (λ s. program_stmt_view s ≡ for_of (resolve_init (functions_at around.now.parts.now) scope.old (suc next.old) (init_view rounds.now.init.now)) (loop_of next.old (resolve_for_test (for_scope scope.old (init_view rounds.now.init.now)) (option_map cond_view rounds.now.test.now)) (resolve_stmt (functions_at around.now.parts.now) (for_scope scope.old (init_view rounds.now.init.now)) (suc next.old + init_count (init_view rounds.now.init.now) + step_count (option_map assign_view rounds.now.step.now)) (stmt_view body.now)) (resolve_step (functions_at around.now.parts.now) (for_scope scope.old (init_view rounds.now.init.now)) (suc next.old + init_count (init_view rounds.now.init.now)) (option_map assign_view rounds.now.step.now)))) }
+    ensures told { TellsOf (head_faults (functions_at around.now.functions.now) scope.old
+        (init_view rounds.now.init.now) (option_map cond_view rounds.now.test.now)
+        (option_map assign_view rounds.now.step.now) ++ stmt_faults (in_a_loop (around_of around.now))
+        (for_scope scope.old (init_view rounds.now.init.now)) (stmt_view body.now)) result }
+    ensures found { IfOk result (λ s. program_stmt_view s
+        ≡ for_of (resolve_init (functions_at around.now.functions.now) scope.old (suc next.old)
+        (init_view rounds.now.init.now)) (loop_of next.old
+        (resolve_for_test (for_scope scope.old (init_view rounds.now.init.now))
+        (option_map cond_view rounds.now.test.now)) (resolve_stmt (functions_at around.now.functions.now)
+        (for_scope scope.old (init_view rounds.now.init.now))
+        (suc next.old + init_count (init_view rounds.now.init.now)
+        + step_count (option_map assign_view rounds.now.step.now)) (stmt_view body.now))
+        (resolve_step (functions_at around.now.functions.now) (for_scope scope.old (init_view rounds.now.init.now))
+        (suc next.old + init_count (init_view rounds.now.init.now)) (option_map assign_view rounds.now.step.now)))) }
     ensures kept { OnOk result (scope.new ≡ scope.old) }
-    ensures counted { OnOk result (next.new ≡ suc next.old + init_count (init_view rounds.now.init.now) + step_count (option_map assign_view rounds.now.step.now) + stmt_count (stmt_view body.now)) }
+    ensures counted { OnOk result (next.new ≡ suc next.old + init_count (init_view rounds.now.init.now)
+        + step_count (option_map assign_view rounds.now.step.now) + stmt_count (stmt_view body.now)) }
 {
     let count = scope.count();
     let outer = scope.outer();
@@ -146,10 +176,14 @@ fn resolve_block(
     next: &mut usize,
     block: &Block,
 ) -> Result<program::Stmt, NamesError>
-    ensures told { TellsOf (stmt_faults (around_of around.now) scope.old (tree_block (block_view block.now).0 (block_view block.now).1)) result }
-    ensures found { IfOk result (λ s. program_stmt_view s ≡ resolve_stmt (functions_at around.now.parts.now) scope.old next.old (tree_block (block_view block.now).0 (block_view block.now).1)) }
+    ensures told { TellsOf (stmt_faults (around_of around.now) scope.old
+        (tree_block (block_view block.now).0 (block_view block.now).1)) result }
+    ensures found { IfOk result (λ s. program_stmt_view s
+        ≡ resolve_stmt (functions_at around.now.functions.now) scope.old next.old
+        (tree_block (block_view block.now).0 (block_view block.now).1)) }
     ensures kept { OnOk result (scope.new ≡ scope.old) }
-    ensures counted { OnOk result (next.new ≡ next.old + stmt_count (tree_block (block_view block.now).0 (block_view block.now).1)) }
+    ensures counted { OnOk result (next.new ≡ next.old + stmt_count
+        (tree_block (block_view block.now).0 (block_view block.now).1)) }
 {
     let count = scope.count();
     let outer = scope.outer();
@@ -169,7 +203,8 @@ pub fn resolve_items(
     block: &Block,
 ) -> Result<program::BlockItems, NamesError>
     ensures told { TellsOf (items_faults (around_of around.now) scope.old (block_view block.now).0) result }
-    ensures found { IfOk result (λ b. items_view b ≡ resolve_items (functions_at around.now.parts.now) scope.old next.old (block_view block.now).0) }
+    ensures found { IfOk result (λ b. items_view b ≡ resolve_items
+        (functions_at around.now.functions.now) scope.old next.old (block_view block.now).0) }
     ensures extended { OnOk result (Extends scope.old scope.new) }
     ensures counted { OnOk result (next.new ≡ next.old + items_count (block_view block.now).0) }
 {
@@ -190,15 +225,28 @@ fn add_item(
     item: &BlockItem,
     items: &mut Vec<program::BlockItem>,
 ) -> Result<(), NamesError>
-    ensures told { IfErr result (λ e. (rest : ItemsTree) → Tells (items_faults (around_of around.now) scope.old (item_view item.now rest)) e) }
-    ensures clean { OnOk result ((rest : ItemsTree) → items_faults (around_of around.now) scope.old (item_view item.now rest) ≡ items_faults (around_of around.now) scope.new rest) }
-    ensures found { OnOk result ((rest : ItemsTree) → followed (map program_item_view items.old.items) (resolve_items (functions_at around.now.parts.now) scope.old next.old (item_view item.now rest)) ≡ followed (map program_item_view items.new.items) (resolve_items (functions_at around.now.parts.now) scope.new next.new rest)) }
+    ensures told { IfErr result (λ e. (rest : ItemsTree)
+        → Tells (items_faults (around_of around.now) scope.old (item_view item.now rest)) e) }
+    ensures clean { OnOk result ((rest : ItemsTree) → items_faults (around_of around.now) scope.old
+        (item_view item.now rest) ≡ items_faults (around_of around.now) scope.new rest) }
+    ensures found { OnOk result ((rest : ItemsTree) → followed (map program_item_view items.old.items)
+        (resolve_items (functions_at around.now.functions.now) scope.old next.old (item_view item.now rest))
+        ≡ followed (map program_item_view items.new.items)
+        (resolve_items (functions_at around.now.functions.now) scope.new next.new rest)) }
     ensures extended { OnOk result (Extends scope.old scope.new) }
-    ensures counted { OnOk result ((rest : ItemsTree) → next.new + items_count rest ≡ next.old + items_count (item_view item.now rest)) }
+    ensures counted { OnOk result ((rest : ItemsTree) → next.new + items_count rest ≡ next.old
+        + items_count (item_view item.now rest)) }
 {
     match item {
         BlockItem::Declaration(declaration) => {
-            add_declaration(around.alloc, around.parts, scope, next, declaration, items)?;
+            add_declaration(
+                around.alloc,
+                around.functions,
+                scope,
+                next,
+                declaration,
+                items,
+            )?;
             Ok(())
         }
         BlockItem::Statement(stmt) => {

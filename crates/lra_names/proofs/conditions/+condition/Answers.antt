@@ -3,7 +3,8 @@ use Rattle.lra_tree.specs.ProgramViews.{cond_view}
 use Rattle.lra_tree.specs.NameFaults.{negation_faults, test_faults}
 use Rattle.lra_names.proofs.Telling.{parts_clean}
 use Rattle.lra_names.proofs.Loops.{memory_told, only_told, first_told, second_told, both_clean, part_told, made_told, found_so, all_clean, rest_clean, parts_found}
-use Rattle.lra_names.proofs.CondLaws.{faults_of_test, test_means, faults_of_conjunction, conjunction_means, code_conjunction_faults, code_cond_faults, conjunction_found, cond_found, again_is, operand_is, opposite_is, value_is, compare_is}
+use Rattle.lra_names.proofs.CondLaws.{faults_of_test, test_means, faults_of_conjunction, conjunction_means, code_conjunction_faults, code_cond_faults, conjunction_found, cond_found, again_is}
+use Rattle.lra_names.proofs.CondLaws.{operand_is, opposite_is, value_is, compare_is}
 use Rattle.lra_names.proofs.conditions.+condition.Goals as goal
 
 pub resolve_conjunction-returns-in_err-first-clause-told : goal.resolve_conjunction-returns-in_err-first-clause-told
@@ -81,7 +82,8 @@ resolve_cond-returns-in_err-push-clause-told t c =
 
 pub resolve_cond-returns-clause-told : goal.resolve_cond-returns-clause-told
 resolve_cond-returns-clause-told t c =
-    made_told _ c.any.result (all_clean (faults_of_conjunction c.args.scope.now) c.deref-conjunction-items.result.now c.conjunctions.conjunction-index _ c.conjunctions.invariant.clean c.conjunctions-test.false)
+    made_told _ c.any.result (all_clean (faults_of_conjunction c.args.scope.now) c.deref-conjunction-items.result.now c.conjunctions.conjunction-index _ c.conjunctions.invariant.clean
+    c.conjunctions-test.false)
     c.any.ensures.memory
 
 pub resolve_cond-returns-clause-found : goal.resolve_cond-returns-clause-found
@@ -94,7 +96,8 @@ resolve_cond-returns-clause-found t c =
 
 pub resolve_negation-returns-in_err-inner-in-Again-clause-told : goal.resolve_negation-returns-in_err-inner-in-Again-clause-told
 resolve_negation-returns-in_err-inner-in-Again-clause-told t c =
-    only_told _ _ c.from_residual.result _ (ap (negation_faults c.args.scope.now) (again_is c.args.negation.now c.in-Again.inner c.deref.result.now c.in-Again.is c.deref.ensures)) c.from_residual.ensures.1 c.in_err-inner-in-Again.ensures.told
+    only_told _ _ c.from_residual.result _ (ap (negation_faults c.args.scope.now) (again_is c.args.negation.now c.in-Again.inner c.deref.result.now c.in-Again.is c.deref.ensures))
+    c.from_residual.ensures.1 c.in_err-inner-in-Again.ensures.told
 
 pub resolve_negation-returns-in_err-new-in-Again-clause-told : goal.resolve_negation-returns-in_err-new-in-Again-clause-told
 resolve_negation-returns-in_err-new-in-Again-clause-told t c =
@@ -102,7 +105,8 @@ resolve_negation-returns-in_err-new-in-Again-clause-told t c =
 
 pub resolve_negation-returns-in_err-operand-in-Operand-clause-told : goal.resolve_negation-returns-in_err-operand-in-Operand-clause-told
 resolve_negation-returns-in_err-operand-in-Operand-clause-told t c =
-    only_told _ _ c.from_residual-in_err-operand-in-Operand.result _ (ap (negation_faults c.args.scope.now) (operand_is c.args.negation.now c.in-Operand.unary c.in-Operand.is)) c.from_residual-in_err-operand-in-Operand.ensures.1
+    only_told _ _ c.from_residual-in_err-operand-in-Operand.result _ (ap (negation_faults c.args.scope.now) (operand_is c.args.negation.now c.in-Operand.unary c.in-Operand.is))
+    c.from_residual-in_err-operand-in-Operand.ensures.1
     c.in_err-operand-in-Operand.ensures.told
 
 pub resolve_negation-returns-in_ok-new-in-Again-clause-told : goal.resolve_negation-returns-in_ok-new-in-Again-clause-told
@@ -115,7 +119,8 @@ resolve_negation-returns-in_ok-operand-in-Operand-clause-told t c =
 
 pub resolve_test-returns-in_err-inner-in-Opposite-clause-told : goal.resolve_test-returns-in_err-inner-in-Opposite-clause-told
 resolve_test-returns-in_err-inner-in-Opposite-clause-told t c =
-    only_told _ _ c.from_residual.result _ (ap (test_faults c.args.scope.now) (opposite_is c.args.test.now c.in-Opposite.negation c.in-Opposite.is)) c.from_residual.ensures.1 c.in_err-inner-in-Opposite.ensures.told
+    only_told _ _ c.from_residual.result _ (ap (test_faults c.args.scope.now) (opposite_is c.args.test.now c.in-Opposite.negation c.in-Opposite.is)) c.from_residual.ensures.1
+    c.in_err-inner-in-Opposite.ensures.told
 
 pub resolve_test-returns-in_err-new-in-Opposite-clause-told : goal.resolve_test-returns-in_err-new-in-Opposite-clause-told
 resolve_test-returns-in_err-new-in-Opposite-clause-told t c =
@@ -123,17 +128,20 @@ resolve_test-returns-in_err-new-in-Opposite-clause-told t c =
 
 pub resolve_test-returns-in_err-value-in-Value-clause-told : goal.resolve_test-returns-in_err-value-in-Value-clause-told
 resolve_test-returns-in_err-value-in-Value-clause-told t c =
-    only_told _ _ c.from_residual-in_err-value-in-Value.result _ (ap (test_faults c.args.scope.now) (value_is c.args.test.now c.in-Value.expr c.in-Value.is)) c.from_residual-in_err-value-in-Value.ensures.1
+    only_told _ _ c.from_residual-in_err-value-in-Value.result _ (ap (test_faults c.args.scope.now) (value_is c.args.test.now c.in-Value.expr c.in-Value.is))
+    c.from_residual-in_err-value-in-Value.ensures.1
     c.in_err-value-in-Value.ensures.told
 
 pub resolve_test-returns-in_err-left-in-Compare-clause-told : goal.resolve_test-returns-in_err-left-in-Compare-clause-told
 resolve_test-returns-in_err-left-in-Compare-clause-told t c =
-    first_told _ _ _ c.from_residual-in_err-left-in-Compare.result _ (ap (test_faults c.args.scope.now) (compare_is c.args.test.now c.in-Compare.left c.in-Compare.comparison c.in-Compare.right c.in-Compare.is)) c.from_residual-in_err-left-in-Compare.ensures.1
+    first_told _ _ _ c.from_residual-in_err-left-in-Compare.result _ (ap (test_faults c.args.scope.now)
+    (compare_is c.args.test.now c.in-Compare.left c.in-Compare.comparison c.in-Compare.right c.in-Compare.is)) c.from_residual-in_err-left-in-Compare.ensures.1
     c.in_err-left-in-Compare.ensures.told
 
 pub resolve_test-returns-in_err-right-in-Compare-clause-told : goal.resolve_test-returns-in_err-right-in-Compare-clause-told
 resolve_test-returns-in_err-right-in-Compare-clause-told t c =
-    second_told _ _ _ c.from_residual-in_err-right-in-Compare.result _ (ap (test_faults c.args.scope.now) (compare_is c.args.test.now c.in-Compare.left c.in-Compare.comparison c.in-Compare.right c.in-Compare.is)) c.in_ok-left-in-Compare.ensures.told
+    second_told _ _ _ c.from_residual-in_err-right-in-Compare.result _ (ap (test_faults c.args.scope.now)
+    (compare_is c.args.test.now c.in-Compare.left c.in-Compare.comparison c.in-Compare.right c.in-Compare.is)) c.in_ok-left-in-Compare.ensures.told
     c.from_residual-in_err-right-in-Compare.ensures.1 c.in_err-right-in-Compare.ensures.told
 
 pub resolve_test-returns-in_ok-new-in-Opposite-clause-told : goal.resolve_test-returns-in_ok-new-in-Opposite-clause-told
@@ -146,4 +154,5 @@ resolve_test-returns-in_ok-value-in-Value-clause-told t c =
 
 pub resolve_test-returns-in_ok-right-in-Compare-clause-told : goal.resolve_test-returns-in_ok-right-in-Compare-clause-told
 resolve_test-returns-in_ok-right-in-Compare-clause-told t c =
-    both_clean _ _ _ (ap (test_faults c.args.scope.now) (compare_is c.args.test.now c.in-Compare.left c.in-Compare.comparison c.in-Compare.right c.in-Compare.is)) c.in_ok-left-in-Compare.ensures.told c.in_ok-right-in-Compare.ensures.told
+    both_clean _ _ _ (ap (test_faults c.args.scope.now) (compare_is c.args.test.now c.in-Compare.left c.in-Compare.comparison c.in-Compare.right c.in-Compare.is))
+    c.in_ok-left-in-Compare.ensures.told c.in_ok-right-in-Compare.ensures.told

@@ -15,7 +15,7 @@ use Rattle.lra_names.proofs.declarations.add_declaration.Goals as goal
 
 pub declarators-init : goal.declarators-init
 declarators-init c =
-    let F = functions_at c.args.parts.now in
+    let F = functions_at c.args.functions.now in
     let same = sym c.deref-declarator-items.ensures.value in
     record {
       clean = c.in_ok-add_declarator.ensures.clean (map declarator_view c.args.declaration.now.rest.items)
@@ -30,7 +30,7 @@ declarators-init c =
 
 pub declarators-preserved : goal.declarators-preserved
 declarators-preserved c =
-    let F = functions_at c.args.parts.now in
+    let F = functions_at c.args.functions.now in
     let xs = c.deref-declarator-items.result.now in
     let left = map declarator_view (drop (c.declarators.declarator-index + 1) c.deref-declarator-items.result.now) in
     record {
@@ -54,18 +54,18 @@ returns-in_err-add_declarator-clause-told c =
 pub returns-in_err-add_declarator-2-clause-told : goal.returns-in_err-add_declarator-2-clause-told
 returns-in_err-add_declarator-2-clause-told c =
     exit_tells _ c.from_residual-in_err-add_declarator-2.result _ c.from_residual-in_err-add_declarator-2.ensures.1
-    (rest_tells (declarators_faults (functions_at c.args.parts.now) c.declarators.scope) declarator_view c.deref-declarator-items.result.now c.declarators.declarator-index
+    (rest_tells (declarators_faults (functions_at c.args.functions.now) c.declarators.scope) declarator_view c.deref-declarator-items.result.now c.declarators.declarator-index
     c.declarator-item.result _ _ c.declarators-test.true c.declarator-item.is c.declarators.invariant.clean c.in_err-add_declarator-2.ensures.told)
 
 pub returns-clause-told : goal.returns-clause-told
 returns-clause-told c =
-    c.declarators.invariant.clean ∙ parts_end (declarators_faults (functions_at c.args.parts.now) c.declarators.scope) declarator_view c.deref-declarator-items.result.now
+    c.declarators.invariant.clean ∙ parts_end (declarators_faults (functions_at c.args.functions.now) c.declarators.scope) declarator_view c.deref-declarator-items.result.now
     c.declarators.declarator-index c.declarators-test.false
 
 pub returns-clause-found : goal.returns-clause-found
 returns-clause-found c = λ (more : BlockItems).
     c.declarators.invariant.found more
-    ∙ parts_end (λ (ds : List DeclaratorTree). followed (map item_view c.declarators.items.items) (resolve_declarators (functions_at c.args.parts.now) c.declarators.scope
+    ∙ parts_end (λ (ds : List DeclaratorTree). followed (map item_view c.declarators.items.items) (resolve_declarators (functions_at c.args.functions.now) c.declarators.scope
     c.declarators.next ds more)) declarator_view
     c.deref-declarator-items.result.now c.declarators.declarator-index c.declarators-test.false
 

@@ -12,11 +12,12 @@ use Rattle.lra_names.proofs.declarations.add_declaration.Given as goal
 
 abbrev pub invariant-declarators : goal.invariant-declarators
 invariant-declarators l = record {
-  clean : declarators_faults (functions_at l.parts) l.fn.scope (declarator_view l.declaration.first ∷ map declarator_view l.declaration.rest.items)
-      ≡ declarators_faults (functions_at l.parts) l.scope (map declarator_view (drop l.declarator-index l.declarator-items));
+  clean : declarators_faults (functions_at l.functions) l.fn.scope (declarator_view l.declaration.first ∷ map declarator_view l.declaration.rest.items)
+      ≡ declarators_faults (functions_at l.functions) l.scope (map declarator_view (drop l.declarator-index l.declarator-items));
   found : (more : BlockItems)
-      → followed (map item_view l.fn.items.items) (resolve_declarators (functions_at l.parts) l.fn.scope l.fn.next (declarator_view l.declaration.first ∷ map declarator_view l.declaration.rest.items) more)
-      ≡ followed (map item_view l.items.items) (resolve_declarators (functions_at l.parts) l.scope l.next (map declarator_view (drop l.declarator-index l.declarator-items)) more);
+      → followed (map item_view l.fn.items.items) (resolve_declarators (functions_at l.functions) l.fn.scope l.fn.next
+      (declarator_view l.declaration.first ∷ map declarator_view l.declaration.rest.items) more)
+      ≡ followed (map item_view l.items.items) (resolve_declarators (functions_at l.functions) l.scope l.next (map declarator_view (drop l.declarator-index l.declarator-items)) more);
   declared : with_declarators l.fn.scope (declarator_view l.declaration.first ∷ map declarator_view l.declaration.rest.items)
       ≡ with_declarators l.scope (map declarator_view (drop l.declarator-index l.declarator-items));
   counted : l.next ≡ suc (l.fn.next + l.declarator-index);

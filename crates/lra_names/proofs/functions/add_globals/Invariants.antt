@@ -7,9 +7,9 @@ use Rattle.lra_names.proofs.functions.add_globals.Given as goal
 
 abbrev pub invariant-globals : goal.invariant-globals
 invariant-globals l = record {
-  clean : globals_faults l.fn.resolved.names.items (global_view l.globals.first ∷ map global_view l.globals.rest.items)
-      ≡ globals_faults l.resolved.names.items (map global_view (drop l.global-index l.global-items));
-  named : l.resolved.names.items ≡ l.fn.resolved.names.items ++ global_names (global_view l.globals.first ∷ map global_view (take l.global-index l.global-items));
+  clean : globals_faults l.fn.resolved.names (global_view l.globals.first ∷ map global_view l.globals.rest.items)
+      ≡ globals_faults l.resolved.names (map global_view (drop l.global-index l.global-items));
+  named : l.resolved.names ≡ l.fn.resolved.names ++ global_names (global_view l.globals.first ∷ map global_view (take l.global-index l.global-items));
   scoped : l.resolved.scope.globals ≡ l.fn.resolved.scope.globals ++ global_names (global_view l.globals.first ∷ map global_view (take l.global-index l.global-items));
   valued : l.resolved.globals.items ≡ l.fn.resolved.globals.items ++ map global_value (global_view l.globals.first ∷ map global_view (take l.global-index l.global-items));
   next : l.resolved.next ≡ l.fn.resolved.next;

@@ -1,4 +1,5 @@
-use Rattle.std.proofs.Common.{List, ◌++◌, ◌+◌, map, drop, sym, ◌∙◌, append-nil}
+use Rattle.std.proofs.Common.{List, [], ◌++◌, ◌+◌, map, drop, sym, ap, ◌∙◌, append-nil}
+use Rattle.lra_tree.specs.declared.trees.Item.{Item}
 use Rattle.lra_tree.specs.Trees.{PartTree}
 use Rattle.lra_tree.specs.Views.{part_view}
 use Rattle.lra_tree.specs.ProgramViews.{function_view}
@@ -11,44 +12,52 @@ use Rattle.lra_names.proofs.functions.resolve_all.Goals as goal
 
 pub parts-preserved : goal.parts-preserved
 parts-preserved c =
-    let F = functions_at c.args.parts.now in
+    let F = functions_at c.args.functions.now in
+    let xs = c.parts-parts.result.now in
     let r = c.parts.resolved in
-    let left = map part_view (drop (c.parts.item-index + 1) c.args.parts.now) in
+    let left = map part_view (drop (c.parts.item-index + 1) xs) in
     record {
       clean = c.parts.invariant.clean
-          ∙ parts_step (parts_faults F r.names.items r.scope.globals) part_view c.args.parts.now c.parts.item-index c.item-item.result c.parts-test.true c.item-item.is
+          ∙ parts_step (parts_faults F r.names r.scope.globals) part_view xs c.parts.item-index c.item-item.result c.parts-test.true c.item-item.is
           ∙ c.in_ok-add_part.ensures.clean left;
       found = c.parts.invariant.found
-          ∙ parts_step (λ (ps : List PartTree). map function_view r.functions.items ++ resolve_parts F r.scope.globals r.next ps) part_view c.args.parts.now c.parts.item-index
+          ∙ parts_step (λ (ps : List PartTree). map function_view r.functions.items ++ resolve_parts F r.scope.globals r.next ps) part_view xs c.parts.item-index
           c.item-item.result c.parts-test.true c.item-item.is
           ∙ c.in_ok-add_part.ensures.found left;
       valued = c.parts.invariant.valued
-          ∙ parts_step (λ (ps : List PartTree). r.globals.items ++ globals_in ps) part_view c.args.parts.now c.parts.item-index c.item-item.result c.parts-test.true c.item-item.is
+          ∙ parts_step (λ (ps : List PartTree). r.globals.items ++ globals_in ps) part_view xs c.parts.item-index c.item-item.result c.parts-test.true c.item-item.is
           ∙ c.in_ok-add_part.ensures.valued left;
     }
 
 pub returns-in_err-add_part-clause-told : goal.returns-in_err-add_part-clause-told
 returns-in_err-add_part-clause-told c =
+    let F = functions_at c.args.functions.now in
     exit_tells _ c.from_residual.result _ c.from_residual.ensures.1
-    (rest_tells (parts_faults (functions_at c.args.parts.now) c.parts.resolved.names.items c.parts.resolved.scope.globals) part_view c.args.parts.now c.parts.item-index
-    c.item-item.result _ _ c.parts-test.true c.item-item.is c.parts.invariant.clean c.in_err-add_part.ensures.told)
+    (rest_tells (parts_faults F c.parts.resolved.names c.parts.resolved.scope.globals) part_view c.parts-parts.result.now c.parts.item-index
+    c.item-item.result _ _ c.parts-test.true c.item-item.is
+    (ap (λ (xs : List Item). parts_faults F [] [] (map part_view xs)) (sym c.parts-parts.ensures) ∙ c.parts.invariant.clean) c.in_err-add_part.ensures.told)
 
 pub returns-clause-told : goal.returns-clause-told
 returns-clause-told c =
-    c.parts.invariant.clean
-    ∙ parts_end (parts_faults (functions_at c.args.parts.now) c.parts.resolved.names.items c.parts.resolved.scope.globals) part_view c.args.parts.now c.parts.item-index c.parts-test.false
+    let F = functions_at c.args.functions.now in
+    ap (λ (xs : List Item). parts_faults F [] [] (map part_view xs)) (sym c.parts-parts.ensures)
+    ∙ c.parts.invariant.clean
+    ∙ parts_end (parts_faults F c.parts.resolved.names c.parts.resolved.scope.globals) part_view c.parts-parts.result.now c.parts.item-index c.parts-test.false
 
 pub returns-clause-found : goal.returns-clause-found
 returns-clause-found c =
+    let F = functions_at c.args.functions.now in
     let r = c.parts.resolved in
-    sym (c.parts.invariant.found
-    ∙ parts_end (λ (ps : List PartTree). map function_view r.functions.items ++ resolve_parts (functions_at c.args.parts.now) r.scope.globals r.next ps) part_view
-    c.args.parts.now c.parts.item-index c.parts-test.false
+    sym (ap (λ (xs : List Item). resolve_parts F [] 1 (map part_view xs)) (sym c.parts-parts.ensures)
+    ∙ c.parts.invariant.found
+    ∙ parts_end (λ (ps : List PartTree). map function_view r.functions.items ++ resolve_parts F r.scope.globals r.next ps) part_view
+    c.parts-parts.result.now c.parts.item-index c.parts-test.false
     ∙ append-nil (map function_view r.functions.items))
 
 pub returns-clause-valued : goal.returns-clause-valued
 returns-clause-valued c =
     let r = c.parts.resolved in
-    sym (c.parts.invariant.valued
-    ∙ parts_end (λ (ps : List PartTree). r.globals.items ++ globals_in ps) part_view c.args.parts.now c.parts.item-index c.parts-test.false
+    sym (ap (λ (xs : List Item). globals_in (map part_view xs)) (sym c.parts-parts.ensures)
+    ∙ c.parts.invariant.valued
+    ∙ parts_end (λ (ps : List PartTree). r.globals.items ++ globals_in ps) part_view c.parts-parts.result.now c.parts.item-index c.parts-test.false
     ∙ append-nil r.globals.items)

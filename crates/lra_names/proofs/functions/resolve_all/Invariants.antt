@@ -9,9 +9,9 @@ use Rattle.lra_names.proofs.functions.resolve_all.Given as goal
 
 abbrev pub invariant-parts : goal.invariant-parts
 invariant-parts l = record {
-  clean : parts_faults (functions_at l.parts) [] [] (map part_view l.parts)
-      ≡ parts_faults (functions_at l.parts) l.resolved.names.items l.resolved.scope.globals (map part_view (drop l.item-index l.parts));
-  found : resolve_parts (functions_at l.parts) [] 1 (map part_view l.parts)
-      ≡ map function_view l.resolved.functions.items ++ resolve_parts (functions_at l.parts) l.resolved.scope.globals l.resolved.next (map part_view (drop l.item-index l.parts));
+  clean : parts_faults (functions_at l.functions) [] [] (map part_view l.parts)
+      ≡ parts_faults (functions_at l.functions) l.resolved.names l.resolved.scope.globals (map part_view (drop l.item-index l.parts));
+  found : resolve_parts (functions_at l.functions) [] 1 (map part_view l.parts)
+      ≡ map function_view l.resolved.functions.items ++ resolve_parts (functions_at l.functions) l.resolved.scope.globals l.resolved.next (map part_view (drop l.item-index l.parts));
   valued : globals_in (map part_view l.parts) ≡ l.resolved.globals.items ++ globals_in (map part_view (drop l.item-index l.parts));
 }

@@ -11,7 +11,9 @@ use Rattle.lra_names.specs.Statements.{around_of, followed}
 use Rattle.lra_names.proofs.Telling.{tells_front, tells_behind, exit_tells, rest_tells}
 use Rattle.lra_names.proofs.Loops.{parts_step, first_told, second_told, both_clean, made_told}
 use Rattle.std.proofs.lemmas.List.{at_drop_all}
-use Rattle.lra_names.proofs.StatementLaws.{extends_self, extends_then, extends_declared, declaration_counted, statement_found, block_items, kept_so, counted_so, one_counted, count_if_else, count_for, block_is, nothing_is, assign_is, call_is, break_is, continue_is, return_is, assert_is, assume_is, absent_is, choice_found, loop_found, for_found, if_is, if_else_is, while_is, for_is}
+use Rattle.lra_names.proofs.StatementLaws.{extends_self, extends_then, extends_declared, declaration_counted, statement_found, block_items, kept_so, counted_so, one_counted, count_if_else}
+use Rattle.lra_names.proofs.StatementLaws.{count_for, block_is, nothing_is, assign_is, call_is, break_is, continue_is, return_is, assert_is, assume_is, absent_is, choice_found, loop_found}
+use Rattle.lra_names.proofs.StatementLaws.{for_found, if_is, if_else_is, while_is, for_is}
 use Rattle.lra_names.proofs.statements.+statement.Goals as goal
 
 pub add_item-returns-in_ok-add_declaration-in-Declaration-clause-extended : goal.add_item-returns-in_ok-add_declaration-in-Declaration-clause-extended
@@ -25,13 +27,13 @@ add_item-returns-in_ok-add_declaration-in-Declaration-clause-counted t c =
 
 pub add_item-returns-in_ok-push-in-Statement-clause-found : goal.add_item-returns-in_ok-push-in-Statement-clause-found
 add_item-returns-in_ok-push-in-Statement-clause-found t c =
-    statement_found (functions_at c.args.around.now.parts.now) c.args.scope.now c.resolve_stmt.new.scope c.args.next.now c.resolve_stmt.new.next c.args.item.now c.in-Statement.stmt
+    statement_found (functions_at c.args.around.now.functions.now) c.args.scope.now c.resolve_stmt.new.scope c.args.next.now c.resolve_stmt.new.next c.args.item.now c.in-Statement.stmt
     c.in_ok-stmt-in-Statement.stmt c.args.items.now.items c.push.new.self.items c.in-Statement.is c.in_ok-push-in-Statement.ensures.items
     c.in_ok-stmt-in-Statement.ensures.found c.in_ok-stmt-in-Statement.ensures.kept c.in_ok-stmt-in-Statement.ensures.counted
 
 pub resolve_items-items-init : goal.resolve_items-items-init
 resolve_items-items-init t c =
-    let F = functions_at c.args.around.now.parts.now in
+    let F = functions_at c.args.around.now.functions.now in
     record {
       clean = refl;
       found = ap (λ (l : List ProgramItem). followed (map program_item_view l) (resolve_items F c.args.scope.now c.args.next.now (items_of (map item_view c.deref-item-items.result.now))))
@@ -42,7 +44,7 @@ resolve_items-items-init t c =
 
 pub resolve_items-items-preserved : goal.resolve_items-items-preserved
 resolve_items-items-preserved t c =
-    let F = functions_at c.args.around.now.parts.now in
+    let F = functions_at c.args.around.now.functions.now in
     let A = around_of c.args.around.now in
     let xs = c.deref-item-items.result.now in
     let left = items_of (map item_view (drop (c.items.item-index + 1) xs)) in
@@ -78,7 +80,7 @@ resolve_items-returns-clause-told t c =
 
 pub resolve_items-returns-clause-found : goal.resolve_items-returns-clause-found
 resolve_items-returns-clause-found t c =
-    let F = functions_at c.args.around.now.parts.now in
+    let F = functions_at c.args.around.now.functions.now in
     c.block_of.ensures
     ∙ sym (ap (resolve_items F c.args.scope.now c.args.next.now) (block_items c.args.block.now c.deref-item-items.result.now c.deref-item-items.ensures.value)
     ∙ c.items.invariant.found
@@ -211,7 +213,8 @@ pub resolve_stmt-returns-in-Nothing-clause-kept : goal.resolve_stmt-returns-in-N
 resolve_stmt-returns-in-Nothing-clause-kept t c = kept_so c.resolve_nothing.result refl
 
 pub resolve_stmt-returns-in-Nothing-clause-counted : goal.resolve_stmt-returns-in-Nothing-clause-counted
-resolve_stmt-returns-in-Nothing-clause-counted t c = one_counted c.resolve_nothing.result c.args.next.now c.resolve_nothing.new.next _ (ap stmt_count (nothing_is c.args.stmt.now c.in-Nothing.field-0 c.in-Nothing.is)) c.resolve_nothing.ensures.counted
+resolve_stmt-returns-in-Nothing-clause-counted t c = one_counted c.resolve_nothing.result c.args.next.now c.resolve_nothing.new.next _
+    (ap stmt_count (nothing_is c.args.stmt.now c.in-Nothing.field-0 c.in-Nothing.is)) c.resolve_nothing.ensures.counted
 
 pub resolve_stmt-returns-in-Assign-clause-told : goal.resolve_stmt-returns-in-Assign-clause-told
 resolve_stmt-returns-in-Assign-clause-told t c = rw (assign_is c.args.stmt.now c.in-Assign.assign c.in-Assign.is) c.resolve_assignment.ensures.told
@@ -223,7 +226,8 @@ pub resolve_stmt-returns-in-Assign-clause-kept : goal.resolve_stmt-returns-in-As
 resolve_stmt-returns-in-Assign-clause-kept t c = kept_so c.resolve_assignment.result refl
 
 pub resolve_stmt-returns-in-Assign-clause-counted : goal.resolve_stmt-returns-in-Assign-clause-counted
-resolve_stmt-returns-in-Assign-clause-counted t c = one_counted c.resolve_assignment.result c.args.next.now c.resolve_assignment.new.next _ (ap stmt_count (assign_is c.args.stmt.now c.in-Assign.assign c.in-Assign.is)) c.resolve_assignment.ensures.counted
+resolve_stmt-returns-in-Assign-clause-counted t c = one_counted c.resolve_assignment.result c.args.next.now c.resolve_assignment.new.next _
+    (ap stmt_count (assign_is c.args.stmt.now c.in-Assign.assign c.in-Assign.is)) c.resolve_assignment.ensures.counted
 
 pub resolve_stmt-returns-in-Call-clause-told : goal.resolve_stmt-returns-in-Call-clause-told
 resolve_stmt-returns-in-Call-clause-told t c = rw (call_is c.args.stmt.now c.in-Call.call c.in-Call.is) c.resolve_call_alone.ensures.told
@@ -235,7 +239,8 @@ pub resolve_stmt-returns-in-Call-clause-kept : goal.resolve_stmt-returns-in-Call
 resolve_stmt-returns-in-Call-clause-kept t c = kept_so c.resolve_call_alone.result refl
 
 pub resolve_stmt-returns-in-Call-clause-counted : goal.resolve_stmt-returns-in-Call-clause-counted
-resolve_stmt-returns-in-Call-clause-counted t c = one_counted c.resolve_call_alone.result c.args.next.now c.resolve_call_alone.new.next _ (ap stmt_count (call_is c.args.stmt.now c.in-Call.call c.in-Call.is)) c.resolve_call_alone.ensures.counted
+resolve_stmt-returns-in-Call-clause-counted t c = one_counted c.resolve_call_alone.result c.args.next.now c.resolve_call_alone.new.next _
+    (ap stmt_count (call_is c.args.stmt.now c.in-Call.call c.in-Call.is)) c.resolve_call_alone.ensures.counted
 
 pub resolve_stmt-returns-in-Break-clause-told : goal.resolve_stmt-returns-in-Break-clause-told
 resolve_stmt-returns-in-Break-clause-told t c = rw (break_is c.args.stmt.now c.in-Break.place c.in-Break.is) c.resolve_break.ensures.told
@@ -247,7 +252,8 @@ pub resolve_stmt-returns-in-Break-clause-kept : goal.resolve_stmt-returns-in-Bre
 resolve_stmt-returns-in-Break-clause-kept t c = kept_so c.resolve_break.result refl
 
 pub resolve_stmt-returns-in-Break-clause-counted : goal.resolve_stmt-returns-in-Break-clause-counted
-resolve_stmt-returns-in-Break-clause-counted t c = one_counted c.resolve_break.result c.args.next.now c.resolve_break.new.next _ (ap stmt_count (break_is c.args.stmt.now c.in-Break.place c.in-Break.is)) c.resolve_break.ensures.counted
+resolve_stmt-returns-in-Break-clause-counted t c = one_counted c.resolve_break.result c.args.next.now c.resolve_break.new.next _
+    (ap stmt_count (break_is c.args.stmt.now c.in-Break.place c.in-Break.is)) c.resolve_break.ensures.counted
 
 pub resolve_stmt-returns-in-Continue-clause-told : goal.resolve_stmt-returns-in-Continue-clause-told
 resolve_stmt-returns-in-Continue-clause-told t c = rw (continue_is c.args.stmt.now c.in-Continue.place c.in-Continue.is) c.resolve_continue.ensures.told
@@ -259,7 +265,8 @@ pub resolve_stmt-returns-in-Continue-clause-kept : goal.resolve_stmt-returns-in-
 resolve_stmt-returns-in-Continue-clause-kept t c = kept_so c.resolve_continue.result refl
 
 pub resolve_stmt-returns-in-Continue-clause-counted : goal.resolve_stmt-returns-in-Continue-clause-counted
-resolve_stmt-returns-in-Continue-clause-counted t c = one_counted c.resolve_continue.result c.args.next.now c.resolve_continue.new.next _ (ap stmt_count (continue_is c.args.stmt.now c.in-Continue.place c.in-Continue.is)) c.resolve_continue.ensures.counted
+resolve_stmt-returns-in-Continue-clause-counted t c = one_counted c.resolve_continue.result c.args.next.now c.resolve_continue.new.next _
+    (ap stmt_count (continue_is c.args.stmt.now c.in-Continue.place c.in-Continue.is)) c.resolve_continue.ensures.counted
 
 pub resolve_stmt-returns-in-Return-clause-told : goal.resolve_stmt-returns-in-Return-clause-told
 resolve_stmt-returns-in-Return-clause-told t c = rw (return_is c.args.stmt.now c.in-Return.place c.in-Return.source c.in-Return.is) c.resolve_return.ensures.told
@@ -271,7 +278,8 @@ pub resolve_stmt-returns-in-Return-clause-kept : goal.resolve_stmt-returns-in-Re
 resolve_stmt-returns-in-Return-clause-kept t c = kept_so c.resolve_return.result refl
 
 pub resolve_stmt-returns-in-Return-clause-counted : goal.resolve_stmt-returns-in-Return-clause-counted
-resolve_stmt-returns-in-Return-clause-counted t c = one_counted c.resolve_return.result c.args.next.now c.resolve_return.new.next _ (ap stmt_count (return_is c.args.stmt.now c.in-Return.place c.in-Return.source c.in-Return.is)) c.resolve_return.ensures.counted
+resolve_stmt-returns-in-Return-clause-counted t c = one_counted c.resolve_return.result c.args.next.now c.resolve_return.new.next _
+    (ap stmt_count (return_is c.args.stmt.now c.in-Return.place c.in-Return.source c.in-Return.is)) c.resolve_return.ensures.counted
 
 pub resolve_stmt-returns-in-Assert-clause-told : goal.resolve_stmt-returns-in-Assert-clause-told
 resolve_stmt-returns-in-Assert-clause-told t c = rw (assert_is c.args.stmt.now c.in-Assert.field-0 c.in-Assert.cond c.in-Assert.is) c.resolve_assert.ensures.told
@@ -283,7 +291,8 @@ pub resolve_stmt-returns-in-Assert-clause-kept : goal.resolve_stmt-returns-in-As
 resolve_stmt-returns-in-Assert-clause-kept t c = kept_so c.resolve_assert.result refl
 
 pub resolve_stmt-returns-in-Assert-clause-counted : goal.resolve_stmt-returns-in-Assert-clause-counted
-resolve_stmt-returns-in-Assert-clause-counted t c = one_counted c.resolve_assert.result c.args.next.now c.resolve_assert.new.next _ (ap stmt_count (assert_is c.args.stmt.now c.in-Assert.field-0 c.in-Assert.cond c.in-Assert.is)) c.resolve_assert.ensures.counted
+resolve_stmt-returns-in-Assert-clause-counted t c = one_counted c.resolve_assert.result c.args.next.now c.resolve_assert.new.next _
+    (ap stmt_count (assert_is c.args.stmt.now c.in-Assert.field-0 c.in-Assert.cond c.in-Assert.is)) c.resolve_assert.ensures.counted
 
 pub resolve_stmt-returns-in-Assume-clause-told : goal.resolve_stmt-returns-in-Assume-clause-told
 resolve_stmt-returns-in-Assume-clause-told t c = rw (assume_is c.args.stmt.now c.in-Assume.field-0 c.in-Assume.cond c.in-Assume.is) c.resolve_assume.ensures.told
@@ -295,7 +304,8 @@ pub resolve_stmt-returns-in-Assume-clause-kept : goal.resolve_stmt-returns-in-As
 resolve_stmt-returns-in-Assume-clause-kept t c = kept_so c.resolve_assume.result refl
 
 pub resolve_stmt-returns-in-Assume-clause-counted : goal.resolve_stmt-returns-in-Assume-clause-counted
-resolve_stmt-returns-in-Assume-clause-counted t c = one_counted c.resolve_assume.result c.args.next.now c.resolve_assume.new.next _ (ap stmt_count (assume_is c.args.stmt.now c.in-Assume.field-0 c.in-Assume.cond c.in-Assume.is)) c.resolve_assume.ensures.counted
+resolve_stmt-returns-in-Assume-clause-counted t c = one_counted c.resolve_assume.result c.args.next.now c.resolve_assume.new.next _
+    (ap stmt_count (assume_is c.args.stmt.now c.in-Assume.field-0 c.in-Assume.cond c.in-Assume.is)) c.resolve_assume.ensures.counted
 
 pub resolve_stmt-returns-in-Block-clause-kept : goal.resolve_stmt-returns-in-Block-clause-kept
 resolve_stmt-returns-in-Block-clause-kept t c = c.resolve_block.ensures.kept

@@ -17,8 +17,8 @@ abbrev pub invariant-resolve_items-items : goal.invariant-resolve_items-items
 invariant-resolve_items-items l = record {
   clean : items_faults (around_of l.around) l.fn.scope (items_of (map item_view l.item-items))
       ≡ items_faults (around_of l.around) l.scope (items_of (map item_view (drop l.item-index l.item-items)));
-  found : resolve_items (functions_at l.around.parts.now) l.fn.scope l.fn.next (items_of (map item_view l.item-items))
-      ≡ followed (map program_item_view l.items.items) (resolve_items (functions_at l.around.parts.now) l.scope l.next (items_of (map item_view (drop l.item-index l.item-items))));
+  found : resolve_items (functions_at l.around.functions.now) l.fn.scope l.fn.next (items_of (map item_view l.item-items))
+      ≡ followed (map program_item_view l.items.items) (resolve_items (functions_at l.around.functions.now) l.scope l.next (items_of (map item_view (drop l.item-index l.item-items))));
   extended : Extends l.fn.scope l.scope;
   counted : l.next + items_count (items_of (map item_view (drop l.item-index l.item-items))) ≡ l.fn.next + items_count (items_of (map item_view l.item-items));
 }
