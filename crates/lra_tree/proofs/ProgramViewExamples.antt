@@ -9,7 +9,7 @@ use Rattle.lra_tree.specs.declared.graph.Node.{Node, Seq, the_lemmas as node_lem
 use Rattle.lra_tree.specs.Program as program
 use Rattle.lra_tree.specs.Graph as graph
 use Rattle.lra_tree.specs.ProgramViews.{expr_view, operation_view, chained, cond_view, all_of, stmt_view, items_view}
-use Rattle.lra_tree.specs.GraphViews.{node_view}
+use Rattle.lra_tree.specs.GraphViews.{node_view, row}
 
 negate_view : (e : Box Expr Global) → expr_view (Negate e) ≡ program.negate (expr_view e.value)
 negate_view e = search (rules, expr_lemmas)
@@ -32,5 +32,9 @@ block_view b end = search (rules, stmt_lemmas)
 loop_view : (at : ℕ) (c : Cond) (a step : Box Stmt Global) → stmt_view (Loop at c a step) ≡ program.loop at (cond_view c) (stmt_view a.value) (stmt_view step.value)
 loop_view at c a step = search (rules, stmt_lemmas)
 
-seq_view : (a b : Box Node Global) → node_view (Seq a b) ≡ graph.seq (node_view a.value) (node_view b.value)
-seq_view a b = search (rules, node_lemmas)
+-- trees one after the other nest to the right
+seq_view : (gs : Vec Node Global) (last : Box Node Global) → node_view (Seq gs last) ≡ row (map node_view gs.items) (node_view last.value)
+seq_view gs last = search (rules, node_lemmas)
+
+two_in_a_row : (a b last : graph.Node) → row (a ∷ b ∷ []) last ≡ graph.seq a (graph.seq b last)
+two_in_a_row a b last = refl

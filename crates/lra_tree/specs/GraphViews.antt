@@ -1,5 +1,5 @@
 -- The tree of operations, and the points, that values of the code's types stand for.
-use Rattle.std.specs.Prelude.{List, map}
+use Rattle.std.specs.Prelude.{List, [], ◌∷◌, map}
 use Rattle.lra_tree.specs.declared.graph.Exit.{Exit}
 use Rattle.lra_tree.specs.declared.graph.Exit.TheVariants as exit
 use Rattle.lra_tree.specs.declared.graph.Op.{Op}
@@ -27,12 +27,17 @@ op_view (op.Push base es) = step.push base (map expr_view es.items)
 op_view (op.Keep n) = step.keep n
 op_view (op.Test base c wanted) = step.test base (cond_view c) wanted
 
+-- the trees one after the other, and this one behind them
+abbrev pub row : List graph.Node → graph.Node → graph.Node
+row [] h = h
+row (g ∷ gs) h = graph.seq g (row gs h)
+
 abbrev pub node_step : Node-F graph.Node → graph.Node
 node_step Node-F.Empty = graph.empty
 node_step (Node-F.Point q) = graph.point q
 node_step (Node-F.Act q o) = graph.act q (op_view o)
 node_step (Node-F.Check q base c) = graph.check q base (cond_view c)
-node_step (Node-F.Seq a b) = graph.seq a.value b.value
+node_step (Node-F.Seq gs last) = row gs.items last.value
 node_step (Node-F.Choose q base c a b) = graph.choose q base (cond_view c) a.value b.value
 node_step (Node-F.Iterate q base c a) = graph.iterate q base (cond_view c) a.value
 node_step (Node-F.Catch q k a) = graph.catch q (exit_view k) a.value

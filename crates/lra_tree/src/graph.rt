@@ -52,8 +52,8 @@ pub enum Node {
     Act(usize, Op),
     /// An assertion: a test with a verdict.
     Check(usize, usize, Cond),
-    /// The one, then the other.
-    Seq(Box<Node>, Box<Node>),
+    /// The trees one after the other, and then the last.
+    Seq(Vec<Node>, Box<Node>),
     /// The one where the condition is true, the other where it is false.
     Choose(usize, usize, Cond, Box<Node>, Box<Node>),
     /// Its point stands before the test, at each round.
