@@ -11,12 +11,12 @@ use Rattle.lra_tree.specs.declared.program.Stmt.{Stmt}
 use Rattle.lra_tree.specs.declared.program.BlockItem.{BlockItem}
 use Rattle.lra_tree.specs.declared.program.BlockItem as code_item
 use Rattle.lra_tree.specs.ProgramViews.{declarator_view, stmt_view, item_view, items_of}
-use Rattle.lra_tree.specs.GraphViews.{node_view}
+use Rattle.lra_tree.specs.GraphViews.{node_view, row}
 use Rattle.lra_graph.specs.declared.points.Limit.{Limit}
 use Rattle.lra_graph.specs.declared.points.GraphError.{GraphError}
 use Rattle.lra_graph.specs.declared.frame.Frame.{Frame}
 use Rattle.lra_graph.specs.Limits.{walk, stopped, OnError, OnLimit}
-use Rattle.lra_graph.specs.Building.{inside, StmtStands, GivenStands, ItemsStand, ItemStands, WritesStmt, WritesDeclared, WritesItems, WritesItem, StopsItem, row}
+use Rattle.lra_graph.specs.Building.{inside, StmtStands, GivenStands, ItemsStand, ItemStands, WritesStmt, WritesDeclared, WritesItems, WritesItem, StopsItem}
 use Rattle.lra_graph.proofs.Stopping.{limit_to}
 use Rattle.lra_graph.proofs.Writing.{Pointed, site, none_written, statement_written, declaration_written}
 use Rattle.lra_graph.proofs.Standing.{first_stands, others_stand, declared_stands, behind_stand}

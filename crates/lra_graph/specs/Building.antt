@@ -86,11 +86,6 @@ module _ (P : Program) (path : List ℕ) (r : Frame) where
   WritesReturn q S o g U = Writes path r (given_events inside path r.live o) S U
       (λ T f. (at : ℕ) → length S ≡ suc q → inlined.Has T q f r.live at → inlined.Inl P T f r.live q (return at o) (seq (point q) g) r.live (length U))
 
--- the parts one after the other, and this tree behind them
-abbrev pub row : List Node → Node → Node
-row [] h = h
-row (g ∷ gs) h = seq g (row gs h)
-
 -- an item takes what stands behind it: it stands in the frame with some items behind it
 abbrev pub ItemStands : Program → Frame → (BlockItems → BlockItems) → Type 0
 ItemStands P r item = (b : BlockItems) × ItemsStand P r (item b)

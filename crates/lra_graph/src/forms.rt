@@ -5,8 +5,7 @@ ghost use Rattle.lra_tree.specs.Step as step;
 ghost use Rattle.lra_tree.specs.Graph as graph;
 ghost use Rattle.lra_tree.specs.Inlined.{loop_node, call_node, return_node};
 ghost use Rattle.lra_tree.specs.ProgramViews.{expr_view, cond_view};
-ghost use Rattle.lra_tree.specs.GraphViews.{op_view, exit_view, node_view};
-ghost use Rattle.lra_graph.specs.Building.{row};
+ghost use Rattle.lra_tree.specs.GraphViews.{op_view, exit_view, node_view, row};
 
 use lra_tree::graph::{Exit, Node, Op};
 use lra_tree::program::{Cond, Expr, copy_expressions};
@@ -16,7 +15,9 @@ use std::alloc::{AllocError, Global};
 pub fn in_turn(alloc: Global, first: Node, second: Node) -> Result<Node, AllocError>
     ensures { IfOk result (λ g. node_view g ≡ graph.seq (node_view first) (node_view second)) }
 {
-    Ok(Node::Seq(Box::new(alloc, first)?, Box::new(alloc, second)?))
+    let mut before = Vec::new(alloc);
+    before.push(first)?;
+    Ok(Node::Seq(before, Box::new(alloc, second)?))
 }
 
 /// One part more, behind the others.
@@ -31,12 +32,7 @@ pub fn add_part(parts: &mut Vec<Node>, part: Node) -> Result<(), AllocError>
 pub fn in_a_row(alloc: Global, parts: Vec<Node>) -> Result<Node, AllocError>
     ensures { IfOk result (λ g. node_view g ≡ row (map node_view parts.items) graph.empty) }
 {
-    let mut left = parts;
-    let mut row = Node::Empty;
-    'parts: while let Some(part) = left.pop() {
-        row = in_turn(alloc, part, row)?;
-    }
-    Ok(row)
+    Ok(Node::Seq(parts, Box::new(alloc, Node::Empty)?))
 }
 
 fn caught(alloc: Global, point: usize, exit: Exit, body: Node) -> Result<Node, AllocError>

@@ -86,28 +86,34 @@ mod tests {
         })
     }
 
-    fn halves(node: &Node) -> Option<(&Node, &Node)> {
+    /// What stands behind the point.
+    fn behind_its_point(node: &Node, number: usize) -> Option<&Node> {
         match node {
-            Node::Seq(first, second) => Some((first, second)),
+            Node::Seq(before, rest) => match before.as_slice() {
+                [Node::Point(point)] if *point == number => Some(rest),
+                _ => None,
+            },
             _ => None,
         }
     }
 
-    /// What stands behind the point.
-    fn behind_its_point(node: &Node, number: usize) -> Option<&Node> {
-        let (first, rest) = halves(node)?;
-        match first {
-            Node::Point(point) if *point == number => Some(rest),
+    /// The items, in front of the point of their end.
+    fn items_before(tree: &Node, end: usize) -> Option<&[Node]> {
+        let Node::Seq(body, last) = tree else {
+            return None;
+        };
+        let ends = matches!(&**last, Node::Point(point) if *point == end);
+        match body.as_slice() {
+            [Node::Seq(items, nothing)] if ends && matches!(&**nothing, Node::Empty) => Some(items),
             _ => None,
         }
     }
 
     /// Whether it is the tree of the small program.
     fn is_small(tree: &Node) -> Option<bool> {
-        let (body, end) = halves(tree)?;
-        let (declared, rest) = halves(body)?;
-        let (assigned, rest) = halves(rest)?;
-        let (choice, nothing) = halves(rest)?;
+        let [declared, assigned, choice] = items_before(tree, 4)? else {
+            return None;
+        };
         let fresh = matches!(behind_its_point(declared, 0)?, Node::Act(0, Op::Append));
         let given = match behind_its_point(assigned, 1)? {
             Node::Act(1, Op::Give(0, Some(0), Expr::Literal(2))) => true,
@@ -120,8 +126,7 @@ mod tests {
             }
             _ => false,
         };
-        let ends = matches!(nothing, Node::Empty) && matches!(end, Node::Point(4));
-        Some(fresh && given && tested && ends)
+        Some(fresh && given && tested)
     }
 
     #[test]
