@@ -25,7 +25,8 @@ module _ (P : Program) (g : Node) (distinct : AreDistinct (sites_of P)) (is : Is
       subst (λ n. Failed P g n) here (r.draws, r.words, hit.fails false_there)
 
   -- a run that stands at the site stands at its point
-  site_there : (number : ℕ) (s : Site) (X : Config → Type 0) (c : Config) → slice_get (sites_of P) number ≡ Some s → (y : Stands P (sites_of P) c number X) → IsOn y.there (point_of s) × (length y.there.state.store ≡ s.live)
+  site_there : (number : ℕ) (s : Site) (X : Config → Type 0) (c : Config) → slice_get (sites_of P) number ≡ Some s → (y : Stands P (sites_of P) c number X) → IsOn y.there (point_of s)
+      × (length y.there.state.store ≡ s.live)
   site_there number s X c at y =
       let h = same_Some _ _ (sym y.site ∙ at) in
       (record { label = y.on ∙ ap (λ (z : Site). Some z.label) h; path = ap (λ (z : Site). z.path) h }, ap (λ (z : Site). z.live) h)

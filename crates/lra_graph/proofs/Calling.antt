@@ -41,7 +41,8 @@ module _ (P : Program) (path : List ℕ) (r : Frame) (S : List Site) (c : Call) 
   call_at_body l e = call_walk (stopped l) (walk_stop S (items_events (call_events P less) (c.label ∷ path) (r.live + fn.parameters) fn.body)
       (plain_site (c.label ∷ path) fn.end (live_behind (r.live + fn.parameters) fn.body) ∷ []) l (items_as (stopped l) e))
 
-  pub call_at_end : (V : List Site) (n : ℕ) (l : Limit) → n ≡ live_behind (r.live + k) b → walk S (items_events (call_events P less) p (r.live + k) b) ≡ passed V → walk V (plain_site p fn.end n ∷ []) ≡ stopped l
+  pub call_at_end : (V : List Site) (n : ℕ) (l : Limit) → n ≡ live_behind (r.live + k) b → walk S (items_events (call_events P less) p (r.live + k) b) ≡ passed V
+      → walk V (plain_site p fn.end n ∷ []) ≡ stopped l
       → walk S (call_events P r.calls_left path r.live c) ≡ stopped l
   call_at_end V n l same e f = call_walk (stopped l) (walk_then S (items_events (call_events P less) (c.label ∷ path) (r.live + fn.parameters) fn.body)
       (plain_site (c.label ∷ path) fn.end (live_behind (r.live + fn.parameters) fn.body) ∷ []) V (stopped l) (items_as (passed V) e) (end_as n V (stopped l) same f))
@@ -49,11 +50,13 @@ module _ (P : Program) (path : List ℕ) (r : Frame) (S : List Site) (c : Call) 
   abbrev inner : ℕ → Frame
   inner m = record { base = r.live; live = r.live + m; calls_left = less; loop_length = None; back = Some (record { target = x; length = r.live }) }
 
-  pub invoked : (V U : List Site) (q e n : ℕ) (h g : Node) → length c.arguments ≡ fn.parameters → WritesItems P p (inner k) S b h V → n ≡ live_behind (r.live + k) b → e ≡ length V → Pointed V (record { path = p; label = fn.end; live = n; asserts = false }) U
+  pub invoked : (V U : List Site) (q e n : ℕ) (h g : Node) → length c.arguments ≡ fn.parameters → WritesItems P p (inner k) S b h V → n ≡ live_behind (r.live + k) b → e ≡ length V
+      → Pointed V (record { path = p; label = fn.end; live = n; asserts = false }) U
       → g ≡ call_node q e r.base r.live x c.arguments k h → WritesSource P path r q x S (result c) g U
   invoked V U q e n h g fits y same i pointed a =
       let y' = subst (λ z. WritesItems P (c.label ∷ path) (inner fn.parameters) S z h V) body
       (subst (λ z. WritesItems P (c.label ∷ path) (inner z) S b h V) wide (subst (λ z. WritesItems P z (inner k) S b h V) within y)) in
-      let pointed' : Pointed V (record { path = c.label ∷ path; label = fn.end; live = n; asserts = false }) U = subst (λ z. Pointed V (record { path = z; label = fn.end; live = n; asserts = false }) U) within pointed in
+      let pointed' : Pointed V (record { path = c.label ∷ path; label = fn.end; live = n; asserts = false }) U = subst
+      (λ z. Pointed V (record { path = z; label = fn.end; live = n; asserts = false }) U) within pointed in
       let a' : g ≡ call_node q e r.base r.live x c.arguments fn.parameters h = subst (λ z. g ≡ call_node q e r.base r.live x c.arguments z h) wide a in
       result_written P path r S V U q e n less x c fn h g left found fits y' (lives_as n same) i pointed' a'

@@ -3,11 +3,14 @@
 use Rattle.std.proofs.Common.{◌≡◌, ℕ, zero, suc, ◌+◌, List, [], ◌∷◌, ◌++◌, length, Option, Some, None, Bool, slice_get, inl, inr, refl, sym, ap, ◌∙◌, subst, append_assoc}
 use Rattle.std.specs.List.{AllByRecursion}
 use Rattle.std.proofs.lemmas.Option.{same_Some, none-some, slice_get-get_or}
-use Rattle.lra_tree.specs.Program.{Call, Source, value, result, Stmt, absent, nothing, block, assign, call, if, loop, for, break, continue, return, assert, assume, BlockItems, no_more, declaration, statement, Function, Program}
-use Rattle.lra_tree.specs.Sites.{Site, Event, comes, one_call_more, live_behind, source_events, given_events, stmt_events, items_events, function_events, call_events, events_of, sites_in, sites_of, greatest_calls}
+use Rattle.lra_tree.specs.Program.{Call, Source, value, result, Stmt, absent, nothing, block, assign, call, if, loop, for, break, continue, return, assert, assume, BlockItems, no_more}
+use Rattle.lra_tree.specs.Program.{declaration, statement, Function, Program}
+use Rattle.lra_tree.specs.Sites.{Site, Event, comes, one_call_more, live_behind, source_events, given_events, stmt_events, items_events, function_events, call_events, events_of, sites_in}
+use Rattle.lra_tree.specs.Sites.{sites_of, greatest_calls}
 use Rattle.lra_tree.specs.Agree.{AreDistinct}
 use Rattle.lra_tree.specs.WellFormed.{stmt_numbers, items_numbers, function_numbers, IsGoodCall, IsGoodSource, IsGoodGiven, IsGoodStmt, AreGoodItems, IsGoodFunction, IsWellFormed}
-use Rattle.lra_graph.proofs.DistinctLists.{IsIn, AllDiffer, in_left, in_right, in_either, differ_join, differ_left, differ_right, differ_apart, differ_range, differ_piece, one_place, longer, one_before}
+use Rattle.lra_graph.proofs.DistinctLists.{IsIn, AllDiffer, in_left, in_right, in_either, differ_join, differ_left, differ_right, differ_apart, differ_range, differ_piece, one_place, longer}
+use Rattle.lra_graph.proofs.DistinctLists.{one_before}
 
 -- a point's label and call path in one list
 abbrev pub key : Site → List ℕ
@@ -68,7 +71,8 @@ head_apart at labels d a (inl e) j = d (subst (λ z. IsIn z labels) e j)
 head_apart at labels d a (inr i) j = i
 
 -- a point of its own, and then two parts
-spread_parts : (at : ℕ) (path labels more : List ℕ) (ks ls : List (List ℕ)) → AllDiffer (at ∷ (labels ++ more)) → Spread path labels ks → Spread path more ls → Spread path (at ∷ (labels ++ more)) ((at ∷ path) ∷ (ks ++ ls))
+spread_parts : (at : ℕ) (path labels more : List ℕ) (ks ls : List (List ℕ)) → AllDiffer (at ∷ (labels ++ more)) → Spread path labels ks → Spread path more ls
+    → Spread path (at ∷ (labels ++ more)) ((at ∷ path) ∷ (ks ++ ls))
 spread_parts at path labels more ks ls d x y = spread_join path (at ∷ []) (labels ++ more) ((at ∷ path) ∷ []) (ks ++ ls) (head_apart at (labels ++ more) d.0) (spread_alone at path)
     (spread_join path labels more ks ls (differ_apart labels more d.1) x y)
 
@@ -94,9 +98,11 @@ module _ (P : Program) where
           (differ_apart (items_numbers items) (end ∷ []) d) (spread_items b here live items good (differ_left (items_numbers items) (end ∷ []) d)) (spread_alone end path))
       spread_stmt b here live (assign at x e) good d = let y = spread_source at here live e good.1 in spread_point at path y.0 (keys_in (source_events inside path live e)) y.1
       spread_stmt b here live (call at c) good d = let y = calls path live at here c good in spread_point at path y.0 (keys_in (inside path live c)) y.1
-      spread_stmt b here live (if at c s t) good d = rw keys_append (spread_parts at path (stmt_numbers s) (stmt_numbers t) (keys_in (stmt_events inside path live s)) (keys_in (stmt_events inside path live t)) d
+      spread_stmt b here live (if at c s t) good d = rw keys_append
+          (spread_parts at path (stmt_numbers s) (stmt_numbers t) (keys_in (stmt_events inside path live s)) (keys_in (stmt_events inside path live t)) d
           (spread_stmt b here live s good.1 (differ_left (stmt_numbers s) (stmt_numbers t) d.1)) (spread_stmt b here live t good.2 (differ_right (stmt_numbers s) (stmt_numbers t) d.1)))
-      spread_stmt b here live (loop at c s step) good d = rw keys_append (spread_parts at path (stmt_numbers step) (stmt_numbers s) (keys_in (stmt_events inside path live step)) (keys_in (stmt_events inside path live s)) d
+      spread_stmt b here live (loop at c s step) good d = rw keys_append
+          (spread_parts at path (stmt_numbers step) (stmt_numbers s) (keys_in (stmt_events inside path live step)) (keys_in (stmt_events inside path live s)) d
           (spread_stmt _ here live step good.2 (differ_left (stmt_numbers step) (stmt_numbers s) d.1)) (spread_stmt _ here live s good.1 (differ_right (stmt_numbers step) (stmt_numbers s) d.1)))
       spread_stmt b here live (for init (loop at c s step)) good d =
           let front = items_numbers init in
@@ -106,10 +112,14 @@ module _ (P : Program) where
           let init_events = items_events inside path live init in
           let step_events = stmt_events inside path later step in
           let body_events = stmt_events inside path later s in
-          subst (λ ks. Spread path (at ∷ (front ++ back)) ((at ∷ path) ∷ ks)) (sym (keys_append init_events (step_events ++ body_events) ∙ ap (λ ks. keys_in init_events ++ ks) (keys_append step_events body_events))) (spread_parts at path front back (keys_in (items_events inside path live init)) (keys_in (stmt_events inside path later step) ++ keys_in (stmt_events inside path later s)) d
+          subst (λ ks. Spread path (at ∷ (front ++ back)) ((at ∷ path) ∷ ks))
+          (sym (keys_append init_events (step_events ++ body_events) ∙ ap (λ ks. keys_in init_events ++ ks) (keys_append step_events body_events)))
+          (spread_parts at path front back (keys_in (items_events inside path live init)) (keys_in (stmt_events inside path later step) ++ keys_in (stmt_events inside path later s)) d
           (spread_items _ here live init good.0 (differ_left front back d.1))
-          (spread_join path (stmt_numbers step) (stmt_numbers s) (keys_in (stmt_events inside path later step)) (keys_in (stmt_events inside path later s)) (differ_apart (stmt_numbers step) (stmt_numbers s) apart)
-          (spread_stmt _ (live_behind here init) later step good.2.2 (differ_left (stmt_numbers step) (stmt_numbers s) apart)) (spread_stmt _ (live_behind here init) later s good.2.1 (differ_right (stmt_numbers step) (stmt_numbers s) apart))))
+          (spread_join path (stmt_numbers step) (stmt_numbers s) (keys_in (stmt_events inside path later step)) (keys_in (stmt_events inside path later s))
+          (differ_apart (stmt_numbers step) (stmt_numbers s) apart)
+          (spread_stmt _ (live_behind here init) later step good.2.2 (differ_left (stmt_numbers step) (stmt_numbers s) apart))
+          (spread_stmt _ (live_behind here init) later s good.2.1 (differ_right (stmt_numbers step) (stmt_numbers s) apart))))
       spread_stmt b here live (for init again) good d = absurd good.1
       spread_stmt b here live (break at) good d = spread_alone at path
       spread_stmt b here live (continue at) good d = spread_alone at path
@@ -117,18 +127,23 @@ module _ (P : Program) where
       spread_stmt b here live (assert at c) good d = spread_alone at path
       spread_stmt b here live (assume at c) good d = spread_alone at path
 
-      spread_items : (b : Bool) (here live : ℕ) (items : BlockItems) → AreGoodItems P b here items → AllDiffer (items_numbers items) → Spread path (items_numbers items) (keys_in (items_events inside path live items))
+      spread_items : (b : Bool) (here live : ℕ) (items : BlockItems) → AreGoodItems P b here items → AllDiffer (items_numbers items)
+          → Spread path (items_numbers items) (keys_in (items_events inside path live items))
       spread_items b here live no_more good d = spread_none path []
       spread_items b here live (declaration e items) good d =
           let y = spread_given e.label (suc here) (suc live) e.source good.0 in
-          rw keys_append (spread_join path (e.label ∷ []) (items_numbers items) ((e.label ∷ path) ∷ keys_in (given_events inside path (suc live) e.source)) (keys_in (items_events inside path (suc live) items)) (head_apart e.label (items_numbers items) d.0)
+          rw keys_append (spread_join path (e.label ∷ []) (items_numbers items) ((e.label ∷ path) ∷ keys_in (given_events inside path (suc live) e.source))
+          (keys_in (items_events inside path (suc live) items)) (head_apart e.label (items_numbers items) d.0)
           (spread_point e.label path y.0 (keys_in (given_events inside path (suc live) e.source)) y.1) (spread_items b (suc here) (suc live) items good.1 d.1))
-      spread_items b here live (statement s items) good d = rw keys_append (spread_join path (stmt_numbers s) (items_numbers items) (keys_in (stmt_events inside path live s)) (keys_in (items_events inside path live items))
-          (differ_apart (stmt_numbers s) (items_numbers items) d) (spread_stmt b here live s good.0 (differ_left (stmt_numbers s) (items_numbers items) d)) (spread_items b here live items good.1 (differ_right (stmt_numbers s) (items_numbers items) d)))
+      spread_items b here live (statement s items) good d = rw keys_append
+          (spread_join path (stmt_numbers s) (items_numbers items) (keys_in (stmt_events inside path live s)) (keys_in (items_events inside path live items))
+          (differ_apart (stmt_numbers s) (items_numbers items) d) (spread_stmt b here live s good.0 (differ_left (stmt_numbers s) (items_numbers items) d))
+          (spread_items b here live items good.1 (differ_right (stmt_numbers s) (items_numbers items) d)))
 
     spread_function : (live : ℕ) (f : Function) → IsGoodFunction P f → AllDiffer (function_numbers f) → Spread path (function_numbers f) (keys_in (function_events inside path live (Some f)))
     spread_function live f good d = rw keys_append (spread_join path (items_numbers f.body) (f.end ∷ []) (keys_in (items_events inside path (live + f.parameters) f.body)) ((f.end ∷ path) ∷ [])
-        (differ_apart (items_numbers f.body) (f.end ∷ []) d) (spread_items _ f.parameters (live + f.parameters) f.body good (differ_left (items_numbers f.body) (f.end ∷ []) d)) (spread_alone f.end path))
+        (differ_apart (items_numbers f.body) (f.end ∷ []) d) (spread_items _ f.parameters (live + f.parameters) f.body good (differ_left (items_numbers f.body) (f.end ∷ []) d))
+        (spread_alone f.end path))
 
 pub all_at : (P : Program) (fs : List Function) (i : ℕ) (f : Function) → AllByRecursion (IsGoodFunction P) fs → slice_get fs i ≡ Some f → IsGoodFunction P f
 all_at P [] i f good e = absurd (none-some f e)
@@ -145,7 +160,8 @@ module _ (P : Program) (well : IsWellFormed P) where
     function_numbers good.callee,
     subst (λ o. Spread (at ∷ path) (function_numbers good.callee) (keys_in (function_events (call_events P more) (c.label ∷ path) live o))) (sym good.is_callee)
         (subst (λ l. Spread (l ∷ path) (function_numbers good.callee) (keys_in (function_events (call_events P more) (c.label ∷ path) live (Some good.callee)))) good.label
-        (spread_function P (call_events P more) (spread_call more) (c.label ∷ path) live good.callee (all_at P P.functions c.function good.callee well.functions good.is_callee) (labels_differ c.function good.callee good.is_callee))),
+        (spread_function P (call_events P more) (spread_call more) (c.label ∷ path) live good.callee (all_at P P.functions c.function good.callee well.functions good.is_callee)
+        (labels_differ c.function good.callee good.is_callee))),
   )
 
   pub main_at : (i : ℕ) × (slice_get P.functions i ≡ Some P.main)

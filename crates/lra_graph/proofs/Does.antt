@@ -1,14 +1,19 @@
 -- What the tree reaches, a run reaches.
 use Rattle.std.proofs.Common.{◌≡◌, ◌≢◌, ℕ, zero, suc, ◌+◌, ◌≤◌, ℤ, List, ◌∷◌, length, Option, Some, None, Bool, true, false, ◌⊎◌, inl, inr, refl, sym, ap, ◌∙◌, subst, slice_get}
 use Rattle.std.proofs.lemmas.Option.{same_Some, none-some}
-use Rattle.lra_tree.specs.Program.{Expr, Cond, Call, Source, value, result, Declarator, Stmt, absent, nothing, block, assign, call, if, loop, for, break, continue, return, assert, assume, BlockItems, no_more, declaration, statement, Function, Program}
+use Rattle.lra_tree.specs.Program.{Expr, Cond, Call, Source, value, result, Declarator, Stmt, absent, nothing, block, assign, call, if, loop, for, break, continue, return, assert, assume}
+use Rattle.lra_tree.specs.Program.{BlockItems, no_more, declaration, statement, Function, Program}
 use Rattle.lra_tree.specs.Value.{Drawn, index_of, truth_of}
-use Rattle.lra_tree.specs.Step.{State, Op, append, give, give_any, push, keep, test, run_op, run_any, tested, Here, Back, Item, run, declare, all, end_of, turn, cut, mark, leave_call, Config, Turn, to_turn, Called, to_mark, target_of, go, go_by, go_on, enter, do_source, do_leave, do_break, do_continue, do_stmt, do_declare, next}
+use Rattle.lra_tree.specs.Step.{State, Op, append, give, give_any, push, keep, test, run_op, run_any, tested, Here, Back, Item, run, declare, all, end_of, turn, cut, mark, leave_call, Config}
+use Rattle.lra_tree.specs.Step.{Turn, to_turn, Called, to_mark, target_of, go, go_by, go_on, enter, do_source, do_leave, do_break, do_continue, do_stmt, do_declare, next}
 use Rattle.lra_tree.specs.Run.{Steps, label_on, IsFailing}
 use Rattle.lra_tree.specs.Graph.{Exit, broken, continued, returned, How, normal, jump, Node, empty, point, act, check, seq, choose, leave, Rounds, Ends, Comes, FailsAt}
 use Rattle.lra_tree.specs.Sites.{Site}
-use Rattle.lra_tree.specs.Inlined.{Frame, Has, HasSite, callee, Inl, InlAll, Declares, Loops, Gives, as_nothing, as_block, as_absent, as_assign, as_call, as_if, as_loop, as_for, as_break, as_continue, as_return, as_return_value, as_return_call, as_end, as_end_value, as_end_call, as_assert, as_assume, as_none, as_declaration, as_statement, as_fresh, as_given, is_loop, as_value, as_result, loop_node, call_node, return_node}
-use Rattle.lra_graph.proofs.Shapes.{seq_inv, act_inv, point_inv, leave_inv, point_seq, act_seq, check_inv, jump_inv, EndsBody, EndsCall, call_inv, Round, RoundOf, round_inv, LeavesRound, EndsLoop, loop_inv}
+use Rattle.lra_tree.specs.Inlined.{Frame, Has, HasSite, callee, Inl, InlAll, Declares, Loops, Gives, as_nothing, as_block, as_absent, as_assign, as_call, as_if, as_loop, as_for, as_break}
+use Rattle.lra_tree.specs.Inlined.{as_continue, as_return, as_return_value, as_return_call, as_end, as_end_value, as_end_call, as_assert, as_assume, as_none, as_declaration, as_statement}
+use Rattle.lra_tree.specs.Inlined.{as_fresh, as_given, is_loop, as_value, as_result, loop_node, call_node, return_node}
+use Rattle.lra_graph.proofs.Shapes.{seq_inv, act_inv, point_inv, leave_inv, point_seq, act_seq, check_inv, jump_inv, EndsBody, EndsCall, call_inv, Round, RoundOf, round_inv, LeavesRound}
+use Rattle.lra_graph.proofs.Shapes.{EndsLoop, loop_inv}
 use Rattle.lra_graph.proofs.Lengths.{JumpLength, Length, length_one, length_all, length_declarator, length_loop, length_test, length_push, length_append, grows_all, in_loop, mid_length, rounds_length}
 use Rattle.lra_graph.proofs.Landing.{config, land, land_skip, Matches, matches_skip, mark_none, turn_length, back_of, land_broken, land_continued, land_returned}
 
@@ -147,7 +152,8 @@ module _ (P : Program) (T : List Site) (f : Frame) (n : ℕ) where
 
   -- two trees, whose items stand above k
   does_seq : (i i' : Item) (n' : ℕ) (a b : Node) → ((k : List Item) → to_turn (i' ∷ k) ≡ to_turn k) → ((k : List Item) → to_mark (i' ∷ k) ≡ to_mark k) → Length f n n' a
-      → Does P T f n i a → Does P T f n' i' b → (k : List Item) (s : State) → Matches f k → length s.store ≡ n → ((h : How) (t : State) (e : Config) → Ends (seq a b) s h t → landing h f.here k t ≡ Some e → RunsTo P (config (i ∷ i' ∷ k) f.here s) e)
+      → Does P T f n i a → Does P T f n' i' b → (k : List Item) (s : State) → Matches f k → length s.store ≡ n
+      → ((h : How) (t : State) (e : Config) → Ends (seq a b) s h t → landing h f.here k t ≡ Some e → RunsTo P (config (i ∷ i' ∷ k) f.here s) e)
       × ((q : ℕ) (t : State) → Comes (seq a b) s q t → Stands P T (config (i ∷ i' ∷ k) f.here s) q (HasState t))
       × ((q : ℕ) → FailsAt (seq a b) s q → Stands P T (config (i ∷ i' ∷ k) f.here s) q IsFalse)
   does_seq i i' n' a b sa sb len x y k s m l = (
@@ -185,8 +191,10 @@ module _ (P : Program) (T : List Site) (f : Frame) (n : ℕ) where
   does_if : (q at : ℕ) (b : Cond) (a a' : Stmt) (g h : Node) → Does P T f n (run a) g → Does P T f n (run a') h → Does P T f n (run (if at b a a')) (choose q f.here.base b g h)
   does_if q at b a a' g h x y = record {
     ends = λ k s how t e m l z w. elim z as (λ _. RunsTo P (config (run (if at b a a') ∷ k) f.here s) e) [
-      | inl u ↦ step_to P (config (run (if at b a a') ∷ k) f.here s) (config (run a ∷ k) f.here u.0) e (on_true k s u.0 u.1) (x.ends k u.0 how t e m (length_test f.here.base b true s u.0 u.1 ∙ l) u.2 w)
-      | inr u ↦ step_to P (config (run (if at b a a') ∷ k) f.here s) (config (run a' ∷ k) f.here u.0) e (on_false k s u.0 u.1) (y.ends k u.0 how t e m (length_test f.here.base b false s u.0 u.1 ∙ l) u.2 w)
+      | inl u ↦ step_to P (config (run (if at b a a') ∷ k) f.here s) (config (run a ∷ k) f.here u.0) e (on_true k s u.0 u.1)
+          (x.ends k u.0 how t e m (length_test f.here.base b true s u.0 u.1 ∙ l) u.2 w)
+      | inr u ↦ step_to P (config (run (if at b a a') ∷ k) f.here s) (config (run a' ∷ k) f.here u.0) e (on_false k s u.0 u.1)
+          (y.ends k u.0 how t e m (length_test f.here.base b false s u.0 u.1 ∙ l) u.2 w)
     ];
     comes = λ k s p t m l z. elim z as (λ _. Stands P T (config (run (if at b a a') ∷ k) f.here s) p (HasState t)) [
       | inl u ↦ into_first k s u.0 p (HasState t) u.1 (x.comes k u.0 p t m (length_test f.here.base b true s u.0 u.1 ∙ l) u.2)
@@ -204,11 +212,15 @@ module _ (P : Program) (T : List Site) (f : Frame) (n : ℕ) where
       on_false : (k : List Item) (s u : State) → run_op (test f.here.base b false) s ≡ Some u → next P (config (run (if at b a a') ∷ k) f.here s) ≡ Some (config (run a' ∷ k) f.here u)
       on_false k s u o = go_by_false (run a ∷ k) (run a' ∷ k) f.here s.store (truth_of b f.here.base s.store s.draws) u o
 
-      into_first : (k : List Item) (s u : State) (p : ℕ) (X : Config → Type 0) → run_op (test f.here.base b true) s ≡ Some u → Stands P T (config (run a ∷ k) f.here u) p X → Stands P T (config (run (if at b a a') ∷ k) f.here s) p X
-      into_first k s u p X o z = later P T (config (run (if at b a a') ∷ k) f.here s) (config (run a ∷ k) f.here u) p X (one_step P (config (run (if at b a a') ∷ k) f.here s) (config (run a ∷ k) f.here u) (on_true k s u o)) z
+      into_first : (k : List Item) (s u : State) (p : ℕ) (X : Config → Type 0) → run_op (test f.here.base b true) s ≡ Some u → Stands P T (config (run a ∷ k) f.here u) p X
+          → Stands P T (config (run (if at b a a') ∷ k) f.here s) p X
+      into_first k s u p X o z = later P T (config (run (if at b a a') ∷ k) f.here s) (config (run a ∷ k) f.here u) p X
+          (one_step P (config (run (if at b a a') ∷ k) f.here s) (config (run a ∷ k) f.here u) (on_true k s u o)) z
 
-      into_other : (k : List Item) (s u : State) (p : ℕ) (X : Config → Type 0) → run_op (test f.here.base b false) s ≡ Some u → Stands P T (config (run a' ∷ k) f.here u) p X → Stands P T (config (run (if at b a a') ∷ k) f.here s) p X
-      into_other k s u p X o z = later P T (config (run (if at b a a') ∷ k) f.here s) (config (run a' ∷ k) f.here u) p X (one_step P (config (run (if at b a a') ∷ k) f.here s) (config (run a' ∷ k) f.here u) (on_false k s u o)) z
+      into_other : (k : List Item) (s u : State) (p : ℕ) (X : Config → Type 0) → run_op (test f.here.base b false) s ≡ Some u → Stands P T (config (run a' ∷ k) f.here u) p X
+          → Stands P T (config (run (if at b a a') ∷ k) f.here s) p X
+      into_other k s u p X o z = later P T (config (run (if at b a a') ∷ k) f.here s) (config (run a' ∷ k) f.here u) p X
+          (one_step P (config (run (if at b a a') ∷ k) f.here s) (config (run a' ∷ k) f.here u) (on_false k s u o)) z
 
   does_give : (q r : ℕ) (x : Option ℕ) (v : Expr) → GivesDoes P T f n x (value v) (act q (give f.here.base x v))
   does_give q r x v = record {
@@ -219,7 +231,8 @@ module _ (P : Program) (T : List Site) (f : Frame) (n : ℕ) where
   }
 
   -- a statement that only gives a variable its value
-  does_source : (i : Stmt) (x : Option ℕ) (a : Source) (g : Node) → ((k : List Item) (s : State) → length s.store ≡ n → do_stmt P i k f.here s ≡ do_source P x a k f.here s) → GivesDoes P T f n x a g → Does P T f n (run i) g
+  does_source : (i : Stmt) (x : Option ℕ) (a : Source) (g : Node) → ((k : List Item) (s : State) → length s.store ≡ n → do_stmt P i k f.here s ≡ do_source P x a k f.here s)
+      → GivesDoes P T f n x a g → Does P T f n (run i) g
   does_source i x a g same y = record {
     ends = λ k s h t e m l z w. by_how k s h t e l z w;
     comes = λ k s q t m l z. let r = y.comes k s q t l z in later P T (config (run i ∷ k) f.here s) r.0 q (HasState t) (one_step P (config (run i ∷ k) f.here s) r.0 (same k s l ∙ r.1)) r.2;
@@ -272,7 +285,8 @@ module _ (P : Program) (T : List Site) (f : Frame) (n : ℕ) where
       no_jump s j t l (u, o, inr (inl (a, z))) = not_jump j a
       no_jump s j t l (u, o, inr (inr (kind, a, d, z))) = wrong kind t d (len.ends u t (jump kind) (long s u l o) z)
 
-      through_end : (k : List Item) (u t : State) → EndsBody r' n x fn.parameters g u t → length u.store ≡ n + fn.parameters → RunsTo P (config (all fn.body ∷ call_behind fn x k) (callee f n x b).here u) (config k f.here t)
+      through_end : (k : List Item) (u t : State) → EndsBody r' n x fn.parameters g u t → length u.store ≡ n + fn.parameters
+          → RunsTo P (config (all fn.body ∷ call_behind fn x k) (callee f n x b).here u) (config k f.here t)
       through_end k u t z l =
           join P (config (all fn.body ∷ call_behind fn x k) (callee f n x b).here u) (config (call_behind fn x k) (callee f n x b).here z.before) (config k f.here t)
           (y.ends (call_behind fn x k) u normal z.before (config (call_behind fn x k) (callee f n x b).here z.before) (matches k) l z.body refl)
@@ -281,8 +295,14 @@ module _ (P : Program) (T : List Site) (f : Frame) (n : ℕ) where
           (one_step P (config (mark (record { target = x; here = f.here; length = n }) ∷ k) (callee f n x b).here z.cut) (config k f.here t)
           (go_on_is (run_any x z.cut) (λ v. go k f.here (run_op (keep n) v)) z.set z.sets ∙ go_is k f.here (run_op (keep n) z.set) t z.back)))
 
-      by_end : (k : List Item) (s t : State) → length s.store ≡ n → EndsCall r' f.here.base n x b.arguments fn.parameters g s normal t → (e : Config) × (do_source P x (result b) k f.here s ≡ Some e) × RunsTo P e (config k f.here t)
-      by_end k s t l (u, o, inl (a, z)) = (config (all fn.body ∷ call_behind fn x k) (callee f n x b).here u, enters k s u l o, y.ends (call_behind fn x k) u (jump returned) t (config k f.here t) (matches k) (long s u l o) z refl)
+      by_end : (k : List Item) (s t : State) → length s.store ≡ n → EndsCall r' f.here.base n x b.arguments fn.parameters g s normal t → (e : Config)
+          × (do_source P x (result b) k f.here s ≡ Some e) × RunsTo P e (config k f.here t)
+      by_end k s t l (u, o, inl (a, z)) = (
+        config (all fn.body ∷ call_behind fn x k) (callee f n x b).here u,
+        enters k s u l o,
+        y.ends (call_behind fn x k) u (jump returned) t
+            (config k f.here t) (matches k) (long s u l o) z refl,
+      )
       by_end k s t l (u, o, inr (inl (a, z))) = (config (all fn.body ∷ call_behind fn x k) (callee f n x b).here u, enters k s u l o, through_end k u t z (long s u l o))
       by_end k s t l (u, o, inr (inr (kind, a, d, z))) = absurd (not_jump kind (sym a))
 
@@ -319,7 +339,8 @@ module _ (P : Program) (T : List Site) (f : Frame) (n : ℕ) where
 not_normal : (j : Exit) → jump j ≡ normal → ⊥
 not_normal j e = cc
 
-module _ (P : Program) (T : List Site) (f : Frame) (n q at : ℕ) (b : Cond) (a step : Stmt) (g h : Node) (has : Has T q f n at) (body : Does P T (in_loop f (Some n)) n (run a) g) (stepping : Does P T (in_loop f None) n (run step) h)
+module _ (P : Program) (T : List Site) (f : Frame) (n q at : ℕ) (b : Cond) (a step : Stmt) (g h : Node) (has : Has T q f n at) (body : Does P T (in_loop f (Some n)) n (run a) g)
+    (stepping : Does P T (in_loop f None) n (run step) h)
     (body_length : Length (in_loop f (Some n)) n n g) (step_length : Length (in_loop f None) n n h) where
   abbrev L : Item
   L = run (loop at b a step)
@@ -339,7 +360,8 @@ module _ (P : Program) (T : List Site) (f : Frame) (n q at : ℕ) (b : Cond) (a 
   in_step : (k : List Item) → Matches f k → Matches (in_loop f None) (L ∷ k)
   in_step k m = record { loops = λ w z. absurd (none-some w z); backs = m.backs }
 
-  body_runs : (k : List Item) → Matches f k → (w mid : State) → length w.store ≡ n → Ends g w normal mid ⊎ Ends g w (jump continued) mid → RunsTo P (config (run a ∷ behind k) f.here w) (config (run step ∷ L ∷ k) f.here mid)
+  body_runs : (k : List Item) → Matches f k → (w mid : State) → length w.store ≡ n → Ends g w normal mid ⊎ Ends g w (jump continued) mid
+      → RunsTo P (config (run a ∷ behind k) f.here w) (config (run step ∷ L ∷ k) f.here mid)
   body_runs k m w mid l (inl e) = join P (config (run a ∷ behind k) f.here w) (config (behind k) f.here mid) (config (run step ∷ L ∷ k) f.here mid)
       (body.ends (behind k) w normal mid (config (behind k) f.here mid) (in_body k m) l e refl) (one_step P (config (behind k) f.here mid) (config (run step ∷ L ∷ k) f.here mid) refl)
   body_runs k m w mid l (inr e) = join P (config (run a ∷ behind k) f.here w) (config (behind k) f.here mid) (config (run step ∷ L ∷ k) f.here mid)
@@ -359,7 +381,8 @@ module _ (P : Program) (T : List Site) (f : Frame) (n q at : ℕ) (b : Cond) (a 
       (round_runs k m u v (rounds_length f n g h body_length step_length q f.here.base b i s u l r) (round_inv q f.here.base b g h u v o))
 
   -- out of the last round
-  leaves_run : (k : List Item) → Matches f k → (w : State) (j : Exit) (how : How) (t : State) (e : Config) → length w.store ≡ n → LeavesRound g h w j t → ((j ≡ broken) × (how ≡ normal)) ⊎ ((j ≢ broken) × (how ≡ jump j))
+  leaves_run : (k : List Item) → Matches f k → (w : State) (j : Exit) (how : How) (t : State) (e : Config) → length w.store ≡ n → LeavesRound g h w j t
+      → ((j ≡ broken) × (how ≡ normal)) ⊎ ((j ≢ broken) × (how ≡ jump j))
       → landing how f.here k t ≡ Some e → RunsTo P (config (run a ∷ behind k) f.here w) e
   leaves_run k m w broken how t e l (inl (d, y)) (inl (i, i')) z = body.ends (behind k) w (jump broken) t e (in_body k m) l y (subst (λ v. landing v f.here k t ≡ Some e) i' z)
   leaves_run k m w broken how t e l y (inr (i, i')) z = absurd (i refl)
@@ -375,7 +398,8 @@ module _ (P : Program) (T : List Site) (f : Frame) (n q at : ℕ) (b : Cond) (a 
       join P (config (run a ∷ behind k) f.here w) (config (run step ∷ L ∷ k) f.here mid) e (body_runs k m w mid l x)
       (stepping.ends (L ∷ k) mid (jump returned) t e (in_step k m) (mid_length f n g h body_length step_length w mid l x) y (subst (λ v. landing v f.here k t ≡ Some e) i' z))
 
-  loop_ends : (k : List Item) (s : State) (how : How) (t : State) (e : Config) → Matches f k → length s.store ≡ n → EndsLoop q f.here.base b g h s how t → landing how f.here k t ≡ Some e → RunsTo P (config (L ∷ k) f.here s) e
+  loop_ends : (k : List Item) (s : State) (how : How) (t : State) (e : Config) → Matches f k → length s.store ≡ n → EndsLoop q f.here.base b g h s how t → landing how f.here k t ≡ Some e
+      → RunsTo P (config (L ∷ k) f.here s) e
   loop_ends k s how t e m l (i, u, r, inl (x, o)) z =
       join P (config (L ∷ k) f.here s) (config (L ∷ k) f.here u) e (rounds_run k m i s u l r)
       (rw (← same_Some (config k f.here t) e (subst (λ v. landing v f.here k t ≡ Some e) x z)) (one_step P (config (L ∷ k) f.here u) (config k f.here t) (goes_out k u t o)))
@@ -386,11 +410,13 @@ module _ (P : Program) (T : List Site) (f : Frame) (n q at : ℕ) (b : Cond) (a 
       (leaves_run k m w j how t e (length_test f.here.base b true u w o ∙ lu) y x z))
 
   -- whole rounds, and then into the body
-  into_body : (k : List Item) → Matches f k → (i : ℕ) (s u w : State) (p : ℕ) (X : Config → Type 0) → length s.store ≡ n → Rounds (Round q f.here.base b g h) i s u → run_op (test f.here.base b true) u ≡ Some w
+  into_body : (k : List Item) → Matches f k → (i : ℕ) (s u w : State) (p : ℕ) (X : Config → Type 0) → length s.store ≡ n → Rounds (Round q f.here.base b g h) i s u
+      → run_op (test f.here.base b true) u ≡ Some w
       → Stands P T (config (run a ∷ behind k) f.here w) p X → Stands P T (config (L ∷ k) f.here s) p X
   into_body k m i s u w p X l r o z =
       later P T (config (L ∷ k) f.here s) (config (L ∷ k) f.here u) p X (rounds_run k m i s u l r)
-      (later P T (config (L ∷ k) f.here u) (config (run a ∷ behind k) f.here w) p X (one_step P (config (L ∷ k) f.here u) (config (run a ∷ behind k) f.here w) (goes_in k u w (rounds_length f n g h body_length step_length q f.here.base b i s u l r) o)) z)
+      (later P T (config (L ∷ k) f.here u) (config (run a ∷ behind k) f.here w) p X
+      (one_step P (config (L ∷ k) f.here u) (config (run a ∷ behind k) f.here w) (goes_in k u w (rounds_length f n g h body_length step_length q f.here.base b i s u l r) o)) z)
 
   loop_comes : (k : List Item) (s : State) (p : ℕ) (t : State) → Matches f k → length s.store ≡ n → Comes (loop_node q f.here.base b g h) s p t → Stands P T (config (L ∷ k) f.here s) p (HasState t)
   loop_comes k s p t m l (i, u, r, inl (x, y)) = record {
@@ -403,7 +429,8 @@ module _ (P : Program) (T : List Site) (f : Frame) (n q at : ℕ) (b : Cond) (a 
     meets = sym y;
   }
   loop_comes k s p t m l (i, u, r, inr (w, o, inl y)) =
-      into_body k m i s u w p (HasState t) l r o (body.comes (behind k) w p t (in_body k m) (length_test f.here.base b true u w o ∙ rounds_length f n g h body_length step_length q f.here.base b i s u l r) y)
+      into_body k m i s u w p (HasState t) l r o
+      (body.comes (behind k) w p t (in_body k m) (length_test f.here.base b true u w o ∙ rounds_length f n g h body_length step_length q f.here.base b i s u l r) y)
   loop_comes k s p t m l (i, u, r, inr (w, o, inr (mid, x, y))) =
       let lw = length_test f.here.base b true u w o ∙ rounds_length f n g h body_length step_length q f.here.base b i s u l r in
       into_body k m i s u w p (HasState t) l r o (later P T (config (run a ∷ behind k) f.here w) (config (run step ∷ L ∷ k) f.here mid) p (HasState t) (body_runs k m w mid lw x)
@@ -432,7 +459,8 @@ continue_step : (o : Option Turn) (m : ℕ) (h : Here) (s t : State) (e : Config
 continue_step None m h s t e a b d = absurd (none-some e d)
 continue_step (Some r) m h s t e a b d = go_is (turn r.step r.again r.length ∷ r.rest) h (run_op (keep r.length) s) t (subst (λ w. run_op (keep w) s ≡ Some t) (sym (same_Some r.length m a)) b) ∙ d
 
-leave_step : (o : Option Called) (b : Back) (v : Option State) (u t : State) (e : Config) → back_of o ≡ Some b → v ≡ Some u → run_op (keep b.length) u ≡ Some t → land_returned o t ≡ Some e → do_leave o v ≡ Some e
+leave_step : (o : Option Called) (b : Back) (v : Option State) (u t : State) (e : Config) → back_of o ≡ Some b → v ≡ Some u → run_op (keep b.length) u ≡ Some t → land_returned o t ≡ Some e
+    → do_leave o v ≡ Some e
 leave_step None b v u t e a i o d = absurd (none-some e d)
 leave_step (Some r) b v u t e a i o d =
     rw i (go_is r.rest r.back.here (run_op (keep r.back.length) u) t (subst (λ (w : Back). run_op (keep w.length) u ≡ Some t) (sym (same_Some r.back b a)) o) ∙ d)
@@ -470,19 +498,22 @@ module _ (P : Program) (T : List Site) (f : Frame) (n q : ℕ) where
   }
 
   -- a return that gives its value, or any
-  does_return : (i : Item) (op : Op) (b : Back) → f.back ≡ Some b → ((k : List Item) (s : State) → target_of (to_mark k) ≡ b.target → next P (config (i ∷ k) f.here s) ≡ do_leave (to_mark k) (run_op op s))
+  does_return : (i : Item) (op : Op) (b : Back) → f.back ≡ Some b
+      → ((k : List Item) (s : State) → target_of (to_mark k) ≡ b.target → next P (config (i ∷ k) f.here s) ≡ do_leave (to_mark k) (run_op op s))
       → Does P T f n i (return_node q op b.length n)
   does_return i op b is same = record {
     ends = λ k s h t e mm l y z.
         let one = act_seq q op (seq (act q (keep b.length)) (leave n returned)) s h t y in
         let x = jump_inv q (keep b.length) n returned one.0 h t one.2 in
         let back = mm.backs ∙ is in
-        one_step P (config (i ∷ k) f.here s) e (same k s (target_back (to_mark k) b back) ∙ leave_step (to_mark k) b (run_op op s) one.0 t e back one.1 x.1 (subst (λ w. landing w f.here k t ≡ Some e) x.0 z));
+        one_step P (config (i ∷ k) f.here s) e (same k s (target_back (to_mark k) b back)
+        ∙ leave_step (to_mark k) b (run_op op s) one.0 t e back one.1 x.1 (subst (λ w. landing w f.here k t ≡ Some e) x.0 z));
     comes = λ k s p t mm l y. elim y as (λ _. Stands P T (config (i ∷ k) f.here s) p (HasState t)) [ inl z ↦ absurd z | inr z ↦ absurd (quiet_jump (keep b.length) n returned z.0 p t z.2) ];
     fails = λ k s p mm l y. elim y as (λ _. Stands P T (config (i ∷ k) f.here s) p IsFalse) [ inl z ↦ absurd z | inr z ↦ absurd (sure_jump (keep b.length) n returned z.0 p z.2) ];
   }
 
-  does_return_call : (at : ℕ) (v : Call) (b : Back) (g : Node) → f.back ≡ Some b → GivesDoes P T f n b.target (result v) g → Does P T f n (run (return at (Some (result v)))) (seq g (seq (act q (keep b.length)) (leave n returned)))
+  does_return_call : (at : ℕ) (v : Call) (b : Back) (g : Node) → f.back ≡ Some b → GivesDoes P T f n b.target (result v) g
+      → Does P T f n (run (return at (Some (result v)))) (seq g (seq (act q (keep b.length)) (leave n returned)))
   does_return_call at v b g is y = record {
     ends = λ k s h t e mm l z w. elim (seq_inv g (seq (act q (keep b.length)) (leave n returned)) s h t z) as (λ _. RunsTo P (config (run (return at (Some (result v))) ∷ k) f.here s) e) [
       | inl u ↦ absurd (y.quiet s u.0 t l u.2)
@@ -496,17 +527,20 @@ module _ (P : Program) (T : List Site) (f : Frame) (n q : ℕ) where
     ];
     comes = λ k s p t mm l z. elim z as (λ _. Stands P T (config (run (return at (Some (result v))) ∷ k) f.here s) p (HasState t)) [
       | inl u ↦ let r = y.comes (leave_call ∷ k) s p t l u in
-          later P T (config (run (return at (Some (result v))) ∷ k) f.here s) r.0 p (HasState t) (one_step P (config (run (return at (Some (result v))) ∷ k) f.here s) r.0 (starts k s r.0 (mm.backs ∙ is) r.1)) r.2
+          later P T (config (run (return at (Some (result v))) ∷ k) f.here s) r.0 p (HasState t)
+          (one_step P (config (run (return at (Some (result v))) ∷ k) f.here s) r.0 (starts k s r.0 (mm.backs ∙ is) r.1)) r.2
       | inr u ↦ absurd (quiet_jump (keep b.length) n returned u.0 p t u.2)
     ];
     fails = λ k s p mm l z. elim z as (λ _. Stands P T (config (run (return at (Some (result v))) ∷ k) f.here s) p IsFalse) [
       | inl u ↦ let r = y.fails (leave_call ∷ k) s p l u in
-          later P T (config (run (return at (Some (result v))) ∷ k) f.here s) r.0 p IsFalse (one_step P (config (run (return at (Some (result v))) ∷ k) f.here s) r.0 (starts k s r.0 (mm.backs ∙ is) r.1)) r.2
+          later P T (config (run (return at (Some (result v))) ∷ k) f.here s) r.0 p IsFalse
+          (one_step P (config (run (return at (Some (result v))) ∷ k) f.here s) r.0 (starts k s r.0 (mm.backs ∙ is) r.1)) r.2
       | inr u ↦ absurd (sure_jump (keep b.length) n returned u.0 p u.2)
     ];
   }
     where
-      starts : (k : List Item) (s : State) (e : Config) → back_of (to_mark k) ≡ Some b → do_source P b.target (result v) (leave_call ∷ k) f.here s ≡ Some e → next P (config (run (return at (Some (result v))) ∷ k) f.here s) ≡ Some e
+      starts : (k : List Item) (s : State) (e : Config) → back_of (to_mark k) ≡ Some b → do_source P b.target (result v) (leave_call ∷ k) f.here s ≡ Some e
+          → next P (config (run (return at (Some (result v))) ∷ k) f.here s) ≡ Some e
       starts k s e back z = subst (λ w. do_source P w (result v) (leave_call ∷ k) f.here s ≡ Some e) (sym (target_back (to_mark k) b back)) z
 
   -- in `main` nothing follows
@@ -525,17 +559,20 @@ module _ (P : Program) (T : List Site) (f : Frame) (n q : ℕ) where
     ];
     comes = λ k s p t mm l z. elim z as (λ _. Stands P T (config (run (return at (Some (result v))) ∷ k) f.here s) p (HasState t)) [
       | inl u ↦ let r = y.comes (leave_call ∷ k) s p t l u in
-          later P T (config (run (return at (Some (result v))) ∷ k) f.here s) r.0 p (HasState t) (one_step P (config (run (return at (Some (result v))) ∷ k) f.here s) r.0 (starts k s r.0 (mark_none (to_mark k) (mm.backs ∙ is)) r.1)) r.2
+          later P T (config (run (return at (Some (result v))) ∷ k) f.here s) r.0 p (HasState t)
+          (one_step P (config (run (return at (Some (result v))) ∷ k) f.here s) r.0 (starts k s r.0 (mark_none (to_mark k) (mm.backs ∙ is)) r.1)) r.2
       | inr u ↦ absurd u.2
     ];
     fails = λ k s p mm l z. elim z as (λ _. Stands P T (config (run (return at (Some (result v))) ∷ k) f.here s) p IsFalse) [
       | inl u ↦ let r = y.fails (leave_call ∷ k) s p l u in
-          later P T (config (run (return at (Some (result v))) ∷ k) f.here s) r.0 p IsFalse (one_step P (config (run (return at (Some (result v))) ∷ k) f.here s) r.0 (starts k s r.0 (mark_none (to_mark k) (mm.backs ∙ is)) r.1)) r.2
+          later P T (config (run (return at (Some (result v))) ∷ k) f.here s) r.0 p IsFalse
+          (one_step P (config (run (return at (Some (result v))) ∷ k) f.here s) r.0 (starts k s r.0 (mark_none (to_mark k) (mm.backs ∙ is)) r.1)) r.2
       | inr u ↦ absurd u.2
     ];
   }
     where
-      starts : (k : List Item) (s : State) (e : Config) → to_mark k ≡ None → do_source P None (result v) (leave_call ∷ k) f.here s ≡ Some e → next P (config (run (return at (Some (result v))) ∷ k) f.here s) ≡ Some e
+      starts : (k : List Item) (s : State) (e : Config) → to_mark k ≡ None → do_source P None (result v) (leave_call ∷ k) f.here s ≡ Some e
+          → next P (config (run (return at (Some (result v))) ∷ k) f.here s) ≡ Some e
       starts k s e i z = subst (λ w. do_source P (target_of w) (result v) (leave_call ∷ k) f.here s ≡ Some e) (sym i) z
 
   -- a declarator that gives its variable a value
@@ -554,7 +591,8 @@ module _ (P : Program) (T : List Site) (f : Frame) (n q : ℕ) where
     ];
   }
     where
-      starts : (k : List Item) (s u : State) (e : Config) → length s.store ≡ n → run_op append s ≡ Some u → do_source P (Some n) a k f.here u ≡ Some e → next P (config (declare d ∷ k) f.here s) ≡ Some e
+      starts : (k : List Item) (s u : State) (e : Config) → length s.store ≡ n → run_op append s ≡ Some u → do_source P (Some n) a k f.here u ≡ Some e
+          → next P (config (declare d ∷ k) f.here s) ≡ Some e
       starts k s u e l o z = subst (λ w. do_declare P w k f.here s ≡ Some e) (sym same)
           (go_on_is (run_op append s) (do_source P (Some (length s.store)) a k f.here) u o ∙ subst (λ w. do_source P (Some w) a k f.here u ≡ Some e) (sym l) z)
 
@@ -565,24 +603,34 @@ module _ (P : Program) (T : List Site) (f : Frame) (n q : ℕ) where
           rw (← same_Some (config k f.here t) e w) (step_to P (config (declare d ∷ k) f.here s) r.0 (config k f.here t) (starts k s u r.0 l o r.1) r.2)
       by_how k s (jump j) t e l (u, o, z) w = absurd (y.quiet u j t (length_append s u o ∙ ap suc l) z)
 
-  does_for : (init : BlockItems) (again : Stmt) (g h : Node) (n' : ℕ) → Length f n n' g → Length f n' n' h → Does P T f n (all init) g → Does P T f n' (run again) h → Does P T f n (run (for init again)) (seq g (seq h (act q (keep n))))
+  does_for : (init : BlockItems) (again : Stmt) (g h : Node) (n' : ℕ) → Length f n n' g → Length f n' n' h → Does P T f n (all init) g → Does P T f n' (run again) h
+      → Does P T f n (run (for init again)) (seq g (seq h (act q (keep n))))
   does_for init again g h n' lg lh x y = record {
-    ends = λ k s how t e mm l z w. step_to P (config (run (for init again) ∷ k) f.here s) (config (all init ∷ run again ∷ cut n ∷ k) f.here s) e (starts k s l) (elim (seq_inv g (seq h (act q (keep n))) s how t z) as (λ _. RunsTo P (config (all init ∷ run again ∷ cut n ∷ k) f.here s) e) [
-      | inl u ↦ x.ends (run again ∷ cut n ∷ k) s (jump u.0) t e (deeper k mm) l u.2 (skips u.0 k t ∙ subst (λ v. landing v f.here k t ≡ Some e) u.1 w)
-      | inr u ↦ join P (config (all init ∷ run again ∷ cut n ∷ k) f.here s) (config (run again ∷ cut n ∷ k) f.here u.0) e (x.ends (run again ∷ cut n ∷ k) s normal u.0 (config (run again ∷ cut n ∷ k) f.here u.0) (deeper k mm) l u.1 refl)
-          ((does_seq P T f n' (run again) (cut n) n' h (act q (keep n)) (λ k. refl) (λ k. refl) lh y (does_act P T f n' q (keep n) (cut n) (λ k s. refl)) k u.0 mm (lg.ends s u.0 normal l u.1)).0 how t e u.2 w)
-    ]);
-    comes = λ k s p t mm l z. later P T (config (run (for init again) ∷ k) f.here s) (config (all init ∷ run again ∷ cut n ∷ k) f.here s) p (HasState t) (one_step P (config (run (for init again) ∷ k) f.here s) (config (all init ∷ run again ∷ cut n ∷ k) f.here s) (starts k s l))
+    ends = λ k s how t e mm l z w. step_to P (config (run (for init again) ∷ k) f.here s) (config (all init ∷ run again ∷ cut n ∷ k) f.here s) e (starts k s l)
+        (elim (seq_inv g (seq h (act q (keep n))) s how t z) as (λ _. RunsTo P (config (all init ∷ run again ∷ cut n ∷ k) f.here s) e) [
+          | inl u ↦ x.ends (run again ∷ cut n ∷ k) s (jump u.0) t e (deeper k mm) l u.2 (skips u.0 k t ∙ subst (λ v. landing v f.here k t ≡ Some e) u.1 w)
+          | inr u ↦ join P (config (all init ∷ run again ∷ cut n ∷ k) f.here s) (config (run again ∷ cut n ∷ k) f.here u.0) e
+              (x.ends (run again ∷ cut n ∷ k) s normal u.0 (config (run again ∷ cut n ∷ k) f.here u.0) (deeper k mm) l u.1 refl)
+              ((does_seq P T f n' (run again) (cut n) n' h (act q (keep n)) (λ k. refl) (λ k. refl) lh y (does_act P T f n' q (keep n) (cut n) (λ k s. refl)) k u.0 mm (lg.ends s u.0 normal l u.1)).0
+              how t e u.2 w)
+        ]);
+    comes = λ k s p t mm l z. later P T (config (run (for init again) ∷ k) f.here s) (config (all init ∷ run again ∷ cut n ∷ k) f.here s) p (HasState t)
+        (one_step P (config (run (for init again) ∷ k) f.here s) (config (all init ∷ run again ∷ cut n ∷ k) f.here s) (starts k s l))
         (elim z as (λ _. Stands P T (config (all init ∷ run again ∷ cut n ∷ k) f.here s) p (HasState t)) [
           | inl u ↦ x.comes (run again ∷ cut n ∷ k) s p t (deeper k mm) l u
-          | inr u ↦ later P T (config (all init ∷ run again ∷ cut n ∷ k) f.here s) (config (run again ∷ cut n ∷ k) f.here u.0) p (HasState t) (x.ends (run again ∷ cut n ∷ k) s normal u.0 (config (run again ∷ cut n ∷ k) f.here u.0) (deeper k mm) l u.1 refl)
-              ((does_seq P T f n' (run again) (cut n) n' h (act q (keep n)) (λ k. refl) (λ k. refl) lh y (does_act P T f n' q (keep n) (cut n) (λ k s. refl)) k u.0 mm (lg.ends s u.0 normal l u.1)).1 p t u.2)
+          | inr u ↦ later P T (config (all init ∷ run again ∷ cut n ∷ k) f.here s) (config (run again ∷ cut n ∷ k) f.here u.0) p (HasState t)
+              (x.ends (run again ∷ cut n ∷ k) s normal u.0 (config (run again ∷ cut n ∷ k) f.here u.0) (deeper k mm) l u.1 refl)
+              ((does_seq P T f n' (run again) (cut n) n' h (act q (keep n)) (λ k. refl) (λ k. refl) lh y (does_act P T f n' q (keep n) (cut n) (λ k s. refl)) k u.0 mm
+              (lg.ends s u.0 normal l u.1)).1 p t u.2)
         ]);
-    fails = λ k s p mm l z. later P T (config (run (for init again) ∷ k) f.here s) (config (all init ∷ run again ∷ cut n ∷ k) f.here s) p IsFalse (one_step P (config (run (for init again) ∷ k) f.here s) (config (all init ∷ run again ∷ cut n ∷ k) f.here s) (starts k s l))
+    fails = λ k s p mm l z. later P T (config (run (for init again) ∷ k) f.here s) (config (all init ∷ run again ∷ cut n ∷ k) f.here s) p IsFalse
+        (one_step P (config (run (for init again) ∷ k) f.here s) (config (all init ∷ run again ∷ cut n ∷ k) f.here s) (starts k s l))
         (elim z as (λ _. Stands P T (config (all init ∷ run again ∷ cut n ∷ k) f.here s) p IsFalse) [
           | inl u ↦ x.fails (run again ∷ cut n ∷ k) s p (deeper k mm) l u
-          | inr u ↦ later P T (config (all init ∷ run again ∷ cut n ∷ k) f.here s) (config (run again ∷ cut n ∷ k) f.here u.0) p IsFalse (x.ends (run again ∷ cut n ∷ k) s normal u.0 (config (run again ∷ cut n ∷ k) f.here u.0) (deeper k mm) l u.1 refl)
-              ((does_seq P T f n' (run again) (cut n) n' h (act q (keep n)) (λ k. refl) (λ k. refl) lh y (does_act P T f n' q (keep n) (cut n) (λ k s. refl)) k u.0 mm (lg.ends s u.0 normal l u.1)).2 p u.2)
+          | inr u ↦ later P T (config (all init ∷ run again ∷ cut n ∷ k) f.here s) (config (run again ∷ cut n ∷ k) f.here u.0) p IsFalse
+              (x.ends (run again ∷ cut n ∷ k) s normal u.0 (config (run again ∷ cut n ∷ k) f.here u.0) (deeper k mm) l u.1 refl)
+              ((does_seq P T f n' (run again) (cut n) n' h (act q (keep n)) (λ k. refl) (λ k. refl) lh y (does_act P T f n' q (keep n) (cut n) (λ k s. refl)) k u.0 mm
+              (lg.ends s u.0 normal l u.1)).2 p u.2)
         ]);
   }
     where
@@ -605,9 +653,11 @@ mutual
   does_one {P = P} {T = T} (as_block f n q body end g n' q' d i) = does_two P T f n (run (block body end)) (all body) (end_of end n) n' g (seq (point q') (act q' (keep n)))
       (λ k s l. rw l refl) (λ k. refl) (λ k. refl) (length_all d) (does_all d) (does_end P T f n n' q' end i)
   does_one {P = P} {T = T} (as_absent f n q) = does_empty P T f n (run absent) (λ k s. refl)
-  does_one {P = P} {T = T} (as_assign f n q at x e g q' i d) = does_point P T f n q at (run (assign at x e)) g i (λ k. refl) (does_source P T f n (assign at x e) (Some (index_of f.here.base x)) e g (λ k s l. refl) (does_gives d))
+  does_one {P = P} {T = T} (as_assign f n q at x e g q' i d) = does_point P T f n q at (run (assign at x e)) g i (λ k. refl)
+      (does_source P T f n (assign at x e) (Some (index_of f.here.base x)) e g (λ k s l. refl) (does_gives d))
   does_one {P = P} {T = T} (as_call f n q at c g q' i d) = does_point P T f n q at (run (call at c)) g i (λ k. refl) (does_source P T f n (call at c) None (result c) g (λ k s l. refl) (does_gives d))
-  does_one {P = P} {T = T} (as_if f n q at c a b g h r q' i d e) = does_point P T f n q at (run (if at c a b)) (choose q f.here.base c g h) i (λ k. refl) (does_if P T f n q at c a b g h (does_one d) (does_one e))
+  does_one {P = P} {T = T} (as_if f n q at c a b g h r q' i d e) = does_point P T f n q at (run (if at c a b)) (choose q f.here.base c g h) i (λ k. refl)
+      (does_if P T f n q at c a b g h (does_one d) (does_one e))
   does_one (as_loop f n q s g q' d) = does_loops d
   does_one {P = P} {T = T} (as_for f n q init again g h n' r q' d e) = does_for P T f n q init again g h n' (length_all d) (length_loop e) (does_all d) (does_loops e)
   does_one {P = P} {T = T} (as_break f n q at m i k j) = does_point P T f n q at (run (break at)) (seq (act q (keep m)) (leave n broken)) j (λ k. refl) (does_break P T f n q at m i)
@@ -616,20 +666,27 @@ mutual
       (does_return P T f n q (run (return at None)) (give_any b.target) b i (λ k s z. ap (λ x. do_leave (to_mark k) (run_any x s)) z))
   does_one {P = P} {T = T} (as_return_value f n q at e b i k j) = does_point P T f n q at (run (return at (Some (value e)))) (return_node q (give f.here.base b.target e) b.length n) j (λ k. refl)
       (does_return P T f n q (run (return at (Some (value e)))) (give f.here.base b.target e) b i (λ k s z. ap (λ x. do_leave (to_mark k) (run_op (give f.here.base x e) s)) z))
-  does_one {P = P} {T = T} (as_return_call f n q at c b g q' i k j d) = does_point P T f n q at (run (return at (Some (result c)))) (seq g (seq (act q (keep b.length)) (leave n returned))) j (λ k. refl) (does_return_call P T f n q at c b g i (does_gives d))
+  does_one {P = P} {T = T} (as_return_call f n q at c b g q' i k j d) = does_point P T f n q at (run (return at (Some (result c)))) (seq g (seq (act q (keep b.length)) (leave n returned))) j
+      (λ k. refl) (does_return_call P T f n q at c b g i (does_gives d))
   does_one {P = P} {T = T} (as_end f n q at i j) = does_point P T f n q at (run (return at None)) (leave n returned) j (λ k. refl) (does_stop P T f n q (run (return at None)) i)
-  does_one {P = P} {T = T} (as_end_value f n q at e i j) = does_point P T f n q at (run (return at (Some (value e)))) (leave n returned) j (λ k. refl) (does_stop P T f n q (run (return at (Some (value e)))) i)
-  does_one {P = P} {T = T} (as_end_call f n q at c g q' i j d) = does_point P T f n q at (run (return at (Some (result c)))) (seq g (leave n returned)) j (λ k. refl) (does_stop_call P T f n q at c g i (does_gives d))
+  does_one {P = P} {T = T} (as_end_value f n q at e i j) = does_point P T f n q at (run (return at (Some (value e)))) (leave n returned) j (λ k. refl)
+      (does_stop P T f n q (run (return at (Some (value e)))) i)
+  does_one {P = P} {T = T} (as_end_call f n q at c g q' i j d) = does_point P T f n q at (run (return at (Some (result c)))) (seq g (leave n returned)) j (λ k. refl)
+      (does_stop_call P T f n q at c g i (does_gives d))
   does_one {P = P} {T = T} (as_assert f n q at c i) = does_assert P T f n q at c i
-  does_one {P = P} {T = T} (as_assume f n q at c i) = does_point P T f n q at (run (assume at c)) (act q (test f.here.base c true)) i (λ k. refl) (does_act P T f n q (test f.here.base c true) (run (assume at c)) (λ k s. refl))
+  does_one {P = P} {T = T} (as_assume f n q at c i) = does_point P T f n q at (run (assume at c)) (act q (test f.here.base c true)) i (λ k. refl)
+      (does_act P T f n q (test f.here.base c true) (run (assume at c)) (λ k s. refl))
 
   pub does_all : {P : Program} {T : List Site} {f : Frame} {n q : ℕ} {a : BlockItems} {g : Node} {n' q' : ℕ} → InlAll P T f n q a g n' q' → Does P T f n (all a) g
   does_all {P = P} {T = T} (as_none f n q) = does_empty P T f n (all no_more) (λ k s. refl)
-  does_all {P = P} {T = T} (as_declaration f n q d b g h r n' q' i j e) = does_two P T f n (all (declaration d b)) (declare d) (all b) (suc n) (seq (point q) g) h (λ k s l. refl) (λ k. refl) (λ k. refl) (length_declarator q j)
+  does_all {P = P} {T = T} (as_declaration f n q d b g h r n' q' i j e) = does_two P T f n (all (declaration d b)) (declare d) (all b) (suc n) (seq (point q) g) h (λ k s l. refl) (λ k. refl)
+      (λ k. refl) (length_declarator q j)
       (does_point P T f n q d.label (declare d) g i (λ k. refl) (does_declares d j refl)) (does_all e)
-  does_all {P = P} {T = T} (as_statement f n q a b g h r n' q' d e) = does_two P T f n (all (statement a b)) (run a) (all b) n g h (λ k s l. refl) (λ k. refl) (λ k. refl) (length_one d) (does_one d) (does_all e)
+  does_all {P = P} {T = T} (as_statement f n q a b g h r n' q' d e) = does_two P T f n (all (statement a b)) (run a) (all b) n g h (λ k s l. refl) (λ k. refl) (λ k. refl) (length_one d)
+      (does_one d) (does_all e)
 
-  pub does_declares : {P : Program} {T : List Site} {f : Frame} {n q r : ℕ} {o : Option Source} {g : Node} {q' : ℕ} (d : Declarator) → Declares P T f n q r o g q' → d.source ≡ o → Does P T f n (declare d) g
+  pub does_declares : {P : Program} {T : List Site} {f : Frame} {n q r : ℕ} {o : Option Source} {g : Node} {q' : ℕ} (d : Declarator) → Declares P T f n q r o g q' → d.source ≡ o
+      → Does P T f n (declare d) g
   does_declares {P = P} {T = T} d (as_fresh f n q r) same = does_act P T f n q append (declare d) (λ k s. ap (λ w. do_declare P w k f.here s) same)
   does_declares {P = P} {T = T} d (as_given f n q r e g q' x) same = does_given P T f n q d e g same (does_gives x)
 

@@ -16,31 +16,30 @@ module _ (P : Program) (left t : ℕ) where
   stmt_falls : (n : ℕ) (s s' : Stmt) → Weighs (size_stmt s) → s ≡ s' → n < size_stmt s' → Falls n
   stmt_falls n s s' e i l = part_falls n (size_stmt s) e (subst (λ z. n < size_stmt z) (sym i) l)
 
-  pub block_falls : (s : Stmt) (b b' : BlockItems) (at : ℕ) → Weighs (size_stmt s) → s ≡ block b at → b' ≡ b → Falls (size_items b')
-  block_falls s b b' at e i j = subst (λ z. Falls (size_items z)) (sym j) (stmt_falls (size_items b) s (block b at) e i (omega arith))
+  pub block_falls : (s : Stmt) (b b' : BlockItems) (at : ℕ) → Weighs (size_stmt s) → s ≡ block b at → b' ≡ b → Falls (1 + size_items b')
+  block_falls s b b' at e i j = subst (λ z. Falls (1 + size_items z)) (sym j) (stmt_falls (1 + size_items b) s (block b at) e i (omega arith))
 
-  pub assign_falls : (s : Stmt) (at : ℕ) (v : Slot) (x : Source) → Weighs (size_stmt s) → s ≡ assign at v x → Falls 3
-  assign_falls s at v x e i = stmt_falls 3 s (assign at v x) e i (omega arith)
+  pub assign_falls : (s : Stmt) (at : ℕ) (v : Slot) (x : Source) → Weighs (size_stmt s) → s ≡ assign at v x → Falls 4
+  assign_falls s at v x e i = stmt_falls 4 s (assign at v x) e i (omega arith)
 
-  pub call_falls : (s : Stmt) (at : ℕ) (c : Call) → Weighs (size_stmt s) → s ≡ call at c → Falls 2
-  call_falls s at c e i = stmt_falls 2 s (call at c) e i (omega arith)
+  pub call_falls : (s : Stmt) (at : ℕ) (c : Call) → Weighs (size_stmt s) → s ≡ call at c → Falls 3
+  call_falls s at c e i = stmt_falls 3 s (call at c) e i (omega arith)
 
-  pub true_falls : (s : Stmt) (at : ℕ) (c : Cond) (a b a' : Stmt) → Weighs (size_stmt s) → s ≡ if at c a b → a' ≡ a → Falls (size_stmt a')
-  true_falls s at c a b a' e i j = subst (λ z. Falls (size_stmt z)) (sym j) (stmt_falls (size_stmt a) s (if at c a b) e i (omega arith))
-
-  pub false_falls : (s : Stmt) (at : ℕ) (c : Cond) (a b b' : Stmt) → Weighs (size_stmt s) → s ≡ if at c a b → b' ≡ b → Falls (size_stmt b')
-  false_falls s at c a b b' e i j = subst (λ z. Falls (size_stmt z)) (sym j) (stmt_falls (size_stmt b) s (if at c a b) e i (omega arith))
+  pub if_falls : (s : Stmt) (at : ℕ) (c : Cond) (a b : Stmt) → Weighs (size_stmt s) → s ≡ if at c a b → Falls (1 + (size_stmt a + size_stmt b))
+  if_falls s at c a b e i = stmt_falls (1 + (size_stmt a + size_stmt b)) s (if at c a b) e i (omega arith)
 
   pub loop_falls : (s : Stmt) (at : ℕ) (c : Cond) (a b a' b' : Stmt) → Weighs (size_stmt s) → s ≡ loop at c a b → a' ≡ a → b' ≡ b → Falls (1 + (size_stmt a' + size_stmt b'))
   loop_falls s at c a b a' b' e i j k =
-      subst (λ z. Falls (1 + (size_stmt z + size_stmt b'))) (sym j) (subst (λ z. Falls (1 + (size_stmt a + size_stmt z))) (sym k) (stmt_falls (1 + (size_stmt a + size_stmt b)) s (loop at c a b) e i (omega arith)))
+      subst (λ z. Falls (1 + (size_stmt z + size_stmt b'))) (sym j)
+      (subst (λ z. Falls (1 + (size_stmt a + size_stmt z))) (sym k) (stmt_falls (1 + (size_stmt a + size_stmt b)) s (loop at c a b) e i (omega arith)))
 
   pub for_falls : (s : Stmt) (b b' : BlockItems) (a a' : Stmt) → Weighs (size_stmt s) → s ≡ for b a → b' ≡ b → a' ≡ a → Falls (1 + (size_items b' + size_stmt a'))
   for_falls s b b' a a' e i j k =
-      subst (λ z. Falls (1 + (size_items z + size_stmt a'))) (sym j) (subst (λ z. Falls (1 + (size_items b + size_stmt z))) (sym k) (stmt_falls (1 + (size_items b + size_stmt a)) s (for b a) e i (omega arith)))
+      subst (λ z. Falls (1 + (size_items z + size_stmt a'))) (sym j)
+      (subst (λ z. Falls (1 + (size_items b + size_stmt z))) (sym k) (stmt_falls (1 + (size_items b + size_stmt a)) s (for b a) e i (omega arith)))
 
-  pub return_falls : (s : Stmt) (at : ℕ) (o : Option Source) → Weighs (size_stmt s) → s ≡ return at o → Falls 4
-  return_falls s at o e i = stmt_falls 4 s (return at o) e i (omega arith)
+  pub return_falls : (s : Stmt) (at : ℕ) (o : Option Source) → Weighs (size_stmt s) → s ≡ return at o → Falls 5
+  return_falls s at o e i = stmt_falls 5 s (return at o) e i (omega arith)
 
   pub step_falls : (a b : Stmt) → Weighs (1 + (size_stmt a + size_stmt b)) → Falls (size_stmt b)
   step_falls a b e = part_falls (size_stmt b) (1 + (size_stmt a + size_stmt b)) e (omega arith)
@@ -51,7 +50,8 @@ module _ (P : Program) (left t : ℕ) where
   pub init_falls : (b : BlockItems) (s : Stmt) → Weighs (1 + (size_items b + size_stmt s)) → Falls (size_items b)
   init_falls b s e = part_falls (size_items b) (1 + (size_items b + size_stmt s)) e (omega arith)
 
-  pub again_falls : (d : BlockItems) (s : Stmt) (at : ℕ) (c : Cond) (a b a' b' : Stmt) → Weighs (1 + (size_items d + size_stmt s)) → s ≡ loop at c a b → a' ≡ a → b' ≡ b → Falls (1 + (size_stmt a' + size_stmt b'))
+  pub again_falls : (d : BlockItems) (s : Stmt) (at : ℕ) (c : Cond) (a b a' b' : Stmt) → Weighs (1 + (size_items d + size_stmt s)) → s ≡ loop at c a b → a' ≡ a → b' ≡ b
+      → Falls (1 + (size_stmt a' + size_stmt b'))
   again_falls d s at c a b a' b' e i j k =
       let all = subst (λ z. Weighs (1 + (size_items d + size_stmt z))) i e in
       let less = part_falls (1 + (size_stmt a + size_stmt b)) (1 + (size_items d + size_stmt (loop at c a b))) all (omega arith) in

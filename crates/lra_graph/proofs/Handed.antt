@@ -27,13 +27,16 @@ module _ (P : Program) (path : List ℕ) (r : Frame) (S : List Site) where
     pub stmt_limit : (s s' : Stmt) → s ≡ s' → OnLimit b (λ x. walk S (on_stmt s') ≡ stopped x) → OnLimit b (λ x. walk S (on_stmt s) ≡ stopped x)
     stmt_limit s s' e h = subst (λ z. OnLimit b (λ x. walk S (on_stmt z) ≡ stopped x)) (sym e) h
 
-    pub loop_limit : (V : List Site) (s : Stmt) (at : ℕ) (c : Cond) (a t a' t' : Stmt) → s ≡ loop at c a t → a' ≡ a → t' ≡ t → walk S (own at) ≡ passed V → OnLimit b (λ x. walk V (on_stmt t' ++ on_stmt a') ≡ stopped x)
+    pub loop_limit : (V : List Site) (s : Stmt) (at : ℕ) (c : Cond) (a t a' t' : Stmt) → s ≡ loop at c a t → a' ≡ a → t' ≡ t → walk S (own at) ≡ passed V
+        → OnLimit b (λ x. walk V (on_stmt t' ++ on_stmt a') ≡ stopped x)
         → OnLimit b (λ x. walk S (on_stmt s) ≡ stopped x)
     loop_limit V s at c a t a' t' e i j w h =
         let h' = subst (λ z. OnLimit b (λ x. walk V (on_stmt t ++ on_stmt z) ≡ stopped x)) i (subst (λ z. OnLimit b (λ x. walk V (on_stmt z ++ on_stmt a') ≡ stopped x)) j h) in
-        stmt_limit s (loop at c a t) e (limit_through b (λ x. walk V (on_stmt t ++ on_stmt a) ≡ stopped x) (λ x. walk S (on_stmt (loop at c a t)) ≡ stopped x) (λ x k. second_stopped S V (own at) (on_stmt t ++ on_stmt a) x w k) h')
+        stmt_limit s (loop at c a t) e (limit_through b (λ x. walk V (on_stmt t ++ on_stmt a) ≡ stopped x) (λ x. walk S (on_stmt (loop at c a t)) ≡ stopped x)
+        (λ x k. second_stopped S V (own at) (on_stmt t ++ on_stmt a) x w k) h')
 
-    pub for_limit : (s : Stmt) (d d' : BlockItems) (a a' : Stmt) → s ≡ for d a → d' ≡ d → a' ≡ a → OnLimit b (λ x. walk S (on_stmt (for d' a')) ≡ stopped x) → OnLimit b (λ x. walk S (on_stmt s) ≡ stopped x)
+    pub for_limit : (s : Stmt) (d d' : BlockItems) (a a' : Stmt) → s ≡ for d a → d' ≡ d → a' ≡ a → OnLimit b (λ x. walk S (on_stmt (for d' a')) ≡ stopped x)
+        → OnLimit b (λ x. walk S (on_stmt s) ≡ stopped x)
     for_limit s d d' a a' e i j h =
         stmt_limit s (for d a) e (subst (λ z. OnLimit b (λ x. walk S (on_stmt (for d z)) ≡ stopped x)) j (subst (λ z. OnLimit b (λ x. walk S (on_stmt (for z a')) ≡ stopped x)) i h))
 
@@ -41,21 +44,28 @@ module _ (P : Program) (path : List ℕ) (r : Frame) (S : List Site) where
       pub stmt_handed : (s s' : Stmt) → s ≡ s' → IfOk b (λ g. WritesStmt P path r S s' (view g) U) → IfOk b (λ g. WritesStmt P path r S s (view g) U)
       stmt_handed s s' e h = subst (λ z. IfOk b (λ g. WritesStmt P path r S z (view g) U)) (sym e) h
 
-      pub loop_handed : (V : List Site) (q : ℕ) (s : Stmt) (at : ℕ) (c : Cond) (a t a' t' : Stmt) → s ≡ loop at c a t → a' ≡ a → t' ≡ t → q ≡ length S → walk S (own at) ≡ passed V → IfOk b (λ g. WritesLoop P path r q V c a' t' (view g) U)
+      pub loop_handed : (V : List Site) (q : ℕ) (s : Stmt) (at : ℕ) (c : Cond) (a t a' t' : Stmt) → s ≡ loop at c a t → a' ≡ a → t' ≡ t → q ≡ length S → walk S (own at) ≡ passed V
+          → IfOk b (λ g. WritesLoop P path r q V c a' t' (view g) U)
           → IfOk b (λ g. WritesStmt P path r S s (view g) U)
       loop_handed V q s at c a t a' t' e i j n w h =
           let h' = subst (λ z. IfOk b (λ g. WritesLoop P path r q V c z t (view g) U)) i (subst (λ z. IfOk b (λ g. WritesLoop P path r q V c a' z (view g) U)) j h) in
-          stmt_handed s (loop at c a t) e (ok_through b (λ g. WritesLoop P path r q V c a t (view g) U) (λ g. WritesStmt P path r S (loop at c a t) (view g) U) (λ g x. loop_written P path r S V U q at c a t (view g) n w x) h')
+          stmt_handed s (loop at c a t) e (ok_through b (λ g. WritesLoop P path r q V c a t (view g) U) (λ g. WritesStmt P path r S (loop at c a t) (view g) U)
+          (λ g x. loop_written P path r S V U q at c a t (view g) n w x) h')
 
-      pub for_handed : (s : Stmt) (d d' : BlockItems) (a a' : Stmt) → s ≡ for d a → d' ≡ d → a' ≡ a → IfOk b (λ g. WritesStmt P path r S (for d' a') (view g) U) → IfOk b (λ g. WritesStmt P path r S s (view g) U)
+      pub for_handed : (s : Stmt) (d d' : BlockItems) (a a' : Stmt) → s ≡ for d a → d' ≡ d → a' ≡ a → IfOk b (λ g. WritesStmt P path r S (for d' a') (view g) U)
+          → IfOk b (λ g. WritesStmt P path r S s (view g) U)
       for_handed s d d' a a' e i j h =
           stmt_handed s (for d a) e (subst (λ z. IfOk b (λ g. WritesStmt P path r S (for d z) (view g) U)) j (subst (λ z. IfOk b (λ g. WritesStmt P path r S (for z a') (view g) U)) i h))
 
-      pub break_handed : (s : Stmt) (at : ℕ) → s ≡ break at → ((m : ℕ) → r.loop_length ≡ Some m → m ≤ r.live) → IfOk b (λ g. LeavesLoop path r S at broken (view g) U) → IfOk b (λ g. WritesStmt P path r S s (view g) U)
-      break_handed s at e low h = stmt_handed s (break at) e (ok_through b (λ g. LeavesLoop path r S at broken (view g) U) (λ g. WritesStmt P path r S (break at) (view g) U) (λ g x. x P not_broken low) h)
+      pub break_handed : (s : Stmt) (at : ℕ) → s ≡ break at → ((m : ℕ) → r.loop_length ≡ Some m → m ≤ r.live) → IfOk b (λ g. LeavesLoop path r S at broken (view g) U)
+          → IfOk b (λ g. WritesStmt P path r S s (view g) U)
+      break_handed s at e low h = stmt_handed s (break at) e
+          (ok_through b (λ g. LeavesLoop path r S at broken (view g) U) (λ g. WritesStmt P path r S (break at) (view g) U) (λ g x. x P not_broken low) h)
 
-      pub continue_handed : (s : Stmt) (at : ℕ) → s ≡ continue at → ((m : ℕ) → r.loop_length ≡ Some m → m ≤ r.live) → IfOk b (λ g. LeavesLoop path r S at continued (view g) U) → IfOk b (λ g. WritesStmt P path r S s (view g) U)
-      continue_handed s at e low h = stmt_handed s (continue at) e (ok_through b (λ g. LeavesLoop path r S at continued (view g) U) (λ g. WritesStmt P path r S (continue at) (view g) U) (λ g x. x P not_continued low) h)
+      pub continue_handed : (s : Stmt) (at : ℕ) → s ≡ continue at → ((m : ℕ) → r.loop_length ≡ Some m → m ≤ r.live) → IfOk b (λ g. LeavesLoop path r S at continued (view g) U)
+          → IfOk b (λ g. WritesStmt P path r S s (view g) U)
+      continue_handed s at e low h = stmt_handed s (continue at) e (ok_through b (λ g. LeavesLoop path r S at continued (view g) U) (λ g. WritesStmt P path r S (continue at) (view g) U)
+          (λ g x. x P not_continued low) h)
 
       pub any_handed : (s s' : Stmt) → s ≡ s' → IfOk b (λ g. (Q : Program) → WritesStmt Q path r S s' (view g) U) → IfOk b (λ g. WritesStmt P path r S s (view g) U)
       any_handed s s' e h = stmt_handed s s' e (ok_through b (λ g. (Q : Program) → WritesStmt Q path r S s' (view g) U) (λ g. WritesStmt P path r S s' (view g) U) (λ g x. x P) h)

@@ -1,5 +1,5 @@
 -- Items one after the other: what each of them does to those behind it, and what is written of all of them so far.
-use Rattle.std.proofs.Common.{◌≡◌, ℕ, suc, ◌+◌, ◌-◌, ◌<◌, ◌≤◌, List, [], ◌∷◌, ◌++◌, length, map, drop, get_or, Result, Err, false, refl, sym, ap, ◌∙◌, subst, arith}
+use Rattle.std.proofs.Common.{◌≡◌, ℕ, suc, ◌+◌, ◌-◌, ◌<◌, ◌≤◌, List, [], ◌∷◌, ◌++◌, length, map, drop, get_or, false, refl, sym, ap, ◌∙◌, subst, arith}
 use Rattle.std.proofs.lemmas.List.{drop_all}
 use Rattle.lra_tree.specs.Program as program
 use Rattle.lra_tree.specs.Program.{no_more, declaration, statement}
@@ -13,11 +13,9 @@ use Rattle.lra_tree.specs.declared.program.BlockItem as code_item
 use Rattle.lra_tree.specs.ProgramViews.{declarator_view, stmt_view, item_view, items_of}
 use Rattle.lra_tree.specs.GraphViews.{node_view, row}
 use Rattle.lra_graph.specs.declared.points.Limit.{Limit}
-use Rattle.lra_graph.specs.declared.points.GraphError.{GraphError}
 use Rattle.lra_graph.specs.declared.frame.Frame.{Frame}
-use Rattle.lra_graph.specs.Limits.{walk, stopped, OnError, OnLimit}
+use Rattle.lra_graph.specs.Limits.{walk, stopped}
 use Rattle.lra_graph.specs.Building.{inside, StmtStands, GivenStands, ItemsStand, ItemStands, WritesStmt, WritesDeclared, WritesItems, WritesItem, StopsItem}
-use Rattle.lra_graph.proofs.Stopping.{limit_to}
 use Rattle.lra_graph.proofs.Writing.{Pointed, site, none_written, statement_written, declaration_written}
 use Rattle.lra_graph.proofs.Standing.{first_stands, others_stand, declared_stands, behind_stand}
 use Rattle.lra_graph.proofs.Items.{declaration_at_point, declaration_at_given, declaration_at_others, statement_at_first, statement_at_others, lighter}
@@ -48,7 +46,8 @@ module _ (P : program.Program) (path : List ℕ) (r : Frame) (S : List Site) whe
     pub declared_stops : (x : Limit) → walk S (plain_site path d.label r.live ∷ []) ≡ stopped x → StopsItem P path r S item x
     declared_stops x h b = declaration_at_point P path r S (item b) d b (is b) x h
 
-    pub given_stops : (V : List Site) (n : ℕ) → Pointed S (site P path r d.label r.live false) V → n ≡ suc r.live → (x : Limit) → walk V (given_events (inside P path r) path n d.source) ≡ stopped x → StopsItem P path r S item x
+    pub given_stops : (V : List Site) (n : ℕ) → Pointed S (site P path r d.label r.live false) V → n ≡ suc r.live → (x : Limit)
+        → walk V (given_events (inside P path r) path n d.source) ≡ stopped x → StopsItem P path r S item x
     given_stops V n at same x h b = declaration_at_given P path r S (item b) d b (is b) V n at same x h
 
     pub given_item_stands : (n : ℕ) → n ≡ suc r.live → ItemStands P r item → GivenStands P (record r { live = n }) d.source
@@ -156,7 +155,3 @@ module _ (P : program.Program) (path : List ℕ) (r : Frame) (S : List Site) (al
     pub items_end : (g : Node) → g ≡ row (map node_view gs) empty → WritesItems P path r S all g V
     items_end g is = subst (λ z. WritesItems P path r S all z V) (sym is)
         (loop.writes empty V (subst (λ z. WritesItems P path (record r { live = n }) V z empty V) (sym none_rest) (none_written P path (record r { live = n }) V)))
-
--- a limit that an item passes is handed on
-pub stopped_by : {A : Type 0} (b : Result A GraphError) (d e : GraphError) (X Y : Limit → Type 0) → b ≡ Err d → d ≡ e → ((x : Limit) → X x → Y x) → OnError e X → OnLimit b Y
-stopped_by b d e X Y i j f h = limit_to b d e X Y i j f h

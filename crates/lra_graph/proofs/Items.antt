@@ -32,7 +32,8 @@ module _ (P : program.Program) (path : List ℕ) (r : Frame) (S : List Site) (al
           (middle_stopped S V (plain_site path d.label r.live ∷ []) (given_events (inside P path r) path (suc r.live) d.source) (items_events (inside P path r) path (suc r.live) b) x point
           (subst (λ z. walk V (given_events (inside P path r) path z d.source) ≡ stopped x) same h))
 
-      pub declaration_at_others : (W : List Site) (x : Limit) → walk V (given_events (inside P path r) path (suc r.live) d.source) ≡ passed W → walk W (items_events (inside P path r) path n b) ≡ stopped x
+      pub declaration_at_others : (W : List Site) (x : Limit) → walk V (given_events (inside P path r) path (suc r.live) d.source) ≡ passed W
+          → walk W (items_events (inside P path r) path n b) ≡ stopped x
           → walk S (items_events (inside P path r) path r.live all) ≡ stopped x
       declaration_at_others W x g h = items_stopped (declaration d b) (stopped x) e
           (third_stopped S V W (plain_site path d.label r.live ∷ []) (given_events (inside P path r) path (suc r.live) d.source) (items_events (inside P path r) path (suc r.live) b) x point
@@ -56,6 +57,7 @@ pub lighter : (P : program.Program) (left t m n : ℕ) → weight P left n ≡ t
 lighter P left t m n e l = subst (λ z. weight P left m < z) e (add_less (left * (1 + size_functions P.functions)) m n l)
 
 -- of a callee's body
-pub callee_lighter : (P : program.Program) (i left t : ℕ) (f : program.Function) (b : program.BlockItems) → weight P left 2 ≡ t → slice_get P.functions i ≡ Some f → (left ≡ 0 → ⊥) → b ≡ f.body → weight P (left - 1) (size_items b) < t
+pub callee_lighter : (P : program.Program) (i left t : ℕ) (f : program.Function) (b : program.BlockItems) → weight P left 2 ≡ t → slice_get P.functions i ≡ Some f → (left ≡ 0 → ⊥) → b ≡ f.body
+    → weight P (left - 1) (size_items b) < t
 callee_lighter P i left t f b e found some body =
     subst (λ z. weight P (left - 1) (size_items b) < z) e (subst (λ z. weight P (left - 1) (size_items z) < weight P left 2) (sym body) (calls_end P i left 1 f found (omega (arith, some))))

@@ -22,14 +22,17 @@ behind_items n items = live_behind n (items_of (map item_view items))
 pub items_at : (items : List BlockItem) (i : ℕ) (x : BlockItem) → i < length items → x ≡ get_or items i x → drop i items ≡ x ∷ drop (i + 1) items
 items_at items i x l e = drop-cons items i x l ∙ ap (λ (y : BlockItem). y ∷ drop (suc i) items) (sym e) ∙ rw add-one refl
 
-pub declared_behind : (items : List BlockItem) (i n n' : ℕ) (x : BlockItem) (d : Declarator) → i < length items → x ≡ get_or items i x → x ≡ code_item.Declaration d → n' ≡ n + 1 → behind_items n' (drop (i + 1) items) ≡ behind_items n (drop i items)
+pub declared_behind : (items : List BlockItem) (i n n' : ℕ) (x : BlockItem) (d : Declarator) → i < length items → x ≡ get_or items i x → x ≡ code_item.Declaration d → n' ≡ n + 1
+    → behind_items n' (drop (i + 1) items) ≡ behind_items n (drop i items)
 declared_behind items i n n' x d l e f same = rw (items_at items i x l e, f, shown_declaration d (items_of (map item_view (drop (i + 1) items))), same, add-one) refl
 
-pub stated_behind : (items : List BlockItem) (i n : ℕ) (x : BlockItem) (s : Stmt) → i < length items → x ≡ get_or items i x → x ≡ code_item.Statement s → behind_items n (drop (i + 1) items) ≡ behind_items n (drop i items)
+pub stated_behind : (items : List BlockItem) (i n : ℕ) (x : BlockItem) (s : Stmt) → i < length items → x ≡ get_or items i x → x ≡ code_item.Statement s
+    → behind_items n (drop (i + 1) items) ≡ behind_items n (drop i items)
 stated_behind items i n x s l e f = rw (items_at items i x l e, f, shown_statement s (items_of (map item_view (drop (i + 1) items)))) refl
 
 -- where the number no longer fits
-pub beyond : (items : List BlockItem) (i n whole : ℕ) (x : BlockItem) (d : Declarator) → i < length items → x ≡ get_or items i x → x ≡ code_item.Declaration d → behind_items n (drop i items) ≡ whole → (n + 1 < 18446744073709551616 → ⊥) → 24 < whole
+pub beyond : (items : List BlockItem) (i n whole : ℕ) (x : BlockItem) (d : Declarator) → i < length items → x ≡ get_or items i x → x ≡ code_item.Declaration d
+    → behind_items n (drop i items) ≡ whole → (n + 1 < 18446744073709551616 → ⊥) → 24 < whole
 beyond items i n whole x d l e f same h =
     let low = live_low (suc n) (items_of (map item_view (drop (i + 1) items))) in
     let step = declared_behind items i n (suc n) x d l e f (omega arith) in

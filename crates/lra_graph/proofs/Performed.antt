@@ -18,8 +18,10 @@ bottom P = end_of P.main.end (length P.globals) ∷ []
 bottom_matches : (P : Program) → Matches (main_frame P) (bottom P)
 bottom_matches P = record { loops = λ m e. absurd (none-some m e); backs = refl }
 
-module _ (P : Program) (T : List Site) (body : Node) (last live : ℕ) (d : InlAll P T (main_frame P) (length P.globals) 0 P.main.body body live last) (has : Has T last (main_frame P) live P.main.end) where
-  stands : (s : State) (q : ℕ) (t : State) → length s.store ≡ length P.globals → Comes (seq body (point last)) s q t → Stands P T (config (all P.main.body ∷ bottom P) (main_frame P).here s) q (HasState t)
+module _ (P : Program) (T : List Site) (body : Node) (last live : ℕ) (d : InlAll P T (main_frame P) (length P.globals) 0 P.main.body body live last)
+    (has : Has T last (main_frame P) live P.main.end) where
+  stands : (s : State) (q : ℕ) (t : State) → length s.store ≡ length P.globals → Comes (seq body (point last)) s q t → Stands P T (config (all P.main.body ∷ bottom P) (main_frame P).here s) q
+      (HasState t)
   stands s q t l (inl x) = (does_all d).comes (bottom P) s q t (bottom_matches P) l x
   stands s q t l (inr (m, e, x)) = record {
     there = config (bottom P) (main_frame P).here m;

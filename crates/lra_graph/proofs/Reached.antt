@@ -29,6 +29,7 @@ module _ (P : Program) (T : List Site) (c : Config) (p : ℕ) (on : label_on c.i
 -- the tree comes to each point at which a run stands, and fails where the run fails
 pub reached : (P : Program) (g : Node) → IsGraph P g → (c : Config) (p : Point) (r : Reaches P c) → IsOn c p → Hit (sites_of P) c p.label g (begins P r.draws)
 reached P g is c p r on =
-    let cut = (all_below P (sites_of P) c p.label on.label (suc r.length)).every (main_frame P) (length P.globals) 0 P.main.body is.body is.live is.last is.inlined (end_of P.main.end (length P.globals) ∷ []) (begins P r.draws) r.length
+    let cut = (all_below P (sites_of P) c p.label on.label (suc r.length)).every (main_frame P) (length P.globals) 0 P.main.body is.body is.live is.last is.inlined
+    (end_of P.main.end (length P.globals) ∷ []) (begins P r.draws) r.length
     (record { loops = λ m e. absurd (none-some m e); backs = refl }) refl (omega arith) r.steps in
     rw is.parts (whole P (sites_of P) c p.label on.label is.body is.last is.live is.inlined is.ends (begins P r.draws) r.length refl cut)

@@ -1,19 +1,22 @@
 -- What holds of a part holds of it as the code sees it, behind its references.
-use Rattle.std.proofs.Common.{◌≡◌, ℕ, List, ◌++◌, Option, Result, sym, subst}
-use Rattle.lra_tree.specs.Program.{Cond, Source, Stmt, for, BlockItems, Program}
+use Rattle.std.proofs.Common.{◌≡◌, ℕ, List, ◌++◌, Option, Result, sym, ap, ◌∙◌, subst}
+use Rattle.lra_tree.specs.Program.{Cond, Source, Stmt, block, if, for, BlockItems, Program}
 use Rattle.lra_tree.specs.Graph.{Node}
-use Rattle.lra_tree.specs.Sites.{Site, given_events, stmt_events, items_events}
+use Rattle.lra_tree.specs.Sites.{Site, given_events, stmt_events}
 use Rattle.lra_graph.specs.declared.frame.Frame.{Frame}
 use Rattle.lra_graph.specs.declared.points.GraphError.{GraphError}
 use Rattle.lra_graph.specs.Limits.{Progress, walk, stopped, OnLimit}
-use Rattle.lra_graph.specs.Building.{StmtStands, ItemsStand, GivenStands, inside, WritesLoop, WritesReturn}
+use Rattle.lra_graph.specs.Building.{StmtStands, GivenStands, inside, WritesLoop, WritesReturn}
+
+pub if_seen : (at : ℕ) (c : Cond) (a a' b b' : Stmt) → a' ≡ a → b' ≡ b → if at c a b ≡ if at c a' b'
+if_seen at c a a' b b' e f = ap (λ z. if at c z b) (sym e) ∙ ap (λ z. if at c a' z) (sym f)
 
 module _ (P : Program) (r : Frame) where
   pub stmt_seen : (s s' : Stmt) → s' ≡ s → StmtStands P r s → StmtStands P r s'
   stmt_seen s s' e x = subst (λ z. StmtStands P r z) (sym e) x
 
-  pub items_seen : (b b' : BlockItems) → b' ≡ b → ItemsStand P r b → ItemsStand P r b'
-  items_seen b b' e x = subst (λ z. ItemsStand P r z) (sym e) x
+  pub block_seen : (b b' : BlockItems) (end : ℕ) → b' ≡ b → StmtStands P r (block b end) → StmtStands P r (block b' end)
+  block_seen b b' end e x = subst (λ z. StmtStands P r (block z end)) (sym e) x
 
   pub for_seen : (b b' : BlockItems) (s s' : Stmt) → b' ≡ b → s' ≡ s → StmtStands P r (for b s) → StmtStands P r (for b' s')
   for_seen b b' s s' e f x = subst (λ z. StmtStands P r (for z s')) (sym e) (subst (λ z. StmtStands P r (for b z)) (sym f) x)
@@ -21,7 +24,8 @@ module _ (P : Program) (r : Frame) where
   pub given_seen : (o o' : Option Source) → o ≡ o' → GivenStands P r o → GivenStands P r o'
   given_seen o o' e x = subst (λ z. GivenStands P r z) e x
 
-  pub given_limit : {A : Type 0} (path : List ℕ) (S : List Site) (b : Result A GraphError) (o o' : Option Source) → o ≡ o' → OnLimit b (λ x. walk S (given_events (inside P path r) path r.live o') ≡ stopped x)
+  pub given_limit : {A : Type 0} (path : List ℕ) (S : List Site) (b : Result A GraphError) (o o' : Option Source) → o ≡ o'
+      → OnLimit b (λ x. walk S (given_events (inside P path r) path r.live o') ≡ stopped x)
       → OnLimit b (λ x. walk S (given_events (inside P path r) path r.live o) ≡ stopped x)
   given_limit path S b o o' e h = subst (λ z. OnLimit b (λ x. walk S (given_events (inside P path r) path r.live z) ≡ stopped x)) (sym e) h
 
@@ -29,20 +33,16 @@ module _ (P : Program) (r : Frame) where
   given_returned path S U q o o' g e x = subst (λ z. WritesReturn P path r q S z g U) (sym e) x
 
   module _ (path : List ℕ) (S : List Site) (w : Progress) where
-    pub stmt_walked : (n : ℕ) (s s' : Stmt) → s' ≡ s → walk S (stmt_events (inside P path r) path n s') ≡ w → walk S (stmt_events (inside P path r) path n s) ≡ w
-    stmt_walked n s s' e h = subst (λ z. walk S (stmt_events (inside P path r) path n z) ≡ w) e h
-
-    pub items_walked : (n : ℕ) (b b' : BlockItems) → b' ≡ b → walk S (items_events (inside P path r) path n b') ≡ w → walk S (items_events (inside P path r) path n b) ≡ w
-    items_walked n b b' e h = subst (λ z. walk S (items_events (inside P path r) path n z) ≡ w) e h
-
     pub round_walked : (n : ℕ) (a a' t t' : Stmt) → a' ≡ a → t' ≡ t → walk S (stmt_events (inside P path r) path n t' ++ stmt_events (inside P path r) path n a') ≡ w
         → walk S (stmt_events (inside P path r) path n t ++ stmt_events (inside P path r) path n a) ≡ w
     round_walked n a a' t t' e f h =
         subst (λ z. walk S (stmt_events (inside P path r) path n t ++ stmt_events (inside P path r) path n z) ≡ w) e
         (subst (λ z. walk S (stmt_events (inside P path r) path n z ++ stmt_events (inside P path r) path n a') ≡ w) f h)
 
-pub loop_seen : (P : Program) (path : List ℕ) (r : Frame) (S U : List Site) (q : ℕ) (c : Cond) (a a' t t' : Stmt) (g : Node) → a' ≡ a → t' ≡ t → WritesLoop P path r q S c a' t' g U → WritesLoop P path r q S c a t g U
+pub loop_seen : (P : Program) (path : List ℕ) (r : Frame) (S U : List Site) (q : ℕ) (c : Cond) (a a' t t' : Stmt) (g : Node) → a' ≡ a → t' ≡ t → WritesLoop P path r q S c a' t' g U
+    → WritesLoop P path r q S c a t g U
 loop_seen P path r S U q c a a' t t' g e f x = subst (λ z. WritesLoop P path r q S c a z g U) f (subst (λ z. WritesLoop P path r q S c z t' g U) e x)
 
-pub return_seen : (P : Program) (path : List ℕ) (r : Frame) (S U U' : List Site) (q : ℕ) (o : Option Source) (g g' : Node) → g ≡ g' → U ≡ U' → WritesReturn P path r q S o g' U' → WritesReturn P path r q S o g U
+pub return_seen : (P : Program) (path : List ℕ) (r : Frame) (S U U' : List Site) (q : ℕ) (o : Option Source) (g g' : Node) → g ≡ g' → U ≡ U' → WritesReturn P path r q S o g' U'
+    → WritesReturn P path r q S o g U
 return_seen P path r S U U' q o g g' e f x = subst (λ z. WritesReturn P path r q S o g z) (sym f) (subst (λ z. WritesReturn P path r q S o z U') (sym e) x)

@@ -146,12 +146,14 @@ loop_join q base c g step s h t (n, m, r, inr (w, j, e, l, inl (i, f))) = rw f (
 loop_join q base c g step s h t (n, m, r, inr (w, j, e, l, inr (d, f))) = rw f (d, (n, m, w, r, e, l))
 
 -- a round more, at the front
-pub loop_first : (q base : ℕ) (c : Cond) (g step : Node) (s u : State) (h : How) (t : State) → Round q base c g step s u → Ends (loop_node q base c g step) u h t → Ends (loop_node q base c g step) s h t
+pub loop_first : (q base : ℕ) (c : Cond) (g step : Node) (s u : State) (h : How) (t : State) → Round q base c g step s u → Ends (loop_node q base c g step) u h t
+    → Ends (loop_node q base c g step) s h t
 loop_first q base c g step s u h t o e =
     let r = loop_inv q base c g step u h t e in
     loop_join q base c g step s h t (suc r.0, r.1, rounds_first (Round q base c g step) r.0 s u r.1 o r.2, r.3)
 
-pub comes_first : (q base : ℕ) (c : Cond) (g step : Node) (s u : State) (p : ℕ) (t : State) → Round q base c g step s u → Comes (loop_node q base c g step) u p t → Comes (loop_node q base c g step) s p t
+pub comes_first : (q base : ℕ) (c : Cond) (g step : Node) (s u : State) (p : ℕ) (t : State) → Round q base c g step s u → Comes (loop_node q base c g step) u p t
+    → Comes (loop_node q base c g step) s p t
 comes_first q base c g step s u p t o (n, m, r, e) = (suc n, m, rounds_first (Round q base c g step) n s u m o r, e)
 
 pub fails_first : (q base : ℕ) (c : Cond) (g step : Node) (s u : State) (p : ℕ) → Round q base c g step s u → FailsAt (loop_node q base c g step) u p → FailsAt (loop_node q base c g step) s p

@@ -8,10 +8,10 @@ abbrev mutual
   pub size_stmt : Stmt → ℕ
   size_stmt absent = 1
   size_stmt (nothing at) = 1
-  size_stmt (block items end) = 1 + size_items items
-  size_stmt (assign at x e) = 4
+  size_stmt (block items end) = 2 + size_items items
+  size_stmt (assign at x e) = 5
   size_stmt (call at c) = 4
-  size_stmt (if at c a b) = 1 + (size_stmt a + size_stmt b)
+  size_stmt (if at c a b) = 2 + (size_stmt a + size_stmt b)
   size_stmt (loop at c a step) = 2 + (size_stmt a + size_stmt step)
   size_stmt (for init again) = 2 + (size_items init + size_stmt again)
   size_stmt (break at) = 1
@@ -35,7 +35,8 @@ weight P left n = left * (1 + size_functions P.functions) + n
 
 one_size : (fs : List Function) (i : ℕ) (f : Function) → slice_get fs i ≡ Some f → size_items f.body ≤ size_functions fs
 one_size [] i f e = absurd (none-some f e)
-one_size (g ∷ fs) zero f e = let h : size_items g.body ≤ size_items g.body + size_functions fs = omega arith in subst (λ x. size_items x.body ≤ size_items g.body + size_functions fs) (same_Some g f e) h
+one_size (g ∷ fs) zero f e = let h : size_items g.body ≤ size_items g.body + size_functions fs = omega arith in subst (λ x. size_items x.body ≤ size_items g.body + size_functions fs)
+    (same_Some g f e) h
 one_size (g ∷ fs) (suc i) f e = let h = one_size fs i f e in omega arith
 
 one_less : (left k : ℕ) → 0 < left → left * k ≡ (left - 1) * k + k

@@ -1,13 +1,17 @@
 -- A run that comes to a point, cut at the statement on top: the point is inside, or the statement ends or jumps before.
 use Rattle.std.proofs.Common.{◌≡◌, ◌≢◌, ℕ, zero, suc, ◌+◌, ◌<◌, ◌≤◌, List, ◌∷◌, length, Option, Some, None, Bool, true, false, ◌⊎◌, inl, inr, refl, sym, ap, ◌∙◌, subst, slice_get, arith}
 use Rattle.std.proofs.lemmas.Option.{same_Some, none-some}
-use Rattle.lra_tree.specs.Program.{Cond, Call, Source, value, result, Declarator, Stmt, absent, nothing, block, assign, call, if, loop, for, break, continue, return, assert, assume, BlockItems, no_more, declaration, statement, Function, Program}
+use Rattle.lra_tree.specs.Program.{Cond, Call, Source, value, result, Declarator, Stmt, absent, nothing, block, assign, call, if, loop, for, break, continue, return, assert, assume, BlockItems}
+use Rattle.lra_tree.specs.Program.{no_more, declaration, statement, Function, Program}
 use Rattle.lra_tree.specs.Value.{index_of, truth_of}
-use Rattle.lra_tree.specs.Step.{State, Op, append, give, give_any, push, keep, test, run_op, run_any, Here, Back, Item, run, declare, all, end_of, turn, cut, mark, leave_call, Config, to_turn, to_mark, target_of, go, enter, do_source, do_leave, do_break, do_continue, do_declare, next}
+use Rattle.lra_tree.specs.Step.{State, Op, append, give, give_any, push, keep, test, run_op, run_any, Here, Back, Item, run, declare, all, end_of, turn, cut, mark, leave_call, Config, to_turn}
+use Rattle.lra_tree.specs.Step.{to_mark, target_of, go, enter, do_source, do_leave, do_break, do_continue, do_declare, next}
 use Rattle.lra_tree.specs.Run.{Steps, label_on, IsFailing}
 use Rattle.lra_tree.specs.Graph.{Exit, broken, continued, returned, normal, jump, Node, point, act, check, seq, choose, leave, Ends, Comes, FailsAt}
 use Rattle.lra_tree.specs.Sites.{Site}
-use Rattle.lra_tree.specs.Inlined.{Frame, Has, HasSite, callee, Inl, InlAll, Declares, Loops, Gives, as_nothing, as_block, as_absent, as_assign, as_call, as_if, as_loop, as_for, as_break, as_continue, as_return, as_return_value, as_return_call, as_end, as_end_value, as_end_call, as_assert, as_assume, as_none, as_declaration, as_statement, as_fresh, as_given, is_loop, as_value, as_result, loop_node, call_node, return_node}
+use Rattle.lra_tree.specs.Inlined.{Frame, Has, HasSite, callee, Inl, InlAll, Declares, Loops, Gives, as_nothing, as_block, as_absent, as_assign, as_call, as_if, as_loop, as_for, as_break}
+use Rattle.lra_tree.specs.Inlined.{as_continue, as_return, as_return_value, as_return_call, as_end, as_end_value, as_end_call, as_assert, as_assume, as_none, as_declaration, as_statement}
+use Rattle.lra_tree.specs.Inlined.{as_fresh, as_given, is_loop, as_value, as_result, loop_node, call_node, return_node}
 use Rattle.lra_graph.proofs.Shapes.{call_returns, call_ends, Round, round_join, loop_join, loop_first, comes_first, fails_first, jump_join}
 use Rattle.lra_graph.proofs.Lengths.{LengthAt, length_declarator, length_one, length_all, length_test, length_push, length_append, in_loop, mid_length}
 use Rattle.lra_graph.proofs.Landing.{config, land, land_skip, Matches, matches_skip, turn_some, mark_some, mark_none, go_some, go_on_some, go_by_some, lands_broken, lands_continued, lands_returned}
@@ -30,7 +34,8 @@ pub record Hit (T : List Site) (c : Config) (p : ℕ) (g : Node) (s : State) : T
   pub fails : IsFailing c.items c.here c.state → FailsAt g s number
 
 -- what is so of all that comes to a point is so of the whole
-pub hit_as : (T : List Site) (c : Config) (p : ℕ) (a b : Node) (s t : State) → ((q : ℕ) → Comes a s q c.state → Comes b t q c.state) → ((q : ℕ) → FailsAt a s q → FailsAt b t q) → Hit T c p a s → Hit T c p b t
+pub hit_as : (T : List Site) (c : Config) (p : ℕ) (a b : Node) (s t : State) → ((q : ℕ) → Comes a s q c.state → Comes b t q c.state) → ((q : ℕ) → FailsAt a s q → FailsAt b t q) → Hit T c p a s
+    → Hit T c p b t
 hit_as T c p a b s t f g h = record { number = h.number; asserts = h.asserts; site = h.site; comes = f h.number h.comes; fails = λ z. g h.number (h.fails z) }
 
 -- what n steps to c make of the tree that stands for the items above k
@@ -39,7 +44,8 @@ pub data Splits (P : Program) (T : List Site) (c : Config) (p : ℕ) (h : Here) 
   ended : (j : ℕ) (m : State) → j < n → Ends g s normal m → Steps P j (config k h m) c → Splits P T c p h k n g s
   jumped : (j : ℕ) (kind : Exit) (m : State) (d : Config) → j < n → Ends g s (jump kind) m → land kind h k m ≡ Some d → Steps P j d c → Splits P T c p h k n g s
 
-pub hit_there : (T : List Site) (c : Config) (p : ℕ) (f : Frame) (n q at : ℕ) (asserts : Bool) (i : Item) (k : List Item) (s : State) (g : Node) → label_on c.items ≡ Some p → HasSite T q f n at asserts → length s.store ≡ n
+pub hit_there : (T : List Site) (c : Config) (p : ℕ) (f : Frame) (n q at : ℕ) (asserts : Bool) (i : Item) (k : List Item) (s : State) (g : Node) → label_on c.items ≡ Some p
+    → HasSite T q f n at asserts → length s.store ≡ n
     → label_on (i ∷ k) ≡ Some at → Comes g s q s → (IsFailing (i ∷ k) f.here s → FailsAt g s q) → config (i ∷ k) f.here s ≡ c → Hit T c p g s
 hit_there T c p f n q at asserts i k s g on has l lab x y e = subst (λ (d : Config). label_on d.items ≡ Some p → Hit T d p g s) e (λ o. record {
   number = q;
@@ -126,7 +132,8 @@ module _ (P : Program) (T : List Site) (c : Config) (p : ℕ) (on : label_on c.i
   call_tail : (f f' : Frame) (n n' r : ℕ) (x : Option ℕ) (end params : ℕ) (k : List Item) (count : ℕ) (s : State) → Has T r f' n' end → length s.store ≡ n'
       → Steps P count (config (end_of end (n + params) ∷ mark (record { target = x; here = f.here; length = n }) ∷ k) f'.here s) c
       → Hit T c p (point r) s ⊎ Tail P c f.here n x params k count s
-  call_tail f f' n n' r x end params k zero s has l e = inl (hit_there T c p f' n' r end false (end_of end (n + params)) (mark (record { target = x; here = f.here; length = n }) ∷ k) s (point r) on has l refl (refl, refl) (λ z. z) e)
+  call_tail f f' n n' r x end params k zero s has l e = inl (hit_there T c p f' n' r end false (end_of end (n + params)) (mark (record { target = x; here = f.here; length = n }) ∷ k) s (point r)
+      on has l refl (refl, refl) (λ z. z) e)
   call_tail f f' n n' r x end params k (suc i) s has l (e, y, rest) =
       let cutting = go_some (mark (record { target = x; here = f.here; length = n }) ∷ k) f'.here (run_op (keep (n + params)) s) e y in
       marked i cutting.0 cutting.1 (rw cutting.2 rest)
@@ -197,7 +204,8 @@ module _ (P : Program) (T : List Site) (c : Config) (p : ℕ) (on : label_on c.i
           long = (length_one d).ends mid v normal (mid_length f n g h (length_one e) (length_one d) on' mid (length_test f.here.base b true s on' o ∙ l) x) x'
 
           shift : Splits P T c p f.here k i (loop_node q f.here.base b g h) v → Splits P T c p f.here k (suc j) (loop_node q f.here.base b g h) s
-          shift (hits y') = hits (hit_as T c p (loop_node q f.here.base b g h) (loop_node q f.here.base b g h) v s (λ w z. comes_first q f.here.base b g h s v w c.state whole z) (λ w z. fails_first q f.here.base b g h s v w whole z) y')
+          shift (hits y') = hits (hit_as T c p (loop_node q f.here.base b g h) (loop_node q f.here.base b g h) v s (λ w z. comes_first q f.here.base b g h s v w c.state whole z)
+              (λ w z. fails_first q f.here.base b g h s v w whole z) y')
           shift (ended i' m' z e' t') = ended i' m' (omega arith) (loop_first q f.here.base b g h s v normal m' whole e') t'
           shift (jumped i' kind m' d' z e' l' t') = jumped i' kind m' d' (omega arith) (loop_first q f.here.base b g h s v (jump kind) m' whole e') l' t'
 
@@ -206,7 +214,8 @@ module _ (P : Program) (T : List Site) (c : Config) (p : ℕ) (on : label_on c.i
           → Steps P i (config (turn step (loop at b a step) n ∷ k) f.here mid) c → Splits P T c p f.here k (suc j) (loop_node q f.here.base b g h) s
       stepping on' mid o x i less' t =
           let moved = past P T c p on (config (turn step (loop at b a step) n ∷ k) f.here mid) (config (run step ∷ run (loop at b a step) ∷ k) f.here mid) i refl refl t in
-          cases moved.0 (omega arith) (below.one (in_loop f None) n r step h n r' d (run (loop at b a step) ∷ k) mid moved.0 (record { loops = λ w z. absurd (none-some w z); backs = m.backs }) long (omega arith) moved.2)
+          cases moved.0 (omega arith) (below.one (in_loop f None) n r step h n r' d (run (loop at b a step) ∷ k) mid moved.0 (record { loops = λ w z. absurd (none-some w z); backs = m.backs })
+          long (omega arith) moved.2)
         where
           long : length mid.store ≡ n
           long = mid_length f n g h (length_one e) (length_one d) on' mid (length_test f.here.base b true s on' o ∙ l) x
@@ -290,7 +299,8 @@ module _ (P : Program) (T : List Site) (c : Config) (p : ℕ) (on : label_on c.i
       jumped j continued x.0 e (omega arith) (jump_join q (keep m) live continued s x.0 o) (lands_continued (to_turn k) turning.0 f.here x.0 e turning.1 x.2) t
 
   -- back to the caller, from a state that a change may have made
-  splits_leave : (f : Frame) (q live : ℕ) (b : Back) (k : List Item) (s : State) (o : Option State) (j : ℕ) (e : Config) → f.back ≡ Some b → Matches f k → do_leave (to_mark k) o ≡ Some e → Steps P j e c
+  splits_leave : (f : Frame) (q live : ℕ) (b : Back) (k : List Item) (s : State) (o : Option State) (j : ℕ) (e : Config) → f.back ≡ Some b → Matches f k → do_leave (to_mark k) o ≡ Some e
+      → Steps P j e c
       → (u : State) × (o ≡ Some u) × Cut f.here k (suc j) (seq (act q (keep b.length)) (leave live returned)) u
   splits_leave f q live b k s o j e i mm y t =
       let marked = mark_some (to_mark k) b (mm.backs ∙ i) in
@@ -299,7 +309,8 @@ module _ (P : Program) (T : List Site) (c : Config) (p : ℕ) (on : label_on c.i
       let z = go_some marked.0 b.here (run_op (keep b.length) x.0) e x.2 in
       (x.0, x.1, jumped j returned z.0 e (omega arith) (jump_join q (keep b.length) live returned x.0 z.0 z.1) (lands_returned (to_mark k) (record { back = b; rest = marked.0 }) z.0 e marked.1 z.2) t)
 
-  splits_return : (f : Frame) (q live : ℕ) (op : Op) (b : Back) (k : List Item) (s : State) (j : ℕ) (e : Config) → f.back ≡ Some b → Matches f k → do_leave (to_mark k) (run_op op s) ≡ Some e → Steps P j e c
+  splits_return : (f : Frame) (q live : ℕ) (op : Op) (b : Back) (k : List Item) (s : State) (j : ℕ) (e : Config) → f.back ≡ Some b → Matches f k → do_leave (to_mark k) (run_op op s) ≡ Some e
+      → Steps P j e c
       → Cut f.here k (suc j) (return_node q op b.length live) s
   splits_return f q live op b k s j e i mm y t =
       let x = splits_leave f q live b k s (run_op op s) j e i mm y t in
@@ -323,7 +334,8 @@ module _ (P : Program) (T : List Site) (c : Config) (p : ℕ) (on : label_on c.i
       → (j : Exit) (m : State) → land j h (i ∷ i' ∷ k) m ≡ land j h k m
   land_two h i i' k a b d e j m = land_skip j h i (i' ∷ k) m a b ∙ land_skip j h i' k m d e
 
-  splits_for : (f : Frame) (n q : ℕ) (init : BlockItems) (again : Stmt) (g h : Node) (n' r q' : ℕ) → InlAll P T f n (suc q) init g n' r → Loops P T f n' q r again h q' → (k : List Item) (s : State) (count : ℕ)
+  splits_for : (f : Frame) (n q : ℕ) (init : BlockItems) (again : Stmt) (g h : Node) (n' r q' : ℕ) → InlAll P T f n (suc q) init g n' r → Loops P T f n' q r again h q'
+      → (k : List Item) (s : State) (count : ℕ)
       → Matches f k → length s.store ≡ n → count < fuel → Steps P count (config (all init ∷ run again ∷ cut n ∷ k) f.here s) c → Cut f.here k count (seq g (seq h (act q (keep n)))) s
   splits_for f n q init again g h n' r q' d e k s count m l less t =
       splits_seq P T c p on f.here k (run again ∷ cut n ∷ k) count g (seq h (act q (keep n))) s (land_two f.here (run again) (cut n) k refl refl refl refl)
@@ -342,7 +354,8 @@ module _ (P : Program) (T : List Site) (c : Config) (p : ℕ) (on : label_on c.i
   of_loop _ _ _ _ _ _ _ (is_loop f n q r at b a step g h r' q' i d e) k s count m l less t = splits_loop f n q r at b a step g h r' q' i d e k s count m l less t
 
   -- a declarator: the point, the new variable, and what it gets
-  splits_declare : (f : Frame) (n q : ℕ) (d : Declarator) (g : Node) (q' : ℕ) → Has T q f n d.label → Declares P T f n q (suc q) d.source g q' → (k : List Item) (s : State) (count : ℕ) → length s.store ≡ n → count < suc fuel
+  splits_declare : (f : Frame) (n q : ℕ) (d : Declarator) (g : Node) (q' : ℕ) → Has T q f n d.label → Declares P T f n q (suc q) d.source g q' → (k : List Item) (s : State) (count : ℕ)
+      → length s.store ≡ n → count < suc fuel
       → Steps P count (config (declare d ∷ k) f.here s) c → Cut f.here k count (seq (point q) g) s
   splits_declare f n q d g q' i x k s count l less t = splits_point P T c p on f n q d.label false (declare d) g k s count i l refl (λ z. absurd z) t
       (λ j e j' y w. splits_more P T c p on f.here k (suc j) count g s (omega arith) (by_source f n q (suc q) d.source g q' x k s j e l (omega arith) y w))
@@ -356,7 +369,8 @@ module _ (P : Program) (T : List Site) (c : Config) (p : ℕ) (on : label_on c.i
           after_act q append g f.here k (suc j) s x.0 x.1
           (splits_gives f (suc n) q r (Some n) b g q' k x.0 j e d (length_append s x.0 x.1 ∙ ap suc l) less y' w)
 
-  splits_every : (f : Frame) (n q : ℕ) (a : BlockItems) (g : Node) (n' q' : ℕ) → InlAll P T f n q a g n' q' → (k : List Item) (s : State) (count : ℕ) → Matches f k → length s.store ≡ n → count < suc fuel
+  splits_every : (f : Frame) (n q : ℕ) (a : BlockItems) (g : Node) (n' q' : ℕ) → InlAll P T f n q a g n' q' → (k : List Item) (s : State) (count : ℕ) → Matches f k → length s.store ≡ n
+      → count < suc fuel
       → Steps P count (config (all a ∷ k) f.here s) c → Cut f.here k count g s
   splits_every _ _ _ _ _ _ _ (as_none f n q) k s count m l less t =
       let x = past P T c p on (config (all no_more ∷ k) f.here s) (config k f.here s) count refl refl t in
@@ -385,7 +399,8 @@ module _ (P : Program) (T : List Site) (c : Config) (p : ℕ) (on : label_on c.i
       let few : x.0 < count = omega arith in
       splits_more P T c p on f.here k x.0 count (seq g (seq (point q') (act q' (keep n)))) s (omega arith)
       (splits_seq P T c p on f.here k (end_of end n ∷ k) x.0 g (seq (point q') (act q' (keep n))) s (skip_one f.here (end_of end n) k refl refl)
-      (below.every f n q body g n' q' d (end_of end n ∷ k) s x.0 (matches_skip f (end_of end n) k refl refl m) l (omega arith) (subst (λ w. Steps P x.0 (config (all body ∷ end_of end w ∷ k) f.here s) c) l x.2))
+      (below.every f n q body g n' q' d (end_of end n ∷ k) s x.0 (matches_skip f (end_of end n) k refl refl m) l (omega arith)
+      (subst (λ w. Steps P x.0 (config (all body ∷ end_of end w ∷ k) f.here s) c) l x.2))
       (λ j u z a b. end_tail f n n' q' end k u j i ((length_all d).ends s u normal l a) b))
   splits_one _ _ _ _ _ _ _ (as_absent f n q) k s count m l less t =
       let x = past P T c p on (config (run absent ∷ k) f.here s) (config k f.here s) count refl refl t in
@@ -394,7 +409,8 @@ module _ (P : Program) (T : List Site) (c : Config) (p : ℕ) (on : label_on c.i
       (λ j e j' y w. splits_more P T c p on f.here k (suc j) count g s (omega arith) (splits_gives f n q (suc q) (Some (index_of f.here.base x)) b g q' k s j e d l (omega arith) y w))
   splits_one _ _ _ _ _ _ _ (as_call f n q at b g q' i d) k s count m l less t = splits_point P T c p on f n q at false (run (call at b)) g k s count i l refl (λ z. absurd z) t
       (λ j e j' y w. splits_more P T c p on f.here k (suc j) count g s (omega arith) (splits_gives f n q (suc q) None (result b) g q' k s j e d l (omega arith) y w))
-  splits_one _ _ _ _ _ _ _ (as_if f n q at b a a' g h r q' i d d') k s count m l less t = splits_point P T c p on f n q at false (run (if at b a a')) (choose q f.here.base b g h) k s count i l refl (λ z. absurd z) t
+  splits_one _ _ _ _ _ _ _ (as_if f n q at b a a' g h r q' i d d') k s count m l less t = splits_point P T c p on f n q at false (run (if at b a a')) (choose q f.here.base b g h) k s count i l
+      refl (λ z. absurd z) t
       (λ j e j' y w. elim (go_by_some (run a ∷ k) (run a' ∷ k) f.here s.store (truth_of b f.here.base s.store s.draws) e y) as (λ z. Cut f.here k count (choose q f.here.base b g h) s) [
         | inl z ↦ splits_more P T c p on f.here k j count (choose q f.here.base b g h) s (omega arith) (choose_on q f.here.base b g h f.here k j s z.0 z.1
             (below.one f n (suc q) a g n r d k z.0 j m (length_test f.here.base b true s z.0 z.1 ∙ l) (omega arith) (rw z.2 w)))
@@ -406,19 +422,24 @@ module _ (P : Program) (T : List Site) (c : Config) (p : ℕ) (on : label_on c.i
       let x = past P T c p on (config (run (for init again) ∷ k) f.here s) (config (all init ∷ run again ∷ cut (length s.store) ∷ k) f.here s) count refl refl t in
       splits_more P T c p on f.here k x.0 count (seq g (seq h (act q (keep n)))) s (omega arith)
       (splits_for f n q init again g h n' r q' d e k s x.0 m l (omega arith) (subst (λ w. Steps P x.0 (config (all init ∷ run again ∷ cut w ∷ k) f.here s) c) l x.2))
-  splits_one _ _ _ _ _ _ _ (as_break f n q at b i i' has) k s count m l less t = splits_point P T c p on f n q at false (run (break at)) (seq (act q (keep b)) (leave n broken)) k s count has l refl (λ z. absurd z) t
+  splits_one _ _ _ _ _ _ _ (as_break f n q at b i i' has) k s count m l less t = splits_point P T c p on f n q at false (run (break at)) (seq (act q (keep b)) (leave n broken)) k s count has l
+      refl (λ z. absurd z) t
       (λ j e j' y w. splits_more P T c p on f.here k (suc j) count (seq (act q (keep b)) (leave n broken)) s (omega arith) (splits_break f q b n k s j e i m y w))
-  splits_one _ _ _ _ _ _ _ (as_continue f n q at b i i' has) k s count m l less t = splits_point P T c p on f n q at false (run (continue at)) (seq (act q (keep b)) (leave n continued)) k s count has l refl (λ z. absurd z) t
+  splits_one _ _ _ _ _ _ _ (as_continue f n q at b i i' has) k s count m l less t = splits_point P T c p on f n q at false (run (continue at)) (seq (act q (keep b)) (leave n continued)) k s
+      count has l refl (λ z. absurd z) t
       (λ j e j' y w. splits_more P T c p on f.here k (suc j) count (seq (act q (keep b)) (leave n continued)) s (omega arith) (splits_continue f q b n k s j e i m y w))
-  splits_one _ _ _ _ _ _ _ (as_return f n q at b i i' has) k s count m l less t = splits_point P T c p on f n q at false (run (return at None)) (return_node q (give_any b.target) b.length n) k s count has l refl (λ z. absurd z) t
+  splits_one _ _ _ _ _ _ _ (as_return f n q at b i i' has) k s count m l less t = splits_point P T c p on f n q at false (run (return at None)) (return_node q (give_any b.target) b.length n) k s
+      count has l refl (λ z. absurd z) t
       (λ j e j' y w.
       let y' : do_leave (to_mark k) (run_any b.target s) ≡ Some e = subst (λ v. do_leave (to_mark k) (run_any v s) ≡ Some e) (target_is f k b i m) y in
       splits_more P T c p on f.here k (suc j) count (return_node q (give_any b.target) b.length n) s (omega arith) (splits_return f q n (give_any b.target) b k s j e i m y' w))
-  splits_one _ _ _ _ _ _ _ (as_return_value f n q at v b i i' has) k s count m l less t = splits_point P T c p on f n q at false (run (return at (Some (value v)))) (return_node q (give f.here.base b.target v) b.length n) k s count has l refl (λ z. absurd z) t
+  splits_one _ _ _ _ _ _ _ (as_return_value f n q at v b i i' has) k s count m l less t = splits_point P T c p on f n q at false (run (return at (Some (value v))))
+      (return_node q (give f.here.base b.target v) b.length n) k s count has l refl (λ z. absurd z) t
       (λ j e j' y w.
       let y' : do_leave (to_mark k) (run_op (give f.here.base b.target v) s) ≡ Some e = subst (λ x. do_leave (to_mark k) (run_op (give f.here.base x v) s) ≡ Some e) (target_is f k b i m) y in
       splits_more P T c p on f.here k (suc j) count (return_node q (give f.here.base b.target v) b.length n) s (omega arith) (splits_return f q n (give f.here.base b.target v) b k s j e i m y' w))
-  splits_one _ _ _ _ _ _ _ (as_return_call f n q at v b g q' i i' has d) k s count m l less t = splits_point P T c p on f n q at false (run (return at (Some (result v)))) (seq g (seq (act q (keep b.length)) (leave n returned))) k s count has l refl (λ z. absurd z) t
+  splits_one _ _ _ _ _ _ _ (as_return_call f n q at v b g q' i i' has d) k s count m l less t = splits_point P T c p on f n q at false (run (return at (Some (result v))))
+      (seq g (seq (act q (keep b.length)) (leave n returned))) k s count has l refl (λ z. absurd z) t
       (λ j e j' y w.
       let y' : do_source P b.target (result v) (leave_call ∷ k) f.here s ≡ Some e = subst (λ x. do_source P x (result v) (leave_call ∷ k) f.here s ≡ Some e) (target_is f k b i m) y in
       splits_more P T c p on f.here k (suc j) count (seq g (seq (act q (keep b.length)) (leave n returned))) s (omega arith)
@@ -427,18 +448,22 @@ module _ (P : Program) (T : List Site) (c : Config) (p : ℕ) (on : label_on c.i
       (λ j'' u z a b'. leave_tail f q n b k u j'' i m b')))
   splits_one _ _ _ _ _ _ _ (as_end f n q at i has) k s count m l less t = splits_point P T c p on f n q at false (run (return at None)) (leave n returned) k s count has l refl (λ z. absurd z) t
       (λ j e j' y w. absurd (none-some e (subst (λ o. do_leave o (run_any (target_of o) s) ≡ Some e) (no_mark f k i m) y)))
-  splits_one _ _ _ _ _ _ _ (as_end_value f n q at v i has) k s count m l less t = splits_point P T c p on f n q at false (run (return at (Some (value v)))) (leave n returned) k s count has l refl (λ z. absurd z) t
+  splits_one _ _ _ _ _ _ _ (as_end_value f n q at v i has) k s count m l less t = splits_point P T c p on f n q at false (run (return at (Some (value v)))) (leave n returned) k s count has l
+      refl (λ z. absurd z) t
       (λ j e j' y w. absurd (none-some e (subst (λ o. do_leave o (run_op (give f.here.base (target_of o) v) s) ≡ Some e) (no_mark f k i m) y)))
-  splits_one _ _ _ _ _ _ _ (as_end_call f n q at v g q' i has d) k s count m l less t = splits_point P T c p on f n q at false (run (return at (Some (result v)))) (seq g (leave n returned)) k s count has l refl (λ z. absurd z) t
+  splits_one _ _ _ _ _ _ _ (as_end_call f n q at v g q' i has d) k s count m l less t = splits_point P T c p on f n q at false (run (return at (Some (result v)))) (seq g (leave n returned)) k s
+      count has l refl (λ z. absurd z) t
       (λ j e j' y w.
       let y' : do_source P None (result v) (leave_call ∷ k) f.here s ≡ Some e = subst (λ o. do_source P (target_of o) (result v) (leave_call ∷ k) f.here s ≡ Some e) (no_mark f k i m) y in
       splits_more P T c p on f.here k (suc j) count (seq g (leave n returned)) s (omega arith)
       (splits_seq P T c p on f.here k (leave_call ∷ k) (suc j) g (leave n returned) s (skip_one f.here leave_call k refl refl)
       (splits_gives f n q (suc q) None (result v) g q' (leave_call ∷ k) s j e d l (omega arith) y' w)
       (λ j'' u z a b'. end_tail_of f k u j'' (leave n returned) (no_mark f k i m) b')))
-  splits_one _ _ _ _ _ _ _ (as_assert f n q at b i) k s count m l less t = splits_point P T c p on f n q at true (run (assert at b)) (check q f.here.base b) k s count i l refl (λ z. (refl, z.0, z.1)) t
+  splits_one _ _ _ _ _ _ _ (as_assert f n q at b i) k s count m l less t = splits_point P T c p on f n q at true (run (assert at b)) (check q f.here.base b) k s count i l refl
+      (λ z. (refl, z.0, z.1)) t
       (λ j e j' y w. let x = go_some k f.here (run_op (test f.here.base b true) s) e y in ended j x.0 (omega arith) x.1 (rw x.2 w))
-  splits_one _ _ _ _ _ _ _ (as_assume f n q at b i) k s count m l less t = splits_point P T c p on f n q at false (run (assume at b)) (act q (test f.here.base b true)) k s count i l refl (λ z. absurd z) t
+  splits_one _ _ _ _ _ _ _ (as_assume f n q at b i) k s count m l less t = splits_point P T c p on f n q at false (run (assume at b)) (act q (test f.here.base b true)) k s count i l refl
+      (λ z. absurd z) t
       (λ j e j' y w. splits_more P T c p on f.here k (suc j) count (act q (test f.here.base b true)) s (omega arith) (splits_act P T c p on q (test f.here.base b true) f.here k s j e y w))
 
 module _ (P : Program) (T : List Site) (c : Config) (p : ℕ) (on : label_on c.items ≡ Some p) where

@@ -1,7 +1,8 @@
 -- Where a part of a well-formed program stands, its own parts stand.
 use Rattle.std.proofs.Common.{◌≡◌, ℕ, suc, ◌+◌, ◌≤◌, ◌<◌, length, Option, Some, None, Bool, true, false, slice_get, refl, sym, ap, ◌∙◌, subst, arith}
 use Rattle.std.proofs.lemmas.Option.{none-some, same_Some}
-use Rattle.lra_tree.specs.Program.{Slot, local, Cond, Call, Source, result, Declarator, Stmt, block, assign, call, if, loop, for, break, continue, return, BlockItems, no_more, declaration, statement, Function, Program}
+use Rattle.lra_tree.specs.Program.{Slot, local, Cond, Call, Source, result, Declarator, Stmt, block, assign, call, if, loop, for, break, continue, return, BlockItems, no_more, declaration}
+use Rattle.lra_tree.specs.Program.{statement, Function, Program}
 use Rattle.lra_tree.specs.Sites.{live_behind}
 use Rattle.lra_tree.specs.WellFormed.{IsLive, IsWellFormed}
 use Rattle.lra_graph.specs.declared.frame.Frame.{Frame}
@@ -124,7 +125,8 @@ module _ (P : Program) (r : Frame) where
       false_true : false ≡ true → ⊥
       false_true e = cc
 
-  pub for_again : (init : BlockItems) (at : ℕ) (c : Cond) (s t : Stmt) (n : ℕ) → n ≡ live_behind r.live init → StmtStands P r (for init (loop at c s t)) → StmtStands P (record r { live = n }) (loop at c s t)
+  pub for_again : (init : BlockItems) (at : ℕ) (c : Cond) (s t : Stmt) (n : ℕ) → n ≡ live_behind r.live init → StmtStands P r (for init (loop at c s t))
+      → StmtStands P (record r { live = n }) (loop at c s t)
   for_again init at c s t n same x = again_stands n init (loop at c s t) same x
 
   -- a callee's body in its own frame

@@ -1,5 +1,7 @@
 -- Where a part is stopped by a limit, the whole is.
 use Rattle.std.proofs.Common.{◌≡◌, ℕ, ◌<◌, false, List, [], ◌∷◌, ◌++◌, Result, Ok, Err, IfOk, sym, subst}
+use Rattle.std.specs.Result.{IsErrAnd}
+use Rattle.std.proofs.lemmas.Result.{err_from_is_err_and}
 use Rattle.lra_tree.specs.Program.{Cond, Stmt, loop, for, BlockItems, Program}
 use Rattle.lra_tree.specs.Sites.{Site, Event, plain_site, live_behind, stmt_events, items_events}
 use Rattle.lra_graph.specs.declared.points.Limit.{Limit}
@@ -15,11 +17,9 @@ pub error_as : (e : GraphError) (X Y : Limit → Type 0) → ((x : Limit) → X 
 error_as (Passed x) X Y f h = f x h
 error_as Memory X Y f h = tt
 
-pub limit_as : {A B : Type 0} (a : Result A GraphError) (b : Result B GraphError) (e : GraphError) (X Y : Limit → Type 0) → a ≡ Err e → b ≡ Err e → ((x : Limit) → X x → Y x) → OnLimit a X → OnLimit b Y
-limit_as a b e X Y i j f h = subst (λ z. OnLimit z Y) (sym j) (error_as e X Y f (subst (λ z. OnLimit z X) i h))
-
 -- in a statement that is so
-pub stmt_stopped : (P : Program) (path : List ℕ) (r : Frame) (S : List Site) (s s' : Stmt) (w : Progress) → s ≡ s' → walk S (stmt_events (inside P path r) path r.live s') ≡ w → walk S (stmt_events (inside P path r) path r.live s) ≡ w
+pub stmt_stopped : (P : Program) (path : List ℕ) (r : Frame) (S : List Site) (s s' : Stmt) (w : Progress) → s ≡ s' → walk S (stmt_events (inside P path r) path r.live s') ≡ w
+    → walk S (stmt_events (inside P path r) path r.live s) ≡ w
 stmt_stopped P path r S s s' w e h = subst (λ z. walk S (stmt_events (inside P path r) path r.live z) ≡ w) (sym e) h
 
 -- in the second of two parts, in the third of three
@@ -47,6 +47,21 @@ limit_by b d e S V es fs i j f h = rw (i, j) (error_as e (λ x. walk V fs ≡ st
 
 pub limit_to : {A : Type 0} (b : Result A GraphError) (d e : GraphError) (X Y : Limit → Type 0) → b ≡ Err d → d ≡ e → ((x : Limit) → X x → Y x) → OnError e X → OnLimit b Y
 limit_to b d e X Y i j f h = rw (i, j) (error_as e X Y f h)
+
+-- what the exit of a `?` answers: no part is written out; it may be the memory that failed, or a limit that a part passed
+module _ {A : Type 0} (b : Result A GraphError) where
+  pub err_ok : {Z : GraphError → Type 0} (X : A → Type 0) → (d : GraphError) × (b ≡ Err d) × Z d → IfOk b X
+  err_ok X p = ok_at_err b p.0 X p.1
+
+  pub err_memory : (Y : Limit → Type 0) → IsErrAnd b (λ d. d ≡ Memory) → OnLimit b Y
+  err_memory Y h = let p = err_from_is_err_and b h in limit_memory b p.0 Y p.1 p.2
+
+  pub err_limit : (e : GraphError) (S V : List Site) (es fs : List Event) → IsErrAnd b (λ d. d ≡ e) → ((x : Limit) → walk V fs ≡ stopped x → walk S es ≡ stopped x)
+      → OnError e (λ x. walk V fs ≡ stopped x) → OnLimit b (λ x. walk S es ≡ stopped x)
+  err_limit e S V es fs h f o = let p = err_from_is_err_and b h in limit_by b p.0 e S V es fs p.1 p.2 f o
+
+  pub err_stopped : (e : GraphError) (X Y : Limit → Type 0) → IsErrAnd b (λ d. d ≡ e) → ((x : Limit) → X x → Y x) → OnError e X → OnLimit b Y
+  err_stopped e X Y h f o = let p = err_from_is_err_and b h in limit_to b p.0 e X Y p.1 p.2 f o
 
 -- what a call answers is handed on -----------------------------------------------------------------------------------
 

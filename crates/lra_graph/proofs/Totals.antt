@@ -1,6 +1,7 @@
 -- A whole program written out: its points are those of the definition, its tree is the definition's, and it is refused for the limit that
 -- stopped the writing.
-use Rattle.std.proofs.Common.{◌≡◌, ℕ, zero, suc, ◌≤◌, ◌<◌, List, [], ◌∷◌, ◌++◌, length, Option, Some, None, Bool, true, false, slice_get, refl, sym, ap, ◌∙◌, subst, arith, append-nil, append_assoc, length-append, add-zero}
+use Rattle.std.proofs.Common.{◌≡◌, ℕ, zero, suc, ◌≤◌, ◌<◌, List, [], ◌∷◌, ◌++◌, length, Option, Some, None, Bool, true, false, slice_get, refl, sym, ap, ◌∙◌, subst, arith, append-nil}
+use Rattle.std.proofs.Common.{append_assoc, length-append, add-zero}
 use Rattle.std.specs.Prelude.{nat_lt, if◌then◌else◌}
 use Rattle.std.proofs.lemmas.Bool.{lt-ltb}
 use Rattle.std.proofs.lemmas.Option.{none-some, same_Some}
@@ -24,7 +25,8 @@ use Rattle.lra_graph.proofs.Writing.{Pointed, pointed_begins}
 pub walk_sites : (S : List Site) (es : List Event) (U : List Site) → walk S es ≡ passed U → U ≡ S ++ sites_in es
 walk_sites S [] U e = sym (passed_same S U e) ∙ sym (append-nil S)
 walk_sites S (comes s ∷ es) U e =
-    walk_sites (S ++ s ∷ []) es U (chosen_passed (nat_lt greatest_live s.live) (nat_lt greatest_points (suc (length S))) (Variables s.label) (Points s.label) (walk (S ++ s ∷ []) es) U e) ∙ append_assoc S (s ∷ []) (sites_in es)
+    walk_sites (S ++ s ∷ []) es U (chosen_passed (nat_lt greatest_live s.live) (nat_lt greatest_points (suc (length S))) (Variables s.label) (Points s.label) (walk (S ++ s ∷ []) es) U e)
+    ∙ append_assoc S (s ∷ []) (sites_in es)
 walk_sites S (one_call_more at ∷ es) U e = absurd (not_passed (Calls at) U e)
 
 -- what a progress says of the refusal
@@ -80,7 +82,8 @@ module _ (P : Program) (alone : P.main.parameters ≡ 0) where
   abbrev last_site : ℕ → Site
   last_site n = record { path = []; label = P.main.end; live = n; asserts = false }
 
-  pub whole_walk : (V U : List Site) (h : Node) → WritesItems P [] (first_frame P) [] P.main.body h V → Pointed V (last_site (live_behind (length P.globals) P.main.body)) U → walk [] (events_of P) ≡ passed U
+  pub whole_walk : (V U : List Site) (h : Node) → WritesItems P [] (first_frame P) [] P.main.body h V → Pointed V (last_site (live_behind (length P.globals) P.main.body)) U
+      → walk [] (events_of P) ≡ passed U
   whole_walk V U h x e = subst (λ es. walk [] es ≡ passed U) events_are
       (walk_then [] (items_events (call_events P 32) [] (length P.globals) P.main.body) (plain_site [] P.main.end (live_behind (length P.globals) P.main.body) ∷ []) V (passed U) x.walked e)
 
@@ -97,7 +100,8 @@ module _ (P : Program) (alone : P.main.parameters ≡ 0) where
   pub whole_sites : (U : List Site) → walk [] (events_of P) ≡ passed U → U ≡ sites_of P
   whole_sites U e = walk_sites [] (events_of P) U e
 
-  pub whole_graph : (V U : List Site) (h g : Node) (q : ℕ) → WritesItems P [] (first_frame P) [] P.main.body h V → Pointed V (last_site (live_behind (length P.globals) P.main.body)) U → q ≡ length V → g ≡ seq h (point q) → IsGraph P g
+  pub whole_graph : (V U : List Site) (h g : Node) (q : ℕ) → WritesItems P [] (first_frame P) [] P.main.body h V → Pointed V (last_site (live_behind (length P.globals) P.main.body)) U
+      → q ≡ length V → g ≡ seq h (point q) → IsGraph P g
   whole_graph V U h g q x e i a =
       let n = live_behind (length P.globals) P.main.body in
       let same : U ≡ sites_of P = whole_sites U (whole_walk V U h x e) in
@@ -113,7 +117,8 @@ module _ (P : Program) (alone : P.main.parameters ≡ 0) where
       }
 
 -- as the code has it: the path, the frame, the points, the items and the label of the end are known by equations
-module _ (P : Program) (well : IsWellFormed P) (p : List ℕ) (r : Frame) (S : List Site) (b : BlockItems) (at : ℕ) (from : p ≡ []) (first : r ≡ first_frame P) (none : S ≡ []) (body : P.main.body ≡ b) (ends : P.main.end ≡ at) where
+module _ (P : Program) (well : IsWellFormed P) (p : List ℕ) (r : Frame) (S : List Site) (b : BlockItems) (at : ℕ) (from : p ≡ []) (first : r ≡ first_frame P) (none : S ≡ [])
+    (body : P.main.body ≡ b) (ends : P.main.end ≡ at) where
   writes_as : (h : Node) (V : List Site) → WritesItems P p r S b h V → WritesItems P [] (first_frame P) [] P.main.body h V
   writes_as h V x =
       subst (λ z. WritesItems P [] (first_frame P) [] z h V) (sym body)
@@ -122,9 +127,11 @@ module _ (P : Program) (well : IsWellFormed P) (p : List ℕ) (r : Frame) (S : L
   lives_as : (n : ℕ) → n ≡ live_behind r.live b → n ≡ live_behind (length P.globals) P.main.body
   lives_as n same = same ∙ ap (λ (z : Frame). live_behind z.live b) first ∙ ap (λ z. live_behind (length P.globals) z) (sym body)
 
-  end_as : (n : ℕ) (V : List Site) (w : Progress) → n ≡ live_behind r.live b → walk V (plain_site p at n ∷ []) ≡ w → walk V (plain_site [] P.main.end (live_behind (length P.globals) P.main.body) ∷ []) ≡ w
+  end_as : (n : ℕ) (V : List Site) (w : Progress) → n ≡ live_behind r.live b → walk V (plain_site p at n ∷ []) ≡ w
+      → walk V (plain_site [] P.main.end (live_behind (length P.globals) P.main.body) ∷ []) ≡ w
   end_as n V w same e =
-      subst (λ z. walk V (plain_site [] P.main.end z ∷ []) ≡ w) (lives_as n same) (subst (λ z. walk V (plain_site [] z n ∷ []) ≡ w) (sym ends) (subst (λ z. walk V (plain_site z at n ∷ []) ≡ w) from e))
+      subst (λ z. walk V (plain_site [] P.main.end z ∷ []) ≡ w) (lives_as n same)
+      (subst (λ z. walk V (plain_site [] z n ∷ []) ≡ w) (sym ends) (subst (λ z. walk V (plain_site z at n ∷ []) ≡ w) from e))
 
   module _ (V U : List Site) (n q : ℕ) (h : Node) (same : n ≡ live_behind r.live b) (x : WritesItems P p r S b h V) (e : walk V (plain_site p at n ∷ []) ≡ passed U) where
     pub made_walk : walk [] (events_of P) ≡ passed U
@@ -148,5 +155,6 @@ module _ (P : Program) (well : IsWellFormed P) (p : List ℕ) (r : Frame) (S : L
       (subst (λ z. walk z (items_events (call_events P 32) [] (length P.globals) b) ≡ stopped x) none
       (subst (λ (z : Frame). walk S (items_events (inside P [] z) [] z.live b) ≡ stopped x) first (subst (λ z. walk S (items_events (inside P z r) z r.live b) ≡ stopped x) from e)))))
 
-  pub refused_at_end : (V : List Site) (h : Node) (n : ℕ) (x : Limit) → n ≡ live_behind r.live b → WritesItems P p r S b h V → walk V (plain_site p at n ∷ []) ≡ stopped x → (ls : List Labelled) → limit_fault ls 0 (events_of P) ≡ Some (refusal_of ls x)
+  pub refused_at_end : (V : List Site) (h : Node) (n : ℕ) (x : Limit) → n ≡ live_behind r.live b → WritesItems P p r S b h V → walk V (plain_site p at n ∷ []) ≡ stopped x → (ls : List Labelled)
+      → limit_fault ls 0 (events_of P) ≡ Some (refusal_of ls x)
   refused_at_end V h n x same y e ls = refused_there P x ls (end_stopped P well.alone V x (writes_as h V y).walked (end_as n V (stopped x) same e))

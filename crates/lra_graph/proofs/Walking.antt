@@ -37,19 +37,22 @@ chosen_stopped false false x y z r r' h e = h e
 -- behind what passes, all goes on from there
 pub walk_then : (S : List Site) (es fs : List Event) (U : List Site) (r : Progress) → walk S es ≡ passed U → walk U fs ≡ r → walk S (es ++ fs) ≡ r
 walk_then S [] fs U r e f = subst (λ V. walk V fs ≡ r) (sym (passed_same S U e)) f
-walk_then S (comes s ∷ es) fs U r e f = chosen_then (nat_lt greatest_live s.live) (nat_lt greatest_points (suc (length S))) (Variables s.label) (Points s.label) (walk (S ++ s ∷ []) es) (walk (S ++ s ∷ []) (es ++ fs)) r U e
+walk_then S (comes s ∷ es) fs U r e f = chosen_then (nat_lt greatest_live s.live) (nat_lt greatest_points (suc (length S))) (Variables s.label) (Points s.label) (walk (S ++ s ∷ []) es)
+    (walk (S ++ s ∷ []) (es ++ fs)) r U e
     (λ e'. walk_then (S ++ s ∷ []) es fs U r e' f)
 walk_then S (one_call_more at ∷ es) fs U r e f = absurd (not_passed (Calls at) U e)
 
 -- and where a limit stops, nothing follows
 pub walk_stop : (S : List Site) (es fs : List Event) (x : Limit) → walk S es ≡ stopped x → walk S (es ++ fs) ≡ stopped x
 walk_stop S [] fs x e = absurd (not_passed x S (sym e))
-walk_stop S (comes s ∷ es) fs x e = chosen_stopped (nat_lt greatest_live s.live) (nat_lt greatest_points (suc (length S))) (Variables s.label) (Points s.label) x (walk (S ++ s ∷ []) es) (walk (S ++ s ∷ []) (es ++ fs)) (λ e'. walk_stop (S ++ s ∷ []) es fs x e') e
+walk_stop S (comes s ∷ es) fs x e = chosen_stopped (nat_lt greatest_live s.live) (nat_lt greatest_points (suc (length S))) (Variables s.label) (Points s.label) x (walk (S ++ s ∷ []) es)
+    (walk (S ++ s ∷ []) (es ++ fs)) (λ e'. walk_stop (S ++ s ∷ []) es fs x e') e
 walk_stop S (one_call_more at ∷ es) fs x e = e
 
 -- a point alone
 pub point_added : (S U : List Site) (s : Site) → walk S (comes s ∷ []) ≡ passed U → U ≡ S ++ s ∷ []
-point_added S U s e = sym (passed_same (S ++ s ∷ []) U (chosen_passed (nat_lt greatest_live s.live) (nat_lt greatest_points (suc (length S))) (Variables s.label) (Points s.label) (passed (S ++ s ∷ [])) U e))
+point_added S U s e = sym
+    (passed_same (S ++ s ∷ []) U (chosen_passed (nat_lt greatest_live s.live) (nat_lt greatest_points (suc (length S))) (Variables s.label) (Points s.label) (passed (S ++ s ∷ [])) U e))
 
 pub begins_same : (S : List Site) → Begins S S
 begins_same S i x e = e
@@ -67,7 +70,8 @@ last_there (y ∷ S) s = last_there S s
 pub begins_walk : (S : List Site) (es : List Event) (U : List Site) → walk S es ≡ passed U → Begins S U
 begins_walk S [] U e i x f = subst (λ V. slice_get V i ≡ Some x) (passed_same S U e) f
 begins_walk S (comes s ∷ es) U e i x f =
-    begins_walk (S ++ s ∷ []) es U (chosen_passed (nat_lt greatest_live s.live) (nat_lt greatest_points (suc (length S))) (Variables s.label) (Points s.label) (walk (S ++ s ∷ []) es) U e) i x (begins_with S s i x f)
+    begins_walk (S ++ s ∷ []) es U (chosen_passed (nat_lt greatest_live s.live) (nat_lt greatest_points (suc (length S))) (Variables s.label) (Points s.label) (walk (S ++ s ∷ []) es) U e) i x
+    (begins_with S s i x f)
 begins_walk S (one_call_more at ∷ es) U e i x f = absurd (not_passed (Calls at) U e)
 
 -- the point that was written

@@ -1,14 +1,17 @@
 -- Each form of a statement, written out behind the points before it.
 use Rattle.std.proofs.Common.{◌≡◌, ℕ, suc, ◌+◌, ◌≤◌, List, [], ◌∷◌, ◌++◌, length, Option, Some, None, Bool, true, false, slice_get, refl, sym, ap, ◌∙◌, subst}
 use Rattle.std.proofs.lemmas.Option.{none-some, same_Some}
-use Rattle.lra_tree.specs.Program.{Slot, Expr, Cond, Call, Source, value, result, Declarator, Stmt, absent, nothing, block, assign, call, if, loop, for, break, continue, return, assert, assume, BlockItems, no_more, declaration, statement, Function, Program}
+use Rattle.lra_tree.specs.Program.{Slot, Expr, Cond, Call, Source, value, result, Declarator, Stmt, absent, nothing, block, assign, call, if, loop, for, break, continue, return, assert, assume}
+use Rattle.lra_tree.specs.Program.{BlockItems, no_more, declaration, statement, Function, Program}
 use Rattle.lra_tree.specs.Value.{index_of}
 use Rattle.lra_tree.specs.Step as step
 use Rattle.lra_tree.specs.Step.{append, give, give_any, push, keep, test}
 use Rattle.lra_tree.specs.Graph.{Exit, broken, continued, returned, Node, empty, point, act, check, seq, choose, leave}
 use Rattle.lra_tree.specs.Sites.{Site, comes, plain_site, live_behind, source_events, given_events, stmt_events, items_events, function_events, call_events}
 use Rattle.lra_tree.specs.Inlined as inlined
-use Rattle.lra_tree.specs.Inlined.{Has, HasSite, callee, Inl, InlAll, Declares, Loops, Gives, as_nothing, as_block, as_absent, as_assign, as_call, as_if, as_loop, as_for, as_break, as_continue, as_return, as_return_value, as_return_call, as_end, as_end_value, as_end_call, as_assert, as_assume, as_none, as_declaration, as_statement, as_fresh, as_given, is_loop, as_value, as_result, loop_node, call_node, return_node}
+use Rattle.lra_tree.specs.Inlined.{Has, HasSite, callee, Inl, InlAll, Declares, Loops, Gives, as_nothing, as_block, as_absent, as_assign, as_call, as_if, as_loop, as_for, as_break, as_continue}
+use Rattle.lra_tree.specs.Inlined.{as_return, as_return_value, as_return_call, as_end, as_end_value, as_end_call, as_assert, as_assume, as_none, as_declaration, as_statement, as_fresh, as_given}
+use Rattle.lra_tree.specs.Inlined.{is_loop, as_value, as_result, loop_node, call_node, return_node}
 use Rattle.lra_graph.specs.declared.frame.Frame.{Frame}
 use Rattle.lra_graph.specs.declared.frame.Back.{Back}
 use Rattle.lra_graph.specs.Limits.{walk, passed}
@@ -61,24 +64,28 @@ module _ (P : Program) (path : List ℕ) (r : Frame) where
     placed = λ T f b is. rw (i, one_longer S U (site at N false) e) (as_nothing f N (length S) at (has_point S U T f at N false e b is));
   }
 
-  pub block_written : (S V U : List Site) (q n end : ℕ) (items : BlockItems) (h tail g : Node) → WritesItems P path r S items h V → n ≡ live_behind N items → q ≡ length V → Pointed V (site end n false) U
+  pub block_written : (S V U : List Site) (q n end : ℕ) (items : BlockItems) (h tail g : Node) → WritesItems P path r S items h V → n ≡ live_behind N items → q ≡ length V
+      → Pointed V (site end n false) U
       → tail ≡ seq (point q) (act q (keep N)) → g ≡ seq h tail → WritesStmt P path r S (block items end) g U
   block_written S V U q n end items h tail g x same i e a a' =
       let e' : Pointed V (site end (live_behind N items) false) U = rw (← same) e in
       record {
         walked = walk_then S (items_events (inside P path r) path N items) (plain_site path end (live_behind N items) ∷ []) V (passed U) x.walked e';
         placed = λ T f b is. rw (a', a, i, one_longer V U (site end (live_behind N items) false) e')
-            (as_block f N (length S) items end h (live_behind N items) (length V) (x.placed T f (begins_join V U T (pointed_begins V U (site end (live_behind N items) false) e') b) is) (has_point V U T f end (live_behind N items) false e' b is));
+            (as_block f N (length S) items end h (live_behind N items) (length V) (x.placed T f (begins_join V U T (pointed_begins V U (site end (live_behind N items) false) e') b) is)
+            (has_point V U T f end (live_behind N items) false e' b is));
       }
 
-  gives_as : (T : List Site) (f : inlined.Frame) (n k k' m m' : ℕ) (x x' : Option ℕ) (s : Source) (h : Node) (u : ℕ) → k ≡ k' → m ≡ m' → x ≡ x' → Gives P T f n k m x s h u → Gives P T f n k' m' x' s h u
+  gives_as : (T : List Site) (f : inlined.Frame) (n k k' m m' : ℕ) (x x' : Option ℕ) (s : Source) (h : Node) (u : ℕ) → k ≡ k' → m ≡ m' → x ≡ x' → Gives P T f n k m x s h u
+      → Gives P T f n k' m' x' s h u
   gives_as T f n k k' m m' x x' s h u a b c y =
       subst (λ z. Gives P T f n k' m' z s h u) c (subst (λ z. Gives P T f n k' z x s h u) b (subst (λ z. Gives P T f n z m x s h u) a y))
 
   inl_as : (T : List Site) (f : inlined.Frame) (n k k' : ℕ) (s : Stmt) (h : Node) (u : ℕ) → k ≡ k' → Inl P T f n k s h n u → Inl P T f n k' s h n u
   inl_as T f n k k' s h u e y = subst (λ z. Inl P T f n z s h n u) e y
 
-  pub assign_written : (S V U : List Site) (q at place : ℕ) (x : Slot) (s : Source) (h g : Node) → q ≡ length S → Pointed S (site at N false) V → place ≡ index_of r.base x → WritesSource P path r q (Some place) V s h U
+  pub assign_written : (S V U : List Site) (q at place : ℕ) (x : Slot) (s : Source) (h g : Node) → q ≡ length S → Pointed S (site at N false) V → place ≡ index_of r.base x
+      → WritesSource P path r q (Some place) V s h U
       → g ≡ seq (point q) h → WritesStmt P path r S (assign at x s) g U
   assign_written S V U q at place x s h g i e j y a = record {
     walked = walk_then S (plain_site path at N ∷ []) (source_events (inside P path r) path N s) V (passed U) e y.walked;
@@ -99,7 +106,8 @@ module _ (P : Program) (path : List ℕ) (r : Frame) where
         rw (a, i) (as_call f N (length S) at c h (length U) (has_point S V T f at N false e b' is) y');
   }
 
-  pub if_written : (S V W U : List Site) (q at : ℕ) (c : Cond) (s t : Stmt) (h h' k g : Node) → q ≡ length S → Pointed S (site at N false) V → WritesStmt P path r V s h W → WritesStmt P path r W t h' U
+  pub if_written : (S V W U : List Site) (q at : ℕ) (c : Cond) (s t : Stmt) (h h' k g : Node) → q ≡ length S → Pointed S (site at N false) V → WritesStmt P path r V s h W
+      → WritesStmt P path r W t h' U
       → k ≡ choose q r.base c h h' → g ≡ seq (point q) k → WritesStmt P path r S (if at c s t) g U
   if_written S V W U q at c s t h h' k g i e x y a a' = record {
     walked = walk_then S (plain_site path at N ∷ []) (stmt_events (inside P path r) path N s ++ stmt_events (inside P path r) path N t) V (passed U) e
@@ -112,19 +120,22 @@ module _ (P : Program) (path : List ℕ) (r : Frame) where
   }
 
   -- a loop behind its own point
-  pub rounds_written : (V W U : List Site) (q : ℕ) (c : Cond) (s t : Stmt) (h h' g : Node) → WritesStmt P path (record r { loop_length = None }) V t h' W → WritesStmt P path (record r { loop_length = Some r.live }) W s h U
+  pub rounds_written : (V W U : List Site) (q : ℕ) (c : Cond) (s t : Stmt) (h h' g : Node) → WritesStmt P path (record r { loop_length = None }) V t h' W
+      → WritesStmt P path (record r { loop_length = Some r.live }) W s h U
       → g ≡ loop_node q r.base c h h' → WritesLoop P path r q V c s t g U
   rounds_written V W U q c s t h h' g x y a = record {
     walked = walk_then V (stmt_events (inside P path r) path N t) (stmt_events (inside P path r) path N s) W (passed U) x.walked y.walked;
     placed = λ T f b is at has.
         let b' = begins_join W U T (begins_walk W (stmt_events (inside P path r) path N s) U y.walked) b in
-        rw (a, ← is.base) (is_loop f N q (length V) at c s t h h' (length W) (length U) has (x.placed T (record f { loop = None }) b' (in_loop None is)) (y.placed T (record f { loop = Some N }) b (in_loop (Some N) is)));
+        rw (a, ← is.base) (is_loop f N q (length V) at c s t h h' (length W) (length U) has (x.placed T (record f { loop = None }) b' (in_loop None is))
+        (y.placed T (record f { loop = Some N }) b (in_loop (Some N) is)));
   }
 
   loops_as : (T : List Site) (f : inlined.Frame) (n k k' m m' : ℕ) (s : Stmt) (g : Node) (u : ℕ) → k ≡ k' → m ≡ m' → Loops P T f n k m s g u → Loops P T f n k' m' s g u
   loops_as T f n k k' m m' s g u a b y = subst (λ z. Loops P T f n k' z s g u) b (subst (λ z. Loops P T f n z m s g u) a y)
 
-  pub loop_written : (S V U : List Site) (q at : ℕ) (c : Cond) (s t : Stmt) (g : Node) → q ≡ length S → Pointed S (site at N false) V → WritesLoop P path r q V c s t g U → WritesStmt P path r S (loop at c s t) g U
+  pub loop_written : (S V U : List Site) (q at : ℕ) (c : Cond) (s t : Stmt) (g : Node) → q ≡ length S → Pointed S (site at N false) V → WritesLoop P path r q V c s t g U
+      → WritesStmt P path r S (loop at c s t) g U
   loop_written S V U q at c s t g i e x = record {
     walked = walk_then S (plain_site path at N ∷ []) (stmt_events (inside P path r) path N t ++ stmt_events (inside P path r) path N s) V (passed U) e x.walked;
     placed = λ T f b is.
@@ -134,14 +145,16 @@ module _ (P : Program) (path : List ℕ) (r : Frame) where
         (loops_as T f N q (length S) (length V) (suc (length S)) (loop at c s t) g (length U) i (one_longer S V (site at N false) e) (x.placed T f b is at has));
   }
 
-  pub break_written : (S U : List Site) (q at m : ℕ) (h g : Node) → q ≡ length S → Pointed S (site at N false) U → r.loop_length ≡ Some m → m ≤ N → h ≡ seq (act q (keep m)) (leave N broken) → g ≡ seq (point q) h
+  pub break_written : (S U : List Site) (q at m : ℕ) (h g : Node) → q ≡ length S → Pointed S (site at N false) U → r.loop_length ≡ Some m → m ≤ N → h ≡ seq (act q (keep m)) (leave N broken)
+      → g ≡ seq (point q) h
       → WritesStmt P path r S (break at) g U
   break_written S U q at m h g i e j low a a' = record {
     walked = e;
     placed = λ T f b is. rw (a', a, i, one_longer S U (site at N false) e) (as_break f N (length S) at m (is.loop ∙ j) low (has_point S U T f at N false e b is));
   }
 
-  pub continue_written : (S U : List Site) (q at m : ℕ) (h g : Node) → q ≡ length S → Pointed S (site at N false) U → r.loop_length ≡ Some m → m ≤ N → h ≡ seq (act q (keep m)) (leave N continued) → g ≡ seq (point q) h
+  pub continue_written : (S U : List Site) (q at m : ℕ) (h g : Node) → q ≡ length S → Pointed S (site at N false) U → r.loop_length ≡ Some m → m ≤ N
+      → h ≡ seq (act q (keep m)) (leave N continued) → g ≡ seq (point q) h
       → WritesStmt P path r S (continue at) g U
   continue_written S U q at m h g i e j low a a' = record {
     walked = e;
@@ -154,13 +167,15 @@ module _ (P : Program) (path : List ℕ) (r : Frame) where
     placed = λ T f b is. rw (a, i, ← is.base, one_longer S U (site at N true) e) (as_assert f N (length S) at c (has_point S U T f at N true e b is));
   }
 
-  pub assume_written : (S U : List Site) (q at : ℕ) (c : Cond) (g : Node) → q ≡ length S → Pointed S (site at N false) U → g ≡ seq (point q) (act q (test r.base c true)) → WritesStmt P path r S (assume at c) g U
+  pub assume_written : (S U : List Site) (q at : ℕ) (c : Cond) (g : Node) → q ≡ length S → Pointed S (site at N false) U → g ≡ seq (point q) (act q (test r.base c true))
+      → WritesStmt P path r S (assume at c) g U
   assume_written S U q at c g i e a = record {
     walked = e;
     placed = λ T f b is. rw (a, i, ← is.base, one_longer S U (site at N false) e) (as_assume f N (length S) at c (has_point S U T f at N false e b is));
   }
 
-  pub for_written : (S V W U : List Site) (q at n : ℕ) (init : BlockItems) (c : Cond) (s t : Stmt) (h k l g : Node) → q ≡ length S → n ≡ live_behind N init → Pointed S (site at n false) V → WritesItems P path r V init h W
+  pub for_written : (S V W U : List Site) (q at n : ℕ) (init : BlockItems) (c : Cond) (s t : Stmt) (h k l g : Node) → q ≡ length S → n ≡ live_behind N init → Pointed S (site at n false) V
+      → WritesItems P path r V init h W
       → WritesLoop P path (record r { live = n }) q W c s t k U → l ≡ seq k (act q (keep N)) → g ≡ seq h l → WritesStmt P path r S (for init (loop at c s t)) g U
   for_written S V W U q at n init c s t h k l g i same e x y a a' =
       let m = live_behind N init in
@@ -168,7 +183,8 @@ module _ (P : Program) (path : List ℕ) (r : Frame) where
       let y' = subst (λ z. WritesLoop P path (record r { live = z }) q W c s t k U) same y in
       let rest = stmt_events (inside P path r) path m t ++ stmt_events (inside P path r) path m s in
       record {
-        walked = walk_then S (plain_site path at m ∷ []) (items_events (inside P path r) path N init ++ rest) V (passed U) e' (walk_then V (items_events (inside P path r) path N init) rest W (passed U) x.walked y'.walked);
+        walked = walk_then S (plain_site path at m ∷ []) (items_events (inside P path r) path N init ++ rest) V (passed U) e'
+            (walk_then V (items_events (inside P path r) path N init) rest W (passed U) x.walked y'.walked);
         placed = λ T f b is.
             let b' = begins_join W U T (begins_walk W rest U y'.walked) b in
             let b'' = begins_join V W T (begins_walk V (items_events (inside P path r) path N init) W x.walked) b' in
@@ -178,7 +194,8 @@ module _ (P : Program) (path : List ℕ) (r : Frame) where
             (loops_as T f m q (length S) (length W) (length W) (loop at c s t) k (length U) i refl (y'.placed T f b (with_live m is) at has)));
       }
 
-  pub return_written : (S V U : List Site) (q at : ℕ) (o : Option Source) (h g : Node) → q ≡ length S → Pointed S (site at N false) V → WritesReturn P path r q V o h U → g ≡ seq (point q) h → WritesStmt P path r S (return at o) g U
+  pub return_written : (S V U : List Site) (q at : ℕ) (o : Option Source) (h g : Node) → q ≡ length S → Pointed S (site at N false) V → WritesReturn P path r q V o h U → g ≡ seq (point q) h
+      → WritesStmt P path r S (return at o) g U
   return_written S V U q at o h g i e x a = record {
     walked = walk_then S (plain_site path at N ∷ []) (given_events (inside P path r) path N o) V (passed U) e x.walked;
     placed = λ T f b is.
@@ -187,9 +204,11 @@ module _ (P : Program) (path : List ℕ) (r : Frame) where
         rw a (inl_as T f N q (length S) (return at o) (seq (point q) h) (length U) i (x.placed T f b is at (one_longer S V (site at N false) e ∙ ap suc (sym i)) has));
   }
 
-  return_as : (T : List Site) (f : inlined.Frame) (q : ℕ) (s : Stmt) (op : Option ℕ → step.Op) (u : ℕ) (t t' : Option ℕ) (m m' : ℕ) → t ≡ t' → m ≡ m' → Inl P T f N q s (seq (point q) (return_node q (op t) m N)) N u
+  return_as : (T : List Site) (f : inlined.Frame) (q : ℕ) (s : Stmt) (op : Option ℕ → step.Op) (u : ℕ) (t t' : Option ℕ) (m m' : ℕ) → t ≡ t' → m ≡ m'
+      → Inl P T f N q s (seq (point q) (return_node q (op t) m N)) N u
       → Inl P T f N q s (seq (point q) (return_node q (op t') m' N)) N u
-  return_as T f q s op u t t' m m' a b y = subst (λ z. Inl P T f N q s (seq (point q) (return_node q (op t') z N)) N u) b (subst (λ z. Inl P T f N q s (seq (point q) (return_node q (op z) m N)) N u) a y)
+  return_as T f q s op u t t' m m' a b y = subst (λ z. Inl P T f N q s (seq (point q) (return_node q (op t') z N)) N u) b
+      (subst (λ z. Inl P T f N q s (seq (point q) (return_node q (op z) m N)) N u) a y)
 
   module _ (S : List Site) (q : ℕ) (b : Back) (back : r.back ≡ Some b) (low : b.length ≤ N) where
     pub return_any_written : (g : Node) → g ≡ return_node q (give_any b.target) b.length N → WritesReturn P path r q S None g S
@@ -207,16 +226,19 @@ module _ (P : Program) (path : List ℕ) (r : Frame) where
       placed = λ T f bs is at long has.
           let z = back_there f.back b (is.back ∙ back) in
           let low' : z.0.length ≤ N = subst (λ m. m ≤ N) (sym z.3) low in
-          rw (a, long, ← is.base) (return_as T f q (return at (Some (value e))) (λ t. give f.here.base t e) (suc q) z.0.target b.target z.0.length b.length z.2 z.3 (as_return_value f N q at e z.0 z.1 low' has));
+          rw (a, long, ← is.base) (return_as T f q (return at (Some (value e))) (λ t. give f.here.base t e) (suc q) z.0.target b.target z.0.length b.length z.2 z.3
+          (as_return_value f N q at e z.0 z.1 low' has));
     }
 
-    pub return_call_written : (U : List Site) (c : Call) (h k g : Node) → WritesSource P path r q b.target S (result c) h U → k ≡ seq (act q (keep b.length)) (leave N returned) → g ≡ seq h k → WritesReturn P path r q S (Some (result c)) g U
+    pub return_call_written : (U : List Site) (c : Call) (h k g : Node) → WritesSource P path r q b.target S (result c) h U → k ≡ seq (act q (keep b.length)) (leave N returned) → g ≡ seq h k
+        → WritesReturn P path r q S (Some (result c)) g U
     return_call_written U c h k g y a a' = record {
       walked = y.walked;
       placed = λ T f bs is at long has.
           let z = back_there f.back b (is.back ∙ back) in
           let low' : z.0.length ≤ N = subst (λ m. m ≤ N) (sym z.3) low in
-          rw (a', a, ← z.3) (as_return_call f N q at c z.0 h (length U) z.1 low' has (gives_as T f N q q (length S) (suc q) b.target z.0.target (result c) h (length U) refl long (sym z.2) (y.placed T f bs is)));
+          rw (a', a, ← z.3) (as_return_call f N q at c z.0 h (length U) z.1 low' has
+          (gives_as T f N q q (length S) (suc q) b.target z.0.target (result c) h (length U) refl long (sym z.2) (y.placed T f bs is)));
     }
 
   module _ (S : List Site) (q : ℕ) (back : r.back ≡ None) where
@@ -230,13 +252,15 @@ module _ (P : Program) (path : List ℕ) (r : Frame) where
     end_call_written U c h g y a = record {
       walked = y.walked;
       placed = λ T f bs is at long has.
-          rw a (as_end_call f N q at c h (length U) (no_back_there f.back (is.back ∙ back)) has (gives_as T f N q q (length S) (suc q) None None (result c) h (length U) refl long refl (y.placed T f bs is)));
+          rw a (as_end_call f N q at c h (length U) (no_back_there f.back (is.back ∙ back)) has
+          (gives_as T f N q q (length S) (suc q) None None (result c) h (length U) refl long refl (y.placed T f bs is)));
     }
 
   pub none_written : (S : List Site) → WritesItems P path r S no_more empty S
   none_written S = record { walked = refl; placed = λ T f b is. as_none f N (length S) }
 
-  pub statement_written : (S V U : List Site) (a : Stmt) (b : BlockItems) (h k g : Node) → WritesStmt P path r S a h V → WritesItems P path r V b k U → g ≡ seq h k → WritesItems P path r S (statement a b) g U
+  pub statement_written : (S V U : List Site) (a : Stmt) (b : BlockItems) (h k g : Node) → WritesStmt P path r S a h V → WritesItems P path r V b k U → g ≡ seq h k
+      → WritesItems P path r S (statement a b) g U
   statement_written S V U a b h k g x y e = record {
     walked = walk_then S (stmt_events (inside P path r) path N a) (items_events (inside P path r) path N b) V (passed U) x.walked y.walked;
     placed = λ T f bs is.
@@ -244,7 +268,8 @@ module _ (P : Program) (path : List ℕ) (r : Frame) where
         rw e (as_statement f N (length S) a b h k (length V) (live_behind N b) (length U) (x.placed T f bs' is) (y.placed T f bs is));
   }
 
-  pub declaration_written : (S V W U : List Site) (q n : ℕ) (d : Declarator) (b : BlockItems) (h j k g : Node) → q ≡ length S → n ≡ suc N → Pointed S (site d.label N false) V → WritesDeclared P path r q V d.source h W
+  pub declaration_written : (S V W U : List Site) (q n : ℕ) (d : Declarator) (b : BlockItems) (h j k g : Node) → q ≡ length S → n ≡ suc N → Pointed S (site d.label N false) V
+      → WritesDeclared P path r q V d.source h W
       → WritesItems P path (record r { live = n }) W b k U → j ≡ seq (point q) h → g ≡ seq j k → WritesItems P path r S (declaration d b) g U
   declaration_written S V W U q n d b h j k g i same e x y a a' =
       let y' = subst (λ z. WritesItems P path (record r { live = z }) W b k U) same y in
@@ -256,14 +281,17 @@ module _ (P : Program) (path : List ℕ) (r : Frame) where
             let bs' = begins_join W U T (begins_walk W rest U y'.walked) bs in
             let bs'' = begins_join V W T (begins_walk V mid W x.walked) bs' in
             let x' : Declares P T f N (length S) (suc (length S)) d.source h (length W) =
-            subst (λ z. Declares P T f N (length S) z d.source h (length W)) (one_longer S V (site d.label N false) e) (subst (λ z. Declares P T f N z (length V) d.source h (length W)) i (x.placed T f bs' is)) in
-            rw (a', a, i) (as_declaration f N (length S) d b h k (length W) (live_behind (suc N) b) (length U) (has_point S V T f d.label N false e bs'' is) x' (y'.placed T f bs (with_live (suc N) is)));
+            subst (λ z. Declares P T f N (length S) z d.source h (length W)) (one_longer S V (site d.label N false) e)
+            (subst (λ z. Declares P T f N z (length V) d.source h (length W)) i (x.placed T f bs' is)) in
+            rw (a', a, i) (as_declaration f N (length S) d b h k (length W) (live_behind (suc N) b) (length U) (has_point S V T f d.label N false e bs'' is) x'
+            (y'.placed T f bs (with_live (suc N) is)));
       }
 
   pub fresh_written : (S : List Site) (q : ℕ) (g : Node) → g ≡ act q append → WritesDeclared P path r q S None g S
   fresh_written S q g a = record { walked = refl; placed = λ T f b is. rw a (as_fresh f N q (length S)) }
 
-  pub given_written : (S U : List Site) (q n : ℕ) (e : Source) (h g : Node) → n ≡ suc N → WritesSource P path (record r { live = n }) q (Some r.live) S e h U → g ≡ seq (act q append) h → WritesDeclared P path r q S (Some e) g U
+  pub given_written : (S U : List Site) (q n : ℕ) (e : Source) (h g : Node) → n ≡ suc N → WritesSource P path (record r { live = n }) q (Some r.live) S e h U → g ≡ seq (act q append) h
+      → WritesDeclared P path r q S (Some e) g U
   given_written S U q n e h g same y a =
       let y' = subst (λ z. WritesSource P path (record r { live = z }) q (Some r.live) S e h U) same y in
       record { walked = y'.walked; placed = λ T f b is. rw a (as_given f N q (length S) e h (length U) (y'.placed T f b (with_live (suc N) is))) }
@@ -272,8 +300,10 @@ module _ (P : Program) (path : List ℕ) (r : Frame) where
   value_written S q x e g a = record { walked = refl; placed = λ T f b is. rw (a, ← is.base) (as_value f N q (length S) x e) }
 
   -- a call that may still be made
-  pub result_written : (S V U : List Site) (q k n more : ℕ) (x : Option ℕ) (c : Call) (fn : Function) (h g : Node) → r.calls_left ≡ suc more → slice_get P.functions c.function ≡ Some fn → length c.arguments ≡ fn.parameters
-      → WritesItems P (c.label ∷ path) (record { base = r.live; live = r.live + fn.parameters; calls_left = more; loop_length = None; back = Some (record { target = x; length = r.live }) }) S fn.body h V
+  pub result_written : (S V U : List Site) (q k n more : ℕ) (x : Option ℕ) (c : Call) (fn : Function) (h g : Node) → r.calls_left ≡ suc more → slice_get P.functions c.function ≡ Some fn
+      → length c.arguments ≡ fn.parameters
+      → WritesItems P (c.label ∷ path) (record { base = r.live; live = r.live + fn.parameters; calls_left = more; loop_length = None; back = Some (record { target = x; length = r.live }) }) S
+      fn.body h V
       → n ≡ live_behind (N + fn.parameters) fn.body → k ≡ length V → Pointed V (record { path = c.label ∷ path; label = fn.end; live = n; asserts = false }) U
       → g ≡ call_node q k r.base N x c.arguments fn.parameters h → WritesSource P path r q x S (result c) g U
   result_written S V U q k n more x c fn h g left found wide y same i e a =
@@ -284,13 +314,17 @@ module _ (P : Program) (path : List ℕ) (r : Frame) where
         walked = subst (λ z. walk S (call_events P z path N c) ≡ passed U) (sym left) (subst (λ o. walk S (function_events (call_events P more) (c.label ∷ path) N o) ≡ passed U) (sym found)
             (walk_then S (items_events (call_events P more) (c.label ∷ path) (N + fn.parameters) fn.body) (plain_site (c.label ∷ path) fn.end m ∷ []) V (passed U) y.walked e'));
         placed = λ T f b is.
-            let is' : IsFrame (c.label ∷ path) (record { base = r.live; live = r.live + fn.parameters; calls_left = more; loop_length = None; back = Some (record { target = x; length = r.live }) }) (callee f N x c) = record { path = ap (λ z. c.label ∷ z) is.path; base = refl; loop = refl; back = refl } in
+            let is' : IsFrame (c.label ∷ path)
+            (record { base = r.live; live = r.live + fn.parameters; calls_left = more; loop_length = None; back = Some (record { target = x; length = r.live }) }) (callee f N x c) = record
+            { path = ap (λ z. c.label ∷ z) is.path; base = refl; loop = refl; back = refl } in
             rw (a, i, ← is.base, one_longer V U last e')
-            (as_result f N q (length S) x c fn h m (length V) found wide (y.placed T (callee f N x c) (begins_join V U T (pointed_begins V U last e') b) is') (rw is.path (point_there V U T last e' b)));
+            (as_result f N q (length S) x c fn h m (length V) found wide (y.placed T (callee f N x c) (begins_join V U T (pointed_begins V U last e') b) is')
+            (rw is.path (point_there V U T last e' b)));
       }
 
 -- `break` and `continue`
-pub leaves_written : (path : List ℕ) (r : Frame) (S U : List Site) (q at m : ℕ) (exit : Exit) (h g : Node) → q ≡ length S → Pointed S (record { path = path; label = at; live = r.live; asserts = false }) U → r.loop_length ≡ Some m
+pub leaves_written : (path : List ℕ) (r : Frame) (S U : List Site) (q at m : ℕ) (exit : Exit) (h g : Node) → q ≡ length S
+    → Pointed S (record { path = path; label = at; live = r.live; asserts = false }) U → r.loop_length ≡ Some m
     → h ≡ seq (act q (keep m)) (leave r.live exit) → g ≡ seq (point q) h → LeavesLoop path r S at exit g U
 leaves_written path r S U q at m broken h g i e j a a' P d low = break_written P path r S U q at m h g i e j (low m j) a a'
 leaves_written path r S U q at m continued h g i e j a a' P d low = continue_written P path r S U q at m h g i e j (low m j) a a'

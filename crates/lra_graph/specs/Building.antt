@@ -1,10 +1,11 @@
--- What is owed for each part of a program that is written out: its points stand behind those before it, and whatever points follow, its tree is
--- that of the definition.
-use Rattle.std.specs.Prelude.{◌≡◌, ◌≢◌, ℕ, suc, ◌+◌, ◌≤◌, Bool, true, List, [], ◌∷◌, ◌++◌, length, Option, Some, None, slice_get}
+-- What is owed for each part of a program that is written out: its points stand behind those before it, and whatever
+-- points follow, its tree is that of the definition.
+use Rattle.std.specs.Prelude.{◌≡◌, ◌≢◌, ℕ, suc, ◌+◌, ◌≤◌, Bool, true, List, ◌++◌, length, Option, Some, None, slice_get}
 use Rattle.lra_tree.specs.Program.{Cond, Call, Source, Stmt, loop, break, continue, return, BlockItems, Program}
 use Rattle.lra_tree.specs.Step as step
 use Rattle.lra_tree.specs.Graph.{Exit, broken, continued, returned, Node, seq, point}
-use Rattle.lra_tree.specs.Sites.{Site, Event, live_behind, source_events, given_events, stmt_events, items_events, call_events}
+use Rattle.lra_tree.specs.Sites.{Site, Event, live_behind}
+use Rattle.lra_tree.specs.Sites.{source_events, given_events, stmt_events, items_events, call_events}
 use Rattle.lra_tree.specs.Inlined as inlined
 use Rattle.lra_tree.specs.WellFormed.{IsGoodCall, IsGoodGiven, IsGoodStmt, AreGoodItems}
 use Rattle.lra_graph.specs.Limits.{walk, passed, stopped}
@@ -25,7 +26,8 @@ pub record IsFrame (calls : List ℕ) (r : Frame) (f : inlined.Frame) : Type 0 w
   pub loop : f.loop ≡ r.loop_length
   pub back : back_parts f.back ≡ r.back
 
--- a well-formed part stands in the frame: the call's own variables live, `break` finds its loop, and what is cut to lives
+-- a well-formed part stands in the frame: the call's own variables live, `break` finds its loop, and what is cut to
+-- lives
 pub record Stands (r : Frame) (X : Bool → ℕ → Type 0) : Type 0 where
   pub in_loop : Bool
   pub own : ℕ
@@ -48,13 +50,14 @@ module _ (P : Program) (r : Frame) where
   abbrev pub CallStands : Call → Type 0
   CallStands c = Stands r (λ in_loop own. (at : ℕ) × IsGoodCall P at own c)
 
--- what is written --------------------------------------------------------------------------------------------------------
+-- what is written ---------------------------------------------------------------------------------------------------
 
 -- the points of the one are the first of the other
 abbrev pub Begins : List Site → List Site → Type 0
 Begins S T = (i : ℕ) (x : Site) → slice_get S i ≡ Some x → slice_get T i ≡ Some x
 
-pub record Writes (path : List ℕ) (r : Frame) (es : List Event) (S U : List Site) (X : List Site → inlined.Frame → Type 0) : Type 0 where
+pub record Writes (path : List ℕ) (r : Frame) (es : List Event) (S U : List Site)
+    (X : List Site → inlined.Frame → Type 0) : Type 0 where
   pub walked : walk S es ≡ passed U
   pub placed : (T : List Site) (f : inlined.Frame) → Begins U T → IsFrame path r f → X T f
 
@@ -63,28 +66,35 @@ module _ (P : Program) (path : List ℕ) (r : Frame) where
   inside = call_events P r.calls_left
 
   abbrev pub WritesStmt : List Site → Stmt → Node → List Site → Type 0
-  WritesStmt S s g U = Writes path r (stmt_events inside path r.live s) S U (λ T f. inlined.Inl P T f r.live (length S) s g r.live (length U))
+  WritesStmt S s g U = Writes path r (stmt_events inside path r.live s) S U
+      (λ T f. inlined.Inl P T f r.live (length S) s g r.live (length U))
 
   abbrev pub WritesItems : List Site → BlockItems → Node → List Site → Type 0
-  WritesItems S b g U = Writes path r (items_events inside path r.live b) S U (λ T f. inlined.InlAll P T f r.live (length S) b g (live_behind r.live b) (length U))
+  WritesItems S b g U = Writes path r (items_events inside path r.live b) S U
+      (λ T f. inlined.InlAll P T f r.live (length S) b g (live_behind r.live b) (length U))
 
   -- what a variable gets, from the point q on
   abbrev pub WritesSource : ℕ → Option ℕ → List Site → Source → Node → List Site → Type 0
-  WritesSource q x S e g U = Writes path r (source_events inside path r.live e) S U (λ T f. inlined.Gives P T f r.live q (length S) x e g (length U))
+  WritesSource q x S e g U = Writes path r (source_events inside path r.live e) S U
+      (λ T f. inlined.Gives P T f r.live q (length S) x e g (length U))
 
   -- a loop behind its own point q
   abbrev pub WritesLoop : ℕ → List Site → Cond → Stmt → Stmt → Node → List Site → Type 0
-  WritesLoop q S c a step g U = Writes path r (stmt_events inside path r.live step ++ stmt_events inside path r.live a) S U
-      (λ T f. (at : ℕ) → inlined.Has T q f r.live at → inlined.Loops P T f r.live q (length S) (loop at c a step) g (length U))
+  WritesLoop q S c a step g U =
+      Writes path r (stmt_events inside path r.live step ++ stmt_events inside path r.live a) S U
+      (λ T f. (at : ℕ) → inlined.Has T q f r.live at
+      → inlined.Loops P T f r.live q (length S) (loop at c a step) g (length U))
 
   -- a declarator, and its variable's value, behind its point q
   abbrev pub WritesDeclared : ℕ → List Site → Option Source → Node → List Site → Type 0
-  WritesDeclared q S o g U = Writes path r (given_events inside path (suc r.live) o) S U (λ T f. inlined.Declares P T f r.live q (length S) o g (length U))
+  WritesDeclared q S o g U = Writes path r (given_events inside path (suc r.live) o) S U
+      (λ T f. inlined.Declares P T f r.live q (length S) o g (length U))
 
   -- a return behind its point q
   abbrev pub WritesReturn : ℕ → List Site → Option Source → Node → List Site → Type 0
   WritesReturn q S o g U = Writes path r (given_events inside path r.live o) S U
-      (λ T f. (at : ℕ) → length S ≡ suc q → inlined.Has T q f r.live at → inlined.Inl P T f r.live q (return at o) (seq (point q) g) r.live (length U))
+      (λ T f. (at : ℕ) → length S ≡ suc q → inlined.Has T q f r.live at
+      → inlined.Inl P T f r.live q (return at o) (seq (point q) g) r.live (length U))
 
 -- an item takes what stands behind it: it stands in the frame with some items behind it
 abbrev pub ItemStands : Program → Frame → (BlockItems → BlockItems) → Type 0
@@ -92,11 +102,14 @@ ItemStands P r item = (b : BlockItems) × ItemsStand P r (item b)
 
 module _ (P : Program) (path : List ℕ) (r : Frame) where
   -- it is written out, and n live behind it: whatever stands behind it then begins there
-  pub record WritesItem (S : List Site) (item : BlockItems → BlockItems) (g : Node) (n : ℕ) (V : List Site) : Type 0 where
+  pub record WritesItem (S : List Site) (item : BlockItems → BlockItems) (g : Node) (n : ℕ) (V : List Site)
+      : Type 0 where
     pub live : (b : BlockItems) → live_behind n b ≡ live_behind r.live (item b)
     pub stands : (b : BlockItems) → ItemsStand P r (item b) → ItemsStand P (record r { live = n }) b
-    pub writes : (b : BlockItems) (h : Node) (U : List Site) → WritesItems P path (record r { live = n }) V b h U → WritesItems P path r S (item b) (seq g h) U
-    pub stops : (b : BlockItems) (x : Limit) → walk V (items_events (inside P path r) path n b) ≡ stopped x → walk S (items_events (inside P path r) path r.live (item b)) ≡ stopped x
+    pub writes : (b : BlockItems) (h : Node) (U : List Site) → WritesItems P path (record r { live = n }) V b h U
+        → WritesItems P path r S (item b) (seq g h) U
+    pub stops : (b : BlockItems) (x : Limit) → walk V (items_events (inside P path r) path n b) ≡ stopped x
+        → walk S (items_events (inside P path r) path r.live (item b)) ≡ stopped x
 
   -- it passes a limit, whatever stands behind it
   abbrev pub StopsItem : List Site → (BlockItems → BlockItems) → Limit → Type 0
@@ -109,4 +122,6 @@ leaving continued at = continue at
 leaving returned at = return at None
 
 abbrev pub LeavesLoop : List ℕ → Frame → List Site → ℕ → Exit → Node → List Site → Type 0
-LeavesLoop path r S at exit g U = (P : Program) → exit ≢ returned → ((m : ℕ) → r.loop_length ≡ Some m → m ≤ r.live) → WritesStmt P path r S (leaving exit at) g U
+LeavesLoop path r S at exit g U =
+    (P : Program) → exit ≢ returned → ((m : ℕ) → r.loop_length ≡ Some m → m ≤ r.live)
+    → WritesStmt P path r S (leaving exit at) g U

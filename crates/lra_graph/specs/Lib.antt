@@ -2,3 +2,4 @@
 pub mod Agreement
 pub mod Limits
 pub mod Building
+pub mod Inlining

@@ -71,7 +71,8 @@ pub fn choice(
     on_true: Node,
     on_false: Node,
 ) -> Result<Node, AllocError>
-    ensures { IfOk result (λ g. node_view g ≡ graph.choose point base (cond_view cond.now) (node_view on_true) (node_view on_false)) }
+    ensures { IfOk result (λ g. node_view g
+        ≡ graph.choose point base (cond_view cond.now) (node_view on_true) (node_view on_false)) }
 {
     let cond = cond.copy(alloc)?;
     Ok(Node::Choose(
@@ -92,7 +93,8 @@ pub fn rounds(
     body: Node,
     step: Node,
 ) -> Result<Node, AllocError>
-    ensures { IfOk result (λ g. node_view g ≡ loop_node point base (cond_view cond.now) (node_view body) (node_view step)) }
+    ensures { IfOk result (λ g. node_view g
+        ≡ loop_node point base (cond_view cond.now) (node_view body) (node_view step)) }
 {
     let cond = cond.copy(alloc)?;
     let body = caught(alloc, point, Exit::Continued, body)?;
@@ -109,7 +111,8 @@ pub fn cut_and_leave(
     live: usize,
     exit: Exit,
 ) -> Result<Node, AllocError>
-    ensures { IfOk result (λ g. node_view g ≡ graph.seq (graph.act point (step.keep length)) (graph.leave live (exit_view exit))) }
+    ensures { IfOk result (λ g. node_view g
+        ≡ graph.seq (graph.act point (step.keep length)) (graph.leave live (exit_view exit))) }
 {
     behind(alloc, point, Op::Keep(length), Node::Leave(live, exit))
 }
@@ -137,7 +140,9 @@ fn call_end(
     target: Option<usize>,
 ) -> Result<Node, AllocError>
     requires { live + parameters < 2 ^ 64 }
-    ensures { IfOk result (λ g. node_view g ≡ graph.seq (graph.point end) (graph.seq (graph.act end (step.keep (live + parameters))) (graph.seq (graph.act end (step.give_any target)) (graph.act end (step.keep live))))) }
+    ensures { IfOk result (λ g. node_view g
+        ≡ graph.seq (graph.point end) (graph.seq (graph.act end (step.keep (live + parameters)))
+        (graph.seq (graph.act end (step.give_any target)) (graph.act end (step.keep live))))) }
 {
     let last = Node::Act(end, Op::Keep(live));
     let given = behind(alloc, end, Op::GiveAny(target), last)?;
@@ -167,7 +172,9 @@ pub fn called(
     body: Node,
 ) -> Result<Node, AllocError>
     requires { place.live + parameters < 2 ^ 64 }
-    ensures { IfOk result (λ g. node_view g ≡ call_node place.point place.end place.base place.live place.target (map expr_view arguments.now) parameters (node_view body)) }
+    ensures { IfOk result (λ g. node_view g
+        ≡ call_node place.point place.end place.base place.live place.target (map expr_view arguments.now) parameters
+        (node_view body)) }
 {
     let end = call_end(alloc, place.end, place.live, parameters, place.target)?;
     let whole = in_turn(alloc, body, end)?;

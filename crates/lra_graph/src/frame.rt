@@ -1,5 +1,9 @@
 //! Where a statement stands.
 
+use lra_tree::graph::Path;
+use lra_tree::program::Program;
+use std::alloc::Global;
+
 /// Where the call that runs goes back to: what gets its value, and how many variables live at the call.
 #[derive(Clone, Copy)]
 pub struct Back {
@@ -20,4 +24,14 @@ pub struct Frame {
     pub loop_length: Option<usize>,
     /// None in `main`.
     pub back: Option<Back>,
+}
+
+/// What stands around a part that is written out.
+#[derive(Clone, Copy)]
+pub struct Around<'a> {
+    pub alloc: Global,
+    pub program: &'a Program,
+    /// The calls that lead there.
+    pub path: &'a Path,
+    pub frame: Frame,
 }

@@ -1,27 +1,32 @@
-//! Calls written out: the tree of a program and its points. A call is written out where it stands, so a function that is called twice has its
-//! points twice, under two paths.
+//! Calls written out: the tree of a program and its points. A call is written out where it stands, so a function that
+//! is called twice has its points twice, under two paths.
 
 mod whole;
 
-ghost use Rattle.std.specs.Prelude.{◌≡◌, ◌<◌, ◌≤◌, ◌+◌, ◌^◌, ◌++◌, ◌∷◌, ℕ, [], length, map, IfOk, MatchOption, Option, true};
+ghost use Rattle.std.specs.Prelude.{◌≡◌, ◌<◌, ◌≤◌, ◌+◌, ◌^◌, ℕ, length, map, IfOk, MatchOption, Option};
 ghost use Rattle.lra_tree.specs.Program as resolved;
-ghost use Rattle.lra_tree.specs.Sites.{comes, plain_site, live_behind, stmt_events, items_events, source_events, given_events, call_events};
+ghost use Rattle.lra_tree.specs.Sites.{live_behind};
 ghost use Rattle.lra_tree.specs.Value.{index_of};
 ghost use Rattle.lra_tree.specs.WellFormed.{IsWellFormed};
-ghost use Rattle.lra_tree.specs.ProgramViews.{slot_view, cond_view, call_view, source_view, given_view, stmt_view, item_view, items_of, program_view};
-ghost use Rattle.lra_tree.specs.GraphViews.{node_view, site_view, exit_view};
-ghost use Rattle.lra_graph.specs.Limits.{walk, stopped, OnLimit};
-ghost use Rattle.lra_graph.specs.Building.{StmtStands, ItemsStand, GivenStands, CallStands, WritesStmt, WritesItems, ItemStands, WritesItem, StopsItem, WritesSource, WritesDeclared, WritesLoop, WritesReturn, LeavesLoop, inside};
+ghost use Rattle.lra_tree.specs.ProgramViews.{slot_view, cond_view, call_view, source_view, given_view, stmt_view};
+ghost use Rattle.lra_tree.specs.ProgramViews.{item_view, items_of};
+ghost use Rattle.lra_tree.specs.GraphViews.{exit_view};
+ghost use Rattle.lra_graph.specs.Limits.{OnLimit};
+ghost use Rattle.lra_graph.specs.Inlining.{points_in, program_around, own_events, assertion_events, Passes, Stops};
+ghost use Rattle.lra_graph.specs.Inlining.{StmtStands, ItemsStand, ItemStands, GivenStands};
+ghost use Rattle.lra_graph.specs.Inlining.{DeclaredStands, CallStands, RoundStands};
+ghost use Rattle.lra_graph.specs.Inlining.{StopsStmt, StopsItems, StopsItem, StopsGiven, StopsSource, StopsCall};
+ghost use Rattle.lra_graph.specs.Inlining.{StopsRound, IsStmt, IsPlain, IsExit, AreItems, IsItem};
+ghost use Rattle.lra_graph.specs.Inlining.{IsSource, IsDeclared, IsLoop, IsReturn};
 
 use crate::forms::{
     CallPlace, add_part, behind, behind_point, block_end, called, choice, cut_and_leave, in_a_row,
     in_turn, returned, rounds,
 };
-use crate::frame::{Back, Frame};
+use crate::frame::{Around, Back, Frame};
 use crate::points::{GraphError, Limit, add_point};
-use lra_tree::graph::{Exit, Node, Op, Path, Site};
-use lra_tree::program::{BlockItem, Call, Cond, Program, Slot, Source, Stmt};
-use std::alloc::Global;
+use lra_tree::graph::{Exit, Node, Op, Site};
+use lra_tree::program::{BlockItem, Call, Cond, Slot, Source, Stmt};
 pub use whole::build;
 
 /// Where a variable stands in the store.
@@ -37,7 +42,8 @@ fn place_of(base: usize, slot: Slot) -> usize
 
 /// How many variables live behind the items, where the number fits.
 fn live_inside(live: usize, items: &[BlockItem]) -> Option<usize>
-    ensures { MatchOption result (24 < live_behind live (items_of (map item_view items.now))) (λ n. n ≡ live_behind live (items_of (map item_view items.now))) }
+    ensures { MatchOption result (24 < live_behind live (items_of (map item_view items.now)))
+        (λ n. n ≡ live_behind live (items_of (map item_view items.now))) }
 {
     let mut inside = live;
     'items: for item in items {
@@ -52,24 +58,43 @@ fn live_inside(live: usize, items: &[BlockItem]) -> Option<usize>
     Some(inside)
 }
 
+/// The point of a statement with this label, which is no assertion.
+fn own_point(around: &Around<'_>, label: usize, sites: &mut Vec<Site>) -> Result<usize, GraphError>
+    ensures number { IfOk result (λ q. q ≡ length (points_in sites.old)) }
+    ensures walked { IfOk result (λ _. Passes around.now sites.old sites.new (own_events around.now label)) }
+    ensures few { IfOk result (λ _. around.now.frame.live ≤ 24) }
+    ensures limit { OnLimit result (Stops around.now sites.old (own_events around.now label)) }
+{
+    let live = around.frame.live;
+    add_point(around.alloc, around.path, label, live, false, sites)
+}
+
+/// Nothing but a point.
+fn lone_point(around: &Around<'_>, label: usize, sites: &mut Vec<Site>) -> Result<Node, GraphError>
+    ensures written { IfOk result (IsPlain around.now sites.old sites.new (resolved.nothing label)) }
+    ensures limit { OnLimit result (Stops around.now sites.old (own_events around.now label)) }
+{
+    let point = own_point(around, label, sites)?;
+    Ok(Node::Point(point))
+}
+
 /// Out of a loop, or on to its next round.
 fn leave_loop(
-    alloc: Global,
-    path: &Path,
-    frame: Frame,
+    around: &Around<'_>,
     label: usize,
     exit: Exit,
     sites: &mut Vec<Site>,
 ) -> Result<Node, GraphError>
-    requires { (m : ℕ) × (frame.loop_length ≡ Some m) }
-    ensures written { IfOk result (λ g. LeavesLoop path.now frame (map site_view sites.old.items) label (exit_view exit) (node_view g) (map site_view sites.new.items)) }
-    ensures limit { OnLimit result (λ x. walk (map site_view sites.old.items) (plain_site path.now label frame.live ∷ []) ≡ stopped x) }
+    requires { (m : ℕ) × (around.now.frame.loop_length ≡ Some m) }
+    ensures written { IfOk result (IsExit around.now sites.old sites.new label (exit_view exit)) }
+    ensures limit { OnLimit result (Stops around.now sites.old (own_events around.now label)) }
 {
-    let point = add_point(alloc, path, label, frame.live, false, sites)?;
+    let point = own_point(around, label, sites)?;
+    let frame = around.frame;
     match frame.loop_length {
         Some(length) => {
-            let leave = cut_and_leave(alloc, point, length, frame.live, exit)?;
-            Ok(behind_point(alloc, point, leave)?)
+            let leave = cut_and_leave(around.alloc, point, length, frame.live, exit)?;
+            Ok(behind_point(around.alloc, point, leave)?)
         }
         None => unreachable!(),
     }
@@ -77,131 +102,186 @@ fn leave_loop(
 
 /// An assertion: a test with a verdict.
 fn assertion(
-    alloc: Global,
-    path: &Path,
-    frame: Frame,
+    around: &Around<'_>,
     label: usize,
     cond: &Cond,
     sites: &mut Vec<Site>,
 ) -> Result<Node, GraphError>
-    ensures written { IfOk result (λ g. (P : resolved.Program) → WritesStmt P path.now frame (map site_view sites.old.items) (resolved.assert label (cond_view cond.now)) (node_view g) (map site_view sites.new.items)) }
-    ensures limit { OnLimit result (λ x. walk (map site_view sites.old.items) (comes (record { path = path.now; label = label; live = frame.live; asserts = true }) ∷ []) ≡ stopped x) }
+    ensures written { IfOk result (IsPlain around.now sites.old sites.new
+        (resolved.assert label (cond_view cond.now))) }
+    ensures limit { OnLimit result (Stops around.now sites.old (assertion_events around.now label)) }
 {
-    let point = add_point(alloc, path, label, frame.live, true, sites)?;
-    let cond = cond.copy(alloc)?;
-    Ok(behind_point(alloc, point, Node::Check(point, frame.base, cond))?)
+    let frame = around.frame;
+    let point = add_point(around.alloc, around.path, label, frame.live, true, sites)?;
+    let cond = cond.copy(around.alloc)?;
+    Ok(behind_point(around.alloc, point, Node::Check(point, frame.base, cond))?)
 }
 
+/// An assumption: only where its condition is true does the run go on.
 fn assumption_of(
-    alloc: Global,
-    path: &Path,
-    frame: Frame,
+    around: &Around<'_>,
     label: usize,
     cond: &Cond,
     sites: &mut Vec<Site>,
 ) -> Result<Node, GraphError>
-    ensures written { IfOk result (λ g. (P : resolved.Program) → WritesStmt P path.now frame (map site_view sites.old.items) (resolved.assume label (cond_view cond.now)) (node_view g) (map site_view sites.new.items)) }
-    ensures limit { OnLimit result (λ x. walk (map site_view sites.old.items) (plain_site path.now label frame.live ∷ []) ≡ stopped x) }
+    ensures written { IfOk result (IsPlain around.now sites.old sites.new
+        (resolved.assume label (cond_view cond.now))) }
+    ensures limit { OnLimit result (Stops around.now sites.old (own_events around.now label)) }
 {
-    let point = add_point(alloc, path, label, frame.live, false, sites)?;
-    let test = Op::Test(frame.base, cond.copy(alloc)?, true);
-    Ok(behind_point(alloc, point, Node::Act(point, test))?)
+    let point = own_point(around, label, sites)?;
+    let test = Op::Test(around.frame.base, cond.copy(around.alloc)?, true);
+    Ok(behind_point(around.alloc, point, Node::Act(point, test))?)
 }
 
+/// A statement.
 #[tactic(none)]
 #[cycle(inline)]
-fn inline_stmt(
-    alloc: Global,
-    program: &Program,
-    path: &Path,
-    frame: Frame,
-    stmt: &Stmt,
-    sites: &mut Vec<Site>,
-) -> Result<Node, GraphError>
-    requires well { IsWellFormed (program_view program.now) }
-    requires stands { StmtStands (program_view program.now) frame (stmt_view stmt.now) }
-    ensures written { IfOk result (λ g. WritesStmt (program_view program.now) path.now frame (map site_view sites.old.items) (stmt_view stmt.now) (node_view g) (map site_view sites.new.items)) }
-    ensures limit { OnLimit result (λ x. walk (map site_view sites.old.items) (stmt_events (inside (program_view program.now) path.now frame) path.now frame.live (stmt_view stmt.now)) ≡ stopped x) }
+fn inline_stmt(around: &Around<'_>, stmt: &Stmt, sites: &mut Vec<Site>) -> Result<Node, GraphError>
+    requires well { IsWellFormed (program_around around.now) }
+    requires stands { StmtStands around.now (stmt_view stmt.now) }
+    ensures written { IfOk result (IsStmt around.now sites.old sites.new (stmt_view stmt.now)) }
+    ensures limit { OnLimit result (StopsStmt around.now sites.old (stmt_view stmt.now)) }
 {
     match stmt {
         Stmt::Absent => Ok(Node::Empty),
-        Stmt::Nothing(label) => {
-            let point = add_point(alloc, path, *label, frame.live, false, sites)?;
-            Ok(Node::Point(point))
-        }
-        Stmt::Block(items, end) => {
-            let (items, last) = inline_items(alloc, program, path, frame, &items.items, sites)?;
-            let point = add_point(alloc, path, *end, last, false, sites)?;
-            let end = block_end(alloc, point, frame.live)?;
-            Ok(in_turn(alloc, items, end)?)
-        }
-        Stmt::Assign(label, slot, source) => {
-            let point = add_point(alloc, path, *label, frame.live, false, sites)?;
-            let target = Some(place_of(frame.base, *slot));
-            let given = inline_source(alloc, program, path, frame, point, target, source, sites)?;
-            Ok(behind_point(alloc, point, given)?)
-        }
-        Stmt::Call(label, call) => {
-            let point = add_point(alloc, path, *label, frame.live, false, sites)?;
-            let given = inline_call(alloc, program, path, frame, point, None, call, sites)?;
-            Ok(behind_point(alloc, point, given)?)
-        }
+        Stmt::Nothing(label) => lone_point(around, *label, sites),
+        Stmt::Block(items, end) => inline_block(around, &items.items, *end, sites),
+        Stmt::Assign(label, slot, source) => inline_assign(around, *label, *slot, source, sites),
+        Stmt::Call(label, call) => inline_call_alone(around, *label, call, sites),
         Stmt::If(label, cond, on_true, on_false) => {
-            let point = add_point(alloc, path, *label, frame.live, false, sites)?;
-            let on_true = inline_stmt(alloc, program, path, frame, on_true, sites)?;
-            let on_false = inline_stmt(alloc, program, path, frame, on_false, sites)?;
-            let chosen = choice(alloc, point, frame.base, cond, on_true, on_false)?;
-            Ok(behind_point(alloc, point, chosen)?)
+            inline_if(around, *label, cond, on_true, on_false, sites)
         }
         Stmt::Loop(label, cond, body, step) => {
-            let point = add_point(alloc, path, *label, frame.live, false, sites)?;
-            inline_loop(alloc, program, path, frame, point, cond, body, step, sites)
+            let point = own_point(around, *label, sites)?;
+            inline_loop(around, point, cond, body, step, sites)
         }
-        Stmt::For(init, again) => {
-            inline_for(alloc, program, path, frame, &init.items, again, sites)
-        }
-        Stmt::Break(label) => leave_loop(alloc, path, frame, *label, Exit::Broken, sites),
-        Stmt::Continue(label) => leave_loop(alloc, path, frame, *label, Exit::Continued, sites),
-        Stmt::Return(label, source) => {
-            let point = add_point(alloc, path, *label, frame.live, false, sites)?;
-            let left = match frame.back {
-                Some(back) => {
-                    inline_return(alloc, program, path, frame, point, back, source, sites)?
-                }
-                None => inline_end(alloc, program, path, frame, point, source, sites)?,
-            };
-            Ok(behind_point(alloc, point, left)?)
-        }
-        Stmt::Assert(label, cond) => assertion(alloc, path, frame, *label, cond, sites),
-        Stmt::Assume(label, cond) => assumption_of(alloc, path, frame, *label, cond, sites),
+        Stmt::For(init, again) => inline_for(around, &init.items, again, sites),
+        Stmt::Break(label) => leave_loop(around, *label, Exit::Broken, sites),
+        Stmt::Continue(label) => leave_loop(around, *label, Exit::Continued, sites),
+        Stmt::Return(label, source) => inline_return(around, *label, source, sites),
+        Stmt::Assert(label, cond) => assertion(around, *label, cond, sites),
+        Stmt::Assume(label, cond) => assumption_of(around, *label, cond, sites),
     }
+}
+
+/// A block: its items, and the point of its end, where its variables go.
+#[tactic(none)]
+#[cycle(inline)]
+fn inline_block(
+    around: &Around<'_>,
+    items: &[BlockItem],
+    end: usize,
+    sites: &mut Vec<Site>,
+) -> Result<Node, GraphError>
+    requires well { IsWellFormed (program_around around.now) }
+    requires stands { StmtStands around.now (resolved.block (items_of (map item_view items.now)) end) }
+    ensures written { IfOk result (IsStmt around.now sites.old sites.new
+        (resolved.block (items_of (map item_view items.now)) end)) }
+    ensures limit { OnLimit result (StopsStmt around.now sites.old
+        (resolved.block (items_of (map item_view items.now)) end)) }
+{
+    let (body, last) = inline_items(around, items, sites)?;
+    let point = add_point(around.alloc, around.path, end, last, false, sites)?;
+    let end = block_end(around.alloc, point, around.frame.live)?;
+    Ok(in_turn(around.alloc, body, end)?)
+}
+
+/// An assignment: its point, and what the variable gets.
+#[tactic(none)]
+#[cycle(inline)]
+fn inline_assign(
+    around: &Around<'_>,
+    label: usize,
+    slot: Slot,
+    source: &Source,
+    sites: &mut Vec<Site>,
+) -> Result<Node, GraphError>
+    requires well { IsWellFormed (program_around around.now) }
+    requires stands { StmtStands around.now (resolved.assign label (slot_view slot) (source_view source.now)) }
+    ensures written { IfOk result (IsStmt around.now sites.old sites.new
+        (resolved.assign label (slot_view slot) (source_view source.now))) }
+    ensures limit { OnLimit result (StopsStmt around.now sites.old
+        (resolved.assign label (slot_view slot) (source_view source.now))) }
+{
+    let point = own_point(around, label, sites)?;
+    let target = Some(place_of(around.frame.base, slot));
+    let given = inline_source(around, point, target, source, sites)?;
+    Ok(behind_point(around.alloc, point, given)?)
+}
+
+/// A call whose value nothing gets.
+#[tactic(none)]
+#[cycle(inline)]
+fn inline_call_alone(
+    around: &Around<'_>,
+    label: usize,
+    call: &Call,
+    sites: &mut Vec<Site>,
+) -> Result<Node, GraphError>
+    requires well { IsWellFormed (program_around around.now) }
+    requires stands { StmtStands around.now (resolved.call label (call_view call.now)) }
+    ensures written { IfOk result (IsStmt around.now sites.old sites.new (resolved.call label (call_view call.now))) }
+    ensures limit { OnLimit result (StopsStmt around.now sites.old (resolved.call label (call_view call.now))) }
+{
+    let point = own_point(around, label, sites)?;
+    let given = inline_call(around, point, None, call, sites)?;
+    Ok(behind_point(around.alloc, point, given)?)
+}
+
+/// A choice behind its point: its first branch's points come before those of the second.
+#[tactic(none)]
+#[cycle(inline)]
+fn inline_if(
+    around: &Around<'_>,
+    label: usize,
+    cond: &Cond,
+    on_true: &Stmt,
+    on_false: &Stmt,
+    sites: &mut Vec<Site>,
+) -> Result<Node, GraphError>
+    requires well { IsWellFormed (program_around around.now) }
+    requires stands { StmtStands around.now
+        (resolved.if label (cond_view cond.now) (stmt_view on_true.now) (stmt_view on_false.now)) }
+    ensures written { IfOk result (IsStmt around.now sites.old sites.new
+        (resolved.if label (cond_view cond.now) (stmt_view on_true.now) (stmt_view on_false.now))) }
+    ensures limit { OnLimit result (StopsStmt around.now sites.old
+        (resolved.if label (cond_view cond.now) (stmt_view on_true.now) (stmt_view on_false.now))) }
+{
+    let point = own_point(around, label, sites)?;
+    let on_true = inline_stmt(around, on_true, sites)?;
+    let on_false = inline_stmt(around, on_false, sites)?;
+    let base = around.frame.base;
+    let chosen = choice(around.alloc, point, base, cond, on_true, on_false)?;
+    Ok(behind_point(around.alloc, point, chosen)?)
 }
 
 /// The items, and how many variables live behind them.
 #[cycle(inline)]
 fn inline_items(
-    alloc: Global,
-    program: &Program,
-    path: &Path,
-    frame: Frame,
+    around: &Around<'_>,
     items: &[BlockItem],
     sites: &mut Vec<Site>,
 ) -> Result<(Node, usize), GraphError>
-    requires well { IsWellFormed (program_view program.now) }
-    requires stands { ItemsStand (program_view program.now) frame (items_of (map item_view items.now)) }
-    ensures last { IfOk result (λ r. r.1 ≡ live_behind frame.live (items_of (map item_view items.now))) }
-    ensures written { IfOk result (λ r. WritesItems (program_view program.now) path.now frame (map site_view sites.old.items) (items_of (map item_view items.now)) (node_view r.0) (map site_view sites.new.items)) }
-    ensures limit { OnLimit result (λ x. walk (map site_view sites.old.items) (items_events (inside (program_view program.now) path.now frame) path.now frame.live (items_of (map item_view items.now))) ≡ stopped x) }
+    requires well { IsWellFormed (program_around around.now) }
+    requires stands { ItemsStand around.now (items_of (map item_view items.now)) }
+    ensures last { IfOk result (λ r. r.1 ≡ live_behind around.now.frame.live (items_of (map item_view items.now))) }
+    ensures written { IfOk result (λ r. AreItems around.now sites.old sites.new
+        (items_of (map item_view items.now)) r.0) }
+    ensures limit { OnLimit result (StopsItems around.now sites.old (items_of (map item_view items.now))) }
 {
-    let mut parts = Vec::new(alloc);
-    let mut live = frame.live;
+    let mut parts = Vec::new(around.alloc);
+    let mut live = around.frame.live;
     'items: for item in items {
-        let here = Frame { live, ..frame };
-        let (part, after) = inline_item(alloc, program, path, here, item, sites)?;
+        let frame = Frame {
+            live,
+            ..around.frame
+        };
+        let here = Around { frame, ..*around };
+        let (part, after) = inline_item(&here, item, sites)?;
         add_part(&mut parts, part)?;
         live = after;
     }
-    let all = in_a_row(alloc, parts)?;
+    let all = in_a_row(around.alloc, parts)?;
     Ok((all, live))
 }
 
@@ -209,29 +289,25 @@ fn inline_items(
 #[tactic(none)]
 #[cycle(inline)]
 fn inline_item(
-    alloc: Global,
-    program: &Program,
-    path: &Path,
-    frame: Frame,
+    around: &Around<'_>,
     item: &BlockItem,
     sites: &mut Vec<Site>,
 ) -> Result<(Node, usize), GraphError>
-    requires well { IsWellFormed (program_view program.now) }
-    requires stands { ItemStands (program_view program.now) frame (item_view item.now) }
-    ensures written { IfOk result (λ r. WritesItem (program_view program.now) path.now frame (map site_view sites.old.items) (item_view item.now) (node_view r.0) r.1 (map site_view sites.new.items)) }
-    ensures limit { OnLimit result (λ x. StopsItem (program_view program.now) path.now frame (map site_view sites.old.items) (item_view item.now) x) }
+    requires well { IsWellFormed (program_around around.now) }
+    requires stands { ItemStands around.now (item_view item.now) }
+    ensures written { IfOk result (λ r. IsItem around.now sites.old sites.new (item_view item.now) r.0 r.1) }
+    ensures limit { OnLimit result (StopsItem around.now sites.old (item_view item.now)) }
 {
     match item {
         BlockItem::Declaration(declarator) => {
-            let point = add_point(alloc, path, declarator.label, frame.live, false, sites)?;
-            let source = &declarator.source;
-            let given = inline_declared(alloc, program, path, frame, point, source, sites)?;
-            let declared = behind_point(alloc, point, given)?;
-            Ok((declared, frame.live + 1))
+            let point = own_point(around, declarator.label, sites)?;
+            let given = inline_declared(around, point, &declarator.source, sites)?;
+            let declared = behind_point(around.alloc, point, given)?;
+            Ok((declared, around.frame.live + 1))
         }
         BlockItem::Statement(stmt) => {
-            let part = inline_stmt(alloc, program, path, frame, stmt, sites)?;
-            Ok((part, frame.live))
+            let part = inline_stmt(around, stmt, sites)?;
+            Ok((part, around.frame.live))
         }
     }
 }
@@ -240,32 +316,29 @@ fn inline_item(
 #[tactic(none)]
 #[cycle(inline)]
 fn inline_declared(
-    alloc: Global,
-    program: &Program,
-    path: &Path,
-    frame: Frame,
+    around: &Around<'_>,
     point: usize,
     source: &Option<Source>,
     sites: &mut Vec<Site>,
 ) -> Result<Node, GraphError>
-    requires well { IsWellFormed (program_view program.now) }
-    requires few { frame.live ≤ 24 }
-    requires stands { GivenStands (program_view program.now) (record frame { live = frame.live + 1 }) (given_view source.now) }
-    ensures written { IfOk result (λ g. WritesDeclared (program_view program.now) path.now frame point (map site_view sites.old.items) (given_view source.now) (node_view g) (map site_view sites.new.items)) }
-    ensures limit { OnLimit result (λ x. walk (map site_view sites.old.items) (given_events (inside (program_view program.now) path.now frame) path.now (frame.live + 1) (given_view source.now)) ≡ stopped x) }
+    requires well { IsWellFormed (program_around around.now) }
+    requires few { around.now.frame.live ≤ 24 }
+    requires stands { DeclaredStands around.now (given_view source.now) }
+    ensures written { IfOk result (IsDeclared around.now sites.old sites.new point (given_view source.now)) }
+    ensures limit { OnLimit result (StopsGiven around.now sites.old (around.now.frame.live + 1)
+        (given_view source.now)) }
 {
     match source {
         None => Ok(Node::Act(point, Op::Append)),
         Some(source) => {
-            let target = Some(frame.live);
-            let behind_it = Frame {
-                live: frame.live + 1,
-                ..frame
+            let place = around.frame.live;
+            let frame = Frame {
+                live: place + 1,
+                ..around.frame
             };
-            let given = inline_source(
-                alloc, program, path, behind_it, point, target, source, sites,
-            )?;
-            Ok(behind(alloc, point, Op::Append, given)?)
+            let behind_it = Around { frame, ..*around };
+            let given = inline_source(&behind_it, point, Some(place), source, sites)?;
+            Ok(behind(around.alloc, point, Op::Append, given)?)
         }
     }
 }
@@ -274,112 +347,125 @@ fn inline_declared(
 #[tactic(none)]
 #[cycle(inline)]
 fn inline_loop(
-    alloc: Global,
-    program: &Program,
-    path: &Path,
-    frame: Frame,
+    around: &Around<'_>,
     point: usize,
     cond: &Cond,
     body: &Stmt,
     step: &Stmt,
     sites: &mut Vec<Site>,
 ) -> Result<Node, GraphError>
-    requires well { IsWellFormed (program_view program.now) }
-    requires body_stands { StmtStands (program_view program.now) (record frame { loop_length = Some frame.live }) (stmt_view body.now) }
-    requires step_stands { StmtStands (program_view program.now) (record frame { loop_length = None }) (stmt_view step.now) }
-    ensures written { IfOk result (λ g. WritesLoop (program_view program.now) path.now frame point (map site_view sites.old.items) (cond_view cond.now) (stmt_view body.now) (stmt_view step.now) (node_view g) (map site_view sites.new.items)) }
-    ensures limit { OnLimit result (λ x. walk (map site_view sites.old.items) (stmt_events (inside (program_view program.now) path.now frame) path.now frame.live (stmt_view step.now) ++ stmt_events (inside (program_view program.now) path.now frame) path.now frame.live (stmt_view body.now)) ≡ stopped x) }
+    requires well { IsWellFormed (program_around around.now) }
+    requires body_stands { RoundStands around.now (Some around.now.frame.live) (stmt_view body.now) }
+    requires step_stands { RoundStands around.now None (stmt_view step.now) }
+    ensures written { IfOk result (IsLoop around.now sites.old sites.new point
+        (cond_view cond.now) (stmt_view body.now) (stmt_view step.now)) }
+    ensures limit { OnLimit result (StopsRound around.now sites.old (stmt_view body.now) (stmt_view step.now)) }
 {
-    let outside = Frame {
+    let frame = Frame {
         loop_length: None,
-        ..frame
+        ..around.frame
     };
-    let step = inline_stmt(alloc, program, path, outside, step, sites)?;
-    let within = Frame {
-        loop_length: Some(frame.live),
-        ..frame
+    let step = inline_stmt(&Around { frame, ..*around }, step, sites)?;
+    let frame = Frame {
+        loop_length: Some(around.frame.live),
+        ..around.frame
     };
-    let body = inline_stmt(alloc, program, path, within, body, sites)?;
-    Ok(rounds(alloc, point, frame.base, cond, body, step)?)
+    let body = inline_stmt(&Around { frame, ..*around }, body, sites)?;
+    let base = around.frame.base;
+    Ok(rounds(around.alloc, point, base, cond, body, step)?)
 }
 
 /// A `for`: the loop's point, at which its variables live already, its beginning, and the loop, behind which they go.
 #[tactic(none)]
 #[cycle(inline)]
 fn inline_for(
-    alloc: Global,
-    program: &Program,
-    path: &Path,
-    frame: Frame,
+    around: &Around<'_>,
     init: &[BlockItem],
     again: &Stmt,
     sites: &mut Vec<Site>,
 ) -> Result<Node, GraphError>
-    requires well { IsWellFormed (program_view program.now) }
-    requires stands { StmtStands (program_view program.now) frame (resolved.for (items_of (map item_view init.now)) (stmt_view again.now)) }
-    ensures written { IfOk result (λ g. WritesStmt (program_view program.now) path.now frame (map site_view sites.old.items) (resolved.for (items_of (map item_view init.now)) (stmt_view again.now)) (node_view g) (map site_view sites.new.items)) }
-    ensures limit { OnLimit result (λ x. walk (map site_view sites.old.items) (stmt_events (inside (program_view program.now) path.now frame) path.now frame.live (resolved.for (items_of (map item_view init.now)) (stmt_view again.now))) ≡ stopped x) }
+    requires well { IsWellFormed (program_around around.now) }
+    requires stands { StmtStands around.now (resolved.for (items_of (map item_view init.now)) (stmt_view again.now)) }
+    ensures written { IfOk result (IsStmt around.now sites.old sites.new
+        (resolved.for (items_of (map item_view init.now)) (stmt_view again.now))) }
+    ensures limit { OnLimit result (StopsStmt around.now sites.old
+        (resolved.for (items_of (map item_view init.now)) (stmt_view again.now))) }
 {
     match again {
         Stmt::Loop(label, cond, body, step) => {
-            let Some(live) = live_inside(frame.live, init) else {
+            let Some(live) = live_inside(around.frame.live, init) else {
                 return Err(GraphError::Passed(Limit::Variables(*label)));
             };
-            let point = add_point(alloc, path, *label, live, false, sites)?;
-            let (init, _) = inline_items(alloc, program, path, frame, init, sites)?;
-            let behind_init = Frame { live, ..frame };
-            let again = inline_loop(
-                alloc,
-                program,
-                path,
-                behind_init,
-                point,
-                cond,
-                body,
-                step,
-                sites,
-            )?;
-            let end = Node::Act(point, Op::Keep(frame.live));
-            let rest = in_turn(alloc, again, end)?;
-            Ok(in_turn(alloc, init, rest)?)
+            let point = add_point(around.alloc, around.path, *label, live, false, sites)?;
+            let (init, _) = inline_items(around, init, sites)?;
+            let frame = Frame {
+                live,
+                ..around.frame
+            };
+            let behind_init = Around { frame, ..*around };
+            let again = inline_loop(&behind_init, point, cond, body, step, sites)?;
+            let end = Node::Act(point, Op::Keep(around.frame.live));
+            let rest = in_turn(around.alloc, again, end)?;
+            Ok(in_turn(around.alloc, init, rest)?)
         }
         _ => unreachable!(),
     }
 }
 
-/// A return to the caller, behind its point.
+/// A `return`: its point, and what leaves the call that runs, or `main`.
 #[tactic(none)]
 #[cycle(inline)]
 fn inline_return(
-    alloc: Global,
-    program: &Program,
-    path: &Path,
-    frame: Frame,
+    around: &Around<'_>,
+    label: usize,
+    source: &Option<Source>,
+    sites: &mut Vec<Site>,
+) -> Result<Node, GraphError>
+    requires well { IsWellFormed (program_around around.now) }
+    requires stands { StmtStands around.now (resolved.return label (given_view source.now)) }
+    ensures written { IfOk result (IsStmt around.now sites.old sites.new
+        (resolved.return label (given_view source.now))) }
+    ensures limit { OnLimit result (StopsStmt around.now sites.old (resolved.return label (given_view source.now))) }
+{
+    let point = own_point(around, label, sites)?;
+    let left = match around.frame.back {
+        Some(back) => inline_back(around, point, back, source, sites)?,
+        None => inline_end(around, point, source, sites)?,
+    };
+    Ok(behind_point(around.alloc, point, left)?)
+}
+
+/// A return to the caller, behind its point.
+#[tactic(none)]
+#[cycle(inline)]
+fn inline_back(
+    around: &Around<'_>,
     point: usize,
     back: Back,
     source: &Option<Source>,
     sites: &mut Vec<Site>,
 ) -> Result<Node, GraphError>
-    requires well { IsWellFormed (program_view program.now) }
-    requires few { frame.live ≤ 24 }
-    requires back { frame.back ≡ Some back }
-    requires stands { GivenStands (program_view program.now) frame (given_view source.now) }
-    ensures written { IfOk result (λ g. WritesReturn (program_view program.now) path.now frame point (map site_view sites.old.items) (given_view source.now) (node_view g) (map site_view sites.new.items)) }
-    ensures limit { OnLimit result (λ x. walk (map site_view sites.old.items) (given_events (inside (program_view program.now) path.now frame) path.now frame.live (given_view source.now)) ≡ stopped x) }
+    requires well { IsWellFormed (program_around around.now) }
+    requires few { around.now.frame.live ≤ 24 }
+    requires back { around.now.frame.back ≡ Some back }
+    requires stands { GivenStands around.now (given_view source.now) }
+    ensures written { IfOk result (IsReturn around.now sites.old sites.new point (given_view source.now)) }
+    ensures limit { OnLimit result (StopsGiven around.now sites.old around.now.frame.live (given_view source.now)) }
 {
+    let alloc = around.alloc;
+    let live = around.frame.live;
     match source {
         None => {
             let any = Op::GiveAny(back.target);
-            Ok(returned(alloc, point, any, back.length, frame.live)?)
+            Ok(returned(alloc, point, any, back.length, live)?)
         }
         Some(Source::Value(value)) => {
-            let give = Op::Give(frame.base, back.target, value.copy(alloc)?);
-            Ok(returned(alloc, point, give, back.length, frame.live)?)
+            let give = Op::Give(around.frame.base, back.target, value.copy(alloc)?);
+            Ok(returned(alloc, point, give, back.length, live)?)
         }
         Some(Source::Result(call)) => {
-            let target = back.target;
-            let given = inline_call(alloc, program, path, frame, point, target, call, sites)?;
-            let leave = cut_and_leave(alloc, point, back.length, frame.live, Exit::Returned)?;
+            let given = inline_call(around, point, back.target, call, sites)?;
+            let leave = cut_and_leave(alloc, point, back.length, live, Exit::Returned)?;
             Ok(in_turn(alloc, given, leave)?)
         }
     }
@@ -389,29 +475,27 @@ fn inline_return(
 #[tactic(none)]
 #[cycle(inline)]
 fn inline_end(
-    alloc: Global,
-    program: &Program,
-    path: &Path,
-    frame: Frame,
+    around: &Around<'_>,
     point: usize,
     source: &Option<Source>,
     sites: &mut Vec<Site>,
 ) -> Result<Node, GraphError>
-    requires well { IsWellFormed (program_view program.now) }
-    requires few { frame.live ≤ 24 }
-    requires back { frame.back ≡ None }
-    requires stands { GivenStands (program_view program.now) frame (given_view source.now) }
-    ensures written { IfOk result (λ g. WritesReturn (program_view program.now) path.now frame point (map site_view sites.old.items) (given_view source.now) (node_view g) (map site_view sites.new.items)) }
-    ensures limit { OnLimit result (λ x. walk (map site_view sites.old.items) (given_events (inside (program_view program.now) path.now frame) path.now frame.live (given_view source.now)) ≡ stopped x) }
+    requires well { IsWellFormed (program_around around.now) }
+    requires few { around.now.frame.live ≤ 24 }
+    requires back { around.now.frame.back ≡ None }
+    requires stands { GivenStands around.now (given_view source.now) }
+    ensures written { IfOk result (IsReturn around.now sites.old sites.new point (given_view source.now)) }
+    ensures limit { OnLimit result (StopsGiven around.now sites.old around.now.frame.live (given_view source.now)) }
 {
+    let live = around.frame.live;
     match source {
         Some(Source::Result(call)) => {
-            let given = inline_call(alloc, program, path, frame, point, None, call, sites)?;
-            let leave = Node::Leave(frame.live, Exit::Returned);
-            Ok(in_turn(alloc, given, leave)?)
+            let given = inline_call(around, point, None, call, sites)?;
+            let leave = Node::Leave(live, Exit::Returned);
+            Ok(in_turn(around.alloc, given, leave)?)
         }
-        Some(Source::Value(_)) => Ok(Node::Leave(frame.live, Exit::Returned)),
-        None => Ok(Node::Leave(frame.live, Exit::Returned)),
+        Some(Source::Value(_)) => Ok(Node::Leave(live, Exit::Returned)),
+        None => Ok(Node::Leave(live, Exit::Returned)),
     }
 }
 
@@ -419,29 +503,24 @@ fn inline_end(
 #[tactic(none)]
 #[cycle(inline)]
 fn inline_source(
-    alloc: Global,
-    program: &Program,
-    path: &Path,
-    frame: Frame,
+    around: &Around<'_>,
     point: usize,
     target: Option<usize>,
     source: &Source,
     sites: &mut Vec<Site>,
 ) -> Result<Node, GraphError>
-    requires well { IsWellFormed (program_view program.now) }
-    requires few { frame.live ≤ 25 }
-    requires stands { GivenStands (program_view program.now) frame (Some (source_view source.now)) }
-    ensures written { IfOk result (λ g. WritesSource (program_view program.now) path.now frame point target (map site_view sites.old.items) (source_view source.now) (node_view g) (map site_view sites.new.items)) }
-    ensures limit { OnLimit result (λ x. walk (map site_view sites.old.items) (source_events (inside (program_view program.now) path.now frame) path.now frame.live (source_view source.now)) ≡ stopped x) }
+    requires well { IsWellFormed (program_around around.now) }
+    requires few { around.now.frame.live ≤ 25 }
+    requires stands { GivenStands around.now (Some (source_view source.now)) }
+    ensures written { IfOk result (IsSource around.now sites.old sites.new point target (source_view source.now)) }
+    ensures limit { OnLimit result (StopsSource around.now sites.old (source_view source.now)) }
 {
     match source {
         Source::Value(value) => {
-            let value = value.copy(alloc)?;
-            Ok(Node::Act(point, Op::Give(frame.base, target, value)))
+            let value = value.copy(around.alloc)?;
+            Ok(Node::Act(point, Op::Give(around.frame.base, target, value)))
         }
-        Source::Result(call) => {
-            inline_call(alloc, program, path, frame, point, target, call, sites)
-        }
+        Source::Result(call) => inline_call(around, point, target, call, sites),
     }
 }
 
@@ -449,27 +528,26 @@ fn inline_source(
 #[tactic(none)]
 #[cycle(inline)]
 fn inline_call(
-    alloc: Global,
-    program: &Program,
-    path: &Path,
-    frame: Frame,
+    around: &Around<'_>,
     point: usize,
     target: Option<usize>,
     call: &Call,
     sites: &mut Vec<Site>,
 ) -> Result<Node, GraphError>
-    requires well { IsWellFormed (program_view program.now) }
-    requires few { frame.live ≤ 25 }
-    requires stands { CallStands (program_view program.now) frame (call_view call.now) }
-    ensures written { IfOk result (λ g. WritesSource (program_view program.now) path.now frame point target (map site_view sites.old.items) (resolved.result (call_view call.now)) (node_view g) (map site_view sites.new.items)) }
-    ensures limit { OnLimit result (λ x. walk (map site_view sites.old.items) (call_events (program_view program.now) frame.calls_left path.now frame.live (call_view call.now)) ≡ stopped x) }
+    requires well { IsWellFormed (program_around around.now) }
+    requires few { around.now.frame.live ≤ 25 }
+    requires stands { CallStands around.now (call_view call.now) }
+    ensures written { IfOk result (IsSource around.now sites.old sites.new point target
+        (resolved.result (call_view call.now))) }
+    ensures limit { OnLimit result (StopsCall around.now sites.old (call_view call.now)) }
 {
+    let frame = around.frame;
     if frame.calls_left == 0 {
         return Err(GraphError::Passed(Limit::Calls(call.label)));
     }
-    let function = &program.functions[call.function];
+    let function = &around.program.functions[call.function];
     let parameters = call.arguments.len();
-    let inner_path = path.with_call(alloc, call.label)?;
+    let inner_path = around.path.with_call(around.alloc, call.label)?;
     let inner = Frame {
         base: frame.live,
         live: frame.live + parameters,
@@ -480,9 +558,13 @@ fn inline_call(
             length: frame.live,
         }),
     };
-    let items = &function.body.items;
-    let (body, last) = inline_items(alloc, program, &inner_path, inner, items, sites)?;
-    let end = add_point(alloc, &inner_path, function.end, last, false, sites)?;
+    let within = Around {
+        path: &inner_path,
+        frame: inner,
+        ..*around
+    };
+    let (body, last) = inline_items(&within, &function.body.items, sites)?;
+    let end = add_point(around.alloc, &inner_path, function.end, last, false, sites)?;
     let place = CallPlace {
         point,
         end,
@@ -490,5 +572,5 @@ fn inline_call(
         live: frame.live,
         target,
     };
-    Ok(called(alloc, place, &call.arguments, parameters, body)?)
+    Ok(called(around.alloc, place, &call.arguments, parameters, body)?)
 }

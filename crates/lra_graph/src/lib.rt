@@ -1,7 +1,7 @@
 //! The graph of a program: its calls written out as a tree of operations.
 //!
-//! The definitions stand in `lra_tree`: the runs of a program, trees of operations with their runs, and which tree stands for which
-//! program. Here it is proved that the two agree, and `build` makes the tree.
+//! The definitions stand in `lra_tree`: the runs of a program, trees of operations with their runs, and which tree
+//! stands for which program. Here it is proved that the two agree, and `build` makes the tree.
 #![tactic(auto)]
 
 mod forms;

@@ -44,7 +44,8 @@ impl From<AllocError> for GraphError {
 }
 
 fn add_site(sites: &mut Vec<Site>, site: Site) -> Result<(), AllocError>
-    ensures { IfOk result (λ _. map site_view sites.new.items ≡ map site_view sites.old.items ++ site_view site ∷ []) }
+    ensures { IfOk result (λ _. map site_view sites.new.items
+        ≡ map site_view sites.old.items ++ site_view site ∷ []) }
 {
     sites.push(site)?;
     Ok(())
@@ -60,9 +61,13 @@ pub fn add_point(
     sites: &mut Vec<Site>,
 ) -> Result<usize, GraphError>
     ensures number { IfOk result (λ q. q ≡ length (map site_view sites.old.items)) }
-    ensures walked { IfOk result (λ _. walk (map site_view sites.old.items) (comes (record { path = path.now; label = label; live = live; asserts = asserts }) ∷ []) ≡ passed (map site_view sites.new.items)) }
+    ensures walked { IfOk result (λ _. walk (map site_view sites.old.items)
+        (comes (record { path = path.now; label = label; live = live; asserts = asserts }) ∷ [])
+        ≡ passed (map site_view sites.new.items)) }
     ensures few { IfOk result (λ _. live ≤ 24) }
-    ensures limit { OnLimit result (λ x. walk (map site_view sites.old.items) (comes (record { path = path.now; label = label; live = live; asserts = asserts }) ∷ []) ≡ stopped x) }
+    ensures limit { OnLimit result (λ x. walk (map site_view sites.old.items)
+        (comes (record { path = path.now; label = label; live = live; asserts = asserts }) ∷ [])
+        ≡ stopped x) }
 {
     let number = sites.len();
     if live > GREATEST_LIVE {

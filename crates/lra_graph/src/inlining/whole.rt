@@ -13,7 +13,7 @@ ghost use Rattle.lra_graph.specs.Limits.{OnLimit, refusal_of};
 
 use super::inline_items;
 use crate::forms::in_turn;
-use crate::frame::Frame;
+use crate::frame::{Around, Frame};
 use crate::points::{GREATEST_CALLS, GraphError, add_point};
 use lra_tree::graph::{Graph, Node, Path};
 use lra_tree::program::Program;
@@ -25,9 +25,12 @@ pub fn build(alloc: Global, program: &Program) -> Result<Graph, GraphError>
     ensures graph { IfOk result (λ g. IsGraph (program_view program.now) (node_view g.tree)) }
     ensures agrees { IfOk result (λ g. Agrees (program_view program.now) (node_view g.tree)) }
     ensures sites { IfOk result (λ g. map site_view g.sites.items ≡ sites_of (program_view program.now)) }
-    ensures few { IfOk result (λ _. (q : ℕ) (s : points.Site) → slice_get (sites_of (program_view program.now)) q ≡ Some s → s.live ≤ 24) }
-    ensures within { IfOk result (λ _. (ls : List Labelled) → limit_fault ls 0 (events_of (program_view program.now)) ≡ None) }
-    ensures limit { OnLimit result (λ x. (ls : List Labelled) → limit_fault ls 0 (events_of (program_view program.now)) ≡ Some (refusal_of ls x)) }
+    ensures few { IfOk result (λ _. (q : ℕ) (s : points.Site)
+        → slice_get (sites_of (program_view program.now)) q ≡ Some s → s.live ≤ 24) }
+    ensures within { IfOk result (λ _. (ls : List Labelled)
+        → limit_fault ls 0 (events_of (program_view program.now)) ≡ None) }
+    ensures limit { OnLimit result (λ x. (ls : List Labelled)
+        → limit_fault ls 0 (events_of (program_view program.now)) ≡ Some (refusal_of ls x)) }
 {
     let main = &program.functions[program.main];
     let path = Path::empty(alloc);
@@ -39,9 +42,14 @@ pub fn build(alloc: Global, program: &Program) -> Result<Graph, GraphError>
         loop_length: None,
         back: None,
     };
+    let around = Around {
+        alloc,
+        program,
+        path: &path,
+        frame,
+    };
     let mut sites = Vec::new(alloc);
-    let items = &main.body.items;
-    let (body, last) = inline_items(alloc, program, &path, frame, items, &mut sites)?;
+    let (body, last) = inline_items(&around, &main.body.items, &mut sites)?;
     let end = add_point(alloc, &path, main.end, last, false, &mut sites)?;
     let tree = in_turn(alloc, body, Node::Point(end))?;
     Ok(Graph { tree, sites })
@@ -201,9 +209,14 @@ mod tests {
             loop_length: None,
             back: None,
         };
+        let around = Around {
+            alloc: rt.alloc(),
+            program,
+            path: &path,
+            frame,
+        };
         let mut sites = Vec::new(rt.alloc());
-        let items = &main.body.items;
-        let _written = inline_items(rt.alloc(), program, &path, frame, items, &mut sites)?;
+        let _written = inline_items(&around, &main.body.items, &mut sites)?;
         Ok(sites.len())
     }
 

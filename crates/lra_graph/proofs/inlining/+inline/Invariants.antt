@@ -1,41 +1,58 @@
 -- Each call makes its path longer; inside a function the parts get smaller.
 use Rattle.std.proofs.Common.{◌+◌, ◌-◌, map, drop}
 use Rattle.lra_tree.specs.Program.{no_more}
-use Rattle.lra_tree.specs.ProgramViews.{stmt_view, item_view, items_of, program_view}
+use Rattle.lra_tree.specs.ProgramViews.{stmt_view, item_view, items_of}
 use Rattle.lra_tree.specs.GraphViews.{node_view, site_view}
+use Rattle.lra_graph.specs.Inlining.{program_around}
 use Rattle.lra_graph.proofs.ItemRows.{ItemsLoop}
 use Rattle.lra_graph.proofs.Sizes.{size_stmt, size_items, weight}
 use Rattle.lra_graph.proofs.inlining.+inline.Given as goal
 
 abbrev pub decreases-inline_stmt : goal.decreases-inline_stmt
-decreases-inline_stmt l = weight (program_view l.program.now) l.frame.calls_left (size_stmt (stmt_view l.stmt.now))
+decreases-inline_stmt l = weight (program_around l.around.now) l.around.now.frame.calls_left (size_stmt (stmt_view l.stmt.now))
 
 abbrev pub decreases-inline_items : goal.decreases-inline_items
-decreases-inline_items l = weight (program_view l.program.now) l.frame.calls_left (size_items (items_of (map item_view l.items.now)))
+decreases-inline_items l = weight (program_around l.around.now) l.around.now.frame.calls_left (size_items (items_of (map item_view l.items.now)))
 
 abbrev pub invariant-inline_items-items : goal.invariant-inline_items-items
-invariant-inline_items-items l = ItemsLoop (program_view l.program) l.path l.frame (map site_view l.fn.sites.items) (items_of (map item_view l.items)) (items_of (map item_view (drop l.item-index l.items))) (map node_view l.parts.items) l.live (map site_view l.sites.items)
+invariant-inline_items-items l = ItemsLoop (program_around l.around) l.around.path.now l.around.frame (map site_view l.fn.sites.items) (items_of (map item_view l.items))
+    (items_of (map item_view (drop l.item-index l.items))) (map node_view l.parts.items) l.live (map site_view l.sites.items)
 
 abbrev pub decreases-inline_item : goal.decreases-inline_item
-decreases-inline_item l = weight (program_view l.program.now) l.frame.calls_left (size_items (item_view l.item.now no_more) - 1)
+decreases-inline_item l = weight (program_around l.around.now) l.around.now.frame.calls_left (size_items (item_view l.item.now no_more) - 1)
 
 abbrev pub decreases-inline_declared : goal.decreases-inline_declared
-decreases-inline_declared l = weight (program_view l.program.now) l.frame.calls_left 4
+decreases-inline_declared l = weight (program_around l.around.now) l.around.now.frame.calls_left 4
 
 abbrev pub decreases-inline_loop : goal.decreases-inline_loop
-decreases-inline_loop l = weight (program_view l.program.now) l.frame.calls_left (1 + (size_stmt (stmt_view l.body.now) + size_stmt (stmt_view l.step.now)))
+decreases-inline_loop l = weight (program_around l.around.now) l.around.now.frame.calls_left (1 + (size_stmt (stmt_view l.body.now) + size_stmt (stmt_view l.step.now)))
 
 abbrev pub decreases-inline_for : goal.decreases-inline_for
-decreases-inline_for l = weight (program_view l.program.now) l.frame.calls_left (1 + (size_items (items_of (map item_view l.init.now)) + size_stmt (stmt_view l.again.now)))
+decreases-inline_for l = weight (program_around l.around.now) l.around.now.frame.calls_left (1 + (size_items (items_of (map item_view l.init.now)) + size_stmt (stmt_view l.again.now)))
+
+abbrev pub decreases-inline_block : goal.decreases-inline_block
+decreases-inline_block l = weight (program_around l.around.now) l.around.now.frame.calls_left (1 + size_items (items_of (map item_view l.items.now)))
+
+abbrev pub decreases-inline_assign : goal.decreases-inline_assign
+decreases-inline_assign l = weight (program_around l.around.now) l.around.now.frame.calls_left 4
+
+abbrev pub decreases-inline_call_alone : goal.decreases-inline_call_alone
+decreases-inline_call_alone l = weight (program_around l.around.now) l.around.now.frame.calls_left 3
+
+abbrev pub decreases-inline_if : goal.decreases-inline_if
+decreases-inline_if l = weight (program_around l.around.now) l.around.now.frame.calls_left (1 + (size_stmt (stmt_view l.on_true.now) + size_stmt (stmt_view l.on_false.now)))
 
 abbrev pub decreases-inline_return : goal.decreases-inline_return
-decreases-inline_return l = weight (program_view l.program.now) l.frame.calls_left 4
+decreases-inline_return l = weight (program_around l.around.now) l.around.now.frame.calls_left 5
+
+abbrev pub decreases-inline_back : goal.decreases-inline_back
+decreases-inline_back l = weight (program_around l.around.now) l.around.now.frame.calls_left 4
 
 abbrev pub decreases-inline_end : goal.decreases-inline_end
-decreases-inline_end l = weight (program_view l.program.now) l.frame.calls_left 4
+decreases-inline_end l = weight (program_around l.around.now) l.around.now.frame.calls_left 4
 
 abbrev pub decreases-inline_source : goal.decreases-inline_source
-decreases-inline_source l = weight (program_view l.program.now) l.frame.calls_left 3
+decreases-inline_source l = weight (program_around l.around.now) l.around.now.frame.calls_left 3
 
 abbrev pub decreases-inline_call : goal.decreases-inline_call
-decreases-inline_call l = weight (program_view l.program.now) l.frame.calls_left 2
+decreases-inline_call l = weight (program_around l.around.now) l.around.now.frame.calls_left 2

@@ -10,4 +10,9 @@ pub index-main-requires : goal.index-main-requires
 index-main-requires c = main_below c.args.program.now c.requires
 
 pub inline_items-requires-clause-stands : goal.inline_items-requires-clause-stands
-inline_items-requires-clause-stands c = items_stand_as (program_view c.args.program.now) (record { base = c.len-globals.result; live = c.len-globals.result; calls_left = c.args.calls_left; loop_length = None; back = None }) _ _ (main_body c.args.program.now c.index-main.result.now (main_read c.args.program.now c.index-main.result.now c.requires c.index-main.ensures) ∙ sym (ap (λ z. items_of (map item_view z)) c.deref.ensures.value)) (main_stands (program_view c.args.program.now) (record { base = c.len-globals.result; live = c.len-globals.result; calls_left = c.args.calls_left; loop_length = None; back = None }) c.requires (omega arith) refl refl)
+inline_items-requires-clause-stands c = items_stand_as (program_view c.args.program.now)
+    (record { base = c.len-globals.result; live = c.len-globals.result; calls_left = c.args.calls_left; loop_length = None; back = None }) _ _
+    (main_body c.args.program.now c.index-main.result.now (main_read c.args.program.now c.index-main.result.now c.requires c.index-main.ensures)
+    ∙ sym (ap (λ z. items_of (map item_view z)) c.deref.ensures.value))
+    (main_stands (program_view c.args.program.now) (record { base = c.len-globals.result; live = c.len-globals.result; calls_left = c.args.calls_left; loop_length = None; back = None })
+    c.requires (omega arith) refl refl)

@@ -1,0 +1,139 @@
+-- What is owed for a part, by what stands around it in code, and by the points before it and behind it.
+use Rattle.std.specs.Prelude.{◌≡◌, ℕ, ◌+◌, ◌++◌, List, [], ◌∷◌, map, Option, true, Vec}
+use Rattle.std.specs.declared.alloc.Global.{Global}
+use Rattle.lra_tree.specs.declared.graph.Node as code
+use Rattle.lra_tree.specs.declared.graph.Site as code_site
+use Rattle.lra_tree.specs.Program.{Cond, Call, Source, Stmt, BlockItems, Program}
+use Rattle.lra_tree.specs.Graph.{Exit}
+use Rattle.lra_tree.specs.Sites.{Site, Event, comes, plain_site}
+use Rattle.lra_tree.specs.Sites.{source_events, given_events, stmt_events, items_events, call_events}
+use Rattle.lra_tree.specs.ProgramViews.{program_view}
+use Rattle.lra_tree.specs.GraphViews.{node_view, site_view}
+use Rattle.lra_graph.specs.Limits.{walk, passed, stopped}
+use Rattle.lra_graph.specs.Building as building
+use Rattle.lra_graph.specs.declared.points.Limit.{Limit}
+use Rattle.lra_graph.specs.declared.frame.Around.{Around}
+
+abbrev pub Points : Type 0
+Points = Vec code_site.Site Global
+
+abbrev pub points_in : Points → List Site
+points_in points = map site_view points.items
+
+module _ (at : Around) where
+  abbrev pub program_around : Program
+  program_around = program_view at.program.now
+
+  abbrev pub inside : List ℕ → ℕ → Call → List Event
+  inside = building.inside program_around at.path.now at.frame
+
+  -- the point of a statement with this label, and of an assertion
+  abbrev pub own_events : ℕ → List Event
+  own_events label = plain_site at.path.now label at.frame.live ∷ []
+
+  abbrev pub assertion_events : ℕ → List Event
+  assertion_events label =
+      comes (record { path = at.path.now; label = label; live = at.frame.live; asserts = true }) ∷ []
+
+  abbrev pub on_stmt : Stmt → List Event
+  on_stmt s = stmt_events inside at.path.now at.frame.live s
+
+  -- it stands there, where so many variables live
+  abbrev pub StmtStands : Stmt → Type 0
+  StmtStands s = building.StmtStands program_around at.frame s
+
+  abbrev pub ItemsStand : BlockItems → Type 0
+  ItemsStand b = building.ItemsStand program_around at.frame b
+
+  abbrev pub ItemStands : (BlockItems → BlockItems) → Type 0
+  ItemStands item = building.ItemStands program_around at.frame item
+
+  abbrev pub GivenStands : Option Source → Type 0
+  GivenStands o = building.GivenStands program_around at.frame o
+
+  -- behind one variable more
+  abbrev pub DeclaredStands : Option Source → Type 0
+  DeclaredStands o = building.GivenStands program_around (record at.frame { live = at.frame.live + 1 }) o
+
+  abbrev pub CallStands : Call → Type 0
+  CallStands c = building.CallStands program_around at.frame c
+
+  -- the body of a loop, and its step
+  abbrev pub RoundStands : Option ℕ → Stmt → Type 0
+  RoundStands loop s = building.StmtStands program_around (record at.frame { loop_length = loop }) s
+
+  module _ (before : Points) where
+    -- it passes the limit, behind these points
+    abbrev pub Stops : List Event → Limit → Type 0
+    Stops es x = walk (points_in before) es ≡ stopped x
+
+    abbrev pub StopsStmt : Stmt → Limit → Type 0
+    StopsStmt s = Stops (on_stmt s)
+
+    abbrev pub StopsItems : BlockItems → Limit → Type 0
+    StopsItems b = Stops (items_events inside at.path.now at.frame.live b)
+
+    abbrev pub StopsItem : (BlockItems → BlockItems) → Limit → Type 0
+    StopsItem item = building.StopsItem program_around at.path.now at.frame (points_in before) item
+
+    abbrev pub StopsGiven : ℕ → Option Source → Limit → Type 0
+    StopsGiven live o = Stops (given_events inside at.path.now live o)
+
+    abbrev pub StopsSource : Source → Limit → Type 0
+    StopsSource e = Stops (source_events inside at.path.now at.frame.live e)
+
+    abbrev pub StopsCall : Call → Limit → Type 0
+    StopsCall c = Stops (call_events program_around at.frame.calls_left at.path.now at.frame.live c)
+
+    abbrev pub StopsRound : Stmt → Stmt → Limit → Type 0
+    StopsRound a step = Stops (on_stmt step ++ on_stmt a)
+
+    module _ (after : Points) where
+      -- the points behind it are those of these events
+      abbrev pub Passes : List Event → Type 0
+      Passes es = walk (points_in before) es ≡ passed (points_in after)
+
+      -- it is written out as this tree
+      abbrev pub IsStmt : Stmt → code.Node → Type 0
+      IsStmt s g =
+          building.WritesStmt program_around at.path.now at.frame (points_in before) s (node_view g) (points_in after)
+
+      -- so it is in any program
+      abbrev pub IsPlain : Stmt → code.Node → Type 0
+      IsPlain s g =
+          (P : Program)
+          → building.WritesStmt P at.path.now at.frame (points_in before) s (node_view g) (points_in after)
+
+      abbrev pub IsExit : ℕ → Exit → code.Node → Type 0
+      IsExit label exit g =
+          building.LeavesLoop at.path.now at.frame (points_in before) label exit (node_view g) (points_in after)
+
+      abbrev pub AreItems : BlockItems → code.Node → Type 0
+      AreItems b g =
+          building.WritesItems program_around at.path.now at.frame (points_in before) b (node_view g) (points_in after)
+
+      abbrev pub IsItem : (BlockItems → BlockItems) → code.Node → ℕ → Type 0
+      IsItem item g n =
+          building.WritesItem program_around at.path.now at.frame (points_in before) item (node_view g) n
+          (points_in after)
+
+      -- behind the point q, for the variable x
+      abbrev pub IsSource : ℕ → Option ℕ → Source → code.Node → Type 0
+      IsSource q x e g =
+          building.WritesSource program_around at.path.now at.frame q x (points_in before) e (node_view g)
+          (points_in after)
+
+      abbrev pub IsDeclared : ℕ → Option Source → code.Node → Type 0
+      IsDeclared q o g =
+          building.WritesDeclared program_around at.path.now at.frame q (points_in before) o (node_view g)
+          (points_in after)
+
+      abbrev pub IsLoop : ℕ → Cond → Stmt → Stmt → code.Node → Type 0
+      IsLoop q c a step g =
+          building.WritesLoop program_around at.path.now at.frame q (points_in before) c a step
+          (node_view g) (points_in after)
+
+      abbrev pub IsReturn : ℕ → Option Source → code.Node → Type 0
+      IsReturn q o g =
+          building.WritesReturn program_around at.path.now at.frame q (points_in before) o (node_view g)
+          (points_in after)
