@@ -1,6 +1,7 @@
 -- The size of a tree, and what the loops of a pass keep.
 use Rattle.std.proofs.Common.{◌≡◌, ◌≢◌, ℕ, zero, suc, ◌+◌, ◌-◌, ◌^◌, ◌<◌, Bool, true, false, List, [], ◌∷◌, ◌++◌, Option, take, drop, refl, sym, ap, subst, ◌∙◌, arith}
 use Rattle.std.specs.Prelude.{slice_index_or}
+use Rattle.std.specs.List.{sum, sum_by}
 use Rattle.lra_domain.specs.declared.Rank.{Rank}
 use Rattle.lra_domain.specs.declared.Mode.TheVariants.{Join}
 use Rattle.lra_domain.specs.declared.Included.TheVariants.{Yes}
@@ -25,7 +26,7 @@ size_step Node-F.Empty = 0
 size_step (Node-F.Point q) = 0
 size_step (Node-F.Act q o) = 0
 size_step (Node-F.Check q base c) = 0
-size_step (Node-F.Seq a b) = 1 + (a.value + b.value)
+size_step (Node-F.Seq gs last) = 1 + (sum gs.items + last.value)
 size_step (Node-F.Choose q base c a b) = 1 + (a.value + b.value)
 size_step (Node-F.Iterate q base c a) = 1 + a.value
 size_step (Node-F.Catch q k a) = 1 + a.value
@@ -34,23 +35,31 @@ size_step (Node-F.Leave n k) = 0
 abbrev pub node_size : Node → ℕ
 node_size = fold-Node ℕ size_step
 
+-- of trees one after the other, and then the last
+abbrev pub row_size : List Node → Node → ℕ
+row_size gs last = sum_by node_size gs + node_size last
+
 -- the head grew from the first value: however it grows on, it is a growth of that
 pub record GrowLoop {V H : Type 0} (m : Meaning V H) (set : Settings) (q base : ℕ) (c : Cond) (a : graph.Node) (first : V) (f : Option ℕ) (left : ℕ) (so_far : Option ℕ) (head : H) : Type 0 where
   pub dims : m.head_dims head ≡ m.dims first
   pub fits : RankFits (m.rank head)
   pub grows : (later : List H) (v : V) (r : Result V) → Grows V H (dropping m) q base c (Pass V H (dropping m) set a) set.limited left so_far head later v r → HasGrown m set q base c a first f v r
 
--- what is narrowed on is a narrowing from the first round
-pub record NarrowLoop {V H : Type 0} (m : Meaning V H) (set : Settings) (q base : ℕ) (c : Cond) (a : graph.Node) (first u : V) (s : Result V) (left : ℕ) (top : V) (last : Result V) : Type 0 where
+-- what is narrowed on is a narrowing from the first round, with which the head was stable
+pub record NarrowLoop {V H : Type 0} (m : Meaning V H) (set : Settings) (q base : ℕ) (c : Cond) (a : graph.Node) (first : V) (f : Option ℕ) (left : ℕ) (top : V) (last : Result V) : Type 0 where
+  pub start : V
+  pub round : Result V
+  pub grown : HasGrown m set q base c a first f start round
   pub dims : m.dims top ≡ m.dims first
   pub behind : m.dims last.normal ≡ m.dims first
   pub jumps : JumpsFit m a (m.dims first) last
   pub narrows : (v : V) (r : Result V) → Narrows V H (dropping m) q base c (Pass V H (dropping m) set a) left first top last v r
-      → Narrows V H (dropping m) q base c (Pass V H (dropping m) set a) set.narrow first u s v r
+      → Narrows V H (dropping m) q base c (Pass V H (dropping m) set a) set.narrow first start round v r
 
 module _ {V H : Type 0} (m : Meaning V H) (set : Settings) (q base : ℕ) (c : Cond) (a : graph.Node) where
   -- a head begins
-  pub grow_starts : (first : V) (f : Option ℕ) (head : H) → (dropping m).started first (given_rows (m.dims first) base c) head → RankFits (m.rank head) → GrowLoop m set q base c a first f set.delay f head
+  pub grow_starts : (first : V) (f : Option ℕ) (head : H) → (dropping m).started first (given_rows (m.dims first) base c) head → RankFits (m.rank head)
+      → GrowLoop m set q base c a first f set.delay f head
   grow_starts first f head begins fits = record { dims = begins.1; fits = fits; grows = λ later v r h. (head, later, begins, h) }
 
   -- it doesn't grow more
@@ -78,15 +87,19 @@ module _ {V H : Type 0} (m : Meaning V H) (set : Settings) (q base : ℕ) (c : C
   }
 
   -- a narrowing begins
-  pub narrow_starts : (first u : V) (s : Result V) → m.dims u ≡ m.dims first → m.dims s.normal ≡ m.dims first → JumpsFit m a (m.dims first) s → NarrowLoop m set q base c a first u s set.narrow u s
-  narrow_starts first u s dims behind jumps = record { dims = dims; behind = behind; jumps = jumps; narrows = λ v r h. h }
+  pub narrow_starts : (first u : V) (f : Option ℕ) (s : Result V) → HasGrown m set q base c a first f u s → m.dims u ≡ m.dims first → m.dims s.normal ≡ m.dims first
+      → JumpsFit m a (m.dims first) s → NarrowLoop m set q base c a first f set.narrow u s
+  narrow_starts first u f s grown dims behind jumps = record { start = u; round = s; grown = grown; dims = dims; behind = behind; jumps = jumps; narrows = λ v r h. h }
 
   -- one round of narrowing more
-  pub narrow_next : (first u : V) (s : Result V) (left k : ℕ) (top next : V) (last turned : Result V) (e : Exactness) (f : Option ℕ)
-      → NarrowLoop m set q base c a first u s left top last → left ≡ suc k → (dropping m).joined first last.normal e next → f ≡ noted q e last.flag
-      → GoesRound V H (dropping m) q base c (Pass V H (dropping m) set a) f next turned
-      → m.dims turned.normal ≡ m.dims next → JumpsFit m a (m.dims next) turned → NarrowLoop m set q base c a first u s k next turned
-  narrow_next first u s left k top next last turned e f loop is joined flagged round behind jumps = record {
+  pub narrow_next : (first : V) (f : Option ℕ) (left k : ℕ) (top next : V) (last turned : Result V) (e : Exactness) (so_far : Option ℕ)
+      → NarrowLoop m set q base c a first f left top last → left ≡ suc k → (dropping m).joined first last.normal e next → so_far ≡ noted q e last.flag
+      → GoesRound V H (dropping m) q base c (Pass V H (dropping m) set a) so_far next turned
+      → m.dims turned.normal ≡ m.dims next → JumpsFit m a (m.dims next) turned → NarrowLoop m set q base c a first f k next turned
+  narrow_next first f left k top next last turned e so_far loop is joined flagged round behind jumps = record {
+    start = loop.start;
+    round = loop.round;
+    grown = loop.grown;
     dims = joined.2;
     behind = behind ∙ joined.2;
     jumps = subst (λ (n : ℕ). JumpsFit m a n turned) joined.2 jumps;
@@ -95,9 +108,9 @@ module _ {V H : Type 0} (m : Meaning V H) (set : Settings) (q base : ℕ) (c : C
   }
 
   -- no round is left
-  pub narrow_ends : (first u : V) (s : Result V) (left : ℕ) (top : V) (last : Result V) → NarrowLoop m set q base c a first u s left top last → left ≡ 0
-      → Narrows V H (dropping m) q base c (Pass V H (dropping m) set a) set.narrow first u s top last
-  narrow_ends first u s left top last loop is =
+  pub narrow_ends : (first : V) (f : Option ℕ) (left : ℕ) (top : V) (last : Result V) (loop : NarrowLoop m set q base c a first f left top last) → left ≡ 0
+      → Narrows V H (dropping m) q base c (Pass V H (dropping m) set a) set.narrow first loop.start loop.round top last
+  narrow_ends first f left top last loop is =
       loop.narrows top last (subst (λ (n : ℕ). Narrows V H (dropping m) q base c (Pass V H (dropping m) set a) n first top last top last) (sym is) (refl, refl))
 
 not_join : (limited : Bool) → mode_at limited 0 ≡ Join → ⊥
@@ -114,7 +127,8 @@ have_append m k [] n h is = (is, tt)
 have_append m k (v ∷ vs) n h is = (h.0, have_append m k vs n h.1 is)
 
 -- what comes out behind a call has as many dimensions as its end
-pub returns_have : {V H : Type 0} (m : Meaning V H) (rs ys xs : List V) (n x : V) → ys ≡ rs ++ n ∷ [] → x ≡ slice_index_or ys 0 x → xs ≡ take 0 ys ++ drop 1 ys → AllHave m (m.dims n) rs → (m.dims x ≡ m.dims n) × AllHave m (m.dims x) xs
+pub returns_have : {V H : Type 0} (m : Meaning V H) (rs ys xs : List V) (n x : V) → ys ≡ rs ++ n ∷ [] → x ≡ slice_index_or ys 0 x → xs ≡ take 0 ys ++ drop 1 ys → AllHave m (m.dims n) rs
+    → (m.dims x ≡ m.dims n) × AllHave m (m.dims x) xs
 returns_have {V} m [] ys xs n x is first others have =
     let one : x ≡ n = subst (λ (zs : List V). x ≡ slice_index_or zs 0 x) is first in
     let none : xs ≡ [] = subst (λ (zs : List V). xs ≡ take 0 zs ++ drop 1 zs) is others in

@@ -3,7 +3,8 @@ use Rattle.std.proofs.Common.{rules, Box, Vec, Global, map, ◌≡◌, ℕ, zero
 use Rattle.std.specs.Prelude.{◌⊎◌, IfOk, true}
 use Rattle.std.specs.Prelude as outcome_or
 use Rattle.std.proofs.lemmas.Result.{IfOk-weaker}
-use Rattle.std.specs.List.{Contains, insert}
+use Rattle.std.specs.List.{Contains, insert, sum}
+use Rattle.std.proofs.lemmas.List.Sums.{sum-map}
 use Rattle.std.proofs.lemmas.List.Elements.{Contains-append_cases}
 use Rattle.lra_domain.specs.Meaning.{Meaning}
 use Rattle.lra_domain.specs.declared.Exactness.{Exactness}
@@ -12,7 +13,7 @@ use Rattle.lra_tree.specs.declared.graph.Exit as declared_exit
 use Rattle.lra_tree.specs.declared.graph.Op as declared_op
 use Rattle.lra_tree.specs.declared.graph.Node.{Node, Empty, Point, Act, Check, Seq, Choose, Iterate, Catch, Leave, the_lemmas}
 use Rattle.lra_tree.specs.ProgramViews.{cond_view}
-use Rattle.lra_tree.specs.GraphViews.{exit_view, op_view, node_view}
+use Rattle.lra_tree.specs.GraphViews.{exit_view, op_view, node_view, row}
 use Rattle.lra_tree.specs.Program.{Cond}
 use Rattle.lra_tree.specs.Graph.{Exit, broken, continued, returned}
 use Rattle.lra_tree.specs.Graph as graph
@@ -26,7 +27,7 @@ use Rattle.lra_iter.specs.declared.outcome.Entry as entry
 use Rattle.lra_iter.specs.declared.outcome.Entry.TheVariants as entry_variants
 use Rattle.lra_iter.specs.declared.outcome.Outcome.{Outcome}
 use Rattle.lra_iter.specs.Outcome.{entry_view, seen, AllHave, AreMet, Catches, JumpsFit, HasGrown, IsPassed, LeavesWith}
-use Rattle.lra_iter.proofs.PassLoops.{node_size}
+use Rattle.lra_iter.proofs.PassLoops.{node_size, row_size}
 
 -- the views of the nine forms
 pub empty_view : node_view Empty ≡ graph.empty
@@ -41,8 +42,8 @@ act_view q o = search (rules, the_lemmas)
 pub check_view : (q base : ℕ) (c : declared_cond.Cond) → node_view (Check q base c) ≡ graph.check q base (cond_view c)
 check_view q base c = search (rules, the_lemmas)
 
-seq_view : (a b : Box Node Global) → node_view (Seq a b) ≡ graph.seq (node_view a.value) (node_view b.value)
-seq_view a b = search (rules, the_lemmas)
+seq_view : (gs : Vec Node Global) (last : Box Node Global) → node_view (Seq gs last) ≡ row (map node_view gs.items) (node_view last.value)
+seq_view gs last = search (rules, the_lemmas)
 
 choose_view : (q base : ℕ) (c : declared_cond.Cond) (a b : Box Node Global) → node_view (Choose q base c a b) ≡ graph.choose q base (cond_view c) (node_view a.value) (node_view b.value)
 choose_view q base c a b = search (rules, the_lemmas)
@@ -57,8 +58,11 @@ pub leave_view : (n : ℕ) (k : declared_exit.Exit) → node_view (Leave n k) �
 leave_view n k = search (rules, the_lemmas)
 
 -- the sizes of those with trees in them
-seq_size : (a b : Box Node Global) → node_size (Seq a b) ≡ 1 + (node_size a.value + node_size b.value)
-seq_size a b = search (rules, the_lemmas)
+seq_sum : (gs : Vec Node Global) (last : Box Node Global) → node_size (Seq gs last) ≡ 1 + (sum (map node_size gs.items) + node_size last.value)
+seq_sum gs last = search (rules, the_lemmas)
+
+seq_size : (gs : Vec Node Global) (last : Box Node Global) → node_size (Seq gs last) ≡ 1 + row_size gs.items last.value
+seq_size gs last = seq_sum gs last ∙ ap (λ k. 1 + (k + node_size last.value)) (sum-map node_size gs.items)
 
 choose_size : (q base : ℕ) (c : declared_cond.Cond) (a b : Box Node Global) → node_size (Choose q base c a b) ≡ 1 + (node_size a.value + node_size b.value)
 choose_size q base c a b = search (rules, the_lemmas)
@@ -70,16 +74,18 @@ catch_size : (q : ℕ) (k : declared_exit.Exit) (a : Box Node Global) → node_s
 catch_size q k a = search (rules, the_lemmas)
 
 -- the same of a tree that is one of these forms, by the trees in it
+module _ (n y : Node) (xs : List Node) (gs : Vec Node Global) (last : Box Node Global) (one : xs ≡ gs.items) (two : y ≡ last.value) (is : n ≡ Seq gs last) where
+  pub seq_shown : node_view n ≡ row (map node_view xs) (node_view y)
+  seq_shown = ap node_view is ∙ seq_view gs last ∙ ap (λ (z : List Node). row (map node_view z) (node_view last.value)) (sym one) ∙ ap (λ z. row (map node_view xs) (node_view z)) (sym two)
+
+  pub seq_sized : node_size n ≡ 1 + row_size xs y
+  seq_sized = ap node_size is ∙ seq_size gs last ∙ ap (λ (z : List Node). 1 + row_size z last.value) (sym one) ∙ ap (λ z. 1 + row_size xs z) (sym two)
+
 module _ (n x y : Node) (a b : Box Node Global) (one : x ≡ a.value) (two : y ≡ b.value) where
-  pub seq_shown : n ≡ Seq a b → node_view n ≡ graph.seq (node_view x) (node_view y)
-  seq_shown is = ap node_view is ∙ seq_view a b ∙ ap (λ z. graph.seq (node_view z) (node_view b.value)) (sym one) ∙ ap (λ z. graph.seq (node_view x) (node_view z)) (sym two)
-
-  pub seq_sized : n ≡ Seq a b → node_size n ≡ 1 + (node_size x + node_size y)
-  seq_sized is = ap node_size is ∙ seq_size a b ∙ ap (λ z. 1 + (node_size z + node_size b.value)) (sym one) ∙ ap (λ z. 1 + (node_size x + node_size z)) (sym two)
-
   module _ (q base : ℕ) (c : declared_cond.Cond) (is : n ≡ Choose q base c a b) where
     pub choose_shown : node_view n ≡ graph.choose q base (cond_view c) (node_view x) (node_view y)
-    choose_shown = ap node_view is ∙ choose_view q base c a b ∙ ap (λ z. graph.choose q base (cond_view c) (node_view z) (node_view b.value)) (sym one) ∙ ap (λ z. graph.choose q base (cond_view c) (node_view x) (node_view z)) (sym two)
+    choose_shown = ap node_view is ∙ choose_view q base c a b ∙ ap (λ z. graph.choose q base (cond_view c) (node_view z) (node_view b.value)) (sym one)
+        ∙ ap (λ z. graph.choose q base (cond_view c) (node_view x) (node_view z)) (sym two)
 
     pub choose_sized : node_size n ≡ 1 + (node_size x + node_size y)
     choose_sized = ap node_size is ∙ choose_size q base c a b ∙ ap (λ z. 1 + (node_size z + node_size b.value)) (sym one) ∙ ap (λ z. 1 + (node_size x + node_size z)) (sym two)
@@ -128,7 +134,8 @@ module _ {V H : Type 0} (m : Meaning V H) where
       fits continued u h = in_both (λ x. JumpsWith a n continued (m.dims x)) (λ x. JumpsWith b (live_behind a n) continued (m.dims x)) s.continues t.continues u (one continued u) (two continued u) h
       fits returned u h = in_both (λ x. JumpsWith a n returned (m.dims x)) (λ x. JumpsWith b (live_behind a n) returned (m.dims x)) s.returns t.returns u (one returned u) (two returned u) h
 
-  pub choose_fits : (q base : ℕ) (c : Cond) (a b : graph.Node) (n : ℕ) (s t r : Result V) (v : V) (f : Option ℕ) → r ≡ in_turn s t v f → JumpsFit m a n s → JumpsFit m b n t → JumpsFit m (graph.choose q base c a b) n r
+  pub choose_fits : (q base : ℕ) (c : Cond) (a b : graph.Node) (n : ℕ) (s t r : Result V) (v : V) (f : Option ℕ) → r ≡ in_turn s t v f → JumpsFit m a n s → JumpsFit m b n t
+      → JumpsFit m (graph.choose q base c a b) n r
   choose_fits q base c a b n s t r v f is one two = subst (λ (x : Result V). JumpsFit m (graph.choose q base c a b) n x) (sym is) fits
     where
       fits : (k : Exit) (u : V) → Contains (jumps_of k (in_turn s t v f)) u → JumpsWith (graph.choose q base c a b) n k (m.dims u)
@@ -146,7 +153,8 @@ module _ {V H : Type 0} (m : Meaning V H) where
       fits returned u h = inner returned u (subst (λ (vs : List V). Contains vs u) returns h)
 
   -- behind a catch
-  behind_fits : (q : ℕ) (j : Exit) (a : graph.Node) (n : ℕ) (s : Result V) (w : V) (f : Option ℕ) → JumpsFit m a n s → (k : Exit) (u : V) → Contains (jumps_of k (behind j s w f)) u → JumpsWith (graph.catch q j a) n k (m.dims u)
+  behind_fits : (q : ℕ) (j : Exit) (a : graph.Node) (n : ℕ) (s : Result V) (w : V) (f : Option ℕ) → JumpsFit m a n s → (k : Exit) (u : V) → Contains (jumps_of k (behind j s w f)) u
+      → JumpsWith (graph.catch q j a) n k (m.dims u)
   behind_fits q broken a n s w f inner broken u h = absurd (no_element u h)
   behind_fits q broken a n s w f inner continued u h = (λ e. cc, inner continued u h)
   behind_fits q broken a n s w f inner returned u h = (λ e. cc, inner returned u h)
@@ -160,7 +168,8 @@ module _ {V H : Type 0} (m : Meaning V H) where
   pub catch_fits : (q : ℕ) (j : Exit) (a : graph.Node) (n : ℕ) (s r : Result V) → JumpsFit m a n s → Catches m q j s r → JumpsFit m (graph.catch q j a) n r
   catch_fits q j a n s r inner (w, e, joined, is) = subst (λ (x : Result V). JumpsFit m (graph.catch q j a) n x) (sym is) (behind_fits q j a n s w (noted q e s.flag) inner)
 
-  pub catch_passes : (set : Settings) (q : ℕ) (j : Exit) (a : graph.Node) (f : Option ℕ) (v : V) (s r : Result V) → Pass V H (dropping m) set a f v s → Catches m q j s r → Pass V H (dropping m) set (graph.catch q j a) f v r
+  pub catch_passes : (set : Settings) (q : ℕ) (j : Exit) (a : graph.Node) (f : Option ℕ) (v : V) (s r : Result V) → Pass V H (dropping m) set a f v s → Catches m q j s r
+      → Pass V H (dropping m) set (graph.catch q j a) f v r
   catch_passes set q j a f v s r pass (w, e, joined, is) = (w, e, s, pass, joined, is)
 
   -- a jump
@@ -194,7 +203,8 @@ module _ {V H : Type 0} (m : Meaning V H) where
   all_have n [] h = tt
   all_have n (v ∷ vs) h = (h v (0, omega arith, refl), all_have n vs (λ u i. h u (suc i.0, omega (arith, i.1), i.2)))
 
-  pub caught_have : (q : ℕ) (k : Exit) (a : graph.Node) (n : ℕ) (s : Result V) → TreeFits (graph.catch q k a) n → JumpsFit m a n s → m.dims s.normal ≡ live_behind a n → AllHave m (m.dims s.normal) (jumps_of k s)
+  pub caught_have : (q : ℕ) (k : Exit) (a : graph.Node) (n : ℕ) (s : Result V) → TreeFits (graph.catch q k a) n → JumpsFit m a n s → m.dims s.normal ≡ live_behind a n
+      → AllHave m (m.dims s.normal) (jumps_of k s)
   caught_have q k a n s fits jumps dims = all_have (m.dims s.normal) (jumps_of k s) (λ u h. fits.1 (m.dims u) (jumps k u h) ∙ sym dims)
 
   -- a loop
@@ -219,7 +229,8 @@ module _ {V H : Type 0} (m : Meaning V H) where
   }
 
   -- both ends have as many dimensions
-  pub ends_meet : (set : Settings) (q base : ℕ) (c : Cond) (a b : graph.Node) (f g : Option ℕ) (n : ℕ) (on off : V) (s t : Result V) → TreeFits (graph.choose q base c a b) n → m.dims on ≡ n → m.dims off ≡ n
+  pub ends_meet : (set : Settings) (q base : ℕ) (c : Cond) (a b : graph.Node) (f g : Option ℕ) (n : ℕ) (on off : V) (s t : Result V) → TreeFits (graph.choose q base c a b) n → m.dims on ≡ n
+      → m.dims off ≡ n
       → IsPassed m set a f on s → IsPassed m set b g off t → m.dims s.normal ≡ m.dims t.normal
   ends_meet set q base c a b f g n on off s t fits wide wide' one two = one.dims ∙ ap (live_behind a) wide ∙ sym fits.2 ∙ ap (live_behind b) (sym wide') ∙ sym two.dims
 
@@ -230,7 +241,8 @@ module _ {V H E : Type 0} (m : Meaning V H) (set : Settings) (g g' : graph.Node)
     given_pass = IfOk-weaker R (λ r. IsPassed m set g' f v (seen r)) (λ r. Pass V H (dropping m) set g f v (seen r)) (λ r p. subst (λ z. Pass V H (dropping m) set z f v (seen r)) (sym same) p.pass) h
 
     pub given_dims : IfOk R (λ r. m.dims r.normal ≡ live_behind g (m.dims v))
-    given_dims = IfOk-weaker R (λ r. IsPassed m set g' f v (seen r)) (λ r. m.dims r.normal ≡ live_behind g (m.dims v)) (λ r p. subst (λ z. m.dims r.normal ≡ live_behind z (m.dims v)) (sym same) p.dims) h
+    given_dims = IfOk-weaker R (λ r. IsPassed m set g' f v (seen r)) (λ r. m.dims r.normal ≡ live_behind g (m.dims v))
+        (λ r p. subst (λ z. m.dims r.normal ≡ live_behind z (m.dims v)) (sym same) p.dims) h
 
     pub given_jumps : IfOk R (λ r. JumpsFit m g (m.dims v) (seen r))
     given_jumps = IfOk-weaker R (λ r. IsPassed m set g' f v (seen r)) (λ r. JumpsFit m g (m.dims v) (seen r)) (λ r p. subst (λ z. JumpsFit m z (m.dims v) (seen r)) (sym same) p.jumps) h

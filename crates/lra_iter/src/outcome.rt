@@ -1,6 +1,6 @@
 //! What a pass over a tree of operations gives.
 
-ghost use Rattle.std.specs.Prelude.{◌≡◌, ℕ, Option, map, IfOk, OnOk};
+ghost use Rattle.std.specs.Prelude.{◌≡◌, ℕ, [], Option, map, IfOk, OnOk};
 ghost use Rattle.lra_tree.specs.Graph.{broken, continued, returned};
 ghost use Rattle.lra_tree.specs.GraphViews.{exit_view};
 ghost use Rattle.lra_flow.specs.Operations.{dropping};
@@ -62,6 +62,18 @@ pub fn note(point: usize, exactness: Exactness, flag: Option<usize>) -> Option<u
 }
 
 impl<D: Drop> Found<D> {
+    /// Nothing yet.
+    pub fn nothing(alloc: Global) -> Found<D>
+        ensures { (v : D) (f : Option ℕ) → ended result v f ≡ goes_on [] v f }
+    {
+        Found {
+            entries: Vec::new(alloc),
+            breaks: Vec::new(alloc),
+            continues: Vec::new(alloc),
+            returns: Vec::new(alloc),
+        }
+    }
+
     /// What the other found comes behind; nothing is left in the other.
     pub fn append(&mut self, more: &mut Found<D>) -> Result<(), AllocError>
         ensures { OnOk result (AreInTurn self.old more.old self.new) }

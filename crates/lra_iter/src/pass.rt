@@ -1,20 +1,20 @@
 //! The pass over a tree of operations.
 
-ghost use Rattle.std.specs.Prelude.{◌≡◌, ◌≤◌, ◌^◌, IfOk};
+ghost use Rattle.std.specs.Prelude.{◌≡◌, ◌≤◌, ◌^◌, map, IfOk};
 ghost use Rattle.lra_domain.specs.Rank.{RankFits};
 ghost use Rattle.lra_domain.specs.declared.Exactness.{Exactness};
-ghost use Rattle.lra_tree.specs.Graph.{choose, iterate, seq};
+ghost use Rattle.lra_tree.specs.Graph.{choose, iterate};
 ghost use Rattle.lra_tree.specs.ProgramViews.{cond_view};
-ghost use Rattle.lra_tree.specs.GraphViews.{node_view};
+ghost use Rattle.lra_tree.specs.GraphViews.{node_view, row};
 ghost use Rattle.lra_flow.specs.Given.{given_rows};
 ghost use Rattle.lra_flow.specs.Operations.{dropping};
-ghost use Rattle.lra_flow.specs.Pass.{GoesRound, Narrows, Pass, mode_at, noted};
+ghost use Rattle.lra_flow.specs.Pass.{GoesRound, Pass, mode_at, noted};
 ghost use Rattle.lra_iter.specs.Fits.{live_behind, TreeFits};
 ghost use Rattle.lra_iter.specs.Outcome.{seen, AreMet, HasGrown, IsPassed, JumpsFit, LeavesWith};
 
 use crate::catches::catch_jumps;
 use crate::leaves::{pass_act, pass_check, pass_leave, pass_point};
-use crate::outcome::{Entry, Outcome, note};
+use crate::outcome::{Entry, Found, Outcome, note};
 use lra_change::{Kept, leave, split};
 use lra_domain::{Domain, Exactness, Grown, Mode};
 use lra_flow::Settings;
@@ -201,39 +201,8 @@ fn grow<D: Domain>(
     }
 }
 
-/// So many times the value at the head becomes the join of the first one with what its round left; the last round stays.
-#[cycle(pass)]
-fn narrow<D: Domain>(
-    alloc: Global,
-    the_loop: &Loop<'_>,
-    first: &D,
-    value: D,
-    outcome: Outcome<D>,
-) -> Result<(D, Outcome<D>), AllocError>
-    requires parts { 1 ≤ the_loop.now.settings.now.parts }
-    requires few { D.meaning.dims first.now ≤ 2 ^ 30 }
-    requires fits { TreeFits (node_view the_loop.now.body.now) (D.meaning.dims first.now) }
-    requires closed { live_behind (node_view the_loop.now.body.now) (D.meaning.dims first.now) ≡ D.meaning.dims first.now }
-    requires value { D.meaning.dims value ≡ D.meaning.dims first.now }
-    requires behind { D.meaning.dims outcome.normal ≡ D.meaning.dims first.now }
-    requires jumps { JumpsFit D.meaning (node_view the_loop.now.body.now) (D.meaning.dims first.now) (seen outcome) }
-    ensures narrows { IfOk result (λ r. Narrows D D.Head (dropping D.meaning) the_loop.now.point the_loop.now.base (cond_view the_loop.now.condition.now) (Pass D D.Head (dropping D.meaning) the_loop.now.settings.now (node_view the_loop.now.body.now)) the_loop.now.settings.now.narrow first.now value (seen outcome) r.0 (seen r.1)) }
-    ensures dims { IfOk result (λ r. D.meaning.dims r.0 ≡ D.meaning.dims first.now) }
-    ensures jumps { IfOk result (λ r. JumpsFit D.meaning (node_view the_loop.now.body.now) (D.meaning.dims first.now) (seen r.1)) }
-{
-    let mut top = value;
-    let mut last = outcome;
-    let mut left = the_loop.settings.narrow;
-    'narrowing: while left > 0 {
-        let (next, so_far) = narrowed(alloc, the_loop.point, first, last)?;
-        top = next;
-        last = round(alloc, the_loop, &top, so_far)?;
-        left -= 1;
-    }
-    Ok((top, last))
-}
-
-/// A loop: its head grows, is narrowed, and is left where the condition is false.
+/// A loop: its head grows, is narrowed, and is left where the condition is false. In each round of narrowing the value at the head becomes the
+/// join of the first one with what its last round left; the last round stays.
 #[cycle(pass)]
 fn pass_loop<D: Domain>(
     alloc: Global,
@@ -248,7 +217,15 @@ fn pass_loop<D: Domain>(
     ensures { IfOk result (λ r. IsPassed D.meaning the_loop.now.settings.now (iterate the_loop.now.point the_loop.now.base (cond_view the_loop.now.condition.now) (node_view the_loop.now.body.now)) flag value (seen r)) }
 {
     let (grown, outcome) = grow(alloc, the_loop, &value, flag)?;
-    let (top, last) = narrow(alloc, the_loop, &value, grown, outcome)?;
+    let mut top = grown;
+    let mut last = outcome;
+    let mut left = the_loop.settings.narrow;
+    'narrowing: while left > 0 {
+        let (next, so_far) = narrowed(alloc, the_loop.point, &value, last)?;
+        top = next;
+        last = round(alloc, the_loop, &top, so_far)?;
+        left -= 1;
+    }
     let outcome = leave_loop(alloc, the_loop, top, last)?;
     Ok(outcome)
 }
@@ -281,37 +258,32 @@ fn pass_choice<D: Domain>(
     Ok(both)
 }
 
-/// The first, then what stands behind it, one after the other: what each of them finds comes behind what was found before it.
+/// The trees one after the other, and then the last: what each of them finds comes behind what was found before it.
 #[cycle(pass)]
 fn pass_row<D: Domain>(
     alloc: Global,
     settings: &Settings,
-    first: &Node,
-    second: &Node,
+    trees: &[Node],
+    last: &Node,
     value: D,
     flag: Option<usize>,
 ) -> Result<Outcome<D>, AllocError>
     requires parts { 1 ≤ settings.now.parts }
     requires few { D.meaning.dims value ≤ 2 ^ 30 }
-    requires fits { TreeFits (seq (node_view first.now) (node_view second.now)) (D.meaning.dims value) }
-    ensures { IfOk result (λ r. IsPassed D.meaning settings.now (seq (node_view first.now) (node_view second.now)) flag value (seen r)) }
+    requires fits { TreeFits (row (map node_view trees.now) (node_view last.now)) (D.meaning.dims value) }
+    ensures { IfOk result (λ r. IsPassed D.meaning settings.now (row (map node_view trees.now) (node_view last.now)) flag value (seen r)) }
 {
-    let outcome = pass(alloc, settings, first, value, flag)?;
-    let Outcome {
-        mut found,
-        normal: mut behind,
-        flag: mut so_far,
-    } = outcome;
-    let mut rest = second;
-    'row: while let Node::Seq(next, others) = rest {
-        let part = pass(alloc, settings, next, behind, so_far)?;
+    let mut found = Found::nothing(alloc);
+    let mut behind = value;
+    let mut so_far = flag;
+    'row: for tree in trees {
+        let part = pass(alloc, settings, tree, behind, so_far)?;
         let (value, flag) = found.take(part)?;
         behind = value;
         so_far = flag;
-        rest = others;
     }
-    let last = pass(alloc, settings, rest, behind, so_far)?;
-    let (normal, flag) = found.take(last)?;
+    let end = pass(alloc, settings, last, behind, so_far)?;
+    let (normal, flag) = found.take(end)?;
     Ok(Outcome {
         found,
         normal,
@@ -342,7 +314,7 @@ pub fn pass<D: Domain>(
         Node::Check(point, base, condition) => {
             pass_check(alloc, *point, *base, condition, value, flag)
         }
-        Node::Seq(first, second) => pass_row(alloc, settings, first, second, value, flag),
+        Node::Seq(trees, last) => pass_row(alloc, settings, trees, last, value, flag),
         Node::Choose(point, base, condition, yes, no) => {
             let choice = Choice {
                 settings,

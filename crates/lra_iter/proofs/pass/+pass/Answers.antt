@@ -1,17 +1,19 @@
-use Rattle.std.proofs.Common.{rules, ◌≡◌, ◌≤◌, ◌-◌, ◌+◌, ◌^◌, suc, refl, sym, ap, subst, ◌∙◌, arith}
+use Rattle.std.proofs.Common.{rules, ◌≡◌, ◌≤◌, ◌-◌, ◌+◌, ◌^◌, suc, map, refl, sym, ap, subst, ◌∙◌, arith}
 use Rattle.std.specs.List.{insert}
 use Rattle.lra_domain.specs.declared.Included.TheVariants.{Yes}
 use Rattle.lra_domain.specs.Meaning.{Grew}
 use Rattle.lra_tree.specs.ProgramViews.{cond_view}
-use Rattle.lra_tree.specs.GraphViews.{node_view, exit_view, op_view}
+use Rattle.lra_tree.specs.GraphViews.{node_view, exit_view, op_view, row}
 use Rattle.lra_tree.specs.Graph as graph
 use Rattle.lra_flow.specs.Pass.{Result, noted, mode_at}
 use Rattle.lra_iter.specs.declared.outcome.Entry.TheVariants.{Value}
 use Rattle.lra_iter.specs.Fits.{live_behind, TreeFits}
 use Rattle.lra_iter.specs.Outcome.{seen, IsPassed, JumpsFit}
-use Rattle.lra_iter.proofs.PassLoops.{node_size, grow_starts, grow_stable, grow_next, grow_falls, narrow_starts, narrow_next, narrow_ends}
-use Rattle.lra_iter.proofs.PassSteps.{empty_view, point_view, act_view, check_view, leave_view, seq_shown, seq_sized, choose_shown, choose_sized, iterate_shown, iterate_sized, catch_shown, catch_sized, none_fits, same_jumps_fit, caught_have, entered, loop_passed, choice_passed, given_pass, given_dims, given_jumps, caught_pass, caught_dims, caught_jumps}
-use Rattle.lra_iter.proofs.PassRows.{row_starts, next_fits, row_next, row_ends}
+use Rattle.lra_iter.proofs.PassLoops.{node_size, row_size, grow_starts, grow_stable, grow_next, grow_falls, narrow_starts, narrow_next, narrow_ends}
+use Rattle.lra_iter.proofs.PassSteps.{empty_view, point_view, act_view, check_view, leave_view, seq_shown, seq_sized, choose_shown, choose_sized, iterate_shown, iterate_sized, catch_shown}
+use Rattle.lra_iter.proofs.PassSteps.{catch_sized, none_fits, same_jumps_fit, caught_have, entered, loop_passed, choice_passed, given_pass, given_dims, given_jumps, caught_pass, caught_dims}
+use Rattle.lra_iter.proofs.PassSteps.{caught_jumps}
+use Rattle.lra_iter.proofs.PassRows.{row_at, tree_small, row_done, row_starts, next_fits, row_next, last_fits, row_ends}
 use Rattle.lra_iter.proofs.pass.+pass.Goals as goal
 
 -- once round ----------------------------------------------------------------------------------------------------------
@@ -29,7 +31,8 @@ round-returns-clause-round g t c =
     let leaves = rw c.in_ok-on.ensures at c.in_ok-exactness.ensures.leaves in
     let passes = rw c.note-inside.ensures at c.in_ok-outcome.ensures.pass in
     let inserted : c.insert.new.self.items ≡ insert c.in_ok-outcome.outcome.found.entries.items 0 (Value c.args.the_loop.now.point c.in_ok-found.found) = search rules in
-    (c.leave.new.value, c.in_ok-exactness.exactness, seen c.in_ok-outcome.outcome, leaves, passes, entered c.in_ok-outcome.outcome c.insert.new.self c.args.the_loop.now.point c.args.value.now c.in_ok-found.found inserted c.in_ok-found.ensures)
+    (c.leave.new.value, c.in_ok-exactness.exactness, seen c.in_ok-outcome.outcome, leaves, passes, entered c.in_ok-outcome.outcome c.insert.new.self c.args.the_loop.now.point c.args.value.now
+        c.in_ok-found.found inserted c.in_ok-found.ensures)
 
 pub round-returns-clause-dims : goal.round-returns-clause-dims
 round-returns-clause-dims g t c =
@@ -49,7 +52,8 @@ round-returns-clause-jumps g t c =
 pub grow-head-init : goal.grow-head-init
 grow-head-init g t c =
     let l = c.args.the_loop.now in
-    grow_starts g.D.Domain.meaning l.settings.now l.point l.base (cond_view l.condition.now) (node_view l.body.now) c.args.first.now c.args.flag c.in_ok-head.head c.in_ok-head.ensures.started c.in_ok-head.ensures.fits
+    grow_starts g.D.Domain.meaning l.settings.now l.point l.base (cond_view l.condition.now) (node_view l.body.now) c.args.first.now c.args.flag c.in_ok-head.head c.in_ok-head.ensures.started
+        c.in_ok-head.ensures.fits
 
 pub grow-round-requires : goal.grow-round-requires
 grow-round-requires g t c =
@@ -96,73 +100,61 @@ pub grow-head-preserved : goal.grow-head-preserved
 grow-head-preserved g t c =
     let m = g.D.Domain.meaning in
     let l = c.args.the_loop.now in
-    let grew : Grew m c.head.head c.in_ok-outcome.outcome.normal (mode_at l.settings.now.limited c.head.left) c.in-Grew.exactness c.grow.new.head = rw (← c.mode_of-mode.ensures) (c.in_ok-grow.ensures.grew c.in-Grew.exactness c.in-Grew.is) in
+    let grew : Grew m c.head.head c.in_ok-outcome.outcome.normal (mode_at l.settings.now.limited c.head.left) c.in-Grew.exactness c.grow.new.head = rw (← c.mode_of-mode.ensures)
+        (c.in_ok-grow.ensures.grew c.in-Grew.exactness c.in-Grew.is) in
     let round = rw c.note-so_far_here.ensures at c.in_ok-outcome.ensures.round in
-    rw c.note-so_far.ensures (grow_next m l.settings.now l.point l.base (cond_view l.condition.now) (node_view l.body.now) c.args.first.now c.args.flag c.head.left c.saturating_sub-left.result c.head.so_far c.head.head c.grow.new.head
+    rw c.note-so_far.ensures (grow_next m l.settings.now l.point l.base (cond_view l.condition.now) (node_view l.body.now) c.args.first.now c.args.flag c.head.left c.saturating_sub-left.result
+        c.head.so_far c.head.head c.grow.new.head
     c.in_ok-value.value c.in_ok-value.exactness c.in-Grew.exactness (seen c.in_ok-outcome.outcome) c.head.invariant c.in_ok-value.ensures.values c.in_ok-value.ensures.dims round grew
     (c.in_ok-outcome.ensures.dims ∙ c.in_ok-value.ensures.dims) c.in_ok-grow.ensures.dims c.in_ok-grow.ensures.fits c.saturating_sub-left.ensures)
 
--- a value that is narrowed --------------------------------------------------------------------------------------------
-
-pub narrow-narrowing-init : goal.narrow-narrowing-init
-narrow-narrowing-init g t c =
-    let l = c.args.the_loop.now in
-    narrow_starts g.D.Domain.meaning l.settings.now l.point l.base (cond_view l.condition.now) (node_view l.body.now) c.args.first.now c.args.value (seen c.args.outcome) c.requires.value c.requires.behind c.requires.jumps
-
-pub narrow-narrowed-requires : goal.narrow-narrowed-requires
-narrow-narrowed-requires g t c = c.narrowing.invariant.behind
-
-pub narrow-round-requires : goal.narrow-round-requires
-narrow-round-requires g t c =
-    let m = g.D.Domain.meaning in
-    let body = node_view c.args.the_loop.now.body.now in
-    let same : m.dims c.in_ok-next.next ≡ m.dims c.args.first.now = c.in_ok-next.ensures.1.2 in
-    let few : m.dims c.in_ok-next.next ≤ 2 ^ 30 = subst (λ n. n ≤ 2 ^ 30) (sym same) c.requires.few in
-    let fits : TreeFits (node_view c.args.the_loop.now.body.now) (m.dims c.in_ok-next.next) = subst (λ n. TreeFits body n) (sym same) c.requires.fits in
-    let closed : live_behind (node_view c.args.the_loop.now.body.now) (m.dims c.in_ok-next.next) ≡ m.dims c.in_ok-next.next = subst (λ n. live_behind body n ≡ n) (sym same) c.requires.closed in
-    search rules
-
-pub narrow-narrowing-preserved : goal.narrow-narrowing-preserved
-narrow-narrowing-preserved g t c =
-    let l = c.args.the_loop.now in
-    let counts : c.narrowing.left ≡ suc (c.narrowing.left - 1) = omega arith in
-    narrow_next g.D.Domain.meaning l.settings.now l.point l.base (cond_view l.condition.now) (node_view l.body.now) c.args.first.now c.args.value (seen c.args.outcome) c.narrowing.left (c.narrowing.left - 1)
-    c.narrowing.top c.in_ok-next.next (seen c.narrowing.last) (seen c.in_ok-last.last) c.in_ok-next.ensures.0 c.in_ok-next.so_far c.narrowing.invariant counts c.in_ok-next.ensures.1 c.in_ok-next.ensures.2
-    c.in_ok-last.ensures.round c.in_ok-last.ensures.dims c.in_ok-last.ensures.jumps
-
-pub narrow-returns-clause-narrows : goal.narrow-returns-clause-narrows
-narrow-returns-clause-narrows g t c =
-    let l = c.args.the_loop.now in
-    let none : c.narrowing.left ≡ 0 = omega arith in
-    narrow_ends g.D.Domain.meaning l.settings.now l.point l.base (cond_view l.condition.now) (node_view l.body.now) c.args.first.now c.args.value (seen c.args.outcome) c.narrowing.left
-    c.narrowing.top (seen c.narrowing.last) c.narrowing.invariant none
-
-pub narrow-returns-clause-dims : goal.narrow-returns-clause-dims
-narrow-returns-clause-dims g t c = c.narrowing.invariant.dims
-
-pub narrow-returns-clause-jumps : goal.narrow-returns-clause-jumps
-narrow-returns-clause-jumps g t c = c.narrowing.invariant.jumps
-
--- a loop --------------------------------------------------------------------------------------------------------------
+-- a loop, narrowed and left ---------------------------------------------------------------------------------------------
 
 pub pass_loop-grow-requires : goal.pass_loop-grow-requires
 pass_loop-grow-requires g t c =
     search rules
 
-pub pass_loop-narrow-requires : goal.pass_loop-narrow-requires
-pass_loop-narrow-requires g t c =
+pub pass_loop-narrowing-init : goal.pass_loop-narrowing-init
+pass_loop-narrowing-init g t c =
+    let l = c.args.the_loop.now in
+    let grown = c.in_ok-grown.ensures in
+    narrow_starts g.D.Domain.meaning l.settings.now l.point l.base (cond_view l.condition.now) (node_view l.body.now) c.args.value c.in_ok-grown.grown c.args.flag (seen c.in_ok-grown.outcome)
+        grown.grows grown.dims grown.behind grown.jumps
+
+pub pass_loop-narrowed-requires : goal.pass_loop-narrowed-requires
+pass_loop-narrowed-requires g t c = c.narrowing.invariant.behind
+
+pub pass_loop-round-requires : goal.pass_loop-round-requires
+pass_loop-round-requires g t c =
     let m = g.D.Domain.meaning in
-    let value : m.dims c.in_ok-grown.grown ≡ m.dims c.args.value = c.in_ok-grown.ensures.dims in
-    let behind : m.dims c.in_ok-grown.outcome.normal ≡ m.dims c.args.value = c.in_ok-grown.ensures.behind in
-    let jumps : JumpsFit m (node_view c.args.the_loop.now.body.now) (m.dims c.args.value) (seen c.in_ok-grown.outcome) = c.in_ok-grown.ensures.jumps in
+    let body = node_view c.args.the_loop.now.body.now in
+    let same : m.dims c.in_ok-next.next ≡ m.dims c.args.value = c.in_ok-next.ensures.1.2 in
+    let few : m.dims c.in_ok-next.next ≤ 2 ^ 30 = subst (λ n. n ≤ 2 ^ 30) (sym same) c.requires.few in
+    let fits : TreeFits (node_view c.args.the_loop.now.body.now) (m.dims c.in_ok-next.next) = subst (λ n. TreeFits body n) (sym same) c.requires.fits in
+    let closed : live_behind (node_view c.args.the_loop.now.body.now) (m.dims c.in_ok-next.next) ≡ m.dims c.in_ok-next.next = subst (λ n. live_behind body n ≡ n) (sym same) c.requires.closed in
     search rules
+
+pub pass_loop-narrowing-preserved : goal.pass_loop-narrowing-preserved
+pass_loop-narrowing-preserved g t c =
+    let l = c.args.the_loop.now in
+    let counts : c.narrowing.left ≡ suc (c.narrowing.left - 1) = omega arith in
+    narrow_next g.D.Domain.meaning l.settings.now l.point l.base (cond_view l.condition.now) (node_view l.body.now) c.args.value c.args.flag c.narrowing.left (c.narrowing.left - 1)
+    c.narrowing.top c.in_ok-next.next (seen c.narrowing.last) (seen c.in_ok-last.last) c.in_ok-next.ensures.0 c.in_ok-next.so_far c.narrowing.invariant counts c.in_ok-next.ensures.1
+        c.in_ok-next.ensures.2
+    c.in_ok-last.ensures.round c.in_ok-last.ensures.dims c.in_ok-last.ensures.jumps
+
+pub pass_loop-leave_loop-requires : goal.pass_loop-leave_loop-requires
+pass_loop-leave_loop-requires g t c = subst (λ n. n ≤ 2 ^ 30) (sym c.narrowing.invariant.dims) c.requires.few
 
 pub pass_loop-returns : goal.pass_loop-returns
 pass_loop-returns g t c =
     let l = c.args.the_loop.now in
-    loop_passed g.D.Domain.meaning l.settings.now l.point l.base (cond_view l.condition.now) (node_view l.body.now) c.args.flag c.args.value c.in_ok-grown.grown c.in_ok-top.top
-    (seen c.in_ok-grown.outcome) (seen c.in_ok-top.last) (seen c.in_ok-outcome.outcome) c.in_ok-grown.ensures.grows c.in_ok-top.ensures.narrows c.in_ok-outcome.ensures.left
-    c.in_ok-top.ensures.dims c.in_ok-outcome.ensures.dims c.in_ok-top.ensures.jumps
+    let loop = c.narrowing.invariant in
+    let none : c.narrowing.left ≡ 0 = omega arith in
+    let narrows = narrow_ends g.D.Domain.meaning l.settings.now l.point l.base (cond_view l.condition.now) (node_view l.body.now) c.args.value c.args.flag c.narrowing.left c.narrowing.top
+        (seen c.narrowing.last) loop none in
+    loop_passed g.D.Domain.meaning l.settings.now l.point l.base (cond_view l.condition.now) (node_view l.body.now) c.args.flag c.args.value loop.start c.narrowing.top
+    loop.round (seen c.narrowing.last) (seen c.in_ok-outcome.outcome) loop.grown narrows c.in_ok-outcome.ensures.left loop.dims c.in_ok-outcome.ensures.dims loop.jumps
 
 -- a choice ------------------------------------------------------------------------------------------------------------
 
@@ -185,7 +177,8 @@ pass_choice-pass-requires-2 g t c =
 pub pass_choice-meet_again-requires : goal.pass_choice-meet_again-requires
 pass_choice-meet_again-requires g t c =
     let k = c.args.choice.now in
-    c.in_ok-first.ensures.dims ∙ ap (live_behind (node_view k.yes.now)) c.in_ok-sides.ensures.on_dims ∙ sym c.requires.fits.2 ∙ ap (live_behind (node_view k.no.now)) (sym c.in_ok-sides.ensures.off_dims) ∙ sym c.in_ok-second.ensures.dims
+    c.in_ok-first.ensures.dims ∙ ap (live_behind (node_view k.yes.now)) c.in_ok-sides.ensures.on_dims ∙ sym c.requires.fits.2
+        ∙ ap (live_behind (node_view k.no.now)) (sym c.in_ok-sides.ensures.off_dims) ∙ sym c.in_ok-second.ensures.dims
 
 pub pass_choice-returns : goal.pass_choice-returns
 pass_choice-returns g t c =
@@ -197,65 +190,55 @@ pass_choice-returns g t c =
     record { pass = rw c.note-on_flag.ensures at c.in_ok-first.ensures.pass; dims = c.in_ok-first.ensures.dims; jumps = c.in_ok-first.ensures.jumps } in
     let two : IsPassed m k.settings.now (node_view k.no.now) (noted k.point sides.off.exactness c.in_ok-first.first.flag) sides.off.value (seen c.in_ok-second.second) =
     record { pass = rw c.note-off_flag.ensures at c.in_ok-second.ensures.pass; dims = c.in_ok-second.ensures.dims; jumps = c.in_ok-second.ensures.jumps } in
-    choice_passed m k.settings.now k.point k.base (cond_view k.condition.now) (node_view k.yes.now) (node_view k.no.now) c.args.flag c.args.value sides.on.value sides.off.value sides.on.exactness sides.off.exactness
+    choice_passed m k.settings.now k.point k.base (cond_view k.condition.now) (node_view k.yes.now) (node_view k.no.now) c.args.flag c.args.value sides.on.value sides.off.value
+        sides.on.exactness sides.off.exactness
     (seen c.in_ok-first.first) (seen c.in_ok-second.second) (seen c.in_ok-both.both) given.on given.on_dims one given.off given.off_dims two c.in_ok-both.ensures.joined c.in_ok-both.ensures.dims
 
 -- trees in a row ------------------------------------------------------------------------------------------------------
 
+pub pass_row-row-init : goal.pass_row-row-init
+pass_row-row-init g t c =
+    row_starts g.D.Domain.meaning c.args.settings.now (row (map node_view c.args.trees.now) (node_view c.args.last.now)) c.args.flag c.args.value c.nothing-found.result c.requires.few
+        c.requires.fits c.nothing-found.ensures
+
 pub pass_row-pass-requires : goal.pass_row-pass-requires
 pass_row-pass-requires g t c =
     let m = g.D.Domain.meaning in
-    let fits : TreeFits (node_view c.args.first.now) (m.dims c.args.value) = c.requires.fits.0 in
-    search rules
-
-pub pass_row-row-init : goal.pass_row-row-init
-pass_row-row-init g t c =
-    let done = c.in_ok-outcome.ensures in
-    row_starts g.D.Domain.meaning c.args.settings.now (node_view c.args.first.now) c.args.second.now c.args.flag c.args.value c.in_ok-outcome.outcome.found c.in_ok-outcome.outcome.normal c.in_ok-outcome.outcome.flag
-    c.requires.fits (record { pass = done.pass; dims = done.dims; jumps = done.jumps })
-
-pub pass_row-pass-requires-in-Seq : goal.pass_row-pass-requires-in-Seq
-pass_row-pass-requires-in-Seq g t c =
-    let m = g.D.Domain.meaning in
-    let shown = seq_shown c.row.rest.now c.deref.result.now c.in-Seq.others.value c.in-Seq.next c.in-Seq.others c.deref.ensures refl c.in-Seq.is in
-    let sized : node_size c.row.rest.now ≡ 1 + (node_size c.deref.result.now + node_size c.in-Seq.others.value) =
-    seq_sized c.row.rest.now c.deref.result.now c.in-Seq.others.value c.in-Seq.next c.in-Seq.others c.deref.ensures refl c.in-Seq.is in
-    let small : node_size c.row.rest.now ≤ node_size c.args.second.now = c.row.invariant.small in
+    let small : node_size c.tree-item.result ≤ row_size c.args.trees.now c.args.last.now = tree_small c.args.trees.now c.row.tree-index c.tree-item.result c.args.last.now c.row-test.true
+        c.tree-item.is in
     let few : m.dims c.row.behind ≤ 2 ^ 30 = c.row.invariant.few in
-    let fits : TreeFits (node_view c.deref.result.now) (m.dims c.row.behind) =
-    next_fits m c.args.settings.now (graph.seq (node_view c.args.first.now) (node_view c.args.second.now)) c.args.flag c.args.value (node_size c.args.second.now) c.row.rest.now c.row.found c.row.behind c.row.so_far
-    c.row.invariant c.deref.result.now c.in-Seq.others.value shown in
+    let fits : TreeFits (node_view c.tree-item.result) (m.dims c.row.behind) =
+    next_fits m c.args.settings.now (row (map node_view c.args.trees.now) (node_view c.args.last.now)) c.args.flag c.args.value _ c.row.found c.row.behind c.row.so_far c.row.invariant _ _
+    (row_at c.args.trees.now c.row.tree-index c.tree-item.result c.args.last.now c.row-test.true c.tree-item.is) in
     search rules
-
-pub pass_row-row-smaller : goal.pass_row-row-smaller
-pass_row-row-smaller g t c =
-    let sized = seq_sized c.row.rest.now c.deref.result.now c.deref-rest.result.now c.in-Seq.next c.in-Seq.others c.deref.ensures c.deref-rest.ensures c.in-Seq.is in
-    omega (arith, sized)
 
 pub pass_row-row-preserved : goal.pass_row-row-preserved
 pass_row-row-preserved g t c =
-    let shown = seq_shown c.row.rest.now c.deref.result.now c.deref-rest.result.now c.in-Seq.next c.in-Seq.others c.deref.ensures c.deref-rest.ensures c.in-Seq.is in
-    let sized = seq_sized c.row.rest.now c.deref.result.now c.deref-rest.result.now c.in-Seq.next c.in-Seq.others c.deref.ensures c.deref-rest.ensures c.in-Seq.is in
     let done = c.in_ok-part.ensures in
     let taken = c.in_ok-value.ensures in
-    row_next g.D.Domain.meaning c.args.settings.now (graph.seq (node_view c.args.first.now) (node_view c.args.second.now)) c.args.flag c.args.value (node_size c.args.second.now) c.row.rest.now c.row.found c.row.behind c.row.so_far
-    c.row.invariant c.deref.result.now c.deref-rest.result.now shown c.in_ok-part.part c.take.new.self c.in_ok-value.value c.in_ok-value.flag (record { pass = done.pass; dims = done.dims; jumps = done.jumps })
-    taken.0 taken.1 taken.2 (omega (arith, sized))
+    row_next g.D.Domain.meaning c.args.settings.now (row (map node_view c.args.trees.now) (node_view c.args.last.now)) c.args.flag c.args.value _ c.row.found c.row.behind c.row.so_far
+        c.row.invariant _ _
+    (row_at c.args.trees.now c.row.tree-index c.tree-item.result c.args.last.now c.row-test.true c.tree-item.is)
+    c.in_ok-part.part c.take.new.self c.in_ok-value.value c.in_ok-value.flag (record { pass = done.pass; dims = done.dims; jumps = done.jumps }) taken.0 taken.1 taken.2
 
 pub pass_row-pass-requires-2 : goal.pass_row-pass-requires-2
 pass_row-pass-requires-2 g t c =
     let m = g.D.Domain.meaning in
-    let small : node_size c.row.rest.now ≤ node_size c.args.second.now = c.row.invariant.small in
     let few : m.dims c.row.behind ≤ 2 ^ 30 = c.row.invariant.few in
-    let fits : TreeFits (node_view c.row.rest.now) (m.dims c.row.behind) = c.row.invariant.fits in
+    let fits : TreeFits (node_view c.args.last.now) (m.dims c.row.behind) =
+    last_fits m c.args.settings.now (row (map node_view c.args.trees.now) (node_view c.args.last.now)) c.args.flag c.args.value _ c.row.found c.row.behind c.row.so_far c.row.invariant
+        (node_view c.args.last.now)
+    (row_done c.args.trees.now c.row.tree-index c.args.last.now c.row-test.false) in
     search rules
 
 pub pass_row-returns : goal.pass_row-returns
 pass_row-returns g t c =
-    let done = c.in_ok-last.ensures in
+    let done = c.in_ok-end.ensures in
     let taken = c.in_ok-normal.ensures in
-    row_ends g.D.Domain.meaning c.args.settings.now (graph.seq (node_view c.args.first.now) (node_view c.args.second.now)) c.args.flag c.args.value (node_size c.args.second.now) c.row.rest.now c.row.found c.row.behind c.row.so_far
-    c.row.invariant c.in_ok-last.last c.take-2.new.self c.in_ok-normal.normal c.in_ok-normal.flag (record { pass = done.pass; dims = done.dims; jumps = done.jumps }) taken.0 taken.1 taken.2
+    row_ends g.D.Domain.meaning c.args.settings.now (row (map node_view c.args.trees.now) (node_view c.args.last.now)) c.args.flag c.args.value _ c.row.found c.row.behind c.row.so_far
+        c.row.invariant (node_view c.args.last.now)
+    (row_done c.args.trees.now c.row.tree-index c.args.last.now c.row-test.false)
+    c.in_ok-end.end c.take-2.new.self c.in_ok-normal.normal c.in_ok-normal.flag (record { pass = done.pass; dims = done.dims; jumps = done.jumps }) taken.0 taken.1 taken.2
 
 -- a tree --------------------------------------------------------------------------------------------------------------
 
@@ -281,96 +264,127 @@ pass-returns-in-Point-clause-jumps g t c = given_jumps g.D.Domain.meaning c.args
     (ap node_view c.in-Point.is ∙ point_view c.in-Point.point) (c.pass_point.ensures c.args.settings.now)
 
 pub pass-returns-in-Act-clause-pass : goal.pass-returns-in-Act-clause-pass
-pass-returns-in-Act-clause-pass g t c = given_pass g.D.Domain.meaning c.args.settings.now (node_view c.args.node.now) (graph.act c.in-Act.point (op_view c.in-Act.op)) c.args.flag c.args.value c.pass_act.result
+pass-returns-in-Act-clause-pass g t c = given_pass g.D.Domain.meaning c.args.settings.now (node_view c.args.node.now) (graph.act c.in-Act.point (op_view c.in-Act.op)) c.args.flag c.args.value
+    c.pass_act.result
     (ap node_view c.in-Act.is ∙ act_view c.in-Act.point c.in-Act.op) (c.pass_act.ensures c.args.settings.now)
 
 pub pass-returns-in-Act-clause-dims : goal.pass-returns-in-Act-clause-dims
-pass-returns-in-Act-clause-dims g t c = given_dims g.D.Domain.meaning c.args.settings.now (node_view c.args.node.now) (graph.act c.in-Act.point (op_view c.in-Act.op)) c.args.flag c.args.value c.pass_act.result
+pass-returns-in-Act-clause-dims g t c = given_dims g.D.Domain.meaning c.args.settings.now (node_view c.args.node.now) (graph.act c.in-Act.point (op_view c.in-Act.op)) c.args.flag c.args.value
+    c.pass_act.result
     (ap node_view c.in-Act.is ∙ act_view c.in-Act.point c.in-Act.op) (c.pass_act.ensures c.args.settings.now)
 
 pub pass-returns-in-Act-clause-jumps : goal.pass-returns-in-Act-clause-jumps
-pass-returns-in-Act-clause-jumps g t c = given_jumps g.D.Domain.meaning c.args.settings.now (node_view c.args.node.now) (graph.act c.in-Act.point (op_view c.in-Act.op)) c.args.flag c.args.value c.pass_act.result
+pass-returns-in-Act-clause-jumps g t c = given_jumps g.D.Domain.meaning c.args.settings.now (node_view c.args.node.now) (graph.act c.in-Act.point (op_view c.in-Act.op)) c.args.flag c.args.value
+    c.pass_act.result
     (ap node_view c.in-Act.is ∙ act_view c.in-Act.point c.in-Act.op) (c.pass_act.ensures c.args.settings.now)
 
 pub pass-returns-in-Check-clause-pass : goal.pass-returns-in-Check-clause-pass
-pass-returns-in-Check-clause-pass g t c = given_pass g.D.Domain.meaning c.args.settings.now (node_view c.args.node.now) (graph.check c.in-Check.point c.in-Check.base (cond_view c.in-Check.condition)) c.args.flag c.args.value c.pass_check.result
+pass-returns-in-Check-clause-pass g t c = given_pass g.D.Domain.meaning c.args.settings.now (node_view c.args.node.now)
+    (graph.check c.in-Check.point c.in-Check.base (cond_view c.in-Check.condition)) c.args.flag c.args.value c.pass_check.result
     (ap node_view c.in-Check.is ∙ check_view c.in-Check.point c.in-Check.base c.in-Check.condition) (c.pass_check.ensures c.args.settings.now)
 
 pub pass-returns-in-Check-clause-dims : goal.pass-returns-in-Check-clause-dims
-pass-returns-in-Check-clause-dims g t c = given_dims g.D.Domain.meaning c.args.settings.now (node_view c.args.node.now) (graph.check c.in-Check.point c.in-Check.base (cond_view c.in-Check.condition)) c.args.flag c.args.value c.pass_check.result
+pass-returns-in-Check-clause-dims g t c = given_dims g.D.Domain.meaning c.args.settings.now (node_view c.args.node.now)
+    (graph.check c.in-Check.point c.in-Check.base (cond_view c.in-Check.condition)) c.args.flag c.args.value c.pass_check.result
     (ap node_view c.in-Check.is ∙ check_view c.in-Check.point c.in-Check.base c.in-Check.condition) (c.pass_check.ensures c.args.settings.now)
 
 pub pass-returns-in-Check-clause-jumps : goal.pass-returns-in-Check-clause-jumps
-pass-returns-in-Check-clause-jumps g t c = given_jumps g.D.Domain.meaning c.args.settings.now (node_view c.args.node.now) (graph.check c.in-Check.point c.in-Check.base (cond_view c.in-Check.condition)) c.args.flag c.args.value c.pass_check.result
+pass-returns-in-Check-clause-jumps g t c = given_jumps g.D.Domain.meaning c.args.settings.now (node_view c.args.node.now)
+    (graph.check c.in-Check.point c.in-Check.base (cond_view c.in-Check.condition)) c.args.flag c.args.value c.pass_check.result
     (ap node_view c.in-Check.is ∙ check_view c.in-Check.point c.in-Check.base c.in-Check.condition) (c.pass_check.ensures c.args.settings.now)
 
 pub pass-pass_row-requires : goal.pass-pass_row-requires
 pass-pass_row-requires g t c =
     let n = g.D.Domain.meaning.dims c.args.value in
-    let shown = seq_shown c.args.node.now c.deref.result.now c.deref-in-Seq.result.now c.in-Seq.first c.in-Seq.second c.deref.ensures c.deref-in-Seq.ensures c.in-Seq.is in
-    let sized : node_size c.args.node.now ≡ 1 + (node_size c.deref.result.now + node_size c.deref-in-Seq.result.now) = seq_sized c.args.node.now c.deref.result.now c.deref-in-Seq.result.now c.in-Seq.first c.in-Seq.second c.deref.ensures c.deref-in-Seq.ensures c.in-Seq.is in
-    let fits : TreeFits (graph.seq (node_view c.deref.result.now) (node_view c.deref-in-Seq.result.now)) n = subst (λ x. TreeFits x n) shown c.requires.fits in
+    let shown = seq_shown c.args.node.now c.deref-in-Seq.result.now c.deref.result.now c.in-Seq.trees c.in-Seq.last c.deref.ensures.value c.deref-in-Seq.ensures c.in-Seq.is in
+    let sized : node_size c.args.node.now ≡ 1 + row_size c.deref.result.now c.deref-in-Seq.result.now = seq_sized c.args.node.now c.deref-in-Seq.result.now c.deref.result.now c.in-Seq.trees
+        c.in-Seq.last c.deref.ensures.value c.deref-in-Seq.ensures c.in-Seq.is in
+    let fits : TreeFits (row (map node_view c.deref.result.now) (node_view c.deref-in-Seq.result.now)) n = subst (λ x. TreeFits x n) shown c.requires.fits in
     search rules
 
 pub pass-returns-in-Seq-clause-pass : goal.pass-returns-in-Seq-clause-pass
-pass-returns-in-Seq-clause-pass g t c = given_pass g.D.Domain.meaning c.args.settings.now (node_view c.args.node.now) (graph.seq (node_view c.deref.result.now) (node_view c.deref-in-Seq.result.now)) c.args.flag c.args.value c.pass_row.result
-    (seq_shown c.args.node.now c.deref.result.now c.deref-in-Seq.result.now c.in-Seq.first c.in-Seq.second c.deref.ensures c.deref-in-Seq.ensures c.in-Seq.is) c.pass_row.ensures
+pass-returns-in-Seq-clause-pass g t c = given_pass g.D.Domain.meaning c.args.settings.now (node_view c.args.node.now)
+    (row (map node_view c.deref.result.now) (node_view c.deref-in-Seq.result.now)) c.args.flag c.args.value c.pass_row.result
+    (seq_shown c.args.node.now c.deref-in-Seq.result.now c.deref.result.now c.in-Seq.trees c.in-Seq.last c.deref.ensures.value c.deref-in-Seq.ensures c.in-Seq.is) c.pass_row.ensures
 
 pub pass-returns-in-Seq-clause-dims : goal.pass-returns-in-Seq-clause-dims
-pass-returns-in-Seq-clause-dims g t c = given_dims g.D.Domain.meaning c.args.settings.now (node_view c.args.node.now) (graph.seq (node_view c.deref.result.now) (node_view c.deref-in-Seq.result.now)) c.args.flag c.args.value c.pass_row.result
-    (seq_shown c.args.node.now c.deref.result.now c.deref-in-Seq.result.now c.in-Seq.first c.in-Seq.second c.deref.ensures c.deref-in-Seq.ensures c.in-Seq.is) c.pass_row.ensures
+pass-returns-in-Seq-clause-dims g t c = given_dims g.D.Domain.meaning c.args.settings.now (node_view c.args.node.now)
+    (row (map node_view c.deref.result.now) (node_view c.deref-in-Seq.result.now)) c.args.flag c.args.value c.pass_row.result
+    (seq_shown c.args.node.now c.deref-in-Seq.result.now c.deref.result.now c.in-Seq.trees c.in-Seq.last c.deref.ensures.value c.deref-in-Seq.ensures c.in-Seq.is) c.pass_row.ensures
 
 pub pass-returns-in-Seq-clause-jumps : goal.pass-returns-in-Seq-clause-jumps
-pass-returns-in-Seq-clause-jumps g t c = given_jumps g.D.Domain.meaning c.args.settings.now (node_view c.args.node.now) (graph.seq (node_view c.deref.result.now) (node_view c.deref-in-Seq.result.now)) c.args.flag c.args.value c.pass_row.result
-    (seq_shown c.args.node.now c.deref.result.now c.deref-in-Seq.result.now c.in-Seq.first c.in-Seq.second c.deref.ensures c.deref-in-Seq.ensures c.in-Seq.is) c.pass_row.ensures
+pass-returns-in-Seq-clause-jumps g t c = given_jumps g.D.Domain.meaning c.args.settings.now (node_view c.args.node.now)
+    (row (map node_view c.deref.result.now) (node_view c.deref-in-Seq.result.now)) c.args.flag c.args.value c.pass_row.result
+    (seq_shown c.args.node.now c.deref-in-Seq.result.now c.deref.result.now c.in-Seq.trees c.in-Seq.last c.deref.ensures.value c.deref-in-Seq.ensures c.in-Seq.is) c.pass_row.ensures
 
 pub pass-pass_choice-requires : goal.pass-pass_choice-requires
 pass-pass_choice-requires g t c =
     let n = g.D.Domain.meaning.dims c.args.value in
-    let shown = choose_shown c.args.node.now c.deref-in-Choose.result.now c.deref-in-Choose-2.result.now c.in-Choose.yes c.in-Choose.no c.deref-in-Choose.ensures c.deref-in-Choose-2.ensures c.in-Choose.point c.in-Choose.base c.in-Choose.condition c.in-Choose.is in
-    let sized : node_size c.args.node.now ≡ 1 + (node_size c.deref-in-Choose.result.now + node_size c.deref-in-Choose-2.result.now) = choose_sized c.args.node.now c.deref-in-Choose.result.now c.deref-in-Choose-2.result.now c.in-Choose.yes c.in-Choose.no c.deref-in-Choose.ensures c.deref-in-Choose-2.ensures c.in-Choose.point c.in-Choose.base c.in-Choose.condition c.in-Choose.is in
-    let fits : TreeFits (graph.choose c.in-Choose.point c.in-Choose.base (cond_view c.in-Choose.condition) (node_view c.deref-in-Choose.result.now) (node_view c.deref-in-Choose-2.result.now)) n = subst (λ x. TreeFits x n) shown c.requires.fits in
+    let shown = choose_shown c.args.node.now c.deref-in-Choose.result.now c.deref-in-Choose-2.result.now c.in-Choose.yes c.in-Choose.no c.deref-in-Choose.ensures c.deref-in-Choose-2.ensures
+        c.in-Choose.point c.in-Choose.base c.in-Choose.condition c.in-Choose.is in
+    let sized : node_size c.args.node.now ≡ 1 + (node_size c.deref-in-Choose.result.now + node_size c.deref-in-Choose-2.result.now) = choose_sized c.args.node.now c.deref-in-Choose.result.now
+        c.deref-in-Choose-2.result.now c.in-Choose.yes c.in-Choose.no c.deref-in-Choose.ensures c.deref-in-Choose-2.ensures c.in-Choose.point c.in-Choose.base c.in-Choose.condition
+        c.in-Choose.is in
+    let fits : TreeFits (graph.choose c.in-Choose.point c.in-Choose.base (cond_view c.in-Choose.condition) (node_view c.deref-in-Choose.result.now) (node_view c.deref-in-Choose-2.result.now)) n
+        = subst (λ x. TreeFits x n) shown c.requires.fits in
     search rules
 
 pub pass-returns-in-Choose-clause-pass : goal.pass-returns-in-Choose-clause-pass
-pass-returns-in-Choose-clause-pass g t c = given_pass g.D.Domain.meaning c.args.settings.now (node_view c.args.node.now) (graph.choose c.in-Choose.point c.in-Choose.base (cond_view c.in-Choose.condition) (node_view c.deref-in-Choose.result.now) (node_view c.deref-in-Choose-2.result.now)) c.args.flag c.args.value c.pass_choice.result
-    (choose_shown c.args.node.now c.deref-in-Choose.result.now c.deref-in-Choose-2.result.now c.in-Choose.yes c.in-Choose.no c.deref-in-Choose.ensures c.deref-in-Choose-2.ensures c.in-Choose.point c.in-Choose.base c.in-Choose.condition c.in-Choose.is) c.pass_choice.ensures
+pass-returns-in-Choose-clause-pass g t c = given_pass g.D.Domain.meaning c.args.settings.now (node_view c.args.node.now)
+    (graph.choose c.in-Choose.point c.in-Choose.base (cond_view c.in-Choose.condition) (node_view c.deref-in-Choose.result.now) (node_view c.deref-in-Choose-2.result.now)) c.args.flag
+    c.args.value c.pass_choice.result
+    (choose_shown c.args.node.now c.deref-in-Choose.result.now c.deref-in-Choose-2.result.now c.in-Choose.yes c.in-Choose.no c.deref-in-Choose.ensures c.deref-in-Choose-2.ensures
+        c.in-Choose.point c.in-Choose.base c.in-Choose.condition c.in-Choose.is) c.pass_choice.ensures
 
 pub pass-returns-in-Choose-clause-dims : goal.pass-returns-in-Choose-clause-dims
-pass-returns-in-Choose-clause-dims g t c = given_dims g.D.Domain.meaning c.args.settings.now (node_view c.args.node.now) (graph.choose c.in-Choose.point c.in-Choose.base (cond_view c.in-Choose.condition) (node_view c.deref-in-Choose.result.now) (node_view c.deref-in-Choose-2.result.now)) c.args.flag c.args.value c.pass_choice.result
-    (choose_shown c.args.node.now c.deref-in-Choose.result.now c.deref-in-Choose-2.result.now c.in-Choose.yes c.in-Choose.no c.deref-in-Choose.ensures c.deref-in-Choose-2.ensures c.in-Choose.point c.in-Choose.base c.in-Choose.condition c.in-Choose.is) c.pass_choice.ensures
+pass-returns-in-Choose-clause-dims g t c = given_dims g.D.Domain.meaning c.args.settings.now (node_view c.args.node.now)
+    (graph.choose c.in-Choose.point c.in-Choose.base (cond_view c.in-Choose.condition) (node_view c.deref-in-Choose.result.now) (node_view c.deref-in-Choose-2.result.now)) c.args.flag
+    c.args.value c.pass_choice.result
+    (choose_shown c.args.node.now c.deref-in-Choose.result.now c.deref-in-Choose-2.result.now c.in-Choose.yes c.in-Choose.no c.deref-in-Choose.ensures c.deref-in-Choose-2.ensures
+        c.in-Choose.point c.in-Choose.base c.in-Choose.condition c.in-Choose.is) c.pass_choice.ensures
 
 pub pass-returns-in-Choose-clause-jumps : goal.pass-returns-in-Choose-clause-jumps
-pass-returns-in-Choose-clause-jumps g t c = given_jumps g.D.Domain.meaning c.args.settings.now (node_view c.args.node.now) (graph.choose c.in-Choose.point c.in-Choose.base (cond_view c.in-Choose.condition) (node_view c.deref-in-Choose.result.now) (node_view c.deref-in-Choose-2.result.now)) c.args.flag c.args.value c.pass_choice.result
-    (choose_shown c.args.node.now c.deref-in-Choose.result.now c.deref-in-Choose-2.result.now c.in-Choose.yes c.in-Choose.no c.deref-in-Choose.ensures c.deref-in-Choose-2.ensures c.in-Choose.point c.in-Choose.base c.in-Choose.condition c.in-Choose.is) c.pass_choice.ensures
+pass-returns-in-Choose-clause-jumps g t c = given_jumps g.D.Domain.meaning c.args.settings.now (node_view c.args.node.now)
+    (graph.choose c.in-Choose.point c.in-Choose.base (cond_view c.in-Choose.condition) (node_view c.deref-in-Choose.result.now) (node_view c.deref-in-Choose-2.result.now)) c.args.flag
+    c.args.value c.pass_choice.result
+    (choose_shown c.args.node.now c.deref-in-Choose.result.now c.deref-in-Choose-2.result.now c.in-Choose.yes c.in-Choose.no c.deref-in-Choose.ensures c.deref-in-Choose-2.ensures
+        c.in-Choose.point c.in-Choose.base c.in-Choose.condition c.in-Choose.is) c.pass_choice.ensures
 
 pub pass-pass_loop-requires : goal.pass-pass_loop-requires
 pass-pass_loop-requires g t c =
     let n = g.D.Domain.meaning.dims c.args.value in
     let shown = iterate_shown c.args.node.now c.deref-in-Iterate.result.now c.in-Iterate.body c.deref-in-Iterate.ensures c.in-Iterate.point c.in-Iterate.base c.in-Iterate.condition c.in-Iterate.is in
-    let sized : node_size c.args.node.now ≡ 1 + node_size c.deref-in-Iterate.result.now = iterate_sized c.args.node.now c.deref-in-Iterate.result.now c.in-Iterate.body c.deref-in-Iterate.ensures c.in-Iterate.point c.in-Iterate.base c.in-Iterate.condition c.in-Iterate.is in
+    let sized : node_size c.args.node.now ≡ 1 + node_size c.deref-in-Iterate.result.now = iterate_sized c.args.node.now c.deref-in-Iterate.result.now c.in-Iterate.body c.deref-in-Iterate.ensures
+        c.in-Iterate.point c.in-Iterate.base c.in-Iterate.condition c.in-Iterate.is in
     let fits = subst (λ x. TreeFits x n) shown c.requires.fits in
     let inner : TreeFits (node_view c.deref-in-Iterate.result.now) n = fits.0 in
     let closed : live_behind (node_view c.deref-in-Iterate.result.now) n ≡ n = fits.1 in
     search rules
 
 pub pass-returns-in-Iterate-clause-pass : goal.pass-returns-in-Iterate-clause-pass
-pass-returns-in-Iterate-clause-pass g t c = given_pass g.D.Domain.meaning c.args.settings.now (node_view c.args.node.now) (graph.iterate c.in-Iterate.point c.in-Iterate.base (cond_view c.in-Iterate.condition) (node_view c.deref-in-Iterate.result.now)) c.args.flag c.args.value c.pass_loop.result
-    (iterate_shown c.args.node.now c.deref-in-Iterate.result.now c.in-Iterate.body c.deref-in-Iterate.ensures c.in-Iterate.point c.in-Iterate.base c.in-Iterate.condition c.in-Iterate.is) c.pass_loop.ensures
+pass-returns-in-Iterate-clause-pass g t c = given_pass g.D.Domain.meaning c.args.settings.now (node_view c.args.node.now)
+    (graph.iterate c.in-Iterate.point c.in-Iterate.base (cond_view c.in-Iterate.condition) (node_view c.deref-in-Iterate.result.now)) c.args.flag c.args.value c.pass_loop.result
+    (iterate_shown c.args.node.now c.deref-in-Iterate.result.now c.in-Iterate.body c.deref-in-Iterate.ensures c.in-Iterate.point c.in-Iterate.base c.in-Iterate.condition c.in-Iterate.is)
+        c.pass_loop.ensures
 
 pub pass-returns-in-Iterate-clause-dims : goal.pass-returns-in-Iterate-clause-dims
-pass-returns-in-Iterate-clause-dims g t c = given_dims g.D.Domain.meaning c.args.settings.now (node_view c.args.node.now) (graph.iterate c.in-Iterate.point c.in-Iterate.base (cond_view c.in-Iterate.condition) (node_view c.deref-in-Iterate.result.now)) c.args.flag c.args.value c.pass_loop.result
-    (iterate_shown c.args.node.now c.deref-in-Iterate.result.now c.in-Iterate.body c.deref-in-Iterate.ensures c.in-Iterate.point c.in-Iterate.base c.in-Iterate.condition c.in-Iterate.is) c.pass_loop.ensures
+pass-returns-in-Iterate-clause-dims g t c = given_dims g.D.Domain.meaning c.args.settings.now (node_view c.args.node.now)
+    (graph.iterate c.in-Iterate.point c.in-Iterate.base (cond_view c.in-Iterate.condition) (node_view c.deref-in-Iterate.result.now)) c.args.flag c.args.value c.pass_loop.result
+    (iterate_shown c.args.node.now c.deref-in-Iterate.result.now c.in-Iterate.body c.deref-in-Iterate.ensures c.in-Iterate.point c.in-Iterate.base c.in-Iterate.condition c.in-Iterate.is)
+        c.pass_loop.ensures
 
 pub pass-returns-in-Iterate-clause-jumps : goal.pass-returns-in-Iterate-clause-jumps
-pass-returns-in-Iterate-clause-jumps g t c = given_jumps g.D.Domain.meaning c.args.settings.now (node_view c.args.node.now) (graph.iterate c.in-Iterate.point c.in-Iterate.base (cond_view c.in-Iterate.condition) (node_view c.deref-in-Iterate.result.now)) c.args.flag c.args.value c.pass_loop.result
-    (iterate_shown c.args.node.now c.deref-in-Iterate.result.now c.in-Iterate.body c.deref-in-Iterate.ensures c.in-Iterate.point c.in-Iterate.base c.in-Iterate.condition c.in-Iterate.is) c.pass_loop.ensures
+pass-returns-in-Iterate-clause-jumps g t c = given_jumps g.D.Domain.meaning c.args.settings.now (node_view c.args.node.now)
+    (graph.iterate c.in-Iterate.point c.in-Iterate.base (cond_view c.in-Iterate.condition) (node_view c.deref-in-Iterate.result.now)) c.args.flag c.args.value c.pass_loop.result
+    (iterate_shown c.args.node.now c.deref-in-Iterate.result.now c.in-Iterate.body c.deref-in-Iterate.ensures c.in-Iterate.point c.in-Iterate.base c.in-Iterate.condition c.in-Iterate.is)
+        c.pass_loop.ensures
 
 pub pass-pass-requires : goal.pass-pass-requires
 pass-pass-requires g t c =
     let n = g.D.Domain.meaning.dims c.args.value in
     let shown = catch_shown c.args.node.now c.deref-in-Catch.result.now c.in-Catch.body c.deref-in-Catch.ensures c.in-Catch.point c.in-Catch.exit c.in-Catch.is in
-    let sized : node_size c.args.node.now ≡ 1 + node_size c.deref-in-Catch.result.now = catch_sized c.args.node.now c.deref-in-Catch.result.now c.in-Catch.body c.deref-in-Catch.ensures c.in-Catch.point c.in-Catch.exit c.in-Catch.is in
+    let sized : node_size c.args.node.now ≡ 1 + node_size c.deref-in-Catch.result.now = catch_sized c.args.node.now c.deref-in-Catch.result.now c.in-Catch.body c.deref-in-Catch.ensures
+        c.in-Catch.point c.in-Catch.exit c.in-Catch.is in
     let fits : TreeFits (node_view c.deref-in-Catch.result.now) n = (subst (λ x. TreeFits x n) shown c.requires.fits).0 in
     search rules
 
@@ -379,37 +393,47 @@ pass-catch_jumps-requires g t c =
     let m = g.D.Domain.meaning in
     let shown = catch_shown c.args.node.now c.deref-in-Catch.result.now c.in-Catch.body c.deref-in-Catch.ensures c.in-Catch.point c.in-Catch.exit c.in-Catch.is in
     let fits = subst (λ x. TreeFits x (m.dims c.args.value)) shown c.requires.fits in
-    caught_have m c.in-Catch.point (exit_view c.in-Catch.exit) (node_view c.deref-in-Catch.result.now) (m.dims c.args.value) (seen c.in_ok-inner-in-Catch.inner) fits c.in_ok-inner-in-Catch.ensures.jumps c.in_ok-inner-in-Catch.ensures.dims
+    caught_have m c.in-Catch.point (exit_view c.in-Catch.exit) (node_view c.deref-in-Catch.result.now) (m.dims c.args.value) (seen c.in_ok-inner-in-Catch.inner) fits
+        c.in_ok-inner-in-Catch.ensures.jumps c.in_ok-inner-in-Catch.ensures.dims
 
 pub pass-returns-in_ok-inner-in-Catch-clause-pass : goal.pass-returns-in_ok-inner-in-Catch-clause-pass
 pass-returns-in_ok-inner-in-Catch-clause-pass g t c =
     let done = c.in_ok-inner-in-Catch.ensures in
-    caught_pass g.D.Domain.meaning c.args.settings.now (node_view c.args.node.now) (graph.catch c.in-Catch.point (exit_view c.in-Catch.exit) (node_view c.deref-in-Catch.result.now)) c.args.flag c.args.value c.catch_jumps.result
-    (catch_shown c.args.node.now c.deref-in-Catch.result.now c.in-Catch.body c.deref-in-Catch.ensures c.in-Catch.point c.in-Catch.exit c.in-Catch.is) c.in-Catch.point (exit_view c.in-Catch.exit) (node_view c.deref-in-Catch.result.now) refl (seen c.in_ok-inner-in-Catch.inner)
+    caught_pass g.D.Domain.meaning c.args.settings.now (node_view c.args.node.now) (graph.catch c.in-Catch.point (exit_view c.in-Catch.exit) (node_view c.deref-in-Catch.result.now)) c.args.flag
+        c.args.value c.catch_jumps.result
+    (catch_shown c.args.node.now c.deref-in-Catch.result.now c.in-Catch.body c.deref-in-Catch.ensures c.in-Catch.point c.in-Catch.exit c.in-Catch.is) c.in-Catch.point (exit_view c.in-Catch.exit)
+        (node_view c.deref-in-Catch.result.now) refl (seen c.in_ok-inner-in-Catch.inner)
     (record { pass = done.pass; dims = done.dims; jumps = done.jumps }) c.catch_jumps.ensures.caught
 
 pub pass-returns-in_ok-inner-in-Catch-clause-dims : goal.pass-returns-in_ok-inner-in-Catch-clause-dims
 pass-returns-in_ok-inner-in-Catch-clause-dims g t c =
     let done = c.in_ok-inner-in-Catch.ensures in
-    caught_dims g.D.Domain.meaning c.args.settings.now (node_view c.args.node.now) (graph.catch c.in-Catch.point (exit_view c.in-Catch.exit) (node_view c.deref-in-Catch.result.now)) c.args.flag c.args.value c.catch_jumps.result
-    (catch_shown c.args.node.now c.deref-in-Catch.result.now c.in-Catch.body c.deref-in-Catch.ensures c.in-Catch.point c.in-Catch.exit c.in-Catch.is) c.in-Catch.point (exit_view c.in-Catch.exit) (node_view c.deref-in-Catch.result.now) refl (seen c.in_ok-inner-in-Catch.inner)
+    caught_dims g.D.Domain.meaning c.args.settings.now (node_view c.args.node.now) (graph.catch c.in-Catch.point (exit_view c.in-Catch.exit) (node_view c.deref-in-Catch.result.now)) c.args.flag
+        c.args.value c.catch_jumps.result
+    (catch_shown c.args.node.now c.deref-in-Catch.result.now c.in-Catch.body c.deref-in-Catch.ensures c.in-Catch.point c.in-Catch.exit c.in-Catch.is) c.in-Catch.point (exit_view c.in-Catch.exit)
+        (node_view c.deref-in-Catch.result.now) refl (seen c.in_ok-inner-in-Catch.inner)
     (record { pass = done.pass; dims = done.dims; jumps = done.jumps }) c.catch_jumps.ensures.dims
 
 pub pass-returns-in_ok-inner-in-Catch-clause-jumps : goal.pass-returns-in_ok-inner-in-Catch-clause-jumps
 pass-returns-in_ok-inner-in-Catch-clause-jumps g t c =
     let done = c.in_ok-inner-in-Catch.ensures in
-    caught_jumps g.D.Domain.meaning c.args.settings.now (node_view c.args.node.now) (graph.catch c.in-Catch.point (exit_view c.in-Catch.exit) (node_view c.deref-in-Catch.result.now)) c.args.flag c.args.value c.catch_jumps.result
-    (catch_shown c.args.node.now c.deref-in-Catch.result.now c.in-Catch.body c.deref-in-Catch.ensures c.in-Catch.point c.in-Catch.exit c.in-Catch.is) c.in-Catch.point (exit_view c.in-Catch.exit) (node_view c.deref-in-Catch.result.now) refl (seen c.in_ok-inner-in-Catch.inner)
+    caught_jumps g.D.Domain.meaning c.args.settings.now (node_view c.args.node.now) (graph.catch c.in-Catch.point (exit_view c.in-Catch.exit) (node_view c.deref-in-Catch.result.now)) c.args.flag
+        c.args.value c.catch_jumps.result
+    (catch_shown c.args.node.now c.deref-in-Catch.result.now c.in-Catch.body c.deref-in-Catch.ensures c.in-Catch.point c.in-Catch.exit c.in-Catch.is) c.in-Catch.point (exit_view c.in-Catch.exit)
+        (node_view c.deref-in-Catch.result.now) refl (seen c.in_ok-inner-in-Catch.inner)
     (record { pass = done.pass; dims = done.dims; jumps = done.jumps }) c.catch_jumps.ensures.caught
 
 pub pass-returns-in-Leave-clause-pass : goal.pass-returns-in-Leave-clause-pass
-pass-returns-in-Leave-clause-pass g t c = given_pass g.D.Domain.meaning c.args.settings.now (node_view c.args.node.now) (graph.leave c.in-Leave.live (exit_view c.in-Leave.exit)) c.args.flag c.args.value c.pass_leave.result
+pass-returns-in-Leave-clause-pass g t c = given_pass g.D.Domain.meaning c.args.settings.now (node_view c.args.node.now) (graph.leave c.in-Leave.live (exit_view c.in-Leave.exit)) c.args.flag
+    c.args.value c.pass_leave.result
     (ap node_view c.in-Leave.is ∙ leave_view c.in-Leave.live c.in-Leave.exit) c.pass_leave.ensures
 
 pub pass-returns-in-Leave-clause-dims : goal.pass-returns-in-Leave-clause-dims
-pass-returns-in-Leave-clause-dims g t c = given_dims g.D.Domain.meaning c.args.settings.now (node_view c.args.node.now) (graph.leave c.in-Leave.live (exit_view c.in-Leave.exit)) c.args.flag c.args.value c.pass_leave.result
+pass-returns-in-Leave-clause-dims g t c = given_dims g.D.Domain.meaning c.args.settings.now (node_view c.args.node.now) (graph.leave c.in-Leave.live (exit_view c.in-Leave.exit)) c.args.flag
+    c.args.value c.pass_leave.result
     (ap node_view c.in-Leave.is ∙ leave_view c.in-Leave.live c.in-Leave.exit) c.pass_leave.ensures
 
 pub pass-returns-in-Leave-clause-jumps : goal.pass-returns-in-Leave-clause-jumps
-pass-returns-in-Leave-clause-jumps g t c = given_jumps g.D.Domain.meaning c.args.settings.now (node_view c.args.node.now) (graph.leave c.in-Leave.live (exit_view c.in-Leave.exit)) c.args.flag c.args.value c.pass_leave.result
+pass-returns-in-Leave-clause-jumps g t c = given_jumps g.D.Domain.meaning c.args.settings.now (node_view c.args.node.now) (graph.leave c.in-Leave.live (exit_view c.in-Leave.exit)) c.args.flag
+    c.args.value c.pass_leave.result
     (ap node_view c.in-Leave.is ∙ leave_view c.in-Leave.live c.in-Leave.exit) c.pass_leave.ensures

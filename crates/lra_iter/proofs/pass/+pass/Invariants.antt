@@ -1,45 +1,41 @@
-use Rattle.std.proofs.Common.{◌+◌, ◌*◌, ◌^◌}
+use Rattle.std.proofs.Common.{◌+◌, ◌*◌, ◌^◌, map, drop}
 use Rattle.lra_domain.proofs.RankNumbers.{phased}
 use Rattle.lra_tree.specs.ProgramViews.{cond_view}
-use Rattle.lra_tree.specs.GraphViews.{node_view}
-use Rattle.lra_tree.specs.Graph.{seq}
+use Rattle.lra_tree.specs.GraphViews.{node_view, row}
 use Rattle.lra_iter.specs.Outcome.{seen}
-use Rattle.lra_iter.proofs.PassLoops.{node_size, GrowLoop, NarrowLoop}
+use Rattle.lra_iter.proofs.PassLoops.{node_size, row_size, GrowLoop, NarrowLoop}
 use Rattle.lra_iter.proofs.PassRows.{RowLoop}
 use Rattle.lra_iter.proofs.pass.+pass.Given as goal
 
 abbrev pub invariant-grow-head : goal.invariant-grow-head
-invariant-grow-head g l = GrowLoop g.D.Domain.meaning l.the_loop.settings.now l.the_loop.point l.the_loop.base (cond_view l.the_loop.condition.now) (node_view l.the_loop.body.now) l.first l.fn.flag l.left l.so_far l.head
+invariant-grow-head g l = GrowLoop g.D.Domain.meaning l.the_loop.settings.now l.the_loop.point l.the_loop.base (cond_view l.the_loop.condition.now) (node_view l.the_loop.body.now) l.first
+    l.fn.flag l.left l.so_far l.head
 
 abbrev pub decreases-grow-head : goal.decreases-grow-head
 decreases-grow-head g l = phased (2 ^ 64) l.left (g.D.Domain.meaning.rank l.head)
 
-abbrev pub invariant-narrow-narrowing : goal.invariant-narrow-narrowing
-invariant-narrow-narrowing g l = NarrowLoop g.D.Domain.meaning l.the_loop.settings.now l.the_loop.point l.the_loop.base (cond_view l.the_loop.condition.now) (node_view l.the_loop.body.now) l.first l.fn.value (seen l.fn.outcome) l.left l.top (seen l.last)
+abbrev pub invariant-pass_loop-narrowing : goal.invariant-pass_loop-narrowing
+invariant-pass_loop-narrowing g l = NarrowLoop g.D.Domain.meaning l.the_loop.settings.now l.the_loop.point l.the_loop.base (cond_view l.the_loop.condition.now) (node_view l.the_loop.body.now)
+    l.fn.value l.fn.flag l.left l.top (seen l.last)
 
-abbrev pub decreases-narrow-narrowing : goal.decreases-narrow-narrowing
-decreases-narrow-narrowing g l = l.left
+abbrev pub decreases-pass_loop-narrowing : goal.decreases-pass_loop-narrowing
+decreases-pass_loop-narrowing g l = l.left
 
 abbrev pub invariant-pass_row-row : goal.invariant-pass_row-row
-invariant-pass_row-row g l = RowLoop g.D.Domain.meaning l.settings (seq (node_view l.first) (node_view l.second)) l.fn.flag l.fn.value (node_size l.second) l.rest l.found l.behind l.so_far
-
-abbrev pub decreases-pass_row-row : goal.decreases-pass_row-row
-decreases-pass_row-row g l = node_size l.rest
+invariant-pass_row-row g l = RowLoop g.D.Domain.meaning l.settings (row (map node_view l.trees) (node_view l.last)) l.fn.flag l.fn.value
+    (row (map node_view (drop l.tree-index l.trees)) (node_view l.last)) l.found l.behind l.so_far
 
 abbrev pub decreases-pass : goal.decreases-pass
 decreases-pass g l = 4 * node_size l.node.now
 
 abbrev pub decreases-pass_row : goal.decreases-pass_row
-decreases-pass_row g l = 4 * (node_size l.first.now + node_size l.second.now) + 1
+decreases-pass_row g l = 4 * row_size l.trees.now l.last.now + 1
 
 abbrev pub decreases-round : goal.decreases-round
 decreases-round g l = 4 * node_size l.the_loop.now.body.now + 1
 
 abbrev pub decreases-grow : goal.decreases-grow
 decreases-grow g l = 4 * node_size l.the_loop.now.body.now + 2
-
-abbrev pub decreases-narrow : goal.decreases-narrow
-decreases-narrow g l = 4 * node_size l.the_loop.now.body.now + 2
 
 abbrev pub decreases-pass_loop : goal.decreases-pass_loop
 decreases-pass_loop g l = 4 * node_size l.the_loop.now.body.now + 3
