@@ -289,7 +289,7 @@ extension_strains rows form i row Memory h l g f x = tt
 extension_strains rows form i row (Excess e) h l g f (inl x) =
     let widths = form_width rows form i row h l g f in
     let few = echelon_rows_at_most (length row) form f.is_form.pivots (λ t k. All-contains (λ (y : List ℤ). length y ≡ length row) form t widths k) f.is_form.echelon (row_wide rows i row h l g) in
-    record { form = form; is_form = (i, f.is_form); start = row; from = inl (i, l, sym g); passes = chain_passes form row e (length row) few x }
+    record { form = form; is_form = (i, f.is_form); start = row; from = inl (i, l, sym g); passes = chain_passes form row e (length row) few x; start_width = λ n a. All-contains (λ (y : List ℤ). length y ≡ n) rows row a (i, l, sym g) }
 extension_strains rows form i row (Excess e) h l g f (inr x) =
     let w = length row in
     let fm = first_form rows form i f in
@@ -319,4 +319,5 @@ extension_strains rows form i row (Excess e) h l g f (inr x) =
         cancels = q.cancels;
         passes = q.passes;
       };
+      start_width = λ n a. widths q.row has ∙ All-contains (λ (y : List ℤ). length y ≡ n) rows row a (i, l, sym g);
     }

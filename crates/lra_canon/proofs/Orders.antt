@@ -1,5 +1,5 @@
 -- Of the orders of one list of rows one is sorted, where only equal rows tie.
-use Rattle.std.proofs.Common.{◌≡◌, ◌==◌, ℕ, suc, ◌+◌, ◌<◌, Bool, false, cond, List, [], ◌∷◌, length, get_or, refl, ap, sym, ◌∙◌, ℤ, arith, Bor}
+use Rattle.std.proofs.Common.{◌≡◌, ◌==◌, ℕ, suc, ◌+◌, ◌<◌, Bool, false, cond, List, [], ◌∷◌, length, get_or, refl, ap, sym, ◌∙◌, subst, ℤ, arith, Bor}
 use Rattle.std.specs.Cmp.{IsTotalOrder, IsStrictWeakOrder, on_total, then_total, bool_cmp_total, nat_cmp_total}
 use Rattle.std.specs.FinMap.{nat_cmp-IsAntisymmetric}
 use Rattle.std.specs.List.{Contains, sum_by}
@@ -13,8 +13,8 @@ use Rattle.std.proofs.lemmas.List.MinMax.{ranks_by}
 use Rattle.std.proofs.lemmas.Fn.{always_returns_same}
 use Rattle.std.proofs.lemmas.List.Sums.{sum_by-cons}
 use Rattle.lra_linear.specs.Echelon.{pivot}
-use Rattle.lra_linear.specs.RowOrder.{row_cmp}
-use Rattle.lra_linear.proofs.Membership.{contains_head, contains_tail}
+use Rattle.lra_linear.specs.RowOrder.{row_cmp, Ascends}
+use Rattle.lra_linear.proofs.Membership.{contains_head, contains_tail, NoRepeat}
 use Rattle.lra_linear.proofs.RowOrder.{row_cmp_total, inequality_cmp_total}
 use Rattle.lra_row.proofs.OrderLemmas.{row_cmp_ties}
 use Rattle.lra_canon.specs.Ordered.{cmp_by, TiesAreEqual, IsOneOrder}
@@ -37,7 +37,7 @@ tied_in {A = A} cmp x (y ∷ ys) h = step y (cmp y x) refl (λ z. tied_in cmp x 
     step y Greater e later = let i = later (ap (λ o. cond (is_eq o) 1 0) e) in (i.0, contains_tail y i.0 ys i.1, i.2)
 
 -- each element ties with itself
-tied_itself : {A : Type 0} (cmp : A → A → Ordering) → IsTotalOrder cmp → (x : A) → cmp x x ≡ Equal
+pub tied_itself : {A : Type 0} (cmp : A → A → Ordering) → IsTotalOrder cmp → (x : A) → cmp x x ≡ Equal
 tied_itself cmp total x = alone (cmp x x) (total.antisymm x x)
   where
     alone : (o : Ordering) → o ≡ ordering_reverse o → o ≡ Equal
@@ -118,3 +118,25 @@ one_order order rows sorted p up t other q other_up =
     same_sorted (cmp_by order) (cmp_by_total order) other sorted other_up up
     (λ x y k l. ties_equal order rows t x y (Contains-permutation other rows x (IsPermutation-sym rows other q) k) (Contains-permutation sorted rows y (IsPermutation-sym rows sorted p) l))
     (length_permutation rows other q ∙ sym (length_permutation rows sorted p)) (λ f. sum_by-IsPermutation f rows other q ∙ sym (sum_by-IsPermutation f rows sorted p))
+
+-- a sorted list with no element twice, where only equal elements tie
+pub ascends : (order : Order) (rows : List (List ℤ)) → TiesAreEqual order rows → NoRepeat rows → IsSorted (cmp_by order) rows → Ascends (cmp_by order) rows
+ascends order [] ties once up = tt
+ascends order (x ∷ xs) ties once up = (
+  (λ y k.
+      let far = first_least (cmp_by order) (cmp_by_total order) x xs up y (contains_tail x y xs k) in
+      less (cmp_by order x y) (cmp_by order y x) ((cmp_by_total order).antisymm x y) far (λ e. once.0 (subst (Contains xs) (sym (ties_equal order (x ∷ xs) ties x y (contains_head x xs) (contains_tail x y xs k) e)) k))),
+  ascends order xs (fewer order ties) once.1 (rest_sorted (cmp_by order) x xs up),
+)
+  where
+    less : (o p : Ordering) → o ≡ ordering_reverse p → is_lt p ≡ false → (o ≡ Equal → ⊥) → o ≡ Less
+    less Less p e h n = refl
+    less Equal p e h n = absurd (n refl)
+    less Greater Less e h n = cc
+    less Greater Equal e h n = cc
+    less Greater Greater e h n = cc
+
+    fewer : (order : Order) → TiesAreEqual order (x ∷ xs) → TiesAreEqual order xs
+    fewer Inequalities t = tt
+    fewer Generators t = tt
+    fewer Pivots t = λ a b k l e. t a b (contains_tail x a xs k) (contains_tail x b xs l) e

@@ -133,6 +133,7 @@ pub record EchelonPasses (rows : List (List ℤ)) (e : E.Excess) : Type 0 where
   pub start : List ℤ
   pub from : Contains rows start ⊎ InOtherForm (IsFrontForm rows) form start
   pub passes : ReductionPasses (length start) form start e
+  pub start_width : (w : ℕ) → HaveWidth w rows → length start ≡ w
 
 abbrev pub IsEchelonExcess : List (List ℤ) → RowError → Type 0
 IsEchelonExcess rows (Excess e) = EchelonPasses rows e

@@ -9,3 +9,7 @@ pub mod Taking
 pub mod Stepped
 pub mod StrainLemmas
 pub mod WholeSpace
+pub mod RowsTaken
+pub mod Reordered
+pub mod GeneratorLists
+pub mod ConstraintLists

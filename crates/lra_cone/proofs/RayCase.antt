@@ -38,7 +38,7 @@ other_place (y ∷ front) x back n k = elim (contains_cases y x (front ++ back) 
 ]
 
 -- an element other than the one at the place
-beside_place : {A : Type 0} (front : List A) (x : A) (back : List A) (t : A) → Contains (front ++ x ∷ back) t → t ≢ x → Contains (front ++ back) t
+pub beside_place : {A : Type 0} (front : List A) (x : A) (back : List A) (t : A) → Contains (front ++ x ∷ back) t → t ≢ x → Contains (front ++ back) t
 beside_place front x back t k n = elim (Contains-append_cases front (x ∷ back) t k) [
   | inl m ↦ Contains-append_left front back t m
   | inr m ↦ elim (contains_cases x t back m) [ inl e ↦ absurd (n (sym e)) | inr o ↦ Contains-append_right front back t o ]

@@ -82,7 +82,7 @@ pub line_canonical : (s : Shape) (g : Given) (lines rays : List (List ℤ)) → 
 line_canonical s g lines rays k x = line_case_kept (suc s.dims) g.equal g.row s.lines s.rays lines rays x k.canonical
 
 -- each row taken in is tight at a line, in either direction
-line_tight : (s : Shape) → IsCone s → (l line : List ℤ) → Contains s.lines line → (l ≡ line) ⊎ (l ≡ negated line) → (c : List ℤ) → Contains (system_of s.taken) c → product c l ≡ pos 0
+pub line_tight : (s : Shape) → IsCone s → (l line : List ℤ) → Contains s.lines line → (l ≡ line) ⊎ (l ≡ negated line) → (c : List ℤ) → Contains (system_of s.taken) c → product c l ≡ pos 0
 line_tight s k l line m sign c i =
     let at : (q : List ℤ) → Contains (both_ways s.lines) q → pos 0 ≤ℤ product c q = λ q o. k.dual.meets q (Contains-append_right s.rays (both_ways s.lines) q o) c i in
     let z : product c line ≡ pos 0 = between_opposites (product c line) (product c (negated line)) (dot_negated c line) (at line (in_lines s.lines line m)) (at (negated line) (in_lines_negated s.lines line m)) in

@@ -45,7 +45,7 @@ set_length [] k z = refl
 set_length (x ∷ xs) zero z = refl
 set_length (x ∷ xs) (suc k) z = ap suc (set_length xs k z)
 
-unit_length : (n j : ℕ) → length (unit_row n j) ≡ suc n
+pub unit_length : (n j : ℕ) → length (unit_row n j) ≡ suc n
 unit_length n j = set_length (zeros (suc n)) j (pos 1) ∙ zeros_length (suc n)
 
 unit_here : (n j : ℕ) → j < suc n → entry (unit_row n j) j ≡ pos 1

@@ -1,6 +1,8 @@
--- Cones, the parts of the steps that take a row in, and what strains them.
+-- Cones, the parts of the steps that take a row in, what strains them, and conversions of lists.
 pub mod Cones
 pub mod Steps
 pub mod Pairs
 pub mod RayCase
 pub mod Strains
+pub mod Losses
+pub mod Conversions

@@ -91,6 +91,7 @@ impl Cone {
     pub fn taken(&self) -> &ConSys
         ensures dims { result.now.dims ≡ self.now.dims }
         ensures taken { constraints result.now ≡ self.now.taken }
+        ensures cone { IsCone self.now }
     {
         &self.taken
     }
@@ -199,7 +200,7 @@ impl Cone {
 }
 
 // The unit row of a column.
-fn unit(alloc: Global, n: usize, column: usize) -> Result<Row, AllocError>
+pub fn unit(alloc: Global, n: usize, column: usize) -> Result<Row, AllocError>
     requires small { n < 2 ^ 62 }
     requires column { column ≤ n }
     ensures { IfOk result (λ row. row ≡ unit_row n column) }

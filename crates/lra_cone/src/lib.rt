@@ -5,14 +5,21 @@
 #![tactic(auto)]
 
 mod cone;
+mod conversions;
 mod line_step;
+mod lists;
+mod losses;
 mod pairs;
 mod products;
 mod ray_step;
 mod saturation;
+mod shown;
 mod strained;
 
 pub use cone::Cone;
+pub use conversions::{Conversion, take_rows};
+pub use lists::{constrain, generate, positive_cone};
+pub use losses::{GivenRow, Loss};
 pub use lra_sys::ConKind;
 pub use strained::{ConeError, Family, Member, Strained};
 

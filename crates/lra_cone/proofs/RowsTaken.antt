@@ -1,0 +1,144 @@
+-- Rows taken in one by one: what is told of the losses stays so as further rows come.
+use Rattle.std.proofs.Common.{◌≡◌, ℕ, suc, ◌<◌, ◌+◌, List, [], ◌∷◌, ◌++◌, length, get_or, take, refl, ap, sym, ◌∙◌, subst, arith, ℤ, Bool, inl, inr, ◌⊎◌}
+use Rattle.std.specs.List.{Contains}
+use Rattle.std.proofs.lemmas.List.{append_assoc, append-nil, take_more, length-take-le, take_all, get_or_default}
+use Rattle.std.proofs.lemmas.List.Elements.{Contains-append_cases, Contains-append_left, Contains-append_right}
+use Rattle.lra_linear.specs.ConeStrain.{ConeStrains}
+use Rattle.lra_linear.specs.declared.Cause.{Cause}
+use Rattle.lra_linear.specs.declared.Cause.TheVariants.{Excess, TooMany}
+use Rattle.lra_linear.specs.Descriptions.{Given, system_of}
+use Rattle.lra_linear.specs.Strain.{Loss, Strains, IsStrained}
+use Rattle.lra_linear.specs.Cones.{AreDual, all_rows}
+use Rattle.lra_sys.specs.Listed.{Listed, constraints, given_by, is_equality}
+use Rattle.lra_sys.specs.declared.system.ConKind.{ConKind}
+use Rattle.lra_cone.specs.declared.strained.Strained.{Strained}
+use Rattle.lra_cone.specs.declared.strained.ConeError as C
+use Rattle.lra_cone.specs.declared.strained.ConeError.TheVariants as of_cone
+use Rattle.lra_cone.specs.Cones.{Shape, IsCone}
+use Rattle.lra_cone.specs.Strains.{IsConeError, cause_of}
+use Rattle.lra_cone.specs.Losses.{IfLost}
+use Rattle.lra_cone.specs.Conversions.{IsConversion}
+use Rattle.lra_cone.proofs.StrainLemmas.{strain_cause}
+use Rattle.lra_cone.proofs.Stepped.{constraints_push}
+
+-- a strain of a list is one of each longer list
+pub strains_longer : (w : ℕ) (all more : List Given) (loss : Loss) → Strains w all loss → Strains w (all ++ more) loss
+strains_longer w all more loss s = record {
+  rest = s.rest ++ more;
+  begins = ap (λ (x : List Given). x ++ more) s.begins ∙ append_assoc loss.chosen s.rest more;
+  next = elim s.next [ inl x ↦ inl (x.0 ++ more, ap (λ (y : List Given). y ++ more) x.1) | inr x ↦ inr x ];
+  lines = s.lines;
+  rays = s.rays;
+  dual = s.dual;
+  canonical = s.canonical;
+  strained = s.strained;
+}
+
+lost_longer : (w : ℕ) (all more : List Given) (losses : List Loss) → IfLost (Strains w all) losses → IfLost (Strains w (all ++ more)) losses
+lost_longer w all more [] s = tt
+lost_longer w all more (loss ∷ later) s = strains_longer w all more loss s
+
+-- a cone strains as a list does
+strained_of : (w : ℕ) (chosen : List Given) (further : Given) (lines rays : List (List ℤ)) (cause : Cause) → ConeStrains w further.equal further.row lines rays cause → IsStrained w chosen further lines rays cause
+strained_of w chosen further lines rays (Excess e) (inl x) = inl x
+strained_of w chosen further lines rays (Excess e) (inr x) = inr (inl x)
+strained_of w chosen further lines rays TooMany x = inl x
+
+-- ---- at the start no row is left out
+pub conversion_start : (s : Shape) (kept : List Given) (losses : List Loss) → kept ≡ [] → losses ≡ [] → IsConversion s.taken [] kept s losses
+conversion_start s kept losses ek el = record {
+  taken = sym (ap (λ (l : List Given). s.taken ++ l) ek ∙ append-nil s.taken);
+  among = λ g k. subst (λ (l : List Given). Contains l g) ek k;
+  whole = λ _. ek;
+  strain = subst (IfLost (Strains (suc s.dims) (s.taken ++ []))) (sym el) tt;
+}
+
+-- ---- the row is taken in
+pub conversion_more : (first all kept : List Given) (old new : Shape) (losses : List Loss) (after : List Given) (g : Given) → new.dims ≡ old.dims → new.taken ≡ old.taken ++ g ∷ [] → after ≡ kept ++ g ∷ [] → IsConversion first all kept old losses →
+    IsConversion first (all ++ g ∷ []) after new losses
+conversion_more first all kept old new losses after g d t e c = record {
+  taken = t ∙ ap (λ (l : List Given). l ++ g ∷ []) c.taken ∙ append_assoc first kept (g ∷ []) ∙ ap (λ (l : List Given). first ++ l) (sym e);
+  among = λ x k. elim (Contains-append_cases kept (g ∷ []) x (subst (λ (l : List Given). Contains l x) e k)) [
+    | inl i ↦ Contains-append_left all (g ∷ []) x (c.among x i)
+    | inr i ↦ Contains-append_right all (g ∷ []) x i
+  ];
+  whole = λ none. e ∙ ap (λ (l : List Given). l ++ g ∷ []) (c.whole none);
+  strain = subst (λ (n : ℕ). IfLost (Strains (suc n) (first ++ (all ++ g ∷ []))) losses) (sym d) (longer_behind (suc old.dims) first all g losses c.strain);
+}
+  where
+    longer_behind : (w : ℕ) (first all : List Given) (g : Given) (losses : List Loss) → IfLost (Strains w (first ++ all)) losses → IfLost (Strains w (first ++ (all ++ g ∷ []))) losses
+    longer_behind w first all g losses s = subst (λ (l : List Given). IfLost (Strains w l) losses) (append_assoc first all (g ∷ [])) (lost_longer w (first ++ all) (g ∷ []) losses s)
+
+-- ---- the row is left out
+not_empty : {A : Type 0} (xs : List A) (x : A) → xs ++ x ∷ [] ≡ [] → ⊥
+not_empty [] x e = cc
+not_empty (y ∷ xs) x e = cc
+
+first_lost : (all : List Given) (s : Shape) (loss : Loss) → IsCone s → s.taken ≡ all → loss.chosen ≡ s.taken →
+    ConeStrains (suc s.dims) loss.further.equal loss.further.row s.lines s.rays loss.cause → Strains (suc s.dims) (all ++ loss.further ∷ []) loss
+first_lost all s loss k same e strained = record {
+  rest = loss.further ∷ [];
+  begins = ap (λ (l : List Given). l ++ loss.further ∷ []) (sym (e ∙ same));
+  next = inl ([], refl);
+  lines = s.lines;
+  rays = s.rays;
+  dual = subst (λ (l : List Given). AreDual (suc s.dims) (system_of l) (all_rows s.lines s.rays)) (sym e) k.dual;
+  canonical = k.canonical;
+  strained = strained_of (suc s.dims) loss.chosen loss.further s.lines s.rays loss.cause strained;
+}
+
+lost_end : (first all kept : List Given) (s : Shape) (losses : List Loss) (loss : Loss) → IsCone s → IsConversion first all kept s losses → loss.chosen ≡ s.taken →
+    ConeStrains (suc s.dims) loss.further.equal loss.further.row s.lines s.rays loss.cause → IfLost (Strains (suc s.dims) ((first ++ all) ++ loss.further ∷ [])) (losses ++ loss ∷ [])
+lost_end first all kept s [] loss k c e strained = first_lost (first ++ all) s loss k (c.taken ∙ ap (λ (l : List Given). first ++ l) (c.whole refl)) e strained
+lost_end first all kept s (earlier ∷ later) loss k c e strained = strains_longer (suc s.dims) (first ++ all) (loss.further ∷ []) earlier c.strain
+
+-- as the code tells it: after a row that was left out the cone is as it was
+pub conversion_left_out : (first all kept : List Given) (old new : Shape) (losses after : List Loss) (loss : Loss) (g : Given) (strained : Strained) (cause : Cause) (taken : List Given) → IsCone new → new ≡ old → taken ≡ new.taken →
+    loss ≡ record { chosen = taken; further = g; cause = cause } → cause ≡ cause_of strained → after ≡ losses ++ loss ∷ [] → IsConeError old g.equal g.row (of_cone.Strained strained) → IsConversion first all kept old losses → IsConversion first (all ++ g ∷ []) kept new after
+conversion_left_out first all kept old new losses after loss g strained cause taken k same et el ec ea error c =
+    let here : IsConversion first all kept new losses = subst (λ (s : Shape). IsConversion first all kept s losses) (sym same) c in
+    let strains : ConeStrains (suc new.dims) g.equal g.row new.lines new.rays cause =
+    subst (ConeStrains (suc new.dims) g.equal g.row new.lines new.rays) (sym ec) (strain_cause new g.equal g.row strained (subst (λ (s : Shape). IsConeError s g.equal g.row (of_cone.Strained strained)) (sym same) error)) in
+    let told : IfLost (Strains (suc new.dims) ((first ++ all) ++ loss.further ∷ [])) (losses ++ loss ∷ []) =
+    lost_end first all kept new losses loss k here (ap (λ (l : Loss). l.chosen) el ∙ et)
+    (subst (λ (l : Loss). ConeStrains (suc new.dims) l.further.equal l.further.row new.lines new.rays l.cause) (sym el) strains) in
+    subst (IsConversion first (all ++ g ∷ []) kept new) (sym ea) (record {
+      taken = here.taken;
+      among = λ x i. Contains-append_left all (g ∷ []) x (here.among x i);
+      whole = λ none. absurd (not_empty losses loss none);
+      strain = subst (λ (l : List Given). IfLost (Strains (suc new.dims) l) (losses ++ loss ∷ [])) (append_assoc first all (g ∷ []))
+          (subst (λ (f : Given). IfLost (Strains (suc new.dims) ((first ++ all) ++ f ∷ [])) (losses ++ loss ∷ [])) (ap (λ (l : Loss). l.further) el) told);
+    })
+
+-- ---- row by row
+pub given_more : {K : Type 0} (equal : K → Bool) (rows : List (List ℤ)) (kinds : List K) (i : ℕ) (r : List ℤ) (k : K) → length rows ≡ length kinds → i < length rows → r ≡ get_or rows i r → k ≡ get_or kinds i k →
+    given_by equal (take (i + 1) rows) (take (i + 1) kinds) ≡ given_by equal (take i rows) (take i kinds) ++ record { row = r; equal = equal k } ∷ []
+given_more {K = K} equal rows kinds i r k n h er ek =
+    ap (λ (x : List (List ℤ)). given_by equal x (take (i + 1) kinds)) (take_more rows i r h ∙ ap (λ (y : List ℤ). take i rows ++ y ∷ []) (sym er)) ∙
+    ap (given_by equal (take i rows ++ r ∷ [])) (take_more kinds i k (omega (arith, n, h)) ∙ ap (λ (y : K). take i kinds ++ y ∷ []) (sym ek)) ∙
+    constraints_push equal (take i rows) (take i kinds) r k (length-take-le i rows (omega (arith, h)) ∙ sym (length-take-le i kinds (omega (arith, n, h))))
+
+pub all_given : {K : Type 0} (equal : K → Bool) (rows : List (List ℤ)) (kinds : List K) (i : ℕ) → length rows ≡ length kinds → i ≡ length rows → given_by equal (take i rows) (take i kinds) ≡ given_by equal rows kinds
+all_given equal rows kinds i n e = ap (λ (x : List (List ℤ)). given_by equal x (take i kinds)) (take_all i rows (omega (arith, e))) ∙ ap (given_by equal rows) (take_all i kinds (omega (arith, e, n)))
+
+-- a row that is put behind the others
+pub given_pushed : {K : Type 0} (equal : K → Bool) (rows : List (List ℤ)) (kinds : List K) (i : ℕ) (own : List (List ℤ)) → rows ≡ own → length kinds ≡ length own → i < length rows →
+    (before after : List Given) (g : Given) (r : List ℤ) (d : K) → r ≡ get_or rows i r → after ≡ before ++ g ∷ [] → g ≡ record { row = r; equal = equal (get_or kinds i d) } → before ≡ given_by equal (take i rows) (take i kinds) →
+    after ≡ given_by equal (take (i + 1) rows) (take (i + 1) kinds)
+given_pushed {K = K} equal rows kinds i own eo n h before after g r d er ea eg eb =
+    let n' : length rows ≡ length kinds = ap length eo ∙ sym n in
+    ea ∙ ap (λ (l : List Given). l ++ g ∷ []) eb ∙ ap (λ (x : Given). given_by equal (take i rows) (take i kinds) ++ x ∷ []) eg ∙
+    sym (given_more equal rows kinds i r (get_or kinds i d) n' h er (get_or_default kinds i d (get_or kinds i d) (omega (arith, h, n'))))
+
+pub taken_next : {K : Type 0} (equal : K → Bool) (first kept : List Given) (rows : List (List ℤ)) (kinds : List K) (i : ℕ) (own : List (List ℤ)) → rows ≡ own → length kinds ≡ length own → i < length rows →
+    (r : List ℤ) (d : K) (new : Shape) (losses : List Loss) → r ≡ get_or rows i r → IsConversion first (given_by equal (take i rows) (take i kinds) ++ record { row = r; equal = equal (get_or kinds i d) } ∷ []) kept new losses →
+    IsConversion first (given_by equal (take (i + 1) rows) (take (i + 1) kinds)) kept new losses
+taken_next equal first kept rows kinds i own eo n h r d new losses er c =
+    let g : Given = record { row = r; equal = equal (get_or kinds i d) } in
+    let before = given_by equal (take i rows) (take i kinds) in
+    subst (λ (l : List Given). IsConversion first l kept new losses) (given_pushed equal rows kinds i own eo n h before (before ++ g ∷ []) g r d er refl refl refl) c
+
+-- a constraint that is put behind the others
+pub constraints_pushed : (old new : Listed ConKind) (copied r : List ℤ) (k : ConKind) → length old.kinds ≡ length old.rows → copied ≡ r → new.rows ≡ old.rows ++ copied ∷ [] → new.kinds ≡ old.kinds ++ k ∷ [] → constraints new ≡ constraints old ++ record { row = r; equal = is_equality k } ∷ []
+constraints_pushed old new copied r k n ec er ek =
+    ap (λ (x : List (List ℤ)). given_by is_equality x new.kinds) (er ∙ ap (λ (y : List ℤ). old.rows ++ y ∷ []) ec) ∙ ap (given_by is_equality (old.rows ++ r ∷ [])) ek ∙ constraints_push is_equality old.rows old.kinds r k (sym n)

@@ -1,0 +1,6 @@
+use Rattle.std.proofs.Common.{arith, ℕ, ◌<◌, length}
+use Rattle.lra_cone.proofs.ConstraintLists.{no_point_found}
+use Rattle.lra_cone.proofs.lists.has_point.Goals as goal
+
+pub returns-clause-no : goal.returns-clause-no
+returns-clause-no c = λ _. no_point_found c.args.kinds.now (λ k h. c.loop-place.invariant k (omega (arith, h, c.loop-place-test.false, c.loop-place.auto.place-end)))

@@ -1,0 +1,11 @@
+use Rattle.std.proofs.Common.{◌≡◌, length, suc}
+use Rattle.std.specs.List.{All}
+use Rattle.lra_sys.specs.Listed.{constraints, is_equality}
+use Rattle.lra_cone.specs.Conversions.{IsValid}
+use Rattle.lra_cone.proofs.lists.valid_rows.Given as goal
+
+abbrev pub invariant-loop-row : goal.invariant-loop-row
+invariant-loop-row l = record {
+  widths : All (λ r. length r ≡ suc l.list.dims) l.valid.items;
+  valid : All (λ r. IsValid (is_equality l.kind) r (constraints l.list)) l.valid.items;
+}

@@ -1,0 +1,8 @@
+-- Rows that were left out.
+use Rattle.std.specs.Prelude.{List, [], ◌∷◌}
+use Rattle.lra_linear.specs.Strain as strain
+
+-- the first of the losses is as told; nothing is told of later ones
+abbrev pub IfLost : (strain.Loss → Type 0) → List strain.Loss → Type 0
+IfLost IsLoss [] = Unit {0}
+IfLost IsLoss (loss ∷ later) = IsLoss loss

@@ -1,0 +1,68 @@
+//! Rows taken in one by one; those that strain the cone are left out.
+
+ghost use Rattle.std.specs.Prelude.{◌≡◌, ◌++◌, ◌∷◌, [], List, suc, length, ◌<◌, ◌^◌, IfOk, OnOk};
+ghost use Rattle.lra_linear.specs.Descriptions.{Given};
+ghost use Rattle.lra_sys.specs.Listed.{constraints, is_equality};
+ghost use Rattle.lra_cone.specs.Conversions.{IsConversion};
+
+use crate::cone::Cone;
+use crate::losses::Loss;
+use crate::strained::ConeError;
+use lra_row::Row;
+use lra_sys::{ConKind, ConSys};
+use std::alloc::{AllocError, Global};
+
+/// The cone of the rows that were taken in, those of them that came behind its first, and the losses of the others.
+#[derive(Drop)]
+pub struct Conversion {
+    pub cone: Cone,
+    pub kept: ConSys,
+    pub losses: Vec<Loss>,
+}
+
+impl Conversion {
+    // Takes a row in, or leaves it out where it strains the cone.
+    fn take_row(&mut self, alloc: Global, row: &Row, kind: ConKind) -> Result<(), AllocError>
+        requires width { length row.now ≡ suc self.old.cone.dims }
+        requires dims { self.old.kept.dims ≡ self.old.cone.dims }
+        ensures dims { OnOk result (self.new.cone.dims ≡ self.old.cone.dims) }
+        ensures kept_dims { OnOk result (self.new.kept.dims ≡ self.old.kept.dims) }
+        ensures taken { OnOk result ((first all : List Given) →
+            IsConversion first all (constraints self.old.kept) self.old.cone self.old.losses.items →
+            IsConversion first (all ++ record { row = row.now; equal = is_equality kind } ∷ []) (constraints self.new.kept) self.new.cone self.new.losses.items) }
+    {
+        match self.cone.add_row(row, kind) {
+            Ok(()) => {
+                let _kinds = self.kept.kinds();
+                self.kept.push(row.copy()?, kind)?;
+                Ok(())
+            }
+            Err(ConeError::Memory) => Err(AllocError),
+            Err(ConeError::Strained(strained)) => {
+                let loss = Loss::new(alloc, self.cone.taken(), row, kind, strained.cause())?;
+                self.losses.push(loss)?;
+                Ok(())
+            }
+        }
+    }
+}
+
+/// Takes the rows into the cone in their order. One that strains it is left out, and the next is tried.
+pub fn take_rows(alloc: Global, start: Cone, rows: &ConSys) -> Result<Conversion, AllocError>
+    requires small { rows.now.dims < 2 ^ 62 }
+    requires dims { rows.now.dims ≡ start.dims }
+    ensures dims { IfOk result (λ c. c.cone.dims ≡ start.dims) }
+    ensures kept_dims { IfOk result (λ c. c.kept.dims ≡ start.dims) }
+    ensures taken { IfOk result (λ c. IsConversion start.taken (constraints rows.now) (constraints c.kept) c.cone c.losses.items) }
+{
+    let mut conversion = Conversion {
+        cone: start,
+        kept: ConSys::new(alloc, rows.dims()),
+        losses: Vec::new(alloc),
+    };
+    let (listed, kinds) = (rows.rows(), rows.kinds());
+    for place in 0..listed.len() {
+        conversion.take_row(alloc, &listed[place], kinds[place])?;
+    }
+    Ok(conversion)
+}

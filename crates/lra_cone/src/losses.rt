@@ -1,0 +1,121 @@
+//! Rows that were left out.
+
+ghost use Rattle.std.specs.Prelude.{◌≡◌, IfOk};
+ghost use Rattle.lra_sys.specs.Listed.{constraints, is_equality};
+ghost use Rattle.lra_linear.specs.Strain as told;
+
+use lra_linear::Cause;
+use lra_row::Row;
+use lra_sys::{ConKind, ConSys};
+use std::alloc::{AllocError, Global};
+use std::marker::Model;
+
+/// A row of a list: an inequality or an equality; or a point or a ray, or a line.
+#[derive(Drop)]
+pub struct GivenRow {
+    row: Row,
+    equal: bool,
+}
+
+impl Model for GivenRow {
+    ghost use Rattle.lra_linear.specs.Descriptions.{Given};
+
+    ghost Value = { Given };
+
+    ghost view = { λ g. record { row = g.row; equal = g.equal } };
+}
+
+impl GivenRow {
+    /// The row's numbers.
+    pub fn row(&self) -> &Row
+        ensures { result.now ≡ self.now.row }
+    {
+        &self.row
+    }
+
+    /// Whether it is an equality, or a line.
+    pub fn is_equal(&self) -> bool
+        ensures { result ≡ self.now.equal }
+    {
+        self.equal
+    }
+}
+
+/// What is told of a row that was left out.
+#[derive(Drop)]
+pub struct Loss {
+    chosen: Vec<GivenRow>,
+    further: GivenRow,
+    cause: Cause,
+}
+
+impl Model for Loss {
+    ghost use Rattle.lra_linear.specs.Strain as told;
+
+    ghost Value = { told.Loss };
+
+    ghost view = { λ l. record { chosen = l.chosen.items; further = l.further; cause = l.cause } };
+}
+
+impl Loss {
+    /// The loss of this row, with these rows taken before it.
+    pub fn new(
+        alloc: Global,
+        taken: &ConSys,
+        row: &Row,
+        kind: ConKind,
+        cause: Cause,
+    ) -> Result<Loss, AllocError>
+        ensures { IfOk result (λ l. l ≡
+            record { chosen = constraints taken.now; further = record { row = row.now; equal = is_equality kind }; cause = cause }) }
+    {
+        let chosen = given_rows(alloc, taken)?;
+        let further = given_row(row, kind)?;
+        Ok(Loss {
+            chosen,
+            further,
+            cause,
+        })
+    }
+
+    /// The rows taken before it.
+    pub fn chosen(&self) -> &[GivenRow]
+        ensures { result.now ≡ self.now.chosen }
+    {
+        self.chosen.as_slice()
+    }
+
+    /// The row that with these passes a limit: the next one, or one of these.
+    pub fn further(&self) -> &GivenRow
+        ensures { result.now ≡ self.now.further }
+    {
+        &self.further
+    }
+
+    /// What passes.
+    pub fn cause(&self) -> Cause
+        ensures { result ≡ self.now.cause }
+    {
+        self.cause
+    }
+}
+
+fn given_row(row: &Row, kind: ConKind) -> Result<GivenRow, AllocError>
+    ensures { IfOk result (λ g. g ≡ record { row = row.now; equal = is_equality kind }) }
+{
+    let row = row.copy()?;
+    let equal = kind == ConKind::Eq;
+    Ok(GivenRow { row, equal })
+}
+
+// The rows of the list.
+fn given_rows(alloc: Global, list: &ConSys) -> Result<Vec<GivenRow>, AllocError>
+    ensures { IfOk result (λ rows. rows.items ≡ constraints list.now) }
+{
+    let (listed, kinds) = (list.rows(), list.kinds());
+    let mut rows = Vec::with_capacity(alloc, listed.len())?;
+    for place in 0..listed.len() {
+        rows.push(given_row(&listed[place], kinds[place])?)?;
+    }
+    Ok(rows)
+}
