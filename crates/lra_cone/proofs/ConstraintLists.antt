@@ -12,6 +12,7 @@ use Rattle.lra_linear.specs.Descriptions.{Given, Con, Gen, inequality, equality,
 use Rattle.lra_linear.specs.OperationStrain.{unit_row}
 use Rattle.lra_linear.specs.Points.{IsPoint, IsWithin, SameSet, IsEmptySet}
 use Rattle.lra_linear.specs.Polyhedra.{positivity, falsity}
+use Rattle.lra_linear.specs.Canonical.{IsCanonical}
 use Rattle.lra_linear.proofs.CanonicalForms.{no_repeat}
 use Rattle.lra_linear.proofs.Descriptions.{FromGiven, system_from, system_has, gen_generated, generated_gen, dual_same_points, dual_flipped}
 use Rattle.lra_linear.proofs.Combinations.{generated_row}
@@ -60,26 +61,31 @@ shown_from : (n : ℕ) (lines rays : List (List ℤ)) (list : Listed ConKind) (h
 shown_from n lines rays list h r m =
     without_from (positivity n) rays r (Contains-permutation h.inequalities (without (positivity n) rays) r (IsPermutation-sym (without (positivity n) rays) h.inequalities h.inequalities_are) m)
 
-pub constraints_shown : (s : Shape) (n : ℕ) (given : List Given) (list : Listed ConKind) → IsCone s → s.dims ≡ n → s.taken ≡ given → ShowsConstraints n s.lines s.rays list → HasConstraints n (system_of given) (constraints list)
-constraints_shown s n given list k d t h =
-    let others = without (positivity n) s.rays in
+-- of any canonical description
+pub listed_hold : (n : ℕ) (system lines rays : List (List ℤ)) (list : Listed ConKind) → AreDual (suc n) system (all_rows lines rays) → IsCanonical lines rays → ShowsConstraints n lines rays list → HasConstraints n system (constraints list)
+listed_hold n system lines rays list dual canonical h =
+    let others = without (positivity n) rays in
     let from : (r : List ℤ) → Contains h.inequalities r → Contains others r = λ r m. Contains-permutation h.inequalities others r (IsPermutation-sym others h.inequalities h.inequalities_are) m in
     let to : (r : List ℤ) → Contains others r → Contains h.inequalities r = λ r m. Contains-permutation others h.inequalities r h.inequalities_are m in
     record {
-      equalities = s.lines;
+      equalities = lines;
       inequalities = h.inequalities;
-      facets = s.rays;
-      are = listed_constraints n s.lines s.rays list h;
-      shown = shown_from n s.lines s.rays list h;
-      all_shown = λ r m. elim (without_has (positivity n) s.rays r m) [ inl e ↦ inl e | inr i ↦ inr (to r i) ];
-      dual = subst (λ (m : ℕ). AreDual (suc m) (system_of given) (all_rows s.lines s.rays)) d (subst (λ (l : List Given). AreDual (suc s.dims) (system_of l) (all_rows s.lines s.rays)) t k.dual);
-      canonical = k.canonical;
+      facets = rays;
+      are = listed_constraints n lines rays list h;
+      shown = shown_from n lines rays list h;
+      all_shown = λ r m. elim (without_has (positivity n) rays r m) [ inl e ↦ inl e | inr i ↦ inr (to r i) ];
+      dual = dual;
+      canonical = canonical;
       inequalities_ascend = ascends Inequalities h.inequalities tt
-          (once_too others h.inequalities (without_once (positivity n) s.rays (no_repeat s.lines s.rays k.canonical)) to from (at_most_same (length h.inequalities) (length others) (length_permutation others h.inequalities h.inequalities_are))) h.sorted;
+          (once_too others h.inequalities (without_once (positivity n) rays (no_repeat lines rays canonical)) to from (at_most_same (length h.inequalities) (length others) (length_permutation others h.inequalities h.inequalities_are))) h.sorted;
     }
   where
     at_most_same : (a b : ℕ) → a ≡ b → a ≤ b
     at_most_same a b e = omega (arith, e)
+
+pub constraints_shown : (s : Shape) (n : ℕ) (given : List Given) (list : Listed ConKind) → IsCone s → s.dims ≡ n → s.taken ≡ given → ShowsConstraints n s.lines s.rays list → HasConstraints n (system_of given) (constraints list)
+constraints_shown s n given list k d t h =
+    listed_hold n (system_of given) s.lines s.rays list (subst (λ (m : ℕ). AreDual (suc m) (system_of given) (all_rows s.lines s.rays)) d (subst (λ (l : List Given). AreDual (suc s.dims) (system_of l) (all_rows s.lines s.rays)) t k.dual)) k.canonical h
 
 -- ---- the same points
 given_in : (b : Bool) (rows : List (List ℤ)) (r : List ℤ) → Contains rows r → Contains (given_as b rows) (record { row = r; equal = b })

@@ -5,6 +5,7 @@ use Rattle.std.proofs.lemmas.Int.{ints}
 use Rattle.std.proofs.lemmas.List.{length-append, length-replicate}
 use Rattle.std.proofs.lemmas.List.Elements.{Contains-append_cases, Contains-append_left, Contains-append_right}
 use Rattle.lra_linear.specs.Vectors.{entry, dot, product, negated}
+use Rattle.lra_linear.specs.Canonical.{IsCanonical}
 use Rattle.lra_linear.specs.Cones.{Generated, both_ways, all_rows, AreDual}
 use Rattle.lra_linear.specs.Descriptions.{Given, Con, Gen, inequality, given_as, system_of, Holds, HoldsWith}
 use Rattle.lra_linear.specs.DoubleDescription.{with_row}
@@ -95,13 +96,14 @@ at_least_zero s kept k e t m =
     subst (λ z. pos 0 ≤ℤ z) (positivity_product s.dims t)
     (k.dual.meets t m (positivity s.dims) (subst (λ (l : List Given). Contains (system_of l) (positivity s.dims)) (sym e) (contains_head (positivity s.dims) (system_of kept))))
 
-line_column : (s : Shape) (kept : List Given) → IsCone s → s.taken ≡ inequality (positivity s.dims) ∷ kept → (l : List ℤ) → Contains s.lines l → entry l 0 ≡ pos 0
-line_column s kept k e l m =
-    between_opposites (entry l 0) (entry (negated l) 0) (entry_negated l 0)
-    (at_least_zero s kept k e l (Contains-append_right s.rays (both_ways s.lines) l (in_lines s.lines l m)))
-    (at_least_zero s kept k e (negated l) (Contains-append_right s.rays (both_ways s.lines) (negated l) (in_lines_negated s.lines l m)))
+flat_line : (lines rays : List (List ℤ)) → ((t : List ℤ) → Contains (all_rows lines rays) t → pos 0 ≤ℤ entry t 0) → (l : List ℤ) → Contains lines l → entry l 0 ≡ pos 0
+flat_line lines rays nonneg l m =
+    between_opposites (entry l 0) (entry (negated l) 0) (entry_negated l 0) (nonneg l (Contains-append_right rays (both_ways lines) l (in_lines lines l m))) (nonneg (negated l) (Contains-append_right rays (both_ways lines) (negated l) (in_lines_negated lines l m)))
 
-zero_between : (z : ℤ) → pos 0 ≤ℤ z → z ≤ℤ pos 0 → z ≡ pos 0
+line_column : (s : Shape) (kept : List Given) → IsCone s → s.taken ≡ inequality (positivity s.dims) ∷ kept → (l : List ℤ) → Contains s.lines l → entry l 0 ≡ pos 0
+line_column s kept k e l m = flat_line s.lines s.rays (at_least_zero s kept k e) l m
+
+pub zero_between : (z : ℤ) → pos 0 ≤ℤ z → z ≤ℤ pos 0 → z ≡ pos 0
 zero_between z h k = omega (arith, ints, h, k)
 
 -- rows that are 0 in column 0 generate no point
@@ -124,26 +126,50 @@ at_points n x point = subst (λ z. pos 0 ≤ℤ z) (sym (positivity_product n x)
     nonneg : (z : ℤ) → pos 0 <ℤ z → pos 0 ≤ℤ z
     nonneg z h = omega (arith, ints, h)
 
--- where no ray is a point, there is none
+-- where no ray is above 0 in column 0, all is 0 there
+pub flat_rows : (lines rays : List (List ℤ)) → ((t : List ℤ) → Contains (all_rows lines rays) t → pos 0 ≤ℤ entry t 0) → points_of rays ≡ [] → (t : List ℤ) → Contains (all_rows lines rays) t → entry t 0 ≡ pos 0
+flat_rows lines rays nonneg none t m = elim (Contains-append_cases rays (both_ways lines) t m) [
+  | inl i ↦ elim (parted rays t i) [
+    | inl p ↦ absurd (contains_none t (subst (λ (l : List (List ℤ)). Contains l t) none p))
+    | inr d ↦ zero_between (entry t 0) (nonneg t m) (directions_from rays t d).1
+  ]
+  | inr i ↦ let x = signed_from lines t i in signed_zero x.line t x.sign 0 (flat_line lines rays nonneg x.line x.has)
+]
+
+-- then there is no point
 no_points : (s : Shape) (kept : List Given) → IsCone s → s.taken ≡ inequality (positivity s.dims) ∷ kept → points_of s.rays ≡ [] → IsEmptySet s.dims (Con kept)
 no_points s kept k e none x point con =
     let n = s.dims in
     let holds : Con (inequality (positivity n) ∷ kept) x = con_cons (inequality (positivity n)) kept x (at_points n x point) con in
-    nothing_generated n (all_rows s.lines s.rays) x point column (k.dual.solutions x point.width (con_solves s.taken x (subst (λ (l : List Given). Con l x) (sym e) holds)))
-  where
-    ray_column : (t : List ℤ) → Contains s.rays t → entry t 0 ≡ pos 0
-    ray_column t m = elim (parted s.rays t m) [
-      | inl i ↦ absurd (contains_none t (subst (λ (l : List (List ℤ)). Contains l t) none i))
-      | inr i ↦ zero_between (entry t 0) (at_least_zero s kept k e t (Contains-append_left s.rays (both_ways s.lines) t m)) (directions_from s.rays t i).1
-    ]
-
-    column : (t : List ℤ) → Contains (all_rows s.lines s.rays) t → entry t 0 ≡ pos 0
-    column t m = elim (Contains-append_cases s.rays (both_ways s.lines) t m) [
-      | inl i ↦ ray_column t i
-      | inr i ↦ let x = signed_from s.lines t i in signed_zero x.line t x.sign 0 (line_column s kept k e x.line x.has)
-    ]
+    nothing_generated n (all_rows s.lines s.rays) x point (flat_rows s.lines s.rays (at_least_zero s kept k e) none) (k.dual.solutions x point.width (con_solves s.taken x (subst (λ (l : List Given). Con l x) (sym e) holds)))
 
 -- ---- the list that is shown
+-- of any canonical description of which no row is below 0 in column 0
+pub listed_have : (n : ℕ) (system lines rays : List (List ℤ)) (list : Listed GenKind) → AreDual (suc n) system (all_rows lines rays) → IsCanonical lines rays → ((t : List ℤ) → Contains (all_rows lines rays) t → pos 0 ≤ℤ entry t 0) → ListsGenerators lines rays list →
+    HasGenerators n system (generators list) × FitKinds list.rows list.kinds
+listed_have n system lines rays list dual canonical nonneg h =
+    let parts : InParts rays h.points h.directions = in_parts rays h.points h.directions h.points_are h.directions_are in
+    let once = parts_once lines rays h.points h.directions canonical parts in
+    let flat : (r : List ℤ) → Contains h.directions r ⊎ Contains lines r → entry r 0 ≡ pos 0 = λ r m. elim m [
+      | inl i ↦ let o = parts.others r i in zero_between (entry r 0) (nonneg r (Contains-append_left rays (both_ways lines) r o.0)) o.1
+      | inr i ↦ flat_line lines rays nonneg r i
+    ] in (
+      record {
+        points = h.points;
+        rays = h.directions;
+        lines = lines;
+        are = listed_generators lines rays list h;
+        dual = dual_again (suc n) system lines rays (h.points ++ h.directions) parts.to parts.from dual;
+        canonical = canonical_again lines rays (h.points ++ h.directions) parts.to parts.from once canonical;
+        points_ascend = ascends Generators h.points tt (once_left h.points h.directions once) h.points_sorted;
+        rays_ascend = ascends Generators h.directions tt (once_right h.points h.directions once) h.directions_sorted;
+        divisors = parts.above;
+        directions = flat;
+        some_point = h.some_point;
+      },
+      listed_fit lines rays list h parts.above flat,
+    )
+
 pub generators_shown : (s : Shape) (n : ℕ) (kept : List Given) (list : Listed GenKind) → IsCone s → s.dims ≡ n → s.taken ≡ inequality (positivity n) ∷ kept → ShowsGenerators s.lines s.rays list → AreGeneratorsOf n kept (generators list) × FitKinds list.rows list.kinds
 generators_shown s n kept list k d t shown = subst (λ (m : ℕ). AreGeneratorsOf m kept (generators list) × FitKinds list.rows list.kinds) d (here (t ∙ ap (λ (m : ℕ). inequality (positivity m) ∷ kept) (sym d)) shown)
   where
@@ -153,27 +179,8 @@ generators_shown s n kept list k d t shown = subst (λ (m : ℕ). AreGeneratorsO
       subst (λ (x : List (List ℤ)). FitKinds x list.kinds) (sym h.0) tt,
     )
     here e (inr h) =
-        let parts : InParts s.rays h.points h.directions = in_parts s.rays h.points h.directions h.points_are h.directions_are in
-        let once = parts_once s.lines s.rays h.points h.directions k.canonical parts in
-        let flat : (r : List ℤ) → Contains h.directions r ⊎ Contains s.lines r → entry r 0 ≡ pos 0 = λ r m. elim m [
-          | inl i ↦ let o = parts.others r i in zero_between (entry r 0) (at_least_zero s kept k e r (Contains-append_left s.rays (both_ways s.lines) r o.0)) o.1
-          | inr i ↦ line_column s kept k e r i
-        ] in (
-          inr (record {
-            points = h.points;
-            rays = h.directions;
-            lines = s.lines;
-            are = listed_generators s.lines s.rays list h;
-            dual = subst (λ (l : List Given). AreDual (suc s.dims) (system_of l) (all_rows s.lines (h.points ++ h.directions))) e (dual_again (suc s.dims) (system_of s.taken) s.lines s.rays (h.points ++ h.directions) parts.to parts.from k.dual);
-            canonical = canonical_again s.lines s.rays (h.points ++ h.directions) parts.to parts.from once k.canonical;
-            points_ascend = ascends Generators h.points tt (once_left h.points h.directions once) h.points_sorted;
-            rays_ascend = ascends Generators h.directions tt (once_right h.points h.directions once) h.directions_sorted;
-            divisors = parts.above;
-            directions = flat;
-            some_point = h.some_point;
-          }),
-          listed_fit s.lines s.rays list h parts.above flat,
-        )
+        let x = listed_have s.dims (system_of s.taken) s.lines s.rays list k.dual k.canonical (at_least_zero s kept k e) h in
+        (inr (subst (λ (l : List Given). HasGenerators s.dims (system_of l) (generators list)) e x.0), x.1)
 
 -- ---- the same points
 pub system_of_generators : (n : ℕ) (system : List (List ℤ)) (list : List Given) (h : HasGenerators n system list) → system_of list ≡ all_rows h.lines (h.points ++ h.rays)

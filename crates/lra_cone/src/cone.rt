@@ -199,7 +199,7 @@ impl Cone {
     }
 }
 
-// The unit row of a column.
+/// The row of n + 1 columns with 1 in this column and 0 elsewhere.
 pub fn unit(alloc: Global, n: usize, column: usize) -> Result<Row, AllocError>
     requires small { n < 2 ^ 62 }
     requires column { column ≤ n }

@@ -16,11 +16,12 @@ mod saturation;
 mod shown;
 mod strained;
 
-pub use cone::Cone;
+pub use cone::{Cone, unit};
 pub use conversions::{Conversion, take_rows};
-pub use lists::{constrain, generate, positive_cone};
+pub use lists::{constrain, dual_rows, generate, has_point, nothing, positive_cone, valid_list};
 pub use losses::{GivenRow, Loss};
 pub use lra_sys::ConKind;
+pub use shown::{constraint_list, generator_list};
 pub use strained::{ConeError, Family, Member, Strained};
 
 #[cfg(test)]

@@ -80,8 +80,8 @@ fn dual_kind(kind: GenKind) -> ConKind
     }
 }
 
-// The generators as rows of the cone of what is valid on them.
-fn dual_rows(alloc: Global, given: &GenSys) -> Result<ConSys, AllocError>
+/// The generators as rows of the cone of what is valid on them.
+pub fn dual_rows(alloc: Global, given: &GenSys) -> Result<ConSys, AllocError>
     requires { given.now.dims < 2 ^ 62 }
     ensures dims { IfOk result (λ rows. rows.dims ≡ given.now.dims) }
     ensures rows { IfOk result (λ rows. rows.rows ≡ given.now.rows) }
@@ -144,8 +144,8 @@ fn is_point(kind: GenKind) -> bool
     }
 }
 
-// Whether there is a point among the kinds.
-fn has_point(kinds: &[GenKind]) -> bool
+/// Whether there is a point among the kinds.
+pub fn has_point(kinds: &[GenKind]) -> bool
     ensures yes { IsTrue result → Contains kinds.now Point }
     ensures no { IsFalse result → ¬ (Contains kinds.now Point) }
 {
@@ -157,8 +157,8 @@ fn has_point(kinds: &[GenKind]) -> bool
     false
 }
 
-// The one row -1 >= 0.
-fn nothing(alloc: Global, n: usize) -> Result<ConSys, AllocError>
+/// The one row -1 >= 0, which holds at no point.
+pub fn nothing(alloc: Global, n: usize) -> Result<ConSys, AllocError>
     requires { n < 2 ^ 62 }
     ensures dims { IfOk result (λ list. list.dims ≡ n) }
     ensures rows { IfOk result (λ list. list.rows ≡ negated (unit_row n 0) ∷ []) }
@@ -170,8 +170,12 @@ fn nothing(alloc: Global, n: usize) -> Result<ConSys, AllocError>
     Ok(list)
 }
 
-// The constraints of the cone; after a loss those of them that are valid on all rows, which were to be taken in.
-fn valid_list(alloc: Global, conversion: &Conversion, rows: &ConSys) -> Result<ConSys, AllocError>
+/// The constraints of the cone; after a loss those of them that are valid on all rows, which were to be taken in.
+pub fn valid_list(
+    alloc: Global,
+    conversion: &Conversion,
+    rows: &ConSys,
+) -> Result<ConSys, AllocError>
     requires small { rows.now.dims < 2 ^ 62 }
     requires dims { conversion.now.cone.dims ≡ rows.now.dims }
     ensures cone { IsCone conversion.now.cone }
