@@ -1,5 +1,6 @@
 -- The truth values of words, one place at a time.
-use Rattle.std.proofs.Common.{◌≡◌, ◌≢◌, ℕ, ◌/◌, ◌%◌, ◌^◌, ◌*◌, ◌<◌, ◌≤◌, Bool, true, false, List, length, get_or, set, replicate, ap, sym, ◌∙◌, arith, nat_eq, bit_and, bit_or, get_or-set_same, get_or-set_other, inl, inr}
+use Rattle.std.proofs.Common.{◌≡◌, ◌≢◌, ℕ, ◌/◌, ◌%◌, ◌^◌, ◌*◌, ◌<◌, ◌≤◌, Bool, true, false, List, length, get_or, set, replicate, ap, sym, ◌∙◌, arith, nat_eq, bit_and, bit_or, get_or-set_same}
+use Rattle.std.proofs.Common.{get_or-set_other, inl, inr}
 use Rattle.std.specs.Prelude.{◌==◌, ◌-◌}
 use Rattle.std.specs.Int.{bit_at, w64}
 use Rattle.std.proofs.lemmas.Bool.{cases_eq, cases_lt}
@@ -61,11 +62,13 @@ pub zeros_unused : (n k : ℕ) (words : List ℕ) → words ≡ replicate n 0 �
 zeros_unused n k words e = ap (λ (x : List ℕ). bit_of x k) e ∙ zero_bit n k
 
 -- ---- one place read
-pub get_is : (width : ℕ) (words : List ℕ) (values : List Bool) (k x : ℕ) → unpacked width words ≡ values → k < length values → length words ≡ words_needed width → x ≡ get_or words (k / 64) x → nat_eq (bit_and (x / 2 ^ (k % 64)) 1) 1 ≡ value_at values k
+pub get_is : (width : ℕ) (words : List ℕ) (values : List Bool) (k x : ℕ) → unpacked width words ≡ values → k < length values → length words ≡ words_needed width → x ≡ get_or words (k / 64) x →
+    nat_eq (bit_and (x / 2 ^ (k % 64)) 1) 1 ≡ value_at values k
 get_is width words values k x e h m r =
     let n = sym (length_unpacked width words) ∙ ap length e in
     let l : k < width = omega (arith, h, n) in
-    ap (λ y. nat_eq y 1) (shr_and_one x (k % 64) ∙ ap (λ y. bit_at y (k % 64)) (r ∙ get_or_default_zero words (k / 64) x (place_inside width k (length words) l m))) ∙ sym (value_unpacked width words k l) ∙ ap (λ y. value_at y k) e
+    ap (λ y. nat_eq y 1) (shr_and_one x (k % 64) ∙ ap (λ y. bit_at y (k % 64)) (r ∙ get_or_default_zero words (k / 64) x (place_inside width k (length words) l m))) ∙
+    sym (value_unpacked width words k l) ∙ ap (λ y. value_at y k) e
 
 -- ---- one place written
 -- y is the word with the truth value b at one bit
@@ -85,7 +88,8 @@ bit_other words x y k j b r h p n = elim (cases_eq (j / 64) (k / 64)) [
   | inr a ↦ ap (λ w. bit_at w (j % 64) == 1) (get_or-set_other words (k / 64) (j / 64) y 0 a)
 ]
 
-put_is : (width : ℕ) (words : List ℕ) (values : List Bool) (x y k : ℕ) (b : Bool) → unpacked width words ≡ values → k < length values → length words ≡ words_needed width → x ≡ get_or words (k / 64) 0 → IsPut x y (k % 64) b →
+put_is : (width : ℕ) (words : List ℕ) (values : List Bool) (x y k : ℕ) (b : Bool) → unpacked width words ≡ values → k < length values → length words ≡ words_needed width →
+    x ≡ get_or words (k / 64) 0 → IsPut x y (k % 64) b →
     unpacked width (set words (k / 64) y) ≡ set values k b
 put_is width words values x y k b e h n r p =
     let w = sym (length_unpacked width words) ∙ ap length e in
@@ -98,7 +102,8 @@ put_is width words values x y k b e h n r p =
       | inr a ↦ bit_other words x y k i b r inside p a ∙ sym (value_unpacked width words i m) ∙ ap (λ t. value_at t i) e ∙ sym (get_or-set_other values k i b false a)
     ])
 
-put_unused : (width : ℕ) (words : List ℕ) (x y k : ℕ) (b : Bool) → k < width → length words ≡ words_needed width → ((j : ℕ) → width ≤ j → bit_of words j ≡ false) → x ≡ get_or words (k / 64) 0 → IsPut x y (k % 64) b →
+put_unused : (width : ℕ) (words : List ℕ) (x y k : ℕ) (b : Bool) → k < width → length words ≡ words_needed width → ((j : ℕ) → width ≤ j → bit_of words j ≡ false) → x ≡ get_or words (k / 64) 0 →
+    IsPut x y (k % 64) b →
     (length (set words (k / 64) y) ≡ words_needed width) × ((j : ℕ) → width ≤ j → bit_of (set words (k / 64) y) j ≡ false)
 put_unused width words x y k b h n u r p = (
   length-set words (k / 64) y ∙ n,
@@ -112,7 +117,8 @@ set_put x i h = record { here = ap (λ d. d == 1) (bit_at_set_same w64 x i h); t
 clear_put : (x i : ℕ) → i < 64 → IsPut x (bit_and x (2 ^ 64 - 1 - 1 * 2 ^ i % 2 ^ 64)) i false
 clear_put x i h = record { here = ap (λ d. d == 1) (bit_at_clear_same w64 x i h); there = λ j l n. bit_at_clear_other w64 x i h j l n }
 
-module _ (width : ℕ) (words : List ℕ) (values : List Bool) (x k : ℕ) (e : unpacked width words ≡ values) (h : k < length values) (n : length words ≡ words_needed width) (own : x ≡ get_or words (k / 64) x) where
+module _ (width : ℕ) (words : List ℕ) (values : List Bool) (x k : ℕ) (e : unpacked width words ≡ values) (h : k < length values) (n : length words ≡ words_needed width)
+    (own : x ≡ get_or words (k / 64) x) where
   inside : k < width
   inside = let w = sym (length_unpacked width words) ∙ ap length e in omega (arith, h, w)
 
@@ -130,5 +136,6 @@ module _ (width : ℕ) (words : List ℕ) (values : List Bool) (x k : ℕ) (e : 
   set_unused u = put_unused width words x (bit_or x (1 * 2 ^ (k % 64) % 2 ^ 64)) k true inside n u r (set_put x (k % 64) (mod_below k 64 (omega arith)))
 
   pub clear_unused : ((j : ℕ) → width ≤ j → bit_of words j ≡ false) →
-      (length (set words (k / 64) (bit_and x (2 ^ 64 - 1 - 1 * 2 ^ (k % 64) % 2 ^ 64))) ≡ words_needed width) × ((j : ℕ) → width ≤ j → bit_of (set words (k / 64) (bit_and x (2 ^ 64 - 1 - 1 * 2 ^ (k % 64) % 2 ^ 64))) j ≡ false)
+      (length (set words (k / 64) (bit_and x (2 ^ 64 - 1 - 1 * 2 ^ (k % 64) % 2 ^ 64))) ≡ words_needed width) ×
+      ((j : ℕ) → width ≤ j → bit_of (set words (k / 64) (bit_and x (2 ^ 64 - 1 - 1 * 2 ^ (k % 64) % 2 ^ 64))) j ≡ false)
   clear_unused u = put_unused width words x (bit_and x (2 ^ 64 - 1 - 1 * 2 ^ (k % 64) % 2 ^ 64)) k false inside n u r (clear_put x (k % 64) (mod_below k 64 (omega arith)))

@@ -31,7 +31,8 @@ common_bit : (xs ys : List ℕ) (k : ℕ) → length xs ≡ length ys → bit_of
 common_bit xs ys k e =
     let x = get_or xs (k / 64) 0 in
     let y = get_or ys (k / 64) 0 in
-    ap (λ w. bit_at w (k % 64) == 1) (common_word xs ys (k / 64) e) ∙ ap (λ d. d == 1) (bit_at_and x y (k % 64)) ∙ both_bits (bit_at x (k % 64)) (bit_at y (k % 64)) (bit_at-lt x (k % 64)) (bit_at-lt y (k % 64))
+    ap (λ w. bit_at w (k % 64) == 1) (common_word xs ys (k / 64) e) ∙ ap (λ d. d == 1) (bit_at_and x y (k % 64)) ∙
+    both_bits (bit_at x (k % 64)) (bit_at y (k % 64)) (bit_at-lt x (k % 64)) (bit_at-lt y (k % 64))
 
 both_length : (xs ys : List Bool) → length xs ≡ length ys → length (both xs ys) ≡ length xs
 both_length [] ys e = refl

@@ -14,7 +14,8 @@ pub record IsPartlyKept {X : Type 0} (marks : List Bool) (rows now : List X) (ke
   pub front : take kept now ≡ unmarked (take k marks) (take k rows)
   pub back : drop k now ≡ drop k rows
 
-unmarked_push : {X : Type 0} (marks : List Bool) (rows : List X) (m : Bool) (r : X) → length marks ≡ length rows → unmarked (marks ++ m ∷ []) (rows ++ r ∷ []) ≡ unmarked marks rows ++ cond m [] (r ∷ [])
+unmarked_push : {X : Type 0} (marks : List Bool) (rows : List X) (m : Bool) (r : X) → length marks ≡ length rows →
+    unmarked (marks ++ m ∷ []) (rows ++ r ∷ []) ≡ unmarked marks rows ++ cond m [] (r ∷ [])
 unmarked_push [] [] true r e = refl
 unmarked_push [] [] false r e = refl
 unmarked_push [] (x ∷ rows) m r e = absurd (omega (arith, e))
@@ -62,15 +63,18 @@ swapped_back now next kept k d h l e =
 pub kept_start : {X : Type 0} (marks : List Bool) (rows now : List X) → now ≡ rows → IsPartlyKept marks rows now 0 0
 kept_start marks rows now e = record { inside = omega arith; same_length = ap length e; front = refl; back = e }
 
-pub kept_gone : {X : Type 0} (marks : List Bool) (rows now : List X) (kept k : ℕ) (d : X) → length marks ≡ length rows → k < length rows → value_at marks k ≡ true → IsPartlyKept marks rows now kept k → IsPartlyKept marks rows now kept (k + 1)
+pub kept_gone : {X : Type 0} (marks : List Bool) (rows now : List X) (kept k : ℕ) (d : X) → length marks ≡ length rows → k < length rows → value_at marks k ≡ true →
+    IsPartlyKept marks rows now kept k → IsPartlyKept marks rows now kept (k + 1)
 kept_gone marks rows now kept k d e h t p = record {
   inside = omega (arith, p.inside);
   same_length = p.same_length;
-  front = p.front ∙ sym (append-nil (unmarked (take k marks) (take k rows))) ∙ ap (λ b. unmarked (take k marks) (take k rows) ++ cond b [] (get_or rows k d ∷ [])) (sym t) ∙ sym (unmarked_more marks rows k d e h);
+  front = p.front ∙ sym (append-nil (unmarked (take k marks) (take k rows))) ∙ ap (λ b. unmarked (take k marks) (take k rows) ++ cond b [] (get_or rows k d ∷ [])) (sym t) ∙
+      sym (unmarked_more marks rows k d e h);
   back = later_same rows now k p.back;
 }
 
-pub kept_stays : {X : Type 0} (marks : List Bool) (rows now next : List X) (kept k : ℕ) (d : X) → length marks ≡ length rows → k < length rows → value_at marks k ≡ false → next ≡ swap now kept k → IsPartlyKept marks rows now kept k → IsPartlyKept marks rows next (kept + 1) (k + 1)
+pub kept_stays : {X : Type 0} (marks : List Bool) (rows now next : List X) (kept k : ℕ) (d : X) → length marks ≡ length rows → k < length rows → value_at marks k ≡ false → next ≡ swap now kept k →
+    IsPartlyKept marks rows now kept k → IsPartlyKept marks rows next (kept + 1) (k + 1)
 kept_stays marks rows now next kept k d e h t s p =
     let l : k < length now = omega (arith, h, p.same_length) in
     record {
@@ -81,7 +85,8 @@ kept_stays marks rows now next kept k d e h t s p =
       back = swapped_back now next kept k d p.inside l s ∙ later_same rows now k p.back;
     }
 
-pub kept_end : {X : Type 0} (marks : List Bool) (rows now end : List X) (kept k : ℕ) → length marks ≡ length rows → k ≡ length rows → end ≡ take kept now → IsPartlyKept marks rows now kept k → end ≡ unmarked marks rows
+pub kept_end : {X : Type 0} (marks : List Bool) (rows now end : List X) (kept k : ℕ) → length marks ≡ length rows → k ≡ length rows → end ≡ take kept now → IsPartlyKept marks rows now kept k →
+    end ≡ unmarked marks rows
 kept_end marks rows now end kept k e h t p =
     t ∙ p.front ∙ ap (λ ms. unmarked ms (take k rows)) (take_all k marks (omega (arith, e, h))) ∙ ap (unmarked marks) (take_all k rows (omega (arith, h)))
 

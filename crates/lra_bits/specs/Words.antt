@@ -17,7 +17,8 @@ unpacked width words = map (bit_of words) (range_with_len 0 width)
 abbrev pub words_needed : ℕ → ℕ
 words_needed width = (width + 63) / 64
 
--- The words hold the truth values: there are as many as are needed, each value stands at its place, and each bit that is not used is 0.
+-- The words hold the truth values: there are as many as are needed, each value stands at its place, and each bit that
+-- is not used is 0.
 pub record ArePacked (values : List Bool) (words : List ℕ) : Type 0 where
   pub count : length words ≡ words_needed (length values)
   pub each : (k : ℕ) → bit_of words k ≡ value_at values k

@@ -1,6 +1,7 @@
 //! Lists of truth values as words.
 
-ghost use Rattle.std.specs.Prelude.{◌≡◌, ℕ, ◌<◌, ◌≤◌, ◌↔◌, Bool, true, false, List, length, replicate, slice_set, IfOk, IsTrue};
+ghost use Rattle.std.specs.Prelude.{◌≡◌, ℕ, ◌<◌, ◌≤◌, ◌↔◌, Bool, true, false, List, length, replicate, slice_set, IfOk};
+ghost use Rattle.std.specs.Prelude.{IsTrue};
 ghost use Rattle.lra_bits.specs.TruthValues.{value_at, IsSubset, both};
 ghost use Rattle.lra_bits.specs.Words.{bit_of, unpacked, words_needed, ArePacked};
 
@@ -22,7 +23,8 @@ impl Model for BitRow {
 
     ghost view = { λ r. unpacked r.width r.words.items };
 
-    ghost invariant = { λ r. (length r.words.items ≡ words_needed r.width) × ((k : ℕ) → r.width ≤ k → bit_of r.words.items k ≡ false) };
+    ghost invariant = { λ r. (length r.words.items ≡ words_needed r.width) ×
+        ((k : ℕ) → r.width ≤ k → bit_of r.words.items k ≡ false) };
 }
 
 impl BitRow {

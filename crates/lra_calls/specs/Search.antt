@@ -1,11 +1,13 @@
 -- Which places are come to, and how a search comes to them.
-use Rattle.std.specs.Prelude.{◌≡◌, ◌<◌, ◌+◌, ◌⊎◌, ℕ, Bool, true, false, List, length, slice_index_or, slice_get, Some, Contains}
+use Rattle.std.specs.Prelude.{◌≡◌, ◌<◌, ◌+◌, ◌⊎◌, ℕ, Bool, true, false, List, length, slice_index_or, slice_get, Some}
+use Rattle.std.specs.Prelude.{Contains}
 use Rattle.std.specs.List.{sum_by}
 
 -- those that a search begins with, and those in the row of one that is come to
 pub data Comes (rows : List (List ℕ)) (start : List ℕ) : ℕ → Type 0 where
   begins : (k : ℕ) → k < length rows → Contains start k → Comes rows start k
-  goes_on : (j k : ℕ) (row : List ℕ) → k < length rows → Comes rows start j → slice_get rows j ≡ Some row → Contains row k
+  goes_on : (j k : ℕ) (row : List ℕ) → k < length rows → Comes rows start j → slice_get rows j ≡ Some row →
+      Contains row k
       → Comes rows start k
 
 -- marked in a list of truth values
@@ -39,5 +41,6 @@ pub record IsUnderWay (rows : List (List ℕ)) (start : List ℕ) (met : List Bo
   pub sound : (k : ℕ) → IsMet met k → Comes rows start k
   pub begun : (k : ℕ) → k < length rows → Contains start k → IsMet met k
   pub closed : (j : ℕ) → IsMet met j
-      → Contains open_ones j ⊎ ((row : List ℕ) (k : ℕ) → slice_get rows j ≡ Some row → k < length rows → Contains row k → IsMet met k)
+      → Contains open_ones j ⊎ ((row : List ℕ) (k : ℕ) → slice_get rows j ≡ Some row → k < length rows →
+      Contains row k → IsMet met k)
   pub open_met : (k : ℕ) → Contains open_ones k → IsMet met k

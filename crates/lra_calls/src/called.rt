@@ -2,10 +2,12 @@
 
 ghost use Rattle.std.specs.Prelude.{◌≡◌, [], ◌∷◌, ◌++◌, List, map, option_map, option_to_list, IfOk};
 ghost use Rattle.lra_tree.specs.Trees.{ItemsTree, PartTree};
-ghost use Rattle.lra_tree.specs.Views.{source_view, assign_view, declarator_view, init_view, item_view, stmt_view, block_view, function_view, part_view};
+ghost use Rattle.lra_tree.specs.Views.{source_view, assign_view, declarator_view, init_view, item_view, stmt_view};
+ghost use Rattle.lra_tree.specs.Views.{block_view, function_view, part_view};
 ghost use Rattle.lra_tree.specs.Scope.{functions_in};
 ghost use Rattle.lra_tree.specs.Labels.{called_in, called_of, called_by};
-ghost use Rattle.lra_calls.specs.Called.{declarators_calls, init_calls, step_calls, stmt_calls, items_calls, caller_of, caller_view};
+ghost use Rattle.lra_calls.specs.Called.{declarators_calls, init_calls, step_calls, stmt_calls, items_calls, caller_of};
+ghost use Rattle.lra_calls.specs.Called.{caller_view};
 
 use lra_tree::{
     Assign, Block, BlockItem, Declaration, Function, Identifier, Init, Item, Source, Stmt, Word,
@@ -33,7 +35,8 @@ fn add_name(alloc: Global, name: &Identifier, calls: &mut Vec<Identifier>) -> Re
 }
 
 fn add_source(alloc: Global, source: &Source, calls: &mut Vec<Identifier>) -> Result<(), AllocError>
-    ensures { IfOk result (λ _. calls.new.items ≡ calls.old.items ++ option_to_list (called_in (source_view source.now))) }
+    ensures { IfOk result (λ _. calls.new.items ≡ calls.old.items ++
+        option_to_list (called_in (source_view source.now))) }
 {
     match source {
         Source::Value(_) => Ok(()),
@@ -46,7 +49,8 @@ fn add_given(
     source: &Option<Source>,
     calls: &mut Vec<Identifier>,
 ) -> Result<(), AllocError>
-    ensures { IfOk result (λ _. calls.new.items ≡ calls.old.items ++ option_to_list (called_of (option_map source_view source.now))) }
+    ensures { IfOk result (λ _. calls.new.items ≡ calls.old.items ++
+        option_to_list (called_of (option_map source_view source.now))) }
 {
     match source {
         None => Ok(()),
@@ -55,7 +59,8 @@ fn add_given(
 }
 
 fn add_assign(alloc: Global, assign: &Assign, calls: &mut Vec<Identifier>) -> Result<(), AllocError>
-    ensures { IfOk result (λ _. calls.new.items ≡ calls.old.items ++ option_to_list (called_by (assign_view assign.now))) }
+    ensures { IfOk result (λ _. calls.new.items ≡ calls.old.items ++
+        option_to_list (called_by (assign_view assign.now))) }
 {
     match assign {
         Assign::Set(_, source) => add_source(alloc, source, calls),
@@ -70,7 +75,8 @@ fn add_declaration(
     declaration: &Declaration,
     calls: &mut Vec<Identifier>,
 ) -> Result<(), AllocError>
-    ensures { IfOk result (λ _. calls.new.items ≡ calls.old.items ++ declarators_calls (declarator_view declaration.now.first ∷ map declarator_view declaration.now.rest.items)) }
+    ensures { IfOk result (λ _. calls.new.items ≡ calls.old.items ++
+        declarators_calls (declarator_view declaration.now.first ∷ map declarator_view declaration.now.rest.items)) }
 {
     add_given(alloc, &declaration.first.source, calls)?;
     'declarators: for declarator in &declaration.rest {
@@ -109,7 +115,8 @@ fn add_head(
     step: &Option<Assign>,
     calls: &mut Vec<Identifier>,
 ) -> Result<(), AllocError>
-    ensures { IfOk result (λ _. calls.new.items ≡ calls.old.items ++ (init_calls (init_view init.now) ++ step_calls (option_map assign_view step.now))) }
+    ensures { IfOk result (λ _. calls.new.items ≡ calls.old.items ++
+        (init_calls (init_view init.now) ++ step_calls (option_map assign_view step.now))) }
 {
     add_init(alloc, init, calls)?;
     add_step(alloc, step, calls)
@@ -144,7 +151,8 @@ fn add_stmt(alloc: Global, stmt: &Stmt, calls: &mut Vec<Identifier>) -> Result<(
 
 #[cycle(statement)]
 fn add_item(alloc: Global, item: &BlockItem, calls: &mut Vec<Identifier>) -> Result<(), AllocError>
-    ensures { IfOk result (λ _. (rest : ItemsTree) → calls.new.items ++ items_calls rest ≡ calls.old.items ++ items_calls (item_view item.now rest)) }
+    ensures { IfOk result (λ _. (rest : ItemsTree) → calls.new.items ++ items_calls rest ≡
+        calls.old.items ++ items_calls (item_view item.now rest)) }
 {
     match item {
         BlockItem::Declaration(declaration) => add_declaration(alloc, declaration, calls),
@@ -172,7 +180,9 @@ fn read_caller(alloc: Global, function: &Function) -> Result<Caller, AllocError>
 }
 
 fn add_part(alloc: Global, item: &Item, callers: &mut Vec<Caller>) -> Result<(), AllocError>
-    ensures { IfOk result (λ _. (rest : List PartTree) → map caller_view callers.new.items ++ map caller_of (functions_in rest) ≡ map caller_view callers.old.items ++ map caller_of (functions_in (part_view item.now ∷ rest))) }
+    ensures { IfOk result (λ _. (rest : List PartTree) →
+        map caller_view callers.new.items ++ map caller_of (functions_in rest) ≡
+        map caller_view callers.old.items ++ map caller_of (functions_in (part_view item.now ∷ rest))) }
 {
     match item {
         Item::Prototype => Ok(()),

@@ -14,7 +14,8 @@ pub fn add_places(
     name: &Word,
     places: &mut Vec<usize>,
 ) -> Result<(), AllocError>
-    ensures { IfOk result (λ _. places.new.items ≡ places.old.items ++ places_of (map caller_view callers.now) name.now) }
+    ensures { IfOk result (λ _. places.new.items ≡ places.old.items ++
+        places_of (map caller_view callers.now) name.now) }
 {
     'callers: for (place, caller) in callers.iter().enumerate() {
         if caller.name.as_slice() == name.as_slice() {

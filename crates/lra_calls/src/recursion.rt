@@ -41,7 +41,9 @@ fn first_back(
     calls: &[Identifier],
 ) -> Result<Option<Place>, AllocError>
     requires { map (λ row. row.items) rows.now ≡ rows_of (map caller_view callers.now) }
-    ensures { IfOk result (λ o. MatchOption o (AllByRecursion (λ c. IsBack (map caller_view callers.now) place c → ⊥) calls.now) (IsFirstBack (map caller_view callers.now) place calls.now)) }
+    ensures { IfOk result (λ o. MatchOption o (AllByRecursion
+        (λ c. IsBack (map caller_view callers.now) place c → ⊥) calls.now)
+        (IsFirstBack (map caller_view callers.now) place calls.now)) }
 {
     'calls: for call in calls {
         if is_back(alloc, callers, rows, place, call)? {
@@ -53,7 +55,8 @@ fn first_back(
 
 /// The place of the first call, in text order, whose callee reaches the function that holds it.
 pub fn first_recursive(alloc: Global, tree: &Tree) -> Result<Option<Place>, AllocError>
-    ensures { IfOk result (λ o. MatchOption o (NotRecursive (tree_view tree.now)) (IsFirstRecursive (tree_view tree.now))) }
+    ensures { IfOk result (λ o. MatchOption o (NotRecursive (tree_view tree.now))
+        (IsFirstRecursive (tree_view tree.now))) }
 {
     let callers = callers(alloc, &tree.items)?;
     let rows = rows(alloc, &callers)?;

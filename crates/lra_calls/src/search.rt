@@ -15,7 +15,8 @@ struct Search {
 impl Search {
     /// Meets a place.
     fn meet(&mut self, place: usize) -> Result<(), AllocError>
-        ensures { IfOk result (λ _. Grows (place ∷ []) self.old.met.items self.old.left.items self.new.met.items self.new.left.items) }
+        ensures { IfOk result (λ _. Grows (place ∷ []) self.old.met.items self.old.left.items self.new.met.items
+            self.new.left.items) }
     {
         if place < self.met.len() && !self.met[place] {
             self.left.push(place)?;
@@ -26,7 +27,8 @@ impl Search {
 
     /// Meets places.
     fn meet_all(&mut self, places: &[usize]) -> Result<(), AllocError>
-        ensures { IfOk result (λ _. Grows places.now self.old.met.items self.old.left.items self.new.met.items self.new.left.items) }
+        ensures { IfOk result (λ _. Grows places.now self.old.met.items self.old.left.items self.new.met.items
+            self.new.left.items) }
     {
         'places: for place in places {
             self.meet(*place)?;

@@ -1,5 +1,6 @@
 -- Worked rows, by the definitions.
-use Rattle.std.proofs.Common.{◌≡◌, ◌↔◌, ℕ, zero, suc, ◌<◌, ◌^◌, ◌-◌, true, false, List, [], ◌∷◌, length, get_or, refl, ap, sym, ◌∙◌, subst, pos, negsuc, ℤ, ◌+ℤ◌, ◌*ℤ◌, ◌≤ℤ◌, Ok, arith, inl, inr, true≢false}
+use Rattle.std.proofs.Common.{◌≡◌, ◌↔◌, ℕ, zero, suc, ◌<◌, ◌^◌, ◌-◌, true, false, List, [], ◌∷◌, length, get_or, refl, ap, sym, ◌∙◌, subst, pos, negsuc, ℤ, ◌+ℤ◌, ◌*ℤ◌, ◌≤ℤ◌, Ok, arith, inl, inr}
+use Rattle.std.proofs.Common.{true≢false}
 use Rattle.std.specs.List.{Contains}
 use Rattle.std.specs.declared.cmp.Ordering.TheVariants.{Less}
 use Rattle.std.proofs.lemmas.Int.{ints}
@@ -57,7 +58,12 @@ greatest_passes = record { earlier = []; line = sloped; later = []; is = refl; l
 
 -- three rows of three columns
 pub three_wide : (a b c : List ℤ) → length a ≡ 3 → length b ≡ 3 → length c ≡ 3 → HaveOneWidth (a ∷ b ∷ c ∷ [])
-three_wide a b c la lb lc = (3, omega arith, All-cons (λ (r : List ℤ). length r ≡ 3) a (b ∷ c ∷ []) la (All-cons (λ (r : List ℤ). length r ≡ 3) b (c ∷ []) lb (All-cons (λ (r : List ℤ). length r ≡ 3) c [] lc (λ k d h. absurd (omega (arith, h))))))
+three_wide a b c la lb lc = (
+  3,
+  omega arith,
+  All-cons (λ (r : List ℤ). length r ≡ 3) a (b ∷ c ∷ []) la
+      (All-cons (λ (r : List ℤ). length r ≡ 3) b (c ∷ []) lb (All-cons (λ (r : List ℤ). length r ≡ 3) c [] lc (λ k d h. absurd (omega (arith, h))))),
+)
 
 -- ---- the half-line x1 >= 0 with its origin and its ray: x1 >= 0 is tight at the origin, the positivity row at the ray, and
 -- 1 + x1 >= 0 nowhere
@@ -90,9 +96,11 @@ half_line_saturation = record {
   widths = each_of_two (λ (g : Given). length g.row ≡ 2) (generator (pos 1 ∷ pos 0 ∷ [])) (generator (pos 0 ∷ pos 1 ∷ [])) refl refl;
   described = λ u l. (made u l, λ g. ((λ r k. absurd (contains_none r k)), met u g));
   reduced = λ r line k m. absurd (contains_none line m);
-  lowest = each_of_three IsPrimitive (pos 0 ∷ pos 1 ∷ []) (pos 1 ∷ pos 0 ∷ []) (pos 1 ∷ pos 1 ∷ []) (primitive_at (pos 0 ∷ pos 1 ∷ []) 1 refl) (primitive_at (pos 1 ∷ pos 0 ∷ []) 0 refl) (primitive_at (pos 1 ∷ pos 1 ∷ []) 0 refl);
+  lowest = each_of_three IsPrimitive (pos 0 ∷ pos 1 ∷ []) (pos 1 ∷ pos 0 ∷ []) (pos 1 ∷ pos 1 ∷ []) (primitive_at (pos 0 ∷ pos 1 ∷ []) 1 refl) (primitive_at (pos 1 ∷ pos 0 ∷ []) 0 refl)
+      (primitive_at (pos 1 ∷ pos 1 ∷ []) 0 refl);
   loose = each_of_three (λ (r : List ℤ). ¬ ((g : Given) → Contains half_line g → product r g.row ≡ pos 0)) (pos 0 ∷ pos 1 ∷ []) (pos 1 ∷ pos 0 ∷ []) (pos 1 ∷ pos 1 ∷ [])
-      (λ h. not_two (pos 1) refl (h (generator (pos 0 ∷ pos 1 ∷ [])) second)) (λ h. not_two (pos 1) refl (h (generator (pos 1 ∷ pos 0 ∷ [])) first)) (λ h. not_two (pos 1) refl (h (generator (pos 1 ∷ pos 0 ∷ [])) first));
+      (λ h. not_two (pos 1) refl (h (generator (pos 0 ∷ pos 1 ∷ [])) second)) (λ h. not_two (pos 1) refl (h (generator (pos 1 ∷ pos 0 ∷ [])) first))
+      (λ h. not_two (pos 1) refl (h (generator (pos 1 ∷ pos 0 ∷ [])) first));
   columns = as_many;
   tight = told;
 }
@@ -135,21 +143,27 @@ half_line_saturation = record {
     made (a ∷ []) l s = absurd (omega (arith, l))
     made (a ∷ b ∷ c ∷ u) l s = absurd (omega (arith, l))
     made (a ∷ b ∷ []) l s =
-        let x = as_nat a (subst (λ z. pos 0 ≤ℤ z) (ring (v (pos 1) ⊗ v a ⊕ (v (pos 0) ⊗ v b ⊕ v (pos 0))) (v a) (omega arith)) (s.1 (pos 1 ∷ pos 0 ∷ []) (contains_tail (pos 0 ∷ pos 1 ∷ []) (pos 1 ∷ pos 0 ∷ []) ((pos 1 ∷ pos 0 ∷ []) ∷ (pos 1 ∷ pos 1 ∷ []) ∷ []) (contains_head (pos 1 ∷ pos 0 ∷ []) ((pos 1 ∷ pos 1 ∷ []) ∷ []))))) in
-        let y = as_nat b (subst (λ z. pos 0 ≤ℤ z) (ring (v (pos 0) ⊗ v a ⊕ (v (pos 1) ⊗ v b ⊕ v (pos 0))) (v b) (omega arith)) (s.1 (pos 0 ∷ pos 1 ∷ []) (contains_head (pos 0 ∷ pos 1 ∷ []) ((pos 1 ∷ pos 0 ∷ []) ∷ (pos 1 ∷ pos 1 ∷ []) ∷ [])))) in
+        let x = as_nat a (subst (λ z. pos 0 ≤ℤ z) (ring (v (pos 1) ⊗ v a ⊕ (v (pos 0) ⊗ v b ⊕ v (pos 0))) (v a) (omega arith))
+        (s.1 (pos 1 ∷ pos 0 ∷ []) (contains_tail (pos 0 ∷ pos 1 ∷ []) (pos 1 ∷ pos 0 ∷ []) ((pos 1 ∷ pos 0 ∷ []) ∷ (pos 1 ∷ pos 1 ∷ []) ∷ [])
+        (contains_head (pos 1 ∷ pos 0 ∷ []) ((pos 1 ∷ pos 1 ∷ []) ∷ []))))) in
+        let y = as_nat b (subst (λ z. pos 0 ≤ℤ z) (ring (v (pos 0) ⊗ v a ⊕ (v (pos 1) ⊗ v b ⊕ v (pos 0))) (v b) (omega arith))
+        (s.1 (pos 0 ∷ pos 1 ∷ []) (contains_head (pos 0 ∷ pos 1 ∷ []) ((pos 1 ∷ pos 0 ∷ []) ∷ (pos 1 ∷ pos 1 ∷ []) ∷ [])))) in
         record { multiple = 1; positive = omega arith; free = []; factors = x.0 ∷ y.0 ∷ []; is_sum = λ j. column a b x.0 y.0 x.1 y.1 j }
       where
-        column : (a b : ℤ) (m n : ℕ) → a ≡ pos m → b ≡ pos n → (j : ℕ) → pos 1 *ℤ entry (a ∷ b ∷ []) j ≡ pos 0 +ℤ ((pos m *ℤ entry (pos 1 ∷ pos 0 ∷ []) j) +ℤ ((pos n *ℤ entry (pos 0 ∷ pos 1 ∷ []) j) +ℤ pos 0))
+        column : (a b : ℤ) (m n : ℕ) → a ≡ pos m → b ≡ pos n → (j : ℕ) → pos 1 *ℤ entry (a ∷ b ∷ []) j ≡
+            pos 0 +ℤ ((pos m *ℤ entry (pos 1 ∷ pos 0 ∷ []) j) +ℤ ((pos n *ℤ entry (pos 0 ∷ pos 1 ∷ []) j) +ℤ pos 0))
         column a b m n e f zero = ap (λ z. pos 1 *ℤ z) e ∙ ring (v (pos 1) ⊗ v (pos m)) (v (pos 0) ⊕ (v (pos m) ⊗ v (pos 1) ⊕ (v (pos n) ⊗ v (pos 0) ⊕ v (pos 0)))) (omega arith)
         column a b m n e f (suc zero) = ap (λ z. pos 1 *ℤ z) f ∙ ring (v (pos 1) ⊗ v (pos n)) (v (pos 0) ⊕ (v (pos m) ⊗ v (pos 0) ⊕ (v (pos n) ⊗ v (pos 1) ⊕ v (pos 0)))) (omega arith)
         column a b m n e f (suc (suc j)) = ring (v (pos 1) ⊗ v (pos 0)) (v (pos 0) ⊕ (v (pos m) ⊗ v (pos 0) ⊕ (v (pos n) ⊗ v (pos 0) ⊕ v (pos 0)))) (omega arith)
 
     met : (u : List ℤ) → Gen half_line u → (r : List ℤ) → Contains at_least r → pos 0 ≤ℤ product r u
     met u g = each_of_three (λ (r : List ℤ). pos 0 ≤ℤ product r u) (pos 0 ∷ pos 1 ∷ []) (pos 1 ∷ pos 0 ∷ []) (pos 1 ∷ pos 1 ∷ [])
-        (at (pos 0 ∷ pos 1 ∷ []) (omega (arith, ints)) (omega (arith, ints))) (at (pos 1 ∷ pos 0 ∷ []) (omega (arith, ints)) (omega (arith, ints))) (at (pos 1 ∷ pos 1 ∷ []) (omega (arith, ints)) (omega (arith, ints)))
+        (at (pos 0 ∷ pos 1 ∷ []) (omega (arith, ints)) (omega (arith, ints))) (at (pos 1 ∷ pos 0 ∷ []) (omega (arith, ints)) (omega (arith, ints)))
+        (at (pos 1 ∷ pos 1 ∷ []) (omega (arith, ints)) (omega (arith, ints)))
       where
         at : (r : List ℤ) → pos 0 ≤ℤ product r (pos 1 ∷ pos 0 ∷ []) → pos 0 ≤ℤ product r (pos 0 ∷ pos 1 ∷ []) → pos 0 ≤ℤ product r u
-        at r p q = generated_nonneg r ((pos 1 ∷ pos 0 ∷ []) ∷ (pos 0 ∷ pos 1 ∷ []) ∷ []) (entry u) (each_of_two (λ (t : List ℤ). pos 0 ≤ℤ product r t) (pos 1 ∷ pos 0 ∷ []) (pos 0 ∷ pos 1 ∷ []) p q) (gen_generated half_line (entry u) g)
+        at r p q = generated_nonneg r ((pos 1 ∷ pos 0 ∷ []) ∷ (pos 0 ∷ pos 1 ∷ []) ∷ []) (entry u) (each_of_two (λ (t : List ℤ). pos 0 ≤ℤ product r t) (pos 1 ∷ pos 0 ∷ []) (pos 0 ∷ pos 1 ∷ []) p q)
+            (gen_generated half_line (entry u) g)
 
 -- ---- orders
 -- of inequalities with one pivot the greater stands first; column 0 decides last

@@ -1,5 +1,6 @@
 -- Chains of reduction, a line of the form at a time.
-use Rattle.std.proofs.Common.{◌≡◌, ◌≢◌, ℕ, zero, suc, ◌+◌, ◌*◌, ◌<◌, ◌≤◌, List, [], ◌∷◌, ◌++◌, length, get_or, refl, ap, sym, ◌∙◌, subst, pos, ℤ, ◌+ℤ◌, ◌*ℤ◌, neg_ℤ, ◌<ℤ◌, arith, inl, inr, Ok, length-append, FitsSigned, of_z, to_z, take, drop}
+use Rattle.std.proofs.Common.{◌≡◌, ◌≢◌, ℕ, zero, suc, ◌+◌, ◌*◌, ◌<◌, ◌≤◌, List, [], ◌∷◌, ◌++◌, length, get_or, refl, ap, sym, ◌∙◌, subst, pos, ℤ, ◌+ℤ◌, ◌*ℤ◌, neg_ℤ, ◌<ℤ◌, arith, inl, inr, Ok}
+use Rattle.std.proofs.Common.{length-append, FitsSigned, of_z, to_z, take, drop}
 use Rattle.std.specs.Int.{w128}
 use Rattle.std.proofs.lemmas.Bool.{cases_lt}
 use Rattle.std.proofs.lemmas.Int.{ints, to_z-of_z}
@@ -25,13 +26,16 @@ use Rattle.lra_row.specs.Rows.{IsExcessOf}
 use Rattle.lra_canon.specs.Reduced.{IsForm, IsAlong, IsReducedBy, IsCleared, IsClearingExcess, Clears, FirstPassing, IsChainEnd, IsFirstExcess, IsReductionExcess}
 
 -- ---- one step
-pub step_entry : (line r next : List ℤ) → length r ≡ length line → (s : ClearingStep line r next) → (j : ℕ) → pos s.lowest.times *ℤ entry next j ≡ (entry line (pivot line) *ℤ entry r j) +ℤ (neg_ℤ (entry r (pivot line)) *ℤ entry line j)
+pub step_entry : (line r next : List ℤ) → length r ≡ length line → (s : ClearingStep line r next) → (j : ℕ) →
+    pos s.lowest.times *ℤ entry next j ≡ (entry line (pivot line) *ℤ entry r j) +ℤ (neg_ℤ (entry r (pivot line)) *ℤ entry line j)
 step_entry line r next e s j =
-    s.lowest.is_multiple j ∙ ap (λ (x : List ℤ). entry x j) (checked_blend_is (entry line (pivot line)) (neg_ℤ (entry r (pivot line))) r line s.sum s.made) ∙ entry_blend (entry line (pivot line)) (neg_ℤ (entry r (pivot line))) r line e j
+    s.lowest.is_multiple j ∙ ap (λ (x : List ℤ). entry x j) (checked_blend_is (entry line (pivot line)) (neg_ℤ (entry r (pivot line))) r line s.sum s.made) ∙
+    entry_blend (entry line (pivot line)) (neg_ℤ (entry r (pivot line))) r line e j
 
 pub step_length : (line r next : List ℤ) → length r ≡ length line → ClearingStep line r next → length next ≡ length r
 step_length line r next e s =
-    s.lowest.same_length ∙ ap length (checked_blend_is (entry line (pivot line)) (neg_ℤ (entry r (pivot line))) r line s.sum s.made) ∙ blend_length (entry line (pivot line)) (neg_ℤ (entry r (pivot line))) r line e
+    s.lowest.same_length ∙ ap length (checked_blend_is (entry line (pivot line)) (neg_ℤ (entry r (pivot line))) r line s.sum s.made) ∙
+    blend_length (entry line (pivot line)) (neg_ℤ (entry r (pivot line))) r line e
 
 -- 0 at the pivot
 pub step_zero : (line r next : List ℤ) → length r ≡ length line → ClearingStep line r next → entry next (pivot line) ≡ pos 0
@@ -46,7 +50,8 @@ step_keeps line r next e s q h k =
     let a = entry line (pivot line) in
     let x = entry r (pivot line) in
     no_product s.lowest.times (entry next q) s.lowest.positive
-    (step_entry line r next e s q ∙ ap (λ z. (a *ℤ z) +ℤ (neg_ℤ x *ℤ entry line q)) h ∙ ap (λ z. (a *ℤ pos 0) +ℤ (neg_ℤ x *ℤ z)) k ∙ ring (v a ⊗ v (pos 0) ⊕ ⊖ (v x) ⊗ v (pos 0)) (v (pos 0)) (omega arith))
+    (step_entry line r next e s q ∙ ap (λ z. (a *ℤ z) +ℤ (neg_ℤ x *ℤ entry line q)) h ∙ ap (λ z. (a *ℤ pos 0) +ℤ (neg_ℤ x *ℤ z)) k ∙
+    ring (v a ⊗ v (pos 0) ⊕ ⊖ (v x) ⊗ v (pos 0)) (v (pos 0)) (omega arith))
 
 clears_more : (form : List (List ℤ)) (line start now next : List ℤ) → Clears form start now → IsCleared line now next → Clears (form ++ line ∷ []) start next
 clears_more [] line start now next f c = (next, subst (λ (x : List ℤ). IsCleared line x next) f c, refl)
@@ -65,7 +70,8 @@ along_same form r t e = record {
 }
 
 -- a step by a row of the form
-along_step : (form : List (List ℤ)) (r line now next : List ℤ) → Contains form line → pos 0 <ℤ entry line (pivot line) → length now ≡ length line → ClearingStep line now next → IsAlong form r now → IsAlong form r next
+along_step : (form : List (List ℤ)) (r line now next : List ℤ) → Contains form line → pos 0 <ℤ entry line (pivot line) → length now ≡ length line → ClearingStep line now next → IsAlong form r now →
+    IsAlong form r next
 along_step form r line now next has here e s a =
     let p = as_nat (entry line (pivot line)) (positive_is_nonnegative (entry line (pivot line)) here) in
     let x = entry now (pivot line) in
@@ -77,9 +83,11 @@ along_step form r line now next has here e s a =
       line = λ j. (pos p.0 *ℤ a.line j) +ℤ ((pos a.times *ℤ neg_ℤ x) *ℤ entry line j);
       on_line = spanned_linear form (pos p.0) (pos a.times *ℤ neg_ℤ x) a.line (entry line) a.on_line (spanned_row form line has);
       is_sum = λ j.
-          ring (v (pos (a.times * s.lowest.times)) ⊗ v (entry next j)) (v (pos a.times) ⊗ (v (pos s.lowest.times) ⊗ v (entry next j))) (omega arith) ∙ ap (λ z. pos a.times *ℤ z) (step_entry line now next e s j) ∙
+          ring (v (pos (a.times * s.lowest.times)) ⊗ v (entry next j)) (v (pos a.times) ⊗ (v (pos s.lowest.times) ⊗ v (entry next j))) (omega arith) ∙
+          ap (λ z. pos a.times *ℤ z) (step_entry line now next e s j) ∙
           ap (λ z. pos a.times *ℤ ((z *ℤ entry now j) +ℤ (neg_ℤ x *ℤ entry line j))) p.1 ∙
-          ring (v (pos a.times) ⊗ (v (pos p.0) ⊗ v (entry now j) ⊕ ⊖ (v x) ⊗ v (entry line j))) (v (pos p.0) ⊗ (v (pos a.times) ⊗ v (entry now j)) ⊕ (v (pos a.times) ⊗ ⊖ (v x)) ⊗ v (entry line j)) (omega arith) ∙
+          ring (v (pos a.times) ⊗ (v (pos p.0) ⊗ v (entry now j) ⊕ ⊖ (v x) ⊗ v (entry line j))) (v (pos p.0) ⊗ (v (pos a.times) ⊗ v (entry now j)) ⊕ (v (pos a.times) ⊗ ⊖ (v x)) ⊗ v (entry line j))
+          (omega arith) ∙
           ap (λ z. (pos p.0 *ℤ z) +ℤ ((pos a.times *ℤ neg_ℤ x) *ℤ entry line j)) (a.is_sum j) ∙
           ring (v (pos p.0) ⊗ (v (pos a.other) ⊗ v (entry r j) ⊕ v (a.line j)) ⊕ (v (pos a.times) ⊗ ⊖ (v x)) ⊗ v (entry line j))
           (v (pos (p.0 * a.other)) ⊗ v (entry r j) ⊕ (v (pos p.0) ⊗ v (a.line j) ⊕ (v (pos a.times) ⊗ ⊖ (v x)) ⊗ v (entry line j))) (omega arith);
@@ -94,7 +102,8 @@ along_lowest form r now next l a = record {
   other_positive = a.other_positive;
   line = a.line;
   on_line = a.on_line;
-  is_sum = λ j. ring (v (pos (a.times * l.times)) ⊗ v (entry next j)) (v (pos a.times) ⊗ (v (pos l.times) ⊗ v (entry next j))) (omega arith) ∙ ap (λ z. pos a.times *ℤ z) (l.is_multiple j) ∙ a.is_sum j;
+  is_sum = λ j. ring (v (pos (a.times * l.times)) ⊗ v (entry next j)) (v (pos a.times) ⊗ (v (pos l.times) ⊗ v (entry next j))) (omega arith) ∙ ap (λ z. pos a.times *ℤ z) (l.is_multiple j) ∙
+      a.is_sum j;
 }
 
 -- ---- the loop
@@ -117,11 +126,13 @@ at_last : (form : List (List ℤ)) (i k : ℕ) (line next : List ℤ) → line �
 at_last form i k line next g h e z = ap (λ (x : List ℤ). entry next (pivot x)) (ap (λ n. get_or form n []) e ∙ sym (g ∙ get_same form i line h)) ∙ z
 
 -- the first rows with one more
-one_more : (form : List (List ℤ)) (i : ℕ) (line start now next : List ℤ) → i < length form → line ≡ get_or form i line → Clears (take i form) start now → IsCleared line now next → Clears (take (i + 1) form) start next
+one_more : (form : List (List ℤ)) (i : ℕ) (line start now next : List ℤ) → i < length form → line ≡ get_or form i line → Clears (take i form) start now → IsCleared line now next →
+    Clears (take (i + 1) form) start next
 one_more form i line start now next h g f c =
     subst (λ (rows : List (List ℤ)). Clears rows start next) (ap (λ (x : List ℤ). take i form ++ x ∷ []) g ∙ sym (take_more form i line h)) (clears_more (take i form) line start now next f c)
 
-pub partly_more : (form : List (List ℤ)) (i : ℕ) (start now line next : List ℤ) → IsForm form → i < length form → line ≡ get_or form i line → length line ≡ length start → IsPartly form i start now → IsCleared line now next → IsPartly form (i + 1) start next
+pub partly_more : (form : List (List ℤ)) (i : ℕ) (start now line next : List ℤ) → IsForm form → i < length form → line ≡ get_or form i line → length line ≡ length start → IsPartly form i start now →
+    IsCleared line now next → IsPartly form (i + 1) start next
 partly_more form i start now line next f h g w p (inl e) =
     record {
       clears = one_more form i line start now next h g p.clears (inl e);
@@ -141,7 +152,8 @@ partly_more form i start now line next f h g w p (inr s) =
       zeros = λ k l. elim (cases_lt k i) [
         | inl a ↦
             let apart : i ≢ k = omega arith in
-            step_keeps line now next (p.same_length ∙ sym w) s (pivot (get_or form k [])) (p.zeros k a) (ap (λ (x : List ℤ). entry x (pivot (get_or form k []))) (g ∙ get_same form i line h) ∙ echelon_apart_at form f.0 f.1 i k h (omega arith) apart)
+            step_keeps line now next (p.same_length ∙ sym w) s (pivot (get_or form k [])) (p.zeros k a)
+            (ap (λ (x : List ℤ). entry x (pivot (get_or form k []))) (g ∙ get_same form i line h) ∙ echelon_apart_at form f.0 f.1 i k h (omega arith) apart)
         | inr a ↦ at_last form i k line next g h (omega arith) (step_zero line now next (p.same_length ∙ sym w) s)
       ];
     }
@@ -154,7 +166,8 @@ split_at (x ∷ form) (suc i) line h g =
     let e : suc (i + 1) ≡ suc i + 1 = omega arith in
     ap (λ (rows : List (List ℤ)). x ∷ rows) (split_at form i line (omega (arith, h)) g) ∙ ap (λ n. take (suc i) (x ∷ form) ++ line ∷ drop n (x ∷ form)) e
 
-pub partly_first : (form : List (List ℤ)) (i : ℕ) (start now line : List ℤ) (e : RowError) → i < length form → line ≡ get_or form i line → IsPartly form i start now → IsClearingExcess line now e → IsFirstExcess form start e
+pub partly_first : (form : List (List ℤ)) (i : ℕ) (start now line : List ℤ) (e : RowError) → i < length form → line ≡ get_or form i line → IsPartly form i start now → IsClearingExcess line now e →
+    IsFirstExcess form start e
 partly_first form i start now line Memory h g p x = tt
 partly_first form i start now line (Excess e) h g p x =
     record { earlier = take i form; line = line; later = drop (i + 1) form; is = split_at form i line h g; last = now; clears = p.clears; cancels = x.0; passes = x.1 }
@@ -209,7 +222,8 @@ pub partly_chain : (form : List (List ℤ)) (i : ℕ) (start now end : List ℤ)
 partly_chain form i start now end e p l = (now, subst (λ (rows : List (List ℤ)). Clears rows start now) (take_all i form (omega (arith, e))) p.clears, l)
 
 -- ---- what the code computes in one step
-pub cleared_step : (line r sum next : List ℤ) (p : ℕ) (x a y : ℤ) → p ≡ pivot line → x ≡ entry r p → a ≡ entry line p → y ≡ neg_ℤ x → FitsSigned w128 x → ¬ (of_z w128 x ≡ 0) → checked_blend a y r line ≡ Ok sum → IsLowest sum next → ClearingStep line r next
+pub cleared_step : (line r sum next : List ℤ) (p : ℕ) (x a y : ℤ) → p ≡ pivot line → x ≡ entry r p → a ≡ entry line p → y ≡ neg_ℤ x → FitsSigned w128 x → ¬ (of_z w128 x ≡ 0) →
+    checked_blend a y r line ≡ Ok sum → IsLowest sum next → ClearingStep line r next
 cleared_step line r sum next p x a y e f g b fx n h l =
     let at_x : x ≡ entry r (pivot line) = f ∙ ap (λ j. entry r j) e in
     let at_a : a ≡ entry line (pivot line) = g ∙ ap (λ j. entry line j) e in
@@ -223,7 +237,8 @@ cleared_step line r sum next p x a y e f g b fx n h l =
 pub cleared_already : (line r : List ℤ) (p : ℕ) (x : ℤ) → p ≡ pivot line → x ≡ entry r p → FitsSigned w128 x → of_z w128 x ≡ 0 → (entry r (pivot line) ≡ pos 0) × (r ≡ r)
 cleared_already line r p x e f fx z = (sym (f ∙ ap (λ j. entry r j) e) ∙ sym (to_z-of_z w128 x fx) ∙ ap (to_z w128) z ∙ omega (arith, ints), refl)
 
-pub clearing_excess : (line r : List ℤ) (p : ℕ) (x a y : ℤ) (e : RowError) → p ≡ pivot line → x ≡ entry r p → a ≡ entry line p → y ≡ neg_ℤ x → FitsSigned w128 x → ¬ (of_z w128 x ≡ 0) → IsExcessOf (checked_blend a y r line) e → IsClearingExcess line r e
+pub clearing_excess : (line r : List ℤ) (p : ℕ) (x a y : ℤ) (e : RowError) → p ≡ pivot line → x ≡ entry r p → a ≡ entry line p → y ≡ neg_ℤ x → FitsSigned w128 x → ¬ (of_z w128 x ≡ 0) →
+    IsExcessOf (checked_blend a y r line) e → IsClearingExcess line r e
 clearing_excess line r p x a y Memory i f g b fx n h = tt
 clearing_excess line r p x a y (Excess e) i f g b fx n h =
     let at_x : x ≡ entry r (pivot line) = f ∙ ap (λ j. entry r j) i in

@@ -1,6 +1,7 @@
 -- Echelon forms row by row: the form of the first rows with one more row is that of one row more; of lists with the same solutions
 -- it is the same; and the first number that passes is a strain.
-use Rattle.std.proofs.Common.{◌≡◌, ℕ, ◌+◌, ◌<◌, List, [], ◌∷◌, ◌++◌, length, All, take, drop, get_or, refl, ap, sym, ◌∙◌, subst, pos, negsuc, ℤ, ◌+ℤ◌, ◌*ℤ◌, ◌<ℤ◌, neg_ℤ, arith, inl, inr, ◌⊎◌, Some, None}
+use Rattle.std.proofs.Common.{◌≡◌, ℕ, ◌+◌, ◌<◌, List, [], ◌∷◌, ◌++◌, length, All, take, drop, get_or, refl, ap, sym, ◌∙◌, subst, pos, negsuc, ℤ, ◌+ℤ◌, ◌*ℤ◌, ◌<ℤ◌, neg_ℤ, arith, inl, inr, ◌⊎◌, Some}
+use Rattle.std.proofs.Common.{None}
 use Rattle.std.specs.List.{Contains}
 use Rattle.std.proofs.lemmas.Int.{ints}
 use Rattle.std.proofs.lemmas.List.{take_more, take_all}
@@ -33,7 +34,8 @@ all_from P xs f = λ k d h. f (get_or xs k d) (Contains-get_or xs k d h)
 have_width : (w : ℕ) (rows : List (List ℤ)) → HaveWidth w rows → (r : List ℤ) → Contains rows r → length r ≡ w
 have_width w rows h r k = All-contains (λ (x : List ℤ). length x ≡ w) rows r h k
 
-cleared_widths : (w : ℕ) (line : List ℤ) (rows new : List (List ℤ)) → length line ≡ w → ((r : List ℤ) → Contains rows r → length r ≡ w) → AreCleared line rows new → (t : List ℤ) → Contains new t → length t ≡ w
+cleared_widths : (w : ℕ) (line : List ℤ) (rows new : List (List ℤ)) → length line ≡ w → ((r : List ℤ) → Contains rows r → length r ≡ w) → AreCleared line rows new → (t : List ℤ) → Contains new t →
+    length t ≡ w
 cleared_widths w line [] [] l h c t k = absurd (contains_none t k)
 cleared_widths w line [] (x ∷ new) l h c t k = absurd c
 cleared_widths w line (r ∷ rows) [] l h c t k = absurd c
@@ -90,7 +92,8 @@ row_spanned : (rows form : List (List ℤ)) (row rest : List ℤ) → IsAlong fo
 row_spanned rows form row rest a h g =
     spanned_divided rows a.other (entry row) a.other_positive
     (spanned_same rows (λ j. (pos a.times *ℤ entry rest j) +ℤ (negsuc 0 *ℤ a.line j)) (λ j. pos a.other *ℤ entry row j)
-    (λ j. ap (λ z. z +ℤ (negsuc 0 *ℤ a.line j)) (a.is_sum j) ∙ ring ((v (pos a.other) ⊗ v (entry row j) ⊕ v (a.line j)) ⊕ v (negsuc 0) ⊗ v (a.line j)) (v (pos a.other) ⊗ v (entry row j)) (omega arith))
+    (λ j. ap (λ z. z +ℤ (negsuc 0 *ℤ a.line j)) (a.is_sum j) ∙ ring ((v (pos a.other) ⊗ v (entry row j) ⊕ v (a.line j)) ⊕ v (negsuc 0) ⊗ v (a.line j)) (v (pos a.other) ⊗ v (entry row j))
+    (omega arith))
     (spanned_linear rows (pos a.times) (negsuc 0) (entry rest) a.line g (h a.line a.on_line)))
 
 more_spanned : (x : List ℤ) (form : List (List ℤ)) (u : ℕ → ℤ) → Spanned form u → Spanned (x ∷ form) u
@@ -103,20 +106,24 @@ pub record FormWith (form : List (List ℤ)) (row : List ℤ) (out : List (List 
   pub same : (u : ℕ → ℤ) → (Spanned out u → Spanned (row ∷ form) u) × (Spanned (row ∷ form) u → Spanned out u)
 
 -- a span with the line is one with the row
-line_for_row : (form : List (List ℤ)) (row rest line : List ℤ) → IsAlong form row rest → IsDirected rest (Some line) → (u : ℕ → ℤ) → (Spanned (line ∷ form) u → Spanned (row ∷ form) u) × (Spanned (row ∷ form) u → Spanned (line ∷ form) u)
+line_for_row : (form : List (List ℤ)) (row rest line : List ℤ) → IsAlong form row rest → IsDirected rest (Some line) → (u : ℕ → ℤ) → (Spanned (line ∷ form) u → Spanned (row ∷ form) u) ×
+    (Spanned (row ∷ form) u → Spanned (line ∷ form) u)
 line_for_row form row rest line a d u = (
   spanned_through (line ∷ form) (row ∷ form) u (λ t k. elim (contains_cases line t form k) [
-    | inl e ↦ subst (λ (x : List ℤ). Spanned (row ∷ form) (entry x)) e (line_spanned (row ∷ form) rest line d (reduced_spanned (row ∷ form) form row rest a (more_spanned row form) (spanned_head row form)))
+    | inl e ↦ subst (λ (x : List ℤ). Spanned (row ∷ form) (entry x)) e (line_spanned (row ∷ form) rest line d
+        (reduced_spanned (row ∷ form) form row rest a (more_spanned row form) (spanned_head row form)))
     | inr m ↦ spanned_row (row ∷ form) t (contains_tail row t form m)
   ]),
   spanned_through (row ∷ form) (line ∷ form) u (λ t k. elim (contains_cases row t form k) [
-    | inl e ↦ subst (λ (x : List ℤ). Spanned (line ∷ form) (entry x)) e (row_spanned (line ∷ form) form row rest a (more_spanned line form) (rest_spanned (line ∷ form) rest line d (spanned_head line form)))
+    | inl e ↦ subst (λ (x : List ℤ). Spanned (line ∷ form) (entry x)) e (row_spanned (line ∷ form) form row rest a (more_spanned line form)
+        (rest_spanned (line ∷ form) rest line d (spanned_head line form)))
     | inr m ↦ spanned_row (line ∷ form) t (contains_tail line t form m)
   ]),
 )
 
 -- the form with the line in its place, whatever list of cleared rows stands before it
-line_form : (form : List (List ℤ)) (row rest line : List ℤ) (low new high : List (List ℤ)) → IsForm form → IsReducedBy form row rest → IsDirected rest (Some line) → IsPlaced form line low high → ClearedRows line (pivot line) low new → FormWith form row (new ++ line ∷ high)
+line_form : (form : List (List ℤ)) (row rest line : List ℤ) (low new high : List (List ℤ)) → IsForm form → IsReducedBy form row rest → IsDirected rest (Some line) → IsPlaced form line low high →
+    ClearedRows line (pivot line) low new → FormWith form row (new ++ line ∷ high)
 line_form form row rest line low new high f r d p c =
     let x = placed_extension form line low new high f p d.0 (line_primitive rest line d r.lowest) (λ t k. line_zero rest line d (pivot t) (r.zeros t k)) c in
     record {
@@ -126,12 +133,14 @@ line_form form row rest line low new high f r d p c =
     }
 
 -- the low rows, cleared
-low_cleared : (form : List (List ℤ)) (line : List ℤ) (low new high : List (List ℤ)) → IsForm form → ((r : List ℤ) → Contains form r → length r ≡ length line) → pos 0 <ℤ entry line (pivot line) → IsPlaced form line low high → AreCleared line low new → ClearedRows line (pivot line) low new
+low_cleared : (form : List (List ℤ)) (line : List ℤ) (low new high : List (List ℤ)) → IsForm form → ((r : List ℤ) → Contains form r → length r ≡ length line) → pos 0 <ℤ entry line (pivot line) →
+    IsPlaced form line low high → AreCleared line low new → ClearedRows line (pivot line) low new
 low_cleared form line low new high f w h p c =
     let inside : (r : List ℤ) → Contains low r → Contains form r = λ r k. subst (λ (rows : List (List ℤ)). Contains rows r) (sym p.is) (Contains-append_left low high r k) in
     cleared_rows line low new h (λ r k. w r (inside r k)) (λ r k. member_primitive form f.0 r f.1 (inside r k)) c
 
-pub extended_form : (form : List (List ℤ)) (row : List ℤ) (out : List (List ℤ)) → IsForm form → ((r : List ℤ) → Contains form r → length r ≡ length row) → IsExtended form row out → FormWith form row out
+pub extended_form : (form : List (List ℤ)) (row : List ℤ) (out : List (List ℤ)) → IsForm form → ((r : List ℤ) → Contains form r → length r ≡ length row) → IsExtended form row out →
+    FormWith form row out
 extended_form form row out f w x = by_case x.extended
   where
     by_case : (IsDirected x.rest None × (out ≡ form)) ⊎ ((line : List ℤ) × IsDirected x.rest (Some line) × IsInserted form line out) → FormWith form row out
@@ -164,7 +173,8 @@ extended_widths w form row out h l x = by_case x.extended
     by_case (inr (line, d, i)) =
         let wl : length line ≡ w = line_width x.rest line d ∙ x.reduced.same_length ∙ l in
         let inside : (r : List ℤ) → Contains (i.low ++ i.high) r → length r ≡ w = λ r k. have_width w form h r (subst (λ (rows : List (List ℤ)). Contains rows r) (sym i.placed.is) k) in
-        subst (λ (rows : List (List ℤ)). HaveWidth w rows) (sym i.result) (all_from (λ (r : List ℤ). length r ≡ w) (i.new ++ line ∷ i.high) (λ t k. elim (Contains-append_cases i.new (line ∷ i.high) t k) [
+        subst (λ (rows : List (List ℤ)). HaveWidth w rows) (sym i.result) (all_from (λ (r : List ℤ). length r ≡ w) (i.new ++ line ∷ i.high)
+        (λ t k. elim (Contains-append_cases i.new (line ∷ i.high) t k) [
           | inl n ↦ cleared_widths w line i.low i.new wl (λ r m. inside r (Contains-append_left i.low i.high r m)) i.cleared t n
           | inr n ↦ elim (contains_cases line t i.high n) [ inl e ↦ ap length (sym e) ∙ wl | inr m ↦ inside t (Contains-append_right i.low i.high t m) ]
         ]))
@@ -187,7 +197,8 @@ extends_push start [] row form out e x = (out, subst (λ (y : List (List ℤ)). 
 extends_push start (r ∷ rows) row form out e x = (e.0, e.1, extends_push e.0 rows row form out e.2 x)
 
 -- the span of the form and the row is that of the rows and the row
-span_push : (rows form : List (List ℤ)) (row : List ℤ) → IsEchelonOf form rows → (u : ℕ → ℤ) → (Spanned (row ∷ form) u → Spanned (rows ++ row ∷ []) u) × (Spanned (rows ++ row ∷ []) u → Spanned (row ∷ form) u)
+span_push : (rows form : List (List ℤ)) (row : List ℤ) → IsEchelonOf form rows → (u : ℕ → ℤ) → (Spanned (row ∷ form) u → Spanned (rows ++ row ∷ []) u) ×
+    (Spanned (rows ++ row ∷ []) u → Spanned (row ∷ form) u)
 span_push rows form row f u = (
   spanned_through (row ∷ form) (rows ++ row ∷ []) u (λ t k. elim (contains_cases row t form k) [
     | inl e ↦ subst (λ (y : List ℤ). Spanned (rows ++ row ∷ []) (entry y)) e (spanned_row (rows ++ row ∷ []) row (Contains-append_right rows (row ∷ []) row (contains_head row [])))
@@ -213,7 +224,8 @@ form_more rows form out row f x = record {
 row_width : (w : ℕ) (rows : List (List ℤ)) (i : ℕ) (row : List ℤ) → HaveWidth w rows → i < length rows → row ≡ get_or rows i row → length row ≡ w
 row_width w rows i row h l g = have_width w rows h row (i, l, sym g)
 
-pub form_width : (rows form : List (List ℤ)) (i : ℕ) (row : List ℤ) → ((w : ℕ) × (0 < w) × HaveWidth w rows) → i < length rows → row ≡ get_or rows i row → IsFormOfFirst rows i form → All (λ r. length r ≡ length row) form
+pub form_width : (rows form : List (List ℤ)) (i : ℕ) (row : List ℤ) → ((w : ℕ) × (0 < w) × HaveWidth w rows) → i < length rows → row ≡ get_or rows i row → IsFormOfFirst rows i form →
+    All (λ r. length r ≡ length row) form
 form_width rows form i row h l g f = subst (λ (n : ℕ). HaveWidth n form) (sym (row_width h.0 rows i row h.2 l g)) (f.widths h.0 h.2)
 
 pub row_wide : (rows : List (List ℤ)) (i : ℕ) (row : List ℤ) → ((w : ℕ) × (0 < w) × HaveWidth w rows) → i < length rows → row ≡ get_or rows i row → 0 < length row
@@ -222,7 +234,8 @@ row_wide rows i row h l g = omega (arith, h.1, row_width h.0 rows i row h.2 l g)
 pub first_form : (rows form : List (List ℤ)) (i : ℕ) → IsFormOfFirst rows i form → IsForm form
 first_form rows form i f = (f.is_form.pivots, f.is_form.echelon)
 
-pub first_more : (rows form out : List (List ℤ)) (i : ℕ) (row : List ℤ) → ((w : ℕ) × (0 < w) × HaveWidth w rows) → i < length rows → row ≡ get_or rows i row → IsFormOfFirst rows i form → IsExtended form row out → IsFormOfFirst rows (i + 1) out
+pub first_more : (rows form out : List (List ℤ)) (i : ℕ) (row : List ℤ) → ((w : ℕ) × (0 < w) × HaveWidth w rows) → i < length rows → row ≡ get_or rows i row → IsFormOfFirst rows i form →
+    IsExtended form row out → IsFormOfFirst rows (i + 1) out
 first_more rows form out i row h l g f x =
     let more = one_row_more rows i row l g in
     let widths : (r : List ℤ) → Contains form r → length r ≡ length row = λ r k. All-contains (λ (y : List ℤ). length y ≡ length row) form r (form_width rows form i row h l g f) k in
@@ -256,7 +269,8 @@ solved_spanned w rows c h l z =
     let d = described_generated rows [] (entry c) g in
     spanned_divided rows d.multiple (entry c) d.positive
     (spanned_same rows (signed_sum d.free rows) (λ j. pos d.multiple *ℤ entry c j)
-    (λ j. ring (v (signed_sum d.free rows j)) (v (signed_sum d.free rows j) ⊕ v (pos 0)) (omega arith) ∙ ap (λ y. signed_sum d.free rows j +ℤ y) (sym (sum_none d.factors j)) ∙ sym (d.is_sum j)) (signed_spanned rows d.free))
+    (λ j. ring (v (signed_sum d.free rows j)) (v (signed_sum d.free rows j) ⊕ v (pos 0)) (omega arith) ∙ ap (λ y. signed_sum d.free rows j +ℤ y) (sym (sum_none d.factors j)) ∙ sym (d.is_sum j))
+    (signed_spanned rows d.free))
 
 same_span : (w : ℕ) (rows others : List (List ℤ)) → HaveWidth w rows → HaveWidth w others → ((u : List ℤ) → SolvesAll others u → SolvesAll rows u) → (u : ℕ → ℤ) → Spanned rows u → Spanned others u
 same_span w rows others h k s u g = spanned_through rows others u (λ t m. solved_spanned w others t k (have_width w rows h t m) (λ x y. s x y t m)) g
@@ -270,12 +284,14 @@ one_form rows form wf f w h others other ho same hother o =
     ))).0
 
 -- ---- what passes
-pub first_passes : (rows form : List (List ℤ)) (i : ℕ) (row : List ℤ) (e : RowError) → i < length rows → row ≡ get_or rows i row → IsFormOfFirst rows i form → IsExtensionExcess form row e → IsFirstRowExcess rows e
+pub first_passes : (rows form : List (List ℤ)) (i : ℕ) (row : List ℤ) (e : RowError) → i < length rows → row ≡ get_or rows i row → IsFormOfFirst rows i form → IsExtensionExcess form row e →
+    IsFirstRowExcess rows e
 first_passes rows form i row Memory l g f x = tt
 first_passes rows form i row (Excess e) l g f x = record { earlier = take i rows; row = row; later = drop (i + 1) rows; is = split_at rows i row l g; form = form; made = f.made; passes = x }
 
 -- a row of the form that isn't 0 at the new pivot is no row of the new form
-not_in_new : (form : List (List ℤ)) (line : List ℤ) (new high : List (List ℤ)) (row : List ℤ) → IsForm form → Contains form row → entry line (pivot row) ≡ pos 0 → ¬ (entry row (pivot line) ≡ pos 0) → (ps : List ℕ) → IsEchelon (new ++ line ∷ high) ps → ¬ (Contains (new ++ line ∷ high) row)
+not_in_new : (form : List (List ℤ)) (line : List ℤ) (new high : List (List ℤ)) (row : List ℤ) → IsForm form → Contains form row → entry line (pivot row) ≡ pos 0 → ¬ (entry row (pivot line) ≡ pos 0) →
+    (ps : List ℕ) → IsEchelon (new ++ line ∷ high) ps → ¬ (Contains (new ++ line ∷ high) row)
 not_in_new form line new high row f k z n ps e m = elim (Contains-append_cases new (line ∷ high) row m) [
   | inl a ↦ n (echelon_apart new line high ps e row (Contains-append_left new high row a))
   | inr a ↦ elim (contains_cases line row high a) [
@@ -284,12 +300,20 @@ not_in_new form line new high row f k z n ps e m = elim (Contains-append_cases n
   ]
 ]
 
-pub extension_strains : (rows form : List (List ℤ)) (i : ℕ) (row : List ℤ) (e : RowError) → ((w : ℕ) × (0 < w) × HaveWidth w rows) → i < length rows → row ≡ get_or rows i row → IsFormOfFirst rows i form → IsExtensionExcess form row e → IsEchelonExcess rows e
+pub extension_strains : (rows form : List (List ℤ)) (i : ℕ) (row : List ℤ) (e : RowError) → ((w : ℕ) × (0 < w) × HaveWidth w rows) → i < length rows → row ≡ get_or rows i row →
+    IsFormOfFirst rows i form → IsExtensionExcess form row e → IsEchelonExcess rows e
 extension_strains rows form i row Memory h l g f x = tt
 extension_strains rows form i row (Excess e) h l g f (inl x) =
     let widths = form_width rows form i row h l g f in
     let few = echelon_rows_at_most (length row) form f.is_form.pivots (λ t k. All-contains (λ (y : List ℤ). length y ≡ length row) form t widths k) f.is_form.echelon (row_wide rows i row h l g) in
-    record { form = form; is_form = (i, f.is_form); start = row; from = inl (i, l, sym g); passes = chain_passes form row e (length row) few x; start_width = λ n a. All-contains (λ (y : List ℤ). length y ≡ n) rows row a (i, l, sym g) }
+    record {
+      form = form;
+      is_form = (i, f.is_form);
+      start = row;
+      from = inl (i, l, sym g);
+      passes = chain_passes form row e (length row) few x;
+      start_width = λ n a. All-contains (λ (y : List ℤ). length y ≡ n) rows row a (i, l, sym g);
+    }
 extension_strains rows form i row (Excess e) h l g f (inr x) =
     let w = length row in
     let fm = first_form rows form i f in
@@ -300,7 +324,10 @@ extension_strains rows form i row (Excess e) h l g f (inr x) =
     let wl : length line ≡ w = line_width x.rest line x.directed ∙ x.reduced.same_length in
     let inside : (r : List ℤ) → Contains p.low r → Contains form r = λ r k. subst (λ (y : List (List ℤ)). Contains y r) (sym p.placed.is) (Contains-append_left p.low p.high r k) in
     let has : Contains form q.row = inside q.row (subst (λ (y : List (List ℤ)). Contains y q.row) (sym q.is) (Contains-append_right q.earlier (q.row ∷ q.later) q.row (contains_head q.row q.later))) in
-    let new = cleared_exist line (pivot line) p.low (λ r k. (blend (entry line (pivot line)) (neg_ℤ (entry r (pivot line))) r line, entry_blend (entry line (pivot line)) (neg_ℤ (entry r (pivot line))) r line (widths r (inside r k) ∙ sym wl))) in
+    let new = cleared_exist line (pivot line) p.low (λ r k. (
+      blend (entry line (pivot line)) (neg_ℤ (entry r (pivot line))) r line,
+      entry_blend (entry line (pivot line)) (neg_ℤ (entry r (pivot line))) r line (widths r (inside r k) ∙ sym wl),
+    )) in
     let y = line_form form row x.rest line p.low new.0 p.high fm x.reduced x.directed p.placed new.1 in
     let out = new.0 ++ line ∷ p.high in
     let of_rows : IsEchelonOf out (take (i + 1) rows) = subst (λ (z : List (List ℤ)). IsEchelonOf out z) (one_row_more rows i row l g) (form_more (take i rows) form out row f.is_form y) in
@@ -308,7 +335,13 @@ extension_strains rows form i row (Excess e) h l g f (inr x) =
       form = out;
       is_form = (i + 1, of_rows);
       start = q.row;
-      from = inr (record { other = form; is_form = (i, f.is_form); has = has; apart = not_in_new form line new.0 p.high q.row fm has (line_zero x.rest line x.directed (pivot q.row) (x.reduced.zeros q.row has)) q.cancels y.pivots y.echelon });
+      from = inr (record {
+        other = form;
+        is_form = (i, f.is_form);
+        has = has;
+        apart = not_in_new form line new.0 p.high q.row fm has
+            (line_zero x.rest line x.directed (pivot q.row) (x.reduced.zeros q.row has)) q.cancels y.pivots y.echelon;
+      });
       passes = record {
         steps = [];
         few = omega (arith, row_wide rows i row h l g, widths q.row has);

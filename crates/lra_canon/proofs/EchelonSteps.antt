@@ -1,5 +1,6 @@
 -- What the code of echelon forms computes, step by step.
-use Rattle.std.proofs.Common.{◌≡◌, ℕ, zero, suc, ◌+◌, ◌<◌, ◌≤◌, false, List, [], ◌∷◌, ◌++◌, length, All, take, drop, get_or, refl, ap, sym, ◌∙◌, subst, pos, negsuc, ℤ, ◌<ℤ◌, arith, inl, inr, Option, Some, FitsSigned, of_z, to_z}
+use Rattle.std.proofs.Common.{◌≡◌, ℕ, zero, suc, ◌+◌, ◌<◌, ◌≤◌, false, List, [], ◌∷◌, ◌++◌, length, All, take, drop, get_or, refl, ap, sym, ◌∙◌, subst, pos, negsuc, ℤ, ◌<ℤ◌, arith, inl, inr, Option}
+use Rattle.std.proofs.Common.{Some, FitsSigned, of_z, to_z}
 use borrow.Author.Tests.{ltb-false}
 use Rattle.std.specs.Int.{w128}
 use Rattle.std.specs.Int.Signed.{lt_z}
@@ -36,14 +37,26 @@ cleared_push line [] (t ∷ out) row next a c = absurd a
 cleared_push line (r ∷ rows) [] row next a c = absurd a
 cleared_push line (r ∷ rows) (t ∷ out) row next a c = (a.0, cleared_push line rows out row next a.1 c)
 
-pub cleared_more : (line : List ℤ) (rows out new : List (List ℤ)) (i : ℕ) (row next : List ℤ) → i < length rows → row ≡ get_or rows i row → new ≡ out ++ next ∷ [] → AreCleared line (take i rows) out → IsCleared line row next → AreCleared line (take (i + 1) rows) new
+pub cleared_more : (line : List ℤ) (rows out new : List (List ℤ)) (i : ℕ) (row next : List ℤ) → i < length rows → row ≡ get_or rows i row → new ≡ out ++ next ∷ [] → AreCleared line (take i rows) out →
+    IsCleared line row next → AreCleared line (take (i + 1) rows) new
 cleared_more line rows out new i row next h g n a c =
     let more : take i rows ++ row ∷ [] ≡ take (i + 1) rows = ap (λ (x : List ℤ). take i rows ++ x ∷ []) g ∙ sym (take_more rows i row h) in
-    subst (λ (xs : List (List ℤ)). AreCleared line xs new) more (subst (λ (ys : List (List ℤ)). AreCleared line (take i rows ++ row ∷ []) ys) (sym n) (cleared_push line (take i rows) out row next a c))
+    subst (λ (xs : List (List ℤ)). AreCleared line xs new) more (subst (λ (ys : List (List ℤ)). AreCleared line (take i rows ++ row ∷ []) ys) (sym n)
+    (cleared_push line (take i rows) out row next a c))
 
-pub cleared_passes : (line : List ℤ) (rows out : List (List ℤ)) (i : ℕ) (row : List ℤ) (e : RowError) → i < length rows → row ≡ get_or rows i row → AreCleared line (take i rows) out → IsClearingExcess line row e → IsClearedExcess line rows e
+pub cleared_passes : (line : List ℤ) (rows out : List (List ℤ)) (i : ℕ) (row : List ℤ) (e : RowError) → i < length rows → row ≡ get_or rows i row → AreCleared line (take i rows) out →
+    IsClearingExcess line row e → IsClearedExcess line rows e
 cleared_passes line rows out i row Memory h g a x = tt
-cleared_passes line rows out i row (Excess e) h g a x = record { earlier = take i rows; row = row; later = drop (i + 1) rows; is = split_at rows i row h g; made = out; cleared = a; cancels = x.0; passes = x.1 }
+cleared_passes line rows out i row (Excess e) h g a x = record {
+  earlier = take i rows;
+  row = row;
+  later = drop (i + 1) rows;
+  is = split_at rows i row h g;
+  made = out;
+  cleared = a;
+  cancels = x.0;
+  passes = x.1;
+}
 
 -- ---- the line's place
 split_list : (rows : List (List ℤ)) (i : ℕ) → rows ≡ take i rows ++ drop i rows
@@ -55,7 +68,8 @@ starts_behind : (rows : List (List ℤ)) (line : List ℤ) → (0 < length rows 
 starts_behind [] line h = tt
 starts_behind (r ∷ rows) line h = h (omega arith)
 
-pub place_is : (form : List (List ℤ)) (line : List ℤ) (low high : List (List ℤ)) (place column : ℕ) → column ≡ pivot line → place ≤ length form → ((k : ℕ) → k < place → Before (pivot (get_or form k [])) column) →
+pub place_is : (form : List (List ℤ)) (line : List ℤ) (low high : List (List ℤ)) (place column : ℕ) → column ≡ pivot line → place ≤ length form →
+    ((k : ℕ) → k < place → Before (pivot (get_or form k [])) column) →
     (place < length form → ¬ (Before (pivot (get_or form place [])) column)) → low ≡ take place form → high ≡ drop place form → IsPlaced form line low high
 place_is form line low high place column e inside before behind l h = record {
   is = split_list form place ∙ ap (λ (xs : List (List ℤ)). xs ++ drop place form) (sym l) ∙ ap (λ (xs : List (List ℤ)). low ++ xs) (sym h);
@@ -81,8 +95,17 @@ pub inserted_excess : (form : List (List ℤ)) (line : List ℤ) (low high : Lis
 inserted_excess form line low high Memory p x = tt
 inserted_excess form line low high (Excess e) p x = record { low = low; high = high; placed = p; passes = x }
 
-pub inserted_ok : (form : List (List ℤ)) (line : List ℤ) (low high new more out : List (List ℤ)) → IsPlaced form line low high → AreCleared line low new → more ≡ new ++ line ∷ [] → out ≡ more ++ high → IsInserted form line out
-inserted_ok form line low high new more out p c m o = record { low = low; high = high; placed = p; new = new; cleared = c; result = o ∙ ap (λ (xs : List (List ℤ)). xs ++ high) m ∙ behind new line high }
+pub inserted_ok : (form : List (List ℤ)) (line : List ℤ) (low high new more out : List (List ℤ)) → IsPlaced form line low high → AreCleared line low new → more ≡ new ++ line ∷ [] →
+    out ≡ more ++ high → IsInserted form line out
+inserted_ok form line low high new more out p c m o = record {
+  low = low;
+  high = high;
+  placed = p;
+  new = new;
+  cleared = c;
+  result = o ∙ ap (λ (xs : List (List ℤ)). xs ++ high) m ∙
+      behind new line high;
+}
   where
     behind : (xs : List (List ℤ)) (x : List ℤ) (ys : List (List ℤ)) → (xs ++ x ∷ []) ++ ys ≡ xs ++ x ∷ ys
     behind [] x ys = refl
@@ -96,7 +119,8 @@ pub directed_width : (rest line : List ℤ) → IsDirected rest (Some line) → 
 directed_width rest line d = elim d.1 [ inl e ↦ ap length e | inr e ↦ ap length e ∙ negated_length rest ]
 
 -- the form is read twice
-pub extended_ok : (form seen again : List (List ℤ)) (row rest line : List ℤ) (out : List (List ℤ)) → seen ≡ form → again ≡ form → IsReducedBy seen row rest → IsChainEnd seen row rest → IsDirected rest (Some line) → IsInserted again line out → IsExtended form row out
+pub extended_ok : (form seen again : List (List ℤ)) (row rest line : List ℤ) (out : List (List ℤ)) → seen ≡ form → again ≡ form → IsReducedBy seen row rest → IsChainEnd seen row rest →
+    IsDirected rest (Some line) → IsInserted again line out → IsExtended form row out
 extended_ok form seen again row rest line out e f r c d i = record {
   rest = rest;
   reduced = subst (λ (rows : List (List ℤ)). IsReducedBy rows row rest) e r;
@@ -104,7 +128,8 @@ extended_ok form seen again row rest line out e f r c d i = record {
   extended = inr (line, d, subst (λ (rows : List (List ℤ)). IsInserted rows line out) f i);
 }
 
-pub extended_excess : (form seen again : List (List ℤ)) (row rest line : List ℤ) (e : RowError) → seen ≡ form → again ≡ form → IsReducedBy seen row rest → IsChainEnd seen row rest → IsDirected rest (Some line) → IsInsertionExcess again line e → IsExtensionExcess form row e
+pub extended_excess : (form seen again : List (List ℤ)) (row rest line : List ℤ) (e : RowError) → seen ≡ form → again ≡ form → IsReducedBy seen row rest → IsChainEnd seen row rest →
+    IsDirected rest (Some line) → IsInsertionExcess again line e → IsExtensionExcess form row e
 extended_excess form seen again row rest line Memory s t r c d i = tt
 extended_excess form seen again row rest line (Excess e) s t r c d i =
     inr (record {
@@ -116,7 +141,8 @@ extended_excess form seen again row rest line (Excess e) s t r c d i =
       passes = subst (λ (rows : List (List ℤ)). InsertionPasses rows line e) t i;
     })
 
-pub width_same : (form again : List (List ℤ)) (row rest line : List ℤ) → again ≡ form → All (λ r. length r ≡ length row) form → length rest ≡ length row → IsDirected rest (Some line) → All (λ r. length r ≡ length line) again
+pub width_same : (form again : List (List ℤ)) (row rest line : List ℤ) → again ≡ form → All (λ r. length r ≡ length row) form → length rest ≡ length row → IsDirected rest (Some line) →
+    All (λ r. length r ≡ length line) again
 width_same form again row rest line e w l d =
     subst (λ (rows : List (List ℤ)). All (λ r. length r ≡ length line) rows) (sym e) (subst (λ (n : ℕ). All (λ r. length r ≡ n) form) (sym (directed_width rest line d ∙ l)) w)
 

@@ -1,5 +1,6 @@
 -- An echelon form with one more row is one, and of the same span; and what passes where it is made is a strain.
-use Rattle.std.proofs.Common.{◌≡◌, ◌≢◌, ℕ, zero, suc, ◌+◌, ◌<◌, Bool, true, false, cond, List, [], ◌∷◌, ◌++◌, length, refl, ap, sym, ◌∙◌, subst, pos, ℤ, ◌+ℤ◌, ◌*ℤ◌, ◌<ℤ◌, neg_ℤ, arith, inl, inr, ◌⊎◌, true≢false}
+use Rattle.std.proofs.Common.{◌≡◌, ◌≢◌, ℕ, zero, suc, ◌+◌, ◌<◌, Bool, true, false, cond, List, [], ◌∷◌, ◌++◌, length, refl, ap, sym, ◌∙◌, subst, pos, ℤ, ◌+ℤ◌, ◌*ℤ◌, ◌<ℤ◌, neg_ℤ, arith, inl, inr, ◌⊎◌}
+use Rattle.std.proofs.Common.{true≢false}
 use Rattle.std.specs.Cmp.{signed_Decides}
 use Rattle.std.specs.List.{Contains}
 use Rattle.std.specs.Ordering.{int_eq}
@@ -117,7 +118,8 @@ pivots_split [] high ps e = record { lows = []; highs = ps; is = refl; as_many =
 pivots_split (r ∷ low) high [] e = absurd e
 pivots_split (r ∷ low) high (p ∷ ps) e = let i = pivots_split low high ps e.4 in record { lows = p ∷ i.lows; highs = i.highs; is = ap (λ (qs : List ℕ). p ∷ qs) i.is; as_many = ap suc i.as_many }
 
-low_pivot : (low high : List (List ℤ)) (lows highs : List ℕ) → length low ≡ length lows → IsEchelon (low ++ high) (lows ++ highs) → (q : ℕ) → Contains lows q → (r : List ℤ) × Contains low r × (pivot r ≡ q)
+low_pivot : (low high : List (List ℤ)) (lows highs : List ℕ) → length low ≡ length lows → IsEchelon (low ++ high) (lows ++ highs) → (q : ℕ) → Contains lows q → (r : List ℤ) × Contains low r ×
+    (pivot r ≡ q)
 low_pivot [] high [] highs l e q k = absurd (contains_none q k)
 low_pivot [] high (p ∷ lows) highs l e q k = absurd (omega (arith, l))
 low_pivot (r ∷ low) high [] highs l e q k = absurd (omega (arith, l))
@@ -160,12 +162,15 @@ cleared_row line r t h w p (inl c) =
     }
 cleared_row line r t h w p (inr s) = record { times = s.lowest.times; positive = s.lowest.positive; is = step_entry line r t w s; lowest = s.lowest.lowest }
 
-pub cleared_rows : (line : List ℤ) (rows new : List (List ℤ)) → pos 0 <ℤ entry line (pivot line) → ((r : List ℤ) → Contains rows r → length r ≡ length line) → ((r : List ℤ) → Contains rows r → IsPrimitive r) → AreCleared line rows new → ClearedRows line (pivot line) rows new
+pub cleared_rows : (line : List ℤ) (rows new : List (List ℤ)) → pos 0 <ℤ entry line (pivot line) → ((r : List ℤ) → Contains rows r → length r ≡ length line) →
+    ((r : List ℤ) → Contains rows r → IsPrimitive r) → AreCleared line rows new → ClearedRows line (pivot line) rows new
 cleared_rows line [] [] h w p c = tt
 cleared_rows line [] (t ∷ new) h w p c = absurd c
 cleared_rows line (r ∷ rows) [] h w p c = absurd c
-cleared_rows line (r ∷ rows) (t ∷ new) h w p c =
-    (cleared_row line r t h (w r (contains_head r rows)) (p r (contains_head r rows)) c.0, cleared_rows line rows new h (λ x k. w x (contains_tail r x rows k)) (λ x k. p x (contains_tail r x rows k)) c.1)
+cleared_rows line (r ∷ rows) (t ∷ new) h w p c = (
+  cleared_row line r t h (w r (contains_head r rows)) (p r (contains_head r rows)) c.0,
+  cleared_rows line rows new h (λ x k. w x (contains_tail r x rows k)) (λ x k. p x (contains_tail r x rows k)) c.1,
+)
 
 -- ---- the form with the line
 pub record Extension (form : List (List ℤ)) (line : List ℤ) (low new high : List (List ℤ)) : Type 0 where

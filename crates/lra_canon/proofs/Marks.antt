@@ -41,14 +41,16 @@ one_mark {A = A} (true ∷ marks) (x ∷ xs) (suc i) d n h v =
     let m = one_mark marks xs i d (omega (arith, n)) (omega (arith, h)) v in
     record { front = m.front; back = m.back; before = m.before; after = m.after; others = λ k l a u. other (m.front ++ m.back) k l a u m.others }
   where
-    other : (B : List A) (k : ℕ) → k < length (x ∷ xs) → k ≢ suc i → value_at (true ∷ marks) k ≡ false → ((k : ℕ) → k < length xs → k ≢ i → value_at marks k ≡ false → Contains B (get_or xs k d)) → Contains B (get_or (x ∷ xs) k d)
+    other : (B : List A) (k : ℕ) → k < length (x ∷ xs) → k ≢ suc i → value_at (true ∷ marks) k ≡ false → ((k : ℕ) → k < length xs → k ≢ i → value_at marks k ≡ false → Contains B (get_or xs k d)) →
+        Contains B (get_or (x ∷ xs) k d)
     other B zero l a u f = absurd (true≢false u)
     other B (suc k) l a u f = f k (omega (arith, l)) (λ e. a (ap suc e)) u
 one_mark {A = A} (false ∷ marks) (x ∷ xs) (suc i) d n h v =
     let m = one_mark marks xs i d (omega (arith, n)) (omega (arith, h)) v in
     record { front = x ∷ m.front; back = m.back; before = ap (λ ys. x ∷ ys) m.before; after = ap (λ ys. x ∷ ys) m.after; others = λ k l a u. other (m.front ++ m.back) k l a u m.others }
   where
-    other : (B : List A) (k : ℕ) → k < length (x ∷ xs) → k ≢ suc i → value_at (false ∷ marks) k ≡ false → ((k : ℕ) → k < length xs → k ≢ i → value_at marks k ≡ false → Contains B (get_or xs k d)) → Contains (x ∷ B) (get_or (x ∷ xs) k d)
+    other : (B : List A) (k : ℕ) → k < length (x ∷ xs) → k ≢ suc i → value_at (false ∷ marks) k ≡ false → ((k : ℕ) → k < length xs → k ≢ i → value_at marks k ≡ false → Contains B (get_or xs k d)) →
+        Contains (x ∷ B) (get_or (x ∷ xs) k d)
     other B zero l a u f = contains_head x B
     other B (suc k) l a u f = contains_tail x (get_or xs k d) B (f k (omega (arith, l)) (λ e. a (ap suc e)) u)
 
@@ -85,7 +87,8 @@ abbrev rest_of : {A : Type 0} → List A → List A
 rest_of [] = []
 rest_of (x ∷ xs) = xs
 
-pub two_places : {A : Type 0} (marks : List Bool) (xs : List A) (d : A) (front : List A) (r : A) (back : List A) → length marks ≡ length xs → unmarked marks xs ≡ front ++ r ∷ back → (t : A) → Contains (front ++ back) t → TwoPlaces marks xs d r t
+pub two_places : {A : Type 0} (marks : List Bool) (xs : List A) (d : A) (front : List A) (r : A) (back : List A) → length marks ≡ length xs → unmarked marks xs ≡ front ++ r ∷ back → (t : A) →
+    Contains (front ++ back) t → TwoPlaces marks xs d r t
 two_places marks [] d [] r back n e t k = absurd (let l = ap length e in omega (arith, l))
 two_places marks [] d (y ∷ front) r back n e t k = absurd (let l = ap length e in omega (arith, l))
 two_places [] (x ∷ xs) d front r back n e t k = absurd (omega (arith, n))

@@ -125,7 +125,8 @@ ascends order [] ties once up = tt
 ascends order (x ∷ xs) ties once up = (
   (λ y k.
       let far = first_least (cmp_by order) (cmp_by_total order) x xs up y (contains_tail x y xs k) in
-      less (cmp_by order x y) (cmp_by order y x) ((cmp_by_total order).antisymm x y) far (λ e. once.0 (subst (Contains xs) (sym (ties_equal order (x ∷ xs) ties x y (contains_head x xs) (contains_tail x y xs k) e)) k))),
+      less (cmp_by order x y) (cmp_by order y x) ((cmp_by_total order).antisymm x y) far
+      (λ e. once.0 (subst (Contains xs) (sym (ties_equal order (x ∷ xs) ties x y (contains_head x xs) (contains_tail x y xs k) e)) k))),
   ascends order xs (fewer order ties) once.1 (rest_sorted (cmp_by order) x xs up),
 )
   where

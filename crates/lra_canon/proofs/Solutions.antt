@@ -111,13 +111,15 @@ description_exists w (c ∷ system) h =
     (step_rows c i.0, dual_step w c system i.0 (step_rows c i.0) i.1 (h c (contains_head c system)) (step_widths c w i.0 i.1.row_widths) (step_rows_are c w i.0 i.1.row_widths))
 
 -- ---- what holds at all solutions is generated
-pub farkas : (w : ℕ) (system : List (List ℤ)) (c : List ℤ) → ((t : List ℤ) → Contains system t → length t ≡ w) → length c ≡ w → ((u : List ℤ) → length u ≡ w → Solves system (entry u) → pos 0 ≤ℤ product c u) → Generated system (entry c)
+pub farkas : (w : ℕ) (system : List (List ℤ)) (c : List ℤ) → ((t : List ℤ) → Contains system t → length t ≡ w) → length c ≡ w →
+    ((u : List ℤ) → length u ≡ w → Solves system (entry u) → pos 0 ≤ℤ product c u) → Generated system (entry c)
 farkas w system c widths l h =
     let d = description_exists w system widths in
     d.1.consequences c l (λ r k. subst (λ z. pos 0 ≤ℤ z) (product_comm c r) (h r (d.1.row_widths r k) (d.1.meets r k)))
 
 -- the rows, and the equalities in both directions, have the width
-pub all_widths : (w : ℕ) (lines rays : List (List ℤ)) → ((t : List ℤ) → Contains lines t → length t ≡ w) → ((t : List ℤ) → Contains rays t → length t ≡ w) → (t : List ℤ) → Contains (all_rows lines rays) t → length t ≡ w
+pub all_widths : (w : ℕ) (lines rays : List (List ℤ)) → ((t : List ℤ) → Contains lines t → length t ≡ w) → ((t : List ℤ) → Contains rays t → length t ≡ w) → (t : List ℤ) →
+    Contains (all_rows lines rays) t → length t ≡ w
 all_widths w lines rays wl wr t k = elim (Contains-append_cases rays (both_ways lines) t k) [
   | inl n ↦ wr t n
   | inr n ↦ let x = signed_from lines t n in elim x.sign [ inl e ↦ ap length e ∙ wl x.line x.has | inr e ↦ ap length e ∙ negated_length x.line ∙ wl x.line x.has ]
@@ -188,11 +190,13 @@ record IsMultiple (t s : List ℤ) : Type 0 where
   is : (j : ℕ) → pos times *ℤ entry s j ≡ pos own *ℤ entry t j
 
 -- of two rows that are 0 at the pivots, one that holds where the other does is a multiple of it
-multiple_of : (w : ℕ) (form : List (List ℤ)) → IsForm form → ((x : List ℤ) → Contains form x → length x ≡ w) → (t s : List ℤ) → length t ≡ w → length s ≡ w → ((x : List ℤ) → Contains form x → entry t (pivot x) ≡ pos 0) →
+multiple_of : (w : ℕ) (form : List (List ℤ)) → IsForm form → ((x : List ℤ) → Contains form x → length x ≡ w) → (t s : List ℤ) → length t ≡ w → length s ≡ w →
+    ((x : List ℤ) → Contains form x → entry t (pivot x) ≡ pos 0) →
     ((x : List ℤ) → Contains form x → entry s (pivot x) ≡ pos 0) → ((u : List ℤ) → SolvesAll form u → pos 0 ≤ℤ product t u → pos 0 ≤ℤ product s u) → IsMultiple t s
 multiple_of w form f wf t s lt ls zt zs h =
     let one : (x : List ℤ) → Contains (t ∷ []) x → length x ≡ w = λ x k. elim (contains_cases t x [] k) [ inl e ↦ ap length (sym e) ∙ lt | inr n ↦ absurd (contains_none x n) ] in
-    let g = farkas w (all_rows form (t ∷ [])) s (all_widths w form (t ∷ []) wf one) ls (λ u l m. h u (solves_all form (t ∷ []) u m) (m t (Contains-append_left (t ∷ []) (both_ways form) t (contains_head t [])))) in
+    let g = farkas w (all_rows form (t ∷ [])) s (all_widths w form (t ∷ []) wf one) ls (λ u l m. h u (solves_all form (t ∷ []) u m)
+    (m t (Contains-append_left (t ∷ []) (both_ways form) t (contains_head t [])))) in
     let d = described_generated form (t ∷ []) (entry s) g in
     let o = sum_alone d.factors t in
     let line = signed_sum d.free form in
@@ -205,7 +209,13 @@ multiple_of w form f wf t s lt ls zt zs h =
     ap (λ z. (m *ℤ z) +ℤ neg_ℤ (k *ℤ entry t q)) (ap (entry s) (sym i.2) ∙ zs i.0 i.1) ∙ ap (λ z. (m *ℤ pos 0) +ℤ neg_ℤ (k *ℤ z)) (ap (entry t) (sym i.2) ∙ zt i.0 i.1) ∙
     ring (v m ⊗ v (pos 0) ⊕ ⊖ (v k ⊗ v (pos 0))) (v (pos 0)) (omega arith) in
     let none = all_zero form f.0 f.1 line (signed_spanned form d.free) at_pivot in
-    record { times = d.multiple; positive = d.positive; own = o.0; is = λ j. at j ∙ ap (λ z. z +ℤ (k *ℤ entry t j)) (none j) ∙ ring (v (pos 0) ⊕ v k ⊗ v (entry t j)) (v k ⊗ v (entry t j)) (omega arith) }
+    record {
+      times = d.multiple;
+      positive = d.positive;
+      own = o.0;
+      is = λ j. at j ∙ ap (λ z. z +ℤ (k *ℤ entry t j)) (none j) ∙
+          ring (v (pos 0) ⊕ v k ⊗ v (entry t j)) (v k ⊗ v (entry t j)) (omega arith);
+    }
 
 -- a row of zeros isn't in lowest terms
 zeros_not_primitive : (r : List ℤ) → IsPrimitive r → ((j : ℕ) → entry r j ≡ pos 0) → ⊥

@@ -1,5 +1,6 @@
 -- Reduced echelon forms, made row by row.
-use Rattle.std.specs.Prelude.{◌≡◌, ℕ, ◌<◌, ◌⊎◌, ℤ, pos, ◌<ℤ◌, List, [], ◌∷◌, ◌++◌, length, take, Option, Some, None, Err}
+use Rattle.std.specs.Prelude.{◌≡◌, ℕ, ◌<◌, ◌⊎◌, ℤ, pos, ◌<ℤ◌, List, [], ◌∷◌, ◌++◌, length, take, Option, Some, None}
+use Rattle.std.specs.Prelude.{Err}
 use Rattle.std.specs.List.{Contains, All}
 use Rattle.lra_linear.specs.declared.Excess as E
 use Rattle.lra_linear.specs.Vectors.{entry, negated}
@@ -13,7 +14,8 @@ use Rattle.lra_canon.specs.Reduced.{SolvesAll, IsReducedBy, IsCleared, IsChainEn
 -- ---- solutions
 -- as equalities, the rows and the others have the same solutions
 abbrev pub SameEqualities : List (List ℤ) → List (List ℤ) → Type 0
-SameEqualities rows others = (u : List ℤ) → (SolvesAll rows u → SolvesAll others u) × (SolvesAll others u → SolvesAll rows u)
+SameEqualities rows others = (u : List ℤ) → (SolvesAll rows u → SolvesAll others u) ×
+    (SolvesAll others u → SolvesAll rows u)
 
 abbrev pub HaveWidth : ℕ → List (List ℤ) → Type 0
 HaveWidth w rows = All (λ r. length r ≡ w) rows
@@ -89,7 +91,8 @@ pub record IsExtended (form : List (List ℤ)) (row : List ℤ) (out : List (Lis
   pub rest : List ℤ
   pub reduced : IsReducedBy form row rest
   pub chain : IsChainEnd form row rest
-  pub extended : (IsDirected rest None × (out ≡ form)) ⊎ ((line : List ℤ) × IsDirected rest (Some line) × IsInserted form line out)
+  pub extended : (IsDirected rest None × (out ≡ form)) ⊎
+      ((line : List ℤ) × IsDirected rest (Some line) × IsInserted form line out)
 
 -- the first number that passes: as the row is reduced, or then as the form's rows are cleared
 pub record ClearingPasses (form : List (List ℤ)) (row : List ℤ) (e : E.Excess) : Type 0 where

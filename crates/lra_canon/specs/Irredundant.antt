@@ -1,5 +1,7 @@
--- Inequalities without the redundant ones, told from which generators they are tight at (Le Verge 1992, Fukuda and Prodon 1996).
-use Rattle.std.specs.Prelude.{◌≡◌, ◌≢◌, ◌↔◌, ℕ, ◌<◌, ◌≤◌, ℤ, pos, ◌≤ℤ◌, Bool, true, false, List, [], length, slice_index_or}
+-- Inequalities without the redundant ones, told from which generators they are tight at (Le Verge 1992, Fukuda and
+-- Prodon 1996).
+use Rattle.std.specs.Prelude.{◌≡◌, ◌≢◌, ◌↔◌, ℕ, ◌<◌, ◌≤◌, ℤ, pos, ◌≤ℤ◌, Bool, true, false, List, [], length}
+use Rattle.std.specs.Prelude.{slice_index_or}
 use Rattle.std.specs.List.{Contains}
 use Rattle.lra_linear.specs.Vectors.{entry, product}
 use Rattle.lra_linear.specs.LowestTerms.{IsPrimitive}
@@ -16,9 +18,10 @@ use Rattle.lra_canon.specs.Echelons.{HaveWidth}
 abbrev pub Solutions : List (List ℤ) → List (List ℤ) → List ℤ → Type 0
 Solutions form rows u = SolvesAll form u × ((r : List ℤ) → Contains rows r → pos 0 ≤ℤ product r u)
 
--- The rows, reduced by the form and in lowest terms, have with it the solutions that the generators generate. No row is tight at all
--- generators, and row i of the matrix says of each generator whether row i is tight at it.
-pub record IsSaturation (w : ℕ) (form : List (List ℤ)) (generators : List Given) (rows : List (List ℤ)) (matrix : Matrix) : Type 0 where
+-- The rows, reduced by the form and in lowest terms, have with it the solutions that the generators generate. No row is
+-- tight at all generators, and row i of the matrix says of each generator whether row i is tight at it.
+pub record IsSaturation (w : ℕ) (form : List (List ℤ)) (generators : List Given) (rows : List (List ℤ))
+    (matrix : Matrix) : Type 0 where
   pub is_form : IsForm form
   pub form_widths : HaveWidth w form
   pub row_widths : HaveWidth w rows
@@ -29,7 +32,8 @@ pub record IsSaturation (w : ℕ) (form : List (List ℤ)) (generators : List Gi
   pub loose : (r : List ℤ) → Contains rows r → ¬ ((g : Given) → Contains generators g → product r g.row ≡ pos 0)
   pub columns : (i : ℕ) → i < length rows → length (slice_index_or matrix.rows i []) ≡ length generators
   pub tight : (i j : ℕ) (g : Given) → i < length rows → j < length generators →
-      (value_at (slice_index_or matrix.rows i []) j ≡ true) ↔ (product (slice_index_or rows i []) (slice_index_or generators j g).row ≡ pos 0)
+      (value_at (slice_index_or matrix.rows i []) j ≡ true) ↔
+      (product (slice_index_or rows i []) (slice_index_or generators j g).row ≡ pos 0)
 
 -- ---- which rows go
 -- another row that isn't marked is true wherever row i is
@@ -42,8 +46,8 @@ pub record IsCovered (bits : List (List Bool)) (marks : List Bool) (i : ℕ) : T
   pub inside : other < length bits
   pub by : IsCoveredBy bits marks i other
 
--- The marks after the first i rows: what the rows generate, with any form of which the matrix tells, those that stay generate; and
--- of the first i rows none that stays is covered.
+-- The marks after the first i rows: what the rows generate, with any form of which the matrix tells, those that stay
+-- generate; and of the first i rows none that stays is covered.
 pub record AreMarks (rows : List (List ℤ)) (matrix : Matrix) (marks : List Bool) (i : ℕ) : Type 0 where
   pub as_many : length marks ≡ length rows
   pub later : (k : ℕ) → i ≤ k → value_at marks k ≡ false
@@ -60,8 +64,8 @@ pub record AreKept (rows kept : List (List ℤ)) (matrix left : Matrix) : Type 0
   pub same_width : left.width ≡ matrix.width
 
 -- ---- what stays
--- The rows that stay have the same solutions with the form, and are the inequalities of a canonical description. Each canonical
--- description with these solutions has this form and these rows.
+-- The rows that stay have the same solutions with the form, and are the inequalities of a canonical description. Each
+-- canonical description with these solutions has this form and these rows.
 pub record IsIrredundant (w : ℕ) (form rows kept : List (List ℤ)) : Type 0 where
   pub same : (u : List ℤ) → length u ≡ w → Solutions form rows u ↔ Solutions form kept u
   pub canonical : IsCanonical form kept
@@ -72,4 +76,5 @@ pub record IsIrredundant (w : ℕ) (form rows kept : List (List ℤ)) : Type 0 w
 -- whatever form and generators the matrix tells of
 abbrev pub WithoutRedundant : List (List ℤ) → Matrix → List (List ℤ) → Type 0
 WithoutRedundant rows matrix kept =
-    (w : ℕ) (form : List (List ℤ)) (generators : List Given) → IsSaturation w form generators rows matrix → IsIrredundant w form rows kept
+    (w : ℕ) (form : List (List ℤ)) (generators : List Given) → IsSaturation w form generators rows matrix →
+    IsIrredundant w form rows kept

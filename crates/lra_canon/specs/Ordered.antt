@@ -29,4 +29,5 @@ TiesAreEqual Pivots rows = (x y : List ℤ) → Contains rows x → Contains row
 -- of the lists with these rows, each as often, `sorted` is the only one in order
 abbrev pub IsOneOrder : Order → List (List ℤ) → List (List ℤ) → Type 0
 IsOneOrder order rows sorted =
-    TiesAreEqual order rows → (other : List (List ℤ)) → IsPermutation rows other → IsSorted (cmp_by order) other → other ≡ sorted
+    TiesAreEqual order rows → (other : List (List ℤ)) → IsPermutation rows other → IsSorted (cmp_by order) other →
+    other ≡ sorted

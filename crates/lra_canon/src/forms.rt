@@ -5,7 +5,8 @@ ghost use Rattle.std.specs.Prelude.{IsTrue, IfOk, IfErr, OnOk, OnErr};
 ghost use Rattle.std.specs.List.{All};
 ghost use Rattle.lra_linear.specs.Echelon.{Before, IsEchelonOf, pivot};
 ghost use Rattle.lra_canon.specs.Reduced.{IsForm};
-ghost use Rattle.lra_canon.specs.Echelons.{SameEqualities, HaveWidth, IsOneForm, IsDirected, AreCleared, IsClearedExcess};
+ghost use Rattle.lra_canon.specs.Echelons.{SameEqualities, HaveWidth, IsOneForm, IsDirected, AreCleared};
+ghost use Rattle.lra_canon.specs.Echelons.{IsClearedExcess};
 ghost use Rattle.lra_canon.specs.Echelons.{IsInserted, IsInsertionExcess, IsExtended, IsExtensionExcess, Extends};
 ghost use Rattle.lra_canon.specs.Echelons.{HaveOneWidth, IsFirstRowExcess, IsEchelonExcess};
 

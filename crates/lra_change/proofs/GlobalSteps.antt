@@ -33,7 +33,8 @@ appended {V} {H} m z f v x w c d first dims is second same =
     )
 
 -- the first global, and the others
-pub appended_all : {V H : Type 0} (m : Meaning V H) (z : ℤ) (zs : List ℤ) (v x w : V) (c d : Exactness) → Does m (append_set (m.dims v) (Some (constant_form (suc (m.dims v)) z))) v c x → m.dims x ≡ suc (m.dims v)
+pub appended_all : {V H : Type 0} (m : Meaning V H) (z : ℤ) (zs : List ℤ) (v x w : V) (c d : Exactness) → Does m (append_set (m.dims v) (Some (constant_form (suc (m.dims v)) z))) v c x →
+    m.dims x ≡ suc (m.dims v)
     → Does m (first_values (m.dims x) zs) x d w → Does m (first_values (m.dims v) (z ∷ zs)) v (worse c d) w
 appended_all {V} {H} m z zs v x w c d one live others =
     done_both m (append_set (m.dims v) (Some (constant_form (suc (m.dims v)) z))) (first_values (suc (m.dims v)) zs) v x w c d one (subst (λ (n : ℕ). Does m (first_values n zs) x d w) live others)

@@ -26,7 +26,8 @@ fn set<D: Domain>(
 ) -> Result<Exactness, AllocError>
     requires few { D.meaning.dims value.old < 2 ^ 62 }
     requires place { place < D.meaning.dims value.old }
-    ensures sets { IfOk result (λ a. Meets D.meaning (set_to place (form_of (D.meaning.dims value.old) base (expr_view e.now))) value.old a value.new) }
+    ensures sets { IfOk result (λ a. Meets D.meaning (set_to place
+        (form_of (D.meaning.dims value.old) base (expr_view e.now))) value.old a value.new) }
     ensures dims { OnOk result (D.meaning.dims value.new ≡ D.meaning.dims value.old) }
 {
     match form_of_expression(alloc, value.dims(), base, e)? {
@@ -49,7 +50,9 @@ fn push_one<D: Domain>(
     value: &mut D,
 ) -> Result<Exactness, AllocError>
     requires { D.meaning.dims value.old < 2 ^ 30 }
-    ensures pushes { IfOk result (λ a. Does D.meaning (append_set (D.meaning.dims value.old) (form_of (suc (D.meaning.dims value.old)) base (expr_view e.now))) value.old a value.new) }
+    ensures pushes { IfOk result (λ a. Does D.meaning
+        (append_set (D.meaning.dims value.old) (form_of (suc (D.meaning.dims value.old)) base (expr_view e.now)))
+        value.old a value.new) }
     ensures dims { OnOk result (D.meaning.dims value.new ≡ suc (D.meaning.dims value.old)) }
 {
     let place = value.dims();
@@ -66,7 +69,8 @@ fn push_all_of<D: Domain>(
     value: &mut D,
 ) -> Result<Exactness, AllocError>
     requires { D.meaning.dims value.old + length es.now ≤ 2 ^ 30 }
-    ensures pushes { IfOk result (λ a. Does D.meaning (push_all (D.meaning.dims value.old) base (map expr_view es.now)) value.old a value.new) }
+    ensures pushes { IfOk result (λ a. Does D.meaning
+        (push_all (D.meaning.dims value.old) base (map expr_view es.now)) value.old a value.new) }
     ensures dims { OnOk result (D.meaning.dims value.new ≡ D.meaning.dims value.old + length es.now) }
 {
     let Some((first, later)) = es.split_first() else {

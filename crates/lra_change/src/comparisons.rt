@@ -37,7 +37,8 @@ fn leave_test<D: Domain>(
 ) -> Result<Exactness, AllocError>
     requires few { D.meaning.dims value.old < 2 ^ 62 }
     requires width { length d.now.coefficients ≡ D.meaning.dims value.old }
-    ensures leaves { IfOk result (λ e. Tests D.meaning (D.meaning.dims value.old) base (comparison_test (comparison_view op) (as_linear d.now)) value.old before value.new e) }
+    ensures leaves { IfOk result (λ e. Tests D.meaning (D.meaning.dims value.old) base
+        (comparison_test (comparison_view op) (as_linear d.now)) value.old before value.new e) }
     ensures dims { OnOk result (D.meaning.dims value.new ≡ D.meaning.dims value.old) }
 {
     match test_of(alloc, op, d)? {
@@ -59,7 +60,8 @@ fn leave_differs<D: Domain>(
 ) -> Result<Exactness, AllocError>
     requires few { D.meaning.dims value.old < 2 ^ 62 }
     requires width { length d.now.coefficients ≡ D.meaning.dims value.old }
-    ensures leaves { IfOk result (λ e. Compares D.meaning (D.meaning.dims value.old) base differs (Some (as_linear d.now)) value.old before value.new e) }
+    ensures leaves { IfOk result (λ e. Compares D.meaning (D.meaning.dims value.old) base differs
+        (Some (as_linear d.now)) value.old before value.new e) }
     ensures dims { OnOk result (D.meaning.dims value.new ≡ D.meaning.dims value.old) }
 {
     let mut less = value.copy(alloc)?;
@@ -81,7 +83,9 @@ pub fn leave_comparison<D: Domain>(
     before: Exactness,
 ) -> Result<Exactness, AllocError>
     requires { D.meaning.dims value.old < 2 ^ 62 }
-    ensures leaves { IfOk result (λ e. Compares D.meaning (D.meaning.dims value.old) base (comparison_view op) (difference_form (D.meaning.dims value.old) base (expr_view left.now) (expr_view right.now)) value.old before value.new e) }
+    ensures leaves { IfOk result (λ e. Compares D.meaning (D.meaning.dims value.old) base (comparison_view op)
+        (difference_form (D.meaning.dims value.old) base (expr_view left.now) (expr_view right.now)) value.old before
+        value.new e) }
     ensures dims { OnOk result (D.meaning.dims value.new ≡ D.meaning.dims value.old) }
 {
     let Some(d) = difference_of(alloc, value.dims(), base, left, right)? else {

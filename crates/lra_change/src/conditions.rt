@@ -14,8 +14,8 @@ use lra_tree::Comparison;
 use lra_tree::program::{Cond, Expr};
 use std::alloc::{AllocError, Global};
 
-/// What `condition`, wanted true or false, leaves of the value: `!` is pushed to the comparisons; `&&` is the one behind the other; `||`
-/// joins what its left side leaves with what the right one leaves where the left one is false.
+/// What `condition`, wanted true or false, leaves of the value: `!` is pushed to the comparisons; `&&` is the one
+/// behind the other; `||` joins what its left side leaves with what the right one leaves where the left one is false.
 #[cycle(leave)]
 pub fn leave<D: Domain>(
     alloc: Global,
@@ -26,7 +26,8 @@ pub fn leave<D: Domain>(
     before: Exactness,
 ) -> Result<Exactness, AllocError>
     requires { D.meaning.dims value.old < 2 ^ 62 }
-    ensures leaves { IfOk result (λ e. Pushes D.meaning (D.meaning.dims value.old) base (push wanted (cond_view condition.now)) value.old before value.new e) }
+    ensures leaves { IfOk result (λ e. Pushes D.meaning (D.meaning.dims value.old) base
+        (push wanted (cond_view condition.now)) value.old before value.new e) }
     ensures dims { OnOk result (D.meaning.dims value.new ≡ D.meaning.dims value.old) }
 {
     match condition {
@@ -82,7 +83,8 @@ fn leave_in_turn<D: Domain>(
     before: Exactness,
 ) -> Result<Exactness, AllocError>
     requires { D.meaning.dims value.old < 2 ^ 62 }
-    ensures leaves { IfOk result (λ e. Pushes D.meaning (D.meaning.dims value.old) base (in_turn_of wanted (cond_view first.now) (map cond_view rest.now)) value.old before value.new e) }
+    ensures leaves { IfOk result (λ e. Pushes D.meaning (D.meaning.dims value.old) base
+        (in_turn_of wanted (cond_view first.now) (map cond_view rest.now)) value.old before value.new e) }
     ensures dims { OnOk result (D.meaning.dims value.new ≡ D.meaning.dims value.old) }
 {
     let one = leave(alloc, base, first, wanted, value, before)?;
@@ -105,7 +107,8 @@ fn leave_either<D: Domain>(
     before: Exactness,
 ) -> Result<Exactness, AllocError>
     requires { D.meaning.dims value.old < 2 ^ 62 }
-    ensures leaves { IfOk result (λ e. Pushes D.meaning (D.meaning.dims value.old) base (either_of wanted (cond_view first.now) (map cond_view rest.now)) value.old before value.new e) }
+    ensures leaves { IfOk result (λ e. Pushes D.meaning (D.meaning.dims value.old) base
+        (either_of wanted (cond_view first.now) (map cond_view rest.now)) value.old before value.new e) }
     ensures dims { OnOk result (D.meaning.dims value.new ≡ D.meaning.dims value.old) }
 {
     let Some((next, later)) = rest.split_first() else {

@@ -17,7 +17,9 @@ fn append_constant<D: Domain>(
     value: &mut D,
 ) -> Result<Exactness, AllocError>
     requires { D.meaning.dims value.old < 2 ^ 30 }
-    ensures appends { IfOk result (λ a. Does D.meaning (append_set (D.meaning.dims value.old) (Some (constant_form (suc (D.meaning.dims value.old)) constant.now))) value.old a value.new) }
+    ensures appends { IfOk result (λ a. Does D.meaning
+        (append_set (D.meaning.dims value.old) (Some (constant_form (suc (D.meaning.dims value.old)) constant.now)))
+        value.old a value.new) }
     ensures dims { OnOk result (D.meaning.dims value.new ≡ suc (D.meaning.dims value.old)) }
 {
     let place = value.dims();
@@ -34,7 +36,8 @@ pub fn append_globals<D: Domain>(
     value: &mut D,
 ) -> Result<Exactness, AllocError>
     requires { D.meaning.dims value.old + length globals.now ≤ 2 ^ 30 }
-    ensures appends { IfOk result (λ a. Does D.meaning (first_values (D.meaning.dims value.old) globals.now) value.old a value.new) }
+    ensures appends { IfOk result (λ a. Does D.meaning
+        (first_values (D.meaning.dims value.old) globals.now) value.old a value.new) }
     ensures dims { OnOk result (D.meaning.dims value.new ≡ D.meaning.dims value.old + length globals.now) }
 {
     let Some((first, later)) = globals.split_first() else {

@@ -21,7 +21,8 @@ pub struct Kept<D> {
     pub exactness: Exactness,
 }
 
-/// What a condition leaves of a value: where it is true, and where it is false. The flags of the one aren't those of the other.
+/// What a condition leaves of a value: where it is true, and where it is false. The flags of the one aren't those of
+/// the other.
 #[derive(Drop)]
 pub struct Sides<D> {
     pub on: Kept<D>,
@@ -54,7 +55,9 @@ fn split_comparison<D: Domain>(
     from: Kept<D>,
 ) -> Result<Sides<D>, AllocError>
     requires { D.meaning.dims from.value < 2 ^ 62 }
-    ensures { IfOk result (λ s. Splits D.meaning base (atom (comparison_view op) (expr_view left.now) (expr_view right.now)) (atom (opposite_comparison (comparison_view op)) (expr_view left.now) (expr_view right.now)) from s) }
+    ensures { IfOk result (λ s. Splits D.meaning base
+        (atom (comparison_view op) (expr_view left.now) (expr_view right.now))
+        (atom (opposite_comparison (comparison_view op)) (expr_view left.now) (expr_view right.now)) from s) }
 {
     let Kept {
         value: mut on,
@@ -75,8 +78,8 @@ fn split_comparison<D: Domain>(
     })
 }
 
-/// Both sides of `condition`, each of its comparisons taken once: `&&` goes on with what its left side leaves, `||` with what that leaves where
-/// it is false; the other side of each is a join.
+/// Both sides of `condition`, each of its comparisons taken once: `&&` goes on with what its left side leaves, `||`
+/// with what that leaves where it is false; the other side of each is a join.
 #[cycle(split)]
 pub fn split<D: Domain>(
     alloc: Global,
@@ -85,7 +88,8 @@ pub fn split<D: Domain>(
     from: Kept<D>,
 ) -> Result<Sides<D>, AllocError>
     requires { D.meaning.dims from.value < 2 ^ 62 }
-    ensures { IfOk result (λ s. Splits D.meaning base (push true (cond_view condition.now)) (push false (cond_view condition.now)) from s) }
+    ensures { IfOk result (λ s. Splits D.meaning base (push true (cond_view condition.now))
+        (push false (cond_view condition.now)) from s) }
 {
     match condition {
         Cond::Compare(op, left, right) => {
@@ -122,7 +126,8 @@ fn split_all<D: Domain>(
     from: Kept<D>,
 ) -> Result<Sides<D>, AllocError>
     requires { D.meaning.dims from.value < 2 ^ 62 }
-    ensures { IfOk result (λ s. Splits D.meaning base (in_turn_of true (cond_view first.now) (map cond_view rest.now)) (either_of false (cond_view first.now) (map cond_view rest.now)) from s) }
+    ensures { IfOk result (λ s. Splits D.meaning base (in_turn_of true (cond_view first.now) (map cond_view rest.now))
+        (either_of false (cond_view first.now) (map cond_view rest.now)) from s) }
 {
     let one = split(alloc, base, first, from)?;
     let Some((next, later)) = rest.split_first() else {
@@ -151,7 +156,8 @@ fn split_any<D: Domain>(
     from: Kept<D>,
 ) -> Result<Sides<D>, AllocError>
     requires { D.meaning.dims from.value < 2 ^ 62 }
-    ensures { IfOk result (λ s. Splits D.meaning base (either_of true (cond_view first.now) (map cond_view rest.now)) (in_turn_of false (cond_view first.now) (map cond_view rest.now)) from s) }
+    ensures { IfOk result (λ s. Splits D.meaning base (either_of true (cond_view first.now) (map cond_view rest.now))
+        (in_turn_of false (cond_view first.now) (map cond_view rest.now)) from s) }
 {
     let one = split(alloc, base, first, from)?;
     let Some((next, later)) = rest.split_first() else {
@@ -179,7 +185,8 @@ pub fn divide<D: Domain>(
     from: Kept<D>,
 ) -> Result<Sides<D>, AllocError>
     requires { D.meaning.dims from.value < 2 ^ 62 }
-    ensures { IfOk result (λ s. Splits D.meaning base (push wanted (cond_view condition.now)) (push (not wanted) (cond_view condition.now)) from s) }
+    ensures { IfOk result (λ s. Splits D.meaning base (push wanted (cond_view condition.now))
+        (push (not wanted) (cond_view condition.now)) from s) }
 {
     let sides = split(alloc, base, condition, from)?;
     if wanted {

@@ -1,5 +1,6 @@
 -- The step without a line across, from the pairs and their combinations to the new rays.
-use Rattle.std.proofs.Common.{◌≡◌, ℕ, zero, suc, ◌+◌, ◌<◌, Bool, true, false, cond, not, List, [], ◌∷◌, ◌++◌, length, get_or, map, replicate, refl, ap, sym, ◌∙◌, subst, arith, pos, ℤ, neg_ℤ, ◌<ℤ◌, inl, inr}
+use Rattle.std.proofs.Common.{◌≡◌, ℕ, zero, suc, ◌+◌, ◌<◌, Bool, true, false, cond, not, List, [], ◌∷◌, ◌++◌, length, get_or, map, replicate, refl, ap, sym, ◌∙◌, subst, arith, pos, ℤ, neg_ℤ, ◌<ℤ◌}
+use Rattle.std.proofs.Common.{inl, inr}
 use Rattle.std.specs.List.{Contains, filter, All}
 use Rattle.std.specs.Ordering.{int_eq}
 use Rattle.std.specs.Prelude.{◌&&◌}
@@ -37,7 +38,8 @@ none_marked (suc n) (x ∷ xs) = ap (λ ys. x ∷ ys) (none_marked n xs)
 abbrev pub inside_rays : Bool → List ℤ → List (List ℤ) → List (List ℤ)
 inside_rays equal c rays = filter (λ r. is_inside equal (product c r)) rays
 
-pub unmarked_are : (equal : Bool) (c : List ℤ) (rays more : List (List ℤ)) (n : ℕ) → unmarked (outside_marks equal (map (product c) rays) ++ replicate n false) (rays ++ more) ≡ inside_rays equal c rays ++ more
+pub unmarked_are : (equal : Bool) (c : List ℤ) (rays more : List (List ℤ)) (n : ℕ) → unmarked (outside_marks equal (map (product c) rays) ++ replicate n false) (rays ++ more) ≡
+    inside_rays equal c rays ++ more
 unmarked_are equal c [] more n = none_marked n more
 unmarked_are equal c (r ∷ rays) more n = by_test (is_inside equal (product c r)) (unmarked_are equal c rays more n)
   where
@@ -85,7 +87,8 @@ from_pair products rays (p ∷ pairs) (x ∷ ts) a t k = elim (contains_cases x 
   | inr m ↦ let i = from_pair products rays pairs ts a.1 t m in record { from = i.from; has = contains_tail p i.from pairs i.has; lowest = i.lowest }
 ]
 
-to_row : (products : List ℤ) (rays : List (List ℤ)) (pairs : List Pair) (ts : List (List ℤ)) → AreCombined products rays pairs ts → (p : Pair) → Contains pairs p → (t : List ℤ) × Contains ts t × IsLowest (pair_sum products rays p) t
+to_row : (products : List ℤ) (rays : List (List ℤ)) (pairs : List Pair) (ts : List (List ℤ)) → AreCombined products rays pairs ts → (p : Pair) → Contains pairs p → (t : List ℤ) × Contains ts t ×
+    IsLowest (pair_sum products rays p) t
 to_row products rays [] ts a p k = absurd (contains_none p k)
 to_row products rays (q ∷ pairs) [] a p k = absurd a
 to_row products rays (q ∷ pairs) (x ∷ ts) a p k = elim (contains_cases q p pairs k) [
@@ -122,7 +125,8 @@ module _ (w : ℕ) (c : List ℤ) (taken : List Given) (lines rays : List (List 
   once = no_repeat lines rays k
 
   sum_is : (p : Pair) → p.up < length rays → p.down < length rays → pair_sum products rays p ≡ pair c (ray p.up) (ray p.down)
-  sum_is p hu hd = ap (λ z. blend (neg_ℤ z) (get_or products p.up (pos 0)) (ray p.up) (ray p.down)) (product_at p.down hd) ∙ ap (λ z. blend (neg_ℤ (product c (ray p.down))) z (ray p.up) (ray p.down)) (product_at p.up hu)
+  sum_is p hu hd = ap (λ z. blend (neg_ℤ z) (get_or products p.up (pos 0)) (ray p.up) (ray p.down)) (product_at p.down hd) ∙
+      ap (λ z. blend (neg_ℤ (product c (ray p.down))) z (ray p.up) (ray p.down)) (product_at p.up hu)
 
   both_is : (i j : ℕ) → i < length rays → j < length rays → both_tight rows i j ≡ both (tight_values taken (ray i)) (tight_values taken (ray j))
   both_is i j hi hj = ap (λ (x : List Bool). both x (get_or rows j [])) (row_at taken rays i hi) ∙ ap (λ (x : List Bool). both (tight_values taken (ray i)) x) (row_at taken rays j hj)
@@ -163,7 +167,8 @@ module _ (w : ℕ) (c : List ℤ) (taken : List Given) (lines rays : List (List 
         not_p = λ e. h.not_up (no_repeat_place rays h.third i [] once has hi e);
         not_n = λ e. h.not_down (no_repeat_place rays h.third j [] once has hj e);
         tight = subset_said taken (ray i) (ray j) (ray h.third)
-            (subst (IsSubset (both (tight_values taken (ray i)) (tight_values taken (ray j)))) (row_at taken rays h.third has) (subst (λ (x : List Bool). IsSubset x (get_or rows h.third [])) (both_is i j hi hj) h.covers));
+            (subst (IsSubset (both (tight_values taken (ray i)) (tight_values taken (ray j)))) (row_at taken rays h.third has)
+            (subst (λ (x : List Bool). IsSubset x (get_or rows h.third [])) (both_is i j hi hj) h.covers));
       }
 
   -- the combinations of pairs that are apart don't repeat
@@ -185,10 +190,12 @@ module _ (w : ℕ) (c : List ℤ) (taken : List Given) (lines rays : List (List 
   )
 
   -- the rays that stay and the combinations are the new rays
-  pub cut_case : (equal : Bool) (pairs : List Pair) (ts : List (List ℤ)) → ArePairs products rows (length products) 0 pairs → AreCombined products rays pairs ts → RayCase equal c (system_of taken) rays (inside_rays equal c rays ++ ts)
+  pub cut_case : (equal : Bool) (pairs : List Pair) (ts : List (List ℤ)) → ArePairs products rows (length products) 0 pairs → AreCombined products rays pairs ts →
+      RayCase equal c (system_of taken) rays (inside_rays equal c rays ++ ts)
   cut_case equal pairs ts p a =
       let test : List ℤ → Bool = λ r. is_inside equal (product c r) in
-      let sum_of : (t : List ℤ) → Contains ts t → IsAdjacentSum c (system_of taken) rays t = λ t m. let f = from_pair products rays pairs ts a t m in adjacent_sum f.from t (p.each f.from f.has) f.lowest in
+      let sum_of : (t : List ℤ) → Contains ts t → IsAdjacentSum c (system_of taken) rays t =
+      λ t m. let f = from_pair products rays pairs ts a t m in adjacent_sum f.from t (p.each f.from f.has) f.lowest in
       record {
         keeps = λ r m h. Contains-append_left (inside_rays equal c rays) ts r (filter_has test rays r m (inside_yes equal (product c r) h));
         pairs = λ u e hu he above below.
@@ -203,7 +210,8 @@ module _ (w : ℕ) (c : List ℤ) (taken : List Given) (lines rays : List (List 
                   let t = to_row products rays pairs ts a q.0 q.1 in
                   let qi : ray q.0.up ≡ u = ap ray q.2 ∙ ui in
                   let qj : ray q.0.down ≡ e = ap ray q.3 ∙ ej in
-                  let s : pair_sum products rays q.0 ≡ pair c u e = sum_is q.0 (subst (λ (n : ℕ). n < length rays) (sym q.2) hu.1) (subst (λ (n : ℕ). n < length rays) (sym q.3) he.1) ∙ ap (λ (y : List ℤ). pair c y (ray q.0.down)) qi ∙ ap (pair c u) qj in
+                  let s : pair_sum products rays q.0 ≡ pair c u e = sum_is q.0 (subst (λ (n : ℕ). n < length rays) (sym q.2) hu.1) (subst (λ (n : ℕ). n < length rays) (sym q.3) he.1) ∙
+                  ap (λ (y : List ℤ). pair c y (ray q.0.down)) qi ∙ ap (pair c u) qj in
                   inr (t.0, Contains-append_right (inside_rays equal c rays) ts t.0 t.1, subst (λ (y : List ℤ). IsLowest y t.0) s t.2)
               | inr h ↦ inl (subst (λ (y : List ℤ). NotAdjacent (system_of taken) rays y e) ui (subst (NotAdjacent (system_of taken) rays (ray i)) ej (third_between i j hu.1 he.1 h)))
             ];
@@ -212,7 +220,8 @@ module _ (w : ℕ) (c : List ℤ) (taken : List Given) (lines rays : List (List 
           | inr i ↦ inr (sum_of t i)
         ];
         once = no_repeat_append (inside_rays equal c rays) ts (no_repeat_filter test rays once) (sums_once pairs ts p.each p.apart a)
-            (λ t i j. let s = sum_of t j in none_between w c (system_of taken) lines rays d k t s t (filter_from test rays t i).0 (sum_flat w c (system_of taken) lines rays d k t s) (λ q m e f. tight_sum_of w c (system_of taken) lines rays d k t s q e f));
+            (λ t i j. let s = sum_of t j in none_between w c (system_of taken) lines rays d k t s t (filter_from test rays t i).0 (sum_flat w c (system_of taken) lines rays d k t s)
+            (λ q m e f. tight_sum_of w c (system_of taken) lines rays d k t s q e f));
       }
 
   -- ---- the matrix of the combinations
@@ -227,7 +236,8 @@ module _ (w : ℕ) (c : List ℤ) (taken : List Given) (lines rays : List (List 
       go true false true ex ey ez = sym ((Decides-int_eq y (pos 0)).1 (h ((Decides-int_eq z (pos 0)).0 ez)).1) ∙ ey
       go false b true ex ey ez = sym ((Decides-int_eq x (pos 0)).1 (h ((Decides-int_eq z (pos 0)).0 ez)).0) ∙ ex
 
-  values_both : (list : List Given) (t u e : List ℤ) → ((s : List ℤ) → Contains (system_of list) s → (product s t ≡ pos 0 → (product s u ≡ pos 0) × (product s e ≡ pos 0)) × (product s u ≡ pos 0 → product s e ≡ pos 0 → product s t ≡ pos 0)) →
+  values_both : (list : List Given) (t u e : List ℤ) → ((s : List ℤ) → Contains (system_of list) s → (product s t ≡ pos 0 → (product s u ≡ pos 0) × (product s e ≡ pos 0)) ×
+      (product s u ≡ pos 0 → product s e ≡ pos 0 → product s t ≡ pos 0)) →
       tight_values list t ≡ both (tight_values list u) (tight_values list e)
   values_both [] t u e h = refl
   values_both (g ∷ list) t u e h =
@@ -246,19 +256,23 @@ module _ (w : ℕ) (c : List ℤ) (taken : List Given) (lines rays : List (List 
       let new : int_eq (product g.row t) (pos 0) ≡ true = (Decides-int_eq (product g.row t) (pos 0)).1 (ap (λ (r : List ℤ). product r t) e ∙ sum_flat w c (system_of taken) lines rays d k t s) in
       ap (λ (x : List Bool). x ++ true ∷ []) (a.is_tight ∙ both_is p.up p.down hu hd ∙ sym old) ∙ ap (λ (b : Bool). tight_values taken t ++ b ∷ []) (sym new) ∙ sym (values_end taken g t)
 
-  pub pair_rows : (pairs : List Pair) (ts : List (List ℤ)) (g : Given) → g.row ≡ c → ((p : Pair) → Contains pairs p → IsAdjacentPair products rows p) → AreCombined products rays pairs ts → tight_rows pairs ≡ saturation_rows (taken ++ g ∷ []) ts
+  pub pair_rows : (pairs : List Pair) (ts : List (List ℤ)) (g : Given) → g.row ≡ c → ((p : Pair) → Contains pairs p → IsAdjacentPair products rows p) → AreCombined products rays pairs ts →
+      tight_rows pairs ≡ saturation_rows (taken ++ g ∷ []) ts
   pair_rows [] [] g e each a = refl
   pair_rows [] (t ∷ ts) g e each a = absurd a
   pair_rows (p ∷ pairs) [] g e each a = absurd a
   pair_rows (p ∷ pairs) (t ∷ ts) g e each a =
-      ap (λ (x : List Bool). x ∷ tight_rows pairs) (sum_values p t (each p (contains_head p pairs)) a.0 g e) ∙ ap (λ (x : List (List Bool)). tight_values (taken ++ g ∷ []) t ∷ x) (pair_rows pairs ts g e (λ q m. each q (contains_tail p q pairs m)) a.1)
+      ap (λ (x : List Bool). x ∷ tight_rows pairs) (sum_values p t (each p (contains_head p pairs)) a.0 g e) ∙
+      ap (λ (x : List (List Bool)). tight_values (taken ++ g ∷ []) t ∷ x) (pair_rows pairs ts g e (λ q m. each q (contains_tail p q pairs m)) a.1)
 
 -- ---- what the code asks of the pairs
-pub pairs_up : (products : List ℤ) (rows : List (List Bool)) (n : ℕ) (pairs list : List Pair) → list ≡ pairs → length products ≡ n → ArePairs products rows (length products) 0 pairs → All (λ p. p.up < n) list
+pub pairs_up : (products : List ℤ) (rows : List (List Bool)) (n : ℕ) (pairs list : List Pair) → list ≡ pairs → length products ≡ n → ArePairs products rows (length products) 0 pairs →
+    All (λ p. p.up < n) list
 pairs_up products rows n pairs list e l a =
     subst (All (λ p. p.up < n)) (sym e) (λ i d h. omega (arith, l, above_inside products (get_or pairs i d).up (a.each (get_or pairs i d) (Contains-get_or pairs i d h)).above))
 
-pub pairs_down : (products : List ℤ) (rows : List (List Bool)) (n : ℕ) (pairs list : List Pair) → list ≡ pairs → length products ≡ n → ArePairs products rows (length products) 0 pairs → All (λ p. p.down < n) list
+pub pairs_down : (products : List ℤ) (rows : List (List Bool)) (n : ℕ) (pairs list : List Pair) → list ≡ pairs → length products ≡ n → ArePairs products rows (length products) 0 pairs →
+    All (λ p. p.down < n) list
 pairs_down products rows n pairs list e l a =
     subst (All (λ p. p.down < n)) (sym e) (λ i d h. omega (arith, l, below_inside products (get_or pairs i d).down (a.each (get_or pairs i d) (Contains-get_or pairs i d h)).below))
 
@@ -282,7 +296,8 @@ tight_length [] = refl
 tight_length (p ∷ pairs) = ap suc (tight_length pairs)
 
 -- a mark for each ray and each pair, and a row of the matrix
-pub marks_many : (equal : Bool) (products : List ℤ) (pairs list : List Pair) (gone : List Bool) (n : ℕ) → list ≡ pairs → n ≡ length pairs → gone ≡ outside_marks equal products ++ replicate n false → length gone ≡ length products + length list
+pub marks_many : (equal : Bool) (products : List ℤ) (pairs list : List Pair) (gone : List Bool) (n : ℕ) → list ≡ pairs → n ≡ length pairs → gone ≡ outside_marks equal products ++ replicate n false →
+    length gone ≡ length products + length list
 marks_many equal products pairs list gone n el en g =
     omega (arith, ap length g, length-append (outside_marks equal products) (replicate n false), length-map products (λ p. not (is_inside equal p)), length-replicate n false, en, ap length el)
 

@@ -9,7 +9,8 @@ use Rattle.lra_cone.specs.declared.line_step.Across.{Across}
 use Rattle.lra_cone.specs.Steps.{IsFlattened, AreFlattened, PushesFlattened, AreFlatLines}
 
 -- a row with a product above 0
-pub flattened_above : (line : Across) (p : ℤ) (r sum t : List ℤ) → line.down ≡ negated line.up → length line.down ≡ length r → sum ≡ blend line.product p r line.down → IsLowest sum t → IsFlattened line p r t
+pub flattened_above : (line : Across) (p : ℤ) (r sum t : List ℤ) → line.down ≡ negated line.up → length line.down ≡ length r → sum ≡ blend line.product p r line.down → IsLowest sum t →
+    IsFlattened line p r t
 flattened_above line p r sum t d w e h =
     inr (record {
       times = h.times;
@@ -34,7 +35,8 @@ flattened_below line p r sum t w e h =
     })
 
 -- ---- row by row
-flattened_end : (line : Across) (ps : List ℤ) (rs ts : List (List ℤ)) (p : ℤ) (r t : List ℤ) → length ps ≡ length rs → AreFlattened line ps rs ts → IsFlattened line p r t → AreFlattened line (ps ++ p ∷ []) (rs ++ r ∷ []) (ts ++ t ∷ [])
+flattened_end : (line : Across) (ps : List ℤ) (rs ts : List (List ℤ)) (p : ℤ) (r t : List ℤ) → length ps ≡ length rs → AreFlattened line ps rs ts → IsFlattened line p r t →
+    AreFlattened line (ps ++ p ∷ []) (rs ++ r ∷ []) (ts ++ t ∷ [])
 flattened_end line [] [] [] p r t l f x = (x, tt)
 flattened_end line (q ∷ ps) [] ts p r t l f x = absurd (omega (arith, l))
 flattened_end line [] [] (y ∷ ts) p r t l f x = absurd f
@@ -42,7 +44,8 @@ flattened_end line [] (y ∷ rs) ts p r t l f x = absurd f
 flattened_end line (q ∷ ps) (y ∷ rs) [] p r t l f x = absurd f
 flattened_end line (q ∷ ps) (y ∷ rs) (z ∷ ts) p r t l f x = (f.0, flattened_end line ps rs ts p r t (omega (arith, l)) f.1 x)
 
-pub flattened_more : (line : Across) (products : List ℤ) (rows old out new : List (List ℤ)) (k : ℕ) (t : List ℤ) → length products ≡ length rows → k < length rows → new ≡ out ++ t ∷ [] → IsFlattened line (get_or products k (pos 0)) (get_or rows k []) t →
+pub flattened_more : (line : Across) (products : List ℤ) (rows old out new : List (List ℤ)) (k : ℕ) (t : List ℤ) → length products ≡ length rows → k < length rows → new ≡ out ++ t ∷ [] →
+    IsFlattened line (get_or products k (pos 0)) (get_or rows k []) t →
     PushesFlattened line (take k products) (take k rows) old out → PushesFlattened line (take (k + 1) products) (take (k + 1) rows) old new
 flattened_more line products rows old out new k t l h e x f =
     let lp : k < length products = omega (arith, l, h) in (
@@ -50,7 +53,8 @@ flattened_more line products rows old out new k t l h e x f =
       e ∙ ap (λ (y : List (List ℤ)). y ++ t ∷ []) f.1 ∙ append_assoc old f.0 (t ∷ []),
       subst (λ (ps : List ℤ). AreFlattened line ps (take (k + 1) rows) (f.0 ++ t ∷ [])) (sym (take_more products k (pos 0) lp))
           (subst (λ (rs : List (List ℤ)). AreFlattened line (take k products ++ get_or products k (pos 0) ∷ []) rs (f.0 ++ t ∷ [])) (sym (take_more rows k [] h))
-          (flattened_end line (take k products) (take k rows) f.0 (get_or products k (pos 0)) (get_or rows k []) t (length-take-le k products (omega (arith, lp)) ∙ sym (length-take-le k rows (omega (arith, h)))) f.2 x)),
+          (flattened_end line (take k products) (take k rows) f.0 (get_or products k (pos 0)) (get_or rows k []) t
+          (length-take-le k products (omega (arith, lp)) ∙ sym (length-take-le k rows (omega (arith, h)))) f.2 x)),
     )
 
 pub below_sum : (line : Across) (p opposite : ℤ) (r sum : List ℤ) → opposite ≡ neg_ℤ p → sum ≡ blend opposite line.product line.up r → sum ≡ blend (neg_ℤ p) line.product line.up r

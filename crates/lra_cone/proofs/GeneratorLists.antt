@@ -1,5 +1,6 @@
 -- The generators that are shown of a cone are the canonical ones of its rows.
-use Rattle.std.proofs.Common.{◌≡◌, ◌≢◌, ℕ, suc, ◌+◌, ◌<◌, ◌≤◌, Bool, true, false, cond, List, [], ◌∷◌, ◌++◌, length, replicate, refl, ap, sym, ◌∙◌, subst, arith, pos, ℤ, neg_ℤ, ◌<ℤ◌, ◌≤ℤ◌, inl, inr, ◌⊎◌}
+use Rattle.std.proofs.Common.{◌≡◌, ◌≢◌, ℕ, suc, ◌+◌, ◌<◌, ◌≤◌, Bool, true, false, cond, List, [], ◌∷◌, ◌++◌, length, replicate, refl, ap, sym, ◌∙◌, subst, arith, pos, ℤ, neg_ℤ, ◌<ℤ◌, ◌≤ℤ◌, inl, inr}
+use Rattle.std.proofs.Common.{◌⊎◌}
 use Rattle.std.specs.List.{Contains}
 use Rattle.std.proofs.lemmas.Int.{ints}
 use Rattle.std.proofs.lemmas.List.{length-append, length-replicate}
@@ -21,7 +22,8 @@ use Rattle.lra_linear.proofs.Products.{entry_negated, negated_dot}
 use Rattle.lra_linear.proofs.Signs.{between_opposites}
 use Rattle.lra_canon.proofs.Orders.{ascends}
 use Rattle.lra_canon.specs.declared.order.Order.TheVariants.{Generators, Inequalities}
-use Rattle.lra_sys.specs.Listed.{Listed, generators, constraints, given_by, is_line, is_equality, FitsKind, FitKinds}
+use Rattle.lra_sys.specs.Listed.{Listed, generators, constraints, given_by, is_line, FitsKind, FitKinds}
+use Rattle.lra_linear.specs.Kinds.{is_equality}
 use Rattle.lra_sys.specs.declared.system.GenKind.{GenKind}
 use Rattle.lra_sys.specs.declared.system.GenKind.TheVariants.{Point, Ray, Line}
 use Rattle.lra_cone.specs.Cones.{Shape, IsCone}
@@ -45,7 +47,8 @@ pub system_lines : (rows : List (List ℤ)) → system_of (given_as true rows) �
 system_lines [] = refl
 system_lines (r ∷ rows) = ap (λ (l : List (List ℤ)). r ∷ negated r ∷ l) (system_lines rows)
 
-pub given_append : {K : Type 0} (equal : K → Bool) (xs ys : List (List ℤ)) (ks ls : List K) → length xs ≡ length ks → given_by equal (xs ++ ys) (ks ++ ls) ≡ given_by equal xs ks ++ given_by equal ys ls
+pub given_append : {K : Type 0} (equal : K → Bool) (xs ys : List (List ℤ)) (ks ls : List K) → length xs ≡ length ks →
+    given_by equal (xs ++ ys) (ks ++ ls) ≡ given_by equal xs ks ++ given_by equal ys ls
 given_append equal [] ys [] ls n = refl
 given_append equal [] ys (k ∷ ks) ls n = absurd (omega (arith, n))
 given_append equal (x ∷ xs) ys [] ls n = absurd (omega (arith, n))
@@ -70,7 +73,8 @@ as_many xs ys j k =
     length-append xs ys ∙ ap (λ (n : ℕ). n + length ys) (sym (length-replicate (length xs) j)) ∙ ap (λ (n : ℕ). length (replicate (length xs) j) + n) (sym (length-replicate (length ys) k)) ∙
     sym (length-append (replicate (length xs) j) (replicate (length ys) k))
 
-pub listed_generators : (lines rays : List (List ℤ)) (list : Listed GenKind) (h : ListsGenerators lines rays list) → generators list ≡ given_as false h.points ++ given_as false h.directions ++ given_as true lines
+pub listed_generators : (lines rays : List (List ℤ)) (list : Listed GenKind) (h : ListsGenerators lines rays list) →
+    generators list ≡ given_as false h.points ++ given_as false h.directions ++ given_as true lines
 listed_generators lines rays list h =
     let ps = replicate (length h.points) Point in
     let rs = replicate (length h.directions) Ray in
@@ -81,14 +85,16 @@ listed_generators lines rays list h =
     ap (λ (x : List Given). x ++ given_by is_line h.directions rs) (given_same is_line h.points Point) ∙ ap (λ (x : List Given). given_as false h.points ++ x) (given_same is_line h.directions Ray)) ∙
     ap (λ (x : List Given). (given_as false h.points ++ given_as false h.directions) ++ x) (given_same is_line lines Line)
 
-listed_fit : (lines rays : List (List ℤ)) (list : Listed GenKind) (h : ListsGenerators lines rays list) → ((r : List ℤ) → Contains h.points r → pos 0 <ℤ entry r 0) → ((r : List ℤ) → Contains h.directions r ⊎ Contains lines r → entry r 0 ≡ pos 0) → FitKinds list.rows list.kinds
+listed_fit : (lines rays : List (List ℤ)) (list : Listed GenKind) (h : ListsGenerators lines rays list) → ((r : List ℤ) → Contains h.points r → pos 0 <ℤ entry r 0) →
+    ((r : List ℤ) → Contains h.directions r ⊎ Contains lines r → entry r 0 ≡ pos 0) → FitKinds list.rows list.kinds
 listed_fit lines rays list h above flat =
     let ps = replicate (length h.points) Point in
     let rs = replicate (length h.directions) Ray in
     let ls = replicate (length lines) Line in
     subst (λ (x : List (List ℤ)). FitKinds x list.kinds) (sym h.rows_are) (subst (FitKinds ((h.points ++ h.directions) ++ lines)) (sym h.kinds_are)
     (fit_append (h.points ++ h.directions) lines (ps ++ rs) ls (as_many h.points h.directions Point Ray)
-    (fit_append h.points h.directions ps rs (sym (length-replicate (length h.points) Point)) (fit_same h.points Point above) (fit_same h.directions Ray (λ r m. flat r (inl m)))) (fit_same lines Line (λ r m. flat r (inr m)))))
+    (fit_append h.points h.directions ps rs (sym (length-replicate (length h.points) Point)) (fit_same h.points Point above) (fit_same h.directions Ray (λ r m. flat r (inl m))))
+    (fit_same lines Line (λ r m. flat r (inr m)))))
 
 -- ---- column 0 of a cone with the positivity row
 at_least_zero : (s : Shape) (kept : List Given) → IsCone s → s.taken ≡ inequality (positivity s.dims) ∷ kept → (t : List ℤ) → Contains (all_rows s.lines s.rays) t → pos 0 ≤ℤ entry t 0
@@ -98,7 +104,8 @@ at_least_zero s kept k e t m =
 
 flat_line : (lines rays : List (List ℤ)) → ((t : List ℤ) → Contains (all_rows lines rays) t → pos 0 ≤ℤ entry t 0) → (l : List ℤ) → Contains lines l → entry l 0 ≡ pos 0
 flat_line lines rays nonneg l m =
-    between_opposites (entry l 0) (entry (negated l) 0) (entry_negated l 0) (nonneg l (Contains-append_right rays (both_ways lines) l (in_lines lines l m))) (nonneg (negated l) (Contains-append_right rays (both_ways lines) (negated l) (in_lines_negated lines l m)))
+    between_opposites (entry l 0) (entry (negated l) 0) (entry_negated l 0) (nonneg l (Contains-append_right rays (both_ways lines) l (in_lines lines l m)))
+    (nonneg (negated l) (Contains-append_right rays (both_ways lines) (negated l) (in_lines_negated lines l m)))
 
 line_column : (s : Shape) (kept : List Given) → IsCone s → s.taken ≡ inequality (positivity s.dims) ∷ kept → (l : List ℤ) → Contains s.lines l → entry l 0 ≡ pos 0
 line_column s kept k e l m = flat_line s.lines s.rays (at_least_zero s kept k e) l m
@@ -127,7 +134,8 @@ at_points n x point = subst (λ z. pos 0 ≤ℤ z) (sym (positivity_product n x)
     nonneg z h = omega (arith, ints, h)
 
 -- where no ray is above 0 in column 0, all is 0 there
-pub flat_rows : (lines rays : List (List ℤ)) → ((t : List ℤ) → Contains (all_rows lines rays) t → pos 0 ≤ℤ entry t 0) → points_of rays ≡ [] → (t : List ℤ) → Contains (all_rows lines rays) t → entry t 0 ≡ pos 0
+pub flat_rows : (lines rays : List (List ℤ)) → ((t : List ℤ) → Contains (all_rows lines rays) t → pos 0 ≤ℤ entry t 0) → points_of rays ≡ [] → (t : List ℤ) → Contains (all_rows lines rays) t →
+    entry t 0 ≡ pos 0
 flat_rows lines rays nonneg none t m = elim (Contains-append_cases rays (both_ways lines) t m) [
   | inl i ↦ elim (parted rays t i) [
     | inl p ↦ absurd (contains_none t (subst (λ (l : List (List ℤ)). Contains l t) none p))
@@ -141,11 +149,13 @@ no_points : (s : Shape) (kept : List Given) → IsCone s → s.taken ≡ inequal
 no_points s kept k e none x point con =
     let n = s.dims in
     let holds : Con (inequality (positivity n) ∷ kept) x = con_cons (inequality (positivity n)) kept x (at_points n x point) con in
-    nothing_generated n (all_rows s.lines s.rays) x point (flat_rows s.lines s.rays (at_least_zero s kept k e) none) (k.dual.solutions x point.width (con_solves s.taken x (subst (λ (l : List Given). Con l x) (sym e) holds)))
+    nothing_generated n (all_rows s.lines s.rays) x point (flat_rows s.lines s.rays (at_least_zero s kept k e) none)
+    (k.dual.solutions x point.width (con_solves s.taken x (subst (λ (l : List Given). Con l x) (sym e) holds)))
 
 -- ---- the list that is shown
 -- of any canonical description of which no row is below 0 in column 0
-pub listed_have : (n : ℕ) (system lines rays : List (List ℤ)) (list : Listed GenKind) → AreDual (suc n) system (all_rows lines rays) → IsCanonical lines rays → ((t : List ℤ) → Contains (all_rows lines rays) t → pos 0 ≤ℤ entry t 0) → ListsGenerators lines rays list →
+pub listed_have : (n : ℕ) (system lines rays : List (List ℤ)) (list : Listed GenKind) → AreDual (suc n) system (all_rows lines rays) → IsCanonical lines rays →
+    ((t : List ℤ) → Contains (all_rows lines rays) t → pos 0 ≤ℤ entry t 0) → ListsGenerators lines rays list →
     HasGenerators n system (generators list) × FitKinds list.rows list.kinds
 listed_have n system lines rays list dual canonical nonneg h =
     let parts : InParts rays h.points h.directions = in_parts rays h.points h.directions h.points_are h.directions_are in
@@ -170,8 +180,10 @@ listed_have n system lines rays list dual canonical nonneg h =
       listed_fit lines rays list h parts.above flat,
     )
 
-pub generators_shown : (s : Shape) (n : ℕ) (kept : List Given) (list : Listed GenKind) → IsCone s → s.dims ≡ n → s.taken ≡ inequality (positivity n) ∷ kept → ShowsGenerators s.lines s.rays list → AreGeneratorsOf n kept (generators list) × FitKinds list.rows list.kinds
-generators_shown s n kept list k d t shown = subst (λ (m : ℕ). AreGeneratorsOf m kept (generators list) × FitKinds list.rows list.kinds) d (here (t ∙ ap (λ (m : ℕ). inequality (positivity m) ∷ kept) (sym d)) shown)
+pub generators_shown : (s : Shape) (n : ℕ) (kept : List Given) (list : Listed GenKind) → IsCone s → s.dims ≡ n → s.taken ≡ inequality (positivity n) ∷ kept → ShowsGenerators s.lines s.rays list →
+    AreGeneratorsOf n kept (generators list) × FitKinds list.rows list.kinds
+generators_shown s n kept list k d t shown = subst (λ (m : ℕ). AreGeneratorsOf m kept (generators list) × FitKinds list.rows list.kinds) d
+    (here (t ∙ ap (λ (m : ℕ). inequality (positivity m) ∷ kept) (sym d)) shown)
   where
     here : s.taken ≡ inequality (positivity s.dims) ∷ kept → ShowsGenerators s.lines s.rays list → AreGeneratorsOf s.dims kept (generators list) × FitKinds list.rows list.kinds
     here e (inl h) = (
@@ -186,7 +198,8 @@ generators_shown s n kept list k d t shown = subst (λ (m : ℕ). AreGeneratorsO
 pub system_of_generators : (n : ℕ) (system : List (List ℤ)) (list : List Given) (h : HasGenerators n system list) → system_of list ≡ all_rows h.lines (h.points ++ h.rays)
 system_of_generators n system list h =
     ap system_of h.are ∙ system_append (given_as false h.points ++ given_as false h.rays) (given_as true h.lines) ∙
-    ap (λ (x : List (List ℤ)). x ++ system_of (given_as true h.lines)) (system_append (given_as false h.points) (given_as false h.rays) ∙ ap (λ (x : List (List ℤ)). x ++ system_of (given_as false h.rays)) (system_rays h.points) ∙ ap (λ (x : List (List ℤ)). h.points ++ x) (system_rays h.rays)) ∙
+    ap (λ (x : List (List ℤ)). x ++ system_of (given_as true h.lines)) (system_append (given_as false h.points) (given_as false h.rays) ∙
+    ap (λ (x : List (List ℤ)). x ++ system_of (given_as false h.rays)) (system_rays h.points) ∙ ap (λ (x : List (List ℤ)). h.points ++ x) (system_rays h.rays)) ∙
     ap (λ (x : List (List ℤ)). (h.points ++ h.rays) ++ x) (system_lines h.lines)
 
 pub same_points : (n : ℕ) (rows list : List Given) → AreGeneratorsOf n rows list → SameSet n (Con rows) (Gen list)
@@ -200,14 +213,16 @@ same_points n rows list (inl h) = (
         ((con_gen (record { dims = n; rows = inequality (falsity n) ∷ []; generators = [] }) (inl (refl, refl))).1 x point gen (inequality (falsity n)) (contains_head (inequality (falsity n)) []))
 same_points n rows list (inr h) =
     let first = inequality (positivity n) in
-    let dual : AreDual (suc n) (system_of (first ∷ rows)) (system_of list) = subst (AreDual (suc n) (system_of (first ∷ rows))) (sym (system_of_generators n (system_of (first ∷ rows)) list h)) h.dual in
+    let dual : AreDual (suc n) (system_of (first ∷ rows)) (system_of list) = subst (AreDual (suc n) (system_of (first ∷ rows)))
+    (sym (system_of_generators n (system_of (first ∷ rows)) list h)) h.dual in
     let same = dual_same_points n (first ∷ rows) list dual in (
       λ x point con. same.0 x point (con_cons first rows x (at_points n x point) con),
       λ x point gen. con_tail first rows x (same.1 x point gen),
     )
 
 -- as the code tells it
-pub generated : (cone start : Shape) (n dims : ℕ) (kept : List Given) (lines rays : List (List ℤ)) (list : Listed GenKind) → IsCone cone → dims ≡ n → cone.dims ≡ start.dims → start.dims ≡ dims → start.taken ≡ inequality (positivity dims) ∷ [] → cone.taken ≡ start.taken ++ kept →
+pub generated : (cone start : Shape) (n dims : ℕ) (kept : List Given) (lines rays : List (List ℤ)) (list : Listed GenKind) → IsCone cone → dims ≡ n → cone.dims ≡ start.dims → start.dims ≡ dims →
+    start.taken ≡ inequality (positivity dims) ∷ [] → cone.taken ≡ start.taken ++ kept →
     lines ≡ cone.lines → rays ≡ cone.rays → ShowsGenerators lines rays list → AreGeneratorsOf n kept (generators list) × FitKinds list.rows list.kinds
 generated cone start n dims kept lines rays list k en ec es et taken el er shown =
     generators_shown cone n kept list k (ec ∙ es ∙ en) (taken ∙ ap (λ (l : List Given). l ++ kept) (et ∙ ap (λ (m : ℕ). inequality (positivity m) ∷ []) en))

@@ -1,5 +1,6 @@
 -- Lists of adjacent pairs, place by place, and lists of what pairs give.
-use Rattle.std.proofs.Common.{◌≡◌, ℕ, suc, ◌+◌, ◌<◌, ◌≤◌, Bool, true, false, cond, List, [], ◌∷◌, ◌++◌, length, get_or, take, refl, ap, sym, ◌∙◌, subst, arith, pos, ℤ, ◌<ℤ◌, ◌≤ℤ◌, inl, inr, ◌⊎◌, int_lt, int_le}
+use Rattle.std.proofs.Common.{◌≡◌, ℕ, suc, ◌+◌, ◌<◌, ◌≤◌, Bool, true, false, cond, List, [], ◌∷◌, ◌++◌, length, get_or, take, refl, ap, sym, ◌∙◌, subst, arith, pos, ℤ, ◌<ℤ◌, ◌≤ℤ◌, inl, inr, ◌⊎◌}
+use Rattle.std.proofs.Common.{int_lt, int_le}
 use Rattle.std.specs.List.{Contains}
 use Rattle.std.proofs.lemmas.Bool.{cases_lt}
 use Rattle.std.proofs.lemmas.Bool.Decides.{Decides-int_eq}
@@ -48,7 +49,8 @@ before_split up down i j (inl h) = inl (inl h)
 before_split up down i j (inr h) = elim (cases_lt j down) [ inl l ↦ inl (inr (h.0, l)) | inr g ↦ inr (h.0, omega (arith, g, h.1)) ]
 
 -- no pair at this place
-pub pairs_skip : (products : List ℤ) (rows : List (List Bool)) (up down : ℕ) (ps : List Pair) → (pos 0 <ℤ get_or products up (pos 0) → get_or products down (pos 0) <ℤ pos 0 → HasThird rows up down (both_tight rows up down)) →
+pub pairs_skip : (products : List ℤ) (rows : List (List Bool)) (up down : ℕ) (ps : List Pair) →
+    (pos 0 <ℤ get_or products up (pos 0) → get_or products down (pos 0) <ℤ pos 0 → HasThird rows up down (both_tight rows up down)) →
     ArePairs products rows up down ps → ArePairs products rows up (down + 1) ps
 pairs_skip products rows up down ps h a = record {
   each = a.each;
@@ -64,10 +66,12 @@ pairs_skip products rows up down ps h a = record {
 not_below : (z : ℤ) → pos 0 ≤ℤ z → z <ℤ pos 0 → ⊥
 not_below z h k = omega (arith, ints, h, k)
 
-pub pairs_skip_side : (products : List ℤ) (rows : List (List Bool)) (up down : ℕ) (ps : List Pair) → pos 0 ≤ℤ get_or products down (pos 0) → ArePairs products rows up down ps → ArePairs products rows up (down + 1) ps
+pub pairs_skip_side : (products : List ℤ) (rows : List (List Bool)) (up down : ℕ) (ps : List Pair) → pos 0 ≤ℤ get_or products down (pos 0) → ArePairs products rows up down ps →
+    ArePairs products rows up (down + 1) ps
 pairs_skip_side products rows up down ps h a = pairs_skip products rows up down ps (λ x y. absurd (not_below (get_or products down (pos 0)) h y)) a
 
-pub pairs_skip_third : (products : List ℤ) (rows : List (List Bool)) (up down : ℕ) (ps : List Pair) (u d t : List Bool) (b : Bool) → u ≡ get_or rows up [] → d ≡ get_or rows down [] → t ≡ both u d → TellsAdjacent rows up down t b → b ≡ false →
+pub pairs_skip_third : (products : List ℤ) (rows : List (List Bool)) (up down : ℕ) (ps : List Pair) (u d t : List Bool) (b : Bool) → u ≡ get_or rows up [] → d ≡ get_or rows down [] → t ≡ both u d →
+    TellsAdjacent rows up down t b → b ≡ false →
     ArePairs products rows up down ps → ArePairs products rows up (down + 1) ps
 pairs_skip_third products rows up down ps u d t b eu ed et h eb a =
     let same : t ≡ both_tight rows up down = et ∙ ap (λ (x : List Bool). both x d) eu ∙ ap (λ (x : List Bool). both (get_or rows up []) x) ed in
@@ -84,8 +88,10 @@ apart_end (x ∷ ps) p a h = (
 )
 
 -- a pair at this place
-pub pairs_push : (products : List ℤ) (rows : List (List Bool)) (up down : ℕ) (ps new : List Pair) (p : Pair) (u d : List Bool) (b : Bool) → p.up ≡ up → p.down ≡ down → new ≡ ps ++ p ∷ [] → pos 0 <ℤ get_or products up (pos 0) → get_or products down (pos 0) <ℤ pos 0 →
-    u ≡ get_or rows up [] → d ≡ get_or rows down [] → p.tight ≡ both u d → TellsAdjacent rows up down p.tight b → b ≡ true → ArePairs products rows up down ps → ArePairs products rows up (down + 1) new
+pub pairs_push : (products : List ℤ) (rows : List (List Bool)) (up down : ℕ) (ps new : List Pair) (p : Pair) (u d : List Bool) (b : Bool) → p.up ≡ up → p.down ≡ down → new ≡ ps ++ p ∷ [] →
+    pos 0 <ℤ get_or products up (pos 0) → get_or products down (pos 0) <ℤ pos 0 →
+    u ≡ get_or rows up [] → d ≡ get_or rows down [] → p.tight ≡ both u d → TellsAdjacent rows up down p.tight b → b ≡ true → ArePairs products rows up down ps →
+    ArePairs products rows up (down + 1) new
 pairs_push products rows up down ps new p u d b pu pd en above below eu ed et h eb a =
     subst (λ (x : List Pair). ArePairs products rows up (down + 1) x) (sym en)
     (record {
@@ -105,7 +111,8 @@ pairs_push products rows up down ps new p u d b pu pd en above below eu ed et h 
     })
   where
     same : p.tight ≡ both_tight rows p.up p.down
-    same = et ∙ ap (λ (x : List Bool). both x d) eu ∙ ap (λ (x : List Bool). both (get_or rows up []) x) ed ∙ ap (λ (n : ℕ). both_tight rows n down) (sym pu) ∙ ap (λ (n : ℕ). both_tight rows p.up n) (sym pd)
+    same = et ∙ ap (λ (x : List Bool). both x d) eu ∙ ap (λ (x : List Bool). both (get_or rows up []) x) ed ∙ ap (λ (n : ℕ). both_tight rows n down) (sym pu) ∙
+        ap (λ (n : ℕ). both_tight rows p.up n) (sym pd)
 
     alone : NoThird rows up down p.tight (length rows)
     alone = subst (TellsAdjacent rows up down p.tight) eb h
@@ -149,7 +156,8 @@ pairs_next products rows up down ps h a = record {
     back i j (inr l) b = absurd (omega (arith, l.1))
 
 -- no pair with a first ray on this side
-pub pairs_skip_row : (products : List ℤ) (rows : List (List Bool)) (up : ℕ) (ps : List Pair) → get_or products up (pos 0) ≤ℤ pos 0 → ArePairs products rows up 0 ps → ArePairs products rows (up + 1) 0 ps
+pub pairs_skip_row : (products : List ℤ) (rows : List (List Bool)) (up : ℕ) (ps : List Pair) → get_or products up (pos 0) ≤ℤ pos 0 → ArePairs products rows up 0 ps →
+    ArePairs products rows (up + 1) 0 ps
 pairs_skip_row products rows up ps h a = record {
   each = a.each;
   before = λ p k. inl (up_to p.up (a.before p k));
@@ -174,13 +182,15 @@ pairs_skip_row products rows up ps h a = record {
     back i j (inr l) k = absurd (omega (arith, l.1))
 
 -- ---- what the pairs give
-combined_end : (products : List ℤ) (rays : List (List ℤ)) (ps : List Pair) (ts : List (List ℤ)) (p : Pair) (t : List ℤ) → AreCombined products rays ps ts → IsLowest (pair_sum products rays p) t → AreCombined products rays (ps ++ p ∷ []) (ts ++ t ∷ [])
+combined_end : (products : List ℤ) (rays : List (List ℤ)) (ps : List Pair) (ts : List (List ℤ)) (p : Pair) (t : List ℤ) → AreCombined products rays ps ts → IsLowest (pair_sum products rays p) t →
+    AreCombined products rays (ps ++ p ∷ []) (ts ++ t ∷ [])
 combined_end products rays [] [] p t a h = (h, tt)
 combined_end products rays [] (x ∷ ts) p t a h = absurd a
 combined_end products rays (q ∷ ps) [] p t a h = absurd a
 combined_end products rays (q ∷ ps) (x ∷ ts) p t a h = (a.0, combined_end products rays ps ts p t a.1 h)
 
-pub combined_more : (products : List ℤ) (rays : List (List ℤ)) (pairs : List Pair) (k : ℕ) (p : Pair) (ts new : List (List ℤ)) (t : List ℤ) → k < length pairs → p ≡ get_or pairs k p → new ≡ ts ++ t ∷ [] → IsLowest (pair_sum products rays p) t →
+pub combined_more : (products : List ℤ) (rays : List (List ℤ)) (pairs : List Pair) (k : ℕ) (p : Pair) (ts new : List (List ℤ)) (t : List ℤ) → k < length pairs → p ≡ get_or pairs k p →
+    new ≡ ts ++ t ∷ [] → IsLowest (pair_sum products rays p) t →
     AreCombined products rays (take k pairs) ts → AreCombined products rays (take (k + 1) pairs) new
 combined_more products rays pairs k p ts new t h e n l a =
     subst (λ (ps : List Pair). AreCombined products rays ps new) (sym (take_more pairs k p h ∙ ap (λ (q : Pair). take k pairs ++ q ∷ []) (sym e)))
@@ -190,7 +200,8 @@ tight_push : (ps : List Pair) (p : Pair) → tight_rows (ps ++ p ∷ []) ≡ tig
 tight_push [] p = refl
 tight_push (q ∷ ps) p = ap (λ (x : List (List Bool)). (q.tight ++ true ∷ []) ∷ x) (tight_push ps p)
 
-pub tight_step : (first old new : Matrix) (pairs : List Pair) (k : ℕ) (p : Pair) (r : List Bool) → k < length pairs → p ≡ get_or pairs k p → old ≡ record first { rows = first.rows ++ tight_rows (take k pairs) } → new ≡ record old { rows = old.rows ++ r ∷ [] } →
+pub tight_step : (first old new : Matrix) (pairs : List Pair) (k : ℕ) (p : Pair) (r : List Bool) → k < length pairs → p ≡ get_or pairs k p →
+    old ≡ record first { rows = first.rows ++ tight_rows (take k pairs) } → new ≡ record old { rows = old.rows ++ r ∷ [] } →
     r ≡ p.tight ++ true ∷ [] → new ≡ record first { rows = first.rows ++ tight_rows (take (k + 1) pairs) }
 tight_step first old new pairs k p r h e i n q =
     n ∙ ap (λ (m : Matrix). record m { rows = m.rows ++ r ∷ [] }) i ∙
@@ -207,7 +218,8 @@ count_push equal (x ∷ ps) p = by_test (is_inside equal x) (inside_count equal 
     by_test true n m k e = omega (arith, e)
     by_test false n m k e = e
 
-pub count_more : (equal : Bool) (products : List ℤ) (k : ℕ) → k < length products → inside_count equal (take (k + 1) products) ≡ inside_count equal (take k products) + cond (is_inside equal (get_or products k (pos 0))) 1 0
+pub count_more : (equal : Bool) (products : List ℤ) (k : ℕ) → k < length products → inside_count equal (take (k + 1) products) ≡
+    inside_count equal (take k products) + cond (is_inside equal (get_or products k (pos 0))) 1 0
 count_more equal products k h = ap (inside_count equal) (take_more products k (pos 0) h) ∙ count_push equal (take k products) (get_or products k (pos 0))
 
 -- ---- tests
@@ -246,7 +258,8 @@ accepted false equal p h = go (is_inside equal p) refl
     go true e = absurd (let k : false ≡ true = h.1 (inside_said equal p e) in cc)
     go false e = refl
 
-pub counted : (equal : Bool) (products : List ℤ) (k count new : ℕ) (b : Bool) → k < length products → (b ≡ true → HoldsWith equal (get_or products k (pos 0))) × (HoldsWith equal (get_or products k (pos 0)) → b ≡ true) → new ≡ count + cond b 1 0 →
+pub counted : (equal : Bool) (products : List ℤ) (k count new : ℕ) (b : Bool) → k < length products → (b ≡ true → HoldsWith equal (get_or products k (pos 0))) ×
+    (HoldsWith equal (get_or products k (pos 0)) → b ≡ true) → new ≡ count + cond b 1 0 →
     (count ≡ inside_count equal (take k products)) × (count ≤ k) → (new ≡ inside_count equal (take (k + 1) products)) × (new ≤ k + 1)
 counted equal products k count new b h a e i =
     let t = accepted b equal (get_or products k (pos 0)) a in
@@ -261,6 +274,7 @@ pub plus_none : (n : ℕ) → n ≡ n + 0
 plus_none n = omega arith
 
 -- ---- what passes in one of the pairs
-pub pair_error : (products : List ℤ) (rays : List (List ℤ)) (pairs : List Pair) (k : ℕ) (p : Pair) (e : C.ConeError) → k < length pairs → p ≡ get_or pairs k p → IsPairError products rays p e → ArePairsError products rays pairs e
+pub pair_error : (products : List ℤ) (rays : List (List ℤ)) (pairs : List Pair) (k : ℕ) (p : Pair) (e : C.ConeError) → k < length pairs → p ≡ get_or pairs k p → IsPairError products rays p e →
+    ArePairsError products rays pairs e
 pair_error products rays pairs k p of_cone.Memory h is x = tt
 pair_error products rays pairs k p (of_cone.Strained strained) h is x = (p, (k, h, sym is), x)

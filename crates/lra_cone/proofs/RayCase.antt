@@ -48,7 +48,8 @@ beside_place front x back t k n = elim (Contains-append_cases front (x ∷ back)
 -- where a sum of numbers that are not negative is 0, each is
 first_zero : (a b z y : ℤ) → pos 0 <ℤ a → pos 0 ≤ℤ b → pos 0 ≤ℤ z → pos 0 ≤ℤ y → ((a *ℤ z) +ℤ (b *ℤ y)) ≡ pos 0 → z ≡ pos 0
 first_zero a b z y ha hb hz hy e =
-    no_factor z a ha (zero_part (z *ℤ a) (b *ℤ y) (mul_nonnegative z a hz (positive_is_nonnegative a ha)) (mul_nonnegative b y hb hy) (ring (v z ⊗ v a ⊕ v b ⊗ v y) (v a ⊗ v z ⊕ v b ⊗ v y) (omega arith) ∙ e))
+    no_factor z a ha (zero_part (z *ℤ a) (b *ℤ y) (mul_nonnegative z a hz (positive_is_nonnegative a ha)) (mul_nonnegative b y hb hy)
+    (ring (v z ⊗ v a ⊕ v b ⊗ v y) (v a ⊗ v z ⊕ v b ⊗ v y) (omega arith) ∙ e))
   where
     zero_part : (p q : ℤ) → pos 0 ≤ℤ p → pos 0 ≤ℤ q → p +ℤ q ≡ pos 0 → p ≡ pos 0
     zero_part p q hp hq e = omega (arith, ints, hp, hq, e)
@@ -77,7 +78,8 @@ lowest_same r t q x y p o =
 
 -- ---- dual descriptions with the same rows
 -- the same rows in another order, or more than once
-pub rows_same : (w : ℕ) (system rows others : List (List ℤ)) → ((t : List ℤ) → Contains rows t → Contains others t) → ((t : List ℤ) → Contains others t → Contains rows t) → AreDual w system rows → AreDual w system others
+pub rows_same : (w : ℕ) (system rows others : List (List ℤ)) → ((t : List ℤ) → Contains rows t → Contains others t) → ((t : List ℤ) → Contains others t → Contains rows t) → AreDual w system rows →
+    AreDual w system others
 rows_same w system rows others to from d = record {
   system_widths = d.system_widths;
   row_widths = λ t m. d.row_widths t (from t m);
@@ -86,7 +88,8 @@ rows_same w system rows others to from d = record {
   meets = λ t m. d.meets t (from t m);
 }
 
-pub system_same : (w : ℕ) (system others rows : List (List ℤ)) → ((t : List ℤ) → Contains system t → Contains others t) → ((t : List ℤ) → Contains others t → Contains system t) → AreDual w system rows → AreDual w others rows
+pub system_same : (w : ℕ) (system others rows : List (List ℤ)) → ((t : List ℤ) → Contains system t → Contains others t) → ((t : List ℤ) → Contains others t → Contains system t) →
+    AreDual w system rows → AreDual w others rows
 system_same w system others rows to from d = record {
   system_widths = λ c m. d.system_widths c (from c m);
   row_widths = d.row_widths;
@@ -139,7 +142,8 @@ turned_lines lines u g =
     (generated_bent [] (negsuc 0) (λ j. pos 0) both both u
     (λ r m.
     let s = signed_from lines r m in
-    generated_same both (λ j. negsuc 0 *ℤ entry r j) (bent [] (negsuc 0) (λ j. pos 0) (entry r)) (λ j. ring (v (negsuc 0) ⊗ v (entry r j)) (v (negsuc 0) ⊗ v (entry r j) ⊕ v (pos 0) ⊗ v (pos 0)) (omega arith))
+    generated_same both (λ j. negsuc 0 *ℤ entry r j) (bent [] (negsuc 0) (λ j. pos 0) (entry r))
+    (λ j. ring (v (negsuc 0) ⊗ v (entry r j)) (v (negsuc 0) ⊗ v (entry r j) ⊕ v (pos 0) ⊗ v (pos 0)) (omega arith))
     (signed_multiple lines s.line r (negsuc 0) s.has s.sign)) g)
 
 -- ---- sums of two rays
@@ -189,28 +193,34 @@ module _ (w : ℕ) (c : List ℤ) (system lines rays : List (List ℤ)) (d : Are
         let hy : pos 0 ≤ℤ y = d.meets a.down (ray_in a.down a.has_down) s m in
         let e : ((up_factor *ℤ x) +ℤ (down_factor *ℤ y)) ≡ pos 0 = sym (sum_dot s) ∙ ap (λ q. pos a.lowest.times *ℤ q) z ∙ ring (v (pos a.lowest.times) ⊗ v (pos 0)) (v (pos 0)) (omega arith) in (
           first_zero up_factor down_factor x y up_positive (positive_is_nonnegative down_factor a.above) hx hy e,
-          first_zero down_factor up_factor y x a.above (positive_is_nonnegative up_factor up_positive) hy hx (ring (v down_factor ⊗ v y ⊕ v up_factor ⊗ v x) (v up_factor ⊗ v x ⊕ v down_factor ⊗ v y) (omega arith) ∙ e),
+          first_zero down_factor up_factor y x a.above (positive_is_nonnegative up_factor up_positive) hy hx
+              (ring (v down_factor ⊗ v y ⊕ v up_factor ⊗ v x) (v up_factor ⊗ v x ⊕ v down_factor ⊗ v y) (omega arith) ∙ e),
         )
 
     pub tight_sum_of : (s : List ℤ) → dot s (entry a.up) ≡ pos 0 → dot s (entry a.down) ≡ pos 0 → dot s (entry t) ≡ pos 0
     tight_sum_of s e f =
-        no_product a.lowest.times (dot s (entry t)) a.lowest.positive (sum_dot s ∙ ap (λ q. (up_factor *ℤ q) +ℤ (down_factor *ℤ dot s (entry a.down))) e ∙ ap (λ q. (up_factor *ℤ pos 0) +ℤ (down_factor *ℤ q)) f ∙ ring (v up_factor ⊗ v (pos 0) ⊕ v down_factor ⊗ v (pos 0)) (v (pos 0)) (omega arith))
+        no_product a.lowest.times (dot s (entry t)) a.lowest.positive (sum_dot s ∙ ap (λ q. (up_factor *ℤ q) +ℤ (down_factor *ℤ dot s (entry a.down))) e ∙
+        ap (λ q. (up_factor *ℤ pos 0) +ℤ (down_factor *ℤ q)) f ∙ ring (v up_factor ⊗ v (pos 0) ⊕ v down_factor ⊗ v (pos 0)) (v (pos 0)) (omega arith))
 
     pub sum_flat : product c t ≡ pos 0
     sum_flat =
-        no_product a.lowest.times (dot c (entry t)) a.lowest.positive (sum_dot c ∙ ring (⊖ (v (product c a.down)) ⊗ v (product c a.up) ⊕ v (product c a.up) ⊗ v (product c a.down)) (v (pos 0)) (omega arith))
+        no_product a.lowest.times (dot c (entry t)) a.lowest.positive (sum_dot c ∙ ring (⊖ (v (product c a.down)) ⊗ v (product c a.up) ⊕ v (product c a.up) ⊗ v (product c a.down)) (v (pos 0))
+        (omega arith))
 
     sum_inside : Generated all (entry t)
     sum_inside =
         generated_divided all a.lowest.times (entry t) a.lowest.positive
         (generated_same all (λ j. (up_factor *ℤ entry a.up j) +ℤ (down_factor *ℤ entry a.down j)) (λ j. pos a.lowest.times *ℤ entry t j) (λ j. sym (sum_entry j))
-        (weighted all up_factor down_factor (entry a.up) (entry a.down) (positive_is_nonnegative up_factor up_positive) (positive_is_nonnegative down_factor a.above) (generated_row all a.up (ray_in a.up a.has_up)) (generated_row all a.down (ray_in a.down a.has_down))))
+        (weighted all up_factor down_factor (entry a.up) (entry a.down) (positive_is_nonnegative up_factor up_positive) (positive_is_nonnegative down_factor a.above)
+        (generated_row all a.up (ray_in a.up a.has_up)) (generated_row all a.down (ray_in a.down a.has_down))))
 
     sum_pointed : (new : List (List ℤ)) → ((u : ℕ → ℤ) → Generated new u → Generated all u) → ¬ (Generated new (λ j. neg_ℤ (entry t j)))
-    sum_pointed new sub = pair_pointed all new sub a.up a.down t up_factor down_factor a.lowest.times (ray_in a.down a.has_down) (k.pointed a.up a.has_up) up_positive (positive_is_nonnegative down_factor a.above) sum_entry
+    sum_pointed new sub = pair_pointed all new sub a.up a.down t up_factor down_factor a.lowest.times (ray_in a.down a.has_down) (k.pointed a.up a.has_up) up_positive
+        (positive_is_nonnegative down_factor a.above) sum_entry
 
     -- no ray on which c is tight is tight wherever both are
-    pub none_between : (r : List ℤ) → Contains rays r → product c r ≡ pos 0 → ((s : List ℤ) → Contains system s → dot s (entry a.up) ≡ pos 0 → dot s (entry a.down) ≡ pos 0 → dot s (entry r) ≡ pos 0) → ⊥
+    pub none_between : (r : List ℤ) → Contains rays r → product c r ≡ pos 0 → ((s : List ℤ) → Contains system s → dot s (entry a.up) ≡ pos 0 → dot s (entry a.down) ≡ pos 0 → dot s (entry r) ≡ pos 0) →
+        ⊥
     none_between r m z tight = a.adjacent (record {
       ray = r;
       has = m;
@@ -276,7 +286,8 @@ module _ (w : ℕ) (c : List ℤ) (system lines rays : List (List ℤ)) (d : Are
     new_reduced : (t : List ℤ) → Contains new t → (q : ℕ) → Contains k.pivots q → entry t q ≡ pos 0
     new_reduced t m q i = elim (x.from t m) [
       | inl a ↦ k.reduced t a.0 q i
-      | inr a ↦ no_product a.lowest.times (entry t q) a.lowest.positive (sum_entry t a q ∙ ap (λ z. (up_factor t a *ℤ z) +ℤ (down_factor t a *ℤ entry a.down q)) (k.reduced a.up a.has_up q i) ∙ ap (λ z. (up_factor t a *ℤ pos 0) +ℤ (down_factor t a *ℤ z)) (k.reduced a.down a.has_down q i) ∙
+      | inr a ↦ no_product a.lowest.times (entry t q) a.lowest.positive (sum_entry t a q ∙ ap (λ z. (up_factor t a *ℤ z) +ℤ (down_factor t a *ℤ entry a.down q)) (k.reduced a.up a.has_up q i) ∙
+          ap (λ z. (up_factor t a *ℤ pos 0) +ℤ (down_factor t a *ℤ z)) (k.reduced a.down a.has_down q i) ∙
           ring (v (up_factor t a) ⊗ v (pos 0) ⊕ v (down_factor t a) ⊗ v (pos 0)) (v (pos 0)) (omega arith))
     ]
 
@@ -285,7 +296,8 @@ module _ (w : ℕ) (c : List ℤ) (system lines rays : List (List ℤ)) (d : Are
 
     new_meets : (t : List ℤ) → Contains target t → Solves (c ∷ system) (entry t)
     new_meets t m s i = elim (contains_cases c s system i) [
-      | inl e ↦ subst (λ (y : List ℤ). pos 0 ≤ℤ dot y (entry t)) e (elim (Contains-append_cases new (both_ways lines) t m) [ inl n ↦ new_above t n | inr n ↦ subst (λ z. pos 0 ≤ℤ z) (sym (flat t n)) (omega (arith, ints)) ])
+      | inl e ↦ subst (λ (y : List ℤ). pos 0 ≤ℤ dot y (entry t)) e (elim (Contains-append_cases new (both_ways lines) t m)
+          [ inl n ↦ new_above t n | inr n ↦ subst (λ z. pos 0 ≤ℤ z) (sym (flat t n)) (omega (arith, ints)) ])
       | inr n ↦ generated_nonneg s all (entry t) (λ q o. d.meets q o s n) (new_inside t m)
     ]
 
@@ -296,13 +308,15 @@ module _ (w : ℕ) (c : List ℤ) (system lines rays : List (List ℤ)) (d : Are
         elim (x.from t mt) [
           | inl a ↦ elim (x.from q mq) [
             | inl b ↦ only_itself t q a.0 b.0 n later
-            | inr b ↦ only_itself t b.down a.0 b.has_down (λ e. not_both_sides (product c t) (holds_at_least equal (product c t) a.1) (subst (λ (y : List ℤ). product c y <ℤ pos 0) e b.below)) (λ s i e. (sum_tight q b s i (later s i e)).1)
+            | inr b ↦ only_itself t b.down a.0 b.has_down (λ e. not_both_sides (product c t) (holds_at_least equal (product c t) a.1) (subst (λ (y : List ℤ). product c y <ℤ pos 0) e b.below))
+                (λ s i e. (sum_tight q b s i (later s i e)).1)
           ]
           | inr a ↦ elim (x.from q mq) [
             | inl b ↦ none_between t a q b.0 (tight c (contains_head c system) (sum_flat t a)) (λ s i e f. later s i (tight_sum_of t a s e f))
             | inr b ↦
                 let two = same_two t q a b later in
-                two.0 (λ e. two.1 (λ f. n (lowest_same (pair c a.up a.down) t q a.lowest (subst (λ (y : List ℤ). IsLowest (pair c a.up y) q) f (subst (λ (y : List ℤ). IsLowest (pair c y b.down) q) e b.lowest)) (new_lowest t mt) (new_lowest q mq))))
+                two.0 (λ e. two.1 (λ f. n (lowest_same (pair c a.up a.down) t q a.lowest (subst (λ (y : List ℤ). IsLowest (pair c a.up y) q) f
+                (subst (λ (y : List ℤ). IsLowest (pair c y b.down) q) e b.lowest)) (new_lowest t mt) (new_lowest q mq))))
           ]
         ]
 
@@ -335,7 +349,8 @@ module _ (w : ℕ) (c : List ℤ) (system lines rays : List (List ℤ)) (d : Are
     line_tight t m s i =
         let l = signed_from lines t m in
         let at : (q : List ℤ) → Contains (both_ways lines) q → pos 0 ≤ℤ dot s (entry q) = λ q o. d.meets q (Contains-append_right rays (both_ways lines) q o) s i in
-        let z : dot s (entry l.line) ≡ pos 0 = between_opposites (dot s (entry l.line)) (dot s (entry (negated l.line))) (dot_negated s l.line) (at l.line (in_lines lines l.line l.has)) (at (negated l.line) (in_lines_negated lines l.line l.has)) in
+        let z : dot s (entry l.line) ≡ pos 0 = between_opposites (dot s (entry l.line)) (dot s (entry (negated l.line))) (dot_negated s l.line) (at l.line (in_lines lines l.line l.has))
+        (at (negated l.line) (in_lines_negated lines l.line l.has)) in
         elim l.sign [ inl e ↦ ap (λ (y : List ℤ). dot s (entry y)) e ∙ z | inr e ↦ ap (λ (y : List ℤ). dot s (entry y)) e ∙ dot_negated s l.line ∙ ap neg_ℤ z ]
 
     -- rays that are the same up to a line are the same
@@ -344,8 +359,10 @@ module _ (w : ℕ) (c : List ℤ) (system lines rays : List (List ℤ)) (d : Are
       | inl e ↦ e
       | inr n ↦ absurd (only_itself r t hr ht n (λ s i e.
           no_product b.times (dot s (entry t)) b.positive
-          (sym (dot_scale s (pos b.times) (entry t)) ∙ dot_same s (λ j. pos b.times *ℤ entry t j) (λ j. (pos b.other *ℤ entry r j) +ℤ b.line j) b.is_beside ∙ dot_plus s (pos b.other) (entry r) b.line ∙
-          ap (λ z. (pos b.other *ℤ z) +ℤ dot s b.line) e ∙ ap (λ z. (pos b.other *ℤ pos 0) +ℤ z) (generated_flat s (both_ways lines) b.line (λ q o. line_tight q o s i) b.on_line) ∙ ring (v (pos b.other) ⊗ v (pos 0) ⊕ v (pos 0)) (v (pos 0)) (omega arith))))
+          (sym (dot_scale s (pos b.times) (entry t)) ∙ dot_same s (λ j. pos b.times *ℤ entry t j) (λ j. (pos b.other *ℤ entry r j) +ℤ b.line j) b.is_beside ∙
+          dot_plus s (pos b.other) (entry r) b.line ∙
+          ap (λ z. (pos b.other *ℤ z) +ℤ dot s b.line) e ∙ ap (λ z. (pos b.other *ℤ pos 0) +ℤ z) (generated_flat s (both_ways lines) b.line (λ q o. line_tight q o s i) b.on_line) ∙
+          ring (v (pos b.other) ⊗ v (pos 0) ⊕ v (pos 0)) (v (pos 0)) (omega arith))))
     ]
 
     -- a vector that is tight at the whole system lies on the lines
@@ -353,9 +370,11 @@ module _ (w : ℕ) (c : List ℤ) (system lines rays : List (List ℤ)) (d : Are
     none_hidden u lu tight =
         let here : Generated all (entry u) = d.solutions u lu (λ s i. zero_at_least (dot s (entry u)) (tight s i)) in
         let there : Generated all (λ j. neg_ℤ (entry u j)) =
-        generated_same all (entry (negated u)) (λ j. neg_ℤ (entry u j)) (entry_negated u) (d.solutions (negated u) (negated_length u ∙ lu) (λ s i. zero_at_least (dot s (entry (negated u))) (dot_negated s u ∙ ap neg_ℤ (tight s i)))) in
+        generated_same all (entry (negated u)) (λ j. neg_ℤ (entry u j)) (entry_negated u)
+        (d.solutions (negated u) (negated_length u ∙ lu) (λ s i. zero_at_least (dot s (entry (negated u))) (dot_negated s u ∙ ap neg_ℤ (tight s i)))) in
         let g = lines_are_all lines rays k (entry u) here there in
-        generated_divided (both_ways lines) g.multiple (entry u) g.positive (generated_same (both_ways lines) (signed_sum g.factors lines) (λ j. pos g.multiple *ℤ entry u j) (λ j. sym (g.is_sum j)) (lines_generated lines g.factors))
+        generated_divided (both_ways lines) g.multiple (entry u) g.positive (generated_same (both_ways lines) (signed_sum g.factors lines) (λ j. pos g.multiple *ℤ entry u j) (λ j. sym (g.is_sum j))
+        (lines_generated lines g.factors))
 
     -- the rays of the inequality: those above c as well
     abbrev wide : List (List ℤ)
@@ -400,7 +419,8 @@ module _ (w : ℕ) (c : List ℤ) (system lines rays : List (List ℤ)) (d : Are
       line_kept = λ l m. generated_row wide_target l (Contains-append_right wide (both_ways lines) l m);
       pairs = λ p n hp hn up down. elim (x.pairs p n hp hn up down) [
         | inl a ↦ inr a
-        | inr t ↦ inl (generated_same wide_target (λ j. pos t.2.times *ℤ entry t.0 j) (entry (pair c p n)) t.2.is_multiple (generated_times wide_target t.2.times (entry t.0) (generated_row wide_target t.0 (Contains-append_left wide (both_ways lines) t.0 (wide_new t.0 t.1)))))
+        | inr t ↦ inl (generated_same wide_target (λ j. pos t.2.times *ℤ entry t.0 j) (entry (pair c p n)) t.2.is_multiple
+            (generated_times wide_target t.2.times (entry t.0) (generated_row wide_target t.0 (Contains-append_left wide (both_ways lines) t.0 (wide_new t.0 t.1)))))
       ];
     }
 
@@ -501,4 +521,5 @@ module _ (w : ℕ) (c : List ℤ) (system lines rays : List (List ℤ)) (d : Are
         go false e = λ other o. rows_same w (c ∷ other) wide_target target (wide_target_new e) target_wide (dual_step w c other all wide_target o lc wide_width first_step)
         go true e = λ other o.
             system_same w (negated c ∷ c ∷ other) (c ∷ negated c ∷ other) target (flip (negated c) c other) (flip c (negated c) other)
-            (dual_step w (negated c) (c ∷ other) wide_target target (dual_step w c other all wide_target o lc wide_width first_step) (negated_length c ∙ lc) (λ t m. wide_width t (target_wide t m)) (second_step e))
+            (dual_step w (negated c) (c ∷ other) wide_target target (dual_step w c other all wide_target o lc wide_width first_step) (negated_length c ∙ lc) (λ t m. wide_width t (target_wide t m))
+            (second_step e))

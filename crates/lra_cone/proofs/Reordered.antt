@@ -1,5 +1,6 @@
 -- Canonical descriptions whose rays stand in another order.
-use Rattle.std.proofs.Common.{◌≡◌, ◌≢◌, ℕ, suc, ◌+◌, ◌<◌, ◌≤◌, Bool, true, false, cond, List, [], ◌∷◌, ◌++◌, length, replicate, take, get_or, neg_ℤ, refl, ap, sym, ◌∙◌, subst, arith, pos, ℤ, ◌<ℤ◌, ◌≤ℤ◌, int_lt, inl, inr, ◌⊎◌}
+use Rattle.std.proofs.Common.{◌≡◌, ◌≢◌, ℕ, suc, ◌+◌, ◌<◌, ◌≤◌, Bool, true, false, cond, List, [], ◌∷◌, ◌++◌, length, replicate, take, get_or, neg_ℤ, refl, ap, sym, ◌∙◌, subst, arith, pos, ℤ, ◌<ℤ◌}
+use Rattle.std.proofs.Common.{◌≤ℤ◌, int_lt, inl, inr, ◌⊎◌}
 use Rattle.std.specs.List.{Contains, All}
 use Rattle.std.specs.List.Sorted.{IsPermutation, IsSorted}
 use Rattle.std.specs.Ordering.{is_eq}
@@ -14,8 +15,8 @@ use Rattle.lra_linear.specs.Canonical.{IsCanonical}
 use Rattle.lra_linear.specs.RowOrder.{row_cmp, inequality_cmp}
 use Rattle.lra_linear.specs.Polyhedra.{positivity}
 use Rattle.lra_sys.specs.Listed.{Listed}
-use Rattle.lra_sys.specs.declared.system.ConKind.{ConKind}
-use Rattle.lra_sys.specs.declared.system.ConKind.TheVariants.{Ge, Eq}
+use Rattle.lra_linear.specs.declared.ConKind.{ConKind}
+use Rattle.lra_linear.specs.declared.ConKind.TheVariants.{Ge, Eq}
 use Rattle.lra_sys.specs.declared.system.GenKind.{GenKind}
 use Rattle.lra_sys.specs.declared.system.GenKind.TheVariants.{Point, Ray, Line}
 use Rattle.lra_linear.proofs.CanonicalForms.{no_repeat}
@@ -61,7 +62,11 @@ once_too {A = A} xs (y ∷ ys) n to from h =
     middle_length (z ∷ front) x back = ap suc (middle_length front x back)
 
     wider : (front : List A) (x : A) (back : List A) (t : A) → Contains (front ++ back) t → Contains (front ++ x ∷ back) t
-    wider front x back t m = elim (Contains-append_cases front back t m) [ inl i ↦ Contains-append_left front (x ∷ back) t i | inr i ↦ Contains-append_right front (x ∷ back) t (contains_tail x t back i) ]
+    wider front x back t m = elim (Contains-append_cases front back t m) [
+      | inl i ↦ Contains-append_left front (x ∷ back) t i
+      | inr i ↦ Contains-append_right front (x ∷ back) t
+          (contains_tail x t back i)
+    ]
 
 pub once_left : {A : Type 0} (xs ys : List A) → NoRepeat (xs ++ ys) → NoRepeat xs
 once_left [] ys n = tt
@@ -73,12 +78,15 @@ once_right (x ∷ xs) ys n = once_right xs ys n.1
 
 -- ---- the same rays in another order
 pub same_rows : (lines rays others : List (List ℤ)) → ((t : List ℤ) → Contains rays t → Contains others t) → (t : List ℤ) → Contains (all_rows lines rays) t → Contains (all_rows lines others) t
-same_rows lines rays others to t m = elim (Contains-append_cases rays (both_ways lines) t m) [ inl i ↦ Contains-append_left others (both_ways lines) t (to t i) | inr i ↦ Contains-append_right others (both_ways lines) t i ]
+same_rows lines rays others to t m = elim (Contains-append_cases rays (both_ways lines) t m)
+    [ inl i ↦ Contains-append_left others (both_ways lines) t (to t i) | inr i ↦ Contains-append_right others (both_ways lines) t i ]
 
-pub dual_again : (w : ℕ) (system lines rays others : List (List ℤ)) → ((t : List ℤ) → Contains rays t → Contains others t) → ((t : List ℤ) → Contains others t → Contains rays t) → AreDual w system (all_rows lines rays) → AreDual w system (all_rows lines others)
+pub dual_again : (w : ℕ) (system lines rays others : List (List ℤ)) → ((t : List ℤ) → Contains rays t → Contains others t) → ((t : List ℤ) → Contains others t → Contains rays t) →
+    AreDual w system (all_rows lines rays) → AreDual w system (all_rows lines others)
 dual_again w system lines rays others to from d = rows_same w system (all_rows lines rays) (all_rows lines others) (same_rows lines rays others to) (same_rows lines others rays from) d
 
-pub canonical_again : (lines rays others : List (List ℤ)) → ((t : List ℤ) → Contains rays t → Contains others t) → ((t : List ℤ) → Contains others t → Contains rays t) → NoRepeat others → IsCanonical lines rays → IsCanonical lines others
+pub canonical_again : (lines rays others : List (List ℤ)) → ((t : List ℤ) → Contains rays t → Contains others t) → ((t : List ℤ) → Contains others t → Contains rays t) → NoRepeat others →
+    IsCanonical lines rays → IsCanonical lines others
 canonical_again lines rays others to from once k = record {
   pivots = k.pivots;
   echelon = k.echelon;
@@ -90,19 +98,26 @@ canonical_again lines rays others to from once k = record {
       let only = other_place front r back (subst NoRepeat e once) in
       k.needed s.front r s.back s.is (generated_through (all_rows lines (s.front ++ s.back)) (all_rows lines (front ++ back)) (entry r)
       (λ t m. generated_row (all_rows lines (s.front ++ s.back)) t (same_rows lines (front ++ back) (s.front ++ s.back)
-      (λ q i. beside_place s.front r s.back q (subst (λ (l : List (List ℤ)). Contains l q) s.is (from q (subst (λ (l : List (List ℤ)). Contains l q) (sym e) (wider front r back q i)))) (λ f. only (subst (Contains (front ++ back)) f i))) t m)) g);
-  pointed = λ r m g. k.pointed r (from r m) (generated_through (all_rows lines rays) (all_rows lines others) (λ j. neg_ℤ (entry r j)) (λ t n. generated_row (all_rows lines rays) t (same_rows lines others rays from t n)) g);
+      (λ q i. beside_place s.front r s.back q (subst (λ (l : List (List ℤ)). Contains l q) s.is (from q (subst (λ (l : List (List ℤ)). Contains l q) (sym e) (wider front r back q i))))
+      (λ f. only (subst (Contains (front ++ back)) f i))) t m)) g);
+  pointed = λ r m g. k.pointed r (from r m) (generated_through (all_rows lines rays) (all_rows lines others) (λ j. neg_ℤ (entry r j))
+      (λ t n. generated_row (all_rows lines rays) t (same_rows lines others rays from t n)) g);
 }
   where
     wider : (front : List (List ℤ)) (x : List ℤ) (back : List (List ℤ)) (t : List ℤ) → Contains (front ++ back) t → Contains (front ++ x ∷ back) t
-    wider front x back t m = elim (Contains-append_cases front back t m) [ inl i ↦ Contains-append_left front (x ∷ back) t i | inr i ↦ Contains-append_right front (x ∷ back) t (contains_tail x t back i) ]
+    wider front x back t m = elim (Contains-append_cases front back t m) [
+      | inl i ↦ Contains-append_left front (x ∷ back) t i
+      | inr i ↦ Contains-append_right front (x ∷ back) t
+          (contains_tail x t back i)
+    ]
 
 -- ---- the rays above 0 in column 0, and the others
 pub points_from : (rays : List (List ℤ)) (r : List ℤ) → Contains (points_of rays) r → Contains rays r × (pos 0 <ℤ entry r 0)
 points_from [] r k = absurd (contains_none r k)
 points_from (x ∷ rays) r k = go (int_lt (pos 0) (entry x 0)) refl k (λ m. points_from rays r m)
   where
-    go : (b : Bool) → int_lt (pos 0) (entry x 0) ≡ b → Contains (cond b (x ∷ points_of rays) (points_of rays)) r → (Contains (points_of rays) r → Contains rays r × (pos 0 <ℤ entry r 0)) → Contains (x ∷ rays) r × (pos 0 <ℤ entry r 0)
+    go : (b : Bool) → int_lt (pos 0) (entry x 0) ≡ b → Contains (cond b (x ∷ points_of rays) (points_of rays)) r → (Contains (points_of rays) r → Contains rays r × (pos 0 <ℤ entry r 0)) →
+        Contains (x ∷ rays) r × (pos 0 <ℤ entry r 0)
     go true e m later = elim (contains_cases x r (points_of rays) m) [
       | inl f ↦ (subst (Contains (x ∷ rays)) f (contains_head x rays), subst (λ (y : List ℤ). pos 0 <ℤ entry y 0) f (less_said (pos 0) (entry x 0) e))
       | inr n ↦ let i = later n in (contains_tail x r rays i.0, i.1)
@@ -113,7 +128,8 @@ pub directions_from : (rays : List (List ℤ)) (r : List ℤ) → Contains (dire
 directions_from [] r k = absurd (contains_none r k)
 directions_from (x ∷ rays) r k = go (int_lt (pos 0) (entry x 0)) refl k (λ m. directions_from rays r m)
   where
-    go : (b : Bool) → int_lt (pos 0) (entry x 0) ≡ b → Contains (cond b (directions_of rays) (x ∷ directions_of rays)) r → (Contains (directions_of rays) r → Contains rays r × (entry r 0 ≤ℤ pos 0)) → Contains (x ∷ rays) r × (entry r 0 ≤ℤ pos 0)
+    go : (b : Bool) → int_lt (pos 0) (entry x 0) ≡ b → Contains (cond b (directions_of rays) (x ∷ directions_of rays)) r → (Contains (directions_of rays) r → Contains rays r × (entry r 0 ≤ℤ pos 0)) →
+        Contains (x ∷ rays) r × (entry r 0 ≤ℤ pos 0)
     go true e m later = let i = later m in (contains_tail x r rays i.0, i.1)
     go false e m later = elim (contains_cases x r (directions_of rays) m) [
       | inl f ↦ (subst (Contains (x ∷ rays)) f (contains_head x rays), subst (λ (y : List ℤ). entry y 0 ≤ℤ pos 0) f (not_less_said (pos 0) (entry x 0) e))
@@ -124,7 +140,8 @@ pub parted : (rays : List (List ℤ)) (r : List ℤ) → Contains rays r → Con
 parted [] r k = absurd (contains_none r k)
 parted (x ∷ rays) r k = go (int_lt (pos 0) (entry x 0)) (λ m. parted rays r m)
   where
-    go : (b : Bool) → (Contains rays r → Contains (points_of rays) r ⊎ Contains (directions_of rays) r) → Contains (cond b (x ∷ points_of rays) (points_of rays)) r ⊎ Contains (cond b (directions_of rays) (x ∷ directions_of rays)) r
+    go : (b : Bool) → (Contains rays r → Contains (points_of rays) r ⊎ Contains (directions_of rays) r) → Contains (cond b (x ∷ points_of rays) (points_of rays)) r ⊎
+        Contains (cond b (directions_of rays) (x ∷ directions_of rays)) r
     go true later = elim (contains_cases x r rays k) [
       | inl e ↦ inl (subst (Contains (x ∷ points_of rays)) e (contains_head x (points_of rays)))
       | inr m ↦ elim (later m) [ inl i ↦ inl (contains_tail x r (points_of rays) i) | inr i ↦ inr i ]
@@ -138,7 +155,8 @@ pub parted_length : (rays : List (List ℤ)) → length (points_of rays) + lengt
 parted_length [] = refl
 parted_length (x ∷ rays) = go (int_lt (pos 0) (entry x 0)) (parted_length rays)
   where
-    go : (b : Bool) → length (points_of rays) + length (directions_of rays) ≡ length rays → length (cond b (x ∷ points_of rays) (points_of rays)) + length (cond b (directions_of rays) (x ∷ directions_of rays)) ≡ suc (length rays)
+    go : (b : Bool) → length (points_of rays) + length (directions_of rays) ≡ length rays →
+        length (cond b (x ∷ points_of rays) (points_of rays)) + length (cond b (directions_of rays) (x ∷ directions_of rays)) ≡ suc (length rays)
     go true e = omega (arith, e)
     go false e = omega (arith, e)
 
@@ -153,8 +171,10 @@ pub record InParts (rays points directions : List (List ℤ)) : Type 0 where
 
 pub in_parts : (rays points directions : List (List ℤ)) → IsPermutation (points_of rays) points → IsPermutation (directions_of rays) directions → InParts rays points directions
 in_parts rays points directions p d =
-    let point : (t : List ℤ) → Contains points t → Contains rays t × (pos 0 <ℤ entry t 0) = λ t m. points_from rays t (Contains-permutation points (points_of rays) t (IsPermutation-sym (points_of rays) points p) m) in
-    let direction : (t : List ℤ) → Contains directions t → Contains rays t × (entry t 0 ≤ℤ pos 0) = λ t m. directions_from rays t (Contains-permutation directions (directions_of rays) t (IsPermutation-sym (directions_of rays) directions d) m) in
+    let point : (t : List ℤ) → Contains points t → Contains rays t × (pos 0 <ℤ entry t 0) =
+    λ t m. points_from rays t (Contains-permutation points (points_of rays) t (IsPermutation-sym (points_of rays) points p) m) in
+    let direction : (t : List ℤ) → Contains directions t → Contains rays t × (entry t 0 ≤ℤ pos 0) =
+    λ t m. directions_from rays t (Contains-permutation directions (directions_of rays) t (IsPermutation-sym (directions_of rays) directions d) m) in
     record {
       to = λ t m. elim (parted rays t m) [
         | inl i ↦ Contains-append_left points directions t (Contains-permutation (points_of rays) points t p i)
@@ -163,7 +183,8 @@ in_parts rays points directions p d =
       from = λ t m. elim (Contains-append_cases points directions t m) [ inl i ↦ (point t i).0 | inr i ↦ (direction t i).0 ];
       above = λ t m. (point t m).1;
       others = direction;
-      many = length-append points directions ∙ ap (λ (n : ℕ). n + length directions) (length_permutation (points_of rays) points p) ∙ ap (λ (n : ℕ). length (points_of rays) + n) (length_permutation (directions_of rays) directions d) ∙ parted_length rays;
+      many = length-append points directions ∙ ap (λ (n : ℕ). n + length directions) (length_permutation (points_of rays) points p) ∙
+          ap (λ (n : ℕ). length (points_of rays) + n) (length_permutation (directions_of rays) directions d) ∙ parted_length rays;
     }
 
 pub parts_once : (lines rays points directions : List (List ℤ)) → IsCanonical lines rays → InParts rays points directions → NoRepeat (points ++ directions)
@@ -195,7 +216,8 @@ pub without_from : (row : List ℤ) (rows : List (List ℤ)) (r : List ℤ) → 
 without_from row [] r k = absurd (contains_none r k)
 without_from row (x ∷ rows) r k = go (is_eq (row_cmp x row)) refl k (λ m. without_from row rows r m)
   where
-    go : (b : Bool) → is_eq (row_cmp x row) ≡ b → Contains (cond b (without row rows) (x ∷ without row rows)) r → (Contains (without row rows) r → Contains rows r × (r ≢ row)) → Contains (x ∷ rows) r × (r ≢ row)
+    go : (b : Bool) → is_eq (row_cmp x row) ≡ b → Contains (cond b (without row rows) (x ∷ without row rows)) r → (Contains (without row rows) r → Contains rows r × (r ≢ row)) →
+        Contains (x ∷ rows) r × (r ≢ row)
     go true e m later = let i = later m in (contains_tail x r rows i.0, i.1)
     go false e m later = elim (contains_cases x r (without row rows) m) [
       | inl f ↦ (subst (Contains (x ∷ rows)) f (contains_head x rows), subst (λ (y : List ℤ). y ≢ row) f (different x row e))
@@ -235,7 +257,8 @@ pub directions_append : (xs ys : List (List ℤ)) → directions_of (xs ++ ys) �
 directions_append [] ys = refl
 directions_append (x ∷ xs) ys = go (int_lt (pos 0) (entry x 0)) (directions_append xs ys)
   where
-    go : (b : Bool) → directions_of (xs ++ ys) ≡ directions_of xs ++ directions_of ys → cond b (directions_of (xs ++ ys)) (x ∷ directions_of (xs ++ ys)) ≡ cond b (directions_of xs) (x ∷ directions_of xs) ++ directions_of ys
+    go : (b : Bool) → directions_of (xs ++ ys) ≡ directions_of xs ++ directions_of ys →
+        cond b (directions_of (xs ++ ys)) (x ∷ directions_of (xs ++ ys)) ≡ cond b (directions_of xs) (x ∷ directions_of xs) ++ directions_of ys
     go true e = e
     go false e = ap (λ (l : List (List ℤ)). x ∷ l) e
 
@@ -243,19 +266,24 @@ pub without_append : (row : List ℤ) (xs ys : List (List ℤ)) → without row 
 without_append row [] ys = refl
 without_append row (x ∷ xs) ys = go (is_eq (row_cmp x row)) (without_append row xs ys)
   where
-    go : (b : Bool) → without row (xs ++ ys) ≡ without row xs ++ without row ys → cond b (without row (xs ++ ys)) (x ∷ without row (xs ++ ys)) ≡ cond b (without row xs) (x ∷ without row xs) ++ without row ys
+    go : (b : Bool) → without row (xs ++ ys) ≡ without row xs ++ without row ys → cond b (without row (xs ++ ys)) (x ∷ without row (xs ++ ys)) ≡
+        cond b (without row xs) (x ∷ without row xs) ++ without row ys
     go true e = e
     go false e = ap (λ (l : List (List ℤ)). x ∷ l) e
 
-made_more : (f : List (List ℤ) → List (List ℤ)) → ((xs ys : List (List ℤ)) → f (xs ++ ys) ≡ f xs ++ f ys) → (rows : List (List ℤ)) (k : ℕ) (r : List ℤ) → k < length rows → r ≡ get_or rows k r → f (take (k + 1) rows) ≡ f (take k rows) ++ f (r ∷ [])
+made_more : (f : List (List ℤ) → List (List ℤ)) → ((xs ys : List (List ℤ)) → f (xs ++ ys) ≡ f xs ++ f ys) → (rows : List (List ℤ)) (k : ℕ) (r : List ℤ) → k < length rows → r ≡ get_or rows k r →
+    f (take (k + 1) rows) ≡ f (take k rows) ++ f (r ∷ [])
 made_more f appends rows k r h e = ap f (take_more rows k r h ∙ ap (λ (y : List ℤ). take k rows ++ y ∷ []) (sym e)) ∙ appends (take k rows) (r ∷ [])
 
-pub one_kept : (f : List (List ℤ) → List (List ℤ)) → ((xs ys : List (List ℤ)) → f (xs ++ ys) ≡ f xs ++ f ys) → (rows : List (List ℤ)) (k : ℕ) (r t : List ℤ) (items new : List (List ℤ)) → k < length rows → r ≡ get_or rows k r →
+pub one_kept : (f : List (List ℤ) → List (List ℤ)) → ((xs ys : List (List ℤ)) → f (xs ++ ys) ≡ f xs ++ f ys) → (rows : List (List ℤ)) (k : ℕ) (r t : List ℤ) (items new : List (List ℤ)) →
+    k < length rows → r ≡ get_or rows k r →
     f (r ∷ []) ≡ r ∷ [] → t ≡ r → new ≡ items ++ t ∷ [] → items ≡ f (take k rows) → new ≡ f (take (k + 1) rows)
 one_kept f appends rows k r t items new h e one et en ei =
-    en ∙ ap (λ (l : List (List ℤ)). l ++ t ∷ []) ei ∙ ap (λ (y : List ℤ). f (take k rows) ++ y ∷ []) et ∙ ap (λ (l : List (List ℤ)). f (take k rows) ++ l) (sym one) ∙ sym (made_more f appends rows k r h e)
+    en ∙ ap (λ (l : List (List ℤ)). l ++ t ∷ []) ei ∙ ap (λ (y : List ℤ). f (take k rows) ++ y ∷ []) et ∙ ap (λ (l : List (List ℤ)). f (take k rows) ++ l) (sym one) ∙
+    sym (made_more f appends rows k r h e)
 
-pub one_left : (f : List (List ℤ) → List (List ℤ)) → ((xs ys : List (List ℤ)) → f (xs ++ ys) ≡ f xs ++ f ys) → (rows : List (List ℤ)) (k : ℕ) (r : List ℤ) (items : List (List ℤ)) → k < length rows → r ≡ get_or rows k r →
+pub one_left : (f : List (List ℤ) → List (List ℤ)) → ((xs ys : List (List ℤ)) → f (xs ++ ys) ≡ f xs ++ f ys) → (rows : List (List ℤ)) (k : ℕ) (r : List ℤ) (items : List (List ℤ)) → k < length rows →
+    r ≡ get_or rows k r →
     f (r ∷ []) ≡ [] → items ≡ f (take k rows) → items ≡ f (take (k + 1) rows)
 one_left f appends rows k r items h e none ei = ei ∙ sym (append-nil (f (take k rows))) ∙ ap (λ (l : List (List ℤ)). f (take k rows) ++ l) (sym none) ∙ sym (made_more f appends rows k r h e)
 
@@ -264,24 +292,30 @@ All-from_contains : (P : List ℤ → Type 0) (rows : List (List ℤ)) → ((r :
 All-from_contains P rows h = All-from_get_or P rows [] (λ i l. h (get_or rows i []) (Contains-get_or rows i [] l))
 
 pub points_widths : (w : ℕ) (rays points : List (List ℤ)) → All (λ r. length r ≡ w) rays → IsPermutation (points_of rays) points → All (λ r. length r ≡ w) points
-points_widths w rays points h p = All-permutation (λ r. length r ≡ w) (points_of rays) points p (All-from_contains (λ r. length r ≡ w) (points_of rays) (λ r m. All-contains (λ r. length r ≡ w) rays r h (points_from rays r m).0))
+points_widths w rays points h p = All-permutation (λ r. length r ≡ w) (points_of rays) points p
+    (All-from_contains (λ r. length r ≡ w) (points_of rays) (λ r m. All-contains (λ r. length r ≡ w) rays r h (points_from rays r m).0))
 
 pub directions_widths : (w : ℕ) (rays directions : List (List ℤ)) → All (λ r. length r ≡ w) rays → IsPermutation (directions_of rays) directions → All (λ r. length r ≡ w) directions
-directions_widths w rays directions h p = All-permutation (λ r. length r ≡ w) (directions_of rays) directions p (All-from_contains (λ r. length r ≡ w) (directions_of rays) (λ r m. All-contains (λ r. length r ≡ w) rays r h (directions_from rays r m).0))
+directions_widths w rays directions h p = All-permutation (λ r. length r ≡ w) (directions_of rays) directions p
+    (All-from_contains (λ r. length r ≡ w) (directions_of rays) (λ r m. All-contains (λ r. length r ≡ w) rays r h (directions_from rays r m).0))
 
 pub without_widths : (w : ℕ) (row : List ℤ) (rays others : List (List ℤ)) → All (λ r. length r ≡ w) rays → IsPermutation (without row rays) others → All (λ r. length r ≡ w) others
-without_widths w row rays others h p = All-permutation (λ r. length r ≡ w) (without row rays) others p (All-from_contains (λ r. length r ≡ w) (without row rays) (λ r m. All-contains (λ r. length r ≡ w) rays r h (without_from row rays r m).0))
+without_widths w row rays others h p = All-permutation (λ r. length r ≡ w) (without row rays) others p
+    (All-from_contains (λ r. length r ≡ w) (without row rays) (λ r m. All-contains (λ r. length r ≡ w) rays r h (without_from row rays r m).0))
 
 -- ---- the list of generators, as it is put together
-pub put_together : (lines rays found others points directions : List (List ℤ)) (empty first second list : Listed GenKind) → found ≡ points_of rays → others ≡ directions_of rays → IsPermutation found points → IsPermutation others directions →
+pub put_together : (lines rays found others points directions : List (List ℤ)) (empty first second list : Listed GenKind) → found ≡ points_of rays → others ≡ directions_of rays →
+    IsPermutation found points → IsPermutation others directions →
     IsSorted row_cmp points → IsSorted row_cmp directions → found ≢ [] → empty.rows ≡ [] → empty.kinds ≡ [] →
-    first.rows ≡ empty.rows ++ points → first.kinds ≡ empty.kinds ++ replicate (length points) Point → second.rows ≡ first.rows ++ directions → second.kinds ≡ first.kinds ++ replicate (length directions) Ray →
+    first.rows ≡ empty.rows ++ points → first.kinds ≡ empty.kinds ++ replicate (length points) Point → second.rows ≡ first.rows ++ directions →
+    second.kinds ≡ first.kinds ++ replicate (length directions) Ray →
     list.rows ≡ second.rows ++ lines → list.kinds ≡ second.kinds ++ replicate (length lines) Line → ListsGenerators lines rays list
 put_together lines rays found others points directions empty first second list ef eo p d sp sd some r0 k0 r1 k1 r2 k2 r3 k3 = record {
   points = points;
   directions = directions;
   rows_are = r3 ∙ ap (λ (x : List (List ℤ)). x ++ lines) (r2 ∙ ap (λ (x : List (List ℤ)). x ++ directions) (r1 ∙ ap (λ (x : List (List ℤ)). x ++ points) r0));
-  kinds_are = k3 ∙ ap (λ (x : List GenKind). x ++ replicate (length lines) Line) (k2 ∙ ap (λ (x : List GenKind). x ++ replicate (length directions) Ray) (k1 ∙ ap (λ (x : List GenKind). x ++ replicate (length points) Point) k0));
+  kinds_are = k3 ∙ ap (λ (x : List GenKind). x ++ replicate (length lines) Line) (k2 ∙
+      ap (λ (x : List GenKind). x ++ replicate (length directions) Ray) (k1 ∙ ap (λ (x : List GenKind). x ++ replicate (length points) Point) k0));
   points_are = subst (λ (x : List (List ℤ)). IsPermutation x points) ef p;
   directions_are = subst (λ (x : List (List ℤ)). IsPermutation x directions) eo d;
   points_sorted = sp;
@@ -294,8 +328,10 @@ put_together lines rays found others points directions empty first second list e
     none_of (x ∷ xs) ys p e = absurd (contains_none x (subst (λ (l : List (List ℤ)). Contains l x) e (Contains-permutation (x ∷ xs) ys x p (contains_head x xs))))
 
 -- ---- and of constraints
-pub put_constraints : (n : ℕ) (lines rays found inequalities : List (List ℤ)) (row : List ℤ) (empty first list : Listed ConKind) → row ≡ positivity n → found ≡ without row rays → IsPermutation found inequalities → IsSorted inequality_cmp inequalities → empty.rows ≡ [] → empty.kinds ≡ [] →
-    first.rows ≡ empty.rows ++ lines → first.kinds ≡ empty.kinds ++ replicate (length lines) Eq → list.rows ≡ first.rows ++ inequalities → list.kinds ≡ first.kinds ++ replicate (length inequalities) Ge → ShowsConstraints n lines rays list
+pub put_constraints : (n : ℕ) (lines rays found inequalities : List (List ℤ)) (row : List ℤ) (empty first list : Listed ConKind) → row ≡ positivity n → found ≡ without row rays →
+    IsPermutation found inequalities → IsSorted inequality_cmp inequalities → empty.rows ≡ [] → empty.kinds ≡ [] →
+    first.rows ≡ empty.rows ++ lines → first.kinds ≡ empty.kinds ++ replicate (length lines) Eq → list.rows ≡ first.rows ++ inequalities →
+    list.kinds ≡ first.kinds ++ replicate (length inequalities) Ge → ShowsConstraints n lines rays list
 put_constraints n lines rays found inequalities row empty first list er ef p sorted r0 k0 r1 k1 r2 k2 = record {
   inequalities = inequalities;
   rows_are = r2 ∙ ap (λ (x : List (List ℤ)). x ++ inequalities) (r1 ∙ ap (λ (x : List (List ℤ)). x ++ lines) r0);

@@ -9,8 +9,9 @@ use Rattle.lra_linear.specs.declared.Cause.TheVariants.{Excess, TooMany}
 use Rattle.lra_linear.specs.Descriptions.{Given, system_of}
 use Rattle.lra_linear.specs.Strain.{Loss, Strains, IsStrained}
 use Rattle.lra_linear.specs.Cones.{AreDual, all_rows}
-use Rattle.lra_sys.specs.Listed.{Listed, constraints, given_by, is_equality}
-use Rattle.lra_sys.specs.declared.system.ConKind.{ConKind}
+use Rattle.lra_sys.specs.Listed.{Listed, constraints, given_by}
+use Rattle.lra_linear.specs.Kinds.{is_equality}
+use Rattle.lra_linear.specs.declared.ConKind.{ConKind}
 use Rattle.lra_cone.specs.declared.strained.Strained.{Strained}
 use Rattle.lra_cone.specs.declared.strained.ConeError as C
 use Rattle.lra_cone.specs.declared.strained.ConeError.TheVariants as of_cone
@@ -39,7 +40,8 @@ lost_longer w all more [] s = tt
 lost_longer w all more (loss ∷ later) s = strains_longer w all more loss s
 
 -- a cone strains as a list does
-strained_of : (w : ℕ) (chosen : List Given) (further : Given) (lines rays : List (List ℤ)) (cause : Cause) → ConeStrains w further.equal further.row lines rays cause → IsStrained w chosen further lines rays cause
+strained_of : (w : ℕ) (chosen : List Given) (further : Given) (lines rays : List (List ℤ)) (cause : Cause) → ConeStrains w further.equal further.row lines rays cause →
+    IsStrained w chosen further lines rays cause
 strained_of w chosen further lines rays (Excess e) (inl x) = inl x
 strained_of w chosen further lines rays (Excess e) (inr x) = inr (inl x)
 strained_of w chosen further lines rays TooMany x = inl x
@@ -54,7 +56,8 @@ conversion_start s kept losses ek el = record {
 }
 
 -- ---- the row is taken in
-pub conversion_more : (first all kept : List Given) (old new : Shape) (losses : List Loss) (after : List Given) (g : Given) → new.dims ≡ old.dims → new.taken ≡ old.taken ++ g ∷ [] → after ≡ kept ++ g ∷ [] → IsConversion first all kept old losses →
+pub conversion_more : (first all kept : List Given) (old new : Shape) (losses : List Loss) (after : List Given) (g : Given) → new.dims ≡ old.dims → new.taken ≡ old.taken ++ g ∷ [] →
+    after ≡ kept ++ g ∷ [] → IsConversion first all kept old losses →
     IsConversion first (all ++ g ∷ []) after new losses
 conversion_more first all kept old new losses after g d t e c = record {
   taken = t ∙ ap (λ (l : List Given). l ++ g ∷ []) c.taken ∙ append_assoc first kept (g ∷ []) ∙ ap (λ (l : List Given). first ++ l) (sym e);
@@ -93,12 +96,15 @@ lost_end first all kept s [] loss k c e strained = first_lost (first ++ all) s l
 lost_end first all kept s (earlier ∷ later) loss k c e strained = strains_longer (suc s.dims) (first ++ all) (loss.further ∷ []) earlier c.strain
 
 -- as the code tells it: after a row that was left out the cone is as it was
-pub conversion_left_out : (first all kept : List Given) (old new : Shape) (losses after : List Loss) (loss : Loss) (g : Given) (strained : Strained) (cause : Cause) (taken : List Given) → IsCone new → new ≡ old → taken ≡ new.taken →
-    loss ≡ record { chosen = taken; further = g; cause = cause } → cause ≡ cause_of strained → after ≡ losses ++ loss ∷ [] → IsConeError old g.equal g.row (of_cone.Strained strained) → IsConversion first all kept old losses → IsConversion first (all ++ g ∷ []) kept new after
+pub conversion_left_out : (first all kept : List Given) (old new : Shape) (losses after : List Loss) (loss : Loss) (g : Given) (strained : Strained) (cause : Cause) (taken : List Given) → IsCone new →
+    new ≡ old → taken ≡ new.taken →
+    loss ≡ record { chosen = taken; further = g; cause = cause } → cause ≡ cause_of strained → after ≡ losses ++ loss ∷ [] → IsConeError old g.equal g.row (of_cone.Strained strained) →
+    IsConversion first all kept old losses → IsConversion first (all ++ g ∷ []) kept new after
 conversion_left_out first all kept old new losses after loss g strained cause taken k same et el ec ea error c =
     let here : IsConversion first all kept new losses = subst (λ (s : Shape). IsConversion first all kept s losses) (sym same) c in
     let strains : ConeStrains (suc new.dims) g.equal g.row new.lines new.rays cause =
-    subst (ConeStrains (suc new.dims) g.equal g.row new.lines new.rays) (sym ec) (strain_cause new g.equal g.row strained (subst (λ (s : Shape). IsConeError s g.equal g.row (of_cone.Strained strained)) (sym same) error)) in
+    subst (ConeStrains (suc new.dims) g.equal g.row new.lines new.rays) (sym ec) (strain_cause new g.equal g.row strained
+    (subst (λ (s : Shape). IsConeError s g.equal g.row (of_cone.Strained strained)) (sym same) error)) in
     let told : IfLost (Strains (suc new.dims) ((first ++ all) ++ loss.further ∷ [])) (losses ++ loss ∷ []) =
     lost_end first all kept new losses loss k here (ap (λ (l : Loss). l.chosen) el ∙ et)
     (subst (λ (l : Loss). ConeStrains (suc new.dims) l.further.equal l.further.row new.lines new.rays l.cause) (sym el) strains) in
@@ -111,27 +117,32 @@ conversion_left_out first all kept old new losses after loss g strained cause ta
     })
 
 -- ---- row by row
-pub given_more : {K : Type 0} (equal : K → Bool) (rows : List (List ℤ)) (kinds : List K) (i : ℕ) (r : List ℤ) (k : K) → length rows ≡ length kinds → i < length rows → r ≡ get_or rows i r → k ≡ get_or kinds i k →
+pub given_more : {K : Type 0} (equal : K → Bool) (rows : List (List ℤ)) (kinds : List K) (i : ℕ) (r : List ℤ) (k : K) → length rows ≡ length kinds → i < length rows → r ≡ get_or rows i r →
+    k ≡ get_or kinds i k →
     given_by equal (take (i + 1) rows) (take (i + 1) kinds) ≡ given_by equal (take i rows) (take i kinds) ++ record { row = r; equal = equal k } ∷ []
 given_more {K = K} equal rows kinds i r k n h er ek =
     ap (λ (x : List (List ℤ)). given_by equal x (take (i + 1) kinds)) (take_more rows i r h ∙ ap (λ (y : List ℤ). take i rows ++ y ∷ []) (sym er)) ∙
     ap (given_by equal (take i rows ++ r ∷ [])) (take_more kinds i k (omega (arith, n, h)) ∙ ap (λ (y : K). take i kinds ++ y ∷ []) (sym ek)) ∙
     constraints_push equal (take i rows) (take i kinds) r k (length-take-le i rows (omega (arith, h)) ∙ sym (length-take-le i kinds (omega (arith, n, h))))
 
-pub all_given : {K : Type 0} (equal : K → Bool) (rows : List (List ℤ)) (kinds : List K) (i : ℕ) → length rows ≡ length kinds → i ≡ length rows → given_by equal (take i rows) (take i kinds) ≡ given_by equal rows kinds
+pub all_given : {K : Type 0} (equal : K → Bool) (rows : List (List ℤ)) (kinds : List K) (i : ℕ) → length rows ≡ length kinds → i ≡ length rows →
+    given_by equal (take i rows) (take i kinds) ≡ given_by equal rows kinds
 all_given equal rows kinds i n e = ap (λ (x : List (List ℤ)). given_by equal x (take i kinds)) (take_all i rows (omega (arith, e))) ∙ ap (given_by equal rows) (take_all i kinds (omega (arith, e, n)))
 
 -- a row that is put behind the others
 pub given_pushed : {K : Type 0} (equal : K → Bool) (rows : List (List ℤ)) (kinds : List K) (i : ℕ) (own : List (List ℤ)) → rows ≡ own → length kinds ≡ length own → i < length rows →
-    (before after : List Given) (g : Given) (r : List ℤ) (d : K) → r ≡ get_or rows i r → after ≡ before ++ g ∷ [] → g ≡ record { row = r; equal = equal (get_or kinds i d) } → before ≡ given_by equal (take i rows) (take i kinds) →
+    (before after : List Given) (g : Given) (r : List ℤ) (d : K) → r ≡ get_or rows i r → after ≡ before ++ g ∷ [] → g ≡ record { row = r; equal = equal (get_or kinds i d) } →
+    before ≡ given_by equal (take i rows) (take i kinds) →
     after ≡ given_by equal (take (i + 1) rows) (take (i + 1) kinds)
 given_pushed {K = K} equal rows kinds i own eo n h before after g r d er ea eg eb =
     let n' : length rows ≡ length kinds = ap length eo ∙ sym n in
     ea ∙ ap (λ (l : List Given). l ++ g ∷ []) eb ∙ ap (λ (x : Given). given_by equal (take i rows) (take i kinds) ++ x ∷ []) eg ∙
     sym (given_more equal rows kinds i r (get_or kinds i d) n' h er (get_or_default kinds i d (get_or kinds i d) (omega (arith, h, n'))))
 
-pub taken_next : {K : Type 0} (equal : K → Bool) (first kept : List Given) (rows : List (List ℤ)) (kinds : List K) (i : ℕ) (own : List (List ℤ)) → rows ≡ own → length kinds ≡ length own → i < length rows →
-    (r : List ℤ) (d : K) (new : Shape) (losses : List Loss) → r ≡ get_or rows i r → IsConversion first (given_by equal (take i rows) (take i kinds) ++ record { row = r; equal = equal (get_or kinds i d) } ∷ []) kept new losses →
+pub taken_next : {K : Type 0} (equal : K → Bool) (first kept : List Given) (rows : List (List ℤ)) (kinds : List K) (i : ℕ) (own : List (List ℤ)) → rows ≡ own → length kinds ≡ length own →
+    i < length rows →
+    (r : List ℤ) (d : K) (new : Shape) (losses : List Loss) → r ≡ get_or rows i r → IsConversion first
+    (given_by equal (take i rows) (take i kinds) ++ record { row = r; equal = equal (get_or kinds i d) } ∷ []) kept new losses →
     IsConversion first (given_by equal (take (i + 1) rows) (take (i + 1) kinds)) kept new losses
 taken_next equal first kept rows kinds i own eo n h r d new losses er c =
     let g : Given = record { row = r; equal = equal (get_or kinds i d) } in
@@ -139,6 +150,8 @@ taken_next equal first kept rows kinds i own eo n h r d new losses er c =
     subst (λ (l : List Given). IsConversion first l kept new losses) (given_pushed equal rows kinds i own eo n h before (before ++ g ∷ []) g r d er refl refl refl) c
 
 -- a constraint that is put behind the others
-pub constraints_pushed : (old new : Listed ConKind) (copied r : List ℤ) (k : ConKind) → length old.kinds ≡ length old.rows → copied ≡ r → new.rows ≡ old.rows ++ copied ∷ [] → new.kinds ≡ old.kinds ++ k ∷ [] → constraints new ≡ constraints old ++ record { row = r; equal = is_equality k } ∷ []
+pub constraints_pushed : (old new : Listed ConKind) (copied r : List ℤ) (k : ConKind) → length old.kinds ≡ length old.rows → copied ≡ r → new.rows ≡ old.rows ++ copied ∷ [] →
+    new.kinds ≡ old.kinds ++ k ∷ [] → constraints new ≡ constraints old ++ record { row = r; equal = is_equality k } ∷ []
 constraints_pushed old new copied r k n ec er ek =
-    ap (λ (x : List (List ℤ)). given_by is_equality x new.kinds) (er ∙ ap (λ (y : List ℤ). old.rows ++ y ∷ []) ec) ∙ ap (given_by is_equality (old.rows ++ r ∷ [])) ek ∙ constraints_push is_equality old.rows old.kinds r k (sym n)
+    ap (λ (x : List (List ℤ)). given_by is_equality x new.kinds) (er ∙ ap (λ (y : List ℤ). old.rows ++ y ∷ []) ec) ∙ ap (given_by is_equality (old.rows ++ r ∷ [])) ek ∙
+    constraints_push is_equality old.rows old.kinds r k (sym n)

@@ -1,5 +1,6 @@
 -- What is told of a row that is not taken in, from what the parts of a step tell.
-use Rattle.std.proofs.Common.{◌≡◌, ◌≢◌, ℕ, zero, suc, ◌+◌, ◌<◌, ◌≤◌, Bool, true, false, cond, List, [], ◌∷◌, ◌++◌, length, get_or, map, take, refl, ap, sym, ◌∙◌, subst, arith, pos, ℤ, neg_ℤ, ◌<ℤ◌, inl, inr, ◌⊎◌, int_lt, Ok, Err}
+use Rattle.std.proofs.Common.{◌≡◌, ◌≢◌, ℕ, zero, suc, ◌+◌, ◌<◌, ◌≤◌, Bool, true, false, cond, List, [], ◌∷◌, ◌++◌, length, get_or, map, take, refl, ap, sym, ◌∙◌, subst, arith, pos, ℤ, neg_ℤ, ◌<ℤ◌}
+use Rattle.std.proofs.Common.{inl, inr, ◌⊎◌, int_lt, Ok, Err}
 use Rattle.std.specs.List.{Contains}
 use Rattle.std.proofs.lemmas.Int.{ints}
 use Rattle.std.proofs.lemmas.List.{get_or-map, get_or-take, length-map, length-append}
@@ -50,7 +51,8 @@ product_rays s equal c rows (of_cone.Strained strained) el x =
 rays_apart : (s : Shape) → IsCone s → (u d : List ℤ) → Contains s.rays u → Contains s.rays d → u ≢ negated d
 rays_apart s k u d hu hd e =
     let all = all_rows s.lines s.rays in
-    k.canonical.pointed d hd (generated_same all (entry u) (λ j. neg_ℤ (entry d j)) (λ j. ap (λ (y : List ℤ). entry y j) e ∙ entry_negated d j) (generated_row all u (Contains-append_left s.rays (both_ways s.lines) u hu)))
+    k.canonical.pointed d hd (generated_same all (entry u) (λ j. neg_ℤ (entry d j)) (λ j. ap (λ (y : List ℤ). entry y j) e ∙ entry_negated d j)
+    (generated_row all u (Contains-append_left s.rays (both_ways s.lines) u hu)))
 
 -- a ray lies on no line
 ray_off : (s : Shape) → IsCone s → (r : List ℤ) → Contains s.rays r → ¬ (Contains (both_ways s.lines) r)
@@ -96,7 +98,8 @@ signed_in : (lines : List (List ℤ)) (line l : List ℤ) → Contains lines lin
 signed_in lines line l m (inl e) = subst (Contains (both_ways lines)) (sym e) (in_lines lines line m)
 signed_in lines line l m (inr e) = subst (Contains (both_ways lines)) (sym e) (in_lines_negated lines line m)
 
-module _ (s : Shape) (k : IsCone s) (equal : Bool) (c : List ℤ) (at : ℕ) (line : Across) (inside : at < length s.lines) (t : IsTurned (get_or s.lines at []) at (product c (get_or s.lines at [])) line) where
+module _ (s : Shape) (k : IsCone s) (equal : Bool) (c : List ℤ) (at : ℕ) (line : Across) (inside : at < length s.lines)
+    (t : IsTurned (get_or s.lines at []) at (product c (get_or s.lines at [])) line) where
   abbrev all : List (List ℤ)
   all = all_rows s.lines s.rays
 
@@ -113,10 +116,12 @@ module _ (s : Shape) (k : IsCone s) (equal : Bool) (c : List ℤ) (at : ℕ) (li
   product_down = ap (product c) (turned_down (get_or s.lines at []) at (product c (get_or s.lines at [])) line t) ∙ dot_negated c line.up ∙ ap neg_ℤ (sym product_up)
 
   has_up : Contains all line.up
-  has_up = Contains-append_right s.rays (both_ways s.lines) line.up (signed_in s.lines (get_or s.lines at []) line.up has_line (up_sign (get_or s.lines at []) at (product c (get_or s.lines at [])) line t))
+  has_up = Contains-append_right s.rays (both_ways s.lines) line.up (signed_in s.lines (get_or s.lines at []) line.up has_line
+      (up_sign (get_or s.lines at []) at (product c (get_or s.lines at [])) line t))
 
   has_down : Contains all line.down
-  has_down = Contains-append_right s.rays (both_ways s.lines) line.down (signed_in s.lines (get_or s.lines at []) line.down has_line (down_sign (get_or s.lines at []) at (product c (get_or s.lines at [])) line t))
+  has_down = Contains-append_right s.rays (both_ways s.lines) line.down (signed_in s.lines (get_or s.lines at []) line.down has_line
+      (down_sign (get_or s.lines at []) at (product c (get_or s.lines at [])) line t))
 
   opposite_down : negated line.down ≡ line.up
   opposite_down = ap negated (turned_down (get_or s.lines at []) at (product c (get_or s.lines at [])) line t) ∙ twice line.up
@@ -128,12 +133,14 @@ module _ (s : Shape) (k : IsCone s) (equal : Bool) (c : List ℤ) (at : ℕ) (li
   below_zero z y h e = omega (arith, ints, h, e)
 
   -- the row at the place of its family, with this product, and neither direction of the line
-  pub flattening_strain : (family : Family) (place : ℕ) (p : ℤ) (r : List ℤ) (e : E.Excess) → IsDirected s family place r → Contains all r → p ≡ product c r → r ≢ line.up → line.up ≢ negated r → flattening line p r ≡ Err e →
+  pub flattening_strain : (family : Family) (place : ℕ) (p : ℤ) (r : List ℤ) (e : E.Excess) → IsDirected s family place r → Contains all r → p ≡ product c r → r ≢ line.up → line.up ≢ negated r →
+      flattening line p r ≡ Err e →
       IsStrain s equal c (strained_pair (record { family = family; place = place }) p line.place e)
   flattening_strain family place p r e dr hr ep nu nn f = go (int_lt (pos 0) p) refl f
     where
       go : (b : Bool) → int_lt (pos 0) p ≡ b → cond b (checked_blend line.product p r line.down) (cond (int_lt p (pos 0)) (checked_blend (neg_ℤ p) line.product line.up r) (Ok r)) ≡ Err e →
-          IsStrain s equal c (cond b (Pair (record { family = family; place = place }) (record { family = Lines; place = line.place }) e) (Pair (record { family = Lines; place = line.place }) (record { family = family; place = place }) e))
+          IsStrain s equal c (cond b (Pair (record { family = family; place = place }) (record { family = Lines; place = line.place }) e)
+          (Pair (record { family = Lines; place = line.place }) (record { family = family; place = place }) e))
       go true h x = record {
         up = r;
         is_up = dr;
@@ -146,14 +153,16 @@ module _ (s : Shape) (k : IsCone s) (equal : Bool) (c : List ℤ) (at : ℕ) (li
           below = below_zero line.product (product c line.down) t.above product_down;
           apart = λ q. nu (q ∙ opposite_down);
         };
-        passes = ap (λ z. checked_blend (neg_ℤ z) (product c r) r line.down) product_down ∙ ap (λ z. checked_blend z (product c r) r line.down) (minus_minus line.product) ∙ ap (λ z. checked_blend line.product z r line.down) (sym ep) ∙ x;
+        passes = ap (λ z. checked_blend (neg_ℤ z) (product c r) r line.down) product_down ∙ ap (λ z. checked_blend z (product c r) r line.down) (minus_minus line.product) ∙
+            ap (λ z. checked_blend line.product z r line.down) (sym ep) ∙ x;
       }
         where
           minus_minus : (z : ℤ) → neg_ℤ (neg_ℤ z) ≡ z
           minus_minus z = omega (arith, ints)
       go false h x = low (int_lt p (pos 0)) refl x
         where
-          low : (b : Bool) → int_lt p (pos 0) ≡ b → cond b (checked_blend (neg_ℤ p) line.product line.up r) (Ok r) ≡ Err e → IsStrain s equal c (Pair (record { family = Lines; place = line.place }) (record { family = family; place = place }) e)
+          low : (b : Bool) → int_lt p (pos 0) ≡ b → cond b (checked_blend (neg_ℤ p) line.product line.up r) (Ok r) ≡ Err e →
+              IsStrain s equal c (Pair (record { family = Lines; place = line.place }) (record { family = family; place = place }) e)
           low true l y = record {
             up = line.up;
             is_up = directed line.up (up_sign (get_or s.lines at []) at (product c (get_or s.lines at [])) line t);
@@ -174,7 +183,8 @@ module _ (s : Shape) (k : IsCone s) (equal : Bool) (c : List ℤ) (at : ℕ) (li
               no q = cc
 
   -- the rays
-  pub flat_rays_error : (products : List ℤ) (rays : List (List ℤ)) (e : C.ConeError) → rays ≡ s.rays → products ≡ map (product c) s.rays → IsFlatteningError line products rays Rays e → IsConeError s equal c e
+  pub flat_rays_error : (products : List ℤ) (rays : List (List ℤ)) (e : C.ConeError) → rays ≡ s.rays → products ≡ map (product c) s.rays → IsFlatteningError line products rays Rays e →
+      IsConeError s equal c e
   flat_rays_error products rays of_cone.Memory er ep x = tt
   flat_rays_error products rays (of_cone.Strained strained) er ep x =
       let h : x.place < length s.rays = subst (λ (y : List (List ℤ)). x.place < length y) er x.inside in
@@ -185,12 +195,15 @@ module _ (s : Shape) (k : IsCone s) (equal : Bool) (c : List ℤ) (at : ℕ) (li
       let off = ray_off s k r m in
       subst (IsStrain s equal c) (sym x.is)
       (flattening_strain Rays x.place (get_or products x.place (pos 0)) r x.excess (record { inside = h; is = refl }) (Contains-append_left s.rays (both_ways s.lines) r m) value
-      (λ q. off (subst (Contains (both_ways s.lines)) (sym q) (signed_in s.lines (get_or s.lines at []) line.up has_line (up_sign (get_or s.lines at []) at (product c (get_or s.lines at [])) line t))))
-      (λ q. off (subst (Contains (both_ways s.lines)) (turned_down (get_or s.lines at []) at (product c (get_or s.lines at [])) line t ∙ ap negated q ∙ twice r) (signed_in s.lines (get_or s.lines at []) line.down has_line (down_sign (get_or s.lines at []) at (product c (get_or s.lines at [])) line t))))
+      (λ q. off (subst (Contains (both_ways s.lines)) (sym q) (signed_in s.lines (get_or s.lines at []) line.up has_line
+      (up_sign (get_or s.lines at []) at (product c (get_or s.lines at [])) line t))))
+      (λ q. off (subst (Contains (both_ways s.lines)) (turned_down (get_or s.lines at []) at (product c (get_or s.lines at [])) line t ∙ ap negated q ∙ twice r)
+      (signed_in s.lines (get_or s.lines at []) line.down has_line (down_sign (get_or s.lines at []) at (product c (get_or s.lines at [])) line t))))
       (ap (flattening line (get_or products x.place (pos 0))) (sym same) ∙ x.passes))
 
   -- the lines before the one across; `front` and `products` are theirs
-  pub flat_lines_error : (products : List ℤ) (front : List (List ℤ)) (e : C.ConeError) → length front ≤ at → ((i : ℕ) → i < length front → get_or front i [] ≡ get_or s.lines i []) → ((i : ℕ) → i < length front → get_or products i (pos 0) ≡ product c (get_or s.lines i [])) →
+  pub flat_lines_error : (products : List ℤ) (front : List (List ℤ)) (e : C.ConeError) → length front ≤ at → ((i : ℕ) → i < length front → get_or front i [] ≡ get_or s.lines i []) →
+      ((i : ℕ) → i < length front → get_or products i (pos 0) ≡ product c (get_or s.lines i [])) →
       IsFlatteningError line products front Lines e → IsConeError s equal c e
   flat_lines_error products front of_cone.Memory h same value x = tt
   flat_lines_error products front (of_cone.Strained strained) h same value x =
@@ -202,13 +215,15 @@ module _ (s : Shape) (k : IsCone s) (equal : Bool) (c : List ℤ) (at : ℕ) (li
       let up = up_sign (get_or s.lines at []) at (product c (get_or s.lines at [])) line t in
       let down = down_sign (get_or s.lines at []) at (product c (get_or s.lines at [])) line t in
       subst (IsStrain s equal c) (sym x.is)
-      (flattening_strain Lines i (get_or products i (pos 0)) r x.excess (r, record { inside = has; is = refl }, inl refl) (Contains-append_right s.rays (both_ways s.lines) r (in_lines s.lines r m)) (value i x.inside)
+      (flattening_strain Lines i (get_or products i (pos 0)) r x.excess (r, record { inside = has; is = refl }, inl refl) (Contains-append_right s.rays (both_ways s.lines) r (in_lines s.lines r m))
+      (value i x.inside)
       (lines_apart s k i at line.up before inside up)
       (λ q. lines_apart s k i at line.down before inside down (sym (twice r) ∙ ap negated (sym q) ∙ sym (turned_down (get_or s.lines at []) at (product c (get_or s.lines at [])) line t)))
       (ap (flattening line (get_or products i (pos 0))) (sym (same i x.inside)) ∙ x.passes))
 
   -- as the code hands them over
-  pub flat_front_error : (of_lines : List ℤ) (lines : List (List ℤ)) (e : C.ConeError) → lines ≡ s.lines → of_lines ≡ map (product c) s.lines → IsFlatteningError line (take line.place of_lines) (take line.place lines) Lines e → IsConeError s equal c e
+  pub flat_front_error : (of_lines : List ℤ) (lines : List (List ℤ)) (e : C.ConeError) → lines ≡ s.lines → of_lines ≡ map (product c) s.lines →
+      IsFlatteningError line (take line.place of_lines) (take line.place lines) Lines e → IsConeError s equal c e
   flat_front_error of_lines lines e el ep x =
       let p = line.place in
       flat_lines_error (take p of_lines) (take p lines) e (omega (arith, take_short p lines, t.is_place))
@@ -226,20 +241,28 @@ combinations_exist products rays (p ∷ pairs) =
     let rest = combinations_exist products rays pairs in
     (first.0 ∷ rest.0, (first.1, rest.1))
 
-pub cut_cone_error : (s : Shape) (g : Given) (products : List ℤ) (m : Matrix) (e : C.ConeError) → IsCone s → length g.row ≡ suc s.dims → ((l : List ℤ) → Contains s.lines l → product g.row l ≡ pos 0) → products ≡ map (product g.row) s.rays → m ≡ saturation_of s.taken s.rays →
+pub cut_cone_error : (s : Shape) (g : Given) (products : List ℤ) (m : Matrix) (e : C.ConeError) → IsCone s → length g.row ≡ suc s.dims → ((l : List ℤ) → Contains s.lines l → product g.row l ≡ pos 0) →
+    products ≡ map (product g.row) s.rays → m ≡ saturation_of s.taken s.rays →
     IsCutError g.equal products s.rays m e → IsConeError s g.equal g.row e
 cut_cone_error s g products m of_cone.Memory k w flat ep em x = tt
 cut_cone_error s g products m (of_cone.Strained strained) k w flat ep em x =
     let rows = saturation_rows s.taken s.rays in
     let of_rays = map (product g.row) s.rays in
-    let pairs : ArePairs of_rays rows (length of_rays) 0 x.pairs = subst (λ (q : List ℤ). ArePairs q rows (length q) 0 x.pairs) ep (subst (λ (y : Matrix). ArePairs products y.rows (length products) 0 x.pairs) em x.are_pairs) in
+    let pairs : ArePairs of_rays rows (length of_rays) 0 x.pairs = subst (λ (q : List ℤ). ArePairs q rows (length q) 0 x.pairs) ep
+    (subst (λ (y : Matrix). ArePairs products y.rows (length products) 0 x.pairs) em x.are_pairs) in
     elim x.names [
       | inl n ↦ named n.0 (pairs.each n.0 n.1) n.2
       | inr n ↦
           let ts = combinations_exist of_rays s.rays x.pairs in
           let case = cut_case (suc s.dims) g.row s.taken s.lines s.rays k.dual k.canonical g.equal x.pairs ts.0 pairs ts.1 in
           let new = inside_rays g.equal g.row s.rays ++ ts.0 in
-          let count : inside_count g.equal products + length x.pairs ≡ length new = omega (arith, ap (inside_count g.equal) ep, inside_length g.equal g.row s.rays, combined_length of_rays s.rays x.pairs ts.0 ts.1, length-append (inside_rays g.equal g.row s.rays) ts.0) in
+          let count : inside_count g.equal products + length x.pairs ≡ length new = omega (
+            arith,
+            ap (inside_count g.equal) ep,
+            inside_length g.equal g.row s.rays,
+            combined_length of_rays s.rays x.pairs ts.0 ts.1,
+            length-append (inside_rays g.equal g.row s.rays) ts.0,
+          ) in
           subst (IsStrain s g.equal g.row) (sym n.0)
           (record {
             strain = record {
@@ -282,7 +305,8 @@ cut_cone_error s g products m (of_cone.Strained strained) k w flat ep em x =
         })
 
 -- the product that the line was turned by
-pub turned_at : (s : Shape) (c : List ℤ) (of_lines : List ℤ) (at : ℕ) (line : Across) → of_lines ≡ map (product c) s.lines → at < length s.lines → IsTurned (get_or s.lines at []) at (get_or of_lines at (pos 0)) line →
+pub turned_at : (s : Shape) (c : List ℤ) (of_lines : List ℤ) (at : ℕ) (line : Across) → of_lines ≡ map (product c) s.lines → at < length s.lines →
+    IsTurned (get_or s.lines at []) at (get_or of_lines at (pos 0)) line →
     IsTurned (get_or s.lines at []) at (product c (get_or s.lines at [])) line
 turned_at s c of_lines at line e h t =
     subst (λ z. IsTurned (get_or s.lines at []) at z line) (ap (λ (y : List ℤ). get_or y at (pos 0)) e ∙ get_or-map (product c) s.lines at [] (pos 0) h) t

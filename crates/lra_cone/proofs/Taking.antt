@@ -1,5 +1,6 @@
 -- A row is taken in last: the system, the matrix, and the case of a line as the code makes it.
-use Rattle.std.proofs.Common.{◌≡◌, ℕ, zero, suc, ◌+◌, ◌<◌, ◌≤◌, Bool, true, false, List, [], ◌∷◌, ◌++◌, length, get_or, map, take, drop, replicate, refl, ap, sym, ◌∙◌, subst, arith, pos, ℤ, ◌+ℤ◌, ◌*ℤ◌, neg_ℤ, ◌<ℤ◌, inl, inr, ◌⊎◌}
+use Rattle.std.proofs.Common.{◌≡◌, ℕ, zero, suc, ◌+◌, ◌<◌, ◌≤◌, Bool, true, false, List, [], ◌∷◌, ◌++◌, length, get_or, map, take, drop, replicate, refl, ap, sym, ◌∙◌, subst, arith, pos, ℤ, ◌+ℤ◌}
+use Rattle.std.proofs.Common.{◌*ℤ◌, neg_ℤ, ◌<ℤ◌, inl, inr, ◌⊎◌}
 use Rattle.std.specs.Ordering.{int_eq}
 use Rattle.std.specs.List.{Contains}
 use Rattle.std.proofs.lemmas.Bool.Decides.{Decides-int_eq}
@@ -83,7 +84,8 @@ flat_of c line above is r t p (inr x) = record {
   same_length = x.same_length;
 }
 
-pub flats_of : (c : List ℤ) (line : Across) → pos 0 <ℤ line.product → line.product ≡ product c line.up → (rs ts : List (List ℤ)) → ((r : List ℤ) → Contains rs r → IsPrimitive r) → AreFlattened line (map (product c) rs) rs ts → Flats c line.up rs ts
+pub flats_of : (c : List ℤ) (line : Across) → pos 0 <ℤ line.product → line.product ≡ product c line.up → (rs ts : List (List ℤ)) → ((r : List ℤ) → Contains rs r → IsPrimitive r) →
+    AreFlattened line (map (product c) rs) rs ts → Flats c line.up rs ts
 flats_of c line above is [] [] p a = tt
 flats_of c line above is [] (t ∷ ts) p a = absurd a
 flats_of c line above is (r ∷ rs) [] p a = absurd a
@@ -103,7 +105,11 @@ at_middle lines at h = at_place lines at h ∙ ap (λ (n : ℕ). take at lines +
 in_front : (at : ℕ) (lines : List (List ℤ)) (r : List ℤ) → Contains (take at lines) r → Contains lines r
 in_front zero lines r m = absurd (contains_none r m)
 in_front (suc at) [] r m = absurd (contains_none r m)
-in_front (suc at) (l ∷ lines) r m = elim (contains_cases l r (take at lines) m) [ inl e ↦ subst (Contains (l ∷ lines)) e (contains_head l lines) | inr n ↦ contains_tail l r lines (in_front at lines r n) ]
+in_front (suc at) (l ∷ lines) r m = elim (contains_cases l r (take at lines) m) [
+  | inl e ↦ subst (Contains (l ∷ lines)) e (contains_head l lines)
+  | inr n ↦ contains_tail l r lines
+      (in_front at lines r n)
+]
 
 -- where the elements behind a place stand
 behind : (n : ℕ) (lines : List (List ℤ)) (r : List ℤ) → Contains (drop n lines) r → (k : ℕ) × (n ≤ k) × (k < length lines) × (get_or lines k [] ≡ r)
@@ -111,14 +117,16 @@ behind zero lines r m = (m.0, omega arith, m.1, get_or_default lines m.0 [] r m.
 behind (suc n) [] r m = absurd (contains_none r m)
 behind (suc n) (l ∷ lines) r m = let i = behind n lines r m in (suc i.0, omega (arith, i.1), omega (arith, i.2), i.3)
 
-pub line_case : (equal : Bool) (c : List ℤ) (lines rays new_lines new_rays : List (List ℤ)) (at : ℕ) (line : Across) → at < length lines → IsTurned (get_or lines at []) at (product c (get_or lines at [])) line →
+pub line_case : (equal : Bool) (c : List ℤ) (lines rays new_lines new_rays : List (List ℤ)) (at : ℕ) (line : Across) → at < length lines →
+    IsTurned (get_or lines at []) at (product c (get_or lines at [])) line →
     ((k : ℕ) → at < k → k < length lines → product c (get_or lines k []) ≡ pos 0) → ((r : List ℤ) → Contains lines r → IsPrimitive r) → ((r : List ℤ) → Contains rays r → IsPrimitive r) →
     AreFlatLines line (map (product c) lines) lines new_lines → AreFlatRays equal line (map (product c) rays) rays new_rays → LineCase equal c lines rays new_lines new_rays
 line_case equal c lines rays new_lines new_rays at line h t later pl pr fl fr =
     let is = turned_product c (get_or lines at []) at line t in
     let here : line.place ≡ at = t.is_place in
     let front : AreFlattened line (map (product c) (take at lines)) (take at lines) fl.0 =
-    subst (λ (ps : List ℤ). AreFlattened line ps (take at lines) fl.0) (take-map (product c) at lines) (subst (λ (n : ℕ). AreFlattened line (take n (map (product c) lines)) (take n lines) fl.0) here fl.2) in
+    subst (λ (ps : List ℤ). AreFlattened line ps (take at lines) fl.0) (take-map (product c) at lines)
+    (subst (λ (n : ℕ). AreFlattened line (take n (map (product c) lines)) (take n lines) fl.0) here fl.2) in
     record {
       before = take at lines;
       line = get_or lines at [];
@@ -146,7 +154,8 @@ same_test x y h k = go (int_eq x (pos 0)) (int_eq y (pos 0)) refl refl
     go true false e f = absurd (let q : true ≡ false = sym ((Decides-int_eq y (pos 0)).1 (h ((Decides-int_eq x (pos 0)).0 e))) ∙ f in cc)
     go false true e f = absurd (let q : true ≡ false = sym ((Decides-int_eq x (pos 0)).1 (k ((Decides-int_eq y (pos 0)).0 f))) ∙ e in cc)
 
-pub values_same : (taken : List Given) (t r : List ℤ) → ((s : List ℤ) → Contains (system_of taken) s → (product s t ≡ pos 0 → product s r ≡ pos 0) × (product s r ≡ pos 0 → product s t ≡ pos 0)) → tight_values taken t ≡ tight_values taken r
+pub values_same : (taken : List Given) (t r : List ℤ) → ((s : List ℤ) → Contains (system_of taken) s → (product s t ≡ pos 0 → product s r ≡ pos 0) × (product s r ≡ pos 0 → product s t ≡ pos 0)) →
+    tight_values taken t ≡ tight_values taken r
 values_same [] t r h = refl
 values_same (g ∷ taken) t r h =
     let here = h g.row (with_has g.equal g.row (system_of taken)) in
@@ -166,13 +175,16 @@ flat_tight c l r t s f above on =
     let a = product c l in
     let b = neg_ℤ (product c r) in
     let whole : pos f.times *ℤ product s t ≡ a *ℤ product s r =
-    sym (dot_scale s (pos f.times) (entry t)) ∙ dot_same s (λ j. pos f.times *ℤ entry t j) (λ j. (a *ℤ entry r j) +ℤ (b *ℤ entry l j)) f.is ∙ dot_linear s a b (entry r) (entry l) ∙ ap (λ z. (a *ℤ product s r) +ℤ (b *ℤ z)) on ∙
+    sym (dot_scale s (pos f.times) (entry t)) ∙ dot_same s (λ j. pos f.times *ℤ entry t j) (λ j. (a *ℤ entry r j) +ℤ (b *ℤ entry l j)) f.is ∙ dot_linear s a b (entry r) (entry l) ∙
+    ap (λ z. (a *ℤ product s r) +ℤ (b *ℤ z)) on ∙
     ring (v a ⊗ v (product s r) ⊕ v b ⊗ v (pos 0)) (v a ⊗ v (product s r)) (omega arith) in (
-      λ z. no_factor (product s r) a above (ring (v (product s r) ⊗ v a) (v a ⊗ v (product s r)) (omega arith) ∙ sym whole ∙ ap (λ y. pos f.times *ℤ y) z ∙ ring (v (pos f.times) ⊗ v (pos 0)) (v (pos 0)) (omega arith)),
+      λ z. no_factor (product s r) a above (ring (v (product s r) ⊗ v a) (v a ⊗ v (product s r)) (omega arith) ∙ sym whole ∙ ap (λ y. pos f.times *ℤ y) z ∙
+          ring (v (pos f.times) ⊗ v (pos 0)) (v (pos 0)) (omega arith)),
       λ z. no_product f.times (product s t) f.positive (whole ∙ ap (λ y. a *ℤ y) z ∙ ring (v a ⊗ v (pos 0)) (v (pos 0)) (omega arith)),
     )
 
-pub flat_rows : (taken : List Given) (g : Given) (l : List ℤ) (rs ts : List (List ℤ)) → pos 0 <ℤ product g.row l → ((s : List ℤ) → Contains (system_of taken) s → product s l ≡ pos 0) → Flats g.row l rs ts →
+pub flat_rows : (taken : List Given) (g : Given) (l : List ℤ) (rs ts : List (List ℤ)) → pos 0 <ℤ product g.row l → ((s : List ℤ) → Contains (system_of taken) s → product s l ≡ pos 0) →
+    Flats g.row l rs ts →
     saturation_rows (taken ++ g ∷ []) ts ≡ lengthened_rows (saturation_rows taken rs) (replicate (length (saturation_rows taken rs)) true)
 flat_rows taken g l [] [] above on f = refl
 flat_rows taken g l [] (t ∷ ts) above on f = absurd f
@@ -184,6 +196,8 @@ flat_rows taken g l (r ∷ rs) (t ∷ ts) above on f =
     ap (λ (x : List Bool). x ∷ saturation_rows (taken ++ g ∷ []) ts) here ∙ ap (λ (x : List (List Bool)). (tight_values taken r ++ true ∷ []) ∷ x) (flat_rows taken g l rs ts above on f.1)
 
 -- without a line across: the rays as they are
-pub kept_rows : (taken : List Given) (g : Given) (rays : List (List ℤ)) → saturation_rows (taken ++ g ∷ []) rays ≡ lengthened_rows (saturation_rows taken rays) (map (λ p. int_eq p (pos 0)) (map (product g.row) rays))
+pub kept_rows : (taken : List Given) (g : Given) (rays : List (List ℤ)) → saturation_rows (taken ++ g ∷ []) rays ≡
+    lengthened_rows (saturation_rows taken rays) (map (λ p. int_eq p (pos 0)) (map (product g.row) rays))
 kept_rows taken g [] = refl
-kept_rows taken g (r ∷ rays) = ap (λ (x : List Bool). x ∷ saturation_rows (taken ++ g ∷ []) rays) (values_end taken g r) ∙ ap (λ (x : List (List Bool)). (tight_values taken r ++ int_eq (product g.row r) (pos 0) ∷ []) ∷ x) (kept_rows taken g rays)
+kept_rows taken g (r ∷ rays) = ap (λ (x : List Bool). x ∷ saturation_rows (taken ++ g ∷ []) rays) (values_end taken g r) ∙
+    ap (λ (x : List (List Bool)). (tight_values taken r ++ int_eq (product g.row r) (pos 0) ∷ []) ∷ x) (kept_rows taken g rays)

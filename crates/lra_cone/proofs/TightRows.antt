@@ -61,7 +61,8 @@ pub subset_said : (taken : List Given) (u d r : List ℤ) → IsSubset (both (ti
     (s : List ℤ) → Contains (system_of taken) s → dot s (entry u) ≡ pos 0 → dot s (entry d) ≡ pos 0 → dot s (entry r) ≡ pos 0
 subset_said [] u d r h s m e f = absurd (contains_none s m)
 subset_said (g ∷ taken) u d r h s m e f = elim (with_cases g.equal g.row (system_of taken) s m) [
-  | inl x ↦ tight_either g.row s (entry r) x (zero_said (product g.row r) (h 0 (both_yes (int_eq (product g.row u) (pos 0)) (int_eq (product g.row d) (pos 0)) (zero_yes (product g.row u) (either_tight g.row s (entry u) x e)) (zero_yes (product g.row d) (either_tight g.row s (entry d) x f)))))
+  | inl x ↦ tight_either g.row s (entry r) x (zero_said (product g.row r) (h 0 (both_yes (int_eq (product g.row u) (pos 0)) (int_eq (product g.row d) (pos 0))
+      (zero_yes (product g.row u) (either_tight g.row s (entry u) x e)) (zero_yes (product g.row d) (either_tight g.row s (entry d) x f)))))
   | inr n ↦ subset_said taken u d r (λ k. h (suc k)) s n e f
 ]
 

@@ -1,5 +1,6 @@
 -- The whole space, with the unit rows as its lines.
-use Rattle.std.proofs.Common.{◌≡◌, ◌≢◌, ℕ, zero, suc, ◌+◌, ◌-◌, ◌<◌, ◌≤◌, List, [], ◌∷◌, ◌++◌, length, map, replicate, slice_set, refl, ap, sym, ◌∙◌, subst, arith, pos, ℤ, ◌+ℤ◌, ◌*ℤ◌, ◌≤ℤ◌, ◌<ℤ◌, unsigned_abs, inl, inr, ◌⊎◌}
+use Rattle.std.proofs.Common.{◌≡◌, ◌≢◌, ℕ, zero, suc, ◌+◌, ◌-◌, ◌<◌, ◌≤◌, List, [], ◌∷◌, ◌++◌, length, map, replicate, slice_set, refl, ap, sym, ◌∙◌, subst, arith, pos, ℤ, ◌+ℤ◌, ◌*ℤ◌, ◌≤ℤ◌, ◌<ℤ◌}
+use Rattle.std.proofs.Common.{unsigned_abs, inl, inr, ◌⊎◌}
 use Rattle.std.specs.List.{Contains}
 use Rattle.std.proofs.lemmas.Bool.{cases_lt}
 use Rattle.std.proofs.lemmas.Int.{ints}
@@ -185,9 +186,19 @@ none_valid n c lc h j = elim (cases_lt j (suc n)) [
 whole_dual : (n : ℕ) → AreDual (suc n) [] (all_rows (unit_lines n) [])
 whole_dual n = record {
   system_widths = λ c k. absurd (contains_none c k);
-  row_widths = λ t k. let s = signed_from (unit_lines n) t k in elim s.sign [ inl e ↦ ap length e ∙ lines_length n s.line s.has | inr e ↦ ap length e ∙ negated_length s.line ∙ lines_length n s.line s.has ];
+  row_widths = λ t k. let s = signed_from (unit_lines n) t k in elim s.sign [
+    | inl e ↦ ap length e ∙ lines_length n s.line s.has
+    | inr e ↦ ap length e ∙ negated_length s.line ∙
+        lines_length n s.line s.has
+  ];
   solutions = λ u lu h. all_generated n u lu;
-  consequences = λ c lc h. record { multiple = 1; positive = omega arith; factors = []; is_sum = λ j. ap (λ z. pos 1 *ℤ z) (none_valid n c lc h j) ∙ ring (v (pos 1) ⊗ v (pos 0)) (v (pos 0)) (omega arith) };
+  consequences = λ c lc h. record {
+    multiple = 1;
+    positive = omega arith;
+    factors = [];
+    is_sum = λ j. ap (λ z. pos 1 *ℤ z) (none_valid n c lc h j) ∙
+        ring (v (pos 1) ⊗ v (pos 0)) (v (pos 0)) (omega arith);
+  };
   meets = λ r k c m. absurd (contains_none c m);
 }
 
@@ -211,7 +222,8 @@ columns_start n items e = ap (λ (x : List (List ℤ)). x ++ map (unit_row n) (c
     back : (n : ℕ) → n + 1 - 1 ≡ n
     back n = omega arith
 
-pub columns_step : (n column : ℕ) (items new : List (List ℤ)) (r : List ℤ) → column < n + 1 → new ≡ items ++ r ∷ [] → r ≡ unit_row n column → items ++ map (unit_row n) (columns_from column (n + 1 - column)) ≡ unit_lines n →
+pub columns_step : (n column : ℕ) (items new : List (List ℤ)) (r : List ℤ) → column < n + 1 → new ≡ items ++ r ∷ [] → r ≡ unit_row n column →
+    items ++ map (unit_row n) (columns_from column (n + 1 - column)) ≡ unit_lines n →
     new ++ map (unit_row n) (columns_from (column + 1) (n + 1 - (column + 1))) ≡ unit_lines n
 columns_step n column items new r h e f i =
     ap (λ (x : List (List ℤ)). x ++ map (unit_row n) (columns_from (column + 1) (n + 1 - (column + 1)))) (e ∙ ap (λ (x : List ℤ). items ++ x ∷ []) f) ∙
@@ -225,7 +237,8 @@ columns_step n column items new r h e f i =
     left : (n column : ℕ) → column < n + 1 → suc (n + 1 - (column + 1)) ≡ n + 1 - column
     left n column h = omega (arith, h)
 
-pub columns_end : (n column : ℕ) (items new : List (List ℤ)) (r : List ℤ) → column ≡ n + 1 → new ≡ items ++ r ∷ [] → r ≡ unit_row n 0 → items ++ map (unit_row n) (columns_from column (n + 1 - column)) ≡ unit_lines n → new ≡ unit_lines n
+pub columns_end : (n column : ℕ) (items new : List (List ℤ)) (r : List ℤ) → column ≡ n + 1 → new ≡ items ++ r ∷ [] → r ≡ unit_row n 0 →
+    items ++ map (unit_row n) (columns_from column (n + 1 - column)) ≡ unit_lines n → new ≡ unit_lines n
 columns_end n column items new r h e f i =
     e ∙ ap (λ (x : List ℤ). items ++ x ∷ []) f ∙ ap (λ (k : ℕ). items ++ map (unit_row n) (columns_from column k)) (none n column h) ∙ i
   where
@@ -233,7 +246,8 @@ columns_end n column items new r h e f i =
     none n column h = omega (arith, h)
 
 -- ---- the cone that is made
-pub whole_made : (n d : ℕ) (taken : List Given) (lines rays : List (List ℤ)) → d ≡ n → taken ≡ [] → lines ≡ unit_lines n → rays ≡ [] → (record { dims = d; taken = taken; lines = lines; rays = rays }) ≡ whole_space n
+pub whole_made : (n d : ℕ) (taken : List Given) (lines rays : List (List ℤ)) → d ≡ n → taken ≡ [] → lines ≡ unit_lines n → rays ≡ [] →
+    (record { dims = d; taken = taken; lines = lines; rays = rays }) ≡ whole_space n
 whole_made n d taken lines rays ed et el er =
     ap (λ (x : ℕ). record { dims = x; taken = taken; lines = lines; rays = rays }) ed ∙ ap (λ (x : List Given). record { dims = n; taken = x; lines = lines; rays = rays }) et ∙
     ap (λ (x : List (List ℤ)). record { dims = n; taken = []; lines = x; rays = rays }) el ∙ ap (λ (x : List (List ℤ)). record { dims = n; taken = []; lines = unit_lines n; rays = x }) er

@@ -104,7 +104,8 @@ pub record NamesFlattening (line : Across) (products : List ℤ) (rows : List (L
   pub excess : E.Excess
   pub passes : flattening line (slice_index_or products place (pos 0)) (slice_index_or rows place []) ≡ Err excess
   pub is : strained ≡
-      strained_pair (record { family = family; place = place }) (slice_index_or products place (pos 0)) line.place excess
+      strained_pair (record { family = family; place = place })
+      (slice_index_or products place (pos 0)) line.place excess
 
 abbrev pub IsFlatteningError : Across → List ℤ → List (List ℤ) → Family → C.ConeError → Type 0
 IsFlatteningError line products rows family (of_cone.Strained strained) =

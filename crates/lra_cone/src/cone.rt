@@ -124,7 +124,8 @@ impl Cone {
     pub fn add_row(&mut self, row: &Row, kind: ConKind) -> Result<(), ConeError>
         requires { length row.now ≡ suc self.old.dims }
         ensures dims { self.new.dims ≡ self.old.dims }
-        ensures taken { OnOk result (self.new.taken ≡ self.old.taken ++ record { row = row.now; equal = is_equality kind } ∷ []) }
+        ensures taken { OnOk result (self.new.taken ≡ self.old.taken ++
+            record { row = row.now; equal = is_equality kind } ∷ []) }
         ensures met { OnOk result (IsMet (suc self.old.dims) (is_equality kind) row.now
             (all_rows self.old.lines self.old.rays) (all_rows self.new.lines self.new.rays)) }
         ensures strained { IfErr result (IsConeError self.old (is_equality kind) row.now) }

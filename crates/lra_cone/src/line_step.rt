@@ -184,7 +184,8 @@ pub fn flat_rays(
 // The line, which is tight at so many rows but not at the new one, behind what is there.
 fn push_line(alloc: Global, wider: &mut SatMatrix, width: usize) -> Result<(), AllocError>
     requires { wider.old.width ≡ suc width }
-    ensures { OnOk result (wider.new ≡ record wider.old { rows = wider.old.rows ++ (replicate width true ++ false ∷ []) ∷ [] }) }
+    ensures { OnOk result (wider.new ≡ record wider.old
+        { rows = wider.old.rows ++ (replicate width true ++ false ∷ []) ∷ [] }) }
 {
     let of_line = lengthened(alloc, &all_true(alloc, width)?, false)?;
     wider.add_row(of_line)?;

@@ -1,7 +1,8 @@
 //! Rows that were left out.
 
 ghost use Rattle.std.specs.Prelude.{◌≡◌, IfOk};
-ghost use Rattle.lra_sys.specs.Listed.{constraints, is_equality};
+ghost use Rattle.lra_sys.specs.Listed.{constraints};
+ghost use Rattle.lra_linear.specs.Kinds.{is_equality};
 ghost use Rattle.lra_linear.specs.Strain as told;
 
 use lra_linear::Cause;
@@ -67,7 +68,8 @@ impl Loss {
         cause: Cause,
     ) -> Result<Loss, AllocError>
         ensures { IfOk result (λ l. l ≡
-            record { chosen = constraints taken.now; further = record { row = row.now; equal = is_equality kind }; cause = cause }) }
+            record { chosen = constraints taken.now; further = record { row = row.now; equal = is_equality kind };
+                cause = cause }) }
     {
         let chosen = given_rows(alloc, taken)?;
         let further = given_row(row, kind)?;

@@ -120,7 +120,8 @@ pub fn push_tight(
     pairs: &[Pair],
 ) -> Result<(), AllocError>
     requires width { All (λ p. suc (length p.tight) ≡ saturation.old.width) pairs.now }
-    ensures { OnOk result (saturation.new ≡ record saturation.old { rows = saturation.old.rows ++ tight_rows pairs.now }) }
+    ensures { OnOk result (saturation.new ≡ record saturation.old
+        { rows = saturation.old.rows ++ tight_rows pairs.now }) }
 {
     for pair in pairs {
         let row = lengthened(alloc, &pair.tight, true)?;

@@ -63,7 +63,8 @@ pub fn push_lengthened(
 ) -> Result<(), AllocError>
     requires width { wider.old.width ≡ suc matrix.now.width }
     requires each { length last.now ≡ length matrix.now.rows }
-    ensures { OnOk result (wider.new ≡ record wider.old { rows = wider.old.rows ++ lengthened_rows matrix.now.rows last.now }) }
+    ensures { OnOk result (wider.new ≡ record wider.old
+        { rows = wider.old.rows ++ lengthened_rows matrix.now.rows last.now }) }
 {
     for k in 0..matrix.height() {
         let row = lengthened(alloc, matrix.row(k), last.get(k))?;

@@ -167,7 +167,8 @@ impl Matrix {
     /// of both.
     pub fn join(&self, other: &Matrix, alloc: Global) -> Result<Matrix, AllocError>
         requires { self.now.dims ≡ other.now.dims }
-        ensures joined { IfOk result (λ m. m ≡ record self.now { cells = greater_cells self.now.cells other.now.cells }) }
+        ensures joined { IfOk result (λ m. m ≡ record self.now
+            { cells = greater_cells self.now.cells other.now.cells }) }
         ensures least { IfOk result (λ m.
             LeastJoin self.now.dims (entry_at self.now) (entry_at other.now) (entry_at m)) }
     {

@@ -85,7 +85,8 @@ module _ (V H : Type 0) (m : Meaning V H) (laws : Laws m) (base : ℕ) (store : 
 
   -- one side of `!=` passes, or has no test
   differs_keeps : (less more w : V × Exactness) (d : linear.Form) (x y : ℤ) (one two : Option Test) → linear.form_value d store ≡ x -ℤ y → IsTrue (compares differs x y)
-      → comparison_test below d ≡ one → comparison_test above d ≡ two → (v : V × Exactness) → IsTestedBy (V × Exactness) (testing (dropping m)) (length store) base one v less → IsTestedBy (V × Exactness) (testing (dropping m)) (length store) base two v more
+      → comparison_test below d ≡ one → comparison_test above d ≡ two → (v : V × Exactness) → IsTestedBy (V × Exactness) (testing (dropping m)) (length store) base one v less →
+      IsTestedBy (V × Exactness) (testing (dropping m)) (length store) base two v more
       → (e : Exactness) → (dropping m).joined less.0 more.0 e w.0 → Keeps v → Keeps w
   differs_keeps less more w d x y None two is so same also v first second e joined h = laws.covered_stores less.0 w.0 joined.0.left store (kept v less first h)
   differs_keeps less more w d x y (Some t) None is so same also v first second e joined h = laws.covered_stores more.0 w.0 joined.0.right store (kept v more second h)
@@ -146,13 +147,15 @@ module _ (V H : Type 0) (m : Meaning V H) (laws : Laws m) (base : ℕ) (store : 
       let (r, got, to) = bind_some (truth_of a base store draws) (λ r. if r.0 then truth_of b base store r.1 else Some (false, r.1)) (false, left) ran in
       elim (and_false r.0 r.1 left (truth_of b base store r.1) to) [
         | inl so ↦ laws.covered_stores first.0 w.0 joined.0.left store (cond_keeps a false draws r.1 v first (answered a draws r.1 r.0 false so got) one h)
-        | inr so ↦ laws.covered_stores second.0 w.0 joined.0.right store (cond_keeps b false r.1 left mid second so.1 two (cond_keeps a true draws r.1 v mid (answered a draws r.1 r.0 true so.0 got) off h))
+        | inr so ↦ laws.covered_stores second.0 w.0 joined.0.right store (cond_keeps b false r.1 left mid second so.1 two
+            (cond_keeps a true draws r.1 v mid (answered a draws r.1 r.0 true so.0 got) off h))
       ]
   cond_keeps (either_of a b) true draws left v w ran (first, mid, second, one, off, two, (e, joined, worst)) h =
       let (r, got, to) = bind_some (truth_of a base store draws) (λ r. if r.0 then Some (true, r.1) else truth_of b base store r.1) (true, left) ran in
       elim (or_true r.0 r.1 left (truth_of b base store r.1) to) [
         | inl so ↦ laws.covered_stores first.0 w.0 joined.0.left store (cond_keeps a true draws r.1 v first (answered a draws r.1 r.0 true so got) one h)
-        | inr so ↦ laws.covered_stores second.0 w.0 joined.0.right store (cond_keeps b true r.1 left mid second so.1 two (cond_keeps a false draws r.1 v mid (answered a draws r.1 r.0 false so.0 got) off h))
+        | inr so ↦ laws.covered_stores second.0 w.0 joined.0.right store (cond_keeps b true r.1 left mid second so.1 two
+            (cond_keeps a false draws r.1 v mid (answered a draws r.1 r.0 false so.0 got) off h))
       ]
   cond_keeps (either_of a b) false draws left v w ran (mid, one, two) h =
       let (r, got, to) = bind_some (truth_of a base store draws) (λ r. if r.0 then Some (true, r.1) else truth_of b base store r.1) (false, left) ran in

@@ -8,7 +8,8 @@ use Rattle.lra_linear.proofs.Ring.{ring, v, ⊖, ◌⊕◌, ◌⊗◌}
 use Rattle.lra_tree.specs.Program.{Operator, plus, minus, times, over, modulo, Comparison, below, at_most, above, at_least, equal, differs, Expr, literal, read, input, negate, binary, compare}
 use Rattle.lra_tree.specs.Value.{◌>>=◌, word, is_word, is_zero, index_of, apply, compares, value_of, truth_of}
 use Rattle.lra_tree.specs.Report.{dot, equality, inequality}
-use Rattle.lra_tree.specs.Linear.{Form, form_value, fitting, entrywise, combined, scaled, is_constant, operator_form, constant_form, variable_form, form_of, FormsAreRight, Test, Passes, opposite_less_one, opposite_form, less_one, at_least_zero, comparison_test, difference_form, TestsAreRight, DiffersIsRight}
+use Rattle.lra_tree.specs.Linear.{Form, form_value, fitting, entrywise, combined, scaled, is_constant, operator_form, constant_form, variable_form, form_of, FormsAreRight, Test, Passes}
+use Rattle.lra_tree.specs.Linear.{opposite_less_one, opposite_form, less_one, at_least_zero, comparison_test, difference_form, TestsAreRight, DiffersIsRight}
 
 -- what led to something
 pub bind_some : {A B : Type 0} (o : Option A) (f : A → Option B) (y : B) → (o >>= f) ≡ Some y → (x : A) × (o ≡ Some x) × (f x ≡ Some y)
@@ -57,7 +58,8 @@ dot_unit n place [] z e is = cc
 dot_unit zero place (x ∷ xs) z e is = absurd (omega (arith, e))
 dot_unit (suc n) zero (x ∷ xs) z e is =
     let same : x ≡ z = cc in
-    ring (v (pos 1) ⊗ v x ⊕ v (dot (replicate n (pos 0)) xs)) (v x ⊕ v (dot (replicate n (pos 0)) xs)) (omega arith) ∙ ap (λ (y : ℤ). x +ℤ y) (dot_zeros n xs) ∙ ring (v x ⊕ v (pos 0)) (v x) (omega arith) ∙ same
+    ring (v (pos 1) ⊗ v x ⊕ v (dot (replicate n (pos 0)) xs)) (v x ⊕ v (dot (replicate n (pos 0)) xs)) (omega arith) ∙ ap (λ (y : ℤ). x +ℤ y) (dot_zeros n xs) ∙
+    ring (v x ⊕ v (pos 0)) (v x) (omega arith) ∙ same
 dot_unit (suc n) (suc place) (x ∷ xs) z e is =
     let rest = dot (slice_set (replicate n (pos 0)) place (pos 1)) xs in
     ring (v (pos 0) ⊗ v x ⊕ v rest) (v rest) (omega arith) ∙ dot_unit n place xs z (omega (arith, e)) is
@@ -193,7 +195,8 @@ sum_value f g h store a b e =
     ring ((v f.constant ⊕ v g.constant) ⊕ (v (dot f.coefficients store) ⊕ v (dot g.coefficients store)))
     ((v f.constant ⊕ v (dot f.coefficients store)) ⊕ (v g.constant ⊕ v (dot g.coefficients store))) (omega arith)
 
-pub difference_value : (f g h : Form) (store : List ℤ) → Wide (length store) f → Wide (length store) g → combined (λ x y. x -ℤ y) f g ≡ Some h → form_value h store ≡ form_value f store -ℤ form_value g store
+pub difference_value : (f g h : Form) (store : List ℤ) → Wide (length store) f → Wide (length store) g → combined (λ x y. x -ℤ y) f g ≡ Some h →
+    form_value h store ≡ form_value f store -ℤ form_value g store
 difference_value f g h store a b e =
     let p = dot f.coefficients store in
     let q = dot g.coefficients store in
@@ -226,7 +229,8 @@ operator_value modulo f g h store x y z a b e is also to = cc
 pub forms_are_right : FormsAreRight
 forms_are_right base (literal n) f store draws left z is ran =
     let same : pos n ≡ z = some_first (pos n) z draws left ran in
-    value_same _ f store (fitting_same (constant_form (length store) (pos n)) f is) ∙ ap (λ (y : ℤ). pos n +ℤ y) (dot_zeros (length store) store) ∙ ring (v (pos n) ⊕ v (pos 0)) (v (pos n)) (omega arith) ∙ same
+    value_same _ f store (fitting_same (constant_form (length store) (pos n)) f is) ∙ ap (λ (y : ℤ). pos n +ℤ y) (dot_zeros (length store) store) ∙
+    ring (v (pos n) ⊕ v (pos 0)) (v (pos n)) (omega arith) ∙ same
 forms_are_right base (read x) f store draws left z is ran =
     let same : variable_form (length store) (index_of base x) ≡ f = cc in
     let (y, got, to) = bind_some (slice_get store (index_of base x)) (λ r. Some (r, draws)) (z, left) ran in
@@ -307,7 +311,8 @@ test_is_right below d t store x y e is =
     both_ways (lt_decides x y (form_value d store) e) (passes_same f t store _ same (opposite_less_one_value d f store of))
 test_is_right at_most d t store x y e is =
     let (f, of, same) = from_form (opposite_form d) t is in
-    let less : form_value f store ≡ pos 0 -ℤ form_value d store = scaled_value (negsuc 0) d f store of ∙ (let last : negsuc 0 *ℤ form_value d store ≡ pos 0 -ℤ form_value d store = omega (arith, ints, minus_is (pos 0) (form_value d store)) in last) in
+    let less : form_value f store ≡ pos 0 -ℤ form_value d store = scaled_value (negsuc 0) d f store of ∙
+    (let last : negsuc 0 *ℤ form_value d store ≡ pos 0 -ℤ form_value d store = omega (arith, ints, minus_is (pos 0) (form_value d store)) in last) in
     both_ways (le_decides x y (form_value d store) e) (passes_same f t store _ same less)
 test_is_right above d t store x y e is =
     let (f, of, same) = from_form (less_one d) t is in
@@ -341,7 +346,8 @@ pub record Compared (base : ℕ) (op : Comparison) (a b : Expr) (store draws lef
   pub has_y : value_of b base store middle ≡ Some (y, last)
   pub is : compares op x y ≡ so
 
-pub compared : (base : ℕ) (op : Comparison) (a b : Expr) (store draws left : List ℤ) (so : Bool) → truth_of (compare op a b) base store draws ≡ Some (so, left) → Compared base op a b store draws left so
+pub compared : (base : ℕ) (op : Comparison) (a b : Expr) (store draws left : List ℤ) (so : Bool) → truth_of (compare op a b) base store draws ≡ Some (so, left) →
+    Compared base op a b store draws left so
 compared base op a b store draws left so e =
     let (r, got, on) = bind_some (value_of a base store draws) (λ r. value_of b base store r.1 >>= λ s. Some (compares op r.0 s.0, s.1)) (so, left) e in
     let (s, got_too, end) = bind_some (value_of b base store r.1) (λ s. Some (compares op r.0 s.0, s.1)) (so, left) on in

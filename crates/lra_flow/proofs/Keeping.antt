@@ -1,5 +1,6 @@
 -- Each least change of a value keeps the stores to which the change of the program leads.
-use Rattle.std.proofs.Common.{◌≡◌, ℕ, zero, suc, ◌+◌, ◌-◌, ◌≤◌, ◌++◌, ℤ, pos, ◌+ℤ◌, List, [], ◌∷◌, Option, Some, None, Bool, length, take, refl, sym, ap, subst, ◌∙◌, arith, append_assoc, append-nil, length-append}
+use Rattle.std.proofs.Common.{◌≡◌, ℕ, zero, suc, ◌+◌, ◌-◌, ◌≤◌, ◌++◌, ℤ, pos, ◌+ℤ◌, List, [], ◌∷◌, Option, Some, None, Bool, length, take, refl, sym, ap, subst, ◌∙◌, arith, append_assoc, append-nil}
+use Rattle.std.proofs.Common.{length-append}
 use Rattle.std.specs.Prelude.{◌-ℤ◌, ◌*ℤ◌, slice_set, slice_get}
 use Rattle.lra_linear.specs.Vectors.{product}
 use Rattle.lra_linear.proofs.Products.{product_none}
@@ -162,5 +163,6 @@ op_leads (give_any (Some x)) s t is other =
     one_lead (forget x) s.store t.store (any.0, sym any.1)
 op_leads (push base es) s t is other = pushed_leads base es s.store s.draws t (values_of es base s.store s.draws) refl is
 op_leads (keep n) s t is other =
-    subst (λ (xs : List ℤ). LeadsAll (drop_last (length s.store - n)) s.store xs) (store_is (record { store = take n s.store; draws = s.draws }) t is) (dropped_leads s.store n (length s.store - n) refl)
+    subst (λ (xs : List ℤ). LeadsAll (drop_last (length s.store - n)) s.store xs) (store_is (record { store = take n s.store; draws = s.draws }) t is)
+    (dropped_leads s.store n (length s.store - n) refl)
 op_leads (test base c wanted) s t is other = absurd (other base c wanted refl)

@@ -101,8 +101,14 @@ module _ (V H : Type 0) (m : Meaning V H) (laws : Laws m) (keeps : ChangesKeep m
       → (last : H) × Within (m.head_has h) (m.head_has last) × Within (m.head_has last) (m.has v)
       × ((s t : State) → m.head_has last s.store → Round base c a s t → m.head_has last t.store)
       × ((g : Option ℕ) × GoesRound V H (dropping m) q base c (Pass V H (dropping m) set a) g v r)
-  grows_keeps limited left f h [] v r ((e, valued, turn), stays) =
-      (h, λ st k. k, valued.0.stores, λ s t k one. laws.stays_stores h r.normal (mode_at limited left) (laws.answers_yes h r.normal (mode_at limited left) stays.0) t.store (round_keeps (noted q e f) v r turn s t (valued.0.stores s.store k) one), (noted q e f, turn))
+  grows_keeps limited left f h [] v r ((e, valued, turn), stays) = (
+    h,
+    λ st k. k,
+    valued.0.stores,
+    λ s t k one. laws.stays_stores h r.normal (mode_at limited left) (laws.answers_yes h r.normal (mode_at limited left) stays.0) t.store
+        (round_keeps (noted q e f) v r turn s t (valued.0.stores s.store k) one),
+    (noted q e f, turn),
+  )
   grows_keeps limited left f h (next ∷ later) v r (u, x, e, turn, grown, rest) =
       let i = grows_keeps limited (left - 1) (noted q e x.flag) next later v r rest in
       (i.0, λ st k. i.1 st (grown.0.kept st k), i.2, i.3, i.4)
@@ -181,7 +187,11 @@ module _ (V H : Type 0) (m : Meaning V H) (laws : Laws m) (keeps : ChangesKeep m
       let j : (t : State) → run_op (test base c true) s ≡ Some t → Covers m a t x = λ t ran. covers set a (noted q d f) on x one t (keeps (test base c true) v d on is_on s t k ran) in
       let l : (t : State) → run_op (test base c false) s ≡ Some t → Covers m b t y = λ t ran. covers set b (noted q e x.flag) off y two t (keeps (test base c false) v e off is_off s t k ran) in
       subst (λ (z : Result V). Covers m (choose q base c a b) s z) (sym is) (record {
-        ends = λ t h. elim h [ inl n ↦ laws.covered_stores x.normal w joined.0.left t.store ((j n.0 n.1).ends t n.2) | inr n ↦ laws.covered_stores y.normal w joined.0.right t.store ((l n.0 n.1).ends t n.2) ];
+        ends = λ t h. elim h [
+          | inl n ↦ laws.covered_stores x.normal w joined.0.left t.store ((j n.0 n.1).ends t n.2)
+          | inr n ↦ laws.covered_stores y.normal w joined.0.right t.store
+              ((l n.0 n.1).ends t n.2)
+        ];
         leaves = λ kind t h. elim h [
           | inl n ↦ let o = (j n.0 n.1).leaves kind t n.2 in (o.0, left_jump kind x y w (noted q i y.flag) o.0 o.1, o.2)
           | inr n ↦ let o = (l n.0 n.1).leaves kind t n.2 in (o.0, right_jump kind x y w (noted q i y.flag) o.0 o.1, o.2)
@@ -209,7 +219,11 @@ module _ (V H : Type 0) (m : Meaning V H) (laws : Laws m) (keeps : ChangesKeep m
         ends = λ t b. keeps (test base c false) top e out off b.1 t (n.0 b.0 b.1 b.2) b.3;
         leaves = λ kind t b. let o = (last b.1 b.2 (n.0 b.0 b.1 b.3) b.4).leaves kind t b.5 in (o.0, jumps_same kind z (value q top) out (noted q e y.flag) o.0 o.1, o.2);
         comes = λ p t b. elim b.3 [
-          | inl l ↦ (top, subst (λ (i : ℕ). Contains (value q top ∷ z.entries) (value i top)) (sym l.0) (contains_head (value q top) z.entries), subst (λ (i : State). m.has top i.store) (sym l.1) (n.0 b.0 b.1 b.2))
+          | inl l ↦ (
+            top,
+            subst (λ (i : ℕ). Contains (value q top ∷ z.entries) (value i top)) (sym l.0) (contains_head (value q top) z.entries),
+            subst (λ (i : State). m.has top i.store) (sym l.1) (n.0 b.0 b.1 b.2),
+          )
           | inr l ↦ let o = (last b.1 l.0 (n.0 b.0 b.1 b.2) l.1).comes p t l.2 in (o.0, contains_tail (value q top) (value p o.0) z.entries o.1, o.2)
         ];
         fails = λ p b. let o = (last b.1 b.3 (n.0 b.0 b.1 b.2) b.4).fails p b.5 in (o.0, o.1, contains_tail (value q top) (failing p o.0) z.entries o.2, o.3);
@@ -218,7 +232,8 @@ module _ (V H : Type 0) (m : Meaning V H) (laws : Laws m) (keeps : ChangesKeep m
       let i = covers set a f v x one s k in
       let j = joined_caught V H m laws keeps kind x e w joined in
       subst (λ (y : Result V). Covers m (catch q kind a) s y) (sym is) (record {
-        ends = λ t h. subst (λ (y : V). m.has y t.store) (sym (behind_normal kind x w (noted q e x.flag))) (elim h [ inl l ↦ j.0 t.store (i.ends t l) | inr l ↦ let o = i.leaves kind t l in j.1 o.0 o.1 t.store o.2 ]);
+        ends = λ t h. subst (λ (y : V). m.has y t.store) (sym (behind_normal kind x w (noted q e x.flag)))
+            (elim h [ inl l ↦ j.0 t.store (i.ends t l) | inr l ↦ let o = i.leaves kind t l in j.1 o.0 o.1 t.store o.2 ]);
         leaves = λ other t h. let o = i.leaves other t h.1 in (o.0, behind_jump kind other x w (noted q e x.flag) h.0 o.0 o.1, o.2);
         comes = λ p t h. let o = i.comes p t h in (o.0, subst (λ (y : List (Entry V)). Contains y (value p o.0)) (sym (behind_entries kind x w (noted q e x.flag))) o.1, o.2);
         fails = λ p h. let o = i.fails p h in (o.0, o.1, subst (λ (y : List (Entry V)). Contains y (failing p o.0)) (sym (behind_entries kind x w (noted q e x.flag))) o.2, o.3);

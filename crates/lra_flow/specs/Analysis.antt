@@ -1,4 +1,5 @@
--- The iteration over a whole program, and what is reported of it. Points are numbered from 0 here; a report's numbers are one more.
+-- The iteration over a whole program, and what is reported of it. Points are numbered from 0 here; a report's numbers
+-- are one more.
 use Rattle.std.specs.Prelude.{◌≡◌, ◌↔◌, ◌<◌, ℕ, List, [], Option, None, Some, Bool, IsTrue, Contains, slice_get}
 use Rattle.lra_domain.specs.Meaning.{Meaning}
 use Rattle.lra_domain.specs.declared.Exactness.{Exactness}
@@ -12,7 +13,8 @@ use Rattle.lra_flow.specs.Pass.{value, failing, Result, noted, Pass}
 -- from the globals at their first values, which are set at the first point, through the program's tree
 abbrev pub Iteration : {V H : Type 0} → Operations V H → Settings → Program → Node → Result V → Type 0
 Iteration {V} {H} ops set P g r =
-    (none first : V) × (e : Exactness) × ops.universal 0 set.parts none × AreDone ops (first_values 0 P.globals) none e first
+    (none first : V) × (e : Exactness) × ops.universal 0 set.parts none ×
+    AreDone ops (first_values 0 P.globals) none e first
     × Pass V H ops set g (noted 0 e None) first r
 
 -- the written iteration
@@ -34,11 +36,15 @@ Strains {V} m set P g q = (r : Result V) × Iteration (straining m) set P g r ×
 abbrev pub IsUnreachable : {V H : Type 0} → Meaning V H → V → Type 0
 IsUnreachable m v = m.parts v ≡ []
 
--- values are in the order of their points' numbers, and so are verdicts, one for each assertion; a verdict is a point's number, and whether
--- the assertion is proved: exactly where nothing is left of the value at which its condition is false
-pub record Solves {V H : Type 0} (m : Meaning V H) (r : Result V) (values : List V) (verdicts : List (ℕ × Bool)) (flagged : Option ℕ) : Type 0 where
+-- values are in the order of their points' numbers, and so are verdicts, one for each assertion; a verdict is a point's
+-- number, and whether the assertion is proved: exactly where nothing is left of the value at which its condition is
+-- false
+pub record Solves {V H : Type 0} (m : Meaning V H) (r : Result V) (values : List V) (verdicts : List (ℕ × Bool))
+    (flagged : Option ℕ) : Type 0 where
   pub is_value : (q : ℕ) (v : V) → (slice_get values q ≡ Some v) ↔ Contains r.entries (value q v)
-  pub is_verdict : (q : ℕ) (proved : Bool) → Contains verdicts (q, proved) → (u : V) × Contains r.entries (failing q u) × (IsTrue proved ↔ IsUnreachable m u)
+  pub is_verdict : (q : ℕ) (proved : Bool) → Contains verdicts (q, proved) → (u : V) ×
+      Contains r.entries (failing q u) × (IsTrue proved ↔ IsUnreachable m u)
   pub has_verdict : (q : ℕ) (u : V) → Contains r.entries (failing q u) → (proved : Bool) × Contains verdicts (q, proved)
-  pub in_order : (i j : ℕ) (a b : ℕ × Bool) → i < j → slice_get verdicts i ≡ Some a → slice_get verdicts j ≡ Some b → a.0 < b.0
+  pub in_order : (i j : ℕ) (a b : ℕ × Bool) → i < j → slice_get verdicts i ≡ Some a → slice_get verdicts j ≡ Some b →
+      a.0 < b.0
   pub is_flagged : flagged ≡ r.flag

@@ -58,4 +58,5 @@ AreDone {V} ops (step ∷ steps) v e w =
 -- the values joined one by one, from the left
 abbrev pub AreJoined : {V H : Type 0} → Operations V H → V → List V → Exactness → V → Type 0
 AreJoined {V} ops v [] e w = (w ≡ v) × (e ≡ Exact)
-AreJoined {V} ops v (u ∷ us) e w = (m : V) × (c d : Exactness) × ops.joined v u c m × AreJoined ops m us d w × (e ≡ worse c d)
+AreJoined {V} ops v (u ∷ us) e w = (m : V) × (c d : Exactness) × ops.joined v u c m × AreJoined ops m us d w ×
+    (e ≡ worse c d)

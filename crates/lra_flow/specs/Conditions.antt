@@ -1,4 +1,5 @@
--- A value where a condition is true, or where it is false: by the cases of the condition, with the exactness of all its operations.
+-- A value where a condition is true, or where it is false: by the cases of the condition, with the exactness of all its
+-- operations.
 use Rattle.std.specs.Prelude.{◌≡◌, ℕ, Bool}
 use Rattle.lra_linear.specs.declared.ConKind.{ConKind}
 use Rattle.lra_linear.specs.declared.ConKind.TheVariants.{Ge, Eq}

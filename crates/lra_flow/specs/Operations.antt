@@ -1,5 +1,6 @@
--- The operations of which an iteration is made. Each is a relation of its operands, its exactness and its result, so that one
--- definition of the iteration serves for the written one, for one in which operations may be flagged, and for where one strains.
+-- The operations of which an iteration is made. Each is a relation of its operands, its exactness and its result, so
+-- that one definition of the iteration serves for the written one, for one in which operations may be flagged, and for
+-- where one strains.
 use Rattle.std.specs.Prelude.{◌≡◌, ℕ}
 use Rattle.lra_sys.specs.Listed.{Listed}
 use Rattle.lra_linear.specs.declared.ConKind.{ConKind}
@@ -37,8 +38,8 @@ defined m = record {
   valued = λ h e v. (e ≡ Exact) × m.valued h v;
 }
 
--- an operation that strains on the operands that it has may be flagged; its result then covers the defined one. Operands and results
--- have the dimensions that they must have
+-- an operation that strains on the operands that it has may be flagged; its result then covers the defined one.
+-- Operands and results have the dimensions that they must have
 abbrev pub dropping : {V H : Type 0} → Meaning V H → Operations V H
 dropping m = record {
   dims = m.dims;
@@ -52,8 +53,8 @@ dropping m = record {
   valued = λ h e v. Values m h e v × (m.dims v ≡ m.head_dims h);
 }
 
--- an operation that strains may be flagged, and then gives anything: so what comes before the first flag is as it is defined,
--- and the first flagged operation strains on the operands that the written iteration has there
+-- an operation that strains may be flagged, and then gives anything: so what comes before the first flag is as it is
+-- defined, and the first flagged operation strains on the operands that the written iteration has there
 abbrev pub straining : {V H : Type 0} → Meaning V H → Operations V H
 straining m = record {
   dims = m.dims;
@@ -63,7 +64,8 @@ straining m = record {
   joined = λ u v e w. (e ≡ Exact → m.joined u v w) × (e ≡ Flagged → m.join_strains u v);
   started = m.started;
   stays = m.stays;
-  grown = λ h v mode e next. (e ≡ Exact → (¬ m.stays h v mode) × m.grown h v mode next) × (e ≡ Flagged → GrowthStrains m h v mode);
+  grown = λ h v mode e next. (e ≡ Exact → (¬ m.stays h v mode) × m.grown h v mode next) ×
+      (e ≡ Flagged → GrowthStrains m h v mode);
   valued = λ h e v. (e ≡ Exact → m.valued h v) × (e ≡ Flagged → m.value_strains h);
 }
 

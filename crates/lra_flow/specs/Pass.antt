@@ -1,5 +1,6 @@
 -- The iteration over a program whose calls are written out: one case for each form of its tree.
--- What is counted here are values at points, values with which the tree is left, and the first point with a flagged operation.
+-- What is counted here are values at points, values with which the tree is left, and the first point with a flagged
+-- operation.
 use Rattle.std.specs.Prelude.{◌≡◌, ℕ, zero, suc, ◌-◌, List, [], ◌∷◌, ◌++◌, Option, None, Some, Bool, true, false}
 use Rattle.lra_domain.specs.declared.Mode.{Mode}
 use Rattle.lra_domain.specs.declared.Mode.TheVariants.{Join, Widen, Limited}
@@ -7,7 +8,8 @@ use Rattle.lra_domain.specs.declared.Exactness.{Exactness}
 use Rattle.lra_domain.specs.declared.Exactness.TheVariants.{Exact, Flagged}
 use Rattle.lra_tree.specs.Program.{Cond}
 use Rattle.lra_tree.specs.Step.{Op, test}
-use Rattle.lra_tree.specs.Graph.{Exit, broken, continued, returned, Node, empty, point, act, check, seq, choose, iterate, catch, leave}
+use Rattle.lra_tree.specs.Graph.{Exit, broken, continued, returned, Node, empty, point, act, check, seq, choose}
+use Rattle.lra_tree.specs.Graph.{iterate, catch, leave}
 use Rattle.lra_flow.specs.declared.Settings.{Settings}
 use Rattle.lra_flow.specs.Operations.{Operations}
 use Rattle.lra_flow.specs.Changes.{actions_of, AreDone, AreJoined}
@@ -21,8 +23,8 @@ pub data Entry (V : Type 0) : Type 0 where
   -- the value where the assertion at the point is false
   failing : ℕ → V → Entry V
 
--- what a pass gives: its entries in the order in which they are found, the value behind the tree, the values of its jumps in
--- text order, and the point of the first flagged operation, where there is one
+-- what a pass gives: its entries in the order in which they are found, the value behind the tree, the values of its
+-- jumps in text order, and the point of the first flagged operation, where there is one
 pub record Result (V : Type 0) : Type 0 where
   pub entries : List (Entry V)
   pub normal : V
@@ -43,9 +45,30 @@ goes_on xs v f = record { entries = xs; normal = v; breaks = []; continues = [];
 
 -- the jump takes the value, and nothing goes on
 abbrev pub jumps : {V : Type 0} → Exit → V → V → Option ℕ → Result V
-jumps broken v nothing f = record { entries = []; normal = nothing; breaks = v ∷ []; continues = []; returns = []; flag = f }
-jumps continued v nothing f = record { entries = []; normal = nothing; breaks = []; continues = v ∷ []; returns = []; flag = f }
-jumps returned v nothing f = record { entries = []; normal = nothing; breaks = []; continues = []; returns = v ∷ []; flag = f }
+jumps broken v nothing f = record {
+  entries = [];
+  normal = nothing;
+  breaks = v ∷ [];
+  continues = [];
+  returns = [];
+  flag = f;
+}
+jumps continued v nothing f = record {
+  entries = [];
+  normal = nothing;
+  breaks = [];
+  continues = v ∷ [];
+  returns = [];
+  flag = f;
+}
+jumps returned v nothing f = record {
+  entries = [];
+  normal = nothing;
+  breaks = [];
+  continues = [];
+  returns = v ∷ [];
+  flag = f;
+}
 
 -- what both find, and the jumps of both; this value goes on
 abbrev pub in_turn : {V : Type 0} → Result V → Result V → V → Option ℕ → Result V
@@ -58,7 +81,8 @@ in_turn r s v f = record {
   flag = f;
 }
 
--- the first of the values that come out behind a catch, and the others: a loop's own end comes before its jumps, a call's behind them
+-- the first of the values that come out behind a catch, and the others: a loop's own end comes before its jumps, a
+-- call's behind them
 abbrev pub first_of_call : {V : Type 0} → List V → V → V × List V
 first_of_call [] normal = (normal, [])
 first_of_call (v ∷ vs) normal = (v, vs ++ normal ∷ [])
@@ -102,16 +126,17 @@ module _ (V H : Type 0) (ops : Operations V H) where
     abbrev pub GoesFrom : H → Through V
     GoesFrom h f v r = (e : Exactness) × ops.valued h e v × GoesRound (noted q e f) v r
 
-    -- the head becomes each of the later ones, until what its pass leaves behind the body lies in it: this value and result
-    -- are of that pass. The first `left` rounds join, the others widen
+    -- the head becomes each of the later ones, until what its pass leaves behind the body lies in it: this value and
+    -- result are of that pass. The first `left` rounds join, the others widen
     abbrev pub Grows : Bool → ℕ → Option ℕ → H → List H → V → Result V → Type 0
     Grows limited left f h [] v r = GoesFrom h f v r × ops.stays h r.normal (mode_at limited left)
     Grows limited left f h (next ∷ later) v r =
         (u : V) × (s : Result V) × (e : Exactness)
-        × GoesFrom h f u s × ops.grown h s.normal (mode_at limited left) e next × Grows limited (left - 1) (noted q e s.flag) next later v r
+        × GoesFrom h f u s × ops.grown h s.normal (mode_at limited left) e next ×
+        Grows limited (left - 1) (noted q e s.flag) next later v r
 
-    -- so many times the value at the head becomes the join of the first one with what its pass left behind the body, and is passed
-    -- anew; the last pass stays
+    -- so many times the value at the head becomes the join of the first one with what its pass left behind the body,
+    -- and is passed anew; the last pass stays
     abbrev pub Narrows : ℕ → V → V → Result V → V → Result V → Type 0
     Narrows zero first u s v r = (v ≡ u) × (r ≡ s)
     Narrows (suc more) first u s v r =
@@ -121,13 +146,15 @@ module _ (V H : Type 0) (ops : Operations V H) where
 abbrev pub Pass : (V H : Type 0) → Operations V H → Settings → Node → Through V
 Pass V H ops set empty f v r = r ≡ goes_on [] v f
 Pass V H ops set (point q) f v r = r ≡ goes_on (value q v ∷ []) v f
-Pass V H ops set (act q op) f v r = (w : V) × (e : Exactness) × Changes V H ops op v e w × (r ≡ goes_on [] w (noted q e f))
+Pass V H ops set (act q op) f v r = (w : V) × (e : Exactness) × Changes V H ops op v e w ×
+    (r ≡ goes_on [] w (noted q e f))
 -- where the condition is false, and then where it is true
 Pass V H ops set (check q base c) f v r =
     (u w : V) × (d e : Exactness) × Leaves ops base c false v d u × Leaves ops base c true v e w
     × (r ≡ goes_on (failing q u ∷ []) w (noted q e (noted q d f)))
 Pass V H ops set (seq a b) f v r =
-    (s t : Result V) × Pass V H ops set a f v s × Pass V H ops set b s.flag s.normal t × (r ≡ in_turn s t t.normal t.flag)
+    (s t : Result V) × Pass V H ops set a f v s × Pass V H ops set b s.flag s.normal t ×
+    (r ≡ in_turn s t t.normal t.flag)
 Pass V H ops set (choose q base c a b) f v r =
     (on off w : V) × (d e i : Exactness) × (s t : Result V)
     × Leaves ops base c true v d on × Pass V H ops set a (noted q d f) on s

@@ -20,9 +20,11 @@ SomeHas {V} m vs store = (w : V) × Contains vs w × m.has w store
 
 -- a least change of a value keeps the stores to which the change leads
 abbrev pub ChangesKeep : {V H : Type 0} → Meaning V H → Type 0
-ChangesKeep {V} {H} m = (op : Op) (v : V) (e : Exactness) (w : V) → Changes V H (dropping m) op v e w → (s t : State) → m.has v s.store → run_op op s ≡ Some t → m.has w t.store
+ChangesKeep {V} {H} m = (op : Op) (v : V) (e : Exactness) (w : V) → Changes V H (dropping m) op v e w → (s t : State) →
+    m.has v s.store → run_op op s ≡ Some t → m.has w t.store
 
--- the result has the stores of the tree's runs from this state: behind the tree, at its jumps, at its points and where an assertion fails
+-- the result has the stores of the tree's runs from this state: behind the tree, at its jumps, at its points and where
+-- an assertion fails
 pub record Covers {V H : Type 0} (m : Meaning V H) (g : Node) (s : State) (r : Result V) : Type 0 where
   pub ends : (t : State) → Ends g s normal t → m.has r.normal t.store
   pub leaves : (k : Exit) (t : State) → Ends g s (jump k) t → SomeHas m (jumps_of k r) t.store

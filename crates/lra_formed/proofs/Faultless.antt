@@ -78,4 +78,9 @@ same_count n count b e = eqb-true n count (is_not (nat_eq n count) (first_false 
 -- the function that is called is there, and has so many parameters
 pub called_is : (o : Option FunctionTree) (name : Identifier) (count : ℕ) (used : Bool) → called_faults o name count used ≡ [] → (f : FunctionTree) × (o ≡ Some f) × (length f.parameters ≡ count)
 called_is None name count used e = absurd cc
-called_is (Some f) name count used e = (f, refl, same_count (length f.parameters) count (used && not f.has_result) (none_if (not (nat_eq (length f.parameters) count) || (used && not f.has_result)) _ _ e))
+called_is (Some f) name count used e = (
+  f,
+  refl,
+  same_count (length f.parameters) count (used && not f.has_result)
+      (none_if (not (nat_eq (length f.parameters) count) || (used && not f.has_result)) _ _ e),
+)

@@ -8,10 +8,13 @@ use Rattle.lra_tree.specs.Trees as tree
 use Rattle.lra_tree.specs.Program.{Cond, BlockItems, no_more, Function, Program}
 use Rattle.lra_tree.specs.Sites.{live_behind}
 use Rattle.lra_tree.specs.Scope.{Scope, with_local, with_declarators, inner, for_scope, function_named}
-use Rattle.lra_tree.specs.NameFaults.{use_faults, unary_faults, term_faults, expr_faults, negation_faults, test_faults, conjunction_faults, cond_faults, called_faults, call_faults, source_faults, assign_faults, given_faults, declarators_faults, init_faults, test_of_for_faults, step_faults, Around, return_faults, stmt_faults, items_faults}
-use Rattle.lra_tree.specs.Resolve.{function_place, resolve_unary, resolve_term, resolve_expr, resolve_negation, resolve_test, all_of, any_of, resolve_cond, resolve_call, resolve_source, resolve_given, resolve_assign, resolve_declarators, resolve_init, resolve_for_test, resolve_step, init_count, step_count, stmt_count, declarator_count, resolve_stmt, resolve_items}
+use Rattle.lra_tree.specs.NameFaults.{use_faults, unary_faults, term_faults, expr_faults, negation_faults, test_faults, conjunction_faults, cond_faults, called_faults, call_faults, source_faults}
+use Rattle.lra_tree.specs.NameFaults.{assign_faults, given_faults, declarators_faults, init_faults, test_of_for_faults, step_faults, Around, return_faults, stmt_faults, items_faults}
+use Rattle.lra_tree.specs.Resolve.{function_place, resolve_unary, resolve_term, resolve_expr, resolve_negation, resolve_test, all_of, any_of, resolve_cond, resolve_call, resolve_source, resolve_given}
+use Rattle.lra_tree.specs.Resolve.{resolve_assign, resolve_declarators, resolve_init, resolve_for_test, resolve_step, init_count, step_count, stmt_count, declarator_count, resolve_stmt, resolve_items}
 use Rattle.lra_tree.specs.WellFormed.{IsGoodExpr, IsGoodCond, IsGoodCall, IsGoodSource, IsGoodGiven, IsGoodStmt, AreGoodItems}
-use Rattle.lra_formed.specs.Literals.{IsSmallUnary, IsSmallTerm, IsSmallExpr, IsSmallNegation, IsSmallTest, IsSmallConjunction, IsSmallCond, IsSmallCall, IsSmallSource, IsSmallGiven, IsSmallAssign, IsSmallDeclarator, IsSmallInit, IsSmallForTest, IsSmallStep, IsSmallStmt, AreSmallItems}
+use Rattle.lra_formed.specs.Literals.{IsSmallUnary, IsSmallTerm, IsSmallExpr, IsSmallNegation, IsSmallTest, IsSmallConjunction, IsSmallCond, IsSmallCall, IsSmallSource, IsSmallGiven, IsSmallAssign}
+use Rattle.lra_formed.specs.Literals.{IsSmallDeclarator, IsSmallInit, IsSmallForTest, IsSmallStep, IsSmallStmt, AreSmallItems}
 use Rattle.lra_formed.proofs.Faultless.{none_left, none_right, none_if, is_not, Sees, sees_local, sees_inner, variable_lives, called_is}
 
 module _ (P : Program) where
@@ -74,11 +77,15 @@ module _ (P : Program) where
 
     good_arguments : (es : List tree.ExprTree) → AllByRecursion IsSmallExpr es → flat_map (expr_faults s) es ≡ [] → AllByRecursion (IsGoodExpr P live) (map (resolve_expr s) es)
     good_arguments [] small e = tt
-    good_arguments (x ∷ es) small e = (good_expr x small.0 (none_left (expr_faults s x) (flat_map (expr_faults s) es) e), good_arguments es small.1 (none_right (expr_faults s x) (flat_map (expr_faults s) es) e))
+    good_arguments (x ∷ es) small e = (
+      good_expr x small.0 (none_left (expr_faults s x) (flat_map (expr_faults s) es) e),
+      good_arguments es small.1 (none_right (expr_faults s x) (flat_map (expr_faults s) es) e),
+    )
 
   -- the called functions of the source are those of the program
   abbrev pub AreCallees : List tree.FunctionTree → Type 0
-  AreCallees F = (name : List ℕ) (f : tree.FunctionTree) → function_named F name ≡ Some f → (g : Function) × (slice_get P.functions (function_place F name) ≡ Some g) × (g.parameters ≡ length f.parameters)
+  AreCallees F = (name : List ℕ) (f : tree.FunctionTree) → function_named F name ≡ Some f → (g : Function) × (slice_get P.functions (function_place F name) ≡ Some g) ×
+      (g.parameters ≡ length f.parameters)
 
   module _ (F : List tree.FunctionTree) (callees : AreCallees F) where
     good_call : (at live : ℕ) (s : Scope) (c : tree.CallTree) (used : Bool) → Sees P live s → IsSmallCall c → call_faults F s c used ≡ [] → IsGoodCall P at live (resolve_call F s at c)
@@ -119,8 +126,10 @@ module _ (P : Program) where
     good_declarators b n live s (d ∷ ds) rest sees small e good =
         let t = with_local s d.name.word in
         let after = sees_local P live s d.name.word sees in
-        let front = none_left _ (declarators_faults F t ds) e in
-        (good_given n (suc live) t d.source after small.0 (none_right _ (given_faults F t d.source) front), good_declarators b (suc n) (suc live) t ds rest after small.1 (none_right _ (declarators_faults F t ds) e) good)
+        let front = none_left _ (declarators_faults F t ds) e in (
+          good_given n (suc live) t d.source after small.0 (none_right _ (given_faults F t d.source) front),
+          good_declarators b (suc n) (suc live) t ds rest after small.1 (none_right _ (declarators_faults F t ds) e) good,
+        )
 
     sees_declarators : (n live : ℕ) (s : Scope) (ds : List tree.DeclaratorTree) → Sees P live s → Sees P (live_behind live (resolve_declarators F s n ds no_more)) (with_declarators s ds)
     sees_declarators n live s [] sees = sees
@@ -148,7 +157,8 @@ module _ (P : Program) where
     abbrev around : Bool → Bool → Around
     around r b = record { functions = F; has_result = r; in_loop = b }
 
-    good_return : (r b : Bool) (n live : ℕ) (s : Scope) (at : Place) (x : Option tree.SourceTree) → Sees P live s → IsSmallGiven x → return_faults (around r b) s at x ≡ [] → IsGoodGiven P n live (resolve_given F s n x)
+    good_return : (r b : Bool) (n live : ℕ) (s : Scope) (at : Place) (x : Option tree.SourceTree) → Sees P live s → IsSmallGiven x → return_faults (around r b) s at x ≡ [] →
+        IsGoodGiven P n live (resolve_given F s n x)
     good_return r b n live s at None sees small e = tt
     good_return r b n live s at (Some x) sees small e = good_source n live s x sees small (none_right _ (source_faults F s x) e)
 
@@ -192,7 +202,8 @@ module _ (P : Program) where
       good_stmt r b n live s (tree.assert at c) sees small e = good_cond live s sees c small e
       good_stmt r b n live s (tree.assume at c) sees small e = good_cond live s sees c small e
 
-      pub good_items : (r b : Bool) (n live : ℕ) (s : Scope) (items : tree.ItemsTree) → Sees P live s → AreSmallItems items → items_faults (around r b) s items ≡ [] → AreGoodItems P b live (resolve_items F s n items)
+      pub good_items : (r b : Bool) (n live : ℕ) (s : Scope) (items : tree.ItemsTree) → Sees P live s → AreSmallItems items → items_faults (around r b) s items ≡ [] →
+          AreGoodItems P b live (resolve_items F s n items)
       good_items r b n live s tree.no_items sees small e = tt
       good_items r b n live s (tree.declaration d items) sees small e =
           let t = with_declarators s (d.first ∷ d.rest) in
@@ -200,5 +211,7 @@ module _ (P : Program) where
           good_declarators b n live s (d.first ∷ d.rest) (resolve_items F t (n + declarator_count d) items) sees small.0 (none_left (declarators_faults F s (d.first ∷ d.rest)) faults e)
           (λ more h. good_items r b (n + declarator_count d) more t items h small.1 (none_right (declarators_faults F s (d.first ∷ d.rest)) faults e))
       good_items r b n live s (tree.statement t items) sees small e =
-          let faults = items_faults (around r b) s items in
-          (good_stmt r b n live s t sees small.0 (none_left (stmt_faults (around r b) s t) faults e), good_items r b (n + stmt_count t) live s items sees small.1 (none_right (stmt_faults (around r b) s t) faults e))
+          let faults = items_faults (around r b) s items in (
+            good_stmt r b n live s t sees small.0 (none_left (stmt_faults (around r b) s t) faults e),
+            good_items r b (n + stmt_count t) live s items sees small.1 (none_right (stmt_faults (around r b) s t) faults e),
+          )

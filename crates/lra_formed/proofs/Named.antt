@@ -10,9 +10,12 @@ use Rattle.lra_tree.specs.Trees as tree
 use Rattle.lra_tree.specs.Program.{Call, BlockItems, no_more, Function, Program}
 use Rattle.lra_tree.specs.Scope.{Scope, with_local, with_declarators, inner, for_scope, function_scope, functions_in, functions_of, is_main}
 use Rattle.lra_tree.specs.NameFaults.{global_names}
-use Rattle.lra_tree.specs.Labels.{Labelled, plain_label, label_with, called_of, assign_label, with_names, declarator_labels, init_labels, step_labels, stmt_labels, items_labels, live_in_for, function_labels, labels_of, label_at}
-use Rattle.lra_tree.specs.Resolve.{resolve_call, resolve_source, resolve_given, resolve_assign, resolve_declarators, resolve_init, resolve_step, init_count, step_count, stmt_count, items_count, declarator_count, resolve_stmt, resolve_items, resolve_function, global_value, globals_in, resolve_parts, main_of, resolve}
-use Rattle.lra_tree.specs.Sites.{Site, Event, comes, one_call_more, greatest_calls, plain_site, live_behind, source_events, given_events, stmt_events, items_events, function_events, call_events, sites_in, sites_of}
+use Rattle.lra_tree.specs.Labels.{Labelled, plain_label, label_with, called_of, assign_label, with_names, declarator_labels, init_labels, step_labels, stmt_labels, items_labels, live_in_for}
+use Rattle.lra_tree.specs.Labels.{function_labels, labels_of, label_at}
+use Rattle.lra_tree.specs.Resolve.{resolve_call, resolve_source, resolve_given, resolve_assign, resolve_declarators, resolve_init, resolve_step, init_count, step_count, stmt_count, items_count}
+use Rattle.lra_tree.specs.Resolve.{declarator_count, resolve_stmt, resolve_items, resolve_function, global_value, globals_in, resolve_parts, main_of, resolve}
+use Rattle.lra_tree.specs.Sites.{Site, Event, comes, one_call_more, greatest_calls, plain_site, live_behind, source_events, given_events, stmt_events, items_events, function_events, call_events}
+use Rattle.lra_tree.specs.Sites.{sites_in, sites_of}
 use Rattle.lra_tree.specs.ReportText.{shown_names}
 use Rattle.lra_tree.specs.Listing.{globals_named, live_in_call_at, live_at, names_outside, live_names}
 use Rattle.lra_formed.proofs.Numbered.{count_live, count_declarators, count_items, count_step, count_init}
@@ -101,7 +104,8 @@ module _ (outside : List (List ℕ)) (ls : List Labelled) where
     point_has n live b l h at =
         length-append (outside ++ names_outside ls path) (live_at (label_at ls n)) ∙ ap (λ (o : Option Labelled). width_of path + length (live_at o)) at ∙ h
 
-    call_in : (n live : ℕ) (s : Scope) (c : tree.CallTree) (l : Labelled) → width_of path + length l.live_in_call ≡ live → label_at ls n ≡ Some l → EachPoint HasAsMany (inside path live (resolve_call F s n c))
+    call_in : (n live : ℕ) (s : Scope) (c : tree.CallTree) (l : Labelled) → width_of path + length l.live_in_call ≡ live → label_at ls n ≡ Some l →
+        EachPoint HasAsMany (inside path live (resolve_call F s n c))
     call_in n live s c l h at = calls live (resolve_call F s n c) (ap (λ (o : Option Labelled). width_of path + length (live_in_call_at o)) at ∙ h)
 
     source_has : (n live : ℕ) (s : Scope) (x : tree.SourceTree) (l : Labelled) → width_of path + length l.live_in_call ≡ live → label_at ls n ≡ Some l
@@ -123,7 +127,8 @@ module _ (outside : List (List ℕ)) (ls : List Labelled) where
 
     -- declarators, and the items behind them
     declarators_have : (n live more : ℕ) (s : Scope) (ds : List tree.DeclaratorTree) (rest : BlockItems) (names : List (List ℕ)) → width_of path + length names ≡ live → live + length ds ≡ more
-        → StandFrom ls n (declarator_labels names ds) → EachPoint HasAsMany (items_events inside path more rest) → EachPoint HasAsMany (items_events inside path live (resolve_declarators F s n ds rest))
+        → StandFrom ls n (declarator_labels names ds) → EachPoint HasAsMany (items_events inside path more rest) →
+        EachPoint HasAsMany (items_events inside path live (resolve_declarators F s n ds rest))
     declarators_have n live more s [] rest names h e stand back = let same : more ≡ live = omega (arith, e) in subst (λ (i : ℕ). EachPoint HasAsMany (items_events inside path i rest)) same back
     declarators_have n live more s (d ∷ ds) rest names h e stand back =
         let t = with_local s d.name.word in
@@ -144,7 +149,8 @@ module _ (outside : List (List ℕ)) (ls : List Labelled) where
     init_has n live s (tree.declared d) names h stand = declarators_have n live (live + length (d.first ∷ d.rest)) (inner s) (d.first ∷ d.rest) no_more names h refl stand tt
     init_has n live s (tree.assigned a) names h stand = each_then HasAsMany (stmt_events inside path live (resolve_assign F s n a)) [] (assign_has n live s a names h stand.0) tt
 
-    behind_init : (n live : ℕ) (s : Scope) (i : tree.InitTree) (names : List (List ℕ)) → width_of path + length names ≡ live → width_of path + length (live_in_for names i) ≡ live_behind live (resolve_init F s n i)
+    behind_init : (n live : ℕ) (s : Scope) (i : tree.InitTree) (names : List (List ℕ)) → width_of path + length names ≡ live →
+        width_of path + length (live_in_for names i) ≡ live_behind live (resolve_init F s n i)
     behind_init n live s tree.no_init names h = h
     behind_init n live s (tree.declared d) names h =
         let ds = d.first ∷ d.rest in
@@ -221,7 +227,8 @@ module _ (outside : List (List ℕ)) (ls : List Labelled) where
       -- the points of items, and that of their block's end
       items_have : (n m live : ℕ) (s : Scope) (items : tree.ItemsTree) (end : Place) (names : List (List ℕ)) → width_of path + length names ≡ live → n + items_count items ≡ m
           → StandFrom ls n (items_labels names items end)
-          → EachPoint HasAsMany (items_events inside path live (resolve_items F s n items)) × HasAsMany (record { path = path; label = m; live = live_behind live (resolve_items F s n items); asserts = false })
+          → EachPoint HasAsMany (items_events inside path live (resolve_items F s n items)) ×
+          HasAsMany (record { path = path; label = m; live = live_behind live (resolve_items F s n items); asserts = false })
       items_have n m live s tree.no_items end names h e stand =
           let same : n ≡ m = omega (arith, e) in
           (tt, point_has m live false (plain_label end names) h (subst (λ (i : ℕ). label_at ls i ≡ Some (plain_label end names)) same stand.0))
@@ -308,7 +315,8 @@ module _ (outside : List (List ℕ)) (ls : List Labelled) where
       no_main : (more live : ℕ) → width_of [] ≡ live → EachPoint HasAsMany (function_events (call_events P more) [] live (Some (record { parameters = 0; body = no_more; end = 0 })))
       no_main more live h = let a = length-append (outside ++ []) [] in let b : length (outside ++ [] ++ []) ≡ live + 0 = omega (arith, h) in (b, tt)
 
-      one_of : (more live : ℕ) (b : Bool) (g x : Function) → EachPoint HasAsMany (function_events (call_events P more) [] live (Some g)) → EachPoint HasAsMany (function_events (call_events P more) [] live (Some x))
+      one_of : (more live : ℕ) (b : Bool) (g x : Function) → EachPoint HasAsMany (function_events (call_events P more) [] live (Some g)) →
+          EachPoint HasAsMany (function_events (call_events P more) [] live (Some x))
           → EachPoint HasAsMany (function_events (call_events P more) [] live (Some (cond b g x)))
       one_of more live true g x h k = h
       one_of more live false g x h k = k

@@ -8,7 +8,8 @@ use Rattle.lra_tree.specs.Program.{BlockItems, no_more}
 use Rattle.lra_tree.specs.Scope.{Scope, with_local, with_declarators, inner, for_scope}
 use Rattle.lra_tree.specs.Labels.{with_names, declarator_labels, init_labels, step_labels, stmt_labels, items_labels, live_in_for}
 use Rattle.lra_tree.specs.Walk.{told}
-use Rattle.lra_tree.specs.Resolve.{resolve_assign, resolve_declarators, resolve_init, resolve_step, init_count, step_count, stmt_count, items_count, declarator_count, resolve_stmt, resolve_items, resolve_function, resolve_parts}
+use Rattle.lra_tree.specs.Resolve.{resolve_assign, resolve_declarators, resolve_init, resolve_step, init_count, step_count, stmt_count, items_count, declarator_count, resolve_stmt, resolve_items}
+use Rattle.lra_tree.specs.Resolve.{resolve_function, resolve_parts}
 use Rattle.lra_tree.specs.WellFormed.{stmt_numbers, items_numbers, function_numbers}
 use Rattle.lra_tree.proofs.Walking.{told_stmt}
 
@@ -96,7 +97,8 @@ module _ (F : List tree.FunctionTree) where
   assign_run n s (tree.after x step) = run_one n
   assign_run n s (tree.before at step x) = run_one n
 
-  declarators_run : (n m : ℕ) (s : Scope) (ds : List tree.DeclaratorTree) (rest : BlockItems) → IsRun (n + length ds) (items_numbers rest) m → IsRun n (items_numbers (resolve_declarators F s n ds rest)) m
+  declarators_run : (n m : ℕ) (s : Scope) (ds : List tree.DeclaratorTree) (rest : BlockItems) → IsRun (n + length ds) (items_numbers rest) m →
+      IsRun n (items_numbers (resolve_declarators F s n ds rest)) m
   declarators_run n m s [] rest r = subst (λ (i : ℕ). IsRun i (items_numbers rest) m) (omega arith) r
   declarators_run n m s (d ∷ ds) rest r =
       (refl, declarators_run (suc n) m (with_local s d.name.word) ds rest (subst (λ (i : ℕ). IsRun i (items_numbers rest) m) (omega arith) r))
@@ -127,7 +129,11 @@ module _ (F : List tree.FunctionTree) where
         let last = n + stmt_count (tree.if_else at c t u) in
         let back = stmt_numbers (resolve_stmt F s m u) in
         (refl, run_then (suc n) m last (stmt_numbers (resolve_stmt F s (suc n) t)) back (stmt_run (suc n) s t) (run_to m (m + stmt_count u) last back (else_end n at c t u) (stmt_run m s u)))
-    stmt_run n s (tree.while at c t) = (refl, run_to (suc n) (suc n + stmt_count t) (n + stmt_count (tree.while at c t)) (stmt_numbers (resolve_stmt F s (suc n) t)) (while_end n at c t) (stmt_run (suc n) s t))
+    stmt_run n s (tree.while at c t) = (
+      refl,
+      run_to (suc n) (suc n + stmt_count t) (n + stmt_count (tree.while at c t)) (stmt_numbers (resolve_stmt F s (suc n) t)) (while_end n at c t)
+          (stmt_run (suc n) s t),
+    )
     stmt_run n s (tree.for at i c a t) =
         let u = for_scope s i in
         let m = suc n + init_count i in

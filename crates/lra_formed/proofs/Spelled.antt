@@ -13,8 +13,10 @@ use Rattle.lra_tree.specs.Lexeme.{SpellsToken, name, number, mark_of, reserved, 
 use Rattle.lra_tree.specs.Tokens as lexical
 use Rattle.lra_tree.specs.Texts.{Piece, Pieces, plain, Texts, ◌⋅◌, further, separated}
 use Rattle.lra_tree.specs.Texts as text
-use Rattle.lra_tree.specs.Grammar.{IsUnary, IsTerm, IsExpr, IsNegation, IsTest, IsConjunction, IsCond, InParens, IsCall, IsSource, IsAssign, IsGiven, IsDeclarator, IsDeclaration, IsInit, IsForTest, IsForStep, IsReturned, IsStmt, AreItems, IsSigned, IsGlobal, IsPart, AreParts, Spells}
-use Rattle.lra_formed.specs.Literals.{IsSmallUnary, IsSmallTerm, IsSmallExpr, IsSmallNegation, IsSmallTest, IsSmallConjunction, IsSmallCond, IsSmallCall, IsSmallSource, IsSmallGiven, IsSmallAssign, IsSmallDeclarator, IsSmallDeclaration, IsSmallInit, IsSmallForTest, IsSmallStep, IsSmallStmt, AreSmallItems, IsSmallGlobal, IsSmallPart, HasSmallLiterals}
+use Rattle.lra_tree.specs.Grammar.{IsUnary, IsTerm, IsExpr, IsNegation, IsTest, IsConjunction, IsCond, InParens, IsCall, IsSource, IsAssign, IsGiven, IsDeclarator, IsDeclaration, IsInit, IsForTest}
+use Rattle.lra_tree.specs.Grammar.{IsForStep, IsReturned, IsStmt, AreItems, IsSigned, IsGlobal, IsPart, AreParts, Spells}
+use Rattle.lra_formed.specs.Literals.{IsSmallUnary, IsSmallTerm, IsSmallExpr, IsSmallNegation, IsSmallTest, IsSmallConjunction, IsSmallCond, IsSmallCall, IsSmallSource, IsSmallGiven, IsSmallAssign}
+use Rattle.lra_formed.specs.Literals.{IsSmallDeclarator, IsSmallDeclaration, IsSmallInit, IsSmallForTest, IsSmallStep, IsSmallStmt, AreSmallItems, IsSmallGlobal, IsSmallPart, HasSmallLiterals}
 
 -- tokens -----------------------------------------------------------------------------------------------------------
 
@@ -75,12 +77,14 @@ small_number : (n : ℕ) (z : Pieces) → text.number n z → AreSmall z → n <
 small_number n z (at, e) h = let all : AreSmall ((record { kind = Number n; place = at }, 0) ∷ []) = subst AreSmall e h in all.0 n refl
 
 -- each of the items with commas between
-small_further : {A : Type 0} (R : A → Texts) (Q : A → Type 0) → ((a : A) (z : Pieces) → R a z → AreSmall z → Q a) → (items : List A) (z : Pieces) → further R items z → AreSmall z → AllByRecursion Q items
+small_further : {A : Type 0} (R : A → Texts) (Q : A → Type 0) → ((a : A) (z : Pieces) → R a z → AreSmall z → Q a) → (items : List A) (z : Pieces) → further R items z → AreSmall z →
+    AllByRecursion Q items
 small_further R Q each [] z s h = tt
 small_further R Q each (a ∷ items) z (x, y, e, comma, (x2, y2, e2, s, more)) h =
     let later = back x y z e h in (each a x2 s (front x2 y2 y e2 later), small_further R Q each items y2 more (back x2 y2 y e2 later))
 
-small_separated : {A : Type 0} (R : A → Texts) (Q : A → Type 0) → ((a : A) (z : Pieces) → R a z → AreSmall z → Q a) → (items : List A) (z : Pieces) → separated R items z → AreSmall z → AllByRecursion Q items
+small_separated : {A : Type 0} (R : A → Texts) (Q : A → Type 0) → ((a : A) (z : Pieces) → R a z → AreSmall z → Q a) → (items : List A) (z : Pieces) → separated R items z → AreSmall z →
+    AllByRecursion Q items
 small_separated R Q each [] z s h = tt
 small_separated R Q each (a ∷ items) z (x, y, e, s, more) h = (each a x s (front x y z e h), small_further R Q each items y more (back x y z e h))
 
@@ -134,7 +138,8 @@ small_in_parens l c z (x, y, e, opening, (x2, y2, e2, s, closing)) h = small_con
 -- calls, assignments, declarations ---------------------------------------------------------------------------------
 
 small_call : (o l : ℕ) (c : tree.CallTree) (z : Pieces) → IsCall o l c z → AreSmall z → IsSmallCall c
-small_call o l c z (x, y, e, called, (x2, y2, e2, opening, (x3, y3, e3, s, closing))) h = small_separated (IsExpr l) IsSmallExpr (small_expr l) c.arguments x3 s (front x3 y3 y2 e3 (back x2 y2 y e2 (back x y z e h)))
+small_call o l c z (x, y, e, called, (x2, y2, e2, opening, (x3, y3, e3, s, closing))) h =
+    small_separated (IsExpr l) IsSmallExpr (small_expr l) c.arguments x3 s (front x3 y3 y2 e3 (back x2 y2 y e2 (back x y z e h)))
 
 small_source : (l : ℕ) (a : tree.SourceTree) (z : Pieces) → IsSource l a z → AreSmall z → IsSmallSource a
 small_source l (tree.expression a) z s h = small_expr l a z s h
@@ -158,7 +163,8 @@ small_declarator : (l : ℕ) (d : tree.DeclaratorTree) (z : Pieces) → IsDeclar
 small_declarator l d z (x, y, e, declared, s) h = small_given l d.source y s (back x y z e h)
 
 small_declaration : (l : ℕ) (d : tree.DeclarationTree) (z : Pieces) → IsDeclaration l d z → AreSmall z → IsSmallDeclaration d
-small_declaration l d z (x, y, e, type, (x2, y2, e2, s, closing)) h = small_separated (IsDeclarator l) IsSmallDeclarator (small_declarator l) (d.first ∷ d.rest) x2 s (front x2 y2 y e2 (back x y z e h))
+small_declaration l d z (x, y, e, type, (x2, y2, e2, s, closing)) h = small_separated (IsDeclarator l) IsSmallDeclarator (small_declarator l) (d.first ∷ d.rest) x2 s
+    (front x2 y2 y e2 (back x y z e h))
 
 -- statements -------------------------------------------------------------------------------------------------------
 
@@ -190,8 +196,11 @@ mutual
       let later = back x y z e h in (small_in_parens l c x2 s (front x2 y2 y e2 later), small_stmt (l + 1) (l + 1) t y2 r (back x2 y2 y e2 later))
   small_stmt o l (tree.if_else at c t u) z ((x, y, e, word, (x2, y2, e2, s, (x3, y3, e3, r, (x4, y4, e4, again, q)))), whole) h =
       let behind = back x y z e h in
-      let branches = back x2 y2 y e2 behind in
-      (small_in_parens l c x2 s (front x2 y2 y e2 behind), small_stmt (l + 1) (l + 1) t x3 r (front x3 y3 y2 e3 branches), small_stmt (l + 1) (l + 1) u y4 q (back x4 y4 y3 e4 (back x3 y3 y2 e3 branches)))
+      let branches = back x2 y2 y e2 behind in (
+        small_in_parens l c x2 s (front x2 y2 y e2 behind),
+        small_stmt (l + 1) (l + 1) t x3 r (front x3 y3 y2 e3 branches),
+        small_stmt (l + 1) (l + 1) u y4 q (back x4 y4 y3 e4 (back x3 y3 y2 e3 branches)),
+      )
   small_stmt o l (tree.while at c t) z (x, y, e, word, (x2, y2, e2, s, r)) h =
       let later = back x y z e h in (small_in_parens l c x2 s (front x2 y2 y e2 later), small_stmt (l + 1) (l + 1) t y2 r (back x2 y2 y e2 later))
   small_stmt o l (tree.for at i c a t) z (x, y, e, word, (x2, y2, e2, opening, (x3, y3, e3, s, (x4, y4, e4, r, (x5, y5, e5, semicolon, (x6, y6, e6, q, (x7, y7, e7, closing, p))))))) h =

@@ -20,7 +20,8 @@ use Rattle.lra_formed.proofs.Numbered.{parts_run, run_is_range}
 
 -- globals ----------------------------------------------------------------------------------------------------------
 
-small_then : (gs : List tree.GlobalTree) (zs : List ℤ) → AllByRecursion IsSmallGlobal gs → AllByRecursion (λ z. IsTrue (is_word z)) zs → AllByRecursion (λ z. IsTrue (is_word z)) (map global_value gs ++ zs)
+small_then : (gs : List tree.GlobalTree) (zs : List ℤ) → AllByRecursion IsSmallGlobal gs → AllByRecursion (λ z. IsTrue (is_word z)) zs →
+    AllByRecursion (λ z. IsTrue (is_word z)) (map global_value gs ++ zs)
 small_then [] zs h k = k
 small_then (g ∷ gs) zs h k = (h.0, small_then gs zs h.1 k)
 
@@ -33,7 +34,8 @@ globals_are_words (tree.function f ∷ ps) h = globals_are_words ps h.1
 -- functions --------------------------------------------------------------------------------------------------------
 
 module _ (P : Program) (F : List tree.FunctionTree) (callees : AreCallees P F) where
-  good_function : (n : ℕ) (outside : List (List ℕ)) (f : tree.FunctionTree) → length outside ≤ length P.globals → IsSmallPart (tree.function f) → function_faults F outside f ≡ [] → IsGoodFunction P (resolve_function F outside n f)
+  good_function : (n : ℕ) (outside : List (List ℕ)) (f : tree.FunctionTree) → length outside ≤ length P.globals → IsSmallPart (tree.function f) → function_faults F outside f ≡ [] →
+      IsGoodFunction P (resolve_function F outside n f)
   good_function n outside f few small e =
       good_items P F callees f.has_result false n (length f.parameters) (function_scope outside f.parameters) f.body
       (record { globals = few; locals = length-map f.parameters (λ (x : Identifier). x.word) }) small (none_right (parameters_faults [] f.parameters) _ e)

@@ -19,15 +19,19 @@ FaultlessAreWellFormed = (t : FileTree) → HasSmallLiterals t → name_faults t
 
 -- the literals of a source's tree are small
 abbrev pub LiteralsAreSmall : Language → Type 0
-LiteralsAreSmall L = (source : List ℕ) (tokens : List Token) (t : FileTree) → Lex source tokens → IsTree L tokens t → HasSmallLiterals t
+LiteralsAreSmall L = (source : List ℕ) (tokens : List Token) (t : FileTree) → Lex source tokens → IsTree L tokens t →
+    HasSmallLiterals t
 
 -- so the program of a source without faults of names is well-formed
 abbrev pub ReadAreWellFormed : Language → Type 0
-ReadAreWellFormed L = (source : List ℕ) (tokens : List Token) (t : FileTree) → Lex source tokens → IsTree L tokens t → name_faults t ≡ [] → IsWellFormed (resolve t)
+ReadAreWellFormed L = (source : List ℕ) (tokens : List Token) (t : FileTree) → Lex source tokens → IsTree L tokens t →
+    name_faults t ≡ [] → IsWellFormed (resolve t)
 
 -- at each point of a source as many names are printed as variables live there
 abbrev pub NamesAreAsMany : Type 0
-NamesAreAsMany = (t : FileTree) (q : ℕ) (s : Site) → slice_get (sites_of (resolve t)) q ≡ Some s → length (live_names (globals_named t.parts) (labels_of t) s) ≡ s.live
+NamesAreAsMany = (t : FileTree) (q : ℕ) (s : Site) → slice_get (sites_of (resolve t)) q ≡ Some s →
+    length (live_names (globals_named t.parts) (labels_of t) s) ≡ s.live
 
 abbrev pub ShownNamesAreAsMany : Type 0
-ShownNamesAreAsMany = (t : FileTree) (q : ℕ) (s : Site) → slice_get (sites_of (resolve t)) q ≡ Some s → length (shown_names (live_names (globals_named t.parts) (labels_of t) s)) ≡ s.live
+ShownNamesAreAsMany = (t : FileTree) (q : ℕ) (s : Site) → slice_get (sites_of (resolve t)) q ≡ Some s →
+    length (shown_names (live_names (globals_named t.parts) (labels_of t) s)) ≡ s.live

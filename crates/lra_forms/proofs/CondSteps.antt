@@ -21,14 +21,16 @@ use Rattle.lra_forms.proofs.FormSteps.{none_only, some_only}
 
 minus_zeros : (cs : List ℤ) → entrywise (λ x y. x -ℤ y) cs (replicate (length cs) (pos 0)) ≡ cs
 minus_zeros [] = refl
-minus_zeros (c ∷ cs) = let e : c -ℤ pos 0 ≡ c = omega (arith, ints) in ap (λ (x : ℤ). x ∷ entrywise (λ x y. x -ℤ y) cs (replicate (length cs) (pos 0))) e ∙ ap (λ (xs : List ℤ). c ∷ xs) (minus_zeros cs)
+minus_zeros (c ∷ cs) = let e : c -ℤ pos 0 ≡ c = omega (arith, ints) in ap (λ (x : ℤ). x ∷ entrywise (λ x y. x -ℤ y) cs (replicate (length cs) (pos 0))) e ∙
+    ap (λ (xs : List ℤ). c ∷ xs) (minus_zeros cs)
 
 zeros_minus : (cs : List ℤ) → entrywise (λ x y. x -ℤ y) (replicate (length cs) (pos 0)) cs ≡ map (λ c. pos 0 -ℤ c) cs
 zeros_minus [] = refl
 zeros_minus (c ∷ cs) = ap (λ (xs : List ℤ). (pos 0 -ℤ c) ∷ xs) (zeros_minus cs)
 
 -- d - 1
-pub less_one_is : (d one : Form) (o : Option Form) → as_linear one ≡ constant_form (length d.coefficients) (pos 1) → IsForm (combined (λ x y. x -ℤ y) (as_linear d) (as_linear one)) o → IsForm (less_one (as_linear d)) o
+pub less_one_is : (d one : Form) (o : Option Form) → as_linear one ≡ constant_form (length d.coefficients) (pos 1) → IsForm (combined (λ x y. x -ℤ y) (as_linear d) (as_linear one)) o →
+    IsForm (less_one (as_linear d)) o
 less_one_is d one o is h =
     let same : combined (λ x y. x -ℤ y) (as_linear d) (constant_form (length d.coefficients) (pos 1)) ≡ less_one (as_linear d) =
     ap (λ (cs : List ℤ). fitting (record { constant = d.constant -ℤ pos 1; coefficients = cs })) (minus_zeros d.coefficients) in

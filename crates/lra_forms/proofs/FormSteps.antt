@@ -1,5 +1,6 @@
 -- Steps of the proofs on linear forms.
-use Rattle.std.proofs.Common.{rules, ◌≡◌, ◌+◌, ◌<◌, map, drop, drop-cons, get_or, length, ℕ, zero, suc, ℤ, pos, ◌++◌, List, [], ◌∷◌, Option, Some, None, Bool, true, false, refl, sym, ap, subst, ◌∙◌, append_assoc, FitsSigned, arith}
+use Rattle.std.proofs.Common.{rules, ◌≡◌, ◌+◌, ◌<◌, map, drop, drop-cons, get_or, length, ℕ, zero, suc, ℤ, pos, ◌++◌, List, [], ◌∷◌, Option, Some, None, Bool, true, false, refl, sym, ap, subst, ◌∙◌}
+use Rattle.std.proofs.Common.{append_assoc, FitsSigned, arith}
 use Rattle.std.specs.Int.{w64}
 use Rattle.std.proofs.lemmas.Int.{ints}
 use Rattle.std.specs.Prelude.{◌&&◌, if◌then◌else◌, replicate, option_map}
@@ -78,11 +79,14 @@ module _ (live base : ℕ) (first : Option linear.Form) (f : linear.Form) (os : 
   ChainAt g n = rest_form live base (Some g) (map operation_view (drop n os)) ≡ rest_form live base first (map operation_view os)
 
   behind_is : i < length os → o ≡ get_or os i o → ChainAt f i
-      → rest_form live base (linear.form_of live base (expr_view o.operand) >>= λ y. linear.operator_form (operator_view o.operator) f y) (map operation_view (drop (i + 1) os)) ≡ rest_form live base first (map operation_view os)
+      → rest_form live base (linear.form_of live base (expr_view o.operand) >>= λ y. linear.operator_form (operator_view o.operator) f y) (map operation_view (drop (i + 1) os)) ≡
+      rest_form live base first (map operation_view os)
   behind_is below is so_far =
-      let split : drop i os ≡ o ∷ drop (i + 1) os = drop-cons os i o below ∙ ap (λ (x : Operation). x ∷ drop (suc i) os) (sym is) ∙ ap (λ (n : ℕ). o ∷ drop n os) (let one : suc i ≡ i + 1 = omega arith in one) in
+      let split : drop i os ≡ o ∷ drop (i + 1) os = drop-cons os i o below ∙ ap (λ (x : Operation). x ∷ drop (suc i) os) (sym is) ∙
+      ap (λ (n : ℕ). o ∷ drop n os) (let one : suc i ≡ i + 1 = omega arith in one) in
       let here = subst (λ (xs : List Operation). rest_form live base (Some f) (map operation_view xs) ≡ rest_form live base first (map operation_view os)) split so_far in
-      subst (λ (p : Operator × Expr). rest_form live base (linear.form_of live base p.1 >>= λ y. linear.operator_form p.0 f y) (map operation_view (drop (i + 1) os)) ≡ rest_form live base first (map operation_view os))
+      subst (λ (p : Operator × Expr). rest_form live base (linear.form_of live base p.1 >>= λ y. linear.operator_form p.0 f y) (map operation_view (drop (i + 1) os)) ≡
+      rest_form live base first (map operation_view os))
       (operation_is o) here
 
   -- an operand without a form

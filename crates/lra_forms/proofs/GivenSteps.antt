@@ -58,8 +58,10 @@ same_wide : (f g : linear.Form) (n : ℕ) → fitting f ≡ Some g → length f.
 same_wide f g n e h = sym (ap (λ (x : linear.Form). length x.coefficients) (fitting_same f g e)) ∙ h
 
 pub test_wide : (op : declared.Comparison) (d : Form) (t : Test) → IsTest (comparison_test (comparison_view op) (as_linear d)) (Some t) → length t.expr.coefficients ≡ length d.coefficients
-test_wide Below d t h = from_form_wide _ _ (λ f e. same_wide (record { constant = (pos 0 -ℤ d.constant) -ℤ pos 1; coefficients = map (λ c. pos 0 -ℤ c) d.coefficients }) f _ e (length-map d.coefficients (λ c. pos 0 -ℤ c))) t h
-test_wide AtMost d t h = from_form_wide _ _ (λ f e. same_wide (record { constant = negsuc 0 *ℤ d.constant; coefficients = map (λ c. negsuc 0 *ℤ c) d.coefficients }) f _ e (length-map d.coefficients (λ c. negsuc 0 *ℤ c))) t h
+test_wide Below d t h = from_form_wide _ _ (λ f e. same_wide (record { constant = (pos 0 -ℤ d.constant) -ℤ pos 1; coefficients = map (λ c. pos 0 -ℤ c) d.coefficients }) f _ e
+    (length-map d.coefficients (λ c. pos 0 -ℤ c))) t h
+test_wide AtMost d t h = from_form_wide _ _ (λ f e. same_wide (record { constant = negsuc 0 *ℤ d.constant; coefficients = map (λ c. negsuc 0 *ℤ c) d.coefficients }) f _ e
+    (length-map d.coefficients (λ c. negsuc 0 *ℤ c))) t h
 test_wide Above d t h = from_form_wide _ _ (λ f e. same_wide (record { constant = d.constant -ℤ pos 1; coefficients = d.coefficients }) f _ e refl) t h
 test_wide AtLeast d t h = ap (λ (x : Test). length x.expr.coefficients) (some_is t (as_test (record { kind = inequality; form = as_linear d })) h)
 test_wide Equal d t h = ap (λ (x : Test). length x.expr.coefficients) (some_is t (as_test (record { kind = equality; form = as_linear d })) h)

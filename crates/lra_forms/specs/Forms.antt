@@ -21,4 +21,5 @@ sum_of false x y = x +ℤ y
 -- a chain's form, of which so much is there
 abbrev pub rest_form : ℕ → ℕ → Option linear.Form → List (Operator × Expr) → Option linear.Form
 rest_form live base f [] = f
-rest_form live base f (o ∷ os) = rest_form live base (f >>= λ x. linear.form_of live base o.1 >>= λ y. linear.operator_form o.0 x y) os
+rest_form live base f (o ∷ os) = rest_form live base
+    (f >>= λ x. linear.form_of live base o.1 >>= λ y. linear.operator_form o.0 x y) os

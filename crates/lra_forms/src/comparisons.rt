@@ -47,7 +47,8 @@ fn at_least_zero_of(form: Option<LinExpr>) -> Option<Test>
     }
 }
 
-/// The test of a comparison whose left side minus its right one is `d`; none of `!=`, nor where a number passes 64 bits.
+/// The test of a comparison whose left side minus its right one is `d`; none of `!=`, nor where a number passes 64
+/// bits.
 pub fn test_of(alloc: Global, op: Comparison, d: &LinExpr) -> Result<Option<Test>, AllocError>
     requires { length d.now.coefficients < 2 ^ 62 }
     ensures { IfOk result (λ o. IsTest (comparison_test (comparison_view op) (as_linear d.now)) o) }

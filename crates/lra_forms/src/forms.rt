@@ -1,11 +1,13 @@
 //! Linear forms of expressions.
 
-ghost use Rattle.std.specs.Prelude.{◌≡◌, ℤ, pos, ◌*ℤ◌, ◌<◌, ◌≤◌, ◌^◌, ◌⊎◌, Some, slice_set, replicate, IfOk, MatchOption, true, false, map};
+ghost use Rattle.std.specs.Prelude.{◌≡◌, ℤ, pos, ◌*ℤ◌, ◌<◌, ◌≤◌, ◌^◌, ◌⊎◌, Some, slice_set, replicate, IfOk};
+ghost use Rattle.std.specs.Prelude.{MatchOption, true, false, map};
 ghost use Rattle.std.specs.List.{list_all};
 ghost use Rattle.lra_tree.specs.Value.{word, is_word, index_of};
 ghost use Rattle.lra_tree.specs.Views.{operator_view};
 ghost use Rattle.lra_tree.specs.ProgramViews.{expr_view, operation_view, slot_view};
-ghost use Rattle.lra_tree.specs.Linear.{fitting, entrywise, combined, scaled, is_constant, product_form, operator_form, constant_form, variable_form, form_of};
+ghost use Rattle.lra_tree.specs.Linear.{fitting, entrywise, combined, scaled, is_constant, product_form, operator_form};
+ghost use Rattle.lra_tree.specs.Linear.{constant_form, variable_form, form_of};
 ghost use Rattle.lra_forms.specs.Forms.{as_linear, IsForm, sum_of, rest_form};
 
 use lra_lin::LinExpr;
@@ -38,7 +40,9 @@ fn sum_entries(
     ours: &[i64],
     theirs: &[i64],
 ) -> Result<Option<Vec<i64>>, AllocError>
-    ensures { IfOk result (λ o. MatchOption o (list_all is_word (entrywise (sum_of minus) ours.now theirs.now) ≡ false) (λ v. (list_all is_word (entrywise (sum_of minus) ours.now theirs.now) ≡ true) × (v.items ≡ entrywise (sum_of minus) ours.now theirs.now))) }
+    ensures { IfOk result (λ o. MatchOption o (list_all is_word (entrywise (sum_of minus) ours.now theirs.now) ≡ false)
+        (λ v. (list_all is_word (entrywise (sum_of minus) ours.now theirs.now) ≡ true) ×
+        (v.items ≡ entrywise (sum_of minus) ours.now theirs.now))) }
 {
     let mut sums = Vec::new(alloc);
     let mut left = ours;
@@ -63,7 +67,9 @@ fn product_entries(
     factor: &i64,
     numbers: &[i64],
 ) -> Result<Option<Vec<i64>>, AllocError>
-    ensures { IfOk result (λ o. MatchOption o (list_all is_word (map (λ c. factor.now *ℤ c) numbers.now) ≡ false) (λ v. (list_all is_word (map (λ c. factor.now *ℤ c) numbers.now) ≡ true) × (v.items ≡ map (λ c. factor.now *ℤ c) numbers.now))) }
+    ensures { IfOk result (λ o. MatchOption o (list_all is_word (map (λ c. factor.now *ℤ c) numbers.now) ≡ false)
+        (λ v. (list_all is_word (map (λ c. factor.now *ℤ c) numbers.now) ≡ true) ×
+        (v.items ≡ map (λ c. factor.now *ℤ c) numbers.now))) }
 {
     let mut products = Vec::new(alloc);
     let mut left = numbers;
@@ -187,7 +193,8 @@ fn unit_entries(alloc: Global, live: usize, place: usize) -> Result<Vec<i64>, Al
 
 /// Where the variable stands in the store.
 fn place_of(base: usize, slot: Slot) -> usize
-    ensures { (result ≡ index_of base (slot_view slot)) ⊎ ((2 ^ 62 ≤ result) × (2 ^ 62 ≤ index_of base (slot_view slot))) }
+    ensures { (result ≡ index_of base (slot_view slot)) ⊎
+        ((2 ^ 62 ≤ result) × (2 ^ 62 ≤ index_of base (slot_view slot))) }
 {
     match slot {
         Slot::Global(k) => k,
@@ -224,8 +231,8 @@ fn literal_of(alloc: Global, live: usize, number: u64) -> Result<Option<LinExpr>
     }
 }
 
-/// The linear form of an expression over so many live variables, of which the call's own begin at `base`; none where the expression
-/// isn't linear, or where a number on the way passes 64 bits (Cousot and Halbwachs, 1978).
+/// The linear form of an expression over so many live variables, of which the call's own begin at `base`; none where
+/// the expression isn't linear, or where a number on the way passes 64 bits (Cousot and Halbwachs, 1978).
 #[cycle(form)]
 pub fn form_of_expression(
     alloc: Global,
@@ -273,7 +280,8 @@ fn form_of_chain(
     operations: &[Operation],
 ) -> Result<Option<LinExpr>, AllocError>
     requires { live < 2 ^ 62 }
-    ensures { IfOk result (λ o. IsForm (rest_form live base (Some (as_linear first)) (map operation_view operations.now)) o) }
+    ensures { IfOk result (λ o. IsForm (rest_form live base (Some (as_linear first))
+        (map operation_view operations.now)) o) }
 {
     let mut form = first;
     'operations: for operation in operations {

@@ -1,6 +1,7 @@
 //! The rows that a loop's condition gives to its head.
 
-ghost use Rattle.std.specs.Prelude.{◌≡◌, ◌<◌, ◌^◌, ℤ, pos, ◌+ℤ◌, ◌≤ℤ◌, neg_ℤ, ◌∷◌, ◌++◌, [], suc, map, length, IfOk, OnOk, Some, option_map, if◌then◌else◌};
+ghost use Rattle.std.specs.Prelude.{◌≡◌, ◌<◌, ◌^◌, ℤ, pos, ◌+ℤ◌, ◌≤ℤ◌, neg_ℤ, ◌∷◌, ◌++◌, [], suc, map, length, IfOk};
+ghost use Rattle.std.specs.Prelude.{OnOk, Some, option_map, if◌then◌else◌};
 ghost use Rattle.std.specs.List.{All};
 ghost use Rattle.lra_linear.specs.Range.{InRange};
 ghost use Rattle.lra_tree.specs.Views.{comparison_view};
@@ -68,7 +69,8 @@ fn give_test(
 ) -> Result<(), AllocError>
     requires few { length d.now.coefficients < 2 ^ 62 }
     requires width { length d.now.coefficients ≡ rows.old.dims }
-    ensures { OnOk result (HasMore rows.old rows.new (test_rows (comparison_test (comparison_view op) (as_linear d.now)))) }
+    ensures { OnOk result (HasMore rows.old rows.new (test_rows
+        (comparison_test (comparison_view op) (as_linear d.now)))) }
 {
     let Some(test) = test_of(alloc, op, d)? else {
         return Ok(());
@@ -81,7 +83,8 @@ fn give_test(
 /// The rows of `==` and `!=`: d >= 0 and -d >= 0.
 fn give_difference(alloc: Global, d: &LinExpr, rows: &mut ConSys) -> Result<(), AllocError>
     requires { length d.now.coefficients ≡ rows.old.dims }
-    ensures { OnOk result (HasMore rows.old rows.new (row_of (as_linear d.now) (pos 0) ∷ opposite_row (as_linear d.now) ∷ [])) }
+    ensures { OnOk result (HasMore rows.old rows.new (row_of (as_linear d.now) (pos 0) ∷
+        opposite_row (as_linear d.now) ∷ [])) }
 {
     rows.push(row_of_form(alloc, d, false)?, ConKind::Ge)?;
     rows.push(opposite_row_of(alloc, d)?, ConKind::Ge)?;
@@ -98,7 +101,8 @@ fn give_comparison(
     rows: &mut ConSys,
 ) -> Result<(), AllocError>
     requires { rows.old.dims < 2 ^ 62 }
-    ensures { OnOk result (HasMore rows.old rows.new (atom_rows (comparison_view op) (difference_form rows.old.dims base (expr_view left.now) (expr_view right.now)))) }
+    ensures { OnOk result (HasMore rows.old rows.new (atom_rows (comparison_view op)
+        (difference_form rows.old.dims base (expr_view left.now) (expr_view right.now)))) }
 {
     let Some(d) = difference_of(alloc, rows.dims(), base, left, right)? else {
         return Ok(());
@@ -125,7 +129,8 @@ fn give(
     rows: &mut ConSys,
 ) -> Result<(), AllocError>
     requires { rows.old.dims < 2 ^ 62 }
-    ensures { OnOk result (HasMore rows.old rows.new (pushed_rows rows.old.dims base (push wanted (cond_view condition.now)))) }
+    ensures { OnOk result (HasMore rows.old rows.new (pushed_rows rows.old.dims base
+        (push wanted (cond_view condition.now)))) }
 {
     match condition {
         Cond::Compare(op, left, right) => {
@@ -169,7 +174,8 @@ fn give_chain(
     rows: &mut ConSys,
 ) -> Result<(), AllocError>
     requires { rows.old.dims < 2 ^ 62 }
-    ensures { OnOk result (HasMore rows.old rows.new (pushed_rows rows.old.dims base (in_turn_of wanted (cond_view first.now) (map cond_view rest.now)))) }
+    ensures { OnOk result (HasMore rows.old rows.new (pushed_rows rows.old.dims base
+        (in_turn_of wanted (cond_view first.now) (map cond_view rest.now)))) }
 {
     give(alloc, base, first, wanted, rows)?;
     let Some((next, later)) = rest.split_first() else {

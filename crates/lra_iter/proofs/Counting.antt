@@ -62,11 +62,13 @@ module _ (V H : Type 0) (ops : Operations V H) (k : ℕ) where
         let i = inside (noted q e f) w s turn in
         subst (λ (y : Result V). Found k y.entries (one_if q k + n) d) (sym is) (record { values = ap (λ (m : ℕ). one_if q k + m) i.values; checks = i.checks })
 
-    grows_found : (limited : Bool) (left : ℕ) (f : Option ℕ) (h : H) (later : List H) (v : V) (r : Result V) → Grows V H ops q base c body limited left f h later v r → Found k r.entries (one_if q k + n) d
+    grows_found : (limited : Bool) (left : ℕ) (f : Option ℕ) (h : H) (later : List H) (v : V) (r : Result V) → Grows V H ops q base c body limited left f h later v r →
+        Found k r.entries (one_if q k + n) d
     grows_found limited left f h [] v r ((e, valued, turn), stays) = round_found (noted q e f) v r turn
     grows_found limited left f h (next ∷ later) v r (u, s, e, turn, grown, rest) = grows_found limited (left - 1) (noted q e s.flag) next later v r rest
 
-    narrows_found : (more : ℕ) (first u : V) (s : Result V) (v : V) (r : Result V) → Narrows V H ops q base c body more first u s v r → Found k s.entries (one_if q k + n) d → Found k r.entries (one_if q k + n) d
+    narrows_found : (more : ℕ) (first u : V) (s : Result V) (v : V) (r : Result V) → Narrows V H ops q base c body more first u s v r → Found k s.entries (one_if q k + n) d →
+        Found k r.entries (one_if q k + n) d
     narrows_found zero first u s v r (same, is) found = subst (λ (y : Result V). Found k y.entries (one_if q k + n) d) (sym is) found
     narrows_found (suc more) first u s v r (next, t, e, joined, turn, rest) found = narrows_found more first next t v r rest (round_found (noted q e s.flag) next t turn)
 
@@ -199,7 +201,8 @@ iteration_fails_once {V} {H} ops set P g r numbered iteration q u v =
     one_failing V q u v r.entries (let c = found.checks in let n = numbered.checks q in let few = asserts_few (slice_get (sites_of P) q) in omega (arith, c, n, few))
 
 -- and a pass over a numbered tree has one value for each point, one for each assertion, and no other
-pub pass_counted : {V H : Type 0} (ops : Operations V H) (T : List Site) (set : Settings) (g : Node) (f : Option ℕ) (v : V) (r : Result V) → IsNumbered T g → Pass V H ops set g f v r → AreCounted T r.entries
+pub pass_counted : {V H : Type 0} (ops : Operations V H) (T : List Site) (set : Settings) (g : Node) (f : Option ℕ) (v : V) (r : Result V) → IsNumbered T g → Pass V H ops set g f v r →
+    AreCounted T r.entries
 pass_counted {V} {H} ops T set g f v r numbered pass = record {
   values = λ q s there. (pass_found V H ops q set g f v r pass).values ∙ numbered.values q s there;
   no_values = λ q there. (pass_found V H ops q set g f v r pass).values ∙ numbered.no_values q there;

@@ -58,14 +58,16 @@ module _ {V H : Type 0} (m : Meaning V H) where
 
   module _ (laws : Laws m) where
     -- from the globals on, whatever is drawn, a pass has the stores of the tree's runs
-    pub begun_covers : (set : Settings) (globals : List ℤ) (tree : Node) (whole first : V) (e : Exactness) (r : Result V) → m.universal 0 set.parts whole → AreDone (dropping m) (first_values 0 globals) whole e first
+    pub begun_covers : (set : Settings) (globals : List ℤ) (tree : Node) (whole first : V) (e : Exactness) (r : Result V) → m.universal 0 set.parts whole →
+        AreDone (dropping m) (first_values 0 globals) whole e first
         → Pass V H (dropping m) set tree (noted 0 e None) first r → (draws : List ℤ) → Covers m tree (begun globals draws) r
     begun_covers set globals tree whole first e r universal done pass draws =
         let f = first_done globals 0 whole e first [] done (laws.universal_stores 0 set.parts whole universal [] refl) refl (laws.universal_dims 0 set.parts whole universal) in
         pass_covers m laws set tree (noted 0 e None) first r pass (begun globals draws) f.0
 
     -- so values and verdicts hold in them
-    pub covered_holds : (globals : List ℤ) (tree : Node) (r : Result V) (T : List Site) (values : List V) (verdicts : List (ℕ × Bool)) (flagged : Option ℕ) → ((draws : List ℤ) → Covers m tree (begun globals draws) r)
+    pub covered_holds : (globals : List ℤ) (tree : Node) (r : Result V) (T : List Site) (values : List V) (verdicts : List (ℕ × Bool)) (flagged : Option ℕ) →
+        ((draws : List ℤ) → Covers m tree (begun globals draws) r)
         → AreCounted T r.entries → Solves m r values verdicts flagged → HoldsInTree m globals tree values verdicts
     covered_holds globals tree r T values verdicts flagged covers counted solves = record { stores = stores; proved = proved; unreached = unreached }
       where

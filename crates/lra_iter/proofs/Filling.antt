@@ -26,7 +26,8 @@ same_items [] = refl
 same_items {A} (x ∷ xs) = ap (λ (ys : List A). x ∷ ys) (same_items xs)
 
 -- the next item of a loop over a `Vec` by value
-pub vec_next : {A Z : Type 0} (all : List A) (s : IntoIter A Z) → into_iter_items s ≡ all → into_iter_len s ≡ length all → (front : List A) (t : IntoIter A Z) → Yields (into_iter_steps {X = A} {Z = Z}) s front t
+pub vec_next : {A Z : Type 0} (all : List A) (s : IntoIter A Z) → into_iter_items s ≡ all → into_iter_len s ≡ length all → (front : List A) (t : IntoIter A Z) →
+    Yields (into_iter_steps {X = A} {Z = Z}) s front t
     → (r : Option A) (u : IntoIter A Z) (x : A) → r ≡ Some x → into_iter_steps {X = A} {Z = Z} t r u → Next all front x
 vec_next all s items len front t yielded r u x is steps =
     let road = YieldsList-from_vec {s = s} all items len in
@@ -59,15 +60,20 @@ module _ {V : Type 0} (n : ℕ) (all front : List (Entry V)) (x : Entry V) (apar
   module _ {H : Type 0} (m : Meaning V H) (values : List (Option V)) (verdicts : List (Option Bool)) (tabled : AreTabled m n seen_front values verdicts) (p : ℕ) (v : V) where
     pub value_filled : x ≡ Value p v → AreTabled m n (map (entry_view {V = V}) (front ++ x ∷ [])) (slice_set values p (Some v)) verdicts
     value_filled is =
-        let one : values_at p (seen_front ++ entry_view x ∷ []) ≤ 1 = few_before V p (seen_front ++ entry_view x ∷ []) (map (entry_view {V = V}) next.rest) (subst (λ (es : List (pass.Entry V)). values_at p es ≤ 1) seen_all (apart.few p)) in
+        let one : values_at p (seen_front ++ entry_view x ∷ []) ≤ 1 = few_before V p (seen_front ++ entry_view x ∷ []) (map (entry_view {V = V}) next.rest)
+        (subst (λ (es : List (pass.Entry V)). values_at p es ≤ 1) seen_all (apart.few p)) in
         let few : values_at p (seen_front ++ value p v ∷ []) ≤ 1 = subst (λ (e : Entry V). values_at p (seen_front ++ entry_view e ∷ []) ≤ 1) is one in
-        subst (λ (es : List (pass.Entry V)). AreTabled m n es (slice_set values p (Some v)) verdicts) (seen_more (Value p v) is) (value_tabled m n seen_front values verdicts tabled p (value_place p v is) v few)
+        subst (λ (es : List (pass.Entry V)). AreTabled m n es (slice_set values p (Some v)) verdicts) (seen_more (Value p v) is)
+        (value_tabled m n seen_front values verdicts tabled p (value_place p v is) v few)
 
-    pub failing_filled : x ≡ Failing p v → (proved : Bool) → (IsTrue proved ↔ IsUnreachable m v) → AreTabled m n (map (entry_view {V = V}) (front ++ x ∷ [])) values (slice_set verdicts p (Some proved))
+    pub failing_filled : x ≡ Failing p v → (proved : Bool) → (IsTrue proved ↔ IsUnreachable m v) →
+        AreTabled m n (map (entry_view {V = V}) (front ++ x ∷ [])) values (slice_set verdicts p (Some proved))
     failing_filled is proved so =
-        let one : failing_at p (seen_front ++ entry_view x ∷ []) ≤ 1 = few_checks_before V p (seen_front ++ entry_view x ∷ []) (map (entry_view {V = V}) next.rest) (subst (λ (es : List (pass.Entry V)). failing_at p es ≤ 1) seen_all (apart.few_checks p)) in
+        let one : failing_at p (seen_front ++ entry_view x ∷ []) ≤ 1 = few_checks_before V p (seen_front ++ entry_view x ∷ []) (map (entry_view {V = V}) next.rest)
+        (subst (λ (es : List (pass.Entry V)). failing_at p es ≤ 1) seen_all (apart.few_checks p)) in
         let few : failing_at p (seen_front ++ failing p v ∷ []) ≤ 1 = subst (λ (e : Entry V). failing_at p (seen_front ++ entry_view e ∷ []) ≤ 1) is one in
-        subst (λ (es : List (pass.Entry V)). AreTabled m n es values (slice_set verdicts p (Some proved))) (seen_more (Failing p v) is) (failing_tabled m n seen_front values verdicts tabled p (failing_place p v is) v proved few so)
+        subst (λ (es : List (pass.Entry V)). AreTabled m n es values (slice_set verdicts p (Some proved))) (seen_more (Failing p v) is)
+        (failing_tabled m n seen_front values verdicts tabled p (failing_place p v is) v proved few so)
 
 -- one place more
 pub filled_some : {A : Type 0} (n : ℕ) (t : List (Option A)) (k : ℕ) (x : A) → slice_get t k ≡ Some (Some x) → filled_from n (take (suc k) t) ≡ filled_from n (take k t) ++ (n + k, x) ∷ []

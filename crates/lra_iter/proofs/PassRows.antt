@@ -19,7 +19,7 @@ use Rattle.lra_iter.proofs.PassSteps.{seq_fits}
 
 same_lists : {V : Type 0} (v : V) (f : Option ℕ) (xs xs' : List (Entry V)) (bs bs' cs cs' rs rs' : List V) → xs ≡ xs' → bs ≡ bs' → cs ≡ cs' → rs ≡ rs'
     → ◌≡◌ {A = Result V} (record { entries = xs; normal = v; breaks = bs; continues = cs; returns = rs; flag = f })
-        (record { entries = xs'; normal = v; breaks = bs'; continues = cs'; returns = rs'; flag = f })
+    (record { entries = xs'; normal = v; breaks = bs'; continues = cs'; returns = rs'; flag = f })
 same_lists {V} v f xs xs' bs bs' cs cs' rs rs' one two three four =
     ap (λ (zs : List (Entry V)). record { entries = zs; normal = v; breaks = bs; continues = cs; returns = rs; flag = f }) one
     ∙ ap (λ (zs : List V). record { entries = xs'; normal = v; breaks = zs; continues = cs; returns = rs; flag = f }) two
@@ -102,6 +102,6 @@ module _ {V H : Type 0} (m : Meaning V H) (set : Settings) where
           → value ≡ part.normal → flag ≡ part.flag → IsPassed m set g f v (ended all value flag)
       row_ends part all value flag one turn value-is flag-is =
           let all_is : IsPassed m set g f v (in_turn (ended found behind so_far) (seen part) part.normal part.flag) = loop.passes (seen part)
-              (subst (λ x. IsPassed m set x so_far behind (seen part)) (sym is) one) in
+          (subst (λ x. IsPassed m set x so_far behind (seen part)) (sym is) one) in
           subst (λ (x : V). IsPassed m set g f v (ended all x flag)) (sym value-is) (subst (λ (x : Option ℕ). IsPassed m set g f v (ended all part.normal x)) (sym flag-is)
           (subst (λ x. IsPassed m set g f v x) (sym (turn behind part.normal part.normal so_far part.flag part.flag)) all_is))

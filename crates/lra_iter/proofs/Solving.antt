@@ -15,7 +15,8 @@ use Rattle.lra_flow.proofs.Unflagged.{unflagged_is_written, flagged_strains}
 use Rattle.lra_change.specs.Changes.{Does}
 use Rattle.lra_iter.specs.Solved.{IsSolved}
 
-pub solved : {V H : Type 0} (m : Meaning V H) → Laws m → (settings : Settings) (P : Program) (tree : Node) (result : Result V) (values : List V) (verdicts : List (ℕ × Bool)) (flagged : Option ℕ) → Derivation m settings P tree result
+pub solved : {V H : Type 0} (m : Meaning V H) → Laws m → (settings : Settings) (P : Program) (tree : Node) (result : Result V) (values : List V) (verdicts : List (ℕ × Bool)) (flagged : Option ℕ) →
+    Derivation m settings P tree result
     → Solves m result values verdicts flagged → IsSolved m settings P tree values verdicts flagged
 solved m laws settings P tree result values verdicts flagged derived solves = record {
   result = result;
@@ -28,4 +29,5 @@ solved m laws settings P tree result values verdicts flagged derived solves = re
 -- from the value that has all stores, by the globals' first values and a pass
 pub derived_from : {V H : Type 0} (m : Meaning V H) (settings : Settings) (P : Program) (tree : Node) (globals : List ℤ) (whole first : V) (e : Exactness) (result : Result V) → P.globals ≡ globals
     → m.universal 0 settings.parts whole → Does m (first_values 0 globals) whole e first → Pass V H (dropping m) settings tree (noted 0 e None) first result → Derivation m settings P tree result
-derived_from {V} {H} m settings P tree globals whole first e result is universal done pass = (whole, first, e, universal, subst (λ (zs : List ℤ). Does m (first_values 0 zs) whole e first) (sym is) done, pass)
+derived_from {V} {H} m settings P tree globals whole first e result is universal done pass =
+    (whole, first, e, universal, subst (λ (zs : List ℤ). Does m (first_values 0 zs) whole e first) (sym is) done, pass)

@@ -124,11 +124,15 @@ module _ {V H : Type 0} (m : Meaning V H) (n : ℕ) where
           ]
         ]
 
-    pub failing_tabled : (u : V) (proved : Bool) → failing_at p (xs ++ failing p u ∷ []) ≤ 1 → (IsTrue proved ↔ IsUnreachable m u) → AreTabled m n (xs ++ failing p u ∷ []) values (slice_set verdicts p (Some proved))
+    pub failing_tabled : (u : V) (proved : Bool) → failing_at p (xs ++ failing p u ∷ []) ≤ 1 → (IsTrue proved ↔ IsUnreachable m u) →
+        AreTabled m n (xs ++ failing p u ∷ []) values (slice_set verdicts p (Some proved))
     failing_tabled u proved few so = record {
       places = tabled.places;
       verdict_places = length-set verdicts p (Some proved) ∙ tabled.verdict_places;
-      is_value = λ q w. (λ e. Contains-append_left xs (failing p u ∷ []) (value q w) ((tabled.is_value q w).0 e), λ h. elim (Contains-push_cases xs (failing p u) (value q w) h) [ inl i ↦ (tabled.is_value q w).1 i | inr e ↦ absurd (kinds_differ V q p w u (sym e)) ]);
+      is_value = λ q w. (
+        λ e. Contains-append_left xs (failing p u ∷ []) (value q w) ((tabled.is_value q w).0 e),
+        λ h. elim (Contains-push_cases xs (failing p u) (value q w) h) [ inl i ↦ (tabled.is_value q w).1 i | inr e ↦ absurd (kinds_differ V q p w u (sym e)) ],
+      );
       is_verdict = there;
       has_verdict = back;
     }
@@ -161,7 +165,8 @@ module _ {A : Type 0} where
   all_filled (o ∷ t) f =
       let first = f 0 (omega arith) in
       let is : o ≡ Some first.0 = same_Some o (Some first.0) first.1 in
-      subst (λ (p : Option A). map (λ (x : A). Some x) (flat_map option_to_list (p ∷ t)) ≡ p ∷ t) (sym is) (ap (λ (ps : List (Option A)). Some first.0 ∷ ps) (all_filled t (λ q h. f (suc q) (omega (arith, h)))))
+      subst (λ (p : Option A). map (λ (x : A). Some x) (flat_map option_to_list (p ∷ t)) ≡ p ∷ t) (sym is)
+      (ap (λ (ps : List (Option A)). Some first.0 ∷ ps) (all_filled t (λ q h. f (suc q) (omega (arith, h)))))
 
   held : (o : Option A) (x : A) → option_map (λ (y : A). Some y) o ≡ Some (Some x) → o ≡ Some x
   held None x e = absurd (none-some (Some x) e)
@@ -220,7 +225,8 @@ is_asserted s e = asserted s.asserts e
     asserted true e = refl
     asserted false e = absurd (omega (arith, e))
 
-filled_numbers : (n : ℕ) (T : List Site) (t : List (Option Bool)) → length t ≡ length T → AreAsserted T t → map (λ (v : ℕ × Bool). v.0) (filled_from n t) ≡ map (λ (a : ℕ × Site). a.0) (assertions_from n T)
+filled_numbers : (n : ℕ) (T : List Site) (t : List (Option Bool)) → length t ≡ length T → AreAsserted T t →
+    map (λ (v : ℕ × Bool). v.0) (filled_from n t) ≡ map (λ (a : ℕ × Site). a.0) (assertions_from n T)
 filled_numbers n [] [] long asserted = refl
 filled_numbers n [] (o ∷ t) long asserted = absurd (omega (arith, long))
 filled_numbers n (s ∷ T) [] long asserted = absurd (omega (arith, long))
@@ -253,7 +259,8 @@ site_there [] q h = absurd (omega (arith, h))
 site_there (s ∷ T) zero h = (s, refl)
 site_there (s ∷ T) (suc q) h = site_there T q (omega (arith, h))
 
-module _ {V H : Type 0} (m : Meaning V H) (T : List Site) (r : Result V) (n : ℕ) (t : List (Option V)) (u : List (Option Bool)) (long : n ≡ length T) (counted : AreCounted T r.entries) (tabled : AreTabled m n r.entries t u) where
+module _ {V H : Type 0} (m : Meaning V H) (T : List Site) (r : Result V) (n : ℕ) (t : List (Option V)) (u : List (Option Bool)) (long : n ≡ length T) (counted : AreCounted T r.entries)
+    (tabled : AreTabled m n r.entries t u) where
   values_there : (values : List V) → values ≡ flat_map option_to_list t → map (λ (v : V). Some v) values ≡ t
   values_there values is = ap (λ (vs : List V). map (λ (v : V). Some v) vs) is ∙ all_filled t there
     where
@@ -262,12 +269,15 @@ module _ {V H : Type 0} (m : Meaning V H) (T : List Site) (r : Result V) (n : �
           let s = site_there T q (let l = tabled.places in omega (arith, l, long, h)) in
           let k = counted_value V q r.entries (let c = counted.values q s.0 s.1 in omega (arith, c)) in (k.0, (tabled.is_value q k.0).1 k.1)
 
-  pub tables_solve : (values : List V) (verdicts : List (ℕ × Bool)) (flagged : Option ℕ) → values ≡ flat_map option_to_list t → verdicts ≡ filled_from 0 u → flagged ≡ r.flag → Solves m r values verdicts flagged
+  pub tables_solve : (values : List V) (verdicts : List (ℕ × Bool)) (flagged : Option ℕ) → values ≡ flat_map option_to_list t → verdicts ≡ filled_from 0 u → flagged ≡ r.flag →
+      Solves m r values verdicts flagged
   tables_solve values verdicts flagged is are flag = record {
     is_value = λ q v. let p = held_place values t q v (values_there values is) in (λ e. (tabled.is_value q v).0 (p.0 e), λ h. p.1 ((tabled.is_value q v).1 h));
     is_verdict = λ q b h. let k = filled_is 0 u q b (subst (λ (vs : List (ℕ × Bool)). Contains vs (q, b)) are h) in
         let same : k.0 ≡ q = (let e = k.1 in omega (arith, e)) in tabled.is_verdict q b (subst (λ (p : ℕ). slice_get u p ≡ Some (Some b)) same k.2);
-    has_verdict = λ q w h. let k = tabled.has_verdict q w h in (k.0, subst (λ (vs : List (ℕ × Bool)). Contains vs (q, k.0)) (sym are) (let same : 0 + q ≡ q = omega arith in subst (λ (p : ℕ). Contains (filled_from 0 u) (p, k.0)) same (filled_has 0 u q k.0 k.1)));
+    has_verdict = λ q w h.
+        let k = tabled.has_verdict q w h in
+        (k.0, subst (λ (vs : List (ℕ × Bool)). Contains vs (q, k.0)) (sym are) (let same : 0 + q ≡ q = omega arith in subst (λ (p : ℕ). Contains (filled_from 0 u) (p, k.0)) same (filled_has 0 u q k.0 k.1)));
     in_order = λ i j a b h d e. filled_order 0 u i j a b h (subst (λ (vs : List (ℕ × Bool)). slice_get vs i ≡ Some a) are d) (subst (λ (vs : List (ℕ × Bool)). slice_get vs j ≡ Some b) are e);
     is_flagged = flag;
   }

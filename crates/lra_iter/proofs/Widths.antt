@@ -148,7 +148,8 @@ module _ (V H : Type 0) (m : Meaning V H) where
         pub top : m.dims v ≡ n
         pub result : Wide n r
 
-      grows_wide : (limited : Bool) (left : ℕ) (f : Option ℕ) (h : H) (later : List H) (v : V) (r : Result V) → Grows V H (dropping m) q base c body limited left f h later v r → m.head_dims h ≡ n → Turned v r
+      grows_wide : (limited : Bool) (left : ℕ) (f : Option ℕ) (h : H) (later : List H) (v : V) (r : Result V) → Grows V H (dropping m) q base c body limited left f h later v r → m.head_dims h ≡ n →
+          Turned v r
       grows_wide limited left f h [] v r ((e, valued, turn), stays) k =
           let top : m.dims v ≡ n = valued.1 ∙ k in
           record { top = top; result = round_wide (noted q e f) v r turn top }
@@ -190,16 +191,19 @@ module _ (V H : Type 0) (m : Meaning V H) where
     entry_has (x ∷ xs) q v h there = elim (contains_cases x (value q v) xs there) [ inl same ↦ subst EntryHas same h.0 | inr later ↦ entry_has xs q v h.1 later ]
 
 -- each value that an iteration has at a point has as many dimensions as variables live there
-pub values_wide : {V H : Type 0} (m : Meaning V H) → Laws m → (T : List Site) (settings : Settings) (P : Program) (g : Node) (r : Result V) → PointsHave T g (length P.globals) → Derivation m settings P g r
+pub values_wide : {V H : Type 0} (m : Meaning V H) → Laws m → (T : List Site) (settings : Settings) (P : Program) (g : Node) (r : Result V) → PointsHave T g (length P.globals) →
+    Derivation m settings P g r
     → (q : ℕ) (v : V) (s : Site) → Contains r.entries (value q v) → slice_get T q ≡ Some s → m.dims v ≡ s.live
 values_wide {V} {H} m laws T settings P g r lives (none, first, e, universal, begun, pass) q v s found there =
     let n = length P.globals in
-    let begins : m.dims first ≡ n = done_dims V H m (first_values 0 P.globals) none e first begun ∙ first_after P.globals 0 (m.dims none) ∙ (let zero_dims = laws.universal_dims 0 settings.parts none universal in omega (arith, zero_dims)) in
+    let begins : m.dims first ≡ n = done_dims V H m (first_values 0 P.globals) none e first begun ∙ first_after P.globals 0 (m.dims none) ∙
+    (let zero_dims = laws.universal_dims 0 settings.parts none universal in omega (arith, zero_dims)) in
     let wide = pass_wide V H m T laws settings g (noted 0 e None) first r n pass begins lives in
     entry_has V H m T r.entries q v wide.entries found s there
 
 -- so have the values that are found
-pub found_wide : {V H : Type 0} (m : Meaning V H) → Laws m → (T : List Site) (settings : Settings) (g : Node) (f : Option ℕ) (first : V) (r : Result V) (n : ℕ) (values : List V) (verdicts : List (ℕ × Bool)) (flagged : Option ℕ)
+pub found_wide : {V H : Type 0} (m : Meaning V H) → Laws m → (T : List Site) (settings : Settings) (g : Node) (f : Option ℕ) (first : V) (r : Result V) (n : ℕ) (values : List V)
+    (verdicts : List (ℕ × Bool)) (flagged : Option ℕ)
     → Pass V H (dropping m) settings g f first r → m.dims first ≡ n → Solves m r values verdicts flagged → PointsHave T g n → AreWide m T values
 found_wide {V} {H} m laws T settings g f first r n values verdicts flagged pass begins solves lives q v there =
     entry_has V H m T r.entries q v (pass_wide V H m T laws settings g f first r n pass begins lives).entries ((solves.is_value q v).0 there)

@@ -14,7 +14,8 @@ failing_at k [] = 0
 failing_at k (value q v ∷ xs) = failing_at k xs
 failing_at k (failing q v ∷ xs) = one_if q k + failing_at k xs
 
--- each of these sites has one value among the entries, each assertion among them one more where it is false, and no other number has any
+-- each of these sites has one value among the entries, each assertion among them one more where it is false, and no
+-- other number has any
 pub record AreCounted {V : Type 0} (T : List Site) (xs : List (Entry V)) : Type 0 where
   pub values : (q : ℕ) (s : Site) → slice_get T q ≡ Some s → values_at q xs ≡ 1
   pub no_values : (q : ℕ) → slice_get T q ≡ None → values_at q xs ≡ 0

@@ -36,7 +36,8 @@ abbrev pub asserts_of : Option Site → ℕ
 asserts_of None = 0
 asserts_of (Some s) = cond s.asserts 1 0
 
--- each of these sites has one value in the tree, each assertion among them one more where it is false, and no other number has any
+-- each of these sites has one value in the tree, each assertion among them one more where it is false, and no other
+-- number has any
 pub record IsNumbered (T : List Site) (g : Node) : Type 0 where
   pub values : (k : ℕ) (s : Site) → slice_get T k ≡ Some s → values_in g k ≡ 1
   pub no_values : (k : ℕ) → slice_get T k ≡ None → values_in g k ≡ 0

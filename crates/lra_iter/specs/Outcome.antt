@@ -48,11 +48,13 @@ AllHave m n (v ∷ vs) = (m.dims v ≡ n) × AllHave m n vs
 
 -- the jumps of this kind come out and are joined at this point
 abbrev pub Catches : {V H : Type 0} → Meaning V H → ℕ → Exit → Result V → Result V → Type 0
-Catches {V} m q k s r = (w : V) × (e : Exactness) × AreJoined (dropping m) (caught k s).0 (caught k s).1 e w × (r ≡ behind k s w (noted q e s.flag))
+Catches {V} m q k s r = (w : V) × (e : Exactness) × AreJoined (dropping m) (caught k s).0 (caught k s).1 e w ×
+    (r ≡ behind k s w (noted q e s.flag))
 
 -- both branches of a choice, whose ends are joined at this point
 abbrev pub AreMet : {V H : Type 0} → Meaning V H → ℕ → Result V → Result V → Result V → Type 0
-AreMet {V} m q s t r = (w : V) × (e : Exactness) × (dropping m).joined s.normal t.normal e w × (r ≡ in_turn s t w (noted q e t.flag))
+AreMet {V} m q s t r = (w : V) × (e : Exactness) × (dropping m).joined s.normal t.normal e w ×
+    (r ≡ in_turn s t w (noted q e t.flag))
 
 -- each value with which the tree is left by a jump has as many dimensions as live there
 abbrev pub JumpsFit : {V H : Type 0} → Meaning V H → Node → ℕ → Result V → Type 0
@@ -60,16 +62,19 @@ JumpsFit {V} m g n r = (k : Exit) (u : V) → Contains (jumps_of k r) u → Jump
 
 -- a loop is left with what its last round found, and with the value at its head where the condition is false
 abbrev pub LeavesWith : {V H : Type 0} → Meaning V H → ℕ → ℕ → Cond → V → Result V → Result V → Type 0
-LeavesWith {V} m q base c top s r = (out : V) × (e : Exactness) × Leaves (dropping m) base c false top e out × (r ≡ record s { normal = out; flag = noted q e s.flag })
+LeavesWith {V} m q base c top s r = (out : V) × (e : Exactness) × Leaves (dropping m) base c false top e out ×
+    (r ≡ record s { normal = out; flag = noted q e s.flag })
 
 -- a pass over the tree, behind which, and at whose jumps, values have as many dimensions as live there
-pub record IsPassed {V H : Type 0} (m : Meaning V H) (set : Settings) (g : Node) (f : Option ℕ) (v : V) (r : Result V) : Type 0 where
+pub record IsPassed {V H : Type 0} (m : Meaning V H) (set : Settings) (g : Node) (f : Option ℕ) (v : V)
+    (r : Result V) : Type 0 where
   pub pass : Pass V H (dropping m) set g f v r
   pub dims : m.dims r.normal ≡ live_behind g (m.dims v)
   pub jumps : JumpsFit m g (m.dims v) r
 
 -- a loop's head that starts with a value grows until it is stable, with this value and round at last
-abbrev pub HasGrown : {V H : Type 0} → Meaning V H → Settings → ℕ → ℕ → Cond → Node → V → Option ℕ → V → Result V → Type 0
+abbrev pub HasGrown : {V H : Type 0} → Meaning V H → Settings → ℕ → ℕ → Cond → Node → V → Option ℕ → V → Result V →
+    Type 0
 HasGrown {V} {H} m set q base c a first f u s =
     (h : H) × (later : List H) × (dropping m).started first (given_rows (m.dims first) base c) h
     × Grows V H (dropping m) q base c (Pass V H (dropping m) set a) set.limited set.delay f h later u s

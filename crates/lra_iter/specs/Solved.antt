@@ -7,9 +7,10 @@ use Rattle.lra_flow.specs.declared.Settings.{Settings}
 use Rattle.lra_flow.specs.Pass.{Result}
 use Rattle.lra_flow.specs.Analysis.{Written, Derivation, Strains, Solves}
 
--- values, verdicts and the first flag of a derivation with drops: without a flag it is the written iteration, and the first flag stands where
--- the written iteration strains
-pub record IsSolved {V H : Type 0} (m : Meaning V H) (settings : Settings) (P : Program) (tree : Node) (values : List V) (verdicts : List (ℕ × Bool)) (flagged : Option ℕ) : Type 0 where
+-- values, verdicts and the first flag of a derivation with drops: without a flag it is the written iteration, and the
+-- first flag stands where the written iteration strains
+pub record IsSolved {V H : Type 0} (m : Meaning V H) (settings : Settings) (P : Program) (tree : Node) (values : List V)
+    (verdicts : List (ℕ × Bool)) (flagged : Option ℕ) : Type 0 where
   pub result : Result V
   pub derived : Derivation m settings P tree result
   pub solves : Solves m result values verdicts flagged

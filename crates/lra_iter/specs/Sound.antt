@@ -10,10 +10,13 @@ use Rattle.lra_flow.specs.Analysis.{IsUnreachable}
 abbrev pub begun : List ℤ → List ℤ → State
 begun globals draws = record { store = globals; draws = draws }
 
-pub record HoldsInTree {V H : Type 0} (m : Meaning V H) (globals : List ℤ) (tree : Node) (values : List V) (verdicts : List (ℕ × Bool)) : Type 0 where
+pub record HoldsInTree {V H : Type 0} (m : Meaning V H) (globals : List ℤ) (tree : Node) (values : List V)
+    (verdicts : List (ℕ × Bool)) : Type 0 where
   -- where a run comes to a point, the value there has its store, and as many dimensions as that has numbers
-  pub stores : (q : ℕ) (draws : List ℤ) (t : State) → Comes tree (begun globals draws) q t → (v : V) × (slice_get values q ≡ Some v) × m.has v t.store × (m.dims v ≡ length t.store)
+  pub stores : (q : ℕ) (draws : List ℤ) (t : State) → Comes tree (begun globals draws) q t → (v : V) ×
+      (slice_get values q ≡ Some v) × m.has v t.store × (m.dims v ≡ length t.store)
   -- no run fails an assertion that is proved
   pub proved : (q : ℕ) (draws : List ℤ) → Contains verdicts (q, true) → FailsAt tree (begun globals draws) q → ⊥
   -- no run comes to a point whose value has no part
-  pub unreached : (q : ℕ) (v : V) (draws : List ℤ) (t : State) → slice_get values q ≡ Some v → IsUnreachable m v → Comes tree (begun globals draws) q t → ⊥
+  pub unreached : (q : ℕ) (v : V) (draws : List ℤ) (t : State) → slice_get values q ≡ Some v → IsUnreachable m v →
+      Comes tree (begun globals draws) q t → ⊥

@@ -6,12 +6,15 @@ use Rattle.lra_flow.specs.Pass.{Entry, value, failing}
 use Rattle.lra_flow.specs.Analysis.{IsUnreachable}
 
 -- n places for values, and n for whether an assertion is proved: filled where there is such an entry
-pub record AreTabled {V H : Type 0} (m : Meaning V H) (n : ℕ) (xs : List (Entry V)) (values : List (Option V)) (verdicts : List (Option Bool)) : Type 0 where
+pub record AreTabled {V H : Type 0} (m : Meaning V H) (n : ℕ) (xs : List (Entry V)) (values : List (Option V))
+    (verdicts : List (Option Bool)) : Type 0 where
   pub places : length values ≡ n
   pub verdict_places : length verdicts ≡ n
   pub is_value : (q : ℕ) (v : V) → (slice_get values q ≡ Some (Some v)) ↔ Contains xs (value q v)
-  pub is_verdict : (q : ℕ) (proved : Bool) → slice_get verdicts q ≡ Some (Some proved) → (u : V) × Contains xs (failing q u) × (IsTrue proved ↔ IsUnreachable m u)
-  pub has_verdict : (q : ℕ) (u : V) → Contains xs (failing q u) → (proved : Bool) × (slice_get verdicts q ≡ Some (Some proved))
+  pub is_verdict : (q : ℕ) (proved : Bool) → slice_get verdicts q ≡ Some (Some proved) → (u : V) ×
+      Contains xs (failing q u) × (IsTrue proved ↔ IsUnreachable m u)
+  pub has_verdict : (q : ℕ) (u : V) → Contains xs (failing q u) → (proved : Bool) ×
+      (slice_get verdicts q ≡ Some (Some proved))
 
 -- the filled places with their numbers, the first of which is `number`
 abbrev pub filled_from : {A : Type 0} → ℕ → List (Option A) → List (ℕ × A)

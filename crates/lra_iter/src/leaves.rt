@@ -23,7 +23,8 @@ pub fn pass_point<D: Domain>(
     value: D,
     flag: Option<usize>,
 ) -> Result<Outcome<D>, AllocError>
-    ensures { (settings : Settings) → IfOk result (λ r. IsPassed D.meaning settings (point_node point) flag value (seen r)) }
+    ensures { (settings : Settings) → IfOk result (λ r. IsPassed D.meaning settings (point_node point) flag value
+        (seen r)) }
 {
     let mut entries = Vec::new(alloc);
     entries.push(Entry::Value(point, value.copy(alloc)?))?;
@@ -40,7 +41,8 @@ pub fn pass_act<D: Domain>(
 ) -> Result<Outcome<D>, AllocError>
     requires few { D.meaning.dims value ≤ 2 ^ 30 }
     requires fits { OpFits (op_view op.now) (D.meaning.dims value) }
-    ensures { (settings : Settings) → IfOk result (λ r. IsPassed D.meaning settings (act point (op_view op.now)) flag value (seen r)) }
+    ensures { (settings : Settings) → IfOk result (λ r. IsPassed D.meaning settings
+        (act point (op_view op.now)) flag value (seen r)) }
 {
     let mut after = value;
     let exactness = change(alloc, op, &mut after)?;
@@ -58,7 +60,8 @@ pub fn pass_check<D: Domain>(
     flag: Option<usize>,
 ) -> Result<Outcome<D>, AllocError>
     requires { D.meaning.dims value ≤ 2 ^ 30 }
-    ensures { (settings : Settings) → IfOk result (λ r. IsPassed D.meaning settings (check point base (cond_view condition.now)) flag value (seen r)) }
+    ensures { (settings : Settings) → IfOk result (λ r. IsPassed D.meaning settings
+        (check point base (cond_view condition.now)) flag value (seen r)) }
 {
     let from = Kept {
         value,

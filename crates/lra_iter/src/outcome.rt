@@ -42,7 +42,8 @@ impl<D: Drop> Drop for Found<D> {
     }
 }
 
-/// What a pass gives: what is found on the way, the value behind the tree, and the point of the first flagged operation.
+/// What a pass gives: what is found on the way, the value behind the tree, and the point of the first flagged
+/// operation.
 #[derive(Drop)]
 pub struct Outcome<D> {
     pub found: Found<D>,
@@ -87,7 +88,8 @@ impl<D: Drop> Found<D> {
 
     /// What a pass found comes behind; its end is handed out.
     pub fn take(&mut self, outcome: Outcome<D>) -> Result<(D, Option<usize>), AllocError>
-        ensures { IfOk result (λ r. AreInTurn self.old outcome.found self.new × (r.0 ≡ outcome.normal) × (r.1 ≡ outcome.flag)) }
+        ensures { IfOk result (λ r. AreInTurn self.old outcome.found self.new × (r.0 ≡ outcome.normal) ×
+            (r.1 ≡ outcome.flag)) }
     {
         let Outcome {
             mut found,

@@ -84,7 +84,8 @@ fn start<D: Domain>(
     first: &D,
 ) -> Result<D::Head, AllocError>
     requires { D.meaning.dims first.now ≤ 2 ^ 30 }
-    ensures started { IfOk result (λ h. (dropping D.meaning).started first.now (given_rows (D.meaning.dims first.now) base (cond_view condition.now)) h) }
+    ensures started { IfOk result (λ h. (dropping D.meaning).started first.now
+        (given_rows (D.meaning.dims first.now) base (cond_view condition.now)) h) }
     ensures fits { IfOk result (λ h. RankFits (D.meaning.rank h)) }
 {
     let given = given_of(alloc, first.dims(), base, condition)?;
@@ -99,7 +100,8 @@ fn narrowed<D: Domain>(
     last: Outcome<D>,
 ) -> Result<(D, Option<usize>), AllocError>
     requires { D.meaning.dims last.normal ≡ D.meaning.dims first.now }
-    ensures { IfOk result (λ r. (e : Exactness) × (dropping D.meaning).joined first.now last.normal e r.0 × (r.1 ≡ noted point e last.flag)) }
+    ensures { IfOk result (λ r. (e : Exactness) × (dropping D.meaning).joined first.now last.normal e r.0 ×
+        (r.1 ≡ noted point e last.flag)) }
 {
     let mut next = first.copy(alloc)?;
     let exactness = next.join(&last.normal)?;
@@ -114,7 +116,8 @@ fn leave_loop<D: Domain>(
     last: Outcome<D>,
 ) -> Result<Outcome<D>, AllocError>
     requires { D.meaning.dims top ≤ 2 ^ 30 }
-    ensures left { IfOk result (λ r. LeavesWith D.meaning the_loop.now.point the_loop.now.base (cond_view the_loop.now.condition.now) top (seen last) (seen r)) }
+    ensures left { IfOk result (λ r. LeavesWith D.meaning the_loop.now.point the_loop.now.base
+        (cond_view the_loop.now.condition.now) top (seen last) (seen r)) }
     ensures dims { IfOk result (λ r. D.meaning.dims r.normal ≡ D.meaning.dims top) }
 {
     let mut out = top;
@@ -144,10 +147,14 @@ fn round<D: Domain>(
     requires parts { 1 ≤ the_loop.now.settings.now.parts }
     requires few { D.meaning.dims value.now ≤ 2 ^ 30 }
     requires fits { TreeFits (node_view the_loop.now.body.now) (D.meaning.dims value.now) }
-    requires closed { live_behind (node_view the_loop.now.body.now) (D.meaning.dims value.now) ≡ D.meaning.dims value.now }
-    ensures round { IfOk result (λ r. GoesRound D D.Head (dropping D.meaning) the_loop.now.point the_loop.now.base (cond_view the_loop.now.condition.now) (Pass D D.Head (dropping D.meaning) the_loop.now.settings.now (node_view the_loop.now.body.now)) flag value.now (seen r)) }
+    requires closed { live_behind (node_view the_loop.now.body.now) (D.meaning.dims value.now) ≡
+        D.meaning.dims value.now }
+    ensures round { IfOk result (λ r. GoesRound D D.Head (dropping D.meaning) the_loop.now.point the_loop.now.base
+        (cond_view the_loop.now.condition.now) (Pass D D.Head (dropping D.meaning) the_loop.now.settings.now
+        (node_view the_loop.now.body.now)) flag value.now (seen r)) }
     ensures dims { IfOk result (λ r. D.meaning.dims r.normal ≡ D.meaning.dims value.now) }
-    ensures jumps { IfOk result (λ r. JumpsFit D.meaning (node_view the_loop.now.body.now) (D.meaning.dims value.now) (seen r)) }
+    ensures jumps { IfOk result (λ r. JumpsFit D.meaning (node_view the_loop.now.body.now) (D.meaning.dims value.now)
+        (seen r)) }
 {
     let mut on = value.copy(alloc)?;
     let exactness = leave(
@@ -168,7 +175,8 @@ fn round<D: Domain>(
     Ok(outcome)
 }
 
-/// A loop's head from its first value on, until what a round leaves lies in it: the value there, and what its round gave.
+/// A loop's head from its first value on, until what a round leaves lies in it: the value there, and what its round
+/// gave.
 #[cycle(pass)]
 fn grow<D: Domain>(
     alloc: Global,
@@ -179,11 +187,14 @@ fn grow<D: Domain>(
     requires parts { 1 ≤ the_loop.now.settings.now.parts }
     requires few { D.meaning.dims first.now ≤ 2 ^ 30 }
     requires fits { TreeFits (node_view the_loop.now.body.now) (D.meaning.dims first.now) }
-    requires closed { live_behind (node_view the_loop.now.body.now) (D.meaning.dims first.now) ≡ D.meaning.dims first.now }
-    ensures grows { IfOk result (λ r. HasGrown D.meaning the_loop.now.settings.now the_loop.now.point the_loop.now.base (cond_view the_loop.now.condition.now) (node_view the_loop.now.body.now) first.now flag r.0 (seen r.1)) }
+    requires closed { live_behind (node_view the_loop.now.body.now) (D.meaning.dims first.now) ≡
+        D.meaning.dims first.now }
+    ensures grows { IfOk result (λ r. HasGrown D.meaning the_loop.now.settings.now the_loop.now.point the_loop.now.base
+        (cond_view the_loop.now.condition.now) (node_view the_loop.now.body.now) first.now flag r.0 (seen r.1)) }
     ensures dims { IfOk result (λ r. D.meaning.dims r.0 ≡ D.meaning.dims first.now) }
     ensures behind { IfOk result (λ r. D.meaning.dims r.1.normal ≡ D.meaning.dims first.now) }
-    ensures jumps { IfOk result (λ r. JumpsFit D.meaning (node_view the_loop.now.body.now) (D.meaning.dims first.now) (seen r.1)) }
+    ensures jumps { IfOk result (λ r. JumpsFit D.meaning (node_view the_loop.now.body.now) (D.meaning.dims first.now)
+        (seen r.1)) }
 {
     let mut head = start(alloc, the_loop.base, the_loop.condition, first)?;
     let mut left = the_loop.settings.delay;
@@ -201,8 +212,8 @@ fn grow<D: Domain>(
     }
 }
 
-/// A loop: its head grows, is narrowed, and is left where the condition is false. In each round of narrowing the value at the head becomes the
-/// join of the first one with what its last round left; the last round stays.
+/// A loop: its head grows, is narrowed, and is left where the condition is false. In each round of narrowing the value
+/// at the head becomes the join of the first one with what its last round left; the last round stays.
 #[cycle(pass)]
 fn pass_loop<D: Domain>(
     alloc: Global,
@@ -214,7 +225,9 @@ fn pass_loop<D: Domain>(
     requires few { D.meaning.dims value ≤ 2 ^ 30 }
     requires fits { TreeFits (node_view the_loop.now.body.now) (D.meaning.dims value) }
     requires closed { live_behind (node_view the_loop.now.body.now) (D.meaning.dims value) ≡ D.meaning.dims value }
-    ensures { IfOk result (λ r. IsPassed D.meaning the_loop.now.settings.now (iterate the_loop.now.point the_loop.now.base (cond_view the_loop.now.condition.now) (node_view the_loop.now.body.now)) flag value (seen r)) }
+    ensures { IfOk result (λ r. IsPassed D.meaning the_loop.now.settings.now
+        (iterate the_loop.now.point the_loop.now.base (cond_view the_loop.now.condition.now)
+        (node_view the_loop.now.body.now)) flag value (seen r)) }
 {
     let (grown, outcome) = grow(alloc, the_loop, &value, flag)?;
     let mut top = grown;
@@ -240,8 +253,11 @@ fn pass_choice<D: Domain>(
 ) -> Result<Outcome<D>, AllocError>
     requires parts { 1 ≤ choice.now.settings.now.parts }
     requires few { D.meaning.dims value ≤ 2 ^ 30 }
-    requires fits { TreeFits (choose choice.now.point choice.now.base (cond_view choice.now.condition.now) (node_view choice.now.yes.now) (node_view choice.now.no.now)) (D.meaning.dims value) }
-    ensures { IfOk result (λ r. IsPassed D.meaning choice.now.settings.now (choose choice.now.point choice.now.base (cond_view choice.now.condition.now) (node_view choice.now.yes.now) (node_view choice.now.no.now)) flag value (seen r)) }
+    requires fits { TreeFits (choose choice.now.point choice.now.base (cond_view choice.now.condition.now)
+        (node_view choice.now.yes.now) (node_view choice.now.no.now)) (D.meaning.dims value) }
+    ensures { IfOk result (λ r. IsPassed D.meaning choice.now.settings.now
+        (choose choice.now.point choice.now.base (cond_view choice.now.condition.now) (node_view choice.now.yes.now)
+        (node_view choice.now.no.now)) flag value (seen r)) }
 {
     let from = Kept {
         value,
@@ -271,7 +287,8 @@ fn pass_row<D: Domain>(
     requires parts { 1 ≤ settings.now.parts }
     requires few { D.meaning.dims value ≤ 2 ^ 30 }
     requires fits { TreeFits (row (map node_view trees.now) (node_view last.now)) (D.meaning.dims value) }
-    ensures { IfOk result (λ r. IsPassed D.meaning settings.now (row (map node_view trees.now) (node_view last.now)) flag value (seen r)) }
+    ensures { IfOk result (λ r. IsPassed D.meaning settings.now
+        (row (map node_view trees.now) (node_view last.now)) flag value (seen r)) }
 {
     let mut found = Found::nothing(alloc);
     let mut behind = value;
@@ -303,8 +320,10 @@ pub fn pass<D: Domain>(
     requires parts { 1 ≤ settings.now.parts }
     requires few { D.meaning.dims value ≤ 2 ^ 30 }
     requires fits { TreeFits (node_view node.now) (D.meaning.dims value) }
-    ensures pass { IfOk result (λ r. Pass D D.Head (dropping D.meaning) settings.now (node_view node.now) flag value (seen r)) }
-    ensures dims { IfOk result (λ r. D.meaning.dims r.normal ≡ live_behind (node_view node.now) (D.meaning.dims value)) }
+    ensures pass { IfOk result (λ r. Pass D D.Head (dropping D.meaning) settings.now (node_view node.now) flag value
+        (seen r)) }
+    ensures dims { IfOk result (λ r. D.meaning.dims r.normal ≡
+        live_behind (node_view node.now) (D.meaning.dims value)) }
     ensures jumps { IfOk result (λ r. JumpsFit D.meaning (node_view node.now) (D.meaning.dims value) (seen r)) }
 {
     match node {

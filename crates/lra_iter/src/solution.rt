@@ -22,8 +22,9 @@ use lra_flow::Settings;
 use lra_tree::graph::{Graph, Site};
 use std::alloc::{AllocError, Global};
 
-/// What is found of a program: the value at each of its points, in the order of their numbers; of each assertion its point's number and
-/// whether it is proved, in the same order; and the first point with a flagged operation. Points are numbered from 0.
+/// What is found of a program: the value at each of its points, in the order of their numbers; of each assertion its
+/// point's number and whether it is proved, in the same order; and the first point with a flagged operation. Points are
+/// numbered from 0.
 #[derive(Drop)]
 pub struct Solution<D> {
     pub values: Vec<D>,
@@ -40,7 +41,8 @@ fn solution_of<D: Domain>(
     requires { AreCounted (map site_view sites.now) (seen outcome).entries }
     ensures solves { IfOk result (λ s. Solves D.meaning (seen outcome) s.values.items s.verdicts.items s.flagged) }
     ensures points { IfOk result (λ s. length s.values.items ≡ length sites.now) }
-    ensures assertions { IfOk result (λ s. map (λ v. v.0) s.verdicts.items ≡ map (λ a. a.0) (assertions_from 0 (map site_view sites.now))) }
+    ensures assertions { IfOk result (λ s. map (λ v. v.0) s.verdicts.items ≡
+        map (λ a. a.0) (assertions_from 0 (map site_view sites.now))) }
 {
     let flagged = outcome.flag;
     let entries = outcome.found.into_entries();
@@ -63,11 +65,15 @@ pub fn analyse<D: Domain>(
     requires few { length globals.now ≤ 2 ^ 30 }
     requires fits { TreeFits (node_view graph.now.tree) (length globals.now) }
     requires numbered { IsNumbered (map site_view graph.now.sites.items) (node_view graph.now.tree) }
-    ensures solved { IfOk result (λ s. (P : Program) → P.globals ≡ globals.now → IsSolved D.meaning settings.now P (node_view graph.now.tree) s.values.items s.verdicts.items s.flagged) }
-    ensures sound { IfOk result (λ s. HoldsInTree D.meaning globals.now (node_view graph.now.tree) s.values.items s.verdicts.items) }
-    ensures wide { IfOk result (λ s. PointsHave (map site_view graph.now.sites.items) (node_view graph.now.tree) (length globals.now) → AreWide D.meaning (map site_view graph.now.sites.items) s.values.items) }
+    ensures solved { IfOk result (λ s. (P : Program) → P.globals ≡ globals.now →
+        IsSolved D.meaning settings.now P (node_view graph.now.tree) s.values.items s.verdicts.items s.flagged) }
+    ensures sound { IfOk result (λ s. HoldsInTree D.meaning globals.now
+        (node_view graph.now.tree) s.values.items s.verdicts.items) }
+    ensures wide { IfOk result (λ s. PointsHave (map site_view graph.now.sites.items) (node_view graph.now.tree)
+        (length globals.now) → AreWide D.meaning (map site_view graph.now.sites.items) s.values.items) }
     ensures points { IfOk result (λ s. length s.values.items ≡ length graph.now.sites.items) }
-    ensures assertions { IfOk result (λ s. map (λ v. v.0) s.verdicts.items ≡ map (λ a. a.0) (assertions_from 0 (map site_view graph.now.sites.items))) }
+    ensures assertions { IfOk result (λ s. map (λ v. v.0) s.verdicts.items ≡
+        map (λ a. a.0) (assertions_from 0 (map site_view graph.now.sites.items))) }
 {
     let mut value = D::universe(alloc, 0, settings.parts)?;
     let exactness = append_globals(alloc, globals, &mut value)?;

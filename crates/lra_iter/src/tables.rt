@@ -35,7 +35,8 @@ pub fn tables_of<D: Domain>(
     entries: Vec<Entry<D>>,
 ) -> Result<Tables<D>, AllocError>
     requires { AreApart count (map entry_view entries.items) }
-    ensures { IfOk result (λ tables. AreTabled D.meaning count (map entry_view entries.items) tables.values.items tables.verdicts.items) }
+    ensures { IfOk result (λ tables. AreTabled D.meaning count
+        (map entry_view entries.items) tables.values.items tables.verdicts.items) }
 {
     let mut values = empty_table(alloc, count)?;
     let mut verdicts = empty_table(alloc, count)?;

@@ -22,7 +22,8 @@ close_at : (text front rest : List ℕ) → text ≡ (front ++ codes "*/") ++ re
 close_at text front rest e =
     let f : text ≡ front ++ (42 ∷ 47 ∷ rest) = e ∙ append_assoc front (codes "*/") rest in
     let n = ap (λ (z : List ℕ). length z) f in
-    let a : get_or text (length front) 0 ≡ 42 = ap (λ (z : List ℕ). get_or z (length front) 0) f ∙ ap (λ (k : ℕ). get_or (front ++ (42 ∷ 47 ∷ rest)) k 0) (zero_end (length front)) ∙ get_or-append-add front (42 ∷ 47 ∷ rest) 0 0 in
+    let a : get_or text (length front) 0 ≡ 42 = ap (λ (z : List ℕ). get_or z (length front) 0) f ∙ ap (λ (k : ℕ). get_or (front ++ (42 ∷ 47 ∷ rest)) k 0) (zero_end (length front)) ∙
+    get_or-append-add front (42 ∷ 47 ∷ rest) 0 0 in
     let b : get_or text (length front + 1) 0 ≡ 47 = ap (λ (z : List ℕ). get_or z (length front + 1) 0) f ∙ get_or-append-add front (42 ∷ 47 ∷ rest) 1 0 in
     (omega (arith, n, length-append front (42 ∷ 47 ∷ rest)), (a, b))
 
@@ -49,7 +50,8 @@ star_open text n c front rest e =
 
 -- gaps -----------------------------------------------------------------------------------------------------------------------
 
-begins_gap : (fresh : Bool) (rest s a : List ℕ) (n : ℕ) → rest ≡ s ++ a → n ≡ length s → 0 < length s → ((before : List ℕ) → fresh ≡ fresh_behind true before → IsGap before s a) → BeginsGap fresh rest n
+begins_gap : (fresh : Bool) (rest s a : List ℕ) (n : ℕ) → rest ≡ s ++ a → n ≡ length s → 0 < length s → ((before : List ℕ) → fresh ≡ fresh_behind true before → IsGap before s a) →
+    BeginsGap fresh rest n
 begins_gap fresh rest s a n e f p g =
     let t : take n rest ≡ s = ap (take n) e ∙ take_at s a n (sym f) in
     let d : drop n rest ≡ a = ap (drop n) e ∙ drop_at s a n (sym f) in
@@ -99,7 +101,8 @@ closed_text text n c =
     let t' = take_more text (n - 1) 0 k' in
     let star : take (n - 1) text ≡ take (n - 2) text ++ 42 ∷ [] = sym (first_open text n c) in
     let slash : get_or text (n - 1) 0 ≡ 47 = ap (λ (z : ℕ). get_or text z 0) (sym e) ∙ c.closes.1 in
-    let whole : take n text ≡ (take (n - 2) text ++ 42 ∷ []) ++ 47 ∷ [] = ap (λ (z : ℕ). take z text) (sym e') ∙ t' ∙ ap (λ (z : List ℕ). z ++ get_or text (n - 1) 0 ∷ []) star ∙ ap (λ (z : ℕ). (take (n - 2) text ++ 42 ∷ []) ++ z ∷ []) slash in
+    let whole : take n text ≡ (take (n - 2) text ++ 42 ∷ []) ++ 47 ∷ [] = ap (λ (z : ℕ). take z text) (sym e') ∙ t' ∙ ap (λ (z : List ℕ). z ++ get_or text (n - 1) 0 ∷ []) star ∙
+    ap (λ (z : ℕ). (take (n - 2) text ++ 42 ∷ []) ++ z ∷ []) slash in
     sym (take-append-drop n text) ∙ ap (λ (z : List ℕ). z ++ drop n text) (whole ∙ append_assoc (take (n - 2) text) (42 ∷ []) (47 ∷ []))
 
 pub block_gap : (fresh : Bool) (rest : List ℕ) (n : ℕ) → 1 < length rest → get_or rest 0 0 ≡ 47 → get_or rest 1 0 ≡ 42 → IsFirstClose (drop 2 rest) n → BeginsGap fresh rest (n + 2)
@@ -135,7 +138,8 @@ include_is rest e f =
     let blanks = take (prefix_len is_space_or_tab (drop 1 rest)) (drop 1 rest) in
     let text = drop (prefix_len is_word_byte (include_text rest)) (include_text rest) in
     let g : include_text rest ≡ codes "include" ++ text = w.parts ∙ ap (λ (z : List ℕ). z ++ text) f in
-    let h : rest ≡ codes "#" ++ (blanks ++ (codes "include" ++ text)) = sym (take-append-drop 1 rest) ∙ ap (λ (z : List ℕ). z ++ drop 1 rest) e ∙ ap (λ (z : List ℕ). codes "#" ++ z) (r.parts ∙ ap (λ (z : List ℕ). blanks ++ z) g) in
+    let h : rest ≡ codes "#" ++ (blanks ++ (codes "include" ++ text)) = sym (take-append-drop 1 rest) ∙ ap (λ (z : List ℕ). z ++ drop 1 rest) e ∙
+    ap (λ (z : List ℕ). codes "#" ++ z) (r.parts ∙ ap (λ (z : List ℕ). blanks ++ z) g) in
     record {
       blanks = blanks;
       text = text;
@@ -182,7 +186,8 @@ skip_gap fresh rest f i =
 
 -- no gap ---------------------------------------------------------------------------------------------------------------------
 
-include_of : (rest blanks text after : List ℕ) → rest ≡ (codes "#" ++ blanks ++ codes "include" ++ text) ++ after → list_all is_space_or_tab blanks ≡ true → IsWordEnd text → IsLineEnd after → IsInclude rest
+include_of : (rest blanks text after : List ℕ) → rest ≡ (codes "#" ++ blanks ++ codes "include" ++ text) ++ after → list_all is_space_or_tab blanks ≡ true → IsWordEnd text → IsLineEnd after →
+    IsInclude rest
 include_of rest blanks text after e b w l = record {
   blanks = blanks;
   text = text ++ after;
@@ -207,12 +212,14 @@ no_gap before rest b l o i gap after e (skipped_line blanks text f h k w t n) =
     i h (include_of rest blanks text after (e ∙ ap (λ (z : List ℕ). z ++ after) f) k w n)
 
 sharp_first : (rest : List ℕ) → IsInclude rest → get_or rest 0 0 ≡ 47 → ⊥
-sharp_first rest i c = let h : get_or rest 0 0 ≡ 35 = ap (λ (z : List ℕ). get_or z 0 0) (i.parts ∙ ap (λ (z : List ℕ). z ++ i.text) (append_assoc (codes "#") i.blanks (codes "include"))) in omega (arith, h, c)
+sharp_first rest i c = let h : get_or rest 0 0 ≡ 35 = ap (λ (z : List ℕ). get_or z 0 0) (i.parts ∙ ap (λ (z : List ℕ). z ++ i.text) (append_assoc (codes "#") i.blanks (codes "include"))) in omega
+    (arith, h, c)
 
 slash_first : (rest : List ℕ) → opens_comment rest ≡ true → get_or rest 0 0 ≡ 47
 slash_first rest h = eqb-true (get_or rest 0 0) 47 (and_parts (nat_eq (get_or rest 0 0) 47) (nat_eq (get_or rest 1 0) 42) h).0
 
-pub no_close : (fresh : Bool) (rest : List ℕ) → 1 < length rest → get_or rest 0 0 ≡ 47 → get_or rest 1 0 ≡ 42 → ((k : ℕ) → k + 1 < length (drop 2 rest) → IsCloseAt (drop 2 rest) k → ⊥) → HasNoGap fresh rest
+pub no_close : (fresh : Bool) (rest : List ℕ) → 1 < length rest → get_or rest 0 0 ≡ 47 → get_or rest 1 0 ≡ 42 → ((k : ℕ) → k + 1 < length (drop 2 rest) → IsCloseAt (drop 2 rest) k → ⊥) →
+    HasNoGap fresh rest
 no_close fresh rest h c d k =
     let o = open_text (drop 2 rest) k in
     let e : rest ≡ 47 ∷ 42 ∷ drop 2 rest = two_and_rest rest h ∙ ap (λ (z : ℕ). z ∷ get_or rest 1 0 ∷ drop 2 rest) c ∙ ap (λ (z : ℕ). 47 ∷ z ∷ drop 2 rest) d in

@@ -1,5 +1,6 @@
 -- Longest spellings.
-use Rattle.std.proofs.Common.{◌≡◌, ℕ, ◌≤◌, Bool, true, false, not, ◌||◌, nat_le, List, [], ◌∷◌, ◌++◌, length, get_or, take, drop, Option, Some, None, refl, sym, ap, ◌∙◌, subst, arith, inl, inr, ◌⊎◌, length-append}
+use Rattle.std.proofs.Common.{◌≡◌, ℕ, ◌≤◌, Bool, true, false, not, ◌||◌, nat_le, List, [], ◌∷◌, ◌++◌, length, get_or, take, drop, Option, Some, None, refl, sym, ap, ◌∙◌, subst, arith, inl, inr, ◌⊎◌}
+use Rattle.std.proofs.Common.{length-append}
 use Rattle.std.proofs.lemmas.List.{append-nil, take_at, take-append-drop, length-take}
 use Rattle.std.proofs.lemmas.Bool.{cases_lt, and_from, and_parts, leb-true, or_left, or_right}
 use Rattle.std.specs.List.{list_all, prefix_len}
@@ -30,7 +31,8 @@ wordy : (t : List ℕ) → Lexeme t → is_word_byte (get_or t 0 0) ≡ true →
 wordy [] l h = refl
 wordy (c ∷ cs) (word w) h = and_from (is_word_byte c) (list_all is_word_byte cs) h (and_parts (is_letter c) (list_all is_word_byte cs) w).1
 wordy (c ∷ cs) (number_word w) h = and_from (is_word_byte c) (list_all is_word_byte cs) h (and_parts (is_digit c) (list_all is_word_byte cs) w).1
-wordy (c ∷ cs) (mark_word m e) h = subst (λ (z : List ℕ). list_all is_word_byte z ≡ true) (sym e) (not_or (is_word_byte (get_or (mark_text m) 0 0)) (list_all is_word_byte (mark_text m)) (mark_wordy m) (subst (λ (z : List ℕ). is_word_byte (get_or z 0 0) ≡ true) e h))
+wordy (c ∷ cs) (mark_word m e) h = subst (λ (z : List ℕ). list_all is_word_byte z ≡ true) (sym e)
+    (not_or (is_word_byte (get_or (mark_text m) 0 0)) (list_all is_word_byte (mark_text m)) (mark_wordy m) (subst (λ (z : List ℕ). is_word_byte (get_or z 0 0) ≡ true) e h))
 wordy (c ∷ cs) (unclosed u) h = let f : is_word_byte 47 ≡ true = subst (λ (z : List ℕ). is_word_byte (get_or z 0 0) ≡ true) u.1 h in absurd (cc)
 
 -- the run of a word is its longest spelling

@@ -1,12 +1,14 @@
 -- A literal is cut into its parts in one way.
-use Rattle.std.proofs.Common.{◌≡◌, ℕ, suc, ◌+◌, ◌*◌, ◌<◌, ◌≤◌, Bool, true, false, not, ◌||◌, ◌&&◌, nat_eq, List, [], ◌∷◌, ◌++◌, length, get_or, take, drop, refl, sym, ap, ◌∙◌, subst, arith, inl, inr, append_assoc}
+use Rattle.std.proofs.Common.{◌≡◌, ℕ, suc, ◌+◌, ◌*◌, ◌<◌, ◌≤◌, Bool, true, false, not, ◌||◌, ◌&&◌, nat_eq, List, [], ◌∷◌, ◌++◌, length, get_or, take, drop, refl, sym, ap, ◌∙◌, subst, arith, inl, inr}
+use Rattle.std.proofs.Common.{append_assoc}
 use Rattle.std.proofs.lemmas.Bool.{and_parts, cases_Bool, eqb-true, not-true, or_cases}
 use Rattle.std.proofs.lemmas.List.{take_at, drop_at, take-append-drop, drop_more}
 use Rattle.std.proofs.lemmas.List.Sums.{prefix_len-le-length}
 use Rattle.std.proofs.lemmas.Bool.Decides.{nat_tests}
 use Rattle.std.specs.List.{list_all, prefix_len}
 use Rattle.std.specs.Prelude.{◌≢◌, if◌then◌else◌, IfSome, IfNone, Option, Some, None}
-use Rattle.lra_tree.specs.Lexeme.{Base, octal, decimal_base, hexadecimal, base_number, is_digit_of, is_digit, is_between, digit_value, number_behind, IsFront, IsLiteral, suffixes, is_among, greatest_literal}
+use Rattle.lra_tree.specs.Lexeme.{Base, octal, decimal_base, hexadecimal, base_number, is_digit_of, is_digit, is_between, digit_value, number_behind, IsFront, IsLiteral, suffixes, is_among}
+use Rattle.lra_tree.specs.Lexeme.{greatest_literal}
 use Rattle.lra_lex.specs.Literal.{base_at, front_size}
 use Rattle.lra_lex.proofs.RunLemmas.{run_is, run_exact, Stops}
 use Rattle.lra_lex.proofs.MarkLemmas.{among_all}
@@ -54,7 +56,8 @@ suffix_stops b (c ∷ cs) h =
 
 no_x : (digits suffix : List ℕ) → list_all (is_digit_of octal) digits ≡ true → is_among suffix suffixes ≡ true
     → (nat_eq (get_or (digits ++ suffix) 0 0) 120 || nat_eq (get_or (digits ++ suffix) 0 0) 88) ≡ false
-no_x [] suffix d s = not-true (nat_eq (get_or suffix 0 0) 120 || nat_eq (get_or suffix 0 0) 88) (and_parts (not (is_digit_of hexadecimal (get_or suffix 0 0))) (not (nat_eq (get_or suffix 0 0) 120 || nat_eq (get_or suffix 0 0) 88)) (suffix_begins suffix s)).1
+no_x [] suffix d s = not-true (nat_eq (get_or suffix 0 0) 120 || nat_eq (get_or suffix 0 0) 88)
+    (and_parts (not (is_digit_of hexadecimal (get_or suffix 0 0))) (not (nat_eq (get_or suffix 0 0) 120 || nat_eq (get_or suffix 0 0) 88)) (suffix_begins suffix s)).1
 no_x (c ∷ digits) suffix d s = let h = (and_parts (is_between 48 55 c) (list_all (is_digit_of octal) digits) d).0 in grind (arith, nat_tests)
 
 abbrev PartsAre : List ℕ → Base → List ℕ → List ℕ → Type 0
@@ -162,7 +165,8 @@ cut_literal s n c =
       front = take (front_size (base_at s)) s;
       digits = digits_of (base_at s) s;
       suffix = suffix_of (base_at s) s;
-      parts = sym (take-append-drop (front_size (base_at s)) s) ∙ ap (λ (z : List ℕ). take (front_size (base_at s)) s ++ z) r.parts ∙ sym (append_assoc (take (front_size (base_at s)) s) (digits_of (base_at s) s) (suffix_of (base_at s) s));
+      parts = sym (take-append-drop (front_size (base_at s)) s) ∙ ap (λ (z : List ℕ). take (front_size (base_at s)) s ++ z) r.parts ∙
+          sym (append_assoc (take (front_size (base_at s)) s) (digits_of (base_at s) s) (suffix_of (base_at s) s));
       begins = front_of s (base_at s) (tells (nat_eq (get_or s 0 0) 48) (nat_eq (get_or s 1 0) 120 || nat_eq (get_or s 1 0) 88)) c.digits;
       all_digits = r.passes;
       is_suffix = c.suffix;

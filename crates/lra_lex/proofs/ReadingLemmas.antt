@@ -32,7 +32,8 @@ faulty _ before rest l n h = absurd h
 pub fault_at : (place : Place) (fresh : Bool) (rest : List ℕ) (r : Refusal) → 0 < length rest → HasNoGap fresh rest → (r.place ≡ place) × HasFault r.cause rest → FaultsAt place fresh rest r
 fault_at place fresh rest r l n h = record { at_place = h.0; faulty = λ before f. faulty r.cause before rest l (n.no_gap before f) h.1 }
 
-pub refusal_at : (place : Place) (fresh : Bool) (rest : List ℕ) (e : LexError) → 0 < length rest → HasNoGap fresh rest → IfRefusal (λ r. (r.place ≡ place) × HasFault r.cause rest) e → IfRefusal (FaultsAt place fresh rest) e
+pub refusal_at : (place : Place) (fresh : Bool) (rest : List ℕ) (e : LexError) → 0 < length rest → HasNoGap fresh rest → IfRefusal (λ r. (r.place ≡ place) × HasFault r.cause rest) e →
+    IfRefusal (FaultsAt place fresh rest) e
 refusal_at place fresh rest (Refused r) l n h = fault_at place fresh rest r l n h
 refusal_at place fresh rest Memory l n h = tt
 
@@ -65,7 +66,8 @@ tokens_push (token bytes t ∷ ps) p = ap (λ (z : List Token). t ∷ z) (tokens
 behind_is : (ps : List Piece) (p : Piece) (after : List ℕ) → bytes_of ps ++ (bytes_in p ++ after) ≡ bytes_of (ps ++ p ∷ []) ++ after
 behind_is ps p after = sym (append_assoc (bytes_of ps) (bytes_in p) after) ∙ ap (λ (z : List ℕ). z ++ after) (sym (bytes_push ps p))
 
-reading_push : (before : List ℕ) (ps : List Piece) (p : Piece) (after : List ℕ) → IsReading before ps (bytes_in p ++ after) → IsPiece (before ++ bytes_of ps) p after → IsReading before (ps ++ p ∷ []) after
+reading_push : (before : List ℕ) (ps : List Piece) (p : Piece) (after : List ℕ) → IsReading before ps (bytes_in p ++ after) → IsPiece (before ++ bytes_of ps) p after →
+    IsReading before (ps ++ p ∷ []) after
 reading_push before [] (gap bytes) after r h = (subst (λ (z : List ℕ). IsGap z bytes after) (append-nil before) h, tt)
 reading_push before [] (token bytes t) after r h = (subst (λ (z : List ℕ). IsToken z bytes (bytes ++ after) t) (append-nil before) h, tt)
 reading_push before (gap bytes ∷ ps) p after r h = (
@@ -91,7 +93,8 @@ read_more source rest s after tokens place fresh p r e b h =
       fresh_is = ap (λ (z : Bool). fresh_behind z s) r.fresh_is ∙ sym (fresh_behind-append true (bytes_of r.pieces) s) ∙ ap (fresh_behind true) (sym push);
     }
 
-step : (source rest : List ℕ) (tokens : List Token) (place : Place) (fresh : Bool) (n : ℕ) (k : Option Kind) → IsReadTo source rest tokens place fresh → BeginsFound fresh rest (record { length = n; kind = k })
+step : (source rest : List ℕ) (tokens : List Token) (place : Place) (fresh : Bool) (n : ℕ) (k : Option Kind) → IsReadTo source rest tokens place fresh →
+    BeginsFound fresh rest (record { length = n; kind = k })
     → IsReadTo source (drop n rest) (tokens ++ found_tokens k place) (place_from place (take n rest)) (fresh_behind fresh (take n rest))
 step source rest tokens place fresh n None r f =
     read_more source rest (take n rest) (drop n rest) tokens place fresh (gap (take n rest)) r (sym (take-append-drop n rest)) refl (f.is_found (bytes_of r.pieces) r.fresh_is)

@@ -7,7 +7,8 @@ use Rattle.std.specs.List.{list_all, prefix_len}
 use Rattle.lra_tree.specs.declared.tokens.Mark.{Mark}
 use Rattle.lra_tree.specs.declared.tokens.Kind.{Kind}
 use Rattle.lra_tree.specs.declared.tokens.Kind.TheVariants as kind
-use Rattle.lra_tree.specs.Lexeme.{is_word_byte, is_letter, is_digit, is_word, is_number_word, mark_text, IsLiteral, greatest_literal, word, number_word, unclosed, IsUnclosed, SpellsToken, number, mark_of, comment}
+use Rattle.lra_tree.specs.Lexeme.{is_word_byte, is_letter, is_digit, is_word, is_number_word, mark_text, IsLiteral, greatest_literal, word, number_word, unclosed, IsUnclosed, SpellsToken, number}
+use Rattle.lra_tree.specs.Lexeme.{mark_of, comment}
 use Rattle.lra_tree.specs.Tokens.{IsLongest}
 use Rattle.lra_lex.specs.Front.{opens_comment, found_mark, operator_at}
 use Rattle.lra_lex.specs.Read.{BeginsToken}
@@ -32,12 +33,15 @@ number_at [] s l h e = absurd (omega arith)
 number_at (c ∷ cs) s l h e = rw (e, run_front c cs (digit_is c h)) (and_from (is_digit c) (list_all is_word_byte (take (prefix_len is_word_byte cs) cs)) h (run_is is_word_byte cs).passes)
 
 longest_at : (rest : List ℕ) → 0 < length rest → is_letter (get_or rest 0 0) ≡ true → IsLongest (take (prefix_len is_word_byte rest) rest) rest
-longest_at rest l h = longest_word rest (take (prefix_len is_word_byte rest) rest) (drop (prefix_len is_word_byte rest) rest) (run_is is_word_byte rest) (letter_is (get_or rest 0 0) h) (word (word_at rest (take (prefix_len is_word_byte rest) rest) l h refl))
+longest_at rest l h = longest_word rest (take (prefix_len is_word_byte rest) rest) (drop (prefix_len is_word_byte rest) rest) (run_is is_word_byte rest) (letter_is (get_or rest 0 0) h)
+    (word (word_at rest (take (prefix_len is_word_byte rest) rest) l h refl))
 
 longest_number : (rest : List ℕ) → 0 < length rest → is_digit (get_or rest 0 0) ≡ true → IsLongest (take (prefix_len is_word_byte rest) rest) rest
-longest_number rest l h = longest_word rest (take (prefix_len is_word_byte rest) rest) (drop (prefix_len is_word_byte rest) rest) (run_is is_word_byte rest) (digit_is (get_or rest 0 0) h) (number_word (number_at rest (take (prefix_len is_word_byte rest) rest) l h refl))
+longest_number rest l h = longest_word rest (take (prefix_len is_word_byte rest) rest) (drop (prefix_len is_word_byte rest) rest) (run_is is_word_byte rest) (digit_is (get_or rest 0 0) h)
+    (number_word (number_at rest (take (prefix_len is_word_byte rest) rest) l h refl))
 
-pub word_token_is : (rest s : List ℕ) (n : ℕ) (k : Kind) → 0 < length rest → is_letter (get_or rest 0 0) ≡ true → n ≡ prefix_len is_word_byte rest → s ≡ take n rest → SpellsToken s k → BeginsToken rest n k
+pub word_token_is : (rest s : List ℕ) (n : ℕ) (k : Kind) → 0 < length rest → is_letter (get_or rest 0 0) ≡ true → n ≡ prefix_len is_word_byte rest → s ≡ take n rest → SpellsToken s k →
+    BeginsToken rest n k
 word_token_is rest s n k l h e f t = record {
   some = rw e (run_some rest l (letter_is (get_or rest 0 0) h));
   within = rw e (prefix_len-le-length is_word_byte rest);
@@ -45,7 +49,8 @@ word_token_is rest s n k l h e f t = record {
   spells = subst (λ (z : List ℕ). SpellsToken z k) f t;
 }
 
-pub number_token_is : (rest s : List ℕ) (n v : ℕ) → 0 < length rest → is_digit (get_or rest 0 0) ≡ true → n ≡ prefix_len is_word_byte rest → s ≡ take n rest → IsLiteral s v → v ≤ greatest_literal → BeginsToken rest n (kind.Number v)
+pub number_token_is : (rest s : List ℕ) (n v : ℕ) → 0 < length rest → is_digit (get_or rest 0 0) ≡ true → n ≡ prefix_len is_word_byte rest → s ≡ take n rest → IsLiteral s v → v ≤ greatest_literal →
+    BeginsToken rest n (kind.Number v)
 number_token_is rest s n v l h e f t b = record {
   some = rw e (run_some rest l (digit_is (get_or rest 0 0) h));
   within = rw e (prefix_len-le-length is_word_byte rest);
@@ -53,7 +58,8 @@ number_token_is rest s n v l h e f t b = record {
   spells = subst (λ (z : List ℕ). SpellsToken z (kind.Number v)) f (number v (number_at rest s l h (f ∙ ap (λ (z : ℕ). take z rest) e)) t b);
 }
 
-pub bad_literal : (rest s : List ℕ) (n : ℕ) → 0 < length rest → is_digit (get_or rest 0 0) ≡ true → n ≡ prefix_len is_word_byte rest → s ≡ take n rest → ((v : ℕ) → IsLiteral s v → v ≤ greatest_literal → ⊥)
+pub bad_literal : (rest s : List ℕ) (n : ℕ) → 0 < length rest → is_digit (get_or rest 0 0) ≡ true → n ≡ prefix_len is_word_byte rest → s ≡ take n rest →
+    ((v : ℕ) → IsLiteral s v → v ≤ greatest_literal → ⊥)
     → (x : List ℕ) × IsLongest x rest × (is_number_word x ≡ true) × ((v : ℕ) → IsLiteral x v → v ≤ greatest_literal → ⊥)
 bad_literal rest s n l h e f k =
     let g : s ≡ take (prefix_len is_word_byte rest) rest = f ∙ ap (λ (z : ℕ). take z rest) e in
@@ -75,13 +81,16 @@ pair_is rest n e = elim (cases_lt (length rest) 2) [
   | inr ge ↦ let f : n ≡ 2 = omega (arith, e, ge) in ap (λ (z : ℕ). take z rest) f
 ]
 
-pub operator_other : (rest pair single : List ℕ) (n : ℕ) (o : Option Mark) → n ≡ min (length rest) 2 → pair ≡ take n rest → None ≡ found_mark pair → single ≡ take 1 rest → o ≡ found_mark single → o ≡ operator_at rest
+pub operator_other : (rest pair single : List ℕ) (n : ℕ) (o : Option Mark) → n ≡ min (length rest) 2 → pair ≡ take n rest → None ≡ found_mark pair → single ≡ take 1 rest → o ≡ found_mark single →
+    o ≡ operator_at rest
 operator_other rest pair single n o e f g h k = let i : found_mark (take 2 rest) ≡ None = ap found_mark (sym (f ∙ pair_is rest n e)) ∙ sym g in rw i (k ∙ ap found_mark h)
 
-pub operator_token_is : (rest s : List ℕ) (m : Mark) → is_word_byte (get_or rest 0 0) ≡ false → opens_comment rest ≡ false → Some m ≡ operator_at rest → s ≡ mark_text m → BeginsToken rest (length s) (kind.Mark m)
+pub operator_token_is : (rest s : List ℕ) (m : Mark) → is_word_byte (get_or rest 0 0) ≡ false → opens_comment rest ≡ false → Some m ≡ operator_at rest → s ≡ mark_text m →
+    BeginsToken rest (length s) (kind.Mark m)
 operator_token_is rest s m h o e f =
     let l = operator_found rest m h o (sym e) in
-    let t : take (length s) rest ≡ mark_text m = ap (λ (z : ℕ). take z rest) (ap (λ (z : List ℕ). length z) f) ∙ ap (take (length (mark_text m))) l.front ∙ take_at (mark_text m) l.after (length (mark_text m)) refl in
+    let t : take (length s) rest ≡ mark_text m = ap (λ (z : ℕ). take z rest) (ap (λ (z : List ℕ). length z) f) ∙ ap (take (length (mark_text m))) l.front ∙
+    take_at (mark_text m) l.after (length (mark_text m)) refl in
     let n = leb-true 1 (length (mark_text m)) (mark_some m) in
     let k = ap (λ (z : List ℕ). length z) t in
     let q = ap (λ (z : List ℕ). length z) f in

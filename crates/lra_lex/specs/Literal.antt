@@ -12,7 +12,8 @@ base_of Hexadecimal = hexadecimal
 
 -- the base that the first two bytes tell
 abbrev pub base_at : List ℕ → Base
-base_at s = if nat_eq (slice_index s 0) 48 then (if nat_eq (slice_index s 1) 120 || nat_eq (slice_index s 1) 88 then hexadecimal else octal) else decimal_base
+base_at s = if nat_eq (slice_index s 0) 48 then (if nat_eq (slice_index s 1) 120 || nat_eq (slice_index s 1) 88
+    then hexadecimal else octal) else decimal_base
 
 -- how many bytes stand before the digits
 abbrev pub front_size : Base → ℕ

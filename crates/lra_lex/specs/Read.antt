@@ -1,5 +1,6 @@
 -- What a call found at the front of the bytes that are left, and how far a source is read.
-use Rattle.std.specs.Prelude.{◌≡◌, ℕ, ◌<◌, ◌≤◌, Bool, true, List, [], ◌∷◌, ◌++◌, length, take, drop, Option, Some, None, Result, Ok, Err}
+use Rattle.std.specs.Prelude.{◌≡◌, ℕ, ◌<◌, ◌≤◌, Bool, true, List, [], ◌∷◌, ◌++◌, length, take, drop, Option, Some, None}
+use Rattle.std.specs.Prelude.{Result, Ok, Err}
 use Rattle.lra_tree.specs.declared.refusals.Place.{Place}
 use Rattle.lra_tree.specs.declared.refusals.Cause.{Cause}
 use Rattle.lra_tree.specs.declared.refusals.Cause.TheVariants.{BadByte, BadLiteral}
@@ -7,7 +8,8 @@ use Rattle.lra_tree.specs.declared.refusals.Refusal.{Refusal}
 use Rattle.lra_tree.specs.declared.tokens.Kind.{Kind}
 use Rattle.lra_tree.specs.declared.tokens.Token.{Token}
 use Rattle.lra_tree.specs.Lexeme.{is_number_word, IsLiteral, greatest_literal, Lexeme, SpellsToken}
-use Rattle.lra_tree.specs.Tokens.{IsGap, NoGap, IsLongest, IsFaulty, Piece, bytes_of, tokens_of, IsReading, place_behind}
+use Rattle.lra_tree.specs.Tokens.{IsGap, NoGap, IsLongest, IsFaulty, Piece, bytes_of, tokens_of, IsReading}
+use Rattle.lra_tree.specs.Tokens.{place_behind}
 use Rattle.lra_lex.specs.declared.lexer.LexError.{LexError}
 use Rattle.lra_lex.specs.declared.lexer.LexError.TheVariants.{Refused, Memory}
 use Rattle.lra_lex.specs.declared.lexer.Found.{Found}
@@ -32,7 +34,8 @@ pub record BeginsToken (rest : List ℕ) (n : ℕ) (k : Kind) : Type 0 where
 -- no token, or no number, can be read there, whatever gaps are
 abbrev pub HasFault : Cause → List ℕ → Type 0
 HasFault BadByte rest = (s after : List ℕ) → rest ≡ s ++ after → Lexeme s → ⊥
-HasFault BadLiteral rest = (s : List ℕ) × IsLongest s rest × (is_number_word s ≡ true) × ((n : ℕ) → IsLiteral s n → n ≤ greatest_literal → ⊥)
+HasFault BadLiteral rest = (s : List ℕ) × IsLongest s rest × (is_number_word s ≡ true) ×
+    ((n : ℕ) → IsLiteral s n → n ≤ greatest_literal → ⊥)
 HasFault cause rest = ⊥
 
 -- these bytes are a gap, or the token of this kind
@@ -44,7 +47,8 @@ IsFoundAs before (Some k) s after = NoGap before (s ++ after) × IsLongest s (s 
 pub record BeginsFound (fresh : Bool) (rest : List ℕ) (f : Found) : Type 0 where
   pub some : 0 < f.length
   pub within : f.length ≤ length rest
-  pub is_found : (before : List ℕ) → fresh ≡ fresh_behind true before → IsFoundAs before f.kind (take f.length rest) (drop f.length rest)
+  pub is_found : (before : List ℕ) → fresh ≡ fresh_behind true before →
+      IsFoundAs before f.kind (take f.length rest) (drop f.length rest)
 
 pub record FaultsAt (place : Place) (fresh : Bool) (rest : List ℕ) (r : Refusal) : Type 0 where
   pub at_place : r.place ≡ place

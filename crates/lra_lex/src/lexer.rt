@@ -1,6 +1,7 @@
 //! The tokens of a source, or its first fault.
 
-ghost use Rattle.std.specs.Prelude.{◌≡◌, ◌++◌, ◌+◌, ◌<◌, ◌^◌, false, length, slice_index, true, IfNone, IfOk, IfSome, OnOk};
+ghost use Rattle.std.specs.Prelude.{◌≡◌, ◌++◌, ◌+◌, ◌<◌, ◌^◌, false, length, slice_index, true, IfNone, IfOk, IfSome};
+ghost use Rattle.std.specs.Prelude.{OnOk};
 ghost use Rattle.lra_tree.specs.declared.refusals.Cause.TheVariants.{BadByte, BadLiteral};
 ghost use Rattle.lra_tree.specs.Lexeme.{is_digit, is_letter, is_word, is_word_byte, IsUnclosed, SpellsToken};
 ghost use Rattle.lra_tree.specs.Tokens.{IsTokenFault, Lex, OneReading};
@@ -196,7 +197,8 @@ fn keep(tokens: &mut Vec<Token>, kind: Option<Kind>, place: Place) -> Result<(),
     }
 }
 
-/// The tokens of the source, each the longest spelling at its place, and the end behind its last byte; or its first fault.
+/// The tokens of the source, each the longest spelling at its place, and the end behind its last byte; or its first
+/// fault.
 /// The time is linear in the source's length.
 pub fn tokens(alloc: Global, source: &[u8]) -> Result<Vec<Token>, LexError>
     requires { length source.now + 1 < 2 ^ 32 }

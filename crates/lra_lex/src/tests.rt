@@ -11,19 +11,29 @@ const CASES: [(&[u8], &str); 46] = [
     (b"", "End@1:1"),
     (
         b"+ - * / % = == != < <= > >= && || !",
-        "Plus@1:1 Minus@1:3 Star@1:5 Slash@1:7 Percent@1:9 Assign@1:11 Equal@1:13 Differs@1:16 Less@1:19 AtMost@1:21 Greater@1:24 AtLeast@1:26 And@1:29 Or@1:32 Not@1:35 End@1:36",
+        "Plus@1:1 Minus@1:3 Star@1:5 Slash@1:7 Percent@1:9 Assign@1:11 Equal@1:13 Differs@1:16 Less@1:19 AtMost@1:21 \
+            Greater@1:24 AtLeast@1:26 And@1:29 Or@1:32 Not@1:35 End@1:36",
     ),
     (
         b"++ -- += -= *= /= %= ( ) { } ; ,",
-        "Increment@1:1 Decrement@1:4 PlusAssign@1:7 MinusAssign@1:10 StarAssign@1:13 SlashAssign@1:16 PercentAssign@1:19 OpenParen@1:22 CloseParen@1:24 OpenBrace@1:26 CloseBrace@1:28 Semicolon@1:30 Comma@1:32 End@1:33",
+        "Increment@1:1 Decrement@1:4 PlusAssign@1:7 MinusAssign@1:10 StarAssign@1:13 SlashAssign@1:16 \
+            PercentAssign@1:19 OpenParen@1:22 CloseParen@1:24 OpenBrace@1:26 CloseBrace@1:28 Semicolon@1:30 Comma@1:32 \
+            End@1:33",
     ),
     (
         b"assert assume input break continue else extern for if int long return void while",
-        "Assert@1:1 Assume@1:8 Input@1:15 Break@1:21 Continue@1:27 Else@1:36 Extern@1:41 For@1:48 If@1:52 Int@1:55 Long@1:59 Return@1:64 Void@1:71 While@1:76 End@1:81",
+        "Assert@1:1 Assume@1:8 Input@1:15 Break@1:21 Continue@1:27 Else@1:36 Extern@1:41 For@1:48 If@1:52 Int@1:55 \
+            Long@1:59 Return@1:64 Void@1:71 While@1:76 End@1:81",
     ),
     (
-        b"auto case char const default do double enum float goto inline register restrict short signed sizeof static struct switch typedef union unsigned volatile _Alignas _Alignof _Atomic _Bool _Complex _Generic _Imaginary _Noreturn _Static_assert _Thread_local",
-        "Reserved@1:1 Reserved@1:6 Reserved@1:11 Reserved@1:16 Reserved@1:22 Reserved@1:30 Reserved@1:33 Reserved@1:40 Reserved@1:45 Reserved@1:51 Reserved@1:56 Reserved@1:63 Reserved@1:72 Reserved@1:81 Reserved@1:87 Reserved@1:94 Reserved@1:101 Reserved@1:108 Reserved@1:115 Reserved@1:122 Reserved@1:130 Reserved@1:136 Reserved@1:145 Reserved@1:154 Reserved@1:163 Reserved@1:172 Reserved@1:180 Reserved@1:186 Reserved@1:195 Reserved@1:204 Reserved@1:215 Reserved@1:225 Reserved@1:240 End@1:253",
+        b"auto case char const default do double enum float goto inline register restrict short signed sizeof static \
+            struct switch typedef union unsigned volatile _Alignas _Alignof _Atomic _Bool _Complex _Generic _Imaginary \
+            _Noreturn _Static_assert _Thread_local",
+        "Reserved@1:1 Reserved@1:6 Reserved@1:11 Reserved@1:16 Reserved@1:22 Reserved@1:30 Reserved@1:33 Reserved@1:40 \
+            Reserved@1:45 Reserved@1:51 Reserved@1:56 Reserved@1:63 Reserved@1:72 Reserved@1:81 Reserved@1:87 \
+            Reserved@1:94 Reserved@1:101 Reserved@1:108 Reserved@1:115 Reserved@1:122 Reserved@1:130 Reserved@1:136 \
+            Reserved@1:145 Reserved@1:154 Reserved@1:163 Reserved@1:172 Reserved@1:180 Reserved@1:186 Reserved@1:195 \
+            Reserved@1:204 Reserved@1:215 Reserved@1:225 Reserved@1:240 End@1:253",
     ),
     (
         b"x _y9 longer intx",

@@ -23,7 +23,12 @@ AreOrdered es = (i : ℕ) (e : Entry) → slice_get es i ≡ Some e → e.outer 
 
 -- the label that numbers of lists stand for
 abbrev pub label_in : List (List (List ℕ)) → Label → Labelled
-label_in lists l = record { place = l.place; called = l.called; live = list_at lists l.live; live_in_call = list_at lists l.live_in_call }
+label_in lists l = record {
+  place = l.place;
+  called = l.called;
+  live = list_at lists l.live;
+  live_in_call = list_at lists l.live_in_call;
+}
 
 -- each label's lists are there
 abbrev pub HaveLists : ℕ → List Label → Type 0

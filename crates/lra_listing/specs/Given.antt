@@ -1,5 +1,7 @@
--- What an analysis hands over: a state for each point and a verdict for each assertion. Points are numbered from 0 here.
-use Rattle.std.specs.Prelude.{◌≡◌, ◌<◌, ℕ, suc, Bool, false, List, [], length, Some, slice_get, slice_index_or, IsTrue, Contains}
+-- What an analysis hands over: a state for each point and a verdict for each assertion. Points are numbered from 0
+-- here.
+use Rattle.std.specs.Prelude.{◌≡◌, ◌<◌, ℕ, suc, Bool, false, List, [], length, Some, slice_get, slice_index_or, IsTrue}
+use Rattle.std.specs.Prelude.{Contains}
 use Rattle.std.specs.List.{AllByRecursion}
 use Rattle.lra_tree.specs.Report.{State, PointReport, Verdict}
 use Rattle.lra_tree.specs.Sites.{Site}
@@ -13,13 +15,15 @@ IsAssertion sites q = (s : Site) × (slice_get sites q ≡ Some s) × IsTrue s.a
 -- as many states as points, each part with a number for each variable that lives there
 pub record AreStates (sites : List Site) (states : List State) : Type 0 where
   pub as_many : length states ≡ length sites
-  pub wide : (q : ℕ) (s : Site) (state : State) → slice_get sites q ≡ Some s → slice_get states q ≡ Some state → AllByRecursion (HasWidth s.live) state
+  pub wide : (q : ℕ) (s : Site) (state : State) → slice_get sites q ≡ Some s → slice_get states q ≡ Some state →
+      AllByRecursion (HasWidth s.live) state
 
 -- one verdict for each assertion, in order: the number of its point, and whether it is proved
 pub record AreVerdicts (sites : List Site) (verdicts : List (ℕ × Bool)) : Type 0 where
   pub of_assertions : (q : ℕ) (proved : Bool) → Contains verdicts (q, proved) → IsAssertion sites q
   pub of_all : (q : ℕ) → IsAssertion sites q → (proved : Bool) × Contains verdicts (q, proved)
-  pub in_order : (i j : ℕ) (a b : ℕ × Bool) → i < j → slice_get verdicts i ≡ Some a → slice_get verdicts j ≡ Some b → a.0 < b.0
+  pub in_order : (i j : ℕ) (a b : ℕ × Bool) → i < j → slice_get verdicts i ≡ Some a → slice_get verdicts j ≡ Some b →
+      a.0 < b.0
 
 abbrev pub state_of : PointReport → State
 state_of p = p.state

@@ -1,5 +1,5 @@
-//! The labels of a source with the names that live there. Lists of names share their fronts, so that all of them together take no more
-//! room than the source has variables and labels.
+//! The labels of a source with the names that live there. Lists of names share their fronts, so that all of them
+//! together take no more room than the source has variables and labels.
 
 ghost use Rattle.std.specs.Prelude.{◌≡◌, ◌++◌, ◌∷◌, ◌<◌, ◌≤◌, [], length, IfOk, Option, MatchOption, map};
 ghost use Rattle.lra_tree.specs.Labels.{label_at};
@@ -66,7 +66,10 @@ impl Model for Labels {
 
     ghost Value = { Listed };
 
-    ghost view = { λ s. record { lists = lists_of s.entries.items; labels = map (label_in (lists_of s.entries.items)) s.labels.items } };
+    ghost view = { λ s. record {
+      lists = lists_of s.entries.items;
+      labels = map (label_in (lists_of s.entries.items)) s.labels.items;
+    } };
 
     ghost invariant = { λ s. AreOrdered s.entries.items × HaveLists (length s.entries.items + 1) s.labels.items };
 }
@@ -94,7 +97,8 @@ fn push_called(
     called: &Option<Identifier>,
     calls: &mut Vec<CallPlace>,
 ) -> Result<(), AllocError>
-    ensures { IfOk result (λ _. map call_place_of calls.new.items ≡ map call_place_of calls.old.items ++ call_at called.now) }
+    ensures { IfOk result (λ _. map call_place_of calls.new.items ≡
+        map call_place_of calls.old.items ++ call_at called.now) }
 {
     match called {
         None => Ok(()),
@@ -124,7 +128,8 @@ impl Labels {
     /// A list with the name of a newer variable behind those of this list, and its number.
     pub fn declare(&mut self, alloc: Global, outer: usize, name: &Word) -> Result<usize, AllocError>
         requires { outer < length self.old.lists }
-        ensures lists { IfOk result (λ _. self.new.lists ≡ self.old.lists ++ (list_at self.old.lists outer ++ name.now ∷ []) ∷ []) }
+        ensures lists { IfOk result (λ _. self.new.lists ≡
+            self.old.lists ++ (list_at self.old.lists outer ++ name.now ∷ []) ∷ []) }
         ensures labels { IfOk result (λ _. self.new.labels ≡ self.old.labels) }
         ensures number { IfOk result (λ number. number ≡ length self.old.lists) }
     {
@@ -144,7 +149,13 @@ impl Labels {
         requires live { live < length self.old.lists }
         requires live_in_call { live_in_call < length self.old.lists }
         ensures lists { IfOk result (λ _. self.new.lists ≡ self.old.lists) }
-        ensures labels { IfOk result (λ _. self.new.labels ≡ self.old.labels ++ record { place = place; called = called; live = list_at self.old.lists live; live_in_call = list_at self.old.lists live_in_call } ∷ []) }
+        ensures labels { IfOk result (λ _. self.new.labels ≡
+            self.old.labels ++ record {
+              place = place;
+              called = called;
+              live = list_at self.old.lists live;
+              live_in_call = list_at self.old.lists live_in_call;
+            } ∷ []) }
     {
         self.labels.push(Label {
             place,
@@ -157,7 +168,9 @@ impl Labels {
 
     /// The label of a number, from 1.
     fn get(&self, label: usize) -> Option<&Label>
-        ensures { MatchOption result (label_at self.now.labels label ≡ None) (λ l. (label_at self.now.labels label ≡ Some (label_in self.now.lists l.now)) × (l.now.live < length self.now.lists) × (l.now.live_in_call < length self.now.lists)) }
+        ensures { MatchOption result (label_at self.now.labels label ≡ None)
+            (λ l. (label_at self.now.labels label ≡ Some (label_in self.now.lists l.now)) ×
+            (l.now.live < length self.now.lists) × (l.now.live_in_call < length self.now.lists)) }
     {
         match label.checked_sub(1) {
             None => None,
@@ -210,7 +223,8 @@ impl Labels {
         label: usize,
         calls: &mut Vec<CallPlace>,
     ) -> Result<(), AllocError>
-        ensures { IfOk result (λ _. map call_place_of calls.new.items ≡ map call_place_of calls.old.items ++ called_at (label_at self.now.labels label)) }
+        ensures { IfOk result (λ _. map call_place_of calls.new.items ≡
+            map call_place_of calls.old.items ++ called_at (label_at self.now.labels label)) }
     {
         match self.get(label) {
             None => Ok(()),

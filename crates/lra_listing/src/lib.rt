@@ -1,4 +1,5 @@
-//! The report of a source: its points in order, with the paths, places and names that the source has there, and what an analysis found.
+//! The report of a source: its points in order, with the paths, places and names that the source has there, and what an
+//! analysis found.
 #![tactic(auto)]
 
 mod labels;

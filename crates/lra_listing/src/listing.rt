@@ -1,6 +1,7 @@
 //! The report of what an analysis found.
 
-ghost use Rattle.std.specs.Prelude.{◌≡◌, ◌++◌, ◌∷◌, ◌<◌, ◌^◌, [], ℕ, suc, Bool, length, map, Some, option_map, IfOk, string_bytes, List, All};
+ghost use Rattle.std.specs.Prelude.{◌≡◌, ◌++◌, ◌∷◌, ◌<◌, ◌^◌, [], ℕ, suc, Bool, length, map, Some, option_map, IfOk};
+ghost use Rattle.std.specs.Prelude.{string_bytes, List, All};
 ghost use Rattle.lra_tree.specs.GraphViews.{site_view};
 ghost use Rattle.lra_tree.specs.Trees.{PartTree};
 ghost use Rattle.lra_tree.specs.Views.{tree_view, part_view, global_view};
@@ -8,7 +9,8 @@ ghost use Rattle.lra_tree.specs.Resolve.{resolve};
 ghost use Rattle.lra_tree.specs.Sites.{sites_of};
 ghost use Rattle.lra_tree.specs.NameFaults.{global_names};
 ghost use Rattle.lra_tree.specs.ReportText.{shown_names, path_text};
-ghost use Rattle.lra_tree.specs.Listing.{globals_named, names_outside, calls_on, live_names, listed_point, listed_verdict, AreListed, Lists};
+ghost use Rattle.lra_tree.specs.Listing.{globals_named, names_outside, calls_on, live_names, listed_point};
+ghost use Rattle.lra_tree.specs.Listing.{listed_verdict, AreListed, Lists};
 ghost use Rattle.lra_report.specs.View.{call_place_of, point_report_of, verdict_of, report_of};
 ghost use Rattle.lra_listing.specs.Given.{AreStates, AreVerdicts, state_of, told_of, told, verdict_at};
 
@@ -40,7 +42,8 @@ fn push_calls(
     path: &[usize],
     calls: &mut Vec<CallPlace>,
 ) -> Result<(), AllocError>
-    ensures { IfOk result (λ _. map call_place_of calls.new.items ≡ map call_place_of calls.old.items ++ calls_on labels.now.labels path.now) }
+    ensures { IfOk result (λ _. map call_place_of calls.new.items ≡
+        map call_place_of calls.old.items ++ calls_on labels.now.labels path.now) }
 {
     match path.split_first() {
         None => Ok(()),
@@ -77,7 +80,8 @@ fn shown_live(
     globals: &Names,
     site: &Site,
 ) -> Result<Names, AllocError>
-    ensures { IfOk result (λ shown. shown ≡ shown_names (live_names globals.now labels.now.labels (site_view site.now))) }
+    ensures { IfOk result (λ shown. shown ≡ shown_names
+        (live_names globals.now labels.now.labels (site_view site.now))) }
 {
     let mut names = Names::new(alloc);
     push_each(globals, &mut names)?;
@@ -108,7 +112,8 @@ pub fn list_point(
     site: &Site,
     state: Vec<Part>,
 ) -> Result<PointReport, AllocError>
-    ensures { IfOk result (λ p. point_report_of p ≡ listed_point globals.now labels.now.labels number (site_view site.now) state.items) }
+    ensures { IfOk result (λ p. point_report_of p ≡ listed_point globals.now labels.now.labels number
+        (site_view site.now) state.items) }
 {
     Ok(PointReport {
         number,
@@ -151,7 +156,8 @@ fn push_variables(globals: &[Variable], names: &mut Names) -> Result<(), AllocEr
 
 /// Adds the names of the global variables of a part.
 fn push_globals(item: &Item, names: &mut Names) -> Result<(), AllocError>
-    ensures { IfOk result (λ _. (rest : List PartTree) → names.new ++ globals_named rest ≡ names.old ++ globals_named (part_view item.now ∷ rest)) }
+    ensures { IfOk result (λ _. (rest : List PartTree) →
+        names.new ++ globals_named rest ≡ names.old ++ globals_named (part_view item.now ∷ rest)) }
 {
     match item {
         Item::Prototype => Ok(()),
@@ -192,8 +198,10 @@ fn list_points(
 ) -> Result<Vec<PointReport>, AllocError>
     requires numbers { length sites.now < 2 ^ 32 }
     requires states { AreStates (map site_view sites.now) (map (λ x. x.items) states.items) }
-    ensures listed { IfOk result (λ points. AreListed globals.now labels.now.labels 1 (map site_view sites.now) (map point_report_of points.items)) }
-    ensures states { IfOk result (λ points. map state_of (map point_report_of points.items) ≡ map (λ x. x.items) states.items) }
+    ensures listed { IfOk result (λ points. AreListed globals.now labels.now.labels 1 (map site_view sites.now)
+        (map point_report_of points.items)) }
+    ensures states { IfOk result (λ points. map state_of (map point_report_of points.items) ≡
+        map (λ x. x.items) states.items) }
 {
     let mut points = Vec::new(alloc);
     'states: for state in states {
@@ -213,7 +221,8 @@ fn list_verdicts(
 ) -> Result<Vec<Verdict>, AllocError>
     requires numbers { length sites.now < 2 ^ 32 }
     requires there { All (λ v. v.0 < length sites.now) verdicts.now }
-    ensures { IfOk result (λ listed. map verdict_of listed.items ≡ map (verdict_at labels.now.labels (map site_view sites.now)) verdicts.now) }
+    ensures { IfOk result (λ listed. map verdict_of listed.items ≡
+        map (verdict_at labels.now.labels (map site_view sites.now)) verdicts.now) }
 {
     let mut listed = Vec::new(alloc);
     'verdicts: for verdict in verdicts {
@@ -224,8 +233,8 @@ fn list_verdicts(
     Ok(listed)
 }
 
-/// The report of what an analysis found in a source, whose points are numbered from 0 here: the state at each point, the verdicts in
-/// order, each with the number of its assertion and whether it was proved, and the first flagged point.
+/// The report of what an analysis found in a source, whose points are numbered from 0 here: the state at each point,
+/// the verdicts in order, each with the number of its assertion and whether it was proved, and the first flagged point.
 pub fn list(
     alloc: Global,
     tree: &Tree,

@@ -129,7 +129,8 @@ fn site(path: Path, label: usize, live: usize, asserts: bool) -> Site {
     }
 }
 
-/// Its points: those of `main`, and those of `f` behind its call. At the second the two variables `x` are equal; no run comes to another.
+/// Its points: those of `main`, and those of `f` behind its call. At the second the two variables `x` are equal; no run
+/// comes to another.
 fn points(alloc: Global, labels: &Labels, globals: &Names) -> Result<Vec<PointReport>, AllocError> {
     let first = site(Path::empty(alloc), 3, 1, false);
     let second = site(Path::empty(alloc).with_call(alloc, 3)?, 1, 3, false);
@@ -181,7 +182,10 @@ fn a_call_and_an_assertion(rt: HostRuntime) -> Result<(), Fail> {
     };
     assert_eq!(rt;
         text(alloc, &report)?.as_str(),
-        "analysis box parts 1 delay 1 narrow 1 limited no\nflagged at point 2\npoint 1 main 3:23\n  unreachable\npoint 2 main/f@3:27 2:18\n  row x~1 - x = 0\npoint 3 main/f@3:27 2:28\n  unreachable\npoint 4 main 3:33\n  unreachable\npoint 5 main 3:49\n  unreachable\nassert 4 main 3:33 proved\nverdicts proved 1 unknown 0\n"
+        "analysis box parts 1 delay 1 narrow 1 limited no\nflagged at point 2\npoint 1 main 3:23\n  unreachable\n\
+            point 2 main/f@3:27 2:18\n  row x~1 - x = 0\npoint 3 main/f@3:27 2:28\n  unreachable\n\
+            point 4 main 3:33\n  unreachable\npoint 5 main 3:49\n  unreachable\nassert 4 main 3:33 proved\n\
+            verdicts proved 1 unknown 0\n"
     );
     Ok(())
 }

@@ -2,9 +2,12 @@
 
 ghost use Rattle.std.specs.Prelude.{◌≡◌, ◌∷◌, ◌++◌, ◌<◌, [], List, ℕ, length, map, option_map, IfOk, Option};
 ghost use Rattle.lra_tree.specs.Trees.{ItemsTree, PartTree};
-ghost use Rattle.lra_tree.specs.Views.{source_view, assign_view, declarator_view, declaration_view, init_view, item_view, stmt_view, block_view, part_view, function_view, tree_view};
+ghost use Rattle.lra_tree.specs.Views.{source_view, assign_view, declarator_view, declaration_view, init_view};
+ghost use Rattle.lra_tree.specs.Views.{item_view, stmt_view, block_view, part_view, function_view, tree_view};
 ghost use Rattle.lra_tree.specs.Scope.{functions_in};
-ghost use Rattle.lra_tree.specs.Labels.{plain_label, called_in, called_of, with_names, live_in_for, assign_label, function_labels, declarator_labels, init_labels, step_labels, stmt_labels, items_labels, labels_of};
+ghost use Rattle.lra_tree.specs.Labels.{plain_label, called_in, called_of, with_names, live_in_for, assign_label};
+ghost use Rattle.lra_tree.specs.Labels.{function_labels, declarator_labels, init_labels, step_labels, stmt_labels};
+ghost use Rattle.lra_tree.specs.Labels.{items_labels, labels_of};
 ghost use Rattle.lra_listing.specs.Environments.{list_at, Keep};
 ghost use Rattle.lra_listing.specs.Walked.{labels_of_functions, for_front};
 
@@ -32,7 +35,9 @@ fn walk_part(alloc: Global, item: &Item, labels: &mut Labels) -> Result<(), Allo
     requires first { list_at labels.old.lists 0 ≡ [] }
     requires some { 0 < length labels.old.lists }
     ensures keep { IfOk result (λ _. Keep labels.old.lists labels.new.lists) }
-    ensures labels { IfOk result (λ _. (rest : List PartTree) → labels.new.labels ++ labels_of_functions (functions_in rest) ≡ labels.old.labels ++ labels_of_functions (functions_in (part_view item.now ∷ rest))) }
+    ensures labels { IfOk result (λ _. (rest : List PartTree) →
+        labels.new.labels ++ labels_of_functions (functions_in rest) ≡
+        labels.old.labels ++ labels_of_functions (functions_in (part_view item.now ∷ rest))) }
 {
     match item {
         Item::Prototype => Ok(()),
@@ -46,7 +51,8 @@ fn walk_function(alloc: Global, function: &Function, labels: &mut Labels) -> Res
     requires first { list_at labels.old.lists 0 ≡ [] }
     requires some { 0 < length labels.old.lists }
     ensures keep { IfOk result (λ _. Keep labels.old.lists labels.new.lists) }
-    ensures labels { IfOk result (λ _. labels.new.labels ≡ labels.old.labels ++ function_labels (function_view function.now)) }
+    ensures labels { IfOk result (λ _. labels.new.labels ≡
+        labels.old.labels ++ function_labels (function_view function.now)) }
 {
     let live = declare_parameters(alloc, &function.parameters.items, labels)?;
     walk_block(alloc, &function.body, live, labels)
@@ -96,7 +102,8 @@ fn called_by_given(alloc: Global, source: &Option<Source>) -> Result<Option<Iden
 fn add_plain(labels: &mut Labels, place: Place, live: usize) -> Result<(), AllocError>
     requires { live < length labels.old.lists }
     ensures lists { IfOk result (λ _. labels.new.lists ≡ labels.old.lists) }
-    ensures labels { IfOk result (λ _. labels.new.labels ≡ labels.old.labels ++ plain_label place (list_at labels.old.lists live) ∷ []) }
+    ensures labels { IfOk result (λ _. labels.new.labels ≡
+        labels.old.labels ++ plain_label place (list_at labels.old.lists live) ∷ []) }
 {
     labels.add(place, None, live, live)
 }
@@ -109,7 +116,8 @@ fn walk_assign(
 ) -> Result<(), AllocError>
     requires { live < length labels.old.lists }
     ensures lists { IfOk result (λ _. labels.new.lists ≡ labels.old.lists) }
-    ensures labels { IfOk result (λ _. labels.new.labels ≡ labels.old.labels ++ assign_label (list_at labels.old.lists live) (assign_view assign.now) ∷ []) }
+    ensures labels { IfOk result (λ _. labels.new.labels ≡
+        labels.old.labels ++ assign_label (list_at labels.old.lists live) (assign_view assign.now) ∷ []) }
 {
     match assign {
         Assign::Set(x, source) => {
@@ -132,9 +140,11 @@ fn walk_declarator(
 ) -> Result<usize, AllocError>
     requires { live < length labels.old.lists }
     ensures keep { IfOk result (λ _. Keep labels.old.lists labels.new.lists) }
-    ensures labels { IfOk result (λ _. labels.new.labels ≡ labels.old.labels ++ declarator_labels (list_at labels.old.lists live) (declarator_view declarator.now ∷ [])) }
+    ensures labels { IfOk result (λ _. labels.new.labels ≡
+        labels.old.labels ++ declarator_labels (list_at labels.old.lists live) (declarator_view declarator.now ∷ [])) }
     ensures there { IfOk result (λ more. more < length labels.new.lists) }
-    ensures names { IfOk result (λ more. list_at labels.new.lists more ≡ list_at labels.old.lists live ++ declarator.now.name.word ∷ []) }
+    ensures names { IfOk result (λ more. list_at labels.new.lists more ≡
+        list_at labels.old.lists live ++ declarator.now.name.word ∷ []) }
 {
     let called = called_by_given(alloc, &declarator.source)?;
     let more = labels.declare(alloc, live, &declarator.name.word)?;
@@ -152,9 +162,11 @@ fn walk_declarators(
 ) -> Result<usize, AllocError>
     requires { live < length labels.old.lists }
     ensures keep { IfOk result (λ _. Keep labels.old.lists labels.new.lists) }
-    ensures labels { IfOk result (λ _. labels.new.labels ≡ labels.old.labels ++ declarator_labels (list_at labels.old.lists live) (map declarator_view declarators.now)) }
+    ensures labels { IfOk result (λ _. labels.new.labels ≡
+        labels.old.labels ++ declarator_labels (list_at labels.old.lists live) (map declarator_view declarators.now)) }
     ensures there { IfOk result (λ more. more < length labels.new.lists) }
-    ensures names { IfOk result (λ more. list_at labels.new.lists more ≡ with_names (list_at labels.old.lists live) (map declarator_view declarators.now)) }
+    ensures names { IfOk result (λ more. list_at labels.new.lists more ≡
+        with_names (list_at labels.old.lists live) (map declarator_view declarators.now)) }
 {
     let mut live = live;
     'declarators: for declarator in declarators {
@@ -173,9 +185,13 @@ fn walk_declaration(
 ) -> Result<usize, AllocError>
     requires { live < length labels.old.lists }
     ensures keep { IfOk result (λ _. Keep labels.old.lists labels.new.lists) }
-    ensures labels { IfOk result (λ _. labels.new.labels ≡ labels.old.labels ++ declarator_labels (list_at labels.old.lists live) ((declaration_view declaration.now).first ∷ (declaration_view declaration.now).rest)) }
+    ensures labels { IfOk result (λ _. labels.new.labels ≡
+        labels.old.labels ++ declarator_labels (list_at labels.old.lists live)
+        ((declaration_view declaration.now).first ∷ (declaration_view declaration.now).rest)) }
     ensures there { IfOk result (λ more. more < length labels.new.lists) }
-    ensures names { IfOk result (λ more. list_at labels.new.lists more ≡ with_names (list_at labels.old.lists live) ((declaration_view declaration.now).first ∷ (declaration_view declaration.now).rest)) }
+    ensures names { IfOk result (λ more. list_at labels.new.lists more ≡
+        with_names (list_at labels.old.lists live) ((declaration_view declaration.now).first ∷
+        (declaration_view declaration.now).rest)) }
 {
     let live = walk_declarator(alloc, &declaration.first, live, labels)?;
     walk_declarators(alloc, &declaration.rest, live, labels)
@@ -193,7 +209,8 @@ fn declare_init(
     ensures keep { IfOk result (λ _. Keep labels.old.lists labels.new.lists) }
     ensures labels { IfOk result (λ _. labels.new.labels ≡ labels.old.labels) }
     ensures there { IfOk result (λ inside. inside < length labels.new.lists) }
-    ensures names { IfOk result (λ inside. list_at labels.new.lists inside ≡ live_in_for (list_at labels.old.lists live) (init_view init.now)) }
+    ensures names { IfOk result (λ inside. list_at labels.new.lists inside ≡
+        live_in_for (list_at labels.old.lists live) (init_view init.now)) }
 {
     match init {
         Init::Nothing => Ok(live),
@@ -217,7 +234,8 @@ fn declare_each(
     ensures keep { IfOk result (λ _. Keep labels.old.lists labels.new.lists) }
     ensures labels { IfOk result (λ _. labels.new.labels ≡ labels.old.labels) }
     ensures there { IfOk result (λ more. more < length labels.new.lists) }
-    ensures names { IfOk result (λ more. list_at labels.new.lists more ≡ with_names (list_at labels.old.lists live) (map declarator_view declarators.now)) }
+    ensures names { IfOk result (λ more. list_at labels.new.lists more ≡
+        with_names (list_at labels.old.lists live) (map declarator_view declarators.now)) }
 {
     let mut live = live;
     'declarators: for declarator in declarators {
@@ -230,7 +248,8 @@ fn declare_each(
 fn walk_init(alloc: Global, init: &Init, live: usize, labels: &mut Labels) -> Result<(), AllocError>
     requires { live < length labels.old.lists }
     ensures keep { IfOk result (λ _. Keep labels.old.lists labels.new.lists) }
-    ensures labels { IfOk result (λ _. labels.new.labels ≡ labels.old.labels ++ init_labels (list_at labels.old.lists live) (init_view init.now)) }
+    ensures labels { IfOk result (λ _. labels.new.labels ≡
+        labels.old.labels ++ init_labels (list_at labels.old.lists live) (init_view init.now)) }
 {
     match init {
         Init::Nothing => Ok(()),
@@ -250,7 +269,8 @@ fn walk_step(
 ) -> Result<(), AllocError>
     requires { live < length labels.old.lists }
     ensures lists { IfOk result (λ _. labels.new.lists ≡ labels.old.lists) }
-    ensures labels { IfOk result (λ _. labels.new.labels ≡ labels.old.labels ++ step_labels (list_at labels.old.lists live) (option_map assign_view step.now)) }
+    ensures labels { IfOk result (λ _. labels.new.labels ≡
+        labels.old.labels ++ step_labels (list_at labels.old.lists live) (option_map assign_view step.now)) }
 {
     match step {
         None => Ok(()),
@@ -258,8 +278,8 @@ fn walk_step(
     }
 }
 
-/// What stands before a `for`'s body: its own label, though it lives behind what the `for` declares, how it begins, and its step. Gives
-/// the list of what lives in it.
+/// What stands before a `for`'s body: its own label, though it lives behind what the `for` declares, how it begins, and
+/// its step. Gives the list of what lives in it.
 #[tactic(auto, using(crate::proofs::Lists::keep_both, crate::proofs::Walks::keep_equal, crate::proofs::Walks::keep_one_more, crate::proofs::Walks::declared_there, crate::proofs::Walks::declared_names))]
 fn walk_for_front(
     alloc: Global,
@@ -271,9 +291,12 @@ fn walk_for_front(
 ) -> Result<usize, AllocError>
     requires { live < length labels.old.lists }
     ensures keep { IfOk result (λ _. Keep labels.old.lists labels.new.lists) }
-    ensures labels { IfOk result (λ _. labels.new.labels ≡ labels.old.labels ++ for_front place (list_at labels.old.lists live) (init_view init.now) (option_map assign_view step.now)) }
+    ensures labels { IfOk result (λ _. labels.new.labels ≡
+        labels.old.labels ++ for_front place (list_at labels.old.lists live) (init_view init.now)
+        (option_map assign_view step.now)) }
     ensures there { IfOk result (λ inside. inside < length labels.new.lists) }
-    ensures names { IfOk result (λ inside. list_at labels.new.lists inside ≡ live_in_for (list_at labels.old.lists live) (init_view init.now)) }
+    ensures names { IfOk result (λ inside. list_at labels.new.lists inside ≡
+        live_in_for (list_at labels.old.lists live) (init_view init.now)) }
 {
     let inside = declare_init(alloc, init, live, labels)?;
     add_plain(labels, place, inside)?;
@@ -287,7 +310,8 @@ fn walk_for_front(
 fn walk_stmt(alloc: Global, stmt: &Stmt, live: usize, labels: &mut Labels) -> Result<(), AllocError>
     requires { live < length labels.old.lists }
     ensures keep { IfOk result (λ _. Keep labels.old.lists labels.new.lists) }
-    ensures labels { IfOk result (λ _. labels.new.labels ≡ labels.old.labels ++ stmt_labels (list_at labels.old.lists live) (stmt_view stmt.now)) }
+    ensures labels { IfOk result (λ _. labels.new.labels ≡
+        labels.old.labels ++ stmt_labels (list_at labels.old.lists live) (stmt_view stmt.now)) }
 {
     match stmt {
         Stmt::Block(block) => walk_block(alloc, block, live, labels),
@@ -337,7 +361,9 @@ fn walk_item(
     requires { live < length labels.old.lists }
     ensures keep { IfOk result (λ _. Keep labels.old.lists labels.new.lists) }
     ensures there { IfOk result (λ more. more < length labels.new.lists) }
-    ensures labels { IfOk result (λ more. (rest : ItemsTree) (end : Place) → labels.new.labels ++ items_labels (list_at labels.new.lists more) rest end ≡ labels.old.labels ++ items_labels (list_at labels.old.lists live) (item_view item.now rest) end) }
+    ensures labels { IfOk result (λ more. (rest : ItemsTree) (end : Place) →
+        labels.new.labels ++ items_labels (list_at labels.new.lists more) rest end ≡
+        labels.old.labels ++ items_labels (list_at labels.old.lists live) (item_view item.now rest) end) }
 {
     match item {
         BlockItem::Declaration(declaration) => walk_declaration(alloc, declaration, live, labels),
@@ -358,7 +384,9 @@ fn walk_block(
 ) -> Result<(), AllocError>
     requires { live < length labels.old.lists }
     ensures keep { IfOk result (λ _. Keep labels.old.lists labels.new.lists) }
-    ensures labels { IfOk result (λ _. labels.new.labels ≡ labels.old.labels ++ items_labels (list_at labels.old.lists live) (block_view block.now).0 (block_view block.now).1) }
+    ensures labels { IfOk result (λ _. labels.new.labels ≡
+        labels.old.labels ++ items_labels (list_at labels.old.lists live) (block_view block.now).0
+        (block_view block.now).1) }
 {
     let mut live = live;
     'items: for item in &block.items {

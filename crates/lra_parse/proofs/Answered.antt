@@ -1,5 +1,6 @@
 -- From the reader of a file to the tree, and to the first fault.
-use Rattle.std.proofs.Common.{◌≡◌, ◌≢◌, suc, ◌+◌, ◌-◌, ◌≤◌, ◌<◌, List, [], ◌∷◌, ◌++◌, length, inl, inr, Option, Some, None, Ok, Err, refl, sym, ap, subst, ◌∙◌, append_assoc, length-append, get_or, arith}
+use Rattle.std.proofs.Common.{◌≡◌, ◌≢◌, suc, ◌+◌, ◌-◌, ◌≤◌, ◌<◌, List, [], ◌∷◌, ◌++◌, length, inl, inr, Option, Some, None, Ok, Err, refl, sym, ap, subst, ◌∙◌, append_assoc, length-append, get_or}
+use Rattle.std.proofs.Common.{arith}
 use Rattle.std.specs.List.{AllByRecursion}
 use Rattle.std.proofs.lemmas.List.{append-nil, get_or_at}
 use Rattle.lra_tree.specs.declared.refusals.Place.{Place}
@@ -35,7 +36,8 @@ nothing_behind (y ∷ Y) (f ∷ F) e l R h k all = nothing_behind Y F e l R (cc)
 all_read : (T R : Text) (t : FileTree) (x : Pieces) → EndsOnce T → T ≡ plain x ++ R → Spells t x → R ≡ []
 all_read T R t x ends e (y, z, f, parts, last) =
     let whole : plain x ++ R ≡ plain y ++ record { kind = End; place = t.end } ∷ R =
-    ap (λ (w : Pieces). plain w ++ R) (f ∙ ap (λ (v : Pieces). y ++ v) last) ∙ ap (λ (w : Text). w ++ R) (plain-append y ((record { kind = End; place = t.end }, 0) ∷ [])) ∙ append_assoc (plain y) (record { kind = End; place = t.end } ∷ []) R in
+    ap (λ (w : Pieces). plain w ++ R) (f ∙ ap (λ (v : Pieces). y ++ v) last) ∙ ap (λ (w : Text). w ++ R) (plain-append y ((record { kind = End; place = t.end }, 0) ∷ [])) ∙
+    append_assoc (plain y) (record { kind = End; place = t.end } ∷ []) R in
     nothing_behind (plain y) ends.front (record { kind = End; place = t.end }) ends.last R (sym whole ∙ sym e ∙ ends.parts) refl ends.no_other
 
 pub tree_found : (T R : Text) (t : FileTree) → EndsOnce T → file_at 63 T ≡ Ok (t, R) → IsTree Spells T t

@@ -26,9 +26,12 @@ named_at word column = record { word = word; place = in_line column }
 
 -- int main(void){ f(1,x); x=g(); return f(2,x); }
 abbrev called : Text
-called = main_head (word_at (codes "f") 17 ∷ mark_token mark.OpenParen 18 ∷ token_at (Number 1) 19 ∷ mark_token mark.Comma 20 ∷ word_at (codes "x") 21 ∷ mark_token mark.CloseParen 22 ∷ mark_token mark.Semicolon 23
-    ∷ word_at (codes "x") 25 ∷ mark_token mark.Assign 26 ∷ word_at (codes "g") 27 ∷ mark_token mark.OpenParen 28 ∷ mark_token mark.CloseParen 29 ∷ mark_token mark.Semicolon 30 ∷ mark_token mark.Return 32 ∷ word_at (codes "f") 39
-    ∷ mark_token mark.OpenParen 40 ∷ token_at (Number 2) 41 ∷ mark_token mark.Comma 42 ∷ word_at (codes "x") 43 ∷ mark_token mark.CloseParen 44 ∷ mark_token mark.Semicolon 45 ∷ mark_token mark.CloseBrace 47 ∷ [])
+called = main_head (word_at (codes "f") 17 ∷ mark_token mark.OpenParen 18 ∷ token_at (Number 1) 19 ∷ mark_token mark.Comma 20 ∷ word_at (codes "x") 21 ∷ mark_token mark.CloseParen 22 ∷
+    mark_token mark.Semicolon 23
+    ∷ word_at (codes "x") 25 ∷ mark_token mark.Assign 26 ∷ word_at (codes "g") 27 ∷ mark_token mark.OpenParen 28 ∷ mark_token mark.CloseParen 29 ∷ mark_token mark.Semicolon 30 ∷
+    mark_token mark.Return 32 ∷ word_at (codes "f") 39
+    ∷ mark_token mark.OpenParen 40 ∷ token_at (Number 2) 41 ∷ mark_token mark.Comma 42 ∷ word_at (codes "x") 43 ∷ mark_token mark.CloseParen 44 ∷ mark_token mark.Semicolon 45 ∷
+    mark_token mark.CloseBrace 47 ∷ [])
 
 abbrev called_tree : FileTree
 called_tree = main_of (statement (call (record { name = named_at (codes "f") 17; arguments = number 1 ∷ term (unary (variable (named_at (codes "x") 21))) ∷ [] }))
@@ -46,7 +49,8 @@ called_found = tree_found (ended_at called 48) [] called_tree (ends called 48 re
 
 -- int main(void){ x=f(y)+1; }: a call is no part of an expression
 abbrev summed : Text
-summed = main_head (word_at (codes "x") 17 ∷ mark_token mark.Assign 18 ∷ word_at (codes "f") 19 ∷ mark_token mark.OpenParen 20 ∷ word_at (codes "y") 21 ∷ mark_token mark.CloseParen 22 ∷ mark_token mark.Plus 23 ∷ token_at (Number 1) 24
+summed = main_head (word_at (codes "x") 17 ∷ mark_token mark.Assign 18 ∷ word_at (codes "f") 19 ∷ mark_token mark.OpenParen 20 ∷ word_at (codes "y") 21 ∷ mark_token mark.CloseParen 22 ∷
+    mark_token mark.Plus 23 ∷ token_at (Number 1) 24
     ∷ mark_token mark.Semicolon 25 ∷ mark_token mark.CloseBrace 27 ∷ [])
 
 summed_stops : file_at 63 (ended_at summed 28) ≡ Err (record { cause = Syntax; left = 5 })
@@ -58,7 +62,8 @@ call_in_sum = text_fault (ended_at summed 28) (record { cause = Syntax; left = 5
 
 -- int main(void){ x=y+f(1); }: nor behind an operator
 abbrev added : Text
-added = main_head (word_at (codes "x") 17 ∷ mark_token mark.Assign 18 ∷ word_at (codes "y") 19 ∷ mark_token mark.Plus 20 ∷ word_at (codes "f") 21 ∷ mark_token mark.OpenParen 22 ∷ token_at (Number 1) 23 ∷ mark_token mark.CloseParen 24
+added = main_head (word_at (codes "x") 17 ∷ mark_token mark.Assign 18 ∷ word_at (codes "y") 19 ∷ mark_token mark.Plus 20 ∷ word_at (codes "f") 21 ∷ mark_token mark.OpenParen 22 ∷
+    token_at (Number 1) 23 ∷ mark_token mark.CloseParen 24
     ∷ mark_token mark.Semicolon 25 ∷ mark_token mark.CloseBrace 27 ∷ [])
 
 added_stops : file_at 63 (ended_at added 28) ≡ Err (record { cause = Syntax; left = 6 })
@@ -70,7 +75,8 @@ call_behind_sum = text_fault (ended_at added 28) (record { cause = Syntax; left 
 
 -- int main(void){ x+=f(1); }: what `+=` adds is an expression
 abbrev updated : Text
-updated = main_head (word_at (codes "x") 17 ∷ mark_token mark.PlusAssign 18 ∷ word_at (codes "f") 20 ∷ mark_token mark.OpenParen 21 ∷ token_at (Number 1) 22 ∷ mark_token mark.CloseParen 23 ∷ mark_token mark.Semicolon 24 ∷ mark_token mark.CloseBrace 26 ∷ [])
+updated = main_head (word_at (codes "x") 17 ∷ mark_token mark.PlusAssign 18 ∷ word_at (codes "f") 20 ∷ mark_token mark.OpenParen 21 ∷ token_at (Number 1) 22 ∷ mark_token mark.CloseParen 23 ∷
+    mark_token mark.Semicolon 24 ∷ mark_token mark.CloseBrace 26 ∷ [])
 
 updated_stops : file_at 63 (ended_at updated 27) ≡ Err (record { cause = Syntax; left = 6 })
 unfolding loop unary_at tests levels
@@ -81,7 +87,8 @@ call_in_update = text_fault (ended_at updated 27) (record { cause = Syntax; left
 
 -- int main(void){ f(1,); }: a comma asks for another argument
 abbrev trailing : Text
-trailing = main_head (word_at (codes "f") 17 ∷ mark_token mark.OpenParen 18 ∷ token_at (Number 1) 19 ∷ mark_token mark.Comma 20 ∷ mark_token mark.CloseParen 21 ∷ mark_token mark.Semicolon 22 ∷ mark_token mark.CloseBrace 24 ∷ [])
+trailing = main_head (word_at (codes "f") 17 ∷ mark_token mark.OpenParen 18 ∷ token_at (Number 1) 19 ∷ mark_token mark.Comma 20 ∷ mark_token mark.CloseParen 21 ∷ mark_token mark.Semicolon 22 ∷
+    mark_token mark.CloseBrace 24 ∷ [])
 
 trailing_stops : file_at 63 (ended_at trailing 25) ≡ Err (record { cause = Syntax; left = 4 })
 unfolding loop unary_at tests levels
@@ -92,7 +99,8 @@ missing_argument = text_fault (ended_at trailing 25) (record { cause = Syntax; l
 
 -- int main(void){ f(g(1)); }: an argument is an expression, and no call
 abbrev inner_call : Text
-inner_call = main_head (word_at (codes "f") 17 ∷ mark_token mark.OpenParen 18 ∷ word_at (codes "g") 19 ∷ mark_token mark.OpenParen 20 ∷ token_at (Number 1) 21 ∷ mark_token mark.CloseParen 22 ∷ mark_token mark.CloseParen 23 ∷ mark_token mark.Semicolon 24
+inner_call = main_head (word_at (codes "f") 17 ∷ mark_token mark.OpenParen 18 ∷ word_at (codes "g") 19 ∷ mark_token mark.OpenParen 20 ∷ token_at (Number 1) 21 ∷ mark_token mark.CloseParen 22 ∷
+    mark_token mark.CloseParen 23 ∷ mark_token mark.Semicolon 24
     ∷ mark_token mark.CloseBrace 26 ∷ [])
 
 inner_call_stops : file_at 63 (ended_at inner_call 27) ≡ Err (record { cause = Syntax; left = 7 })

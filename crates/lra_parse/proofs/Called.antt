@@ -12,12 +12,14 @@ module _ {A : Type 0} (p : Parse A) where
   -- these items were read from S, and the loop goes on at T
   abbrev pub ManyLeft : List A → Text → Text → Type 0
   ManyLeft all T S =
-      (a : A) × (is : List A) × (all ≡ a ∷ is) × (M : Text) × (p S ≡ Ok (a, M)) × Left (is_mark mark.Comma) (list_step (behind mark.Comma p)) is T (list_of (is_mark mark.Comma) (behind mark.Comma p) M)
+      (a : A) × (is : List A) × (all ≡ a ∷ is) × (M : Text) × (p S ≡ Ok (a, M)) × Left (is_mark mark.Comma) (list_step (behind mark.Comma p)) is T
+      (list_of (is_mark mark.Comma) (behind mark.Comma p) M)
 
   pub many_start : (all : List A) (a : A) (S M : Text) → all ≡ a ∷ [] → p S ≡ Ok (a, M) → ManyLeft all M S
   many_start all a S M e g = (a, [], e, M, g, (length M, omega arith, refl))
 
-  pub many_turn : (all bs : List A) (i : A) (S T U R : Text) → bs ≡ all ++ i ∷ [] → ManyLeft all T S → true ≡ is_mark mark.Comma (first T) → U ≡ tail T → p U ≡ Ok (i, R) → length R ≤ length U → ManyLeft bs R S
+  pub many_turn : (all bs : List A) (i : A) (S T U R : Text) → bs ≡ all ++ i ∷ [] → ManyLeft all T S → true ≡ is_mark mark.Comma (first T) → U ≡ tail T → p U ≡ Ok (i, R) → length R ≤ length U →
+      ManyLeft bs R S
   many_turn all bs i S T U R e (a, is, f, M, g, l) on u k less =
       (a, is ++ i ∷ [], e ∙ ap (λ (s : List A). s ++ i ∷ []) f, M, g, comma_turn mark.Comma p is (is ++ i ∷ []) i T U R (list_of (is_mark mark.Comma) (behind mark.Comma p) M) refl l on u k less)
 
@@ -27,4 +29,5 @@ module _ {A : Type 0} (p : Parse A) where
 
   pub many_gives : (all : List A) (S T : Text) → ManyLeft all T S → false ≡ is_mark mark.Comma (first T) → map_read listed (commas p) S ≡ Ok (all, T)
   many_gives all S T (a, is, f, M, g, l) off =
-      commas_gives p listed a is S M T g (turn_off (is_mark mark.Comma) (list_step (behind mark.Comma p)) is T (list_of (is_mark mark.Comma) (behind mark.Comma p) M) l (sym off)) ∙ ap (λ (s : List A). Ok (s, T)) (sym f)
+      commas_gives p listed a is S M T g (turn_off (is_mark mark.Comma) (list_step (behind mark.Comma p)) is T (list_of (is_mark mark.Comma) (behind mark.Comma p) M) l (sym off)) ∙
+      ap (λ (s : List A). Ok (s, T)) (sym f)

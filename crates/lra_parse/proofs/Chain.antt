@@ -55,7 +55,8 @@ module _ {I A O : Type 0} (mark_of : O → Mark) (start : I → A) (grow : A →
     no_steps b a y (turn {a = _} {c = c} {x = u} {y = v} (k, (q, r, e, m, (i, g, s))) t) j = absurd (steps_not b c v (λ j. grown a k i (subst P (sym g) j)) t j)
 
   -- the first token of steps, or of what comes behind none
-  pub first_of_steps : (b a : A) (y : Pieces) (o : Option Token) (P : Option Token → Type 0) → Steps Step_to b a y → ((k : O) (at : Place) → P (Some (record { kind = MarkOf (mark_of k); place = at })))
+  pub first_of_steps : (b a : A) (y : Pieces) (o : Option Token) (P : Option Token → Type 0) → Steps Step_to b a y →
+      ((k : O) (at : Place) → P (Some (record { kind = MarkOf (mark_of k); place = at })))
       → (y ≡ [] → b ≡ a → P o) → P (first_or y o)
   first_of_steps b a y o P none marks f = f refl refl
   first_of_steps b a y o P (turn {a = _} {c = c} {x = u} {y = v} (k, (q, r, e, m, g)) t) marks f =
@@ -82,7 +83,8 @@ pub record IsOperator {O : Type 0} (n : ℕ) (op : Option Token → Option O) (m
   pub at_end : op None ≡ None
   pub self : (k : O) (at : Place) → op (Some (record { kind = MarkOf (mark_of k); place = at })) ≡ Some k
 
-module _ {n : ℕ} {I A O : Type 0} {op : Option Token → Option O} {mark_of : O → Mark} (OP : IsOperator n op mark_of) {start : I → A} {grow : A → O → I → A} {FI : I → Option Token → Type 0} {FA : A → Option Token → Type 0}
+module _ {n : ℕ} {I A O : Type 0} {op : Option Token → Option O} {mark_of : O → Mark}
+    (OP : IsOperator n op mark_of) {start : I → A} {grow : A → O → I → A} {FI : I → Option Token → Type 0} {FA : A → Option Token → Type 0}
     (F : IsFollow op start grow FI FA) where
   step_begins : (IsItem : I → Pieces → Type 0) (a c : A) (x : Pieces) → Step_to mark_of start grow IsItem a c x → has (op (first_or x None)) ≡ true
   step_begins IsItem a c x (k, (u, v, e, m, g)) = rw (e, m.1) (rw (OP.self k m.0) refl)
@@ -92,7 +94,8 @@ module _ {n : ℕ} {I A O : Type 0} {op : Option Token → Option O} {mark_of : 
   long_step IsItem a c (k ∷ x) z o s = step_begins IsItem a c (k ∷ x) s
 
   -- what follows an item in a chain may follow it
-  pub steps_first : (IsItem : I → Pieces → Type 0) (a b : A) (y : Pieces) (o : Option Token) → Steps (Step_to mark_of start grow IsItem) b a y → (y ≡ [] → FA b o × (has (op o) ≡ false)) → FA a (first_or y o)
+  pub steps_first : (IsItem : I → Pieces → Type 0) (a b : A) (y : Pieces) (o : Option Token) → Steps (Step_to mark_of start grow IsItem) b a y → (y ≡ [] → FA b o × (has (op o) ≡ false)) →
+      FA a (first_or y o)
   steps_first IsItem a b y o none f = (f refl).0
   steps_first IsItem a b y o (turn {a = _} {c = c} {x = u} {y = v} s r) f = F.allowed a (first_or (u ++ v) o) (long_step IsItem a c u v o s)
 
@@ -105,7 +108,8 @@ module _ {n : ℕ} {I A O : Type 0} {op : Option Token → Option O} {mark_of : 
         (λ k b x y s r. (k, (x, y, refl, s, r))) in
         entry t (λ o. has (op o) ≡ true) (λ o h. tt)
 
-    pub exact_rest : (a : A) → Exact n IsInner (chain_rest op grow p a) (FA a) (λ b x. Steps (Step_to mark_of start grow IsItem) b a x) (λ b x. Steps (Step_to mark_of start grow IsItem) b a x) (λ b o. FA b o × (has (op o) ≡ false))
+    pub exact_rest : (a : A) → Exact n IsInner (chain_rest op grow p a) (FA a) (λ b x. Steps (Step_to mark_of start grow IsItem) b a x) (λ b x. Steps (Step_to mark_of start grow IsItem) b a x)
+        (λ b o. FA b o × (has (op o) ≡ false))
     exact_rest a = exact_turns (λ o. has (op o)) exact_step (λ a b x. Steps (Step_to mark_of start grow IsItem) b a x) (rw (OP.at_end) refl) (step_begins IsItem)
         (λ a c z s. (c, [], turn s none)) (λ a c b x y s r. turn s r) F.allowed a
 
@@ -166,7 +170,8 @@ pub exact_list : {n : ℕ} {Q : Token → Type 0} {I : Type 0} (more : Option To
     → (allowed : (i : I) (o : Option Token) → more o ≡ true → F i o) → (starts : (o : Option Token) → more o ≡ true → G o)
     → Exact n Q (list_of more p) G (λ is z. Items S is z) (λ is z. Items S is z) (λ is o. AfterLast F G is o × (more o ≡ false))
 exact_list {I = I} more {p = p} {S = S} {F = F} P G at_end begins allowed starts =
-    let t = exact_turns more {step = list_step p} {S = Added S} {V = Added S} {F = λ a o. AfterLast F G a o} (λ a. mapped P (λ i. a ++ i ∷ []) (λ b o. AfterLast F G b o) (λ i o f. last_in F G a i o f) (λ i o f. last_out F G a i o f))
+    let t = exact_turns more {step = list_step p} {S = Added S} {V = Added S} {F = λ a o. AfterLast F G a o}
+    (λ a. mapped P (λ i. a ++ i ∷ []) (λ b o. AfterLast F G b o) (λ i o f. last_in F G a i o f) (λ i o f. last_out F G a i o f))
     (λ a b x. Steps (Added S) b a x) at_end (λ a c x s. begins s.0 x s.2) (λ a c z s. (c, [], turn s none)) (λ a c b x y s r. turn s r)
     (λ a o m. all_last F G a o (starts o m) (λ i. allowed i o m)) [] in
     retell t (λ is z. Items S is z)

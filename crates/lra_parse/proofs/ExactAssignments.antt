@@ -127,7 +127,8 @@ step_no_set x b z o (s, f, e) = rw e (step_not s.0 s.1).1
 
 pub exact_assign_rest : (n d l : ℕ) → d + l ≡ n → (x : Identifier) → Exact n IsInner (assign_rest d x) Any (RestText l x) (RestText l x) AfterAssign
 exact_assign_rest n d l h x =
-    let sets = exact_behind mark.Assign 0 (omega arith) (mapped (exact_source n d l h) (set x) AfterAssign (λ e o f. f) (λ e o f. f)) (set x (some_source l).0, (some_source l).1, ((some_source l).0, refl, (some_source l).2)) in
+    let sets = exact_behind mark.Assign 0 (omega arith) (mapped (exact_source n d l h) (set x) AfterAssign (λ e o f. f) (λ e o f. f))
+    (set x (some_source l).0, (some_source l).1, ((some_source l).0, refl, (some_source l).2)) in
     let updates = then (exact_update n) (λ op. mapped (exact_expr n d l h) (update x (operator_view op)) AfterAssign (λ e o f. f) (λ e o f. f)) (UpdateText l x)
     (λ op b y o s f. tt)
     (λ op z v. (update x (operator_view op) (some_expr l).0, (some_expr l).1, (op, (z, (some_expr l).1, refl, v, ((some_expr l).0, refl, (some_expr l).2)))))
@@ -156,7 +157,8 @@ step_no_open step.Decrement at = refl
 -- no parenthesis comes behind the name
 pub rest_no_open : (l : ℕ) (x : Identifier) (b : AssignTree) (u v z : Pieces) (o : Option Token) → z ≡ u ++ v → RestText l x b u → is_mark mark.OpenParen (first_or z o) ≡ false
 rest_no_open l x b u v z o e (inl (p, q, f, m, r)) = first_opened (λ i. is_mark mark.OpenParen i ≡ false) mark.Assign 0 p (q ++ v) z o (e ∙ regroup u v p q f) m (λ at. refl)
-rest_no_open l x b u v z o e (inr (inl (op, (p, q, f, m, r)))) = first_opened (λ i. is_mark mark.OpenParen i ≡ false) (mark_of_update op) 0 p (q ++ v) z o (e ∙ regroup u v p q f) m (λ at. update_no_open op at)
+rest_no_open l x b u v z o e (inr (inl (op, (p, q, f, m, r)))) = first_opened (λ i. is_mark mark.OpenParen i ≡ false) (mark_of_update op) 0 p (q ++ v) z o (e ∙ regroup u v p q f) m
+    (λ at. update_no_open op at)
 rest_no_open l x b u v z o e (inr (inr (s, g, f))) = rw (e, f) (step_no_open s.0 s.1)
 
 abbrev pub BeforeText : ℕ → AssignTree → Texts
@@ -214,7 +216,8 @@ exact_assign n d l o h low =
 pub placed_first : (P : Option Token → Type 0) (m : Mark) (at : Place) (o : ℕ) (x y z : Pieces) (k : Option Token) → z ≡ x ++ y → opens_at m at o x → P (Some (token m at)) → P (first_or z k)
 placed_first P m at o x y z k e s f = subst (λ (w : Pieces). P (first_or w k)) (sym (e ∙ ap (λ (v : Pieces). v ++ y) s)) f
 
-pub assign_no_mark : (o l : ℕ) (a : AssignTree) (x y z : Pieces) (k : Option Token) → z ≡ x ++ y → IsAssign o l a x → (P : Option Token → Type 0) → ((i : Identifier) → P (Some (record { kind = Name i.word; place = i.place })))
+pub assign_no_mark : (o l : ℕ) (a : AssignTree) (x y z : Pieces) (k : Option Token) → z ≡ x ++ y → IsAssign o l a x → (P : Option Token → Type 0) →
+    ((i : Identifier) → P (Some (record { kind = Name i.word; place = i.place })))
     → ((s : Step) (at : Place) → P (Some (token (mark_of_step s) at))) → P (first_or z k)
 assign_no_mark o l a x y z k e s P named stepped = elim (from_assign o l a x s) [
   | inl (j, (u, v, f, m, r)) ↦ subst (λ (w : Pieces). P (first_or w k)) (sym (e ∙ regroup x y u v f ∙ ap (λ (w : Pieces). w ++ (v ++ y)) m)) (stepped j.0 j.1)
@@ -242,12 +245,15 @@ twice (Ok x) f p = refl
 twice (Err e) f p = refl
 
 type_out : (R : Texts) (z : Pieces) → (opens mark.Long 0 ⋅ ((spells mark.Long ∣ empty) ⋅ ((spells mark.Int ∣ empty) ⋅ R))) z → (IsType ⋅ R) z
-type_out R z (x, y, e, s, t) = joined_left (opens mark.Long 0) ((spells mark.Long ∣ empty) ⋅ (spells mark.Int ∣ empty)) R z (x, y, e, s, joined_left (spells mark.Long ∣ empty) (spells mark.Int ∣ empty) R y t)
+type_out R z (x, y, e, s, t) = joined_left (opens mark.Long 0) ((spells mark.Long ∣ empty) ⋅ (spells mark.Int ∣ empty)) R z
+    (x, y, e, s, joined_left (spells mark.Long ∣ empty) (spells mark.Int ∣ empty) R y t)
 
 type_in : (R : Texts) (z : Pieces) → (IsType ⋅ R) z → (opens mark.Long 0 ⋅ ((spells mark.Long ∣ empty) ⋅ ((spells mark.Int ∣ empty) ⋅ R))) z
-type_in R z s = let k = joined_right (opens mark.Long 0) ((spells mark.Long ∣ empty) ⋅ (spells mark.Int ∣ empty)) R z s in (k.0, k.1, k.2, k.3, joined_right (spells mark.Long ∣ empty) (spells mark.Int ∣ empty) R k.1 k.4)
+type_in R z s = let k = joined_right (opens mark.Long 0) ((spells mark.Long ∣ empty) ⋅ (spells mark.Int ∣ empty)) R z s in
+    (k.0, k.1, k.2, k.3, joined_right (spells mark.Long ∣ empty) (spells mark.Int ∣ empty) R k.1 k.4)
 
-skipped_first : {A : Type 0} (S : A → Texts) (F : A → Option Token → Type 0) (m k : Mark) → ((at : Place) → is_mark m (Some (token k at)) ≡ false) → (begins : (a : A) (x : Pieces) (o : Option Token) → S a x → (x ≡ [] → F a o) → is_mark m (first_or x o) ≡ false)
+skipped_first : {A : Type 0} (S : A → Texts) (F : A → Option Token → Type 0) (m k : Mark) → ((at : Place) → is_mark m (Some (token k at)) ≡ false) →
+    (begins : (a : A) (x : Pieces) (o : Option Token) → S a x → (x ≡ [] → F a o) → is_mark m (first_or x o) ≡ false)
     → (a : A) (x : Pieces) (o : Option Token) → ((spells k ∣ empty) ⋅ S a) x → (x ≡ [] → F a o) → is_mark m (first_or x o) ≡ false
 skipped_first S F m k other begins a x o (u, v, e, inl s, t) f = first_opened (λ i. is_mark m i ≡ false) k 0 u v x o e s other
 skipped_first S F m k other begins a x o (u, v, e, inr s, t) f =
@@ -289,7 +295,8 @@ not_given x b z o e f h = rw f (let g : AfterDeclarator (alone_name x) o = subst
 
 exact_given : (n d l : ℕ) → d + l ≡ n → (x : Identifier) → Exact n IsInner (given d x) Any (GivenText l x) (GivenText l x) AfterDeclarator
 exact_given n d l h x =
-    let some = exact_behind mark.Assign 0 (omega arith) (mapped (exact_source n d l h) (with_source x) AfterDeclarator (λ e o f. f) (λ e o f. f)) (with_source x (some_source l).0, (some_source l).1, ((some_source l).0, refl, (some_source l).2)) in
+    let some = exact_behind mark.Assign 0 (omega arith) (mapped (exact_source n d l h) (with_source x) AfterDeclarator (λ e o f. f) (λ e o f. f))
+    (with_source x (some_source l).0, (some_source l).1, ((some_source l).0, refl, (some_source l).2)) in
     branch (is_mark mark.Assign) (entry (widen some (GivenText l x) (λ b z s. inl s)) (λ o. ⊤ × (is_mark mark.Assign o ≡ true)) (λ o i. tt))
     (widen (exact_done n IsInner (alone_name x) (λ o. ⊤ × (is_mark mark.Assign o ≡ false)) (λ b z. (b ≡ alone_name x) × (z ≡ [])) AfterDeclarator (λ o i. i.1)) (GivenText l x) (λ b z s. inr s))
     (λ b z o s f. first_opened (λ i. is_mark mark.Assign i ≡ true) mark.Assign 0 s.0 s.1 z o s.2 s.3 (λ at. refl))
@@ -342,5 +349,6 @@ exact_declaration n d l h =
     let made = mapped list declaration_of (λ b o. AfterCommas AfterDeclarator (b.first, b.rest) o) (λ i o f. f) (λ i o f. f) in
     let whole = exact_ended mark.Semicolon made (λ b at. (last_stops b.rest b.first at, refl)) in
     let some = some_declarator l in
-    let t = exact_type whole (declaration_of (some.0, []), _, (_, _, refl, ((some.0, []), refl, (_, _, refl, some.2, refl)), (some_place, refl))) (λ b x o s f. declared_begins l mark.Int b x o s) (λ b x o s f. declared_begins l mark.Long b x o s) in
+    let t = exact_type whole (declaration_of (some.0, []), _, (_, _, refl, ((some.0, []), refl, (_, _, refl, some.2, refl)), (some_place, refl))) (λ b x o s f. declared_begins l mark.Int b x o s)
+    (λ b x o s f. declared_begins l mark.Long b x o s) in
     retell t (IsDeclaration l) (λ b z s. to_declaration l b z s) (λ b z s. from_declaration l b z s)

@@ -13,12 +13,15 @@ use Rattle.lra_tree.specs.declared.trees.Identifier.{Identifier}
 use Rattle.lra_tree.specs.declared.trees.Step.{Step}
 use Rattle.lra_tree.specs.declared.trees.Step.TheVariants as step
 use Rattle.lra_tree.specs.Texts.{Piece, Pieces, Texts, ◌⋅◌, opens, opens_at}
-use Rattle.lra_tree.specs.Trees.{StmtTree, block, nothing, assign, call, if_only, if_else, while, for, break, continue, return, assert, assume, increment, after, before, no_init, ItemsTree, no_items, declaration, statement}
+use Rattle.lra_tree.specs.Trees.{StmtTree, block, nothing, assign, call, if_only, if_else, while, for, break, continue, return, assert, assume, increment, after, before, no_init, ItemsTree, no_items}
+use Rattle.lra_tree.specs.Trees.{declaration, statement}
 use Rattle.lra_tree.specs.Views.{step_view}
 use Rattle.lra_tree.specs.Grammar.{IsAssign, IsDeclaration, IsStmt, AreItems}
 use Rattle.lra_parse.specs.Tests.{is_mark}
 use Rattle.lra_parse.specs.Reading.{Parse, stop, map_read, identifier_of, has, one_of}
-use Rattle.lra_parse.specs.Statements.{next_step, step_marks, StmtMark, at_nothing, at_if, at_while, at_for, at_break, at_continue, at_return, at_assert, at_assume, stmt_marks, stmt_mark, begins_stmt, ItemTree, declared, stated, items_from, begins_item, stated_of, item_of, items_of, body_of, block_from, too_deep, levels, branch_at, block_at, simple_at, items_at}
+use Rattle.lra_parse.specs.Statements.{next_step, step_marks, StmtMark, at_nothing, at_if, at_while, at_for, at_break, at_continue, at_return, at_assert, at_assume, stmt_marks, stmt_mark, begins_stmt}
+use Rattle.lra_parse.specs.Statements.{ItemTree, declared, stated, items_from, begins_item, stated_of, item_of, items_of, body_of, block_from, too_deep, levels, branch_at, block_at, simple_at}
+use Rattle.lra_parse.specs.Statements.{items_at}
 use Rattle.lra_parse.proofs.Marks.{is_mark_some}
 use Rattle.lra_parse.proofs.Exact.{Exact, Any, Free, Both, test, first_or, then}
 use Rattle.lra_parse.proofs.Forms.{rename, widen, retell, entry, mapped, branch, exact_stop, exact_deep}
@@ -32,7 +35,8 @@ use Rattle.lra_parse.proofs.ExactStatements.{AfterStmt, IsBlock, SimpleText, mar
 
 -- how a statement begins ------------------------------------------------------------------------------------------
 
-simple_first : (o l : ℕ) (k : Option StmtMark) (t : StmtTree) (z : Pieces) (i : Option Token) → SimpleAt o l k t z → (P : Option Token → Type 0) → ((m : StmtMark) (at : Place) → P (Some (token (mark_of_stmt m) at)))
+simple_first : (o l : ℕ) (k : Option StmtMark) (t : StmtTree) (z : Pieces) (i : Option Token) → SimpleAt o l k t z → (P : Option Token → Type 0) →
+    ((m : StmtMark) (at : Place) → P (Some (token (mark_of_stmt m) at)))
     → ((x : Identifier) → P (Some (record { kind = Name x.word; place = x.place }))) → ((s : Step) (at : Place) → P (Some (token (mark_of_step s) at))) → P (first_or z i)
 simple_first o l (Some at_nothing) t z i (at, f, s) P marks names steps = placed_first P mark.Semicolon at o z [] z i (sym (append-nil z)) s (marks at_nothing at)
 simple_first o l (Some at_if) t z i (at, (x, y, e, s, r)) P marks names steps = placed_first P mark.If at o x y z i e s (marks at_if at)
@@ -172,8 +176,23 @@ start_mark o at_if at =
     (if_only at (some_cond o).0 (nothing some_place), _, (_, _, refl, refl, (_, _, refl, (_, _, refl, (some_place, refl), (_, _, refl, (some_cond o).2, (some_place, refl))), refl)))
 start_mark o at_while at =
     (while at (some_cond o).0 (nothing some_place), _, (_, _, refl, refl, (_, _, refl, (_, _, refl, (some_place, refl), (_, _, refl, (some_cond o).2, (some_place, refl))), refl)))
-start_mark o at_for at =
-    (for at no_init None None (nothing some_place), _, (_, _, refl, refl, (_, _, refl, (some_place, refl), (_, _, refl, (some_place, refl), (_, _, refl, refl, (_, _, refl, (some_place, refl), (_, _, refl, refl, (_, _, refl, (some_place, refl), refl))))))))
+start_mark o at_for at = (
+  for at no_init None None (nothing some_place),
+  _,
+  (
+    _,
+    _,
+    refl,
+    refl,
+    (
+      _,
+      _,
+      refl,
+      (some_place, refl),
+      (_, _, refl, (some_place, refl), (_, _, refl, refl, (_, _, refl, (some_place, refl), (_, _, refl, refl, (_, _, refl, (some_place, refl), refl))))),
+    ),
+  ),
+)
 start_mark o at_break at = (break at, _, (_, _, refl, refl, (some_place, refl)))
 start_mark o at_continue at = (continue at, _, (_, _, refl, refl, (some_place, refl)))
 start_mark o at_return at = (return at None, _, (_, _, refl, refl, (_, _, refl, refl, (some_place, refl))))
@@ -208,7 +227,8 @@ has_mapped : {A B : Type 0} (f : A → B) (m : Option A) → has (option_map f m
 has_mapped f None = refl
 has_mapped f (Some a) = refl
 
-no_start : (t : Token) → is_mark mark.OpenBrace (Some t) ≡ false → has (stmt_mark (Some t)) ≡ false → has (one_of step_marks (Some t)) ≡ false → has (identifier_of t.kind t.place) ≡ false → begins_stmt (Some t) ≡ true → ⊥
+no_start : (t : Token) → is_mark mark.OpenBrace (Some t) ≡ false → has (stmt_mark (Some t)) ≡ false → has (one_of step_marks (Some t)) ≡ false → has (identifier_of t.kind t.place) ≡ false →
+    begins_stmt (Some t) ≡ true → ⊥
 no_start t a b c d e =
     let c' : has (next_step (Some t)) ≡ false = has_mapped (λ (s : Step). (s, t.place)) (one_of step_marks (Some t)) ∙ c in
     let f : begins_stmt (Some t) ≡ false = rw (a, b, c', d) refl in
@@ -297,7 +317,8 @@ AfterItem (stated t) o = AfterStmt t o
 
 -- a block with its level, or another statement ------------------------------------------------------------------------
 
-exact_stated : {n o l : ℕ} {simple inner : Parse StmtTree} {T : StmtTree → Texts} → Exact n IsInner inner (λ k. ⊤ × (is_mark mark.OpenBrace k ≡ true)) T T AfterStmt → ((t : StmtTree) (z : Pieces) (k : Option Token) → T t z → is_mark mark.OpenBrace (first_or z k) ≡ true)
+exact_stated : {n o l : ℕ} {simple inner : Parse StmtTree} {T : StmtTree → Texts} → Exact n IsInner inner (λ k. ⊤ × (is_mark mark.OpenBrace k ≡ true)) T T AfterStmt →
+    ((t : StmtTree) (z : Pieces) (k : Option Token) → T t z → is_mark mark.OpenBrace (first_or z k) ≡ true)
     → Exact n IsInner simple Any (SimpleText o l) (SimpleText o l) AfterStmt
     → Exact n IsInner (stated_of simple inner) Any (λ t z. T t z ⊎ SimpleText o l t z) (λ t z. T t z ⊎ SimpleText o l t z) AfterStmt
 exact_stated {o = o} {l = l} {T = T} I begins S =
@@ -412,7 +433,8 @@ item_sides : (l : ℕ) (i : ItemTree) (z : Pieces) → ItemText l i z → Of dec
 item_sides l (declared d) z s = inl (d, refl, s)
 item_sides l (stated t) z s = inr (t, refl, s)
 
-module _ (n d l : ℕ) (simple inner : Parse StmtTree) (h : d + l ≡ n) (I : Exact n IsInner inner (λ k. ⊤ × (is_mark mark.OpenBrace k ≡ true)) (BlockText (l + 1) (l + 1)) (BlockText (l + 1) (l + 1)) AfterStmt)
+module _ (n d l : ℕ) (simple inner : Parse StmtTree) (h : d + l ≡ n) (I : Exact n IsInner inner (λ k. ⊤ × (is_mark mark.OpenBrace k ≡ true)) (BlockText (l + 1) (l + 1))
+    (BlockText (l + 1) (l + 1)) AfterStmt)
     (S : Exact n IsInner simple Any (SimpleText 0 l) (SimpleText 0 l) AfterStmt) where
   exact_item : Exact n IsInner (item_of d simple inner) Any (ItemText l) (ItemText l) AfterItem
   exact_item =
@@ -434,7 +456,8 @@ module _ (n d l : ℕ) (simple inner : Parse StmtTree) (h : d + l ≡ n) (I : Ex
   pub exact_body : (o : ℕ) → o ≤ n → Exact n IsInner (body_of (items_of d simple inner)) Any (BodyText o l) (BodyText o l) Free
   exact_body o low =
       let list = exact_list begins_item (entry exact_item (λ k. begins_item k ≡ true) (λ k i. tt)) Any refl (λ i x s. item_first l i x None s) item_allowed (λ k e. tt) in
-      let inside = then list (λ is. entry (mapped (exact_expect_at n mark.CloseBrace 0 (omega arith)) (λ end. (items_from is, end)) Free (λ a k f. tt) (λ a k f. tt)) (λ k. AfterLast AfterItem Any is k × (begins_item k ≡ false)) (λ k i. tt))
+      let inside = then list (λ is. entry (mapped (exact_expect_at n mark.CloseBrace 0 (omega arith)) (λ end. (items_from is, end)) Free (λ a k f. tt) (λ a k f. tt))
+      (λ k. AfterLast AfterItem Any is k × (begins_item k ≡ false)) (λ k i. tt))
       (ItemsText l)
       (λ is b y k s f. closing is s.0 y k s.2)
       (λ is z v. ((items_from is, some_place), _, (is, (z, _, refl, v, (some_place, refl, refl)))))
@@ -498,7 +521,8 @@ stmt_over n o l (assume at c) z h (x, y, e, s, r) = placed_over n o mark.Assume 
 
 exact_too_deep : (n o : ℕ) → n < o → Exact n IsInner too_deep Any (IsStmt o o) (IsStmt o o) AfterStmt
 exact_too_deep n o h =
-    let deep = exact_deep n IsInner (λ k. ⊤ × (begins_stmt k ≡ true)) (IsStmt o o) (IsStmt o o) AfterStmt (λ t z s. stmt_over n o o t z h s) (λ t i. let s = starts o t i.1 in (s.0, o, s.1, s.2, h)) (λ i. let e = i.1 in cc) in
+    let deep = exact_deep n IsInner (λ k. ⊤ × (begins_stmt k ≡ true)) (IsStmt o o) (IsStmt o o) AfterStmt (λ t z s. stmt_over n o o t z h s)
+    (λ t i. let s = starts o t i.1 in (s.0, o, s.1, s.2, h)) (λ i. let e = i.1 in cc) in
     let none = exact_stop {n = n} {Q = IsInner} (λ k. ⊤ × (begins_stmt k ≡ false)) (IsStmt o o) AfterStmt (nothing some_place) ((token mark.Semicolon some_place, o) ∷ []) refl in
     let b = branch begins_stmt deep none (λ t z k s f. stmt_begins (λ i. begins_stmt i ≡ true) all_begin o o t z k s) (λ t z k s f. absurd s) in
     rename b (IsStmt o o) (λ t z s. elim s [ inl k ↦ k | inr k ↦ absurd k ]) (λ t z s. inl s)
@@ -510,7 +534,8 @@ exact_deep_block n o h = exact_deep n IsInner AtBrace (BodyText o o) (BodyText o
     (λ i. cc)
 
 abbrev pub AreExact : ℕ → ℕ → ℕ → Type 0
-AreExact n d l = Exact n IsInner (branch_at d) Any (IsStmt (l + 1) (l + 1)) (IsStmt (l + 1) (l + 1)) AfterStmt × Exact n IsInner (block_at d) AtBrace (BodyText (l + 1) (l + 1)) (BodyText (l + 1) (l + 1)) Free
+AreExact n d l = Exact n IsInner (branch_at d) Any (IsStmt (l + 1) (l + 1)) (IsStmt (l + 1) (l + 1)) AfterStmt ×
+    Exact n IsInner (block_at d) AtBrace (BodyText (l + 1) (l + 1)) (BodyText (l + 1) (l + 1)) Free
 
 exact_block_stmt : (n d l : ℕ) → Exact n IsInner (block_at d) AtBrace (BodyText (l + 1) (l + 1)) (BodyText (l + 1) (l + 1)) Free
     → Exact n IsInner (map_read block_from (block_at d)) (λ k. ⊤ × (is_mark mark.OpenBrace k ≡ true)) (BlockText (l + 1) (l + 1)) (BlockText (l + 1) (l + 1)) AfterStmt
@@ -528,7 +553,8 @@ exact_levels n (suc d) l h =
     let simple = λ (o : ℕ) (j : o ≤ n). exact_simple n d (l + 1) o k j (branch_at d) inner.0 in
     let B = exact_body n d (l + 1) (simple_at d) (map_read block_from (block_at d)) k (exact_block_stmt n d (l + 1) inner.1) (simple 0 (omega arith)) (l + 1) low in
     let blocks = entry B AtBrace (λ k i. tt) in
-    let T = exact_stated {o = l + 1} {l = l + 1} (exact_block_stmt n (suc d) l blocks) (λ t z k s. block_first (l + 1) (l + 1) t z k s (λ i. is_mark mark.OpenBrace i ≡ true) (λ at. refl)) (simple (l + 1) low) in
+    let T = exact_stated {o = l + 1} {l = l + 1} (exact_block_stmt n (suc d) l blocks) (λ t z k s. block_first (l + 1) (l + 1) t z k s (λ i. is_mark mark.OpenBrace i ≡ true) (λ at. refl))
+    (simple (l + 1) low) in
     (retell T (IsStmt (l + 1) (l + 1)) (λ t z s. either_stmt (l + 1) (l + 1) t z s) (λ t z s. stmt_either (l + 1) (l + 1) t z s), blocks)
 
 -- the body of a function, at its level

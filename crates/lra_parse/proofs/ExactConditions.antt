@@ -11,19 +11,23 @@ use Rattle.lra_tree.specs.declared.trees.Comparison.{Comparison}
 use Rattle.lra_tree.specs.declared.trees.Comparison.TheVariants as comparison
 use Rattle.lra_tree.specs.Program as program
 use Rattle.lra_tree.specs.Texts.{Piece, Pieces, Texts, ◌⋅◌, opens, mark as spells}
-use Rattle.lra_tree.specs.Trees.{UnaryTree, negated, positive, literal, variable, input, group, TermTree, unary, ExprTree, term, NegationTree, opposite_again, value_of_unary, group_opposed, TestTree, opposite, value, compare, group_of, ConjunctionTree, test as one_test, and, CondTree, conjunction, or}
+use Rattle.lra_tree.specs.Trees.{UnaryTree, negated, positive, literal, variable, input, group, TermTree, unary, ExprTree, term, NegationTree, opposite_again, value_of_unary, group_opposed, TestTree}
+use Rattle.lra_tree.specs.Trees.{opposite, value, compare, group_of, ConjunctionTree, test as one_test, and, CondTree, conjunction, or}
 use Rattle.lra_tree.specs.Views.{comparison_view}
 use Rattle.lra_tree.specs.Grammar.{IsUnary, IsTerm, IsExpr, comparison_mark, IsStrict, IsNegation, IsTest, IsConjunction, IsCond}
 use Rattle.lra_parse.specs.Tests.{first}
 use Rattle.lra_parse.specs.Reading.{Parse, stop, seq, has}
-use Rattle.lra_parse.specs.Expressions.{factor_operator, sum_operator, comparisons, next_comparison, next_and, next_or, in_parens, summands, expr_of, unary_at, compared, from_unary, alone, after_alone, after_group, negation_of, TestMark, at_not, at_open, test_marks, test_mark, test_form, negation_form, conjunction_of, cond_of, tests, test_at, negation_at, cond_at}
+use Rattle.lra_parse.specs.Expressions.{factor_operator, sum_operator, comparisons, next_comparison, next_and, next_or, in_parens, summands, expr_of, unary_at, compared, from_unary, alone}
+use Rattle.lra_parse.specs.Expressions.{after_alone, after_group, negation_of, TestMark, at_not, at_open, test_marks, test_mark, test_form, negation_form, conjunction_of, cond_of, tests, test_at}
+use Rattle.lra_parse.specs.Expressions.{negation_at, cond_at}
 use Rattle.lra_parse.proofs.Exact.{Exact, Any, Free, Both, first_or, first_or-both, then}
 use Rattle.lra_parse.proofs.Forms.{rename, widen, entry, mapped, choose, branch, where_told, exact_done, exact_deep}
 use Rattle.lra_parse.proofs.Tokens.{IsInner, exact_operator, some_place, some_name}
 use Rattle.lra_parse.proofs.Turns.{none}
 use Rattle.lra_parse.proofs.Chain.{regroup, IsFollow, IsOperator, Split, split_more, split_start, exact_chain}
 use Rattle.lra_parse.proofs.Parts.{token, exact_behind, exact_ended, table_mark, by_table}
-use Rattle.lra_parse.proofs.ExactExpressions.{AfterTerm, AfterExpr, some_expr, TermSteps, ExprSteps, expr_follows, whole_term, whole_expr, split_term, split_expr, exact_factors, exact_summands, exact_expr_of, Of, first_opened, opened_over, exact_unary}
+use Rattle.lra_parse.proofs.ExactExpressions.{AfterTerm, AfterExpr, some_expr, TermSteps, ExprSteps, expr_follows, whole_term, whole_expr, split_term, split_expr, exact_factors, exact_summands}
+use Rattle.lra_parse.proofs.ExactExpressions.{exact_expr_of, Of, first_opened, opened_over, exact_unary}
 
 -- operators --------------------------------------------------------------------------------------------------------
 
@@ -39,7 +43,11 @@ comparison_self comparison.Equal at = refl
 comparison_self comparison.Differs at = refl
 
 comparison_is : (n : ℕ) → IsOperator n next_comparison mark_of_comparison
-comparison_is n = record { exact = exact_operator n mark_of_comparison comparisons (refl, (refl, (refl, (refl, (refl, (refl, tt)))))) comparison_self refl comparison.Below; at_end = refl; self = comparison_self }
+comparison_is n = record {
+  exact = exact_operator n mark_of_comparison comparisons (refl, (refl, (refl, (refl, (refl, (refl, tt)))))) comparison_self refl comparison.Below;
+  at_end = refl;
+  self = comparison_self;
+}
 
 -- it goes on no expression
 after_comparison : (k : Comparison) (e : ExprTree) (at : Place) → AfterExpr e (Some (token (mark_of_comparison k) at))
@@ -285,7 +293,8 @@ module _ (n l : ℕ) (u : Parse UnaryTree) (U : Exact n IsInner u Any (IsUnary l
   exact_after_alone c None = exact_done n IsInner (group_of c) Any (AfterAlone l c None) AfterTest (λ o h. tt)
 
   -- behind a parenthesis
-  exact_grouped : (p : Parse CondTree) → Exact n IsInner (in_parens p) Any (Grouped l) (Grouped l) Free → Exact n IsInner (seq (in_parens p) (after_group u)) Any (TestAt l (Some at_open)) (TestAt l (Some at_open)) AfterTest
+  exact_grouped : (p : Parse CondTree) → Exact n IsInner (in_parens p) Any (Grouped l) (Grouped l) Free →
+      Exact n IsInner (seq (in_parens p) (after_group u)) Any (TestAt l (Some at_open)) (TestAt l (Some at_open)) AfterTest
   exact_grouped p P = then P (λ c. exact_after_alone c (alone c)) (TestAt l (Some at_open))
       (λ c b y o s f. tt)
       (λ c z v. let g = group_some l c z (alone c) in (g.0, g.1, (c, (z, g.1, refl, v, g.2))))
@@ -502,10 +511,12 @@ exact_tests n (suc d) l h =
     let G = exact_parens n (l + 1) (l + 1) (cond_of (test_at d)) low (exact_cond_of n (l + 1) (test_at d) inner.0) in
     let some : (a : NegationTree) × (x : Pieces) × IsNegation (l + 1) a x = (value_of_unary (variable some_name), _, refl) in (
       exact_test_form n l (unary_at (suc d)) U _ _
-          (entry (widen (exact_behind mark.Not (l + 1) low (mapped inner.1 opposite AfterTest (λ a o f. tt) (λ a o f. tt)) (opposite some.0, some.1, (some.0, refl, some.2))) (IsTest l) (λ b z s. to_test l (Some at_not) b z s)) (At (Some at_not)) (λ o i. tt))
+          (entry (widen (exact_behind mark.Not (l + 1) low (mapped inner.1 opposite AfterTest (λ a o f. tt) (λ a o f. tt)) (opposite some.0, some.1, (some.0, refl, some.2))) (IsTest l)
+          (λ b z s. to_test l (Some at_not) b z s)) (At (Some at_not)) (λ o i. tt))
           (entry (widen (exact_grouped n l (unary_at (suc d)) U (cond_of (test_at d)) G) (IsTest l) (λ b z s. to_test l (Some at_open) b z s)) (At (Some at_open)) (λ o i. tt)),
       exact_negation_form n l (unary_at (suc d)) U _ _
-          (entry (widen (exact_behind mark.Not (l + 1) low (mapped inner.1 opposite_again Free (λ a o f. tt) (λ a o f. tt)) (opposite_again some.0, some.1, (some.0, refl, some.2))) (IsNegation l) (λ b z s. to_negation l (Some at_not) b z s)) (At (Some at_not)) (λ o i. tt))
+          (entry (widen (exact_behind mark.Not (l + 1) low (mapped inner.1 opposite_again Free (λ a o f. tt) (λ a o f. tt)) (opposite_again some.0, some.1, (some.0, refl, some.2))) (IsNegation l)
+          (λ b z s. to_negation l (Some at_not) b z s)) (At (Some at_not)) (λ o i. tt))
           (entry (widen (mapped G negation_of Free (λ a o f. tt) (λ a o f. tt)) (IsNegation l) (λ b z s. to_negation l (Some at_open) b z s)) (At (Some at_open)) (λ o i. tt)),
     )
 

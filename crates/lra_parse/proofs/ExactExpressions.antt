@@ -16,7 +16,8 @@ use Rattle.lra_tree.specs.Views.{further_factor, further_term}
 use Rattle.lra_tree.specs.Grammar.{IsUnary, IsTerm, IsExpr}
 use Rattle.lra_parse.specs.Tests.{first}
 use Rattle.lra_parse.specs.Reading.{Parse, stop, next_number, has}
-use Rattle.lra_parse.specs.Expressions.{factor_operators, factor_operator, sum_operators, sum_operator, factors, term_of, summands, expr_of, UnaryMark, at_minus, at_plus, at_group, at_input, unary_marks, unary_mark, read_input, atom, unary_form, unary_at, expr_at}
+use Rattle.lra_parse.specs.Expressions.{factor_operators, factor_operator, sum_operators, sum_operator, factors, term_of, summands, expr_of, UnaryMark, at_minus, at_plus, at_group, at_input}
+use Rattle.lra_parse.specs.Expressions.{unary_marks, unary_mark, read_input, atom, unary_form, unary_at, expr_at}
 use Rattle.lra_parse.proofs.Exact.{Exact, Any, Free, first_or}
 use Rattle.lra_parse.proofs.Forms.{rename, widen, entry, mapped, choose, branch, exact_deep}
 use Rattle.lra_parse.proofs.Tokens.{IsInner, exact_expect, exact_name, exact_number, exact_operator, some_place, some_name}
@@ -268,10 +269,13 @@ exact_unary n zero l h =
 exact_unary n (suc d) l h =
     let U = exact_unary n d (l + 1) (omega arith) in
     let low : l + 1 ≤ n = omega arith in
-    let G = exact_behind mark.OpenParen (l + 1) low (exact_ended mark.CloseParen (exact_expr_of n (l + 1) (unary_at d) U) at_close) ((some_expr (l + 1)).0, _, (_, _, refl, (some_expr (l + 1)).2, (some_place, refl))) in
+    let G = exact_behind mark.OpenParen (l + 1) low (exact_ended mark.CloseParen (exact_expr_of n (l + 1) (unary_at d) U) at_close)
+    ((some_expr (l + 1)).0, _, (_, _, refl, (some_expr (l + 1)).2, (some_place, refl))) in
     exact_unary_form n l _ _ _
-    (entry (widen (exact_behind mark.Minus (l + 1) low (mapped U negated Free (λ a o f. tt) (λ a o f. tt)) (negated (variable some_name), _, (variable some_name, refl, refl))) (IsUnary l) (λ b z s. to_unary l (Some at_minus) b z s)) (At (Some at_minus)) (λ o i. tt))
-    (entry (widen (exact_behind mark.Plus (l + 1) low (mapped U positive Free (λ a o f. tt) (λ a o f. tt)) (positive (variable some_name), _, (variable some_name, refl, refl))) (IsUnary l) (λ b z s. to_unary l (Some at_plus) b z s)) (At (Some at_plus)) (λ o i. tt))
+    (entry (widen (exact_behind mark.Minus (l + 1) low (mapped U negated Free (λ a o f. tt) (λ a o f. tt)) (negated (variable some_name), _, (variable some_name, refl, refl))) (IsUnary l)
+    (λ b z s. to_unary l (Some at_minus) b z s)) (At (Some at_minus)) (λ o i. tt))
+    (entry (widen (exact_behind mark.Plus (l + 1) low (mapped U positive Free (λ a o f. tt) (λ a o f. tt)) (positive (variable some_name), _, (variable some_name, refl, refl))) (IsUnary l)
+    (λ b z s. to_unary l (Some at_plus) b z s)) (At (Some at_plus)) (λ o i. tt))
     (entry (widen (mapped G group Free (λ a o f. tt) (λ a o f. tt)) (IsUnary l) (λ b z s. to_unary l (Some at_group) b z s)) (At (Some at_group)) (λ o i. tt))
 
 pub exact_expr : (n d l : ℕ) → d + l ≡ n → Exact n IsInner (expr_at d) Any (IsExpr l) (IsExpr l) AfterExpr

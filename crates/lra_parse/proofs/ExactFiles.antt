@@ -51,7 +51,8 @@ exact_ending : (n d : ℕ) → d + 1 ≡ n → (s : Option Signature) → Exact 
 exact_ending n d h None = retell (exact_expect n mark.Semicolon 0 (omega arith) prototype) (EndText None) (λ p z s. inr s) (λ p z s. elim s [ inl k ↦ absurd k | inr k ↦ k ])
 exact_ending n d h (Some s) =
     branch (is_mark mark.OpenBrace)
-    (entry (widen (mapped (exact_function_body n d h) (λ b. function (function_of s b)) Free (λ b o f. tt) (λ b o f. tt)) (EndText (Some s)) (λ p z t. inl t)) (λ o. ⊤ × (is_mark mark.OpenBrace o ≡ true)) (λ o i. tt))
+    (entry (widen (mapped (exact_function_body n d h) (λ b. function (function_of s b)) Free (λ b o f. tt) (λ b o f. tt)) (EndText (Some s)) (λ p z t. inl t))
+    (λ o. ⊤ × (is_mark mark.OpenBrace o ≡ true)) (λ o i. tt))
     (entry (widen (exact_expect n mark.Semicolon 0 (omega arith) prototype) (EndText (Some s)) (λ p z t. inr t)) (λ o. ⊤ × (is_mark mark.OpenBrace o ≡ false)) (λ o i. tt))
     (λ p z o t f. first_opened (λ i. is_mark mark.OpenBrace i ≡ true) mark.OpenBrace 1 t.2.0 t.2.1 z o t.2.2 t.2.3 (λ at. refl))
     (λ p z o t f. first_opened (λ i. is_mark mark.OpenBrace i ≡ false) mark.Semicolon 0 z [] z o (sym (append-nil z)) t.1 (λ at. refl))
@@ -103,7 +104,8 @@ made : (h : Option (Bool × Identifier)) (ps : List (Option Identifier)) (s : Si
 made None ps s e = absurd cc
 made (Some h) ps s e = made_of h (names_of ps) s e
   where
-    made_of : (h : Bool × Identifier) (m : Option (List Identifier)) (s : Signature) → option_map (λ xs. (h, xs)) m ≡ Some s → (let k : Option (Bool × Identifier) = Some h in k ≡ Some s.0) × (m ≡ Some s.1)
+    made_of : (h : Bool × Identifier) (m : Option (List Identifier)) (s : Signature) → option_map (λ xs. (h, xs)) m ≡ Some s → (let k : Option (Bool × Identifier) = Some h in k ≡ Some s.0) ×
+        (m ≡ Some s.1)
     made_of h None s e = absurd cc
     made_of h (Some xs) s e = let f : (h, xs) ≡ s = cc in (ap (λ (t : Signature). Some t.0) f, ap (λ (t : Signature). Some t.1) f)
 
@@ -138,14 +140,46 @@ signed h xs = rw (some_names xs) refl
 from_part : (p : PartTree) (z : Pieces) → IsPart p z → WholeText p z
 from_part prototype z (p, q, e, s, (a, b, f, t, (u, v, g, o, (c, d, i, ps, (j, k, m, close, semicolon))))) =
     let w = outer_lead (p ++ a) (p, a, refl, s, t) in
-    let l = any_parameters c ps in
-    (w.0, (p ++ a, b, e ∙ ap (λ (r : Pieces). p ++ r) f ∙ sym (append_assoc p a b), w.1, inl (u, v, g, o, (l.0, (c ++ j, k, i ∙ ap (λ (r : Pieces). c ++ r) m ∙ sym (append_assoc c j k), (c, j, refl, l.1, close), inr (refl, semicolon))))))
+    let l = any_parameters c ps in (
+      w.0,
+      (
+        p ++ a,
+        b,
+        e ∙ ap (λ (r : Pieces). p ++ r) f ∙ sym (append_assoc p a b),
+        w.1,
+        inl (u, v, g, o, (l.0, (c ++ j, k, i ∙ ap (λ (r : Pieces). c ++ r) m ∙ sym (append_assoc c j k), (c, j, refl, l.1, close), inr (refl, semicolon)))),
+      ),
+    )
 from_part (globals g) z s = let k = globals_in g z s in (lead.Typed k.0, (k.1 ++ k.2, k.3, k.4, inr (k.1, k.2, refl, k.5, k.6), inr k.7))
 from_part (function f) z (x, y, e, s, (p, q, i, o, (u, v, j, t, (k, l, m, close, w)))) =
     let h = head_lead f.has_result f.name x s in
     let is : signature_of (head_of h.0) (map Some f.parameters) ≡ Some ((f.has_result, f.name), f.parameters) = rw h.1 (signed (f.has_result, f.name) f.parameters) in
-    let end : EndText (Some ((f.has_result, f.name), f.parameters)) (function f) l = inl ((f.body, f.end), refl, w) in
-    (h.0, (x, y, e, inr h.2, inl (p, q, i, o, (map Some f.parameters, (u ++ k, l, j ∙ ap (λ (n : Pieces). u ++ n) m ∙ sym (append_assoc u k l), (u, k, refl, named_parameters f.parameters u t, close), subst (λ (n : Option Signature). EndText n (function f) l) (sym is) end)))))
+    let end : EndText (Some ((f.has_result, f.name), f.parameters)) (function f) l = inl ((f.body, f.end), refl, w) in (
+      h.0,
+      (
+        x,
+        y,
+        e,
+        inr h.2,
+        inl (
+          p,
+          q,
+          i,
+          o,
+          (
+            map Some f.parameters,
+            (
+              u ++ k,
+              l,
+              j ∙ ap (λ (n : Pieces). u ++ n) m ∙
+                  sym (append_assoc u k l),
+              (u, k, refl, named_parameters f.parameters u t, close),
+              subst (λ (n : Option Signature). EndText n (function f) l) (sym is) end,
+            ),
+          ),
+        ),
+      ),
+    )
 
 pub exact_part : (n d : ℕ) → d + 1 ≡ n → Exact n IsInner (part_at d) Any IsPart IsPart Free
 exact_part n d e =
@@ -203,13 +237,15 @@ from_file : (t : FileTree) (z : Pieces) → Spells t z → FileText t z
 from_file t z (x, y, e, s, r) = (t.parts, (x, y, e, from_parts t.parts x s, (t.end, refl, r)))
 
 -- the parts, and the file
-pub exact_parts : (n d : ℕ) → d + 1 ≡ n → Exact n IsInner (parts_at d) Any (λ ps z. Items IsPart ps z) (λ ps z. Items IsPart ps z) (λ ps o. AfterLast {I = PartTree} Free Any ps o × (begins_part o ≡ false))
+pub exact_parts : (n d : ℕ) → d + 1 ≡ n → Exact n IsInner (parts_at d) Any (λ ps z. Items IsPart ps z) (λ ps z. Items IsPart ps z)
+    (λ ps o. AfterLast {I = PartTree} Free Any ps o × (begins_part o ≡ false))
 exact_parts n d h =
     exact_list begins_part (entry (exact_part n d h) (λ o. begins_part o ≡ true) (λ o i. tt)) Any refl (λ p x s. part_first p x None s) (λ p o e. tt) (λ o e. tt)
 
 pub exact_file : (n d : ℕ) → d + 1 ≡ n → Exact n AnyToken (file_at d) Any Spells Spells Free
 exact_file n d h =
-    let t = then (loose (exact_parts n d h)) (λ ps. entry (mapped (exact_end n) (file_of ps) Free (λ at o f. tt) (λ at o f. tt)) (λ o. AfterLast {I = PartTree} Free Any ps o × (begins_part o ≡ false)) (λ o i. tt)) FileText
+    let t = then (loose (exact_parts n d h)) (λ ps. entry (mapped (exact_end n) (file_of ps) Free (λ at o f. tt) (λ at o f. tt)) (λ o. AfterLast {I = PartTree} Free Any ps o × (begins_part o ≡ false))
+    (λ o i. tt)) FileText
     (λ ps b y o s f. subst (λ (w : Pieces). AfterLast {I = PartTree} Free Any ps (first_or w o) × (begins_part (first_or w o) ≡ false)) (sym s.2) (parts_follow ps s.0))
     (λ ps z v. (file_of ps some_place, _, (ps, (z, _, refl, v, (some_place, refl, refl)))))
     (λ ps b x y s r. (ps, (x, y, refl, s, r))) in

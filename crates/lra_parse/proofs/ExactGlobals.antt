@@ -70,7 +70,8 @@ no_value x g z o e f h = rw f (let k : AfterGlobal (without_value x) o = subst (
 
 pub exact_value : (n : ℕ) (x : Identifier) → Exact n IsInner (value_at x) Any (ValueText x) (ValueText x) AfterGlobal
 exact_value n x =
-    let some = exact_behind mark.Assign 0 (omega arith) (mapped (exact_signed n) (with_value x) AfterGlobal (λ v o f. tt) (λ v o f. tt)) (with_value x (pos 0), _, (pos 0, refl, (0, inl (refl, (some_place, refl))))) in
+    let some = exact_behind mark.Assign 0 (omega arith) (mapped (exact_signed n) (with_value x) AfterGlobal (λ v o f. tt) (λ v o f. tt))
+    (with_value x (pos 0), _, (pos 0, refl, (0, inl (refl, (some_place, refl))))) in
     branch (is_mark mark.Assign) (entry (widen some (ValueText x) (λ g z s. inl s)) (λ o. ⊤ × (is_mark mark.Assign o ≡ true)) (λ o i. tt))
     (widen (exact_done n IsInner (without_value x) (λ o. ⊤ × (is_mark mark.Assign o ≡ false)) (λ g z. (g ≡ without_value x) × (z ≡ [])) AfterGlobal (λ o i. i.1)) (ValueText x) (λ g z s. inr s))
     (λ g z o s f. first_opened (λ i. is_mark mark.Assign i ≡ true) mark.Assign 0 s.0 s.1 z o s.2 s.3 (λ at. refl))
@@ -117,7 +118,11 @@ stops_here (Some v) at = tt
 pub exact_globals : (n : ℕ) (x : Identifier) → Exact n IsInner (globals_at x) Any (GlobalsText x) (GlobalsText x) Free
 exact_globals n x =
     let list = exact_commas_from (exact_value n x) (exact_global n) (without_value some_name, _, (_, _, refl, refl, refl)) (λ g at. goes_on g g.value at) in
-    let whole = exact_ended mark.Semicolon list (λ gs at. (all_last {I = GlobalTree} AfterGlobal (AfterGlobal gs.0) gs.1 (Some (token mark.Semicolon at)) (stops_here gs.0.value at) (λ g. stops_here g.value at), refl)) in
+    let whole = exact_ended mark.Semicolon list (λ gs at. (
+      all_last {I = GlobalTree} AfterGlobal (AfterGlobal gs.0) gs.1 (Some (token mark.Semicolon at)) (stops_here gs.0.value at)
+          (λ g. stops_here g.value at),
+      refl,
+    )) in
     mapped whole globals_of Free (λ gs o f. tt) (λ gs o f. tt)
 
 further_no_open : (gs : List GlobalTree) (x y z : Pieces) (o : Option Token) → z ≡ x ++ y → further IsGlobal gs x → spells mark.Semicolon y → is_mark mark.OpenParen (first_or z o) ≡ false
@@ -125,7 +130,8 @@ further_no_open [] x y z o e f (at, s) = rw (e, f, s) refl
 further_no_open (g ∷ gs) x y z o e (u, v, f, s, r) t = first_opened (λ i. is_mark mark.OpenParen i ≡ false) mark.Comma 0 u (v ++ y) z o (e ∙ regroup x y u v f) s (λ at. refl)
 
 pub globals_no_open : (x : Identifier) (p : PartTree) (z : Pieces) (o : Option Token) → GlobalsText x p z → is_mark mark.OpenParen (first_or z o) ≡ false
-globals_no_open x p z o (gs, h, (a, b, e, (u, v, f, inl (c, d, g, m, t), r), w)) = first_opened (λ i. is_mark mark.OpenParen i ≡ false) mark.Assign 0 c (d ++ (v ++ b)) z o (e ∙ regroup a b u v f ∙ regroup u (v ++ b) c d g) m (λ at. refl)
+globals_no_open x p z o (gs, h, (a, b, e, (u, v, f, inl (c, d, g, m, t), r), w)) = first_opened (λ i. is_mark mark.OpenParen i ≡ false) mark.Assign 0 c (d ++ (v ++ b)) z o
+    (e ∙ regroup a b u v f ∙ regroup u (v ++ b) c d g) m (λ at. refl)
 globals_no_open x p z o (gs, h, (a, b, e, (u, v, f, inr (same, none), r), w)) =
     further_no_open gs.1 v b z o (e ∙ ap (λ (k : Pieces). k ++ b) (f ∙ ap (λ (k : Pieces). k ++ v) none)) r w
 
@@ -157,5 +163,13 @@ globals_in g z (t, y, e, type, (a, b, f, (u, v, h, one, rest), semicolon)) =
     let n = k.1.0 in
     let w = k.1.1 in
     let inner : a ≡ n ++ (w ++ v) = h ∙ regroup u v n w k.1.2 in
-    let behind : y ≡ n ++ ((w ++ v) ++ b) = f ∙ regroup a b n (w ++ v) inner in
-    (k.0, t, n, (w ++ v) ++ b, e ∙ ap (λ (r : Pieces). t ++ r) behind ∙ sym (append_assoc t n ((w ++ v) ++ b)), type, k.1.3, ((g.first, g.rest), refl, (w ++ v, b, refl, (w, v, refl, k.1.4, rest), semicolon)))
+    let behind : y ≡ n ++ ((w ++ v) ++ b) = f ∙ regroup a b n (w ++ v) inner in (
+      k.0,
+      t,
+      n,
+      (w ++ v) ++ b,
+      e ∙ ap (λ (r : Pieces). t ++ r) behind ∙ sym (append_assoc t n ((w ++ v) ++ b)),
+      type,
+      k.1.3,
+      ((g.first, g.rest), refl, (w ++ v, b, refl, (w, v, refl, k.1.4, rest), semicolon)),
+    )

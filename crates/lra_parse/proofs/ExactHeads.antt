@@ -41,11 +41,13 @@ cond_inside : (l : ℕ) (a : CondTree) (z : Pieces) (k : Option Token) → IsCon
 cond_inside l (conjunction c) z k h = conjunction_inside l c z k h
 cond_inside l (or c d) z k (x, y, e, h, s) = front x y z k e (cond_inside l c x (first_or y k) h)
 
-step_is_not : (m : Mark) → is_mark m (Some (token mark.Increment some_place)) ≡ false → is_mark m (Some (token mark.Decrement some_place)) ≡ false → (s : Step) (at : Place) → is_mark m (Some (token (mark_of_step s) at)) ≡ false
+step_is_not : (m : Mark) → is_mark m (Some (token mark.Increment some_place)) ≡ false → is_mark m (Some (token mark.Decrement some_place)) ≡ false → (s : Step) (at : Place) →
+    is_mark m (Some (token (mark_of_step s) at)) ≡ false
 step_is_not m e f step.Increment at = e
 step_is_not m e f step.Decrement at = f
 
-assign_is_not : (m : Mark) → is_mark m (Some (token mark.Increment some_place)) ≡ false → is_mark m (Some (token mark.Decrement some_place)) ≡ false → (l : ℕ) (a : AssignTree) (z : Pieces) (k : Option Token) → IsAssign 0 l a z → is_mark m (first_or z k) ≡ false
+assign_is_not : (m : Mark) → is_mark m (Some (token mark.Increment some_place)) ≡ false → is_mark m (Some (token mark.Decrement some_place)) ≡ false →
+    (l : ℕ) (a : AssignTree) (z : Pieces) (k : Option Token) → IsAssign 0 l a z → is_mark m (first_or z k) ≡ false
 assign_is_not m e f l a z k s = assign_no_mark 0 l a z [] z k (sym (append-nil z)) s (λ i. is_mark m i ≡ false) (λ x. refl) (step_is_not m e f)
 
 -- a part up to a mark, or the mark alone --------------------------------------------------------------------------------
@@ -58,7 +60,8 @@ abbrev AfterOption : {A : Type 0} → Mark → (A → Option Token → Type 0) �
 AfterOption m F None o = is_mark m o ≡ true
 AfterOption m F (Some a) o = F a o
 
-none_ends : {A : Type 0} (m : Mark) (F : A → Option Token → Type 0) (b : Option A) (z : Pieces) (o : Option Token) → b ≡ None → z ≡ [] → (z ≡ [] → AfterOption m F b o) → is_mark m (first_or z o) ≡ true
+none_ends : {A : Type 0} (m : Mark) (F : A → Option Token → Type 0) (b : Option A) (z : Pieces) (o : Option Token) → b ≡ None → z ≡ [] → (z ≡ [] → AfterOption m F b o) →
+    is_mark m (first_or z o) ≡ true
 none_ends {A} m F b z o e f h = rw f (let g : AfterOption m F None o = subst (λ (c : Option A). AfterOption m F c o) e (h f) in g)
 
 abbrev NoneOrSome : {A : Type 0} → (A → Texts) → Option A → Texts
@@ -87,7 +90,8 @@ exact_up_to {n} {A} {p} {S = S} {F = F} m P inside fine =
 
 -- what a `return` gives -------------------------------------------------------------------------------------------------
 
-pub exact_returned : (n d l : ℕ) → d + l ≡ n → Exact n IsInner (up_to mark.Semicolon (source_at d)) Any (λ e. OptionText (IsSource l) e ⋅ spells mark.Semicolon) (λ e. OptionText (IsSource l) e ⋅ spells mark.Semicolon) Free
+pub exact_returned : (n d l : ℕ) → d + l ≡ n → Exact n IsInner (up_to mark.Semicolon (source_at d)) Any (λ e. OptionText (IsSource l) e ⋅ spells mark.Semicolon)
+    (λ e. OptionText (IsSource l) e ⋅ spells mark.Semicolon) Free
 exact_returned n d l h = exact_up_to mark.Semicolon (exact_source n d l h) (source_no_stop l) source_stops
 
 pub to_returned : (l : ℕ) (e : Option SourceTree) (z : Pieces) → OptionText (IsSource l) e z → IsReturned l e z
@@ -143,13 +147,33 @@ HeadText l h = opens mark.OpenParen 0 ⋅ (λ z. Both (IsInit l) (TestText l) h 
 
 -- `(;;)`
 pub some_head : (l : ℕ) → (h : ForHeadTree) × (z : Pieces) × HeadText l h z
-some_head l = ((no_init, None, None), _, (_, _, refl, (some_place, refl), (no_init, (_, _, refl, (some_place, refl), (None, (_, _, refl, ([], _, refl, refl, (some_place, refl)), (None, refl, ([], _, refl, refl, (some_place, refl)))))))))
+some_head l = (
+  (no_init, None, None),
+  _,
+  (
+    _,
+    _,
+    refl,
+    (some_place, refl),
+    (
+      no_init,
+      (
+        _,
+        _,
+        refl,
+        (some_place, refl),
+        (None, (_, _, refl, ([], _, refl, refl, (some_place, refl)), (None, refl, ([], _, refl, refl, (some_place, refl))))),
+      ),
+    ),
+  ),
+)
 
 pub exact_head : (n d l : ℕ) → d + l ≡ n → Exact n IsInner (for_head_at d) Any (HeadText l) (HeadText l) Free
 exact_head n d l h =
     let low : 0 ≤ n = omega arith in
     let A = exact_assign n d l 0 h low in
-    let steps = λ (i : InitTree) (c : Option CondTree). mapped (exact_up_to mark.CloseParen A (assign_is_not mark.CloseParen refl refl l) assign_closes) (λ (e : Option AssignTree). (i, c, e)) Free (λ e o f. tt) (λ e o f. tt) in
+    let steps = λ (i : InitTree) (c : Option CondTree). mapped (exact_up_to mark.CloseParen A (assign_is_not mark.CloseParen refl refl l) assign_closes) (λ (e : Option AssignTree). (i, c, e)) Free
+    (λ e o f. tt) (λ e o f. tt) in
     let tests = λ (i : InitTree). then (exact_up_to mark.Semicolon (exact_cond n d l h) (λ c z o s. (cond_inside l c z o s).0) cond_stops) (steps i) (TestText l i)
     (λ c b y o s f. tt)
     (λ c z v. ((i, c, None), _, (c, (z, _, refl, v, (None, refl, ([], _, refl, refl, (some_place, refl)))))))

@@ -15,7 +15,8 @@ use Rattle.lra_parse.specs.declared.functions.Lead.{Lead}
 use Rattle.lra_parse.specs.declared.functions.Lead.TheVariants as lead
 use Rattle.lra_parse.specs.Tests.{is_mark}
 use Rattle.lra_parse.specs.Reading.{take_by, identifier_of, has}
-use Rattle.lra_parse.specs.Files.{is_main, next_main, HeadMark, at_int, at_type, at_void, head_mark, BuiltIn, of_input, of_assert, of_assume, built_ins, next_built_in, named, called, lead_form, plain_lead, read_lead, begins_part}
+use Rattle.lra_parse.specs.Files.{is_main, next_main, HeadMark, at_int, at_type, at_void, head_mark, BuiltIn, of_input, of_assert, of_assume, built_ins, next_built_in, named, called, lead_form}
+use Rattle.lra_parse.specs.Files.{plain_lead, read_lead, begins_part}
 use Rattle.lra_parse.proofs.Exact.{Exact, Any, Free, test, first_or}
 use Rattle.lra_parse.proofs.Forms.{rename, widen, retell, entry, mapped, choose, branch, exact_stop, exact_take}
 use Rattle.lra_parse.proofs.Tokens.{IsInner, name_is, exact_name, exact_operator, some_place, some_name}
@@ -59,7 +60,9 @@ main_token t x e =
 
 exact_main : (n : ℕ) → Exact n IsInner (take_by next_main) Any MainText MainText Free
 exact_main n =
-    let t = exact_take n IsInner next_main 0 (omega arith) refl (λ t x e f. let k = ap (λ (u : Token). u.kind) (main_token t x e) in let g : Name x.word ≡ End = sym k ∙ f in cc) some_main (record { kind = Name (codes "main"); place = some_place }) (main_self some_main refl) in
+    let t = exact_take n IsInner next_main 0 (omega arith) refl (λ t x e f.
+            let k = ap (λ (u : Token). u.kind) (main_token t x e) in let g : Name x.word ≡ End = sym k ∙ f in cc)
+            some_main (record { kind = Name (codes "main"); place = some_place }) (main_self some_main refl) in
     retell t MainText
     (λ x z s. (s.1 ∙ ap (λ (u : Token). (u, 0) ∷ []) (main_token s.0 x s.2), (main_is (identifier_of s.0.kind s.0.place) x s.2).1))
     (λ x z s. (record { kind = Name x.word; place = x.place }, s.0, main_self x s.1))
@@ -107,7 +110,8 @@ exact_called n b =
 some_called : (b : Bool) → (l : Lead) × (z : Pieces) × CalledText b l z
 some_called b = (named b some_name, _, inr (some_name, refl, refl))
 
-word_no_mark : (m : Mark) (w : BuiltIn) (at : Place) → is_mark m (Some (token mark.Input at)) ≡ false → is_mark m (Some (token mark.Assert at)) ≡ false → is_mark m (Some (token mark.Assume at)) ≡ false
+word_no_mark : (m : Mark) (w : BuiltIn) (at : Place) → is_mark m (Some (token mark.Input at)) ≡ false → is_mark m (Some (token mark.Assert at)) ≡ false →
+    is_mark m (Some (token mark.Assume at)) ≡ false
     → is_mark m (Some (token (mark_of_built_in w) at)) ≡ false
 word_no_mark m of_input at i j k = i
 word_no_mark m of_assert at i j k = j
@@ -208,7 +212,8 @@ plain_no_extern l z o s = let k = from_plain l z s in lead_begins k.0 l z o (λ 
 
 pub exact_lead : (n : ℕ) → Exact n IsInner read_lead Any LeadText LeadText Free
 exact_lead n =
-    let outer = exact_behind mark.Extern 0 (omega arith) (mapped (exact_plain n) to_bare Free (λ l o f. tt) (λ l o f. tt)) (lead.Bare, _, (lead.Void some_name, refl, (_, _, refl, (some_place, refl), refl))) in
+    let outer = exact_behind mark.Extern 0 (omega arith) (mapped (exact_plain n) to_bare Free (λ l o f. tt) (λ l o f. tt))
+    (lead.Bare, _, (lead.Void some_name, refl, (_, _, refl, (some_place, refl), refl))) in
     branch (is_mark mark.Extern)
     (entry (widen outer LeadText (λ l z s. inl s)) (λ o. ⊤ × (is_mark mark.Extern o ≡ true)) (λ o i. tt))
     (entry (widen (exact_plain n) LeadText (λ l z s. inr s)) (λ o. ⊤ × (is_mark mark.Extern o ≡ false)) (λ o i. tt))

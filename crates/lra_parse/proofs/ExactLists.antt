@@ -67,8 +67,10 @@ pub exact_commas_from : {n : ℕ} {A : Type 0} {p q : Parse A} {S S' : A → Pie
     → Exact n IsInner (commas_from p q) Any (λ b. S b.0 ⋅ further S' b.1) (λ b. S b.0 ⋅ further S' b.1) (AfterCommas F)
 exact_commas_from {n} {A} {p} {q} {S = S} {S' = S'} {F = F} P P' some fine =
     let item = entry (exact_behind mark.Comma 0 (omega arith) P' some) (λ o. is_mark mark.Comma o ≡ true) (λ o h. tt) in
-    let goes : (a : A) (o : Option Token) → is_mark mark.Comma o ≡ true → F a o = λ a o e. by_table (λ (u : Unit {0}). mark.Comma) ((mark.Comma, tt {0}) ∷ []) (refl, tt) (F a) (λ u at. fine a at) o (rw e refl) in
-    let list = λ (a : A). exact_list (is_mark mark.Comma) item (F a) refl (λ i x s. first_opened (λ i. is_mark mark.Comma i ≡ true) mark.Comma 0 s.0 s.1 x None s.2 s.3 (λ at. refl)) goes (λ o e. goes a o e) in
+    let goes : (a : A) (o : Option Token) → is_mark mark.Comma o ≡ true → F a o = λ a o e. by_table (λ (u : Unit {0}). mark.Comma) ((mark.Comma, tt {0}) ∷ []) (refl, tt) (F a) (λ u at. fine a at) o
+    (rw e refl) in
+    let list = λ (a : A). exact_list (is_mark mark.Comma) item (F a) refl (λ i x s. first_opened (λ i. is_mark mark.Comma i ≡ true) mark.Comma 0 s.0 s.1 x None s.2 s.3 (λ at. refl)) goes
+    (λ o e. goes a o e) in
     let t = then P (λ a. mapped (list a) (λ further. (a, further)) (AfterCommas F) (λ i o f. f) (λ i o f. f)) (λ b z. (S b.0 ⋅ further S' b.1) z)
     (λ a b y o s f. commas_first S' F fine a s.0 y o s.2 (λ e. let g : AfterCommas F (a, s.0) o = subst (λ (c : A × List A). AfterCommas F c o) (sym s.1) (f e) in g.0))
     (λ a z v. ((a, []), [], (z, [], refl, v, refl)))

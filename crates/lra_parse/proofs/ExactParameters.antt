@@ -146,7 +146,8 @@ parameters_sides (i ∷ is) z (x, y, e, s, t) = inr (inr (x, y, e, ((i, is), ref
 type_first : (x y z : Pieces) (o : Option Token) (P : Option Token → Type 0) → z ≡ x ++ y → IsType x → ((at : Place) → P (Some (token mark.Long at))) → P (first_or z o)
 type_first x y z o P e (a, b, f, s, t) k = first_opened P mark.Long 0 a (b ++ y) z o (e ∙ regroup x y a b f) s k
 
-parameter_first : (p : Option Identifier) (x y z : Pieces) (o : Option Token) (P : Option Token → Type 0) → z ≡ x ++ y → IsPrototypeParameter p x → ((at : Place) → P (Some (token mark.Long at))) → P (first_or z o)
+parameter_first : (p : Option Identifier) (x y z : Pieces) (o : Option Token) (P : Option Token → Type 0) → z ≡ x ++ y → IsPrototypeParameter p x → ((at : Place) → P (Some (token mark.Long at))) →
+    P (first_or z o)
 parameter_first None x y z o P e s k = type_first x y z o P e s k
 parameter_first (Some i) x y z o P e (u, v, f, s, t) k = type_first u (v ++ y) z o P (e ∙ regroup x y u v f) s k
 

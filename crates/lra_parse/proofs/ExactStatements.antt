@@ -10,12 +10,14 @@ use Rattle.lra_tree.specs.declared.trees.Identifier.{Identifier}
 use Rattle.lra_tree.specs.declared.trees.Step.{Step}
 use Rattle.lra_tree.specs.declared.trees.Step.TheVariants as step
 use Rattle.lra_tree.specs.Texts.{Pieces, Texts, ◌⋅◌, opens, mark as spells, opens_at, name}
-use Rattle.lra_tree.specs.Trees.{CondTree, CallTree, AssignTree, increment, after, InitTree, StmtTree, block, nothing, assign, call, if_only, if_else, while, for, break, continue, return, assert, assume}
+use Rattle.lra_tree.specs.Trees.{CondTree, CallTree, AssignTree, increment, after, InitTree, StmtTree, block, nothing, assign, call, if_only, if_else, while, for, break, continue, return, assert}
+use Rattle.lra_tree.specs.Trees.{assume}
 use Rattle.lra_tree.specs.Grammar.{InParens, IsSource, IsAssign, TakesElse, IsStmt}
 use Rattle.lra_parse.specs.Tests.{is_mark}
 use Rattle.lra_parse.specs.Reading.{Parse, seq, next_name, has}
 use Rattle.lra_parse.specs.Expressions.{in_parens, cond_at}
-use Rattle.lra_parse.specs.Statements.{StmtMark, at_nothing, at_if, at_while, at_for, at_break, at_continue, at_return, at_assert, at_assume, stmt_mark, else_part, read_if, read_while, for_of, read_for, read_jump, read_return, read_check, named_rest, read_assigned, simple_form, simple_of}
+use Rattle.lra_parse.specs.Statements.{StmtMark, at_nothing, at_if, at_while, at_for, at_break, at_continue, at_return, at_assert, at_assume, stmt_mark, else_part, read_if, read_while, for_of}
+use Rattle.lra_parse.specs.Statements.{read_for, read_jump, read_return, read_check, named_rest, read_assigned, simple_form, simple_of}
 use Rattle.lra_parse.proofs.Exact.{Exact, Any, Free, Both, first_or, then}
 use Rattle.lra_parse.proofs.Forms.{rename, widen, entry, given as given_fact, mapped, choose, branch, where_told, exact_done}
 use Rattle.lra_parse.proofs.Tokens.{IsInner, exact_expect_at, exact_name, some_place}
@@ -24,7 +26,8 @@ use Rattle.lra_parse.proofs.Parts.{token, exact_behind, exact_ended}
 use Rattle.lra_parse.proofs.ExactExpressions.{Of, first_opened}
 use Rattle.lra_parse.proofs.ExactConditions.{some_cond, exact_cond, exact_parens}
 use Rattle.lra_parse.proofs.ExactSources.{CallText, exact_call_rest, call_out, call_in}
-use Rattle.lra_parse.proofs.ExactAssignments.{mark_of_step, RestText, rest_assign, rest_no_open, BeforeText, NamedText, from_assign, exact_assign_rest, exact_assign, placed_first, assign_no_mark, assign_stops}
+use Rattle.lra_parse.proofs.ExactAssignments.{mark_of_step, RestText, rest_assign, rest_no_open, BeforeText, NamedText, from_assign, exact_assign_rest, exact_assign, placed_first, assign_no_mark}
+use Rattle.lra_parse.proofs.ExactAssignments.{assign_stops}
 use Rattle.lra_parse.proofs.ExactHeads.{OptionText, exact_returned, to_returned, from_returned, HeadText, some_head, exact_head, head_rest, rest_head}
 
 -- statements -------------------------------------------------------------------------------------------------------
@@ -112,7 +115,8 @@ SimpleAt o l (Some at_assert) b = CheckText o l mark.Assert assert b
 SimpleAt o l (Some at_assume) b = CheckText o l mark.Assume assume b
 SimpleAt o l None b = λ z. NamedStmt o l b z ⊎ SteppedStmt o l b z
 
-if_simple : (o l : ℕ) (at : Place) (c : CondTree) (t b : StmtTree) (x y u v p q z : Pieces) → z ≡ x ++ y → opens_at mark.If at o x → y ≡ u ++ v → InParens l c u → v ≡ p ++ q → BranchText l t p → ElseText l at c t b q → SimpleText o l b z
+if_simple : (o l : ℕ) (at : Place) (c : CondTree) (t b : StmtTree) (x y u v p q z : Pieces) → z ≡ x ++ y → opens_at mark.If at o x → y ≡ u ++ v → InParens l c u → v ≡ p ++ q → BranchText l t p →
+    ElseText l at c t b q → SimpleText o l b z
 if_simple o l at c t b x y u v p q z e s f h g k (inl ((i, j, n, m, (a, w, r)), shut)) =
     subst (λ (d : StmtTree). SimpleText o l d z) w (((x, y, e, s, (u, v, f, h, (p, q, g, k, (i, j, n, m, r)))), shut), (λ d. d))
 if_simple o l at c t b x y u v p q z e s f h g k (inr (w, n)) =
@@ -126,7 +130,8 @@ for_simple : (o l : ℕ) (b : StmtTree) (z : Pieces) → ForText o l b z → Sim
 for_simple o l b z (at, (x, y, e, s, (h, (u, v, f, k, (t, g, r))))) =
     subst (λ (d : StmtTree). SimpleText o l d z) g ((x, y, e, s, head_rest l h (λ w. IsStmt (l + 1) (l + 1) t w) y (u, v, f, k, r)), (λ d. d))
 
-jump_simple : (o l : ℕ) (m : Mark) (make : Place → StmtTree) → ((at : Place) (z : Pieces) → (opens_at m at o ⋅ spells mark.Semicolon) z → SimpleText o l (make at) z) → (b : StmtTree) (z : Pieces) → JumpText o m make b z → SimpleText o l b z
+jump_simple : (o l : ℕ) (m : Mark) (make : Place → StmtTree) → ((at : Place) (z : Pieces) → (opens_at m at o ⋅ spells mark.Semicolon) z → SimpleText o l (make at) z) → (b : StmtTree) (z : Pieces) →
+    JumpText o m make b z → SimpleText o l b z
 jump_simple o l m make whole b z (at, g, t) = subst (λ (d : StmtTree). SimpleText o l d z) g (whole at z t)
 
 return_simple : (o l : ℕ) (b : StmtTree) (z : Pieces) → ReturnText o l b z → SimpleText o l b z
@@ -238,7 +243,8 @@ module _ (n d l o : ℕ) (h : d + l ≡ n) (low : o ≤ n) (branches : Parse Stm
       let whole = exact_behind mark.Else 0 (omega arith) (mapped B (if_else at c t) AfterStmt (λ i k f. f) (λ i k f. f)) (if_else at c t some.0, some.1, (some.0, refl, some.2)) in
       let told = given_fact (entry whole (λ k. AfterStmt t k × (is_mark mark.Else k ≡ true)) (λ k i. tt)) (TakesElse t → ⊥) (λ k i. closed_before t k i.0 i.1) in
       branch (is_mark mark.Else) (widen told (ElseText l at c t) (λ b z s. inl s))
-      (widen (exact_done n IsInner (if_only at c t) (λ k. AfterStmt t k × (is_mark mark.Else k ≡ false)) (λ b z. (b ≡ if_only at c t) × (z ≡ [])) AfterStmt (λ k i j. i.1)) (ElseText l at c t) (λ b z s. inr s))
+      (widen (exact_done n IsInner (if_only at c t) (λ k. AfterStmt t k × (is_mark mark.Else k ≡ false)) (λ b z. (b ≡ if_only at c t) × (z ≡ [])) AfterStmt (λ k i j. i.1)) (ElseText l at c t)
+      (λ b z s. inr s))
       (λ b z k s f. first_opened (λ i. is_mark mark.Else i ≡ true) mark.Else 0 s.0.0 s.0.1 z k s.0.2 s.0.3 (λ at. refl))
       (λ b z k s f. no_else at c t b z k s.0 s.1 f)
 
@@ -254,7 +260,8 @@ module _ (n d l o : ℕ) (h : d + l ≡ n) (low : o ≤ n) (branches : Parse Stm
 
   exact_if : Exact n IsInner (read_if d branches) Any (IfText o l) (IfText o l) AfterStmt
   exact_if =
-      let some : (at : Place) (c : CondTree) → (b : StmtTree) × (y : Pieces) × BranchedText l at c b y = λ at c. let t = some_stmt (l + 1) (l + 1) in (if_only at c t.0, t.1, (t.0, (t.1, [], sym (append-nil t.1), t.2, inr (refl, refl)))) in
+      let some : (at : Place) (c : CondTree) → (b : StmtTree) × (y : Pieces) × BranchedText l at c b y =
+      λ at c. let t = some_stmt (l + 1) (l + 1) in (if_only at c t.0, t.1, (t.0, (t.1, [], sym (append-nil t.1), t.2, inr (refl, refl)))) in
       let inner = λ (at : Place). then conds (λ c. exact_branched at c) (λ b z. Both (InParens l) (BranchedText l at) b z)
       (λ c b y k s f. tt)
       (λ c z v. let t = some at c in (t.0, t.1, (c, (z, t.1, refl, v, t.2))))
@@ -273,7 +280,23 @@ module _ (n d l o : ℕ) (h : d + l ≡ n) (low : o ≤ n) (branches : Parse Stm
       (λ c b x y s r. (c, (x, y, refl, s, r))) in
       then (exact_expect_at n mark.While o low) inner (WhileText o l)
       (λ at b y k s f. tt)
-      (λ at z v. let c = some_cond l in (while at c.0 some.0, _, (at, (z, _, refl, v, (c.0, (_, _, refl, (_, _, refl, (some_place, refl), (_, _, refl, c.2, (some_place, refl))), (some.0, refl, some.2)))))))
+      (λ at z v. let c = some_cond l in (
+        while at c.0 some.0,
+        _,
+        (
+          at,
+          (
+            z,
+            _,
+            refl,
+            v,
+            (
+              c.0,
+              (_, _, refl, (_, _, refl, (some_place, refl), (_, _, refl, c.2, (some_place, refl))), (some.0, refl, some.2)),
+            ),
+          ),
+        ),
+      ))
       (λ at b x y s r. (at, (x, y, refl, s, r)))
 
   exact_for : Exact n IsInner (read_for d branches) Any (ForText o l) (ForText o l) AfterStmt
@@ -298,7 +321,8 @@ module _ (n d l o : ℕ) (h : d + l ≡ n) (low : o ≤ n) (branches : Parse Stm
       (λ at z v. (return at None, _, (at, (z, _, refl, v, (None, refl, ([], _, refl, refl, (some_place, refl)))))))
       (λ at b x y s r. (at, (x, y, refl, s, r)))
 
-  exact_check : (m : Mark) (make : Place → CondTree → StmtTree) → ((at : Place) (c : CondTree) → TakesElse (make at c) → ⊥) → Exact n IsInner (read_check d m make) Any (CheckText o l m make) (CheckText o l m make) AfterStmt
+  exact_check : (m : Mark) (make : Place → CondTree → StmtTree) → ((at : Place) (c : CondTree) → TakesElse (make at c) → ⊥) →
+      Exact n IsInner (read_check d m make) Any (CheckText o l m make) (CheckText o l m make) AfterStmt
   exact_check m make closes =
       let c = some_cond l in
       then (exact_expect_at n m o low) (λ at. mapped (exact_ended mark.Semicolon conds (λ c at. tt)) (make at) AfterStmt (λ c k f t. absurd (closes at c t)) (λ c k f. tt)) (CheckText o l m make)
@@ -333,12 +357,14 @@ module _ (n d l o : ℕ) (h : d + l ≡ n) (low : o ≤ n) (branches : Parse Stm
   SimpleKey k i = (stmt_mark i ≡ k) × Any i
 
   each_simple : (k : Option StmtMark) → Exact n IsInner (simple_form d branches k) (SimpleKey k) (SimpleAt o l k) (SimpleText o l) AfterStmt
-  each_simple (Some at_nothing) = entry (widen (mapped (exact_expect_at n mark.Semicolon o low) nothing AfterStmt (λ at k f t. absurd t) (λ at k f. tt)) (SimpleText o l) (λ b z s. to_simple o l (Some at_nothing) b z s)) (SimpleKey (Some at_nothing)) (λ k i. tt)
+  each_simple (Some at_nothing) = entry (widen (mapped (exact_expect_at n mark.Semicolon o low) nothing AfterStmt (λ at k f t. absurd t) (λ at k f. tt)) (SimpleText o l)
+      (λ b z s. to_simple o l (Some at_nothing) b z s)) (SimpleKey (Some at_nothing)) (λ k i. tt)
   each_simple (Some at_if) = entry (widen exact_if (SimpleText o l) (λ b z s. to_simple o l (Some at_if) b z s)) (SimpleKey (Some at_if)) (λ k i. tt)
   each_simple (Some at_while) = entry (widen exact_while (SimpleText o l) (λ b z s. while_simple o l b z s)) (SimpleKey (Some at_while)) (λ k i. tt)
   each_simple (Some at_for) = entry (widen exact_for (SimpleText o l) (λ b z s. for_simple o l b z s)) (SimpleKey (Some at_for)) (λ k i. tt)
   each_simple (Some at_break) = entry (widen (exact_jump mark.Break break (λ at t. t)) (SimpleText o l) (λ b z s. to_simple o l (Some at_break) b z s)) (SimpleKey (Some at_break)) (λ k i. tt)
-  each_simple (Some at_continue) = entry (widen (exact_jump mark.Continue continue (λ at t. t)) (SimpleText o l) (λ b z s. to_simple o l (Some at_continue) b z s)) (SimpleKey (Some at_continue)) (λ k i. tt)
+  each_simple (Some at_continue) = entry (widen (exact_jump mark.Continue continue (λ at t. t)) (SimpleText o l) (λ b z s. to_simple o l (Some at_continue) b z s)) (SimpleKey (Some at_continue))
+      (λ k i. tt)
   each_simple (Some at_return) = entry (widen exact_return (SimpleText o l) (λ b z s. return_simple o l b z s)) (SimpleKey (Some at_return)) (λ k i. tt)
   each_simple (Some at_assert) = entry (widen (exact_check mark.Assert assert (λ at c t. t)) (SimpleText o l) (λ b z s. to_simple o l (Some at_assert) b z s)) (SimpleKey (Some at_assert)) (λ k i. tt)
   each_simple (Some at_assume) = entry (widen (exact_check mark.Assume assume (λ at c t. t)) (SimpleText o l) (λ b z s. to_simple o l (Some at_assume) b z s)) (SimpleKey (Some at_assume)) (λ k i. tt)

@@ -66,7 +66,8 @@ unclosed_comment = text_fault (unclosed_front ++ token_at End 19 ∷ []) (record
 
 -- `int main(void){ long x; x = (x<1)+1; }`: a condition in parentheses is no expression
 abbrev compared_rest : Text
-compared_rest = mark_token mark.OpenParen 29 ∷ token_at (Name (codes "x")) 30 ∷ mark_token mark.Less 31 ∷ token_at (Number 1) 32 ∷ mark_token mark.CloseParen 33 ∷ mark_token mark.Plus 34 ∷ token_at (Number 1) 35 ∷ mark_token mark.Semicolon 36
+compared_rest = mark_token mark.OpenParen 29 ∷ token_at (Name (codes "x")) 30 ∷ mark_token mark.Less 31 ∷ token_at (Number 1) 32 ∷ mark_token mark.CloseParen 33 ∷ mark_token mark.Plus 34 ∷
+    token_at (Number 1) 35 ∷ mark_token mark.Semicolon 36
     ∷ mark_token mark.CloseBrace 38 ∷ []
 
 abbrev compared_front : Text

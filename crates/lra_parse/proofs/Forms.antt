@@ -20,7 +20,19 @@ module _ {n : ℕ} {Q : Token → Type 0} {A : Type 0} {p : Parse A} {E : Option
   pub widen : (W : A → Pieces → Type 0) → ((a : A) (x : Pieces) → V a x → W a x) → Exact n Q p E S W F
   widen W h = record {
     ok = P.ok;
-    err = λ T f i e. let l = P.err T f i e in record { done = l.done; rest = l.rest; parts = l.parts; low = l.low; inner = l.inner; left = l.left; tree = l.tree; tail = l.tail; viable = h _ _ l.viable; goes = l.goes; local = l.local };
+    err = λ T f i e. let l = P.err T f i e in record {
+      done = l.done;
+      rest = l.rest;
+      parts = l.parts;
+      low = l.low;
+      inner = l.inner;
+      left = l.left;
+      tree = l.tree;
+      tail = l.tail;
+      viable = h _ _ l.viable;
+      goes = l.goes;
+      local = l.local;
+    };
     again = P.again;
     deep = P.deep;
     one = P.one;
@@ -50,7 +62,19 @@ module _ {n : ℕ} {Q : Token → Type 0} {A : Type 0} {p : Parse A} {E : Option
   pub loose : Exact n (λ t. ⊤) p E S V F
   loose = record {
     ok = λ T a R i e. let l = P.ok T a R i e in (l.0, l.1, l.2, free l.0, l.4, l.5);
-    err = λ T f i e. let l = P.err T f i e in record { done = l.done; rest = l.rest; parts = l.parts; low = l.low; inner = free l.done; left = l.left; tree = l.tree; tail = l.tail; viable = l.viable; goes = l.goes; local = l.local };
+    err = λ T f i e. let l = P.err T f i e in record {
+      done = l.done;
+      rest = l.rest;
+      parts = l.parts;
+      low = l.low;
+      inner = free l.done;
+      left = l.left;
+      tree = l.tree;
+      tail = l.tail;
+      viable = l.viable;
+      goes = l.goes;
+      local = l.local;
+    };
     again = P.again;
     deep = P.deep;
     one = P.one;
@@ -80,7 +104,19 @@ module _ {n : ℕ} {Q : Token → Type 0} {A : Type 0} {p : Parse A} {E : Option
   pub given : (G : Type 0) → ((o : Option Token) → E o → G) → Exact n Q p E (λ a x. S a x × G) (λ a x. V a x × G) F
   given G h = record {
     ok = λ T a R i e. let l = P.ok T a R i e in (l.0, l.1, l.2, l.3, (l.4, h (first T) i), l.5);
-    err = λ T f i e. let l = P.err T f i e in record { done = l.done; rest = l.rest; parts = l.parts; low = l.low; inner = l.inner; left = l.left; tree = l.tree; tail = l.tail; viable = (l.viable, h (first T) i); goes = l.goes; local = l.local };
+    err = λ T f i e. let l = P.err T f i e in record {
+      done = l.done;
+      rest = l.rest;
+      parts = l.parts;
+      low = l.low;
+      inner = l.inner;
+      left = l.left;
+      tree = l.tree;
+      tail = l.tail;
+      viable = (l.viable, h (first T) i);
+      goes = l.goes;
+      local = l.local;
+    };
     again = λ x a R s low i f. P.again x a R s.0 low i f;
     deep = λ x t w a Y s low past i. P.deep x t w a Y s.0 low past i;
     one = λ x y a b R s s' low low' i f f' e. P.one x y a b R s.0 s'.0 low low' i f f' e;
@@ -122,11 +158,24 @@ module _ {n : ℕ} {Q : Token → Type 0} {A : Type 0} {p : Parse A} {E : Option
     ok = λ T b R i e.
         let m = bind_ok (p T) (λ r. Ok (f r.0, r.1)) (b, R) e in
         let l = P.ok T m.0.0 m.0.1 i m.1 in
-        subst (λ (r : B × Text). (x : Pieces) × (T ≡ plain x ++ r.1) × Low n x × Within Q x × ((a : A) × (f a ≡ r.0) × S a x) × F' r.0 (first r.1)) (ok_is (f m.0.0, m.0.1) (b, R) m.2) (l.0, l.1, l.2, l.3, (m.0.0, refl, l.4), out m.0.0 (first m.0.1) l.5);
+        subst (λ (r : B × Text). (x : Pieces) × (T ≡ plain x ++ r.1) × Low n x × Within Q x × ((a : A) × (f a ≡ r.0) × S a x) × F' r.0 (first r.1)) (ok_is (f m.0.0, m.0.1) (b, R) m.2)
+        (l.0, l.1, l.2, l.3, (m.0.0, refl, l.4), out m.0.0 (first m.0.1) l.5);
     err = λ T d i e. elim (bind_err (p T) (λ r. Ok (f r.0, r.1)) d e) [
       | inl g ↦
           let l = P.err T d i g in
-          record { done = l.done; rest = l.rest; parts = l.parts; low = l.low; inner = l.inner; left = l.left; tree = f l.tree; tail = l.tail; viable = (l.tree, refl, l.viable); goes = l.goes; local = λ Y h. ap (λ (r : Read A). r >>= λ s. Ok (f s.0, s.1)) (l.local Y h) }
+          record {
+            done = l.done;
+            rest = l.rest;
+            parts = l.parts;
+            low = l.low;
+            inner = l.inner;
+            left = l.left;
+            tree = f l.tree;
+            tail = l.tail;
+            viable = (l.tree, refl, l.viable);
+            goes = l.goes;
+            local = λ Y h. ap (λ (r : Read A). r >>= λ s. Ok (f s.0, s.1)) (l.local Y h);
+          }
       | inr m ↦ absurd cc
     ];
     again = λ x b R s low i h. rw (P.again x s.0 R s.2 low i (into s.0 (first R) (subst (λ (c : B). F' c (first R)) (sym s.1) h))) (ap (λ (c : B). Ok (c, R)) s.1);
@@ -158,7 +207,8 @@ module _ {n : ℕ} {Q : Token → Type 0} {A K : Type 0} {p : Parse A} {E : Opti
 
 -- one of several forms, told by the next token ----------------------------------------------------------------------
 
-module _ {n : ℕ} {Q : Token → Type 0} {A K : Type 0} (key : Option Token → K) {sel : K → Parse A} {S : K → A → Pieces → Type 0} {W : A → Pieces → Type 0} {E : Option Token → Type 0} {F : A → Option Token → Type 0}
+module _ {n : ℕ} {Q : Token → Type 0} {A K : Type 0} (key : Option Token → K) {sel : K → Parse A} {S : K → A → Pieces → Type 0} {W : A → Pieces → Type 0} {E : Option Token → Type 0}
+    {F : A → Option Token → Type 0}
     (each : (k : K) → Exact n Q (sel k) (λ o. (key o ≡ k) × E o) (S k) W F) where
   pub choose : ((k : K) (a : A) (x : Pieces) (o : Option Token) → S k a x → (x ≡ [] → F a o) → key (first_or x o) ≡ k) → Exact n Q (λ T. sel (key (first T)) T) E (λ a x. (k : K) × S k a x) W F
   choose begins = record {
@@ -240,7 +290,8 @@ module _ {n : ℕ} {Q : Token → Type 0} {A : Type 0} (tells : Option Token →
 
 module _ (n : ℕ) (Q : Token → Type 0) {A : Type 0} (a : A) (E : Option Token → Type 0) (W : A → Pieces → Type 0) (F : A → Option Token → Type 0) (h : (o : Option Token) → E o → F a o) where
   done_ok : (T : Text) (b : A) (R : Text) → F a (first T) → done_with a T ≡ Ok (b, R) → (x : Pieces) × (T ≡ plain x ++ R) × Low n x × Within Q x × ((b ≡ a) × (x ≡ [])) × F b (first R)
-  done_ok T b R f e = subst (λ (r : A × Text). (x : Pieces) × (T ≡ plain x ++ r.1) × Low n x × Within Q x × ((r.0 ≡ a) × (x ≡ [])) × F r.0 (first r.1)) (ok_is (a, T) (b, R) e) ([], refl, tt, tt, (refl, refl), f)
+  done_ok T b R f e = subst (λ (r : A × Text). (x : Pieces) × (T ≡ plain x ++ r.1) × Low n x × Within Q x × ((r.0 ≡ a) × (x ≡ [])) × F r.0 (first r.1)) (ok_is (a, T) (b, R) e)
+      ([], refl, tt, tt, (refl, refl), f)
 
   done_again : (b : A) (x : Pieces) (R : Text) → b ≡ a → x ≡ [] → done_with a (plain x ++ R) ≡ Ok (b, R)
   done_again b x R e f = rw (e, f) refl
@@ -256,12 +307,25 @@ module _ (n : ℕ) (Q : Token → Type 0) {A : Type 0} (a : A) (E : Option Token
   }
 
 -- no text begins so
-pub exact_stop : {n : ℕ} {Q : Token → Type 0} {A : Type 0} (E : Option Token → Type 0) (W : A → Pieces → Type 0) (F : A → Option Token → Type 0) (a : A) (x : Pieces) → W a x → Exact n Q (stop Syntax) E (λ b y. ⊥) W F
+pub exact_stop : {n : ℕ} {Q : Token → Type 0} {A : Type 0} (E : Option Token → Type 0) (W : A → Pieces → Type 0) (F : A → Option Token → Type 0) (a : A) (x : Pieces) → W a x →
+    Exact n Q (stop Syntax) E (λ b y. ⊥) W F
 exact_stop {n} {Q} E W F a x h = record {
   ok = λ T b R i e. absurd cc;
   err = λ T f i e.
       let is : record { cause = Syntax; left = length T } ≡ f = cc in
-      subst (λ (g : Fault). Fails n Q (stop Syntax) W T g) is (record { done = []; rest = T; parts = refl; low = tt; inner = tt; left = refl; tree = a; tail = x; viable = h; goes = tt; local = λ Y s. refl });
+      subst (λ (g : Fault). Fails n Q (stop Syntax) W T g) is (record {
+        done = [];
+        rest = T;
+        parts = refl;
+        low = tt;
+        inner = tt;
+        left = refl;
+        tree = a;
+        tail = x;
+        viable = h;
+        goes = tt;
+        local = λ Y s. refl;
+      });
   again = λ x b R s low i f. absurd s;
   deep = λ x t w b Y s low past i. absurd s;
   one = λ x y b b' R s s' low low' i f f' e. absurd s;

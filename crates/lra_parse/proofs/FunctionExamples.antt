@@ -17,10 +17,14 @@ use Rattle.lra_parse.proofs.CallExamples.{word_at, named_at}
 
 -- void f(long a,long long int b){} long g(){} int main(){f(1,2);}
 abbrev three : Text
-three = mark_token mark.Void 1 ∷ word_at (codes "f") 6 ∷ mark_token mark.OpenParen 7 ∷ mark_token mark.Long 8 ∷ word_at (codes "a") 13 ∷ mark_token mark.Comma 14 ∷ mark_token mark.Long 15 ∷ mark_token mark.Long 20 ∷ mark_token mark.Int 25
-    ∷ word_at (codes "b") 29 ∷ mark_token mark.CloseParen 30 ∷ mark_token mark.OpenBrace 31 ∷ mark_token mark.CloseBrace 32 ∷ mark_token mark.Long 34 ∷ word_at (codes "g") 39 ∷ mark_token mark.OpenParen 40 ∷ mark_token mark.CloseParen 41
-    ∷ mark_token mark.OpenBrace 42 ∷ mark_token mark.CloseBrace 43 ∷ mark_token mark.Int 45 ∷ word_at (codes "main") 49 ∷ mark_token mark.OpenParen 53 ∷ mark_token mark.CloseParen 54 ∷ mark_token mark.OpenBrace 55 ∷ word_at (codes "f") 56
-    ∷ mark_token mark.OpenParen 57 ∷ token_at (Number 1) 58 ∷ mark_token mark.Comma 59 ∷ token_at (Number 2) 60 ∷ mark_token mark.CloseParen 61 ∷ mark_token mark.Semicolon 62 ∷ mark_token mark.CloseBrace 63 ∷ []
+three = mark_token mark.Void 1 ∷ word_at (codes "f") 6 ∷ mark_token mark.OpenParen 7 ∷ mark_token mark.Long 8 ∷ word_at (codes "a") 13 ∷ mark_token mark.Comma 14 ∷ mark_token mark.Long 15 ∷
+    mark_token mark.Long 20 ∷ mark_token mark.Int 25
+    ∷ word_at (codes "b") 29 ∷ mark_token mark.CloseParen 30 ∷ mark_token mark.OpenBrace 31 ∷ mark_token mark.CloseBrace 32 ∷ mark_token mark.Long 34 ∷ word_at (codes "g") 39 ∷
+    mark_token mark.OpenParen 40 ∷ mark_token mark.CloseParen 41
+    ∷ mark_token mark.OpenBrace 42 ∷ mark_token mark.CloseBrace 43 ∷ mark_token mark.Int 45 ∷ word_at (codes "main") 49 ∷ mark_token mark.OpenParen 53 ∷ mark_token mark.CloseParen 54 ∷
+    mark_token mark.OpenBrace 55 ∷ word_at (codes "f") 56
+    ∷ mark_token mark.OpenParen 57 ∷ token_at (Number 1) 58 ∷ mark_token mark.Comma 59 ∷ token_at (Number 2) 60 ∷ mark_token mark.CloseParen 61 ∷ mark_token mark.Semicolon 62 ∷
+    mark_token mark.CloseBrace 63 ∷ []
 
 abbrev three_tree : FileTree
 three_tree = record {
@@ -46,7 +50,8 @@ three_found = tree_found (ended_at three 64) [] three_tree (ends three 64 refl) 
 
 -- int f(void){}: the type `int` alone is that of `main`
 abbrev int_result : Text
-int_result = mark_token mark.Int 1 ∷ word_at (codes "f") 5 ∷ mark_token mark.OpenParen 6 ∷ mark_token mark.Void 7 ∷ mark_token mark.CloseParen 11 ∷ mark_token mark.OpenBrace 12 ∷ mark_token mark.CloseBrace 13 ∷ []
+int_result = mark_token mark.Int 1 ∷ word_at (codes "f") 5 ∷ mark_token mark.OpenParen 6 ∷ mark_token mark.Void 7 ∷ mark_token mark.CloseParen 11 ∷ mark_token mark.OpenBrace 12 ∷
+    mark_token mark.CloseBrace 13 ∷ []
 
 int_result_stops : file_at 63 (ended_at int_result 14) ≡ Err (record { cause = Syntax; left = 7 })
 unfolding loop unary_at tests levels
@@ -57,7 +62,8 @@ int_function = text_fault (ended_at int_result 14) (record { cause = Syntax; lef
 
 -- void f(void,long a){}: nothing stands beside `void`
 abbrev void_more : Text
-void_more = mark_token mark.Void 1 ∷ word_at (codes "f") 6 ∷ mark_token mark.OpenParen 7 ∷ mark_token mark.Void 8 ∷ mark_token mark.Comma 12 ∷ mark_token mark.Long 13 ∷ word_at (codes "a") 18 ∷ mark_token mark.CloseParen 19 ∷ mark_token mark.OpenBrace 20
+void_more = mark_token mark.Void 1 ∷ word_at (codes "f") 6 ∷ mark_token mark.OpenParen 7 ∷ mark_token mark.Void 8 ∷ mark_token mark.Comma 12 ∷ mark_token mark.Long 13 ∷ word_at (codes "a") 18 ∷
+    mark_token mark.CloseParen 19 ∷ mark_token mark.OpenBrace 20
     ∷ mark_token mark.CloseBrace 21 ∷ []
 
 void_more_stops : file_at 63 (ended_at void_more 22) ≡ Err (record { cause = Syntax; left = 7 })

@@ -18,7 +18,8 @@ use Rattle.lra_parse.proofs.CallExamples.{word_at, named_at}
 
 -- long g,h=-5;int main(){}
 abbrev two : Text
-two = mark_token mark.Long 1 ∷ word_at (codes "g") 6 ∷ mark_token mark.Comma 7 ∷ word_at (codes "h") 8 ∷ mark_token mark.Assign 9 ∷ mark_token mark.Minus 10 ∷ token_at (Number 5) 11 ∷ mark_token mark.Semicolon 12
+two = mark_token mark.Long 1 ∷ word_at (codes "g") 6 ∷ mark_token mark.Comma 7 ∷ word_at (codes "h") 8 ∷ mark_token mark.Assign 9 ∷ mark_token mark.Minus 10 ∷ token_at (Number 5) 11 ∷
+    mark_token mark.Semicolon 12
     ∷ mark_token mark.Int 13 ∷ word_at (codes "main") 17 ∷ mark_token mark.OpenParen 21 ∷ mark_token mark.CloseParen 22 ∷ mark_token mark.OpenBrace 23 ∷ mark_token mark.CloseBrace 24 ∷ []
 
 abbrev two_tree : FileTree

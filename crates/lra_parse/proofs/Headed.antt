@@ -89,13 +89,15 @@ module _ (d : ℕ) where
   end_exit ps S T stopped.Memory l off g = tt
   end_exit ps S T (stopped.Fault f) l off g = rw (parts_end ps S T l off, g) refl
 
-  pub file_gives : (ps : List PartTree) (S T R : Text) (at : Place) → PartsLeft ps T (parts_at d S) → false ≡ begins_part (first T) → take_by next_end T ≡ Ok (at, R) → file_at d S ≡ Ok (file_of ps at, R)
+  pub file_gives : (ps : List PartTree) (S T R : Text) (at : Place) → PartsLeft ps T (parts_at d S) → false ≡ begins_part (first T) → take_by next_end T ≡ Ok (at, R) →
+      file_at d S ≡ Ok (file_of ps at, R)
   file_gives ps S T R at l off g = rw (parts_end ps S T l off, g) refl
 
 -- globals ------------------------------------------------------------------------------------------------------------
 
 -- the exit by `?` where the mark doesn't come behind them
-pub ended_exit : {A B : Type 0} (m : Mark) (p : Parse A) (f : A → B) (T M : Text) (b : B) (s : Stopped) → map_read f p T ≡ Ok (b, M) → GivesErr s (expect m (tt {0}) M) → GivesErr s (map_read f (ended m p) T)
+pub ended_exit : {A B : Type 0} (m : Mark) (p : Parse A) (f : A → B) (T M : Text) (b : B) (s : Stopped) → map_read f p T ≡ Ok (b, M) → GivesErr s (expect m (tt {0}) M) →
+    GivesErr s (map_read f (ended m p) T)
 ended_exit m p f T M b stopped.Memory e g = tt
 ended_exit {A} {B} m p f T M b (stopped.Fault d) e g =
     let k = bind_ok (p T) (λ r. Ok (f r.0, r.1)) (b, M) e in

@@ -59,7 +59,11 @@ the_file = exact_file 64 63 refl
 pub read_whole : (t : FileTree) (x : Pieces) → Spells t x → (file_at 63 (plain x) ≡ Ok (t, [])) ⊎ ((T : Text) × (file_at 63 (plain x) ≡ stop TooDeep T))
 read_whole t x s = elim (low_or_deep x) [
   | inl low ↦ inl (subst (λ (T : Text). file_at 63 T ≡ Ok (t, [])) (append-nil (plain x)) (the_file.again x t [] s low tt tt))
-  | inr d ↦ inr (d.1.0 ∷ plain d.2, subst (λ (T : Text). file_at 63 T ≡ stop TooDeep (d.1.0 ∷ plain d.2)) (sym (ap plain d.3 ∙ plain-append d.0 (d.1 ∷ d.2))) (the_file.deep d.0 d.1 d.2 t (plain d.2) (subst (Spells t) d.3 s) d.4 d.5 tt))
+  | inr d ↦ inr (
+    d.1.0 ∷ plain d.2,
+    subst (λ (T : Text). file_at 63 T ≡ stop TooDeep (d.1.0 ∷ plain d.2)) (sym (ap plain d.3 ∙ plain-append d.0 (d.1 ∷ d.2)))
+        (the_file.deep d.0 d.1 d.2 t (plain d.2) (subst (Spells t) d.3 s) d.4 d.5 tt),
+  )
 ]
 
 -- where two texts part
@@ -131,7 +135,8 @@ not_over F u w p (t, x, y, s, e, low) =
           absurd cc
       | inr d ↦
           let r : file_at 63 (plain (x ++ y)) ≡ stop TooDeep (d.1.0 ∷ plain d.2) =
-          subst (λ (T : Text). file_at 63 T ≡ stop TooDeep (d.1.0 ∷ plain d.2)) (sym (ap plain d.3 ∙ plain-append d.0 (d.1 ∷ d.2))) (the_file.deep d.0 d.1 d.2 t (plain d.2) (subst (Spells t) d.3 s) d.4 d.5 tt) in
+          subst (λ (T : Text). file_at 63 T ≡ stop TooDeep (d.1.0 ∷ plain d.2)) (sym (ap plain d.3 ∙ plain-append d.0 (d.1 ∷ d.2)))
+          (the_file.deep d.0 d.1 d.2 t (plain d.2) (subst (Spells t) d.3 s) d.4 d.5 tt) in
           let same = same_left (d.1.0 ∷ plain d.2) (u ∷ (w ++ plain y)) (sym r ∙ stop_here) in
           let far = behind_low x y d.0 d.1 d.2 d.3 low d.5 in
           let sizes = ap length d.3 in

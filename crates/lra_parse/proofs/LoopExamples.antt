@@ -7,7 +7,8 @@ use Rattle.lra_tree.specs.declared.trees.Identifier.{Identifier}
 use Rattle.lra_tree.specs.Program.{below}
 use Rattle.lra_tree.specs.Faults.{IsTree, IsTextFault}
 use Rattle.lra_tree.specs.Grammar.{Spells}
-use Rattle.lra_tree.specs.Trees.{literal, unary, ExprTree, term, value, conjunction, test, CondTree, expression, DeclarationTree, no_init, declared, StmtTree, block, nothing, if_only, if_else, while, for, break, return, ItemsTree, no_items, declaration, statement, function, FileTree, variable, compare, set, increment, before, assigned, continue}
+use Rattle.lra_tree.specs.Trees.{literal, unary, ExprTree, term, value, conjunction, test, CondTree, expression, DeclarationTree, no_init, declared, StmtTree, block, nothing, if_only, if_else, while}
+use Rattle.lra_tree.specs.Trees.{for, break, return, ItemsTree, no_items, declaration, statement, function, FileTree, variable, compare, set, increment, before, assigned, continue}
 use Rattle.lra_parse.specs.Reading.{Text, loop}
 use Rattle.lra_parse.specs.Expressions.{unary_at, tests}
 use Rattle.lra_parse.specs.Statements.{levels}
@@ -25,7 +26,10 @@ ends T column e = record { front = T; last = token_at End column; parts = refl; 
 -- int main(void){ and the body, up to the `}` and the end
 abbrev pub main_of : ItemsTree → ℕ → FileTree
 main_of body column =
-    record { parts = function (record { has_result = true; name = record { word = codes "main"; place = in_line 5 }; parameters = []; body = body; end = in_line column }) ∷ []; end = in_line (column + 1) }
+    record {
+      parts = function (record { has_result = true; name = record { word = codes "main"; place = in_line 5 }; parameters = []; body = body; end = in_line column }) ∷ [];
+      end = in_line (column + 1);
+    }
 
 abbrev x_at : ℕ → Identifier
 x_at column = record { word = codes "x"; place = in_line column }
@@ -62,7 +66,8 @@ cut_off_head = text_fault (ended_at cut_off 23) (record { cause = Syntax; left =
 
 -- int main(void){ for(long i=0,;;) ; }: a comma asks for another name
 abbrev declares : Text
-declares = main_head (mark_token mark.For 17 ∷ mark_token mark.OpenParen 20 ∷ mark_token mark.Long 21 ∷ token_at (Name (codes "i")) 26 ∷ mark_token mark.Assign 27 ∷ token_at (Number 0) 28 ∷ mark_token mark.Comma 29 ∷ mark_token mark.Semicolon 30
+declares = main_head (mark_token mark.For 17 ∷ mark_token mark.OpenParen 20 ∷ mark_token mark.Long 21 ∷ token_at (Name (codes "i")) 26 ∷ mark_token mark.Assign 27 ∷ token_at (Number 0) 28 ∷
+    mark_token mark.Comma 29 ∷ mark_token mark.Semicolon 30
     ∷ mark_token mark.Semicolon 31 ∷ mark_token mark.CloseParen 32 ∷ mark_token mark.Semicolon 34 ∷ mark_token mark.CloseBrace 36 ∷ [])
 
 declares_stops : file_at 63 (ended_at declares 37) ≡ Err (record { cause = Syntax; left = 6 })
@@ -74,7 +79,8 @@ unfinished_declaration = text_fault (ended_at declares 37) (record { cause = Syn
 
 -- int main(void){ if(1) long i; }: a branch is a statement, and a declaration is none
 abbrev declared_branch : Text
-declared_branch = main_head (mark_token mark.If 17 ∷ mark_token mark.OpenParen 19 ∷ token_at (Number 1) 20 ∷ mark_token mark.CloseParen 21 ∷ mark_token mark.Long 23 ∷ token_at (Name (codes "i")) 28 ∷ mark_token mark.Semicolon 29 ∷ mark_token mark.CloseBrace 31 ∷ [])
+declared_branch = main_head (mark_token mark.If 17 ∷ mark_token mark.OpenParen 19 ∷ token_at (Number 1) 20 ∷ mark_token mark.CloseParen 21 ∷ mark_token mark.Long 23 ∷ token_at (Name (codes "i")) 28 ∷
+    mark_token mark.Semicolon 29 ∷ mark_token mark.CloseBrace 31 ∷ [])
 
 declared_branch_stops : file_at 63 (ended_at declared_branch 32) ≡ Err (record { cause = Syntax; left = 5 })
 unfolding loop unary_at tests levels
@@ -85,7 +91,8 @@ declaration_as_branch = text_fault (ended_at declared_branch 32) (record { cause
 
 -- int main(void){ for(;;1) ; }: an expression is no step
 abbrev stepless : Text
-stepless = main_head (mark_token mark.For 17 ∷ mark_token mark.OpenParen 20 ∷ mark_token mark.Semicolon 21 ∷ mark_token mark.Semicolon 22 ∷ token_at (Number 1) 23 ∷ mark_token mark.CloseParen 24 ∷ mark_token mark.Semicolon 26 ∷ mark_token mark.CloseBrace 28 ∷ [])
+stepless = main_head (mark_token mark.For 17 ∷ mark_token mark.OpenParen 20 ∷ mark_token mark.Semicolon 21 ∷ mark_token mark.Semicolon 22 ∷ token_at (Number 1) 23 ∷ mark_token mark.CloseParen 24 ∷
+    mark_token mark.Semicolon 26 ∷ mark_token mark.CloseBrace 28 ∷ [])
 
 stepless_stops : file_at 63 (ended_at stepless 29) ≡ Err (record { cause = Syntax; left = 5 })
 unfolding loop unary_at tests levels
@@ -96,7 +103,8 @@ expression_as_step = text_fault (ended_at stepless 29) (record { cause = Syntax;
 
 -- int main(void){ while(1) ; else ; }: no `if` is near
 abbrev lone_else : Text
-lone_else = main_head (mark_token mark.While 17 ∷ mark_token mark.OpenParen 22 ∷ token_at (Number 1) 23 ∷ mark_token mark.CloseParen 24 ∷ mark_token mark.Semicolon 26 ∷ mark_token mark.Else 28 ∷ mark_token mark.Semicolon 33 ∷ mark_token mark.CloseBrace 35 ∷ [])
+lone_else = main_head (mark_token mark.While 17 ∷ mark_token mark.OpenParen 22 ∷ token_at (Number 1) 23 ∷ mark_token mark.CloseParen 24 ∷ mark_token mark.Semicolon 26 ∷ mark_token mark.Else 28 ∷
+    mark_token mark.Semicolon 33 ∷ mark_token mark.CloseBrace 35 ∷ [])
 
 lone_else_stops : file_at 63 (ended_at lone_else 36) ≡ Err (record { cause = Syntax; left = 4 })
 unfolding loop unary_at tests levels
@@ -123,8 +131,10 @@ jumps_found = tree_found (ended_at jumps 35) [] jumps_tree (ends jumps 35 refl) 
 
 -- int main(void){ for(long i;;) { long j; ; long k; } }
 abbrev inner : Text
-inner = main_head (mark_token mark.For 17 ∷ mark_token mark.OpenParen 20 ∷ mark_token mark.Long 21 ∷ token_at (Name (codes "i")) 26 ∷ mark_token mark.Semicolon 27 ∷ mark_token mark.Semicolon 28 ∷ mark_token mark.CloseParen 29
-    ∷ mark_token mark.OpenBrace 31 ∷ mark_token mark.Long 33 ∷ token_at (Name (codes "j")) 38 ∷ mark_token mark.Semicolon 39 ∷ mark_token mark.Semicolon 41 ∷ mark_token mark.Long 43 ∷ token_at (Name (codes "k")) 48 ∷ mark_token mark.Semicolon 49
+inner = main_head (mark_token mark.For 17 ∷ mark_token mark.OpenParen 20 ∷ mark_token mark.Long 21 ∷ token_at (Name (codes "i")) 26 ∷ mark_token mark.Semicolon 27 ∷ mark_token mark.Semicolon 28 ∷
+    mark_token mark.CloseParen 29
+    ∷ mark_token mark.OpenBrace 31 ∷ mark_token mark.Long 33 ∷ token_at (Name (codes "j")) 38 ∷ mark_token mark.Semicolon 39 ∷ mark_token mark.Semicolon 41 ∷ mark_token mark.Long 43 ∷
+    token_at (Name (codes "k")) 48 ∷ mark_token mark.Semicolon 49
     ∷ mark_token mark.CloseBrace 51 ∷ mark_token mark.CloseBrace 53 ∷ [])
 
 abbrev one_name : List ℕ → ℕ → DeclarationTree
@@ -143,11 +153,14 @@ inner_found = tree_found (ended_at inner 54) [] inner_tree (ends inner 54 refl) 
 
 -- int main(void){ for(x=0;x<9;++x) continue; return; }
 abbrev whole_for : Text
-whole_for = main_head (mark_token mark.For 17 ∷ mark_token mark.OpenParen 20 ∷ token_at (Name (codes "x")) 21 ∷ mark_token mark.Assign 22 ∷ token_at (Number 0) 23 ∷ mark_token mark.Semicolon 24 ∷ token_at (Name (codes "x")) 25 ∷ mark_token mark.Less 26 ∷ token_at (Number 9) 27
-    ∷ mark_token mark.Semicolon 28 ∷ mark_token mark.Increment 29 ∷ token_at (Name (codes "x")) 31 ∷ mark_token mark.CloseParen 32 ∷ mark_token mark.Continue 34 ∷ mark_token mark.Semicolon 42 ∷ mark_token mark.Return 44 ∷ mark_token mark.Semicolon 50 ∷ mark_token mark.CloseBrace 52 ∷ [])
+whole_for = main_head (mark_token mark.For 17 ∷ mark_token mark.OpenParen 20 ∷ token_at (Name (codes "x")) 21 ∷ mark_token mark.Assign 22 ∷ token_at (Number 0) 23 ∷ mark_token mark.Semicolon 24 ∷
+    token_at (Name (codes "x")) 25 ∷ mark_token mark.Less 26 ∷ token_at (Number 9) 27
+    ∷ mark_token mark.Semicolon 28 ∷ mark_token mark.Increment 29 ∷ token_at (Name (codes "x")) 31 ∷ mark_token mark.CloseParen 32 ∷ mark_token mark.Continue 34 ∷ mark_token mark.Semicolon 42 ∷
+    mark_token mark.Return 44 ∷ mark_token mark.Semicolon 50 ∷ mark_token mark.CloseBrace 52 ∷ [])
 
 abbrev whole_for_tree : FileTree
-whole_for_tree = main_of (statement (for (in_line 17) (assigned (set (x_at 21) (expression (number 0)))) (Some (conjunction (test (compare (term (unary (variable (x_at 25)))) below (number 9))))) (Some (before (in_line 29) increment (x_at 31))) (continue (in_line 34)))
+whole_for_tree = main_of (statement (for (in_line 17) (assigned (set (x_at 21) (expression (number 0)))) (Some (conjunction (test (compare (term (unary (variable (x_at 25)))) below (number 9)))))
+    (Some (before (in_line 29) increment (x_at 31))) (continue (in_line 34)))
     (statement (return (in_line 44) None) no_items)) 52
 
 whole_for_read : file_at 63 (ended_at whole_for 53) ≡ Ok (whole_for_tree, [])
@@ -159,12 +172,15 @@ whole_for_found = tree_found (ended_at whole_for 53) [] whole_for_tree (ends who
 
 -- int main(void){ if(1) while(2) for(;;) if(3) ; else ; }: the `else` belongs to the nearest `if`
 abbrev nearest : Text
-nearest = main_head (mark_token mark.If 17 ∷ mark_token mark.OpenParen 19 ∷ token_at (Number 1) 20 ∷ mark_token mark.CloseParen 21 ∷ mark_token mark.While 23 ∷ mark_token mark.OpenParen 28 ∷ token_at (Number 2) 29 ∷ mark_token mark.CloseParen 30
-    ∷ mark_token mark.For 32 ∷ mark_token mark.OpenParen 35 ∷ mark_token mark.Semicolon 36 ∷ mark_token mark.Semicolon 37 ∷ mark_token mark.CloseParen 38 ∷ mark_token mark.If 40 ∷ mark_token mark.OpenParen 42 ∷ token_at (Number 3) 43 ∷ mark_token mark.CloseParen 44
+nearest = main_head (mark_token mark.If 17 ∷ mark_token mark.OpenParen 19 ∷ token_at (Number 1) 20 ∷ mark_token mark.CloseParen 21 ∷ mark_token mark.While 23 ∷ mark_token mark.OpenParen 28 ∷
+    token_at (Number 2) 29 ∷ mark_token mark.CloseParen 30
+    ∷ mark_token mark.For 32 ∷ mark_token mark.OpenParen 35 ∷ mark_token mark.Semicolon 36 ∷ mark_token mark.Semicolon 37 ∷ mark_token mark.CloseParen 38 ∷ mark_token mark.If 40 ∷
+    mark_token mark.OpenParen 42 ∷ token_at (Number 3) 43 ∷ mark_token mark.CloseParen 44
     ∷ mark_token mark.Semicolon 46 ∷ mark_token mark.Else 48 ∷ mark_token mark.Semicolon 53 ∷ mark_token mark.CloseBrace 55 ∷ [])
 
 abbrev nearest_tree : FileTree
-nearest_tree = main_of (statement (if_only (in_line 17) (nonzero 1) (while (in_line 23) (nonzero 2) (for (in_line 32) no_init None None (if_else (in_line 40) (nonzero 3) (nothing (in_line 46)) (nothing (in_line 53)))))) no_items) 55
+nearest_tree = main_of (statement (if_only (in_line 17) (nonzero 1) (while (in_line 23) (nonzero 2)
+    (for (in_line 32) no_init None None (if_else (in_line 40) (nonzero 3) (nothing (in_line 46)) (nothing (in_line 53)))))) no_items) 55
 
 nearest_read : file_at 63 (ended_at nearest 56) ≡ Ok (nearest_tree, [])
 unfolding loop unary_at tests levels
@@ -178,7 +194,8 @@ nearest_found = tree_found (ended_at nearest 56) [] nearest_tree (ends nearest 5
 -- `for(;;)` n times
 abbrev loops : ℕ → ℕ → Text → Text
 loops zero column T = T
-loops (suc n) column T = mark_token mark.For column ∷ mark_token mark.OpenParen (column + 3) ∷ mark_token mark.Semicolon (column + 4) ∷ mark_token mark.Semicolon (column + 5) ∷ mark_token mark.CloseParen (column + 6) ∷ loops n (column + 7) T
+loops (suc n) column T = mark_token mark.For column ∷ mark_token mark.OpenParen (column + 3) ∷ mark_token mark.Semicolon (column + 4) ∷ mark_token mark.Semicolon (column + 5) ∷
+    mark_token mark.CloseParen (column + 6) ∷ loops n (column + 7) T
 
 abbrev loops_tree : ℕ → ℕ → StmtTree → StmtTree
 loops_tree zero column t = t

@@ -8,7 +8,8 @@ pub some_names : (xs : List Identifier) → names_of (map Some xs) ≡ Some xs
 some_names [] = refl
 some_names (x ∷ xs) = rw (some_names xs) refl
 
-more_names : (x : Identifier) (m : Option (List Identifier)) (ps : List (Option Identifier)) (xs : List Identifier) → option_map (λ ys. x ∷ ys) m ≡ Some xs → ((ys : List Identifier) → m ≡ Some ys → ps ≡ map Some ys) → Some x ∷ ps ≡ map Some xs
+more_names : (x : Identifier) (m : Option (List Identifier)) (ps : List (Option Identifier)) (xs : List Identifier) → option_map (λ ys. x ∷ ys) m ≡ Some xs →
+    ((ys : List Identifier) → m ≡ Some ys → ps ≡ map Some ys) → Some x ∷ ps ≡ map Some xs
 more_names x None ps xs e h = absurd cc
 more_names x (Some ys) ps xs e h = let f : x ∷ ys ≡ xs = cc in ap (λ (qs : List (Option Identifier)). Some x ∷ qs) (h ys refl) ∙ ap (λ (zs : List Identifier). map Some zs) f
 
@@ -42,7 +43,8 @@ names_stop [] = refl
 names_stop (None ∷ ps) = refl
 names_stop (Some x ∷ ps) = rw (names_stop ps) refl
 
-pub next_named : (ps : List (Option Identifier)) (xs ys : List Identifier) (b : Bool) (p : Option Identifier) (x : Identifier) → p ≡ Some x → ys ≡ xs ++ x ∷ [] → names_of ps ≡ so_far b xs → names_of (ps ++ p ∷ []) ≡ so_far b ys
+pub next_named : (ps : List (Option Identifier)) (xs ys : List Identifier) (b : Bool) (p : Option Identifier) (x : Identifier) → p ≡ Some x → ys ≡ xs ++ x ∷ [] → names_of ps ≡ so_far b xs →
+    names_of (ps ++ p ∷ []) ≡ so_far b ys
 next_named ps xs ys true p x e f h = rw (e, f) (names_push ps xs x h)
 next_named ps xs ys false p x e f h = names_lost ps (p ∷ []) h
 

@@ -16,7 +16,8 @@ use Rattle.lra_parse.proofs.Tokens.{IsInner, exact_expect, some_place, AreMarks,
 abbrev pub token : Mark → Place → Token
 token m at = record { kind = MarkOf m; place = at }
 
-pub exact_behind : {n : ℕ} {A : Type 0} {p : Parse A} {S : A → Pieces → Type 0} {F : A → Option Token → Type 0} (m : Mark) (o : ℕ) → o ≤ n → Exact n IsInner p Any S S F → ((a : A) × (x : Pieces) × S a x)
+pub exact_behind : {n : ℕ} {A : Type 0} {p : Parse A} {S : A → Pieces → Type 0} {F : A → Option Token → Type 0} (m : Mark) (o : ℕ) → o ≤ n → Exact n IsInner p Any S S F →
+    ((a : A) × (x : Pieces) × S a x)
     → Exact n IsInner (behind m p) Any (λ b. opens m o ⋅ S b) (λ b. opens m o ⋅ S b) F
 exact_behind {n} {S = S} m o low P some =
     let t = then (exact_expect n m o low (tt {0})) (λ u. P) (λ b. opens m o ⋅ S b)
@@ -28,7 +29,8 @@ exact_behind {n} {S = S} m o low P some =
 pub mark_follows : (F : Option Token → Type 0) (m : Mark) (o : ℕ) (k : Option Token) (y : Pieces) → opens m o y → ((at : Place) → F (Some (token m at))) → F (first_or y k)
 mark_follows F m o k y s h = subst (λ (x : Pieces). F (first_or x k)) (sym s.1) (h s.0)
 
-pub exact_ended : {n : ℕ} {A : Type 0} {p : Parse A} {E : Option Token → Type 0} {S : A → Pieces → Type 0} {F : A → Option Token → Type 0} (m : Mark) → Exact n IsInner p E S S F → (fine : (a : A) (at : Place) → F a (Some (token m at)))
+pub exact_ended : {n : ℕ} {A : Type 0} {p : Parse A} {E : Option Token → Type 0} {S : A → Pieces → Type 0} {F : A → Option Token → Type 0} (m : Mark) → Exact n IsInner p E S S F →
+    (fine : (a : A) (at : Place) → F a (Some (token m at)))
     → Exact n IsInner (ended m p) E (λ b. S b ⋅ mark m) (λ b. S b ⋅ mark m) Free
 exact_ended {n} {A} {S = S} {F = F} m P fine =
     let t = then P (λ a. entry (exact_expect n m 0 (omega arith) a) (F a) (λ o h. tt)) (λ b. S b ⋅ mark m)
@@ -51,7 +53,8 @@ pub table_mark : {A : Type 0} (mark_of : A → Mark) (ks : List (Mark × A)) →
 table_mark mark_of ks h o a e = mark_is (mark_of a) o (table_is mark_of ks h o a e)
 
 -- what holds of each mark of the table holds of the next token
-pub by_table : {A : Type 0} (mark_of : A → Mark) (ks : List (Mark × A)) → AreMarks mark_of ks → (F : Option Token → Type 0) → ((a : A) (at : Place) → F (Some (token (mark_of a) at))) → (o : Option Token) → has (one_of ks o) ≡ true → F o
+pub by_table : {A : Type 0} (mark_of : A → Mark) (ks : List (Mark × A)) → AreMarks mark_of ks → (F : Option Token → Type 0) → ((a : A) (at : Place) → F (Some (token (mark_of a) at))) →
+    (o : Option Token) → has (one_of ks o) ≡ true → F o
 by_table mark_of ks h F f o e =
     let s = some_is (one_of ks o) e in
     let m = table_mark mark_of ks h o s.0 s.1 in

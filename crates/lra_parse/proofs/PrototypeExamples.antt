@@ -16,9 +16,12 @@ use Rattle.lra_parse.proofs.CallExamples.{word_at, named_at}
 
 -- extern long f(long,long a); void assert(long); int main(){}
 abbrev declared : Text
-declared = mark_token mark.Extern 1 ∷ mark_token mark.Long 8 ∷ word_at (codes "f") 13 ∷ mark_token mark.OpenParen 14 ∷ mark_token mark.Long 15 ∷ mark_token mark.Comma 19 ∷ mark_token mark.Long 20 ∷ word_at (codes "a") 25
-    ∷ mark_token mark.CloseParen 26 ∷ mark_token mark.Semicolon 27 ∷ mark_token mark.Void 29 ∷ mark_token mark.Assert 34 ∷ mark_token mark.OpenParen 40 ∷ mark_token mark.Long 41 ∷ mark_token mark.CloseParen 45
-    ∷ mark_token mark.Semicolon 46 ∷ mark_token mark.Int 48 ∷ word_at (codes "main") 52 ∷ mark_token mark.OpenParen 56 ∷ mark_token mark.CloseParen 57 ∷ mark_token mark.OpenBrace 58 ∷ mark_token mark.CloseBrace 59 ∷ []
+declared = mark_token mark.Extern 1 ∷ mark_token mark.Long 8 ∷ word_at (codes "f") 13 ∷ mark_token mark.OpenParen 14 ∷ mark_token mark.Long 15 ∷ mark_token mark.Comma 19 ∷ mark_token mark.Long 20 ∷
+    word_at (codes "a") 25
+    ∷ mark_token mark.CloseParen 26 ∷ mark_token mark.Semicolon 27 ∷ mark_token mark.Void 29 ∷ mark_token mark.Assert 34 ∷ mark_token mark.OpenParen 40 ∷ mark_token mark.Long 41 ∷
+    mark_token mark.CloseParen 45
+    ∷ mark_token mark.Semicolon 46 ∷ mark_token mark.Int 48 ∷ word_at (codes "main") 52 ∷ mark_token mark.OpenParen 56 ∷ mark_token mark.CloseParen 57 ∷ mark_token mark.OpenBrace 58 ∷
+    mark_token mark.CloseBrace 59 ∷ []
 
 abbrev declared_tree : FileTree
 declared_tree = record {
@@ -35,7 +38,8 @@ declared_found = tree_found (ended_at declared 60) [] declared_tree (ends declar
 
 -- void f(long){}: a function's parameters have names
 abbrev unnamed : Text
-unnamed = mark_token mark.Void 1 ∷ word_at (codes "f") 6 ∷ mark_token mark.OpenParen 7 ∷ mark_token mark.Long 8 ∷ mark_token mark.CloseParen 12 ∷ mark_token mark.OpenBrace 13 ∷ mark_token mark.CloseBrace 14 ∷ []
+unnamed = mark_token mark.Void 1 ∷ word_at (codes "f") 6 ∷ mark_token mark.OpenParen 7 ∷ mark_token mark.Long 8 ∷ mark_token mark.CloseParen 12 ∷ mark_token mark.OpenBrace 13 ∷
+    mark_token mark.CloseBrace 14 ∷ []
 
 unnamed_stops : file_at 63 (ended_at unnamed 15) ≡ Err (record { cause = Syntax; left = 3 })
 unfolding loop unary_at tests levels
@@ -46,7 +50,8 @@ unnamed_parameter = text_fault (ended_at unnamed 15) (record { cause = Syntax; l
 
 -- extern int main(){}: behind `extern` stands no body
 abbrev outer_body : Text
-outer_body = mark_token mark.Extern 1 ∷ mark_token mark.Int 8 ∷ word_at (codes "main") 12 ∷ mark_token mark.OpenParen 16 ∷ mark_token mark.CloseParen 17 ∷ mark_token mark.OpenBrace 18 ∷ mark_token mark.CloseBrace 19 ∷ []
+outer_body = mark_token mark.Extern 1 ∷ mark_token mark.Int 8 ∷ word_at (codes "main") 12 ∷ mark_token mark.OpenParen 16 ∷ mark_token mark.CloseParen 17 ∷ mark_token mark.OpenBrace 18 ∷
+    mark_token mark.CloseBrace 19 ∷ []
 
 outer_body_stops : file_at 63 (ended_at outer_body 20) ≡ Err (record { cause = Syntax; left = 3 })
 unfolding loop unary_at tests levels
@@ -57,7 +62,8 @@ body_of_extern = text_fault (ended_at outer_body 20) (record { cause = Syntax; l
 
 -- void f(long int int);: a parameter without a name ends behind its type
 abbrev two_ints : Text
-two_ints = mark_token mark.Void 1 ∷ word_at (codes "f") 6 ∷ mark_token mark.OpenParen 7 ∷ mark_token mark.Long 8 ∷ mark_token mark.Int 13 ∷ mark_token mark.Int 17 ∷ mark_token mark.CloseParen 20 ∷ mark_token mark.Semicolon 21 ∷ []
+two_ints = mark_token mark.Void 1 ∷ word_at (codes "f") 6 ∷ mark_token mark.OpenParen 7 ∷ mark_token mark.Long 8 ∷ mark_token mark.Int 13 ∷ mark_token mark.Int 17 ∷ mark_token mark.CloseParen 20 ∷
+    mark_token mark.Semicolon 21 ∷ []
 
 two_ints_stops : file_at 63 (ended_at two_ints 22) ≡ Err (record { cause = Syntax; left = 4 })
 unfolding loop unary_at tests levels

@@ -19,7 +19,8 @@ use Rattle.lra_parse.specs.declared.reading.Stopped.{Stopped}
 use Rattle.lra_parse.specs.declared.reading.Stopped.TheVariants as stopped
 use Rattle.lra_parse.specs.Tests.{first, is_mark}
 use Rattle.lra_parse.specs.Reading.{Text, Read, Parse, stop, ◌>>=◌, map_read, expect, expect_at, list_step, GivesErr}
-use Rattle.lra_parse.specs.Statements.{declaration_at, ItemTree, declared, stated, put, items_from, begins_item, stated_of, body_of, block_from, too_deep, levels, branch_at, block_at, simple_at, item_at, items_at, put_list, put_all, ArePut}
+use Rattle.lra_parse.specs.Statements.{declaration_at, ItemTree, declared, stated, put, items_from, begins_item, stated_of, body_of, block_from, too_deep, levels, branch_at, block_at, simple_at}
+use Rattle.lra_parse.specs.Statements.{item_at, items_at, put_list, put_all, ArePut}
 use Rattle.lra_parse.proofs.Turning.{Left, turn_on, turn_err, turn_off}
 
 pub branch_zero : (d : ℕ) (T : Text) → d ≡ 0 → branch_at d T ≡ too_deep T
@@ -55,7 +56,8 @@ twice : {A B C : Type 0} (r : Read A) (f : A → B) (g : B → C) → ((r >>= (�
 twice (Ok x) f g = refl
 twice (Err e) f g = refl
 
-thrice : {A B C D : Type 0} (r : Read A) (f : A → B) (g : B → C) (h : C → D) → (((r >>= (λ x. Ok (f x.0, x.1))) >>= (λ x. Ok (g x.0, x.1))) >>= (λ x. Ok (h x.0, x.1))) ≡ (r >>= (λ x. Ok (h (g (f x.0)), x.1)))
+thrice : {A B C D : Type 0} (r : Read A) (f : A → B) (g : B → C) (h : C → D) → (((r >>= (λ x. Ok (f x.0, x.1))) >>= (λ x. Ok (g x.0, x.1))) >>= (λ x. Ok (h x.0, x.1))) ≡
+    (r >>= (λ x. Ok (h (g (f x.0)), x.1)))
 thrice (Ok x) f g h = refl
 thrice (Err e) f g h = refl
 
@@ -69,10 +71,12 @@ item_declared d T e =
     on_side (is_mark mark.Long (first T)) (map_read declared (declaration_at d) T) (map_read stated (stated_of (simple_at d) (map_read block_from (block_at d))) T) e in
     ap (λ (r : Read ItemTree). r >>= (λ x. Ok (put x.0, x.1))) side ∙ twice (declaration_at d T) declared put
 
-pub item_block : (d : ℕ) (T : Text) → false ≡ is_mark mark.Long (first T) → true ≡ is_mark mark.OpenBrace (first T) → map_read put (item_at d) T ≡ map_read (λ (b : ItemsTree × Place) (t : ItemsTree). statement (block_from b) t) (block_at d) T
+pub item_block : (d : ℕ) (T : Text) → false ≡ is_mark mark.Long (first T) → true ≡ is_mark mark.OpenBrace (first T) →
+    map_read put (item_at d) T ≡ map_read (λ (b : ItemsTree × Place) (t : ItemsTree). statement (block_from b) t) (block_at d) T
 item_block d T e f = rw (sym e, sym f) (thrice (block_at d T) block_from stated put)
 
-pub item_simple : (d : ℕ) (T : Text) → false ≡ is_mark mark.Long (first T) → false ≡ is_mark mark.OpenBrace (first T) → map_read put (item_at d) T ≡ map_read (λ (x : StmtTree) (t : ItemsTree). statement x t) (simple_at d) T
+pub item_simple : (d : ℕ) (T : Text) → false ≡ is_mark mark.Long (first T) → false ≡ is_mark mark.OpenBrace (first T) →
+    map_read put (item_at d) T ≡ map_read (λ (x : StmtTree) (t : ItemsTree). statement x t) (simple_at d) T
 item_simple d T e f = rw (sym e, sym f) (twice (simple_at d T) stated put)
 
 pub ruleset item_rules = (item_declared, item_block, item_simple)
@@ -95,7 +99,8 @@ body_view = fold-roll-Block (ItemsTree → ItemsTree) StmtTree (ItemsTree × Pla
 
 -- branches ---------------------------------------------------------------------------------------------------------
 
-pub close_gives : (is : ItemsTree) (T R : Text) (end : Place) → expect_at mark.CloseBrace T ≡ Ok (end, R) → map_read {B = ItemsTree × Place} (λ (e : Place). (is, e)) (expect_at mark.CloseBrace) T ≡ Ok ((is, end), R)
+pub close_gives : (is : ItemsTree) (T R : Text) (end : Place) → expect_at mark.CloseBrace T ≡ Ok (end, R) →
+    map_read {B = ItemsTree × Place} (λ (e : Place). (is, e)) (expect_at mark.CloseBrace) T ≡ Ok ((is, end), R)
 close_gives is T R end g = rw g refl
 
 -- the loop of a block ----------------------------------------------------------------------------------------------
@@ -154,12 +159,14 @@ module _ (d : ℕ) where
         turn_on begins_item (list_step (item_at d)) is (is ++ i.0 ∷ []) T R result l (sym on) s less,
       )
 
-  state_err : (items : List BlockItem) (T : Text) (f : Fault) (result : Read (List ItemTree)) → State items T result → true ≡ begins_item (first T) → 0 < length T → map_read put (item_at d) T ≡ Err f → result ≡ Err f
+  state_err : (items : List BlockItem) (T : Text) (f : Fault) (result : Read (List ItemTree)) → State items T result → true ≡ begins_item (first T) → 0 < length T →
+      map_read put (item_at d) T ≡ Err f → result ≡ Err f
   state_err items T f result (is, h, l) on some g =
       let s : list_step (item_at d) is T ≡ Err f = step_err (item_at d) is T f (put_err (item_at d T) f g) in
       turn_err begins_item (list_step (item_at d)) is T f result l (sym on) some s
 
-  pub state_end : (items : List BlockItem) (T : Text) (result : Read (List ItemTree)) → State items T result → false ≡ begins_item (first T) → (is : List ItemTree) × ArePut (map item_view items) is × (result ≡ Ok (is, T))
+  pub state_end : (items : List BlockItem) (T : Text) (result : Read (List ItemTree)) → State items T result → false ≡ begins_item (first T) → (is : List ItemTree) × ArePut (map item_view items) is ×
+      (result ≡ Ok (is, T))
   state_end items T result (is, h, l) off = (is, h, turn_off begins_item (list_step (item_at d)) is T result l (sym off))
 
   nonempty : (T : Text) → true ≡ begins_item (first T) → 0 < length T

@@ -67,7 +67,8 @@ module _ (n : ℕ) (m : Mark) (o : ℕ) (low : o ≤ n) where
       let t = exact_take n IsInner pick_place o low refl (λ t b e. mark_inner m t (picked_place b t.place (is_mark m (Some t)) e).0) (some_mark m).place (some_mark m) (rw (some_mark_is m) refl) in
       let s = same_where t (expect_at m) (λ T i. place_is T (place_of (first T)) (is_mark m (first T))) in
       retell s (λ at z. opens_at m at o z)
-      (λ b z s. let k = picked_place b s.0.place (is_mark m (Some s.0)) s.2 in s.1 ∙ ap (λ (t : Token). (t, o) ∷ []) (is_mark_some m s.0 k.0 ∙ ap (λ (at : Place). record { kind = MarkOf m; place = at }) k.1))
+      (λ b z s. let k = picked_place b s.0.place (is_mark m (Some s.0)) s.2 in s.1 ∙ ap (λ (t : Token). (t, o) ∷ [])
+      (is_mark_some m s.0 k.0 ∙ ap (λ (at : Place). record { kind = MarkOf m; place = at }) k.1))
       (λ b z s. (record { kind = MarkOf m; place = b }, s, rw (is_mark_self m (record { kind = MarkOf m; place = b }) refl) refl))
 
 -- names and numbers ------------------------------------------------------------------------------------------------
@@ -129,10 +130,12 @@ table_is {A} mark_of (k ∷ ks) h o a e = elim (test (is_mark k.0 o)) [
   | inr off ↦ let e' : one_of ks o ≡ Some a = rw off at e in table_is mark_of ks h.1 o a e'
 ]
 
-pub exact_operator : {A : Type 0} (n : ℕ) (mark_of : A → Mark) (ks : List (Mark × A)) → AreMarks mark_of ks → (self : (a : A) (at : Place) → one_of ks (Some (record { kind = MarkOf (mark_of a); place = at })) ≡ Some a)
+pub exact_operator : {A : Type 0} (n : ℕ) (mark_of : A → Mark) (ks : List (Mark × A)) → AreMarks mark_of ks →
+    (self : (a : A) (at : Place) → one_of ks (Some (record { kind = MarkOf (mark_of a); place = at })) ≡ Some a)
     → one_of ks None ≡ None → A → Exact n IsInner (take_by (one_of ks)) Any (λ a z. mark (mark_of a) z) (λ a z. mark (mark_of a) z) Free
 exact_operator n mark_of ks h self none w =
-    let t = exact_take n IsInner (one_of ks) 0 (omega arith) none (λ t a e. mark_inner (mark_of a) t (table_is mark_of ks h (Some t) a e)) w (record { kind = MarkOf (mark_of w); place = some_place }) (self w some_place) in
+    let t = exact_take n IsInner (one_of ks) 0 (omega arith) none (λ t a e. mark_inner (mark_of a) t (table_is mark_of ks h (Some t) a e)) w (record { kind = MarkOf (mark_of w); place = some_place })
+    (self w some_place) in
     retell t (λ a z. mark (mark_of a) z)
     (λ a z s. (s.0.place, s.1 ∙ ap (λ (t : Token). (t, 0) ∷ []) (is_mark_some (mark_of a) s.0 (table_is mark_of ks h (Some s.0) a s.2))))
     (λ a z s. (record { kind = MarkOf (mark_of a); place = s.0 }, s.1, self a s.0))

@@ -1,5 +1,6 @@
 -- A turn of a loop, as the code takes it.
-use Rattle.std.proofs.Common.{◌≡◌, ℕ, zero, suc, ◌≤◌, ◌<◌, Bool, true, false, List, [], ◌∷◌, ◌++◌, length, map, Option, Some, None, Result, Ok, Err, IfOk, Bor, refl, sym, ap, subst, ◌∙◌, arith, inl, inr}
+use Rattle.std.proofs.Common.{◌≡◌, ℕ, zero, suc, ◌≤◌, ◌<◌, Bool, true, false, List, [], ◌∷◌, ◌++◌, length, map, Option, Some, None, Result, Ok, Err, IfOk, Bor, refl, sym, ap, subst, ◌∙◌, arith, inl}
+use Rattle.std.proofs.Common.{inr}
 use Rattle.std.proofs.lemmas.List.{map_push}
 use Rattle.lra_tree.specs.declared.refusals.Cause.TheVariants.{Syntax}
 use Rattle.lra_tree.specs.declared.tokens.Mark.{Mark}
@@ -68,7 +69,8 @@ module _ {I A O : Type 0} (op : Option Token → Option O) (at_end : op None ≡
       let less : length R ≤ length T = subst (λ (W : Text). length R ≤ length W) u sh in
       turn_on More (chain_step op grow p) a (grow a k i) (t ∷ T) R result l (rw on refl) s (omega arith)
 
-  pub grown_turn : (a b : A) (k : O) (i : I) (T U R : Text) (result : Read A) → b ≡ grow a k i → Left More (chain_step op grow p) a T result → op (first T) ≡ Some k → U ≡ tail T → p U ≡ Ok (i, R) → length R ≤ length U
+  pub grown_turn : (a b : A) (k : O) (i : I) (T U R : Text) (result : Read A) → b ≡ grow a k i → Left More (chain_step op grow p) a T result → op (first T) ≡ Some k → U ≡ tail T → p U ≡ Ok (i, R) →
+      length R ≤ length U
       → Left More (chain_step op grow p) b R result
   grown_turn a b k i T U R result g l on u e sh = subst (λ (c : A). Left More (chain_step op grow p) c R result) (sym g) (chain_turn a k i T U R result l on u e sh)
 
@@ -79,7 +81,8 @@ module _ {I A O : Type 0} (op : Option Token → Option O) (at_end : op None ≡
       turn_err More (chain_step op grow p) a (t ∷ T) f result l (rw on refl) (omega arith) (rw (on, e') refl)
 
   -- the exit by `?` in a turn
-  pub chain_exit : (a : A) (k : O) (T U : Text) (e : Stopped) (result : Read A) → Left More (chain_step op grow p) a T result → op (first T) ≡ Some k → U ≡ tail T → GivesErr e (p U) → GivesErr e result
+  pub chain_exit : (a : A) (k : O) (T U : Text) (e : Stopped) (result : Read A) → Left More (chain_step op grow p) a T result → op (first T) ≡ Some k → U ≡ tail T → GivesErr e (p U) →
+      GivesErr e result
   chain_exit a k T U stopped.Memory result l on u g = tt
   chain_exit a k T U (stopped.Fault f) result l on u g = chain_err a k T U f result l on u g
 
@@ -125,7 +128,8 @@ up_to_exit m p T M a (stopped.Fault f) off g h = rw (sym off, g) (expect_err m (
 
 -- lists: a turn behind a mark
 module _ {I : Type 0} (m : Mark) (p : Parse I) where
-  pub comma_turn : (a b : List I) (i : I) (T U R : Text) (result : Read (List I)) → b ≡ a ++ i ∷ [] → Left (is_mark m) (list_step (behind m p)) a T result → true ≡ is_mark m (first T) → U ≡ tail T → p U ≡ Ok (i, R) → length R ≤ length U
+  pub comma_turn : (a b : List I) (i : I) (T U R : Text) (result : Read (List I)) → b ≡ a ++ i ∷ [] → Left (is_mark m) (list_step (behind m p)) a T result → true ≡ is_mark m (first T) → U ≡ tail T →
+      p U ≡ Ok (i, R) → length R ≤ length U
       → Left (is_mark m) (list_step (behind m p)) b R result
   comma_turn a b i [] U R result g l on u e sh = absurd cc
   comma_turn a b i (t ∷ T) U R result g l on u e sh =
@@ -134,13 +138,15 @@ module _ {I : Type 0} (m : Mark) (p : Parse I) where
       let less : length R ≤ length T = subst (λ (W : Text). length R ≤ length W) u sh in
       subst (λ (c : List I). Left (is_mark m) (list_step (behind m p)) c R result) (sym g) (turn_on (is_mark m) (list_step (behind m p)) a (a ++ i ∷ []) (t ∷ T) R result l (sym on) s (omega arith))
 
-  comma_err : (a : List I) (T U : Text) (f : Fault) (result : Read (List I)) → Left (is_mark m) (list_step (behind m p)) a T result → true ≡ is_mark m (first T) → U ≡ tail T → p U ≡ Err f → result ≡ Err f
+  comma_err : (a : List I) (T U : Text) (f : Fault) (result : Read (List I)) → Left (is_mark m) (list_step (behind m p)) a T result → true ≡ is_mark m (first T) → U ≡ tail T → p U ≡ Err f →
+      result ≡ Err f
   comma_err a [] U f result l on u e = absurd cc
   comma_err a (t ∷ T) U f result l on u e =
       let e' : p T ≡ Err f = subst (λ (W : Text). p W ≡ Err f) u e in
       turn_err (is_mark m) (list_step (behind m p)) a (t ∷ T) f result l (sym on) (omega arith) (rw (sym on, e') refl)
 
-  pub comma_exit : (a : List I) (T U : Text) (e : Stopped) (result : Read (List I)) → Left (is_mark m) (list_step (behind m p)) a T result → true ≡ is_mark m (first T) → U ≡ tail T → GivesErr e (p U) → GivesErr e result
+  pub comma_exit : (a : List I) (T U : Text) (e : Stopped) (result : Read (List I)) → Left (is_mark m) (list_step (behind m p)) a T result → true ≡ is_mark m (first T) → U ≡ tail T →
+      GivesErr e (p U) → GivesErr e result
   comma_exit a T U stopped.Memory result l on u g = tt
   comma_exit a T U (stopped.Fault f) result l on u g = comma_err a T U f result l on u g
 

@@ -8,7 +8,8 @@ use Rattle.lra_tree.specs.Texts.{Piece, Pieces, plain}
 use Rattle.lra_parse.specs.declared.reading.Fault.{Fault}
 use Rattle.lra_parse.specs.Tests.{first}
 use Rattle.lra_parse.specs.Reading.{Text, Read, Parse, stop, ◌>>=◌, done_with, loop, turns}
-use Rattle.lra_parse.proofs.Exact.{Low, Within, Goes, Exact, bind_ok, bind_err, ok_is, test, first_same, plain-then, Low-append, Low-left, Low-right, Within-append, Goes-more, in_first, in_second, lies, first_or, first_or-on, nonempty, same_split}
+use Rattle.lra_parse.proofs.Exact.{Low, Within, Goes, Exact, bind_ok, bind_err, ok_is, test, first_same, plain-then, Low-append, Low-left, Low-right, Within-append, Goes-more, in_first, in_second}
+use Rattle.lra_parse.proofs.Exact.{lies, first_or, first_or-on, nonempty, same_split}
 
 -- b comes from a by steps, one after the other
 pub data Steps {A : Type 0} (S : A → A → Pieces → Type 0) (b : A) : A → Pieces → Type 0 where
@@ -37,9 +38,11 @@ module _ {n : ℕ} {Q : Token → Type 0} {A : Type 0} (more : Option Token → 
   begins_with a c [] M s = let t = begins a c [] s in absurd cc
   begins_with a c (k ∷ x) M s = begins a c (k ∷ x) s
 
-  loop_ok : (m : ℕ) (a b : A) (T R : Text) → length T ≤ m → F a (first T) → loop more step m a T ≡ Ok (b, R) → (x : Pieces) × (T ≡ plain x ++ R) × Low n x × Within Q x × Steps S b a x × Past b (first R)
+  loop_ok : (m : ℕ) (a b : A) (T R : Text) → length T ≤ m → F a (first T) → loop more step m a T ≡ Ok (b, R) → (x : Pieces) × (T ≡ plain x ++ R) × Low n x × Within Q x × Steps S b a x ×
+      Past b (first R)
   unfolding loop
-  loop_ok zero a b [] R h i e = subst (λ (r : A × Text). (x : Pieces) × ([] ≡ plain x ++ r.1) × Low n x × Within Q x × Steps S r.0 a x × Past r.0 (first r.1)) (ok_is (a, []) (b, R) e) ([], refl, tt, tt, none, (i, at_end))
+  loop_ok zero a b [] R h i e = subst (λ (r : A × Text). (x : Pieces) × ([] ≡ plain x ++ r.1) × Low n x × Within Q x × Steps S r.0 a x × Past r.0 (first r.1)) (ok_is (a, []) (b, R) e)
+      ([], refl, tt, tt, none, (i, at_end))
   loop_ok zero a b (t ∷ T) R h i e = absurd (omega arith)
   loop_ok (suc m) a b T R h i e = elim (test (more (first T))) [
     | inl on ↦
@@ -162,7 +165,8 @@ module _ {n : ℕ} {Q : Token → Type 0} {A : Type 0} (more : Option Token → 
         rw whole (loop_after m a c y (plain z ++ R) s (Low-left n y z low) (subst (λ (t : Text). length t ≤ m) whole h)
         (may_follow b c z R r f.0) (Ok (b, R)) (λ k k'. loop_again b c z R r (Low-right n y z low) f k k'))
 
-    loop_deep : (b a : A) (x u : Pieces) (t : Piece) (w : Pieces) (Y : Text) → Steps S b a x → x ≡ u ++ t ∷ w → Low n u → n < t.1 → (m : ℕ) → length (plain u ++ t.0 ∷ Y) ≤ m → loop more step m a (plain u ++ t.0 ∷ Y) ≡ stop TooDeep (t.0 ∷ Y)
+    loop_deep : (b a : A) (x u : Pieces) (t : Piece) (w : Pieces) (Y : Text) → Steps S b a x → x ≡ u ++ t ∷ w → Low n u → n < t.1 → (m : ℕ) → length (plain u ++ t.0 ∷ Y) ≤ m →
+        loop more step m a (plain u ++ t.0 ∷ Y) ≡ stop TooDeep (t.0 ∷ Y)
     loop_deep b a x u t w Y none e low over m h = absurd (nonempty u t w (sym e))
     loop_deep b a x u t w Y (turn {a = _} {c = c} {x = y} {y = z} s r) e low over m h = elim (lies y z u t w e) [
       | in_first v e' ↦

@@ -11,7 +11,8 @@ use Rattle.lra_tree.specs.declared.trees.Identifier.{Identifier}
 use Rattle.lra_tree.specs.Trees.{UnaryTree, negated, positive, group, literal, variable, ExprTree, NegationTree, opposite, opposite_again, value_of_unary, CondTree}
 use Rattle.lra_parse.specs.Tests.{first, is_mark, is_kind}
 use Rattle.lra_parse.specs.Reading.{Text, Read, stop, ◌>>=◌, seq, map_read, tail, expect, take_by, taken, next_name, next_number, number_of, identifier_of, one_of}
-use Rattle.lra_parse.specs.Expressions.{behind, in_parens, unary_marks, unary_mark, unary_form, unary_at, expr_at, negated_at, positive_at, grouped_at, TestMark, at_not, at_open, test_mark, test_form, negation_form, tests, test_at, negation_at, cond_at, opposed_at, closed_at, after_group, negation_of}
+use Rattle.lra_parse.specs.Expressions.{behind, in_parens, unary_marks, unary_mark, unary_form, unary_at, expr_at, negated_at, positive_at, grouped_at, TestMark, at_not, at_open, test_mark, test_form}
+use Rattle.lra_parse.specs.Expressions.{negation_form, tests, test_at, negation_at, cond_at, opposed_at, closed_at, after_group, negation_of}
 use Rattle.lra_parse.proofs.Exact.{ok_is}
 use Rattle.lra_parse.proofs.Turning.{expect_value}
 
@@ -96,7 +97,8 @@ variable_gives d (t ∷ T) R x e =
     let number : number_of t.kind ≡ None = name_number t.kind t.place x name in
     rw (unary_is d (t ∷ T), none, number) (rw e refl)
 
-pub grouped_gives : (d : ℕ) (T U R R' : Text) (e : ExprTree) → (d ≡ 0 → ⊥) → expect mark.OpenParen (tt {0}) T ≡ Ok (tt {0}, U) → expr_at (d - 1) U ≡ Ok (e, R) → expect mark.CloseParen (tt {0}) R ≡ Ok (tt {0}, R') → grouped_at d T ≡ Ok (group e, R')
+pub grouped_gives : (d : ℕ) (T U R R' : Text) (e : ExprTree) → (d ≡ 0 → ⊥) → expect mark.OpenParen (tt {0}) T ≡ Ok (tt {0}, U) → expr_at (d - 1) U ≡ Ok (e, R) →
+    expect mark.CloseParen (tt {0}) R ≡ Ok (tt {0}, R') → grouped_at d T ≡ Ok (group e, R')
 grouped_gives d T U R R' e h o i c = rw (grouped_some d T h, o, i, expect_value mark.CloseParen (tt {0}) e R R' c) refl
 
 -- conditions -------------------------------------------------------------------------------------------------------
@@ -105,23 +107,27 @@ bind_again : {A B C : Type 0} (r : Read A) (f : A × Text → Read B) (g : B × 
 bind_again (Ok x) f g = refl
 bind_again (Err e) f g = refl
 
-test_zero : (T : Text) (k : Option TestMark) → test_form (unary_at zero) (stop TooDeep) (stop TooDeep) k T ≡ test_form (unary_at zero) (map_read opposite (opposed_at zero)) (seq (closed_at zero) (after_group (unary_at zero))) k T
+test_zero : (T : Text) (k : Option TestMark) → test_form (unary_at zero) (stop TooDeep) (stop TooDeep) k T ≡
+    test_form (unary_at zero) (map_read opposite (opposed_at zero)) (seq (closed_at zero) (after_group (unary_at zero))) k T
 test_zero T (Some at_not) = refl
 test_zero T (Some at_open) = refl
 test_zero T None = refl
 
-test_some : (d : ℕ) (T : Text) (k : Option TestMark) → test_form (unary_at (suc d)) (behind mark.Not (map_read opposite (negation_at d))) (seq (in_parens (cond_at d)) (after_group (unary_at (suc d)))) k T
+test_some : (d : ℕ) (T : Text) (k : Option TestMark) → test_form (unary_at (suc d)) (behind mark.Not (map_read opposite (negation_at d)))
+    (seq (in_parens (cond_at d)) (after_group (unary_at (suc d)))) k T
     ≡ test_form (unary_at (suc d)) (map_read opposite (opposed_at (suc d))) (seq (closed_at (suc d)) (after_group (unary_at (suc d)))) k T
 test_some d T (Some at_not) = bind_again (expect mark.Not (tt {0}) T) (λ r. negation_at d r.1) (λ r. Ok (opposite r.0, r.1))
 test_some d T (Some at_open) = refl
 test_some d T None = refl
 
-negation_zero : (T : Text) (k : Option TestMark) → negation_form (unary_at zero) (stop TooDeep) (stop TooDeep) k T ≡ negation_form (unary_at zero) (map_read opposite_again (opposed_at zero)) (map_read negation_of (closed_at zero)) k T
+negation_zero : (T : Text) (k : Option TestMark) → negation_form (unary_at zero) (stop TooDeep) (stop TooDeep) k T ≡
+    negation_form (unary_at zero) (map_read opposite_again (opposed_at zero)) (map_read negation_of (closed_at zero)) k T
 negation_zero T (Some at_not) = refl
 negation_zero T (Some at_open) = refl
 negation_zero T None = refl
 
-negation_some : (d : ℕ) (T : Text) (k : Option TestMark) → negation_form (unary_at (suc d)) (behind mark.Not (map_read opposite_again (negation_at d))) (map_read negation_of (in_parens (cond_at d))) k T
+negation_some : (d : ℕ) (T : Text) (k : Option TestMark) → negation_form (unary_at (suc d)) (behind mark.Not (map_read opposite_again (negation_at d)))
+    (map_read negation_of (in_parens (cond_at d))) k T
     ≡ negation_form (unary_at (suc d)) (map_read opposite_again (opposed_at (suc d))) (map_read negation_of (closed_at (suc d))) k T
 negation_some d T (Some at_not) = bind_again (expect mark.Not (tt {0}) T) (λ r. negation_at d r.1) (λ r. Ok (opposite_again r.0, r.1))
 negation_some d T (Some at_open) = refl
@@ -168,8 +174,10 @@ opposite_gives d T R n e f = test_is d T ∙ rw (sym e) (rw f refl)
 pub again_gives : (d : ℕ) (T R : Text) (n : NegationTree) → true ≡ is_mark mark.Not (first T) → opposed_at d T ≡ Ok (n, R) → negation_at d T ≡ Ok (opposite_again n, R)
 again_gives d T R n e f = negation_is d T ∙ rw (sym e) (rw f refl)
 
-pub strict_gives : (d : ℕ) (T R : Text) (c : CondTree) → false ≡ is_mark mark.Not (first T) → true ≡ is_mark mark.OpenParen (first T) → closed_at d T ≡ Ok (c, R) → negation_at d T ≡ Ok (negation_of c, R)
+pub strict_gives : (d : ℕ) (T R : Text) (c : CondTree) → false ≡ is_mark mark.Not (first T) → true ≡ is_mark mark.OpenParen (first T) → closed_at d T ≡ Ok (c, R) →
+    negation_at d T ≡ Ok (negation_of c, R)
 strict_gives d T R c e o f = negation_is d T ∙ rw (sym e, sym o) (rw f refl)
 
-pub operand_gives : (d : ℕ) (T R : Text) (u : UnaryTree) → false ≡ is_mark mark.Not (first T) → false ≡ is_mark mark.OpenParen (first T) → unary_at d T ≡ Ok (u, R) → negation_at d T ≡ Ok (value_of_unary u, R)
+pub operand_gives : (d : ℕ) (T R : Text) (u : UnaryTree) → false ≡ is_mark mark.Not (first T) → false ≡ is_mark mark.OpenParen (first T) → unary_at d T ≡ Ok (u, R) →
+    negation_at d T ≡ Ok (value_of_unary u, R)
 operand_gives d T R u e o f = negation_is d T ∙ rw (sym e, sym o) (rw f refl)

@@ -10,10 +10,14 @@ use Rattle.lra_tree.specs.declared.trees.SumOperator.{SumOperator}
 use Rattle.lra_tree.specs.declared.trees.SumOperator.TheVariants as sum
 use Rattle.lra_tree.specs.declared.trees.Comparison.{Comparison}
 use Rattle.lra_tree.specs.declared.trees.Comparison.TheVariants as comparison
-use Rattle.lra_tree.specs.Trees.{UnaryTree, negated, positive, literal, variable, input, group, TermTree, unary, ExprTree, term, NegationTree, opposite_again, value_of_unary, group_opposed, TestTree, opposite, value, compare, group_of, ConjunctionTree, test, and, CondTree, conjunction, or}
+use Rattle.lra_tree.specs.Trees.{UnaryTree, negated, positive, literal, variable, input, group, TermTree, unary}
+use Rattle.lra_tree.specs.Trees.{ExprTree, term, NegationTree, opposite_again, value_of_unary, group_opposed, TestTree}
+use Rattle.lra_tree.specs.Trees.{opposite, value, compare, group_of, ConjunctionTree, test, and, CondTree, conjunction}
+use Rattle.lra_tree.specs.Trees.{or}
 use Rattle.lra_tree.specs.Views.{further_factor, further_term, comparison_view}
 use Rattle.lra_parse.specs.Tests.{first}
-use Rattle.lra_parse.specs.Reading.{Parse, stop, seq, map_read, done_with, expect, take_by, next_name, next_number, has, one_of, chain, chain_rest}
+use Rattle.lra_parse.specs.Reading.{Parse, stop, seq, map_read, done_with, expect, take_by, next_name, next_number, has}
+use Rattle.lra_parse.specs.Reading.{one_of, chain, chain_rest}
 
 -- operators --------------------------------------------------------------------------------------------------------
 
@@ -30,7 +34,8 @@ abbrev pub sum_operator : Option Token → Option SumOperator
 sum_operator o = one_of sum_operators o
 
 abbrev pub comparisons : List (Mark × Comparison)
-comparisons = (mark.Less, comparison.Below) ∷ (mark.AtMost, comparison.AtMost) ∷ (mark.Greater, comparison.Above) ∷ (mark.AtLeast, comparison.AtLeast)
+comparisons = (mark.Less, comparison.Below) ∷ (mark.AtMost, comparison.AtMost) ∷ (mark.Greater, comparison.Above) ∷
+    (mark.AtLeast, comparison.AtLeast)
     ∷ (mark.Equal, comparison.Equal) ∷ (mark.Differs, comparison.Differs) ∷ []
 
 abbrev pub next_comparison : Option Token → Option Comparison
@@ -105,7 +110,8 @@ unary_form minus plus grouped None = atom
 unfoldable pub unary_at : ℕ → Parse UnaryTree
 unary_at zero T = unary_form (stop TooDeep) (stop TooDeep) (stop TooDeep) (unary_mark (first T)) T
 unary_at (suc d) T =
-    unary_form (behind mark.Minus (map_read negated (unary_at d))) (behind mark.Plus (map_read positive (unary_at d))) (map_read group (in_parens (expr_of (unary_at d))))
+    unary_form (behind mark.Minus (map_read negated (unary_at d))) (behind mark.Plus (map_read positive (unary_at d)))
+    (map_read group (in_parens (expr_of (unary_at d))))
     (unary_mark (first T)) T
 
 abbrev pub expr_at : ℕ → Parse ExprTree
@@ -115,7 +121,9 @@ expr_at d = expr_of (unary_at d)
 
 -- behind an expression: a comparison, or the expression alone
 abbrev pub compared : Parse UnaryTree → ExprTree → Parse TestTree
-compared u e T = cond (has (next_comparison (first T))) (seq (take_by next_comparison) (λ op. map_read (compare e (comparison_view op)) (expr_of u)) T) (done_with (value e) T)
+compared u e T = cond (has (next_comparison (first T)))
+    (seq (take_by next_comparison) (λ op. map_read (compare e (comparison_view op)) (expr_of u)) T)
+    (done_with (value e) T)
 
 -- behind a unary that a condition begins with
 abbrev pub from_unary : Parse UnaryTree → UnaryTree → Parse TestTree
@@ -161,7 +169,8 @@ test_form u opposed grouped (Some at_not) = opposed
 test_form u opposed grouped (Some at_open) = grouped
 test_form u opposed grouped None = seq (expr_of u) (compared u)
 
-abbrev pub negation_form : Parse UnaryTree → Parse NegationTree → Parse NegationTree → Option TestMark → Parse NegationTree
+abbrev pub negation_form : Parse UnaryTree → Parse NegationTree → Parse NegationTree → Option TestMark →
+    Parse NegationTree
 negation_form u opposed grouped (Some at_not) = opposed
 negation_form u opposed grouped (Some at_open) = grouped
 negation_form u opposed grouped None = map_read value_of_unary u
@@ -174,10 +183,15 @@ cond_of p = chain next_or conjunction (λ c k d. or c d) (conjunction_of p)
 
 -- a test, and what `!` stands before
 unfoldable pub tests : ℕ → Parse TestTree × Parse NegationTree
-tests zero = ((λ T. test_form (unary_at zero) (stop TooDeep) (stop TooDeep) (test_mark (first T)) T), (λ T. negation_form (unary_at zero) (stop TooDeep) (stop TooDeep) (test_mark (first T)) T))
+tests zero = (
+  (λ T. test_form (unary_at zero) (stop TooDeep) (stop TooDeep) (test_mark (first T)) T),
+  (λ T. negation_form (unary_at zero) (stop TooDeep) (stop TooDeep) (test_mark (first T)) T),
+)
 tests (suc d) = (
-  (λ T. test_form (unary_at (suc d)) (behind mark.Not (map_read opposite (tests d).1)) (seq (in_parens (cond_of (tests d).0)) (after_group (unary_at (suc d)))) (test_mark (first T)) T),
-  (λ T. negation_form (unary_at (suc d)) (behind mark.Not (map_read opposite_again (tests d).1)) (map_read negation_of (in_parens (cond_of (tests d).0))) (test_mark (first T)) T),
+  (λ T. test_form (unary_at (suc d)) (behind mark.Not (map_read opposite (tests d).1))
+      (seq (in_parens (cond_of (tests d).0)) (after_group (unary_at (suc d)))) (test_mark (first T)) T),
+  (λ T. negation_form (unary_at (suc d)) (behind mark.Not (map_read opposite_again (tests d).1))
+      (map_read negation_of (in_parens (cond_of (tests d).0))) (test_mark (first T)) T),
 )
 
 abbrev pub test_at : ℕ → Parse TestTree

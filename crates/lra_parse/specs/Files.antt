@@ -1,5 +1,6 @@
 -- The reader of a whole file, and the shape of the lists of tokens that are read.
-use Rattle.std.specs.Prelude.{◌≡◌, ◌≢◌, ℕ, ◌<◌, ℤ, pos, neg_ℤ, ⊤, Bool, true, false, cond, bytes_eq, codes, List, [], ◌∷◌, ◌++◌, Option, Some, None, option_map}
+use Rattle.std.specs.Prelude.{◌≡◌, ◌≢◌, ℕ, ◌<◌, ℤ, pos, neg_ℤ, ⊤, Bool, true, false, cond, bytes_eq, codes, List, []}
+use Rattle.std.specs.Prelude.{◌∷◌, ◌++◌, Option, Some, None, option_map}
 use Rattle.std.specs.List.{AllByRecursion}
 use Rattle.lra_tree.specs.declared.refusals.Place.{Place}
 use Rattle.lra_tree.specs.declared.refusals.Cause.TheVariants.{Syntax}
@@ -13,7 +14,8 @@ use Rattle.lra_tree.specs.Trees.{ItemsTree, FunctionTree, GlobalTree, PartTree, 
 use Rattle.lra_parse.specs.declared.functions.Lead.{Lead}
 use Rattle.lra_parse.specs.declared.functions.Lead.TheVariants as lead
 use Rattle.lra_parse.specs.Tests.{first, is_mark}
-use Rattle.lra_parse.specs.Reading.{Parse, stop, seq, map_read, done_with, expect, take_by, next_name, next_number, has, one_of, list_of}
+use Rattle.lra_parse.specs.Reading.{Parse, stop, seq, map_read, done_with, expect, take_by, next_name, next_number, has}
+use Rattle.lra_parse.specs.Reading.{one_of, list_of}
 use Rattle.lra_parse.specs.Expressions.{behind, ended}
 use Rattle.lra_parse.specs.Statements.{commas_from, commas, listed, type_words, body_of, items_at}
 
@@ -77,7 +79,8 @@ named true x = lead.Typed x
 named false x = lead.Void x
 
 abbrev pub called : Bool → Parse Lead
-called b T = cond (has (next_built_in (first T))) (map_read (λ w. lead.Bare) (take_by next_built_in) T) (map_read (named b) (take_by next_name) T)
+called b T = cond (has (next_built_in (first T))) (map_read (λ w. lead.Bare) (take_by next_built_in) T)
+    (map_read (named b) (take_by next_name) T)
 
 abbrev pub lead_form : Option HeadMark → Parse Lead
 lead_form (Some at_int) = behind mark.Int (map_read lead.Main (take_by next_main))
@@ -91,7 +94,8 @@ plain_lead T = lead_form (head_mark (first T)) T
 
 -- what a part begins with
 abbrev pub read_lead : Parse Lead
-read_lead T = cond (is_mark mark.Extern (first T)) (behind mark.Extern (map_read (λ l. lead.Bare) plain_lead) T) (plain_lead T)
+read_lead T = cond (is_mark mark.Extern (first T)) (behind mark.Extern (map_read (λ l. lead.Bare) plain_lead) T)
+    (plain_lead T)
 
 -- parameters --------------------------------------------------------------------------------------------------------
 
@@ -118,7 +122,8 @@ parameter_at = seq type_words (λ _. name_or_none)
 abbrev pub parameters_at : Parse (List (Option Identifier))
 parameters_at T =
     cond (is_mark mark.CloseParen (first T)) (expect mark.CloseParen [] T)
-    (cond (is_mark mark.Void (first T)) (behind mark.Void (expect mark.CloseParen []) T) (ended mark.CloseParen (map_read listed (commas parameter_at)) T))
+    (cond (is_mark mark.Void (first T)) (behind mark.Void (expect mark.CloseParen []) T)
+    (ended mark.CloseParen (map_read listed (commas parameter_at)) T))
 
 -- the names, if each parameter has one
 abbrev pub names_of : List (Option Identifier) → Option (List Identifier)
@@ -128,7 +133,8 @@ names_of (Some x ∷ ps) = option_map (λ xs. x ∷ xs) (names_of ps)
 
 -- functions and prototypes ------------------------------------------------------------------------------------------
 
-abbrev pub signature_of : Option (Bool × Identifier) → List (Option Identifier) → Option ((Bool × Identifier) × List Identifier)
+abbrev pub signature_of : Option (Bool × Identifier) → List (Option Identifier) →
+    Option ((Bool × Identifier) × List Identifier)
 signature_of None ps = None
 signature_of (Some h) ps = option_map (λ xs. (h, xs)) (names_of ps)
 
@@ -138,7 +144,8 @@ function_of s b = record { has_result = s.0.0; name = s.0.1; parameters = s.1; b
 -- behind the parameters: a body, where the part may be a function, or a semicolon; d levels are left inside
 abbrev pub ending : ℕ → Option ((Bool × Identifier) × List Identifier) → Parse PartTree
 ending d None = expect mark.Semicolon prototype
-ending d (Some s) = λ T. cond (is_mark mark.OpenBrace (first T)) (map_read (λ b. function (function_of s b)) (body_of (items_at d)) T) (expect mark.Semicolon prototype T)
+ending d (Some s) = λ T. cond (is_mark mark.OpenBrace (first T))
+    (map_read (λ b. function (function_of s b)) (body_of (items_at d)) T) (expect mark.Semicolon prototype T)
 
 -- behind what it begins with
 abbrev pub signature_at : ℕ → Option (Bool × Identifier) → Parse PartTree
@@ -151,7 +158,8 @@ opposite n = neg_ℤ (pos n)
 
 -- a literal with or without a sign
 abbrev pub signed_at : Parse ℤ
-signed_at T = cond (is_mark mark.Minus (first T)) (behind mark.Minus (map_read opposite (take_by next_number)) T) (map_read pos (take_by next_number) T)
+signed_at T = cond (is_mark mark.Minus (first T)) (behind mark.Minus (map_read opposite (take_by next_number)) T)
+    (map_read pos (take_by next_number) T)
 
 abbrev pub with_value : Identifier → ℤ → GlobalTree
 with_value x v = record { name = x; value = Some v }
@@ -161,7 +169,8 @@ without_value x = record { name = x; value = None }
 
 -- behind the name of a global
 abbrev pub value_at : Identifier → Parse GlobalTree
-value_at x T = cond (is_mark mark.Assign (first T)) (behind mark.Assign (map_read (with_value x) signed_at) T) (done_with (without_value x) T)
+value_at x T = cond (is_mark mark.Assign (first T)) (behind mark.Assign (map_read (with_value x) signed_at) T)
+    (done_with (without_value x) T)
 
 abbrev pub global_at : Parse GlobalTree
 global_at = seq (take_by next_name) value_at
@@ -178,7 +187,8 @@ globals_at x = map_read globals_of (ended mark.Semicolon (commas_from (value_at 
 -- behind what a part begins with
 abbrev pub rest_at : ℕ → Lead → Parse PartTree
 rest_at d (lead.Main x) = signature_at d (Some (true, x))
-rest_at d (lead.Typed x) = λ T. cond (is_mark mark.OpenParen (first T)) (signature_at d (Some (true, x)) T) (globals_at x T)
+rest_at d (lead.Typed x) = λ T. cond (is_mark mark.OpenParen (first T)) (signature_at d (Some (true, x)) T)
+    (globals_at x T)
 rest_at d (lead.Void x) = signature_at d (Some (false, x))
 rest_at d lead.Bare = signature_at d None
 

@@ -1,5 +1,6 @@
 -- Readers of calls, assignments, declarations and statements. d levels of nesting are left.
-use Rattle.std.specs.Prelude.{◌≡◌, ℕ, zero, suc, Bool, true, cond, ◌||◌, List, [], ◌∷◌, Option, Some, None, Ok, option_map}
+use Rattle.std.specs.Prelude.{◌≡◌, ℕ, zero, suc, Bool, true, cond, ◌||◌, List, [], ◌∷◌, Option, Some, None, Ok}
+use Rattle.std.specs.Prelude.{option_map}
 use Rattle.lra_tree.specs.declared.refusals.Place.{Place}
 use Rattle.lra_tree.specs.declared.refusals.Cause.TheVariants.{Syntax, TooDeep}
 use Rattle.lra_tree.specs.declared.tokens.Mark.{Mark}
@@ -10,10 +11,15 @@ use Rattle.lra_tree.specs.declared.trees.Operator.{Operator}
 use Rattle.lra_tree.specs.declared.trees.Operator.TheVariants as operator
 use Rattle.lra_tree.specs.declared.trees.Step.{Step}
 use Rattle.lra_tree.specs.declared.trees.Step.TheVariants as step
-use Rattle.lra_tree.specs.Trees.{UnaryTree, variable, unary, ExprTree, term, CondTree, CallTree, SourceTree, expression, result, AssignTree, set, update, after, before, DeclaratorTree, DeclarationTree, InitTree, no_init, assigned, declared as declared_first, StmtTree, block, nothing, assign, call, if_only, if_else, while, for, break, continue, return, assert, assume, ItemsTree, no_items, declaration, statement}
+use Rattle.lra_tree.specs.Trees.{UnaryTree, variable, unary, ExprTree, term, CondTree, CallTree, SourceTree, expression}
+use Rattle.lra_tree.specs.Trees.{result, AssignTree, set, update, after, before, DeclaratorTree, DeclarationTree}
+use Rattle.lra_tree.specs.Trees.{InitTree, no_init, assigned, declared as declared_first, StmtTree, block, nothing}
+use Rattle.lra_tree.specs.Trees.{assign, call, if_only, if_else, while, for, break, continue, return, assert, assume}
+use Rattle.lra_tree.specs.Trees.{ItemsTree, no_items, declaration, statement}
 use Rattle.lra_tree.specs.Views.{operator_view, step_view}
 use Rattle.lra_parse.specs.Tests.{first, is_mark}
-use Rattle.lra_parse.specs.Reading.{Text, Parse, stop, seq, map_read, done_with, tail, expect, expect_at, place_of, take_by, next_name, has, one_of, list_of}
+use Rattle.lra_parse.specs.Reading.{Text, Parse, stop, seq, map_read, done_with, tail, expect, expect_at, place_of}
+use Rattle.lra_parse.specs.Reading.{take_by, next_name, has, one_of, list_of}
 use Rattle.lra_parse.specs.Expressions.{behind, ended, in_parens, factors, summands, unary_at, expr_at, cond_at}
 
 -- the text behind the mark, if it is there
@@ -27,14 +33,15 @@ commas_from p q = seq p (λ a. map_read (λ further. (a, further)) (list_of (is_
 abbrev pub commas : {A : Type 0} → Parse A → Parse (A × List A)
 commas p = commas_from p p
 
--- calls, and what a variable gets or a `return` gives --------------------------------------------------------------------
+-- calls, and what a variable gets or a `return` gives ---------------------------------------------
 
 abbrev pub listed : {A : Type 0} → A × List A → List A
 listed es = es.0 ∷ es.1
 
 -- behind the opening parenthesis
 abbrev pub arguments_at : ℕ → Parse (List ExprTree)
-arguments_at d T = cond (is_mark mark.CloseParen (first T)) (expect mark.CloseParen [] T) (ended mark.CloseParen (map_read listed (commas (expr_at d))) T)
+arguments_at d T = cond (is_mark mark.CloseParen (first T)) (expect mark.CloseParen [] T)
+    (ended mark.CloseParen (map_read listed (commas (expr_at d))) T)
 
 abbrev pub call_of : Identifier → List ExprTree → CallTree
 call_of x es = record { name = x; arguments = es }
@@ -49,15 +56,18 @@ source_from d a = seq (factors (unary_at d) (unary a)) (λ t. map_read expressio
 
 -- behind a name
 abbrev pub source_rest : ℕ → Identifier → Parse SourceTree
-source_rest d x T = cond (is_mark mark.OpenParen (first T)) (map_read result (call_rest d x) T) (source_from d (variable x) T)
+source_rest d x T = cond (is_mark mark.OpenParen (first T)) (map_read result (call_rest d x) T)
+    (source_from d (variable x) T)
 
 abbrev pub source_at : ℕ → Parse SourceTree
-source_at d T = cond (has (next_name (first T))) (seq (take_by next_name) (source_rest d) T) (map_read expression (expr_at d) T)
+source_at d T = cond (has (next_name (first T))) (seq (take_by next_name) (source_rest d) T)
+    (map_read expression (expr_at d) T)
 
 -- assignments ------------------------------------------------------------------------------------------------------
 
 abbrev pub update_operators : List (Mark × Operator)
-update_operators = (mark.PlusAssign, operator.Plus) ∷ (mark.MinusAssign, operator.Minus) ∷ (mark.StarAssign, operator.Times) ∷ (mark.SlashAssign, operator.Over)
+update_operators = (mark.PlusAssign, operator.Plus) ∷ (mark.MinusAssign, operator.Minus) ∷
+    (mark.StarAssign, operator.Times) ∷ (mark.SlashAssign, operator.Over)
     ∷ (mark.PercentAssign, operator.Modulo) ∷ []
 
 abbrev pub update_operator : Option Token → Option Operator
@@ -74,7 +84,8 @@ next_step o = option_map (λ s. (s, place_of o)) (one_of step_marks o)
 abbrev pub assign_rest : ℕ → Identifier → Parse AssignTree
 assign_rest d x T =
     cond (is_mark mark.Assign (first T)) (behind mark.Assign (map_read (set x) (source_at d)) T)
-    (cond (has (update_operator (first T))) (seq (take_by update_operator) (λ op. map_read (update x (operator_view op)) (expr_at d)) T)
+    (cond (has (update_operator (first T))) (seq (take_by update_operator)
+    (λ op. map_read (update x (operator_view op)) (expr_at d)) T)
     (map_read (λ s. after x (step_view s.0)) (take_by next_step) T))
 
 abbrev pub step_first : Parse AssignTree
@@ -92,7 +103,8 @@ type_words = seq (expect mark.Long (tt {0})) (λ _ T. Ok (tt {0}, skip mark.Int 
 -- behind the name of the variable
 abbrev pub given : ℕ → Identifier → Parse DeclaratorTree
 given d x T =
-    cond (is_mark mark.Assign (first T)) (behind mark.Assign (map_read (λ e. record { name = x; source = Some e }) (source_at d)) T)
+    cond (is_mark mark.Assign (first T)) (behind mark.Assign
+    (map_read (λ e. record { name = x; source = Some e }) (source_at d)) T)
     (done_with (record { name = x; source = None }) T)
 
 abbrev pub declarator_at : ℕ → Parse DeclaratorTree
@@ -119,7 +131,8 @@ pub data StmtMark : Type 0 where
   at_assume : StmtMark
 
 abbrev pub stmt_marks : List (Mark × StmtMark)
-stmt_marks = (mark.Semicolon, at_nothing) ∷ (mark.If, at_if) ∷ (mark.While, at_while) ∷ (mark.For, at_for) ∷ (mark.Break, at_break)
+stmt_marks = (mark.Semicolon, at_nothing) ∷ (mark.If, at_if) ∷ (mark.While, at_while) ∷ (mark.For, at_for) ∷
+    (mark.Break, at_break)
     ∷ (mark.Continue, at_continue) ∷ (mark.Return, at_return) ∷ (mark.Assert, at_assert) ∷ (mark.Assume, at_assume) ∷ []
 
 abbrev pub stmt_mark : Option Token → Option StmtMark
@@ -132,7 +145,8 @@ abbrev pub begins_stmt : Option Token → Bool
 begins_stmt o = cond (is_mark mark.OpenBrace o) true (cond (has (stmt_mark o)) true (begins_assign o))
 
 abbrev pub else_part : Parse StmtTree → Place → CondTree → StmtTree → Parse StmtTree
-else_part branch at c t T = cond (is_mark mark.Else (first T)) (behind mark.Else (map_read (if_else at c t) branch) T) (done_with (if_only at c t) T)
+else_part branch at c t T = cond (is_mark mark.Else (first T)) (behind mark.Else (map_read (if_else at c t) branch) T)
+    (done_with (if_only at c t) T)
 
 abbrev pub read_if : ℕ → Parse StmtTree → Parse StmtTree
 read_if d branch = seq (expect_at mark.If) (λ at. seq (in_parens (cond_at d)) (λ c. seq branch (else_part branch at c)))
@@ -153,12 +167,14 @@ init_of (Some a) = assigned a
 
 -- what a loop begins with, and the semicolon behind it
 abbrev pub init_at : ℕ → Parse InitTree
-init_at d T = cond (is_mark mark.Long (first T)) (map_read declared_first (declaration_at d) T) (map_read init_of (up_to mark.Semicolon (assign_at d)) T)
+init_at d T = cond (is_mark mark.Long (first T)) (map_read declared_first (declaration_at d) T)
+    (map_read init_of (up_to mark.Semicolon (assign_at d)) T)
 
 -- the parentheses of a `for`: its beginning, its test and its step
 abbrev pub for_head_at : ℕ → Parse (InitTree × Option CondTree × Option AssignTree)
 for_head_at d =
-    behind mark.OpenParen (seq (init_at d) (λ i. seq (up_to mark.Semicolon (cond_at d)) (λ c. map_read (λ e. (i, c, e)) (up_to mark.CloseParen (assign_at d)))))
+    behind mark.OpenParen (seq (init_at d) (λ i. seq (up_to mark.Semicolon (cond_at d))
+    (λ c. map_read (λ e. (i, c, e)) (up_to mark.CloseParen (assign_at d)))))
 
 abbrev pub for_of : Place → InitTree × Option CondTree × Option AssignTree → StmtTree → StmtTree
 for_of at h b = for at h.0 h.1 h.2 b
@@ -182,11 +198,13 @@ read_nothing = map_read nothing (expect_at mark.Semicolon)
 
 -- behind a name that a statement begins with
 abbrev pub named_rest : ℕ → Identifier → Parse StmtTree
-named_rest d x T = cond (is_mark mark.OpenParen (first T)) (map_read call (ended mark.Semicolon (call_rest d x)) T) (map_read assign (ended mark.Semicolon (assign_rest d x)) T)
+named_rest d x T = cond (is_mark mark.OpenParen (first T)) (map_read call (ended mark.Semicolon (call_rest d x)) T)
+    (map_read assign (ended mark.Semicolon (assign_rest d x)) T)
 
 -- an assignment or a call
 abbrev pub read_assigned : ℕ → Parse StmtTree
-read_assigned d T = cond (has (next_name (first T))) (seq (take_by next_name) (named_rest d) T) (map_read assign (ended mark.Semicolon (assign_at d)) T)
+read_assigned d T = cond (has (next_name (first T))) (seq (take_by next_name) (named_rest d) T)
+    (map_read assign (ended mark.Semicolon (assign_at d)) T)
 
 -- the forms of a statement that is no block; branch reads a branch
 abbrev pub simple_form : ℕ → Parse StmtTree → Option StmtMark → Parse StmtTree
@@ -225,13 +243,15 @@ stated_of simple inner T = cond (is_mark mark.OpenBrace (first T)) (inner T) (si
 
 -- inner reads a block
 abbrev pub item_of : ℕ → Parse StmtTree → Parse StmtTree → Parse ItemTree
-item_of d simple inner T = cond (is_mark mark.Long (first T)) (map_read declared (declaration_at d) T) (map_read stated (stated_of simple inner) T)
+item_of d simple inner T = cond (is_mark mark.Long (first T)) (map_read declared (declaration_at d) T)
+    (map_read stated (stated_of simple inner) T)
 
 abbrev pub items_of : ℕ → Parse StmtTree → Parse StmtTree → Parse (List ItemTree)
 items_of d simple inner = list_of begins_item (item_of d simple inner)
 
 abbrev pub body_of : Parse (List ItemTree) → Parse (ItemsTree × Place)
-body_of items = behind mark.OpenBrace (seq items (λ is. map_read (λ end. (items_from is, end)) (expect_at mark.CloseBrace)))
+body_of items = behind mark.OpenBrace (seq items (λ is. map_read (λ end. (items_from is, end))
+    (expect_at mark.CloseBrace)))
 
 abbrev pub block_from : ItemsTree × Place → StmtTree
 block_from b = block b.0 b.1
@@ -244,7 +264,8 @@ too_deep T = cond (begins_stmt (first T)) (stop TooDeep T) (stop Syntax T)
 unfoldable pub levels : ℕ → Parse StmtTree × Parse (ItemsTree × Place)
 levels zero = (too_deep, (λ T. stop TooDeep T))
 levels (suc d) = (
-  stated_of (simple_of d (levels d).0) (map_read block_from (body_of (items_of d (simple_of d (levels d).0) (map_read block_from (levels d).1)))),
+  stated_of (simple_of d (levels d).0) (map_read block_from
+      (body_of (items_of d (simple_of d (levels d).0) (map_read block_from (levels d).1)))),
   body_of (items_of d (simple_of d (levels d).0) (map_read block_from (levels d).1)),
 )
 
@@ -263,7 +284,7 @@ item_at d = item_of d (simple_at d) (map_read block_from (block_at d))
 abbrev pub items_at : ℕ → Parse (List ItemTree)
 items_at d = list_of begins_item (item_at d)
 
--- items, as what they put before the items behind them -------------------------------------------------------------------
+-- items, as what they put before the items behind them --------------------------------------------
 
 abbrev pub put_list : List ItemTree → ItemsTree → ItemsTree
 put_list [] t = t

@@ -4,7 +4,9 @@ ghost use Rattle.std.specs.Prelude.{◌≡◌, ◌<◌, ◌≤◌, length, IfOk}
 ghost use Rattle.lra_tree.specs.Views.{assign_view, declarator_view, declaration_view};
 ghost use Rattle.lra_parse.specs.Tests.{first};
 ghost use Rattle.lra_parse.specs.Reading.{Gives, map_read};
-ghost use Rattle.lra_parse.specs.Statements.{skip, commas, update_operator, next_step, assign_rest, step_first, assign_at, type_words, given, declarator_at, declaration_of, declaration_at};
+ghost use Rattle.lra_parse.specs.Statements.{skip, commas, update_operator, next_step, assign_rest, step_first};
+ghost use Rattle.lra_parse.specs.Statements.{assign_at, type_words, given, declarator_at, declaration_of};
+ghost use Rattle.lra_parse.specs.Statements.{declaration_at};
 
 use crate::calls::read_source;
 use crate::expressions::read_expr;
@@ -148,7 +150,8 @@ fn read_declarators(
     depth: usize,
 ) -> Result<(Declaration, &[Token]), Stopped>
     ensures shorter { IfOk result (λ r. length r.1.now ≤ length rest.now) }
-    ensures gives { Gives (λ r. (declaration_view r.0, r.1.now)) result (map_read declaration_of (commas (declarator_at depth)) rest.now) }
+    ensures gives { Gives (λ r. (declaration_view r.0, r.1.now)) result
+        (map_read declaration_of (commas (declarator_at depth)) rest.now) }
 {
     let (first, mut left) = read_declarator(alloc, rest, depth)?;
     let mut declarators = Vec::new(alloc);

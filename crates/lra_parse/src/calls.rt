@@ -23,7 +23,8 @@ fn alone(alloc: Global, first: Expr) -> Result<Vec<Expr>, AllocError>
 /// Expressions with commas between them.
 fn read_many(alloc: Global, rest: &[Token], depth: usize) -> Result<(Arguments, &[Token]), Stopped>
     ensures shorter { IfOk result (λ r. length r.1.now ≤ length rest.now) }
-    ensures gives { Gives (λ r. (map expr_view r.0.items.items, r.1.now)) result (map_read listed (commas (expr_at depth)) rest.now) }
+    ensures gives { Gives (λ r. (map expr_view r.0.items.items, r.1.now)) result
+        (map_read listed (commas (expr_at depth)) rest.now) }
 {
     let (first, mut left) = read_expr(alloc, rest, depth)?;
     let mut items = alone(alloc, first)?;

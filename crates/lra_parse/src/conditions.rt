@@ -2,10 +2,12 @@
 
 ghost use Rattle.std.specs.Prelude.{◌≡◌, ◌≤◌, length, map, IfOk, MatchResult};
 ghost use Rattle.lra_tree.specs.Trees.{test, conjunction, opposite_again};
-ghost use Rattle.lra_tree.specs.Views.{all_tests, any_conjunction, expr_view, test_view, negation_view, conjunction_view, cond_view};
+ghost use Rattle.lra_tree.specs.Views.{all_tests, any_conjunction, expr_view, test_view, negation_view};
+ghost use Rattle.lra_tree.specs.Views.{conjunction_view, cond_view};
 ghost use Rattle.lra_parse.specs.Tests.{first};
 ghost use Rattle.lra_parse.specs.Reading.{Gives};
-ghost use Rattle.lra_parse.specs.Expressions.{next_comparison, unary_at, compared, alone, after_group, opposed_at, closed_at, test_at, negation_at, negation_of, conjunction_at, cond_at};
+ghost use Rattle.lra_parse.specs.Expressions.{next_comparison, unary_at, compared, alone, after_group, opposed_at};
+ghost use Rattle.lra_parse.specs.Expressions.{closed_at, test_at, negation_at, negation_of, conjunction_at, cond_at};
 
 use crate::expressions::{read_expr, read_factors, read_summands, read_unary};
 use crate::reading::{Stopped, expect, next_is, stop, tail};
@@ -35,7 +37,8 @@ fn next_comparison(rest: &[Token]) -> Option<Comparison>
 
 // The condition of these parts.
 fn one_test(first: Test, tests: Vec<Test>, rest: Vec<Conjunction>) -> Cond
-    ensures { cond_view result ≡ any_conjunction (conjunction (all_tests (test (test_view first)) (map test_view tests.items))) (map conjunction_view rest.items) }
+    ensures { cond_view result ≡ any_conjunction (conjunction
+        (all_tests (test (test_view first)) (map test_view tests.items))) (map conjunction_view rest.items) }
 {
     Cond {
         first: Conjunction { first, rest: tests },
@@ -45,7 +48,8 @@ fn one_test(first: Test, tests: Vec<Test>, rest: Vec<Conjunction>) -> Cond
 
 /// The expression that a condition is alone, or else the condition.
 fn alone(cond: Cond) -> Result<Expr, Cond>
-    ensures { MatchResult result (λ e. alone (cond_view cond) ≡ Some (expr_view e)) (λ c. (cond_view c ≡ cond_view cond) × (alone (cond_view cond) ≡ None)) }
+    ensures { MatchResult result (λ e. alone (cond_view cond) ≡ Some (expr_view e))
+        (λ c. (cond_view c ≡ cond_view cond) × (alone (cond_view cond) ≡ None)) }
 {
     let (first, rest) = cond.into_parts();
     let (test, tests) = first.into_parts();
@@ -88,7 +92,8 @@ fn read_after_group(
     depth: usize,
 ) -> Result<(Test, &[Token]), Stopped>
     ensures shorter { IfOk result (λ r. length r.1.now ≤ length rest.now) }
-    ensures gives { Gives (λ r. (test_view r.0, r.1.now)) result (after_group (unary_at depth) (cond_view cond) rest.now) }
+    ensures gives { Gives (λ r. (test_view r.0, r.1.now)) result
+        (after_group (unary_at depth) (cond_view cond) rest.now) }
 {
     match alone(cond) {
         Ok(expr) => {
@@ -107,14 +112,16 @@ fn opposed_again(
     negation: Negation,
     rest: &[Token],
 ) -> Result<(Negation, &[Token]), Stopped>
-    ensures { MatchResult result (λ r. (negation_view r.0 ≡ opposite_again (negation_view negation)) × (r.1.now ≡ rest.now)) (λ e. e ≡ Stopped.Memory) }
+    ensures { MatchResult result (λ r. (negation_view r.0 ≡ opposite_again (negation_view negation)) ×
+        (r.1.now ≡ rest.now)) (λ e. e ≡ Stopped.Memory) }
 {
     Ok((Negation::Again(Box::new(alloc, negation)?), rest))
 }
 
 /// What `!` stands before, if it is a condition in parentheses, and the text behind them.
 fn group_opposed(alloc: Global, cond: Cond, rest: &[Token]) -> Result<(Negation, &[Token]), Stopped>
-    ensures { MatchResult result (λ r. (negation_view r.0 ≡ negation_of (cond_view cond)) × (r.1.now ≡ rest.now)) (λ e. e ≡ Stopped.Memory) }
+    ensures { MatchResult result (λ r. (negation_view r.0 ≡ negation_of (cond_view cond)) × (r.1.now ≡ rest.now))
+        (λ e. e ≡ Stopped.Memory) }
 {
     match alone(cond) {
         Ok(expr) => {

@@ -5,7 +5,8 @@ ghost use Rattle.lra_tree.specs.Trees.{unary, term};
 ghost use Rattle.lra_tree.specs.Views.{unary_view, term_view, expr_view};
 ghost use Rattle.lra_parse.specs.Tests.{first};
 ghost use Rattle.lra_parse.specs.Reading.{Gives};
-ghost use Rattle.lra_parse.specs.Expressions.{factor_operator, sum_operator, unary_at, negated_at, positive_at, grouped_at, read_input, factors, term_of, summands, expr_at};
+ghost use Rattle.lra_parse.specs.Expressions.{factor_operator, sum_operator, unary_at, negated_at, positive_at};
+ghost use Rattle.lra_parse.specs.Expressions.{grouped_at, read_input, factors, term_of, summands, expr_at};
 
 use crate::reading::{Stopped, expect, next_is, next_number, read_name, stop, tail};
 use lra_tree::{
@@ -130,7 +131,8 @@ pub fn read_factors(
     depth: usize,
 ) -> Result<(Term, &[Token]), Stopped>
     ensures shorter { IfOk result (λ r. length r.1.now ≤ length rest.now) }
-    ensures gives { Gives (λ r. (term_view r.0, r.1.now)) result (factors (unary_at depth) (unary (unary_view first)) rest.now) }
+    ensures gives { Gives (λ r. (term_view r.0, r.1.now)) result
+        (factors (unary_at depth) (unary (unary_view first)) rest.now) }
 {
     let mut left = rest;
     let mut factors = Vec::new(alloc);
@@ -166,7 +168,8 @@ pub fn read_summands(
     depth: usize,
 ) -> Result<(Expr, &[Token]), Stopped>
     ensures shorter { IfOk result (λ r. length r.1.now ≤ length rest.now) }
-    ensures gives { Gives (λ r. (expr_view r.0, r.1.now)) result (summands (unary_at depth) (term (term_view first)) rest.now) }
+    ensures gives { Gives (λ r. (expr_view r.0, r.1.now)) result
+        (summands (unary_at depth) (term (term_view first)) rest.now) }
 {
     let mut left = rest;
     let mut summands = Vec::new(alloc);

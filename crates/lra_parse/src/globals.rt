@@ -80,7 +80,8 @@ fn read_many(
 ) -> Result<(Globals, &[Token]), Stopped>
     requires { AreSmall rest.now }
     ensures shorter { IfOk result (λ r. length r.1.now ≤ length rest.now) }
-    ensures gives { Gives (λ r. (globals (globals_view r.0), r.1.now)) result (map_read globals_of (commas_from (value_at name) global_at) rest.now) }
+    ensures gives { Gives (λ r. (globals (globals_view r.0), r.1.now)) result
+        (map_read globals_of (commas_from (value_at name) global_at) rest.now) }
 {
     let (first, mut left) = read_value(name, rest)?;
     let mut globals = Vec::new(alloc);

@@ -1,7 +1,9 @@
 //! The tree of a list of tokens.
 //!
-//! `specs/` has the readers: functions from a text of tokens to a value and the text behind it, or to a fault. `proofs/` shows that each is exact:
-//! `Exact` tells what that is, the files up to `Parts` are the library, and those named `Exact..` have the productions. The code computes the readers.
+//! `specs/` has the readers: functions from a text of tokens to a value and the text behind it, or to a fault.
+//! `proofs/` shows that each is exact:
+//! `Exact` tells what that is, the files up to `Parts` are the library, and those named `Exact..` have the productions.
+//! The code computes the readers.
 #![tactic(auto)]
 
 ghost use Rattle.lra_tree.specs.Faults.{OneTree, OneTextFault};

@@ -170,7 +170,8 @@ fn read_returned(
     depth: usize,
 ) -> Result<(Option<Source>, &[Token]), Stopped>
     ensures shorter { IfOk result (λ r. length r.1.now ≤ length rest.now) }
-    ensures gives { Gives (λ r. (option_map source_view r.0, r.1.now)) result (up_to Semicolon (source_at depth) rest.now) }
+    ensures gives { Gives (λ r. (option_map source_view r.0, r.1.now)) result
+        (up_to Semicolon (source_at depth) rest.now) }
 {
     if next_is(rest, Mark::Semicolon) {
         return Ok((None, tail(rest)));

@@ -7,7 +7,9 @@ ghost use Rattle.lra_tree.specs.declared.tokens.Mark.TheVariants.{Assert, Assume
 ghost use Rattle.lra_parse.specs.Tests.{first};
 ghost use Rattle.lra_parse.specs.Reading.{Gives, expect_at, map_read, has};
 ghost use Rattle.lra_parse.specs.Expressions.{in_parens, cond_at};
-ghost use Rattle.lra_parse.specs.Statements.{stmt_mark, begins_stmt, begins_item, read_nothing, named_rest, read_assigned, read_check, read_if, else_part, read_while, read_for, simple_at, branch_at, block_at, item_at, items_at, body_of, put};
+ghost use Rattle.lra_parse.specs.Statements.{stmt_mark, begins_stmt, begins_item, read_nothing, named_rest};
+ghost use Rattle.lra_parse.specs.Statements.{read_assigned, read_check, read_if, else_part, read_while, read_for};
+ghost use Rattle.lra_parse.specs.Statements.{simple_at, branch_at, block_at, item_at, items_at, body_of, put};
 
 use crate::assignments::{next_step, read_assign, read_assign_rest, read_declaration};
 use crate::calls::read_call;
@@ -146,7 +148,8 @@ fn read_assume(alloc: Global, rest: &[Token], depth: usize) -> Result<(Stmt, &[T
 /// The block of these items, whose brace comes next.
 fn read_close(items: Vec<BlockItem>, rest: &[Token]) -> Result<(Block, &[Token]), Stopped>
     ensures shorter { IfOk result (λ r. length r.1.now < length rest.now) }
-    ensures gives { Gives (λ r. (block_view r.0, r.1.now)) result (map_read (λ end. (items_of (map item_view items.items), end)) (expect_at CloseBrace) rest.now) }
+    ensures gives { Gives (λ r. (block_view r.0, r.1.now)) result
+        (map_read (λ end. (items_of (map item_view items.items), end)) (expect_at CloseBrace) rest.now) }
 {
     let (end, behind) = expect_at(rest, Mark::CloseBrace)?;
     Ok((Block { items, end }, behind))
@@ -196,7 +199,8 @@ fn read_else(
     depth: usize,
 ) -> Result<(Stmt, &[Token]), Stopped>
     ensures shorter { IfOk result (λ r. length r.1.now ≤ length rest.now) }
-    ensures gives { Gives (λ r. (stmt_view r.0, r.1.now)) result (else_part (branch_at depth) place (cond_view cond) (stmt_view branch) rest.now) }
+    ensures gives { Gives (λ r. (stmt_view r.0, r.1.now)) result
+        (else_part (branch_at depth) place (cond_view cond) (stmt_view branch) rest.now) }
 {
     let first = Box::new(alloc, branch)?;
     if next_is(rest, Mark::Else) {

@@ -22,7 +22,7 @@ greatest_is_gcd (suc k) m n g is above low =
     (λ a b. let most : suc k ≤ g = le_from_IsGcd m n g (suc k) is above (dvd_of_mod-eq-zero (suc k) (eqb-true (m % suc k) 0 a)) (dvd_of_mod-eq-zero (suc k) (eqb-true (n % suc k) 0 b)) in omega arith)
     (λ neither.
     let other : g ≡ suc k → ⊥ = λ e. neither (eq-eqb (m % suc k) 0 (mod-eq-zero_of_dvd (suc k) (subst (λ x. x ∣ m) e is.0)))
-            (eq-eqb (n % suc k) 0 (mod-eq-zero_of_dvd (suc k) (subst (λ x. x ∣ n) e is.1))) in
+    (eq-eqb (n % suc k) 0 (mod-eq-zero_of_dvd (suc k) (subst (λ x. x ∣ n) e is.1))) in
     greatest_is_gcd k m n g is above (omega (arith, other)))
 
 -- the common divisor of a number and of one above 0

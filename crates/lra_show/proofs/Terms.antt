@@ -71,7 +71,7 @@ term_step f t0 t1 all first next cs names turn j c x before is name inside named
     let later = map f (drop (j + 1) names) in
     let coefficients : map (turned turn) (drop (j + 1) cs) ≡ c ∷ rest = ap (map (turned turn)) (drop_entry cs (j + 1) inside) ∙ ap (λ z. z ∷ rest) (sym is) in
     let variables : map f (drop j names) ≡ f x ∷ later = ap (map f) (drop-cons names j x named ∙ ap (λ y. y ∷ drop (suc j) names) (sym name)) ∙
-            ap (λ k. f x ∷ map f (drop k names)) (sym (add-one j)) in
+    ap (λ k. f x ∷ map f (drop k names)) (sym (add-one j)) in
     ap (λ t. t ++ rest_text next rest later) written
     ∙ ap (λ b. (t0 ++ rest_text first (c ∷ []) (f x ∷ [])) ++ rest_text b rest later) flag
     ∙ append_assoc t0 (rest_text first (c ∷ []) (f x ∷ [])) (rest_text (first && is_zero c) rest later)
@@ -99,7 +99,7 @@ pub terms_end : {A : Type 0} (f : A → List ℕ) (t0 all : List ℕ) (first : B
     t0 ++ rest_text first (map (turned turn) (drop (j + 1) cs)) (map f (drop j names)) ≡ all → min (length names) (length cs - 1) ≤ j → t0 ≡ all
 terms_end f t0 all first cs names turn j before end =
     ends (λ cut. sym (append-nil t0) ∙ ap (λ t. t0 ++ t) (sym (terms_none first _)) ∙ ap (λ ns. t0 ++ rest_text first (map (turned turn) (drop (j + 1) cs)) (map f ns)) (sym (drop_all j names cut)) ∙
-        before)
+    before)
     (λ cut. sym (append-nil t0) ∙ ap (λ t. t0 ++ t) (sym (forms_none first _)) ∙ ap (λ zs. t0 ++ rest_text first (map (turned turn) zs) (map f (drop j names))) (sym (drop_all (j + 1) cs cut)) ∙
-        before)
+    before)
     (min_cases (length names) (length cs) j end)

@@ -90,7 +90,8 @@ abbrev making : Actions Made
 making = record { IsTested = λ t v w. w ≡ tested t v; IsJoined = λ v w u. u ≡ joined v w }
 
 differs_joins : IsCond Made making 2 0 (compare differs x y) true all_stores
-    (joined (tested (record { kind = inequality; form = form (negsuc 0) (negsuc 0 ∷ pos 1 ∷ []) }) all_stores) (tested (record { kind = inequality; form = form (negsuc 0) (pos 1 ∷ negsuc 0 ∷ []) }) all_stores))
+    (joined (tested (record { kind = inequality; form = form (negsuc 0) (negsuc 0 ∷ pos 1 ∷ []) }) all_stores)
+    (tested (record { kind = inequality; form = form (negsuc 0) (pos 1 ∷ negsuc 0 ∷ []) }) all_stores))
 differs_joins = (_, _, refl, refl, refl)
 
 -- an atom that isn't linear changes nothing

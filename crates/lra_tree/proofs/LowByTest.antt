@@ -20,4 +20,7 @@ level_by n e = grind (arith, nat_tests)
 
 pub low_by : (pieces : List Piece) → list_all (λ (p : Piece). nat_le p.1 greatest_level) pieces ≡ true → IsLow pieces
 low_by [] e = tt
-low_by (p ∷ ps) e = (level_by p.1 (and_first (nat_le p.1 greatest_level) (list_all (λ (q : Piece). nat_le q.1 greatest_level) ps) e), low_by ps (and_second (nat_le p.1 greatest_level) (list_all (λ (q : Piece). nat_le q.1 greatest_level) ps) e))
+low_by (p ∷ ps) e = (
+  level_by p.1 (and_first (nat_le p.1 greatest_level) (list_all (λ (q : Piece). nat_le q.1 greatest_level) ps) e),
+  low_by ps (and_second (nat_le p.1 greatest_level) (list_all (λ (q : Piece). nat_le q.1 greatest_level) ps) e),
+)

@@ -8,7 +8,8 @@ use Rattle.lra_tree.specs.declared.trees.Identifier.{Identifier}
 use Rattle.lra_tree.specs.declared.refusals.Cause.{Cause}
 use Rattle.lra_tree.specs.declared.refusals.Cause.TheVariants.{NoMain, UnknownName, DuplicateName, BadCall, Misplaced, Recursive}
 use Rattle.lra_tree.specs.Program as program
-use Rattle.lra_tree.specs.Trees.{value, compare, conjunction, test, and, or, expression, result, set, after, increment, declared, block, nothing, assign, call, for, break, return, no_items, declaration, statement, globals, function, FileTree, FunctionTree}
+use Rattle.lra_tree.specs.Trees.{value, compare, conjunction, test, and, or, expression, result, set, after, increment, declared, block, nothing, assign, call, for, break, return, no_items}
+use Rattle.lra_tree.specs.Trees.{declaration, statement, globals, function, FileTree, FunctionTree}
 use Rattle.lra_tree.specs.Labels.{labels_of, places_of}
 use Rattle.lra_tree.specs.NameFaults.{name_faults}
 use Rattle.lra_tree.specs.Resolve.{resolve, resolve_cond}
@@ -41,7 +42,8 @@ shadowed = main_of (declaration (declared_as (x_at 22) None)
     (statement (assign (set (x_at 44) (expression (number 2)))) no_items))) 51
 
 shadowed_body : (resolve shadowed).main.body ≡ program.declaration (record { label = 1; source = None })
-    (program.statement (program.block (program.declaration (record { label = 2; source = None }) (program.statement (program.assign 3 (program.local 1) (program.value (program.literal 1))) program.no_more)) 4)
+    (program.statement (program.block (program.declaration (record { label = 2; source = None })
+    (program.statement (program.assign 3 (program.local 1) (program.value (program.literal 1))) program.no_more)) 4)
     (program.statement (program.assign 5 (program.local 0) (program.value (program.literal 2))) program.no_more))
 shadowed_body = refl
 
@@ -58,14 +60,16 @@ one_for_body : (resolve one_for).main.body ≡ program.statement (program.for (p
     (program.assign 3 (program.local 0) (program.value (program.binary program.plus (program.read (program.local 0)) (program.literal 1)))))) program.no_more
 one_for_body = refl
 
-one_for_places : (map (λ l. l.place.column) (labels_of one_for) ≡ 17 ∷ 26 ∷ 36 ∷ 41 ∷ 43 ∷ []) × (map (λ l. l.live) (labels_of one_for) ≡ (codes "x" ∷ []) ∷ [] ∷ (codes "x" ∷ []) ∷ (codes "x" ∷ []) ∷ [] ∷ [])
+one_for_places : (map (λ l. l.place.column) (labels_of one_for) ≡ 17 ∷ 26 ∷ 36 ∷ 41 ∷ 43 ∷ []) ×
+    (map (λ l. l.live) (labels_of one_for) ≡ (codes "x" ∷ []) ∷ [] ∷ (codes "x" ∷ []) ∷ (codes "x" ∷ []) ∷ [] ∷ [])
 one_for_places = (refl, refl)
 
 -- a*b+c is (a*b)+c and a-b-c is (a-b)-c, while a&&b&&c is a&&(b&&c) and a||b||c is a||(b||c)
 chain : resolve_cond (record { globals = codes "x" ∷ []; locals = []; outer = 0 })
     (or (or (conjunction (test (value (use_of (x_at 1))))) (and (and (test (value (number 1))) (value (number 2))) (value (number 3)))) (test (value (number 4))))
     ≡ program.either_of (program.nonzero (program.read (program.global 0)))
-    (program.either_of (program.both_of (program.nonzero (program.literal 1)) (program.both_of (program.nonzero (program.literal 2)) (program.nonzero (program.literal 3)))) (program.nonzero (program.literal 4)))
+    (program.either_of (program.both_of (program.nonzero (program.literal 1)) (program.both_of (program.nonzero (program.literal 2)) (program.nonzero (program.literal 3))))
+    (program.nonzero (program.literal 4)))
 chain = refl
 
 -- faults -----------------------------------------------------------------------------------------------------------
@@ -109,7 +113,8 @@ own_value : name_faults (main_of (declaration (declared_as (x_at 22) (Some (expr
 own_value = refl
 
 -- int main(void){ { long x; } x=1; } : the block's variable is gone behind it
-gone : name_faults (main_of (statement (block (declaration (declared_as (x_at 24) None) no_items) (at 27)) (statement (assign (set (x_at 29) (expression (number 1)))) no_items)) 34) ≡ fault UnknownName 29 ∷ []
+gone : name_faults (main_of (statement (block (declaration (declared_as (x_at 24) None) no_items) (at 27)) (statement (assign (set (x_at 29) (expression (number 1)))) no_items)) 34) ≡
+    fault UnknownName 29 ∷ []
 gone = refl
 
 -- void f(long x){ long x; } int main(void){} : parameters and the body's declarations are one scope
@@ -121,7 +126,8 @@ parameter_again = refl
 
 -- long x; void x(void){} int main(void){} : functions and globals share a scope
 global_and_function : name_faults (record {
-  parts = globals (record { first = record { name = x_at 6; value = None }; rest = [] }) ∷ function (void_of (codes "x") 14 [] no_items 22) ∷ function (function_of (codes "main") 28 [] no_items 39) ∷ [];
+  parts = globals (record { first = record { name = x_at 6; value = None }; rest = [] }) ∷ function (void_of (codes "x") 14 [] no_items 22) ∷ function (function_of (codes "main") 28 [] no_items 39) ∷
+      [];
   end = at 40;
 }) ≡ fault DuplicateName 14 ∷ []
 global_and_function = refl

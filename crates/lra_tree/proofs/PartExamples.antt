@@ -65,7 +65,14 @@ apart e = let d : box ≡ poly = ap (λ (o : Options). o.domain) e in cc
 other_options : (source : List ℕ) → IsReportOf Spells (defaults poly) source one_variable → ⊥
 other_options source h = apart h.options
 
-one_part_more : (p q : Part) → AreParts (defaults box) (record { number = 1; point = record { path = []; label = 1 }; path = codes "main"; place = record { line = 1; column = 16 }; names = []; state = p ∷ q ∷ [] }) → ⊥
+one_part_more : (p q : Part) → AreParts (defaults box) (record {
+  number = 1;
+  point = record { path = []; label = 1 };
+  path = codes "main";
+  place = record { line = 1; column = 16 };
+  names = [];
+  state = p ∷ q ∷ [];
+}) → ⊥
 one_part_more p q h = omega (arith, h.few)
 
 box_with_generator : Tells box 0 (both [] (a_point 1 [] ∷ [])) → ⊥

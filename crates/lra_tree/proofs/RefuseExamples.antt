@@ -136,11 +136,14 @@ abbrev token_at : Kind → ℕ → Token
 token_at k c = record { kind = k; place = at c }
 
 abbrev empty_tokens : List Token
-empty_tokens = token_at (MarkOf mark.Int) 1 ∷ token_at (Name (codes "main")) 5 ∷ token_at (MarkOf mark.OpenParen) 9 ∷ token_at (MarkOf mark.Void) 10 ∷ token_at (MarkOf mark.CloseParen) 14 ∷ token_at (MarkOf mark.OpenBrace) 15 ∷ token_at (MarkOf mark.CloseBrace) 16 ∷ token_at End 17 ∷ []
+empty_tokens = token_at (MarkOf mark.Int) 1 ∷ token_at (Name (codes "main")) 5 ∷ token_at (MarkOf mark.OpenParen) 9 ∷ token_at (MarkOf mark.Void) 10 ∷ token_at (MarkOf mark.CloseParen) 14 ∷
+    token_at (MarkOf mark.OpenBrace) 15 ∷ token_at (MarkOf mark.CloseBrace) 16 ∷ token_at End 17 ∷ []
 
 empty_lexed : Lex (codes "int main(void){}") empty_tokens
 empty_lexed = (
-  token (codes "int") (token_at (MarkOf mark.Int) 1) ∷ gap (codes " ") ∷ token (codes "main") (token_at (Name (codes "main")) 5) ∷ token (codes "(") (token_at (MarkOf mark.OpenParen) 9) ∷ token (codes "void") (token_at (MarkOf mark.Void) 10) ∷ token (codes ")") (token_at (MarkOf mark.CloseParen) 14) ∷ token (codes "{") (token_at (MarkOf mark.OpenBrace) 15) ∷ token (codes "}") (token_at (MarkOf mark.CloseBrace) 16) ∷ [],
+  token (codes "int") (token_at (MarkOf mark.Int) 1) ∷ gap (codes " ") ∷ token (codes "main") (token_at (Name (codes "main")) 5) ∷ token (codes "(") (token_at (MarkOf mark.OpenParen) 9) ∷
+      token (codes "void") (token_at (MarkOf mark.Void) 10) ∷ token (codes ")") (token_at (MarkOf mark.CloseParen) 14) ∷ token (codes "{") (token_at (MarkOf mark.OpenBrace) 15) ∷
+      token (codes "}") (token_at (MarkOf mark.CloseBrace) 16) ∷ [],
   refl,
   (
     as_token [] (codes "int") (codes " main(void){}") (MarkOf mark.Int) (mark_word mark.Int refl) (mark_of mark.Int refl) refl refl refl,
@@ -181,7 +184,25 @@ empty_parsed : IsTree Spells empty_tokens empty_tree
 empty_parsed = (
   piece (MarkOf mark.Int) 1 0 ∷ piece (Name (codes "main")) 5 0 ∷ piece (MarkOf mark.OpenParen) 9 0 ∷ piece (MarkOf mark.Void) 10 0 ∷ piece (MarkOf mark.CloseParen) 14 0
       ∷ piece (MarkOf mark.OpenBrace) 15 1 ∷ piece (MarkOf mark.CloseBrace) 16 0 ∷ piece End 17 0 ∷ [],
-  (_, _, refl, (_, _, refl, (_, _, refl, inl (refl, (_, _, refl, (at 1, refl), refl)), (_, _, refl, (at 9, refl), (_, _, refl, inl (at 10, refl), (_, _, refl, (at 14, refl), (_, _, refl, (at 15, refl), (_, _, refl, refl, refl)))))), refl), refl),
+  (
+    _,
+    _,
+    refl,
+    (
+      _,
+      _,
+      refl,
+      (
+        _,
+        _,
+        refl,
+        inl (refl, (_, _, refl, (at 1, refl), refl)),
+        (_, _, refl, (at 9, refl), (_, _, refl, inl (at 10, refl), (_, _, refl, (at 14, refl), (_, _, refl, (at 15, refl), (_, _, refl, refl, refl))))),
+      ),
+      refl,
+    ),
+    refl,
+  ),
   refl,
   low_by (piece (MarkOf mark.Int) 1 0 ∷ piece (Name (codes "main")) 5 0 ∷ piece (MarkOf mark.OpenParen) 9 0 ∷ piece (MarkOf mark.Void) 10 0 ∷ piece (MarkOf mark.CloseParen) 14 0
       ∷ piece (MarkOf mark.OpenBrace) 15 1 ∷ piece (MarkOf mark.CloseBrace) 16 0 ∷ piece End 17 0 ∷ []) refl,
@@ -208,7 +229,8 @@ empty_accepted = record {
 dollar : Refuse Spells (codes "int main(void){ $ }") BadByte (at 17)
 unfolding greatest_length
 dollar = bad_token BadByte (at 17) (omega arith) (
-  token (codes "int") (token_at (MarkOf mark.Int) 1) ∷ gap (codes " ") ∷ token (codes "main") (token_at (Name (codes "main")) 5) ∷ token (codes "(") (token_at (MarkOf mark.OpenParen) 9) ∷ token (codes "void") (token_at (MarkOf mark.Void) 10) ∷ token (codes ")") (token_at (MarkOf mark.CloseParen) 14) ∷ token (codes "{") (token_at (MarkOf mark.OpenBrace) 15) ∷ gap (codes " ") ∷ [],
+  token (codes "int") (token_at (MarkOf mark.Int) 1) ∷ gap (codes " ") ∷ token (codes "main") (token_at (Name (codes "main")) 5) ∷ token (codes "(") (token_at (MarkOf mark.OpenParen) 9) ∷
+      token (codes "void") (token_at (MarkOf mark.Void) 10) ∷ token (codes ")") (token_at (MarkOf mark.CloseParen) 14) ∷ token (codes "{") (token_at (MarkOf mark.OpenBrace) 15) ∷ gap (codes " ") ∷ [],
   codes "$ }",
   refl,
   (
@@ -249,12 +271,17 @@ one_literal = record { base = decimal_base; front = []; digits = codes "1"; suff
 
 -- int main(void){ x = 1; }
 abbrev unknown_name_tokens : List Token
-unknown_name_tokens = token_at (MarkOf mark.Int) 1 ∷ token_at (Name (codes "main")) 5 ∷ token_at (MarkOf mark.OpenParen) 9 ∷ token_at (MarkOf mark.Void) 10 ∷ token_at (MarkOf mark.CloseParen) 14 ∷ token_at (MarkOf mark.OpenBrace) 15 ∷ token_at (Name (codes "x")) 17 ∷ token_at (MarkOf mark.Assign) 19 ∷ token_at (Number 1) 21 ∷ token_at (MarkOf mark.Semicolon) 22 ∷ token_at (MarkOf mark.CloseBrace) 24 ∷ token_at End 25 ∷ []
+unknown_name_tokens = token_at (MarkOf mark.Int) 1 ∷ token_at (Name (codes "main")) 5 ∷ token_at (MarkOf mark.OpenParen) 9 ∷ token_at (MarkOf mark.Void) 10 ∷ token_at (MarkOf mark.CloseParen) 14 ∷
+    token_at (MarkOf mark.OpenBrace) 15 ∷ token_at (Name (codes "x")) 17 ∷ token_at (MarkOf mark.Assign) 19 ∷ token_at (Number 1) 21 ∷ token_at (MarkOf mark.Semicolon) 22 ∷
+    token_at (MarkOf mark.CloseBrace) 24 ∷ token_at End 25 ∷ []
 
 unknown_name_refused : Refuse Spells (codes "int main(void){ x = 1; }") UnknownName (at 17)
 unfolding greatest_length
 unknown_name_refused = bad_tree unknown_name_tokens (main_of (statement (assign (set (x_at 17) (expression (number_of 1)))) no_items) 24) UnknownName (at 17) (omega arith) (
-  token (codes "int") (token_at (MarkOf mark.Int) 1) ∷ gap (codes " ") ∷ token (codes "main") (token_at (Name (codes "main")) 5) ∷ token (codes "(") (token_at (MarkOf mark.OpenParen) 9) ∷ token (codes "void") (token_at (MarkOf mark.Void) 10) ∷ token (codes ")") (token_at (MarkOf mark.CloseParen) 14) ∷ token (codes "{") (token_at (MarkOf mark.OpenBrace) 15) ∷ gap (codes " ") ∷ token (codes "x") (token_at (Name (codes "x")) 17) ∷ gap (codes " ") ∷ token (codes "=") (token_at (MarkOf mark.Assign) 19) ∷ gap (codes " ") ∷ token (codes "1") (token_at (Number 1) 21) ∷ token (codes ";") (token_at (MarkOf mark.Semicolon) 22) ∷ gap (codes " ") ∷ token (codes "}") (token_at (MarkOf mark.CloseBrace) 24) ∷ [],
+  token (codes "int") (token_at (MarkOf mark.Int) 1) ∷ gap (codes " ") ∷ token (codes "main") (token_at (Name (codes "main")) 5) ∷ token (codes "(") (token_at (MarkOf mark.OpenParen) 9) ∷
+      token (codes "void") (token_at (MarkOf mark.Void) 10) ∷ token (codes ")") (token_at (MarkOf mark.CloseParen) 14) ∷ token (codes "{") (token_at (MarkOf mark.OpenBrace) 15) ∷ gap (codes " ") ∷
+      token (codes "x") (token_at (Name (codes "x")) 17) ∷ gap (codes " ") ∷ token (codes "=") (token_at (MarkOf mark.Assign) 19) ∷ gap (codes " ") ∷ token (codes "1") (token_at (Number 1) 21) ∷
+      token (codes ";") (token_at (MarkOf mark.Semicolon) 22) ∷ gap (codes " ") ∷ token (codes "}") (token_at (MarkOf mark.CloseBrace) 24) ∷ [],
   refl,
   (
     as_token [] (codes "int") (codes " main(void){ x = 1; }") (MarkOf mark.Int) (mark_word mark.Int refl) (mark_of mark.Int refl) refl refl refl,
@@ -307,21 +334,65 @@ unknown_name_refused = bad_tree unknown_name_tokens (main_of (statement (assign 
   ),
   refl,
 ) (
-  piece (MarkOf mark.Int) 1 0 ∷ piece (Name (codes "main")) 5 0 ∷ piece (MarkOf mark.OpenParen) 9 0 ∷ piece (MarkOf mark.Void) 10 0 ∷ piece (MarkOf mark.CloseParen) 14 0 ∷ piece (MarkOf mark.OpenBrace) 15 1 ∷ piece (Name (codes "x")) 17 0 ∷ piece (MarkOf mark.Assign) 19 0 ∷ piece (Number 1) 21 0 ∷ piece (MarkOf mark.Semicolon) 22 0 ∷ piece (MarkOf mark.CloseBrace) 24 0 ∷ piece End 25 0 ∷ [],
-  (_, _, refl, (_, _, refl, (_, _, refl, inl (refl, (_, _, refl, (at 1, refl), refl)), (_, _, refl, (at 9, refl), (_, _, refl, inl (at 10, refl), (_, _, refl, (at 14, refl), (_, _, refl, (at 15, refl), (_, _, refl, (_, _, refl, (_, _, refl, (_, _, refl, refl, (_, _, refl, (at 19, refl), (at 21, refl))), (at 22, refl)), refl), refl)))))), refl), refl),
+  piece (MarkOf mark.Int) 1 0 ∷ piece (Name (codes "main")) 5 0 ∷ piece (MarkOf mark.OpenParen) 9 0 ∷ piece (MarkOf mark.Void) 10 0 ∷ piece (MarkOf mark.CloseParen) 14 0 ∷
+      piece (MarkOf mark.OpenBrace) 15 1 ∷ piece (Name (codes "x")) 17 0 ∷ piece (MarkOf mark.Assign) 19 0 ∷ piece (Number 1) 21 0 ∷ piece (MarkOf mark.Semicolon) 22 0 ∷
+      piece (MarkOf mark.CloseBrace) 24 0 ∷ piece End 25 0 ∷ [],
+  (
+    _,
+    _,
+    refl,
+    (
+      _,
+      _,
+      refl,
+      (
+        _,
+        _,
+        refl,
+        inl (refl, (_, _, refl, (at 1, refl), refl)),
+        (
+          _,
+          _,
+          refl,
+          (at 9, refl),
+          (
+            _,
+            _,
+            refl,
+            inl (at 10, refl),
+            (
+              _,
+              _,
+              refl,
+              (at 14, refl),
+              (_, _, refl, (at 15, refl), (_, _, refl, (_, _, refl, (_, _, refl, (_, _, refl, refl, (_, _, refl, (at 19, refl), (at 21, refl))), (at 22, refl)), refl), refl)),
+            ),
+          ),
+        ),
+      ),
+      refl,
+    ),
+    refl,
+  ),
   refl,
-  low_by (piece (MarkOf mark.Int) 1 0 ∷ piece (Name (codes "main")) 5 0 ∷ piece (MarkOf mark.OpenParen) 9 0 ∷ piece (MarkOf mark.Void) 10 0 ∷ piece (MarkOf mark.CloseParen) 14 0 ∷ piece (MarkOf mark.OpenBrace) 15 1 ∷ piece (Name (codes "x")) 17 0 ∷ piece (MarkOf mark.Assign) 19 0 ∷ piece (Number 1) 21 0 ∷ piece (MarkOf mark.Semicolon) 22 0 ∷ piece (MarkOf mark.CloseBrace) 24 0 ∷ piece End 25 0 ∷ []) refl,
+  low_by (piece (MarkOf mark.Int) 1 0 ∷ piece (Name (codes "main")) 5 0 ∷ piece (MarkOf mark.OpenParen) 9 0 ∷ piece (MarkOf mark.Void) 10 0 ∷ piece (MarkOf mark.CloseParen) 14 0 ∷
+      piece (MarkOf mark.OpenBrace) 15 1 ∷ piece (Name (codes "x")) 17 0 ∷ piece (MarkOf mark.Assign) 19 0 ∷ piece (Number 1) 21 0 ∷ piece (MarkOf mark.Semicolon) 22 0 ∷
+      piece (MarkOf mark.CloseBrace) 24 0 ∷ piece End 25 0 ∷ []) refl,
 )
     (bad_name (record { cause = UnknownName; place = at 17 }) [] refl)
 
 -- int main(void){ break; }
 abbrev misplaced_tokens : List Token
-misplaced_tokens = token_at (MarkOf mark.Int) 1 ∷ token_at (Name (codes "main")) 5 ∷ token_at (MarkOf mark.OpenParen) 9 ∷ token_at (MarkOf mark.Void) 10 ∷ token_at (MarkOf mark.CloseParen) 14 ∷ token_at (MarkOf mark.OpenBrace) 15 ∷ token_at (MarkOf mark.Break) 17 ∷ token_at (MarkOf mark.Semicolon) 22 ∷ token_at (MarkOf mark.CloseBrace) 24 ∷ token_at End 25 ∷ []
+misplaced_tokens = token_at (MarkOf mark.Int) 1 ∷ token_at (Name (codes "main")) 5 ∷ token_at (MarkOf mark.OpenParen) 9 ∷ token_at (MarkOf mark.Void) 10 ∷ token_at (MarkOf mark.CloseParen) 14 ∷
+    token_at (MarkOf mark.OpenBrace) 15 ∷ token_at (MarkOf mark.Break) 17 ∷ token_at (MarkOf mark.Semicolon) 22 ∷ token_at (MarkOf mark.CloseBrace) 24 ∷ token_at End 25 ∷ []
 
 misplaced_refused : Refuse Spells (codes "int main(void){ break; }") Misplaced (at 17)
 unfolding greatest_length
 misplaced_refused = bad_tree misplaced_tokens (main_of (statement (break (at 17)) no_items) 24) Misplaced (at 17) (omega arith) (
-  token (codes "int") (token_at (MarkOf mark.Int) 1) ∷ gap (codes " ") ∷ token (codes "main") (token_at (Name (codes "main")) 5) ∷ token (codes "(") (token_at (MarkOf mark.OpenParen) 9) ∷ token (codes "void") (token_at (MarkOf mark.Void) 10) ∷ token (codes ")") (token_at (MarkOf mark.CloseParen) 14) ∷ token (codes "{") (token_at (MarkOf mark.OpenBrace) 15) ∷ gap (codes " ") ∷ token (codes "break") (token_at (MarkOf mark.Break) 17) ∷ token (codes ";") (token_at (MarkOf mark.Semicolon) 22) ∷ gap (codes " ") ∷ token (codes "}") (token_at (MarkOf mark.CloseBrace) 24) ∷ [],
+  token (codes "int") (token_at (MarkOf mark.Int) 1) ∷ gap (codes " ") ∷ token (codes "main") (token_at (Name (codes "main")) 5) ∷ token (codes "(") (token_at (MarkOf mark.OpenParen) 9) ∷
+      token (codes "void") (token_at (MarkOf mark.Void) 10) ∷ token (codes ")") (token_at (MarkOf mark.CloseParen) 14) ∷ token (codes "{") (token_at (MarkOf mark.OpenBrace) 15) ∷ gap (codes " ") ∷
+      token (codes "break") (token_at (MarkOf mark.Break) 17) ∷ token (codes ";") (token_at (MarkOf mark.Semicolon) 22) ∷ gap (codes " ") ∷ token (codes "}") (token_at (MarkOf mark.CloseBrace) 24) ∷
+      [],
   refl,
   (
     as_token [] (codes "int") (codes " main(void){ break; }") (MarkOf mark.Int) (mark_word mark.Int refl) (mark_of mark.Int refl) refl refl refl,
@@ -362,21 +433,47 @@ misplaced_refused = bad_tree misplaced_tokens (main_of (statement (break (at 17)
   ),
   refl,
 ) (
-  piece (MarkOf mark.Int) 1 0 ∷ piece (Name (codes "main")) 5 0 ∷ piece (MarkOf mark.OpenParen) 9 0 ∷ piece (MarkOf mark.Void) 10 0 ∷ piece (MarkOf mark.CloseParen) 14 0 ∷ piece (MarkOf mark.OpenBrace) 15 1 ∷ piece (MarkOf mark.Break) 17 0 ∷ piece (MarkOf mark.Semicolon) 22 0 ∷ piece (MarkOf mark.CloseBrace) 24 0 ∷ piece End 25 0 ∷ [],
-  (_, _, refl, (_, _, refl, (_, _, refl, inl (refl, (_, _, refl, (at 1, refl), refl)), (_, _, refl, (at 9, refl), (_, _, refl, inl (at 10, refl), (_, _, refl, (at 14, refl), (_, _, refl, (at 15, refl), (_, _, refl, (_, _, refl, (_, _, refl, refl, (at 22, refl)), refl), refl)))))), refl), refl),
+  piece (MarkOf mark.Int) 1 0 ∷ piece (Name (codes "main")) 5 0 ∷ piece (MarkOf mark.OpenParen) 9 0 ∷ piece (MarkOf mark.Void) 10 0 ∷ piece (MarkOf mark.CloseParen) 14 0 ∷
+      piece (MarkOf mark.OpenBrace) 15 1 ∷ piece (MarkOf mark.Break) 17 0 ∷ piece (MarkOf mark.Semicolon) 22 0 ∷ piece (MarkOf mark.CloseBrace) 24 0 ∷ piece End 25 0 ∷ [],
+  (
+    _,
+    _,
+    refl,
+    (
+      _,
+      _,
+      refl,
+      (
+        _,
+        _,
+        refl,
+        inl (refl, (_, _, refl, (at 1, refl), refl)),
+        (_, _, refl, (at 9, refl), (_, _, refl, inl (at 10, refl), (_, _, refl, (at 14, refl), (_, _, refl, (at 15, refl), (_, _, refl, (_, _, refl, (_, _, refl, refl, (at 22, refl)), refl), refl))))),
+      ),
+      refl,
+    ),
+    refl,
+  ),
   refl,
-  low_by (piece (MarkOf mark.Int) 1 0 ∷ piece (Name (codes "main")) 5 0 ∷ piece (MarkOf mark.OpenParen) 9 0 ∷ piece (MarkOf mark.Void) 10 0 ∷ piece (MarkOf mark.CloseParen) 14 0 ∷ piece (MarkOf mark.OpenBrace) 15 1 ∷ piece (MarkOf mark.Break) 17 0 ∷ piece (MarkOf mark.Semicolon) 22 0 ∷ piece (MarkOf mark.CloseBrace) 24 0 ∷ piece End 25 0 ∷ []) refl,
+  low_by (piece (MarkOf mark.Int) 1 0 ∷ piece (Name (codes "main")) 5 0 ∷ piece (MarkOf mark.OpenParen) 9 0 ∷ piece (MarkOf mark.Void) 10 0 ∷ piece (MarkOf mark.CloseParen) 14 0 ∷
+      piece (MarkOf mark.OpenBrace) 15 1 ∷ piece (MarkOf mark.Break) 17 0 ∷ piece (MarkOf mark.Semicolon) 22 0 ∷ piece (MarkOf mark.CloseBrace) 24 0 ∷ piece End 25 0 ∷ []) refl,
 )
     (bad_name (record { cause = Misplaced; place = at 17 }) [] refl)
 
 -- int main(void){ long x; long x; } : the second name
 abbrev duplicate_name_tokens : List Token
-duplicate_name_tokens = token_at (MarkOf mark.Int) 1 ∷ token_at (Name (codes "main")) 5 ∷ token_at (MarkOf mark.OpenParen) 9 ∷ token_at (MarkOf mark.Void) 10 ∷ token_at (MarkOf mark.CloseParen) 14 ∷ token_at (MarkOf mark.OpenBrace) 15 ∷ token_at (MarkOf mark.Long) 17 ∷ token_at (Name (codes "x")) 22 ∷ token_at (MarkOf mark.Semicolon) 23 ∷ token_at (MarkOf mark.Long) 25 ∷ token_at (Name (codes "x")) 30 ∷ token_at (MarkOf mark.Semicolon) 31 ∷ token_at (MarkOf mark.CloseBrace) 33 ∷ token_at End 34 ∷ []
+duplicate_name_tokens = token_at (MarkOf mark.Int) 1 ∷ token_at (Name (codes "main")) 5 ∷ token_at (MarkOf mark.OpenParen) 9 ∷ token_at (MarkOf mark.Void) 10 ∷ token_at (MarkOf mark.CloseParen) 14 ∷
+    token_at (MarkOf mark.OpenBrace) 15 ∷ token_at (MarkOf mark.Long) 17 ∷ token_at (Name (codes "x")) 22 ∷ token_at (MarkOf mark.Semicolon) 23 ∷ token_at (MarkOf mark.Long) 25 ∷
+    token_at (Name (codes "x")) 30 ∷ token_at (MarkOf mark.Semicolon) 31 ∷ token_at (MarkOf mark.CloseBrace) 33 ∷ token_at End 34 ∷ []
 
 duplicate_name_refused : Refuse Spells (codes "int main(void){ long x; long x; }") DuplicateName (at 30)
 unfolding greatest_length
 duplicate_name_refused = bad_tree duplicate_name_tokens (main_of (declaration (declared_as (x_at 22) None) (declaration (declared_as (x_at 30) None) no_items)) 33) DuplicateName (at 30) (omega arith) (
-  token (codes "int") (token_at (MarkOf mark.Int) 1) ∷ gap (codes " ") ∷ token (codes "main") (token_at (Name (codes "main")) 5) ∷ token (codes "(") (token_at (MarkOf mark.OpenParen) 9) ∷ token (codes "void") (token_at (MarkOf mark.Void) 10) ∷ token (codes ")") (token_at (MarkOf mark.CloseParen) 14) ∷ token (codes "{") (token_at (MarkOf mark.OpenBrace) 15) ∷ gap (codes " ") ∷ token (codes "long") (token_at (MarkOf mark.Long) 17) ∷ gap (codes " ") ∷ token (codes "x") (token_at (Name (codes "x")) 22) ∷ token (codes ";") (token_at (MarkOf mark.Semicolon) 23) ∷ gap (codes " ") ∷ token (codes "long") (token_at (MarkOf mark.Long) 25) ∷ gap (codes " ") ∷ token (codes "x") (token_at (Name (codes "x")) 30) ∷ token (codes ";") (token_at (MarkOf mark.Semicolon) 31) ∷ gap (codes " ") ∷ token (codes "}") (token_at (MarkOf mark.CloseBrace) 33) ∷ [],
+  token (codes "int") (token_at (MarkOf mark.Int) 1) ∷ gap (codes " ") ∷ token (codes "main") (token_at (Name (codes "main")) 5) ∷ token (codes "(") (token_at (MarkOf mark.OpenParen) 9) ∷
+      token (codes "void") (token_at (MarkOf mark.Void) 10) ∷ token (codes ")") (token_at (MarkOf mark.CloseParen) 14) ∷ token (codes "{") (token_at (MarkOf mark.OpenBrace) 15) ∷ gap (codes " ") ∷
+      token (codes "long") (token_at (MarkOf mark.Long) 17) ∷ gap (codes " ") ∷ token (codes "x") (token_at (Name (codes "x")) 22) ∷ token (codes ";") (token_at (MarkOf mark.Semicolon) 23) ∷
+      gap (codes " ") ∷ token (codes "long") (token_at (MarkOf mark.Long) 25) ∷ gap (codes " ") ∷ token (codes "x") (token_at (Name (codes "x")) 30) ∷
+      token (codes ";") (token_at (MarkOf mark.Semicolon) 31) ∷ gap (codes " ") ∷ token (codes "}") (token_at (MarkOf mark.CloseBrace) 33) ∷ [],
   refl,
   (
     as_token [] (codes "int") (codes " main(void){ long x; long x; }") (MarkOf mark.Int) (mark_word mark.Int refl) (mark_of mark.Int refl) refl refl refl,
@@ -401,7 +498,8 @@ duplicate_name_refused = bad_tree duplicate_name_tokens (main_of (declaration (d
                       (
                         as_token (codes "int main(void){ long ") (codes "x") (codes "; long x; }") (Name (codes "x")) (word refl) (name refl refl refl) refl refl refl,
                         (
-                          as_token (codes "int main(void){ long x") (codes ";") (codes " long x; }") (MarkOf mark.Semicolon) (mark_word mark.Semicolon refl) (mark_of mark.Semicolon refl) refl refl refl,
+                          as_token (codes "int main(void){ long x") (codes ";") (codes " long x; }") (MarkOf mark.Semicolon) (mark_word mark.Semicolon refl)
+                              (mark_of mark.Semicolon refl) refl refl refl,
                           (
                             blank 32 refl refl,
                             (
@@ -411,11 +509,13 @@ duplicate_name_refused = bad_tree duplicate_name_tokens (main_of (declaration (d
                                 (
                                   as_token (codes "int main(void){ long x; long ") (codes "x") (codes "; }") (Name (codes "x")) (word refl) (name refl refl refl) refl refl refl,
                                   (
-                                    as_token (codes "int main(void){ long x; long x") (codes ";") (codes " }") (MarkOf mark.Semicolon) (mark_word mark.Semicolon refl) (mark_of mark.Semicolon refl) refl refl refl,
+                                    as_token (codes "int main(void){ long x; long x") (codes ";") (codes " }") (MarkOf mark.Semicolon) (mark_word mark.Semicolon refl)
+                                        (mark_of mark.Semicolon refl) refl refl refl,
                                     (
                                       blank 32 refl refl,
                                       (
-                                        as_token (codes "int main(void){ long x; long x; ") (codes "}") [] (MarkOf mark.CloseBrace) (mark_word mark.CloseBrace refl) (mark_of mark.CloseBrace refl) refl refl refl,
+                                        as_token (codes "int main(void){ long x; long x; ") (codes "}") [] (MarkOf mark.CloseBrace) (mark_word mark.CloseBrace refl)
+                                            (mark_of mark.CloseBrace refl) refl refl refl,
                                         tt,
                                       ),
                                     ),
@@ -438,21 +538,100 @@ duplicate_name_refused = bad_tree duplicate_name_tokens (main_of (declaration (d
   ),
   refl,
 ) (
-  piece (MarkOf mark.Int) 1 0 ∷ piece (Name (codes "main")) 5 0 ∷ piece (MarkOf mark.OpenParen) 9 0 ∷ piece (MarkOf mark.Void) 10 0 ∷ piece (MarkOf mark.CloseParen) 14 0 ∷ piece (MarkOf mark.OpenBrace) 15 1 ∷ piece (MarkOf mark.Long) 17 0 ∷ piece (Name (codes "x")) 22 0 ∷ piece (MarkOf mark.Semicolon) 23 0 ∷ piece (MarkOf mark.Long) 25 0 ∷ piece (Name (codes "x")) 30 0 ∷ piece (MarkOf mark.Semicolon) 31 0 ∷ piece (MarkOf mark.CloseBrace) 33 0 ∷ piece End 34 0 ∷ [],
-  (_, _, refl, (_, _, refl, (_, _, refl, inl (refl, (_, _, refl, (at 1, refl), refl)), (_, _, refl, (at 9, refl), (_, _, refl, inl (at 10, refl), (_, _, refl, (at 14, refl), (_, _, refl, (at 15, refl), (_, _, refl, (_, _, refl, (_, _, refl, (_, _, refl, (at 17, refl), (_, _, refl, inr refl, inr refl)), (_, _, refl, (_, _, refl, (_, _, refl, refl, refl), refl), (at 23, refl))), (_, _, refl, (_, _, refl, (_, _, refl, (at 25, refl), (_, _, refl, inr refl, inr refl)), (_, _, refl, (_, _, refl, (_, _, refl, refl, refl), refl), (at 31, refl))), refl)), refl)))))), refl), refl),
+  piece (MarkOf mark.Int) 1 0 ∷ piece (Name (codes "main")) 5 0 ∷ piece (MarkOf mark.OpenParen) 9 0 ∷ piece (MarkOf mark.Void) 10 0 ∷ piece (MarkOf mark.CloseParen) 14 0 ∷
+      piece (MarkOf mark.OpenBrace) 15 1 ∷ piece (MarkOf mark.Long) 17 0 ∷ piece (Name (codes "x")) 22 0 ∷ piece (MarkOf mark.Semicolon) 23 0 ∷ piece (MarkOf mark.Long) 25 0 ∷
+      piece (Name (codes "x")) 30 0 ∷ piece (MarkOf mark.Semicolon) 31 0 ∷ piece (MarkOf mark.CloseBrace) 33 0 ∷ piece End 34 0 ∷ [],
+  (
+    _,
+    _,
+    refl,
+    (
+      _,
+      _,
+      refl,
+      (
+        _,
+        _,
+        refl,
+        inl (refl, (_, _, refl, (at 1, refl), refl)),
+        (
+          _,
+          _,
+          refl,
+          (at 9, refl),
+          (
+            _,
+            _,
+            refl,
+            inl (at 10, refl),
+            (
+              _,
+              _,
+              refl,
+              (at 14, refl),
+              (
+                _,
+                _,
+                refl,
+                (at 15, refl),
+                (
+                  _,
+                  _,
+                  refl,
+                  (
+                    _,
+                    _,
+                    refl,
+                    (
+                      _,
+                      _,
+                      refl,
+                      (_, _, refl, (at 17, refl), (_, _, refl, inr refl, inr refl)),
+                      (_, _, refl, (_, _, refl, (_, _, refl, refl, refl), refl), (at 23, refl)),
+                    ),
+                    (
+                      _,
+                      _,
+                      refl,
+                      (_, _, refl, (_, _, refl, (at 25, refl), (_, _, refl, inr refl, inr refl)), (_, _, refl, (_, _, refl, (_, _, refl, refl, refl), refl), (at 31, refl))),
+                      refl,
+                    ),
+                  ),
+                  refl,
+                ),
+              ),
+            ),
+          ),
+        ),
+      ),
+      refl,
+    ),
+    refl,
+  ),
   refl,
-  low_by (piece (MarkOf mark.Int) 1 0 ∷ piece (Name (codes "main")) 5 0 ∷ piece (MarkOf mark.OpenParen) 9 0 ∷ piece (MarkOf mark.Void) 10 0 ∷ piece (MarkOf mark.CloseParen) 14 0 ∷ piece (MarkOf mark.OpenBrace) 15 1 ∷ piece (MarkOf mark.Long) 17 0 ∷ piece (Name (codes "x")) 22 0 ∷ piece (MarkOf mark.Semicolon) 23 0 ∷ piece (MarkOf mark.Long) 25 0 ∷ piece (Name (codes "x")) 30 0 ∷ piece (MarkOf mark.Semicolon) 31 0 ∷ piece (MarkOf mark.CloseBrace) 33 0 ∷ piece End 34 0 ∷ []) refl,
+  low_by (piece (MarkOf mark.Int) 1 0 ∷ piece (Name (codes "main")) 5 0 ∷ piece (MarkOf mark.OpenParen) 9 0 ∷ piece (MarkOf mark.Void) 10 0 ∷ piece (MarkOf mark.CloseParen) 14 0 ∷
+      piece (MarkOf mark.OpenBrace) 15 1 ∷ piece (MarkOf mark.Long) 17 0 ∷ piece (Name (codes "x")) 22 0 ∷ piece (MarkOf mark.Semicolon) 23 0 ∷ piece (MarkOf mark.Long) 25 0 ∷
+      piece (Name (codes "x")) 30 0 ∷ piece (MarkOf mark.Semicolon) 31 0 ∷ piece (MarkOf mark.CloseBrace) 33 0 ∷ piece End 34 0 ∷ []) refl,
 )
     (bad_name (record { cause = DuplicateName; place = at 30 }) [] refl)
 
 -- void f(void){} int main(void){ f(1); }
 abbrev bad_call_tokens : List Token
-bad_call_tokens = token_at (MarkOf mark.Void) 1 ∷ token_at (Name (codes "f")) 6 ∷ token_at (MarkOf mark.OpenParen) 7 ∷ token_at (MarkOf mark.Void) 8 ∷ token_at (MarkOf mark.CloseParen) 12 ∷ token_at (MarkOf mark.OpenBrace) 13 ∷ token_at (MarkOf mark.CloseBrace) 14 ∷ token_at (MarkOf mark.Int) 16 ∷ token_at (Name (codes "main")) 20 ∷ token_at (MarkOf mark.OpenParen) 24 ∷ token_at (MarkOf mark.Void) 25 ∷ token_at (MarkOf mark.CloseParen) 29 ∷ token_at (MarkOf mark.OpenBrace) 30 ∷ token_at (Name (codes "f")) 32 ∷ token_at (MarkOf mark.OpenParen) 33 ∷ token_at (Number 1) 34 ∷ token_at (MarkOf mark.CloseParen) 35 ∷ token_at (MarkOf mark.Semicolon) 36 ∷ token_at (MarkOf mark.CloseBrace) 38 ∷ token_at End 39 ∷ []
+bad_call_tokens = token_at (MarkOf mark.Void) 1 ∷ token_at (Name (codes "f")) 6 ∷ token_at (MarkOf mark.OpenParen) 7 ∷ token_at (MarkOf mark.Void) 8 ∷ token_at (MarkOf mark.CloseParen) 12 ∷
+    token_at (MarkOf mark.OpenBrace) 13 ∷ token_at (MarkOf mark.CloseBrace) 14 ∷ token_at (MarkOf mark.Int) 16 ∷ token_at (Name (codes "main")) 20 ∷ token_at (MarkOf mark.OpenParen) 24 ∷
+    token_at (MarkOf mark.Void) 25 ∷ token_at (MarkOf mark.CloseParen) 29 ∷ token_at (MarkOf mark.OpenBrace) 30 ∷ token_at (Name (codes "f")) 32 ∷ token_at (MarkOf mark.OpenParen) 33 ∷
+    token_at (Number 1) 34 ∷ token_at (MarkOf mark.CloseParen) 35 ∷ token_at (MarkOf mark.Semicolon) 36 ∷ token_at (MarkOf mark.CloseBrace) 38 ∷ token_at End 39 ∷ []
 
 bad_call_refused : Refuse Spells (codes "void f(void){} int main(void){ f(1); }") BadCall (at 32)
 unfolding greatest_length
 bad_call_refused = bad_tree bad_call_tokens calls_with_one BadCall (at 32) (omega arith) (
-  token (codes "void") (token_at (MarkOf mark.Void) 1) ∷ gap (codes " ") ∷ token (codes "f") (token_at (Name (codes "f")) 6) ∷ token (codes "(") (token_at (MarkOf mark.OpenParen) 7) ∷ token (codes "void") (token_at (MarkOf mark.Void) 8) ∷ token (codes ")") (token_at (MarkOf mark.CloseParen) 12) ∷ token (codes "{") (token_at (MarkOf mark.OpenBrace) 13) ∷ token (codes "}") (token_at (MarkOf mark.CloseBrace) 14) ∷ gap (codes " ") ∷ token (codes "int") (token_at (MarkOf mark.Int) 16) ∷ gap (codes " ") ∷ token (codes "main") (token_at (Name (codes "main")) 20) ∷ token (codes "(") (token_at (MarkOf mark.OpenParen) 24) ∷ token (codes "void") (token_at (MarkOf mark.Void) 25) ∷ token (codes ")") (token_at (MarkOf mark.CloseParen) 29) ∷ token (codes "{") (token_at (MarkOf mark.OpenBrace) 30) ∷ gap (codes " ") ∷ token (codes "f") (token_at (Name (codes "f")) 32) ∷ token (codes "(") (token_at (MarkOf mark.OpenParen) 33) ∷ token (codes "1") (token_at (Number 1) 34) ∷ token (codes ")") (token_at (MarkOf mark.CloseParen) 35) ∷ token (codes ";") (token_at (MarkOf mark.Semicolon) 36) ∷ gap (codes " ") ∷ token (codes "}") (token_at (MarkOf mark.CloseBrace) 38) ∷ [],
+  token (codes "void") (token_at (MarkOf mark.Void) 1) ∷ gap (codes " ") ∷ token (codes "f") (token_at (Name (codes "f")) 6) ∷ token (codes "(") (token_at (MarkOf mark.OpenParen) 7) ∷
+      token (codes "void") (token_at (MarkOf mark.Void) 8) ∷ token (codes ")") (token_at (MarkOf mark.CloseParen) 12) ∷ token (codes "{") (token_at (MarkOf mark.OpenBrace) 13) ∷
+      token (codes "}") (token_at (MarkOf mark.CloseBrace) 14) ∷ gap (codes " ") ∷ token (codes "int") (token_at (MarkOf mark.Int) 16) ∷ gap (codes " ") ∷
+      token (codes "main") (token_at (Name (codes "main")) 20) ∷ token (codes "(") (token_at (MarkOf mark.OpenParen) 24) ∷ token (codes "void") (token_at (MarkOf mark.Void) 25) ∷
+      token (codes ")") (token_at (MarkOf mark.CloseParen) 29) ∷ token (codes "{") (token_at (MarkOf mark.OpenBrace) 30) ∷ gap (codes " ") ∷ token (codes "f") (token_at (Name (codes "f")) 32) ∷
+      token (codes "(") (token_at (MarkOf mark.OpenParen) 33) ∷ token (codes "1") (token_at (Number 1) 34) ∷ token (codes ")") (token_at (MarkOf mark.CloseParen) 35) ∷
+      token (codes ";") (token_at (MarkOf mark.Semicolon) 36) ∷ gap (codes " ") ∷ token (codes "}") (token_at (MarkOf mark.CloseBrace) 38) ∷ [],
   refl,
   (
     as_token [] (codes "void") (codes " f(void){} int main(void){ f(1); }") (MarkOf mark.Void) (mark_word mark.Void refl) (mark_of mark.Void refl) refl refl refl,
@@ -469,7 +648,8 @@ bad_call_refused = bad_tree bad_call_tokens calls_with_one BadCall (at 32) (omeg
               (
                 as_token (codes "void f(void)") (codes "{") (codes "} int main(void){ f(1); }") (MarkOf mark.OpenBrace) (mark_word mark.OpenBrace refl) (mark_of mark.OpenBrace refl) refl refl refl,
                 (
-                  as_token (codes "void f(void){") (codes "}") (codes " int main(void){ f(1); }") (MarkOf mark.CloseBrace) (mark_word mark.CloseBrace refl) (mark_of mark.CloseBrace refl) refl refl refl,
+                  as_token (codes "void f(void){") (codes "}") (codes " int main(void){ f(1); }") (MarkOf mark.CloseBrace) (mark_word mark.CloseBrace refl)
+                      (mark_of mark.CloseBrace refl) refl refl refl,
                   (
                     blank 32 refl refl,
                     (
@@ -479,29 +659,37 @@ bad_call_refused = bad_tree bad_call_tokens calls_with_one BadCall (at 32) (omeg
                         (
                           as_token (codes "void f(void){} int ") (codes "main") (codes "(void){ f(1); }") (Name (codes "main")) (word refl) (name refl refl refl) refl refl refl,
                           (
-                            as_token (codes "void f(void){} int main") (codes "(") (codes "void){ f(1); }") (MarkOf mark.OpenParen) (mark_word mark.OpenParen refl) (mark_of mark.OpenParen refl) refl refl refl,
+                            as_token (codes "void f(void){} int main") (codes "(") (codes "void){ f(1); }") (MarkOf mark.OpenParen) (mark_word mark.OpenParen refl)
+                                (mark_of mark.OpenParen refl) refl refl refl,
                             (
                               as_token (codes "void f(void){} int main(") (codes "void") (codes "){ f(1); }") (MarkOf mark.Void) (mark_word mark.Void refl) (mark_of mark.Void refl) refl refl refl,
                               (
-                                as_token (codes "void f(void){} int main(void") (codes ")") (codes "{ f(1); }") (MarkOf mark.CloseParen) (mark_word mark.CloseParen refl) (mark_of mark.CloseParen refl) refl refl refl,
+                                as_token (codes "void f(void){} int main(void") (codes ")") (codes "{ f(1); }") (MarkOf mark.CloseParen) (mark_word mark.CloseParen refl)
+                                    (mark_of mark.CloseParen refl) refl refl refl,
                                 (
-                                  as_token (codes "void f(void){} int main(void)") (codes "{") (codes " f(1); }") (MarkOf mark.OpenBrace) (mark_word mark.OpenBrace refl) (mark_of mark.OpenBrace refl) refl refl refl,
+                                  as_token (codes "void f(void){} int main(void)") (codes "{") (codes " f(1); }") (MarkOf mark.OpenBrace) (mark_word mark.OpenBrace refl)
+                                      (mark_of mark.OpenBrace refl) refl refl refl,
                                   (
                                     blank 32 refl refl,
                                     (
                                       as_token (codes "void f(void){} int main(void){ ") (codes "f") (codes "(1); }") (Name (codes "f")) (word refl) (name refl refl refl) refl refl refl,
                                       (
-                                        as_token (codes "void f(void){} int main(void){ f") (codes "(") (codes "1); }") (MarkOf mark.OpenParen) (mark_word mark.OpenParen refl) (mark_of mark.OpenParen refl) refl refl refl,
+                                        as_token (codes "void f(void){} int main(void){ f") (codes "(") (codes "1); }") (MarkOf mark.OpenParen) (mark_word mark.OpenParen refl)
+                                            (mark_of mark.OpenParen refl) refl refl refl,
                                         (
-                                          as_token (codes "void f(void){} int main(void){ f(") (codes "1") (codes "); }") (Number 1) (number_word refl) (number 1 refl one_literal (omega arith)) refl refl refl,
+                                          as_token (codes "void f(void){} int main(void){ f(") (codes "1") (codes "); }") (Number 1) (number_word refl)
+                                              (number 1 refl one_literal (omega arith)) refl refl refl,
                                           (
-                                            as_token (codes "void f(void){} int main(void){ f(1") (codes ")") (codes "; }") (MarkOf mark.CloseParen) (mark_word mark.CloseParen refl) (mark_of mark.CloseParen refl) refl refl refl,
+                                            as_token (codes "void f(void){} int main(void){ f(1") (codes ")") (codes "; }") (MarkOf mark.CloseParen) (mark_word mark.CloseParen refl)
+                                                (mark_of mark.CloseParen refl) refl refl refl,
                                             (
-                                              as_token (codes "void f(void){} int main(void){ f(1)") (codes ";") (codes " }") (MarkOf mark.Semicolon) (mark_word mark.Semicolon refl) (mark_of mark.Semicolon refl) refl refl refl,
+                                              as_token (codes "void f(void){} int main(void){ f(1)") (codes ";") (codes " }") (MarkOf mark.Semicolon) (mark_word mark.Semicolon refl)
+                                                  (mark_of mark.Semicolon refl) refl refl refl,
                                               (
                                                 blank 32 refl refl,
                                                 (
-                                                  as_token (codes "void f(void){} int main(void){ f(1); ") (codes "}") [] (MarkOf mark.CloseBrace) (mark_word mark.CloseBrace refl) (mark_of mark.CloseBrace refl) refl refl refl,
+                                                  as_token (codes "void f(void){} int main(void){ f(1); ") (codes "}") [] (MarkOf mark.CloseBrace) (mark_word mark.CloseBrace refl)
+                                                      (mark_of mark.CloseBrace refl) refl refl refl,
                                                   tt,
                                                 ),
                                               ),
@@ -529,21 +717,96 @@ bad_call_refused = bad_tree bad_call_tokens calls_with_one BadCall (at 32) (omeg
   ),
   refl,
 ) (
-  piece (MarkOf mark.Void) 1 0 ∷ piece (Name (codes "f")) 6 0 ∷ piece (MarkOf mark.OpenParen) 7 0 ∷ piece (MarkOf mark.Void) 8 0 ∷ piece (MarkOf mark.CloseParen) 12 0 ∷ piece (MarkOf mark.OpenBrace) 13 1 ∷ piece (MarkOf mark.CloseBrace) 14 0 ∷ piece (MarkOf mark.Int) 16 0 ∷ piece (Name (codes "main")) 20 0 ∷ piece (MarkOf mark.OpenParen) 24 0 ∷ piece (MarkOf mark.Void) 25 0 ∷ piece (MarkOf mark.CloseParen) 29 0 ∷ piece (MarkOf mark.OpenBrace) 30 1 ∷ piece (Name (codes "f")) 32 0 ∷ piece (MarkOf mark.OpenParen) 33 0 ∷ piece (Number 1) 34 0 ∷ piece (MarkOf mark.CloseParen) 35 0 ∷ piece (MarkOf mark.Semicolon) 36 0 ∷ piece (MarkOf mark.CloseBrace) 38 0 ∷ piece End 39 0 ∷ [],
-  (_, _, refl, (_, _, refl, (_, _, refl, (_, _, refl, (at 1, refl), refl), (_, _, refl, (at 7, refl), (_, _, refl, inl (at 8, refl), (_, _, refl, (at 12, refl), (_, _, refl, (at 13, refl), (_, _, refl, refl, refl)))))), (_, _, refl, (_, _, refl, inl (refl, (_, _, refl, (at 16, refl), refl)), (_, _, refl, (at 24, refl), (_, _, refl, inl (at 25, refl), (_, _, refl, (at 29, refl), (_, _, refl, (at 30, refl), (_, _, refl, (_, _, refl, (_, _, refl, (_, _, refl, refl, (_, _, refl, (at 33, refl), (_, _, refl, (_, _, refl, (at 34, refl), refl), (at 35, refl)))), (at 36, refl)), refl), refl)))))), refl)), refl),
+  piece (MarkOf mark.Void) 1 0 ∷ piece (Name (codes "f")) 6 0 ∷ piece (MarkOf mark.OpenParen) 7 0 ∷ piece (MarkOf mark.Void) 8 0 ∷ piece (MarkOf mark.CloseParen) 12 0 ∷
+      piece (MarkOf mark.OpenBrace) 13 1 ∷ piece (MarkOf mark.CloseBrace) 14 0 ∷ piece (MarkOf mark.Int) 16 0 ∷ piece (Name (codes "main")) 20 0 ∷ piece (MarkOf mark.OpenParen) 24 0 ∷
+      piece (MarkOf mark.Void) 25 0 ∷ piece (MarkOf mark.CloseParen) 29 0 ∷ piece (MarkOf mark.OpenBrace) 30 1 ∷ piece (Name (codes "f")) 32 0 ∷ piece (MarkOf mark.OpenParen) 33 0 ∷
+      piece (Number 1) 34 0 ∷ piece (MarkOf mark.CloseParen) 35 0 ∷ piece (MarkOf mark.Semicolon) 36 0 ∷ piece (MarkOf mark.CloseBrace) 38 0 ∷ piece End 39 0 ∷ [],
+  (
+    _,
+    _,
+    refl,
+    (
+      _,
+      _,
+      refl,
+      (
+        _,
+        _,
+        refl,
+        (_, _, refl, (at 1, refl), refl),
+        (
+          _,
+          _,
+          refl,
+          (at 7, refl),
+          (_, _, refl, inl (at 8, refl), (_, _, refl, (at 12, refl), (_, _, refl, (at 13, refl), (_, _, refl, refl, refl)))),
+        ),
+      ),
+      (
+        _,
+        _,
+        refl,
+        (
+          _,
+          _,
+          refl,
+          inl (refl, (_, _, refl, (at 16, refl), refl)),
+          (
+            _,
+            _,
+            refl,
+            (at 24, refl),
+            (
+              _,
+              _,
+              refl,
+              inl (at 25, refl),
+              (
+                _,
+                _,
+                refl,
+                (at 29, refl),
+                (
+                  _,
+                  _,
+                  refl,
+                  (at 30, refl),
+                  (_, _, refl, (_, _, refl, (_, _, refl, (_, _, refl, refl, (_, _, refl, (at 33, refl), (_, _, refl, (_, _, refl, (at 34, refl), refl), (at 35, refl)))), (at 36, refl)), refl), refl),
+                ),
+              ),
+            ),
+          ),
+        ),
+        refl,
+      ),
+    ),
+    refl,
+  ),
   refl,
-  low_by (piece (MarkOf mark.Void) 1 0 ∷ piece (Name (codes "f")) 6 0 ∷ piece (MarkOf mark.OpenParen) 7 0 ∷ piece (MarkOf mark.Void) 8 0 ∷ piece (MarkOf mark.CloseParen) 12 0 ∷ piece (MarkOf mark.OpenBrace) 13 1 ∷ piece (MarkOf mark.CloseBrace) 14 0 ∷ piece (MarkOf mark.Int) 16 0 ∷ piece (Name (codes "main")) 20 0 ∷ piece (MarkOf mark.OpenParen) 24 0 ∷ piece (MarkOf mark.Void) 25 0 ∷ piece (MarkOf mark.CloseParen) 29 0 ∷ piece (MarkOf mark.OpenBrace) 30 1 ∷ piece (Name (codes "f")) 32 0 ∷ piece (MarkOf mark.OpenParen) 33 0 ∷ piece (Number 1) 34 0 ∷ piece (MarkOf mark.CloseParen) 35 0 ∷ piece (MarkOf mark.Semicolon) 36 0 ∷ piece (MarkOf mark.CloseBrace) 38 0 ∷ piece End 39 0 ∷ []) refl,
+  low_by (piece (MarkOf mark.Void) 1 0 ∷ piece (Name (codes "f")) 6 0 ∷ piece (MarkOf mark.OpenParen) 7 0 ∷ piece (MarkOf mark.Void) 8 0 ∷ piece (MarkOf mark.CloseParen) 12 0 ∷
+      piece (MarkOf mark.OpenBrace) 13 1 ∷ piece (MarkOf mark.CloseBrace) 14 0 ∷ piece (MarkOf mark.Int) 16 0 ∷ piece (Name (codes "main")) 20 0 ∷ piece (MarkOf mark.OpenParen) 24 0 ∷
+      piece (MarkOf mark.Void) 25 0 ∷ piece (MarkOf mark.CloseParen) 29 0 ∷ piece (MarkOf mark.OpenBrace) 30 1 ∷ piece (Name (codes "f")) 32 0 ∷ piece (MarkOf mark.OpenParen) 33 0 ∷
+      piece (Number 1) 34 0 ∷ piece (MarkOf mark.CloseParen) 35 0 ∷ piece (MarkOf mark.Semicolon) 36 0 ∷ piece (MarkOf mark.CloseBrace) 38 0 ∷ piece End 39 0 ∷ []) refl,
 )
     (bad_name (record { cause = BadCall; place = at 32 }) [] refl)
 
 -- void f(void){ f(); } int main(void){}
 abbrev recursive_tokens : List Token
-recursive_tokens = token_at (MarkOf mark.Void) 1 ∷ token_at (Name (codes "f")) 6 ∷ token_at (MarkOf mark.OpenParen) 7 ∷ token_at (MarkOf mark.Void) 8 ∷ token_at (MarkOf mark.CloseParen) 12 ∷ token_at (MarkOf mark.OpenBrace) 13 ∷ token_at (Name (codes "f")) 15 ∷ token_at (MarkOf mark.OpenParen) 16 ∷ token_at (MarkOf mark.CloseParen) 17 ∷ token_at (MarkOf mark.Semicolon) 18 ∷ token_at (MarkOf mark.CloseBrace) 20 ∷ token_at (MarkOf mark.Int) 22 ∷ token_at (Name (codes "main")) 26 ∷ token_at (MarkOf mark.OpenParen) 30 ∷ token_at (MarkOf mark.Void) 31 ∷ token_at (MarkOf mark.CloseParen) 35 ∷ token_at (MarkOf mark.OpenBrace) 36 ∷ token_at (MarkOf mark.CloseBrace) 37 ∷ token_at End 38 ∷ []
+recursive_tokens = token_at (MarkOf mark.Void) 1 ∷ token_at (Name (codes "f")) 6 ∷ token_at (MarkOf mark.OpenParen) 7 ∷ token_at (MarkOf mark.Void) 8 ∷ token_at (MarkOf mark.CloseParen) 12 ∷
+    token_at (MarkOf mark.OpenBrace) 13 ∷ token_at (Name (codes "f")) 15 ∷ token_at (MarkOf mark.OpenParen) 16 ∷ token_at (MarkOf mark.CloseParen) 17 ∷ token_at (MarkOf mark.Semicolon) 18 ∷
+    token_at (MarkOf mark.CloseBrace) 20 ∷ token_at (MarkOf mark.Int) 22 ∷ token_at (Name (codes "main")) 26 ∷ token_at (MarkOf mark.OpenParen) 30 ∷ token_at (MarkOf mark.Void) 31 ∷
+    token_at (MarkOf mark.CloseParen) 35 ∷ token_at (MarkOf mark.OpenBrace) 36 ∷ token_at (MarkOf mark.CloseBrace) 37 ∷ token_at End 38 ∷ []
 
 recursive_refused : Refuse Spells (codes "void f(void){ f(); } int main(void){}") Recursive (at 15)
 unfolding greatest_length
 recursive_refused = bad_tree recursive_tokens itself Recursive (at 15) (omega arith) (
-  token (codes "void") (token_at (MarkOf mark.Void) 1) ∷ gap (codes " ") ∷ token (codes "f") (token_at (Name (codes "f")) 6) ∷ token (codes "(") (token_at (MarkOf mark.OpenParen) 7) ∷ token (codes "void") (token_at (MarkOf mark.Void) 8) ∷ token (codes ")") (token_at (MarkOf mark.CloseParen) 12) ∷ token (codes "{") (token_at (MarkOf mark.OpenBrace) 13) ∷ gap (codes " ") ∷ token (codes "f") (token_at (Name (codes "f")) 15) ∷ token (codes "(") (token_at (MarkOf mark.OpenParen) 16) ∷ token (codes ")") (token_at (MarkOf mark.CloseParen) 17) ∷ token (codes ";") (token_at (MarkOf mark.Semicolon) 18) ∷ gap (codes " ") ∷ token (codes "}") (token_at (MarkOf mark.CloseBrace) 20) ∷ gap (codes " ") ∷ token (codes "int") (token_at (MarkOf mark.Int) 22) ∷ gap (codes " ") ∷ token (codes "main") (token_at (Name (codes "main")) 26) ∷ token (codes "(") (token_at (MarkOf mark.OpenParen) 30) ∷ token (codes "void") (token_at (MarkOf mark.Void) 31) ∷ token (codes ")") (token_at (MarkOf mark.CloseParen) 35) ∷ token (codes "{") (token_at (MarkOf mark.OpenBrace) 36) ∷ token (codes "}") (token_at (MarkOf mark.CloseBrace) 37) ∷ [],
+  token (codes "void") (token_at (MarkOf mark.Void) 1) ∷ gap (codes " ") ∷ token (codes "f") (token_at (Name (codes "f")) 6) ∷ token (codes "(") (token_at (MarkOf mark.OpenParen) 7) ∷
+      token (codes "void") (token_at (MarkOf mark.Void) 8) ∷ token (codes ")") (token_at (MarkOf mark.CloseParen) 12) ∷ token (codes "{") (token_at (MarkOf mark.OpenBrace) 13) ∷ gap (codes " ") ∷
+      token (codes "f") (token_at (Name (codes "f")) 15) ∷ token (codes "(") (token_at (MarkOf mark.OpenParen) 16) ∷ token (codes ")") (token_at (MarkOf mark.CloseParen) 17) ∷
+      token (codes ";") (token_at (MarkOf mark.Semicolon) 18) ∷ gap (codes " ") ∷ token (codes "}") (token_at (MarkOf mark.CloseBrace) 20) ∷ gap (codes " ") ∷
+      token (codes "int") (token_at (MarkOf mark.Int) 22) ∷ gap (codes " ") ∷ token (codes "main") (token_at (Name (codes "main")) 26) ∷ token (codes "(") (token_at (MarkOf mark.OpenParen) 30) ∷
+      token (codes "void") (token_at (MarkOf mark.Void) 31) ∷ token (codes ")") (token_at (MarkOf mark.CloseParen) 35) ∷ token (codes "{") (token_at (MarkOf mark.OpenBrace) 36) ∷
+      token (codes "}") (token_at (MarkOf mark.CloseBrace) 37) ∷ [],
   refl,
   (
     as_token [] (codes "void") (codes " f(void){ f(); } int main(void){}") (MarkOf mark.Void) (mark_word mark.Void refl) (mark_of mark.Void refl) refl refl refl,
@@ -564,15 +827,19 @@ recursive_refused = bad_tree recursive_tokens itself Recursive (at 15) (omega ar
                   (
                     as_token (codes "void f(void){ ") (codes "f") (codes "(); } int main(void){}") (Name (codes "f")) (word refl) (name refl refl refl) refl refl refl,
                     (
-                      as_token (codes "void f(void){ f") (codes "(") (codes "); } int main(void){}") (MarkOf mark.OpenParen) (mark_word mark.OpenParen refl) (mark_of mark.OpenParen refl) refl refl refl,
+                      as_token (codes "void f(void){ f") (codes "(") (codes "); } int main(void){}") (MarkOf mark.OpenParen) (mark_word mark.OpenParen refl)
+                          (mark_of mark.OpenParen refl) refl refl refl,
                       (
-                        as_token (codes "void f(void){ f(") (codes ")") (codes "; } int main(void){}") (MarkOf mark.CloseParen) (mark_word mark.CloseParen refl) (mark_of mark.CloseParen refl) refl refl refl,
+                        as_token (codes "void f(void){ f(") (codes ")") (codes "; } int main(void){}") (MarkOf mark.CloseParen) (mark_word mark.CloseParen refl)
+                            (mark_of mark.CloseParen refl) refl refl refl,
                         (
-                          as_token (codes "void f(void){ f()") (codes ";") (codes " } int main(void){}") (MarkOf mark.Semicolon) (mark_word mark.Semicolon refl) (mark_of mark.Semicolon refl) refl refl refl,
+                          as_token (codes "void f(void){ f()") (codes ";") (codes " } int main(void){}") (MarkOf mark.Semicolon) (mark_word mark.Semicolon refl)
+                              (mark_of mark.Semicolon refl) refl refl refl,
                           (
                             blank 32 refl refl,
                             (
-                              as_token (codes "void f(void){ f(); ") (codes "}") (codes " int main(void){}") (MarkOf mark.CloseBrace) (mark_word mark.CloseBrace refl) (mark_of mark.CloseBrace refl) refl refl refl,
+                              as_token (codes "void f(void){ f(); ") (codes "}") (codes " int main(void){}") (MarkOf mark.CloseBrace) (mark_word mark.CloseBrace refl)
+                                  (mark_of mark.CloseBrace refl) refl refl refl,
                               (
                                 blank 32 refl refl,
                                 (
@@ -582,15 +849,20 @@ recursive_refused = bad_tree recursive_tokens itself Recursive (at 15) (omega ar
                                     (
                                       as_token (codes "void f(void){ f(); } int ") (codes "main") (codes "(void){}") (Name (codes "main")) (word refl) (name refl refl refl) refl refl refl,
                                       (
-                                        as_token (codes "void f(void){ f(); } int main") (codes "(") (codes "void){}") (MarkOf mark.OpenParen) (mark_word mark.OpenParen refl) (mark_of mark.OpenParen refl) refl refl refl,
+                                        as_token (codes "void f(void){ f(); } int main") (codes "(") (codes "void){}") (MarkOf mark.OpenParen) (mark_word mark.OpenParen refl)
+                                            (mark_of mark.OpenParen refl) refl refl refl,
                                         (
-                                          as_token (codes "void f(void){ f(); } int main(") (codes "void") (codes "){}") (MarkOf mark.Void) (mark_word mark.Void refl) (mark_of mark.Void refl) refl refl refl,
+                                          as_token (codes "void f(void){ f(); } int main(") (codes "void") (codes "){}") (MarkOf mark.Void) (mark_word mark.Void refl)
+                                              (mark_of mark.Void refl) refl refl refl,
                                           (
-                                            as_token (codes "void f(void){ f(); } int main(void") (codes ")") (codes "{}") (MarkOf mark.CloseParen) (mark_word mark.CloseParen refl) (mark_of mark.CloseParen refl) refl refl refl,
+                                            as_token (codes "void f(void){ f(); } int main(void") (codes ")") (codes "{}") (MarkOf mark.CloseParen) (mark_word mark.CloseParen refl)
+                                                (mark_of mark.CloseParen refl) refl refl refl,
                                             (
-                                              as_token (codes "void f(void){ f(); } int main(void)") (codes "{") (codes "}") (MarkOf mark.OpenBrace) (mark_word mark.OpenBrace refl) (mark_of mark.OpenBrace refl) refl refl refl,
+                                              as_token (codes "void f(void){ f(); } int main(void)") (codes "{") (codes "}") (MarkOf mark.OpenBrace) (mark_word mark.OpenBrace refl)
+                                                  (mark_of mark.OpenBrace refl) refl refl refl,
                                               (
-                                                as_token (codes "void f(void){ f(); } int main(void){") (codes "}") [] (MarkOf mark.CloseBrace) (mark_word mark.CloseBrace refl) (mark_of mark.CloseBrace refl) refl refl refl,
+                                                as_token (codes "void f(void){ f(); } int main(void){") (codes "}") [] (MarkOf mark.CloseBrace) (mark_word mark.CloseBrace refl)
+                                                    (mark_of mark.CloseBrace refl) refl refl refl,
                                                 tt,
                                               ),
                                             ),
@@ -617,10 +889,76 @@ recursive_refused = bad_tree recursive_tokens itself Recursive (at 15) (omega ar
   ),
   refl,
 ) (
-  piece (MarkOf mark.Void) 1 0 ∷ piece (Name (codes "f")) 6 0 ∷ piece (MarkOf mark.OpenParen) 7 0 ∷ piece (MarkOf mark.Void) 8 0 ∷ piece (MarkOf mark.CloseParen) 12 0 ∷ piece (MarkOf mark.OpenBrace) 13 1 ∷ piece (Name (codes "f")) 15 0 ∷ piece (MarkOf mark.OpenParen) 16 0 ∷ piece (MarkOf mark.CloseParen) 17 0 ∷ piece (MarkOf mark.Semicolon) 18 0 ∷ piece (MarkOf mark.CloseBrace) 20 0 ∷ piece (MarkOf mark.Int) 22 0 ∷ piece (Name (codes "main")) 26 0 ∷ piece (MarkOf mark.OpenParen) 30 0 ∷ piece (MarkOf mark.Void) 31 0 ∷ piece (MarkOf mark.CloseParen) 35 0 ∷ piece (MarkOf mark.OpenBrace) 36 1 ∷ piece (MarkOf mark.CloseBrace) 37 0 ∷ piece End 38 0 ∷ [],
-  (_, _, refl, (_, _, refl, (_, _, refl, (_, _, refl, (at 1, refl), refl), (_, _, refl, (at 7, refl), (_, _, refl, inl (at 8, refl), (_, _, refl, (at 12, refl), (_, _, refl, (at 13, refl), (_, _, refl, (_, _, refl, (_, _, refl, (_, _, refl, refl, (_, _, refl, (at 16, refl), (_, _, refl, refl, (at 17, refl)))), (at 18, refl)), refl), refl)))))), (_, _, refl, (_, _, refl, inl (refl, (_, _, refl, (at 22, refl), refl)), (_, _, refl, (at 30, refl), (_, _, refl, inl (at 31, refl), (_, _, refl, (at 35, refl), (_, _, refl, (at 36, refl), (_, _, refl, refl, refl)))))), refl)), refl),
+  piece (MarkOf mark.Void) 1 0 ∷ piece (Name (codes "f")) 6 0 ∷ piece (MarkOf mark.OpenParen) 7 0 ∷ piece (MarkOf mark.Void) 8 0 ∷ piece (MarkOf mark.CloseParen) 12 0 ∷
+      piece (MarkOf mark.OpenBrace) 13 1 ∷ piece (Name (codes "f")) 15 0 ∷ piece (MarkOf mark.OpenParen) 16 0 ∷ piece (MarkOf mark.CloseParen) 17 0 ∷ piece (MarkOf mark.Semicolon) 18 0 ∷
+      piece (MarkOf mark.CloseBrace) 20 0 ∷ piece (MarkOf mark.Int) 22 0 ∷ piece (Name (codes "main")) 26 0 ∷ piece (MarkOf mark.OpenParen) 30 0 ∷ piece (MarkOf mark.Void) 31 0 ∷
+      piece (MarkOf mark.CloseParen) 35 0 ∷ piece (MarkOf mark.OpenBrace) 36 1 ∷ piece (MarkOf mark.CloseBrace) 37 0 ∷ piece End 38 0 ∷ [],
+  (
+    _,
+    _,
+    refl,
+    (
+      _,
+      _,
+      refl,
+      (
+        _,
+        _,
+        refl,
+        (_, _, refl, (at 1, refl), refl),
+        (
+          _,
+          _,
+          refl,
+          (at 7, refl),
+          (
+            _,
+            _,
+            refl,
+            inl (at 8, refl),
+            (
+              _,
+              _,
+              refl,
+              (at 12, refl),
+              (
+                _,
+                _,
+                refl,
+                (at 13, refl),
+                (_, _, refl, (_, _, refl, (_, _, refl, (_, _, refl, refl, (_, _, refl, (at 16, refl), (_, _, refl, refl, (at 17, refl)))), (at 18, refl)), refl), refl),
+              ),
+            ),
+          ),
+        ),
+      ),
+      (
+        _,
+        _,
+        refl,
+        (
+          _,
+          _,
+          refl,
+          inl (refl, (_, _, refl, (at 22, refl), refl)),
+          (
+            _,
+            _,
+            refl,
+            (at 30, refl),
+            (_, _, refl, inl (at 31, refl), (_, _, refl, (at 35, refl), (_, _, refl, (at 36, refl), (_, _, refl, refl, refl)))),
+          ),
+        ),
+        refl,
+      ),
+    ),
+    refl,
+  ),
   refl,
-  low_by (piece (MarkOf mark.Void) 1 0 ∷ piece (Name (codes "f")) 6 0 ∷ piece (MarkOf mark.OpenParen) 7 0 ∷ piece (MarkOf mark.Void) 8 0 ∷ piece (MarkOf mark.CloseParen) 12 0 ∷ piece (MarkOf mark.OpenBrace) 13 1 ∷ piece (Name (codes "f")) 15 0 ∷ piece (MarkOf mark.OpenParen) 16 0 ∷ piece (MarkOf mark.CloseParen) 17 0 ∷ piece (MarkOf mark.Semicolon) 18 0 ∷ piece (MarkOf mark.CloseBrace) 20 0 ∷ piece (MarkOf mark.Int) 22 0 ∷ piece (Name (codes "main")) 26 0 ∷ piece (MarkOf mark.OpenParen) 30 0 ∷ piece (MarkOf mark.Void) 31 0 ∷ piece (MarkOf mark.CloseParen) 35 0 ∷ piece (MarkOf mark.OpenBrace) 36 1 ∷ piece (MarkOf mark.CloseBrace) 37 0 ∷ piece End 38 0 ∷ []) refl,
+  low_by (piece (MarkOf mark.Void) 1 0 ∷ piece (Name (codes "f")) 6 0 ∷ piece (MarkOf mark.OpenParen) 7 0 ∷ piece (MarkOf mark.Void) 8 0 ∷ piece (MarkOf mark.CloseParen) 12 0 ∷
+      piece (MarkOf mark.OpenBrace) 13 1 ∷ piece (Name (codes "f")) 15 0 ∷ piece (MarkOf mark.OpenParen) 16 0 ∷ piece (MarkOf mark.CloseParen) 17 0 ∷ piece (MarkOf mark.Semicolon) 18 0 ∷
+      piece (MarkOf mark.CloseBrace) 20 0 ∷ piece (MarkOf mark.Int) 22 0 ∷ piece (Name (codes "main")) 26 0 ∷ piece (MarkOf mark.OpenParen) 30 0 ∷ piece (MarkOf mark.Void) 31 0 ∷
+      piece (MarkOf mark.CloseParen) 35 0 ∷ piece (MarkOf mark.OpenBrace) 36 1 ∷ piece (MarkOf mark.CloseBrace) 37 0 ∷ piece End 38 0 ∷ []) refl,
 )
     (recursive (at 15) refl is_recursive)
 

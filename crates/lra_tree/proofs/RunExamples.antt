@@ -1,7 +1,8 @@
 -- Runs of small programs: the points that they pass, each with its call path, label and store.
 -- Labels number statements, declarators and ends of blocks in text order from 1, over the whole source.
 use Rattle.std.proofs.Common.{◌≡◌, ℕ, zero, suc, ℤ, pos, negsuc, List, [], ◌∷◌, Option, Some, None, refl}
-use Rattle.lra_tree.specs.Program.{global, local, plus, minus, over, times, below, at_least, equal, differs, Expr, literal, read, input, negate, binary, compare, nonzero, value, result, Declarator, Stmt, absent, nothing, block, assign, call, if, loop, for, break, continue, return, assert, assume, BlockItems, no_more, declaration, statement, Function, Program}
+use Rattle.lra_tree.specs.Program.{global, local, plus, minus, over, times, below, at_least, equal, differs, Expr, literal, read, input, negate, binary, compare, nonzero, value, result, Declarator}
+use Rattle.lra_tree.specs.Program.{Stmt, absent, nothing, block, assign, call, if, loop, for, break, continue, return, assert, assume, BlockItems, no_more, declaration, statement, Function, Program}
 use Rattle.lra_tree.specs.Step.{Config, Item, run, all, end_of, turn, Here, next}
 use Rattle.lra_tree.specs.Run.{start, label_on, Fails}
 use Rattle.lra_tree.specs.Resolve.{resolve}
@@ -60,7 +61,12 @@ failing_run = refl
 
 -- the assertion of that program fails
 assertion_fails : Fails failing (record { path = []; label = 3 })
-assertion_fails = (_, record { draws = pos 7 ∷ []; words = (refl, tt); length = 5; steps = (_, refl, (_, refl, (_, refl, (_, refl, (_, refl, refl))))) }, record { label = refl; path = refl }, (_, refl))
+assertion_fails = (
+  _,
+  record { draws = pos 7 ∷ []; words = (refl, tt); length = 5; steps = (_, refl, (_, refl, (_, refl, (_, refl, (_, refl, refl))))) },
+  record { label = refl; path = refl },
+  (_, refl),
+)
 
 -- int main(void){ long i=0; while(i<2) i=i+1; }
 -- the loop's point comes at each round, before the test
@@ -208,7 +214,8 @@ overflowing_run = refl
 
 -- int main(void){ long x=-9223372036854775807-1; x=x/-1; }
 abbrev least_divided : Program
-least_divided = main_alone (declaration (set_to 1 (binary minus (negate (literal 9223372036854775807)) (literal 1))) (statement (assign 2 (local 0) (value (binary over x (negate (literal 1))))) no_more)) 3
+least_divided = main_alone (declaration (set_to 1 (binary minus (negate (literal 9223372036854775807)) (literal 1)))
+    (statement (assign 2 (local 0) (value (binary over x (negate (literal 1))))) no_more)) 3
 
 least_divided_run : visited least_divided (pos 0 ∷ []) ≡ ([], 1, []) ∷ ([], 2, negsuc 9223372036854775807 ∷ []) ∷ []
 least_divided_run = refl
@@ -217,7 +224,8 @@ least_divided_run = refl
 abbrev assumed : Program
 assumed = main_alone (declaration (set_to 1 input) (statement (assume 2 (compare differs x (literal 0))) (statement (assign 3 (local 0) (value (literal 1))) no_more))) 4
 
-assumed_run : (visited assumed (pos 9 ∷ pos 0 ∷ []) ≡ ([], 1, []) ∷ ([], 2, pos 0 ∷ []) ∷ []) × (visited assumed (pos 9 ∷ pos 4 ∷ []) ≡ ([], 1, []) ∷ ([], 2, pos 4 ∷ []) ∷ ([], 3, pos 4 ∷ []) ∷ ([], 4, pos 1 ∷ []) ∷ [])
+assumed_run : (visited assumed (pos 9 ∷ pos 0 ∷ []) ≡ ([], 1, []) ∷ ([], 2, pos 0 ∷ []) ∷ []) ×
+    (visited assumed (pos 9 ∷ pos 4 ∷ []) ≡ ([], 1, []) ∷ ([], 2, pos 4 ∷ []) ∷ ([], 3, pos 4 ∷ []) ∷ ([], 4, pos 1 ∷ []) ∷ [])
 assumed_run = (refl, refl)
 
 -- long k(long d){ return d+1; } long h(long a){ for(long i=0;i<a;i=k(i)) ; return k(a); } int main(void){ long m=h(2); }

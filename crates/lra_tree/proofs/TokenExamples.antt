@@ -13,7 +13,8 @@ use Rattle.lra_tree.specs.declared.tokens.Kind.{Kind}
 use Rattle.lra_tree.specs.declared.tokens.Kind.TheVariants.{Name, Number, Mark, Reserved, End}
 use Rattle.lra_tree.specs.declared.tokens.Mark.TheVariants as mark
 use Rattle.lra_tree.specs.declared.tokens.Token.{Token}
-use Rattle.lra_tree.specs.Lexeme.{octal, decimal_base, hexadecimal, IsLiteral, Base, IsFront, is_digit, is_digit_of, number_behind, greatest_literal, is_between, is_among, suffixes, word, number_word, mark_word, name, number, mark_of, reserved}
+use Rattle.lra_tree.specs.Lexeme.{octal, decimal_base, hexadecimal, IsLiteral, Base, IsFront, is_digit, is_digit_of, number_behind, greatest_literal, is_between, is_among, suffixes, word, number_word}
+use Rattle.lra_tree.specs.Lexeme.{mark_word, name, number, mark_of, reserved}
 use Rattle.lra_tree.specs.Tokens.{place_behind, blank, line_comment, block_comment, skipped_line, gap, token, Lex, IsTokenFault}
 use Rattle.lra_tree.proofs.LongestByTest.{no_gap, longest_by, as_token, is_open, no_lexeme}
 
@@ -33,10 +34,30 @@ zero_literal : IsLiteral (codes "0L") 0
 zero_literal = record { base = octal; front = codes "0"; digits = []; suffix = codes "L"; parts = refl; begins = refl; all_digits = refl; is_suffix = refl; number = refl }
 
 hexadecimal_literal : IsLiteral (codes "0xFfll") 255
-hexadecimal_literal = record { base = hexadecimal; front = codes "0x"; digits = codes "Ff"; suffix = codes "ll"; parts = refl; begins = (inl refl, λ e. cc); all_digits = refl; is_suffix = refl; number = refl }
+hexadecimal_literal = record {
+  base = hexadecimal;
+  front = codes "0x";
+  digits = codes "Ff";
+  suffix = codes "ll";
+  parts = refl;
+  begins = (inl refl, λ e. cc);
+  all_digits = refl;
+  is_suffix = refl;
+  number = refl;
+}
 
 greatest_literal_is : IsLiteral (codes "9223372036854775807") 9223372036854775807
-greatest_literal_is = record { base = decimal_base; front = []; digits = codes "9223372036854775807"; suffix = []; parts = refl; begins = (57, codes "223372036854775807", refl, refl, refl); all_digits = refl; is_suffix = refl; number = refl }
+greatest_literal_is = record {
+  base = decimal_base;
+  front = [];
+  digits = codes "9223372036854775807";
+  suffix = [];
+  parts = refl;
+  begins = (57, codes "223372036854775807", refl, refl, refl);
+  all_digits = refl;
+  is_suffix = refl;
+  number = refl;
+}
 
 -- places -----------------------------------------------------------------------------------------------------------
 
@@ -70,7 +91,17 @@ short_tokens = (
           as_token (include_line ++ (10 ∷ codes "x")) (codes "+=") (codes "0x1f/* c */;") (Mark mark.PlusAssign) (mark_word mark.PlusAssign refl) (mark_of mark.PlusAssign refl) refl refl refl,
           (
             as_token (include_line ++ (10 ∷ codes "x+=")) (codes "0x1f") (codes "/* c */;") (Number 31) (number_word refl)
-                (number 31 refl (record { base = hexadecimal; front = codes "0x"; digits = codes "1f"; suffix = []; parts = refl; begins = (inl refl, λ e. cc); all_digits = refl; is_suffix = refl; number = refl }) (omega arith)) refl refl refl,
+                (number 31 refl (record {
+                  base = hexadecimal;
+                  front = codes "0x";
+                  digits = codes "1f";
+                  suffix = [];
+                  parts = refl;
+                  begins = (inl refl, λ e. cc);
+                  all_digits = refl;
+                  is_suffix = refl;
+                  number = refl;
+                }) (omega arith)) refl refl refl,
             (
               block_comment (codes " c ") refl (is_open (codes " c *") refl),
               (
@@ -156,7 +187,8 @@ bad_byte = (
 )
 
 -- an octal literal has no digit 8
-no_octal : (base : Base) (front digits suffix : List ℕ) → codes "08" ≡ (front ++ digits) ++ suffix → IsFront base front digits → list_all (is_digit_of base) digits ≡ true → is_among suffix suffixes ≡ true → ⊥
+no_octal : (base : Base) (front digits suffix : List ℕ) → codes "08" ≡ (front ++ digits) ++ suffix → IsFront base front digits → list_all (is_digit_of base) digits ≡ true →
+    is_among suffix suffixes ≡ true → ⊥
 no_octal octal front [] suffix e b d s =
     let f : codes "08" ≡ 48 ∷ suffix = subst (λ (z : List ℕ). codes "08" ≡ (z ++ []) ++ suffix) b e in
     let g : suffix ≡ 56 ∷ [] = cc in

@@ -3,7 +3,9 @@ use Rattle.std.specs.Prelude.{ℕ, List, [], ◌∷◌, codes, Option, Some, Non
 use Rattle.lra_tree.specs.declared.refusals.Place.{Place}
 use Rattle.lra_tree.specs.declared.trees.Identifier.{Identifier}
 use Rattle.lra_tree.specs.Program.{below, at_least, equal}
-use Rattle.lra_tree.specs.Trees.{UnaryTree, literal, variable, unary, ExprTree, term, plus, TestTree, compare, conjunction, test, CondTree, CallTree, SourceTree, expression, result, set, DeclarationTree, declared, block, nothing, assign, if_only, for, break, continue, return, assert, ItemsTree, no_items, declaration, statement, FunctionTree, function, FileTree}
+use Rattle.lra_tree.specs.Trees.{UnaryTree, literal, variable, unary, ExprTree, term, plus, TestTree, compare, conjunction, test, CondTree, CallTree, SourceTree, expression, result, set}
+use Rattle.lra_tree.specs.Trees.{DeclarationTree, declared, block, nothing, assign, if_only, for, break, continue, return, assert, ItemsTree, no_items, declaration, statement, FunctionTree, function}
+use Rattle.lra_tree.specs.Trees.{FileTree}
 
 -- of the first line
 abbrev pub at : ℕ → Place
@@ -45,7 +47,8 @@ main_of body end = record { parts = function (function_of (codes "main") 5 [] bo
 
 -- int main(void){ long x; x = 3; assert(x >= 3); }
 abbrev pub one_variable : FileTree
-one_variable = main_of (declaration (declared_as (x_at 22) None) (statement (assign (set (x_at 25) (expression (number 3)))) (statement (assert (at 32) (tested (compare (use_of (x_at 39)) at_least (number 3)))) no_items))) 48
+one_variable = main_of (declaration (declared_as (x_at 22) None) (statement (assign (set (x_at 25) (expression (number 3))))
+    (statement (assert (at 32) (tested (compare (use_of (x_at 39)) at_least (number 3)))) no_items))) 48
 
 -- long inc(long x){ x=x+1; return x; } int main(void){ long x=inc(1); x=inc(x); assert(x==3); }
 abbrev pub called_twice : FileTree

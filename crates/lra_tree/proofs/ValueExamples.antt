@@ -1,7 +1,8 @@
 -- Values of expressions and conditions, and where a run stops (ISO/IEC 9899:2011, 6.5.5, 6.5.6, 6.5.13, 6.5.14).
 -- Which slip each would catch stands beside it.
 use Rattle.std.proofs.Common.{◌≡◌, pos, negsuc, [], ◌∷◌, Some, None, true, false, refl}
-use Rattle.lra_tree.specs.Program.{global, local, plus, minus, times, over, modulo, below, at_most, above, at_least, equal, differs, Expr, literal, read, input, negate, binary, compare, nonzero, opposite, both_of, either_of}
+use Rattle.lra_tree.specs.Program.{global, local, plus, minus, times, over, modulo, below, at_most, above, at_least, equal, differs, Expr, literal, read, input, negate, binary, compare, nonzero}
+use Rattle.lra_tree.specs.Program.{opposite, both_of, either_of}
 use Rattle.lra_tree.specs.Value.{value_of, values_of, truth_of, compares}
 
 -- 2^63 - 1 and -2^63
@@ -94,5 +95,6 @@ above_is_strict = (refl, refl)
 at_most_and_at_least : (compares at_most (pos 3) (pos 3) ≡ true) × (compares at_least (pos 3) (pos 3) ≡ true) × (compares at_least (pos 2) (pos 3) ≡ false) × (compares at_most (pos 4) (pos 3) ≡ false)
 at_most_and_at_least = (refl, refl, refl, refl)
 
-equal_and_differs : (compares equal (negsuc 4) (negsuc 4) ≡ true) × (compares equal (pos 4) (negsuc 4) ≡ false) × (compares differs (pos 4) (negsuc 4) ≡ true) × (compares differs (pos 4) (pos 4) ≡ false)
+equal_and_differs : (compares equal (negsuc 4) (negsuc 4) ≡ true) × (compares equal (pos 4) (negsuc 4) ≡ false) × (compares differs (pos 4) (negsuc 4) ≡ true) ×
+    (compares differs (pos 4) (pos 4) ≡ false)
 equal_and_differs = (refl, refl, refl, refl)

@@ -19,7 +19,8 @@ use Rattle.lra_tree.specs.declared.trees.Function.{Function}
 use Rattle.lra_tree.specs.declared.trees.Item.{Item}
 use Rattle.lra_tree.specs.declared.trees.Item.TheVariants as code_part
 use Rattle.lra_tree.specs.Views.{block_view, function_view, part_view, init_view, cond_view, assign_view, declarator_view, declaration_view, item_view, stmt_view}
-use Rattle.lra_tree.specs.Trees.{CondTree, AssignTree, DeclaratorTree, DeclarationTree, InitTree, no_init, declared, assigned, StmtTree, block, nothing, assign, call, if_only, if_else, while, for, break, continue, return, assert, assume, ItemsTree, no_items, declaration, statement, FunctionTree, PartTree}
+use Rattle.lra_tree.specs.Trees.{CondTree, AssignTree, DeclaratorTree, DeclarationTree, InitTree, no_init, declared, assigned, StmtTree, block, nothing, assign, call, if_only, if_else, while, for}
+use Rattle.lra_tree.specs.Trees.{break, continue, return, assert, assume, ItemsTree, no_items, declaration, statement, FunctionTree, PartTree}
 use Rattle.lra_tree.specs.Scope.{functions_in}
 use Rattle.lra_tree.specs.Labels.{Labelled, with_names, declarator_labels, init_labels, step_labels, stmt_labels, items_labels, function_labels, live_in_for}
 use Rattle.lra_tree.specs.Walk.{told, told_declarator, walked_declarators, walked_init, walked_step, walked_stmt, walked_items, walked_functions}
@@ -49,7 +50,8 @@ mutual
   told_stmt live (call c) = refl
   told_stmt live (if_only at c t) = ap (λ (x : List Label). record { place = at; called = None } ∷ x) (told_stmt live t)
   told_stmt live (if_else at c t e) =
-      ap (λ (x : List Label). record { place = at; called = None } ∷ x) (told_both (stmt_labels live t) (stmt_labels live e) (stmt_labels [] t) (stmt_labels [] e) (told_stmt live t) (told_stmt live e))
+      ap (λ (x : List Label). record { place = at; called = None } ∷ x) (told_both (stmt_labels live t) (stmt_labels live e) (stmt_labels [] t) (stmt_labels [] e) (told_stmt live t)
+      (told_stmt live e))
   told_stmt live (while at c b) = ap (λ (x : List Label). record { place = at; called = None } ∷ x) (told_stmt live b)
   told_stmt live (for at i c e b) =
       ap (λ (x : List Label). record { place = at; called = None } ∷ x)

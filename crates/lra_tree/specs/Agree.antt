@@ -26,11 +26,13 @@ pub record IsGraph (P : Program) (g : Node) : Type 0 where
 -- the tree comes to the point of this number with the store
 abbrev pub Reached : Program → Node → ℕ → List ℤ → Type 0
 Reached P g number store =
-    (draws : List ℤ) × AllByRecursion (λ z. IsTrue (is_word z)) draws × (t : State) × Comes g (begins P draws) number t × (t.store ≡ store)
+    (draws : List ℤ) × AllByRecursion (λ z. IsTrue (is_word z)) draws × (t : State) ×
+    Comes g (begins P draws) number t × (t.store ≡ store)
 
 -- it fails the assertion of this number
 abbrev pub Failed : Program → Node → ℕ → Type 0
-Failed P g number = (draws : List ℤ) × AllByRecursion (λ z. IsTrue (is_word z)) draws × FailsAt g (begins P draws) number
+Failed P g number = (draws : List ℤ) × AllByRecursion (λ z. IsTrue (is_word z)) draws ×
+    FailsAt g (begins P draws) number
 
 -- the point with this number
 abbrev pub point_of : Site → Point
@@ -38,19 +40,24 @@ point_of s = record { path = s.path; label = s.label }
 
 -- no two points have the same call path and label
 abbrev pub AreDistinct : List Site → Type 0
-AreDistinct T = (i j : ℕ) (a b : Site) → slice_get T i ≡ Some a → slice_get T j ≡ Some b → a.path ≡ b.path → a.label ≡ b.label → i ≡ j
+AreDistinct T = (i j : ℕ) (a b : Site) → slice_get T i ≡ Some a → slice_get T j ≡ Some b → a.path ≡ b.path →
+    a.label ≡ b.label → i ≡ j
 
 pub record Agrees (P : Program) (g : Node) : Type 0 where
   -- a run reaches the point exactly where the tree does
-  pub comes : (number : ℕ) (s : Site) (store : List ℤ) → slice_get (sites_of P) number ≡ Some s → (At P (point_of s) store ↔ Reached P g number store)
+  pub comes : (number : ℕ) (s : Site) (store : List ℤ) → slice_get (sites_of P) number ≡ Some s →
+      (At P (point_of s) store ↔ Reached P g number store)
   -- and fails there exactly where the tree does
-  pub fails : (number : ℕ) (s : Site) → slice_get (sites_of P) number ≡ Some s → (Fails P (point_of s) ↔ Failed P g number)
+  pub fails : (number : ℕ) (s : Site) → slice_get (sites_of P) number ≡ Some s →
+      (Fails P (point_of s) ↔ Failed P g number)
   -- the store has as many variables as live there
-  pub width : (number : ℕ) (s : Site) (store : List ℤ) → slice_get (sites_of P) number ≡ Some s → Reached P g number store → length store ≡ s.live
+  pub width : (number : ℕ) (s : Site) (store : List ℤ) → slice_get (sites_of P) number ≡ Some s →
+      Reached P g number store → length store ≡ s.live
   -- no run is at another point
-  pub others : (p : Point) (store : List ℤ) → At P p store → (number : ℕ) × (s : Site) × (slice_get (sites_of P) number ≡ Some s) × (p ≡ point_of s)
+  pub others : (p : Point) (store : List ℤ) → At P p store → (number : ℕ) × (s : Site) ×
+      (slice_get (sites_of P) number ≡ Some s) × (p ≡ point_of s)
 
--- A run is at a point by its path and label, the tree by its number; so each tree of a program agrees with its runs where no two of its points
--- have one path and label.
+-- A run is at a point by its path and label, the tree by its number; so each tree of a program agrees with its runs
+-- where no two of its points have one path and label.
 abbrev pub GraphsAgree : Type 0
 GraphsAgree = (P : Program) (g : Node) → AreDistinct (sites_of P) → IsGraph P g → Agrees P g

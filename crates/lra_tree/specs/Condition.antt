@@ -1,9 +1,12 @@
--- How a condition takes a value of a domain (Cousot and Halbwachs 1978): `!` is pushed to the atoms; an atom tests; `&&` is the one
--- behind the other; `||` joins what the left side leaves with what the right side leaves where the left one is false.
+-- How a condition takes a value of a domain (Cousot and Halbwachs 1978): `!` is pushed to the atoms; an atom tests;
+-- `&&` is the one behind the other; `||` joins what the left side leaves with what the right side leaves where the left
+-- one is false.
 -- The domain's operations are given as relations, so that a result may hold more than it must.
-use Rattle.std.specs.Prelude.{◌≡◌, ℕ, ℤ, pos, ◌+ℤ◌, Bool, true, false, not, List, [], ◌∷◌, ◌++◌, map, Option, Some, None}
+use Rattle.std.specs.Prelude.{◌≡◌, ℕ, ℤ, pos, ◌+ℤ◌, Bool, true, false, not, List, [], ◌∷◌, ◌++◌, map, Option, Some}
+use Rattle.std.specs.Prelude.{None}
 use Rattle.std.specs.List.{flat_map}
-use Rattle.lra_tree.specs.Program.{Comparison, below, at_most, above, at_least, equal, differs, Expr, literal, Cond, compare, nonzero, opposite, both_of, either_of}
+use Rattle.lra_tree.specs.Program.{Comparison, below, at_most, above, at_least, equal, differs, Expr, literal, Cond}
+use Rattle.lra_tree.specs.Program.{compare, nonzero, opposite, both_of, either_of}
 use Rattle.lra_tree.specs.Report.{Row, inequality}
 use Rattle.lra_tree.specs.ReportText.{negated}
 use Rattle.lra_tree.specs.Linear.{Form, Test, comparison_test, difference_form}
@@ -58,11 +61,13 @@ inequality_row c cs = record { kind = inequality; constant = c; coefficients = c
 -- e >= 0 and e + 1 >= 0
 abbrev pub rows_of_test : Option Test → List Row
 rows_of_test None = []
-rows_of_test (Some t) = inequality_row t.form.constant t.form.coefficients ∷ inequality_row (t.form.constant +ℤ pos 1) t.form.coefficients ∷ []
+rows_of_test (Some t) = inequality_row t.form.constant t.form.coefficients ∷
+    inequality_row (t.form.constant +ℤ pos 1) t.form.coefficients ∷ []
 
 -- d >= 0 and -d >= 0
 abbrev pub rows_of_difference : Form → List Row
-rows_of_difference d = inequality_row d.constant d.coefficients ∷ inequality_row (negated d.constant) (map negated d.coefficients) ∷ []
+rows_of_difference d = inequality_row d.constant d.coefficients ∷
+    inequality_row (negated d.constant) (map negated d.coefficients) ∷ []
 
 -- d is the left side minus the right one; an atom that isn't linear gives no row
 abbrev pub rows_of_comparison : Comparison → Option Form → List Row
@@ -73,9 +78,10 @@ rows_of_comparison op (Some d) = rows_of_test (comparison_test op d)
 
 -- what a loop's condition gives to the limited widening of its head, with so many live variables
 abbrev pub given_rows : ℕ → ℕ → Cond → List Row
-given_rows live base c = flat_map (λ (a : Atom). rows_of_comparison a.comparison (difference_form live base a.left a.right)) (atoms_of (push true c))
+given_rows live base c = flat_map (λ (a : Atom). rows_of_comparison a.comparison
+    (difference_form live base a.left a.right)) (atoms_of (push true c))
 
--- what a condition leaves ----------------------------------------------------------------------------------------------
+-- what a condition leaves -------------------------------------------------------------------------
 
 -- what a domain does with a test, and how it joins
 pub record Actions (V : Type 0) : Type 1 where
@@ -91,13 +97,15 @@ module _ (V : Type 0) (does : Actions V) (live base : ℕ) where
   -- `!=` joins `<` with `>`, in this order
   abbrev pub IsAtom : Comparison → Option Form → V → V → Type 0
   IsAtom op None v w = w ≡ v
-  IsAtom differs (Some d) v w = (less : V) × (more : V) × IsTestedBy (comparison_test below d) v less × IsTestedBy (comparison_test above d) v more × does.IsJoined less more w
+  IsAtom differs (Some d) v w = (less : V) × (more : V) × IsTestedBy (comparison_test below d) v less ×
+      IsTestedBy (comparison_test above d) v more × does.IsJoined less more w
   IsAtom op (Some d) v w = IsTestedBy (comparison_test op d) v w
 
   abbrev pub IsPushed : Pushed → V → V → Type 0
   IsPushed (atom op a b) v w = IsAtom op (difference_form live base a b) v w
   IsPushed (first_then a b) v w = (m : V) × IsPushed a v m × IsPushed b m w
-  IsPushed (one_or a opposed b) v w = (left : V) × (m : V) × (right : V) × IsPushed a v left × IsPushed opposed v m × IsPushed b m right × does.IsJoined left right w
+  IsPushed (one_or a opposed b) v w = (left : V) × (m : V) × (right : V) × IsPushed a v left × IsPushed opposed v m ×
+      IsPushed b m right × does.IsJoined left right w
 
   -- from v the condition, wanted true or false, leaves w
   abbrev pub IsCond : Cond → Bool → V → V → Type 0

@@ -1,4 +1,5 @@
--- The tree of a list of tokens, and the first token at fault where there is none; of the whole grammar, or of a part of it.
+-- The tree of a list of tokens, and the first token at fault where there is none; of the whole grammar, or of a part of
+-- it.
 use Rattle.std.specs.Prelude.{◌≡◌, ℕ, ◌≤◌, ◌<◌, List, [], ◌∷◌, ◌++◌}
 use Rattle.std.specs.List.{AllByRecursion}
 use Rattle.lra_tree.specs.declared.refusals.Place.{Place}
@@ -35,12 +36,14 @@ CanBeginLow L tokens = (t : FileTree) × (x : Pieces) × (y : Pieces) × L t (x 
 abbrev pub IsAtFault : Language → Cause → List Token → Token → Type 0
 IsAtFault L Syntax front token = CanBeginLow L front × (CanBegin L (front ++ token ∷ []) → ⊥)
 IsAtFault L TooDeep front token =
-    (t : FileTree) × (x : Pieces) × (level : ℕ) × (y : Pieces) × L t (x ++ (token, level) ∷ y) × (plain x ≡ front) × IsLow x × (greatest_level < level)
+    (t : FileTree) × (x : Pieces) × (level : ℕ) × (y : Pieces) × L t (x ++ (token, level) ∷ y) × (plain x ≡ front) ×
+    IsLow x × (greatest_level < level)
 IsAtFault L cause front token = ⊥
 
 -- the first token at fault
 abbrev pub IsTextFault : Language → List Token → Cause → Place → Type 0
-IsTextFault L tokens c at = (front : List Token) × (token : Token) × (rest : List Token) × (tokens ≡ front ++ token ∷ rest) × IsAtFault L c front token × (at ≡ token.place)
+IsTextFault L tokens c at = (front : List Token) × (token : Token) × (rest : List Token) ×
+    (tokens ≡ front ++ token ∷ rest) × IsAtFault L c front token × (at ≡ token.place)
 
 -- no text has two trees
 abbrev pub OneTree : Language → Type 0

@@ -1,12 +1,22 @@
 -- The grammar (after ISO/IEC 9899:2011, 6.5, 6.7, 6.8, 6.9): which tokens a tree has, one case for each production.
--- l is the level of nesting at which a part stands, o the level that its first token opens. A function's body is level 1; a block, a
--- branch of an `if`, a loop's body, a grouping parenthesis and a unary operator open one more, from their first to their last token.
-use Rattle.std.specs.Prelude.{◌≡◌, ℕ, ◌+◌, ◌⊎◌, ℤ, pos, neg_ℤ, Bool, true, false, List, [], ◌∷◌, codes, Option, Some, None, ⊤}
+-- l is the level of nesting at which a part stands, o the level that its first token opens. A function's body is level
+-- 1; a block, a branch of an `if`, a loop's body, a grouping parenthesis and a unary operator open one more, from their
+-- first to their last token.
+use Rattle.std.specs.Prelude.{◌≡◌, ℕ, ◌+◌, ◌⊎◌, ℤ, pos, neg_ℤ, Bool, true, false, List, [], ◌∷◌, codes, Option, Some}
+use Rattle.std.specs.Prelude.{None, ⊤}
 use Rattle.lra_tree.specs.declared.tokens.Mark.{Mark}
 use Rattle.lra_tree.specs.declared.tokens.Mark.TheVariants as mark
 use Rattle.lra_tree.specs.declared.trees.Identifier.{Identifier}
 use Rattle.lra_tree.specs.Program as program
-use Rattle.lra_tree.specs.Trees.{UnaryTree, negated, positive, literal, variable, input, group, TermTree, unary, times, over, modulo, ExprTree, term, plus, minus, NegationTree, opposite_again, value_of_unary, group_opposed, TestTree, opposite, value, compare, group_of, ConjunctionTree, test, and, CondTree, conjunction, or, CallTree, SourceTree, expression, result, StepTree, increment, decrement, AssignTree, set, update, after, before, DeclaratorTree, DeclarationTree, InitTree, no_init, declared, assigned, StmtTree, block, nothing, assign, call, if_only, if_else, while, for, break, continue, return, assert, assume, ItemsTree, no_items, declaration, statement, FunctionTree, GlobalTree, GlobalsTree, PartTree, prototype, globals, function, FileTree}
+use Rattle.lra_tree.specs.Trees.{UnaryTree, negated, positive, literal, variable, input, group, TermTree, unary, times}
+use Rattle.lra_tree.specs.Trees.{over, modulo, ExprTree, term, plus, minus, NegationTree, opposite_again}
+use Rattle.lra_tree.specs.Trees.{value_of_unary, group_opposed, TestTree, opposite, value, compare, group_of}
+use Rattle.lra_tree.specs.Trees.{ConjunctionTree, test, and, CondTree, conjunction, or, CallTree, SourceTree}
+use Rattle.lra_tree.specs.Trees.{expression, result, StepTree, increment, decrement, AssignTree, set, update, after}
+use Rattle.lra_tree.specs.Trees.{before, DeclaratorTree, DeclarationTree, InitTree, no_init, declared, assigned}
+use Rattle.lra_tree.specs.Trees.{StmtTree, block, nothing, assign, call, if_only, if_else, while, for, break, continue}
+use Rattle.lra_tree.specs.Trees.{return, assert, assume, ItemsTree, no_items, declaration, statement, FunctionTree}
+use Rattle.lra_tree.specs.Trees.{GlobalTree, GlobalsTree, PartTree, prototype, globals, function, FileTree}
 use Rattle.lra_tree.specs.Texts.{Texts, ◌⋅◌, ◌∣◌, empty, opens, mark, opens_at, name, number, end_at, separated}
 
 -- expressions ------------------------------------------------------------------------------------------------------
@@ -158,10 +168,12 @@ abbrev mutual
   IsStmt o l (assign a) = IsAssign o l a ⋅ mark mark.Semicolon
   IsStmt o l (call c) = IsCall o l c ⋅ mark mark.Semicolon
   IsStmt o l (if_only at c t) = opens_at mark.If at o ⋅ InParens l c ⋅ IsStmt (l + 1) (l + 1) t
-  IsStmt o l (if_else at c t e) = closed t (opens_at mark.If at o ⋅ InParens l c ⋅ IsStmt (l + 1) (l + 1) t ⋅ mark mark.Else ⋅ IsStmt (l + 1) (l + 1) e)
+  IsStmt o l (if_else at c t e) = closed t (opens_at mark.If at o ⋅ InParens l c ⋅ IsStmt (l + 1) (l + 1) t ⋅
+      mark mark.Else ⋅ IsStmt (l + 1) (l + 1) e)
   IsStmt o l (while at c b) = opens_at mark.While at o ⋅ InParens l c ⋅ IsStmt (l + 1) (l + 1) b
   IsStmt o l (for at i c e b) =
-      opens_at mark.For at o ⋅ mark mark.OpenParen ⋅ IsInit l i ⋅ IsForTest l c ⋅ mark mark.Semicolon ⋅ IsForStep l e ⋅ mark mark.CloseParen ⋅ IsStmt (l + 1) (l + 1) b
+      opens_at mark.For at o ⋅ mark mark.OpenParen ⋅ IsInit l i ⋅ IsForTest l c ⋅ mark mark.Semicolon ⋅ IsForStep l e ⋅
+      mark mark.CloseParen ⋅ IsStmt (l + 1) (l + 1) b
   IsStmt o l (break at) = opens_at mark.Break at o ⋅ mark mark.Semicolon
   IsStmt o l (continue at) = opens_at mark.Continue at o ⋅ mark mark.Semicolon
   IsStmt o l (return at e) = opens_at mark.Return at o ⋅ IsReturned l e ⋅ mark mark.Semicolon
@@ -172,7 +184,8 @@ abbrev mutual
   pub AreItems : ℕ → ItemsTree → Texts
   AreItems l no_items = empty
   AreItems l (declaration d items) = IsDeclaration l d ⋅ AreItems l items
-  AreItems l (statement (block inside end) items) = (opens mark.OpenBrace (l + 1) ⋅ AreItems (l + 1) inside ⋅ opens_at mark.CloseBrace end 0) ⋅ AreItems l items
+  AreItems l (statement (block inside end) items) = (opens mark.OpenBrace (l + 1) ⋅ AreItems (l + 1) inside ⋅
+      opens_at mark.CloseBrace end 0) ⋅ AreItems l items
   AreItems l (statement t items) = IsStmt 0 l t ⋅ AreItems l items
 
 -- the whole --------------------------------------------------------------------------------------------------------
@@ -224,10 +237,12 @@ IsPrototypeParameter None = IsType
 IsPrototypeParameter (Some x) = IsType ⋅ name x 0
 
 abbrev pub ArePrototypeParameters : Texts
-ArePrototypeParameters z = (mark mark.Void ∣ empty) z ⊎ ((first : Option Identifier) × (rest : List (Option Identifier)) × separated IsPrototypeParameter (first ∷ rest) z)
+ArePrototypeParameters z = (mark mark.Void ∣ empty) z ⊎
+    ((first : Option Identifier) × (rest : List (Option Identifier)) × separated IsPrototypeParameter (first ∷ rest) z)
 
 abbrev pub IsPrototype : Texts
-IsPrototype = (mark mark.Extern ∣ empty) ⋅ (IsSomeHead ∣ IsReservedHead) ⋅ mark mark.OpenParen ⋅ ArePrototypeParameters ⋅ mark mark.CloseParen ⋅ mark mark.Semicolon
+IsPrototype = (mark mark.Extern ∣ empty) ⋅ (IsSomeHead ∣ IsReservedHead) ⋅ mark mark.OpenParen ⋅
+    ArePrototypeParameters ⋅ mark mark.CloseParen ⋅ mark mark.Semicolon
 
 abbrev pub IsPart : PartTree → Texts
 IsPart prototype = IsPrototype

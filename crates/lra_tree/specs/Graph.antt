@@ -15,7 +15,8 @@ pub data How : Type 0 where
   normal : How
   jump : Exit → How
 
--- the first number of an operation is that of the point to which it belongs; a condition stands with the `base` of its call
+-- the first number of an operation is that of the point to which it belongs; a condition stands with the `base` of its
+-- call
 pub data Node : Type 0 where
   empty : Node
   point : ℕ → Node
@@ -52,11 +53,14 @@ Ends (check q base c) s (jump j) t = ⊥
 Ends (seq a b) s normal t = (m : State) × Ends a s normal m × Ends b m normal t
 Ends (seq a b) s (jump j) t = Ends a s (jump j) t ⊎ ((m : State) × Ends a s normal m × Ends b m (jump j) t)
 Ends (choose q base c a b) s h t =
-    ((m : State) × (run_op (test base c true) s ≡ Some m) × Ends a m h t) ⊎ ((m : State) × (run_op (test base c false) s ≡ Some m) × Ends b m h t)
+    ((m : State) × (run_op (test base c true) s ≡ Some m) × Ends a m h t) ⊎
+    ((m : State) × (run_op (test base c false) s ≡ Some m) × Ends b m h t)
 Ends (iterate q base c a) s normal t =
-    (n : ℕ) × (m : State) × Rounds (λ u v. (w : State) × (run_op (test base c true) u ≡ Some w) × Ends a w normal v) n s m × (run_op (test base c false) m ≡ Some t)
+    (n : ℕ) × (m : State) × Rounds (λ u v. (w : State) × (run_op (test base c true) u ≡ Some w) × Ends a w normal v) n s
+    m × (run_op (test base c false) m ≡ Some t)
 Ends (iterate q base c a) s (jump j) t =
-    (n : ℕ) × (m : State) × (w : State) × Rounds (λ u v. (w : State) × (run_op (test base c true) u ≡ Some w) × Ends a w normal v) n s m
+    (n : ℕ) × (m : State) × (w : State) × Rounds (λ u v. (w : State) × (run_op (test base c true) u ≡ Some w) ×
+    Ends a w normal v) n s m
     × (run_op (test base c true) m ≡ Some w) × Ends a w (jump j) t
 Ends (catch q k a) s normal t = Ends a s normal t ⊎ Ends a s (jump k) t
 Ends (catch q k a) s (jump j) t = (j ≢ k) × Ends a s (jump j) t
@@ -71,9 +75,11 @@ Comes (act q op) s p t = ⊥
 Comes (check q base c) s p t = ⊥
 Comes (seq a b) s p t = Comes a s p t ⊎ ((m : State) × Ends a s normal m × Comes b m p t)
 Comes (choose q base c a b) s p t =
-    ((m : State) × (run_op (test base c true) s ≡ Some m) × Comes a m p t) ⊎ ((m : State) × (run_op (test base c false) s ≡ Some m) × Comes b m p t)
+    ((m : State) × (run_op (test base c true) s ≡ Some m) × Comes a m p t) ⊎
+    ((m : State) × (run_op (test base c false) s ≡ Some m) × Comes b m p t)
 Comes (iterate q base c a) s p t =
-    (n : ℕ) × (m : State) × Rounds (λ u v. (w : State) × (run_op (test base c true) u ≡ Some w) × Ends a w normal v) n s m
+    (n : ℕ) × (m : State) × Rounds (λ u v. (w : State) × (run_op (test base c true) u ≡ Some w) × Ends a w normal v) n s
+    m
     × (((p ≡ q) × (t ≡ m)) ⊎ ((w : State) × (run_op (test base c true) m ≡ Some w) × Comes a w p t))
 Comes (catch q k a) s p t = Comes a s p t
 Comes (leave n k) s p t = ⊥
@@ -86,9 +92,11 @@ FailsAt (act q op) s p = ⊥
 FailsAt (check q base c) s p = (p ≡ q) × (t : State) × (run_op (test base c false) s ≡ Some t)
 FailsAt (seq a b) s p = FailsAt a s p ⊎ ((m : State) × Ends a s normal m × FailsAt b m p)
 FailsAt (choose q base c a b) s p =
-    ((m : State) × (run_op (test base c true) s ≡ Some m) × FailsAt a m p) ⊎ ((m : State) × (run_op (test base c false) s ≡ Some m) × FailsAt b m p)
+    ((m : State) × (run_op (test base c true) s ≡ Some m) × FailsAt a m p) ⊎
+    ((m : State) × (run_op (test base c false) s ≡ Some m) × FailsAt b m p)
 FailsAt (iterate q base c a) s p =
-    (n : ℕ) × (m : State) × Rounds (λ u v. (w : State) × (run_op (test base c true) u ≡ Some w) × Ends a w normal v) n s m
+    (n : ℕ) × (m : State) × Rounds (λ u v. (w : State) × (run_op (test base c true) u ≡ Some w) × Ends a w normal v) n s
+    m
     × (w : State) × (run_op (test base c true) m ≡ Some w) × FailsAt a w p
 FailsAt (catch q k a) s p = FailsAt a s p
 FailsAt (leave n k) s p = ⊥

@@ -1,9 +1,14 @@
--- The labels of a source: its statements, declarators of functions and ends of blocks, in text order; the n-th has the label n, from 1.
--- A `for` comes in the order of its text: its word, how it begins, its step, its body. A block has no label but at its `}`.
+-- The labels of a source: its statements, declarators of functions and ends of blocks, in text order; the n-th has the
+-- label n, from 1.
+-- A `for` comes in the order of its text: its word, how it begins, its step, its body. A block has no label but at its
+-- `}`.
 use Rattle.std.specs.Prelude.{ℕ, zero, suc, List, [], ◌∷◌, ◌++◌, map, Option, Some, None, slice_get, flat_map}
 use Rattle.lra_tree.specs.declared.refusals.Place.{Place}
 use Rattle.lra_tree.specs.declared.trees.Identifier.{Identifier}
-use Rattle.lra_tree.specs.Trees.{SourceTree, expression, result, AssignTree, set, update, after, before, DeclaratorTree, InitTree, no_init, declared, assigned, StmtTree, block, nothing, assign, call, if_only, if_else, while, for, break, continue, return, assert, assume, ItemsTree, no_items, declaration, statement, FunctionTree, FileTree}
+use Rattle.lra_tree.specs.Trees.{SourceTree, expression, result, AssignTree, set, update, after, before, DeclaratorTree}
+use Rattle.lra_tree.specs.Trees.{InitTree, no_init, declared, assigned, StmtTree, block, nothing, assign, call, if_only}
+use Rattle.lra_tree.specs.Trees.{if_else, while, for, break, continue, return, assert, assume, ItemsTree, no_items}
+use Rattle.lra_tree.specs.Trees.{declaration, statement, FunctionTree, FileTree}
 use Rattle.lra_tree.specs.Scope.{functions_of}
 
 -- a statement, declarator or end of a block, which a label stands for
@@ -52,7 +57,8 @@ abbrev pub declarator_labels : List (List ℕ) → List DeclaratorTree → List 
 declarator_labels live [] = []
 declarator_labels live (d ∷ ds) =
     let more = live ++ d.name.word ∷ [] in
-    record { place = d.name.place; called = called_of d.source; live = live; live_in_call = more } ∷ declarator_labels more ds
+    record { place = d.name.place; called = called_of d.source; live = live; live_in_call = more } ∷
+    declarator_labels more ds
 
 abbrev pub assign_label : List (List ℕ) → AssignTree → Labelled
 assign_label live a = label_with (assign_place a) (called_by a) live
@@ -93,7 +99,8 @@ abbrev mutual
   -- a block's items and its end
   pub items_labels : List (List ℕ) → ItemsTree → Place → List Labelled
   items_labels live no_items end = plain_label end live ∷ []
-  items_labels live (declaration d items) end = declarator_labels live (d.first ∷ d.rest) ++ items_labels (with_names live (d.first ∷ d.rest)) items end
+  items_labels live (declaration d items) end = declarator_labels live (d.first ∷ d.rest) ++
+      items_labels (with_names live (d.first ∷ d.rest)) items end
   items_labels live (statement t items) end = stmt_labels live t ++ items_labels live items end
 
 abbrev pub function_labels : FunctionTree → List Labelled
@@ -103,7 +110,8 @@ function_labels f = items_labels (map (λ (p : Identifier). p.word) f.parameters
 abbrev pub labels_of : FileTree → List Labelled
 labels_of t = flat_map function_labels (functions_of t)
 
--- what a walk over the tree lists: the places of its statements, declarators of functions and ends of blocks, in the order of their labels
+-- what a walk over the tree lists: the places of its statements, declarators of functions and ends of blocks, in the
+-- order of their labels
 abbrev pub places_of : FileTree → List Place
 places_of t = map (λ (l : Labelled). l.place) (labels_of t)
 

@@ -1,5 +1,6 @@
 -- The spellings of tokens (ISO/IEC 9899:2011, 6.4: lexical elements), each as a property of its own bytes.
-use Rattle.std.specs.Prelude.{◌≡◌, ℕ, ◌≤◌, Bool, true, false, ◌||◌, ◌&&◌, nat_eq, nat_le, List, [], ◌∷◌, ◌++◌, codes, bytes_eq, ◌*◌, ◌⊎◌, if◌then◌else◌, ◌≢◌, ◌+◌, ◌-◌}
+use Rattle.std.specs.Prelude.{◌≡◌, ℕ, ◌≤◌, Bool, true, false, ◌||◌, ◌&&◌, nat_eq, nat_le, List, [], ◌∷◌, ◌++◌, codes}
+use Rattle.std.specs.Prelude.{bytes_eq, ◌*◌, ◌⊎◌, if◌then◌else◌, ◌≢◌, ◌+◌, ◌-◌}
 use Rattle.std.specs.List.{list_all, list_any}
 use Rattle.lra_tree.specs.declared.tokens.Mark.{Mark}
 use Rattle.lra_tree.specs.declared.tokens.Mark.TheVariants as mark
@@ -80,15 +81,20 @@ mark_text mark.While = codes "while"
 
 -- the reserved words that the grammar names
 abbrev pub named_words : List (List ℕ)
-named_words = codes "assert" ∷ codes "assume" ∷ codes "break" ∷ codes "continue" ∷ codes "else" ∷ codes "extern" ∷ codes "for" ∷ codes "if"
+named_words = codes "assert" ∷ codes "assume" ∷ codes "break" ∷ codes "continue" ∷ codes "else" ∷ codes "extern" ∷
+    codes "for" ∷ codes "if"
     ∷ codes "input" ∷ codes "int" ∷ codes "long" ∷ codes "return" ∷ codes "void" ∷ codes "while" ∷ []
 
 -- the other keywords of C
 abbrev pub further_words : List (List ℕ)
-further_words = codes "auto" ∷ codes "case" ∷ codes "char" ∷ codes "const" ∷ codes "default" ∷ codes "do" ∷ codes "double" ∷ codes "enum"
-    ∷ codes "float" ∷ codes "goto" ∷ codes "inline" ∷ codes "register" ∷ codes "restrict" ∷ codes "short" ∷ codes "signed" ∷ codes "sizeof"
-    ∷ codes "static" ∷ codes "struct" ∷ codes "switch" ∷ codes "typedef" ∷ codes "union" ∷ codes "unsigned" ∷ codes "volatile"
-    ∷ codes "_Alignas" ∷ codes "_Alignof" ∷ codes "_Atomic" ∷ codes "_Bool" ∷ codes "_Complex" ∷ codes "_Generic" ∷ codes "_Imaginary"
+further_words = codes "auto" ∷
+    codes "case" ∷ codes "char" ∷ codes "const" ∷ codes "default" ∷ codes "do" ∷ codes "double" ∷ codes "enum"
+    ∷ codes "float" ∷ codes "goto" ∷ codes "inline" ∷ codes "register" ∷ codes "restrict" ∷ codes "short" ∷
+    codes "signed" ∷ codes "sizeof"
+    ∷ codes "static" ∷ codes "struct" ∷ codes "switch" ∷ codes "typedef" ∷ codes "union" ∷ codes "unsigned" ∷
+    codes "volatile"
+    ∷ codes "_Alignas" ∷ codes "_Alignof" ∷ codes "_Atomic" ∷ codes "_Bool" ∷ codes "_Complex" ∷ codes "_Generic" ∷
+    codes "_Imaginary"
     ∷ codes "_Noreturn" ∷ codes "_Static_assert" ∷ codes "_Thread_local" ∷ []
 
 abbrev pub is_among : List ℕ → List (List ℕ) → Bool
@@ -124,7 +130,8 @@ number_behind base n (c ∷ cs) = number_behind base (n * base_number base + dig
 abbrev pub IsFront : Base → List ℕ → List ℕ → Type 0
 IsFront hexadecimal front digits = ((front ≡ codes "0x") ⊎ (front ≡ codes "0X")) × (digits ≢ [])
 IsFront octal front digits = front ≡ codes "0"
-IsFront decimal_base front digits = (c : ℕ) × (cs : List ℕ) × (front ≡ []) × (digits ≡ c ∷ cs) × (is_between 49 57 c ≡ true)
+IsFront decimal_base front digits = (c : ℕ) × (cs : List ℕ) × (front ≡ []) × (digits ≡ c ∷ cs) ×
+    (is_between 49 57 c ≡ true)
 
 abbrev pub suffixes : List (List ℕ)
 suffixes = [] ∷ codes "l" ∷ codes "L" ∷ codes "ll" ∷ codes "LL" ∷ []

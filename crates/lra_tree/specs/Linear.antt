@@ -1,7 +1,10 @@
--- Linear forms of expressions (Cousot and Halbwachs 1978): a constant and a coefficient for each live variable, all of 64 bits.
-use Rattle.std.specs.Prelude.{◌≡◌, ℕ, ℤ, pos, ◌+ℤ◌, ◌-ℤ◌, ◌*ℤ◌, Bool, ◌&&◌, if◌then◌else◌, List, [], ◌∷◌, map, replicate, slice_set, Option, Some, None, negsuc, length, IsTrue, ◌↔◌, ◌⊎◌}
+-- Linear forms of expressions (Cousot and Halbwachs 1978): a constant and a coefficient for each live variable, all of
+-- 64 bits.
+use Rattle.std.specs.Prelude.{◌≡◌, ℕ, ℤ, pos, ◌+ℤ◌, ◌-ℤ◌, ◌*ℤ◌, Bool, ◌&&◌, if◌then◌else◌, List, [], ◌∷◌, map}
+use Rattle.std.specs.Prelude.{replicate, slice_set, Option, Some, None, negsuc, length, IsTrue, ◌↔◌, ◌⊎◌}
 use Rattle.std.specs.List.{list_all}
-use Rattle.lra_tree.specs.Program.{Operator, plus, minus, times, over, modulo, Comparison, below, at_most, above, at_least, equal, differs, Expr, literal, read, input, negate, binary, compare}
+use Rattle.lra_tree.specs.Program.{Operator, plus, minus, times, over, modulo, Comparison, below, at_most, above}
+use Rattle.lra_tree.specs.Program.{at_least, equal, differs, Expr, literal, read, input, negate, binary, compare}
 use Rattle.lra_tree.specs.Value.{◌>>=◌, is_word, is_zero, index_of, value_of, truth_of}
 use Rattle.lra_tree.specs.Report.{RowKind, equality, inequality, IsOfKind, dot}
 
@@ -23,7 +26,10 @@ entrywise op (x ∷ xs) [] = []
 entrywise op (x ∷ xs) (y ∷ ys) = op x y ∷ entrywise op xs ys
 
 abbrev pub combined : (ℤ → ℤ → ℤ) → Form → Form → Option Form
-combined op f g = fitting (record { constant = op f.constant g.constant; coefficients = entrywise op f.coefficients g.coefficients })
+combined op f g = fitting (record {
+  constant = op f.constant g.constant;
+  coefficients = entrywise op f.coefficients g.coefficients;
+})
 
 abbrev pub scaled : ℤ → Form → Option Form
 scaled k f = fitting (record { constant = k *ℤ f.constant; coefficients = map (λ c. k *ℤ c) f.coefficients })
@@ -51,7 +57,8 @@ constant_form live k = record { constant = k; coefficients = replicate live (pos
 abbrev pub variable_form : ℕ → ℕ → Form
 variable_form live place = record { constant = pos 0; coefficients = slice_set (replicate live (pos 0)) place (pos 1) }
 
--- with so many live variables, of which the call's own come behind the first `base`; none where the expression isn't linear
+-- with so many live variables, of which the call's own come behind the first `base`; none where the expression isn't
+-- linear
 abbrev pub form_of : ℕ → ℕ → Expr → Option Form
 form_of live base (literal n) = fitting (constant_form live (pos n))
 form_of live base (read v) = Some (variable_form live (index_of base v))
@@ -86,9 +93,13 @@ abbrev pub opposite_form : Form → Option Form
 opposite_form d = scaled (negsuc 0) d
 
 abbrev pub opposite_less_one : Form → Option Form
-opposite_less_one d = fitting (record { constant = (pos 0 -ℤ d.constant) -ℤ pos 1; coefficients = map (λ c. pos 0 -ℤ c) d.coefficients })
+opposite_less_one d = fitting (record {
+  constant = (pos 0 -ℤ d.constant) -ℤ pos 1;
+  coefficients = map (λ c. pos 0 -ℤ c) d.coefficients;
+})
 
--- the test of a comparison, d the left side minus the right one; over whole numbers d < 0 is -d - 1 >= 0. `!=` has no test of its own
+-- the test of a comparison, d the left side minus the right one; over whole numbers d < 0 is -d - 1 >= 0. `!=` has no
+-- test of its own
 abbrev pub comparison_test : Comparison → Form → Option Test
 comparison_test below d = at_least_zero (opposite_less_one d)
 comparison_test at_most d = at_least_zero (opposite_form d)
@@ -110,5 +121,7 @@ TestsAreRight = (base : ℕ) (op : Comparison) (a b : Expr) (d : Form) (t : Test
 -- and `!=` is true exactly where the test of `<` or that of `>` passes
 abbrev pub DiffersIsRight : Type 0
 DiffersIsRight = (base : ℕ) (a b : Expr) (d : Form) (less more : Test) (store draws left : List ℤ) (v : Bool)
-    → difference_form (length store) base a b ≡ Some d → comparison_test below d ≡ Some less → comparison_test above d ≡ Some more
-    → truth_of (compare differs a b) base store draws ≡ Some (v, left) → (IsTrue v ↔ (Passes less store ⊎ Passes more store))
+    → difference_form (length store) base a b ≡ Some d → comparison_test below d ≡ Some less →
+    comparison_test above d ≡ Some more
+    → truth_of (compare differs a b) base store draws ≡ Some (v, left) →
+    (IsTrue v ↔ (Passes less store ⊎ Passes more store))

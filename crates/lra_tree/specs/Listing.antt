@@ -1,6 +1,8 @@
--- Which points and verdicts the report of a source lists: all points in the order of their numbers, from 1, each with its path, its place,
--- the names of its live variables, and rows and generators over these; and a verdict for each assertion, in order.
-use Rattle.std.specs.Prelude.{◌≡◌, ℕ, suc, Bool, List, [], ◌∷◌, ◌++◌, length, Option, Some, None, ⊤, if◌then◌else◌, ◌<◌, ◌≤◌}
+-- Which points and verdicts the report of a source lists: all points in the order of their numbers, from 1, each with
+-- its path, its place, the names of its live variables, and rows and generators over these; and a verdict for each
+-- assertion, in order.
+use Rattle.std.specs.Prelude.{◌≡◌, ℕ, suc, Bool, List, [], ◌∷◌, ◌++◌, length, Option, Some, None, ⊤, if◌then◌else◌, ◌<◌}
+use Rattle.std.specs.Prelude.{◌≤◌}
 use Rattle.std.specs.List.{AllByRecursion}
 use Rattle.lra_tree.specs.declared.trees.Identifier.{Identifier}
 use Rattle.lra_tree.specs.Report.{Options, Row, Generator, Part, State, PointReport, Verdict, Report, IsSound}
@@ -72,19 +74,22 @@ listed_verdict ls number s proved = record {
 
 -- a number for each of so many variables
 abbrev pub HasWidth : ℕ → Part → Type 0
-HasWidth n part = AllByRecursion (λ (r : Row). length r.coefficients ≡ n) part.rows × AllByRecursion (λ (g : Generator). length g.numbers ≡ n) part.generators
+HasWidth n part = AllByRecursion (λ (r : Row). length r.coefficients ≡ n) part.rows ×
+    AllByRecursion (λ (g : Generator). length g.numbers ≡ n) part.generators
 
 -- the reports are those of these sites, numbered from `number` on
 abbrev pub AreListed : List (List ℕ) → List Labelled → ℕ → List Site → List PointReport → Type 0
 AreListed outside ls number [] [] = ⊤
 AreListed outside ls number [] (p ∷ ps) = ⊥
 AreListed outside ls number (s ∷ ss) [] = ⊥
-AreListed outside ls number (s ∷ ss) (p ∷ ps) = (p ≡ listed_point outside ls number s p.state) × AllByRecursion (HasWidth s.live) p.state × AreListed outside ls (suc number) ss ps
+AreListed outside ls number (s ∷ ss) (p ∷ ps) = (p ≡ listed_point outside ls number s p.state) ×
+    AllByRecursion (HasWidth s.live) p.state × AreListed outside ls (suc number) ss ps
 
 -- the assertions among these sites, with their numbers
 abbrev pub assertions_from : ℕ → List Site → List (ℕ × Site)
 assertions_from number [] = []
-assertions_from number (s ∷ ss) = if s.asserts then (number, s) ∷ assertions_from (suc number) ss else assertions_from (suc number) ss
+assertions_from number (s ∷ ss) = if s.asserts then (number, s) ∷ assertions_from (suc number) ss
+    else assertions_from (suc number) ss
 
 -- the verdicts are those of these assertions
 abbrev pub AreJudged : List Labelled → List (ℕ × Site) → List Verdict → Type 0
@@ -102,13 +107,14 @@ abbrev pub IsFlag : ℕ → Option ℕ → Type 0
 IsFlag count None = ⊤
 IsFlag count (Some number) = (0 < number) × (number ≤ count)
 
--- the report's parts: no more of them than the option says, and each as the domain has it, over the variables that are named
+-- the report's parts: no more of them than the option says, and each as the domain has it, over the variables that are
+-- named
 pub record AreParts (o : Options) (p : PointReport) : Type 0 where
   pub few : length p.state ≤ o.parts
   pub tell : AllByRecursion (Tells o.domain (length p.names)) p.state
 
--- what is written of an accepted source of the language L under these options: all its points and assertions; at each point what every run meets there; no
--- assertion that fails is proved
+-- what is written of an accepted source of the language L under these options: all its points and assertions; at each
+-- point what every run meets there; no assertion that fails is proved
 pub record IsReportOf (L : Language) (o : Options) (source : List ℕ) (r : Report) : Type 0 where
   pub options : r.options ≡ o
   pub tree : FileTree

@@ -1,13 +1,23 @@
--- All faults of names in a source, in text order; at one token the lower number comes first (ISO/IEC 9899:2011, 6.2.1, 6.5.2.2, 6.7, 6.8.6, 6.9).
-use Rattle.std.specs.Prelude.{ℕ, Bool, true, false, not, if◌then◌else◌, ◌||◌, ◌&&◌, nat_eq, List, [], ◌∷◌, ◌++◌, length, Option, Some, None, bytes_eq, map, is_none}
+-- All faults of names in a source, in text order; at one token the lower number comes first (ISO/IEC 9899:2011, 6.2.1,
+-- 6.5.2.2, 6.7, 6.8.6, 6.9).
+use Rattle.std.specs.Prelude.{ℕ, Bool, true, false, not, if◌then◌else◌, ◌||◌, ◌&&◌, nat_eq, List, [], ◌∷◌, ◌++◌, length}
+use Rattle.std.specs.Prelude.{Option, Some, None, bytes_eq, map, is_none}
 use Rattle.std.specs.List.{list_any, flat_map}
 use Rattle.lra_tree.specs.declared.refusals.Place.{Place}
 use Rattle.lra_tree.specs.declared.refusals.Refusal.{Refusal}
 use Rattle.lra_tree.specs.declared.refusals.Cause.{Cause}
 use Rattle.lra_tree.specs.declared.refusals.Cause.TheVariants.{NoMain, UnknownName, DuplicateName, BadCall, Misplaced}
 use Rattle.lra_tree.specs.declared.trees.Identifier.{Identifier}
-use Rattle.lra_tree.specs.Trees.{UnaryTree, negated, positive, literal, variable, input, group, TermTree, unary, times, over, modulo, ExprTree, term, plus, minus, NegationTree, opposite_again, value_of_unary, group_opposed, TestTree, opposite, value, compare, group_of, ConjunctionTree, test, and, CondTree, conjunction, or, CallTree, SourceTree, expression, result, AssignTree, set, update, after, before, DeclaratorTree, InitTree, no_init, declared, assigned, StmtTree, block, nothing, assign, call, if_only, if_else, while, for, break, continue, return, assert, assume, ItemsTree, no_items, declaration, statement, FunctionTree, GlobalTree, PartTree, prototype, globals, function, FileTree}
-use Rattle.lra_tree.specs.Scope.{Scope, slot_of, is_declared, with_local, with_declarators, inner, for_scope, function_scope, functions_of, function_named, is_main}
+use Rattle.lra_tree.specs.Trees.{UnaryTree, negated, positive, literal, variable, input, group, TermTree, unary, times}
+use Rattle.lra_tree.specs.Trees.{over, modulo, ExprTree, term, plus, minus, NegationTree, opposite_again}
+use Rattle.lra_tree.specs.Trees.{value_of_unary, group_opposed, TestTree, opposite, value, compare, group_of}
+use Rattle.lra_tree.specs.Trees.{ConjunctionTree, test, and, CondTree, conjunction, or, CallTree, SourceTree}
+use Rattle.lra_tree.specs.Trees.{expression, result, AssignTree, set, update, after, before, DeclaratorTree, InitTree}
+use Rattle.lra_tree.specs.Trees.{no_init, declared, assigned, StmtTree, block, nothing, assign, call, if_only, if_else}
+use Rattle.lra_tree.specs.Trees.{while, for, break, continue, return, assert, assume, ItemsTree, no_items, declaration}
+use Rattle.lra_tree.specs.Trees.{statement, FunctionTree, GlobalTree, PartTree, prototype, globals, function, FileTree}
+use Rattle.lra_tree.specs.Scope.{Scope, slot_of, is_declared, with_local, with_declarators, inner, for_scope}
+use Rattle.lra_tree.specs.Scope.{function_scope, functions_of, function_named, is_main}
 
 abbrev pub fault_if : Bool → Cause → Place → List Refusal
 fault_if b c at = if b then record { cause = c; place = at } ∷ [] else []
@@ -62,10 +72,12 @@ abbrev mutual
 -- the function is there, has so many parameters, and a result where one is used
 abbrev pub called_faults : Option FunctionTree → Identifier → ℕ → Bool → List Refusal
 called_faults None name count used = record { cause = UnknownName; place = name.place } ∷ []
-called_faults (Some f) name count used = fault_if (not (nat_eq (length f.parameters) count) || (used && not f.has_result)) BadCall name.place
+called_faults (Some f) name count used = fault_if (not (nat_eq (length f.parameters) count) ||
+    (used && not f.has_result)) BadCall name.place
 
 abbrev pub call_faults : List FunctionTree → Scope → CallTree → Bool → List Refusal
-call_faults F s c used = called_faults (function_named F c.name.word) c.name (length c.arguments) used ++ flat_map (expr_faults s) c.arguments
+call_faults F s c used = called_faults (function_named F c.name.word) c.name (length c.arguments) used ++
+    flat_map (expr_faults s) c.arguments
 
 abbrev pub source_faults : List FunctionTree → Scope → SourceTree → List Refusal
 source_faults F s (expression e) = expr_faults s e
@@ -87,7 +99,8 @@ abbrev pub declarators_faults : List FunctionTree → Scope → List DeclaratorT
 declarators_faults F s [] = []
 declarators_faults F s (d ∷ ds) =
     let t = with_local s d.name.word in
-    fault_if (is_declared s d.name.word) DuplicateName d.name.place ++ given_faults F t d.source ++ declarators_faults F t ds
+    fault_if (is_declared s d.name.word) DuplicateName d.name.place ++ given_faults F t d.source ++
+    declarators_faults F t ds
 
 abbrev pub init_faults : List FunctionTree → Scope → InitTree → List Refusal
 init_faults F s no_init = []
@@ -128,7 +141,8 @@ abbrev mutual
   stmt_faults a s (while at c b) = cond_faults s c ++ stmt_faults (in_a_loop a) s b
   stmt_faults a s (for at i c e b) =
       let t = for_scope s i in
-      init_faults a.functions s i ++ test_of_for_faults t c ++ step_faults a.functions t e ++ stmt_faults (in_a_loop a) t b
+      init_faults a.functions s i ++ test_of_for_faults t c ++ step_faults a.functions t e ++
+      stmt_faults (in_a_loop a) t b
   stmt_faults a s (break at) = fault_if (not a.in_loop) Misplaced at
   stmt_faults a s (continue at) = fault_if (not a.in_loop) Misplaced at
   stmt_faults a s (return at e) = return_faults a s at e
@@ -137,7 +151,8 @@ abbrev mutual
 
   pub items_faults : Around → Scope → ItemsTree → List Refusal
   items_faults a s no_items = []
-  items_faults a s (declaration d items) = declarators_faults a.functions s (d.first ∷ d.rest) ++ items_faults a (with_declarators s (d.first ∷ d.rest)) items
+  items_faults a s (declaration d items) = declarators_faults a.functions s (d.first ∷ d.rest) ++
+      items_faults a (with_declarators s (d.first ∷ d.rest)) items
   items_faults a s (statement t items) = stmt_faults a s t ++ items_faults a s items
 
 -- the whole: functions and globals share one scope ------------------------------------------------------------------
@@ -147,16 +162,19 @@ is_taken name names = list_any (bytes_eq name) names
 
 abbrev pub parameters_faults : List (List ℕ) → List Identifier → List Refusal
 parameters_faults names [] = []
-parameters_faults names (p ∷ ps) = fault_if (is_taken p.word names) DuplicateName p.place ++ parameters_faults (names ++ p.word ∷ []) ps
+parameters_faults names (p ∷ ps) = fault_if (is_taken p.word names) DuplicateName p.place ++
+    parameters_faults (names ++ p.word ∷ []) ps
 
 abbrev pub function_faults : List FunctionTree → List (List ℕ) → FunctionTree → List Refusal
 function_faults F outside f =
     parameters_faults [] f.parameters
-    ++ items_faults (record { functions = F; has_result = f.has_result; in_loop = false }) (function_scope outside f.parameters) f.body
+    ++ items_faults (record { functions = F; has_result = f.has_result; in_loop = false })
+    (function_scope outside f.parameters) f.body
 
 abbrev pub globals_faults : List (List ℕ) → List GlobalTree → List Refusal
 globals_faults names [] = []
-globals_faults names (g ∷ gs) = fault_if (is_taken g.name.word names) DuplicateName g.name.place ++ globals_faults (names ++ g.name.word ∷ []) gs
+globals_faults names (g ∷ gs) = fault_if (is_taken g.name.word names) DuplicateName g.name.place ++
+    globals_faults (names ++ g.name.word ∷ []) gs
 
 abbrev pub global_names : List GlobalTree → List (List ℕ)
 global_names gs = map (λ (g : GlobalTree). g.name.word) gs
@@ -169,7 +187,8 @@ parts_faults F names outside (globals g ∷ ps) =
     let more = global_names (g.first ∷ g.rest) in
     globals_faults names (g.first ∷ g.rest) ++ parts_faults F (names ++ more) (outside ++ more) ps
 parts_faults F names outside (function f ∷ ps) =
-    fault_if (is_taken f.name.word names) DuplicateName f.name.place ++ function_faults F outside f ++ parts_faults F (names ++ f.name.word ∷ []) outside ps
+    fault_if (is_taken f.name.word names) DuplicateName f.name.place ++ function_faults F outside f ++
+    parts_faults F (names ++ f.name.word ∷ []) outside ps
 
 abbrev pub name_faults : FileTree → List Refusal
 name_faults t =

@@ -1,8 +1,10 @@
--- What a part tells by its rows, and what by its generators: two sets of points with rational coordinates (Minkowski 1896, Weyl 1935).
+-- What a part tells by its rows, and what by its generators: two sets of points with rational coordinates (Minkowski
+-- 1896, Weyl 1935).
 -- A report has the generators only over polyhedra, and there both tell the same points.
 use Rattle.std.specs.Prelude.{◌≡◌, ◌↔◌, ℕ, ◌<◌, ℤ, pos, ◌+ℤ◌, ◌*ℤ◌, ◌≤ℤ◌, List, [], ◌∷◌, length, map, get_or, ⊤}
 use Rattle.std.specs.List.{AllByRecursion}
-use Rattle.lra_tree.specs.Report.{Domain, poly, box, oct, Row, GeneratorKind, point, ray, line, Generator, Part, IsOfKind, dot}
+use Rattle.lra_tree.specs.Report.{Domain, poly, box, oct, Row, GeneratorKind, point, ray, line, Generator, Part}
+use Rattle.lra_tree.specs.Report.{IsOfKind, dot}
 
 -- its coordinates are the numerators over the divisor; a store is such a point with the divisor 1
 pub record RationalPoint : Type 0 where
@@ -41,7 +43,8 @@ pub record IsGenerated (gs : List Generator) (x : RationalPoint) : Type 0 where
   pub factors : List ℤ
   pub are_factors : AreFactors gs factors
   pub divisor : pos multiple *ℤ pos x.divisor ≡ dot factors (map (λ (g : Generator). pos g.divisor) gs)
-  pub numerators : (j : ℕ) → pos multiple *ℤ get_or x.numerators j (pos 0) ≡ dot factors (map (λ (g : Generator). get_or g.numbers j (pos 0)) gs)
+  pub numerators : (j : ℕ) → pos multiple *ℤ get_or x.numerators j (pos 0) ≡
+      dot factors (map (λ (g : Generator). get_or g.numbers j (pos 0)) gs)
 
 -- rows and generators tell the same points of n coordinates
 abbrev pub HasSamePoints : ℕ → Part → Type 0
@@ -56,9 +59,10 @@ DividesAs point d = 0 < d
 DividesAs ray d = d ≡ 0
 DividesAs line d = d ≡ 0
 
--- A part over n variables as the domain has it. Without generators over boxes and octagons the text, which writes those that are there,
--- agrees with the JSON, which goes by the domain.
+-- A part over n variables as the domain has it. Without generators over boxes and octagons the text, which writes those
+-- that are there, agrees with the JSON, which goes by the domain.
 abbrev pub Tells : Domain → ℕ → Part → Type 0
-Tells poly n part = AllByRecursion (λ (g : Generator). DividesAs g.kind g.divisor) part.generators × HasSamePoints n part × HasPoint n part
+Tells poly n part = AllByRecursion (λ (g : Generator). DividesAs g.kind g.divisor) part.generators ×
+    HasSamePoints n part × HasPoint n part
 Tells box n part = part.generators ≡ []
 Tells oct n part = part.generators ≡ []

@@ -1,4 +1,5 @@
--- The resolved program that a value of the code's types stands for: one step for each type, over what its parts stand for.
+-- The resolved program that a value of the code's types stands for: one step for each type, over what its parts stand
+-- for.
 use Rattle.std.specs.Prelude.{List, [], ◌∷◌, map, option_map, Option, Some, None, slice_get}
 use Rattle.lra_tree.specs.declared.program.Slot.{Slot}
 use Rattle.lra_tree.specs.declared.program.Slot.TheVariants as slot
@@ -84,17 +85,19 @@ given_view = option_map source_view
 abbrev pub declarator_view : Declarator → program.Declarator
 declarator_view d = record { label = d.label; source = given_view d.source }
 
--- statements: an item of a block is what it puts before the items behind it --------------------------------------------
+-- statements: an item of a block is what it puts before the items behind it -----------------------
 
 abbrev pub items_of : List (program.BlockItems → program.BlockItems) → program.BlockItems
 items_of [] = program.no_more
 items_of (f ∷ fs) = f (items_of fs)
 
-abbrev pub item_step : BlockItem-F (program.BlockItems → program.BlockItems) program.Stmt program.BlockItems → program.BlockItems → program.BlockItems
+abbrev pub item_step : BlockItem-F (program.BlockItems → program.BlockItems) program.Stmt program.BlockItems →
+    program.BlockItems → program.BlockItems
 item_step (BlockItem-F.Declaration d) = program.declaration (declarator_view d)
 item_step (BlockItem-F.Statement s) = program.statement s
 
-abbrev pub items_step : BlockItems-F (program.BlockItems → program.BlockItems) program.Stmt program.BlockItems → program.BlockItems
+abbrev pub items_step : BlockItems-F (program.BlockItems → program.BlockItems) program.Stmt program.BlockItems →
+    program.BlockItems
 items_step b = items_of b.items.items
 
 abbrev pub stmt_step : Stmt-F (program.BlockItems → program.BlockItems) program.Stmt program.BlockItems → program.Stmt
@@ -113,13 +116,16 @@ stmt_step (Stmt-F.Assert at c) = program.assert at (cond_view c)
 stmt_step (Stmt-F.Assume at c) = program.assume at (cond_view c)
 
 abbrev pub item_view : BlockItem → program.BlockItems → program.BlockItems
-item_view = fold-BlockItem (program.BlockItems → program.BlockItems) program.Stmt program.BlockItems item_step stmt_step items_step
+item_view = fold-BlockItem (program.BlockItems → program.BlockItems) program.Stmt program.BlockItems item_step stmt_step
+    items_step
 
 abbrev pub stmt_view : Stmt → program.Stmt
-stmt_view = fold-Stmt (program.BlockItems → program.BlockItems) program.Stmt program.BlockItems item_step stmt_step items_step
+stmt_view = fold-Stmt (program.BlockItems → program.BlockItems) program.Stmt program.BlockItems item_step stmt_step
+    items_step
 
 abbrev pub items_view : BlockItems → program.BlockItems
-items_view = fold-BlockItems (program.BlockItems → program.BlockItems) program.Stmt program.BlockItems item_step stmt_step items_step
+items_view = fold-BlockItems (program.BlockItems → program.BlockItems) program.Stmt program.BlockItems item_step
+    stmt_step items_step
 
 -- the whole ----------------------------------------------------------------------------------------------------------
 

@@ -41,4 +41,5 @@ IsRecursive t c = Reaches t c.0 c.1.word
 abbrev pub IsFirstRecursive : FileTree → Place → Type 0
 IsFirstRecursive t at =
     (before after : List (List ℕ × Identifier)) × (c : List ℕ × Identifier)
-    × (calls_in (functions_of t) ≡ before ++ c ∷ after) × (at ≡ c.1.place) × IsRecursive t c × AllByRecursion (λ d. IsRecursive t d → ⊥) before
+    × (calls_in (functions_of t) ≡ before ++ c ∷ after) × (at ≡ c.1.place) × IsRecursive t c ×
+    AllByRecursion (λ d. IsRecursive t d → ⊥) before

@@ -1,10 +1,14 @@
--- Which sources are refused, for which cause and at which place. The first phase with a fault refuses: the bytes' number; tokens; the tree;
+-- Which sources are refused, for which cause and at which place. The first phase with a fault refuses: the bytes'
+-- number; tokens; the tree;
 -- names; calls written out. In each phase but the last the fault first in text order is answered.
-use Rattle.std.specs.Prelude.{◌≡◌, ℕ, suc, ◌≤◌, ◌<◌, nat_lt, if◌then◌else◌, List, [], ◌∷◌, ◌++◌, length, take, codes, Option, Some, None}
+use Rattle.std.specs.Prelude.{◌≡◌, ℕ, suc, ◌≤◌, ◌<◌, nat_lt, if◌then◌else◌, List, [], ◌∷◌, ◌++◌, length, take, codes}
+use Rattle.std.specs.Prelude.{Option, Some, None}
 use Rattle.std.specs.Fmt.{decimal}
 use Rattle.lra_tree.specs.declared.refusals.Place.{Place}
 use Rattle.lra_tree.specs.declared.refusals.Cause.{Cause}
-use Rattle.lra_tree.specs.declared.refusals.Cause.TheVariants.{TooLong, BadByte, BadLiteral, Syntax, TooDeep, NoMain, UnknownName, DuplicateName, BadCall, Misplaced, Recursive, TooManyVariables, TooManyPoints}
+use Rattle.lra_tree.specs.declared.refusals.Cause.TheVariants.{TooLong, BadByte, BadLiteral, Syntax, TooDeep, NoMain}
+use Rattle.lra_tree.specs.declared.refusals.Cause.TheVariants.{UnknownName, DuplicateName, BadCall, Misplaced}
+use Rattle.lra_tree.specs.declared.refusals.Cause.TheVariants.{Recursive, TooManyVariables, TooManyPoints}
 use Rattle.lra_tree.specs.declared.refusals.Refusal.{Refusal}
 use Rattle.lra_tree.specs.declared.tokens.Token.{Token}
 use Rattle.lra_tree.specs.declared.trees.Identifier.{Identifier}
@@ -30,7 +34,8 @@ greatest_live = 24
 abbrev pub greatest_points : ℕ
 greatest_points = 2048
 
--- calls written out: the first point with too many variables, the first past the greatest number, or the first call past the longest path -----
+-- calls written out: the first point with too many variables, the first past the greatest number, or the first call
+-- past the longest path -----
 
 abbrev pub label_place : Option Labelled → Place
 label_place None = record { line = 1; column = 1 }
@@ -48,9 +53,14 @@ called_place (Some l) = identifier_place l.called
 abbrev pub limit_fault : List Labelled → ℕ → List Event → Option Refusal
 limit_fault ls n [] = None
 limit_fault ls n (comes s ∷ es) =
-    if nat_lt greatest_live s.live then Some (record { cause = TooManyVariables; place = label_place (label_at ls s.label) })
-    else (if nat_lt greatest_points (suc n) then Some (record { cause = TooManyPoints; place = label_place (label_at ls s.label) }) else limit_fault ls (suc n) es)
-limit_fault ls n (one_call_more at ∷ es) = Some (record { cause = TooManyPoints; place = called_place (label_at ls at) })
+    if nat_lt greatest_live s.live then Some (record {
+      cause = TooManyVariables;
+      place = label_place (label_at ls s.label);
+    })
+    else (if nat_lt greatest_points (suc n) then Some
+    (record { cause = TooManyPoints; place = label_place (label_at ls s.label) }) else limit_fault ls (suc n) es)
+limit_fault ls n (one_call_more at ∷ es) = Some (record
+    { cause = TooManyPoints; place = called_place (label_at ls at) })
 
 -- the refusal ------------------------------------------------------------------------------------------------------
 
@@ -61,14 +71,18 @@ NotRecursive t = (at : Place) → IsFirstRecursive t at → ⊥
 pub data RefusesTree (t : FileTree) : Cause → Place → Type 0 where
   bad_name : (r : Refusal) (further : List Refusal) → name_faults t ≡ r ∷ further → RefusesTree t r.cause r.place
   recursive : (at : Place) → name_faults t ≡ [] → IsFirstRecursive t at → RefusesTree t Recursive at
-  past_limit : (r : Refusal) → name_faults t ≡ [] → NotRecursive t → limit_fault (labels_of t) 0 (events_of (resolve t)) ≡ Some r → RefusesTree t r.cause r.place
+  past_limit : (r : Refusal) → name_faults t ≡ [] → NotRecursive t →
+      limit_fault (labels_of t) 0 (events_of (resolve t)) ≡ Some r → RefusesTree t r.cause r.place
 
 -- where L is the language of the sources
 pub data Refuse (L : Language) (source : List ℕ) : Cause → Place → Type 0 where
   too_long : greatest_length < length source → Refuse L source TooLong (place_behind (take greatest_length source))
-  bad_token : (c : Cause) (at : Place) → length source ≤ greatest_length → IsTokenFault source c at → Refuse L source c at
-  bad_text : (tokens : List Token) (c : Cause) (at : Place) → length source ≤ greatest_length → Lex source tokens → IsTextFault L tokens c at → Refuse L source c at
-  bad_tree : (tokens : List Token) (t : FileTree) (c : Cause) (at : Place) → length source ≤ greatest_length → Lex source tokens → IsTree L tokens t
+  bad_token : (c : Cause) (at : Place) → length source ≤ greatest_length → IsTokenFault source c at →
+      Refuse L source c at
+  bad_text : (tokens : List Token) (c : Cause) (at : Place) → length source ≤ greatest_length → Lex source tokens →
+      IsTextFault L tokens c at → Refuse L source c at
+  bad_tree : (tokens : List Token) (t : FileTree) (c : Cause) (at : Place) → length source ≤ greatest_length →
+      Lex source tokens → IsTree L tokens t
       → RefusesTree t c at → Refuse L source c at
 
 -- the source is accepted, and has this tree
@@ -122,7 +136,8 @@ cause_name TooManyPoints = codes "TooManyPoints"
 
 -- refused K NAME at LINE:COLUMN
 abbrev pub refusal_text : Cause → Place → List ℕ
-refusal_text c at = text_line (codes "refused " ++ decimal (cause_number c) ++ codes " " ++ cause_name c ++ codes " at " ++ place_text at)
+refusal_text c at = text_line (codes "refused " ++ decimal (cause_number c) ++ codes " " ++ cause_name c ++
+    codes " at " ++ place_text at)
 
 -- words that name no command
 abbrev pub usage_text : List ℕ

@@ -1,9 +1,11 @@
 -- A report as one compact JSON object (RFC 8259), its keys in byte order, ended by a line feed.
--- No text in it has a quotation mark, a backslash or a control character, so a string is its bytes between quotation marks.
+-- No text in it has a quotation mark, a backslash or a control character, so a string is its bytes between quotation
+-- marks.
 use Rattle.std.specs.Prelude.{ℕ, List, [], ◌∷◌, ◌++◌, map, Bool, codes, if◌then◌else◌, Option, Some, None}
 use Rattle.std.specs.Fmt.{decimal}
 use Rattle.lra_tree.specs.Report.{Domain, poly, box, oct, Options, Part, PointReport, Verdict, Report}
-use Rattle.lra_tree.specs.ReportText.{text_line, place_text, row_text, generator_text, domain_text, proved_count, unknown_count}
+use Rattle.lra_tree.specs.ReportText.{text_line, place_text, row_text, generator_text, domain_text, proved_count}
+use Rattle.lra_tree.specs.ReportText.{unknown_count}
 
 -- a key and the text of its value
 abbrev pub Field : Type 0
@@ -36,13 +38,18 @@ json_options o = json_object (
     ∷ [])
 
 abbrev pub json_verdict : Verdict → List ℕ
-json_verdict v = json_object ((codes "point", decimal v.number) ∷ (codes "verdict", json_string (if v.proved then codes "proved" else codes "unknown")) ∷ [])
+json_verdict v = json_object ((codes "point", decimal v.number) ∷
+    (codes "verdict", json_string (if v.proved then codes "proved" else codes "unknown")) ∷ [])
 
 abbrev pub rows_field : List (List ℕ) → Part → Field
 rows_field names part = (codes "rows", json_list (map (λ r. json_string (row_text names r)) part.rows))
 
 abbrev pub generators_field : List (List ℕ) → Part → Field
-generators_field names part = (codes "generators", json_list (map (λ g. json_string (generator_text names g)) part.generators))
+generators_field names part = (
+  codes "generators",
+  json_list
+      (map (λ g. json_string (generator_text names g)) part.generators),
+)
 
 -- only polyhedra tell their generators
 abbrev pub json_part : Domain → List (List ℕ) → Part → List ℕ

@@ -1,8 +1,11 @@
 -- The text of a report, of a refusal, and of words that aren't taken. Every line ends with a line feed.
-use Rattle.std.specs.Prelude.{ℕ, zero, suc, ◌/◌, ◌%◌, ℤ, pos, negsuc, ◌-ℤ◌, nat_abs, List, [], ◌∷◌, ◌++◌, map, Bool, true, false, not, codes, if◌then◌else◌, nat_eq, count_by, bytes_eq, int_div, Option, Some, None}
+use Rattle.std.specs.Prelude.{ℕ, zero, suc, ◌/◌, ◌%◌, ℤ, pos, negsuc, ◌-ℤ◌, nat_abs, List, [], ◌∷◌, ◌++◌, map, Bool}
+use Rattle.std.specs.Prelude.{true, false, not, codes, if◌then◌else◌, nat_eq, count_by, bytes_eq, int_div, Option, Some}
+use Rattle.std.specs.Prelude.{None}
 use Rattle.std.specs.List.{flat_map}
 use Rattle.std.specs.Fmt.{decimal, signed_decimal}
-use Rattle.lra_tree.specs.Report.{Place, Domain, poly, box, oct, Options, RowKind, equality, inequality, Row, GeneratorKind, point, ray, line, Generator, Part, State, PointReport, Verdict, Report}
+use Rattle.lra_tree.specs.Report.{Place, Domain, poly, box, oct, Options, RowKind, equality, inequality, Row}
+use Rattle.lra_tree.specs.Report.{GeneratorKind, point, ray, line, Generator, Part, State, PointReport, Verdict, Report}
 
 abbrev pub text_line : List ℕ → List ℕ
 text_line bytes = bytes ++ 10 ∷ []
@@ -74,17 +77,20 @@ relation_text inequality true = codes " <= "
 abbrev pub row_text : List (List ℕ) → Row → List ℕ
 row_text names r =
     let b = is_turned r.coefficients in
-    form_text (map (turned b) r.coefficients) names ++ relation_text r.kind b ++ signed_decimal (turned (not b) r.constant)
+    form_text (map (turned b) r.coefficients) names ++ relation_text r.kind b ++
+    signed_decimal (turned (not b) r.constant)
 
 -- generators: the kind, then NAME=VALUE for each variable ---------------------------------------------------------
 
 -- the greatest number up to k that divides both
 abbrev pub greatest_divisor : ℕ → ℕ → ℕ → ℕ
 greatest_divisor zero m n = 1
-greatest_divisor (suc k) m n = if nat_eq (m % suc k) 0 then (if nat_eq (n % suc k) 0 then suc k else greatest_divisor k m n) else greatest_divisor k m n
+greatest_divisor (suc k) m n = if nat_eq (m % suc k) 0
+    then (if nat_eq (n % suc k) 0 then suc k else greatest_divisor k m n) else greatest_divisor k m n
 
 abbrev pub fraction_text : ℤ → ℕ → List ℕ
-fraction_text numerator divisor = if nat_eq divisor 1 then signed_decimal numerator else signed_decimal numerator ++ codes "/" ++ decimal divisor
+fraction_text numerator divisor = if nat_eq divisor 1 then signed_decimal numerator
+    else signed_decimal numerator ++ codes "/" ++ decimal divisor
 
 -- the coordinate in lowest terms, and without the divisor where it is 1
 abbrev pub coordinate_text : ℤ → ℕ → List ℕ
@@ -120,14 +126,16 @@ rows_text names (r ∷ rs) = flat_map (λ row. text_line (codes "  row " ++ row_
 -- generators follow the rows, where there are some
 abbrev pub generators_text : List (List ℕ) → List Generator → List ℕ → List ℕ
 generators_text names [] rows = rows
-generators_text names (g ∷ gs) rows = rows ++ flat_map (λ h. text_line (codes "  gen " ++ generator_text names h)) (g ∷ gs)
+generators_text names (g ∷ gs) rows = rows ++ flat_map (λ h. text_line (codes "  gen " ++ generator_text names h))
+    (g ∷ gs)
 
 abbrev pub part_text : List (List ℕ) → Part → List ℕ
 part_text names part = generators_text names part.generators (rows_text names part.rows)
 
 abbrev pub further_parts_text : List (List ℕ) → List Part → List ℕ
 further_parts_text names [] = []
-further_parts_text names (part ∷ parts) = text_line (codes "  or") ++ part_text names part ++ further_parts_text names parts
+further_parts_text names (part ∷ parts) = text_line (codes "  or") ++ part_text names part ++
+    further_parts_text names parts
 
 abbrev pub state_text : List (List ℕ) → State → List ℕ
 state_text names [] = text_line (codes "  unreachable")
@@ -141,17 +149,21 @@ domain_text box = codes "box"
 domain_text oct = codes "oct"
 
 abbrev pub options_text : Options → List ℕ
-options_text o = text_line (codes "analysis " ++ domain_text o.domain ++ codes " parts " ++ decimal o.parts ++ codes " delay " ++ decimal o.delay ++ codes " narrow " ++ decimal o.narrow ++ codes " limited " ++ (if o.limited then codes "yes" else codes "no"))
+options_text o = text_line (codes "analysis " ++ domain_text o.domain ++ codes " parts " ++ decimal o.parts ++
+    codes " delay " ++ decimal o.delay ++ codes " narrow " ++ decimal o.narrow ++ codes " limited " ++
+    (if o.limited then codes "yes" else codes "no"))
 
 abbrev pub flag_text : Option ℕ → List ℕ
 flag_text None = text_line (codes "flagged 0")
 flag_text (Some number) = text_line (codes "flagged at point " ++ decimal number)
 
 abbrev pub point_text : PointReport → List ℕ
-point_text p = text_line (codes "point " ++ decimal p.number ++ codes " " ++ p.path ++ codes " " ++ place_text p.place) ++ state_text p.names p.state
+point_text p = text_line (codes "point " ++ decimal p.number ++ codes " " ++ p.path ++ codes " " ++
+    place_text p.place) ++ state_text p.names p.state
 
 abbrev pub verdict_text : Verdict → List ℕ
-verdict_text v = text_line (codes "assert " ++ decimal v.number ++ codes " " ++ v.path ++ codes " " ++ place_text v.place ++ (if v.proved then codes " proved" else codes " unknown"))
+verdict_text v = text_line (codes "assert " ++ decimal v.number ++ codes " " ++ v.path ++ codes " " ++
+    place_text v.place ++ (if v.proved then codes " proved" else codes " unknown"))
 
 abbrev pub proved_count : List Verdict → ℕ
 proved_count vs = count_by (λ v. v.proved) vs
@@ -165,4 +177,5 @@ report_text r =
     ++ flag_text r.flagged
     ++ flat_map point_text r.points
     ++ flat_map verdict_text r.verdicts
-    ++ text_line (codes "verdicts proved " ++ decimal (proved_count r.verdicts) ++ codes " unknown " ++ decimal (unknown_count r.verdicts))
+    ++ text_line (codes "verdicts proved " ++ decimal (proved_count r.verdicts) ++ codes " unknown " ++
+    decimal (unknown_count r.verdicts))

@@ -1,11 +1,18 @@
--- The program that a source without faults means: names are turned into places in the store and in the list of functions
--- (ISO/IEC 9899:2011, 6.2.1), and labels are given in text order. A call has the label of its statement or declarator.
+-- The program that a source without faults means: names are turned into places in the store and in the list of
+-- functions (ISO/IEC 9899:2011, 6.2.1), and labels are given in text order. A call has the label of its statement or
+-- declarator.
 -- All functions of the source can be called, `main` among them.
-use Rattle.std.specs.Prelude.{ℕ, suc, ◌+◌, ℤ, pos, List, [], ◌∷◌, ◌++◌, length, map, Option, Some, None, unwrap_or, cond}
+use Rattle.std.specs.Prelude.{ℕ, suc, ◌+◌, ℤ, pos, List, [], ◌∷◌, ◌++◌, length, map, Option, Some, None, unwrap_or}
+use Rattle.std.specs.Prelude.{cond}
 use Rattle.lra_tree.specs.declared.trees.Identifier.{Identifier}
 use Rattle.lra_tree.specs.Trees as tree
-use Rattle.lra_tree.specs.Program.{Slot, global, Operator, plus, minus, times, over, modulo, Expr, literal, read, input, negate, binary, Cond, compare, nonzero, opposite, both_of, either_of, Call, Source, value, result, Stmt, absent, nothing, block, assign, call, if, loop, for, break, continue, return, assert, assume, BlockItems, no_more, declaration, statement, Function, Program}
-use Rattle.lra_tree.specs.Scope.{Scope, slot_of, with_local, with_declarators, inner, for_scope, function_scope, functions_of, is_named, is_main}
+use Rattle.lra_tree.specs.Program.{Slot, global, Operator, plus, minus, times, over, modulo, Expr, literal, read, input}
+use Rattle.lra_tree.specs.Program.{negate, binary, Cond, compare, nonzero, opposite, both_of, either_of, Call, Source}
+use Rattle.lra_tree.specs.Program.{value, result, Stmt, absent, nothing, block, assign, call, if, loop, for, break}
+use Rattle.lra_tree.specs.Program.{continue, return, assert, assume, BlockItems, no_more, declaration, statement}
+use Rattle.lra_tree.specs.Program.{Function, Program}
+use Rattle.lra_tree.specs.Scope.{Scope, slot_of, with_local, with_declarators, inner, for_scope, function_scope}
+use Rattle.lra_tree.specs.Scope.{functions_of, is_named, is_main}
 use Rattle.lra_tree.specs.Labels.{init_labels, step_labels, stmt_labels}
 
 -- names: what is said of one that isn't in scope is of no use, since such a source is refused ------------------------
@@ -77,7 +84,11 @@ resolve_cond s c = any_of s c None
 -- calls and assignments: `x op= e` is `x = x op (e)`, and `x++` and `++x` are `x = x + 1` ---------------------------
 
 abbrev pub resolve_call : List tree.FunctionTree → Scope → ℕ → tree.CallTree → Call
-resolve_call F s n c = record { label = n; function = function_place F c.name.word; arguments = map (resolve_expr s) c.arguments }
+resolve_call F s n c = record {
+  label = n;
+  function = function_place F c.name.word;
+  arguments = map (resolve_expr s) c.arguments;
+}
 
 abbrev pub resolve_source : List tree.FunctionTree → Scope → ℕ → tree.SourceTree → Source
 resolve_source F s n (tree.expression e) = value (resolve_expr s e)
@@ -93,9 +104,12 @@ step_operator tree.decrement = minus
 
 abbrev pub resolve_assign : List tree.FunctionTree → Scope → ℕ → tree.AssignTree → Stmt
 resolve_assign F s n (tree.set x e) = assign n (variable s x) (resolve_source F s n e)
-resolve_assign F s n (tree.update x op e) = assign n (variable s x) (value (binary op (read (variable s x)) (resolve_expr s e)))
-resolve_assign F s n (tree.after x step) = assign n (variable s x) (value (binary (step_operator step) (read (variable s x)) (literal 1)))
-resolve_assign F s n (tree.before at step x) = assign n (variable s x) (value (binary (step_operator step) (read (variable s x)) (literal 1)))
+resolve_assign F s n (tree.update x op e) = assign n (variable s x)
+    (value (binary op (read (variable s x)) (resolve_expr s e)))
+resolve_assign F s n (tree.after x step) = assign n (variable s x)
+    (value (binary (step_operator step) (read (variable s x)) (literal 1)))
+resolve_assign F s n (tree.before at step x) = assign n (variable s x)
+    (value (binary (step_operator step) (read (variable s x)) (literal 1)))
 
 -- declarations: n is the first label, and the items behind follow ----------------------------------------------------
 
@@ -147,12 +161,14 @@ abbrev mutual
   resolve_stmt F s n (tree.assign a) = resolve_assign F s n a
   resolve_stmt F s n (tree.call c) = call n (resolve_call F s n c)
   resolve_stmt F s n (tree.if_only at c t) = if n (resolve_cond s c) (resolve_stmt F s (suc n) t) absent
-  resolve_stmt F s n (tree.if_else at c t e) = if n (resolve_cond s c) (resolve_stmt F s (suc n) t) (resolve_stmt F s (suc n + stmt_count t) e)
+  resolve_stmt F s n (tree.if_else at c t e) = if n (resolve_cond s c) (resolve_stmt F s (suc n) t)
+      (resolve_stmt F s (suc n + stmt_count t) e)
   resolve_stmt F s n (tree.while at c b) = loop n (resolve_cond s c) (resolve_stmt F s (suc n) b) absent
   resolve_stmt F s n (tree.for at i c e b) =
       let t = for_scope s i in
       let m = suc n + init_count i in
-      for (resolve_init F s (suc n) i) (loop n (resolve_for_test t c) (resolve_stmt F t (m + step_count e) b) (resolve_step F t m e))
+      for (resolve_init F s (suc n) i) (loop n (resolve_for_test t c) (resolve_stmt F t (m + step_count e) b)
+      (resolve_step F t m e))
   resolve_stmt F s n (tree.break at) = break n
   resolve_stmt F s n (tree.continue at) = continue n
   resolve_stmt F s n (tree.return at e) = return n (resolve_given F s n e)
@@ -162,8 +178,10 @@ abbrev mutual
   pub resolve_items : List tree.FunctionTree → Scope → ℕ → tree.ItemsTree → BlockItems
   resolve_items F s n tree.no_items = no_more
   resolve_items F s n (tree.declaration d items) =
-      resolve_declarators F s n (d.first ∷ d.rest) (resolve_items F (with_declarators s (d.first ∷ d.rest)) (n + declarator_count d) items)
-  resolve_items F s n (tree.statement t items) = statement (resolve_stmt F s n t) (resolve_items F s (n + stmt_count t) items)
+      resolve_declarators F s n (d.first ∷ d.rest) (resolve_items F (with_declarators s (d.first ∷ d.rest))
+      (n + declarator_count d) items)
+  resolve_items F s n (tree.statement t items) = statement (resolve_stmt F s n t)
+      (resolve_items F s (n + stmt_count t) items)
 
 -- the whole ----------------------------------------------------------------------------------------------------------
 
@@ -188,8 +206,10 @@ globals_in (tree.function f ∷ ps) = globals_in ps
 abbrev pub resolve_parts : List tree.FunctionTree → List (List ℕ) → ℕ → List tree.PartTree → List Function
 resolve_parts F outside n [] = []
 resolve_parts F outside n (tree.prototype ∷ ps) = resolve_parts F outside n ps
-resolve_parts F outside n (tree.globals g ∷ ps) = resolve_parts F (outside ++ map (λ (x : tree.GlobalTree). x.name.word) (g.first ∷ g.rest)) n ps
-resolve_parts F outside n (tree.function f ∷ ps) = resolve_function F outside n f ∷ resolve_parts F outside (n + suc (items_count f.body)) ps
+resolve_parts F outside n (tree.globals g ∷ ps) = resolve_parts F
+    (outside ++ map (λ (x : tree.GlobalTree). x.name.word) (g.first ∷ g.rest)) n ps
+resolve_parts F outside n (tree.function f ∷ ps) = resolve_function F outside n f ∷
+    resolve_parts F outside (n + suc (items_count f.body)) ps
 
 abbrev pub resolved_functions : tree.FileTree → List Function
 resolved_functions t = resolve_parts (functions_of t) [] 1 t.parts

@@ -1,9 +1,11 @@
 -- Scopes (ISO/IEC 9899:2011, 6.2.1): which variable and which function a name means.
-use Rattle.std.specs.Prelude.{ℕ, suc, Bool, if◌then◌else◌, List, [], ◌∷◌, ◌++◌, length, drop, bytes_eq, Option, Some, None, find, codes, map, nat_eq, false}
+use Rattle.std.specs.Prelude.{ℕ, suc, Bool, if◌then◌else◌, List, [], ◌∷◌, ◌++◌, length, drop, bytes_eq, Option, Some}
+use Rattle.std.specs.Prelude.{None, find, codes, map, nat_eq, false}
 use Rattle.std.specs.List.{list_any}
 use Rattle.lra_tree.specs.declared.trees.Identifier.{Identifier}
 use Rattle.lra_tree.specs.Program.{Slot, global, local}
-use Rattle.lra_tree.specs.Trees.{DeclaratorTree, InitTree, no_init, declared, assigned, FunctionTree, PartTree, prototype, globals, function, FileTree}
+use Rattle.lra_tree.specs.Trees.{DeclaratorTree, InitTree, no_init, declared, assigned, FunctionTree, PartTree}
+use Rattle.lra_tree.specs.Trees.{prototype, globals, function, FileTree}
 
 -- the variables that can be named, oldest first
 pub record Scope : Type 0 where
@@ -55,7 +57,11 @@ for_scope s (assigned a) = inner s
 
 -- parameters and the variables of the body's block are one scope
 abbrev pub function_scope : List (List ℕ) → List Identifier → Scope
-function_scope outside parameters = record { globals = outside; locals = map (λ (x : Identifier). x.word) parameters; outer = 0 }
+function_scope outside parameters = record {
+  globals = outside;
+  locals = map (λ (x : Identifier). x.word) parameters;
+  outer = 0;
+}
 
 -- functions --------------------------------------------------------------------------------------------------------
 

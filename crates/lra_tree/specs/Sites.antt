@@ -1,7 +1,10 @@
 -- The points of a program with its calls written out, in text order, a callee's points behind its call's.
 -- No path has more than 32 calls: a further one is told in place of its points.
-use Rattle.std.specs.Prelude.{ℕ, zero, suc, ◌+◌, Bool, true, false, List, [], ◌∷◌, ◌++◌, length, Option, Some, None, slice_get}
-use Rattle.lra_tree.specs.Program.{Call, Source, value, result, Stmt, absent, nothing, block, assign, call, if, loop, for, break, continue, return, assert, assume, BlockItems, no_more, declaration, statement, Function, Program}
+use Rattle.std.specs.Prelude.{ℕ, zero, suc, ◌+◌, Bool, true, false, List, [], ◌∷◌, ◌++◌, length, Option, Some, None}
+use Rattle.std.specs.Prelude.{slice_get}
+use Rattle.lra_tree.specs.Program.{Call, Source, value, result, Stmt, absent, nothing, block, assign, call, if, loop}
+use Rattle.lra_tree.specs.Program.{for, break, continue, return, assert, assume, BlockItems, no_more, declaration}
+use Rattle.lra_tree.specs.Program.{statement, Function, Program}
 
 -- a point: its calls, the innermost first, its label, how many variables live there, and whether it is an assertion
 pub record Site : Type 0 where
@@ -60,19 +63,22 @@ module _ (inside : List ℕ → ℕ → Call → List Event) (path : List ℕ) w
 
     pub items_events : ℕ → BlockItems → List Event
     items_events live no_more = []
-    items_events live (declaration d items) = plain_site path d.label live ∷ given_events (suc live) d.source ++ items_events (suc live) items
+    items_events live (declaration d items) = plain_site path d.label live ∷ given_events (suc live) d.source ++
+        items_events (suc live) items
     items_events live (statement s items) = stmt_events live s ++ items_events live items
 
 -- a function's points: its body's and that of its end
 abbrev pub function_events : (List ℕ → ℕ → Call → List Event) → List ℕ → ℕ → Option Function → List Event
 function_events inside path live None = []
 function_events inside path live (Some f) =
-    items_events inside path (live + f.parameters) f.body ++ plain_site path f.end (live_behind (live + f.parameters) f.body) ∷ []
+    items_events inside path (live + f.parameters) f.body ++
+    plain_site path f.end (live_behind (live + f.parameters) f.body) ∷ []
 
 -- a call's points, where the path may have so many calls more
 abbrev pub call_events : Program → ℕ → List ℕ → ℕ → Call → List Event
 call_events P zero path live c = one_call_more c.label ∷ []
-call_events P (suc more) path live c = function_events (call_events P more) (c.label ∷ path) live (slice_get P.functions c.function)
+call_events P (suc more) path live c = function_events (call_events P more) (c.label ∷ path) live
+    (slice_get P.functions c.function)
 
 abbrev pub events_of : Program → List Event
 events_of P = function_events (call_events P greatest_calls) [] (length P.globals) (Some P.main)

@@ -1,7 +1,10 @@
 -- One step of a run. A configuration is a list of pending items, the call that runs, and a state; the top item decides,
 -- and exactly one case applies to it. The step is a function, since a state holds the draws that are left.
-use Rattle.std.specs.Prelude.{ℕ, ◌+◌, ℤ, List, [], ◌∷◌, ◌++◌, length, take, Option, Some, None, Bool, true, false, slice_get, slice_set}
-use Rattle.lra_tree.specs.Program.{Expr, Cond, Call, Source, value, result, Declarator, Stmt, absent, nothing, block, assign, call, if, loop, for, break, continue, return, assert, assume, BlockItems, no_more, declaration, statement, Function, Program}
+use Rattle.std.specs.Prelude.{ℕ, ◌+◌, ℤ, List, [], ◌∷◌, ◌++◌, length, take, Option, Some, None, Bool, true, false}
+use Rattle.std.specs.Prelude.{slice_get, slice_set}
+use Rattle.lra_tree.specs.Program.{Expr, Cond, Call, Source, value, result, Declarator, Stmt, absent, nothing, block}
+use Rattle.lra_tree.specs.Program.{assign, call, if, loop, for, break, continue, return, assert, assume, BlockItems}
+use Rattle.lra_tree.specs.Program.{no_more, declaration, statement, Function, Program}
 use Rattle.lra_tree.specs.Value.{◌>>=◌, index_of, Drawn, draw, value_of, values_of, truth_of}
 
 -- the variables, oldest first, and the draws that are left
@@ -136,13 +139,18 @@ branch false on off = off
 
 abbrev pub go_by : List Item → List Item → Here → List ℤ → Drawn Bool → Option Config
 go_by on off h store None = None
-go_by on off h store (Some r) = Some (record { items = branch r.0 on off; here = h; state = record { store = store; draws = r.1 } })
+go_by on off h store (Some r) = Some (record {
+  items = branch r.0 on off;
+  here = h;
+  state = record { store = store; draws = r.1 };
+})
 
 -- arguments are evaluated and appended; then the callee's body, its end and its mark
 abbrev pub enter : Option Function → Call → Option ℕ → List Item → Here → State → Option Config
 enter None c x k h s = None
 enter (Some f) c x k h s =
-    go (all f.body ∷ end_of f.end (length s.store + f.parameters) ∷ mark (record { target = x; here = h; length = length s.store }) ∷ k)
+    go (all f.body ∷ end_of f.end (length s.store + f.parameters) ∷
+    mark (record { target = x; here = h; length = length s.store }) ∷ k)
     (record { path = c.label ∷ h.path; base = length s.store }) (run_op (push h.base c.arguments) s)
 
 abbrev pub do_source : Program → Option ℕ → Source → List Item → Here → State → Option Config
@@ -177,7 +185,8 @@ do_stmt P (block body end) k h s = go (all body ∷ end_of end (length s.store) 
 do_stmt P (assign at x e) k h s = do_source P (Some (index_of h.base x)) e k h s
 do_stmt P (call at c) k h s = do_source P None (result c) k h s
 do_stmt P (if at c a b) k h s = go_by (run a ∷ k) (run b ∷ k) h s.store (truth_of c h.base s.store s.draws)
-do_stmt P (loop at c a step) k h s = go_by (run a ∷ turn step (loop at c a step) (length s.store) ∷ k) k h s.store (truth_of c h.base s.store s.draws)
+do_stmt P (loop at c a step) k h s = go_by (run a ∷ turn step (loop at c a step) (length s.store) ∷ k) k h s.store
+    (truth_of c h.base s.store s.draws)
 do_stmt P (for init again) k h s = go (all init ∷ run again ∷ cut (length s.store) ∷ k) h (Some s)
 do_stmt P (break at) k h s = do_break (to_turn k) h s
 do_stmt P (continue at) k h s = do_continue (to_turn k) h s

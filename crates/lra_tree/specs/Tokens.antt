@@ -1,18 +1,21 @@
--- The tokens of a source (ISO/IEC 9899:2011, 5.1.1.2 and 6.4): its bytes are a sequence of gaps, which stand for nothing, and of
--- spellings of tokens, each the longest one at its place.
-use Rattle.std.specs.Prelude.{◌≡◌, ◌≢◌, ℕ, ◌+◌, ◌≤◌, ◌⊎◌, Bool, true, false, ◌||◌, nat_eq, List, [], ◌∷◌, ◌++◌, length, codes, if◌then◌else◌, ⊤, not}
+-- The tokens of a source (ISO/IEC 9899:2011, 5.1.1.2 and 6.4): its bytes are a sequence of gaps, which stand for
+-- nothing, and of spellings of tokens, each the longest one at its place.
+use Rattle.std.specs.Prelude.{◌≡◌, ◌≢◌, ℕ, ◌+◌, ◌≤◌, ◌⊎◌, Bool, true, false, ◌||◌, nat_eq, List, [], ◌∷◌, ◌++◌, length}
+use Rattle.std.specs.Prelude.{codes, if◌then◌else◌, ⊤, not}
 use Rattle.std.specs.List.{list_all}
 use Rattle.lra_tree.specs.declared.refusals.Place.{Place}
 use Rattle.lra_tree.specs.declared.refusals.Cause.{Cause}
 use Rattle.lra_tree.specs.declared.refusals.Cause.TheVariants.{BadByte, BadLiteral}
 use Rattle.lra_tree.specs.declared.tokens.Token.{Token}
 use Rattle.lra_tree.specs.declared.tokens.Kind.TheVariants.{End}
-use Rattle.lra_tree.specs.Lexeme.{is_word_byte, is_number_word, IsLiteral, greatest_literal, IsOpen, Lexeme, SpellsToken}
+use Rattle.lra_tree.specs.Lexeme.{is_word_byte, is_number_word, IsLiteral, greatest_literal, IsOpen, Lexeme}
+use Rattle.lra_tree.specs.Lexeme.{SpellsToken}
 
 -- places -----------------------------------------------------------------------------------------------------------
 
 abbrev pub next_place : Place → ℕ → Place
-next_place p c = if nat_eq c 10 then record { line = p.line + 1; column = 1 } else record { line = p.line; column = p.column + 1 }
+next_place p c = if nat_eq c 10 then record { line = p.line + 1; column = 1 }
+    else record { line = p.line; column = p.column + 1 }
 
 abbrev pub place_from : Place → List ℕ → Place
 place_from p [] = p
@@ -56,12 +59,15 @@ IsWordEnd (c ∷ cs) = is_word_byte c ≡ false
 pub data IsGap (before gap after : List ℕ) : Type 0 where
   blank : (c : ℕ) → gap ≡ c ∷ [] → is_blank c ≡ true → IsGap before gap after
   -- `//` up to the end of the line
-  line_comment : (text : List ℕ) → gap ≡ codes "//" ++ text → list_all in_line text ≡ true → IsLineEnd after → IsGap before gap after
+  line_comment : (text : List ℕ) → gap ≡ codes "//" ++ text → list_all in_line text ≡ true → IsLineEnd after →
+      IsGap before gap after
   -- `/*` up to the next `*/`
-  block_comment : (text : List ℕ) → gap ≡ codes "/*" ++ text ++ codes "*/" → IsOpen (text ++ codes "*") → IsGap before gap after
+  block_comment : (text : List ℕ) → gap ≡ codes "/*" ++ text ++ codes "*/" → IsOpen (text ++ codes "*") →
+      IsGap before gap after
   -- from the `#` of an `#include` line up to the end of the line
   skipped_line : (blanks text : List ℕ) → gap ≡ codes "#" ++ blanks ++ codes "include" ++ text → IsLineFront before
-      → list_all is_space_or_tab blanks ≡ true → IsWordEnd text → list_all in_line text ≡ true → IsLineEnd after → IsGap before gap after
+      → list_all is_space_or_tab blanks ≡ true → IsWordEnd text → list_all in_line text ≡ true → IsLineEnd after →
+      IsGap before gap after
 
 -- no gap begins behind these bytes
 abbrev pub NoGap : List ℕ → List ℕ → Type 0
@@ -101,15 +107,18 @@ pub record IsToken (before s rest : List ℕ) (t : Token) : Type 0 where
 -- the pieces stand between the bytes before and after them
 abbrev pub IsReading : List ℕ → List Piece → List ℕ → Type 0
 IsReading before [] after = ⊤
-IsReading before (gap bytes ∷ ps) after = IsGap before bytes (bytes_of ps ++ after) × IsReading (before ++ bytes) ps after
-IsReading before (token bytes t ∷ ps) after = IsToken before bytes (bytes ++ (bytes_of ps ++ after)) t × IsReading (before ++ bytes) ps after
+IsReading before (gap bytes ∷ ps) after = IsGap before bytes (bytes_of ps ++ after) ×
+    IsReading (before ++ bytes) ps after
+IsReading before (token bytes t ∷ ps) after = IsToken before bytes (bytes ++ (bytes_of ps ++ after)) t ×
+    IsReading (before ++ bytes) ps after
 
 abbrev pub end_token : List ℕ → Token
 end_token source = record { kind = End; place = place_behind source }
 
 -- the tokens of the source; behind the last byte stands the end
 abbrev pub Lex : List ℕ → List Token → Type 0
-Lex source tokens = (ps : List Piece) × (source ≡ bytes_of ps) × IsReading [] ps [] × (tokens ≡ tokens_of ps ++ end_token source ∷ [])
+Lex source tokens = (ps : List Piece) × (source ≡ bytes_of ps) × IsReading [] ps [] ×
+    (tokens ≡ tokens_of ps ++ end_token source ∷ [])
 
 -- faults -----------------------------------------------------------------------------------------------------------
 

@@ -1,4 +1,5 @@
--- Trees of sources, apart from where they lie in memory. A chain of operators nests to the left; a list is in text order.
+-- Trees of sources, apart from where they lie in memory. A chain of operators nests to the left; a list is in text
+-- order.
 use Rattle.std.specs.Prelude.{ℕ, ℤ, List, Bool, Option}
 use Rattle.lra_tree.specs.declared.refusals.Place.{Place}
 use Rattle.lra_tree.specs.declared.trees.Identifier.{Identifier}

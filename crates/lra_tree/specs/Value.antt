@@ -1,8 +1,11 @@
 -- The value of an expression and of a condition, with the draws that are left; none where the run stops:
 -- at a number that doesn't fit 64 bits, at a divisor 0, at -2^63 divided by -1 (also for `%`), and where a draw is
 -- needed and none is left (ISO/IEC 9899:2011, 6.5; overflow, undefined there, ends the run here).
-use Rattle.std.specs.Prelude.{ℕ, zero, suc, ℤ, pos, negsuc, ◌+ℤ◌, ◌-ℤ◌, ◌*ℤ◌, ◌+◌, List, [], ◌∷◌, Option, Some, None, Bool, true, false, not, if◌then◌else◌, slice_get, int_div, int_rem, int_lt, int_le}
-use Rattle.lra_tree.specs.Program.{Slot, global, local, Operator, plus, minus, times, over, modulo, Comparison, below, at_most, above, at_least, equal, differs, Expr, literal, read, input, negate, binary, Cond, compare, nonzero, opposite, both_of, either_of}
+use Rattle.std.specs.Prelude.{ℕ, zero, suc, ℤ, pos, negsuc, ◌+ℤ◌, ◌-ℤ◌, ◌*ℤ◌, ◌+◌, List, [], ◌∷◌, Option, Some, None}
+use Rattle.std.specs.Prelude.{Bool, true, false, not, if◌then◌else◌, slice_get, int_div, int_rem, int_lt, int_le}
+use Rattle.lra_tree.specs.Program.{Slot, global, local, Operator, plus, minus, times, over, modulo, Comparison, below}
+use Rattle.lra_tree.specs.Program.{at_most, above, at_least, equal, differs, Expr, literal, read, input, negate, binary}
+use Rattle.lra_tree.specs.Program.{Cond, compare, nonzero, opposite, both_of, either_of}
 
 -- go on with what is there
 infixl 10 ◌>>=◌
@@ -77,5 +80,7 @@ truth_of (compare op a b) base store draws =
     value_of a base store draws >>= λ r. value_of b base store r.1 >>= λ s. Some (compares op r.0 s.0, s.1)
 truth_of (nonzero e) base store draws = value_of e base store draws >>= λ r. Some (not (is_zero r.0), r.1)
 truth_of (opposite c) base store draws = truth_of c base store draws >>= λ r. Some (not r.0, r.1)
-truth_of (both_of c d) base store draws = truth_of c base store draws >>= λ r. if r.0 then truth_of d base store r.1 else Some (false, r.1)
-truth_of (either_of c d) base store draws = truth_of c base store draws >>= λ r. if r.0 then Some (true, r.1) else truth_of d base store r.1
+truth_of (both_of c d) base store draws = truth_of c base store draws >>= λ r. if r.0 then truth_of d base store r.1
+    else Some (false, r.1)
+truth_of (either_of c d) base store draws = truth_of c base store draws >>= λ r. if r.0 then Some (true, r.1)
+    else truth_of d base store r.1

@@ -67,7 +67,8 @@ sum_of e [] = e
 sum_of e (s ∷ ss) = sum_of (further_term e s.0 s.1) ss
 
 abbrev UnaryLayer : Type 0
-UnaryLayer = Unary-F tree.UnaryTree tree.ExprTree (FactorOperator × tree.UnaryTree) (SumOperator × tree.TermTree) tree.TermTree
+UnaryLayer = Unary-F tree.UnaryTree tree.ExprTree (FactorOperator × tree.UnaryTree)
+    (SumOperator × tree.TermTree) tree.TermTree
 
 abbrev pub unary_step : UnaryLayer → tree.UnaryTree
 unary_step (Unary-F.Negated u) = tree.negated u.value
@@ -77,33 +78,42 @@ unary_step (Unary-F.Variable x) = tree.variable x
 unary_step Unary-F.Input = tree.input
 unary_step (Unary-F.Group e) = tree.group e.value
 
-abbrev pub factor_step : Factor-F tree.UnaryTree tree.ExprTree (FactorOperator × tree.UnaryTree) (SumOperator × tree.TermTree) tree.TermTree → FactorOperator × tree.UnaryTree
+abbrev pub factor_step : Factor-F tree.UnaryTree tree.ExprTree (FactorOperator × tree.UnaryTree)
+    (SumOperator × tree.TermTree) tree.TermTree → FactorOperator × tree.UnaryTree
 factor_step f = (f.operator, f.unary)
 
-abbrev pub term_step : Term-F tree.UnaryTree tree.ExprTree (FactorOperator × tree.UnaryTree) (SumOperator × tree.TermTree) tree.TermTree → tree.TermTree
+abbrev pub term_step : Term-F tree.UnaryTree tree.ExprTree (FactorOperator × tree.UnaryTree)
+    (SumOperator × tree.TermTree) tree.TermTree → tree.TermTree
 term_step t = product (tree.unary t.first) t.rest.items
 
-abbrev pub summand_step : Summand-F tree.UnaryTree tree.ExprTree (FactorOperator × tree.UnaryTree) (SumOperator × tree.TermTree) tree.TermTree → SumOperator × tree.TermTree
+abbrev pub summand_step : Summand-F tree.UnaryTree tree.ExprTree (FactorOperator × tree.UnaryTree)
+    (SumOperator × tree.TermTree) tree.TermTree → SumOperator × tree.TermTree
 summand_step s = (s.operator, s.term)
 
-abbrev pub expr_step : Expr-F tree.UnaryTree tree.ExprTree (FactorOperator × tree.UnaryTree) (SumOperator × tree.TermTree) tree.TermTree → tree.ExprTree
+abbrev pub expr_step : Expr-F tree.UnaryTree tree.ExprTree (FactorOperator × tree.UnaryTree)
+    (SumOperator × tree.TermTree) tree.TermTree → tree.ExprTree
 expr_step e = sum_of (tree.term e.first) e.rest.items
 
 abbrev pub unary_view : Unary → tree.UnaryTree
-unary_view = fold-Unary tree.UnaryTree tree.ExprTree (FactorOperator × tree.UnaryTree) (SumOperator × tree.TermTree) tree.TermTree unary_step expr_step factor_step summand_step term_step
+unary_view = fold-Unary tree.UnaryTree tree.ExprTree (FactorOperator × tree.UnaryTree)
+    (SumOperator × tree.TermTree) tree.TermTree unary_step expr_step factor_step summand_step term_step
 
 abbrev pub term_view : Term → tree.TermTree
-term_view = fold-Term tree.UnaryTree tree.ExprTree (FactorOperator × tree.UnaryTree) (SumOperator × tree.TermTree) tree.TermTree unary_step expr_step factor_step summand_step term_step
+term_view = fold-Term tree.UnaryTree tree.ExprTree (FactorOperator × tree.UnaryTree)
+    (SumOperator × tree.TermTree) tree.TermTree unary_step expr_step factor_step summand_step term_step
 
 -- an operator and its operand
 abbrev pub factor_view : Factor → FactorOperator × tree.UnaryTree
-factor_view = fold-Factor tree.UnaryTree tree.ExprTree (FactorOperator × tree.UnaryTree) (SumOperator × tree.TermTree) tree.TermTree unary_step expr_step factor_step summand_step term_step
+factor_view = fold-Factor tree.UnaryTree tree.ExprTree (FactorOperator × tree.UnaryTree)
+    (SumOperator × tree.TermTree) tree.TermTree unary_step expr_step factor_step summand_step term_step
 
 abbrev pub summand_view : Summand → SumOperator × tree.TermTree
-summand_view = fold-Summand tree.UnaryTree tree.ExprTree (FactorOperator × tree.UnaryTree) (SumOperator × tree.TermTree) tree.TermTree unary_step expr_step factor_step summand_step term_step
+summand_view = fold-Summand tree.UnaryTree tree.ExprTree (FactorOperator × tree.UnaryTree)
+    (SumOperator × tree.TermTree) tree.TermTree unary_step expr_step factor_step summand_step term_step
 
 abbrev pub expr_view : Expr → tree.ExprTree
-expr_view = fold-Expr tree.UnaryTree tree.ExprTree (FactorOperator × tree.UnaryTree) (SumOperator × tree.TermTree) tree.TermTree unary_step expr_step factor_step summand_step term_step
+expr_view = fold-Expr tree.UnaryTree tree.ExprTree (FactorOperator × tree.UnaryTree)
+    (SumOperator × tree.TermTree) tree.TermTree unary_step expr_step factor_step summand_step term_step
 
 -- conditions -------------------------------------------------------------------------------------------------------
 
@@ -123,7 +133,8 @@ abbrev pub any_conjunction : tree.CondTree → List tree.ConjunctionTree → tre
 any_conjunction c [] = c
 any_conjunction c (a ∷ further) = any_conjunction (tree.or c a) further
 
-abbrev pub negation_step : Negation-F tree.NegationTree tree.TestTree tree.CondTree tree.ConjunctionTree → tree.NegationTree
+abbrev pub negation_step : Negation-F tree.NegationTree tree.TestTree tree.CondTree tree.ConjunctionTree →
+    tree.NegationTree
 negation_step (Negation-F.Again n) = tree.opposite_again n.value
 negation_step (Negation-F.Operand u) = tree.value_of_unary (unary_view u)
 negation_step (Negation-F.Strict c) = tree.group_opposed c.value
@@ -134,23 +145,28 @@ test_step (Test-F.Value e) = tree.value (expr_view e)
 test_step (Test-F.Compare a op b) = tree.compare (expr_view a) (comparison_view op) (expr_view b)
 test_step (Test-F.Group c) = tree.group_of c.value
 
-abbrev pub conjunction_step : Conjunction-F tree.NegationTree tree.TestTree tree.CondTree tree.ConjunctionTree → tree.ConjunctionTree
+abbrev pub conjunction_step : Conjunction-F tree.NegationTree tree.TestTree tree.CondTree tree.ConjunctionTree →
+    tree.ConjunctionTree
 conjunction_step c = all_tests (tree.test c.first) c.rest.items
 
 abbrev pub cond_step : Cond-F tree.NegationTree tree.TestTree tree.CondTree tree.ConjunctionTree → tree.CondTree
 cond_step c = any_conjunction (tree.conjunction c.first) c.rest.items
 
 abbrev pub negation_view : Negation → tree.NegationTree
-negation_view = fold-Negation tree.NegationTree tree.TestTree tree.CondTree tree.ConjunctionTree negation_step test_step cond_step conjunction_step
+negation_view = fold-Negation tree.NegationTree tree.TestTree tree.CondTree tree.ConjunctionTree negation_step test_step
+    cond_step conjunction_step
 
 abbrev pub test_view : Test → tree.TestTree
-test_view = fold-Test tree.NegationTree tree.TestTree tree.CondTree tree.ConjunctionTree negation_step test_step cond_step conjunction_step
+test_view = fold-Test tree.NegationTree tree.TestTree tree.CondTree tree.ConjunctionTree negation_step test_step
+    cond_step conjunction_step
 
 abbrev pub conjunction_view : Conjunction → tree.ConjunctionTree
-conjunction_view = fold-Conjunction tree.NegationTree tree.TestTree tree.CondTree tree.ConjunctionTree negation_step test_step cond_step conjunction_step
+conjunction_view = fold-Conjunction tree.NegationTree tree.TestTree tree.CondTree tree.ConjunctionTree negation_step
+    test_step cond_step conjunction_step
 
 abbrev pub cond_view : Cond → tree.CondTree
-cond_view = fold-Cond tree.NegationTree tree.TestTree tree.CondTree tree.ConjunctionTree negation_step test_step cond_step conjunction_step
+cond_view = fold-Cond tree.NegationTree tree.TestTree tree.CondTree tree.ConjunctionTree negation_step test_step
+    cond_step conjunction_step
 
 -- assignments and declarations -------------------------------------------------------------------------------------
 
@@ -195,11 +211,13 @@ abbrev pub items_of : List (tree.ItemsTree → tree.ItemsTree) → tree.ItemsTre
 items_of [] = tree.no_items
 items_of (f ∷ fs) = f (items_of fs)
 
-abbrev pub item_step : BlockItem-F (tree.ItemsTree → tree.ItemsTree) tree.StmtTree (tree.ItemsTree × Place) → tree.ItemsTree → tree.ItemsTree
+abbrev pub item_step : BlockItem-F (tree.ItemsTree → tree.ItemsTree) tree.StmtTree (tree.ItemsTree × Place) →
+    tree.ItemsTree → tree.ItemsTree
 item_step (BlockItem-F.Declaration d) = tree.declaration (declaration_view d)
 item_step (BlockItem-F.Statement s) = tree.statement s
 
-abbrev pub block_step : Block-F (tree.ItemsTree → tree.ItemsTree) tree.StmtTree (tree.ItemsTree × Place) → tree.ItemsTree × Place
+abbrev pub block_step : Block-F (tree.ItemsTree → tree.ItemsTree) tree.StmtTree (tree.ItemsTree × Place) →
+    tree.ItemsTree × Place
 block_step b = (items_of b.items.items, b.end)
 
 abbrev pub stmt_step : Stmt-F (tree.ItemsTree → tree.ItemsTree) tree.StmtTree (tree.ItemsTree × Place) → tree.StmtTree
@@ -210,7 +228,8 @@ stmt_step (Stmt-F.Call c) = tree.call (call_view c)
 stmt_step (Stmt-F.If at c a) = tree.if_only at (cond_view c) a.value
 stmt_step (Stmt-F.IfElse at c a b) = tree.if_else at (cond_view c) a.value b.value
 stmt_step (Stmt-F.While at c a) = tree.while at (cond_view c) a.value
-stmt_step (Stmt-F.For at i c s a) = tree.for at (init_view i) (option_map cond_view c) (option_map assign_view s) a.value
+stmt_step (Stmt-F.For at i c s a) = tree.for at (init_view i) (option_map cond_view c)
+    (option_map assign_view s) a.value
 stmt_step (Stmt-F.Break at) = tree.break at
 stmt_step (Stmt-F.Continue at) = tree.continue at
 stmt_step (Stmt-F.Return at e) = tree.return at (option_map source_view e)
@@ -218,20 +237,29 @@ stmt_step (Stmt-F.Assert at c) = tree.assert at (cond_view c)
 stmt_step (Stmt-F.Assume at c) = tree.assume at (cond_view c)
 
 abbrev pub item_view : BlockItem → tree.ItemsTree → tree.ItemsTree
-item_view = fold-BlockItem (tree.ItemsTree → tree.ItemsTree) tree.StmtTree (tree.ItemsTree × Place) item_step stmt_step block_step
+item_view = fold-BlockItem (tree.ItemsTree → tree.ItemsTree) tree.StmtTree
+    (tree.ItemsTree × Place) item_step stmt_step block_step
 
 abbrev pub stmt_view : Stmt → tree.StmtTree
-stmt_view = fold-Stmt (tree.ItemsTree → tree.ItemsTree) tree.StmtTree (tree.ItemsTree × Place) item_step stmt_step block_step
+stmt_view = fold-Stmt (tree.ItemsTree → tree.ItemsTree) tree.StmtTree
+    (tree.ItemsTree × Place) item_step stmt_step block_step
 
 abbrev pub block_view : Block → tree.ItemsTree × Place
-block_view = fold-Block (tree.ItemsTree → tree.ItemsTree) tree.StmtTree (tree.ItemsTree × Place) item_step stmt_step block_step
+block_view = fold-Block (tree.ItemsTree → tree.ItemsTree) tree.StmtTree
+    (tree.ItemsTree × Place) item_step stmt_step block_step
 
 -- the whole --------------------------------------------------------------------------------------------------------
 
 abbrev pub function_view : Function → tree.FunctionTree
 function_view f =
     let body = block_view f.body in
-    record { has_result = f.has_result; name = f.name; parameters = f.parameters.items.items; body = body.0; end = body.1 }
+    record {
+      has_result = f.has_result;
+      name = f.name;
+      parameters = f.parameters.items.items;
+      body = body.0;
+      end = body.1;
+    }
 
 abbrev pub global_view : Global → tree.GlobalTree
 global_view g = record { name = g.name; value = g.value }

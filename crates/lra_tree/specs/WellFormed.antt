@@ -1,9 +1,14 @@
--- Well-formed programs: what holds of the program that a source without faults means. A program made by hand may have a number past 64 bits,
--- one label twice, a variable that isn't there or a call without a callee; its runs are told all the same, and stop or go on as they may.
-use Rattle.std.specs.Prelude.{◌≡◌, ℕ, suc, ◌<◌, Bool, true, false, List, [], ◌∷◌, ◌++◌, length, Option, Some, None, slice_get, IsTrue, ⊤}
+-- Well-formed programs: what holds of the program that a source without faults means. A program made by hand may have a
+-- number past 64 bits, one label twice, a variable that isn't there or a call without a callee; its runs are told all
+-- the same, and stop or go on as they may.
+use Rattle.std.specs.Prelude.{◌≡◌, ℕ, suc, ◌<◌, Bool, true, false, List, [], ◌∷◌, ◌++◌, length, Option, Some, None}
+use Rattle.std.specs.Prelude.{slice_get, IsTrue, ⊤}
 use Rattle.std.specs.List.{AllByRecursion, Contains, flat_map, range_with_len}
 use Rattle.lra_tree.specs.Trees.{FileTree}
-use Rattle.lra_tree.specs.Program.{Slot, global, local, Expr, literal, read, input, negate, binary, Cond, compare, nonzero, opposite, both_of, either_of, Call, Source, value, result, Stmt, absent, nothing, block, assign, call, if, loop, for, break, continue, return, assert, assume, BlockItems, no_more, declaration, statement, Function, Program}
+use Rattle.lra_tree.specs.Program.{Slot, global, local, Expr, literal, read, input, negate, binary, Cond, compare}
+use Rattle.lra_tree.specs.Program.{nonzero, opposite, both_of, either_of, Call, Source, value, result, Stmt, absent}
+use Rattle.lra_tree.specs.Program.{nothing, block, assign, call, if, loop, for, break, continue, return, assert, assume}
+use Rattle.lra_tree.specs.Program.{BlockItems, no_more, declaration, statement, Function, Program}
 use Rattle.lra_tree.specs.Value.{is_word}
 use Rattle.lra_tree.specs.Sites.{live_behind}
 use Rattle.lra_tree.specs.Resolve.{resolve}
@@ -50,7 +55,7 @@ abbrev pub IsLoop : Stmt → Type 0
 IsLoop (loop at c a step) = ⊤
 IsLoop s = ⊥
 
--- what stands in a program, where so many of the call's own variables live ----------------------------------------------
+-- what stands in a program, where so many of the call's own variables live ------------------------
 
 module _ (P : Program) where
   abbrev pub IsLive : ℕ → Slot → Type 0
@@ -98,7 +103,8 @@ module _ (P : Program) where
     IsGoodStmt in_loop live (call at c) = IsGoodCall at live c
     IsGoodStmt in_loop live (if at c a b) = IsGoodCond live c × IsGoodStmt in_loop live a × IsGoodStmt in_loop live b
     IsGoodStmt in_loop live (loop at c a step) = IsGoodCond live c × IsGoodStmt true live a × IsGoodStmt false live step
-    IsGoodStmt in_loop live (for init again) = AreGoodItems false live init × IsLoop again × IsGoodStmt false (live_behind live init) again
+    IsGoodStmt in_loop live (for init again) = AreGoodItems false live init × IsLoop again ×
+        IsGoodStmt false (live_behind live init) again
     IsGoodStmt in_loop live (break at) = IsTrue in_loop
     IsGoodStmt in_loop live (continue at) = IsTrue in_loop
     IsGoodStmt in_loop live (return at e) = IsGoodGiven at live e
@@ -108,7 +114,8 @@ module _ (P : Program) where
     -- a declarator's variable lives in what it gets
     pub AreGoodItems : Bool → ℕ → BlockItems → Type 0
     AreGoodItems in_loop live no_more = ⊤
-    AreGoodItems in_loop live (declaration d items) = IsGoodGiven d.label (suc live) d.source × AreGoodItems in_loop (suc live) items
+    AreGoodItems in_loop live (declaration d items) = IsGoodGiven d.label (suc live) d.source ×
+        AreGoodItems in_loop (suc live) items
     AreGoodItems in_loop live (statement s items) = IsGoodStmt in_loop live s × AreGoodItems in_loop live items
 
   abbrev pub IsGoodFunction : Function → Type 0

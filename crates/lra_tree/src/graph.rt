@@ -14,8 +14,8 @@ pub enum Exit {
     Returned,
 }
 
-/// A least change of the store: a number is a place in it, or its length. The first number of `Give`, `Push` and `Test` is where the
-/// variables of the call that runs begin.
+/// A least change of the store: a number is a place in it, or its length. The first number of `Give`, `Push` and `Test`
+/// is where the variables of the call that runs begin.
 pub enum Op {
     /// A new variable, of any value.
     Append,
@@ -44,8 +44,8 @@ impl Drop for Op {
     }
 }
 
-/// A tree of operations. The first number is that of the point to which an operation belongs; the number before a condition is where the
-/// variables of its call begin.
+/// A tree of operations. The first number is that of the point to which an operation belongs; the number before a
+/// condition is where the variables of its call begin.
 pub enum Node {
     Empty,
     Point(usize),

@@ -1,11 +1,14 @@
-//! The labels of a source: its statements, declarators of functions and ends of blocks in text order. The n-th of them has the label n.
+//! The labels of a source: its statements, declarators of functions and ends of blocks in text order. The n-th of them
+//! has the label n.
 
 ghost use Rattle.std.specs.Prelude.{◌≡◌, ◌∷◌, ◌++◌, [], List, map, Option, option_map, IfOk};
 ghost use Rattle.lra_tree.specs.Trees.{ItemsTree, PartTree};
-ghost use Rattle.lra_tree.specs.Views.{source_view, assign_view, declarator_view, declaration_view, init_view, item_view, stmt_view, block_view, function_view, part_view, tree_view};
+ghost use Rattle.lra_tree.specs.Views.{source_view, assign_view, declarator_view, declaration_view, init_view};
+ghost use Rattle.lra_tree.specs.Views.{item_view, stmt_view, block_view, function_view, part_view, tree_view};
 ghost use Rattle.lra_tree.specs.Scope.{functions_in};
 ghost use Rattle.lra_tree.specs.Labels.{called_in, called_of};
-ghost use Rattle.lra_tree.specs.Walk.{walked, walked_assign, walked_declarators, walked_init, walked_step, walked_stmt, walked_items, walked_functions, told_declarator};
+ghost use Rattle.lra_tree.specs.Walk.{walked, walked_assign, walked_declarators, walked_init, walked_step, walked_stmt};
+ghost use Rattle.lra_tree.specs.Walk.{walked_items, walked_functions, told_declarator};
 
 use crate::refusals::Place;
 use crate::trees::{
@@ -41,7 +44,9 @@ pub fn walk(alloc: Global, tree: &Tree) -> Result<Vec<Label>, AllocError>
 }
 
 fn walk_part(alloc: Global, item: &Item, labels: &mut Vec<Label>) -> Result<(), AllocError>
-    ensures { IfOk result (λ _. (rest : List PartTree) → labels.new.items ++ walked_functions (functions_in rest) ≡ labels.old.items ++ walked_functions (functions_in (part_view item.now ∷ rest))) }
+    ensures { IfOk result (λ _. (rest : List PartTree) →
+        labels.new.items ++ walked_functions (functions_in rest) ≡
+        labels.old.items ++ walked_functions (functions_in (part_view item.now ∷ rest))) }
 {
     match item {
         Item::Prototype => Ok(()),
@@ -95,7 +100,8 @@ fn walk_declarator(
     declarator: &Declarator,
     labels: &mut Vec<Label>,
 ) -> Result<(), AllocError>
-    ensures { IfOk result (λ _. labels.new.items ≡ labels.old.items ++ told_declarator (declarator_view declarator.now) ∷ []) }
+    ensures { IfOk result (λ _. labels.new.items ≡ labels.old.items ++
+        told_declarator (declarator_view declarator.now) ∷ []) }
 {
     let called = called_by_given(alloc, &declarator.source)?;
     add(labels, declarator.name.place, called)
@@ -106,7 +112,8 @@ fn walk_declaration(
     declaration: &Declaration,
     labels: &mut Vec<Label>,
 ) -> Result<(), AllocError>
-    ensures { IfOk result (λ _. labels.new.items ≡ labels.old.items ++ walked_declarators (declarator_view declaration.now.first ∷ map declarator_view declaration.now.rest.items)) }
+    ensures { IfOk result (λ _. labels.new.items ≡ labels.old.items ++
+        walked_declarators (declarator_view declaration.now.first ∷ map declarator_view declaration.now.rest.items)) }
 {
     walk_declarator(alloc, &declaration.first, labels)?;
     'declarators: for declarator in &declaration.rest {
@@ -182,7 +189,8 @@ fn walk_stmt(alloc: Global, stmt: &Stmt, labels: &mut Vec<Label>) -> Result<(), 
 
 #[cycle(walk)]
 fn walk_item(alloc: Global, item: &BlockItem, labels: &mut Vec<Label>) -> Result<(), AllocError>
-    ensures { IfOk result (λ _. (rest : ItemsTree) (end : Place) → labels.new.items ++ walked_items rest end ≡ labels.old.items ++ walked_items (item_view item.now rest) end) }
+    ensures { IfOk result (λ _. (rest : ItemsTree) (end : Place) →
+        labels.new.items ++ walked_items rest end ≡ labels.old.items ++ walked_items (item_view item.now rest) end) }
 {
     match item {
         BlockItem::Declaration(declaration) => walk_declaration(alloc, declaration, labels),
@@ -192,7 +200,8 @@ fn walk_item(alloc: Global, item: &BlockItem, labels: &mut Vec<Label>) -> Result
 
 #[cycle(walk)]
 fn walk_block(alloc: Global, block: &Block, labels: &mut Vec<Label>) -> Result<(), AllocError>
-    ensures { IfOk result (λ _. labels.new.items ≡ labels.old.items ++ walked_items (block_view block.now).0 (block_view block.now).1) }
+    ensures { IfOk result (λ _. labels.new.items ≡ labels.old.items ++
+        walked_items (block_view block.now).0 (block_view block.now).1) }
 {
     'items: for item in &block.items {
         walk_item(alloc, item, labels)?;

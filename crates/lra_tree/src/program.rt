@@ -1,5 +1,6 @@
-//! Programs whose names are resolved. A chain of operators is its first operand and a list of the others, and a block a list of items, so a
-//! program is no deeper than its source is nested. Labels count statements, declarators and the ends of blocks from 1.
+//! Programs whose names are resolved. A chain of operators is its first operand and a list of the others, and a block a
+//! list of items, so a program is no deeper than its source is nested. Labels count statements, declarators and the
+//! ends of blocks from 1.
 
 ghost use Rattle.std.specs.Prelude.{◌≡◌, ◌∷◌, [], map, IfOk};
 ghost use Rattle.lra_tree.specs.ProgramViews.{slot_view, expr_view, operation_view, cond_view};

@@ -1,4 +1,5 @@
-//! Trees of sources. A chain of operators is its first operand and a list of the others, so a tree is no deeper than its source is nested.
+//! Trees of sources. A chain of operators is its first operand and a list of the others, so a tree is no deeper than
+//! its source is nested.
 //! A part keeps the places that refusals and points name, and no others.
 
 ghost use Rattle.std.specs.Prelude.{◌≡◌, ◌≢◌, map, IfOk, MatchResult};
@@ -183,7 +184,8 @@ impl Drop for Test {
 impl Test {
     /// The expression of a test that is one alone, or else the test.
     pub fn into_value(self) -> Result<Expr, Test>
-        ensures { MatchResult result (λ e. test_view self ≡ value (expr_view e)) (λ t. (test_view t ≡ test_view self) × ((e : ExprTree) → test_view self ≢ value e)) }
+        ensures { MatchResult result (λ e. test_view self ≡ value (expr_view e))
+            (λ t. (test_view t ≡ test_view self) × ((e : ExprTree) → test_view self ≢ value e)) }
     {
         match self {
             Test::Value(expr) => Ok(expr),
@@ -235,7 +237,8 @@ impl Drop for Cond {
 impl Cond {
     /// The first chain of `&&` and the others.
     pub fn into_parts(self) -> (Conjunction, Vec<Conjunction>)
-        ensures { cond_view self ≡ any_conjunction (conjunction (conjunction_view result.0)) (map conjunction_view result.1.items) }
+        ensures { cond_view self ≡ any_conjunction (conjunction (conjunction_view result.0))
+            (map conjunction_view result.1.items) }
     {
         let Cond { first, rest } = self;
         (first, rest)

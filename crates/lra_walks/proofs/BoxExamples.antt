@@ -26,7 +26,8 @@ cut_break = (
 )
 
 -- i = i + 1 of i in 0..2^127 - 1 strains: the new bound would pass the range
-strained_example : Pass Content Content (straining box_meaning) (narrowed 1) (act 5 (give 0 (Some 0) (binary plus i (literal 1)))) None (one (between 0 (2 ^ 127 - 1))) (goes_on [] (one (at_least 1)) (Some 5))
+strained_example : Pass Content Content (straining box_meaning) (narrowed 1) (act 5 (give 0 (Some 0) (binary plus i (literal 1)))) None (one (between 0 (2 ^ 127 - 1)))
+    (goes_on [] (one (at_least 1)) (Some 5))
 strained_example = (
   one (at_least 1),
   Flagged,

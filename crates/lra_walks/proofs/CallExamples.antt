@@ -216,7 +216,8 @@ abbrev nowhere_alone : Content
 nowhere_alone = record { dims = 1; bounds = None }
 
 -- at the end of f both variables live, though no run comes there
-f_ends : Pass Content Content boxes (narrowed 1) (seq (point 5) (seq (act 5 (keep 2)) (seq (act 5 (give_any (Some 0))) (act 5 (keep 1))))) None nowhere (goes_on (value 5 nowhere ∷ []) nowhere_alone None)
+f_ends : Pass Content Content boxes (narrowed 1) (seq (point 5) (seq (act 5 (keep 2)) (seq (act 5 (give_any (Some 0))) (act 5 (keep 1))))) None nowhere
+    (goes_on (value 5 nowhere ∷ []) nowhere_alone None)
 f_ends = (
   goes_on (value 5 nowhere ∷ []) nowhere None,
   goes_on [] nowhere_alone None,

@@ -143,7 +143,8 @@ pub between_sound : (l h : ℕ) → l < 2 ^ 127 → h < 2 ^ 127 → crossed (bet
 between_sound l h low high order = ((low, high), order)
 
 -- the heads are 0..0, joined to 0..1, widened to 0.. ; there i is below 10 from 0 to 9, and 1..10 lies in the head
-heads : (set : Settings) → Grows Content Content boxes 1 0 is_small (Pass Content Content boxes set body) false 1 None (one (between 0 0)) (one (between 0 1) ∷ one (at_least 0) ∷ []) (one (at_least 0)) (turn (at_least 0) (between 0 9) (between 1 10))
+heads : (set : Settings) → Grows Content Content boxes 1 0 is_small (Pass Content Content boxes set body) false 1 None (one (between 0 0)) (one (between 0 1) ∷ one (at_least 0) ∷ [])
+    (one (at_least 0)) (turn (at_least 0) (between 0 9) (between 1 10))
 heads set = (
   one (between 0 0),
   turn (between 0 0) (between 0 0) (between 1 1),
@@ -164,7 +165,8 @@ heads set = (
 )
 
 -- narrowed once: 0..0 joined with 1..10 is 0..10
-narrowing : (set : Settings) → Narrows Content Content boxes 1 0 is_small (Pass Content Content boxes set body) 1 (one (between 0 0)) (one (at_least 0)) (turn (at_least 0) (between 0 9) (between 1 10))
+narrowing : (set : Settings) → Narrows Content Content boxes 1 0 is_small (Pass Content Content boxes set body) 1 (one (between 0 0)) (one (at_least 0))
+    (turn (at_least 0) (between 0 9) (between 1 10))
     (one (between 0 10)) (turn (between 0 10) (between 0 9) (between 1 10))
 narrowing set = (
   one (between 0 10),
@@ -239,7 +241,13 @@ none = record { dims = 0; bounds = Some [] }
 
 -- i is new and gets 0
 zero_set : StepsTo (assign 0 (form (pos 0) (pos 0 ∷ []))) (one open_interval) (one (between 0 0))
-zero_set = record { table = refl; extremes = (end_is_extreme Low (form (pos 0) (pos 0 ∷ [])) (open_interval ∷ []) (((tt, tt), refl), tt) refl, end_is_extreme High (form (pos 0) (pos 0 ∷ [])) (open_interval ∷ []) (((tt, tt), refl), tt) refl) }
+zero_set = record {
+  table = refl;
+  extremes = (
+    end_is_extreme Low (form (pos 0) (pos 0 ∷ [])) (open_interval ∷ []) (((tt, tt), refl), tt) refl,
+    end_is_extreme High (form (pos 0) (pos 0 ∷ [])) (open_interval ∷ []) (((tt, tt), refl), tt) refl,
+  );
+}
 
 pub declaring : (set : Settings) → Pass Content Content boxes set declared None none (goes_on (value 0 none ∷ []) (one (between 0 0)) None)
 declaring set = (

@@ -159,7 +159,14 @@ module _ (set : Settings) (a x y z : Interval) (o : Option (List Interval))
 
   inner_pass : Pass Content Content boxes set inner_body None (two a x) (inner_found (value 5 (two a x) ∷ []) (box_of o) (two a y) (two a z))
   inner_pass = (
-    record { entries = value 5 (two a x) ∷ value 6 (box_of o) ∷ value 7 (two a y) ∷ value 8 (two a y) ∷ value 9 (two a y) ∷ []; normal = two a z; breaks = box_of o ∷ []; continues = []; returns = two a y ∷ []; flag = None },
+    record {
+      entries = value 5 (two a x) ∷ value 6 (box_of o) ∷ value 7 (two a y) ∷ value 8 (two a y) ∷ value 9 (two a y) ∷ [];
+      normal = two a z;
+      breaks = box_of o ∷ [];
+      continues = [];
+      returns = two a y ∷ [];
+      flag = None;
+    },
     goes_on (value 10 (two a z) ∷ []) (two a z) None,
     (
       record { entries = value 5 (two a x) ∷ value 6 (box_of o) ∷ []; normal = two a y; breaks = box_of o ∷ []; continues = []; returns = []; flag = None },
@@ -205,7 +212,8 @@ inner_loop = loop_node 4 0 endless inner_body empty
 
 abbrev inner_entries : Interval → List (Entry Content)
 inner_entries a =
-    value 4 (two a (between 0 3)) ∷ value 5 (two a (between 0 3)) ∷ value 6 (two a (between 3 3)) ∷ value 7 (two a (between 0 2)) ∷ value 8 (two a (between 0 2)) ∷ value 9 (two a (between 0 2)) ∷ value 10 (two a (between 1 3)) ∷ []
+    value 4 (two a (between 0 3)) ∷ value 5 (two a (between 0 3)) ∷ value 6 (two a (between 3 3)) ∷ value 7 (two a (between 0 2)) ∷ value 8 (two a (between 0 2)) ∷ value 9 (two a (between 0 2)) ∷
+    value 10 (two a (between 1 3)) ∷ []
 
 -- it is left by `break` alone, with b 3, and returns with b 0..2
 abbrev inner_loop_found : Interval → Result Content
@@ -230,22 +238,26 @@ module _ (set : Settings) (a : Interval) (sound : IsSound a) (order : crossed a 
   abbrev found_from : Interval → Option (List Interval) → Interval → Interval → Result Content
   found_from x o y z = inner_found (value 4 (two a x) ∷ value 5 (two a x) ∷ []) (box_of o) (two a y) (two a z)
 
-  inner_heads : Grows Content Content boxes 4 0 endless (Pass Content Content boxes set loop_body) false 1 None (two a (between 0 0)) (two a (between 0 1) ∷ two a (at_least 0) ∷ []) (two a (at_least 0))
+  inner_heads : Grows Content Content boxes 4 0 endless (Pass Content Content boxes set loop_body) false 1 None (two a (between 0 0)) (two a (between 0 1) ∷ two a (at_least 0) ∷ [])
+      (two a (at_least 0))
       (found_from (at_least 0) (Some (a ∷ at_least 3 ∷ [])) (between 0 2) (between 1 3))
   inner_heads = (
     two a (between 0 0),
     found_from (between 0 0) None (between 0 0) (between 1 1),
     Exact,
-    inner_from set a (between 0 0) (between 0 0) (between 1 1) None (at_three (between 0 0) None (rw order refl)) (record { table = rw order refl; extremes = tt }) (next_is (between 0 0) (between_sound 0 0 (lit< tt) (lit< tt) refl)),
+    inner_from set a (between 0 0) (between 0 0) (between 1 1) None (at_three (between 0 0) None (rw order refl)) (record { table = rw order refl; extremes = tt })
+        (next_is (between 0 0) (between_sound 0 0 (lit< tt) (lit< tt) refl)),
     (refl, (λ h. omega (arith, ints, h.1.2.1)), rw (low_joined, high_joined) refl),
     (
       two a (between 0 1),
       found_from (between 0 1) None (between 0 1) (between 1 2),
       Exact,
-      inner_from set a (between 0 1) (between 0 1) (between 1 2) None (at_three (between 0 1) None (rw order refl)) (record { table = rw order refl; extremes = tt }) (next_is (between 0 1) (between_sound 0 1 (lit< tt) (lit< tt) refl)),
+      inner_from set a (between 0 1) (between 0 1) (between 1 2) None (at_three (between 0 1) None (rw order refl)) (record { table = rw order refl; extremes = tt })
+          (next_is (between 0 1) (between_sound 0 1 (lit< tt) (lit< tt) refl)),
       (refl, (λ h. omega (arith, ints, h.1.2.1)), rw (low_joined, high_joined, low_widened, high_widened) refl),
       (
-        inner_from set a (at_least 0) (between 0 2) (between 1 3) (Some (a ∷ at_least 3 ∷ [])) (at_three (at_least 0) (Some (a ∷ at_least 3 ∷ [])) (rw order refl)) (record { table = rw order refl; extremes = tt }) (next_is (between 0 2) (between_sound 0 2 (lit< tt) (lit< tt) refl)),
+        inner_from set a (at_least 0) (between 0 2) (between 1 3) (Some (a ∷ at_least 3 ∷ [])) (at_three (at_least 0) (Some (a ∷ at_least 3 ∷ [])) (rw order refl))
+            (record { table = rw order refl; extremes = tt }) (next_is (between 0 2) (between_sound 0 2 (lit< tt) (lit< tt) refl)),
         (refl, (low_within_refl a.low, high_within_refl a.high, (omega (arith, ints), tt, tt))),
       ),
     ),
@@ -259,12 +271,14 @@ module _ (set : Settings) (a : Interval) (sound : IsSound a) (order : crossed a 
     found_from (between 0 3) (Some (a ∷ between 3 3 ∷ [])) (between 0 2) (between 1 3),
     Exact,
     (refl, rw (low_joined, high_joined) refl),
-    inner_turn set a (between 0 3) (between 0 2) (between 1 3) (Some (a ∷ between 3 3 ∷ [])) (at_three (between 0 3) (Some (a ∷ between 3 3 ∷ [])) (rw order refl)) (record { table = rw order refl; extremes = tt }) (next_is (between 0 2) (between_sound 0 2 (lit< tt) (lit< tt) refl)),
+    inner_turn set a (between 0 3) (between 0 2) (between 1 3) (Some (a ∷ between 3 3 ∷ [])) (at_three (between 0 3) (Some (a ∷ between 3 3 ∷ [])) (rw order refl))
+        (record { table = rw order refl; extremes = tt }) (next_is (between 0 2) (between_sound 0 2 (lit< tt) (lit< tt) refl)),
     (refl, refl),
   )
 
 -- nothing leaves the endless loop by its condition, so what comes behind it is what broke out
-inner_loop_pass : (a : Interval) → IsSound a → crossed a ≡ false → lesser_low a.low a.low ≡ a.low → greater_high a.high a.high ≡ a.high → widened_low a.low a.low ≡ a.low → widened_high a.high a.high ≡ a.high
+inner_loop_pass : (a : Interval) → IsSound a → crossed a ≡ false → lesser_low a.low a.low ≡ a.low → greater_high a.high a.high ≡ a.high → widened_low a.low a.low ≡ a.low →
+    widened_high a.high a.high ≡ a.high
     → Pass Content Content boxes (narrowed 1) inner_loop None (two a (between 0 0)) (inner_loop_found a)
 inner_loop_pass a sound order low_joined high_joined low_widened high_widened = (
   two a (between 3 3),
@@ -291,7 +305,8 @@ inner_loop_pass a sound order low_joined high_joined low_widened high_widened = 
 
 -- the outer loop's body: its point is 2, and the points inside are 3 to 12
 abbrev outer_body : Node
-outer_body = seq (seq (seq (point 3) (act 3 (give 0 (Some 1) (literal 0)))) (seq inner_loop (seq (seq (point 11) (act 11 (give 0 (Some 0) (binary plus a_is (literal 1))))) empty))) (seq (point 12) (act 12 (keep 2)))
+outer_body = seq (seq (seq (point 3) (act 3 (give 0 (Some 1) (literal 0)))) (seq inner_loop (seq (seq (point 11) (act 11 (give 0 (Some 0) (binary plus a_is (literal 1))))) empty)))
+    (seq (point 12) (act 12 (keep 2)))
 
 abbrev outer_condition : Cond
 outer_condition = compare below a_is (literal 5)
@@ -325,7 +340,14 @@ module _ (x y z u : Interval)
     (inner : Pass Content Content boxes (narrowed 1) inner_loop None (two y (between 0 0)) (inner_loop_found y)) (is_next : StepsTo (assign 0 next_a) (two y (between 3 3)) (two u (between 3 3))) where
   outer_pass : Pass Content Content boxes (narrowed 1) outer_body None (two y z) (outer_found [] y z u)
   outer_pass = (
-    record { entries = value 3 (two y z) ∷ (inner_entries y ++ value 11 (two y (between 3 3)) ∷ []); normal = two u (between 3 3); breaks = []; continues = []; returns = two y (between 0 2) ∷ []; flag = None },
+    record {
+      entries = value 3 (two y z) ∷ (inner_entries y ++ value 11 (two y (between 3 3)) ∷ []);
+      normal = two u (between 3 3);
+      breaks = [];
+      continues = [];
+      returns = two y (between 0 2) ∷ [];
+      flag = None;
+    },
     goes_on (value 12 (two u (between 3 3)) ∷ []) (two u (between 3 3)) None,
     (
       goes_on (value 3 (two y z) ∷ []) (two y (between 0 0)) None,
@@ -362,7 +384,8 @@ module _ (x y z u : Interval)
     refl,
   )
 
-  outer_turn : GoesRound Content Content boxes 2 0 outer_condition (Pass Content Content boxes (narrowed 1) (seq (catch 2 continued outer_body) empty)) None (two x z) (outer_found (value 2 (two x z) ∷ []) y z u)
+  outer_turn : GoesRound Content Content boxes 2 0 outer_condition (Pass Content Content boxes (narrowed 1) (seq (catch 2 continued outer_body) empty)) None (two x z)
+      (outer_found (value 2 (two x z) ∷ []) y z u)
   outer_turn = (
     two y z,
     Exact,
@@ -378,11 +401,18 @@ module _ (x y z u : Interval)
     refl,
   )
 
-  outer_from : GoesFrom Content Content boxes 2 0 outer_condition (Pass Content Content boxes (narrowed 1) (seq (catch 2 continued outer_body) empty)) (two x z) None (two x z) (outer_found (value 2 (two x z) ∷ []) y z u)
+  outer_from : GoesFrom Content Content boxes 2 0 outer_condition (Pass Content Content boxes (narrowed 1) (seq (catch 2 continued outer_body) empty)) (two x z) None (two x z)
+      (outer_found (value 2 (two x z) ∷ []) y z u)
   outer_from = (Exact, (refl, refl), outer_turn)
 
 zeroed : (y z : Interval) → IsSound y → IsSound z → StepsTo (assign 1 zero_form) (two y z) (two y (between 0 0))
-zeroed y z first second = record { table = refl; extremes = (end_is_extreme Low zero_form (y ∷ z ∷ []) (first, (second, tt)) refl, end_is_extreme High zero_form (y ∷ z ∷ []) (first, (second, tt)) refl) }
+zeroed y z first second = record {
+  table = refl;
+  extremes = (
+    end_is_extreme Low zero_form (y ∷ z ∷ []) (first, (second, tt)) refl,
+    end_is_extreme High zero_form (y ∷ z ∷ []) (first, (second, tt)) refl,
+  );
+}
 
 next_is_a : (y z : Interval) → IsSound y → IsSound z → StepsTo (assign 0 next_a) (two y z) (stepped (assign 0 next_a) (two y z))
 next_is_a y z first second = record { table = refl; extremes = (end_is_extreme Low next_a (y ∷ z ∷ []) (first, (second, tt)) refl, end_is_extreme High next_a (y ∷ z ∷ []) (first, (second, tt)) refl) }
@@ -429,7 +459,8 @@ outer_heads = (
   ),
 )
 
-outer_narrowing : Narrows Content Content boxes 2 0 outer_condition (Pass Content Content boxes (narrowed 1) (seq (catch 2 continued outer_body) empty)) 1 (two (between 0 0) (between 0 0)) (two (at_least 0) (between 0 3))
+outer_narrowing : Narrows Content Content boxes 2 0 outer_condition (Pass Content Content boxes (narrowed 1) (seq (catch 2 continued outer_body) empty)) 1 (two (between 0 0) (between 0 0))
+    (two (at_least 0) (between 0 3))
     (outer_found (value 2 (two (at_least 0) (between 0 3)) ∷ []) (between 0 4) (between 0 3) (between 1 5))
     (two (between 0 5) (between 0 3)) (outer_found (value 2 (two (between 0 5) (between 0 3)) ∷ []) (between 0 4) (between 0 3) (between 1 5))
 outer_narrowing = (
@@ -445,7 +476,8 @@ outer_narrowing = (
 -- the outer loop is left with a 5 and b 0..3, and returns with a 0..4 and b 0..2
 abbrev outer_entries : List (Entry Content)
 outer_entries =
-    value 2 (two (between 0 5) (between 0 3)) ∷ value 3 (two (between 0 4) (between 0 3)) ∷ (inner_entries (between 0 4) ++ value 11 (two (between 0 4) (between 3 3)) ∷ value 12 (two (between 1 5) (between 3 3)) ∷ [])
+    value 2 (two (between 0 5) (between 0 3)) ∷ value 3 (two (between 0 4) (between 0 3)) ∷
+    (inner_entries (between 0 4) ++ value 11 (two (between 0 4) (between 3 3)) ∷ value 12 (two (between 1 5) (between 3 3)) ∷ [])
 
 abbrev outer_result : Result Content
 outer_result = record { entries = outer_entries; normal = two (between 5 5) (between 0 3); breaks = []; continues = []; returns = two (between 0 4) (between 0 2) ∷ []; flag = None }
@@ -583,7 +615,14 @@ nested_written = (
     goes_on (value 14 end_box ∷ []) end_box None,
     (
       goes_on (value 0 none ∷ []) (one (between 0 0)) None,
-      record { entries = value 1 (one (between 0 0)) ∷ (outer_entries ++ value 13 end_box ∷ failing 13 nowhere ∷ []); normal = end_box; breaks = []; continues = []; returns = two (between 0 4) (between 0 2) ∷ []; flag = None },
+      record {
+        entries = value 1 (one (between 0 0)) ∷ (outer_entries ++ value 13 end_box ∷ failing 13 nowhere ∷ []);
+        normal = end_box;
+        breaks = [];
+        continues = [];
+        returns = two (between 0 4) (between 0 2) ∷ [];
+        flag = None;
+      },
       declaring (narrowed 1),
       (
         goes_on (value 1 (one (between 0 0)) ∷ []) (two (between 0 0) (between 0 0)) None,

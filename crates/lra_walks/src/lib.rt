@@ -1,4 +1,5 @@
-//! Worked examples of the iteration over boxes: as lemmas on its definitions, in `proofs/`, and as tests of the analysis.
+//! Worked examples of the iteration over boxes: as lemmas on its definitions, in `proofs/`, and as tests of the
+//! analysis.
 #![tactic(auto)]
 
 #[cfg(test)]

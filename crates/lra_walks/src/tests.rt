@@ -1,5 +1,5 @@
-//! Analyses over boxes of `long x = input(); if (..) assert(x >= 0); else assert(x >= 0);` and its end, where the condition is `x >= 1` in
-//! parentheses of ever more levels.
+//! Analyses over boxes of `long x = input(); if (..) assert(x >= 0); else assert(x >= 0);` and its end, where the
+//! condition is `x >= 1` in parentheses of ever more levels.
 
 ghost use Rattle.std.specs.Prelude.{◌≡◌, map, IfOk};
 ghost use Rattle.lra_tree.specs.Graph as graph;
@@ -73,14 +73,16 @@ fn behind(alloc: Global, op: Op, node: Node) -> Result<Node, AllocError>
 
 /// The point and its assertion.
 fn assertion(alloc: Global, point: usize, condition: Cond) -> Result<Node, AllocError>
-    ensures { IfOk result (λ g. node_view g ≡ graph.seq (graph.point point) (graph.check point 0 (cond_view condition))) }
+    ensures { IfOk result (λ g. node_view g ≡ graph.seq (graph.point point)
+        (graph.check point 0 (cond_view condition))) }
 {
     behind_point(alloc, point, Node::Check(point, 0, condition))
 }
 
 /// The second point and its branches.
 fn choice(alloc: Global, condition: Cond, yes: Node, no: Node) -> Result<Node, AllocError>
-    ensures { IfOk result (λ g. node_view g ≡ graph.seq (graph.point 1) (graph.choose 1 0 (cond_view condition) (node_view yes) (node_view no))) }
+    ensures { IfOk result (λ g. node_view g ≡ graph.seq (graph.point 1)
+        (graph.choose 1 0 (cond_view condition) (node_view yes) (node_view no))) }
 {
     let branches = Node::Choose(1, 0, condition, Box::new(alloc, yes)?, Box::new(alloc, no)?);
     behind_point(alloc, 1, branches)
@@ -131,8 +133,8 @@ fn rows_of(alloc: Global, value: &Boxes) -> Result<Vec<[i128; 2]>, AllocError> {
     Ok(rows)
 }
 
-/// Where x >= 1 the assertion x >= 0 is proved, and elsewhere it isn't; x >= 0 holds at the end. Sixty-three levels take the time of sixty-three
-/// comparisons: were each side of a condition made by itself, nobody would wait for it.
+/// Where x >= 1 the assertion x >= 0 is proved, and elsewhere it isn't; x >= 0 holds at the end. Sixty-three levels
+/// take the time of sixty-three comparisons: were each side of a condition made by itself, nobody would wait for it.
 #[test]
 fn levels_of_conditions(rt: HostRuntime) -> Result<(), AllocError> {
     let alloc = rt.alloc();

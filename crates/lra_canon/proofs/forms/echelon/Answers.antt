@@ -25,7 +25,8 @@ returns-in_err-form-clause-excess c =
     let l : c.loop-row.row-index < length c.args.lines.now.items = subst (λ (xs : List (List ℤ)). c.loop-row.row-index < length xs) e c.loop-row-test.true in
     let g = subst (λ (xs : List (List ℤ)). c.row-item.result ≡ get_or xs c.loop-row.row-index c.row-item.result) e c.row-item.is in
     let p = err_from_is_err_and c.from_residual.result c.from_residual.ensures.1 in
-    let f = extension_strains c.args.lines.now.items c.loop-row.form.items c.loop-row.row-index c.row-item.result c.in_err-form.field-0.0 c.requires.width l g c.loop-row.invariant c.in_err-form.ensures.excess in
+    let f = extension_strains c.args.lines.now.items c.loop-row.form.items c.loop-row.row-index c.row-item.result c.in_err-form.field-0.0 c.requires.width l g c.loop-row.invariant
+    c.in_err-form.ensures.excess in
     rw (p.1, p.2) f
 
 pub loop-row-preserved : goal.loop-row-preserved

@@ -10,7 +10,8 @@ pub loop-place-preserved : goal.loop-place-preserved
 loop-place-preserved c =
     elim c.if-is_covered.branch [
       | then-is_covered w ↦ rw w.gone-is
-          (marks_more c.args.rows.now c.args.saturation.now c.loop-place.gone w.set.new.self c.loop-place.place c.requires (omega (arith, c.loop-place-test.true)) w.set.ensures (c.is_covered.ensures.0 w.if-is_covered.true) c.loop-place.invariant)
+          (marks_more c.args.rows.now c.args.saturation.now c.loop-place.gone w.set.new.self c.loop-place.place c.requires (omega (arith, c.loop-place-test.true)) w.set.ensures
+          (c.is_covered.ensures.0 w.if-is_covered.true) c.loop-place.invariant)
       | else-is_covered w ↦ rw w.gone-is
           (marks_stay c.args.rows.now c.args.saturation.now c.loop-place.gone c.loop-place.place (λ x. true≢false (sym (c.is_covered.ensures.1 x) ∙ w.if-is_covered.false)) c.loop-place.invariant)
     ]

@@ -13,7 +13,8 @@ loop-k-preserved c =
     let none : List ℤ = [] in
     elim c.if-not-get.branch [
       | then-not-get w ↦ rw (w.rows-is, w.kept-is)
-          (kept_stays c.args.gone.now rows c.loop-k.rows.items w.swap.new.self.items c.loop-k.kept c.loop-k.k none c.requires inside (sym c.get.ensures ∙ w.if-not-get.true) w.swap.ensures.items c.loop-k.invariant)
+          (kept_stays c.args.gone.now rows c.loop-k.rows.items w.swap.new.self.items c.loop-k.kept c.loop-k.k none c.requires inside
+          (sym c.get.ensures ∙ w.if-not-get.true) w.swap.ensures.items c.loop-k.invariant)
       | else-not-get w ↦ rw (w.rows-is, w.kept-is)
           (kept_gone c.args.gone.now rows c.loop-k.rows.items c.loop-k.kept c.loop-k.k none c.requires inside (sym c.get.ensures ∙ w.if-not-get.false) c.loop-k.invariant)
     ]

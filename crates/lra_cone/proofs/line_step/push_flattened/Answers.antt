@@ -13,5 +13,7 @@ loop-place-preserved c =
     let inside : place < length rows = omega (arith, c.loop-place-test.true, c.loop-place.auto.place-end) in
     let fits : FitsSigned w128 (get_or products place (pos 0)) = search rules in
     let none : List ℤ = [] in
-    let flat = subst (λ (r : List ℤ). IsFlattened c.args.line.now (get_or products place (pos 0)) r c.in-Ok.flat) (at_place rows place c.index-rows-place.result none inside c.index-rows-place.is) (simp to_z-of_z at c.in-Ok.ensures.ok) in
-    flattened_more c.args.line.now products rows c.args.out.now.items c.loop-place.out.items c.push.new.self.items place c.in-Ok.flat c.requires.each inside c.in_ok-push-in-Ok.ensures.items flat c.loop-place.invariant
+    let flat = subst (λ (r : List ℤ). IsFlattened c.args.line.now (get_or products place (pos 0)) r c.in-Ok.flat) (at_place rows place c.index-rows-place.result none inside c.index-rows-place.is)
+    (simp to_z-of_z at c.in-Ok.ensures.ok) in
+    flattened_more c.args.line.now products rows c.args.out.now.items c.loop-place.out.items c.push.new.self.items place c.in-Ok.flat c.requires.each inside c.in_ok-push-in-Ok.ensures.items flat
+    c.loop-place.invariant

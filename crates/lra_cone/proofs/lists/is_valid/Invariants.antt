@@ -1,5 +1,6 @@
 use Rattle.std.proofs.Common.{take}
-use Rattle.lra_sys.specs.Listed.{given_by, is_equality}
+use Rattle.lra_sys.specs.Listed.{given_by}
+use Rattle.lra_linear.specs.Kinds.{is_equality}
 use Rattle.lra_cone.specs.Conversions.{IsValid}
 use Rattle.lra_cone.proofs.lists.is_valid.Given as goal
 

@@ -1,6 +1,7 @@
 use Rattle.std.proofs.Common.{◌≡◌, length, suc}
 use Rattle.std.specs.List.{All}
-use Rattle.lra_sys.specs.Listed.{constraints, is_equality}
+use Rattle.lra_sys.specs.Listed.{constraints}
+use Rattle.lra_linear.specs.Kinds.{is_equality}
 use Rattle.lra_cone.specs.Conversions.{IsValid}
 use Rattle.lra_cone.proofs.lists.valid_rows.Given as goal
 

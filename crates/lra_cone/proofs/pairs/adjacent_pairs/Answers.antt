@@ -12,5 +12,6 @@ loop-up-preserved c =
     let fits : FitsSigned w128 (get_or products up (pos 0)) = search rules in
     elim c.if-products-up-gt0.branch [
       | then-products-up-gt0+in_ok-push_pairs_of w ↦ rw (w.pairs-is) (w.in_ok-push_pairs_of.ensures c.loop-up.invariant)
-      | else-products-up-gt0 w ↦ rw (w.pairs-is) (pairs_skip_row c.args.products.now c.args.saturation.now.rows c.loop-up.up c.loop-up.pairs.items (not_less_said (pos 0) (get_or products up (pos 0)) (simp to_z-of_z at w.if-products-up-gt0.false)) c.loop-up.invariant)
+      | else-products-up-gt0 w ↦ rw (w.pairs-is) (pairs_skip_row c.args.products.now c.args.saturation.now.rows c.loop-up.up c.loop-up.pairs.items
+          (not_less_said (pos 0) (get_or products up (pos 0)) (simp to_z-of_z at w.if-products-up-gt0.false)) c.loop-up.invariant)
     ]

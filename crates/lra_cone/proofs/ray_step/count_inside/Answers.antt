@@ -14,6 +14,8 @@ loop-k-preserved c =
     let inside = c.loop-k-test.true in
     let told = simp to_z-of_z at c.accepts.ensures in
     elim c.if-accepts.branch [
-      | then-accepts w ↦ counted (is_equality c.args.kind) products k c.loop-k.count c.if-accepts.count c.accepts.result inside told (w.count-is ∙ ap (λ (b : Bool). c.loop-k.count + cond b 1 0) (sym w.if-accepts.true)) c.loop-k.invariant
-      | else-accepts w ↦ counted (is_equality c.args.kind) products k c.loop-k.count c.if-accepts.count c.accepts.result inside told (w.count-is ∙ plus_none c.loop-k.count ∙ ap (λ (b : Bool). c.loop-k.count + cond b 1 0) (sym w.if-accepts.false)) c.loop-k.invariant
+      | then-accepts w ↦ counted (is_equality c.args.kind) products k c.loop-k.count c.if-accepts.count c.accepts.result inside told
+          (w.count-is ∙ ap (λ (b : Bool). c.loop-k.count + cond b 1 0) (sym w.if-accepts.true)) c.loop-k.invariant
+      | else-accepts w ↦ counted (is_equality c.args.kind) products k c.loop-k.count c.if-accepts.count c.accepts.result inside told
+          (w.count-is ∙ plus_none c.loop-k.count ∙ ap (λ (b : Bool). c.loop-k.count + cond b 1 0) (sym w.if-accepts.false)) c.loop-k.invariant
     ]

@@ -8,10 +8,12 @@ pub overflow_add-count : goal.overflow_add-count
 overflow_add-count c = omega (arith, c.count_inside.ensures.most, c.requires.each, c.requires.few, c.len.ensures, c.in_ok-pairs.pairs.small)
 
 pub combinations-requires-clause-up : goal.combinations-requires-clause-up
-combinations-requires-clause-up c = pairs_up c.args.products.now c.args.saturation.now.rows (length c.args.rays.now) c.in_ok-pairs.pairs.items c.deref.result.now c.deref.ensures.value c.requires.each c.in_ok-pairs.ensures
+combinations-requires-clause-up c = pairs_up c.args.products.now c.args.saturation.now.rows
+    (length c.args.rays.now) c.in_ok-pairs.pairs.items c.deref.result.now c.deref.ensures.value c.requires.each c.in_ok-pairs.ensures
 
 pub combinations-requires-clause-down : goal.combinations-requires-clause-down
-combinations-requires-clause-down c = pairs_down c.args.products.now c.args.saturation.now.rows (length c.args.rays.now) c.in_ok-pairs.pairs.items c.deref.result.now c.deref.ensures.value c.requires.each c.in_ok-pairs.ensures
+combinations-requires-clause-down c = pairs_down c.args.products.now c.args.saturation.now.rows
+    (length c.args.rays.now) c.in_ok-pairs.pairs.items c.deref.result.now c.deref.ensures.value c.requires.each c.in_ok-pairs.ensures
 
 pub cut_saturation-requires-clause-tight : goal.cut_saturation-requires-clause-tight
 cut_saturation-requires-clause-tight c =

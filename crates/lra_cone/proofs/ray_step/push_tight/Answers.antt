@@ -4,4 +4,5 @@ use Rattle.lra_cone.proofs.ray_step.push_tight.Goals as goal
 
 pub loop-pair-preserved : goal.loop-pair-preserved
 loop-pair-preserved c =
-    tight_step c.args.saturation.now c.loop-pair.saturation c.add_row.new.self c.args.pairs.now c.loop-pair.pair-index c.pair-item.result c.in_ok-row.row (omega (arith, c.loop-pair-test.true, c.loop-pair.auto.pair-index-end)) c.pair-item.is c.loop-pair.invariant c.in_ok-add_row.ensures.added c.in_ok-row.ensures
+    tight_step c.args.saturation.now c.loop-pair.saturation c.add_row.new.self c.args.pairs.now c.loop-pair.pair-index c.pair-item.result c.in_ok-row.row
+    (omega (arith, c.loop-pair-test.true, c.loop-pair.auto.pair-index-end)) c.pair-item.is c.loop-pair.invariant c.in_ok-add_row.ensures.added c.in_ok-row.ensures

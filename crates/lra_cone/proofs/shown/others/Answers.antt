@@ -10,7 +10,10 @@ loop-other-preserved c =
     let row = c.args.row.now in
     elim c.if-not-are_same.branch [
       | then-not-are_same+in_ok-copy+in_ok-push w ↦ rw (w.others-is)
-          (one_kept (without row) (without_append row) c.args.rows.now c.loop-other.other-index r w.in_ok-copy.field-0 c.loop-other.others.items w.push.new.self.items (omega (arith, c.loop-other-test.true)) c.other-item.is (ap (λ (b : Bool). cond b [] (r ∷ [])) (sym c.are_same.ensures ∙ w.if-not-are_same.true)) w.in_ok-copy.ensures w.in_ok-push.ensures.items c.loop-other.invariant)
+          (one_kept (without row) (without_append row) c.args.rows.now c.loop-other.other-index r w.in_ok-copy.field-0 c.loop-other.others.items w.push.new.self.items
+          (omega (arith, c.loop-other-test.true)) c.other-item.is (ap (λ (b : Bool). cond b [] (r ∷ [])) (sym c.are_same.ensures ∙ w.if-not-are_same.true)) w.in_ok-copy.ensures
+          w.in_ok-push.ensures.items c.loop-other.invariant)
       | else-not-are_same w ↦ rw (w.others-is)
-          (one_left (without row) (without_append row) c.args.rows.now c.loop-other.other-index r c.loop-other.others.items (omega (arith, c.loop-other-test.true)) c.other-item.is (ap (λ (b : Bool). cond b [] (r ∷ [])) (sym c.are_same.ensures ∙ w.if-not-are_same.false)) c.loop-other.invariant)
+          (one_left (without row) (without_append row) c.args.rows.now c.loop-other.other-index r c.loop-other.others.items (omega (arith, c.loop-other-test.true)) c.other-item.is
+          (ap (λ (b : Bool). cond b [] (r ∷ [])) (sym c.are_same.ensures ∙ w.if-not-are_same.false)) c.loop-other.invariant)
     ]

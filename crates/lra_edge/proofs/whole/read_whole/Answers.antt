@@ -14,6 +14,10 @@ returns-in_err-extend_from_slice-clause-whole g c =
     (piece_within _ _ _ _ _ _ before c.in-Ok.ensures.bound.0 c.read.auto.into room)
 
 pub pieces-preserved : goal.pieces-preserved
-pieces-preserved g c =
-    (grind (arith, common_steps), piece_taken _ _ _ _ _ _ c.pieces.invariant.1 c.in-Ok.ensures.bytes.0 (grind (arith, common_steps)), c.in-Ok.ensures.cause.same ∙
-        c.pieces.invariant.2, one_more _ _ c.pieces.invariant.3 c.in-Ok.ensures.success)
+pieces-preserved g c = (
+  grind (arith, common_steps),
+  piece_taken _ _ _ _ _ _ c.pieces.invariant.1 c.in-Ok.ensures.bytes.0 (grind (arith, common_steps)),
+  c.in-Ok.ensures.cause.same ∙
+      c.pieces.invariant.2,
+  one_more _ _ c.pieces.invariant.3 c.in-Ok.ensures.success,
+)

@@ -5,4 +5,5 @@ use Rattle.lra_forms.proofs.forms.+form.Given as goal
 
 abbrev pub invariant-form_of_chain-operations : goal.invariant-form_of_chain-operations
 invariant-form_of_chain-operations l =
-    rest_form l.live l.base (Some (as_linear l.form)) (map operation_view (drop l.operation-index l.operations)) ≡ rest_form l.live l.base (Some (as_linear l.fn.first)) (map operation_view l.operations)
+    rest_form l.live l.base (Some (as_linear l.form)) (map operation_view (drop l.operation-index l.operations)) ≡
+    rest_form l.live l.base (Some (as_linear l.fn.first)) (map operation_view l.operations)

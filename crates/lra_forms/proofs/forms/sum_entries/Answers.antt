@@ -11,5 +11,6 @@ loop-a-preserved c =
     let right : c.loop-a.right.now ≡ c.in-Some-split_first.b.now ∷ c.in-Some-split_first.right_behind.now = search rules in
     let pushed : c.push.new.self.items ≡ c.loop-a.sums.items ++ c.in-Some-sum_entry.sum ∷ [] = search rules in
     let is : Some c.in-Some-sum_entry.sum ≡ word (sum_of c.args.minus c.in-Some.a.now c.in-Some-split_first.b.now) = search rules in
-    rw pushed (so_far_next (entrywise (sum_of c.args.minus) c.args.ours.now c.args.theirs.now) c.loop-a.sums.items (entrywise (sum_of c.args.minus) c.in-Some.left_behind.now c.in-Some-split_first.right_behind.now)
+    rw pushed (so_far_next (entrywise (sum_of c.args.minus) c.args.ours.now c.args.theirs.now) c.loop-a.sums.items
+    (entrywise (sum_of c.args.minus) c.in-Some.left_behind.now c.in-Some-split_first.right_behind.now)
     (sum_of c.args.minus c.in-Some.a.now c.in-Some-split_first.b.now) c.in-Some-sum_entry.sum (rw (left, right) at c.loop-a.invariant) is)

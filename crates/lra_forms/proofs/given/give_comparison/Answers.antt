@@ -23,4 +23,7 @@ pub returns : goal.returns
 returns c =
     let n = c.args.rows.now.dims in
     let is = difference_there c.dims.result n c.args.base (expr_view c.args.left.now) (expr_view c.args.right.now) c.in_ok-d.field-0 c.in-Some.d c.dims.ensures c.in-Some.is c.in_ok-d.ensures in
-    rw (some_only (difference_form n c.args.base (expr_view c.args.left.now) (expr_view c.args.right.now)) c.in-Some.d is, rows_by_test c.args.op (as_linear c.in-Some.d) c.in_default-op.not-Equal c.in_default-op.not-Differs) c.in_ok-give_test-in_default-op.ensures
+    rw (
+      some_only (difference_form n c.args.base (expr_view c.args.left.now) (expr_view c.args.right.now)) c.in-Some.d is,
+      rows_by_test c.args.op (as_linear c.in-Some.d) c.in_default-op.not-Equal c.in_default-op.not-Differs,
+    ) c.in_ok-give_test-in_default-op.ensures

@@ -10,7 +10,8 @@ pub join_all-requires : goal.join_all-requires
 join_all-requires g c =
     let pushed : c.push.new.self.items ≡ c.args.inner.found.returns.items ++ c.args.inner.normal ∷ [] = search rules in
     let have : AllHave g.D.Domain.meaning (g.D.Domain.meaning.dims c.remove-first.result) c.remove-first.new.self.items =
-    (returns_have g.D.Domain.meaning c.args.inner.found.returns.items c.push.new.self.items c.remove-first.new.self.items c.args.inner.normal c.remove-first.result pushed c.remove-first.ensures.value c.remove-first.ensures.items c.requires).1 in
+    (returns_have g.D.Domain.meaning c.args.inner.found.returns.items c.push.new.self.items c.remove-first.new.self.items c.args.inner.normal c.remove-first.result pushed c.remove-first.ensures.value
+    c.remove-first.ensures.items c.requires).1 in
     rw c.as_slice.ensures.value have
 
 pub returns-clause-caught : goal.returns-clause-caught
@@ -20,7 +21,8 @@ returns-clause-caught g c =
     let joined = rw c.as_slice.ensures.value at c.in_ok-exactness.ensures.joined in (
       c.join_all.new.value,
       c.in_ok-exactness.exactness,
-      returns_joined (dropping g.D.Domain.meaning) inner.found.returns.items c.push.new.self.items c.remove-first.new.self.items inner.normal c.remove-first.result c.join_all.new.value c.in_ok-exactness.exactness
+      returns_joined (dropping g.D.Domain.meaning) inner.found.returns.items c.push.new.self.items c.remove-first.new.self.items inner.normal c.remove-first.result c.join_all.new.value
+          c.in_ok-exactness.exactness
           pushed c.remove-first.ensures.value c.remove-first.ensures.items joined,
       c.take_returns-jumps.ensures.left inner.normal c.join_all.new.value inner.flag c.note.result ∙ ap (λ f. behind returned (seen inner) c.join_all.new.value f) c.note.ensures,
     )
@@ -28,4 +30,5 @@ returns-clause-caught g c =
 pub returns-clause-dims : goal.returns-clause-dims
 returns-clause-dims g c =
     let pushed : c.push.new.self.items ≡ c.args.inner.found.returns.items ++ c.args.inner.normal ∷ [] = search rules in
-    c.in_ok-exactness.ensures.dims ∙ (returns_have g.D.Domain.meaning c.args.inner.found.returns.items c.push.new.self.items c.remove-first.new.self.items c.args.inner.normal c.remove-first.result pushed c.remove-first.ensures.value c.remove-first.ensures.items c.requires).0
+    c.in_ok-exactness.ensures.dims ∙ (returns_have g.D.Domain.meaning c.args.inner.found.returns.items c.push.new.self.items c.remove-first.new.self.items c.args.inner.normal c.remove-first.result
+    pushed c.remove-first.ensures.value c.remove-first.ensures.items c.requires).0

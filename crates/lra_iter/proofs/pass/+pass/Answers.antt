@@ -30,9 +30,15 @@ pub round-returns-clause-round : goal.round-returns-clause-round
 round-returns-clause-round g t c =
     let leaves = rw c.in_ok-on.ensures at c.in_ok-exactness.ensures.leaves in
     let passes = rw c.note-inside.ensures at c.in_ok-outcome.ensures.pass in
-    let inserted : c.insert.new.self.items ≡ insert c.in_ok-outcome.outcome.found.entries.items 0 (Value c.args.the_loop.now.point c.in_ok-found.found) = search rules in
-    (c.leave.new.value, c.in_ok-exactness.exactness, seen c.in_ok-outcome.outcome, leaves, passes, entered c.in_ok-outcome.outcome c.insert.new.self c.args.the_loop.now.point c.args.value.now
-        c.in_ok-found.found inserted c.in_ok-found.ensures)
+    let inserted : c.insert.new.self.items ≡ insert c.in_ok-outcome.outcome.found.entries.items 0 (Value c.args.the_loop.now.point c.in_ok-found.found) = search rules in (
+      c.leave.new.value,
+      c.in_ok-exactness.exactness,
+      seen c.in_ok-outcome.outcome,
+      leaves,
+      passes,
+      entered c.in_ok-outcome.outcome c.insert.new.self c.args.the_loop.now.point c.args.value.now
+          c.in_ok-found.found inserted c.in_ok-found.ensures,
+    )
 
 pub round-returns-clause-dims : goal.round-returns-clause-dims
 round-returns-clause-dims g t c =
@@ -53,7 +59,7 @@ pub grow-head-init : goal.grow-head-init
 grow-head-init g t c =
     let l = c.args.the_loop.now in
     grow_starts g.D.Domain.meaning l.settings.now l.point l.base (cond_view l.condition.now) (node_view l.body.now) c.args.first.now c.args.flag c.in_ok-head.head c.in_ok-head.ensures.started
-        c.in_ok-head.ensures.fits
+    c.in_ok-head.ensures.fits
 
 pub grow-round-requires : goal.grow-round-requires
 grow-round-requires g t c =
@@ -101,10 +107,10 @@ grow-head-preserved g t c =
     let m = g.D.Domain.meaning in
     let l = c.args.the_loop.now in
     let grew : Grew m c.head.head c.in_ok-outcome.outcome.normal (mode_at l.settings.now.limited c.head.left) c.in-Grew.exactness c.grow.new.head = rw (← c.mode_of-mode.ensures)
-        (c.in_ok-grow.ensures.grew c.in-Grew.exactness c.in-Grew.is) in
+    (c.in_ok-grow.ensures.grew c.in-Grew.exactness c.in-Grew.is) in
     let round = rw c.note-so_far_here.ensures at c.in_ok-outcome.ensures.round in
     rw c.note-so_far.ensures (grow_next m l.settings.now l.point l.base (cond_view l.condition.now) (node_view l.body.now) c.args.first.now c.args.flag c.head.left c.saturating_sub-left.result
-        c.head.so_far c.head.head c.grow.new.head
+    c.head.so_far c.head.head c.grow.new.head
     c.in_ok-value.value c.in_ok-value.exactness c.in-Grew.exactness (seen c.in_ok-outcome.outcome) c.head.invariant c.in_ok-value.ensures.values c.in_ok-value.ensures.dims round grew
     (c.in_ok-outcome.ensures.dims ∙ c.in_ok-value.ensures.dims) c.in_ok-grow.ensures.dims c.in_ok-grow.ensures.fits c.saturating_sub-left.ensures)
 
@@ -119,7 +125,7 @@ pass_loop-narrowing-init g t c =
     let l = c.args.the_loop.now in
     let grown = c.in_ok-grown.ensures in
     narrow_starts g.D.Domain.meaning l.settings.now l.point l.base (cond_view l.condition.now) (node_view l.body.now) c.args.value c.in_ok-grown.grown c.args.flag (seen c.in_ok-grown.outcome)
-        grown.grows grown.dims grown.behind grown.jumps
+    grown.grows grown.dims grown.behind grown.jumps
 
 pub pass_loop-narrowed-requires : goal.pass_loop-narrowed-requires
 pass_loop-narrowed-requires g t c = c.narrowing.invariant.behind
@@ -140,7 +146,7 @@ pass_loop-narrowing-preserved g t c =
     let counts : c.narrowing.left ≡ suc (c.narrowing.left - 1) = omega arith in
     narrow_next g.D.Domain.meaning l.settings.now l.point l.base (cond_view l.condition.now) (node_view l.body.now) c.args.value c.args.flag c.narrowing.left (c.narrowing.left - 1)
     c.narrowing.top c.in_ok-next.next (seen c.narrowing.last) (seen c.in_ok-last.last) c.in_ok-next.ensures.0 c.in_ok-next.so_far c.narrowing.invariant counts c.in_ok-next.ensures.1
-        c.in_ok-next.ensures.2
+    c.in_ok-next.ensures.2
     c.in_ok-last.ensures.round c.in_ok-last.ensures.dims c.in_ok-last.ensures.jumps
 
 pub pass_loop-leave_loop-requires : goal.pass_loop-leave_loop-requires
@@ -152,7 +158,7 @@ pass_loop-returns g t c =
     let loop = c.narrowing.invariant in
     let none : c.narrowing.left ≡ 0 = omega arith in
     let narrows = narrow_ends g.D.Domain.meaning l.settings.now l.point l.base (cond_view l.condition.now) (node_view l.body.now) c.args.value c.args.flag c.narrowing.left c.narrowing.top
-        (seen c.narrowing.last) loop none in
+    (seen c.narrowing.last) loop none in
     loop_passed g.D.Domain.meaning l.settings.now l.point l.base (cond_view l.condition.now) (node_view l.body.now) c.args.flag c.args.value loop.start c.narrowing.top
     loop.round (seen c.narrowing.last) (seen c.in_ok-outcome.outcome) loop.grown narrows c.in_ok-outcome.ensures.left loop.dims c.in_ok-outcome.ensures.dims loop.jumps
 
@@ -178,7 +184,7 @@ pub pass_choice-meet_again-requires : goal.pass_choice-meet_again-requires
 pass_choice-meet_again-requires g t c =
     let k = c.args.choice.now in
     c.in_ok-first.ensures.dims ∙ ap (live_behind (node_view k.yes.now)) c.in_ok-sides.ensures.on_dims ∙ sym c.requires.fits.2
-        ∙ ap (live_behind (node_view k.no.now)) (sym c.in_ok-sides.ensures.off_dims) ∙ sym c.in_ok-second.ensures.dims
+    ∙ ap (live_behind (node_view k.no.now)) (sym c.in_ok-sides.ensures.off_dims) ∙ sym c.in_ok-second.ensures.dims
 
 pub pass_choice-returns : goal.pass_choice-returns
 pass_choice-returns g t c =
@@ -191,7 +197,7 @@ pass_choice-returns g t c =
     let two : IsPassed m k.settings.now (node_view k.no.now) (noted k.point sides.off.exactness c.in_ok-first.first.flag) sides.off.value (seen c.in_ok-second.second) =
     record { pass = rw c.note-off_flag.ensures at c.in_ok-second.ensures.pass; dims = c.in_ok-second.ensures.dims; jumps = c.in_ok-second.ensures.jumps } in
     choice_passed m k.settings.now k.point k.base (cond_view k.condition.now) (node_view k.yes.now) (node_view k.no.now) c.args.flag c.args.value sides.on.value sides.off.value
-        sides.on.exactness sides.off.exactness
+    sides.on.exactness sides.off.exactness
     (seen c.in_ok-first.first) (seen c.in_ok-second.second) (seen c.in_ok-both.both) given.on given.on_dims one given.off given.off_dims two c.in_ok-both.ensures.joined c.in_ok-both.ensures.dims
 
 -- trees in a row ------------------------------------------------------------------------------------------------------
@@ -199,13 +205,13 @@ pass_choice-returns g t c =
 pub pass_row-row-init : goal.pass_row-row-init
 pass_row-row-init g t c =
     row_starts g.D.Domain.meaning c.args.settings.now (row (map node_view c.args.trees.now) (node_view c.args.last.now)) c.args.flag c.args.value c.nothing-found.result c.requires.few
-        c.requires.fits c.nothing-found.ensures
+    c.requires.fits c.nothing-found.ensures
 
 pub pass_row-pass-requires : goal.pass_row-pass-requires
 pass_row-pass-requires g t c =
     let m = g.D.Domain.meaning in
     let small : node_size c.tree-item.result ≤ row_size c.args.trees.now c.args.last.now = tree_small c.args.trees.now c.row.tree-index c.tree-item.result c.args.last.now c.row-test.true
-        c.tree-item.is in
+    c.tree-item.is in
     let few : m.dims c.row.behind ≤ 2 ^ 30 = c.row.invariant.few in
     let fits : TreeFits (node_view c.tree-item.result) (m.dims c.row.behind) =
     next_fits m c.args.settings.now (row (map node_view c.args.trees.now) (node_view c.args.last.now)) c.args.flag c.args.value _ c.row.found c.row.behind c.row.so_far c.row.invariant _ _
@@ -217,7 +223,7 @@ pass_row-row-preserved g t c =
     let done = c.in_ok-part.ensures in
     let taken = c.in_ok-value.ensures in
     row_next g.D.Domain.meaning c.args.settings.now (row (map node_view c.args.trees.now) (node_view c.args.last.now)) c.args.flag c.args.value _ c.row.found c.row.behind c.row.so_far
-        c.row.invariant _ _
+    c.row.invariant _ _
     (row_at c.args.trees.now c.row.tree-index c.tree-item.result c.args.last.now c.row-test.true c.tree-item.is)
     c.in_ok-part.part c.take.new.self c.in_ok-value.value c.in_ok-value.flag (record { pass = done.pass; dims = done.dims; jumps = done.jumps }) taken.0 taken.1 taken.2
 
@@ -227,7 +233,7 @@ pass_row-pass-requires-2 g t c =
     let few : m.dims c.row.behind ≤ 2 ^ 30 = c.row.invariant.few in
     let fits : TreeFits (node_view c.args.last.now) (m.dims c.row.behind) =
     last_fits m c.args.settings.now (row (map node_view c.args.trees.now) (node_view c.args.last.now)) c.args.flag c.args.value _ c.row.found c.row.behind c.row.so_far c.row.invariant
-        (node_view c.args.last.now)
+    (node_view c.args.last.now)
     (row_done c.args.trees.now c.row.tree-index c.args.last.now c.row-test.false) in
     search rules
 
@@ -236,7 +242,7 @@ pass_row-returns g t c =
     let done = c.in_ok-end.ensures in
     let taken = c.in_ok-normal.ensures in
     row_ends g.D.Domain.meaning c.args.settings.now (row (map node_view c.args.trees.now) (node_view c.args.last.now)) c.args.flag c.args.value _ c.row.found c.row.behind c.row.so_far
-        c.row.invariant (node_view c.args.last.now)
+    c.row.invariant (node_view c.args.last.now)
     (row_done c.args.trees.now c.row.tree-index c.args.last.now c.row-test.false)
     c.in_ok-end.end c.take-2.new.self c.in_ok-normal.normal c.in_ok-normal.flag (record { pass = done.pass; dims = done.dims; jumps = done.jumps }) taken.0 taken.1 taken.2
 
@@ -298,7 +304,7 @@ pass-pass_row-requires g t c =
     let n = g.D.Domain.meaning.dims c.args.value in
     let shown = seq_shown c.args.node.now c.deref-in-Seq.result.now c.deref.result.now c.in-Seq.trees c.in-Seq.last c.deref.ensures.value c.deref-in-Seq.ensures c.in-Seq.is in
     let sized : node_size c.args.node.now ≡ 1 + row_size c.deref.result.now c.deref-in-Seq.result.now = seq_sized c.args.node.now c.deref-in-Seq.result.now c.deref.result.now c.in-Seq.trees
-        c.in-Seq.last c.deref.ensures.value c.deref-in-Seq.ensures c.in-Seq.is in
+    c.in-Seq.last c.deref.ensures.value c.deref-in-Seq.ensures c.in-Seq.is in
     let fits : TreeFits (row (map node_view c.deref.result.now) (node_view c.deref-in-Seq.result.now)) n = subst (λ x. TreeFits x n) shown c.requires.fits in
     search rules
 
@@ -321,12 +327,12 @@ pub pass-pass_choice-requires : goal.pass-pass_choice-requires
 pass-pass_choice-requires g t c =
     let n = g.D.Domain.meaning.dims c.args.value in
     let shown = choose_shown c.args.node.now c.deref-in-Choose.result.now c.deref-in-Choose-2.result.now c.in-Choose.yes c.in-Choose.no c.deref-in-Choose.ensures c.deref-in-Choose-2.ensures
-        c.in-Choose.point c.in-Choose.base c.in-Choose.condition c.in-Choose.is in
+    c.in-Choose.point c.in-Choose.base c.in-Choose.condition c.in-Choose.is in
     let sized : node_size c.args.node.now ≡ 1 + (node_size c.deref-in-Choose.result.now + node_size c.deref-in-Choose-2.result.now) = choose_sized c.args.node.now c.deref-in-Choose.result.now
-        c.deref-in-Choose-2.result.now c.in-Choose.yes c.in-Choose.no c.deref-in-Choose.ensures c.deref-in-Choose-2.ensures c.in-Choose.point c.in-Choose.base c.in-Choose.condition
-        c.in-Choose.is in
+    c.deref-in-Choose-2.result.now c.in-Choose.yes c.in-Choose.no c.deref-in-Choose.ensures c.deref-in-Choose-2.ensures c.in-Choose.point c.in-Choose.base c.in-Choose.condition
+    c.in-Choose.is in
     let fits : TreeFits (graph.choose c.in-Choose.point c.in-Choose.base (cond_view c.in-Choose.condition) (node_view c.deref-in-Choose.result.now) (node_view c.deref-in-Choose-2.result.now)) n
-        = subst (λ x. TreeFits x n) shown c.requires.fits in
+    = subst (λ x. TreeFits x n) shown c.requires.fits in
     search rules
 
 pub pass-returns-in-Choose-clause-pass : goal.pass-returns-in-Choose-clause-pass
@@ -334,28 +340,28 @@ pass-returns-in-Choose-clause-pass g t c = given_pass g.D.Domain.meaning c.args.
     (graph.choose c.in-Choose.point c.in-Choose.base (cond_view c.in-Choose.condition) (node_view c.deref-in-Choose.result.now) (node_view c.deref-in-Choose-2.result.now)) c.args.flag
     c.args.value c.pass_choice.result
     (choose_shown c.args.node.now c.deref-in-Choose.result.now c.deref-in-Choose-2.result.now c.in-Choose.yes c.in-Choose.no c.deref-in-Choose.ensures c.deref-in-Choose-2.ensures
-        c.in-Choose.point c.in-Choose.base c.in-Choose.condition c.in-Choose.is) c.pass_choice.ensures
+    c.in-Choose.point c.in-Choose.base c.in-Choose.condition c.in-Choose.is) c.pass_choice.ensures
 
 pub pass-returns-in-Choose-clause-dims : goal.pass-returns-in-Choose-clause-dims
 pass-returns-in-Choose-clause-dims g t c = given_dims g.D.Domain.meaning c.args.settings.now (node_view c.args.node.now)
     (graph.choose c.in-Choose.point c.in-Choose.base (cond_view c.in-Choose.condition) (node_view c.deref-in-Choose.result.now) (node_view c.deref-in-Choose-2.result.now)) c.args.flag
     c.args.value c.pass_choice.result
     (choose_shown c.args.node.now c.deref-in-Choose.result.now c.deref-in-Choose-2.result.now c.in-Choose.yes c.in-Choose.no c.deref-in-Choose.ensures c.deref-in-Choose-2.ensures
-        c.in-Choose.point c.in-Choose.base c.in-Choose.condition c.in-Choose.is) c.pass_choice.ensures
+    c.in-Choose.point c.in-Choose.base c.in-Choose.condition c.in-Choose.is) c.pass_choice.ensures
 
 pub pass-returns-in-Choose-clause-jumps : goal.pass-returns-in-Choose-clause-jumps
 pass-returns-in-Choose-clause-jumps g t c = given_jumps g.D.Domain.meaning c.args.settings.now (node_view c.args.node.now)
     (graph.choose c.in-Choose.point c.in-Choose.base (cond_view c.in-Choose.condition) (node_view c.deref-in-Choose.result.now) (node_view c.deref-in-Choose-2.result.now)) c.args.flag
     c.args.value c.pass_choice.result
     (choose_shown c.args.node.now c.deref-in-Choose.result.now c.deref-in-Choose-2.result.now c.in-Choose.yes c.in-Choose.no c.deref-in-Choose.ensures c.deref-in-Choose-2.ensures
-        c.in-Choose.point c.in-Choose.base c.in-Choose.condition c.in-Choose.is) c.pass_choice.ensures
+    c.in-Choose.point c.in-Choose.base c.in-Choose.condition c.in-Choose.is) c.pass_choice.ensures
 
 pub pass-pass_loop-requires : goal.pass-pass_loop-requires
 pass-pass_loop-requires g t c =
     let n = g.D.Domain.meaning.dims c.args.value in
     let shown = iterate_shown c.args.node.now c.deref-in-Iterate.result.now c.in-Iterate.body c.deref-in-Iterate.ensures c.in-Iterate.point c.in-Iterate.base c.in-Iterate.condition c.in-Iterate.is in
     let sized : node_size c.args.node.now ≡ 1 + node_size c.deref-in-Iterate.result.now = iterate_sized c.args.node.now c.deref-in-Iterate.result.now c.in-Iterate.body c.deref-in-Iterate.ensures
-        c.in-Iterate.point c.in-Iterate.base c.in-Iterate.condition c.in-Iterate.is in
+    c.in-Iterate.point c.in-Iterate.base c.in-Iterate.condition c.in-Iterate.is in
     let fits = subst (λ x. TreeFits x n) shown c.requires.fits in
     let inner : TreeFits (node_view c.deref-in-Iterate.result.now) n = fits.0 in
     let closed : live_behind (node_view c.deref-in-Iterate.result.now) n ≡ n = fits.1 in
@@ -365,26 +371,26 @@ pub pass-returns-in-Iterate-clause-pass : goal.pass-returns-in-Iterate-clause-pa
 pass-returns-in-Iterate-clause-pass g t c = given_pass g.D.Domain.meaning c.args.settings.now (node_view c.args.node.now)
     (graph.iterate c.in-Iterate.point c.in-Iterate.base (cond_view c.in-Iterate.condition) (node_view c.deref-in-Iterate.result.now)) c.args.flag c.args.value c.pass_loop.result
     (iterate_shown c.args.node.now c.deref-in-Iterate.result.now c.in-Iterate.body c.deref-in-Iterate.ensures c.in-Iterate.point c.in-Iterate.base c.in-Iterate.condition c.in-Iterate.is)
-        c.pass_loop.ensures
+    c.pass_loop.ensures
 
 pub pass-returns-in-Iterate-clause-dims : goal.pass-returns-in-Iterate-clause-dims
 pass-returns-in-Iterate-clause-dims g t c = given_dims g.D.Domain.meaning c.args.settings.now (node_view c.args.node.now)
     (graph.iterate c.in-Iterate.point c.in-Iterate.base (cond_view c.in-Iterate.condition) (node_view c.deref-in-Iterate.result.now)) c.args.flag c.args.value c.pass_loop.result
     (iterate_shown c.args.node.now c.deref-in-Iterate.result.now c.in-Iterate.body c.deref-in-Iterate.ensures c.in-Iterate.point c.in-Iterate.base c.in-Iterate.condition c.in-Iterate.is)
-        c.pass_loop.ensures
+    c.pass_loop.ensures
 
 pub pass-returns-in-Iterate-clause-jumps : goal.pass-returns-in-Iterate-clause-jumps
 pass-returns-in-Iterate-clause-jumps g t c = given_jumps g.D.Domain.meaning c.args.settings.now (node_view c.args.node.now)
     (graph.iterate c.in-Iterate.point c.in-Iterate.base (cond_view c.in-Iterate.condition) (node_view c.deref-in-Iterate.result.now)) c.args.flag c.args.value c.pass_loop.result
     (iterate_shown c.args.node.now c.deref-in-Iterate.result.now c.in-Iterate.body c.deref-in-Iterate.ensures c.in-Iterate.point c.in-Iterate.base c.in-Iterate.condition c.in-Iterate.is)
-        c.pass_loop.ensures
+    c.pass_loop.ensures
 
 pub pass-pass-requires : goal.pass-pass-requires
 pass-pass-requires g t c =
     let n = g.D.Domain.meaning.dims c.args.value in
     let shown = catch_shown c.args.node.now c.deref-in-Catch.result.now c.in-Catch.body c.deref-in-Catch.ensures c.in-Catch.point c.in-Catch.exit c.in-Catch.is in
     let sized : node_size c.args.node.now ≡ 1 + node_size c.deref-in-Catch.result.now = catch_sized c.args.node.now c.deref-in-Catch.result.now c.in-Catch.body c.deref-in-Catch.ensures
-        c.in-Catch.point c.in-Catch.exit c.in-Catch.is in
+    c.in-Catch.point c.in-Catch.exit c.in-Catch.is in
     let fits : TreeFits (node_view c.deref-in-Catch.result.now) n = (subst (λ x. TreeFits x n) shown c.requires.fits).0 in
     search rules
 
@@ -394,33 +400,33 @@ pass-catch_jumps-requires g t c =
     let shown = catch_shown c.args.node.now c.deref-in-Catch.result.now c.in-Catch.body c.deref-in-Catch.ensures c.in-Catch.point c.in-Catch.exit c.in-Catch.is in
     let fits = subst (λ x. TreeFits x (m.dims c.args.value)) shown c.requires.fits in
     caught_have m c.in-Catch.point (exit_view c.in-Catch.exit) (node_view c.deref-in-Catch.result.now) (m.dims c.args.value) (seen c.in_ok-inner-in-Catch.inner) fits
-        c.in_ok-inner-in-Catch.ensures.jumps c.in_ok-inner-in-Catch.ensures.dims
+    c.in_ok-inner-in-Catch.ensures.jumps c.in_ok-inner-in-Catch.ensures.dims
 
 pub pass-returns-in_ok-inner-in-Catch-clause-pass : goal.pass-returns-in_ok-inner-in-Catch-clause-pass
 pass-returns-in_ok-inner-in-Catch-clause-pass g t c =
     let done = c.in_ok-inner-in-Catch.ensures in
     caught_pass g.D.Domain.meaning c.args.settings.now (node_view c.args.node.now) (graph.catch c.in-Catch.point (exit_view c.in-Catch.exit) (node_view c.deref-in-Catch.result.now)) c.args.flag
-        c.args.value c.catch_jumps.result
+    c.args.value c.catch_jumps.result
     (catch_shown c.args.node.now c.deref-in-Catch.result.now c.in-Catch.body c.deref-in-Catch.ensures c.in-Catch.point c.in-Catch.exit c.in-Catch.is) c.in-Catch.point (exit_view c.in-Catch.exit)
-        (node_view c.deref-in-Catch.result.now) refl (seen c.in_ok-inner-in-Catch.inner)
+    (node_view c.deref-in-Catch.result.now) refl (seen c.in_ok-inner-in-Catch.inner)
     (record { pass = done.pass; dims = done.dims; jumps = done.jumps }) c.catch_jumps.ensures.caught
 
 pub pass-returns-in_ok-inner-in-Catch-clause-dims : goal.pass-returns-in_ok-inner-in-Catch-clause-dims
 pass-returns-in_ok-inner-in-Catch-clause-dims g t c =
     let done = c.in_ok-inner-in-Catch.ensures in
     caught_dims g.D.Domain.meaning c.args.settings.now (node_view c.args.node.now) (graph.catch c.in-Catch.point (exit_view c.in-Catch.exit) (node_view c.deref-in-Catch.result.now)) c.args.flag
-        c.args.value c.catch_jumps.result
+    c.args.value c.catch_jumps.result
     (catch_shown c.args.node.now c.deref-in-Catch.result.now c.in-Catch.body c.deref-in-Catch.ensures c.in-Catch.point c.in-Catch.exit c.in-Catch.is) c.in-Catch.point (exit_view c.in-Catch.exit)
-        (node_view c.deref-in-Catch.result.now) refl (seen c.in_ok-inner-in-Catch.inner)
+    (node_view c.deref-in-Catch.result.now) refl (seen c.in_ok-inner-in-Catch.inner)
     (record { pass = done.pass; dims = done.dims; jumps = done.jumps }) c.catch_jumps.ensures.dims
 
 pub pass-returns-in_ok-inner-in-Catch-clause-jumps : goal.pass-returns-in_ok-inner-in-Catch-clause-jumps
 pass-returns-in_ok-inner-in-Catch-clause-jumps g t c =
     let done = c.in_ok-inner-in-Catch.ensures in
     caught_jumps g.D.Domain.meaning c.args.settings.now (node_view c.args.node.now) (graph.catch c.in-Catch.point (exit_view c.in-Catch.exit) (node_view c.deref-in-Catch.result.now)) c.args.flag
-        c.args.value c.catch_jumps.result
+    c.args.value c.catch_jumps.result
     (catch_shown c.args.node.now c.deref-in-Catch.result.now c.in-Catch.body c.deref-in-Catch.ensures c.in-Catch.point c.in-Catch.exit c.in-Catch.is) c.in-Catch.point (exit_view c.in-Catch.exit)
-        (node_view c.deref-in-Catch.result.now) refl (seen c.in_ok-inner-in-Catch.inner)
+    (node_view c.deref-in-Catch.result.now) refl (seen c.in_ok-inner-in-Catch.inner)
     (record { pass = done.pass; dims = done.dims; jumps = done.jumps }) c.catch_jumps.ensures.caught
 
 pub pass-returns-in-Leave-clause-pass : goal.pass-returns-in-Leave-clause-pass

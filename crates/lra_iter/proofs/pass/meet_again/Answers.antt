@@ -7,5 +7,10 @@ pub returns-clause-joined : goal.returns-clause-joined
 returns-clause-joined g c =
     let one = c.args.first in
     let two = c.args.second in
-    let found = c.in_ok-append.ensures one.normal two.normal c.join.new.self one.flag two.flag c.note-both.result in
-    (c.join.new.self, c.in_ok-exactness.exactness, (c.in_ok-exactness.ensures.joins, sym c.requires, c.in_ok-exactness.ensures.dims), found ∙ ap (λ f. in_turn (seen one) (seen two) c.join.new.self f) c.note-both.ensures)
+    let found = c.in_ok-append.ensures one.normal two.normal c.join.new.self one.flag two.flag c.note-both.result in (
+      c.join.new.self,
+      c.in_ok-exactness.exactness,
+      (c.in_ok-exactness.ensures.joins, sym c.requires, c.in_ok-exactness.ensures.dims),
+      found ∙
+          ap (λ f. in_turn (seen one) (seen two) c.join.new.self f) c.note-both.ensures,
+    )

@@ -15,14 +15,16 @@ returns-clause-solves g c =
     let sites = c.args.sites.now in
     let tabled = rw c.into_entries-entries.ensures at c.in_ok-tables.ensures in
     let verdicts = rw c.deref.ensures.value at c.in_ok-numbered_in.ensures in
-    tables_solve g.D.Domain.meaning (map site_view sites) (seen c.args.outcome) (length sites) c.in_ok-tables.tables.values.items c.in_ok-tables.tables.verdicts.items (sym (length-map sites site_view)) c.requires
+    tables_solve g.D.Domain.meaning (map site_view sites) (seen c.args.outcome) (length sites) c.in_ok-tables.tables.values.items c.in_ok-tables.tables.verdicts.items
+    (sym (length-map sites site_view)) c.requires
     tabled c.in_ok-held_in.field-0.items c.in_ok-numbered_in.field-0.items c.args.outcome.flag c.in_ok-held_in.ensures verdicts refl
 
 pub returns-clause-points : goal.returns-clause-points
 returns-clause-points g c =
     let sites = c.args.sites.now in
     let tabled = rw c.into_entries-entries.ensures at c.in_ok-tables.ensures in
-    let count = values_count g.D.Domain.meaning (map site_view sites) (seen c.args.outcome) (length sites) c.in_ok-tables.tables.values.items c.in_ok-tables.tables.verdicts.items (sym (length-map sites site_view)) c.requires
+    let count = values_count g.D.Domain.meaning (map site_view sites) (seen c.args.outcome) (length sites) c.in_ok-tables.tables.values.items c.in_ok-tables.tables.verdicts.items
+    (sym (length-map sites site_view)) c.requires
     tabled c.in_ok-held_in.field-0.items c.in_ok-held_in.ensures in
     rw (length-map sites site_view) at count
 
@@ -31,5 +33,6 @@ returns-clause-assertions g c =
     let sites = c.args.sites.now in
     let tabled = rw c.into_entries-entries.ensures at c.in_ok-tables.ensures in
     let verdicts = rw c.deref.ensures.value at c.in_ok-numbered_in.ensures in
-    verdicts_count g.D.Domain.meaning (map site_view sites) (seen c.args.outcome) (length sites) c.in_ok-tables.tables.values.items c.in_ok-tables.tables.verdicts.items (sym (length-map sites site_view)) c.requires
+    verdicts_count g.D.Domain.meaning (map site_view sites) (seen c.args.outcome) (length sites) c.in_ok-tables.tables.values.items c.in_ok-tables.tables.verdicts.items
+    (sym (length-map sites site_view)) c.requires
     tabled c.in_ok-numbered_in.field-0.items verdicts

@@ -8,6 +8,7 @@ pub places-preserved : goal.places-preserved
 places-preserved c =
     let table = c.args.table.now in
     elim c.match-place.branch [
-      | in-Some+in_ok-push w ↦ ap (λ (v : Vec (ℕ × Bool) Global). v.items) w.numbered-is ∙ w.in_ok-push.ensures.items ∙ place_some table c.places.number c.places.numbered.items c.places-test.true c.places.invariant w.in-Some.proved w.in-Some.is
+      | in-Some+in_ok-push w ↦ ap (λ (v : Vec (ℕ × Bool) Global). v.items) w.numbered-is ∙ w.in_ok-push.ensures.items ∙
+          place_some table c.places.number c.places.numbered.items c.places-test.true c.places.invariant w.in-Some.proved w.in-Some.is
       | in_default w ↦ ap (λ (v : Vec (ℕ × Bool) Global). v.items) w.numbered-is ∙ place_none table c.places.number c.places.numbered.items c.places-test.true c.places.invariant w.in_default.is
     ]

@@ -19,7 +19,8 @@ read_test-returns-then-next_is-clause-gives t c =
 
 pub read_negation-returns-then-next_is-clause-shorter : goal.read_negation-returns-then-next_is-clause-shorter
 read_negation-returns-then-next_is-clause-shorter t c =
-    negation_shorter c.opposed_again.result (opposite_again (negation_view c.in_ok-negation.negation)) c.in_ok-negation.after.now c.args.rest.now c.in_ok-negation.ensures.shorter c.opposed_again.ensures
+    negation_shorter c.opposed_again.result (opposite_again (negation_view c.in_ok-negation.negation)) c.in_ok-negation.after.now c.args.rest.now c.in_ok-negation.ensures.shorter
+    c.opposed_again.ensures
 
 pub read_negation-returns-then-next_is-clause-gives : goal.read_negation-returns-then-next_is-clause-gives
 read_negation-returns-then-next_is-clause-gives t c =
@@ -52,7 +53,8 @@ read_conjunction-tests-preserved t c = record {
   room = omega (arith, c.in_ok-test.ensures.shorter, c.tail.ensures.shorter);
   same = grown_turn next_and refl (λ c k t. and c t) (test_at c.args.depth) _ _
       (tt {0}) (test_view c.in_ok-test.test) c.tests.left.now c.tail.result.now c.in_ok-test.after.now (conjunction_at c.args.depth c.args.rest.now)
-      (list_grown (all_tests _) test_view c.tests.tests.items c.push.new.self.items c.in_ok-test.test c.in_ok-push.ensures.items ∙ and_push _ (map test_view c.tests.tests.items) (test_view c.in_ok-test.test))
+      (list_grown (all_tests _) test_view c.tests.tests.items c.push.new.self.items c.in_ok-test.test c.in_ok-push.ensures.items ∙
+      and_push _ (map test_view c.tests.tests.items) (test_view c.in_ok-test.test))
       c.tests.invariant.same (one_on mark.And (first c.tests.left.now) c.tests-test.ensures) c.tail.ensures.value c.in_ok-test.ensures.gives c.in_ok-test.ensures.shorter;
 }
 
@@ -64,7 +66,8 @@ read_conjunction-returns-clause-gives t c =
 pub read_conjunction-returns-in_err-test-clause-gives : goal.read_conjunction-returns-in_err-test-clause-gives
 read_conjunction-returns-in_err-test-clause-gives t c =
     let p = err_from_is_err_and c.from_residual-in_err-test.result c.from_residual-in_err-test.ensures.1 in
-    rw (p.1, p.2) (chain_exit next_and refl (λ c k t. and c t) (test_at c.args.depth) _ (tt {0}) c.tests.left.now c.tail.result.now c.in_err-test.field-0.0 (conjunction_at c.args.depth c.args.rest.now)
+    rw (p.1, p.2) (chain_exit next_and refl (λ c k t. and c t) (test_at c.args.depth) _ (tt {0}) c.tests.left.now c.tail.result.now c.in_err-test.field-0.0
+    (conjunction_at c.args.depth c.args.rest.now)
     c.tests.invariant.same (one_on mark.And (first c.tests.left.now) c.tests-test.ensures) c.tail.ensures.value c.in_err-test.ensures.gives)
 
 pub read_cond-conjunctions-init : goal.read_cond-conjunctions-init
@@ -78,21 +81,26 @@ read_cond-conjunctions-init t c = record {
 pub read_cond-conjunctions-preserved : goal.read_cond-conjunctions-preserved
 read_cond-conjunctions-preserved t c = record {
   room = omega (arith, c.in_ok-conjunction.ensures.shorter, c.tail.ensures.shorter);
-  same = grown_turn next_or refl (λ c k d. or c d) (conjunction_at c.args.depth) (any_conjunction (conjunction (conjunction_view c.in_ok-first.first)) (map conjunction_view c.conjunctions.conjunctions.items))
+  same = grown_turn next_or refl (λ c k d. or c d) (conjunction_at c.args.depth) (any_conjunction (conjunction (conjunction_view c.in_ok-first.first))
+      (map conjunction_view c.conjunctions.conjunctions.items))
       (any_conjunction (conjunction (conjunction_view c.in_ok-first.first)) (map conjunction_view c.push.new.self.items))
       (tt {0}) (conjunction_view c.in_ok-conjunction.conjunction) c.conjunctions.left.now c.tail.result.now c.in_ok-conjunction.after.now (cond_at c.args.depth c.args.rest.now)
-      (list_grown (any_conjunction (conjunction (conjunction_view c.in_ok-first.first))) conjunction_view c.conjunctions.conjunctions.items c.push.new.self.items c.in_ok-conjunction.conjunction c.in_ok-push.ensures.items
+      (list_grown (any_conjunction (conjunction (conjunction_view c.in_ok-first.first))) conjunction_view c.conjunctions.conjunctions.items c.push.new.self.items c.in_ok-conjunction.conjunction
+      c.in_ok-push.ensures.items
       ∙ or_push (conjunction (conjunction_view c.in_ok-first.first)) (map conjunction_view c.conjunctions.conjunctions.items) (conjunction_view c.in_ok-conjunction.conjunction))
-      c.conjunctions.invariant.same (one_on mark.Or (first c.conjunctions.left.now) c.conjunctions-test.ensures) c.tail.ensures.value c.in_ok-conjunction.ensures.gives c.in_ok-conjunction.ensures.shorter;
+      c.conjunctions.invariant.same (one_on mark.Or (first c.conjunctions.left.now) c.conjunctions-test.ensures) c.tail.ensures.value c.in_ok-conjunction.ensures.gives
+      c.in_ok-conjunction.ensures.shorter;
 }
 
 pub read_cond-returns-clause-gives : goal.read_cond-returns-clause-gives
 read_cond-returns-clause-gives t c =
-    chain_end next_or refl (λ c k d. or c d) (conjunction_at c.args.depth) _ c.conjunctions.left.now _ c.conjunctions.invariant.same (one_off mark.Or (first c.conjunctions.left.now) c.conjunctions-test.ensures)
+    chain_end next_or refl (λ c k d. or c d) (conjunction_at c.args.depth) _ c.conjunctions.left.now _ c.conjunctions.invariant.same
+    (one_off mark.Or (first c.conjunctions.left.now) c.conjunctions-test.ensures)
     ∙ ap (λ (x : CondTree). Ok (x, c.conjunctions.left.now)) (sym (cond_is (record { first = _; rest = c.conjunctions.conjunctions })))
 
 pub read_cond-returns-in_err-conjunction-clause-gives : goal.read_cond-returns-in_err-conjunction-clause-gives
 read_cond-returns-in_err-conjunction-clause-gives t c =
     let p = err_from_is_err_and c.from_residual-in_err-conjunction.result c.from_residual-in_err-conjunction.ensures.1 in
-    rw (p.1, p.2) (chain_exit next_or refl (λ c k d. or c d) (conjunction_at c.args.depth) _ (tt {0}) c.conjunctions.left.now c.tail.result.now c.in_err-conjunction.field-0.0 (cond_at c.args.depth c.args.rest.now)
+    rw (p.1, p.2) (chain_exit next_or refl (λ c k d. or c d) (conjunction_at c.args.depth) _ (tt {0}) c.conjunctions.left.now c.tail.result.now c.in_err-conjunction.field-0.0
+    (cond_at c.args.depth c.args.rest.now)
     c.conjunctions.invariant.same (one_on mark.Or (first c.conjunctions.left.now) c.conjunctions-test.ensures) c.tail.ensures.value c.in_err-conjunction.ensures.gives)

@@ -38,7 +38,8 @@ abbrev pub invariant-read_cond-conjunctions : goal.invariant-read_cond-conjuncti
 invariant-read_cond-conjunctions l = record {
   room : length l.left ≤ length l.fn.rest;
   same : (n : ℕ) × (length l.left ≤ n)
-      × (loop (λ o. has (next_or o)) (chain_step next_or (λ c k d. or c d) (conjunction_at l.fn.depth)) n (any_conjunction (conjunction (conjunction_view l.first)) (map conjunction_view l.conjunctions.items)) l.left
+      × (loop (λ o. has (next_or o)) (chain_step next_or (λ c k d. or c d) (conjunction_at l.fn.depth)) n
+      (any_conjunction (conjunction (conjunction_view l.first)) (map conjunction_view l.conjunctions.items)) l.left
       ≡ cond_at l.fn.depth l.fn.rest);
 }
 

@@ -13,7 +13,8 @@ many-init c = record {
 pub many-preserved : goal.many-preserved
 many-preserved c = record {
   room = omega (arith, c.in_ok-parameter.ensures.shorter, c.tail.ensures.shorter);
-  read = many_turn parameter_at c.many.items.items c.push.new.self.items c.in_ok-parameter.parameter c.args.rest.now c.many.left.now c.tail.result.now c.in_ok-parameter.after.now c.in_ok-push.ensures.items
+  read = many_turn parameter_at c.many.items.items c.push.new.self.items c.in_ok-parameter.parameter c.args.rest.now c.many.left.now c.tail.result.now c.in_ok-parameter.after.now
+      c.in_ok-push.ensures.items
       c.many.invariant.read c.many-test.ensures c.tail.ensures.value c.in_ok-parameter.ensures.gives (omega (arith, c.in_ok-parameter.ensures.shorter));
 }
 
@@ -23,4 +24,5 @@ returns-clause-gives c = many_gives parameter_at c.many.items.items c.args.rest.
 pub returns-in_err-parameter-clause-gives : goal.returns-in_err-parameter-clause-gives
 returns-in_err-parameter-clause-gives c =
     let p = err_from_is_err_and c.from_residual-in_err-parameter.result c.from_residual-in_err-parameter.ensures.1 in
-    rw (p.1, p.2) (many_exit parameter_at c.many.items.items c.args.rest.now c.many.left.now c.tail.result.now c.in_err-parameter.field-0.0 c.many.invariant.read c.many-test.ensures c.tail.ensures.value c.in_err-parameter.ensures.gives)
+    rw (p.1, p.2) (many_exit parameter_at c.many.items.items c.args.rest.now c.many.left.now c.tail.result.now c.in_err-parameter.field-0.0 c.many.invariant.read c.many-test.ensures
+    c.tail.ensures.value c.in_err-parameter.ensures.gives)

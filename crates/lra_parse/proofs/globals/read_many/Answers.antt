@@ -24,18 +24,22 @@ read_global-requires c = small_tail c.globals.left.now c.tail.result.now c.tail.
 pub globals-preserved : goal.globals-preserved
 globals-preserved c = record {
   room = omega (arith, c.in_ok-global.ensures.shorter, c.tail.ensures.shorter, c.globals.invariant.room);
-  small = small_global c.tail.result.now c.in_ok-global.after.now (global_view c.in_ok-global.global) c.in_ok-global.ensures.gives (small_tail c.globals.left.now c.tail.result.now c.tail.ensures.value c.globals.invariant.small);
-  same = comma_turn mark.Comma global_at (map global_view c.globals.globals.items) (map global_view c.push.new.self.items) (global_view c.in_ok-global.global) c.globals.left.now c.tail.result.now c.in_ok-global.after.now _
+  small = small_global c.tail.result.now c.in_ok-global.after.now (global_view c.in_ok-global.global) c.in_ok-global.ensures.gives
+      (small_tail c.globals.left.now c.tail.result.now c.tail.ensures.value c.globals.invariant.small);
+  same = comma_turn mark.Comma global_at (map global_view c.globals.globals.items) (map global_view c.push.new.self.items)
+      (global_view c.in_ok-global.global) c.globals.left.now c.tail.result.now c.in_ok-global.after.now _
       (list_grown (λ (l : List GlobalTree). l) global_view c.globals.globals.items c.push.new.self.items c.in_ok-global.global c.in_ok-push.ensures.items)
       c.globals.invariant.same c.globals-test.ensures c.tail.ensures.value c.in_ok-global.ensures.gives c.in_ok-global.ensures.shorter;
 }
 
 pub returns-clause-gives : goal.returns-clause-gives
-returns-clause-gives c = from_gives (value_at c.args.name) global_at globals_of (global_view c.in_ok-first.first) (map global_view c.globals.globals.items) c.args.rest.now c.in_ok-first.left.now c.globals.left.now c.in_ok-first.ensures.gives
+returns-clause-gives c = from_gives (value_at c.args.name) global_at globals_of (global_view c.in_ok-first.first)
+    (map global_view c.globals.globals.items) c.args.rest.now c.in_ok-first.left.now c.globals.left.now c.in_ok-first.ensures.gives
     (turn_off (is_mark mark.Comma) (list_step (behind mark.Comma global_at)) (map global_view c.globals.globals.items) c.globals.left.now _ c.globals.invariant.same (sym c.globals-test.ensures))
 
 pub returns-in_err-global-clause-gives : goal.returns-in_err-global-clause-gives
 returns-in_err-global-clause-gives c =
     let p = err_from_is_err_and c.from_residual-in_err-global.result c.from_residual-in_err-global.ensures.1 in
     rw (p.1, p.2) (from_exit (value_at c.args.name) global_at globals_of (global_view c.in_ok-first.first) c.args.rest.now c.in_ok-first.left.now c.in_err-global.field-0.0 c.in_ok-first.ensures.gives
-    (comma_exit mark.Comma global_at (map global_view c.globals.globals.items) c.globals.left.now c.tail.result.now c.in_err-global.field-0.0 _ c.globals.invariant.same c.globals-test.ensures c.tail.ensures.value c.in_err-global.ensures.gives))
+    (comma_exit mark.Comma global_at (map global_view c.globals.globals.items) c.globals.left.now c.tail.result.now c.in_err-global.field-0.0 _ c.globals.invariant.same c.globals-test.ensures
+    c.tail.ensures.value c.in_err-global.ensures.gives))

@@ -7,4 +7,5 @@ use Rattle.lra_parse.proofs.loops.read_assign_to.Goals as goal
 pub returns-in_err-after-clause-gives : goal.returns-in_err-after-clause-gives
 returns-in_err-after-clause-gives c =
     let p = err_from_is_err_and c.from_residual-in_err-after.result c.from_residual-in_err-after.ensures.1 in
-    rw (p.1, p.2) (up_to_exit c.args.mark (assign_at c.args.depth) c.args.rest.now c.in_ok-assign.behind.now (assign_view c.in_ok-assign.assign) c.in_err-after.field-0.0 c.if-next_is.ensures c.in_ok-assign.ensures.gives c.in_err-after.ensures.gives)
+    rw (p.1, p.2) (up_to_exit c.args.mark (assign_at c.args.depth) c.args.rest.now c.in_ok-assign.behind.now
+    (assign_view c.in_ok-assign.assign) c.in_err-after.field-0.0 c.if-next_is.ensures c.in_ok-assign.ensures.gives c.in_err-after.ensures.gives)

@@ -15,4 +15,5 @@ pub bounds-tokens-index-2 : goal.bounds-tokens-index-2
 bounds-tokens-index-2 c = let w = fault_within c.args.tokens.now c.args.fault c.requires.ends c.requires.stops in omega (arith, w.0, w.1)
 
 pub returns : goal.returns
-returns c = subst (λ (t : Token). IsTextFault Spells c.args.tokens.now c.args.fault.cause t.place) c.index-tokens-index.is (text_fault c.args.tokens.now c.args.fault c.requires.ends c.requires.stops c.index-tokens-index.result c.index-tokens-index.is)
+returns c = subst (λ (t : Token). IsTextFault Spells c.args.tokens.now c.args.fault.cause t.place) c.index-tokens-index.is
+    (text_fault c.args.tokens.now c.args.fault c.requires.ends c.requires.stops c.index-tokens-index.result c.index-tokens-index.is)

@@ -19,13 +19,15 @@ read_body-items-init t c = record {
 pub read_body-items-preserved : goal.read_body-items-preserved
 read_body-items-preserved t c = record {
   room = omega (arith, c.in_ok-item.ensures.shorter);
-  state = state_turn c.args.depth c.items.items.items c.push.new.self.items c.in_ok-item.item c.items.left.now c.in_ok-item.after.now _ c.in_ok-push.ensures.items c.items.invariant.state c.items-test.ensures c.in_ok-item.ensures.gives c.in_ok-item.ensures.shorter;
+  state = state_turn c.args.depth c.items.items.items c.push.new.self.items c.in_ok-item.item c.items.left.now c.in_ok-item.after.now _ c.in_ok-push.ensures.items c.items.invariant.state
+      c.items-test.ensures c.in_ok-item.ensures.gives c.in_ok-item.ensures.shorter;
 }
 
 pub read_body-returns-in_err-item-clause-gives : goal.read_body-returns-in_err-item-clause-gives
 read_body-returns-in_err-item-clause-gives t c =
     let p = err_from_is_err_and c.from_residual-in_err-item.result c.from_residual-in_err-item.ensures.1 in
-    rw (p.1, p.2) (body_exit c.args.depth c.items.items.items c.args.rest.now c.in_ok-left.left.now c.items.left.now c.in_err-item.field-0.0 c.in_ok-left.ensures.gives c.items.invariant.state c.items-test.ensures c.in_err-item.ensures.gives)
+    rw (p.1, p.2) (body_exit c.args.depth c.items.items.items c.args.rest.now c.in_ok-left.left.now c.items.left.now c.in_err-item.field-0.0 c.in_ok-left.ensures.gives c.items.invariant.state
+    c.items-test.ensures c.in_err-item.ensures.gives)
 
 pub read_body-returns-clause-shorter : goal.read_body-returns-clause-shorter
 read_body-returns-clause-shorter t c = ok_shorter c.read_close.result c.items.left.now c.args.rest.now c.items.invariant.room c.read_close.ensures.shorter

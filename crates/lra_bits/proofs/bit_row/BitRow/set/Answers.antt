@@ -17,14 +17,18 @@ index_mut-requires-else-v c =
     place_of i.width i.words.items c.args.self.now c.args.k (vec_len i.words) c.self.view_is c.requires c.self.invariant.0 same
 
 pub invariant_of-self : goal.invariant_of-self
-invariant_of-self c = set_unused c.self.inside.width c.self.inside.words.items c.args.self.now c.index_mut.result.now c.args.k c.self.view_is c.requires c.self.invariant.0 c.index_mut.ensures.value c.self.invariant.1
+invariant_of-self c = set_unused c.self.inside.width c.self.inside.words.items c.args.self.now c.index_mut.result.now c.args.k c.self.view_is c.requires c.self.invariant.0 c.index_mut.ensures.value
+    c.self.invariant.1
 
 pub invariant_of-self-else-v : goal.invariant_of-self-else-v
 invariant_of-self-else-v c =
-    clear_unused c.self.inside.width c.self.inside.words.items c.args.self.now c.index_mut-else-v.result.now c.args.k c.self.view_is c.requires c.self.invariant.0 c.index_mut-else-v.ensures.value c.self.invariant.1
+    clear_unused c.self.inside.width c.self.inside.words.items c.args.self.now c.index_mut-else-v.result.now c.args.k c.self.view_is c.requires c.self.invariant.0 c.index_mut-else-v.ensures.value
+    c.self.invariant.1
 
 pub returns-then-v : goal.returns-then-v
-returns-then-v c = rw c.if-v.true (set_is c.self.inside.width c.self.inside.words.items c.args.self.now c.index_mut.result.now c.args.k c.self.view_is c.requires c.self.invariant.0 c.index_mut.ensures.value)
+returns-then-v c = rw c.if-v.true (set_is c.self.inside.width c.self.inside.words.items c.args.self.now c.index_mut.result.now c.args.k c.self.view_is c.requires c.self.invariant.0
+    c.index_mut.ensures.value)
 
 pub returns-else-v : goal.returns-else-v
-returns-else-v c = rw c.if-v.false (clear_is c.self.inside.width c.self.inside.words.items c.args.self.now c.index_mut-else-v.result.now c.args.k c.self.view_is c.requires c.self.invariant.0 c.index_mut-else-v.ensures.value)
+returns-else-v c = rw c.if-v.false (clear_is c.self.inside.width c.self.inside.words.items c.args.self.now c.index_mut-else-v.result.now c.args.k c.self.view_is c.requires c.self.invariant.0
+    c.index_mut-else-v.ensures.value)

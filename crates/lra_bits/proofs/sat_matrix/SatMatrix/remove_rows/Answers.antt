@@ -16,8 +16,11 @@ loop-k-preserved c =
     let inside : c.loop-k.k < length rows = omega (arith, c.loop-k-test.true, c.len-k-end.ensures, long) in
     let none : List Bool = [] in
     elim c.if-not-get.branch [
-      | then-not-get w ↦ rw (w.self-inside-is, w.kept-is)
-          (c.loop-k.invariant.0, kept_stays c.args.gone.now rows c.loop-k.self-inside.rows.items w.swap.new.self.items c.loop-k.kept c.loop-k.k none same inside (sym c.get.ensures ∙ w.if-not-get.true) w.swap.ensures.items c.loop-k.invariant.1)
+      | then-not-get w ↦ rw (w.self-inside-is, w.kept-is) (
+        c.loop-k.invariant.0,
+        kept_stays c.args.gone.now rows c.loop-k.self-inside.rows.items w.swap.new.self.items c.loop-k.kept c.loop-k.k none same inside
+            (sym c.get.ensures ∙ w.if-not-get.true) w.swap.ensures.items c.loop-k.invariant.1,
+      )
       | else-not-get w ↦ rw (w.self-inside-is, w.kept-is)
           (c.loop-k.invariant.0, kept_gone c.args.gone.now rows c.loop-k.self-inside.rows.items c.loop-k.kept c.loop-k.k none same inside (sym c.get.ensures ∙ w.if-not-get.false) c.loop-k.invariant.1)
     ]

@@ -21,5 +21,6 @@ pub cut-requires-clause-flat : goal.cut-requires-clause-flat
 cut-requires-clause-flat c =
     let row = c.args.row.now in
     let lines = c.args.self.now.lines in
-    let e : c.deref-3.result.now ≡ map (product row) lines = c.deref-3.ensures.value ∙ c.in_ok-of_lines.ensures.ok ∙ ap (map (product row)) c.deref.ensures.value ∙ ap (λ (x : Shape). map (product row) x.lines) c.self.view_is in
+    let e : c.deref-3.result.now ≡ map (product row) lines = c.deref-3.ensures.value ∙ c.in_ok-of_lines.ensures.ok ∙ ap (map (product row)) c.deref.ensures.value ∙
+    ap (λ (x : Shape). map (product row) x.lines) c.self.view_is in
     none_across row lines c.deref-3.result.now e c.in-None.ensures

@@ -58,7 +58,8 @@ remove_rows-requires c =
     let cut = c.in_ok-made.made in
     let x = subst (λ (y : List (List ℤ)). IsCut (is_equality c.args.kind) products y i.saturation cut) c.deref.ensures.value c.in_ok-made.ensures.ok in
     let okay : IsOk c.append.result = c.append.ensures.succeeds (omega (arith, c.in_ok-reserve.ensures.ok, c.len.ensures)) in
-    let added : c.append.new.self.items ≡ s.rays ++ cut.rays.items = c.append.ensures.items ∙ ap (λ (b : Bool). cond b (c.reserve.new.self.items ++ cut.rays.items) c.reserve.new.self.items) okay ∙ ap (λ (y : List (List ℤ)). y ++ cut.rays.items) c.in_ok-reserve.ensures.items in
+    let added : c.append.new.self.items ≡ s.rays ++ cut.rays.items = c.append.ensures.items ∙ ap (λ (b : Bool). cond b (c.reserve.new.self.items ++ cut.rays.items) c.reserve.new.self.items) okay ∙
+    ap (λ (y : List (List ℤ)). y ++ cut.rays.items) c.in_ok-reserve.ensures.items in
     cut_marks (is_equality c.args.kind) products s.rays i.saturation cut c.append.new.self.items (ap length er ∙ length-map s.rays (product row)) x added
 
 pub invariant_of-self-2 : goal.invariant_of-self-2
@@ -73,17 +74,21 @@ invariant_of-self-2 c =
     let cut = c.in_ok-made.made in
     let x = subst (λ (y : List (List ℤ)). IsCut (is_equality c.args.kind) products y i.saturation cut) c.deref.ensures.value c.in_ok-made.ensures.ok in
     let okay : IsOk c.append.result = c.append.ensures.succeeds (omega (arith, c.in_ok-reserve.ensures.ok, c.len.ensures)) in
-    let added : c.append.new.self.items ≡ s.rays ++ cut.rays.items = c.append.ensures.items ∙ ap (λ (b : Bool). cond b (c.reserve.new.self.items ++ cut.rays.items) c.reserve.new.self.items) okay ∙ ap (λ (y : List (List ℤ)). y ++ cut.rays.items) c.in_ok-reserve.ensures.items in
+    let added : c.append.new.self.items ≡ s.rays ++ cut.rays.items = c.append.ensures.items ∙ ap (λ (b : Bool). cond b (c.reserve.new.self.items ++ cut.rays.items) c.reserve.new.self.items) okay ∙
+    ap (λ (y : List (List ℤ)). y ++ cut.rays.items) c.in_ok-reserve.ensures.items in
     let w : length row ≡ suc s.dims = c.requires.width ∙ ap (λ (z : Shape). suc z.dims) (sym c.self.view_is) in
-    let flat : (l : List ℤ) → Contains s.lines l → product row l ≡ pos 0 = λ l m. All-contains (λ y. product row y ≡ pos 0) s.lines l (subst (λ (z : Shape). All (λ y. product row y ≡ pos 0) z.lines) (sym c.self.view_is) c.requires.flat) m in
+    let flat : (l : List ℤ) → Contains s.lines l → product row l ≡ pos 0 = λ l m. All-contains (λ y. product row y ≡ pos 0) s.lines l
+    (subst (λ (z : Shape). All (λ y. product row y ≡ pos 0) z.lines) (sym c.self.view_is) c.requires.flat) m in
     let fresh = unmarked cut.gone (s.rays ++ cut.rays.items) in
     let new : c.remove_rows.new.rows.items ≡ fresh = c.remove_rows.ensures ∙ ap (unmarked cut.gone) added in
     let case = cut_taken s g products i.saturation cut k er c.self.invariant.1 x in
     let met = ray_met s g fresh k w flat case in
     let kinds = c.in_ok-push.ensures.kinds in
     let rows = c.in_ok-push.ensures.rows ∙ ap (λ (y : List ℤ). i.taken.rows ++ y ∷ []) c.in_ok-copy.ensures in
-    let taken = ap (λ (y : List (List ℤ)). given_by is_equality y c.push.new.self.kinds) rows ∙ ap (λ (y : List ConKind). given_by is_equality (i.taken.rows ++ row ∷ []) y) kinds ∙ constraints_push is_equality i.taken.rows i.taken.kinds row c.args.kind c.self.invariant.2 in
-    let cone = cone_again s g s.lines fresh c.push.new.self.dims (constraints c.push.new.self) c.in_ok-push.ensures.dims taken (cone_of s g s.lines fresh k met (ray_canonical s g fresh k flat case) (cut_few s g products i.saturation cut er x)) in (
+    let taken = ap (λ (y : List (List ℤ)). given_by is_equality y c.push.new.self.kinds) rows ∙ ap (λ (y : List ConKind). given_by is_equality (i.taken.rows ++ row ∷ []) y) kinds ∙
+    constraints_push is_equality i.taken.rows i.taken.kinds row c.args.kind c.self.invariant.2 in
+    let cone = cone_again s g s.lines fresh c.push.new.self.dims (constraints c.push.new.self) c.in_ok-push.ensures.dims taken
+    (cone_of s g s.lines fresh k met (ray_canonical s g fresh k flat case) (cut_few s g products i.saturation cut er x)) in (
       subst (λ (y : List (List ℤ)). IsCone (record { dims = c.push.new.self.dims; taken = constraints c.push.new.self; lines = s.lines; rays = y })) (sym new) cone,
       cut_matrix s g products i.saturation cut k er c.self.invariant.1 x ∙ ap (λ (y : List Given). saturation_of y fresh) (sym taken) ∙ ap (saturation_of (constraints c.push.new.self)) (sym new),
       grind (arith, common_steps, ap length rows, ap length kinds, c.self.invariant.2),
@@ -101,16 +106,19 @@ returns-clause-ok c =
     let cut = c.in_ok-made.made in
     let x = subst (λ (y : List (List ℤ)). IsCut (is_equality c.args.kind) products y i.saturation cut) c.deref.ensures.value c.in_ok-made.ensures.ok in
     let okay : IsOk c.append.result = c.append.ensures.succeeds (omega (arith, c.in_ok-reserve.ensures.ok, c.len.ensures)) in
-    let added : c.append.new.self.items ≡ s.rays ++ cut.rays.items = c.append.ensures.items ∙ ap (λ (b : Bool). cond b (c.reserve.new.self.items ++ cut.rays.items) c.reserve.new.self.items) okay ∙ ap (λ (y : List (List ℤ)). y ++ cut.rays.items) c.in_ok-reserve.ensures.items in
+    let added : c.append.new.self.items ≡ s.rays ++ cut.rays.items = c.append.ensures.items ∙ ap (λ (b : Bool). cond b (c.reserve.new.self.items ++ cut.rays.items) c.reserve.new.self.items) okay ∙
+    ap (λ (y : List (List ℤ)). y ++ cut.rays.items) c.in_ok-reserve.ensures.items in
     let w : length row ≡ suc s.dims = c.requires.width ∙ ap (λ (z : Shape). suc z.dims) (sym c.self.view_is) in
-    let flat : (l : List ℤ) → Contains s.lines l → product row l ≡ pos 0 = λ l m. All-contains (λ y. product row y ≡ pos 0) s.lines l (subst (λ (z : Shape). All (λ y. product row y ≡ pos 0) z.lines) (sym c.self.view_is) c.requires.flat) m in
+    let flat : (l : List ℤ) → Contains s.lines l → product row l ≡ pos 0 = λ l m. All-contains (λ y. product row y ≡ pos 0) s.lines l
+    (subst (λ (z : Shape). All (λ y. product row y ≡ pos 0) z.lines) (sym c.self.view_is) c.requires.flat) m in
     let fresh = unmarked cut.gone (s.rays ++ cut.rays.items) in
     let new : c.remove_rows.new.rows.items ≡ fresh = c.remove_rows.ensures ∙ ap (unmarked cut.gone) added in
     let case = cut_taken s g products i.saturation cut k er c.self.invariant.1 x in
     let met = ray_met s g fresh k w flat case in
     let kinds = c.in_ok-push.ensures.kinds in
     let rows = c.in_ok-push.ensures.rows ∙ ap (λ (y : List ℤ). i.taken.rows ++ y ∷ []) c.in_ok-copy.ensures in
-    let taken = ap (λ (y : List (List ℤ)). given_by is_equality y c.push.new.self.kinds) rows ∙ ap (λ (y : List ConKind). given_by is_equality (i.taken.rows ++ row ∷ []) y) kinds ∙ constraints_push is_equality i.taken.rows i.taken.kinds row c.args.kind c.self.invariant.2 in
+    let taken = ap (λ (y : List (List ℤ)). given_by is_equality y c.push.new.self.kinds) rows ∙ ap (λ (y : List ConKind). given_by is_equality (i.taken.rows ++ row ∷ []) y) kinds ∙
+    constraints_push is_equality i.taken.rows i.taken.kinds row c.args.kind c.self.invariant.2 in
     subst (λ (z : Shape). IsTakenIn z g (record { dims = c.push.new.self.dims; taken = constraints c.push.new.self; lines = s.lines; rays = c.remove_rows.new.rows.items })) c.self.view_is
     (record { dims = c.in_ok-push.ensures.dims; taken = taken; met = subst (λ (y : List (List ℤ)). IsMet (suc s.dims) g.equal row (all_rows s.lines s.rays) (all_rows s.lines y)) (sym new) met })
 
@@ -124,8 +132,10 @@ returns-in_err-made-clause-strained c =
     let products = c.args.products.now in
     let er : products ≡ map (product row) s.rays = c.requires.of_rays ∙ ap (λ (x : Shape). map (product row) x.rays) (sym c.self.view_is) in
     let w : length row ≡ suc s.dims = c.requires.width ∙ ap (λ (z : Shape). suc z.dims) (sym c.self.view_is) in
-    let flat : (l : List ℤ) → Contains s.lines l → product row l ≡ pos 0 = λ l m. All-contains (λ y. product row y ≡ pos 0) s.lines l (subst (λ (z : Shape). All (λ y. product row y ≡ pos 0) z.lines) (sym c.self.view_is) c.requires.flat) m in
+    let flat : (l : List ℤ) → Contains s.lines l → product row l ≡ pos 0 = λ l m. All-contains (λ y. product row y ≡ pos 0) s.lines l
+    (subst (λ (z : Shape). All (λ y. product row y ≡ pos 0) z.lines) (sym c.self.view_is) c.requires.flat) m in
     let e = c.in_err-made.field-0.0 in
     let r = err_from_is_err_and c.from_residual.result c.from_residual.ensures.1 in
-    let told = cut_cone_error s g products i.saturation e k w flat er c.self.invariant.1 (subst (λ (y : List (List ℤ)). IsCutError (is_equality c.args.kind) products y i.saturation e) c.deref.ensures.value c.in_err-made.ensures.strained) in
+    let told = cut_cone_error s g products i.saturation e k w flat er c.self.invariant.1
+    (subst (λ (y : List (List ℤ)). IsCutError (is_equality c.args.kind) products y i.saturation e) c.deref.ensures.value c.in_err-made.ensures.strained) in
     rw (r.1, r.2) (subst (λ (z : Shape). IsConeError z (is_equality c.args.kind) row e) c.self.view_is told)

@@ -11,11 +11,13 @@ loop-column-init c = columns_start c.args.n c.in_ok-lines.lines.items c.in_ok-li
 
 pub loop-column-preserved : goal.loop-column-preserved
 loop-column-preserved c =
-    columns_step c.args.n c.loop-column.column c.loop-column.lines.items c.push.new.self.items c.in_ok-unit.field-0 (omega (arith, c.loop-column-test.true, c.loop-column.auto.column-end)) c.in_ok-push.ensures.items c.in_ok-unit.ensures c.loop-column.invariant
+    columns_step c.args.n c.loop-column.column c.loop-column.lines.items c.push.new.self.items c.in_ok-unit.field-0
+    (omega (arith, c.loop-column-test.true, c.loop-column.auto.column-end)) c.in_ok-push.ensures.items c.in_ok-unit.ensures c.loop-column.invariant
 
 pub invariant_of-result : goal.invariant_of-result
 invariant_of-result c =
-    let end = columns_end c.args.n c.loop-column.column c.loop-column.lines.items c.push-2.new.self.items c.in_ok-unit-2.field-0 (omega (arith, c.loop-column-test.false, c.loop-column.auto.column-end)) c.in_ok-push-2.ensures.items c.in_ok-unit-2.ensures c.loop-column.invariant in
+    let end = columns_end c.args.n c.loop-column.column c.loop-column.lines.items c.push-2.new.self.items c.in_ok-unit-2.field-0
+    (omega (arith, c.loop-column-test.false, c.loop-column.auto.column-end)) c.in_ok-push-2.ensures.items c.in_ok-unit-2.ensures c.loop-column.invariant in
     let none = ap (λ (r : List (List ℤ)). given_by is_equality r c.new.result.kinds) c.new.ensures.rows in
     let made = whole_made c.args.n c.new.result.dims (constraints c.new.result) c.push-2.new.self.items c.new-2.result.items c.new.ensures.dims none end c.new-2.ensures.items in (
       subst IsCone (sym made) (whole_cone c.args.n),
