@@ -1,5 +1,5 @@
 -- From what a source deserves to how a call ends that answers it. The rest of the crate knows of a source what stands here.
-use Rattle.std.proofs.Common.{◌∙◌, ◌≡◌, ◌≤◌, ◌<◌, ℕ, List, ◌++◌, length, take, refl, ap, sym, subst, arith}
+use Rattle.std.proofs.Common.{◌∙◌, ◌≡◌, ◌≤◌, ◌<◌, ℕ, List, ◌++◌, length, take, refl, ap, sym, subst, arith, inl, inr}
 use Rattle.std.proofs.lemmas.Grind.{common_steps}
 use Rattle.std.proofs.lemmas.List.{take-append-le}
 use Rattle.lra_tree.specs.declared.refusals.Cause.{Cause}
@@ -13,8 +13,9 @@ use Rattle.lra_tree.specs.Grammar.{Spells}
 use Rattle.lra_tree.specs.Refuse.{greatest_length, Refuse, too_long, bad_token, bad_text, bad_tree, refusal_text, Accepts}
 use Rattle.lra_source.specs.Answers.{IsAnswered}
 use Rattle.lra_source.proofs.EachAnswer.{each_answer}
+use Rattle.lra_source.proofs.SomeAnswer.{some_answer}
 use Rattle.lra_top.specs.SourceAnswer.{limit, IsTooLong, IsUnrefused, IsRefusal, IsReport, IsReportStatus, DeservesSource}
-use Rattle.lra_top.specs.Ends.{IsAnswer, EndsInRefusal, EndsInReport}
+use Rattle.lra_top.specs.Ends.{IsAnswer, EndsInRefusal, EndsInReport, EndsBySource}
 use Rattle.lra_top.proofs.ScriptWays.{past_limit}
 use Rattle.lra_top.specs.declared.status.Status.{Status}
 use Rattle.lra_top.specs.declared.status.Status.TheVariants.{Proved, Unknown, Refused, Usage, ReadFault, WriteFault, Memory}
@@ -105,6 +106,14 @@ source_reported o bytes text Usage t d accepted = d
 source_reported o bytes text ReadFault t d accepted = tt
 source_reported o bytes text WriteFault t d accepted = tt
 source_reported o bytes text Memory t d accepted = tt
+
+-- whichever it is
+pub source_ended : (bytes : List ℕ) (status : Status) → ((c : Cause) (at : Place) → Refuse Spells bytes c at → EndsInRefusal status)
+    → ((t : FileTree) → Accepts Spells bytes t → EndsInReport status) → EndsBySource bytes status
+source_ended bytes status refused accepted = elim (some_answer bytes) [
+  | inl r ↦ inl (r, refused r.0 r.1 r.2)
+  | inr a ↦ inr (a, accepted a.tree a.accepted)
+]
 
 -- a source without a cause of refusal
 pub source_unrefused : (o : Options) (bytes text : List ℕ) (status : Status) → DeservesSource o bytes text status → IsUnrefused bytes → EndsInReport status

@@ -15,10 +15,10 @@ use Rattle.lra_words.specs.declared.chosen.Command.{Command}
 use Rattle.lra_words.specs.declared.chosen.Command.TheVariants.{Analyse, Sample, Calc}
 use Rattle.lra_words.proofs.OneCommand.{one_asked, asks_not_none}
 use Rattle.lra_top.specs.SourceAnswer.{limit, IsTooLong, IsUnrefused}
-use Rattle.lra_top.specs.Ends.{IsAnswer, EndsInUsage, EndsInRefusal, EndsInReport, EndsInOutput, IsReportOrMemory, IsOutputOrMemory}
+use Rattle.lra_top.specs.Ends.{IsAnswer, EndsInUsage, EndsInRefusal, EndsInReport, EndsBySource, EndsInOutput, IsReportOrMemory, IsOutputOrMemory}
 use Rattle.lra_top.specs.Run.{IsInput, options_of, usage_text, AsksSome, DeservesInput, Deserves, IsDeserved}
 use Rattle.lra_top.specs.Prepared.{IsInputText}
-use Rattle.lra_top.proofs.SourceWays.{longer_source, source_answer, source_refused, source_reported, source_unrefused, source_too_long}
+use Rattle.lra_top.proofs.SourceWays.{longer_source, source_answer, source_refused, source_reported, source_ended, source_unrefused, source_too_long}
 use Rattle.lra_top.proofs.ScriptWays.{longer_script, too_long_answer, script_answer, script_refusal, script_output}
 use Rattle.lra_top.specs.declared.status.Status.{Status}
 use Rattle.lra_top.specs.declared.status.Status.TheVariants.{Proved, Unknown, Refused, Usage, ReadFault, WriteFault, Memory}
@@ -174,6 +174,16 @@ pub accepted_status : (words : List (List ℕ)) (left : Option (List ℕ)) (text
     → IsDeserved words left text status → Asks words (Analyse options) → left ≡ Some told → Accepts Spells told t → EndsInReport status
 accepted_status words left text status told options t d asks tells accepted =
     source_reported (options_of options) told text status t (told_input words left text status told (Analyse options) d asks tells) accepted
+
+pub source_status : (words : List (List ℕ)) (left : Option (List ℕ)) (text : List ℕ) (status : Status) (told : List ℕ) (options : AnalyseOptions)
+    → IsDeserved words left text status → Asks words (Analyse options) → left ≡ Some told → EndsBySource told status
+source_status words left text status told options d asks tells =
+    let deserved = told_input words left text status told (Analyse options) d asks tells in
+    source_ended told status (λ c at r. source_refused (options_of options) told text status c at deserved r) (λ t a. source_reported (options_of options) told text status t deserved a)
+
+-- no text is there
+pub no_text : (told : List ℕ) (status : Status) → EndsInRefusal status → EndsInReport status → EndsBySource told status
+no_text told status refused reported = source_ended told status (λ c at r. refused) (λ t a. reported)
 
 pub script_refused_status : (words : List (List ℕ)) (left : Option (List ℕ)) (text : List ℕ) (status : Status) (told : List ℕ) (r : script.Refusal)
     → IsDeserved words left text status → Asks words Calc → left ≡ Some told → script.answer_to told ≡ Err r → EndsInRefusal status

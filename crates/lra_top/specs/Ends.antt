@@ -1,4 +1,6 @@
 -- How a call ends, by its status.
+use Rattle.std.specs.Prelude.{◌⊎◌, ℕ, List}
+use Rattle.lra_source.specs.Claims.{HasRefusal, IsAccepted}
 use Rattle.lra_top.specs.declared.status.Status.{Status}
 use Rattle.lra_top.specs.declared.status.Status.TheVariants.{Proved, Unknown, Refused, Usage, ReadFault, WriteFault, Memory}
 
@@ -41,6 +43,10 @@ EndsInReport Usage = ⊥
 EndsInReport ReadFault = Unit {0}
 EndsInReport WriteFault = Unit {0}
 EndsInReport Memory = Unit {0}
+
+-- the source is refused, and its refusal is the text; or it is accepted, and a report is; if there is a text
+abbrev pub EndsBySource : List ℕ → Status → Type 0
+EndsBySource source status = (HasRefusal source × EndsInRefusal status) ⊎ (IsAccepted source × EndsInReport status)
 
 -- the output of a script that ran whole is the text, if there is one
 abbrev pub EndsInOutput : Status → Type 0

@@ -309,7 +309,7 @@ static ANSWERS: [(&str, Pieces, (u64, u64), Status, &str); 33] = [
 ];
 
 /// Sources that are refused, by cause, and the whole text that is written.
-static REFUSALS: [(Pieces, &str); 69] = [
+static REFUSALS: [(Pieces, &str); 74] = [
     // sources that are refused, by cause
     (("", " ", 65537, ""), "refused 1 TooLong at 1:65537\n"),
     (
@@ -542,6 +542,26 @@ static REFUSALS: [(Pieces, &str); 69] = [
         "refused 8 DuplicateName at 1:21\n",
     ),
     (
+        ("long g; long g; int main(void){}", "", 0, ""),
+        "refused 8 DuplicateName at 1:14\n",
+    ),
+    (
+        ("long f; void f(void){} int main(void){}", "", 0, ""),
+        "refused 8 DuplicateName at 1:14\n",
+    ),
+    (
+        ("void f(long x){ long x; } int main(void){}", "", 0, ""),
+        "refused 8 DuplicateName at 1:22\n",
+    ),
+    (
+        ("void f(void){ g=1; } long g; int main(void){}", "", 0, ""),
+        "refused 7 UnknownName at 1:15\n",
+    ),
+    (
+        ("void g(void); int main(void){ g(); }", "", 0, ""),
+        "refused 7 UnknownName at 1:31\n",
+    ),
+    (
         ("long g=1+1; int main(void){}", "", 0, ""),
         "refused 4 Syntax at 1:9\n",
     ),
@@ -581,7 +601,7 @@ static REFUSALS: [(Pieces, &str); 69] = [
 ];
 
 /// Words, a source whose assertions are all proved, and lines of its report.
-static LINES: [(&str, Pieces, &str); 58] = [
+static LINES: [(&str, Pieces, &str); 60] = [
     (
         "lra analyse --domain=box",
         PROVED,
@@ -876,7 +896,27 @@ static LINES: [(&str, Pieces, &str); 58] = [
             0,
             "",
         ),
+        "point 1 main 1:50\n  row g = 2\n",
+    ),
+    (
+        BOXES,
+        (
+            "long g=2; void f(void){ g=g+1; } int main(void){ f(); f(); assert(g==4); }",
+            "",
+            0,
+            "",
+        ),
         "point 3 main/f@1:50 1:32\n  row g = 3\n",
+    ),
+    (
+        BOXES,
+        (
+            "long g=2; void f(void){ g=g+1; } int main(void){ f(); f(); assert(g==4); }",
+            "",
+            0,
+            "",
+        ),
+        "point 5 main/f@1:55 1:25\n  row g = 3\n",
     ),
     (
         BOXES,

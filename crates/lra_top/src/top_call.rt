@@ -16,7 +16,8 @@ ghost use Rattle.lra_tree.specs.Refuse.{Refuse, Accepts};
 ghost use Rattle.lra_top.specs.SourceAnswer.{limit, IsTooLong, IsUnrefused};
 ghost use Rattle.lra_top.specs.ScriptAnswer.{DeservesScript};
 ghost use Rattle.lra_top.specs.Run.{usage_text, AsksSome, DeservesInput, IsDeserved, Writes, WritesPart, ReadsInput};
-ghost use Rattle.lra_top.specs.Ends.{EndsInUsage, EndsInRefusal, EndsInReport, EndsInOutput, IsReportOrMemory, IsOutputOrMemory};
+ghost use Rattle.lra_top.specs.Ends.{EndsInUsage, EndsInRefusal, EndsInReport, EndsBySource, EndsInOutput};
+ghost use Rattle.lra_top.specs.Ends.{IsReportOrMemory, IsOutputOrMemory};
 ghost use Rattle.lra_top.specs.Prepared.{IsInputText, PrepareCause};
 
 use crate::answer::Answer;
@@ -166,6 +167,9 @@ pub fn run<S: Source, K: Sink>(
         EndsInRefusal result }
     ensures accepted { (options : AnalyseOptions) → Asks (map string_bytes words.now) (Analyse options) →
         (bytes : List ℕ) → S.left source.old ≡ Some bytes → (tree : FileTree) → Accepts Spells bytes tree → EndsInReport result }
+    // Each source is one or the other.
+    ensures each_source { (options : AnalyseOptions) → Asks (map string_bytes words.now) (Analyse options) →
+        (bytes : List ℕ) → S.left source.old ≡ Some bytes → EndsBySource bytes result }
     ensures script_refused { Asks (map string_bytes words.now) Calc → (bytes : List ℕ) → S.left source.old ≡ Some bytes →
         (r : script.Refusal) → script.answer_to bytes ≡ Err r → EndsInRefusal result }
     ensures script_ran { Asks (map string_bytes words.now) Calc → (bytes : List ℕ) → S.left source.old ≡ Some bytes →
@@ -182,8 +186,12 @@ pub fn run<S: Source, K: Sink>(
     ensures write_fault { result ≡ Status.WriteFault → Rose (K.faults sink.old) (K.faults sink.new) }
     ensures no_write_fault { result ≢ Status.WriteFault → K.faults sink.new ≡ K.faults sink.old }
 
-    // A source without a cause of refusal gets its report, and a script that runs whole its output, where nothing fails; a sink that
+    // Where nothing fails and memory isn't wanting, the text that words and input deserve is written whole, and its status is the
+    // answer: so a source without a cause of refusal gets its report, and a script that runs whole its output. A sink that
     // surely takes each text that is deserved doesn't fail.
+    ensures whole { (Rose (S.faults source.old) (S.faults source.new) → ⊥) →
+        (Rose (K.faults sink.old) (K.faults sink.new) → ⊥) → result ≢ Status.Memory →
+        Writes (map string_bytes words.now) (S.left source.old) (K.held sink.old) (K.held sink.new) result }
     ensures complete { (options : AnalyseOptions) → Asks (map string_bytes words.now) (Analyse options) →
         (bytes : List ℕ) → S.left source.old ≡ Some bytes → IsUnrefused bytes →
         (Rose (S.faults source.old) (S.faults source.new) → ⊥) → (Rose (K.faults sink.old) (K.faults sink.new) → ⊥) →

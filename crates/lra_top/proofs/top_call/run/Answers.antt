@@ -1,6 +1,7 @@
 use Rattle.std.proofs.Common.{◌<◌, ◌≤◌, length, arith}
 use Rattle.std.proofs.lemmas.Grind.{common_steps}
-use Rattle.lra_top.proofs.Ways.{too_long_status, refused_status, accepted_status, complete_status, script_refused_status, script_status, complete_script_status}
+use Rattle.lra_top.specs.declared.status.Status.TheVariants as status
+use Rattle.lra_top.proofs.Ways.{too_long_status, refused_status, accepted_status, source_status, no_text, complete_status, script_refused_status, script_status, complete_script_status}
 use Rattle.lra_top.proofs.top_call.run.Goals as goal
 
 pub returns-in-Ok-write_whole-clause-too_long : goal.returns-in-Ok-write_whole-clause-too_long
@@ -14,6 +15,19 @@ returns-in-Ok-write_whole-clause-source_refused g c = λ options asks bytes tell
 pub returns-in-Ok-write_whole-clause-accepted : goal.returns-in-Ok-write_whole-clause-accepted
 returns-in-Ok-write_whole-clause-accepted g c = λ options asks bytes tells tree accepted.
     accepted_status _ _ _ c.in-Ok.answer.status bytes options tree c.in-Ok.ensures.deserved asks tells accepted
+
+pub returns-in-Ok-write_whole-clause-each_source : goal.returns-in-Ok-write_whole-clause-each_source
+returns-in-Ok-write_whole-clause-each_source g c = λ options asks bytes tells.
+    source_status _ _ _ c.in-Ok.answer.status bytes options c.in-Ok.ensures.deserved asks tells
+
+pub returns-in-Err-ReadFault-clause-each_source : goal.returns-in-Err-ReadFault-clause-each_source
+returns-in-Err-ReadFault-clause-each_source g c = λ options asks bytes tells. no_text bytes status.ReadFault tt tt
+
+pub returns-in-Err-Memory-clause-each_source : goal.returns-in-Err-Memory-clause-each_source
+returns-in-Err-Memory-clause-each_source g c = λ options asks bytes tells. no_text bytes status.Memory tt tt
+
+pub returns-clause-each_source : goal.returns-clause-each_source
+returns-clause-each_source g c = λ options asks bytes tells. no_text bytes status.WriteFault tt tt
 
 pub returns-in-Ok-write_whole-clause-complete : goal.returns-in-Ok-write_whole-clause-complete
 returns-in-Ok-write_whole-clause-complete g c = λ options asks bytes tells free unread unwritten.
