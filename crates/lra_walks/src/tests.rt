@@ -47,7 +47,9 @@ fn nested(alloc: Global, levels: u32) -> Result<Cond, AllocError> {
 fn in_turn(alloc: Global, first: Node, second: Node) -> Result<Node, AllocError>
     ensures { IfOk result (λ g. node_view g ≡ graph.seq (node_view first) (node_view second)) }
 {
-    Ok(Node::Seq(Box::new(alloc, first)?, Box::new(alloc, second)?))
+    let mut before = Vec::new(alloc);
+    before.push(first)?;
+    Ok(Node::Seq(before, Box::new(alloc, second)?))
 }
 
 /// The point, then the tree.
