@@ -24,8 +24,7 @@ impl Drop for Declared {
     }
 }
 
-/// Names in the order of their declarations. The newest of a name is found in a time that doesn't depend on how many
-/// there are.
+/// Names in the order of their declarations. The newest of a name is found by its hash, and not by going through them.
 pub struct Names {
     declared: Vec<Declared>,
     /// The place of the newest of each name.

@@ -23,7 +23,7 @@ pub struct Signature {
     pub has_result: bool,
 }
 
-/// The functions of a source's parts. The first of a name is found in a time that doesn't depend on how many there are.
+/// The functions of a source's parts. The first of a name is found by its hash, and not by going through them.
 pub struct Functions<'a> {
     parts: &'a [Item],
     signatures: IndexMap<String, Signature>,
