@@ -1,6 +1,6 @@
 -- From what a script deserves to how a call ends that answers it.
 use Rattle.std.proofs.Common.{◌∙◌, ◌≡◌, ◌≤◌, ◌<◌, ℕ, List, ◌++◌, length, take, refl, ap, sym, arith}
-use Rattle.std.specs.Prelude.{Result, Ok, Err}
+use Rattle.std.specs.Prelude.{Ok, Err}
 use Rattle.std.proofs.lemmas.Grind.{common_steps}
 use Rattle.std.proofs.lemmas.List.{take-append-le}
 use Rattle.lra_tree.specs.Refuse.{greatest_length}

@@ -1,5 +1,5 @@
 -- From what a source deserves to how a call ends that answers it. The rest of the crate knows of a source what stands here.
-use Rattle.std.proofs.Common.{◌∙◌, ◌≡◌, ◌≤◌, ◌<◌, ℕ, List, ◌++◌, length, take, refl, ap, sym, subst, arith, inl, inr}
+use Rattle.std.proofs.Common.{◌≡◌, ◌≤◌, ◌<◌, ℕ, List, ◌++◌, length, take, refl, sym, subst, arith, inl, inr}
 use Rattle.std.proofs.lemmas.Grind.{common_steps}
 use Rattle.std.proofs.lemmas.List.{take-append-le}
 use Rattle.lra_tree.specs.declared.refusals.Cause.{Cause}
@@ -14,7 +14,7 @@ use Rattle.lra_tree.specs.Refuse.{greatest_length, Refuse, too_long, bad_token, 
 use Rattle.lra_source.specs.Answers.{IsAnswered}
 use Rattle.lra_source.proofs.EachAnswer.{each_answer}
 use Rattle.lra_source.proofs.SomeAnswer.{some_answer}
-use Rattle.lra_top.specs.SourceAnswer.{limit, IsTooLong, IsUnrefused, IsRefusal, IsReport, IsReportStatus, DeservesSource}
+use Rattle.lra_top.specs.SourceAnswer.{limit, IsTooLong, IsUnrefused, IsReport, IsReportStatus, DeservesSource}
 use Rattle.lra_top.specs.Ends.{IsAnswer, EndsInRefusal, EndsInReport, EndsBySource}
 use Rattle.lra_top.proofs.ScriptWays.{past_limit}
 use Rattle.lra_top.specs.declared.status.Status.{Status}
