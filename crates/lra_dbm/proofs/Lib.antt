@@ -15,3 +15,4 @@ pub mod Clears
 pub mod Grows
 pub mod PointwiseLemmas
 mod ClosingExamples
+pub mod Closures

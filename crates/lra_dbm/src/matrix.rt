@@ -55,6 +55,7 @@ impl Matrix {
         requires { n ≤ 2 ^ 30 }
         ensures dims { IfOk result (λ m. m.dims ≡ n) }
         ensures entries { IfOk result (λ m. (i j : ℕ) → entry_at m i j ≡ outside i j) }
+        ensures is { IfOk result (λ m. IsMatrix m.dims m.cells) }
     {
         let mut cells = Vec::new(alloc);
         grow(&mut cells, 0, n)?;
@@ -84,7 +85,8 @@ impl Matrix {
         requires row { i < 2 * self.old.dims }
         requires column { j < 2 * self.old.dims }
         requires range { InRange k }
-        ensures { self.new ≡ record self.old { cells = entered i j (Some k) self.old.cells } }
+        ensures entered { self.new ≡ record self.old { cells = entered i j (Some k) self.old.cells } }
+        ensures is { IsMatrix self.new.dims self.new.cells }
     {
         enter(self.dims, &mut self.cells, i, j, k);
     }
@@ -98,6 +100,7 @@ impl Matrix {
         ensures steps { closing self.old.dims self.old.cells
             ≡ record { empty = is_empty result.0; progress = progress self.new.cells (is_flagged result.1) } }
         ensures closes { Closes self.old.dims self.old.cells self.new.cells (is_empty result.0) (is_flagged result.1) }
+        ensures is { IsMatrix self.new.dims self.new.cells }
     {
         let found = close(self.dims, &mut self.cells);
         let closing = if found.is_empty {
@@ -118,6 +121,7 @@ impl Matrix {
         requires { x < self.old.dims }
         ensures dims { self.new.dims ≡ self.old.dims }
         ensures entries { (i j : ℕ) → entry_at self.new i j ≡ forgotten x (entry_at self.old) i j }
+        ensures is { IsMatrix self.new.dims self.new.cells }
     {
         clear(self.dims, &mut self.cells, x);
     }
@@ -127,6 +131,7 @@ impl Matrix {
         requires { self.old.dims + k ≤ 2 ^ 30 }
         ensures dims { OnOk result (self.new.dims ≡ self.old.dims + k) }
         ensures entries { OnOk result ((i j : ℕ) → entry_at self.new i j ≡ entry_at self.old i j) }
+        ensures is { OnOk result (IsMatrix self.new.dims self.new.cells) }
         ensures err { OnErr result (self.new ≡ self.old) }
     {
         grow(&mut self.cells, self.dims, k)?;
@@ -139,6 +144,7 @@ impl Matrix {
         requires { k ≤ self.old.dims }
         ensures dims { self.new.dims ≡ self.old.dims - k }
         ensures entries { (i j : ℕ) → entry_at self.new i j ≡ first_entries self.new.dims (entry_at self.old) i j }
+        ensures is { IsMatrix self.new.dims self.new.cells }
     {
         let dims = self.dims - k;
         shrink(&mut self.cells, self.dims, dims);
@@ -167,8 +173,8 @@ impl Matrix {
     /// of both.
     pub fn join(&self, other: &Matrix, alloc: Global) -> Result<Matrix, AllocError>
         requires { self.now.dims ≡ other.now.dims }
-        ensures joined { IfOk result (λ m. m ≡ record self.now
-            { cells = greater_cells self.now.cells other.now.cells }) }
+        ensures joined { IfOk result (λ m.
+            m ≡ record self.now { cells = greater_cells self.now.cells other.now.cells }) }
         ensures least { IfOk result (λ m.
             LeastJoin self.now.dims (entry_at self.now) (entry_at other.now) (entry_at m)) }
     {

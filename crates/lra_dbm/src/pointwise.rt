@@ -2,8 +2,8 @@
 
 ghost use Rattle.std.specs.Prelude.{◌≡◌, ◌≤◌, ◌^◌, ◌*◌, ◌↔◌, ℕ, pos, Some, length, IsTrue, IfOk};
 ghost use Rattle.lra_dbm.specs.Cells.{size, entries, IsMatrix};
-ghost use Rattle.lra_dbm.specs.Pointwise.{greater, greater_cells, stable, stable_cells, CellsWithin, finite};
-ghost use Rattle.lra_dbm.specs.Pointwise.{finite_cells};
+ghost use Rattle.lra_dbm.specs.Pointwise.{greater, greater_cells, stable, stable_cells};
+ghost use Rattle.lra_dbm.specs.Pointwise.{CellsWithin, finite, finite_cells};
 ghost use Rattle.lra_dbm.specs.Closure.{LeastJoin};
 ghost use Rattle.lra_dbm.specs.Entry.{◌⊑◌};
 
