@@ -1,0 +1,4 @@
+pub mod FitLemmas
+pub mod ClosedLemmas
+pub mod StoreLemmas
+pub mod MeetsLemmas

@@ -1,0 +1,7 @@
+use Rattle.lra_oct.specs.Content.{seen}
+use Rattle.lra_oct.proofs.MeetsLemmas.{meets_embed}
+use Rattle.lra_oct.proofs.octagon.Octagon.embed.Goals as goal
+
+pub returns-clause-meets : goal.returns-clause-meets
+returns-clause-meets c =
+    rw (← c.self.view_is) (meets_embed c.self.inside.dims c.args.k (seen c.self.inside.matrix) (seen c.embed_in.new.bounds) c.in_ok-embed_in.ensures.becomes)

@@ -1,0 +1,22 @@
+use Rattle.std.proofs.Common.{◌≡◌, ap, sym, ◌∙◌}
+use Rattle.lra_oct.specs.Content.{Content, CellsFit, seen}
+use Rattle.lra_oct.proofs.MeetsLemmas.{joined_fit, joins}
+use Rattle.lra_oct.proofs.octagon.Octagon.join.Goals as goal
+
+pub invariant_of-self : goal.invariant_of-self
+invariant_of-self c =
+    let same : c.other.inside.dims ≡ c.self.inside.dims =
+    ap (λ (b : Content). b.dims) c.other.view_is ∙ sym c.requires ∙ sym (ap (λ (b : Content). b.dims) c.self.view_is) in
+    let fit : CellsFit c.self.inside.dims (seen c.other.inside.matrix) = rw (← same) c.other.invariant.2 in (
+      c.self.invariant.0,
+      c.in_ok-joined.ensures.dims,
+      rw c.in_ok-joined.ensures.joined (joined_fit c.self.inside.dims (seen c.self.inside.matrix) (seen c.other.inside.matrix) c.self.invariant.2 fit),
+    )
+
+pub returns-clause-joins : goal.returns-clause-joins
+returns-clause-joins c =
+    let same : c.other.inside.dims ≡ c.self.inside.dims =
+    ap (λ (b : Content). b.dims) c.other.view_is ∙ sym c.requires ∙ sym (ap (λ (b : Content). b.dims) c.self.view_is) in
+    let fit : CellsFit c.self.inside.dims (seen c.other.inside.matrix) = rw (← same) c.other.invariant.2 in
+    rw (c.in_ok-joined.ensures.joined, ← c.self.view_is, ← c.other.view_is, same)
+    (joins c.self.inside.dims (seen c.self.inside.matrix) (seen c.other.inside.matrix) c.self.invariant.2 fit)

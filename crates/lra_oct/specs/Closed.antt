@@ -1,0 +1,17 @@
+-- What closing a matrix gives an octagon.
+use Rattle.std.specs.Prelude.{◌≡◌, ℕ, ℤ, List, Option}
+use Rattle.lra_domain.specs.declared.Exactness.{Exactness}
+use Rattle.lra_domain.specs.declared.Exactness.TheVariants.{Exact, Flagged}
+use Rattle.lra_dbm.specs.Tight.{IsStore}
+use Rattle.lra_dbm.specs.Cells.{Cells, entries}
+use Rattle.lra_dbm.specs.Closure.{IsClosure}
+use Rattle.lra_oct.specs.Content.{CellsFit, has_store}
+use Rattle.lra_oct.specs.Tables.{ClosingPasses}
+
+-- the stores are kept; an exact result is the closure, a flagged one comes only where a number of closing passes the
+-- range
+pub record ClosedTo (n : ℕ) (old : Cells) (new : Option Cells) (e : Exactness) : Type 0 where
+  pub stores : (s : List ℤ) → IsStore n (entries n old) s → has_store n new s
+  pub fit : CellsFit n new
+  pub exact : e ≡ Exact → IsClosure n (entries n old) new
+  pub flagged : e ≡ Flagged → ClosingPasses n old

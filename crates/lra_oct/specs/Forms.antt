@@ -1,0 +1,38 @@
+-- Linear forms, by the variables that occur in them.
+use Rattle.std.specs.Prelude.{ℕ, suc, zero, ◌+◌, ◌*◌, ◌==◌, cond, ℤ, pos, negsuc, List, [], ◌∷◌}
+use Rattle.lra_lin.specs.Form.{Form}
+
+-- a signed variable with the magnitude of its coefficient
+pub record Term : Type 0 where
+  pub signed : ℕ
+  pub magnitude : ℕ
+
+-- the term of a coefficient of x_k, if that isn't 0
+abbrev pub terms_at : ℕ → ℤ → List Term → List Term
+terms_at k (pos zero) ts = ts
+terms_at k (pos (suc m)) ts = record { signed = 2 * k; magnitude = suc m } ∷ ts
+terms_at k (negsuc m) ts = record { signed = 2 * k + 1; magnitude = suc m } ∷ ts
+
+-- the terms of the coefficients from column k on
+abbrev pub terms_from : ℕ → List ℤ → List Term
+terms_from k [] = []
+terms_from k (c ∷ cs) = terms_at k c (terms_from (suc k) cs)
+
+abbrev pub terms : Form → List Term
+terms e = terms_from 0 e.coefficients
+
+-- what a form is to an octagon: a constant, a multiple of one signed variable or of the sum of two, or another
+pub data Shape : Type 0 where
+  constant : Shape
+  one : ℕ → ℕ → Shape
+  two : ℕ → ℕ → ℕ → Shape
+  other : Shape
+
+abbrev pub shape_of : List Term → Shape
+shape_of [] = constant
+shape_of (t ∷ []) = one t.magnitude t.signed
+shape_of (t ∷ u ∷ []) = cond (t.magnitude == u.magnitude) (two t.magnitude t.signed u.signed) other
+shape_of (t ∷ u ∷ w ∷ ts) = other
+
+abbrev pub shape : Form → Shape
+shape e = shape_of (terms e)

@@ -1,0 +1,95 @@
+-- The rows that mean an octagon: the unary bounds, and the bounds of sums and differences that these don't imply.
+-- Equalities stand first. Rows that begin with +x_a stand before those that begin with -x_a, each with the others in
+-- falling order.
+use Rattle.std.specs.Prelude.{ℕ, zero, suc, ◌+◌, ◌*◌, ◌-◌, ◌/◌, ◌==◌, Bool, false, not, if◌then◌else◌, cond, ℤ, pos}
+use Rattle.std.specs.Prelude.{neg_ℤ}
+use Rattle.std.specs.Prelude.{◌+ℤ◌, int_lt, List, [], ◌∷◌, ◌++◌, length, replicate, slice_set, Option, None, Some}
+use Rattle.std.specs.Ordering.{int_eq}
+use Rattle.lra_sys.specs.Listed.{Listed}
+use Rattle.lra_sys.specs.declared.system.ConKind.{ConKind}
+use Rattle.lra_sys.specs.declared.system.ConKind.TheVariants.{Ge, Eq}
+use Rattle.lra_dbm.specs.Tight.{Entries, opposite, with_sign}
+use Rattle.lra_dbm.specs.Cells.{Cells, entries}
+use Rattle.lra_oct.specs.Tables.{most}
+
+-- the coefficient of a signed variable
+abbrev pub sign_of : ℕ → ℤ
+sign_of i = with_sign (i - 2 * (i / 2)) (pos 1)
+
+-- the row q + v_i + v_j in n dimensions, and with j the same as i the row q + v_i
+abbrev pub pair_row : ℕ → ℕ → ℕ → ℤ → List ℤ
+pair_row n i j q = q ∷ slice_set (slice_set (replicate n (pos 0)) (i / 2) (sign_of i)) (j / 2) (sign_of j)
+
+-- both opposites have an upper bound, and the sum of these is at most q
+abbrev pub implied_by : Option ℤ → Option ℤ → ℤ → Bool
+implied_by None b q = false
+implied_by (Some a) None q = false
+implied_by (Some a) (Some b) q = not (int_lt q (a +ℤ b))
+
+-- q, unless the unary bounds imply it
+abbrev pub unless_implied : Option ℤ → Option ℤ → Option ℤ → Option ℤ
+unless_implied a b None = None
+unless_implied a b (Some q) = cond (implied_by a b q) None (Some q)
+
+-- the q of the row `q + v_i + v_j >= 0`, if it is printed
+abbrev pub printed : Entries → ℕ → ℕ → Option ℤ
+printed m i j = cond (i == j) (most m (opposite i))
+    (unless_implied (most m (opposite i)) (most m (opposite j)) (m i (opposite j)))
+
+-- the two rows make an equality: their q are there and opposite
+abbrev pub makes_equality : Option ℤ → Option ℤ → Bool
+makes_equality None b = false
+makes_equality (Some a) None = false
+makes_equality (Some a) (Some b) = int_eq a (neg_ℤ b)
+
+abbrev pub is_equality : Entries → ℕ → ℕ → Bool
+is_equality m i j = makes_equality (printed m i j) (printed m (opposite i) (opposite j))
+
+abbrev pub row_if_any : ℕ → ℕ → ℕ → Option ℤ → List (List ℤ)
+row_if_any n i j None = []
+row_if_any n i j (Some q) = pair_row n i j q ∷ []
+
+abbrev pub equal_row : ℕ → Entries → ℕ → ℕ → List (List ℤ)
+equal_row n m i j = if is_equality m i j then row_if_any n i j (printed m i j) else []
+
+abbrev pub unequal_row : ℕ → Entries → ℕ → ℕ → List (List ℤ)
+unequal_row n m i j = if is_equality m i j then [] else row_if_any n i j (printed m i j)
+
+abbrev pub RowsAt : Type 0
+RowsAt = ℕ → List (List ℤ)
+
+-- +x_b for b from the given one on, k of them; -x_b for the same b, from the last down
+abbrev pub rising : RowsAt → ℕ → ℕ → List (List ℤ)
+rising f b zero = []
+rising f b (suc k) = f (2 * b) ++ rising f (suc b) k
+
+abbrev pub falling : RowsAt → ℕ → ℕ → List (List ℤ)
+falling f b zero = []
+falling f b (suc k) = f (2 * (b + k) + 1) ++ falling f b k
+
+-- the rows that begin with the signed variable i of x_a
+abbrev pub rows_with : ℕ → (ℕ → RowsAt) → ℕ → ℕ → List (List ℤ)
+rows_with n f a i = rising (f i) (suc a) (n - suc a) ++ f i i ++ falling (f i) (suc a) (n - suc a)
+
+-- the equalities from column a on, k of them; each begins with +x_a
+abbrev pub equal_rows : ℕ → Entries → ℕ → ℕ → List (List ℤ)
+equal_rows n m a zero = []
+equal_rows n m a (suc k) = rows_with n (equal_row n m) a (2 * a) ++ equal_rows n m (suc a) k
+
+abbrev pub unequal_rows : ℕ → Entries → ℕ → ℕ → List (List ℤ)
+unequal_rows n m a zero = []
+unequal_rows n m a (suc k) =
+    (rows_with n (unequal_row n m) a (2 * a) ++ rows_with n (unequal_row n m) a (2 * a + 1))
+    ++ unequal_rows n m (suc a) k
+
+abbrev pub octagon_system : ℕ → Entries → Listed ConKind
+octagon_system n m = record {
+  dims = n;
+  rows = equal_rows n m 0 n ++ unequal_rows n m 0 n;
+  kinds = replicate (length (equal_rows n m 0 n)) Eq ++ replicate (length (unequal_rows n m 0 n)) Ge;
+}
+
+-- an empty octagon has no part, another has one
+abbrev pub octagon_parts : ℕ → Option Cells → List (Listed ConKind)
+octagon_parts n None = []
+octagon_parts n (Some cells) = octagon_system n (entries n cells) ∷ []

@@ -1,0 +1,233 @@
+-- The tables of octagons: what each change makes of the matrix, and when it may be flagged.
+use Rattle.std.specs.Prelude.{◌≡◌, ℕ, zero, suc, ◌+◌, ◌-◌, ◌*◌, ◌/◌, ◌==◌, ◌&&◌, cond, int_lt, ℤ, pos, neg_ℤ, ◌+ℤ◌}
+use Rattle.std.specs.Prelude.{◌-ℤ◌, true, List, [], ◌∷◌, map, length}
+use Rattle.std.specs.Prelude.{Option, None, Some, ◌⊎◌}
+use Rattle.std.specs.Option.{option_map}
+use Rattle.std.specs.Int.{int_div_euclid}
+use Rattle.lra_lin.specs.Form.{Form}
+use Rattle.lra_lin.specs.declared.test.TestKind.{TestKind}
+use Rattle.lra_lin.specs.declared.test.TestKind.TheVariants.{Ge, Eq}
+use Rattle.lra_dbm.specs.Entry.{◌⊞◌, half_of, within_range, passes_range}
+use Rattle.lra_dbm.specs.Tight.{Entries, opposite}
+use Rattle.lra_dbm.specs.Cells.{Cells, entries, entered, forgotten, first_entries, IsMatrix}
+use Rattle.lra_dbm.specs.Closing.{closing}
+use Rattle.lra_dbm.specs.Closure.{IsClosure}
+use Rattle.lra_domain.specs.Actions.{Action, assign, forget, test, embed, remove_last}
+use Rattle.lra_box.specs.declared.interval.Interval.{Interval}
+use Rattle.lra_box.specs.declared.interval.Side.TheVariants.{Low, High}
+use Rattle.lra_box.specs.Bounds.{end_sum, SumPasses}
+use Rattle.lra_box.specs.Refine.{ge_tested, RefinePasses}
+use Rattle.lra_oct.specs.Content.{Content}
+use Rattle.lra_oct.specs.Forms.{Shape, constant, one, two, other, shape}
+
+-- ---- unary bounds
+
+-- the greatest value of a signed variable that the matrix allows, rounded down
+abbrev pub most : Entries → ℕ → Option ℤ
+most m i = half_of (m (opposite i) i)
+
+-- the numbers of x_k that the matrix allows
+abbrev pub interval : Entries → ℕ → Interval
+interval m k = record { low = option_map neg_ℤ (most m (2 * k + 1)); high = most m (2 * k) }
+
+abbrev pub intervals_from : Entries → ℕ → ℕ → List Interval
+intervals_from m k zero = []
+intervals_from m k (suc n) = interval m k ∷ intervals_from m (suc k) n
+
+abbrev pub intervals : ℕ → Entries → List Interval
+intervals n m = intervals_from m 0 n
+
+-- a signed variable is at most a number: twice the number is entered, unless that passes the range
+abbrev pub bounded_above : ℕ → Option ℤ → Cells → Cells
+bounded_above i v cells = entered (opposite i) i (within_range (v ⊞ v)) cells
+
+-- x_k lies in the interval
+abbrev pub bounded_by : ℕ → Interval → Cells → Cells
+bounded_by k i cells = bounded_above (2 * k + 1) (option_map neg_ℤ i.low) (bounded_above (2 * k) i.high cells)
+
+-- the variables from x_k on lie in their intervals
+abbrev pub bounded_from : ℕ → List Interval → Cells → Cells
+bounded_from k [] cells = cells
+bounded_from k (i ∷ is) cells = bounded_from (suc k) is (bounded_by k i cells)
+
+abbrev pub IntervalPasses : Interval → Type 0
+IntervalPasses i = (passes_range (i.low ⊞ i.low) ≡ true) ⊎ (passes_range (i.high ⊞ i.high) ≡ true)
+
+abbrev pub SomePasses : List Interval → Type 0
+SomePasses [] = ⊥
+SomePasses (i ∷ is) = IntervalPasses i ⊎ SomePasses is
+
+-- ---- assignments
+
+-- the cells with all entries of x infinite
+pub record Forgets (n x : ℕ) (old new : Cells) : Type 0 where
+  pub is : IsMatrix n new
+  pub entries : (i j : ℕ) → entries n new i j ≡ forgotten x (entries n old) i j
+
+-- x is v_i + c, for another variable's signed variable i
+abbrev pub equated : ℕ → ℕ → ℤ → Cells → Cells
+equated x i c cells = entered (2 * x) i (Some (neg_ℤ c)) (entered i (2 * x) (Some c) cells)
+
+-- what is added to a signed variable where c is added to x
+abbrev pub added_to : ℕ → ℤ → ℕ → ℤ
+added_to x c i = cond (i == 2 * x) c (cond (i == 2 * x + 1) (neg_ℤ c) (pos 0))
+
+-- the signed variable whose place i takes where x changes its sign
+abbrev pub source : ℕ → ℕ → ℕ → ℕ
+source sign x i = cond (sign == 1 && i / 2 == x) (opposite i) i
+
+-- the entries where x becomes x + c, or with sign 1 -x + c: those of x are exchanged for the sign and shifted
+abbrev pub shifted : ℕ → ℕ → ℤ → Entries → Entries
+shifted sign x c m i j = m (source sign x i) (source sign x j) ⊞ Some (added_to x c j -ℤ added_to x c i)
+
+pub record Shifts (n sign x : ℕ) (c : ℤ) (old new : Cells) : Type 0 where
+  pub is : IsMatrix n new
+  pub entries : (i j : ℕ) → entries n new i j ≡ shifted sign x c (entries n old) i j
+
+-- what an assignment does, by the form's shape
+pub data Assignment : Type 0 where
+  -- x becomes v_i + c, for another variable's signed variable
+  equate : ℕ → Assignment
+  -- x becomes x + c or -x + c
+  shift : ℕ → Assignment
+  -- x gets the bounds of the form over the unary bounds
+  bound : Assignment
+
+abbrev pub assignment_of : ℕ → Shape → Assignment
+assignment_of x constant = bound
+assignment_of x (one m i) = cond (m == 1) (cond (i / 2 == x) (shift (i - 2 * x)) (equate i)) bound
+assignment_of x (two m i j) = bound
+assignment_of x other = bound
+
+abbrev pub form_interval : ℕ → Entries → Form → Interval
+form_interval n m e = record {
+  low = end_sum Low e.constant e.coefficients (intervals n m);
+  high = end_sum High e.constant e.coefficients (intervals n m);
+}
+
+-- the matrix of which an assignment gives the closure
+abbrev pub assigned : ℕ → ℕ → Form → Assignment → Cells → Cells → Cells
+assigned n x e (equate i) old cells = equated x i e.constant cells
+assigned n x e (shift sign) old cells = cells
+assigned n x e bound old cells = bounded_by x (form_interval n (entries n old) e) cells
+
+abbrev pub AssignsTo : ℕ → ℕ → Form → Assignment → Cells → Option Cells → Type 0
+AssignsTo n x e (shift sign) old None = ⊥
+AssignsTo n x e (shift sign) old (Some new) = Shifts n sign x e.constant old new
+AssignsTo n x e (equate i) old new =
+    (cells : Cells) × Forgets n x old cells × IsClosure n (entries n (assigned n x e (equate i) old cells)) new
+AssignsTo n x e bound old new =
+    (cells : Cells) × Forgets n x old cells × IsClosure n (entries n (assigned n x e bound old cells)) new
+
+-- ---- tests
+
+-- e >= 0 where e divided by the magnitude of its coefficients is v_i + v_j + q, or v_i + q
+abbrev pub at_least : ℕ → ℕ → ℤ → Cells → Cells
+at_least i j q cells = entered i (opposite j) (Some q) cells
+
+abbrev pub quotient : Form → ℕ → ℤ
+quotient e m = int_div_euclid e.constant (pos m)
+
+-- the matrix of which the test `e >= 0` gives the closure, or none where it finds that there is no store
+abbrev pub tested_by : ℕ → Form → Shape → Cells → Option Cells
+tested_by n e constant cells = cond (int_lt e.constant (pos 0)) None (Some cells)
+tested_by n e (one m i) cells = Some (at_least i i (quotient e m +ℤ quotient e m) cells)
+tested_by n e (two m i j) cells = Some (at_least i j (quotient e m) cells)
+tested_by n e other cells =
+    option_map (λ is. bounded_from 0 is cells)
+    (ge_tested e.constant e.coefficients (Some (intervals n (entries n cells))))
+
+abbrev pub ClosureOf : ℕ → Option Cells → Option Cells → Type 0
+ClosureOf n None new = new ≡ None
+ClosureOf n (Some cells) new = IsClosure n (entries n cells) new
+
+-- without a variable the matrix stays as it is
+abbrev pub TestsTo : ℕ → Form → Shape → Option Cells → Option Cells → Type 0
+TestsTo n e s None new = new ≡ None
+TestsTo n e constant (Some old) new = new ≡ tested_by n e constant old
+TestsTo n e (one m i) (Some old) new = ClosureOf n (tested_by n e (one m i) old) new
+TestsTo n e (two m i j) (Some old) new = ClosureOf n (tested_by n e (two m i j) old) new
+TestsTo n e other (Some old) new = ClosureOf n (tested_by n e other old) new
+
+abbrev pub opposite_form : Form → Form
+opposite_form e = record { constant = neg_ℤ e.constant; coefficients = map neg_ℤ e.coefficients }
+
+-- `e = 0` is `e >= 0`, then `-e >= 0`
+abbrev pub Tests : TestKind → ℕ → Form → Option Cells → Option Cells → Type 0
+Tests Ge n e old new = TestsTo n e (shape e) old new
+Tests Eq n e old new =
+    (between : Option Cells) × TestsTo n e (shape e) old between
+    × TestsTo n (opposite_form e) (shape (opposite_form e)) between new
+
+-- ---- all changes
+
+abbrev pub Assigns : ℕ → ℕ → Form → Option Cells → Option Cells → Type 0
+Assigns n x e None new = new ≡ None
+Assigns n x e (Some old) new = AssignsTo n x e (assignment_of x (shape e)) old new
+
+-- the entries of the new matrix are those that the old one is to have
+abbrev pub Becomes : ℕ → (Entries → Entries) → ℕ → Option Cells → Option Cells → Type 0
+Becomes k f n None new = new ≡ None
+Becomes k f n (Some old) None = ⊥
+Becomes k f n (Some old) (Some new) = IsMatrix k new × ((i j : ℕ) → entries k new i j ≡ f (entries n old) i j)
+
+-- the defined result of a change
+abbrev pub Steps : Action → Content → Content → Type 0
+Steps (assign x e) a b = (b.dims ≡ a.dims) × Assigns a.dims x e a.cells b.cells
+Steps (forget x) a b = (b.dims ≡ a.dims) × Becomes a.dims (forgotten x) a.dims a.cells b.cells
+Steps (test kind e) a b = (b.dims ≡ a.dims) × Tests kind a.dims e a.cells b.cells
+Steps (embed k) a b = (b.dims ≡ a.dims + k) × Becomes (a.dims + k) (λ m. m) a.dims a.cells b.cells
+Steps (remove_last k) a b =
+    (b.dims ≡ a.dims - k) × Becomes (a.dims - k) (first_entries (a.dims - k)) a.dims a.cells b.cells
+
+-- ---- strains
+
+-- a number of the numbered steps of closing passes the range
+abbrev pub ClosingPasses : ℕ → Cells → Type 0
+ClosingPasses n cells = (closing n cells).progress.flagged ≡ true
+
+abbrev pub ShiftPasses : ℕ → ℕ → ℕ → ℤ → Entries → Type 0
+ShiftPasses n sign x c m = (i : ℕ) × (j : ℕ) × (passes_range (shifted sign x c m i j) ≡ true)
+
+abbrev pub AssignPasses : ℕ → ℕ → Form → Assignment → Cells → Type 0
+AssignPasses n x e (shift sign) old = ShiftPasses n sign x e.constant (entries n old)
+AssignPasses n x e (equate i) old =
+    (cells : Cells) × Forgets n x old cells × ClosingPasses n (assigned n x e (equate i) old cells)
+AssignPasses n x e bound old =
+    SumPasses Low e.constant e.coefficients (intervals n (entries n old))
+    ⊎ SumPasses High e.constant e.coefficients (intervals n (entries n old))
+    ⊎ IntervalPasses (form_interval n (entries n old) e)
+    ⊎ ((cells : Cells) × Forgets n x old cells × ClosingPasses n (assigned n x e bound old cells))
+
+abbrev pub BoundsPass : ℕ → Cells → Option (List Interval) → Type 0
+BoundsPass n old None = ⊥
+BoundsPass n old (Some is) = SomePasses is ⊎ ClosingPasses n (bounded_from 0 is old)
+
+-- a test `e >= 0` may be flagged
+abbrev pub FirstTestPasses : ℕ → Form → Shape → Option Cells → Type 0
+FirstTestPasses n e s None = ⊥
+FirstTestPasses n e constant (Some old) = ⊥
+FirstTestPasses n e (one m i) (Some old) = ClosingPasses n (at_least i i (quotient e m +ℤ quotient e m) old)
+FirstTestPasses n e (two m i j) (Some old) = ClosingPasses n (at_least i j (quotient e m) old)
+FirstTestPasses n e other (Some old) =
+    RefinePasses e.constant e.coefficients (length e.coefficients) (Some (intervals n (entries n old)))
+    ⊎ BoundsPass n old (ge_tested e.constant e.coefficients (Some (intervals n (entries n old))))
+
+abbrev pub TestPasses : TestKind → ℕ → Form → Option Cells → Type 0
+TestPasses Ge n e old = FirstTestPasses n e (shape e) old
+TestPasses Eq n e old =
+    FirstTestPasses n e (shape e) old
+    ⊎ ((between : Option Cells) × TestsTo n e (shape e) old between
+    × FirstTestPasses n (opposite_form e) (shape (opposite_form e)) between)
+
+abbrev pub SomeAssignPasses : ℕ → ℕ → Form → Option Cells → Type 0
+SomeAssignPasses n x e None = ⊥
+SomeAssignPasses n x e (Some old) = AssignPasses n x e (assignment_of x (shape e)) old
+
+-- a change may be flagged: a number of its table passes the range
+abbrev pub StepPasses : Action → Content → Type 0
+StepPasses (assign x e) a = SomeAssignPasses a.dims x e a.cells
+StepPasses (forget x) a = ⊥
+StepPasses (test kind e) a = TestPasses kind a.dims e a.cells
+StepPasses (embed k) a = ⊥
+StepPasses (remove_last k) a = ⊥
