@@ -2,3 +2,4 @@ pub mod FitLemmas
 pub mod ClosedLemmas
 pub mod StoreLemmas
 pub mod MeetsLemmas
+pub mod EnterLemmas

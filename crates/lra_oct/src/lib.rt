@@ -2,6 +2,7 @@
 #![tactic(auto)]
 
 mod bounds;
+mod closing;
 mod octagon;
 
 pub use octagon::Octagon;
