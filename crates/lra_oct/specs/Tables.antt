@@ -5,8 +5,8 @@ use Rattle.std.specs.Prelude.{Option, None, Some, ◌⊎◌}
 use Rattle.std.specs.Option.{option_map}
 use Rattle.std.specs.Int.{int_div_euclid}
 use Rattle.lra_lin.specs.Form.{Form}
-use Rattle.lra_lin.specs.declared.test.TestKind.{TestKind}
-use Rattle.lra_lin.specs.declared.test.TestKind.TheVariants.{Ge, Eq}
+use Rattle.lra_linear.specs.declared.ConKind.{ConKind}
+use Rattle.lra_linear.specs.declared.ConKind.TheVariants.{Ge, Eq}
 use Rattle.lra_dbm.specs.Entry.{◌⊞◌, half_of, within_range, passes_range}
 use Rattle.lra_dbm.specs.Tight.{Entries, opposite}
 use Rattle.lra_dbm.specs.Cells.{Cells, entries, entered, forgotten, first_entries, IsMatrix}
@@ -153,7 +153,7 @@ abbrev pub opposite_form : Form → Form
 opposite_form e = record { constant = neg_ℤ e.constant; coefficients = map neg_ℤ e.coefficients }
 
 -- `e = 0` is `e >= 0`, then `-e >= 0`
-abbrev pub Tests : TestKind → ℕ → Form → Option Cells → Option Cells → Type 0
+abbrev pub Tests : ConKind → ℕ → Form → Option Cells → Option Cells → Type 0
 Tests Ge n e old new = TestsTo n e (shape e) old new
 Tests Eq n e old new =
     (between : Option Cells) × TestsTo n e (shape e) old between
@@ -213,7 +213,7 @@ FirstTestPasses n e other (Some old) =
     RefinePasses e.constant e.coefficients (length e.coefficients) (Some (intervals n (entries n old)))
     ⊎ BoundsPass n old (ge_tested e.constant e.coefficients (Some (intervals n (entries n old))))
 
-abbrev pub TestPasses : TestKind → ℕ → Form → Option Cells → Type 0
+abbrev pub TestPasses : ConKind → ℕ → Form → Option Cells → Type 0
 TestPasses Ge n e old = FirstTestPasses n e (shape e) old
 TestPasses Eq n e old =
     FirstTestPasses n e (shape e) old
