@@ -1,0 +1,99 @@
+-- What is told of lost rows.
+use Rattle.std.proofs.Common.{◌≡◌, ℕ, zero, suc, ◌<◌, Bool, List, [], ◌∷◌, ◌++◌, length, get_or, drop, refl, ap, sym, ◌∙◌, subst, arith, ℤ, inl, inr}
+use Rattle.std.specs.List.{Contains}
+use Rattle.std.proofs.lemmas.List.{append-nil, get_or_default}
+use Rattle.lra_linear.specs.declared.Excess as E
+use Rattle.lra_linear.specs.declared.Cause.TheVariants as of_cause
+use Rattle.lra_linear.specs.Descriptions.{Given, Con, inequality, system_of}
+use Rattle.lra_linear.proofs.Descriptions.{con_none}
+use Rattle.lra_linear.specs.OperationStrain.{with_positivity, FromRowsStrains, FromGeneratorsStrains}
+use Rattle.lra_linear.specs.Points.{PointSet, IsWithin}
+use Rattle.lra_linear.specs.Polyhedra.{Polyhedron, IsPolyhedronOf, positivity}
+use Rattle.lra_linear.specs.Cones.{AreDual, all_rows}
+use Rattle.lra_linear.specs.Strain.{Loss, Strains, IsStrained, OwnReductionPasses}
+use Rattle.lra_linear.proofs.Membership.{contains_head, contains_tail}
+use Rattle.lra_sys.specs.Listed.{given_by}
+use Rattle.lra_row.specs.declared.error.RowError.TheVariants as of_row
+use Rattle.lra_cone.specs.Cones.{Shape, IsCone}
+use Rattle.lra_cone.specs.Conversions.{IsConversion}
+use Rattle.lra_cone.specs.Losses.{IfLost}
+use Rattle.lra_pair.specs.OwnLists.{IsOwnLoss, IsOwnExcess}
+
+-- where no row was left out before, the own list's strain is the list's
+own_strain : (s : Shape) (all : List Given) (e : E.Excess) (loss : Loss) → IsCone s → s.taken ≡ all → IsOwnLoss s e loss → IsOwnExcess s (of_row.Excess e) → Strains (suc s.dims) all loss
+own_strain s all e loss k t l x = record {
+  rest = [];
+  begins = sym t ∙ sym l.chosen ∙ sym (append-nil loss.chosen);
+  next = inr (subst (λ (g : List Given). Contains g loss.further) (sym l.chosen) l.further);
+  lines = s.lines;
+  rays = s.rays;
+  dual = subst (λ (g : List Given). AreDual (suc s.dims) (system_of g) (all_rows s.lines s.rays)) (sym l.chosen) k.dual;
+  canonical = k.canonical;
+  strained = subst (IsStrained (suc s.dims) loss.chosen loss.further s.lines s.rays) (sym l.cause)
+      (inr (inr (inl (subst (λ (g : List Given). OwnReductionPasses (suc s.dims) g s.rays e) (sym l.chosen) x))));
+}
+
+pub own_lost : (first all kept : List Given) (s : Shape) (e : E.Excess) (losses after : List Loss) (loss : Loss) → IsCone s → IsConversion first all kept s losses → after ≡ losses ++ loss ∷ [] →
+    IsOwnLoss s e loss → IsOwnExcess s (of_row.Excess e) → IfLost (Strains (suc s.dims) (first ++ all)) after
+own_lost first all kept s e losses after loss k c ea l x = subst (IfLost (Strains (suc s.dims) (first ++ all))) (sym ea) (by_losses losses c)
+  where
+    by_losses : (losses : List Loss) → IsConversion first all kept s losses → IfLost (Strains (suc s.dims) (first ++ all)) (losses ++ loss ∷ [])
+    by_losses [] c = own_strain s (first ++ all) e loss k (c.taken ∙ ap (λ (g : List Given). first ++ g) (c.whole refl)) l x
+    by_losses (y ∷ later) c = c.strain
+
+pub from_strain : (n : ℕ) (rows : List Given) (losses : List Loss) → IfLost (Strains (suc n) (with_positivity n rows)) losses → IfLost (FromRowsStrains n rows) losses
+from_strain n rows [] s = tt
+from_strain n rows (loss ∷ later) s = inl s
+
+pub within_kept : (n : ℕ) (rows kept : List Given) (p : Polyhedron) → ((g : Given) → Contains kept g → Contains rows g) → IsPolyhedronOf n (Con kept) p → IsWithin n (Con rows) (Con p.rows)
+within_kept n rows kept p among h x point con = h.points.0 x point (λ g m. con g (among g m))
+
+-- ---- the row that is named
+given_at : {K : Type 0} (equal : K → Bool) (rows : List (List ℤ)) (kinds : List K) (i : ℕ) (d : K) → length kinds ≡ length rows → i < length rows →
+    Contains (given_by equal rows kinds) (record { row = get_or rows i []; equal = equal (get_or kinds i d) })
+given_at equal [] kinds i d n h = absurd (omega (arith, h))
+given_at equal (r ∷ rows) [] i d n h = absurd (omega (arith, n))
+given_at equal (r ∷ rows) (k ∷ kinds) zero d n h = contains_head (let g : Given = record { row = r; equal = equal k } in g) (given_by equal rows kinds)
+given_at equal (r ∷ rows) (k ∷ kinds) (suc i) d n h = contains_tail (let g : Given = record { row = r; equal = equal k } in g) (let g : Given = record { row = get_or rows i []; equal = equal (get_or kinds i d) } in g) (given_by equal rows kinds) (given_at equal rows kinds i d (omega (arith, n)) (omega (arith, h)))
+
+pub own_loss_is : {K : Type 0} (equal : K → Bool) (s : Shape) (e : E.Excess) (loss : Loss) (listed rows : List (List ℤ)) (seen kinds : List K) (i : ℕ) (r : List ℤ) (d : K) →
+    given_by equal rows kinds ≡ s.taken → listed ≡ rows → seen ≡ kinds → length seen ≡ length rows → i < length listed → r ≡ get_or listed i r →
+    loss ≡ record { chosen = given_by equal rows kinds; further = record { row = r; equal = equal (get_or seen i d) }; cause = of_cause.Excess e } → IsOwnLoss s e loss
+own_loss_is {K = K} equal s e loss listed rows seen kinds i r d et el ek n h er eq =
+    let here : r ≡ get_or rows i [] = er ∙ get_or_default listed i r [] h ∙ ap (λ (l : List (List ℤ)). get_or l i []) el in
+    let many : length kinds ≡ length rows = ap length (sym ek) ∙ n in
+    let inside : i < length rows = subst (λ (l : List (List ℤ)). i < length l) el h in
+    record {
+      chosen = ap (λ (l : Loss). l.chosen) eq ∙ et;
+      further = subst (λ (g : Given). Contains s.taken g) (sym (ap (λ (l : Loss). l.further) eq ∙ ap (λ (y : List ℤ). record { row = y; equal = equal (get_or seen i d) }) here))
+          (subst (λ (l : List Given). Contains l (record { row = get_or rows i []; equal = equal (get_or seen i d) })) et
+          (subst (λ (q : List K). Contains (given_by equal rows kinds) (record { row = get_or rows i []; equal = equal (get_or q i d) })) (sym ek) (given_at equal rows kinds i d many inside)));
+      cause = ap (λ (l : Loss). l.cause) eq;
+    }
+
+-- ---- generators
+pub from_generators_strain : (n : ℕ) (given : List Given) (losses : List Loss) → IfLost (Strains (suc n) given) losses → IfLost (FromGeneratorsStrains n given) losses
+from_generators_strain n given [] s = tt
+from_generators_strain n given (loss ∷ later) s = inl s
+
+pub within_both : (n d : ℕ) (P Q R : PointSet) → d ≡ n → IsWithin n P Q → IsWithin d Q R → IsWithin n P R
+within_both n d P Q R e h k x point p = subst (λ (m : ℕ). IsWithin m Q R) e k x point (h x point p)
+
+-- ---- as the code tells it, of constraints
+pub rows_within : (n d : ℕ) (rows kept : List Given) (s start : Shape) (losses : List Loss) (p : Polyhedron) → d ≡ n → start.taken ≡ inequality (positivity d) ∷ [] →
+    IsConversion start.taken rows kept s losses → IsPolyhedronOf d (Con (drop 1 s.taken)) p → IsWithin n (Con rows) (Con p.rows)
+rows_within n d rows kept s start losses p e first c h =
+    let t : drop 1 s.taken ≡ kept = ap (drop 1) (c.taken ∙ ap (λ (l : List Given). l ++ kept) first) in
+    subst (λ (m : ℕ). IsWithin m (Con rows) (Con p.rows)) e (within_kept d rows kept p c.among (subst (λ (l : List Given). IsPolyhedronOf d (Con l) p) t h))
+
+pub universe_within : (n d : ℕ) (rows : List Given) (p : Polyhedron) → d ≡ n → IsPolyhedronOf d (Con []) p → IsWithin n (Con rows) (Con p.rows)
+universe_within n d rows p e h = subst (λ (m : ℕ). IsWithin m (Con rows) (Con p.rows)) e (λ x point con. h.points.0 x point (con_none x))
+
+pub rows_strain : (n d : ℕ) (rows kept : List Given) (s start : Shape) (e : E.Excess) (losses after : List Loss) (loss : Loss) → d ≡ n → s.dims ≡ start.dims → start.dims ≡ d →
+    start.taken ≡ inequality (positivity d) ∷ [] → IsCone s → IsConversion start.taken rows kept s losses → after ≡ losses ++ loss ∷ [] → IsOwnLoss s e loss → IsOwnExcess s (of_row.Excess e) →
+    IfLost (FromRowsStrains n rows) after
+rows_strain n d rows kept s start e losses after loss ed es er first k c ea l x =
+    let i : s.dims ≡ n = es ∙ er ∙ ed in
+    let all : start.taken ++ rows ≡ with_positivity n rows = ap (λ (g : List Given). g ++ rows) (first ∙ ap (λ (m : ℕ). inequality (positivity m) ∷ []) ed) in
+    from_strain n rows after (subst (λ (g : List Given). IfLost (Strains (suc n) g) after) all
+        (subst (λ (m : ℕ). IfLost (Strains (suc m) (start.taken ++ rows)) after) i (own_lost start.taken rows kept s e losses after loss k c ea l x)))

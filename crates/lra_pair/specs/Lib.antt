@@ -1,0 +1,2 @@
+-- Canonical lists of a list's own kind.
+pub mod OwnLists

@@ -1,0 +1,79 @@
+-- The canonical list of the own kind: of constraints that were taken into a cone the canonical constraints, of
+-- generators the canonical generators. Rows that are tight at all rays of the cone come into an echelon form; the
+-- others are reduced by it.
+use Rattle.std.specs.Prelude.{◌≡◌, ◌↔◌, ℕ, suc, ◌+◌, ◌<◌, ◌≤◌, ℤ, pos, Bool, true, cond, List, [], ◌∷◌, length}
+use Rattle.std.specs.Prelude.{slice_index_or, nat_lt}
+use Rattle.std.specs.List.{Contains}
+use Rattle.lra_linear.specs.Vectors.{product}
+use Rattle.lra_linear.specs.Canonical.{IsCanonicalOf}
+use Rattle.lra_linear.specs.Descriptions.{Given, inequality, system_of}
+use Rattle.lra_linear.specs.Polyhedra.{positivity}
+use Rattle.lra_linear.specs.declared.Excess as E
+use Rattle.lra_linear.specs.declared.Cause.TheVariants as of_cause
+use Rattle.lra_linear.specs.Strain.{Loss, is_tight_at, tight_rows, OwnReductionPasses}
+use Rattle.lra_bits.specs.TruthValues.{value_at}
+use Rattle.lra_linear.specs.Reduction.{ReductionPasses}
+use Rattle.lra_canon.specs.Reduced.{IsReducedBy}
+use Rattle.lra_row.specs.declared.error.RowError.{RowError}
+use Rattle.lra_row.specs.declared.error.RowError.TheVariants.{Excess, Memory}
+use Rattle.lra_cone.specs.Cones.{Shape}
+
+-- ---- tight rows and the others
+-- the rows that are not tight at some ray, in their order
+abbrev pub loose_rows : List (List ℤ) → List (List ℤ) → List (List ℤ)
+loose_rows rays [] = []
+loose_rows rays (r ∷ rows) = cond (is_tight_at rays r) (loose_rows rays rows) (r ∷ loose_rows rays rows)
+
+-- the values say at which rays the row is tight, and that it is at each of so many lines
+pub record TellsTight (rays : List (List ℤ)) (lines : ℕ) (r : List ℤ) (bits : List Bool) : Type 0 where
+  pub many : length bits ≡ length rays + lines
+  pub at_rays : (j : ℕ) → j < length rays → (value_at bits j ≡ true) ↔ (product r (slice_index_or rays j []) ≡ pos 0)
+  pub at_lines : (j : ℕ) → length rays ≤ j → j < length bits → value_at bits j ≡ true
+
+-- row by row
+abbrev pub AllTellTight : List (List ℤ) → ℕ → List (List ℤ) → List (List Bool) → Type 0
+AllTellTight rays lines [] [] = Unit {0}
+AllTellTight rays lines [] (b ∷ bits) = ⊥
+AllTellTight rays lines (r ∷ rows) [] = ⊥
+AllTellTight rays lines (r ∷ rows) (b ∷ bits) = TellsTight rays lines r b × AllTellTight rays lines rows bits
+
+abbrev pub AreReducedBy : List (List ℤ) → List (List ℤ) → List (List ℤ) → Type 0
+AreReducedBy form [] [] = Unit {0}
+AreReducedBy form [] (t ∷ ts) = ⊥
+AreReducedBy form (r ∷ rows) [] = ⊥
+AreReducedBy form (r ∷ rows) (t ∷ ts) = IsReducedBy form r t × AreReducedBy form rows ts
+
+-- ---- the list, or the reduction in which a number passes
+abbrev pub IsOwnList : Shape → List (List ℤ) → List (List ℤ) → Type 0
+IsOwnList s lines rays = IsCanonicalOf (suc s.dims) (system_of s.taken) lines rays
+
+abbrev pub IsOwnExcess : Shape → RowError → Type 0
+IsOwnExcess s (Excess e) = OwnReductionPasses (suc s.dims) s.taken s.rays e
+IsOwnExcess s Memory = Unit {0}
+
+-- ---- as the code goes through the rows
+-- whether the row at the place is tight at a ray; past the rays stand lines, at which each is
+abbrev pub tight_value : List (List Bool) → ℕ → ℕ → Bool
+tight_value rows place ray = cond (nat_lt ray (length rows)) (value_at (slice_index_or rows ray []) place) true
+
+-- the parts of the rows so far
+pub record AreParts (rays : List (List ℤ)) (lines : ℕ) (rows tight loose : List (List ℤ))
+    (bits : List (List Bool)) : Type 0 where
+  pub is_tight : tight ≡ tight_rows rays rows
+  pub is_loose : loose ≡ loose_rows rays rows
+  pub told : AllTellTight rays lines loose bits
+
+-- the reduction of some row passes
+abbrev pub AnyReductionExcess : List (List ℤ) → List (List ℤ) → RowError → Type 0
+AnyReductionExcess form rows (Excess e) = (r : List ℤ) × Contains rows r × ReductionPasses (length form) form r e
+AnyReductionExcess form rows Memory = Unit {0}
+
+-- the positivity row stands first
+abbrev pub IsPositive : ℕ → List Given → Type 0
+IsPositive n taken = (kept : List Given) × (taken ≡ inequality (positivity n) ∷ kept)
+
+-- a number passes in the own list of the rows taken in, one of which is named
+pub record IsOwnLoss (s : Shape) (e : E.Excess) (loss : Loss) : Type 0 where
+  pub chosen : loss.chosen ≡ s.taken
+  pub further : Contains s.taken loss.further
+  pub cause : loss.cause ≡ of_cause.Excess e

@@ -1,0 +1,8 @@
+//! Canonical lists of constraints and of generators, as a pair with the same points.
+#![tactic(auto)]
+
+mod own;
+mod pair;
+
+pub use own::{Own, own_list};
+pub use pair::{Pair, from_generators, from_rows, universe};

@@ -1,0 +1,159 @@
+//! The canonical list of a list's own kind, from the cone that its rows were taken into.
+
+ghost use Rattle.std.specs.Prelude.{◌≡◌, ◌↔◌, ◌++◌, ◌∷◌, [], ℕ, List, ℤ, true, ◌+◌, ◌<◌, ◌^◌, suc, length, IsTrue};
+ghost use Rattle.std.specs.Prelude.{IfOk, IfErr, OnOk};
+ghost use Rattle.std.specs.List.{All};
+ghost use Rattle.lra_bits.specs.TruthValues.{value_at};
+ghost use Rattle.lra_cone.specs.Cones.{IsCone};
+ghost use Rattle.lra_cone.specs.Steps.{IsFilled};
+ghost use Rattle.lra_linear.specs.Descriptions.{rows_of};
+ghost use Rattle.lra_canon.specs.Reduced.{IsForm, IsReductionExcess};
+ghost use Rattle.lra_canon.specs.Echelons.{HaveWidth};
+ghost use Rattle.lra_pair.specs.OwnLists.{TellsTight, AreParts, AreReducedBy, AnyReductionExcess, IsOwnList};
+ghost use Rattle.lra_pair.specs.OwnLists.{IsOwnExcess, tight_value};
+
+use lra_bits::{BitRow, SatMatrix};
+use lra_canon::{drop_redundant, echelon, reduce};
+use lra_cone::Cone;
+use lra_row::{Row, RowError};
+use std::alloc::{AllocError, Global};
+
+// Whether the row at the place is tight at this ray; past the rays stand lines, at which each row is.
+fn is_tight(saturation: &SatMatrix, place: usize, ray: usize) -> bool
+    requires { place < saturation.now.width }
+    ensures { result ≡ tight_value saturation.now.rows place ray }
+{
+    if ray < saturation.height() {
+        saturation.row(ray).get(place)
+    } else {
+        true
+    }
+}
+
+// At which rays, and lines behind them, the row at the place is tight.
+fn tight_where(
+    alloc: Global,
+    saturation: &SatMatrix,
+    width: usize,
+    place: usize,
+) -> Result<BitRow, AllocError>
+    requires { place < saturation.now.width }
+    ensures { IfOk result (IsFilled (tight_value saturation.now.rows place) width width) }
+{
+    let mut bits = BitRow::new(alloc, width)?;
+    for ray in 0..width {
+        bits.set(ray, is_tight(saturation, place, ray));
+    }
+    Ok(bits)
+}
+
+fn are_true(bits: &BitRow) -> bool
+    ensures { IsTrue result ↔ ((k : ℕ) → k < length bits.now → value_at bits.now k ≡ true) }
+{
+    for k in 0..bits.width() {
+        if !bits.get(k) {
+            return false;
+        }
+    }
+    true
+}
+
+// The rows that are tight at all rays, and the others with where they are tight.
+#[derive(Drop)]
+struct Parts {
+    tight: Vec<Row>,
+    loose: Vec<Row>,
+    saturation: SatMatrix,
+}
+
+impl Parts {
+    // Puts a row, tight where the values say, to its part.
+    fn push(&mut self, row: Row, bits: BitRow) -> Result<(), AllocError>
+        requires { length bits ≡ self.old.saturation.width }
+        ensures width { OnOk result (self.new.saturation.width ≡ self.old.saturation.width) }
+        ensures parts { OnOk result ((rays : List (List ℤ)) (lines : ℕ) (rows : List (List ℤ)) →
+            TellsTight rays lines row bits →
+            AreParts rays lines rows self.old.tight.items self.old.loose.items self.old.saturation.rows →
+            AreParts rays lines (rows ++ row ∷ []) self.new.tight.items self.new.loose.items self.new.saturation.rows) }
+    {
+        if are_true(&bits) {
+            self.tight.push(row)?;
+        } else {
+            self.loose.push(row)?;
+            self.saturation.add_row(bits)?;
+        }
+        Ok(())
+    }
+}
+
+// The parts of the rows taken in.
+fn parted(alloc: Global, cone: &Cone) -> Result<Parts, AllocError>
+    ensures cone { IsCone cone.now }
+    ensures parts { IfOk result (λ p. AreParts cone.now.rays (length cone.now.lines)
+        (rows_of cone.now.taken) p.tight.items p.loose.items p.saturation.rows) }
+{
+    let Some(width) = cone.rays().len().checked_add(cone.lines().len()) else {
+        return Err(AllocError);
+    };
+    let mut parts = Parts {
+        tight: Vec::new(alloc),
+        loose: Vec::new(alloc),
+        saturation: SatMatrix::new(alloc, width),
+    };
+    let taken = cone.taken();
+    let (rows, _kinds) = (taken.rows(), taken.kinds());
+    for place in 0..rows.len() {
+        let bits = tight_where(alloc, cone.saturation(), width, place)?;
+        parts.push(rows[place].copy()?, bits)?;
+    }
+    Ok(parts)
+}
+
+// The rows reduced by the form.
+fn all_reduced(
+    alloc: Global,
+    rows: &[Row],
+    form: &[Row],
+    width: usize,
+) -> Result<Vec<Row>, RowError>
+    requires wide { 0 < width }
+    requires rows { HaveWidth width rows.now }
+    requires form_widths { HaveWidth width form.now }
+    requires form { IsForm form.now }
+    ensures reduced { IfOk result (λ reduced. AreReducedBy form.now rows.now reduced.items) }
+    ensures widths { IfOk result (λ reduced. HaveWidth width reduced.items) }
+    ensures excess { IfErr result (AnyReductionExcess form.now rows.now) }
+{
+    let mut all = Vec::new(alloc);
+    for row in rows {
+        let mut reduced = row.copy()?;
+        reduce(&mut reduced, form)?;
+        all.push(reduced)?;
+    }
+    Ok(all)
+}
+
+/// Lines and rays: of constraints the equalities and inequalities, of generators the lines and the points and rays.
+#[derive(Drop)]
+pub struct Own {
+    pub lines: Vec<Row>,
+    pub rays: Vec<Row>,
+}
+
+/// The canonical description of what the rows taken into the cone generate: of constraints the canonical equalities and
+/// inequalities, of generators the canonical lines and rays. Or names a number that passes the range in it.
+pub fn own_list(alloc: Global, cone: &Cone) -> Result<Own, RowError>
+    requires { cone.now.dims < 2 ^ 62 }
+    ensures ok { IfOk result (λ own. IsOwnList cone.now own.lines.items own.rays.items) }
+    ensures excess { IfErr result (IsOwnExcess cone.now) }
+{
+    let Parts {
+        tight: mut lines,
+        loose,
+        mut saturation,
+    } = parted(alloc, cone)?;
+    echelon(&mut lines)?;
+    let mut rays = all_reduced(alloc, &loose, &lines, cone.dims() + 1)?;
+    drop_redundant(&mut rays, &mut saturation)?;
+    Ok(Own { lines, rays })
+}

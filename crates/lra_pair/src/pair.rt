@@ -1,0 +1,255 @@
+//! Both canonical lists of a polyhedron.
+
+ghost use Rattle.std.specs.Prelude.{◌≡◌, ◌∷◌, ◌<◌, ◌^◌, [], length, drop, IfOk};
+ghost use Rattle.lra_linear.specs.Descriptions.{AreGenerators, Con, Gen, inequality};
+ghost use Rattle.lra_linear.specs.OperationStrain.{FromRowsStrains, FromGeneratorsStrains};
+ghost use Rattle.lra_linear.specs.Points.{IsEmptySet, IsWithin};
+ghost use Rattle.lra_linear.specs.Polyhedra.{IsPolyhedron, IsPolyhedronOf, falsity};
+ghost use Rattle.lra_sys.specs.Listed.{constraints, generators, FitKinds};
+ghost use Rattle.lra_cone.specs.Cones.{IsCone};
+ghost use Rattle.lra_cone.specs.Losses.{IfLost};
+ghost use Rattle.lra_pair.specs.OwnLists.{IsOwnList, IsOwnLoss, IsPositive};
+
+use crate::own::{Own, own_list};
+use lra_cone::{
+    Cone, Conversion, Loss, constraint_list, dual_rows, generator_list, has_point, nothing,
+    positive_cone, take_rows, unit, valid_list,
+};
+use lra_linear::{Cause, Excess};
+use lra_row::RowError;
+use lra_sys::{ConSys, GenSys};
+use std::alloc::{AllocError, Global};
+use std::marker::Model;
+
+/// A closed polyhedron by its canonical constraints and its canonical generators.
+pub struct Pair {
+    rows: ConSys,
+    by_generators: GenSys,
+}
+
+impl Drop for Pair {
+    fn drop(self) {
+        let Pair {
+            rows: _,
+            by_generators: _,
+        } = self;
+    }
+}
+
+impl Model for Pair {
+    ghost use Rattle.std.specs.Prelude.{◌≡◌};
+    ghost use Rattle.lra_linear.specs.Polyhedra.{Polyhedron, IsPolyhedron};
+    ghost use Rattle.lra_sys.specs.Listed.{constraints, generators, FitKinds};
+
+    ghost Value = { Polyhedron };
+
+    ghost view = { λ s.
+        record { dims = s.rows.dims; rows = constraints s.rows; generators = generators s.by_generators } };
+
+    ghost invariant = { λ s.
+        IsPolyhedron (record { dims = s.rows.dims; rows = constraints s.rows; generators = generators s.by_generators })
+        × (s.by_generators.dims ≡ s.rows.dims) × FitKinds s.by_generators.rows s.by_generators.kinds };
+}
+
+impl Pair {
+    /// The number of dimensions.
+    pub fn dims(&self) -> usize
+        ensures { result ≡ self.now.dims }
+    {
+        self.rows.dims()
+    }
+
+    /// The constraints, in canonical order.
+    pub fn rows(&self) -> &ConSys
+        ensures dims { result.now.dims ≡ self.now.dims }
+        ensures rows { constraints result.now ≡ self.now.rows }
+        ensures canonical { IsPolyhedron self.now }
+    {
+        &self.rows
+    }
+
+    /// The points, rays and lines, in canonical order; none where there is no point.
+    pub fn generators(&self) -> &GenSys
+        ensures dims { result.now.dims ≡ self.now.dims }
+        ensures generators { generators result.now ≡ self.now.generators }
+        ensures kinds { FitKinds result.now.rows result.now.kinds }
+        ensures canonical { IsPolyhedron self.now }
+    {
+        &self.by_generators
+    }
+}
+
+// No memory holds a row of so many columns.
+const TOO_MANY_DIMENSIONS: usize = 1 << 62;
+
+// The polyhedron without a point.
+fn empty(alloc: Global, n: usize) -> Result<Pair, AllocError>
+    requires { n < 2 ^ 62 }
+    ensures dims { IfOk result (λ p. p.dims ≡ n) }
+    ensures rows { IfOk result (λ p. p.rows ≡ inequality (falsity n) ∷ []) }
+    ensures generators { IfOk result (λ p. p.generators ≡ []) }
+{
+    Ok(Pair {
+        rows: nothing(alloc, n)?,
+        by_generators: GenSys::new(alloc, n),
+    })
+}
+
+/// All points of n dimensions.
+pub fn universe(alloc: Global, n: usize) -> Result<Pair, AllocError>
+    requires { n < 2 ^ 62 }
+    ensures { IfOk result (IsPolyhedronOf n (Con [])) }
+{
+    let cone = positive_cone(alloc, n)?;
+    let generators = generator_list(alloc, n, cone.lines(), cone.rays())?;
+    Ok(Pair {
+        rows: ConSys::new(alloc, n),
+        by_generators: generators,
+    })
+}
+
+// The polyhedron of the rows that were taken into the cone, of which this is the own list.
+fn of_rows(alloc: Global, n: usize, cone: &Cone, own: &Own) -> Result<Pair, AllocError>
+    requires small { n < 2 ^ 62 }
+    requires dims { cone.now.dims ≡ n }
+    requires positive { IsPositive n cone.now.taken }
+    requires own { IsOwnList cone.now own.now.lines.items own.now.rays.items }
+    ensures { IfOk result (IsPolyhedronOf n (Con (drop 1 cone.now.taken))) }
+{
+    let (lines, rays) = (cone.lines(), cone.rays());
+    let generators = generator_list(alloc, n, lines, rays)?;
+    if generators.rows().is_empty() {
+        let pair = empty(alloc, n)?;
+        return Ok(pair);
+    }
+    let positivity = unit(alloc, n, 0)?;
+    let rows = constraint_list(alloc, &own.lines, &own.rays, &positivity, n)?;
+    Ok(Pair {
+        rows,
+        by_generators: generators,
+    })
+}
+
+// The polyhedron of the generators that were taken into the cone, some of them points, of which this is the own list.
+fn of_generators(alloc: Global, n: usize, cone: &Cone, own: &Own) -> Result<Pair, AllocError>
+    requires small { n < 2 ^ 62 }
+    requires dims { cone.now.dims ≡ n }
+    requires columns { AreGenerators cone.now.taken }
+    requires some { ¬ (IsEmptySet n (Gen cone.now.taken)) }
+    requires own { IsOwnList cone.now own.now.lines.items own.now.rays.items }
+    ensures { IfOk result (IsPolyhedronOf n (Gen cone.now.taken)) }
+{
+    let (lines, rays) = (cone.lines(), cone.rays());
+    let generators = generator_list(alloc, n, &own.lines, &own.rays)?;
+    let positivity = unit(alloc, n, 0)?;
+    let rows = constraint_list(alloc, lines, rays, &positivity, n)?;
+    Ok(Pair {
+        rows,
+        by_generators: generators,
+    })
+}
+
+// What is told where a number passes in the own list: the last of the rows taken in stands for them.
+fn own_loss(alloc: Global, cone: &Cone, excess: Excess) -> Result<Loss, AllocError>
+    requires { 0 < length cone.now.taken }
+    ensures cone { IsCone cone.now }
+    ensures loss { IfOk result (IsOwnLoss cone.now excess) }
+{
+    let taken = cone.taken();
+    let (rows, kinds) = (taken.rows(), taken.kinds());
+    let last = rows.len() - 1;
+    Loss::new(
+        alloc,
+        taken,
+        &rows[last],
+        kinds[last],
+        Cause::Excess(excess),
+    )
+}
+
+/// The polyhedron of the constraints, and what was lost: rows with which a number passes the range, or there are too
+/// many generators, are left out; where a number passes in the canonical constraints, all are. Without a loss it has
+/// the points of the constraints, else at least those.
+pub fn from_rows(alloc: Global, rows: &ConSys) -> Result<(Pair, Vec<Loss>), AllocError>
+    ensures dims { IfOk result (λ r. r.0.dims ≡ rows.now.dims) }
+    ensures canonical { IfOk result (λ r. IsPolyhedron r.0) }
+    ensures exact { IfOk result (λ r. r.1.items ≡ [] → IsPolyhedronOf rows.now.dims (Con (constraints rows.now)) r.0) }
+    ensures within { IfOk result (λ r. IsWithin rows.now.dims (Con (constraints rows.now)) (Con r.0.rows)) }
+    ensures strain { IfOk result (λ r. IfLost (FromRowsStrains rows.now.dims (constraints rows.now)) r.1.items) }
+{
+    let n = rows.dims();
+    if n >= TOO_MANY_DIMENSIONS {
+        return Err(AllocError);
+    }
+    let Conversion {
+        cone,
+        kept: _,
+        mut losses,
+    } = take_rows(alloc, positive_cone(alloc, n)?, rows)?;
+    match own_list(alloc, &cone) {
+        Ok(own) => {
+            let pair = of_rows(alloc, n, &cone, &own)?;
+            Ok((pair, losses))
+        }
+        Err(RowError::Memory) => Err(AllocError),
+        Err(RowError::Excess(excess)) => {
+            losses.push(own_loss(alloc, &cone, excess)?)?;
+            let pair = universe(alloc, n)?;
+            Ok((pair, losses))
+        }
+    }
+}
+
+// The polyhedron of constraints that hold at each of the points, after a loss.
+fn widened(alloc: Global, list: &ConSys, losses: Vec<Loss>) -> Result<(Pair, Vec<Loss>), AllocError>
+    ensures dims { IfOk result (λ r. r.0.dims ≡ list.now.dims) }
+    ensures canonical { IfOk result (λ r. IsPolyhedron r.0) }
+    ensures within { IfOk result (λ r. IsWithin list.now.dims (Con (constraints list.now)) (Con r.0.rows)) }
+    ensures losses { IfOk result (λ r. r.1.items ≡ losses.items) }
+{
+    let (pair, _) = from_rows(alloc, list)?;
+    Ok((pair, losses))
+}
+
+/// The polyhedron of the generators, and what was lost. Where one of them isn't taken in, those of the constraints that
+/// are valid on all of them are taken, as where a number passes in the canonical generators. Without a loss it has the
+/// points of the generators, else at least those.
+pub fn from_generators(alloc: Global, given: &GenSys) -> Result<(Pair, Vec<Loss>), AllocError>
+    requires { FitKinds given.now.rows given.now.kinds }
+    ensures dims { IfOk result (λ r. r.0.dims ≡ given.now.dims) }
+    ensures canonical { IfOk result (λ r. IsPolyhedron r.0) }
+    ensures exact { IfOk result (λ r. r.1.items ≡ [] → IsPolyhedronOf given.now.dims (Gen (generators given.now)) r.0) }
+    ensures within { IfOk result (λ r. IsWithin given.now.dims (Gen (generators given.now)) (Con r.0.rows)) }
+    ensures strain { IfOk result (λ r. IfLost (FromGeneratorsStrains given.now.dims (generators given.now)) r.1.items) }
+{
+    let n = given.dims();
+    if n >= TOO_MANY_DIMENSIONS {
+        return Err(AllocError);
+    }
+    if !has_point(given.kinds()) {
+        let pair = empty(alloc, n)?;
+        return Ok((pair, Vec::new(alloc)));
+    }
+    let rows = dual_rows(alloc, given)?;
+    let conversion = take_rows(alloc, Cone::whole(alloc, n)?, &rows)?;
+    let list = valid_list(alloc, &conversion, &rows)?;
+    let Conversion {
+        cone,
+        kept: _,
+        mut losses,
+    } = conversion;
+    if !losses.is_empty() {
+        return widened(alloc, &list, losses);
+    }
+    match own_list(alloc, &cone) {
+        Ok(own) => {
+            let pair = of_generators(alloc, n, &cone, &own)?;
+            Ok((pair, losses))
+        }
+        Err(RowError::Memory) => Err(AllocError),
+        Err(RowError::Excess(excess)) => {
+            losses.push(own_loss(alloc, &cone, excess)?)?;
+            widened(alloc, &list, losses)
+        }
+    }
+}
