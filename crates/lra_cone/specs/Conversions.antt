@@ -1,13 +1,13 @@
 -- Conversions of lists: the cone of the rows that were taken in, and the lists of the other kind that it shows.
-use Rattle.std.specs.Prelude.{◌≡◌, ◌≢◌, ◌⊎◌, ℕ, suc, ℤ, pos, ◌<ℤ◌, ◌≤ℤ◌, int_lt, Bool, true, false, cond, List, [], ◌∷◌}
-use Rattle.std.specs.Prelude.{◌++◌}
+use Rattle.std.specs.Prelude.{◌≡◌, ◌≢◌, ◌⊎◌, ℕ, suc, ℤ, pos, ◌<ℤ◌, ◌≤ℤ◌, int_lt, Bool, true, false, cond}
+use Rattle.std.specs.Prelude.{List, [], ◌∷◌, ◌++◌}
 use Rattle.std.specs.Prelude.{length, replicate}
 use Rattle.std.specs.List.{Contains}
 use Rattle.std.specs.List.Sorted.{IsPermutation, IsSorted}
 use Rattle.std.specs.Ordering.{is_eq}
 use Rattle.lra_sys.specs.Listed.{Listed}
-use Rattle.lra_linear.specs.declared.ConKind.{ConKind}
-use Rattle.lra_linear.specs.declared.ConKind.TheVariants.{Ge, Eq}
+use Rattle.lra_sys.specs.declared.system.ConKind.{ConKind}
+use Rattle.lra_sys.specs.declared.system.ConKind.TheVariants.{Ge, Eq}
 use Rattle.lra_sys.specs.declared.system.GenKind.{GenKind}
 use Rattle.lra_sys.specs.declared.system.GenKind.TheVariants.{Point, Ray, Line}
 use Rattle.lra_linear.specs.Strain.{Loss, Strains}
@@ -49,8 +49,8 @@ pub record HasGenerators (n : ℕ) (system : List (List ℤ)) (generators : List
 -- the canonical generators of the constraints; none where these have no point
 abbrev pub AreGeneratorsOf : ℕ → List Given → List Given → Type 0
 AreGeneratorsOf n rows generators =
-    ((generators ≡ []) × IsEmptySet n (Con rows)) ⊎ HasGenerators n
-    (system_of (inequality (positivity n) ∷ rows)) generators
+    ((generators ≡ []) × IsEmptySet n (Con rows))
+    ⊎ HasGenerators n (system_of (inequality (positivity n) ∷ rows)) generators
 
 -- ---- constraints, as they are shown
 -- Equalities and inequalities, each in order. The facets are the inequalities, with the positivity row where that isn't
@@ -93,8 +93,8 @@ pub record ListsGenerators (lines rays : List (List ℤ)) (list : Listed GenKind
   pub points : List (List ℤ)
   pub directions : List (List ℤ)
   pub rows_are : list.rows ≡ (points ++ directions) ++ lines
-  pub kinds_are : list.kinds ≡ (replicate (length points) Point ++ replicate (length directions) Ray) ++
-      replicate (length lines) Line
+  pub kinds_are : list.kinds ≡
+      (replicate (length points) Point ++ replicate (length directions) Ray) ++ replicate (length lines) Line
   pub points_are : IsPermutation (points_of rays) points
   pub directions_are : IsPermutation (directions_of rays) directions
   pub points_sorted : IsSorted row_cmp points
@@ -123,8 +123,8 @@ dual_kind Line = Eq
 
 -- the product with each is as both kinds ask
 abbrev pub IsValid : Bool → List ℤ → List Given → Type 0
-IsValid equal r list = (g : Given) → Contains list g → HoldsWith equal (product r g.row) ×
-    HoldsWith g.equal (product r g.row)
+IsValid equal r list =
+    (g : Given) → Contains list g → HoldsWith equal (product r g.row) × HoldsWith g.equal (product r g.row)
 
 -- constraints that are valid on each of the rows
 pub record ShowsValid (n : ℕ) (given : List Given) (list : Listed ConKind) : Type 0 where

@@ -25,4 +25,6 @@ pub use shown::{constraint_list, generator_list};
 pub use strained::{ConeError, Family, Member, Strained};
 
 #[cfg(test)]
+mod list_tests;
+#[cfg(test)]
 mod tests;

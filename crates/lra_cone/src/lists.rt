@@ -8,13 +8,12 @@ ghost use Rattle.lra_linear.specs.Points.{IsWithin, SameSet};
 ghost use Rattle.lra_linear.specs.Polyhedra.{positivity};
 ghost use Rattle.lra_linear.specs.Strain.{Strains};
 ghost use Rattle.lra_linear.specs.Vectors.{negated};
-ghost use Rattle.lra_sys.specs.Listed.{constraints, generators, FitKinds};
-ghost use Rattle.lra_linear.specs.Kinds.{is_equality};
-ghost use Rattle.lra_linear.specs.declared.ConKind.TheVariants.{Ge};
+ghost use Rattle.lra_sys.specs.Listed.{constraints, generators, is_equality, FitKinds};
+ghost use Rattle.lra_sys.specs.declared.system.ConKind.TheVariants.{Ge};
 ghost use Rattle.lra_sys.specs.declared.system.GenKind.TheVariants.{Point};
 ghost use Rattle.lra_cone.specs.Cones.{IsCone};
-ghost use Rattle.lra_cone.specs.Conversions.{AreGeneratorsOf, AreConstraintsOf, dual_kind, IsValid, ShowsValid};
-ghost use Rattle.lra_cone.specs.Conversions.{ShowsConstraints};
+ghost use Rattle.lra_cone.specs.Conversions.{AreGeneratorsOf, AreConstraintsOf, dual_kind};
+ghost use Rattle.lra_cone.specs.Conversions.{IsValid, ShowsValid, ShowsConstraints};
 ghost use Rattle.lra_cone.specs.Losses.{IfLost};
 
 use crate::cone::{Cone, unit};
@@ -52,8 +51,8 @@ pub fn generate(alloc: Global, rows: &ConSys) -> Result<(ConSys, GenSys, Vec<Los
     ensures points { IfOk result (λ r. SameSet rows.now.dims (Con (constraints r.0)) (Gen (generators r.1))) }
     ensures exact { IfOk result (λ r. r.2.items ≡ [] → constraints r.0 ≡ constraints rows.now) }
     ensures among { IfOk result (λ r. (g : Given) → Contains (constraints r.0) g → Contains (constraints rows.now) g) }
-    ensures strain { IfOk result (λ r. IfLost (Strains (suc rows.now.dims)
-        (with_positivity rows.now.dims (constraints rows.now))) r.2.items) }
+    ensures strain { IfOk result (λ r.
+        IfLost (Strains (suc rows.now.dims) (with_positivity rows.now.dims (constraints rows.now))) r.2.items) }
     ensures canonical { IfOk result (λ r. AreGeneratorsOf rows.now.dims (constraints r.0) (generators r.1)) }
     ensures kinds { IfOk result (λ r. FitKinds r.1.rows r.1.kinds) }
 {

@@ -1,8 +1,7 @@
 //! Rows that were left out.
 
 ghost use Rattle.std.specs.Prelude.{◌≡◌, IfOk};
-ghost use Rattle.lra_sys.specs.Listed.{constraints};
-ghost use Rattle.lra_linear.specs.Kinds.{is_equality};
+ghost use Rattle.lra_sys.specs.Listed.{constraints, is_equality};
 ghost use Rattle.lra_linear.specs.Strain as told;
 
 use lra_linear::Cause;
@@ -68,8 +67,11 @@ impl Loss {
         cause: Cause,
     ) -> Result<Loss, AllocError>
         ensures { IfOk result (λ l. l ≡
-            record { chosen = constraints taken.now; further = record { row = row.now; equal = is_equality kind };
-                cause = cause }) }
+            record {
+              chosen = constraints taken.now;
+              cause = cause;
+              further = record { row = row.now; equal = is_equality kind };
+            }) }
     {
         let chosen = given_rows(alloc, taken)?;
         let further = given_row(row, kind)?;

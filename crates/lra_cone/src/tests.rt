@@ -10,7 +10,7 @@ use std::test::Fail;
 const MAX: i128 = i128::MAX;
 
 // The row with these numbers, where they are of the range.
-fn row_of(alloc: Global, numbers: &[i128]) -> Result<Row, Fail> {
+pub fn row_of(alloc: Global, numbers: &[i128]) -> Result<Row, Fail> {
     let mut entries = Vec::with_capacity(alloc, numbers.len())?;
     for &number in numbers {
         if number == i128::MIN {

@@ -1,8 +1,8 @@
 -- The canonical list of the own kind: of constraints that were taken into a cone the canonical constraints, of
 -- generators the canonical generators. Rows that are tight at all rays of the cone come into an echelon form; the
 -- others are reduced by it.
-use Rattle.std.specs.Prelude.{◌≡◌, ◌↔◌, ℕ, suc, ◌+◌, ◌<◌, ◌≤◌, ℤ, pos, Bool, true, cond, List, [], ◌∷◌, length}
-use Rattle.std.specs.Prelude.{slice_index_or, nat_lt}
+use Rattle.std.specs.Prelude.{◌≡◌, ◌↔◌, ℕ, suc, ◌+◌, ◌<◌, ◌≤◌, ℤ, pos, Bool, true, cond}
+use Rattle.std.specs.Prelude.{List, [], ◌∷◌, length, slice_index_or, nat_lt}
 use Rattle.std.specs.List.{Contains}
 use Rattle.lra_linear.specs.Vectors.{product}
 use Rattle.lra_linear.specs.Canonical.{IsCanonicalOf}

@@ -1,7 +1,7 @@
 //! The canonical list of a list's own kind, from the cone that its rows were taken into.
 
-ghost use Rattle.std.specs.Prelude.{◌≡◌, ◌↔◌, ◌++◌, ◌∷◌, [], ℕ, List, ℤ, true, ◌+◌, ◌<◌, ◌^◌, suc, length, IsTrue};
-ghost use Rattle.std.specs.Prelude.{IfOk, IfErr, OnOk};
+ghost use Rattle.std.specs.Prelude.{◌≡◌, ◌↔◌, ◌++◌, ◌∷◌, [], ℕ, List, ℤ, true, ◌+◌, ◌<◌, ◌^◌, suc, length};
+ghost use Rattle.std.specs.Prelude.{IsTrue, IfOk, IfErr, OnOk};
 ghost use Rattle.std.specs.List.{All};
 ghost use Rattle.lra_bits.specs.TruthValues.{value_at};
 ghost use Rattle.lra_cone.specs.Cones.{IsCone};
@@ -9,8 +9,8 @@ ghost use Rattle.lra_cone.specs.Steps.{IsFilled};
 ghost use Rattle.lra_linear.specs.Descriptions.{rows_of};
 ghost use Rattle.lra_canon.specs.Reduced.{IsForm, IsReductionExcess};
 ghost use Rattle.lra_canon.specs.Echelons.{HaveWidth};
-ghost use Rattle.lra_pair.specs.OwnLists.{TellsTight, AreParts, AreReducedBy, AnyReductionExcess, IsOwnList};
-ghost use Rattle.lra_pair.specs.OwnLists.{IsOwnExcess, tight_value};
+ghost use Rattle.lra_pair.specs.OwnLists.{TellsTight, AreParts, AreReducedBy, AnyReductionExcess};
+ghost use Rattle.lra_pair.specs.OwnLists.{IsOwnList, IsOwnExcess, tight_value};
 
 use lra_bits::{BitRow, SatMatrix};
 use lra_canon::{drop_redundant, echelon, reduce};
@@ -89,8 +89,8 @@ impl Parts {
 // The parts of the rows taken in.
 fn parted(alloc: Global, cone: &Cone) -> Result<Parts, AllocError>
     ensures cone { IsCone cone.now }
-    ensures parts { IfOk result (λ p. AreParts cone.now.rays (length cone.now.lines)
-        (rows_of cone.now.taken) p.tight.items p.loose.items p.saturation.rows) }
+    ensures parts { IfOk result (λ p. AreParts cone.now.rays (length cone.now.lines) (rows_of cone.now.taken)
+        p.tight.items p.loose.items p.saturation.rows) }
 {
     let Some(width) = cone.rays().len().checked_add(cone.lines().len()) else {
         return Err(AllocError);
