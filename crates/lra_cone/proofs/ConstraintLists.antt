@@ -1,5 +1,6 @@
 -- The constraints that are shown of a cone are the canonical ones of its rows, which are generators.
-use Rattle.std.proofs.Common.{◌≡◌, ◌≢◌, ℕ, suc, ◌+◌, ◌<◌, ◌≤◌, Bool, true, false, cond, List, [], ◌∷◌, ◌++◌, length, replicate, map, take, get_or, refl, ap, sym, ◌∙◌, subst, arith, pos, negsuc, ℤ, neg_ℤ, ◌<ℤ◌, ◌≤ℤ◌, inl, inr, ◌⊎◌, zero}
+use Rattle.std.proofs.Common.{◌≡◌, ◌≢◌, ℕ, suc, ◌+◌, ◌<◌, ◌≤◌, Bool, true, false, cond, List, [], ◌∷◌, ◌++◌, length, replicate, map, take, get_or, refl, ap, sym, ◌∙◌, subst, arith, pos, negsuc, ℤ}
+use Rattle.std.proofs.Common.{neg_ℤ, ◌<ℤ◌, ◌≤ℤ◌, inl, inr, ◌⊎◌, zero}
 use Rattle.std.specs.List.{Contains}
 use Rattle.std.specs.List.Sorted.{IsPermutation}
 use Rattle.std.proofs.lemmas.Int.{ints}
@@ -24,9 +25,10 @@ use Rattle.lra_linear.proofs.Products.{negated_dot, dot_negated}
 use Rattle.lra_linear.proofs.Signs.{between_opposites}
 use Rattle.lra_canon.proofs.Orders.{ascends}
 use Rattle.lra_canon.specs.declared.order.Order.TheVariants.{Inequalities}
-use Rattle.lra_sys.specs.Listed.{Listed, generators, constraints, given_by, is_line, is_equality, FitsKind, FitKinds}
-use Rattle.lra_sys.specs.declared.system.ConKind.{ConKind}
-use Rattle.lra_sys.specs.declared.system.ConKind.TheVariants.{Ge, Eq}
+use Rattle.lra_sys.specs.Listed.{Listed, generators, constraints, given_by, is_line, FitsKind, FitKinds}
+use Rattle.lra_linear.specs.Kinds.{is_equality}
+use Rattle.lra_linear.specs.declared.ConKind.{ConKind}
+use Rattle.lra_linear.specs.declared.ConKind.TheVariants.{Ge, Eq}
 use Rattle.lra_sys.specs.declared.system.GenKind.{GenKind}
 use Rattle.lra_sys.specs.declared.system.GenKind.TheVariants.{Point, Ray, Line}
 use Rattle.lra_linear.specs.Strain.{Loss, Strains}
@@ -45,12 +47,14 @@ listed_constraints n lines rays list h =
     let gs = replicate (length h.inequalities) Ge in
     ap (λ (x : List (List ℤ)). given_by is_equality x list.kinds) h.rows_are ∙ ap (given_by is_equality (lines ++ h.inequalities)) h.kinds_are ∙
     given_append is_equality lines h.inequalities es gs (sym (length-replicate (length lines) Eq)) ∙
-    ap (λ (x : List Given). x ++ given_by is_equality h.inequalities gs) (given_same is_equality lines Eq) ∙ ap (λ (x : List Given). given_as true lines ++ x) (given_same is_equality h.inequalities Ge)
+    ap (λ (x : List Given). x ++ given_by is_equality h.inequalities gs) (given_same is_equality lines Eq) ∙
+    ap (λ (x : List Given). given_as true lines ++ x) (given_same is_equality h.inequalities Ge)
 
 pub dual_given : (rows : List (List ℤ)) (kinds : List GenKind) → given_by is_equality rows (map dual_kind kinds) ≡ given_by is_line rows kinds
 dual_given [] kinds = refl
 dual_given (r ∷ rows) [] = refl
-dual_given (r ∷ rows) (k ∷ kinds) = ap (λ (l : List Given). record { row = r; equal = is_equality (dual_kind k) } ∷ l) (dual_given rows kinds) ∙ ap (λ (b : Bool). record { row = r; equal = b } ∷ given_by is_line rows kinds) (same k)
+dual_given (r ∷ rows) (k ∷ kinds) = ap (λ (l : List Given). record { row = r; equal = is_equality (dual_kind k) } ∷ l) (dual_given rows kinds) ∙
+    ap (λ (b : Bool). record { row = r; equal = b } ∷ given_by is_line rows kinds) (same k)
   where
     same : (k : GenKind) → is_equality (dual_kind k) ≡ is_line k
     same Point = refl
@@ -62,7 +66,8 @@ shown_from n lines rays list h r m =
     without_from (positivity n) rays r (Contains-permutation h.inequalities (without (positivity n) rays) r (IsPermutation-sym (without (positivity n) rays) h.inequalities h.inequalities_are) m)
 
 -- of any canonical description
-pub listed_hold : (n : ℕ) (system lines rays : List (List ℤ)) (list : Listed ConKind) → AreDual (suc n) system (all_rows lines rays) → IsCanonical lines rays → ShowsConstraints n lines rays list → HasConstraints n system (constraints list)
+pub listed_hold : (n : ℕ) (system lines rays : List (List ℤ)) (list : Listed ConKind) → AreDual (suc n) system (all_rows lines rays) → IsCanonical lines rays → ShowsConstraints n lines rays list →
+    HasConstraints n system (constraints list)
 listed_hold n system lines rays list dual canonical h =
     let others = without (positivity n) rays in
     let from : (r : List ℤ) → Contains h.inequalities r → Contains others r = λ r m. Contains-permutation h.inequalities others r (IsPermutation-sym others h.inequalities h.inequalities_are) m in
@@ -77,15 +82,18 @@ listed_hold n system lines rays list dual canonical h =
       dual = dual;
       canonical = canonical;
       inequalities_ascend = ascends Inequalities h.inequalities tt
-          (once_too others h.inequalities (without_once (positivity n) rays (no_repeat lines rays canonical)) to from (at_most_same (length h.inequalities) (length others) (length_permutation others h.inequalities h.inequalities_are))) h.sorted;
+          (once_too others h.inequalities (without_once (positivity n) rays (no_repeat lines rays canonical)) to from
+          (at_most_same (length h.inequalities) (length others) (length_permutation others h.inequalities h.inequalities_are))) h.sorted;
     }
   where
     at_most_same : (a b : ℕ) → a ≡ b → a ≤ b
     at_most_same a b e = omega (arith, e)
 
-pub constraints_shown : (s : Shape) (n : ℕ) (given : List Given) (list : Listed ConKind) → IsCone s → s.dims ≡ n → s.taken ≡ given → ShowsConstraints n s.lines s.rays list → HasConstraints n (system_of given) (constraints list)
+pub constraints_shown : (s : Shape) (n : ℕ) (given : List Given) (list : Listed ConKind) → IsCone s → s.dims ≡ n → s.taken ≡ given → ShowsConstraints n s.lines s.rays list →
+    HasConstraints n (system_of given) (constraints list)
 constraints_shown s n given list k d t h =
-    listed_hold n (system_of given) s.lines s.rays list (subst (λ (m : ℕ). AreDual (suc m) (system_of given) (all_rows s.lines s.rays)) d (subst (λ (l : List Given). AreDual (suc s.dims) (system_of l) (all_rows s.lines s.rays)) t k.dual)) k.canonical h
+    listed_hold n (system_of given) s.lines s.rays list (subst (λ (m : ℕ). AreDual (suc m) (system_of given) (all_rows s.lines s.rays)) d
+    (subst (λ (l : List Given). AreDual (suc s.dims) (system_of l) (all_rows s.lines s.rays)) t k.dual)) k.canonical h
 
 -- ---- the same points
 given_in : (b : Bool) (rows : List (List ℤ)) (r : List ℤ) → Contains rows r → Contains (given_as b rows) (record { row = r; equal = b })
@@ -96,15 +104,18 @@ given_in b (x ∷ rows) r k = elim (contains_cases x r rows k) [
 ]
 
 system_whole : (lines rays : List (List ℤ)) → system_of (given_as true lines ++ given_as false rays) ≡ both_ways lines ++ rays
-system_whole lines rays = system_append (given_as true lines) (given_as false rays) ∙ ap (λ (x : List (List ℤ)). x ++ system_of (given_as false rays)) (system_lines lines) ∙ ap (λ (x : List (List ℤ)). both_ways lines ++ x) (system_rays rays)
+system_whole lines rays = system_append (given_as true lines) (given_as false rays) ∙ ap (λ (x : List (List ℤ)). x ++ system_of (given_as false rays)) (system_lines lines) ∙
+    ap (λ (x : List (List ℤ)). both_ways lines ++ x) (system_rays rays)
 
 swapped : (xs ys : List (List ℤ)) (t : List ℤ) → Contains (xs ++ ys) t → Contains (ys ++ xs) t
 swapped xs ys t m = elim (Contains-append_cases xs ys t m) [ inl i ↦ Contains-append_right ys xs t i | inr i ↦ Contains-append_left ys xs t i ]
 
-pub whole_dual : (n : ℕ) (generators : List Given) (rows : List Given) (h : HasConstraints n (system_of generators) rows) → AreDual (suc n) (system_of (given_as true h.equalities ++ given_as false h.facets)) (system_of generators)
+pub whole_dual : (n : ℕ) (generators : List Given) (rows : List Given) (h : HasConstraints n (system_of generators) rows) →
+    AreDual (suc n) (system_of (given_as true h.equalities ++ given_as false h.facets)) (system_of generators)
 whole_dual n generators rows h =
     subst (λ (x : List (List ℤ)). AreDual (suc n) x (system_of generators)) (sym (system_whole h.equalities h.facets))
-    (system_same (suc n) (all_rows h.equalities h.facets) (both_ways h.equalities ++ h.facets) (system_of generators) (swapped h.facets (both_ways h.equalities)) (swapped (both_ways h.equalities) h.facets)
+    (system_same (suc n) (all_rows h.equalities h.facets) (both_ways h.equalities ++ h.facets) (system_of generators) (swapped h.facets (both_ways h.equalities))
+    (swapped (both_ways h.equalities) h.facets)
     (dual_flipped (suc n) (system_of generators) (all_rows h.equalities h.facets) h.dual))
 
 -- the positivity row, which isn't shown, holds at each point
@@ -117,7 +128,8 @@ shown_points n system rows h = (
         elim (h.all_shown g.row f.1) [
           | inl e ↦ subst (λ b. HoldsWith b (product g.row x)) (sym f.0) (subst (λ (r : List ℤ). pos 0 ≤ℤ product r x) (sym e) (at_points n x point))
           | inr j ↦ subst (λ b. HoldsWith b (product g.row x)) (sym f.0) (con (record { row = g.row; equal = false })
-              (subst (λ (l : List Given). Contains l (record { row = g.row; equal = false })) (sym h.are) (Contains-append_right (given_as true h.equalities) (given_as false h.inequalities) (record { row = g.row; equal = false }) (given_in false h.inequalities g.row j))))
+              (subst (λ (l : List Given). Contains l (record { row = g.row; equal = false })) (sym h.are)
+              (Contains-append_right (given_as true h.equalities) (given_as false h.inequalities) (record { row = g.row; equal = false }) (given_in false h.inequalities g.row j))))
         ]
   ]),
   (λ x point con g m. elim (Contains-append_cases (given_as true h.equalities) (given_as false h.inequalities) g (subst (λ (l : List Given). Contains l g) h.are m)) [
@@ -131,7 +143,8 @@ shown_points n system rows h = (
 
 pub same_constraints : (n : ℕ) (generators rows : List Given) → AreConstraintsOf n generators rows → SameSet n (Con rows) (Gen generators)
 same_constraints n generators rows (inl h) = (
-  λ x point con. absurd (falsity_never n x point (con (inequality (falsity n)) (subst (λ (l : List Given). Contains l (inequality (falsity n))) (sym h.0) (contains_head (inequality (falsity n)) [])))),
+  λ x point con. absurd (falsity_never n x point (con (inequality (falsity n)) (subst (λ (l : List Given). Contains l (inequality (falsity n))) (sym h.0)
+      (contains_head (inequality (falsity n)) [])))),
   λ x point gen. absurd (h.1 x point gen),
 )
 same_constraints n generators rows (inr x) =
@@ -149,7 +162,8 @@ negated_zeros zero = refl
 negated_zeros (suc n) = ap (λ (x : List ℤ). pos 0 ∷ x) (negated_zeros n)
 
 pub nothing_is : (n : ℕ) (list : Listed ConKind) → list.rows ≡ negated (unit_row n 0) ∷ [] → list.kinds ≡ Ge ∷ [] → constraints list ≡ inequality (falsity n) ∷ []
-nothing_is n list er ek = ap (λ (x : List (List ℤ)). given_by is_equality x list.kinds) er ∙ ap (given_by is_equality (negated (unit_row n 0) ∷ [])) ek ∙ ap (λ (x : List ℤ). inequality (negsuc 0 ∷ x) ∷ []) (negated_zeros n)
+nothing_is n list er ek = ap (λ (x : List (List ℤ)). given_by is_equality x list.kinds) er ∙ ap (given_by is_equality (negated (unit_row n 0) ∷ [])) ek ∙
+    ap (λ (x : List ℤ). inequality (negsuc 0 ∷ x) ∷ []) (negated_zeros n)
 
 flat_kinds : (rows : List (List ℤ)) (kinds : List GenKind) → FitKinds rows kinds → ¬ (Contains kinds Point) → (g : Given) → Contains (given_by is_line rows kinds) g → entry g.row 0 ≡ pos 0
 flat_kinds [] kinds f n g m = absurd (contains_none g m)
@@ -205,31 +219,37 @@ valid_at given false r x valid gen = generated_nonneg r (system_of given) (entry
     ]
 
 pub valid_within : (n : ℕ) (given : List Given) (list : Listed ConKind) → ShowsValid n given list → IsWithin n (Gen given) (Con (constraints list))
-valid_within n given list h x point gen g m = elim (Contains-append_cases (given_as true h.lines) (given_as false h.shown.inequalities) g (subst (λ (l : List Given). Contains l g) (listed_constraints n h.lines h.rays list h.shown) m)) [
-  | inl i ↦ let f = given_from true h.lines g i in subst (λ b. HoldsWith b (product g.row x)) (sym f.0) (valid_at given true g.row x (h.lines_valid g.row f.1) gen)
-  | inr i ↦ let f = given_from false h.shown.inequalities g i in subst (λ b. HoldsWith b (product g.row x)) (sym f.0) (valid_at given false g.row x (h.rays_valid g.row (shown_from n h.lines h.rays list h.shown g.row f.1).0) gen)
-]
+valid_within n given list h x point gen g m = elim (Contains-append_cases (given_as true h.lines) (given_as false h.shown.inequalities) g
+    (subst (λ (l : List Given). Contains l g) (listed_constraints n h.lines h.rays list h.shown) m)) [
+      | inl i ↦ let f = given_from true h.lines g i in subst (λ b. HoldsWith b (product g.row x)) (sym f.0) (valid_at given true g.row x (h.lines_valid g.row f.1) gen)
+      | inr i ↦ let f = given_from false h.shown.inequalities g i in subst (λ b. HoldsWith b (product g.row x)) (sym f.0)
+          (valid_at given false g.row x (h.rays_valid g.row (shown_from n h.lines h.rays list h.shown g.row f.1).0) gen)
+    ]
 
 -- ---- what the code gives back
-point_among : (rows : List (List ℤ)) (kinds : List GenKind) → length kinds ≡ length rows → FitKinds rows kinds → Contains kinds Point → (g : Given) × Contains (given_by is_line rows kinds) g × (pos 0 <ℤ entry g.row 0)
+point_among : (rows : List (List ℤ)) (kinds : List GenKind) → length kinds ≡ length rows → FitKinds rows kinds → Contains kinds Point → (g : Given) × Contains (given_by is_line rows kinds) g ×
+    (pos 0 <ℤ entry g.row 0)
 point_among [] [] n f m = absurd (contains_none Point m)
 point_among [] (k ∷ kinds) n f m = absurd (omega (arith, n))
 point_among (r ∷ rows) [] n f m = absurd (omega (arith, n))
 point_among (r ∷ rows) (k ∷ kinds) n f m = here k f.0 (point_cases (contains_cases k Point kinds m) (λ i. point_among rows kinds (omega (arith, n)) f.1 i))
   where
-    point_cases : (k ≡ Point) ⊎ Contains kinds Point → (Contains kinds Point → (g : Given) × Contains (given_by is_line rows kinds) g × (pos 0 <ℤ entry g.row 0)) → (k ≡ Point) ⊎ ((g : Given) × Contains (given_by is_line rows kinds) g × (pos 0 <ℤ entry g.row 0))
+    point_cases : (k ≡ Point) ⊎ Contains kinds Point → (Contains kinds Point → (g : Given) × Contains (given_by is_line rows kinds) g × (pos 0 <ℤ entry g.row 0)) → (k ≡ Point) ⊎
+        ((g : Given) × Contains (given_by is_line rows kinds) g × (pos 0 <ℤ entry g.row 0))
     point_cases (inl e) later = inl e
     point_cases (inr i) later = inr (later i)
 
     first : (k : GenKind) → FitsKind k r → k ≡ Point → pos 0 <ℤ entry r 0
     first k f e = subst (λ (q : GenKind). FitsKind q r) e f
 
-    here : (k : GenKind) → FitsKind k r → (k ≡ Point) ⊎ ((g : Given) × Contains (given_by is_line rows kinds) g × (pos 0 <ℤ entry g.row 0)) → (g : Given) × Contains (record { row = r; equal = is_line k } ∷ given_by is_line rows kinds) g × (pos 0 <ℤ entry g.row 0)
+    here : (k : GenKind) → FitsKind k r → (k ≡ Point) ⊎ ((g : Given) × Contains (given_by is_line rows kinds) g × (pos 0 <ℤ entry g.row 0)) → (g : Given) ×
+        Contains (record { row = r; equal = is_line k } ∷ given_by is_line rows kinds) g × (pos 0 <ℤ entry g.row 0)
     here k f (inl e) = (record { row = r; equal = is_line k }, contains_head (let g : Given = record { row = r; equal = is_line k } in g) (given_by is_line rows kinds), first k f e)
     here k f (inr x) = (x.0, contains_tail (let g : Given = record { row = r; equal = is_line k } in g) x.0 (given_by is_line rows kinds) x.1, x.2)
 
 -- a point among the generators is one of their points
-pub some_point : (n : ℕ) (given : Listed GenKind) → length given.kinds ≡ length given.rows → FitKinds given.rows given.kinds → Contains given.kinds Point → ((t : List ℤ) → Contains (system_of (generators given)) t → length t ≡ suc n) → ¬ (IsEmptySet n (Gen (generators given)))
+pub some_point : (n : ℕ) (given : Listed GenKind) → length given.kinds ≡ length given.rows → FitKinds given.rows given.kinds → Contains given.kinds Point →
+    ((t : List ℤ) → Contains (system_of (generators given)) t → length t ≡ suc n) → ¬ (IsEmptySet n (Gen (generators given)))
 some_point n given many f m widths none =
     let x = point_among given.rows given.kinds many f m in
     let has = system_has (generators given) x.0 x.1 in
@@ -241,14 +261,17 @@ pub record Constrained (n : ℕ) (given rows : List Given) (losses : List Loss) 
   pub strain : IfLost (Strains (suc n) given) losses
   pub canonical : losses ≡ [] → AreConstraintsOf n given rows
 
-pub nothing_constrained : (n : ℕ) (given : Listed GenKind) (list : Listed ConKind) (losses : List Loss) → FitKinds given.rows given.kinds → ¬ (Contains given.kinds Point) → list.rows ≡ negated (unit_row n 0) ∷ [] → list.kinds ≡ Ge ∷ [] → losses ≡ [] → Constrained n (generators given) (constraints list) losses
+pub nothing_constrained : (n : ℕ) (given : Listed GenKind) (list : Listed ConKind) (losses : List Loss) → FitKinds given.rows given.kinds → ¬ (Contains given.kinds Point) →
+    list.rows ≡ negated (unit_row n 0) ∷ [] → list.kinds ≡ Ge ∷ [] → losses ≡ [] → Constrained n (generators given) (constraints list) losses
 nothing_constrained n given list losses f none er ek el =
     let a : AreConstraintsOf n (generators given) (constraints list) = inl (nothing_is n list er ek, no_point_given n given f none) in
     let same = same_constraints n (generators given) (constraints list) a in
     record { exact = λ _. same; within = same.1; strain = subst (IfLost (Strains (suc n) (generators given))) (sym el) tt; canonical = λ _. a }
 
-pub constrained : (n : ℕ) (given : Listed GenKind) (rows list : Listed ConKind) (start cone : Shape) (kept : List Given) (losses : List Loss) → length given.kinds ≡ length given.rows → FitKinds given.rows given.kinds → Contains given.kinds Point →
-    rows.rows ≡ given.rows → rows.kinds ≡ map dual_kind given.kinds → rows.dims ≡ n → start ≡ whole_space n → cone.dims ≡ start.dims → IsConversion start.taken (constraints rows) kept cone losses → IsCone cone →
+pub constrained : (n : ℕ) (given : Listed GenKind) (rows list : Listed ConKind) (start cone : Shape) (kept : List Given) (losses : List Loss) → length given.kinds ≡ length given.rows →
+    FitKinds given.rows given.kinds → Contains given.kinds Point →
+    rows.rows ≡ given.rows → rows.kinds ≡ map dual_kind given.kinds → rows.dims ≡ n → start ≡ whole_space n → cone.dims ≡ start.dims → IsConversion start.taken (constraints rows) kept cone losses →
+    IsCone cone →
     (losses ≡ [] → ShowsConstraints rows.dims cone.lines cone.rays list) → (losses ≢ [] → ShowsValid rows.dims (constraints rows) list) → Constrained n (generators given) (constraints list) losses
 constrained n given rows list start cone kept losses many f m er ek ed es dims c k shown valid =
     let all : constraints rows ≡ generators given = ap (λ (x : List (List ℤ)). given_by is_equality x rows.kinds) er ∙ ap (given_by is_equality given.rows) ek ∙ dual_given given.rows given.kinds in
@@ -261,14 +284,17 @@ constrained n given rows list start cone kept losses many f m er ek ed es dims c
     record {
       exact = λ none. same_constraints n (generators given) (constraints list) (canonical none);
       within = by_losses losses refl canonical valid all ed;
-      strain = subst (λ (l : List Given). IfLost (Strains (suc n) l) losses) all (subst (λ (l : List Given). IfLost (Strains (suc n) (l ++ constraints rows)) losses) first (subst (λ (i : ℕ). IfLost (Strains (suc i) (start.taken ++ constraints rows)) losses) is_n c.strain));
+      strain = subst (λ (l : List Given). IfLost (Strains (suc n) l) losses) all (subst (λ (l : List Given). IfLost (Strains (suc n) (l ++ constraints rows)) losses) first
+          (subst (λ (i : ℕ). IfLost (Strains (suc i) (start.taken ++ constraints rows)) losses) is_n c.strain));
       canonical = canonical;
     }
   where
-    by_losses : (l : List Loss) → losses ≡ l → (losses ≡ [] → AreConstraintsOf n (generators given) (constraints list)) → (losses ≢ [] → ShowsValid rows.dims (constraints rows) list) → constraints rows ≡ generators given → rows.dims ≡ n → IsWithin n (Gen (generators given)) (Con (constraints list))
+    by_losses : (l : List Loss) → losses ≡ l → (losses ≡ [] → AreConstraintsOf n (generators given) (constraints list)) → (losses ≢ [] → ShowsValid rows.dims (constraints rows) list) →
+        constraints rows ≡ generators given → rows.dims ≡ n → IsWithin n (Gen (generators given)) (Con (constraints list))
     by_losses [] e canonical valid all d = (same_constraints n (generators given) (constraints list) (canonical e)).1
     by_losses (x ∷ l) e canonical valid all d =
-        valid_within n (generators given) list (subst (λ (g : List Given). ShowsValid n g list) all (subst (λ (i : ℕ). ShowsValid i (constraints rows) list) d (valid (λ z. some_loss x l (sym e ∙ z)))))
+        valid_within n (generators given) list (subst (λ (g : List Given). ShowsValid n g list) all
+        (subst (λ (i : ℕ). ShowsValid i (constraints rows) list) d (valid (λ z. some_loss x l (sym e ∙ z)))))
       where
         some_loss : (x : Loss) (l : List Loss) → x ∷ l ≡ [] → ⊥
         some_loss x l e = cc
@@ -278,7 +304,8 @@ pub no_point_found : (kinds : List GenKind) → ((k : ℕ) → k < length kinds 
 no_point_found kinds h m = h m.0 m.1 (get_or_default kinds m.0 Point Point m.1 ∙ m.2)
 
 -- ---- validity, generator by generator
-pub valid_next : {K : Type 0} (equal : K → Bool) (e : Bool) (r : List ℤ) (rows : List (List ℤ)) (kinds : List K) (i : ℕ) (own : List (List ℤ)) → rows ≡ own → length kinds ≡ length own → i < length rows → (g : List ℤ) (d : K) (p : ℤ) → g ≡ get_or rows i g → p ≡ product r g →
+pub valid_next : {K : Type 0} (equal : K → Bool) (e : Bool) (r : List ℤ) (rows : List (List ℤ)) (kinds : List K) (i : ℕ) (own : List (List ℤ)) → rows ≡ own → length kinds ≡ length own →
+    i < length rows → (g : List ℤ) (d : K) (p : ℤ) → g ≡ get_or rows i g → p ≡ product r g →
     HoldsWith e p → HoldsWith (equal (get_or kinds i d)) p → IsValid e r (given_by equal (take i rows) (take i kinds)) → IsValid e r (given_by equal (take (i + 1) rows) (take (i + 1) kinds))
 valid_next equal e r rows kinds i own eo n h g d p eg ep first second before x m =
     let here : Given = record { row = g; equal = equal (get_or kinds i d) } in
@@ -295,6 +322,8 @@ valid_next equal e r rows kinds i own eo n h g d p eg ep first second before x m
 pub valid_none : (e : Bool) (r : List ℤ) (list : List Given) → list ≡ [] → IsValid e r list
 valid_none e r list el g m = absurd (contains_none g (subst (λ (l : List Given). Contains l g) el m))
 
-pub valid_all : {K : Type 0} (equal : K → Bool) (e : Bool) (r : List ℤ) (rows own : List (List ℤ)) (kinds own_kinds : List K) (i : ℕ) → rows ≡ own → kinds ≡ own_kinds → length kinds ≡ length own → i ≡ length rows → IsValid e r (given_by equal (take i rows) (take i kinds)) → IsValid e r (given_by equal own own_kinds)
+pub valid_all : {K : Type 0} (equal : K → Bool) (e : Bool) (r : List ℤ) (rows own : List (List ℤ)) (kinds own_kinds : List K) (i : ℕ) → rows ≡ own → kinds ≡ own_kinds → length kinds ≡ length own →
+    i ≡ length rows → IsValid e r (given_by equal (take i rows) (take i kinds)) → IsValid e r (given_by equal own own_kinds)
 valid_all {K = K} equal e r rows own kinds own_kinds i er ek n h v =
-    subst (λ (x : List (List ℤ)). IsValid e r (given_by equal x own_kinds)) er (subst (λ (x : List K). IsValid e r (given_by equal rows x)) ek (subst (IsValid e r) (all_given equal rows kinds i (ap length er ∙ sym n) h) v))
+    subst (λ (x : List (List ℤ)). IsValid e r (given_by equal x own_kinds)) er (subst (λ (x : List K). IsValid e r (given_by equal rows x)) ek
+    (subst (IsValid e r) (all_given equal rows kinds i (ap length er ∙ sym n) h) v))

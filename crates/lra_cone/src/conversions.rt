@@ -2,7 +2,8 @@
 
 ghost use Rattle.std.specs.Prelude.{◌≡◌, ◌++◌, ◌∷◌, [], List, suc, length, ◌<◌, ◌^◌, IfOk, OnOk};
 ghost use Rattle.lra_linear.specs.Descriptions.{Given};
-ghost use Rattle.lra_sys.specs.Listed.{constraints, is_equality};
+ghost use Rattle.lra_sys.specs.Listed.{constraints};
+ghost use Rattle.lra_linear.specs.Kinds.{is_equality};
 ghost use Rattle.lra_cone.specs.Conversions.{IsConversion};
 
 use crate::cone::Cone;
@@ -29,7 +30,8 @@ impl Conversion {
         ensures kept_dims { OnOk result (self.new.kept.dims ≡ self.old.kept.dims) }
         ensures taken { OnOk result ((first all : List Given) →
             IsConversion first all (constraints self.old.kept) self.old.cone self.old.losses.items →
-            IsConversion first (all ++ record { row = row.now; equal = is_equality kind } ∷ []) (constraints self.new.kept)
+            IsConversion first (all ++ record { row = row.now; equal = is_equality kind } ∷ [])
+            (constraints self.new.kept)
             self.new.cone self.new.losses.items) }
     {
         match self.cone.add_row(row, kind) {

@@ -1,7 +1,8 @@
 //! Rows that were left out.
 
 ghost use Rattle.std.specs.Prelude.{◌≡◌, IfOk};
-ghost use Rattle.lra_sys.specs.Listed.{constraints, is_equality};
+ghost use Rattle.lra_sys.specs.Listed.{constraints};
+ghost use Rattle.lra_linear.specs.Kinds.{is_equality};
 ghost use Rattle.lra_linear.specs.Strain as told;
 
 use lra_linear::Cause;

@@ -54,7 +54,10 @@ given_at : {K : Type 0} (equal : K → Bool) (rows : List (List ℤ)) (kinds : L
 given_at equal [] kinds i d n h = absurd (omega (arith, h))
 given_at equal (r ∷ rows) [] i d n h = absurd (omega (arith, n))
 given_at equal (r ∷ rows) (k ∷ kinds) zero d n h = contains_head (let g : Given = record { row = r; equal = equal k } in g) (given_by equal rows kinds)
-given_at equal (r ∷ rows) (k ∷ kinds) (suc i) d n h = contains_tail (let g : Given = record { row = r; equal = equal k } in g) (let g : Given = record { row = get_or rows i []; equal = equal (get_or kinds i d) } in g) (given_by equal rows kinds) (given_at equal rows kinds i d (omega (arith, n)) (omega (arith, h)))
+given_at equal (r ∷ rows) (k ∷ kinds) (suc i) d n h = contains_tail
+    (let g : Given = record { row = r; equal = equal k } in g)
+    (let g : Given = record { row = get_or rows i []; equal = equal (get_or kinds i d) } in g)
+    (given_by equal rows kinds) (given_at equal rows kinds i d (omega (arith, n)) (omega (arith, h)))
 
 pub own_loss_is : {K : Type 0} (equal : K → Bool) (s : Shape) (e : E.Excess) (loss : Loss) (listed rows : List (List ℤ)) (seen kinds : List K) (i : ℕ) (r : List ℤ) (d : K) →
     given_by equal rows kinds ≡ s.taken → listed ≡ rows → seen ≡ kinds → length seen ≡ length rows → i < length listed → r ≡ get_or listed i r →
