@@ -106,7 +106,7 @@ fn cube(alloc: Global, n: usize) -> Result<ConSys, Fail> {
 /// A cube of n dimensions has 2^n vertices.
 #[test]
 fn cubes(rt: HostRuntime) -> Result<(), Fail> {
-    for n in [0usize, 1, 5, 9] {
+    for n in [0usize, 1, 5, 12] {
         let (_, shown, losses) = generate(rt.alloc(), &cube(rt.alloc(), n)?)?;
         assert_eq!(rt; shown.rows().len(), 1 << n);
         assert!(rt; losses.is_empty());
