@@ -13,7 +13,7 @@ pub use law::one_text;
 pub use part::Part;
 pub use path::{CallPlace, path_text};
 pub use report::{Domain, Options, Point, PointReport, Report, Verdict};
-pub use writing::text;
+pub use writing::{push_generators, push_rows, text};
 
 #[cfg(test)]
 mod tests;

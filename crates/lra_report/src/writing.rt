@@ -50,7 +50,7 @@ fn push_each_row(
 }
 
 /// Appends the lines of the rows, or one that says that there is none.
-fn push_rows(
+pub fn push_rows(
     text: &mut String,
     alloc: Global,
     rows: &ConSys,
@@ -82,7 +82,7 @@ fn push_generator(
 }
 
 /// Appends the lines of the generators.
-fn push_generators(
+pub fn push_generators(
     text: &mut String,
     alloc: Global,
     rows: &[Row],
