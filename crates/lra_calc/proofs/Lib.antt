@@ -4,9 +4,18 @@ pub mod WordLemmas
 pub mod AllOf
 -- Words that are cut at semicolons.
 pub mod Parts
--- What a session has made: systems, membership of a point, names.
+-- What a line makes: systems, rows of generators, polyhedra.
+pub mod MakingLemmas
+-- The texts of polyhedra.
+pub mod ShownLemmas
+-- What a session answers: membership of a point, names.
 pub mod SessionLemmas
 -- Scripts that are too long, and others.
 pub mod Limit
+-- From one fact about an answer to another.
+pub mod Endings
+-- One refusal of each script, and one output where nothing is flagged.
+pub mod OneRefusal
+pub mod OneOutput
 -- Worked examples: lines and whole scripts whose answers are known.
 mod ScriptExamples

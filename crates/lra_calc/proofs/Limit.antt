@@ -1,11 +1,10 @@
 -- The answer to a script that is too long, and to one that is not. The limit is a variable here, since it is large.
-use Rattle.std.proofs.Common.{◌≡◌, ◌<◌, ◌≤◌, ℕ, Bool, true, false, cond, List, length, take, refl, ap, ◌∙◌, arith, nat_lt, None, Result, Err}
+use Rattle.std.proofs.Common.{◌≡◌, ◌<◌, ◌≤◌, ℕ, Bool, true, false, List, length, take, refl, ap, sym, subst, ◌∙◌, arith, nat_lt, Result, Err}
 use Rattle.std.proofs.lemmas.Bool.Decides.{nat_tests}
 use Rattle.std.proofs.lemmas.List.{length-take}
 use Rattle.lra_tree.specs.Tokens.{place_behind}
 use Rattle.lra_tree.specs.Refuse.{greatest_length}
-use Rattle.lra_calc.specs.ScriptText.{lines}
-use Rattle.lra_calc.specs.Script.{Refusal, TooLong, ended, carried_out, answer_to}
+use Rattle.lra_calc.specs.Script.{Refusal, TooLong, Runs, TooLongOr, AnswersTo}
 
 pub limit_is : greatest_length ≡ 65536
 unfolding greatest_length
@@ -17,14 +16,21 @@ above m n h = grind (arith, nat_tests)
 not_above : (m n : ℕ) → n ≤ m → nat_lt m n ≡ false
 not_above m n h = grind (arith, nat_tests)
 
-abbrev answer_within : ℕ → List ℕ → Bool → Result (List ℕ) Refusal
-answer_within n bytes long = cond long (Err (TooLong (place_behind (take n bytes)))) (ended (carried_out 1 None (lines bytes)))
+pub answer_too_long : (n : ℕ) (bytes : List ℕ) → greatest_length ≡ n → n < length bytes → AnswersTo bytes (Err (TooLong (place_behind (take n bytes))))
+answer_too_long n bytes e h =
+    subst (λ (b : Bool). TooLongOr b bytes (Err (TooLong (place_behind (take n bytes))))) (sym (ap (λ (k : ℕ). nat_lt k (length bytes)) e ∙ above n (length bytes) h))
+    (ap (λ (k : ℕ). let r : Result (List ℕ) Refusal = Err (TooLong (place_behind (take k bytes))) in r) (sym e))
 
-pub answer_too_long : (n : ℕ) (bytes : List ℕ) → greatest_length ≡ n → n < length bytes → answer_to bytes ≡ Err (TooLong (place_behind (take n bytes)))
-answer_too_long n bytes e h = ap (λ (k : ℕ). answer_within k bytes (nat_lt k (length bytes))) e ∙ ap (answer_within n bytes) (above n (length bytes) h)
+is_long : (b : Bool) (bytes : List ℕ) (answer : Result (List ℕ) Refusal) → b ≡ true → TooLongOr b bytes answer → answer ≡ Err (TooLong (place_behind (take greatest_length bytes)))
+is_long true bytes answer e h = h
+is_long false bytes answer e h = cc
 
-pub answer_not_long : (n : ℕ) (bytes : List ℕ) → greatest_length ≡ n → length bytes ≤ n → answer_to bytes ≡ ended (carried_out 1 None (lines bytes))
-answer_not_long n bytes e h = ap (λ (k : ℕ). answer_within k bytes (nat_lt k (length bytes))) e ∙ ap (answer_within n bytes) (not_above n (length bytes) h)
+-- no other answer
+pub long_answer : (bytes : List ℕ) (answer : Result (List ℕ) Refusal) → greatest_length < length bytes → AnswersTo bytes answer → answer ≡ Err (TooLong (place_behind (take greatest_length bytes)))
+long_answer bytes answer h a = is_long (nat_lt greatest_length (length bytes)) bytes answer (above greatest_length (length bytes) h) a
+
+pub answer_not_long : (n : ℕ) (bytes : List ℕ) (answer : Result (List ℕ) Refusal) → greatest_length ≡ n → length bytes ≤ n → Runs bytes answer → AnswersTo bytes answer
+answer_not_long n bytes answer e h r = subst (λ (b : Bool). TooLongOr b bytes answer) (sym (ap (λ (k : ℕ). nat_lt k (length bytes)) e ∙ not_above n (length bytes) h)) r
 
 pub taken : (n : ℕ) (bytes : List ℕ) → n < length bytes → n ≡ length (take n bytes)
 taken n bytes h = omega (arith, length-take n bytes)

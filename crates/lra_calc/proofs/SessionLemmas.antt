@@ -1,59 +1,24 @@
--- What a session has made: constraints of one width, systems of them, and the names that stand for these.
-use Rattle.std.proofs.Common.{◌≡◌, ◌-◌, ℕ, zero, suc, ℤ, pos, negsuc, Bool, true, false, cond, not, nat_eq, List, [], ◌∷◌, ◌++◌, length, get_or, take, drop, map, refl, ap, sym, ◌∙◌, subst, inl, inr, arith, append_assoc, append-nil, bytes_eq, Option, Some, None, Result, Ok, Err, IsOk, IsErr}
-use Rattle.std.specs.Prelude.{option_map, IfSome}
+-- What a session answers: membership of a point, tried constraint by constraint; and what its names stand for.
+use Rattle.std.proofs.Common.{◌≡◌, ◌-◌, ℕ, zero, suc, ℤ, pos, negsuc, Bool, true, false, cond, nat_eq, List, [], ◌∷◌, ◌++◌, length, get_or, take, drop, refl, ap, sym, ◌∙◌, subst, inl, inr, arith, append-nil, bytes_eq, Option, Some, None, Result, Ok, Err, IsOk, IsErr}
+use Rattle.std.specs.Prelude.{IfSome}
 use Rattle.std.specs.List.{All}
 use Rattle.std.specs.Map.{update}
 use Rattle.std.proofs.lemmas.Bool.Decides.{nat_tests}
 use Rattle.std.proofs.lemmas.Int.{ints}
 use Rattle.std.proofs.lemmas.List.{take_rest}
-use Rattle.std.proofs.lemmas.List.Elements.{All-nil, All-cons}
 use Rattle.lra_linear.specs.declared.Excess.{Excess}
 use Rattle.lra_linear.specs.Vectors.{product}
 use Rattle.lra_linear.specs.CheckedArithmetic.{checked_product}
 use Rattle.lra_linear.specs.Descriptions.{Given, Holds, HoldsWith}
+use Rattle.lra_linear.specs.Polyhedra.{Polyhedron}
 use Rattle.lra_linear.proofs.CheckedArithmetic.{checked_product_value}
 use Rattle.lra_linear.proofs.Membership.{contains_none, contains_head, contains_tail, contains_cases}
-use Rattle.lra_linear.specs.declared.ConKind.{ConKind}
 use Rattle.lra_sys.specs.declared.membership.Holds as H
 use Rattle.lra_sys.specs.declared.membership.Holds.TheVariants.{Yes, No, Wide}
-use Rattle.lra_sys.specs.Listed.{Listed, given_by, constraints}
-use Rattle.lra_linear.specs.Kinds.{is_equality}
 use Rattle.lra_sys.specs.Membership.{HoldsInRange, IsAnswer}
 use Rattle.lra_calc.specs.Script as script
-use Rattle.lra_calc.specs.Views.{constraint_of, answered}
-use Rattle.lra_calc.specs.declared.forms.Constraint.{Constraint}
-
--- ---- widths
-not_found : (b : Bool) (n : ℕ) (o : Option ℕ) → cond b (Some n) o ≡ None → (b ≡ false) × (o ≡ None)
-not_found true n o e = cc
-not_found false n o e = (refl, e)
-
-same_width : (n needed : ℕ) → not (nat_eq n needed) ≡ false → n ≡ needed
-same_width n needed h = grind (arith, nat_tests)
-
-pub all_wide : (needed : ℕ) (rows : List Constraint) → script.wrong_width needed (map constraint_of rows) ≡ None → All (λ c. length c.row ≡ needed) rows
-all_wide needed [] e = All-nil (λ (c : Constraint). length c.row ≡ needed)
-all_wide needed (c ∷ cs) e =
-    let p = not_found (not (nat_eq (length c.row) needed)) (length c.row) (script.wrong_width needed (map constraint_of cs)) e in
-    All-cons (λ (c : Constraint). length c.row ≡ needed) c cs (same_width (length c.row) needed p.0) (all_wide needed cs p.1)
-
--- ---- systems
-given_by-append : (rows : List (List ℤ)) (kinds : List ConKind) (row : List ℤ) (kind : ConKind) → length rows ≡ length kinds
-    → given_by is_equality (rows ++ row ∷ []) (kinds ++ kind ∷ []) ≡ given_by is_equality rows kinds ++ record { row = row; equal = is_equality kind } ∷ []
-given_by-append [] [] row kind e = refl
-given_by-append [] (k ∷ ks) row kind e = cc
-given_by-append (r ∷ rs) [] row kind e = cc
-given_by-append (r ∷ rs) (k ∷ ks) row kind e = ap (λ (gs : List Given). record { row = r; equal = is_equality k } ∷ gs) (given_by-append rs ks row kind (cc))
-
-pub made_later : (s t : Listed ConKind) (x : Constraint) (rest : List Constraint) (all : List Given) → length s.rows ≡ length s.kinds → t.rows ≡ s.rows ++ x.row ∷ [] → t.kinds ≡ s.kinds ++ x.kind ∷ []
-    → constraints s ++ map constraint_of (x ∷ rest) ≡ all → constraints t ++ map constraint_of rest ≡ all
-made_later s t x rest all same rows kinds before =
-    let pushed : constraints t ≡ constraints s ++ constraint_of x ∷ [] =
-    ap (λ (rs : List (List ℤ)). given_by is_equality rs t.kinds) rows ∙ ap (given_by is_equality (s.rows ++ x.row ∷ [])) kinds ∙ given_by-append s.rows s.kinds x.row x.kind same in
-    ap (λ (gs : List Given). gs ++ map constraint_of rest) pushed ∙ append_assoc (constraints s) (constraint_of x ∷ []) (map constraint_of rest) ∙ before
-
-pub all_tail : {X : Type 0} (P : X → Type 0) (x : X) (xs : List X) → All P (x ∷ xs) → All P xs
-all_tail P x xs a = λ k d h. a (suc k) d (omega arith)
+use Rattle.lra_calc.specs.Views.{answered}
+use Rattle.lra_calc.proofs.MakingLemmas.{all_tail}
 
 -- ---- membership
 met : (equal : Bool) (p : ℤ) → HoldsWith equal p → script.is_met equal p ≡ true
@@ -136,20 +101,11 @@ membership_tells [] x = λ f k. absurd (contains_none f k)
 membership_tells (g ∷ gs) x = points_after g gs x (checked_product g.row x) (script.membership gs x) refl (membership_tells gs x)
 
 -- ---- names
-by_name : (b : Bool) (o : Option (Listed ConKind)) (system : Listed ConKind) (rows : List Given) → constraints system ≡ rows
-    → cond b (Some rows) (option_map constraints o) ≡ option_map constraints (cond b (Some system) o)
-by_name true o system rows e = ap Some (sym e)
-by_name false o system rows e = refl
+fit_by_name : (b : Bool) (o : Option Polyhedron) (p : Polyhedron) (dims : ℕ) → p.dims ≡ dims → IfSome o (λ q. q.dims ≡ dims) → IfSome (cond b (Some p) o) (λ q. q.dims ≡ dims)
+fit_by_name true o p dims e h = e
+fit_by_name false o p dims e h = h
 
-pub made_with : (f g : List ℕ → Option (Listed ConKind)) (name : List ℕ) (system : Listed ConKind) (rows : List Given) → constraints system ≡ rows → ((cs : List ℕ) → g cs ≡ update bytes_eq f name (Some system) cs)
-    → (cs : List ℕ) → update bytes_eq (λ n. option_map constraints (f n)) name (Some rows) cs ≡ option_map constraints (g cs)
-made_with f g name system rows e same cs = by_name (bytes_eq name cs) (f cs) system rows e ∙ ap (option_map constraints) (sym (same cs))
-
-fit_by_name : (b : Bool) (o : Option (Listed ConKind)) (system : Listed ConKind) (dims : ℕ) → system.dims ≡ dims → IfSome o (λ c. c.dims ≡ dims) → IfSome (cond b (Some system) o) (λ c. c.dims ≡ dims)
-fit_by_name true o system dims e h = e
-fit_by_name false o system dims e h = h
-
-pub fit_with : (f g : List ℕ → Option (Listed ConKind)) (name : List ℕ) (system : Listed ConKind) (dims : ℕ) → system.dims ≡ dims → ((cs : List ℕ) → g cs ≡ update bytes_eq f name (Some system) cs)
-    → ((cs : List ℕ) → IfSome (f cs) (λ c. c.dims ≡ dims)) → (cs : List ℕ) → IfSome (g cs) (λ c. c.dims ≡ dims)
-fit_with f g name system dims e same fit cs =
-    subst (λ (o : Option (Listed ConKind)). IfSome o (λ c. c.dims ≡ dims)) (sym (same cs)) (fit_by_name (bytes_eq name cs) (f cs) system dims e (fit cs))
+pub fit_with : (f g : List ℕ → Option Polyhedron) (name : List ℕ) (p : Polyhedron) (dims : ℕ) → p.dims ≡ dims → ((cs : List ℕ) → g cs ≡ update bytes_eq f name (Some p) cs)
+    → ((cs : List ℕ) → IfSome (f cs) (λ q. q.dims ≡ dims)) → (cs : List ℕ) → IfSome (g cs) (λ q. q.dims ≡ dims)
+fit_with f g name p dims e same fit cs =
+    subst (λ (o : Option Polyhedron). IfSome o (λ q. q.dims ≡ dims)) (sym (same cs)) (fit_by_name (bytes_eq name cs) (f cs) p dims e (fit cs))

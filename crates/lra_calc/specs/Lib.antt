@@ -1,5 +1,6 @@
 -- In the order in which they are to be read.
 pub mod ScriptText
 pub mod LineForms
+pub mod ShownSets
 pub mod Script
 pub mod Views

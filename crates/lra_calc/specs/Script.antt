@@ -1,17 +1,27 @@
--- What a script writes: its lines are carried out one after the other, and the first that is refused is answered in place of all.
-use Rattle.std.specs.Prelude.{◌+◌, ℕ, suc, ℤ, pos, negsuc, Bool, true, false, cond, not, nat_eq, nat_lt, List, [], ◌∷◌, ◌++◌, length, take, map, find, codes, bytes_eq, if◌then◌else◌, Option, Some, None, Result, Ok, Err}
+-- What a script may write: its lines are carried out one after the other, and the first that is refused is answered in
+-- place of all. A line that makes a set makes its canonical lists, so that what is shown depends on the set alone. Only
+-- where what it gives strains may it make those of a larger set; then it is flagged. So a script that isn't flagged has
+-- one output.
+use Rattle.std.specs.Prelude.{◌≡◌, ◌+◌, ℕ, suc, ℤ, pos, negsuc, Bool, true, false, nat_eq, nat_lt, List, [], ◌∷◌, ◌++◌, length, take, map, codes, bytes_eq, if◌then◌else◌, Option, Some, None, Result, Ok, Err}
 use Rattle.std.specs.Fmt.{decimal}
 use Rattle.std.specs.Map.{update}
 use Rattle.lra_linear.specs.declared.Excess.{Excess}
 use Rattle.lra_linear.specs.CheckedArithmetic.{checked_product}
-use Rattle.lra_linear.specs.Descriptions.{Given, Con as points_of}
+use Rattle.lra_linear.specs.Points.{PointSet, IsWithin}
+use Rattle.lra_linear.specs.Descriptions.{Given, Con as points_of, Gen as generated_by}
+use Rattle.lra_linear.specs.Polyhedra.{Polyhedron, IsPolyhedron, IsPolyhedronOf}
+use Rattle.lra_linear.specs.Strain.{Loss}
+use Rattle.lra_linear.specs.OperationStrain.{FromRowsStrains, FromGeneratorsStrains}
+use Rattle.lra_sys.specs.declared.system.GenKind.{GenKind}
+use Rattle.lra_sys.specs.declared.system.GenKind.TheVariants as gen
 use Rattle.lra_tree.specs.declared.refusals.Place.{Place}
 use Rattle.lra_tree.specs.Tokens.{place_behind}
 use Rattle.lra_tree.specs.declared.refusals.Cause.TheVariants as cause
 use Rattle.lra_tree.specs.Refuse.{greatest_length, refusal_text}
 use Rattle.lra_tree.specs.ReportText.{text_line}
 use Rattle.lra_calc.specs.ScriptText.{lines, is_skipped, words}
-use Rattle.lra_calc.specs.LineForms.{Line, Dims, Con, Holds, line_of}
+use Rattle.lra_calc.specs.LineForms.{Generator, given_of, Line, Dims, Con, Gen, Show, Holds, line_of}
+use Rattle.lra_calc.specs.ShownSets.{polyhedron_text}
 
 -- why a line is refused
 pub data Fault : Type 0 where
@@ -25,22 +35,88 @@ pub data Fault : Type 0 where
 -- behind `dims`: what each name stands for, if it was made; what was printed, and the first line that was flagged
 pub record Session : Type 0 where
   pub dims : ℕ
-  pub made : List ℕ → Option (List Given)
+  pub made : List ℕ → Option Polyhedron
   pub printed : List ℕ
   pub flagged : Option ℕ
 
 abbrev pub started : ℕ → Session
 started n = record { dims = n; made = λ name. None; printed = []; flagged = None }
 
--- con --------------------------------------------------------------------------------------------------------------
+-- the first flag stays
+abbrev pub flagged_by : ℕ → Bool → Option ℕ → Option ℕ
+flagged_by number false flag = flag
+flagged_by number true (Some first) = Some first
+flagged_by number true None = Some number
 
--- how many numbers the first row has that has not as many as are needed
-abbrev pub wrong_width : ℕ → List Given → Option ℕ
-wrong_width needed rows = find (λ n. not (nat_eq n needed)) (map (λ g. length g.row) rows)
+-- con, gen ---------------------------------------------------------------------------------------------------------
 
-abbrev pub made_or : List ℕ → List Given → Session → Option ℕ → Result Session Fault
-made_or name rows s None = Ok (record s { made = update bytes_eq s.made name (Some rows) })
-made_or name rows s (Some count) = Err (WrongDimension count (suc s.dims))
+-- the canonical lists of a set that has all points of P; what was given strains
+pub record IsFlaggedOf (n : ℕ) (P : PointSet) (Strains : Loss → Type 0) (p : Polyhedron) : Type 0 where
+  pub dimensions : p.dims ≡ n
+  pub canonical : IsPolyhedron p
+  pub within : IsWithin n P (points_of p.rows)
+  pub loss : Loss
+  pub strains : Strains loss
+
+-- made of what has these points, flagged or not: without a flag the canonical lists of exactly these points
+abbrev pub IsMadeOf : ℕ → PointSet → (Loss → Type 0) → Bool → Polyhedron → Type 0
+IsMadeOf n P Strains false p = IsPolyhedronOf n P p
+IsMadeOf n P Strains true p = IsFlaggedOf n P Strains p
+
+abbrev pub IsMadeOfRows : ℕ → List Given → Bool → Polyhedron → Type 0
+IsMadeOfRows n rows = IsMadeOf n (points_of rows) (FromRowsStrains n rows)
+
+abbrev pub IsMadeOfGenerators : ℕ → List Given → Bool → Polyhedron → Type 0
+IsMadeOfGenerators n generators = IsMadeOf n (generated_by generators) (FromGeneratorsStrains n generators)
+
+-- the name stands for it from now on
+abbrev pub made_as : ℕ → List ℕ → Bool → Polyhedron → Session → Session
+made_as number name flagged p s = record s {
+  made = update bytes_eq s.made name (Some p);
+  flagged = flagged_by number flagged s.flagged;
+}
+
+-- the line of this number makes what its name stands for then
+pub record Makes (IsMade : Bool → Polyhedron → Type 0) (number : ℕ) (name : List ℕ) (s : Session)
+    (result : Result Session Fault) : Type 0 where
+  pub flagged : Bool
+  pub polyhedron : Polyhedron
+  pub is_made : IsMade flagged polyhedron
+  pub is : result ≡ Ok (made_as number name flagged polyhedron s)
+
+-- where there is no fault
+abbrev pub MakesOr : (Bool → Polyhedron → Type 0) → ℕ → List ℕ → Session → Option Fault → Result Session Fault → Type 0
+MakesOr IsMade number name s (Some fault) result = result ≡ Err fault
+MakesOr IsMade number name s None result = Makes IsMade number name s result
+
+-- a vector with so many numbers, where so many are needed; or the fault of a later one
+abbrev pub width_or : ℕ → ℕ → Option Fault → Option Fault
+width_or count needed later = if nat_eq count needed then later else Some (WrongDimension count needed)
+
+-- the first row that has not as many numbers as are needed
+abbrev pub wrong_row : ℕ → List Given → Option Fault
+wrong_row n [] = None
+wrong_row n (g ∷ gs) = width_or (length g.row) (suc n) (wrong_row n gs)
+
+-- how many numbers a generator has in n dimensions
+abbrev pub numbers_needed : ℕ → GenKind → ℕ
+numbers_needed n gen.Point = suc n
+numbers_needed n gen.Ray = n
+numbers_needed n gen.Line = n
+
+-- the first generator that has not as many numbers as its kind needs
+abbrev pub wrong_generator : ℕ → List Generator → Option Fault
+wrong_generator n [] = None
+wrong_generator n (g ∷ gs) = width_or (length g.numbers) (numbers_needed n g.kind) (wrong_generator n gs)
+
+-- show -------------------------------------------------------------------------------------------------------------
+
+abbrev pub show_text : List ℕ → Polyhedron → List ℕ
+show_text name p = text_line (codes "show " ++ name) ++ polyhedron_text p
+
+abbrev pub shown_or : List ℕ → Session → Option Polyhedron → Result Session Fault
+shown_or name s None = Err (UnknownName name)
+shown_or name s (Some p) = Ok (record s { printed = s.printed ++ show_text name p })
 
 -- holds ------------------------------------------------------------------------------------------------------------
 
@@ -54,8 +130,8 @@ abbrev pub decided : Bool → Result ℤ Excess → Option Bool → Option Bool
 decided equal (Err e) later = None
 decided equal (Ok p) later = if is_met equal p then later else Some false
 
--- whether the point is in the set of points with these constraints, tried in order; none where the product with one passes the range
--- before an answer is found
+-- whether the point is in the set of points with these constraints, tried in order; none where the product with one passes
+-- the range before an answer is found
 abbrev pub membership : List Given → List ℤ → Option Bool
 membership [] x = Some true
 membership (g ∷ gs) x = decided g.equal (checked_product g.row x) (membership gs x)
@@ -71,57 +147,80 @@ answer_text (Some true) = codes "yes"
 answer_text (Some false) = codes "no"
 answer_text None = codes "wide"
 
--- the first flag stays
-abbrev pub flagged_by : ℕ → Option Bool → Option ℕ → Option ℕ
-flagged_by number (Some answer) flag = flag
-flagged_by number None (Some first) = Some first
-flagged_by number None None = Some number
+abbrev pub is_wide : Option Bool → Bool
+is_wide (Some answer) = false
+is_wide None = true
 
 abbrev pub answered : ℕ → List ℕ → Option Bool → Session → Session
 answered number name answer s = record s {
   printed = s.printed ++ text_line (codes "holds " ++ name ++ codes " " ++ answer_text answer);
-  flagged = flagged_by number answer s.flagged;
+  flagged = flagged_by number (is_wide answer) s.flagged;
 }
 
-abbrev pub answered_or : ℕ → List ℕ → List ℤ → Session → Option (List Given) → Result Session Fault
+-- the canonical constraints decide
+abbrev pub answered_or : ℕ → List ℕ → List ℤ → Session → Option Polyhedron → Result Session Fault
 answered_or number name x s None = Err (UnknownName name)
-answered_or number name x s (Some rows) =
-    if nat_eq (length x) (suc s.dims) then Ok (answered number name (membership rows x) s) else Err (WrongDimension (length x) (suc s.dims))
+answered_or number name x s (Some p) =
+    if nat_eq (length x) (suc s.dims) then Ok (answered number name (membership p.rows x) s)
+    else Err (WrongDimension (length x) (suc s.dims))
 
 -- lines ------------------------------------------------------------------------------------------------------------
 
-abbrev pub after_line : ℕ → Session → Line → Result Session Fault
-after_line number s (Dims n) = Err BadLine
-after_line number s (Con name rows) = made_or name rows s (wrong_width (suc s.dims) rows)
-after_line number s (Holds name x) = answered_or number name x s (s.made name)
+-- what stands behind a line, or why it is refused
+abbrev pub AfterLine : ℕ → Session → Line → Result Session Fault → Type 0
+AfterLine number s (Dims n) result = result ≡ Err BadLine
+AfterLine number s (Con name rows) result =
+    MakesOr (IsMadeOfRows s.dims rows) number name s (wrong_row s.dims rows) result
+AfterLine number s (Gen name generators) result =
+    MakesOr (IsMadeOfGenerators s.dims (map given_of generators)) number name s
+    (wrong_generator s.dims generators) result
+AfterLine number s (Show name) result = result ≡ shown_or name s (s.made name)
+AfterLine number s (Holds name x) result = result ≡ answered_or number name x s (s.made name)
 
 -- the first line gives the dimensions, and no later one
 abbrev pub first_line : Line → Result Session Fault
 first_line (Dims n) = Ok (started n)
 first_line (Con name rows) = Err BadLine
+first_line (Gen name generators) = Err BadLine
+first_line (Show name) = Err BadLine
 first_line (Holds name x) = Err BadLine
 
 -- none is before the first line
-abbrev pub after_form : ℕ → Option Session → Option Line → Result Session Fault
-after_form number s None = Err BadLine
-after_form number None (Some line) = first_line line
-after_form number (Some s) (Some line) = after_line number s line
+abbrev pub AfterForm : ℕ → Option Session → Option Line → Result Session Fault → Type 0
+AfterForm number s None result = result ≡ Err BadLine
+AfterForm number None (Some line) result = result ≡ first_line line
+AfterForm number (Some s) (Some line) result = AfterLine number s line result
 
 -- a refused line, by its number, and why
 pub record Refused : Type 0 where
   pub number : ℕ
   pub fault : Fault
 
-abbrev pub then_on : ℕ → Result Session Fault → (Option Session → Result (Option Session) Refused) → Result (Option Session) Refused
-then_on number (Err fault) later = Err (record { number = number; fault = fault })
-then_on number (Ok s) later = later (Some s)
+-- a script's end: the last session, none where all lines are skipped; or its first refused line
+abbrev pub End : Type 0
+End = Result (Option Session) Refused
 
--- carried out from the line of this number on; skipped lines are counted
-abbrev pub carried_out : ℕ → Option Session → List (List ℕ) → Result (Option Session) Refused
-carried_out number s [] = Ok s
-carried_out number s (line ∷ rest) =
-    cond (is_skipped line) (carried_out (number + 1) s rest)
-    (then_on number (after_form number s (line_of (words line))) (λ t. carried_out (number + 1) t rest))
+abbrev pub GoesOn : ℕ → Result Session Fault → (Option Session → Type 0) → End → Type 0
+GoesOn number (Err fault) Later end = end ≡ Err (record { number = number; fault = fault })
+GoesOn number (Ok s) Later end = Later (Some s)
+
+-- the line of this number is carried out, then those behind it
+pub record Performs (number : ℕ) (s : Option Session) (line : List ℕ) (Later : Option Session → Type 0)
+    (end : End) : Type 0 where
+  pub result : Result Session Fault
+  pub after : AfterForm number s (line_of (words line)) result
+  pub goes_on : GoesOn number result Later end
+
+abbrev pub SkipsOr : Bool → Type 0 → Type 0 → Type 0
+SkipsOr true Later Here = Later
+SkipsOr false Later Here = Here
+
+-- the lines are carried out from the one of this number on, to this end; skipped lines are counted
+abbrev pub CarriesOut : ℕ → Option Session → List (List ℕ) → End → Type 0
+CarriesOut number s [] end = end ≡ Ok s
+CarriesOut number s (line ∷ rest) end =
+    SkipsOr (is_skipped line) (CarriesOut (number + 1) s rest end)
+    (Performs number s line (λ t. CarriesOut (number + 1) t rest end) end)
 
 -- the last line
 abbrev pub flag_text : Option ℕ → List ℕ
@@ -141,13 +240,41 @@ pub data Refusal : Type 0 where
   -- its first refused line
   AtLine : Refused → Refusal
 
-abbrev pub ended : Result (Option Session) Refused → Result (List ℕ) Refusal
+abbrev pub ended : End → Result (List ℕ) Refusal
 ended (Ok end) = Ok (output end)
 ended (Err refused) = Err (AtLine refused)
 
--- what a script writes, or why it is refused
-abbrev pub answer_to : List ℕ → Result (List ℕ) Refusal
-answer_to script = cond (nat_lt greatest_length (length script)) (Err (TooLong (place_behind (take greatest_length script)))) (ended (carried_out 1 None (lines script)))
+-- all lines are carried out
+pub record Runs (script : List ℕ) (answer : Result (List ℕ) Refusal) : Type 0 where
+  pub end : End
+  pub carries_out : CarriesOut 1 None (lines script) end
+  pub is : answer ≡ ended end
+
+abbrev pub TooLongOr : Bool → List ℕ → Result (List ℕ) Refusal → Type 0
+TooLongOr true script answer = answer ≡ Err (TooLong (place_behind (take greatest_length script)))
+TooLongOr false script answer = Runs script answer
+
+-- what a script may write, or why it is refused
+abbrev pub AnswersTo : List ℕ → Result (List ℕ) Refusal → Type 0
+AnswersTo script answer = TooLongOr (nat_lt greatest_length (length script)) script answer
+
+-- no line was flagged
+abbrev pub IsUnflagged : Option Session → Type 0
+IsUnflagged None = Unit {0}
+IsUnflagged (Some s) = s.flagged ≡ None
+
+-- a script that isn't flagged has one output
+abbrev pub HasOneOutput : List ℕ → Type 0
+HasOneOutput script =
+    (s t : Option Session) → CarriesOut 1 None (lines script) (Ok s) → CarriesOut 1 None (lines script) (Ok t)
+    → IsUnflagged s → IsUnflagged t → s ≡ t
+
+-- both are outputs, or both are one refusal: whether a script is refused, and why, is told by its lines alone
+abbrev pub AgreesWith : {A B : Type 0} → Result A B → Result A B → Type 0
+AgreesWith (Ok a) (Ok b) = Unit {0}
+AgreesWith (Ok a) (Err g) = ⊥
+AgreesWith (Err f) (Ok b) = ⊥
+AgreesWith (Err f) (Err g) = f ≡ g
 
 -- the text of a refusal ---------------------------------------------------------------------------------------------
 
@@ -159,4 +286,5 @@ fault_text (WrongDimension count needed) = codes "WrongDimension " ++ decimal co
 -- written in place of all output
 abbrev pub refused_text : Refusal → List ℕ
 refused_text (TooLong place) = refusal_text cause.TooLong place
-refused_text (AtLine refused) = text_line (codes "refused line " ++ decimal refused.number ++ codes " " ++ fault_text refused.fault)
+refused_text (AtLine refused) =
+    text_line (codes "refused line " ++ decimal refused.number ++ codes " " ++ fault_text refused.fault)

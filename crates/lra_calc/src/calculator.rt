@@ -1,7 +1,9 @@
 //! What a script writes.
 
-ghost use Rattle.std.specs.Prelude.{List, ℤ, None, ◌≡◌, ◌<◌, ◌^◌, ◌++◌, length, map, string_bytes, Some, IfOk, IfSome, OnOk, option_map};
-ghost use Rattle.lra_linear.specs.Descriptions.{Given};
+ghost use Rattle.std.specs.Prelude.{List, ℕ, ℤ, Result, None, ◌≡◌, ◌<◌, ◌^◌, ◌++◌, length, map, string_bytes, Some, IfOk, IfSome, OnOk, option_map};
+ghost use Rattle.lra_linear.specs.Points.{SameSet};
+ghost use Rattle.lra_linear.specs.Descriptions.{Con, Gen};
+ghost use Rattle.lra_linear.specs.Polyhedra.{Polyhedron, IsPolyhedron};
 ghost use Rattle.lra_tree.specs.Tokens as place;
 ghost use Rattle.lra_calc.specs.ScriptText as text;
 ghost use Rattle.lra_calc.specs.LineForms as form;
@@ -46,7 +48,7 @@ fn carry_out(
 ) -> Result<Session, LineError>
     requires session { IfSome session IsSession }
     requires line { IsLine line }
-    ensures gives { Gives session_of result (spec.after_form number (option_map session_of session) (Some (said line))) }
+    ensures gives { Gives session_of result (spec.AfterForm number (option_map session_of session) (Some (said line))) }
     ensures sound { IfOk result IsSession }
 {
     match (session, line) {
@@ -67,7 +69,8 @@ fn perform(
     line: &[u8],
 ) -> Result<Session, LineError>
     requires { IfSome session IsSession }
-    ensures gives { Gives session_of result (spec.after_form number (option_map session_of session) (form.line_of (text.words line.now))) }
+    ensures gives { Gives session_of result
+        (spec.AfterForm number (option_map session_of session) (form.line_of (text.words line.now))) }
     ensures sound { IfOk result IsSession }
 {
     let words = words(alloc, line)?;
@@ -102,7 +105,7 @@ fn after_line(
 
 /// Carries out all lines.
 fn run_lines(alloc: Global, lines: &[&[u8]]) -> Result<Option<Session>, CalcError>
-    ensures { Ends result (spec.carried_out 1 None (map text.without_return (texts lines.now))) }
+    ensures { Ends result (spec.CarriesOut 1 None (map text.without_return (texts lines.now))) }
 {
     let mut session = None;
     for (index, line) in lines.iter().enumerate() {
@@ -135,20 +138,26 @@ fn output_of(alloc: Global, session: Option<Session>) -> Result<Vec<u8>, AllocEr
 
 /// What a script writes whose length is not asked.
 fn run(alloc: Global, bytes: &[u8]) -> Result<Vec<u8>, CalcError>
-    ensures { Answers result (spec.ended (spec.carried_out 1 None (text.lines bytes.now))) }
+    ensures { Answers result (spec.Runs bytes.now) }
 {
     let lines = raw_lines(alloc, bytes)?;
     let session = run_lines(alloc, &lines)?;
     Ok(output_of(alloc, session)?)
 }
 
-/// What a script writes, or why it is refused: a script of more than 65,536 bytes, and one with a line that is refused. Its lines
-/// are carried out in order, and the first that is refused is answered.
+/// What a script writes, or why it is refused: a script of more than 65,536 bytes, and one with a line that is refused.
+/// Its lines are carried out in order, and the first that is refused is answered.
 #[tactic(auto, using(crate::proofs::SessionLemmas::membership_tells))]
 pub fn script(alloc: Global, bytes: &[u8]) -> Result<Vec<u8>, CalcError>
-    ensures answer { Answers result (spec.answer_to bytes.now) }
+    ensures answer { Answers result (spec.AnswersTo bytes.now) }
+    // Whether a script is refused, and why, is told by its lines alone; and one that isn't flagged has one output.
+    ensures one_refusal { (a b : Result (List ℕ) spec.Refusal) →
+        spec.AnswersTo bytes.now a → spec.AnswersTo bytes.now b → spec.AgreesWith a b }
+    ensures one_output { spec.HasOneOutput bytes.now }
     // What an answer to `holds` says of the set that the name stands for.
-    ensures points { (rows : List Given) (x : List ℤ) → spec.TellsPoints rows x (spec.membership rows x) }
+    ensures points { (p : Polyhedron) (x : List ℤ) → spec.TellsPoints p.rows x (spec.membership p.rows x) }
+    // What `show` prints describes the same points twice.
+    ensures both { (p : Polyhedron) → IsPolyhedron p → SameSet p.dims (Con p.rows) (Gen p.generators) }
 {
     if bytes.len() > MOST_BYTES {
         let place = place_behind(&bytes[..MOST_BYTES]);

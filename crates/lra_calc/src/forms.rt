@@ -1,15 +1,15 @@
 //! What a line says.
 
-ghost use Rattle.std.specs.Prelude.{◌≡◌, map, IfOk, IfSome, bytes_eq, codes, option_map, if◌then◌else◌};
-ghost use Rattle.std.specs.List.{slice_split};
-ghost use Rattle.lra_linear.specs.Kinds.{is_equality};
+ghost use Rattle.std.specs.Prelude.{◌≡◌, map, IfOk, IfSome, Some, None, true, bytes_eq, codes, option_map, if◌then◌else◌};
+ghost use Rattle.std.specs.List.{slice_split, All};
+ghost use Rattle.lra_sys.specs.Listed.{is_equality};
 ghost use Rattle.lra_calc.specs.LineForms as form;
 ghost use Rattle.lra_calc.specs.LineForms.{all_of};
-ghost use Rattle.lra_calc.specs.Views.{texts, line_of, constraint_of, constraints_of, IsLine, HasDivisor};
+ghost use Rattle.lra_calc.specs.Views.{texts, line_of, constraint_of, constraints_of, generator_of, generators_of, IsLine, HasDivisor, IsDivided};
 
 use crate::numbers::{name_of, number_of, numbers_of};
 use lra_row::Row;
-use lra_sys::ConKind;
+use lra_sys::{ConKind, GenKind};
 use std::alloc::{AllocError, Global};
 
 /// The most dimensions.
@@ -22,6 +22,14 @@ pub struct Constraint {
     pub kind: ConKind,
 }
 
+/// A generator as it is written, with any count of numbers: of a point its divisor first. Column 0 of the others isn't
+/// written.
+#[derive(Drop)]
+pub struct Generator {
+    pub kind: GenKind,
+    pub numbers: Row,
+}
+
 /// What a line says.
 #[derive(Drop)]
 pub enum Line {
@@ -30,6 +38,12 @@ pub enum Line {
 
     /// The name is to stand for what meets these constraints.
     Con(String, Vec<Constraint>),
+
+    /// The name is to stand for what these generate.
+    Gen(String, Vec<Generator>),
+
+    /// The constraints and the generators of what the name stands for are to be printed.
+    Show(String),
 
     /// Whether the point is in what the name stands for; its divisor first, then the numerators.
     Holds(String, Vec<i128>),
@@ -104,7 +118,7 @@ fn all_rows(alloc: Global, parts: &[&[&[u8]]]) -> Result<Option<Vec<Constraint>>
 
 /// No row, or the rows that stand before, between and behind the semicolons.
 fn rows_of(alloc: Global, words: &[&[u8]]) -> Result<Option<Vec<Constraint>>, AllocError>
-    ensures { IfOk result (λ r. constraints_of r ≡ form.rows_of (texts words.now)) }
+    ensures { IfOk result (λ r. constraints_of r ≡ form.parts_of form.row_of (texts words.now)) }
 {
     if words.is_empty() {
         return Ok(Some(Vec::new(alloc)));
@@ -129,17 +143,115 @@ fn con_line(alloc: Global, words: &[&[u8]]) -> Result<Option<Line>, AllocError>
     }
 }
 
-/// The numbers, where the first, if there is one, may be a divisor.
-fn with_divisor(point: Vec<i128>) -> Option<Vec<i128>>
-    ensures point { option_map (λ p. p.items) result ≡ form.with_divisor point.items }
-    ensures divisor { IfSome result (λ p. HasDivisor p.items) }
+fn generator_kind_of(word: &[u8]) -> Option<GenKind>
+    ensures { result ≡ form.kind_of word.now }
 {
-    if let Some(divisor) = point.first()
-        && *divisor < 1
-    {
-        return None;
+    match word {
+        b"point" => Some(GenKind::Point),
+        b"ray" => Some(GenKind::Ray),
+        b"line" => Some(GenKind::Line),
+        _ => None,
     }
-    Some(point)
+}
+
+/// Whether the first number, if there is one, may be a divisor.
+fn has_divisor(numbers: &[i128]) -> bool
+    ensures numbers { form.with_divisor numbers.now ≡ (if result then Some numbers.now else None) }
+    ensures divisor { result ≡ true → HasDivisor numbers.now }
+{
+    match numbers {
+        [] => true,
+        [divisor, ..] => *divisor >= 1,
+    }
+}
+
+/// Whether a point's divisor, if it is there, is at least 1.
+fn is_divided(kind: GenKind, numbers: &[i128]) -> bool
+    ensures numbers { form.divided kind numbers.now ≡ (if result then Some numbers.now else None) }
+    ensures divided { result ≡ true → IsDivided kind numbers.now }
+{
+    match kind {
+        GenKind::Point => has_divisor(numbers),
+        GenKind::Ray | GenKind::Line => true,
+    }
+}
+
+fn written_generator(alloc: Global, words: &[&[u8]]) -> Result<Option<Generator>, AllocError>
+    ensures generator { IfOk result (λ r. option_map generator_of r ≡ form.generator_of (texts words.now)) }
+    ensures divided { IfOk result (λ r. IfSome r (λ g. IsDivided g.kind g.numbers)) }
+{
+    let [word, numbers @ ..] = words else {
+        return Ok(None);
+    };
+    let Some(kind) = generator_kind_of(word) else {
+        return Ok(None);
+    };
+    let Some(numbers) = numbers_of(alloc, numbers)? else {
+        return Ok(None);
+    };
+    if !is_divided(kind, &numbers) {
+        return Ok(None);
+    }
+    let numbers = Row::from_slice(alloc, &numbers)?;
+    Ok(Some(Generator { kind, numbers }))
+}
+
+/// The generator that each part says, where each says one.
+#[tactic(auto, using(crate::proofs::AllOf::onto_nil))]
+fn all_generators(alloc: Global, parts: &[&[&[u8]]]) -> Result<Option<Vec<Generator>>, AllocError>
+    ensures generators { IfOk result (λ r.
+        generators_of r ≡ all_of form.generator_of (map (λ p. texts p.now) parts.now)) }
+    ensures divided { IfOk result (λ r. IfSome r (λ gs. All (λ g. IsDivided g.kind g.numbers) gs.items)) }
+{
+    let mut generators = Vec::new(alloc);
+    for part in parts {
+        let Some(generator) = written_generator(alloc, part)? else {
+            return Ok(None);
+        };
+        generators.push(generator)?;
+    }
+    Ok(Some(generators))
+}
+
+/// No generator, or those that stand before, between and behind the semicolons.
+fn written_generators(alloc: Global, words: &[&[u8]]) -> Result<Option<Vec<Generator>>, AllocError>
+    ensures generators { IfOk result (λ r. generators_of r ≡ form.parts_of form.generator_of (texts words.now)) }
+    ensures divided { IfOk result (λ r. IfSome r (λ gs. All (λ g. IsDivided g.kind g.numbers) gs.items)) }
+{
+    if words.is_empty() {
+        return Ok(Some(Vec::new(alloc)));
+    }
+    let parts = parts(alloc, words)?;
+    all_generators(alloc, &parts)
+}
+
+fn gen_line(alloc: Global, words: &[&[u8]]) -> Result<Option<Line>, AllocError>
+    ensures line { IfOk result (λ r. line_of r ≡ form.gen_line (texts words.now)) }
+    ensures sound { IfOk result (λ r. IfSome r IsLine) }
+{
+    let [name, generators @ ..] = words else {
+        return Ok(None);
+    };
+    let Some(name) = name_of(alloc, name)? else {
+        return Ok(None);
+    };
+    match written_generators(alloc, generators)? {
+        Some(generators) => Ok(Some(Line::Gen(name, generators))),
+        None => Ok(None),
+    }
+}
+
+fn show_line(alloc: Global, words: &[&[u8]]) -> Result<Option<Line>, AllocError>
+    ensures line { IfOk result (λ r. line_of r ≡ form.show_line (texts words.now)) }
+    ensures sound { IfOk result (λ r. IfSome r IsLine) }
+{
+    let [name] = words else {
+        return Ok(None);
+    };
+    match name_of(alloc, name)? {
+        Some(name) => Ok(Some(Line::Show(name))),
+        None => Ok(None),
+    }
 }
 
 fn holds_line(alloc: Global, words: &[&[u8]]) -> Result<Option<Line>, AllocError>
@@ -152,13 +264,13 @@ fn holds_line(alloc: Global, words: &[&[u8]]) -> Result<Option<Line>, AllocError
     let Some(name) = name_of(alloc, name)? else {
         return Ok(None);
     };
-    let Some(numbers) = numbers_of(alloc, numbers)? else {
+    let Some(point) = numbers_of(alloc, numbers)? else {
         return Ok(None);
     };
-    match with_divisor(numbers) {
-        Some(point) => Ok(Some(Line::Holds(name, point))),
-        None => Ok(None),
+    if !has_divisor(&point) {
+        return Ok(None);
     }
+    Ok(Some(Line::Holds(name, point)))
 }
 
 /// What the words say, where they are a line.
@@ -173,6 +285,10 @@ pub fn read_line(alloc: Global, words: &[&[u8]]) -> Result<Option<Line>, AllocEr
         Ok(dims_line(rest))
     } else if *word == b"con".as_slice() {
         con_line(alloc, rest)
+    } else if *word == b"gen".as_slice() {
+        gen_line(alloc, rest)
+    } else if *word == b"show".as_slice() {
+        show_line(alloc, rest)
     } else if *word == b"holds".as_slice() {
         holds_line(alloc, rest)
     } else {

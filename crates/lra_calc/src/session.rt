@@ -3,13 +3,17 @@
 ghost use Rattle.std.specs.Prelude.{◌≡◌, ◌≤◌, ◌++◌, suc, map, length, codes, string_bytes, IfOk, OnOk};
 ghost use Rattle.std.specs.List.{All};
 ghost use Rattle.lra_sys.specs.Listed.{constraints as constraints_of};
+ghost use Rattle.lra_calc.specs.LineForms as form;
 ghost use Rattle.lra_calc.specs.LineForms.{greatest_dims};
 ghost use Rattle.lra_calc.specs.Script as script;
-ghost use Rattle.lra_calc.specs.Views.{session_of, IsSession, Gives, constraint_of, said, answered, IsLine, HasDivisor};
+ghost use Rattle.lra_calc.specs.Views.{session_of, IsSession, Gives, constraint_of, generator_of, said, answered, IsLine, IsDivided, HasDivisor};
 ghost use Rattle.lra_tree.specs.ReportText.{text_line};
 
-use crate::forms::{Constraint, Line};
+use crate::forms::{Constraint, Generator, Line};
+use crate::making::{Made, make_of_generators, make_of_rows, wrong_generator, wrong_row};
 use crate::refusal::{Fault, LineError};
+use crate::showing::push_polyhedron;
+use lra_pair::Pair;
 use lra_sys::{ConSys, Holds};
 use std::alloc::{AllocError, Global};
 use std::collections::BTreeMap;
@@ -19,37 +23,9 @@ use std::fmt::Write;
 #[derive(Drop)]
 pub struct Session {
     pub dims: usize,
-    pub made: BTreeMap<String, ConSys>,
+    pub made: BTreeMap<String, Pair>,
     pub printed: String,
     pub flagged: Option<usize>,
-}
-
-/// How many numbers the first row has that has not as many as are needed.
-fn wrong_width(needed: usize, rows: &[Constraint]) -> Option<usize>
-    ensures { result ≡ script.wrong_width needed (map constraint_of rows.now) }
-{
-    for constraint in rows {
-        let count = constraint.row.width();
-        if count != needed {
-            return Some(count);
-        }
-    }
-    None
-}
-
-/// The constraints, each of n + 1 numbers.
-fn system_of(alloc: Global, n: usize, rows: Vec<Constraint>) -> Result<ConSys, AllocError>
-    requires few { n ≤ greatest_dims }
-    requires widths { All (λ c. length c.row ≡ suc n) rows.items }
-    ensures dims { IfOk result (λ s. s.dims ≡ n) }
-    ensures made { IfOk result (λ s. constraints_of s ≡ map constraint_of rows.items) }
-{
-    let mut system = ConSys::new(alloc, n);
-    for constraint in rows {
-        let Constraint { row, kind } = constraint;
-        system.push(row, kind)?;
-    }
-    Ok(system)
 }
 
 /// What is printed of an answer.
@@ -81,14 +57,37 @@ fn push_answer(printed: &mut String, name: &str, answer: Holds) -> Result<(), Al
     writeln!(printed, "holds {name} {text}")
 }
 
-/// The first flagged line behind an answer at a line.
-fn flagged_by(number: usize, answer: Holds, flagged: Option<usize>) -> Option<usize>
-    ensures { result ≡ script.flagged_by number (answered answer) flagged }
+/// Whether an answer flags its line.
+fn is_wide(answer: Holds) -> bool
+    ensures { result ≡ script.is_wide (answered answer) }
 {
-    match (answer, flagged) {
-        (Holds::Wide(_), None) => Some(number),
-        _ => flagged,
+    matches!(answer, Holds::Wide(_))
+}
+
+/// The first flagged line behind a line, which is flagged or not.
+fn flagged_by(number: usize, is_flagged: bool, flagged: Option<usize>) -> Option<usize>
+    ensures { result ≡ script.flagged_by number is_flagged flagged }
+{
+    if is_flagged {
+        flagged.or(Some(number))
+    } else {
+        flagged
     }
+}
+
+/// Prints a polyhedron under its name.
+fn push_shown(
+    printed: &mut String,
+    alloc: Global,
+    name: &str,
+    pair: &Pair,
+) -> Result<(), AllocError>
+    requires { pair.now.dims ≤ greatest_dims }
+    ensures { OnOk result (string_bytes printed.new
+        ≡ string_bytes printed.old ++ script.show_text name.now pair.now) }
+{
+    writeln!(printed, "show {name}")?;
+    push_polyhedron(printed, alloc, pair)
 }
 
 impl Session {
@@ -106,19 +105,77 @@ impl Session {
         }
     }
 
-    fn con(&mut self, alloc: Global, name: String, rows: Vec<Constraint>) -> Result<(), LineError>
-        requires { IsSession self.old }
-        ensures gives { Gives (λ _. session_of self.new) result
-            (script.made_or (string_bytes name) (map constraint_of rows.items) (session_of self.old)
-            (script.wrong_width (suc self.old.dims) (map constraint_of rows.items))) }
+    /// The name stands from now on for what the line of a number made.
+    fn bind(&mut self, number: usize, name: String, made: Made) -> Result<(), AllocError>
+        requires session { IsSession self.old }
+        requires dims { made.polyhedron.dims ≡ self.old.dims }
+        ensures named { OnOk result (session_of self.new
+            ≡ script.made_as number (string_bytes name) made.is_flagged made.polyhedron (session_of self.old)) }
         ensures sound { OnOk result (IsSession self.new) }
     {
-        let needed = self.dims + 1;
-        if let Some(count) = wrong_width(needed, &rows) {
-            return Err(LineError::Refused(Fault::WrongDimension { count, needed }));
+        let Made {
+            polyhedron,
+            is_flagged,
+        } = made;
+        self.made.insert(name, polyhedron)?;
+        self.flagged = flagged_by(number, is_flagged, self.flagged);
+        Ok(())
+    }
+
+    fn constrain(
+        &mut self,
+        alloc: Global,
+        number: usize,
+        name: String,
+        rows: Vec<Constraint>,
+    ) -> Result<(), LineError>
+        requires { IsSession self.old }
+        ensures gives { Gives (λ _. session_of self.new) result
+            (script.AfterLine number (session_of self.old)
+            (form.Con (string_bytes name) (map constraint_of rows.items))) }
+        ensures sound { OnOk result (IsSession self.new) }
+    {
+        if let Some(fault) = wrong_row(self.dims, &rows) {
+            return Err(LineError::Refused(fault));
         }
-        let constraints = system_of(alloc, self.dims, rows)?;
-        self.made.insert(name, constraints)?;
+        let made = make_of_rows(alloc, self.dims, rows)?;
+        self.bind(number, name, made)?;
+        Ok(())
+    }
+
+    fn generate(
+        &mut self,
+        alloc: Global,
+        number: usize,
+        name: String,
+        generators: Vec<Generator>,
+    ) -> Result<(), LineError>
+        requires session { IsSession self.old }
+        requires divided { All (λ g. IsDivided g.kind g.numbers) generators.items }
+        ensures gives { Gives (λ _. session_of self.new) result
+            (script.AfterLine number (session_of self.old)
+            (form.Gen (string_bytes name) (map generator_of generators.items))) }
+        ensures sound { OnOk result (IsSession self.new) }
+    {
+        if let Some(fault) = wrong_generator(self.dims, &generators) {
+            return Err(LineError::Refused(fault));
+        }
+        let made = make_of_generators(alloc, self.dims, generators)?;
+        self.bind(number, name, made)?;
+        Ok(())
+    }
+
+    fn show(&mut self, alloc: Global, name: String) -> Result<(), LineError>
+        requires { IsSession self.old }
+        ensures gives { Gives (λ _. session_of self.new) result
+            (λ r. r ≡ script.shown_or (string_bytes name) (session_of self.old)
+            ((session_of self.old).made (string_bytes name))) }
+        ensures sound { OnOk result (IsSession self.new) }
+    {
+        let Some(pair) = self.made.get(name.as_str()) else {
+            return Err(LineError::Refused(Fault::UnknownName(name)));
+        };
+        push_shown(&mut self.printed, alloc, name.as_str(), pair)?;
         Ok(())
     }
 
@@ -126,10 +183,10 @@ impl Session {
         requires session { IsSession self.old }
         requires divisor { HasDivisor point.now }
         ensures gives { Gives (λ _. session_of self.new) result
-            (script.answered_or number (string_bytes name) point.now (session_of self.old) ((session_of self.old).made (string_bytes name))) }
+            (script.AfterLine number (session_of self.old) (form.Holds (string_bytes name) point.now)) }
         ensures sound { OnOk result (IsSession self.new) }
     {
-        let Some(constraints) = self.made.get(name.as_str()) else {
+        let Some(pair) = self.made.get(name.as_str()) else {
             return Err(LineError::Refused(Fault::UnknownName(name)));
         };
         let count = point.len();
@@ -137,9 +194,9 @@ impl Session {
         if count != needed {
             return Err(LineError::Refused(Fault::WrongDimension { count, needed }));
         }
-        let answer = membership(constraints, point);
+        let answer = membership(pair.rows(), point);
         push_answer(&mut self.printed, name.as_str(), answer)?;
-        self.flagged = flagged_by(number, answer, self.flagged);
+        self.flagged = flagged_by(number, is_wide(answer), self.flagged);
         Ok(())
     }
 
@@ -147,12 +204,15 @@ impl Session {
     pub fn carry_out(&mut self, alloc: Global, number: usize, line: Line) -> Result<(), LineError>
         requires session { IsSession self.old }
         requires line { IsLine line }
-        ensures gives { Gives (λ _. session_of self.new) result (script.after_line number (session_of self.old) (said line)) }
+        ensures gives { Gives (λ _. session_of self.new) result
+            (script.AfterLine number (session_of self.old) (said line)) }
         ensures sound { OnOk result (IsSession self.new) }
     {
         match line {
             Line::Dims(_) => Err(LineError::Refused(Fault::BadLine)),
-            Line::Con(name, rows) => self.con(alloc, name, rows),
+            Line::Con(name, rows) => self.constrain(alloc, number, name, rows),
+            Line::Gen(name, generators) => self.generate(alloc, number, name, generators),
+            Line::Show(name) => self.show(alloc, name),
             Line::Holds(name, point) => self.holds(number, name, &point),
         }
     }

@@ -39,7 +39,7 @@ pub record Taken (n : ℕ) (given : Listed GenKind) (list : Listed ConKind) (con
 pub taken : (n : ℕ) (given : Listed GenKind) (rows list : Listed ConKind) (start cone : Shape) (kept : List Given) (losses : List Loss) → length given.kinds ≡ length given.rows →
     FitKinds given.rows given.kinds → Contains given.kinds Point →
     rows.rows ≡ given.rows → rows.kinds ≡ map dual_kind given.kinds → rows.dims ≡ n → start ≡ whole_space n → cone.dims ≡ start.dims → IsConversion start.taken (constraints rows) kept cone losses →
-        IsCone cone →
+    IsCone cone →
     (losses ≡ [] → ShowsConstraints rows.dims cone.lines cone.rays list) → (losses ≢ [] → ShowsValid rows.dims (constraints rows) list) → Taken n given list cone losses
 taken n given rows list start cone kept losses many f m er ek ed es dims c k shown valid =
     let x = constrained n given rows list start cone kept losses many f m er ek ed es dims c k shown valid in

@@ -13,7 +13,7 @@ use Rattle.lra_pair.proofs.OwnSaturation.{Made, cone_generators, is_saturation, 
 pub own_made : (s : Shape) (tight loose form seen_form seen reduced kept : List (List ℤ)) (matrix left : Matrix) (n : ℕ) → IsCone s →
     AreParts s.rays (length s.lines) (rows_of s.taken) tight loose matrix.rows → IsEchelonOf form tight → SameEqualities tight form → HaveWidth (suc s.dims) form →
     seen_form ≡ form → seen ≡ loose → AreReducedBy seen_form seen reduced → n ≡ suc s.dims → HaveWidth n reduced → AreKept reduced kept matrix left → WithoutRedundant reduced matrix kept →
-        IsOwnList s form kept
+    IsOwnList s form kept
 own_made s tight loose form seen_form seen reduced kept matrix left n k parts f same widths ef es are en wide x without =
     let made : Made s form reduced = record {
       cone = k;
@@ -26,4 +26,4 @@ own_made s tight loose form seen_form seen reduced kept matrix left n k parts f 
     let all : HaveWidth (suc s.dims) reduced = subst (λ (i : ℕ). HaveWidth i reduced) en wide in
     let told = subst (λ (l : List (List ℤ)). AllTellTight s.rays (length s.lines) l matrix.rows) parts.is_loose parts.told in
     own_canonical s form reduced kept made (kept_widths (suc s.dims) x.marks reduced kept x.rows_kept all)
-        (without (suc s.dims) form (cone_generators s) (is_saturation s form reduced matrix made all told))
+    (without (suc s.dims) form (cone_generators s) (is_saturation s form reduced matrix made all told))

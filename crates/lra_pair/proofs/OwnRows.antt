@@ -65,7 +65,7 @@ told_by equal taken rows kinds rays count n place r bits matrix et many h er em 
     at j l =
         filled.1 j (omega (arith, l, en)) ∙ ap (λ (b : Bool). cond b (value_at (get_or matrix j []) place) true) (inside j (length matrix) (omega (arith, l, length_is))) ∙
         ap (λ (m : List (List Bool)). value_at (get_or m j []) place) em ∙ ap (λ (b : List Bool). value_at b place) (row_at taken rays j l) ∙
-            ap (λ (t : List Given). value_at (tight_values t (get_or rays j [])) place) (sym et) ∙
+        ap (λ (t : List Given). value_at (tight_values t (get_or rays j [])) place) (sym et) ∙
         value_of equal rows kinds place (get_or rays j []) many h ∙ ap (λ (y : List ℤ). int_eq (product y (get_or rays j [])) (pos 0)) (sym er)
 
 pub rows_of_given : {K : Type 0} (equal : K → Bool) (rows : List (List ℤ)) (kinds : List K) → length rows ≡ length kinds → rows_of (given_by equal rows kinds) ≡ rows
@@ -140,7 +140,7 @@ pub reduced_more : (form rows : List (List ℤ)) (i : ℕ) (r t : List ℤ) (all
     AreReducedBy form (take i rows) all → AreReducedBy form (take (i + 1) rows) new
 reduced_more form rows i r t all new h e f x a =
     subst (λ (l : List (List ℤ)). AreReducedBy form l new) (sym (take_more rows i r h ∙ ap (λ (y : List ℤ). take i rows ++ y ∷ []) (sym e)))
-        (subst (AreReducedBy form (take i rows ++ r ∷ [])) (sym f) (reduced_append form (take i rows) all r t a x))
+    (subst (AreReducedBy form (take i rows ++ r ∷ [])) (sym f) (reduced_append form (take i rows) all r t a x))
 
 pub width_more : (w : ℕ) (form rows : List (List ℤ)) (i : ℕ) (r t : List ℤ) (all new : List (List ℤ)) → i < length rows → r ≡ get_or rows i r → new ≡ all ++ t ∷ [] → HaveWidth w rows →
     IsReducedBy form r t → HaveWidth w all → HaveWidth w new
@@ -190,8 +190,11 @@ parts_next rays lines rows i r copied tight loose bits h e c a =
     subst (λ (l : List (List ℤ)). AreParts rays lines l tight loose bits) (ap (λ (y : List ℤ). take i rows ++ y ∷ []) (c ∙ e) ∙ sym (take_more rows i r h)) a
 
 pub parts_none : (rays : List (List ℤ)) (lines : ℕ) (tight loose : List (List ℤ)) (bits : List (List Bool)) → tight ≡ [] → loose ≡ [] → bits ≡ [] → AreParts rays lines [] tight loose bits
-parts_none rays lines tight loose bits et el eb = record { is_tight = et; is_loose = el;
-    told = subst (λ (l : List (List ℤ)). AllTellTight rays lines l bits) (sym el) (subst (AllTellTight rays lines []) (sym eb) tt) }
+parts_none rays lines tight loose bits et el eb = record {
+  is_tight = et;
+  is_loose = el;
+  told = subst (λ (l : List (List ℤ)). AllTellTight rays lines l bits) (sym el) (subst (AllTellTight rays lines []) (sym eb) tt);
+}
 
 pub parts_all : {K : Type 0} (equal : K → Bool) (s : Shape) (listed rows : List (List ℤ)) (kinds : List K) (i : ℕ) (tight loose : List (List ℤ)) (bits : List (List Bool)) →
     given_by equal rows kinds ≡ s.taken → listed ≡ rows → length kinds ≡ length rows → i ≡ length listed → AreParts s.rays (length s.lines) (take i listed) tight loose bits →

@@ -91,7 +91,7 @@ equality_tight : (s : Shape) → IsCone s → (g : Given) → Contains s.taken g
 equality_tight s k g m e = tight_from s.rays g.row (λ t n.
     let here = Contains-append_left s.rays (both_ways s.lines) t n in
     between_opposites (product g.row t) (product (negated g.row) t) (negated_dot g.row (entry t)) (k.dual.meets t here g.row (system_has s.taken g m))
-        (k.dual.meets t here (negated g.row) (system_has_negated s.taken g m e)))
+    (k.dual.meets t here (negated g.row) (system_has_negated s.taken g m e)))
 
 pub from_solutions : (s : Shape) (form reduced : List (List ℤ)) → Made s form reduced → (u : List ℤ) → Solutions form reduced u → Solves (system_of s.taken) (entry u)
 from_solutions s form reduced made u h c m =
@@ -144,7 +144,7 @@ reduced_product form r t u x h =
     let both : pos a.times *ℤ dot u (entry t) ≡ pos a.other *ℤ dot u (entry r) =
     sym (dot_scale u (pos a.times) (entry t)) ∙ dot_same u (λ j. pos a.times *ℤ entry t j) (λ j. (pos a.other *ℤ entry r j) +ℤ a.line j) a.is_sum ∙
     dot_plus u (pos a.other) (entry r) a.line ∙ ap (λ y. (pos a.other *ℤ dot u (entry r)) +ℤ y) z ∙
-        ring (v (pos a.other) ⊗ v (dot u (entry r)) ⊕ v (pos 0)) (v (pos a.other) ⊗ v (dot u (entry r))) (omega arith) in (
+    ring (v (pos a.other) ⊗ v (dot u (entry r)) ⊕ v (pos 0)) (v (pos a.other) ⊗ v (dot u (entry r))) (omega arith) in (
       (λ e. product_comm r u ∙ no_product a.other (dot u (entry r)) a.other_positive (sym both ∙ ap (λ y. pos a.times *ℤ y) (product_comm u t ∙ e) ∙
           ring (v (pos a.times) ⊗ v (pos 0)) (v (pos 0)) (omega arith))),
       (λ e. product_comm t u ∙ no_product a.times (dot u (entry t)) a.positive (both ∙ ap (λ y. pos a.other *ℤ y) (product_comm u r ∙ e) ∙
@@ -205,7 +205,7 @@ is_saturation s form reduced matrix made widths told = record {
       elim here [
         | inl ray ↦
             let solves : SolvesAll form x.row = subst (SolvesAll form) (sym ray.1) (form_everywhere s form reduced made (get_or s.rays j [])
-                    (Contains-append_left s.rays (both_ways s.lines) (get_or s.rays j []) (Contains-get_or s.rays j [] ray.0))) in
+            (Contains-append_left s.rays (both_ways s.lines) (get_or s.rays j []) (Contains-get_or s.rays j [] ray.0))) in
             let told_here = t.1.at_rays j ray.0 in
             let p = both x.row t.0.1 solves in (
               (λ e. p.1 (ap (product (get_or loose i [])) ray.1 ∙ told_here.0 e)),
@@ -216,7 +216,7 @@ is_saturation s form reduced matrix made widths told = record {
             let solves : SolvesAll form x.row = form_everywhere s form reduced made x.row on in
             let row : Contains loose (get_or loose i []) = Contains-get_or loose i [] t.0.0 in
             let zero_here : product (get_or loose i []) x.row ≡ pos 0 = line_tight s made.cone x.row x.row line.1 (inl refl) (get_or loose i [])
-                    (row_solved s (get_or loose i []) (loose_in s.rays (rows_of s.taken) (get_or loose i []) row).0) in (
+            (row_solved s (get_or loose i []) (loose_in s.rays (rows_of s.taken) (get_or loose i []) row).0) in (
               (λ e. (both x.row t.0.1 solves).1 zero_here),
               (λ e. t.1.at_lines j line.0 (omega (arith, l, many_generators s, t.1.many))),
             )

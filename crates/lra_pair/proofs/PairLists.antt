@@ -61,7 +61,7 @@ has_point p system g c = record {
 own_dual : (w : ℕ) (system rows lines rays : List (List ℤ)) → AreDual w system rows → IsCanonicalOf w system lines rays → AreDual w rows (all_rows lines rays)
 own_dual w system rows lines rays d o =
     dual_same_cone w rows system (all_rows lines rays) (dual_flipped w system rows d) o.widths (λ t m. (o.same (entry t)).0 (generated_row system t m))
-        (λ t m. (o.same (entry t)).1 (generated_row (all_rows lines rays) t m))
+    (λ t m. (o.same (entry t)).1 (generated_row (all_rows lines rays) t m))
 
 -- the points of a pair are those of the constraints that it was made from
 pub same_set : (n : ℕ) (rows : List Given) (p : Polyhedron) → p.dims ≡ n → IsPolyhedron p → SameSet n (Con rows) (Gen p.generators) → IsPolyhedronOf n (Con rows) p
@@ -77,10 +77,10 @@ pub pair_of_rows : (cone : Shape) (n : ℕ) (kept : List Given) (eqs facets : Li
 pair_of_rows cone n kept eqs facets rows list k d t own shown g =
     let system = system_of (inequality (positivity n) ∷ kept) in
     let o : IsCanonicalOf (suc n) system eqs facets = subst (λ (m : ℕ). IsCanonicalOf (suc m) system eqs facets) d
-            (subst (λ (l : List Given). IsCanonicalOf (suc cone.dims) (system_of l) eqs facets) t own) in
+    (subst (λ (l : List Given). IsCanonicalOf (suc cone.dims) (system_of l) eqs facets) t own) in
     let x = all_rows g.lines (g.points ++ g.rays) in
     inr (has_point (record { dims = n; rows = constraints rows; generators = generators list }) system g
-        (listed_hold n x eqs facets rows (own_dual (suc n) system x eqs facets g.dual o) o.canonical shown))
+    (listed_hold n x eqs facets rows (own_dual (suc n) system x eqs facets g.dual o) o.canonical shown))
 
 -- a list with a point isn't empty
 given_some : (points : List (List ℤ)) (rays lines : List Given) → points ≢ [] → given_as false points ++ rays ++ lines ≡ [] → ⊥
@@ -99,8 +99,15 @@ none_shown cone n kept list k d t shown e = elim (generators_shown cone n kept l
 pub empty_pair : (n : ℕ) (P : PointSet) (p : Polyhedron) → p.dims ≡ n → p.rows ≡ inequality (falsity n) ∷ [] → p.generators ≡ [] → IsEmptySet n P → IsPolyhedronOf n P p
 empty_pair n P p d er eg none =
     let k : IsPolyhedron p = inl (er ∙ ap (λ (m : ℕ). inequality (falsity m) ∷ []) (sym d), eg) in
-    record { dimensions = d; canonical = k; points = ((λ x i h. absurd (none x i h)), (λ x i h. absurd
-        (falsity_never n x i (h (inequality (falsity n)) (subst (λ (l : List Given). Contains l (inequality (falsity n))) (sym er) (contains_head (inequality (falsity n)) [])))))) }
+    record {
+      dimensions = d;
+      canonical = k;
+      points = (
+        (λ x i h. absurd (none x i h)),
+        (λ x i h. absurd
+            (falsity_never n x i (h (inequality (falsity n)) (subst (λ (l : List Given). Contains l (inequality (falsity n))) (sym er) (contains_head (inequality (falsity n)) []))))),
+      );
+    }
 
 pub some_shown : (cone : Shape) (n : ℕ) (kept : List Given) (list : Listed GenKind) → IsCone cone → cone.dims ≡ n → cone.taken ≡ inequality (positivity n) ∷ kept →
     ShowsGenerators cone.lines cone.rays list → list.rows ≢ [] → HasGenerators n (system_of (inequality (positivity n) ∷ kept)) (generators list)
@@ -124,7 +131,7 @@ canonical_positivity n = record {
   lowest = λ r k. each_one IsPrimitive (positivity n) (primitive_at (positivity n) 0 refl) r k;
   needed = λ front r back e. split_one (λ rest x. ¬ (Generated (all_rows [] rest) (entry x))) (positivity n)
       (separated (negated (positivity n)) [] (entry (positivity n)) (λ t m. absurd (contains_none t m))
-          (below (dot (negated (positivity n)) (entry (positivity n))) (negated_dot (positivity n) (entry (positivity n)) ∙ ap neg_ℤ (one_positive n)))) front r back e;
+      (below (dot (negated (positivity n)) (entry (positivity n))) (negated_dot (positivity n) (entry (positivity n)) ∙ ap neg_ℤ (one_positive n)))) front r back e;
   pointed = λ r k. each_one (λ x. ¬ (Generated (positivity n ∷ []) (λ j. neg_ℤ (entry x j)))) (positivity n)
       (separated (positivity n) (positivity n ∷ []) (λ j. neg_ℤ (entry (positivity n) j))
       (λ t m. each_one (λ x. pos 0 ≤ℤ dot (positivity n) (entry x)) (positivity n) (subst (λ z. pos 0 ≤ℤ z) (sym (one_positive n)) (omega (arith, ints))) t m)
@@ -203,7 +210,7 @@ own_columns : (n : ℕ) (taken : List Given) (lines rays : List (List ℤ)) → 
 own_columns n taken lines rays f o t m =
     subst (λ z. pos 0 ≤ℤ z) (positivity_product n t)
     (generated_nonneg (positivity n) (system_of taken) (entry t) (λ s i. subst (λ z. pos 0 ≤ℤ z) (sym (positivity_product n s)) (given_columns n taken f s i))
-        ((o.same (entry t)).1 (generated_row (all_rows lines rays) t m)))
+    ((o.same (entry t)).1 (generated_row (all_rows lines rays) t m)))
 
 pub generators_pair : (cone : Shape) (n : ℕ) (lines rays : List (List ℤ)) (rows : Listed ConKind) (list : Listed GenKind) → IsCone cone → cone.dims ≡ n → AreGenerators cone.taken →
     ¬ (IsEmptySet n (Gen cone.taken)) → IsOwnList cone lines rays → ShowsConstraints n cone.lines cone.rays rows → ShowsGenerators lines rays list →

@@ -99,4 +99,4 @@ rows_strain n d rows kept s start e losses after loss ed es er first k c ea l x 
     let i : s.dims ≡ n = es ∙ er ∙ ed in
     let all : start.taken ++ rows ≡ with_positivity n rows = ap (λ (g : List Given). g ++ rows) (first ∙ ap (λ (m : ℕ). inequality (positivity m) ∷ []) ed) in
     from_strain n rows after (subst (λ (g : List Given). IfLost (Strains (suc n) g) after) all
-        (subst (λ (m : ℕ). IfLost (Strains (suc m) (start.taken ++ rows)) after) i (own_lost start.taken rows kept s e losses after loss k c ea l x)))
+    (subst (λ (m : ℕ). IfLost (Strains (suc m) (start.taken ++ rows)) after) i (own_lost start.taken rows kept s e losses after loss k c ea l x)))

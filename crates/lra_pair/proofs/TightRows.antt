@@ -50,8 +50,11 @@ tight_has rays [] r k e = absurd (contains_none r k)
 tight_has rays (x ∷ rows) r k e = go (is_tight_at rays x) refl (λ m. tight_has rays rows r m e)
   where
     go : (b : Bool) → is_tight_at rays x ≡ b → (Contains rows r → Contains (tight_rows rays rows) r) → Contains (cond b (x ∷ tight_rows rays rows) (tight_rows rays rows)) r
-    go true f later = elim (contains_cases x r rows k) [ inl g ↦ subst (Contains (x ∷ tight_rows rays rows)) g (contains_head x (tight_rows rays rows)) | inr m ↦ contains_tail x r
-        (tight_rows rays rows) (later m) ]
+    go true f later = elim (contains_cases x r rows k) [
+      | inl g ↦ subst (Contains (x ∷ tight_rows rays rows)) g (contains_head x (tight_rows rays rows))
+      | inr m ↦ contains_tail x r
+          (tight_rows rays rows) (later m)
+    ]
     go false f later = elim (contains_cases x r rows k) [ inl g ↦ absurd (not_both (is_tight_at rays x) f (ap (is_tight_at rays) g ∙ e)) | inr m ↦ later m ]
 
 pub loose_in : (rays rows : List (List ℤ)) (r : List ℤ) → Contains (loose_rows rays rows) r → Contains rows r × (is_tight_at rays r ≡ false)

@@ -1,12 +1,12 @@
-use Rattle.std.proofs.Common.{◌≡◌, ◌+◌, drop, map, None}
+use Rattle.std.proofs.Common.{◌+◌, drop, map, None}
 use Rattle.std.specs.Prelude.{option_map, IfSome}
 use Rattle.lra_calc.specs.ScriptText.{without_return}
-use Rattle.lra_calc.specs.Script.{carried_out}
+use Rattle.lra_calc.specs.Script.{End, CarriesOut}
 use Rattle.lra_calc.specs.Views.{texts, session_of, IsSession}
 use Rattle.lra_calc.proofs.calculator.run_lines.Given as goal
 
 abbrev pub invariant-loop-index : goal.invariant-loop-index
 invariant-loop-index l = record {
   sound : IfSome l.session IsSession;
-  rest : carried_out (l.index + 1) (option_map session_of l.session) (map without_return (texts (drop l.index l.lines))) ≡ carried_out 1 None (map without_return (texts l.lines));
+  rest : (end : End) → CarriesOut (l.index + 1) (option_map session_of l.session) (map without_return (texts (drop l.index l.lines))) end → CarriesOut 1 None (map without_return (texts l.lines)) end;
 }

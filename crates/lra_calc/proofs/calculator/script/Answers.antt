@@ -1,8 +1,12 @@
-use Rattle.std.proofs.Common.{arith, ℕ, List, ap, sym, ◌∙◌, subst, Result, Err}
+use Rattle.std.proofs.Common.{arith, sym, subst, Err, None}
 use Rattle.lra_tree.specs.declared.refusals.Place.{Place}
-use Rattle.lra_calc.specs.Script.{Refusal, TooLong}
-use Rattle.lra_calc.specs.Views.{Answers}
+use Rattle.lra_linear.proofs.Polyhedra.{con_gen}
+use Rattle.lra_calc.specs.ScriptText.{lines}
+use Rattle.lra_calc.specs.Script.{TooLong, Runs, AnswersTo}
 use Rattle.lra_calc.proofs.Limit.{limit_is, answer_too_long, answer_not_long, taken}
+use Rattle.lra_calc.proofs.Endings.{answers_by}
+use Rattle.lra_calc.proofs.OneRefusal.{one_refusal}
+use Rattle.lra_calc.proofs.OneOutput.{one_output}
 use Rattle.lra_calc.proofs.calculator.script.Goals as goal
 
 pub slice_bounds-place_behind-end : goal.slice_bounds-place_behind-end
@@ -13,9 +17,27 @@ place_behind-place-requires c = let e = taken 65536 c.args.bytes.now c.if-bytes-
 
 pub returns-then-bytes-gt-MOST_BYTES-clause-answer : goal.returns-then-bytes-gt-MOST_BYTES-clause-answer
 returns-then-bytes-gt-MOST_BYTES-clause-answer c =
-    let place = c.place_behind-place.result in
-    answer_too_long 65536 c.args.bytes.now limit_is c.if-bytes-gt-MOST_BYTES.true
-    ∙ ap (λ (p : Place). let r : Result (List ℕ) Refusal = Err (TooLong p) in r) (sym c.place_behind-place.ensures)
+    subst (λ (p : Place). AnswersTo c.args.bytes.now (Err (TooLong p))) (sym c.place_behind-place.ensures)
+    (answer_too_long 65536 c.args.bytes.now limit_is c.if-bytes-gt-MOST_BYTES.true)
 
 pub returns-clause-answer : goal.returns-clause-answer
-returns-clause-answer c = subst (λ (told : Result (List ℕ) Refusal). Answers c.run.result told) (sym (answer_not_long 65536 c.args.bytes.now limit_is c.if-bytes-gt-MOST_BYTES.false)) c.run.ensures
+returns-clause-answer c = answers_by c.run.result (Runs c.args.bytes.now) (AnswersTo c.args.bytes.now)
+    (λ answer r. answer_not_long 65536 c.args.bytes.now answer limit_is c.if-bytes-gt-MOST_BYTES.false r) c.run.ensures
+
+pub returns-then-bytes-gt-MOST_BYTES-clause-one_refusal : goal.returns-then-bytes-gt-MOST_BYTES-clause-one_refusal
+returns-then-bytes-gt-MOST_BYTES-clause-one_refusal c = one_refusal c.args.bytes.now
+
+pub returns-then-bytes-gt-MOST_BYTES-clause-one_output : goal.returns-then-bytes-gt-MOST_BYTES-clause-one_output
+returns-then-bytes-gt-MOST_BYTES-clause-one_output c = one_output (lines c.args.bytes.now) 1 None
+
+pub returns-then-bytes-gt-MOST_BYTES-clause-both : goal.returns-then-bytes-gt-MOST_BYTES-clause-both
+returns-then-bytes-gt-MOST_BYTES-clause-both c = con_gen
+
+pub returns-clause-one_refusal : goal.returns-clause-one_refusal
+returns-clause-one_refusal c = one_refusal c.args.bytes.now
+
+pub returns-clause-one_output : goal.returns-clause-one_output
+returns-clause-one_output c = one_output (lines c.args.bytes.now) 1 None
+
+pub returns-clause-both : goal.returns-clause-both
+returns-clause-both c = con_gen

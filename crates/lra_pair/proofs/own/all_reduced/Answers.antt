@@ -8,7 +8,7 @@ pub returns-in_err-reduce-clause-excess : goal.returns-in_err-reduce-clause-exce
 returns-in_err-reduce-clause-excess c =
     let p = err_from_is_err_and c.from_residual-in_err-reduce.result c.from_residual-in_err-reduce.ensures.1 in
     let f = some_excess c.args.form.now c.args.rows.now c.loop-row.row-index c.row-item.result c.in_ok-reduced.reduced c.in_err-reduce.field-0.0
-            (omega (arith, c.loop-row-test.true)) c.row-item.is c.in_ok-reduced.ensures c.in_err-reduce.ensures.excess in
+    (omega (arith, c.loop-row-test.true)) c.row-item.is c.in_ok-reduced.ensures c.in_err-reduce.ensures.excess in
     rw (p.1, p.2) f
 
 pub loop-row-preserved : goal.loop-row-preserved

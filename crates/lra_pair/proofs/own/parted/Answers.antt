@@ -13,8 +13,8 @@ loop-place-preserved c =
     let wide : c.in-Some.width ≡ length s.rays + length s.lines = search rules in
     let many = ap length (sym c.kinds-kinds.ensures.kinds) ∙ c.kinds-kinds.ensures.len in
     let told = told_row is_equality s c.rows-rows.result.now c.taken-taken.result.now.rows c.taken-taken.result.now.kinds c.loop-place.place c.in-Some.width c.index-rows-place.result
-            c.in_ok-copy.field-0 c.in_ok-bits.bits c.saturation.result.now c.saturation.ensures c.taken-taken.ensures.taken c.rows-rows.ensures.rows many
-            (omega (arith, c.loop-place-test.true)) c.index-rows-place.is c.in_ok-copy.ensures wide c.in_ok-bits.ensures in
+    c.in_ok-copy.field-0 c.in_ok-bits.bits c.saturation.result.now c.saturation.ensures c.taken-taken.ensures.taken c.rows-rows.ensures.rows many
+    (omega (arith, c.loop-place-test.true)) c.index-rows-place.is c.in_ok-copy.ensures wide c.in_ok-bits.ensures in
     record {
       width = c.in_ok-push.ensures.width ∙ c.loop-place.invariant.width;
       parts = parts_next s.rays (length s.lines) c.rows-rows.result.now c.loop-place.place c.index-rows-place.result c.in_ok-copy.field-0 c.push.new.self.tight.items c.push.new.self.loose.items
@@ -24,5 +24,5 @@ loop-place-preserved c =
 pub returns-clause-parts : goal.returns-clause-parts
 returns-clause-parts c =
     parts_all is_equality c.args.cone.now c.rows-rows.result.now c.taken-taken.result.now.rows c.taken-taken.result.now.kinds c.loop-place.place c.loop-place.parts.tight.items
-        c.loop-place.parts.loose.items c.loop-place.parts.saturation.rows c.taken-taken.ensures.taken c.rows-rows.ensures.rows (ap length (sym c.kinds-kinds.ensures.kinds) ∙ c.kinds-kinds.ensures.len)
-        (omega (arith, c.loop-place-test.false, c.loop-place.auto.place-end)) c.loop-place.invariant.parts
+    c.loop-place.parts.loose.items c.loop-place.parts.saturation.rows c.taken-taken.ensures.taken c.rows-rows.ensures.rows (ap length (sym c.kinds-kinds.ensures.kinds) ∙ c.kinds-kinds.ensures.len)
+    (omega (arith, c.loop-place-test.false, c.loop-place.auto.place-end)) c.loop-place.invariant.parts

@@ -20,9 +20,9 @@ constraint_list-requires-clause-rays c = rays_have_width c.args.cone.now (suc c.
 pub invariant_of-result : goal.invariant_of-result
 invariant_of-result c =
     let u = generators_made c.args.cone.now c.args.n c.lines-lines.result.now c.rays-rays.result.now c.deref.result.now c.deref-2.result.now c.args.own.now.lines.items c.args.own.now.rays.items
-            c.in_ok-rows.rows c.in_ok-generators.generators c.lines-lines.ensures.cone c.requires.dims c.requires.columns c.requires.some c.requires.own c.lines-lines.ensures.lines
-            c.rays-rays.ensures.rays c.in_ok-rows.ensures.shown c.deref.ensures.value c.deref-2.ensures.value c.in_ok-generators.ensures.shown c.in_ok-rows.ensures.dims c.in_ok-generators.ensures.dims
-            in
+    c.in_ok-rows.rows c.in_ok-generators.generators c.lines-lines.ensures.cone c.requires.dims c.requires.columns c.requires.some c.requires.own c.lines-lines.ensures.lines
+    c.rays-rays.ensures.rays c.in_ok-rows.ensures.shown c.deref.ensures.value c.deref-2.ensures.value c.in_ok-generators.ensures.shown c.in_ok-rows.ensures.dims c.in_ok-generators.ensures.dims
+    in
     (u.0.canonical, u.1, u.2)
 
 pub returns : goal.returns

@@ -22,19 +22,19 @@ pub returns-then-is_empty : goal.returns-then-is_empty
 returns-then-is_empty c =
     let none : c.in_ok-generators.generators.rows ≡ [] = no_rows c.rows.result.now c.in_ok-generators.generators.rows c.is_empty.result c.is_empty.ensures c.if-is_empty.true c.rows.ensures.rows in
     none_made c.args.cone.now c.args.n c.lines-lines.result.now c.rays-rays.result.now c.in_ok-generators.generators c.in_ok-pair.pair c.lines-lines.ensures.cone c.requires.dims c.requires.positive
-        c.lines-lines.ensures.lines c.rays-rays.ensures.rays c.in_ok-generators.ensures.shown none c.in_ok-pair.ensures.dims c.in_ok-pair.ensures.rows c.in_ok-pair.ensures.generators
+    c.lines-lines.ensures.lines c.rays-rays.ensures.rays c.in_ok-generators.ensures.shown none c.in_ok-pair.ensures.dims c.in_ok-pair.ensures.rows c.in_ok-pair.ensures.generators
 
 pub invariant_of-result : goal.invariant_of-result
 invariant_of-result c =
     let some : c.in_ok-generators.generators.rows ≢ [] = search rules in
     let u = rows_made c.args.cone.now c.args.n c.lines-lines.result.now c.rays-rays.result.now c.deref.result.now c.deref-2.result.now c.args.own.now.lines.items c.args.own.now.rays.items
-            c.in_ok-rows.rows c.in_ok-generators.generators c.lines-lines.ensures.cone c.requires.dims c.requires.positive c.requires.own c.lines-lines.ensures.lines c.rays-rays.ensures.rays
-            c.in_ok-generators.ensures.shown c.deref.ensures.value c.deref-2.ensures.value c.in_ok-rows.ensures.shown some c.in_ok-rows.ensures.dims c.in_ok-generators.ensures.dims in
-            (u.0.canonical, u.1, u.2)
+    c.in_ok-rows.rows c.in_ok-generators.generators c.lines-lines.ensures.cone c.requires.dims c.requires.positive c.requires.own c.lines-lines.ensures.lines c.rays-rays.ensures.rays
+    c.in_ok-generators.ensures.shown c.deref.ensures.value c.deref-2.ensures.value c.in_ok-rows.ensures.shown some c.in_ok-rows.ensures.dims c.in_ok-generators.ensures.dims in
+    (u.0.canonical, u.1, u.2)
 
 pub returns : goal.returns
 returns c =
     let some : c.in_ok-generators.generators.rows ≢ [] = search rules in
     (rows_made c.args.cone.now c.args.n c.lines-lines.result.now c.rays-rays.result.now c.deref.result.now c.deref-2.result.now c.args.own.now.lines.items c.args.own.now.rays.items c.in_ok-rows.rows
-        c.in_ok-generators.generators c.lines-lines.ensures.cone c.requires.dims c.requires.positive c.requires.own c.lines-lines.ensures.lines c.rays-rays.ensures.rays
-        c.in_ok-generators.ensures.shown c.deref.ensures.value c.deref-2.ensures.value c.in_ok-rows.ensures.shown some c.in_ok-rows.ensures.dims c.in_ok-generators.ensures.dims).0
+    c.in_ok-generators.generators c.lines-lines.ensures.cone c.requires.dims c.requires.positive c.requires.own c.lines-lines.ensures.lines c.rays-rays.ensures.rays
+    c.in_ok-generators.ensures.shown c.deref.ensures.value c.deref-2.ensures.value c.in_ok-rows.ensures.shown some c.in_ok-rows.ensures.dims c.in_ok-generators.ensures.dims).0

@@ -8,10 +8,10 @@ pub returns-in_ok-push-clause-parts : goal.returns-in_ok-push-clause-parts
 returns-in_ok-push-clause-parts c = λ rays lines rows told before.
     let old = c.args.self.now in
     part_tight rays lines rows old.tight.items old.loose.items c.push.new.self.items old.saturation.rows c.args.row c.args.bits told
-        (c.are_true.ensures.0 c.if-are_true.true) c.in_ok-push.ensures.items before
+    (c.are_true.ensures.0 c.if-are_true.true) c.in_ok-push.ensures.items before
 
 pub returns-in_ok-add_row-clause-parts : goal.returns-in_ok-add_row-clause-parts
 returns-in_ok-add_row-clause-parts c = λ rays lines rows told before.
     let old = c.args.self.now in
     part_loose rays lines rows old.tight.items old.loose.items c.push-else-are_true.new.self.items old.saturation.rows c.add_row.new.self.rows c.args.row c.args.bits told
-        (λ h. unlike c.are_true.result c.if-are_true.false (c.are_true.ensures.1 h)) c.in_ok-push-2.ensures.items (ap (λ (m : Matrix). m.rows) c.in_ok-add_row.ensures.added) before
+    (λ h. unlike c.are_true.result c.if-are_true.false (c.are_true.ensures.1 h)) c.in_ok-push-2.ensures.items (ap (λ (m : Matrix). m.rows) c.in_ok-add_row.ensures.added) before

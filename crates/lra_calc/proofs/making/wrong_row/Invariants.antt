@@ -1,8 +1,8 @@
 use Rattle.std.proofs.Common.{◌≡◌, drop, map}
 use Rattle.lra_calc.specs.Script as script
 use Rattle.lra_calc.specs.Views.{constraint_of}
-use Rattle.lra_calc.proofs.session.wrong_width.Given as goal
+use Rattle.lra_calc.proofs.making.wrong_row.Given as goal
 
 abbrev pub invariant-loop-constraint : goal.invariant-loop-constraint
 invariant-loop-constraint l =
-    script.wrong_width l.needed (map constraint_of (drop l.constraint-index l.rows)) ≡ script.wrong_width l.needed (map constraint_of l.rows)
+    script.wrong_row l.n (map constraint_of (drop l.constraint-index l.rows)) ≡ script.wrong_row l.n (map constraint_of l.rows)

@@ -3,7 +3,7 @@ use Rattle.std.specs.List.{All}
 use Rattle.std.specs.Vec.Iter.{into_iter_items}
 use Rattle.lra_sys.specs.Listed.{constraints}
 use Rattle.lra_calc.specs.Views.{constraint_of}
-use Rattle.lra_calc.proofs.session.system_of.Given as goal
+use Rattle.lra_calc.proofs.making.constraints_of_rows.Given as goal
 
 abbrev pub invariant-loop-constraint : goal.invariant-loop-constraint
 invariant-loop-constraint l = record {

@@ -1,0 +1,97 @@
+-- What a line makes: systems of rows of one width, with their kinds, and polyhedra of them, flagged or not.
+use Rattle.std.proofs.Common.{◌≡◌, ℕ, suc, ℤ, pos, Bool, true, false, cond, not, nat_eq, List, [], ◌∷◌, ◌++◌, length, map, refl, ap, sym, ◌∙◌, subst, arith, append_assoc, Option, Some, None}
+use Rattle.std.specs.List.{All}
+use Rattle.std.proofs.lemmas.Bool.Decides.{nat_tests}
+use Rattle.std.proofs.lemmas.List.Elements.{All-nil, All-cons}
+use Rattle.lra_linear.specs.Points.{PointSet, IsWithin}
+use Rattle.lra_linear.specs.Descriptions.{Given, Con as points_of}
+use Rattle.lra_linear.specs.Polyhedra.{Polyhedron, IsPolyhedron, IsPolyhedronOf}
+use Rattle.lra_linear.specs.Strain.{Loss}
+use Rattle.lra_cone.specs.Losses.{IfLost}
+use Rattle.lra_sys.specs.declared.system.GenKind.{GenKind}
+use Rattle.lra_sys.specs.declared.system.GenKind.TheVariants as gen
+use Rattle.lra_sys.specs.Listed.{Listed, given_by, is_line, FitsKind, FitKinds}
+use Rattle.lra_calc.specs.LineForms as form
+use Rattle.lra_calc.specs.Script as script
+use Rattle.lra_calc.specs.Views.{constraint_of, generator_of, IsDivided}
+use Rattle.lra_calc.specs.declared.forms.Constraint.{Constraint}
+use Rattle.lra_calc.specs.declared.forms.Generator.{Generator}
+
+-- ---- widths
+not_found : (b : Bool) (f : script.Fault) (o : Option script.Fault) → cond b o (Some f) ≡ None → (b ≡ true) × (o ≡ None)
+not_found true f o e = (refl, e)
+not_found false f o e = cc
+
+same_width : (n needed : ℕ) → nat_eq n needed ≡ true → n ≡ needed
+same_width n needed h = grind (arith, nat_tests)
+
+pub all_wide : (n : ℕ) (rows : List Constraint) → script.wrong_row n (map constraint_of rows) ≡ None → All (λ c. length c.row ≡ suc n) rows
+all_wide n [] e = All-nil (λ (c : Constraint). length c.row ≡ suc n)
+all_wide n (c ∷ cs) e =
+    let p = not_found (nat_eq (length c.row) (suc n)) (script.WrongDimension (length c.row) (suc n)) (script.wrong_row n (map constraint_of cs)) e in
+    All-cons (λ (c : Constraint). length c.row ≡ suc n) c cs (same_width (length c.row) (suc n) p.0) (all_wide n cs p.1)
+
+-- with as many numbers as the kind needs
+abbrev pub IsWide : ℕ → Generator → Type 0
+IsWide n g = length g.numbers ≡ script.numbers_needed n g.kind
+
+pub all_generators_wide : (n : ℕ) (gs : List Generator) → script.wrong_generator n (map generator_of gs) ≡ None → All (IsWide n) gs
+all_generators_wide n [] e = All-nil (IsWide n)
+all_generators_wide n (g ∷ gs) e =
+    let needed = script.numbers_needed n g.kind in
+    let p = not_found (nat_eq (length g.numbers) needed) (script.WrongDimension (length g.numbers) needed) (script.wrong_generator n (map generator_of gs)) e in
+    All-cons (IsWide n) g gs (same_width (length g.numbers) needed p.0) (all_generators_wide n gs p.1)
+
+-- ---- systems
+given_by-append : {K : Type 0} (equal : K → Bool) (rows : List (List ℤ)) (kinds : List K) (row : List ℤ) (kind : K) → length rows ≡ length kinds
+    → given_by equal (rows ++ row ∷ []) (kinds ++ kind ∷ []) ≡ given_by equal rows kinds ++ record { row = row; equal = equal kind } ∷ []
+given_by-append equal [] [] row kind e = refl
+given_by-append equal [] (k ∷ ks) row kind e = cc
+given_by-append equal (r ∷ rs) [] row kind e = cc
+given_by-append equal (r ∷ rs) (k ∷ ks) row kind e = ap (λ (gs : List Given). record { row = r; equal = equal k } ∷ gs) (given_by-append equal rs ks row kind (cc))
+
+pub made_later : {K : Type 0} (equal : K → Bool) (s t : Listed K) (row : List ℤ) (kind : K) (rest all : List Given) → length s.rows ≡ length s.kinds → t.rows ≡ s.rows ++ row ∷ [] → t.kinds ≡ s.kinds ++ kind ∷ []
+    → given_by equal s.rows s.kinds ++ record { row = row; equal = equal kind } ∷ rest ≡ all → given_by equal t.rows t.kinds ++ rest ≡ all
+made_later equal s t row kind rest all same rows kinds before =
+    let g : Given = record { row = row; equal = equal kind } in
+    let pushed : given_by equal t.rows t.kinds ≡ given_by equal s.rows s.kinds ++ g ∷ [] =
+    ap (λ (rs : List (List ℤ)). given_by equal rs t.kinds) rows ∙ ap (given_by equal (s.rows ++ row ∷ [])) kinds ∙ given_by-append equal s.rows s.kinds row kind same in
+    ap (λ (gs : List Given). gs ++ rest) pushed ∙ append_assoc (given_by equal s.rows s.kinds) (g ∷ []) rest ∙ before
+
+pub all_tail : {X : Type 0} (P : X → Type 0) (x : X) (xs : List X) → All P (x ∷ xs) → All P xs
+all_tail P x xs a = λ k d h. a (suc k) d (omega arith)
+
+-- ---- a generator's row
+-- a row of n + 1 columns, with column 0 as its kind asks
+pub row_fits : (n : ℕ) (kind : GenKind) (numbers row : List ℤ) → form.as_given kind numbers ≡ record { row = row; equal = is_line kind } → length numbers ≡ script.numbers_needed n kind → IsDivided kind numbers
+    → (length row ≡ suc n) × FitsKind kind row
+row_fits n gen.Point [] row e w d = cc
+row_fits n gen.Point (z ∷ zs) row e w d =
+    let same : (z ∷ zs) ≡ row = ap (λ (g : Given). g.row) e in
+    (ap (λ (r : List ℤ). length r) (sym same) ∙ w, subst (λ (r : List ℤ). FitsKind gen.Point r) same d)
+row_fits n gen.Ray numbers row e w d =
+    let same : (pos 0 ∷ numbers) ≡ row = ap (λ (g : Given). g.row) e in
+    (ap (λ (r : List ℤ). length r) (sym same) ∙ ap suc w, subst (λ (r : List ℤ). FitsKind gen.Ray r) same refl)
+row_fits n gen.Line numbers row e w d =
+    let same : (pos 0 ∷ numbers) ≡ row = ap (λ (g : Given). g.row) e in
+    (ap (λ (r : List ℤ). length r) (sym same) ∙ ap suc w, subst (λ (r : List ℤ). FitsKind gen.Line r) same refl)
+
+fit-append : (rows : List (List ℤ)) (kinds : List GenKind) (row : List ℤ) (kind : GenKind) → length rows ≡ length kinds → FitKinds rows kinds → FitsKind kind row → FitKinds (rows ++ row ∷ []) (kinds ++ kind ∷ [])
+fit-append [] [] row kind e fit f = (f, tt)
+fit-append [] (k ∷ ks) row kind e fit f = cc
+fit-append (r ∷ rs) [] row kind e fit f = cc
+fit-append (r ∷ rs) (k ∷ ks) row kind e fit f = (fit.0, fit-append rs ks row kind (cc) fit.1 f)
+
+pub fit_later : (s t : Listed GenKind) (row : List ℤ) (kind : GenKind) → length s.rows ≡ length s.kinds → t.rows ≡ s.rows ++ row ∷ [] → t.kinds ≡ s.kinds ++ kind ∷ [] → FitKinds s.rows s.kinds → FitsKind kind row
+    → FitKinds t.rows t.kinds
+fit_later s t row kind same rows kinds fit f =
+    subst (λ (ks : List GenKind). FitKinds t.rows ks) (sym kinds) (subst (λ (rs : List (List ℤ)). FitKinds rs (s.kinds ++ kind ∷ [])) (sym rows) (fit-append s.rows s.kinds row kind same fit f))
+
+-- ---- a polyhedron, flagged where something was lost
+pub made_of : (n : ℕ) (P : PointSet) (Strains : Loss → Type 0) (p : Polyhedron) (losses : List Loss) (k : ℕ) (none : Bool) → k ≡ length losses → none ≡ nat_eq k 0 → p.dims ≡ n → IsPolyhedron p
+    → (losses ≡ [] → IsPolyhedronOf n P p) → IsWithin n P (points_of p.rows) → IfLost Strains losses → script.IsMadeOf n P Strains (not none) p
+made_of n P Strains p [] k true count e dims canonical exact within strain = exact refl
+made_of n P Strains p [] k false count e dims canonical exact within strain = absurd (grind (arith, nat_tests))
+made_of n P Strains p (l ∷ later) k true count e dims canonical exact within strain = absurd (grind (arith, nat_tests))
+made_of n P Strains p (l ∷ later) k false count e dims canonical exact within strain =
+    record { dimensions = dims; canonical = canonical; within = within; loss = l; strains = strain }

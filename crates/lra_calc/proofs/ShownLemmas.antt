@@ -1,0 +1,99 @@
+-- The text of a polyhedron, by the texts of its lists of rows with their kinds; and the names of its variables.
+use Rattle.std.proofs.Common.{◌≡◌, ◌<◌, ◌-◌, ◌+◌, ℕ, zero, suc, ℤ, pos, negsuc, Bool, false, List, [], ◌∷◌, ◌++◌, length, map, refl, ap, sym, ◌∙◌, subst, arith, append_assoc, nat_eq, ◌<ℤ◌}
+use Rattle.std.specs.Prelude.{codes}
+use Rattle.std.specs.Fmt.{decimal}
+use Rattle.std.specs.List.{flat_map}
+use Rattle.std.proofs.lemmas.Int.{ints}
+use Rattle.lra_linear.specs.Vectors.{entry}
+use Rattle.lra_linear.specs.Descriptions.{Given}
+use Rattle.lra_linear.specs.Polyhedra.{Polyhedron}
+use Rattle.lra_sys.specs.declared.system.ConKind.{ConKind}
+use Rattle.lra_sys.specs.declared.system.ConKind.TheVariants as con
+use Rattle.lra_sys.specs.declared.system.GenKind.{GenKind}
+use Rattle.lra_sys.specs.declared.system.GenKind.TheVariants as gen
+use Rattle.lra_sys.specs.Listed.{Listed, given_by, is_equality, is_line, constraints, generators, FitsKind, FitKinds}
+use Rattle.lra_show.specs.Shown.{report_row, report_generator}
+use Rattle.lra_tree.specs.Report.{Row, Generator}
+use Rattle.lra_tree.specs.ReportText.{text_line, rows_text, generators_text}
+use Rattle.lra_report.specs.Rows.{shown_rows, shown_generators}
+use Rattle.lra_report.specs.Lines.{generator_line}
+use Rattle.lra_calc.specs.ShownSets.{variables_from, variables, shown_constraint, kind_at, kind_by, shown_generator, empty_or, polyhedron_text}
+
+-- ---- lists
+row_is : (r : List ℤ) (k : ConKind) → shown_constraint (record { row = r; equal = is_equality k }) ≡ report_row r k
+row_is r con.Ge = refl
+row_is r con.Eq = refl
+
+rows_are : (rows : List (List ℤ)) (kinds : List ConKind) → map shown_constraint (given_by is_equality rows kinds) ≡ shown_rows rows kinds
+rows_are [] kinds = refl
+rows_are (r ∷ rows) [] = refl
+rows_are (r ∷ rows) (k ∷ kinds) = ap (λ (x : Row). x ∷ map shown_constraint (given_by is_equality rows kinds)) (row_is r k) ∙ ap (λ (xs : List Row). report_row r k ∷ xs) (rows_are rows kinds)
+
+point_at : (z : ℤ) → pos 0 <ℤ z → kind_at z ≡ gen.Point
+point_at (pos zero) h = absurd (omega (arith, ints))
+point_at (pos (suc n)) h = refl
+point_at (negsuc n) h = refl
+
+kind_is : (r : List ℤ) (k : GenKind) → FitsKind k r → kind_by (record { row = r; equal = is_line k }) ≡ k
+kind_is r gen.Point f = point_at (entry r 0) f
+kind_is r gen.Ray f = ap kind_at f
+kind_is r gen.Line f = refl
+
+generators_are : (rows : List (List ℤ)) (kinds : List GenKind) → FitKinds rows kinds → map shown_generator (given_by is_line rows kinds) ≡ shown_generators rows kinds
+generators_are [] kinds f = refl
+generators_are (r ∷ rows) [] f = refl
+generators_are (r ∷ rows) (k ∷ kinds) f =
+    ap (λ (j : GenKind). report_generator r j ∷ map shown_generator (given_by is_line rows kinds)) (kind_is r k f.0) ∙ ap (λ (xs : List Generator). report_generator r k ∷ xs) (generators_are rows kinds f.1)
+
+-- ---- texts
+pub no_point : (p : Polyhedron) (g : Listed GenKind) → generators g ≡ p.generators → g.rows ≡ [] → polyhedron_text p ≡ text_line (codes "  empty")
+no_point p g e none =
+    let nothing : p.generators ≡ [] = sym e ∙ ap (λ (rs : List (List ℤ)). given_by is_line rs g.kinds) none in
+    ap (λ (gs : List Given). empty_or gs (generators_text (variables p.dims) (map shown_generator gs) (rows_text (variables p.dims) (map shown_constraint p.rows)))) nothing
+
+some_point : (names : List (List ℕ)) (rows : List ℕ) (rs : List (List ℤ)) (ks : List GenKind) → 0 < length rs → length ks ≡ length rs → FitKinds rs ks
+    → empty_or (given_by is_line rs ks) (generators_text names (map shown_generator (given_by is_line rs ks)) rows) ≡ rows ++ flat_map (generator_line names) (shown_generators rs ks)
+some_point names rows [] ks h e f = absurd (omega arith)
+some_point names rows (r ∷ rs) [] h e f = cc
+some_point names rows (r ∷ rs) (k ∷ ks) h e f = ap (λ (xs : List Generator). rows ++ flat_map (generator_line names) xs) (generators_are (r ∷ rs) (k ∷ ks) f)
+
+pub shown_whole : (p : Polyhedron) (c : Listed ConKind) (g : Listed GenKind) → constraints c ≡ p.rows → generators g ≡ p.generators → 0 < length g.rows → length g.kinds ≡ length g.rows → FitKinds g.rows g.kinds
+    → polyhedron_text p ≡ rows_text (variables p.dims) (shown_rows c.rows c.kinds) ++ flat_map (generator_line (variables p.dims)) (shown_generators g.rows g.kinds)
+shown_whole p c g rows gens some same fit =
+    let names = variables p.dims in
+    ap (λ (gs : List Given). empty_or gs (generators_text names (map shown_generator gs) (rows_text names (map shown_constraint p.rows)))) (sym gens)
+    ∙ some_point names (rows_text names (map shown_constraint p.rows)) g.rows g.kinds some same fit
+    ∙ ap (λ (rs : List Row). rows_text names rs ++ flat_map (generator_line names) (shown_generators g.rows g.kinds)) (ap (map shown_constraint) (sym rows) ∙ rows_are c.rows c.kinds)
+
+pub some_rows : (b : Bool) (rs gs : List (List ℤ)) → b ≡ nat_eq (length rs) 0 → b ≡ false → rs ≡ gs → 0 < length gs
+some_rows b [] gs e f same = let wrong : nat_eq 0 0 ≡ false = sym e ∙ f in cc
+some_rows b (r ∷ rs) gs e f same = subst (λ (l : List (List ℤ)). 0 < length l) same (omega arith)
+
+-- the rows are written behind a text, then the generators
+pub written : (p : Polyhedron) (c : Listed ConKind) (g : Listed GenKind) (rs : List (List ℤ)) (ks : List GenKind) (names : List (List ℕ)) (dims : ℕ) (old between new : List ℕ)
+    → constraints c ≡ p.rows → generators g ≡ p.generators → FitKinds g.rows g.kinds → rs ≡ g.rows → ks ≡ g.kinds → length ks ≡ length g.rows → 0 < length g.rows → names ≡ variables dims → dims ≡ p.dims
+    → between ≡ old ++ rows_text names (shown_rows c.rows c.kinds) → new ≡ between ++ flat_map (generator_line names) (shown_generators rs ks) → new ≡ old ++ polyhedron_text p
+written p c g rs ks names dims old between new rows gens fit same_rows same_kinds same some named sized first last =
+    let told = shown_whole p c g rows gens some (ap (λ (k : List GenKind). length k) (sym same_kinds) ∙ same) fit in
+    let written_rows = rows_text names (shown_rows c.rows c.kinds) in
+    last
+    ∙ ap (λ (x : List (List ℤ)). between ++ flat_map (generator_line names) (shown_generators x ks)) same_rows
+    ∙ ap (λ (x : List GenKind). between ++ flat_map (generator_line names) (shown_generators g.rows x)) same_kinds
+    ∙ ap (λ (x : List ℕ). x ++ flat_map (generator_line names) (shown_generators g.rows g.kinds)) first
+    ∙ append_assoc old written_rows (flat_map (generator_line names) (shown_generators g.rows g.kinds))
+    ∙ ap (λ (ns : List (List ℕ)). old ++ (rows_text ns (shown_rows c.rows c.kinds) ++ flat_map (generator_line ns) (shown_generators g.rows g.kinds))) (named ∙ ap variables sized)
+    ∙ ap (λ (x : List ℕ). old ++ x) (sym told)
+
+-- ---- names
+next_name : (first k : ℕ) (names more : List (List ℕ)) (name : List ℕ) (all : List (List ℕ)) → name ≡ codes "x" ++ decimal first → more ≡ names ++ name ∷ [] → names ++ variables_from first (suc k) ≡ all
+    → more ++ variables_from (first + 1) k ≡ all
+next_name first k names more name all is pushed before =
+    ap (λ (ns : List (List ℕ)). ns ++ variables_from (first + 1) k) pushed ∙ append_assoc names (name ∷ []) (variables_from (first + 1) k)
+    ∙ ap (λ (x : List ℕ). names ++ x ∷ variables_from (first + 1) k) is ∙ before
+
+-- one name more: those so far, and those that are still to come
+pub one_more : (n index : ℕ) (names more : List (List ℕ)) (name : List ℕ) (all : List (List ℕ)) → index < n → name ≡ codes "x" ++ decimal (index + 1) → more ≡ names ++ name ∷ []
+    → names ++ variables_from (index + 1) (n - index) ≡ all → more ++ variables_from (index + 1 + 1) (n - (index + 1)) ≡ all
+one_more n index names more name all h is pushed before =
+    let left : n - index ≡ suc (n - (index + 1)) = omega arith in
+    next_name (index + 1) (n - (index + 1)) names more name all is pushed (subst (λ (k : ℕ). names ++ variables_from (index + 1) k ≡ all) left before)
