@@ -7,11 +7,12 @@ use Rattle.std.proofs.lemmas.Int.{ints}
 use Rattle.lra_linear.specs.Vectors.{entry}
 use Rattle.lra_linear.specs.Descriptions.{Given}
 use Rattle.lra_linear.specs.Polyhedra.{Polyhedron}
-use Rattle.lra_sys.specs.declared.system.ConKind.{ConKind}
-use Rattle.lra_sys.specs.declared.system.ConKind.TheVariants as con
+use Rattle.lra_linear.specs.declared.ConKind.{ConKind}
+use Rattle.lra_linear.specs.declared.ConKind.TheVariants as con
 use Rattle.lra_sys.specs.declared.system.GenKind.{GenKind}
 use Rattle.lra_sys.specs.declared.system.GenKind.TheVariants as gen
-use Rattle.lra_sys.specs.Listed.{Listed, given_by, is_equality, is_line, constraints, generators, FitsKind, FitKinds}
+use Rattle.lra_sys.specs.Listed.{Listed, given_by, is_line, constraints, generators, FitsKind, FitKinds}
+use Rattle.lra_linear.specs.Kinds.{is_equality}
 use Rattle.lra_show.specs.Shown.{report_row, report_generator}
 use Rattle.lra_tree.specs.Report.{Row, Generator}
 use Rattle.lra_tree.specs.ReportText.{text_line, rows_text, generators_text}

@@ -5,7 +5,7 @@ use Rattle.std.specs.Fmt.{decimal}
 use Rattle.lra_linear.specs.Vectors.{entry}
 use Rattle.lra_linear.specs.Descriptions.{Given}
 use Rattle.lra_linear.specs.Polyhedra.{Polyhedron}
-use Rattle.lra_sys.specs.declared.system.ConKind.TheVariants as con
+use Rattle.lra_linear.specs.declared.ConKind.TheVariants as con
 use Rattle.lra_sys.specs.declared.system.GenKind.{GenKind}
 use Rattle.lra_sys.specs.declared.system.GenKind.TheVariants as gen
 use Rattle.lra_show.specs.Shown.{report_row, report_generator}

@@ -5,7 +5,7 @@ use Rattle.std.specs.List.{All}
 use Rattle.std.specs.BTreeMap.{get_by_text}
 use Rattle.std.specs.declared.alloc.Global.{Global}
 use Rattle.lra_linear.specs.Descriptions.{Given}
-use Rattle.lra_sys.specs.Listed.{is_equality}
+use Rattle.lra_linear.specs.Kinds.{is_equality}
 use Rattle.lra_sys.specs.declared.system.GenKind.{GenKind}
 use Rattle.lra_sys.specs.declared.system.GenKind.TheVariants as gen
 use Rattle.lra_sys.specs.declared.membership.Holds as H

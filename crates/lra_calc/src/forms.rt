@@ -2,7 +2,7 @@
 
 ghost use Rattle.std.specs.Prelude.{◌≡◌, map, IfOk, IfSome, Some, None, true, bytes_eq, codes, option_map, if◌then◌else◌};
 ghost use Rattle.std.specs.List.{slice_split, All};
-ghost use Rattle.lra_sys.specs.Listed.{is_equality};
+ghost use Rattle.lra_linear.specs.Kinds.{is_equality};
 ghost use Rattle.lra_calc.specs.LineForms as form;
 ghost use Rattle.lra_calc.specs.LineForms.{all_of};
 ghost use Rattle.lra_calc.specs.Views.{texts, line_of, constraint_of, constraints_of, generator_of, generators_of, IsLine, HasDivisor, IsDivided};

@@ -186,11 +186,11 @@ pub no_text : (told : List ℕ) (status : Status) → EndsInRefusal status → E
 no_text told status refused reported = source_ended told status (λ c at r. refused) (λ t a. reported)
 
 pub script_refused_status : (words : List (List ℕ)) (left : Option (List ℕ)) (text : List ℕ) (status : Status) (told : List ℕ) (r : script.Refusal)
-    → IsDeserved words left text status → Asks words Calc → left ≡ Some told → script.answer_to told ≡ Err r → EndsInRefusal status
+    → IsDeserved words left text status → Asks words Calc → left ≡ Some told → script.AnswersTo told (Err r) → EndsInRefusal status
 script_refused_status words left text status told r d asks tells e = script_refusal told text status r (told_input words left text status told Calc d asks tells) e
 
 pub script_status : (words : List (List ℕ)) (left : Option (List ℕ)) (text : List ℕ) (status : Status) (told output : List ℕ)
-    → IsDeserved words left text status → Asks words Calc → left ≡ Some told → script.answer_to told ≡ Ok output → EndsInOutput status
+    → IsDeserved words left text status → Asks words Calc → left ≡ Some told → script.AnswersTo told (Ok output) → EndsInOutput status
 script_status words left text status told output d asks tells e = script_output told text status output (told_input words left text status told Calc d asks tells) e
 
 complete_script_of : (words : List (List ℕ)) (bytes text : List ℕ) (status : Status) → Deserves words bytes text status → EndsInOutput status → IsOutputOrMemory status
@@ -203,7 +203,7 @@ complete_script_of words bytes text WriteFault d ends = d
 complete_script_of words bytes text Memory d ends = tt
 
 pub complete_script_status : (words : List (List ℕ)) (left : Option (List ℕ)) (text : List ℕ) (status : Status) (told output : List ℕ)
-    → IsDeserved words left text status → Asks words Calc → left ≡ Some told → script.answer_to told ≡ Ok output → IsOutputOrMemory status
+    → IsDeserved words left text status → Asks words Calc → left ≡ Some told → script.AnswersTo told (Ok output) → IsOutputOrMemory status
 complete_script_status words left text status told output d asks tells e =
     complete_script_of words d.bytes text status d.deserved (script_status words left text status told output d asks tells e)
 

@@ -171,9 +171,9 @@ pub fn run<S: Source, K: Sink>(
     ensures each_source { (options : AnalyseOptions) → Asks (map string_bytes words.now) (Analyse options) →
         (bytes : List ℕ) → S.left source.old ≡ Some bytes → EndsBySource bytes result }
     ensures script_refused { Asks (map string_bytes words.now) Calc → (bytes : List ℕ) → S.left source.old ≡ Some bytes →
-        (r : script.Refusal) → script.answer_to bytes ≡ Err r → EndsInRefusal result }
+        (r : script.Refusal) → script.AnswersTo bytes (Err r) → EndsInRefusal result }
     ensures script_ran { Asks (map string_bytes words.now) Calc → (bytes : List ℕ) → S.left source.old ≡ Some bytes →
-        (output : List ℕ) → script.answer_to bytes ≡ Ok output → EndsInOutput result }
+        (output : List ℕ) → script.AnswersTo bytes (Ok output) → EndsInOutput result }
     ensures reads { result ≢ Status.ReadFault → result ≢ Status.Memory → (c : Command) → Asks (map string_bytes words.now) c →
         ReadsInput (S.left source.old) (S.left source.new) }
     // Whatever the answer, at most one byte past the limit is read.
@@ -197,7 +197,7 @@ pub fn run<S: Source, K: Sink>(
         (Rose (S.faults source.old) (S.faults source.new) → ⊥) → (Rose (K.faults sink.old) (K.faults sink.new) → ⊥) →
         IsReportOrMemory result }
     ensures complete_script { Asks (map string_bytes words.now) Calc → (bytes : List ℕ) → S.left source.old ≡ Some bytes →
-        (output : List ℕ) → script.answer_to bytes ≡ Ok output →
+        (output : List ℕ) → script.AnswersTo bytes (Ok output) →
         (Rose (S.faults source.old) (S.faults source.new) → ⊥) → (Rose (K.faults sink.old) (K.faults sink.new) → ⊥) →
         IsOutputOrMemory result }
     ensures room { ((text : List ℕ) (status : _) →

@@ -1,6 +1,6 @@
 use Rattle.std.proofs.Common.{rules, arith, ◌≡◌, ◌∙◌, suc, ◌∷◌, ap, sym, length, length-append, map}
 use Rattle.std.specs.Vec.Iter.{into_iter_items}
-use Rattle.lra_sys.specs.Listed.{is_equality}
+use Rattle.lra_linear.specs.Kinds.{is_equality}
 use Rattle.lra_calc.specs.Views.{constraint_of}
 use Rattle.lra_calc.specs.declared.forms.Constraint.{Constraint}
 use Rattle.lra_calc.proofs.MakingLemmas.{all_wide, made_later, all_tail}
