@@ -20,7 +20,8 @@ onto_more xs c (Some ys) = ap Some (append_assoc xs (c ∷ []) ys)
 rest_at : {X B : Type 0} (v : X → B) (items : List X) (i : ℕ) (d x : X) → i < length items → x ≡ get_or items i d → map v (drop i items) ≡ v x ∷ map v (drop (i + 1) items)
 rest_at v items i d x h e = rw (drop-cons items i d h, ← e, add-one) refl
 
-pub all_later : {X B C : Type 0} (v : X → B) (f : B → Option C) (items : List X) (i : ℕ) (d x : X) (c : C) (xs more : List C) (all : Option (List C)) → i < length items → x ≡ get_or items i d → f (v x) ≡ Some c
+pub all_later : {X B C : Type 0} (v : X → B) (f : B → Option C) (items : List X) (i : ℕ) (d x : X) (c : C) (xs more : List C) (all : Option (List C)) → i < length items → x ≡ get_or items i d →
+    f (v x) ≡ Some c
     → more ≡ xs ++ c ∷ [] → onto xs (all_of f (map v (drop i items))) ≡ all → onto more (all_of f (map v (drop (i + 1) items))) ≡ all
 all_later v f items i d x c xs more all h e a m before =
     ap (λ ys. onto ys (all_of f (map v (drop (i + 1) items)))) m
@@ -36,6 +37,7 @@ none_here v f items i d x xs all h e a before =
     ∙ ap (λ l. onto xs (all_of f l)) (sym (rest_at v items i d x h e))
     ∙ before
 
-pub all_done : {X B C : Type 0} (v : X → B) (f : B → Option C) (items : List X) (i : ℕ) (xs : List C) (all : Option (List C)) → length items ≤ i → onto xs (all_of f (map v (drop i items))) ≡ all → Some xs ≡ all
+pub all_done : {X B C : Type 0} (v : X → B) (f : B → Option C) (items : List X) (i : ℕ) (xs : List C) (all : Option (List C)) → length items ≤ i → onto xs (all_of f (map v (drop i items))) ≡ all →
+    Some xs ≡ all
 all_done v f items i xs all h before =
     ap Some (sym (append-nil xs)) ∙ ap (λ l. onto xs (all_of f (map v l))) (sym (drop_all i items h)) ∙ before

@@ -50,7 +50,8 @@ given_by-append equal [] (k ∷ ks) row kind e = cc
 given_by-append equal (r ∷ rs) [] row kind e = cc
 given_by-append equal (r ∷ rs) (k ∷ ks) row kind e = ap (λ (gs : List Given). record { row = r; equal = equal k } ∷ gs) (given_by-append equal rs ks row kind (cc))
 
-pub made_later : {K : Type 0} (equal : K → Bool) (s t : Listed K) (row : List ℤ) (kind : K) (rest all : List Given) → length s.rows ≡ length s.kinds → t.rows ≡ s.rows ++ row ∷ [] → t.kinds ≡ s.kinds ++ kind ∷ []
+pub made_later : {K : Type 0} (equal : K → Bool) (s t : Listed K) (row : List ℤ) (kind : K) (rest all : List Given) → length s.rows ≡ length s.kinds → t.rows ≡ s.rows ++ row ∷ [] →
+    t.kinds ≡ s.kinds ++ kind ∷ []
     → given_by equal s.rows s.kinds ++ record { row = row; equal = equal kind } ∷ rest ≡ all → given_by equal t.rows t.kinds ++ rest ≡ all
 made_later equal s t row kind rest all same rows kinds before =
     let g : Given = record { row = row; equal = equal kind } in
@@ -63,7 +64,8 @@ all_tail P x xs a = λ k d h. a (suc k) d (omega arith)
 
 -- ---- a generator's row
 -- a row of n + 1 columns, with column 0 as its kind asks
-pub row_fits : (n : ℕ) (kind : GenKind) (numbers row : List ℤ) → form.as_given kind numbers ≡ record { row = row; equal = is_line kind } → length numbers ≡ script.numbers_needed n kind → IsDivided kind numbers
+pub row_fits : (n : ℕ) (kind : GenKind) (numbers row : List ℤ) → form.as_given kind numbers ≡ record { row = row; equal = is_line kind } → length numbers ≡ script.numbers_needed n kind →
+    IsDivided kind numbers
     → (length row ≡ suc n) × FitsKind kind row
 row_fits n gen.Point [] row e w d = cc
 row_fits n gen.Point (z ∷ zs) row e w d =
@@ -76,13 +78,15 @@ row_fits n gen.Line numbers row e w d =
     let same : (pos 0 ∷ numbers) ≡ row = ap (λ (g : Given). g.row) e in
     (ap (λ (r : List ℤ). length r) (sym same) ∙ ap suc w, subst (λ (r : List ℤ). FitsKind gen.Line r) same refl)
 
-fit-append : (rows : List (List ℤ)) (kinds : List GenKind) (row : List ℤ) (kind : GenKind) → length rows ≡ length kinds → FitKinds rows kinds → FitsKind kind row → FitKinds (rows ++ row ∷ []) (kinds ++ kind ∷ [])
+fit-append : (rows : List (List ℤ)) (kinds : List GenKind) (row : List ℤ) (kind : GenKind) → length rows ≡ length kinds → FitKinds rows kinds → FitsKind kind row →
+    FitKinds (rows ++ row ∷ []) (kinds ++ kind ∷ [])
 fit-append [] [] row kind e fit f = (f, tt)
 fit-append [] (k ∷ ks) row kind e fit f = cc
 fit-append (r ∷ rs) [] row kind e fit f = cc
 fit-append (r ∷ rs) (k ∷ ks) row kind e fit f = (fit.0, fit-append rs ks row kind (cc) fit.1 f)
 
-pub fit_later : (s t : Listed GenKind) (row : List ℤ) (kind : GenKind) → length s.rows ≡ length s.kinds → t.rows ≡ s.rows ++ row ∷ [] → t.kinds ≡ s.kinds ++ kind ∷ [] → FitKinds s.rows s.kinds → FitsKind kind row
+pub fit_later : (s t : Listed GenKind) (row : List ℤ) (kind : GenKind) → length s.rows ≡ length s.kinds → t.rows ≡ s.rows ++ row ∷ [] → t.kinds ≡ s.kinds ++ kind ∷ [] → FitKinds s.rows s.kinds →
+    FitsKind kind row
     → FitKinds t.rows t.kinds
 fit_later s t row kind same rows kinds fit f =
     subst (λ (ks : List GenKind). FitKinds t.rows ks) (sym kinds) (subst (λ (rs : List (List ℤ)). FitKinds rs (s.kinds ++ kind ∷ [])) (sym rows) (fit-append s.rows s.kinds row kind same fit f))

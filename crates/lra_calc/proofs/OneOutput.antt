@@ -8,7 +8,8 @@ use Rattle.lra_linear.specs.Polyhedra.{Polyhedron}
 use Rattle.lra_linear.proofs.Polyhedra.{polyhedron_unique}
 use Rattle.lra_calc.specs.ScriptText.{is_skipped, words}
 use Rattle.lra_calc.specs.LineForms.{given_of, Line, Dims, Con, Gen, Show, Holds, line_of}
-use Rattle.lra_calc.specs.Script.{Fault, WrongDimension, Session, flagged_by, IsMadeOf, IsMadeOfRows, IsMadeOfGenerators, made_as, MakesOr, wrong_row, wrong_generator, shown_or, is_wide, membership, answered, answered_or, AfterLine, AfterForm, End, GoesOn, Performs, SkipsOr, CarriesOut, IsUnflagged}
+use Rattle.lra_calc.specs.Script.{Fault, WrongDimension, Session, flagged_by, IsMadeOf, IsMadeOfRows, IsMadeOfGenerators, made_as, MakesOr, wrong_row, wrong_generator, shown_or, is_wide, membership}
+use Rattle.lra_calc.specs.Script.{answered, answered_or, AfterLine, AfterForm, End, GoesOn, Performs, SkipsOr, CarriesOut, IsUnflagged}
 
 -- flagged, by some line
 abbrev IsFlagged : Session → Type 0
@@ -85,11 +86,13 @@ made_flag : (number : ℕ) (name : List ℕ) (p : Polyhedron) (s t : Session) �
 made_flag number name p s t e = by_session t (made_as number name true p s) e (set_here number s.flagged)
 
 one_made : (n : ℕ) (P : PointSet) (Strains : Loss → Type 0) (number : ℕ) (name : List ℕ) (s t u : Session) (f g : Bool) (p q : Polyhedron)
-    → (IsFlagged t → ⊥) → (IsFlagged u → ⊥) → IsMadeOf n P Strains f p → IsMadeOf n P Strains g q → Ok t ≡ (let r : Result Session Fault = Ok (made_as number name f p s) in r) → Ok u ≡ (let r : Result Session Fault = Ok (made_as number name g q s) in r) → t ≡ u
+    → (IsFlagged t → ⊥) → (IsFlagged u → ⊥) → IsMadeOf n P Strains f p → IsMadeOf n P Strains g q →
+    Ok t ≡ (let r : Result Session Fault = Ok (made_as number name f p s) in r) → Ok u ≡ (let r : Result Session Fault = Ok (made_as number name g q s) in r) → t ≡ u
 one_made n P Strains number name s t u true g p q not_t not_u h k e d = absurd (not_t (made_flag number name p s t e))
 one_made n P Strains number name s t u false true p q not_t not_u h k e d = absurd (not_u (made_flag number name q s u d))
 one_made n P Strains number name s t u false false p q not_t not_u h k e d =
-    same_session t (made_as number name false p s) e ∙ ap (λ (x : Polyhedron). made_as number name false x s) (polyhedron_unique n P P p q (λ x i c. c, λ x i c. c) h k) ∙ sym (same_session u (made_as number name false q s) d)
+    same_session t (made_as number name false p s) e ∙ ap (λ (x : Polyhedron). made_as number name false x s) (polyhedron_unique n P P p q (λ x i c. c, λ x i c. c) h k) ∙
+    sym (same_session u (made_as number name false q s) d)
 
 made_once : (n : ℕ) (P : PointSet) (Strains : Loss → Type 0) (number : ℕ) (name : List ℕ) (s t u : Session) (o : Option Fault) → (IsFlagged t → ⊥) → (IsFlagged u → ⊥)
     → MakesOr (IsMadeOf n P Strains) number name s o (Ok t) → MakesOr (IsMadeOf n P Strains) number name s o (Ok u) → t ≡ u

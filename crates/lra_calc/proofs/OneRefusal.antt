@@ -5,7 +5,8 @@ use Rattle.lra_tree.specs.Refuse.{greatest_length}
 use Rattle.lra_linear.specs.Polyhedra.{Polyhedron}
 use Rattle.lra_calc.specs.ScriptText.{is_skipped, words, lines}
 use Rattle.lra_calc.specs.LineForms.{given_of, Line, Dims, Con, Gen, Show, Holds, line_of}
-use Rattle.lra_calc.specs.Script.{Fault, WrongDimension, Session, IsMadeOfRows, IsMadeOfGenerators, made_as, MakesOr, wrong_row, wrong_generator, shown_or, answered_or, AfterLine, AfterForm, Refused, End, GoesOn, Performs, SkipsOr, CarriesOut, Refusal, AtLine, ended, TooLongOr, AnswersTo, AgreesWith}
+use Rattle.lra_calc.specs.Script.{Fault, WrongDimension, Session, IsMadeOfRows, IsMadeOfGenerators, made_as, MakesOr, wrong_row, wrong_generator, shown_or, answered_or, AfterLine, AfterForm, Refused}
+use Rattle.lra_calc.specs.Script.{End, GoesOn, Performs, SkipsOr, CarriesOut, Refusal, AtLine, ended, TooLongOr, AnswersTo, AgreesWith}
 
 -- the same dimensions, and the same names were made
 record Alike (s t : Session) : Type 0 where
@@ -35,12 +36,14 @@ both_named false p q o u e = e
 both_made : (number : ℕ) (name : List ℕ) (f g : Bool) (p q : Polyhedron) (s t : Session) → Alike s t → Alike (made_as number name f p s) (made_as number name g q t)
 both_made number name f g p q s t a = record { dims = a.dims; names = λ n. both_named (bytes_eq name n) p q (s.made n) (t.made n) (a.names n) }
 
-makes_alike : (A B : Bool → Polyhedron → Type 0) (number : ℕ) (name : List ℕ) (s t : Session) (o u : Option Fault) (r q : Result Session Fault) → Alike s t → o ≡ u → MakesOr A number name s o r → MakesOr B number name t u q → AlikeResults r q
+makes_alike : (A B : Bool → Polyhedron → Type 0) (number : ℕ) (name : List ℕ) (s t : Session) (o u : Option Fault) (r q : Result Session Fault) → Alike s t → o ≡ u → MakesOr A number name s o r →
+    MakesOr B number name t u q → AlikeResults r q
 makes_alike A B number name s t (Some f) (Some g) r q a e h k = alike_by r q (Err f) (Err g) h k (cc)
 makes_alike A B number name s t (Some f) None r q a e h k = absurd (cc)
 makes_alike A B number name s t None (Some g) r q a e h k = absurd (cc)
 makes_alike A B number name s t None None r q a e h k =
-    alike_by r q (Ok (made_as number name h.flagged h.polyhedron s)) (Ok (made_as number name k.flagged k.polyhedron t)) h.is k.is (both_made number name h.flagged k.flagged h.polyhedron k.polyhedron s t a)
+    alike_by r q (Ok (made_as number name h.flagged h.polyhedron s)) (Ok (made_as number name k.flagged k.polyhedron t)) h.is k.is
+    (both_made number name h.flagged k.flagged h.polyhedron k.polyhedron s t a)
 
 -- ---- show, holds
 shown_alike : (name : List ℕ) (s t : Session) (o u : Option Polyhedron) → Alike s t → is_some o ≡ is_some u → AlikeResults (shown_or name s o) (shown_or name t u)
@@ -55,7 +58,8 @@ widths_alike count n m true false s t u v e f a = absurd (cc)
 widths_alike count n m false true s t u v e f a = absurd (cc)
 widths_alike count n m false false s t u v e f a = ap (WrongDimension count) e
 
-answered_alike : (number : ℕ) (name : List ℕ) (x : List ℤ) (s t : Session) (o u : Option Polyhedron) → Alike s t → is_some o ≡ is_some u → AlikeResults (answered_or number name x s o) (answered_or number name x t u)
+answered_alike : (number : ℕ) (name : List ℕ) (x : List ℤ) (s t : Session) (o u : Option Polyhedron) → Alike s t → is_some o ≡ is_some u →
+    AlikeResults (answered_or number name x s o) (answered_or number name x t u)
 answered_alike number name x s t None None a e = refl
 answered_alike number name x s t None (Some q) a e = absurd (cc)
 answered_alike number name x s t (Some p) None a e = absurd (cc)
@@ -88,7 +92,8 @@ form_alike number (Some s) (Some t) (Some line) r q a h k = line_alike number s 
 agrees_by : {A B : Type 0} (a b x y : Result A B) → a ≡ x → b ≡ y → AgreesWith x y → AgreesWith a b
 agrees_by {A = A} {B = B} a b x y h k g = subst (λ (z : Result A B). AgreesWith a z) (sym k) (subst (λ (z : Result A B). AgreesWith z y) (sym h) g)
 
-go_on_alike : (number : ℕ) (r q : Result Session Fault) (P Q : Option Session → Type 0) (e f : End) → AlikeResults r q → ((s t : Option Session) → AlikeOptions s t → P s → Q t → AgreesWith e f) → GoesOn number r P e → GoesOn number q Q f → AgreesWith e f
+go_on_alike : (number : ℕ) (r q : Result Session Fault) (P Q : Option Session → Type 0) (e f : End) → AlikeResults r q → ((s t : Option Session) → AlikeOptions s t → P s → Q t → AgreesWith e f) →
+    GoesOn number r P e → GoesOn number q Q f → AgreesWith e f
 go_on_alike number (Ok s) (Ok t) P Q e f a later h k = later (Some s) (Some t) a h k
 go_on_alike number (Ok s) (Err g) P Q e f a later h k = absurd a
 go_on_alike number (Err f1) (Ok t) P Q e f a later h k = absurd a

@@ -22,7 +22,8 @@ texts_of_parts : (ps : List (Bor (List (Bor (List ℕ))))) → map (λ p. texts 
 texts_of_parts [] = refl
 texts_of_parts (p ∷ ps) = ap (λ (t : List (List (List ℕ))). texts p.now ∷ t) (texts_of_parts ps)
 
-pub parts_result : {E : Type 0} (ws : List (Bor (List ℕ))) (r : Result (Vec (Bor (List (Bor (List ℕ)))) Global) E) → IfOk r (λ v. map (λ p. p.now) v.items ≡ slice_split (λ w. bytes_eq w.now (codes ";")) ws)
+pub parts_result : {E : Type 0} (ws : List (Bor (List ℕ))) (r : Result (Vec (Bor (List (Bor (List ℕ)))) Global) E) →
+    IfOk r (λ v. map (λ p. p.now) v.items ≡ slice_split (λ w. bytes_eq w.now (codes ";")) ws)
     → IfOk r (λ v. map (λ p. texts p.now) v.items ≡ slice_split (λ w. bytes_eq w (codes ";")) (texts ws))
 parts_result ws (Ok v) e = texts_of_parts v.items ∙ ap (λ (parts : List (List (Bor (List ℕ)))). map texts parts) e ∙ sym (slice_split-texts (λ w. bytes_eq w (codes ";")) ws)
 parts_result ws (Err f) e = tt

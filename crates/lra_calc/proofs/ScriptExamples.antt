@@ -33,7 +33,8 @@ some_words = refl
 some_names : (is_name (codes "P2x") ≡ true) × (is_name (codes "p") ≡ false) × (is_name (codes "P_") ≡ false) × (is_name (codes "2P") ≡ false)
 some_names = (refl, refl, refl, refl)
 
-some_numbers : (number_of (codes "-12") ≡ Some (negsuc 11)) × (number_of (codes "007") ≡ Some (pos 7)) × (number_of (codes "-0") ≡ Some (pos 0)) × (number_of (codes "+1") ≡ None) × (number_of (codes "-") ≡ None) × (number_of (codes "--1") ≡ None)
+some_numbers : (number_of (codes "-12") ≡ Some (negsuc 11)) × (number_of (codes "007") ≡ Some (pos 7)) × (number_of (codes "-0") ≡ Some (pos 0)) × (number_of (codes "+1") ≡ None) ×
+    (number_of (codes "-") ≡ None) × (number_of (codes "--1") ≡ None)
 some_numbers = (refl, refl, refl, refl, refl, refl)
 
 -- catches -2^127 as a number of the range
@@ -49,14 +50,16 @@ constraints_line : said (codes "con P >= 0 1 ; = -3 1") ≡ Some (Con (codes "P"
 constraints_line = refl
 
 -- catches a row that is read as none, a row without a relation, and a `;` that is no word of its own
-bad_constraints : (said (codes "con P") ≡ Some (Con (codes "P") [])) × (said (codes "con P ;") ≡ None) × (said (codes "con P >= 1 ;") ≡ None) × (said (codes "con P 1") ≡ None) × (said (codes "con P >= 1; >= 2") ≡ None)
+bad_constraints : (said (codes "con P") ≡ Some (Con (codes "P") [])) × (said (codes "con P ;") ≡ None) × (said (codes "con P >= 1 ;") ≡ None) × (said (codes "con P 1") ≡ None) ×
+    (said (codes "con P >= 1; >= 2") ≡ None)
     × (said (codes "con") ≡ None) × (said (codes "con p") ≡ None)
 bad_constraints = (refl, refl, refl, refl, refl, refl, refl)
 
 -- catches a divisor that is asked of a ray, one of a point that isn't, and a generator without a kind
 generators_line : (said (codes "gen P point 2 0 ; ray 0 ; line -1") ≡ Some (Gen (codes "P") (
     record { kind = gen.Point; numbers = pos 2 ∷ pos 0 ∷ [] } ∷ record { kind = gen.Ray; numbers = pos 0 ∷ [] } ∷ record { kind = gen.Line; numbers = negsuc 0 ∷ [] } ∷ [])))
-    × (said (codes "gen P") ≡ Some (Gen (codes "P") [])) × (said (codes "gen P point 0 1") ≡ None) × (said (codes "gen P 1 0") ≡ None) × (said (codes "gen P point 1 0 ;") ≡ None) × (said (codes "gen p") ≡ None)
+    × (said (codes "gen P") ≡ Some (Gen (codes "P") [])) × (said (codes "gen P point 0 1") ≡ None) × (said (codes "gen P 1 0") ≡ None) × (said (codes "gen P point 1 0 ;") ≡ None) ×
+    (said (codes "gen p") ≡ None)
 generators_line = (refl, refl, refl, refl, refl, refl)
 
 -- catches a 0 that is left out before a ray's numbers, and a line as a ray

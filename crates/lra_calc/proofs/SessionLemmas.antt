@@ -1,5 +1,6 @@
 -- What a session answers: membership of a point, tried constraint by constraint; and what its names stand for.
-use Rattle.std.proofs.Common.{◌≡◌, ◌-◌, ℕ, zero, suc, ℤ, pos, negsuc, Bool, true, false, cond, nat_eq, List, [], ◌∷◌, ◌++◌, length, get_or, take, drop, refl, ap, sym, ◌∙◌, subst, inl, inr, arith, append-nil, bytes_eq, Option, Some, None, Result, Ok, Err, IsOk, IsErr}
+use Rattle.std.proofs.Common.{◌≡◌, ◌-◌, ℕ, zero, suc, ℤ, pos, negsuc, Bool, true, false, cond, nat_eq, List, [], ◌∷◌, ◌++◌, length, get_or, take, drop, refl, ap, sym, ◌∙◌, subst, inl, inr, arith}
+use Rattle.std.proofs.Common.{append-nil, bytes_eq, Option, Some, None, Result, Ok, Err, IsOk, IsErr}
 use Rattle.std.specs.Prelude.{IfSome}
 use Rattle.std.specs.List.{All}
 use Rattle.std.specs.Map.{update}
@@ -92,7 +93,8 @@ points_by g gs x p false m value e told = λ all.
     let t = met g.equal p (subst (λ (z : ℤ). HoldsWith g.equal z) (sym value) h) in
     absurd (cc)
 
-points_after : (g : Given) (gs : List Given) (x : List ℤ) (q : Result ℤ Excess) (m : Option Bool) → q ≡ checked_product g.row x → script.TellsPoints gs x m → script.TellsPoints (g ∷ gs) x (script.decided g.equal q m)
+points_after : (g : Given) (gs : List Given) (x : List ℤ) (q : Result ℤ Excess) (m : Option Bool) → q ≡ checked_product g.row x → script.TellsPoints gs x m →
+    script.TellsPoints (g ∷ gs) x (script.decided g.equal q m)
 points_after g gs x (Ok p) m e told = points_by g gs x p (script.is_met g.equal p) m (checked_product_value g.row x (Ok p) e) refl told
 points_after g gs x (Err f) m e told = tt
 

@@ -44,7 +44,8 @@ generators_are : (rows : List (List ℤ)) (kinds : List GenKind) → FitKinds ro
 generators_are [] kinds f = refl
 generators_are (r ∷ rows) [] f = refl
 generators_are (r ∷ rows) (k ∷ kinds) f =
-    ap (λ (j : GenKind). report_generator r j ∷ map shown_generator (given_by is_line rows kinds)) (kind_is r k f.0) ∙ ap (λ (xs : List Generator). report_generator r k ∷ xs) (generators_are rows kinds f.1)
+    ap (λ (j : GenKind). report_generator r j ∷ map shown_generator (given_by is_line rows kinds)) (kind_is r k f.0) ∙
+    ap (λ (xs : List Generator). report_generator r k ∷ xs) (generators_are rows kinds f.1)
 
 -- ---- texts
 pub no_point : (p : Polyhedron) (g : Listed GenKind) → generators g ≡ p.generators → g.rows ≡ [] → polyhedron_text p ≡ text_line (codes "  empty")
@@ -58,7 +59,8 @@ some_point names rows [] ks h e f = absurd (omega arith)
 some_point names rows (r ∷ rs) [] h e f = cc
 some_point names rows (r ∷ rs) (k ∷ ks) h e f = ap (λ (xs : List Generator). rows ++ flat_map (generator_line names) xs) (generators_are (r ∷ rs) (k ∷ ks) f)
 
-pub shown_whole : (p : Polyhedron) (c : Listed ConKind) (g : Listed GenKind) → constraints c ≡ p.rows → generators g ≡ p.generators → 0 < length g.rows → length g.kinds ≡ length g.rows → FitKinds g.rows g.kinds
+pub shown_whole : (p : Polyhedron) (c : Listed ConKind) (g : Listed GenKind) → constraints c ≡ p.rows → generators g ≡ p.generators → 0 < length g.rows → length g.kinds ≡ length g.rows →
+    FitKinds g.rows g.kinds
     → polyhedron_text p ≡ rows_text (variables p.dims) (shown_rows c.rows c.kinds) ++ flat_map (generator_line (variables p.dims)) (shown_generators g.rows g.kinds)
 shown_whole p c g rows gens some same fit =
     let names = variables p.dims in
@@ -72,7 +74,8 @@ some_rows b (r ∷ rs) gs e f same = subst (λ (l : List (List ℤ)). 0 < length
 
 -- the rows are written behind a text, then the generators
 pub written : (p : Polyhedron) (c : Listed ConKind) (g : Listed GenKind) (rs : List (List ℤ)) (ks : List GenKind) (names : List (List ℕ)) (dims : ℕ) (old between new : List ℕ)
-    → constraints c ≡ p.rows → generators g ≡ p.generators → FitKinds g.rows g.kinds → rs ≡ g.rows → ks ≡ g.kinds → length ks ≡ length g.rows → 0 < length g.rows → names ≡ variables dims → dims ≡ p.dims
+    → constraints c ≡ p.rows → generators g ≡ p.generators → FitKinds g.rows g.kinds → rs ≡ g.rows → ks ≡ g.kinds → length ks ≡ length g.rows → 0 < length g.rows → names ≡ variables dims →
+    dims ≡ p.dims
     → between ≡ old ++ rows_text names (shown_rows c.rows c.kinds) → new ≡ between ++ flat_map (generator_line names) (shown_generators rs ks) → new ≡ old ++ polyhedron_text p
 written p c g rs ks names dims old between new rows gens fit same_rows same_kinds same some named sized first last =
     let told = shown_whole p c g rows gens some (ap (λ (k : List GenKind). length k) (sym same_kinds) ∙ same) fit in
@@ -86,7 +89,8 @@ written p c g rs ks names dims old between new rows gens fit same_rows same_kind
     ∙ ap (λ (x : List ℕ). old ++ x) (sym told)
 
 -- ---- names
-next_name : (first k : ℕ) (names more : List (List ℕ)) (name : List ℕ) (all : List (List ℕ)) → name ≡ codes "x" ++ decimal first → more ≡ names ++ name ∷ [] → names ++ variables_from first (suc k) ≡ all
+next_name : (first k : ℕ) (names more : List (List ℕ)) (name : List ℕ) (all : List (List ℕ)) → name ≡ codes "x" ++ decimal first → more ≡ names ++ name ∷ [] →
+    names ++ variables_from first (suc k) ≡ all
     → more ++ variables_from (first + 1) k ≡ all
 next_name first k names more name all is pushed before =
     ap (λ (ns : List (List ℕ)). ns ++ variables_from (first + 1) k) pushed ∙ append_assoc names (name ∷ []) (variables_from (first + 1) k)

@@ -1,5 +1,6 @@
 -- Words of ASCII letters and digits, and the numbers that they write.
-use Rattle.std.proofs.Common.{◌≡◌, ◌≢◌, ◌<◌, ℕ, ℤ, Bool, true, false, cond, ◌&&◌, not, nat_eq, List, [], ◌∷◌, length, refl, ap, sym, ◌∙◌, subst, arith, FitsSigned, Option, Some, None, Result, Ok, Err, rules}
+use Rattle.std.proofs.Common.{◌≡◌, ◌≢◌, ◌<◌, ℕ, ℤ, Bool, true, false, cond, ◌&&◌, not, nat_eq, List, [], ◌∷◌, length, refl, ap, sym, ◌∙◌, subst, arith, FitsSigned, Option, Some, None, Result, Ok, Err}
+use Rattle.std.proofs.Common.{rules}
 use Rattle.std.specs.Option.{SomeIff}
 use Rattle.std.specs.Int.{w128}
 use Rattle.std.specs.List.{All, list_all}
@@ -60,12 +61,16 @@ numeral_by : (c : ℕ) (cs : List ℕ) (b : Bool) → (nat_eq c 45) ≡ b
     → IsNumeral 10 (without_leading_sign (c ∷ cs)) × All (λ b. b < 128) (c ∷ cs)
 numeral_by c cs true e h =
     let p = digits_of cs h in
-    let low : c < 128 = grind (arith, nat_tests) in
-    (subst (λ (b : Bool). IsNumeral 10 (cond b cs (Rattle.std.specs.Str.Parse.without_leading_plus (c ∷ cs)))) (sym e) (p.0, all_digits cs p.1), All-cons (λ (b : ℕ). b < 128) c cs low (all_low is_ascii_digit digit_low cs p.1))
+    let low : c < 128 = grind (arith, nat_tests) in (
+      subst (λ (b : Bool). IsNumeral 10 (cond b cs (Rattle.std.specs.Str.Parse.without_leading_plus (c ∷ cs)))) (sym e) (p.0, all_digits cs p.1),
+      All-cons (λ (b : ℕ). b < 128) c cs low (all_low is_ascii_digit digit_low cs p.1),
+    )
 numeral_by c cs false e h =
     let p = digits_of (c ∷ cs) h in
-    let same = without_leading_plus_none (c ∷ cs) (not_plus c cs p.1) in
-    (subst (λ (b : Bool). IsNumeral 10 (cond b cs (Rattle.std.specs.Str.Parse.without_leading_plus (c ∷ cs)))) (sym e) (rw same (p.0, all_digits (c ∷ cs) p.1)), all_low is_ascii_digit digit_low (c ∷ cs) p.1)
+    let same = without_leading_plus_none (c ∷ cs) (not_plus c cs p.1) in (
+      subst (λ (b : Bool). IsNumeral 10 (cond b cs (Rattle.std.specs.Str.Parse.without_leading_plus (c ∷ cs)))) (sym e) (rw same (p.0, all_digits (c ∷ cs) p.1)),
+      all_low is_ascii_digit digit_low (c ∷ cs) p.1,
+    )
 
 numeral_and_low : (word : List ℕ) → is_number word ≡ true → IsNumeral 10 (without_leading_sign word) × All (λ b. b < 128) word
 numeral_and_low [] h = cc
@@ -93,9 +98,11 @@ in_range_false z h = grind (arith, nat_tests)
 
 pub number_from_value : (word : List ℕ) (r : Option ℤ) → is_number word ≡ true → SomeIff r (InRange (signed_digits_value 10 word)) (signed_digits_value 10 word) → r ≡ number_of word
 number_from_value word (Some n) h s =
-    ap Some s.1 ∙ sym (ap (λ (b : Bool). cond (b && in_range (signed_digits_value 10 word)) (Some (signed_digits_value 10 word)) None) h ∙ ap (λ (b : Bool). cond b (Some (signed_digits_value 10 word)) None) (in_range_true (signed_digits_value 10 word) s.0))
+    ap Some s.1 ∙ sym (ap (λ (b : Bool). cond (b && in_range (signed_digits_value 10 word)) (Some (signed_digits_value 10 word)) None) h ∙
+    ap (λ (b : Bool). cond b (Some (signed_digits_value 10 word)) None) (in_range_true (signed_digits_value 10 word) s.0))
 number_from_value word None h s =
-    sym (ap (λ (b : Bool). cond (b && in_range (signed_digits_value 10 word)) (Some (signed_digits_value 10 word)) None) h ∙ ap (λ (b : Bool). cond b (Some (signed_digits_value 10 word)) None) (in_range_false (signed_digits_value 10 word) s))
+    sym (ap (λ (b : Bool). cond (b && in_range (signed_digits_value 10 word)) (Some (signed_digits_value 10 word)) None) h ∙
+    ap (λ (b : Bool). cond b (Some (signed_digits_value 10 word)) None) (in_range_false (signed_digits_value 10 word) s))
 
 pub no_number : (word : List ℕ) → is_number word ≡ false → None ≡ number_of word
 no_number word h = sym (ap (λ (b : Bool). cond (b && in_range (signed_digits_value 10 word)) (Some (signed_digits_value 10 word)) None) h)

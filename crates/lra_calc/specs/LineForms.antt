@@ -1,5 +1,6 @@
 -- What a line says, by its words. Whether names were made and how many numbers a row must have is not asked here.
-use Rattle.std.specs.Prelude.{ℕ, zero, suc, ℤ, pos, negsuc, nat_le, Bool, true, false, List, [], ◌∷◌, codes, bytes_eq, if◌then◌else◌, Option, Some, None, option_map, option_and_then}
+use Rattle.std.specs.Prelude.{ℕ, zero, suc, ℤ, pos, negsuc, nat_le, Bool, true, false, List, [], ◌∷◌, codes, bytes_eq}
+use Rattle.std.specs.Prelude.{if◌then◌else◌, Option, Some, None, option_map, option_and_then}
 use Rattle.std.specs.List.{slice_split}
 use Rattle.lra_linear.specs.Descriptions.{Given, generator, line}
 use Rattle.lra_sys.specs.declared.system.GenKind.{GenKind}
@@ -47,13 +48,15 @@ dims_line (word ∷ more ∷ rest) = None
 
 -- whether an equality is meant, or an inequality
 abbrev pub equality_of : List ℕ → Option Bool
-equality_of relation = if bytes_eq relation (codes ">=") then Some false else (if bytes_eq relation (codes "=") then Some true else None)
+equality_of relation = if bytes_eq relation (codes ">=") then Some false
+    else (if bytes_eq relation (codes "=") then Some true else None)
 
 -- a row: `>=` or `=`, then numbers
 abbrev pub row_of : List (List ℕ) → Option Given
 row_of [] = None
 row_of (relation ∷ numbers) =
-    option_and_then (λ equal. option_map (λ row. record { row = row; equal = equal }) (all_of number_of numbers)) (equality_of relation)
+    option_and_then (λ equal. option_map (λ row. record { row = row; equal = equal }) (all_of number_of numbers))
+    (equality_of relation)
 
 -- no part, or parts with a `;` between each two
 abbrev pub parts_of : {A : Type 0} → (List (List ℕ) → Option A) → List (List ℕ) → Option (List A)
@@ -111,7 +114,8 @@ show_line (name ∷ more ∷ rest) = None
 
 abbrev pub holds_line : List (List ℕ) → Option Line
 holds_line [] = None
-holds_line (name ∷ numbers) = if is_name name then option_map (Holds name) (option_and_then with_divisor (all_of number_of numbers)) else None
+holds_line (name ∷ numbers) = if is_name name then option_map (Holds name)
+    (option_and_then with_divisor (all_of number_of numbers)) else None
 
 -- what the words say, or none where they are no line
 abbrev pub line_of : List (List ℕ) → Option Line

@@ -1,5 +1,6 @@
 -- The lines of a script, their words, and the names and numbers among these.
-use Rattle.std.specs.Prelude.{ℕ, ◌-◌, ℤ, Bool, true, false, ◌&&◌, ◌||◌, not, nat_eq, List, [], ◌∷◌, length, take, drop, map, filter, if◌then◌else◌, Option, Some, None}
+use Rattle.std.specs.Prelude.{ℕ, ◌-◌, ℤ, Bool, true, false, ◌&&◌, ◌||◌, not, nat_eq, List, [], ◌∷◌, length, take, drop}
+use Rattle.std.specs.Prelude.{map, filter, if◌then◌else◌, Option, Some, None}
 use Rattle.std.specs.List.{slice_split, ends_with, list_all}
 use Rattle.std.specs.Char.{is_ascii_digit, is_ascii_uppercase, is_ascii_alphanumeric}
 use Rattle.std.specs.Str.Parse.{starts_with_minus, signed_digits_value}
@@ -11,7 +12,8 @@ use Rattle.lra_linear.specs.Range.{in_range}
 abbrev pub without_return : List ℕ → List ℕ
 without_return line = if ends_with nat_eq line (13 ∷ []) then take (length line - 1) line else line
 
--- what stands before, between and behind the line feeds; nothing is behind the last where it ends the script, and such a line is skipped
+-- what stands before, between and behind the line feeds; nothing is behind the last where it ends the script, and such
+-- a line is skipped
 abbrev pub lines : List ℕ → List (List ℕ)
 lines bytes = map without_return (slice_split (λ b. nat_eq b 10) bytes)
 
@@ -40,4 +42,5 @@ is_number word = not (nat_eq (length (without_minus word)) 0) && list_all is_asc
 
 -- the number that a word writes, where it is one of the range
 abbrev pub number_of : List ℕ → Option ℤ
-number_of word = if is_number word && in_range (signed_digits_value 10 word) then Some (signed_digits_value 10 word) else None
+number_of word = if is_number word && in_range (signed_digits_value 10 word) then Some (signed_digits_value 10 word)
+    else None

@@ -1,5 +1,5 @@
--- The text of a polyhedron: its canonical constraints, then its canonical generators, in their orders. The variables are
--- x1, x2 and on.
+-- The text of a polyhedron: its canonical constraints, then its canonical generators, in their orders. The variables
+-- are x1, x2 and on.
 use Rattle.std.specs.Prelude.{ℕ, zero, suc, ◌+◌, ℤ, pos, negsuc, cond, List, [], ◌∷◌, ◌++◌, map, codes}
 use Rattle.std.specs.Fmt.{decimal}
 use Rattle.lra_linear.specs.Vectors.{entry}

@@ -1,5 +1,6 @@
 -- What the values of the code stand for.
-use Rattle.std.specs.Prelude.{◌≡◌, ◌≤◌, ℕ, ◌+◌, ℤ, pos, ◌<ℤ◌, Bool, true, false, List, [], ◌∷◌, map, Option, Some, None, option_map, Result, Ok, Err, Vec, IfSome, string_bytes}
+use Rattle.std.specs.Prelude.{◌≡◌, ◌≤◌, ℕ, ◌+◌, ℤ, pos, ◌<ℤ◌, Bool, true, false, List, [], ◌∷◌, map, Option, Some, None}
+use Rattle.std.specs.Prelude.{option_map, Result, Ok, Err, Vec, IfSome, string_bytes}
 use Rattle.std.specs.Borrow.{Bor}
 use Rattle.std.specs.List.{All}
 use Rattle.std.specs.BTreeMap.{get_by_text}
@@ -78,7 +79,12 @@ IsLine (code.Holds name point) = HasDivisor point.items
 -- sessions ---------------------------------------------------------------------------------------------------------
 
 abbrev pub session_of : S.Session → script.Session
-session_of s = record { dims = s.dims; made = get_by_text s.made; printed = string_bytes s.printed; flagged = s.flagged }
+session_of s = record {
+  dims = s.dims;
+  made = get_by_text s.made;
+  printed = string_bytes s.printed;
+  flagged = s.flagged;
+}
 
 -- few dimensions, and each name stands for a polyhedron of so many
 pub record IsSession (s : S.Session) : Type 0 where
@@ -115,7 +121,8 @@ StepsTo number s line (Ok t) =
     → script.CarriesOut number (option_map session_of s) (line ∷ rest) end
 StepsTo number s line (Err (calc_error.Refused (refusal.Line at f))) =
     (rest : List (List ℕ))
-    → script.CarriesOut number (option_map session_of s) (line ∷ rest) (Err (record { number = at; fault = fault_of f }))
+    → script.CarriesOut number (option_map session_of s) (line ∷ rest)
+    (Err (record { number = at; fault = fault_of f }))
 StepsTo number s line (Err (calc_error.Refused (refusal.TooLong place))) = ⊥
 StepsTo number s line (Err calc_error.Memory) = Unit {0}
 

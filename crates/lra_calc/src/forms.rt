@@ -1,11 +1,13 @@
 //! What a line says.
 
-ghost use Rattle.std.specs.Prelude.{◌≡◌, map, IfOk, IfSome, Some, None, true, bytes_eq, codes, option_map, if◌then◌else◌};
+ghost use Rattle.std.specs.Prelude.{◌≡◌, map, IfOk, IfSome, Some, None, true, bytes_eq, codes, option_map};
+ghost use Rattle.std.specs.Prelude.{if◌then◌else◌};
 ghost use Rattle.std.specs.List.{slice_split, All};
 ghost use Rattle.lra_linear.specs.Kinds.{is_equality};
 ghost use Rattle.lra_calc.specs.LineForms as form;
 ghost use Rattle.lra_calc.specs.LineForms.{all_of};
-ghost use Rattle.lra_calc.specs.Views.{texts, line_of, constraint_of, constraints_of, generator_of, generators_of, IsLine, HasDivisor, IsDivided};
+ghost use Rattle.lra_calc.specs.Views.{texts, line_of, constraint_of, constraints_of, generator_of, generators_of};
+ghost use Rattle.lra_calc.specs.Views.{IsLine, HasDivisor, IsDivided};
 
 use crate::numbers::{name_of, number_of, numbers_of};
 use lra_row::Row;
@@ -96,7 +98,8 @@ fn is_semicolon(word: &[u8]) -> bool
 
 /// The words before, between and behind the semicolons.
 fn parts<'a, 'b>(alloc: Global, words: &'b [&'a [u8]]) -> Result<Vec<&'b [&'a [u8]]>, AllocError>
-    ensures { IfOk result (λ parts. map (λ p. texts p.now) parts.items ≡ slice_split (λ w. bytes_eq w (codes ";")) (texts words.now)) }
+    ensures { IfOk result (λ parts. map (λ p. texts p.now) parts.items ≡
+        slice_split (λ w. bytes_eq w (codes ";")) (texts words.now)) }
 {
     words.split(|word| is_semicolon(word)).collect(alloc)
 }

@@ -1,6 +1,7 @@
 //! Names and numbers among the words.
 
-ghost use Rattle.std.specs.Prelude.{FitsSigned, true, ◌≡◌, IfOk, IfSome, string_bytes, Some, None, if◌then◌else◌, option_map};
+ghost use Rattle.std.specs.Prelude.{FitsSigned, true, ◌≡◌, IfOk, IfSome, string_bytes, Some, None, if◌then◌else◌};
+ghost use Rattle.std.specs.Prelude.{option_map};
 ghost use Rattle.std.specs.Option.{SomeIff};
 ghost use Rattle.std.specs.Int.{w128};
 ghost use Rattle.std.specs.List.{All, list_all};
@@ -45,7 +46,8 @@ fn text_of(alloc: Global, word: &[u8]) -> Result<String, AllocError>
 /// The name that a word is, where it is one.
 #[tactic(auto, using(crate::proofs::WordLemmas::name_is_utf8))]
 pub fn name_of(alloc: Global, word: &[u8]) -> Result<Option<String>, AllocError>
-    ensures { IfOk result (λ name. option_map string_bytes name ≡ (if script.is_name word.now then Some word.now else None)) }
+    ensures { IfOk result (λ name. option_map string_bytes name ≡
+        (if script.is_name word.now then Some word.now else None)) }
 {
     if !is_name(word) {
         return Ok(None);

@@ -54,7 +54,8 @@ impl Fault {
 
 fn push_too_long(text: &mut String, cause: u32, place: Place) -> Result<(), AllocError>
     ensures { OnOk result (string_bytes text.new ≡ string_bytes text.old
-        ++ text_line (codes "refused " ++ decimal cause ++ codes " " ++ codes "TooLong" ++ codes " at " ++ place_text place)) }
+        ++ text_line (codes "refused " ++ decimal cause ++ codes " " ++ codes "TooLong"
+        ++ codes " at " ++ place_text place)) }
 {
     let Place { line, column } = place;
     writeln!(text, "refused {cause} TooLong at {line}:{column}")
@@ -68,8 +69,8 @@ fn push_line(text: &mut String, number: usize, fault: &str) -> Result<(), AllocE
 }
 
 impl CalcRefusal {
-    /// The line that is written in place of all output: `refused 1 TooLong at LINE:COLUMN`, or `refused line NUMBER` and the
-    /// fault.
+    /// The line that is written in place of all output: `refused 1 TooLong at LINE:COLUMN`, or `refused line NUMBER`
+    /// and the fault.
     pub fn text(&self, alloc: Global) -> Result<String, AllocError>
         ensures { IfOk result (λ text. string_bytes text ≡ script.refused_text (refusal_of self.now)) }
     {

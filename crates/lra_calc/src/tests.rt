@@ -9,7 +9,8 @@ use std::test::Fail;
 static SCRIPTS: [(&str, &str); 10] = [
     ("", "flagged 0\n"),
     (
-        "dims 2\ncon P >= 0 1 0 ; >= 4 -1 -1\nholds P 2 3 5\nholds P 1 3 2\nholds P 1 170141183460469231731687303715884105727 170141183460469231731687303715884105727\n",
+        "dims 2\ncon P >= 0 1 0 ; >= 4 -1 -1\nholds P 2 3 5\nholds P 1 3 2\n\
+            holds P 1 170141183460469231731687303715884105727 170141183460469231731687303715884105727\n",
         "holds P yes\nholds P no\nholds P wide\nflagged at line 5\n",
     ),
     (
@@ -31,15 +32,18 @@ static SCRIPTS: [(&str, &str); 10] = [
     ("dims 1\nmeet P P P", "refused line 2 BadLine\n"),
     (
         "dims 2\ngen P point 1 0 0 ; point 1 2 0 ; point 1 0 2 ; point 2 1 1\nshow P\ncon Q >= -1 0 0\nshow Q\n",
-        "show P\n  row x1 >= 0\n  row x1 + x2 <= 2\n  row x2 >= 0\n  gen point x1=0 x2=0\n  gen point x1=0 x2=2\n  gen point x1=2 x2=0\nshow Q\n  empty\nflagged 0\n",
+        "show P\n  row x1 >= 0\n  row x1 + x2 <= 2\n  row x2 >= 0\n  gen point x1=0 x2=0\n  gen point x1=0 x2=2\n  gen \
+            point x1=2 x2=0\nshow Q\n  empty\nflagged 0\n",
     ),
     (
-        "dims 2\ncon P = 0 1 0 ; = 0 0 1 ; >= 1 170141183460469231731687303715884105727 1 ; >= 1 1 170141183460469231731687303715884105727\nshow P\n",
+        "dims 2\ncon P = 0 1 0 ; = 0 0 1 ; >= 1 170141183460469231731687303715884105727 1 ; >= 1 1 \
+            170141183460469231731687303715884105727\nshow P\n",
         "show P\n  row x1 = 0\n  row x2 = 0\n  gen point x1=0 x2=0\nflagged 0\n",
     ),
     (
         "dims 1\ngen P ray 0 ; point 2 3 ; line 0\nshow P\ncon Q\nshow Q\ngen R ray 1\nshow R\n",
-        "show P\n  row 2*x1 = 3\n  gen point x1=3/2\nshow Q\n  row true\n  gen point x1=0\n  gen line x1=1\nshow R\n  empty\nflagged 0\n",
+        "show P\n  row 2*x1 = 3\n  gen point x1=3/2\nshow Q\n  row true\n  gen point x1=0\n  gen line x1=1\n\
+            show R\n  empty\nflagged 0\n",
     ),
 ];
 

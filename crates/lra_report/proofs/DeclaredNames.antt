@@ -6,7 +6,8 @@ use Rattle.lra_tree.specs.declared.refusals.Place.{Place}
 use Rattle.lra_tree.specs.declared.trees.Identifier.{Identifier}
 use Rattle.lra_tree.specs.Lexeme.{is_word}
 use Rattle.lra_tree.specs.Texts.{Piece, Pieces, Texts, ◌⋅◌, name, further, separated}
-use Rattle.lra_tree.specs.Trees.{AssignTree, DeclaratorTree, DeclarationTree, InitTree, no_init, declared, assigned, StmtTree, block, nothing, assign, call, if_only, if_else, while, for, break, continue, return, assert, assume, ItemsTree, no_items, declaration, statement, FunctionTree, GlobalTree, GlobalsTree, PartTree, prototype, globals, function}
+use Rattle.lra_tree.specs.Trees.{AssignTree, DeclaratorTree, DeclarationTree, InitTree, no_init, declared, assigned, StmtTree, block, nothing, assign, call, if_only, if_else, while, for, break}
+use Rattle.lra_tree.specs.Trees.{continue, return, assert, assume, ItemsTree, no_items, declaration, statement, FunctionTree, GlobalTree, GlobalsTree, PartTree, prototype, globals, function}
 use Rattle.lra_tree.specs.Grammar.{IsDeclarator, IsDeclaration, IsInit, IsStmt, AreItems, IsParameter, AreParameters, IsFunction, IsGlobal, AreGlobals, AreParts}
 use Rattle.lra_tree.specs.Scope.{functions_in}
 use Rattle.lra_tree.specs.NameFaults.{global_names}
@@ -116,10 +117,12 @@ declarators_few most live (d ∷ ds) h =
 declaration_room : (most l : ℕ) (d : DeclarationTree) (live : List (List ℕ)) (x y : Pieces) → IsDeclaration l d x → HasRoom most live (x ++ y) → HasRoom most (with_names live (d.first ∷ d.rest)) y
 declaration_room most l d live x y (t, z, e, type, (s, m, e', are, semicolon)) h =
     let here = room_parts most live z y s m e' (room_behind most live x y t z e h) in
-    let behind = separated_room (IsDeclarator l) (λ (v : DeclaratorTree). v.name.word) (λ v p is. first_declares v.name.word p is.0 is.1 is.2 (name_declares v.name 0 is.0 is.3)) most live (d.first ∷ d.rest) s (m ++ y) are here in
+    let behind = separated_room (IsDeclarator l) (λ (v : DeclaratorTree). v.name.word) (λ v p is. first_declares v.name.word p is.0 is.1 is.2 (name_declares v.name 0 is.0 is.3)) most live
+    (d.first ∷ d.rest) s (m ++ y) are here in
     room_last most (with_names live (d.first ∷ d.rest)) (m ++ y) m y refl behind
 
-declaration_few : (most l : ℕ) (d : DeclarationTree) (live : List (List ℕ)) (x y : Pieces) → IsDeclaration l d x → HasRoom most live (x ++ y) → AllByRecursion (AreFewAt most) (declarator_labels live (d.first ∷ d.rest))
+declaration_few : (most l : ℕ) (d : DeclarationTree) (live : List (List ℕ)) (x y : Pieces) → IsDeclaration l d x → HasRoom most live (x ++ y) →
+    AllByRecursion (AreFewAt most) (declarator_labels live (d.first ∷ d.rest))
 declaration_few most l d live x y is h =
     let names = with_names live (d.first ∷ d.rest) in declarators_few most live (d.first ∷ d.rest) (room_few most names y (declaration_room most l d live x y is h))
 
@@ -182,7 +185,8 @@ mutual
   stmt_few most o l (assert at c) live z is h = let few = room_few most live z h in ((few, few), tt)
   stmt_few most o l (assume at c) live z is h = let few = room_few most live z h in ((few, few), tt)
 
-  items_few : (most l : ℕ) (items : ItemsTree) (end : Place) (live : List (List ℕ)) (z : Pieces) → AreItems l items z → HasRoom most live z → AllByRecursion (AreFewAt most) (items_labels live items end)
+  items_few : (most l : ℕ) (items : ItemsTree) (end : Place) (live : List (List ℕ)) (z : Pieces) → AreItems l items z → HasRoom most live z →
+      AllByRecursion (AreFewAt most) (items_labels live items end)
   items_few most l no_items end live z are h = let few = room_few most live z h in ((few, few), tt)
   items_few most l (declaration d items) end live z (x, y, e, is, are) h =
       let more = with_names live (d.first ∷ d.rest) in
@@ -214,12 +218,14 @@ labels_few most [] z are h = tt
 labels_few most (prototype ∷ ps) z (x, y, e, is, are) h = labels_few most ps y are (room_last most [] z x y e h)
 labels_few most (globals g ∷ ps) z (x, y, e, is, are) h = labels_few most ps y are (room_last most [] z x y e h)
 labels_few most (function f ∷ ps) z (x, y, e, is, are) h =
-    every_append (AreFewAt most) (function_labels f) (flat_map function_labels (functions_in ps)) (function_few most f x is (room_first most [] z x y e h)) (labels_few most ps y are (room_last most [] z x y e h))
+    every_append (AreFewAt most) (function_labels f) (flat_map function_labels (functions_in ps)) (function_few most f x is (room_first most [] z x y e h))
+    (labels_few most ps y are (room_last most [] z x y e h))
 
 globals_room : (most : ℕ) (g : GlobalsTree) (live : List (List ℕ)) (x y : Pieces) → AreGlobals g x → HasRoom most live (x ++ y) → HasRoom most (live ++ global_names (g.first ∷ g.rest)) y
 globals_room most g live x y (t, z, e, type, (s, m, e', are, semicolon)) h =
     let here = room_parts most live z y s m e' (room_behind most live x y t z e h) in
-    let behind = separated_room IsGlobal (λ (v : GlobalTree). v.name.word) (λ v p is. first_declares v.name.word p is.0 is.1 is.2 (name_declares v.name 0 is.0 is.3)) most live (g.first ∷ g.rest) s (m ++ y) are here in
+    let behind = separated_room IsGlobal (λ (v : GlobalTree). v.name.word) (λ v p is. first_declares v.name.word p is.0 is.1 is.2 (name_declares v.name 0 is.0 is.3)) most live (g.first ∷ g.rest) s
+    (m ++ y) are here in
     room_last most (live ++ global_names (g.first ∷ g.rest)) (m ++ y) m y refl behind
 
 pub globals_few : (most : ℕ) (ps : List PartTree) (live : List (List ℕ)) (z : Pieces) → AreParts ps z → HasRoom most live z → AreFew most (live ++ globals_named ps)

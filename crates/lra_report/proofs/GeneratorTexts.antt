@@ -1,5 +1,6 @@
 -- One text, one generator.
-use Rattle.std.proofs.Common.{◌≡◌, ℕ, zero, suc, ◌<◌, ◌≤◌, ◌*◌, ◌/◌, ◌%◌, ℤ, pos, negsuc, nat_abs, nat_eq, neg_ℤ, ◌*ℤ◌, int_div, Bool, true, false, List, [], ◌∷◌, ◌++◌, length, codes, if◌then◌else◌, refl, ap, sym, ◌∙◌, subst, arith, append_assoc}
+use Rattle.std.proofs.Common.{◌≡◌, ℕ, zero, suc, ◌<◌, ◌≤◌, ◌*◌, ◌/◌, ◌%◌, ℤ, pos, negsuc, nat_abs, nat_eq, neg_ℤ, ◌*ℤ◌, int_div, Bool, true, false, List, [], ◌∷◌, ◌++◌, length, codes, if◌then◌else◌}
+use Rattle.std.proofs.Common.{refl, ap, sym, ◌∙◌, subst, arith, append_assoc}
 use Rattle.std.specs.Prelude.{⊤}
 use Rattle.std.specs.List.{AllByRecursion}
 use Rattle.std.specs.Char.{is_ascii_digit}
@@ -37,19 +38,23 @@ solidus : (u w : List ℕ) → Ends is_visible u → u ≡ 47 ∷ w → ⊥
 solidus [] w h e = cc
 solidus (b ∷ u) w h e = both_ways (is_visible b) h (ap is_visible (first_same e))
 
-fraction_cases : (p q : Bool) (a b : ℤ) (m n : ℕ) (u v : List ℕ) → nat_eq m 1 ≡ p → nat_eq n 1 ≡ q → IsShort (nat_abs a) → IsShort (nat_abs b) → IsShort m → IsShort n → Ends is_visible u → Ends is_visible v →
+fraction_cases : (p q : Bool) (a b : ℤ) (m n : ℕ) (u v : List ℕ) → nat_eq m 1 ≡ p → nat_eq n 1 ≡ q → IsShort (nat_abs a) → IsShort (nat_abs b) → IsShort m → IsShort n → Ends is_visible u →
+    Ends is_visible v →
     (if p then signed_decimal a else signed_decimal a ++ codes "/" ++ decimal m) ++ u ≡ (if q then signed_decimal b else signed_decimal b ++ codes "/" ++ decimal n) ++ v → (a ≡ b) × (m ≡ n) × (u ≡ v)
 fraction_cases true true a b m n u v ep eq ha hb hm hn eu ev e =
     let s = signed_same a b u v ha hb (digit_ends u eu) (digit_ends v ev) e in (s.0, eqb-true m 1 ep ∙ sym (eqb-true n 1 eq), s.1)
 fraction_cases true false a b m n u v ep eq ha hb hm hn eu ev e =
-    let s = signed_same a b u (47 ∷ (decimal n ++ v)) ha hb (digit_ends u eu) refl (e ∙ ap (λ t. t ++ v) (append_assoc (signed_decimal b) (codes "/") (decimal n)) ∙ append_assoc (signed_decimal b) (47 ∷ decimal n) v) in
+    let s = signed_same a b u (47 ∷ (decimal n ++ v)) ha hb (digit_ends u eu) refl (e ∙ ap (λ t. t ++ v) (append_assoc (signed_decimal b) (codes "/") (decimal n)) ∙
+    append_assoc (signed_decimal b) (47 ∷ decimal n) v) in
     absurd (solidus u (decimal n ++ v) eu s.1)
 fraction_cases false true a b m n u v ep eq ha hb hm hn eu ev e =
-    let s = signed_same b a v (47 ∷ (decimal m ++ u)) hb ha (digit_ends v ev) refl (sym e ∙ ap (λ t. t ++ u) (append_assoc (signed_decimal a) (codes "/") (decimal m)) ∙ append_assoc (signed_decimal a) (47 ∷ decimal m) u) in
+    let s = signed_same b a v (47 ∷ (decimal m ++ u)) hb ha (digit_ends v ev) refl (sym e ∙ ap (λ t. t ++ u) (append_assoc (signed_decimal a) (codes "/") (decimal m)) ∙
+    append_assoc (signed_decimal a) (47 ∷ decimal m) u) in
     absurd (solidus v (decimal m ++ u) ev s.1)
 fraction_cases false false a b m n u v ep eq ha hb hm hn eu ev e =
     let s = signed_same a b (47 ∷ (decimal m ++ u)) (47 ∷ (decimal n ++ v)) ha hb refl refl
-    (sym (ap (λ t. t ++ u) (append_assoc (signed_decimal a) (codes "/") (decimal m)) ∙ append_assoc (signed_decimal a) (47 ∷ decimal m) u) ∙ e ∙ ap (λ t. t ++ v) (append_assoc (signed_decimal b) (codes "/") (decimal n)) ∙ append_assoc (signed_decimal b) (47 ∷ decimal n) v) in
+    (sym (ap (λ t. t ++ u) (append_assoc (signed_decimal a) (codes "/") (decimal m)) ∙ append_assoc (signed_decimal a) (47 ∷ decimal m) u) ∙ e ∙
+    ap (λ t. t ++ v) (append_assoc (signed_decimal b) (codes "/") (decimal n)) ∙ append_assoc (signed_decimal b) (47 ∷ decimal n) v) in
     let t = decimal_same m n u v hm hn (digit_ends u eu) (digit_ends v ev) (rest_same s.1) in
     (s.0, t.0, t.1)
 
@@ -149,11 +154,13 @@ whole_values (n ∷ ns) [] zs u w ly lz hy hz e = absurd (omega arith)
 whole_values (n ∷ ns) (y ∷ ys) [] u w ly lz hy hz e = absurd (omega arith)
 whole_values (n ∷ ns) (y ∷ ys) (z ∷ zs) u w ly lz hy hz e =
     let s = signed_same y z (values_text signed_decimal ns ys ++ (10 ∷ u)) (values_text signed_decimal ns zs ++ (10 ∷ w)) (short_in_range y hy.0) (short_in_range z hz.0)
-    (digit_ends (values_text signed_decimal ns ys ++ (10 ∷ u)) (values_end signed_decimal ns ys u)) (digit_ends (values_text signed_decimal ns zs ++ (10 ∷ w)) (values_end signed_decimal ns zs w)) (value_front signed_decimal signed_decimal n ns y z ys zs u w e) in
+    (digit_ends (values_text signed_decimal ns ys ++ (10 ∷ u)) (values_end signed_decimal ns ys u)) (digit_ends (values_text signed_decimal ns zs ++ (10 ∷ w)) (values_end signed_decimal ns zs w))
+    (value_front signed_decimal signed_decimal n ns y z ys zs u w e) in
     let t = whole_values ns ys zs u w (omega arith) (omega arith) hy.1 hz.1 s.1 in
     (both_same s.0 t.0, t.1)
 
-pub point_values : (ns : List (List ℕ)) (d e : ℕ) (ys zs : List ℤ) (u w : List ℕ) → 0 < d → 0 < e → IsShort d → IsShort e → length ys ≡ length ns → length zs ≡ length ns → AllByRecursion InRange ys → AllByRecursion InRange zs →
+pub point_values : (ns : List (List ℕ)) (d e : ℕ) (ys zs : List ℤ) (u w : List ℕ) → 0 < d → 0 < e → IsShort d → IsShort e → length ys ≡ length ns → length zs ≡ length ns → AllByRecursion InRange ys →
+    AllByRecursion InRange zs →
     values_text (λ z. coordinate_text z d) ns ys ++ (10 ∷ u) ≡ values_text (λ z. coordinate_text z e) ns zs ++ (10 ∷ w) → Crossed d e ys zs × (u ≡ w)
 point_values [] d e [] [] u w sd se hd he ly lz hy hz eq = (tt, rest_same eq)
 point_values [] d e [] (z ∷ zs) u w sd se hd he ly lz hy hz eq = absurd (omega arith)
@@ -198,7 +205,8 @@ point_same d e ys zs sd se py pz h =
     columns zero = commuted (pos e) (pos d)
     columns (suc j) = crossed_entry d e ys zs j h
 
-generator_by : (k : GeneratorKind) (d e : ℕ) (ys zs : List ℤ) → d ≡ e → ys ≡ zs → (let x : Generator = record { kind = k; divisor = d; numbers = ys } in x) ≡ record { kind = k; divisor = e; numbers = zs }
+generator_by : (k : GeneratorKind) (d e : ℕ) (ys zs : List ℤ) → d ≡ e → ys ≡ zs → (let x : Generator = record { kind = k; divisor = d; numbers = ys } in x) ≡
+    record { kind = k; divisor = e; numbers = zs }
 generator_by k d e ys zs p q = ap (λ x. record { kind = k; divisor = x; numbers = ys }) p ∙ ap (λ x. record { kind = k; divisor = e; numbers = x }) q
 
 other_kind : {A : Type 0} (a b : ℕ) (t u : List ℕ) → nat_eq a b ≡ false → a ∷ t ≡ b ∷ u → A
@@ -209,7 +217,8 @@ generator_cases : (ns : List (List ℕ)) (k l : GeneratorKind) (d e : ℕ) (ys z
     generator_kind_text k ++ (values_text (value_text k d) ns ys ++ (10 ∷ u)) ≡ generator_kind_text l ++ (values_text (value_text l e) ns zs ++ (10 ∷ w)) →
     ((let x : Generator = record { kind = k; divisor = d; numbers = ys } in x) ≡ record { kind = l; divisor = e; numbers = zs }) × (u ≡ w)
 generator_cases ns point point d e ys zs u w ly lz hy hz eq =
-    let s = point_values ns d e ys zs u w hy.divides hz.divides (short_in_range (pos d) hy.divisor_in) (short_in_range (pos e) hz.divisor_in) ly lz hy.numbers_in hz.numbers_in (append_cancel_left (codes "point") _ _ eq) in
+    let s = point_values ns d e ys zs u w hy.divides hz.divides (short_in_range (pos d) hy.divisor_in) (short_in_range (pos e) hz.divisor_in) ly lz hy.numbers_in hz.numbers_in
+    (append_cancel_left (codes "point") _ _ eq) in
     let t = point_same d e ys zs hy.divides hz.divides hy.reduced hz.reduced s.0 in
     (generator_by point d e ys zs t.0 t.1, s.1)
 generator_cases ns ray ray d e ys zs u w ly lz hy hz eq =
@@ -229,4 +238,5 @@ pub generator_same : (ns : List (List ℕ)) (g h : Generator) (u w : List ℕ) �
     generator_text ns g ++ (10 ∷ u) ≡ generator_text ns h ++ (10 ∷ w) → (g ≡ h) × (u ≡ w)
 generator_same ns g h u w lg lh hg hh eq =
     generator_cases ns g.kind h.kind g.divisor h.divisor g.numbers h.numbers u w lg lh hg hh
-    (sym (append_assoc (generator_kind_text g.kind) (values_text (value_text g.kind g.divisor) ns g.numbers) (10 ∷ u)) ∙ eq ∙ append_assoc (generator_kind_text h.kind) (values_text (value_text h.kind h.divisor) ns h.numbers) (10 ∷ w))
+    (sym (append_assoc (generator_kind_text g.kind) (values_text (value_text g.kind g.divisor) ns g.numbers) (10 ∷ u)) ∙ eq ∙
+    append_assoc (generator_kind_text h.kind) (values_text (value_text h.kind h.divisor) ns h.numbers) (10 ∷ w))

@@ -28,13 +28,16 @@ pub rows_end : {K R : Type 0} (show : List ℤ → K → R) (line : R → List �
 rows_end show line t all rows kinds j before end = sym (append-nil t) ∙ ap (λ rs. t ++ flat_map line (shown_by show rs (drop j kinds))) (sym (drop_all j rows end)) ∙ before
 
 -- of generators that are left, the first and the further ones fit their kinds
-both_fit : {rows : List (List ℤ)} {kinds : List GenKind} (rs : List (List ℤ)) (ks : List GenKind) (r : List ℤ) (k : GenKind) → FitKinds rs ks → rs ≡ r ∷ rows → ks ≡ k ∷ kinds → FitsKind k r × FitKinds rows kinds
+both_fit : {rows : List (List ℤ)} {kinds : List GenKind} (rs : List (List ℤ)) (ks : List GenKind) (r : List ℤ) (k : GenKind) → FitKinds rs ks → rs ≡ r ∷ rows → ks ≡ k ∷ kinds → FitsKind k r ×
+    FitKinds rows kinds
 both_fit {rows} {kinds} rs ks r k fit row kind = subst (λ x. FitKinds (r ∷ rows) x) kind (subst (λ x. FitKinds x ks) row fit)
 
-pub first_fits : (rows : List (List ℤ)) (kinds : List GenKind) (j : ℕ) (r : List ℤ) (k : GenKind) → FitKinds (drop j rows) (drop j kinds) → drop j rows ≡ r ∷ drop (j + 1) rows → drop j kinds ≡ k ∷ drop (j + 1) kinds → FitsKind k r
+pub first_fits : (rows : List (List ℤ)) (kinds : List GenKind) (j : ℕ) (r : List ℤ) (k : GenKind) → FitKinds (drop j rows) (drop j kinds) → drop j rows ≡ r ∷ drop (j + 1) rows →
+    drop j kinds ≡ k ∷ drop (j + 1) kinds → FitsKind k r
 first_fits rows kinds j r k fit row kind = (both_fit (drop j rows) (drop j kinds) r k fit row kind).0
 
-pub further_fit : (rows : List (List ℤ)) (kinds : List GenKind) (j : ℕ) (r : List ℤ) (k : GenKind) → FitKinds (drop j rows) (drop j kinds) → drop j rows ≡ r ∷ drop (j + 1) rows → drop j kinds ≡ k ∷ drop (j + 1) kinds → FitKinds (drop (j + 1) rows) (drop (j + 1) kinds)
+pub further_fit : (rows : List (List ℤ)) (kinds : List GenKind) (j : ℕ) (r : List ℤ) (k : GenKind) → FitKinds (drop j rows) (drop j kinds) → drop j rows ≡ r ∷ drop (j + 1) rows →
+    drop j kinds ≡ k ∷ drop (j + 1) kinds → FitKinds (drop (j + 1) rows) (drop (j + 1) kinds)
 further_fit rows kinds j r k fit row kind = (both_fit (drop j rows) (drop j kinds) r k fit row kind).1
 
 pub part_step : (names : List (List ℕ)) (t0 t1 t2 all : List ℕ) (parts : List Part) (j : ℕ) (p : Part) →

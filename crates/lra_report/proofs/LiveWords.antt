@@ -50,7 +50,8 @@ outside_few ls (c ∷ outer) h =
     let here = (few_at ls c h).1.1 in
     omega (arith, behind, here, length-append (names_outside ls outer) (live_in_call_at (label_at ls c)))
 
-live_words : (outside : List (List ℕ)) (ls : List Labelled) (s : Site) → AreFew most_tokens outside → AllByRecursion (AreFewAt most_tokens) ls → length s.path ≤ greatest_calls → AreWords (live_names outside ls s)
+live_words : (outside : List (List ℕ)) (ls : List Labelled) (s : Site) → AreFew most_tokens outside → AllByRecursion (AreFewAt most_tokens) ls → length s.path ≤ greatest_calls →
+    AreWords (live_names outside ls s)
 live_words outside ls s first h path =
     let called = names_outside ls s.path in
     let own = live_at (label_at ls s.label) in

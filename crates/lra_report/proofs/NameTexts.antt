@@ -1,5 +1,6 @@
 -- The names of variables that live together are told apart by what is printed.
-use Rattle.std.proofs.Common.{◌≡◌, ◌≢◌, ℕ, zero, suc, ◌+◌, ◌<◌, ◌≤◌, ◌^◌, Bool, true, false, cond, List, [], ◌∷◌, ◌++◌, length, codes, count_by, bytes_eq, refl, ap, sym, ◌∙◌, subst, arith, append_assoc, append-nil}
+use Rattle.std.proofs.Common.{◌≡◌, ◌≢◌, ℕ, zero, suc, ◌+◌, ◌<◌, ◌≤◌, ◌^◌, Bool, true, false, cond, List, [], ◌∷◌, ◌++◌, length, codes, count_by, bytes_eq, refl, ap, sym, ◌∙◌, subst, arith}
+use Rattle.std.proofs.Common.{append_assoc, append-nil}
 use Rattle.std.specs.List.{AllByRecursion, list_all}
 use Rattle.std.specs.Char.{is_ascii_digit}
 use Rattle.std.specs.Fmt.{decimal}
@@ -98,7 +99,8 @@ short_count : (n : List ℕ) (ns : List (List ℕ)) → length ns < 2 ^ 64 → I
 short_count n ns few = let most = count_by-le-length (bytes_eq n) ns in omega (arith, most)
 
 -- a name with a mark that is no less than its count differs from all that are shown of the newer ones
-others : (n : List ℕ) (k : ℕ) (ns : List (List ℕ)) → is_word n ≡ true → IsShort k → count_by (bytes_eq n) ns ≤ k → AllByRecursion (λ m. is_word m ≡ true) ns → length ns < 2 ^ 64 → AllByRecursion (λ x. shown_name k n ≢ x) (shown_names ns)
+others : (n : List ℕ) (k : ℕ) (ns : List (List ℕ)) → is_word n ≡ true → IsShort k → count_by (bytes_eq n) ns ≤ k → AllByRecursion (λ m. is_word m ≡ true) ns → length ns < 2 ^ 64 →
+    AllByRecursion (λ x. shown_name k n ≢ x) (shown_names ns)
 others n k [] hn hk most words few = tt
 others n k (m ∷ ns) hn hk most words few = (
   λ e.

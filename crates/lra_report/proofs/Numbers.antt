@@ -38,7 +38,8 @@ suc_same e = cc
 no_sign : is_ascii_digit 45 ≡ true → ⊥
 no_sign e = cc
 
-pub signed_same : (y z : ℤ) (u v : List ℕ) → IsShort (nat_abs y) → IsShort (nat_abs z) → Ends is_ascii_digit u → Ends is_ascii_digit v → signed_decimal y ++ u ≡ signed_decimal z ++ v → (y ≡ z) × (u ≡ v)
+pub signed_same : (y z : ℤ) (u v : List ℕ) → IsShort (nat_abs y) → IsShort (nat_abs z) → Ends is_ascii_digit u → Ends is_ascii_digit v → signed_decimal y ++ u ≡ signed_decimal z ++ v → (y ≡ z) ×
+    (u ≡ v)
 signed_same (pos m) (pos n) u v hm hn eu ev e = let s = decimal_same m n u v hm hn eu ev e in (ap pos s.0, s.1)
 signed_same (negsuc m) (negsuc n) u v hm hn eu ev e = let s = decimal_same (suc m) (suc n) u v hm hn eu ev (rest_same e) in (ap negsuc (suc_same s.0), s.1)
 signed_same (pos m) (negsuc n) u v hm hn eu ev e = absurd (no_sign (decimal_first m u (decimal (suc n) ++ v) 45 hm e))

@@ -27,7 +27,8 @@ points_letter (p ∷ ps) u h = refl
 point_pieces : (a s r u : List ℕ) → ((a ++ s) ++ r) ++ u ≡ a ++ (s ++ (r ++ u))
 point_pieces a s r u = simp append_assoc
 
-points_same : (outside : List (List ℕ)) (ls : List Labelled) (number : ℕ) (sites : List Site) (ps qs : List PointReport) (u v : List ℕ) → AllByRecursion (λ s. AreWords (live_names outside ls s)) sites → AreListed outside ls number sites ps → AreListed outside ls number sites qs →
+points_same : (outside : List (List ℕ)) (ls : List Labelled) (number : ℕ) (sites : List Site) (ps qs : List PointReport) (u v : List ℕ) →
+    AllByRecursion (λ s. AreWords (live_names outside ls s)) sites → AreListed outside ls number sites ps → AreListed outside ls number sites qs →
     AllByRecursion IsReadablePoint ps → AllByRecursion IsReadablePoint qs → letter u ≡ 0 → letter v ≡ 0 → flat_map point_text ps ++ u ≡ flat_map point_text qs ++ v → (ps ≡ qs) × (u ≡ v)
 points_same outside ls number [] [] [] u v hw lp lq hp hq lu lv e = (refl, e)
 points_same outside ls number [] [] (q ∷ qs) u v hw lp lq hp hq lu lv e = absurd lq
@@ -42,7 +43,8 @@ points_same outside ls number (s ∷ sites) (p ∷ ps) (q ∷ qs) u v hw lp lq h
     let text_p : point_text p ≡ head ++ state_text names p.state = ap point_text lp.0 in
     let text_q : point_text q ≡ head ++ state_text names q.state = ap point_text lq.0 in
     let here : head ++ (state_text names p.state ++ (rest_p ++ u)) ≡ head ++ (state_text names q.state ++ (rest_q ++ v)) =
-    sym (ap (λ t. (t ++ rest_p) ++ u) text_p ∙ point_pieces head (state_text names p.state) rest_p u) ∙ e ∙ ap (λ t. (t ++ rest_q) ++ v) text_q ∙ point_pieces head (state_text names q.state) rest_q v in
+    sym (ap (λ t. (t ++ rest_p) ++ u) text_p ∙ point_pieces head (state_text names p.state) rest_p u) ∙ e ∙ ap (λ t. (t ++ rest_q) ++ v) text_q ∙
+    point_pieces head (state_text names q.state) rest_q v in
     let names_p : p.names ≡ names = ap (λ (x : PointReport). x.names) lp.0 in
     let names_q : q.names ≡ names = ap (λ (x : PointReport). x.names) lq.0 in
     let first = state_same names p.state q.state (rest_p ++ u) (rest_q ++ v) (are_shown (live_names outside ls s) hw.0)
@@ -63,7 +65,8 @@ proved_same false false u v e = (refl, rest_same (append_cancel_left (codes " un
 proved_same true false u v e = absurd (eqb-false 112 117 refl (first_same (rest_same e)))
 proved_same false true u v e = absurd (eqb-false 117 112 refl (first_same (rest_same e)))
 
-verdicts_same : (ls : List Labelled) (sites : List (ℕ × Site)) (vs ws : List Verdict) (u w : List ℕ) → AreJudged ls sites vs → AreJudged ls sites ws → flat_map verdict_text vs ++ u ≡ flat_map verdict_text ws ++ w → vs ≡ ws
+verdicts_same : (ls : List Labelled) (sites : List (ℕ × Site)) (vs ws : List Verdict) (u w : List ℕ) → AreJudged ls sites vs → AreJudged ls sites ws →
+    flat_map verdict_text vs ++ u ≡ flat_map verdict_text ws ++ w → vs ≡ ws
 verdicts_same ls [] [] [] u w lv lw e = refl
 verdicts_same ls [] [] (x ∷ ws) u w lv lw e = absurd lw
 verdicts_same ls [] (v ∷ vs) ws u w lv lw e = absurd lv
@@ -120,6 +123,7 @@ one_report r s t words listed_r listed_s options hr hs e =
     let tail : Report → List ℕ = λ x. flag_text x.flagged ++ (flat_map point_text x.points ++ (flat_map verdict_text x.verdicts ++ counts_line x.verdicts)) in
     let here : options_text s.options ++ tail r ≡ options_text s.options ++ tail s = ap (λ o. options_text o ++ tail r) (sym options) ∙ sym (report_pieces r) ∙ e ∙ report_pieces s in
     let flags = flag_same r.flagged s.flagged _ _ hr.flag hs.flag (append_cancel_left (options_text s.options) (tail r) (tail s) here) in
-    let points = points_same (globals_named t.parts) (labels_of t) 1 (sites_of (resolve t)) r.points s.points _ _ words listed_r.points listed_s.points hr.points hs.points (counts_letter r.verdicts r.verdicts) (counts_letter s.verdicts s.verdicts) flags.1 in
+    let points = points_same (globals_named t.parts) (labels_of t) 1 (sites_of (resolve t)) r.points s.points _ _ words listed_r.points listed_s.points hr.points hs.points
+    (counts_letter r.verdicts r.verdicts) (counts_letter s.verdicts s.verdicts) flags.1 in
     let verdicts = verdicts_same (labels_of t) (assertions_from 1 (sites_of (resolve t))) r.verdicts s.verdicts _ _ listed_r.verdicts listed_s.verdicts points.1 in
     report_by r s options flags.0 points.0 verdicts

@@ -1,6 +1,7 @@
 -- One text, one row.
 use Rattle.std.specs.Prelude.{⊤}
-use Rattle.std.proofs.Common.{◌≡◌, ◌≢◌, ℕ, zero, suc, ◌<◌, ℤ, pos, negsuc, nat_eq, nat_lt, not, Bool, true, false, List, [], ◌∷◌, ◌++◌, length, map, codes, if◌then◌else◌, refl, ap, sym, ◌∙◌, arith, append_assoc, zero-add}
+use Rattle.std.proofs.Common.{◌≡◌, ◌≢◌, ℕ, zero, suc, ◌<◌, ℤ, pos, negsuc, nat_eq, nat_lt, not, Bool, true, false, List, [], ◌∷◌, ◌++◌, length, map, codes, if◌then◌else◌, refl, ap, sym, ◌∙◌, arith}
+use Rattle.std.proofs.Common.{append_assoc, zero-add}
 use Rattle.std.specs.List.{AllByRecursion}
 use Rattle.std.specs.Char.{is_ascii_digit}
 use Rattle.std.specs.Fmt.{decimal, signed_decimal}
@@ -43,7 +44,8 @@ product_cases false true k l n m u v bk bl hk hl hn hm eu ev e =
     absurd (name_no_number k m v (42 ∷ n ++ u) hk hm (sym e ∙ ap (λ t. t ++ u) (append_assoc (decimal k) (codes "*") n) ∙ append_assoc (decimal k) (42 ∷ n) u))
 product_cases false false k l n m u v bk bl hk hl hn hm eu ev e =
     let here : decimal k ++ (42 ∷ (n ++ u)) ≡ decimal l ++ (42 ∷ (m ++ v)) =
-    sym (ap (λ t. t ++ u) (append_assoc (decimal k) (codes "*") n) ∙ append_assoc (decimal k) (42 ∷ n) u) ∙ e ∙ ap (λ t. t ++ v) (append_assoc (decimal l) (codes "*") m) ∙ append_assoc (decimal l) (42 ∷ m) v in
+    sym (ap (λ t. t ++ u) (append_assoc (decimal k) (codes "*") n) ∙ append_assoc (decimal k) (42 ∷ n) u) ∙ e ∙ ap (λ t. t ++ v) (append_assoc (decimal l) (codes "*") m) ∙
+    append_assoc (decimal l) (42 ∷ m) v in
     let s = decimal_same k l (42 ∷ (n ++ u)) (42 ∷ (m ++ v)) hk hl refl refl here in
     let t = front_same is_visible n m u v (name_passes n hn) (name_passes m hm) eu ev (rest_same s.1) in
     (s.0, t.0, t.1)
@@ -57,7 +59,8 @@ digit_visible b h = grind (arith, nat_tests)
 
 product_first_cases : (c : Bool) (k : ℕ) (n u v : List ℕ) (b : ℕ) → IsShort k → IsShownName n → (if c then n else decimal k ++ codes "*" ++ n) ++ u ≡ b ∷ v → is_visible b ≡ true
 product_first_cases true k n u v b hk hn e = front_first is_visible n u v b (name_some n hn) (name_passes n hn) e
-product_first_cases false k n u v b hk hn e = digit_visible b (decimal_first k (42 ∷ n ++ u) v b hk (sym (ap (λ t. t ++ u) (append_assoc (decimal k) (codes "*") n) ∙ append_assoc (decimal k) (42 ∷ n) u) ∙ e))
+product_first_cases false k n u v b hk hn e = digit_visible b (decimal_first k (42 ∷ n ++ u) v b hk
+    (sym (ap (λ t. t ++ u) (append_assoc (decimal k) (codes "*") n) ∙ append_assoc (decimal k) (42 ∷ n) u) ∙ e))
 
 pub product_first : (k : ℕ) (n u v : List ℕ) (b : ℕ) → IsShort k → IsShownName n → product_text k n ++ u ≡ b ∷ v → is_visible b ≡ true
 product_first k n u v b hk hn e = product_first_cases (nat_eq k 1) k n u v b hk hn e
@@ -131,13 +134,17 @@ terms_same (c ∷ cs) (d ∷ ds) [] u v lc ld hc hd hn hu hv e = absurd (omega a
 terms_same (pos zero ∷ cs) (pos zero ∷ ds) (n ∷ ns) u v lc ld hc hd hn hu hv e =
     let s = terms_same cs ds ns u v (omega arith) (omega arith) hc.1 hd.1 hn.2 hu hv e in (ap (λ t. pos 0 ∷ t) s.0, s.1)
 terms_same (pos zero ∷ cs) (pos (suc l) ∷ ds) (n ∷ ns) u v lc ld hc hd hn hu hv e =
-    absurd (term_absent cs ns u 43 (suc l) n (terms_text ds ns ++ v) hc.1 hn.2 hu refl (short_in_range (pos (suc l)) hd.0) hn.0 hn.1 (terms_ends ds ns v hv) (e ∙ ap (λ t. 32 ∷ (43 ∷ (32 ∷ t))) (append_assoc (product_text (suc l) n) (terms_text ds ns) v)))
+    absurd (term_absent cs ns u 43 (suc l) n (terms_text ds ns ++ v) hc.1 hn.2 hu refl (short_in_range (pos (suc l)) hd.0) hn.0 hn.1 (terms_ends ds ns v hv)
+    (e ∙ ap (λ t. 32 ∷ (43 ∷ (32 ∷ t))) (append_assoc (product_text (suc l) n) (terms_text ds ns) v)))
 terms_same (pos zero ∷ cs) (negsuc l ∷ ds) (n ∷ ns) u v lc ld hc hd hn hu hv e =
-    absurd (term_absent cs ns u 45 (suc l) n (terms_text ds ns ++ v) hc.1 hn.2 hu refl (short_in_range (negsuc l) hd.0) hn.0 hn.1 (terms_ends ds ns v hv) (e ∙ ap (λ t. 32 ∷ (45 ∷ (32 ∷ t))) (append_assoc (product_text (suc l) n) (terms_text ds ns) v)))
+    absurd (term_absent cs ns u 45 (suc l) n (terms_text ds ns ++ v) hc.1 hn.2 hu refl (short_in_range (negsuc l) hd.0) hn.0 hn.1 (terms_ends ds ns v hv)
+    (e ∙ ap (λ t. 32 ∷ (45 ∷ (32 ∷ t))) (append_assoc (product_text (suc l) n) (terms_text ds ns) v)))
 terms_same (pos (suc k) ∷ cs) (pos zero ∷ ds) (n ∷ ns) u v lc ld hc hd hn hu hv e =
-    absurd (term_absent ds ns v 43 (suc k) n (terms_text cs ns ++ u) hd.1 hn.2 hv refl (short_in_range (pos (suc k)) hc.0) hn.0 hn.1 (terms_ends cs ns u hu) (sym e ∙ ap (λ t. 32 ∷ (43 ∷ (32 ∷ t))) (append_assoc (product_text (suc k) n) (terms_text cs ns) u)))
+    absurd (term_absent ds ns v 43 (suc k) n (terms_text cs ns ++ u) hd.1 hn.2 hv refl (short_in_range (pos (suc k)) hc.0) hn.0 hn.1 (terms_ends cs ns u hu)
+    (sym e ∙ ap (λ t. 32 ∷ (43 ∷ (32 ∷ t))) (append_assoc (product_text (suc k) n) (terms_text cs ns) u)))
 terms_same (negsuc k ∷ cs) (pos zero ∷ ds) (n ∷ ns) u v lc ld hc hd hn hu hv e =
-    absurd (term_absent ds ns v 45 (suc k) n (terms_text cs ns ++ u) hd.1 hn.2 hv refl (short_in_range (negsuc k) hc.0) hn.0 hn.1 (terms_ends cs ns u hu) (sym e ∙ ap (λ t. 32 ∷ (45 ∷ (32 ∷ t))) (append_assoc (product_text (suc k) n) (terms_text cs ns) u)))
+    absurd (term_absent ds ns v 45 (suc k) n (terms_text cs ns ++ u) hd.1 hn.2 hv refl (short_in_range (negsuc k) hc.0) hn.0 hn.1 (terms_ends cs ns u hu)
+    (sym e ∙ ap (λ t. 32 ∷ (45 ∷ (32 ∷ t))) (append_assoc (product_text (suc k) n) (terms_text cs ns) u)))
 terms_same (pos (suc k) ∷ cs) (pos (suc l) ∷ ds) (n ∷ ns) u v lc ld hc hd hn hu hv e =
     let t = term_rest (suc k) (suc l) n cs ds ns u v (short_in_range (pos (suc k)) hc.0) (short_in_range (pos (suc l)) hd.0) hn.0 hu hv (rest_same (rest_same (rest_same e))) in
     let s = terms_same cs ds ns u v (omega arith) (omega arith) hc.1 hd.1 hn.2 hu hv t.1 in
@@ -169,7 +176,8 @@ form_absent (pos (suc j) ∷ cs) (m ∷ ns) u k n w up hc hns hu hk hn other ew 
     other.0 (sym same.1)
 form_absent (negsuc j ∷ cs) (m ∷ ns) u k n w up hc hns hu hk hn other ew e = not_down up
 
-pub form_same : (cs ds : List ℤ) (ns : List (List ℕ)) (u v : List ℕ) → is_turned cs ≡ false → is_turned ds ≡ false → length cs ≡ length ns → length ds ≡ length ns → AllByRecursion InRange cs → AllByRecursion InRange ds →
+pub form_same : (cs ds : List ℤ) (ns : List (List ℕ)) (u v : List ℕ) → is_turned cs ≡ false → is_turned ds ≡ false → length cs ≡ length ns → length ds ≡ length ns → AllByRecursion InRange cs →
+    AllByRecursion InRange ds →
     AreShownNames ns → IsBehindTerms u → IsBehindTerms v → form_text cs ns ++ u ≡ form_text ds ns ++ v → (cs ≡ ds) × (u ≡ v)
 form_same [] [] ns u v uc ud lc ld hc hd hn hu hv e = (refl, e)
 form_same [] (d ∷ ds) [] u v uc ud lc ld hc hd hn hu hv e = absurd (omega arith)
@@ -180,9 +188,11 @@ form_same (c ∷ cs) (d ∷ ds) [] u v uc ud lc ld hc hd hn hu hv e = absurd (om
 form_same (pos zero ∷ cs) (pos zero ∷ ds) (n ∷ ns) u v uc ud lc ld hc hd hn hu hv e =
     let s = form_same cs ds ns u v uc ud (omega arith) (omega arith) hc.1 hd.1 hn.2 hu hv e in (ap (λ t. pos 0 ∷ t) s.0, s.1)
 form_same (pos zero ∷ cs) (pos (suc l) ∷ ds) (n ∷ ns) u v uc ud lc ld hc hd hn hu hv e =
-    absurd (form_absent cs ns u (suc l) n (terms_text ds ns ++ v) uc hc.1 hn.2 hu (short_in_range (pos (suc l)) hd.0) hn.0 hn.1 (terms_ends ds ns v hv) (e ∙ append_assoc (product_text (suc l) n) (terms_text ds ns) v))
+    absurd (form_absent cs ns u (suc l) n (terms_text ds ns ++ v) uc hc.1 hn.2 hu (short_in_range (pos (suc l)) hd.0) hn.0 hn.1 (terms_ends ds ns v hv)
+    (e ∙ append_assoc (product_text (suc l) n) (terms_text ds ns) v))
 form_same (pos (suc k) ∷ cs) (pos zero ∷ ds) (n ∷ ns) u v uc ud lc ld hc hd hn hu hv e =
-    absurd (form_absent ds ns v (suc k) n (terms_text cs ns ++ u) ud hd.1 hn.2 hv (short_in_range (pos (suc k)) hc.0) hn.0 hn.1 (terms_ends cs ns u hu) (sym e ∙ append_assoc (product_text (suc k) n) (terms_text cs ns) u))
+    absurd (form_absent ds ns v (suc k) n (terms_text cs ns ++ u) ud hd.1 hn.2 hv (short_in_range (pos (suc k)) hc.0) hn.0 hn.1 (terms_ends cs ns u hu)
+    (sym e ∙ append_assoc (product_text (suc k) n) (terms_text cs ns) u))
 form_same (pos (suc k) ∷ cs) (pos (suc l) ∷ ds) (n ∷ ns) u v uc ud lc ld hc hd hn hu hv e =
     let t = term_rest (suc k) (suc l) n cs ds ns u v (short_in_range (pos (suc k)) hc.0) (short_in_range (pos (suc l)) hd.0) hn.0 hu hv e in
     let s = terms_same cs ds ns u v (omega arith) (omega arith) hc.1 hd.1 hn.2 hu hv t.1 in
@@ -269,13 +279,17 @@ directed : (k : RowKind) (cs : List ℤ) → IsDirected k cs → Given k (is_tur
 directed equality cs h = h
 directed inequality cs h = h
 
-row_pieces : (ns : List (List ℕ)) (r : Row) (u : List ℕ) → row_text ns r ++ u ≡ form_text (map (turned (is_turned r.coefficients)) r.coefficients) ns ++ (relation_text r.kind (is_turned r.coefficients) ++ (signed_decimal (turned (not (is_turned r.coefficients)) r.constant) ++ u))
+row_pieces : (ns : List (List ℕ)) (r : Row) (u : List ℕ) → row_text ns r ++ u ≡ form_text (map (turned (is_turned r.coefficients)) r.coefficients) ns ++
+    (relation_text r.kind (is_turned r.coefficients) ++ (signed_decimal (turned (not (is_turned r.coefficients)) r.constant) ++ u))
 row_pieces ns r u = simp append_assoc
 
-row_by : (k l : RowKind) (c d : ℤ) (cs ds : List ℤ) → k ≡ l → c ≡ d → cs ≡ ds → (let x : Row = record { kind = k; constant = c; coefficients = cs } in x) ≡ record { kind = l; constant = d; coefficients = ds }
-row_by k l c d cs ds p q r = ap (λ x. record { kind = x; constant = c; coefficients = cs }) p ∙ ap (λ x. record { kind = l; constant = x; coefficients = cs }) q ∙ ap (λ x. record { kind = l; constant = d; coefficients = x }) r
+row_by : (k l : RowKind) (c d : ℤ) (cs ds : List ℤ) → k ≡ l → c ≡ d → cs ≡ ds → (let x : Row = record { kind = k; constant = c; coefficients = cs } in x) ≡
+    record { kind = l; constant = d; coefficients = ds }
+row_by k l c d cs ds p q r = ap (λ x. record { kind = x; constant = c; coefficients = cs }) p ∙ ap (λ x. record { kind = l; constant = x; coefficients = cs }) q ∙
+    ap (λ x. record { kind = l; constant = d; coefficients = x }) r
 
-pub row_same : (ns : List (List ℕ)) (r s : Row) (u v : List ℕ) → AreShownNames ns → length r.coefficients ≡ length ns → length s.coefficients ≡ length ns → IsSpelledRow r → IsSpelledRow s → Ends is_ascii_digit u → Ends is_ascii_digit v →
+pub row_same : (ns : List (List ℕ)) (r s : Row) (u v : List ℕ) → AreShownNames ns → length r.coefficients ≡ length ns → length s.coefficients ≡ length ns → IsSpelledRow r → IsSpelledRow s →
+    Ends is_ascii_digit u → Ends is_ascii_digit v →
     row_text ns r ++ u ≡ row_text ns s ++ v → (r ≡ s) × (u ≡ v)
 row_same ns r s u v hn lr ls hr hs eu ev e =
     let b = is_turned r.coefficients in
@@ -287,7 +301,8 @@ row_same ns r s u v hn lr ls hr hs eu ev e =
     (all_turned_in b r.coefficients hr.in_range.coefficients_in) (all_turned_in c s.coefficients hs.in_range.coefficients_in) hn (relation_behind r.kind b behind_r) (relation_behind s.kind c behind_s)
     (sym (row_pieces ns r u) ∙ e ∙ row_pieces ns s v) in
     let relations = relation_same r.kind s.kind b c behind_r behind_s (directed r.kind r.coefficients hr.directed) (directed s.kind s.coefficients hs.directed) forms.1 in
-    let numbers = signed_same (turned (not b) r.constant) (turned (not c) s.constant) u v (short_in_range (turned (not b) r.constant) (turned_in (not b) r.constant hr.in_range.constant_in)) (short_in_range (turned (not c) s.constant) (turned_in (not c) s.constant hs.in_range.constant_in)) eu ev relations.rest in
+    let numbers = signed_same (turned (not b) r.constant) (turned (not c) s.constant) u v (short_in_range (turned (not b) r.constant) (turned_in (not b) r.constant hr.in_range.constant_in))
+    (short_in_range (turned (not c) s.constant) (turned_in (not c) s.constant hs.in_range.constant_in)) eu ev relations.rest in
     let coefficients : r.coefficients ≡ s.coefficients = all_turned_same b r.coefficients s.coefficients (forms.0 ∙ ap (λ t. map (turned t) s.coefficients) (sym relations.turn)) in
     let constants : r.constant ≡ s.constant = turned_same (not b) r.constant s.constant (numbers.0 ∙ ap (λ t. turned (not t) s.constant) (sym relations.turn)) in
     (row_by r.kind s.kind r.constant s.constant r.coefficients s.coefficients relations.kind constants coefficients, numbers.1)
@@ -335,4 +350,5 @@ pub row_not_true : (ns : List (List ℕ)) (r : Row) (u w : List ℕ) → AreShow
 row_not_true ns r u w hn hr e =
     let b = is_turned r.coefficients in
     let behind = signed_decimal (turned (not b) r.constant) ++ u in
-    form_not_true (map (turned b) r.coefficients) ns (relation_text r.kind b ++ behind) w (all_turned_in b r.coefficients hr.in_range.coefficients_in) hn (relation_behind r.kind b behind) (sym (row_pieces ns r u) ∙ e)
+    form_not_true (map (turned b) r.coefficients) ns (relation_text r.kind b ++ behind) w (all_turned_in b r.coefficients hr.in_range.coefficients_in) hn (relation_behind r.kind b behind)
+    (sym (row_pieces ns r u) ∙ e)

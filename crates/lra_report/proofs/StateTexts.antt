@@ -38,7 +38,8 @@ rows_same ns [] [] u v hn wr ws hr hs lu lv e = (refl, e)
 rows_same ns [] (s ∷ ss) u v hn wr ws hr hs lu lv e = absurd (lu (ap letter e))
 rows_same ns (r ∷ rs) [] u v hn wr ws hr hs lu lv e = absurd (lv (ap letter (sym e)))
 rows_same ns (r ∷ rs) (s ∷ ss) u v hn wr ws hr hs lu lv e =
-    let here = append_cancel_left (codes "  row ") _ _ (sym (line_pieces (codes "  row ") (row_text ns r) (flat_map (row_line ns) rs) u) ∙ e ∙ line_pieces (codes "  row ") (row_text ns s) (flat_map (row_line ns) ss) v) in
+    let here = append_cancel_left (codes "  row ") _ _ (sym (line_pieces (codes "  row ") (row_text ns r) (flat_map (row_line ns) rs) u) ∙ e ∙
+    line_pieces (codes "  row ") (row_text ns s) (flat_map (row_line ns) ss) v) in
     let first = row_same ns r s (10 ∷ (flat_map (row_line ns) rs ++ u)) (10 ∷ (flat_map (row_line ns) ss ++ v)) hn wr.0 ws.0 hr.0 hs.0 refl refl here in
     let further = rows_same ns rs ss u v hn wr.1 ws.1 hr.1 hs.1 lu lv (rest_same first.1) in
     (both_same first.0 further.0, further.1)
@@ -61,7 +62,8 @@ generators_same ns [] [] u v wg wh sg sh lu lv e = (refl, e)
 generators_same ns [] (h ∷ hs) u v wg wh sg sh lu lv e = absurd (lu (ap letter e))
 generators_same ns (g ∷ gs) [] u v wg wh sg sh lu lv e = absurd (lv (ap letter (sym e)))
 generators_same ns (g ∷ gs) (h ∷ hs) u v wg wh sg sh lu lv e =
-    let here = append_cancel_left (codes "  gen ") _ _ (sym (line_pieces (codes "  gen ") (generator_text ns g) (flat_map (generator_line ns) gs) u) ∙ e ∙ line_pieces (codes "  gen ") (generator_text ns h) (flat_map (generator_line ns) hs) v) in
+    let here = append_cancel_left (codes "  gen ") _ _ (sym (line_pieces (codes "  gen ") (generator_text ns g) (flat_map (generator_line ns) gs) u) ∙ e ∙
+    line_pieces (codes "  gen ") (generator_text ns h) (flat_map (generator_line ns) hs) v) in
     let first = generator_same ns g h (flat_map (generator_line ns) gs ++ u) (flat_map (generator_line ns) hs ++ v) wg.0 wh.0 sg.0 sh.0 here in
     let further = generators_same ns gs hs u v wg.1 wh.1 sg.1 sh.1 lu lv first.1 in
     (both_same first.0 further.0, further.1)
@@ -87,7 +89,8 @@ part_by rs ss gs hs p q = ap (λ x. record { rows = x; generators = gs }) p ∙ 
 part_pieces : (ns : Names) (p : Part) (u : List ℕ) → part_text ns p ++ u ≡ rows_text ns p.rows ++ (flat_map (generator_line ns) p.generators ++ u)
 part_pieces ns p u = ap (λ t. t ++ u) (generators_are ns p.generators (rows_text ns p.rows)) ∙ append_assoc (rows_text ns p.rows) (flat_map (generator_line ns) p.generators) u
 
-part_same : (ns : Names) (p q : Part) (u v : List ℕ) → AreShownNames ns → IsReadablePart (length ns) p → IsReadablePart (length ns) q → IsPast u → IsPast v → part_text ns p ++ u ≡ part_text ns q ++ v → (p ≡ q) × (u ≡ v)
+part_same : (ns : Names) (p q : Part) (u v : List ℕ) → AreShownNames ns → IsReadablePart (length ns) p → IsReadablePart (length ns) q → IsPast u → IsPast v →
+    part_text ns p ++ u ≡ part_text ns q ++ v → (p ≡ q) × (u ≡ v)
 part_same ns p q u v hn hp hq hu hv e =
     let rows = rows_text_same ns p.rows q.rows (flat_map (generator_line ns) p.generators ++ u) (flat_map (generator_line ns) q.generators ++ v) hn hp.0.0 hq.0.0 hp.1.rows hq.1.rows
     (no_row_there ns p.generators u hu) (no_row_there ns q.generators v hv) (sym (part_pieces ns p u) ∙ e ∙ part_pieces ns q v) in
@@ -112,7 +115,8 @@ past_further : (ns : Names) (ps : List Part) (u : List ℕ) → letter u ≡ 0 �
 past_further ns [] u h = past_end u h
 past_further ns (p ∷ ps) u h = record { no_row = no_letters 111 114 refl; no_generator = no_letters 111 103 refl }
 
-further_same : (ns : Names) (ps qs : List Part) (u v : List ℕ) → AreShownNames ns → AllByRecursion (IsReadablePart (length ns)) ps → AllByRecursion (IsReadablePart (length ns)) qs → letter u ≡ 0 → letter v ≡ 0 →
+further_same : (ns : Names) (ps qs : List Part) (u v : List ℕ) → AreShownNames ns → AllByRecursion (IsReadablePart (length ns)) ps → AllByRecursion (IsReadablePart (length ns)) qs → letter u ≡ 0 →
+    letter v ≡ 0 →
     further_parts_text ns ps ++ u ≡ further_parts_text ns qs ++ v → (ps ≡ qs) × (u ≡ v)
 further_same ns [] [] u v hn hp hq lu lv e = (refl, e)
 further_same ns [] (q ∷ qs) u v hn hp hq lu lv e = absurd (no_letters 0 111 refl (sym lu ∙ ap letter e))
@@ -133,7 +137,8 @@ rows_letter ns (r ∷ rs) (g ∷ gs) t = refl
 reached : (ns : Names) (p : Part) (t u v : List ℕ) → text_line (codes "  unreachable") ++ u ≡ (part_text ns p ++ t) ++ v → ⊥
 reached ns p t u v e = no_letters 117 114 refl (ap letter (e ∙ append_assoc (part_text ns p) t v) ∙ rows_letter ns p.rows p.generators (t ++ v))
 
-pub state_same : (ns : Names) (s t : State) (u v : List ℕ) → AreShownNames ns → AllByRecursion (IsReadablePart (length ns)) s → AllByRecursion (IsReadablePart (length ns)) t → letter u ≡ 0 → letter v ≡ 0 →
+pub state_same : (ns : Names) (s t : State) (u v : List ℕ) → AreShownNames ns → AllByRecursion (IsReadablePart (length ns)) s → AllByRecursion (IsReadablePart (length ns)) t → letter u ≡ 0 →
+    letter v ≡ 0 →
     state_text ns s ++ u ≡ state_text ns t ++ v → (s ≡ t) × (u ≡ v)
 state_same ns [] [] u v hn hp hq lu lv e = (refl, append_cancel_left (text_line (codes "  unreachable")) u v e)
 state_same ns [] (q ∷ qs) u v hn hp hq lu lv e = absurd (reached ns q (further_parts_text ns qs) u v e)

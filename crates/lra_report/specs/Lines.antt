@@ -11,4 +11,5 @@ abbrev pub generator_line : List (List ℕ) → Generator → List ℕ
 generator_line names g = text_line (codes "  gen " ++ generator_text names g)
 
 abbrev pub counts_line : List Verdict → List ℕ
-counts_line vs = text_line (codes "verdicts proved " ++ decimal (proved_count vs) ++ codes " unknown " ++ decimal (unknown_count vs))
+counts_line vs = text_line (codes "verdicts proved " ++ decimal (proved_count vs) ++ codes " unknown " ++
+    decimal (unknown_count vs))

@@ -1,4 +1,5 @@
--- When a text tells what it was written of: canonical lists, numbers of the range, and names of variables that can be told apart.
+-- When a text tells what it was written of: canonical lists, numbers of the range, and names of variables that can be
+-- told apart.
 use Rattle.std.specs.Prelude.{◌≡◌, ℕ, ℤ, pos, List, ◌∷◌, length, true, false, ⊤, ◌<◌, ◌^◌, Option, Some, None}
 use Rattle.std.specs.List.{AllByRecursion}
 use Rattle.lra_linear.specs.Range.{InRange}
@@ -11,7 +12,8 @@ use Rattle.lra_tree.specs.Sites.{sites_of}
 use Rattle.lra_tree.specs.Grammar.{Spells}
 use Rattle.lra_tree.specs.Faults.{Language}
 use Rattle.lra_tree.specs.Refuse.{Accepts}
-use Rattle.lra_tree.specs.Report.{RowKind, equality, inequality, Row, GeneratorKind, point, ray, line, Generator, Part, Options, PointReport, Report}
+use Rattle.lra_tree.specs.Report.{RowKind, equality, inequality, Row, GeneratorKind, point, ray, line, Generator, Part}
+use Rattle.lra_tree.specs.Report.{Options, PointReport, Report}
 use Rattle.lra_tree.specs.ReportText.{is_turned, report_text}
 use Rattle.lra_tree.specs.Parts.{DividesAs}
 use Rattle.lra_tree.specs.Listing.{Lists, HasWidth, live_names, globals_named, IsReportOf}
@@ -68,11 +70,13 @@ HasWords t = AllByRecursion (λ s. AreWords (live_names (globals_named t.parts) 
 
 -- one text, one report: two reports of one program under one list of options that have the same text are the same
 abbrev pub OneText : Report → Report → Type 0
-OneText r s = (t : FileTree) → HasWords t → Lists t r → Lists t s → r.options ≡ s.options → IsReadable r → IsReadable s → report_text r ≡ report_text s → r ≡ s
+OneText r s = (t : FileTree) → HasWords t → Lists t r → Lists t s → r.options ≡ s.options → IsReadable r →
+    IsReadable s → report_text r ≡ report_text s → r ≡ s
 
 -- the same of the tree of an accepted source, whose variables are named by words
 abbrev pub OneAcceptedText : Report → Report → Type 0
-OneAcceptedText r s = (source : List ℕ) (t : FileTree) → Accepts Spells source t → Lists t r → Lists t s → r.options ≡ s.options → IsReadable r → IsReadable s → report_text r ≡ report_text s → r ≡ s
+OneAcceptedText r s = (source : List ℕ) (t : FileTree) → Accepts Spells source t → Lists t r → Lists t s →
+    r.options ≡ s.options → IsReadable r → IsReadable s → report_text r ≡ report_text s → r ≡ s
 
 -- the source is accepted with one tree at most
 abbrev pub HasOneTree : Language → List ℕ → Type 0
@@ -80,4 +84,5 @@ HasOneTree L source = (t u : FileTree) → Accepts L source t → Accepts L sour
 
 -- two reports of one source of the language L under one list of options that have the same text are the same
 abbrev pub OneSourceText : Language → Report → Report → Type 0
-OneSourceText L r s = (o : Options) (source : List ℕ) → HasOneTree L source → IsReportOf L o source r → IsReportOf L o source s → IsReadable r → IsReadable s → report_text r ≡ report_text s → r ≡ s
+OneSourceText L r s = (o : Options) (source : List ℕ) → HasOneTree L source → IsReportOf L o source r →
+    IsReportOf L o source s → IsReadable r → IsReadable s → report_text r ≡ report_text s → r ≡ s

@@ -21,19 +21,43 @@ domain_of Box = report.box
 domain_of Oct = report.oct
 
 abbrev pub options_of : Options → report.Options
-options_of o = record { domain = domain_of o.domain; parts = o.parts; delay = o.delay; narrow = o.narrow; limited = o.limited }
+options_of o = record {
+  domain = domain_of o.domain;
+  parts = o.parts;
+  delay = o.delay;
+  narrow = o.narrow;
+  limited = o.limited;
+}
 
 abbrev pub point_of : Point → run.Point
 point_of p = record { path = p.path.items; label = p.label }
 
 abbrev pub point_report_of : PointReport → report.PointReport
-point_report_of p = record { number = p.number; point = point_of p.point; path = string_bytes p.path; place = p.place; names = p.names; state = p.state.items }
+point_report_of p = record {
+  number = p.number;
+  point = point_of p.point;
+  path = string_bytes p.path;
+  place = p.place;
+  names = p.names;
+  state = p.state.items;
+}
 
 abbrev pub verdict_of : Verdict → report.Verdict
-verdict_of v = record { number = v.number; point = point_of v.point; path = string_bytes v.path; place = v.place; proved = v.proved }
+verdict_of v = record {
+  number = v.number;
+  point = point_of v.point;
+  path = string_bytes v.path;
+  place = v.place;
+  proved = v.proved;
+}
 
 abbrev pub report_of : Report → report.Report
-report_of r = record { options = options_of r.options; flagged = r.flagged; points = map point_report_of r.points.items; verdicts = map verdict_of r.verdicts.items }
+report_of r = record {
+  options = options_of r.options;
+  flagged = r.flagged;
+  points = map point_report_of r.points.items;
+  verdicts = map verdict_of r.verdicts.items;
+}
 
 abbrev pub call_place_of : CallPlace → written.CallPlace
 call_place_of c = record { name = string_bytes c.name; place = c.place }

@@ -2,12 +2,14 @@
 
 ghost use Rattle.std.specs.Prelude.{◌≡◌, [], MatchOption, length};
 ghost use Rattle.lra_sys.specs.Listed.{FitKinds};
-ghost use Rattle.lra_report.specs.Rows.{shown_rows, shown_generators, optional_generators, FitOptionally, IsPartInRange};
+ghost use Rattle.lra_report.specs.Rows.{shown_rows, shown_generators, optional_generators, FitOptionally};
+ghost use Rattle.lra_report.specs.Rows.{IsPartInRange};
 
 use lra_sys::{ConSys, GenSys};
 use std::marker::Model;
 
-/// A conjunction of rows, and over polyhedra its generators: a point's divisor is above 0, a ray and a line have 0 there.
+/// A conjunction of rows, and over polyhedra its generators: a point's divisor is above 0, a ray and a line have 0
+/// there.
 pub struct Part {
     rows: ConSys,
     generators: Option<GenSys>,
@@ -28,7 +30,10 @@ impl Model for Part {
 
     ghost Value = { report.Part };
 
-    ghost view = { λ p. record { rows = shown_rows p.rows.rows p.rows.kinds; generators = optional_generators p.generators } };
+    ghost view = { λ p. record {
+      rows = shown_rows p.rows.rows p.rows.kinds;
+      generators = optional_generators p.generators;
+    } };
 
     ghost invariant = { λ p. FitOptionally p.generators };
 }
@@ -55,7 +60,8 @@ impl Part {
 
     /// The generators, in order, where there is a list of them.
     pub fn generators(&self) -> Option<&GenSys>
-        ensures shown { MatchOption result (self.now.generators ≡ []) (λ g. shown_generators g.now.rows g.now.kinds ≡ self.now.generators) }
+        ensures shown { MatchOption result (self.now.generators ≡ [])
+            (λ g. shown_generators g.now.rows g.now.kinds ≡ self.now.generators) }
         ensures fit { MatchOption result Unit (λ g. FitKinds g.now.rows g.now.kinds) }
     {
         match &self.generators {

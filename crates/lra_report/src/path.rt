@@ -22,7 +22,8 @@ impl Drop for CallPlace {
 
 /// Appends a call.
 fn push_call(text: &mut String, call: &CallPlace) -> Result<(), AllocError>
-    ensures { OnOk result (string_bytes text.new ≡ string_bytes text.old ++ (codes "/" ++ (call_place_of call.now).name ++ codes "@" ++ written.place_text call.now.place)) }
+    ensures { OnOk result (string_bytes text.new ≡ string_bytes text.old ++
+        (codes "/" ++ (call_place_of call.now).name ++ codes "@" ++ written.place_text call.now.place)) }
 {
     let name = call.name.as_str();
     let line = call.place.line;

@@ -36,8 +36,8 @@ impl Drop for Point {
     }
 }
 
-/// A point with its number, its path and place as they are printed, the printed names of its variables, and its state: one of the
-/// parts holds, and no part says that no run comes here.
+/// A point with its number, its path and place as they are printed, the printed names of its variables, and its state:
+/// one of the parts holds, and no part says that no run comes here.
 pub struct PointReport {
     pub number: u32,
     pub point: Point,

@@ -99,7 +99,9 @@ fn one_variable(rt: HostRuntime) -> Result<(), Fail> {
     assert_eq!(rt; written.len(), 231);
     assert_eq!(rt;
         written.as_str(),
-        "analysis box parts 1 delay 1 narrow 1 limited no\nflagged 0\npoint 1 main 1:22\n  row true\npoint 2 main 1:25\n  row true\npoint 3 main 1:32\n  row x = 3\npoint 4 main 1:48\n  row x = 3\nassert 3 main 1:32 proved\nverdicts proved 1 unknown 0\n"
+        "analysis box parts 1 delay 1 narrow 1 limited no\nflagged 0\npoint 1 main 1:22\n  row true\n\
+            point 2 main 1:25\n  row true\npoint 3 main 1:32\n  row x = 3\npoint 4 main 1:48\n  row x = 3\n\
+            assert 3 main 1:32 proved\nverdicts proved 1 unknown 0\n"
     );
     Ok(())
 }
@@ -174,7 +176,10 @@ fn two_parts(rt: HostRuntime) -> Result<(), Fail> {
     };
     assert_eq!(rt;
         text(alloc, &report)?.as_str(),
-        "analysis poly parts 2 delay 0 narrow 4 limited yes\nflagged at point 2\npoint 1 main/inc@1:61 1:22\n  row x~1 - x <= -1\n  gen point x~1=0 x=1\n  gen ray x~1=0 x=1\n  gen line x~1=1 x=1\n  or\n  row x~1 - x >= 1\n  gen point x~1=1/2 x=0\n  gen line x~1=1 x=1\npoint 2 main 3:9\n  unreachable\nassert 1 main/inc@1:61 1:22 unknown\nverdicts proved 0 unknown 1\n"
+        "analysis poly parts 2 delay 0 narrow 4 limited yes\nflagged at point 2\n\
+            point 1 main/inc@1:61 1:22\n  row x~1 - x <= -1\n  gen point x~1=0 x=1\n  gen ray x~1=0 x=1\n  gen line \
+            x~1=1 x=1\n  or\n  row x~1 - x >= 1\n  gen point x~1=1/2 x=0\n  gen line x~1=1 x=1\n\
+            point 2 main 3:9\n  unreachable\nassert 1 main/inc@1:61 1:22 unknown\nverdicts proved 0 unknown 1\n"
     );
     Ok(())
 }

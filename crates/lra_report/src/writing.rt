@@ -25,7 +25,8 @@ fn push_row(
     kind: ConKind,
     names: &Names,
 ) -> Result<(), AllocError>
-    ensures { OnOk result (string_bytes text.new ≡ string_bytes text.old ++ row_line names.now (report_row row.now kind)) }
+    ensures { OnOk result (string_bytes text.new ≡ string_bytes text.old ++
+        row_line names.now (report_row row.now kind)) }
 {
     let shown = row_text(alloc, row, kind, names)?;
     let shown = shown.as_str();
@@ -41,7 +42,8 @@ fn push_each_row(
     names: &Names,
 ) -> Result<(), AllocError>
     requires { length kinds.now ≡ length rows.now }
-    ensures { OnOk result (string_bytes text.new ≡ string_bytes text.old ++ flat_map (row_line names.now) (shown_rows rows.now kinds.now)) }
+    ensures { OnOk result (string_bytes text.new ≡ string_bytes text.old ++
+        flat_map (row_line names.now) (shown_rows rows.now kinds.now)) }
 {
     for (index, row) in rows.iter().enumerate() {
         push_row(text, alloc, row, kinds[index], names)?;
@@ -56,7 +58,8 @@ pub fn push_rows(
     rows: &ConSys,
     names: &Names,
 ) -> Result<(), AllocError>
-    ensures { OnOk result (string_bytes text.new ≡ string_bytes text.old ++ written.rows_text names.now (shown_rows rows.now.rows rows.now.kinds)) }
+    ensures { OnOk result (string_bytes text.new ≡ string_bytes text.old ++
+        written.rows_text names.now (shown_rows rows.now.rows rows.now.kinds)) }
 {
     if rows.rows().is_empty() {
         writeln!(text, "  row true")
@@ -74,7 +77,8 @@ fn push_generator(
     names: &Names,
 ) -> Result<(), AllocError>
     requires { FitsKind kind row.now }
-    ensures { OnOk result (string_bytes text.new ≡ string_bytes text.old ++ generator_line names.now (report_generator row.now kind)) }
+    ensures { OnOk result (string_bytes text.new ≡ string_bytes text.old ++
+        generator_line names.now (report_generator row.now kind)) }
 {
     let shown = generator_text(alloc, row, kind, names)?;
     let shown = shown.as_str();
@@ -91,7 +95,8 @@ pub fn push_generators(
 ) -> Result<(), AllocError>
     requires length { length kinds.now ≡ length rows.now }
     requires fit { FitKinds rows.now kinds.now }
-    ensures { OnOk result (string_bytes text.new ≡ string_bytes text.old ++ flat_map (generator_line names.now) (shown_generators rows.now kinds.now)) }
+    ensures { OnOk result (string_bytes text.new ≡ string_bytes text.old ++
+        flat_map (generator_line names.now) (shown_generators rows.now kinds.now)) }
 {
     for (index, row) in rows.iter().enumerate() {
         push_generator(text, alloc, row, kinds[index], names)?;
@@ -123,7 +128,8 @@ fn push_further_parts(
     parts: &[Part],
     names: &Names,
 ) -> Result<(), AllocError>
-    ensures { OnOk result (string_bytes text.new ≡ string_bytes text.old ++ written.further_parts_text names.now parts.now) }
+    ensures { OnOk result (string_bytes text.new ≡ string_bytes text.old ++
+        written.further_parts_text names.now parts.now) }
 {
     for part in parts {
         writeln!(text, "  or")?;
@@ -158,7 +164,8 @@ fn push_heading(
     path: &str,
     place: Place,
 ) -> Result<(), AllocError>
-    ensures { OnOk result (string_bytes text.new ≡ string_bytes text.old ++ heading_text word.now number path.now place) }
+    ensures { OnOk result (string_bytes text.new ≡ string_bytes text.old ++
+        heading_text word.now number path.now place) }
 {
     let line = place.line;
     let column = place.column;
@@ -167,7 +174,8 @@ fn push_heading(
 
 /// Appends the lines of a point.
 fn push_point(text: &mut String, alloc: Global, point: &PointReport) -> Result<(), AllocError>
-    ensures { OnOk result (string_bytes text.new ≡ string_bytes text.old ++ written.point_text (point_report_of point.now)) }
+    ensures { OnOk result (string_bytes text.new ≡ string_bytes text.old ++
+        written.point_text (point_report_of point.now)) }
 {
     push_heading(
         text,
@@ -182,7 +190,8 @@ fn push_point(text: &mut String, alloc: Global, point: &PointReport) -> Result<(
 
 /// Appends the line of an assertion.
 fn push_verdict(text: &mut String, verdict: &Verdict) -> Result<(), AllocError>
-    ensures { OnOk result (string_bytes text.new ≡ string_bytes text.old ++ written.verdict_text (verdict_of verdict.now)) }
+    ensures { OnOk result (string_bytes text.new ≡ string_bytes text.old ++
+        written.verdict_text (verdict_of verdict.now)) }
 {
     push_heading(
         text,
@@ -200,7 +209,8 @@ fn push_verdict(text: &mut String, verdict: &Verdict) -> Result<(), AllocError>
 
 /// Appends the lines of the points.
 fn push_points(text: &mut String, alloc: Global, points: &[PointReport]) -> Result<(), AllocError>
-    ensures { OnOk result (string_bytes text.new ≡ string_bytes text.old ++ flat_map written.point_text (map point_report_of points.now)) }
+    ensures { OnOk result (string_bytes text.new ≡ string_bytes text.old ++
+        flat_map written.point_text (map point_report_of points.now)) }
 {
     for point in points {
         push_point(text, alloc, point)?;
@@ -210,7 +220,8 @@ fn push_points(text: &mut String, alloc: Global, points: &[PointReport]) -> Resu
 
 /// Appends the lines of the assertions.
 fn push_verdicts(text: &mut String, verdicts: &[Verdict]) -> Result<(), AllocError>
-    ensures { OnOk result (string_bytes text.new ≡ string_bytes text.old ++ flat_map written.verdict_text (map verdict_of verdicts.now)) }
+    ensures { OnOk result (string_bytes text.new ≡ string_bytes text.old ++
+        flat_map written.verdict_text (map verdict_of verdicts.now)) }
 {
     for verdict in verdicts {
         push_verdict(text, verdict)?;
@@ -255,7 +266,8 @@ fn push_flag(text: &mut String, flagged: Option<u32>) -> Result<(), AllocError>
 
 /// Appends the last line.
 fn push_counts(text: &mut String, report: &Report) -> Result<(), AllocError>
-    ensures { OnOk result (string_bytes text.new ≡ string_bytes text.old ++ counts_line (report_of report.now).verdicts) }
+    ensures { OnOk result (string_bytes text.new ≡ string_bytes text.old ++
+        counts_line (report_of report.now).verdicts) }
 {
     let proved = report.proved_count();
     let unknown = report.unknown_count();

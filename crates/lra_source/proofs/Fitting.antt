@@ -10,7 +10,9 @@ use Rattle.lra_tree.specs.Step.{Op, append, give, give_any, push, keep, test, Ba
 use Rattle.lra_tree.specs.Graph.{Exit, broken, continued, returned, Node, empty, point, act, check, seq, choose, catch, leave}
 use Rattle.lra_tree.specs.Sites.{Site, sites_of}
 use Rattle.lra_tree.specs.Sites as sites
-use Rattle.lra_tree.specs.Inlined.{Frame, callee, Inl, InlAll, Declares, Loops, Gives, as_nothing, as_block, as_absent, as_assign, as_call, as_if, as_loop, as_for, as_break, as_continue, as_return, as_return_value, as_return_call, as_end, as_end_value, as_end_call, as_assert, as_assume, as_none, as_declaration, as_statement, as_fresh, as_given, is_loop, as_value, as_result, loop_node, call_node, return_node, main_frame}
+use Rattle.lra_tree.specs.Inlined.{Frame, callee, Inl, InlAll, Declares, Loops, Gives, as_nothing, as_block, as_absent, as_assign, as_call, as_if, as_loop, as_for, as_break, as_continue, as_return}
+use Rattle.lra_tree.specs.Inlined.{as_return_value, as_return_call, as_end, as_end_value, as_end_call, as_assert, as_assume, as_none, as_declaration, as_statement, as_fresh, as_given, is_loop}
+use Rattle.lra_tree.specs.Inlined.{as_value, as_result, loop_node, call_node, return_node, main_frame}
 use Rattle.lra_tree.specs.Agree.{IsGraph}
 use Rattle.lra_tree.specs.WellFormed.{IsLive, IsGoodSource, IsGoodGiven, IsGoodStmt, AreGoodItems, IsGoodFunction, IsWellFormed}
 use Rattle.lra_change.specs.Changes.{dims_behind, PlaceFits, OpFits}
@@ -274,7 +276,8 @@ module _ (P : Program) (T : List Site) (few : AllFew T) (well : IsWellFormed P) 
     fit_one (as_return_value f n q at e b i k j) l own st fw good =
         seq_fit _ _ fw (point_fit q) (return_node_fit q _ b i k fw (give_fit q f.here.base b.target e (place_more b.target b.length n k (st.target b i))))
     fit_one (as_return_call f n q at c b g q' i k j d) l own st fw good =
-        seq_fit _ _ fw (point_fit q) (seq_fit _ _ fw (fit_gives d at own st fw (place_more b.target b.length n k (st.target b i)) good) (seq_fit _ _ (omega arith) (keep_fit q b.length k) (return_fit b fw i)))
+        seq_fit _ _ fw (point_fit q) (seq_fit _ _ fw (fit_gives d at own st fw (place_more b.target b.length n k (st.target b i)) good)
+        (seq_fit _ _ (omega arith) (keep_fit q b.length k) (return_fit b fw i)))
     fit_one (as_end f n q at i j) l own st fw good = seq_fit _ _ fw (point_fit q) (end_fit fw i)
     fit_one (as_end_value f n q at e i j) l own st fw good = seq_fit _ _ fw (point_fit q) (end_fit fw i)
     fit_one (as_end_call f n q at c g q' i j d) l own st fw good = seq_fit _ _ fw (point_fit q) (seq_fit _ _ fw (fit_gives d at own st fw tt good) (end_fit fw i))
@@ -293,7 +296,8 @@ module _ (P : Program) (T : List Site) (few : AllFew T) (well : IsWellFormed P) 
         let now : Few n = omega arith in
         seq_fit _ _ now (fit_one d l own st now good.0) (fit_all e l own st fw good.1)
 
-    fit_declares : {f : Frame} {n q r : ℕ} {e : Option Source} {g : Node} {q' : ℕ} → Declares P T f n q r e g q' → (at own : ℕ) → Standing P f n own → Few (suc n) → IsGoodGiven P at (suc own) e → Fit f n (suc n) g
+    fit_declares : {f : Frame} {n q r : ℕ} {e : Option Source} {g : Node} {q' : ℕ} → Declares P T f n q r e g q' → (at own : ℕ) → Standing P f n own → Few (suc n) → IsGoodGiven P at (suc own) e →
+        Fit f n (suc n) g
     fit_declares (as_fresh f n q r) at own st fw good = append_fit q fw
     fit_declares (as_given f n q r e g q' d) at own st fw good =
         seq_fit _ _ fw (append_fit q fw) (fit_gives d at (suc own) (one_more P f n own st) fw (let last : n < suc n = omega arith in last) good)
@@ -303,7 +307,8 @@ module _ (P : Program) (T : List Site) (few : AllFew T) (well : IsWellFormed P) 
         let fw : Few n = few q _ i in
         loop_fit f n g h fw (fit_one e true own (other_loop P f n own (Some n) st) fw good.1) (fit_one d false own (other_loop P f n own None st) fw good.2) q f.here.base c
 
-    fit_gives : {f : Frame} {n q r : ℕ} {x : Option ℕ} {e : Source} {g : Node} {q' : ℕ} → Gives P T f n q r x e g q' → (at own : ℕ) → Standing P f n own → Few n → PlaceFits x n → IsGoodSource P at own e → Fit f n n g
+    fit_gives : {f : Frame} {n q r : ℕ} {x : Option ℕ} {e : Source} {g : Node} {q' : ℕ} → Gives P T f n q r x e g q' → (at own : ℕ) → Standing P f n own → Few n → PlaceFits x n →
+        IsGoodSource P at own e → Fit f n n g
     fit_gives (as_value f n q r x e) at own st fw place good = give_fit q f.here.base x e place
     fit_gives (as_result f n q r x c fn g n' r' i j d k) at own st fw place good =
         let fw' : Few n' = few r' _ k in

@@ -6,7 +6,9 @@ use Rattle.lra_domain.specs.declared.Exactness.TheVariants.{Exact, Flagged}
 use Rattle.lra_tree.specs.Program.{Cond, Source, Stmt, BlockItems, Program}
 use Rattle.lra_tree.specs.Graph.{Exit, broken, continued, returned, Node, empty, point, act, check, seq, choose, iterate, catch, leave}
 use Rattle.lra_tree.specs.Sites.{Site, sites_of}
-use Rattle.lra_tree.specs.Inlined.{Frame, HasSite, Inl, InlAll, Declares, Loops, Gives, as_nothing, as_block, as_absent, as_assign, as_call, as_if, as_loop, as_for, as_break, as_continue, as_return, as_return_value, as_return_call, as_end, as_end_value, as_end_call, as_assert, as_assume, as_none, as_declaration, as_statement, as_fresh, as_given, is_loop, as_value, as_result}
+use Rattle.lra_tree.specs.Inlined.{Frame, HasSite, Inl, InlAll, Declares, Loops, Gives, as_nothing, as_block, as_absent, as_assign, as_call, as_if, as_loop, as_for, as_break, as_continue, as_return}
+use Rattle.lra_tree.specs.Inlined.{as_return_value, as_return_call, as_end, as_end_value, as_end_call, as_assert, as_assume, as_none, as_declaration, as_statement, as_fresh, as_given, is_loop}
+use Rattle.lra_tree.specs.Inlined.{as_value, as_result}
 use Rattle.lra_tree.specs.Agree.{IsGraph}
 use Rattle.lra_flow.specs.declared.Settings.{Settings}
 use Rattle.lra_flow.specs.Operations.{Operations}
@@ -114,7 +116,8 @@ module _ (V H : Type 0) (ops : Operations V H) (n : ℕ) where
   pass_below set (seq x y) f v r (s, t, one, two, is) a b =
       result_is r _ is (pass_below set y s.flag s.normal t two a.1 (pass_below set x f v s one a.0 b))
   pass_below set (choose q base c x y) f v r (on, off, w, d, e, i, s, t, is_on, one, is_off, two, joined, is) a b =
-      result_is r _ is (noted_below n q i t.flag a.0 (pass_below set y (noted q e s.flag) off t two a.2 (noted_below n q e s.flag a.0 (pass_below set x (noted q d f) on s one a.1 (noted_below n q d f a.0 b)))))
+      result_is r _ is (noted_below n q i t.flag a.0 (pass_below set y (noted q e s.flag) off t two a.2
+      (noted_below n q e s.flag a.0 (pass_below set x (noted q d f) on s one a.1 (noted_below n q d f a.0 b)))))
   pass_below set (iterate q base c x) f v r (h, later, u, top, out, s, t, e, started, grown, narrowed, off, is) a b =
       let g = grows_below q base c (Pass V H ops set x) a.0 (λ f' v' r' p k. pass_below set x f' v' r' p a.1 k) set.limited set.delay f h later u s grown b in
       let m = narrows_below q base c (Pass V H ops set x) a.0 (λ f' v' r' p k. pass_below set x f' v' r' p a.1 k) set.narrow v u s top t narrowed g in

@@ -6,7 +6,9 @@ use Rattle.std.proofs.lemmas.Option.{none-some, slice_get_within}
 use Rattle.lra_tree.specs.Program.{Source, Stmt, BlockItems, Program}
 use Rattle.lra_tree.specs.Graph.{Node, seq, point}
 use Rattle.lra_tree.specs.Sites.{Site, sites_of}
-use Rattle.lra_tree.specs.Inlined.{Frame, callee, Has, HasSite, Inl, InlAll, Declares, Loops, Gives, as_nothing, as_block, as_absent, as_assign, as_call, as_if, as_loop, as_for, as_break, as_continue, as_return, as_return_value, as_return_call, as_end, as_end_value, as_end_call, as_assert, as_assume, as_none, as_declaration, as_statement, as_fresh, as_given, is_loop, as_value, as_result, main_frame}
+use Rattle.lra_tree.specs.Inlined.{Frame, callee, Has, HasSite, Inl, InlAll, Declares, Loops, Gives, as_nothing, as_block, as_absent, as_assign, as_call, as_if, as_loop, as_for, as_break, as_continue}
+use Rattle.lra_tree.specs.Inlined.{as_return, as_return_value, as_return_call, as_end, as_end_value, as_end_call, as_assert, as_assume, as_none, as_declaration, as_statement, as_fresh, as_given}
+use Rattle.lra_tree.specs.Inlined.{is_loop, as_value, as_result, main_frame}
 use Rattle.lra_tree.specs.Agree.{IsGraph}
 use Rattle.lra_iter.specs.Numbers.{one_if, values_in, checks_in, asserts_of, IsNumbered}
 use Rattle.lra_iter.proofs.Counting.{one_same, one_other}
@@ -22,7 +24,8 @@ no_count w a k = record { inside = λ h i. absurd (omega (arith, h, i)); before 
 
 both_counts : (w c d x a m b k : ℕ) → a ≤ m → m ≤ b → Counts w c a m k → Counts w d m b k → x ≡ c + d → Counts w x a b k
 both_counts w c d x a m b k l h p q e = record {
-  inside = λ i j. elim (cases_lt k m) [ inl n ↦ (let f = p.inside i n in let g = q.before n in omega (arith, f, g, e)) | inr n ↦ (let f = p.behind n in let g = q.inside n j in omega (arith, f, g, e)) ];
+  inside = λ i j. elim (cases_lt k m)
+      [ inl n ↦ (let f = p.inside i n in let g = q.before n in omega (arith, f, g, e)) | inr n ↦ (let f = p.behind n in let g = q.inside n j in omega (arith, f, g, e)) ];
   before = λ i. let f = p.before i in let g = q.before (omega (arith, i, l)) in omega (arith, f, g, e);
   behind = λ i. let f = p.behind (omega (arith, i, h)) in let g = q.behind i in omega (arith, f, g, e);
 }

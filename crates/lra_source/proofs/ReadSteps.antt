@@ -53,5 +53,6 @@ tree_refused source t c at has fault = bad_tree has.tokens t c at has.not_long h
 pub ruleset lexing = (tokens_refused)
 
 -- the fault of a text, where that is the answer
-pub fault_of : (tokens : List Token) (e : ParseError) (r : Refusal) → e ≡ Refused r → IfRefusal (λ (x : Refusal). IsTextFault Spells tokens x.cause x.place) e → IsTextFault Spells tokens r.cause r.place
+pub fault_of : (tokens : List Token) (e : ParseError) (r : Refusal) → e ≡ Refused r → IfRefusal (λ (x : Refusal). IsTextFault Spells tokens x.cause x.place) e →
+    IsTextFault Spells tokens r.cause r.place
 fault_of tokens e r is fault = subst (IfRefusal (λ (x : Refusal). IsTextFault Spells tokens x.cause x.place)) is fault

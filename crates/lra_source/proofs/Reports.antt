@@ -73,7 +73,8 @@ module _ {V H : Type 0} (m : Meaning V H) (laws : Laws m) (domain : Domain) (sho
       let same : v ≡ w = same_Some v w (sym found ∙ found') in
       subst (λ (y : State). Holds y store) (sym (state ∙ ap shown (sym same))) ((are v (contained x.values k v found)).holds store has)
 
-  right : (k : ℕ) (a : ℕ × Site) (v : Verdict) → slice_get (assertions_from 1 (sites_of (resolve t))) k ≡ Some a → slice_get r.verdicts k ≡ Some v → (v.number ≡ a.0) × (v.point ≡ point_of a.1) → IsRight (resolve t) v
+  right : (k : ℕ) (a : ℕ × Site) (v : Verdict) → slice_get (assertions_from 1 (sites_of (resolve t))) k ≡ Some a → slice_get r.verdicts k ≡ Some v → (v.number ≡ a.0) × (v.point ≡ point_of a.1) →
+      IsRight (resolve t) v
   right k a v there listed (number, point) proved fails =
       let (q, is, site) = assertion_site 1 (sites_of (resolve t)) k a there in
       let (y, found, told) = map_at verdict_told told_verdict r.verdicts x.verdicts x.proved k v listed in
@@ -104,7 +105,8 @@ module _ {V H : Type 0} (m : Meaning V H) (laws : Laws m) (domain : Domain) (sho
       let low : 0 < length (sites_of (resolve t)) = omega (arith, x.is_graph.all) in
       let below = iteration_below V H (dropping m) (length (sites_of (resolve t))) settings (resolve t) x.tree x.result low (graph_below (resolve t) x.tree x.is_graph) x.derived in
       let long : length r.points ≡ length (sites_of (resolve t)) = listed_length (globals_named t.parts) (labels_of t) 1 (sites_of (resolve t)) r.points lists.points in
-      let there : IsBelow (length r.points) x.flagged = subst (λ (n : ℕ). IsBelow n x.flagged) (sym long) (subst (λ (o : Option ℕ). IsBelow (length (sites_of (resolve t))) o) (sym x.solves.is_flagged) below) in
+      let there : IsBelow (length r.points) x.flagged = subst (λ (n : ℕ). IsBelow n x.flagged) (sym long)
+      (subst (λ (o : Option ℕ). IsBelow (length (sites_of (resolve t))) o) (sym x.solves.is_flagged) below) in
       subst (λ (o : Option ℕ). IsFlag (length r.points) o) (sym x.flag) (is_flag (length r.points) x.flagged there)
 
   -- no more parts than the value's cap, each over the variables that are named
@@ -137,7 +139,8 @@ module _ {V H : Type 0} (m : Meaning V H) (laws : Laws m) (domain : Domain) (sho
 -- analyses -----------------------------------------------------------------------------------------------------------
 
 -- a derivation with drops whose values, verdicts and flag a report tells
-pub analysed : {V H : Type 0} (m : Meaning V H) → Laws m → (shown : V → State) (settings : Settings) (P : Program) (r : Report) (tree : Node) (result : Result V) (values : List V) (verdicts : List (ℕ × Bool)) (flagged : Option ℕ)
+pub analysed : {V H : Type 0} (m : Meaning V H) → Laws m → (shown : V → State) (settings : Settings) (P : Program) (r : Report) (tree : Node) (result : Result V) (values : List V)
+    (verdicts : List (ℕ × Bool)) (flagged : Option ℕ)
     → IsGraph P tree → Derivation m settings P tree result → Solves m result values verdicts flagged
     → map (λ (p : PointReport). p.state) r.points ≡ map shown values → map verdict_told r.verdicts ≡ map told_verdict verdicts → r.flagged ≡ option_map suc flagged
     → IsAnalysed m shown settings P r

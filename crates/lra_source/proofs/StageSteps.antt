@@ -66,7 +66,8 @@ pub ruleset recursing = (none_recursive, recursive_refused)
 
 -- trees of operations ------------------------------------------------------------------------------------------------
 
-pub has_graph : (t : FileTree) (P : Program) (g : Node) (sites : List Site) → P ≡ resolve t → name_faults t ≡ [] → NotRecursive t → IsWellFormed (resolve t) → IsGraph P g → Agrees P g → sites ≡ sites_of P
+pub has_graph : (t : FileTree) (P : Program) (g : Node) (sites : List Site) → P ≡ resolve t → name_faults t ≡ [] → NotRecursive t → IsWellFormed (resolve t) → IsGraph P g → Agrees P g →
+    sites ≡ sites_of P
     → AreFew (sites_of P) → ((ls : List Labelled) → limit_fault ls 0 (events_of P) ≡ None) → HasGraph t g sites
 has_graph t P g sites is names straight well graph agrees points few within = record {
   names = names;
@@ -89,7 +90,8 @@ pub limit_refused : (t : FileTree) (P : Program) (x : Limit) (r : Refusal) (labe
     → RefusesTree t r.cause r.place
 limit_refused t P x r labels is names straight passed walk told_by =
     let same : r ≡ refusal_of (labels_of t) x = told_by (labels_of t) walk in
-    let there : limit_fault (labels_of t) 0 (events_of (resolve t)) ≡ Some (refusal_of (labels_of t) x) = subst (λ (Q : Program). limit_fault (labels_of t) 0 (events_of Q) ≡ Some (refusal_of (labels_of t) x)) is (passed (labels_of t)) in
+    let there : limit_fault (labels_of t) 0 (events_of (resolve t)) ≡ Some (refusal_of (labels_of t) x) =
+    subst (λ (Q : Program). limit_fault (labels_of t) 0 (events_of Q) ≡ Some (refusal_of (labels_of t) x)) is (passed (labels_of t)) in
     past_limit r names straight (there ∙ ap Some (sym same))
 
 -- answers ------------------------------------------------------------------------------------------------------------

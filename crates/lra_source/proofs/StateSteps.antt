@@ -22,7 +22,8 @@ pushed old new p ys y so_far is rows none =
 pub pushed_in_range : (old new : List Part) (p : Part) → AllByRecursion IsPartInRange old → new ≡ old ++ p ∷ [] → IsPartInRange p → AllByRecursion IsPartInRange new
 pushed_in_range old new p so_far is one = subst (AllByRecursion IsPartInRange) (sym is) (every_append IsPartInRange old (p ∷ []) so_far (one, tt))
 
-pub all_pushed_in_range : {X : Type 0} (state : X → List Part) (old new : List X) (x : X) → AllByRecursion (AllByRecursion IsPartInRange) (map state old) → new ≡ old ++ x ∷ [] → AllByRecursion IsPartInRange (state x)
+pub all_pushed_in_range : {X : Type 0} (state : X → List Part) (old new : List X) (x : X) → AllByRecursion (AllByRecursion IsPartInRange) (map state old) → new ≡ old ++ x ∷ [] →
+    AllByRecursion IsPartInRange (state x)
     → AllByRecursion (AllByRecursion IsPartInRange) (map state new)
 all_pushed_in_range state old new x so_far is one =
     subst (AllByRecursion (AllByRecursion IsPartInRange)) (sym (ap (map state) is ∙ map-append state old (x ∷ [])))

@@ -1,5 +1,5 @@
--- What a report tells of the iteration over a program: what is shown of each point's value, the verdicts, the first flagged
--- point.
+-- What a report tells of the iteration over a program: what is shown of each point's value, the verdicts, the first
+-- flagged point.
 use Rattle.std.specs.Prelude.{◌≡◌, ℕ, suc, List, map, Bool, Option, None, Some, option_map}
 use Rattle.lra_domain.specs.Meaning.{Meaning}
 use Rattle.lra_tree.specs.Program.{Program}
@@ -28,7 +28,8 @@ pub record IsAnalysed {V H : Type 0} (m : Meaning V H) (shown : V → State) (se
   pub verdicts : List (ℕ × Bool)
   pub flagged : Option ℕ
   pub solves : Solves m result values verdicts flagged
-  -- a derivation with drops; without a flag the written iteration; the first flag is where the written iteration strains
+  -- a derivation with drops; without a flag the written iteration; the first flag is where the written iteration
+  -- strains
   pub derived : Derivation m settings P tree result
   pub written : flagged ≡ None → Written m settings P tree result
   pub strained : (q : ℕ) → flagged ≡ Some q → Strains m settings P tree q

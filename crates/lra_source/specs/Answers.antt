@@ -18,8 +18,8 @@ use Rattle.lra_source.specs.declared.error.SourceError.TheVariants.{Refused, Mem
 abbrev pub settings_of : Options → Settings
 settings_of o = record { parts = o.parts; delay = o.delay; narrow = o.narrow; limited = o.limited }
 
--- a report of the source that tells an analysis over this domain; it is told by its text, which has numbers of the range
--- and each part as wide as its point has names
+-- a report of the source that tells an analysis over this domain; it is told by its text, which has numbers of the
+-- range and each part as wide as its point has names
 pub record IsAnsweredOver {V H : Type 0} (m : Meaning V H) (shown : V → State) (domain : Domain) (o : Options)
     (source : List ℕ) (r : Report) : Type 0 where
   pub domain_is : o.domain ≡ domain

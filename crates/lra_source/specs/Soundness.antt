@@ -11,17 +11,20 @@ use Rattle.lra_flow.specs.declared.Settings.{Settings}
 use Rattle.lra_flow.specs.Analysis.{IsUnreachable}
 use Rattle.lra_iter.specs.Solved.{IsSolved}
 
--- the value at a point has each store that a run brings there, no assertion that is proved fails, and no run comes where
--- the value has no part
-pub record HoldsInRuns {V H : Type 0} (m : Meaning V H) (P : Program) (values : List V) (verdicts : List (ℕ × Bool)) : Type 0 where
+-- the value at a point has each store that a run brings there, no assertion that is proved fails, and no run comes
+-- where the value has no part
+pub record HoldsInRuns {V H : Type 0} (m : Meaning V H) (P : Program) (values : List V)
+    (verdicts : List (ℕ × Bool)) : Type 0 where
   pub stores : (q : ℕ) (s : Site) (store : List ℤ) → slice_get (sites_of P) q ≡ Some s → At P (point_of s) store
       → (v : V) × (slice_get values q ≡ Some v) × m.has v store × (length store ≡ m.dims v)
-  pub proved : (q : ℕ) (s : Site) → slice_get (sites_of P) q ≡ Some s → Contains verdicts (q, true) → Fails P (point_of s) → ⊥
+  pub proved : (q : ℕ) (s : Site) → slice_get (sites_of P) q ≡ Some s → Contains verdicts (q, true) →
+      Fails P (point_of s) → ⊥
   pub unreached : (q : ℕ) (s : Site) (v : V) (store : List ℤ) → slice_get (sites_of P) q ≡ Some s
       → slice_get values q ≡ Some v → IsUnreachable m v → At P (point_of s) store → ⊥
 
 -- so it is with what is found over a tree that agrees with its program's runs
 abbrev pub SolvedAreSound : {V H : Type 0} → Meaning V H → Type 0
 SolvedAreSound {V} m =
-    (settings : Settings) (P : Program) (tree : Node) (values : List V) (verdicts : List (ℕ × Bool)) (flagged : Option ℕ) → IsSolved m settings P tree values verdicts flagged → IsGraph P tree → Agrees P tree
+    (settings : Settings) (P : Program) (tree : Node) (values : List V) (verdicts : List (ℕ × Bool))
+    (flagged : Option ℕ) → IsSolved m settings P tree values verdicts flagged → IsGraph P tree → Agrees P tree
     → HoldsInRuns m P values verdicts

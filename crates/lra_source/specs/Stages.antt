@@ -30,8 +30,8 @@ pub record HasTree (source : List ℕ) (t : FileTree) : Type 0 where
   pub lexed : Lex source tokens
   pub parsed : IsTree Spells tokens t
 
--- a tree whose names have no fault, that has no recursion and whose program passes no limit, the tree of operations of that
--- program, and its points
+-- a tree whose names have no fault, that has no recursion and whose program passes no limit, the tree of operations of
+-- that program, and its points
 pub record HasGraph (t : FileTree) (tree : Node) (sites : List Site) : Type 0 where
   pub names : name_faults t ≡ []
   pub straight : NotRecursive t
@@ -42,8 +42,8 @@ pub record HasGraph (t : FileTree) (tree : Node) (sites : List Site) : Type 0 wh
   pub agrees : Agrees (resolve t) tree
   pub points : sites ≡ sites_of (resolve t)
 
--- a report that lists the points of such a tree, tells what an analysis of its program found over this domain, shows the
--- values as they are, and is told by its text
+-- a report that lists the points of such a tree, tells what an analysis of its program found over this domain, shows
+-- the values as they are, and is told by its text
 pub record IsToldOf {V H : Type 0} (m : Meaning V H) (shown : V → State) (domain : Domain) (o : Options) (t : FileTree)
     (r : Report) : Type 0 where
   pub names : name_faults t ≡ []

@@ -60,8 +60,8 @@ fn report_graph(
     Ok(report)
 }
 
-/// The report of a tree, or its refusal: its first fault of names, its first recursive call, or the first limit that its
-/// program passes.
+/// The report of a tree, or its refusal: its first fault of names, its first recursive call, or the first limit that
+/// its program passes.
 fn report_tree(alloc: Global, options: Options, tree: &Tree) -> Result<Report, SourceError>
     requires parts { 1 ≤ options.parts }
     requires well { name_faults (tree_view tree.now) ≡ [] → IsWellFormed (resolve (tree_view tree.now)) }
@@ -74,8 +74,8 @@ fn report_tree(alloc: Global, options: Options, tree: &Tree) -> Result<Report, S
     Ok(report_graph(alloc, options, tree, &program.globals, &graph)?)
 }
 
-/// The report of a source over boxes, or its one refusal; memory may be wanting. A source past the limit of 65,536 bytes is refused by its
-/// first bytes, so that no more than one byte past the limit need be given.
+/// The report of a source over boxes, or its one refusal; memory may be wanting. A source past the limit of 65,536
+/// bytes is refused by its first bytes, so that no more than one byte past the limit need be given.
 pub fn analyse_source(alloc: Global, options: Options, bytes: &[u8]) -> Result<Report, SourceError>
     requires domain { options.domain ≡ Box }
     requires parts { 1 ≤ options.parts }

@@ -38,8 +38,8 @@ pub fn trees_fit()
     ensures numbered { TreesAreNumbered }
 {}
 
-/// What a report tells of an analysis over a domain holds in all runs, and the report is one of its source, where values
-/// are shown as they are and have no more parts than the options say.
+/// What a report tells of an analysis over a domain holds in all runs, and the report is one of its source, where
+/// values are shown as they are and have no more parts than the options say.
 pub fn analyses_are_right<D: Domain>()
     ensures sound { AnalysedAreSound D.meaning }
     ensures reports { AnalysedAreReports D.meaning }
@@ -55,7 +55,8 @@ pub fn solved_are_sound<D: Domain>()
     ensures { SolvedAreSound D.meaning }
 {}
 
-/// Linear forms have the value of their expressions wherever it exists, and tests pass exactly where their comparisons are true.
+/// Linear forms have the value of their expressions wherever it exists, and tests pass exactly where their comparisons
+/// are true.
 pub fn forms_are_right()
     ensures forms { FormsAreRight }
     ensures tests { TestsAreRight }

@@ -2,7 +2,8 @@
 use Rattle.std.specs.Prelude.{◌⊎◌, ℕ, List}
 use Rattle.lra_source.specs.Claims.{HasRefusal, IsAccepted}
 use Rattle.lra_top.specs.declared.status.Status.{Status}
-use Rattle.lra_top.specs.declared.status.Status.TheVariants.{Proved, Unknown, Refused, Usage, ReadFault, WriteFault, Memory}
+use Rattle.lra_top.specs.declared.status.Status.TheVariants.{Proved, Unknown, Refused, Usage, ReadFault, WriteFault}
+use Rattle.lra_top.specs.declared.status.Status.TheVariants.{Memory}
 
 -- a text of a command's own is written
 abbrev pub IsAnswer : Status → Type 0

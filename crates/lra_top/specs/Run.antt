@@ -13,7 +13,8 @@ use Rattle.lra_words.specs.declared.chosen.Domain.TheVariants.{Poly, Box, Oct}
 use Rattle.lra_top.specs.SourceAnswer.{DeservesSource, limit}
 use Rattle.lra_top.specs.ScriptAnswer.{DeservesScript}
 use Rattle.lra_top.specs.declared.status.Status.{Status}
-use Rattle.lra_top.specs.declared.status.Status.TheVariants.{Proved, Unknown, Refused, Usage, ReadFault, WriteFault, Memory}
+use Rattle.lra_top.specs.declared.status.Status.TheVariants.{Proved, Unknown, Refused, Usage, ReadFault, WriteFault}
+use Rattle.lra_top.specs.declared.status.Status.TheVariants.{Memory}
 
 -- all bytes that are left of an input, where it tells them
 abbrev pub IsInput : Option (List ℕ) → List ℕ → Type 0
@@ -27,7 +28,13 @@ domain_of Box = report.box
 domain_of Oct = report.oct
 
 abbrev pub options_of : AnalyseOptions → report.Options
-options_of o = record { domain = domain_of o.domain; parts = o.parts; delay = o.delay; narrow = o.narrow; limited = o.limited }
+options_of o = record {
+  domain = domain_of o.domain;
+  parts = o.parts;
+  delay = o.delay;
+  narrow = o.narrow;
+  limited = o.limited;
+}
 
 -- the text and the status that the input of a command deserves
 abbrev pub DeservesInput : Command → List ℕ → List ℕ → Status → Type 0

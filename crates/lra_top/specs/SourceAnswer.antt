@@ -8,7 +8,8 @@ use Rattle.lra_tree.specs.Grammar.{Spells}
 use Rattle.lra_tree.specs.Refuse.{Refuse, refusal_text}
 use Rattle.lra_source.specs.Answers.{IsAnswered}
 use Rattle.lra_top.specs.declared.status.Status.{Status}
-use Rattle.lra_top.specs.declared.status.Status.TheVariants.{Proved, Unknown, Refused, Usage, ReadFault, WriteFault, Memory}
+use Rattle.lra_top.specs.declared.status.Status.TheVariants.{Proved, Unknown, Refused, Usage, ReadFault, WriteFault}
+use Rattle.lra_top.specs.declared.status.Status.TheVariants.{Memory}
 
 -- so many bytes an input may have
 abbrev pub limit : ℕ

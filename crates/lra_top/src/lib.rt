@@ -1,5 +1,5 @@
-//! The one call of the analyser: from the words of a command line and the bytes of its input to the text of a report, of a script's output or
-//! of a refusal.
+//! The one call of the analyser: from the words of a command line and the bytes of its input to the text of a report,
+//! of a script's output or of a refusal.
 #![tactic(auto)]
 
 mod answer;

@@ -53,7 +53,8 @@ fn name_of(cause: Cause) -> &'static str
 /// Adds the line of a refusal with this number and name.
 fn push_refusal(text: &mut String, number: u32, name: &str, place: Place) -> Result<(), AllocError>
     ensures { OnOk result (string_bytes text.new ≡ string_bytes text.old
-        ++ text_line (codes "refused " ++ decimal number ++ codes " " ++ name.now ++ codes " at " ++ place_text place)) }
+        ++ text_line (codes "refused " ++ decimal number ++ codes " " ++ name.now
+        ++ codes " at " ++ place_text place)) }
 {
     let Place { line, column } = place;
     writeln!(text, "refused {number} {name} at {line}:{column}")

@@ -972,7 +972,8 @@ static LINES: [(&str, Pieces, &str); 60] = [
     (
         BOXES,
         (
-            "long k(long d){ return d+1; } long h(long a){ for(long i=0;i<a;i=k(i)) ; return k(a); } int main(void){ long m=h(2); }",
+            "long k(long d){ return d+1; } long h(long a){ for(long i=0;i<a;i=k(i)) ; return k(a); } int main(void){ \
+                long m=h(2); }",
             "",
             0,
             "",
@@ -982,7 +983,8 @@ static LINES: [(&str, Pieces, &str); 60] = [
     (
         BOXES,
         (
-            "long k(long d){ return d+1; } long h(long a){ for(long i=0;i<a;i=k(i)) ; return k(a); } int main(void){ long m=h(2); }",
+            "long k(long d){ return d+1; } long h(long a){ for(long i=0;i<a;i=k(i)) ; return k(a); } int main(void){ \
+                long m=h(2); }",
             "",
             0,
             "",
@@ -992,7 +994,8 @@ static LINES: [(&str, Pieces, &str); 60] = [
     (
         BOXES,
         (
-            "long k(long d){ return d+1; } long h(long a){ for(long i=0;i<a;i=k(i)) ; return k(a); } int main(void){ long m=h(2); }",
+            "long k(long d){ return d+1; } long h(long a){ for(long i=0;i<a;i=k(i)) ; return k(a); } int main(void){ \
+                long m=h(2); }",
             "",
             0,
             "",
@@ -1002,7 +1005,8 @@ static LINES: [(&str, Pieces, &str); 60] = [
     (
         BOXES,
         (
-            "long k(long d){ return d+1; } long h(long a){ for(long i=0;i<a;i=k(i)) ; return k(a); } int main(void){ long m=h(2); }",
+            "long k(long d){ return d+1; } long h(long a){ for(long i=0;i<a;i=k(i)) ; return k(a); } int main(void){ \
+                long m=h(2); }",
             "",
             0,
             "",

@@ -148,7 +148,8 @@ pub fn run<S: Source, K: Sink>(
     ensures usage_text { result ≡ Status.Usage → Appends (K.held sink.old) (K.held sink.new) usage_text }
     // Or a front of it, and not all of it; or nothing.
     ensures part { result ≡ Status.WriteFault →
-        WritesPart (map string_bytes words.now) (S.left source.old) (K.held sink.old) (K.held sink.new) (K.spare sink.old) }
+        WritesPart (map string_bytes words.now) (S.left source.old) (K.held sink.old) (K.held sink.new)
+        (K.spare sink.old) }
     ensures nothing_read { result ≡ Status.ReadFault → Keeps (K.held sink.old) (K.held sink.new) }
     ensures nothing_stored { result ≡ Status.Memory → Keeps (K.held sink.old) (K.held sink.new) }
 
@@ -163,32 +164,37 @@ pub fn run<S: Source, K: Sink>(
     ensures too_long { (c : Command) → Asks (map string_bytes words.now) c →
         (bytes : List ℕ) → S.left source.old ≡ Some bytes → IsTooLong bytes → EndsInRefusal result }
     ensures source_refused { (options : AnalyseOptions) → Asks (map string_bytes words.now) (Analyse options) →
-        (bytes : List ℕ) → S.left source.old ≡ Some bytes → (cause : Cause) (at : Place) → Refuse Spells bytes cause at →
+        (bytes : List ℕ) → S.left source.old ≡ Some bytes → (cause : Cause) (at : Place) →
+        Refuse Spells bytes cause at →
         EndsInRefusal result }
     ensures accepted { (options : AnalyseOptions) → Asks (map string_bytes words.now) (Analyse options) →
-        (bytes : List ℕ) → S.left source.old ≡ Some bytes → (tree : FileTree) → Accepts Spells bytes tree → EndsInReport result }
+        (bytes : List ℕ) → S.left source.old ≡ Some bytes → (tree : FileTree) → Accepts Spells bytes tree →
+        EndsInReport result }
     // Each source is one or the other.
     ensures each_source { (options : AnalyseOptions) → Asks (map string_bytes words.now) (Analyse options) →
         (bytes : List ℕ) → S.left source.old ≡ Some bytes → EndsBySource bytes result }
-    ensures script_refused { Asks (map string_bytes words.now) Calc → (bytes : List ℕ) → S.left source.old ≡ Some bytes →
+    ensures script_refused { Asks (map string_bytes words.now) Calc → (bytes : List ℕ) →
+        S.left source.old ≡ Some bytes →
         (r : script.Refusal) → script.AnswersTo bytes (Err r) → EndsInRefusal result }
     ensures script_ran { Asks (map string_bytes words.now) Calc → (bytes : List ℕ) → S.left source.old ≡ Some bytes →
         (output : List ℕ) → script.AnswersTo bytes (Ok output) → EndsInOutput result }
-    ensures reads { result ≢ Status.ReadFault → result ≢ Status.Memory → (c : Command) → Asks (map string_bytes words.now) c →
+    ensures reads { result ≢ Status.ReadFault → result ≢ Status.Memory → (c : Command) →
+        Asks (map string_bytes words.now) c →
         ReadsInput (S.left source.old) (S.left source.new) }
     // Whatever the answer, at most one byte past the limit is read.
     ensures front { LosesFront (S.left source.old) (S.left source.new) limit }
 
-    // A fault is the answer only where its count rose, that of reading only to a command; every other answer leaves the counts.
+    // A fault is the answer only where its count rose, that of reading only to a command; every other answer leaves the
+    // counts.
     ensures read_fault { result ≡ Status.ReadFault → Rose (S.faults source.old) (S.faults source.new) }
     ensures read_asked { result ≡ Status.ReadFault → AsksSome (map string_bytes words.now) }
     ensures no_read_fault { result ≢ Status.ReadFault → S.faults source.new ≡ S.faults source.old }
     ensures write_fault { result ≡ Status.WriteFault → Rose (K.faults sink.old) (K.faults sink.new) }
     ensures no_write_fault { result ≢ Status.WriteFault → K.faults sink.new ≡ K.faults sink.old }
 
-    // Where nothing fails and memory isn't wanting, the text that words and input deserve is written whole, and its status is the
-    // answer: so a source without a cause of refusal gets its report, and a script that runs whole its output. A sink that
-    // surely takes each text that is deserved doesn't fail.
+    // Where nothing fails and memory isn't wanting, the text that words and input deserve is written whole, and its
+    // status is the answer: so a source without a cause of refusal gets its report, and a script that runs whole its
+    // output. A sink that surely takes each text that is deserved doesn't fail.
     ensures whole { (Rose (S.faults source.old) (S.faults source.new) → ⊥) →
         (Rose (K.faults sink.old) (K.faults sink.new) → ⊥) → result ≢ Status.Memory →
         Writes (map string_bytes words.now) (S.left source.old) (K.held sink.old) (K.held sink.new) result }
@@ -196,7 +202,8 @@ pub fn run<S: Source, K: Sink>(
         (bytes : List ℕ) → S.left source.old ≡ Some bytes → IsUnrefused bytes →
         (Rose (S.faults source.old) (S.faults source.new) → ⊥) → (Rose (K.faults sink.old) (K.faults sink.new) → ⊥) →
         IsReportOrMemory result }
-    ensures complete_script { Asks (map string_bytes words.now) Calc → (bytes : List ℕ) → S.left source.old ≡ Some bytes →
+    ensures complete_script { Asks (map string_bytes words.now) Calc → (bytes : List ℕ) →
+        S.left source.old ≡ Some bytes →
         (output : List ℕ) → script.AnswersTo bytes (Ok output) →
         (Rose (S.faults source.old) (S.faults source.new) → ⊥) → (Rose (K.faults sink.old) (K.faults sink.new) → ⊥) →
         IsOutputOrMemory result }

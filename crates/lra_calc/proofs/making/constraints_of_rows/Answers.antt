@@ -26,6 +26,7 @@ loop-constraint-preserved c =
     record {
       dims = c.in_ok-push.ensures.dims ∙ c.loop-constraint.invariant.dims;
       kinds = rw (c.in_ok-push.ensures.rows, c.in_ok-push.ensures.kinds, length-append, length-append) (omega arith);
-      made = made_later is_equality c.loop-constraint.system c.push.new.self x.row x.kind (map constraint_of rest) _ kinds c.in_ok-push.ensures.rows c.in_ok-push.ensures.kinds (rw turned at c.loop-constraint.invariant.made);
+      made = made_later is_equality c.loop-constraint.system c.push.new.self x.row x.kind (map constraint_of rest) _ kinds c.in_ok-push.ensures.rows c.in_ok-push.ensures.kinds
+          (rw turned at c.loop-constraint.invariant.made);
       widths = all_tail (λ (r : Constraint). length r.row ≡ suc c.args.n) x rest (rw turned at c.loop-constraint.invariant.widths);
     }

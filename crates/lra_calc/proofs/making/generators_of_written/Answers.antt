@@ -34,7 +34,8 @@ loop-generator-preserved c =
     record {
       dims = c.in_ok-push.ensures.dims ∙ c.loop-generator.invariant.dims;
       kinds = rw (c.in_ok-push.ensures.rows, c.in_ok-push.ensures.kinds, length-append, length-append) (omega arith);
-      made = made_later is_line c.loop-generator.system c.push.new.self c.in_ok-row.row x.kind (map given_of (map generator_of rest)) _ kinds c.in_ok-push.ensures.rows c.in_ok-push.ensures.kinds (rw c.in_ok-row.ensures at before);
+      made = made_later is_line c.loop-generator.system c.push.new.self c.in_ok-row.row x.kind (map given_of (map generator_of rest)) _ kinds c.in_ok-push.ensures.rows c.in_ok-push.ensures.kinds
+          (rw c.in_ok-row.ensures at before);
       fit = fit_later c.loop-generator.system c.push.new.self c.in_ok-row.row x.kind kinds c.in_ok-push.ensures.rows c.in_ok-push.ensures.kinds c.loop-generator.invariant.fit fits.1;
       widths = all_tail (IsWide c.args.n) x rest wide;
       divided = all_tail (λ (g : Generator). IsDivided g.kind g.numbers) x rest divided;

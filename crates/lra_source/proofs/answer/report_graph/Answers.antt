@@ -16,7 +16,8 @@ use Rattle.lra_source.proofs.ReportSteps.{fits, small_globals, is_numbered, few_
 use Rattle.lra_source.proofs.answer.report_graph.Goals as goal
 
 pub analyse-requires-clause-few : goal.analyse-requires-clause-few
-analyse-requires-clause-few c = small_globals (tree_view c.args.tree.now) (node_view c.args.graph.now.tree) (map site_view c.args.graph.now.sites.items) c.args.globals.now c.requires.graph c.requires.globals
+analyse-requires-clause-few c = small_globals (tree_view c.args.tree.now) (node_view c.args.graph.now.tree)
+    (map site_view c.args.graph.now.sites.items) c.args.globals.now c.requires.graph c.requires.globals
 
 pub analyse-requires-clause-fits : goal.analyse-requires-clause-fits
 analyse-requires-clause-fits c = fits (tree_view c.args.tree.now) (node_view c.args.graph.now.tree) (map site_view c.args.graph.now.sites.items) c.args.globals.now c.requires.graph c.requires.globals

@@ -12,7 +12,8 @@ use Rattle.lra_source.proofs.program.graph_of.Goals as goal
 pub returns-in-Ok-clause-graph : goal.returns-in-Ok-clause-graph
 returns-in-Ok-clause-graph c =
     let b = c.in-Ok.ensures in
-    has_graph (tree_view c.args.tree.now) (program_view c.args.program.now) (node_view c.in-Ok.graph.tree) (map site_view c.in-Ok.graph.sites.items) c.requires.program c.requires.clean c.requires.straight c.requires.well
+    has_graph (tree_view c.args.tree.now) (program_view c.args.program.now) (node_view c.in-Ok.graph.tree)
+    (map site_view c.in-Ok.graph.sites.items) c.requires.program c.requires.clean c.requires.straight c.requires.well
     b.graph b.agrees b.sites b.few b.within
 
 pub returns-in_ok-labels-in-Err-Passed-clause-refused : goal.returns-in_ok-labels-in-Err-Passed-clause-refused
@@ -20,5 +21,6 @@ returns-in_ok-labels-in-Err-Passed-clause-refused c =
     let x = c.in-Err-Passed.limit in
     let labels = c.in_ok-labels-in-Err-Passed.labels.items in
     limit_refused (tree_view c.args.tree.now) (program_view c.args.program.now) x c.refusal.result labels c.requires.program c.requires.clean c.requires.straight
-    (limit_passed (λ y. (ls : List Labelled) → limit_fault ls 0 (events_of (program_view c.args.program.now)) ≡ Some (refusal_of ls y)) c.in-Err-Passed.field-0 x c.in-Err-Passed.field-0-is c.in-Err-Passed.ensures.limit)
+    (limit_passed (λ y. (ls : List Labelled) → limit_fault ls 0 (events_of (program_view c.args.program.now)) ≡ Some (refusal_of ls y)) c.in-Err-Passed.field-0 x c.in-Err-Passed.field-0-is
+    c.in-Err-Passed.ensures.limit)
     c.in_ok-labels-in-Err-Passed.ensures (λ ls same. c.refusal.ensures ls (c.deref.ensures.value ∙ same))

@@ -40,4 +40,5 @@ returns-in-Err-Refused-clause-refused c =
     let short : length c.args.bytes.now ≤ 65536 = (let e = c.if-bytes-gt-GREATEST_LENGTH.false in omega arith) in
     let r = c.in-Err-Refused.refusal in
     text_refused c.args.bytes.now c.in_ok-tokens.tokens.items r.cause r.place short c.in_ok-tokens.ensures.found
-    (subst (λ (T : List Token). IsTextFault Spells T r.cause r.place) c.deref.ensures.value (fault_of c.deref.result.now c.in-Err-Refused.field-0 r c.in-Err-Refused.field-0-is c.in-Err-Refused.ensures.refused))
+    (subst (λ (T : List Token). IsTextFault Spells T r.cause r.place) c.deref.ensures.value
+    (fault_of c.deref.result.now c.in-Err-Refused.field-0 r c.in-Err-Refused.field-0-is c.in-Err-Refused.ensures.refused))

@@ -15,12 +15,14 @@ returns-clause-named c =
     let old = session_of c.args.self.now in
     let name = string_bytes c.args.name in
     ap (λ (m : List ℕ → Option Polyhedron). let s : script.Session = record { dims = old.dims; made = m; printed = old.printed; flagged = c.flagged_by-self.result } in s) (fun_ext same)
-    ∙ ap (λ (f : Option ℕ). let s : script.Session = record { dims = old.dims; made = update bytes_eq old.made name (Some c.args.made.polyhedron); printed = old.printed; flagged = f } in s) c.flagged_by-self.ensures
+    ∙ ap (λ (f : Option ℕ). let s : script.Session = record { dims = old.dims; made = update bytes_eq old.made name (Some c.args.made.polyhedron); printed = old.printed; flagged = f } in s)
+    c.flagged_by-self.ensures
 
 pub returns-clause-sound : goal.returns-clause-sound
 returns-clause-sound c =
     let same = btree_map_updates_text (string_bytes c.args.name) c.args.self.now.made c.insert.new.self (Some c.args.made.polyhedron) c.in_ok-insert.ensures.updates in
     record {
       few = c.requires.session.few;
-      fit = fit_with (get_by_text c.args.self.now.made) (get_by_text c.insert.new.self) (string_bytes c.args.name) c.args.made.polyhedron c.args.self.now.dims c.requires.dims same c.requires.session.fit;
+      fit = fit_with (get_by_text c.args.self.now.made) (get_by_text c.insert.new.self) (string_bytes c.args.name) c.args.made.polyhedron c.args.self.now.dims c.requires.dims same
+          c.requires.session.fit;
     }
