@@ -1,5 +1,5 @@
 -- What is told of lost rows.
-use Rattle.std.proofs.Common.{◌≡◌, ℕ, zero, suc, ◌<◌, Bool, List, [], ◌∷◌, ◌++◌, length, get_or, drop, refl, ap, sym, ◌∙◌, subst, arith, ℤ, inl, inr}
+use Rattle.std.proofs.Common.{◌≡◌, ℕ, zero, suc, ◌<◌, Bool, List, [], ◌∷◌, ◌++◌, length, get_or, drop, take, refl, ap, sym, ◌∙◌, subst, arith, ℤ, inl, inr}
 use Rattle.std.specs.List.{Contains}
 use Rattle.std.proofs.lemmas.List.{append-nil, get_or_default}
 use Rattle.lra_linear.specs.declared.Excess as E
@@ -11,7 +11,7 @@ use Rattle.lra_linear.specs.Points.{PointSet, IsWithin}
 use Rattle.lra_linear.specs.Polyhedra.{Polyhedron, IsPolyhedronOf, positivity}
 use Rattle.lra_linear.specs.Cones.{AreDual, all_rows}
 use Rattle.lra_linear.specs.Strain.{Loss, Strains, IsStrained, OwnReductionPasses}
-use Rattle.lra_linear.proofs.Membership.{contains_head, contains_tail}
+use Rattle.lra_linear.proofs.Membership.{contains_head, contains_tail, contains_none, contains_cases}
 use Rattle.lra_sys.specs.Listed.{given_by}
 use Rattle.lra_row.specs.declared.error.RowError.TheVariants as of_row
 use Rattle.lra_cone.specs.Cones.{Shape, IsCone}
@@ -78,6 +78,23 @@ own_loss_is {K = K} equal s e loss listed rows seen kinds i r d et el ek n h er 
 pub from_generators_strain : (n : ℕ) (given : List Given) (losses : List Loss) → IfLost (Strains (suc n) given) losses → IfLost (FromGeneratorsStrains n given) losses
 from_generators_strain n given [] s = tt
 from_generators_strain n given (loss ∷ later) s = inl s
+
+-- ---- the first rows of a list are among it
+pub first_among : {K : Type 0} (equal : K → Bool) (at : ℕ) (rows : List (List ℤ)) (kinds : List K) (g : Given) →
+    Contains (given_by equal (take at rows) (take at kinds)) g → Contains (given_by equal rows kinds) g
+first_among equal zero rows kinds g m = absurd (contains_none g m)
+first_among equal (suc at) [] kinds g m = absurd (contains_none g m)
+first_among equal (suc at) (r ∷ rows) [] g m = absurd (contains_none g m)
+first_among equal (suc at) (r ∷ rows) (k ∷ kinds) g m =
+    let head : Given = record { row = r; equal = equal k } in
+    elim (contains_cases head g (given_by equal (take at rows) (take at kinds)) m) [
+      | inl e ↦ subst (Contains (head ∷ given_by equal rows kinds)) e (contains_head head (given_by equal rows kinds))
+      | inr n ↦ contains_tail head g (given_by equal rows kinds) (first_among equal at rows kinds g n)
+    ]
+
+pub first_within : (n : ℕ) (kept rows : List Given) (P : PointSet) → ((g : Given) → Contains kept g → Contains rows g) →
+    IsWithin n (Con kept) P → IsWithin n (Con rows) P
+first_within n kept rows P among h x point con = h x point (λ g m. con g (among g m))
 
 pub within_both : (n d : ℕ) (P Q R : PointSet) → d ≡ n → IsWithin n P Q → IsWithin d Q R → IsWithin n P R
 within_both n d P Q R e h k x point p = subst (λ (m : ℕ). IsWithin m Q R) e k x point (h x point p)

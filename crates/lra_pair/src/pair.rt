@@ -1,7 +1,8 @@
 //! Both canonical lists of a polyhedron.
 
 ghost use Rattle.std.specs.Prelude.{◌≡◌, ◌∷◌, ◌<◌, ◌^◌, [], length, drop, IfOk};
-ghost use Rattle.lra_linear.specs.Descriptions.{AreGenerators, Con, Gen, inequality};
+ghost use Rattle.std.specs.List.{Contains};
+ghost use Rattle.lra_linear.specs.Descriptions.{AreGenerators, Con, Gen, Given, inequality};
 ghost use Rattle.lra_linear.specs.OperationStrain.{FromRowsStrains, FromGeneratorsStrains};
 ghost use Rattle.lra_linear.specs.Points.{IsEmptySet, IsWithin};
 ghost use Rattle.lra_linear.specs.Polyhedra.{IsPolyhedron, IsPolyhedronOf, falsity};
@@ -200,14 +201,42 @@ pub fn from_rows(alloc: Global, rows: &ConSys) -> Result<(Pair, Vec<Loss>), Allo
     }
 }
 
-// The polyhedron of constraints that hold at each of the points, after a loss.
+// At most so many constraints are kept behind a loss: what is generated of them stays small.
+const MOST_KEPT: usize = 64;
+
+// The first constraints of the list, at most as many as are kept behind a loss.
+#[tactic(auto, using(crate::proofs::PairLosses::first_among))]
+fn first_rows(alloc: Global, list: &ConSys) -> Result<ConSys, AllocError>
+    ensures dims { IfOk result (λ kept. kept.dims ≡ list.now.dims) }
+    ensures among { IfOk result (λ kept. (g : Given) → Contains (constraints kept) g →
+        Contains (constraints list.now) g) }
+{
+    let n = list.dims();
+    if n >= TOO_MANY_DIMENSIONS {
+        return Err(AllocError);
+    }
+    let (rows, kinds) = (list.rows(), list.kinds());
+    let count = if rows.len() < MOST_KEPT {
+        rows.len()
+    } else {
+        MOST_KEPT
+    };
+    let mut kept = ConSys::new(alloc, n);
+    for place in 0..count {
+        kept.push(rows[place].copy()?, kinds[place])?;
+    }
+    Ok(kept)
+}
+
+// The polyhedron of constraints that hold at each of the points, after a loss: of the first of them.
 fn widened(alloc: Global, list: &ConSys, losses: Vec<Loss>) -> Result<(Pair, Vec<Loss>), AllocError>
     ensures dims { IfOk result (λ r. r.0.dims ≡ list.now.dims) }
     ensures canonical { IfOk result (λ r. IsPolyhedron r.0) }
     ensures within { IfOk result (λ r. IsWithin list.now.dims (Con (constraints list.now)) (Con r.0.rows)) }
     ensures losses { IfOk result (λ r. r.1.items ≡ losses.items) }
 {
-    let (pair, _) = from_rows(alloc, list)?;
+    let kept = first_rows(alloc, list)?;
+    let (pair, _) = from_rows(alloc, &kept)?;
     Ok((pair, losses))
 }
 
