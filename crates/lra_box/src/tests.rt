@@ -5,7 +5,7 @@ use lra_domain::{Domain, Exactness, Included, Mode};
 use lra_lin::{LinExpr, Test};
 use lra_linear::ConKind;
 use lra_row::Row;
-use lra_sys::{ConKind, ConSys};
+use lra_sys::ConSys;
 use std::alloc::{AllocError, Global};
 
 /// Assigns the form of this constant and these factors, through the bound.
