@@ -61,8 +61,8 @@ main_token t x e =
 exact_main : (n : ℕ) → Exact n IsInner (take_by next_main) Any MainText MainText Free
 exact_main n =
     let t = exact_take n IsInner next_main 0 (omega arith) refl (λ t x e f.
-            let k = ap (λ (u : Token). u.kind) (main_token t x e) in let g : Name x.word ≡ End = sym k ∙ f in cc)
-            some_main (record { kind = Name (codes "main"); place = some_place }) (main_self some_main refl) in
+    let k = ap (λ (u : Token). u.kind) (main_token t x e) in let g : Name x.word ≡ End = sym k ∙ f in cc)
+    some_main (record { kind = Name (codes "main"); place = some_place }) (main_self some_main refl) in
     retell t MainText
     (λ x z s. (s.1 ∙ ap (λ (u : Token). (u, 0) ∷ []) (main_token s.0 x s.2), (main_is (identifier_of s.0.kind s.0.place) x s.2).1))
     (λ x z s. (record { kind = Name x.word; place = x.place }, s.0, main_self x s.1))
