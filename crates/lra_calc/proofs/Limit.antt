@@ -2,8 +2,7 @@
 use Rattle.std.proofs.Common.{◌≡◌, ◌<◌, ◌≤◌, ℕ, Bool, true, false, List, length, take, refl, ap, sym, subst, ◌∙◌, arith, nat_lt, Result, Err}
 use Rattle.std.proofs.lemmas.Bool.Decides.{nat_tests}
 use Rattle.std.proofs.lemmas.List.{length-take}
-use Rattle.lra_tree.specs.Tokens.{place_behind}
-use Rattle.lra_tree.specs.Refuse.{greatest_length}
+use Rattle.lra_tree.specs.Tokens.{place_behind, greatest_length}
 use Rattle.lra_calc.specs.Script.{Refusal, TooLong, Runs, TooLongOr, AnswersTo}
 
 pub limit_is : greatest_length ≡ 65536

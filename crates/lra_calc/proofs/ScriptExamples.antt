@@ -9,8 +9,8 @@ use Rattle.lra_linear.specs.Polyhedra.{Polyhedron, IsPolyhedron, falsity}
 use Rattle.lra_linear.proofs.SpellingExamples.{quadrant, plain_is_quadrant}
 use Rattle.lra_linear.proofs.StrainExamples.{third_row_strains}
 use Rattle.lra_sys.specs.declared.system.GenKind.TheVariants as gen
-use Rattle.lra_tree.specs.Refuse.{greatest_length}
-use Rattle.lra_tree.specs.ReportText.{text_line}
+use Rattle.lra_tree.specs.Tokens.{greatest_length}
+use Rattle.lra_findings.specs.ReportText.{text_line}
 use Rattle.lra_calc.specs.ScriptText.{lines, words, is_skipped, is_name, number_of}
 use Rattle.lra_calc.specs.LineForms.{Line, Dims, Con, Gen, Show, Holds, given_of, line_of}
 use Rattle.lra_calc.specs.ShownSets.{polyhedron_text}

@@ -14,8 +14,9 @@ use Rattle.lra_sys.specs.declared.system.GenKind.TheVariants as gen
 use Rattle.lra_sys.specs.Listed.{Listed, given_by, is_line, constraints, generators, FitsKind, FitKinds}
 use Rattle.lra_linear.specs.Kinds.{is_equality}
 use Rattle.lra_show.specs.Shown.{report_row, report_generator}
-use Rattle.lra_tree.specs.Report.{Row, Generator}
-use Rattle.lra_tree.specs.ReportText.{text_line, rows_text, generators_text}
+use Rattle.lra_program.specs.Rows.{Row}
+use Rattle.lra_findings.specs.Report.{Generator}
+use Rattle.lra_findings.specs.ReportText.{text_line, rows_text, generators_text}
 use Rattle.lra_report.specs.Rows.{shown_rows, shown_generators}
 use Rattle.lra_report.specs.Lines.{generator_line}
 use Rattle.lra_calc.specs.ShownSets.{variables_from, variables, shown_constraint, kind_at, kind_by, shown_generator, empty_or, polyhedron_text}

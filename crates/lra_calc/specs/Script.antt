@@ -2,8 +2,7 @@
 -- place of all. A line that makes a set makes its canonical lists, so that what is shown depends on the set alone. Only
 -- where what it gives strains may it make those of a larger set; then it is flagged. So a script that isn't flagged has
 -- one output.
-use Rattle.std.specs.Prelude.{◌≡◌, ◌+◌, ℕ, suc, ℤ, pos, negsuc, Bool, true, false, nat_eq, nat_lt, List, [], ◌∷◌, ◌++◌}
-use Rattle.std.specs.Prelude.{length, take, map, codes, bytes_eq, if◌then◌else◌, Option, Some, None, Result, Ok, Err}
+use Rattle.std.specs.Prelude.{◌≡◌, ◌+◌, ℕ, suc, ℤ, pos, negsuc, Bool, true, false, nat_eq, nat_lt, List, [], ◌∷◌, ◌++◌, length, take, map, codes, bytes_eq, if◌then◌else◌, Option, Some, None, Result, Ok, Err}
 use Rattle.std.specs.Fmt.{decimal}
 use Rattle.std.specs.Map.{update}
 use Rattle.lra_linear.specs.declared.Excess.{Excess}
@@ -15,11 +14,11 @@ use Rattle.lra_linear.specs.Strain.{Loss}
 use Rattle.lra_linear.specs.OperationStrain.{FromRowsStrains, FromGeneratorsStrains}
 use Rattle.lra_sys.specs.declared.system.GenKind.{GenKind}
 use Rattle.lra_sys.specs.declared.system.GenKind.TheVariants as gen
-use Rattle.lra_tree.specs.declared.refusals.Place.{Place}
-use Rattle.lra_tree.specs.Tokens.{place_behind}
-use Rattle.lra_tree.specs.declared.refusals.Cause.TheVariants as cause
-use Rattle.lra_tree.specs.Refuse.{greatest_length, refusal_text}
-use Rattle.lra_tree.specs.ReportText.{text_line}
+use Rattle.lra_base.specs.declared.refusals.Place.{Place}
+use Rattle.lra_tree.specs.Tokens.{place_behind, greatest_length}
+use Rattle.lra_base.specs.declared.refusals.Cause.TheVariants as cause
+use Rattle.lra_findings.specs.RefusalText.{refusal_text}
+use Rattle.lra_findings.specs.ReportText.{text_line}
 use Rattle.lra_calc.specs.ScriptText.{lines, is_skipped, words}
 use Rattle.lra_calc.specs.LineForms.{Generator, given_of, Line, Dims, Con, Gen, Show, Holds, line_of}
 use Rattle.lra_calc.specs.ShownSets.{polyhedron_text}

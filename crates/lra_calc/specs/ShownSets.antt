@@ -9,8 +9,9 @@ use Rattle.lra_linear.specs.declared.ConKind.TheVariants as con
 use Rattle.lra_sys.specs.declared.system.GenKind.{GenKind}
 use Rattle.lra_sys.specs.declared.system.GenKind.TheVariants as gen
 use Rattle.lra_show.specs.Shown.{report_row, report_generator}
-use Rattle.lra_tree.specs.Report.{Row, Generator, Part}
-use Rattle.lra_tree.specs.ReportText.{text_line, part_text}
+use Rattle.lra_program.specs.Rows.{Row}
+use Rattle.lra_findings.specs.Report.{Generator, Part}
+use Rattle.lra_findings.specs.ReportText.{text_line, part_text}
 
 -- so many, from this number on
 abbrev pub variables_from : ℕ → ℕ → List (List ℕ)

@@ -1,7 +1,6 @@
 //! What a script writes.
 
-ghost use Rattle.std.specs.Prelude.{List, ℕ, ℤ, Result, None, ◌≡◌, ◌<◌, ◌^◌, ◌++◌, length, map, string_bytes, Some};
-ghost use Rattle.std.specs.Prelude.{IfOk, IfSome, OnOk, option_map};
+ghost use Rattle.std.specs.Prelude.{List, ℕ, ℤ, Result, None, ◌≡◌, ◌<◌, ◌^◌, ◌++◌, length, map, string_bytes, Some, IfOk, IfSome, OnOk, option_map};
 ghost use Rattle.lra_linear.specs.Points.{SameSet};
 ghost use Rattle.lra_linear.specs.Descriptions.{Con, Gen};
 ghost use Rattle.lra_linear.specs.Polyhedra.{Polyhedron, IsPolyhedron};
@@ -15,7 +14,7 @@ use crate::forms::{Line, read_line};
 use crate::pieces::{is_skipped, raw_lines, without_return, words};
 use crate::refusal::{CalcError, CalcRefusal, Fault, LineError};
 use crate::session::Session;
-use lra_tree::Place;
+use lra_base::Place;
 use std::alloc::{AllocError, Global};
 use std::fmt::Write;
 

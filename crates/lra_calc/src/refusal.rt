@@ -2,11 +2,11 @@
 
 ghost use Rattle.std.specs.Prelude.{◌≡◌, ◌++◌, codes, IfOk, OnOk, string_bytes};
 ghost use Rattle.std.specs.Fmt.{decimal};
-ghost use Rattle.lra_tree.specs.ReportText.{text_line, place_text};
+ghost use Rattle.lra_findings.specs.ReportText.{text_line, place_text};
 ghost use Rattle.lra_calc.specs.Script as script;
 ghost use Rattle.lra_calc.specs.Views.{fault_of, refusal_of};
 
-use lra_tree::Place;
+use lra_base::Place;
 use std::alloc::{AllocError, AllocFailed, Global};
 use std::fmt::Write;
 

@@ -1,7 +1,7 @@
 -- Calls whose callee comes to the function that holds them, in the places of functions.
 use Rattle.std.specs.Prelude.{◌≡◌, ℕ, List, [], ◌∷◌, ◌++◌, map}
 use Rattle.std.specs.List.{AllByRecursion}
-use Rattle.lra_tree.specs.declared.refusals.Place.{Place}
+use Rattle.lra_base.specs.declared.refusals.Place.{Place}
 use Rattle.lra_tree.specs.declared.trees.Identifier.{Identifier}
 use Rattle.lra_calls.specs.Called.{Caller}
 use Rattle.lra_calls.specs.Places.{places_of, rows_of}

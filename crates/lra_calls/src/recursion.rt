@@ -3,8 +3,7 @@
 ghost use Rattle.std.specs.Prelude.{◌≡◌, ◌↔◌, map, IsTrue, IfOk, MatchOption};
 ghost use Rattle.std.specs.List.{AllByRecursion};
 ghost use Rattle.lra_tree.specs.Views.{tree_view};
-ghost use Rattle.lra_tree.specs.Reach.{IsFirstRecursive};
-ghost use Rattle.lra_tree.specs.Refuse.{NotRecursive};
+ghost use Rattle.lra_tree.specs.Reach.{IsFirstRecursive, NotRecursive};
 ghost use Rattle.lra_calls.specs.Called.{caller_view};
 ghost use Rattle.lra_calls.specs.Places.{rows_of};
 ghost use Rattle.lra_calls.specs.Recursion.{IsBack, IsFirstBack};
@@ -12,7 +11,8 @@ ghost use Rattle.lra_calls.specs.Recursion.{IsBack, IsFirstBack};
 use crate::called::{Caller, callers};
 use crate::places::{add_places, rows};
 use crate::search::reached;
-use lra_tree::{Identifier, Place, Tree};
+use lra_base::Place;
+use lra_tree::{Identifier, Tree};
 use std::alloc::{AllocError, Global};
 
 /// Whether a function of the called name comes to the function at a place.

@@ -1,9 +1,10 @@
 //! The first recursive call of small sources, by hand.
 
 use crate::first_recursive;
+use lra_base::Place;
 use lra_tree::{
     Arguments, Assign, Block, BlockItem, Call, Declaration, Declarator, Function, Identifier, Init,
-    Item, Parameters, Place, Source, Stmt, Tree, Word,
+    Item, Parameters, Source, Stmt, Tree, Word,
 };
 use std::alloc::AllocError;
 use std::test::Fail;

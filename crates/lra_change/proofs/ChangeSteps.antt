@@ -5,8 +5,8 @@ use Rattle.lra_domain.specs.Actions.{Action, embed, dims_after}
 use Rattle.lra_domain.specs.declared.Exactness.{Exactness}
 use Rattle.lra_domain.specs.declared.Exactness.TheVariants.{Exact, Flagged}
 use Rattle.lra_domain.specs.Meaning.{Meaning, Meets}
-use Rattle.lra_tree.specs.Program.{Expr}
-use Rattle.lra_tree.specs.Linear as linear
+use Rattle.lra_program.specs.Program.{Expr}
+use Rattle.lra_flow.specs.Linear as linear
 use Rattle.lra_flow.specs.Operations.{worse}
 use Rattle.lra_flow.specs.Changes.{set_to, append_set}
 use Rattle.lra_flow.proofs.FormLemmas.{form_wide}

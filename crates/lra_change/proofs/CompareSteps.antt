@@ -2,10 +2,10 @@
 use Rattle.std.proofs.Common.{◌≡◌, ℕ, Some, refl}
 use Rattle.lra_domain.specs.Meaning.{Meaning}
 use Rattle.lra_domain.specs.declared.Exactness.{Exactness}
-use Rattle.lra_tree.specs.declared.trees.Comparison as declared
-use Rattle.lra_tree.specs.declared.trees.Comparison.TheVariants.{Below, AtMost, Above, AtLeast, Equal, Differs}
-use Rattle.lra_tree.specs.Views.{comparison_view}
-use Rattle.lra_tree.specs.Linear as linear
+use Rattle.lra_base.specs.declared.operators.Comparison as declared
+use Rattle.lra_base.specs.declared.operators.Comparison.TheVariants.{Below, AtMost, Above, AtLeast, Equal, Differs}
+use Rattle.lra_base.specs.OperatorViews.{comparison_view}
+use Rattle.lra_flow.specs.Linear as linear
 use Rattle.lra_change.specs.Conditions.{Tests, Compares}
 
 -- tests of other comparisons than `!=`

@@ -6,8 +6,8 @@ use Rattle.lra_lin.specs.Form.{Form}
 use Rattle.lra_domain.specs.Actions.{assign, embed}
 use Rattle.lra_domain.specs.declared.Exactness.{Exactness}
 use Rattle.lra_domain.specs.Meaning.{Meaning, Meets}
-use Rattle.lra_tree.specs.Linear.{constant_form}
-use Rattle.lra_tree.specs.Linear as linear
+use Rattle.lra_flow.specs.Linear.{constant_form}
+use Rattle.lra_flow.specs.Linear as linear
 use Rattle.lra_flow.specs.Operations.{worse}
 use Rattle.lra_flow.specs.Changes.{as_form, append_set, first_values}
 use Rattle.lra_forms.specs.Forms.{as_linear}

@@ -2,8 +2,8 @@
 use Rattle.std.proofs.Common.{◌≡◌, ℕ, List, ◌∷◌, Bool, true, false, subst, ◌∙◌}
 use Rattle.std.specs.Prelude.{not}
 use Rattle.lra_domain.specs.Meaning.{Meaning}
-use Rattle.lra_tree.specs.Program.{Cond}
-use Rattle.lra_tree.specs.Condition.{Pushed, push}
+use Rattle.lra_program.specs.Program.{Cond}
+use Rattle.lra_flow.specs.Condition.{Pushed, push}
 use Rattle.lra_change.specs.declared.sides.Kept.{Kept}
 use Rattle.lra_change.specs.declared.sides.Sides.{Sides}
 use Rattle.lra_forms.specs.Conditions.{in_turn_of, either_of}

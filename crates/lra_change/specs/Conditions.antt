@@ -2,9 +2,9 @@
 use Rattle.std.specs.Prelude.{ℕ, Option}
 use Rattle.lra_domain.specs.declared.Exactness.{Exactness}
 use Rattle.lra_domain.specs.Meaning.{Meaning}
-use Rattle.lra_tree.specs.Program.{Comparison}
-use Rattle.lra_tree.specs.Linear as linear
-use Rattle.lra_tree.specs.Condition.{Pushed, IsTestedBy, IsAtom, IsPushed}
+use Rattle.lra_base.specs.Operators.{Comparison}
+use Rattle.lra_flow.specs.Linear as linear
+use Rattle.lra_flow.specs.Condition.{Pushed, IsTestedBy, IsAtom, IsPushed}
 use Rattle.lra_flow.specs.Operations.{dropping}
 use Rattle.lra_flow.specs.Conditions.{testing}
 

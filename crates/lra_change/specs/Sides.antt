@@ -1,7 +1,7 @@
 -- Both sides of a condition at once, each with the exactness of what led to it.
 use Rattle.std.specs.Prelude.{◌≡◌, ℕ}
 use Rattle.lra_domain.specs.Meaning.{Meaning}
-use Rattle.lra_tree.specs.Condition.{Pushed}
+use Rattle.lra_flow.specs.Condition.{Pushed}
 use Rattle.lra_flow.specs.Operations.{dropping}
 use Rattle.lra_flow.specs.Conditions.{testing}
 use Rattle.lra_change.specs.declared.sides.Kept.{Kept}

@@ -2,9 +2,9 @@
 
 ghost use Rattle.std.specs.Prelude.{◌≡◌, ◌≤◌, ◌<◌, ◌+◌, ◌-◌, ◌^◌, suc, map, length, IfOk, OnOk};
 ghost use Rattle.lra_domain.specs.Meaning.{Meets};
-ghost use Rattle.lra_tree.specs.ProgramViews.{expr_view};
-ghost use Rattle.lra_tree.specs.GraphViews.{op_view};
-ghost use Rattle.lra_tree.specs.Linear.{form_of};
+ghost use Rattle.lra_program.specs.ProgramViews.{expr_view};
+ghost use Rattle.lra_operations.specs.GraphViews.{op_view};
+ghost use Rattle.lra_flow.specs.Linear.{form_of};
 ghost use Rattle.lra_flow.specs.Changes.{set_to, append_set, push_all, drop_last};
 ghost use Rattle.lra_change.specs.Changes.{Does, ChangesTo, OpFits, dims_behind};
 
@@ -12,8 +12,8 @@ use crate::comparisons::worse_of;
 use crate::conditions::leave;
 use lra_domain::{Domain, Exactness};
 use lra_forms::form_of_expression;
-use lra_tree::graph::Op;
-use lra_tree::program::Expr;
+use lra_operations::Op;
+use lra_program::Expr;
 use std::alloc::{AllocError, Global};
 
 /// The variable at the place gets the expression's value: that of its form, or any value where there is none.

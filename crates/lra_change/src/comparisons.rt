@@ -1,19 +1,19 @@
 //! What a comparison leaves of a value.
 
 ghost use Rattle.std.specs.Prelude.{◌≡◌, ◌<◌, ◌^◌, Some, length, IfOk, OnOk};
-ghost use Rattle.lra_tree.specs.Program.{differs};
-ghost use Rattle.lra_tree.specs.Views.{comparison_view};
-ghost use Rattle.lra_tree.specs.ProgramViews.{expr_view};
-ghost use Rattle.lra_tree.specs.Linear.{difference_form, comparison_test};
+ghost use Rattle.lra_base.specs.Operators.{differs};
+ghost use Rattle.lra_base.specs.OperatorViews.{comparison_view};
+ghost use Rattle.lra_program.specs.ProgramViews.{expr_view};
+ghost use Rattle.lra_flow.specs.Linear.{difference_form, comparison_test};
 ghost use Rattle.lra_flow.specs.Operations.{worse};
 ghost use Rattle.lra_forms.specs.Forms.{as_linear};
 ghost use Rattle.lra_change.specs.Conditions.{Tests, Compares};
 
+use lra_base::Comparison;
 use lra_domain::{Domain, Exactness};
 use lra_forms::{difference_of, test_of};
 use lra_lin::LinExpr;
-use lra_tree::Comparison;
-use lra_tree::program::Expr;
+use lra_program::Expr;
 use std::alloc::{AllocError, Global};
 
 /// Flagged where one of the two is.

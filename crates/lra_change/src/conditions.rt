@@ -1,17 +1,17 @@
 //! What a condition leaves of a value.
 
 ghost use Rattle.std.specs.Prelude.{◌≡◌, ◌<◌, ◌^◌, map, IfOk, OnOk};
-ghost use Rattle.lra_tree.specs.ProgramViews.{cond_view};
-ghost use Rattle.lra_tree.specs.Condition.{push};
+ghost use Rattle.lra_program.specs.ProgramViews.{cond_view};
+ghost use Rattle.lra_flow.specs.Condition.{push};
 ghost use Rattle.lra_forms.specs.Conditions.{in_turn_of, either_of};
 ghost use Rattle.lra_change.specs.Conditions.{Pushes};
 
 use crate::comparisons::leave_comparison;
 use crate::sides::{Kept, divide, join_kept};
+use lra_base::Comparison;
 use lra_domain::{Domain, Exactness};
 use lra_forms::opposite_of;
-use lra_tree::Comparison;
-use lra_tree::program::{Cond, Expr};
+use lra_program::{Cond, Expr};
 use std::alloc::{AllocError, Global};
 
 /// What `condition`, wanted true or false, leaves of the value: `!` is pushed to the comparisons; `&&` is the one

@@ -1,7 +1,7 @@
 //! The global variables at their first values, with which an iteration begins.
 
 ghost use Rattle.std.specs.Prelude.{◌≡◌, ◌+◌, ◌<◌, ◌≤◌, ◌^◌, suc, length, Some, IfOk, OnOk};
-ghost use Rattle.lra_tree.specs.Linear.{constant_form};
+ghost use Rattle.lra_flow.specs.Linear.{constant_form};
 ghost use Rattle.lra_flow.specs.Changes.{append_set, first_values};
 ghost use Rattle.lra_change.specs.Changes.{Does};
 

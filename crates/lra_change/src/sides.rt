@@ -1,17 +1,17 @@
 //! What a condition leaves of a value where it is true, together with what it leaves where it is false.
 
 ghost use Rattle.std.specs.Prelude.{◌≡◌, ◌<◌, ◌^◌, map, not, true, false, IfOk};
-ghost use Rattle.lra_tree.specs.Views.{comparison_view};
-ghost use Rattle.lra_tree.specs.ProgramViews.{expr_view, cond_view};
-ghost use Rattle.lra_tree.specs.Condition.{atom, opposite_comparison, push};
+ghost use Rattle.lra_base.specs.OperatorViews.{comparison_view};
+ghost use Rattle.lra_program.specs.ProgramViews.{expr_view, cond_view};
+ghost use Rattle.lra_flow.specs.Condition.{atom, opposite_comparison, push};
 ghost use Rattle.lra_forms.specs.Conditions.{in_turn_of, either_of};
 ghost use Rattle.lra_change.specs.Sides.{Splits, AreJoinedTo};
 
 use crate::comparisons::{leave_comparison, worse_of};
+use lra_base::Comparison;
 use lra_domain::{Domain, Exactness};
 use lra_forms::opposite_of;
-use lra_tree::Comparison;
-use lra_tree::program::{Cond, Expr};
+use lra_program::{Cond, Expr};
 use std::alloc::{AllocError, Global};
 
 /// A value, with the exactness of what led to it.

@@ -6,12 +6,13 @@ use Rattle.lra_domain.specs.Actions.{Leads}
 use Rattle.lra_domain.specs.declared.Exactness.{Exactness}
 use Rattle.lra_domain.specs.Meaning.{Meaning}
 use Rattle.lra_domain.specs.Laws.{Laws}
-use Rattle.lra_tree.specs.Program.{Comparison, below, at_most, above, at_least, equal, differs, Expr, literal, Cond, compare, nonzero, opposite, both_of, either_of}
-use Rattle.lra_tree.specs.Value.{Drawn, is_zero, compares, value_of, truth_of}
-use Rattle.lra_tree.specs.Report.{RowKind, equality, inequality}
-use Rattle.lra_tree.specs.Linear as linear
-use Rattle.lra_tree.specs.Linear.{Test, Passes, comparison_test, difference_form}
-use Rattle.lra_tree.specs.Condition.{opposite_comparison, push, IsPushed, IsAtom, IsTestedBy}
+use Rattle.lra_base.specs.Operators.{Comparison, below, at_most, above, at_least, equal, differs}
+use Rattle.lra_program.specs.Program.{Expr, literal, Cond, compare, nonzero, opposite, both_of, either_of}
+use Rattle.lra_program.specs.Value.{Drawn, is_zero, compares, value_of, truth_of}
+use Rattle.lra_program.specs.Rows.{RowKind, equality, inequality}
+use Rattle.lra_flow.specs.Linear as linear
+use Rattle.lra_flow.specs.Linear.{Test, Passes, comparison_test, difference_form}
+use Rattle.lra_flow.specs.Condition.{opposite_comparison, push, IsPushed, IsAtom, IsTestedBy}
 use Rattle.lra_flow.specs.Operations.{dropping}
 use Rattle.lra_flow.specs.Conditions.{tested, testing}
 use Rattle.lra_flow.proofs.FormLemmas.{bind_some, some_first, test_is_right, differs_by_tests, difference_is_right, compared}

@@ -5,11 +5,11 @@ use Rattle.std.specs.Prelude.{◌-ℤ◌, ◌≤ℤ◌, map, replicate, slice_se
 use Rattle.std.specs.List.{list_all}
 use Rattle.std.proofs.lemmas.Int.{ints}
 use Rattle.lra_linear.proofs.Ring.{ring, v, ⊖, ◌⊕◌, ◌⊗◌}
-use Rattle.lra_tree.specs.Program.{Operator, plus, minus, times, over, modulo, Comparison, below, at_most, above, at_least, equal, differs, Expr, literal, read, input, negate, binary, compare}
-use Rattle.lra_tree.specs.Value.{◌>>=◌, word, is_word, is_zero, index_of, apply, compares, value_of, truth_of}
-use Rattle.lra_tree.specs.Report.{dot, equality, inequality}
-use Rattle.lra_tree.specs.Linear.{Form, form_value, fitting, entrywise, combined, scaled, is_constant, operator_form, constant_form, variable_form, form_of, FormsAreRight, Test, Passes}
-use Rattle.lra_tree.specs.Linear.{opposite_less_one, opposite_form, less_one, at_least_zero, comparison_test, difference_form, TestsAreRight, DiffersIsRight}
+use Rattle.lra_base.specs.Operators.{Operator, plus, minus, times, over, modulo, Comparison, below, at_most, above, at_least, equal, differs}
+use Rattle.lra_program.specs.Program.{Expr, literal, read, input, negate, binary, compare}
+use Rattle.lra_program.specs.Value.{◌>>=◌, word, is_word, is_zero, index_of, apply, compares, value_of, truth_of}
+use Rattle.lra_program.specs.Rows.{dot, equality, inequality}
+use Rattle.lra_flow.specs.Linear.{Form, form_value, fitting, entrywise, combined, scaled, is_constant, operator_form, constant_form, variable_form, form_of, FormsAreRight, Test, Passes, opposite_less_one, opposite_form, less_one, at_least_zero, comparison_test, difference_form, TestsAreRight, DiffersIsRight}
 
 -- what led to something
 pub bind_some : {A B : Type 0} (o : Option A) (f : A → Option B) (y : B) → (o >>= f) ≡ Some y → (x : A) × (o ≡ Some x) × (f x ≡ Some y)

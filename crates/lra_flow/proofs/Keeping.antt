@@ -1,16 +1,15 @@
 -- Each least change of a value keeps the stores to which the change of the program leads.
-use Rattle.std.proofs.Common.{◌≡◌, ℕ, zero, suc, ◌+◌, ◌-◌, ◌≤◌, ◌++◌, ℤ, pos, ◌+ℤ◌, List, [], ◌∷◌, Option, Some, None, Bool, length, take, refl, sym, ap, subst, ◌∙◌, arith, append_assoc, append-nil}
-use Rattle.std.proofs.Common.{length-append}
+use Rattle.std.proofs.Common.{◌≡◌, ℕ, zero, suc, ◌+◌, ◌-◌, ◌≤◌, ◌++◌, ℤ, pos, ◌+ℤ◌, List, [], ◌∷◌, Option, Some, None, Bool, length, take, refl, sym, ap, subst, ◌∙◌, arith, append_assoc, append-nil, length-append}
 use Rattle.std.specs.Prelude.{◌-ℤ◌, ◌*ℤ◌, slice_set, slice_get}
 use Rattle.lra_linear.specs.Vectors.{product}
 use Rattle.lra_linear.proofs.Products.{product_none}
 use Rattle.lra_domain.specs.Actions.{Action, forget, embed, Leads}
 use Rattle.lra_lin.specs.Form.{form_value}
-use Rattle.lra_tree.specs.Program.{Expr, literal, read, input, negate, binary, Cond}
-use Rattle.lra_tree.specs.Value.{◌>>=◌, word, index_of, apply, Drawn, draw, value_of, values_of}
-use Rattle.lra_tree.specs.Step.{State, Op, append, give, give_any, push, keep, test, put, given, pushed, run_op}
-use Rattle.lra_tree.specs.Report.{dot}
-use Rattle.lra_tree.specs.Linear as linear
+use Rattle.lra_program.specs.Program.{Expr, literal, read, input, negate, binary, Cond}
+use Rattle.lra_program.specs.Value.{◌>>=◌, word, index_of, apply, Drawn, draw, value_of, values_of}
+use Rattle.lra_program.specs.Step.{State, Op, append, give, give_any, push, keep, test, put, given, pushed, run_op}
+use Rattle.lra_program.specs.Rows.{dot}
+use Rattle.lra_flow.specs.Linear as linear
 use Rattle.lra_flow.specs.Changes.{as_form, set_to, push_all, drop_last, actions_of}
 use Rattle.lra_flow.proofs.FormLemmas.{bind_some, pair_first, forms_are_right}
 

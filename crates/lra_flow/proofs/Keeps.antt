@@ -5,16 +5,16 @@ use Rattle.lra_domain.specs.declared.Exactness.{Exactness}
 use Rattle.lra_domain.specs.declared.Exactness.TheVariants.{Exact}
 use Rattle.lra_domain.specs.Meaning.{Meaning}
 use Rattle.lra_domain.specs.Laws.{Laws}
-use Rattle.lra_tree.specs.Program.{Cond}
-use Rattle.lra_tree.specs.Value.{Drawn, truth_of}
-use Rattle.lra_tree.specs.Step as step
-use Rattle.lra_tree.specs.Step.{State, Op, append, give, give_any, push, keep, run_op}
-use Rattle.lra_tree.specs.Graph.{Node}
+use Rattle.lra_program.specs.Program.{Cond}
+use Rattle.lra_program.specs.Value.{Drawn, truth_of}
+use Rattle.lra_program.specs.Step as step
+use Rattle.lra_program.specs.Step.{State, Op, append, give, give_any, push, keep, run_op}
+use Rattle.lra_operations.specs.Graph.{Node}
 use Rattle.lra_flow.specs.declared.Settings.{Settings}
 use Rattle.lra_flow.specs.Operations.{dropping}
 use Rattle.lra_flow.specs.Changes.{actions_of, AreDone}
-use Rattle.lra_tree.specs.Condition as condition
-use Rattle.lra_tree.specs.Condition.{IsPushed}
+use Rattle.lra_flow.specs.Condition as condition
+use Rattle.lra_flow.specs.Condition.{IsPushed}
 use Rattle.lra_flow.specs.Conditions.{testing, Leaves}
 use Rattle.lra_flow.specs.Pass.{Result, Pass}
 use Rattle.lra_flow.specs.Sound.{ChangesKeep, Covers}

@@ -10,3 +10,5 @@ pub mod Sound
 pub mod Keeps
 -- Single definitions on small operands.
 mod PieceExamples
+-- Linear forms, and how conditions are pushed to their atoms.
+mod LinearExamples

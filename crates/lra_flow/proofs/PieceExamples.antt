@@ -5,9 +5,10 @@ use Rattle.lra_domain.specs.Actions.{assign, forget, embed, remove_last}
 use Rattle.lra_domain.specs.declared.Exactness.TheVariants.{Flagged}
 use Rattle.lra_domain.specs.declared.Mode.TheVariants.{Join, Widen, Limited}
 use Rattle.std.specs.Prelude.{true, false}
-use Rattle.lra_tree.specs.Program.{local, plus, below, equal, Expr, literal, read, input, binary, compare, opposite, either_of}
-use Rattle.lra_tree.specs.Step.{give, push, keep}
-use Rattle.lra_tree.specs.Graph.{broken, returned}
+use Rattle.lra_program.specs.Program.{local, Expr, literal, read, input, binary, compare, opposite, either_of}
+use Rattle.lra_base.specs.Operators.{plus, below, equal}
+use Rattle.lra_program.specs.Step.{give, push, keep}
+use Rattle.lra_operations.specs.Graph.{broken, returned}
 use Rattle.lra_flow.specs.Changes.{actions_of, first_values}
 use Rattle.lra_flow.specs.Given.{given_rows}
 use Rattle.lra_flow.specs.Pass.{Result, noted, caught, mode_at}

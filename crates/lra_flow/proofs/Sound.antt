@@ -7,9 +7,9 @@ use Rattle.lra_domain.specs.Actions.{Within}
 use Rattle.lra_domain.specs.Meaning.{Meaning}
 use Rattle.lra_domain.specs.Laws.{Laws}
 use Rattle.lra_domain.specs.declared.Exactness.{Exactness}
-use Rattle.lra_tree.specs.Program.{Cond}
-use Rattle.lra_tree.specs.Step.{State, run_op, test}
-use Rattle.lra_tree.specs.Graph.{Exit, broken, continued, returned, normal, Node, empty, point, act, check, seq, choose, iterate, catch, leave, Rounds, Ends}
+use Rattle.lra_program.specs.Program.{Cond}
+use Rattle.lra_program.specs.Step.{State, run_op, test}
+use Rattle.lra_operations.specs.Graph.{Exit, broken, continued, returned, normal, Node, empty, point, act, check, seq, choose, iterate, catch, leave, Rounds, Ends}
 use Rattle.lra_flow.specs.declared.Settings.{Settings}
 use Rattle.lra_flow.specs.Operations.{dropping}
 use Rattle.lra_flow.specs.Changes.{AreJoined}

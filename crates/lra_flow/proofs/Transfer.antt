@@ -6,11 +6,12 @@ use Rattle.lra_domain.specs.Actions.{Action}
 use Rattle.lra_domain.specs.declared.Mode.{Mode}
 use Rattle.lra_domain.specs.declared.Exactness.{Exactness}
 use Rattle.lra_domain.specs.declared.Exactness.TheVariants.{Exact}
-use Rattle.lra_tree.specs.Program.{Cond, Comparison, below, above, differs}
-use Rattle.lra_tree.specs.Step.{Op, append, give, give_any, push, keep, test}
-use Rattle.lra_tree.specs.Graph.{Exit, broken, continued, returned, Node, empty, point, act, check, seq, choose, iterate, catch, leave}
-use Rattle.lra_tree.specs.Linear.{Form, Test, comparison_test, difference_form}
-use Rattle.lra_tree.specs.Condition as condition
+use Rattle.lra_program.specs.Program.{Cond}
+use Rattle.lra_base.specs.Operators.{Comparison, below, above, differs}
+use Rattle.lra_program.specs.Step.{Op, append, give, give_any, push, keep, test}
+use Rattle.lra_operations.specs.Graph.{Exit, broken, continued, returned, Node, empty, point, act, check, seq, choose, iterate, catch, leave}
+use Rattle.lra_flow.specs.Linear.{Form, Test, comparison_test, difference_form}
+use Rattle.lra_flow.specs.Condition as condition
 use Rattle.lra_flow.specs.declared.Settings.{Settings}
 use Rattle.lra_flow.specs.Operations.{Operations, worse}
 use Rattle.lra_flow.specs.Changes.{actions_of, AreDone, AreJoined}

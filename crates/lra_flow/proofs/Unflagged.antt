@@ -4,8 +4,8 @@ use Rattle.lra_domain.specs.Meaning.{Meaning}
 use Rattle.lra_domain.specs.Laws.{Laws}
 use Rattle.lra_domain.specs.declared.Exactness.{Exactness}
 use Rattle.lra_domain.specs.declared.Exactness.TheVariants.{Exact, Flagged}
-use Rattle.lra_tree.specs.Program.{Program}
-use Rattle.lra_tree.specs.Graph.{Node}
+use Rattle.lra_program.specs.Program.{Program}
+use Rattle.lra_operations.specs.Graph.{Node}
 use Rattle.lra_flow.specs.declared.Settings.{Settings}
 use Rattle.lra_flow.specs.Operations.{defined, dropping, straining, worse}
 use Rattle.lra_flow.specs.Changes.{first_values}

@@ -3,8 +3,8 @@
 use Rattle.std.specs.Prelude.{◌≡◌, ◌↔◌, ◌<◌, ℕ, List, [], Option, None, Some, Bool, IsTrue, Contains, slice_get}
 use Rattle.lra_domain.specs.Meaning.{Meaning}
 use Rattle.lra_domain.specs.declared.Exactness.{Exactness}
-use Rattle.lra_tree.specs.Program.{Program}
-use Rattle.lra_tree.specs.Graph.{Node}
+use Rattle.lra_program.specs.Program.{Program}
+use Rattle.lra_operations.specs.Graph.{Node}
 use Rattle.lra_flow.specs.declared.Settings.{Settings}
 use Rattle.lra_flow.specs.Operations.{Operations, defined, dropping, straining}
 use Rattle.lra_flow.specs.Changes.{first_values, AreDone}

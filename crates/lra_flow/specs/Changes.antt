@@ -4,9 +4,9 @@ use Rattle.lra_lin.specs.Form.{Form}
 use Rattle.lra_domain.specs.Actions.{Action, assign, forget, embed, remove_last}
 use Rattle.lra_domain.specs.declared.Exactness.{Exactness}
 use Rattle.lra_domain.specs.declared.Exactness.TheVariants.{Exact}
-use Rattle.lra_tree.specs.Program.{Expr}
-use Rattle.lra_tree.specs.Step.{Op, append, give, give_any, push, keep, test}
-use Rattle.lra_tree.specs.Linear as linear
+use Rattle.lra_program.specs.Program.{Expr}
+use Rattle.lra_program.specs.Step.{Op, append, give, give_any, push, keep, test}
+use Rattle.lra_flow.specs.Linear as linear
 use Rattle.lra_flow.specs.Operations.{Operations, worse}
 
 -- a form of a program's expression, as a domain takes it

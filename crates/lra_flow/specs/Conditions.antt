@@ -6,10 +6,10 @@ use Rattle.lra_linear.specs.declared.ConKind.TheVariants.{Ge, Eq}
 use Rattle.lra_domain.specs.Actions.{Action, test}
 use Rattle.lra_domain.specs.declared.Exactness.{Exactness}
 use Rattle.lra_domain.specs.declared.Exactness.TheVariants.{Exact}
-use Rattle.lra_tree.specs.Program.{Cond}
-use Rattle.lra_tree.specs.Report.{RowKind, equality, inequality}
-use Rattle.lra_tree.specs.Linear.{Test}
-use Rattle.lra_tree.specs.Condition.{Actions, IsCond}
+use Rattle.lra_program.specs.Program.{Cond}
+use Rattle.lra_program.specs.Rows.{RowKind, equality, inequality}
+use Rattle.lra_flow.specs.Linear.{Test}
+use Rattle.lra_flow.specs.Condition.{Actions, IsCond}
 use Rattle.lra_flow.specs.Operations.{Operations, worse}
 use Rattle.lra_flow.specs.Changes.{as_form}
 

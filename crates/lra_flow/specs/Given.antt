@@ -3,9 +3,10 @@ use Rattle.std.specs.Prelude.{ℕ, ℤ, pos, neg_ℤ, ◌+ℤ◌, List, [], ◌�
 use Rattle.lra_sys.specs.Listed.{Listed}
 use Rattle.lra_linear.specs.declared.ConKind.{ConKind}
 use Rattle.lra_linear.specs.declared.ConKind.TheVariants.{Ge}
-use Rattle.lra_tree.specs.Program.{Comparison, equal, differs, Cond}
-use Rattle.lra_tree.specs.Linear.{Form, Test, comparison_test, difference_form}
-use Rattle.lra_tree.specs.Condition.{Pushed, atom, first_then, one_or, push}
+use Rattle.lra_base.specs.Operators.{Comparison, equal, differs}
+use Rattle.lra_program.specs.Program.{Cond}
+use Rattle.lra_flow.specs.Linear.{Form, Test, comparison_test, difference_form}
+use Rattle.lra_flow.specs.Condition.{Pushed, atom, first_then, one_or, push}
 
 -- the row `form + more >= 0`
 abbrev pub row_of : Form → ℤ → List ℤ

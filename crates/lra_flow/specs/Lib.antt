@@ -1,3 +1,7 @@
+-- How an analysis sees expressions and conditions.
+pub mod Linear
+pub mod Condition
+-- The iteration.
 pub mod Operations
 pub mod Changes
 pub mod Conditions

@@ -6,10 +6,9 @@ use Rattle.lra_domain.specs.declared.Mode.{Mode}
 use Rattle.lra_domain.specs.declared.Mode.TheVariants.{Join, Widen, Limited}
 use Rattle.lra_domain.specs.declared.Exactness.{Exactness}
 use Rattle.lra_domain.specs.declared.Exactness.TheVariants.{Exact, Flagged}
-use Rattle.lra_tree.specs.Program.{Cond}
-use Rattle.lra_tree.specs.Step.{Op, test}
-use Rattle.lra_tree.specs.Graph.{Exit, broken, continued, returned, Node, empty, point, act, check, seq, choose}
-use Rattle.lra_tree.specs.Graph.{iterate, catch, leave}
+use Rattle.lra_program.specs.Program.{Cond}
+use Rattle.lra_program.specs.Step.{Op, test}
+use Rattle.lra_operations.specs.Graph.{Exit, broken, continued, returned, Node, empty, point, act, check, seq, choose, iterate, catch, leave}
 use Rattle.lra_flow.specs.declared.Settings.{Settings}
 use Rattle.lra_flow.specs.Operations.{Operations}
 use Rattle.lra_flow.specs.Changes.{actions_of, AreDone, AreJoined}

@@ -3,8 +3,8 @@ use Rattle.std.specs.Prelude.{◌≡◌, ℕ, ℤ, List, Some}
 use Rattle.std.specs.List.{Contains}
 use Rattle.lra_domain.specs.Meaning.{Meaning}
 use Rattle.lra_domain.specs.declared.Exactness.{Exactness}
-use Rattle.lra_tree.specs.Step.{State, Op, run_op}
-use Rattle.lra_tree.specs.Graph.{Exit, broken, continued, returned, normal, jump, Node, Ends, Comes, FailsAt}
+use Rattle.lra_program.specs.Step.{State, Op, run_op}
+use Rattle.lra_operations.specs.Graph.{Exit, broken, continued, returned, normal, jump, Node, Ends, Comes, FailsAt}
 use Rattle.lra_flow.specs.Operations.{dropping}
 use Rattle.lra_flow.specs.Pass.{value, failing, Result, Changes}
 

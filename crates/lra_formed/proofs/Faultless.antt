@@ -3,16 +3,16 @@ use Rattle.std.proofs.Common.{◌≡◌, ℕ, suc, ◌+◌, ◌≤◌, ◌<◌, 
 use Rattle.std.specs.Prelude.{bytes_eq, if◌then◌else◌, is_none, ◌&&◌}
 use Rattle.std.proofs.lemmas.Bool.{eqb-true}
 use Rattle.std.proofs.lemmas.Option.{same_Some, none-some}
-use Rattle.lra_tree.specs.declared.refusals.Place.{Place}
-use Rattle.lra_tree.specs.declared.refusals.Cause.{Cause}
-use Rattle.lra_tree.specs.declared.refusals.Cause.TheVariants.{UnknownName}
+use Rattle.lra_base.specs.declared.refusals.Place.{Place}
+use Rattle.lra_base.specs.declared.refusals.Cause.{Cause}
+use Rattle.lra_base.specs.declared.refusals.Cause.TheVariants.{UnknownName}
 use Rattle.lra_tree.specs.declared.trees.Identifier.{Identifier}
 use Rattle.lra_tree.specs.Trees.{FunctionTree}
-use Rattle.lra_tree.specs.Program.{Program}
-use Rattle.lra_tree.specs.Scope.{Scope, newest_from, newest, slot_in, with_local, inner}
-use Rattle.lra_tree.specs.NameFaults.{fault_if, use_faults, called_faults}
-use Rattle.lra_tree.specs.Resolve.{slot_or, variable}
-use Rattle.lra_tree.specs.WellFormed.{IsLive}
+use Rattle.lra_program.specs.Program.{Program}
+use Rattle.lra_meaning.specs.Scope.{Scope, newest_from, newest, slot_in, with_local, inner}
+use Rattle.lra_meaning.specs.NameFaults.{fault_if, use_faults, called_faults}
+use Rattle.lra_meaning.specs.Resolve.{slot_or, variable}
+use Rattle.lra_program.specs.WellFormed.{IsLive}
 
 -- lists without faults ---------------------------------------------------------------------------------------------
 

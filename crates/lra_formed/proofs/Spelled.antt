@@ -8,15 +8,13 @@ use Rattle.lra_tree.specs.declared.tokens.Kind.{Kind}
 use Rattle.lra_tree.specs.declared.tokens.Kind.TheVariants.{Number, End}
 use Rattle.lra_tree.specs.declared.trees.Identifier.{Identifier}
 use Rattle.lra_tree.specs.Trees as tree
-use Rattle.lra_tree.specs.Value.{is_word}
+use Rattle.lra_program.specs.Value.{is_word}
 use Rattle.lra_tree.specs.Lexeme.{SpellsToken, name, number, mark_of, reserved, comment}
 use Rattle.lra_tree.specs.Tokens as lexical
 use Rattle.lra_tree.specs.Texts.{Piece, Pieces, plain, Texts, ◌⋅◌, further, separated}
 use Rattle.lra_tree.specs.Texts as text
-use Rattle.lra_tree.specs.Grammar.{IsUnary, IsTerm, IsExpr, IsNegation, IsTest, IsConjunction, IsCond, InParens, IsCall, IsSource, IsAssign, IsGiven, IsDeclarator, IsDeclaration, IsInit, IsForTest}
-use Rattle.lra_tree.specs.Grammar.{IsForStep, IsReturned, IsStmt, AreItems, IsSigned, IsGlobal, IsPart, AreParts, Spells}
-use Rattle.lra_formed.specs.Literals.{IsSmallUnary, IsSmallTerm, IsSmallExpr, IsSmallNegation, IsSmallTest, IsSmallConjunction, IsSmallCond, IsSmallCall, IsSmallSource, IsSmallGiven, IsSmallAssign}
-use Rattle.lra_formed.specs.Literals.{IsSmallDeclarator, IsSmallDeclaration, IsSmallInit, IsSmallForTest, IsSmallStep, IsSmallStmt, AreSmallItems, IsSmallGlobal, IsSmallPart, HasSmallLiterals}
+use Rattle.lra_tree.specs.Grammar.{IsUnary, IsTerm, IsExpr, IsNegation, IsTest, IsConjunction, IsCond, InParens, IsCall, IsSource, IsAssign, IsGiven, IsDeclarator, IsDeclaration, IsInit, IsForTest, IsForStep, IsReturned, IsStmt, AreItems, IsSigned, IsGlobal, IsPart, AreParts, Spells}
+use Rattle.lra_formed.specs.Literals.{IsSmallUnary, IsSmallTerm, IsSmallExpr, IsSmallNegation, IsSmallTest, IsSmallConjunction, IsSmallCond, IsSmallCall, IsSmallSource, IsSmallGiven, IsSmallAssign, IsSmallDeclarator, IsSmallDeclaration, IsSmallInit, IsSmallForTest, IsSmallStep, IsSmallStmt, AreSmallItems, IsSmallGlobal, IsSmallPart, HasSmallLiterals}
 
 -- tokens -----------------------------------------------------------------------------------------------------------
 

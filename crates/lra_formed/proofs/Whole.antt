@@ -7,12 +7,13 @@ use Rattle.std.proofs.lemmas.List.{length-map}
 use Rattle.std.proofs.lemmas.Option.{same_Some, none-some}
 use Rattle.lra_tree.specs.declared.trees.Identifier.{Identifier}
 use Rattle.lra_tree.specs.Trees as tree
-use Rattle.lra_tree.specs.Program.{Function, Program}
-use Rattle.lra_tree.specs.Value.{is_word}
-use Rattle.lra_tree.specs.Scope.{function_scope, functions_in, functions_of, is_named, is_main, function_named}
-use Rattle.lra_tree.specs.NameFaults.{parameters_faults, function_faults, globals_faults, global_names, parts_faults, name_faults}
-use Rattle.lra_tree.specs.Resolve.{function_place, items_count, resolve_function, global_value, globals_in, resolve_parts, main_of, resolve}
-use Rattle.lra_tree.specs.WellFormed.{IsGoodFunction, IsWellFormed}
+use Rattle.lra_program.specs.Program.{Function, Program}
+use Rattle.lra_program.specs.Value.{is_word}
+use Rattle.lra_meaning.specs.Scope.{function_scope}
+use Rattle.lra_tree.specs.Functions.{functions_in, functions_of, is_named, is_main, function_named}
+use Rattle.lra_meaning.specs.NameFaults.{parameters_faults, function_faults, globals_faults, global_names, parts_faults, name_faults}
+use Rattle.lra_meaning.specs.Resolve.{function_place, items_count, resolve_function, global_value, globals_in, resolve_parts, main_of, resolve}
+use Rattle.lra_program.specs.WellFormed.{IsGoodFunction, IsWellFormed}
 use Rattle.lra_formed.specs.Literals.{IsSmallGlobal, IsSmallPart, HasSmallLiterals}
 use Rattle.lra_formed.proofs.Faultless.{none_left, none_right, none_if, is_not}
 use Rattle.lra_formed.proofs.Good.{AreCallees, good_items}

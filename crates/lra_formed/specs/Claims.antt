@@ -4,13 +4,13 @@ use Rattle.lra_tree.specs.declared.tokens.Token.{Token}
 use Rattle.lra_tree.specs.Trees.{FileTree}
 use Rattle.lra_tree.specs.Tokens.{Lex}
 use Rattle.lra_tree.specs.Faults.{Language, IsTree}
-use Rattle.lra_tree.specs.NameFaults.{name_faults}
-use Rattle.lra_tree.specs.Resolve.{resolve}
-use Rattle.lra_tree.specs.WellFormed.{IsWellFormed}
+use Rattle.lra_meaning.specs.NameFaults.{name_faults}
+use Rattle.lra_meaning.specs.Resolve.{resolve}
+use Rattle.lra_program.specs.WellFormed.{IsWellFormed}
 use Rattle.lra_tree.specs.Labels.{labels_of}
-use Rattle.lra_tree.specs.Sites.{Site, sites_of}
-use Rattle.lra_tree.specs.ReportText.{shown_names}
-use Rattle.lra_tree.specs.Listing.{globals_named, live_names}
+use Rattle.lra_program.specs.Sites.{Site, sites_of}
+use Rattle.lra_findings.specs.ReportText.{shown_names}
+use Rattle.lra_meaning.specs.LiveNames.{globals_named, live_names}
 use Rattle.lra_formed.specs.Literals.{HasSmallLiterals}
 
 -- the program of a tree whose literals are small and whose names have no faults is well-formed

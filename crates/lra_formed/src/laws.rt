@@ -1,9 +1,8 @@
 //! Laws: each of these does nothing, and its contract is the theorem.
 
 ghost use Rattle.lra_tree.specs.Grammar.{Spells};
-ghost use Rattle.lra_tree.specs.WellFormed.{AcceptedAreWellFormed};
-ghost use Rattle.lra_formed.specs.Claims.{FaultlessAreWellFormed, LiteralsAreSmall, ReadAreWellFormed, NamesAreAsMany};
-ghost use Rattle.lra_formed.specs.Claims.{ShownNamesAreAsMany};
+ghost use Rattle.lra_meaning.specs.Refuse.{AcceptedAreWellFormed};
+ghost use Rattle.lra_formed.specs.Claims.{FaultlessAreWellFormed, LiteralsAreSmall, ReadAreWellFormed, NamesAreAsMany, ShownNamesAreAsMany};
 
 /// The program of a source without faults of names is well-formed.
 pub fn faultless_are_well_formed()

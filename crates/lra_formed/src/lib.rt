@@ -1,7 +1,7 @@
 //! Programs of sources without faults of names are well-formed, and their points have a name for each variable.
 //!
-//! The definitions stand in `lra_tree`: the grammar, the faults of names, the program that a tree means, and
-//! well-formed programs.
+//! The definitions stand in `lra_tree` (the grammar), `lra_meaning` (the faults of names, the program that a tree
+//! means) and `lra_program` (well-formed programs).
 #![tactic(auto)]
 
 mod laws;

@@ -1,8 +1,8 @@
 -- The size of a condition.
 use Rattle.std.proofs.Common.{ℕ, ◌+◌, List, [], ◌∷◌, map}
-use Rattle.lra_tree.specs.declared.program.Cond.{Cond}
-use Rattle.lra_tree.specs.declared.program.Cond.TheFolds.{fold-Cond}
-use Rattle.lra_tree.specs.declared.program.Cond.TheOpen.{Cond-F}
+use Rattle.lra_program.specs.declared.program.Cond.{Cond}
+use Rattle.lra_program.specs.declared.program.Cond.TheFolds.{fold-Cond}
+use Rattle.lra_program.specs.declared.program.Cond.TheOpen.{Cond-F}
 
 abbrev pub row_size : List ℕ → ℕ
 row_size [] = 0

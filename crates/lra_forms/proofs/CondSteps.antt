@@ -3,13 +3,14 @@ use Rattle.std.proofs.Common.{rules, Box, Vec, Global, ◌≡◌, ℕ, ℤ, pos,
 use Rattle.std.specs.Prelude.{◌-ℤ◌, replicate, option_map}
 use Rattle.std.proofs.lemmas.Int.{ints}
 use Rattle.lra_lin.specs.Form.{Form}
-use Rattle.lra_tree.specs.Program.{minus, Expr, binary, Cond}
-use Rattle.lra_tree.specs.declared.program.Cond as declared_cond
-use Rattle.lra_tree.specs.declared.program.Cond.{All, Any, the_lemmas}
-use Rattle.lra_tree.specs.ProgramViews.{all_of, any_of, cond_view}
-use Rattle.lra_tree.specs.Linear as linear
-use Rattle.lra_tree.specs.Linear.{entrywise, combined, fitting, constant_form, less_one, opposite_less_one, form_of, operator_form, difference_form, at_least_zero}
-use Rattle.lra_tree.specs.Condition.{first_then, one_or, push}
+use Rattle.lra_base.specs.Operators.{minus}
+use Rattle.lra_program.specs.Program.{Expr, binary, Cond}
+use Rattle.lra_program.specs.declared.program.Cond as declared_cond
+use Rattle.lra_program.specs.declared.program.Cond.{All, Any, the_lemmas}
+use Rattle.lra_program.specs.ProgramViews.{all_of, any_of, cond_view}
+use Rattle.lra_flow.specs.Linear as linear
+use Rattle.lra_flow.specs.Linear.{entrywise, combined, fitting, constant_form, less_one, opposite_less_one, form_of, operator_form, difference_form, at_least_zero}
+use Rattle.lra_flow.specs.Condition.{first_then, one_or, push}
 use Rattle.lra_flow.specs.Changes.{as_form}
 use Rattle.lra_forms.specs.Forms.{as_linear, IsForm}
 use Rattle.lra_flow.proofs.FormLemmas.{form_wide}

@@ -1,18 +1,18 @@
 -- Steps of the proofs on linear forms.
-use Rattle.std.proofs.Common.{rules, ◌≡◌, ◌+◌, ◌<◌, map, drop, drop-cons, get_or, length, ℕ, zero, suc, ℤ, pos, ◌++◌, List, [], ◌∷◌, Option, Some, None, Bool, true, false, refl, sym, ap, subst, ◌∙◌}
-use Rattle.std.proofs.Common.{append_assoc, FitsSigned, arith}
+use Rattle.std.proofs.Common.{rules, ◌≡◌, ◌+◌, ◌<◌, map, drop, drop-cons, get_or, length, ℕ, zero, suc, ℤ, pos, ◌++◌, List, [], ◌∷◌, Option, Some, None, Bool, true, false, refl, sym, ap, subst, ◌∙◌, append_assoc, FitsSigned, arith}
 use Rattle.std.specs.Int.{w64}
 use Rattle.std.proofs.lemmas.Int.{ints}
 use Rattle.std.specs.Prelude.{◌&&◌, if◌then◌else◌, replicate, option_map}
 use Rattle.std.specs.List.{list_all}
-use Rattle.lra_tree.specs.Value.{◌>>=◌, word, is_word}
+use Rattle.lra_program.specs.Value.{◌>>=◌, word, is_word}
 use Rattle.lra_lin.specs.Form.{Form}
-use Rattle.lra_tree.specs.Program.{Operator, Expr, binary}
-use Rattle.lra_tree.specs.declared.program.Operation.{Operation}
-use Rattle.lra_tree.specs.ProgramViews.{chained, expr_view, operation_view}
-use Rattle.lra_tree.specs.Views.{operator_view}
-use Rattle.lra_tree.specs.declared.program.Expr.{the_lemmas}
-use Rattle.lra_tree.specs.Linear as linear
+use Rattle.lra_base.specs.Operators.{Operator}
+use Rattle.lra_program.specs.Program.{Expr, binary}
+use Rattle.lra_program.specs.declared.program.Operation.{Operation}
+use Rattle.lra_program.specs.ProgramViews.{chained, expr_view, operation_view}
+use Rattle.lra_base.specs.OperatorViews.{operator_view}
+use Rattle.lra_program.specs.declared.program.Expr.{the_lemmas}
+use Rattle.lra_flow.specs.Linear as linear
 use Rattle.lra_forms.specs.Forms.{as_linear, IsForm, rest_form}
 use Rattle.lra_flow.specs.Changes.{as_form}
 use Rattle.lra_flow.proofs.Keeping.{some_is}

@@ -2,7 +2,7 @@
 use Rattle.std.proofs.Common.{◌≡◌, ℕ, suc, ℤ, pos, negsuc, ◌*ℤ◌, List, [], ◌∷◌, ◌++◌, Option, Some, None, Bool, true, false, length, map, refl, sym, ap, ◌∙◌, append_assoc, append-nil}
 use Rattle.std.specs.Prelude.{◌-ℤ◌}
 use Rattle.std.proofs.lemmas.List.{map-append, length-map}
-use Rattle.lra_tree.specs.Report.{equality, inequality}
+use Rattle.lra_program.specs.Rows.{equality, inequality}
 use Rattle.lra_flow.proofs.FormLemmas.{fitting_same}
 use Rattle.lra_flow.proofs.Keeping.{some_is}
 use Rattle.lra_lin.specs.Form.{Form}
@@ -10,14 +10,14 @@ use Rattle.lra_lin.specs.declared.test.Test.{Test}
 use Rattle.lra_sys.specs.Listed.{Listed}
 use Rattle.lra_linear.specs.declared.ConKind.{ConKind}
 use Rattle.lra_linear.specs.declared.ConKind.TheVariants.{Ge}
-use Rattle.lra_tree.specs.declared.trees.Comparison as declared
-use Rattle.lra_tree.specs.declared.trees.Comparison.TheVariants.{Below, AtMost, Above, AtLeast, Equal, Differs}
-use Rattle.lra_tree.specs.Views.{comparison_view}
-use Rattle.lra_tree.specs.ProgramViews.{all_of, any_of}
-use Rattle.lra_tree.specs.Program.{Cond}
-use Rattle.lra_tree.specs.Linear as linear
-use Rattle.lra_tree.specs.Linear.{fitting, at_least_zero, difference_form, comparison_test}
-use Rattle.lra_tree.specs.Condition.{push}
+use Rattle.lra_base.specs.declared.operators.Comparison as declared
+use Rattle.lra_base.specs.declared.operators.Comparison.TheVariants.{Below, AtMost, Above, AtLeast, Equal, Differs}
+use Rattle.lra_base.specs.OperatorViews.{comparison_view}
+use Rattle.lra_program.specs.ProgramViews.{all_of, any_of}
+use Rattle.lra_program.specs.Program.{Cond}
+use Rattle.lra_flow.specs.Linear as linear
+use Rattle.lra_flow.specs.Linear.{fitting, at_least_zero, difference_form, comparison_test}
+use Rattle.lra_flow.specs.Condition.{push}
 use Rattle.lra_flow.specs.Given.{row_of, test_rows, atom_rows, pushed_rows}
 use Rattle.lra_forms.specs.Forms.{as_linear}
 use Rattle.lra_forms.specs.Conditions.{as_test, IsTest, in_turn_of, either_of}

@@ -1,9 +1,9 @@
 -- Tests of the code's types, and chains of conditions.
 use Rattle.std.specs.Prelude.{◌≡◌, Bool, not, List, [], ◌∷◌, Option, option_map}
 use Rattle.lra_lin.specs.declared.test.Test.{Test}
-use Rattle.lra_tree.specs.Program.{Cond}
-use Rattle.lra_tree.specs.Linear as linear
-use Rattle.lra_tree.specs.Condition.{Pushed, first_then, one_or, push}
+use Rattle.lra_program.specs.Program.{Cond}
+use Rattle.lra_flow.specs.Linear as linear
+use Rattle.lra_flow.specs.Condition.{Pushed, first_then, one_or, push}
 use Rattle.lra_flow.specs.Changes.{as_form}
 use Rattle.lra_flow.specs.Conditions.{kind_of}
 

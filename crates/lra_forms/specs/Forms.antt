@@ -1,9 +1,10 @@
 -- The linear forms of the code's type, as a program's expressions have them.
 use Rattle.std.specs.Prelude.{◌≡◌, ℕ, List, [], ◌∷◌, ℤ, ◌+ℤ◌, ◌-ℤ◌, Bool, true, false, Option, option_map}
 use Rattle.lra_lin.specs.Form.{Form}
-use Rattle.lra_tree.specs.Program.{Operator, Expr}
-use Rattle.lra_tree.specs.Value.{◌>>=◌}
-use Rattle.lra_tree.specs.Linear as linear
+use Rattle.lra_base.specs.Operators.{Operator}
+use Rattle.lra_program.specs.Program.{Expr}
+use Rattle.lra_program.specs.Value.{◌>>=◌}
+use Rattle.lra_flow.specs.Linear as linear
 use Rattle.lra_flow.specs.Changes.{as_form}
 
 abbrev pub as_linear : Form → linear.Form

@@ -1,18 +1,18 @@
 //! The test of a comparison, and the comparison that is true where it is false.
 
 ghost use Rattle.std.specs.Prelude.{◌≡◌, ◌<◌, ◌^◌, length, IfOk, option_map};
-ghost use Rattle.lra_tree.specs.Views.{comparison_view};
-ghost use Rattle.lra_tree.specs.ProgramViews.{expr_view};
-ghost use Rattle.lra_tree.specs.Linear.{difference_form, comparison_test, less_one, opposite_less_one, at_least_zero};
-ghost use Rattle.lra_tree.specs.Condition.{opposite_comparison};
+ghost use Rattle.lra_base.specs.OperatorViews.{comparison_view};
+ghost use Rattle.lra_program.specs.ProgramViews.{expr_view};
+ghost use Rattle.lra_flow.specs.Linear.{difference_form, comparison_test, less_one, opposite_less_one, at_least_zero};
+ghost use Rattle.lra_flow.specs.Condition.{opposite_comparison};
 ghost use Rattle.lra_forms.specs.Forms.{as_linear, IsForm};
 ghost use Rattle.lra_forms.specs.Conditions.{IsTest};
 
 use crate::forms::{constant_of, form_of_expression, multiple_of, sum_of_forms};
+use lra_base::Comparison;
 use lra_lin::{LinExpr, Test};
 use lra_linear::ConKind;
-use lra_tree::Comparison;
-use lra_tree::program::Expr;
+use lra_program::Expr;
 use std::alloc::{AllocError, Global};
 
 /// The form minus one, where all its numbers have 64 bits.

@@ -1,24 +1,23 @@
 //! The rows that a loop's condition gives to its head.
 
-ghost use Rattle.std.specs.Prelude.{◌≡◌, ◌<◌, ◌^◌, ℤ, pos, ◌+ℤ◌, ◌≤ℤ◌, neg_ℤ, ◌∷◌, ◌++◌, [], suc, map, length, IfOk};
-ghost use Rattle.std.specs.Prelude.{OnOk, Some, option_map, if◌then◌else◌};
+ghost use Rattle.std.specs.Prelude.{◌≡◌, ◌<◌, ◌^◌, ℤ, pos, ◌+ℤ◌, ◌≤ℤ◌, neg_ℤ, ◌∷◌, ◌++◌, [], suc, map, length, IfOk, OnOk, Some, option_map, if◌then◌else◌};
 ghost use Rattle.std.specs.List.{All};
 ghost use Rattle.lra_linear.specs.Range.{InRange};
-ghost use Rattle.lra_tree.specs.Views.{comparison_view};
-ghost use Rattle.lra_tree.specs.ProgramViews.{expr_view, cond_view};
-ghost use Rattle.lra_tree.specs.Linear.{difference_form, comparison_test};
-ghost use Rattle.lra_tree.specs.Condition.{push};
+ghost use Rattle.lra_base.specs.OperatorViews.{comparison_view};
+ghost use Rattle.lra_program.specs.ProgramViews.{expr_view, cond_view};
+ghost use Rattle.lra_flow.specs.Linear.{difference_form, comparison_test};
+ghost use Rattle.lra_flow.specs.Condition.{push};
 ghost use Rattle.lra_flow.specs.Given.{row_of, opposite_row, test_rows, atom_rows, pushed_rows, given_rows};
 ghost use Rattle.lra_forms.specs.Forms.{as_linear};
 ghost use Rattle.lra_forms.specs.Conditions.{in_turn_of};
 ghost use Rattle.lra_forms.specs.Given.{HasMore};
 
 use crate::comparisons::{difference_of, opposite_of, test_of};
+use lra_base::Comparison;
 use lra_lin::LinExpr;
+use lra_program::{Cond, Expr};
 use lra_row::Row;
 use lra_sys::{ConKind, ConSys};
-use lra_tree::Comparison;
-use lra_tree::program::{Cond, Expr};
 use std::alloc::{AllocError, Global};
 
 /// The row `form + more >= 0`, where `more` is 0 or 1.

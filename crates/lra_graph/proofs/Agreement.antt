@@ -1,12 +1,12 @@
 -- A run comes to a point, and fails there, exactly where the tree does.
 use Rattle.std.proofs.Common.{◌≡◌, ℕ, ℤ, List, length, Some, slice_get, refl, sym, ap, ◌∙◌, subst}
 use Rattle.std.proofs.lemmas.Option.{same_Some}
-use Rattle.lra_tree.specs.Program.{Program}
-use Rattle.lra_tree.specs.Step.{State, Config}
-use Rattle.lra_tree.specs.Run.{Point, IsOn, At, Fails, start}
-use Rattle.lra_tree.specs.Graph.{Node}
-use Rattle.lra_tree.specs.Sites.{Site, sites_of}
-use Rattle.lra_tree.specs.Agree.{IsGraph, Reached, Failed, point_of, AreDistinct, GraphsAgree}
+use Rattle.lra_program.specs.Program.{Program}
+use Rattle.lra_program.specs.Step.{State, Config}
+use Rattle.lra_program.specs.Run.{Point, IsOn, At, Fails, start}
+use Rattle.lra_operations.specs.Graph.{Node}
+use Rattle.lra_program.specs.Sites.{Site, sites_of}
+use Rattle.lra_operations.specs.Agree.{IsGraph, Reached, Failed, point_of, AreDistinct, GraphsAgree}
 use Rattle.lra_graph.proofs.Does.{Stands, HasState, IsFalse}
 use Rattle.lra_graph.proofs.Reached.{reached}
 use Rattle.lra_graph.proofs.Performed.{performed, failed}

@@ -1,9 +1,9 @@
 -- A call written out as the code has it: the callee's path, its body and the number of its parameters are known by equations.
 use Rattle.std.proofs.Common.{◌≡◌, ℕ, suc, ◌+◌, ◌-◌, List, [], ◌∷◌, length, Option, Some, None, false, slice_get, refl, sym, ap, ◌∙◌, subst, arith}
-use Rattle.lra_tree.specs.Program.{Call, result, BlockItems, Function, Program}
-use Rattle.lra_tree.specs.Graph.{Node}
-use Rattle.lra_tree.specs.Sites.{Site, plain_site, live_behind, items_events, function_events, call_events}
-use Rattle.lra_tree.specs.Inlined.{call_node}
+use Rattle.lra_program.specs.Program.{Call, result, BlockItems, Function, Program}
+use Rattle.lra_operations.specs.Graph.{Node}
+use Rattle.lra_program.specs.Sites.{Site, plain_site, live_behind, items_events, function_events, call_events}
+use Rattle.lra_operations.specs.Inlined.{call_node}
 use Rattle.lra_graph.specs.declared.points.Limit.{Limit}
 use Rattle.lra_graph.specs.declared.points.Limit.TheVariants.{Calls}
 use Rattle.lra_graph.specs.declared.frame.Frame.{Frame}

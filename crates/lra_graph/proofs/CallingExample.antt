@@ -1,15 +1,15 @@
 -- A program of two functions, whose `main` calls the other: it is well-formed.
 use Rattle.std.proofs.Common.{◌≡◌, ℕ, List, [], ◌∷◌, map, slice_get, refl, sym, ap, ◌∙◌, subst, arith}
-use Rattle.lra_tree.specs.Program as program
-use Rattle.lra_tree.specs.Program.{no_more, statement, call}
-use Rattle.lra_tree.specs.WellFormed.{IsGoodCall, IsWellFormed}
-use Rattle.lra_tree.specs.declared.program.Expr.{Expr}
-use Rattle.lra_tree.specs.declared.program.Call as code_call
-use Rattle.lra_tree.specs.declared.program.Stmt as code
-use Rattle.lra_tree.specs.declared.program.BlockItem as code_item
-use Rattle.lra_tree.specs.declared.program.Function.{Function}
-use Rattle.lra_tree.specs.declared.program.Program.{Program}
-use Rattle.lra_tree.specs.ProgramViews.{expr_view, call_view, item_view, items_of, function_view, function_or, program_view}
+use Rattle.lra_program.specs.Program as program
+use Rattle.lra_program.specs.Program.{no_more, statement, call}
+use Rattle.lra_program.specs.WellFormed.{IsGoodCall, IsWellFormed}
+use Rattle.lra_program.specs.declared.program.Expr.{Expr}
+use Rattle.lra_program.specs.declared.program.Call as code_call
+use Rattle.lra_program.specs.declared.program.Stmt as code
+use Rattle.lra_program.specs.declared.program.BlockItem as code_item
+use Rattle.lra_program.specs.declared.program.Function.{Function}
+use Rattle.lra_program.specs.declared.program.Program.{Program}
+use Rattle.lra_program.specs.ProgramViews.{expr_view, call_view, item_view, items_of, function_view, function_or, program_view}
 use Rattle.lra_graph.proofs.Shown.{shown_items, shown_statement, shown_call}
 
 abbrev callee : program.Function

@@ -1,6 +1,6 @@
 -- What is written out next weighs less.
 use Rattle.std.proofs.Common.{◌≡◌, ℕ, ◌+◌, ◌<◌, Option, arith, sym, subst}
-use Rattle.lra_tree.specs.Program.{Slot, Cond, Call, Source, Stmt, block, assign, call, if, loop, for, return, BlockItems, Program}
+use Rattle.lra_program.specs.Program.{Slot, Cond, Call, Source, Stmt, block, assign, call, if, loop, for, return, BlockItems, Program}
 use Rattle.lra_graph.proofs.Sizes.{size_stmt, size_items, weight}
 
 module _ (P : Program) (left t : ℕ) where

@@ -1,11 +1,11 @@
 -- A statement that is shown as a loop is one.
 use Rattle.std.proofs.Common.{◌≡◌, ℕ, Bool, true, false, refl, sym, subst, ◌∙◌, Box, Global, rules}
-use Rattle.lra_tree.specs.declared.program.Cond.{Cond}
-use Rattle.lra_tree.specs.declared.program.Stmt.{Stmt, the_lemmas}
-use Rattle.lra_tree.specs.declared.program.Stmt as code
-use Rattle.lra_tree.specs.Program as program
-use Rattle.lra_tree.specs.ProgramViews.{stmt_view}
-use Rattle.lra_tree.specs.WellFormed.{IsLoop}
+use Rattle.lra_program.specs.declared.program.Cond.{Cond}
+use Rattle.lra_program.specs.declared.program.Stmt.{Stmt, the_lemmas}
+use Rattle.lra_program.specs.declared.program.Stmt as code
+use Rattle.lra_program.specs.Program as program
+use Rattle.lra_program.specs.ProgramViews.{stmt_view}
+use Rattle.lra_program.specs.WellFormed.{IsLoop}
 use Rattle.lra_graph.proofs.Shown.{shown_absent, shown_nothing, shown_assign, shown_call, shown_break, shown_continue, shown_return, shown_assert, shown_assume}
 
 no_loop : (s : Stmt) (t : program.Stmt) → stmt_view s ≡ t → IsLoop (stmt_view s) → IsLoop t

@@ -1,8 +1,8 @@
 -- What a call answers is handed on as that of the whole statement.
 use Rattle.std.proofs.Common.{◌≡◌, ℕ, ◌≤◌, List, [], ◌∷◌, ◌++◌, length, Some, Result, IfOk, sym, subst}
-use Rattle.lra_tree.specs.Program.{Cond, Stmt, loop, for, break, continue, BlockItems, Program}
-use Rattle.lra_tree.specs.Graph.{broken, continued, returned, Node}
-use Rattle.lra_tree.specs.Sites.{Site, Event, plain_site, stmt_events}
+use Rattle.lra_program.specs.Program.{Cond, Stmt, loop, for, break, continue, BlockItems, Program}
+use Rattle.lra_operations.specs.Graph.{broken, continued, returned, Node}
+use Rattle.lra_program.specs.Sites.{Site, Event, plain_site, stmt_events}
 use Rattle.lra_graph.specs.declared.points.GraphError.{GraphError}
 use Rattle.lra_graph.specs.declared.frame.Frame.{Frame}
 use Rattle.lra_graph.specs.Limits.{walk, passed, stopped, OnLimit}

@@ -1,17 +1,17 @@
 -- Items one after the other: what each of them does to those behind it, and what is written of all of them so far.
 use Rattle.std.proofs.Common.{◌≡◌, ℕ, suc, ◌+◌, ◌-◌, ◌<◌, ◌≤◌, List, [], ◌∷◌, ◌++◌, length, map, drop, get_or, false, refl, sym, ap, ◌∙◌, subst, arith}
 use Rattle.std.proofs.lemmas.List.{drop_all}
-use Rattle.lra_tree.specs.Program as program
-use Rattle.lra_tree.specs.Program.{no_more, declaration, statement}
-use Rattle.lra_tree.specs.Graph.{Node, empty, seq, point}
-use Rattle.lra_tree.specs.Sites.{Site, plain_site, live_behind, stmt_events, given_events, items_events}
-use Rattle.lra_tree.specs.declared.graph.Node as code_node
-use Rattle.lra_tree.specs.declared.program.Declarator.{Declarator}
-use Rattle.lra_tree.specs.declared.program.Stmt.{Stmt}
-use Rattle.lra_tree.specs.declared.program.BlockItem.{BlockItem}
-use Rattle.lra_tree.specs.declared.program.BlockItem as code_item
-use Rattle.lra_tree.specs.ProgramViews.{declarator_view, stmt_view, item_view, items_of}
-use Rattle.lra_tree.specs.GraphViews.{node_view, row}
+use Rattle.lra_program.specs.Program as program
+use Rattle.lra_program.specs.Program.{no_more, declaration, statement}
+use Rattle.lra_operations.specs.Graph.{Node, empty, seq, point}
+use Rattle.lra_program.specs.Sites.{Site, plain_site, live_behind, stmt_events, given_events, items_events}
+use Rattle.lra_operations.specs.declared.graph.Node as code_node
+use Rattle.lra_program.specs.declared.program.Declarator.{Declarator}
+use Rattle.lra_program.specs.declared.program.Stmt.{Stmt}
+use Rattle.lra_program.specs.declared.program.BlockItem.{BlockItem}
+use Rattle.lra_program.specs.declared.program.BlockItem as code_item
+use Rattle.lra_program.specs.ProgramViews.{declarator_view, stmt_view, item_view, items_of}
+use Rattle.lra_operations.specs.GraphViews.{node_view, row}
 use Rattle.lra_graph.specs.declared.points.Limit.{Limit}
 use Rattle.lra_graph.specs.declared.frame.Frame.{Frame}
 use Rattle.lra_graph.specs.Limits.{walk, stopped}

@@ -1,8 +1,8 @@
 -- The items of a block, one by one: where all are stopped by one of them, and what weighs less.
 use Rattle.std.proofs.Common.{◌≡◌, ℕ, suc, ◌+◌, ◌*◌, ◌-◌, ◌<◌, List, [], ◌∷◌, ◌++◌, Some, slice_get, sym, subst, arith}
-use Rattle.lra_tree.specs.Program as program
-use Rattle.lra_tree.specs.Program.{no_more, declaration, statement}
-use Rattle.lra_tree.specs.Sites.{Site, plain_site, given_events, stmt_events, items_events}
+use Rattle.lra_program.specs.Program as program
+use Rattle.lra_program.specs.Program.{no_more, declaration, statement}
+use Rattle.lra_program.specs.Sites.{Site, plain_site, given_events, stmt_events, items_events}
 use Rattle.lra_graph.specs.declared.points.Limit.{Limit}
 use Rattle.lra_graph.specs.declared.frame.Frame.{Frame}
 use Rattle.lra_graph.specs.Limits.{Progress, passed, stopped, walk}

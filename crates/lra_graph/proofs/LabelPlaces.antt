@@ -3,9 +3,8 @@ use Rattle.std.proofs.Common.{◌≡◌, ℕ, zero, suc, ◌-◌, ◌≤◌, ◌
 use Rattle.std.proofs.lemmas.Option.{none-some, same_Some, slice_get-map, slice_get_cases, slice_get_read}
 use Rattle.lra_tree.specs.declared.trees.Identifier.{Identifier}
 use Rattle.lra_tree.specs.declared.labels.Label.{Label}
-use Rattle.lra_tree.specs.Labels.{Labelled, label_at}
+use Rattle.lra_tree.specs.Labels.{Labelled, label_at, label_place, identifier_place, called_place}
 use Rattle.lra_tree.specs.Walk.{told}
-use Rattle.lra_tree.specs.Refuse.{label_place, identifier_place, called_place}
 
 got : (ls : List Labelled) (labels : List Label) (n : ℕ) (o : Option Label) → labels ≡ map told ls → (n ≡ 0 → ⊥) → slice_get labels (n - 1) ≡ o → option_map told (label_at ls n) ≡ o
 got ls labels zero o e some f = absurd (some refl)

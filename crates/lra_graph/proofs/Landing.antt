@@ -1,10 +1,10 @@
 -- Where a jump leads on a list of items, and what a step must have done.
 use Rattle.std.proofs.Common.{◌≡◌, ℕ, ℤ, List, ◌∷◌, Option, Some, None, Bool, true, false, ◌⊎◌, inl, inr, refl, sym, ap}
 use Rattle.std.proofs.lemmas.Option.{same_Some, none-some}
-use Rattle.lra_tree.specs.Value.{Drawn}
-use Rattle.lra_tree.specs.Step.{State, tested, Here, Back, Item, turn, Config, Turn, to_turn, Called, to_mark, go, go_by, go_on}
-use Rattle.lra_tree.specs.Graph.{Exit, broken, continued, returned}
-use Rattle.lra_tree.specs.Inlined.{Frame}
+use Rattle.lra_program.specs.Value.{Drawn}
+use Rattle.lra_program.specs.Step.{State, tested, Here, Back, Item, turn, Config, Turn, to_turn, Called, to_mark, go, go_by, go_on}
+use Rattle.lra_operations.specs.Graph.{Exit, broken, continued, returned}
+use Rattle.lra_operations.specs.Inlined.{Frame}
 
 abbrev pub config : List Item → Here → State → Config
 config k h s = record { items = k; here = h; state = s }

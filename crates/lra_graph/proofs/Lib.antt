@@ -35,3 +35,5 @@ mod CallingExample
 pub mod Programs
 -- What labels say of a limit's place.
 pub mod LabelPlaces
+-- Trees of sources.
+mod GraphExamples

@@ -1,14 +1,14 @@
 -- How many variables live behind the items of a block, item by item.
 use Rattle.std.proofs.Common.{◌≡◌, ℕ, suc, ◌+◌, ◌<◌, ◌≤◌, List, ◌∷◌, length, map, drop, get_or, refl, sym, ap, ◌∙◌, arith, add-one, drop-cons}
 use Rattle.std.proofs.lemmas.List.{drop_all}
-use Rattle.lra_tree.specs.Program as program
-use Rattle.lra_tree.specs.Program.{no_more, declaration, statement}
-use Rattle.lra_tree.specs.Sites.{live_behind}
-use Rattle.lra_tree.specs.declared.program.Declarator.{Declarator}
-use Rattle.lra_tree.specs.declared.program.Stmt.{Stmt}
-use Rattle.lra_tree.specs.declared.program.BlockItem.{BlockItem}
-use Rattle.lra_tree.specs.declared.program.BlockItem as code_item
-use Rattle.lra_tree.specs.ProgramViews.{item_view, items_of}
+use Rattle.lra_program.specs.Program as program
+use Rattle.lra_program.specs.Program.{no_more, declaration, statement}
+use Rattle.lra_program.specs.Sites.{live_behind}
+use Rattle.lra_program.specs.declared.program.Declarator.{Declarator}
+use Rattle.lra_program.specs.declared.program.Stmt.{Stmt}
+use Rattle.lra_program.specs.declared.program.BlockItem.{BlockItem}
+use Rattle.lra_program.specs.declared.program.BlockItem as code_item
+use Rattle.lra_program.specs.ProgramViews.{item_view, items_of}
 use Rattle.lra_graph.proofs.Shown.{shown_declaration, shown_statement}
 
 pub live_low : (n : ℕ) (b : program.BlockItems) → n ≤ live_behind n b

@@ -1,13 +1,13 @@
 -- What the tree of a whole program comes to, some run comes to.
 use Rattle.std.proofs.Common.{◌≡◌, ℕ, ℤ, List, [], ◌∷◌, length, false, inl, inr, refl, sym}
 use Rattle.std.proofs.lemmas.Option.{none-some}
-use Rattle.lra_tree.specs.Program.{Program}
-use Rattle.lra_tree.specs.Step.{State, Item, all, end_of}
-use Rattle.lra_tree.specs.Run.{start}
-use Rattle.lra_tree.specs.Graph.{normal, Node, seq, point, Comes, FailsAt}
-use Rattle.lra_tree.specs.Sites.{Site, sites_of}
-use Rattle.lra_tree.specs.Inlined.{Has, InlAll, main_frame}
-use Rattle.lra_tree.specs.Agree.{begins, IsGraph}
+use Rattle.lra_program.specs.Program.{Program}
+use Rattle.lra_program.specs.Step.{State, Item, all, end_of}
+use Rattle.lra_program.specs.Run.{start}
+use Rattle.lra_operations.specs.Graph.{normal, Node, seq, point, Comes, FailsAt}
+use Rattle.lra_program.specs.Sites.{Site, sites_of}
+use Rattle.lra_operations.specs.Inlined.{Has, InlAll, main_frame}
+use Rattle.lra_operations.specs.Agree.{begins, IsGraph}
 use Rattle.lra_graph.proofs.Lengths.{length_all}
 use Rattle.lra_graph.proofs.Landing.{config, Matches}
 use Rattle.lra_graph.proofs.Does.{Stands, HasState, IsFalse, does_all}

@@ -3,12 +3,12 @@ use Rattle.std.proofs.Common.{◌≡◌, ℕ, ◌+◌, ◌≤◌, ◌<◌, [], �
 use Rattle.std.specs.Vec.{vec_len}
 use Rattle.std.proofs.lemmas.List.{length-map}
 use Rattle.std.proofs.lemmas.Option.{none-some, same_Some, slice_get-map, slice_get_cases, slice_get_read, get_or_from_slice_get}
-use Rattle.lra_tree.specs.Program as resolved
-use Rattle.lra_tree.specs.declared.program.Call.{Call}
-use Rattle.lra_tree.specs.declared.program.Function.{Function}
-use Rattle.lra_tree.specs.declared.program.Program.{Program}
-use Rattle.lra_tree.specs.ProgramViews.{expr_view, call_view, item_view, items_of, function_view, function_or, program_view}
-use Rattle.lra_tree.specs.WellFormed.{items_numbers, function_numbers, IsWellFormed}
+use Rattle.lra_program.specs.Program as resolved
+use Rattle.lra_program.specs.declared.program.Call.{Call}
+use Rattle.lra_program.specs.declared.program.Function.{Function}
+use Rattle.lra_program.specs.declared.program.Program.{Program}
+use Rattle.lra_program.specs.ProgramViews.{expr_view, call_view, item_view, items_of, function_view, function_or, program_view}
+use Rattle.lra_program.specs.WellFormed.{items_numbers, function_numbers, IsWellFormed}
 use Rattle.lra_graph.proofs.DistinctLists.{IsIn, in_right, in_piece, in_range}
 use Rattle.lra_graph.proofs.DistinctSites.{main_at}
 use Rattle.lra_graph.specs.declared.frame.Frame.{Frame}

@@ -1,13 +1,13 @@
 -- What a run of a whole program comes to, its tree comes to.
 use Rattle.std.proofs.Common.{◌≡◌, ℕ, zero, suc, List, [], ◌∷◌, length, Some, false, refl, sym, ap, subst, arith}
 use Rattle.std.proofs.lemmas.Option.{none-some}
-use Rattle.lra_tree.specs.Program.{Program}
-use Rattle.lra_tree.specs.Step.{State, Config, next, run_op, keep, end_of}
-use Rattle.lra_tree.specs.Run.{Steps, label_on, Point, IsOn, Reaches}
-use Rattle.lra_tree.specs.Graph.{broken, continued, returned, normal, Node, seq, point}
-use Rattle.lra_tree.specs.Sites.{Site, sites_of}
-use Rattle.lra_tree.specs.Inlined.{Has, InlAll, main_frame}
-use Rattle.lra_tree.specs.Agree.{begins, IsGraph}
+use Rattle.lra_program.specs.Program.{Program}
+use Rattle.lra_program.specs.Step.{State, Config, next, run_op, keep, end_of}
+use Rattle.lra_program.specs.Run.{Steps, label_on, Point, IsOn, Reaches}
+use Rattle.lra_operations.specs.Graph.{broken, continued, returned, normal, Node, seq, point}
+use Rattle.lra_program.specs.Sites.{Site, sites_of}
+use Rattle.lra_operations.specs.Inlined.{Has, InlAll, main_frame}
+use Rattle.lra_operations.specs.Agree.{begins, IsGraph}
 use Rattle.lra_graph.proofs.Lengths.{length_all}
 use Rattle.lra_graph.proofs.Landing.{config, go_some}
 use Rattle.lra_graph.proofs.Split.{Hit, Splits, hits, ended, jumped, all_below, hit_seq, hit_then, hit_there, not_there}

@@ -1,8 +1,8 @@
 -- What holds of a part holds of it as the code sees it, behind its references.
 use Rattle.std.proofs.Common.{◌≡◌, ℕ, List, ◌++◌, Option, Result, sym, ap, ◌∙◌, subst}
-use Rattle.lra_tree.specs.Program.{Cond, Source, Stmt, block, if, for, BlockItems, Program}
-use Rattle.lra_tree.specs.Graph.{Node}
-use Rattle.lra_tree.specs.Sites.{Site, given_events, stmt_events}
+use Rattle.lra_program.specs.Program.{Cond, Source, Stmt, block, if, for, BlockItems, Program}
+use Rattle.lra_operations.specs.Graph.{Node}
+use Rattle.lra_program.specs.Sites.{Site, given_events, stmt_events}
 use Rattle.lra_graph.specs.declared.frame.Frame.{Frame}
 use Rattle.lra_graph.specs.declared.points.GraphError.{GraphError}
 use Rattle.lra_graph.specs.Limits.{Progress, walk, stopped, OnLimit}

@@ -1,9 +1,9 @@
 -- What a run of each shape of tree is made of.
 use Rattle.std.proofs.Common.{◌≡◌, ◌≢◌, ℕ, zero, suc, ◌+◌, List, Option, Some, true, false, ◌⊎◌, inl, inr, refl, ap}
-use Rattle.lra_tree.specs.Program.{Expr, Cond}
-use Rattle.lra_tree.specs.Step.{State, Op, run_op, test, push, keep, give_any}
-use Rattle.lra_tree.specs.Graph.{Exit, broken, continued, returned, How, normal, jump, Node, point, act, check, seq, catch, leave, Rounds, Ends, Comes, FailsAt}
-use Rattle.lra_tree.specs.Inlined.{loop_node, call_node}
+use Rattle.lra_program.specs.Program.{Expr, Cond}
+use Rattle.lra_program.specs.Step.{State, Op, run_op, test, push, keep, give_any}
+use Rattle.lra_operations.specs.Graph.{Exit, broken, continued, returned, How, normal, jump, Node, point, act, check, seq, catch, leave, Rounds, Ends, Comes, FailsAt}
+use Rattle.lra_operations.specs.Inlined.{loop_node, call_node}
 
 -- a jump out of the first part, or the second part's end
 abbrev pub EndsSeq : Node → Node → State → How → State → Type 0

@@ -1,25 +1,25 @@
 -- What values of the code's types stand for, form by form.
 use Rattle.std.proofs.Common.{◌≡◌, ℕ, map, Option, Some, ap, ◌∙◌, rules, Box, Global}
-use Rattle.lra_tree.specs.Program as program
-use Rattle.lra_tree.specs.Graph as graph
-use Rattle.lra_tree.specs.declared.program.Slot.{Slot}
-use Rattle.lra_tree.specs.declared.program.Cond.{Cond}
-use Rattle.lra_tree.specs.declared.program.Source.{Source}
-use Rattle.lra_tree.specs.declared.program.Source.TheVariants as code_source
-use Rattle.lra_tree.specs.declared.program.Expr.{Expr}
-use Rattle.lra_tree.specs.declared.program.Declarator.{Declarator}
-use Rattle.lra_tree.specs.declared.program.Call.{Call}
-use Rattle.lra_tree.specs.declared.program.BlockItem.{BlockItem, the_lemmas as item_lemmas}
-use Rattle.lra_tree.specs.declared.program.BlockItem as code_item
-use Rattle.lra_tree.specs.declared.program.BlockItems.{BlockItems, the_lemmas as items_lemmas}
-use Rattle.lra_tree.specs.declared.program.Stmt.{Stmt, the_lemmas as stmt_lemmas}
-use Rattle.lra_tree.specs.declared.program.Stmt as code
-use Rattle.lra_tree.specs.declared.graph.Op.{Op}
-use Rattle.lra_tree.specs.declared.graph.Exit.{Exit}
-use Rattle.lra_tree.specs.declared.graph.Node.{Node, the_lemmas as node_lemmas}
-use Rattle.lra_tree.specs.declared.graph.Node as code_node
-use Rattle.lra_tree.specs.ProgramViews.{slot_view, expr_view, cond_view, call_view, source_view, given_view, declarator_view, stmt_view, item_view, items_of, items_view}
-use Rattle.lra_tree.specs.GraphViews.{op_view, exit_view, node_view}
+use Rattle.lra_program.specs.Program as program
+use Rattle.lra_operations.specs.Graph as graph
+use Rattle.lra_program.specs.declared.program.Slot.{Slot}
+use Rattle.lra_program.specs.declared.program.Cond.{Cond}
+use Rattle.lra_program.specs.declared.program.Source.{Source}
+use Rattle.lra_program.specs.declared.program.Source.TheVariants as code_source
+use Rattle.lra_program.specs.declared.program.Expr.{Expr}
+use Rattle.lra_program.specs.declared.program.Declarator.{Declarator}
+use Rattle.lra_program.specs.declared.program.Call.{Call}
+use Rattle.lra_program.specs.declared.program.BlockItem.{BlockItem, the_lemmas as item_lemmas}
+use Rattle.lra_program.specs.declared.program.BlockItem as code_item
+use Rattle.lra_program.specs.declared.program.BlockItems.{BlockItems, the_lemmas as items_lemmas}
+use Rattle.lra_program.specs.declared.program.Stmt.{Stmt, the_lemmas as stmt_lemmas}
+use Rattle.lra_program.specs.declared.program.Stmt as code
+use Rattle.lra_operations.specs.declared.graph.Op.{Op}
+use Rattle.lra_operations.specs.declared.graph.Exit.{Exit}
+use Rattle.lra_operations.specs.declared.graph.Node.{Node, the_lemmas as node_lemmas}
+use Rattle.lra_operations.specs.declared.graph.Node as code_node
+use Rattle.lra_program.specs.ProgramViews.{slot_view, expr_view, cond_view, call_view, source_view, given_view, declarator_view, stmt_view, item_view, items_of, items_view}
+use Rattle.lra_operations.specs.GraphViews.{op_view, exit_view, node_view}
 
 pub shown_empty : node_view code_node.Empty ≡ graph.empty
 shown_empty = search (rules, node_lemmas)

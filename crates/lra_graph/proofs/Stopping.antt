@@ -2,8 +2,8 @@
 use Rattle.std.proofs.Common.{◌≡◌, ℕ, ◌<◌, false, List, [], ◌∷◌, ◌++◌, Result, Ok, Err, IfOk, sym, subst}
 use Rattle.std.specs.Result.{IsErrAnd}
 use Rattle.std.proofs.lemmas.Result.{err_from_is_err_and}
-use Rattle.lra_tree.specs.Program.{Cond, Stmt, loop, for, BlockItems, Program}
-use Rattle.lra_tree.specs.Sites.{Site, Event, plain_site, live_behind, stmt_events, items_events}
+use Rattle.lra_program.specs.Program.{Cond, Stmt, loop, for, BlockItems, Program}
+use Rattle.lra_program.specs.Sites.{Site, Event, plain_site, live_behind, stmt_events, items_events}
 use Rattle.lra_graph.specs.declared.points.Limit.{Limit}
 use Rattle.lra_graph.specs.declared.points.Limit.TheVariants.{Variables}
 use Rattle.lra_graph.specs.declared.points.GraphError.{GraphError}

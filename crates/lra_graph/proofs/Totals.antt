@@ -1,19 +1,18 @@
 -- A whole program written out: its points are those of the definition, its tree is the definition's, and it is refused for the limit that
 -- stopped the writing.
-use Rattle.std.proofs.Common.{◌≡◌, ℕ, zero, suc, ◌≤◌, ◌<◌, List, [], ◌∷◌, ◌++◌, length, Option, Some, None, Bool, true, false, slice_get, refl, sym, ap, ◌∙◌, subst, arith, append-nil}
-use Rattle.std.proofs.Common.{append_assoc, length-append, add-zero}
+use Rattle.std.proofs.Common.{◌≡◌, ℕ, zero, suc, ◌≤◌, ◌<◌, List, [], ◌∷◌, ◌++◌, length, Option, Some, None, Bool, true, false, slice_get, refl, sym, ap, ◌∙◌, subst, arith, append-nil, append_assoc, length-append, add-zero}
 use Rattle.std.specs.Prelude.{nat_lt, if◌then◌else◌}
 use Rattle.std.proofs.lemmas.Bool.{lt-ltb}
 use Rattle.std.proofs.lemmas.Option.{none-some, same_Some}
-use Rattle.lra_tree.specs.declared.refusals.Refusal.{Refusal}
-use Rattle.lra_tree.specs.Program.{BlockItems, Program}
+use Rattle.lra_base.specs.declared.refusals.Refusal.{Refusal}
+use Rattle.lra_program.specs.Program.{BlockItems, Program}
 use Rattle.lra_tree.specs.Labels.{Labelled}
-use Rattle.lra_tree.specs.Graph.{Node, seq, point}
-use Rattle.lra_tree.specs.Sites.{Site, Event, comes, one_call_more, plain_site, live_behind, items_events, call_events, events_of, sites_in, sites_of}
-use Rattle.lra_tree.specs.Inlined.{Has, InlAll, main_frame}
-use Rattle.lra_tree.specs.Agree.{IsGraph}
-use Rattle.lra_tree.specs.WellFormed.{IsWellFormed}
-use Rattle.lra_tree.specs.Refuse.{greatest_live, greatest_points, limit_fault}
+use Rattle.lra_operations.specs.Graph.{Node, seq, point}
+use Rattle.lra_program.specs.Sites.{Site, Event, comes, one_call_more, plain_site, live_behind, items_events, call_events, events_of, sites_in, sites_of}
+use Rattle.lra_operations.specs.Inlined.{Has, InlAll, main_frame}
+use Rattle.lra_operations.specs.Agree.{IsGraph}
+use Rattle.lra_program.specs.WellFormed.{IsWellFormed}
+use Rattle.lra_meaning.specs.Refuse.{greatest_live, greatest_points, limit_fault}
 use Rattle.lra_graph.specs.declared.points.Limit.{Limit}
 use Rattle.lra_graph.specs.declared.points.Limit.TheVariants.{Variables, Points, Calls}
 use Rattle.lra_graph.specs.declared.frame.Frame.{Frame}

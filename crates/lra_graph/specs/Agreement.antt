@@ -1,9 +1,9 @@
 -- Trees of operations and runs, for well-formed programs: nothing is left to ask of the program's points.
-use Rattle.lra_tree.specs.Program.{Program}
-use Rattle.lra_tree.specs.Graph.{Node}
-use Rattle.lra_tree.specs.Sites.{sites_of}
-use Rattle.lra_tree.specs.Agree.{IsGraph, AreDistinct, Agrees}
-use Rattle.lra_tree.specs.WellFormed.{IsWellFormed}
+use Rattle.lra_program.specs.Program.{Program}
+use Rattle.lra_operations.specs.Graph.{Node}
+use Rattle.lra_program.specs.Sites.{sites_of}
+use Rattle.lra_operations.specs.Agree.{IsGraph, AreDistinct, Agrees}
+use Rattle.lra_program.specs.WellFormed.{IsWellFormed}
 
 -- no two points of a well-formed program have one call path and label
 abbrev pub WellFormedAreDistinct : Type 0

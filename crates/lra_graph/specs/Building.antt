@@ -1,13 +1,12 @@
 -- What is owed for each part of a program that is written out: its points stand behind those before it, and whatever
 -- points follow, its tree is that of the definition.
 use Rattle.std.specs.Prelude.{◌≡◌, ◌≢◌, ℕ, suc, ◌+◌, ◌≤◌, Bool, true, List, ◌++◌, length, Option, Some, None, slice_get}
-use Rattle.lra_tree.specs.Program.{Cond, Call, Source, Stmt, loop, break, continue, return, BlockItems, Program}
-use Rattle.lra_tree.specs.Step as step
-use Rattle.lra_tree.specs.Graph.{Exit, broken, continued, returned, Node, seq, point}
-use Rattle.lra_tree.specs.Sites.{Site, Event, live_behind}
-use Rattle.lra_tree.specs.Sites.{source_events, given_events, stmt_events, items_events, call_events}
-use Rattle.lra_tree.specs.Inlined as inlined
-use Rattle.lra_tree.specs.WellFormed.{IsGoodCall, IsGoodGiven, IsGoodStmt, AreGoodItems}
+use Rattle.lra_program.specs.Program.{Cond, Call, Source, Stmt, loop, break, continue, return, BlockItems, Program}
+use Rattle.lra_program.specs.Step as step
+use Rattle.lra_operations.specs.Graph.{Exit, broken, continued, returned, Node, seq, point}
+use Rattle.lra_program.specs.Sites.{Site, Event, live_behind, source_events, given_events, stmt_events, items_events, call_events}
+use Rattle.lra_operations.specs.Inlined as inlined
+use Rattle.lra_program.specs.WellFormed.{IsGoodCall, IsGoodGiven, IsGoodStmt, AreGoodItems}
 use Rattle.lra_graph.specs.Limits.{walk, passed, stopped}
 use Rattle.lra_graph.specs.declared.points.Limit.{Limit}
 use Rattle.lra_graph.specs.declared.frame.Frame.{Frame}

@@ -1,14 +1,13 @@
 -- What is owed for a part, by what stands around it in code, and by the points before it and behind it.
 use Rattle.std.specs.Prelude.{◌≡◌, ℕ, ◌+◌, ◌++◌, List, [], ◌∷◌, map, Option, true, Vec}
 use Rattle.std.specs.declared.alloc.Global.{Global}
-use Rattle.lra_tree.specs.declared.graph.Node as code
-use Rattle.lra_tree.specs.declared.graph.Site as code_site
-use Rattle.lra_tree.specs.Program.{Cond, Call, Source, Stmt, BlockItems, Program}
-use Rattle.lra_tree.specs.Graph.{Exit}
-use Rattle.lra_tree.specs.Sites.{Site, Event, comes, plain_site}
-use Rattle.lra_tree.specs.Sites.{source_events, given_events, stmt_events, items_events, call_events}
-use Rattle.lra_tree.specs.ProgramViews.{program_view}
-use Rattle.lra_tree.specs.GraphViews.{node_view, site_view}
+use Rattle.lra_operations.specs.declared.graph.Node as code
+use Rattle.lra_operations.specs.declared.graph.Site as code_site
+use Rattle.lra_program.specs.Program.{Cond, Call, Source, Stmt, BlockItems, Program}
+use Rattle.lra_operations.specs.Graph.{Exit}
+use Rattle.lra_program.specs.Sites.{Site, Event, comes, plain_site, source_events, given_events, stmt_events, items_events, call_events}
+use Rattle.lra_program.specs.ProgramViews.{program_view}
+use Rattle.lra_operations.specs.GraphViews.{node_view, site_view}
 use Rattle.lra_graph.specs.Limits.{walk, passed, stopped}
 use Rattle.lra_graph.specs.Building as building
 use Rattle.lra_graph.specs.declared.points.Limit.{Limit}

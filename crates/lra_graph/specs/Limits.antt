@@ -1,10 +1,10 @@
 -- The points of a program in their order, up to the first that passes a limit.
 use Rattle.std.specs.Prelude.{suc, nat_lt, if◌then◌else◌, List, [], ◌∷◌, ◌++◌, length, Result, Ok, Err, ⊤}
-use Rattle.lra_tree.specs.declared.refusals.Cause.TheVariants.{TooManyVariables, TooManyPoints}
-use Rattle.lra_tree.specs.declared.refusals.Refusal.{Refusal}
-use Rattle.lra_tree.specs.Labels.{Labelled, label_at}
-use Rattle.lra_tree.specs.Sites.{Site, Event, comes, one_call_more}
-use Rattle.lra_tree.specs.Refuse.{greatest_live, greatest_points, label_place, called_place}
+use Rattle.lra_base.specs.declared.refusals.Cause.TheVariants.{TooManyVariables, TooManyPoints}
+use Rattle.lra_base.specs.declared.refusals.Refusal.{Refusal}
+use Rattle.lra_tree.specs.Labels.{Labelled, label_at, label_place, called_place}
+use Rattle.lra_program.specs.Sites.{Site, Event, comes, one_call_more}
+use Rattle.lra_meaning.specs.Refuse.{greatest_live, greatest_points}
 use Rattle.lra_graph.specs.declared.points.Limit.{Limit}
 use Rattle.lra_graph.specs.declared.points.Limit.TheVariants.{Variables, Points, Calls}
 use Rattle.lra_graph.specs.declared.points.GraphError.{GraphError}

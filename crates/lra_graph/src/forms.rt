@@ -1,14 +1,14 @@
 //! The forms of which a program's tree is made.
 
 ghost use Rattle.std.specs.Prelude.{◌≡◌, ◌+◌, ◌<◌, ◌^◌, ◌++◌, ◌∷◌, [], map, IfOk};
-ghost use Rattle.lra_tree.specs.Step as step;
-ghost use Rattle.lra_tree.specs.Graph as graph;
-ghost use Rattle.lra_tree.specs.Inlined.{loop_node, call_node, return_node};
-ghost use Rattle.lra_tree.specs.ProgramViews.{expr_view, cond_view};
-ghost use Rattle.lra_tree.specs.GraphViews.{op_view, exit_view, node_view, row};
+ghost use Rattle.lra_program.specs.Step as step;
+ghost use Rattle.lra_operations.specs.Graph as graph;
+ghost use Rattle.lra_operations.specs.Inlined.{loop_node, call_node, return_node};
+ghost use Rattle.lra_program.specs.ProgramViews.{expr_view, cond_view};
+ghost use Rattle.lra_operations.specs.GraphViews.{op_view, exit_view, node_view, row};
 
-use lra_tree::graph::{Exit, Node, Op};
-use lra_tree::program::{Cond, Expr, copy_expressions};
+use lra_operations::{Exit, Node, Op};
+use lra_program::{Cond, Expr, copy_expressions};
 use std::alloc::{AllocError, Global};
 
 /// The one, then the other.

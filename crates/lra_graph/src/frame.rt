@@ -1,7 +1,7 @@
 //! Where a statement stands.
 
-use lra_tree::graph::Path;
-use lra_tree::program::Program;
+use lra_operations::Path;
+use lra_program::Program;
 use std::alloc::Global;
 
 /// Where the call that runs goes back to: what gets its value, and how many variables live at the call.

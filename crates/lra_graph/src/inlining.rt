@@ -4,20 +4,14 @@
 mod whole;
 
 ghost use Rattle.std.specs.Prelude.{◌≡◌, ◌<◌, ◌≤◌, ◌+◌, ◌^◌, ℕ, length, map, IfOk, MatchOption, Option};
-ghost use Rattle.lra_tree.specs.Program as resolved;
-ghost use Rattle.lra_tree.specs.Sites.{live_behind};
-ghost use Rattle.lra_tree.specs.Value.{index_of};
-ghost use Rattle.lra_tree.specs.WellFormed.{IsWellFormed};
-ghost use Rattle.lra_tree.specs.ProgramViews.{slot_view, cond_view, call_view, source_view, given_view, stmt_view};
-ghost use Rattle.lra_tree.specs.ProgramViews.{item_view, items_of};
-ghost use Rattle.lra_tree.specs.GraphViews.{exit_view};
+ghost use Rattle.lra_program.specs.Program as resolved;
+ghost use Rattle.lra_program.specs.Sites.{live_behind};
+ghost use Rattle.lra_program.specs.Value.{index_of};
+ghost use Rattle.lra_program.specs.WellFormed.{IsWellFormed};
+ghost use Rattle.lra_program.specs.ProgramViews.{slot_view, cond_view, call_view, source_view, given_view, stmt_view, item_view, items_of};
+ghost use Rattle.lra_operations.specs.GraphViews.{exit_view};
 ghost use Rattle.lra_graph.specs.Limits.{OnLimit};
-ghost use Rattle.lra_graph.specs.Inlining.{points_in, program_around, own_events, assertion_events, Passes, Stops};
-ghost use Rattle.lra_graph.specs.Inlining.{StmtStands, ItemsStand, ItemStands, GivenStands};
-ghost use Rattle.lra_graph.specs.Inlining.{DeclaredStands, CallStands, RoundStands};
-ghost use Rattle.lra_graph.specs.Inlining.{StopsStmt, StopsItems, StopsItem, StopsGiven, StopsSource, StopsCall};
-ghost use Rattle.lra_graph.specs.Inlining.{StopsRound, IsStmt, IsPlain, IsExit, AreItems, IsItem};
-ghost use Rattle.lra_graph.specs.Inlining.{IsSource, IsDeclared, IsLoop, IsReturn};
+ghost use Rattle.lra_graph.specs.Inlining.{points_in, program_around, own_events, assertion_events, Passes, Stops, StmtStands, ItemsStand, ItemStands, GivenStands, DeclaredStands, CallStands, RoundStands, StopsStmt, StopsItems, StopsItem, StopsGiven, StopsSource, StopsCall, StopsRound, IsStmt, IsPlain, IsExit, AreItems, IsItem, IsSource, IsDeclared, IsLoop, IsReturn};
 
 use crate::forms::{
     CallPlace, add_part, behind, behind_point, block_end, called, choice, cut_and_leave, in_a_row,
@@ -25,8 +19,8 @@ use crate::forms::{
 };
 use crate::frame::{Around, Back, Frame};
 use crate::points::{GraphError, Limit, add_point};
-use lra_tree::graph::{Exit, Node, Op, Site};
-use lra_tree::program::{BlockItem, Call, Cond, Slot, Source, Stmt};
+use lra_operations::{Exit, Node, Op, Site};
+use lra_program::{BlockItem, Call, Cond, Slot, Source, Stmt};
 pub use whole::build;
 
 /// Where a variable stands in the store.

@@ -1,7 +1,7 @@
 //! The graph of a program: its calls written out as a tree of operations.
 //!
-//! The definitions stand in `lra_tree`: the runs of a program, trees of operations with their runs, and which tree
-//! stands for which program. Here it is proved that the two agree, and `build` makes the tree.
+//! The definitions stand in `lra_program` and `lra_operations`: the runs of a program, trees of operations with their
+//! runs, and which tree stands for which program. Here it is proved that the two agree, and `build` makes the tree.
 #![tactic(auto)]
 
 mod forms;
@@ -10,7 +10,7 @@ mod inlining;
 mod points;
 mod refused;
 
-ghost use Rattle.lra_tree.specs.Agree.{GraphsAgree};
+ghost use Rattle.lra_operations.specs.Agree.{GraphsAgree};
 ghost use Rattle.lra_graph.specs.Agreement.{WellFormedAreDistinct, WellFormedAgree};
 
 pub use inlining::build;

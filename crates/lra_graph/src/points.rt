@@ -1,11 +1,11 @@
 //! The points of a program in their order, and the limits on them.
 
 ghost use Rattle.std.specs.Prelude.{◌≡◌, ◌≤◌, ◌∷◌, ◌++◌, [], length, map, IfOk};
-ghost use Rattle.lra_tree.specs.Sites.{comes};
-ghost use Rattle.lra_tree.specs.GraphViews.{site_view};
+ghost use Rattle.lra_program.specs.Sites.{comes};
+ghost use Rattle.lra_operations.specs.GraphViews.{site_view};
 ghost use Rattle.lra_graph.specs.Limits.{walk, passed, stopped, OnLimit};
 
-use lra_tree::graph::{Path, Site};
+use lra_operations::{Path, Site};
 use std::alloc::{AllocError, Global};
 
 /// The most variables that may live at a point.

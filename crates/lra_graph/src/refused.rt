@@ -1,13 +1,13 @@
 //! What a program is refused for that passes a limit, where its source has these labels.
 
 ghost use Rattle.std.specs.Prelude.{◌≡◌, List, map};
-ghost use Rattle.lra_tree.specs.Labels.{Labelled, label_at};
+ghost use Rattle.lra_tree.specs.Labels.{Labelled, label_at, label_place, called_place};
 ghost use Rattle.lra_tree.specs.Walk.{told};
-ghost use Rattle.lra_tree.specs.Refuse.{label_place, called_place};
 ghost use Rattle.lra_graph.specs.Limits.{refusal_of};
 
 use crate::points::Limit;
-use lra_tree::{Cause, Label, Place, Refusal};
+use lra_base::{Cause, Place, Refusal};
+use lra_tree::Label;
 
 /// Where a source begins.
 const START: Place = Place { line: 1, column: 1 };

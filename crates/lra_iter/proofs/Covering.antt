@@ -8,11 +8,11 @@ use Rattle.lra_domain.specs.Meaning.{Meaning}
 use Rattle.lra_domain.specs.Laws.{Laws}
 use Rattle.lra_domain.specs.declared.Exactness.{Exactness}
 use Rattle.lra_lin.specs.Form.{form_value}
-use Rattle.lra_tree.specs.Linear as linear
-use Rattle.lra_tree.specs.Step.{State}
-use Rattle.lra_tree.specs.Graph.{Node, Comes, FailsAt}
-use Rattle.lra_tree.specs.Report.{dot}
-use Rattle.lra_tree.specs.Sites.{Site}
+use Rattle.lra_flow.specs.Linear as linear
+use Rattle.lra_program.specs.Step.{State}
+use Rattle.lra_operations.specs.Graph.{Node, Comes, FailsAt}
+use Rattle.lra_program.specs.Rows.{dot}
+use Rattle.lra_program.specs.Sites.{Site}
 use Rattle.lra_flow.specs.declared.Settings.{Settings}
 use Rattle.lra_flow.specs.Operations.{dropping}
 use Rattle.lra_flow.specs.Changes.{as_form, first_values, AreDone}

@@ -9,11 +9,11 @@ use Rattle.lra_domain.specs.Rank.{RankFits, RankBelow}
 use Rattle.lra_domain.specs.Meaning.{Meaning, Values, Grew}
 use Rattle.lra_domain.proofs.RankNumbers.{phased, phased_joins, phased_falls}
 use Rattle.lra_domain.specs.declared.Exactness.{Exactness}
-use Rattle.lra_tree.specs.declared.graph.Node.{Node}
-use Rattle.lra_tree.specs.declared.graph.Node.TheFolds.{fold-Node}
-use Rattle.lra_tree.specs.declared.graph.Node.TheOpen.{Node-F}
-use Rattle.lra_tree.specs.Program.{Cond}
-use Rattle.lra_tree.specs.Graph as graph
+use Rattle.lra_operations.specs.declared.graph.Node.{Node}
+use Rattle.lra_operations.specs.declared.graph.Node.TheFolds.{fold-Node}
+use Rattle.lra_operations.specs.declared.graph.Node.TheOpen.{Node-F}
+use Rattle.lra_program.specs.Program.{Cond}
+use Rattle.lra_operations.specs.Graph as graph
 use Rattle.lra_flow.specs.declared.Settings.{Settings}
 use Rattle.lra_flow.specs.Operations.{Operations, dropping}
 use Rattle.lra_flow.specs.Changes.{AreJoined}

@@ -5,9 +5,9 @@ use Rattle.std.specs.List.{sum_by}
 use Rattle.std.proofs.lemmas.List.{append_assoc, drop_all}
 use Rattle.std.proofs.lemmas.List.Sums.{get_or-le-sum_by}
 use Rattle.lra_domain.specs.Meaning.{Meaning}
-use Rattle.lra_tree.specs.declared.graph.Node.{Node}
-use Rattle.lra_tree.specs.GraphViews.{node_view, row}
-use Rattle.lra_tree.specs.Graph as graph
+use Rattle.lra_operations.specs.declared.graph.Node.{Node}
+use Rattle.lra_operations.specs.GraphViews.{node_view, row}
+use Rattle.lra_operations.specs.Graph as graph
 use Rattle.lra_flow.specs.declared.Settings.{Settings}
 use Rattle.lra_flow.specs.Pass.{Entry, Result, goes_on, in_turn}
 use Rattle.lra_iter.specs.Fits.{live_behind, TreeFits}

@@ -8,15 +8,15 @@ use Rattle.std.proofs.lemmas.List.Sums.{sum-map}
 use Rattle.std.proofs.lemmas.List.Elements.{Contains-append_cases}
 use Rattle.lra_domain.specs.Meaning.{Meaning}
 use Rattle.lra_domain.specs.declared.Exactness.{Exactness}
-use Rattle.lra_tree.specs.declared.program.Cond as declared_cond
-use Rattle.lra_tree.specs.declared.graph.Exit as declared_exit
-use Rattle.lra_tree.specs.declared.graph.Op as declared_op
-use Rattle.lra_tree.specs.declared.graph.Node.{Node, Empty, Point, Act, Check, Seq, Choose, Iterate, Catch, Leave, the_lemmas}
-use Rattle.lra_tree.specs.ProgramViews.{cond_view}
-use Rattle.lra_tree.specs.GraphViews.{exit_view, op_view, node_view, row}
-use Rattle.lra_tree.specs.Program.{Cond}
-use Rattle.lra_tree.specs.Graph.{Exit, broken, continued, returned}
-use Rattle.lra_tree.specs.Graph as graph
+use Rattle.lra_program.specs.declared.program.Cond as declared_cond
+use Rattle.lra_operations.specs.declared.graph.Exit as declared_exit
+use Rattle.lra_operations.specs.declared.graph.Op as declared_op
+use Rattle.lra_operations.specs.declared.graph.Node.{Node, Empty, Point, Act, Check, Seq, Choose, Iterate, Catch, Leave, the_lemmas}
+use Rattle.lra_program.specs.ProgramViews.{cond_view}
+use Rattle.lra_operations.specs.GraphViews.{exit_view, op_view, node_view, row}
+use Rattle.lra_program.specs.Program.{Cond}
+use Rattle.lra_operations.specs.Graph.{Exit, broken, continued, returned}
+use Rattle.lra_operations.specs.Graph as graph
 use Rattle.lra_flow.specs.declared.Settings.{Settings}
 use Rattle.lra_flow.specs.Operations.{dropping}
 use Rattle.lra_flow.specs.Conditions.{Leaves}

@@ -9,8 +9,8 @@ use Rattle.std.proofs.lemmas.List.Elements.{Contains-append_left, Contains-push,
 use Rattle.std.proofs.lemmas.Option.{none-some, same_Some, slice_get-map, slice_get_past}
 use Rattle.lra_linear.proofs.Membership.{contains_none, contains_head, contains_tail, contains_cases}
 use Rattle.lra_domain.specs.Meaning.{Meaning}
-use Rattle.lra_tree.specs.Sites.{Site}
-use Rattle.lra_tree.specs.Listing.{assertions_from}
+use Rattle.lra_program.specs.Sites.{Site}
+use Rattle.lra_program.specs.Assertions.{assertions_from}
 use Rattle.lra_flow.specs.Pass.{Entry, value, failing, Result}
 use Rattle.lra_flow.specs.Analysis.{IsUnreachable, Solves}
 use Rattle.lra_iter.specs.Numbers.{asserts_of}

@@ -8,14 +8,15 @@ use Rattle.lra_domain.specs.declared.Exactness.{Exactness}
 use Rattle.lra_domain.specs.declared.Exactness.TheVariants.{Exact}
 use Rattle.lra_domain.specs.Meaning.{Meaning}
 use Rattle.lra_domain.specs.Laws.{Laws}
-use Rattle.lra_tree.specs.Program.{Comparison, below, at_most, above, at_least, equal, differs, Expr, Cond, Program}
-use Rattle.lra_tree.specs.Linear as linear
-use Rattle.lra_tree.specs.Linear.{Test, comparison_test, difference_form}
-use Rattle.lra_tree.specs.Condition.{Pushed, atom, first_then, one_or, push, IsTestedBy, IsAtom, IsPushed}
-use Rattle.lra_tree.specs.Step as step
-use Rattle.lra_tree.specs.Step.{Op, append, give, give_any, keep, test}
-use Rattle.lra_tree.specs.Graph.{Exit, broken, continued, returned, Node, empty, point, act, check, seq, choose, iterate, catch, leave}
-use Rattle.lra_tree.specs.Sites.{Site}
+use Rattle.lra_base.specs.Operators.{Comparison, below, at_most, above, at_least, equal, differs}
+use Rattle.lra_program.specs.Program.{Expr, Cond, Program}
+use Rattle.lra_flow.specs.Linear as linear
+use Rattle.lra_flow.specs.Linear.{Test, comparison_test, difference_form}
+use Rattle.lra_flow.specs.Condition.{Pushed, atom, first_then, one_or, push, IsTestedBy, IsAtom, IsPushed}
+use Rattle.lra_program.specs.Step as step
+use Rattle.lra_program.specs.Step.{Op, append, give, give_any, keep, test}
+use Rattle.lra_operations.specs.Graph.{Exit, broken, continued, returned, Node, empty, point, act, check, seq, choose, iterate, catch, leave}
+use Rattle.lra_program.specs.Sites.{Site}
 use Rattle.lra_flow.specs.declared.Settings.{Settings}
 use Rattle.lra_flow.specs.Operations.{dropping}
 use Rattle.lra_flow.specs.Changes.{set_to, push_all, drop_last, actions_of, first_values, AreDone, AreJoined}

@@ -1,6 +1,6 @@
 -- How often a number has an entry among those that a pass finds.
 use Rattle.std.specs.Prelude.{◌≡◌, ◌≤◌, ℕ, ◌+◌, List, [], ◌∷◌, Some, None, slice_get}
-use Rattle.lra_tree.specs.Sites.{Site}
+use Rattle.lra_program.specs.Sites.{Site}
 use Rattle.lra_flow.specs.Pass.{Entry, value, failing}
 use Rattle.lra_iter.specs.Numbers.{one_if, asserts_of}
 

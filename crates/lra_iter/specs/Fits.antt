@@ -1,7 +1,7 @@
 -- How many variables live in a tree of operations, and when its operations can be made of a value of so many
 -- dimensions.
 use Rattle.std.specs.Prelude.{◌≡◌, ◌≢◌, ℕ, ◌≤◌, ◌^◌, ◌⊎◌, ⊤}
-use Rattle.lra_tree.specs.Graph.{Exit, Node, empty, point, act, check, seq, choose, iterate, catch, leave}
+use Rattle.lra_operations.specs.Graph.{Exit, Node, empty, point, act, check, seq, choose, iterate, catch, leave}
 use Rattle.lra_change.specs.Changes.{dims_behind, OpFits}
 
 -- so many live behind a tree at whose beginning n live

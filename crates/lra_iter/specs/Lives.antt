@@ -1,8 +1,8 @@
 -- How many variables live at the points of a tree, and values with a dimension for each of them.
 use Rattle.std.specs.Prelude.{◌≡◌, ℕ, List, Some, slice_get}
 use Rattle.lra_domain.specs.Meaning.{Meaning}
-use Rattle.lra_tree.specs.Graph.{Node, empty, point, act, check, seq, choose, iterate, catch, leave}
-use Rattle.lra_tree.specs.Sites.{Site}
+use Rattle.lra_operations.specs.Graph.{Node, empty, point, act, check, seq, choose, iterate, catch, leave}
+use Rattle.lra_program.specs.Sites.{Site}
 use Rattle.lra_iter.specs.Fits.{live_behind}
 
 -- a point of this number has so many live variables

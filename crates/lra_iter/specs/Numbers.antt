@@ -1,7 +1,7 @@
 -- How often a point's number has a value in a tree of operations, and how often an assertion has it.
 use Rattle.std.specs.Prelude.{◌≡◌, ℕ, ◌+◌, ◌<◌, nat_eq, cond, List, Option, Some, None, slice_get, ⊤}
-use Rattle.lra_tree.specs.Graph.{Node, empty, point, act, check, seq, choose, iterate, catch, leave}
-use Rattle.lra_tree.specs.Sites.{Site}
+use Rattle.lra_operations.specs.Graph.{Node, empty, point, act, check, seq, choose, iterate, catch, leave}
+use Rattle.lra_program.specs.Sites.{Site}
 
 -- 1 where the numbers are equal, else 0
 unfoldable pub one_if : ℕ → ℕ → ℕ

@@ -1,15 +1,14 @@
 -- What a pass in code gives, as the result of a pass.
-use Rattle.std.specs.Prelude.{◌≡◌, ℕ, false, List, [], ◌∷◌, map}
+use Rattle.std.specs.Prelude.{◌≡◌, ℕ, false, List, [], ◌∷◌, map, Option}
 use Rattle.lra_domain.specs.Meaning.{Meaning}
 use Rattle.lra_iter.specs.declared.outcome.Entry as entry
 use Rattle.lra_iter.specs.declared.outcome.Entry.TheVariants.{Value, Failing}
 use Rattle.lra_iter.specs.declared.outcome.Found.{Found}
 use Rattle.lra_iter.specs.declared.outcome.Outcome.{Outcome}
 use Rattle.lra_domain.specs.declared.Exactness.{Exactness}
-use Rattle.std.specs.Prelude.{Option}
 use Rattle.std.specs.List.{Contains}
-use Rattle.lra_tree.specs.Program.{Cond}
-use Rattle.lra_tree.specs.Graph.{Exit, Node}
+use Rattle.lra_program.specs.Program.{Cond}
+use Rattle.lra_operations.specs.Graph.{Exit, Node}
 use Rattle.lra_flow.specs.declared.Settings.{Settings}
 use Rattle.lra_flow.specs.Conditions.{Leaves}
 use Rattle.lra_flow.specs.Given.{given_rows}

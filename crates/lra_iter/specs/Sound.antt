@@ -2,8 +2,8 @@
 use Rattle.std.specs.Prelude.{◌≡◌, ℕ, ℤ, List, length, Bool, true, Some, slice_get}
 use Rattle.std.specs.List.{Contains}
 use Rattle.lra_domain.specs.Meaning.{Meaning}
-use Rattle.lra_tree.specs.Step.{State}
-use Rattle.lra_tree.specs.Graph.{Node, Comes, FailsAt}
+use Rattle.lra_program.specs.Step.{State}
+use Rattle.lra_operations.specs.Graph.{Node, Comes, FailsAt}
 use Rattle.lra_flow.specs.Analysis.{IsUnreachable}
 
 -- where a run begins: with the globals at their first values, and its draws

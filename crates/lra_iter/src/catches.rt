@@ -1,14 +1,14 @@
 //! Jumps that come out of a tree.
 
 ghost use Rattle.std.specs.Prelude.{◌≡◌, IfOk};
-ghost use Rattle.lra_tree.specs.Graph.{broken, continued, returned};
-ghost use Rattle.lra_tree.specs.GraphViews.{exit_view};
+ghost use Rattle.lra_operations.specs.Graph.{broken, continued, returned};
+ghost use Rattle.lra_operations.specs.GraphViews.{exit_view};
 ghost use Rattle.lra_flow.specs.Sound.{jumps_of};
 ghost use Rattle.lra_iter.specs.Outcome.{seen, AllHave, Catches};
 
 use crate::outcome::{Outcome, join_all, note};
 use lra_domain::Domain;
-use lra_tree::graph::Exit;
+use lra_operations::Exit;
 use std::alloc::{AllocError, Global};
 
 /// `break` comes out here.

@@ -1,9 +1,9 @@
 //! The pass over trees with no tree in them.
 
 ghost use Rattle.std.specs.Prelude.{◌≡◌, ◌≤◌, ◌^◌, IfOk};
-ghost use Rattle.lra_tree.specs.Graph.{act, check, leave, point as point_node};
-ghost use Rattle.lra_tree.specs.ProgramViews.{cond_view};
-ghost use Rattle.lra_tree.specs.GraphViews.{exit_view, op_view};
+ghost use Rattle.lra_operations.specs.Graph.{act, check, leave, point as point_node};
+ghost use Rattle.lra_program.specs.ProgramViews.{cond_view};
+ghost use Rattle.lra_operations.specs.GraphViews.{exit_view, op_view};
 ghost use Rattle.lra_flow.specs.declared.Settings.{Settings};
 ghost use Rattle.lra_change.specs.Changes.{dims_behind, OpFits};
 ghost use Rattle.lra_iter.specs.Outcome.{seen, IsPassed};
@@ -12,8 +12,8 @@ use crate::outcome::{Entry, Outcome, note};
 use lra_change::{Kept, change, split};
 use lra_domain::{Domain, Exactness};
 use lra_flow::Settings;
-use lra_tree::graph::{Exit, Op};
-use lra_tree::program::Cond;
+use lra_operations::{Exit, Op};
+use lra_program::Cond;
 use std::alloc::{AllocError, Global};
 
 /// A point: its value is found.

@@ -1,8 +1,8 @@
 //! What a pass over a tree of operations gives.
 
 ghost use Rattle.std.specs.Prelude.{◌≡◌, ℕ, [], Option, map, IfOk, OnOk};
-ghost use Rattle.lra_tree.specs.Graph.{broken, continued, returned};
-ghost use Rattle.lra_tree.specs.GraphViews.{exit_view};
+ghost use Rattle.lra_operations.specs.Graph.{broken, continued, returned};
+ghost use Rattle.lra_operations.specs.GraphViews.{exit_view};
 ghost use Rattle.lra_flow.specs.Operations.{dropping};
 ghost use Rattle.lra_flow.specs.Changes.{AreJoined};
 ghost use Rattle.lra_flow.specs.Pass.{noted, goes_on, jumps, behind};
@@ -10,7 +10,7 @@ ghost use Rattle.lra_iter.specs.Outcome.{entry_view, ended, seen, AllHave, AreIn
 
 use lra_change::worse_of;
 use lra_domain::{Domain, Exactness};
-use lra_tree::graph::Exit;
+use lra_operations::Exit;
 use std::alloc::{AllocError, Global};
 use std::mem;
 

@@ -3,9 +3,9 @@
 ghost use Rattle.std.specs.Prelude.{◌≡◌, ◌≤◌, ◌^◌, map, IfOk};
 ghost use Rattle.lra_domain.specs.Rank.{RankFits};
 ghost use Rattle.lra_domain.specs.declared.Exactness.{Exactness};
-ghost use Rattle.lra_tree.specs.Graph.{choose, iterate};
-ghost use Rattle.lra_tree.specs.ProgramViews.{cond_view};
-ghost use Rattle.lra_tree.specs.GraphViews.{node_view, row};
+ghost use Rattle.lra_operations.specs.Graph.{choose, iterate};
+ghost use Rattle.lra_program.specs.ProgramViews.{cond_view};
+ghost use Rattle.lra_operations.specs.GraphViews.{node_view, row};
 ghost use Rattle.lra_flow.specs.Given.{given_rows};
 ghost use Rattle.lra_flow.specs.Operations.{dropping};
 ghost use Rattle.lra_flow.specs.Pass.{GoesRound, Pass, mode_at, noted};
@@ -19,8 +19,8 @@ use lra_change::{Kept, leave, split};
 use lra_domain::{Domain, Exactness, Grown, Mode};
 use lra_flow::Settings;
 use lra_forms::given_of;
-use lra_tree::graph::Node;
-use lra_tree::program::Cond;
+use lra_operations::Node;
+use lra_program::Cond;
 use std::alloc::{AllocError, Global};
 use std::mem;
 

@@ -1,9 +1,9 @@
 //! What is found of a whole program.
 
 ghost use Rattle.std.specs.Prelude.{◌≡◌, ◌≤◌, ◌^◌, map, length, IfOk};
-ghost use Rattle.lra_tree.specs.Program.{Program};
-ghost use Rattle.lra_tree.specs.GraphViews.{node_view, site_view};
-ghost use Rattle.lra_tree.specs.Listing.{assertions_from};
+ghost use Rattle.lra_program.specs.Program.{Program};
+ghost use Rattle.lra_operations.specs.GraphViews.{node_view, site_view};
+ghost use Rattle.lra_program.specs.Assertions.{assertions_from};
 ghost use Rattle.lra_flow.specs.Analysis.{Solves};
 ghost use Rattle.lra_iter.specs.Fits.{TreeFits};
 ghost use Rattle.lra_iter.specs.Lives.{PointsHave, AreWide};
@@ -19,7 +19,7 @@ use crate::tables::{held_in, numbered_in, tables_of};
 use lra_change::append_globals;
 use lra_domain::Domain;
 use lra_flow::Settings;
-use lra_tree::graph::{Graph, Site};
+use lra_operations::{Graph, Site};
 use std::alloc::{AllocError, Global};
 
 /// What is found of a program: the value at each of its points, in the order of their numbers; of each assertion its

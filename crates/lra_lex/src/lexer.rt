@@ -1,8 +1,7 @@
 //! The tokens of a source, or its first fault.
 
-ghost use Rattle.std.specs.Prelude.{◌≡◌, ◌++◌, ◌+◌, ◌<◌, ◌^◌, false, length, slice_index, true, IfNone, IfOk, IfSome};
-ghost use Rattle.std.specs.Prelude.{OnOk};
-ghost use Rattle.lra_tree.specs.declared.refusals.Cause.TheVariants.{BadByte, BadLiteral};
+ghost use Rattle.std.specs.Prelude.{◌≡◌, ◌++◌, ◌+◌, ◌<◌, ◌^◌, false, length, slice_index, true, IfNone, IfOk, IfSome, OnOk};
+ghost use Rattle.lra_base.specs.declared.refusals.Cause.TheVariants.{BadByte, BadLiteral};
 ghost use Rattle.lra_tree.specs.Lexeme.{is_digit, is_letter, is_word, is_word_byte, IsUnclosed, SpellsToken};
 ghost use Rattle.lra_tree.specs.Tokens.{IsTokenFault, Lex, OneReading};
 ghost use Rattle.lra_lex.specs.Front.{opens_comment, operator_at};
@@ -13,7 +12,8 @@ use crate::gaps::gap;
 use crate::literals::literal;
 use crate::marks::{is_further_word, mark, spelling_of};
 use crate::spot::Spot;
-use lra_tree::{Cause, Kind, Mark, Place, Refusal, Token, Word};
+use lra_base::{Cause, Place, Refusal};
+use lra_tree::{Kind, Mark, Token, Word};
 use std::alloc::{AllocError, AllocFailed, Global};
 
 /// Why a source has no list of tokens.

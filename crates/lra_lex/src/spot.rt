@@ -5,7 +5,7 @@ ghost use Rattle.lra_tree.specs.Tokens.{place_behind, place_from};
 ghost use Rattle.lra_lex.specs.Places.{fresh_behind};
 
 use crate::bytes::is_space_or_tab;
-use lra_tree::Place;
+use lra_base::Place;
 
 /// A byte's place, and whether only spaces and tabs stand before it on its line.
 #[derive(Clone, Copy)]

@@ -3,12 +3,12 @@ use Rattle.std.proofs.Common.{◌≡◌, ◌∙◌, sym, ap, refl, subst, ◌+�
 use Rattle.std.proofs.lemmas.Option.{slice_get_read, slice_get-map}
 use Rattle.std.proofs.lemmas.List.{length-map, length-take-le, map-append}
 use Rattle.std.specs.List.{AllByRecursion}
-use Rattle.lra_tree.specs.Report.{Part, State, PointReport}
-use Rattle.lra_tree.specs.Sites.{Site}
+use Rattle.lra_findings.specs.Report.{Part, State, PointReport}
+use Rattle.lra_program.specs.Sites.{Site}
 use Rattle.lra_tree.specs.Labels.{Labelled}
-use Rattle.lra_tree.specs.Listing.{listed_point, HasWidth, AreListed}
-use Rattle.lra_tree.specs.declared.graph.Site as code_site
-use Rattle.lra_tree.specs.GraphViews.{site_view}
+use Rattle.lra_report.specs.Listing.{listed_point, HasWidth, AreListed}
+use Rattle.lra_operations.specs.declared.graph.Site as code_site
+use Rattle.lra_operations.specs.GraphViews.{site_view}
 use Rattle.lra_report.specs.declared.report.PointReport as code_point
 use Rattle.lra_report.specs.View.{point_report_of}
 use Rattle.lra_listing.specs.Given.{state_of, AreStates}

@@ -3,13 +3,14 @@ use Rattle.std.proofs.Common.{◌≡◌, ◌∙◌, sym, ap, subst, ◌<◌, ℕ
 use Rattle.std.specs.Prelude.{All}
 use Rattle.std.proofs.lemmas.List.{length-map}
 use Rattle.lra_tree.specs.Trees.{FileTree}
-use Rattle.lra_tree.specs.Resolve.{resolve}
-use Rattle.lra_tree.specs.Sites.{Site, sites_of}
-use Rattle.lra_tree.specs.declared.graph.Site as code_site
-use Rattle.lra_tree.specs.GraphViews.{site_view}
+use Rattle.lra_meaning.specs.Resolve.{resolve}
+use Rattle.lra_program.specs.Sites.{Site, sites_of}
+use Rattle.lra_operations.specs.declared.graph.Site as code_site
+use Rattle.lra_operations.specs.GraphViews.{site_view}
 use Rattle.lra_tree.specs.Labels.{Labelled, labels_of}
-use Rattle.lra_tree.specs.Report.{State, Report}
-use Rattle.lra_tree.specs.Listing.{globals_named, AreListed, Lists}
+use Rattle.lra_findings.specs.Report.{State, Report}
+use Rattle.lra_meaning.specs.LiveNames.{globals_named}
+use Rattle.lra_report.specs.Listing.{AreListed, Lists}
 use Rattle.lra_listing.specs.Given.{AreStates, AreVerdicts, verdict_at}
 use Rattle.lra_listing.proofs.Verdicts.{are_judged, are_there}
 

@@ -1,6 +1,6 @@
 -- Pieces of a source's labels.
 use Rattle.std.specs.Prelude.{ℕ, List, ◌∷◌, ◌++◌, Option, flat_map}
-use Rattle.lra_tree.specs.declared.refusals.Place.{Place}
+use Rattle.lra_base.specs.declared.refusals.Place.{Place}
 use Rattle.lra_tree.specs.Trees.{AssignTree, InitTree, FunctionTree}
 use Rattle.lra_tree.specs.Labels.{Labelled, plain_label, init_labels, step_labels, live_in_for, function_labels}
 

@@ -2,15 +2,16 @@
 //! together take no more room than the source has variables and labels.
 
 ghost use Rattle.std.specs.Prelude.{◌≡◌, ◌++◌, ◌∷◌, ◌<◌, ◌≤◌, [], length, IfOk, Option, MatchOption, map};
-ghost use Rattle.lra_tree.specs.Labels.{label_at};
-ghost use Rattle.lra_tree.specs.Listing.{live_at, live_in_call_at, call_at, called_at};
+ghost use Rattle.lra_tree.specs.Labels.{label_at, label_place};
+ghost use Rattle.lra_meaning.specs.LiveNames.{live_at, live_in_call_at};
+ghost use Rattle.lra_report.specs.Listing.{call_at, called_at};
 ghost use Rattle.lra_report.specs.View.{call_place_of};
-ghost use Rattle.lra_tree.specs.Refuse.{label_place};
 ghost use Rattle.lra_listing.specs.Environments.{list_at, lists_of, AreOrdered, label_in};
 
+use lra_base::Place;
 use lra_report::CallPlace;
 use lra_show::Names;
-use lra_tree::{Identifier, Place, Word};
+use lra_tree::{Identifier, Word};
 use std::alloc::{AllocError, Global};
 use std::marker::Model;
 

@@ -1,24 +1,23 @@
 //! The report of what an analysis found.
 
-ghost use Rattle.std.specs.Prelude.{◌≡◌, ◌++◌, ◌∷◌, ◌<◌, ◌^◌, [], ℕ, suc, Bool, length, map, Some, option_map, IfOk};
-ghost use Rattle.std.specs.Prelude.{string_bytes, List, All};
-ghost use Rattle.lra_tree.specs.GraphViews.{site_view};
+ghost use Rattle.std.specs.Prelude.{◌≡◌, ◌++◌, ◌∷◌, ◌<◌, ◌^◌, [], ℕ, suc, Bool, length, map, Some, option_map, IfOk, string_bytes, List, All};
+ghost use Rattle.lra_operations.specs.GraphViews.{site_view};
 ghost use Rattle.lra_tree.specs.Trees.{PartTree};
 ghost use Rattle.lra_tree.specs.Views.{tree_view, part_view, global_view};
-ghost use Rattle.lra_tree.specs.Resolve.{resolve};
-ghost use Rattle.lra_tree.specs.Sites.{sites_of};
-ghost use Rattle.lra_tree.specs.NameFaults.{global_names};
-ghost use Rattle.lra_tree.specs.ReportText.{shown_names, path_text};
-ghost use Rattle.lra_tree.specs.Listing.{globals_named, names_outside, calls_on, live_names, listed_point};
-ghost use Rattle.lra_tree.specs.Listing.{listed_verdict, AreListed, Lists};
+ghost use Rattle.lra_meaning.specs.Resolve.{resolve};
+ghost use Rattle.lra_program.specs.Sites.{sites_of};
+ghost use Rattle.lra_meaning.specs.NameFaults.{global_names};
+ghost use Rattle.lra_findings.specs.ReportText.{shown_names, path_text};
+ghost use Rattle.lra_meaning.specs.LiveNames.{globals_named, names_outside, live_names};
+ghost use Rattle.lra_report.specs.Listing.{calls_on, listed_point, listed_verdict, AreListed, Lists};
 ghost use Rattle.lra_report.specs.View.{call_place_of, point_report_of, verdict_of, report_of};
 ghost use Rattle.lra_listing.specs.Given.{AreStates, AreVerdicts, state_of, told_of, told, verdict_at};
 
 use crate::labels::Labels;
 use crate::walk::labels;
+use lra_operations::Site;
 use lra_report::{CallPlace, Options, Part, Point, PointReport, Report, Verdict, path_text};
 use lra_show::{Names, names_at};
-use lra_tree::graph::Site;
 use lra_tree::{Global as Variable, Item, Tree};
 use std::alloc::{AllocError, Global};
 

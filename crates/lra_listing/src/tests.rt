@@ -3,15 +3,16 @@
 use crate::labels::Labels;
 use crate::listing::{list_point, list_verdict, names_of_globals};
 use crate::walk::labels;
+use lra_base::{Comparison, Place};
+use lra_operations::{Path, Site};
 use lra_report::{Domain, Options, Part, PointReport, Report, text};
 use lra_row::Row;
 use lra_show::Names;
 use lra_sys::{ConKind, ConSys};
-use lra_tree::graph::{Path, Site};
 use lra_tree::{
-    Arguments, Block, BlockItem, Call, Comparison, Cond, Conjunction, Declaration, Declarator,
-    Expr, Function, Global as Variable, Globals, Identifier, Item, Parameters, Place, Source, Stmt,
-    Term, Test, Tree, Unary, Word,
+    Arguments, Block, BlockItem, Call, Cond, Conjunction, Declaration, Declarator, Expr, Function,
+    Global as Variable, Globals, Identifier, Item, Parameters, Source, Stmt, Term, Test, Tree,
+    Unary, Word,
 };
 use std::alloc::{AllocError, Global};
 use std::test::Fail;

@@ -2,19 +2,17 @@
 
 ghost use Rattle.std.specs.Prelude.{◌≡◌, ◌∷◌, ◌++◌, ◌<◌, [], List, ℕ, length, map, option_map, IfOk, Option};
 ghost use Rattle.lra_tree.specs.Trees.{ItemsTree, PartTree};
-ghost use Rattle.lra_tree.specs.Views.{source_view, assign_view, declarator_view, declaration_view, init_view};
-ghost use Rattle.lra_tree.specs.Views.{item_view, stmt_view, block_view, part_view, function_view, tree_view};
-ghost use Rattle.lra_tree.specs.Scope.{functions_in};
-ghost use Rattle.lra_tree.specs.Labels.{plain_label, called_in, called_of, with_names, live_in_for, assign_label};
-ghost use Rattle.lra_tree.specs.Labels.{function_labels, declarator_labels, init_labels, step_labels, stmt_labels};
-ghost use Rattle.lra_tree.specs.Labels.{items_labels, labels_of};
+ghost use Rattle.lra_tree.specs.Views.{source_view, assign_view, declarator_view, declaration_view, init_view, item_view, stmt_view, block_view, part_view, function_view, tree_view};
+ghost use Rattle.lra_tree.specs.Functions.{functions_in};
+ghost use Rattle.lra_tree.specs.Labels.{plain_label, called_in, called_of, with_names, live_in_for, assign_label, function_labels, declarator_labels, init_labels, step_labels, stmt_labels, items_labels, labels_of};
 ghost use Rattle.lra_listing.specs.Environments.{list_at, Keep};
 ghost use Rattle.lra_listing.specs.Walked.{labels_of_functions, for_front};
 
 use crate::labels::Labels;
+use lra_base::Place;
 use lra_tree::{
-    Assign, Block, BlockItem, Declaration, Declarator, Function, Identifier, Init, Item, Place,
-    Source, Stmt, Tree,
+    Assign, Block, BlockItem, Declaration, Declarator, Function, Identifier, Init, Item, Source,
+    Stmt, Tree,
 };
 use std::alloc::{AllocError, Global};
 

@@ -7,9 +7,10 @@ use Rattle.std.proofs.lemmas.List.{length-map}
 use Rattle.lra_tree.specs.declared.trees.Call.{Call}
 use Rattle.lra_tree.specs.Trees.{FunctionTree}
 use Rattle.lra_tree.specs.Views.{expr_view, call_view}
-use Rattle.lra_tree.specs.Scope.{Scope, function_named}
-use Rattle.lra_tree.specs.NameFaults.{called_faults, call_faults, expr_faults}
-use Rattle.lra_tree.specs.Resolve.{resolve_expr}
+use Rattle.lra_meaning.specs.Scope.{Scope}
+use Rattle.lra_tree.specs.Functions.{function_named}
+use Rattle.lra_meaning.specs.NameFaults.{called_faults, call_faults, expr_faults}
+use Rattle.lra_meaning.specs.Resolve.{resolve_expr}
 use Rattle.lra_names.specs.Calls.{argument_faults, resolve_argument}
 use Rattle.lra_names.proofs.Telling.{tells_front, tells_behind}
 

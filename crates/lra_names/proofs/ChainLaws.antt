@@ -1,7 +1,7 @@
 -- The faults of a chain are those of its operands in their order, and it means the chain of what they mean.
 use Rattle.std.proofs.Common.{◌≡◌, List, [], ◌∷◌, ◌++◌, map, refl, sym, ap, ◌∙◌, append_assoc, append-nil, ℕ, ◌≤◌, take, length}
 use Rattle.std.specs.List.{flat_map}
-use Rattle.lra_tree.specs.declared.refusals.Refusal.{Refusal}
+use Rattle.lra_base.specs.declared.refusals.Refusal.{Refusal}
 use Rattle.lra_tree.specs.declared.trees.FactorOperator.{FactorOperator}
 use Rattle.lra_tree.specs.declared.trees.FactorOperator.TheVariants as factor
 use Rattle.lra_tree.specs.declared.trees.SumOperator.{SumOperator}
@@ -16,13 +16,13 @@ use Rattle.lra_tree.specs.declared.trees.Factor.{Factor}
 use Rattle.lra_tree.specs.declared.trees.Summand.{Summand}
 use Rattle.lra_names.proofs.Telling.{tells_front, tells_behind}
 use Rattle.lra_tree.specs.Trees.{UnaryTree, TermTree, unary, ExprTree, term}
-use Rattle.lra_tree.specs.Views.{further_factor, product, further_term, sum_of, unary_view, factor_view, term_view, summand_view, expr_view, unary_step, expr_step, factor_step, summand_step}
-use Rattle.lra_tree.specs.Views.{term_step}
-use Rattle.lra_tree.specs.Program as program
-use Rattle.lra_tree.specs.ProgramViews.{chained}
-use Rattle.lra_tree.specs.Scope.{Scope}
-use Rattle.lra_tree.specs.NameFaults.{unary_faults, term_faults, expr_faults}
-use Rattle.lra_tree.specs.Resolve.{resolve_unary, resolve_term, resolve_expr}
+use Rattle.lra_tree.specs.Views.{further_factor, product, further_term, sum_of, unary_view, factor_view, term_view, summand_view, expr_view, unary_step, expr_step, factor_step, summand_step, term_step}
+use Rattle.lra_program.specs.Program as program
+use Rattle.lra_base.specs.Operators as operators
+use Rattle.lra_program.specs.ProgramViews.{chained}
+use Rattle.lra_meaning.specs.Scope.{Scope}
+use Rattle.lra_meaning.specs.NameFaults.{unary_faults, term_faults, expr_faults}
+use Rattle.lra_meaning.specs.Resolve.{resolve_unary, resolve_term, resolve_expr}
 use Rattle.lra_names.specs.Chains.{factor_operator, sum_operator, factor_faults, resolve_factor, summand_faults, resolve_summand}
 
 further_factor_faults : (s : Scope) (t : TermTree) (op : FactorOperator) (u : UnaryTree) → term_faults s (further_factor t op u) ≡ term_faults s t ++ unary_faults s u
@@ -81,7 +81,7 @@ expr_view_is = fold_out-Expr UnaryTree ExprTree (FactorOperator × UnaryTree) (S
 abbrev pub faults_of_factor : Scope → Factor → List Refusal
 faults_of_factor s f = factor_faults s (factor_view f)
 
-abbrev pub factor_means : Scope → Factor → program.Operator × program.Expr
+abbrev pub factor_means : Scope → Factor → operators.Operator × program.Expr
 factor_means s f = resolve_factor s (factor_view f)
 
 pub code_term_faults : (s : Scope) (t : Term)
@@ -101,7 +101,7 @@ code_term_means s t =
 abbrev pub faults_of_summand : Scope → Summand → List Refusal
 faults_of_summand s f = summand_faults s (summand_view f)
 
-abbrev pub summand_means : Scope → Summand → program.Operator × program.Expr
+abbrev pub summand_means : Scope → Summand → operators.Operator × program.Expr
 summand_means s f = resolve_summand s (summand_view f)
 
 pub code_expr_faults : (s : Scope) (e : Expr)
@@ -123,7 +123,7 @@ pub ruleset term_rules = (code_term_faults, code_term_means, tells_front, tells_
 pub ruleset expr_rules = (code_expr_faults, code_expr_means, tells_front, tells_behind)
 
 -- the whole chain's meaning, where all operands are there
-pub term_found : (s : Scope) (t : Term) (v w : program.Expr) (os : List (program.Operator × program.Expr)) (fs : List Factor) (n : ℕ)
+pub term_found : (s : Scope) (t : Term) (v w : program.Expr) (os : List (operators.Operator × program.Expr)) (fs : List Factor) (n : ℕ)
     → v ≡ chained w os → w ≡ resolve_unary s (unary_view (out-Term t).first) → os ≡ map (factor_means s) (take n fs)
     → length fs ≤ n → fs ≡ (out-Term t).rest.items → v ≡ resolve_term s (term_view t)
 term_found s t v w os fs n e first found all is =
@@ -131,7 +131,7 @@ term_found s t v w os fs n e first found all is =
     e ∙ ap (λ (x : program.Expr). chained x os) first ∙ ap (chained (resolve_unary s (unary_view (out-Term t).first))) (found ∙ ap (map (factor_means s)) (whole ∙ is))
     ∙ sym (code_term_means s t)
 
-pub sum_found : (s : Scope) (e : Expr) (v w : program.Expr) (os : List (program.Operator × program.Expr)) (fs : List Summand) (n : ℕ)
+pub sum_found : (s : Scope) (e : Expr) (v w : program.Expr) (os : List (operators.Operator × program.Expr)) (fs : List Summand) (n : ℕ)
     → v ≡ chained w os → w ≡ resolve_term s (term_view (out-Expr e).first) → os ≡ map (summand_means s) (take n fs)
     → length fs ≤ n → fs ≡ (out-Expr e).rest.items → v ≡ resolve_expr s (expr_view e)
 sum_found s e v w os fs n d first found all is =

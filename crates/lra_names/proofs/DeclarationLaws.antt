@@ -1,15 +1,15 @@
 -- Declarators one by one.
 use Rattle.std.proofs.Common.{◌≡◌, ℕ, suc, List, [], ◌∷◌, ◌++◌, map, refl, sym, ap, rules}
 use Rattle.std.proofs.lemmas.List.{map-append}
-use Rattle.lra_tree.specs.declared.program.Declarator.{Declarator}
-use Rattle.lra_tree.specs.declared.program.BlockItem.{BlockItem, the_lemmas}
-use Rattle.lra_tree.specs.declared.program.BlockItem as code_item
-use Rattle.lra_tree.specs.ProgramViews.{declarator_view, item_view}
+use Rattle.lra_program.specs.declared.program.Declarator.{Declarator}
+use Rattle.lra_program.specs.declared.program.BlockItem.{BlockItem, the_lemmas}
+use Rattle.lra_program.specs.declared.program.BlockItem as code_item
+use Rattle.lra_program.specs.ProgramViews.{declarator_view, item_view}
 use Rattle.lra_tree.specs.Trees.{FunctionTree, DeclaratorTree}
-use Rattle.lra_tree.specs.Program as program
-use Rattle.lra_tree.specs.Scope.{Scope, with_local}
-use Rattle.lra_tree.specs.NameFaults.{declarators_faults}
-use Rattle.lra_tree.specs.Resolve.{resolve_given, resolve_declarators}
+use Rattle.lra_program.specs.Program as program
+use Rattle.lra_meaning.specs.Scope.{Scope, with_local}
+use Rattle.lra_meaning.specs.NameFaults.{declarators_faults}
+use Rattle.lra_meaning.specs.Resolve.{resolve_given, resolve_declarators}
 use Rattle.lra_names.specs.Calls.{declarator_faults}
 use Rattle.lra_names.specs.Statements.{followed}
 use Rattle.lra_names.proofs.Telling.{tells_front, tells_behind}

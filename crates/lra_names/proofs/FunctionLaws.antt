@@ -4,10 +4,10 @@ use Rattle.std.specs.Prelude.{◌||◌}
 use Rattle.std.specs.List.{list_any}
 use Rattle.std.proofs.lemmas.List.{map-append}
 use Rattle.lra_tree.specs.Trees.{FunctionTree}
-use Rattle.lra_tree.specs.Program as program
-use Rattle.lra_tree.specs.ProgramViews.{function_or}
-use Rattle.lra_tree.specs.Scope.{is_main}
-use Rattle.lra_tree.specs.Resolve.{main_of}
+use Rattle.lra_program.specs.Program as program
+use Rattle.lra_program.specs.ProgramViews.{function_or}
+use Rattle.lra_tree.specs.Functions.{is_main}
+use Rattle.lra_meaning.specs.Resolve.{main_of}
 use Rattle.lra_names.specs.Mains.{main_place}
 use Rattle.lra_names.proofs.Telling.{tells_front, tells_behind}
 

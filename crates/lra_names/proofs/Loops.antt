@@ -3,7 +3,7 @@ use Rattle.std.proofs.Common.{◌≡◌, ℕ, ◌+◌, ◌<◌, ◌≤◌, List,
 use Rattle.std.specs.Result.{IsErrAnd, IfOk, IfErr}
 use Rattle.std.specs.List.{flat_map}
 use Rattle.std.proofs.lemmas.List.{map_push, map_more, take_all, at_drop_more, at_drop_all}
-use Rattle.lra_tree.specs.declared.refusals.Refusal.{Refusal}
+use Rattle.lra_base.specs.declared.refusals.Refusal.{Refusal}
 use Rattle.lra_names.specs.declared.errors.NamesError.{NamesError}
 use Rattle.lra_names.specs.declared.errors.NamesError.TheVariants.{Memory}
 use Rattle.lra_names.specs.Outcome.{Tells, TellsOf}

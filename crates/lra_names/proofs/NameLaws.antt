@@ -1,6 +1,5 @@
 -- The newest of a name among one more, and whether a name is among the later ones; the index of names.
-use Rattle.std.proofs.Common.{◌≡◌, ◌≤◌, ◌<◌, ◌+◌, ℕ, zero, suc, Bool, true, false, cond, ◌||◌, List, [], ◌∷◌, ◌++◌, length, drop, refl, sym, ap, ◌∙◌, subst, bytes_eq}
-use Rattle.std.proofs.Common.{Option, Some, None, nat_le, append_assoc, append-nil, arith, String, IsSome}
+use Rattle.std.proofs.Common.{◌≡◌, ◌≤◌, ◌<◌, ◌+◌, ℕ, zero, suc, Bool, true, false, cond, ◌||◌, List, [], ◌∷◌, ◌++◌, length, drop, refl, sym, ap, ◌∙◌, subst, bytes_eq, Option, Some, None, nat_le, append_assoc, append-nil, arith, String, IsSome}
 use Rattle.std.specs.List.{list_any}
 use Rattle.std.specs.declared.alloc.Global.{Global}
 use Rattle.std.proofs.Math.Bool.{or-false, or-true}
@@ -8,7 +7,7 @@ use Rattle.std.proofs.lemmas.Bool.Decides.{nat_tests}
 use Rattle.std.proofs.lemmas.List.{length-map}
 use Rattle.std.proofs.lemmas.Slice.Eq.{bytes_eq-Decides}
 use Rattle.indexmap.specs.IndexMap.{IndexMap, get_by_text}
-use Rattle.lra_tree.specs.Scope.{newest, newest_from}
+use Rattle.lra_meaning.specs.Scope.{newest, newest_from}
 use Rattle.lra_names.specs.declared.names.Declared.{Declared}
 use Rattle.lra_names.specs.Names.{words_of, Hide, IsIndexed}
 

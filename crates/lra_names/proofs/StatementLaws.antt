@@ -1,18 +1,16 @@
 -- How many labels the parts of statements have; how scopes are left; lists of items.
-use Rattle.std.proofs.Common.{◌≡◌, ℕ, suc, ◌+◌, List, [], ◌∷◌, ◌++◌, length, map, refl, sym, ap, ◌∙◌, append_assoc, append-nil, length-append, arith, Option, Some, None, option_map, rules, Vec, Box}
-use Rattle.std.proofs.Common.{Global, Result, Ok, Err}
+use Rattle.std.proofs.Common.{◌≡◌, ℕ, suc, ◌+◌, List, [], ◌∷◌, ◌++◌, length, map, refl, sym, ap, ◌∙◌, append_assoc, append-nil, length-append, arith, Option, Some, None, option_map, rules, Vec, Box, Global, Result, Ok, Err}
 use Rattle.std.specs.Result.{IfOk, OnOk}
 use Rattle.lra_names.specs.declared.errors.NamesError.{NamesError}
 use Rattle.std.proofs.lemmas.List.{length-map, map-append, take-append-le}
 use Rattle.std.proofs.Math.Seq.{take-length}
 use Rattle.std.proofs.Math.Nat.{le-max_left, le-max_right}
-use Rattle.lra_tree.specs.declared.refusals.Place.{Place}
-use Rattle.lra_tree.specs.Trees.{CondTree, AssignTree, DeclaratorTree, DeclarationTree, InitTree, no_init, declared, assigned, StmtTree, block, if_only, while, if_else, for, ItemsTree, no_items}
-use Rattle.lra_tree.specs.Trees.{declaration, statement, FunctionTree, nothing, assign, call, break, continue, return, assert, assume}
-use Rattle.lra_tree.specs.declared.program.BlockItem.{BlockItem, the_lemmas}
-use Rattle.lra_tree.specs.declared.program.BlockItem as program_item
-use Rattle.lra_tree.specs.declared.program.Stmt.{Stmt as ProgramStmt}
-use Rattle.lra_tree.specs.declared.program.Stmt as program_stmt
+use Rattle.lra_base.specs.declared.refusals.Place.{Place}
+use Rattle.lra_tree.specs.Trees.{CondTree, AssignTree, DeclaratorTree, DeclarationTree, InitTree, no_init, declared, assigned, StmtTree, block, if_only, while, if_else, for, ItemsTree, no_items, declaration, statement, FunctionTree, nothing, assign, call, break, continue, return, assert, assume}
+use Rattle.lra_program.specs.declared.program.BlockItem.{BlockItem, the_lemmas}
+use Rattle.lra_program.specs.declared.program.BlockItem as program_item
+use Rattle.lra_program.specs.declared.program.Stmt.{Stmt as ProgramStmt}
+use Rattle.lra_program.specs.declared.program.Stmt as program_stmt
 use Rattle.lra_tree.specs.declared.trees.BlockItem.{the_lemmas as tree_lemmas}
 use Rattle.lra_tree.specs.declared.trees.BlockItem as code_item
 use Rattle.lra_tree.specs.declared.trees.Block.{Block}
@@ -26,12 +24,12 @@ use Rattle.lra_tree.specs.declared.trees.Assign.{Assign}
 use Rattle.lra_tree.specs.declared.trees.Call.{Call}
 use Rattle.lra_tree.specs.declared.trees.Source.{Source}
 use Rattle.lra_tree.specs.Views.{items_of, item_view, block_view, init_view, declaration_view, declarator_view, stmt_view, cond_view, assign_view, call_view, source_view}
-use Rattle.lra_tree.specs.Program as program
-use Rattle.lra_tree.specs.ProgramViews as view
-use Rattle.lra_tree.specs.Scope.{Scope, with_local, with_declarators, inner, for_scope}
+use Rattle.lra_program.specs.Program as program
+use Rattle.lra_program.specs.ProgramViews as view
+use Rattle.lra_meaning.specs.Scope.{Scope, with_local, with_declarators, inner, for_scope}
 use Rattle.lra_tree.specs.Labels.{with_names, declarator_labels, init_labels, step_labels, stmt_labels, items_labels, live_in_for}
 use Rattle.lra_tree.specs.Walk.{told}
-use Rattle.lra_tree.specs.Resolve.{resolve_stmt, resolve_items, stmt_count, items_count, init_count, step_count}
+use Rattle.lra_meaning.specs.Resolve.{resolve_stmt, resolve_items, stmt_count, items_count, init_count, step_count}
 use Rattle.lra_tree.proofs.Walking.{told_stmt}
 use Rattle.lra_names.specs.Scopes.{with_more, Extends, left_to}
 use Rattle.lra_names.specs.Statements.{followed, choice, loop_of, for_of}

@@ -4,7 +4,7 @@ use Rattle.std.specs.Result.{IsErrAnd, IfErr}
 use Rattle.std.specs.List.{flat_map}
 use Rattle.std.proofs.lemmas.Result.{err_from_is_err_and}
 use Rattle.std.proofs.lemmas.List.{drop_more}
-use Rattle.lra_tree.specs.declared.refusals.Refusal.{Refusal}
+use Rattle.lra_base.specs.declared.refusals.Refusal.{Refusal}
 use Rattle.lra_names.specs.declared.errors.NamesError.{NamesError}
 use Rattle.lra_names.specs.declared.errors.NamesError.TheVariants.{Refused, Memory}
 use Rattle.lra_names.specs.Outcome.{first_fault, Tells, TellsOf}

@@ -1,15 +1,16 @@
 -- The functions of a list of a source's parts, and the faults of one argument and of one declarator.
 use Rattle.std.specs.Prelude.{List, ◌++◌, map}
-use Rattle.lra_tree.specs.declared.refusals.Refusal.{Refusal}
-use Rattle.lra_tree.specs.declared.refusals.Cause.TheVariants.{DuplicateName}
+use Rattle.lra_base.specs.declared.refusals.Refusal.{Refusal}
+use Rattle.lra_base.specs.declared.refusals.Cause.TheVariants.{DuplicateName}
 use Rattle.lra_tree.specs.declared.trees.Item.{Item}
 use Rattle.lra_tree.specs.declared.trees.Expr.{Expr}
 use Rattle.lra_tree.specs.Views.{part_view, expr_view}
 use Rattle.lra_tree.specs.Trees.{FunctionTree, DeclaratorTree}
-use Rattle.lra_tree.specs.Scope.{Scope, functions_in, is_declared, with_local}
-use Rattle.lra_tree.specs.NameFaults.{fault_if, expr_faults, given_faults}
-use Rattle.lra_tree.specs.Program as program
-use Rattle.lra_tree.specs.Resolve.{resolve_expr}
+use Rattle.lra_meaning.specs.Scope.{Scope, is_declared, with_local}
+use Rattle.lra_tree.specs.Functions.{functions_in}
+use Rattle.lra_meaning.specs.NameFaults.{fault_if, expr_faults, given_faults}
+use Rattle.lra_program.specs.Program as program
+use Rattle.lra_meaning.specs.Resolve.{resolve_expr}
 
 -- in text order
 abbrev pub functions_at : List Item → List FunctionTree

@@ -1,7 +1,7 @@
 -- What an answer tells of the faults of names in a part of a source: none, where there is a value; else the first
 -- one, or that memory was wanting.
 use Rattle.std.specs.Prelude.{◌≡◌, List, [], ◌∷◌, Option, Some, None, Result, Ok, Err, ⊤}
-use Rattle.lra_tree.specs.declared.refusals.Refusal.{Refusal}
+use Rattle.lra_base.specs.declared.refusals.Refusal.{Refusal}
 use Rattle.lra_names.specs.declared.errors.NamesError.{NamesError}
 use Rattle.lra_names.specs.declared.errors.NamesError.TheVariants.{Refused, Memory}
 

@@ -1,6 +1,6 @@
 -- How the variables that can be named change along a block.
 use Rattle.std.specs.Prelude.{◌≡◌, ℕ, List, ◌++◌, take}
-use Rattle.lra_tree.specs.Scope.{Scope}
+use Rattle.lra_meaning.specs.Scope.{Scope}
 
 -- with further variables
 abbrev pub with_more : Scope → List (List ℕ) → Scope

@@ -4,7 +4,7 @@ use Rattle.std.specs.declared.alloc.Global.{Global}
 use Rattle.indexmap.specs.IndexMap.{IndexMap, get_by_text}
 use Rattle.lra_tree.specs.declared.trees.Item.{Item}
 use Rattle.lra_tree.specs.Trees.{FunctionTree}
-use Rattle.lra_tree.specs.Scope.{is_named}
+use Rattle.lra_tree.specs.Functions.{is_named}
 use Rattle.lra_names.specs.declared.signatures.Signature.{Signature}
 use Rattle.lra_names.specs.Calls.{functions_at}
 

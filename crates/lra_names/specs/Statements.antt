@@ -1,12 +1,12 @@
 -- Where statements stand, and lists of items that are built from the front.
 use Rattle.std.specs.Prelude.{ℕ, List, [], ◌∷◌, ◌++◌, Option}
 use Rattle.lra_tree.specs.Trees.{CondTree, AssignTree, InitTree, FunctionTree}
-use Rattle.lra_tree.specs.Scope.{Scope, for_scope}
-use Rattle.lra_tree.specs.declared.refusals.Refusal.{Refusal}
+use Rattle.lra_meaning.specs.Scope.{Scope, for_scope}
+use Rattle.lra_base.specs.declared.refusals.Refusal.{Refusal}
 use Rattle.lra_names.specs.declared.around.Around.{Around}
 use Rattle.lra_names.specs.Calls.{functions_at}
-use Rattle.lra_tree.specs.NameFaults as faults
-use Rattle.lra_tree.specs.Program as program
+use Rattle.lra_meaning.specs.NameFaults as faults
+use Rattle.lra_program.specs.Program as program
 
 -- among the functions of these parts, in a function with a result or not, in a loop or not
 abbrev pub around_of : Around → faults.Around

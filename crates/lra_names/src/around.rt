@@ -1,7 +1,7 @@
 //! Where a statement stands.
 
 ghost use Rattle.std.specs.Prelude.{◌≡◌};
-ghost use Rattle.lra_tree.specs.NameFaults.{in_a_loop};
+ghost use Rattle.lra_meaning.specs.NameFaults.{in_a_loop};
 ghost use Rattle.lra_names.specs.Statements.{around_of};
 
 use crate::signatures::Functions;

@@ -1,16 +1,13 @@
 //! Calls, and what variables get.
 
-ghost use Rattle.std.specs.Prelude.{◌≡◌, ◌||◌, ◌&&◌, not, nat_eq, ◌∷◌, ◌++◌, [], map, length, flat_map, Option, Some};
-ghost use Rattle.std.specs.Prelude.{None, option_map, IfOk};
-ghost use Rattle.lra_tree.specs.Program.{assign as assign_stmt, binary, literal, read, value};
-ghost use Rattle.lra_tree.specs.Views.{operator_view, step_view, expr_view as tree_expr_view};
-ghost use Rattle.lra_tree.specs.Views.{call_view as tree_call_view, source_view as tree_source_view, assign_view};
-ghost use Rattle.lra_tree.specs.ProgramViews.{slot_view, expr_view, call_view, source_view, given_view, stmt_view};
-ghost use Rattle.lra_tree.specs.Scope.{function_named};
-ghost use Rattle.lra_tree.specs.NameFaults.{use_faults, expr_faults, called_faults, call_faults, source_faults};
-ghost use Rattle.lra_tree.specs.NameFaults.{given_faults, assign_faults};
-ghost use Rattle.lra_tree.specs.Resolve.{variable, function_place, resolve_expr, resolve_call, resolve_source};
-ghost use Rattle.lra_tree.specs.Resolve.{resolve_given, resolve_assign, step_operator};
+ghost use Rattle.std.specs.Prelude.{◌≡◌, ◌||◌, ◌&&◌, not, nat_eq, ◌∷◌, ◌++◌, [], map, length, flat_map, Option, Some, None, option_map, IfOk};
+ghost use Rattle.lra_program.specs.Program.{assign as assign_stmt, binary, literal, read, value};
+ghost use Rattle.lra_base.specs.OperatorViews.{operator_view};
+ghost use Rattle.lra_tree.specs.Views.{step_view, expr_view as tree_expr_view, call_view as tree_call_view, source_view as tree_source_view, assign_view};
+ghost use Rattle.lra_program.specs.ProgramViews.{slot_view, expr_view, call_view, source_view, given_view, stmt_view};
+ghost use Rattle.lra_tree.specs.Functions.{function_named};
+ghost use Rattle.lra_meaning.specs.NameFaults.{use_faults, expr_faults, called_faults, call_faults, source_faults, given_faults, assign_faults};
+ghost use Rattle.lra_meaning.specs.Resolve.{variable, function_place, resolve_expr, resolve_call, resolve_source, resolve_given, resolve_assign, step_operator};
 ghost use Rattle.lra_names.specs.Calls.{functions_at, argument_faults, resolve_argument};
 ghost use Rattle.lra_names.specs.Outcome.{TellsOf};
 
@@ -18,8 +15,9 @@ use crate::errors::{NamesError, refuse};
 use crate::expressions::{resolve_expr, resolve_variable};
 use crate::scopes::Scope;
 use crate::signatures::{Functions, Signature};
-use lra_tree::program::{Operation, Slot};
-use lra_tree::{Assign, Call, Cause, Expr, Identifier, Operator, Source, Step, program};
+use lra_base::{Cause, Operator};
+use lra_program::{Operation, Slot};
+use lra_tree::{Assign, Call, Expr, Identifier, Source, Step};
 use std::alloc::{AllocError, Global};
 
 /// Whether a function can't be called so.
@@ -56,7 +54,7 @@ fn resolve_arguments(
     alloc: Global,
     scope: &Scope,
     arguments: &[Expr],
-) -> Result<Vec<program::Expr>, NamesError>
+) -> Result<Vec<lra_program::Expr>, NamesError>
     ensures told { TellsOf (flat_map (argument_faults scope.now) arguments.now) result }
     ensures found { IfOk result (λ v. map expr_view v.items ≡ map (resolve_argument scope.now) arguments.now) }
 {
@@ -77,14 +75,14 @@ pub fn resolve_call(
     label: usize,
     call: &Call,
     used: bool,
-) -> Result<program::Call, NamesError>
+) -> Result<lra_program::Call, NamesError>
     ensures told { TellsOf (call_faults (functions_at functions.now) scope.now (tree_call_view call.now) used) result }
     ensures found { IfOk result (λ c. call_view c ≡ resolve_call (functions_at functions.now) scope.now label
         (tree_call_view call.now)) }
 {
     let function = resolve_called(functions, &call.name, call.arguments.items.len(), used)?;
     let arguments = resolve_arguments(alloc, scope, &call.arguments.items)?;
-    Ok(program::Call {
+    Ok(lra_program::Call {
         label,
         function,
         arguments,
@@ -97,7 +95,7 @@ pub fn resolve_source(
     scope: &Scope,
     label: usize,
     source: &Source,
-) -> Result<program::Source, NamesError>
+) -> Result<lra_program::Source, NamesError>
     ensures told { TellsOf (source_faults (functions_at functions.now) scope.now (tree_source_view source.now)) result }
     ensures found { IfOk result (λ e. source_view e ≡ resolve_source (functions_at functions.now) scope.now label
         (tree_source_view source.now)) }
@@ -105,11 +103,11 @@ pub fn resolve_source(
     match source {
         Source::Value(expr) => {
             let value = resolve_expr(alloc, scope, expr)?;
-            Ok(program::Source::Value(value))
+            Ok(lra_program::Source::Value(value))
         }
         Source::Result(call) => {
             let call = resolve_call(alloc, functions, scope, label, call, true)?;
-            Ok(program::Source::Result(call))
+            Ok(lra_program::Source::Result(call))
         }
     }
 }
@@ -120,7 +118,7 @@ pub fn resolve_given(
     scope: &Scope,
     label: usize,
     source: &Option<Source>,
-) -> Result<Option<program::Source>, NamesError>
+) -> Result<Option<lra_program::Source>, NamesError>
     ensures told { TellsOf (given_faults (functions_at functions.now) scope.now
         (option_map tree_source_view source.now)) result }
     ensures found { IfOk result (λ e. given_view e ≡ resolve_given (functions_at functions.now) scope.now label
@@ -140,15 +138,15 @@ fn updated(
     alloc: Global,
     slot: Slot,
     operator: Operator,
-    operand: program::Expr,
-) -> Result<program::Source, AllocError>
+    operand: lra_program::Expr,
+) -> Result<lra_program::Source, AllocError>
     ensures { IfOk result (λ e. source_view e ≡ value (binary (operator_view operator) (read (slot_view slot))
         (expr_view operand))) }
 {
     let mut rest = Vec::new(alloc);
     rest.push(Operation { operator, operand })?;
-    let first = Box::new(alloc, program::Expr::Read(slot))?;
-    Ok(program::Source::Value(program::Expr::Chain(first, rest)))
+    let first = Box::new(alloc, lra_program::Expr::Read(slot))?;
+    Ok(lra_program::Source::Value(lra_program::Expr::Chain(first, rest)))
 }
 
 fn step_operator(step: Step) -> Operator
@@ -161,11 +159,16 @@ fn step_operator(step: Step) -> Operator
 }
 
 /// `x++` and `++x` alike: one more, or one less.
-fn stepped(alloc: Global, slot: Slot, step: Step) -> Result<program::Source, AllocError>
+fn stepped(alloc: Global, slot: Slot, step: Step) -> Result<lra_program::Source, AllocError>
     ensures { IfOk result (λ e. source_view e ≡ value (binary (step_operator (step_view step)) (read (slot_view slot))
         (literal 1))) }
 {
-    updated(alloc, slot, step_operator(step), program::Expr::Literal(1))
+    updated(
+        alloc,
+        slot,
+        step_operator(step),
+        lra_program::Expr::Literal(1),
+    )
 }
 
 /// `x = e`
@@ -177,7 +180,7 @@ fn resolve_set(
     label: usize,
     x: &Identifier,
     source: &Source,
-) -> Result<program::Stmt, NamesError>
+) -> Result<lra_program::Stmt, NamesError>
     ensures told { TellsOf (use_faults scope.now x.now ++ source_faults (functions_at functions.now) scope.now
         (tree_source_view source.now)) result }
     ensures found { IfOk result (λ s. stmt_view s ≡ assign_stmt label (variable scope.now x.now)
@@ -185,7 +188,7 @@ fn resolve_set(
 {
     let slot = resolve_variable(scope, x)?;
     let source = resolve_source(alloc, functions, scope, label, source)?;
-    Ok(program::Stmt::Assign(label, slot, source))
+    Ok(lra_program::Stmt::Assign(label, slot, source))
 }
 
 /// `x op= e`
@@ -197,7 +200,7 @@ fn resolve_update(
     x: &Identifier,
     operator: Operator,
     expr: &Expr,
-) -> Result<program::Stmt, NamesError>
+) -> Result<lra_program::Stmt, NamesError>
     ensures told { TellsOf (use_faults scope.now x.now ++ expr_faults scope.now (tree_expr_view expr.now)) result }
     ensures found { IfOk result (λ s. stmt_view s ≡ assign_stmt label (variable scope.now x.now)
         (value (binary (operator_view operator) (read (variable scope.now x.now))
@@ -206,7 +209,7 @@ fn resolve_update(
     let slot = resolve_variable(scope, x)?;
     let operand = resolve_expr(alloc, scope, expr)?;
     let source = updated(alloc, slot, operator, operand)?;
-    Ok(program::Stmt::Assign(label, slot, source))
+    Ok(lra_program::Stmt::Assign(label, slot, source))
 }
 
 /// `x++`, `x--`, and with the sign in front.
@@ -216,14 +219,14 @@ fn resolve_increment(
     label: usize,
     x: &Identifier,
     step: Step,
-) -> Result<program::Stmt, NamesError>
+) -> Result<lra_program::Stmt, NamesError>
     ensures told { TellsOf (use_faults scope.now x.now) result }
     ensures found { IfOk result (λ s. stmt_view s ≡ assign_stmt label (variable scope.now x.now)
         (value (binary (step_operator (step_view step)) (read (variable scope.now x.now)) (literal 1)))) }
 {
     let slot = resolve_variable(scope, x)?;
     let source = stepped(alloc, slot, step)?;
-    Ok(program::Stmt::Assign(label, slot, source))
+    Ok(lra_program::Stmt::Assign(label, slot, source))
 }
 
 pub fn resolve_assign(
@@ -232,7 +235,7 @@ pub fn resolve_assign(
     scope: &Scope,
     label: usize,
     assign: &Assign,
-) -> Result<program::Stmt, NamesError>
+) -> Result<lra_program::Stmt, NamesError>
     ensures told { TellsOf (assign_faults (functions_at functions.now) scope.now (assign_view assign.now)) result }
     ensures found { IfOk result (λ s. stmt_view s ≡ resolve_assign (functions_at functions.now) scope.now label
         (assign_view assign.now)) }

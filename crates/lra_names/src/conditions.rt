@@ -2,47 +2,47 @@
 
 ghost use Rattle.std.specs.Prelude.{◌≡◌, map, IfOk, IfErr};
 ghost use Rattle.lra_tree.specs.Views.{negation_view, test_view, conjunction_view, cond_view as tree_cond_view};
-ghost use Rattle.lra_tree.specs.ProgramViews.{cond_view, all_of, any_of};
-ghost use Rattle.lra_tree.specs.NameFaults.{negation_faults, test_faults, conjunction_faults, cond_faults};
-ghost use Rattle.lra_tree.specs.Resolve.{resolve_negation, resolve_test, resolve_cond};
+ghost use Rattle.lra_program.specs.ProgramViews.{cond_view, all_of, any_of};
+ghost use Rattle.lra_meaning.specs.NameFaults.{negation_faults, test_faults, conjunction_faults, cond_faults};
+ghost use Rattle.lra_meaning.specs.Resolve.{resolve_negation, resolve_test, resolve_cond};
 ghost use Rattle.lra_names.specs.Chains.{resolve_conjunction};
 ghost use Rattle.lra_names.specs.Outcome.{TellsOf};
 
 use crate::errors::NamesError;
 use crate::expressions::{resolve_expr, resolve_unary};
 use crate::scopes::Scope;
-use lra_tree::{Cond, Conjunction, Negation, Test, program};
+use lra_tree::{Cond, Conjunction, Negation, Test};
 use std::alloc::Global;
 
 /// A chain of `&&`, or its only operand.
 fn all(
     alloc: Global,
-    first: program::Cond,
-    rest: Vec<program::Cond>,
-) -> Result<program::Cond, NamesError>
+    first: lra_program::Cond,
+    rest: Vec<lra_program::Cond>,
+) -> Result<lra_program::Cond, NamesError>
     ensures found { IfOk result (λ c. cond_view c ≡ all_of (cond_view first) (map cond_view rest.items)) }
     ensures memory { IfErr result (λ e. e ≡ NamesError.Memory) }
 {
     if rest.is_empty() {
         Ok(first)
     } else {
-        Ok(program::Cond::All(Box::new(alloc, first)?, rest))
+        Ok(lra_program::Cond::All(Box::new(alloc, first)?, rest))
     }
 }
 
 /// A chain of `||`, or its only operand.
 fn any(
     alloc: Global,
-    first: program::Cond,
-    rest: Vec<program::Cond>,
-) -> Result<program::Cond, NamesError>
+    first: lra_program::Cond,
+    rest: Vec<lra_program::Cond>,
+) -> Result<lra_program::Cond, NamesError>
     ensures found { IfOk result (λ c. cond_view c ≡ any_of (cond_view first) (map cond_view rest.items)) }
     ensures memory { IfErr result (λ e. e ≡ NamesError.Memory) }
 {
     if rest.is_empty() {
         Ok(first)
     } else {
-        Ok(program::Cond::Any(Box::new(alloc, first)?, rest))
+        Ok(lra_program::Cond::Any(Box::new(alloc, first)?, rest))
     }
 }
 
@@ -51,41 +51,41 @@ fn resolve_negation(
     alloc: Global,
     scope: &Scope,
     negation: &Negation,
-) -> Result<program::Cond, NamesError>
+) -> Result<lra_program::Cond, NamesError>
     ensures told { TellsOf (negation_faults scope.now (negation_view negation.now)) result }
     ensures found { IfOk result (λ c. cond_view c ≡ resolve_negation scope.now (negation_view negation.now)) }
 {
     match negation {
         Negation::Again(inner) => {
             let inner = resolve_negation(alloc, scope, inner)?;
-            Ok(program::Cond::Opposite(Box::new(alloc, inner)?))
+            Ok(lra_program::Cond::Opposite(Box::new(alloc, inner)?))
         }
         Negation::Operand(unary) => {
             let operand = resolve_unary(alloc, scope, unary)?;
-            Ok(program::Cond::Nonzero(operand))
+            Ok(lra_program::Cond::Nonzero(operand))
         }
         Negation::Strict(inner) => resolve_cond(alloc, scope, inner),
     }
 }
 
 #[cycle(condition)]
-fn resolve_test(alloc: Global, scope: &Scope, test: &Test) -> Result<program::Cond, NamesError>
+fn resolve_test(alloc: Global, scope: &Scope, test: &Test) -> Result<lra_program::Cond, NamesError>
     ensures told { TellsOf (test_faults scope.now (test_view test.now)) result }
     ensures found { IfOk result (λ c. cond_view c ≡ resolve_test scope.now (test_view test.now)) }
 {
     match test {
         Test::Opposite(negation) => {
             let inner = resolve_negation(alloc, scope, negation)?;
-            Ok(program::Cond::Opposite(Box::new(alloc, inner)?))
+            Ok(lra_program::Cond::Opposite(Box::new(alloc, inner)?))
         }
         Test::Value(expr) => {
             let value = resolve_expr(alloc, scope, expr)?;
-            Ok(program::Cond::Nonzero(value))
+            Ok(lra_program::Cond::Nonzero(value))
         }
         Test::Compare(left, comparison, right) => {
             let left = resolve_expr(alloc, scope, left)?;
             let right = resolve_expr(alloc, scope, right)?;
-            Ok(program::Cond::Compare(*comparison, left, right))
+            Ok(lra_program::Cond::Compare(*comparison, left, right))
         }
         Test::Group(inner) => resolve_cond(alloc, scope, inner),
     }
@@ -97,7 +97,7 @@ fn resolve_conjunction(
     alloc: Global,
     scope: &Scope,
     conjunction: &Conjunction,
-) -> Result<program::Cond, NamesError>
+) -> Result<lra_program::Cond, NamesError>
     ensures told { TellsOf (conjunction_faults scope.now (conjunction_view conjunction.now)) result }
     ensures found { IfOk result (λ c. cond_view c ≡ resolve_conjunction scope.now (conjunction_view conjunction.now)) }
 {
@@ -112,7 +112,11 @@ fn resolve_conjunction(
 
 #[cycle(condition)]
 #[tactic(auto, using(crate::proofs::CondLaws::cond_rules))]
-pub fn resolve_cond(alloc: Global, scope: &Scope, cond: &Cond) -> Result<program::Cond, NamesError>
+pub fn resolve_cond(
+    alloc: Global,
+    scope: &Scope,
+    cond: &Cond,
+) -> Result<lra_program::Cond, NamesError>
     ensures told { TellsOf (cond_faults scope.now (tree_cond_view cond.now)) result }
     ensures found { IfOk result (λ c. cond_view c ≡ resolve_cond scope.now (tree_cond_view cond.now)) }
 {

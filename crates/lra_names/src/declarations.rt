@@ -1,13 +1,13 @@
 //! Declarations: a variable is in scope from its own declarator's name on.
 
 ghost use Rattle.std.specs.Prelude.{◌≡◌, ◌+◌, ◌∷◌, ℕ, suc, List, map, length, option_map, IfOk, OnOk, IfErr};
-ghost use Rattle.lra_tree.specs.Program.{BlockItems};
+ghost use Rattle.lra_program.specs.Program.{BlockItems};
 ghost use Rattle.lra_tree.specs.Trees.{DeclaratorTree};
 ghost use Rattle.lra_tree.specs.Views.{source_view, declarator_view};
-ghost use Rattle.lra_tree.specs.ProgramViews.{declarator_view as program_declarator_view, item_view};
-ghost use Rattle.lra_tree.specs.Scope.{with_local, with_declarators};
-ghost use Rattle.lra_tree.specs.NameFaults.{declarators_faults};
-ghost use Rattle.lra_tree.specs.Resolve.{resolve_given, resolve_declarators};
+ghost use Rattle.lra_program.specs.ProgramViews.{declarator_view as program_declarator_view, item_view};
+ghost use Rattle.lra_meaning.specs.Scope.{with_local, with_declarators};
+ghost use Rattle.lra_meaning.specs.NameFaults.{declarators_faults};
+ghost use Rattle.lra_meaning.specs.Resolve.{resolve_given, resolve_declarators};
 ghost use Rattle.lra_names.specs.Calls.{functions_at, declarator_faults};
 ghost use Rattle.lra_names.specs.Statements.{followed};
 ghost use Rattle.lra_names.specs.Outcome.{Tells, TellsOf};
@@ -16,7 +16,8 @@ use crate::calls::resolve_given;
 use crate::errors::{NamesError, refuse};
 use crate::scopes::Scope;
 use crate::signatures::Functions;
-use lra_tree::{Cause, Declaration, Declarator, program};
+use lra_base::Cause;
+use lra_tree::{Declaration, Declarator};
 use std::alloc::Global;
 
 /// The next label. One that can't be counted wants memory, like the tree that has so many.
@@ -43,7 +44,7 @@ fn resolve_declarator(
     scope: &mut Scope,
     next: &mut usize,
     declarator: &Declarator,
-) -> Result<program::Declarator, NamesError>
+) -> Result<lra_program::Declarator, NamesError>
     ensures told { TellsOf (declarator_faults (functions_at functions.now) scope.old (declarator_view declarator.now))
         result }
     ensures found { IfOk result (λ d. program_declarator_view d
@@ -61,7 +62,7 @@ fn resolve_declarator(
     scope.declare(alloc, &declarator.name.word)?;
     let label = take_label(next)?;
     let source = resolve_given(alloc, functions, scope, label, &declarator.source)?;
-    Ok(program::Declarator { label, source })
+    Ok(lra_program::Declarator { label, source })
 }
 
 /// Resolves a declarator into a further item.
@@ -72,7 +73,7 @@ fn add_declarator(
     scope: &mut Scope,
     next: &mut usize,
     declarator: &Declarator,
-    items: &mut Vec<program::BlockItem>,
+    items: &mut Vec<lra_program::BlockItem>,
 ) -> Result<(), NamesError>
     ensures told { IfErr result (λ e. (rest : List DeclaratorTree)
         → Tells (declarators_faults (functions_at functions.now) scope.old (declarator_view declarator.now ∷ rest))
@@ -89,7 +90,7 @@ fn add_declarator(
     ensures counted { OnOk result (next.new ≡ suc next.old) }
 {
     let resolved = resolve_declarator(alloc, functions, scope, next, declarator)?;
-    items.push(program::BlockItem::Declaration(resolved))?;
+    items.push(lra_program::BlockItem::Declaration(resolved))?;
     Ok(())
 }
 
@@ -100,7 +101,7 @@ pub fn add_declaration(
     scope: &mut Scope,
     next: &mut usize,
     declaration: &Declaration,
-    items: &mut Vec<program::BlockItem>,
+    items: &mut Vec<lra_program::BlockItem>,
 ) -> Result<(), NamesError>
     ensures told { TellsOf (declarators_faults (functions_at functions.now) scope.old
         (declarator_view declaration.now.first ∷ map declarator_view declaration.now.rest.items)) result }

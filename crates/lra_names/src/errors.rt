@@ -3,7 +3,7 @@
 ghost use Rattle.std.specs.Prelude.{◌≡◌, Result, Err};
 ghost use Rattle.lra_names.specs.declared.errors.NamesError.TheVariants.{Refused};
 
-use lra_tree::{Cause, Place, Refusal};
+use lra_base::{Cause, Place, Refusal};
 use std::alloc::{AllocError, AllocFailed};
 
 /// The first fault of names, or want of memory.

@@ -1,22 +1,19 @@
 //! Expressions: each variable is a place in the store.
 
 ghost use Rattle.std.specs.Prelude.{◌≡◌, map, IfOk, IfErr, flat_map};
-ghost use Rattle.lra_tree.specs.Views.{operator_view, unary_view, term_view, factor_view, summand_view};
-ghost use Rattle.lra_tree.specs.Views.{expr_view as tree_expr_view};
-ghost use Rattle.lra_tree.specs.ProgramViews.{slot_view, expr_view, operation_view, chained};
-ghost use Rattle.lra_tree.specs.NameFaults.{use_faults, unary_faults, term_faults, expr_faults};
-ghost use Rattle.lra_tree.specs.Resolve.{variable, resolve_unary, resolve_term, resolve_expr};
-ghost use Rattle.lra_names.specs.Chains.{factor_operator, sum_operator, factor_faults, resolve_factor};
-ghost use Rattle.lra_names.specs.Chains.{summand_faults, resolve_summand};
+ghost use Rattle.lra_base.specs.OperatorViews.{operator_view};
+ghost use Rattle.lra_tree.specs.Views.{unary_view, term_view, factor_view, summand_view, expr_view as tree_expr_view};
+ghost use Rattle.lra_program.specs.ProgramViews.{slot_view, expr_view, operation_view, chained};
+ghost use Rattle.lra_meaning.specs.NameFaults.{use_faults, unary_faults, term_faults, expr_faults};
+ghost use Rattle.lra_meaning.specs.Resolve.{variable, resolve_unary, resolve_term, resolve_expr};
+ghost use Rattle.lra_names.specs.Chains.{factor_operator, sum_operator, factor_faults, resolve_factor, summand_faults, resolve_summand};
 ghost use Rattle.lra_names.specs.Outcome.{TellsOf};
 
 use crate::errors::{NamesError, refuse};
 use crate::scopes::Scope;
-use lra_tree::program::{Operation, Slot};
-use lra_tree::{
-    Cause, Expr, Factor, FactorOperator, Identifier, Operator, SumOperator, Summand, Term, Unary,
-    program,
-};
+use lra_base::{Cause, Operator};
+use lra_program::{Operation, Slot};
+use lra_tree::{Expr, Factor, FactorOperator, Identifier, SumOperator, Summand, Term, Unary};
 use std::alloc::Global;
 
 /// The variable that a name means; `UnknownName` where none is in scope.
@@ -33,16 +30,16 @@ pub fn resolve_variable(scope: &Scope, x: &Identifier) -> Result<Slot, NamesErro
 /// A chain, or its only operand.
 fn chain(
     alloc: Global,
-    first: program::Expr,
+    first: lra_program::Expr,
     rest: Vec<Operation>,
-) -> Result<program::Expr, NamesError>
+) -> Result<lra_program::Expr, NamesError>
     ensures found { IfOk result (λ e. expr_view e ≡ chained (expr_view first) (map operation_view rest.items)) }
     ensures memory { IfErr result (λ e. e ≡ NamesError.Memory) }
 {
     if rest.is_empty() {
         Ok(first)
     } else {
-        Ok(program::Expr::Chain(Box::new(alloc, first)?, rest))
+        Ok(lra_program::Expr::Chain(Box::new(alloc, first)?, rest))
     }
 }
 
@@ -70,22 +67,22 @@ pub fn resolve_unary(
     alloc: Global,
     scope: &Scope,
     unary: &Unary,
-) -> Result<program::Expr, NamesError>
+) -> Result<lra_program::Expr, NamesError>
     ensures told { TellsOf (unary_faults scope.now (unary_view unary.now)) result }
     ensures found { IfOk result (λ e. expr_view e ≡ resolve_unary scope.now (unary_view unary.now)) }
 {
     match unary {
         Unary::Negated(inner) => {
             let inner = resolve_unary(alloc, scope, inner)?;
-            Ok(program::Expr::Negate(Box::new(alloc, inner)?))
+            Ok(lra_program::Expr::Negate(Box::new(alloc, inner)?))
         }
         Unary::Positive(inner) => resolve_unary(alloc, scope, inner),
-        Unary::Literal(n) => Ok(program::Expr::Literal(*n)),
+        Unary::Literal(n) => Ok(lra_program::Expr::Literal(*n)),
         Unary::Variable(x) => {
             let slot = resolve_variable(scope, x)?;
-            Ok(program::Expr::Read(slot))
+            Ok(lra_program::Expr::Read(slot))
         }
-        Unary::Input => Ok(program::Expr::Input),
+        Unary::Input => Ok(lra_program::Expr::Input),
         Unary::Group(inner) => resolve_expr(alloc, scope, inner),
     }
 }
@@ -112,7 +109,7 @@ fn resolve_summand(alloc: Global, scope: &Scope, summand: &Summand) -> Result<Op
 
 #[cycle(expression)]
 #[tactic(auto, using(crate::proofs::ChainLaws::term_rules))]
-fn resolve_term(alloc: Global, scope: &Scope, term: &Term) -> Result<program::Expr, NamesError>
+fn resolve_term(alloc: Global, scope: &Scope, term: &Term) -> Result<lra_program::Expr, NamesError>
     ensures told { TellsOf (term_faults scope.now (term_view term.now)) result }
     ensures found { IfOk result (λ e. expr_view e ≡ resolve_term scope.now (term_view term.now)) }
 {
@@ -127,7 +124,11 @@ fn resolve_term(alloc: Global, scope: &Scope, term: &Term) -> Result<program::Ex
 
 #[cycle(expression)]
 #[tactic(auto, using(crate::proofs::ChainLaws::expr_rules))]
-pub fn resolve_expr(alloc: Global, scope: &Scope, expr: &Expr) -> Result<program::Expr, NamesError>
+pub fn resolve_expr(
+    alloc: Global,
+    scope: &Scope,
+    expr: &Expr,
+) -> Result<lra_program::Expr, NamesError>
     ensures told { TellsOf (expr_faults scope.now (tree_expr_view expr.now)) result }
     ensures found { IfOk result (λ e. expr_view e ≡ resolve_expr scope.now (tree_expr_view expr.now)) }
 {

@@ -1,16 +1,14 @@
 //! Functions, global variables, and the whole source.
 
-ghost use Rattle.std.specs.Prelude.{◌≡◌, ◌+◌, ◌++◌, ◌∷◌, [], ℕ, List, suc, true, false, map, length, IfOk, OnOk};
-ghost use Rattle.std.specs.Prelude.{IfErr, MatchOption};
+ghost use Rattle.std.specs.Prelude.{◌≡◌, ◌+◌, ◌++◌, ◌∷◌, [], ℕ, List, suc, true, false, map, length, IfOk, OnOk, IfErr, MatchOption};
 ghost use Rattle.std.specs.List.{list_any};
 ghost use Rattle.lra_tree.specs.Trees.{GlobalTree, PartTree, function as part_function};
 ghost use Rattle.lra_tree.specs.Views.{global_view, function_view as tree_function_view, part_view, tree_view};
-ghost use Rattle.lra_tree.specs.ProgramViews.{function_view, program_view};
-ghost use Rattle.lra_tree.specs.Scope.{function_scope, is_main};
-ghost use Rattle.lra_tree.specs.NameFaults.{parameters_faults, function_faults, globals_faults, global_names};
-ghost use Rattle.lra_tree.specs.NameFaults.{parts_faults, name_faults};
-ghost use Rattle.lra_tree.specs.Resolve.{resolve_function, global_value, globals_in, resolve_parts, items_count};
-ghost use Rattle.lra_tree.specs.Resolve.{resolve};
+ghost use Rattle.lra_program.specs.ProgramViews.{function_view, program_view};
+ghost use Rattle.lra_meaning.specs.Scope.{function_scope};
+ghost use Rattle.lra_tree.specs.Functions.{is_main};
+ghost use Rattle.lra_meaning.specs.NameFaults.{parameters_faults, function_faults, globals_faults, global_names, parts_faults, name_faults};
+ghost use Rattle.lra_meaning.specs.Resolve.{resolve_function, global_value, globals_in, resolve_parts, items_count, resolve};
 ghost use Rattle.lra_names.specs.Calls.{functions_at};
 ghost use Rattle.lra_names.specs.Mains.{main_place};
 ghost use Rattle.lra_names.specs.Outcome.{Tells, TellsOf};
@@ -22,8 +20,9 @@ use crate::names::Names;
 use crate::scopes::Scope;
 use crate::signatures::Functions;
 use crate::statements::resolve_items;
-use lra_tree::program::Program;
-use lra_tree::{Cause, Function, Globals, Identifier, Item, Tree, program};
+use lra_base::Cause;
+use lra_program::Program;
+use lra_tree::{Function, Globals, Identifier, Item, Tree};
 use std::alloc::Global;
 
 /// Begins a function's scope with its parameters.
@@ -52,7 +51,7 @@ fn resolve_function(
     scope: &mut Scope,
     next: &mut usize,
     function: &Function,
-) -> Result<program::Function, NamesError>
+) -> Result<lra_program::Function, NamesError>
     ensures told { TellsOf (function_faults (functions_at functions.now) scope.old.globals
         (tree_function_view function.now)) result }
     ensures found { IfOk result (λ f. function_view f ≡ resolve_function
@@ -69,7 +68,7 @@ fn resolve_function(
     };
     let body = resolve_items(&around, scope, next, &function.body)?;
     let end = take_label(next)?;
-    Ok(program::Function {
+    Ok(lra_program::Function {
         parameters: function.parameters.items.len(),
         body,
         end,
@@ -85,7 +84,7 @@ pub struct Resolved {
     /// The next label.
     next: usize,
     globals: Vec<i64>,
-    functions: Vec<program::Function>,
+    functions: Vec<lra_program::Function>,
 }
 
 #[tactic(auto, using(crate::proofs::FunctionLaws::global_rules))]

@@ -1,13 +1,12 @@
 //! What stands in the parentheses of a statement.
 
 ghost use Rattle.std.specs.Prelude.{◌≡◌, ◌+◌, ◌++◌, suc, map, option_map, IfOk, OnOk, IfErr};
-ghost use Rattle.lra_tree.specs.Program.{no_more, assert as assert_stmt, assume as assume_stmt};
+ghost use Rattle.lra_program.specs.Program.{no_more, assert as assert_stmt, assume as assume_stmt};
 ghost use Rattle.lra_tree.specs.Views.{init_view, assign_view, cond_view as tree_cond_view};
-ghost use Rattle.lra_tree.specs.ProgramViews.{stmt_view, items_view, item_view, cond_view};
-ghost use Rattle.lra_tree.specs.Scope.{for_scope};
-ghost use Rattle.lra_tree.specs.NameFaults.{cond_faults, init_faults, test_of_for_faults, step_faults};
-ghost use Rattle.lra_tree.specs.Resolve.{resolve_cond, resolve_init, resolve_for_test, resolve_step, init_count};
-ghost use Rattle.lra_tree.specs.Resolve.{step_count};
+ghost use Rattle.lra_program.specs.ProgramViews.{stmt_view, items_view, item_view, cond_view};
+ghost use Rattle.lra_meaning.specs.Scope.{for_scope};
+ghost use Rattle.lra_meaning.specs.NameFaults.{cond_faults, init_faults, test_of_for_faults, step_faults};
+ghost use Rattle.lra_meaning.specs.Resolve.{resolve_cond, resolve_init, resolve_for_test, resolve_step, init_count, step_count};
 ghost use Rattle.lra_names.specs.Calls.{functions_at};
 ghost use Rattle.lra_names.specs.Statements.{followed, choice, loop_of, for_of, head_faults};
 ghost use Rattle.lra_names.specs.Outcome.{TellsOf};
@@ -18,13 +17,13 @@ use crate::declarations::{add_declaration, take_label};
 use crate::errors::NamesError;
 use crate::scopes::Scope;
 use crate::simple::resolve_assignment;
-use lra_tree::{Assign, Cond, Init, program};
+use lra_tree::{Assign, Cond, Init};
 use std::alloc::Global;
 
 /// The label of a statement with a condition, and the condition.
 pub struct Head {
     label: usize,
-    cond: program::Cond,
+    cond: lra_program::Cond,
 }
 
 impl Drop for Head {
@@ -38,9 +37,9 @@ impl Head {
     pub fn choose(
         self,
         alloc: Global,
-        branch: program::Stmt,
-        other: program::Stmt,
-    ) -> Result<program::Stmt, NamesError>
+        branch: lra_program::Stmt,
+        other: lra_program::Stmt,
+    ) -> Result<lra_program::Stmt, NamesError>
         ensures found { IfOk result (λ s. stmt_view s ≡ choice self.label (cond_view self.cond) (stmt_view branch)
             (stmt_view other)) }
         ensures memory { IfErr result (λ e. e ≡ NamesError.Memory) }
@@ -48,16 +47,16 @@ impl Head {
         let Head { label, cond } = self;
         let branch = Box::new(alloc, branch)?;
         let other = Box::new(alloc, other)?;
-        Ok(program::Stmt::If(label, cond, branch, other))
+        Ok(lra_program::Stmt::If(label, cond, branch, other))
     }
 
     /// A loop, with a step behind each round.
     pub fn repeat(
         self,
         alloc: Global,
-        body: program::Stmt,
-        step: program::Stmt,
-    ) -> Result<program::Stmt, NamesError>
+        body: lra_program::Stmt,
+        step: lra_program::Stmt,
+    ) -> Result<lra_program::Stmt, NamesError>
         ensures found { IfOk result (λ s. stmt_view s ≡ loop_of self.label (cond_view self.cond) (stmt_view body)
             (stmt_view step)) }
         ensures memory { IfErr result (λ e. e ≡ NamesError.Memory) }
@@ -65,23 +64,23 @@ impl Head {
         let Head { label, cond } = self;
         let body = Box::new(alloc, body)?;
         let step = Box::new(alloc, step)?;
-        Ok(program::Stmt::Loop(label, cond, body, step))
+        Ok(lra_program::Stmt::Loop(label, cond, body, step))
     }
 
     /// An `assert`.
-    fn into_assert(self) -> program::Stmt
+    fn into_assert(self) -> lra_program::Stmt
         ensures { stmt_view result ≡ assert_stmt self.label (cond_view self.cond) }
     {
         let Head { label, cond } = self;
-        program::Stmt::Assert(label, cond)
+        lra_program::Stmt::Assert(label, cond)
     }
 
     /// An `assume`.
-    fn into_assume(self) -> program::Stmt
+    fn into_assume(self) -> lra_program::Stmt
         ensures { stmt_view result ≡ assume_stmt self.label (cond_view self.cond) }
     {
         let Head { label, cond } = self;
-        program::Stmt::Assume(label, cond)
+        lra_program::Stmt::Assume(label, cond)
     }
 }
 
@@ -108,7 +107,7 @@ pub fn resolve_assert(
     scope: &Scope,
     next: &mut usize,
     cond: &Cond,
-) -> Result<program::Stmt, NamesError>
+) -> Result<lra_program::Stmt, NamesError>
     ensures told { TellsOf (cond_faults scope.now (tree_cond_view cond.now)) result }
     ensures found { IfOk result (λ s. stmt_view s ≡ assert_stmt next.old
         (resolve_cond scope.now (tree_cond_view cond.now))) }
@@ -123,7 +122,7 @@ pub fn resolve_assume(
     scope: &Scope,
     next: &mut usize,
     cond: &Cond,
-) -> Result<program::Stmt, NamesError>
+) -> Result<lra_program::Stmt, NamesError>
     ensures told { TellsOf (cond_faults scope.now (tree_cond_view cond.now)) result }
     ensures found { IfOk result (λ s. stmt_view s ≡ assume_stmt next.old
         (resolve_cond scope.now (tree_cond_view cond.now))) }
@@ -135,10 +134,10 @@ pub fn resolve_assume(
 
 /// The items of a block.
 #[tactic(auto, using(crate::proofs::StatementLaws::followed_end))]
-pub fn block_of(items: Vec<program::BlockItem>) -> program::BlockItems
+pub fn block_of(items: Vec<lra_program::BlockItem>) -> lra_program::BlockItems
     ensures { items_view result ≡ followed (map item_view items.items) no_more }
 {
-    program::BlockItems { items }
+    lra_program::BlockItems { items }
 }
 
 /// Begins the scope of a `for`, and resolves how it begins.
@@ -148,7 +147,7 @@ fn resolve_init(
     scope: &mut Scope,
     next: &mut usize,
     init: &Init,
-) -> Result<program::BlockItems, NamesError>
+) -> Result<lra_program::BlockItems, NamesError>
     ensures told { TellsOf (init_faults (functions_at around.now.functions.now) scope.old (init_view init.now)) result }
     ensures found { IfOk result (λ b. items_view b ≡ resolve_init
         (functions_at around.now.functions.now) scope.old next.old (init_view init.now)) }
@@ -175,7 +174,7 @@ fn resolve_init(
         }
         Init::Assign(assign) => {
             let stmt = resolve_assignment(around, scope, next, assign)?;
-            items.push(program::BlockItem::Statement(stmt))?;
+            items.push(lra_program::BlockItem::Statement(stmt))?;
             scope.enter();
             Ok(block_of(items))
         }
@@ -187,12 +186,12 @@ fn resolve_for_test(
     alloc: Global,
     scope: &Scope,
     test: &Option<Cond>,
-) -> Result<program::Cond, NamesError>
+) -> Result<lra_program::Cond, NamesError>
     ensures told { TellsOf (test_of_for_faults scope.now (option_map tree_cond_view test.now)) result }
     ensures found { IfOk result (λ c. cond_view c ≡ resolve_for_test scope.now (option_map tree_cond_view test.now)) }
 {
     match test {
-        None => Ok(program::Cond::Nonzero(program::Expr::Literal(1))),
+        None => Ok(lra_program::Cond::Nonzero(lra_program::Expr::Literal(1))),
         Some(cond) => resolve_cond(alloc, scope, cond),
     }
 }
@@ -202,7 +201,7 @@ fn resolve_step(
     scope: &Scope,
     next: &mut usize,
     step: &Option<Assign>,
-) -> Result<program::Stmt, NamesError>
+) -> Result<lra_program::Stmt, NamesError>
     ensures told { TellsOf (step_faults (functions_at around.now.functions.now) scope.now
         (option_map assign_view step.now)) result }
     ensures found { IfOk result (λ s. stmt_view s ≡ resolve_step
@@ -210,7 +209,7 @@ fn resolve_step(
     ensures counted { OnOk result (next.new ≡ next.old + step_count (option_map assign_view step.now)) }
 {
     match step {
-        None => Ok(program::Stmt::Absent),
+        None => Ok(lra_program::Stmt::Absent),
         Some(assign) => resolve_assignment(around, scope, next, assign),
     }
 }
@@ -225,9 +224,9 @@ pub struct Rounds<'a> {
 
 /// What it means, and the label of the `for`.
 pub struct ForHead {
-    init: program::BlockItems,
+    init: lra_program::BlockItems,
     head: Head,
-    step: program::Stmt,
+    step: lra_program::Stmt,
 }
 
 impl Drop for ForHead {
@@ -242,7 +241,11 @@ impl Drop for ForHead {
 
 impl ForHead {
     /// The whole `for`.
-    pub fn into_loop(self, alloc: Global, body: program::Stmt) -> Result<program::Stmt, NamesError>
+    pub fn into_loop(
+        self,
+        alloc: Global,
+        body: lra_program::Stmt,
+    ) -> Result<lra_program::Stmt, NamesError>
         ensures found { IfOk result (λ s. stmt_view s ≡ for_of (items_view self.init)
             (loop_of self.head.label (cond_view self.head.cond) (stmt_view body) (stmt_view self.step))) }
         ensures memory { IfErr result (λ e. e ≡ NamesError.Memory) }
@@ -250,7 +253,7 @@ impl ForHead {
         let ForHead { init, head, step } = self;
         let again = head.repeat(alloc, body, step)?;
         let again = Box::new(alloc, again)?;
-        Ok(program::Stmt::For(init, again))
+        Ok(lra_program::Stmt::For(init, again))
     }
 }
 

@@ -1,13 +1,13 @@
 //! Scopes: the variables that can be named, oldest first.
 
 ghost use Rattle.std.specs.Prelude.{◌≡◌, ◌∷◌, ◌++◌, [], length, option_map, IfOk};
-ghost use Rattle.lra_tree.specs.Scope.{slot_of, is_declared, with_local, inner};
-ghost use Rattle.lra_tree.specs.ProgramViews.{slot_view};
+ghost use Rattle.lra_meaning.specs.Scope.{slot_of, is_declared, with_local, inner};
+ghost use Rattle.lra_program.specs.ProgramViews.{slot_view};
 ghost use Rattle.lra_names.specs.Scopes.{left_to};
 
 use crate::names::Names;
+use lra_program::Slot;
 use lra_tree::Word;
-use lra_tree::program::Slot;
 use std::alloc::{AllocError, Global};
 use std::marker::Model;
 
@@ -21,7 +21,7 @@ pub struct Scope {
 }
 
 impl Model for Scope {
-    ghost use Rattle.lra_tree.specs.Scope.{Scope};
+    ghost use Rattle.lra_meaning.specs.Scope.{Scope};
 
     ghost Value = { Scope };
 

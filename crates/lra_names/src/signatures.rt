@@ -3,8 +3,8 @@
 ghost use Rattle.std.specs.Prelude.{◌≡◌, ℕ, List, option_map, bytes_eq, IfOk, OnOk};
 ghost use Rattle.indexmap.specs.IndexMap.{get_by_text};
 ghost use Rattle.lra_tree.specs.Views.{function_view};
-ghost use Rattle.lra_tree.specs.Scope.{function_named};
-ghost use Rattle.lra_tree.specs.Resolve.{function_place};
+ghost use Rattle.lra_tree.specs.Functions.{function_named};
+ghost use Rattle.lra_meaning.specs.Resolve.{function_place};
 ghost use Rattle.lra_names.specs.Calls.{functions_at};
 ghost use Rattle.lra_names.specs.Signatures.{signature_at, named_signature, or_else};
 

@@ -1,12 +1,12 @@
 //! Statements without parts that are statements, each under its label.
 
 ghost use Rattle.std.specs.Prelude.{◌≡◌, [], suc, not, false, option_map, IfOk, OnOk};
-ghost use Rattle.lra_tree.specs.Program.{nothing, call as call_stmt};
+ghost use Rattle.lra_program.specs.Program.{nothing, call as call_stmt};
 ghost use Rattle.lra_tree.specs.Views.{source_view, call_view, assign_view};
-ghost use Rattle.lra_tree.specs.ProgramViews.{stmt_view};
-ghost use Rattle.lra_tree.specs.NameFaults.{fault_if, call_faults, assign_faults, return_faults};
-ghost use Rattle.lra_tree.specs.Resolve.{resolve_call, resolve_assign, resolve_given};
-ghost use Rattle.lra_tree.specs.declared.refusals.Cause.TheVariants.{Misplaced};
+ghost use Rattle.lra_program.specs.ProgramViews.{stmt_view};
+ghost use Rattle.lra_meaning.specs.NameFaults.{fault_if, call_faults, assign_faults, return_faults};
+ghost use Rattle.lra_meaning.specs.Resolve.{resolve_call, resolve_assign, resolve_given};
+ghost use Rattle.lra_base.specs.declared.refusals.Cause.TheVariants.{Misplaced};
 ghost use Rattle.lra_names.specs.Calls.{functions_at};
 ghost use Rattle.lra_names.specs.Statements.{around_of, break_of, continue_of, return_of};
 ghost use Rattle.lra_names.specs.Outcome.{TellsOf};
@@ -16,17 +16,18 @@ use crate::calls::{resolve_assign, resolve_call, resolve_given};
 use crate::declarations::take_label;
 use crate::errors::{NamesError, refuse};
 use crate::scopes::Scope;
-use lra_tree::{Assign, Call, Cause, Place, Source, program};
+use lra_base::{Cause, Place};
+use lra_tree::{Assign, Call, Source};
 
 /// A statement that does nothing.
 #[tactic(auto, using(crate::proofs::Loops::wanting_told))]
-pub fn resolve_nothing(next: &mut usize) -> Result<program::Stmt, NamesError>
+pub fn resolve_nothing(next: &mut usize) -> Result<lra_program::Stmt, NamesError>
     ensures told { TellsOf [] result }
     ensures found { IfOk result (λ s. stmt_view s ≡ nothing next.old) }
     ensures counted { OnOk result (next.new ≡ suc next.old) }
 {
     let label = take_label(next)?;
-    Ok(program::Stmt::Nothing(label))
+    Ok(lra_program::Stmt::Nothing(label))
 }
 
 /// An assignment under the next label.
@@ -35,7 +36,7 @@ pub fn resolve_assignment(
     scope: &Scope,
     next: &mut usize,
     assign: &Assign,
-) -> Result<program::Stmt, NamesError>
+) -> Result<lra_program::Stmt, NamesError>
     ensures told { TellsOf (assign_faults (functions_at around.now.functions.now) scope.now (assign_view assign.now))
         result }
     ensures found { IfOk result (λ s. stmt_view s ≡ resolve_assign
@@ -52,7 +53,7 @@ pub fn resolve_call_alone(
     scope: &Scope,
     next: &mut usize,
     call: &Call,
-) -> Result<program::Stmt, NamesError>
+) -> Result<lra_program::Stmt, NamesError>
     ensures told { TellsOf (call_faults (functions_at around.now.functions.now) scope.now (call_view call.now) false)
         result }
     ensures found { IfOk result (λ s. stmt_view s ≡ call_stmt next.old
@@ -61,7 +62,7 @@ pub fn resolve_call_alone(
 {
     let label = take_label(next)?;
     let call = resolve_call(around.alloc, around.functions, scope, label, call, false)?;
-    Ok(program::Stmt::Call(label, call))
+    Ok(lra_program::Stmt::Call(label, call))
 }
 
 /// The label of a `break` or a `continue`, which stand in loops.
@@ -82,13 +83,13 @@ pub fn resolve_break(
     around: &Around<'_>,
     next: &mut usize,
     place: Place,
-) -> Result<program::Stmt, NamesError>
+) -> Result<lra_program::Stmt, NamesError>
     ensures told { TellsOf (fault_if (not around.now.in_loop) Misplaced place) result }
     ensures found { IfOk result (λ s. stmt_view s ≡ break_of next.old) }
     ensures counted { OnOk result (next.new ≡ suc next.old) }
 {
     let label = take_jump_label(around.in_loop, next, place)?;
-    Ok(program::Stmt::Break(label))
+    Ok(lra_program::Stmt::Break(label))
 }
 
 /// A `continue`, in a loop or not.
@@ -96,13 +97,13 @@ pub fn resolve_continue(
     around: &Around<'_>,
     next: &mut usize,
     place: Place,
-) -> Result<program::Stmt, NamesError>
+) -> Result<lra_program::Stmt, NamesError>
     ensures told { TellsOf (fault_if (not around.now.in_loop) Misplaced place) result }
     ensures found { IfOk result (λ s. stmt_view s ≡ continue_of next.old) }
     ensures counted { OnOk result (next.new ≡ suc next.old) }
 {
     let label = take_jump_label(around.in_loop, next, place)?;
-    Ok(program::Stmt::Continue(label))
+    Ok(lra_program::Stmt::Continue(label))
 }
 
 /// A `return`; only a function with a result gives one.
@@ -113,7 +114,7 @@ pub fn resolve_return(
     next: &mut usize,
     place: Place,
     source: &Option<Source>,
-) -> Result<program::Stmt, NamesError>
+) -> Result<lra_program::Stmt, NamesError>
     ensures told { TellsOf (return_faults (around_of around.now) scope.now place (option_map source_view source.now))
         result }
     ensures found { IfOk result (λ s. stmt_view s ≡ return_of next.old
@@ -126,5 +127,5 @@ pub fn resolve_return(
     }
     let label = take_label(next)?;
     let source = resolve_given(around.alloc, around.functions, scope, label, source)?;
-    Ok(program::Stmt::Return(label, source))
+    Ok(lra_program::Stmt::Return(label, source))
 }

@@ -1,15 +1,13 @@
 //! Statements, each under its label.
 
 ghost use Rattle.std.specs.Prelude.{◌≡◌, ◌+◌, ◌++◌, suc, map, option_map, IfOk, OnOk, IfErr};
-ghost use Rattle.lra_tree.specs.Program.{absent};
+ghost use Rattle.lra_program.specs.Program.{absent};
 ghost use Rattle.lra_tree.specs.Trees.{ItemsTree, block as tree_block};
 ghost use Rattle.lra_tree.specs.Views.{stmt_view, block_view, item_view, init_view, assign_view, cond_view};
-ghost use Rattle.lra_tree.specs.ProgramViews.{stmt_view as program_stmt_view, items_view};
-ghost use Rattle.lra_tree.specs.ProgramViews.{item_view as program_item_view};
-ghost use Rattle.lra_tree.specs.Scope.{for_scope};
-ghost use Rattle.lra_tree.specs.NameFaults.{in_a_loop, cond_faults, stmt_faults, items_faults};
-ghost use Rattle.lra_tree.specs.Resolve.{resolve_cond, resolve_init, resolve_for_test, resolve_step, resolve_stmt};
-ghost use Rattle.lra_tree.specs.Resolve.{resolve_items, stmt_count, items_count, init_count, step_count};
+ghost use Rattle.lra_program.specs.ProgramViews.{stmt_view as program_stmt_view, items_view, item_view as program_item_view};
+ghost use Rattle.lra_meaning.specs.Scope.{for_scope};
+ghost use Rattle.lra_meaning.specs.NameFaults.{in_a_loop, cond_faults, stmt_faults, items_faults};
+ghost use Rattle.lra_meaning.specs.Resolve.{resolve_cond, resolve_init, resolve_for_test, resolve_step, resolve_stmt, resolve_items, stmt_count, items_count, init_count, step_count};
 ghost use Rattle.lra_names.specs.Calls.{functions_at};
 ghost use Rattle.lra_names.specs.Scopes.{Extends};
 ghost use Rattle.lra_names.specs.Statements.{around_of, followed, choice, loop_of, for_of, head_faults};
@@ -26,7 +24,7 @@ use crate::simple::{
     resolve_assignment, resolve_break, resolve_call_alone, resolve_continue, resolve_nothing,
     resolve_return,
 };
-use lra_tree::{Block, BlockItem, Cond, Stmt, program};
+use lra_tree::{Block, BlockItem, Cond, Stmt};
 
 #[cycle(statement)]
 fn resolve_stmt(
@@ -34,7 +32,7 @@ fn resolve_stmt(
     scope: &mut Scope,
     next: &mut usize,
     stmt: &Stmt,
-) -> Result<program::Stmt, NamesError>
+) -> Result<lra_program::Stmt, NamesError>
     ensures told { TellsOf (stmt_faults (around_of around.now) scope.old (stmt_view stmt.now)) result }
     ensures found { IfOk result (λ s. program_stmt_view s
         ≡ resolve_stmt (functions_at around.now.functions.now) scope.old next.old (stmt_view stmt.now)) }
@@ -69,7 +67,7 @@ fn resolve_if(
     next: &mut usize,
     cond: &Cond,
     branch: &Stmt,
-) -> Result<program::Stmt, NamesError>
+) -> Result<lra_program::Stmt, NamesError>
     ensures told { TellsOf (cond_faults scope.old (cond_view cond.now)
         ++ stmt_faults (around_of around.now) scope.old (stmt_view branch.now)) result }
     ensures found { IfOk result (λ s. program_stmt_view s
@@ -81,7 +79,7 @@ fn resolve_if(
 {
     let head = resolve_head(around.alloc, scope, next, cond)?;
     let branch = resolve_stmt(around, scope, next, branch)?;
-    head.choose(around.alloc, branch, program::Stmt::Absent)
+    head.choose(around.alloc, branch, lra_program::Stmt::Absent)
 }
 
 #[cycle(statement)]
@@ -93,7 +91,7 @@ fn resolve_if_else(
     cond: &Cond,
     branch: &Stmt,
     other: &Stmt,
-) -> Result<program::Stmt, NamesError>
+) -> Result<lra_program::Stmt, NamesError>
     ensures told { TellsOf (cond_faults scope.old (cond_view cond.now)
         ++ stmt_faults (around_of around.now) scope.old (stmt_view branch.now)
         ++ stmt_faults (around_of around.now) scope.old (stmt_view other.now)) result }
@@ -119,7 +117,7 @@ fn resolve_while(
     next: &mut usize,
     cond: &Cond,
     body: &Stmt,
-) -> Result<program::Stmt, NamesError>
+) -> Result<lra_program::Stmt, NamesError>
     ensures told { TellsOf (cond_faults scope.old (cond_view cond.now)
         ++ stmt_faults (in_a_loop (around_of around.now)) scope.old (stmt_view body.now)) result }
     ensures found { IfOk result (λ s. program_stmt_view s
@@ -130,7 +128,7 @@ fn resolve_while(
 {
     let head = resolve_head(around.alloc, scope, next, cond)?;
     let body = resolve_stmt(&around.in_a_loop(), scope, next, body)?;
-    head.repeat(around.alloc, body, program::Stmt::Absent)
+    head.repeat(around.alloc, body, lra_program::Stmt::Absent)
 }
 
 #[cycle(statement)]
@@ -141,7 +139,7 @@ fn resolve_for(
     next: &mut usize,
     rounds: &Rounds<'_>,
     body: &Stmt,
-) -> Result<program::Stmt, NamesError>
+) -> Result<lra_program::Stmt, NamesError>
     ensures told { TellsOf (head_faults (functions_at around.now.functions.now) scope.old
         (init_view rounds.now.init.now) (option_map cond_view rounds.now.test.now)
         (option_map assign_view rounds.now.step.now) ++ stmt_faults (in_a_loop (around_of around.now))
@@ -175,7 +173,7 @@ fn resolve_block(
     scope: &mut Scope,
     next: &mut usize,
     block: &Block,
-) -> Result<program::Stmt, NamesError>
+) -> Result<lra_program::Stmt, NamesError>
     ensures told { TellsOf (stmt_faults (around_of around.now) scope.old
         (tree_block (block_view block.now).0 (block_view block.now).1)) result }
     ensures found { IfOk result (λ s. program_stmt_view s
@@ -191,7 +189,7 @@ fn resolve_block(
     let items = resolve_items(around, scope, next, block)?;
     scope.leave(count, outer);
     let end = take_label(next)?;
-    Ok(program::Stmt::Block(items, end))
+    Ok(lra_program::Stmt::Block(items, end))
 }
 
 #[cycle(statement)]
@@ -201,7 +199,7 @@ pub fn resolve_items(
     scope: &mut Scope,
     next: &mut usize,
     block: &Block,
-) -> Result<program::BlockItems, NamesError>
+) -> Result<lra_program::BlockItems, NamesError>
     ensures told { TellsOf (items_faults (around_of around.now) scope.old (block_view block.now).0) result }
     ensures found { IfOk result (λ b. items_view b ≡ resolve_items
         (functions_at around.now.functions.now) scope.old next.old (block_view block.now).0) }
@@ -223,7 +221,7 @@ fn add_item(
     scope: &mut Scope,
     next: &mut usize,
     item: &BlockItem,
-    items: &mut Vec<program::BlockItem>,
+    items: &mut Vec<lra_program::BlockItem>,
 ) -> Result<(), NamesError>
     ensures told { IfErr result (λ e. (rest : ItemsTree)
         → Tells (items_faults (around_of around.now) scope.old (item_view item.now rest)) e) }
@@ -251,7 +249,7 @@ fn add_item(
         }
         BlockItem::Statement(stmt) => {
             let stmt = resolve_stmt(around, scope, next, stmt)?;
-            items.push(program::BlockItem::Statement(stmt))?;
+            items.push(lra_program::BlockItem::Statement(stmt))?;
             Ok(())
         }
     }

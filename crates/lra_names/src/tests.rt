@@ -2,10 +2,11 @@
 
 use crate::errors::NamesError;
 use crate::functions::resolve;
-use lra_tree::program::{BlockItem as ProgramItem, Slot, Stmt as ProgramStmt};
+use lra_base::{Cause, Place, Refusal};
+use lra_program::{BlockItem as ProgramItem, Slot, Stmt as ProgramStmt};
 use lra_tree::{
-    Arguments, Assign, Block, BlockItem, Call, Cause, Declaration, Declarator, Function, Global,
-    Globals, Identifier, Init, Item, Parameters, Place, Refusal, Source, Step, Stmt, Tree, Word,
+    Arguments, Assign, Block, BlockItem, Call, Declaration, Declarator, Function, Global, Globals,
+    Identifier, Init, Item, Parameters, Source, Step, Stmt, Tree, Word,
 };
 use std::alloc::AllocError;
 use std::test::Fail;

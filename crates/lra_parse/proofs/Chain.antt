@@ -1,7 +1,7 @@
 -- Chains, items with operators between them; and lists, items one behind the other.
 use Rattle.std.proofs.Common.{◌≡◌, ℕ, Bool, true, false, List, [], ◌∷◌, ◌++◌, Option, Some, None, refl, sym, ap, subst, ◌∙◌, append_assoc}
 use Rattle.std.proofs.lemmas.List.{append-nil}
-use Rattle.lra_tree.specs.declared.refusals.Place.{Place}
+use Rattle.lra_base.specs.declared.refusals.Place.{Place}
 use Rattle.lra_tree.specs.declared.tokens.Mark.{Mark}
 use Rattle.lra_tree.specs.declared.tokens.Kind.TheVariants.{Mark as MarkOf}
 use Rattle.lra_tree.specs.declared.tokens.Token.{Token}

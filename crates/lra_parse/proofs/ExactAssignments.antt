@@ -1,20 +1,21 @@
 -- The readers of assignments and declarations are exact.
 use Rattle.std.proofs.Common.{◌≡◌, ℕ, ◌+◌, ◌≤◌, true, false, ◌⊎◌, List, [], ◌∷◌, ◌++◌, Option, Some, None, Ok, Err, refl, sym, ap, subst, ◌∙◌, arith, inl, inr, option_map}
 use Rattle.std.specs.Bool.{⊤}
-use Rattle.lra_tree.specs.declared.refusals.Place.{Place}
+use Rattle.lra_base.specs.declared.refusals.Place.{Place}
 use Rattle.lra_tree.specs.declared.tokens.Mark.{Mark}
 use Rattle.lra_tree.specs.declared.tokens.Mark.TheVariants as mark
 use Rattle.lra_tree.specs.declared.tokens.Kind.TheVariants.{Name, Mark as MarkOf}
 use Rattle.lra_tree.specs.declared.tokens.Token.{Token}
 use Rattle.lra_tree.specs.declared.trees.Identifier.{Identifier}
-use Rattle.lra_tree.specs.declared.trees.Operator.{Operator}
-use Rattle.lra_tree.specs.declared.trees.Operator.TheVariants as operator
+use Rattle.lra_base.specs.declared.operators.Operator.{Operator}
+use Rattle.lra_base.specs.declared.operators.Operator.TheVariants as operator
 use Rattle.lra_tree.specs.declared.trees.Step.{Step}
 use Rattle.lra_tree.specs.declared.trees.Step.TheVariants as step
-use Rattle.lra_tree.specs.Program as program
+use Rattle.lra_base.specs.Operators as operators
 use Rattle.lra_tree.specs.Texts.{Pieces, Texts, ◌⋅◌, ◌∣◌, empty, opens, mark as spells, opens_at, name, separated}
 use Rattle.lra_tree.specs.Trees.{SourceTree, expression, result, StepTree, increment, decrement, AssignTree, set, update, after, before, DeclaratorTree, DeclarationTree}
-use Rattle.lra_tree.specs.Views.{operator_view, step_view}
+use Rattle.lra_base.specs.OperatorViews.{operator_view}
+use Rattle.lra_tree.specs.Views.{step_view}
 use Rattle.lra_tree.specs.Grammar.{IsExpr, IsSource, update_mark, step_mark, IsAssign, IsType, IsDeclarator, IsDeclaration}
 use Rattle.lra_parse.specs.Tests.{is_mark}
 use Rattle.lra_parse.specs.Reading.{Text, Read, Parse, ◌>>=◌, seq, expect, take_by, has, one_of}
@@ -44,12 +45,12 @@ update_self operator.Modulo at = refl
 exact_update : (n : ℕ) → Exact n IsInner (take_by update_operator) Any (λ k z. spells (mark_of_update k) z) (λ k z. spells (mark_of_update k) z) Free
 exact_update n = exact_operator n mark_of_update update_operators (refl, (refl, (refl, (refl, (refl, tt))))) update_self refl operator.Plus
 
-operator_of : (op : program.Operator) → (k : Operator) × (operator_view k ≡ op)
-operator_of program.plus = (operator.Plus, refl)
-operator_of program.minus = (operator.Minus, refl)
-operator_of program.times = (operator.Times, refl)
-operator_of program.over = (operator.Over, refl)
-operator_of program.modulo = (operator.Modulo, refl)
+operator_of : (op : operators.Operator) → (k : Operator) × (operator_view k ≡ op)
+operator_of operators.plus = (operator.Plus, refl)
+operator_of operators.minus = (operator.Minus, refl)
+operator_of operators.times = (operator.Times, refl)
+operator_of operators.over = (operator.Over, refl)
+operator_of operators.modulo = (operator.Modulo, refl)
 
 abbrev pub mark_of_step : Step → Mark
 mark_of_step s = step_mark (step_view s)
@@ -180,7 +181,7 @@ pub from_assign : (o l : ℕ) (b : AssignTree) (z : Pieces) → IsAssign o l b z
 from_assign o l (set x a) z (u, v, e, s, (p, q, f, m, t)) = inr (x, (u, v, e, s, inl (p, q, f, m, (a, refl, t))))
 from_assign o l (update x op a) z (u, v, e, s, (p, q, f, m, t)) =
     let c = operator_of op in
-    inr (x, (u, v, e, s, inr (inl (c.0, (p, q, f, subst (λ (i : program.Operator). spells (update_mark i) p) (sym c.1) m, (a, ap (λ (i : program.Operator). update x i a) c.1, t))))))
+    inr (x, (u, v, e, s, inr (inl (c.0, (p, q, f, subst (λ (i : operators.Operator). spells (update_mark i) p) (sym c.1) m, (a, ap (λ (i : operators.Operator). update x i a) c.1, t))))))
 from_assign o l (after x s) z (u, v, e, m, (at, t)) =
     let c = step_of s in
     inr (x, (u, v, e, m, inr (inr ((c.0, at), ap (λ (i : StepTree). after x i) c.1, subst (λ (i : StepTree). opens_at (step_mark i) at 0 v) (sym c.1) t))))

@@ -2,32 +2,28 @@
 use Rattle.std.proofs.Common.{◌≡◌, ℕ, ◌+◌, zero, suc, ◌≤◌, ◌<◌, true, false, ◌⊎◌, [], ◌∷◌, ◌++◌, Option, Some, None, refl, sym, ap, subst, ◌∙◌, append_assoc, arith, inl, inr}
 use Rattle.std.specs.Bool.{⊤}
 use Rattle.std.proofs.lemmas.List.{append-nil}
-use Rattle.lra_tree.specs.declared.refusals.Place.{Place}
-use Rattle.lra_tree.specs.declared.refusals.Cause.TheVariants.{TooDeep}
+use Rattle.lra_base.specs.declared.refusals.Place.{Place}
+use Rattle.lra_base.specs.declared.refusals.Cause.TheVariants.{TooDeep}
 use Rattle.lra_tree.specs.declared.tokens.Mark.{Mark}
 use Rattle.lra_tree.specs.declared.tokens.Mark.TheVariants as mark
 use Rattle.lra_tree.specs.declared.tokens.Token.{Token}
-use Rattle.lra_tree.specs.declared.trees.Comparison.{Comparison}
-use Rattle.lra_tree.specs.declared.trees.Comparison.TheVariants as comparison
-use Rattle.lra_tree.specs.Program as program
+use Rattle.lra_base.specs.declared.operators.Comparison.{Comparison}
+use Rattle.lra_base.specs.declared.operators.Comparison.TheVariants as comparison
+use Rattle.lra_base.specs.Operators as operators
 use Rattle.lra_tree.specs.Texts.{Piece, Pieces, Texts, ◌⋅◌, opens, mark as spells}
-use Rattle.lra_tree.specs.Trees.{UnaryTree, negated, positive, literal, variable, input, group, TermTree, unary, ExprTree, term, NegationTree, opposite_again, value_of_unary, group_opposed, TestTree}
-use Rattle.lra_tree.specs.Trees.{opposite, value, compare, group_of, ConjunctionTree, test as one_test, and, CondTree, conjunction, or}
-use Rattle.lra_tree.specs.Views.{comparison_view}
+use Rattle.lra_tree.specs.Trees.{UnaryTree, negated, positive, literal, variable, input, group, TermTree, unary, ExprTree, term, NegationTree, opposite_again, value_of_unary, group_opposed, TestTree, opposite, value, compare, group_of, ConjunctionTree, test as one_test, and, CondTree, conjunction, or}
+use Rattle.lra_base.specs.OperatorViews.{comparison_view}
 use Rattle.lra_tree.specs.Grammar.{IsUnary, IsTerm, IsExpr, comparison_mark, IsStrict, IsNegation, IsTest, IsConjunction, IsCond}
 use Rattle.lra_parse.specs.Tests.{first}
 use Rattle.lra_parse.specs.Reading.{Parse, stop, seq, has}
-use Rattle.lra_parse.specs.Expressions.{factor_operator, sum_operator, comparisons, next_comparison, next_and, next_or, in_parens, summands, expr_of, unary_at, compared, from_unary, alone}
-use Rattle.lra_parse.specs.Expressions.{after_alone, after_group, negation_of, TestMark, at_not, at_open, test_marks, test_mark, test_form, negation_form, conjunction_of, cond_of, tests, test_at}
-use Rattle.lra_parse.specs.Expressions.{negation_at, cond_at}
+use Rattle.lra_parse.specs.Expressions.{factor_operator, sum_operator, comparisons, next_comparison, next_and, next_or, in_parens, summands, expr_of, unary_at, compared, from_unary, alone, after_alone, after_group, negation_of, TestMark, at_not, at_open, test_marks, test_mark, test_form, negation_form, conjunction_of, cond_of, tests, test_at, negation_at, cond_at}
 use Rattle.lra_parse.proofs.Exact.{Exact, Any, Free, Both, first_or, first_or-both, then}
 use Rattle.lra_parse.proofs.Forms.{rename, widen, entry, mapped, choose, branch, where_told, exact_done, exact_deep}
 use Rattle.lra_parse.proofs.Tokens.{IsInner, exact_operator, some_place, some_name}
 use Rattle.lra_parse.proofs.Turns.{none}
 use Rattle.lra_parse.proofs.Chain.{regroup, IsFollow, IsOperator, Split, split_more, split_start, exact_chain}
 use Rattle.lra_parse.proofs.Parts.{token, exact_behind, exact_ended, table_mark, by_table}
-use Rattle.lra_parse.proofs.ExactExpressions.{AfterTerm, AfterExpr, some_expr, TermSteps, ExprSteps, expr_follows, whole_term, whole_expr, split_term, split_expr, exact_factors, exact_summands}
-use Rattle.lra_parse.proofs.ExactExpressions.{exact_expr_of, Of, first_opened, opened_over, exact_unary}
+use Rattle.lra_parse.proofs.ExactExpressions.{AfterTerm, AfterExpr, some_expr, TermSteps, ExprSteps, expr_follows, whole_term, whole_expr, split_term, split_expr, exact_factors, exact_summands, exact_expr_of, Of, first_opened, opened_over, exact_unary}
 
 -- operators --------------------------------------------------------------------------------------------------------
 
@@ -58,13 +54,13 @@ after_comparison comparison.AtLeast e at = ((tt, refl), refl)
 after_comparison comparison.Equal e at = ((tt, refl), refl)
 after_comparison comparison.Differs e at = ((tt, refl), refl)
 
-comparison_of : (op : program.Comparison) → (k : Comparison) × (comparison_view k ≡ op)
-comparison_of program.below = (comparison.Below, refl)
-comparison_of program.at_most = (comparison.AtMost, refl)
-comparison_of program.above = (comparison.Above, refl)
-comparison_of program.at_least = (comparison.AtLeast, refl)
-comparison_of program.equal = (comparison.Equal, refl)
-comparison_of program.differs = (comparison.Differs, refl)
+comparison_of : (op : operators.Comparison) → (k : Comparison) × (comparison_view k ≡ op)
+comparison_of operators.below = (comparison.Below, refl)
+comparison_of operators.at_most = (comparison.AtMost, refl)
+comparison_of operators.above = (comparison.Above, refl)
+comparison_of operators.at_least = (comparison.AtLeast, refl)
+comparison_of operators.equal = (comparison.Equal, refl)
+comparison_of operators.differs = (comparison.Differs, refl)
 
 abbrev and_mark : Unit {0} → Mark
 and_mark k = mark.And
@@ -262,10 +258,10 @@ grouped_strict l (conjunction (one_test (group_of c))) z h s = (conjunction (one
 grouped_strict l (conjunction (and c t)) z h s = (conjunction (and c t), (z, [], sym (append-nil z), h, (refl, refl)))
 grouped_strict l (or c d) z h s = (or c d, (z, [], sym (append-nil z), h, (refl, refl)))
 
-compared_of : (l : ℕ) (a : ExprTree) (op : program.Comparison) (b : ExprTree) (y : Pieces) → (spells (comparison_mark op) ⋅ IsExpr l b) y → Compared l a (compare a op b) y
+compared_of : (l : ℕ) (a : ExprTree) (op : operators.Comparison) (b : ExprTree) (y : Pieces) → (spells (comparison_mark op) ⋅ IsExpr l b) y → Compared l a (compare a op b) y
 compared_of l a op b y (u, v, f, s, r) =
     let k = comparison_of op in
-    inl (k.0, (u, v, f, subst (λ (c : program.Comparison). spells (comparison_mark c) u) (sym k.1) s, (b, ap (λ (c : program.Comparison). compare a c b) k.1, r)))
+    inl (k.0, (u, v, f, subst (λ (c : operators.Comparison). spells (comparison_mark c) u) (sym k.1) s, (b, ap (λ (c : operators.Comparison). compare a c b) k.1, r)))
 
 from_test : (l : ℕ) (b : TestTree) (z : Pieces) → IsTest l b z → (k : Option TestMark) × TestAt l k b z
 from_test l (opposite a) z (x, y, e, s, t) = (Some at_not, (x, y, e, s, (a, refl, t)))

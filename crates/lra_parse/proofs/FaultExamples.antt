@@ -1,8 +1,8 @@
 -- First faults of two sources, found by reading their tokens.
 use Rattle.std.proofs.Common.{◌≡◌, ◌≢◌, ℕ, Bool, true, false, cond, [], ◌∷◌, ◌++◌, codes, Err, refl, inl, inr}
 use Rattle.std.specs.List.{AllByRecursion}
-use Rattle.lra_tree.specs.declared.refusals.Place.{Place}
-use Rattle.lra_tree.specs.declared.refusals.Cause.TheVariants.{Syntax}
+use Rattle.lra_base.specs.declared.refusals.Place.{Place}
+use Rattle.lra_base.specs.declared.refusals.Cause.TheVariants.{Syntax}
 use Rattle.lra_tree.specs.declared.tokens.Mark.{Mark}
 use Rattle.lra_tree.specs.declared.tokens.Mark.TheVariants as mark
 use Rattle.lra_tree.specs.declared.tokens.Kind.{Kind}

@@ -1,6 +1,6 @@
 -- Trees and first faults of sources with functions, found by reading their tokens.
 use Rattle.std.proofs.Common.{◌≡◌, true, false, [], ◌∷◌, codes, Ok, Err, refl}
-use Rattle.lra_tree.specs.declared.refusals.Cause.TheVariants.{Syntax}
+use Rattle.lra_base.specs.declared.refusals.Cause.TheVariants.{Syntax}
 use Rattle.lra_tree.specs.declared.tokens.Mark.TheVariants as mark
 use Rattle.lra_tree.specs.declared.tokens.Kind.TheVariants.{Number}
 use Rattle.lra_tree.specs.Faults.{IsTree, IsTextFault}

@@ -1,7 +1,7 @@
 -- Trees and first faults of sources with globals, found by reading their tokens.
 use Rattle.std.proofs.Common.{◌≡◌, true, [], ◌∷◌, codes, Some, None, Ok, Err, refl}
 use Rattle.std.specs.Prelude.{negsuc}
-use Rattle.lra_tree.specs.declared.refusals.Cause.TheVariants.{Syntax}
+use Rattle.lra_base.specs.declared.refusals.Cause.TheVariants.{Syntax}
 use Rattle.lra_tree.specs.declared.tokens.Mark.TheVariants as mark
 use Rattle.lra_tree.specs.declared.tokens.Kind.TheVariants.{Number}
 use Rattle.lra_tree.specs.Faults.{IsTree, IsTextFault}

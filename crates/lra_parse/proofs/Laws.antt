@@ -2,8 +2,8 @@
 use Rattle.std.proofs.Common.{◌≡◌, ℕ, suc, ◌+◌, ◌≤◌, ◌<◌, [], ◌∷◌, ◌++◌, length, ◌⊎◌, inl, inr, Ok, Err, refl, sym, ap, subst, ◌∙◌, append_assoc, length-append, arith}
 use Rattle.std.proofs.lemmas.List.{append-nil}
 use Rattle.std.proofs.lemmas.Bool.{cases_lt}
-use Rattle.lra_tree.specs.declared.refusals.Cause.{Cause}
-use Rattle.lra_tree.specs.declared.refusals.Cause.TheVariants.{Syntax, TooDeep}
+use Rattle.lra_base.specs.declared.refusals.Cause.{Cause}
+use Rattle.lra_base.specs.declared.refusals.Cause.TheVariants.{Syntax, TooDeep}
 use Rattle.lra_tree.specs.declared.tokens.Token.{Token}
 use Rattle.lra_tree.specs.Texts.{Piece, Pieces, plain}
 use Rattle.lra_tree.specs.Trees.{FileTree}

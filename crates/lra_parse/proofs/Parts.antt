@@ -1,6 +1,6 @@
 -- Exact readers behind and before a mark, and what a table tells of the next token.
 use Rattle.std.proofs.Common.{◌≡◌, ℕ, ◌≤◌, true, List, [], ◌∷◌, Option, Some, None, refl, sym, ap, subst, arith}
-use Rattle.lra_tree.specs.declared.refusals.Place.{Place}
+use Rattle.lra_base.specs.declared.refusals.Place.{Place}
 use Rattle.lra_tree.specs.declared.tokens.Mark.{Mark}
 use Rattle.lra_tree.specs.declared.tokens.Kind.TheVariants.{Mark as MarkOf}
 use Rattle.lra_tree.specs.declared.tokens.Token.{Token}

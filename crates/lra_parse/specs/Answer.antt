@@ -1,6 +1,6 @@
 -- What is told of an answer of the parser.
 use Rattle.std.specs.Prelude.{Result, Ok, Err}
-use Rattle.lra_tree.specs.declared.refusals.Refusal.{Refusal}
+use Rattle.lra_base.specs.declared.refusals.Refusal.{Refusal}
 use Rattle.lra_parse.specs.declared.parser.ParseError.{ParseError}
 use Rattle.lra_parse.specs.declared.parser.ParseError.TheVariants.{Refused, Memory}
 

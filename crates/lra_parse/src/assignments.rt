@@ -4,16 +4,13 @@ ghost use Rattle.std.specs.Prelude.{◌≡◌, ◌<◌, ◌≤◌, length, IfOk}
 ghost use Rattle.lra_tree.specs.Views.{assign_view, declarator_view, declaration_view};
 ghost use Rattle.lra_parse.specs.Tests.{first};
 ghost use Rattle.lra_parse.specs.Reading.{Gives, map_read};
-ghost use Rattle.lra_parse.specs.Statements.{skip, commas, update_operator, next_step, assign_rest, step_first};
-ghost use Rattle.lra_parse.specs.Statements.{assign_at, type_words, given, declarator_at, declaration_of};
-ghost use Rattle.lra_parse.specs.Statements.{declaration_at};
+ghost use Rattle.lra_parse.specs.Statements.{skip, commas, update_operator, next_step, assign_rest, step_first, assign_at, type_words, given, declarator_at, declaration_of, declaration_at};
 
 use crate::calls::read_source;
 use crate::expressions::read_expr;
 use crate::reading::{Stopped, expect, next_is, read_name, stop, tail};
-use lra_tree::{
-    Assign, Cause, Declaration, Declarator, Identifier, Mark, Operator, Place, Step, Token,
-};
+use lra_base::{Cause, Operator, Place};
+use lra_tree::{Assign, Declaration, Declarator, Identifier, Mark, Step, Token};
 use std::alloc::Global;
 
 /// The operator of `x op= e`, if it is the next token.

@@ -8,7 +8,8 @@ ghost use Rattle.lra_parse.specs.Statements.{commas_from};
 ghost use Rattle.lra_parse.specs.Files.{AreSmall, opposite, signed_at, value_at, global_at, globals_of, globals_at};
 
 use crate::reading::{Stopped, expect, next_is, next_number, read_name, stop, tail};
-use lra_tree::{Cause, Global as Variable, Globals, Identifier, Item, Mark, Token};
+use lra_base::Cause;
+use lra_tree::{Global as Variable, Globals, Identifier, Item, Mark, Token};
 use std::alloc::Global;
 
 // A number of 63 bits.

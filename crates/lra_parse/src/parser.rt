@@ -9,7 +9,8 @@ ghost use Rattle.lra_parse.specs.Answer.{IfRefused};
 
 use crate::functions::read_file;
 use crate::reading::{Fault, Stopped};
-use lra_tree::{Refusal, Token, Tree};
+use lra_base::Refusal;
+use lra_tree::{Token, Tree};
 use std::alloc::Global;
 
 /// Why a list of tokens has no tree.

@@ -4,7 +4,8 @@ ghost use Rattle.std.specs.Prelude.{◌≡◌, ℕ, ◌<◌, ◌≤◌, length, 
 ghost use Rattle.lra_parse.specs.Tests.{is_mark, first};
 ghost use Rattle.lra_parse.specs.Reading.{Gives, expect, expect_at, has, next_name, next_number, tail, take_by};
 
-use lra_tree::{Cause, Identifier, Kind, Mark, Place, Token};
+use lra_base::{Cause, Place};
+use lra_tree::{Identifier, Kind, Mark, Token};
 use std::alloc::{AllocError, AllocFailed, Global};
 
 /// Where reading stopped: at the token from which on so many are left.

@@ -2,17 +2,16 @@
 -- live at a label.
 use Rattle.std.proofs.Common.{◌≡◌, ℕ, ◌+◌, ◌≤◌, ◌<◌, true, List, [], ◌∷◌, ◌++◌, length, map, refl, ap, sym, ◌∙◌, subst, arith, length-append, append_assoc, append-nil, Option, Some, None}
 use Rattle.std.specs.List.{AllByRecursion, flat_map}
-use Rattle.lra_tree.specs.declared.refusals.Place.{Place}
+use Rattle.lra_base.specs.declared.refusals.Place.{Place}
 use Rattle.lra_tree.specs.declared.trees.Identifier.{Identifier}
 use Rattle.lra_tree.specs.Lexeme.{is_word}
 use Rattle.lra_tree.specs.Texts.{Piece, Pieces, Texts, ◌⋅◌, name, further, separated}
-use Rattle.lra_tree.specs.Trees.{AssignTree, DeclaratorTree, DeclarationTree, InitTree, no_init, declared, assigned, StmtTree, block, nothing, assign, call, if_only, if_else, while, for, break}
-use Rattle.lra_tree.specs.Trees.{continue, return, assert, assume, ItemsTree, no_items, declaration, statement, FunctionTree, GlobalTree, GlobalsTree, PartTree, prototype, globals, function}
+use Rattle.lra_tree.specs.Trees.{AssignTree, DeclaratorTree, DeclarationTree, InitTree, no_init, declared, assigned, StmtTree, block, nothing, assign, call, if_only, if_else, while, for, break, continue, return, assert, assume, ItemsTree, no_items, declaration, statement, FunctionTree, GlobalTree, GlobalsTree, PartTree, prototype, globals, function}
 use Rattle.lra_tree.specs.Grammar.{IsDeclarator, IsDeclaration, IsInit, IsStmt, AreItems, IsParameter, AreParameters, IsFunction, IsGlobal, AreGlobals, AreParts}
-use Rattle.lra_tree.specs.Scope.{functions_in}
-use Rattle.lra_tree.specs.NameFaults.{global_names}
+use Rattle.lra_tree.specs.Functions.{functions_in}
+use Rattle.lra_meaning.specs.NameFaults.{global_names}
 use Rattle.lra_tree.specs.Labels.{Labelled, with_names, declarator_labels, init_labels, live_in_for, step_labels, stmt_labels, items_labels, function_labels}
-use Rattle.lra_tree.specs.Listing.{globals_named}
+use Rattle.lra_meaning.specs.LiveNames.{globals_named}
 use Rattle.lra_report.proofs.Every.{every_append, every_front, every_back}
 use Rattle.lra_report.proofs.TokenWords.{HasWord}
 

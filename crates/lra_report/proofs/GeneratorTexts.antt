@@ -1,6 +1,5 @@
 -- One text, one generator.
-use Rattle.std.proofs.Common.{◌≡◌, ℕ, zero, suc, ◌<◌, ◌≤◌, ◌*◌, ◌/◌, ◌%◌, ℤ, pos, negsuc, nat_abs, nat_eq, neg_ℤ, ◌*ℤ◌, int_div, Bool, true, false, List, [], ◌∷◌, ◌++◌, length, codes, if◌then◌else◌}
-use Rattle.std.proofs.Common.{refl, ap, sym, ◌∙◌, subst, arith, append_assoc}
+use Rattle.std.proofs.Common.{◌≡◌, ℕ, zero, suc, ◌<◌, ◌≤◌, ◌*◌, ◌/◌, ◌%◌, ℤ, pos, negsuc, nat_abs, nat_eq, neg_ℤ, ◌*ℤ◌, int_div, Bool, true, false, List, [], ◌∷◌, ◌++◌, length, codes, if◌then◌else◌, refl, ap, sym, ◌∙◌, subst, arith, append_assoc}
 use Rattle.std.specs.Prelude.{⊤}
 use Rattle.std.specs.List.{AllByRecursion}
 use Rattle.std.specs.Char.{is_ascii_digit}
@@ -18,8 +17,8 @@ use Rattle.lra_linear.proofs.LowestTerms.{same_multiple, signed_quotient_is}
 use Rattle.lra_linear.proofs.Products.{row_same}
 use Rattle.lra_linear.proofs.Signs.{cancel_same}
 use Rattle.lra_linear.proofs.Ring.{v as atom, ◌⊗◌, ring}
-use Rattle.lra_tree.specs.Report.{GeneratorKind, point, ray, line, Generator}
-use Rattle.lra_tree.specs.ReportText.{greatest_divisor, fraction_text, coordinate_text, value_text, values_text, generator_kind_text, generator_text}
+use Rattle.lra_findings.specs.Report.{GeneratorKind, point, ray, line, Generator}
+use Rattle.lra_findings.specs.ReportText.{greatest_divisor, fraction_text, coordinate_text, value_text, values_text, generator_kind_text, generator_text}
 use Rattle.lra_report.specs.Spelled.{IsSpelledGenerator}
 use Rattle.lra_report.proofs.Fronts.{is_visible, Ends, first_same, rest_same, both_same}
 use Rattle.lra_report.proofs.Numbers.{IsShort, decimal_same, signed_same, short_in_range}

@@ -15,3 +15,6 @@ pub mod SourceTexts
 mod SpelledExamples
 pub mod StateTexts
 pub mod TokenWords
+-- What the report of a source lists.
+mod ListingExamples
+mod OtherReportExamples

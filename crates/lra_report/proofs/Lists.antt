@@ -5,8 +5,8 @@ use Rattle.std.proofs.lemmas.List.{drop_all}
 use Rattle.std.proofs.Math.Seq.{drop-cons}
 use Rattle.lra_sys.specs.declared.system.GenKind.{GenKind}
 use Rattle.lra_sys.specs.Listed.{FitsKind, FitKinds}
-use Rattle.lra_tree.specs.Report.{Part}
-use Rattle.lra_tree.specs.ReportText.{text_line, part_text, further_parts_text}
+use Rattle.lra_findings.specs.Report.{Part}
+use Rattle.lra_findings.specs.ReportText.{text_line, part_text, further_parts_text}
 use Rattle.lra_report.specs.Rows.{shown_by}
 
 pub drop_at : {A : Type 0} (xs : List A) (j : ℕ) (d : A) → j < length xs → drop j xs ≡ get_or xs j d ∷ drop (j + 1) xs

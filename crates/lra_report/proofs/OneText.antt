@@ -4,13 +4,14 @@ use Rattle.std.specs.List.{AllByRecursion, flat_map}
 use Rattle.std.specs.Fmt.{decimal}
 use Rattle.std.proofs.lemmas.List.{append_cancel_left}
 use Rattle.std.proofs.lemmas.Bool.{eqb-false}
-use Rattle.lra_tree.specs.Labels.{Labelled, labels_of, label_at}
-use Rattle.lra_tree.specs.Resolve.{resolve}
-use Rattle.lra_tree.specs.Sites.{Site, sites_of}
-use Rattle.lra_tree.specs.Refuse.{label_place}
-use Rattle.lra_tree.specs.Report.{PointReport, Verdict, Report}
-use Rattle.lra_tree.specs.ReportText.{text_line, place_text, path_text, shown_names, options_text, flag_text, state_text, point_text, verdict_text, report_text}
-use Rattle.lra_tree.specs.Listing.{live_names, calls_on, globals_named, listed_point, listed_verdict, AreListed, AreJudged, assertions_from}
+use Rattle.lra_tree.specs.Labels.{Labelled, labels_of, label_at, label_place}
+use Rattle.lra_meaning.specs.Resolve.{resolve}
+use Rattle.lra_program.specs.Sites.{Site, sites_of}
+use Rattle.lra_findings.specs.Report.{PointReport, Verdict, Report}
+use Rattle.lra_findings.specs.ReportText.{text_line, place_text, path_text, shown_names, options_text, flag_text, state_text, point_text, verdict_text, report_text}
+use Rattle.lra_meaning.specs.LiveNames.{live_names, globals_named}
+use Rattle.lra_report.specs.Listing.{calls_on, listed_point, listed_verdict, AreListed, AreJudged}
+use Rattle.lra_program.specs.Assertions.{assertions_from}
 use Rattle.lra_report.specs.Spelled.{IsReadablePart, IsReadablePoint, IsSmallFlag, AreWords, OneText}
 use Rattle.lra_report.specs.Lines.{counts_line}
 use Rattle.lra_report.proofs.Fronts.{first_same, rest_same, both_same}

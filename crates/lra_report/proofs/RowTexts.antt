@@ -1,7 +1,6 @@
 -- One text, one row.
 use Rattle.std.specs.Prelude.{⊤}
-use Rattle.std.proofs.Common.{◌≡◌, ◌≢◌, ℕ, zero, suc, ◌<◌, ℤ, pos, negsuc, nat_eq, nat_lt, not, Bool, true, false, List, [], ◌∷◌, ◌++◌, length, map, codes, if◌then◌else◌, refl, ap, sym, ◌∙◌, arith}
-use Rattle.std.proofs.Common.{append_assoc, zero-add}
+use Rattle.std.proofs.Common.{◌≡◌, ◌≢◌, ℕ, zero, suc, ◌<◌, ℤ, pos, negsuc, nat_eq, nat_lt, not, Bool, true, false, List, [], ◌∷◌, ◌++◌, length, map, codes, if◌then◌else◌, refl, ap, sym, ◌∙◌, arith, append_assoc, zero-add}
 use Rattle.std.specs.List.{AllByRecursion}
 use Rattle.std.specs.Char.{is_ascii_digit}
 use Rattle.std.specs.Fmt.{decimal, signed_decimal}
@@ -9,8 +8,8 @@ use Rattle.std.proofs.lemmas.Bool.{both_ways, eqb-true}
 use Rattle.std.proofs.lemmas.Int.{ints}
 use Rattle.std.proofs.lemmas.Bool.Decides.{nat_tests}
 use Rattle.lra_linear.specs.Range.{InRange}
-use Rattle.lra_tree.specs.Report.{RowKind, equality, inequality, Row}
-use Rattle.lra_tree.specs.ReportText.{product_text, terms_text, form_text, relation_text, row_text, is_turned, turned}
+use Rattle.lra_program.specs.Rows.{RowKind, equality, inequality, Row}
+use Rattle.lra_findings.specs.ReportText.{product_text, terms_text, form_text, relation_text, row_text, is_turned, turned}
 use Rattle.lra_report.specs.Spelled.{IsDirected, IsSpelledRow}
 use Rattle.lra_report.proofs.Fronts.{is_visible, IsShownName, AreShownNames, Passes, Ends, front_same, front_first, first_same, rest_same, both_same, visible_passes}
 use Rattle.lra_report.proofs.Numbers.{IsShort, decimal_first, decimal_same, signed_same, short_in_range}

@@ -1,8 +1,9 @@
 -- What one text would tell of two rows, points or variables, where a premise is left out.
 use Rattle.std.proofs.Common.{◌≡◌, ℕ, ℤ, pos, negsuc, List, [], ◌∷◌, codes, refl}
 use Rattle.std.specs.Fmt.{digits}
-use Rattle.lra_tree.specs.Report.{equality, Row, point, Generator}
-use Rattle.lra_tree.specs.ReportText.{row_text, generator_text, shown_names}
+use Rattle.lra_program.specs.Rows.{equality, Row}
+use Rattle.lra_findings.specs.Report.{point, Generator}
+use Rattle.lra_findings.specs.ReportText.{row_text, generator_text, shown_names}
 
 abbrev is_zero : ℤ → List ℤ → Row
 is_zero c cs = record { kind = equality; constant = c; coefficients = cs }

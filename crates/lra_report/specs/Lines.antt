@@ -1,8 +1,9 @@
 -- Single lines of a report.
 use Rattle.std.specs.Prelude.{ℕ, List, ◌++◌, codes}
 use Rattle.std.specs.Fmt.{decimal}
-use Rattle.lra_tree.specs.Report.{Row, Generator, Verdict}
-use Rattle.lra_tree.specs.ReportText.{text_line, row_text, generator_text, proved_count, unknown_count}
+use Rattle.lra_program.specs.Rows.{Row}
+use Rattle.lra_findings.specs.Report.{Generator, Verdict}
+use Rattle.lra_findings.specs.ReportText.{text_line, row_text, generator_text, proved_count, unknown_count}
 
 abbrev pub row_line : List (List ℕ) → Row → List ℕ
 row_line names r = text_line (codes "  row " ++ row_text names r)

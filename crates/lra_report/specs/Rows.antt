@@ -6,7 +6,8 @@ use Rattle.lra_linear.specs.declared.ConKind.{ConKind}
 use Rattle.lra_sys.specs.declared.system.GenKind.{GenKind}
 use Rattle.lra_sys.specs.Listed.{Listed, FitKinds}
 use Rattle.lra_show.specs.Shown.{report_row, report_generator}
-use Rattle.lra_tree.specs.Report.{Row, Generator, Part}
+use Rattle.lra_program.specs.Rows.{Row}
+use Rattle.lra_findings.specs.Report.{Generator, Part}
 
 -- each row with its kind
 abbrev pub shown_by : {K R : Type 0} → (List ℤ → K → R) → List (List ℤ) → List K → List R

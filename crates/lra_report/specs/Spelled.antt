@@ -7,16 +7,17 @@ use Rattle.lra_linear.specs.LowestTerms.{IsPrimitive}
 use Rattle.lra_tree.specs.Lexeme.{is_word}
 use Rattle.lra_tree.specs.Trees.{FileTree}
 use Rattle.lra_tree.specs.Labels.{labels_of}
-use Rattle.lra_tree.specs.Resolve.{resolve}
-use Rattle.lra_tree.specs.Sites.{sites_of}
+use Rattle.lra_meaning.specs.Resolve.{resolve}
+use Rattle.lra_program.specs.Sites.{sites_of}
 use Rattle.lra_tree.specs.Grammar.{Spells}
 use Rattle.lra_tree.specs.Faults.{Language}
-use Rattle.lra_tree.specs.Refuse.{Accepts}
-use Rattle.lra_tree.specs.Report.{RowKind, equality, inequality, Row, GeneratorKind, point, ray, line, Generator, Part}
-use Rattle.lra_tree.specs.Report.{Options, PointReport, Report}
-use Rattle.lra_tree.specs.ReportText.{is_turned, report_text}
-use Rattle.lra_tree.specs.Parts.{DividesAs}
-use Rattle.lra_tree.specs.Listing.{Lists, HasWidth, live_names, globals_named, IsReportOf}
+use Rattle.lra_meaning.specs.Refuse.{Accepts}
+use Rattle.lra_program.specs.Rows.{RowKind, equality, inequality, Row}
+use Rattle.lra_findings.specs.Report.{GeneratorKind, point, ray, line, Generator, Part, Options, PointReport, Report}
+use Rattle.lra_findings.specs.ReportText.{is_turned, report_text}
+use Rattle.lra_findings.specs.Parts.{DividesAs}
+use Rattle.lra_report.specs.Listing.{Lists, HasWidth, IsReportOf}
+use Rattle.lra_meaning.specs.LiveNames.{live_names, globals_named}
 use Rattle.lra_report.specs.Rows.{IsRowInRange}
 
 -- the first coefficient of an equality that isn't 0 is above 0

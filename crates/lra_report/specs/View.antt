@@ -1,11 +1,11 @@
 -- The report that the program's data stand for, and the pieces of its text that recur.
 use Rattle.std.specs.Prelude.{ℕ, List, ◌++◌, map, string_bytes, codes}
 use Rattle.std.specs.Fmt.{decimal}
-use Rattle.lra_tree.specs.declared.refusals.Place.{Place}
-use Rattle.lra_tree.specs.Run as run
-use Rattle.lra_tree.specs.Report as report
-use Rattle.lra_tree.specs.ReportText.{place_text}
-use Rattle.lra_tree.specs.ReportText as written
+use Rattle.lra_base.specs.declared.refusals.Place.{Place}
+use Rattle.lra_program.specs.Run as run
+use Rattle.lra_findings.specs.Report as report
+use Rattle.lra_findings.specs.ReportText.{place_text}
+use Rattle.lra_findings.specs.ReportText as written
 use Rattle.lra_report.specs.declared.report.Domain.{Domain}
 use Rattle.lra_report.specs.declared.report.Domain.TheVariants.{Poly, Box, Oct}
 use Rattle.lra_report.specs.declared.report.Options.{Options}

@@ -1,6 +1,6 @@
 //! Reports, and their text.
 //!
-//! The views of these types are the reports of `lra_tree`; [`text`] writes the text that is defined there.
+//! The views of these types are the reports of `lra_findings`; [`text`] writes the text that is defined there.
 #![tactic(auto)]
 
 mod law;

@@ -2,10 +2,10 @@
 
 ghost use Rattle.std.specs.Prelude.{◌≡◌, ◌++◌, map, OnOk, IfOk, string_bytes, codes};
 ghost use Rattle.std.specs.List.{flat_map};
-ghost use Rattle.lra_tree.specs.ReportText as written;
+ghost use Rattle.lra_findings.specs.ReportText as written;
 ghost use Rattle.lra_report.specs.View.{call_place_of};
 
-use lra_tree::Place;
+use lra_base::Place;
 use std::alloc::{AllocError, Global};
 
 /// A call on the way to a point: the called name and its place.

@@ -3,8 +3,8 @@
 ghost use Rattle.std.specs.Prelude.{◌≡◌, count_by, not};
 
 use crate::part::Part;
+use lra_base::Place;
 use lra_show::Names;
-use lra_tree::Place;
 
 /// Which domain the analysis ran over: closed polyhedra, boxes, octagons.
 #[derive(Clone, Copy, Debug, PartialEq, Eq)]

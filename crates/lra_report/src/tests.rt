@@ -1,10 +1,10 @@
 //! Worked reports.
 
 use super::*;
+use lra_base::Place;
 use lra_row::Row;
 use lra_show::{Names, names_at};
 use lra_sys::{ConKind, ConSys, GenKind, GenSys};
-use lra_tree::Place;
 use std::alloc::{AllocError, Global};
 use std::test::Fail;
 

@@ -4,17 +4,17 @@ ghost use Rattle.std.specs.Prelude.{◌≡◌, ◌++◌, ◌∷◌, [], ◌<◌,
 ghost use Rattle.std.specs.List.{flat_map};
 ghost use Rattle.lra_sys.specs.Listed.{FitsKind, FitKinds};
 ghost use Rattle.lra_show.specs.Shown.{report_row, report_generator};
-ghost use Rattle.lra_tree.specs.ReportText as written;
+ghost use Rattle.lra_findings.specs.ReportText as written;
 ghost use Rattle.lra_report.specs.Rows.{shown_rows, shown_generators};
 ghost use Rattle.lra_report.specs.View.{domain_of, options_of, point_report_of, verdict_of, report_of, heading_text};
 ghost use Rattle.lra_report.specs.Lines.{row_line, generator_line, counts_line};
 
 use crate::part::Part;
 use crate::report::{Domain, Options, PointReport, Report, Verdict};
+use lra_base::Place;
 use lra_row::Row;
 use lra_show::{Names, generator_text, row_text};
 use lra_sys::{ConKind, ConSys, GenKind, GenSys};
-use lra_tree::Place;
 use std::alloc::{AllocError, Global};
 
 /// Appends the line of a row.

@@ -1,10 +1,9 @@
 -- Names as a report shows them, one at a time.
-use Rattle.std.proofs.Common.{codes, count_by, bytes_eq, ◌≡◌, ◌<◌, ◌≤◌, ◌+◌, ℕ, zero, suc, List, [], ◌∷◌, ◌++◌, length, drop, take, ◌-◌, map, get_or, add-one, refl, ap, sym, ◌∙◌, append_assoc}
-use Rattle.std.proofs.Common.{append-nil}
+use Rattle.std.proofs.Common.{codes, count_by, bytes_eq, ◌≡◌, ◌<◌, ◌≤◌, ◌+◌, ℕ, zero, suc, List, [], ◌∷◌, ◌++◌, length, drop, take, ◌-◌, map, get_or, add-one, refl, ap, sym, ◌∙◌, append_assoc, append-nil}
 use Rattle.std.specs.Fmt.{decimal}
 use Rattle.std.proofs.lemmas.List.{drop_all, length-drop}
 use Rattle.std.proofs.Math.Seq.{drop-cons, take-length}
-use Rattle.lra_tree.specs.ReportText.{shown_name, shown_names}
+use Rattle.lra_findings.specs.ReportText.{shown_name, shown_names}
 
 pub hidden_name : (k : ℕ) (name : List ℕ) → ¬ (k ≡ 0) → name ++ (codes "~" ++ decimal k) ≡ shown_name k name
 hidden_name zero name h = absurd (h refl)

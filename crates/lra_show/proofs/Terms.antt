@@ -1,6 +1,5 @@
 -- Terms of a row, one at a time.
-use Rattle.std.proofs.Common.{codes, int_cmp, inl, inr, ◌⊎◌, ◌&&◌, ◌-◌, min, arith, ◌≡◌, ◌<◌, ◌≤◌, ◌+◌, ℕ, zero, suc, ℤ, pos, negsuc, Bool, true, false, List, [], ◌∷◌, ◌++◌, length, drop, map, get_or}
-use Rattle.std.proofs.Common.{add-one, refl, ap, sym, ◌∙◌, append_assoc, append-nil}
+use Rattle.std.proofs.Common.{codes, int_cmp, inl, inr, ◌⊎◌, ◌&&◌, ◌-◌, min, arith, ◌≡◌, ◌<◌, ◌≤◌, ◌+◌, ℕ, zero, suc, ℤ, pos, negsuc, Bool, true, false, List, [], ◌∷◌, ◌++◌, length, drop, map, get_or, add-one, refl, ap, sym, ◌∙◌, append_assoc, append-nil}
 use Rattle.std.specs.declared.cmp.Ordering.TheVariants.{Less, Equal, Greater}
 use Rattle.std.proofs.lemmas.List.{drop_all}
 use Rattle.std.proofs.lemmas.Bool.{cases_lt}
@@ -9,7 +8,7 @@ use Rattle.std.proofs.lemmas.Int.{ints}
 use Rattle.std.specs.Cmp.{int_cmp_is}
 use Rattle.lra_linear.specs.Vectors.{entry}
 use Rattle.lra_row.proofs.RowLemmas.{entry_at}
-use Rattle.lra_tree.specs.ReportText.{is_turned, turned, terms_text, product_text}
+use Rattle.lra_findings.specs.ReportText.{is_turned, turned, terms_text, product_text}
 use Rattle.lra_show.specs.Shown.{rest_text, is_zero}
 
 pub drop_entry : (cs : List ℤ) (j : ℕ) → j < length cs → drop j cs ≡ entry cs j ∷ drop (j + 1) cs

@@ -2,7 +2,7 @@
 use Rattle.std.proofs.Common.{codes, min, ◌≡◌, ◌<◌, ◌≤◌, ◌+◌, ◌-◌, ℕ, ℤ, List, [], ◌∷◌, ◌++◌, length, drop, map, get_or, refl, ap, sym, ◌∙◌, append_assoc, append-nil, ◌⊎◌, inl, inr}
 use Rattle.std.proofs.lemmas.List.{drop_all}
 use Rattle.lra_linear.specs.Vectors.{entry}
-use Rattle.lra_tree.specs.ReportText.{values_text}
+use Rattle.lra_findings.specs.ReportText.{values_text}
 use Rattle.lra_show.proofs.Terms.{drop_entry, min_cases}
 use Rattle.lra_show.proofs.NamesShown.{drop_front}
 

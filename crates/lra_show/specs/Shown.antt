@@ -4,8 +4,9 @@ use Rattle.lra_linear.specs.declared.ConKind.{ConKind}
 use Rattle.lra_linear.specs.declared.ConKind.TheVariants as con
 use Rattle.lra_sys.specs.declared.GenKind.{GenKind}
 use Rattle.lra_sys.specs.declared.GenKind.TheVariants as gen
-use Rattle.lra_tree.specs.Report.{RowKind, equality, inequality, Row, GeneratorKind, point, ray, line, Generator}
-use Rattle.lra_tree.specs.ReportText.{form_text, terms_text}
+use Rattle.lra_program.specs.Rows.{RowKind, equality, inequality, Row}
+use Rattle.lra_findings.specs.Report.{GeneratorKind, point, ray, line, Generator}
+use Rattle.lra_findings.specs.ReportText.{form_text, terms_text}
 
 abbrev pub report_kind : ConKind → RowKind
 report_kind con.Ge = inequality

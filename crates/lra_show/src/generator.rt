@@ -1,11 +1,10 @@
 //! The text of a generator.
 
-ghost use Rattle.std.specs.Prelude.{◌≡◌, ◌++◌, ◌∷◌, [], ℤ, pos, ◌<ℤ◌, ◌<◌, nat_abs, int_div, map, drop, OnOk, IfOk};
-ghost use Rattle.std.specs.Prelude.{string_bytes, length, codes};
+ghost use Rattle.std.specs.Prelude.{◌≡◌, ◌++◌, ◌∷◌, [], ℤ, pos, ◌<ℤ◌, ◌<◌, nat_abs, int_div, map, drop, OnOk, IfOk, string_bytes, length, codes};
 ghost use Rattle.lra_linear.specs.Range.{InRange};
 ghost use Rattle.lra_linear.specs.Vectors.{entry};
 ghost use Rattle.lra_sys.specs.Listed.{FitsKind};
-ghost use Rattle.lra_tree.specs.ReportText as report;
+ghost use Rattle.lra_findings.specs.ReportText as report;
 ghost use Rattle.lra_show.specs.Shown.{report_generator, report_generator_kind};
 
 use crate::names::Names;

@@ -2,7 +2,7 @@
 
 ghost use Rattle.std.specs.Prelude.{◌≡◌, ◌++◌, ◌∷◌, [], map, OnOk, OnErr, IfOk, string_bytes, bytes_eq};
 ghost use Rattle.std.specs.List.{count_by};
-ghost use Rattle.lra_tree.specs.ReportText.{shown_name, shown_names};
+ghost use Rattle.lra_findings.specs.ReportText.{shown_name, shown_names};
 
 use std::alloc::{AllocError, Global};
 use std::marker::Model;

@@ -23,11 +23,12 @@ use Rattle.lra_box.specs.Tables.{has_bounds}
 use Rattle.lra_box.specs.Parts.{bound_row, is_single, low_rows, high_rows, equal_rows, unequal_rows, box_rows, box_system, box_parts}
 use Rattle.lra_box.specs.Meaning.{box_meaning}
 use Rattle.lra_box.proofs.PartLemmas.{parts_mean}
-use Rattle.lra_tree.specs.Linear as linear
-use Rattle.lra_tree.specs.Report.{dot, box, RowHolds, Row, Part, State, Holds}
-use Rattle.lra_tree.specs.ReportText.{is_turned}
-use Rattle.lra_tree.specs.Parts.{Tells}
-use Rattle.lra_tree.specs.Listing.{HasWidth}
+use Rattle.lra_flow.specs.Linear as linear
+use Rattle.lra_program.specs.Rows.{dot, RowHolds, Row}
+use Rattle.lra_findings.specs.Report.{box, Part, State, Holds}
+use Rattle.lra_findings.specs.ReportText.{is_turned}
+use Rattle.lra_findings.specs.Parts.{Tells}
+use Rattle.lra_report.specs.Listing.{HasWidth}
 use Rattle.lra_flow.proofs.Keeping.{as_form_value}
 use Rattle.lra_flow.proofs.FormLemmas.{set_length}
 use Rattle.lra_source.specs.Shown.{shown_part, shown_state, IsShown}

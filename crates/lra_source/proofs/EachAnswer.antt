@@ -1,6 +1,6 @@
 -- Each source has one answer.
 use Rattle.lra_tree.specs.Grammar.{Spells}
-use Rattle.lra_tree.specs.Refuse.{OneAnswer}
+use Rattle.lra_meaning.specs.Refuse.{OneAnswer}
 use Rattle.lra_lex.proofs.OneReadingLemmas.{one_reading}
 use Rattle.lra_parse.proofs.Laws.{spelled_one, spelled_one_fault}
 use Rattle.lra_source.proofs.OneAnswer as law

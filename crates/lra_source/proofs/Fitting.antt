@@ -4,17 +4,15 @@ use Rattle.std.specs.Prelude.{slice_get}
 use Rattle.std.specs.List.{AllByRecursion, Contains}
 use Rattle.std.proofs.lemmas.Option.{none-some, same_Some}
 use Rattle.lra_linear.proofs.Membership.{contains_none, contains_cases}
-use Rattle.lra_tree.specs.Program.{Slot, global, local, Expr, Cond, Source, Stmt, BlockItems, Program}
-use Rattle.lra_tree.specs.Value.{index_of}
-use Rattle.lra_tree.specs.Step.{Op, append, give, give_any, push, keep, test, Back}
-use Rattle.lra_tree.specs.Graph.{Exit, broken, continued, returned, Node, empty, point, act, check, seq, choose, catch, leave}
-use Rattle.lra_tree.specs.Sites.{Site, sites_of}
-use Rattle.lra_tree.specs.Sites as sites
-use Rattle.lra_tree.specs.Inlined.{Frame, callee, Inl, InlAll, Declares, Loops, Gives, as_nothing, as_block, as_absent, as_assign, as_call, as_if, as_loop, as_for, as_break, as_continue, as_return}
-use Rattle.lra_tree.specs.Inlined.{as_return_value, as_return_call, as_end, as_end_value, as_end_call, as_assert, as_assume, as_none, as_declaration, as_statement, as_fresh, as_given, is_loop}
-use Rattle.lra_tree.specs.Inlined.{as_value, as_result, loop_node, call_node, return_node, main_frame}
-use Rattle.lra_tree.specs.Agree.{IsGraph}
-use Rattle.lra_tree.specs.WellFormed.{IsLive, IsGoodSource, IsGoodGiven, IsGoodStmt, AreGoodItems, IsGoodFunction, IsWellFormed}
+use Rattle.lra_program.specs.Program.{Slot, global, local, Expr, Cond, Source, Stmt, BlockItems, Program}
+use Rattle.lra_program.specs.Value.{index_of}
+use Rattle.lra_program.specs.Step.{Op, append, give, give_any, push, keep, test, Back}
+use Rattle.lra_operations.specs.Graph.{Exit, broken, continued, returned, Node, empty, point, act, check, seq, choose, catch, leave}
+use Rattle.lra_program.specs.Sites.{Site, sites_of}
+use Rattle.lra_program.specs.Sites as sites
+use Rattle.lra_operations.specs.Inlined.{Frame, callee, Inl, InlAll, Declares, Loops, Gives, as_nothing, as_block, as_absent, as_assign, as_call, as_if, as_loop, as_for, as_break, as_continue, as_return, as_return_value, as_return_call, as_end, as_end_value, as_end_call, as_assert, as_assume, as_none, as_declaration, as_statement, as_fresh, as_given, is_loop, as_value, as_result, loop_node, call_node, return_node, main_frame}
+use Rattle.lra_operations.specs.Agree.{IsGraph}
+use Rattle.lra_program.specs.WellFormed.{IsLive, IsGoodSource, IsGoodGiven, IsGoodStmt, AreGoodItems, IsGoodFunction, IsWellFormed}
 use Rattle.lra_change.specs.Changes.{dims_behind, PlaceFits, OpFits}
 use Rattle.lra_iter.specs.Fits.{live_behind, JumpsWith, TreeFits}
 

@@ -2,20 +2,20 @@
 use Rattle.std.proofs.Common.{◌≡◌, ℕ, ◌≤◌, ◌<◌, List, [], ◌∷◌, ◌++◌, length, None, refl, sym, ap, ◌∙◌, subst, arith}
 use Rattle.std.specs.List.{AllByRecursion}
 use Rattle.std.proofs.lemmas.Option.{none-some, same_Some}
-use Rattle.lra_tree.specs.declared.refusals.Place.{Place}
-use Rattle.lra_tree.specs.declared.refusals.Cause.{Cause}
-use Rattle.lra_tree.specs.declared.refusals.Refusal.{Refusal}
+use Rattle.lra_base.specs.declared.refusals.Place.{Place}
+use Rattle.lra_base.specs.declared.refusals.Cause.{Cause}
+use Rattle.lra_base.specs.declared.refusals.Refusal.{Refusal}
 use Rattle.lra_tree.specs.declared.tokens.Token.{Token}
 use Rattle.lra_tree.specs.declared.trees.Identifier.{Identifier}
 use Rattle.lra_tree.specs.Trees.{FileTree}
 use Rattle.lra_tree.specs.Tokens.{Lex, OneReading}
 use Rattle.lra_tree.specs.Faults.{Language, IsTree, IsTextFault, OneTree, OneTextFault}
-use Rattle.lra_tree.specs.NameFaults.{name_faults}
+use Rattle.lra_meaning.specs.NameFaults.{name_faults}
 use Rattle.lra_tree.specs.Labels.{labels_of}
-use Rattle.lra_tree.specs.Reach.{IsRecursive, IsFirstRecursive}
-use Rattle.lra_tree.specs.Resolve.{resolve}
-use Rattle.lra_tree.specs.Sites.{events_of}
-use Rattle.lra_tree.specs.Refuse.{limit_fault, NotRecursive, RefusesTree, bad_name, recursive, past_limit, Refuse, too_long, bad_token, bad_text, bad_tree, Accepts, OneAnswer}
+use Rattle.lra_tree.specs.Reach.{IsRecursive, IsFirstRecursive, NotRecursive}
+use Rattle.lra_meaning.specs.Resolve.{resolve}
+use Rattle.lra_program.specs.Sites.{events_of}
+use Rattle.lra_meaning.specs.Refuse.{limit_fault, RefusesTree, bad_name, recursive, past_limit, Refuse, too_long, bad_token, bad_text, bad_tree, Accepts, OneAnswer}
 
 not_both : {A : Type 0} (x : A) (xs ys : List A) → xs ≡ [] → xs ≡ x ∷ ys → ⊥
 not_both x xs ys e f = cc

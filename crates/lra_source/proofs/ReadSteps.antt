@@ -1,16 +1,16 @@
 -- What the stages of the reading answer, as answers of the source.
 use Rattle.std.proofs.Common.{◌≡◌, ◌≤◌, ◌<◌, ℕ, List, length, take, refl, sym, ◌∙◌, subst, arith}
 use Rattle.std.proofs.lemmas.List.{length-take}
-use Rattle.lra_tree.specs.declared.refusals.Cause.{Cause}
-use Rattle.lra_tree.specs.declared.refusals.Cause.TheVariants.{TooLong}
-use Rattle.lra_tree.specs.declared.refusals.Place.{Place}
+use Rattle.lra_base.specs.declared.refusals.Cause.{Cause}
+use Rattle.lra_base.specs.declared.refusals.Cause.TheVariants.{TooLong}
+use Rattle.lra_base.specs.declared.refusals.Place.{Place}
 use Rattle.lra_tree.specs.declared.tokens.Token.{Token}
 use Rattle.lra_tree.specs.Trees.{FileTree}
-use Rattle.lra_tree.specs.Tokens.{place_behind, Lex, IsTokenFault}
+use Rattle.lra_tree.specs.Tokens.{place_behind, Lex, IsTokenFault, greatest_length}
 use Rattle.lra_tree.specs.Faults.{IsTree, IsTextFault}
 use Rattle.lra_tree.specs.Grammar.{Spells}
-use Rattle.lra_tree.specs.Refuse.{greatest_length, RefusesTree, Refuse, too_long, bad_token, bad_text, bad_tree}
-use Rattle.lra_tree.specs.declared.refusals.Refusal.{Refusal}
+use Rattle.lra_meaning.specs.Refuse.{RefusesTree, Refuse, too_long, bad_token, bad_text, bad_tree}
+use Rattle.lra_base.specs.declared.refusals.Refusal.{Refusal}
 use Rattle.lra_parse.specs.Answer.{IfRefusal}
 use Rattle.lra_parse.specs.declared.parser.ParseError.{ParseError}
 use Rattle.lra_parse.specs.declared.parser.ParseError.TheVariants.{Refused}

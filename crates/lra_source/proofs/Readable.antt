@@ -4,11 +4,12 @@ use Rattle.std.specs.Prelude.{slice_get, option_map}
 use Rattle.std.specs.List.{AllByRecursion}
 use Rattle.lra_tree.specs.Trees.{FileTree}
 use Rattle.lra_tree.specs.Labels.{Labelled, labels_of}
-use Rattle.lra_tree.specs.Resolve.{resolve}
-use Rattle.lra_tree.specs.Sites.{Site, sites_of}
-use Rattle.lra_tree.specs.Report.{State, PointReport, Report}
-use Rattle.lra_tree.specs.ReportText.{shown_names}
-use Rattle.lra_tree.specs.Listing.{HasWidth, live_names, globals_named, AreListed, Lists}
+use Rattle.lra_meaning.specs.Resolve.{resolve}
+use Rattle.lra_program.specs.Sites.{Site, sites_of}
+use Rattle.lra_findings.specs.Report.{State, PointReport, Report}
+use Rattle.lra_findings.specs.ReportText.{shown_names}
+use Rattle.lra_report.specs.Listing.{HasWidth, AreListed, Lists}
+use Rattle.lra_meaning.specs.LiveNames.{live_names, globals_named}
 use Rattle.lra_report.specs.Spelled.{IsSpelledPart, IsReadablePart, IsReadablePoint, IsSmallFlag, IsReadable}
 use Rattle.lra_formed.proofs.Named.{shown_as_many}
 

@@ -3,15 +3,15 @@ use Rattle.std.proofs.Common.{◌≡◌, ◌≤◌, ◌<◌, ◌+◌, ◌^◌, �
 use Rattle.std.specs.Prelude.{option_map, nat_lt, if◌then◌else◌, slice_get}
 use Rattle.std.specs.List.{AllByRecursion}
 use Rattle.std.proofs.lemmas.Bool.Decides.{nat_tests}
-use Rattle.lra_tree.specs.declared.refusals.Refusal.{Refusal}
+use Rattle.lra_base.specs.declared.refusals.Refusal.{Refusal}
 use Rattle.lra_tree.specs.Trees.{FileTree}
-use Rattle.lra_tree.specs.Graph.{Node}
+use Rattle.lra_operations.specs.Graph.{Node}
 use Rattle.lra_tree.specs.Labels.{Labelled, labels_of}
-use Rattle.lra_tree.specs.Sites.{Site, Event, comes, one_call_more, events_of, sites_in, sites_of}
-use Rattle.lra_tree.specs.Resolve.{resolve}
-use Rattle.lra_tree.specs.Report.{Domain, Options, State, Report}
-use Rattle.lra_tree.specs.Listing.{Lists}
-use Rattle.lra_tree.specs.Refuse.{greatest_live, greatest_points, limit_fault}
+use Rattle.lra_program.specs.Sites.{Site, Event, comes, one_call_more, events_of, sites_in, sites_of}
+use Rattle.lra_meaning.specs.Resolve.{resolve}
+use Rattle.lra_findings.specs.Report.{Domain, Options, State, Report}
+use Rattle.lra_report.specs.Listing.{Lists}
+use Rattle.lra_meaning.specs.Refuse.{greatest_live, greatest_points, limit_fault}
 use Rattle.lra_domain.specs.Meaning.{Meaning}
 use Rattle.lra_domain.specs.Laws.{Laws}
 use Rattle.lra_flow.specs.declared.Settings.{Settings}

@@ -5,21 +5,23 @@ use Rattle.std.specs.List.{AllByRecursion, Contains}
 use Rattle.std.proofs.lemmas.Option.{none-some, same_Some}
 use Rattle.lra_tree.specs.Trees.{FileTree}
 use Rattle.lra_tree.specs.Grammar.{Spells}
-use Rattle.lra_tree.specs.Program.{Program}
-use Rattle.lra_tree.specs.Run.{At, Fails}
-use Rattle.lra_tree.specs.Resolve.{resolve}
-use Rattle.lra_tree.specs.Sites.{Site, sites_of}
-use Rattle.lra_tree.specs.Agree.{IsGraph, point_of, Agrees}
+use Rattle.lra_program.specs.Program.{Program}
+use Rattle.lra_program.specs.Run.{At, Fails}
+use Rattle.lra_meaning.specs.Resolve.{resolve}
+use Rattle.lra_program.specs.Sites.{Site, sites_of}
+use Rattle.lra_operations.specs.Agree.{IsGraph, point_of, Agrees}
 use Rattle.lra_tree.specs.Labels.{Labelled, labels_of}
-use Rattle.lra_tree.specs.Report.{Domain, Options, State, Holds, PointReport, Verdict, Report, IsInvariant, IsRight, IsSound}
-use Rattle.lra_tree.specs.Parts.{Tells}
-use Rattle.lra_tree.specs.Refuse.{Accepts}
-use Rattle.lra_tree.specs.Listing.{AreListed, Lists, assertions_from, globals_named, IsFlag, AreParts, IsReportOf}
+use Rattle.lra_findings.specs.Report.{Domain, Options, State, Holds, PointReport, Verdict, Report, IsInvariant, IsRight, IsSound}
+use Rattle.lra_findings.specs.Parts.{Tells}
+use Rattle.lra_meaning.specs.Refuse.{Accepts}
+use Rattle.lra_report.specs.Listing.{AreListed, Lists, IsFlag, AreParts, IsReportOf}
+use Rattle.lra_program.specs.Assertions.{assertions_from}
+use Rattle.lra_meaning.specs.LiveNames.{globals_named}
 use Rattle.lra_flow.specs.declared.Settings.{Settings}
 use Rattle.lra_flow.specs.Operations.{dropping}
 use Rattle.lra_domain.specs.Meaning.{Meaning}
 use Rattle.lra_domain.specs.Laws.{Laws}
-use Rattle.lra_tree.specs.Graph.{Node}
+use Rattle.lra_operations.specs.Graph.{Node}
 use Rattle.lra_flow.specs.Pass.{Result}
 use Rattle.lra_flow.specs.Analysis.{Derivation, Solves}
 use Rattle.lra_flow.proofs.Unflagged.{unflagged_is_written, flagged_strains}

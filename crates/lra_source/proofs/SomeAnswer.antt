@@ -1,19 +1,21 @@
 -- Each source has an answer: its one refusal, or its tree with the tree of operations of its program.
 use Rattle.std.proofs.Common.{◌≡◌, List, [], ◌∷◌, length, Ok, Err, Option, Some, None, ◌⊎◌, inl, inr, ℕ, refl, ◌≤◌}
 use Rattle.std.proofs.lemmas.Bool.{cases_lt}
-use Rattle.lra_tree.specs.declared.refusals.Place.{Place}
-use Rattle.lra_tree.specs.declared.refusals.Cause.{Cause}
-use Rattle.lra_tree.specs.declared.refusals.Cause.TheVariants.{Recursive}
-use Rattle.lra_tree.specs.declared.refusals.Refusal.{Refusal}
+use Rattle.lra_base.specs.declared.refusals.Place.{Place}
+use Rattle.lra_base.specs.declared.refusals.Cause.{Cause}
+use Rattle.lra_base.specs.declared.refusals.Cause.TheVariants.{Recursive}
+use Rattle.lra_base.specs.declared.refusals.Refusal.{Refusal}
 use Rattle.lra_tree.specs.declared.tokens.Token.{Token}
 use Rattle.lra_tree.specs.Trees.{FileTree}
 use Rattle.lra_tree.specs.Faults.{IsTree, IsTextFault}
 use Rattle.lra_tree.specs.Grammar.{Spells}
-use Rattle.lra_tree.specs.NameFaults.{name_faults}
+use Rattle.lra_meaning.specs.NameFaults.{name_faults}
 use Rattle.lra_tree.specs.Labels.{labels_of}
-use Rattle.lra_tree.specs.Resolve.{resolve}
-use Rattle.lra_tree.specs.Sites.{events_of}
-use Rattle.lra_tree.specs.Refuse.{greatest_length, limit_fault, NotRecursive, bad_name, recursive, past_limit, too_long, bad_token, bad_text, OneAnswer}
+use Rattle.lra_meaning.specs.Resolve.{resolve}
+use Rattle.lra_program.specs.Sites.{events_of}
+use Rattle.lra_tree.specs.Tokens.{greatest_length}
+use Rattle.lra_meaning.specs.Refuse.{limit_fault, bad_name, recursive, past_limit, too_long, bad_token, bad_text, OneAnswer}
+use Rattle.lra_tree.specs.Reach.{NotRecursive}
 use Rattle.lra_lex.proofs.EachReading.{each_reading}
 use Rattle.lra_parse.specs.Reading.{Read}
 use Rattle.lra_parse.specs.Files.{EndsOnce, file_at}

@@ -5,15 +5,17 @@ use Rattle.std.specs.List.{AllByRecursion, Contains}
 use Rattle.std.proofs.lemmas.Option.{none-some, same_Some}
 use Rattle.lra_domain.specs.Meaning.{Meaning}
 use Rattle.lra_domain.specs.Laws.{Laws}
-use Rattle.lra_tree.specs.Program.{Program}
-use Rattle.lra_tree.specs.Run.{At, Fails}
-use Rattle.lra_tree.specs.Graph.{Node}
-use Rattle.lra_tree.specs.Report.{PointReport, Verdict}
+use Rattle.lra_program.specs.Program.{Program}
+use Rattle.lra_program.specs.Run.{At, Fails}
+use Rattle.lra_operations.specs.Graph.{Node}
+use Rattle.lra_findings.specs.Report.{PointReport, Verdict}
 use Rattle.lra_tree.specs.Labels.{Labelled}
-use Rattle.lra_tree.specs.Sites.{Site, sites_of}
-use Rattle.lra_tree.specs.Agree.{begins, point_of, Agrees}
-use Rattle.lra_tree.specs.ReportText.{shown_names}
-use Rattle.lra_tree.specs.Listing.{live_names, AreListed, AreJudged, assertions_from}
+use Rattle.lra_program.specs.Sites.{Site, sites_of}
+use Rattle.lra_operations.specs.Agree.{begins, point_of, Agrees}
+use Rattle.lra_findings.specs.ReportText.{shown_names}
+use Rattle.lra_meaning.specs.LiveNames.{live_names}
+use Rattle.lra_report.specs.Listing.{AreListed, AreJudged}
+use Rattle.lra_program.specs.Assertions.{assertions_from}
 use Rattle.lra_flow.specs.declared.Settings.{Settings}
 use Rattle.lra_flow.specs.Pass.{failing, Result}
 use Rattle.lra_flow.specs.Analysis.{Derivation, Solves, IsUnreachable}

@@ -1,24 +1,24 @@
 -- What the stages behind the reading answer, as answers of the tree and of the source.
 use Rattle.std.proofs.Common.{◌≡◌, ℕ, List, [], ◌∷◌, map, Some, None, sym, ap, ◌∙◌, subst}
 use Rattle.std.specs.Prelude.{Option, Result, Ok, Err, IfOk, MatchOption}
-use Rattle.lra_tree.specs.declared.refusals.Refusal.{Refusal}
-use Rattle.lra_tree.specs.declared.refusals.Place.{Place}
-use Rattle.lra_tree.specs.declared.refusals.Cause.TheVariants.{Recursive}
-use Rattle.lra_tree.specs.Reach.{IsFirstRecursive}
+use Rattle.lra_base.specs.declared.refusals.Refusal.{Refusal}
+use Rattle.lra_base.specs.declared.refusals.Place.{Place}
+use Rattle.lra_base.specs.declared.refusals.Cause.TheVariants.{Recursive}
+use Rattle.lra_tree.specs.Reach.{IsFirstRecursive, NotRecursive}
 use Rattle.lra_tree.specs.declared.labels.Label.{Label}
 use Rattle.lra_tree.specs.Trees.{FileTree}
-use Rattle.lra_tree.specs.Program.{Program}
-use Rattle.lra_tree.specs.Graph.{Node}
-use Rattle.lra_tree.specs.Sites.{Site, events_of, sites_of}
+use Rattle.lra_program.specs.Program.{Program}
+use Rattle.lra_operations.specs.Graph.{Node}
+use Rattle.lra_program.specs.Sites.{Site, events_of, sites_of}
 use Rattle.lra_tree.specs.Labels.{Labelled, labels_of}
 use Rattle.lra_tree.specs.Walk.{told, walked}
-use Rattle.lra_tree.specs.Resolve.{resolve}
-use Rattle.lra_tree.specs.NameFaults.{name_faults}
-use Rattle.lra_tree.specs.Agree.{IsGraph, Agrees}
-use Rattle.lra_tree.specs.WellFormed.{IsWellFormed}
+use Rattle.lra_meaning.specs.Resolve.{resolve}
+use Rattle.lra_meaning.specs.NameFaults.{name_faults}
+use Rattle.lra_operations.specs.Agree.{IsGraph, Agrees}
+use Rattle.lra_program.specs.WellFormed.{IsWellFormed}
 use Rattle.lra_tree.specs.Grammar.{Spells}
-use Rattle.lra_tree.specs.Report.{Domain, box, Options, State, Report}
-use Rattle.lra_tree.specs.Refuse.{limit_fault, NotRecursive, RefusesTree, bad_name, recursive, past_limit, Refuse, Accepts}
+use Rattle.lra_findings.specs.Report.{Domain, box, Options, State, Report}
+use Rattle.lra_meaning.specs.Refuse.{limit_fault, RefusesTree, bad_name, recursive, past_limit, Refuse, Accepts}
 use Rattle.lra_report.specs.declared.report.Report as code
 use Rattle.lra_report.specs.View.{report_of}
 use Rattle.lra_names.specs.Outcome.{first_fault}

@@ -2,10 +2,10 @@
 -- flagged point.
 use Rattle.std.specs.Prelude.{◌≡◌, ℕ, suc, List, map, Bool, Option, None, Some, option_map}
 use Rattle.lra_domain.specs.Meaning.{Meaning}
-use Rattle.lra_tree.specs.Program.{Program}
-use Rattle.lra_tree.specs.Graph.{Node}
-use Rattle.lra_tree.specs.Agree.{IsGraph}
-use Rattle.lra_tree.specs.Report.{State, PointReport, Verdict, Report}
+use Rattle.lra_program.specs.Program.{Program}
+use Rattle.lra_operations.specs.Graph.{Node}
+use Rattle.lra_operations.specs.Agree.{IsGraph}
+use Rattle.lra_findings.specs.Report.{State, PointReport, Verdict, Report}
 use Rattle.lra_flow.specs.declared.Settings.{Settings}
 use Rattle.lra_flow.specs.Pass.{Result}
 use Rattle.lra_flow.specs.Analysis.{Written, Derivation, Strains, Solves}

@@ -1,10 +1,10 @@
 -- What a source deserves: its one refusal (`Refuse`), or a report of it that tells the analysis; over boxes today.
 use Rattle.std.specs.Prelude.{◌≡◌, ℕ, List, ⊤, Result, Ok, Err}
-use Rattle.lra_tree.specs.declared.refusals.Refusal.{Refusal}
-use Rattle.lra_tree.specs.Report.{Domain, box, Options, State, Report}
-use Rattle.lra_tree.specs.Resolve.{resolve}
+use Rattle.lra_base.specs.declared.refusals.Refusal.{Refusal}
+use Rattle.lra_findings.specs.Report.{Domain, box, Options, State, Report}
+use Rattle.lra_meaning.specs.Resolve.{resolve}
 use Rattle.lra_tree.specs.Grammar.{Spells}
-use Rattle.lra_tree.specs.Listing.{IsReportOf}
+use Rattle.lra_report.specs.Listing.{IsReportOf}
 use Rattle.lra_report.specs.Spelled.{IsReadable}
 use Rattle.lra_domain.specs.Meaning.{Meaning}
 use Rattle.lra_box.specs.Meaning.{box_meaning}

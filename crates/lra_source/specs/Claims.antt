@@ -1,19 +1,19 @@
 -- What each source deserves; what follows of the tree of a well-formed program, and of a report that tells an analysis.
 use Rattle.std.specs.Prelude.{◌≡◌, ◌≤◌, ◌⊎◌, ℕ, List, length, slice_get, Some}
-use Rattle.lra_tree.specs.declared.refusals.Cause.{Cause}
-use Rattle.lra_tree.specs.declared.refusals.Place.{Place}
+use Rattle.lra_base.specs.declared.refusals.Cause.{Cause}
+use Rattle.lra_base.specs.declared.refusals.Place.{Place}
 use Rattle.lra_tree.specs.Trees.{FileTree}
-use Rattle.lra_tree.specs.Program.{Program}
-use Rattle.lra_tree.specs.Graph.{Node}
-use Rattle.lra_tree.specs.Report.{Domain, box, Options, State, Report, IsSound}
-use Rattle.lra_tree.specs.ReportText.{report_text}
-use Rattle.lra_tree.specs.Resolve.{resolve}
-use Rattle.lra_tree.specs.Sites.{Site, sites_of}
-use Rattle.lra_tree.specs.Agree.{IsGraph, Agrees}
-use Rattle.lra_tree.specs.WellFormed.{IsWellFormed}
+use Rattle.lra_program.specs.Program.{Program}
+use Rattle.lra_operations.specs.Graph.{Node}
+use Rattle.lra_findings.specs.Report.{Domain, box, Options, State, Report, IsSound}
+use Rattle.lra_findings.specs.ReportText.{report_text}
+use Rattle.lra_meaning.specs.Resolve.{resolve}
+use Rattle.lra_program.specs.Sites.{Site, sites_of}
+use Rattle.lra_operations.specs.Agree.{IsGraph, Agrees}
+use Rattle.lra_program.specs.WellFormed.{IsWellFormed}
 use Rattle.lra_tree.specs.Grammar.{Spells}
-use Rattle.lra_tree.specs.Refuse.{greatest_live, Refuse, Accepts}
-use Rattle.lra_tree.specs.Listing.{Lists, IsReportOf}
+use Rattle.lra_meaning.specs.Refuse.{greatest_live, Refuse, Accepts}
+use Rattle.lra_report.specs.Listing.{Lists, IsReportOf}
 use Rattle.lra_flow.specs.declared.Settings.{Settings}
 use Rattle.lra_iter.specs.Fits.{TreeFits}
 use Rattle.lra_iter.specs.Numbers.{AreBelow, IsNumbered}

@@ -5,9 +5,9 @@ use Rattle.lra_sys.specs.Listed.{Listed}
 use Rattle.lra_linear.specs.declared.ConKind.{ConKind}
 use Rattle.lra_report.specs.Rows.{shown_rows}
 use Rattle.lra_domain.specs.Meaning.{Meaning}
-use Rattle.lra_tree.specs.Report.{Domain, Part, State, Holds}
-use Rattle.lra_tree.specs.Parts.{Tells}
-use Rattle.lra_tree.specs.Listing.{HasWidth}
+use Rattle.lra_findings.specs.Report.{Domain, Part, State, Holds}
+use Rattle.lra_findings.specs.Parts.{Tells}
+use Rattle.lra_report.specs.Listing.{HasWidth}
 
 -- a value is shown by this state, in reports over this domain
 pub record IsShown {V H : Type 0} (m : Meaning V H) (domain : Domain) (v : V) (state : State) : Type 0 where

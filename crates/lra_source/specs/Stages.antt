@@ -2,19 +2,20 @@
 use Rattle.std.specs.Prelude.{◌≡◌, ℕ, ◌≤◌, List, [], length, None}
 use Rattle.lra_tree.specs.declared.tokens.Token.{Token}
 use Rattle.lra_tree.specs.Trees.{FileTree}
-use Rattle.lra_tree.specs.Tokens.{Lex}
+use Rattle.lra_tree.specs.Tokens.{Lex, greatest_length}
 use Rattle.lra_tree.specs.Faults.{IsTree}
 use Rattle.lra_tree.specs.Grammar.{Spells}
-use Rattle.lra_tree.specs.NameFaults.{name_faults}
+use Rattle.lra_meaning.specs.NameFaults.{name_faults}
 use Rattle.lra_tree.specs.Labels.{labels_of}
-use Rattle.lra_tree.specs.Resolve.{resolve}
-use Rattle.lra_tree.specs.Graph.{Node}
-use Rattle.lra_tree.specs.Sites.{Site, events_of, sites_of}
-use Rattle.lra_tree.specs.Agree.{IsGraph, Agrees}
-use Rattle.lra_tree.specs.WellFormed.{IsWellFormed}
-use Rattle.lra_tree.specs.Report.{Domain, box, Options, State, Report}
-use Rattle.lra_tree.specs.Listing.{Lists}
-use Rattle.lra_tree.specs.Refuse.{greatest_length, limit_fault, NotRecursive}
+use Rattle.lra_meaning.specs.Resolve.{resolve}
+use Rattle.lra_operations.specs.Graph.{Node}
+use Rattle.lra_program.specs.Sites.{Site, events_of, sites_of}
+use Rattle.lra_operations.specs.Agree.{IsGraph, Agrees}
+use Rattle.lra_program.specs.WellFormed.{IsWellFormed}
+use Rattle.lra_findings.specs.Report.{Domain, box, Options, State, Report}
+use Rattle.lra_report.specs.Listing.{Lists}
+use Rattle.lra_meaning.specs.Refuse.{limit_fault}
+use Rattle.lra_tree.specs.Reach.{NotRecursive}
 use Rattle.lra_report.specs.Spelled.{IsReadable}
 use Rattle.lra_domain.specs.Meaning.{Meaning}
 use Rattle.lra_box.specs.Meaning.{box_meaning}

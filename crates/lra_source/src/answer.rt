@@ -2,12 +2,12 @@
 
 ghost use Rattle.std.specs.Prelude.{◌≡◌, ◌≤◌, ◌<◌, ◌+◌, ◌^◌, [], length, map, IfOk};
 ghost use Rattle.lra_tree.specs.Views.{tree_view};
-ghost use Rattle.lra_tree.specs.GraphViews.{node_view, site_view};
-ghost use Rattle.lra_tree.specs.NameFaults.{name_faults};
-ghost use Rattle.lra_tree.specs.Resolve.{resolve};
-ghost use Rattle.lra_tree.specs.WellFormed.{IsWellFormed};
+ghost use Rattle.lra_operations.specs.GraphViews.{node_view, site_view};
+ghost use Rattle.lra_meaning.specs.NameFaults.{name_faults};
+ghost use Rattle.lra_meaning.specs.Resolve.{resolve};
+ghost use Rattle.lra_program.specs.WellFormed.{IsWellFormed};
 ghost use Rattle.lra_tree.specs.Grammar.{Spells};
-ghost use Rattle.lra_tree.specs.Refuse.{RefusesTree, Refuse};
+ghost use Rattle.lra_meaning.specs.Refuse.{RefusesTree, Refuse};
 ghost use Rattle.lra_report.specs.View.{options_of, report_of};
 ghost use Rattle.lra_report.specs.declared.report.Domain.TheVariants.{Box};
 ghost use Rattle.lra_source.specs.Answers.{IsAnswered, IfRefused};
@@ -21,9 +21,9 @@ use lra_box::Boxes;
 use lra_flow::Settings;
 use lra_iter::analyse;
 use lra_listing::list;
+use lra_operations::Graph;
 use lra_report::{Options, Report};
 use lra_tree::Tree;
-use lra_tree::graph::Graph;
 use std::alloc::{AllocError, Global};
 
 /// The report of the iteration over a program's tree of operations.

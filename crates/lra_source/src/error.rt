@@ -2,7 +2,7 @@
 
 ghost use Rattle.std.specs.Prelude.{◌≡◌};
 
-use lra_tree::Refusal;
+use lra_base::Refusal;
 use std::alloc::AllocError;
 
 /// Why a source has no report.

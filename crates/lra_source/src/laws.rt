@@ -1,11 +1,10 @@
 //! Laws: each of these does nothing, and its contract is the theorem.
 
 ghost use Rattle.lra_tree.specs.Grammar.{Spells};
-ghost use Rattle.lra_tree.specs.Refuse.{OneAnswer};
-ghost use Rattle.lra_tree.specs.Linear.{FormsAreRight, TestsAreRight, DiffersIsRight};
+ghost use Rattle.lra_meaning.specs.Refuse.{OneAnswer};
+ghost use Rattle.lra_flow.specs.Linear.{FormsAreRight, TestsAreRight, DiffersIsRight};
 ghost use Rattle.lra_source.specs.Soundness.{SolvedAreSound};
-ghost use Rattle.lra_source.specs.Claims.{EachAnswer, OneAnsweredText, TreesFit, TreesAreNumbered};
-ghost use Rattle.lra_source.specs.Claims.{AnalysedAreSound, AnalysedAreReports, BoxesAreShown};
+ghost use Rattle.lra_source.specs.Claims.{EachAnswer, OneAnsweredText, TreesFit, TreesAreNumbered, AnalysedAreSound, AnalysedAreReports, BoxesAreShown};
 
 use lra_domain::Domain;
 

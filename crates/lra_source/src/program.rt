@@ -2,22 +2,24 @@
 
 ghost use Rattle.std.specs.Prelude.{◌≡◌, [], map, IfOk, OnOk};
 ghost use Rattle.lra_tree.specs.Views.{tree_view};
-ghost use Rattle.lra_tree.specs.ProgramViews.{program_view};
-ghost use Rattle.lra_tree.specs.GraphViews.{node_view, site_view};
-ghost use Rattle.lra_tree.specs.NameFaults.{name_faults};
-ghost use Rattle.lra_tree.specs.Resolve.{resolve};
-ghost use Rattle.lra_tree.specs.WellFormed.{IsWellFormed};
-ghost use Rattle.lra_tree.specs.Refuse.{NotRecursive, RefusesTree};
+ghost use Rattle.lra_program.specs.ProgramViews.{program_view};
+ghost use Rattle.lra_operations.specs.GraphViews.{node_view, site_view};
+ghost use Rattle.lra_meaning.specs.NameFaults.{name_faults};
+ghost use Rattle.lra_meaning.specs.Resolve.{resolve};
+ghost use Rattle.lra_program.specs.WellFormed.{IsWellFormed};
+ghost use Rattle.lra_tree.specs.Reach.{NotRecursive};
+ghost use Rattle.lra_meaning.specs.Refuse.{RefusesTree};
 ghost use Rattle.lra_source.specs.Answers.{IfRefused};
 ghost use Rattle.lra_source.specs.Stages.{HasGraph};
 
 use crate::error::SourceError;
+use lra_base::{Cause, Refusal};
 use lra_calls::first_recursive;
 use lra_graph::{GraphError, build, refusal};
 use lra_names::{NamesError, resolve};
-use lra_tree::graph::Graph;
-use lra_tree::program::Program;
-use lra_tree::{Cause, Refusal, Tree, walk};
+use lra_operations::Graph;
+use lra_program::Program;
+use lra_tree::{Tree, walk};
 use std::alloc::Global;
 
 /// The program of a source without faults of names, or the first such fault.

@@ -4,14 +4,15 @@ ghost use Rattle.std.specs.Prelude.{◌≤◌, ◌<◌, ◌+◌, ◌^◌, length
 ghost use Rattle.lra_tree.specs.Tokens.{Lex};
 ghost use Rattle.lra_tree.specs.Views.{tree_view};
 ghost use Rattle.lra_tree.specs.Grammar.{Spells};
-ghost use Rattle.lra_tree.specs.Refuse.{Refuse};
+ghost use Rattle.lra_meaning.specs.Refuse.{Refuse};
 ghost use Rattle.lra_source.specs.Answers.{IfRefused};
 ghost use Rattle.lra_source.specs.Stages.{HasTree};
 
 use crate::error::SourceError;
+use lra_base::{Cause, Refusal};
 use lra_lex::{LexError, place_behind, tokens};
 use lra_parse::{ParseError, parse};
-use lra_tree::{Cause, Refusal, Token, Tree};
+use lra_tree::{Token, Tree};
 use std::alloc::Global;
 
 /// The most bytes that a source may have.

@@ -3,8 +3,7 @@ use Rattle.std.proofs.Common.{◌∙◌, ◌≤◌, ◌<◌, ℕ, List, ◌++◌
 use Rattle.std.specs.Prelude.{Result, Ok, Err}
 use Rattle.std.proofs.lemmas.Grind.{common_steps}
 use Rattle.std.proofs.lemmas.List.{take-append-le}
-use Rattle.lra_tree.specs.Refuse.{greatest_length}
-use Rattle.lra_tree.specs.Tokens.{place_behind}
+use Rattle.lra_tree.specs.Tokens.{greatest_length, place_behind}
 use Rattle.lra_calc.specs.Script as script
 use Rattle.lra_calc.proofs.Limit.{limit_is, answer_too_long, long_answer}
 use Rattle.lra_calc.proofs.OneRefusal.{one_refusal}

@@ -2,15 +2,16 @@
 use Rattle.std.proofs.Common.{◌≡◌, ◌≤◌, ◌<◌, ℕ, List, ◌++◌, length, take, refl, sym, subst, arith, inl, inr}
 use Rattle.std.proofs.lemmas.Grind.{common_steps}
 use Rattle.std.proofs.lemmas.List.{take-append-le}
-use Rattle.lra_tree.specs.declared.refusals.Cause.{Cause}
-use Rattle.lra_tree.specs.declared.refusals.Cause.TheVariants.{TooLong}
-use Rattle.lra_tree.specs.declared.refusals.Place.{Place}
+use Rattle.lra_base.specs.declared.refusals.Cause.{Cause}
+use Rattle.lra_base.specs.declared.refusals.Cause.TheVariants.{TooLong}
+use Rattle.lra_base.specs.declared.refusals.Place.{Place}
 use Rattle.lra_tree.specs.Trees.{FileTree}
-use Rattle.lra_tree.specs.Tokens.{place_behind}
-use Rattle.lra_tree.specs.Report.{Options, Report}
-use Rattle.lra_tree.specs.ReportText.{report_text, unknown_count}
+use Rattle.lra_tree.specs.Tokens.{place_behind, greatest_length}
+use Rattle.lra_findings.specs.Report.{Options, Report}
+use Rattle.lra_findings.specs.ReportText.{report_text, unknown_count}
 use Rattle.lra_tree.specs.Grammar.{Spells}
-use Rattle.lra_tree.specs.Refuse.{greatest_length, Refuse, too_long, bad_token, bad_text, bad_tree, refusal_text, Accepts}
+use Rattle.lra_meaning.specs.Refuse.{Refuse, too_long, bad_token, bad_text, bad_tree, Accepts}
+use Rattle.lra_findings.specs.RefusalText.{refusal_text}
 use Rattle.lra_source.specs.Answers.{IsAnswered}
 use Rattle.lra_source.proofs.EachAnswer.{each_answer}
 use Rattle.lra_source.proofs.SomeAnswer.{some_answer}

@@ -2,8 +2,8 @@
 use Rattle.std.specs.Prelude.{◌≡◌, ◌<◌, ◌⊎◌, ◌+◌, ℕ, List, length, codes, Option, Some, None}
 use Rattle.std.specs.Io.KnownBytes.{Appends, Consumes, IsAtEnd}
 use Rattle.lra_edge.specs.Causes.{AppendsPart}
-use Rattle.lra_tree.specs.Report as report
-use Rattle.lra_tree.specs.ReportText.{text_line}
+use Rattle.lra_findings.specs.Report as report
+use Rattle.lra_findings.specs.ReportText.{text_line}
 use Rattle.lra_words.specs.Built.{Asks, AsksNone}
 use Rattle.lra_words.specs.declared.chosen.AnalyseOptions.{AnalyseOptions}
 use Rattle.lra_words.specs.declared.chosen.Command.{Command}
@@ -13,8 +13,7 @@ use Rattle.lra_words.specs.declared.chosen.Domain.TheVariants.{Poly, Box, Oct}
 use Rattle.lra_top.specs.SourceAnswer.{DeservesSource, limit}
 use Rattle.lra_top.specs.ScriptAnswer.{DeservesScript}
 use Rattle.lra_top.specs.declared.status.Status.{Status}
-use Rattle.lra_top.specs.declared.status.Status.TheVariants.{Proved, Unknown, Refused, Usage, ReadFault, WriteFault}
-use Rattle.lra_top.specs.declared.status.Status.TheVariants.{Memory}
+use Rattle.lra_top.specs.declared.status.Status.TheVariants.{Proved, Unknown, Refused, Usage, ReadFault, WriteFault, Memory}
 
 -- all bytes that are left of an input, where it tells them
 abbrev pub IsInput : Option (List ℕ) → List ℕ → Type 0

@@ -1,10 +1,10 @@
 // The text of a source's refusal.
 ghost use Rattle.std.specs.Prelude.{◌≡◌, ◌++◌, codes, IfOk, OnOk, string_bytes};
 ghost use Rattle.std.specs.Fmt.{decimal};
-ghost use Rattle.lra_tree.specs.ReportText.{text_line, place_text};
-ghost use Rattle.lra_tree.specs.Refuse.{cause_number, cause_name, refusal_text};
+ghost use Rattle.lra_findings.specs.ReportText.{text_line, place_text};
+ghost use Rattle.lra_findings.specs.RefusalText.{cause_number, cause_name, refusal_text};
 
-use lra_tree::{Cause, Place, Refusal};
+use lra_base::{Cause, Place, Refusal};
 use std::alloc::{AllocError, Global};
 use std::fmt::Write;
 

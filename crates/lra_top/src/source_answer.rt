@@ -1,7 +1,7 @@
 // What a source deserves: its report, or its refusal.
 ghost use Rattle.std.specs.Prelude.{◌≡◌, ◌≤◌, ◌<◌, ◌+◌, ◌^◌, length, IfOk};
-ghost use Rattle.lra_tree.specs.ReportText.{report_text, unknown_count};
-ghost use Rattle.lra_tree.specs.Refuse as refuse;
+ghost use Rattle.lra_findings.specs.ReportText.{report_text, unknown_count};
+ghost use Rattle.lra_findings.specs.RefusalText as refusal_line;
 ghost use Rattle.lra_report.specs.View as view;
 ghost use Rattle.lra_words.specs.Built.{HasBuiltOptions};
 ghost use Rattle.lra_top.specs.SourceAnswer.{DeservesSource, IsReportStatus};
@@ -10,9 +10,9 @@ ghost use Rattle.lra_top.specs.Run.{domain_of, options_of};
 use crate::answer::Answer;
 use crate::refusal_text::refusal_text;
 use crate::status::Status;
+use lra_base::Refusal;
 use lra_report::{Options, Report, text};
 use lra_source::{SourceError, analyse_source};
-use lra_tree::Refusal;
 use lra_words::{AnalyseOptions, Domain};
 use std::alloc::{AllocError, Global};
 
@@ -67,7 +67,7 @@ fn answer_report(alloc: Global, report: &Report) -> Result<Answer, AllocError>
 
 /// The text of a refusal.
 fn answer_refusal(alloc: Global, refusal: Refusal) -> Result<Answer, AllocError>
-    ensures text { IfOk result (λ a. a.text.items ≡ refuse.refusal_text refusal.cause refusal.place) }
+    ensures text { IfOk result (λ a. a.text.items ≡ refusal_line.refusal_text refusal.cause refusal.place) }
     ensures status { IfOk result (λ a. a.status ≡ Status.Refused) }
 {
     Ok(Answer {

@@ -1,15 +1,14 @@
 -- Trees and their tokens, levels, and first faults of texts. Which slip an example would catch stands beside it.
 use Rattle.std.proofs.Common.{ℕ, zero, suc, ◌+◌, List, [], ◌∷◌, ◌++◌, take, drop, refl, arith, inl, inr}
 use Rattle.std.specs.Prelude.{codes, None}
-use Rattle.lra_tree.specs.declared.refusals.Cause.TheVariants.{TooDeep}
+use Rattle.lra_base.specs.declared.refusals.Cause.TheVariants.{TooDeep}
 use Rattle.lra_tree.specs.declared.tokens.Kind.{Kind}
 use Rattle.lra_tree.specs.declared.tokens.Kind.TheVariants.{Name, Number, Mark as MarkOf, End}
 use Rattle.lra_tree.specs.declared.tokens.Mark.{Mark}
 use Rattle.lra_tree.specs.declared.tokens.Mark.TheVariants as mark
 use Rattle.lra_tree.specs.declared.tokens.Token.{Token}
-use Rattle.lra_tree.specs.Program.{below}
-use Rattle.lra_tree.specs.Trees.{group, ExprTree, value, compare, group_of, CondTree, expression, set, no_init, StmtTree, block, nothing, assign, if_only, if_else, while, for, no_items, declaration}
-use Rattle.lra_tree.specs.Trees.{statement, FileTree}
+use Rattle.lra_base.specs.Operators.{below}
+use Rattle.lra_tree.specs.Trees.{group, ExprTree, value, compare, group_of, CondTree, expression, set, no_init, StmtTree, block, nothing, assign, if_only, if_else, while, for, no_items, declaration, statement, FileTree}
 use Rattle.lra_tree.specs.Texts.{Piece, Pieces, plain}
 use Rattle.lra_tree.specs.Grammar.{IsExpr, IsTest, IsStmt, Spells}
 use Rattle.lra_tree.specs.Faults.{IsTextFault}

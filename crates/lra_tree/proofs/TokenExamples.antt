@@ -1,20 +1,18 @@
 -- Sources and their tokens. Which slip an example would catch stands beside it.
 use Rattle.std.proofs.Common.{◌≡◌, ℕ, true, List, [], ◌∷◌, ◌++◌, refl, arith, inl, inr, subst, ap, get_or, Bool, bytes_eq, ◌∙◌, sym}
-use Rattle.std.specs.Prelude.{codes}
+use Rattle.std.specs.Prelude.{codes, bytes_eq, Bool, false, true, ◌||◌, ◌&&◌, ◌⊎◌, ◌≤◌}
 use Rattle.std.specs.List.{list_all}
-use Rattle.std.specs.Prelude.{bytes_eq, Bool, false, true, ◌||◌, ◌&&◌, ◌⊎◌, ◌≤◌}
 use Rattle.std.proofs.lemmas.Slice.Eq.{bytes_eq-Decides}
 use Rattle.std.proofs.lemmas.List.Folds.{list_all-append}
 use Rattle.std.proofs.lemmas.List.{append-nil}
 use Rattle.lra_tree.proofs.LowByTest.{and_first, and_second}
-use Rattle.lra_tree.specs.declared.refusals.Place.{Place}
-use Rattle.lra_tree.specs.declared.refusals.Cause.TheVariants.{BadByte, BadLiteral}
+use Rattle.lra_base.specs.declared.refusals.Place.{Place}
+use Rattle.lra_base.specs.declared.refusals.Cause.TheVariants.{BadByte, BadLiteral}
 use Rattle.lra_tree.specs.declared.tokens.Kind.{Kind}
 use Rattle.lra_tree.specs.declared.tokens.Kind.TheVariants.{Name, Number, Mark, Reserved, End}
 use Rattle.lra_tree.specs.declared.tokens.Mark.TheVariants as mark
 use Rattle.lra_tree.specs.declared.tokens.Token.{Token}
-use Rattle.lra_tree.specs.Lexeme.{octal, decimal_base, hexadecimal, IsLiteral, Base, IsFront, is_digit, is_digit_of, number_behind, greatest_literal, is_between, is_among, suffixes, word, number_word}
-use Rattle.lra_tree.specs.Lexeme.{mark_word, name, number, mark_of, reserved}
+use Rattle.lra_tree.specs.Lexeme.{octal, decimal_base, hexadecimal, IsLiteral, Base, IsFront, is_digit, is_digit_of, number_behind, greatest_literal, is_between, is_among, suffixes, word, number_word, mark_word, name, number, mark_of, reserved}
 use Rattle.lra_tree.specs.Tokens.{place_behind, blank, line_comment, block_comment, skipped_line, gap, token, Lex, IsTokenFault}
 use Rattle.lra_tree.proofs.LongestByTest.{no_gap, longest_by, as_token, is_open, no_lexeme}
 

@@ -12,7 +12,7 @@ use Rattle.lra_tree.specs.declared.trees.FactorOperator.{FactorOperator}
 use Rattle.lra_tree.specs.declared.trees.SumOperator.{SumOperator}
 use Rattle.lra_tree.specs.declared.trees.Stmt.{Stmt, Break, While, the_lemmas as stmt_lemmas}
 use Rattle.lra_tree.specs.declared.trees.Cond.{Cond}
-use Rattle.lra_tree.specs.declared.refusals.Place.{Place}
+use Rattle.lra_base.specs.declared.refusals.Place.{Place}
 use Rattle.lra_tree.specs.Trees as tree
 use Rattle.lra_tree.specs.Views.{unary_view, unary_step, factor_view, factor_step, term_view, term_step, summand_step, expr_step, product, cond_view, stmt_view}
 

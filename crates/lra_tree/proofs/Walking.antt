@@ -2,14 +2,13 @@
 use Rattle.std.proofs.Common.{◌≡◌, ℕ, List, [], ◌∷◌, ◌++◌, map, refl, sym, ◌∙◌, ap, Option, Some, None, append_assoc, rules, option_map, Box, Global}
 use Rattle.std.proofs.lemmas.List.{map-append}
 use Rattle.std.specs.List.{flat_map}
-use Rattle.lra_tree.specs.declared.refusals.Place.{Place}
+use Rattle.lra_base.specs.declared.refusals.Place.{Place}
 use Rattle.lra_tree.specs.declared.labels.Label.{Label}
 use Rattle.lra_tree.specs.declared.trees.Identifier.{Identifier}
 use Rattle.lra_tree.specs.declared.trees.Declaration.{Declaration}
-use Rattle.lra_tree.specs.declared.trees.Stmt.{Stmt}
+use Rattle.lra_tree.specs.declared.trees.Stmt.{Stmt, the_lemmas as stmt_lemmas}
 use Rattle.lra_tree.specs.declared.trees.BlockItem.{BlockItem, the_lemmas}
 use Rattle.lra_tree.specs.declared.trees.BlockItem as code_item
-use Rattle.lra_tree.specs.declared.trees.Stmt.{the_lemmas as stmt_lemmas}
 use Rattle.lra_tree.specs.declared.trees.Stmt as code_stmt
 use Rattle.lra_tree.specs.declared.trees.Init.{Init}
 use Rattle.lra_tree.specs.declared.trees.Init.TheVariants as code_init
@@ -19,9 +18,8 @@ use Rattle.lra_tree.specs.declared.trees.Function.{Function}
 use Rattle.lra_tree.specs.declared.trees.Item.{Item}
 use Rattle.lra_tree.specs.declared.trees.Item.TheVariants as code_part
 use Rattle.lra_tree.specs.Views.{block_view, function_view, part_view, init_view, cond_view, assign_view, declarator_view, declaration_view, item_view, stmt_view}
-use Rattle.lra_tree.specs.Trees.{CondTree, AssignTree, DeclaratorTree, DeclarationTree, InitTree, no_init, declared, assigned, StmtTree, block, nothing, assign, call, if_only, if_else, while, for}
-use Rattle.lra_tree.specs.Trees.{break, continue, return, assert, assume, ItemsTree, no_items, declaration, statement, FunctionTree, PartTree}
-use Rattle.lra_tree.specs.Scope.{functions_in}
+use Rattle.lra_tree.specs.Trees.{CondTree, AssignTree, DeclaratorTree, DeclarationTree, InitTree, no_init, declared, assigned, StmtTree, block, nothing, assign, call, if_only, if_else, while, for, break, continue, return, assert, assume, ItemsTree, no_items, declaration, statement, FunctionTree, PartTree}
+use Rattle.lra_tree.specs.Functions.{functions_in}
 use Rattle.lra_tree.specs.Labels.{Labelled, with_names, declarator_labels, init_labels, step_labels, stmt_labels, items_labels, function_labels, live_in_for}
 use Rattle.lra_tree.specs.Walk.{told, told_declarator, walked_declarators, walked_init, walked_step, walked_stmt, walked_items, walked_functions}
 

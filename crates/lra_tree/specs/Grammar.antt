@@ -2,21 +2,12 @@
 -- l is the level of nesting at which a part stands, o the level that its first token opens. A function's body is level
 -- 1; a block, a branch of an `if`, a loop's body, a grouping parenthesis and a unary operator open one more, from their
 -- first to their last token.
-use Rattle.std.specs.Prelude.{◌≡◌, ℕ, ◌+◌, ◌⊎◌, ℤ, pos, neg_ℤ, Bool, true, false, List, [], ◌∷◌, codes, Option, Some}
-use Rattle.std.specs.Prelude.{None, ⊤}
+use Rattle.std.specs.Prelude.{◌≡◌, ℕ, ◌+◌, ◌⊎◌, ℤ, pos, neg_ℤ, Bool, true, false, List, [], ◌∷◌, codes, Option, Some, None, ⊤}
 use Rattle.lra_tree.specs.declared.tokens.Mark.{Mark}
 use Rattle.lra_tree.specs.declared.tokens.Mark.TheVariants as mark
 use Rattle.lra_tree.specs.declared.trees.Identifier.{Identifier}
-use Rattle.lra_tree.specs.Program as program
-use Rattle.lra_tree.specs.Trees.{UnaryTree, negated, positive, literal, variable, input, group, TermTree, unary, times}
-use Rattle.lra_tree.specs.Trees.{over, modulo, ExprTree, term, plus, minus, NegationTree, opposite_again}
-use Rattle.lra_tree.specs.Trees.{value_of_unary, group_opposed, TestTree, opposite, value, compare, group_of}
-use Rattle.lra_tree.specs.Trees.{ConjunctionTree, test, and, CondTree, conjunction, or, CallTree, SourceTree}
-use Rattle.lra_tree.specs.Trees.{expression, result, StepTree, increment, decrement, AssignTree, set, update, after}
-use Rattle.lra_tree.specs.Trees.{before, DeclaratorTree, DeclarationTree, InitTree, no_init, declared, assigned}
-use Rattle.lra_tree.specs.Trees.{StmtTree, block, nothing, assign, call, if_only, if_else, while, for, break, continue}
-use Rattle.lra_tree.specs.Trees.{return, assert, assume, ItemsTree, no_items, declaration, statement, FunctionTree}
-use Rattle.lra_tree.specs.Trees.{GlobalTree, GlobalsTree, PartTree, prototype, globals, function, FileTree}
+use Rattle.lra_base.specs.Operators as operators
+use Rattle.lra_tree.specs.Trees.{UnaryTree, negated, positive, literal, variable, input, group, TermTree, unary, times, over, modulo, ExprTree, term, plus, minus, NegationTree, opposite_again, value_of_unary, group_opposed, TestTree, opposite, value, compare, group_of, ConjunctionTree, test, and, CondTree, conjunction, or, CallTree, SourceTree, expression, result, StepTree, increment, decrement, AssignTree, set, update, after, before, DeclaratorTree, DeclarationTree, InitTree, no_init, declared, assigned, StmtTree, block, nothing, assign, call, if_only, if_else, while, for, break, continue, return, assert, assume, ItemsTree, no_items, declaration, statement, FunctionTree, GlobalTree, GlobalsTree, PartTree, prototype, globals, function, FileTree}
 use Rattle.lra_tree.specs.Texts.{Texts, ◌⋅◌, ◌∣◌, empty, opens, mark, opens_at, name, number, end_at, separated}
 
 -- expressions ------------------------------------------------------------------------------------------------------
@@ -44,13 +35,13 @@ abbrev mutual
 
 -- conditions -------------------------------------------------------------------------------------------------------
 
-abbrev pub comparison_mark : program.Comparison → Mark
-comparison_mark program.below = mark.Less
-comparison_mark program.at_most = mark.AtMost
-comparison_mark program.above = mark.Greater
-comparison_mark program.at_least = mark.AtLeast
-comparison_mark program.equal = mark.Equal
-comparison_mark program.differs = mark.Differs
+abbrev pub comparison_mark : operators.Comparison → Mark
+comparison_mark operators.below = mark.Less
+comparison_mark operators.at_most = mark.AtMost
+comparison_mark operators.above = mark.Greater
+comparison_mark operators.at_least = mark.AtLeast
+comparison_mark operators.equal = mark.Equal
+comparison_mark operators.differs = mark.Differs
 
 -- the condition isn't an expression alone
 abbrev pub IsStrict : CondTree → Type 0
@@ -97,12 +88,12 @@ abbrev pub IsSource : ℕ → SourceTree → Texts
 IsSource l (expression e) = IsExpr l e
 IsSource l (result c) = IsCall 0 l c
 
-abbrev pub update_mark : program.Operator → Mark
-update_mark program.plus = mark.PlusAssign
-update_mark program.minus = mark.MinusAssign
-update_mark program.times = mark.StarAssign
-update_mark program.over = mark.SlashAssign
-update_mark program.modulo = mark.PercentAssign
+abbrev pub update_mark : operators.Operator → Mark
+update_mark operators.plus = mark.PlusAssign
+update_mark operators.minus = mark.MinusAssign
+update_mark operators.times = mark.StarAssign
+update_mark operators.over = mark.SlashAssign
+update_mark operators.modulo = mark.PercentAssign
 
 abbrev pub step_mark : StepTree → Mark
 step_mark increment = mark.Increment

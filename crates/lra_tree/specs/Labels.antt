@@ -3,13 +3,10 @@
 -- A `for` comes in the order of its text: its word, how it begins, its step, its body. A block has no label but at its
 -- `}`.
 use Rattle.std.specs.Prelude.{ℕ, zero, suc, List, [], ◌∷◌, ◌++◌, map, Option, Some, None, slice_get, flat_map}
-use Rattle.lra_tree.specs.declared.refusals.Place.{Place}
+use Rattle.lra_base.specs.declared.refusals.Place.{Place}
 use Rattle.lra_tree.specs.declared.trees.Identifier.{Identifier}
-use Rattle.lra_tree.specs.Trees.{SourceTree, expression, result, AssignTree, set, update, after, before, DeclaratorTree}
-use Rattle.lra_tree.specs.Trees.{InitTree, no_init, declared, assigned, StmtTree, block, nothing, assign, call, if_only}
-use Rattle.lra_tree.specs.Trees.{if_else, while, for, break, continue, return, assert, assume, ItemsTree, no_items}
-use Rattle.lra_tree.specs.Trees.{declaration, statement, FunctionTree, FileTree}
-use Rattle.lra_tree.specs.Scope.{functions_of}
+use Rattle.lra_tree.specs.Trees.{SourceTree, expression, result, AssignTree, set, update, after, before, DeclaratorTree, InitTree, no_init, declared, assigned, StmtTree, block, nothing, assign, call, if_only, if_else, while, for, break, continue, return, assert, assume, ItemsTree, no_items, declaration, statement, FunctionTree, FileTree}
+use Rattle.lra_tree.specs.Functions.{functions_of}
 
 -- a statement, declarator or end of a block, which a label stands for
 pub record Labelled : Type 0 where
@@ -110,12 +107,19 @@ function_labels f = items_labels (map (λ (p : Identifier). p.word) f.parameters
 abbrev pub labels_of : FileTree → List Labelled
 labels_of t = flat_map function_labels (functions_of t)
 
--- what a walk over the tree lists: the places of its statements, declarators of functions and ends of blocks, in the
--- order of their labels
-abbrev pub places_of : FileTree → List Place
-places_of t = map (λ (l : Labelled). l.place) (labels_of t)
-
 -- the label n, from 1
 abbrev pub label_at : List Labelled → ℕ → Option Labelled
 label_at ls zero = None
 label_at ls (suc n) = slice_get ls n
+
+abbrev pub label_place : Option Labelled → Place
+label_place None = record { line = 1; column = 1 }
+label_place (Some l) = l.place
+
+abbrev pub identifier_place : Option Identifier → Place
+identifier_place None = record { line = 1; column = 1 }
+identifier_place (Some x) = x.place
+
+abbrev pub called_place : Option Labelled → Place
+called_place None = record { line = 1; column = 1 }
+called_place (Some l) = identifier_place l.called

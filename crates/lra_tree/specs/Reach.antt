@@ -1,11 +1,11 @@
 -- Which function reaches which by calls, and the first call by which a function reaches itself.
 use Rattle.std.specs.Prelude.{◌≡◌, ℕ, List, [], ◌∷◌, ◌++◌, Contains, option_to_list, map}
 use Rattle.std.specs.List.{AllByRecursion}
-use Rattle.lra_tree.specs.declared.refusals.Place.{Place}
+use Rattle.lra_base.specs.declared.refusals.Place.{Place}
 use Rattle.lra_tree.specs.declared.trees.Identifier.{Identifier}
 use Rattle.lra_tree.specs.Trees.{FunctionTree, FileTree}
 use Rattle.lra_tree.specs.Labels.{Labelled, function_labels}
-use Rattle.lra_tree.specs.Scope.{functions_of}
+use Rattle.lra_tree.specs.Functions.{functions_of}
 
 -- the called names in text order
 abbrev pub called_names : List Labelled → List Identifier
@@ -43,3 +43,6 @@ IsFirstRecursive t at =
     (before after : List (List ℕ × Identifier)) × (c : List ℕ × Identifier)
     × (calls_in (functions_of t) ≡ before ++ c ∷ after) × (at ≡ c.1.place) × IsRecursive t c ×
     AllByRecursion (λ d. IsRecursive t d → ⊥) before
+
+abbrev pub NotRecursive : FileTree → Type 0
+NotRecursive t = (at : Place) → IsFirstRecursive t at → ⊥

@@ -1,6 +1,6 @@
 -- Languages of tokens. A piece is a token with the level of nesting that it opens, or 0.
 use Rattle.std.specs.Prelude.{◌≡◌, ℕ, ◌⊎◌, List, [], ◌∷◌, ◌++◌, map}
-use Rattle.lra_tree.specs.declared.refusals.Place.{Place}
+use Rattle.lra_base.specs.declared.refusals.Place.{Place}
 use Rattle.lra_tree.specs.declared.tokens.Mark.{Mark}
 use Rattle.lra_tree.specs.declared.tokens.Mark.TheVariants.{Comma}
 use Rattle.lra_tree.specs.declared.tokens.Kind.TheVariants.{Name, Number, Mark as MarkOf, End}

@@ -1,9 +1,9 @@
 -- Trees of sources, apart from where they lie in memory. A chain of operators nests to the left; a list is in text
 -- order.
 use Rattle.std.specs.Prelude.{ℕ, ℤ, List, Bool, Option}
-use Rattle.lra_tree.specs.declared.refusals.Place.{Place}
+use Rattle.lra_base.specs.declared.refusals.Place.{Place}
 use Rattle.lra_tree.specs.declared.trees.Identifier.{Identifier}
-use Rattle.lra_tree.specs.Program.{Operator, Comparison}
+use Rattle.lra_base.specs.Operators.{Operator, Comparison}
 
 -- expressions (ISO/IEC 9899:2011, 6.5.1, 6.5.3, 6.5.5, 6.5.6)
 mutual

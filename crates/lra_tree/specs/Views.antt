@@ -1,6 +1,6 @@
 -- The tree that a value of the front end's types stands for: one step for each type, over trees of its parts.
 use Rattle.std.specs.Prelude.{List, [], ◌∷◌, map, option_map}
-use Rattle.lra_tree.specs.declared.refusals.Place.{Place}
+use Rattle.lra_base.specs.declared.refusals.Place.{Place}
 use Rattle.lra_tree.specs.declared.trees.Unary.{Unary}
 use Rattle.lra_tree.specs.declared.trees.Unary.TheFolds.{fold-Unary, fold-Expr, fold-Term, fold-Factor, fold-Summand}
 use Rattle.lra_tree.specs.declared.trees.Unary.TheOpen.{Unary-F, Factor-F, Term-F, Summand-F, Expr-F}
@@ -12,10 +12,6 @@ use Rattle.lra_tree.specs.declared.trees.FactorOperator.{FactorOperator}
 use Rattle.lra_tree.specs.declared.trees.FactorOperator.TheVariants as factor
 use Rattle.lra_tree.specs.declared.trees.SumOperator.{SumOperator}
 use Rattle.lra_tree.specs.declared.trees.SumOperator.TheVariants as sum
-use Rattle.lra_tree.specs.declared.trees.Comparison.{Comparison}
-use Rattle.lra_tree.specs.declared.trees.Comparison.TheVariants as comparison
-use Rattle.lra_tree.specs.declared.trees.Operator.{Operator}
-use Rattle.lra_tree.specs.declared.trees.Operator.TheVariants as operator
 use Rattle.lra_tree.specs.declared.trees.Negation.TheFolds.{fold-Negation, fold-Test, fold-Conjunction, fold-Cond}
 use Rattle.lra_tree.specs.declared.trees.Negation.TheOpen.{Negation-F, Test-F, Conjunction-F, Cond-F}
 use Rattle.lra_tree.specs.declared.trees.Negation.{Negation}
@@ -44,8 +40,8 @@ use Rattle.lra_tree.specs.declared.trees.Globals.{Globals}
 use Rattle.lra_tree.specs.declared.trees.Item.{Item}
 use Rattle.lra_tree.specs.declared.trees.Item.TheVariants as item
 use Rattle.lra_tree.specs.declared.trees.Tree.{Tree}
-use Rattle.lra_tree.specs.Program as program
 use Rattle.lra_tree.specs.Trees as tree
+use Rattle.lra_base.specs.OperatorViews.{comparison_view, operator_view}
 
 -- expressions ------------------------------------------------------------------------------------------------------
 
@@ -117,14 +113,6 @@ expr_view = fold-Expr tree.UnaryTree tree.ExprTree (FactorOperator × tree.Unary
 
 -- conditions -------------------------------------------------------------------------------------------------------
 
-abbrev pub comparison_view : Comparison → program.Comparison
-comparison_view comparison.Below = program.below
-comparison_view comparison.AtMost = program.at_most
-comparison_view comparison.Above = program.above
-comparison_view comparison.AtLeast = program.at_least
-comparison_view comparison.Equal = program.equal
-comparison_view comparison.Differs = program.differs
-
 abbrev pub all_tests : tree.ConjunctionTree → List tree.TestTree → tree.ConjunctionTree
 all_tests c [] = c
 all_tests c (t ∷ ts) = all_tests (tree.and c t) ts
@@ -169,13 +157,6 @@ cond_view = fold-Cond tree.NegationTree tree.TestTree tree.CondTree tree.Conjunc
     cond_step conjunction_step
 
 -- assignments and declarations -------------------------------------------------------------------------------------
-
-abbrev pub operator_view : Operator → program.Operator
-operator_view operator.Plus = program.plus
-operator_view operator.Minus = program.minus
-operator_view operator.Times = program.times
-operator_view operator.Over = program.over
-operator_view operator.Modulo = program.modulo
 
 abbrev pub step_view : Step → tree.StepTree
 step_view step.Increment = tree.increment

@@ -1,11 +1,10 @@
 -- What a walk over a tree keeps of each label: its place, and the called name where it holds a call. The names that
 -- live there are left out.
 use Rattle.std.specs.Prelude.{List, [], map, Option, flat_map}
-use Rattle.lra_tree.specs.declared.refusals.Place.{Place}
+use Rattle.lra_base.specs.declared.refusals.Place.{Place}
 use Rattle.lra_tree.specs.declared.labels.Label.{Label}
 use Rattle.lra_tree.specs.Trees.{AssignTree, DeclaratorTree, InitTree, StmtTree, ItemsTree, FunctionTree, FileTree}
-use Rattle.lra_tree.specs.Labels.{Labelled, called_of, assign_label, init_labels, step_labels, stmt_labels}
-use Rattle.lra_tree.specs.Labels.{items_labels, function_labels, labels_of}
+use Rattle.lra_tree.specs.Labels.{Labelled, called_of, assign_label, init_labels, step_labels, stmt_labels, items_labels, function_labels, labels_of}
 
 abbrev pub told : Labelled → Label
 told l = record { place = l.place; called = l.called }

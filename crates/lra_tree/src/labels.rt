@@ -3,18 +3,16 @@
 
 ghost use Rattle.std.specs.Prelude.{◌≡◌, ◌∷◌, ◌++◌, [], List, map, Option, option_map, IfOk};
 ghost use Rattle.lra_tree.specs.Trees.{ItemsTree, PartTree};
-ghost use Rattle.lra_tree.specs.Views.{source_view, assign_view, declarator_view, declaration_view, init_view};
-ghost use Rattle.lra_tree.specs.Views.{item_view, stmt_view, block_view, function_view, part_view, tree_view};
-ghost use Rattle.lra_tree.specs.Scope.{functions_in};
+ghost use Rattle.lra_tree.specs.Views.{source_view, assign_view, declarator_view, declaration_view, init_view, item_view, stmt_view, block_view, function_view, part_view, tree_view};
+ghost use Rattle.lra_tree.specs.Functions.{functions_in};
 ghost use Rattle.lra_tree.specs.Labels.{called_in, called_of};
-ghost use Rattle.lra_tree.specs.Walk.{walked, walked_assign, walked_declarators, walked_init, walked_step, walked_stmt};
-ghost use Rattle.lra_tree.specs.Walk.{walked_items, walked_functions, told_declarator};
+ghost use Rattle.lra_tree.specs.Walk.{walked, walked_assign, walked_declarators, walked_init, walked_step, walked_stmt, walked_items, walked_functions, told_declarator};
 
-use crate::refusals::Place;
 use crate::trees::{
     Assign, Block, BlockItem, Call, Declaration, Declarator, Function, Identifier, Init, Item,
     Source, Stmt, Tree,
 };
+use lra_base::Place;
 use std::alloc::{AllocError, Global};
 
 /// A statement, a declarator or a block's end: its place, and the called name where it holds a call.

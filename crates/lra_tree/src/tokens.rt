@@ -2,7 +2,7 @@
 
 ghost use Rattle.std.specs.Prelude.{◌≡◌, IfOk};
 
-use crate::refusals::Place;
+use lra_base::Place;
 use std::alloc::{AllocError, Global};
 use std::marker::Model;
 

@@ -6,8 +6,8 @@ ghost use Rattle.std.specs.Prelude.{◌≡◌, ◌≢◌, map, IfOk, MatchResult
 ghost use Rattle.lra_tree.specs.Trees.{ExprTree, value, test, conjunction};
 ghost use Rattle.lra_tree.specs.Views.{all_tests, any_conjunction, expr_view, test_view, conjunction_view, cond_view};
 
-use crate::refusals::Place;
 use crate::tokens::Word;
+use lra_base::{Comparison, Operator, Place};
 use std::alloc::AllocError;
 
 /// A name and its place.
@@ -129,16 +129,6 @@ impl Drop for Expr {
     fn drop(self) {
         let Expr { first: _, rest: _ } = self;
     }
-}
-
-#[derive(Clone, Copy, PartialEq, Eq, Debug)]
-pub enum Comparison {
-    Below,
-    AtMost,
-    Above,
-    AtLeast,
-    Equal,
-    Differs,
 }
 
 /// What `!` stands before.
@@ -282,16 +272,6 @@ impl Drop for Source {
             Source::Result(_) => {}
         }
     }
-}
-
-/// The operator of `x op= e`.
-#[derive(Clone, Copy, PartialEq, Eq, Debug)]
-pub enum Operator {
-    Plus,
-    Minus,
-    Times,
-    Over,
-    Modulo,
 }
 
 /// `++`, `--`

@@ -2,9 +2,10 @@
 use Rattle.std.proofs.Common.{[], None, Some, refl, inl, inr, ◌^◌, ◌-◌, arith}
 use Rattle.std.proofs.lemmas.Int.{ints}
 use Rattle.lra_domain.specs.declared.Exactness.TheVariants.{Exact, Flagged}
-use Rattle.lra_tree.specs.Program.{local, plus, Expr, literal, read, binary}
-use Rattle.lra_tree.specs.Step.{give, keep}
-use Rattle.lra_tree.specs.Graph.{broken, act, seq, leave}
+use Rattle.lra_program.specs.Program.{local, Expr, literal, read, binary}
+use Rattle.lra_base.specs.Operators.{plus}
+use Rattle.lra_program.specs.Step.{give, keep}
+use Rattle.lra_operations.specs.Graph.{broken, act, seq, leave}
 use Rattle.lra_box.specs.Content.{Content}
 use Rattle.lra_box.specs.Meaning.{box_meaning}
 use Rattle.lra_flow.specs.Operations.{straining}

@@ -4,12 +4,12 @@ use Rattle.std.proofs.Common.{◌≡◌, ℕ, pos, List, [], ◌∷◌, ◌++◌
 use Rattle.lra_lin.specs.Form.{Form}
 use Rattle.lra_domain.specs.Actions.{assign}
 use Rattle.lra_domain.specs.declared.Exactness.TheVariants.{Exact}
-use Rattle.lra_tree.specs.Program.{local, literal, read, input, nonzero, Call, Function, Program, declaration, statement, no_more, absent}
-use Rattle.lra_tree.specs.Program as program
-use Rattle.lra_tree.specs.Step.{Op, append, give, give_any, keep}
-use Rattle.lra_tree.specs.Graph.{returned, Node, empty, point, act, seq, choose}
-use Rattle.lra_tree.specs.Inlined.{as_declaration, as_given, as_result, as_statement, as_none, as_if, as_absent, as_assign, as_value, as_return_value, call_node, return_node}
-use Rattle.lra_tree.specs.Agree.{IsGraph}
+use Rattle.lra_program.specs.Program.{local, literal, read, input, nonzero, Call, Function, Program, declaration, statement, no_more, absent}
+use Rattle.lra_program.specs.Program as program
+use Rattle.lra_program.specs.Step.{Op, append, give, give_any, keep}
+use Rattle.lra_operations.specs.Graph.{returned, Node, empty, point, act, seq, choose}
+use Rattle.lra_operations.specs.Inlined.{as_declaration, as_given, as_result, as_statement, as_none, as_if, as_absent, as_assign, as_value, as_return_value, call_node, return_node}
+use Rattle.lra_operations.specs.Agree.{IsGraph}
 use Rattle.lra_box.specs.declared.interval.Interval.{Interval}
 use Rattle.lra_box.specs.declared.interval.Side.TheVariants.{Low, High}
 use Rattle.lra_box.specs.Bounds.{open_interval, form, IsSound}

@@ -5,12 +5,13 @@ use Rattle.lra_lin.specs.Form.{Form}
 use Rattle.lra_linear.specs.declared.ConKind.TheVariants.{Ge}
 use Rattle.lra_domain.specs.Actions.{assign, test}
 use Rattle.lra_domain.specs.declared.Exactness.TheVariants.{Exact}
-use Rattle.lra_tree.specs.Program.{local, plus, below, Expr, literal, read, binary, Cond, compare, Program, declaration, statement, no_more, loop, absent}
-use Rattle.lra_tree.specs.Program as program
-use Rattle.lra_tree.specs.Step.{append, give}
-use Rattle.lra_tree.specs.Graph.{continued, Node, empty, point, act, seq, catch}
-use Rattle.lra_tree.specs.Inlined.{as_declaration, as_given, as_value, as_statement, as_none, as_loop, is_loop, as_assign, as_absent, loop_node}
-use Rattle.lra_tree.specs.Agree.{IsGraph}
+use Rattle.lra_program.specs.Program.{local, Expr, literal, read, binary, Cond, compare, Program, declaration, statement, no_more, loop, absent}
+use Rattle.lra_base.specs.Operators.{plus, below}
+use Rattle.lra_program.specs.Program as program
+use Rattle.lra_program.specs.Step.{append, give}
+use Rattle.lra_operations.specs.Graph.{continued, Node, empty, point, act, seq, catch}
+use Rattle.lra_operations.specs.Inlined.{as_declaration, as_given, as_value, as_statement, as_none, as_loop, is_loop, as_assign, as_absent, loop_node}
+use Rattle.lra_operations.specs.Agree.{IsGraph}
 use Rattle.lra_box.specs.declared.interval.Interval.{Interval}
 use Rattle.lra_box.specs.declared.interval.Side.TheVariants.{Low, High}
 use Rattle.lra_box.specs.Bounds.{open_interval, crossed, form, IsSound}

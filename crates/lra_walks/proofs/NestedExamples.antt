@@ -7,12 +7,14 @@ use Rattle.lra_lin.specs.Form.{Form}
 use Rattle.lra_linear.specs.declared.ConKind.TheVariants.{Ge}
 use Rattle.lra_domain.specs.Actions.{assign, test}
 use Rattle.lra_domain.specs.declared.Exactness.TheVariants.{Exact}
-use Rattle.lra_tree.specs.Program.{local, plus, below, equal, Expr, literal, read, input, binary, Cond, compare, nonzero}
-use Rattle.lra_tree.specs.Program as program
-use Rattle.lra_tree.specs.Step.{append, give, keep}
-use Rattle.lra_tree.specs.Graph.{broken, continued, returned, Node, empty, point, act, check, seq, choose, catch, leave}
-use Rattle.lra_tree.specs.Inlined.{as_declaration, as_given, as_value, as_statement, as_none, as_loop, is_loop, as_assign, as_absent, as_block, as_if, as_break, as_end_value, as_assert, loop_node}
-use Rattle.lra_tree.specs.Agree.{IsGraph}
+use Rattle.lra_program.specs.Program.{local, Expr, literal, read, input, binary, Cond, compare, nonzero}
+use Rattle.lra_base.specs.Operators.{plus, below, equal}
+use Rattle.lra_program.specs.Program as program
+use Rattle.lra_base.specs.Operators as operators
+use Rattle.lra_program.specs.Step.{append, give, keep}
+use Rattle.lra_operations.specs.Graph.{broken, continued, returned, Node, empty, point, act, check, seq, choose, catch, leave}
+use Rattle.lra_operations.specs.Inlined.{as_declaration, as_given, as_value, as_statement, as_none, as_loop, is_loop, as_assign, as_absent, as_block, as_if, as_break, as_end_value, as_assert, loop_node}
+use Rattle.lra_operations.specs.Agree.{IsGraph}
 use Rattle.lra_box.specs.declared.interval.Interval.{Interval}
 use Rattle.lra_box.specs.declared.interval.Side.TheVariants.{Low, High}
 use Rattle.lra_box.specs.Bounds.{open_interval, crossed, form, IsSound}
@@ -41,7 +43,7 @@ b_is = read (local 1)
 
 -- the inner loop's body: its point is 4, and the points inside are 5 to 10
 abbrev leaving : Node
-leaving = seq (point 5) (choose 5 0 (compare program.at_least b_is (literal 3)) (seq (point 6) (seq (act 6 (keep 2)) (leave 2 broken))) empty)
+leaving = seq (point 5) (choose 5 0 (compare operators.at_least b_is (literal 3)) (seq (point 6) (seq (act 6 (keep 2)) (leave 2 broken))) empty)
 
 abbrev returning : Node
 returning = seq (point 7) (choose 7 0 (nonzero input) (seq (point 8) (leave 2 returned)) empty)
@@ -529,7 +531,7 @@ abbrev zero_at : ℕ → program.Declarator
 zero_at at = record { label = at; source = Some (program.value (literal 0)) }
 
 abbrev inner_block : program.Stmt
-inner_block = program.block (program.statement (program.if 6 (compare program.at_least b_is (literal 3)) (program.break 7) program.absent)
+inner_block = program.block (program.statement (program.if 6 (compare operators.at_least b_is (literal 3)) (program.break 7) program.absent)
     (program.statement (program.if 8 (nonzero input) (program.return 9 (Some (program.value (literal 0)))) program.absent)
     (program.statement (program.assign 10 (local 1) (program.value (binary plus b_is (literal 1)))) program.no_more))) 11
 

@@ -3,12 +3,12 @@ use Rattle.std.proofs.Common.{◌≡◌, ℕ, zero, suc, ◌<◌, ◌≤◌, Lis
 use Rattle.std.specs.Prelude.{slice_get, option_map}
 use Rattle.std.proofs.lemmas.List.{length-map}
 use Rattle.std.proofs.lemmas.Option.{none-some, slice_get-map, slice_get_within}
-use Rattle.lra_tree.specs.Program.{Expr, Cond}
-use Rattle.lra_tree.specs.Step.{append, give}
-use Rattle.lra_tree.specs.Graph.{Node, point, act, check, seq, choose}
-use Rattle.lra_tree.specs.Sites.{Site}
-use Rattle.lra_tree.specs.declared.graph.Site as coded
-use Rattle.lra_tree.specs.GraphViews.{site_view}
+use Rattle.lra_program.specs.Program.{Expr, Cond}
+use Rattle.lra_program.specs.Step.{append, give}
+use Rattle.lra_operations.specs.Graph.{Node, point, act, check, seq, choose}
+use Rattle.lra_program.specs.Sites.{Site}
+use Rattle.lra_operations.specs.declared.graph.Site as coded
+use Rattle.lra_operations.specs.GraphViews.{site_view}
 use Rattle.lra_iter.specs.Numbers.{one_if, values_in, checks_in, asserts_of, IsNumbered}
 use Rattle.lra_walks.specs.Sample.{sample_asserts}
 use Rattle.lra_iter.proofs.Counting.{one_other}

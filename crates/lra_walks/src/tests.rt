@@ -2,20 +2,20 @@
 //! condition is `x >= 1` in parentheses of ever more levels.
 
 ghost use Rattle.std.specs.Prelude.{◌≡◌, map, IfOk};
-ghost use Rattle.lra_tree.specs.Graph as graph;
-ghost use Rattle.lra_tree.specs.ProgramViews.{cond_view};
-ghost use Rattle.lra_tree.specs.GraphViews.{op_view, node_view, site_view};
+ghost use Rattle.lra_operations.specs.Graph as graph;
+ghost use Rattle.lra_program.specs.ProgramViews.{cond_view};
+ghost use Rattle.lra_operations.specs.GraphViews.{op_view, node_view, site_view};
 ghost use Rattle.lra_iter.specs.Fits.{TreeFits};
 ghost use Rattle.lra_iter.specs.Numbers.{IsNumbered};
 ghost use Rattle.lra_walks.specs.Sample.{sample_asserts};
 
+use lra_base::Comparison;
 use lra_box::Boxes;
 use lra_domain::Domain;
 use lra_flow::Settings;
 use lra_iter::analyse;
-use lra_tree::Comparison;
-use lra_tree::graph::{Graph, Node, Op, Path, Site};
-use lra_tree::program::{Cond, Expr, Slot};
+use lra_operations::{Graph, Node, Op, Path, Site};
+use lra_program::{Cond, Expr, Slot};
 use std::alloc::{AllocError, Global};
 
 /// `x >= bound`

@@ -1,22 +1,22 @@
 //! The tree of a whole program and its points: those of `main`'s items, and the point of its end.
 
 ghost use Rattle.std.specs.Prelude.{◌≡◌, ◌≤◌, ℕ, List, map, slice_get, IfOk, None, Some};
-ghost use Rattle.lra_tree.specs.Agree.{IsGraph, Agrees};
+ghost use Rattle.lra_operations.specs.Agree.{IsGraph, Agrees};
 ghost use Rattle.lra_tree.specs.Labels.{Labelled};
-ghost use Rattle.lra_tree.specs.Refuse.{limit_fault};
-ghost use Rattle.lra_tree.specs.Sites as points;
-ghost use Rattle.lra_tree.specs.Sites.{events_of, sites_of};
-ghost use Rattle.lra_tree.specs.WellFormed.{IsWellFormed};
-ghost use Rattle.lra_tree.specs.ProgramViews.{program_view};
-ghost use Rattle.lra_tree.specs.GraphViews.{node_view, site_view};
+ghost use Rattle.lra_meaning.specs.Refuse.{limit_fault};
+ghost use Rattle.lra_program.specs.Sites as points;
+ghost use Rattle.lra_program.specs.Sites.{events_of, sites_of};
+ghost use Rattle.lra_program.specs.WellFormed.{IsWellFormed};
+ghost use Rattle.lra_program.specs.ProgramViews.{program_view};
+ghost use Rattle.lra_operations.specs.GraphViews.{node_view, site_view};
 ghost use Rattle.lra_graph.specs.Limits.{OnLimit, refusal_of};
 
 use super::inline_items;
 use crate::forms::in_turn;
 use crate::frame::{Around, Frame};
 use crate::points::{GREATEST_CALLS, GraphError, add_point};
-use lra_tree::graph::{Graph, Node, Path};
-use lra_tree::program::Program;
+use lra_operations::{Graph, Node, Path};
+use lra_program::Program;
 use std::alloc::Global;
 
 /// The program's tree and its points, or the first limit that it passes.
@@ -59,8 +59,8 @@ pub fn build(alloc: Global, program: &Program) -> Result<Graph, GraphError>
 mod tests {
     use super::*;
     use crate::points::Limit;
-    use lra_tree::graph::Op;
-    use lra_tree::program::{
+    use lra_operations::Op;
+    use lra_program::{
         BlockItem, BlockItems, Call, Cond, Declarator, Expr, Function, Slot, Source, Stmt,
     };
     use std::test::Fail;

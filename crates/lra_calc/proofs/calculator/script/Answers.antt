@@ -1,5 +1,5 @@
 use Rattle.std.proofs.Common.{arith, sym, subst, Err, None}
-use Rattle.lra_tree.specs.declared.refusals.Place.{Place}
+use Rattle.lra_base.specs.declared.refusals.Place.{Place}
 use Rattle.lra_linear.proofs.Polyhedra.{con_gen}
 use Rattle.lra_calc.specs.ScriptText.{lines}
 use Rattle.lra_calc.specs.Script.{TooLong, Runs, AnswersTo}

@@ -1,7 +1,7 @@
 -- What is there so far, and then the functions of the parts that are left, are those of all parts.
 use Rattle.std.proofs.Common.{◌≡◌, ◌++◌, map, drop}
 use Rattle.lra_tree.specs.Views.{part_view}
-use Rattle.lra_tree.specs.Scope.{functions_in}
+use Rattle.lra_tree.specs.Functions.{functions_in}
 use Rattle.lra_calls.specs.Called.{caller_of, caller_view}
 use Rattle.lra_calls.proofs.called.callers.Given as goal
 

@@ -1,7 +1,7 @@
 use Rattle.std.proofs.Common.{map, length, refl, sym, ap, ◌∙◌}
 use Rattle.std.proofs.lemmas.Option.{slice_get_read, MatchOption-at_none, MatchOption-at_some}
 use Rattle.lra_tree.specs.Views.{part_view, tree_view}
-use Rattle.lra_tree.specs.Scope.{functions_in}
+use Rattle.lra_tree.specs.Functions.{functions_in}
 use Rattle.lra_calls.specs.Called.{caller_of, caller_view}
 use Rattle.lra_calls.proofs.Reaching.{further_of, first_of, none_of}
 use Rattle.lra_calls.proofs.recursion.first_recursive.Goals as goal

@@ -1,7 +1,6 @@
-use Rattle.std.proofs.Common.{rules, ◌≡◌, ◌∷◌, map}
-use Rattle.lra_tree.specs.ProgramViews.{expr_view}
-use Rattle.lra_tree.specs.Linear.{form_of}
-use Rattle.std.proofs.Common.{suc}
+use Rattle.std.proofs.Common.{rules, ◌≡◌, ◌∷◌, map, suc}
+use Rattle.lra_program.specs.ProgramViews.{expr_view}
+use Rattle.lra_flow.specs.Linear.{form_of}
 use Rattle.lra_flow.specs.Changes.{append_set, push_all}
 use Rattle.lra_change.proofs.ChangeSteps.{done_both}
 use Rattle.lra_change.proofs.changes.+push_all_of.Goals as goal

@@ -1,5 +1,5 @@
 use Rattle.std.proofs.Common.{arith}
-use Rattle.lra_tree.specs.ProgramViews.{expr_view}
+use Rattle.lra_program.specs.ProgramViews.{expr_view}
 use Rattle.lra_change.proofs.ChangeSteps.{done_append}
 use Rattle.lra_change.proofs.changes.push_one.Goals as goal
 

@@ -1,4 +1,4 @@
-use Rattle.lra_tree.specs.ProgramViews.{expr_view}
+use Rattle.lra_program.specs.ProgramViews.{expr_view}
 use Rattle.lra_change.proofs.ChangeSteps.{form_there}
 use Rattle.lra_change.proofs.changes.set.Goals as goal
 

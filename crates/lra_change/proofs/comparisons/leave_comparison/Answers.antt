@@ -1,6 +1,6 @@
 use Rattle.std.proofs.Common.{Some}
-use Rattle.lra_tree.specs.ProgramViews.{expr_view}
-use Rattle.lra_tree.specs.Linear.{difference_form}
+use Rattle.lra_program.specs.ProgramViews.{expr_view}
+use Rattle.lra_flow.specs.Linear.{difference_form}
 use Rattle.lra_forms.specs.Forms.{as_linear, IsForm}
 use Rattle.lra_forms.proofs.CondSteps.{difference_wide, difference_there}
 use Rattle.lra_change.proofs.CompareSteps.{compares_by_test}

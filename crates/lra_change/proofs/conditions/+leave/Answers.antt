@@ -1,5 +1,5 @@
 use Rattle.std.proofs.Common.{rules, ◌≡◌, ◌∷◌, map}
-use Rattle.lra_tree.specs.ProgramViews.{cond_view}
+use Rattle.lra_program.specs.ProgramViews.{cond_view}
 use Rattle.lra_forms.proofs.CondSteps.{all_view, any_view, all_true, any_false, all_false, any_true}
 use Rattle.lra_change.proofs.SideSteps.{either_step}
 use Rattle.lra_change.proofs.conditions.+leave.Goals as goal

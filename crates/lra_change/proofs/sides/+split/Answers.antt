@@ -1,5 +1,5 @@
 use Rattle.std.proofs.Common.{rules, ◌≡◌, ◌∷◌, map}
-use Rattle.lra_tree.specs.ProgramViews.{cond_view}
+use Rattle.lra_program.specs.ProgramViews.{cond_view}
 use Rattle.lra_forms.proofs.CondSteps.{all_view, any_view, all_true, any_false, all_false, any_true}
 use Rattle.lra_change.proofs.SideSteps.{chain_all, chain_any}
 use Rattle.lra_change.proofs.sides.+split.Goals as goal

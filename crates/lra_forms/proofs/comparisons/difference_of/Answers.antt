@@ -1,4 +1,4 @@
-use Rattle.lra_tree.specs.ProgramViews.{expr_view}
+use Rattle.lra_program.specs.ProgramViews.{expr_view}
 use Rattle.lra_forms.proofs.CondSteps.{difference_is}
 use Rattle.lra_forms.proofs.comparisons.difference_of.Goals as goal
 

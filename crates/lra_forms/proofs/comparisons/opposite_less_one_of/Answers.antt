@@ -1,5 +1,5 @@
 use Rattle.std.proofs.Common.{rules, ◌≡◌, negsuc, length}
-use Rattle.lra_tree.specs.Linear.{constant_form}
+use Rattle.lra_flow.specs.Linear.{constant_form}
 use Rattle.lra_forms.specs.Forms.{as_linear}
 use Rattle.lra_forms.proofs.CondSteps.{opposite_less_one_is}
 use Rattle.lra_forms.proofs.comparisons.opposite_less_one_of.Goals as goal

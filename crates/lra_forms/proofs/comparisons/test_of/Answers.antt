@@ -1,4 +1,4 @@
-use Rattle.lra_tree.specs.Linear.{opposite_less_one, opposite_form}
+use Rattle.lra_flow.specs.Linear.{opposite_less_one, opposite_form}
 use Rattle.lra_forms.specs.Forms.{as_linear}
 use Rattle.lra_forms.proofs.CondSteps.{answer_is}
 use Rattle.lra_forms.proofs.comparisons.test_of.Goals as goal

@@ -1,7 +1,7 @@
 use Rattle.std.proofs.Common.{rules, ◌≡◌, Some, None, map}
-use Rattle.lra_tree.specs.ProgramViews.{chained, expr_view, operation_view}
-use Rattle.lra_tree.specs.declared.program.Expr.{the_lemmas}
-use Rattle.lra_tree.specs.Linear.{form_of}
+use Rattle.lra_program.specs.ProgramViews.{chained, expr_view, operation_view}
+use Rattle.lra_program.specs.declared.program.Expr.{the_lemmas}
+use Rattle.lra_flow.specs.Linear.{form_of}
 use Rattle.lra_forms.specs.Forms.{as_linear, IsForm, rest_form}
 use Rattle.lra_forms.proofs.FormSteps.{chain_form, chain_none, none_only, some_only, chain_stops, chain_fails, chain_next}
 use Rattle.lra_forms.proofs.forms.+form.Goals as goal

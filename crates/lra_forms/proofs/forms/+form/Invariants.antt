@@ -1,5 +1,5 @@
 use Rattle.std.proofs.Common.{◌≡◌, map, drop, Some}
-use Rattle.lra_tree.specs.ProgramViews.{operation_view}
+use Rattle.lra_program.specs.ProgramViews.{operation_view}
 use Rattle.lra_forms.specs.Forms.{as_linear, rest_form}
 use Rattle.lra_forms.proofs.forms.+form.Given as goal
 

@@ -1,7 +1,6 @@
-use Rattle.std.proofs.Common.{length}
-use Rattle.std.proofs.Common.{◌≡◌}
+use Rattle.std.proofs.Common.{length, ◌≡◌}
 use Rattle.std.specs.List.{list_all}
-use Rattle.lra_tree.specs.Value.{is_zero}
+use Rattle.lra_program.specs.Value.{is_zero}
 use Rattle.lra_forms.proofs.forms.has_no_variable.Given as goal
 
 abbrev pub invariant-loop-coefficient : goal.invariant-loop-coefficient

@@ -1,6 +1,6 @@
 use Rattle.std.proofs.Common.{rules, ◌≡◌, ◌++◌, [], ◌∷◌, Some, map}
 use Rattle.std.specs.Prelude.{◌*ℤ◌}
-use Rattle.lra_tree.specs.Value.{word}
+use Rattle.lra_program.specs.Value.{word}
 use Rattle.lra_forms.proofs.FormSteps.{so_far_next}
 use Rattle.lra_forms.proofs.forms.product_entries.Goals as goal
 

@@ -1,6 +1,6 @@
 use Rattle.std.proofs.Common.{rules, ◌≡◌, ◌++◌, [], ◌∷◌, Some}
-use Rattle.lra_tree.specs.Value.{word}
-use Rattle.lra_tree.specs.Linear.{entrywise}
+use Rattle.lra_program.specs.Value.{word}
+use Rattle.lra_flow.specs.Linear.{entrywise}
 use Rattle.lra_forms.specs.Forms.{sum_of}
 use Rattle.lra_forms.proofs.FormSteps.{so_far_next}
 use Rattle.lra_forms.proofs.forms.sum_entries.Goals as goal

@@ -1,5 +1,5 @@
 use Rattle.std.proofs.Common.{length}
-use Rattle.lra_tree.specs.Linear.{entrywise}
+use Rattle.lra_flow.specs.Linear.{entrywise}
 use Rattle.lra_forms.specs.Forms.{sum_of}
 use Rattle.lra_forms.proofs.FormSteps.{SoFar}
 use Rattle.lra_forms.proofs.forms.sum_entries.Given as goal

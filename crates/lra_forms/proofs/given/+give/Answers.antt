@@ -1,5 +1,5 @@
 use Rattle.std.proofs.Common.{map}
-use Rattle.lra_tree.specs.ProgramViews.{cond_view}
+use Rattle.lra_program.specs.ProgramViews.{cond_view}
 use Rattle.lra_forms.proofs.CondSteps.{all_view, any_view}
 use Rattle.lra_forms.proofs.GivenSteps.{all_rows, any_rows}
 use Rattle.lra_forms.proofs.given.+give.Goals as goal

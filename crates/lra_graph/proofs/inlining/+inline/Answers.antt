@@ -1,36 +1,31 @@
 -- Each form is written out as its definition says, and stopped where one of its parts is.
 use Rattle.std.proofs.Common.{rules, ◌≡◌, ◌+◌, ◌++◌, ◌∷◌, [], map, refl, ap, ◌∙◌, subst, arith, Some, None, Vec, Global, ◌-◌, sym}
 use Rattle.std.proofs.lemmas.Result.{err_from_is_err_and}
-use Rattle.lra_tree.specs.declared.graph.Site.{Site}
-use Rattle.lra_tree.specs.Program.{value, result, nothing, block, assign, call, if, loop, for, break, continue, return, assert, assume}
-use Rattle.lra_tree.specs.Step.{give}
-use Rattle.lra_tree.specs.Graph.{act, seq}
-use Rattle.lra_tree.specs.Inlined.{return_node}
-use Rattle.lra_tree.specs.Sites.{plain_site, live_behind, stmt_events, source_events, given_events, items_events, call_events}
-use Rattle.lra_tree.specs.ProgramViews.{slot_view, expr_view, cond_view, call_view, source_view, given_view, stmt_view, item_view, items_of, declarator_view, function_view}
-use Rattle.lra_tree.specs.GraphViews.{node_view, site_view}
+use Rattle.lra_operations.specs.declared.graph.Site.{Site}
+use Rattle.lra_program.specs.Program.{value, result, nothing, block, assign, call, if, loop, for, break, continue, return, assert, assume}
+use Rattle.lra_program.specs.Step.{give}
+use Rattle.lra_operations.specs.Graph.{act, seq}
+use Rattle.lra_operations.specs.Inlined.{return_node}
+use Rattle.lra_program.specs.Sites.{plain_site, live_behind, stmt_events, source_events, given_events, items_events, call_events}
+use Rattle.lra_program.specs.ProgramViews.{slot_view, expr_view, cond_view, call_view, source_view, given_view, stmt_view, item_view, items_of, declarator_view, function_view}
+use Rattle.lra_operations.specs.GraphViews.{node_view, site_view}
 use Rattle.lra_graph.specs.Limits.{walk, stopped}
 use Rattle.lra_graph.specs.Building.{StmtStands, StopsItem, WritesReturn}
 use Rattle.lra_graph.specs.Inlining.{points_in, program_around, inside, own_events, on_stmt}
 use Rattle.lra_graph.proofs.Walking.{walk_stop}
-use Rattle.lra_graph.proofs.Stopping.{err_ok, err_memory, err_limit, err_stopped, stmt_stopped, second_stopped, middle_stopped, third_stopped, for_too_many, for_at_point, for_at_begin}
-use Rattle.lra_graph.proofs.Stopping.{for_at_round}
+use Rattle.lra_graph.proofs.Stopping.{err_ok, err_memory, err_limit, err_stopped, stmt_stopped, second_stopped, middle_stopped, third_stopped, for_too_many, for_at_point, for_at_begin, for_at_round}
 use Rattle.lra_graph.proofs.Handed.{stmt_handed, stmt_limit, loop_limit, for_limit, loop_handed, for_handed, break_handed, continue_handed, any_handed}
 use Rattle.lra_graph.proofs.Falling.{part_falls, block_falls, assign_falls, call_falls, if_falls, loop_falls, for_falls, return_falls, step_falls, body_falls, init_falls, again_falls}
 use Rattle.lra_graph.proofs.Seen.{given_seen, given_limit, given_returned, if_seen, stmt_seen, block_seen, for_seen, round_walked, loop_seen, return_seen}
 use Rattle.lra_graph.proofs.ForLoops.{only_loops}
-use Rattle.lra_graph.proofs.Shown.{shown_value, shown_result, shown_empty, shown_act, shown_leave, shown_absent, shown_nothing, shown_block, shown_assign, shown_call, shown_if}
-use Rattle.lra_graph.proofs.Shown.{shown_loop, shown_for, shown_return, shown_break, shown_continue, shown_assert, shown_assume, shown_items}
-use Rattle.lra_graph.proofs.Writing.{stmt_as, absent_written, block_written, assign_written, call_written, if_written, rounds_written, fresh_written, given_written, value_written}
-use Rattle.lra_graph.proofs.Writing.{return_any_written, end_any_written, for_written, return_written, return_value_written, return_call_written, end_value_written, end_call_written}
-use Rattle.lra_graph.proofs.Standing.{assigned_fits, block_stands, assign_stands, call_stands, true_stands, false_stands, return_stands, result_stands, body_stands, step_stands, init_stands}
-use Rattle.lra_graph.proofs.Standing.{for_again, break_stands, continue_stands, callee_stands}
+use Rattle.lra_graph.proofs.Shown.{shown_value, shown_result, shown_empty, shown_act, shown_leave, shown_absent, shown_nothing, shown_block, shown_assign, shown_call, shown_if, shown_loop, shown_for, shown_return, shown_break, shown_continue, shown_assert, shown_assume, shown_items}
+use Rattle.lra_graph.proofs.Writing.{stmt_as, absent_written, block_written, assign_written, call_written, if_written, rounds_written, fresh_written, given_written, value_written, return_any_written, end_any_written, for_written, return_written, return_value_written, return_call_written, end_value_written, end_call_written}
+use Rattle.lra_graph.proofs.Standing.{assigned_fits, block_stands, assign_stands, call_stands, true_stands, false_stands, return_stands, result_stands, body_stands, step_stands, init_stands, for_again, break_stands, continue_stands, callee_stands}
 use Rattle.lra_graph.proofs.Calling.{one_less, no_call_more, call_at_body, call_at_end, invoked}
 use Rattle.lra_graph.proofs.Programs.{called_below, called_found, called_fits, called_wide, arguments_fit}
 use Rattle.lra_graph.proofs.Items.{items_stand_as, lighter, callee_lighter}
 use Rattle.lra_graph.proofs.Sizes.{size_items}
-use Rattle.lra_graph.proofs.ItemRows.{declared_item, declared_stops, given_stops, given_item_stands, stated_item, stated_stops, stated_item_stands, item_declared, item_stated}
-use Rattle.lra_graph.proofs.ItemRows.{declared_falls, stated_falls, items_begin, item_falls, item_stands, item_stopped, items_step, items_last, items_end}
+use Rattle.lra_graph.proofs.ItemRows.{declared_item, declared_stops, given_stops, given_item_stands, stated_item, stated_stops, stated_item_stands, item_declared, item_stated, declared_falls, stated_falls, items_begin, item_falls, item_stands, item_stopped, items_step, items_last, items_end}
 use Rattle.lra_graph.proofs.inlining.+inline.Goals as goal
 use Rattle.lra_graph.proofs.inlining.+inline.Goals.{inline_return-in-Some+in_ok-left-in-Some, inline_return-in-None+in_ok-left-in-None}
 

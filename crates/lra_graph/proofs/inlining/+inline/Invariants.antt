@@ -1,8 +1,8 @@
 -- Each call makes its path longer; inside a function the parts get smaller.
 use Rattle.std.proofs.Common.{◌+◌, ◌-◌, map, drop}
-use Rattle.lra_tree.specs.Program.{no_more}
-use Rattle.lra_tree.specs.ProgramViews.{stmt_view, item_view, items_of}
-use Rattle.lra_tree.specs.GraphViews.{node_view, site_view}
+use Rattle.lra_program.specs.Program.{no_more}
+use Rattle.lra_program.specs.ProgramViews.{stmt_view, item_view, items_of}
+use Rattle.lra_operations.specs.GraphViews.{node_view, site_view}
 use Rattle.lra_graph.specs.Inlining.{program_around}
 use Rattle.lra_graph.proofs.ItemRows.{ItemsLoop}
 use Rattle.lra_graph.proofs.Sizes.{size_stmt, size_items, weight}

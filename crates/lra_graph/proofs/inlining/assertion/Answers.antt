@@ -1,5 +1,5 @@
 use Rattle.std.proofs.Common.{◌∙◌, ap}
-use Rattle.lra_tree.specs.Graph.{Node, seq, point, check}
+use Rattle.lra_operations.specs.Graph.{Node, seq, point, check}
 use Rattle.lra_graph.proofs.Shown.{shown_check}
 use Rattle.lra_graph.proofs.Writing.{assert_written}
 use Rattle.lra_graph.proofs.inlining.assertion.Goals as goal

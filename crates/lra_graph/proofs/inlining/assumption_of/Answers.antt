@@ -1,6 +1,6 @@
 use Rattle.std.proofs.Common.{◌∙◌, ap, true}
-use Rattle.lra_tree.specs.Step.{test}
-use Rattle.lra_tree.specs.Graph.{Node, seq, point, act}
+use Rattle.lra_program.specs.Step.{test}
+use Rattle.lra_operations.specs.Graph.{Node, seq, point, act}
 use Rattle.lra_graph.proofs.Shown.{shown_act}
 use Rattle.lra_graph.proofs.Writing.{assume_written}
 use Rattle.lra_graph.proofs.inlining.assumption_of.Goals as goal

@@ -1,6 +1,6 @@
 -- The label is the one that the list has there, and so is what it calls.
 use Rattle.std.proofs.Common.{sym, ap}
-use Rattle.lra_tree.specs.Refuse.{called_place}
+use Rattle.lra_tree.specs.Labels.{called_place}
 use Rattle.lra_graph.proofs.LabelPlaces.{place_none, called_some, called_none}
 use Rattle.lra_graph.proofs.refused.called_at.Goals as goal
 

@@ -1,6 +1,6 @@
 -- The label is the one that the list has there.
 use Rattle.std.proofs.Common.{sym, ap}
-use Rattle.lra_tree.specs.Refuse.{label_place}
+use Rattle.lra_tree.specs.Labels.{label_place}
 use Rattle.lra_graph.proofs.LabelPlaces.{place_none, place_some}
 use Rattle.lra_graph.proofs.refused.place_at.Goals as goal
 

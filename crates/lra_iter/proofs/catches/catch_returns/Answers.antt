@@ -1,5 +1,5 @@
 use Rattle.std.proofs.Common.{rules, ◌≡◌, ◌++◌, ◌∷◌, [], ap, ◌∙◌}
-use Rattle.lra_tree.specs.Graph.{returned}
+use Rattle.lra_operations.specs.Graph.{returned}
 use Rattle.lra_flow.specs.Operations.{dropping}
 use Rattle.lra_flow.specs.Pass.{behind}
 use Rattle.lra_iter.specs.Outcome.{seen, AllHave}

@@ -1,4 +1,4 @@
-use Rattle.lra_tree.specs.GraphViews.{exit_view}
+use Rattle.lra_operations.specs.GraphViews.{exit_view}
 use Rattle.lra_iter.specs.Outcome.{seen}
 use Rattle.lra_iter.proofs.PassSteps.{jump_fits, jump_dims}
 use Rattle.lra_iter.proofs.leaves.pass_leave.Goals as goal

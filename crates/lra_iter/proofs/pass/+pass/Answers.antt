@@ -2,17 +2,15 @@ use Rattle.std.proofs.Common.{rules, ◌≡◌, ◌≤◌, ◌-◌, ◌+◌, ◌
 use Rattle.std.specs.List.{insert}
 use Rattle.lra_domain.specs.declared.Included.TheVariants.{Yes}
 use Rattle.lra_domain.specs.Meaning.{Grew}
-use Rattle.lra_tree.specs.ProgramViews.{cond_view}
-use Rattle.lra_tree.specs.GraphViews.{node_view, exit_view, op_view, row}
-use Rattle.lra_tree.specs.Graph as graph
+use Rattle.lra_program.specs.ProgramViews.{cond_view}
+use Rattle.lra_operations.specs.GraphViews.{node_view, exit_view, op_view, row}
+use Rattle.lra_operations.specs.Graph as graph
 use Rattle.lra_flow.specs.Pass.{Result, noted, mode_at}
 use Rattle.lra_iter.specs.declared.outcome.Entry.TheVariants.{Value}
 use Rattle.lra_iter.specs.Fits.{live_behind, TreeFits}
 use Rattle.lra_iter.specs.Outcome.{seen, IsPassed, JumpsFit}
 use Rattle.lra_iter.proofs.PassLoops.{node_size, row_size, grow_starts, grow_stable, grow_next, grow_falls, narrow_starts, narrow_next, narrow_ends}
-use Rattle.lra_iter.proofs.PassSteps.{empty_view, point_view, act_view, check_view, leave_view, seq_shown, seq_sized, choose_shown, choose_sized, iterate_shown, iterate_sized, catch_shown}
-use Rattle.lra_iter.proofs.PassSteps.{catch_sized, none_fits, same_jumps_fit, caught_have, entered, loop_passed, choice_passed, given_pass, given_dims, given_jumps, caught_pass, caught_dims}
-use Rattle.lra_iter.proofs.PassSteps.{caught_jumps}
+use Rattle.lra_iter.proofs.PassSteps.{empty_view, point_view, act_view, check_view, leave_view, seq_shown, seq_sized, choose_shown, choose_sized, iterate_shown, iterate_sized, catch_shown, catch_sized, none_fits, same_jumps_fit, caught_have, entered, loop_passed, choice_passed, given_pass, given_dims, given_jumps, caught_pass, caught_dims, caught_jumps}
 use Rattle.lra_iter.proofs.PassRows.{row_at, tree_small, row_done, row_starts, next_fits, row_next, last_fits, row_ends}
 use Rattle.lra_iter.proofs.pass.+pass.Goals as goal
 

@@ -1,7 +1,7 @@
 use Rattle.std.proofs.Common.{◌+◌, ◌*◌, ◌^◌, map, drop}
 use Rattle.lra_domain.proofs.RankNumbers.{phased}
-use Rattle.lra_tree.specs.ProgramViews.{cond_view}
-use Rattle.lra_tree.specs.GraphViews.{node_view, row}
+use Rattle.lra_program.specs.ProgramViews.{cond_view}
+use Rattle.lra_operations.specs.GraphViews.{node_view, row}
 use Rattle.lra_iter.specs.Outcome.{seen}
 use Rattle.lra_iter.proofs.PassLoops.{node_size, row_size, GrowLoop, NarrowLoop}
 use Rattle.lra_iter.proofs.PassRows.{RowLoop}

@@ -1,5 +1,5 @@
 use Rattle.std.proofs.Common.{◌≡◌, length, map, arith}
-use Rattle.lra_tree.specs.GraphViews.{node_view, site_view}
+use Rattle.lra_operations.specs.GraphViews.{node_view, site_view}
 use Rattle.lra_flow.specs.Operations.{dropping}
 use Rattle.lra_iter.specs.Outcome.{seen}
 use Rattle.lra_iter.proofs.Counting.{pass_counted}

@@ -1,8 +1,8 @@
 use Rattle.std.proofs.Common.{map}
-use Rattle.lra_tree.specs.GraphViews.{site_view}
+use Rattle.lra_operations.specs.GraphViews.{site_view}
 use Rattle.lra_tree.specs.Views.{tree_view}
-use Rattle.lra_tree.specs.Resolve.{resolve}
-use Rattle.lra_tree.specs.Sites.{sites_of}
+use Rattle.lra_meaning.specs.Resolve.{resolve}
+use Rattle.lra_program.specs.Sites.{sites_of}
 use Rattle.lra_report.specs.View.{verdict_of, report_of}
 use Rattle.lra_listing.proofs.Verdicts.{are_told}
 use Rattle.lra_listing.proofs.Reports.{lists_by_parts, verdicts_there}

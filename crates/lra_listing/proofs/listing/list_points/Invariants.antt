@@ -1,8 +1,8 @@
 -- So far the points of the first sites are there, with the first states.
 use Rattle.std.proofs.Common.{◌≡◌, length, map, take, vec_len, Vec, Global}
-use Rattle.lra_tree.specs.GraphViews.{site_view}
-use Rattle.lra_tree.specs.Report.{Part}
-use Rattle.lra_tree.specs.Listing.{AreListed}
+use Rattle.lra_operations.specs.GraphViews.{site_view}
+use Rattle.lra_findings.specs.Report.{Part}
+use Rattle.lra_report.specs.Listing.{AreListed}
 use Rattle.lra_report.specs.View.{point_report_of}
 use Rattle.lra_listing.specs.Given.{state_of}
 use Rattle.lra_listing.proofs.listing.list_points.Given as goal

@@ -1,7 +1,7 @@
 -- So far the first names are there.
 use Rattle.std.proofs.Common.{◌≡◌, ◌++◌, map, take}
 use Rattle.lra_tree.specs.Views.{global_view}
-use Rattle.lra_tree.specs.NameFaults.{global_names}
+use Rattle.lra_meaning.specs.NameFaults.{global_names}
 use Rattle.lra_listing.proofs.listing.push_variables.Given as goal
 
 abbrev pub invariant-globals : goal.invariant-globals

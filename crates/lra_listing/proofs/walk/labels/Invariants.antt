@@ -1,7 +1,7 @@
 -- What is there so far, and then the labels of the parts that are left, are those of all parts.
 use Rattle.std.proofs.Common.{◌≡◌, ◌++◌, ◌<◌, [], length, map, drop}
 use Rattle.lra_tree.specs.Views.{part_view}
-use Rattle.lra_tree.specs.Scope.{functions_in}
+use Rattle.lra_tree.specs.Functions.{functions_in}
 use Rattle.lra_listing.specs.Environments.{list_at}
 use Rattle.lra_listing.specs.Walked.{labels_of_functions}
 use Rattle.lra_listing.proofs.walk.labels.Given as goal

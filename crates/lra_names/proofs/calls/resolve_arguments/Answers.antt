@@ -1,5 +1,5 @@
 use Rattle.std.proofs.Common.{refl, map, ap}
-use Rattle.lra_tree.specs.ProgramViews.{expr_view}
+use Rattle.lra_program.specs.ProgramViews.{expr_view}
 use Rattle.lra_names.specs.Calls.{argument_faults, resolve_argument}
 use Rattle.lra_names.proofs.Telling.{parts_clean}
 use Rattle.lra_names.proofs.Loops.{memory_told, part_told, all_clean, parts_found, all_found}

@@ -1,7 +1,7 @@
 -- The faults of the arguments that are left are those of all; what the first ones mean is there.
 use Rattle.std.proofs.Common.{◌≡◌, map, take, drop}
 use Rattle.std.specs.List.{flat_map}
-use Rattle.lra_tree.specs.ProgramViews.{expr_view}
+use Rattle.lra_program.specs.ProgramViews.{expr_view}
 use Rattle.lra_names.specs.Calls.{argument_faults, resolve_argument}
 use Rattle.lra_names.proofs.calls.resolve_arguments.Given as goal
 

@@ -4,8 +4,8 @@ use Rattle.std.specs.List.{flat_map}
 use Rattle.lra_tree.specs.declared.trees.Conjunction.{out-Conjunction}
 use Rattle.lra_tree.specs.declared.trees.Cond.{out-Cond}
 use Rattle.lra_tree.specs.Views.{conjunction_view, cond_view as tree_cond_view}
-use Rattle.lra_tree.specs.ProgramViews.{cond_view}
-use Rattle.lra_tree.specs.NameFaults.{conjunction_faults, cond_faults}
+use Rattle.lra_program.specs.ProgramViews.{cond_view}
+use Rattle.lra_meaning.specs.NameFaults.{conjunction_faults, cond_faults}
 use Rattle.lra_names.proofs.CondLaws.{faults_of_test, test_means, faults_of_conjunction, conjunction_means}
 use Rattle.lra_names.proofs.conditions.+condition.Given as goal
 

@@ -1,12 +1,12 @@
 use Rattle.std.proofs.Common.{List, ◌+◌, map, drop, sym, ap, ◌∙◌, arith}
 use Rattle.lra_tree.specs.declared.trees.Declarator.{Declarator}
-use Rattle.lra_tree.specs.Program.{BlockItems}
+use Rattle.lra_program.specs.Program.{BlockItems}
 use Rattle.lra_tree.specs.Trees.{DeclaratorTree}
 use Rattle.lra_tree.specs.Views.{declarator_view}
-use Rattle.lra_tree.specs.ProgramViews.{item_view}
-use Rattle.lra_tree.specs.Scope.{Scope, with_declarators}
-use Rattle.lra_tree.specs.NameFaults.{declarators_faults}
-use Rattle.lra_tree.specs.Resolve.{resolve_declarators}
+use Rattle.lra_program.specs.ProgramViews.{item_view}
+use Rattle.lra_meaning.specs.Scope.{Scope, with_declarators}
+use Rattle.lra_meaning.specs.NameFaults.{declarators_faults}
+use Rattle.lra_meaning.specs.Resolve.{resolve_declarators}
 use Rattle.lra_names.specs.Calls.{functions_at}
 use Rattle.lra_names.specs.Statements.{followed}
 use Rattle.lra_names.proofs.Telling.{exit_tells, rest_tells}

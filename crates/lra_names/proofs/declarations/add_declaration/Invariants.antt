@@ -1,11 +1,11 @@
 -- The declarators that are left, in the scope of those before them, are as all of them in the scope of the declaration.
 use Rattle.std.proofs.Common.{◌≡◌, ◌+◌, ◌∷◌, suc, map, drop}
-use Rattle.lra_tree.specs.Program.{BlockItems}
+use Rattle.lra_program.specs.Program.{BlockItems}
 use Rattle.lra_tree.specs.Views.{declarator_view}
-use Rattle.lra_tree.specs.ProgramViews.{item_view}
-use Rattle.lra_tree.specs.Scope.{with_declarators}
-use Rattle.lra_tree.specs.NameFaults.{declarators_faults}
-use Rattle.lra_tree.specs.Resolve.{resolve_declarators}
+use Rattle.lra_program.specs.ProgramViews.{item_view}
+use Rattle.lra_meaning.specs.Scope.{with_declarators}
+use Rattle.lra_meaning.specs.NameFaults.{declarators_faults}
+use Rattle.lra_meaning.specs.Resolve.{resolve_declarators}
 use Rattle.lra_names.specs.Calls.{functions_at}
 use Rattle.lra_names.specs.Statements.{followed}
 use Rattle.lra_names.proofs.declarations.add_declaration.Given as goal

@@ -1,5 +1,5 @@
 use Rattle.std.proofs.Common.{map, ap, arith, refl}
-use Rattle.lra_tree.specs.ProgramViews.{expr_view, operation_view}
+use Rattle.lra_program.specs.ProgramViews.{expr_view, operation_view}
 use Rattle.lra_names.proofs.Telling.{parts_clean}
 use Rattle.lra_names.proofs.Loops.{memory_told, first_told, part_told, made_told, found_so, all_clean, rest_clean, parts_found}
 use Rattle.lra_names.proofs.ChainLaws.{faults_of_factor, factor_means, faults_of_summand, summand_means, code_term_faults, code_expr_faults, term_found, sum_found}

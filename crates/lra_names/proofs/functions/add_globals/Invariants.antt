@@ -1,8 +1,8 @@
 -- The first globals are there; the faults of those that are left are those of all.
 use Rattle.std.proofs.Common.{◌≡◌, ◌∷◌, ◌++◌, map, take, drop}
 use Rattle.lra_tree.specs.Views.{global_view}
-use Rattle.lra_tree.specs.NameFaults.{globals_faults, global_names}
-use Rattle.lra_tree.specs.Resolve.{global_value}
+use Rattle.lra_meaning.specs.NameFaults.{globals_faults, global_names}
+use Rattle.lra_meaning.specs.Resolve.{global_value}
 use Rattle.lra_names.proofs.functions.add_globals.Given as goal
 
 abbrev pub invariant-globals : goal.invariant-globals

@@ -1,7 +1,7 @@
 use Rattle.std.proofs.Common.{List, ◌∷◌}
 use Rattle.lra_tree.specs.Trees.{PartTree}
 use Rattle.lra_tree.specs.Views.{part_view}
-use Rattle.lra_tree.specs.NameFaults.{parts_faults}
+use Rattle.lra_meaning.specs.NameFaults.{parts_faults}
 use Rattle.lra_names.specs.Calls.{functions_at}
 use Rattle.lra_names.proofs.Telling.{exit_tells_all}
 use Rattle.lra_names.proofs.functions.add_part.Goals as goal

@@ -1,7 +1,7 @@
 -- The first parameters are declared; the faults of those that are left are those of all.
 use Rattle.std.proofs.Common.{◌≡◌, [], take, drop}
-use Rattle.lra_tree.specs.Scope.{function_scope}
-use Rattle.lra_tree.specs.NameFaults.{parameters_faults}
+use Rattle.lra_meaning.specs.Scope.{function_scope}
+use Rattle.lra_meaning.specs.NameFaults.{parameters_faults}
 use Rattle.lra_names.proofs.functions.declare_parameters.Given as goal
 
 abbrev pub invariant-parameters : goal.invariant-parameters

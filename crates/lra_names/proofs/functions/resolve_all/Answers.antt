@@ -2,9 +2,9 @@ use Rattle.std.proofs.Common.{List, [], ◌++◌, ◌+◌, map, drop, sym, ap, �
 use Rattle.lra_tree.specs.declared.trees.Item.{Item}
 use Rattle.lra_tree.specs.Trees.{PartTree}
 use Rattle.lra_tree.specs.Views.{part_view}
-use Rattle.lra_tree.specs.ProgramViews.{function_view}
-use Rattle.lra_tree.specs.NameFaults.{parts_faults}
-use Rattle.lra_tree.specs.Resolve.{globals_in, resolve_parts}
+use Rattle.lra_program.specs.ProgramViews.{function_view}
+use Rattle.lra_meaning.specs.NameFaults.{parts_faults}
+use Rattle.lra_meaning.specs.Resolve.{globals_in, resolve_parts}
 use Rattle.lra_names.specs.Calls.{functions_at}
 use Rattle.lra_names.proofs.Telling.{exit_tells, rest_tells}
 use Rattle.lra_names.proofs.Loops.{parts_step, parts_end}

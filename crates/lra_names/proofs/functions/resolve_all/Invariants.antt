@@ -1,9 +1,9 @@
 -- What is resolved so far, and then the parts that are left, are as all parts.
 use Rattle.std.proofs.Common.{◌≡◌, [], ◌++◌, map, drop}
 use Rattle.lra_tree.specs.Views.{part_view}
-use Rattle.lra_tree.specs.ProgramViews.{function_view}
-use Rattle.lra_tree.specs.NameFaults.{parts_faults}
-use Rattle.lra_tree.specs.Resolve.{globals_in, resolve_parts}
+use Rattle.lra_program.specs.ProgramViews.{function_view}
+use Rattle.lra_meaning.specs.NameFaults.{parts_faults}
+use Rattle.lra_meaning.specs.Resolve.{globals_in, resolve_parts}
 use Rattle.lra_names.specs.Calls.{functions_at}
 use Rattle.lra_names.proofs.functions.resolve_all.Given as goal
 

@@ -1,19 +1,17 @@
 use Rattle.std.proofs.Common.{List, ◌∷◌, ◌+◌, map, option_map, drop, refl, ap, sym, ◌∙◌, arith}
 use Rattle.lra_tree.specs.Trees.{ItemsTree}
-use Rattle.lra_tree.specs.declared.program.BlockItem.{BlockItem as ProgramItem}
+use Rattle.lra_program.specs.declared.program.BlockItem.{BlockItem as ProgramItem}
 use Rattle.lra_tree.specs.declared.trees.BlockItem.{BlockItem}
 use Rattle.lra_tree.specs.Views.{items_of, item_view, declarator_view, init_view, cond_view, assign_view, stmt_view}
-use Rattle.lra_tree.specs.ProgramViews.{item_view as program_item_view}
-use Rattle.lra_tree.specs.NameFaults.{Around, items_faults}
-use Rattle.lra_tree.specs.Resolve.{resolve_items, items_count, stmt_count}
+use Rattle.lra_program.specs.ProgramViews.{item_view as program_item_view}
+use Rattle.lra_meaning.specs.NameFaults.{Around, items_faults}
+use Rattle.lra_meaning.specs.Resolve.{resolve_items, items_count, stmt_count}
 use Rattle.lra_names.specs.Calls.{functions_at}
 use Rattle.lra_names.specs.Statements.{around_of, followed}
 use Rattle.lra_names.proofs.Telling.{tells_front, tells_behind, exit_tells, rest_tells}
 use Rattle.lra_names.proofs.Loops.{parts_step, first_told, second_told, both_clean, made_told}
 use Rattle.std.proofs.lemmas.List.{at_drop_all}
-use Rattle.lra_names.proofs.StatementLaws.{extends_self, extends_then, extends_declared, declaration_counted, statement_found, block_items, kept_so, counted_so, one_counted, count_if_else}
-use Rattle.lra_names.proofs.StatementLaws.{count_for, block_is, nothing_is, assign_is, call_is, break_is, continue_is, return_is, assert_is, assume_is, absent_is, choice_found, loop_found}
-use Rattle.lra_names.proofs.StatementLaws.{for_found, if_is, if_else_is, while_is, for_is}
+use Rattle.lra_names.proofs.StatementLaws.{extends_self, extends_then, extends_declared, declaration_counted, statement_found, block_items, kept_so, counted_so, one_counted, count_if_else, count_for, block_is, nothing_is, assign_is, call_is, break_is, continue_is, return_is, assert_is, assume_is, absent_is, choice_found, loop_found, for_found, if_is, if_else_is, while_is, for_is}
 use Rattle.lra_names.proofs.statements.+statement.Goals as goal
 
 pub add_item-returns-in_ok-add_declaration-in-Declaration-clause-extended : goal.add_item-returns-in_ok-add_declaration-in-Declaration-clause-extended

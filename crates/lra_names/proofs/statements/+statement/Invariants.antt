@@ -5,9 +5,9 @@ use Rattle.lra_tree.proofs.trees.Stmt.TheLaws.{the_size}
 use Rattle.lra_tree.proofs.trees.Block.TheLaws.{the_size as block_size}
 use Rattle.lra_tree.proofs.trees.BlockItem.TheLaws.{the_size as item_size}
 use Rattle.lra_tree.specs.Views.{items_of, item_view}
-use Rattle.lra_tree.specs.ProgramViews.{item_view as program_item_view}
-use Rattle.lra_tree.specs.NameFaults.{items_faults}
-use Rattle.lra_tree.specs.Resolve.{resolve_items, items_count}
+use Rattle.lra_program.specs.ProgramViews.{item_view as program_item_view}
+use Rattle.lra_meaning.specs.NameFaults.{items_faults}
+use Rattle.lra_meaning.specs.Resolve.{resolve_items, items_count}
 use Rattle.lra_names.specs.Calls.{functions_at}
 use Rattle.lra_names.specs.Scopes.{Extends}
 use Rattle.lra_names.specs.Statements.{around_of, followed}

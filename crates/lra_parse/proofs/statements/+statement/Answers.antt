@@ -1,6 +1,6 @@
 use Rattle.std.proofs.Common.{List, Bor, subst, Ok, sym, ap, ◌∙◌, arith}
 use Rattle.std.proofs.lemmas.Result.{err_from_is_err_and}
-use Rattle.lra_tree.specs.declared.refusals.Place.{Place}
+use Rattle.lra_base.specs.declared.refusals.Place.{Place}
 use Rattle.lra_tree.specs.Trees.{StmtTree, ItemsTree}
 use Rattle.lra_tree.specs.Views.{block_view, stmt_view}
 use Rattle.lra_tree.specs.declared.tokens.Token.{Token}

@@ -1,5 +1,5 @@
 use Rattle.std.proofs.Common.{Ok, sym, ap, map, ◌∙◌}
-use Rattle.lra_tree.specs.declared.refusals.Place.{Place}
+use Rattle.lra_base.specs.declared.refusals.Place.{Place}
 use Rattle.lra_tree.specs.Trees.{ItemsTree}
 use Rattle.lra_tree.specs.Views.{item_view, items_of}
 use Rattle.lra_parse.proofs.Stated.{close_gives, body_view}

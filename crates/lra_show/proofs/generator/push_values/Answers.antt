@@ -1,6 +1,6 @@
 use Rattle.std.proofs.Common.{arith, string_bytes, nat_abs, ap, ◌∙◌, ◌++◌, codes}
 use Rattle.lra_linear.specs.Vectors.{entry}
-use Rattle.lra_tree.specs.ReportText.{value_text}
+use Rattle.lra_findings.specs.ReportText.{value_text}
 use Rattle.lra_show.specs.Shown.{report_generator_kind}
 use Rattle.lra_show.proofs.Values.{value_step, values_end}
 use Rattle.lra_show.proofs.generator.push_values.Goals as goal

@@ -1,6 +1,6 @@
 use Rattle.std.proofs.Common.{◌≡◌, ◌+◌, ◌++◌, drop, map, nat_abs, string_bytes}
 use Rattle.lra_linear.specs.Vectors.{entry}
-use Rattle.lra_tree.specs.ReportText.{value_text, values_text}
+use Rattle.lra_findings.specs.ReportText.{value_text, values_text}
 use Rattle.lra_show.specs.Shown.{report_generator_kind}
 use Rattle.lra_show.proofs.generator.push_values.Given as goal
 

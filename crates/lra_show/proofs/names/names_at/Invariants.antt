@@ -1,5 +1,5 @@
 use Rattle.std.proofs.Common.{◌≡◌, ◌++◌, drop, map, string_bytes}
-use Rattle.lra_tree.specs.ReportText.{shown_names}
+use Rattle.lra_findings.specs.ReportText.{shown_names}
 use Rattle.lra_show.proofs.names.names_at.Given as goal
 
 abbrev pub invariant-loop-index : goal.invariant-loop-index

@@ -1,5 +1,5 @@
 use Rattle.std.proofs.Common.{◌≡◌, ◌∙◌}
-use Rattle.lra_tree.specs.ReportText.{shown_name}
+use Rattle.lra_findings.specs.ReportText.{shown_name}
 use Rattle.lra_show.proofs.NamesShown.{hidden_name}
 use Rattle.lra_show.proofs.names.push_shown.Goals as goal
 

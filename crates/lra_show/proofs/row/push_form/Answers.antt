@@ -1,6 +1,6 @@
 use Rattle.std.proofs.Common.{refl, ◌+◌, arith, string_bytes, ap, ◌∙◌, ◌++◌, ◌∷◌, []}
 use Rattle.lra_linear.specs.Vectors.{entry}
-use Rattle.lra_tree.specs.ReportText.{turned}
+use Rattle.lra_findings.specs.ReportText.{turned}
 use Rattle.lra_show.specs.Shown.{rest_text}
 use Rattle.lra_show.proofs.Terms.{term_step, terms_end}
 use Rattle.lra_show.proofs.row.push_form.Goals as goal

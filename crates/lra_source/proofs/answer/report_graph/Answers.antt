@@ -1,10 +1,10 @@
 use Rattle.std.proofs.Common.{◌≡◌, ℕ, List, Bool, map, length, sym, ap, ◌∙◌, subst, arith}
 use Rattle.std.proofs.lemmas.List.{length-map}
 use Rattle.lra_tree.specs.Views.{tree_view}
-use Rattle.lra_tree.specs.GraphViews.{node_view, site_view}
-use Rattle.lra_tree.specs.Resolve.{resolve}
-use Rattle.lra_tree.specs.Sites.{sites_of}
-use Rattle.lra_tree.specs.Report.{box}
+use Rattle.lra_operations.specs.GraphViews.{node_view, site_view}
+use Rattle.lra_meaning.specs.Resolve.{resolve}
+use Rattle.lra_program.specs.Sites.{sites_of}
+use Rattle.lra_findings.specs.Report.{box}
 use Rattle.lra_box.specs.Meaning.{box_meaning}
 use Rattle.lra_box.specs.Laws.{box_laws}
 use Rattle.lra_report.specs.View.{options_of, report_of}

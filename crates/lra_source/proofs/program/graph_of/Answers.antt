@@ -1,10 +1,10 @@
 use Rattle.std.proofs.Common.{◌≡◌, List, map, Some, ◌∙◌}
 use Rattle.lra_tree.specs.Labels.{Labelled}
 use Rattle.lra_tree.specs.Views.{tree_view}
-use Rattle.lra_tree.specs.ProgramViews.{program_view}
-use Rattle.lra_tree.specs.GraphViews.{node_view, site_view}
-use Rattle.lra_tree.specs.Sites.{events_of}
-use Rattle.lra_tree.specs.Refuse.{limit_fault}
+use Rattle.lra_program.specs.ProgramViews.{program_view}
+use Rattle.lra_operations.specs.GraphViews.{node_view, site_view}
+use Rattle.lra_program.specs.Sites.{events_of}
+use Rattle.lra_meaning.specs.Refuse.{limit_fault}
 use Rattle.lra_graph.specs.Limits.{refusal_of}
 use Rattle.lra_source.proofs.StageSteps.{has_graph, limit_passed, limit_refused}
 use Rattle.lra_source.proofs.program.graph_of.Goals as goal

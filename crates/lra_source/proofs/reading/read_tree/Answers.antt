@@ -1,11 +1,11 @@
 use Rattle.std.proofs.Common.{◌≤◌, List, length, arith, refl, sym, subst}
 use Rattle.lra_tree.specs.declared.tokens.Token.{Token}
-use Rattle.lra_tree.specs.declared.refusals.Cause.TheVariants.{TooLong}
-use Rattle.lra_tree.specs.declared.refusals.Place.{Place}
+use Rattle.lra_base.specs.declared.refusals.Cause.TheVariants.{TooLong}
+use Rattle.lra_base.specs.declared.refusals.Place.{Place}
 use Rattle.lra_tree.specs.Views.{tree_view}
 use Rattle.lra_tree.specs.Faults.{IsTree, IsTextFault}
 use Rattle.lra_tree.specs.Grammar.{Spells}
-use Rattle.lra_tree.specs.Refuse.{Refuse}
+use Rattle.lra_meaning.specs.Refuse.{Refuse}
 use Rattle.lra_parse.specs.Files.{EndsOnce, AreSmall}
 use Rattle.lra_parse.proofs.Ended.{lexed_end, lexed_small}
 use Rattle.lra_source.proofs.ReadSteps.{taken, long_refused, text_refused, has_tree, fault_of}

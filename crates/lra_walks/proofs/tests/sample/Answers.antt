@@ -1,9 +1,9 @@
 use Rattle.std.proofs.Common.{◌≡◌, ◌∙◌, ap, map, Some}
-use Rattle.lra_tree.specs.Step.{append, give}
-use Rattle.lra_tree.specs.Graph.{Node, point, act, check, seq, choose}
-use Rattle.lra_tree.specs.declared.program.Expr.TheVariants.{Input}
-use Rattle.lra_tree.specs.ProgramViews.{cond_view, expr_view}
-use Rattle.lra_tree.specs.GraphViews.{node_view, site_view}
+use Rattle.lra_program.specs.Step.{append, give}
+use Rattle.lra_operations.specs.Graph.{Node, point, act, check, seq, choose}
+use Rattle.lra_program.specs.declared.program.Expr.TheVariants.{Input}
+use Rattle.lra_program.specs.ProgramViews.{cond_view, expr_view}
+use Rattle.lra_operations.specs.GraphViews.{node_view, site_view}
 use Rattle.lra_walks.proofs.SampleTree.{sample_numbered, asserts_seen}
 use Rattle.lra_walks.proofs.tests.sample.Goals as goal
 

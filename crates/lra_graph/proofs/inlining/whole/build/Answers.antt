@@ -1,12 +1,12 @@
 -- The items of `main` and the point of its end are the whole program's.
 use Rattle.std.proofs.Common.{◌≡◌, List, [], ◌∷◌, map, Some, None, refl, sym, ap, ◌∙◌, arith}
 use Rattle.std.proofs.lemmas.Result.{err_from_is_err_and}
-use Rattle.lra_tree.specs.Graph.{seq}
+use Rattle.lra_operations.specs.Graph.{seq}
 use Rattle.lra_tree.specs.Labels.{Labelled}
-use Rattle.lra_tree.specs.Refuse.{limit_fault}
-use Rattle.lra_tree.specs.Sites.{plain_site, items_events, call_events, events_of}
-use Rattle.lra_tree.specs.ProgramViews.{item_view, items_of, program_view}
-use Rattle.lra_tree.specs.GraphViews.{node_view, site_view}
+use Rattle.lra_meaning.specs.Refuse.{limit_fault}
+use Rattle.lra_program.specs.Sites.{plain_site, items_events, call_events, events_of}
+use Rattle.lra_program.specs.ProgramViews.{item_view, items_of, program_view}
+use Rattle.lra_operations.specs.GraphViews.{node_view, site_view}
 use Rattle.lra_graph.specs.Limits.{walk, stopped, refusal_of}
 use Rattle.lra_graph.proofs.Agreement.{graphs_agree}
 use Rattle.lra_graph.proofs.DistinctSites.{distinct_sites}

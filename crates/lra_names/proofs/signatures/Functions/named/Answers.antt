@@ -2,8 +2,8 @@ use Rattle.std.proofs.Common.{List, ap, ◌∙◌}
 use Rattle.std.specs.Prelude.{option_map}
 use Rattle.indexmap.specs.IndexMap.{get_by_text}
 use Rattle.lra_tree.specs.declared.trees.Item.{Item}
-use Rattle.lra_tree.specs.Scope.{function_named}
-use Rattle.lra_tree.specs.Resolve.{function_place}
+use Rattle.lra_tree.specs.Functions.{function_named}
+use Rattle.lra_meaning.specs.Resolve.{function_place}
 use Rattle.lra_names.specs.Calls.{functions_at}
 use Rattle.lra_names.specs.Signatures.{signature_at}
 use Rattle.lra_names.proofs.SignatureLaws.{first_is}

@@ -1,10 +1,10 @@
 -- Its `main` calls the other function, which is there.
 use Rattle.std.proofs.Common.{rules, ◌≡◌, [], ◌∷◌, refl}
-use Rattle.lra_tree.specs.declared.program.Call.{Call}
-use Rattle.lra_tree.specs.declared.program.Stmt as code
-use Rattle.lra_tree.specs.declared.program.BlockItem as code_item
-use Rattle.lra_tree.specs.declared.program.Function.{Function}
-use Rattle.lra_tree.specs.declared.program.Program.{Program}
+use Rattle.lra_program.specs.declared.program.Call.{Call}
+use Rattle.lra_program.specs.declared.program.Stmt as code
+use Rattle.lra_program.specs.declared.program.BlockItem as code_item
+use Rattle.lra_program.specs.declared.program.Function.{Function}
+use Rattle.lra_program.specs.declared.program.Program.{Program}
 use Rattle.lra_graph.proofs.CallingExample.{calling_well}
 use Rattle.lra_graph.proofs.inlining.whole.tests.calling.Goals as goal
 

@@ -1,6 +1,6 @@
 -- The items of `main` stand, however many calls are left.
 use Rattle.std.proofs.Common.{None, refl, sym, ap, ◌∙◌, map, arith}
-use Rattle.lra_tree.specs.ProgramViews.{item_view, items_of, program_view}
+use Rattle.lra_program.specs.ProgramViews.{item_view, items_of, program_view}
 use Rattle.lra_graph.proofs.Items.{items_stand_as}
 use Rattle.lra_graph.proofs.Programs.{main_below, main_read, main_body}
 use Rattle.lra_graph.proofs.Standing.{main_stands}

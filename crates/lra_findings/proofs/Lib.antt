@@ -1,0 +1,4 @@
+-- Worked examples.
+pub mod ReportTextExamples
+mod RefusalTextExamples
+pub mod PartExamples

@@ -1,0 +1,189 @@
+-- Texts of reports, whole and in parts. Which slip an example would catch stands beside it.
+use Rattle.std.proofs.Common.{◌≡◌, ℕ, ℤ, pos, negsuc, List, [], ◌∷◌, Some, None, Bool, true, false, refl}
+use Rattle.std.specs.Prelude.{codes}
+use Rattle.std.specs.List.{flat_map}
+use Rattle.std.specs.Fmt.{digits}
+use Rattle.lra_findings.specs.Report.{Place, Domain, box, poly, Options, point, ray, line, Generator, Part, PointReport, Verdict, Report}
+use Rattle.lra_program.specs.Rows.{equality, inequality, Row}
+use Rattle.lra_findings.specs.ReportText.{text_line, row_text, generator_text, state_text, flag_text, report_text, shown_names, path_text}
+use Rattle.lra_findings.specs.ReportJson.{report_json}
+
+abbrev at : ℕ → ℕ → Place
+at l c = record { line = l; column = c }
+
+abbrev pub defaults : Domain → Options
+defaults d = record { domain = d; parts = 1; delay = 1; narrow = 1; limited = false }
+
+-- constant + coefficients is 0, is at least 0
+abbrev pub is_zero : ℤ → List ℤ → Row
+is_zero c cs = record { kind = equality; constant = c; coefficients = cs }
+
+abbrev pub is_positive : ℤ → List ℤ → Row
+is_positive c cs = record { kind = inequality; constant = c; coefficients = cs }
+
+abbrev pub a_point : ℕ → List ℤ → Generator
+a_point d zs = record { kind = point; divisor = d; numbers = zs }
+
+abbrev pub a_ray : List ℤ → Generator
+a_ray zs = record { kind = ray; divisor = 0; numbers = zs }
+
+abbrev pub a_line : List ℤ → Generator
+a_line zs = record { kind = line; divisor = 0; numbers = zs }
+
+abbrev pub rows_alone : List Row → Part
+rows_alone rows = record { rows = rows; generators = [] }
+
+abbrev pub both : List Row → List Generator → Part
+both rows generators = record { rows = rows; generators = generators }
+
+abbrev in_main : ℕ → Place → List (List ℕ) → List Part → PointReport
+in_main number place names state = record { number = number; point = record { path = []; label = number }; path = codes "main"; place = place; names = names; state = state }
+
+abbrev verdict : ℕ → Place → Bool → Verdict
+verdict number place proved = record { number = number; point = record { path = []; label = number }; path = codes "main"; place = place; proved = proved }
+
+abbrev lines : List (List ℕ) → List ℕ
+lines = flat_map text_line
+
+-- int main(void){ long x; x = 3; assert(x >= 3); }
+abbrev pub one_variable : Report
+one_variable = record {
+  options = defaults box;
+  flagged = None;
+  points = in_main 1 (at 1 22) [] (rows_alone [] ∷ [])
+      ∷ in_main 2 (at 1 25) (codes "x" ∷ []) (rows_alone [] ∷ [])
+      ∷ in_main 3 (at 1 32) (codes "x" ∷ []) (rows_alone (is_zero (negsuc 2) (pos 1 ∷ []) ∷ []) ∷ [])
+      ∷ in_main 4 (at 1 48) (codes "x" ∷ []) (rows_alone (is_zero (negsuc 2) (pos 1 ∷ []) ∷ []) ∷ []) ∷ [];
+  verdicts = verdict 3 (at 1 32) true ∷ [];
+}
+
+-- catches a constant that keeps its sign, `x = -3`, and a factor 1 that is written
+one_variable_text : report_text one_variable ≡ lines (
+    codes "analysis box parts 1 delay 1 narrow 1 limited no"
+    ∷ codes "flagged 0"
+    ∷ codes "point 1 main 1:22"
+    ∷ codes "  row true"
+    ∷ codes "point 2 main 1:25"
+    ∷ codes "  row true"
+    ∷ codes "point 3 main 1:32"
+    ∷ codes "  row x = 3"
+    ∷ codes "point 4 main 1:48"
+    ∷ codes "  row x = 3"
+    ∷ codes "assert 3 main 1:32 proved"
+    ∷ codes "verdicts proved 1 unknown 0"
+    ∷ [])
+unfolding digits
+one_variable_text = refl
+
+-- int main(void){ long x; x = 2; assert(x >= 3); } : the end isn't reached
+unknown_text : report_text (record one_variable {
+  points = in_main 4 (at 1 48) (codes "x" ∷ []) [] ∷ [];
+  verdicts = verdict 3 (at 1 32) false ∷ [];
+}) ≡ lines (
+    codes "analysis box parts 1 delay 1 narrow 1 limited no"
+    ∷ codes "flagged 0"
+    ∷ codes "point 4 main 1:48"
+    ∷ codes "  unreachable"
+    ∷ codes "assert 3 main 1:32 unknown"
+    ∷ codes "verdicts proved 0 unknown 1"
+    ∷ [])
+unfolding digits
+unknown_text = refl
+
+-- int main(void){}
+abbrev pub empty_main : Report
+empty_main = record { options = defaults poly; flagged = None; points = in_main 1 (at 1 16) [] (both [] (a_point 1 [] ∷ []) ∷ []) ∷ []; verdicts = [] }
+
+empty_main_text : report_text empty_main ≡ lines (
+    codes "analysis poly parts 1 delay 1 narrow 1 limited no"
+    ∷ codes "flagged 0"
+    ∷ codes "point 1 main 1:16"
+    ∷ codes "  row true"
+    ∷ codes "  gen point"
+    ∷ codes "verdicts proved 0 unknown 0"
+    ∷ [])
+unfolding digits
+empty_main_text = refl
+
+-- keys in byte order, and no blank
+empty_main_json : report_json empty_main
+    ≡ text_line (codes "{\"analysis\":{\"delay\":1,\"domain\":\"poly\",\"limited\":false,\"narrow\":1,\"parts\":1},\"asserts\":[],\"flagged\":0,\"points\":[{\"number\":1,\"parts\":[{\"generators\":[\"point\"],\"rows\":[]}],\"path\":\"main\",\"place\":\"1:16\"}],\"proved\":0,\"unknown\":0}")
+unfolding digits
+empty_main_json = refl
+
+-- two variables: the sign of the first term decides the direction, further terms keep their own sign
+i_and_j : state_text (codes "i" ∷ codes "j" ∷ []) (both (is_positive (negsuc 1) (pos 1 ∷ negsuc 1 ∷ []) ∷ is_positive (pos 0) (pos 0 ∷ pos 1 ∷ []) ∷ [])
+    (a_point 1 (pos 2 ∷ pos 0 ∷ []) ∷ a_ray (pos 1 ∷ pos 0 ∷ []) ∷ a_ray (pos 2 ∷ pos 1 ∷ []) ∷ []) ∷ []) ≡ lines (
+    codes "  row i - 2*j >= 2"
+    ∷ codes "  row j >= 0"
+    ∷ codes "  gen point i=2 j=0"
+    ∷ codes "  gen ray i=1 j=0"
+    ∷ codes "  gen ray i=2 j=1"
+    ∷ [])
+unfolding digits
+i_and_j = refl
+
+-- catches an upper bound that is written as `-1*i >= -10`
+upper_bound : row_text (codes "i" ∷ []) (is_positive (pos 10) (negsuc 0 ∷ [])) ≡ codes "i <= 10"
+unfolding digits
+upper_bound = refl
+
+half : (row_text (codes "x" ∷ []) (is_zero (negsuc 0) (pos 2 ∷ [])) ≡ codes "2*x = 1") × (generator_text (codes "x" ∷ []) (a_point 2 (pos 1 ∷ [])) ≡ codes "point x=1/2")
+unfolding digits
+half = (refl, refl)
+
+-- catches coordinates that aren't in lowest terms: a point (1, 3/2) has the common divisor 2
+lowest_terms : generator_text (codes "x" ∷ codes "y" ∷ []) (a_point 2 (negsuc 1 ∷ pos 3 ∷ [])) ≡ codes "point x=-1 y=3/2"
+unfolding digits
+lowest_terms = refl
+
+-- two parts
+two_parts : state_text (codes "x" ∷ codes "y" ∷ [])
+    (both (is_positive (negsuc 0) (negsuc 0 ∷ pos 1 ∷ []) ∷ []) (a_point 1 (pos 0 ∷ pos 1 ∷ []) ∷ a_ray (pos 0 ∷ pos 1 ∷ []) ∷ a_line (pos 1 ∷ pos 1 ∷ []) ∷ [])
+    ∷ both (is_positive (negsuc 0) (pos 1 ∷ negsuc 0 ∷ []) ∷ []) (a_point 1 (pos 0 ∷ negsuc 0 ∷ []) ∷ a_ray (pos 0 ∷ negsuc 0 ∷ []) ∷ a_line (pos 1 ∷ pos 1 ∷ []) ∷ []) ∷ []) ≡ lines (
+    codes "  row x - y <= -1"
+    ∷ codes "  gen point x=0 y=1"
+    ∷ codes "  gen ray x=0 y=1"
+    ∷ codes "  gen line x=1 y=1"
+    ∷ codes "  or"
+    ∷ codes "  row x - y >= 1"
+    ∷ codes "  gen point x=0 y=-1"
+    ∷ codes "  gen ray x=0 y=-1"
+    ∷ codes "  gen line x=1 y=1"
+    ∷ [])
+unfolding digits
+two_parts = refl
+
+-- 2^126
+large_number : row_text (codes "x" ∷ []) (is_zero (negsuc 85070591730234615865843651857942052863) (pos 1 ∷ [])) ≡ codes "x = 85070591730234615865843651857942052864"
+unfolding digits
+large_number = refl
+
+flagged : flag_text (Some 128) ≡ text_line (codes "flagged at point 128")
+unfolding digits
+flagged = refl
+
+-- main's x is older than inc's: catches a mark on the newer one
+hidden_name : shown_names (codes "x" ∷ codes "x" ∷ []) ≡ codes "x~1" ∷ codes "x" ∷ []
+unfolding digits
+hidden_name = refl
+
+hidden_twice : shown_names (codes "x" ∷ codes "y" ∷ codes "x" ∷ codes "x" ∷ []) ≡ codes "x~2" ∷ codes "y" ∷ codes "x~1" ∷ codes "x" ∷ []
+unfolding digits
+hidden_twice = refl
+
+-- main's x = 2 and inc's x = 2 at the start of the second call
+hidden_row : state_text (shown_names (codes "x" ∷ codes "x" ∷ [])) (rows_alone (is_zero (negsuc 1) (pos 1 ∷ pos 0 ∷ []) ∷ is_zero (negsuc 1) (pos 0 ∷ pos 1 ∷ []) ∷ []) ∷ []) ≡ lines (
+    codes "  row x~1 = 2"
+    ∷ codes "  row x = 2"
+    ∷ [])
+unfolding digits
+hidden_row = refl
+
+call_path : path_text (record { name = codes "inc"; place = at 1 61 } ∷ []) ≡ codes "main/inc@1:61"
+unfolding digits
+call_path = refl
+
+longer_call_path : path_text (record { name = codes "f"; place = at 3 5 } ∷ record { name = codes "g"; place = at 1 20 } ∷ []) ≡ codes "main/f@3:5/g@1:20"
+unfolding digits
+longer_call_path = refl

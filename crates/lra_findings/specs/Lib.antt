@@ -1,0 +1,6 @@
+-- In the order in which they are to be read.
+pub mod Report
+pub mod Parts
+pub mod ReportText
+pub mod ReportJson
+pub mod RefusalText

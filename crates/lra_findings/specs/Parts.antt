@@ -1,0 +1,68 @@
+-- What a part tells by its rows, and what by its generators: two sets of points with rational coordinates (Minkowski
+-- 1896, Weyl 1935).
+-- A report has the generators only over polyhedra, and there both tell the same points.
+use Rattle.std.specs.Prelude.{◌≡◌, ◌↔◌, ℕ, ◌<◌, ℤ, pos, ◌+ℤ◌, ◌*ℤ◌, ◌≤ℤ◌, List, [], ◌∷◌, length, map, get_or, ⊤}
+use Rattle.std.specs.List.{AllByRecursion}
+use Rattle.lra_findings.specs.Report.{Domain, poly, box, oct, GeneratorKind, point, ray, line, Generator, Part}
+use Rattle.lra_program.specs.Rows.{Row, IsOfKind, dot}
+
+-- its coordinates are the numerators over the divisor; a store is such a point with the divisor 1
+pub record RationalPoint : Type 0 where
+  pub divisor : ℕ
+  pub numerators : List ℤ
+
+-- so many coordinates
+pub record IsPoint (n : ℕ) (x : RationalPoint) : Type 0 where
+  pub width : length x.numerators ≡ n
+  pub divides : 0 < x.divisor
+
+abbrev pub RowHoldsAt : Row → RationalPoint → Type 0
+RowHoldsAt r x = IsOfKind r.kind ((r.constant *ℤ pos x.divisor) +ℤ dot r.coefficients x.numerators)
+
+-- all rows hold
+abbrev pub IsWithin : List Row → RationalPoint → Type 0
+IsWithin rows x = AllByRecursion (λ r. RowHoldsAt r x) rows
+
+-- a line is taken with a factor of either sign
+abbrev pub IsFactor : GeneratorKind → ℤ → Type 0
+IsFactor point z = pos 0 ≤ℤ z
+IsFactor ray z = pos 0 ≤ℤ z
+IsFactor line z = ⊤
+
+-- one factor for each generator
+abbrev pub AreFactors : List Generator → List ℤ → Type 0
+AreFactors [] [] = ⊤
+AreFactors [] (z ∷ zs) = ⊥
+AreFactors (g ∷ gs) [] = ⊥
+AreFactors (g ∷ gs) (z ∷ zs) = IsFactor g.kind z × AreFactors gs zs
+
+-- some positive multiple of the point's divisor and numerators is a sum of the generators with whole factors
+pub record IsGenerated (gs : List Generator) (x : RationalPoint) : Type 0 where
+  pub multiple : ℕ
+  pub positive : 0 < multiple
+  pub factors : List ℤ
+  pub are_factors : AreFactors gs factors
+  pub divisor : pos multiple *ℤ pos x.divisor ≡ dot factors (map (λ (g : Generator). pos g.divisor) gs)
+  pub numerators : (j : ℕ) → pos multiple *ℤ get_or x.numerators j (pos 0) ≡
+      dot factors (map (λ (g : Generator). get_or g.numbers j (pos 0)) gs)
+
+-- rows and generators tell the same points of n coordinates
+abbrev pub HasSamePoints : ℕ → Part → Type 0
+HasSamePoints n part = (x : RationalPoint) → IsPoint n x → (IsWithin part.rows x ↔ IsGenerated part.generators x)
+
+abbrev pub HasPoint : ℕ → Part → Type 0
+HasPoint n part = (x : RationalPoint) × IsPoint n x × IsWithin part.rows x
+
+-- points divide; rays and lines don't
+abbrev pub DividesAs : GeneratorKind → ℕ → Type 0
+DividesAs point d = 0 < d
+DividesAs ray d = d ≡ 0
+DividesAs line d = d ≡ 0
+
+-- A part over n variables as the domain has it. Without generators over boxes and octagons the text, which writes those
+-- that are there, agrees with the JSON, which goes by the domain.
+abbrev pub Tells : Domain → ℕ → Part → Type 0
+Tells poly n part = AllByRecursion (λ (g : Generator). DividesAs g.kind g.divisor) part.generators ×
+    HasSamePoints n part × HasPoint n part
+Tells box n part = part.generators ≡ []
+Tells oct n part = part.generators ≡ []

@@ -1,0 +1,84 @@
+-- A report: what it has, and what it claims of a program.
+-- a line and a byte in it, both from 1
+use Rattle.std.specs.Prelude.{◌⊎◌, ℕ, ℤ, List, [], ◌∷◌, Bool, Option, IsTrue}
+use Rattle.std.specs.List.{AllByRecursion}
+pub use Rattle.lra_base.specs.declared.refusals.Place.{Place}
+use Rattle.lra_program.specs.Program.{Program}
+use Rattle.lra_program.specs.Run.{Point, At, Fails}
+use Rattle.lra_program.specs.Rows.{Row, RowHolds}
+
+-- which domain the analysis ran over: closed polyhedra, boxes, octagons
+pub data Domain : Type 0 where
+  poly : Domain
+  box : Domain
+  oct : Domain
+
+pub record Options : Type 0 where
+  pub domain : Domain
+  pub parts : ℕ
+  pub delay : ℕ
+  pub narrow : ℕ
+  pub limited : Bool
+
+-- a point divides its numbers by `divisor`; a ray and a line have the divisor 0
+pub data GeneratorKind : Type 0 where
+  point : GeneratorKind
+  ray : GeneratorKind
+  line : GeneratorKind
+
+pub record Generator : Type 0 where
+  pub kind : GeneratorKind
+  pub divisor : ℕ
+  pub numbers : List ℤ
+
+-- a conjunction of rows; over polyhedra also its generators, else none
+pub record Part : Type 0 where
+  pub rows : List Row
+  pub generators : List Generator
+
+-- what is known at a point: one of the parts holds; no part says that no run comes here
+abbrev pub State : Type 0
+State = List Part
+
+-- a point with its number, its path and place as they are printed, the names of its variables, and its state
+pub record PointReport : Type 0 where
+  pub number : ℕ
+  pub point : Point
+  pub path : List ℕ
+  pub place : Place
+  pub names : List (List ℕ)
+  pub state : State
+
+-- an assertion's point, and whether no run fails it
+pub record Verdict : Type 0 where
+  pub number : ℕ
+  pub point : Point
+  pub path : List ℕ
+  pub place : Place
+  pub proved : Bool
+
+-- `flagged` is the number of the point to which the first flagged operation belongs
+pub record Report : Type 0 where
+  pub options : Options
+  pub flagged : Option ℕ
+  pub points : List PointReport
+  pub verdicts : List Verdict
+
+-- what it claims -------------------------------------------------------------
+
+-- all rows of some part hold
+abbrev pub Holds : State → List ℤ → Type 0
+Holds [] store = ⊥
+Holds (part ∷ parts) store = AllByRecursion (λ r. RowHolds r store) part.rows ⊎ Holds parts store
+
+-- the state holds whenever a run is at the point; a state without parts then says that no run comes there
+abbrev pub IsInvariant : Program → PointReport → Type 0
+IsInvariant P p = (store : List ℤ) → At P p.point store → Holds p.state store
+
+-- an assertion that is marked proved fails in no run
+abbrev pub IsRight : Program → Verdict → Type 0
+IsRight P v = IsTrue v.proved → Fails P v.point → ⊥
+
+pub record IsSound (P : Program) (r : Report) : Type 0 where
+  pub invariants : AllByRecursion (IsInvariant P) r.points
+  pub verdicts : AllByRecursion (IsRight P) r.verdicts

@@ -1,0 +1,126 @@
+-- Linear forms of expressions (Cousot and Halbwachs 1978): a constant and a coefficient for each live variable, all of
+-- 64 bits.
+use Rattle.std.specs.Prelude.{◌≡◌, ℕ, ℤ, pos, ◌+ℤ◌, ◌-ℤ◌, ◌*ℤ◌, Bool, ◌&&◌, if◌then◌else◌, List, [], ◌∷◌, map, replicate, slice_set, Option, Some, None, negsuc, length, IsTrue, ◌↔◌, ◌⊎◌}
+use Rattle.std.specs.List.{list_all}
+use Rattle.lra_base.specs.Operators.{Operator, plus, minus, times, over, modulo, Comparison, below, at_most, above, at_least, equal, differs}
+use Rattle.lra_program.specs.Program.{Expr, literal, read, input, negate, binary, compare}
+use Rattle.lra_program.specs.Value.{◌>>=◌, is_word, is_zero, index_of, value_of, truth_of}
+use Rattle.lra_program.specs.Rows.{RowKind, equality, inequality, IsOfKind, dot}
+
+pub record Form : Type 0 where
+  pub constant : ℤ
+  pub coefficients : List ℤ
+
+-- the form's value at a store
+abbrev pub form_value : Form → List ℤ → ℤ
+form_value f store = f.constant +ℤ dot f.coefficients store
+
+-- the form, where the constant and all coefficients have 64 bits
+abbrev pub fitting : Form → Option Form
+fitting f = if is_word f.constant && list_all is_word f.coefficients then Some f else None
+
+abbrev pub entrywise : (ℤ → ℤ → ℤ) → List ℤ → List ℤ → List ℤ
+entrywise op [] ys = []
+entrywise op (x ∷ xs) [] = []
+entrywise op (x ∷ xs) (y ∷ ys) = op x y ∷ entrywise op xs ys
+
+abbrev pub combined : (ℤ → ℤ → ℤ) → Form → Form → Option Form
+combined op f g = fitting (record {
+  constant = op f.constant g.constant;
+  coefficients = entrywise op f.coefficients g.coefficients;
+})
+
+abbrev pub scaled : ℤ → Form → Option Form
+scaled k f = fitting (record { constant = k *ℤ f.constant; coefficients = map (λ c. k *ℤ c) f.coefficients })
+
+-- no variable occurs
+abbrev pub is_constant : Form → Bool
+is_constant f = list_all is_zero f.coefficients
+
+-- one side is constant
+abbrev pub product_form : Form → Form → Option Form
+product_form f g = if is_constant f then scaled f.constant g else (if is_constant g then scaled g.constant f else None)
+
+-- `/` and `%` have no form
+abbrev pub operator_form : Operator → Form → Form → Option Form
+operator_form plus f g = combined (λ x y. x +ℤ y) f g
+operator_form minus f g = combined (λ x y. x -ℤ y) f g
+operator_form times f g = product_form f g
+operator_form over f g = None
+operator_form modulo f g = None
+
+abbrev pub constant_form : ℕ → ℤ → Form
+constant_form live k = record { constant = k; coefficients = replicate live (pos 0) }
+
+-- one variable alone
+abbrev pub variable_form : ℕ → ℕ → Form
+variable_form live place = record { constant = pos 0; coefficients = slice_set (replicate live (pos 0)) place (pos 1) }
+
+-- with so many live variables, of which the call's own come behind the first `base`; none where the expression isn't
+-- linear
+abbrev pub form_of : ℕ → ℕ → Expr → Option Form
+form_of live base (literal n) = fitting (constant_form live (pos n))
+form_of live base (read v) = Some (variable_form live (index_of base v))
+form_of live base input = None
+form_of live base (negate e) = form_of live base e >>= λ f. scaled (negsuc 0) f
+form_of live base (binary op a b) = form_of live base a >>= λ f. form_of live base b >>= λ g. operator_form op f g
+
+-- where the expression has a value, its form has the same
+abbrev pub FormsAreRight : Type 0
+FormsAreRight = (base : ℕ) (e : Expr) (f : Form) (store draws left : List ℤ) (z : ℤ)
+    → form_of (length store) base e ≡ Some f → value_of e base store draws ≡ Some (z, left) → form_value f store ≡ z
+
+-- tests ------------------------------------------------------------------------------------------------------------
+
+-- the form is at least 0, or is 0
+pub record Test : Type 0 where
+  pub kind : RowKind
+  pub form : Form
+
+abbrev pub Passes : Test → List ℤ → Type 0
+Passes t store = IsOfKind t.kind (form_value t.form store)
+
+abbrev pub at_least_zero : Option Form → Option Test
+at_least_zero None = None
+at_least_zero (Some f) = Some (record { kind = inequality; form = f })
+
+-- d - 1, -d, -d - 1
+abbrev pub less_one : Form → Option Form
+less_one d = fitting (record d { constant = d.constant -ℤ pos 1 })
+
+abbrev pub opposite_form : Form → Option Form
+opposite_form d = scaled (negsuc 0) d
+
+abbrev pub opposite_less_one : Form → Option Form
+opposite_less_one d = fitting (record {
+  constant = (pos 0 -ℤ d.constant) -ℤ pos 1;
+  coefficients = map (λ c. pos 0 -ℤ c) d.coefficients;
+})
+
+-- the test of a comparison, d the left side minus the right one; over whole numbers d < 0 is -d - 1 >= 0. `!=` has no
+-- test of its own
+abbrev pub comparison_test : Comparison → Form → Option Test
+comparison_test below d = at_least_zero (opposite_less_one d)
+comparison_test at_most d = at_least_zero (opposite_form d)
+comparison_test above d = at_least_zero (less_one d)
+comparison_test at_least d = at_least_zero (Some d)
+comparison_test equal d = Some (record { kind = equality; form = d })
+comparison_test differs d = None
+
+-- left minus right
+abbrev pub difference_form : ℕ → ℕ → Expr → Expr → Option Form
+difference_form live base a b = form_of live base (binary minus a b)
+
+-- where both sides have a value, the comparison is true exactly where its test passes
+abbrev pub TestsAreRight : Type 0
+TestsAreRight = (base : ℕ) (op : Comparison) (a b : Expr) (d : Form) (t : Test) (store draws left : List ℤ) (v : Bool)
+    → difference_form (length store) base a b ≡ Some d → comparison_test op d ≡ Some t
+    → truth_of (compare op a b) base store draws ≡ Some (v, left) → (IsTrue v ↔ Passes t store)
+
+-- and `!=` is true exactly where the test of `<` or that of `>` passes
+abbrev pub DiffersIsRight : Type 0
+DiffersIsRight = (base : ℕ) (a b : Expr) (d : Form) (less more : Test) (store draws left : List ℤ) (v : Bool)
+    → difference_form (length store) base a b ≡ Some d → comparison_test below d ≡ Some less →
+    comparison_test above d ≡ Some more
+    → truth_of (compare differs a b) base store draws ≡ Some (v, left) →
+    (IsTrue v ↔ (Passes less store ⊎ Passes more store))

@@ -1,0 +1,6 @@
+-- In the order in which they are to be read.
+pub mod Scope
+pub mod NameFaults
+pub mod Resolve
+pub mod LiveNames
+pub mod Refuse

@@ -1,0 +1,62 @@
+-- Scopes (ISO/IEC 9899:2011, 6.2.1): which variable a name means.
+use Rattle.std.specs.Prelude.{ℕ, suc, Bool, if◌then◌else◌, List, [], ◌∷◌, ◌++◌, length, drop, bytes_eq, Option, Some, None, map}
+use Rattle.std.specs.List.{list_any}
+use Rattle.lra_tree.specs.declared.trees.Identifier.{Identifier}
+use Rattle.lra_program.specs.Program.{Slot, global, local}
+use Rattle.lra_tree.specs.Trees.{DeclaratorTree, InitTree, no_init, declared, assigned, globals}
+
+-- the variables that can be named, oldest first
+pub record Scope : Type 0 where
+  pub globals : List (List ℕ)
+  -- the parameters and the variables of the blocks around
+  pub locals : List (List ℕ)
+  -- how many of the locals the scopes around this one declare
+  pub outer : ℕ
+
+-- the place of the newest of this name
+abbrev pub newest_from : ℕ → Option ℕ → List ℕ → List (List ℕ) → Option ℕ
+newest_from k found name [] = found
+newest_from k found name (x ∷ xs) = newest_from (suc k) (if bytes_eq x name then Some k else found) name xs
+
+abbrev pub newest : List ℕ → List (List ℕ) → Option ℕ
+newest name xs = newest_from 0 None name xs
+
+-- a local hides a global of its name
+abbrev pub slot_in : Option ℕ → Option ℕ → Option Slot
+slot_in (Some k) g = Some (local k)
+slot_in None (Some k) = Some (global k)
+slot_in None None = None
+
+-- the variable that the name means: the newest one
+abbrev pub slot_of : Scope → List ℕ → Option Slot
+slot_of s name = slot_in (newest name s.locals) (newest name s.globals)
+
+-- whether this scope has declared the name
+abbrev pub is_declared : Scope → List ℕ → Bool
+is_declared s name = list_any (bytes_eq name) (drop s.outer s.locals)
+
+-- with a further variable
+abbrev pub with_local : Scope → List ℕ → Scope
+with_local s name = record s { locals = s.locals ++ name ∷ [] }
+
+abbrev pub with_declarators : Scope → List DeclaratorTree → Scope
+with_declarators s [] = s
+with_declarators s (d ∷ ds) = with_declarators (with_local s d.name.word) ds
+
+-- a scope inside this one, with nothing declared yet
+abbrev pub inner : Scope → Scope
+inner s = record s { outer = length s.locals }
+
+-- a `for` is a scope
+abbrev pub for_scope : Scope → InitTree → Scope
+for_scope s no_init = inner s
+for_scope s (declared d) = with_declarators (inner s) (d.first ∷ d.rest)
+for_scope s (assigned a) = inner s
+
+-- parameters and the variables of the body's block are one scope
+abbrev pub function_scope : List (List ℕ) → List Identifier → Scope
+function_scope outside parameters = record {
+  globals = outside;
+  locals = map (λ (x : Identifier). x.word) parameters;
+  outer = 0;
+}

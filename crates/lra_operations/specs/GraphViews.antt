@@ -1,0 +1,49 @@
+-- The tree of operations, and the points, that values of the code's types stand for.
+use Rattle.std.specs.Prelude.{List, [], ◌∷◌, map}
+use Rattle.lra_operations.specs.declared.graph.Exit.{Exit}
+use Rattle.lra_operations.specs.declared.graph.Exit.TheVariants as exit
+use Rattle.lra_operations.specs.declared.graph.Op.{Op}
+use Rattle.lra_operations.specs.declared.graph.Op.TheVariants as op
+use Rattle.lra_operations.specs.declared.graph.Node.{Node}
+use Rattle.lra_operations.specs.declared.graph.Node.TheFolds.{fold-Node}
+use Rattle.lra_operations.specs.declared.graph.Node.TheOpen.{Node-F}
+use Rattle.lra_operations.specs.declared.graph.Site.{Site}
+use Rattle.lra_program.specs.Step as step
+use Rattle.lra_operations.specs.Graph as graph
+use Rattle.lra_program.specs.Sites as sites
+use Rattle.lra_program.specs.ProgramViews.{expr_view, cond_view}
+
+abbrev pub exit_view : Exit → graph.Exit
+exit_view exit.Broken = graph.broken
+exit_view exit.Continued = graph.continued
+exit_view exit.Returned = graph.returned
+
+abbrev pub op_view : Op → step.Op
+op_view op.Append = step.append
+op_view (op.Give base x e) = step.give base x (expr_view e)
+op_view (op.GiveAny x) = step.give_any x
+op_view (op.Push base es) = step.push base (map expr_view es.items)
+op_view (op.Keep n) = step.keep n
+op_view (op.Test base c wanted) = step.test base (cond_view c) wanted
+
+-- the trees one after the other, and this one behind them
+abbrev pub row : List graph.Node → graph.Node → graph.Node
+row [] h = h
+row (g ∷ gs) h = graph.seq g (row gs h)
+
+abbrev pub node_step : Node-F graph.Node → graph.Node
+node_step Node-F.Empty = graph.empty
+node_step (Node-F.Point q) = graph.point q
+node_step (Node-F.Act q o) = graph.act q (op_view o)
+node_step (Node-F.Check q base c) = graph.check q base (cond_view c)
+node_step (Node-F.Seq gs last) = row gs.items last.value
+node_step (Node-F.Choose q base c a b) = graph.choose q base (cond_view c) a.value b.value
+node_step (Node-F.Iterate q base c a) = graph.iterate q base (cond_view c) a.value
+node_step (Node-F.Catch q k a) = graph.catch q (exit_view k) a.value
+node_step (Node-F.Leave n k) = graph.leave n (exit_view k)
+
+abbrev pub node_view : Node → graph.Node
+node_view = fold-Node graph.Node node_step
+
+abbrev pub site_view : Site → sites.Site
+site_view s = record { path = s.path; label = s.label; live = s.live; asserts = s.asserts }

@@ -1,0 +1,5 @@
+-- In the order in which they are to be read.
+pub mod Graph
+pub mod Inlined
+pub mod Agree
+pub mod GraphViews

@@ -1,0 +1,184 @@
+//! A program with its calls written out, as a tree of operations, and its points. Points are numbered from 0 here.
+
+ghost use Rattle.std.specs.Prelude.{◌≡◌, ◌∷◌, [], IfOk};
+
+use lra_program::{Cond, Expr};
+use std::alloc::{AllocError, Global};
+use std::marker::Model;
+
+/// Why a tree is left before its end: by `break`, `continue`, `return`.
+#[derive(Clone, Copy, PartialEq, Eq, Debug)]
+pub enum Exit {
+    Broken,
+    Continued,
+    Returned,
+}
+
+/// A least change of the store: a number is a place in it, or its length. The first number of `Give`, `Push` and `Test`
+/// is where the variables of the call that runs begin.
+pub enum Op {
+    /// A new variable, of any value.
+    Append,
+    /// The variable, where there is one, gets the value.
+    Give(usize, Option<usize>, Expr),
+    /// The variable, where there is one, gets any value.
+    GiveAny(Option<usize>),
+    /// The arguments' values, as new variables.
+    Push(usize, Vec<Expr>),
+    /// Only the oldest so many variables stay.
+    Keep(usize),
+    /// Nothing, where the condition has this value.
+    Test(usize, Cond, bool),
+}
+
+impl Drop for Op {
+    fn drop(self) {
+        match self {
+            Op::Append => {}
+            Op::Give(_, _, _) => {}
+            Op::GiveAny(_) => {}
+            Op::Push(_, _) => {}
+            Op::Keep(_) => {}
+            Op::Test(_, _, _) => {}
+        }
+    }
+}
+
+/// A tree of operations. The first number is that of the point to which an operation belongs; the number before a
+/// condition is where the variables of its call begin.
+pub enum Node {
+    Empty,
+    Point(usize),
+    Act(usize, Op),
+    /// An assertion: a test with a verdict.
+    Check(usize, usize, Cond),
+    /// The trees one after the other, and then the last.
+    Seq(Vec<Node>, Box<Node>),
+    /// The one where the condition is true, the other where it is false.
+    Choose(usize, usize, Cond, Box<Node>, Box<Node>),
+    /// Its point stands before the test, at each round.
+    Iterate(usize, usize, Cond, Box<Node>),
+    /// Jumps of this kind come out behind it.
+    Catch(usize, Exit, Box<Node>),
+    /// The tree is left; so many variables live where the jump's statement stands, before what it cuts.
+    Leave(usize, Exit),
+}
+
+impl Drop for Node {
+    fn drop(self) {
+        match self {
+            Node::Empty => {}
+            Node::Point(_) => {}
+            Node::Act(_, _) => {}
+            Node::Check(_, _, _) => {}
+            Node::Seq(_, _) => {}
+            Node::Choose(_, _, _, _, _) => {}
+            Node::Iterate(_, _, _, _) => {}
+            Node::Catch(_, _, _) => {}
+            Node::Leave(_, _) => {}
+        }
+    }
+}
+
+/// The labels of the calls that lead to a point, the innermost first.
+pub struct Path {
+    calls: Vec<usize>,
+}
+
+impl Drop for Path {
+    fn drop(self) {
+        let Path { calls: _ } = self;
+    }
+}
+
+impl Model for Path {
+    ghost use Rattle.std.specs.Prelude.{ℕ, List};
+
+    ghost Value = { List ℕ };
+
+    ghost view = { λ p. p.calls.items };
+}
+
+/// A point.
+pub struct Site {
+    pub path: Path,
+    pub label: usize,
+    /// How many variables live there.
+    pub live: usize,
+    /// Whether it is an assertion.
+    pub asserts: bool,
+}
+
+impl Drop for Site {
+    fn drop(self) {
+        let Site {
+            path: _,
+            label: _,
+            live: _,
+            asserts: _,
+        } = self;
+    }
+}
+
+/// The tree of a program, and its points in the order of their numbers.
+pub struct Graph {
+    pub tree: Node,
+    pub sites: Vec<Site>,
+}
+
+impl Drop for Graph {
+    fn drop(self) {
+        let Graph { tree: _, sites: _ } = self;
+    }
+}
+
+impl Path {
+    /// The path of `main` itself.
+    pub fn empty(alloc: Global) -> Path
+        ensures { result ≡ [] }
+    {
+        Path {
+            calls: Vec::new(alloc),
+        }
+    }
+
+    /// The path of a further call, from a point on this one.
+    pub fn with_call(&self, alloc: Global, label: usize) -> Result<Path, AllocError>
+        ensures { IfOk result (λ p. p ≡ label ∷ self.now) }
+    {
+        let mut calls = Vec::new(alloc);
+        calls.push(label)?;
+        calls.extend_from_slice(&self.calls)?;
+        Ok(Path { calls })
+    }
+
+    pub fn copy(&self, alloc: Global) -> Result<Path, AllocError>
+        ensures { IfOk result (λ p. p ≡ self.now) }
+    {
+        let mut calls = Vec::new(alloc);
+        calls.extend_from_slice(&self.calls)?;
+        Ok(Path { calls })
+    }
+
+    /// The labels as a slice, the innermost first.
+    pub fn as_slice(&self) -> &[usize]
+        ensures { result.now ≡ self.now }
+    {
+        &self.calls
+    }
+}
+
+#[cfg(test)]
+mod tests {
+    use super::*;
+    use std::test::Fail;
+
+    #[test]
+    fn a_path_has_the_innermost_call_first(rt: HostRuntime) -> Result<(), Fail> {
+        let outer = Path::empty(rt.alloc()).with_call(rt.alloc(), 3)?;
+        let inner = outer.with_call(rt.alloc(), 7)?;
+        let copy = inner.copy(rt.alloc())?;
+        assert!(rt; copy.as_slice() == [7, 3].as_slice());
+        Ok(())
+    }
+}

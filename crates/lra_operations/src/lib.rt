@@ -1,0 +1,8 @@
+//! A program with its calls written out: trees of operations and their runs, and which tree stands for which program.
+//!
+//! Most of the crate is definitions: `specs/` is to be read from top to bottom, in the order of `specs/Lib.antt`.
+#![tactic(auto)]
+
+mod graph;
+
+pub use graph::{Exit, Graph, Node, Op, Path, Site};

@@ -1,0 +1,5 @@
+-- Worked examples: each definition of specs/ on programs and values whose answers are known.
+mod ValueExamples
+pub mod RunExamples
+mod WellFormedExamples
+mod ProgramViewExamples

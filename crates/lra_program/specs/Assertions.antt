@@ -1,0 +1,9 @@
+-- The assertions among a program's points.
+use Rattle.std.specs.Prelude.{ℕ, suc, List, [], ◌∷◌, if◌then◌else◌}
+use Rattle.lra_program.specs.Sites.{Site}
+
+-- the assertions among these sites, with their numbers
+abbrev pub assertions_from : ℕ → List Site → List (ℕ × Site)
+assertions_from number [] = []
+assertions_from number (s ∷ ss) = if s.asserts then (number, s) ∷ assertions_from (suc number) ss
+    else assertions_from (suc number) ss

@@ -1,0 +1,81 @@
+-- A program whose names are resolved: a variable is a place in the store, a function a place in a list.
+-- Statements, declarators and the ends of blocks carry labels: the n-th of them in text order has the label n, from 1.
+use Rattle.std.specs.Prelude.{ℕ, ℤ, List, Option}
+use Rattle.lra_base.specs.Operators.{Operator, Comparison}
+
+-- a variable of the whole program, or of the call that runs
+pub data Slot : Type 0 where
+  global : ℕ → Slot
+  local : ℕ → Slot
+
+-- `input` stands for any number of 64 bits, a new one each time
+pub data Expr : Type 0 where
+  literal : ℕ → Expr
+  read : Slot → Expr
+  input : Expr
+  negate : Expr → Expr
+  binary : Operator → Expr → Expr → Expr
+
+-- a comparison; an expression that isn't 0; `!`, `&&`, `||`
+pub data Cond : Type 0 where
+  compare : Comparison → Expr → Expr → Cond
+  nonzero : Expr → Cond
+  opposite : Cond → Cond
+  both_of : Cond → Cond → Cond
+  either_of : Cond → Cond → Cond
+
+-- a call: a label of its own, which call paths list, and the callee's place in the list of functions
+pub record Call : Type 0 where
+  pub label : ℕ
+  pub function : ℕ
+  pub arguments : List Expr
+
+-- what a variable gets or a `return` gives: a value, or a call's result
+pub data Source : Type 0 where
+  value : Expr → Source
+  result : Call → Source
+
+-- `NAME` or `NAME = source` in a declaration
+pub record Declarator : Type 0 where
+  pub label : ℕ
+  pub source : Option Source
+
+mutual
+  pub data Stmt : Type 0 where
+    -- a part that isn't there: no `else`, no step of a `for`. It has no point and does nothing
+    absent : Stmt
+    -- `;`
+    nothing : ℕ → Stmt
+    -- its items, and the label of its `}`
+    block : BlockItems → ℕ → Stmt
+    assign : ℕ → Slot → Source → Stmt
+    call : ℕ → Call → Stmt
+    -- the branch where the condition is true, and the one where it is false
+    if : ℕ → Cond → Stmt → Stmt → Stmt
+    -- a loop: its body, and the step behind each round
+    loop : ℕ → Cond → Stmt → Stmt → Stmt
+    -- a `for`: its declarators or its assignment, and its loop, at whose end the store is cut back
+    for : BlockItems → Stmt → Stmt
+    break : ℕ → Stmt
+    continue : ℕ → Stmt
+    return : ℕ → Option Source → Stmt
+    assert : ℕ → Cond → Stmt
+    assume : ℕ → Cond → Stmt
+
+  -- the items of a block in text order
+  pub data BlockItems : Type 0 where
+    no_more : BlockItems
+    declaration : Declarator → BlockItems → BlockItems
+    statement : Stmt → BlockItems → BlockItems
+
+-- a function: how many parameters it has, its body's items, and the label of its `}`
+pub record Function : Type 0 where
+  pub parameters : ℕ
+  pub body : BlockItems
+  pub end : ℕ
+
+-- the first values of the global variables, the functions that can be called, and `main`
+pub record Program : Type 0 where
+  pub globals : List ℤ
+  pub functions : List Function
+  pub main : Function

@@ -1,0 +1,145 @@
+-- The resolved program that a value of the code's types stands for: one step for each type, over what its parts stand
+-- for.
+use Rattle.std.specs.Prelude.{List, [], ◌∷◌, map, option_map, Option, Some, None, slice_get}
+use Rattle.lra_program.specs.declared.program.Slot.{Slot}
+use Rattle.lra_program.specs.declared.program.Slot.TheVariants as slot
+use Rattle.lra_program.specs.declared.program.Expr.{Expr}
+use Rattle.lra_program.specs.declared.program.Operation.{Operation}
+use Rattle.lra_program.specs.declared.program.Expr.TheFolds.{fold-Expr, fold-Operation}
+use Rattle.lra_program.specs.declared.program.Expr.TheOpen.{Expr-F, Operation-F}
+use Rattle.lra_program.specs.declared.program.Cond.{Cond}
+use Rattle.lra_program.specs.declared.program.Cond.TheFolds.{fold-Cond}
+use Rattle.lra_program.specs.declared.program.Cond.TheOpen.{Cond-F}
+use Rattle.lra_program.specs.declared.program.Call.{Call}
+use Rattle.lra_program.specs.declared.program.Source.{Source}
+use Rattle.lra_program.specs.declared.program.Source.TheVariants as source
+use Rattle.lra_program.specs.declared.program.Declarator.{Declarator}
+use Rattle.lra_program.specs.declared.program.BlockItem.TheFolds.{fold-BlockItem, fold-Stmt, fold-BlockItems}
+use Rattle.lra_program.specs.declared.program.BlockItem.TheOpen.{BlockItem-F, Stmt-F, BlockItems-F}
+use Rattle.lra_program.specs.declared.program.BlockItem.{BlockItem}
+use Rattle.lra_program.specs.declared.program.BlockItems.{BlockItems}
+use Rattle.lra_program.specs.declared.program.Stmt.{Stmt}
+use Rattle.lra_program.specs.declared.program.Function.{Function}
+use Rattle.lra_program.specs.declared.program.Program.{Program}
+use Rattle.lra_program.specs.Program as program
+use Rattle.lra_base.specs.Operators as operators
+use Rattle.lra_base.specs.OperatorViews.{operator_view, comparison_view}
+
+abbrev pub slot_view : Slot → program.Slot
+slot_view (slot.Global k) = program.global k
+slot_view (slot.Local k) = program.local k
+
+-- expressions: a chain nests to the left -----------------------------------------------------------------------------
+
+abbrev pub chained : program.Expr → List (operators.Operator × program.Expr) → program.Expr
+chained e [] = e
+chained e (o ∷ os) = chained (program.binary o.0 e o.1) os
+
+abbrev pub expr_step : Expr-F program.Expr (operators.Operator × program.Expr) → program.Expr
+expr_step (Expr-F.Literal n) = program.literal n
+expr_step (Expr-F.Read v) = program.read (slot_view v)
+expr_step Expr-F.Input = program.input
+expr_step (Expr-F.Negate e) = program.negate e.value
+expr_step (Expr-F.Chain e os) = chained e.value os.items
+
+abbrev pub operation_step : Operation-F program.Expr (operators.Operator × program.Expr)
+    → operators.Operator × program.Expr
+operation_step o = (operator_view o.operator, o.operand)
+
+abbrev pub expr_view : Expr → program.Expr
+expr_view = fold-Expr program.Expr (operators.Operator × program.Expr) expr_step operation_step
+
+abbrev pub operation_view : Operation → operators.Operator × program.Expr
+operation_view = fold-Operation program.Expr (operators.Operator × program.Expr) expr_step operation_step
+
+-- conditions: a chain nests to the right -----------------------------------------------------------------------------
+
+abbrev pub all_of : program.Cond → List program.Cond → program.Cond
+all_of c [] = c
+all_of c (d ∷ ds) = program.both_of c (all_of d ds)
+
+abbrev pub any_of : program.Cond → List program.Cond → program.Cond
+any_of c [] = c
+any_of c (d ∷ ds) = program.either_of c (any_of d ds)
+
+abbrev pub cond_step : Cond-F program.Cond → program.Cond
+cond_step (Cond-F.Compare op a b) = program.compare (comparison_view op) (expr_view a) (expr_view b)
+cond_step (Cond-F.Nonzero e) = program.nonzero (expr_view e)
+cond_step (Cond-F.Opposite c) = program.opposite c.value
+cond_step (Cond-F.All c cs) = all_of c.value cs.items
+cond_step (Cond-F.Any c cs) = any_of c.value cs.items
+
+abbrev pub cond_view : Cond → program.Cond
+cond_view = fold-Cond program.Cond cond_step
+
+-- calls and declarators ----------------------------------------------------------------------------------------------
+
+abbrev pub call_view : Call → program.Call
+call_view c = record { label = c.label; function = c.function; arguments = map expr_view c.arguments.items }
+
+abbrev pub source_view : Source → program.Source
+source_view (source.Value e) = program.value (expr_view e)
+source_view (source.Result c) = program.result (call_view c)
+
+abbrev pub given_view : Option Source → Option program.Source
+given_view = option_map source_view
+
+abbrev pub declarator_view : Declarator → program.Declarator
+declarator_view d = record { label = d.label; source = given_view d.source }
+
+-- statements: an item of a block is what it puts before the items behind it -----------------------
+
+abbrev pub items_of : List (program.BlockItems → program.BlockItems) → program.BlockItems
+items_of [] = program.no_more
+items_of (f ∷ fs) = f (items_of fs)
+
+abbrev pub item_step : BlockItem-F (program.BlockItems → program.BlockItems) program.Stmt program.BlockItems →
+    program.BlockItems → program.BlockItems
+item_step (BlockItem-F.Declaration d) = program.declaration (declarator_view d)
+item_step (BlockItem-F.Statement s) = program.statement s
+
+abbrev pub items_step : BlockItems-F (program.BlockItems → program.BlockItems) program.Stmt program.BlockItems →
+    program.BlockItems
+items_step b = items_of b.items.items
+
+abbrev pub stmt_step : Stmt-F (program.BlockItems → program.BlockItems) program.Stmt program.BlockItems → program.Stmt
+stmt_step Stmt-F.Absent = program.absent
+stmt_step (Stmt-F.Nothing at) = program.nothing at
+stmt_step (Stmt-F.Block b end) = program.block b end
+stmt_step (Stmt-F.Assign at x e) = program.assign at (slot_view x) (source_view e)
+stmt_step (Stmt-F.Call at c) = program.call at (call_view c)
+stmt_step (Stmt-F.If at c a b) = program.if at (cond_view c) a.value b.value
+stmt_step (Stmt-F.Loop at c a step) = program.loop at (cond_view c) a.value step.value
+stmt_step (Stmt-F.For init again) = program.for init again.value
+stmt_step (Stmt-F.Break at) = program.break at
+stmt_step (Stmt-F.Continue at) = program.continue at
+stmt_step (Stmt-F.Return at e) = program.return at (given_view e)
+stmt_step (Stmt-F.Assert at c) = program.assert at (cond_view c)
+stmt_step (Stmt-F.Assume at c) = program.assume at (cond_view c)
+
+abbrev pub item_view : BlockItem → program.BlockItems → program.BlockItems
+item_view = fold-BlockItem (program.BlockItems → program.BlockItems) program.Stmt program.BlockItems item_step stmt_step
+    items_step
+
+abbrev pub stmt_view : Stmt → program.Stmt
+stmt_view = fold-Stmt (program.BlockItems → program.BlockItems) program.Stmt program.BlockItems item_step stmt_step
+    items_step
+
+abbrev pub items_view : BlockItems → program.BlockItems
+items_view = fold-BlockItems (program.BlockItems → program.BlockItems) program.Stmt program.BlockItems item_step
+    stmt_step items_step
+
+-- the whole ----------------------------------------------------------------------------------------------------------
+
+abbrev pub function_view : Function → program.Function
+function_view f = record { parameters = f.parameters; body = items_view f.body; end = f.end }
+
+-- the function at the place; one that isn't there does nothing
+abbrev pub function_or : Option program.Function → program.Function
+function_or None = record { parameters = 0; body = program.no_more; end = 0 }
+function_or (Some f) = f
+
+abbrev pub program_view : Program → program.Program
+program_view p =
+    let functions = map function_view p.functions.items in
+    record { globals = p.globals.items; functions = functions; main = function_or (slice_get functions p.main) }

@@ -1,0 +1,75 @@
+-- Runs: lists of configurations, each following the one before, from main's start with any draws of 64 bits.
+use Rattle.std.specs.Prelude.{◌≡◌, ℕ, zero, suc, ℤ, List, [], ◌∷◌, length, Option, Some, None, false, IsTrue}
+use Rattle.std.specs.List.{AllByRecursion}
+use Rattle.lra_program.specs.Program.{Stmt, absent, nothing, block, assign, call, if, loop, for, break, continue, return, assert, assume, Program}
+use Rattle.lra_program.specs.Value.{is_word}
+use Rattle.lra_program.specs.Step.{State, test, run_op, Here, Item, run, declare, all, end_of, turn, cut, mark, leave_call, Config, next}
+
+-- so many steps lead from the one to the other
+abbrev pub Steps : Program → ℕ → Config → Config → Type 0
+Steps P zero c d = c ≡ d
+Steps P (suc n) c d = (e : Config) × (next P c ≡ Some e) × Steps P n e d
+
+-- the globals at their first values, and main's body
+abbrev pub start : Program → List ℤ → Config
+start P draws = record {
+  items = all P.main.body ∷ end_of P.main.end (length P.globals) ∷ [];
+  here = record { path = []; base = length P.globals };
+  state = record { store = P.globals; draws = draws };
+}
+
+-- the label of the point on top, where there is one
+abbrev pub label_of : Stmt → Option ℕ
+label_of absent = None
+label_of (nothing at) = Some at
+label_of (block body end) = None
+label_of (assign at x e) = Some at
+label_of (call at c) = Some at
+label_of (if at c a b) = Some at
+label_of (loop at c a step) = Some at
+label_of (for init again) = None
+label_of (break at) = Some at
+label_of (continue at) = Some at
+label_of (return at e) = Some at
+label_of (assert at c) = Some at
+label_of (assume at c) = Some at
+
+abbrev pub label_on : List Item → Option ℕ
+label_on [] = None
+label_on (run s ∷ k) = label_of s
+label_on (declare d ∷ k) = Some d.label
+label_on (all s ∷ k) = None
+label_on (end_of at n ∷ k) = Some at
+label_on (turn step again n ∷ k) = None
+label_on (cut n ∷ k) = None
+label_on (mark b ∷ k) = None
+label_on (leave_call ∷ k) = None
+
+-- a point: the calls that lead to it, the innermost first, and the label of its statement, declarator or block's end
+pub record Point : Type 0 where
+  pub path : List ℕ
+  pub label : ℕ
+
+pub record IsOn (c : Config) (p : Point) : Type 0 where
+  pub label : label_on c.items ≡ Some p.label
+  pub path : c.here.path ≡ p.path
+
+-- some run ends in the configuration
+pub record Reaches (P : Program) (c : Config) : Type 0 where
+  pub draws : List ℤ
+  pub words : AllByRecursion (λ z. IsTrue (is_word z)) draws
+  pub length : ℕ
+  pub steps : Steps P length (start P draws) c
+
+-- some run ends with the point on top and this store
+abbrev pub At : Program → Point → List ℤ → Type 0
+At P p store = (c : Config) × Reaches P c × IsOn c p × (c.state.store ≡ store)
+
+-- the condition of the assertion on top is false
+abbrev pub IsFailing : List Item → Here → State → Type 0
+IsFailing (run (assert at c) ∷ k) h s = (t : State) × (run_op (test h.base c false) s ≡ Some t)
+IsFailing k h s = ⊥
+
+-- some run ends with the assertion on top, a store and draws for which its condition is false
+abbrev pub Fails : Program → Point → Type 0
+Fails P p = (c : Config) × Reaches P c × IsOn c p × IsFailing c.items c.here c.state

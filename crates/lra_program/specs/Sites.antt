@@ -1,0 +1,90 @@
+-- The points of a program with its calls written out, in text order, a callee's points behind its call's.
+-- No path has more than 32 calls: a further one is told in place of its points.
+use Rattle.std.specs.Prelude.{ℕ, zero, suc, ◌+◌, Bool, true, false, List, [], ◌∷◌, ◌++◌, length, Option, Some, None, slice_get}
+use Rattle.lra_program.specs.Program.{Call, Source, value, result, Stmt, absent, nothing, block, assign, call, if, loop, for, break, continue, return, assert, assume, BlockItems, no_more, declaration, statement, Function, Program}
+
+-- a point: its calls, the innermost first, its label, how many variables live there, and whether it is an assertion
+pub record Site : Type 0 where
+  pub path : List ℕ
+  pub label : ℕ
+  pub live : ℕ
+  pub asserts : Bool
+
+pub data Event : Type 0 where
+  comes : Site → Event
+  -- a call on a path that has 32 already: the call's label
+  one_call_more : ℕ → Event
+
+abbrev pub greatest_calls : ℕ
+greatest_calls = 32
+
+abbrev pub plain_site : List ℕ → ℕ → ℕ → Event
+plain_site path at live = comes (record { path = path; label = at; live = live; asserts = false })
+
+-- how many variables live behind some items
+abbrev pub live_behind : ℕ → BlockItems → ℕ
+live_behind live no_more = live
+live_behind live (declaration d items) = live_behind (suc live) items
+live_behind live (statement s items) = live_behind live items
+
+-- a loop's own point comes before those of what begins it
+abbrev pub with_init : List Event → List Event → List Event
+with_init init [] = init
+with_init init (first ∷ rest) = first ∷ init ++ rest
+
+-- a call's points, on a path with so many live variables
+module _ (inside : List ℕ → ℕ → Call → List Event) (path : List ℕ) where
+  abbrev pub source_events : ℕ → Source → List Event
+  source_events live (value e) = []
+  source_events live (result c) = inside path live c
+
+  abbrev pub given_events : ℕ → Option Source → List Event
+  given_events live None = []
+  given_events live (Some e) = source_events live e
+
+  abbrev mutual
+    pub stmt_events : ℕ → Stmt → List Event
+    stmt_events live absent = []
+    stmt_events live (nothing at) = plain_site path at live ∷ []
+    stmt_events live (block items end) = items_events live items ++ plain_site path end (live_behind live items) ∷ []
+    stmt_events live (assign at x e) = plain_site path at live ∷ source_events live e
+    stmt_events live (call at c) = plain_site path at live ∷ inside path live c
+    stmt_events live (if at c a b) = plain_site path at live ∷ stmt_events live a ++ stmt_events live b
+    stmt_events live (loop at c a step) = plain_site path at live ∷ stmt_events live step ++ stmt_events live a
+    stmt_events live (for init again) = with_init (items_events live init) (stmt_events (live_behind live init) again)
+    stmt_events live (break at) = plain_site path at live ∷ []
+    stmt_events live (continue at) = plain_site path at live ∷ []
+    stmt_events live (return at e) = plain_site path at live ∷ given_events live e
+    stmt_events live (assert at c) = comes (record { path = path; label = at; live = live; asserts = true }) ∷ []
+    stmt_events live (assume at c) = plain_site path at live ∷ []
+
+    pub items_events : ℕ → BlockItems → List Event
+    items_events live no_more = []
+    items_events live (declaration d items) = plain_site path d.label live ∷ given_events (suc live) d.source ++
+        items_events (suc live) items
+    items_events live (statement s items) = stmt_events live s ++ items_events live items
+
+-- a function's points: its body's and that of its end
+abbrev pub function_events : (List ℕ → ℕ → Call → List Event) → List ℕ → ℕ → Option Function → List Event
+function_events inside path live None = []
+function_events inside path live (Some f) =
+    items_events inside path (live + f.parameters) f.body ++
+    plain_site path f.end (live_behind (live + f.parameters) f.body) ∷ []
+
+-- a call's points, where the path may have so many calls more
+abbrev pub call_events : Program → ℕ → List ℕ → ℕ → Call → List Event
+call_events P zero path live c = one_call_more c.label ∷ []
+call_events P (suc more) path live c = function_events (call_events P more) (c.label ∷ path) live
+    (slice_get P.functions c.function)
+
+abbrev pub events_of : Program → List Event
+events_of P = function_events (call_events P greatest_calls) [] (length P.globals) (Some P.main)
+
+abbrev pub sites_in : List Event → List Site
+sites_in [] = []
+sites_in (comes s ∷ es) = s ∷ sites_in es
+sites_in (one_call_more at ∷ es) = sites_in es
+
+-- all points; the n-th has the number n, from 1
+abbrev pub sites_of : Program → List Site
+sites_of P = sites_in (events_of P)

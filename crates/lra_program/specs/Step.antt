@@ -1,0 +1,217 @@
+-- One step of a run. A configuration is a list of pending items, the call that runs, and a state; the top item decides,
+-- and exactly one case applies to it. The step is a function, since a state holds the draws that are left.
+use Rattle.std.specs.Prelude.{ℕ, ◌+◌, ℤ, List, [], ◌∷◌, ◌++◌, length, take, Option, Some, None, Bool, true, false, slice_get, slice_set}
+use Rattle.lra_program.specs.Program.{Expr, Cond, Call, Source, value, result, Declarator, Stmt, absent, nothing, block, assign, call, if, loop, for, break, continue, return, assert, assume, BlockItems, no_more, declaration, statement, Function, Program}
+use Rattle.lra_program.specs.Value.{◌>>=◌, index_of, Drawn, draw, value_of, values_of, truth_of}
+
+-- the variables, oldest first, and the draws that are left
+pub record State : Type 0 where
+  pub store : List ℤ
+  pub draws : List ℤ
+
+-- the least changes of a state, of which all steps are made; a number is a place in the store, or a length
+pub data Op : Type 0 where
+  -- a new variable, which gets a draw
+  append : Op
+  -- the variable, where there is one, gets the value; `base` is where the call's own variables begin
+  give : ℕ → Option ℕ → Expr → Op
+  give_any : Option ℕ → Op
+  -- the arguments' values, as new variables
+  push : ℕ → List Expr → Op
+  -- only the oldest so many variables stay
+  keep : ℕ → Op
+  -- nothing, where the condition is so
+  test : ℕ → Cond → Bool → Op
+
+abbrev pub put : Option ℕ → ℤ → List ℤ → List ℤ
+put None z store = store
+put (Some x) z store = slice_set store x z
+
+abbrev pub given : Option ℕ → List ℤ → Drawn ℤ → Option State
+given x store None = None
+given x store (Some r) = Some (record { store = put x r.0 store; draws = r.1 })
+
+abbrev pub pushed : List ℤ → Drawn (List ℤ) → Option State
+pushed store None = None
+pushed store (Some r) = Some (record { store = store ++ r.0; draws = r.1 })
+
+abbrev pub kept_if : Bool → Bool → State → Option State
+kept_if true true s = Some s
+kept_if false false s = Some s
+kept_if true false s = None
+kept_if false true s = None
+
+abbrev pub tested : Bool → List ℤ → Drawn Bool → Option State
+tested wanted store None = None
+tested wanted store (Some r) = kept_if wanted r.0 (record { store = store; draws = r.1 })
+
+abbrev pub run_any : Option ℕ → State → Option State
+run_any None s = Some s
+run_any (Some x) s = given (Some x) s.store (draw s.draws)
+
+abbrev pub run_op : Op → State → Option State
+run_op append s = draw s.draws >>= λ r. Some (record { store = s.store ++ r.0 ∷ []; draws = r.1 })
+run_op (give base x e) s = given x s.store (value_of e base s.store s.draws)
+run_op (give_any x) s = run_any x s
+run_op (push base es) s = pushed s.store (values_of es base s.store s.draws)
+run_op (keep n) s = Some (record { store = take n s.store; draws = s.draws })
+run_op (test base c wanted) s = tested wanted s.store (truth_of c base s.store s.draws)
+
+-- the calls that lead here, the innermost first, and where the call's own variables begin
+pub record Here : Type 0 where
+  pub path : List ℕ
+  pub base : ℕ
+
+-- what a call leaves for its end: what gets the value, the caller, and how long the store was
+pub record Back : Type 0 where
+  pub target : Option ℕ
+  pub here : Here
+  pub length : ℕ
+
+pub data Item : Type 0 where
+  run : Stmt → Item
+  declare : Declarator → Item
+  all : BlockItems → Item
+  -- a block's end, and how long the store was before the block
+  end_of : ℕ → ℕ → Item
+  -- a round's end: the loop's step, the loop, and how long the store is there
+  turn : Stmt → Stmt → ℕ → Item
+  cut : ℕ → Item
+  -- a function's end
+  mark : Back → Item
+  -- a return whose value a call has given
+  leave_call : Item
+
+pub record Config : Type 0 where
+  pub items : List Item
+  pub here : Here
+  pub state : State
+
+-- the nearest round's end of this call, and the items behind it
+pub record Turn : Type 0 where
+  pub step : Stmt
+  pub again : Stmt
+  pub length : ℕ
+  pub rest : List Item
+
+abbrev pub to_turn : List Item → Option Turn
+to_turn [] = None
+to_turn (run s ∷ k) = to_turn k
+to_turn (declare d ∷ k) = to_turn k
+to_turn (all s ∷ k) = to_turn k
+to_turn (end_of at n ∷ k) = to_turn k
+to_turn (turn step again n ∷ k) = Some (record { step = step; again = again; length = n; rest = k })
+to_turn (cut n ∷ k) = to_turn k
+to_turn (mark b ∷ k) = None
+to_turn (leave_call ∷ k) = to_turn k
+
+pub record Called : Type 0 where
+  pub back : Back
+  pub rest : List Item
+
+-- the end of the function that runs, none in `main`
+abbrev pub to_mark : List Item → Option Called
+to_mark [] = None
+to_mark (run s ∷ k) = to_mark k
+to_mark (declare d ∷ k) = to_mark k
+to_mark (all s ∷ k) = to_mark k
+to_mark (end_of at n ∷ k) = to_mark k
+to_mark (turn step again n ∷ k) = to_mark k
+to_mark (cut n ∷ k) = to_mark k
+to_mark (mark b ∷ k) = Some (record { back = b; rest = k })
+to_mark (leave_call ∷ k) = to_mark k
+
+abbrev pub target_of : Option Called → Option ℕ
+target_of None = None
+target_of (Some m) = m.back.target
+
+abbrev pub go : List Item → Here → Option State → Option Config
+go k h None = None
+go k h (Some s) = Some (record { items = k; here = h; state = s })
+
+-- the one or the other, by a condition's value
+abbrev pub branch : Bool → List Item → List Item → List Item
+branch true on off = on
+branch false on off = off
+
+abbrev pub go_by : List Item → List Item → Here → List ℤ → Drawn Bool → Option Config
+go_by on off h store None = None
+go_by on off h store (Some r) = Some (record {
+  items = branch r.0 on off;
+  here = h;
+  state = record { store = store; draws = r.1 };
+})
+
+-- arguments are evaluated and appended; then the callee's body, its end and its mark
+abbrev pub enter : Option Function → Call → Option ℕ → List Item → Here → State → Option Config
+enter None c x k h s = None
+enter (Some f) c x k h s =
+    go (all f.body ∷ end_of f.end (length s.store + f.parameters) ∷
+    mark (record { target = x; here = h; length = length s.store }) ∷ k)
+    (record { path = c.label ∷ h.path; base = length s.store }) (run_op (push h.base c.arguments) s)
+
+abbrev pub do_source : Program → Option ℕ → Source → List Item → Here → State → Option Config
+do_source P x (value e) k h s = go k h (run_op (give h.base x e) s)
+do_source P x (result c) k h s = enter (slice_get P.functions c.function) c x k h s
+
+abbrev pub go_on : Option State → (State → Option Config) → Option Config
+go_on None f = None
+go_on (Some s) f = f s
+
+abbrev pub do_break : Option Turn → Here → State → Option Config
+do_break None h s = None
+do_break (Some t) h s = go t.rest h (run_op (keep t.length) s)
+
+abbrev pub do_continue : Option Turn → Here → State → Option Config
+do_continue None h s = None
+do_continue (Some t) h s = go (turn t.step t.again t.length ∷ t.rest) h (run_op (keep t.length) s)
+
+abbrev pub do_leave : Option Called → Option State → Option Config
+do_leave None s = None
+do_leave (Some m) s = go_on s (λ t. go m.rest m.back.here (run_op (keep m.back.length) t))
+
+abbrev pub do_return : Program → Option Source → List Item → Here → State → Option Config
+do_return P None k h s = do_leave (to_mark k) (run_any (target_of (to_mark k)) s)
+do_return P (Some (value e)) k h s = do_leave (to_mark k) (run_op (give h.base (target_of (to_mark k)) e) s)
+do_return P (Some (result c)) k h s = do_source P (target_of (to_mark k)) (result c) (leave_call ∷ k) h s
+
+abbrev pub do_stmt : Program → Stmt → List Item → Here → State → Option Config
+do_stmt P absent k h s = go k h (Some s)
+do_stmt P (nothing at) k h s = go k h (Some s)
+do_stmt P (block body end) k h s = go (all body ∷ end_of end (length s.store) ∷ k) h (Some s)
+do_stmt P (assign at x e) k h s = do_source P (Some (index_of h.base x)) e k h s
+do_stmt P (call at c) k h s = do_source P None (result c) k h s
+do_stmt P (if at c a b) k h s = go_by (run a ∷ k) (run b ∷ k) h s.store (truth_of c h.base s.store s.draws)
+do_stmt P (loop at c a step) k h s = go_by (run a ∷ turn step (loop at c a step) (length s.store) ∷ k) k h s.store
+    (truth_of c h.base s.store s.draws)
+do_stmt P (for init again) k h s = go (all init ∷ run again ∷ cut (length s.store) ∷ k) h (Some s)
+do_stmt P (break at) k h s = do_break (to_turn k) h s
+do_stmt P (continue at) k h s = do_continue (to_turn k) h s
+do_stmt P (return at e) k h s = do_return P e k h s
+do_stmt P (assert at c) k h s = go k h (run_op (test h.base c true) s)
+do_stmt P (assume at c) k h s = go k h (run_op (test h.base c true) s)
+
+-- a new variable; its value is given by the declarator's source, where it has one
+abbrev pub do_declare : Program → Option Source → List Item → Here → State → Option Config
+do_declare P None k h s = go k h (run_op append s)
+do_declare P (Some e) k h s = go_on (run_op append s) (do_source P (Some (length s.store)) e k h)
+
+abbrev pub do_all : BlockItems → List Item → Here → State → Option Config
+do_all no_more k h s = go k h (Some s)
+do_all (declaration d b) k h s = go (declare d ∷ all b ∷ k) h (Some s)
+do_all (statement a b) k h s = go (run a ∷ all b ∷ k) h (Some s)
+
+abbrev pub next_at : Program → List Item → Here → State → Option Config
+next_at P [] h s = None
+next_at P (run a ∷ k) h s = do_stmt P a k h s
+next_at P (declare d ∷ k) h s = do_declare P d.source k h s
+next_at P (all a ∷ k) h s = do_all a k h s
+next_at P (end_of at n ∷ k) h s = go k h (run_op (keep n) s)
+next_at P (turn step again n ∷ k) h s = go (run step ∷ run again ∷ k) h (Some s)
+next_at P (cut n ∷ k) h s = go k h (run_op (keep n) s)
+next_at P (mark b ∷ k) h s = go_on (run_any b.target s) (λ t. go k b.here (run_op (keep b.length) t))
+next_at P (leave_call ∷ k) h s = do_leave (to_mark k) (Some s)
+
+-- the configuration that follows, or none where the run ends
+abbrev pub next : Program → Config → Option Config
+next P c = next_at P c.items c.here c.state

@@ -1,0 +1,122 @@
+-- Well-formed programs: what holds of the program that a source without faults means. A program made by hand may have a
+-- number past 64 bits, one label twice, a variable that isn't there or a call without a callee; its runs are told all
+-- the same, and stop or go on as they may.
+use Rattle.std.specs.Prelude.{◌≡◌, ℕ, suc, ◌<◌, Bool, true, false, List, [], ◌∷◌, ◌++◌, length, Option, Some, None, slice_get, IsTrue, ⊤}
+use Rattle.std.specs.List.{AllByRecursion, Contains, flat_map, range_with_len}
+use Rattle.lra_program.specs.Program.{Slot, global, local, Expr, literal, read, input, negate, binary, Cond, compare, nonzero, opposite, both_of, either_of, Call, Source, value, result, Stmt, absent, nothing, block, assign, call, if, loop, for, break, continue, return, assert, assume, BlockItems, no_more, declaration, statement, Function, Program}
+use Rattle.lra_program.specs.Value.{is_word}
+use Rattle.lra_program.specs.Sites.{live_behind}
+
+-- labels -----------------------------------------------------------------------------------------------------------
+
+-- a loop's own label comes before those of what begins it
+abbrev pub loop_first : List ℕ → List ℕ → List ℕ
+loop_first init [] = init
+loop_first init (own ∷ rest) = own ∷ init ++ rest
+
+-- in text order
+abbrev mutual
+  pub stmt_numbers : Stmt → List ℕ
+  stmt_numbers absent = []
+  stmt_numbers (nothing at) = at ∷ []
+  stmt_numbers (block items end) = items_numbers items ++ end ∷ []
+  stmt_numbers (assign at x e) = at ∷ []
+  stmt_numbers (call at c) = at ∷ []
+  stmt_numbers (if at c a b) = at ∷ stmt_numbers a ++ stmt_numbers b
+  stmt_numbers (loop at c a step) = at ∷ stmt_numbers step ++ stmt_numbers a
+  stmt_numbers (for init again) = loop_first (items_numbers init) (stmt_numbers again)
+  stmt_numbers (break at) = at ∷ []
+  stmt_numbers (continue at) = at ∷ []
+  stmt_numbers (return at e) = at ∷ []
+  stmt_numbers (assert at c) = at ∷ []
+  stmt_numbers (assume at c) = at ∷ []
+
+  pub items_numbers : BlockItems → List ℕ
+  items_numbers no_more = []
+  items_numbers (declaration d items) = d.label ∷ items_numbers items
+  items_numbers (statement s items) = stmt_numbers s ++ items_numbers items
+
+abbrev pub function_numbers : Function → List ℕ
+function_numbers f = items_numbers f.body ++ f.end ∷ []
+
+-- the labels of the functions, in their order, are 1, 2, 3 ..
+abbrev pub AreInTextOrder : List Function → Type 0
+AreInTextOrder fs = flat_map function_numbers fs ≡ range_with_len 1 (length (flat_map function_numbers fs))
+
+abbrev pub IsLoop : Stmt → Type 0
+IsLoop (loop at c a step) = ⊤
+IsLoop s = ⊥
+
+-- what stands in a program, where so many of the call's own variables live ------------------------
+
+module _ (P : Program) where
+  abbrev pub IsLive : ℕ → Slot → Type 0
+  IsLive live (global k) = k < length P.globals
+  IsLive live (local k) = k < live
+
+  -- literals are below 2^63, and variables live
+  abbrev pub IsGoodExpr : ℕ → Expr → Type 0
+  IsGoodExpr live (literal n) = n < 9223372036854775808
+  IsGoodExpr live (read v) = IsLive live v
+  IsGoodExpr live input = ⊤
+  IsGoodExpr live (negate e) = IsGoodExpr live e
+  IsGoodExpr live (binary op a b) = IsGoodExpr live a × IsGoodExpr live b
+
+  abbrev pub IsGoodCond : ℕ → Cond → Type 0
+  IsGoodCond live (compare op a b) = IsGoodExpr live a × IsGoodExpr live b
+  IsGoodCond live (nonzero e) = IsGoodExpr live e
+  IsGoodCond live (opposite c) = IsGoodCond live c
+  IsGoodCond live (both_of c d) = IsGoodCond live c × IsGoodCond live d
+  IsGoodCond live (either_of c d) = IsGoodCond live c × IsGoodCond live d
+
+  -- a call of a function with so many parameters, under the label of its statement or declarator
+  pub record IsGoodCall (at live : ℕ) (c : Call) : Type 0 where
+    pub label : c.label ≡ at
+    pub callee : Function
+    pub is_callee : slice_get P.functions c.function ≡ Some callee
+    pub width : length c.arguments ≡ callee.parameters
+    pub arguments : AllByRecursion (IsGoodExpr live) c.arguments
+
+  abbrev pub IsGoodSource : ℕ → ℕ → Source → Type 0
+  IsGoodSource at live (value e) = IsGoodExpr live e
+  IsGoodSource at live (result c) = IsGoodCall at live c
+
+  abbrev pub IsGoodGiven : ℕ → ℕ → Option Source → Type 0
+  IsGoodGiven at live None = ⊤
+  IsGoodGiven at live (Some e) = IsGoodSource at live e
+
+  abbrev mutual
+    -- `break` and `continue` stand in a loop's body; a `for` has a loop
+    pub IsGoodStmt : Bool → ℕ → Stmt → Type 0
+    IsGoodStmt in_loop live absent = ⊤
+    IsGoodStmt in_loop live (nothing at) = ⊤
+    IsGoodStmt in_loop live (block items end) = AreGoodItems in_loop live items
+    IsGoodStmt in_loop live (assign at x e) = IsLive live x × IsGoodSource at live e
+    IsGoodStmt in_loop live (call at c) = IsGoodCall at live c
+    IsGoodStmt in_loop live (if at c a b) = IsGoodCond live c × IsGoodStmt in_loop live a × IsGoodStmt in_loop live b
+    IsGoodStmt in_loop live (loop at c a step) = IsGoodCond live c × IsGoodStmt true live a × IsGoodStmt false live step
+    IsGoodStmt in_loop live (for init again) = AreGoodItems false live init × IsLoop again ×
+        IsGoodStmt false (live_behind live init) again
+    IsGoodStmt in_loop live (break at) = IsTrue in_loop
+    IsGoodStmt in_loop live (continue at) = IsTrue in_loop
+    IsGoodStmt in_loop live (return at e) = IsGoodGiven at live e
+    IsGoodStmt in_loop live (assert at c) = IsGoodCond live c
+    IsGoodStmt in_loop live (assume at c) = IsGoodCond live c
+
+    -- a declarator's variable lives in what it gets
+    pub AreGoodItems : Bool → ℕ → BlockItems → Type 0
+    AreGoodItems in_loop live no_more = ⊤
+    AreGoodItems in_loop live (declaration d items) = IsGoodGiven d.label (suc live) d.source ×
+        AreGoodItems in_loop (suc live) items
+    AreGoodItems in_loop live (statement s items) = IsGoodStmt in_loop live s × AreGoodItems in_loop live items
+
+  abbrev pub IsGoodFunction : Function → Type 0
+  IsGoodFunction f = AreGoodItems false f.parameters f.body
+
+pub record IsWellFormed (P : Program) : Type 0 where
+  pub globals : AllByRecursion (λ z. IsTrue (is_word z)) P.globals
+  pub labels : AreInTextOrder P.functions
+  pub functions : AllByRecursion (IsGoodFunction P) P.functions
+  -- `main` is one of them, without parameters
+  pub main : Contains P.functions P.main
+  pub alone : P.main.parameters ≡ 0

@@ -1,0 +1,11 @@
+//! What a program whose names are resolved is and does: values, small steps, runs and points.
+//!
+//! Most of the crate is definitions: `specs/` is to be read from top to bottom, in the order of `specs/Lib.antt`.
+#![tactic(auto)]
+
+mod program;
+
+pub use program::{
+    BlockItem, BlockItems, Call, Cond, Declarator, Expr, Function, Operation, Program, Slot,
+    Source, Stmt, copy_expressions,
+};

@@ -1,0 +1,365 @@
+//! Programs whose names are resolved. A chain of operators is its first operand and a list of the others, and a block a
+//! list of items, so a program is no deeper than its source is nested. Labels count statements, declarators and the
+//! ends of blocks from 1.
+
+ghost use Rattle.std.specs.Prelude.{◌≡◌, ◌∷◌, [], map, IfOk};
+ghost use Rattle.lra_program.specs.ProgramViews.{slot_view, expr_view, operation_view, cond_view};
+
+use lra_base::{Comparison, Operator};
+use std::alloc::{AllocError, Global};
+
+/// A variable of the whole program, or of the call that runs, by its place from the oldest on.
+#[derive(Clone, Copy, PartialEq, Eq, Debug)]
+pub enum Slot {
+    Global(usize),
+    Local(usize),
+}
+
+#[cycle(resolved_expression)]
+pub enum Expr {
+    /// Below 2^63.
+    Literal(u64),
+    Read(Slot),
+    /// `input()`
+    Input,
+    Negate(Box<Expr>),
+    /// From the left.
+    Chain(Box<Expr>, Vec<Operation>),
+}
+
+impl Drop for Expr {
+    #[cycle(resolved_expression_drop)]
+    fn drop(self) {
+        match self {
+            Expr::Literal(_) => {}
+            Expr::Read(_) => {}
+            Expr::Input => {}
+            Expr::Negate(_) => {}
+            Expr::Chain(_, _) => {}
+        }
+    }
+}
+
+/// An operator and its right operand.
+#[cycle(resolved_expression)]
+pub struct Operation {
+    pub operator: Operator,
+    pub operand: Expr,
+}
+
+impl Drop for Operation {
+    #[cycle(resolved_expression_drop)]
+    fn drop(self) {
+        let Operation {
+            operator: _,
+            operand: _,
+        } = self;
+    }
+}
+
+pub enum Cond {
+    Compare(Comparison, Expr, Expr),
+    /// `e != 0`
+    Nonzero(Expr),
+    Opposite(Box<Cond>),
+    /// A chain of `&&`.
+    All(Box<Cond>, Vec<Cond>),
+    /// A chain of `||`.
+    Any(Box<Cond>, Vec<Cond>),
+}
+
+impl Drop for Cond {
+    fn drop(self) {
+        match self {
+            Cond::Compare(_, _, _) => {}
+            Cond::Nonzero(_) => {}
+            Cond::Opposite(_) => {}
+            Cond::All(_, _) => {}
+            Cond::Any(_, _) => {}
+        }
+    }
+}
+
+/// A call under a label of its own: the callee's place in the list of functions, and the arguments.
+pub struct Call {
+    pub label: usize,
+    pub function: usize,
+    pub arguments: Vec<Expr>,
+}
+
+impl Drop for Call {
+    fn drop(self) {
+        let Call {
+            label: _,
+            function: _,
+            arguments: _,
+        } = self;
+    }
+}
+
+/// What a variable gets, or a `return` gives.
+pub enum Source {
+    Value(Expr),
+    Result(Call),
+}
+
+impl Drop for Source {
+    fn drop(self) {
+        match self {
+            Source::Value(_) => {}
+            Source::Result(_) => {}
+        }
+    }
+}
+
+pub struct Declarator {
+    pub label: usize,
+    pub source: Option<Source>,
+}
+
+impl Drop for Declarator {
+    fn drop(self) {
+        let Declarator {
+            label: _,
+            source: _,
+        } = self;
+    }
+}
+
+/// A statement under its label.
+#[cycle(resolved_statement)]
+pub enum Stmt {
+    /// No `else`, or no step of a `for`.
+    Absent,
+    /// `;`
+    Nothing(usize),
+    /// A block's items, and the label of its `}`.
+    Block(BlockItems, usize),
+    Assign(usize, Slot, Source),
+    Call(usize, Call),
+    /// The branch where the condition is true, and the one where it is false.
+    If(usize, Cond, Box<Stmt>, Box<Stmt>),
+    /// The body, and the step behind each round.
+    Loop(usize, Cond, Box<Stmt>, Box<Stmt>),
+    /// How a `for` begins, and its loop.
+    For(BlockItems, Box<Stmt>),
+    Break(usize),
+    Continue(usize),
+    Return(usize, Option<Source>),
+    Assert(usize, Cond),
+    Assume(usize, Cond),
+}
+
+impl Drop for Stmt {
+    #[cycle(resolved_statement_drop)]
+    fn drop(self) {
+        match self {
+            Stmt::Absent => {}
+            Stmt::Nothing(_) => {}
+            Stmt::Block(_, _) => {}
+            Stmt::Assign(_, _, _) => {}
+            Stmt::Call(_, _) => {}
+            Stmt::If(_, _, _, _) => {}
+            Stmt::Loop(_, _, _, _) => {}
+            Stmt::For(_, _) => {}
+            Stmt::Break(_) => {}
+            Stmt::Continue(_) => {}
+            Stmt::Return(_, _) => {}
+            Stmt::Assert(_, _) => {}
+            Stmt::Assume(_, _) => {}
+        }
+    }
+}
+
+#[cycle(resolved_statement)]
+pub enum BlockItem {
+    Declaration(Declarator),
+    Statement(Stmt),
+}
+
+impl Drop for BlockItem {
+    #[cycle(resolved_statement_drop)]
+    fn drop(self) {
+        match self {
+            BlockItem::Declaration(_) => {}
+            BlockItem::Statement(_) => {}
+        }
+    }
+}
+
+#[cycle(resolved_statement)]
+pub struct BlockItems {
+    pub items: Vec<BlockItem>,
+}
+
+impl Drop for BlockItems {
+    #[cycle(resolved_statement_drop)]
+    fn drop(self) {
+        let BlockItems { items: _ } = self;
+    }
+}
+
+pub struct Function {
+    /// How many parameters it has.
+    pub parameters: usize,
+    pub body: BlockItems,
+    /// The label of its `}`.
+    pub end: usize,
+}
+
+impl Drop for Function {
+    fn drop(self) {
+        let Function {
+            parameters: _,
+            body: _,
+            end: _,
+        } = self;
+    }
+}
+
+pub struct Program {
+    /// The first values of the global variables.
+    pub globals: Vec<i64>,
+    /// All functions in text order.
+    pub functions: Vec<Function>,
+    /// The place of `main` among them.
+    pub main: usize,
+}
+
+impl Drop for Program {
+    fn drop(self) {
+        let Program {
+            globals: _,
+            functions: _,
+            main: _,
+        } = self;
+    }
+}
+
+impl Expr {
+    /// A copy that stands for the same expression.
+    #[cycle(copy_expression)]
+    pub fn copy(&self, alloc: Global) -> Result<Expr, AllocError>
+        ensures { IfOk result (λ e. expr_view e ≡ expr_view self.now) }
+    {
+        Ok(match self {
+            Expr::Literal(n) => Expr::Literal(*n),
+            Expr::Read(slot) => Expr::Read(*slot),
+            Expr::Input => Expr::Input,
+            Expr::Negate(e) => Expr::Negate(Box::new(alloc, e.copy(alloc)?)?),
+            Expr::Chain(first, rest) => {
+                let first = Box::new(alloc, first.copy(alloc)?)?;
+                Expr::Chain(first, copy_operations(alloc, rest)?)
+            }
+        })
+    }
+}
+
+#[cycle(copy_expression)]
+fn copy_operations(alloc: Global, operations: &[Operation]) -> Result<Vec<Operation>, AllocError>
+    ensures { IfOk result (λ v. map operation_view v.items ≡ map operation_view operations.now) }
+{
+    let mut copies = Vec::new(alloc);
+    'operations: for operation in operations {
+        let operand = operation.operand.copy(alloc)?;
+        copies.push(Operation {
+            operator: operation.operator,
+            operand,
+        })?;
+    }
+    Ok(copies)
+}
+
+impl Cond {
+    /// A copy that stands for the same condition.
+    #[cycle(copy_condition)]
+    pub fn copy(&self, alloc: Global) -> Result<Cond, AllocError>
+        ensures { IfOk result (λ c. cond_view c ≡ cond_view self.now) }
+    {
+        Ok(match self {
+            Cond::Compare(op, a, b) => Cond::Compare(*op, a.copy(alloc)?, b.copy(alloc)?),
+            Cond::Nonzero(e) => Cond::Nonzero(e.copy(alloc)?),
+            Cond::Opposite(c) => Cond::Opposite(Box::new(alloc, c.copy(alloc)?)?),
+            Cond::All(first, rest) => {
+                let first = Box::new(alloc, first.copy(alloc)?)?;
+                Cond::All(first, copy_conditions(alloc, rest)?)
+            }
+            Cond::Any(first, rest) => {
+                let first = Box::new(alloc, first.copy(alloc)?)?;
+                Cond::Any(first, copy_conditions(alloc, rest)?)
+            }
+        })
+    }
+}
+
+#[cycle(copy_condition)]
+fn copy_conditions(alloc: Global, conditions: &[Cond]) -> Result<Vec<Cond>, AllocError>
+    ensures { IfOk result (λ v. map cond_view v.items ≡ map cond_view conditions.now) }
+{
+    let mut copies = Vec::new(alloc);
+    'conditions: for condition in conditions {
+        copies.push(condition.copy(alloc)?)?;
+    }
+    Ok(copies)
+}
+
+/// Copies of expressions, as those of a call's arguments.
+pub fn copy_expressions(alloc: Global, expressions: &[Expr]) -> Result<Vec<Expr>, AllocError>
+    ensures { IfOk result (λ v. map expr_view v.items ≡ map expr_view expressions.now) }
+{
+    let mut copies = Vec::new(alloc);
+    'expressions: for expression in expressions {
+        copies.push(expression.copy(alloc)?)?;
+    }
+    Ok(copies)
+}
+
+#[cfg(test)]
+mod tests {
+    use super::*;
+    use std::test::Fail;
+
+    fn is_literal(e: &Expr, value: u64) -> bool {
+        matches!(e, Expr::Literal(n) if *n == value)
+    }
+
+    /// Whether it is the sum of two literals.
+    fn is_sum(e: &Expr, left: u64, right: u64) -> bool {
+        match e {
+            Expr::Chain(first, rest) => match rest.as_slice() {
+                [only] => is_literal(first, left) && is_literal(&only.operand, right),
+                _ => false,
+            },
+            _ => false,
+        }
+    }
+
+    fn is_opposed_input(c: &Cond) -> bool {
+        match c {
+            Cond::Opposite(inner) => matches!(&**inner, Cond::Nonzero(Expr::Input)),
+            _ => false,
+        }
+    }
+
+    #[test]
+    fn copies_keep_the_literals(rt: HostRuntime) -> Result<(), Fail> {
+        let mut rest = Vec::new(rt.alloc());
+        rest.push(Operation {
+            operator: Operator::Plus,
+            operand: Expr::Literal(3),
+        })?;
+        let sum = Expr::Chain(Box::new(rt.alloc(), Expr::Literal(2))?, rest);
+        let copies = copy_expressions(rt.alloc(), &[sum])?;
+        assert_eq!(rt; copies.len(), 1);
+        assert!(rt; is_sum(&copies[0], 2, 3));
+        Ok(())
+    }
+
+    #[test]
+    fn copies_keep_the_opposites(rt: HostRuntime) -> Result<(), Fail> {
+        let opposed = Cond::Opposite(Box::new(rt.alloc(), Cond::Nonzero(Expr::Input))?);
+        let copy = opposed.copy(rt.alloc())?;
+        assert!(rt; is_opposed_input(&copy));
+        Ok(())
+    }
+}

@@ -1,0 +1,47 @@
+-- What the report of a source lists.
+use Rattle.std.proofs.Common.{◌≡◌, ℕ, [], ◌∷◌, refl}
+use Rattle.std.specs.Prelude.{codes}
+use Rattle.std.specs.Fmt.{digits}
+use Rattle.lra_findings.specs.Report.{PointReport}
+use Rattle.lra_tree.specs.Labels.{labels_of}
+use Rattle.lra_program.specs.Sites.{Site}
+use Rattle.lra_report.specs.Listing.{listed_point, Lists}
+use Rattle.lra_meaning.specs.LiveNames.{globals_named}
+use Rattle.lra_tree.proofs.TreeSamples.{at, number, one_variable, called_twice, call_in_step}
+use Rattle.lra_findings.proofs.ReportTextExamples as report
+use Rattle.lra_meaning.proofs.SiteExamples.{site}
+
+-- the second call's points: paths, places and names
+abbrev second_call : ℕ → Site → PointReport
+second_call number s = listed_point (globals_named called_twice.parts) (labels_of called_twice) number s []
+
+called_twice_listed : ((second_call 6 (site (5 ∷ []) 1 2)).path ≡ codes "main/inc@1:71")
+    × ((second_call 6 (site (5 ∷ []) 1 2)).place ≡ at 19)
+    × ((second_call 6 (site (5 ∷ []) 1 2)).names ≡ codes "x~1" ∷ codes "x" ∷ [])
+    × ((second_call 9 (site [] 6 1)).place ≡ at 79)
+unfolding digits
+called_twice_listed = (refl, refl, refl, refl)
+
+-- paths of two calls, places and names
+abbrev listed_in_step : ℕ → Site → PointReport
+listed_in_step number s = listed_point (globals_named call_in_step.parts) (labels_of call_in_step) number s []
+
+call_in_step_listed : ((listed_in_step 2 (site (9 ∷ []) 3 3)).path ≡ codes "main/h@1:112")
+    × ((listed_in_step 2 (site (9 ∷ []) 3 3)).place ≡ at 47)
+    × ((listed_in_step 5 (site (5 ∷ 9 ∷ []) 1 4)).path ≡ codes "main/h@1:112/k@1:66")
+    × ((listed_in_step 5 (site (5 ∷ 9 ∷ []) 1 4)).place ≡ at 17)
+    × ((listed_in_step 5 (site (5 ∷ 9 ∷ []) 1 4)).names ≡ codes "m" ∷ codes "a" ∷ codes "i" ∷ codes "d" ∷ [])
+    × ((listed_in_step 10 (site (7 ∷ 9 ∷ []) 2 3)).path ≡ codes "main/h@1:112/k@1:81")
+    × ((listed_in_step 10 (site (7 ∷ 9 ∷ []) 2 3)).place ≡ at 29)
+    × ((listed_in_step 10 (site (7 ∷ 9 ∷ []) 2 3)).names ≡ codes "m" ∷ codes "a" ∷ codes "d" ∷ [])
+    × ((listed_in_step 12 (site [] 10 1)).path ≡ codes "main")
+    × ((listed_in_step 12 (site [] 10 1)).place ≡ at 118)
+unfolding digits
+call_in_step_listed = (refl, refl, refl, refl, refl, refl, refl, refl, refl, refl)
+
+-- int main(void){ long x; x = 3; assert(x >= 3); } : the report with four points and one verdict lists what the source has; catches a report that leaves a point out
+one_variable_lists : Lists one_variable report.one_variable
+one_variable_lists = record {
+  points = (refl, ((tt, tt), tt), (refl, ((tt, tt), tt), (refl, (((refl, tt), tt), tt), (refl, (((refl, tt), tt), tt), tt))));
+  verdicts = (refl, tt);
+}
