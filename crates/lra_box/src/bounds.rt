@@ -89,7 +89,7 @@ pub fn wide_row(alloc: Global, e: &LinExpr) -> Result<Vec<i128>, AllocError>
 }
 
 /// The same times -1.
-fn opposite_row(alloc: Global, e: &LinExpr) -> Result<Vec<i128>, AllocError>
+pub fn opposite_row(alloc: Global, e: &LinExpr) -> Result<Vec<i128>, AllocError>
     ensures row { IfOk result (λ row. row.items ≡ map neg_ℤ e.now.coefficients) }
     ensures range { IfOk result (λ row. All InRange row.items) }
 {

@@ -139,7 +139,7 @@ pub(crate) fn tighten(c: i128, most: Option<i128>, interval: Interval) -> Interv
 }
 
 /// Whether the lower bound is above the upper one.
-pub(crate) fn is_crossed(interval: Interval) -> bool
+pub fn is_crossed(interval: Interval) -> bool
     ensures { result ≡ crossed interval }
 {
     match (interval.low, interval.high) {

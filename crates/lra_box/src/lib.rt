@@ -9,8 +9,11 @@ mod intervals;
 mod parts;
 mod refine;
 
+pub use bounds::{opposite_row, wide_row};
 pub use boxes::Boxes;
-pub use interval::Interval;
+pub use ends::{Bound, sum_end};
+pub use interval::{Interval, Side, is_crossed};
+pub use refine::{Refined, refine_all, worse};
 
 #[cfg(test)]
 mod tests;

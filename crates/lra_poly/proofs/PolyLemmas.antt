@@ -1,0 +1,264 @@
+-- What the operations' lists tell of sets of points.
+use Rattle.std.proofs.Common.{◌≡◌, ◌≢◌, ℕ, suc, Bool, true, false, zero, List, [], ◌∷◌, ◌++◌, length, ap, sym, ◌∙◌, subst, ℤ, pos, ◌≤ℤ◌, inl, inr, refl, ◌⊎◌, arith}
+use Rattle.std.specs.List.{Contains}
+use Rattle.std.proofs.lemmas.List.Elements.{Contains-append_cases, Contains-append_left, Contains-append_right}
+use Rattle.lra_linear.specs.Cones.{both_ways}
+use Rattle.lra_linear.specs.Descriptions.{Con, Gen, Given, Holds, inequality, given_as, system_of}
+use Rattle.lra_linear.specs.OperationStrain.{ConstraintsStrain, FromRowsStrains, FromGeneratorsStrains, MeetStrains, AddTestStrains, HullStrains, ResultStrains}
+use Rattle.lra_linear.specs.Points.{IsPoint, IsWithin, IsEmptySet, SameSet, PointSet}
+use Rattle.lra_linear.specs.Polyhedra.{Polyhedron, IsPolyhedron, IsPolyhedronOf, HasPoint, falsity}
+use Rattle.lra_linear.specs.SetOperations.{Meet, Union, Hull}
+use Rattle.lra_linear.specs.Strain.{Loss}
+use Rattle.lra_linear.specs.Vectors.{entry, product, zeros}
+use Rattle.lra_linear.proofs.Combinations.{generated_row}
+use Rattle.lra_linear.proofs.Descriptions.{con_cons, con_head, con_none, con_solves, solves_con, generated_gen, gen_generated, system_from, system_there}
+use Rattle.lra_linear.proofs.LinearMaps.{generated_nonneg, generated_through}
+use Rattle.lra_linear.proofs.Lines.{in_lines}
+use Rattle.lra_linear.proofs.Membership.{contains_head, contains_none, each_one}
+use Rattle.lra_linear.proofs.OneSpelling.{falsity_never, given_from}
+use Rattle.lra_linear.proofs.Polyhedra.{con_gen}
+use Rattle.lra_linear.proofs.Products.{negated_length}
+use Rattle.lra_linear.proofs.SetOperations.{has_vertex, meet_con, valid_on_rows}
+use Rattle.lra_poly.specs.declared.outcome.Outcome.{Outcome}
+use Rattle.lra_poly.specs.declared.outcome.Outcome.TheVariants.{Exact, Flagged}
+use Rattle.lra_poly.specs.Outcomes.{IfExact, IfFlagged, first_loss}
+use Rattle.lra_cone.specs.Losses.{IfLost}
+use Rattle.lra_pair.proofs.OwnRows.{none_of}
+use Rattle.lra_sys.specs.Listed.{Listed, generators, given_by, is_line}
+use Rattle.lra_sys.specs.declared.system.GenKind.{GenKind}
+use Rattle.std.specs.Prelude.{◌↔◌, ◌==◌, IsTrue}
+
+-- ---- without a point
+pub falsity_is_empty : (n : ℕ) (rows : List Given) → rows ≡ inequality (falsity n) ∷ [] → IsEmptySet n (Con rows)
+falsity_is_empty n rows e x is_point c =
+    falsity_never n x is_point (c (inequality (falsity n)) (subst (λ (l : List Given). Contains l (inequality (falsity n))) (sym e) (contains_head (inequality (falsity n)) [])))
+
+some_generator : (p : Polyhedron) → HasPoint p → p.generators ≢ []
+some_generator p h e = contains_none (has_vertex p h).vertex (subst (λ (l : List Given). Contains (system_of l) (has_vertex p h).vertex) e (has_vertex p h).has)
+
+pub empty_where_none : (p : Polyhedron) → IsPolyhedron p → p.generators ≡ [] → IsEmptySet p.dims (Con p.rows)
+empty_where_none p (inl none) e = falsity_is_empty p.dims p.rows none.0
+empty_where_none p (inr h) e = absurd (some_generator p h e)
+
+pub none_where_empty : (p : Polyhedron) → IsPolyhedron p → IsEmptySet p.dims (Con p.rows) → p.generators ≡ []
+none_where_empty p (inl none) e = none.1
+none_where_empty p (inr h) e =
+    let v = has_vertex p h in
+    let is_point : IsPoint p.dims v.vertex = record { width = v.widths v.vertex v.has; divisor = v.divisor } in
+    absurd (e v.vertex is_point ((con_gen p (inr h)).1 v.vertex is_point (generated_gen p.generators (entry v.vertex) (generated_row (system_of p.generators) v.vertex v.has))))
+
+-- ---- other words for the exact result
+pub same_polyhedron : (n : ℕ) (P Q : PointSet) (p : Polyhedron) → SameSet n P Q → IsPolyhedronOf n Q p → IsPolyhedronOf n P p
+same_polyhedron n P Q p s h = record {
+  dimensions = h.dimensions;
+  canonical = h.canonical;
+  points = (λ x i c. h.points.0 x i (s.0 x i c), λ x i c. s.1 x i (h.points.1 x i c));
+}
+
+result_strain : (n : ℕ) (P Q : PointSet) (list : Polyhedron → List Given) (loss : Loss) → SameSet n P Q → ResultStrains n Q list loss → ResultStrains n P list loss
+result_strain n P Q list loss s r = record { result = r.result; is_result = same_polyhedron n P Q r.result s r.is_result; strains = r.strains }
+
+constraints_strain : (n : ℕ) (P Q : PointSet) (taken : List Given) (loss : Loss) → SameSet n P Q → ConstraintsStrain n Q taken loss → ConstraintsStrain n P taken loss
+constraints_strain n P Q taken loss s (inl a) = inl a
+constraints_strain n P Q taken loss s (inr b) = inr (result_strain n P Q (λ p. p.generators) loss s b)
+
+if_exact : (P Q : Type 0) (o : Outcome) → (P → Q) → IfExact P o → IfExact Q o
+if_exact P Q Exact f h = f h
+if_exact P Q (Flagged loss) f h = tt
+
+if_flagged : (P Q : Loss → Type 0) (o : Outcome) → ((loss : Loss) → P loss → Q loss) → IfFlagged P o → IfFlagged Q o
+if_flagged P Q Exact f h = tt
+if_flagged P Q (Flagged loss) f h = f loss h
+
+-- the first loss tells
+pub losses_exact : (P : Type 0) (losses : List Loss) (o : Outcome) → o ≡ first_loss losses → (losses ≡ [] → P) → IfExact P o
+losses_exact P losses o e h = subst (IfExact P) (sym e) (by_list losses h)
+  where
+    by_list : (l : List Loss) → (l ≡ [] → P) → IfExact P (first_loss l)
+    by_list [] h = h refl
+    by_list (x ∷ l) h = tt
+
+pub losses_flagged : (P : Loss → Type 0) (losses : List Loss) (o : Outcome) → o ≡ first_loss losses → IfLost P losses → IfFlagged P o
+losses_flagged P losses o e h = subst (IfFlagged P) (sym e) (by_list losses h)
+  where
+    by_list : (l : List Loss) → IfLost P l → IfFlagged P (first_loss l)
+    by_list [] h = tt
+    by_list (x ∷ l) h = h
+
+-- ---- whether there is a generator
+given_none : {K : Type 0} (equal : K → Bool) (rows : List (List ℤ)) (kinds : List K) → kinds ≡ [] → given_by equal rows kinds ≡ []
+given_none equal [] kinds e = refl
+given_none equal (r ∷ rows) [] e = refl
+given_none equal (r ∷ rows) (k ∷ kinds) e = cc
+
+none_given : {K : Type 0} (equal : K → Bool) (rows : List (List ℤ)) (kinds : List K) → length kinds ≡ length rows → given_by equal rows kinds ≡ [] → kinds ≡ []
+none_given equal [] [] n e = refl
+none_given equal [] (k ∷ kinds) n e = absurd (omega (arith, n))
+none_given equal (r ∷ rows) [] n e = refl
+none_given equal (r ∷ rows) (k ∷ kinds) n e = cc
+
+none_counted : {A : Type 0} (xs : List A) (b : Bool) → b ≡ (length xs == 0) → IsTrue b ↔ (xs ≡ [])
+none_counted {A = A} xs b e = (λ t. none_of xs (length xs) b refl e t, λ h. e ∙ ap (λ (l : List A). length l == 0) h)
+
+pub emptiness : (p : Polyhedron) (list : Listed GenKind) (kinds : List GenKind) (b : Bool) → IsPolyhedron p → generators list ≡ p.generators → kinds ≡ list.kinds →
+    length kinds ≡ length list.rows → b ≡ (length kinds == 0) → IsTrue b ↔ IsEmptySet p.dims (Con p.rows)
+emptiness p list kinds b h e ek n is = let said = none_counted kinds b is in (
+  λ t. empty_where_none p h (sym e ∙ given_none is_line list.rows list.kinds (sym ek ∙ said.0 t)),
+  λ s. said.1 (none_given is_line list.rows kinds n (ap (given_by is_line list.rows) ek ∙ e ∙ none_where_empty p h s)),
+)
+
+-- ---- as the code tells it
+pub within_same : (n m : ℕ) (P : PointSet) (p q : Polyhedron) → p ≡ q → n ≡ m → IsWithin m P (Con q.rows) → IsWithin n P (Con p.rows)
+within_same n m P p q e d h = subst (λ (k : ℕ). IsWithin k P (Con p.rows)) (sym d) (subst (λ (x : Polyhedron). IsWithin m P (Con x.rows)) (sym e) h)
+
+-- the exact result of constraints that have no other points than the old value; a value that lies in it; the old value
+pub exact_inside : (n m : ℕ) (list old : List Given) (self made : Polyhedron) (o : Outcome) → o ≡ Exact → self ≡ made → n ≡ m → IfExact (IsPolyhedronOf m (Con list) made) o →
+    IsWithin n (Con list) (Con old) → IsWithin n (Con self.rows) (Con old)
+exact_inside n m list old self made o eo es d h k =
+    let a : IsPolyhedronOf m (Con list) made = subst (IfExact (IsPolyhedronOf m (Con list) made)) eo h in
+    λ x i c. k x i (a.points.1 x (subst (λ (j : ℕ). IsPoint j x) d i) (subst (λ (y : Polyhedron). Con y.rows x) es c))
+
+pub made_inside : (n : ℕ) (old : List Given) (self made : Polyhedron) → self ≡ made → n ≡ made.dims → IsWithin made.dims (Con made.rows) (Con old) → IsWithin n (Con self.rows) (Con old)
+made_inside n old self made es d h x i c = h x (subst (λ (j : ℕ). IsPoint j x) d i) (subst (λ (y : Polyhedron). Con y.rows x) es c)
+
+pub old_inside : (n : ℕ) (self old : Polyhedron) → self ≡ old → IsWithin n (Con self.rows) (Con old.rows)
+old_inside n self old es x i c = subst (λ (y : Polyhedron). Con y.rows x) es c
+
+pub joined_seen : (list first second rows more : List Given) → list ≡ first ++ second → first ≡ rows → second ≡ more → list ≡ rows ++ more
+joined_seen list first second rows more e ef es = e ∙ ap (λ (l : List Given). l ++ second) ef ∙ ap (λ (l : List Given). rows ++ l) es
+
+-- ---- the meet with a list of constraints
+pub meet_exact : (n : ℕ) (rows more list : List Given) (p : Polyhedron) (o : Outcome) → list ≡ rows ++ more → IfExact (IsPolyhedronOf n (Con list) p) o →
+    IfExact (IsPolyhedronOf n (Meet (Con rows) (Con more)) p) o
+meet_exact n rows more list p o e = if_exact (IsPolyhedronOf n (Con list) p) (IsPolyhedronOf n (Meet (Con rows) (Con more)) p) o
+    (λ h. same_polyhedron n (Meet (Con rows) (Con more)) (Con (rows ++ more)) p (meet_con n rows more) (subst (λ (l : List Given). IsPolyhedronOf n (Con l) p) e h))
+
+pub meet_within : (n : ℕ) (rows more list : List Given) (P : PointSet) → list ≡ rows ++ more → IsWithin n (Con list) P → IsWithin n (Meet (Con rows) (Con more)) P
+meet_within n rows more list P e h x i both = h x i (subst (λ (l : List Given). Con l x) (sym e) ((meet_con n rows more).0 x i both))
+
+pub meet_inside : (n : ℕ) (rows more list : List Given) → list ≡ rows ++ more → IsWithin n (Con list) (Con rows)
+meet_inside n rows more list e x i c = ((meet_con n rows more).1 x i (subst (λ (l : List Given). Con l x) e c)).0
+
+pub meet_strain : (p q : Polyhedron) (list : List Given) (o : Outcome) → list ≡ p.rows ++ q.rows → IfFlagged (FromRowsStrains p.dims list) o → IfFlagged (MeetStrains p q) o
+meet_strain p q list o e = if_flagged (FromRowsStrains p.dims list) (MeetStrains p q) o
+    (λ loss s. constraints_strain p.dims (Meet (Con p.rows) (Con q.rows)) (Con (p.rows ++ q.rows)) (p.rows ++ q.rows) loss (meet_con p.dims p.rows q.rows)
+    (subst (λ (l : List Given). FromRowsStrains p.dims l loss) e s))
+
+-- ---- the meet with a test
+test_same : (n : ℕ) (P : PointSet) (t : Given) → SameSet n (Meet P (Holds t)) (Meet P (Con (t ∷ [])))
+test_same n P t = (λ x i h. (h.0, con_cons t [] x h.1 (con_none x)), λ x i h. (h.0, con_head t [] x h.1))
+
+both_same : (n : ℕ) (P Q R : PointSet) → SameSet n P Q → SameSet n Q R → SameSet n P R
+both_same n P Q R a b = (λ x i h. b.0 x i (a.0 x i h), λ x i h. a.1 x i (b.1 x i h))
+
+tested_same : (n : ℕ) (rows : List Given) (t : Given) → SameSet n (Meet (Con rows) (Holds t)) (Con (rows ++ t ∷ []))
+tested_same n rows t = both_same n (Meet (Con rows) (Holds t)) (Meet (Con rows) (Con (t ∷ []))) (Con (rows ++ t ∷ [])) (test_same n (Con rows) t) (meet_con n rows (t ∷ []))
+
+pub test_exact : (n : ℕ) (rows list : List Given) (t : Given) (p : Polyhedron) (o : Outcome) → list ≡ rows ++ t ∷ [] → IfExact (IsPolyhedronOf n (Con list) p) o →
+    IfExact (IsPolyhedronOf n (Meet (Con rows) (Holds t)) p) o
+test_exact n rows list t p o e = if_exact (IsPolyhedronOf n (Con list) p) (IsPolyhedronOf n (Meet (Con rows) (Holds t)) p) o
+    (λ h. same_polyhedron n (Meet (Con rows) (Holds t)) (Con (rows ++ t ∷ [])) p (tested_same n rows t) (subst (λ (l : List Given). IsPolyhedronOf n (Con l) p) e h))
+
+pub test_within : (n : ℕ) (rows list : List Given) (t : Given) (P : PointSet) → list ≡ rows ++ t ∷ [] → IsWithin n (Con list) P → IsWithin n (Meet (Con rows) (Holds t)) P
+test_within n rows list t P e h x i both = h x i (subst (λ (l : List Given). Con l x) (sym e) ((tested_same n rows t).0 x i both))
+
+pub test_strain : (p : Polyhedron) (list : List Given) (t : Given) (o : Outcome) → list ≡ p.rows ++ t ∷ [] → IfFlagged (FromRowsStrains p.dims list) o → IfFlagged (AddTestStrains p t) o
+test_strain p list t o e = if_flagged (FromRowsStrains p.dims list) (AddTestStrains p t) o
+    (λ loss s. constraints_strain p.dims (Meet (Con p.rows) (Holds t)) (Con (p.rows ++ t ∷ [])) (p.rows ++ t ∷ []) loss (tested_same p.dims p.rows t)
+    (subst (λ (l : List Given). FromRowsStrains p.dims l loss) e s))
+
+-- ---- the hull
+-- the rows of joined lists
+joined_from : (xs ys : List Given) (t : List ℤ) → Contains (system_of (xs ++ ys)) t → Contains (system_of xs) t ⊎ Contains (system_of ys) t
+joined_from xs ys t k =
+    let f = system_from (xs ++ ys) t k in
+    elim (Contains-append_cases xs ys f.given f.has) [
+      | inl a ↦ inl (system_there xs t (record { given = f.given; has = a; sign = f.sign }))
+      | inr b ↦ inr (system_there ys t (record { given = f.given; has = b; sign = f.sign }))
+    ]
+
+joined_has : (xs ys : List Given) (t : List ℤ) → Contains (system_of xs) t ⊎ Contains (system_of ys) t → Contains (system_of (xs ++ ys)) t
+joined_has xs ys t (inl k) = let f = system_from xs t k in system_there (xs ++ ys) t (record { given = f.given; has = Contains-append_left xs ys f.given f.has; sign = f.sign })
+joined_has xs ys t (inr k) = let f = system_from ys t k in system_there (xs ++ ys) t (record { given = f.given; has = Contains-append_right xs ys f.given f.has; sign = f.sign })
+
+-- an inequality that is valid on a polyhedron holds with each of its generators
+valid_with : (p : Polyhedron) → IsPolyhedron p → (c : List ℤ) → ((y : List ℤ) → IsPoint p.dims y → Con p.rows y → pos 0 ≤ℤ product c y) → (t : List ℤ) → Contains (system_of p.generators) t →
+    pos 0 ≤ℤ product c t
+valid_with p (inl none) c valid t k = absurd (contains_none t (subst (λ (l : List Given). Contains (system_of l) t) none.1 k))
+valid_with p (inr h) c valid t k = valid_on_rows p.dims p.generators (has_vertex p h) c (λ y i g. valid y i ((con_gen p (inr h)).1 y i g)) t k
+
+-- so what the generators of both give is in the hull
+pub gen_in_hull : (p q : Polyhedron) → IsPolyhedron p → IsPolyhedron q → q.dims ≡ p.dims → IsWithin p.dims (Gen (p.generators ++ q.generators)) (Hull p.dims (Union (Con p.rows) (Con q.rows)))
+gen_in_hull p q h k e x is_point g c width valid =
+    generated_nonneg c (system_of (p.generators ++ q.generators)) (entry x)
+    (λ t m. elim (joined_from p.generators q.generators t m) [
+      | inl a ↦ valid_with p h c (λ y i s. valid y i (inl s)) t a
+      | inr b ↦ valid_with q k c (λ y i s. valid y (subst (λ (n : ℕ). IsPoint n y) e i) (inr s)) t b
+    ])
+    (gen_generated (p.generators ++ q.generators) (entry x) g)
+
+-- and the points of both are given by them
+union_in_gen : (p q : Polyhedron) → IsPolyhedron p → IsPolyhedron q → q.dims ≡ p.dims → IsWithin p.dims (Union (Con p.rows) (Con q.rows)) (Gen (p.generators ++ q.generators))
+union_in_gen p q h k e x i (inl c) =
+    generated_gen (p.generators ++ q.generators) (entry x) (generated_through (system_of (p.generators ++ q.generators)) (system_of p.generators) (entry x)
+    (λ t m. generated_row (system_of (p.generators ++ q.generators)) t (joined_has p.generators q.generators t (inl m))) (gen_generated p.generators (entry x) ((con_gen p h).0 x i c)))
+union_in_gen p q h k e x i (inr c) =
+    generated_gen (p.generators ++ q.generators) (entry x) (generated_through (system_of (p.generators ++ q.generators)) (system_of q.generators) (entry x)
+    (λ t m. generated_row (system_of (p.generators ++ q.generators)) t (joined_has p.generators q.generators t (inr m)))
+    (gen_generated q.generators (entry x) ((con_gen q k).0 x (subst (λ (n : ℕ). IsPoint n x) (sym e) i) c)))
+
+-- ---- the rows of a polyhedron have a column more than there are dimensions
+zeros_length : (n : ℕ) → length (zeros n) ≡ n
+zeros_length zero = refl
+zeros_length (suc n) = ap suc (zeros_length n)
+
+given_width : (p : Polyhedron) → IsPolyhedron p → (g : Given) → Contains p.rows g → length g.row ≡ suc p.dims
+given_width p (inl none) g k = each_one (λ (x : Given). length x.row ≡ suc p.dims) (inequality (falsity p.dims)) (ap suc (zeros_length p.dims)) g (subst (λ (l : List Given). Contains l g) none.0 k)
+given_width p (inr h) g k = elim (Contains-append_cases (given_as true h.equalities) (given_as false h.inequalities) g (subst (λ (l : List Given). Contains l g) h.rows_are k)) [
+  | inl e ↦ h.dual.system_widths g.row
+      (Contains-append_right h.facets (both_ways h.equalities) g.row (in_lines h.equalities g.row (given_from true h.equalities g e).1))
+  | inr i ↦ h.dual.system_widths g.row
+      (Contains-append_left h.facets (both_ways h.equalities) g.row (h.shown g.row (given_from false h.inequalities g i).1).0)
+]
+
+rows_width : (p : Polyhedron) → IsPolyhedron p → (c : List ℤ) → Contains (system_of p.rows) c → length c ≡ suc p.dims
+rows_width p h c k =
+    let f = system_from p.rows c k in
+    elim f.sign [
+      | inl e ↦ ap length e ∙ given_width p h f.given f.has
+      | inr e ↦ ap length e.1 ∙ negated_length f.given.row ∙ given_width p h f.given f.has
+    ]
+
+-- constraints that hold at each point of a set hold on its hull
+hull_holds : (n : ℕ) (P : PointSet) (rows : List Given) → ((c : List ℤ) → Contains (system_of rows) c → length c ≡ suc n) → IsWithin n P (Con rows) → IsWithin n (Hull n P) (Con rows)
+hull_holds n P rows widths h x i hull = solves_con rows x (λ c k. hull c (widths c k) (λ y j s. con_solves rows y (h y j s) c k))
+
+pub hull_within : (p q r : Polyhedron) (list : List Given) → IsPolyhedron p → IsPolyhedron q → IsPolyhedron r → q.dims ≡ p.dims → r.dims ≡ p.dims → list ≡ p.generators ++ q.generators →
+    IsWithin p.dims (Gen list) (Con r.rows) → IsWithin p.dims (Hull p.dims (Union (Con p.rows) (Con q.rows))) (Con r.rows)
+hull_within p q r list h k m e er el within = hull_holds p.dims (Union (Con p.rows) (Con q.rows)) r.rows (λ c i. rows_width r m c i ∙ ap suc er)
+    (λ x i u. within x i (subst (λ (l : List Given). Gen l x) (sym el) (union_in_gen p q h k e x i u)))
+
+hull_made : (p q r : Polyhedron) → IsPolyhedron p → IsPolyhedron q → q.dims ≡ p.dims → IsPolyhedronOf p.dims (Gen (p.generators ++ q.generators)) r →
+    IsPolyhedronOf p.dims (Hull p.dims (Union (Con p.rows) (Con q.rows))) r
+hull_made p q r h k e a = record {
+  dimensions = a.dimensions;
+  canonical = a.canonical;
+  points = (
+    hull_within p q r (p.generators ++ q.generators) h k a.canonical e a.dimensions refl a.points.0,
+    λ x i c. gen_in_hull p q h k e x i (a.points.1 x i c),
+  );
+}
+
+pub hull_exact : (p q r : Polyhedron) (list : List Given) (o : Outcome) → IsPolyhedron p → IsPolyhedron q → q.dims ≡ p.dims → list ≡ p.generators ++ q.generators →
+    IfExact (IsPolyhedronOf p.dims (Gen list) r) o → IfExact (IsPolyhedronOf p.dims (Hull p.dims (Union (Con p.rows) (Con q.rows))) r) o
+hull_exact p q r list o h k e el = if_exact (IsPolyhedronOf p.dims (Gen list) r) (IsPolyhedronOf p.dims (Hull p.dims (Union (Con p.rows) (Con q.rows))) r) o
+    (λ a. hull_made p q r h k e (subst (λ (l : List Given). IsPolyhedronOf p.dims (Gen l) r) el a))
+
+taken_strain : (p q : Polyhedron) (loss : Loss) → IsPolyhedron p → IsPolyhedron q → q.dims ≡ p.dims → FromGeneratorsStrains p.dims (p.generators ++ q.generators) loss → HullStrains p q loss
+taken_strain p q loss h k e (inl a) = inl a
+taken_strain p q loss h k e (inr b) = inr (record { result = b.result; is_result = hull_made p q b.result h k e b.is_result; strains = b.strains })
+
+pub hull_strain : (p q : Polyhedron) (list : List Given) (o : Outcome) → IsPolyhedron p → IsPolyhedron q → q.dims ≡ p.dims → list ≡ p.generators ++ q.generators →
+    IfFlagged (FromGeneratorsStrains p.dims list) o → IfFlagged (HullStrains p q) o
+hull_strain p q list o h k e el = if_flagged (FromGeneratorsStrains p.dims list) (HullStrains p q) o
+    (λ loss s. taken_strain p q loss h k e (subst (λ (l : List Given). FromGeneratorsStrains p.dims l loss) el s))

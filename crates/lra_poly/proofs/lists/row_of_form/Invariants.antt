@@ -1,0 +1,14 @@
+use Rattle.std.proofs.Common.{◌≡◌, ◌++◌, length}
+use Rattle.std.specs.List.{All}
+use Rattle.lra_linear.specs.Range.{InRange}
+use Rattle.lra_poly.specs.Rows.{form_row}
+use Rattle.lra_poly.proofs.lists.row_of_form.Given as goal
+
+abbrev pub invariant-loop-coefficient : goal.invariant-loop-coefficient
+invariant-loop-coefficient l = record {
+  items : l.numbers.items ++ l.left ≡ form_row l.form;
+  range : All InRange l.numbers.items;
+}
+
+abbrev pub decreases-loop-coefficient : goal.decreases-loop-coefficient
+decreases-loop-coefficient l = length l.left

@@ -1,0 +1,11 @@
+use Rattle.std.proofs.Common.{refl}
+use Rattle.lra_linear.specs.Polyhedra.{Polyhedron}
+use Rattle.lra_sys.specs.Listed.{constraints, generators}
+use Rattle.lra_poly.proofs.PolyLemmas.{emptiness}
+use Rattle.lra_poly.proofs.poly.Poly.is_empty.Goals as goal
+
+pub returns : goal.returns
+returns c =
+    let list = c.self.inside.by_generators in
+    let p : Polyhedron = record { dims = c.self.inside.rows.dims; rows = constraints c.self.inside.rows; generators = generators list } in
+    rw (← c.self.view_is) (emptiness p list c.kinds.result.now c.is_empty.result c.self.invariant.0 refl c.kinds.ensures.kinds c.kinds.ensures.len c.is_empty.ensures)

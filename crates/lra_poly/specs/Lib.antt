@@ -1,0 +1,5 @@
+-- Operations on closed polyhedra.
+pub mod Rows
+pub mod Outcomes
+pub mod FirstPlaces
+pub mod Inclusions

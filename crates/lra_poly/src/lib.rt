@@ -1,0 +1,14 @@
+//! Closed polyhedra, each by its canonical constraints and its canonical generators, which have the same points.
+#![tactic(auto)]
+
+mod inclusion;
+mod lists;
+mod outcome;
+mod poly;
+
+pub use inclusion::Inclusion;
+pub use outcome::Outcome;
+pub use poly::Poly;
+
+#[cfg(test)]
+mod tests;

@@ -1,0 +1,74 @@
+//! Lists that the operations take in.
+
+ghost use Rattle.std.specs.Prelude.{◌≡◌, ◌++◌, ◌∷◌, [], suc, length, IfOk};
+ghost use Rattle.std.specs.List.{All};
+ghost use Rattle.lra_linear.specs.Range.{InRange};
+ghost use Rattle.lra_sys.specs.Listed.{constraints, generators, FitKinds};
+ghost use Rattle.lra_poly.specs.Rows.{form_row, test_row};
+
+use lra_lin::{LinExpr, Test};
+use lra_row::Row;
+use lra_sys::{ConSys, GenSys};
+use std::alloc::{AllocError, Global};
+
+// The constraints of the first list, then those of the second.
+pub fn joined_rows(first: &ConSys, second: &ConSys) -> Result<ConSys, AllocError>
+    requires { second.now.dims ≡ first.now.dims }
+    ensures dims { IfOk result (λ all. all.dims ≡ first.now.dims) }
+    ensures rows { IfOk result (λ all. constraints all ≡ constraints first.now ++ constraints second.now) }
+{
+    let _kinds = first.kinds();
+    let mut all = first.copy()?;
+    let (rows, kinds) = (second.rows(), second.kinds());
+    for place in 0..rows.len() {
+        all.push(rows[place].copy()?, kinds[place])?;
+    }
+    Ok(all)
+}
+
+// The generators of the first list, then those of the second.
+pub fn joined_generators(first: &GenSys, second: &GenSys) -> Result<GenSys, AllocError>
+    requires dims { second.now.dims ≡ first.now.dims }
+    requires first { FitKinds first.now.rows first.now.kinds }
+    requires second { FitKinds second.now.rows second.now.kinds }
+    ensures dims { IfOk result (λ all. all.dims ≡ first.now.dims) }
+    ensures generators { IfOk result (λ all. generators all ≡ generators first.now ++ generators second.now) }
+    ensures kinds { IfOk result (λ all. FitKinds all.rows all.kinds) }
+{
+    let _kinds = first.kinds();
+    let mut all = first.copy()?;
+    let (given, kinds) = (second.rows(), second.kinds());
+    for place in 0..given.len() {
+        all.push(given[place].copy()?, kinds[place])?;
+    }
+    Ok(all)
+}
+
+// The form as a row.
+fn row_of_form(alloc: Global, form: &LinExpr) -> Result<Row, AllocError>
+    ensures { IfOk result (λ row. row ≡ form_row form.now) }
+{
+    let mut numbers = Vec::new(alloc);
+    numbers.push(form.constant() as i128)?;
+    let mut left = form.coefficients();
+    while let Some((coefficient, behind)) = left.split_first() {
+        numbers.push(*coefficient as i128)?;
+        left = behind;
+    }
+    let row = Row::from_slice(alloc, numbers.as_slice())?;
+    Ok(row)
+}
+
+// The constraints, then that of the test.
+pub fn with_test(alloc: Global, list: &ConSys, test: &Test) -> Result<ConSys, AllocError>
+    requires { length test.now.expr.coefficients ≡ list.now.dims }
+    ensures dims { IfOk result (λ all. all.dims ≡ list.now.dims) }
+    ensures rows { IfOk result (λ all. constraints all ≡
+        constraints list.now ++ test_row test.now.kind test.now.expr ∷ []) }
+{
+    let _kinds = list.kinds();
+    let mut all = list.copy()?;
+    let row = row_of_form(alloc, &test.expr)?;
+    all.push(row, test.kind)?;
+    Ok(all)
+}

@@ -1,0 +1,266 @@
+//! Closed polyhedra.
+
+ghost use Rattle.std.specs.Prelude.{◌≡◌, ◌↔◌, ◌<◌, ◌^◌, ◌∷◌, [], length, IsTrue, IfOk, OnErr};
+ghost use Rattle.lra_linear.specs.Descriptions.{Con, Gen, Holds};
+ghost use Rattle.lra_linear.specs.OperationStrain.{FromRowsStrains, FromGeneratorsStrains};
+ghost use Rattle.lra_linear.specs.OperationStrain.{AddTestStrains, MeetStrains, HullStrains};
+ghost use Rattle.lra_linear.specs.Points.{IsEmptySet, IsWithin};
+ghost use Rattle.lra_linear.specs.Polyhedra.{IsPolyhedron, IsPolyhedronOf};
+ghost use Rattle.lra_linear.specs.SetOperations.{Meet, Union, Hull};
+ghost use Rattle.lra_sys.specs.Listed.{constraints, generators, FitKinds};
+ghost use Rattle.lra_poly.specs.Inclusions.{IsInclusion, TellsInclusion};
+ghost use Rattle.lra_poly.specs.Outcomes.{IfExact, IfFlagged};
+ghost use Rattle.lra_poly.specs.Rows.{form_row, test_row};
+
+use crate::inclusion::{Inclusion, inclusion_of};
+use crate::lists::{joined_generators, joined_rows, with_test};
+use crate::outcome::{Outcome, outcome_of};
+use lra_cone::nothing;
+use lra_lin::Test;
+use lra_pair::Pair;
+use lra_sys::{ConSys, GenSys};
+use std::alloc::{AllocError, Global};
+use std::marker::Model;
+
+/// A closed polyhedron: its canonical constraints and its canonical generators. Two with the same points have equal
+/// lists.
+pub struct Poly {
+    alloc: Global,
+    rows: ConSys,
+    by_generators: GenSys,
+}
+
+impl Drop for Poly {
+    fn drop(self) {
+        let Poly {
+            alloc: _,
+            rows: _,
+            by_generators: _,
+        } = self;
+    }
+}
+
+impl Model for Poly {
+    ghost use Rattle.std.specs.Prelude.{◌≡◌};
+    ghost use Rattle.lra_linear.specs.Polyhedra.{Polyhedron, IsPolyhedron};
+    ghost use Rattle.lra_sys.specs.Listed.{constraints, generators, FitKinds};
+
+    ghost Value = { Polyhedron };
+
+    ghost view = { λ s.
+        record { dims = s.rows.dims; rows = constraints s.rows; generators = generators s.by_generators } };
+
+    ghost invariant = { λ s.
+        IsPolyhedron (record { dims = s.rows.dims; rows = constraints s.rows; generators = generators s.by_generators })
+        × (s.by_generators.dims ≡ s.rows.dims) × FitKinds s.by_generators.rows s.by_generators.kinds };
+}
+
+// The polyhedron of the pair.
+fn of_pair(alloc: Global, pair: &Pair) -> Result<Poly, AllocError>
+    ensures { IfOk result (λ p. p ≡ pair.now) }
+{
+    Ok(Poly {
+        alloc,
+        rows: pair.rows().copy()?,
+        by_generators: pair.generators().copy()?,
+    })
+}
+
+impl Poly {
+    /// All points of n dimensions.
+    pub fn universe(alloc: Global, n: usize) -> Result<Poly, AllocError>
+        requires { n < 2 ^ 62 }
+        ensures { IfOk result (IsPolyhedronOf n (Con [])) }
+    {
+        let pair = lra_pair::universe(alloc, n)?;
+        let all = of_pair(alloc, &pair)?;
+        Ok(all)
+    }
+
+    /// No point, in n dimensions.
+    pub fn empty(alloc: Global, n: usize) -> Result<Poly, AllocError>
+        requires { n < 2 ^ 62 }
+        ensures dims { IfOk result (λ p. p.dims ≡ n) }
+        ensures none { IfOk result (λ p. IsEmptySet n (Con p.rows)) }
+        ensures canonical { IfOk result IsPolyhedron }
+    {
+        Ok(Poly {
+            alloc,
+            rows: nothing(alloc, n)?,
+            by_generators: GenSys::new(alloc, n),
+        })
+    }
+
+    /// The polyhedron of the constraints. Where it is flagged it has at least the points of the constraints.
+    pub fn from_rows(alloc: Global, rows: &ConSys) -> Result<(Poly, Outcome), AllocError>
+        ensures dims { IfOk result (λ r. r.0.dims ≡ rows.now.dims) }
+        ensures canonical { IfOk result (λ r. IsPolyhedron r.0) }
+        ensures exact { IfOk result (λ r.
+            IfExact (IsPolyhedronOf rows.now.dims (Con (constraints rows.now)) r.0) r.1) }
+        ensures within { IfOk result (λ r. IsWithin rows.now.dims (Con (constraints rows.now)) (Con r.0.rows)) }
+        ensures strain { IfOk result (λ r. IfFlagged (FromRowsStrains rows.now.dims (constraints rows.now)) r.1) }
+    {
+        let (pair, losses) = lra_pair::from_rows(alloc, rows)?;
+        let made = of_pair(alloc, &pair)?;
+        Ok((made, outcome_of(losses)))
+    }
+
+    /// The polyhedron of the generators. Where it is flagged it has at least the points of the generators.
+    pub fn from_generators(alloc: Global, given: &GenSys) -> Result<(Poly, Outcome), AllocError>
+        requires { FitKinds given.now.rows given.now.kinds }
+        ensures dims { IfOk result (λ r. r.0.dims ≡ given.now.dims) }
+        ensures canonical { IfOk result (λ r. IsPolyhedron r.0) }
+        ensures exact { IfOk result (λ r.
+            IfExact (IsPolyhedronOf given.now.dims (Gen (generators given.now)) r.0) r.1) }
+        ensures within { IfOk result (λ r. IsWithin given.now.dims (Gen (generators given.now)) (Con r.0.rows)) }
+        ensures strain { IfOk result (λ r.
+            IfFlagged (FromGeneratorsStrains given.now.dims (generators given.now)) r.1) }
+    {
+        let (pair, losses) = lra_pair::from_generators(alloc, given)?;
+        let made = of_pair(alloc, &pair)?;
+        Ok((made, outcome_of(losses)))
+    }
+
+    /// The same polyhedron again.
+    pub fn copy(&self) -> Result<Poly, AllocError>
+        ensures { IfOk result (λ p. p ≡ self.now) }
+    {
+        Ok(Poly {
+            alloc: self.alloc,
+            rows: self.rows.copy()?,
+            by_generators: self.by_generators.copy()?,
+        })
+    }
+
+    /// The number of dimensions.
+    pub fn dims(&self) -> usize
+        ensures { result ≡ self.now.dims }
+    {
+        self.rows.dims()
+    }
+
+    /// The constraints, in canonical order.
+    pub fn rows(&self) -> &ConSys
+        ensures dims { result.now.dims ≡ self.now.dims }
+        ensures rows { constraints result.now ≡ self.now.rows }
+        ensures canonical { IsPolyhedron self.now }
+    {
+        &self.rows
+    }
+
+    /// The points, rays and lines, in canonical order; none where there is no point.
+    pub fn generators(&self) -> &GenSys
+        ensures dims { result.now.dims ≡ self.now.dims }
+        ensures generators { generators result.now ≡ self.now.generators }
+        ensures kinds { FitKinds result.now.rows result.now.kinds }
+        ensures canonical { IsPolyhedron self.now }
+    {
+        &self.by_generators
+    }
+
+    /// Whether it has no point.
+    pub fn is_empty(&self) -> bool
+        ensures { IsTrue result ↔ IsEmptySet self.now.dims (Con self.now.rows) }
+    {
+        self.by_generators.kinds().is_empty()
+    }
+
+    /// Whether each point is in the other.
+    pub fn included(&self, other: &Poly) -> Inclusion
+        requires { other.now.dims ≡ self.now.dims }
+        ensures first { IsInclusion other.now.rows self.now.generators result }
+        ensures tells { TellsInclusion self.now other.now result }
+    {
+        inclusion_of(&self.by_generators, &other.rows)
+    }
+
+    // Whether it is known that each point is in the other.
+    fn lies_in(&self, other: &Poly) -> bool
+        requires { other.now.dims ≡ self.now.dims }
+        ensures { IsTrue result → IsWithin self.now.dims (Con self.now.rows) (Con other.now.rows) }
+    {
+        match self.included(other) {
+            Inclusion::Yes => true,
+            Inclusion::No(_) => false,
+            Inclusion::Wide(_, _) => false,
+        }
+    }
+
+    // Becomes the polyhedron of constraints that have no other points. Where that is flagged and isn't known to lie in
+    // the old value, the old value stays.
+    fn narrow(&mut self, list: &ConSys) -> Result<Outcome, AllocError>
+        requires dims { list.now.dims ≡ self.old.dims }
+        requires within { IsWithin self.old.dims (Con (constraints list.now)) (Con self.old.rows) }
+        ensures dims { self.new.dims ≡ self.old.dims }
+        ensures exact { IfOk result (IfExact (IsPolyhedronOf self.old.dims (Con (constraints list.now)) self.new)) }
+        ensures within { IfOk result (λ _. IsWithin self.old.dims (Con (constraints list.now)) (Con self.new.rows)) }
+        ensures inside { IfOk result (λ _. IsWithin self.old.dims (Con self.new.rows) (Con self.old.rows)) }
+        ensures strain { IfOk result (IfFlagged (FromRowsStrains self.old.dims (constraints list.now))) }
+        ensures unchanged { OnErr result (self.new ≡ self.old) }
+    {
+        let (made, outcome) = Poly::from_rows(self.alloc, list)?;
+        match &outcome {
+            Outcome::Exact => *self = made,
+            Outcome::Flagged(_) => {
+                if made.lies_in(self) {
+                    *self = made;
+                }
+            }
+        }
+        Ok(outcome)
+    }
+
+    /// Becomes the meet with the other: the points of both. Where it is flagged it has at least those, and no point
+    /// that it hadn't before.
+    pub fn meet(&mut self, other: &Poly) -> Result<Outcome, AllocError>
+        requires { other.now.dims ≡ self.old.dims }
+        ensures dims { self.new.dims ≡ self.old.dims }
+        ensures exact { IfOk result (IfExact
+            (IsPolyhedronOf self.old.dims (Meet (Con self.old.rows) (Con other.now.rows)) self.new)) }
+        ensures within { IfOk result (λ _.
+            IsWithin self.old.dims (Meet (Con self.old.rows) (Con other.now.rows)) (Con self.new.rows)) }
+        ensures inside { IfOk result (λ _. IsWithin self.old.dims (Con self.new.rows) (Con self.old.rows)) }
+        ensures strain { IfOk result (IfFlagged (MeetStrains self.old other.now)) }
+        ensures unchanged { OnErr result (self.new ≡ self.old) }
+    {
+        let list = joined_rows(&self.rows, &other.rows)?;
+        let outcome = self.narrow(&list)?;
+        Ok(outcome)
+    }
+
+    /// Keeps the points that pass the test. Where it is flagged it has at least those, and no point that it hadn't
+    /// before.
+    pub fn add_test(&mut self, test: &Test) -> Result<Outcome, AllocError>
+        requires { length test.now.expr.coefficients ≡ self.old.dims }
+        ensures dims { self.new.dims ≡ self.old.dims }
+        ensures exact { IfOk result (IfExact (IsPolyhedronOf self.old.dims
+            (Meet (Con self.old.rows) (Holds (test_row test.now.kind test.now.expr))) self.new)) }
+        ensures within { IfOk result (λ _. IsWithin self.old.dims
+            (Meet (Con self.old.rows) (Holds (test_row test.now.kind test.now.expr))) (Con self.new.rows)) }
+        ensures inside { IfOk result (λ _. IsWithin self.old.dims (Con self.new.rows) (Con self.old.rows)) }
+        ensures strain { IfOk result (IfFlagged (AddTestStrains self.old (test_row test.now.kind test.now.expr))) }
+        ensures unchanged { OnErr result (self.new ≡ self.old) }
+    {
+        let list = with_test(self.alloc, &self.rows, test)?;
+        let outcome = self.narrow(&list)?;
+        Ok(outcome)
+    }
+
+    /// Becomes the hull with the other: the least closed polyhedron that has the points of both. Where it is flagged it
+    /// has at least its points.
+    pub fn hull(&mut self, other: &Poly) -> Result<Outcome, AllocError>
+        requires { other.now.dims ≡ self.old.dims }
+        ensures dims { self.new.dims ≡ self.old.dims }
+        ensures exact { IfOk result (IfExact (IsPolyhedronOf self.old.dims
+            (Hull self.old.dims (Union (Con self.old.rows) (Con other.now.rows))) self.new)) }
+        ensures within { IfOk result (λ _. IsWithin self.old.dims
+            (Hull self.old.dims (Union (Con self.old.rows) (Con other.now.rows))) (Con self.new.rows)) }
+        ensures strain { IfOk result (IfFlagged (HullStrains self.old other.now)) }
+        ensures unchanged { OnErr result (self.new ≡ self.old) }
+    {
+        let all = joined_generators(&self.by_generators, &other.by_generators)?;
+        let (made, outcome) = Poly::from_generators(self.alloc, &all)?;
+        *self = made;
+        Ok(outcome)
+    }
+}
