@@ -10,9 +10,7 @@ use Rattle.lra_flow.specs.Linear as linear
 use Rattle.lra_flow.specs.Operations.{worse}
 use Rattle.lra_flow.specs.Changes.{set_to, append_set}
 use Rattle.lra_flow.proofs.FormLemmas.{form_wide}
-use Rattle.lra_forms.specs.Forms.{as_linear, IsForm}
 use Rattle.lra_change.specs.Changes.{Does}
-use Rattle.lra_forms.proofs.FormSteps.{some_only}
 
 worse_exact : (e : Exactness) → e ≡ worse e Exact
 worse_exact Exact = refl
@@ -34,11 +32,11 @@ done_both {V} m [] two v x w d e (same, exact) h = subst (λ (a : Exactness). Do
 done_both {V} m (step ∷ steps) two v x w d e (y, a, b, one, rest, is) h =
     (y, a, worse b e, one, done_both m steps two y x w b e rest h, ap (λ (c : Exactness). worse c e) is ∙ worse_worse a b e)
 
-set_dims : (x : ℕ) (o : Option linear.Form) (n : ℕ) → dims_after (set_to x o) n ≡ n
+set_dims : (x : ℕ) (o : Option Form) (n : ℕ) → dims_after (set_to x o) n ≡ n
 set_dims x None n = refl
 set_dims x (Some f) n = refl
 
-pub done_set : {V H : Type 0} (m : Meaning V H) (x : ℕ) (o : Option linear.Form) (v : V) (e : Exactness) (w : V) → Meets m (set_to x o) v e w → m.dims w ≡ m.dims v → Does m (set_to x o ∷ []) v e w
+pub done_set : {V H : Type 0} (m : Meaning V H) (x : ℕ) (o : Option Form) (v : V) (e : Exactness) (w : V) → Meets m (set_to x o) v e w → m.dims w ≡ m.dims v → Does m (set_to x o ∷ []) v e w
 done_set m x o v e w meets dims = done_one m (set_to x o) v e w meets (dims ∙ sym (set_dims x o (m.dims v)))
 
 -- a new variable and its value
@@ -55,7 +53,7 @@ done_append m base e v x w c d first dims one second same =
     )
 
 -- a form that is there has a coefficient for each variable
-pub form_there : (live n base : ℕ) (e : Expr) (o : Option Form) (f : Form) → live ≡ n → o ≡ Some f → IsForm (linear.form_of live base e) o → length f.coefficients ≡ n
+pub form_there : (live n base : ℕ) (e : Expr) (o : Option Form) (f : Form) → live ≡ n → o ≡ Some f → o ≡ linear.form_of live base e → length f.coefficients ≡ n
 form_there live n base e o f is some h =
-    let there : IsForm (linear.form_of live base e) (Some f) = subst (λ (x : Option Form). IsForm (linear.form_of live base e) x) some h in
-    (form_wide live base e (as_linear f) (some_only (linear.form_of live base e) f there)).width ∙ is
+    let there : Some f ≡ linear.form_of live base e = subst (λ (x : Option Form). x ≡ linear.form_of live base e) some h in
+    (form_wide live base e f (sym there)).width ∙ is

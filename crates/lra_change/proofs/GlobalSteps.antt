@@ -7,28 +7,26 @@ use Rattle.lra_domain.specs.Actions.{assign, embed}
 use Rattle.lra_domain.specs.declared.Exactness.{Exactness}
 use Rattle.lra_domain.specs.Meaning.{Meaning, Meets}
 use Rattle.lra_flow.specs.Linear.{constant_form}
-use Rattle.lra_flow.specs.Linear as linear
 use Rattle.lra_flow.specs.Operations.{worse}
-use Rattle.lra_flow.specs.Changes.{as_form, append_set, first_values}
-use Rattle.lra_forms.specs.Forms.{as_linear}
+use Rattle.lra_flow.specs.Changes.{append_set, first_values}
 use Rattle.lra_change.specs.Changes.{Does}
 use Rattle.lra_change.proofs.ChangeSteps.{done_one, done_both}
 
 -- a constant form has a coefficient for each variable
-pub constant_wide : (f : Form) (n : ℕ) (z : ℤ) → as_linear f ≡ constant_form n z → length f.coefficients ≡ n
-constant_wide f n z is = ap (λ (g : linear.Form). length g.coefficients) is ∙ length-replicate n (pos 0)
+pub constant_wide : (f : Form) (n : ℕ) (z : ℤ) → f ≡ constant_form n z → length f.coefficients ≡ n
+constant_wide f n z is = ap (λ (g : Form). length g.coefficients) is ∙ length-replicate n (pos 0)
 
 -- a new variable and its constant
-pub appended : {V H : Type 0} (m : Meaning V H) (z : ℤ) (f : Form) (v x w : V) (c d : Exactness) → Meets m (embed 1) v c x → m.dims x ≡ m.dims v + 1 → as_linear f ≡ constant_form (m.dims v + 1) z
+pub appended : {V H : Type 0} (m : Meaning V H) (z : ℤ) (f : Form) (v x w : V) (c d : Exactness) → Meets m (embed 1) v c x → m.dims x ≡ m.dims v + 1 → f ≡ constant_form (m.dims v + 1) z
     → Meets m (assign (m.dims v) f) x d w → m.dims w ≡ m.dims x → Does m (append_set (m.dims v) (Some (constant_form (suc (m.dims v)) z))) v (worse c d) w
 appended {V} {H} m z f v x w c d first dims is second same =
     let one : m.dims v + 1 ≡ suc (m.dims v) = omega arith in
-    let form : f ≡ as_form (constant_form (suc (m.dims v)) z) = ap as_form is ∙ ap (λ (n : ℕ). as_form (constant_form n z)) one in (
+    let form : f ≡ constant_form (suc (m.dims v)) z = is ∙ ap (λ (n : ℕ). constant_form n z) one in (
       x,
       c,
       d,
       (first, dims),
-      done_one m (assign (m.dims v) (as_form (constant_form (suc (m.dims v)) z))) x d w (subst (λ (g : Form). Meets m (assign (m.dims v) g) x d w) form second) same,
+      done_one m (assign (m.dims v) (constant_form (suc (m.dims v)) z)) x d w (subst (λ (g : Form). Meets m (assign (m.dims v) g) x d w) form second) same,
       refl,
     )
 

@@ -6,7 +6,6 @@ ghost use Rattle.lra_base.specs.OperatorViews.{comparison_view};
 ghost use Rattle.lra_program.specs.ProgramViews.{expr_view};
 ghost use Rattle.lra_flow.specs.Linear.{difference_form, comparison_test};
 ghost use Rattle.lra_flow.specs.Operations.{worse};
-ghost use Rattle.lra_forms.specs.Forms.{as_linear};
 ghost use Rattle.lra_change.specs.Conditions.{Tests, Compares};
 
 use lra_base::Comparison;
@@ -38,7 +37,7 @@ fn leave_test<D: Domain>(
     requires few { D.meaning.dims value.old < 2 ^ 62 }
     requires width { length d.now.coefficients ≡ D.meaning.dims value.old }
     ensures leaves { IfOk result (λ e. Tests D.meaning (D.meaning.dims value.old) base
-        (comparison_test (comparison_view op) (as_linear d.now)) value.old before value.new e) }
+        (comparison_test (comparison_view op) d.now) value.old before value.new e) }
     ensures dims { OnOk result (D.meaning.dims value.new ≡ D.meaning.dims value.old) }
 {
     match test_of(alloc, op, d)? {
@@ -61,7 +60,7 @@ fn leave_differs<D: Domain>(
     requires few { D.meaning.dims value.old < 2 ^ 62 }
     requires width { length d.now.coefficients ≡ D.meaning.dims value.old }
     ensures leaves { IfOk result (λ e. Compares D.meaning (D.meaning.dims value.old) base differs
-        (Some (as_linear d.now)) value.old before value.new e) }
+        (Some d.now) value.old before value.new e) }
     ensures dims { OnOk result (D.meaning.dims value.new ≡ D.meaning.dims value.old) }
 {
     let mut less = value.copy(alloc)?;

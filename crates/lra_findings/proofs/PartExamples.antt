@@ -4,7 +4,9 @@ use Rattle.std.proofs.lemmas.Int.{ints}
 use Rattle.std.specs.Prelude.{get_or, map}
 use Rattle.std.specs.Int.Signed.{le_z_yes}
 use Rattle.lra_findings.specs.Report.{poly, box, Generator}
-use Rattle.lra_program.specs.Rows.{Row, dot}
+use Rattle.lra_linear.specs.Vectors.{product}
+use Rattle.lra_linear.proofs.Products.{product_none}
+use Rattle.lra_program.specs.Rows.{Row}
 use Rattle.lra_findings.specs.Parts.{RationalPoint, IsWithin, IsGenerated, HasSamePoints, Tells}
 use Rattle.lra_findings.proofs.ReportTextExamples.{both, rows_alone, a_point, a_ray, is_positive}
 
@@ -32,7 +34,7 @@ three_quarters = (
   },
 )
   where
-    columns : (j : ℕ) → pos 1 *ℤ get_or (pos 3 ∷ []) j (pos 0) ≡ dot (pos 2 ∷ pos 1 ∷ []) (map (λ (g : Generator). get_or g.numbers j (pos 0)) half_and_ray)
+    columns : (j : ℕ) → pos 1 *ℤ get_or (pos 3 ∷ []) j (pos 0) ≡ product (pos 2 ∷ pos 1 ∷ []) (map (λ (g : Generator). get_or g.numbers j (pos 0)) half_and_ray)
     columns zero = refl
     columns (suc j) = refl
 
@@ -67,9 +69,5 @@ divided_by_zero h = omega (arith, h.0.0)
 rows_without_generators : Tells poly 0 (rows_alone []) → ⊥
 rows_without_generators h = none ((h.1 (rational 1 []) (record { width = refl; divides = omega arith })).0 tt)
   where
-    empty_sum : (zs : List ℤ) → dot zs [] ≡ pos 0
-    empty_sum [] = refl
-    empty_sum (z ∷ zs) = refl
-
     none : IsGenerated [] (rational 1 []) → ⊥
-    none g = let z = empty_sum g.factors in omega (arith, ints, z, g.positive, g.divisor)
+    none g = let z = product_none g.factors in omega (arith, ints, z, g.positive, g.divisor)

@@ -4,7 +4,8 @@ use Rattle.std.specs.Prelude.{codes}
 use Rattle.std.specs.List.{flat_map}
 use Rattle.std.specs.Fmt.{digits}
 use Rattle.lra_findings.specs.Report.{Place, Domain, box, poly, Options, point, ray, line, Generator, Part, PointReport, Verdict, Report}
-use Rattle.lra_program.specs.Rows.{equality, inequality, Row}
+use Rattle.lra_linear.specs.declared.ConKind.TheVariants.{Ge, Eq}
+use Rattle.lra_program.specs.Rows.{Row}
 use Rattle.lra_findings.specs.ReportText.{text_line, row_text, generator_text, state_text, flag_text, report_text, shown_names, path_text}
 use Rattle.lra_findings.specs.ReportJson.{report_json}
 
@@ -16,10 +17,10 @@ defaults d = record { domain = d; parts = 1; delay = 1; narrow = 1; limited = fa
 
 -- constant + coefficients is 0, is at least 0
 abbrev pub is_zero : ℤ → List ℤ → Row
-is_zero c cs = record { kind = equality; constant = c; coefficients = cs }
+is_zero c cs = record { kind = Eq; constant = c; coefficients = cs }
 
 abbrev pub is_positive : ℤ → List ℤ → Row
-is_positive c cs = record { kind = inequality; constant = c; coefficients = cs }
+is_positive c cs = record { kind = Ge; constant = c; coefficients = cs }
 
 abbrev pub a_point : ℕ → List ℤ → Generator
 a_point d zs = record { kind = point; divisor = d; numbers = zs }

@@ -4,7 +4,10 @@
 use Rattle.std.specs.Prelude.{◌≡◌, ◌↔◌, ℕ, ◌<◌, ℤ, pos, ◌+ℤ◌, ◌*ℤ◌, ◌≤ℤ◌, List, [], ◌∷◌, length, map, get_or, ⊤}
 use Rattle.std.specs.List.{AllByRecursion}
 use Rattle.lra_findings.specs.Report.{Domain, poly, box, oct, GeneratorKind, point, ray, line, Generator, Part}
-use Rattle.lra_program.specs.Rows.{Row, IsOfKind, dot}
+use Rattle.lra_linear.specs.Descriptions.{HoldsWith}
+use Rattle.lra_linear.specs.Kinds.{is_equality}
+use Rattle.lra_linear.specs.Vectors.{product}
+use Rattle.lra_program.specs.Rows.{Row}
 
 -- its coordinates are the numerators over the divisor; a store is such a point with the divisor 1
 pub record RationalPoint : Type 0 where
@@ -17,7 +20,7 @@ pub record IsPoint (n : ℕ) (x : RationalPoint) : Type 0 where
   pub divides : 0 < x.divisor
 
 abbrev pub RowHoldsAt : Row → RationalPoint → Type 0
-RowHoldsAt r x = IsOfKind r.kind ((r.constant *ℤ pos x.divisor) +ℤ dot r.coefficients x.numerators)
+RowHoldsAt r x = HoldsWith (is_equality r.kind) ((r.constant *ℤ pos x.divisor) +ℤ product r.coefficients x.numerators)
 
 -- all rows hold
 abbrev pub IsWithin : List Row → RationalPoint → Type 0
@@ -42,9 +45,9 @@ pub record IsGenerated (gs : List Generator) (x : RationalPoint) : Type 0 where
   pub positive : 0 < multiple
   pub factors : List ℤ
   pub are_factors : AreFactors gs factors
-  pub divisor : pos multiple *ℤ pos x.divisor ≡ dot factors (map (λ (g : Generator). pos g.divisor) gs)
+  pub divisor : pos multiple *ℤ pos x.divisor ≡ product factors (map (λ (g : Generator). pos g.divisor) gs)
   pub numerators : (j : ℕ) → pos multiple *ℤ get_or x.numerators j (pos 0) ≡
-      dot factors (map (λ (g : Generator). get_or g.numbers j (pos 0)) gs)
+      product factors (map (λ (g : Generator). get_or g.numbers j (pos 0)) gs)
 
 -- rows and generators tell the same points of n coordinates
 abbrev pub HasSamePoints : ℕ → Part → Type 0

@@ -3,7 +3,9 @@ use Rattle.std.specs.Prelude.{ℕ, zero, suc, ◌/◌, ◌%◌, ℤ, pos, negsuc
 use Rattle.std.specs.List.{flat_map}
 use Rattle.std.specs.Fmt.{decimal, signed_decimal}
 use Rattle.lra_findings.specs.Report.{Place, Domain, poly, box, oct, Options, GeneratorKind, point, ray, line, Generator, Part, State, PointReport, Verdict, Report}
-use Rattle.lra_program.specs.Rows.{RowKind, equality, inequality, Row}
+use Rattle.lra_linear.specs.declared.ConKind.{ConKind}
+use Rattle.lra_linear.specs.declared.ConKind.TheVariants.{Ge, Eq}
+use Rattle.lra_program.specs.Rows.{Row}
 
 abbrev pub text_line : List ℕ → List ℕ
 text_line bytes = bytes ++ 10 ∷ []
@@ -67,10 +69,10 @@ form_text (pos zero ∷ cs) (name ∷ names) = form_text cs names
 form_text (pos (suc n) ∷ cs) (name ∷ names) = product_text (suc n) name ++ terms_text cs names
 form_text (negsuc n ∷ cs) (name ∷ names) = product_text (suc n) name ++ terms_text cs names
 
-abbrev pub relation_text : RowKind → Bool → List ℕ
-relation_text equality b = codes " = "
-relation_text inequality false = codes " >= "
-relation_text inequality true = codes " <= "
+abbrev pub relation_text : ConKind → Bool → List ℕ
+relation_text Eq b = codes " = "
+relation_text Ge false = codes " >= "
+relation_text Ge true = codes " <= "
 
 abbrev pub row_text : List (List ℕ) → Row → List ℕ
 row_text names r =

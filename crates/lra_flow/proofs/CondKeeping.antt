@@ -9,14 +9,13 @@ use Rattle.lra_domain.specs.Laws.{Laws}
 use Rattle.lra_base.specs.Operators.{Comparison, below, at_most, above, at_least, equal, differs}
 use Rattle.lra_program.specs.Program.{Expr, literal, Cond, compare, nonzero, opposite, both_of, either_of}
 use Rattle.lra_program.specs.Value.{Drawn, is_zero, compares, value_of, truth_of}
-use Rattle.lra_program.specs.Rows.{RowKind, equality, inequality}
-use Rattle.lra_flow.specs.Linear as linear
-use Rattle.lra_flow.specs.Linear.{Test, Passes, comparison_test, difference_form}
+use Rattle.lra_lin.specs.Form.{Form, form_value}
+use Rattle.lra_lin.specs.declared.test.Test.{Test}
+use Rattle.lra_flow.specs.Linear.{IsPassed, comparison_test, difference_form}
 use Rattle.lra_flow.specs.Condition.{opposite_comparison, push, IsPushed, IsAtom, IsTestedBy}
 use Rattle.lra_flow.specs.Operations.{dropping}
 use Rattle.lra_flow.specs.Conditions.{tested, testing}
 use Rattle.lra_flow.proofs.FormLemmas.{bind_some, some_first, test_is_right, differs_by_tests, difference_is_right, compared}
-use Rattle.lra_flow.proofs.Keeping.{as_form_value}
 
 -- what `!` does to a comparison
 opposite_is : (op : Comparison) (x y : ℤ) → compares op x y ≡ false → compares (opposite_comparison op) x y ≡ true
@@ -37,13 +36,9 @@ zero_differs (pos zero) = refl
 zero_differs (pos (suc n)) = grind (arith, ints)
 zero_differs (negsuc n) = refl
 
--- a test of a program's form as a domain's test
-tested_leads : (t : Test) (store : List ℤ) → Passes t store → Leads (tested t) store store
-tested_leads t store h = leads t.kind h
-  where
-    leads : (kind : RowKind) → linear.Passes (record t { kind = kind }) store → Leads (tested (record t { kind = kind })) store store
-    leads equality p = (as_form_value t.form store ∙ p, refl)
-    leads inequality p = (subst (λ (z : ℤ). pos 0 ≤ℤ z) (sym (as_form_value t.form store)) p, refl)
+-- a test that is passed changes nothing
+tested_leads : (t : Test) (store : List ℤ) → IsPassed t store → Leads (tested t) store store
+tested_leads t store h = (h, refl)
 
 -- whether the answer of a test
 not_is : (b wanted : Bool) → not b ≡ wanted → b ≡ not wanted
@@ -80,12 +75,12 @@ module _ (V H : Type 0) (m : Meaning V H) (laws : Laws m) (base : ℕ) (store : 
   kept : (v w : V × Exactness) → w ≡ v → Keeps v → Keeps w
   kept v w e h = subst (λ (x : V × Exactness). Keeps x) (sym e) h
 
-  test_keeps : (live : ℕ) (o : Option Test) (v w : V × Exactness) → ((t : Test) → o ≡ Some t → Passes t store) → IsTestedBy (V × Exactness) (testing (dropping m)) live base o v w → Keeps v → Keeps w
+  test_keeps : (live : ℕ) (o : Option Test) (v w : V × Exactness) → ((t : Test) → o ≡ Some t → IsPassed t store) → IsTestedBy (V × Exactness) (testing (dropping m)) live base o v w → Keeps v → Keeps w
   test_keeps live None v w passes is h = kept v w is h
   test_keeps live (Some t) v w passes (e, done, worst) h = done.0.stores store store h (tested_leads t store (passes t refl))
 
   -- one side of `!=` passes, or has no test
-  differs_keeps : (less more w : V × Exactness) (d : linear.Form) (x y : ℤ) (one two : Option Test) → linear.form_value d store ≡ x -ℤ y → IsTrue (compares differs x y)
+  differs_keeps : (less more w : V × Exactness) (d : Form) (x y : ℤ) (one two : Option Test) → form_value d store ≡ x -ℤ y → IsTrue (compares differs x y)
       → comparison_test below d ≡ one → comparison_test above d ≡ two → (v : V × Exactness) → IsTestedBy (V × Exactness) (testing (dropping m)) (length store) base one v less →
       IsTestedBy (V × Exactness) (testing (dropping m)) (length store) base two v more
       → (e : Exactness) → (dropping m).joined less.0 more.0 e w.0 → Keeps v → Keeps w
@@ -93,11 +88,11 @@ module _ (V H : Type 0) (m : Meaning V H) (laws : Laws m) (base : ℕ) (store : 
   differs_keeps less more w d x y (Some t) None is so same also v first second e joined h = laws.covered_stores more.0 w.0 joined.0.right store (kept v more second h)
   differs_keeps less more w d x y (Some t) (Some u) is so same also v first second e joined h =
       elim ((differs_by_tests d t u store x y is same also).0 so) [
-        | inl a ↦ laws.covered_stores less.0 w.0 joined.0.left store (test_keeps (length store) (Some t) v less (λ r k. let it : t ≡ r = cc in subst (λ (z : Test). Passes z store) it a) first h)
-        | inr b ↦ laws.covered_stores more.0 w.0 joined.0.right store (test_keeps (length store) (Some u) v more (λ r k. let it : u ≡ r = cc in subst (λ (z : Test). Passes z store) it b) second h)
+        | inl a ↦ laws.covered_stores less.0 w.0 joined.0.left store (test_keeps (length store) (Some t) v less (λ r k. let it : t ≡ r = cc in subst (λ (z : Test). IsPassed z store) it a) first h)
+        | inr b ↦ laws.covered_stores more.0 w.0 joined.0.right store (test_keeps (length store) (Some u) v more (λ r k. let it : u ≡ r = cc in subst (λ (z : Test). IsPassed z store) it b) second h)
       ]
 
-  atom_keeps : (op : Comparison) (d : linear.Form) (x y : ℤ) (v w : V × Exactness) → linear.form_value d store ≡ x -ℤ y → IsTrue (compares op x y)
+  atom_keeps : (op : Comparison) (d : Form) (x y : ℤ) (v w : V × Exactness) → form_value d store ≡ x -ℤ y → IsTrue (compares op x y)
       → IsAtom (V × Exactness) (testing (dropping m)) (length store) base op (Some d) v w → Keeps v → Keeps w
   atom_keeps differs d x y v w is so (less, more, one, two, (e, joined, worst)) h =
       differs_keeps less more w d x y (comparison_test below d) (comparison_test above d) is so refl refl v one two e joined h
@@ -108,7 +103,7 @@ module _ (V H : Type 0) (m : Meaning V H) (laws : Laws m) (base : ℕ) (store : 
   atom_keeps equal d x y v w is so tests h = test_keeps (length store) (comparison_test equal d) v w (λ t e. (test_is_right equal d t store x y is e).0 so) tests h
 
   -- an atom, linear or not
-  any_atom_keeps : (op : Comparison) (a b : Expr) (draws middle last : List ℤ) (x y : ℤ) (v w : V × Exactness) (o : Option linear.Form) → difference_form (length store) base a b ≡ o
+  any_atom_keeps : (op : Comparison) (a b : Expr) (draws middle last : List ℤ) (x y : ℤ) (v w : V × Exactness) (o : Option Form) → difference_form (length store) base a b ≡ o
       → value_of a base store draws ≡ Some (x, middle) → value_of b base store middle ≡ Some (y, last) → IsTrue (compares op x y)
       → IsAtom (V × Exactness) (testing (dropping m)) (length store) base op o v w → Keeps v → Keeps w
   any_atom_keeps op a b draws middle last x y v w None is has_x has_y so atom h = kept v w atom h

@@ -1,15 +1,20 @@
 -- The linear form of an expression has the expression's value wherever there is one, and the test of a comparison passes exactly where
 -- the comparison is true.
 use Rattle.std.proofs.Common.{◌≡◌, ℕ, zero, suc, ℤ, pos, negsuc, ◌+ℤ◌, ◌*ℤ◌, List, [], ◌∷◌, Option, Some, None, Bool, true, false, length, refl, sym, ap, subst, ◌∙◌, arith, inl, inr}
-use Rattle.std.specs.Prelude.{◌-ℤ◌, ◌≤ℤ◌, map, replicate, slice_set, slice_get, if◌then◌else◌, ◌&&◌, IsTrue, ◌↔◌, ◌⊎◌, int_lt, int_le, not}
+use Rattle.std.specs.Prelude.{◌-ℤ◌, ◌≤ℤ◌, map, replicate, slice_set, slice_get, if◌then◌else◌, ◌&&◌, IsTrue, ◌↔◌, ◌⊎◌, int_lt, int_le, not, neg_ℤ}
 use Rattle.std.specs.List.{list_all}
 use Rattle.std.proofs.lemmas.Int.{ints}
+use Rattle.lra_linear.specs.declared.ConKind.TheVariants.{Ge, Eq}
+use Rattle.lra_linear.specs.Vectors.{product}
+use Rattle.lra_linear.proofs.Products.{product_none}
+use Rattle.lra_lin.specs.Form.{Form, form_value, opposite_form}
+use Rattle.lra_lin.specs.declared.test.Test.{Test}
+use Rattle.lra_lin.proofs.FormLemmas.{product_negated}
 use Rattle.lra_linear.proofs.Ring.{ring, v, ⊖, ◌⊕◌, ◌⊗◌}
 use Rattle.lra_base.specs.Operators.{Operator, plus, minus, times, over, modulo, Comparison, below, at_most, above, at_least, equal, differs}
 use Rattle.lra_program.specs.Program.{Expr, literal, read, input, negate, binary, compare}
 use Rattle.lra_program.specs.Value.{◌>>=◌, word, is_word, is_zero, index_of, apply, compares, value_of, truth_of}
-use Rattle.lra_program.specs.Rows.{dot, equality, inequality}
-use Rattle.lra_flow.specs.Linear.{Form, form_value, fitting, entrywise, combined, scaled, is_constant, operator_form, constant_form, variable_form, form_of, FormsAreRight, Test, Passes, opposite_less_one, opposite_form, less_one, at_least_zero, comparison_test, difference_form, TestsAreRight, DiffersIsRight}
+use Rattle.lra_flow.specs.Linear.{fitting, entrywise, combined, scaled, is_constant, operator_form, constant_form, variable_form, form_of, FormsAreRight, IsPassed, negated_form, less_one, at_least_zero, comparison_test, difference_form, TestsAreRight, DiffersIsRight}
 
 -- what led to something
 pub bind_some : {A B : Type 0} (o : Option A) (f : A → Option B) (y : B) → (o >>= f) ≡ Some y → (x : A) × (o ≡ Some x) × (f x ≡ Some y)
@@ -48,60 +53,54 @@ multiple k f = record { constant = k *ℤ f.constant; coefficients = map (λ c. 
 
 -- products with lists of one length -----------------------------------------------------------------------------------
 
-dot_zeros : (n : ℕ) (xs : List ℤ) → dot (replicate n (pos 0)) xs ≡ pos 0
-dot_zeros zero xs = refl
-dot_zeros (suc n) [] = refl
-dot_zeros (suc n) (x ∷ xs) = let e = dot_zeros n xs in ring (v (pos 0) ⊗ v x ⊕ v (dot (replicate n (pos 0)) xs)) (v (dot (replicate n (pos 0)) xs)) (omega arith) ∙ e
+product_zeros : (n : ℕ) (xs : List ℤ) → product (replicate n (pos 0)) xs ≡ pos 0
+product_zeros zero xs = refl
+product_zeros (suc n) [] = product_none (pos 0 ∷ replicate n (pos 0))
+product_zeros (suc n) (x ∷ xs) = let e = product_zeros n xs in ring (v (pos 0) ⊗ v x ⊕ v (product (replicate n (pos 0)) xs)) (v (product (replicate n (pos 0)) xs)) (omega arith) ∙ e
 
-dot_unit : (n place : ℕ) (xs : List ℤ) (z : ℤ) → n ≡ length xs → slice_get xs place ≡ Some z → dot (slice_set (replicate n (pos 0)) place (pos 1)) xs ≡ z
-dot_unit n place [] z e is = cc
-dot_unit zero place (x ∷ xs) z e is = absurd (omega (arith, e))
-dot_unit (suc n) zero (x ∷ xs) z e is =
+product_unit : (n place : ℕ) (xs : List ℤ) (z : ℤ) → n ≡ length xs → slice_get xs place ≡ Some z → product (slice_set (replicate n (pos 0)) place (pos 1)) xs ≡ z
+product_unit n place [] z e is = cc
+product_unit zero place (x ∷ xs) z e is = absurd (omega (arith, e))
+product_unit (suc n) zero (x ∷ xs) z e is =
     let same : x ≡ z = cc in
-    ring (v (pos 1) ⊗ v x ⊕ v (dot (replicate n (pos 0)) xs)) (v x ⊕ v (dot (replicate n (pos 0)) xs)) (omega arith) ∙ ap (λ (y : ℤ). x +ℤ y) (dot_zeros n xs) ∙
+    ring (v (pos 1) ⊗ v x ⊕ v (product (replicate n (pos 0)) xs)) (v x ⊕ v (product (replicate n (pos 0)) xs)) (omega arith) ∙ ap (λ (y : ℤ). x +ℤ y) (product_zeros n xs) ∙
     ring (v x ⊕ v (pos 0)) (v x) (omega arith) ∙ same
-dot_unit (suc n) (suc place) (x ∷ xs) z e is =
-    let rest = dot (slice_set (replicate n (pos 0)) place (pos 1)) xs in
-    ring (v (pos 0) ⊗ v x ⊕ v rest) (v rest) (omega arith) ∙ dot_unit n place xs z (omega (arith, e)) is
+product_unit (suc n) (suc place) (x ∷ xs) z e is =
+    let rest = product (slice_set (replicate n (pos 0)) place (pos 1)) xs in
+    ring (v (pos 0) ⊗ v x ⊕ v rest) (v rest) (omega arith) ∙ product_unit n place xs z (omega (arith, e)) is
 
-dot_sum : (fs gs xs : List ℤ) → length fs ≡ length xs → length gs ≡ length xs → dot (entrywise (λ x y. x +ℤ y) fs gs) xs ≡ dot fs xs +ℤ dot gs xs
-dot_sum [] [] [] e h = refl
-dot_sum [] gs (x ∷ xs) e h = absurd (omega (arith, e))
-dot_sum [] (g ∷ gs) [] e h = absurd (omega (arith, h))
-dot_sum (f ∷ fs) gs [] e h = absurd (omega (arith, e))
-dot_sum (f ∷ fs) [] (x ∷ xs) e h = absurd (omega (arith, h))
-dot_sum (f ∷ fs) (g ∷ gs) (x ∷ xs) e h =
-    ap (λ (y : ℤ). ((f +ℤ g) *ℤ x) +ℤ y) (dot_sum fs gs xs (omega (arith, e)) (omega (arith, h))) ∙
-    ring ((v f ⊕ v g) ⊗ v x ⊕ (v (dot fs xs) ⊕ v (dot gs xs))) ((v f ⊗ v x ⊕ v (dot fs xs)) ⊕ (v g ⊗ v x ⊕ v (dot gs xs))) (omega arith)
+product_sum : (fs gs xs : List ℤ) → length fs ≡ length xs → length gs ≡ length xs → product (entrywise (λ x y. x +ℤ y) fs gs) xs ≡ product fs xs +ℤ product gs xs
+product_sum [] [] [] e h = refl
+product_sum [] gs (x ∷ xs) e h = absurd (omega (arith, e))
+product_sum [] (g ∷ gs) [] e h = absurd (omega (arith, h))
+product_sum (f ∷ fs) gs [] e h = absurd (omega (arith, e))
+product_sum (f ∷ fs) [] (x ∷ xs) e h = absurd (omega (arith, h))
+product_sum (f ∷ fs) (g ∷ gs) (x ∷ xs) e h =
+    ap (λ (y : ℤ). ((f +ℤ g) *ℤ x) +ℤ y) (product_sum fs gs xs (omega (arith, e)) (omega (arith, h))) ∙
+    ring ((v f ⊕ v g) ⊗ v x ⊕ (v (product fs xs) ⊕ v (product gs xs))) ((v f ⊗ v x ⊕ v (product fs xs)) ⊕ (v g ⊗ v x ⊕ v (product gs xs))) (omega arith)
 
 minus_is : (x y : ℤ) → x -ℤ y ≡ x +ℤ (negsuc 0 *ℤ y)
 minus_is x y = omega (arith, ints, ring (v (negsuc 0) ⊗ v y) (⊖ (v y)) (omega arith))
 
-dot_difference : (fs gs xs : List ℤ) → length fs ≡ length xs → length gs ≡ length xs → dot (entrywise (λ x y. x -ℤ y) fs gs) xs ≡ dot fs xs -ℤ dot gs xs
-dot_difference [] [] [] e h = refl
-dot_difference [] gs (x ∷ xs) e h = absurd (omega (arith, e))
-dot_difference [] (g ∷ gs) [] e h = absurd (omega (arith, h))
-dot_difference (f ∷ fs) gs [] e h = absurd (omega (arith, e))
-dot_difference (f ∷ fs) [] (x ∷ xs) e h = absurd (omega (arith, h))
-dot_difference (f ∷ fs) (g ∷ gs) (x ∷ xs) e h =
-    ap (λ (y : ℤ). ((f -ℤ g) *ℤ x) +ℤ y) (dot_difference fs gs xs (omega (arith, e)) (omega (arith, h))) ∙
-    ap (λ (y : ℤ). (y *ℤ x) +ℤ (dot fs xs -ℤ dot gs xs)) (minus_is f g) ∙
-    ap (λ (y : ℤ). ((f +ℤ (negsuc 0 *ℤ g)) *ℤ x) +ℤ y) (minus_is (dot fs xs) (dot gs xs)) ∙
-    ring ((v f ⊕ v (negsuc 0) ⊗ v g) ⊗ v x ⊕ (v (dot fs xs) ⊕ v (negsuc 0) ⊗ v (dot gs xs))) ((v f ⊗ v x ⊕ v (dot fs xs)) ⊕ v (negsuc 0) ⊗ (v g ⊗ v x ⊕ v (dot gs xs))) (omega arith) ∙
-    sym (minus_is ((f *ℤ x) +ℤ dot fs xs) ((g *ℤ x) +ℤ dot gs xs))
+product_difference : (fs gs xs : List ℤ) → length fs ≡ length xs → length gs ≡ length xs → product (entrywise (λ x y. x -ℤ y) fs gs) xs ≡ product fs xs -ℤ product gs xs
+product_difference [] [] [] e h = refl
+product_difference [] gs (x ∷ xs) e h = absurd (omega (arith, e))
+product_difference [] (g ∷ gs) [] e h = absurd (omega (arith, h))
+product_difference (f ∷ fs) gs [] e h = absurd (omega (arith, e))
+product_difference (f ∷ fs) [] (x ∷ xs) e h = absurd (omega (arith, h))
+product_difference (f ∷ fs) (g ∷ gs) (x ∷ xs) e h =
+    ap (λ (y : ℤ). ((f -ℤ g) *ℤ x) +ℤ y) (product_difference fs gs xs (omega (arith, e)) (omega (arith, h))) ∙
+    ap (λ (y : ℤ). (y *ℤ x) +ℤ (product fs xs -ℤ product gs xs)) (minus_is f g) ∙
+    ap (λ (y : ℤ). ((f +ℤ (negsuc 0 *ℤ g)) *ℤ x) +ℤ y) (minus_is (product fs xs) (product gs xs)) ∙
+    ring ((v f ⊕ v (negsuc 0) ⊗ v g) ⊗ v x ⊕ (v (product fs xs) ⊕ v (negsuc 0) ⊗ v (product gs xs))) ((v f ⊗ v x ⊕ v (product fs xs)) ⊕ v (negsuc 0) ⊗ (v g ⊗ v x ⊕ v (product gs xs))) (omega arith) ∙
+    sym (minus_is ((f *ℤ x) +ℤ product fs xs) ((g *ℤ x) +ℤ product gs xs))
 
-dot_scaled : (k : ℤ) (fs xs : List ℤ) → dot (map (λ c. k *ℤ c) fs) xs ≡ k *ℤ dot fs xs
-dot_scaled k [] xs = ring (v (pos 0)) (v k ⊗ v (pos 0)) (omega arith)
-dot_scaled k (f ∷ fs) [] = ring (v (pos 0)) (v k ⊗ v (pos 0)) (omega arith)
-dot_scaled k (f ∷ fs) (x ∷ xs) =
-    ap (λ (y : ℤ). ((k *ℤ f) *ℤ x) +ℤ y) (dot_scaled k fs xs) ∙ ring (v k ⊗ v f ⊗ v x ⊕ v k ⊗ v (dot fs xs)) (v k ⊗ (v f ⊗ v x ⊕ v (dot fs xs))) (omega arith)
-
-dot_opposite : (fs xs : List ℤ) → dot (map (λ c. pos 0 -ℤ c) fs) xs ≡ negsuc 0 *ℤ dot fs xs
-dot_opposite [] xs = refl
-dot_opposite (f ∷ fs) [] = refl
-dot_opposite (f ∷ fs) (x ∷ xs) =
-    ap (λ (y : ℤ). ((pos 0 -ℤ f) *ℤ x) +ℤ y) (dot_opposite fs xs) ∙ ap (λ (y : ℤ). (y *ℤ x) +ℤ (negsuc 0 *ℤ dot fs xs)) (minus_is (pos 0) f) ∙
-    ring ((v (pos 0) ⊕ v (negsuc 0) ⊗ v f) ⊗ v x ⊕ v (negsuc 0) ⊗ v (dot fs xs)) (v (negsuc 0) ⊗ (v f ⊗ v x ⊕ v (dot fs xs))) (omega arith)
+product_scaled : (k : ℤ) (fs xs : List ℤ) → product (map (λ c. k *ℤ c) fs) xs ≡ k *ℤ product fs xs
+product_scaled k [] xs = ring (v (pos 0)) (v k ⊗ v (pos 0)) (omega arith)
+product_scaled k (f ∷ fs) [] =
+    product_none (map (λ c. k *ℤ c) (f ∷ fs)) ∙ ring (v (pos 0)) (v k ⊗ v (pos 0)) (omega arith) ∙ ap (λ (y : ℤ). k *ℤ y) (sym (product_none (f ∷ fs)))
+product_scaled k (f ∷ fs) (x ∷ xs) =
+    ap (λ (y : ℤ). ((k *ℤ f) *ℤ x) +ℤ y) (product_scaled k fs xs) ∙ ring (v k ⊗ v f ⊗ v x ⊕ v k ⊗ v (product fs xs)) (v k ⊗ (v f ⊗ v x ⊕ v (product fs xs))) (omega arith)
 
 and_both : (a b : Bool) → (a && b) ≡ true → (a ≡ true) × (b ≡ true)
 and_both true b e = (refl, e)
@@ -112,12 +111,12 @@ zero_is (pos zero) e = refl
 zero_is (pos (suc n)) e = cc
 zero_is (negsuc n) e = cc
 
-dot_constant : (fs xs : List ℤ) → list_all is_zero fs ≡ true → dot fs xs ≡ pos 0
-dot_constant [] xs e = refl
-dot_constant (f ∷ fs) [] e = refl
-dot_constant (f ∷ fs) (x ∷ xs) e =
+product_constant : (fs xs : List ℤ) → list_all is_zero fs ≡ true → product fs xs ≡ pos 0
+product_constant [] xs e = refl
+product_constant (f ∷ fs) [] e = product_none (f ∷ fs)
+product_constant (f ∷ fs) (x ∷ xs) e =
     let both = and_both (is_zero f) (list_all is_zero fs) e in
-    ap (λ (y : ℤ). (y *ℤ x) +ℤ dot fs xs) (zero_is f both.0) ∙ ring (v (pos 0) ⊗ v x ⊕ v (dot fs xs)) (v (dot fs xs)) (omega arith) ∙ dot_constant fs xs both.1
+    ap (λ (y : ℤ). (y *ℤ x) +ℤ product fs xs) (zero_is f both.0) ∙ ring (v (pos 0) ⊗ v x ⊕ v (product fs xs)) (v (product fs xs)) (omega arith) ∙ product_constant fs xs both.1
 
 -- lengths --------------------------------------------------------------------------------------------------------------
 
@@ -186,28 +185,28 @@ value_same f g store e = sym (ap (λ (x : Form). form_value x store) e)
 
 pub scaled_value : (k : ℤ) (f h : Form) (store : List ℤ) → scaled k f ≡ Some h → form_value h store ≡ k *ℤ form_value f store
 scaled_value k f h store e =
-    value_same _ h store (fitting_same (multiple k f) h e) ∙ ap (λ (y : ℤ). (k *ℤ f.constant) +ℤ y) (dot_scaled k f.coefficients store) ∙
-    ring (v k ⊗ v f.constant ⊕ v k ⊗ v (dot f.coefficients store)) (v k ⊗ (v f.constant ⊕ v (dot f.coefficients store))) (omega arith)
+    value_same _ h store (fitting_same (multiple k f) h e) ∙ ap (λ (y : ℤ). (k *ℤ f.constant) +ℤ y) (product_scaled k f.coefficients store) ∙
+    ring (v k ⊗ v f.constant ⊕ v k ⊗ v (product f.coefficients store)) (v k ⊗ (v f.constant ⊕ v (product f.coefficients store))) (omega arith)
 
 sum_value : (f g h : Form) (store : List ℤ) → Wide (length store) f → Wide (length store) g → combined (λ x y. x +ℤ y) f g ≡ Some h → form_value h store ≡ form_value f store +ℤ form_value g store
 sum_value f g h store a b e =
-    value_same _ h store (fitting_same (combination (λ x y. x +ℤ y) f g) h e) ∙ ap (λ (y : ℤ). (f.constant +ℤ g.constant) +ℤ y) (dot_sum f.coefficients g.coefficients store a.width b.width) ∙
-    ring ((v f.constant ⊕ v g.constant) ⊕ (v (dot f.coefficients store) ⊕ v (dot g.coefficients store)))
-    ((v f.constant ⊕ v (dot f.coefficients store)) ⊕ (v g.constant ⊕ v (dot g.coefficients store))) (omega arith)
+    value_same _ h store (fitting_same (combination (λ x y. x +ℤ y) f g) h e) ∙ ap (λ (y : ℤ). (f.constant +ℤ g.constant) +ℤ y) (product_sum f.coefficients g.coefficients store a.width b.width) ∙
+    ring ((v f.constant ⊕ v g.constant) ⊕ (v (product f.coefficients store) ⊕ v (product g.coefficients store)))
+    ((v f.constant ⊕ v (product f.coefficients store)) ⊕ (v g.constant ⊕ v (product g.coefficients store))) (omega arith)
 
 pub difference_value : (f g h : Form) (store : List ℤ) → Wide (length store) f → Wide (length store) g → combined (λ x y. x -ℤ y) f g ≡ Some h →
     form_value h store ≡ form_value f store -ℤ form_value g store
 difference_value f g h store a b e =
-    let p = dot f.coefficients store in
-    let q = dot g.coefficients store in
-    value_same _ h store (fitting_same (combination (λ x y. x -ℤ y) f g) h e) ∙ ap (λ (y : ℤ). (f.constant -ℤ g.constant) +ℤ y) (dot_difference f.coefficients g.coefficients store a.width b.width) ∙
+    let p = product f.coefficients store in
+    let q = product g.coefficients store in
+    value_same _ h store (fitting_same (combination (λ x y. x -ℤ y) f g) h e) ∙ ap (λ (y : ℤ). (f.constant -ℤ g.constant) +ℤ y) (product_difference f.coefficients g.coefficients store a.width b.width) ∙
     ap (λ (y : ℤ). y +ℤ (p -ℤ q)) (minus_is f.constant g.constant) ∙ ap (λ (y : ℤ). (f.constant +ℤ (negsuc 0 *ℤ g.constant)) +ℤ y) (minus_is p q) ∙
     ring ((v f.constant ⊕ v (negsuc 0) ⊗ v g.constant) ⊕ (v p ⊕ v (negsuc 0) ⊗ v q)) ((v f.constant ⊕ v p) ⊕ v (negsuc 0) ⊗ (v g.constant ⊕ v q)) (omega arith) ∙
     sym (minus_is (f.constant +ℤ p) (g.constant +ℤ q))
 
 -- where no variable occurs the value is the constant
 constant_value : (f : Form) (store : List ℤ) → is_constant f ≡ true → form_value f store ≡ f.constant
-constant_value f store e = ap (λ (y : ℤ). f.constant +ℤ y) (dot_constant f.coefficients store e) ∙ ring (v f.constant ⊕ v (pos 0)) (v f.constant) (omega arith)
+constant_value f store e = ap (λ (y : ℤ). f.constant +ℤ y) (product_constant f.coefficients store e) ∙ ring (v f.constant ⊕ v (pos 0)) (v f.constant) (omega arith)
 
 product_value : (f g h : Form) (store : List ℤ) (p q : Bool) → is_constant f ≡ p → is_constant g ≡ q
     → (if p then scaled f.constant g else (if q then scaled g.constant f else None)) ≡ Some h → form_value h store ≡ form_value f store *ℤ form_value g store
@@ -229,13 +228,13 @@ operator_value modulo f g h store x y z a b e is also to = cc
 pub forms_are_right : FormsAreRight
 forms_are_right base (literal n) f store draws left z is ran =
     let same : pos n ≡ z = some_first (pos n) z draws left ran in
-    value_same _ f store (fitting_same (constant_form (length store) (pos n)) f is) ∙ ap (λ (y : ℤ). pos n +ℤ y) (dot_zeros (length store) store) ∙
+    value_same _ f store (fitting_same (constant_form (length store) (pos n)) f is) ∙ ap (λ (y : ℤ). pos n +ℤ y) (product_zeros (length store) store) ∙
     ring (v (pos n) ⊕ v (pos 0)) (v (pos n)) (omega arith) ∙ same
 forms_are_right base (read x) f store draws left z is ran =
     let same : variable_form (length store) (index_of base x) ≡ f = cc in
     let (y, got, to) = bind_some (slice_get store (index_of base x)) (λ r. Some (r, draws)) (z, left) ran in
     let is_z : y ≡ z = some_first y z draws left to in
-    value_same _ f store same ∙ ap (λ (r : ℤ). pos 0 +ℤ r) (dot_unit (length store) (index_of base x) store y refl got) ∙ ring (v (pos 0) ⊕ v y) (v y) (omega arith) ∙ is_z
+    value_same _ f store same ∙ ap (λ (r : ℤ). pos 0 +ℤ r) (product_unit (length store) (index_of base x) store y refl got) ∙ ring (v (pos 0) ⊕ v y) (v y) (omega arith) ∙ is_z
 forms_are_right base input f store draws left z is ran = cc
 forms_are_right base (negate e) f store draws left z is ran =
     let (g, of, to) = bind_some (form_of (length store) base e) (λ h. scaled (negsuc 0) h) f is in
@@ -257,30 +256,29 @@ forms_are_right base (binary op a b) f store draws left z is ran =
 
 -- tests ----------------------------------------------------------------------------------------------------------------
 
-opposite_less_one_value : (d f : Form) (store : List ℤ) → opposite_less_one d ≡ Some f → form_value f store ≡ (pos 0 -ℤ form_value d store) -ℤ pos 1
-opposite_less_one_value d f store e =
-    let p = dot d.coefficients store in
-    value_same _ f store (fitting_same (record { constant = (pos 0 -ℤ d.constant) -ℤ pos 1; coefficients = map (λ c. pos 0 -ℤ c) d.coefficients }) f e) ∙
-    ap (λ (y : ℤ). ((pos 0 -ℤ d.constant) -ℤ pos 1) +ℤ y) (dot_opposite d.coefficients store) ∙
-    (let last : ((pos 0 -ℤ d.constant) -ℤ pos 1) +ℤ (negsuc 0 *ℤ p) ≡ (pos 0 -ℤ (d.constant +ℤ p)) -ℤ pos 1 = omega (arith, ints, minus_is (pos 0) p) in last)
+opposite_value : (d f : Form) (store : List ℤ) → fitting (opposite_form d) ≡ Some f → form_value f store ≡ (pos 0 -ℤ form_value d store) -ℤ pos 1
+opposite_value d f store e =
+    let p = product d.coefficients store in
+    value_same (opposite_form d) f store (fitting_same (opposite_form d) f e) ∙ ap (λ (y : ℤ). (neg_ℤ d.constant +ℤ negsuc 0) +ℤ y) (product_negated d.coefficients store) ∙
+    (let last : (neg_ℤ d.constant +ℤ negsuc 0) +ℤ neg_ℤ p ≡ (pos 0 -ℤ (d.constant +ℤ p)) -ℤ pos 1 = omega (arith, ints) in last)
 
 less_one_value : (d f : Form) (store : List ℤ) → less_one d ≡ Some f → form_value f store ≡ form_value d store -ℤ pos 1
 less_one_value d f store e =
-    let p = dot d.coefficients store in
+    let p = product d.coefficients store in
     value_same _ f store (fitting_same (record { constant = d.constant -ℤ pos 1; coefficients = d.coefficients }) f e) ∙
     (let last : (d.constant -ℤ pos 1) +ℤ p ≡ (d.constant +ℤ p) -ℤ pos 1 = omega (arith, ints) in last)
 
 -- the inequality of a form
 abbrev inequality_of : Form → Test
-inequality_of f = record { kind = inequality; form = f }
+inequality_of f = record { expr = f; kind = Ge }
 
 from_form : (o : Option Form) (t : Test) → at_least_zero o ≡ Some t → (f : Form) × (o ≡ Some f) × (inequality_of f ≡ t)
 from_form None t e = cc
 from_form (Some f) t e = (f, refl, cc)
 
-passes_same : (f : Form) (t : Test) (store : List ℤ) (z : ℤ) → inequality_of f ≡ t → form_value f store ≡ z → (pos 0 ≤ℤ z) ↔ Passes t store
+passes_same : (f : Form) (t : Test) (store : List ℤ) (z : ℤ) → inequality_of f ≡ t → form_value f store ≡ z → (pos 0 ≤ℤ z) ↔ IsPassed t store
 passes_same f t store z e is =
-    (λ h. subst (λ (x : Test). Passes x store) e (subst (λ (y : ℤ). pos 0 ≤ℤ y) (sym is) h), λ h. subst (λ (y : ℤ). pos 0 ≤ℤ y) is (subst (λ (x : Test). Passes x store) (sym e) h))
+    (λ h. subst (λ (x : Test). IsPassed x store) e (subst (λ (y : ℤ). pos 0 ≤ℤ y) (sym is) h), λ h. subst (λ (y : ℤ). pos 0 ≤ℤ y) is (subst (λ (x : Test). IsPassed x store) (sym e) h))
 
 -- over whole numbers
 lt_decides : (x y w : ℤ) → w ≡ x -ℤ y → IsTrue (int_lt x y) ↔ (pos 0 ≤ℤ ((pos 0 -ℤ w) -ℤ pos 1))
@@ -305,12 +303,12 @@ both_ways : {A B C : Type 0} → A ↔ B → B ↔ C → A ↔ C
 both_ways f g = (λ h. g.0 (f.0 h), λ h. f.1 (g.1 h))
 
 -- of a difference d that has the value of x - y
-pub test_is_right : (op : Comparison) (d : Form) (t : Test) (store : List ℤ) (x y : ℤ) → form_value d store ≡ x -ℤ y → comparison_test op d ≡ Some t → IsTrue (compares op x y) ↔ Passes t store
+pub test_is_right : (op : Comparison) (d : Form) (t : Test) (store : List ℤ) (x y : ℤ) → form_value d store ≡ x -ℤ y → comparison_test op d ≡ Some t → IsTrue (compares op x y) ↔ IsPassed t store
 test_is_right below d t store x y e is =
-    let (f, of, same) = from_form (opposite_less_one d) t is in
-    both_ways (lt_decides x y (form_value d store) e) (passes_same f t store _ same (opposite_less_one_value d f store of))
+    let (f, of, same) = from_form (fitting (opposite_form d)) t is in
+    both_ways (lt_decides x y (form_value d store) e) (passes_same f t store _ same (opposite_value d f store of))
 test_is_right at_most d t store x y e is =
-    let (f, of, same) = from_form (opposite_form d) t is in
+    let (f, of, same) = from_form (negated_form d) t is in
     let less : form_value f store ≡ pos 0 -ℤ form_value d store = scaled_value (negsuc 0) d f store of ∙
     (let last : negsuc 0 *ℤ form_value d store ≡ pos 0 -ℤ form_value d store = omega (arith, ints, minus_is (pos 0) (form_value d store)) in last) in
     both_ways (le_decides x y (form_value d store) e) (passes_same f t store _ same less)
@@ -322,12 +320,12 @@ test_is_right at_least d t store x y e is =
     let it : d ≡ f = cc in
     both_ways (ge_decides x y (form_value d store) e) (passes_same d t store _ (rw it same) refl)
 test_is_right equal d t store x y e is =
-    let same : record { kind = equality; form = d } ≡ t = cc in
-    both_ways (eq_decides x y (form_value d store) e) (λ h. subst (λ (z : Test). Passes z store) same h, λ h. subst (λ (z : Test). Passes z store) (sym same) h)
+    let same : record { expr = d; kind = Eq } ≡ t = cc in
+    both_ways (eq_decides x y (form_value d store) e) (λ h. subst (λ (z : Test). IsPassed z store) same h, λ h. subst (λ (z : Test). IsPassed z store) (sym same) h)
 test_is_right differs d t store x y e is = cc
 
 pub differs_by_tests : (d : Form) (less more : Test) (store : List ℤ) (x y : ℤ) → form_value d store ≡ x -ℤ y → comparison_test below d ≡ Some less → comparison_test above d ≡ Some more
-    → IsTrue (compares differs x y) ↔ (Passes less store ⊎ Passes more store)
+    → IsTrue (compares differs x y) ↔ (IsPassed less store ⊎ IsPassed more store)
 differs_by_tests d less more store x y e is also =
     let one = test_is_right below d less store x y e is in
     let two = test_is_right above d more store x y e also in
@@ -367,10 +365,10 @@ pub tests_are_right : TestsAreRight
 tests_are_right base op a b d t store draws left so is test ran =
     let c = compared base op a b store draws left so ran in
     let right = test_is_right op d t store c.x c.y (difference_is_right base a b d store draws c.middle c.last c.x c.y is c.has_x c.has_y) test in
-    subst (λ (w : Bool). IsTrue w ↔ Passes t store) c.is right
+    subst (λ (w : Bool). IsTrue w ↔ IsPassed t store) c.is right
 
 pub differs_is_right : DiffersIsRight
 differs_is_right base a b d less more store draws left so is one two ran =
     let c = compared base differs a b store draws left so ran in
     let right = differs_by_tests d less more store c.x c.y (difference_is_right base a b d store draws c.middle c.last c.x c.y is c.has_x c.has_y) one two in
-    subst (λ (w : Bool). IsTrue w ↔ (Passes less store ⊎ Passes more store)) c.is right
+    subst (λ (w : Bool). IsTrue w ↔ (IsPassed less store ⊎ IsPassed more store)) c.is right

@@ -1,16 +1,13 @@
 -- Each least change of a value keeps the stores to which the change of the program leads.
 use Rattle.std.proofs.Common.{◌≡◌, ℕ, zero, suc, ◌+◌, ◌-◌, ◌≤◌, ◌++◌, ℤ, pos, ◌+ℤ◌, List, [], ◌∷◌, Option, Some, None, Bool, length, take, refl, sym, ap, subst, ◌∙◌, arith, append_assoc, append-nil, length-append}
 use Rattle.std.specs.Prelude.{◌-ℤ◌, ◌*ℤ◌, slice_set, slice_get}
-use Rattle.lra_linear.specs.Vectors.{product}
-use Rattle.lra_linear.proofs.Products.{product_none}
 use Rattle.lra_domain.specs.Actions.{Action, forget, embed, Leads}
-use Rattle.lra_lin.specs.Form.{form_value}
+use Rattle.lra_lin.specs.Form.{Form}
 use Rattle.lra_program.specs.Program.{Expr, literal, read, input, negate, binary, Cond}
 use Rattle.lra_program.specs.Value.{◌>>=◌, word, index_of, apply, Drawn, draw, value_of, values_of}
 use Rattle.lra_program.specs.Step.{State, Op, append, give, give_any, push, keep, test, put, given, pushed, run_op}
-use Rattle.lra_program.specs.Rows.{dot}
 use Rattle.lra_flow.specs.Linear as linear
-use Rattle.lra_flow.specs.Changes.{as_form, set_to, push_all, drop_last, actions_of}
+use Rattle.lra_flow.specs.Changes.{set_to, push_all, drop_last, actions_of}
 use Rattle.lra_flow.proofs.FormLemmas.{bind_some, pair_first, forms_are_right}
 
 -- values with more variables -------------------------------------------------------------------------------------------
@@ -39,16 +36,6 @@ value_longer (binary op a b) base store more draws r is =
     then_is (value_of a base (store ++ more) draws) (λ s. value_of b base (store ++ more) s.1 >>= λ t. apply op s.0 t.0 >>= λ z. Some (z, t.1)) s (Some r) (value_longer a base store more draws s got)
     (then_is (value_of b base (store ++ more) s.1) (λ t. apply op s.0 t.0 >>= λ z. Some (z, t.1)) t (Some r) (value_longer b base store more s.1 t got_too) last)
 
--- forms as a domain takes them -----------------------------------------------------------------------------------------
-
-product_is : (c xs : List ℤ) → product c xs ≡ dot c xs
-product_is [] xs = refl
-product_is (c ∷ cs) [] = product_none (c ∷ cs)
-product_is (c ∷ cs) (x ∷ xs) = ap (λ (z : ℤ). (c *ℤ x) +ℤ z) (product_is cs xs)
-
-pub as_form_value : (f : linear.Form) (s : List ℤ) → form_value (as_form f) s ≡ linear.form_value f s
-as_form_value f s = ap (λ (z : ℤ). f.constant +ℤ z) (product_is f.coefficients s)
-
 -- a state that is there
 pub some_is : {A : Type 0} (x y : A) → Some x ≡ Some y → x ≡ y
 some_is x y e = cc
@@ -68,10 +55,10 @@ leads_both [] two s m t e h = subst (λ (x : List ℤ). LeadsAll two x t) e h
 leads_both (step ∷ steps) two s m t (u, l, rest) h = (u, l, leads_both steps two u m t rest h)
 
 -- the variable gets the expression's value
-set_leads : (base x : ℕ) (e : Expr) (store draws left : List ℤ) (z : ℤ) (o : Option linear.Form) → linear.form_of (length store) base e ≡ o → value_of e base store draws ≡ Some (z, left)
+set_leads : (base x : ℕ) (e : Expr) (store draws left : List ℤ) (z : ℤ) (o : Option Form) → linear.form_of (length store) base e ≡ o → value_of e base store draws ≡ Some (z, left)
     → Leads (set_to x o) store (slice_set store x z)
 set_leads base x e store draws left z None is ran = (z, refl)
-set_leads base x e store draws left z (Some f) is ran = ap (λ (y : ℤ). slice_set store x y) (sym (as_form_value f store ∙ forms_are_right base e f store draws left z is ran))
+set_leads base x e store draws left z (Some f) is ran = ap (λ (y : ℤ). slice_set store x y) (sym (forms_are_right base e f store draws left z is ran))
 
 set_last : (xs : List ℤ) (z : ℤ) → slice_set (xs ++ z ∷ []) (length xs) z ≡ xs ++ z ∷ []
 set_last [] z = refl

@@ -4,8 +4,10 @@ use Rattle.std.specs.Int.Signed.{le_z_yes}
 use Rattle.lra_program.specs.Program.{local, Expr, literal, read, input, binary, compare, nonzero, opposite, both_of, either_of}
 use Rattle.lra_base.specs.Operators.{plus, minus, times, over, below, above, at_least, equal, differs}
 use Rattle.lra_program.specs.Value.{value_of, truth_of}
-use Rattle.lra_program.specs.Rows.{inequality}
-use Rattle.lra_flow.specs.Linear.{Form, Test, Passes, form_of, comparison_test}
+use Rattle.lra_linear.specs.declared.ConKind.TheVariants.{Ge}
+use Rattle.lra_lin.specs.Form.{Form}
+use Rattle.lra_lin.specs.declared.test.Test.{Test}
+use Rattle.lra_flow.specs.Linear.{IsPassed, form_of, comparison_test}
 use Rattle.lra_flow.specs.Condition.{atom, one_or, push, Actions, IsCond}
 use Rattle.lra_flow.specs.Given.{given_rows}
 
@@ -40,10 +42,10 @@ too_wide : (form_of 1 0 (binary plus (binary times (literal 9223372036854775807)
 too_wide = (refl, refl)
 
 -- x < y is y - x - 1 >= 0: catches x <= y - 2, which has the constant -2, and x <= y, which has 0
-less_test : comparison_test below (form (pos 0) (pos 1 ∷ negsuc 0 ∷ [])) ≡ Some (record { kind = inequality; form = form (negsuc 0) (negsuc 0 ∷ pos 1 ∷ []) })
+less_test : comparison_test below (form (pos 0) (pos 1 ∷ negsuc 0 ∷ [])) ≡ Some (record { expr = form (negsuc 0) (negsuc 0 ∷ pos 1 ∷ []); kind = Ge })
 less_test = refl
 
-greater_test : comparison_test above (form (pos 0) (pos 1 ∷ negsuc 0 ∷ [])) ≡ Some (record { kind = inequality; form = form (negsuc 0) (pos 1 ∷ negsuc 0 ∷ []) })
+greater_test : comparison_test above (form (pos 0) (pos 1 ∷ negsuc 0 ∷ [])) ≡ Some (record { expr = form (negsuc 0) (pos 1 ∷ negsuc 0 ∷ []); kind = Ge })
 greater_test = refl
 
 -- x < y at -2^63 and 2^63 - 1, whose difference has no value: the comparison is true, and its test passes; catches a test of the difference's value
@@ -51,7 +53,7 @@ abbrev ends : List ℤ
 ends = negsuc 9223372036854775807 ∷ pos 9223372036854775807 ∷ []
 
 test_past_words : (truth_of (compare below x y) 0 ends [] ≡ Some (true, [])) × (value_of (binary minus x y) 0 ends [] ≡ None)
-    × Passes (record { kind = inequality; form = form (negsuc 0) (negsuc 0 ∷ pos 1 ∷ []) }) ends
+    × IsPassed (record { expr = form (negsuc 0) (negsuc 0 ∷ pos 1 ∷ []); kind = Ge }) ends
 test_past_words = (refl, refl, le_z_yes tt)
 
 -- !(x < y && x) is !(x < y), or x < y and then x == 0: catches an `&&` that stays
@@ -92,8 +94,8 @@ abbrev making : Actions Made
 making = record { IsTested = λ t v w. w ≡ tested t v; IsJoined = λ v w u. u ≡ joined v w }
 
 differs_joins : IsCond Made making 2 0 (compare differs x y) true all_stores
-    (joined (tested (record { kind = inequality; form = form (negsuc 0) (negsuc 0 ∷ pos 1 ∷ []) }) all_stores)
-    (tested (record { kind = inequality; form = form (negsuc 0) (pos 1 ∷ negsuc 0 ∷ []) }) all_stores))
+    (joined (tested (record { expr = form (negsuc 0) (negsuc 0 ∷ pos 1 ∷ []); kind = Ge }) all_stores)
+    (tested (record { expr = form (negsuc 0) (pos 1 ∷ negsuc 0 ∷ []); kind = Ge }) all_stores))
 differs_joins = (_, _, refl, refl, refl)
 
 -- an atom that isn't linear changes nothing

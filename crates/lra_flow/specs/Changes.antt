@@ -9,17 +9,13 @@ use Rattle.lra_program.specs.Step.{Op, append, give, give_any, push, keep, test}
 use Rattle.lra_flow.specs.Linear as linear
 use Rattle.lra_flow.specs.Operations.{Operations, worse}
 
--- a form of a program's expression, as a domain takes it
-abbrev pub as_form : linear.Form → Form
-as_form f = record { constant = f.constant; coefficients = f.coefficients }
-
 -- the variable gets the form's value; any value where there is no form
-abbrev pub set_to : ℕ → Option linear.Form → Action
+abbrev pub set_to : ℕ → Option Form → Action
 set_to x None = forget x
-set_to x (Some f) = assign x (as_form f)
+set_to x (Some f) = assign x f
 
 -- a new variable that gets this value, behind so many
-abbrev pub append_set : ℕ → Option linear.Form → List Action
+abbrev pub append_set : ℕ → Option Form → List Action
 append_set live f = embed 1 ∷ set_to live f ∷ []
 
 -- the arguments, each a new variable with its value

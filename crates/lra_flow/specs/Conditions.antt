@@ -1,24 +1,16 @@
 -- A value where a condition is true, or where it is false: by the cases of the condition, with the exactness of all its
 -- operations.
 use Rattle.std.specs.Prelude.{◌≡◌, ℕ, Bool}
-use Rattle.lra_linear.specs.declared.ConKind.{ConKind}
-use Rattle.lra_linear.specs.declared.ConKind.TheVariants.{Ge, Eq}
+use Rattle.lra_lin.specs.declared.test.Test.{Test}
 use Rattle.lra_domain.specs.Actions.{Action, test}
 use Rattle.lra_domain.specs.declared.Exactness.{Exactness}
 use Rattle.lra_domain.specs.declared.Exactness.TheVariants.{Exact}
 use Rattle.lra_program.specs.Program.{Cond}
-use Rattle.lra_program.specs.Rows.{RowKind, equality, inequality}
-use Rattle.lra_flow.specs.Linear.{Test}
 use Rattle.lra_flow.specs.Condition.{Actions, IsCond}
 use Rattle.lra_flow.specs.Operations.{Operations, worse}
-use Rattle.lra_flow.specs.Changes.{as_form}
-
-abbrev pub kind_of : RowKind → ConKind
-kind_of equality = Eq
-kind_of inequality = Ge
 
 abbrev pub tested : Test → Action
-tested t = test (kind_of t.kind) (as_form t.form)
+tested t = test t.kind t.expr
 
 -- on values with the exactness of what led to them
 abbrev pub testing : {V H : Type 0} → Operations V H → Actions (V × Exactness)

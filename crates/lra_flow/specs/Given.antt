@@ -5,7 +5,9 @@ use Rattle.lra_linear.specs.declared.ConKind.{ConKind}
 use Rattle.lra_linear.specs.declared.ConKind.TheVariants.{Ge}
 use Rattle.lra_base.specs.Operators.{Comparison, equal, differs}
 use Rattle.lra_program.specs.Program.{Cond}
-use Rattle.lra_flow.specs.Linear.{Form, Test, comparison_test, difference_form}
+use Rattle.lra_lin.specs.Form.{Form}
+use Rattle.lra_lin.specs.declared.test.Test.{Test}
+use Rattle.lra_flow.specs.Linear.{comparison_test, difference_form}
 use Rattle.lra_flow.specs.Condition.{Pushed, atom, first_then, one_or, push}
 
 -- the row `form + more >= 0`
@@ -18,7 +20,7 @@ opposite_row f = neg_ℤ f.constant ∷ map neg_ℤ f.coefficients
 -- of the test `e >= 0` the rows e >= 0 and e + 1 >= 0
 abbrev pub test_rows : Option Test → List (List ℤ)
 test_rows None = []
-test_rows (Some t) = row_of t.form (pos 0) ∷ row_of t.form (pos 1) ∷ []
+test_rows (Some t) = row_of t.expr (pos 0) ∷ row_of t.expr (pos 1) ∷ []
 
 -- d the left side minus the right one; of `==` and `!=` the rows d >= 0 and -d >= 0; none of an atom that isn't linear
 abbrev pub atom_rows : Comparison → Option Form → List (List ℤ)

@@ -2,18 +2,12 @@
 -- 64 bits.
 use Rattle.std.specs.Prelude.{◌≡◌, ℕ, ℤ, pos, ◌+ℤ◌, ◌-ℤ◌, ◌*ℤ◌, Bool, ◌&&◌, if◌then◌else◌, List, [], ◌∷◌, map, replicate, slice_set, Option, Some, None, negsuc, length, IsTrue, ◌↔◌, ◌⊎◌}
 use Rattle.std.specs.List.{list_all}
+use Rattle.lra_linear.specs.declared.ConKind.TheVariants.{Ge, Eq}
+use Rattle.lra_lin.specs.Form.{Form, form_value, opposite_form, Passes}
+use Rattle.lra_lin.specs.declared.test.Test.{Test}
 use Rattle.lra_base.specs.Operators.{Operator, plus, minus, times, over, modulo, Comparison, below, at_most, above, at_least, equal, differs}
 use Rattle.lra_program.specs.Program.{Expr, literal, read, input, negate, binary, compare}
 use Rattle.lra_program.specs.Value.{◌>>=◌, is_word, is_zero, index_of, value_of, truth_of}
-use Rattle.lra_program.specs.Rows.{RowKind, equality, inequality, IsOfKind, dot}
-
-pub record Form : Type 0 where
-  pub constant : ℤ
-  pub coefficients : List ℤ
-
--- the form's value at a store
-abbrev pub form_value : Form → List ℤ → ℤ
-form_value f store = f.constant +ℤ dot f.coefficients store
 
 -- the form, where the constant and all coefficients have 64 bits
 abbrev pub fitting : Form → Option Form
@@ -72,39 +66,29 @@ FormsAreRight = (base : ℕ) (e : Expr) (f : Form) (store draws left : List ℤ)
 
 -- tests ------------------------------------------------------------------------------------------------------------
 
--- the form is at least 0, or is 0
-pub record Test : Type 0 where
-  pub kind : RowKind
-  pub form : Form
-
-abbrev pub Passes : Test → List ℤ → Type 0
-Passes t store = IsOfKind t.kind (form_value t.form store)
+-- the store passes the test
+abbrev pub IsPassed : Test → List ℤ → Type 0
+IsPassed t store = Passes t.kind t.expr store
 
 abbrev pub at_least_zero : Option Form → Option Test
 at_least_zero None = None
-at_least_zero (Some f) = Some (record { kind = inequality; form = f })
+at_least_zero (Some f) = Some (record { expr = f; kind = Ge })
 
--- d - 1, -d, -d - 1
+-- d - 1, -d
 abbrev pub less_one : Form → Option Form
 less_one d = fitting (record d { constant = d.constant -ℤ pos 1 })
 
-abbrev pub opposite_form : Form → Option Form
-opposite_form d = scaled (negsuc 0) d
-
-abbrev pub opposite_less_one : Form → Option Form
-opposite_less_one d = fitting (record {
-  constant = (pos 0 -ℤ d.constant) -ℤ pos 1;
-  coefficients = map (λ c. pos 0 -ℤ c) d.coefficients;
-})
+abbrev pub negated_form : Form → Option Form
+negated_form d = scaled (negsuc 0) d
 
 -- the test of a comparison, d the left side minus the right one; over whole numbers d < 0 is -d - 1 >= 0. `!=` has no
 -- test of its own
 abbrev pub comparison_test : Comparison → Form → Option Test
-comparison_test below d = at_least_zero (opposite_less_one d)
-comparison_test at_most d = at_least_zero (opposite_form d)
+comparison_test below d = at_least_zero (fitting (opposite_form d))
+comparison_test at_most d = at_least_zero (negated_form d)
 comparison_test above d = at_least_zero (less_one d)
 comparison_test at_least d = at_least_zero (Some d)
-comparison_test equal d = Some (record { kind = equality; form = d })
+comparison_test equal d = Some (record { expr = d; kind = Eq })
 comparison_test differs d = None
 
 -- left minus right
@@ -115,7 +99,7 @@ difference_form live base a b = form_of live base (binary minus a b)
 abbrev pub TestsAreRight : Type 0
 TestsAreRight = (base : ℕ) (op : Comparison) (a b : Expr) (d : Form) (t : Test) (store draws left : List ℤ) (v : Bool)
     → difference_form (length store) base a b ≡ Some d → comparison_test op d ≡ Some t
-    → truth_of (compare op a b) base store draws ≡ Some (v, left) → (IsTrue v ↔ Passes t store)
+    → truth_of (compare op a b) base store draws ≡ Some (v, left) → (IsTrue v ↔ IsPassed t store)
 
 -- and `!=` is true exactly where the test of `<` or that of `>` passes
 abbrev pub DiffersIsRight : Type 0
@@ -123,4 +107,4 @@ DiffersIsRight = (base : ℕ) (a b : Expr) (d : Form) (less more : Test) (store 
     → difference_form (length store) base a b ≡ Some d → comparison_test below d ≡ Some less →
     comparison_test above d ≡ Some more
     → truth_of (compare differs a b) base store draws ≡ Some (v, left) →
-    (IsTrue v ↔ (Passes less store ⊎ Passes more store))
+    (IsTrue v ↔ (IsPassed less store ⊎ IsPassed more store))

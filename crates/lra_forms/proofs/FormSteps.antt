@@ -2,7 +2,7 @@
 use Rattle.std.proofs.Common.{rules, ◌≡◌, ◌+◌, ◌<◌, map, drop, drop-cons, get_or, length, ℕ, zero, suc, ℤ, pos, ◌++◌, List, [], ◌∷◌, Option, Some, None, Bool, true, false, refl, sym, ap, subst, ◌∙◌, append_assoc, FitsSigned, arith}
 use Rattle.std.specs.Int.{w64}
 use Rattle.std.proofs.lemmas.Int.{ints}
-use Rattle.std.specs.Prelude.{◌&&◌, if◌then◌else◌, replicate, option_map}
+use Rattle.std.specs.Prelude.{◌&&◌, if◌then◌else◌, replicate}
 use Rattle.std.specs.List.{list_all}
 use Rattle.lra_program.specs.Value.{◌>>=◌, word, is_word}
 use Rattle.lra_lin.specs.Form.{Form}
@@ -13,8 +13,7 @@ use Rattle.lra_program.specs.ProgramViews.{chained, expr_view, operation_view}
 use Rattle.lra_base.specs.OperatorViews.{operator_view}
 use Rattle.lra_program.specs.declared.program.Expr.{the_lemmas}
 use Rattle.lra_flow.specs.Linear as linear
-use Rattle.lra_forms.specs.Forms.{as_linear, IsForm, rest_form}
-use Rattle.lra_flow.specs.Changes.{as_form}
+use Rattle.lra_forms.specs.Forms.{rest_form}
 use Rattle.lra_flow.proofs.Keeping.{some_is}
 
 -- of all numbers these are there, and these come; those that are there have 64 bits
@@ -42,16 +41,17 @@ zeros_words (suc n) = zeros_words n
 word_fits : (z : ℤ) → FitsSigned w64 z → is_word z ≡ true
 word_fits z h = grind (arith, ints)
 
-form_if : (b : Bool) (g : linear.Form) (f : Form) → b ≡ true → g ≡ as_linear f → IsForm (if b then Some g else None) (Some f)
-form_if true g f e same = ap (λ (x : linear.Form). Some (as_form x)) (sym same)
-form_if false g f e same = absurd (let no : false ≡ true = e in cc)
+form_if : (b : Bool) (f : Form) → b ≡ true → Some f ≡ (if b then Some f else None)
+form_if true f e = refl
+form_if false f e = absurd (let no : false ≡ true = e in cc)
 
 -- a literal of 64 bits
-pub literal_form : (live n : ℕ) (k : ℤ) (f : Form) → k ≡ pos n → FitsSigned w64 k → as_linear f ≡ linear.constant_form live k → IsForm (linear.fitting (linear.constant_form live (pos n))) (Some f)
+pub literal_form : (live n : ℕ) (k : ℤ) (f : Form) → k ≡ pos n → FitsSigned w64 k → f ≡ linear.constant_form live k → Some f ≡ linear.fitting (linear.constant_form live (pos n))
 literal_form live n k f same fits is =
     let word_n : is_word (pos n) ≡ true = subst (λ (z : ℤ). is_word z ≡ true) same (word_fits k fits) in
     let all : (is_word (pos n) && list_all is_word (replicate live (pos 0))) ≡ true = rw (word_n, zeros_words live) refl in
-    form_if (is_word (pos n) && list_all is_word (replicate live (pos 0))) (linear.constant_form live (pos n)) f all (subst (λ (z : ℤ). linear.constant_form live z ≡ as_linear f) same (sym is))
+    ap (λ (g : Form). Some g) is ∙ ap (λ (z : ℤ). Some (linear.constant_form live z)) same ∙
+    form_if (is_word (pos n) && list_all is_word (replicate live (pos 0))) (linear.constant_form live (pos n)) all
 
 -- a chain goes on from what is there
 pub chain_form : (live base : ℕ) (e : Expr) (os : List (Operator × Expr)) → linear.form_of live base (chained e os) ≡ rest_form live base (linear.form_of live base e) os
@@ -62,20 +62,12 @@ pub chain_none : (live base : ℕ) (os : List (Operator × Expr)) → rest_form 
 chain_none live base [] = refl
 chain_none live base (o ∷ os) = chain_none live base os
 
-pub none_only : (o : Option linear.Form) → IsForm o None → o ≡ None
-none_only None h = refl
-none_only (Some f) h = cc
-
-pub some_only : (o : Option linear.Form) (f : Form) → IsForm o (Some f) → o ≡ Some (as_linear f)
-some_only None f h = cc
-some_only (Some g) f h = let same : f ≡ as_form g = some_is f (as_form g) h in ap (λ (x : Form). Some (as_linear x)) (sym same)
-
 pub operation_is : (o : Operation) → operation_view o ≡ (operator_view o.operator, expr_view o.operand)
 operation_is o = search (rules, the_lemmas)
 
 -- the chain as far as operation i, with the form f
-module _ (live base : ℕ) (first : Option linear.Form) (f : linear.Form) (os : List Operation) (i : ℕ) (o : Operation) where
-  abbrev pub ChainAt : linear.Form → ℕ → Type 0
+module _ (live base : ℕ) (first : Option Form) (f : Form) (os : List Operation) (i : ℕ) (o : Operation) where
+  abbrev pub ChainAt : Form → ℕ → Type 0
   ChainAt g n = rest_form live base (Some g) (map operation_view (drop n os)) ≡ rest_form live base first (map operation_view os)
 
   behind_is : i < length os → o ≡ get_or os i o → ChainAt f i
@@ -90,22 +82,22 @@ module _ (live base : ℕ) (first : Option linear.Form) (f : linear.Form) (os : 
       (operation_is o) here
 
   -- an operand without a form
-  pub chain_stops : i < length os → o ≡ get_or os i o → ChainAt f i → IsForm (linear.form_of live base (expr_view o.operand)) None → IsForm (rest_form live base first (map operation_view os)) None
+  pub chain_stops : i < length os → o ≡ get_or os i o → ChainAt f i → None ≡ linear.form_of live base (expr_view o.operand) → None ≡ rest_form live base first (map operation_view os)
   chain_stops below is so_far none =
       let whole = behind_is below is so_far in
-      let it = rw (none_only (linear.form_of live base (expr_view o.operand)) none) at whole in
-      ap (option_map as_form) (sym (chain_none live base (map operation_view (drop (i + 1) os))) ∙ it)
+      let it = rw (← none) at whole in
+      sym (chain_none live base (map operation_view (drop (i + 1) os))) ∙ it
 
   -- an operand with which the operator makes no form
-  pub chain_fails : (y : Form) → i < length os → o ≡ get_or os i o → ChainAt f i → IsForm (linear.form_of live base (expr_view o.operand)) (Some y)
-      → IsForm (linear.operator_form (operator_view o.operator) f (as_linear y)) None → IsForm (rest_form live base first (map operation_view os)) None
+  pub chain_fails : (y : Form) → i < length os → o ≡ get_or os i o → ChainAt f i → Some y ≡ linear.form_of live base (expr_view o.operand)
+      → None ≡ linear.operator_form (operator_view o.operator) f y → None ≡ rest_form live base first (map operation_view os)
   chain_fails y below is so_far some none =
       let whole = behind_is below is so_far in
-      let it = rw (some_only (linear.form_of live base (expr_view o.operand)) y some, none_only (linear.operator_form (operator_view o.operator) f (as_linear y)) none) at whole in
-      ap (option_map as_form) (sym (chain_none live base (map operation_view (drop (i + 1) os))) ∙ it)
+      let it = rw (← some, ← none) at whole in
+      sym (chain_none live base (map operation_view (drop (i + 1) os))) ∙ it
 
-  pub chain_next : (y z : Form) → i < length os → o ≡ get_or os i o → ChainAt f i → IsForm (linear.form_of live base (expr_view o.operand)) (Some y)
-      → IsForm (linear.operator_form (operator_view o.operator) f (as_linear y)) (Some z) → ChainAt (as_linear z) (i + 1)
+  pub chain_next : (y z : Form) → i < length os → o ≡ get_or os i o → ChainAt f i → Some y ≡ linear.form_of live base (expr_view o.operand)
+      → Some z ≡ linear.operator_form (operator_view o.operator) f y → ChainAt z (i + 1)
   chain_next y z below is so_far some also =
       let whole = behind_is below is so_far in
-      rw (some_only (linear.form_of live base (expr_view o.operand)) y some, some_only (linear.operator_form (operator_view o.operator) f (as_linear y)) z also) at whole
+      rw (← some, ← also) at whole

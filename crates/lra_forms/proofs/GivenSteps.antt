@@ -1,15 +1,14 @@
 -- Steps of the proofs on given rows.
 use Rattle.std.proofs.Common.{◌≡◌, ℕ, suc, ℤ, pos, negsuc, ◌*ℤ◌, List, [], ◌∷◌, ◌++◌, Option, Some, None, Bool, true, false, length, map, refl, sym, ap, ◌∙◌, append_assoc, append-nil}
-use Rattle.std.specs.Prelude.{◌-ℤ◌}
+use Rattle.std.specs.Prelude.{◌-ℤ◌, neg_ℤ}
 use Rattle.std.proofs.lemmas.List.{map-append, length-map}
-use Rattle.lra_program.specs.Rows.{equality, inequality}
 use Rattle.lra_flow.proofs.FormLemmas.{fitting_same}
 use Rattle.lra_flow.proofs.Keeping.{some_is}
-use Rattle.lra_lin.specs.Form.{Form}
+use Rattle.lra_lin.specs.Form.{Form, opposite_form}
 use Rattle.lra_lin.specs.declared.test.Test.{Test}
 use Rattle.lra_sys.specs.Listed.{Listed}
 use Rattle.lra_linear.specs.declared.ConKind.{ConKind}
-use Rattle.lra_linear.specs.declared.ConKind.TheVariants.{Ge}
+use Rattle.lra_linear.specs.declared.ConKind.TheVariants.{Ge, Eq}
 use Rattle.lra_base.specs.declared.operators.Comparison as declared
 use Rattle.lra_base.specs.declared.operators.Comparison.TheVariants.{Below, AtMost, Above, AtLeast, Equal, Differs}
 use Rattle.lra_base.specs.OperatorViews.{comparison_view}
@@ -19,8 +18,7 @@ use Rattle.lra_flow.specs.Linear as linear
 use Rattle.lra_flow.specs.Linear.{fitting, at_least_zero, difference_form, comparison_test}
 use Rattle.lra_flow.specs.Condition.{push}
 use Rattle.lra_flow.specs.Given.{row_of, test_rows, atom_rows, pushed_rows}
-use Rattle.lra_forms.specs.Forms.{as_linear}
-use Rattle.lra_forms.specs.Conditions.{as_test, IsTest, in_turn_of, either_of}
+use Rattle.lra_forms.specs.Conditions.{in_turn_of, either_of}
 use Rattle.lra_forms.specs.Given.{HasMore}
 use Rattle.lra_forms.proofs.CondSteps.{all_true, any_false, all_false, any_true}
 
@@ -50,28 +48,27 @@ any_rows live base true c cs = ap (pushed_rows live base) (any_true c cs) ∙ ei
 any_rows live base false c cs = ap (pushed_rows live base) (any_false c cs)
 
 -- a test has as many coefficients as the difference
-from_form_wide : (o : Option linear.Form) (n : ℕ) → ((f : linear.Form) → o ≡ Some f → length f.coefficients ≡ n) → (t : Test) → IsTest (at_least_zero o) (Some t) → length t.expr.coefficients ≡ n
+from_form_wide : (o : Option Form) (n : ℕ) → ((f : Form) → o ≡ Some f → length f.coefficients ≡ n) → (t : Test) → Some t ≡ at_least_zero o → length t.expr.coefficients ≡ n
 from_form_wide None n wide t h = cc
-from_form_wide (Some f) n wide t h = ap (λ (x : Test). length x.expr.coefficients) (some_is t (as_test (record { kind = inequality; form = f })) h) ∙ wide f refl
+from_form_wide (Some f) n wide t h = ap (λ (x : Test). length x.expr.coefficients) (some_is t (record { expr = f; kind = Ge }) h) ∙ wide f refl
 
-same_wide : (f g : linear.Form) (n : ℕ) → fitting f ≡ Some g → length f.coefficients ≡ n → length g.coefficients ≡ n
-same_wide f g n e h = sym (ap (λ (x : linear.Form). length x.coefficients) (fitting_same f g e)) ∙ h
+same_wide : (f g : Form) (n : ℕ) → fitting f ≡ Some g → length f.coefficients ≡ n → length g.coefficients ≡ n
+same_wide f g n e h = sym (ap (λ (x : Form). length x.coefficients) (fitting_same f g e)) ∙ h
 
-pub test_wide : (op : declared.Comparison) (d : Form) (t : Test) → IsTest (comparison_test (comparison_view op) (as_linear d)) (Some t) → length t.expr.coefficients ≡ length d.coefficients
-test_wide Below d t h = from_form_wide _ _ (λ f e. same_wide (record { constant = (pos 0 -ℤ d.constant) -ℤ pos 1; coefficients = map (λ c. pos 0 -ℤ c) d.coefficients }) f _ e
-    (length-map d.coefficients (λ c. pos 0 -ℤ c))) t h
+pub test_wide : (op : declared.Comparison) (d : Form) (t : Test) → Some t ≡ comparison_test (comparison_view op) d → length t.expr.coefficients ≡ length d.coefficients
+test_wide Below d t h = from_form_wide _ _ (λ f e. same_wide (opposite_form d) f _ e (length-map d.coefficients neg_ℤ)) t h
 test_wide AtMost d t h = from_form_wide _ _ (λ f e. same_wide (record { constant = negsuc 0 *ℤ d.constant; coefficients = map (λ c. negsuc 0 *ℤ c) d.coefficients }) f _ e
     (length-map d.coefficients (λ c. negsuc 0 *ℤ c))) t h
 test_wide Above d t h = from_form_wide _ _ (λ f e. same_wide (record { constant = d.constant -ℤ pos 1; coefficients = d.coefficients }) f _ e refl) t h
-test_wide AtLeast d t h = ap (λ (x : Test). length x.expr.coefficients) (some_is t (as_test (record { kind = inequality; form = as_linear d })) h)
-test_wide Equal d t h = ap (λ (x : Test). length x.expr.coefficients) (some_is t (as_test (record { kind = equality; form = as_linear d })) h)
+test_wide AtLeast d t h = ap (λ (x : Test). length x.expr.coefficients) (some_is t (record { expr = d; kind = Ge }) h)
+test_wide Equal d t h = ap (λ (x : Test). length x.expr.coefficients) (some_is t (record { expr = d; kind = Eq }) h)
 test_wide Differs d t h = cc
 
-pub row_width : (f : Form) (more : ℤ) → length (row_of (as_linear f) more) ≡ suc (length f.coefficients)
+pub row_width : (f : Form) (more : ℤ) → length (row_of f more) ≡ suc (length f.coefficients)
 row_width f more = refl
 
 -- the rows of other comparisons than `==` and `!=`
-pub rows_by_test : (op : declared.Comparison) (d : linear.Form) → (op ≡ Equal → ⊥) → (op ≡ Differs → ⊥) → atom_rows (comparison_view op) (Some d) ≡ test_rows (comparison_test (comparison_view op) d)
+pub rows_by_test : (op : declared.Comparison) (d : Form) → (op ≡ Equal → ⊥) → (op ≡ Differs → ⊥) → atom_rows (comparison_view op) (Some d) ≡ test_rows (comparison_test (comparison_view op) d)
 rows_by_test Below d n m = refl
 rows_by_test AtMost d n m = refl
 rows_by_test Above d n m = refl

@@ -1,12 +1,11 @@
 //! The test of a comparison, and the comparison that is true where it is false.
 
-ghost use Rattle.std.specs.Prelude.{◌≡◌, ◌<◌, ◌^◌, length, IfOk, option_map};
+ghost use Rattle.std.specs.Prelude.{◌≡◌, ◌<◌, ◌^◌, length, IfOk};
+ghost use Rattle.lra_lin.specs.Form.{opposite_form};
 ghost use Rattle.lra_base.specs.OperatorViews.{comparison_view};
 ghost use Rattle.lra_program.specs.ProgramViews.{expr_view};
-ghost use Rattle.lra_flow.specs.Linear.{difference_form, comparison_test, less_one, opposite_less_one, at_least_zero};
+ghost use Rattle.lra_flow.specs.Linear.{difference_form, comparison_test, fitting, less_one, at_least_zero};
 ghost use Rattle.lra_flow.specs.Condition.{opposite_comparison};
-ghost use Rattle.lra_forms.specs.Forms.{as_linear, IsForm};
-ghost use Rattle.lra_forms.specs.Conditions.{IsTest};
 
 use crate::forms::{constant_of, form_of_expression, multiple_of, sum_of_forms};
 use lra_base::Comparison;
@@ -18,7 +17,7 @@ use std::alloc::{AllocError, Global};
 /// The form minus one, where all its numbers have 64 bits.
 fn less_one_of(alloc: Global, d: &LinExpr) -> Result<Option<LinExpr>, AllocError>
     requires { length d.now.coefficients < 2 ^ 62 }
-    ensures { IfOk result (λ o. IsForm (less_one (as_linear d.now)) o) }
+    ensures { IfOk result (λ o. o ≡ less_one d.now) }
 {
     let one = constant_of(alloc, d.coefficients().len(), &1)?;
     let form = sum_of_forms(alloc, true, d, &one)?;
@@ -26,9 +25,9 @@ fn less_one_of(alloc: Global, d: &LinExpr) -> Result<Option<LinExpr>, AllocError
 }
 
 /// Minus the form, minus one, where all its numbers have 64 bits.
-fn opposite_less_one_of(alloc: Global, d: &LinExpr) -> Result<Option<LinExpr>, AllocError>
+fn opposite_form_of(alloc: Global, d: &LinExpr) -> Result<Option<LinExpr>, AllocError>
     requires { length d.now.coefficients < 2 ^ 62 }
-    ensures { IfOk result (λ o. IsForm (opposite_less_one (as_linear d.now)) o) }
+    ensures { IfOk result (λ o. o ≡ fitting (opposite_form d.now)) }
 {
     let minus_one = constant_of(alloc, d.coefficients().len(), &-1)?;
     let form = sum_of_forms(alloc, true, &minus_one, d)?;
@@ -36,7 +35,7 @@ fn opposite_less_one_of(alloc: Global, d: &LinExpr) -> Result<Option<LinExpr>, A
 }
 
 fn at_least_zero_of(form: Option<LinExpr>) -> Option<Test>
-    ensures { IsTest (at_least_zero (option_map as_linear form)) result }
+    ensures { result ≡ at_least_zero form }
 {
     match form {
         None => None,
@@ -51,11 +50,11 @@ fn at_least_zero_of(form: Option<LinExpr>) -> Option<Test>
 /// bits.
 pub fn test_of(alloc: Global, op: Comparison, d: &LinExpr) -> Result<Option<Test>, AllocError>
     requires { length d.now.coefficients < 2 ^ 62 }
-    ensures { IfOk result (λ o. IsTest (comparison_test (comparison_view op) (as_linear d.now)) o) }
+    ensures { IfOk result (λ o. o ≡ comparison_test (comparison_view op) d.now) }
 {
     match op {
         Comparison::Below => {
-            let form = opposite_less_one_of(alloc, d)?;
+            let form = opposite_form_of(alloc, d)?;
             Ok(at_least_zero_of(form))
         }
         Comparison::AtMost => {
@@ -87,7 +86,7 @@ pub fn difference_of(
     right: &Expr,
 ) -> Result<Option<LinExpr>, AllocError>
     requires { live < 2 ^ 62 }
-    ensures { IfOk result (λ o. IsForm (difference_form live base (expr_view left.now) (expr_view right.now)) o) }
+    ensures { IfOk result (λ o. o ≡ difference_form live base (expr_view left.now) (expr_view right.now)) }
 {
     let Some(one) = form_of_expression(alloc, live, base, left)? else {
         return Ok(None);

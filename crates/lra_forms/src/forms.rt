@@ -6,7 +6,7 @@ ghost use Rattle.lra_program.specs.Value.{word, is_word, index_of};
 ghost use Rattle.lra_base.specs.OperatorViews.{operator_view};
 ghost use Rattle.lra_program.specs.ProgramViews.{expr_view, operation_view, slot_view};
 ghost use Rattle.lra_flow.specs.Linear.{fitting, entrywise, combined, scaled, is_constant, product_form, operator_form, constant_form, variable_form, form_of};
-ghost use Rattle.lra_forms.specs.Forms.{as_linear, IsForm, sum_of, rest_form};
+ghost use Rattle.lra_forms.specs.Forms.{sum_of, rest_form};
 
 use lra_base::Operator;
 use lra_lin::LinExpr;
@@ -88,7 +88,7 @@ pub fn sum_of_forms(
     f: &LinExpr,
     g: &LinExpr,
 ) -> Result<Option<LinExpr>, AllocError>
-    ensures { IfOk result (λ o. IsForm (combined (sum_of minus) (as_linear f.now) (as_linear g.now)) o) }
+    ensures { IfOk result (λ o. o ≡ combined (sum_of minus) f.now g.now) }
 {
     let Some(constant) = sum_entry(minus, f.constant(), g.constant()) else {
         return Ok(None);
@@ -101,7 +101,7 @@ pub fn sum_of_forms(
 
 /// The form times `factor`, where all its numbers have 64 bits.
 pub fn multiple_of(alloc: Global, factor: i64, f: &LinExpr) -> Result<Option<LinExpr>, AllocError>
-    ensures { IfOk result (λ o. IsForm (scaled factor (as_linear f.now)) o) }
+    ensures { IfOk result (λ o. o ≡ scaled factor f.now) }
 {
     let Some(constant) = product_entry(&factor, &f.constant()) else {
         return Ok(None);
@@ -114,7 +114,7 @@ pub fn multiple_of(alloc: Global, factor: i64, f: &LinExpr) -> Result<Option<Lin
 
 /// Whether no variable occurs.
 fn has_no_variable(f: &LinExpr) -> bool
-    ensures { result ≡ is_constant (as_linear f.now) }
+    ensures { result ≡ is_constant f.now }
 {
     let mut left = f.coefficients();
     while let Some((coefficient, behind)) = left.split_first() {
@@ -128,7 +128,7 @@ fn has_no_variable(f: &LinExpr) -> bool
 
 /// The product, where one side is constant.
 fn product_of(alloc: Global, f: &LinExpr, g: &LinExpr) -> Result<Option<LinExpr>, AllocError>
-    ensures { IfOk result (λ o. IsForm (product_form (as_linear f.now) (as_linear g.now)) o) }
+    ensures { IfOk result (λ o. o ≡ product_form f.now g.now) }
 {
     if has_no_variable(f) {
         let product = multiple_of(alloc, f.constant(), g)?;
@@ -148,7 +148,7 @@ fn operated(
     f: &LinExpr,
     g: &LinExpr,
 ) -> Result<Option<LinExpr>, AllocError>
-    ensures { IfOk result (λ o. IsForm (operator_form (operator_view operator) (as_linear f.now) (as_linear g.now)) o) }
+    ensures { IfOk result (λ o. o ≡ operator_form (operator_view operator) f.now g.now) }
 {
     match operator {
         Operator::Plus => {
@@ -170,7 +170,7 @@ fn operated(
 /// The constant form over so many variables.
 pub fn constant_of(alloc: Global, live: usize, constant: &i64) -> Result<LinExpr, AllocError>
     requires { live < 2 ^ 62 }
-    ensures { IfOk result (λ f. as_linear f ≡ constant_form live constant.now) }
+    ensures { IfOk result (λ f. f ≡ constant_form live constant.now) }
 {
     let zeros = vec![in alloc; 0i64; live]?;
     let form = LinExpr::new(alloc, *constant, zeros.as_slice())?;
@@ -208,7 +208,7 @@ pub fn variable_of(
     slot: Slot,
 ) -> Result<LinExpr, AllocError>
     requires { live < 2 ^ 62 }
-    ensures { IfOk result (λ f. as_linear f ≡ variable_form live (index_of base (slot_view slot))) }
+    ensures { IfOk result (λ f. f ≡ variable_form live (index_of base (slot_view slot))) }
 {
     let entries = unit_entries(alloc, live, place_of(base, slot))?;
     let form = LinExpr::new(alloc, 0, entries.as_slice())?;
@@ -218,7 +218,7 @@ pub fn variable_of(
 /// The form of a literal, where it has 64 bits.
 fn literal_of(alloc: Global, live: usize, number: u64) -> Result<Option<LinExpr>, AllocError>
     requires { live < 2 ^ 62 }
-    ensures { IfOk result (λ o. IsForm (fitting (constant_form live (pos number))) o) }
+    ensures { IfOk result (λ o. o ≡ fitting (constant_form live (pos number))) }
 {
     match i64::try_from(number) {
         Err(_) => Ok(None),
@@ -239,7 +239,7 @@ pub fn form_of_expression(
     e: &Expr,
 ) -> Result<Option<LinExpr>, AllocError>
     requires { live < 2 ^ 62 }
-    ensures { IfOk result (λ o. IsForm (form_of live base (expr_view e.now)) o) }
+    ensures { IfOk result (λ o. o ≡ form_of live base (expr_view e.now)) }
 {
     match e {
         Expr::Literal(number) => {
@@ -278,8 +278,8 @@ fn form_of_chain(
     operations: &[Operation],
 ) -> Result<Option<LinExpr>, AllocError>
     requires { live < 2 ^ 62 }
-    ensures { IfOk result (λ o. IsForm (rest_form live base (Some (as_linear first))
-        (map operation_view operations.now)) o) }
+    ensures { IfOk result (λ o. o ≡ rest_form live base (Some first)
+        (map operation_view operations.now)) }
 {
     let mut form = first;
     'operations: for operation in operations {

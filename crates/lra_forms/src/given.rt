@@ -8,7 +8,6 @@ ghost use Rattle.lra_program.specs.ProgramViews.{expr_view, cond_view};
 ghost use Rattle.lra_flow.specs.Linear.{difference_form, comparison_test};
 ghost use Rattle.lra_flow.specs.Condition.{push};
 ghost use Rattle.lra_flow.specs.Given.{row_of, opposite_row, test_rows, atom_rows, pushed_rows, given_rows};
-ghost use Rattle.lra_forms.specs.Forms.{as_linear};
 ghost use Rattle.lra_forms.specs.Conditions.{in_turn_of};
 ghost use Rattle.lra_forms.specs.Given.{HasMore};
 
@@ -22,7 +21,7 @@ use std::alloc::{AllocError, Global};
 
 /// The row `form + more >= 0`, where `more` is 0 or 1.
 fn row_of_form(alloc: Global, form: &LinExpr, more: bool) -> Result<Row, AllocError>
-    ensures { IfOk result (λ r. r ≡ row_of (as_linear form.now) (if more then pos 1 else pos 0)) }
+    ensures { IfOk result (λ r. r ≡ row_of form.now (if more then pos 1 else pos 0)) }
 {
     let mut numbers = Vec::new(alloc);
     numbers.push(form.constant() as i128 + more as i128)?;
@@ -46,7 +45,7 @@ fn push_negated(numbers: &mut Vec<i128>, number: &i64) -> Result<(), AllocError>
 
 /// The row `-form >= 0`.
 fn opposite_row_of(alloc: Global, form: &LinExpr) -> Result<Row, AllocError>
-    ensures { IfOk result (λ r. r ≡ opposite_row (as_linear form.now)) }
+    ensures { IfOk result (λ r. r ≡ opposite_row form.now) }
 {
     let mut numbers = Vec::new(alloc);
     push_negated(&mut numbers, &form.constant())?;
@@ -69,7 +68,7 @@ fn give_test(
     requires few { length d.now.coefficients < 2 ^ 62 }
     requires width { length d.now.coefficients ≡ rows.old.dims }
     ensures { OnOk result (HasMore rows.old rows.new (test_rows
-        (comparison_test (comparison_view op) (as_linear d.now)))) }
+        (comparison_test (comparison_view op) d.now))) }
 {
     let Some(test) = test_of(alloc, op, d)? else {
         return Ok(());
@@ -82,8 +81,8 @@ fn give_test(
 /// The rows of `==` and `!=`: d >= 0 and -d >= 0.
 fn give_difference(alloc: Global, d: &LinExpr, rows: &mut ConSys) -> Result<(), AllocError>
     requires { length d.now.coefficients ≡ rows.old.dims }
-    ensures { OnOk result (HasMore rows.old rows.new (row_of (as_linear d.now) (pos 0) ∷
-        opposite_row (as_linear d.now) ∷ [])) }
+    ensures { OnOk result (HasMore rows.old rows.new (row_of d.now (pos 0) ∷
+        opposite_row d.now ∷ [])) }
 {
     rows.push(row_of_form(alloc, d, false)?, ConKind::Ge)?;
     rows.push(opposite_row_of(alloc, d)?, ConKind::Ge)?;

@@ -11,15 +11,15 @@ use Rattle.lra_lin.specs.Form.{form_value}
 use Rattle.lra_flow.specs.Linear as linear
 use Rattle.lra_program.specs.Step.{State}
 use Rattle.lra_operations.specs.Graph.{Node, Comes, FailsAt}
-use Rattle.lra_program.specs.Rows.{dot}
+use Rattle.lra_linear.specs.Vectors.{product}
+use Rattle.lra_linear.proofs.Products.{product_none}
 use Rattle.lra_program.specs.Sites.{Site}
 use Rattle.lra_flow.specs.declared.Settings.{Settings}
 use Rattle.lra_flow.specs.Operations.{dropping}
-use Rattle.lra_flow.specs.Changes.{as_form, first_values, AreDone}
+use Rattle.lra_flow.specs.Changes.{first_values, AreDone}
 use Rattle.lra_flow.specs.Pass.{Result, noted, Pass}
 use Rattle.lra_flow.specs.Analysis.{Solves, IsUnreachable}
 use Rattle.lra_flow.specs.Sound.{Covers}
-use Rattle.lra_flow.proofs.Keeping.{as_form_value}
 use Rattle.lra_flow.proofs.Keeps.{pass_covers}
 use Rattle.lra_iter.specs.Counts.{failing_at, AreCounted}
 use Rattle.lra_iter.specs.Sound.{begun, HoldsInTree}
@@ -27,13 +27,13 @@ use Rattle.lra_iter.proofs.Counting.{one_failing, asserts_few}
 
 -- the globals at their first values ---------------------------------------------------------------------------------
 
-zeros : (n : ℕ) (xs : List ℤ) → dot (replicate n (pos 0)) xs ≡ pos 0
+zeros : (n : ℕ) (xs : List ℤ) → product (replicate n (pos 0)) xs ≡ pos 0
 zeros zero xs = refl
-zeros (suc n) [] = refl
+zeros (suc n) [] = product_none (pos 0 ∷ replicate n (pos 0))
 zeros (suc n) (x ∷ xs) = rw (zeros n xs) (omega (arith, ints))
 
-constant_value : (n : ℕ) (z : ℤ) (s : List ℤ) → form_value (as_form (linear.constant_form n z)) s ≡ z
-constant_value n z s = as_form_value (linear.constant_form n z) s ∙ ap (λ (y : ℤ). z +ℤ y) (zeros n s) ∙ (let same : z +ℤ pos 0 ≡ z = omega (arith, ints) in same)
+constant_value : (n : ℕ) (z : ℤ) (s : List ℤ) → form_value (linear.constant_form n z) s ≡ z
+constant_value n z s = ap (λ (y : ℤ). z +ℤ y) (zeros n s) ∙ (let same : z +ℤ pos 0 ≡ z = omega (arith, ints) in same)
 
 set_last : (xs : List ℤ) (z : ℤ) → slice_set (xs ++ z ∷ []) (length xs) z ≡ xs ++ z ∷ []
 set_last [] z = refl
@@ -48,7 +48,7 @@ module _ {V H : Type 0} (m : Meaning V H) where
       let u = s ++ z ∷ [] in
       let long : length u ≡ suc live = length-append s (z ∷ []) ∙ omega (arith, l) in
       let has_x : m.has x u = one.0.stores s u h (z ∷ [], refl, refl) in
-      let led : u ≡ slice_set u live (form_value (as_form (linear.constant_form (suc live) z)) u) =
+      let led : u ≡ slice_set u live (form_value (linear.constant_form (suc live) z) u) =
       sym (rw (constant_value (suc live) z u) (subst (λ (n : ℕ). slice_set u n z ≡ u) l (set_last s z))) in
       let has_y : m.has y u = two.0.stores u u has_x led in
       let dims_x : m.dims x ≡ suc live = one.1 ∙ omega (arith, k) in

@@ -11,7 +11,9 @@ use Rattle.lra_domain.specs.Laws.{Laws}
 use Rattle.lra_base.specs.Operators.{Comparison, below, at_most, above, at_least, equal, differs}
 use Rattle.lra_program.specs.Program.{Expr, Cond, Program}
 use Rattle.lra_flow.specs.Linear as linear
-use Rattle.lra_flow.specs.Linear.{Test, comparison_test, difference_form}
+use Rattle.lra_lin.specs.Form.{Form}
+use Rattle.lra_lin.specs.declared.test.Test.{Test}
+use Rattle.lra_flow.specs.Linear.{comparison_test, difference_form}
 use Rattle.lra_flow.specs.Condition.{Pushed, atom, first_then, one_or, push, IsTestedBy, IsAtom, IsPushed}
 use Rattle.lra_program.specs.Step as step
 use Rattle.lra_program.specs.Step.{Op, append, give, give_any, keep, test}
@@ -34,7 +36,7 @@ abbrev all_after : List Action → ℕ → ℕ
 all_after [] n = n
 all_after (change ∷ changes) n = all_after changes (dims_after change n)
 
-set_after : (x : ℕ) (o : Option linear.Form) (n : ℕ) → dims_after (set_to x o) n ≡ n
+set_after : (x : ℕ) (o : Option Form) (n : ℕ) → dims_after (set_to x o) n ≡ n
 set_after x None n = refl
 set_after x (Some f) n = refl
 
@@ -60,7 +62,7 @@ module _ (V H : Type 0) (m : Meaning V H) where
   test_dims live base None v w is = ap (λ (x : V × Exactness). m.dims x.0) is
   test_dims live base (Some t) v w (e, done, worst) = done.1
 
-  atom_dims : (live base : ℕ) (op : Comparison) (o : Option linear.Form) (v w : V × Exactness) → IsAtom (V × Exactness) (testing (dropping m)) live base op o v w → m.dims w.0 ≡ m.dims v.0
+  atom_dims : (live base : ℕ) (op : Comparison) (o : Option Form) (v w : V × Exactness) → IsAtom (V × Exactness) (testing (dropping m)) live base op o v w → m.dims w.0 ≡ m.dims v.0
   atom_dims live base op None v w is = ap (λ (x : V × Exactness). m.dims x.0) is
   atom_dims live base differs (Some d) v w (less, more, one, two, (e, joined, worst)) = joined.2 ∙ test_dims live base (comparison_test below d) v less one
   atom_dims live base below (Some d) v w is = test_dims live base (comparison_test below d) v w is

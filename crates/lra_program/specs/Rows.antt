@@ -1,25 +1,15 @@
 -- Rows over the live variables, and which stores they hold of.
-use Rattle.std.specs.Prelude.{◌≡◌, ℤ, pos, List, [], ◌∷◌, ◌+ℤ◌, ◌*ℤ◌, ◌≤ℤ◌}
+use Rattle.std.specs.Prelude.{ℤ, List, ◌+ℤ◌}
+use Rattle.lra_linear.specs.declared.ConKind.{ConKind}
+use Rattle.lra_linear.specs.Descriptions.{HoldsWith}
+use Rattle.lra_linear.specs.Kinds.{is_equality}
+use Rattle.lra_linear.specs.Vectors.{product}
 
--- `= 0` or `>= 0`
-pub data RowKind : Type 0 where
-  equality : RowKind
-  inequality : RowKind
-
--- constant + coefficients * variables is 0, or is at least 0; a coefficient for each live variable, oldest first
+-- constant + coefficients * variables is at least 0, or is 0; a coefficient for each live variable, oldest first
 pub record Row : Type 0 where
-  pub kind : RowKind
+  pub kind : ConKind
   pub constant : ℤ
   pub coefficients : List ℤ
 
-abbrev pub dot : List ℤ → List ℤ → ℤ
-dot [] xs = pos 0
-dot (c ∷ cs) [] = pos 0
-dot (c ∷ cs) (x ∷ xs) = (c *ℤ x) +ℤ dot cs xs
-
-abbrev pub IsOfKind : RowKind → ℤ → Type 0
-IsOfKind equality z = z ≡ pos 0
-IsOfKind inequality z = pos 0 ≤ℤ z
-
 abbrev pub RowHolds : Row → List ℤ → Type 0
-RowHolds r store = IsOfKind r.kind (r.constant +ℤ dot r.coefficients store)
+RowHolds r store = HoldsWith (is_equality r.kind) (r.constant +ℤ product r.coefficients store)

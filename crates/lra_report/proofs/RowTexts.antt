@@ -8,7 +8,9 @@ use Rattle.std.proofs.lemmas.Bool.{both_ways, eqb-true}
 use Rattle.std.proofs.lemmas.Int.{ints}
 use Rattle.std.proofs.lemmas.Bool.Decides.{nat_tests}
 use Rattle.lra_linear.specs.Range.{InRange}
-use Rattle.lra_program.specs.Rows.{RowKind, equality, inequality, Row}
+use Rattle.lra_linear.specs.declared.ConKind.{ConKind}
+use Rattle.lra_linear.specs.declared.ConKind.TheVariants.{Ge, Eq}
+use Rattle.lra_program.specs.Rows.{Row}
 use Rattle.lra_findings.specs.ReportText.{product_text, terms_text, form_text, relation_text, row_text, is_turned, turned}
 use Rattle.lra_report.specs.Spelled.{IsDirected, IsSpelledRow}
 use Rattle.lra_report.proofs.Fronts.{is_visible, IsShownName, AreShownNames, Passes, Ends, front_same, front_first, first_same, rest_same, both_same, visible_passes}
@@ -202,33 +204,33 @@ form_same (negsuc k ∷ cs) (d ∷ ds) (n ∷ ns) u v uc ud lc ld hc hd hn hu hv
 
 -- relations ----------------------------------------------------------------------
 
-relation_behind : (k : RowKind) (b : Bool) (w : List ℕ) → IsBehindTerms (relation_text k b ++ w)
-relation_behind equality b w = (refl, refl)
-relation_behind inequality true w = (refl, refl)
-relation_behind inequality false w = (refl, refl)
+relation_behind : (k : ConKind) (b : Bool) (w : List ℕ) → IsBehindTerms (relation_text k b ++ w)
+relation_behind Eq b w = (refl, refl)
+relation_behind Ge true w = (refl, refl)
+relation_behind Ge false w = (refl, refl)
 
-abbrev Given : RowKind → Bool → Type 0
-Given equality b = b ≡ false
-Given inequality b = ⊤
+abbrev Given : ConKind → Bool → Type 0
+Given Eq b = b ≡ false
+Given Ge b = ⊤
 
 second : {a b c d : ℕ} {t u : List ℕ} → a ∷ (b ∷ t) ≡ c ∷ (d ∷ u) → b ≡ d
 second e = cc
 
-record RelationSame (k l : RowKind) (b c : Bool) (u v : List ℕ) : Type 0 where
+record RelationSame (k l : ConKind) (b c : Bool) (u v : List ℕ) : Type 0 where
   kind : k ≡ l
   turn : b ≡ c
   rest : u ≡ v
 
-relation_same : (k l : RowKind) (b c : Bool) (u v : List ℕ) → Given k b → Given l c → relation_text k b ++ u ≡ relation_text l c ++ v → RelationSame k l b c u v
-relation_same equality equality b c u v gb gc e = record { kind = refl; turn = gb ∙ sym gc; rest = rest_same (rest_same (rest_same e)) }
-relation_same inequality inequality true true u v gb gc e = record { kind = refl; turn = refl; rest = rest_same (rest_same (rest_same (rest_same e))) }
-relation_same inequality inequality false false u v gb gc e = record { kind = refl; turn = refl; rest = rest_same (rest_same (rest_same (rest_same e))) }
-relation_same inequality inequality true false u v gb gc e = let wrong : (let n : ℕ = 60 in n) ≡ 62 = second e in absurd (omega (arith, wrong))
-relation_same inequality inequality false true u v gb gc e = let wrong : (let n : ℕ = 62 in n) ≡ 60 = second e in absurd (omega (arith, wrong))
-relation_same equality inequality b true u v gb gc e = let wrong : (let n : ℕ = 61 in n) ≡ 60 = second e in absurd (omega (arith, wrong))
-relation_same equality inequality b false u v gb gc e = let wrong : (let n : ℕ = 61 in n) ≡ 62 = second e in absurd (omega (arith, wrong))
-relation_same inequality equality true c u v gb gc e = let wrong : (let n : ℕ = 60 in n) ≡ 61 = second e in absurd (omega (arith, wrong))
-relation_same inequality equality false c u v gb gc e = let wrong : (let n : ℕ = 62 in n) ≡ 61 = second e in absurd (omega (arith, wrong))
+relation_same : (k l : ConKind) (b c : Bool) (u v : List ℕ) → Given k b → Given l c → relation_text k b ++ u ≡ relation_text l c ++ v → RelationSame k l b c u v
+relation_same Eq Eq b c u v gb gc e = record { kind = refl; turn = gb ∙ sym gc; rest = rest_same (rest_same (rest_same e)) }
+relation_same Ge Ge true true u v gb gc e = record { kind = refl; turn = refl; rest = rest_same (rest_same (rest_same (rest_same e))) }
+relation_same Ge Ge false false u v gb gc e = record { kind = refl; turn = refl; rest = rest_same (rest_same (rest_same (rest_same e))) }
+relation_same Ge Ge true false u v gb gc e = let wrong : (let n : ℕ = 60 in n) ≡ 62 = second e in absurd (omega (arith, wrong))
+relation_same Ge Ge false true u v gb gc e = let wrong : (let n : ℕ = 62 in n) ≡ 60 = second e in absurd (omega (arith, wrong))
+relation_same Eq Ge b true u v gb gc e = let wrong : (let n : ℕ = 61 in n) ≡ 60 = second e in absurd (omega (arith, wrong))
+relation_same Eq Ge b false u v gb gc e = let wrong : (let n : ℕ = 61 in n) ≡ 62 = second e in absurd (omega (arith, wrong))
+relation_same Ge Eq true c u v gb gc e = let wrong : (let n : ℕ = 60 in n) ≡ 61 = second e in absurd (omega (arith, wrong))
+relation_same Ge Eq false c u v gb gc e = let wrong : (let n : ℕ = 62 in n) ≡ 61 = second e in absurd (omega (arith, wrong))
 
 -- rows ---------------------------------------------------------------------------
 
@@ -274,15 +276,15 @@ up_cases : (b : Bool) (cs : List ℤ) → is_turned cs ≡ b → is_turned (map 
 up_cases true cs e = up_turned cs e
 up_cases false cs e = up_kept cs e
 
-directed : (k : RowKind) (cs : List ℤ) → IsDirected k cs → Given k (is_turned cs)
-directed equality cs h = h
-directed inequality cs h = h
+directed : (k : ConKind) (cs : List ℤ) → IsDirected k cs → Given k (is_turned cs)
+directed Eq cs h = h
+directed Ge cs h = h
 
 row_pieces : (ns : List (List ℕ)) (r : Row) (u : List ℕ) → row_text ns r ++ u ≡ form_text (map (turned (is_turned r.coefficients)) r.coefficients) ns ++
     (relation_text r.kind (is_turned r.coefficients) ++ (signed_decimal (turned (not (is_turned r.coefficients)) r.constant) ++ u))
 row_pieces ns r u = simp append_assoc
 
-row_by : (k l : RowKind) (c d : ℤ) (cs ds : List ℤ) → k ≡ l → c ≡ d → cs ≡ ds → (let x : Row = record { kind = k; constant = c; coefficients = cs } in x) ≡
+row_by : (k l : ConKind) (c d : ℤ) (cs ds : List ℤ) → k ≡ l → c ≡ d → cs ≡ ds → (let x : Row = record { kind = k; constant = c; coefficients = cs } in x) ≡
     record { kind = l; constant = d; coefficients = ds }
 row_by k l c d cs ds p q r = ap (λ x. record { kind = x; constant = c; coefficients = cs }) p ∙ ap (λ x. record { kind = l; constant = x; coefficients = cs }) q ∙
     ap (λ x. record { kind = l; constant = d; coefficients = x }) r

@@ -1,12 +1,13 @@
 -- What one text would tell of two rows, points or variables, where a premise is left out.
 use Rattle.std.proofs.Common.{◌≡◌, ℕ, ℤ, pos, negsuc, List, [], ◌∷◌, codes, refl}
 use Rattle.std.specs.Fmt.{digits}
-use Rattle.lra_program.specs.Rows.{equality, Row}
+use Rattle.lra_linear.specs.declared.ConKind.TheVariants.{Eq}
+use Rattle.lra_program.specs.Rows.{Row}
 use Rattle.lra_findings.specs.Report.{point, Generator}
 use Rattle.lra_findings.specs.ReportText.{row_text, generator_text, shown_names}
 
 abbrev is_zero : ℤ → List ℤ → Row
-is_zero c cs = record { kind = equality; constant = c; coefficients = cs }
+is_zero c cs = record { kind = Eq; constant = c; coefficients = cs }
 
 abbrev point_of : ℕ → List ℤ → Generator
 point_of d zs = record { kind = point; divisor = d; numbers = zs }

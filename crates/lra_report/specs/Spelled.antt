@@ -12,7 +12,9 @@ use Rattle.lra_program.specs.Sites.{sites_of}
 use Rattle.lra_tree.specs.Grammar.{Spells}
 use Rattle.lra_tree.specs.Faults.{Language}
 use Rattle.lra_meaning.specs.Refuse.{Accepts}
-use Rattle.lra_program.specs.Rows.{RowKind, equality, inequality, Row}
+use Rattle.lra_linear.specs.declared.ConKind.{ConKind}
+use Rattle.lra_linear.specs.declared.ConKind.TheVariants.{Ge, Eq}
+use Rattle.lra_program.specs.Rows.{Row}
 use Rattle.lra_findings.specs.Report.{GeneratorKind, point, ray, line, Generator, Part, Options, PointReport, Report}
 use Rattle.lra_findings.specs.ReportText.{is_turned, report_text}
 use Rattle.lra_findings.specs.Parts.{DividesAs}
@@ -21,9 +23,9 @@ use Rattle.lra_meaning.specs.LiveNames.{live_names, globals_named}
 use Rattle.lra_report.specs.Rows.{IsRowInRange}
 
 -- the first coefficient of an equality that isn't 0 is above 0
-abbrev pub IsDirected : RowKind → List ℤ → Type 0
-IsDirected equality cs = is_turned cs ≡ false
-IsDirected inequality cs = ⊤
+abbrev pub IsDirected : ConKind → List ℤ → Type 0
+IsDirected Eq cs = is_turned cs ≡ false
+IsDirected Ge cs = ⊤
 
 pub record IsSpelledRow (r : Row) : Type 0 where
   pub directed : IsDirected r.kind r.coefficients

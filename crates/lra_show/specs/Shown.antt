@@ -1,21 +1,16 @@
 -- Rows of constraints and of generators, as a report shows them.
 use Rattle.std.specs.Prelude.{ℕ, zero, suc, ℤ, pos, negsuc, nat_abs, Bool, true, false, List, [], ◌∷◌}
 use Rattle.lra_linear.specs.declared.ConKind.{ConKind}
-use Rattle.lra_linear.specs.declared.ConKind.TheVariants as con
 use Rattle.lra_sys.specs.declared.GenKind.{GenKind}
 use Rattle.lra_sys.specs.declared.GenKind.TheVariants as gen
-use Rattle.lra_program.specs.Rows.{RowKind, equality, inequality, Row}
+use Rattle.lra_program.specs.Rows.{Row}
 use Rattle.lra_findings.specs.Report.{GeneratorKind, point, ray, line, Generator}
 use Rattle.lra_findings.specs.ReportText.{form_text, terms_text}
 
-abbrev pub report_kind : ConKind → RowKind
-report_kind con.Ge = inequality
-report_kind con.Eq = equality
-
 -- the constant stands in column 0
 abbrev pub report_row : List ℤ → ConKind → Row
-report_row [] kind = record { kind = report_kind kind; constant = pos 0; coefficients = [] }
-report_row (c ∷ cs) kind = record { kind = report_kind kind; constant = c; coefficients = cs }
+report_row [] kind = record { kind = kind; constant = pos 0; coefficients = [] }
+report_row (c ∷ cs) kind = record { kind = kind; constant = c; coefficients = cs }
 
 abbrev pub report_generator_kind : GenKind → GeneratorKind
 report_generator_kind gen.Point = point

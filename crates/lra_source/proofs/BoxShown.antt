@@ -23,29 +23,23 @@ use Rattle.lra_box.specs.Tables.{has_bounds}
 use Rattle.lra_box.specs.Parts.{bound_row, is_single, low_rows, high_rows, equal_rows, unequal_rows, box_rows, box_system, box_parts}
 use Rattle.lra_box.specs.Meaning.{box_meaning}
 use Rattle.lra_box.proofs.PartLemmas.{parts_mean}
-use Rattle.lra_flow.specs.Linear as linear
-use Rattle.lra_program.specs.Rows.{dot, RowHolds, Row}
+use Rattle.lra_program.specs.Rows.{RowHolds, Row}
 use Rattle.lra_findings.specs.Report.{box, Part, State, Holds}
 use Rattle.lra_findings.specs.ReportText.{is_turned}
 use Rattle.lra_findings.specs.Parts.{Tells}
 use Rattle.lra_report.specs.Listing.{HasWidth}
-use Rattle.lra_flow.proofs.Keeping.{as_form_value}
 use Rattle.lra_flow.proofs.FormLemmas.{set_length}
 use Rattle.lra_source.specs.Shown.{shown_part, shown_state, IsShown}
 
 -- rows ---------------------------------------------------------------------------------------------------------------
 
-row_value : (c : ℤ) (cs s : List ℤ) → product (c ∷ cs) (pos 1 ∷ s) ≡ c +ℤ dot cs s
-row_value c cs s =
-    let f : linear.Form = record { constant = c; coefficients = cs } in
-    let one : c *ℤ pos 1 ≡ c = omega (arith, ints) in
-    ap (λ (z : ℤ). z +ℤ product cs s) one ∙ as_form_value f s
+row_value : (c : ℤ) (cs s : List ℤ) → product (c ∷ cs) (pos 1 ∷ s) ≡ c +ℤ product cs s
+row_value c cs s = omega (arith, ints)
 
 row_holds : (r : List ℤ) (k : ConKind) (s : List ℤ) → HoldsWith (is_equality k) (product r (pos 1 ∷ s)) → RowHolds (report_row r k) s
 row_holds [] Ge s h = omega (arith, ints)
 row_holds [] Eq s h = refl
-row_holds (c ∷ cs) Ge s h = subst (λ (z : ℤ). pos 0 ≤ℤ z) (row_value c cs s) h
-row_holds (c ∷ cs) Eq s h = subst (λ (z : ℤ). z ≡ pos 0) (row_value c cs s) h
+row_holds (c ∷ cs) k s h = subst (λ (z : ℤ). HoldsWith (is_equality k) z) (row_value c cs s) h
 
 rows_hold : (rows : List (List ℤ)) (kinds : List ConKind) (s : List ℤ) → Con (given_by is_equality rows kinds) (pos 1 ∷ s) → AllByRecursion (λ (r : Row). RowHolds r s) (shown_rows rows kinds)
 rows_hold [] kinds s h = tt

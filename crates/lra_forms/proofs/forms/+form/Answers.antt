@@ -1,51 +1,51 @@
-use Rattle.std.proofs.Common.{rules, ◌≡◌, Some, None, map}
+use Rattle.std.proofs.Common.{rules, ◌≡◌, Some, None, map, sym}
 use Rattle.lra_program.specs.ProgramViews.{chained, expr_view, operation_view}
 use Rattle.lra_program.specs.declared.program.Expr.{the_lemmas}
 use Rattle.lra_flow.specs.Linear.{form_of}
-use Rattle.lra_forms.specs.Forms.{as_linear, IsForm, rest_form}
-use Rattle.lra_forms.proofs.FormSteps.{chain_form, chain_none, none_only, some_only, chain_stops, chain_fails, chain_next}
+use Rattle.lra_forms.specs.Forms.{rest_form}
+use Rattle.lra_forms.proofs.FormSteps.{chain_form, chain_none, chain_stops, chain_fails, chain_next}
 use Rattle.lra_forms.proofs.forms.+form.Goals as goal
 
 pub form_of_chain-returns-in_default : goal.form_of_chain-returns-in_default
 form_of_chain-returns-in_default t c =
     let none = rw c.in_default.is at c.in_ok-operand.ensures in
-    chain_stops c.args.live c.args.base _ (as_linear c.operations.form) c.args.operations.now c.operations.operation-index c.operation-item.result c.operations-test.true c.operation-item.is
+    chain_stops c.args.live c.args.base _ c.operations.form c.args.operations.now c.operations.operation-index c.operation-item.result c.operations-test.true c.operation-item.is
     c.operations.invariant none
 
 pub form_of_chain-returns-in-None : goal.form_of_chain-returns-in-None
 form_of_chain-returns-in-None t c =
     let some = rw c.in-Some.is at c.in_ok-operand.ensures in
     let none = rw c.in-None.is at c.in_ok-operated.ensures in
-    chain_fails c.args.live c.args.base _ (as_linear c.operations.form) c.args.operations.now c.operations.operation-index c.operation-item.result c.in-Some.operand c.operations-test.true
+    chain_fails c.args.live c.args.base _ c.operations.form c.args.operations.now c.operations.operation-index c.operation-item.result c.in-Some.operand c.operations-test.true
     c.operation-item.is c.operations.invariant some none
 
 pub form_of_chain-operations-preserved : goal.form_of_chain-operations-preserved
 form_of_chain-operations-preserved t c =
     let some = rw c.in-Some.is at c.in_ok-operand.ensures in
     let also = rw c.in-Some-2.is at c.in_ok-operated.ensures in
-    chain_next c.args.live c.args.base _ (as_linear c.operations.form) c.args.operations.now c.operations.operation-index c.operation-item.result c.in-Some.operand c.in-Some-2.next
+    chain_next c.args.live c.args.base _ c.operations.form c.args.operations.now c.operations.operation-index c.operation-item.result c.in-Some.operand c.in-Some-2.next
     c.operations-test.true c.operation-item.is c.operations.invariant some also
 
 pub form_of_expression-returns-in-None-2 : goal.form_of_expression-returns-in-None-2
 form_of_expression-returns-in-None-2 t c =
-    let none : IsForm (form_of c.args.live c.args.base (expr_view c.in-Chain.first.value)) None = rw (c.in-None-2.is, c.deref-in-Chain.ensures) at c.in_ok-form_of_expression-in-Chain.ensures in
+    let none : None ≡ form_of c.args.live c.args.base (expr_view c.in-Chain.first.value) = rw (c.in-None-2.is, c.deref-in-Chain.ensures) at c.in_ok-form_of_expression-in-Chain.ensures in
     let is : expr_view c.args.e.now ≡ chained (expr_view c.in-Chain.first.value) (map operation_view c.in-Chain.operations.items) = rw c.in-Chain.is (search (rules, the_lemmas)) in
     rw (
       is,
       chain_form c.args.live c.args.base (expr_view c.in-Chain.first.value) (map operation_view c.in-Chain.operations.items),
-      none_only (form_of c.args.live c.args.base (expr_view c.in-Chain.first.value)) none,
+      sym none,
       chain_none c.args.live c.args.base (map operation_view c.in-Chain.operations.items),
     ) (search rules)
 
 pub form_of_expression-returns-in_ok-whole-in-Some-2 : goal.form_of_expression-returns-in_ok-whole-in-Some-2
 form_of_expression-returns-in_ok-whole-in-Some-2 t c =
-    let some : IsForm (form_of c.args.live c.args.base (expr_view c.in-Chain.first.value)) (Some c.in-Some-2.form) =
+    let some : Some c.in-Some-2.form ≡ form_of c.args.live c.args.base (expr_view c.in-Chain.first.value) =
     rw (c.in-Some-2.is, c.deref-in-Chain.ensures) at c.in_ok-form_of_expression-in-Chain.ensures in
     let is : expr_view c.args.e.now ≡ chained (expr_view c.in-Chain.first.value) (map operation_view c.in-Chain.operations.items) = rw c.in-Chain.is (search (rules, the_lemmas)) in
-    let whole : IsForm (rest_form c.args.live c.args.base (Some (as_linear c.in-Some-2.form)) (map operation_view c.in-Chain.operations.items)) c.in_ok-whole-in-Some-2.whole =
+    let whole : c.in_ok-whole-in-Some-2.whole ≡ rest_form c.args.live c.args.base (Some c.in-Some-2.form) (map operation_view c.in-Chain.operations.items) =
     rw c.as_slice.ensures.value at c.in_ok-whole-in-Some-2.ensures in
     rw (
       is,
       chain_form c.args.live c.args.base (expr_view c.in-Chain.first.value) (map operation_view c.in-Chain.operations.items),
-      some_only (form_of c.args.live c.args.base (expr_view c.in-Chain.first.value)) c.in-Some-2.form some,
+      sym some,
     ) whole

@@ -1,8 +1,6 @@
 use Rattle.lra_program.specs.ProgramViews.{expr_view}
-use Rattle.lra_flow.specs.Linear.{difference_form}
-use Rattle.lra_forms.specs.Forms.{as_linear}
 use Rattle.lra_forms.proofs.CondSteps.{difference_wide, difference_there}
-use Rattle.lra_forms.proofs.FormSteps.{some_only}
+use Rattle.std.proofs.Common.{sym}
 use Rattle.lra_forms.proofs.GivenSteps.{rows_by_test}
 use Rattle.lra_forms.proofs.given.give_comparison.Goals as goal
 
@@ -24,6 +22,6 @@ returns c =
     let n = c.args.rows.now.dims in
     let is = difference_there c.dims.result n c.args.base (expr_view c.args.left.now) (expr_view c.args.right.now) c.in_ok-d.field-0 c.in-Some.d c.dims.ensures c.in-Some.is c.in_ok-d.ensures in
     rw (
-      some_only (difference_form n c.args.base (expr_view c.args.left.now) (expr_view c.args.right.now)) c.in-Some.d is,
-      rows_by_test c.args.op (as_linear c.in-Some.d) c.in_default-op.not-Equal c.in_default-op.not-Differs,
+      sym is,
+      rows_by_test c.args.op c.in-Some.d c.in_default-op.not-Equal c.in_default-op.not-Differs,
     ) c.in_ok-give_test-in_default-op.ensures

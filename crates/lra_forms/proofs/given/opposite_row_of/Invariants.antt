@@ -3,12 +3,11 @@ use Rattle.std.specs.Prelude.{neg_ℤ}
 use Rattle.std.specs.List.{All}
 use Rattle.lra_linear.specs.Range.{InRange}
 use Rattle.lra_flow.specs.Given.{opposite_row}
-use Rattle.lra_forms.specs.Forms.{as_linear}
 use Rattle.lra_forms.proofs.given.opposite_row_of.Given as goal
 
 abbrev pub invariant-loop-coefficient : goal.invariant-loop-coefficient
 invariant-loop-coefficient l = record {
-  items : l.numbers.items ++ map neg_ℤ l.left ≡ opposite_row (as_linear l.form);
+  items : l.numbers.items ++ map neg_ℤ l.left ≡ opposite_row l.form;
   range : All InRange l.numbers.items;
 }
 
