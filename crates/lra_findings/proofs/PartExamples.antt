@@ -3,7 +3,8 @@ use Rattle.std.proofs.Common.{◌≡◌, ℕ, zero, suc, ℤ, pos, negsuc, ◌*�
 use Rattle.std.proofs.lemmas.Int.{ints}
 use Rattle.std.specs.Prelude.{get_or, map}
 use Rattle.std.specs.Int.Signed.{le_z_yes}
-use Rattle.lra_findings.specs.Report.{poly, box, Generator}
+use Rattle.lra_base.specs.declared.options.Domain.TheVariants.{Poly, Box}
+use Rattle.lra_findings.specs.Report.{Generator}
 use Rattle.lra_linear.specs.Vectors.{product}
 use Rattle.lra_linear.proofs.Products.{product_none}
 use Rattle.lra_program.specs.Rows.{Row}
@@ -39,7 +40,7 @@ three_quarters = (
     columns (suc j) = refl
 
 -- main without variables: the point without coordinates
-empty_main_tells : Tells poly 0 (both [] (a_point 1 [] ∷ []))
+empty_main_tells : Tells Poly 0 (both [] (a_point 1 [] ∷ []))
 empty_main_tells = ((omega arith, tt), same, (rational 1 [], record { width = refl; divides = omega arith }, tt))
   where
     columns : (d : ℕ) (xs : List ℤ) → length xs ≡ 0 → (j : ℕ) → pos 1 *ℤ get_or xs j (pos 0) ≡ (pos d *ℤ pos 0) +ℤ pos 0
@@ -59,14 +60,14 @@ empty_main_tells = ((omega arith, tt), same, (rational 1 [], record { width = re
       λ generated. tt,
     )
 
-pub box_with_generator : Tells box 0 (both [] (a_point 1 [] ∷ [])) → ⊥
+pub box_with_generator : Tells Box 0 (both [] (a_point 1 [] ∷ [])) → ⊥
 box_with_generator h = cc
 
 -- a divisor 0, and rows without a generator
-divided_by_zero : Tells poly 0 (both [] (a_point 0 [] ∷ [])) → ⊥
+divided_by_zero : Tells Poly 0 (both [] (a_point 0 [] ∷ [])) → ⊥
 divided_by_zero h = omega (arith, h.0.0)
 
-rows_without_generators : Tells poly 0 (rows_alone []) → ⊥
+rows_without_generators : Tells Poly 0 (rows_alone []) → ⊥
 rows_without_generators h = none ((h.1 (rational 1 []) (record { width = refl; divides = omega arith })).0 tt)
   where
     none : IsGenerated [] (rational 1 []) → ⊥

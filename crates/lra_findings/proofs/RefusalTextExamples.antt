@@ -1,5 +1,5 @@
 -- Lines of refusals.
-use Rattle.std.proofs.Common.{◌≡◌, ◌+◌, [], ◌∷◌, ◌++◌, refl}
+use Rattle.std.proofs.Common.{◌≡◌, [], ◌∷◌, ◌++◌, refl}
 use Rattle.std.specs.Prelude.{codes}
 use Rattle.std.specs.Fmt.{digits}
 use Rattle.lra_base.specs.declared.refusals.Cause.TheVariants.{TooLong, TooManyPoints}

@@ -3,7 +3,10 @@ use Rattle.std.proofs.Common.{◌≡◌, ℕ, ℤ, pos, negsuc, List, [], ◌∷
 use Rattle.std.specs.Prelude.{codes}
 use Rattle.std.specs.List.{flat_map}
 use Rattle.std.specs.Fmt.{digits}
-use Rattle.lra_findings.specs.Report.{Place, Domain, box, poly, Options, point, ray, line, Generator, Part, PointReport, Verdict, Report}
+use Rattle.lra_base.specs.declared.options.Domain.{Domain}
+use Rattle.lra_base.specs.declared.options.Domain.TheVariants.{Poly, Box}
+use Rattle.lra_base.specs.declared.options.Options.{Options}
+use Rattle.lra_findings.specs.Report.{Place, point, ray, line, Generator, Part, PointReport, Verdict, Report}
 use Rattle.lra_linear.specs.declared.ConKind.TheVariants.{Ge, Eq}
 use Rattle.lra_program.specs.Rows.{Row}
 use Rattle.lra_findings.specs.ReportText.{text_line, row_text, generator_text, state_text, flag_text, report_text, shown_names, path_text}
@@ -49,7 +52,7 @@ lines = flat_map text_line
 -- int main(void){ long x; x = 3; assert(x >= 3); }
 abbrev pub one_variable : Report
 one_variable = record {
-  options = defaults box;
+  options = defaults Box;
   flagged = None;
   points = in_main 1 (at 1 22) [] (rows_alone [] ∷ [])
       ∷ in_main 2 (at 1 25) (codes "x" ∷ []) (rows_alone [] ∷ [])
@@ -93,7 +96,7 @@ unknown_text = refl
 
 -- int main(void){}
 abbrev pub empty_main : Report
-empty_main = record { options = defaults poly; flagged = None; points = in_main 1 (at 1 16) [] (both [] (a_point 1 [] ∷ []) ∷ []) ∷ []; verdicts = [] }
+empty_main = record { options = defaults Poly; flagged = None; points = in_main 1 (at 1 16) [] (both [] (a_point 1 [] ∷ []) ∷ []) ∷ []; verdicts = [] }
 
 empty_main_text : report_text empty_main ≡ lines (
     codes "analysis poly parts 1 delay 1 narrow 1 limited no"

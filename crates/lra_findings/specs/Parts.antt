@@ -3,7 +3,9 @@
 -- A report has the generators only over polyhedra, and there both tell the same points.
 use Rattle.std.specs.Prelude.{◌≡◌, ◌↔◌, ℕ, ◌<◌, ℤ, pos, ◌+ℤ◌, ◌*ℤ◌, ◌≤ℤ◌, List, [], ◌∷◌, length, map, get_or, ⊤}
 use Rattle.std.specs.List.{AllByRecursion}
-use Rattle.lra_findings.specs.Report.{Domain, poly, box, oct, GeneratorKind, point, ray, line, Generator, Part}
+use Rattle.lra_base.specs.declared.options.Domain.{Domain}
+use Rattle.lra_base.specs.declared.options.Domain.TheVariants.{Poly, Box, Oct}
+use Rattle.lra_findings.specs.Report.{GeneratorKind, point, ray, line, Generator, Part}
 use Rattle.lra_linear.specs.Descriptions.{HoldsWith}
 use Rattle.lra_linear.specs.Kinds.{is_equality}
 use Rattle.lra_linear.specs.Vectors.{product}
@@ -65,7 +67,7 @@ DividesAs line d = d ≡ 0
 -- A part over n variables as the domain has it. Without generators over boxes and octagons the text, which writes those
 -- that are there, agrees with the JSON, which goes by the domain.
 abbrev pub Tells : Domain → ℕ → Part → Type 0
-Tells poly n part = AllByRecursion (λ (g : Generator). DividesAs g.kind g.divisor) part.generators ×
+Tells Poly n part = AllByRecursion (λ (g : Generator). DividesAs g.kind g.divisor) part.generators ×
     HasSamePoints n part × HasPoint n part
-Tells box n part = part.generators ≡ []
-Tells oct n part = part.generators ≡ []
+Tells Box n part = part.generators ≡ []
+Tells Oct n part = part.generators ≡ []

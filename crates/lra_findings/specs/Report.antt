@@ -3,22 +3,10 @@
 use Rattle.std.specs.Prelude.{◌⊎◌, ℕ, ℤ, List, [], ◌∷◌, Bool, Option, IsTrue}
 use Rattle.std.specs.List.{AllByRecursion}
 pub use Rattle.lra_base.specs.declared.refusals.Place.{Place}
+use Rattle.lra_base.specs.declared.options.Options.{Options}
 use Rattle.lra_program.specs.Program.{Program}
 use Rattle.lra_program.specs.Run.{Point, At, Fails}
 use Rattle.lra_program.specs.Rows.{Row, RowHolds}
-
--- which domain the analysis ran over: closed polyhedra, boxes, octagons
-pub data Domain : Type 0 where
-  poly : Domain
-  box : Domain
-  oct : Domain
-
-pub record Options : Type 0 where
-  pub domain : Domain
-  pub parts : ℕ
-  pub delay : ℕ
-  pub narrow : ℕ
-  pub limited : Bool
 
 -- a point divides its numbers by `divisor`; a ray and a line have the divisor 0
 pub data GeneratorKind : Type 0 where

@@ -3,8 +3,12 @@
 -- marks.
 use Rattle.std.specs.Prelude.{ℕ, List, [], ◌∷◌, ◌++◌, map, Bool, codes, if◌then◌else◌, Option, Some, None}
 use Rattle.std.specs.Fmt.{decimal}
-use Rattle.lra_findings.specs.Report.{Domain, poly, box, oct, Options, Part, PointReport, Verdict, Report}
-use Rattle.lra_findings.specs.ReportText.{text_line, place_text, row_text, generator_text, domain_text, proved_count, unknown_count}
+use Rattle.lra_base.specs.declared.options.Domain.{Domain}
+use Rattle.lra_base.specs.declared.options.Domain.TheVariants.{Poly, Box, Oct}
+use Rattle.lra_base.specs.declared.options.Options.{Options}
+use Rattle.lra_base.specs.DomainNames.{domain_name}
+use Rattle.lra_findings.specs.Report.{Part, PointReport, Verdict, Report}
+use Rattle.lra_findings.specs.ReportText.{text_line, place_text, row_text, generator_text, proved_count, unknown_count}
 
 -- a key and the text of its value
 abbrev pub Field : Type 0
@@ -30,7 +34,7 @@ json_bool b = if b then codes "true" else codes "false"
 abbrev pub json_options : Options → List ℕ
 json_options o = json_object (
     (codes "delay", decimal o.delay)
-    ∷ (codes "domain", json_string (domain_text o.domain))
+    ∷ (codes "domain", json_string (domain_name o.domain))
     ∷ (codes "limited", json_bool o.limited)
     ∷ (codes "narrow", decimal o.narrow)
     ∷ (codes "parts", decimal o.parts)
@@ -52,9 +56,9 @@ generators_field names part = (
 
 -- only polyhedra tell their generators
 abbrev pub json_part : Domain → List (List ℕ) → Part → List ℕ
-json_part poly names part = json_object (generators_field names part ∷ rows_field names part ∷ [])
-json_part box names part = json_object (rows_field names part ∷ [])
-json_part oct names part = json_object (rows_field names part ∷ [])
+json_part Poly names part = json_object (generators_field names part ∷ rows_field names part ∷ [])
+json_part Box names part = json_object (rows_field names part ∷ [])
+json_part Oct names part = json_object (rows_field names part ∷ [])
 
 abbrev pub json_point : Domain → PointReport → List ℕ
 json_point domain p = json_object (

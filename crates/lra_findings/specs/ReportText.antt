@@ -2,7 +2,9 @@
 use Rattle.std.specs.Prelude.{ℕ, zero, suc, ◌/◌, ◌%◌, ℤ, pos, negsuc, ◌-ℤ◌, nat_abs, List, [], ◌∷◌, ◌++◌, map, Bool, true, false, not, codes, if◌then◌else◌, nat_eq, count_by, bytes_eq, int_div, Option, Some, None}
 use Rattle.std.specs.List.{flat_map}
 use Rattle.std.specs.Fmt.{decimal, signed_decimal}
-use Rattle.lra_findings.specs.Report.{Place, Domain, poly, box, oct, Options, GeneratorKind, point, ray, line, Generator, Part, State, PointReport, Verdict, Report}
+use Rattle.lra_base.specs.declared.options.Options.{Options}
+use Rattle.lra_base.specs.DomainNames.{domain_name}
+use Rattle.lra_findings.specs.Report.{Place, GeneratorKind, point, ray, line, Generator, Part, State, PointReport, Verdict, Report}
 use Rattle.lra_linear.specs.declared.ConKind.{ConKind}
 use Rattle.lra_linear.specs.declared.ConKind.TheVariants.{Ge, Eq}
 use Rattle.lra_program.specs.Rows.{Row}
@@ -143,13 +145,8 @@ state_text names (part ∷ parts) = part_text names part ++ further_parts_text n
 
 -- the report -------------------------------------------------------------------------------------------------------
 
-abbrev pub domain_text : Domain → List ℕ
-domain_text poly = codes "poly"
-domain_text box = codes "box"
-domain_text oct = codes "oct"
-
 abbrev pub options_text : Options → List ℕ
-options_text o = text_line (codes "analysis " ++ domain_text o.domain ++ codes " parts " ++ decimal o.parts ++
+options_text o = text_line (codes "analysis " ++ domain_name o.domain ++ codes " parts " ++ decimal o.parts ++
     codes " delay " ++ decimal o.delay ++ codes " narrow " ++ decimal o.narrow ++ codes " limited " ++
     (if o.limited then codes "yes" else codes "no"))
 

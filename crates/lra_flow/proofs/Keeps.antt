@@ -10,7 +10,7 @@ use Rattle.lra_program.specs.Value.{Drawn, truth_of}
 use Rattle.lra_program.specs.Step as step
 use Rattle.lra_program.specs.Step.{State, Op, append, give, give_any, push, keep, run_op}
 use Rattle.lra_operations.specs.Graph.{Node}
-use Rattle.lra_flow.specs.declared.Settings.{Settings}
+use Rattle.lra_base.specs.declared.options.Options.{Options}
 use Rattle.lra_flow.specs.Operations.{dropping}
 use Rattle.lra_flow.specs.Changes.{actions_of, AreDone}
 use Rattle.lra_flow.specs.Condition as condition
@@ -58,6 +58,6 @@ module _ (V H : Type 0) (m : Meaning V H) (laws : Laws m) where
   changes_keep (step.test base c wanted) v e w is s t h ran = test_keeps base c wanted v e w is s t h ran
 
 -- from one of its value's stores, a pass with drops covers the tree's runs
-pub pass_covers : {V H : Type 0} (m : Meaning V H) → Laws m → (set : Settings) (g : Node) (f : Option ℕ) (v : V) (r : Result V) → Pass V H (dropping m) set g f v r
+pub pass_covers : {V H : Type 0} (m : Meaning V H) → Laws m → (set : Options) (g : Node) (f : Option ℕ) (v : V) (r : Result V) → Pass V H (dropping m) set g f v r
     → (s : State) → m.has v s.store → Covers m g s r
 pass_covers {V} {H} m laws set g f v r pass s h = covers V H m laws (changes_keep V H m laws) set g f v r pass s h

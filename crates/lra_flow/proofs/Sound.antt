@@ -10,7 +10,7 @@ use Rattle.lra_domain.specs.declared.Exactness.{Exactness}
 use Rattle.lra_program.specs.Program.{Cond}
 use Rattle.lra_program.specs.Step.{State, run_op, test}
 use Rattle.lra_operations.specs.Graph.{Exit, broken, continued, returned, normal, Node, empty, point, act, check, seq, choose, iterate, catch, leave, Rounds, Ends}
-use Rattle.lra_flow.specs.declared.Settings.{Settings}
+use Rattle.lra_base.specs.declared.options.Options.{Options}
 use Rattle.lra_flow.specs.Operations.{dropping}
 use Rattle.lra_flow.specs.Changes.{AreJoined}
 use Rattle.lra_flow.specs.Pass.{Entry, value, failing, Result, noted, first_of_call, caught, in_turn, behind, jumps, GoesRound, Grows, Narrows, mode_at, Pass}
@@ -89,7 +89,7 @@ module _ (V H : Type 0) (m : Meaning V H) (laws : Laws m) (keeps : ChangesKeep m
 abbrev Round : ℕ → Cond → Node → State → State → Type 0
 Round base c a u v = (w : State) × (run_op (test base c true) u ≡ Some w) × Ends a w normal v
 
-module _ (V H : Type 0) (m : Meaning V H) (laws : Laws m) (keeps : ChangesKeep m) (set : Settings) (q base : ℕ) (c : Cond) (a : Node)
+module _ (V H : Type 0) (m : Meaning V H) (laws : Laws m) (keeps : ChangesKeep m) (set : Options) (q base : ℕ) (c : Cond) (a : Node)
     (inside : (f : Option ℕ) (v : V) (r : Result V) → Pass V H (dropping m) set a f v r → (s : State) → m.has v s.store → Covers m a s r) where
   round_keeps : (f : Option ℕ) (v : V) (r : Result V) → GoesRound V H (dropping m) q base c (Pass V H (dropping m) set a) f v r
       → (s t : State) → m.has v s.store → Round base c a s t → m.has r.normal t.store
@@ -140,7 +140,7 @@ module _ (V H : Type 0) (m : Meaning V H) (laws : Laws m) (keeps : ChangesKeep m
   closed_rounds h closed s k (suc n) t (w, before, one) = closed w t (closed_rounds h closed s k n w before) one
 
 module _ (V H : Type 0) (m : Meaning V H) (laws : Laws m) (keeps : ChangesKeep m) where
-  pub covers : (set : Settings) (g : Node) (f : Option ℕ) (v : V) (r : Result V) → Pass V H (dropping m) set g f v r → (s : State) → m.has v s.store → Covers m g s r
+  pub covers : (set : Options) (g : Node) (f : Option ℕ) (v : V) (r : Result V) → Pass V H (dropping m) set g f v r → (s : State) → m.has v s.store → Covers m g s r
   covers set empty f v r is s k = subst (λ (y : Result V). Covers m empty s y) (sym is) (record {
     ends = λ t e. subst (λ (z : State). m.has v z.store) (sym e) k;
     leaves = λ j t e. absurd e;

@@ -14,7 +14,7 @@ use Rattle.lra_lin.specs.Form.{Form}
 use Rattle.lra_lin.specs.declared.test.Test.{Test}
 use Rattle.lra_flow.specs.Linear.{comparison_test, difference_form}
 use Rattle.lra_flow.specs.Condition as condition
-use Rattle.lra_flow.specs.declared.Settings.{Settings}
+use Rattle.lra_base.specs.declared.options.Options.{Options}
 use Rattle.lra_flow.specs.Operations.{Operations, worse}
 use Rattle.lra_flow.specs.Changes.{actions_of, AreDone, AreJoined}
 use Rattle.lra_flow.specs.Conditions.{testing, tested, Leaves}
@@ -139,7 +139,7 @@ module _ (V H : Type 0) (a b : Operations V H) (Keeps : Exactness → Type 0) (F
         let p = matters.before q e s.flag i.0 in
         (p.1, (next, t, e, moves.joined first s.normal e next p.0 joined, i.1, j.1))
 
-  pub passes : (set : Settings) (g : Node) (f : Option ℕ) (v : V) (r : Result V) → Fine r.flag → Pass V H a set g f v r → Fine f × Pass V H (aligned a b) set g f v r
+  pub passes : (set : Options) (g : Node) (f : Option ℕ) (v : V) (r : Result V) → Fine r.flag → Pass V H a set g f v r → Fine f × Pass V H (aligned a b) set g f v r
   passes set empty f v r k is = (subst (λ (x : Result V). Fine x.flag) is k, is)
   passes set (point q) f v r k is = (subst (λ (x : Result V). Fine x.flag) is k, is)
   passes set (act q op) f v r k (w, e, h, is) =

@@ -9,7 +9,7 @@ use Rattle.lra_domain.specs.declared.Exactness.TheVariants.{Exact, Flagged}
 use Rattle.lra_program.specs.Program.{Cond}
 use Rattle.lra_program.specs.Step.{Op, test}
 use Rattle.lra_operations.specs.Graph.{Exit, broken, continued, returned, Node, empty, point, act, check, seq, choose, iterate, catch, leave}
-use Rattle.lra_flow.specs.declared.Settings.{Settings}
+use Rattle.lra_base.specs.declared.options.Options.{Options}
 use Rattle.lra_flow.specs.Operations.{Operations}
 use Rattle.lra_flow.specs.Changes.{actions_of, AreDone, AreJoined}
 use Rattle.lra_flow.specs.Conditions.{Leaves}
@@ -142,7 +142,7 @@ module _ (V H : Type 0) (ops : Operations V H) where
         (next : V) × (t : Result V) × (e : Exactness)
         × ops.joined first s.normal e next × GoesRound (noted q e s.flag) next t × Narrows more first next t v r
 
-abbrev pub Pass : (V H : Type 0) → Operations V H → Settings → Node → Through V
+abbrev pub Pass : (V H : Type 0) → Operations V H → Options → Node → Through V
 Pass V H ops set empty f v r = r ≡ goes_on [] v f
 Pass V H ops set (point q) f v r = r ≡ goes_on (value q v ∷ []) v f
 Pass V H ops set (act q op) f v r = (w : V) × (e : Exactness) × Changes V H ops op v e w ×

@@ -9,7 +9,7 @@ use Rattle.lra_linear.proofs.Membership.{contains_none, contains_head, contains_
 use Rattle.lra_program.specs.Program.{Cond, Program}
 use Rattle.lra_operations.specs.Graph.{Exit, broken, continued, returned, Node, empty, point, act, check, seq, choose, iterate, catch, leave}
 use Rattle.lra_program.specs.Sites.{Site, sites_of}
-use Rattle.lra_flow.specs.declared.Settings.{Settings}
+use Rattle.lra_base.specs.declared.options.Options.{Options}
 use Rattle.lra_flow.specs.Operations.{Operations}
 use Rattle.lra_flow.specs.Pass.{Entry, value, failing, Result, noted, jumps, behind, Through, GoesRound, Grows, Narrows, Pass}
 use Rattle.lra_flow.specs.Analysis.{Iteration}
@@ -72,7 +72,7 @@ module _ (V H : Type 0) (ops : Operations V H) (k : ℕ) where
     narrows_found zero first u s v r (same, is) found = subst (λ (y : Result V). Found k y.entries (one_if q k + n) d) (sym is) found
     narrows_found (suc more) first u s v r (next, t, e, joined, turn, rest) found = narrows_found more first next t v r rest (round_found (noted q e s.flag) next t turn)
 
-  pub pass_found : (set : Settings) (g : Node) (f : Option ℕ) (v : V) (r : Result V) → Pass V H ops set g f v r → Found k r.entries (values_in g k) (checks_in g k)
+  pub pass_found : (set : Options) (g : Node) (f : Option ℕ) (v : V) (r : Result V) → Pass V H ops set g f v r → Found k r.entries (values_in g k) (checks_in g k)
   pass_found set empty f v r is = subst (λ (y : Result V). Found k y.entries 0 0) (sym is) (record { values = refl; checks = refl })
   pass_found set (point q) f v r is = subst (λ (y : Result V). Found k y.entries (one_if q k) 0) (sym is) (record { values = omega arith; checks = refl })
   pass_found set (act q op) f v r (w, e, done, is) = subst (λ (y : Result V). Found k y.entries 0 0) (sym is) (record { values = refl; checks = refl })
@@ -93,7 +93,7 @@ module _ (V H : Type 0) (ops : Operations V H) (k : ℕ) where
   pass_found set (leave n j) f v r (w, nothing, is) =
       subst (λ (z : Result V). Found k z.entries 0 0) (sym is) (subst (λ (zs : List (Entry V)). Found k zs 0 0) (sym (jump_entries j v w f)) (record { values = refl; checks = refl }))
 
-  pub iteration_found : (set : Settings) (P : Program) (g : Node) (r : Result V) → Iteration ops set P g r → Found k r.entries (values_in g k) (checks_in g k)
+  pub iteration_found : (set : Options) (P : Program) (g : Node) (r : Result V) → Iteration ops set P g r → Found k r.entries (values_in g k) (checks_in g k)
   iteration_found set P g r (none, first, e, universal, values, pass) = pass_found set g (noted 0 e None) first r pass
 
 -- entries ------------------------------------------------------------------------------------------------------------
@@ -194,14 +194,14 @@ asserts_few (Some s) = chosen s.asserts
     chosen false = omega arith
 
 -- so an iteration over a program's tree has one value for each assertion
-pub iteration_fails_once : {V H : Type 0} (ops : Operations V H) (set : Settings) (P : Program) (g : Node) (r : Result V) → IsNumbered (sites_of P) g → Iteration ops set P g r
+pub iteration_fails_once : {V H : Type 0} (ops : Operations V H) (set : Options) (P : Program) (g : Node) (r : Result V) → IsNumbered (sites_of P) g → Iteration ops set P g r
     → (q : ℕ) (u v : V) → Contains r.entries (failing q u) → Contains r.entries (failing q v) → u ≡ v
 iteration_fails_once {V} {H} ops set P g r numbered iteration q u v =
     let found = iteration_found V H ops q set P g r iteration in
     one_failing V q u v r.entries (let c = found.checks in let n = numbered.checks q in let few = asserts_few (slice_get (sites_of P) q) in omega (arith, c, n, few))
 
 -- and a pass over a numbered tree has one value for each point, one for each assertion, and no other
-pub pass_counted : {V H : Type 0} (ops : Operations V H) (T : List Site) (set : Settings) (g : Node) (f : Option ℕ) (v : V) (r : Result V) → IsNumbered T g → Pass V H ops set g f v r →
+pub pass_counted : {V H : Type 0} (ops : Operations V H) (T : List Site) (set : Options) (g : Node) (f : Option ℕ) (v : V) (r : Result V) → IsNumbered T g → Pass V H ops set g f v r →
     AreCounted T r.entries
 pass_counted {V} {H} ops T set g f v r numbered pass = record {
   values = λ q s there. (pass_found V H ops q set g f v r pass).values ∙ numbered.values q s there;

@@ -14,7 +14,7 @@ use Rattle.lra_operations.specs.declared.graph.Node.TheFolds.{fold-Node}
 use Rattle.lra_operations.specs.declared.graph.Node.TheOpen.{Node-F}
 use Rattle.lra_program.specs.Program.{Cond}
 use Rattle.lra_operations.specs.Graph as graph
-use Rattle.lra_flow.specs.declared.Settings.{Settings}
+use Rattle.lra_base.specs.declared.options.Options.{Options}
 use Rattle.lra_flow.specs.Operations.{Operations, dropping}
 use Rattle.lra_flow.specs.Changes.{AreJoined}
 use Rattle.lra_flow.specs.Given.{given_rows}
@@ -40,13 +40,13 @@ abbrev pub row_size : List Node → Node → ℕ
 row_size gs last = sum_by node_size gs + node_size last
 
 -- the head grew from the first value: however it grows on, it is a growth of that
-pub record GrowLoop {V H : Type 0} (m : Meaning V H) (set : Settings) (q base : ℕ) (c : Cond) (a : graph.Node) (first : V) (f : Option ℕ) (left : ℕ) (so_far : Option ℕ) (head : H) : Type 0 where
+pub record GrowLoop {V H : Type 0} (m : Meaning V H) (set : Options) (q base : ℕ) (c : Cond) (a : graph.Node) (first : V) (f : Option ℕ) (left : ℕ) (so_far : Option ℕ) (head : H) : Type 0 where
   pub dims : m.head_dims head ≡ m.dims first
   pub fits : RankFits (m.rank head)
   pub grows : (later : List H) (v : V) (r : Result V) → Grows V H (dropping m) q base c (Pass V H (dropping m) set a) set.limited left so_far head later v r → HasGrown m set q base c a first f v r
 
 -- what is narrowed on is a narrowing from the first round, with which the head was stable
-pub record NarrowLoop {V H : Type 0} (m : Meaning V H) (set : Settings) (q base : ℕ) (c : Cond) (a : graph.Node) (first : V) (f : Option ℕ) (left : ℕ) (top : V) (last : Result V) : Type 0 where
+pub record NarrowLoop {V H : Type 0} (m : Meaning V H) (set : Options) (q base : ℕ) (c : Cond) (a : graph.Node) (first : V) (f : Option ℕ) (left : ℕ) (top : V) (last : Result V) : Type 0 where
   pub start : V
   pub round : Result V
   pub grown : HasGrown m set q base c a first f start round
@@ -56,7 +56,7 @@ pub record NarrowLoop {V H : Type 0} (m : Meaning V H) (set : Settings) (q base 
   pub narrows : (v : V) (r : Result V) → Narrows V H (dropping m) q base c (Pass V H (dropping m) set a) left first top last v r
       → Narrows V H (dropping m) q base c (Pass V H (dropping m) set a) set.narrow first start round v r
 
-module _ {V H : Type 0} (m : Meaning V H) (set : Settings) (q base : ℕ) (c : Cond) (a : graph.Node) where
+module _ {V H : Type 0} (m : Meaning V H) (set : Options) (q base : ℕ) (c : Cond) (a : graph.Node) where
   -- a head begins
   pub grow_starts : (first : V) (f : Option ℕ) (head : H) → (dropping m).started first (given_rows (m.dims first) base c) head → RankFits (m.rank head)
       → GrowLoop m set q base c a first f set.delay f head

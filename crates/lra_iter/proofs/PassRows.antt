@@ -8,7 +8,7 @@ use Rattle.lra_domain.specs.Meaning.{Meaning}
 use Rattle.lra_operations.specs.declared.graph.Node.{Node}
 use Rattle.lra_operations.specs.GraphViews.{node_view, row}
 use Rattle.lra_operations.specs.Graph as graph
-use Rattle.lra_flow.specs.declared.Settings.{Settings}
+use Rattle.lra_base.specs.declared.options.Options.{Options}
 use Rattle.lra_flow.specs.Pass.{Entry, Result, goes_on, in_turn}
 use Rattle.lra_iter.specs.Fits.{live_behind, TreeFits}
 use Rattle.lra_iter.specs.declared.outcome.Found.{Found}
@@ -49,12 +49,12 @@ pub row_done : (gs : List Node) (i : ℕ) (last : Node) → length gs ≤ i → 
 row_done gs i last beyond = ap (λ (z : List Node). row (map node_view z) (node_view last)) (drop_all i gs beyond)
 
 -- what stands behind what was found so far: it fits, and whatever its pass finds comes behind, as a pass of the whole
-pub record RowLoop {V H : Type 0} (m : Meaning V H) (set : Settings) (g : graph.Node) (f : Option ℕ) (v : V) (rest : graph.Node) (found : Found V) (behind : V) (so_far : Option ℕ) : Type 0 where
+pub record RowLoop {V H : Type 0} (m : Meaning V H) (set : Options) (g : graph.Node) (f : Option ℕ) (v : V) (rest : graph.Node) (found : Found V) (behind : V) (so_far : Option ℕ) : Type 0 where
   pub few : m.dims behind ≤ 2 ^ 30
   pub fits : TreeFits rest (m.dims behind)
   pub passes : (t : Result V) → IsPassed m set rest so_far behind t → IsPassed m set g f v (in_turn (ended found behind so_far) t t.normal t.flag)
 
-module _ {V H : Type 0} (m : Meaning V H) (set : Settings) where
+module _ {V H : Type 0} (m : Meaning V H) (set : Options) where
   seq_passed : (a b : graph.Node) (f : Option ℕ) (v : V) (s t : Result V) → IsPassed m set a f v s → IsPassed m set b s.flag s.normal t
       → IsPassed m set (graph.seq a b) f v (in_turn s t t.normal t.flag)
   seq_passed a b f v s t one two = record {

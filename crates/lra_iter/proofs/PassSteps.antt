@@ -17,7 +17,7 @@ use Rattle.lra_operations.specs.GraphViews.{exit_view, op_view, node_view, row}
 use Rattle.lra_program.specs.Program.{Cond}
 use Rattle.lra_operations.specs.Graph.{Exit, broken, continued, returned}
 use Rattle.lra_operations.specs.Graph as graph
-use Rattle.lra_flow.specs.declared.Settings.{Settings}
+use Rattle.lra_base.specs.declared.options.Options.{Options}
 use Rattle.lra_flow.specs.Operations.{dropping}
 use Rattle.lra_flow.specs.Conditions.{Leaves}
 use Rattle.lra_flow.specs.Pass.{Entry, value, Result, noted, goes_on, jumps, in_turn, behind, Pass, Narrows}
@@ -168,7 +168,7 @@ module _ {V H : Type 0} (m : Meaning V H) where
   pub catch_fits : (q : ℕ) (j : Exit) (a : graph.Node) (n : ℕ) (s r : Result V) → JumpsFit m a n s → Catches m q j s r → JumpsFit m (graph.catch q j a) n r
   catch_fits q j a n s r inner (w, e, joined, is) = subst (λ (x : Result V). JumpsFit m (graph.catch q j a) n x) (sym is) (behind_fits q j a n s w (noted q e s.flag) inner)
 
-  pub catch_passes : (set : Settings) (q : ℕ) (j : Exit) (a : graph.Node) (f : Option ℕ) (v : V) (s r : Result V) → Pass V H (dropping m) set a f v s → Catches m q j s r
+  pub catch_passes : (set : Options) (q : ℕ) (j : Exit) (a : graph.Node) (f : Option ℕ) (v : V) (s r : Result V) → Pass V H (dropping m) set a f v s → Catches m q j s r
       → Pass V H (dropping m) set (graph.catch q j a) f v r
   catch_passes set q j a f v s r pass (w, e, joined, is) = (w, e, s, pass, joined, is)
 
@@ -208,7 +208,7 @@ module _ {V H : Type 0} (m : Meaning V H) where
   caught_have q k a n s fits jumps dims = all_have (m.dims s.normal) (jumps_of k s) (λ u h. fits.1 (m.dims u) (jumps k u h) ∙ sym dims)
 
   -- a loop
-  pub loop_passed : (set : Settings) (q base : ℕ) (c : Cond) (a : graph.Node) (f : Option ℕ) (first u top : V) (s t r : Result V)
+  pub loop_passed : (set : Options) (q base : ℕ) (c : Cond) (a : graph.Node) (f : Option ℕ) (first u top : V) (s t r : Result V)
       → HasGrown m set q base c a first f u s → Narrows V H (dropping m) q base c (Pass V H (dropping m) set a) set.narrow first u s top t → LeavesWith m q base c top t r
       → m.dims top ≡ m.dims first → m.dims r.normal ≡ m.dims top → JumpsFit m a (m.dims first) t → IsPassed m set (graph.iterate q base c a) f first r
   loop_passed set q base c a f first u top s t r (h, later, started, grows) narrows (out, e, leaves, is) dims left inner = record {
@@ -218,7 +218,7 @@ module _ {V H : Type 0} (m : Meaning V H) where
   }
 
   -- a choice
-  pub choice_passed : (set : Settings) (q base : ℕ) (c : Cond) (a b : graph.Node) (f : Option ℕ) (v on off : V) (d e : Exactness) (s t r : Result V)
+  pub choice_passed : (set : Options) (q base : ℕ) (c : Cond) (a b : graph.Node) (f : Option ℕ) (v on off : V) (d e : Exactness) (s t r : Result V)
       → Leaves (dropping m) base c true v d on → m.dims on ≡ m.dims v → IsPassed m set a (noted q d f) on s
       → Leaves (dropping m) base c false v e off → m.dims off ≡ m.dims v → IsPassed m set b (noted q e s.flag) off t
       → AreMet m q s t r → m.dims r.normal ≡ m.dims s.normal → IsPassed m set (graph.choose q base c a b) f v r
@@ -229,13 +229,13 @@ module _ {V H : Type 0} (m : Meaning V H) where
   }
 
   -- both ends have as many dimensions
-  pub ends_meet : (set : Settings) (q base : ℕ) (c : Cond) (a b : graph.Node) (f g : Option ℕ) (n : ℕ) (on off : V) (s t : Result V) → TreeFits (graph.choose q base c a b) n → m.dims on ≡ n
+  pub ends_meet : (set : Options) (q base : ℕ) (c : Cond) (a b : graph.Node) (f g : Option ℕ) (n : ℕ) (on off : V) (s t : Result V) → TreeFits (graph.choose q base c a b) n → m.dims on ≡ n
       → m.dims off ≡ n
       → IsPassed m set a f on s → IsPassed m set b g off t → m.dims s.normal ≡ m.dims t.normal
   ends_meet set q base c a b f g n on off s t fits wide wide' one two = one.dims ∙ ap (live_behind a) wide ∙ sym fits.2 ∙ ap (live_behind b) (sym wide') ∙ sym two.dims
 
 -- what is handed on as the pass of a tree that is the other
-module _ {V H E : Type 0} (m : Meaning V H) (set : Settings) (g g' : graph.Node) (f : Option ℕ) (v : V) (R : outcome_or.Result (Outcome V) E) (same : g ≡ g') where
+module _ {V H E : Type 0} (m : Meaning V H) (set : Options) (g g' : graph.Node) (f : Option ℕ) (v : V) (R : outcome_or.Result (Outcome V) E) (same : g ≡ g') where
   module _ (h : IfOk R (λ r. IsPassed m set g' f v (seen r))) where
     pub given_pass : IfOk R (λ r. Pass V H (dropping m) set g f v (seen r))
     given_pass = IfOk-weaker R (λ r. IsPassed m set g' f v (seen r)) (λ r. Pass V H (dropping m) set g f v (seen r)) (λ r p. subst (λ z. Pass V H (dropping m) set z f v (seen r)) (sym same) p.pass) h

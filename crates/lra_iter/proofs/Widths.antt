@@ -19,7 +19,7 @@ use Rattle.lra_program.specs.Step as step
 use Rattle.lra_program.specs.Step.{Op, append, give, give_any, keep, test}
 use Rattle.lra_operations.specs.Graph.{Exit, broken, continued, returned, Node, empty, point, act, check, seq, choose, iterate, catch, leave}
 use Rattle.lra_program.specs.Sites.{Site}
-use Rattle.lra_flow.specs.declared.Settings.{Settings}
+use Rattle.lra_base.specs.declared.options.Options.{Options}
 use Rattle.lra_flow.specs.Operations.{dropping}
 use Rattle.lra_flow.specs.Changes.{set_to, push_all, drop_last, actions_of, first_values, AreDone, AreJoined}
 use Rattle.lra_flow.specs.Conditions.{testing, Leaves}
@@ -164,7 +164,7 @@ module _ (V H : Type 0) (m : Meaning V H) where
           let top : m.dims next ≡ n = joined.2 ∙ k in
           narrows_wide more first next t v r rest k (record { top = top; result = round_wide (noted q e s.flag) next t turn top })
 
-    module _ (laws : Laws m) (set : Settings) where
+    module _ (laws : Laws m) (set : Options) where
       pass_wide : (g : Node) (f : Option ℕ) (v : V) (r : Result V) (n : ℕ) → Pass V H (dropping m) set g f v r → m.dims v ≡ n → PointsHave T g n → Wide (live_behind g n) r
       pass_wide empty f v r n is h p = wide_is n r _ is (record { normal = h; entries = tt })
       pass_wide (point q) f v r n is h p = wide_is n r _ is (record { normal = h; entries = (live_same q n (m.dims v) h p, tt) })
@@ -194,19 +194,19 @@ module _ (V H : Type 0) (m : Meaning V H) where
     entry_has (x ∷ xs) q v h there = elim (contains_cases x (value q v) xs there) [ inl same ↦ subst EntryHas same h.0 | inr later ↦ entry_has xs q v h.1 later ]
 
 -- each value that an iteration has at a point has as many dimensions as variables live there
-pub values_wide : {V H : Type 0} (m : Meaning V H) → Laws m → (T : List Site) (settings : Settings) (P : Program) (g : Node) (r : Result V) → PointsHave T g (length P.globals) →
-    Derivation m settings P g r
+pub values_wide : {V H : Type 0} (m : Meaning V H) → Laws m → (T : List Site) (options : Options) (P : Program) (g : Node) (r : Result V) → PointsHave T g (length P.globals) →
+    Derivation m options P g r
     → (q : ℕ) (v : V) (s : Site) → Contains r.entries (value q v) → slice_get T q ≡ Some s → m.dims v ≡ s.live
-values_wide {V} {H} m laws T settings P g r lives (none, first, e, universal, begun, pass) q v s found there =
+values_wide {V} {H} m laws T options P g r lives (none, first, e, universal, begun, pass) q v s found there =
     let n = length P.globals in
     let begins : m.dims first ≡ n = done_dims V H m (first_values 0 P.globals) none e first begun ∙ first_after P.globals 0 (m.dims none) ∙
-    (let zero_dims = laws.universal_dims 0 settings.parts none universal in omega (arith, zero_dims)) in
-    let wide = pass_wide V H m T laws settings g (noted 0 e None) first r n pass begins lives in
+    (let zero_dims = laws.universal_dims 0 options.parts none universal in omega (arith, zero_dims)) in
+    let wide = pass_wide V H m T laws options g (noted 0 e None) first r n pass begins lives in
     entry_has V H m T r.entries q v wide.entries found s there
 
 -- so have the values that are found
-pub found_wide : {V H : Type 0} (m : Meaning V H) → Laws m → (T : List Site) (settings : Settings) (g : Node) (f : Option ℕ) (first : V) (r : Result V) (n : ℕ) (values : List V)
+pub found_wide : {V H : Type 0} (m : Meaning V H) → Laws m → (T : List Site) (options : Options) (g : Node) (f : Option ℕ) (first : V) (r : Result V) (n : ℕ) (values : List V)
     (verdicts : List (ℕ × Bool)) (flagged : Option ℕ)
-    → Pass V H (dropping m) settings g f first r → m.dims first ≡ n → Solves m r values verdicts flagged → PointsHave T g n → AreWide m T values
-found_wide {V} {H} m laws T settings g f first r n values verdicts flagged pass begins solves lives q v there =
-    entry_has V H m T r.entries q v (pass_wide V H m T laws settings g f first r n pass begins lives).entries ((solves.is_value q v).0 there)
+    → Pass V H (dropping m) options g f first r → m.dims first ≡ n → Solves m r values verdicts flagged → PointsHave T g n → AreWide m T values
+found_wide {V} {H} m laws T options g f first r n values verdicts flagged pass begins solves lives q v there =
+    entry_has V H m T r.entries q v (pass_wide V H m T laws options g f first r n pass begins lives).entries ((solves.is_value q v).0 there)

@@ -9,7 +9,7 @@ use Rattle.lra_domain.specs.declared.Exactness.{Exactness}
 use Rattle.std.specs.List.{Contains}
 use Rattle.lra_program.specs.Program.{Cond}
 use Rattle.lra_operations.specs.Graph.{Exit, Node}
-use Rattle.lra_flow.specs.declared.Settings.{Settings}
+use Rattle.lra_base.specs.declared.options.Options.{Options}
 use Rattle.lra_flow.specs.Conditions.{Leaves}
 use Rattle.lra_flow.specs.Given.{given_rows}
 use Rattle.lra_flow.specs.Sound.{jumps_of}
@@ -65,14 +65,14 @@ LeavesWith {V} m q base c top s r = (out : V) × (e : Exactness) × Leaves (drop
     (r ≡ record s { normal = out; flag = noted q e s.flag })
 
 -- a pass over the tree, behind which, and at whose jumps, values have as many dimensions as live there
-pub record IsPassed {V H : Type 0} (m : Meaning V H) (set : Settings) (g : Node) (f : Option ℕ) (v : V)
+pub record IsPassed {V H : Type 0} (m : Meaning V H) (set : Options) (g : Node) (f : Option ℕ) (v : V)
     (r : Result V) : Type 0 where
   pub pass : Pass V H (dropping m) set g f v r
   pub dims : m.dims r.normal ≡ live_behind g (m.dims v)
   pub jumps : JumpsFit m g (m.dims v) r
 
 -- a loop's head that starts with a value grows until it is stable, with this value and round at last
-abbrev pub HasGrown : {V H : Type 0} → Meaning V H → Settings → ℕ → ℕ → Cond → Node → V → Option ℕ → V → Result V →
+abbrev pub HasGrown : {V H : Type 0} → Meaning V H → Options → ℕ → ℕ → Cond → Node → V → Option ℕ → V → Result V →
     Type 0
 HasGrown {V} {H} m set q base c a first f u s =
     (h : H) × (later : List H) × (dropping m).started first (given_rows (m.dims first) base c) h

@@ -4,14 +4,14 @@ ghost use Rattle.std.specs.Prelude.{◌≡◌, ◌≤◌, ◌^◌, IfOk};
 ghost use Rattle.lra_operations.specs.Graph.{act, check, leave, point as point_node};
 ghost use Rattle.lra_program.specs.ProgramViews.{cond_view};
 ghost use Rattle.lra_operations.specs.GraphViews.{exit_view, op_view};
-ghost use Rattle.lra_flow.specs.declared.Settings.{Settings};
+ghost use Rattle.lra_base.specs.declared.options.Options.{Options};
 ghost use Rattle.lra_change.specs.Changes.{dims_behind, OpFits};
 ghost use Rattle.lra_iter.specs.Outcome.{seen, IsPassed};
 
 use crate::outcome::{Entry, Outcome, note};
+use lra_base::Options;
 use lra_change::{Kept, change, split};
 use lra_domain::{Domain, Exactness};
-use lra_flow::Settings;
 use lra_operations::{Exit, Op};
 use lra_program::Cond;
 use std::alloc::{AllocError, Global};
@@ -23,7 +23,7 @@ pub fn pass_point<D: Domain>(
     value: D,
     flag: Option<usize>,
 ) -> Result<Outcome<D>, AllocError>
-    ensures { (settings : Settings) → IfOk result (λ r. IsPassed D.meaning settings (point_node point) flag value
+    ensures { (options : Options) → IfOk result (λ r. IsPassed D.meaning options (point_node point) flag value
         (seen r)) }
 {
     let mut entries = Vec::new(alloc);
@@ -41,7 +41,7 @@ pub fn pass_act<D: Domain>(
 ) -> Result<Outcome<D>, AllocError>
     requires few { D.meaning.dims value ≤ 2 ^ 30 }
     requires fits { OpFits (op_view op.now) (D.meaning.dims value) }
-    ensures { (settings : Settings) → IfOk result (λ r. IsPassed D.meaning settings
+    ensures { (options : Options) → IfOk result (λ r. IsPassed D.meaning options
         (act point (op_view op.now)) flag value (seen r)) }
 {
     let mut after = value;
@@ -60,7 +60,7 @@ pub fn pass_check<D: Domain>(
     flag: Option<usize>,
 ) -> Result<Outcome<D>, AllocError>
     requires { D.meaning.dims value ≤ 2 ^ 30 }
-    ensures { (settings : Settings) → IfOk result (λ r. IsPassed D.meaning settings
+    ensures { (options : Options) → IfOk result (λ r. IsPassed D.meaning options
         (check point base (cond_view condition.now)) flag value (seen r)) }
 {
     let from = Kept {
@@ -79,17 +79,17 @@ pub fn pass_check<D: Domain>(
 /// A jump: it takes the value.
 pub fn pass_leave<D: Domain>(
     alloc: Global,
-    settings: &Settings,
+    options: &Options,
     live: usize,
     exit: Exit,
     value: D,
     flag: Option<usize>,
 ) -> Result<Outcome<D>, AllocError>
-    requires parts { 1 ≤ settings.now.parts }
+    requires parts { 1 ≤ options.now.parts }
     requires few { live ≤ 2 ^ 30 }
-    ensures { IfOk result (λ r. IsPassed D.meaning settings.now (leave live (exit_view exit)) flag value (seen r)) }
+    ensures { IfOk result (λ r. IsPassed D.meaning options.now (leave live (exit_view exit)) flag value (seen r)) }
 {
-    let nothing = D::empty(alloc, live, settings.parts)?;
+    let nothing = D::empty(alloc, live, options.parts)?;
     let outcome = Outcome::jumping(alloc, exit, value, nothing, flag)?;
     Ok(outcome)
 }

@@ -15,9 +15,9 @@ ghost use Rattle.lra_iter.specs.Outcome.{seen, AreMet, HasGrown, IsPassed, Jumps
 use crate::catches::catch_jumps;
 use crate::leaves::{pass_act, pass_check, pass_leave, pass_point};
 use crate::outcome::{Entry, Found, Outcome, note};
+use lra_base::Options;
 use lra_change::{Kept, leave, split};
 use lra_domain::{Domain, Exactness, Grown, Mode};
-use lra_flow::Settings;
 use lra_forms::given_of;
 use lra_operations::Node;
 use lra_program::Cond;
@@ -27,7 +27,7 @@ use std::mem;
 /// A loop, and how it is passed.
 #[derive(Drop)]
 struct Loop<'a> {
-    settings: &'a Settings,
+    options: &'a Options,
     point: usize,
     base: usize,
     condition: &'a Cond,
@@ -37,7 +37,7 @@ struct Loop<'a> {
 /// A choice, and how it is passed.
 #[derive(Drop)]
 struct Choice<'a> {
-    settings: &'a Settings,
+    options: &'a Options,
     point: usize,
     base: usize,
     condition: &'a Cond,
@@ -144,13 +144,13 @@ fn round<D: Domain>(
     value: &D,
     flag: Option<usize>,
 ) -> Result<Outcome<D>, AllocError>
-    requires parts { 1 ≤ the_loop.now.settings.now.parts }
+    requires parts { 1 ≤ the_loop.now.options.now.parts }
     requires few { D.meaning.dims value.now ≤ 2 ^ 30 }
     requires fits { TreeFits (node_view the_loop.now.body.now) (D.meaning.dims value.now) }
     requires closed { live_behind (node_view the_loop.now.body.now) (D.meaning.dims value.now) ≡
         D.meaning.dims value.now }
     ensures round { IfOk result (λ r. GoesRound D D.Head (dropping D.meaning) the_loop.now.point the_loop.now.base
-        (cond_view the_loop.now.condition.now) (Pass D D.Head (dropping D.meaning) the_loop.now.settings.now
+        (cond_view the_loop.now.condition.now) (Pass D D.Head (dropping D.meaning) the_loop.now.options.now
         (node_view the_loop.now.body.now)) flag value.now (seen r)) }
     ensures dims { IfOk result (λ r. D.meaning.dims r.normal ≡ D.meaning.dims value.now) }
     ensures jumps { IfOk result (λ r. JumpsFit D.meaning (node_view the_loop.now.body.now) (D.meaning.dims value.now)
@@ -166,7 +166,7 @@ fn round<D: Domain>(
         Exactness::Exact,
     )?;
     let inside = note(the_loop.point, exactness, flag);
-    let mut outcome = pass(alloc, the_loop.settings, the_loop.body, on, inside)?;
+    let mut outcome = pass(alloc, the_loop.options, the_loop.body, on, inside)?;
     let found = value.copy(alloc)?;
     outcome
         .found
@@ -184,12 +184,12 @@ fn grow<D: Domain>(
     first: &D,
     flag: Option<usize>,
 ) -> Result<(D, Outcome<D>), AllocError>
-    requires parts { 1 ≤ the_loop.now.settings.now.parts }
+    requires parts { 1 ≤ the_loop.now.options.now.parts }
     requires few { D.meaning.dims first.now ≤ 2 ^ 30 }
     requires fits { TreeFits (node_view the_loop.now.body.now) (D.meaning.dims first.now) }
     requires closed { live_behind (node_view the_loop.now.body.now) (D.meaning.dims first.now) ≡
         D.meaning.dims first.now }
-    ensures grows { IfOk result (λ r. HasGrown D.meaning the_loop.now.settings.now the_loop.now.point the_loop.now.base
+    ensures grows { IfOk result (λ r. HasGrown D.meaning the_loop.now.options.now the_loop.now.point the_loop.now.base
         (cond_view the_loop.now.condition.now) (node_view the_loop.now.body.now) first.now flag r.0 (seen r.1)) }
     ensures dims { IfOk result (λ r. D.meaning.dims r.0 ≡ D.meaning.dims first.now) }
     ensures behind { IfOk result (λ r. D.meaning.dims r.1.normal ≡ D.meaning.dims first.now) }
@@ -197,13 +197,13 @@ fn grow<D: Domain>(
         (seen r.1)) }
 {
     let mut head = start(alloc, the_loop.base, the_loop.condition, first)?;
-    let mut left = the_loop.settings.delay;
+    let mut left = the_loop.options.delay;
     let mut so_far = flag;
     'head: loop {
         let (value, exactness) = D::value(alloc, &head)?;
         let so_far_here = note(the_loop.point, exactness, so_far);
         let outcome = round(alloc, the_loop, &value, so_far_here)?;
-        let mode = mode_of(the_loop.settings.limited, left);
+        let mode = mode_of(the_loop.options.limited, left);
         match D::grow(&mut head, &outcome.normal, mode)? {
             Grown::Stable => return Ok((value, outcome)),
             Grown::Grew(exactness) => so_far = note(the_loop.point, exactness, outcome.flag),
@@ -221,18 +221,18 @@ fn pass_loop<D: Domain>(
     value: D,
     flag: Option<usize>,
 ) -> Result<Outcome<D>, AllocError>
-    requires parts { 1 ≤ the_loop.now.settings.now.parts }
+    requires parts { 1 ≤ the_loop.now.options.now.parts }
     requires few { D.meaning.dims value ≤ 2 ^ 30 }
     requires fits { TreeFits (node_view the_loop.now.body.now) (D.meaning.dims value) }
     requires closed { live_behind (node_view the_loop.now.body.now) (D.meaning.dims value) ≡ D.meaning.dims value }
-    ensures { IfOk result (λ r. IsPassed D.meaning the_loop.now.settings.now
+    ensures { IfOk result (λ r. IsPassed D.meaning the_loop.now.options.now
         (iterate the_loop.now.point the_loop.now.base (cond_view the_loop.now.condition.now)
         (node_view the_loop.now.body.now)) flag value (seen r)) }
 {
     let (grown, outcome) = grow(alloc, the_loop, &value, flag)?;
     let mut top = grown;
     let mut last = outcome;
-    let mut left = the_loop.settings.narrow;
+    let mut left = the_loop.options.narrow;
     'narrowing: while left > 0 {
         let (next, so_far) = narrowed(alloc, the_loop.point, &value, last)?;
         top = next;
@@ -251,11 +251,11 @@ fn pass_choice<D: Domain>(
     value: D,
     flag: Option<usize>,
 ) -> Result<Outcome<D>, AllocError>
-    requires parts { 1 ≤ choice.now.settings.now.parts }
+    requires parts { 1 ≤ choice.now.options.now.parts }
     requires few { D.meaning.dims value ≤ 2 ^ 30 }
     requires fits { TreeFits (choose choice.now.point choice.now.base (cond_view choice.now.condition.now)
         (node_view choice.now.yes.now) (node_view choice.now.no.now)) (D.meaning.dims value) }
-    ensures { IfOk result (λ r. IsPassed D.meaning choice.now.settings.now
+    ensures { IfOk result (λ r. IsPassed D.meaning choice.now.options.now
         (choose choice.now.point choice.now.base (cond_view choice.now.condition.now) (node_view choice.now.yes.now)
         (node_view choice.now.no.now)) flag value (seen r)) }
 {
@@ -267,9 +267,9 @@ fn pass_choice<D: Domain>(
     let on = sides.on;
     let off = sides.off;
     let on_flag = note(choice.point, on.exactness, flag);
-    let first = pass(alloc, choice.settings, choice.yes, on.value, on_flag)?;
+    let first = pass(alloc, choice.options, choice.yes, on.value, on_flag)?;
     let off_flag = note(choice.point, off.exactness, first.flag);
-    let second = pass(alloc, choice.settings, choice.no, off.value, off_flag)?;
+    let second = pass(alloc, choice.options, choice.no, off.value, off_flag)?;
     let both = meet_again(choice.point, first, second)?;
     Ok(both)
 }
@@ -278,28 +278,28 @@ fn pass_choice<D: Domain>(
 #[cycle(pass)]
 fn pass_row<D: Domain>(
     alloc: Global,
-    settings: &Settings,
+    options: &Options,
     trees: &[Node],
     last: &Node,
     value: D,
     flag: Option<usize>,
 ) -> Result<Outcome<D>, AllocError>
-    requires parts { 1 ≤ settings.now.parts }
+    requires parts { 1 ≤ options.now.parts }
     requires few { D.meaning.dims value ≤ 2 ^ 30 }
     requires fits { TreeFits (row (map node_view trees.now) (node_view last.now)) (D.meaning.dims value) }
-    ensures { IfOk result (λ r. IsPassed D.meaning settings.now
+    ensures { IfOk result (λ r. IsPassed D.meaning options.now
         (row (map node_view trees.now) (node_view last.now)) flag value (seen r)) }
 {
     let mut found = Found::nothing(alloc);
     let mut behind = value;
     let mut so_far = flag;
     'row: for tree in trees {
-        let part = pass(alloc, settings, tree, behind, so_far)?;
+        let part = pass(alloc, options, tree, behind, so_far)?;
         let (value, flag) = found.take(part)?;
         behind = value;
         so_far = flag;
     }
-    let end = pass(alloc, settings, last, behind, so_far)?;
+    let end = pass(alloc, options, last, behind, so_far)?;
     let (normal, flag) = found.take(end)?;
     Ok(Outcome {
         found,
@@ -312,15 +312,15 @@ fn pass_row<D: Domain>(
 #[cycle(pass)]
 pub fn pass<D: Domain>(
     alloc: Global,
-    settings: &Settings,
+    options: &Options,
     node: &Node,
     value: D,
     flag: Option<usize>,
 ) -> Result<Outcome<D>, AllocError>
-    requires parts { 1 ≤ settings.now.parts }
+    requires parts { 1 ≤ options.now.parts }
     requires few { D.meaning.dims value ≤ 2 ^ 30 }
     requires fits { TreeFits (node_view node.now) (D.meaning.dims value) }
-    ensures pass { IfOk result (λ r. Pass D D.Head (dropping D.meaning) settings.now (node_view node.now) flag value
+    ensures pass { IfOk result (λ r. Pass D D.Head (dropping D.meaning) options.now (node_view node.now) flag value
         (seen r)) }
     ensures dims { IfOk result (λ r. D.meaning.dims r.normal ≡
         live_behind (node_view node.now) (D.meaning.dims value)) }
@@ -333,10 +333,10 @@ pub fn pass<D: Domain>(
         Node::Check(point, base, condition) => {
             pass_check(alloc, *point, *base, condition, value, flag)
         }
-        Node::Seq(trees, last) => pass_row(alloc, settings, trees, last, value, flag),
+        Node::Seq(trees, last) => pass_row(alloc, options, trees, last, value, flag),
         Node::Choose(point, base, condition, yes, no) => {
             let choice = Choice {
-                settings,
+                options,
                 point: *point,
                 base: *base,
                 condition,
@@ -347,7 +347,7 @@ pub fn pass<D: Domain>(
         }
         Node::Iterate(point, base, condition, body) => {
             let the_loop = Loop {
-                settings,
+                options,
                 point: *point,
                 base: *base,
                 condition,
@@ -356,9 +356,9 @@ pub fn pass<D: Domain>(
             pass_loop(alloc, &the_loop, value, flag)
         }
         Node::Catch(point, exit, body) => {
-            let inner = pass(alloc, settings, body, value, flag)?;
+            let inner = pass(alloc, options, body, value, flag)?;
             catch_jumps(alloc, *point, *exit, inner)
         }
-        Node::Leave(live, exit) => pass_leave(alloc, settings, *live, *exit, value, flag),
+        Node::Leave(live, exit) => pass_leave(alloc, options, *live, *exit, value, flag),
     }
 }

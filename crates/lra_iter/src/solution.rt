@@ -16,9 +16,9 @@ ghost use Rattle.lra_iter.specs.Sound.{HoldsInTree};
 use crate::outcome::{Outcome, note};
 use crate::pass::pass;
 use crate::tables::{held_in, numbered_in, tables_of};
+use lra_base::Options;
 use lra_change::append_globals;
 use lra_domain::Domain;
-use lra_flow::Settings;
 use lra_operations::{Graph, Site};
 use std::alloc::{AllocError, Global};
 
@@ -57,16 +57,16 @@ fn solution_of<D: Domain>(
 /// The iteration over a program's tree of operations, from its global variables at their first values.
 pub fn analyse<D: Domain>(
     alloc: Global,
-    settings: &Settings,
+    options: &Options,
     globals: &[i64],
     graph: &Graph,
 ) -> Result<Solution<D>, AllocError>
-    requires parts { 1 ≤ settings.now.parts }
+    requires parts { 1 ≤ options.now.parts }
     requires few { length globals.now ≤ 2 ^ 30 }
     requires fits { TreeFits (node_view graph.now.tree) (length globals.now) }
     requires numbered { IsNumbered (map site_view graph.now.sites.items) (node_view graph.now.tree) }
     ensures solved { IfOk result (λ s. (P : Program) → P.globals ≡ globals.now →
-        IsSolved D.meaning settings.now P (node_view graph.now.tree) s.values.items s.verdicts.items s.flagged) }
+        IsSolved D.meaning options.now P (node_view graph.now.tree) s.values.items s.verdicts.items s.flagged) }
     ensures sound { IfOk result (λ s. HoldsInTree D.meaning globals.now
         (node_view graph.now.tree) s.values.items s.verdicts.items) }
     ensures wide { IfOk result (λ s. PointsHave (map site_view graph.now.sites.items) (node_view graph.now.tree)
@@ -75,11 +75,11 @@ pub fn analyse<D: Domain>(
     ensures assertions { IfOk result (λ s. map (λ v. v.0) s.verdicts.items ≡
         map (λ a. a.0) (assertions_from 0 (map site_view graph.now.sites.items))) }
 {
-    let mut value = D::universe(alloc, 0, settings.parts)?;
+    let mut value = D::universe(alloc, 0, options.parts)?;
     let exactness = append_globals(alloc, globals, &mut value)?;
     let outcome = pass(
         alloc,
-        settings,
+        options,
         &graph.tree,
         value,
         note(0, exactness, None),

@@ -15,8 +15,9 @@ ghost use Rattle.lra_listing.specs.Given.{AreStates, AreVerdicts, state_of, told
 
 use crate::labels::Labels;
 use crate::walk::labels;
+use lra_base::Options;
 use lra_operations::Site;
-use lra_report::{CallPlace, Options, Part, Point, PointReport, Report, Verdict, path_text};
+use lra_report::{CallPlace, Part, Point, PointReport, Report, Verdict, path_text};
 use lra_show::{Names, names_at};
 use lra_tree::{Global as Variable, Item, Tree};
 use std::alloc::{AllocError, Global};

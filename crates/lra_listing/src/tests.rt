@@ -3,9 +3,9 @@
 use crate::labels::Labels;
 use crate::listing::{list_point, list_verdict, names_of_globals};
 use crate::walk::labels;
-use lra_base::{Comparison, Place};
+use lra_base::{Comparison, Domain, Options, Place};
 use lra_operations::{Path, Site};
-use lra_report::{Domain, Options, Part, PointReport, Report, text};
+use lra_report::{Part, PointReport, Report, text};
 use lra_row::Row;
 use lra_show::Names;
 use lra_sys::{ConKind, ConSys};

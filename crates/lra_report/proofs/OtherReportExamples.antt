@@ -1,7 +1,9 @@
 -- Reports that aren't those of a source. Which slip an example would catch stands beside it.
 use Rattle.std.proofs.Common.{◌≡◌, ℕ, List, [], ◌∷◌, ap, subst, sym, arith}
 use Rattle.std.specs.Prelude.{codes}
-use Rattle.lra_findings.specs.Report.{poly, box, Options, Part}
+use Rattle.lra_base.specs.declared.options.Domain.TheVariants.{Poly, Box}
+use Rattle.lra_base.specs.declared.options.Options.{Options}
+use Rattle.lra_findings.specs.Report.{Part}
 use Rattle.lra_findings.specs.Parts.{Tells}
 use Rattle.lra_tree.specs.Grammar.{Spells}
 use Rattle.lra_report.specs.Listing.{AreParts, IsReportOf}
@@ -9,13 +11,13 @@ use Rattle.lra_findings.proofs.ReportTextExamples.{defaults, both, a_point, empt
 use Rattle.lra_findings.proofs.PartExamples.{box_with_generator}
 
 -- a report under other options, one with more parts than it may have, and generators over boxes
-apart : defaults box ≡ defaults poly → ⊥
-apart e = let d : box ≡ poly = ap (λ (o : Options). o.domain) e in cc
+apart : defaults Box ≡ defaults Poly → ⊥
+apart e = let d : Box ≡ Poly = ap (λ (o : Options). o.domain) e in cc
 
-other_options : (source : List ℕ) → IsReportOf Spells (defaults poly) source one_variable → ⊥
+other_options : (source : List ℕ) → IsReportOf Spells (defaults Poly) source one_variable → ⊥
 other_options source h = apart h.options
 
-one_part_more : (p q : Part) → AreParts (defaults box) (record {
+one_part_more : (p q : Part) → AreParts (defaults Box) (record {
   number = 1;
   point = record { path = []; label = 1 };
   path = codes "main";
@@ -26,5 +28,5 @@ one_part_more : (p q : Part) → AreParts (defaults box) (record {
 one_part_more p q h = omega (arith, h.few)
 
 -- so this is the report of no source, under no options
-generators_over_boxes : (o : Options) (source : List ℕ) → IsReportOf Spells o source (record empty_main { options = defaults box }) → ⊥
+generators_over_boxes : (o : Options) (source : List ℕ) → IsReportOf Spells o source (record empty_main { options = defaults Box }) → ⊥
 generators_over_boxes o source h = box_with_generator (subst (λ (p : Options). Tells p.domain 0 (both [] (a_point 1 [] ∷ []))) (sym h.options) h.parts.0.tell.0)

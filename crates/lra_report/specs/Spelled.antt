@@ -12,10 +12,11 @@ use Rattle.lra_program.specs.Sites.{sites_of}
 use Rattle.lra_tree.specs.Grammar.{Spells}
 use Rattle.lra_tree.specs.Faults.{Language}
 use Rattle.lra_meaning.specs.Refuse.{Accepts}
+use Rattle.lra_base.specs.declared.options.Options.{Options}
+use Rattle.lra_findings.specs.Report.{GeneratorKind, point, ray, line, Generator, Part, PointReport, Report}
 use Rattle.lra_linear.specs.declared.ConKind.{ConKind}
 use Rattle.lra_linear.specs.declared.ConKind.TheVariants.{Ge, Eq}
 use Rattle.lra_program.specs.Rows.{Row}
-use Rattle.lra_findings.specs.Report.{GeneratorKind, point, ray, line, Generator, Part, Options, PointReport, Report}
 use Rattle.lra_findings.specs.ReportText.{is_turned, report_text}
 use Rattle.lra_findings.specs.Parts.{DividesAs}
 use Rattle.lra_report.specs.Listing.{Lists, HasWidth, IsReportOf}

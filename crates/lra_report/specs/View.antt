@@ -6,28 +6,11 @@ use Rattle.lra_program.specs.Run as run
 use Rattle.lra_findings.specs.Report as report
 use Rattle.lra_findings.specs.ReportText.{place_text}
 use Rattle.lra_findings.specs.ReportText as written
-use Rattle.lra_report.specs.declared.report.Domain.{Domain}
-use Rattle.lra_report.specs.declared.report.Domain.TheVariants.{Poly, Box, Oct}
-use Rattle.lra_report.specs.declared.report.Options.{Options}
 use Rattle.lra_report.specs.declared.report.Point.{Point}
 use Rattle.lra_report.specs.declared.report.PointReport.{PointReport}
 use Rattle.lra_report.specs.declared.report.Verdict.{Verdict}
 use Rattle.lra_report.specs.declared.report.Report.{Report}
 use Rattle.lra_report.specs.declared.path.CallPlace.{CallPlace}
-
-abbrev pub domain_of : Domain → report.Domain
-domain_of Poly = report.poly
-domain_of Box = report.box
-domain_of Oct = report.oct
-
-abbrev pub options_of : Options → report.Options
-options_of o = record {
-  domain = domain_of o.domain;
-  parts = o.parts;
-  delay = o.delay;
-  narrow = o.narrow;
-  limited = o.limited;
-}
 
 abbrev pub point_of : Point → run.Point
 point_of p = record { path = p.path.items; label = p.label }
@@ -53,7 +36,7 @@ verdict_of v = record {
 
 abbrev pub report_of : Report → report.Report
 report_of r = record {
-  options = options_of r.options;
+  options = r.options;
   flagged = r.flagged;
   points = map point_report_of r.points.items;
   verdicts = map verdict_of r.verdicts.items;

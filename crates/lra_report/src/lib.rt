@@ -12,7 +12,7 @@ mod writing;
 pub use law::one_text;
 pub use part::Part;
 pub use path::{CallPlace, path_text};
-pub use report::{Domain, Options, Point, PointReport, Report, Verdict};
+pub use report::{Point, PointReport, Report, Verdict};
 pub use writing::{push_generators, push_rows, text};
 
 #[cfg(test)]

@@ -3,26 +3,8 @@
 ghost use Rattle.std.specs.Prelude.{◌≡◌, count_by, not};
 
 use crate::part::Part;
-use lra_base::Place;
+use lra_base::{Options, Place};
 use lra_show::Names;
-
-/// Which domain the analysis ran over: closed polyhedra, boxes, octagons.
-#[derive(Clone, Copy, Debug, PartialEq, Eq)]
-pub enum Domain {
-    Poly,
-    Box,
-    Oct,
-}
-
-/// Under which options it ran.
-#[derive(Clone, Copy, Debug, PartialEq, Eq)]
-pub struct Options {
-    pub domain: Domain,
-    pub parts: u32,
-    pub delay: u32,
-    pub narrow: u32,
-    pub limited: bool,
-}
 
 /// A point of the program: its statement's label, and the labels of the calls that lead to it, the innermost first.
 pub struct Point {
@@ -81,7 +63,7 @@ impl Drop for Verdict {
     }
 }
 
-/// A report. `flagged` is the number of the point to which the first flagged operation belongs.
+/// A report, under which options it was made. `flagged` is the number of the point to which the first flagged operation belongs.
 pub struct Report {
     pub options: Options,
     pub flagged: Option<u32>,

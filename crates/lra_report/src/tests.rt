@@ -1,7 +1,7 @@
 //! Worked reports.
 
 use super::*;
-use lra_base::Place;
+use lra_base::{Domain, Options, Place};
 use lra_row::Row;
 use lra_show::{Names, names_at};
 use lra_sys::{ConKind, ConSys, GenKind, GenSys};

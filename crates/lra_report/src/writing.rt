@@ -6,12 +6,12 @@ ghost use Rattle.lra_sys.specs.Listed.{FitsKind, FitKinds};
 ghost use Rattle.lra_show.specs.Shown.{report_row, report_generator};
 ghost use Rattle.lra_findings.specs.ReportText as written;
 ghost use Rattle.lra_report.specs.Rows.{shown_rows, shown_generators};
-ghost use Rattle.lra_report.specs.View.{domain_of, options_of, point_report_of, verdict_of, report_of, heading_text};
+ghost use Rattle.lra_report.specs.View.{point_report_of, verdict_of, report_of, heading_text};
 ghost use Rattle.lra_report.specs.Lines.{row_line, generator_line, counts_line};
 
 use crate::part::Part;
-use crate::report::{Domain, Options, PointReport, Report, Verdict};
-use lra_base::Place;
+use crate::report::{PointReport, Report, Verdict};
+use lra_base::{Options, Place};
 use lra_row::Row;
 use lra_show::{Names, generator_text, row_text};
 use lra_sys::{ConKind, ConSys, GenKind, GenSys};
@@ -229,21 +229,11 @@ fn push_verdicts(text: &mut String, verdicts: &[Verdict]) -> Result<(), AllocErr
     Ok(())
 }
 
-fn domain_text(domain: Domain) -> &'static str
-    ensures { result.now ≡ written.domain_text (domain_of domain) }
-{
-    match domain {
-        Domain::Poly => "poly",
-        Domain::Box => "box",
-        Domain::Oct => "oct",
-    }
-}
-
 /// Appends the line of the options.
 fn push_options(text: &mut String, options: Options) -> Result<(), AllocError>
-    ensures { OnOk result (string_bytes text.new ≡ string_bytes text.old ++ written.options_text (options_of options)) }
+    ensures { OnOk result (string_bytes text.new ≡ string_bytes text.old ++ written.options_text options) }
 {
-    let domain = domain_text(options.domain);
+    let domain = options.domain.name();
     let parts = options.parts;
     let delay = options.delay;
     let narrow = options.narrow;

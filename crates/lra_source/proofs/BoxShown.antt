@@ -23,8 +23,9 @@ use Rattle.lra_box.specs.Tables.{has_bounds}
 use Rattle.lra_box.specs.Parts.{bound_row, is_single, low_rows, high_rows, equal_rows, unequal_rows, box_rows, box_system, box_parts}
 use Rattle.lra_box.specs.Meaning.{box_meaning}
 use Rattle.lra_box.proofs.PartLemmas.{parts_mean}
+use Rattle.lra_base.specs.declared.options.Domain.TheVariants.{Box}
+use Rattle.lra_findings.specs.Report.{Part, State, Holds}
 use Rattle.lra_program.specs.Rows.{RowHolds, Row}
-use Rattle.lra_findings.specs.Report.{box, Part, State, Holds}
 use Rattle.lra_findings.specs.ReportText.{is_turned}
 use Rattle.lra_findings.specs.Parts.{Tells}
 use Rattle.lra_report.specs.Listing.{HasWidth}
@@ -118,11 +119,11 @@ parts_wide n (Some is) =
     let rows = both_wide n (equal_rows n 0 is) (unequal_rows n 0 is) (equal_wide n 0 is) (unequal_wide n 0 is) in
     ((shown_wide n (box_rows n is) (box_system n is).kinds rows, tt), tt)
 
-no_generators : (n : ℕ) (ps : List (Listed ConKind)) → AllByRecursion (Tells box n) (map shown_part ps)
+no_generators : (n : ℕ) (ps : List (Listed ConKind)) → AllByRecursion (Tells Box n) (map shown_part ps)
 no_generators n [] = tt
 no_generators n (p ∷ ps) = (refl, no_generators n ps)
 
-pub boxes_are_shown : (v : Content) → IsShown box_meaning box v (shown_state box_meaning v)
+pub boxes_are_shown : (v : Content) → IsShown box_meaning Box v (shown_state box_meaning v)
 boxes_are_shown v = record {
   as_many = length-map (box_meaning.parts v) shown_part;
   wide = parts_wide v.dims v.bounds;

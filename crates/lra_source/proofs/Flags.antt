@@ -8,7 +8,7 @@ use Rattle.lra_operations.specs.Graph.{Exit, broken, continued, returned, Node, 
 use Rattle.lra_program.specs.Sites.{Site, sites_of}
 use Rattle.lra_operations.specs.Inlined.{Frame, HasSite, Inl, InlAll, Declares, Loops, Gives, as_nothing, as_block, as_absent, as_assign, as_call, as_if, as_loop, as_for, as_break, as_continue, as_return, as_return_value, as_return_call, as_end, as_end_value, as_end_call, as_assert, as_assume, as_none, as_declaration, as_statement, as_fresh, as_given, is_loop, as_value, as_result}
 use Rattle.lra_operations.specs.Agree.{IsGraph}
-use Rattle.lra_flow.specs.declared.Settings.{Settings}
+use Rattle.lra_base.specs.declared.options.Options.{Options}
 use Rattle.lra_flow.specs.Operations.{Operations}
 use Rattle.lra_flow.specs.Pass.{Result, noted, jumps, behind, Through, GoesRound, Grows, Narrows, Pass}
 use Rattle.lra_flow.specs.Analysis.{Iteration}
@@ -106,7 +106,7 @@ module _ (V H : Type 0) (ops : Operations V H) (n : ℕ) where
     narrows_below (suc more) first u s v r (next, t, e, joined, turn, rest) b =
         narrows_below more first next t v r rest (round_below (noted q e s.flag) next t turn (noted_below n q e s.flag l b))
 
-  pub pass_below : (set : Settings) (g : Node) (f : Option ℕ) (v : V) (r : Result V) → Pass V H ops set g f v r → AreBelow n g → IsBelow n f → IsBelow n r.flag
+  pub pass_below : (set : Options) (g : Node) (f : Option ℕ) (v : V) (r : Result V) → Pass V H ops set g f v r → AreBelow n g → IsBelow n f → IsBelow n r.flag
   pass_below set empty f v r is a b = result_is r _ is b
   pass_below set (point q) f v r is a b = result_is r _ is b
   pass_below set (act q op) f v r (w, e, done, is) a b = result_is r _ is (noted_below n q e f a b)
@@ -124,5 +124,5 @@ module _ (V H : Type 0) (ops : Operations V H) (n : ℕ) where
       result_is r _ is (flag_is _ (noted q e s.flag) (behind_flag j s w (noted q e s.flag)) (noted_below n q e s.flag a.0 (pass_below set x f v s one a.1 b)))
   pass_below set (leave m j) f v r (w, nothing, is) a b = result_is r _ is (flag_is _ f (jump_flag j v w f) b)
 
-  pub iteration_below : (set : Settings) (P : Program) (g : Node) (r : Result V) → 0 < n → AreBelow n g → Iteration ops set P g r → IsBelow n r.flag
+  pub iteration_below : (set : Options) (P : Program) (g : Node) (r : Result V) → 0 < n → AreBelow n g → Iteration ops set P g r → IsBelow n r.flag
   iteration_below set P g r low below (none, first, e, universal, values, pass) = pass_below set g (noted 0 e None) first r pass below (noted_below n 0 e None low tt)

@@ -12,9 +12,10 @@ use Rattle.lra_program.specs.Program.{Program}
 use Rattle.lra_operations.specs.Graph.{Node}
 use Rattle.lra_program.specs.Sites.{Site, sites_of}
 use Rattle.lra_operations.specs.Agree.{IsGraph}
-use Rattle.lra_findings.specs.Report.{Domain, State}
+use Rattle.lra_base.specs.declared.options.Domain.{Domain}
+use Rattle.lra_findings.specs.Report.{State}
 use Rattle.lra_report.specs.Listing.{HasWidth}
-use Rattle.lra_flow.specs.declared.Settings.{Settings}
+use Rattle.lra_base.specs.declared.options.Options.{Options}
 use Rattle.lra_flow.specs.Operations.{dropping}
 use Rattle.lra_flow.specs.Pass.{Result}
 use Rattle.lra_flow.specs.Analysis.{Derivation, Solves}
@@ -63,7 +64,7 @@ asserts_counted false h = absurd (let no : false ≡ true = h in cc)
 
 -- what is handed over ------------------------------------------------------------------------------------------------
 
-module _ {V H : Type 0} (m : Meaning V H) (settings : Settings) (P : Program) (g : Node) (r : Result V) (values : List V) (verdicts : List (ℕ × Bool)) (flagged : Option ℕ)
+module _ {V H : Type 0} (m : Meaning V H) (settings : Options) (P : Program) (g : Node) (r : Result V) (values : List V) (verdicts : List (ℕ × Bool)) (flagged : Option ℕ)
     (graph : IsGraph P g) (derived : Derivation m settings P g r) (solves : Solves m r values verdicts flagged) where
   counts : (q : ℕ) → Found q r.entries (values_in g q) (checks_in g q)
   counts q = iteration_found V H (dropping m) q settings P g r derived

@@ -9,19 +9,19 @@ use Rattle.lra_operations.specs.Graph.{Node}
 use Rattle.lra_tree.specs.Labels.{Labelled, labels_of}
 use Rattle.lra_program.specs.Sites.{Site, Event, comes, one_call_more, events_of, sites_in, sites_of}
 use Rattle.lra_meaning.specs.Resolve.{resolve}
-use Rattle.lra_findings.specs.Report.{Domain, Options, State, Report}
+use Rattle.lra_base.specs.declared.options.Domain.{Domain}
+use Rattle.lra_base.specs.declared.options.Options.{Options}
+use Rattle.lra_findings.specs.Report.{State, Report}
 use Rattle.lra_report.specs.Listing.{Lists}
 use Rattle.lra_meaning.specs.Refuse.{greatest_live, greatest_points, limit_fault}
 use Rattle.lra_domain.specs.Meaning.{Meaning}
 use Rattle.lra_domain.specs.Laws.{Laws}
-use Rattle.lra_flow.specs.declared.Settings.{Settings}
 use Rattle.lra_iter.specs.Fits.{TreeFits}
 use Rattle.lra_iter.specs.Numbers.{IsNumbered}
 use Rattle.lra_iter.specs.Solved.{IsSolved}
 use Rattle.lra_listing.specs.Given.{AreStates, AreVerdicts, state_of, told_of, told}
 use Rattle.lra_report.specs.Spelled.{IsSpelledPart}
 use Rattle.lra_source.specs.Shown.{AreShown, AreCapped}
-use Rattle.lra_source.specs.Answers.{settings_of}
 use Rattle.lra_source.specs.Stages.{HasGraph, IsToldOf}
 use Rattle.lra_source.proofs.Fitting.{tree_fits, few_globals}
 use Rattle.lra_source.proofs.Numbering.{numbered}
@@ -70,7 +70,7 @@ few_points t g sites has =
 
 -- what the listing asks ----------------------------------------------------------------------------------------------
 
-module _ {V H : Type 0} (m : Meaning V H) (t : FileTree) (g : Node) (sites : List Site) (has : HasGraph t g sites) (settings : Settings)
+module _ {V H : Type 0} (m : Meaning V H) (t : FileTree) (g : Node) (sites : List Site) (has : HasGraph t g sites) (settings : Options)
     (values : List V) (verdicts : List (ℕ × Bool)) (flagged : Option ℕ) (solved : IsSolved m settings (resolve t) g values verdicts flagged) where
   pub states_handed : Laws m → (domain : Domain) (shown : V → State) → AreShown m domain shown values → (states : List State) → states ≡ map shown values → AreStates (sites_of (resolve t)) states
   states_handed laws domain shown are states is = record {
@@ -93,7 +93,7 @@ module _ {V H : Type 0} (m : Meaning V H) (t : FileTree) (g : Node) (sites : Lis
 
 pub is_told : {V H : Type 0} (m : Meaning V H) (shown : V → State) (domain : Domain) (o : Options) (t : FileTree) (g : Node) (sites : List Site)
     (values : List V) (verdicts : List (ℕ × Bool)) (flagged : Option ℕ) (states : List State) (r : Report)
-    → HasGraph t g sites → IsSolved m (settings_of o) (resolve t) g values verdicts flagged → states ≡ map shown values → AreShown m domain shown values → AreCapped m o.parts values
+    → HasGraph t g sites → IsSolved m o (resolve t) g values verdicts flagged → states ≡ map shown values → AreShown m domain shown values → AreCapped m o.parts values
     → AllByRecursion (AllByRecursion IsSpelledPart) states → r.options ≡ o → Lists t r → map state_of r.points ≡ states
     → map told_of r.verdicts ≡ map told verdicts → r.flagged ≡ option_map suc flagged → IsToldOf m shown domain o t r
 is_told m shown domain o t g sites values verdicts flagged states r has solved are are_shown are_capped spelled options lists same judged flag = record {
@@ -125,7 +125,7 @@ is_told m shown domain o t g sites values verdicts flagged states r has solved a
   where
     low : (q : ℕ) → flagged ≡ Some q → q < 2048
     low q is =
-        let there = flag_handed m t g sites has (settings_of o) values verdicts flagged solved q is in
+        let there = flag_handed m t g sites has o values verdicts flagged solved q is in
         let few = few_points t g sites has in
         let same : length sites ≡ length (sites_of (resolve t)) = ap length has.points in
         omega (arith, there, few, same)

@@ -11,13 +11,14 @@ use Rattle.lra_meaning.specs.Resolve.{resolve}
 use Rattle.lra_program.specs.Sites.{Site, sites_of}
 use Rattle.lra_operations.specs.Agree.{IsGraph, point_of, Agrees}
 use Rattle.lra_tree.specs.Labels.{Labelled, labels_of}
-use Rattle.lra_findings.specs.Report.{Domain, Options, State, Holds, PointReport, Verdict, Report, IsInvariant, IsRight, IsSound}
+use Rattle.lra_base.specs.declared.options.Domain.{Domain}
+use Rattle.lra_base.specs.declared.options.Options.{Options}
+use Rattle.lra_findings.specs.Report.{State, Holds, PointReport, Verdict, Report, IsInvariant, IsRight, IsSound}
 use Rattle.lra_findings.specs.Parts.{Tells}
 use Rattle.lra_meaning.specs.Refuse.{Accepts}
 use Rattle.lra_report.specs.Listing.{AreListed, Lists, IsFlag, AreParts, IsReportOf}
 use Rattle.lra_program.specs.Assertions.{assertions_from}
 use Rattle.lra_meaning.specs.LiveNames.{globals_named}
-use Rattle.lra_flow.specs.declared.Settings.{Settings}
 use Rattle.lra_flow.specs.Operations.{dropping}
 use Rattle.lra_domain.specs.Meaning.{Meaning}
 use Rattle.lra_domain.specs.Laws.{Laws}
@@ -60,7 +61,7 @@ listed_length o ls n (s ∷ ss) (p ∷ ps) l = ap suc (listed_length o ls (suc n
 
 -- reports ------------------------------------------------------------------------------------------------------------
 
-module _ {V H : Type 0} (m : Meaning V H) (laws : Laws m) (domain : Domain) (shown : V → State) (settings : Settings) (t : FileTree) (r : Report) (lists : Lists t r)
+module _ {V H : Type 0} (m : Meaning V H) (laws : Laws m) (domain : Domain) (shown : V → State) (settings : Options) (t : FileTree) (r : Report) (lists : Lists t r)
     (x : IsAnalysed m shown settings (resolve t) r) (are : AreShown m domain shown x.values) (agrees : Agrees (resolve t) x.tree) where
   -- the value at a listed point, by whose state it is shown
   value_of : (k : ℕ) (p : PointReport) → slice_get r.points k ≡ Some p → (v : V) × (slice_get x.values k ≡ Some v) × (p.state ≡ shown v)
@@ -141,7 +142,7 @@ module _ {V H : Type 0} (m : Meaning V H) (laws : Laws m) (domain : Domain) (sho
 -- analyses -----------------------------------------------------------------------------------------------------------
 
 -- a derivation with drops whose values, verdicts and flag a report tells
-pub analysed : {V H : Type 0} (m : Meaning V H) → Laws m → (shown : V → State) (settings : Settings) (P : Program) (r : Report) (tree : Node) (result : Result V) (values : List V)
+pub analysed : {V H : Type 0} (m : Meaning V H) → Laws m → (shown : V → State) (settings : Options) (P : Program) (r : Report) (tree : Node) (result : Result V) (values : List V)
     (verdicts : List (ℕ × Bool)) (flagged : Option ℕ)
     → IsGraph P tree → Derivation m settings P tree result → Solves m result values verdicts flagged
     → map (λ (p : PointReport). p.state) r.points ≡ map shown values → map verdict_told r.verdicts ≡ map told_verdict verdicts → r.flagged ≡ option_map suc flagged

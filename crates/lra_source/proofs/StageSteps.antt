@@ -17,7 +17,10 @@ use Rattle.lra_meaning.specs.NameFaults.{name_faults}
 use Rattle.lra_operations.specs.Agree.{IsGraph, Agrees}
 use Rattle.lra_program.specs.WellFormed.{IsWellFormed}
 use Rattle.lra_tree.specs.Grammar.{Spells}
-use Rattle.lra_findings.specs.Report.{Domain, box, Options, State, Report}
+use Rattle.lra_base.specs.declared.options.Domain.{Domain}
+use Rattle.lra_base.specs.declared.options.Domain.TheVariants.{Box}
+use Rattle.lra_base.specs.declared.options.Options.{Options}
+use Rattle.lra_findings.specs.Report.{State, Report}
 use Rattle.lra_meaning.specs.Refuse.{limit_fault, RefusesTree, bad_name, recursive, past_limit, Refuse, Accepts}
 use Rattle.lra_report.specs.declared.report.Report as code
 use Rattle.lra_report.specs.View.{report_of}
@@ -36,7 +39,7 @@ use Rattle.lra_domain.specs.Laws.{Laws}
 use Rattle.lra_box.specs.Meaning.{box_meaning}
 use Rattle.lra_box.specs.Laws.{box_laws}
 use Rattle.lra_source.specs.Shown.{shown_state}
-use Rattle.lra_source.specs.Answers.{settings_of, IsAnsweredOver, IsAnswered, IfRefused}
+use Rattle.lra_source.specs.Answers.{IsAnsweredOver, IsAnswered, IfRefused}
 use Rattle.lra_source.specs.Stages.{HasTree, HasGraph, IsToldOf, IsBoxToldOf}
 use Rattle.lra_source.proofs.Reports.{sound, is_report}
 use Rattle.lra_source.proofs.ReadSteps.{tree_refused}
@@ -116,7 +119,7 @@ module _ {V H : Type 0} (m : Meaning V H) (laws : Laws m) (shown : V → State) 
   -- a source whose tree's report is told
   pub is_answered : o.domain ≡ domain → IsAnsweredOver m shown domain o source r
   is_answered same =
-      let whole = is_report m laws domain shown (settings_of o) t r is.lists is.analysed is.are_shown is.agrees o source same is.are_capped is.options accepted in
+      let whole = is_report m laws domain shown o t r is.lists is.analysed is.are_shown is.agrees o source same is.are_capped is.options accepted in
       record {
         domain_is = same;
         report = record {
@@ -125,7 +128,7 @@ module _ {V H : Type 0} (m : Meaning V H) (laws : Laws m) (shown : V → State) 
           accepted = accepted;
           lists = is.lists;
           parts = whole.parts;
-          sound = sound m laws domain shown (settings_of o) t r is.lists is.analysed is.are_shown is.agrees;
+          sound = sound m laws domain shown o t r is.lists is.analysed is.are_shown is.agrees;
           flag = whole.flag;
         };
         analysed = is.analysed;
@@ -134,8 +137,8 @@ module _ {V H : Type 0} (m : Meaning V H) (laws : Laws m) (shown : V → State) 
 
 -- and so with what a tree's answer is, whichever it is
 module _ (o : Options) (source : List ℕ) (t : FileTree) (has : HasTree source t) where
-  pub each_answered : (x : Result code.Report SourceError) → o.domain ≡ box → IfOk x (λ r. IsBoxToldOf o t (report_of r)) → IfOk x (λ r. IsAnswered o source (report_of r))
-  each_answered (Ok r) domain is = is_answered box_meaning box_laws (shown_state box_meaning) box o source t (report_of r) has is domain
+  pub each_answered : (x : Result code.Report SourceError) → o.domain ≡ Box → IfOk x (λ r. IsBoxToldOf o t (report_of r)) → IfOk x (λ r. IsAnswered o source (report_of r))
+  each_answered (Ok r) domain is = is_answered box_meaning box_laws (shown_state box_meaning) Box o source t (report_of r) has is domain
   each_answered (Err e) domain is = tt
 
   pub each_refused : (x : Result code.Report SourceError) → IfRefused x (λ (r : Refusal). RefusesTree t r.cause r.place) → IfRefused x (λ (r : Refusal). Refuse Spells source r.cause r.place)

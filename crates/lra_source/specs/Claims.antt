@@ -5,7 +5,10 @@ use Rattle.lra_base.specs.declared.refusals.Place.{Place}
 use Rattle.lra_tree.specs.Trees.{FileTree}
 use Rattle.lra_program.specs.Program.{Program}
 use Rattle.lra_operations.specs.Graph.{Node}
-use Rattle.lra_findings.specs.Report.{Domain, box, Options, State, Report, IsSound}
+use Rattle.lra_base.specs.declared.options.Domain.{Domain}
+use Rattle.lra_base.specs.declared.options.Domain.TheVariants.{Box}
+use Rattle.lra_base.specs.declared.options.Options.{Options}
+use Rattle.lra_findings.specs.Report.{State, Report, IsSound}
 use Rattle.lra_findings.specs.ReportText.{report_text}
 use Rattle.lra_meaning.specs.Resolve.{resolve}
 use Rattle.lra_program.specs.Sites.{Site, sites_of}
@@ -14,7 +17,6 @@ use Rattle.lra_program.specs.WellFormed.{IsWellFormed}
 use Rattle.lra_tree.specs.Grammar.{Spells}
 use Rattle.lra_meaning.specs.Refuse.{greatest_live, Refuse, Accepts}
 use Rattle.lra_report.specs.Listing.{Lists, IsReportOf}
-use Rattle.lra_flow.specs.declared.Settings.{Settings}
 use Rattle.lra_iter.specs.Fits.{TreeFits}
 use Rattle.lra_iter.specs.Numbers.{AreBelow, IsNumbered}
 use Rattle.lra_domain.specs.Meaning.{Meaning}
@@ -56,13 +58,13 @@ TreesAreNumbered = (P : Program) (g : Node) → IsGraph P g → IsNumbered (site
 -- where tree and runs agree, and values are shown as they are: the states hold in all runs, and no assertion that is
 -- marked proved fails
 abbrev pub AnalysedAreSound : {V H : Type 0} → Meaning V H → Type 0
-AnalysedAreSound {V} m = (domain : Domain) (shown : V → State) (settings : Settings) (t : FileTree) (r : Report)
+AnalysedAreSound {V} m = (domain : Domain) (shown : V → State) (settings : Options) (t : FileTree) (r : Report)
     → (x : IsAnalysed m shown settings (resolve t) r) → AreShown m domain shown x.values
     → Agrees (resolve t) x.tree → Lists t r → IsSound (resolve t) r
 
 -- and of an accepted source it is a report, where no value has more parts than the options say
 abbrev pub AnalysedAreReports : {V H : Type 0} → Meaning V H → Type 0
-AnalysedAreReports {V} m = (shown : V → State) (o : Options) (settings : Settings) (source : List ℕ) (t : FileTree)
+AnalysedAreReports {V} m = (shown : V → State) (o : Options) (settings : Options) (source : List ℕ) (t : FileTree)
     (r : Report)
     → (x : IsAnalysed m shown settings (resolve t) r)
     → AreShown m o.domain shown x.values → AreCapped m o.parts x.values
@@ -70,7 +72,7 @@ AnalysedAreReports {V} m = (shown : V → State) (o : Options) (settings : Setti
 
 -- each box is shown by its rows
 abbrev pub BoxesAreShown : Type 0
-BoxesAreShown = (v : Content) → IsShown box_meaning box v (shown_state box_meaning v)
+BoxesAreShown = (v : Content) → IsShown box_meaning Box v (shown_state box_meaning v)
 
 -- two answers to one source under one list of options that have the same text are the same report
 abbrev pub OneAnsweredText : Type 0

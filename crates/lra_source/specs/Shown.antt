@@ -5,7 +5,8 @@ use Rattle.lra_sys.specs.Listed.{Listed}
 use Rattle.lra_linear.specs.declared.ConKind.{ConKind}
 use Rattle.lra_report.specs.Rows.{shown_rows}
 use Rattle.lra_domain.specs.Meaning.{Meaning}
-use Rattle.lra_findings.specs.Report.{Domain, Part, State, Holds}
+use Rattle.lra_base.specs.declared.options.Domain.{Domain}
+use Rattle.lra_findings.specs.Report.{Part, State, Holds}
 use Rattle.lra_findings.specs.Parts.{Tells}
 use Rattle.lra_report.specs.Listing.{HasWidth}
 

@@ -12,7 +12,10 @@ use Rattle.lra_operations.specs.Graph.{Node}
 use Rattle.lra_program.specs.Sites.{Site, events_of, sites_of}
 use Rattle.lra_operations.specs.Agree.{IsGraph, Agrees}
 use Rattle.lra_program.specs.WellFormed.{IsWellFormed}
-use Rattle.lra_findings.specs.Report.{Domain, box, Options, State, Report}
+use Rattle.lra_base.specs.declared.options.Domain.{Domain}
+use Rattle.lra_base.specs.declared.options.Domain.TheVariants.{Box}
+use Rattle.lra_base.specs.declared.options.Options.{Options}
+use Rattle.lra_findings.specs.Report.{State, Report}
 use Rattle.lra_report.specs.Listing.{Lists}
 use Rattle.lra_meaning.specs.Refuse.{limit_fault}
 use Rattle.lra_tree.specs.Reach.{NotRecursive}
@@ -22,7 +25,6 @@ use Rattle.lra_box.specs.Meaning.{box_meaning}
 use Rattle.lra_source.specs.Shown.{AreShown, AreCapped, shown_state}
 use Rattle.lra_source.specs.Analysed.{IsAnalysed}
 use Rattle.lra_source.specs.Claims.{AreFew}
-use Rattle.lra_source.specs.Answers.{settings_of}
 
 -- a source that isn't too long, and its tree
 pub record HasTree (source : List ℕ) (t : FileTree) : Type 0 where
@@ -52,7 +54,7 @@ pub record IsToldOf {V H : Type 0} (m : Meaning V H) (shown : V → State) (doma
   pub within : limit_fault (labels_of t) 0 (events_of (resolve t)) ≡ None
   pub options : r.options ≡ o
   pub lists : Lists t r
-  pub analysed : IsAnalysed m shown (settings_of o) (resolve t) r
+  pub analysed : IsAnalysed m shown o (resolve t) r
   pub are_shown : AreShown m domain shown analysed.values
   pub are_capped : AreCapped m o.parts analysed.values
   pub agrees : Agrees (resolve t) analysed.tree
@@ -60,4 +62,4 @@ pub record IsToldOf {V H : Type 0} (m : Meaning V H) (shown : V → State) (doma
 
 -- over boxes, of which the rows are shown
 abbrev pub IsBoxToldOf : Options → FileTree → Report → Type 0
-IsBoxToldOf = IsToldOf box_meaning (shown_state box_meaning) box
+IsBoxToldOf = IsToldOf box_meaning (shown_state box_meaning) Box

@@ -8,8 +8,8 @@ ghost use Rattle.lra_meaning.specs.Resolve.{resolve};
 ghost use Rattle.lra_program.specs.WellFormed.{IsWellFormed};
 ghost use Rattle.lra_tree.specs.Grammar.{Spells};
 ghost use Rattle.lra_meaning.specs.Refuse.{RefusesTree, Refuse};
-ghost use Rattle.lra_report.specs.View.{options_of, report_of};
-ghost use Rattle.lra_report.specs.declared.report.Domain.TheVariants.{Box};
+ghost use Rattle.lra_report.specs.View.{report_of};
+ghost use Rattle.lra_base.specs.declared.options.Domain.TheVariants.{Box};
 ghost use Rattle.lra_source.specs.Answers.{IsAnswered, IfRefused};
 ghost use Rattle.lra_source.specs.Stages.{HasGraph, IsBoxToldOf};
 
@@ -17,12 +17,12 @@ use crate::error::SourceError;
 use crate::program::{check_calls, graph_of, program_of};
 use crate::reading::read_tree;
 use crate::states::states_of;
+use lra_base::Options;
 use lra_box::Boxes;
-use lra_flow::Settings;
 use lra_iter::analyse;
 use lra_listing::list;
 use lra_operations::Graph;
-use lra_report::{Options, Report};
+use lra_report::Report;
 use lra_tree::Tree;
 use std::alloc::{AllocError, Global};
 
@@ -37,15 +37,9 @@ fn report_graph(
     requires parts { 1 ≤ options.parts }
     requires graph { HasGraph (tree_view tree.now) (node_view graph.now.tree) (map site_view graph.now.sites.items) }
     requires globals { (resolve (tree_view tree.now)).globals ≡ globals.now }
-    ensures { IfOk result (λ r. IsBoxToldOf (options_of options) (tree_view tree.now) (report_of r)) }
+    ensures { IfOk result (λ r. IsBoxToldOf options (tree_view tree.now) (report_of r)) }
 {
-    let settings = Settings {
-        parts: options.parts,
-        delay: options.delay,
-        narrow: options.narrow,
-        limited: options.limited,
-    };
-    let solution = analyse::<Boxes>(alloc, &settings, globals, graph)?;
+    let solution = analyse::<Boxes>(alloc, &options, globals, graph)?;
     let states = states_of(alloc, &solution.values)?;
     let sites = graph.sites.as_slice();
     let report = list(
@@ -65,7 +59,7 @@ fn report_graph(
 fn report_tree(alloc: Global, options: Options, tree: &Tree) -> Result<Report, SourceError>
     requires parts { 1 ≤ options.parts }
     requires well { name_faults (tree_view tree.now) ≡ [] → IsWellFormed (resolve (tree_view tree.now)) }
-    ensures told { IfOk result (λ r. IsBoxToldOf (options_of options) (tree_view tree.now) (report_of r)) }
+    ensures told { IfOk result (λ r. IsBoxToldOf options (tree_view tree.now) (report_of r)) }
     ensures refused { IfRefused result (λ r. RefusesTree (tree_view tree.now) r.cause r.place) }
 {
     let program = program_of(alloc, tree)?;
@@ -80,7 +74,7 @@ pub fn analyse_source(alloc: Global, options: Options, bytes: &[u8]) -> Result<R
     requires domain { options.domain ≡ Box }
     requires parts { 1 ≤ options.parts }
     requires bound { length bytes.now + 1 < 2 ^ 32 }
-    ensures answered { IfOk result (λ r. IsAnswered (options_of options) bytes.now (report_of r)) }
+    ensures answered { IfOk result (λ r. IsAnswered options bytes.now (report_of r)) }
     ensures refused { IfRefused result (λ r. Refuse Spells bytes.now r.cause r.place) }
 {
     let tree = read_tree(alloc, bytes)?;

@@ -7,7 +7,8 @@ use Rattle.lra_base.specs.declared.refusals.Cause.TheVariants.{TooLong}
 use Rattle.lra_base.specs.declared.refusals.Place.{Place}
 use Rattle.lra_tree.specs.Trees.{FileTree}
 use Rattle.lra_tree.specs.Tokens.{place_behind, greatest_length}
-use Rattle.lra_findings.specs.Report.{Options, Report}
+use Rattle.lra_base.specs.declared.options.Options.{Options}
+use Rattle.lra_findings.specs.Report.{Report}
 use Rattle.lra_findings.specs.ReportText.{report_text, unknown_count}
 use Rattle.lra_tree.specs.Grammar.{Spells}
 use Rattle.lra_meaning.specs.Refuse.{Refuse, too_long, bad_token, bad_text, bad_tree, Accepts}

@@ -1,7 +1,8 @@
 -- From what words and their input deserve to what a call of `run` does.
-use Rattle.std.proofs.Common.{◌≡◌, ◌≤◌, ◌<◌, ◌+◌, ℕ, List, [], ◌++◌, length, refl, sym, arith, append-nil, subst}
+use Rattle.std.proofs.Common.{◌≡◌, ◌≤◌, ◌<◌, ◌+◌, ℕ, List, [], ◌++◌, length, refl, sym, arith, append-nil, subst, Bool}
 use Rattle.std.specs.Prelude.{Option, Some, None, Ok, Err}
 use Rattle.std.specs.Io.KnownBytes.{Consumes, IsAtEnd}
+use Rattle.lra_base.specs.declared.options.Options.{Options}
 use Rattle.lra_base.specs.declared.refusals.Cause.{Cause}
 use Rattle.lra_base.specs.declared.refusals.Place.{Place}
 use Rattle.lra_tree.specs.Trees.{FileTree}
@@ -10,13 +11,12 @@ use Rattle.lra_meaning.specs.Refuse.{Refuse, Accepts}
 use Rattle.lra_edge.specs.ReadEnd.{LosesFront}
 use Rattle.lra_calc.specs.Script as script
 use Rattle.lra_words.specs.Built.{Asks, AsksNone, AsksFor}
-use Rattle.lra_words.specs.declared.chosen.AnalyseOptions.{AnalyseOptions}
 use Rattle.lra_words.specs.declared.chosen.Command.{Command}
 use Rattle.lra_words.specs.declared.chosen.Command.TheVariants.{Analyse, Sample, Calc}
 use Rattle.lra_words.proofs.OneCommand.{one_asked, asks_not_none}
 use Rattle.lra_top.specs.SourceAnswer.{limit, IsTooLong, IsUnrefused}
 use Rattle.lra_top.specs.Ends.{IsAnswer, EndsInUsage, EndsInRefusal, EndsInReport, EndsBySource, EndsInOutput, IsReportOrMemory, IsOutputOrMemory}
-use Rattle.lra_top.specs.Run.{IsInput, options_of, usage_text, AsksSome, DeservesInput, Deserves, IsDeserved}
+use Rattle.lra_top.specs.Run.{IsInput, usage_text, AsksSome, DeservesInput, Deserves, IsDeserved}
 use Rattle.lra_top.specs.Prepared.{IsInputText}
 use Rattle.lra_top.proofs.SourceWays.{longer_source, source_answer, source_refused, source_reported, source_ended, source_unrefused, source_too_long}
 use Rattle.lra_top.proofs.ScriptWays.{longer_script, too_long_answer, script_answer, script_refusal, script_output}
@@ -57,7 +57,7 @@ past_front old new n bytes taken past = (bytes, taken, omega arith)
 -- one byte past the limit says as much as the whole input --------------------------
 
 longer_input : (c : Command) (bytes rest text : List ℕ) (status : Status) → limit < length bytes → DeservesInput c bytes text status → DeservesInput c (bytes ++ rest) text status
-longer_input (Analyse options) bytes rest text status long d = longer_source (options_of options) bytes rest text status long d
+longer_input (Analyse options json) bytes rest text status long d = longer_source options bytes rest text status long d
 longer_input (Sample seed size) bytes rest text status long d = d
 longer_input Calc bytes rest text status long d = longer_script bytes rest text status long d
 
@@ -75,7 +75,7 @@ pub ruleset reading = (whole_text, too_long_input, whole_front, past_front)
 -- words ------------------------------------------------------------------------------
 
 answer_of : (c : Command) (bytes text : List ℕ) (status : Status) → DeservesInput c bytes text status → IsAnswer status
-answer_of (Analyse options) bytes text status d = source_answer (options_of options) bytes text status d
+answer_of (Analyse options json) bytes text status d = source_answer options bytes text status d
 answer_of (Sample seed size) bytes text status d = absurd d
 answer_of Calc bytes text status d = script_answer bytes text status d
 
@@ -132,8 +132,8 @@ usage_of words bytes text WriteFault d none = tt
 usage_of words bytes text Memory d none = tt
 
 too_long_of : (c : Command) (bytes text : List ℕ) (status : Status) → DeservesInput c bytes text status → IsTooLong bytes → EndsInRefusal status
-too_long_of (Analyse options) bytes text status d long =
-    source_too_long (options_of options) bytes text status d long
+too_long_of (Analyse options json) bytes text status d long =
+    source_too_long options bytes text status d long
 too_long_of (Sample seed size) bytes text status d long = absurd d
 too_long_of Calc bytes text status d long = script_refusal bytes text status _ d (too_long_answer bytes long)
 
@@ -165,21 +165,21 @@ pub too_long_status : (words : List (List ℕ)) (left : Option (List ℕ)) (text
     → Asks words c → left ≡ Some told → IsTooLong told → EndsInRefusal status
 too_long_status words left text status told c d asks tells long = too_long_of c told text status (told_input words left text status told c d asks tells) long
 
-pub refused_status : (words : List (List ℕ)) (left : Option (List ℕ)) (text : List ℕ) (status : Status) (told : List ℕ) (options : AnalyseOptions) (cause : Cause) (at : Place)
-    → IsDeserved words left text status → Asks words (Analyse options) → left ≡ Some told → Refuse Spells told cause at → EndsInRefusal status
-refused_status words left text status told options cause at d asks tells refused =
-    source_refused (options_of options) told text status cause at (told_input words left text status told (Analyse options) d asks tells) refused
+pub refused_status : (words : List (List ℕ)) (left : Option (List ℕ)) (text : List ℕ) (status : Status) (told : List ℕ) (options : Options) (json : Bool) (cause : Cause) (at : Place)
+    → IsDeserved words left text status → Asks words (Analyse options json) → left ≡ Some told → Refuse Spells told cause at → EndsInRefusal status
+refused_status words left text status told options json cause at d asks tells refused =
+    source_refused options told text status cause at (told_input words left text status told (Analyse options json) d asks tells) refused
 
-pub accepted_status : (words : List (List ℕ)) (left : Option (List ℕ)) (text : List ℕ) (status : Status) (told : List ℕ) (options : AnalyseOptions) (t : FileTree)
-    → IsDeserved words left text status → Asks words (Analyse options) → left ≡ Some told → Accepts Spells told t → EndsInReport status
-accepted_status words left text status told options t d asks tells accepted =
-    source_reported (options_of options) told text status t (told_input words left text status told (Analyse options) d asks tells) accepted
+pub accepted_status : (words : List (List ℕ)) (left : Option (List ℕ)) (text : List ℕ) (status : Status) (told : List ℕ) (options : Options) (json : Bool) (t : FileTree)
+    → IsDeserved words left text status → Asks words (Analyse options json) → left ≡ Some told → Accepts Spells told t → EndsInReport status
+accepted_status words left text status told options json t d asks tells accepted =
+    source_reported options told text status t (told_input words left text status told (Analyse options json) d asks tells) accepted
 
-pub source_status : (words : List (List ℕ)) (left : Option (List ℕ)) (text : List ℕ) (status : Status) (told : List ℕ) (options : AnalyseOptions)
-    → IsDeserved words left text status → Asks words (Analyse options) → left ≡ Some told → EndsBySource told status
-source_status words left text status told options d asks tells =
-    let deserved = told_input words left text status told (Analyse options) d asks tells in
-    source_ended told status (λ c at r. source_refused (options_of options) told text status c at deserved r) (λ t a. source_reported (options_of options) told text status t deserved a)
+pub source_status : (words : List (List ℕ)) (left : Option (List ℕ)) (text : List ℕ) (status : Status) (told : List ℕ) (options : Options) (json : Bool)
+    → IsDeserved words left text status → Asks words (Analyse options json) → left ≡ Some told → EndsBySource told status
+source_status words left text status told options json d asks tells =
+    let deserved = told_input words left text status told (Analyse options json) d asks tells in
+    source_ended told status (λ c at r. source_refused options told text status c at deserved r) (λ t a. source_reported options told text status t deserved a)
 
 -- no text is there
 pub no_text : (told : List ℕ) (status : Status) → EndsInRefusal status → EndsInReport status → EndsBySource told status
@@ -216,7 +216,7 @@ complete_of words bytes text ReadFault d ends = d
 complete_of words bytes text WriteFault d ends = d
 complete_of words bytes text Memory d ends = tt
 
-pub complete_status : (words : List (List ℕ)) (left : Option (List ℕ)) (text : List ℕ) (status : Status) (told : List ℕ) (options : AnalyseOptions)
-    → IsDeserved words left text status → Asks words (Analyse options) → left ≡ Some told → IsUnrefused told → IsReportOrMemory status
-complete_status words left text status told options d asks tells free =
-    complete_of words d.bytes text status d.deserved (source_unrefused (options_of options) told text status (told_input words left text status told (Analyse options) d asks tells) free)
+pub complete_status : (words : List (List ℕ)) (left : Option (List ℕ)) (text : List ℕ) (status : Status) (told : List ℕ) (options : Options) (json : Bool)
+    → IsDeserved words left text status → Asks words (Analyse options json) → left ≡ Some told → IsUnrefused told → IsReportOrMemory status
+complete_status words left text status told options json d asks tells free =
+    complete_of words d.bytes text status d.deserved (source_unrefused options told text status (told_input words left text status told (Analyse options json) d asks tells) free)

@@ -2,14 +2,10 @@
 use Rattle.std.specs.Prelude.{◌≡◌, ◌<◌, ◌⊎◌, ◌+◌, ℕ, List, length, codes, Option, Some, None}
 use Rattle.std.specs.Io.KnownBytes.{Appends, Consumes, IsAtEnd}
 use Rattle.lra_edge.specs.Causes.{AppendsPart}
-use Rattle.lra_findings.specs.Report as report
 use Rattle.lra_findings.specs.ReportText.{text_line}
 use Rattle.lra_words.specs.Built.{Asks, AsksNone}
-use Rattle.lra_words.specs.declared.chosen.AnalyseOptions.{AnalyseOptions}
 use Rattle.lra_words.specs.declared.chosen.Command.{Command}
 use Rattle.lra_words.specs.declared.chosen.Command.TheVariants.{Analyse, Sample, Calc}
-use Rattle.lra_words.specs.declared.chosen.Domain.{Domain}
-use Rattle.lra_words.specs.declared.chosen.Domain.TheVariants.{Poly, Box, Oct}
 use Rattle.lra_top.specs.SourceAnswer.{DeservesSource, limit}
 use Rattle.lra_top.specs.ScriptAnswer.{DeservesScript}
 use Rattle.lra_top.specs.declared.status.Status.{Status}
@@ -20,24 +16,9 @@ abbrev pub IsInput : Option (List ℕ) → List ℕ → Type 0
 IsInput None bytes = Unit {0}
 IsInput (Some left) bytes = left ≡ bytes
 
--- the domain and the options of an analysis, as its report has them
-abbrev pub domain_of : Domain → report.Domain
-domain_of Poly = report.poly
-domain_of Box = report.box
-domain_of Oct = report.oct
-
-abbrev pub options_of : AnalyseOptions → report.Options
-options_of o = record {
-  domain = domain_of o.domain;
-  parts = o.parts;
-  delay = o.delay;
-  narrow = o.narrow;
-  limited = o.limited;
-}
-
 -- the text and the status that the input of a command deserves
 abbrev pub DeservesInput : Command → List ℕ → List ℕ → Status → Type 0
-DeservesInput (Analyse options) bytes text status = DeservesSource (options_of options) bytes text status
+DeservesInput (Analyse options json) bytes text status = DeservesSource options bytes text status
 DeservesInput (Sample seed size) bytes text status = ⊥
 DeservesInput Calc bytes text status = DeservesScript bytes text status
 

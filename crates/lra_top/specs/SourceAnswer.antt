@@ -2,7 +2,8 @@
 use Rattle.std.specs.Prelude.{◌≡◌, ◌<◌, ℕ, List, length}
 use Rattle.lra_base.specs.declared.refusals.Cause.{Cause}
 use Rattle.lra_base.specs.declared.refusals.Place.{Place}
-use Rattle.lra_findings.specs.Report.{Options, Report}
+use Rattle.lra_base.specs.declared.options.Options.{Options}
+use Rattle.lra_findings.specs.Report.{Report}
 use Rattle.lra_findings.specs.ReportText.{report_text, unknown_count}
 use Rattle.lra_tree.specs.Grammar.{Spells}
 use Rattle.lra_meaning.specs.Refuse.{Refuse}

@@ -5,42 +5,17 @@ ghost use Rattle.lra_findings.specs.RefusalText as refusal_line;
 ghost use Rattle.lra_report.specs.View as view;
 ghost use Rattle.lra_words.specs.Built.{HasBuiltOptions};
 ghost use Rattle.lra_top.specs.SourceAnswer.{DeservesSource, IsReportStatus};
-ghost use Rattle.lra_top.specs.Run.{domain_of, options_of};
 
 use crate::answer::Answer;
 use crate::refusal_text::refusal_text;
 use crate::status::Status;
-use lra_base::Refusal;
-use lra_report::{Options, Report, text};
+use lra_base::{Options, Refusal};
+use lra_report::{Report, text};
 use lra_source::{SourceError, analyse_source};
-use lra_words::{AnalyseOptions, Domain};
 use std::alloc::{AllocError, Global};
 
 /// The bytes that an input may have.
 pub const LIMIT: usize = 65536;
-
-fn report_domain(domain: Domain) -> lra_report::Domain
-    ensures { view.domain_of result ≡ domain_of domain }
-{
-    match domain {
-        Domain::Poly => lra_report::Domain::Poly,
-        Domain::Box => lra_report::Domain::Box,
-        Domain::Oct => lra_report::Domain::Oct,
-    }
-}
-
-/// The options as a report has them.
-fn report_options(options: AnalyseOptions) -> Options
-    ensures { view.options_of result ≡ options_of options }
-{
-    Options {
-        domain: report_domain(options.domain),
-        parts: u32::from(options.parts),
-        delay: u32::from(options.delay),
-        narrow: u32::from(options.narrow),
-        limited: options.limited,
-    }
-}
 
 /// The status of a report.
 fn status_of(report: &Report) -> Status
@@ -80,14 +55,14 @@ fn answer_refusal(alloc: Global, refusal: Refusal) -> Result<Answer, AllocError>
 #[tactic(auto, using(crate::proofs::SourceWays::deserving))]
 pub fn answer_source(
     alloc: Global,
-    options: AnalyseOptions,
+    options: Options,
     bytes: &[u8],
 ) -> Result<Answer, AllocError>
     requires built { HasBuiltOptions options }
     requires bound { length bytes.now ≤ 65537 }
-    ensures { IfOk result (λ a. DeservesSource (options_of options) bytes.now a.text.items a.status) }
+    ensures { IfOk result (λ a. DeservesSource options bytes.now a.text.items a.status) }
 {
-    match analyse_source(alloc, report_options(options), bytes) {
+    match analyse_source(alloc, options, bytes) {
         Ok(report) => answer_report(alloc, &report),
         Err(SourceError::Refused(refusal)) => answer_refusal(alloc, refusal),
         Err(SourceError::Memory) => Err(AllocError),

@@ -1,13 +1,13 @@
 // The top call.
-ghost use Rattle.std.specs.Prelude.{◌≡◌, ◌≢◌, ◌≤◌, ℕ, List, length, map, string_bytes, IfOk, IsErrOf, Some, Ok, Err};
+ghost use Rattle.std.specs.Prelude.{◌≡◌, ◌≢◌, ◌≤◌, ℕ, Bool, List, length, map, string_bytes, IfOk, IsErrOf, Some, Ok, Err};
 ghost use Rattle.std.specs.Io.KnownBytes.{Appends, Keeps};
 ghost use Rattle.lra_edge.specs.Causes.{Rose};
 ghost use Rattle.lra_edge.specs.ReadEnd.{LosesFront};
 ghost use Rattle.lra_calc.specs.Script as script;
 ghost use Rattle.lra_words.specs.Built.{IsBuilt, Asks, AsksNone};
-ghost use Rattle.lra_words.specs.declared.chosen.AnalyseOptions.{AnalyseOptions};
 ghost use Rattle.lra_words.specs.declared.chosen.Command.{Command};
 ghost use Rattle.lra_words.specs.declared.chosen.Command.TheVariants.{Analyse, Calc};
+ghost use Rattle.lra_base.specs.declared.options.Options.{Options};
 ghost use Rattle.lra_base.specs.declared.refusals.Cause.{Cause};
 ghost use Rattle.lra_base.specs.declared.refusals.Place.{Place};
 ghost use Rattle.lra_tree.specs.Trees.{FileTree};
@@ -80,7 +80,7 @@ fn answer_input(alloc: Global, command: Command, bytes: &[u8]) -> Result<Answer,
     ensures { IfOk result (λ a. DeservesInput command bytes.now a.text.items a.status) }
 {
     match command {
-        Command::Analyse(options) => answer_source(alloc, options, bytes),
+        Command::Analyse { options, .. } => answer_source(alloc, options, bytes),
         Command::Calc => answer_script(alloc, bytes),
         Command::Sample { .. } => unreachable!(),
     }
@@ -162,15 +162,18 @@ pub fn run<S: Source, K: Sink>(
     // A source that is accepted gets its report, and a script that runs whole its output.
     ensures too_long { (c : Command) → Asks (map string_bytes words.now) c →
         (bytes : List ℕ) → S.left source.old ≡ Some bytes → IsTooLong bytes → EndsInRefusal result }
-    ensures source_refused { (options : AnalyseOptions) → Asks (map string_bytes words.now) (Analyse options) →
+    ensures source_refused { (options : Options) (json : Bool) →
+        Asks (map string_bytes words.now) (Analyse options json) →
         (bytes : List ℕ) → S.left source.old ≡ Some bytes → (cause : Cause) (at : Place) →
         Refuse Spells bytes cause at →
         EndsInRefusal result }
-    ensures accepted { (options : AnalyseOptions) → Asks (map string_bytes words.now) (Analyse options) →
+    ensures accepted { (options : Options) (json : Bool) →
+        Asks (map string_bytes words.now) (Analyse options json) →
         (bytes : List ℕ) → S.left source.old ≡ Some bytes → (tree : FileTree) → Accepts Spells bytes tree →
         EndsInReport result }
     // Each source is one or the other.
-    ensures each_source { (options : AnalyseOptions) → Asks (map string_bytes words.now) (Analyse options) →
+    ensures each_source { (options : Options) (json : Bool) →
+        Asks (map string_bytes words.now) (Analyse options json) →
         (bytes : List ℕ) → S.left source.old ≡ Some bytes → EndsBySource bytes result }
     ensures script_refused { Asks (map string_bytes words.now) Calc → (bytes : List ℕ) →
         S.left source.old ≡ Some bytes →
@@ -197,7 +200,8 @@ pub fn run<S: Source, K: Sink>(
     ensures whole { (Rose (S.faults source.old) (S.faults source.new) → ⊥) →
         (Rose (K.faults sink.old) (K.faults sink.new) → ⊥) → result ≢ Status.Memory →
         Writes (map string_bytes words.now) (S.left source.old) (K.held sink.old) (K.held sink.new) result }
-    ensures complete { (options : AnalyseOptions) → Asks (map string_bytes words.now) (Analyse options) →
+    ensures complete { (options : Options) (json : Bool) →
+        Asks (map string_bytes words.now) (Analyse options json) →
         (bytes : List ℕ) → S.left source.old ≡ Some bytes → IsUnrefused bytes →
         (Rose (S.faults source.old) (S.faults source.new) → ⊥) → (Rose (K.faults sink.old) (K.faults sink.new) → ⊥) →
         IsReportOrMemory result }

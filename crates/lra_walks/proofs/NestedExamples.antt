@@ -23,7 +23,7 @@ use Rattle.lra_box.specs.Tables.{stepped, lesser_low, greater_high, widened_low,
 use Rattle.lra_box.specs.Meaning.{StepsTo, box_meaning}
 use Rattle.lra_box.proofs.ExtremeLemmas.{end_is_extreme}
 use Rattle.lra_box.specs.Covering.{low_within_refl, high_within_refl}
-use Rattle.lra_flow.specs.declared.Settings.{Settings}
+use Rattle.lra_base.specs.declared.options.Options.{Options}
 use Rattle.lra_flow.specs.Pass.{Entry, value, failing, Result, goes_on, jumps, GoesRound, GoesFrom, Grows, Narrows, Pass}
 use Rattle.lra_flow.specs.Analysis.{Written, IsUnreachable}
 use Rattle.lra_walks.proofs.LoopExamples.{boxes, between, at_least, one, none, narrowed, between_sound, declared, declaring}
@@ -88,7 +88,7 @@ returned_at v = record { entries = value 8 v ∷ []; normal = nowhere; breaks = 
 abbrev box_of : Option (List Interval) → Content
 box_of o = record { dims = 2; bounds = o }
 
-breaking : (set : Settings) (o : Option (List Interval)) → Pass Content Content boxes set (seq (point 6) (seq (act 6 (keep 2)) (leave 2 broken))) None (box_of o) (broken_at (box_of o))
+breaking : (set : Options) (o : Option (List Interval)) → Pass Content Content boxes set (seq (point 6) (seq (act 6 (keep 2)) (leave 2 broken))) None (box_of o) (broken_at (box_of o))
 breaking set o = (
   goes_on (value 6 (box_of o) ∷ []) (box_of o) None,
   jumps broken (box_of o) nowhere None,
@@ -97,7 +97,7 @@ breaking set o = (
   refl,
 )
 
-module _ (set : Settings) (a x y z : Interval) (o : Option (List Interval))
+module _ (set : Options) (a x y z : Interval) (o : Option (List Interval))
     (is_three : StepsTo (test Ge three) (two a x) (box_of o)) (is_under : StepsTo (test Ge under_three) (two a x) (two a y)) (is_next : StepsTo (assign 1 next_b) (two a y) (two a z)) where
   leaves_first : Pass Content Content boxes set leaving None (two a x)
       (record { entries = value 5 (two a x) ∷ value 6 (box_of o) ∷ []; normal = two a y; breaks = box_of o ∷ []; continues = []; returns = []; flag = None })
@@ -222,7 +222,7 @@ abbrev inner_loop_found : Interval → Result Content
 inner_loop_found a = record { entries = inner_entries a; normal = two a (between 3 3); breaks = []; continues = []; returns = two a (between 0 2) ∷ []; flag = None }
 
 -- the inner loop where b begins with 0: its heads have b 0..0, 0..1 and 0.. , and it is narrowed to 0..3
-module _ (set : Settings) (a : Interval) (sound : IsSound a) (order : crossed a ≡ false) (low_joined : lesser_low a.low a.low ≡ a.low) (high_joined : greater_high a.high a.high ≡ a.high)
+module _ (set : Options) (a : Interval) (sound : IsSound a) (order : crossed a ≡ false) (low_joined : lesser_low a.low a.low ≡ a.low) (high_joined : greater_high a.high a.high ≡ a.high)
     (low_widened : widened_low a.low a.low ≡ a.low) (high_widened : widened_high a.high a.high ≡ a.high) where
   at_three : (x : Interval) (o : Option (List Interval)) → box_of o ≡ stepped (test Ge three) (two a x) → StepsTo (test Ge three) (two a x) (box_of o)
   at_three x o is = record { table = is; extremes = tt }

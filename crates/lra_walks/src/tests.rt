@@ -9,10 +9,9 @@ ghost use Rattle.lra_iter.specs.Fits.{TreeFits};
 ghost use Rattle.lra_iter.specs.Numbers.{IsNumbered};
 ghost use Rattle.lra_walks.specs.Sample.{sample_asserts};
 
-use lra_base::Comparison;
+use lra_base::{Comparison, Options};
 use lra_box::Boxes;
 use lra_domain::Domain;
-use lra_flow::Settings;
 use lra_iter::analyse;
 use lra_operations::{Graph, Node, Op, Path, Site};
 use lra_program::{Cond, Expr, Slot};
@@ -140,7 +139,8 @@ fn rows_of(alloc: Global, value: &Boxes) -> Result<Vec<[i128; 2]>, AllocError> {
 #[test]
 fn levels_of_conditions(rt: HostRuntime) -> Result<(), AllocError> {
     let alloc = rt.alloc();
-    let settings = Settings {
+    let options = Options {
+        domain: lra_base::Domain::Box,
         parts: 1,
         delay: 1,
         narrow: 1,
@@ -149,7 +149,7 @@ fn levels_of_conditions(rt: HostRuntime) -> Result<(), AllocError> {
     let want: [&[[i128; 2]]; 5] = [&[], &[], &[[-1, 1]], &[[0, -1]], &[[0, 1]]];
     'levels: for levels in &[0, 1, 63] {
         let graph = sample(alloc, nested(alloc, *levels)?)?;
-        let solution = analyse::<Boxes>(alloc, &settings, &[], &graph)?;
+        let solution = analyse::<Boxes>(alloc, &options, &[], &graph)?;
         let mut found = Vec::new(alloc);
         'points: for value in &solution.values {
             found.push(rows_of(alloc, value)?)?;

@@ -12,7 +12,7 @@ use Rattle.clap.specs.ValueTests.{is_numeral}
 use Rattle.clap.specs.Words.{ReadsOne, Text, first_value, one_text, rows_of}
 use Rattle.clap.specs.declared.parser.matches.Found.{Found}
 use Rattle.clap.proofs.WalkLemmas.{both, first_value-rows, one_text-rows}
-use Rattle.lra_words.specs.Chosen.{domain_at, domain_of, flag_at, number_at, number_below, truth_of}
+use Rattle.lra_words.specs.Chosen.{domain_at, domain_named, flag_at, number_at, number_below, truth_of}
 
 digits_pass : (ds : List ℕ) → AllDigits 10 ds → list_all (λ d. nat_lt (digit_value d) 10) ds ≡ true
 digits_pass [] h = refl
@@ -74,9 +74,9 @@ flag_got E f id r none value = go (one_text f id) refl ∙ ap (option_and_then t
 
 -- `get_str`, of a domain's name
 pub domain_got : (f : Found) (id : Text) (r : Option (Bor Text)) → option_map (λ s. s.now) r ≡ first_value f id
-    → option_and_then (λ s. domain_of s.now) r ≡ domain_at id (rows_of f)
-domain_got f id r e = name r ∙ ap (option_and_then domain_of) (e ∙ first_value-rows f id)
+    → option_and_then (λ s. domain_named s.now) r ≡ domain_at id (rows_of f)
+domain_got f id r e = name r ∙ ap (option_and_then domain_named) (e ∙ first_value-rows f id)
   where
-    name : (o : Option (Bor Text)) → option_and_then (λ s. domain_of s.now) o ≡ option_and_then domain_of (option_map (λ s. s.now) o)
+    name : (o : Option (Bor Text)) → option_and_then (λ s. domain_named s.now) o ≡ option_and_then domain_named (option_map (λ s. s.now) o)
     name None = refl
     name (Some s) = refl

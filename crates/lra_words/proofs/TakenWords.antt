@@ -17,13 +17,13 @@ use Rattle.clap.specs.Walk.{Row, Rule, Text, answers_to, finished, nothing_held,
 use Rattle.clap.specs.declared.builder.value_parser.ValueParser.{ValueParser}
 use Rattle.clap.specs.declared.builder.value_parser.ValueParser.TheVariants as vp
 use Rattle.clap.proofs.WalkLemmas.{both, list_any-map}
-use Rattle.lra_words.specs.Chosen.{IsWithinRanges, command_of, domain_at, domain_of, flag_at, number_at, number_below, options_of, sample_of, truth_of}
+use Rattle.lra_words.specs.Chosen.{IsWithinRanges, analyse_of, command_of, domain_at, domain_named, flag_at, number_at, number_below, options_of, sample_of, truth_of}
 use Rattle.lra_words.specs.CommandLine.{TakesDomains, command_line, delay_rule, domain_rule, json_rule, limited_rule, narrow_rule, parts_rule, seed_rule, size_rule}
-use Rattle.lra_words.specs.declared.chosen.AnalyseOptions.{AnalyseOptions}
+use Rattle.lra_base.specs.declared.options.Options.{Options}
 use Rattle.lra_words.specs.declared.chosen.Command.{Command}
 use Rattle.lra_words.specs.declared.chosen.Command.TheVariants.{Analyse, Sample, Calc}
-use Rattle.lra_words.specs.declared.chosen.Domain.{Domain}
-use Rattle.lra_words.specs.declared.chosen.Domain.TheVariants.{Poly, Box, Oct}
+use Rattle.lra_base.specs.declared.options.Domain.{Domain}
+use Rattle.lra_base.specs.declared.options.Domain.TheVariants.{Poly, Box, Oct}
 use Rattle.lra_words.proofs.OptionRows.{AllOwn, IsNoHelp, defaulted_value, flag_adds, given_there, help_adds, level_parts, level_rows, option_adds, value_there, walk_stop}
 
 -- ---- values
@@ -47,7 +47,7 @@ is_text : (a b : Text) → bytes_eq a b ≡ true → a ≡ b
 is_text a b e = (bytes_eq-Decides a b).0 e
 
 -- a text that passed the parser of the three names
-domain_passed : (domains : ValueParser) (text : Text) → TakesDomains domains → accepts false domains text ≡ true → (d : Domain) × (domain_of text ≡ Some d)
+domain_passed : (domains : ValueParser) (text : Text) → TakesDomains domains → accepts false domains text ≡ true → (d : Domain) × (domain_named text ≡ Some d)
 domain_passed domains text takes passed =
     let as_names : accepts false (vp.Names takes.0) text ≡ true = subst (λ (p : ValueParser). accepts false p text ≡ true) takes.1 passed in
     let any = sym (list_any-map (λ name. bytes_eq name text) (λ name. name.now) takes.0.now) ∙ as_names in
@@ -55,10 +55,10 @@ domain_passed domains text takes passed =
     (subst (λ (names : List Text). list_any (λ name. bytes_eq name text) names ≡ true) takes.2 any)
   where
     go : (p : Bool) → bytes_eq (codes "poly") text ≡ p → (b : Bool) → bytes_eq (codes "box") text ≡ b → (o : Bool) → bytes_eq (codes "oct") text ≡ o
-        → (bytes_eq (codes "poly") text || (bytes_eq (codes "box") text || (bytes_eq (codes "oct") text || false))) ≡ true → (d : Domain) × (domain_of text ≡ Some d)
-    go true tp b tb o to any = (Poly, ap domain_of (sym (is_text (codes "poly") text tp)))
-    go false tp true tb o to any = (Box, ap domain_of (sym (is_text (codes "box") text tb)))
-    go false tp false tb true to any = (Oct, ap domain_of (sym (is_text (codes "oct") text to)))
+        → (bytes_eq (codes "poly") text || (bytes_eq (codes "box") text || (bytes_eq (codes "oct") text || false))) ≡ true → (d : Domain) × (domain_named text ≡ Some d)
+    go true tp b tb o to any = (Poly, ap domain_named (sym (is_text (codes "poly") text tp)))
+    go false tp true tb o to any = (Box, ap domain_named (sym (is_text (codes "box") text tb)))
+    go false tp false tb true to any = (Oct, ap domain_named (sym (is_text (codes "oct") text to)))
     go false tp false tb false to any =
         let bad : false ≡ true = rw (tp, tb, to) at any in
         cc
@@ -85,10 +85,14 @@ truth_at id rows text one passed =
     let b = truth_passed text passed in
     (b.0, rw one b.1)
 
-pub options_from : (rows : List Row) (options : AnalyseOptions) → domain_at (codes "domain") rows ≡ Some options.domain → number_at (codes "parts") (2 ^ 8) rows ≡ Some options.parts
-    → number_at (codes "delay") (2 ^ 8) rows ≡ Some options.delay → number_at (codes "narrow") (2 ^ 8) rows ≡ Some options.narrow
-    → flag_at (codes "limited") rows ≡ Some options.limited → flag_at (codes "json") rows ≡ Some options.json → options_of rows ≡ Some options
-options_from rows options domain parts delay narrow limited json = rw (domain, parts, delay, narrow, limited, json) refl
+pub options_from : (rows : List Row) (options : Options) → domain_at (codes "domain") rows ≡ Some options.domain → number_at (codes "parts") (2 ^ 32) rows ≡ Some options.parts
+    → number_at (codes "delay") (2 ^ 32) rows ≡ Some options.delay → number_at (codes "narrow") (2 ^ 32) rows ≡ Some options.narrow
+    → flag_at (codes "limited") rows ≡ Some options.limited → options_of rows ≡ Some options
+options_from rows options domain parts delay narrow limited = rw (domain, parts, delay, narrow, limited) refl
+
+analyse_from : (rows : List Row) (options : Options) (json : Bool) → options_of rows ≡ Some options → flag_at (codes "json") rows ≡ Some json
+    → analyse_of rows ≡ Some (Analyse options json)
+analyse_from rows options json taken flag = rw (taken, flag) refl
 
 sample_from : (rows : List Row) (seed size : ℕ) → number_at (codes "seed") (2 ^ 64) rows ≡ Some seed → number_at (codes "size") (2 ^ 32) rows ≡ Some size
     → sample_of rows ≡ Some (Sample seed size)
@@ -124,7 +128,7 @@ analyse_own domains = (
 )
 
 analyse_taken : (domains : ValueParser) → TakesDomains domains → (words : List Text) → level_fault (sub_at domains 0) [] nothing_held words false [] ≡ []
-    → (o : AnalyseOptions) × (options_of (rows_after (sub_at domains 0).rules [] words) ≡ Some o) × IsWithinRanges (Analyse o)
+    → (c : Command) × (analyse_of (rows_after (sub_at domains 0).rules [] words) ≡ Some c) × IsWithinRanges c
 analyse_taken domains takes words e =
     let shape = sub_at domains 0 in
     let rows = rows_after shape.rules [] words in
@@ -136,14 +140,15 @@ analyse_taken domains takes words e =
     let limited_text = defaulted_value shape words (built_rule limited_rule) fit refl refl refl in
     let json_text = defaulted_value shape words (built_rule json_rule) fit refl refl refl in
     let domain = domain_passed domains domain_text.text takes domain_text.passed in
-    let parts = number_of (codes "parts") 1 16 (2 ^ 8) rows parts_text.text (lit< tt) parts_text.one parts_text.passed in
-    let delay = number_of (codes "delay") 0 8 (2 ^ 8) rows delay_text.text (lit< tt) delay_text.one delay_text.passed in
-    let narrow = number_of (codes "narrow") 0 4 (2 ^ 8) rows narrow_text.text (lit< tt) narrow_text.one narrow_text.passed in
+    let parts = number_of (codes "parts") 1 16 (2 ^ 32) rows parts_text.text (lit< tt) parts_text.one parts_text.passed in
+    let delay = number_of (codes "delay") 0 8 (2 ^ 32) rows delay_text.text (lit< tt) delay_text.one delay_text.passed in
+    let narrow = number_of (codes "narrow") 0 4 (2 ^ 32) rows narrow_text.text (lit< tt) narrow_text.one narrow_text.passed in
     let limited = truth_at (codes "limited") rows limited_text.text limited_text.one limited_text.passed in
     let json = truth_at (codes "json") rows json_text.text json_text.one json_text.passed in
-    let options : AnalyseOptions = record { domain = domain.0; parts = parts.0; delay = delay.0; narrow = narrow.0; limited = limited.0; json = json.0 } in
-    let has_domain : domain_at (codes "domain") rows ≡ Some domain.0 = ap (option_and_then domain_of) domain_text.first ∙ domain.1 in
-    (options, options_from rows options has_domain parts.1 delay.1 narrow.1 limited.1 json.1, (parts.2, parts.3, delay.3, narrow.3))
+    let options : Options = record { domain = domain.0; parts = parts.0; delay = delay.0; narrow = narrow.0; limited = limited.0 } in
+    let has_domain : domain_at (codes "domain") rows ≡ Some domain.0 = ap (option_and_then domain_named) domain_text.first ∙ domain.1 in
+    let taken = options_from rows options has_domain parts.1 delay.1 narrow.1 limited.1 in
+    (Analyse options json.0, analyse_from rows options json.0 taken json.1, (parts.2, parts.3, delay.3, narrow.3))
 
 sample_own : (domains : ValueParser) → AllOwn (sub_at domains 1).rules (sub_at domains 1).rules
 sample_own domains = (
@@ -207,9 +212,7 @@ stop_gives domains takes (Some p) no_help e some =
     among (Gives p.1) (λ s. answers_to p.0 (label_of s)) (sub_at domains 0) (sub_at domains 1) (sub_at domains 2) (sub_at domains 3) analyse sample calc help (λ f h. cc) e some
   where
     analyse : answers_to p.0 (label_of (sub_at domains 0)) ≡ true → Gives p.1 (Some (sub_at domains 0))
-    analyse named f h =
-        let taken = analyse_taken domains takes p.1 f in
-        (Analyse taken.0, ap (option_map (λ o. Analyse o)) taken.1, taken.2)
+    analyse named f h = analyse_taken domains takes p.1 f
 
     sample : answers_to p.0 (label_of (sub_at domains 1)) ≡ true → Gives p.1 (Some (sub_at domains 1))
     sample named f h = sample_taken domains p.1 f

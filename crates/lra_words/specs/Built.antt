@@ -1,20 +1,17 @@
 -- Which commands are carried out, and what words ask for. A later stage changes the line of what it adds.
 use Rattle.std.specs.Prelude.{◌≡◌, ◌⊎◌, ⊤, false, List, Option, Some, None}
 use Rattle.clap.specs.Words.{Text}
+use Rattle.lra_base.specs.declared.options.Domain.TheVariants.{Box}
+use Rattle.lra_base.specs.declared.options.Options.{Options}
 use Rattle.lra_words.specs.Chosen.{IsRefused, IsTakenAs}
-use Rattle.lra_words.specs.declared.chosen.AnalyseOptions.{AnalyseOptions}
 use Rattle.lra_words.specs.declared.chosen.Command.{Command}
 use Rattle.lra_words.specs.declared.chosen.Command.TheVariants.{Analyse, Sample, Calc}
-use Rattle.lra_words.specs.declared.chosen.Domain.TheVariants.{Box}
 
-abbrev pub HasBuiltOptions : AnalyseOptions → Type 0
-HasBuiltOptions options =
-    (options.domain ≡ Box)
-    × (options.parts ≡ 1)
-    × (options.json ≡ false)
+abbrev pub HasBuiltOptions : Options → Type 0
+HasBuiltOptions options = (options.domain ≡ Box) × (options.parts ≡ 1)
 
 abbrev pub IsBuilt : Command → Type 0
-IsBuilt (Analyse options) = HasBuiltOptions options
+IsBuilt (Analyse options json) = HasBuiltOptions options × (json ≡ false)
 IsBuilt (Sample seed size) = ⊥
 IsBuilt Calc = ⊤
 

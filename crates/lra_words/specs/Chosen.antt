@@ -6,12 +6,13 @@ use Rattle.std.specs.Str.Parse.{digits_value, without_leading_plus}
 use Rattle.clap.specs.ValueTests.{is_numeral}
 use Rattle.clap.specs.Words.{Row, Text, fault_of, first_of, one_of, subcommand_of, takes}
 use Rattle.clap.specs.declared.builder.value_parser.ValueParser.{ValueParser}
+use Rattle.lra_base.specs.DomainNames.{domain_name}
+use Rattle.lra_base.specs.declared.options.Domain.{Domain}
+use Rattle.lra_base.specs.declared.options.Domain.TheVariants.{Poly, Box, Oct}
+use Rattle.lra_base.specs.declared.options.Options.{Options}
 use Rattle.lra_words.specs.CommandLine.{TakesDomains, command_line}
-use Rattle.lra_words.specs.declared.chosen.AnalyseOptions.{AnalyseOptions}
 use Rattle.lra_words.specs.declared.chosen.Command.{Command}
 use Rattle.lra_words.specs.declared.chosen.Command.TheVariants.{Analyse, Sample, Calc}
-use Rattle.lra_words.specs.declared.chosen.Domain.{Domain}
-use Rattle.lra_words.specs.declared.chosen.Domain.TheVariants.{Poly, Box, Oct}
 
 -- the number that a text writes, by decimal digits after at most one plus, where it is below
 -- `limit`
@@ -21,10 +22,10 @@ number_below limit text =
     if is_numeral digits && nat_lt (digits_value 10 digits) limit then Some (digits_value 10 digits)
     else None
 
-abbrev pub domain_of : Text → Option Domain
-domain_of name = if bytes_eq name (codes "poly") then Some Poly
-    else (if bytes_eq name (codes "box") then Some Box
-    else (if bytes_eq name (codes "oct") then Some Oct else None))
+abbrev pub domain_named : Text → Option Domain
+domain_named name = if bytes_eq name (domain_name Poly) then Some Poly
+    else (if bytes_eq name (domain_name Box) then Some Box
+    else (if bytes_eq name (domain_name Oct) then Some Oct else None))
 
 abbrev pub truth_of : Text → Option Bool
 truth_of text = if bytes_eq text (codes "true") then Some true
@@ -38,25 +39,28 @@ abbrev pub flag_at : Text → List Row → Option Bool
 flag_at name rows = option_and_then truth_of (one_of name rows)
 
 abbrev pub domain_at : Text → List Row → Option Domain
-domain_at name rows = option_and_then domain_of (first_of name rows)
+domain_at name rows = option_and_then domain_named (first_of name rows)
 
-abbrev pub options_of : List Row → Option AnalyseOptions
+abbrev pub options_of : List Row → Option Options
 options_of rows =
     option_and_then (λ domain. option_and_then (λ parts. option_and_then (λ delay.
-    option_and_then (λ narrow. option_and_then (λ limited. option_map (λ json. record {
+    option_and_then (λ narrow. option_map (λ limited. record {
       domain = domain;
       parts = parts;
       delay = delay;
       narrow = narrow;
       limited = limited;
-      json = json;
     })
-    (flag_at (codes "json") rows))
     (flag_at (codes "limited") rows))
-    (number_at (codes "narrow") (2 ^ 8) rows))
-    (number_at (codes "delay") (2 ^ 8) rows))
-    (number_at (codes "parts") (2 ^ 8) rows))
+    (number_at (codes "narrow") (2 ^ 32) rows))
+    (number_at (codes "delay") (2 ^ 32) rows))
+    (number_at (codes "parts") (2 ^ 32) rows))
     (domain_at (codes "domain") rows)
+
+abbrev pub analyse_of : List Row → Option Command
+analyse_of rows = option_and_then (λ options. option_map (λ json. Analyse options json)
+    (flag_at (codes "json") rows))
+    (options_of rows)
 
 abbrev pub sample_of : List Row → Option Command
 sample_of rows = option_and_then (λ seed. option_map (λ size. Sample seed size)
@@ -66,7 +70,7 @@ sample_of rows = option_and_then (λ seed. option_map (λ size. Sample seed size
 -- the command of the subcommand's name and matches
 abbrev pub named_command : Text → List Row → Option Command
 named_command name rows =
-    if bytes_eq name (codes "analyse") then option_map (λ options. Analyse options) (options_of rows)
+    if bytes_eq name (codes "analyse") then analyse_of rows
     else (if bytes_eq name (codes "sample") then sample_of rows
     else (if bytes_eq name (codes "calc") then Some Calc else None))
 
@@ -76,7 +80,7 @@ command_of (Some chosen) = named_command chosen.0 chosen.1
 
 -- each value lies in its option's range
 abbrev pub IsWithinRanges : Command → Type 0
-IsWithinRanges (Analyse options) = (1 ≤ options.parts) × (options.parts ≤ 16)
+IsWithinRanges (Analyse options json) = (1 ≤ options.parts) × (options.parts ≤ 16)
     × (options.delay ≤ 8) × (options.narrow ≤ 4)
 IsWithinRanges (Sample seed size) = size ≤ 400
 IsWithinRanges Calc = ⊤

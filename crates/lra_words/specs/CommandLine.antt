@@ -4,6 +4,8 @@ use Rattle.std.specs.Borrow.{Bor}
 use Rattle.clap.specs.Words.{App, Rule, Text, new_app, new_rule, with_rule, with_subcommand}
 use Rattle.clap.specs.declared.builder.value_parser.ValueParser.{ValueParser}
 use Rattle.clap.specs.declared.builder.value_parser.ValueParser.TheVariants as vp
+use Rattle.lra_base.specs.DomainNames.{domain_name}
+use Rattle.lra_base.specs.declared.options.Domain.TheVariants.{Poly, Box, Oct}
 use Rattle.clap.specs.declared.builder.action.ArgAction.TheVariants.{SetTrue}
 
 -- `--name VALUE` with this parser
@@ -70,11 +72,11 @@ command_line domains =
     with_subcommand (with_subcommand (with_subcommand (requiring (new_app (codes "lra")))
     (analyse domains).top) sample.top) calc.top
 
--- the parser takes these three words
+-- the parser takes the domains' names
 abbrev pub TakesDomains : ValueParser → Type 0
 TakesDomains domains = (names : Bor (List (Bor Text))) × (domains ≡ vp.Names names)
     × (map (λ name. name.now) names.now
-    ≡ codes "poly" ∷ (codes "box" ∷ (codes "oct" ∷ [])))
+    ≡ domain_name Poly ∷ (domain_name Box ∷ (domain_name Oct ∷ [])))
 
 abbrev pub DeclaresDomain : Rule → Type 0
 DeclaresDomain r = (domains : ValueParser) × TakesDomains domains × (r ≡ domain_rule domains)

@@ -8,7 +8,7 @@ pub mod chosen;
 mod command_line;
 pub mod words;
 
-pub use chosen::{AnalyseOptions, Command, Domain};
+pub use chosen::Command;
 pub use words::{Refusal, asked, command};
 
 #[cfg(test)]

@@ -1,158 +1,198 @@
-use crate::chosen::{AnalyseOptions, Command, Domain};
+use crate::chosen::Command;
 use crate::words::{Refusal, asked, command};
+use lra_base::{Domain, Options};
 use std::test::Fail;
 
-const DEFAULTS: AnalyseOptions = AnalyseOptions {
+const DEFAULTS: Options = Options {
     domain: Domain::Poly,
     parts: 1,
     delay: 1,
     narrow: 1,
     limited: false,
-    json: false,
 };
 
-const BOXES: AnalyseOptions = AnalyseOptions {
+const BOXES: Options = Options {
     domain: Domain::Box,
     ..DEFAULTS
 };
 
+const ANALYSE: Command = Command::Analyse {
+    options: DEFAULTS,
+    json: false,
+};
+
+const ANALYSE_BOXES: Command = Command::Analyse {
+    options: BOXES,
+    json: false,
+};
+
 /// Lines, the commands that they give, and whether these are carried out.
 static TAKEN: [(&str, Command, bool); 27] = [
-    ("lra analyse", Command::Analyse(DEFAULTS), false),
-    ("other analyse", Command::Analyse(DEFAULTS), false),
-    ("lra analyse --", Command::Analyse(DEFAULTS), false),
-    (
-        "lra analyse --domain poly",
-        Command::Analyse(DEFAULTS),
-        false,
-    ),
-    ("lra analyse --domain box", Command::Analyse(BOXES), true),
+    ("lra analyse", ANALYSE, false),
+    ("other analyse", ANALYSE, false),
+    ("lra analyse --", ANALYSE, false),
+    ("lra analyse --domain poly", ANALYSE, false),
+    ("lra analyse --domain box", ANALYSE_BOXES, true),
     (
         "lra analyse --domain=oct",
-        Command::Analyse(AnalyseOptions {
-            domain: Domain::Oct,
-            ..DEFAULTS
-        }),
+        Command::Analyse {
+            options: Options {
+                domain: Domain::Oct,
+                ..DEFAULTS
+            },
+            json: false,
+        },
         false,
     ),
-    (
-        "lra analyse --parts 1 --domain=box",
-        Command::Analyse(BOXES),
-        true,
-    ),
+    ("lra analyse --parts 1 --domain=box", ANALYSE_BOXES, true),
     (
         "lra analyse --parts=16",
-        Command::Analyse(AnalyseOptions {
-            parts: 16,
-            ..DEFAULTS
-        }),
+        Command::Analyse {
+            options: Options {
+                parts: 16,
+                ..DEFAULTS
+            },
+            json: false,
+        },
         false,
     ),
     (
         "lra analyse --domain box --parts 2",
-        Command::Analyse(AnalyseOptions { parts: 2, ..BOXES }),
+        Command::Analyse {
+            options: Options { parts: 2, ..BOXES },
+            json: false,
+        },
         false,
     ),
     (
         "lra analyse --delay 0",
-        Command::Analyse(AnalyseOptions {
-            delay: 0,
-            ..DEFAULTS
-        }),
+        Command::Analyse {
+            options: Options {
+                delay: 0,
+                ..DEFAULTS
+            },
+            json: false,
+        },
         false,
     ),
     (
         "lra analyse --delay=8",
-        Command::Analyse(AnalyseOptions {
-            delay: 8,
-            ..DEFAULTS
-        }),
+        Command::Analyse {
+            options: Options {
+                delay: 8,
+                ..DEFAULTS
+            },
+            json: false,
+        },
         false,
     ),
     (
         "lra analyse --delay=+2",
-        Command::Analyse(AnalyseOptions {
-            delay: 2,
-            ..DEFAULTS
-        }),
+        Command::Analyse {
+            options: Options {
+                delay: 2,
+                ..DEFAULTS
+            },
+            json: false,
+        },
         false,
     ),
     (
         "lra analyse --delay +3",
-        Command::Analyse(AnalyseOptions {
-            delay: 3,
-            ..DEFAULTS
-        }),
+        Command::Analyse {
+            options: Options {
+                delay: 3,
+                ..DEFAULTS
+            },
+            json: false,
+        },
         false,
     ),
     (
         "lra analyse --delay=007",
-        Command::Analyse(AnalyseOptions {
-            delay: 7,
-            ..DEFAULTS
-        }),
+        Command::Analyse {
+            options: Options {
+                delay: 7,
+                ..DEFAULTS
+            },
+            json: false,
+        },
         false,
     ),
     (
         "lra analyse --delay 3 --domain box --limited",
-        Command::Analyse(AnalyseOptions {
-            delay: 3,
-            limited: true,
-            ..BOXES
-        }),
+        Command::Analyse {
+            options: Options {
+                delay: 3,
+                limited: true,
+                ..BOXES
+            },
+            json: false,
+        },
         true,
     ),
     (
         "lra analyse --narrow=0",
-        Command::Analyse(AnalyseOptions {
-            narrow: 0,
-            ..DEFAULTS
-        }),
+        Command::Analyse {
+            options: Options {
+                narrow: 0,
+                ..DEFAULTS
+            },
+            json: false,
+        },
         false,
     ),
     (
         "lra analyse --narrow 4 --domain=box --delay 0",
-        Command::Analyse(AnalyseOptions {
-            delay: 0,
-            narrow: 4,
-            ..BOXES
-        }),
+        Command::Analyse {
+            options: Options {
+                delay: 0,
+                narrow: 4,
+                ..BOXES
+            },
+            json: false,
+        },
         true,
     ),
     (
         "lra analyse --limited",
-        Command::Analyse(AnalyseOptions {
-            limited: true,
-            ..DEFAULTS
-        }),
+        Command::Analyse {
+            options: Options {
+                limited: true,
+                ..DEFAULTS
+            },
+            json: false,
+        },
         false,
     ),
     (
         "lra analyse --json",
-        Command::Analyse(AnalyseOptions {
+        Command::Analyse {
+            options: DEFAULTS,
             json: true,
-            ..DEFAULTS
-        }),
+        },
         false,
     ),
     (
         "lra analyse --domain box --json",
-        Command::Analyse(AnalyseOptions {
+        Command::Analyse {
+            options: BOXES,
             json: true,
-            ..BOXES
-        }),
+        },
         false,
     ),
     (
         "lra analyse --json --narrow 3 --limited --delay=2 --parts 5 --domain oct --",
-        Command::Analyse(AnalyseOptions {
-            domain: Domain::Oct,
-            parts: 5,
-            delay: 2,
-            narrow: 3,
-            limited: true,
+        Command::Analyse {
+            options: Options {
+                domain: Domain::Oct,
+                parts: 5,
+                delay: 2,
+                narrow: 3,
+                limited: true,
+            },
             json: true,
-        }),
+        },
         false,
     ),
     (

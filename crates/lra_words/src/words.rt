@@ -3,13 +3,14 @@ ghost use Rattle.std.specs.Prelude.{◌≡◌, ◌^◌, Err, IfOk, IfSome, Some,
 ghost use Rattle.clap.specs.Words.{found_of, kind_of, rows_of};
 ghost use Rattle.lra_words.specs.Built.{AsksFor};
 ghost use Rattle.lra_words.specs.Chosen.{IsRefused, IsTakenAs, IsWithinRanges, command_of, domain_at};
-ghost use Rattle.lra_words.specs.Chosen.{domain_of, flag_at, number_at, options_of, sample_of};
+ghost use Rattle.lra_words.specs.Chosen.{analyse_of, domain_named, flag_at, number_at, options_of, sample_of};
 ghost use Rattle.lra_words.specs.Refusals.{refusal};
 
-use crate::chosen::{AnalyseOptions, Command, Domain};
+use crate::chosen::Command;
 use crate::command_line::declare;
 use clap::ArgMatches;
 use clap::error::ErrorKind;
+use lra_base::{Domain, Options};
 use std::alloc::{AllocError, Global};
 
 /// Why words give no command.
@@ -31,7 +32,7 @@ fn refusal_of(error: &clap::Error) -> Refusal
 }
 
 fn domain_named(name: &str) -> Option<Domain>
-    ensures { result ≡ domain_of name.now }
+    ensures { result ≡ domain_named name.now }
 {
     match name {
         "poly" => Some(Domain::Poly),
@@ -47,10 +48,10 @@ fn domain(matches: &ArgMatches) -> Option<Domain>
     domain_named(matches.get_str("domain")?)
 }
 
-fn small_number(matches: &ArgMatches, option: &str) -> Option<u8>
-    ensures { result ≡ number_at option.now (2 ^ 8) (rows_of (found_of matches.now)) }
+fn number(matches: &ArgMatches, option: &str) -> Option<u32>
+    ensures { result ≡ number_at option.now (2 ^ 32) (rows_of (found_of matches.now)) }
 {
-    matches.get_one::<u8>(option)
+    matches.get_one::<u32>(option)
 }
 
 fn flag(matches: &ArgMatches, option: &str) -> Option<bool>
@@ -59,23 +60,29 @@ fn flag(matches: &ArgMatches, option: &str) -> Option<bool>
     matches.get_one::<bool>(option)
 }
 
-fn analyse_options(matches: &ArgMatches) -> Option<AnalyseOptions>
+fn analyse_options(matches: &ArgMatches) -> Option<Options>
     ensures { result ≡ options_of (rows_of (found_of matches.now)) }
 {
     let domain = domain(matches)?;
-    let parts = small_number(matches, "parts")?;
-    let delay = small_number(matches, "delay")?;
-    let narrow = small_number(matches, "narrow")?;
+    let parts = number(matches, "parts")?;
+    let delay = number(matches, "delay")?;
+    let narrow = number(matches, "narrow")?;
     let limited = flag(matches, "limited")?;
-    let json = flag(matches, "json")?;
-    Some(AnalyseOptions {
+    Some(Options {
         domain,
         parts,
         delay,
         narrow,
         limited,
-        json,
     })
+}
+
+fn analyse_command(matches: &ArgMatches) -> Option<Command>
+    ensures { result ≡ analyse_of (rows_of (found_of matches.now)) }
+{
+    let options = analyse_options(matches)?;
+    let json = flag(matches, "json")?;
+    Some(Command::Analyse { options, json })
 }
 
 fn seed(matches: &ArgMatches) -> Option<u64>
@@ -84,17 +91,11 @@ fn seed(matches: &ArgMatches) -> Option<u64>
     matches.get_one::<u64>("seed")
 }
 
-fn size(matches: &ArgMatches) -> Option<u32>
-    ensures { result ≡ number_at (codes "size") (2 ^ 32) (rows_of (found_of matches.now)) }
-{
-    matches.get_one::<u32>("size")
-}
-
 fn sample_command(matches: &ArgMatches) -> Option<Command>
     ensures { result ≡ sample_of (rows_of (found_of matches.now)) }
 {
     let seed = seed(matches)?;
-    let size = size(matches)?;
+    let size = number(matches, "size")?;
     Some(Command::Sample { seed, size })
 }
 
@@ -102,7 +103,7 @@ fn chosen_command(name: &str, matches: &ArgMatches) -> Option<Command>
     ensures { result ≡ command_of (Some (name.now, rows_of (found_of matches.now))) }
 {
     match name {
-        "analyse" => Some(Command::Analyse(analyse_options(matches)?)),
+        "analyse" => analyse_command(matches),
         "sample" => sample_command(matches),
         "calc" => Some(Command::Calc),
         _ => None,

@@ -56,7 +56,7 @@ round-returns-clause-jumps g t c =
 pub grow-head-init : goal.grow-head-init
 grow-head-init g t c =
     let l = c.args.the_loop.now in
-    grow_starts g.D.Domain.meaning l.settings.now l.point l.base (cond_view l.condition.now) (node_view l.body.now) c.args.first.now c.args.flag c.in_ok-head.head c.in_ok-head.ensures.started
+    grow_starts g.D.Domain.meaning l.options.now l.point l.base (cond_view l.condition.now) (node_view l.body.now) c.args.first.now c.args.flag c.in_ok-head.head c.in_ok-head.ensures.started
     c.in_ok-head.ensures.fits
 
 pub grow-round-requires : goal.grow-round-requires
@@ -76,9 +76,9 @@ pub grow-returns-in-Stable-clause-grows : goal.grow-returns-in-Stable-clause-gro
 grow-returns-in-Stable-clause-grows g t c =
     let m = g.D.Domain.meaning in
     let l = c.args.the_loop.now in
-    let stays : m.answers c.head.head c.in_ok-outcome.outcome.normal (mode_at l.settings.now.limited c.head.left) Yes = rw (← c.mode_of-mode.ensures) (c.in_ok-grow.ensures.stays c.in-Stable.is) in
+    let stays : m.answers c.head.head c.in_ok-outcome.outcome.normal (mode_at l.options.now.limited c.head.left) Yes = rw (← c.mode_of-mode.ensures) (c.in_ok-grow.ensures.stays c.in-Stable.is) in
     let round = rw c.note-so_far_here.ensures at c.in_ok-outcome.ensures.round in
-    grow_stable m l.settings.now l.point l.base (cond_view l.condition.now) (node_view l.body.now) c.args.first.now c.args.flag c.head.left c.head.so_far c.head.head
+    grow_stable m l.options.now l.point l.base (cond_view l.condition.now) (node_view l.body.now) c.args.first.now c.args.flag c.head.left c.head.so_far c.head.head
     c.in_ok-value.value c.in_ok-value.exactness (seen c.in_ok-outcome.outcome) c.head.invariant c.in_ok-value.ensures.values c.in_ok-value.ensures.dims round stays
     (c.in_ok-outcome.ensures.dims ∙ c.in_ok-value.ensures.dims)
 
@@ -97,17 +97,17 @@ grow-returns-in-Stable-clause-jumps g t c =
 pub grow-head-smaller : goal.grow-head-smaller
 grow-head-smaller g t c =
     let m = g.D.Domain.meaning in
-    grow_falls c.args.the_loop.now.settings.now.limited c.head.left c.saturating_sub-left.result (m.rank c.head.head) (m.rank c.grow.new.head) c.in_ok-grow.ensures.fits c.saturating_sub-left.ensures
+    grow_falls c.args.the_loop.now.options.now.limited c.head.left c.saturating_sub-left.result (m.rank c.head.head) (m.rank c.grow.new.head) c.in_ok-grow.ensures.fits c.saturating_sub-left.ensures
     (λ joins. c.in_ok-grow.ensures.lower c.in-Grew.exactness c.in-Grew.is (λ e. joins (sym c.mode_of-mode.ensures ∙ e)))
 
 pub grow-head-preserved : goal.grow-head-preserved
 grow-head-preserved g t c =
     let m = g.D.Domain.meaning in
     let l = c.args.the_loop.now in
-    let grew : Grew m c.head.head c.in_ok-outcome.outcome.normal (mode_at l.settings.now.limited c.head.left) c.in-Grew.exactness c.grow.new.head = rw (← c.mode_of-mode.ensures)
+    let grew : Grew m c.head.head c.in_ok-outcome.outcome.normal (mode_at l.options.now.limited c.head.left) c.in-Grew.exactness c.grow.new.head = rw (← c.mode_of-mode.ensures)
     (c.in_ok-grow.ensures.grew c.in-Grew.exactness c.in-Grew.is) in
     let round = rw c.note-so_far_here.ensures at c.in_ok-outcome.ensures.round in
-    rw c.note-so_far.ensures (grow_next m l.settings.now l.point l.base (cond_view l.condition.now) (node_view l.body.now) c.args.first.now c.args.flag c.head.left c.saturating_sub-left.result
+    rw c.note-so_far.ensures (grow_next m l.options.now l.point l.base (cond_view l.condition.now) (node_view l.body.now) c.args.first.now c.args.flag c.head.left c.saturating_sub-left.result
     c.head.so_far c.head.head c.grow.new.head
     c.in_ok-value.value c.in_ok-value.exactness c.in-Grew.exactness (seen c.in_ok-outcome.outcome) c.head.invariant c.in_ok-value.ensures.values c.in_ok-value.ensures.dims round grew
     (c.in_ok-outcome.ensures.dims ∙ c.in_ok-value.ensures.dims) c.in_ok-grow.ensures.dims c.in_ok-grow.ensures.fits c.saturating_sub-left.ensures)
@@ -122,7 +122,7 @@ pub pass_loop-narrowing-init : goal.pass_loop-narrowing-init
 pass_loop-narrowing-init g t c =
     let l = c.args.the_loop.now in
     let grown = c.in_ok-grown.ensures in
-    narrow_starts g.D.Domain.meaning l.settings.now l.point l.base (cond_view l.condition.now) (node_view l.body.now) c.args.value c.in_ok-grown.grown c.args.flag (seen c.in_ok-grown.outcome)
+    narrow_starts g.D.Domain.meaning l.options.now l.point l.base (cond_view l.condition.now) (node_view l.body.now) c.args.value c.in_ok-grown.grown c.args.flag (seen c.in_ok-grown.outcome)
     grown.grows grown.dims grown.behind grown.jumps
 
 pub pass_loop-narrowed-requires : goal.pass_loop-narrowed-requires
@@ -142,7 +142,7 @@ pub pass_loop-narrowing-preserved : goal.pass_loop-narrowing-preserved
 pass_loop-narrowing-preserved g t c =
     let l = c.args.the_loop.now in
     let counts : c.narrowing.left ≡ suc (c.narrowing.left - 1) = omega arith in
-    narrow_next g.D.Domain.meaning l.settings.now l.point l.base (cond_view l.condition.now) (node_view l.body.now) c.args.value c.args.flag c.narrowing.left (c.narrowing.left - 1)
+    narrow_next g.D.Domain.meaning l.options.now l.point l.base (cond_view l.condition.now) (node_view l.body.now) c.args.value c.args.flag c.narrowing.left (c.narrowing.left - 1)
     c.narrowing.top c.in_ok-next.next (seen c.narrowing.last) (seen c.in_ok-last.last) c.in_ok-next.ensures.0 c.in_ok-next.so_far c.narrowing.invariant counts c.in_ok-next.ensures.1
     c.in_ok-next.ensures.2
     c.in_ok-last.ensures.round c.in_ok-last.ensures.dims c.in_ok-last.ensures.jumps
@@ -155,9 +155,9 @@ pass_loop-returns g t c =
     let l = c.args.the_loop.now in
     let loop = c.narrowing.invariant in
     let none : c.narrowing.left ≡ 0 = omega arith in
-    let narrows = narrow_ends g.D.Domain.meaning l.settings.now l.point l.base (cond_view l.condition.now) (node_view l.body.now) c.args.value c.args.flag c.narrowing.left c.narrowing.top
+    let narrows = narrow_ends g.D.Domain.meaning l.options.now l.point l.base (cond_view l.condition.now) (node_view l.body.now) c.args.value c.args.flag c.narrowing.left c.narrowing.top
     (seen c.narrowing.last) loop none in
-    loop_passed g.D.Domain.meaning l.settings.now l.point l.base (cond_view l.condition.now) (node_view l.body.now) c.args.flag c.args.value loop.start c.narrowing.top
+    loop_passed g.D.Domain.meaning l.options.now l.point l.base (cond_view l.condition.now) (node_view l.body.now) c.args.flag c.args.value loop.start c.narrowing.top
     loop.round (seen c.narrowing.last) (seen c.in_ok-outcome.outcome) loop.grown narrows c.in_ok-outcome.ensures.left loop.dims c.in_ok-outcome.ensures.dims loop.jumps
 
 -- a choice ------------------------------------------------------------------------------------------------------------
@@ -190,11 +190,11 @@ pass_choice-returns g t c =
     let k = c.args.choice.now in
     let sides = c.in_ok-sides.sides in
     let given = c.in_ok-sides.ensures in
-    let one : IsPassed m k.settings.now (node_view k.yes.now) (noted k.point sides.on.exactness c.args.flag) sides.on.value (seen c.in_ok-first.first) =
+    let one : IsPassed m k.options.now (node_view k.yes.now) (noted k.point sides.on.exactness c.args.flag) sides.on.value (seen c.in_ok-first.first) =
     record { pass = rw c.note-on_flag.ensures at c.in_ok-first.ensures.pass; dims = c.in_ok-first.ensures.dims; jumps = c.in_ok-first.ensures.jumps } in
-    let two : IsPassed m k.settings.now (node_view k.no.now) (noted k.point sides.off.exactness c.in_ok-first.first.flag) sides.off.value (seen c.in_ok-second.second) =
+    let two : IsPassed m k.options.now (node_view k.no.now) (noted k.point sides.off.exactness c.in_ok-first.first.flag) sides.off.value (seen c.in_ok-second.second) =
     record { pass = rw c.note-off_flag.ensures at c.in_ok-second.ensures.pass; dims = c.in_ok-second.ensures.dims; jumps = c.in_ok-second.ensures.jumps } in
-    choice_passed m k.settings.now k.point k.base (cond_view k.condition.now) (node_view k.yes.now) (node_view k.no.now) c.args.flag c.args.value sides.on.value sides.off.value
+    choice_passed m k.options.now k.point k.base (cond_view k.condition.now) (node_view k.yes.now) (node_view k.no.now) c.args.flag c.args.value sides.on.value sides.off.value
     sides.on.exactness sides.off.exactness
     (seen c.in_ok-first.first) (seen c.in_ok-second.second) (seen c.in_ok-both.both) given.on given.on_dims one given.off given.off_dims two c.in_ok-both.ensures.joined c.in_ok-both.ensures.dims
 
@@ -202,7 +202,7 @@ pass_choice-returns g t c =
 
 pub pass_row-row-init : goal.pass_row-row-init
 pass_row-row-init g t c =
-    row_starts g.D.Domain.meaning c.args.settings.now (row (map node_view c.args.trees.now) (node_view c.args.last.now)) c.args.flag c.args.value c.nothing-found.result c.requires.few
+    row_starts g.D.Domain.meaning c.args.options.now (row (map node_view c.args.trees.now) (node_view c.args.last.now)) c.args.flag c.args.value c.nothing-found.result c.requires.few
     c.requires.fits c.nothing-found.ensures
 
 pub pass_row-pass-requires : goal.pass_row-pass-requires
@@ -212,7 +212,7 @@ pass_row-pass-requires g t c =
     c.tree-item.is in
     let few : m.dims c.row.behind ≤ 2 ^ 30 = c.row.invariant.few in
     let fits : TreeFits (node_view c.tree-item.result) (m.dims c.row.behind) =
-    next_fits m c.args.settings.now (row (map node_view c.args.trees.now) (node_view c.args.last.now)) c.args.flag c.args.value _ c.row.found c.row.behind c.row.so_far c.row.invariant _ _
+    next_fits m c.args.options.now (row (map node_view c.args.trees.now) (node_view c.args.last.now)) c.args.flag c.args.value _ c.row.found c.row.behind c.row.so_far c.row.invariant _ _
     (row_at c.args.trees.now c.row.tree-index c.tree-item.result c.args.last.now c.row-test.true c.tree-item.is) in
     search rules
 
@@ -220,7 +220,7 @@ pub pass_row-row-preserved : goal.pass_row-row-preserved
 pass_row-row-preserved g t c =
     let done = c.in_ok-part.ensures in
     let taken = c.in_ok-value.ensures in
-    row_next g.D.Domain.meaning c.args.settings.now (row (map node_view c.args.trees.now) (node_view c.args.last.now)) c.args.flag c.args.value _ c.row.found c.row.behind c.row.so_far
+    row_next g.D.Domain.meaning c.args.options.now (row (map node_view c.args.trees.now) (node_view c.args.last.now)) c.args.flag c.args.value _ c.row.found c.row.behind c.row.so_far
     c.row.invariant _ _
     (row_at c.args.trees.now c.row.tree-index c.tree-item.result c.args.last.now c.row-test.true c.tree-item.is)
     c.in_ok-part.part c.take.new.self c.in_ok-value.value c.in_ok-value.flag (record { pass = done.pass; dims = done.dims; jumps = done.jumps }) taken.0 taken.1 taken.2
@@ -230,7 +230,7 @@ pass_row-pass-requires-2 g t c =
     let m = g.D.Domain.meaning in
     let few : m.dims c.row.behind ≤ 2 ^ 30 = c.row.invariant.few in
     let fits : TreeFits (node_view c.args.last.now) (m.dims c.row.behind) =
-    last_fits m c.args.settings.now (row (map node_view c.args.trees.now) (node_view c.args.last.now)) c.args.flag c.args.value _ c.row.found c.row.behind c.row.so_far c.row.invariant
+    last_fits m c.args.options.now (row (map node_view c.args.trees.now) (node_view c.args.last.now)) c.args.flag c.args.value _ c.row.found c.row.behind c.row.so_far c.row.invariant
     (node_view c.args.last.now)
     (row_done c.args.trees.now c.row.tree-index c.args.last.now c.row-test.false) in
     search rules
@@ -239,7 +239,7 @@ pub pass_row-returns : goal.pass_row-returns
 pass_row-returns g t c =
     let done = c.in_ok-end.ensures in
     let taken = c.in_ok-normal.ensures in
-    row_ends g.D.Domain.meaning c.args.settings.now (row (map node_view c.args.trees.now) (node_view c.args.last.now)) c.args.flag c.args.value _ c.row.found c.row.behind c.row.so_far
+    row_ends g.D.Domain.meaning c.args.options.now (row (map node_view c.args.trees.now) (node_view c.args.last.now)) c.args.flag c.args.value _ c.row.found c.row.behind c.row.so_far
     c.row.invariant (node_view c.args.last.now)
     (row_done c.args.trees.now c.row.tree-index c.args.last.now c.row-test.false)
     c.in_ok-end.end c.take-2.new.self c.in_ok-normal.normal c.in_ok-normal.flag (record { pass = done.pass; dims = done.dims; jumps = done.jumps }) taken.0 taken.1 taken.2
@@ -256,46 +256,46 @@ pub pass-returns-in-Empty-clause-jumps : goal.pass-returns-in-Empty-clause-jumps
 pass-returns-in-Empty-clause-jumps g t c = none_fits g.D.Domain.meaning (node_view c.args.node.now) (g.D.Domain.meaning.dims c.args.value) _ _ _ _ c.going_on.ensures
 
 pub pass-returns-in-Point-clause-pass : goal.pass-returns-in-Point-clause-pass
-pass-returns-in-Point-clause-pass g t c = given_pass g.D.Domain.meaning c.args.settings.now (node_view c.args.node.now) (graph.point c.in-Point.point) c.args.flag c.args.value c.pass_point.result
-    (ap node_view c.in-Point.is ∙ point_view c.in-Point.point) (c.pass_point.ensures c.args.settings.now)
+pass-returns-in-Point-clause-pass g t c = given_pass g.D.Domain.meaning c.args.options.now (node_view c.args.node.now) (graph.point c.in-Point.point) c.args.flag c.args.value c.pass_point.result
+    (ap node_view c.in-Point.is ∙ point_view c.in-Point.point) (c.pass_point.ensures c.args.options.now)
 
 pub pass-returns-in-Point-clause-dims : goal.pass-returns-in-Point-clause-dims
-pass-returns-in-Point-clause-dims g t c = given_dims g.D.Domain.meaning c.args.settings.now (node_view c.args.node.now) (graph.point c.in-Point.point) c.args.flag c.args.value c.pass_point.result
-    (ap node_view c.in-Point.is ∙ point_view c.in-Point.point) (c.pass_point.ensures c.args.settings.now)
+pass-returns-in-Point-clause-dims g t c = given_dims g.D.Domain.meaning c.args.options.now (node_view c.args.node.now) (graph.point c.in-Point.point) c.args.flag c.args.value c.pass_point.result
+    (ap node_view c.in-Point.is ∙ point_view c.in-Point.point) (c.pass_point.ensures c.args.options.now)
 
 pub pass-returns-in-Point-clause-jumps : goal.pass-returns-in-Point-clause-jumps
-pass-returns-in-Point-clause-jumps g t c = given_jumps g.D.Domain.meaning c.args.settings.now (node_view c.args.node.now) (graph.point c.in-Point.point) c.args.flag c.args.value c.pass_point.result
-    (ap node_view c.in-Point.is ∙ point_view c.in-Point.point) (c.pass_point.ensures c.args.settings.now)
+pass-returns-in-Point-clause-jumps g t c = given_jumps g.D.Domain.meaning c.args.options.now (node_view c.args.node.now) (graph.point c.in-Point.point) c.args.flag c.args.value c.pass_point.result
+    (ap node_view c.in-Point.is ∙ point_view c.in-Point.point) (c.pass_point.ensures c.args.options.now)
 
 pub pass-returns-in-Act-clause-pass : goal.pass-returns-in-Act-clause-pass
-pass-returns-in-Act-clause-pass g t c = given_pass g.D.Domain.meaning c.args.settings.now (node_view c.args.node.now) (graph.act c.in-Act.point (op_view c.in-Act.op)) c.args.flag c.args.value
+pass-returns-in-Act-clause-pass g t c = given_pass g.D.Domain.meaning c.args.options.now (node_view c.args.node.now) (graph.act c.in-Act.point (op_view c.in-Act.op)) c.args.flag c.args.value
     c.pass_act.result
-    (ap node_view c.in-Act.is ∙ act_view c.in-Act.point c.in-Act.op) (c.pass_act.ensures c.args.settings.now)
+    (ap node_view c.in-Act.is ∙ act_view c.in-Act.point c.in-Act.op) (c.pass_act.ensures c.args.options.now)
 
 pub pass-returns-in-Act-clause-dims : goal.pass-returns-in-Act-clause-dims
-pass-returns-in-Act-clause-dims g t c = given_dims g.D.Domain.meaning c.args.settings.now (node_view c.args.node.now) (graph.act c.in-Act.point (op_view c.in-Act.op)) c.args.flag c.args.value
+pass-returns-in-Act-clause-dims g t c = given_dims g.D.Domain.meaning c.args.options.now (node_view c.args.node.now) (graph.act c.in-Act.point (op_view c.in-Act.op)) c.args.flag c.args.value
     c.pass_act.result
-    (ap node_view c.in-Act.is ∙ act_view c.in-Act.point c.in-Act.op) (c.pass_act.ensures c.args.settings.now)
+    (ap node_view c.in-Act.is ∙ act_view c.in-Act.point c.in-Act.op) (c.pass_act.ensures c.args.options.now)
 
 pub pass-returns-in-Act-clause-jumps : goal.pass-returns-in-Act-clause-jumps
-pass-returns-in-Act-clause-jumps g t c = given_jumps g.D.Domain.meaning c.args.settings.now (node_view c.args.node.now) (graph.act c.in-Act.point (op_view c.in-Act.op)) c.args.flag c.args.value
+pass-returns-in-Act-clause-jumps g t c = given_jumps g.D.Domain.meaning c.args.options.now (node_view c.args.node.now) (graph.act c.in-Act.point (op_view c.in-Act.op)) c.args.flag c.args.value
     c.pass_act.result
-    (ap node_view c.in-Act.is ∙ act_view c.in-Act.point c.in-Act.op) (c.pass_act.ensures c.args.settings.now)
+    (ap node_view c.in-Act.is ∙ act_view c.in-Act.point c.in-Act.op) (c.pass_act.ensures c.args.options.now)
 
 pub pass-returns-in-Check-clause-pass : goal.pass-returns-in-Check-clause-pass
-pass-returns-in-Check-clause-pass g t c = given_pass g.D.Domain.meaning c.args.settings.now (node_view c.args.node.now)
+pass-returns-in-Check-clause-pass g t c = given_pass g.D.Domain.meaning c.args.options.now (node_view c.args.node.now)
     (graph.check c.in-Check.point c.in-Check.base (cond_view c.in-Check.condition)) c.args.flag c.args.value c.pass_check.result
-    (ap node_view c.in-Check.is ∙ check_view c.in-Check.point c.in-Check.base c.in-Check.condition) (c.pass_check.ensures c.args.settings.now)
+    (ap node_view c.in-Check.is ∙ check_view c.in-Check.point c.in-Check.base c.in-Check.condition) (c.pass_check.ensures c.args.options.now)
 
 pub pass-returns-in-Check-clause-dims : goal.pass-returns-in-Check-clause-dims
-pass-returns-in-Check-clause-dims g t c = given_dims g.D.Domain.meaning c.args.settings.now (node_view c.args.node.now)
+pass-returns-in-Check-clause-dims g t c = given_dims g.D.Domain.meaning c.args.options.now (node_view c.args.node.now)
     (graph.check c.in-Check.point c.in-Check.base (cond_view c.in-Check.condition)) c.args.flag c.args.value c.pass_check.result
-    (ap node_view c.in-Check.is ∙ check_view c.in-Check.point c.in-Check.base c.in-Check.condition) (c.pass_check.ensures c.args.settings.now)
+    (ap node_view c.in-Check.is ∙ check_view c.in-Check.point c.in-Check.base c.in-Check.condition) (c.pass_check.ensures c.args.options.now)
 
 pub pass-returns-in-Check-clause-jumps : goal.pass-returns-in-Check-clause-jumps
-pass-returns-in-Check-clause-jumps g t c = given_jumps g.D.Domain.meaning c.args.settings.now (node_view c.args.node.now)
+pass-returns-in-Check-clause-jumps g t c = given_jumps g.D.Domain.meaning c.args.options.now (node_view c.args.node.now)
     (graph.check c.in-Check.point c.in-Check.base (cond_view c.in-Check.condition)) c.args.flag c.args.value c.pass_check.result
-    (ap node_view c.in-Check.is ∙ check_view c.in-Check.point c.in-Check.base c.in-Check.condition) (c.pass_check.ensures c.args.settings.now)
+    (ap node_view c.in-Check.is ∙ check_view c.in-Check.point c.in-Check.base c.in-Check.condition) (c.pass_check.ensures c.args.options.now)
 
 pub pass-pass_row-requires : goal.pass-pass_row-requires
 pass-pass_row-requires g t c =
@@ -307,17 +307,17 @@ pass-pass_row-requires g t c =
     search rules
 
 pub pass-returns-in-Seq-clause-pass : goal.pass-returns-in-Seq-clause-pass
-pass-returns-in-Seq-clause-pass g t c = given_pass g.D.Domain.meaning c.args.settings.now (node_view c.args.node.now)
+pass-returns-in-Seq-clause-pass g t c = given_pass g.D.Domain.meaning c.args.options.now (node_view c.args.node.now)
     (row (map node_view c.deref.result.now) (node_view c.deref-in-Seq.result.now)) c.args.flag c.args.value c.pass_row.result
     (seq_shown c.args.node.now c.deref-in-Seq.result.now c.deref.result.now c.in-Seq.trees c.in-Seq.last c.deref.ensures.value c.deref-in-Seq.ensures c.in-Seq.is) c.pass_row.ensures
 
 pub pass-returns-in-Seq-clause-dims : goal.pass-returns-in-Seq-clause-dims
-pass-returns-in-Seq-clause-dims g t c = given_dims g.D.Domain.meaning c.args.settings.now (node_view c.args.node.now)
+pass-returns-in-Seq-clause-dims g t c = given_dims g.D.Domain.meaning c.args.options.now (node_view c.args.node.now)
     (row (map node_view c.deref.result.now) (node_view c.deref-in-Seq.result.now)) c.args.flag c.args.value c.pass_row.result
     (seq_shown c.args.node.now c.deref-in-Seq.result.now c.deref.result.now c.in-Seq.trees c.in-Seq.last c.deref.ensures.value c.deref-in-Seq.ensures c.in-Seq.is) c.pass_row.ensures
 
 pub pass-returns-in-Seq-clause-jumps : goal.pass-returns-in-Seq-clause-jumps
-pass-returns-in-Seq-clause-jumps g t c = given_jumps g.D.Domain.meaning c.args.settings.now (node_view c.args.node.now)
+pass-returns-in-Seq-clause-jumps g t c = given_jumps g.D.Domain.meaning c.args.options.now (node_view c.args.node.now)
     (row (map node_view c.deref.result.now) (node_view c.deref-in-Seq.result.now)) c.args.flag c.args.value c.pass_row.result
     (seq_shown c.args.node.now c.deref-in-Seq.result.now c.deref.result.now c.in-Seq.trees c.in-Seq.last c.deref.ensures.value c.deref-in-Seq.ensures c.in-Seq.is) c.pass_row.ensures
 
@@ -334,21 +334,21 @@ pass-pass_choice-requires g t c =
     search rules
 
 pub pass-returns-in-Choose-clause-pass : goal.pass-returns-in-Choose-clause-pass
-pass-returns-in-Choose-clause-pass g t c = given_pass g.D.Domain.meaning c.args.settings.now (node_view c.args.node.now)
+pass-returns-in-Choose-clause-pass g t c = given_pass g.D.Domain.meaning c.args.options.now (node_view c.args.node.now)
     (graph.choose c.in-Choose.point c.in-Choose.base (cond_view c.in-Choose.condition) (node_view c.deref-in-Choose.result.now) (node_view c.deref-in-Choose-2.result.now)) c.args.flag
     c.args.value c.pass_choice.result
     (choose_shown c.args.node.now c.deref-in-Choose.result.now c.deref-in-Choose-2.result.now c.in-Choose.yes c.in-Choose.no c.deref-in-Choose.ensures c.deref-in-Choose-2.ensures
     c.in-Choose.point c.in-Choose.base c.in-Choose.condition c.in-Choose.is) c.pass_choice.ensures
 
 pub pass-returns-in-Choose-clause-dims : goal.pass-returns-in-Choose-clause-dims
-pass-returns-in-Choose-clause-dims g t c = given_dims g.D.Domain.meaning c.args.settings.now (node_view c.args.node.now)
+pass-returns-in-Choose-clause-dims g t c = given_dims g.D.Domain.meaning c.args.options.now (node_view c.args.node.now)
     (graph.choose c.in-Choose.point c.in-Choose.base (cond_view c.in-Choose.condition) (node_view c.deref-in-Choose.result.now) (node_view c.deref-in-Choose-2.result.now)) c.args.flag
     c.args.value c.pass_choice.result
     (choose_shown c.args.node.now c.deref-in-Choose.result.now c.deref-in-Choose-2.result.now c.in-Choose.yes c.in-Choose.no c.deref-in-Choose.ensures c.deref-in-Choose-2.ensures
     c.in-Choose.point c.in-Choose.base c.in-Choose.condition c.in-Choose.is) c.pass_choice.ensures
 
 pub pass-returns-in-Choose-clause-jumps : goal.pass-returns-in-Choose-clause-jumps
-pass-returns-in-Choose-clause-jumps g t c = given_jumps g.D.Domain.meaning c.args.settings.now (node_view c.args.node.now)
+pass-returns-in-Choose-clause-jumps g t c = given_jumps g.D.Domain.meaning c.args.options.now (node_view c.args.node.now)
     (graph.choose c.in-Choose.point c.in-Choose.base (cond_view c.in-Choose.condition) (node_view c.deref-in-Choose.result.now) (node_view c.deref-in-Choose-2.result.now)) c.args.flag
     c.args.value c.pass_choice.result
     (choose_shown c.args.node.now c.deref-in-Choose.result.now c.deref-in-Choose-2.result.now c.in-Choose.yes c.in-Choose.no c.deref-in-Choose.ensures c.deref-in-Choose-2.ensures
@@ -366,19 +366,19 @@ pass-pass_loop-requires g t c =
     search rules
 
 pub pass-returns-in-Iterate-clause-pass : goal.pass-returns-in-Iterate-clause-pass
-pass-returns-in-Iterate-clause-pass g t c = given_pass g.D.Domain.meaning c.args.settings.now (node_view c.args.node.now)
+pass-returns-in-Iterate-clause-pass g t c = given_pass g.D.Domain.meaning c.args.options.now (node_view c.args.node.now)
     (graph.iterate c.in-Iterate.point c.in-Iterate.base (cond_view c.in-Iterate.condition) (node_view c.deref-in-Iterate.result.now)) c.args.flag c.args.value c.pass_loop.result
     (iterate_shown c.args.node.now c.deref-in-Iterate.result.now c.in-Iterate.body c.deref-in-Iterate.ensures c.in-Iterate.point c.in-Iterate.base c.in-Iterate.condition c.in-Iterate.is)
     c.pass_loop.ensures
 
 pub pass-returns-in-Iterate-clause-dims : goal.pass-returns-in-Iterate-clause-dims
-pass-returns-in-Iterate-clause-dims g t c = given_dims g.D.Domain.meaning c.args.settings.now (node_view c.args.node.now)
+pass-returns-in-Iterate-clause-dims g t c = given_dims g.D.Domain.meaning c.args.options.now (node_view c.args.node.now)
     (graph.iterate c.in-Iterate.point c.in-Iterate.base (cond_view c.in-Iterate.condition) (node_view c.deref-in-Iterate.result.now)) c.args.flag c.args.value c.pass_loop.result
     (iterate_shown c.args.node.now c.deref-in-Iterate.result.now c.in-Iterate.body c.deref-in-Iterate.ensures c.in-Iterate.point c.in-Iterate.base c.in-Iterate.condition c.in-Iterate.is)
     c.pass_loop.ensures
 
 pub pass-returns-in-Iterate-clause-jumps : goal.pass-returns-in-Iterate-clause-jumps
-pass-returns-in-Iterate-clause-jumps g t c = given_jumps g.D.Domain.meaning c.args.settings.now (node_view c.args.node.now)
+pass-returns-in-Iterate-clause-jumps g t c = given_jumps g.D.Domain.meaning c.args.options.now (node_view c.args.node.now)
     (graph.iterate c.in-Iterate.point c.in-Iterate.base (cond_view c.in-Iterate.condition) (node_view c.deref-in-Iterate.result.now)) c.args.flag c.args.value c.pass_loop.result
     (iterate_shown c.args.node.now c.deref-in-Iterate.result.now c.in-Iterate.body c.deref-in-Iterate.ensures c.in-Iterate.point c.in-Iterate.base c.in-Iterate.condition c.in-Iterate.is)
     c.pass_loop.ensures
@@ -403,7 +403,7 @@ pass-catch_jumps-requires g t c =
 pub pass-returns-in_ok-inner-in-Catch-clause-pass : goal.pass-returns-in_ok-inner-in-Catch-clause-pass
 pass-returns-in_ok-inner-in-Catch-clause-pass g t c =
     let done = c.in_ok-inner-in-Catch.ensures in
-    caught_pass g.D.Domain.meaning c.args.settings.now (node_view c.args.node.now) (graph.catch c.in-Catch.point (exit_view c.in-Catch.exit) (node_view c.deref-in-Catch.result.now)) c.args.flag
+    caught_pass g.D.Domain.meaning c.args.options.now (node_view c.args.node.now) (graph.catch c.in-Catch.point (exit_view c.in-Catch.exit) (node_view c.deref-in-Catch.result.now)) c.args.flag
     c.args.value c.catch_jumps.result
     (catch_shown c.args.node.now c.deref-in-Catch.result.now c.in-Catch.body c.deref-in-Catch.ensures c.in-Catch.point c.in-Catch.exit c.in-Catch.is) c.in-Catch.point (exit_view c.in-Catch.exit)
     (node_view c.deref-in-Catch.result.now) refl (seen c.in_ok-inner-in-Catch.inner)
@@ -412,7 +412,7 @@ pass-returns-in_ok-inner-in-Catch-clause-pass g t c =
 pub pass-returns-in_ok-inner-in-Catch-clause-dims : goal.pass-returns-in_ok-inner-in-Catch-clause-dims
 pass-returns-in_ok-inner-in-Catch-clause-dims g t c =
     let done = c.in_ok-inner-in-Catch.ensures in
-    caught_dims g.D.Domain.meaning c.args.settings.now (node_view c.args.node.now) (graph.catch c.in-Catch.point (exit_view c.in-Catch.exit) (node_view c.deref-in-Catch.result.now)) c.args.flag
+    caught_dims g.D.Domain.meaning c.args.options.now (node_view c.args.node.now) (graph.catch c.in-Catch.point (exit_view c.in-Catch.exit) (node_view c.deref-in-Catch.result.now)) c.args.flag
     c.args.value c.catch_jumps.result
     (catch_shown c.args.node.now c.deref-in-Catch.result.now c.in-Catch.body c.deref-in-Catch.ensures c.in-Catch.point c.in-Catch.exit c.in-Catch.is) c.in-Catch.point (exit_view c.in-Catch.exit)
     (node_view c.deref-in-Catch.result.now) refl (seen c.in_ok-inner-in-Catch.inner)
@@ -421,23 +421,23 @@ pass-returns-in_ok-inner-in-Catch-clause-dims g t c =
 pub pass-returns-in_ok-inner-in-Catch-clause-jumps : goal.pass-returns-in_ok-inner-in-Catch-clause-jumps
 pass-returns-in_ok-inner-in-Catch-clause-jumps g t c =
     let done = c.in_ok-inner-in-Catch.ensures in
-    caught_jumps g.D.Domain.meaning c.args.settings.now (node_view c.args.node.now) (graph.catch c.in-Catch.point (exit_view c.in-Catch.exit) (node_view c.deref-in-Catch.result.now)) c.args.flag
+    caught_jumps g.D.Domain.meaning c.args.options.now (node_view c.args.node.now) (graph.catch c.in-Catch.point (exit_view c.in-Catch.exit) (node_view c.deref-in-Catch.result.now)) c.args.flag
     c.args.value c.catch_jumps.result
     (catch_shown c.args.node.now c.deref-in-Catch.result.now c.in-Catch.body c.deref-in-Catch.ensures c.in-Catch.point c.in-Catch.exit c.in-Catch.is) c.in-Catch.point (exit_view c.in-Catch.exit)
     (node_view c.deref-in-Catch.result.now) refl (seen c.in_ok-inner-in-Catch.inner)
     (record { pass = done.pass; dims = done.dims; jumps = done.jumps }) c.catch_jumps.ensures.caught
 
 pub pass-returns-in-Leave-clause-pass : goal.pass-returns-in-Leave-clause-pass
-pass-returns-in-Leave-clause-pass g t c = given_pass g.D.Domain.meaning c.args.settings.now (node_view c.args.node.now) (graph.leave c.in-Leave.live (exit_view c.in-Leave.exit)) c.args.flag
+pass-returns-in-Leave-clause-pass g t c = given_pass g.D.Domain.meaning c.args.options.now (node_view c.args.node.now) (graph.leave c.in-Leave.live (exit_view c.in-Leave.exit)) c.args.flag
     c.args.value c.pass_leave.result
     (ap node_view c.in-Leave.is ∙ leave_view c.in-Leave.live c.in-Leave.exit) c.pass_leave.ensures
 
 pub pass-returns-in-Leave-clause-dims : goal.pass-returns-in-Leave-clause-dims
-pass-returns-in-Leave-clause-dims g t c = given_dims g.D.Domain.meaning c.args.settings.now (node_view c.args.node.now) (graph.leave c.in-Leave.live (exit_view c.in-Leave.exit)) c.args.flag
+pass-returns-in-Leave-clause-dims g t c = given_dims g.D.Domain.meaning c.args.options.now (node_view c.args.node.now) (graph.leave c.in-Leave.live (exit_view c.in-Leave.exit)) c.args.flag
     c.args.value c.pass_leave.result
     (ap node_view c.in-Leave.is ∙ leave_view c.in-Leave.live c.in-Leave.exit) c.pass_leave.ensures
 
 pub pass-returns-in-Leave-clause-jumps : goal.pass-returns-in-Leave-clause-jumps
-pass-returns-in-Leave-clause-jumps g t c = given_jumps g.D.Domain.meaning c.args.settings.now (node_view c.args.node.now) (graph.leave c.in-Leave.live (exit_view c.in-Leave.exit)) c.args.flag
+pass-returns-in-Leave-clause-jumps g t c = given_jumps g.D.Domain.meaning c.args.options.now (node_view c.args.node.now) (graph.leave c.in-Leave.live (exit_view c.in-Leave.exit)) c.args.flag
     c.args.value c.pass_leave.result
     (ap node_view c.in-Leave.is ∙ leave_view c.in-Leave.live c.in-Leave.exit) c.pass_leave.ensures

@@ -8,21 +8,21 @@ use Rattle.lra_iter.proofs.PassRows.{RowLoop}
 use Rattle.lra_iter.proofs.pass.+pass.Given as goal
 
 abbrev pub invariant-grow-head : goal.invariant-grow-head
-invariant-grow-head g l = GrowLoop g.D.Domain.meaning l.the_loop.settings.now l.the_loop.point l.the_loop.base (cond_view l.the_loop.condition.now) (node_view l.the_loop.body.now) l.first
+invariant-grow-head g l = GrowLoop g.D.Domain.meaning l.the_loop.options.now l.the_loop.point l.the_loop.base (cond_view l.the_loop.condition.now) (node_view l.the_loop.body.now) l.first
     l.fn.flag l.left l.so_far l.head
 
 abbrev pub decreases-grow-head : goal.decreases-grow-head
 decreases-grow-head g l = phased (2 ^ 64) l.left (g.D.Domain.meaning.rank l.head)
 
 abbrev pub invariant-pass_loop-narrowing : goal.invariant-pass_loop-narrowing
-invariant-pass_loop-narrowing g l = NarrowLoop g.D.Domain.meaning l.the_loop.settings.now l.the_loop.point l.the_loop.base (cond_view l.the_loop.condition.now) (node_view l.the_loop.body.now)
+invariant-pass_loop-narrowing g l = NarrowLoop g.D.Domain.meaning l.the_loop.options.now l.the_loop.point l.the_loop.base (cond_view l.the_loop.condition.now) (node_view l.the_loop.body.now)
     l.fn.value l.fn.flag l.left l.top (seen l.last)
 
 abbrev pub decreases-pass_loop-narrowing : goal.decreases-pass_loop-narrowing
 decreases-pass_loop-narrowing g l = l.left
 
 abbrev pub invariant-pass_row-row : goal.invariant-pass_row-row
-invariant-pass_row-row g l = RowLoop g.D.Domain.meaning l.settings (row (map node_view l.trees) (node_view l.last)) l.fn.flag l.fn.value
+invariant-pass_row-row g l = RowLoop g.D.Domain.meaning l.options (row (map node_view l.trees) (node_view l.last)) l.fn.flag l.fn.value
     (row (map node_view (drop l.tree-index l.trees)) (node_view l.last)) l.found l.behind l.so_far
 
 abbrev pub decreases-pass : goal.decreases-pass

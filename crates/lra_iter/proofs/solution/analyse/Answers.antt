@@ -11,7 +11,7 @@ use Rattle.lra_iter.proofs.solution.analyse.Goals as goal
 pub solution_of-requires : goal.solution_of-requires
 solution_of-requires g c =
     let graph = c.args.graph.now in
-    rw c.deref.ensures.value (pass_counted (dropping g.D.Domain.meaning) (map site_view graph.sites.items) c.args.settings.now (node_view graph.tree) c.note.result c.append_globals.new.value
+    rw c.deref.ensures.value (pass_counted (dropping g.D.Domain.meaning) (map site_view graph.sites.items) c.args.options.now (node_view graph.tree) c.note.result c.append_globals.new.value
     (seen c.in_ok-outcome.outcome)
     c.requires.numbered c.in_ok-outcome.ensures.pass)
 
@@ -23,9 +23,9 @@ returns-clause-solved g c P same =
     let solution = c.in_ok-solution.solution in
     let done = rw c.in_ok-value.ensures.dims at c.in_ok-exactness.ensures.appends in
     let pass = rw c.note.ensures at c.in_ok-outcome.ensures.pass in
-    let derived = derived_from m c.args.settings.now P (node_view graph.tree) c.args.globals.now c.in_ok-value.value c.append_globals.new.value c.in_ok-exactness.exactness result same
+    let derived = derived_from m c.args.options.now P (node_view graph.tree) c.args.globals.now c.in_ok-value.value c.append_globals.new.value c.in_ok-exactness.exactness result same
     c.in_ok-value.ensures.defined done pass in
-    solved m g.met.D.Domain.laws c.args.settings.now P (node_view graph.tree) result solution.values.items solution.verdicts.items solution.flagged derived c.in_ok-solution.ensures.solves
+    solved m g.met.D.Domain.laws c.args.options.now P (node_view graph.tree) result solution.values.items solution.verdicts.items solution.flagged derived c.in_ok-solution.ensures.solves
 
 pub returns-clause-sound : goal.returns-clause-sound
 returns-clause-sound g c =
@@ -35,10 +35,10 @@ returns-clause-sound g c =
     let solution = c.in_ok-solution.solution in
     let done = rw c.in_ok-value.ensures.dims at c.in_ok-exactness.ensures.appends in
     let pass = rw c.note.ensures at c.in_ok-outcome.ensures.pass in
-    let counted = pass_counted (dropping m) (map site_view graph.sites.items) c.args.settings.now
+    let counted = pass_counted (dropping m) (map site_view graph.sites.items) c.args.options.now
     (node_view graph.tree) c.note.result c.append_globals.new.value result c.requires.numbered c.in_ok-outcome.ensures.pass in
     covered_holds m g.met.D.Domain.laws c.args.globals.now (node_view graph.tree) result (map site_view graph.sites.items) solution.values.items solution.verdicts.items solution.flagged
-    (begun_covers m g.met.D.Domain.laws c.args.settings.now c.args.globals.now (node_view graph.tree) c.in_ok-value.value c.append_globals.new.value c.in_ok-exactness.exactness result
+    (begun_covers m g.met.D.Domain.laws c.args.options.now c.args.globals.now (node_view graph.tree) c.in_ok-value.value c.append_globals.new.value c.in_ok-exactness.exactness result
     c.in_ok-value.ensures.defined done pass)
     counted c.in_ok-solution.ensures.solves
 
@@ -51,6 +51,6 @@ returns-clause-wide g c lives =
     let one = c.in_ok-exactness.ensures.dims in
     let whole = c.in_ok-value.ensures.dims in
     omega (arith, one, whole) in
-    found_wide m g.met.D.Domain.laws (map site_view graph.sites.items) c.args.settings.now (node_view graph.tree) c.note.result c.append_globals.new.value (seen c.in_ok-outcome.outcome)
+    found_wide m g.met.D.Domain.laws (map site_view graph.sites.items) c.args.options.now (node_view graph.tree) c.note.result c.append_globals.new.value (seen c.in_ok-outcome.outcome)
     (length c.args.globals.now)
     solution.values.items solution.verdicts.items solution.flagged c.in_ok-outcome.ensures.pass begins c.in_ok-solution.ensures.solves lives

@@ -1,6 +1,4 @@
 use Rattle.lra_tree.specs.Views.{tree_view}
-use Rattle.std.proofs.Common.{ap}
-use Rattle.lra_report.specs.View.{domain_of, options_of}
 use Rattle.lra_source.proofs.StageSteps.{well, each_answered, each_refused}
 use Rattle.lra_source.proofs.answer.analyse_source.Goals as goal
 
@@ -9,8 +7,8 @@ report_tree-requires-clause-well c = well c.args.bytes.now (tree_view c.in_ok-tr
 
 pub returns-clause-answered : goal.returns-clause-answered
 returns-clause-answered c =
-    each_answered (options_of c.args.options) c.args.bytes.now (tree_view c.in_ok-tree.tree) c.in_ok-tree.ensures.found c.report_tree.result (ap domain_of c.requires.domain) c.report_tree.ensures.told
+    each_answered c.args.options c.args.bytes.now (tree_view c.in_ok-tree.tree) c.in_ok-tree.ensures.found c.report_tree.result c.requires.domain c.report_tree.ensures.told
 
 pub returns-clause-refused : goal.returns-clause-refused
 returns-clause-refused c =
-    each_refused (options_of c.args.options) c.args.bytes.now (tree_view c.in_ok-tree.tree) c.in_ok-tree.ensures.found c.report_tree.result c.report_tree.ensures.refused
+    each_refused c.args.options c.args.bytes.now (tree_view c.in_ok-tree.tree) c.in_ok-tree.ensures.found c.report_tree.result c.report_tree.ensures.refused

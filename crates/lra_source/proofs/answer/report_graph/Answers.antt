@@ -4,12 +4,11 @@ use Rattle.lra_tree.specs.Views.{tree_view}
 use Rattle.lra_operations.specs.GraphViews.{node_view, site_view}
 use Rattle.lra_meaning.specs.Resolve.{resolve}
 use Rattle.lra_program.specs.Sites.{sites_of}
-use Rattle.lra_findings.specs.Report.{box}
+use Rattle.lra_base.specs.declared.options.Domain.TheVariants.{Box}
 use Rattle.lra_box.specs.Meaning.{box_meaning}
 use Rattle.lra_box.specs.Laws.{box_laws}
-use Rattle.lra_report.specs.View.{options_of, report_of}
+use Rattle.lra_report.specs.View.{report_of}
 use Rattle.lra_source.specs.Shown.{shown_state}
-use Rattle.lra_source.specs.Answers.{settings_of}
 use Rattle.lra_listing.specs.Given.{AreVerdicts, told}
 use Rattle.lra_source.proofs.BoxShown.{boxes_are_shown, boxes_spelled}
 use Rattle.lra_source.proofs.ReportSteps.{fits, small_globals, is_numbered, few_points, states_handed, verdicts_handed, flag_handed, is_told}
@@ -34,22 +33,22 @@ list-requires-clause-numbers c =
 
 pub list-requires-clause-states : goal.list-requires-clause-states
 list-requires-clause-states c =
-    states_handed box_meaning (tree_view c.args.tree.now) (node_view c.args.graph.now.tree) (map site_view c.args.graph.now.sites.items) c.requires.graph (settings_of (options_of c.args.options))
+    states_handed box_meaning (tree_view c.args.tree.now) (node_view c.args.graph.now.tree) (map site_view c.args.graph.now.sites.items) c.requires.graph c.args.options
     c.in_ok-solution.solution.values.items c.in_ok-solution.solution.verdicts.items c.in_ok-solution.solution.flagged
     (c.in_ok-solution.ensures.solved (resolve (tree_view c.args.tree.now)) c.requires.globals)
-    box_laws box (shown_state box_meaning) (λ v listed. boxes_are_shown v) _ (c.in_ok-states.ensures.shown ∙ ap (map _) c.deref.ensures.value)
+    box_laws Box (shown_state box_meaning) (λ v listed. boxes_are_shown v) _ (c.in_ok-states.ensures.shown ∙ ap (map _) c.deref.ensures.value)
 
 pub list-requires-clause-verdicts : goal.list-requires-clause-verdicts
 list-requires-clause-verdicts c =
     subst (λ (vs : List (ℕ × Bool)). AreVerdicts (sites_of (resolve (tree_view c.args.tree.now))) vs) (sym c.deref-2.ensures.value)
-    (verdicts_handed box_meaning (tree_view c.args.tree.now) (node_view c.args.graph.now.tree) (map site_view c.args.graph.now.sites.items) c.requires.graph (settings_of (options_of c.args.options))
+    (verdicts_handed box_meaning (tree_view c.args.tree.now) (node_view c.args.graph.now.tree) (map site_view c.args.graph.now.sites.items) c.requires.graph c.args.options
     c.in_ok-solution.solution.values.items c.in_ok-solution.solution.verdicts.items c.in_ok-solution.solution.flagged
     (c.in_ok-solution.ensures.solved (resolve (tree_view c.args.tree.now)) c.requires.globals))
 
 pub list-requires-clause-flag : goal.list-requires-clause-flag
 list-requires-clause-flag c = λ q is.
     let low = flag_handed box_meaning (tree_view c.args.tree.now) (node_view c.args.graph.now.tree) (map site_view c.args.graph.now.sites.items) c.requires.graph
-    (settings_of (options_of c.args.options)) c.in_ok-solution.solution.values.items c.in_ok-solution.solution.verdicts.items c.in_ok-solution.solution.flagged
+    c.args.options c.in_ok-solution.solution.values.items c.in_ok-solution.solution.verdicts.items c.in_ok-solution.solution.flagged
     (c.in_ok-solution.ensures.solved (resolve (tree_view c.args.tree.now)) c.requires.globals) q is in
     let points = ap length c.requires.graph.points in
     let same = length-map c.args.graph.now.sites.items site_view in
@@ -58,13 +57,13 @@ list-requires-clause-flag c = λ q is.
 
 pub returns : goal.returns
 returns c =
-    let o = options_of c.args.options in
+    let o = c.args.options in
     let values = c.in_ok-solution.solution.values.items in
     let shown : map (λ x. x.items) c.in_ok-states.states.items ≡ map (shown_state box_meaning) values = c.in_ok-states.ensures.shown ∙ ap (map _) c.deref.ensures.value in
-    is_told box_meaning (shown_state box_meaning) box o (tree_view c.args.tree.now) (node_view c.args.graph.now.tree) (map site_view c.args.graph.now.sites.items)
+    is_told box_meaning (shown_state box_meaning) Box o (tree_view c.args.tree.now) (node_view c.args.graph.now.tree) (map site_view c.args.graph.now.sites.items)
     values c.in_ok-solution.solution.verdicts.items c.in_ok-solution.solution.flagged (map (λ x. x.items) c.in_ok-states.states.items) (report_of c.in_ok-report.report) c.requires.graph
     (c.in_ok-solution.ensures.solved (resolve (tree_view c.args.tree.now)) c.requires.globals)
     shown (λ v listed. boxes_are_shown v) (λ v listed. c.requires.parts)
     (boxes_spelled values (map (λ x. x.items) c.in_ok-states.states.items) shown c.in_ok-states.ensures.in_range)
-    (ap options_of c.in_ok-report.ensures.options) c.in_ok-report.ensures.lists c.in_ok-report.ensures.states
+    c.in_ok-report.ensures.options c.in_ok-report.ensures.lists c.in_ok-report.ensures.states
     (c.in_ok-report.ensures.verdicts ∙ ap (map told) c.deref-2.ensures.value) c.in_ok-report.ensures.flag

@@ -9,29 +9,29 @@ returns-in-Ok-write_whole-clause-too_long g c = λ command asks bytes tells long
     too_long_status _ _ _ c.in-Ok.answer.status bytes command c.in-Ok.ensures.deserved asks tells long
 
 pub returns-in-Ok-write_whole-clause-source_refused : goal.returns-in-Ok-write_whole-clause-source_refused
-returns-in-Ok-write_whole-clause-source_refused g c = λ options asks bytes tells cause at refused.
-    refused_status _ _ _ c.in-Ok.answer.status bytes options cause at c.in-Ok.ensures.deserved asks tells refused
+returns-in-Ok-write_whole-clause-source_refused g c = λ options json asks bytes tells cause at refused.
+    refused_status _ _ _ c.in-Ok.answer.status bytes options json cause at c.in-Ok.ensures.deserved asks tells refused
 
 pub returns-in-Ok-write_whole-clause-accepted : goal.returns-in-Ok-write_whole-clause-accepted
-returns-in-Ok-write_whole-clause-accepted g c = λ options asks bytes tells tree accepted.
-    accepted_status _ _ _ c.in-Ok.answer.status bytes options tree c.in-Ok.ensures.deserved asks tells accepted
+returns-in-Ok-write_whole-clause-accepted g c = λ options json asks bytes tells tree accepted.
+    accepted_status _ _ _ c.in-Ok.answer.status bytes options json tree c.in-Ok.ensures.deserved asks tells accepted
 
 pub returns-in-Ok-write_whole-clause-each_source : goal.returns-in-Ok-write_whole-clause-each_source
-returns-in-Ok-write_whole-clause-each_source g c = λ options asks bytes tells.
-    source_status _ _ _ c.in-Ok.answer.status bytes options c.in-Ok.ensures.deserved asks tells
+returns-in-Ok-write_whole-clause-each_source g c = λ options json asks bytes tells.
+    source_status _ _ _ c.in-Ok.answer.status bytes options json c.in-Ok.ensures.deserved asks tells
 
 pub returns-in-Err-ReadFault-clause-each_source : goal.returns-in-Err-ReadFault-clause-each_source
-returns-in-Err-ReadFault-clause-each_source g c = λ options asks bytes tells. no_text bytes status.ReadFault tt tt
+returns-in-Err-ReadFault-clause-each_source g c = λ options json asks bytes tells. no_text bytes status.ReadFault tt tt
 
 pub returns-in-Err-Memory-clause-each_source : goal.returns-in-Err-Memory-clause-each_source
-returns-in-Err-Memory-clause-each_source g c = λ options asks bytes tells. no_text bytes status.Memory tt tt
+returns-in-Err-Memory-clause-each_source g c = λ options json asks bytes tells. no_text bytes status.Memory tt tt
 
 pub returns-clause-each_source : goal.returns-clause-each_source
-returns-clause-each_source g c = λ options asks bytes tells. no_text bytes status.WriteFault tt tt
+returns-clause-each_source g c = λ options json asks bytes tells. no_text bytes status.WriteFault tt tt
 
 pub returns-in-Ok-write_whole-clause-complete : goal.returns-in-Ok-write_whole-clause-complete
-returns-in-Ok-write_whole-clause-complete g c = λ options asks bytes tells free unread unwritten.
-    complete_status _ _ _ c.in-Ok.answer.status bytes options c.in-Ok.ensures.deserved asks tells free
+returns-in-Ok-write_whole-clause-complete g c = λ options json asks bytes tells free unread unwritten.
+    complete_status _ _ _ c.in-Ok.answer.status bytes options json c.in-Ok.ensures.deserved asks tells free
 
 pub returns-in-Ok-write_whole-clause-script_refused : goal.returns-in-Ok-write_whole-clause-script_refused
 returns-in-Ok-write_whole-clause-script_refused g c = λ asks bytes tells refusal e.

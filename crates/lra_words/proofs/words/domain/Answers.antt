@@ -1,14 +1,14 @@
 use Rattle.std.proofs.Common.{◌∙◌, ap, codes, sym}
 use Rattle.std.specs.Prelude.{option_and_then}
 use Rattle.clap.specs.Words.{found_of}
-use Rattle.lra_words.specs.Chosen.{domain_of}
+use Rattle.lra_words.specs.Chosen.{domain_named}
 use Rattle.lra_words.proofs.Readings.{domain_got}
 use Rattle.lra_words.proofs.words.domain.Goals as goal
 
 pub returns-in_err-get_str : goal.returns-in_err-get_str
 returns-in_err-get_str c =
-    c.from_residual.ensures ∙ (ap (option_and_then (λ s. domain_of s.now)) (sym c.in_err-get_str.was) ∙ domain_got (found_of c.args.matches.now) (codes "domain") c.get_str.result c.get_str.ensures)
+    c.from_residual.ensures ∙ (ap (option_and_then (λ s. domain_named s.now)) (sym c.in_err-get_str.was) ∙ domain_got (found_of c.args.matches.now) (codes "domain") c.get_str.result c.get_str.ensures)
 
 pub returns : goal.returns
 returns c =
-    c.domain_named.ensures ∙ (ap (option_and_then (λ s. domain_of s.now)) (sym c.in_ok-get_str.was) ∙ domain_got (found_of c.args.matches.now) (codes "domain") c.get_str.result c.get_str.ensures)
+    c.domain_named.ensures ∙ (ap (option_and_then (λ s. domain_named s.now)) (sym c.in_ok-get_str.was) ∙ domain_got (found_of c.args.matches.now) (codes "domain") c.get_str.result c.get_str.ensures)

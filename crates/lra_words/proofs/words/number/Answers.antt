@@ -1,8 +1,8 @@
 use Rattle.std.specs.Str.Parse.{ExplainsUnsignedError, HasUnsignedDigitsIfOk, ParsesUnsigned}
 use Rattle.clap.specs.Words.{found_of}
 use Rattle.lra_words.proofs.Readings.{number_got}
-use Rattle.lra_words.proofs.words.small_number.Goals as goal
+use Rattle.lra_words.proofs.words.number.Goals as goal
 
 pub returns : goal.returns
-returns c = number_got (λ t r. ParsesUnsigned 8 10 t r × ExplainsUnsignedError 10 t r × HasUnsignedDigitsIfOk t r) 8 (λ t r h. h.0)
+returns c = number_got (λ t r. ParsesUnsigned 32 10 t r × ExplainsUnsignedError 10 t r × HasUnsignedDigitsIfOk t r) 32 (λ t r h. h.0)
     (found_of c.args.matches.now) c.args.option.now c.get_one.result c.get_one.ensures.none c.get_one.ensures.value
