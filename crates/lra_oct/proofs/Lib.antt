@@ -3,3 +3,7 @@ pub mod ClosedLemmas
 pub mod StoreLemmas
 pub mod MeetsLemmas
 pub mod EnterLemmas
+pub mod FormLemmas
+pub mod UnaryLemmas
+pub mod TestLemmas
+pub mod OtherLemmas

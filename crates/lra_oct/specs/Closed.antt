@@ -1,12 +1,12 @@
 -- What closing a matrix gives an octagon.
-use Rattle.std.specs.Prelude.{◌≡◌, ℕ, ℤ, List, Option, None, Some}
+use Rattle.std.specs.Prelude.{◌≡◌, ℕ, ℤ, List, Option}
 use Rattle.lra_domain.specs.declared.Exactness.{Exactness}
 use Rattle.lra_domain.specs.declared.Exactness.TheVariants.{Exact, Flagged}
 use Rattle.lra_dbm.specs.Tight.{IsStore}
 use Rattle.lra_dbm.specs.Cells.{Cells, entries}
 use Rattle.lra_dbm.specs.Closure.{IsClosure}
 use Rattle.lra_oct.specs.Content.{CellsFit, has_store}
-use Rattle.lra_oct.specs.Tables.{ClosingPasses, Forgets, equated, at_least}
+use Rattle.lra_oct.specs.Tables.{ClosingPasses, Forgets, equated}
 
 -- the stores are kept; an exact result is the closure, a flagged one comes only where a number of closing passes the
 -- range
@@ -23,11 +23,5 @@ pub record Equates (n x i : ℕ) (c : ℤ) (old new : Cells) : Type 0 where
   pub entered : new ≡ equated x i c cells
 
 -- x became v_i + c: its entries were forgotten, the two bounds entered, the matrix closed
-abbrev pub EquatedTo : ℕ → ℕ → ℕ → ℤ → Option Cells → Option Cells → Exactness → Type 0
-EquatedTo n x i c None new e = (new ≡ None) × (e ≡ Exact)
-EquatedTo n x i c (Some old) new e = (cells : Cells) × Forgets n x old cells × ClosedTo n (equated x i c cells) new e
-
--- v_i + v_j + q >= 0 was entered, and the matrix closed
-abbrev pub BoundedTo : ℕ → ℕ → ℕ → ℤ → Option Cells → Option Cells → Exactness → Type 0
-BoundedTo n i j q None new e = (new ≡ None) × (e ≡ Exact)
-BoundedTo n i j q (Some old) new e = ClosedTo n (at_least i j q old) new e
+abbrev pub EquatedTo : ℕ → ℕ → ℕ → ℤ → Cells → Option Cells → Exactness → Type 0
+EquatedTo n x i c old new e = (cells : Cells) × Forgets n x old cells × ClosedTo n (equated x i c cells) new e

@@ -1,6 +1,8 @@
 -- Linear forms, by the variables that occur in them.
 use Rattle.std.specs.Prelude.{ℕ, suc, zero, ◌+◌, ◌*◌, ◌==◌, cond, ℤ, pos, negsuc, List, [], ◌∷◌}
 use Rattle.lra_lin.specs.Form.{Form}
+use Rattle.lra_oct.specs.declared.forms.Shape.{Shape}
+use Rattle.lra_oct.specs.declared.forms.Shape.TheVariants.{Constant, One, Two, Other}
 
 -- a signed variable with the magnitude of its coefficient
 pub record Term : Type 0 where
@@ -22,17 +24,11 @@ abbrev pub terms : Form → List Term
 terms e = terms_from 0 e.coefficients
 
 -- what a form is to an octagon: a constant, a multiple of one signed variable or of the sum of two, or another
-pub data Shape : Type 0 where
-  constant : Shape
-  one : ℕ → ℕ → Shape
-  two : ℕ → ℕ → ℕ → Shape
-  other : Shape
-
 abbrev pub shape_of : List Term → Shape
-shape_of [] = constant
-shape_of (t ∷ []) = one t.magnitude t.signed
-shape_of (t ∷ u ∷ []) = cond (t.magnitude == u.magnitude) (two t.magnitude t.signed u.signed) other
-shape_of (t ∷ u ∷ w ∷ ts) = other
+shape_of [] = Constant
+shape_of (t ∷ []) = One t.magnitude t.signed
+shape_of (t ∷ u ∷ []) = cond (t.magnitude == u.magnitude) (Two t.magnitude t.signed u.signed) Other
+shape_of (t ∷ u ∷ w ∷ ts) = Other
 
 abbrev pub shape : Form → Shape
 shape e = shape_of (terms e)

@@ -2,6 +2,8 @@ pub mod Content
 pub mod Forms
 pub mod Tables
 pub mod Closed
+pub mod Entering
+pub mod Answers
 pub mod Heads
 pub mod Parts
 pub mod Meaning

@@ -1,13 +1,15 @@
 -- The tables of octagons: what each change makes of the matrix, and when it may be flagged.
-use Rattle.std.specs.Prelude.{◌≡◌, ℕ, zero, suc, ◌+◌, ◌-◌, ◌*◌, ◌/◌, ◌==◌, ◌&&◌, cond, int_lt, ℤ, pos, neg_ℤ, ◌+ℤ◌}
-use Rattle.std.specs.Prelude.{◌-ℤ◌, true, List, [], ◌∷◌, map, length}
+use Rattle.std.specs.Prelude.{◌≡◌, ℕ, zero, suc, ◌+◌, ◌-◌, ◌*◌, ◌/◌, ◌%◌, ◌<◌, ◌==◌, ◌&&◌, cond, int_lt, ℤ, pos, neg_ℤ}
+use Rattle.std.specs.Prelude.{◌+ℤ◌}
+use Rattle.std.specs.Prelude.{◌-ℤ◌, Bool, true, false, if◌then◌else◌, List, [], ◌∷◌, map, length, replicate, slice_set}
+use Rattle.std.specs.Prelude.{slice_index_or}
 use Rattle.std.specs.Prelude.{Option, None, Some, ◌⊎◌}
 use Rattle.std.specs.Option.{option_map}
 use Rattle.std.specs.Int.{int_div_euclid}
 use Rattle.lra_lin.specs.Form.{Form}
 use Rattle.lra_linear.specs.declared.ConKind.{ConKind}
 use Rattle.lra_linear.specs.declared.ConKind.TheVariants.{Ge, Eq}
-use Rattle.lra_dbm.specs.Entry.{◌⊞◌, half_of, within_range, passes_range}
+use Rattle.lra_dbm.specs.Entry.{◌⊞◌, half_of, lesser, passes_range}
 use Rattle.lra_dbm.specs.Tight.{Entries, opposite}
 use Rattle.lra_dbm.specs.Cells.{Cells, entries, entered, forgotten, first_entries, IsMatrix}
 use Rattle.lra_dbm.specs.Closing.{closing}
@@ -15,10 +17,12 @@ use Rattle.lra_dbm.specs.Closure.{IsClosure}
 use Rattle.lra_domain.specs.Actions.{Action, assign, forget, test, embed, remove_last}
 use Rattle.lra_box.specs.declared.interval.Interval.{Interval}
 use Rattle.lra_box.specs.declared.interval.Side.TheVariants.{Low, High}
-use Rattle.lra_box.specs.Bounds.{end_sum, SumPasses}
+use Rattle.lra_box.specs.Bounds.{open_interval, crossed, end_sum, SumPasses}
 use Rattle.lra_box.specs.Refine.{ge_tested, RefinePasses}
 use Rattle.lra_oct.specs.Content.{Content}
-use Rattle.lra_oct.specs.Forms.{Shape, constant, one, two, other, shape}
+use Rattle.lra_oct.specs.Forms.{shape}
+use Rattle.lra_oct.specs.declared.forms.Shape.{Shape}
+use Rattle.lra_oct.specs.declared.forms.Shape.TheVariants.{Constant, One, Two, Other}
 
 -- ---- unary bounds
 
@@ -37,25 +41,32 @@ intervals_from m k (suc n) = interval m k ∷ intervals_from m (suc k) n
 abbrev pub intervals : ℕ → Entries → List Interval
 intervals n m = intervals_from m 0 n
 
--- a signed variable is at most a number: twice the number is entered, unless that passes the range
-abbrev pub bounded_above : ℕ → Option ℤ → Cells → Cells
-bounded_above i v cells = entered (opposite i) i (within_range (v ⊞ v)) cells
+-- some interval is crossed
+abbrev pub some_crossed : List Interval → Bool
+some_crossed [] = false
+some_crossed (i ∷ is) = if crossed i then true else some_crossed is
 
--- x_k lies in the interval
-abbrev pub bounded_by : ℕ → Interval → Cells → Cells
-bounded_by k i cells = bounded_above (2 * k + 1) (option_map neg_ℤ i.low) (bounded_above (2 * k) i.high cells)
+-- the upper bound that an interval sets for a variable, or with sign 1 for its opposite
+abbrev pub upper_of : ℕ → Interval → Option ℤ
+upper_of zero i = i.high
+upper_of (suc k) i = option_map neg_ℤ i.low
 
--- the variables from x_k on lie in their intervals
-abbrev pub bounded_from : ℕ → List Interval → Cells → Cells
-bounded_from k [] cells = cells
-bounded_from k (i ∷ is) cells = bounded_from (suc k) is (bounded_by k i cells)
+-- the upper bound of a signed variable, where each variable lies in its interval
+abbrev pub upper : List Interval → ℕ → Option ℤ
+upper is j = upper_of (j % 2) (slice_index_or is (j / 2) open_interval)
 
-abbrev pub IntervalPasses : Interval → Type 0
-IntervalPasses i = (passes_range (i.low ⊞ i.low) ≡ true) ⊎ (passes_range (i.high ⊞ i.high) ≡ true)
+-- the entries with each variable in its interval: twice the upper bound of each signed variable is entered
+abbrev pub bounded : List Interval → Entries → Entries
+bounded is m i j = cond (i == opposite j) (lesser (m i j) (upper is j ⊞ upper is j)) (m i j)
 
-abbrev pub SomePasses : List Interval → Type 0
-SomePasses [] = ⊥
-SomePasses (i ∷ is) = IntervalPasses i ⊎ SomePasses is
+-- the matrix with these entries
+pub record Bounds (n : ℕ) (ends : List Interval) (old new : Cells) : Type 0 where
+  pub is : IsMatrix n new
+  pub entries : (i j : ℕ) → i < 2 * n → j < 2 * n → entries n new i j ≡ bounded ends (entries n old) i j
+
+-- twice a bound passes the range
+abbrev pub SomePasses : ℕ → List Interval → Type 0
+SomePasses n is = (j : ℕ) × (j < 2 * n) × (passes_range (upper is j ⊞ upper is j) ≡ true)
 
 -- ---- assignments
 
@@ -82,7 +93,7 @@ shifted sign x c m i j = m (source sign x i) (source sign x j) ⊞ Some (added_t
 
 pub record Shifts (n sign x : ℕ) (c : ℤ) (old new : Cells) : Type 0 where
   pub is : IsMatrix n new
-  pub entries : (i j : ℕ) → entries n new i j ≡ shifted sign x c (entries n old) i j
+  pub entries : (i j : ℕ) → i < 2 * n → j < 2 * n → entries n new i j ≡ shifted sign x c (entries n old) i j
 
 -- what an assignment does, by the form's shape
 pub data Assignment : Type 0 where
@@ -94,10 +105,10 @@ pub data Assignment : Type 0 where
   bound : Assignment
 
 abbrev pub assignment_of : ℕ → Shape → Assignment
-assignment_of x constant = bound
-assignment_of x (one m i) = cond (m == 1) (cond (i / 2 == x) (shift (i - 2 * x)) (equate i)) bound
-assignment_of x (two m i j) = bound
-assignment_of x other = bound
+assignment_of x Constant = bound
+assignment_of x (One m i) = cond (m == 1) (cond (i / 2 == x) (shift (i - 2 * x)) (equate i)) bound
+assignment_of x (Two m i j) = bound
+assignment_of x Other = bound
 
 abbrev pub form_interval : ℕ → Entries → Form → Interval
 form_interval n m e = record {
@@ -105,19 +116,17 @@ form_interval n m e = record {
   high = end_sum High e.constant e.coefficients (intervals n m);
 }
 
--- the matrix of which an assignment gives the closure
-abbrev pub assigned : ℕ → ℕ → Form → Assignment → Cells → Cells → Cells
-assigned n x e (equate i) old cells = equated x i e.constant cells
-assigned n x e (shift sign) old cells = cells
-assigned n x e bound old cells = bounded_by x (form_interval n (entries n old) e) cells
+-- one variable in the interval
+abbrev pub alone : ℕ → ℕ → Interval → List Interval
+alone n x i = slice_set (replicate n open_interval) x i
 
 abbrev pub AssignsTo : ℕ → ℕ → Form → Assignment → Cells → Option Cells → Type 0
 AssignsTo n x e (shift sign) old None = ⊥
 AssignsTo n x e (shift sign) old (Some new) = Shifts n sign x e.constant old new
 AssignsTo n x e (equate i) old new =
-    (cells : Cells) × Forgets n x old cells × IsClosure n (entries n (assigned n x e (equate i) old cells)) new
-AssignsTo n x e bound old new =
-    (cells : Cells) × Forgets n x old cells × IsClosure n (entries n (assigned n x e bound old cells)) new
+    (cells : Cells) × Forgets n x old cells × IsClosure n (entries n (equated x i e.constant cells)) new
+AssignsTo n x e bound old new = (cells : Cells) × Forgets n x old cells
+    × IsClosure n (bounded (alone n x (form_interval n (entries n old) e)) (entries n cells)) new
 
 -- ---- tests
 
@@ -128,26 +137,19 @@ at_least i j q cells = entered i (opposite j) (Some q) cells
 abbrev pub quotient : Form → ℕ → ℤ
 quotient e m = int_div_euclid e.constant (pos m)
 
--- the matrix of which the test `e >= 0` gives the closure, or none where it finds that there is no store
-abbrev pub tested_by : ℕ → Form → Shape → Cells → Option Cells
-tested_by n e constant cells = cond (int_lt e.constant (pos 0)) None (Some cells)
-tested_by n e (one m i) cells = Some (at_least i i (quotient e m +ℤ quotient e m) cells)
-tested_by n e (two m i j) cells = Some (at_least i j (quotient e m) cells)
-tested_by n e other cells =
-    option_map (λ is. bounded_from 0 is cells)
-    (ge_tested e.constant e.coefficients (Some (intervals n (entries n cells))))
-
-abbrev pub ClosureOf : ℕ → Option Cells → Option Cells → Type 0
-ClosureOf n None new = new ≡ None
-ClosureOf n (Some cells) new = IsClosure n (entries n cells) new
+-- the closure of the matrix with these bounds, if there are any
+abbrev pub BoundsTo : ℕ → Cells → Option (List Interval) → Option Cells → Type 0
+BoundsTo n old None new = new ≡ None
+BoundsTo n old (Some is) new = IsClosure n (bounded is (entries n old)) new
 
 -- without a variable the matrix stays as it is
 abbrev pub TestsTo : ℕ → Form → Shape → Option Cells → Option Cells → Type 0
 TestsTo n e s None new = new ≡ None
-TestsTo n e constant (Some old) new = new ≡ tested_by n e constant old
-TestsTo n e (one m i) (Some old) new = ClosureOf n (tested_by n e (one m i) old) new
-TestsTo n e (two m i j) (Some old) new = ClosureOf n (tested_by n e (two m i j) old) new
-TestsTo n e other (Some old) new = ClosureOf n (tested_by n e other old) new
+TestsTo n e Constant (Some old) new = new ≡ cond (int_lt e.constant (pos 0)) None (Some old)
+TestsTo n e (One m i) (Some old) new = IsClosure n (entries n (at_least i i (quotient e m +ℤ quotient e m) old)) new
+TestsTo n e (Two m i j) (Some old) new = IsClosure n (entries n (at_least i j (quotient e m) old)) new
+TestsTo n e Other (Some old) new =
+    BoundsTo n old (ge_tested e.constant e.coefficients (Some (intervals n (entries n old)))) new
 
 abbrev pub opposite_form : Form → Form
 opposite_form e = record { constant = neg_ℤ e.constant; coefficients = map neg_ℤ e.coefficients }
@@ -186,30 +188,35 @@ Steps (remove_last k) a b =
 abbrev pub ClosingPasses : ℕ → Cells → Type 0
 ClosingPasses n cells = (closing n cells).progress.flagged ≡ true
 
+-- the same of the matrix with each variable in its interval
+abbrev pub BoundedPasses : ℕ → List Interval → Cells → Type 0
+BoundedPasses n is old = (cells : Cells) × Bounds n is old cells × ClosingPasses n cells
+
 abbrev pub ShiftPasses : ℕ → ℕ → ℕ → ℤ → Entries → Type 0
-ShiftPasses n sign x c m = (i : ℕ) × (j : ℕ) × (passes_range (shifted sign x c m i j) ≡ true)
+ShiftPasses n sign x c m =
+    (i : ℕ) × (j : ℕ) × (i < 2 * n) × (j < 2 * n) × (passes_range (shifted sign x c m i j) ≡ true)
 
 abbrev pub AssignPasses : ℕ → ℕ → Form → Assignment → Cells → Type 0
 AssignPasses n x e (shift sign) old = ShiftPasses n sign x e.constant (entries n old)
 AssignPasses n x e (equate i) old =
-    (cells : Cells) × Forgets n x old cells × ClosingPasses n (assigned n x e (equate i) old cells)
+    (cells : Cells) × Forgets n x old cells × ClosingPasses n (equated x i e.constant cells)
 AssignPasses n x e bound old =
     SumPasses Low e.constant e.coefficients (intervals n (entries n old))
     ⊎ SumPasses High e.constant e.coefficients (intervals n (entries n old))
-    ⊎ IntervalPasses (form_interval n (entries n old) e)
-    ⊎ ((cells : Cells) × Forgets n x old cells × ClosingPasses n (assigned n x e bound old cells))
+    ⊎ SomePasses n (alone n x (form_interval n (entries n old) e))
+    ⊎ ((cells : Cells) × Forgets n x old cells × BoundedPasses n (alone n x (form_interval n (entries n old) e)) cells)
 
 abbrev pub BoundsPass : ℕ → Cells → Option (List Interval) → Type 0
 BoundsPass n old None = ⊥
-BoundsPass n old (Some is) = SomePasses is ⊎ ClosingPasses n (bounded_from 0 is old)
+BoundsPass n old (Some is) = SomePasses n is ⊎ BoundedPasses n is old
 
 -- a test `e >= 0` may be flagged
 abbrev pub FirstTestPasses : ℕ → Form → Shape → Option Cells → Type 0
 FirstTestPasses n e s None = ⊥
-FirstTestPasses n e constant (Some old) = ⊥
-FirstTestPasses n e (one m i) (Some old) = ClosingPasses n (at_least i i (quotient e m +ℤ quotient e m) old)
-FirstTestPasses n e (two m i j) (Some old) = ClosingPasses n (at_least i j (quotient e m) old)
-FirstTestPasses n e other (Some old) =
+FirstTestPasses n e Constant (Some old) = ⊥
+FirstTestPasses n e (One m i) (Some old) = ClosingPasses n (at_least i i (quotient e m +ℤ quotient e m) old)
+FirstTestPasses n e (Two m i j) (Some old) = ClosingPasses n (at_least i j (quotient e m) old)
+FirstTestPasses n e Other (Some old) =
     RefinePasses e.constant e.coefficients (length e.coefficients) (Some (intervals n (entries n old)))
     ⊎ BoundsPass n old (ge_tested e.constant e.coefficients (Some (intervals n (entries n old))))
 

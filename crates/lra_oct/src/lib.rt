@@ -3,6 +3,9 @@
 
 mod bounds;
 mod closing;
+mod forms;
 mod octagon;
+mod testing;
+mod unary;
 
 pub use octagon::Octagon;

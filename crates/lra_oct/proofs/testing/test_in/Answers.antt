@@ -1,0 +1,10 @@
+use Rattle.std.proofs.Common.{rules}
+use Rattle.lra_oct.specs.Content.{seen}
+use Rattle.lra_oct.proofs.TestLemmas.{meets_ge, tested_as}
+use Rattle.lra_oct.proofs.testing.test_in.Goals as goal
+
+pub returns-in_ok-tested-in-Ge-clause-meets : goal.returns-in_ok-tested-in-Ge-clause-meets
+returns-in_ok-tested-in-Ge-clause-meets c =
+    let tested = tested_as c.args.n c.args.t.now.expr _ _ (seen c.args.bounds.now) (seen c.in_ok-tested-in-Ge.tested.0) c.in_ok-tested-in-Ge.tested.1 (search rules) (search rules)
+    c.in_ok-tested-in-Ge.ensures.tested in
+    rw c.in-Ge.is (meets_ge c.args.n c.args.t.now.expr (seen c.args.bounds.now) (seen c.in_ok-tested-in-Ge.tested.0) c.in_ok-tested-in-Ge.tested.1 c.requires.fit tested)
