@@ -74,7 +74,7 @@ in_pair x a e = elim (parity_of (a % 2) (omega arith)) as (λ _. (a ≡ 2 * x) �
   | inr r ↦ (let f = r in inr (omega arith))
 ]
 
-half_opposite : (a : ℕ) → opposite a / 2 ≡ a / 2
+pub half_opposite : (a : ℕ) → opposite a / 2 ≡ a / 2
 unfolding opposite
 half_opposite a = omega arith
 
@@ -82,7 +82,7 @@ pub opposite_plus : (x : ℕ) → opposite (2 * x) ≡ 2 * x + 1
 unfolding opposite
 opposite_plus x = omega arith
 
-opposite_minus : (x : ℕ) → opposite (2 * x + 1) ≡ 2 * x
+pub opposite_minus : (x : ℕ) → opposite (2 * x + 1) ≡ 2 * x
 unfolding opposite
 opposite_minus x = omega arith
 

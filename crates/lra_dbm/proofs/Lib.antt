@@ -12,6 +12,7 @@ pub mod Theorem
 pub mod Turns
 pub mod Closes
 pub mod Clears
+pub mod Shifts
 pub mod Grows
 pub mod PointwiseLemmas
 mod ClosingExamples

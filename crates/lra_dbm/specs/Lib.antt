@@ -6,4 +6,5 @@ pub mod Closing
 pub mod Pointwise
 pub mod Closure
 pub mod Clearing
+pub mod Shifting
 pub mod Answers

@@ -6,6 +6,7 @@ mod cells;
 mod clearing;
 mod matrix;
 mod pointwise;
+mod shifting;
 mod steps;
 
 pub use matrix::{Closing, Matrix};

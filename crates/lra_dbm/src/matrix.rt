@@ -1,6 +1,7 @@
 //! Matrices of bounds on differences.
 
 ghost use Rattle.std.specs.Prelude.{◌≡◌, ◌≤◌, ◌<◌, ◌+◌, ◌-◌, ◌^◌, ◌*◌, ◌↔◌, pos, Some, ℕ, IsTrue, IfOk, OnOk, OnErr};
+ghost use Rattle.std.specs.Prelude.{unsigned_abs};
 ghost use Rattle.lra_linear.specs.Range.{InRange};
 ghost use Rattle.lra_dbm.specs.Cells.{IsMatrix, entered, entry_at, outside, forgotten, first_entries, size};
 ghost use Rattle.lra_dbm.specs.Steps.{progress};
@@ -8,10 +9,12 @@ ghost use Rattle.lra_dbm.specs.Closing.{Closes, closing};
 ghost use Rattle.lra_dbm.specs.Pointwise.{CellsWithin, greater_cells, stable_cells, finite_cells};
 ghost use Rattle.lra_dbm.specs.Closure.{LeastJoin};
 ghost use Rattle.lra_dbm.specs.Answers.{is_empty, is_flagged};
+ghost use Rattle.lra_dbm.specs.Shifting.{ShiftedTo};
 
 use crate::cells::{enter, entry};
 use crate::clearing::{clear, grow, shrink};
 use crate::pointwise::{all_within, count_cells, join_cells, widen_cells};
+use crate::shifting::{Shift, shift_cells};
 use crate::steps::close;
 use lra_domain::Exactness;
 use std::alloc::{AllocError, Global};
@@ -124,6 +127,42 @@ impl Matrix {
         ensures is { IsMatrix self.new.dims self.new.cells }
     {
         clear(self.dims, &mut self.cells, x);
+    }
+
+    /// Shifts the entries; whether a number of them passes the range. `old` is the matrix before.
+    fn shift_by(&mut self, old: &Matrix, shift: Shift) -> bool
+        requires same { self.old ≡ old.now }
+        requires place { shift.x < old.now.dims }
+        requires range { unsigned_abs shift.c ≤ 2 ^ 63 }
+        ensures dims { self.new.dims ≡ old.now.dims }
+        ensures shifted { ShiftedTo old.now.dims shift.flips shift.x shift.c old.now.cells self.new.cells result }
+    {
+        shift_cells(self.dims, &mut self.cells, &old.cells, shift)
+    }
+
+    /// The matrix where `x` becomes `x + c`, or where it flips `-x + c`: the entries of `x` are exchanged for the sign
+    /// and shifted. A number that passes the range counts as infinite and flags.
+    pub fn shift(
+        &self,
+        alloc: Global,
+        x: usize,
+        flips: bool,
+        c: i128,
+    ) -> Result<(Matrix, Exactness), AllocError>
+        requires place { x < self.now.dims }
+        requires range { unsigned_abs c ≤ 2 ^ 63 }
+        ensures dims { IfOk result (λ r. r.0.dims ≡ self.now.dims) }
+        ensures shifted { IfOk result (λ r.
+            ShiftedTo self.now.dims flips x c self.now.cells r.0.cells (is_flagged r.1)) }
+    {
+        let mut shifted = self.copy(alloc)?;
+        let passes = shifted.shift_by(self, Shift { flips, x, c });
+        let exactness = if passes {
+            Exactness::Flagged
+        } else {
+            Exactness::Exact
+        };
+        Ok((shifted, exactness))
     }
 
     /// `k` variables without bounds come last.
