@@ -35,11 +35,11 @@ flagged_first low high l = record { exact = λ e. cc; flagged = λ e. inl l }
 pub flagged_second : (low high : Exactness) → low ≡ Exact → Worse low high high
 flagged_second low high l = record { exact = λ e. (l, e); flagged = λ e. inr e }
 
-low_covers : (table : Option ℤ) (passes : Type 0) (b : Bound) (e : Exactness) → b.exactness ≡ e → IsBound table passes b → LowWithin table b.value
+pub low_covers : (table : Option ℤ) (passes : Type 0) (b : Bound) (e : Exactness) → b.exactness ≡ e → IsBound table passes b → LowWithin table b.value
 low_covers table passes b Exact e is = rw (is.exact e) (low_within_refl table)
 low_covers table passes b Flagged e is = rw (is.flagged e).1 tt
 
-high_covers : (table : Option ℤ) (passes : Type 0) (b : Bound) (e : Exactness) → b.exactness ≡ e → IsBound table passes b → HighWithin table b.value
+pub high_covers : (table : Option ℤ) (passes : Type 0) (b : Bound) (e : Exactness) → b.exactness ≡ e → IsBound table passes b → HighWithin table b.value
 high_covers table passes b Exact e is = rw (is.exact e) (high_within_refl table)
 high_covers table passes b Flagged e is = rw (is.flagged e).1 tt
 

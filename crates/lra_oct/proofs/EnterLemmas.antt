@@ -17,7 +17,7 @@ use Rattle.lra_dbm.specs.Cells.{cell}
 use Rattle.lra_dbm.proofs.CellLemmas.{opposite_below, entries_inside, written_same, written_cases}
 use Rattle.lra_dbm.proofs.Strong.{opposite_twice}
 use Rattle.lra_dbm.proofs.Closed.{signed_opposite}
-use Rattle.lra_oct.specs.Tables.{upper, bounded, SomePasses}
+use Rattle.lra_oct.specs.Tables.{Forgets, upper, bounded, SomePasses}
 use Rattle.lra_oct.specs.Entering.{BoundsOne, BoundsAll}
 use Rattle.lra_dbm.proofs.EntryLemmas.{le_same, le_trans}
 use Rattle.lra_dbm.proofs.Lowering.{enter_kept}
@@ -30,27 +30,25 @@ entered_store n i j v cells s h k is store meets =
     (enter_kept n i j v cells h k is (difference s) (store_below n cells s store) meets
     (le_trans (le_same (sym ((difference_closed s).coherent i j))) meets))
 
-pub equates : (n x i : ℕ) (c : ℤ) (old cells one two : Cells) → IsMatrix n cells → ((a b : ℕ) → entries n cells a b ≡ forgotten x (entries n old) a b)
-    → one ≡ entered i (2 * x) (Some c) cells → two ≡ entered (2 * x) i (Some (neg_ℤ c)) one → Equates n x i c old two
-equates n x i c old cells one two is e first second = record {
-  cells = cells;
-  forgets = record { is = is; entries = e };
-  entered = second ∙ ap (entered (2 * x) i (Some (neg_ℤ c))) first;
-}
-
 pub equated_to : (n x i : ℕ) (c : ℤ) (old entered : Cells) (new : Option Cells) (e : Exactness) → Equates n x i c old entered → ClosedTo n entered new e
     → EquatedTo n x i c old new e
 equated_to n x i c old entered new e by closed = (by.cells, by.forgets, subst (λ (z : Cells). ClosedTo n z new e) by.entered closed)
 
-pub equates_of : (n x i : ℕ) (c : ℤ) (old one two three : Matrix) → old.dims ≡ n → one.dims ≡ old.dims → IsMatrix one.dims one.cells
-    → ((a b : ℕ) → entry_at one a b ≡ forgotten x (entry_at old) a b)
+pub forgets_of : (n x : ℕ) (old new : Matrix) → old.dims ≡ n → new.dims ≡ old.dims → IsMatrix new.dims new.cells
+    → ((a b : ℕ) → entry_at new a b ≡ forgotten x (entry_at old) a b) → Forgets n x old.cells new.cells
+forgets_of n x old new is same fit e = record {
+  is = subst (λ (k : ℕ). IsMatrix k new.cells) (same ∙ is) fit;
+  entries = λ a b. ap (λ k. entries k new.cells a b) (sym (same ∙ is)) ∙ e a b ∙ ap (λ k. forgotten x (entries k old.cells) a b) is;
+}
+
+pub equates_of : (n x i : ℕ) (c : ℤ) (old : Cells) (one two three : Matrix) → Forgets n x old one.cells
     → two ≡ record one { cells = entered i (2 * x) (Some c) one.cells } → three ≡ record two { cells = entered (2 * x) i (Some (neg_ℤ c)) two.cells }
-    → Equates n x i c old.cells three.cells
-equates_of n x i c old one two three is same fit e first second =
-    equates n x i c old.cells one.cells two.cells three.cells
-    (subst (λ (k : ℕ). IsMatrix k one.cells) (same ∙ is) fit)
-    (λ a b. ap (λ k. entries k one.cells a b) (sym (same ∙ is)) ∙ e a b ∙ ap (λ k. forgotten x (entries k old.cells) a b) is)
-    (ap (λ (m : Matrix). m.cells) first) (ap (λ (m : Matrix). m.cells) second)
+    → Equates n x i c old three.cells
+equates_of n x i c old one two three forgets first second = record {
+  cells = one.cells;
+  forgets = forgets;
+  entered = ap (λ (m : Matrix). m.cells) second ∙ ap (λ (m : Matrix). entered (2 * x) i (Some (neg_ℤ c)) m.cells) first;
+}
 
 -- ---- upper bounds of signed variables
 

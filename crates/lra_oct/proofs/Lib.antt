@@ -7,3 +7,4 @@ pub mod FormLemmas
 pub mod UnaryLemmas
 pub mod TestLemmas
 pub mod OtherLemmas
+pub mod AssignLemmas

@@ -155,7 +155,7 @@ bounded_to n js old mid new y z u all closed exact flagged = record {
   fit = closed.fit;
 }
 
-bounds_below : (n : ℕ) (js : List Interval) (c old : Cells) (o : Option (List Interval)) (v new : Option Cells) (u : Exactness) → CellsWithin c old
+pub bounds_below : (n : ℕ) (js : List Interval) (c old : Cells) (o : Option (List Interval)) (v new : Option Cells) (u : Exactness) → CellsWithin c old
     → IntervalBoundsWithin o (Some js) → BoundsTo n c o v → BoundedTo n js old new u → BoundsWithin v new
 bounds_below n js c old None v new u w i t all = none_below v new t
 bounds_below n js c old (Some is) v new u w i t all = closure_in n (bounded is (entries n c)) v new t all.fit

@@ -142,7 +142,7 @@ low_holds : (o : Option ℤ) (x : ℤ) → BoundHolds Low o x → Some (neg_ℤ 
 low_holds None x h = record { at_most = tt }
 low_holds (Some a) x h = record { at_most = omega (arith, ints) }
 
-side_holds : (r : ℕ) (i : Interval) (x : ℤ) → InInterval i x → Some (with_sign r x) ⊑ upper_of r i
+pub side_holds : (r : ℕ) (i : Interval) (x : ℤ) → InInterval i x → Some (with_sign r x) ⊑ upper_of r i
 side_holds zero i x h = high_holds i.high x h.1
 side_holds (suc r) i x h = low_holds i.low x h.0
 

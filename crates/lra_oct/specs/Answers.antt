@@ -1,12 +1,16 @@
--- What a test `e >= 0` answers.
-use Rattle.std.specs.Prelude.{◌≡◌, ℕ, ℤ, pos, ◌≤ℤ◌, List, Option, None, Some}
+-- What a test `e >= 0` answers, and an assignment.
+use Rattle.std.specs.Prelude.{◌≡◌, ℕ, ℤ, pos, ◌≤ℤ◌, List, slice_set, Option, None, Some}
 use Rattle.lra_lin.specs.Form.{Form, form_value}
 use Rattle.lra_domain.specs.declared.Exactness.{Exactness}
 use Rattle.lra_domain.specs.declared.Exactness.TheVariants.{Exact, Flagged}
-use Rattle.lra_dbm.specs.Cells.{Cells, IsMatrix}
+use Rattle.lra_dbm.specs.Tight.{IsStore}
+use Rattle.lra_dbm.specs.Cells.{Cells, entries, IsMatrix}
+use Rattle.lra_box.specs.declared.interval.Interval.{Interval}
+use Rattle.lra_oct.specs.declared.assigning.Assignment.{Assignment}
 use Rattle.lra_oct.specs.declared.forms.Shape.{Shape}
+use Rattle.lra_oct.specs.Entering.{BoundedTo}
 use Rattle.lra_oct.specs.Content.{CellsFit, has_store, BoundsWithin}
-use Rattle.lra_oct.specs.Tables.{TestsTo, FirstTestPasses}
+use Rattle.lra_oct.specs.Tables.{alone, TestsTo, FirstTestPasses, AssignsTo, AssignPasses, Forgets}
 
 abbrev pub MatrixFits : ℕ → Option Cells → Type 0
 MatrixFits n None = Unit {0}
@@ -19,4 +23,18 @@ pub record TestedTo (n : ℕ) (e : Form) (s : Shape) (old new : Option Cells) (x
   pub covers : (b v : Option Cells) → MatrixFits n b → BoundsWithin b old → TestsTo n e s b v → BoundsWithin v new
   pub exact : x ≡ Exact → TestsTo n e s old new
   pub flagged : x ≡ Flagged → FirstTestPasses n e s old
+  pub fit : CellsFit n new
+
+-- the entries of x were forgotten, x was made to lie in the interval, and the matrix closed
+abbrev pub ConfinedTo : ℕ → ℕ → Interval → Cells → Option Cells → Exactness → Type 0
+ConfinedTo n x i old new e = (cells : Cells) × Forgets n x old cells × BoundedTo n (alone n x i) cells new e
+
+-- a matrix in which x got the form's value: it keeps the changed stores, is the table's unless flagged, and covers the
+-- table's
+pub record AssignedTo (n x : ℕ) (e : Form) (a : Assignment) (old : Cells) (new : Option Cells) (u : Exactness)
+    : Type 0 where
+  pub stores : (s : List ℤ) → IsStore n (entries n old) s → has_store n new (slice_set s x (form_value e s))
+  pub covers : (v : Option Cells) → AssignsTo n x e a old v → BoundsWithin v new
+  pub exact : u ≡ Exact → AssignsTo n x e a old new
+  pub flagged : u ≡ Flagged → AssignPasses n x e a old
   pub fit : CellsFit n new

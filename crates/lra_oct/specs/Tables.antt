@@ -1,7 +1,7 @@
 -- The tables of octagons: what each change makes of the matrix, and when it may be flagged.
-use Rattle.std.specs.Prelude.{◌≡◌, ℕ, zero, suc, ◌+◌, ◌-◌, ◌*◌, ◌/◌, ◌%◌, ◌<◌, ◌==◌, ◌&&◌, cond, int_lt, ℤ, pos, neg_ℤ}
+use Rattle.std.specs.Prelude.{◌≡◌, ℕ, zero, suc, ◌+◌, ◌-◌, ◌*◌, ◌/◌, ◌%◌, ◌<◌, ◌==◌, cond, int_lt, ℤ, pos, neg_ℤ}
 use Rattle.std.specs.Prelude.{◌+ℤ◌}
-use Rattle.std.specs.Prelude.{◌-ℤ◌, Bool, true, false, if◌then◌else◌, List, [], ◌∷◌, map, length, replicate, slice_set}
+use Rattle.std.specs.Prelude.{Bool, true, false, if◌then◌else◌, List, [], ◌∷◌, map, length, replicate, slice_set}
 use Rattle.std.specs.Prelude.{slice_index_or}
 use Rattle.std.specs.Prelude.{Option, None, Some, ◌⊎◌}
 use Rattle.std.specs.Option.{option_map}
@@ -21,6 +21,9 @@ use Rattle.lra_box.specs.Bounds.{open_interval, crossed, end_sum, SumPasses}
 use Rattle.lra_box.specs.Refine.{ge_tested, RefinePasses}
 use Rattle.lra_oct.specs.Content.{Content}
 use Rattle.lra_oct.specs.Forms.{shape}
+use Rattle.lra_dbm.specs.Shifting.{shifted, ShiftPasses}
+use Rattle.lra_oct.specs.declared.assigning.Assignment.{Assignment}
+use Rattle.lra_oct.specs.declared.assigning.Assignment.TheVariants.{Equate, Shift, Bound}
 use Rattle.lra_oct.specs.declared.forms.Shape.{Shape}
 use Rattle.lra_oct.specs.declared.forms.Shape.TheVariants.{Constant, One, Two, Other}
 
@@ -79,36 +82,17 @@ pub record Forgets (n x : ℕ) (old new : Cells) : Type 0 where
 abbrev pub equated : ℕ → ℕ → ℤ → Cells → Cells
 equated x i c cells = entered (2 * x) i (Some (neg_ℤ c)) (entered i (2 * x) (Some c) cells)
 
--- what is added to a signed variable where c is added to x
-abbrev pub added_to : ℕ → ℤ → ℕ → ℤ
-added_to x c i = cond (i == 2 * x) c (cond (i == 2 * x + 1) (neg_ℤ c) (pos 0))
-
--- the signed variable whose place i takes where x changes its sign
-abbrev pub source : ℕ → ℕ → ℕ → ℕ
-source sign x i = cond (sign == 1 && i / 2 == x) (opposite i) i
-
--- the entries where x becomes x + c, or with sign 1 -x + c: those of x are exchanged for the sign and shifted
-abbrev pub shifted : ℕ → ℕ → ℤ → Entries → Entries
-shifted sign x c m i j = m (source sign x i) (source sign x j) ⊞ Some (added_to x c j -ℤ added_to x c i)
-
-pub record Shifts (n sign x : ℕ) (c : ℤ) (old new : Cells) : Type 0 where
+-- the cells where x becomes x + c, or where it flips -x + c
+pub record Shifts (n : ℕ) (flips : Bool) (x : ℕ) (c : ℤ) (old new : Cells) : Type 0 where
   pub is : IsMatrix n new
-  pub entries : (i j : ℕ) → i < 2 * n → j < 2 * n → entries n new i j ≡ shifted sign x c (entries n old) i j
+  pub entries : (i j : ℕ) → i < 2 * n → j < 2 * n → entries n new i j ≡ shifted flips x c (entries n old) i j
 
 -- what an assignment does, by the form's shape
-pub data Assignment : Type 0 where
-  -- x becomes v_i + c, for another variable's signed variable
-  equate : ℕ → Assignment
-  -- x becomes x + c or -x + c
-  shift : ℕ → Assignment
-  -- x gets the bounds of the form over the unary bounds
-  bound : Assignment
-
 abbrev pub assignment_of : ℕ → Shape → Assignment
-assignment_of x Constant = bound
-assignment_of x (One m i) = cond (m == 1) (cond (i / 2 == x) (shift (i - 2 * x)) (equate i)) bound
-assignment_of x (Two m i j) = bound
-assignment_of x Other = bound
+assignment_of x Constant = Bound
+assignment_of x (One m i) = cond (m == 1) (cond (i / 2 == x) (Shift (i % 2 == 1)) (Equate i)) Bound
+assignment_of x (Two m i j) = Bound
+assignment_of x Other = Bound
 
 abbrev pub form_interval : ℕ → Entries → Form → Interval
 form_interval n m e = record {
@@ -121,11 +105,11 @@ abbrev pub alone : ℕ → ℕ → Interval → List Interval
 alone n x i = slice_set (replicate n open_interval) x i
 
 abbrev pub AssignsTo : ℕ → ℕ → Form → Assignment → Cells → Option Cells → Type 0
-AssignsTo n x e (shift sign) old None = ⊥
-AssignsTo n x e (shift sign) old (Some new) = Shifts n sign x e.constant old new
-AssignsTo n x e (equate i) old new =
+AssignsTo n x e (Shift flips) old None = ⊥
+AssignsTo n x e (Shift flips) old (Some new) = Shifts n flips x e.constant old new
+AssignsTo n x e (Equate i) old new =
     (cells : Cells) × Forgets n x old cells × IsClosure n (entries n (equated x i e.constant cells)) new
-AssignsTo n x e bound old new = (cells : Cells) × Forgets n x old cells
+AssignsTo n x e Bound old new = (cells : Cells) × Forgets n x old cells
     × IsClosure n (bounded (alone n x (form_interval n (entries n old) e)) (entries n cells)) new
 
 -- ---- tests
@@ -192,15 +176,11 @@ ClosingPasses n cells = (closing n cells).progress.flagged ≡ true
 abbrev pub BoundedPasses : ℕ → List Interval → Cells → Type 0
 BoundedPasses n is old = (cells : Cells) × Bounds n is old cells × ClosingPasses n cells
 
-abbrev pub ShiftPasses : ℕ → ℕ → ℕ → ℤ → Entries → Type 0
-ShiftPasses n sign x c m =
-    (i : ℕ) × (j : ℕ) × (i < 2 * n) × (j < 2 * n) × (passes_range (shifted sign x c m i j) ≡ true)
-
 abbrev pub AssignPasses : ℕ → ℕ → Form → Assignment → Cells → Type 0
-AssignPasses n x e (shift sign) old = ShiftPasses n sign x e.constant (entries n old)
-AssignPasses n x e (equate i) old =
+AssignPasses n x e (Shift flips) old = ShiftPasses n flips x e.constant (entries n old)
+AssignPasses n x e (Equate i) old =
     (cells : Cells) × Forgets n x old cells × ClosingPasses n (equated x i e.constant cells)
-AssignPasses n x e bound old =
+AssignPasses n x e Bound old =
     SumPasses Low e.constant e.coefficients (intervals n (entries n old))
     ⊎ SumPasses High e.constant e.coefficients (intervals n (entries n old))
     ⊎ SomePasses n (alone n x (form_interval n (entries n old) e))

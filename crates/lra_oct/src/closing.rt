@@ -6,7 +6,7 @@ ghost use Rattle.lra_dbm.specs.Tight.{opposite};
 ghost use Rattle.lra_dbm.specs.Cells.{IsMatrix};
 ghost use Rattle.lra_oct.specs.Content.{seen, DimsFit};
 ghost use Rattle.lra_oct.specs.Closed.{ClosedTo, Equates, EquatedTo};
-ghost use Rattle.lra_oct.specs.Tables.{at_least};
+ghost use Rattle.lra_oct.specs.Tables.{at_least, Forgets};
 
 use crate::bounds::{Bounds, close};
 use lra_dbm::Matrix;
@@ -23,6 +23,17 @@ pub fn opposite(n: usize, i: usize) -> usize
     if i % 2 == 0 { i + 1 } else { i - 1 }
 }
 
+#[tactic(auto, using(crate::proofs::EnterLemmas::forgets_of))]
+/// The entries of `x` become infinite.
+pub fn free(n: usize, matrix: &mut Matrix, x: usize)
+    requires place { x < n }
+    requires dims { matrix.old.dims ≡ n }
+    ensures dims { matrix.new.dims ≡ n }
+    ensures forgets { Forgets n x matrix.old.cells matrix.new.cells }
+{
+    matrix.forget(x);
+}
+
 #[tactic(auto, using(crate::proofs::EnterLemmas::equates_of))]
 /// Makes `x` equal to `v_i + c`: its entries become infinite, then the two bounds that say so are entered.
 fn equate(n: usize, matrix: &mut Matrix, x: usize, i: usize, c: i128)
@@ -35,7 +46,7 @@ fn equate(n: usize, matrix: &mut Matrix, x: usize, i: usize, c: i128)
     ensures is { IsMatrix n matrix.new.cells }
     ensures equated { Equates n x i c matrix.old.cells matrix.new.cells }
 {
-    matrix.forget(x);
+    free(n, matrix, x);
     matrix.enter(i, 2 * x, c);
     matrix.enter(2 * x, i, -c);
 }

@@ -1,6 +1,7 @@
 //! Octagons: the domain of bounds on sums and differences of two variables (Miné, 2006), over whole numbers.
 #![tactic(auto)]
 
+mod assigning;
 mod bounds;
 mod closing;
 mod forms;

@@ -17,10 +17,10 @@ ghost use Rattle.lra_oct.specs.Tables.{at_least, intervals};
 ghost use Rattle.lra_oct.specs.Answers.{TestedTo};
 ghost use Rattle.lra_oct.specs.Meaning.{octagon_meaning};
 
-use crate::bounds::{Bounds, close};
+use crate::bounds::Bounds;
 use crate::closing::bounded;
 use crate::forms::{Shape, classify};
-use crate::unary::{bound_all, intervals_of, some_crossed};
+use crate::unary::{close_within, intervals_of, some_crossed};
 use lra_box::{Interval, opposite_row, refine_all, wide_row, worse};
 use lra_dbm::Matrix;
 use lra_domain::Exactness;
@@ -76,10 +76,9 @@ fn test_intervals(
     ensures dims { IfOk result (λ r. DimsFit n r.0) }
     ensures bounded { IfOk result (λ r. BoundedTo n intervals.now matrix.now.cells (seen r.0) r.1) }
 {
-    let mut bound = matrix.copy(alloc)?;
-    let doubled = bound_all(n, &mut bound, intervals);
-    let (closed, closing) = close(n, bound);
-    Ok((closed, worse(doubled, closing)))
+    let copy = matrix.copy(alloc)?;
+    let tested = close_within(n, copy, intervals);
+    Ok(tested)
 }
 
 /// Refines the unary bounds by `constant + factors >= 0`, enters them, and closes.

@@ -5,8 +5,10 @@ ghost use Rattle.lra_linear.specs.Range.{InRange};
 ghost use Rattle.lra_dbm.specs.Cells.{IsMatrix, entries};
 ghost use Rattle.lra_box.specs.Bounds.{EndsInRange, open_interval};
 ghost use Rattle.lra_oct.specs.Tables.{most, interval, intervals, upper_of, some_crossed};
-ghost use Rattle.lra_oct.specs.Entering.{BoundsOne, BoundsAll};
+ghost use Rattle.lra_oct.specs.Content.{seen, DimsFit};
+ghost use Rattle.lra_oct.specs.Entering.{BoundsOne, BoundsAll, BoundedTo};
 
+use crate::bounds::{Bounds, close};
 use crate::closing::opposite;
 use lra_box::{Interval, is_crossed, worse};
 use lra_dbm::Matrix;
@@ -115,6 +117,23 @@ pub fn bound_all(n: usize, matrix: &mut Matrix, intervals: &[Interval]) -> Exact
         exactness = worse(exactness, bound_above(n, matrix, i, most));
     }
     exactness
+}
+
+#[tactic(auto, using(crate::proofs::OtherLemmas::bounded_to))]
+/// The matrix with the variables in these intervals, closed.
+pub fn close_within(n: usize, matrix: Matrix, intervals: &[Interval]) -> (Bounds, Exactness)
+    requires few { n ≤ 2 ^ 30 }
+    requires width { length intervals.now ≡ n }
+    requires ends { (k : ℕ) → EndsInRange (slice_index_or intervals.now k open_interval) }
+    requires dims { matrix.dims ≡ n }
+    requires is { IsMatrix n matrix.cells }
+    ensures dims { DimsFit n result.0 }
+    ensures bounded { BoundedTo n intervals.now matrix.cells (seen result.0) result.1 }
+{
+    let mut bound = matrix;
+    let doubled = bound_all(n, &mut bound, intervals);
+    let (closed, closing) = close(n, bound);
+    (closed, worse(doubled, closing))
 }
 
 /// Whether some interval is crossed: its lower bound is above its upper one.

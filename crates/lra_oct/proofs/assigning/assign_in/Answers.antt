@@ -1,0 +1,9 @@
+use Rattle.std.proofs.Common.{rules}
+use Rattle.lra_oct.specs.Content.{seen}
+use Rattle.lra_oct.proofs.AssignLemmas.{meets_some}
+use Rattle.lra_oct.proofs.assigning.assign_in.Goals as goal
+
+pub returns-in_ok-assigned-in-Some-clause-meets : goal.returns-in_ok-assigned-in-Some-clause-meets
+returns-in_ok-assigned-in-Some-clause-meets c =
+    meets_some c.args.n c.args.x c.args.e.now _ _ c.args.bounds.now c.in-Some.matrix (seen c.in_ok-assigned-in-Some.assigned.0) c.in_ok-assigned-in-Some.assigned.1
+    c.in-Some.is (search rules) (search rules) c.in_ok-assigned-in-Some.ensures.assigned
