@@ -24,12 +24,12 @@ use Rattle.lra_box.specs.Parts.{bound_row, is_single, is_single_ends, low_rows, 
 
 -- ---- what goes into the row
 
-set_in_range : (xs : List ℤ) (k : ℕ) (v : ℤ) → All InRange xs → InRange v → All InRange (slice_set xs k v)
+pub set_in_range : (xs : List ℤ) (k : ℕ) (v : ℤ) → All InRange xs → InRange v → All InRange (slice_set xs k v)
 set_in_range [] k v h p = h
 set_in_range (x ∷ xs) zero v h p = All-cons InRange v xs p (λ k d. λ l. h (suc k) d (omega arith))
 set_in_range (x ∷ xs) (suc k) v h p = All-cons InRange x (slice_set xs k v) (h 0 x (omega arith)) (set_in_range xs k v (λ k d. λ l. h (suc k) d (omega arith)) p)
 
-zeros_in_range : (n : ℕ) → All InRange (replicate n (pos 0))
+pub zeros_in_range : (n : ℕ) → All InRange (replicate n (pos 0))
 zeros_in_range zero = All-nil InRange
 zeros_in_range (suc n) = All-cons InRange (pos 0) (replicate n (pos 0)) (omega (arith, ints)) (zeros_in_range n)
 
@@ -38,7 +38,7 @@ row_in_range n k constant factor c f = All-cons InRange constant (slice_set (rep
 
 -- ---- what the row is at a store
 
-product_zeros : (n : ℕ) (s : List ℤ) → product (replicate n (pos 0)) s ≡ pos 0
+pub product_zeros : (n : ℕ) (s : List ℤ) → product (replicate n (pos 0)) s ≡ pos 0
 product_zeros zero s = refl
 product_zeros (suc n) [] = let p = product_zeros n [] in let z = zero_times (pos 0) in omega (arith, ints)
   where
@@ -58,15 +58,15 @@ product_place (suc n) (suc k) f (x ∷ xs) h e = let p = product_place n k f xs 
     zero_times : (x : ℤ) → pos 0 *ℤ x ≡ pos 0
     zero_times x = grind (arith, ints)
 
-times_one : (c : ℤ) → c *ℤ pos 1 ≡ c
+pub times_one : (c : ℤ) → c *ℤ pos 1 ≡ c
 times_one (pos c) = grind (arith, ints)
 times_one (negsuc c) = grind (arith, ints)
 
-one_times : (c : ℤ) → pos 1 *ℤ c ≡ c
+pub one_times : (c : ℤ) → pos 1 *ℤ c ≡ c
 one_times (pos c) = grind (arith, ints)
 one_times (negsuc c) = grind (arith, ints)
 
-minus_times : (c : ℤ) → negsuc 0 *ℤ c ≡ neg_ℤ c
+pub minus_times : (c : ℤ) → negsuc 0 *ℤ c ≡ neg_ℤ c
 minus_times (pos zero) = grind (arith, ints)
 minus_times (pos (suc c)) = grind (arith, ints)
 minus_times (negsuc c) = grind (arith, ints)
@@ -84,18 +84,18 @@ con_cons g gs x = (
   λ h k m. elim (contains_cases g k gs m) [ inl e ↦ subst (λ r. Holds r x) e h.0 | inr d ↦ h.1 k d ],
 )
 
-abbrev RowHolds : ConKind → List ℤ → List ℤ → Type 0
+abbrev pub RowHolds : ConKind → List ℤ → List ℤ → Type 0
 RowHolds kind r s = Holds (record { row = r; equal = is_equality kind }) (pos 1 ∷ s)
 
-abbrev AllHold : ConKind → List (List ℤ) → List ℤ → Type 0
+abbrev pub AllHold : ConKind → List (List ℤ) → List ℤ → Type 0
 AllHold kind [] s = Unit {0}
 AllHold kind (r ∷ rs) s = RowHolds kind r s × AllHold kind rs s
 
-hold_append : (kind : ConKind) (xs ys : List (List ℤ)) (s : List ℤ) → AllHold kind (xs ++ ys) s ↔ (AllHold kind xs s × AllHold kind ys s)
+pub hold_append : (kind : ConKind) (xs ys : List (List ℤ)) (s : List ℤ) → AllHold kind (xs ++ ys) s ↔ (AllHold kind xs s × AllHold kind ys s)
 hold_append kind [] ys s = (λ h. (tt, h), λ h. h.1)
 hold_append kind (x ∷ xs) ys s = let e = hold_append kind xs ys s in (λ h. ((h.0, (e.0 h.1).0), (e.0 h.1).1), λ h. (h.0.0, e.1 (h.0.1, h.1)))
 
-rows_hold : (xs ys : List (List ℤ)) (s : List ℤ)
+pub rows_hold : (xs ys : List (List ℤ)) (s : List ℤ)
     → Con (given_by is_equality (xs ++ ys) (replicate (length xs) Eq ++ replicate (length ys) Ge)) (pos 1 ∷ s) ↔ (AllHold Eq xs s × AllHold Ge ys s)
 rows_hold [] [] s = (λ h. (tt, tt), λ h k m. absurd (contains_none k m))
 rows_hold [] (y ∷ ys) s =
@@ -190,7 +190,7 @@ parts_mean n (Some is) s f l =
 pub rows_added : (rows added later whole new : List (List ℤ)) → new ≡ rows ++ added → rows ++ (added ++ later) ≡ whole → new ++ later ≡ whole
 rows_added rows added later whole new e h = rw e (append_assoc rows added later ∙ h)
 
-kinds_append : (kind : ConKind) (xs ys : List (List ℤ)) → replicate (length (xs ++ ys)) kind ≡ replicate (length xs) kind ++ replicate (length ys) kind
+pub kinds_append : (kind : ConKind) (xs ys : List (List ℤ)) → replicate (length (xs ++ ys)) kind ≡ replicate (length xs) kind ++ replicate (length ys) kind
 kinds_append kind [] ys = refl
 kinds_append kind (x ∷ xs) ys = ap (λ ks. kind ∷ ks) (kinds_append kind xs ys)
 

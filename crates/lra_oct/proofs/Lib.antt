@@ -8,3 +8,5 @@ pub mod UnaryLemmas
 pub mod TestLemmas
 pub mod OtherLemmas
 pub mod AssignLemmas
+pub mod PartLemmas
+pub mod MeanLemmas

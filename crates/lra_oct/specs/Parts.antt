@@ -1,9 +1,9 @@
 -- The rows that mean an octagon: the unary bounds, and the bounds of sums and differences that these don't imply.
 -- Equalities stand first. Rows that begin with +x_a stand before those that begin with -x_a, each with the others in
 -- falling order.
-use Rattle.std.specs.Prelude.{ℕ, zero, suc, ◌+◌, ◌*◌, ◌-◌, ◌/◌, ◌==◌, Bool, false, not, if◌then◌else◌, cond, ℤ, pos}
+use Rattle.std.specs.Prelude.{◌≡◌, ℕ, zero, suc, ◌+◌, ◌*◌, ◌-◌, ◌/◌, ◌==◌, Bool, false, if◌then◌else◌, cond, ℤ, pos}
 use Rattle.std.specs.Prelude.{neg_ℤ}
-use Rattle.std.specs.Prelude.{◌+ℤ◌, int_lt, List, [], ◌∷◌, ◌++◌, length, replicate, slice_set, Option, None, Some}
+use Rattle.std.specs.Prelude.{◌+ℤ◌, int_le, List, [], ◌∷◌, ◌++◌, length, replicate, slice_set, Option, None, Some}
 use Rattle.std.specs.Ordering.{int_eq}
 use Rattle.lra_sys.specs.Listed.{Listed}
 use Rattle.lra_linear.specs.declared.ConKind.{ConKind}
@@ -24,7 +24,7 @@ pair_row n i j q = q ∷ slice_set (slice_set (replicate n (pos 0)) (i / 2) (sig
 abbrev pub implied_by : Option ℤ → Option ℤ → ℤ → Bool
 implied_by None b q = false
 implied_by (Some a) None q = false
-implied_by (Some a) (Some b) q = not (int_lt q (a +ℤ b))
+implied_by (Some a) (Some b) q = int_le (a +ℤ b) q
 
 -- q, unless the unary bounds imply it
 abbrev pub unless_implied : Option ℤ → Option ℤ → Option ℤ → Option ℤ
@@ -49,11 +49,10 @@ abbrev pub row_if_any : ℕ → ℕ → ℕ → Option ℤ → List (List ℤ)
 row_if_any n i j None = []
 row_if_any n i j (Some q) = pair_row n i j q ∷ []
 
-abbrev pub equal_row : ℕ → Entries → ℕ → ℕ → List (List ℤ)
-equal_row n m i j = if is_equality m i j then row_if_any n i j (printed m i j) else []
-
-abbrev pub unequal_row : ℕ → Entries → ℕ → ℕ → List (List ℤ)
-unequal_row n m i j = if is_equality m i j then [] else row_if_any n i j (printed m i j)
+-- an equality is one row of that kind; other rows are inequalities
+abbrev pub kind_row : ConKind → ℕ → Entries → ℕ → ℕ → List (List ℤ)
+kind_row Eq n m i j = if is_equality m i j then row_if_any n i j (printed m i j) else []
+kind_row Ge n m i j = if is_equality m i j then [] else row_if_any n i j (printed m i j)
 
 abbrev pub RowsAt : Type 0
 RowsAt = ℕ → List (List ℤ)
@@ -67,20 +66,20 @@ abbrev pub falling : RowsAt → ℕ → ℕ → List (List ℤ)
 falling f b zero = []
 falling f b (suc k) = f (2 * (b + k) + 1) ++ falling f b k
 
--- the rows that begin with the signed variable i of x_a
-abbrev pub rows_with : ℕ → (ℕ → RowsAt) → ℕ → ℕ → List (List ℤ)
-rows_with n f a i = rising (f i) (suc a) (n - suc a) ++ f i i ++ falling (f i) (suc a) (n - suc a)
+-- the rows that begin with the signed variable i
+abbrev pub rows_with : ℕ → (ℕ → RowsAt) → ℕ → List (List ℤ)
+rows_with n f i =
+    rising (f i) (suc (i / 2)) (n - suc (i / 2)) ++ f i i ++ falling (f i) (suc (i / 2)) (n - suc (i / 2))
 
 -- the equalities from column a on, k of them; each begins with +x_a
 abbrev pub equal_rows : ℕ → Entries → ℕ → ℕ → List (List ℤ)
 equal_rows n m a zero = []
-equal_rows n m a (suc k) = rows_with n (equal_row n m) a (2 * a) ++ equal_rows n m (suc a) k
+equal_rows n m a (suc k) = rows_with n (kind_row Eq n m) (2 * a) ++ equal_rows n m (suc a) k
 
 abbrev pub unequal_rows : ℕ → Entries → ℕ → ℕ → List (List ℤ)
 unequal_rows n m a zero = []
 unequal_rows n m a (suc k) =
-    (rows_with n (unequal_row n m) a (2 * a) ++ rows_with n (unequal_row n m) a (2 * a + 1))
-    ++ unequal_rows n m (suc a) k
+    (rows_with n (kind_row Ge n m) (2 * a) ++ rows_with n (kind_row Ge n m) (2 * a + 1)) ++ unequal_rows n m (suc a) k
 
 abbrev pub octagon_system : ℕ → Entries → Listed ConKind
 octagon_system n m = record {
@@ -93,3 +92,9 @@ octagon_system n m = record {
 abbrev pub octagon_parts : ℕ → Option Cells → List (Listed ConKind)
 octagon_parts n None = []
 octagon_parts n (Some cells) = octagon_system n (entries n cells) ∷ []
+
+-- rows of one kind were added to a list of rows
+pub record Pushed (kind : ConKind) (added : List (List ℤ)) (old new : Listed ConKind) : Type 0 where
+  pub dims : new.dims ≡ old.dims
+  pub rows : new.rows ≡ old.rows ++ added
+  pub kinds : new.kinds ≡ old.kinds ++ replicate (length added) kind

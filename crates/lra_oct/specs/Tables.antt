@@ -1,6 +1,6 @@
 -- The tables of octagons: what each change makes of the matrix, and when it may be flagged.
 use Rattle.std.specs.Prelude.{◌≡◌, ℕ, zero, suc, ◌+◌, ◌-◌, ◌*◌, ◌/◌, ◌%◌, ◌<◌, ◌==◌, cond, int_lt, ℤ, pos, neg_ℤ}
-use Rattle.std.specs.Prelude.{◌+ℤ◌}
+use Rattle.std.specs.Prelude.{◌+ℤ◌, ◌≤ℤ◌, ◌<ℤ◌, ◌^◌}
 use Rattle.std.specs.Prelude.{Bool, true, false, if◌then◌else◌, List, [], ◌∷◌, map, length, replicate, slice_set}
 use Rattle.std.specs.Prelude.{slice_index_or}
 use Rattle.std.specs.Prelude.{Option, None, Some, ◌⊎◌}
@@ -32,6 +32,10 @@ use Rattle.lra_oct.specs.declared.forms.Shape.TheVariants.{Constant, One, Two, O
 -- the greatest value of a signed variable that the matrix allows, rounded down
 abbrev pub most : Entries → ℕ → Option ℤ
 most m i = half_of (m (opposite i) i)
+
+-- half of a number in the range
+abbrev pub IsHalf : ℤ → Type 0
+IsHalf a = (neg_ℤ (pos (2 ^ 126)) ≤ℤ a) × (a <ℤ pos (2 ^ 126))
 
 -- the numbers of x_k that the matrix allows
 abbrev pub interval : Entries → ℕ → Interval

@@ -6,6 +6,7 @@ mod bounds;
 mod closing;
 mod forms;
 mod octagon;
+mod parts;
 mod testing;
 mod unary;
 

@@ -4,7 +4,7 @@ ghost use Rattle.std.specs.Prelude.{◌≡◌, ◌≤◌, ◌<◌, ◌*◌, ◌^
 ghost use Rattle.lra_linear.specs.Range.{InRange};
 ghost use Rattle.lra_dbm.specs.Cells.{IsMatrix, entries};
 ghost use Rattle.lra_box.specs.Bounds.{EndsInRange, open_interval};
-ghost use Rattle.lra_oct.specs.Tables.{most, interval, intervals, upper_of, some_crossed};
+ghost use Rattle.lra_oct.specs.Tables.{most, interval, intervals, upper_of, some_crossed, IsHalf};
 ghost use Rattle.lra_oct.specs.Content.{seen, DimsFit};
 ghost use Rattle.lra_oct.specs.Entering.{BoundsOne, BoundsAll, BoundedTo};
 
@@ -17,13 +17,14 @@ use lra_row::add;
 use std::alloc::{AllocError, Global};
 
 /// The greatest value of the signed variable that the matrix allows, rounded down.
-fn most(n: usize, matrix: &Matrix, i: usize) -> Option<i128>
+pub fn most(n: usize, matrix: &Matrix, i: usize) -> Option<i128>
     requires few { n ≤ 2 ^ 30 }
     requires row { i < 2 * n }
     requires dims { matrix.now.dims ≡ n }
     requires is { IsMatrix n matrix.now.cells }
     ensures most { result ≡ most (entries n matrix.now.cells) i }
     ensures range { IfSome result InRange }
+    ensures half { IfSome result IsHalf }
 {
     match matrix.bound(opposite(n, i), i) {
         Some(twice) => Some(twice.div_euclid(2)),

@@ -1,6 +1,6 @@
 use Rattle.lra_oct.specs.Content.{seen}
 use Rattle.lra_oct.proofs.MeetsLemmas.{meets_remove}
-use Rattle.lra_oct.proofs.octagon.Octagon.remove_last.Goals as goal
+use Rattle.lra_oct.proofs.octagon.OctagonDomain.remove_last.Goals as goal
 
 pub returns-clause-meets : goal.returns-clause-meets
 returns-clause-meets c =

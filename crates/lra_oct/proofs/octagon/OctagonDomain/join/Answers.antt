@@ -1,7 +1,7 @@
 use Rattle.std.proofs.Common.{◌≡◌, ap, sym, ◌∙◌}
 use Rattle.lra_oct.specs.Content.{Content, CellsFit, seen}
 use Rattle.lra_oct.proofs.MeetsLemmas.{joined_fit, joins}
-use Rattle.lra_oct.proofs.octagon.Octagon.join.Goals as goal
+use Rattle.lra_oct.proofs.octagon.OctagonDomain.join.Goals as goal
 
 pub invariant_of-self : goal.invariant_of-self
 invariant_of-self c =

@@ -2,7 +2,7 @@ use Rattle.std.proofs.Common.{◌≡◌, ap, sym, ◌∙◌}
 use Rattle.std.proofs.lemmas.Bool.{false≢true}
 use Rattle.lra_oct.specs.Content.{Content, CellsFit, seen}
 use Rattle.lra_oct.proofs.MeetsLemmas.{rank_fits, grown_fit, grows, grows_lower}
-use Rattle.lra_oct.proofs.octagon.Octagon.grow.Goals as goal
+use Rattle.lra_oct.proofs.octagon.OctagonDomain.grow.Goals as goal
 
 pub returns-then-is_within-clause-fits : goal.returns-then-is_within-clause-fits
 returns-then-is_within-clause-fits c = rw (← c.head.view_is) (rank_fits c.head.inside.dims (seen c.head.inside.matrix) c.head.invariant.0 c.head.invariant.2)

@@ -1,7 +1,7 @@
 use Rattle.std.proofs.Common.{◌≡◌, ap, sym, ◌∙◌}
 use Rattle.lra_oct.specs.Content.{Content}
 use Rattle.lra_oct.specs.Laws.{octagon_wider}
-use Rattle.lra_oct.proofs.octagon.Octagon.included.Goals as goal
+use Rattle.lra_oct.proofs.octagon.OctagonDomain.included.Goals as goal
 
 pub returns-then-is_within-clause-stores : goal.returns-then-is_within-clause-stores
 returns-then-is_within-clause-stores c = λ e s.

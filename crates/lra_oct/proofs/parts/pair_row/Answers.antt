@@ -1,0 +1,9 @@
+use Rattle.std.proofs.Common.{rules, ◌≡◌}
+use Rattle.lra_oct.specs.Parts.{pair_row}
+use Rattle.lra_oct.proofs.PartLemmas.{pair_in_range}
+use Rattle.lra_oct.proofs.parts.pair_row.Goals as goal
+
+pub from_slice-requires : goal.from_slice-requires
+from_slice-requires c =
+    let row : c.as_slice-2.result.now ≡ pair_row c.args.n c.args.i c.args.j c.args.q = search rules in
+    rw row (pair_in_range c.args.n c.args.i c.args.j c.args.q c.requires.range)
