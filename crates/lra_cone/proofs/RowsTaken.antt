@@ -44,7 +44,7 @@ strained_of : (w : ℕ) (chosen : List Given) (further : Given) (lines rays : Li
     IsStrained w chosen further lines rays cause
 strained_of w chosen further lines rays (Excess e) (inl x) = inl x
 strained_of w chosen further lines rays (Excess e) (inr x) = inr (inl x)
-strained_of w chosen further lines rays TooMany x = inl x
+strained_of w chosen further lines rays (TooMany count) x = inl x
 
 -- ---- at the start no row is left out
 pub conversion_start : (s : Shape) (kept : List Given) (losses : List Loss) → kept ≡ [] → losses ≡ [] → IsConversion s.taken [] kept s losses

@@ -200,14 +200,12 @@ rays_have_one_width s list k e = subst HaveOneWidth (sym e) (λ i j h l. ray_wid
 pub too_many_rays : (s : Shape) (g : Given) (lines rays : List (List ℤ)) (count : ℕ) → IsCone s → length g.row ≡ suc s.dims → LineCase g.equal g.row s.lines s.rays lines rays → count ≡ length rays →
     row_limit < count → TooManyRays s g.equal g.row count
 too_many_rays s g lines rays count k w x e h = record {
-  strain = record {
-    new_lines = lines;
-    new_rays = rays;
-    met = line_met s g lines rays k w x;
-    canonical = line_canonical s g lines rays k x;
-    long = subst (λ n. row_limit < n) e h;
-  };
-  is_count = sym e;
+  new_lines = lines;
+  new_rays = rays;
+  met = line_met s g lines rays k w x;
+  canonical = line_canonical s g lines rays k x;
+  are = sym e;
+  long = h;
 }
 
 -- ---- the rows taken in, with one more

@@ -265,14 +265,12 @@ cut_cone_error s g products m (of_cone.Strained strained) k w flat ep em x =
           ) in
           subst (IsStrain s g.equal g.row) (sym n.0)
           (record {
-            strain = record {
-              new_lines = s.lines;
-              new_rays = new;
-              met = ray_met s g new k w flat case;
-              canonical = ray_canonical s g new k flat case;
-              long = subst (λ z. row_limit < z) count n.1;
-            };
-            is_count = sym count;
+            new_lines = s.lines;
+            new_rays = new;
+            met = ray_met s g new k w flat case;
+            canonical = ray_canonical s g new k flat case;
+            are = sym count;
+            long = n.1;
           })
     ]
   where
@@ -322,4 +320,4 @@ member_in s Rays place r x = Contains-append_left s.rays (both_ways s.lines) r (
 pub strain_cause : (s : Shape) (equal : Bool) (c : List ℤ) (strained : Strained) → IsStrain s equal c strained → ConeStrains (suc s.dims) equal c s.lines s.rays (cause_of strained)
 strain_cause s equal c (Product member e) x = inl (record { row = x.row; has = member_in s member.family member.place x.row x.is; passes = x.passes })
 strain_cause s equal c (Pair above below e) x = inr (record { up = x.up; down = x.down; across = x.across; passes = x.passes })
-strain_cause s equal c (TooMany count) x = x.strain
+strain_cause s equal c (TooMany count) x = x

@@ -28,7 +28,7 @@ use Rattle.lra_cone.specs.Pairs.{ArePairs}
 abbrev pub cause_of : Strained → Cause
 cause_of (Product member e) = Excess e
 cause_of (Pair up down e) = Excess e
-cause_of (TooMany count) = cause.TooMany
+cause_of (TooMany count) = cause.TooMany count
 
 -- ---- places
 pub record StandsAt (rows : List (List ℤ)) (place : ℕ) (r : List ℤ) : Type 0 where
@@ -62,9 +62,8 @@ pub record PairPassesAt (s : Shape) (c : List ℤ) (above below : Member) (e : E
   pub passes : checked_blend (neg_ℤ (product c down)) (product c up) up down ≡ Err e
 
 -- the cone with c has so many rays, and that is too many
-pub record TooManyRays (s : Shape) (equal : Bool) (c : List ℤ) (count : ℕ) : Type 0 where
-  pub strain : HasTooMany (suc s.dims) equal c s.lines s.rays
-  pub is_count : length strain.new_rays ≡ count
+abbrev pub TooManyRays : Shape → Bool → List ℤ → ℕ → Type 0
+TooManyRays s equal c count = HasTooMany (suc s.dims) equal c s.lines s.rays count
 
 abbrev pub IsStrain : Shape → Bool → List ℤ → Strained → Type 0
 IsStrain s equal c (Product member e) = ProductPassesAt s c member e

@@ -44,7 +44,7 @@ impl Strained {
         match self {
             Strained::Product(_, excess) => Cause::Excess(excess),
             Strained::Pair(_, _, excess) => Cause::Excess(excess),
-            Strained::TooMany(_) => Cause::TooMany,
+            Strained::TooMany(count) => Cause::TooMany(count),
         }
     }
 }

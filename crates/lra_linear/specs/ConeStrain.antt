@@ -53,15 +53,17 @@ pub record IsPairOf (c : List ℤ) (rows : List (List ℤ)) (t : List ℤ) : Typ
 abbrev pub IsMet : ℕ → Bool → List ℤ → List (List ℤ) → List (List ℤ) → Type 0
 IsMet w equal c old new = (system : List (List ℤ)) → AreDual w system old → AreDual w (with_row equal c system) new
 
--- the cone with c has a canonical description with too many rays; each other canonical description of it is as long
-pub record HasTooMany (w : ℕ) (equal : Bool) (c : List ℤ) (lines rays : List (List ℤ)) : Type 0 where
+-- the cone with c has a canonical description with so many rays, and that is too many; each other canonical description
+-- of it is as long
+pub record HasTooMany (w : ℕ) (equal : Bool) (c : List ℤ) (lines rays : List (List ℤ)) (count : ℕ) : Type 0 where
   pub new_lines : List (List ℤ)
   pub new_rays : List (List ℤ)
   pub met : IsMet w equal c (all_rows lines rays) (all_rows new_lines new_rays)
   pub canonical : IsCanonical new_lines new_rays
-  pub long : row_limit < length new_rays
+  pub are : length new_rays ≡ count
+  pub long : row_limit < count
 
 abbrev pub ConeStrains : ℕ → Bool → List ℤ → List (List ℤ) → List (List ℤ) → Cause → Type 0
 ConeStrains w equal c lines rays (Excess e) = ProductPasses c (all_rows lines rays) e ⊎
     PairPasses c (all_rows lines rays) e
-ConeStrains w equal c lines rays TooMany = HasTooMany w equal c lines rays
+ConeStrains w equal c lines rays (TooMany count) = HasTooMany w equal c lines rays count

@@ -95,12 +95,13 @@ pub record OtherReductionPasses (w : ℕ) (chosen : List Given) (further : Given
       ⊎ InOtherForm (IsOtherForm w (with_row further.equal further.row (system_of chosen)) lines) form start
   pub passes : ReductionPasses w form start e
 
--- ---- (3) the list's own kind has too many rows
-pub record OwnTooMany (w : ℕ) (system : List (List ℤ)) : Type 0 where
+-- ---- (3) the list's own kind has so many rows, and that is too many
+pub record OwnTooMany (w : ℕ) (system : List (List ℤ)) (count : ℕ) : Type 0 where
   pub lines : List (List ℤ)
   pub rays : List (List ℤ)
   pub canonical : IsCanonicalOf w system lines rays
-  pub long : row_limit < length rays
+  pub are : length rays ≡ count
+  pub long : row_limit < count
 
 -- ---- the strain
 abbrev pub IsStrained : ℕ → List Given → Given → List (List ℤ) → List (List ℤ) → Cause → Type 0
@@ -108,9 +109,9 @@ IsStrained w chosen further lines rays (Excess e) =
     ProductPasses further.row (all_rows lines rays) e ⊎ PairPasses further.row (all_rows lines rays) e ⊎
     OwnReductionPasses w chosen rays e
     ⊎ OtherReductionPasses w chosen further lines rays e
-IsStrained w chosen further lines rays TooMany =
-    HasTooMany w further.equal further.row lines rays ⊎
-    OwnTooMany w (with_row further.equal further.row (system_of chosen))
+IsStrained w chosen further lines rays (TooMany count) =
+    HasTooMany w further.equal further.row lines rays count ⊎
+    OwnTooMany w (with_row further.equal further.row (system_of chosen)) count
 
 -- the list strains, as the loss tells: with the beginning `chosen` and the row `further`, the next one or one of those
 pub record Strains (w : ℕ) (all : List Given) (loss : Loss) : Type 0 where

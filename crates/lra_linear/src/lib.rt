@@ -20,11 +20,11 @@ pub struct Excess {
     pub right: i128,
 }
 
-/// Why a row was left out: a number passes the range, or there would be more rows than a description may have.
+/// Why a row was left out: a number passes the range, or there would be so many rows, more than a description may have.
 #[derive(Clone, Copy, Debug, PartialEq, Eq)]
 pub enum Cause {
     Excess(Excess),
-    TooMany,
+    TooMany(usize),
 }
 
 /// What a constraint asks of its product with a point, and a test of its form's value: to be at least 0, or to be 0.
