@@ -12,8 +12,8 @@ use Rattle.lra_linear.specs.Kinds.{is_equality}
 use Rattle.lra_linear.specs.declared.ConKind.{ConKind}
 use Rattle.lra_linear.specs.declared.ConKind.TheVariants.{Ge, Eq}
 use Rattle.lra_show.specs.Shown.{report_row}
-use Rattle.lra_report.specs.Rows.{shown_rows, IsRowInRange, IsPartInRange}
-use Rattle.lra_report.specs.Spelled.{IsDirected, IsSpelledRow, IsSpelledPart}
+use Rattle.lra_report.specs.Rows.{shown_rows}
+use Rattle.lra_report.specs.Spelled.{IsDirected}
 use Rattle.lra_report.proofs.Every.{every_append}
 use Rattle.lra_domain.specs.Parts.{SomePartHolds}
 use Rattle.lra_box.specs.declared.interval.Interval.{Interval}
@@ -30,7 +30,7 @@ use Rattle.lra_findings.specs.ReportText.{is_turned}
 use Rattle.lra_findings.specs.Parts.{Tells}
 use Rattle.lra_report.specs.Listing.{HasWidth}
 use Rattle.lra_flow.proofs.FormLemmas.{set_length}
-use Rattle.lra_source.specs.Shown.{shown_part, shown_state, IsShown}
+use Rattle.lra_source.specs.Shown.{shown_part, shown_state, IsShown, AreDirected, ShowsRows}
 
 -- rows ---------------------------------------------------------------------------------------------------------------
 
@@ -123,8 +123,8 @@ no_generators : (n : ℕ) (ps : List (Listed ConKind)) → AllByRecursion (Tells
 no_generators n [] = tt
 no_generators n (p ∷ ps) = (refl, no_generators n ps)
 
-pub boxes_are_shown : (v : Content) → IsShown box_meaning Box v (shown_state box_meaning v)
-boxes_are_shown v = record {
+box_is_shown : (v : Content) → IsShown box_meaning Box v (shown_state box_meaning v)
+box_is_shown v = record {
   as_many = length-map (box_meaning.parts v) shown_part;
   wide = parts_wide v.dims v.bounds;
   tell = no_generators v.dims (box_meaning.parts v);
@@ -172,30 +172,13 @@ rows_directed : (xs ys : List (List ℤ)) → AllByRecursion IsStraight xs → A
 rows_directed [] ys h = inequalities_directed ys
 rows_directed (x ∷ xs) ys h = (h.0, rows_directed xs ys h.1)
 
--- each row of a box can be told by its text, and there are no generators
-record IsDirectedPart (p : Part) : Type 0 where
-  pub rows : AllByRecursion IsDirectedRow p.rows
-  pub none : p.generators ≡ []
-
-parts_directed : (n : ℕ) (b : Option (List Interval)) → AllByRecursion IsDirectedPart (map shown_part (box_parts n b))
+parts_directed : (n : ℕ) (b : Option (List Interval)) → AllByRecursion AreDirected (map shown_part (box_parts n b))
 parts_directed n None = tt
-parts_directed n (Some is) = (record { rows = rows_directed (equal_rows n 0 is) (unequal_rows n 0 is) (equal_straight n 0 is); none = refl }, tt)
+parts_directed n (Some is) = (rows_directed (equal_rows n 0 is) (unequal_rows n 0 is) (equal_straight n 0 is), tt)
 
-rows_spelled : (rs : List Row) → AllByRecursion IsDirectedRow rs → AllByRecursion IsRowInRange rs → AllByRecursion IsSpelledRow rs
-rows_spelled [] d h = tt
-rows_spelled (r ∷ rs) d h = (record { directed = d.0; in_range = h.0 }, rows_spelled rs d.1 h.1)
-
-state_spelled : (ps : State) → AllByRecursion IsDirectedPart ps → AllByRecursion IsPartInRange ps → AllByRecursion IsSpelledPart ps
-state_spelled [] d h = tt
-state_spelled (p ∷ ps) d h = (record { rows = rows_spelled p.rows d.0.rows h.0; generators = subst (AllByRecursion _) (sym d.0.none) tt }, state_spelled ps d.1 h.1)
-
-all_spelled : (values : List Content) → AllByRecursion (AllByRecursion IsPartInRange) (map (shown_state box_meaning) values)
-    → AllByRecursion (AllByRecursion IsSpelledPart) (map (shown_state box_meaning) values)
-all_spelled [] h = tt
-all_spelled (v ∷ values) h = (state_spelled (shown_state box_meaning v) (parts_directed v.dims v.bounds) h.0, all_spelled values h.1)
-
--- the states of boxes with numbers of the range are told by their text
-pub boxes_spelled : (values : List Content) (states : List State) → states ≡ map (shown_state box_meaning) values → AllByRecursion (AllByRecursion IsPartInRange) states
-    → AllByRecursion (AllByRecursion IsSpelledPart) states
-boxes_spelled values states are h =
-    subst (AllByRecursion (AllByRecursion IsSpelledPart)) (sym are) (all_spelled values (subst (AllByRecursion (AllByRecursion IsPartInRange)) are h))
+pub boxes_are_shown : ShowsRows box_meaning Box
+boxes_are_shown = record {
+  shown = box_is_shown;
+  directed = λ v. parts_directed v.dims v.bounds;
+  capped = λ v cap one. one;
+}

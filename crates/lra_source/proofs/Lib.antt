@@ -4,6 +4,7 @@ pub mod Sound
 pub mod Numbering
 pub mod Flags
 pub mod BoxShown
+pub mod RowsShown
 pub mod Reports
 pub mod EachAnswer
 pub mod ReadSteps

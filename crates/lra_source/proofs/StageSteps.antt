@@ -1,5 +1,5 @@
 -- What the stages behind the reading answer, as answers of the tree and of the source.
-use Rattle.std.proofs.Common.{◌≡◌, ℕ, List, [], ◌∷◌, map, Some, None, sym, ap, ◌∙◌, subst}
+use Rattle.std.proofs.Common.{◌≡◌, ℕ, List, [], ◌∷◌, map, Some, None, refl, sym, ap, ◌∙◌, subst}
 use Rattle.std.specs.Prelude.{Option, Result, Ok, Err, IfOk, MatchOption}
 use Rattle.lra_base.specs.declared.refusals.Refusal.{Refusal}
 use Rattle.lra_base.specs.declared.refusals.Place.{Place}
@@ -18,7 +18,6 @@ use Rattle.lra_operations.specs.Agree.{IsGraph, Agrees}
 use Rattle.lra_program.specs.WellFormed.{IsWellFormed}
 use Rattle.lra_tree.specs.Grammar.{Spells}
 use Rattle.lra_base.specs.declared.options.Domain.{Domain}
-use Rattle.lra_base.specs.declared.options.Domain.TheVariants.{Box}
 use Rattle.lra_base.specs.declared.options.Options.{Options}
 use Rattle.lra_findings.specs.Report.{State, Report}
 use Rattle.lra_meaning.specs.Refuse.{limit_fault, RefusesTree, bad_name, recursive, past_limit, Refuse, Accepts}
@@ -36,11 +35,9 @@ use Rattle.lra_source.specs.declared.error.SourceError.{SourceError}
 use Rattle.lra_source.specs.declared.error.SourceError.TheVariants.{Refused, Memory}
 use Rattle.lra_domain.specs.Meaning.{Meaning}
 use Rattle.lra_domain.specs.Laws.{Laws}
-use Rattle.lra_box.specs.Meaning.{box_meaning}
-use Rattle.lra_box.specs.Laws.{box_laws}
 use Rattle.lra_source.specs.Shown.{shown_state}
-use Rattle.lra_source.specs.Answers.{IsAnsweredOver, IsAnswered, IfRefused}
-use Rattle.lra_source.specs.Stages.{HasTree, HasGraph, IsToldOf, IsBoxToldOf}
+use Rattle.lra_source.specs.Answers.{IsAnsweredOver, IfRefused}
+use Rattle.lra_source.specs.Stages.{HasTree, HasGraph, IsToldOf}
 use Rattle.lra_source.proofs.Reports.{sound, is_report}
 use Rattle.lra_source.proofs.ReadSteps.{tree_refused}
 
@@ -137,9 +134,10 @@ module _ {V H : Type 0} (m : Meaning V H) (laws : Laws m) (shown : V → State) 
 
 -- and so with what a tree's answer is, whichever it is
 module _ (o : Options) (source : List ℕ) (t : FileTree) (has : HasTree source t) where
-  pub each_answered : (x : Result code.Report SourceError) → o.domain ≡ Box → IfOk x (λ r. IsBoxToldOf o t (report_of r)) → IfOk x (λ r. IsAnswered o source (report_of r))
-  each_answered (Ok r) domain is = is_answered box_meaning box_laws (shown_state box_meaning) Box o source t (report_of r) has is domain
-  each_answered (Err e) domain is = tt
+  pub each_answered : {V H : Type 0} (m : Meaning V H) (laws : Laws m) (x : Result code.Report SourceError) → IfOk x (λ r. IsToldOf m (shown_state m) o.domain o t (report_of r)) →
+      IfOk x (λ r. IsAnsweredOver m (shown_state m) o.domain o source (report_of r))
+  each_answered m laws (Ok r) is = is_answered m laws (shown_state m) o.domain o source t (report_of r) has is refl
+  each_answered m laws (Err e) is = tt
 
   pub each_refused : (x : Result code.Report SourceError) → IfRefused x (λ (r : Refusal). RefusesTree t r.cause r.place) → IfRefused x (λ (r : Refusal). Refuse Spells source r.cause r.place)
   each_refused (Ok r) fault = tt

@@ -20,9 +20,8 @@ use Rattle.lra_report.specs.Listing.{Lists, IsReportOf}
 use Rattle.lra_iter.specs.Fits.{TreeFits}
 use Rattle.lra_iter.specs.Numbers.{AreBelow, IsNumbered}
 use Rattle.lra_domain.specs.Meaning.{Meaning}
-use Rattle.lra_box.specs.Content.{Content}
 use Rattle.lra_box.specs.Meaning.{box_meaning}
-use Rattle.lra_source.specs.Shown.{IsShown, AreShown, AreCapped, shown_state}
+use Rattle.lra_source.specs.Shown.{AreShown, AreCapped, ShowsRows}
 use Rattle.lra_source.specs.Analysed.{IsAnalysed}
 use Rattle.lra_source.specs.Answers.{IsAnswered}
 
@@ -72,7 +71,7 @@ AnalysedAreReports {V} m = (shown : V → State) (o : Options) (settings : Optio
 
 -- each box is shown by its rows
 abbrev pub BoxesAreShown : Type 0
-BoxesAreShown = (v : Content) → IsShown box_meaning Box v (shown_state box_meaning v)
+BoxesAreShown = ShowsRows box_meaning Box
 
 -- two answers to one source under one list of options that have the same text are the same report
 abbrev pub OneAnsweredText : Type 0

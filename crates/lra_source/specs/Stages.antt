@@ -13,7 +13,6 @@ use Rattle.lra_program.specs.Sites.{Site, events_of, sites_of}
 use Rattle.lra_operations.specs.Agree.{IsGraph, Agrees}
 use Rattle.lra_program.specs.WellFormed.{IsWellFormed}
 use Rattle.lra_base.specs.declared.options.Domain.{Domain}
-use Rattle.lra_base.specs.declared.options.Domain.TheVariants.{Box}
 use Rattle.lra_base.specs.declared.options.Options.{Options}
 use Rattle.lra_findings.specs.Report.{State, Report}
 use Rattle.lra_report.specs.Listing.{Lists}
@@ -21,8 +20,7 @@ use Rattle.lra_meaning.specs.Refuse.{limit_fault}
 use Rattle.lra_tree.specs.Reach.{NotRecursive}
 use Rattle.lra_report.specs.Spelled.{IsReadable}
 use Rattle.lra_domain.specs.Meaning.{Meaning}
-use Rattle.lra_box.specs.Meaning.{box_meaning}
-use Rattle.lra_source.specs.Shown.{AreShown, AreCapped, shown_state}
+use Rattle.lra_source.specs.Shown.{AreShown, AreCapped}
 use Rattle.lra_source.specs.Analysed.{IsAnalysed}
 use Rattle.lra_source.specs.Claims.{AreFew}
 
@@ -59,7 +57,3 @@ pub record IsToldOf {V H : Type 0} (m : Meaning V H) (shown : V → State) (doma
   pub are_capped : AreCapped m o.parts analysed.values
   pub agrees : Agrees (resolve t) analysed.tree
   pub readable : IsReadable r
-
--- over boxes, of which the rows are shown
-abbrev pub IsBoxToldOf : Options → FileTree → Report → Type 0
-IsBoxToldOf = IsToldOf box_meaning (shown_state box_meaning) Box

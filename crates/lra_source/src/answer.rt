@@ -10,8 +10,9 @@ ghost use Rattle.lra_tree.specs.Grammar.{Spells};
 ghost use Rattle.lra_meaning.specs.Refuse.{RefusesTree, Refuse};
 ghost use Rattle.lra_report.specs.View.{report_of};
 ghost use Rattle.lra_base.specs.declared.options.Domain.TheVariants.{Box};
-ghost use Rattle.lra_source.specs.Answers.{IsAnswered, IfRefused};
-ghost use Rattle.lra_source.specs.Stages.{HasGraph, IsBoxToldOf};
+ghost use Rattle.lra_source.specs.Answers.{IsAnsweredOver, IsAnswered, IfRefused};
+ghost use Rattle.lra_source.specs.Shown.{shown_state, ShowsRows};
+ghost use Rattle.lra_source.specs.Stages.{HasGraph, IsToldOf};
 
 use crate::error::SourceError;
 use crate::program::{check_calls, graph_of, program_of};
@@ -19,6 +20,7 @@ use crate::reading::read_tree;
 use crate::states::states_of;
 use lra_base::Options;
 use lra_box::Boxes;
+use lra_domain::Domain;
 use lra_iter::analyse;
 use lra_listing::list;
 use lra_operations::Graph;
@@ -27,7 +29,7 @@ use lra_tree::Tree;
 use std::alloc::{AllocError, Global};
 
 /// The report of the iteration over a program's tree of operations.
-fn report_graph(
+fn report_graph<D: Domain>(
     alloc: Global,
     options: Options,
     tree: &Tree,
@@ -35,11 +37,13 @@ fn report_graph(
     graph: &Graph,
 ) -> Result<Report, AllocError>
     requires parts { 1 ≤ options.parts }
+    requires shows { ShowsRows D.meaning options.domain }
     requires graph { HasGraph (tree_view tree.now) (node_view graph.now.tree) (map site_view graph.now.sites.items) }
     requires globals { (resolve (tree_view tree.now)).globals ≡ globals.now }
-    ensures { IfOk result (λ r. IsBoxToldOf options (tree_view tree.now) (report_of r)) }
+    ensures { IfOk result (λ r. IsToldOf D.meaning (shown_state D.meaning) options.domain options
+        (tree_view tree.now) (report_of r)) }
 {
-    let solution = analyse::<Boxes>(alloc, &options, globals, graph)?;
+    let solution = analyse::<D>(alloc, &options, globals, graph)?;
     let states = states_of(alloc, &solution.values)?;
     let sites = graph.sites.as_slice();
     let report = list(
@@ -56,16 +60,31 @@ fn report_graph(
 
 /// The report of a tree, or its refusal: its first fault of names, its first recursive call, or the first limit that
 /// its program passes.
-fn report_tree(alloc: Global, options: Options, tree: &Tree) -> Result<Report, SourceError>
+fn report_tree<D: Domain>(alloc: Global, options: Options, tree: &Tree) -> Result<Report, SourceError>
     requires parts { 1 ≤ options.parts }
+    requires shows { ShowsRows D.meaning options.domain }
     requires well { name_faults (tree_view tree.now) ≡ [] → IsWellFormed (resolve (tree_view tree.now)) }
-    ensures told { IfOk result (λ r. IsBoxToldOf options (tree_view tree.now) (report_of r)) }
+    ensures told { IfOk result (λ r. IsToldOf D.meaning (shown_state D.meaning) options.domain options
+        (tree_view tree.now) (report_of r)) }
     ensures refused { IfRefused result (λ r. RefusesTree (tree_view tree.now) r.cause r.place) }
 {
     let program = program_of(alloc, tree)?;
     check_calls(alloc, tree)?;
     let graph = graph_of(alloc, tree, &program)?;
-    Ok(report_graph(alloc, options, tree, &program.globals, &graph)?)
+    Ok(report_graph::<D>(alloc, options, tree, &program.globals, &graph)?)
+}
+
+/// The report of a source over a domain that shows its values by their rows, or its one refusal.
+fn analyse_over<D: Domain>(alloc: Global, options: Options, bytes: &[u8]) -> Result<Report, SourceError>
+    requires parts { 1 ≤ options.parts }
+    requires shows { ShowsRows D.meaning options.domain }
+    requires bound { length bytes.now + 1 < 2 ^ 32 }
+    ensures answered { IfOk result (λ r. IsAnsweredOver D.meaning (shown_state D.meaning) options.domain options
+        bytes.now (report_of r)) }
+    ensures refused { IfRefused result (λ r. Refuse Spells bytes.now r.cause r.place) }
+{
+    let tree = read_tree(alloc, bytes)?;
+    report_tree::<D>(alloc, options, &tree)
 }
 
 /// The report of a source over boxes, or its one refusal; memory may be wanting. A source past the limit of 65,536
@@ -77,6 +96,5 @@ pub fn analyse_source(alloc: Global, options: Options, bytes: &[u8]) -> Result<R
     ensures answered { IfOk result (λ r. IsAnswered options bytes.now (report_of r)) }
     ensures refused { IfRefused result (λ r. Refuse Spells bytes.now r.cause r.place) }
 {
-    let tree = read_tree(alloc, bytes)?;
-    report_tree(alloc, options, &tree)
+    analyse_over::<Boxes>(alloc, options, bytes)
 }

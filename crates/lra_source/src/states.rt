@@ -1,20 +1,18 @@
-//! The values of boxes as the states of a report.
+//! The values of a domain as the states of a report.
 
 ghost use Rattle.std.specs.Prelude.{◌≡◌, map, IfOk};
 ghost use Rattle.std.specs.List.{AllByRecursion};
-ghost use Rattle.lra_box.specs.Meaning.{box_meaning};
 ghost use Rattle.lra_report.specs.Rows.{IsPartInRange};
 ghost use Rattle.lra_source.specs.Shown.{shown_state};
 
-use lra_box::Boxes;
 use lra_domain::Domain;
 use lra_report::Part;
 use std::alloc::{AllocError, Global};
 
 /// The parts of a value, which have no generators.
 #[tactic(auto, using(crate::proofs::StateSteps::pushed))]
-fn state_of(alloc: Global, value: &Boxes) -> Result<Vec<Part>, AllocError>
-    ensures shown { IfOk result (λ s. s.items ≡ shown_state box_meaning value.now) }
+fn state_of<D: Domain>(alloc: Global, value: &D) -> Result<Vec<Part>, AllocError>
+    ensures shown { IfOk result (λ s. s.items ≡ shown_state D.meaning value.now) }
     ensures in_range { IfOk result (λ s. AllByRecursion IsPartInRange s.items) }
 {
     let mut state = Vec::new(alloc);
@@ -25,8 +23,8 @@ fn state_of(alloc: Global, value: &Boxes) -> Result<Vec<Part>, AllocError>
 }
 
 /// The states of all values in order.
-pub fn states_of(alloc: Global, values: &[Boxes]) -> Result<Vec<Vec<Part>>, AllocError>
-    ensures shown { IfOk result (λ states. map (λ s. s.items) states.items ≡ map (shown_state box_meaning) values.now) }
+pub fn states_of<D: Domain>(alloc: Global, values: &[D]) -> Result<Vec<Vec<Part>>, AllocError>
+    ensures shown { IfOk result (λ states. map (λ s. s.items) states.items ≡ map (shown_state D.meaning) values.now) }
     ensures in_range { IfOk result (λ states.
         AllByRecursion (AllByRecursion IsPartInRange) (map (λ s. s.items) states.items)) }
 {

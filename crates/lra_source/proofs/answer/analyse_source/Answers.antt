@@ -1,14 +1,12 @@
-use Rattle.lra_tree.specs.Views.{tree_view}
-use Rattle.lra_source.proofs.StageSteps.{well, each_answered, each_refused}
+use Rattle.std.proofs.Common.{sym, subst}
+use Rattle.lra_base.specs.declared.options.Domain.{Domain}
+use Rattle.lra_box.specs.Meaning.{box_meaning}
+use Rattle.lra_source.specs.Shown.{ShowsRows}
+use Rattle.lra_source.proofs.BoxShown.{boxes_are_shown}
 use Rattle.lra_source.proofs.answer.analyse_source.Goals as goal
 
-pub report_tree-requires-clause-well : goal.report_tree-requires-clause-well
-report_tree-requires-clause-well c = well c.args.bytes.now (tree_view c.in_ok-tree.tree) c.in_ok-tree.ensures.found
+pub analyse_over-requires-clause-shows : goal.analyse_over-requires-clause-shows
+analyse_over-requires-clause-shows c = subst (λ (d : Domain). ShowsRows box_meaning d) (sym c.requires.domain) boxes_are_shown
 
 pub returns-clause-answered : goal.returns-clause-answered
-returns-clause-answered c =
-    each_answered c.args.options c.args.bytes.now (tree_view c.in_ok-tree.tree) c.in_ok-tree.ensures.found c.report_tree.result c.requires.domain c.report_tree.ensures.told
-
-pub returns-clause-refused : goal.returns-clause-refused
-returns-clause-refused c =
-    each_refused c.args.options c.args.bytes.now (tree_view c.in_ok-tree.tree) c.in_ok-tree.ensures.found c.report_tree.result c.report_tree.ensures.refused
+returns-clause-answered c = rw (← c.requires.domain) c.analyse_over.ensures.answered

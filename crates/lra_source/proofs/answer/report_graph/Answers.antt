@@ -4,50 +4,47 @@ use Rattle.lra_tree.specs.Views.{tree_view}
 use Rattle.lra_operations.specs.GraphViews.{node_view, site_view}
 use Rattle.lra_meaning.specs.Resolve.{resolve}
 use Rattle.lra_program.specs.Sites.{sites_of}
-use Rattle.lra_base.specs.declared.options.Domain.TheVariants.{Box}
-use Rattle.lra_box.specs.Meaning.{box_meaning}
-use Rattle.lra_box.specs.Laws.{box_laws}
 use Rattle.lra_report.specs.View.{report_of}
 use Rattle.lra_source.specs.Shown.{shown_state}
 use Rattle.lra_listing.specs.Given.{AreVerdicts, told}
-use Rattle.lra_source.proofs.BoxShown.{boxes_are_shown, boxes_spelled}
+use Rattle.lra_source.proofs.RowsShown.{states_spelled}
 use Rattle.lra_source.proofs.ReportSteps.{fits, small_globals, is_numbered, few_points, states_handed, verdicts_handed, flag_handed, is_told}
 use Rattle.lra_source.proofs.answer.report_graph.Goals as goal
 
 pub analyse-requires-clause-few : goal.analyse-requires-clause-few
-analyse-requires-clause-few c = small_globals (tree_view c.args.tree.now) (node_view c.args.graph.now.tree)
+analyse-requires-clause-few g c = small_globals (tree_view c.args.tree.now) (node_view c.args.graph.now.tree)
     (map site_view c.args.graph.now.sites.items) c.args.globals.now c.requires.graph c.requires.globals
 
 pub analyse-requires-clause-fits : goal.analyse-requires-clause-fits
-analyse-requires-clause-fits c = fits (tree_view c.args.tree.now) (node_view c.args.graph.now.tree) (map site_view c.args.graph.now.sites.items) c.args.globals.now c.requires.graph c.requires.globals
+analyse-requires-clause-fits g c = fits (tree_view c.args.tree.now) (node_view c.args.graph.now.tree) (map site_view c.args.graph.now.sites.items) c.args.globals.now c.requires.graph c.requires.globals
 
 pub analyse-requires-clause-numbered : goal.analyse-requires-clause-numbered
-analyse-requires-clause-numbered c = is_numbered (tree_view c.args.tree.now) (node_view c.args.graph.now.tree) (map site_view c.args.graph.now.sites.items) c.requires.graph
+analyse-requires-clause-numbered g c = is_numbered (tree_view c.args.tree.now) (node_view c.args.graph.now.tree) (map site_view c.args.graph.now.sites.items) c.requires.graph
 
 pub list-requires-clause-numbers : goal.list-requires-clause-numbers
-list-requires-clause-numbers c =
+list-requires-clause-numbers g c =
     let few = few_points (tree_view c.args.tree.now) (node_view c.args.graph.now.tree) (map site_view c.args.graph.now.sites.items) c.requires.graph in
     let same = length-map c.args.graph.now.sites.items site_view in
     let slice = ap length c.as_slice-sites.ensures.value in
     omega (arith, few, same, slice)
 
 pub list-requires-clause-states : goal.list-requires-clause-states
-list-requires-clause-states c =
-    states_handed box_meaning (tree_view c.args.tree.now) (node_view c.args.graph.now.tree) (map site_view c.args.graph.now.sites.items) c.requires.graph c.args.options
+list-requires-clause-states g c =
+    states_handed g.D.Domain.meaning (tree_view c.args.tree.now) (node_view c.args.graph.now.tree) (map site_view c.args.graph.now.sites.items) c.requires.graph c.args.options
     c.in_ok-solution.solution.values.items c.in_ok-solution.solution.verdicts.items c.in_ok-solution.solution.flagged
     (c.in_ok-solution.ensures.solved (resolve (tree_view c.args.tree.now)) c.requires.globals)
-    box_laws Box (shown_state box_meaning) (λ v listed. boxes_are_shown v) _ (c.in_ok-states.ensures.shown ∙ ap (map _) c.deref.ensures.value)
+    g.met.D.Domain.laws c.args.options.domain (shown_state g.D.Domain.meaning) (λ v listed. c.requires.shows.shown v) _ (c.in_ok-states.ensures.shown ∙ ap (map _) c.deref.ensures.value)
 
 pub list-requires-clause-verdicts : goal.list-requires-clause-verdicts
-list-requires-clause-verdicts c =
+list-requires-clause-verdicts g c =
     subst (λ (vs : List (ℕ × Bool)). AreVerdicts (sites_of (resolve (tree_view c.args.tree.now))) vs) (sym c.deref-2.ensures.value)
-    (verdicts_handed box_meaning (tree_view c.args.tree.now) (node_view c.args.graph.now.tree) (map site_view c.args.graph.now.sites.items) c.requires.graph c.args.options
+    (verdicts_handed g.D.Domain.meaning (tree_view c.args.tree.now) (node_view c.args.graph.now.tree) (map site_view c.args.graph.now.sites.items) c.requires.graph c.args.options
     c.in_ok-solution.solution.values.items c.in_ok-solution.solution.verdicts.items c.in_ok-solution.solution.flagged
     (c.in_ok-solution.ensures.solved (resolve (tree_view c.args.tree.now)) c.requires.globals))
 
 pub list-requires-clause-flag : goal.list-requires-clause-flag
-list-requires-clause-flag c = λ q is.
-    let low = flag_handed box_meaning (tree_view c.args.tree.now) (node_view c.args.graph.now.tree) (map site_view c.args.graph.now.sites.items) c.requires.graph
+list-requires-clause-flag g c = λ q is.
+    let low = flag_handed g.D.Domain.meaning (tree_view c.args.tree.now) (node_view c.args.graph.now.tree) (map site_view c.args.graph.now.sites.items) c.requires.graph
     c.args.options c.in_ok-solution.solution.values.items c.in_ok-solution.solution.verdicts.items c.in_ok-solution.solution.flagged
     (c.in_ok-solution.ensures.solved (resolve (tree_view c.args.tree.now)) c.requires.globals) q is in
     let points = ap length c.requires.graph.points in
@@ -56,14 +53,14 @@ list-requires-clause-flag c = λ q is.
     omega (arith, low, points, same, slice)
 
 pub returns : goal.returns
-returns c =
+returns g c =
     let o = c.args.options in
     let values = c.in_ok-solution.solution.values.items in
-    let shown : map (λ x. x.items) c.in_ok-states.states.items ≡ map (shown_state box_meaning) values = c.in_ok-states.ensures.shown ∙ ap (map _) c.deref.ensures.value in
-    is_told box_meaning (shown_state box_meaning) Box o (tree_view c.args.tree.now) (node_view c.args.graph.now.tree) (map site_view c.args.graph.now.sites.items)
+    let shown : map (λ x. x.items) c.in_ok-states.states.items ≡ map (shown_state g.D.Domain.meaning) values = c.in_ok-states.ensures.shown ∙ ap (map _) c.deref.ensures.value in
+    is_told g.D.Domain.meaning (shown_state g.D.Domain.meaning) c.args.options.domain o (tree_view c.args.tree.now) (node_view c.args.graph.now.tree) (map site_view c.args.graph.now.sites.items)
     values c.in_ok-solution.solution.verdicts.items c.in_ok-solution.solution.flagged (map (λ x. x.items) c.in_ok-states.states.items) (report_of c.in_ok-report.report) c.requires.graph
     (c.in_ok-solution.ensures.solved (resolve (tree_view c.args.tree.now)) c.requires.globals)
-    shown (λ v listed. boxes_are_shown v) (λ v listed. c.requires.parts)
-    (boxes_spelled values (map (λ x. x.items) c.in_ok-states.states.items) shown c.in_ok-states.ensures.in_range)
+    shown (λ v listed. c.requires.shows.shown v) (λ v listed. c.requires.shows.capped v c.args.options.parts c.requires.parts)
+    (states_spelled g.D.Domain.meaning c.args.options.domain c.requires.shows values (map (λ x. x.items) c.in_ok-states.states.items) shown c.in_ok-states.ensures.in_range)
     c.in_ok-report.ensures.options c.in_ok-report.ensures.lists c.in_ok-report.ensures.states
     (c.in_ok-report.ensures.verdicts ∙ ap (map told) c.deref-2.ensures.value) c.in_ok-report.ensures.flag

@@ -6,7 +6,7 @@ use Rattle.lra_source.specs.Shown.{shown_part}
 use Rattle.lra_source.proofs.states.state_of.Given as goal
 
 abbrev pub invariant-each : goal.invariant-each
-invariant-each l = record {
+invariant-each g l = record {
   shown : l.state.items ≡ map shown_part l.yielded;
   in_range : AllByRecursion IsPartInRange l.state.items;
 }
