@@ -406,6 +406,14 @@ met_store n cells s fit e met = record { width = e; below = λ i j h k. at i j h
           | inr p ↦ subst (λ (z : ℕ). Some (signed_value s z -ℤ signed_value s i) ⊑ entries n cells i z) (sym (other_sign i j d p.1)) ((own_met (entries n cells) s i).1 (unary i h))
         ]
 
+-- at a store all rows of some part hold, whatever the entries are
+pub stores_hold : (n : ℕ) (o : Option Cells) (s : List ℤ) → length s ≡ n → has_store n o s → SomePartHolds (octagon_parts n o) s
+stores_hold n None s e h = h
+stores_hold n (Some cells) s e h =
+    let m = entries n cells in
+    let w = rows_of_met n m s e (store_met n m s h) in
+    inl ((rows_hold (equal_rows n m 0 n) (unequal_rows n m 0 n) s).1 ((equal_holds n m 0 n s (omega arith)).1 w.0, (unequal_holds n m 0 n s (omega arith)).1 w.1))
+
 -- a list of as many numbers as dimensions is a store exactly where all rows of some part hold
 pub parts_mean : (n : ℕ) (o : Option Cells) (s : List ℤ) → CellsFit n o → length s ≡ n → has_store n o s ↔ SomePartHolds (octagon_parts n o) s
 parts_mean n None s fit e = (λ h. h, λ h. h)
@@ -414,7 +422,7 @@ parts_mean n (Some cells) s fit e =
     let r = rows_hold (equal_rows n m 0 n) (unequal_rows n m 0 n) s in
     let q = equal_holds n m 0 n s (omega arith) in
     let u = unequal_holds n m 0 n s (omega arith) in (
-      λ h. let w = rows_of_met n m s e (store_met n m s h) in inl (r.1 (q.1 w.0, u.1 w.1)),
+      stores_hold n (Some cells) s e,
       λ h. let w = r.0 (only h) in met_store n cells s fit e (all_met n m s e (q.0 w.0) (u.0 w.1)),
     )
   where

@@ -49,7 +49,7 @@ rows_hold (r ∷ rows) (k ∷ kinds) s h =
     let g : Given = record { row = r; equal = is_equality k } in
     (row_holds r k s (h g (contains_head g (given_by is_equality rows kinds))), rows_hold rows kinds s (λ x i. h x (contains_tail g x (given_by is_equality rows kinds) i)))
 
-parts_hold : (ps : List (Listed ConKind)) (s : List ℤ) → SomePartHolds ps s → Holds (map shown_part ps) s
+pub parts_hold : (ps : List (Listed ConKind)) (s : List ℤ) → SomePartHolds ps s → Holds (map shown_part ps) s
 parts_hold [] s h = h
 parts_hold (p ∷ ps) s (inl h) = inl (rows_hold p.rows p.kinds s h)
 parts_hold (p ∷ ps) s (inr h) = inr (parts_hold ps s h)
@@ -69,7 +69,7 @@ content_holds n (Some is) s h l = parts_hold (box_parts n (Some is)) s ((parts_m
 -- widths -------------------------------------------------------------------------------------------------------------
 
 -- a column more than there are dimensions
-abbrev AreWide : ℕ → List (List ℤ) → Type 0
+abbrev pub AreWide : ℕ → List (List ℤ) → Type 0
 AreWide n rows = AllByRecursion (λ (r : List ℤ). length r ≡ suc n) rows
 
 both_wide : (n : ℕ) (xs ys : List (List ℤ)) → AreWide n xs → AreWide n ys → AreWide n (xs ++ ys)
@@ -104,7 +104,7 @@ unequal_wide n k (i ∷ is) =
     let chosen = chosen_wide n (is_single i) [] (low_rows n k i.low ++ high_rows n k i.high) tt both in
     both_wide n (if is_single i then [] else low_rows n k i.low ++ high_rows n k i.high) (unequal_rows n (suc k) is) chosen (unequal_wide n (suc k) is)
 
-shown_wide : (n : ℕ) (rows : List (List ℤ)) (kinds : List ConKind) → AreWide n rows → AllByRecursion (λ (r : Row). length r.coefficients ≡ n) (shown_rows rows kinds)
+pub shown_wide : (n : ℕ) (rows : List (List ℤ)) (kinds : List ConKind) → AreWide n rows → AllByRecursion (λ (r : Row). length r.coefficients ≡ n) (shown_rows rows kinds)
 shown_wide n [] kinds h = tt
 shown_wide n (r ∷ rows) [] h = tt
 shown_wide n (r ∷ rows) (k ∷ kinds) h = (shown r h.0, shown_wide n rows kinds h.1)
@@ -133,11 +133,11 @@ box_is_shown v = record {
 
 -- texts --------------------------------------------------------------------------------------------------------------
 
-abbrev IsDirectedRow : Row → Type 0
+abbrev pub IsDirectedRow : Row → Type 0
 IsDirectedRow r = IsDirected r.kind r.coefficients
 
 -- as an equality too
-abbrev IsStraight : List ℤ → Type 0
+abbrev pub IsStraight : List ℤ → Type 0
 IsStraight r = IsDirectedRow (report_row r Eq)
 
 -- the only coefficient that isn't 0 is 1
@@ -168,7 +168,7 @@ inequalities_directed : (rows : List (List ℤ)) → AllByRecursion IsDirectedRo
 inequalities_directed [] = tt
 inequalities_directed (r ∷ rows) = (inequality_directed r, inequalities_directed rows)
 
-rows_directed : (xs ys : List (List ℤ)) → AllByRecursion IsStraight xs → AllByRecursion IsDirectedRow (shown_rows (xs ++ ys) (replicate (length xs) Eq ++ replicate (length ys) Ge))
+pub rows_directed : (xs ys : List (List ℤ)) → AllByRecursion IsStraight xs → AllByRecursion IsDirectedRow (shown_rows (xs ++ ys) (replicate (length xs) Eq ++ replicate (length ys) Ge))
 rows_directed [] ys h = inequalities_directed ys
 rows_directed (x ∷ xs) ys h = (h.0, rows_directed xs ys h.1)
 

@@ -5,6 +5,7 @@ pub mod Numbering
 pub mod Flags
 pub mod BoxShown
 pub mod RowsShown
+pub mod OctShown
 pub mod Reports
 pub mod EachAnswer
 pub mod ReadSteps

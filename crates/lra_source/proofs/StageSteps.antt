@@ -18,6 +18,7 @@ use Rattle.lra_operations.specs.Agree.{IsGraph, Agrees}
 use Rattle.lra_program.specs.WellFormed.{IsWellFormed}
 use Rattle.lra_tree.specs.Grammar.{Spells}
 use Rattle.lra_base.specs.declared.options.Domain.{Domain}
+use Rattle.lra_base.specs.declared.options.Domain.TheVariants.{Box, Oct}
 use Rattle.lra_base.specs.declared.options.Options.{Options}
 use Rattle.lra_findings.specs.Report.{State, Report}
 use Rattle.lra_meaning.specs.Refuse.{limit_fault, RefusesTree, bad_name, recursive, past_limit, Refuse, Accepts}
@@ -35,8 +36,11 @@ use Rattle.lra_source.specs.declared.error.SourceError.{SourceError}
 use Rattle.lra_source.specs.declared.error.SourceError.TheVariants.{Refused, Memory}
 use Rattle.lra_domain.specs.Meaning.{Meaning}
 use Rattle.lra_domain.specs.Laws.{Laws}
+use Rattle.lra_box.specs.Meaning.{box_meaning}
+use Rattle.lra_oct.specs.Meaning.{octagon_meaning}
 use Rattle.lra_source.specs.Shown.{shown_state}
-use Rattle.lra_source.specs.Answers.{IsAnsweredOver, IfRefused}
+use Rattle.lra_source.specs.Analysed.{IsAnalysed}
+use Rattle.lra_source.specs.Answers.{IsAnsweredOver, TellsAnalysis, IsAnswered, IfRefused}
 use Rattle.lra_source.specs.Stages.{HasTree, HasGraph, IsToldOf}
 use Rattle.lra_source.proofs.Reports.{sound, is_report}
 use Rattle.lra_source.proofs.ReadSteps.{tree_refused}
@@ -114,11 +118,10 @@ module _ {V H : Type 0} (m : Meaning V H) (laws : Laws m) (shown : V → State) 
   }
 
   -- a source whose tree's report is told
-  pub is_answered : o.domain ≡ domain → IsAnsweredOver m shown domain o source r
+  pub is_answered : o.domain ≡ domain → IsAnsweredOver m shown o source r
   is_answered same =
       let whole = is_report m laws domain shown o t r is.lists is.analysed is.are_shown is.agrees o source same is.are_capped is.options accepted in
       record {
-        domain_is = same;
         report = record {
           options = is.options;
           tree = t;
@@ -135,7 +138,7 @@ module _ {V H : Type 0} (m : Meaning V H) (laws : Laws m) (shown : V → State) 
 -- and so with what a tree's answer is, whichever it is
 module _ (o : Options) (source : List ℕ) (t : FileTree) (has : HasTree source t) where
   pub each_answered : {V H : Type 0} (m : Meaning V H) (laws : Laws m) (x : Result code.Report SourceError) → IfOk x (λ r. IsToldOf m (shown_state m) o.domain o t (report_of r)) →
-      IfOk x (λ r. IsAnsweredOver m (shown_state m) o.domain o source (report_of r))
+      IfOk x (λ r. IsAnsweredOver m (shown_state m) o source (report_of r))
   each_answered m laws (Ok r) is = is_answered m laws (shown_state m) o.domain o source t (report_of r) has is refl
   each_answered m laws (Err e) is = tt
 
@@ -143,3 +146,22 @@ module _ (o : Options) (source : List ℕ) (t : FileTree) (has : HasTree source 
   each_refused (Ok r) fault = tt
   each_refused (Err (Refused r)) fault = tree_refused source t r.cause r.place has fault
   each_refused (Err Memory) fault = tt
+
+-- the domain that the options name
+told_over : {V H : Type 0} (m : Meaning V H) (d : Domain) (o : Options) (source : List ℕ) (r : Report) → o.domain ≡ d → ((P : Program) → IsAnalysed m (shown_state m) o P r → TellsAnalysis d o P r) →
+    IsAnsweredOver m (shown_state m) o source r → IsAnswered o source r
+told_over m d o source r is tells over = record {
+  report = over.report;
+  analysed = subst (λ (e : Domain). TellsAnalysis e o (resolve over.report.tree) r) (sym is) (tells (resolve over.report.tree) over.analysed);
+  readable = over.readable;
+}
+
+pub over_boxes : (o : Options) (source : List ℕ) (x : Result code.Report SourceError) → o.domain ≡ Box → IfOk x (λ r. IsAnsweredOver box_meaning (shown_state box_meaning) o source (report_of r)) →
+    IfOk x (λ r. IsAnswered o source (report_of r))
+over_boxes o source (Ok r) is over = told_over box_meaning Box o source (report_of r) is (λ P h. h) over
+over_boxes o source (Err e) is over = tt
+
+pub over_octagons : (o : Options) (source : List ℕ) (x : Result code.Report SourceError) → o.domain ≡ Oct
+    → IfOk x (λ r. IsAnsweredOver octagon_meaning (shown_state octagon_meaning) o source (report_of r)) → IfOk x (λ r. IsAnswered o source (report_of r))
+over_octagons o source (Ok r) is over = told_over octagon_meaning Oct o source (report_of r) is (λ P h. h) over
+over_octagons o source (Err e) is over = tt

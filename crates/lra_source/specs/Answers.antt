@@ -1,33 +1,43 @@
--- What a source deserves: its one refusal (`Refuse`), or a report of it that tells the analysis; over boxes today.
-use Rattle.std.specs.Prelude.{◌≡◌, ℕ, List, ⊤, Result, Ok, Err}
+-- What a source deserves: its one refusal (`Refuse`), or a report of it that tells the analysis; over boxes and octagons
+-- today.
+use Rattle.std.specs.Prelude.{ℕ, List, ⊤, Result, Ok, Err}
 use Rattle.lra_base.specs.declared.refusals.Refusal.{Refusal}
 use Rattle.lra_base.specs.declared.options.Domain.{Domain}
-use Rattle.lra_base.specs.declared.options.Domain.TheVariants.{Box}
+use Rattle.lra_base.specs.declared.options.Domain.TheVariants.{Poly, Box, Oct}
 use Rattle.lra_base.specs.declared.options.Options.{Options}
 use Rattle.lra_findings.specs.Report.{State, Report}
 use Rattle.lra_meaning.specs.Resolve.{resolve}
+use Rattle.lra_program.specs.Program.{Program}
 use Rattle.lra_tree.specs.Grammar.{Spells}
 use Rattle.lra_report.specs.Listing.{IsReportOf}
 use Rattle.lra_report.specs.Spelled.{IsReadable}
 use Rattle.lra_domain.specs.Meaning.{Meaning}
 use Rattle.lra_box.specs.Meaning.{box_meaning}
+use Rattle.lra_oct.specs.Meaning.{octagon_meaning}
 use Rattle.lra_source.specs.Shown.{shown_state}
 use Rattle.lra_source.specs.Analysed.{IsAnalysed}
 use Rattle.lra_source.specs.declared.error.SourceError.{SourceError}
 use Rattle.lra_source.specs.declared.error.SourceError.TheVariants.{Refused, Memory}
 
--- a report of the source that tells an analysis over this domain; it is told by its text, which has numbers of the
--- range and each part as wide as its point has names
-pub record IsAnsweredOver {V H : Type 0} (m : Meaning V H) (shown : V → State) (domain : Domain) (o : Options)
-    (source : List ℕ) (r : Report) : Type 0 where
-  pub domain_is : o.domain ≡ domain
+-- a report of the source that tells an analysis over a domain with this meaning; it is told by its text, which has
+-- numbers of the range and each part as wide as its point has names
+pub record IsAnsweredOver {V H : Type 0} (m : Meaning V H) (shown : V → State) (o : Options) (source : List ℕ)
+    (r : Report) : Type 0 where
   pub report : IsReportOf Spells o source r
   pub analysed : IsAnalysed m shown o (resolve report.tree) r
   pub readable : IsReadable r
 
--- what is answered today: over boxes, of which the rows are shown
-abbrev pub IsAnswered : Options → List ℕ → Report → Type 0
-IsAnswered = IsAnsweredOver box_meaning (shown_state box_meaning) Box
+-- the report tells an analysis of the program over this domain, of which the rows are shown; polyhedra are to come
+abbrev pub TellsAnalysis : Domain → Options → Program → Report → Type 0
+TellsAnalysis Poly o P r = ⊥
+TellsAnalysis Box o P r = IsAnalysed box_meaning (shown_state box_meaning) o P r
+TellsAnalysis Oct o P r = IsAnalysed octagon_meaning (shown_state octagon_meaning) o P r
+
+-- so a source is answered: over the domain that the options name
+pub record IsAnswered (o : Options) (source : List ℕ) (r : Report) : Type 0 where
+  pub report : IsReportOf Spells o source r
+  pub analysed : TellsAnalysis o.domain o (resolve report.tree) r
+  pub readable : IsReadable r
 
 abbrev pub IfRefusal : (Refusal → Type 0) → SourceError → Type 0
 IfRefusal P (Refused r) = P r

@@ -1,6 +1,6 @@
 //! From the bytes of a source to its report, or to its one refusal.
 
-ghost use Rattle.std.specs.Prelude.{◌≡◌, ◌≤◌, ◌<◌, ◌+◌, ◌^◌, [], length, map, IfOk};
+ghost use Rattle.std.specs.Prelude.{◌≡◌, ◌≢◌, ◌≤◌, ◌<◌, ◌+◌, ◌^◌, [], length, map, IfOk};
 ghost use Rattle.lra_tree.specs.Views.{tree_view};
 ghost use Rattle.lra_operations.specs.GraphViews.{node_view, site_view};
 ghost use Rattle.lra_meaning.specs.NameFaults.{name_faults};
@@ -9,7 +9,7 @@ ghost use Rattle.lra_program.specs.WellFormed.{IsWellFormed};
 ghost use Rattle.lra_tree.specs.Grammar.{Spells};
 ghost use Rattle.lra_meaning.specs.Refuse.{RefusesTree, Refuse};
 ghost use Rattle.lra_report.specs.View.{report_of};
-ghost use Rattle.lra_base.specs.declared.options.Domain.TheVariants.{Box};
+ghost use Rattle.lra_base.specs.declared.options.Domain.TheVariants.{Poly};
 ghost use Rattle.lra_source.specs.Answers.{IsAnsweredOver, IsAnswered, IfRefused};
 ghost use Rattle.lra_source.specs.Shown.{shown_state, ShowsRows};
 ghost use Rattle.lra_source.specs.Stages.{HasGraph, IsToldOf};
@@ -23,6 +23,7 @@ use lra_box::Boxes;
 use lra_domain::Domain;
 use lra_iter::analyse;
 use lra_listing::list;
+use lra_oct::Octagon;
 use lra_operations::Graph;
 use lra_report::Report;
 use lra_tree::Tree;
@@ -60,7 +61,11 @@ fn report_graph<D: Domain>(
 
 /// The report of a tree, or its refusal: its first fault of names, its first recursive call, or the first limit that
 /// its program passes.
-fn report_tree<D: Domain>(alloc: Global, options: Options, tree: &Tree) -> Result<Report, SourceError>
+fn report_tree<D: Domain>(
+    alloc: Global,
+    options: Options,
+    tree: &Tree,
+) -> Result<Report, SourceError>
     requires parts { 1 ≤ options.parts }
     requires shows { ShowsRows D.meaning options.domain }
     requires well { name_faults (tree_view tree.now) ≡ [] → IsWellFormed (resolve (tree_view tree.now)) }
@@ -75,26 +80,35 @@ fn report_tree<D: Domain>(alloc: Global, options: Options, tree: &Tree) -> Resul
 }
 
 /// The report of a source over a domain that shows its values by their rows, or its one refusal.
-fn analyse_over<D: Domain>(alloc: Global, options: Options, bytes: &[u8]) -> Result<Report, SourceError>
+fn analyse_over<D: Domain>(
+    alloc: Global,
+    options: Options,
+    bytes: &[u8],
+) -> Result<Report, SourceError>
     requires parts { 1 ≤ options.parts }
     requires shows { ShowsRows D.meaning options.domain }
     requires bound { length bytes.now + 1 < 2 ^ 32 }
-    ensures answered { IfOk result (λ r. IsAnsweredOver D.meaning (shown_state D.meaning) options.domain options
-        bytes.now (report_of r)) }
+    ensures answered { IfOk result (λ r. IsAnsweredOver D.meaning (shown_state D.meaning) options bytes.now
+        (report_of r)) }
     ensures refused { IfRefused result (λ r. Refuse Spells bytes.now r.cause r.place) }
 {
     let tree = read_tree(alloc, bytes)?;
     report_tree::<D>(alloc, options, &tree)
 }
 
-/// The report of a source over boxes, or its one refusal; memory may be wanting. A source past the limit of 65,536
-/// bytes is refused by its first bytes, so that no more than one byte past the limit need be given.
+/// The report of a source over the domain that the options name, boxes or octagons, or its one refusal; memory may be
+/// wanting. A source past the limit of 65,536 bytes is refused by its first bytes, so that no more than one byte past
+/// the limit need be given.
 pub fn analyse_source(alloc: Global, options: Options, bytes: &[u8]) -> Result<Report, SourceError>
-    requires domain { options.domain ≡ Box }
+    requires domain { options.domain ≢ Poly }
     requires parts { 1 ≤ options.parts }
     requires bound { length bytes.now + 1 < 2 ^ 32 }
     ensures answered { IfOk result (λ r. IsAnswered options bytes.now (report_of r)) }
     ensures refused { IfRefused result (λ r. Refuse Spells bytes.now r.cause r.place) }
 {
-    analyse_over::<Boxes>(alloc, options, bytes)
+    match options.domain {
+        lra_base::Domain::Poly => unreachable!(),
+        lra_base::Domain::Box => analyse_over::<Boxes>(alloc, options, bytes),
+        lra_base::Domain::Oct => analyse_over::<Octagon>(alloc, options, bytes),
+    }
 }

@@ -4,7 +4,7 @@ ghost use Rattle.lra_tree.specs.Grammar.{Spells};
 ghost use Rattle.lra_meaning.specs.Refuse.{OneAnswer};
 ghost use Rattle.lra_flow.specs.Linear.{FormsAreRight, TestsAreRight, DiffersIsRight};
 ghost use Rattle.lra_source.specs.Soundness.{SolvedAreSound};
-ghost use Rattle.lra_source.specs.Claims.{EachAnswer, OneAnsweredText, TreesFit, TreesAreNumbered, AnalysedAreSound, AnalysedAreReports, BoxesAreShown};
+ghost use Rattle.lra_source.specs.Claims.{EachAnswer, OneAnsweredText, TreesFit, TreesAreNumbered, AnalysedAreSound, AnalysedAreReports, BoxesAreShown, OctagonsAreShown};
 
 use lra_domain::Domain;
 
@@ -47,6 +47,11 @@ pub fn analyses_are_right<D: Domain>()
 /// Boxes are shown as they are by their rows.
 pub fn boxes_are_shown()
     ensures { BoxesAreShown }
+{}
+
+/// Octagons are shown as they are by their rows.
+pub fn octagons_are_shown()
+    ensures { OctagonsAreShown }
 {}
 
 /// What an iteration over a domain finds holds in all runs.

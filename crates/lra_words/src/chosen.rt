@@ -23,7 +23,7 @@ impl Command {
     {
         match self {
             Command::Analyse { options, json } => {
-                matches!(options.domain, Domain::Box) && options.parts == 1 && !*json
+                !matches!(options.domain, Domain::Poly) && options.parts == 1 && !*json
             }
             Command::Sample { .. } => false,
             Command::Calc => true,

@@ -42,7 +42,7 @@ static TAKEN: [(&str, Command, bool); 27] = [
             },
             json: false,
         },
-        false,
+        true,
     ),
     ("lra analyse --parts 1 --domain=box", ANALYSE_BOXES, true),
     (
