@@ -53,11 +53,7 @@ fn answer_refusal(alloc: Global, refusal: Refusal) -> Result<Answer, AllocError>
 
 /// The report or the refusal of a source, of which no more than one byte past the limit is given.
 #[tactic(auto, using(crate::proofs::SourceWays::deserving))]
-pub fn answer_source(
-    alloc: Global,
-    options: Options,
-    bytes: &[u8],
-) -> Result<Answer, AllocError>
+pub fn answer_source(alloc: Global, options: Options, bytes: &[u8]) -> Result<Answer, AllocError>
     requires built { HasBuiltOptions options }
     requires bound { length bytes.now ≤ 65537 }
     ensures { IfOk result (λ a. DeservesSource options bytes.now a.text.items a.status) }

@@ -4,6 +4,8 @@ use std::test::Fail;
 
 const BOXES: &str = "lra analyse --domain box";
 
+const OCTAGONS: &str = "lra analyse --domain oct";
+
 /// No read and no write fails.
 const SOUND: (u64, u64) = (0, 0);
 
@@ -601,7 +603,7 @@ static REFUSALS: [(Pieces, &str); 74] = [
 ];
 
 /// Words, a source whose assertions are all proved, and lines of its report.
-static LINES: [(&str, Pieces, &str); 60] = [
+static LINES: [(&str, Pieces, &str); 64] = [
     (
         "lra analyse --domain=box",
         PROVED,
@@ -1048,6 +1050,42 @@ static LINES: [(&str, Pieces, &str); 60] = [
         BOXES,
         ("//é\n#include <x>\n/* */int main(void){}", "", 0, ""),
         "point 1 main 3:21\n  row true\n",
+    ),
+    // octagons: whole numbers are rounded, rows that the bounds imply aren't written, pairs make equalities
+    (
+        OCTAGONS,
+        ("int main(void){ long x; if(2*x==1) assert(0); }", "", 0, ""),
+        "point 3 main 1:36\n  unreachable\npoint 4 main 1:47\n  row true\nassert 3 main 1:36 proved\n",
+    ),
+    (
+        OCTAGONS,
+        (
+            "int main(void){ long x, y; assume(x+y<=1 && x-y<=0); }",
+            "",
+            0,
+            "",
+        ),
+        "point 4 main 1:54\n  row x - y <= 0\n  row x <= 0\n  row x + y <= 1\n",
+    ),
+    (
+        OCTAGONS,
+        (
+            "int main(void){ long x=input(), y=x+3, z=2; assert(y-x==3); }",
+            "",
+            0,
+            "",
+        ),
+        "point 4 main 1:45\n  row x - y = -3\n  row z = 2\n",
+    ),
+    (
+        OCTAGONS,
+        (
+            "int main(void){ long a=0, b=0; while(input()){ if(input()) a=a+1; else if(b<a) b=b+1; } assert(b<=a); }",
+            "",
+            0,
+            "",
+        ),
+        "verdicts proved 1 unknown 0\n",
     ),
 ];
 
