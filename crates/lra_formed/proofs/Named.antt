@@ -16,7 +16,7 @@ use Rattle.lra_meaning.specs.Resolve.{resolve_call, resolve_source, resolve_give
 use Rattle.lra_program.specs.Sites.{Site, Event, comes, one_call_more, greatest_calls, plain_site, live_behind, source_events, given_events, stmt_events, items_events, function_events, call_events, sites_in, sites_of}
 use Rattle.lra_findings.specs.ReportText.{shown_names}
 use Rattle.lra_meaning.specs.LiveNames.{globals_named, live_in_call_at, live_at, names_outside, live_names}
-use Rattle.lra_formed.proofs.Numbered.{count_live, count_declarators, count_items, count_step, count_init}
+use Rattle.lra_meaning.proofs.LabelCounts.{count_stmt, count_declarators, count_items, count_step, count_init}
 
 -- labels one after the other ------------------------------------------------------------------------------------------
 
@@ -186,7 +186,7 @@ module _ (outside : List (List ℕ)) (ls : List Labelled) where
           let m = suc n + stmt_count t in
           let front = stmt_labels names t in
           let back = stmt_labels names u in
-          let e : suc n + length front ≡ m = ap (λ (i : ℕ). suc n + i) (count_live names t) in (
+          let e : suc n + length front ≡ m = ap (λ (i : ℕ). suc n + i) (count_stmt names t) in (
             point_has n live false (plain_label at names) h stand.0,
             each_then HasAsMany (stmt_events inside path live (resolve_stmt F s (suc n) t)) (stmt_events inside path live (resolve_stmt F s m u))
                 (stmt_has (suc n) live s t names h (stand_left ls (suc n) front back stand.1)) (stmt_has m live s u names h (stand_right ls (suc n) m front back e stand.1)),
@@ -253,7 +253,7 @@ module _ (outside : List (List ℕ)) (ls : List Labelled) where
           let front = stmt_labels names t in
           let back = items_labels names items end in
           let c : k + items_count items ≡ m = omega (arith, e) in
-          let y : n + length front ≡ k = ap (λ (i : ℕ). n + i) (count_live names t) in
+          let y : n + length front ≡ k = ap (λ (i : ℕ). n + i) (count_stmt names t) in
           let later = items_have k m live s items end names h c (stand_right ls n k front back y stand) in (
             each_then HasAsMany (stmt_events inside path live (resolve_stmt F s n t)) (items_events inside path live (resolve_items F s k items))
                 (stmt_has n live s t names h (stand_left ls n front back stand)) later.0,

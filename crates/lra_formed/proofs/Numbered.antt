@@ -7,10 +7,9 @@ use Rattle.lra_tree.specs.Trees as tree
 use Rattle.lra_program.specs.Program.{BlockItems, no_more}
 use Rattle.lra_meaning.specs.Scope.{Scope, with_local, with_declarators, inner, for_scope}
 use Rattle.lra_tree.specs.Labels.{with_names, declarator_labels, init_labels, step_labels, stmt_labels, items_labels, live_in_for}
-use Rattle.lra_tree.specs.Walk.{told}
 use Rattle.lra_meaning.specs.Resolve.{resolve_assign, resolve_declarators, resolve_init, resolve_step, init_count, step_count, stmt_count, items_count, declarator_count, resolve_stmt, resolve_items, resolve_function, resolve_parts}
 use Rattle.lra_program.specs.WellFormed.{stmt_numbers, items_numbers, function_numbers}
-use Rattle.lra_tree.proofs.Walking.{told_stmt}
+use Rattle.lra_meaning.proofs.LabelCounts.{count_stmt, count_declarators, count_items, count_step}
 
 -- numbers one after the other ----------------------------------------------------------------------------------------
 
@@ -34,35 +33,6 @@ run_is_range n m [] r = refl
 run_is_range n m (x ∷ xs) r =
     ap (λ (y : ℕ). y ∷ xs) r.0 ∙ ap (λ (ys : List ℕ). n ∷ ys) (run_is_range (suc n) m xs r.1 ∙ ap (λ (i : ℕ). range_with_len i (length xs)) (sym (add-one n)))
 
--- how many labels the parts have: the names that live don't change it ---------------------------------------------------
-
-pub count_live : (live : List (List ℕ)) (t : tree.StmtTree) → length (stmt_labels live t) ≡ stmt_count t
-count_live live t = sym (length-map (stmt_labels live t) told) ∙ ap length (told_stmt live t) ∙ length-map (stmt_labels [] t) told
-
-pub count_declarators : (live : List (List ℕ)) (ds : List tree.DeclaratorTree) → length (declarator_labels live ds) ≡ length ds
-count_declarators live [] = refl
-count_declarators live (d ∷ ds) = ap suc (count_declarators (live ++ d.name.word ∷ []) ds)
-
-pub count_items : (live : List (List ℕ)) (items : tree.ItemsTree) (end : Place) → length (items_labels live items end) ≡ suc (items_count items)
-count_items live tree.no_items end = refl
-count_items live (tree.declaration d items) end =
-    let a = length-append (declarator_labels live (d.first ∷ d.rest)) (items_labels (with_names live (d.first ∷ d.rest)) items end) in
-    let b = count_declarators live (d.first ∷ d.rest) in
-    let e = count_items (with_names live (d.first ∷ d.rest)) items end in omega arith
-count_items live (tree.statement t items) end =
-    let a = length-append (stmt_labels live t) (items_labels live items end) in
-    let b = count_live live t in
-    let e = count_items live items end in omega arith
-
-pub count_step : (live : List (List ℕ)) (e : Option tree.AssignTree) → length (step_labels live e) ≡ step_count e
-count_step live None = refl
-count_step live (Some a) = refl
-
-pub count_init : (live : List (List ℕ)) (i : tree.InitTree) → length (init_labels live i) ≡ init_count i
-count_init live tree.no_init = refl
-count_init live (tree.declared d) = count_declarators live (d.first ∷ d.rest) ∙ sym (count_declarators [] (d.first ∷ d.rest))
-count_init live (tree.assigned a) = refl
-
 -- where the numbers of the parts end
 block_end : (n : ℕ) (items : tree.ItemsTree) (end : Place) → suc (n + items_count items) ≡ n + stmt_count (tree.block items end)
 block_end n items end = let e = count_items [] items end in omega arith
@@ -82,7 +52,7 @@ for_end n at i c a t =
     let x = length-append (init_labels [] i ++ step_labels (live_in_for [] i) a) (stmt_labels (live_in_for [] i) t) in
     let y = length-append (init_labels [] i) (step_labels (live_in_for [] i) a) in
     let z = count_step (live_in_for [] i) a in
-    let w = count_live (live_in_for [] i) t in omega arith
+    let w = count_stmt (live_in_for [] i) t in omega arith
 
 one_more : (n : ℕ) → suc n ≡ n + 1
 one_more n = omega arith

@@ -33,7 +33,5 @@ pub mod Items
 mod ItemRows
 mod CallingExample
 pub mod Programs
--- What labels say of a limit's place.
-pub mod LabelPlaces
 -- Trees of sources.
 mod GraphExamples

@@ -1,8 +1,3 @@
--- Lists of names, and the labels that have their numbers.
-pub mod Lists
-pub mod Found
--- The walk over a source.
-pub mod Walks
 -- Points and verdicts.
 pub mod Points
 pub mod Verdicts

@@ -1,7 +1,7 @@
 -- The points of a report, one more at a time.
 use Rattle.std.proofs.Common.{◌≡◌, ◌∙◌, sym, ap, refl, subst, ◌+◌, ◌<◌, ℕ, suc, List, [], ◌∷◌, ◌++◌, length, map, take, get_or, option_map, Vec, Global, arith}
 use Rattle.std.proofs.lemmas.Option.{slice_get_read, slice_get-map}
-use Rattle.std.proofs.lemmas.List.{length-map, length-take-le, map-append}
+use Rattle.std.proofs.lemmas.List.{map_more, length-map, length-take-le, map-append}
 use Rattle.std.specs.List.{AllByRecursion}
 use Rattle.lra_findings.specs.Report.{Part, State, PointReport}
 use Rattle.lra_program.specs.Sites.{Site}
@@ -12,7 +12,6 @@ use Rattle.lra_operations.specs.GraphViews.{site_view}
 use Rattle.lra_report.specs.declared.report.PointReport as code_point
 use Rattle.lra_report.specs.View.{point_report_of}
 use Rattle.lra_listing.specs.Given.{state_of, AreStates}
-use Rattle.lra_listing.proofs.Walks.{mapped_more}
 
 -- the point of the next number
 pub listed_more : (outside : List (List ℕ)) (ls : List Labelled) (k n : ℕ) (ss : List Site) (ps : List PointReport) (s : Site) (p : PointReport) → AreListed outside ls k ss ps
@@ -30,7 +29,7 @@ behind_first : (outside : List (List ℕ)) (ls : List Labelled) (sites : List co
     → p ≡ listed_point outside ls (suc n) (site_view s) state → AllByRecursion (HasWidth s.live) state
     → AreListed outside ls 1 (map site_view (take (n + 1) sites)) (map point_report_of points ++ p ∷ [])
 behind_first outside ls sites points s p n state listed read inside is wide =
-    let x = mapped_more site_view sites n s read inside in
+    let x = map_more site_view sites n s inside ∙ ap (λ (y : code_site.Site). map site_view (take n sites) ++ site_view y ∷ []) (sym read) in
     let long : length (map site_view (take n sites)) ≡ n = length-map (take n sites) site_view ∙ length-take-le n sites (omega (arith, inside)) in
     let same : p.state ≡ state = ap state_of is in
     subst (λ (ss : List Site). AreListed outside ls 1 ss (map point_report_of points ++ p ∷ [])) (sym x)

@@ -1,3 +1,1 @@
-pub mod Environments
-pub mod Walked
 pub mod Given

@@ -2,11 +2,9 @@
 //! analysis found.
 #![tactic(auto)]
 
-mod labels;
 mod listing;
-mod walk;
 
-pub use listing::list;
+pub use listing::{Outline, list};
 
 #[cfg(test)]
 mod tests;

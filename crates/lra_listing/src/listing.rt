@@ -4,34 +4,88 @@ ghost use Rattle.std.specs.Prelude.{◌≡◌, ◌++◌, ◌∷◌, ◌<◌, ◌
 ghost use Rattle.lra_operations.specs.GraphViews.{site_view};
 ghost use Rattle.lra_tree.specs.Trees.{PartTree};
 ghost use Rattle.lra_tree.specs.Views.{tree_view, part_view, global_view};
+ghost use Rattle.lra_tree.specs.Labels.{label_at, labels_of};
 ghost use Rattle.lra_meaning.specs.Resolve.{resolve};
 ghost use Rattle.lra_program.specs.Sites.{sites_of};
 ghost use Rattle.lra_meaning.specs.NameFaults.{global_names};
 ghost use Rattle.lra_findings.specs.ReportText.{shown_names, path_text};
 ghost use Rattle.lra_meaning.specs.LiveNames.{globals_named, names_outside, live_names};
-ghost use Rattle.lra_report.specs.Listing.{calls_on, listed_point, listed_verdict, AreListed, Lists};
+ghost use Rattle.lra_report.specs.Listing.{call_at, called_at, calls_on, listed_point, listed_verdict, AreListed, Lists};
 ghost use Rattle.lra_report.specs.View.{call_place_of, point_report_of, verdict_of, report_of};
 ghost use Rattle.lra_listing.specs.Given.{AreStates, AreVerdicts, state_of, told_of, told, verdict_at};
 
-use crate::labels::Labels;
-use crate::walk::labels;
 use lra_base::Options;
+use lra_meaning::Labels;
 use lra_operations::Site;
 use lra_report::{CallPlace, Part, Point, PointReport, Report, Verdict, path_text};
 use lra_show::{Names, names_at};
-use lra_tree::{Global as Variable, Item, Tree};
+use lra_tree::{Global as Variable, Identifier, Item, Tree, Word};
 use std::alloc::{AllocError, Global};
 
+/// Adds names.
+fn push_words(words: &[Word], names: &mut Names) -> Result<(), AllocError>
+    ensures { IfOk result (λ _. names.new ≡ names.old ++ words.now) }
+{
+    'words: for word in words {
+        names.push(word.as_str())?;
+    }
+    Ok(())
+}
+
 /// Adds the names of the callers' variables, the outermost caller's first.
-fn push_outside(labels: &Labels, path: &[usize], names: &mut Names) -> Result<(), AllocError>
+fn push_outside(
+    alloc: Global,
+    labels: &Labels,
+    path: &[usize],
+    names: &mut Names,
+) -> Result<(), AllocError>
     ensures { IfOk result (λ _. names.new ≡ names.old ++ names_outside labels.now.labels path.now) }
 {
     match path.split_first() {
         None => Ok(()),
         Some((call, outer)) => {
-            push_outside(labels, outer, names)?;
-            labels.push_live_in_call(*call, names)
+            push_outside(alloc, labels, outer, names)?;
+            let words = labels.live_in_call(alloc, *call)?;
+            push_words(&words, names)
         }
+    }
+}
+
+/// Adds a call of this name.
+fn push_called(
+    alloc: Global,
+    called: &Option<Identifier>,
+    calls: &mut Vec<CallPlace>,
+) -> Result<(), AllocError>
+    ensures { IfOk result (λ _. map call_place_of calls.new.items ≡
+        map call_place_of calls.old.items ++ call_at called.now) }
+{
+    match called {
+        None => Ok(()),
+        Some(called) => {
+            let name = String::from_str(alloc, called.word.as_str())?;
+            calls.push(CallPlace {
+                name,
+                place: called.place,
+            })?;
+            Ok(())
+        }
+    }
+}
+
+/// Adds what the label calls, if it calls something.
+fn push_call(
+    alloc: Global,
+    labels: &Labels,
+    label: usize,
+    calls: &mut Vec<CallPlace>,
+) -> Result<(), AllocError>
+    ensures { IfOk result (λ _. map call_place_of calls.new.items ≡
+        map call_place_of calls.old.items ++ called_at (label_at labels.now.labels label)) }
+{
+    match labels.get(label) {
+        None => Ok(()),
+        Some(found) => push_called(alloc, &found.called, calls),
     }
 }
 
@@ -49,7 +103,7 @@ fn push_calls(
         None => Ok(()),
         Some((call, outer)) => {
             push_calls(alloc, labels, outer, calls)?;
-            labels.push_call(alloc, *call, calls)
+            push_call(alloc, labels, *call, calls)
         }
     }
 }
@@ -85,8 +139,9 @@ fn shown_live(
 {
     let mut names = Names::new(alloc);
     push_each(globals, &mut names)?;
-    push_outside(labels, site.path.as_slice(), &mut names)?;
-    labels.push_live(site.label, &mut names)?;
+    push_outside(alloc, labels, site.path.as_slice(), &mut names)?;
+    let words = labels.live(alloc, site.label)?;
+    push_words(&words, &mut names)?;
     names_at(&names)
 }
 
@@ -233,32 +288,39 @@ fn list_verdicts(
     Ok(listed)
 }
 
+/// What a report lists of a source: the table of its labels, and its points.
+#[derive(Clone, Copy)]
+pub struct Outline<'a> {
+    pub labels: &'a Labels,
+    pub sites: &'a [Site],
+}
+
 /// The report of what an analysis found in a source, whose points are numbered from 0 here: the state at each point,
 /// the verdicts in order, each with the number of its assertion and whether it was proved, and the first flagged point.
 pub fn list(
     alloc: Global,
     tree: &Tree,
-    sites: &[Site],
+    outline: &Outline<'_>,
     options: Options,
     states: Vec<Vec<Part>>,
     verdicts: &[(usize, bool)],
     flagged: Option<usize>,
 ) -> Result<Report, AllocError>
-    requires sites { map site_view sites.now ≡ sites_of (resolve (tree_view tree.now)) }
-    requires numbers { length sites.now < 2 ^ 32 }
+    requires labels { outline.now.labels.now.labels ≡ labels_of (tree_view tree.now) }
+    requires sites { map site_view outline.now.sites.now ≡ sites_of (resolve (tree_view tree.now)) }
+    requires numbers { length outline.now.sites.now < 2 ^ 32 }
     requires states { AreStates (sites_of (resolve (tree_view tree.now))) (map (λ x. x.items) states.items) }
     requires verdicts { AreVerdicts (sites_of (resolve (tree_view tree.now))) verdicts.now }
-    requires flag { (q : ℕ) → flagged ≡ Some q → q < length sites.now }
+    requires flag { (q : ℕ) → flagged ≡ Some q → q < length outline.now.sites.now }
     ensures lists { IfOk result (λ r. Lists (tree_view tree.now) (report_of r)) }
     ensures states { IfOk result (λ r. map state_of (report_of r).points ≡ map (λ x. x.items) states.items) }
     ensures verdicts { IfOk result (λ r. map told_of (report_of r).verdicts ≡ map told verdicts.now) }
     ensures options { IfOk result (λ r. r.options ≡ options) }
     ensures flag { IfOk result (λ r. r.flagged ≡ option_map suc flagged) }
 {
-    let labels = labels(alloc, tree)?;
     let globals = names_of_globals(alloc, tree)?;
-    let points = list_points(alloc, &labels, &globals, sites, states)?;
-    let verdicts = list_verdicts(alloc, &labels, sites, verdicts)?;
+    let points = list_points(alloc, outline.labels, &globals, outline.sites, states)?;
+    let verdicts = list_verdicts(alloc, outline.labels, outline.sites, verdicts)?;
     let flagged = match flagged {
         None => None,
         Some(index) => Some(number_of(index)),

@@ -1,19 +1,14 @@
 //! A worked report.
 
-use crate::labels::Labels;
 use crate::listing::{list_point, list_verdict, names_of_globals};
-use crate::walk::labels;
 use lra_base::{Comparison, Domain, Options, Place};
+use lra_meaning::Labels;
 use lra_operations::{Path, Site};
 use lra_report::{Part, PointReport, Report, text};
 use lra_row::Row;
 use lra_show::Names;
 use lra_sys::{ConKind, ConSys};
-use lra_tree::{
-    Arguments, Block, BlockItem, Call, Cond, Conjunction, Declaration, Declarator, Expr, Function,
-    Global as Variable, Globals, Identifier, Item, Parameters, Source, Stmt, Term, Test, Tree,
-    Unary, Word,
-};
+use lra_tree::{Global as Variable, Globals, Identifier, Item, Tree, Word};
 use std::alloc::{AllocError, Global};
 use std::test::Fail;
 
@@ -28,16 +23,6 @@ fn named(alloc: Global, text: &str, place: Place) -> Result<Identifier, AllocErr
     })
 }
 
-fn expression(alloc: Global, first: Unary) -> Expr {
-    Expr {
-        first: Term {
-            first,
-            rest: Vec::new(alloc),
-        },
-        rest: Vec::new(alloc),
-    }
-}
-
 /// `long g;`
 fn g(alloc: Global) -> Result<Item, AllocError> {
     Ok(Item::Globals(Globals {
@@ -49,76 +34,29 @@ fn g(alloc: Global) -> Result<Item, AllocError> {
     }))
 }
 
-/// `long f(long x) { return x; }`
-fn f(alloc: Global) -> Result<Item, AllocError> {
-    let mut parameters = Vec::new(alloc);
-    parameters.push(named(alloc, "x", at(2, 13))?)?;
-    let x = expression(alloc, Unary::Variable(named(alloc, "x", at(2, 25))?));
-    let mut items = Vec::new(alloc);
-    items.push(BlockItem::Statement(Stmt::Return(at(2, 18), Some(Source::Value(x)))))?;
-    Ok(Item::Function(Function {
-        has_result: true,
-        name: named(alloc, "f", at(2, 6))?,
-        parameters: Parameters { items: parameters },
-        body: Block {
-            items,
-            end: at(2, 28),
-        },
-    }))
-}
-
-/// `x == 2`
-fn x_is_2(alloc: Global) -> Result<Cond, AllocError> {
-    let x = expression(alloc, Unary::Variable(named(alloc, "x", at(3, 40))?));
-    let two = expression(alloc, Unary::Literal(2));
-    Ok(Cond {
-        first: Conjunction {
-            first: Test::Compare(x, Comparison::Equal, two),
-            rest: Vec::new(alloc),
-        },
-        rest: Vec::new(alloc),
-    })
-}
-
-/// `int main(void) { long x = f(2); assert(x == 2); }`
-fn main_function(alloc: Global) -> Result<Item, AllocError> {
-    let mut arguments = Vec::new(alloc);
-    arguments.push(expression(alloc, Unary::Literal(2)))?;
-    let call = Call {
-        name: named(alloc, "f", at(3, 27))?,
-        arguments: Arguments { items: arguments },
-    };
-    let mut items = Vec::new(alloc);
-    items.push(BlockItem::Declaration(Declaration {
-        first: Declarator {
-            name: named(alloc, "x", at(3, 23))?,
-            source: Some(Source::Result(call)),
-        },
-        rest: Vec::new(alloc),
-    }))?;
-    items.push(BlockItem::Statement(Stmt::Assert(at(3, 33), x_is_2(alloc)?)))?;
-    Ok(Item::Function(Function {
-        has_result: true,
-        name: named(alloc, "main", at(3, 5))?,
-        parameters: Parameters {
-            items: Vec::new(alloc),
-        },
-        body: Block {
-            items,
-            end: at(3, 49),
-        },
-    }))
-}
-
+/// `long g;`, before functions that the report doesn't ask the tree for.
 fn source(alloc: Global) -> Result<Tree, AllocError> {
     let mut items = Vec::new(alloc);
     items.push(g(alloc)?)?;
-    items.push(f(alloc)?)?;
-    items.push(main_function(alloc)?)?;
     Ok(Tree {
         items,
         end: at(4, 1),
     })
+}
+
+/// The labels of `long f(long x) { return x; }` in the second line and
+/// `int main(void) { long x = f(2); assert(x == 2); }` in the third.
+fn table(alloc: Global) -> Result<Labels, AllocError> {
+    let mut labels = Labels::new(alloc);
+    let x = Word::from_str(alloc, "x")?;
+    let live = labels.declare(alloc, 0, &x)?;
+    labels.add(at(2, 18), None, live, live)?;
+    labels.add(at(2, 28), None, live, live)?;
+    let f = named(alloc, "f", at(3, 27))?;
+    labels.add(at(3, 23), Some(f), 0, live)?;
+    labels.add(at(3, 33), None, live, live)?;
+    labels.add(at(3, 49), None, live, live)?;
+    Ok(labels)
 }
 
 fn site(path: Path, label: usize, live: usize, asserts: bool) -> Site {
@@ -164,7 +102,7 @@ fn x_is_x(alloc: Global) -> Result<Vec<Part>, AllocError> {
 fn a_call_and_an_assertion(rt: HostRuntime) -> Result<(), Fail> {
     let alloc = rt.alloc();
     let tree = source(alloc)?;
-    let labels = labels(alloc, &tree)?;
+    let labels = table(alloc)?;
     let globals = names_of_globals(alloc, &tree)?;
     let assertion = site(Path::empty(alloc), 4, 2, true);
     let mut verdicts = Vec::new(alloc);

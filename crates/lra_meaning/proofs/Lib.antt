@@ -1,3 +1,8 @@
+-- How many labels the parts of a source have.
+pub mod LabelCounts
+-- The table of labels: lists of names, and the labels that have their numbers.
+pub mod NameLists
+pub mod FoundLabels
 -- Worked examples: what the names of sources mean, and which sources are refused.
 mod NameExamples
 mod SourceRunExamples

@@ -3,4 +3,5 @@ pub mod Scope
 pub mod NameFaults
 pub mod Resolve
 pub mod LiveNames
+pub mod LabelTable
 pub mod Refuse

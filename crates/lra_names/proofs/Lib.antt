@@ -12,6 +12,7 @@ pub mod NameLaws
 -- Declarations and statements.
 pub mod DeclarationLaws
 pub mod StatementLaws
+pub mod LabellingLaws
 -- Functions by their names.
 pub mod SignatureLaws
 -- Functions and the whole.

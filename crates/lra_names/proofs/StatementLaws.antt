@@ -28,33 +28,14 @@ use Rattle.lra_program.specs.Program as program
 use Rattle.lra_program.specs.ProgramViews as view
 use Rattle.lra_meaning.specs.Scope.{Scope, with_local, with_declarators, inner, for_scope}
 use Rattle.lra_tree.specs.Labels.{with_names, declarator_labels, init_labels, step_labels, stmt_labels, items_labels, live_in_for}
-use Rattle.lra_tree.specs.Walk.{told}
 use Rattle.lra_meaning.specs.Resolve.{resolve_stmt, resolve_items, stmt_count, items_count, init_count, step_count}
-use Rattle.lra_tree.proofs.Walking.{told_stmt}
+use Rattle.lra_meaning.proofs.LabelCounts.{count_stmt, count_declarators, count_items, count_step}
 use Rattle.lra_names.specs.Scopes.{with_more, Extends, left_to}
 use Rattle.lra_names.specs.Statements.{followed, choice, loop_of, for_of}
 use Rattle.lra_names.proofs.Telling.{tells_front, tells_behind}
 use Rattle.lra_names.proofs.DeclarationLaws.{followed_push}
 
--- counts: the names that live don't change them -----------------------------------------------------------------------
-
-count_live : (live : List (List ℕ)) (t : StmtTree) → length (stmt_labels live t) ≡ stmt_count t
-count_live live t = sym (length-map (stmt_labels live t) told) ∙ ap length (told_stmt live t) ∙ length-map (stmt_labels [] t) told
-
-count_declarators : (live : List (List ℕ)) (ds : List DeclaratorTree) → length (declarator_labels live ds) ≡ length ds
-count_declarators live [] = refl
-count_declarators live (d ∷ ds) = ap suc (count_declarators (live ++ d.name.word ∷ []) ds)
-
-count_items : (live : List (List ℕ)) (items : ItemsTree) (end : Place) → length (items_labels live items end) ≡ suc (items_count items)
-count_items live no_items end = refl
-count_items live (declaration d items) end =
-    let a = length-append (declarator_labels live (d.first ∷ d.rest)) (items_labels (with_names live (d.first ∷ d.rest)) items end) in
-    let b = count_declarators live (d.first ∷ d.rest) in
-    let e = count_items (with_names live (d.first ∷ d.rest)) items end in omega arith
-count_items live (statement t items) end =
-    let a = length-append (stmt_labels live t) (items_labels live items end) in
-    let b = count_live live t in
-    let e = count_items live items end in omega arith
+-- how many labels statements have -----------------------------------------------------------------------
 
 pub count_block : (items : ItemsTree) (end : Place) → stmt_count (block items end) ≡ suc (items_count items)
 count_block items end = count_items [] items end
@@ -62,17 +43,13 @@ count_block items end = count_items [] items end
 pub count_if_else : (at : Place) (c : CondTree) (t e : StmtTree) → stmt_count (if_else at c t e) ≡ suc (stmt_count t + stmt_count e)
 count_if_else at c t e = ap suc (length-append (stmt_labels [] t) (stmt_labels [] e))
 
-count_step : (live : List (List ℕ)) (e : Option AssignTree) → length (step_labels live e) ≡ step_count e
-count_step live None = refl
-count_step live (Some a) = refl
-
 pub count_for : (at : Place) (i : InitTree) (c : Option CondTree) (e : Option AssignTree) (b : StmtTree)
     → stmt_count (for at i c e b) ≡ suc (init_count i + step_count e + stmt_count b)
 count_for at i c e b =
     let x = length-append (init_labels [] i ++ step_labels (live_in_for [] i) e) (stmt_labels (live_in_for [] i) b) in
     let y = length-append (init_labels [] i) (step_labels (live_in_for [] i) e) in
     let z = count_step (live_in_for [] i) e in
-    let w = count_live (live_in_for [] i) b in omega arith
+    let w = count_stmt (live_in_for [] i) b in omega arith
 
 pub count_declared : (d : DeclarationTree) → init_count (declared d) ≡ suc (length d.rest)
 count_declared d = count_declarators [] (d.first ∷ d.rest)
@@ -127,6 +104,9 @@ pub block_items : (b : Block) (xs : List code_item.BlockItem) → xs ≡ b.items
 block_items b xs is =
     let e : (block_view b).0 ≡ items_of (map item_view b.items.items) = search (rules, tree_lemmas) in
     e ∙ ap (λ (l : List code_item.BlockItem). items_of (map item_view l)) (sym is)
+
+pub block_end : (b : Block) → b.end ≡ (block_view b).1
+block_end b = let e : (block_view b).1 ≡ b.end = search (rules, tree_lemmas) in sym e
 
 pub code_init_count : (init : Init) (d : Declaration) → init ≡ code_init.Declaration d → init_count (init_view init) ≡ suc (length d.rest.items)
 code_init_count init d is = rw is (count_declared (declaration_view d) ∙ ap suc (length-map d.rest.items declarator_view))

@@ -5,5 +5,6 @@ pub mod Scopes
 pub mod Chains
 pub mod Calls
 pub mod Signatures
+pub mod Labelling
 pub mod Statements
 pub mod Mains

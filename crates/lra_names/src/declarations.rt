@@ -1,6 +1,6 @@
 //! Declarations: a variable is in scope from its own declarator's name on.
 
-ghost use Rattle.std.specs.Prelude.{◌≡◌, ◌+◌, ◌∷◌, ℕ, suc, List, map, length, option_map, IfOk, OnOk, IfErr};
+ghost use Rattle.std.specs.Prelude.{◌≡◌, ◌+◌, ◌∷◌, [], ℕ, suc, List, map, length, option_map, IfOk, OnOk, IfErr};
 ghost use Rattle.lra_program.specs.Program.{BlockItems};
 ghost use Rattle.lra_tree.specs.Trees.{DeclaratorTree};
 ghost use Rattle.lra_tree.specs.Views.{source_view, declarator_view};
@@ -9,32 +9,19 @@ ghost use Rattle.lra_meaning.specs.Scope.{with_local, with_declarators};
 ghost use Rattle.lra_meaning.specs.NameFaults.{declarators_faults};
 ghost use Rattle.lra_meaning.specs.Resolve.{resolve_given, resolve_declarators};
 ghost use Rattle.lra_names.specs.Calls.{functions_at, declarator_faults};
+ghost use Rattle.lra_names.specs.Labelling.{Declares};
 ghost use Rattle.lra_names.specs.Statements.{followed};
 ghost use Rattle.lra_names.specs.Outcome.{Tells, TellsOf};
 
+use crate::called::called_by_given;
 use crate::calls::resolve_given;
 use crate::errors::{NamesError, refuse};
+use crate::labelling::Labelling;
 use crate::scopes::Scope;
 use crate::signatures::Functions;
 use lra_base::Cause;
 use lra_tree::{Declaration, Declarator};
 use std::alloc::Global;
-
-/// The next label. One that can't be counted wants memory, like the tree that has so many.
-pub fn take_label(next: &mut usize) -> Result<usize, NamesError>
-    ensures label { IfOk result (λ n. n ≡ next.old) }
-    ensures counted { OnOk result (next.new ≡ suc next.old) }
-    ensures memory { IfErr result (λ e. e ≡ NamesError.Memory) }
-{
-    let label = *next;
-    match label.checked_add(1) {
-        Some(after) => {
-            *next = after;
-            Ok(label)
-        }
-        None => Err(NamesError::Memory),
-    }
-}
 
 /// Declares the variable, and resolves what it gets.
 #[tactic(auto, using(crate::proofs::Telling::telling_rules))]
@@ -42,25 +29,27 @@ fn resolve_declarator(
     alloc: Global,
     functions: &Functions<'_>,
     scope: &mut Scope,
-    next: &mut usize,
+    labels: &mut Labelling,
     declarator: &Declarator,
 ) -> Result<lra_program::Declarator, NamesError>
     ensures told { TellsOf (declarator_faults (functions_at functions.now) scope.old (declarator_view declarator.now))
         result }
     ensures found { IfOk result (λ d. program_declarator_view d
         ≡ record {
-          label = next.old;
+          label = labels.old.next;
           source = resolve_given (functions_at functions.now)
-              (with_local scope.old declarator.now.name.word) next.old (option_map source_view declarator.now.source);
+              (with_local scope.old declarator.now.name.word) labels.old.next (option_map source_view declarator.now.source);
         }) }
     ensures declared { OnOk result (scope.new ≡ with_local scope.old declarator.now.name.word) }
-    ensures counted { OnOk result (next.new ≡ suc next.old) }
+    ensures counted { OnOk result (labels.new.next ≡ suc labels.old.next) }
+    ensures labelled { OnOk result (Declares labels.old labels.new (declarator_view declarator.now ∷ [])) }
 {
     if scope.is_declared(&declarator.name.word) {
         return refuse(Cause::DuplicateName, declarator.name.place);
     }
     scope.declare(alloc, &declarator.name.word)?;
-    let label = take_label(next)?;
+    let called = called_by_given(alloc, &declarator.source)?;
+    let label = labels.add_declarator(alloc, &declarator.name, called)?;
     let source = resolve_given(alloc, functions, scope, label, &declarator.source)?;
     Ok(lra_program::Declarator { label, source })
 }
@@ -71,7 +60,7 @@ fn add_declarator(
     alloc: Global,
     functions: &Functions<'_>,
     scope: &mut Scope,
-    next: &mut usize,
+    labels: &mut Labelling,
     declarator: &Declarator,
     items: &mut Vec<lra_program::BlockItem>,
 ) -> Result<(), NamesError>
@@ -83,13 +72,14 @@ fn add_declarator(
         ≡ declarators_faults (functions_at functions.now) scope.new rest) }
     ensures found { OnOk result ((rest : List DeclaratorTree) (more : BlockItems)
         → followed (map item_view items.old.items) (resolve_declarators
-        (functions_at functions.now) scope.old next.old (declarator_view declarator.now ∷ rest) more)
+        (functions_at functions.now) scope.old labels.old.next (declarator_view declarator.now ∷ rest) more)
         ≡ followed (map item_view items.new.items) (resolve_declarators
-        (functions_at functions.now) scope.new next.new rest more)) }
+        (functions_at functions.now) scope.new labels.new.next rest more)) }
     ensures declared { OnOk result (scope.new ≡ with_local scope.old declarator.now.name.word) }
-    ensures counted { OnOk result (next.new ≡ suc next.old) }
+    ensures counted { OnOk result (labels.new.next ≡ suc labels.old.next) }
+    ensures labelled { OnOk result (Declares labels.old labels.new (declarator_view declarator.now ∷ [])) }
 {
-    let resolved = resolve_declarator(alloc, functions, scope, next, declarator)?;
+    let resolved = resolve_declarator(alloc, functions, scope, labels, declarator)?;
     items.push(lra_program::BlockItem::Declaration(resolved))?;
     Ok(())
 }
@@ -99,23 +89,25 @@ pub fn add_declaration(
     alloc: Global,
     functions: &Functions<'_>,
     scope: &mut Scope,
-    next: &mut usize,
+    labels: &mut Labelling,
     declaration: &Declaration,
     items: &mut Vec<lra_program::BlockItem>,
 ) -> Result<(), NamesError>
     ensures told { TellsOf (declarators_faults (functions_at functions.now) scope.old
         (declarator_view declaration.now.first ∷ map declarator_view declaration.now.rest.items)) result }
     ensures found { OnOk result ((more : BlockItems) → followed (map item_view items.old.items)
-        (resolve_declarators (functions_at functions.now) scope.old next.old
+        (resolve_declarators (functions_at functions.now) scope.old labels.old.next
         (declarator_view declaration.now.first ∷ map declarator_view declaration.now.rest.items) more)
         ≡ followed (map item_view items.new.items) more) }
     ensures declared { OnOk result (scope.new ≡ with_declarators scope.old
         (declarator_view declaration.now.first ∷ map declarator_view declaration.now.rest.items)) }
-    ensures counted { OnOk result (next.new ≡ next.old + suc (length declaration.now.rest.items)) }
+    ensures counted { OnOk result (labels.new.next ≡ labels.old.next + suc (length declaration.now.rest.items)) }
+    ensures labelled { OnOk result (Declares labels.old labels.new
+        (declarator_view declaration.now.first ∷ map declarator_view declaration.now.rest.items)) }
 {
-    add_declarator(alloc, functions, scope, next, &declaration.first, items)?;
+    add_declarator(alloc, functions, scope, labels, &declaration.first, items)?;
     'declarators: for declarator in &declaration.rest {
-        add_declarator(alloc, functions, scope, next, declarator, items)?;
+        add_declarator(alloc, functions, scope, labels, declarator, items)?;
     }
     Ok(())
 }

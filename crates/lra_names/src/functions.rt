@@ -6,21 +6,24 @@ ghost use Rattle.lra_tree.specs.Trees.{GlobalTree, PartTree, function as part_fu
 ghost use Rattle.lra_tree.specs.Views.{global_view, function_view as tree_function_view, part_view, tree_view};
 ghost use Rattle.lra_program.specs.ProgramViews.{function_view, program_view};
 ghost use Rattle.lra_meaning.specs.Scope.{function_scope};
-ghost use Rattle.lra_tree.specs.Functions.{is_main};
+ghost use Rattle.lra_tree.specs.Functions.{is_main, functions_in};
 ghost use Rattle.lra_meaning.specs.NameFaults.{parameters_faults, function_faults, globals_faults, global_names, parts_faults, name_faults};
 ghost use Rattle.lra_meaning.specs.Resolve.{resolve_function, global_value, globals_in, resolve_parts, items_count, resolve};
 ghost use Rattle.lra_names.specs.Calls.{functions_at};
+ghost use Rattle.lra_tree.specs.Labels.{function_labels, labels_of};
+ghost use Rattle.lra_names.specs.Labelling.{labels_of_functions};
 ghost use Rattle.lra_names.specs.Mains.{main_place};
 ghost use Rattle.lra_names.specs.Outcome.{Tells, TellsOf};
 
 use crate::around::Around;
-use crate::declarations::take_label;
 use crate::errors::{NamesError, refuse};
+use crate::labelling::Labelling;
 use crate::names::Names;
 use crate::scopes::Scope;
 use crate::signatures::Functions;
 use crate::statements::resolve_items;
 use lra_base::Cause;
+use lra_meaning::Labels;
 use lra_program::Program;
 use lra_tree::{Function, Globals, Identifier, Item, Tree};
 use std::alloc::Global;
@@ -29,17 +32,23 @@ use std::alloc::Global;
 fn declare_parameters(
     alloc: Global,
     scope: &mut Scope,
+    labels: &mut Labelling,
     parameters: &[Identifier],
 ) -> Result<(), NamesError>
     ensures told { TellsOf (parameters_faults [] parameters.now) result }
     ensures declared { OnOk result (scope.new ≡ function_scope scope.old.globals parameters.now) }
+    ensures lives { OnOk result (labels.new.live ≡ map (λ p. p.word) parameters.now) }
+    ensures labelled { OnOk result (labels.new.labels ≡ labels.old.labels) }
+    ensures counted { OnOk result (labels.new.next ≡ labels.old.next) }
 {
     scope.begin_function();
+    labels.keep_oldest(0);
     'parameters: for parameter in parameters {
         if scope.is_declared(&parameter.word) {
             return refuse(Cause::DuplicateName, parameter.place);
         }
         scope.declare(alloc, &parameter.word)?;
+        labels.declare(alloc, &parameter.word)?;
     }
     Ok(())
 }
@@ -49,25 +58,28 @@ fn resolve_function(
     alloc: Global,
     functions: &Functions<'_>,
     scope: &mut Scope,
-    next: &mut usize,
+    labels: &mut Labelling,
     function: &Function,
 ) -> Result<lra_program::Function, NamesError>
     ensures told { TellsOf (function_faults (functions_at functions.now) scope.old.globals
         (tree_function_view function.now)) result }
     ensures found { IfOk result (λ f. function_view f ≡ resolve_function
-        (functions_at functions.now) scope.old.globals next.old (tree_function_view function.now)) }
+        (functions_at functions.now) scope.old.globals labels.old.next (tree_function_view function.now)) }
     ensures outside { OnOk result (scope.new.globals ≡ scope.old.globals) }
-    ensures counted { OnOk result (next.new ≡ next.old + suc (items_count (tree_function_view function.now).body)) }
+    ensures counted { OnOk result (labels.new.next ≡
+        labels.old.next + suc (items_count (tree_function_view function.now).body)) }
+    ensures labelled { OnOk result (labels.new.labels ≡
+        labels.old.labels ++ function_labels (tree_function_view function.now)) }
 {
-    declare_parameters(alloc, scope, &function.parameters.items)?;
+    declare_parameters(alloc, scope, labels, &function.parameters.items)?;
     let around = Around {
         alloc,
         functions,
         has_result: function.has_result,
         in_loop: false,
     };
-    let body = resolve_items(&around, scope, next, &function.body)?;
-    let end = take_label(next)?;
+    let body = resolve_items(&around, scope, labels, &function.body)?;
+    let end = labels.add(function.body.end, None)?;
     Ok(lra_program::Function {
         parameters: function.parameters.items.len(),
         body,
@@ -81,8 +93,7 @@ pub struct Resolved {
     /// The names of the file scope.
     names: Names,
     scope: Scope,
-    /// The next label.
-    next: usize,
+    labels: Labelling,
     globals: Vec<i64>,
     functions: Vec<lra_program::Function>,
 }
@@ -103,7 +114,7 @@ fn add_global(
         ∷ []) }
     ensures valued { OnOk result (resolved.new.globals.items ≡ resolved.old.globals.items
         ++ global_value (global_view global.now) ∷ []) }
-    ensures next { OnOk result (resolved.new.next ≡ resolved.old.next) }
+    ensures labels { OnOk result (resolved.new.labels ≡ resolved.old.labels) }
     ensures functions { OnOk result (resolved.new.functions.items ≡ resolved.old.functions.items) }
 {
     if resolved.names.has_behind(0, &global.name.word) {
@@ -128,7 +139,7 @@ fn add_globals(alloc: Global, resolved: &mut Resolved, globals: &Globals) -> Res
         ++ global_names (global_view globals.now.first ∷ map global_view globals.now.rest.items)) }
     ensures valued { OnOk result (resolved.new.globals.items ≡ resolved.old.globals.items
         ++ map global_value (global_view globals.now.first ∷ map global_view globals.now.rest.items)) }
-    ensures next { OnOk result (resolved.new.next ≡ resolved.old.next) }
+    ensures labels { OnOk result (resolved.new.labels ≡ resolved.old.labels) }
     ensures functions { OnOk result (resolved.new.functions.items ≡ resolved.old.functions.items) }
 {
     add_global(alloc, resolved, &globals.first)?;
@@ -153,9 +164,12 @@ fn add_function(
         (part_function (tree_function_view function.now) ∷ rest)
         ≡ parts_faults (functions_at functions.now) resolved.new.names resolved.new.scope.globals rest) }
     ensures found { OnOk result ((rest : List PartTree) → map function_view resolved.old.functions.items
-        ++ resolve_parts (functions_at functions.now) resolved.old.scope.globals resolved.old.next
+        ++ resolve_parts (functions_at functions.now) resolved.old.scope.globals resolved.old.labels.next
         (part_function (tree_function_view function.now) ∷ rest) ≡ map function_view resolved.new.functions.items
-        ++ resolve_parts (functions_at functions.now) resolved.new.scope.globals resolved.new.next rest) }
+        ++ resolve_parts (functions_at functions.now) resolved.new.scope.globals resolved.new.labels.next rest) }
+    ensures labelled { OnOk result ((rest : List PartTree) → resolved.new.labels.labels
+        ++ labels_of_functions (functions_in rest) ≡ resolved.old.labels.labels
+        ++ labels_of_functions (functions_in (part_function (tree_function_view function.now) ∷ rest))) }
     ensures valued { OnOk result (resolved.new.globals.items ≡ resolved.old.globals.items) }
 {
     if resolved.names.has_behind(0, &function.name.word) {
@@ -166,7 +180,7 @@ fn add_function(
         alloc,
         functions,
         &mut resolved.scope,
-        &mut resolved.next,
+        &mut resolved.labels,
         function,
     )?;
     resolved.functions.push(one)?;
@@ -188,9 +202,12 @@ fn add_part(
         (part_view item.now ∷ rest) ≡ parts_faults (functions_at functions.now) resolved.new.names
         resolved.new.scope.globals rest) }
     ensures found { OnOk result ((rest : List PartTree) → map function_view resolved.old.functions.items
-        ++ resolve_parts (functions_at functions.now) resolved.old.scope.globals resolved.old.next
+        ++ resolve_parts (functions_at functions.now) resolved.old.scope.globals resolved.old.labels.next
         (part_view item.now ∷ rest) ≡ map function_view resolved.new.functions.items
-        ++ resolve_parts (functions_at functions.now) resolved.new.scope.globals resolved.new.next rest) }
+        ++ resolve_parts (functions_at functions.now) resolved.new.scope.globals resolved.new.labels.next rest) }
+    ensures labelled { OnOk result ((rest : List PartTree) → resolved.new.labels.labels
+        ++ labels_of_functions (functions_in rest) ≡ resolved.old.labels.labels
+        ++ labels_of_functions (functions_in (part_view item.now ∷ rest))) }
     ensures valued { OnOk result ((rest : List PartTree) → resolved.old.globals.items
         ++ globals_in (part_view item.now ∷ rest) ≡ resolved.new.globals.items ++ globals_in rest) }
 {
@@ -240,11 +257,12 @@ fn resolve_all(alloc: Global, functions: &Functions<'_>) -> Result<Resolved, Nam
     ensures found { IfOk result (λ r. map function_view r.functions.items
         ≡ resolve_parts (functions_at functions.now) [] 1 (map part_view functions.now)) }
     ensures valued { IfOk result (λ r. r.globals.items ≡ globals_in (map part_view functions.now)) }
+    ensures labelled { IfOk result (λ r. r.labels.labels ≡ labels_of_functions (functions_at functions.now)) }
 {
     let mut resolved = Resolved {
         names: Names::new(alloc),
         scope: Scope::outermost(alloc),
-        next: 1,
+        labels: Labelling::new(alloc),
         globals: Vec::new(alloc),
         functions: Vec::new(alloc),
     };
@@ -255,21 +273,41 @@ fn resolve_all(alloc: Global, functions: &Functions<'_>) -> Result<Resolved, Nam
     Ok(resolved)
 }
 
-/// The program that a source means, with its statements labelled in text order from 1; or its first fault of names,
-/// or want of memory.
+/// What a source without faults of names means.
+pub struct Resolution {
+    pub program: Program,
+    /// The table of its labels: the n-th is the label n, from 1.
+    pub labels: Labels,
+}
+
+impl Drop for Resolution {
+    fn drop(self) {
+        let Resolution {
+            program: _,
+            labels: _,
+        } = self;
+    }
+}
+
+/// The program that a source means, with its statements labelled in text order from 1, and the table of these labels; or
+/// its first fault of names, or want of memory.
 #[tactic(auto, using(crate::proofs::FunctionLaws::main_rules))]
-pub fn resolve(alloc: Global, tree: &Tree) -> Result<Program, NamesError>
+pub fn resolve(alloc: Global, tree: &Tree) -> Result<Resolution, NamesError>
     ensures told { TellsOf (name_faults (tree_view tree.now)) result }
-    ensures found { IfOk result (λ p. program_view p ≡ resolve (tree_view tree.now)) }
+    ensures found { IfOk result (λ r. program_view r.program ≡ resolve (tree_view tree.now)) }
+    ensures labelled { IfOk result (λ r. r.labels.labels ≡ labels_of (tree_view tree.now)) }
 {
     let functions = Functions::new(alloc, &tree.items)?;
     let resolved = resolve_all(alloc, &functions)?;
     match find_main(&tree.items) {
         None => refuse(Cause::NoMain, tree.end),
-        Some(main) => Ok(Program {
-            globals: resolved.globals,
-            functions: resolved.functions,
-            main,
+        Some(main) => Ok(Resolution {
+            program: Program {
+                globals: resolved.globals,
+                functions: resolved.functions,
+                main,
+            },
+            labels: resolved.labels.into_table(),
         }),
     }
 }

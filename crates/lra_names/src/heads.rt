@@ -1,6 +1,6 @@
 //! What stands in the parentheses of a statement.
 
-ghost use Rattle.std.specs.Prelude.{◌≡◌, ◌+◌, ◌++◌, suc, map, option_map, IfOk, OnOk, IfErr};
+ghost use Rattle.std.specs.Prelude.{◌≡◌, ◌+◌, ◌++◌, ◌∷◌, [], suc, map, option_map, IfOk, OnOk, IfErr};
 ghost use Rattle.lra_program.specs.Program.{no_more, assert as assert_stmt, assume as assume_stmt};
 ghost use Rattle.lra_tree.specs.Views.{init_view, assign_view, cond_view as tree_cond_view};
 ghost use Rattle.lra_program.specs.ProgramViews.{stmt_view, items_view, item_view, cond_view};
@@ -8,15 +8,19 @@ ghost use Rattle.lra_meaning.specs.Scope.{for_scope};
 ghost use Rattle.lra_meaning.specs.NameFaults.{cond_faults, init_faults, test_of_for_faults, step_faults};
 ghost use Rattle.lra_meaning.specs.Resolve.{resolve_cond, resolve_init, resolve_for_test, resolve_step, init_count, step_count};
 ghost use Rattle.lra_names.specs.Calls.{functions_at};
+ghost use Rattle.lra_tree.specs.Labels.{plain_label, init_labels, step_labels, live_in_for};
+ghost use Rattle.lra_names.specs.Labelling.{Adds, for_front};
 ghost use Rattle.lra_names.specs.Statements.{followed, choice, loop_of, for_of, head_faults};
 ghost use Rattle.lra_names.specs.Outcome.{TellsOf};
 
 use crate::around::Around;
 use crate::conditions::resolve_cond;
-use crate::declarations::{add_declaration, take_label};
+use crate::declarations::add_declaration;
 use crate::errors::NamesError;
+use crate::labelling::Labelling;
 use crate::scopes::Scope;
 use crate::simple::resolve_assignment;
+use lra_base::Place;
 use lra_tree::{Assign, Cond, Init};
 use std::alloc::Global;
 
@@ -84,51 +88,61 @@ impl Head {
     }
 }
 
+/// Where a statement with a condition stands, and what it asks.
+#[derive(Clone, Copy)]
+pub struct Asked<'a> {
+    pub place: Place,
+    pub cond: &'a Cond,
+}
+
 /// The next label, and the condition of the statement under it.
 #[tactic(auto, using(crate::proofs::Loops::wanting_told))]
 pub fn resolve_head(
     alloc: Global,
     scope: &Scope,
-    next: &mut usize,
-    cond: &Cond,
+    labels: &mut Labelling,
+    asked: &Asked<'_>,
 ) -> Result<Head, NamesError>
-    ensures told { TellsOf (cond_faults scope.now (tree_cond_view cond.now)) result }
-    ensures label { IfOk result (λ h. h.label ≡ next.old) }
-    ensures found { IfOk result (λ h. cond_view h.cond ≡ resolve_cond scope.now (tree_cond_view cond.now)) }
-    ensures counted { OnOk result (next.new ≡ suc next.old) }
+    ensures told { TellsOf (cond_faults scope.now (tree_cond_view asked.now.cond.now)) result }
+    ensures label { IfOk result (λ h. h.label ≡ labels.old.next) }
+    ensures found { IfOk result (λ h. cond_view h.cond ≡ resolve_cond scope.now (tree_cond_view asked.now.cond.now)) }
+    ensures counted { OnOk result (labels.new.next ≡ suc labels.old.next) }
+    ensures adds { OnOk result (Adds labels.old labels.new (plain_label asked.now.place labels.old.live ∷ [])) }
 {
-    let label = take_label(next)?;
-    let cond = resolve_cond(alloc, scope, cond)?;
+    let label = labels.add(asked.place, None)?;
+    let cond = resolve_cond(alloc, scope, asked.cond)?;
     Ok(Head { label, cond })
 }
 
 pub fn resolve_assert(
     around: &Around<'_>,
     scope: &Scope,
-    next: &mut usize,
-    cond: &Cond,
+    labels: &mut Labelling,
+    asked: &Asked<'_>,
 ) -> Result<lra_program::Stmt, NamesError>
-    ensures told { TellsOf (cond_faults scope.now (tree_cond_view cond.now)) result }
-    ensures found { IfOk result (λ s. stmt_view s ≡ assert_stmt next.old
-        (resolve_cond scope.now (tree_cond_view cond.now))) }
-    ensures counted { OnOk result (next.new ≡ suc next.old) }
+    ensures told { TellsOf (cond_faults scope.now (tree_cond_view asked.now.cond.now)) result }
+    ensures found { IfOk result (λ s. stmt_view s ≡ assert_stmt labels.old.next
+        (resolve_cond scope.now (tree_cond_view asked.now.cond.now))) }
+    ensures counted { OnOk result (labels.new.next ≡ suc labels.old.next) }
+    ensures adds { OnOk result (Adds labels.old labels.new (plain_label asked.now.place labels.old.live ∷ [])) }
 {
-    let head = resolve_head(around.alloc, scope, next, cond)?;
+    let head = resolve_head(around.alloc, scope, labels, asked)?;
     Ok(head.into_assert())
 }
 
 pub fn resolve_assume(
     around: &Around<'_>,
     scope: &Scope,
-    next: &mut usize,
-    cond: &Cond,
+    labels: &mut Labelling,
+    asked: &Asked<'_>,
 ) -> Result<lra_program::Stmt, NamesError>
-    ensures told { TellsOf (cond_faults scope.now (tree_cond_view cond.now)) result }
-    ensures found { IfOk result (λ s. stmt_view s ≡ assume_stmt next.old
-        (resolve_cond scope.now (tree_cond_view cond.now))) }
-    ensures counted { OnOk result (next.new ≡ suc next.old) }
+    ensures told { TellsOf (cond_faults scope.now (tree_cond_view asked.now.cond.now)) result }
+    ensures found { IfOk result (λ s. stmt_view s ≡ assume_stmt labels.old.next
+        (resolve_cond scope.now (tree_cond_view asked.now.cond.now))) }
+    ensures counted { OnOk result (labels.new.next ≡ suc labels.old.next) }
+    ensures adds { OnOk result (Adds labels.old labels.new (plain_label asked.now.place labels.old.live ∷ [])) }
 {
-    let head = resolve_head(around.alloc, scope, next, cond)?;
+    let head = resolve_head(around.alloc, scope, labels, asked)?;
     Ok(head.into_assume())
 }
 
@@ -145,14 +159,17 @@ pub fn block_of(items: Vec<lra_program::BlockItem>) -> lra_program::BlockItems
 fn resolve_init(
     around: &Around<'_>,
     scope: &mut Scope,
-    next: &mut usize,
+    labels: &mut Labelling,
     init: &Init,
 ) -> Result<lra_program::BlockItems, NamesError>
     ensures told { TellsOf (init_faults (functions_at around.now.functions.now) scope.old (init_view init.now)) result }
     ensures found { IfOk result (λ b. items_view b ≡ resolve_init
-        (functions_at around.now.functions.now) scope.old next.old (init_view init.now)) }
+        (functions_at around.now.functions.now) scope.old labels.old.next (init_view init.now)) }
     ensures entered { OnOk result (scope.new ≡ for_scope scope.old (init_view init.now)) }
-    ensures counted { OnOk result (next.new ≡ next.old + init_count (init_view init.now)) }
+    ensures counted { OnOk result (labels.new.next ≡ labels.old.next + init_count (init_view init.now)) }
+    ensures labelled { OnOk result (labels.new.labels ≡
+        labels.old.labels ++ init_labels labels.old.live (init_view init.now)) }
+    ensures lives { OnOk result (labels.new.live ≡ live_in_for labels.old.live (init_view init.now)) }
 {
     let mut items = Vec::new(around.alloc);
     match init {
@@ -166,14 +183,14 @@ fn resolve_init(
                 around.alloc,
                 around.functions,
                 scope,
-                next,
+                labels,
                 declaration,
                 &mut items,
             )?;
             Ok(block_of(items))
         }
         Init::Assign(assign) => {
-            let stmt = resolve_assignment(around, scope, next, assign)?;
+            let stmt = resolve_assignment(around, scope, labels, assign)?;
             items.push(lra_program::BlockItem::Statement(stmt))?;
             scope.enter();
             Ok(block_of(items))
@@ -199,24 +216,27 @@ fn resolve_for_test(
 fn resolve_step(
     around: &Around<'_>,
     scope: &Scope,
-    next: &mut usize,
+    labels: &mut Labelling,
     step: &Option<Assign>,
 ) -> Result<lra_program::Stmt, NamesError>
     ensures told { TellsOf (step_faults (functions_at around.now.functions.now) scope.now
         (option_map assign_view step.now)) result }
     ensures found { IfOk result (λ s. stmt_view s ≡ resolve_step
-        (functions_at around.now.functions.now) scope.now next.old (option_map assign_view step.now)) }
-    ensures counted { OnOk result (next.new ≡ next.old + step_count (option_map assign_view step.now)) }
+        (functions_at around.now.functions.now) scope.now labels.old.next (option_map assign_view step.now)) }
+    ensures counted { OnOk result (labels.new.next ≡ labels.old.next + step_count (option_map assign_view step.now)) }
+    ensures adds { OnOk result (Adds labels.old labels.new
+        (step_labels labels.old.live (option_map assign_view step.now))) }
 {
     match step {
         None => Ok(lra_program::Stmt::Absent),
-        Some(assign) => resolve_assignment(around, scope, next, assign),
+        Some(assign) => resolve_assignment(around, scope, labels, assign),
     }
 }
 
-/// What stands in the parentheses of a `for`, in the source.
+/// Where a `for` stands, and what stands in its parentheses, in the source.
 #[derive(Clone, Copy)]
 pub struct Rounds<'a> {
+    pub place: Place,
     pub init: &'a Init,
     pub test: &'a Option<Cond>,
     pub step: &'a Option<Assign>,
@@ -261,30 +281,34 @@ impl ForHead {
 pub fn resolve_for_head(
     around: &Around<'_>,
     scope: &mut Scope,
-    next: &mut usize,
+    labels: &mut Labelling,
     rounds: &Rounds<'_>,
 ) -> Result<ForHead, NamesError>
     ensures told { TellsOf (head_faults (functions_at around.now.functions.now) scope.old
         (init_view rounds.now.init.now) (option_map tree_cond_view rounds.now.test.now)
         (option_map assign_view rounds.now.step.now)) result }
-    ensures label { IfOk result (λ h. h.head.label ≡ next.old) }
+    ensures label { IfOk result (λ h. h.head.label ≡ labels.old.next) }
     ensures begun { IfOk result (λ h. items_view h.init
-        ≡ resolve_init (functions_at around.now.functions.now) scope.old (suc next.old)
+        ≡ resolve_init (functions_at around.now.functions.now) scope.old (suc labels.old.next)
         (init_view rounds.now.init.now)) }
     ensures tested { IfOk result (λ h. cond_view h.head.cond
         ≡ resolve_for_test (for_scope scope.old (init_view rounds.now.init.now))
         (option_map tree_cond_view rounds.now.test.now)) }
     ensures stepped { IfOk result (λ h. stmt_view h.step
         ≡ resolve_step (functions_at around.now.functions.now) (for_scope scope.old (init_view rounds.now.init.now))
-        (suc next.old + init_count (init_view rounds.now.init.now)) (option_map assign_view rounds.now.step.now)) }
+        (suc labels.old.next + init_count (init_view rounds.now.init.now)) (option_map assign_view rounds.now.step.now)) }
     ensures entered { OnOk result (scope.new ≡ for_scope scope.old (init_view rounds.now.init.now)) }
-    ensures counted { OnOk result (next.new ≡ suc next.old + init_count (init_view rounds.now.init.now)
+    ensures counted { OnOk result (labels.new.next ≡ suc labels.old.next + init_count (init_view rounds.now.init.now)
         + step_count (option_map assign_view rounds.now.step.now)) }
+    ensures labelled { OnOk result (labels.new.labels ≡ labels.old.labels ++ for_front rounds.now.place labels.old.live
+        (init_view rounds.now.init.now) (option_map assign_view rounds.now.step.now)) }
+    ensures lives { OnOk result (labels.new.live ≡ live_in_for labels.old.live (init_view rounds.now.init.now)) }
 {
-    let label = take_label(next)?;
-    let init = resolve_init(around, scope, next, rounds.init)?;
+    let label = labels.add(rounds.place, None)?;
+    let init = resolve_init(around, scope, labels, rounds.init)?;
+    labels.relist(label);
     let cond = resolve_for_test(around.alloc, scope, rounds.test)?;
-    let step = resolve_step(around, scope, next, rounds.step)?;
+    let step = resolve_step(around, scope, labels, rounds.step)?;
     let head = Head { label, cond };
     Ok(ForHead { init, head, step })
 }

@@ -2,6 +2,7 @@
 #![tactic(auto)]
 
 mod around;
+mod called;
 mod calls;
 mod conditions;
 mod declarations;
@@ -9,6 +10,7 @@ mod errors;
 mod expressions;
 mod functions;
 mod heads;
+mod labelling;
 mod names;
 mod scopes;
 mod signatures;
@@ -18,4 +20,4 @@ mod statements;
 mod tests;
 
 pub use errors::NamesError;
-pub use functions::resolve;
+pub use functions::{Resolution, resolve};

@@ -1,6 +1,6 @@
 //! Statements, each under its label.
 
-ghost use Rattle.std.specs.Prelude.{◌≡◌, ◌+◌, ◌++◌, suc, map, option_map, IfOk, OnOk, IfErr};
+ghost use Rattle.std.specs.Prelude.{◌≡◌, ◌+◌, ◌++◌, ◌∷◌, suc, map, option_map, IfOk, OnOk, IfErr};
 ghost use Rattle.lra_program.specs.Program.{absent};
 ghost use Rattle.lra_tree.specs.Trees.{ItemsTree, block as tree_block};
 ghost use Rattle.lra_tree.specs.Views.{stmt_view, block_view, item_view, init_view, assign_view, cond_view};
@@ -10,53 +10,115 @@ ghost use Rattle.lra_meaning.specs.NameFaults.{in_a_loop, cond_faults, stmt_faul
 ghost use Rattle.lra_meaning.specs.Resolve.{resolve_cond, resolve_init, resolve_for_test, resolve_step, resolve_stmt, resolve_items, stmt_count, items_count, init_count, step_count};
 ghost use Rattle.lra_names.specs.Calls.{functions_at};
 ghost use Rattle.lra_names.specs.Scopes.{Extends};
+ghost use Rattle.lra_tree.specs.Labels.{plain_label, stmt_labels, live_in_for};
+ghost use Rattle.lra_names.specs.Labelling.{Adds, Fills, Follows, for_front};
 ghost use Rattle.lra_names.specs.Statements.{around_of, followed, choice, loop_of, for_of, head_faults};
 ghost use Rattle.lra_names.specs.Outcome.{Tells, TellsOf};
 
 use crate::around::Around;
-use crate::declarations::{add_declaration, take_label};
+use crate::declarations::add_declaration;
 use crate::errors::NamesError;
 use crate::heads::{
-    Rounds, block_of, resolve_assert, resolve_assume, resolve_for_head, resolve_head,
+    Asked, Rounds, block_of, resolve_assert, resolve_assume, resolve_for_head, resolve_head,
 };
+use crate::labelling::Labelling;
 use crate::scopes::Scope;
 use crate::simple::{
     resolve_assignment, resolve_break, resolve_call_alone, resolve_continue, resolve_nothing,
     resolve_return,
 };
-use lra_tree::{Block, BlockItem, Cond, Stmt};
+use lra_tree::{Block, BlockItem, Stmt};
 
 #[cycle(statement)]
 fn resolve_stmt(
     around: &Around<'_>,
     scope: &mut Scope,
-    next: &mut usize,
+    labels: &mut Labelling,
     stmt: &Stmt,
 ) -> Result<lra_program::Stmt, NamesError>
     ensures told { TellsOf (stmt_faults (around_of around.now) scope.old (stmt_view stmt.now)) result }
     ensures found { IfOk result (λ s. program_stmt_view s
-        ≡ resolve_stmt (functions_at around.now.functions.now) scope.old next.old (stmt_view stmt.now)) }
+        ≡ resolve_stmt (functions_at around.now.functions.now) scope.old labels.old.next (stmt_view stmt.now)) }
     ensures kept { OnOk result (scope.new ≡ scope.old) }
-    ensures counted { OnOk result (next.new ≡ next.old + stmt_count (stmt_view stmt.now)) }
+    ensures counted { OnOk result (labels.new.next ≡ labels.old.next + stmt_count (stmt_view stmt.now)) }
+    ensures adds { OnOk result (Adds labels.old labels.new (stmt_labels labels.old.live (stmt_view stmt.now))) }
 {
     match stmt {
-        Stmt::Block(block) => resolve_block(around, scope, next, block),
-        Stmt::Nothing(_) => resolve_nothing(next),
-        Stmt::Assign(assign) => resolve_assignment(around, scope, next, assign),
-        Stmt::Call(call) => resolve_call_alone(around, scope, next, call),
-        Stmt::If(_, cond, branch) => resolve_if(around, scope, next, cond, branch),
-        Stmt::IfElse(_, cond, branch, other) => {
-            resolve_if_else(around, scope, next, cond, branch, other)
+        Stmt::Block(block) => resolve_block(around, scope, labels, block),
+        Stmt::Nothing(place) => resolve_nothing(labels, *place),
+        Stmt::Assign(assign) => resolve_assignment(around, scope, labels, assign),
+        Stmt::Call(call) => resolve_call_alone(around, scope, labels, call),
+        Stmt::If(place, cond, branch) => {
+            resolve_if(
+                around,
+                scope,
+                labels,
+                &Asked {
+                    place: *place,
+                    cond,
+                },
+                branch,
+            )
         }
-        Stmt::While(_, cond, body) => resolve_while(around, scope, next, cond, body),
-        Stmt::For(_, init, test, step, body) => {
-            resolve_for(around, scope, next, &Rounds { init, test, step }, body)
+        Stmt::IfElse(place, cond, branch, other) => {
+            resolve_if_else(
+                around,
+                scope,
+                labels,
+                &Asked {
+                    place: *place,
+                    cond,
+                },
+                branch,
+                other,
+            )
         }
-        Stmt::Break(place) => resolve_break(around, next, *place),
-        Stmt::Continue(place) => resolve_continue(around, next, *place),
-        Stmt::Return(place, source) => resolve_return(around, scope, next, *place, source),
-        Stmt::Assert(_, cond) => resolve_assert(around, scope, next, cond),
-        Stmt::Assume(_, cond) => resolve_assume(around, scope, next, cond),
+        Stmt::While(place, cond, body) => {
+            resolve_while(
+                around,
+                scope,
+                labels,
+                &Asked {
+                    place: *place,
+                    cond,
+                },
+                body,
+            )
+        }
+        Stmt::For(place, init, test, step, body) => {
+            let rounds = Rounds {
+                place: *place,
+                init,
+                test,
+                step,
+            };
+            resolve_for(around, scope, labels, &rounds, body)
+        }
+        Stmt::Break(place) => resolve_break(around, labels, *place),
+        Stmt::Continue(place) => resolve_continue(around, labels, *place),
+        Stmt::Return(place, source) => resolve_return(around, scope, labels, *place, source),
+        Stmt::Assert(place, cond) => {
+            resolve_assert(
+                around,
+                scope,
+                labels,
+                &Asked {
+                    place: *place,
+                    cond,
+                },
+            )
+        }
+        Stmt::Assume(place, cond) => {
+            resolve_assume(
+                around,
+                scope,
+                labels,
+                &Asked {
+                    place: *place,
+                    cond,
+                },
+            )
+        }
     }
 }
 
@@ -64,21 +126,23 @@ fn resolve_stmt(
 fn resolve_if(
     around: &Around<'_>,
     scope: &mut Scope,
-    next: &mut usize,
-    cond: &Cond,
+    labels: &mut Labelling,
+    asked: &Asked<'_>,
     branch: &Stmt,
 ) -> Result<lra_program::Stmt, NamesError>
-    ensures told { TellsOf (cond_faults scope.old (cond_view cond.now)
+    ensures told { TellsOf (cond_faults scope.old (cond_view asked.now.cond.now)
         ++ stmt_faults (around_of around.now) scope.old (stmt_view branch.now)) result }
     ensures found { IfOk result (λ s. program_stmt_view s
-        ≡ choice next.old (resolve_cond scope.old (cond_view cond.now))
-        (resolve_stmt (functions_at around.now.functions.now) scope.old (suc next.old) (stmt_view branch.now))
+        ≡ choice labels.old.next (resolve_cond scope.old (cond_view asked.now.cond.now))
+        (resolve_stmt (functions_at around.now.functions.now) scope.old (suc labels.old.next) (stmt_view branch.now))
         absent) }
     ensures kept { OnOk result (scope.new ≡ scope.old) }
-    ensures counted { OnOk result (next.new ≡ suc next.old + stmt_count (stmt_view branch.now)) }
+    ensures counted { OnOk result (labels.new.next ≡ suc labels.old.next + stmt_count (stmt_view branch.now)) }
+    ensures adds { OnOk result (Adds labels.old labels.new
+        (plain_label asked.now.place labels.old.live ∷ stmt_labels labels.old.live (stmt_view branch.now))) }
 {
-    let head = resolve_head(around.alloc, scope, next, cond)?;
-    let branch = resolve_stmt(around, scope, next, branch)?;
+    let head = resolve_head(around.alloc, scope, labels, asked)?;
+    let branch = resolve_stmt(around, scope, labels, branch)?;
     head.choose(around.alloc, branch, lra_program::Stmt::Absent)
 }
 
@@ -87,26 +151,29 @@ fn resolve_if(
 fn resolve_if_else(
     around: &Around<'_>,
     scope: &mut Scope,
-    next: &mut usize,
-    cond: &Cond,
+    labels: &mut Labelling,
+    asked: &Asked<'_>,
     branch: &Stmt,
     other: &Stmt,
 ) -> Result<lra_program::Stmt, NamesError>
-    ensures told { TellsOf (cond_faults scope.old (cond_view cond.now)
+    ensures told { TellsOf (cond_faults scope.old (cond_view asked.now.cond.now)
         ++ stmt_faults (around_of around.now) scope.old (stmt_view branch.now)
         ++ stmt_faults (around_of around.now) scope.old (stmt_view other.now)) result }
     ensures found { IfOk result (λ s. program_stmt_view s
-        ≡ choice next.old (resolve_cond scope.old (cond_view cond.now))
-        (resolve_stmt (functions_at around.now.functions.now) scope.old (suc next.old) (stmt_view branch.now))
+        ≡ choice labels.old.next (resolve_cond scope.old (cond_view asked.now.cond.now))
+        (resolve_stmt (functions_at around.now.functions.now) scope.old (suc labels.old.next) (stmt_view branch.now))
         (resolve_stmt (functions_at around.now.functions.now) scope.old
-        (suc next.old + stmt_count (stmt_view branch.now)) (stmt_view other.now))) }
+        (suc labels.old.next + stmt_count (stmt_view branch.now)) (stmt_view other.now))) }
     ensures kept { OnOk result (scope.new ≡ scope.old) }
-    ensures counted { OnOk result (next.new ≡ suc next.old + stmt_count (stmt_view branch.now)
+    ensures counted { OnOk result (labels.new.next ≡ suc labels.old.next + stmt_count (stmt_view branch.now)
         + stmt_count (stmt_view other.now)) }
+    ensures adds { OnOk result (Adds labels.old labels.new
+        (plain_label asked.now.place labels.old.live ∷ stmt_labels labels.old.live (stmt_view branch.now)
+        ++ stmt_labels labels.old.live (stmt_view other.now))) }
 {
-    let head = resolve_head(around.alloc, scope, next, cond)?;
-    let branch = resolve_stmt(around, scope, next, branch)?;
-    let other = resolve_stmt(around, scope, next, other)?;
+    let head = resolve_head(around.alloc, scope, labels, asked)?;
+    let branch = resolve_stmt(around, scope, labels, branch)?;
+    let other = resolve_stmt(around, scope, labels, other)?;
     head.choose(around.alloc, branch, other)
 }
 
@@ -114,20 +181,22 @@ fn resolve_if_else(
 fn resolve_while(
     around: &Around<'_>,
     scope: &mut Scope,
-    next: &mut usize,
-    cond: &Cond,
+    labels: &mut Labelling,
+    asked: &Asked<'_>,
     body: &Stmt,
 ) -> Result<lra_program::Stmt, NamesError>
-    ensures told { TellsOf (cond_faults scope.old (cond_view cond.now)
+    ensures told { TellsOf (cond_faults scope.old (cond_view asked.now.cond.now)
         ++ stmt_faults (in_a_loop (around_of around.now)) scope.old (stmt_view body.now)) result }
     ensures found { IfOk result (λ s. program_stmt_view s
-        ≡ loop_of next.old (resolve_cond scope.old (cond_view cond.now))
-        (resolve_stmt (functions_at around.now.functions.now) scope.old (suc next.old) (stmt_view body.now)) absent) }
+        ≡ loop_of labels.old.next (resolve_cond scope.old (cond_view asked.now.cond.now))
+        (resolve_stmt (functions_at around.now.functions.now) scope.old (suc labels.old.next) (stmt_view body.now)) absent) }
     ensures kept { OnOk result (scope.new ≡ scope.old) }
-    ensures counted { OnOk result (next.new ≡ suc next.old + stmt_count (stmt_view body.now)) }
+    ensures counted { OnOk result (labels.new.next ≡ suc labels.old.next + stmt_count (stmt_view body.now)) }
+    ensures adds { OnOk result (Adds labels.old labels.new
+        (plain_label asked.now.place labels.old.live ∷ stmt_labels labels.old.live (stmt_view body.now))) }
 {
-    let head = resolve_head(around.alloc, scope, next, cond)?;
-    let body = resolve_stmt(&around.in_a_loop(), scope, next, body)?;
+    let head = resolve_head(around.alloc, scope, labels, asked)?;
+    let body = resolve_stmt(&around.in_a_loop(), scope, labels, body)?;
     head.repeat(around.alloc, body, lra_program::Stmt::Absent)
 }
 
@@ -136,7 +205,7 @@ fn resolve_while(
 fn resolve_for(
     around: &Around<'_>,
     scope: &mut Scope,
-    next: &mut usize,
+    labels: &mut Labelling,
     rounds: &Rounds<'_>,
     body: &Stmt,
 ) -> Result<lra_program::Stmt, NamesError>
@@ -145,24 +214,29 @@ fn resolve_for(
         (option_map assign_view rounds.now.step.now) ++ stmt_faults (in_a_loop (around_of around.now))
         (for_scope scope.old (init_view rounds.now.init.now)) (stmt_view body.now)) result }
     ensures found { IfOk result (λ s. program_stmt_view s
-        ≡ for_of (resolve_init (functions_at around.now.functions.now) scope.old (suc next.old)
-        (init_view rounds.now.init.now)) (loop_of next.old
+        ≡ for_of (resolve_init (functions_at around.now.functions.now) scope.old (suc labels.old.next)
+        (init_view rounds.now.init.now)) (loop_of labels.old.next
         (resolve_for_test (for_scope scope.old (init_view rounds.now.init.now))
         (option_map cond_view rounds.now.test.now)) (resolve_stmt (functions_at around.now.functions.now)
         (for_scope scope.old (init_view rounds.now.init.now))
-        (suc next.old + init_count (init_view rounds.now.init.now)
+        (suc labels.old.next + init_count (init_view rounds.now.init.now)
         + step_count (option_map assign_view rounds.now.step.now)) (stmt_view body.now))
         (resolve_step (functions_at around.now.functions.now) (for_scope scope.old (init_view rounds.now.init.now))
-        (suc next.old + init_count (init_view rounds.now.init.now)) (option_map assign_view rounds.now.step.now)))) }
+        (suc labels.old.next + init_count (init_view rounds.now.init.now)) (option_map assign_view rounds.now.step.now)))) }
     ensures kept { OnOk result (scope.new ≡ scope.old) }
-    ensures counted { OnOk result (next.new ≡ suc next.old + init_count (init_view rounds.now.init.now)
+    ensures counted { OnOk result (labels.new.next ≡ suc labels.old.next + init_count (init_view rounds.now.init.now)
         + step_count (option_map assign_view rounds.now.step.now) + stmt_count (stmt_view body.now)) }
+    ensures adds { OnOk result (Adds labels.old labels.new (for_front rounds.now.place labels.old.live
+        (init_view rounds.now.init.now) (option_map assign_view rounds.now.step.now)
+        ++ stmt_labels (live_in_for labels.old.live (init_view rounds.now.init.now)) (stmt_view body.now))) }
 {
     let count = scope.count();
     let outer = scope.outer();
-    let head = resolve_for_head(around, scope, next, rounds)?;
-    let body = resolve_stmt(&around.in_a_loop(), scope, next, body)?;
+    let live = labels.living();
+    let head = resolve_for_head(around, scope, labels, rounds)?;
+    let body = resolve_stmt(&around.in_a_loop(), scope, labels, body)?;
     scope.leave(count, outer);
+    labels.keep_oldest(live);
     head.into_loop(around.alloc, body)
 }
 
@@ -171,24 +245,28 @@ fn resolve_for(
 fn resolve_block(
     around: &Around<'_>,
     scope: &mut Scope,
-    next: &mut usize,
+    labels: &mut Labelling,
     block: &Block,
 ) -> Result<lra_program::Stmt, NamesError>
     ensures told { TellsOf (stmt_faults (around_of around.now) scope.old
         (tree_block (block_view block.now).0 (block_view block.now).1)) result }
     ensures found { IfOk result (λ s. program_stmt_view s
-        ≡ resolve_stmt (functions_at around.now.functions.now) scope.old next.old
+        ≡ resolve_stmt (functions_at around.now.functions.now) scope.old labels.old.next
         (tree_block (block_view block.now).0 (block_view block.now).1)) }
     ensures kept { OnOk result (scope.new ≡ scope.old) }
-    ensures counted { OnOk result (next.new ≡ next.old + stmt_count
+    ensures counted { OnOk result (labels.new.next ≡ labels.old.next + stmt_count
         (tree_block (block_view block.now).0 (block_view block.now).1)) }
+    ensures adds { OnOk result (Adds labels.old labels.new (stmt_labels labels.old.live
+        (tree_block (block_view block.now).0 (block_view block.now).1))) }
 {
     let count = scope.count();
     let outer = scope.outer();
+    let live = labels.living();
     scope.enter();
-    let items = resolve_items(around, scope, next, block)?;
+    let items = resolve_items(around, scope, labels, block)?;
+    let end = labels.add(block.end, None)?;
     scope.leave(count, outer);
-    let end = take_label(next)?;
+    labels.keep_oldest(live);
     Ok(lra_program::Stmt::Block(items, end))
 }
 
@@ -197,18 +275,19 @@ fn resolve_block(
 pub fn resolve_items(
     around: &Around<'_>,
     scope: &mut Scope,
-    next: &mut usize,
+    labels: &mut Labelling,
     block: &Block,
 ) -> Result<lra_program::BlockItems, NamesError>
     ensures told { TellsOf (items_faults (around_of around.now) scope.old (block_view block.now).0) result }
     ensures found { IfOk result (λ b. items_view b ≡ resolve_items
-        (functions_at around.now.functions.now) scope.old next.old (block_view block.now).0) }
+        (functions_at around.now.functions.now) scope.old labels.old.next (block_view block.now).0) }
     ensures extended { OnOk result (Extends scope.old scope.new) }
-    ensures counted { OnOk result (next.new ≡ next.old + items_count (block_view block.now).0) }
+    ensures counted { OnOk result (labels.new.next ≡ labels.old.next + items_count (block_view block.now).0) }
+    ensures fills { OnOk result (Fills labels.old labels.new (block_view block.now).0) }
 {
     let mut items = Vec::new(around.alloc);
     'items: for item in &block.items {
-        add_item(around, scope, next, item, &mut items)?;
+        add_item(around, scope, labels, item, &mut items)?;
     }
     Ok(block_of(items))
 }
@@ -219,7 +298,7 @@ pub fn resolve_items(
 fn add_item(
     around: &Around<'_>,
     scope: &mut Scope,
-    next: &mut usize,
+    labels: &mut Labelling,
     item: &BlockItem,
     items: &mut Vec<lra_program::BlockItem>,
 ) -> Result<(), NamesError>
@@ -228,12 +307,13 @@ fn add_item(
     ensures clean { OnOk result ((rest : ItemsTree) → items_faults (around_of around.now) scope.old
         (item_view item.now rest) ≡ items_faults (around_of around.now) scope.new rest) }
     ensures found { OnOk result ((rest : ItemsTree) → followed (map program_item_view items.old.items)
-        (resolve_items (functions_at around.now.functions.now) scope.old next.old (item_view item.now rest))
+        (resolve_items (functions_at around.now.functions.now) scope.old labels.old.next (item_view item.now rest))
         ≡ followed (map program_item_view items.new.items)
-        (resolve_items (functions_at around.now.functions.now) scope.new next.new rest)) }
+        (resolve_items (functions_at around.now.functions.now) scope.new labels.new.next rest)) }
     ensures extended { OnOk result (Extends scope.old scope.new) }
-    ensures counted { OnOk result ((rest : ItemsTree) → next.new + items_count rest ≡ next.old
+    ensures counted { OnOk result ((rest : ItemsTree) → labels.new.next + items_count rest ≡ labels.old.next
         + items_count (item_view item.now rest)) }
+    ensures follows { OnOk result (Follows labels.old labels.new (item_view item.now)) }
 {
     match item {
         BlockItem::Declaration(declaration) => {
@@ -241,14 +321,14 @@ fn add_item(
                 around.alloc,
                 around.functions,
                 scope,
-                next,
+                labels,
                 declaration,
                 items,
             )?;
             Ok(())
         }
         BlockItem::Statement(stmt) => {
-            let stmt = resolve_stmt(around, scope, next, stmt)?;
+            let stmt = resolve_stmt(around, scope, labels, stmt)?;
             items.push(lra_program::BlockItem::Statement(stmt))?;
             Ok(())
         }

@@ -188,7 +188,8 @@ fn counts_up(item: &ProgramItem) -> bool {
 #[test]
 fn a_source_has_its_program(rt: HostRuntime) -> Result<(), Fail> {
     let main = Part::Function(true, "main", 0, Body::Count);
-    let program = resolve(rt.alloc(), &tree(&rt, Part::Global, main)?)?;
+    let resolution = resolve(rt.alloc(), &tree(&rt, Part::Global, main)?)?;
+    let program = &resolution.program;
     assert_eq!(rt; program.main, 0);
     assert_eq!(rt; program.functions.len(), 1);
     let main = &program.functions[0];

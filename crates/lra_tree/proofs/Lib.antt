@@ -2,8 +2,6 @@
 -- Tests by which the examples find longest spellings, and the examples.
 pub mod LongestByTest
 pub mod TokenExamples
--- Walks over trees.
-pub mod Walking
 -- Trees, and what they stand for.
 mod ViewExamples
 pub mod TreeSamples

@@ -8,5 +8,4 @@ pub mod Grammar
 pub mod Faults
 pub mod Functions
 pub mod Labels
-pub mod Walk
 pub mod Reach

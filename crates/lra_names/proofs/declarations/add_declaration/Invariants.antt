@@ -1,5 +1,5 @@
 -- The declarators that are left, in the scope of those before them, are as all of them in the scope of the declaration.
-use Rattle.std.proofs.Common.{◌≡◌, ◌+◌, ◌∷◌, suc, map, drop}
+use Rattle.std.proofs.Common.{◌≡◌, ◌+◌, ◌∷◌, suc, map, take, drop}
 use Rattle.lra_program.specs.Program.{BlockItems}
 use Rattle.lra_tree.specs.Views.{declarator_view}
 use Rattle.lra_program.specs.ProgramViews.{item_view}
@@ -7,6 +7,7 @@ use Rattle.lra_meaning.specs.Scope.{with_declarators}
 use Rattle.lra_meaning.specs.NameFaults.{declarators_faults}
 use Rattle.lra_meaning.specs.Resolve.{resolve_declarators}
 use Rattle.lra_names.specs.Calls.{functions_at}
+use Rattle.lra_names.specs.Labelling.{Declares}
 use Rattle.lra_names.specs.Statements.{followed}
 use Rattle.lra_names.proofs.declarations.add_declaration.Given as goal
 
@@ -15,10 +16,11 @@ invariant-declarators l = record {
   clean : declarators_faults (functions_at l.functions) l.fn.scope (declarator_view l.declaration.first ∷ map declarator_view l.declaration.rest.items)
       ≡ declarators_faults (functions_at l.functions) l.scope (map declarator_view (drop l.declarator-index l.declarator-items));
   found : (more : BlockItems)
-      → followed (map item_view l.fn.items.items) (resolve_declarators (functions_at l.functions) l.fn.scope l.fn.next
+      → followed (map item_view l.fn.items.items) (resolve_declarators (functions_at l.functions) l.fn.scope l.fn.labels.next
       (declarator_view l.declaration.first ∷ map declarator_view l.declaration.rest.items) more)
-      ≡ followed (map item_view l.items.items) (resolve_declarators (functions_at l.functions) l.scope l.next (map declarator_view (drop l.declarator-index l.declarator-items)) more);
+      ≡ followed (map item_view l.items.items) (resolve_declarators (functions_at l.functions) l.scope l.labels.next (map declarator_view (drop l.declarator-index l.declarator-items)) more);
   declared : with_declarators l.fn.scope (declarator_view l.declaration.first ∷ map declarator_view l.declaration.rest.items)
       ≡ with_declarators l.scope (map declarator_view (drop l.declarator-index l.declarator-items));
-  counted : l.next ≡ suc (l.fn.next + l.declarator-index);
+  counted : l.labels.next ≡ suc (l.fn.labels.next + l.declarator-index);
+  labelled : Declares l.fn.labels l.labels (declarator_view l.declaration.first ∷ map declarator_view (take l.declarator-index l.declarator-items));
 }

@@ -12,6 +12,6 @@ invariant-globals l = record {
   named : l.resolved.names ≡ l.fn.resolved.names ++ global_names (global_view l.globals.first ∷ map global_view (take l.global-index l.global-items));
   scoped : l.resolved.scope.globals ≡ l.fn.resolved.scope.globals ++ global_names (global_view l.globals.first ∷ map global_view (take l.global-index l.global-items));
   valued : l.resolved.globals.items ≡ l.fn.resolved.globals.items ++ map global_value (global_view l.globals.first ∷ map global_view (take l.global-index l.global-items));
-  next : l.resolved.next ≡ l.fn.resolved.next;
+  labels : l.resolved.labels ≡ l.fn.resolved.labels;
   functions : l.resolved.functions.items ≡ l.fn.resolved.functions.items;
 }

@@ -5,7 +5,9 @@ use Rattle.lra_tree.specs.Views.{part_view}
 use Rattle.lra_program.specs.ProgramViews.{function_view}
 use Rattle.lra_meaning.specs.NameFaults.{parts_faults}
 use Rattle.lra_meaning.specs.Resolve.{globals_in, resolve_parts}
+use Rattle.lra_tree.specs.Functions.{functions_in}
 use Rattle.lra_names.specs.Calls.{functions_at}
+use Rattle.lra_names.specs.Labelling.{labels_of_functions}
 use Rattle.lra_names.proofs.Telling.{exit_tells, rest_tells}
 use Rattle.lra_names.proofs.Loops.{parts_step, parts_end}
 use Rattle.lra_names.proofs.functions.resolve_all.Goals as goal
@@ -21,12 +23,16 @@ parts-preserved c =
           ∙ parts_step (parts_faults F r.names r.scope.globals) part_view xs c.parts.item-index c.item-item.result c.parts-test.true c.item-item.is
           ∙ c.in_ok-add_part.ensures.clean left;
       found = c.parts.invariant.found
-          ∙ parts_step (λ (ps : List PartTree). map function_view r.functions.items ++ resolve_parts F r.scope.globals r.next ps) part_view xs c.parts.item-index
+          ∙ parts_step (λ (ps : List PartTree). map function_view r.functions.items ++ resolve_parts F r.scope.globals r.labels.next ps) part_view xs c.parts.item-index
           c.item-item.result c.parts-test.true c.item-item.is
           ∙ c.in_ok-add_part.ensures.found left;
       valued = c.parts.invariant.valued
           ∙ parts_step (λ (ps : List PartTree). r.globals.items ++ globals_in ps) part_view xs c.parts.item-index c.item-item.result c.parts-test.true c.item-item.is
           ∙ c.in_ok-add_part.ensures.valued left;
+      labelled = c.in_ok-add_part.ensures.labelled left
+          ∙ sym (parts_step (λ (ps : List PartTree). r.labels.labels ++ labels_of_functions (functions_in ps)) part_view xs c.parts.item-index c.item-item.result c.parts-test.true
+          c.item-item.is)
+          ∙ c.parts.invariant.labelled;
     }
 
 pub returns-in_err-add_part-clause-told : goal.returns-in_err-add_part-clause-told
@@ -50,7 +56,7 @@ returns-clause-found c =
     let r = c.parts.resolved in
     sym (ap (λ (xs : List Item). resolve_parts F [] 1 (map part_view xs)) (sym c.parts-parts.ensures)
     ∙ c.parts.invariant.found
-    ∙ parts_end (λ (ps : List PartTree). map function_view r.functions.items ++ resolve_parts F r.scope.globals r.next ps) part_view
+    ∙ parts_end (λ (ps : List PartTree). map function_view r.functions.items ++ resolve_parts F r.scope.globals r.labels.next ps) part_view
     c.parts-parts.result.now c.parts.item-index c.parts-test.false
     ∙ append-nil (map function_view r.functions.items))
 
@@ -61,3 +67,11 @@ returns-clause-valued c =
     ∙ c.parts.invariant.valued
     ∙ parts_end (λ (ps : List PartTree). r.globals.items ++ globals_in ps) part_view c.parts-parts.result.now c.parts.item-index c.parts-test.false
     ∙ append-nil r.globals.items)
+
+pub returns-clause-labelled : goal.returns-clause-labelled
+returns-clause-labelled c =
+    let r = c.parts.resolved in
+    sym (parts_end (λ (ps : List PartTree). r.labels.labels ++ labels_of_functions (functions_in ps)) part_view c.parts-parts.result.now c.parts.item-index c.parts-test.false
+    ∙ append-nil r.labels.labels)
+    ∙ c.parts.invariant.labelled
+    ∙ ap (λ (xs : List Item). labels_of_functions (functions_at xs)) c.parts-parts.ensures

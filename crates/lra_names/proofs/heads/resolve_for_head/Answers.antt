@@ -1,6 +1,8 @@
-use Rattle.std.proofs.Common.{refl}
+use Rattle.std.proofs.Common.{refl, option_map, ◌∙◌}
+use Rattle.lra_tree.specs.Views.{init_view, assign_view}
 use Rattle.lra_names.proofs.Telling.{tells_front, tells_behind}
 use Rattle.lra_names.proofs.Loops.{wanting_told, first_told, second_told, both_clean}
+use Rattle.lra_names.proofs.LabellingLaws.{begun, fronted}
 use Rattle.lra_names.proofs.heads.resolve_for_head.Goals as goal
 
 pub returns-in_err-label-clause-told : goal.returns-in_err-label-clause-told
@@ -26,3 +28,23 @@ returns-clause-told c =
     both_clean _ _ _ refl
     (both_clean _ _ _ refl c.in_ok-init.ensures.told (rw c.in_ok-init.ensures.entered at c.in_ok-cond.ensures.told))
     (rw c.in_ok-init.ensures.entered at c.in_ok-step.ensures.told)
+
+pub returns-clause-labelled : goal.returns-clause-labelled
+returns-clause-labelled c = (
+    fronted c.args.labels.now c.relist.new.self c.resolve_step.new.labels c.args.rounds.now.place (init_view c.args.rounds.now.init.now)
+    (option_map assign_view c.args.rounds.now.step.now)
+    (begun c.args.labels.now c.add.new.self c.resolve_init.new.labels c.relist.new.self c.args.rounds.now.place (init_view c.args.rounds.now.init.now)
+    c.in_ok-label.ensures.adds c.in_ok-init.ensures.labelled c.in_ok-init.ensures.lives
+    (λ front rest l is number. c.relist.ensures.labels front rest l is (c.in_ok-label.ensures.number ∙ number)) c.relist.ensures.live)
+    c.in_ok-step.ensures.adds
+    ).0
+
+pub returns-clause-lives : goal.returns-clause-lives
+returns-clause-lives c = (
+    fronted c.args.labels.now c.relist.new.self c.resolve_step.new.labels c.args.rounds.now.place (init_view c.args.rounds.now.init.now)
+    (option_map assign_view c.args.rounds.now.step.now)
+    (begun c.args.labels.now c.add.new.self c.resolve_init.new.labels c.relist.new.self c.args.rounds.now.place (init_view c.args.rounds.now.init.now)
+    c.in_ok-label.ensures.adds c.in_ok-init.ensures.labelled c.in_ok-init.ensures.lives
+    (λ front rest l is number. c.relist.ensures.labels front rest l is (c.in_ok-label.ensures.number ∙ number)) c.relist.ensures.live)
+    c.in_ok-step.ensures.adds
+    ).1

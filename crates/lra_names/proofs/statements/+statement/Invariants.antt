@@ -11,16 +11,18 @@ use Rattle.lra_meaning.specs.Resolve.{resolve_items, items_count}
 use Rattle.lra_names.specs.Calls.{functions_at}
 use Rattle.lra_names.specs.Scopes.{Extends}
 use Rattle.lra_names.specs.Statements.{around_of, followed}
+use Rattle.lra_names.proofs.LabellingLaws.{Reaches}
 use Rattle.lra_names.proofs.statements.+statement.Given as goal
 
 abbrev pub invariant-resolve_items-items : goal.invariant-resolve_items-items
 invariant-resolve_items-items l = record {
   clean : items_faults (around_of l.around) l.fn.scope (items_of (map item_view l.item-items))
       ≡ items_faults (around_of l.around) l.scope (items_of (map item_view (drop l.item-index l.item-items)));
-  found : resolve_items (functions_at l.around.functions.now) l.fn.scope l.fn.next (items_of (map item_view l.item-items))
-      ≡ followed (map program_item_view l.items.items) (resolve_items (functions_at l.around.functions.now) l.scope l.next (items_of (map item_view (drop l.item-index l.item-items))));
+  found : resolve_items (functions_at l.around.functions.now) l.fn.scope l.fn.labels.next (items_of (map item_view l.item-items))
+      ≡ followed (map program_item_view l.items.items) (resolve_items (functions_at l.around.functions.now) l.scope l.labels.next (items_of (map item_view (drop l.item-index l.item-items))));
   extended : Extends l.fn.scope l.scope;
-  counted : l.next + items_count (items_of (map item_view (drop l.item-index l.item-items))) ≡ l.fn.next + items_count (items_of (map item_view l.item-items));
+  counted : l.labels.next + items_count (items_of (map item_view (drop l.item-index l.item-items))) ≡ l.fn.labels.next + items_count (items_of (map item_view l.item-items));
+  reaches : Reaches l.fn.labels l.labels (items_of (map item_view l.item-items)) (items_of (map item_view (drop l.item-index l.item-items)));
 }
 
 abbrev pub decreases-add_item : goal.decreases-add_item

@@ -1,0 +1,12 @@
+use Rattle.std.proofs.Common.{◌<◌, length, subst, sym}
+use Rattle.lra_meaning.specs.LabelTable.{Listed}
+use Rattle.lra_meaning.proofs.NameLists.{added_invariant}
+use Rattle.lra_meaning.proofs.labels.Labels.add.Goals as goal
+
+pub invariant_of-self-2 : goal.invariant_of-self-2
+invariant_of-self-2 c = (
+  c.self.invariant.0,
+  added_invariant c.self.inside.entries.items c.self.inside.labels.items c.push.new.self.items _ c.in_ok-push.ensures.items c.self.invariant.1
+      (subst (λ (v : Listed). c.args.live < length v.lists) (sym c.self.view_is) c.requires.live)
+      (subst (λ (v : Listed). c.args.live_in_call < length v.lists) (sym c.self.view_is) c.requires.live_in_call),
+)

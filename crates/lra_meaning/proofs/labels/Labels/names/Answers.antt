@@ -1,0 +1,13 @@
+use Rattle.std.proofs.Common.{◌<◌, ap, length, subst, sym, arith}
+use Rattle.lra_meaning.specs.declared.labels.Entry.{Entry}
+use Rattle.std.specs.Prelude.{List}
+use Rattle.lra_meaning.specs.LabelTable.{Listed}
+use Rattle.lra_meaning.proofs.NameLists.{lists_length}
+use Rattle.lra_meaning.proofs.labels.Labels.names.Goals as goal
+
+pub push_names-requires-clause-there : goal.push_names-requires-clause-there
+push_names-requires-clause-there c =
+    let below = subst (λ (v : Listed). c.args.number < length v.lists) (sym c.self.view_is) c.requires in
+    let n = lists_length c.self.inside.entries.items in
+    let e = ap (λ (x : List Entry). length x) c.deref.ensures.value in
+    omega (arith, below, n, e)

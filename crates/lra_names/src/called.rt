@@ -1,0 +1,56 @@
+//! Where a statement stands, and what it calls.
+
+ghost use Rattle.std.specs.Prelude.{◌≡◌, option_map, IfOk};
+ghost use Rattle.lra_tree.specs.Views.{source_view, assign_view};
+ghost use Rattle.lra_tree.specs.Labels.{assign_place, called_in, called_of, called_by};
+
+use lra_base::Place;
+use lra_tree::{Assign, Identifier, Source};
+use std::alloc::{AllocError, Global};
+
+/// The place of an assignment's first token.
+pub fn place_of(assign: &Assign) -> Place
+    ensures { result ≡ assign_place (assign_view assign.now) }
+{
+    match assign {
+        Assign::Set(x, _) => x.place,
+        Assign::Update(x, _, _) => x.place,
+        Assign::After(x, _) => x.place,
+        Assign::Before(place, _, _) => *place,
+    }
+}
+
+/// What the source calls.
+fn called_by(alloc: Global, source: &Source) -> Result<Option<Identifier>, AllocError>
+    ensures { IfOk result (λ c. c ≡ called_in (source_view source.now)) }
+{
+    Ok(match source {
+        Source::Value(_) => None,
+        Source::Result(call) => Some(call.name.copy(alloc)?),
+    })
+}
+
+/// What the source calls, if there is one.
+pub fn called_by_given(
+    alloc: Global,
+    source: &Option<Source>,
+) -> Result<Option<Identifier>, AllocError>
+    ensures { IfOk result (λ c. c ≡ called_of (option_map source_view source.now)) }
+{
+    match source {
+        None => Ok(None),
+        Some(source) => called_by(alloc, source),
+    }
+}
+
+/// What the assignment calls.
+pub fn called_by_assign(alloc: Global, assign: &Assign) -> Result<Option<Identifier>, AllocError>
+    ensures { IfOk result (λ c. c ≡ called_by (assign_view assign.now)) }
+{
+    match assign {
+        Assign::Set(_, source) => called_by(alloc, source),
+        Assign::Update(_, _, _) => Ok(None),
+        Assign::After(_, _) => Ok(None),
+        Assign::Before(_, _, _) => Ok(None),
+    }
+}
