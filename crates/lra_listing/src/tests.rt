@@ -1,7 +1,7 @@
 //! A worked report.
 
 use crate::listing::{list_point, list_verdict, names_of_globals};
-use lra_base::{Comparison, Domain, Options, Place};
+use lra_base::{Domain, Options, Place};
 use lra_meaning::Labels;
 use lra_operations::{Path, Site};
 use lra_report::{Part, PointReport, Report, text};

@@ -5,13 +5,11 @@ use Rattle.lra_base.specs.declared.refusals.Refusal.{Refusal}
 use Rattle.lra_base.specs.declared.refusals.Place.{Place}
 use Rattle.lra_base.specs.declared.refusals.Cause.TheVariants.{Recursive}
 use Rattle.lra_tree.specs.Reach.{IsFirstRecursive, NotRecursive}
-use Rattle.lra_tree.specs.declared.labels.Label.{Label}
 use Rattle.lra_tree.specs.Trees.{FileTree}
 use Rattle.lra_program.specs.Program.{Program}
 use Rattle.lra_operations.specs.Graph.{Node}
 use Rattle.lra_program.specs.Sites.{Site, events_of, sites_of}
 use Rattle.lra_tree.specs.Labels.{Labelled, labels_of}
-use Rattle.lra_tree.specs.Walk.{told, walked}
 use Rattle.lra_meaning.specs.Resolve.{resolve}
 use Rattle.lra_meaning.specs.NameFaults.{name_faults}
 use Rattle.lra_operations.specs.Agree.{IsGraph, Agrees}
@@ -89,11 +87,10 @@ pub limit_passed : (P : Limit → Type 0) (e : GraphError) (x : Limit) → e ≡
 limit_passed P e x is h = subst (λ (y : GraphError). OnError y P) is h
 
 -- a tree whose program passes a limit
-pub limit_refused : (t : FileTree) (P : Program) (x : Limit) (r : Refusal) (labels : List Label) → P ≡ resolve t → name_faults t ≡ [] → NotRecursive t
-    → ((ls : List Labelled) → limit_fault ls 0 (events_of P) ≡ Some (refusal_of ls x)) → labels ≡ walked t → ((ls : List Labelled) → labels ≡ map told ls → r ≡ refusal_of ls x)
-    → RefusesTree t r.cause r.place
-limit_refused t P x r labels is names straight passed walk told_by =
-    let same : r ≡ refusal_of (labels_of t) x = told_by (labels_of t) walk in
+pub limit_refused : (t : FileTree) (P : Program) (x : Limit) (r : Refusal) (labels : List Labelled) → P ≡ resolve t → name_faults t ≡ [] → NotRecursive t
+    → ((ls : List Labelled) → limit_fault ls 0 (events_of P) ≡ Some (refusal_of ls x)) → labels ≡ labels_of t → r ≡ refusal_of labels x → RefusesTree t r.cause r.place
+limit_refused t P x r labels is names straight passed table told_by =
+    let same : r ≡ refusal_of (labels_of t) x = told_by ∙ ap (λ (ls : List Labelled). refusal_of ls x) table in
     let there : limit_fault (labels_of t) 0 (events_of (resolve t)) ≡ Some (refusal_of (labels_of t) x) =
     subst (λ (Q : Program). limit_fault (labels_of t) 0 (events_of Q) ≡ Some (refusal_of (labels_of t) x)) is (passed (labels_of t)) in
     past_limit r names straight (there ∙ ap Some (sym same))

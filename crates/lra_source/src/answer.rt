@@ -3,6 +3,7 @@
 ghost use Rattle.std.specs.Prelude.{◌≡◌, ◌≢◌, ◌≤◌, ◌<◌, ◌+◌, ◌^◌, [], length, map, IfOk};
 ghost use Rattle.lra_tree.specs.Views.{tree_view};
 ghost use Rattle.lra_operations.specs.GraphViews.{node_view, site_view};
+ghost use Rattle.lra_tree.specs.Labels.{labels_of};
 ghost use Rattle.lra_meaning.specs.NameFaults.{name_faults};
 ghost use Rattle.lra_meaning.specs.Resolve.{resolve};
 ghost use Rattle.lra_program.specs.WellFormed.{IsWellFormed};
@@ -15,14 +16,15 @@ ghost use Rattle.lra_source.specs.Shown.{shown_state, ShowsRows};
 ghost use Rattle.lra_source.specs.Stages.{HasGraph, IsToldOf};
 
 use crate::error::SourceError;
-use crate::program::{check_calls, graph_of, program_of};
+use crate::program::{graph_of, program_of};
 use crate::reading::read_tree;
 use crate::states::states_of;
 use lra_base::Options;
 use lra_box::Boxes;
 use lra_domain::Domain;
 use lra_iter::analyse;
-use lra_listing::list;
+use lra_listing::{Outline, list};
+use lra_meaning::Labels;
 use lra_oct::Octagon;
 use lra_operations::Graph;
 use lra_report::Report;
@@ -34,12 +36,14 @@ fn report_graph<D: Domain>(
     alloc: Global,
     options: Options,
     tree: &Tree,
+    labels: &Labels,
     globals: &[i64],
     graph: &Graph,
 ) -> Result<Report, AllocError>
     requires parts { 1 ≤ options.parts }
     requires shows { ShowsRows D.meaning options.domain }
     requires graph { HasGraph (tree_view tree.now) (node_view graph.now.tree) (map site_view graph.now.sites.items) }
+    requires labels { labels.now.labels ≡ labels_of (tree_view tree.now) }
     requires globals { (resolve (tree_view tree.now)).globals ≡ globals.now }
     ensures { IfOk result (λ r. IsToldOf D.meaning (shown_state D.meaning) options.domain options
         (tree_view tree.now) (report_of r)) }
@@ -47,10 +51,11 @@ fn report_graph<D: Domain>(
     let solution = analyse::<D>(alloc, &options, globals, graph)?;
     let states = states_of(alloc, &solution.values)?;
     let sites = graph.sites.as_slice();
+    let outline = Outline { labels, sites };
     let report = list(
         alloc,
         tree,
-        sites,
+        &outline,
         options,
         states,
         &solution.verdicts,
@@ -73,10 +78,17 @@ fn report_tree<D: Domain>(
         (tree_view tree.now) (report_of r)) }
     ensures refused { IfRefused result (λ r. RefusesTree (tree_view tree.now) r.cause r.place) }
 {
-    let program = program_of(alloc, tree)?;
-    check_calls(alloc, tree)?;
-    let graph = graph_of(alloc, tree, &program)?;
-    Ok(report_graph::<D>(alloc, options, tree, &program.globals, &graph)?)
+    let resolution = program_of(alloc, tree)?;
+    let graph = graph_of(alloc, tree, &resolution)?;
+    let labels = &resolution.labels;
+    Ok(report_graph::<D>(
+        alloc,
+        options,
+        tree,
+        labels,
+        &resolution.program.globals,
+        &graph,
+    )?)
 }
 
 /// The report of a source over a domain that shows its values by their rows, or its one refusal.

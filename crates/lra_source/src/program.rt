@@ -7,6 +7,7 @@ ghost use Rattle.lra_operations.specs.GraphViews.{node_view, site_view};
 ghost use Rattle.lra_meaning.specs.NameFaults.{name_faults};
 ghost use Rattle.lra_meaning.specs.Resolve.{resolve};
 ghost use Rattle.lra_program.specs.WellFormed.{IsWellFormed};
+ghost use Rattle.lra_tree.specs.Labels.{labels_of};
 ghost use Rattle.lra_tree.specs.Reach.{NotRecursive};
 ghost use Rattle.lra_meaning.specs.Refuse.{RefusesTree};
 ghost use Rattle.lra_source.specs.Answers.{IfRefused};
@@ -16,21 +17,21 @@ use crate::error::SourceError;
 use lra_base::{Cause, Refusal};
 use lra_calls::first_recursive;
 use lra_graph::{GraphError, build, refusal};
-use lra_names::{NamesError, resolve};
+use lra_names::{NamesError, Resolution, resolve};
 use lra_operations::Graph;
-use lra_program::Program;
-use lra_tree::{Tree, walk};
+use lra_tree::Tree;
 use std::alloc::Global;
 
-/// The program of a source without faults of names, or the first such fault.
+/// The program of a source without faults of names, and the table of its labels; or the first such fault.
 #[tactic(auto, using(crate::proofs::StageSteps::naming))]
-pub fn program_of(alloc: Global, tree: &Tree) -> Result<Program, SourceError>
+pub fn program_of(alloc: Global, tree: &Tree) -> Result<Resolution, SourceError>
     ensures clean { OnOk result (name_faults (tree_view tree.now) ≡ []) }
-    ensures found { IfOk result (λ p. program_view p ≡ resolve (tree_view tree.now)) }
+    ensures found { IfOk result (λ r. program_view r.program ≡ resolve (tree_view tree.now)) }
+    ensures labelled { IfOk result (λ r. r.labels.labels ≡ labels_of (tree_view tree.now)) }
     ensures refused { IfRefused result (λ r. RefusesTree (tree_view tree.now) r.cause r.place) }
 {
     match resolve(alloc, tree) {
-        Ok(program) => Ok(program),
+        Ok(resolution) => Ok(resolution),
         Err(NamesError::Refused(refusal)) => Err(SourceError::Refused(refusal)),
         Err(NamesError::Memory) => Err(SourceError::Memory),
     }
@@ -38,7 +39,7 @@ pub fn program_of(alloc: Global, tree: &Tree) -> Result<Program, SourceError>
 
 /// That no function reaches itself by calls, or the refusal of the first call by which one does.
 #[tactic(auto, using(crate::proofs::StageSteps::recursing))]
-pub fn check_calls(alloc: Global, tree: &Tree) -> Result<(), SourceError>
+fn check_calls(alloc: Global, tree: &Tree) -> Result<(), SourceError>
     requires clean { name_faults (tree_view tree.now) ≡ [] }
     ensures straight { OnOk result (NotRecursive (tree_view tree.now)) }
     ensures refused { IfRefused result (λ r. RefusesTree (tree_view tree.now) r.cause r.place) }
@@ -52,20 +53,21 @@ pub fn check_calls(alloc: Global, tree: &Tree) -> Result<(), SourceError>
     }
 }
 
-/// The tree of operations of a program and its points, or the refusal for the first limit that is passed.
-pub fn graph_of(alloc: Global, tree: &Tree, program: &Program) -> Result<Graph, SourceError>
-    requires program { program_view program.now ≡ resolve (tree_view tree.now) }
+/// The tree of operations of a program without recursion and its points; or the refusal for its first recursive call, or
+/// for the first limit that it passes.
+pub fn graph_of(alloc: Global, tree: &Tree, resolution: &Resolution) -> Result<Graph, SourceError>
+    requires program { program_view resolution.now.program ≡ resolve (tree_view tree.now) }
+    requires labels { resolution.now.labels.labels ≡ labels_of (tree_view tree.now) }
     requires clean { name_faults (tree_view tree.now) ≡ [] }
-    requires straight { NotRecursive (tree_view tree.now) }
     requires well { IsWellFormed (resolve (tree_view tree.now)) }
     ensures graph { IfOk result (λ g. HasGraph (tree_view tree.now) (node_view g.tree) (map site_view g.sites.items)) }
     ensures refused { IfRefused result (λ r. RefusesTree (tree_view tree.now) r.cause r.place) }
 {
-    match build(alloc, program) {
+    check_calls(alloc, tree)?;
+    match build(alloc, &resolution.program) {
         Ok(graph) => Ok(graph),
         Err(GraphError::Passed(limit)) => {
-            let labels = walk(alloc, tree)?;
-            Err(SourceError::Refused(refusal(limit, &labels)))
+            Err(SourceError::Refused(refusal(limit, &resolution.labels)))
         }
         Err(GraphError::Memory) => Err(SourceError::Memory),
     }

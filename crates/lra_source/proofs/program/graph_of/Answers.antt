@@ -12,15 +12,14 @@ use Rattle.lra_source.proofs.program.graph_of.Goals as goal
 pub returns-in-Ok-clause-graph : goal.returns-in-Ok-clause-graph
 returns-in-Ok-clause-graph c =
     let b = c.in-Ok.ensures in
-    has_graph (tree_view c.args.tree.now) (program_view c.args.program.now) (node_view c.in-Ok.graph.tree)
-    (map site_view c.in-Ok.graph.sites.items) c.requires.program c.requires.clean c.requires.straight c.requires.well
+    has_graph (tree_view c.args.tree.now) (program_view c.args.resolution.now.program) (node_view c.in-Ok.graph.tree)
+    (map site_view c.in-Ok.graph.sites.items) c.requires.program c.requires.clean c.in_ok-check_calls.ensures.straight c.requires.well
     b.graph b.agrees b.sites b.few b.within
 
-pub returns-in_ok-labels-in-Err-Passed-clause-refused : goal.returns-in_ok-labels-in-Err-Passed-clause-refused
-returns-in_ok-labels-in-Err-Passed-clause-refused c =
+pub returns-in-Err-Passed-clause-refused : goal.returns-in-Err-Passed-clause-refused
+returns-in-Err-Passed-clause-refused c =
     let x = c.in-Err-Passed.limit in
-    let labels = c.in_ok-labels-in-Err-Passed.labels.items in
-    limit_refused (tree_view c.args.tree.now) (program_view c.args.program.now) x c.refusal.result labels c.requires.program c.requires.clean c.requires.straight
-    (limit_passed (λ y. (ls : List Labelled) → limit_fault ls 0 (events_of (program_view c.args.program.now)) ≡ Some (refusal_of ls y)) c.in-Err-Passed.field-0 x c.in-Err-Passed.field-0-is
-    c.in-Err-Passed.ensures.limit)
-    c.in_ok-labels-in-Err-Passed.ensures (λ ls same. c.refusal.ensures ls (c.deref.ensures.value ∙ same))
+    let P = program_view c.args.resolution.now.program in
+    limit_refused (tree_view c.args.tree.now) P x c.refusal.result c.args.resolution.now.labels.labels c.requires.program c.requires.clean c.in_ok-check_calls.ensures.straight
+    (limit_passed (λ y. (ls : List Labelled) → limit_fault ls 0 (events_of P) ≡ Some (refusal_of ls y)) c.in-Err-Passed.field-0 x c.in-Err-Passed.field-0-is
+    c.in-Err-Passed.ensures.limit) c.requires.labels c.refusal.ensures
