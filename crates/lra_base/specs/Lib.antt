@@ -1,3 +1,5 @@
 pub mod Operators
 pub mod OperatorViews
 pub mod DomainNames
+pub mod Causes
+pub mod Refused

@@ -2,10 +2,12 @@
 //! analysis.
 #![tactic(auto)]
 
+mod error;
 mod operators;
 mod options;
 mod refusals;
 
+pub use error::SourceError;
 pub use operators::{Comparison, Operator};
 pub use options::{Domain, Options};
 pub use refusals::{Cause, Place, Refusal};

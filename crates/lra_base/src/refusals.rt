@@ -38,6 +38,53 @@ pub enum Cause {
     TooManyPoints,
 }
 
+impl Cause {
+    ghost use Rattle.std.specs.Prelude.{◌≡◌};
+    ghost use Rattle.lra_base.specs.Causes.{cause_number, cause_name};
+
+    /// Its number, from 1.
+    pub fn number(self) -> u32
+        ensures { result ≡ cause_number self }
+    {
+        match self {
+            Cause::TooLong => 1,
+            Cause::BadByte => 2,
+            Cause::BadLiteral => 3,
+            Cause::Syntax => 4,
+            Cause::TooDeep => 5,
+            Cause::NoMain => 6,
+            Cause::UnknownName => 7,
+            Cause::DuplicateName => 8,
+            Cause::BadCall => 9,
+            Cause::Misplaced => 10,
+            Cause::Recursive => 11,
+            Cause::TooManyVariables => 12,
+            Cause::TooManyPoints => 13,
+        }
+    }
+
+    /// Its name.
+    pub fn name(self) -> &'static str
+        ensures { result.now ≡ cause_name self }
+    {
+        match self {
+            Cause::TooLong => "TooLong",
+            Cause::BadByte => "BadByte",
+            Cause::BadLiteral => "BadLiteral",
+            Cause::Syntax => "Syntax",
+            Cause::TooDeep => "TooDeep",
+            Cause::NoMain => "NoMain",
+            Cause::UnknownName => "UnknownName",
+            Cause::DuplicateName => "DuplicateName",
+            Cause::BadCall => "BadCall",
+            Cause::Misplaced => "Misplaced",
+            Cause::Recursive => "Recursive",
+            Cause::TooManyVariables => "TooManyVariables",
+            Cause::TooManyPoints => "TooManyPoints",
+        }
+    }
+}
+
 /// The first fault of a source, and where it is.
 #[derive(Clone, Copy, PartialEq, Eq, Debug)]
 pub struct Refusal {

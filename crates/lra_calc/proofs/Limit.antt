@@ -1,13 +1,8 @@
 -- The answer to a script that is too long, and to one that is not. The limit is a variable here, since it is large.
 use Rattle.std.proofs.Common.{◌≡◌, ◌<◌, ◌≤◌, ℕ, Bool, true, false, List, length, take, refl, ap, sym, subst, ◌∙◌, arith, nat_lt, Result, Err}
 use Rattle.std.proofs.lemmas.Bool.Decides.{nat_tests}
-use Rattle.std.proofs.lemmas.List.{length-take}
 use Rattle.lra_tree.specs.Tokens.{place_behind, greatest_length}
 use Rattle.lra_calc.specs.Script.{Refusal, TooLong, Runs, TooLongOr, AnswersTo}
-
-pub limit_is : greatest_length ≡ 65536
-unfolding greatest_length
-limit_is = refl
 
 above : (m n : ℕ) → m < n → nat_lt m n ≡ true
 above m n h = grind (arith, nat_tests)
@@ -30,6 +25,3 @@ long_answer bytes answer h a = is_long (nat_lt greatest_length (length bytes)) b
 
 pub answer_not_long : (n : ℕ) (bytes : List ℕ) (answer : Result (List ℕ) Refusal) → greatest_length ≡ n → length bytes ≤ n → Runs bytes answer → AnswersTo bytes answer
 answer_not_long n bytes answer e h r = subst (λ (b : Bool). TooLongOr b bytes answer) (sym (ap (λ (k : ℕ). nat_lt k (length bytes)) e ∙ not_above n (length bytes) h)) r
-
-pub taken : (n : ℕ) (bytes : List ℕ) → n < length bytes → n ≡ length (take n bytes)
-taken n bytes h = omega (arith, length-take n bytes)

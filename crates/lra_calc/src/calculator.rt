@@ -4,7 +4,6 @@ ghost use Rattle.std.specs.Prelude.{List, ℕ, ℤ, Result, None, ◌≡◌, ◌
 ghost use Rattle.lra_linear.specs.Points.{SameSet};
 ghost use Rattle.lra_linear.specs.Descriptions.{Con, Gen};
 ghost use Rattle.lra_linear.specs.Polyhedra.{Polyhedron, IsPolyhedron};
-ghost use Rattle.lra_tree.specs.Tokens as place;
 ghost use Rattle.lra_calc.specs.ScriptText as text;
 ghost use Rattle.lra_calc.specs.LineForms as form;
 ghost use Rattle.lra_calc.specs.Script as spec;
@@ -14,30 +13,9 @@ use crate::forms::{Line, read_line};
 use crate::pieces::{is_skipped, raw_lines, without_return, words};
 use crate::refusal::{CalcError, CalcRefusal, Fault, LineError};
 use crate::session::Session;
-use lra_base::Place;
+use lra_tree::{GREATEST_LENGTH, place_behind};
 use std::alloc::{AllocError, Global};
 use std::fmt::Write;
-
-/// The most bytes of a script.
-const MOST_BYTES: usize = 65_536;
-
-/// The place of the byte behind these.
-fn place_behind(bytes: &[u8]) -> Place
-    requires { length bytes.now < 2 ^ 31 }
-    ensures { result ≡ place.place_behind bytes.now }
-{
-    let mut line = 1;
-    let mut column = 1;
-    for byte in bytes {
-        if *byte == b'\n' {
-            line += 1;
-            column = 1;
-        } else {
-            column += 1;
-        }
-    }
-    Place { line, column }
-}
 
 /// Carries out what a line says: the first gives the dimensions.
 fn carry_out(
@@ -159,8 +137,8 @@ pub fn script(alloc: Global, bytes: &[u8]) -> Result<Vec<u8>, CalcError>
     // What `show` prints describes the same points twice.
     ensures both { (p : Polyhedron) → IsPolyhedron p → SameSet p.dims (Con p.rows) (Gen p.generators) }
 {
-    if bytes.len() > MOST_BYTES {
-        let place = place_behind(&bytes[..MOST_BYTES]);
+    if bytes.len() > GREATEST_LENGTH {
+        let place = place_behind(&bytes[..GREATEST_LENGTH]);
         return Err(CalcError::Refused(CalcRefusal::TooLong(place)));
     }
     run(alloc, bytes)

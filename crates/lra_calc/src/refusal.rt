@@ -2,11 +2,12 @@
 
 ghost use Rattle.std.specs.Prelude.{◌≡◌, ◌++◌, codes, IfOk, OnOk, string_bytes};
 ghost use Rattle.std.specs.Fmt.{decimal};
-ghost use Rattle.lra_findings.specs.ReportText.{text_line, place_text};
+ghost use Rattle.lra_findings.specs.ReportText.{text_line};
 ghost use Rattle.lra_calc.specs.Script as script;
 ghost use Rattle.lra_calc.specs.Views.{fault_of, refusal_of};
 
-use lra_base::Place;
+use lra_base::{Cause, Place, Refusal};
+use lra_report::refusal_text;
 use std::alloc::{AllocError, AllocFailed, Global};
 use std::fmt::Write;
 
@@ -52,15 +53,6 @@ impl Fault {
     }
 }
 
-fn push_too_long(text: &mut String, cause: u32, place: Place) -> Result<(), AllocError>
-    ensures { OnOk result (string_bytes text.new ≡ string_bytes text.old
-        ++ text_line (codes "refused " ++ decimal cause ++ codes " " ++ codes "TooLong"
-        ++ codes " at " ++ place_text place)) }
-{
-    let Place { line, column } = place;
-    writeln!(text, "refused {cause} TooLong at {line}:{column}")
-}
-
 fn push_line(text: &mut String, number: usize, fault: &str) -> Result<(), AllocError>
     ensures { OnOk result (string_bytes text.new ≡ string_bytes text.old
         ++ text_line (codes "refused line " ++ decimal number ++ codes " " ++ fault.now)) }
@@ -74,15 +66,24 @@ impl CalcRefusal {
     pub fn text(&self, alloc: Global) -> Result<String, AllocError>
         ensures { IfOk result (λ text. string_bytes text ≡ script.refused_text (refusal_of self.now)) }
     {
-        let mut text = String::new(alloc);
         match self {
-            CalcRefusal::TooLong(place) => push_too_long(&mut text, 1, *place)?,
+            CalcRefusal::TooLong(place) => {
+                let cause = Cause::TooLong;
+                refusal_text(
+                    alloc,
+                    Refusal {
+                        cause,
+                        place: *place,
+                    },
+                )
+            }
             CalcRefusal::Line { number, fault } => {
                 let fault = fault.text(alloc)?;
+                let mut text = String::new(alloc);
                 push_line(&mut text, *number, fault.as_str())?;
+                Ok(text)
             }
         }
-        Ok(text)
     }
 }
 

@@ -77,13 +77,7 @@ pub fn analyse<D: Domain>(
 {
     let mut value = D::universe(alloc, 0, options.parts)?;
     let exactness = append_globals(alloc, globals, &mut value)?;
-    let outcome = pass(
-        alloc,
-        options,
-        &graph.tree,
-        value,
-        note(0, exactness, None),
-    )?;
+    let outcome = pass(alloc, options, &graph.tree, value, note(0, exactness, None))?;
     let solution = solution_of(alloc, &graph.sites, outcome)?;
     Ok(solution)
 }

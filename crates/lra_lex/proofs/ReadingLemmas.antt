@@ -5,14 +5,15 @@ use Rattle.lra_base.specs.declared.refusals.Place.{Place}
 use Rattle.lra_base.specs.declared.refusals.Cause.{Cause}
 use Rattle.lra_base.specs.declared.refusals.Cause.TheVariants.{BadByte, BadLiteral}
 use Rattle.lra_base.specs.declared.refusals.Refusal.{Refusal}
+use Rattle.lra_base.specs.Refused.{IfRefusal}
 use Rattle.lra_tree.specs.declared.tokens.Kind.{Kind}
 use Rattle.lra_tree.specs.declared.tokens.Token.{Token}
 use Rattle.lra_tree.specs.Tokens.{IsGap, NoGap, IsToken, Piece, gap, token, bytes_of, tokens_of, IsReading, IsFaulty, place_from, place_behind}
 use Rattle.lra_lex.specs.Places.{fresh_behind}
 use Rattle.lra_lex.specs.Front.{HasNoGap}
-use Rattle.lra_lex.specs.Read.{BeginsToken, HasFault, BeginsFound, FaultsAt, found_tokens, IsReadTo, IfRefusal}
-use Rattle.lra_lex.specs.declared.lexer.LexError.{LexError}
-use Rattle.lra_lex.specs.declared.lexer.LexError.TheVariants.{Refused, Memory}
+use Rattle.lra_lex.specs.Read.{BeginsToken, HasFault, BeginsFound, FaultsAt, found_tokens, IsReadTo}
+use Rattle.lra_base.specs.declared.error.SourceError.{SourceError}
+use Rattle.lra_base.specs.declared.error.SourceError.TheVariants.{Refused, Memory}
 use Rattle.lra_lex.proofs.LineLemmas.{place_from-append, fresh_behind-append, within}
 
 -- what was found -----------------------------------------------------------------------------------------------------------
@@ -32,7 +33,7 @@ faulty _ before rest l n h = absurd h
 pub fault_at : (place : Place) (fresh : Bool) (rest : List ℕ) (r : Refusal) → 0 < length rest → HasNoGap fresh rest → (r.place ≡ place) × HasFault r.cause rest → FaultsAt place fresh rest r
 fault_at place fresh rest r l n h = record { at_place = h.0; faulty = λ before f. faulty r.cause before rest l (n.no_gap before f) h.1 }
 
-pub refusal_at : (place : Place) (fresh : Bool) (rest : List ℕ) (e : LexError) → 0 < length rest → HasNoGap fresh rest → IfRefusal (λ r. (r.place ≡ place) × HasFault r.cause rest) e →
+pub refusal_at : (place : Place) (fresh : Bool) (rest : List ℕ) (e : SourceError) → 0 < length rest → HasNoGap fresh rest → IfRefusal (λ r. (r.place ≡ place) × HasFault r.cause rest) e →
     IfRefusal (FaultsAt place fresh rest) e
 refusal_at place fresh rest (Refused r) l n h = fault_at place fresh rest r l n h
 refusal_at place fresh rest Memory l n h = tt

@@ -8,19 +8,8 @@ use Rattle.lra_tree.specs.declared.tokens.Kind.{Kind}
 use Rattle.lra_tree.specs.declared.tokens.Token.{Token}
 use Rattle.lra_tree.specs.Lexeme.{is_number_word, IsLiteral, greatest_literal, Lexeme, SpellsToken}
 use Rattle.lra_tree.specs.Tokens.{IsGap, NoGap, IsLongest, IsFaulty, Piece, bytes_of, tokens_of, IsReading, place_behind}
-use Rattle.lra_lex.specs.declared.lexer.LexError.{LexError}
-use Rattle.lra_lex.specs.declared.lexer.LexError.TheVariants.{Refused, Memory}
 use Rattle.lra_lex.specs.declared.lexer.Found.{Found}
 use Rattle.lra_lex.specs.Places.{fresh_behind}
-
--- a fact of the refusal, if one is answered
-abbrev pub IfRefusal : (Refusal → Type 0) → LexError → Type 0
-IfRefusal P (Refused r) = P r
-IfRefusal P Memory = Unit {0}
-
-abbrev pub IfRefused : {X : Type 0} → Result X LexError → (Refusal → Type 0) → Type 0
-IfRefused (Ok x) P = Unit {0}
-IfRefused (Err e) P = IfRefusal P e
 
 -- the first n bytes are the longest spelling there, of a token of this kind
 pub record BeginsToken (rest : List ℕ) (n : ℕ) (k : Kind) : Type 0 where

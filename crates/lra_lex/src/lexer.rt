@@ -2,48 +2,20 @@
 
 ghost use Rattle.std.specs.Prelude.{◌≡◌, ◌++◌, ◌+◌, ◌<◌, ◌^◌, false, length, slice_index, true, IfNone, IfOk, IfSome, OnOk};
 ghost use Rattle.lra_base.specs.declared.refusals.Cause.TheVariants.{BadByte, BadLiteral};
+ghost use Rattle.lra_base.specs.Refused.{IfRefused};
 ghost use Rattle.lra_tree.specs.Lexeme.{is_digit, is_letter, is_word, is_word_byte, IsUnclosed, SpellsToken};
 ghost use Rattle.lra_tree.specs.Tokens.{IsTokenFault, Lex, OneReading};
 ghost use Rattle.lra_lex.specs.Front.{opens_comment, operator_at};
-ghost use Rattle.lra_lex.specs.Read.{found_tokens, BeginsFound, BeginsToken, FaultsAt, HasFault, IfRefused};
+ghost use Rattle.lra_lex.specs.Read.{found_tokens, BeginsFound, BeginsToken, FaultsAt, HasFault};
 
 use crate::bytes::{is_digit, is_letter, word_length};
 use crate::gaps::gap;
 use crate::literals::literal;
 use crate::marks::{is_further_word, mark, spelling_of};
 use crate::spot::Spot;
-use lra_base::{Cause, Place, Refusal};
+use lra_base::{Cause, Place, Refusal, SourceError};
 use lra_tree::{Kind, Mark, Token, Word};
-use std::alloc::{AllocError, AllocFailed, Global};
-
-/// Why a source has no list of tokens.
-#[derive(Clone, Copy, PartialEq, Eq, Debug)]
-pub enum LexError {
-    /// Its first fault.
-    Refused(Refusal),
-    /// Memory ran out.
-    Memory,
-}
-
-impl From<AllocError> for LexError {
-    ghost use Rattle.lra_lex.specs.declared.lexer.LexError.TheVariants.{Memory};
-
-    ghost from_gives = { λ _ e. e ≡ Memory };
-
-    fn from(_: AllocError) -> Self {
-        LexError::Memory
-    }
-}
-
-impl<T: Drop> From<AllocFailed<T>> for LexError {
-    ghost use Rattle.lra_lex.specs.declared.lexer.LexError.TheVariants.{Memory};
-
-    ghost from_gives = { λ _ e. e ≡ Memory };
-
-    fn from(_: AllocFailed<T>) -> Self {
-        LexError::Memory
-    }
-}
+use std::alloc::{AllocError, Global};
 
 /// What stands at the front: a token of a kind, or a gap.
 #[derive(Drop)]
@@ -138,7 +110,7 @@ fn operator_token(rest: &[u8]) -> Option<(usize, Kind)>
 }
 
 /// The length and kind of the token at the front, where no gap is.
-fn token(alloc: Global, rest: &[u8], place: Place) -> Result<(usize, Kind), LexError>
+fn token(alloc: Global, rest: &[u8], place: Place) -> Result<(usize, Kind), SourceError>
     requires some { 0 < length rest.now }
     requires unclosed { opens_comment rest.now ≡ true → IsUnclosed rest.now }
     ensures found { IfOk result (λ t. BeginsToken rest.now t.0 t.1) }
@@ -151,7 +123,7 @@ fn token(alloc: Global, rest: &[u8], place: Place) -> Result<(usize, Kind), LexE
     if is_digit(first) {
         return match number_token(rest) {
             Some(token) => Ok(token),
-            None => Err(LexError::Refused(Refusal {
+            None => Err(SourceError::Refused(Refusal {
                 cause: Cause::BadLiteral,
                 place,
             })),
@@ -162,7 +134,7 @@ fn token(alloc: Global, rest: &[u8], place: Place) -> Result<(usize, Kind), LexE
     }
     match operator_token(rest) {
         Some(token) => Ok(token),
-        None => Err(LexError::Refused(Refusal {
+        None => Err(SourceError::Refused(Refusal {
             cause: Cause::BadByte,
             place,
         })),
@@ -170,7 +142,7 @@ fn token(alloc: Global, rest: &[u8], place: Place) -> Result<(usize, Kind), LexE
 }
 
 /// What stands at the front.
-fn find(alloc: Global, rest: &[u8], spot: Spot) -> Result<Found, LexError>
+fn find(alloc: Global, rest: &[u8], spot: Spot) -> Result<Found, SourceError>
     requires { 0 < length rest.now }
     ensures found { IfOk result (BeginsFound spot.fresh rest.now) }
     ensures refused { IfRefused result (FaultsAt spot.place spot.fresh rest.now) }
@@ -200,7 +172,7 @@ fn keep(tokens: &mut Vec<Token>, kind: Option<Kind>, place: Place) -> Result<(),
 /// The tokens of the source, each the longest spelling at its place, and the end behind its last byte; or its first
 /// fault.
 /// The time is linear in the source's length.
-pub fn tokens(alloc: Global, source: &[u8]) -> Result<Vec<Token>, LexError>
+pub fn tokens(alloc: Global, source: &[u8]) -> Result<Vec<Token>, SourceError>
     requires { length source.now + 1 < 2 ^ 32 }
     ensures found { IfOk result (λ v. Lex source.now v.items) }
     ensures refused { IfRefused result (λ r. IsTokenFault source.now r.cause r.place) }

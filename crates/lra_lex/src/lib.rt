@@ -11,8 +11,7 @@ mod literals;
 mod marks;
 mod spot;
 
-pub use lexer::{LexError, one_reading, tokens};
-pub use spot::place_behind;
+pub use lexer::{one_reading, tokens};
 
 #[cfg(test)]
 mod tests;

@@ -1,7 +1,7 @@
 //! Where a byte stands.
 
 ghost use Rattle.std.specs.Prelude.{◌≡◌, ◌+◌, ◌<◌, ◌^◌, length};
-ghost use Rattle.lra_tree.specs.Tokens.{place_behind, place_from};
+ghost use Rattle.lra_tree.specs.Tokens.{place_from};
 ghost use Rattle.lra_lex.specs.Places.{fresh_behind};
 
 use crate::bytes::is_space_or_tab;
@@ -40,16 +40,4 @@ impl Spot {
             fresh,
         }
     }
-}
-
-/// The place of the byte behind these, which begin a source.
-pub fn place_behind(bytes: &[u8]) -> Place
-    requires { length bytes.now + 1 < 2 ^ 32 }
-    ensures { result ≡ place_behind bytes.now }
-{
-    let first = Spot {
-        place: Place { line: 1, column: 1 },
-        fresh: true,
-    };
-    first.behind(bytes).place
 }

@@ -1,6 +1,7 @@
 //! Sources and their tokens, or their first fault, each with its place.
 
-use crate::{LexError, one_reading, tokens};
+use crate::{one_reading, tokens};
+use lra_base::SourceError;
 use lra_tree::Kind;
 use std::alloc::Global;
 use std::fmt::Write;
@@ -126,13 +127,13 @@ fn reading(rt: &impl Abort, alloc: Global, source: &[u8]) -> Result<String, Fail
                 write!(text, "@{line}:{column}")?;
             }
         }
-        Err(LexError::Refused(refusal)) => {
+        Err(SourceError::Refused(refusal)) => {
             let cause = refusal.cause;
             let line = refusal.place.line;
             let column = refusal.place.column;
             write!(text, "{cause:?}@{line}:{column}")?;
         }
-        Err(LexError::Memory) => text.push_str("memory")?,
+        Err(SourceError::Memory) => text.push_str("memory")?,
     }
     Ok(text)
 }

@@ -1,7 +1,7 @@
 -- How many labels the parts of statements have; how scopes are left; lists of items.
 use Rattle.std.proofs.Common.{◌≡◌, ℕ, suc, ◌+◌, List, [], ◌∷◌, ◌++◌, length, map, refl, sym, ap, ◌∙◌, append_assoc, append-nil, length-append, arith, Option, Some, None, option_map, rules, Vec, Box, Global, Result, Ok, Err}
 use Rattle.std.specs.Result.{IfOk, OnOk}
-use Rattle.lra_names.specs.declared.errors.NamesError.{NamesError}
+use Rattle.lra_base.specs.declared.error.SourceError.{SourceError}
 use Rattle.std.proofs.lemmas.List.{length-map, map-append, take-append-le}
 use Rattle.std.proofs.Math.Seq.{take-length}
 use Rattle.std.proofs.Math.Nat.{le-max_left, le-max_right}
@@ -181,31 +181,31 @@ for_is stmt at i c e b t is same =
     rw (is, v, same)
 
 -- what is told of a result, where a call is handed on
-pub kept_so : {T : Type 0} {P : Type 0} (r : Result T NamesError) → P → OnOk r P
+pub kept_so : {T : Type 0} {P : Type 0} (r : Result T SourceError) → P → OnOk r P
 kept_so (Ok v) h = h
 kept_so (Err e) h = tt {0}
 
-pub counted_so : {T : Type 0} (r : Result T NamesError) (n m k count : ℕ) → k ≡ n + count → OnOk r (m ≡ k) → OnOk r (m ≡ n + count)
+pub counted_so : {T : Type 0} (r : Result T SourceError) (n m k count : ℕ) → k ≡ n + count → OnOk r (m ≡ k) → OnOk r (m ≡ n + count)
 counted_so r n m k count e h = rw (sym e) h
 
-pub one_counted : {T : Type 0} (r : Result T NamesError) (n m count : ℕ) → count ≡ 1 → OnOk r (m ≡ suc n) → OnOk r (m ≡ n + count)
+pub one_counted : {T : Type 0} (r : Result T SourceError) (n m count : ℕ) → count ≡ 1 → OnOk r (m ≡ suc n) → OnOk r (m ≡ n + count)
 one_counted r n m count e h = counted_so r n m (suc n) count (omega (arith, e)) h
 
 -- what a statement means whose parts are there
 pub absent_is : view.stmt_view program_stmt.Absent ≡ program.absent
 absent_is = search (rules, the_lemmas)
 
-pub choice_found : (r : Result ProgramStmt NamesError) (n l : ℕ) (c d : program.Cond) (t u e f : program.Stmt)
+pub choice_found : (r : Result ProgramStmt SourceError) (n l : ℕ) (c d : program.Cond) (t u e f : program.Stmt)
     → IfOk r (λ s. view.stmt_view s ≡ choice l c t e) → l ≡ n → c ≡ d → t ≡ u → e ≡ f → IfOk r (λ s. view.stmt_view s ≡ choice n d u f)
 choice_found (Ok s) n l c d t u e f h p q v w = h ∙ rw (p, q, v, w)
 choice_found (Err x) n l c d t u e f h p q v w = tt {0}
 
-pub loop_found : (r : Result ProgramStmt NamesError) (n l : ℕ) (c d : program.Cond) (t u e f : program.Stmt)
+pub loop_found : (r : Result ProgramStmt SourceError) (n l : ℕ) (c d : program.Cond) (t u e f : program.Stmt)
     → IfOk r (λ s. view.stmt_view s ≡ loop_of l c t e) → l ≡ n → c ≡ d → t ≡ u → e ≡ f → IfOk r (λ s. view.stmt_view s ≡ loop_of n d u f)
 loop_found (Ok s) n l c d t u e f h p q v w = h ∙ rw (p, q, v, w)
 loop_found (Err x) n l c d t u e f h p q v w = tt {0}
 
-pub for_found : (r : Result ProgramStmt NamesError) (i j : program.BlockItems) (n l : ℕ) (c d : program.Cond) (t u e f : program.Stmt)
+pub for_found : (r : Result ProgramStmt SourceError) (i j : program.BlockItems) (n l : ℕ) (c d : program.Cond) (t u e f : program.Stmt)
     → IfOk r (λ s. view.stmt_view s ≡ for_of i (loop_of l c t e)) → i ≡ j → l ≡ n → c ≡ d → t ≡ u → e ≡ f
     → IfOk r (λ s. view.stmt_view s ≡ for_of j (loop_of n d u f))
 for_found (Ok s) i j n l c d t u e f h o p q v w = h ∙ rw (o, p, q, v, w)

@@ -2,18 +2,18 @@
 -- one, or that memory was wanting.
 use Rattle.std.specs.Prelude.{◌≡◌, List, [], ◌∷◌, Option, Some, None, Result, Ok, Err, ⊤}
 use Rattle.lra_base.specs.declared.refusals.Refusal.{Refusal}
-use Rattle.lra_names.specs.declared.errors.NamesError.{NamesError}
-use Rattle.lra_names.specs.declared.errors.NamesError.TheVariants.{Refused, Memory}
+use Rattle.lra_base.specs.declared.error.SourceError.{SourceError}
+use Rattle.lra_base.specs.declared.error.SourceError.TheVariants.{Refused, Memory}
 
 abbrev pub first_fault : List Refusal → Option Refusal
 first_fault [] = None
 first_fault (r ∷ rs) = Some r
 
 -- the error is the first of these faults, or wants memory
-abbrev pub Tells : List Refusal → NamesError → Type 0
+abbrev pub Tells : List Refusal → SourceError → Type 0
 Tells faults (Refused r) = first_fault faults ≡ Some r
 Tells faults Memory = ⊤
 
-abbrev pub TellsOf : {T : Type 0} → List Refusal → Result T NamesError → Type 0
+abbrev pub TellsOf : {T : Type 0} → List Refusal → Result T SourceError → Type 0
 TellsOf faults (Ok v) = faults ≡ []
 TellsOf faults (Err e) = Tells faults e

@@ -11,11 +11,11 @@ ghost use Rattle.lra_meaning.specs.Resolve.{variable, function_place, resolve_ex
 ghost use Rattle.lra_names.specs.Calls.{functions_at, argument_faults, resolve_argument};
 ghost use Rattle.lra_names.specs.Outcome.{TellsOf};
 
-use crate::errors::{NamesError, refuse};
+use crate::errors::refuse;
 use crate::expressions::{resolve_expr, resolve_variable};
 use crate::scopes::Scope;
 use crate::signatures::{Functions, Signature};
-use lra_base::{Cause, Operator};
+use lra_base::{Cause, Operator, SourceError};
 use lra_program::{Operation, Slot};
 use lra_tree::{Assign, Call, Expr, Identifier, Source, Step};
 use std::alloc::{AllocError, Global};
@@ -33,7 +33,7 @@ fn resolve_called(
     name: &Identifier,
     count: usize,
     used: bool,
-) -> Result<usize, NamesError>
+) -> Result<usize, SourceError>
     ensures told { TellsOf (called_faults (function_named (functions_at functions.now) name.now.word) name.now count
         used) result }
     ensures found { IfOk result (λ p. p ≡ function_place (functions_at functions.now) name.now.word) }
@@ -54,7 +54,7 @@ fn resolve_arguments(
     alloc: Global,
     scope: &Scope,
     arguments: &[Expr],
-) -> Result<Vec<lra_program::Expr>, NamesError>
+) -> Result<Vec<lra_program::Expr>, SourceError>
     ensures told { TellsOf (flat_map (argument_faults scope.now) arguments.now) result }
     ensures found { IfOk result (λ v. map expr_view v.items ≡ map (resolve_argument scope.now) arguments.now) }
 {
@@ -75,7 +75,7 @@ pub fn resolve_call(
     label: usize,
     call: &Call,
     used: bool,
-) -> Result<lra_program::Call, NamesError>
+) -> Result<lra_program::Call, SourceError>
     ensures told { TellsOf (call_faults (functions_at functions.now) scope.now (tree_call_view call.now) used) result }
     ensures found { IfOk result (λ c. call_view c ≡ resolve_call (functions_at functions.now) scope.now label
         (tree_call_view call.now)) }
@@ -95,7 +95,7 @@ pub fn resolve_source(
     scope: &Scope,
     label: usize,
     source: &Source,
-) -> Result<lra_program::Source, NamesError>
+) -> Result<lra_program::Source, SourceError>
     ensures told { TellsOf (source_faults (functions_at functions.now) scope.now (tree_source_view source.now)) result }
     ensures found { IfOk result (λ e. source_view e ≡ resolve_source (functions_at functions.now) scope.now label
         (tree_source_view source.now)) }
@@ -118,7 +118,7 @@ pub fn resolve_given(
     scope: &Scope,
     label: usize,
     source: &Option<Source>,
-) -> Result<Option<lra_program::Source>, NamesError>
+) -> Result<Option<lra_program::Source>, SourceError>
     ensures told { TellsOf (given_faults (functions_at functions.now) scope.now
         (option_map tree_source_view source.now)) result }
     ensures found { IfOk result (λ e. given_view e ≡ resolve_given (functions_at functions.now) scope.now label
@@ -180,7 +180,7 @@ fn resolve_set(
     label: usize,
     x: &Identifier,
     source: &Source,
-) -> Result<lra_program::Stmt, NamesError>
+) -> Result<lra_program::Stmt, SourceError>
     ensures told { TellsOf (use_faults scope.now x.now ++ source_faults (functions_at functions.now) scope.now
         (tree_source_view source.now)) result }
     ensures found { IfOk result (λ s. stmt_view s ≡ assign_stmt label (variable scope.now x.now)
@@ -200,7 +200,7 @@ fn resolve_update(
     x: &Identifier,
     operator: Operator,
     expr: &Expr,
-) -> Result<lra_program::Stmt, NamesError>
+) -> Result<lra_program::Stmt, SourceError>
     ensures told { TellsOf (use_faults scope.now x.now ++ expr_faults scope.now (tree_expr_view expr.now)) result }
     ensures found { IfOk result (λ s. stmt_view s ≡ assign_stmt label (variable scope.now x.now)
         (value (binary (operator_view operator) (read (variable scope.now x.now))
@@ -219,7 +219,7 @@ fn resolve_increment(
     label: usize,
     x: &Identifier,
     step: Step,
-) -> Result<lra_program::Stmt, NamesError>
+) -> Result<lra_program::Stmt, SourceError>
     ensures told { TellsOf (use_faults scope.now x.now) result }
     ensures found { IfOk result (λ s. stmt_view s ≡ assign_stmt label (variable scope.now x.now)
         (value (binary (step_operator (step_view step)) (read (variable scope.now x.now)) (literal 1)))) }
@@ -235,7 +235,7 @@ pub fn resolve_assign(
     scope: &Scope,
     label: usize,
     assign: &Assign,
-) -> Result<lra_program::Stmt, NamesError>
+) -> Result<lra_program::Stmt, SourceError>
     ensures told { TellsOf (assign_faults (functions_at functions.now) scope.now (assign_view assign.now)) result }
     ensures found { IfOk result (λ s. stmt_view s ≡ resolve_assign (functions_at functions.now) scope.now label
         (assign_view assign.now)) }

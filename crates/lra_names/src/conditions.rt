@@ -8,9 +8,9 @@ ghost use Rattle.lra_meaning.specs.Resolve.{resolve_negation, resolve_test, reso
 ghost use Rattle.lra_names.specs.Chains.{resolve_conjunction};
 ghost use Rattle.lra_names.specs.Outcome.{TellsOf};
 
-use crate::errors::NamesError;
 use crate::expressions::{resolve_expr, resolve_unary};
 use crate::scopes::Scope;
+use lra_base::SourceError;
 use lra_tree::{Cond, Conjunction, Negation, Test};
 use std::alloc::Global;
 
@@ -19,9 +19,9 @@ fn all(
     alloc: Global,
     first: lra_program::Cond,
     rest: Vec<lra_program::Cond>,
-) -> Result<lra_program::Cond, NamesError>
+) -> Result<lra_program::Cond, SourceError>
     ensures found { IfOk result (λ c. cond_view c ≡ all_of (cond_view first) (map cond_view rest.items)) }
-    ensures memory { IfErr result (λ e. e ≡ NamesError.Memory) }
+    ensures memory { IfErr result (λ e. e ≡ SourceError.Memory) }
 {
     if rest.is_empty() {
         Ok(first)
@@ -35,9 +35,9 @@ fn any(
     alloc: Global,
     first: lra_program::Cond,
     rest: Vec<lra_program::Cond>,
-) -> Result<lra_program::Cond, NamesError>
+) -> Result<lra_program::Cond, SourceError>
     ensures found { IfOk result (λ c. cond_view c ≡ any_of (cond_view first) (map cond_view rest.items)) }
-    ensures memory { IfErr result (λ e. e ≡ NamesError.Memory) }
+    ensures memory { IfErr result (λ e. e ≡ SourceError.Memory) }
 {
     if rest.is_empty() {
         Ok(first)
@@ -51,7 +51,7 @@ fn resolve_negation(
     alloc: Global,
     scope: &Scope,
     negation: &Negation,
-) -> Result<lra_program::Cond, NamesError>
+) -> Result<lra_program::Cond, SourceError>
     ensures told { TellsOf (negation_faults scope.now (negation_view negation.now)) result }
     ensures found { IfOk result (λ c. cond_view c ≡ resolve_negation scope.now (negation_view negation.now)) }
 {
@@ -69,7 +69,7 @@ fn resolve_negation(
 }
 
 #[cycle(condition)]
-fn resolve_test(alloc: Global, scope: &Scope, test: &Test) -> Result<lra_program::Cond, NamesError>
+fn resolve_test(alloc: Global, scope: &Scope, test: &Test) -> Result<lra_program::Cond, SourceError>
     ensures told { TellsOf (test_faults scope.now (test_view test.now)) result }
     ensures found { IfOk result (λ c. cond_view c ≡ resolve_test scope.now (test_view test.now)) }
 {
@@ -97,7 +97,7 @@ fn resolve_conjunction(
     alloc: Global,
     scope: &Scope,
     conjunction: &Conjunction,
-) -> Result<lra_program::Cond, NamesError>
+) -> Result<lra_program::Cond, SourceError>
     ensures told { TellsOf (conjunction_faults scope.now (conjunction_view conjunction.now)) result }
     ensures found { IfOk result (λ c. cond_view c ≡ resolve_conjunction scope.now (conjunction_view conjunction.now)) }
 {
@@ -116,7 +116,7 @@ pub fn resolve_cond(
     alloc: Global,
     scope: &Scope,
     cond: &Cond,
-) -> Result<lra_program::Cond, NamesError>
+) -> Result<lra_program::Cond, SourceError>
     ensures told { TellsOf (cond_faults scope.now (tree_cond_view cond.now)) result }
     ensures found { IfOk result (λ c. cond_view c ≡ resolve_cond scope.now (tree_cond_view cond.now)) }
 {

@@ -15,11 +15,11 @@ ghost use Rattle.lra_names.specs.Outcome.{Tells, TellsOf};
 
 use crate::called::called_by_given;
 use crate::calls::resolve_given;
-use crate::errors::{NamesError, refuse};
+use crate::errors::refuse;
 use crate::labelling::Labelling;
 use crate::scopes::Scope;
 use crate::signatures::Functions;
-use lra_base::Cause;
+use lra_base::{Cause, SourceError};
 use lra_tree::{Declaration, Declarator};
 use std::alloc::Global;
 
@@ -31,7 +31,7 @@ fn resolve_declarator(
     scope: &mut Scope,
     labels: &mut Labelling,
     declarator: &Declarator,
-) -> Result<lra_program::Declarator, NamesError>
+) -> Result<lra_program::Declarator, SourceError>
     ensures told { TellsOf (declarator_faults (functions_at functions.now) scope.old (declarator_view declarator.now))
         result }
     ensures found { IfOk result (λ d. program_declarator_view d
@@ -63,7 +63,7 @@ fn add_declarator(
     labels: &mut Labelling,
     declarator: &Declarator,
     items: &mut Vec<lra_program::BlockItem>,
-) -> Result<(), NamesError>
+) -> Result<(), SourceError>
     ensures told { IfErr result (λ e. (rest : List DeclaratorTree)
         → Tells (declarators_faults (functions_at functions.now) scope.old (declarator_view declarator.now ∷ rest))
         e) }
@@ -92,7 +92,7 @@ pub fn add_declaration(
     labels: &mut Labelling,
     declaration: &Declaration,
     items: &mut Vec<lra_program::BlockItem>,
-) -> Result<(), NamesError>
+) -> Result<(), SourceError>
     ensures told { TellsOf (declarators_faults (functions_at functions.now) scope.old
         (declarator_view declaration.now.first ∷ map declarator_view declaration.now.rest.items)) result }
     ensures found { OnOk result ((more : BlockItems) → followed (map item_view items.old.items)

@@ -9,15 +9,15 @@ ghost use Rattle.lra_meaning.specs.Resolve.{variable, resolve_unary, resolve_ter
 ghost use Rattle.lra_names.specs.Chains.{factor_operator, sum_operator, factor_faults, resolve_factor, summand_faults, resolve_summand};
 ghost use Rattle.lra_names.specs.Outcome.{TellsOf};
 
-use crate::errors::{NamesError, refuse};
+use crate::errors::refuse;
 use crate::scopes::Scope;
-use lra_base::{Cause, Operator};
+use lra_base::{Cause, Operator, SourceError};
 use lra_program::{Operation, Slot};
 use lra_tree::{Expr, Factor, FactorOperator, Identifier, SumOperator, Summand, Term, Unary};
 use std::alloc::Global;
 
 /// The variable that a name means; `UnknownName` where none is in scope.
-pub fn resolve_variable(scope: &Scope, x: &Identifier) -> Result<Slot, NamesError>
+pub fn resolve_variable(scope: &Scope, x: &Identifier) -> Result<Slot, SourceError>
     ensures told { TellsOf (use_faults scope.now x.now) result }
     ensures found { IfOk result (λ v. slot_view v ≡ variable scope.now x.now) }
 {
@@ -32,9 +32,9 @@ fn chain(
     alloc: Global,
     first: lra_program::Expr,
     rest: Vec<Operation>,
-) -> Result<lra_program::Expr, NamesError>
+) -> Result<lra_program::Expr, SourceError>
     ensures found { IfOk result (λ e. expr_view e ≡ chained (expr_view first) (map operation_view rest.items)) }
-    ensures memory { IfErr result (λ e. e ≡ NamesError.Memory) }
+    ensures memory { IfErr result (λ e. e ≡ SourceError.Memory) }
 {
     if rest.is_empty() {
         Ok(first)
@@ -67,7 +67,7 @@ pub fn resolve_unary(
     alloc: Global,
     scope: &Scope,
     unary: &Unary,
-) -> Result<lra_program::Expr, NamesError>
+) -> Result<lra_program::Expr, SourceError>
     ensures told { TellsOf (unary_faults scope.now (unary_view unary.now)) result }
     ensures found { IfOk result (λ e. expr_view e ≡ resolve_unary scope.now (unary_view unary.now)) }
 {
@@ -88,7 +88,7 @@ pub fn resolve_unary(
 }
 
 #[cycle(expression)]
-fn resolve_factor(alloc: Global, scope: &Scope, factor: &Factor) -> Result<Operation, NamesError>
+fn resolve_factor(alloc: Global, scope: &Scope, factor: &Factor) -> Result<Operation, SourceError>
     ensures told { TellsOf (factor_faults scope.now (factor_view factor.now)) result }
     ensures found { IfOk result (λ o. operation_view o ≡ resolve_factor scope.now (factor_view factor.now)) }
 {
@@ -98,7 +98,11 @@ fn resolve_factor(alloc: Global, scope: &Scope, factor: &Factor) -> Result<Opera
 }
 
 #[cycle(expression)]
-fn resolve_summand(alloc: Global, scope: &Scope, summand: &Summand) -> Result<Operation, NamesError>
+fn resolve_summand(
+    alloc: Global,
+    scope: &Scope,
+    summand: &Summand,
+) -> Result<Operation, SourceError>
     ensures told { TellsOf (summand_faults scope.now (summand_view summand.now)) result }
     ensures found { IfOk result (λ o. operation_view o ≡ resolve_summand scope.now (summand_view summand.now)) }
 {
@@ -109,7 +113,7 @@ fn resolve_summand(alloc: Global, scope: &Scope, summand: &Summand) -> Result<Op
 
 #[cycle(expression)]
 #[tactic(auto, using(crate::proofs::ChainLaws::term_rules))]
-fn resolve_term(alloc: Global, scope: &Scope, term: &Term) -> Result<lra_program::Expr, NamesError>
+fn resolve_term(alloc: Global, scope: &Scope, term: &Term) -> Result<lra_program::Expr, SourceError>
     ensures told { TellsOf (term_faults scope.now (term_view term.now)) result }
     ensures found { IfOk result (λ e. expr_view e ≡ resolve_term scope.now (term_view term.now)) }
 {
@@ -128,7 +132,7 @@ pub fn resolve_expr(
     alloc: Global,
     scope: &Scope,
     expr: &Expr,
-) -> Result<lra_program::Expr, NamesError>
+) -> Result<lra_program::Expr, SourceError>
     ensures told { TellsOf (expr_faults scope.now (tree_expr_view expr.now)) result }
     ensures found { IfOk result (λ e. expr_view e ≡ resolve_expr scope.now (tree_expr_view expr.now)) }
 {

@@ -16,13 +16,13 @@ ghost use Rattle.lra_names.specs.Mains.{main_place};
 ghost use Rattle.lra_names.specs.Outcome.{Tells, TellsOf};
 
 use crate::around::Around;
-use crate::errors::{NamesError, refuse};
+use crate::errors::refuse;
 use crate::labelling::Labelling;
 use crate::names::Names;
 use crate::scopes::Scope;
 use crate::signatures::Functions;
 use crate::statements::resolve_items;
-use lra_base::Cause;
+use lra_base::{Cause, SourceError};
 use lra_meaning::Labels;
 use lra_program::Program;
 use lra_tree::{Function, Globals, Identifier, Item, Tree};
@@ -34,7 +34,7 @@ fn declare_parameters(
     scope: &mut Scope,
     labels: &mut Labelling,
     parameters: &[Identifier],
-) -> Result<(), NamesError>
+) -> Result<(), SourceError>
     ensures told { TellsOf (parameters_faults [] parameters.now) result }
     ensures declared { OnOk result (scope.new ≡ function_scope scope.old.globals parameters.now) }
     ensures lives { OnOk result (labels.new.live ≡ map (λ p. p.word) parameters.now) }
@@ -60,7 +60,7 @@ fn resolve_function(
     scope: &mut Scope,
     labels: &mut Labelling,
     function: &Function,
-) -> Result<lra_program::Function, NamesError>
+) -> Result<lra_program::Function, SourceError>
     ensures told { TellsOf (function_faults (functions_at functions.now) scope.old.globals
         (tree_function_view function.now)) result }
     ensures found { IfOk result (λ f. function_view f ≡ resolve_function
@@ -103,7 +103,7 @@ fn add_global(
     alloc: Global,
     resolved: &mut Resolved,
     global: &lra_tree::Global,
-) -> Result<(), NamesError>
+) -> Result<(), SourceError>
     ensures told { IfErr result (λ e. (rest : List GlobalTree)
         → Tells (globals_faults resolved.old.names (global_view global.now ∷ rest)) e) }
     ensures clean { OnOk result ((rest : List GlobalTree)
@@ -130,7 +130,7 @@ fn add_global(
     Ok(())
 }
 
-fn add_globals(alloc: Global, resolved: &mut Resolved, globals: &Globals) -> Result<(), NamesError>
+fn add_globals(alloc: Global, resolved: &mut Resolved, globals: &Globals) -> Result<(), SourceError>
     ensures told { TellsOf (globals_faults resolved.old.names
         (global_view globals.now.first ∷ map global_view globals.now.rest.items)) result }
     ensures named { OnOk result (resolved.new.names ≡ resolved.old.names
@@ -155,7 +155,7 @@ fn add_function(
     functions: &Functions<'_>,
     resolved: &mut Resolved,
     function: &Function,
-) -> Result<(), NamesError>
+) -> Result<(), SourceError>
     ensures told { IfErr result (λ e. (rest : List PartTree)
         → Tells (parts_faults (functions_at functions.now) resolved.old.names resolved.old.scope.globals
         (part_function (tree_function_view function.now) ∷ rest)) e) }
@@ -193,7 +193,7 @@ fn add_part(
     functions: &Functions<'_>,
     resolved: &mut Resolved,
     item: &Item,
-) -> Result<(), NamesError>
+) -> Result<(), SourceError>
     ensures told { IfErr result (λ e. (rest : List PartTree)
         → Tells (parts_faults (functions_at functions.now) resolved.old.names resolved.old.scope.globals
         (part_view item.now ∷ rest)) e) }
@@ -252,7 +252,7 @@ fn find_main(parts: &[Item]) -> Option<usize>
 }
 
 /// All parts of the source.
-fn resolve_all(alloc: Global, functions: &Functions<'_>) -> Result<Resolved, NamesError>
+fn resolve_all(alloc: Global, functions: &Functions<'_>) -> Result<Resolved, SourceError>
     ensures told { TellsOf (parts_faults (functions_at functions.now) [] [] (map part_view functions.now)) result }
     ensures found { IfOk result (λ r. map function_view r.functions.items
         ≡ resolve_parts (functions_at functions.now) [] 1 (map part_view functions.now)) }
@@ -292,7 +292,7 @@ impl Drop for Resolution {
 /// The program that a source means, with its statements labelled in text order from 1, and the table of these labels; or
 /// its first fault of names, or want of memory.
 #[tactic(auto, using(crate::proofs::FunctionLaws::main_rules))]
-pub fn resolve(alloc: Global, tree: &Tree) -> Result<Resolution, NamesError>
+pub fn resolve(alloc: Global, tree: &Tree) -> Result<Resolution, SourceError>
     ensures told { TellsOf (name_faults (tree_view tree.now)) result }
     ensures found { IfOk result (λ r. program_view r.program ≡ resolve (tree_view tree.now)) }
     ensures labelled { IfOk result (λ r. r.labels.labels ≡ labels_of (tree_view tree.now)) }

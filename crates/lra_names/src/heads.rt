@@ -16,11 +16,10 @@ ghost use Rattle.lra_names.specs.Outcome.{TellsOf};
 use crate::around::Around;
 use crate::conditions::resolve_cond;
 use crate::declarations::add_declaration;
-use crate::errors::NamesError;
 use crate::labelling::Labelling;
 use crate::scopes::Scope;
 use crate::simple::resolve_assignment;
-use lra_base::Place;
+use lra_base::{Place, SourceError};
 use lra_tree::{Assign, Cond, Init};
 use std::alloc::Global;
 
@@ -43,10 +42,10 @@ impl Head {
         alloc: Global,
         branch: lra_program::Stmt,
         other: lra_program::Stmt,
-    ) -> Result<lra_program::Stmt, NamesError>
+    ) -> Result<lra_program::Stmt, SourceError>
         ensures found { IfOk result (λ s. stmt_view s ≡ choice self.label (cond_view self.cond) (stmt_view branch)
             (stmt_view other)) }
-        ensures memory { IfErr result (λ e. e ≡ NamesError.Memory) }
+        ensures memory { IfErr result (λ e. e ≡ SourceError.Memory) }
     {
         let Head { label, cond } = self;
         let branch = Box::new(alloc, branch)?;
@@ -60,10 +59,10 @@ impl Head {
         alloc: Global,
         body: lra_program::Stmt,
         step: lra_program::Stmt,
-    ) -> Result<lra_program::Stmt, NamesError>
+    ) -> Result<lra_program::Stmt, SourceError>
         ensures found { IfOk result (λ s. stmt_view s ≡ loop_of self.label (cond_view self.cond) (stmt_view body)
             (stmt_view step)) }
-        ensures memory { IfErr result (λ e. e ≡ NamesError.Memory) }
+        ensures memory { IfErr result (λ e. e ≡ SourceError.Memory) }
     {
         let Head { label, cond } = self;
         let body = Box::new(alloc, body)?;
@@ -102,7 +101,7 @@ pub fn resolve_head(
     scope: &Scope,
     labels: &mut Labelling,
     asked: &Asked<'_>,
-) -> Result<Head, NamesError>
+) -> Result<Head, SourceError>
     ensures told { TellsOf (cond_faults scope.now (tree_cond_view asked.now.cond.now)) result }
     ensures label { IfOk result (λ h. h.label ≡ labels.old.next) }
     ensures found { IfOk result (λ h. cond_view h.cond ≡ resolve_cond scope.now (tree_cond_view asked.now.cond.now)) }
@@ -119,7 +118,7 @@ pub fn resolve_assert(
     scope: &Scope,
     labels: &mut Labelling,
     asked: &Asked<'_>,
-) -> Result<lra_program::Stmt, NamesError>
+) -> Result<lra_program::Stmt, SourceError>
     ensures told { TellsOf (cond_faults scope.now (tree_cond_view asked.now.cond.now)) result }
     ensures found { IfOk result (λ s. stmt_view s ≡ assert_stmt labels.old.next
         (resolve_cond scope.now (tree_cond_view asked.now.cond.now))) }
@@ -135,7 +134,7 @@ pub fn resolve_assume(
     scope: &Scope,
     labels: &mut Labelling,
     asked: &Asked<'_>,
-) -> Result<lra_program::Stmt, NamesError>
+) -> Result<lra_program::Stmt, SourceError>
     ensures told { TellsOf (cond_faults scope.now (tree_cond_view asked.now.cond.now)) result }
     ensures found { IfOk result (λ s. stmt_view s ≡ assume_stmt labels.old.next
         (resolve_cond scope.now (tree_cond_view asked.now.cond.now))) }
@@ -161,7 +160,7 @@ fn resolve_init(
     scope: &mut Scope,
     labels: &mut Labelling,
     init: &Init,
-) -> Result<lra_program::BlockItems, NamesError>
+) -> Result<lra_program::BlockItems, SourceError>
     ensures told { TellsOf (init_faults (functions_at around.now.functions.now) scope.old (init_view init.now)) result }
     ensures found { IfOk result (λ b. items_view b ≡ resolve_init
         (functions_at around.now.functions.now) scope.old labels.old.next (init_view init.now)) }
@@ -203,7 +202,7 @@ fn resolve_for_test(
     alloc: Global,
     scope: &Scope,
     test: &Option<Cond>,
-) -> Result<lra_program::Cond, NamesError>
+) -> Result<lra_program::Cond, SourceError>
     ensures told { TellsOf (test_of_for_faults scope.now (option_map tree_cond_view test.now)) result }
     ensures found { IfOk result (λ c. cond_view c ≡ resolve_for_test scope.now (option_map tree_cond_view test.now)) }
 {
@@ -218,7 +217,7 @@ fn resolve_step(
     scope: &Scope,
     labels: &mut Labelling,
     step: &Option<Assign>,
-) -> Result<lra_program::Stmt, NamesError>
+) -> Result<lra_program::Stmt, SourceError>
     ensures told { TellsOf (step_faults (functions_at around.now.functions.now) scope.now
         (option_map assign_view step.now)) result }
     ensures found { IfOk result (λ s. stmt_view s ≡ resolve_step
@@ -265,10 +264,10 @@ impl ForHead {
         self,
         alloc: Global,
         body: lra_program::Stmt,
-    ) -> Result<lra_program::Stmt, NamesError>
+    ) -> Result<lra_program::Stmt, SourceError>
         ensures found { IfOk result (λ s. stmt_view s ≡ for_of (items_view self.init)
             (loop_of self.head.label (cond_view self.head.cond) (stmt_view body) (stmt_view self.step))) }
-        ensures memory { IfErr result (λ e. e ≡ NamesError.Memory) }
+        ensures memory { IfErr result (λ e. e ≡ SourceError.Memory) }
     {
         let ForHead { init, head, step } = self;
         let again = head.repeat(alloc, body, step)?;
@@ -283,7 +282,7 @@ pub fn resolve_for_head(
     scope: &mut Scope,
     labels: &mut Labelling,
     rounds: &Rounds<'_>,
-) -> Result<ForHead, NamesError>
+) -> Result<ForHead, SourceError>
     ensures told { TellsOf (head_faults (functions_at around.now.functions.now) scope.old
         (init_view rounds.now.init.now) (option_map tree_cond_view rounds.now.test.now)
         (option_map assign_view rounds.now.step.now)) result }

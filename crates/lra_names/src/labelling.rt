@@ -5,8 +5,7 @@ ghost use Rattle.lra_tree.specs.Labels.{Labelled, label_with};
 ghost use Rattle.lra_meaning.specs.LabelTable.{with_live};
 ghost use Rattle.lra_names.specs.Labelling.{Adds};
 
-use crate::errors::NamesError;
-use lra_base::Place;
+use lra_base::{Place, SourceError};
 use lra_meaning::Labels;
 use lra_tree::{Identifier, Word};
 use std::alloc::Global;
@@ -59,27 +58,27 @@ impl Labelling {
         }
     }
 
-    /// The next label, for a statement or an end of a block. Gives [`NamesError::Memory`] only.
-    pub fn add(&mut self, place: Place, called: Option<Identifier>) -> Result<usize, NamesError>
+    /// The next label, for a statement or an end of a block. Gives [`SourceError::Memory`] only.
+    pub fn add(&mut self, place: Place, called: Option<Identifier>) -> Result<usize, SourceError>
         ensures label { IfOk result (λ n. n ≡ self.old.next) }
         ensures number { IfOk result (λ n. n ≡ suc (length self.old.labels)) }
         ensures adds { OnOk result (Adds self.old self.new (label_with place called self.old.live ∷ [])) }
         ensures counted { OnOk result (self.new.next ≡ suc self.old.next) }
-        ensures memory { IfErr result (λ e. e ≡ NamesError.Memory) }
+        ensures memory { IfErr result (λ e. e ≡ SourceError.Memory) }
     {
         self.table.add(place, called, self.live, self.live)?;
         Ok(self.table.len())
     }
 
-    /// Declares a variable without a label: a parameter. Gives [`NamesError::Memory`] only.
-    pub fn declare(&mut self, alloc: Global, name: &Word) -> Result<(), NamesError>
+    /// Declares a variable without a label: a parameter. Gives [`SourceError::Memory`] only.
+    pub fn declare(&mut self, alloc: Global, name: &Word) -> Result<(), SourceError>
         ensures live { OnOk result (self.new.live ≡ self.old.live ++ name.now ∷ []) }
         ensures labels { OnOk result (self.new.labels ≡ self.old.labels) }
         ensures counted { OnOk result (self.new.next ≡ self.old.next) }
-        ensures memory { IfErr result (λ e. e ≡ NamesError.Memory) }
+        ensures memory { IfErr result (λ e. e ≡ SourceError.Memory) }
     {
         match self.count.checked_add(1) {
-            None => Err(NamesError::Memory),
+            None => Err(SourceError::Memory),
             Some(count) => {
                 let live = self.table.declare(alloc, self.live, name)?;
                 self.live = live;
@@ -89,14 +88,14 @@ impl Labelling {
         }
     }
 
-    /// The next label, for a declarator: its variable lives behind it, and so in its call. Gives [`NamesError::Memory`]
+    /// The next label, for a declarator: its variable lives behind it, and so in its call. Gives [`SourceError::Memory`]
     /// only.
     pub fn add_declarator(
         &mut self,
         alloc: Global,
         name: &Identifier,
         called: Option<Identifier>,
-    ) -> Result<usize, NamesError>
+    ) -> Result<usize, SourceError>
         ensures label { IfOk result (λ n. n ≡ self.old.next) }
         ensures labels { OnOk result (self.new.labels ≡ self.old.labels ++ record {
           place = name.now.place;
@@ -106,10 +105,10 @@ impl Labelling {
         } ∷ []) }
         ensures live { OnOk result (self.new.live ≡ self.old.live ++ name.now.word ∷ []) }
         ensures counted { OnOk result (self.new.next ≡ suc self.old.next) }
-        ensures memory { IfErr result (λ e. e ≡ NamesError.Memory) }
+        ensures memory { IfErr result (λ e. e ≡ SourceError.Memory) }
     {
         match self.count.checked_add(1) {
-            None => Err(NamesError::Memory),
+            None => Err(SourceError::Memory),
             Some(count) => {
                 let live = self.table.declare(alloc, self.live, &name.word)?;
                 self.table.add(name.place, called, self.live, live)?;

@@ -19,5 +19,4 @@ mod statements;
 #[cfg(test)]
 mod tests;
 
-pub use errors::NamesError;
 pub use functions::{Resolution, resolve};

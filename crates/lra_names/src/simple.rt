@@ -16,10 +16,10 @@ ghost use Rattle.lra_names.specs.Outcome.{TellsOf};
 use crate::around::Around;
 use crate::called::{called_by_assign, called_by_given, place_of};
 use crate::calls::{resolve_assign, resolve_call, resolve_given};
-use crate::errors::{NamesError, refuse};
+use crate::errors::refuse;
 use crate::labelling::Labelling;
 use crate::scopes::Scope;
-use lra_base::{Cause, Place};
+use lra_base::{Cause, Place, SourceError};
 use lra_tree::{Assign, Call, Source};
 
 /// A statement that does nothing.
@@ -27,7 +27,7 @@ use lra_tree::{Assign, Call, Source};
 pub fn resolve_nothing(
     labels: &mut Labelling,
     place: Place,
-) -> Result<lra_program::Stmt, NamesError>
+) -> Result<lra_program::Stmt, SourceError>
     ensures told { TellsOf [] result }
     ensures found { IfOk result (λ s. stmt_view s ≡ nothing labels.old.next) }
     ensures counted { OnOk result (labels.new.next ≡ suc labels.old.next) }
@@ -43,7 +43,7 @@ pub fn resolve_assignment(
     scope: &Scope,
     labels: &mut Labelling,
     assign: &Assign,
-) -> Result<lra_program::Stmt, NamesError>
+) -> Result<lra_program::Stmt, SourceError>
     ensures told { TellsOf (assign_faults (functions_at around.now.functions.now) scope.now (assign_view assign.now))
         result }
     ensures found { IfOk result (λ s. stmt_view s ≡ resolve_assign
@@ -63,7 +63,7 @@ pub fn resolve_call_alone(
     scope: &Scope,
     labels: &mut Labelling,
     call: &Call,
-) -> Result<lra_program::Stmt, NamesError>
+) -> Result<lra_program::Stmt, SourceError>
     ensures told { TellsOf (call_faults (functions_at around.now.functions.now) scope.now (call_view call.now) false)
         result }
     ensures found { IfOk result (λ s. stmt_view s ≡ call_stmt labels.old.next
@@ -79,7 +79,7 @@ pub fn resolve_call_alone(
 }
 
 /// The label of a `break` or a `continue`, which stand in loops.
-fn take_jump_label(in_loop: bool, labels: &mut Labelling, place: Place) -> Result<usize, NamesError>
+fn take_jump_label(in_loop: bool, labels: &mut Labelling, place: Place) -> Result<usize, SourceError>
     ensures told { TellsOf (fault_if (not in_loop) Misplaced place) result }
     ensures label { IfOk result (λ n. n ≡ labels.old.next) }
     ensures counted { OnOk result (labels.new.next ≡ suc labels.old.next) }
@@ -97,7 +97,7 @@ pub fn resolve_break(
     around: &Around<'_>,
     labels: &mut Labelling,
     place: Place,
-) -> Result<lra_program::Stmt, NamesError>
+) -> Result<lra_program::Stmt, SourceError>
     ensures told { TellsOf (fault_if (not around.now.in_loop) Misplaced place) result }
     ensures found { IfOk result (λ s. stmt_view s ≡ break_of labels.old.next) }
     ensures counted { OnOk result (labels.new.next ≡ suc labels.old.next) }
@@ -112,7 +112,7 @@ pub fn resolve_continue(
     around: &Around<'_>,
     labels: &mut Labelling,
     place: Place,
-) -> Result<lra_program::Stmt, NamesError>
+) -> Result<lra_program::Stmt, SourceError>
     ensures told { TellsOf (fault_if (not around.now.in_loop) Misplaced place) result }
     ensures found { IfOk result (λ s. stmt_view s ≡ continue_of labels.old.next) }
     ensures counted { OnOk result (labels.new.next ≡ suc labels.old.next) }
@@ -130,7 +130,7 @@ pub fn resolve_return(
     labels: &mut Labelling,
     place: Place,
     source: &Option<Source>,
-) -> Result<lra_program::Stmt, NamesError>
+) -> Result<lra_program::Stmt, SourceError>
     ensures told { TellsOf (return_faults (around_of around.now) scope.now place (option_map source_view source.now))
         result }
     ensures found { IfOk result (λ s. stmt_view s ≡ return_of labels.old.next

@@ -17,7 +17,6 @@ ghost use Rattle.lra_names.specs.Outcome.{Tells, TellsOf};
 
 use crate::around::Around;
 use crate::declarations::add_declaration;
-use crate::errors::NamesError;
 use crate::heads::{
     Asked, Rounds, block_of, resolve_assert, resolve_assume, resolve_for_head, resolve_head,
 };
@@ -27,6 +26,7 @@ use crate::simple::{
     resolve_assignment, resolve_break, resolve_call_alone, resolve_continue, resolve_nothing,
     resolve_return,
 };
+use lra_base::SourceError;
 use lra_tree::{Block, BlockItem, Stmt};
 
 #[cycle(statement)]
@@ -35,7 +35,7 @@ fn resolve_stmt(
     scope: &mut Scope,
     labels: &mut Labelling,
     stmt: &Stmt,
-) -> Result<lra_program::Stmt, NamesError>
+) -> Result<lra_program::Stmt, SourceError>
     ensures told { TellsOf (stmt_faults (around_of around.now) scope.old (stmt_view stmt.now)) result }
     ensures found { IfOk result (λ s. program_stmt_view s
         ≡ resolve_stmt (functions_at around.now.functions.now) scope.old labels.old.next (stmt_view stmt.now)) }
@@ -129,7 +129,7 @@ fn resolve_if(
     labels: &mut Labelling,
     asked: &Asked<'_>,
     branch: &Stmt,
-) -> Result<lra_program::Stmt, NamesError>
+) -> Result<lra_program::Stmt, SourceError>
     ensures told { TellsOf (cond_faults scope.old (cond_view asked.now.cond.now)
         ++ stmt_faults (around_of around.now) scope.old (stmt_view branch.now)) result }
     ensures found { IfOk result (λ s. program_stmt_view s
@@ -155,7 +155,7 @@ fn resolve_if_else(
     asked: &Asked<'_>,
     branch: &Stmt,
     other: &Stmt,
-) -> Result<lra_program::Stmt, NamesError>
+) -> Result<lra_program::Stmt, SourceError>
     ensures told { TellsOf (cond_faults scope.old (cond_view asked.now.cond.now)
         ++ stmt_faults (around_of around.now) scope.old (stmt_view branch.now)
         ++ stmt_faults (around_of around.now) scope.old (stmt_view other.now)) result }
@@ -184,7 +184,7 @@ fn resolve_while(
     labels: &mut Labelling,
     asked: &Asked<'_>,
     body: &Stmt,
-) -> Result<lra_program::Stmt, NamesError>
+) -> Result<lra_program::Stmt, SourceError>
     ensures told { TellsOf (cond_faults scope.old (cond_view asked.now.cond.now)
         ++ stmt_faults (in_a_loop (around_of around.now)) scope.old (stmt_view body.now)) result }
     ensures found { IfOk result (λ s. program_stmt_view s
@@ -208,7 +208,7 @@ fn resolve_for(
     labels: &mut Labelling,
     rounds: &Rounds<'_>,
     body: &Stmt,
-) -> Result<lra_program::Stmt, NamesError>
+) -> Result<lra_program::Stmt, SourceError>
     ensures told { TellsOf (head_faults (functions_at around.now.functions.now) scope.old
         (init_view rounds.now.init.now) (option_map cond_view rounds.now.test.now)
         (option_map assign_view rounds.now.step.now) ++ stmt_faults (in_a_loop (around_of around.now))
@@ -247,7 +247,7 @@ fn resolve_block(
     scope: &mut Scope,
     labels: &mut Labelling,
     block: &Block,
-) -> Result<lra_program::Stmt, NamesError>
+) -> Result<lra_program::Stmt, SourceError>
     ensures told { TellsOf (stmt_faults (around_of around.now) scope.old
         (tree_block (block_view block.now).0 (block_view block.now).1)) result }
     ensures found { IfOk result (λ s. program_stmt_view s
@@ -277,7 +277,7 @@ pub fn resolve_items(
     scope: &mut Scope,
     labels: &mut Labelling,
     block: &Block,
-) -> Result<lra_program::BlockItems, NamesError>
+) -> Result<lra_program::BlockItems, SourceError>
     ensures told { TellsOf (items_faults (around_of around.now) scope.old (block_view block.now).0) result }
     ensures found { IfOk result (λ b. items_view b ≡ resolve_items
         (functions_at around.now.functions.now) scope.old labels.old.next (block_view block.now).0) }
@@ -301,7 +301,7 @@ fn add_item(
     labels: &mut Labelling,
     item: &BlockItem,
     items: &mut Vec<lra_program::BlockItem>,
-) -> Result<(), NamesError>
+) -> Result<(), SourceError>
     ensures told { IfErr result (λ e. (rest : ItemsTree)
         → Tells (items_faults (around_of around.now) scope.old (item_view item.now rest)) e) }
     ensures clean { OnOk result ((rest : ItemsTree) → items_faults (around_of around.now) scope.old

@@ -1,8 +1,7 @@
 //! Trees of small sources, their programs and their refusals.
 
-use crate::errors::NamesError;
 use crate::functions::resolve;
-use lra_base::{Cause, Place, Refusal};
+use lra_base::{Cause, Place, Refusal, SourceError};
 use lra_program::{BlockItem as ProgramItem, Slot, Stmt as ProgramStmt};
 use lra_tree::{
     Arguments, Assign, Block, BlockItem, Call, Declaration, Declarator, Function, Global, Globals,
@@ -300,7 +299,7 @@ fn a_source_is_refused_at_its_first_fault(rt: HostRuntime) -> Result<(), Fail> {
             place: Place { line, column },
         };
         let answer = resolve(rt.alloc(), &tree(&rt, first, second)?);
-        assert!(rt; matches!(answer, Err(NamesError::Refused(r)) if r == refusal));
+        assert!(rt; matches!(answer, Err(SourceError::Refused(r)) if r == refusal));
     }
     Ok(())
 }

@@ -4,4 +4,3 @@ pub mod Expressions
 pub mod Statements
 pub mod Heads
 pub mod Files
-pub mod Answer

@@ -20,7 +20,7 @@ mod parser;
 mod reading;
 mod statements;
 
-pub use parser::{ParseError, parse};
+pub use parser::parse;
 
 /// A law of the language: no text has two trees, and no list of tokens has two first faults, or a fault and a tree.
 pub fn one_tree()

@@ -1,26 +1,17 @@
 //! The tree of a list of tokens, or its first fault.
 
 ghost use Rattle.std.specs.Prelude.{◌≡◌, Err, IfOk};
+ghost use Rattle.lra_base.specs.Refused.{IfRefused};
 ghost use Rattle.lra_tree.specs.Grammar.{Spells};
 ghost use Rattle.lra_tree.specs.Faults.{IsTree, IsTextFault};
 ghost use Rattle.lra_tree.specs.Views.{tree_view};
 ghost use Rattle.lra_parse.specs.Files.{EndsOnce, AreSmall, file_at};
-ghost use Rattle.lra_parse.specs.Answer.{IfRefused};
 
 use crate::functions::read_file;
 use crate::reading::{Fault, Stopped};
-use lra_base::Refusal;
+use lra_base::{Refusal, SourceError};
 use lra_tree::{Token, Tree};
 use std::alloc::Global;
-
-/// Why a list of tokens has no tree.
-#[derive(Clone, Copy, PartialEq, Eq, Debug)]
-pub enum ParseError {
-    /// Its first fault.
-    Refused(Refusal),
-    /// Memory ran out.
-    Memory,
-}
 
 /// The refusal for the fault at which reading stops.
 fn refusal(tokens: &[Token], fault: Fault) -> Refusal
@@ -39,7 +30,7 @@ fn refusal(tokens: &[Token], fault: Fault) -> Refusal
 /// the first token with which no source begins, or that opens a level past the 64th. Both are exact: no text has two
 /// trees, and a fault is the only one (`one_tree`). The time is linear in the number of tokens, and calls nest at most
 /// in proportion to the levels.
-pub fn parse(alloc: Global, tokens: &[Token]) -> Result<Tree, ParseError>
+pub fn parse(alloc: Global, tokens: &[Token]) -> Result<Tree, SourceError>
     requires ends { EndsOnce tokens.now }
     requires small { AreSmall tokens.now }
     ensures found { IfOk result (λ t. IsTree Spells tokens.now (tree_view t)) }
@@ -48,8 +39,8 @@ pub fn parse(alloc: Global, tokens: &[Token]) -> Result<Tree, ParseError>
     match read_file(alloc, tokens) {
         Ok((tree, _behind)) => Ok(tree),
         Err(stopped) => match stopped {
-            Stopped::Memory => Err(ParseError::Memory),
-            Stopped::Fault(fault) => Err(ParseError::Refused(refusal(tokens, fault))),
+            Stopped::Memory => Err(SourceError::Memory),
+            Stopped::Fault(fault) => Err(SourceError::Refused(refusal(tokens, fault))),
         },
     }
 }

@@ -1,6 +1,6 @@
 -- What the stages of the reading answer, as answers of the source.
-use Rattle.std.proofs.Common.{◌≡◌, ◌≤◌, ◌<◌, ℕ, List, length, take, refl, sym, ◌∙◌, subst, arith}
-use Rattle.std.proofs.lemmas.List.{length-take}
+use Rattle.std.proofs.Common.{◌≡◌, ◌≤◌, ◌<◌, ℕ, List, length, take, sym, ◌∙◌, subst, arith, Result}
+use Rattle.std.specs.Result.{IsErrAnd}
 use Rattle.lra_base.specs.declared.refusals.Cause.{Cause}
 use Rattle.lra_base.specs.declared.refusals.Cause.TheVariants.{TooLong}
 use Rattle.lra_base.specs.declared.refusals.Place.{Place}
@@ -11,18 +11,11 @@ use Rattle.lra_tree.specs.Faults.{IsTree, IsTextFault}
 use Rattle.lra_tree.specs.Grammar.{Spells}
 use Rattle.lra_meaning.specs.Refuse.{RefusesTree, Refuse, too_long, bad_token, bad_text, bad_tree}
 use Rattle.lra_base.specs.declared.refusals.Refusal.{Refusal}
-use Rattle.lra_parse.specs.Answer.{IfRefusal}
-use Rattle.lra_parse.specs.declared.parser.ParseError.{ParseError}
-use Rattle.lra_parse.specs.declared.parser.ParseError.TheVariants.{Refused}
+use Rattle.lra_base.specs.declared.error.SourceError.{SourceError}
+use Rattle.lra_base.specs.Refused.{IfRefusal, IfRefused}
+use Rattle.lra_base.proofs.Refusing.{refusal_by, exit_refused}
+use Rattle.lra_tree.proofs.Limit.{limit_is}
 use Rattle.lra_source.specs.Stages.{HasTree}
-
-pub limit_is : greatest_length ≡ 65536
-unfolding greatest_length
-limit_is = refl
-
--- the first n bytes of a longer source are n
-pub taken : (n : ℕ) (source : List ℕ) → n < length source → n ≡ length (take n source)
-taken n source h = omega (arith, length-take n source)
 
 within : (source : List ℕ) → length source ≤ 65536 → length source ≤ greatest_length
 within source l = rw limit_is l
@@ -35,11 +28,11 @@ long_refused source n is long =
     subst (λ (k : ℕ). Refuse Spells source TooLong (place_behind (take k source))) e (too_long past)
 
 -- a source whose tokens have a fault
-pub tokens_refused : (source : List ℕ) (c : Cause) (at : Place) → length source ≤ 65536 → IsTokenFault source c at → Refuse Spells source c at
+tokens_refused : (source : List ℕ) (c : Cause) (at : Place) → length source ≤ 65536 → IsTokenFault source c at → Refuse Spells source c at
 tokens_refused source c at l fault = bad_token c at (within source l) fault
 
 -- one whose text has a fault
-pub text_refused : (source : List ℕ) (tokens : List Token) (c : Cause) (at : Place) → length source ≤ 65536 → Lex source tokens → IsTextFault Spells tokens c at → Refuse Spells source c at
+text_refused : (source : List ℕ) (tokens : List Token) (c : Cause) (at : Place) → length source ≤ 65536 → Lex source tokens → IsTextFault Spells tokens c at → Refuse Spells source c at
 text_refused source tokens c at l lexed fault = bad_text tokens c at (within source l) lexed fault
 
 -- one that has a tree
@@ -50,9 +43,14 @@ has_tree source tokens t l lexed parsed = record { tokens = tokens; not_long = w
 pub tree_refused : (source : List ℕ) (t : FileTree) (c : Cause) (at : Place) → HasTree source t → RefusesTree t c at → Refuse Spells source c at
 tree_refused source t c at has fault = bad_tree has.tokens t c at has.not_long has.lexed has.parsed fault
 
-pub ruleset lexing = (tokens_refused)
+-- exits by the errors of the two stages
+pub exit_lexed : {X : Type 0} (source : List ℕ) (x : Result X SourceError) (e : SourceError) → length source ≤ 65536 → IsErrAnd x (λ y. y ≡ e)
+    → IfRefusal (λ r. IsTokenFault source r.cause r.place) e → IfRefused x (λ r. Refuse Spells source r.cause r.place)
+exit_lexed source x e l is fault =
+    exit_refused (λ r. Refuse Spells source r.cause r.place) x e is (refusal_by (λ r. IsTokenFault source r.cause r.place) _ (λ r. tokens_refused source r.cause r.place l) e fault)
 
--- the fault of a text, where that is the answer
-pub fault_of : (tokens : List Token) (e : ParseError) (r : Refusal) → e ≡ Refused r → IfRefusal (λ (x : Refusal). IsTextFault Spells tokens x.cause x.place) e →
-    IsTextFault Spells tokens r.cause r.place
-fault_of tokens e r is fault = subst (IfRefusal (λ (x : Refusal). IsTextFault Spells tokens x.cause x.place)) is fault
+pub exit_parsed : {X : Type 0} (source : List ℕ) (tokens given : List Token) (x : Result X SourceError) (e : SourceError) → length source ≤ 65536 → Lex source tokens
+    → given ≡ tokens → IsErrAnd x (λ y. y ≡ e) → IfRefusal (λ r. IsTextFault Spells given r.cause r.place) e → IfRefused x (λ r. Refuse Spells source r.cause r.place)
+exit_parsed source tokens given x e l lexed same is fault =
+    let there : IfRefusal (λ r. IsTextFault Spells tokens r.cause r.place) e = subst (λ (T : List Token). IfRefusal (λ r. IsTextFault Spells T r.cause r.place) e) same fault in
+    exit_refused (λ r. Refuse Spells source r.cause r.place) x e is (refusal_by (λ r. IsTextFault Spells tokens r.cause r.place) _ (λ r. text_refused source tokens r.cause r.place l lexed) e there)

@@ -1,8 +1,11 @@
 -- What the stages behind the reading answer, as answers of the tree and of the source.
 use Rattle.std.proofs.Common.{◌≡◌, ℕ, List, [], ◌∷◌, map, Some, None, refl, sym, ap, ◌∙◌, subst}
 use Rattle.std.specs.Prelude.{Option, Result, Ok, Err, IfOk, MatchOption}
+use Rattle.std.specs.Result.{IsErrAnd}
 use Rattle.lra_base.specs.declared.refusals.Refusal.{Refusal}
 use Rattle.lra_base.specs.declared.refusals.Place.{Place}
+use Rattle.lra_base.specs.Refused.{IfRefusal, IfRefused}
+use Rattle.lra_base.proofs.Refusing.{refused_by, exit_refused}
 use Rattle.lra_base.specs.declared.refusals.Cause.TheVariants.{Recursive}
 use Rattle.lra_tree.specs.Reach.{IsFirstRecursive, NotRecursive}
 use Rattle.lra_tree.specs.Trees.{FileTree}
@@ -22,7 +25,7 @@ use Rattle.lra_findings.specs.Report.{State, Report}
 use Rattle.lra_meaning.specs.Refuse.{limit_fault, RefusesTree, bad_name, recursive, past_limit, Refuse, Accepts}
 use Rattle.lra_report.specs.declared.report.Report as code
 use Rattle.lra_report.specs.View.{report_of}
-use Rattle.lra_names.specs.Outcome.{first_fault}
+use Rattle.lra_names.specs.Outcome.{first_fault, Tells}
 use Rattle.lra_graph.specs.declared.points.Limit.{Limit}
 use Rattle.lra_graph.specs.declared.points.GraphError.{GraphError}
 use Rattle.lra_graph.specs.declared.points.GraphError.TheVariants.{Passed}
@@ -30,15 +33,15 @@ use Rattle.lra_graph.specs.Limits.{refusal_of, OnError}
 use Rattle.lra_formed.proofs.Spelled.{spelled_are_small}
 use Rattle.lra_formed.proofs.Whole.{well_formed}
 use Rattle.lra_source.specs.Claims.{AreFew}
-use Rattle.lra_source.specs.declared.error.SourceError.{SourceError}
-use Rattle.lra_source.specs.declared.error.SourceError.TheVariants.{Refused, Memory}
+use Rattle.lra_base.specs.declared.error.SourceError.{SourceError}
+use Rattle.lra_base.specs.declared.error.SourceError.TheVariants.{Refused, Memory}
 use Rattle.lra_domain.specs.Meaning.{Meaning}
 use Rattle.lra_domain.specs.Laws.{Laws}
 use Rattle.lra_box.specs.Meaning.{box_meaning}
 use Rattle.lra_oct.specs.Meaning.{octagon_meaning}
 use Rattle.lra_source.specs.Shown.{shown_state}
 use Rattle.lra_source.specs.Analysed.{IsAnalysed}
-use Rattle.lra_source.specs.Answers.{IsAnsweredOver, TellsAnalysis, IsAnswered, IfRefused}
+use Rattle.lra_source.specs.Answers.{IsAnsweredOver, TellsAnalysis, IsAnswered}
 use Rattle.lra_source.specs.Stages.{HasTree, HasGraph, IsToldOf}
 use Rattle.lra_source.proofs.Reports.{sound, is_report}
 use Rattle.lra_source.proofs.ReadSteps.{tree_refused}
@@ -50,10 +53,17 @@ first_is [] r e = let wrong : ⊥ = cc in absurd wrong
 first_is (f ∷ fs) r e = (fs, cc)
 
 -- a tree whose names have a fault
-pub names_refused : (t : FileTree) (r : Refusal) → first_fault (name_faults t) ≡ Some r → RefusesTree t r.cause r.place
+names_refused : (t : FileTree) (r : Refusal) → first_fault (name_faults t) ≡ Some r → RefusesTree t r.cause r.place
 names_refused t r e = let (further, is) = first_is (name_faults t) r e in bad_name r further is
 
-pub ruleset naming = (names_refused)
+-- and so with an error that tells the first of them
+told_refused : (t : FileTree) (e : SourceError) → Tells (name_faults t) e → IfRefusal (λ r. RefusesTree t r.cause r.place) e
+told_refused t (Refused r) told = names_refused t r told
+told_refused t Memory told = tt
+
+pub exit_named : {X : Type 0} (t : FileTree) (x : Result X SourceError) (e : SourceError) → IsErrAnd x (λ y. y ≡ e) → Tells (name_faults t) e
+    → IfRefused x (λ r. RefusesTree t r.cause r.place)
+exit_named t x e is told = exit_refused (λ r. RefusesTree t r.cause r.place) x e is (told_refused t e told)
 
 -- recursion ----------------------------------------------------------------------------------------------------------
 
@@ -140,9 +150,7 @@ module _ (o : Options) (source : List ℕ) (t : FileTree) (has : HasTree source 
   each_answered m laws (Err e) is = tt
 
   pub each_refused : (x : Result code.Report SourceError) → IfRefused x (λ (r : Refusal). RefusesTree t r.cause r.place) → IfRefused x (λ (r : Refusal). Refuse Spells source r.cause r.place)
-  each_refused (Ok r) fault = tt
-  each_refused (Err (Refused r)) fault = tree_refused source t r.cause r.place has fault
-  each_refused (Err Memory) fault = tt
+  each_refused x = refused_by _ _ (λ r. tree_refused source t r.cause r.place has) x
 
 -- the domain that the options name
 told_over : {V H : Type 0} (m : Meaning V H) (d : Domain) (o : Options) (source : List ℕ) (r : Report) → o.domain ≡ d → ((P : Program) → IsAnalysed m (shown_state m) o P r → TellsAnalysis d o P r) →

@@ -1,7 +1,6 @@
 -- What a source deserves: its one refusal (`Refuse`), or a report of it that tells the analysis; over boxes and octagons
 -- today.
-use Rattle.std.specs.Prelude.{ℕ, List, ⊤, Result, Ok, Err}
-use Rattle.lra_base.specs.declared.refusals.Refusal.{Refusal}
+use Rattle.std.specs.Prelude.{ℕ, List}
 use Rattle.lra_base.specs.declared.options.Domain.{Domain}
 use Rattle.lra_base.specs.declared.options.Domain.TheVariants.{Poly, Box, Oct}
 use Rattle.lra_base.specs.declared.options.Options.{Options}
@@ -16,8 +15,6 @@ use Rattle.lra_box.specs.Meaning.{box_meaning}
 use Rattle.lra_oct.specs.Meaning.{octagon_meaning}
 use Rattle.lra_source.specs.Shown.{shown_state}
 use Rattle.lra_source.specs.Analysed.{IsAnalysed}
-use Rattle.lra_source.specs.declared.error.SourceError.{SourceError}
-use Rattle.lra_source.specs.declared.error.SourceError.TheVariants.{Refused, Memory}
 
 -- a report of the source that tells an analysis over a domain with this meaning; it is told by its text, which has
 -- numbers of the range and each part as wide as its point has names
@@ -38,12 +35,3 @@ pub record IsAnswered (o : Options) (source : List ℕ) (r : Report) : Type 0 wh
   pub report : IsReportOf Spells o source r
   pub analysed : TellsAnalysis o.domain o (resolve report.tree) r
   pub readable : IsReadable r
-
-abbrev pub IfRefusal : (Refusal → Type 0) → SourceError → Type 0
-IfRefusal P (Refused r) = P r
-IfRefusal P Memory = ⊤
-
--- where there is a refusal, the property holds of it
-abbrev pub IfRefused : {X : Type 0} → Result X SourceError → (Refusal → Type 0) → Type 0
-IfRefused (Ok x) P = ⊤
-IfRefused (Err e) P = IfRefusal P e

@@ -1,6 +1,7 @@
 //! From the bytes of a source to its report, or to its one refusal.
 
 ghost use Rattle.std.specs.Prelude.{◌≡◌, ◌≢◌, ◌≤◌, ◌<◌, ◌+◌, ◌^◌, [], length, map, IfOk};
+ghost use Rattle.lra_base.specs.Refused.{IfRefused};
 ghost use Rattle.lra_tree.specs.Views.{tree_view};
 ghost use Rattle.lra_operations.specs.GraphViews.{node_view, site_view};
 ghost use Rattle.lra_tree.specs.Labels.{labels_of};
@@ -11,15 +12,14 @@ ghost use Rattle.lra_tree.specs.Grammar.{Spells};
 ghost use Rattle.lra_meaning.specs.Refuse.{RefusesTree, Refuse};
 ghost use Rattle.lra_report.specs.View.{report_of};
 ghost use Rattle.lra_base.specs.declared.options.Domain.TheVariants.{Poly};
-ghost use Rattle.lra_source.specs.Answers.{IsAnsweredOver, IsAnswered, IfRefused};
+ghost use Rattle.lra_source.specs.Answers.{IsAnsweredOver, IsAnswered};
 ghost use Rattle.lra_source.specs.Shown.{shown_state, ShowsRows};
 ghost use Rattle.lra_source.specs.Stages.{HasGraph, IsToldOf};
 
-use crate::error::SourceError;
 use crate::program::{graph_of, program_of};
 use crate::reading::read_tree;
 use crate::states::states_of;
-use lra_base::Options;
+use lra_base::{Options, SourceError};
 use lra_box::Boxes;
 use lra_domain::Domain;
 use lra_iter::analyse;

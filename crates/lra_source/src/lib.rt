@@ -7,14 +7,12 @@
 #![tactic(auto)]
 
 mod answer;
-mod error;
 mod laws;
 mod program;
 mod reading;
 mod states;
 
 pub use answer::analyse_source;
-pub use error::SourceError;
 pub use laws::{
     analyses_are_right, boxes_are_shown, each_answer, forms_are_right, octagons_are_shown,
     one_answer, one_answered_text, solved_are_sound, trees_fit,

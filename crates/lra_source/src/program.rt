@@ -1,6 +1,7 @@
 //! From the tree of a source to its program, and to the tree of operations of that.
 
 ghost use Rattle.std.specs.Prelude.{◌≡◌, [], map, IfOk, OnOk};
+ghost use Rattle.lra_base.specs.Refused.{IfRefused};
 ghost use Rattle.lra_tree.specs.Views.{tree_view};
 ghost use Rattle.lra_program.specs.ProgramViews.{program_view};
 ghost use Rattle.lra_operations.specs.GraphViews.{node_view, site_view};
@@ -10,14 +11,12 @@ ghost use Rattle.lra_program.specs.WellFormed.{IsWellFormed};
 ghost use Rattle.lra_tree.specs.Labels.{labels_of};
 ghost use Rattle.lra_tree.specs.Reach.{NotRecursive};
 ghost use Rattle.lra_meaning.specs.Refuse.{RefusesTree};
-ghost use Rattle.lra_source.specs.Answers.{IfRefused};
 ghost use Rattle.lra_source.specs.Stages.{HasGraph};
 
-use crate::error::SourceError;
-use lra_base::{Cause, Refusal};
+use lra_base::{Cause, Refusal, SourceError};
 use lra_calls::first_recursive;
 use lra_graph::{GraphError, build, refusal};
-use lra_names::{NamesError, Resolution, resolve};
+use lra_names::{Resolution, resolve};
 use lra_operations::Graph;
 use lra_tree::Tree;
 use std::alloc::Global;
@@ -30,11 +29,8 @@ pub fn program_of(alloc: Global, tree: &Tree) -> Result<Resolution, SourceError>
     ensures labelled { IfOk result (λ r. r.labels.labels ≡ labels_of (tree_view tree.now)) }
     ensures refused { IfRefused result (λ r. RefusesTree (tree_view tree.now) r.cause r.place) }
 {
-    match resolve(alloc, tree) {
-        Ok(resolution) => Ok(resolution),
-        Err(NamesError::Refused(refusal)) => Err(SourceError::Refused(refusal)),
-        Err(NamesError::Memory) => Err(SourceError::Memory),
-    }
+    let resolution = resolve(alloc, tree)?;
+    Ok(resolution)
 }
 
 /// That no function reaches itself by calls, or the refusal of the first call by which one does.

@@ -5,30 +5,25 @@ use Rattle.std.proofs.lemmas.Grind.{common_steps}
 use Rattle.std.proofs.lemmas.List.{take-append-le}
 use Rattle.lra_tree.specs.Tokens.{greatest_length, place_behind}
 use Rattle.lra_calc.specs.Script as script
-use Rattle.lra_calc.proofs.Limit.{limit_is, answer_too_long, long_answer}
+use Rattle.lra_calc.proofs.Limit.{answer_too_long, long_answer}
 use Rattle.lra_calc.proofs.OneRefusal.{one_refusal}
-use Rattle.lra_top.specs.SourceAnswer.{limit}
 use Rattle.lra_top.specs.Ends.{IsAnswer, EndsInRefusal, EndsInOutput}
 use Rattle.lra_top.specs.ScriptAnswer.{DeservesScript}
 use Rattle.lra_top.specs.declared.status.Status.{Status}
 use Rattle.lra_top.specs.declared.status.Status.TheVariants.{Proved, Unknown, Refused, Usage, ReadFault, WriteFault, Memory}
 
-pub past_limit : (bytes : List ℕ) → limit < length bytes → greatest_length < length bytes
-past_limit bytes long = rw limit_is long
-
-pub too_long_answer : (bytes : List ℕ) → limit < length bytes → script.AnswersTo bytes (Err (script.TooLong (place_behind (take greatest_length bytes))))
-too_long_answer bytes long = answer_too_long greatest_length bytes refl (past_limit bytes long)
+pub too_long_answer : (bytes : List ℕ) → greatest_length < length bytes → script.AnswersTo bytes (Err (script.TooLong (place_behind (take greatest_length bytes))))
+too_long_answer bytes long = answer_too_long greatest_length bytes refl long
 
 -- more bytes behind those past the limit change nothing
-same_answer : (bytes rest : List ℕ) (answer : Result (List ℕ) script.Refusal) → limit < length bytes → script.AnswersTo bytes answer → script.AnswersTo (bytes ++ rest) answer
+same_answer : (bytes rest : List ℕ) (answer : Result (List ℕ) script.Refusal) → greatest_length < length bytes → script.AnswersTo bytes answer → script.AnswersTo (bytes ++ rest) answer
 same_answer bytes rest answer long a =
-    let longer : limit < length (bytes ++ rest) = grind (arith, common_steps) in
-    let past : greatest_length < length bytes = past_limit bytes long in
+    let longer : greatest_length < length (bytes ++ rest) = grind (arith, common_steps) in
     let reached : greatest_length ≤ length bytes = omega arith in
     let same = ap (λ (front : List ℕ). let r : Result (List ℕ) script.Refusal = Err (script.TooLong (place_behind front)) in r) (take-append-le greatest_length bytes rest reached) in
-    subst (script.AnswersTo (bytes ++ rest)) (same ∙ sym (long_answer bytes answer past a)) (too_long_answer (bytes ++ rest) longer)
+    subst (script.AnswersTo (bytes ++ rest)) (same ∙ sym (long_answer bytes answer long a)) (too_long_answer (bytes ++ rest) longer)
 
-pub longer_script : (bytes rest text : List ℕ) (status : Status) → limit < length bytes → DeservesScript bytes text status → DeservesScript (bytes ++ rest) text status
+pub longer_script : (bytes rest text : List ℕ) (status : Status) → greatest_length < length bytes → DeservesScript bytes text status → DeservesScript (bytes ++ rest) text status
 longer_script bytes rest text Proved long d = same_answer bytes rest (Ok text) long d
 longer_script bytes rest text Unknown long d = d
 longer_script bytes rest text Refused long d = (d.0, same_answer bytes rest (Err d.0) long d.1, d.2)

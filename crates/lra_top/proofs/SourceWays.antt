@@ -16,9 +16,8 @@ use Rattle.lra_findings.specs.RefusalText.{refusal_text}
 use Rattle.lra_source.specs.Answers.{IsAnswered}
 use Rattle.lra_source.proofs.EachAnswer.{each_answer}
 use Rattle.lra_source.proofs.SomeAnswer.{some_answer}
-use Rattle.lra_top.specs.SourceAnswer.{limit, IsTooLong, IsUnrefused, IsReport, IsReportStatus, DeservesSource}
+use Rattle.lra_top.specs.SourceAnswer.{IsTooLong, IsUnrefused, IsReport, IsReportStatus, DeservesSource}
 use Rattle.lra_top.specs.Ends.{IsAnswer, EndsInRefusal, EndsInReport, EndsBySource}
-use Rattle.lra_top.proofs.ScriptWays.{past_limit}
 use Rattle.lra_top.specs.declared.status.Status.{Status}
 use Rattle.lra_top.specs.declared.status.Status.TheVariants.{Proved, Unknown, Refused, Usage, ReadFault, WriteFault, Memory}
 
@@ -48,8 +47,8 @@ pub ruleset deserving = (deserves_report, deserves_refusal)
 
 -- one byte past the limit ---------------------------------------------------------
 
-not_past : (bytes : List ℕ) → limit < length bytes → length bytes ≤ greatest_length → ⊥
-not_past bytes long within = let past : greatest_length < length bytes = past_limit bytes long in omega arith
+not_past : (bytes : List ℕ) → greatest_length < length bytes → length bytes ≤ greatest_length → ⊥
+not_past bytes long within = omega arith
 
 longer_too_long : (bytes rest : List ℕ) → greatest_length < length bytes → Refuse Spells (bytes ++ rest) TooLong (place_behind (take greatest_length bytes))
 longer_too_long bytes rest past =
@@ -57,13 +56,14 @@ longer_too_long bytes rest past =
     let reached : greatest_length ≤ length bytes = omega arith in
     subst (λ (front : List ℕ). Refuse Spells (bytes ++ rest) TooLong (place_behind front)) (take-append-le greatest_length bytes rest reached) (too_long longer)
 
-longer_refused : (bytes rest : List ℕ) (c : Cause) (at : Place) → limit < length bytes → Refuse Spells bytes c at → Refuse Spells (bytes ++ rest) c at
+longer_refused : (bytes rest : List ℕ) (c : Cause) (at : Place) → greatest_length < length bytes → Refuse Spells bytes c at → Refuse Spells (bytes ++ rest) c at
 longer_refused bytes rest _ _ long (too_long past) = longer_too_long bytes rest past
 longer_refused bytes rest _ _ long (bad_token c p l e) = absurd (not_past bytes long l)
 longer_refused bytes rest _ _ long (bad_text tokens c p l lexed e) = absurd (not_past bytes long l)
 longer_refused bytes rest _ _ long (bad_tree tokens t c p l lexed is e) = absurd (not_past bytes long l)
 
-pub longer_source : (o : Options) (bytes rest text : List ℕ) (status : Status) → limit < length bytes → DeservesSource o bytes text status → DeservesSource o (bytes ++ rest) text status
+pub longer_source : (o : Options) (bytes rest text : List ℕ) (status : Status) → greatest_length < length bytes → DeservesSource o bytes text status
+    → DeservesSource o (bytes ++ rest) text status
 longer_source o bytes rest text Proved long d = absurd (not_past bytes long d.answered.report.accepted.not_long)
 longer_source o bytes rest text Unknown long d = absurd (not_past bytes long d.2.answered.report.accepted.not_long)
 longer_source o bytes rest text Refused long d = record { cause = d.cause; place = d.place; refused = longer_refused bytes rest d.cause d.place long d.refused; written = d.written }
@@ -97,7 +97,7 @@ source_refused o bytes text WriteFault c at d refused = tt
 source_refused o bytes text Memory c at d refused = tt
 
 pub source_too_long : (o : Options) (bytes text : List ℕ) (status : Status) → DeservesSource o bytes text status → IsTooLong bytes → EndsInRefusal status
-source_too_long o bytes text status d long = source_refused o bytes text status TooLong _ d (too_long (past_limit bytes long))
+source_too_long o bytes text status d long = source_refused o bytes text status TooLong _ d (too_long long)
 
 -- a source that is accepted
 pub source_reported : (o : Options) (bytes text : List ℕ) (status : Status) (t : FileTree) → DeservesSource o bytes text status → Accepts Spells bytes t → EndsInReport status

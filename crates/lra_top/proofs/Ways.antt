@@ -7,6 +7,7 @@ use Rattle.lra_base.specs.declared.refusals.Cause.{Cause}
 use Rattle.lra_base.specs.declared.refusals.Place.{Place}
 use Rattle.lra_tree.specs.Trees.{FileTree}
 use Rattle.lra_tree.specs.Grammar.{Spells}
+use Rattle.lra_tree.specs.Tokens.{greatest_length}
 use Rattle.lra_meaning.specs.Refuse.{Refuse, Accepts}
 use Rattle.lra_edge.specs.ReadEnd.{LosesFront}
 use Rattle.lra_calc.specs.Script as script
@@ -14,7 +15,7 @@ use Rattle.lra_words.specs.Built.{Asks, AsksNone, AsksFor}
 use Rattle.lra_words.specs.declared.chosen.Command.{Command}
 use Rattle.lra_words.specs.declared.chosen.Command.TheVariants.{Analyse, Sample, Calc}
 use Rattle.lra_words.proofs.OneCommand.{one_asked, asks_not_none}
-use Rattle.lra_top.specs.SourceAnswer.{limit, IsTooLong, IsUnrefused}
+use Rattle.lra_top.specs.SourceAnswer.{IsTooLong, IsUnrefused}
 use Rattle.lra_top.specs.Ends.{IsAnswer, EndsInUsage, EndsInRefusal, EndsInReport, EndsBySource, EndsInOutput, IsReportOrMemory, IsOutputOrMemory}
 use Rattle.lra_top.specs.Run.{IsInput, usage_text, AsksSome, DeservesInput, Deserves, IsDeserved}
 use Rattle.lra_top.specs.Prepared.{IsInputText}
@@ -56,17 +57,17 @@ past_front old new n bytes taken past = (bytes, taken, omega arith)
 
 -- one byte past the limit says as much as the whole input --------------------------
 
-longer_input : (c : Command) (bytes rest text : List ℕ) (status : Status) → limit < length bytes → DeservesInput c bytes text status → DeservesInput c (bytes ++ rest) text status
+longer_input : (c : Command) (bytes rest text : List ℕ) (status : Status) → greatest_length < length bytes → DeservesInput c bytes text status → DeservesInput c (bytes ++ rest) text status
 longer_input (Analyse options json) bytes rest text status long d = longer_source options bytes rest text status long d
 longer_input (Sample seed size) bytes rest text status long d = d
 longer_input Calc bytes rest text status long d = longer_script bytes rest text status long d
 
 -- an input of which one byte past the limit was read
 pub too_long_input : (c : Command) (old new : Option (List ℕ)) (bytes shown text : List ℕ) (status : Status)
-    → DeservesInput c shown text status → shown ≡ bytes → Consumes old new bytes → length bytes ≡ limit + 1 → IsInputText c old text status
+    → DeservesInput c shown text status → shown ≡ bytes → Consumes old new bytes → length bytes ≡ greatest_length + 1 → IsInputText c old text status
 too_long_input c old new bytes shown text status d same read past =
     let (rest, input) = begun_input old new bytes read in
-    let long : limit < length bytes = omega arith in
+    let long : greatest_length < length bytes = omega arith in
     let here : DeservesInput c bytes text status = subst (λ b. DeservesInput c b text status) same d in
     record { bytes = bytes ++ rest; input = input; deserved = longer_input c bytes rest text status long here }
 

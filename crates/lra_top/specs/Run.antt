@@ -3,10 +3,11 @@ use Rattle.std.specs.Prelude.{◌≡◌, ◌<◌, ◌⊎◌, ◌+◌, ℕ, List,
 use Rattle.std.specs.Io.KnownBytes.{Appends, Consumes, IsAtEnd}
 use Rattle.lra_edge.specs.Causes.{AppendsPart}
 use Rattle.lra_findings.specs.ReportText.{text_line}
+use Rattle.lra_tree.specs.Tokens.{greatest_length}
 use Rattle.lra_words.specs.Built.{Asks, AsksNone}
 use Rattle.lra_words.specs.declared.chosen.Command.{Command}
 use Rattle.lra_words.specs.declared.chosen.Command.TheVariants.{Analyse, Sample, Calc}
-use Rattle.lra_top.specs.SourceAnswer.{DeservesSource, limit}
+use Rattle.lra_top.specs.SourceAnswer.{DeservesSource}
 use Rattle.lra_top.specs.ScriptAnswer.{DeservesScript}
 use Rattle.lra_top.specs.declared.status.Status.{Status}
 use Rattle.lra_top.specs.declared.status.Status.TheVariants.{Proved, Unknown, Refused, Usage, ReadFault, WriteFault, Memory}
@@ -69,4 +70,4 @@ pub record WritesPart (words : List (List ℕ)) (left held_old held_new : Option
 pub record ReadsInput (old new : Option (List ℕ)) : Type 0 where
   pub bytes : List ℕ
   pub taken : Consumes old new bytes
-  pub whole : IsAtEnd new ⊎ (length bytes ≡ limit + 1)
+  pub whole : IsAtEnd new ⊎ (length bytes ≡ greatest_length + 1)

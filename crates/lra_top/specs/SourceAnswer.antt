@@ -6,18 +6,16 @@ use Rattle.lra_base.specs.declared.options.Options.{Options}
 use Rattle.lra_findings.specs.Report.{Report}
 use Rattle.lra_findings.specs.ReportText.{report_text, unknown_count}
 use Rattle.lra_tree.specs.Grammar.{Spells}
+use Rattle.lra_tree.specs.Tokens.{greatest_length}
 use Rattle.lra_meaning.specs.Refuse.{Refuse}
 use Rattle.lra_findings.specs.RefusalText.{refusal_text}
 use Rattle.lra_source.specs.Answers.{IsAnswered}
 use Rattle.lra_top.specs.declared.status.Status.{Status}
 use Rattle.lra_top.specs.declared.status.Status.TheVariants.{Proved, Unknown, Refused, Usage, ReadFault, WriteFault, Memory}
 
--- so many bytes an input may have
-abbrev pub limit : ℕ
-limit = 65536
-
+-- the input has more bytes than are taken
 abbrev pub IsTooLong : List ℕ → Type 0
-IsTooLong bytes = limit < length bytes
+IsTooLong bytes = greatest_length < length bytes
 
 -- the source has no cause of refusal
 abbrev pub IsUnrefused : List ℕ → Type 0

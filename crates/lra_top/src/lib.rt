@@ -3,7 +3,6 @@
 #![tactic(auto)]
 
 mod answer;
-mod refusal_text;
 mod source_answer;
 mod status;
 mod top_call;

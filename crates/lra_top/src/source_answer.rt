@@ -1,5 +1,5 @@
 // What a source deserves: its report, or its refusal.
-ghost use Rattle.std.specs.Prelude.{◌≡◌, ◌≤◌, ◌<◌, ◌+◌, ◌^◌, length, IfOk};
+ghost use Rattle.std.specs.Prelude.{◌≡◌, ◌<◌, ◌+◌, ◌^◌, length, IfOk};
 ghost use Rattle.lra_findings.specs.ReportText.{report_text, unknown_count};
 ghost use Rattle.lra_findings.specs.RefusalText as refusal_line;
 ghost use Rattle.lra_report.specs.View as view;
@@ -7,15 +7,11 @@ ghost use Rattle.lra_words.specs.Built.{HasBuiltOptions};
 ghost use Rattle.lra_top.specs.SourceAnswer.{DeservesSource, IsReportStatus};
 
 use crate::answer::Answer;
-use crate::refusal_text::refusal_text;
 use crate::status::Status;
-use lra_base::{Options, Refusal};
-use lra_report::{Report, text};
-use lra_source::{SourceError, analyse_source};
+use lra_base::{Options, Refusal, SourceError};
+use lra_report::{Report, refusal_text, text};
+use lra_source::analyse_source;
 use std::alloc::{AllocError, Global};
-
-/// The bytes that an input may have.
-pub const LIMIT: usize = 65536;
 
 /// The status of a report.
 fn status_of(report: &Report) -> Status
@@ -55,7 +51,7 @@ fn answer_refusal(alloc: Global, refusal: Refusal) -> Result<Answer, AllocError>
 #[tactic(auto, using(crate::proofs::SourceWays::deserving))]
 pub fn answer_source(alloc: Global, options: Options, bytes: &[u8]) -> Result<Answer, AllocError>
     requires built { HasBuiltOptions options }
-    requires bound { length bytes.now ≤ 65537 }
+    requires bound { length bytes.now + 1 < 2 ^ 32 }
     ensures { IfOk result (λ a. DeservesSource options bytes.now a.text.items a.status) }
 {
     match analyse_source(alloc, options, bytes) {

@@ -1,5 +1,5 @@
 // The top call.
-ghost use Rattle.std.specs.Prelude.{◌≡◌, ◌≢◌, ◌≤◌, ℕ, Bool, List, length, map, string_bytes, IfOk, IsErrOf, Some, Ok, Err};
+ghost use Rattle.std.specs.Prelude.{◌≡◌, ◌≢◌, ◌≤◌, ◌<◌, ◌+◌, ◌^◌, ℕ, Bool, List, length, map, string_bytes, IfOk, IsErrOf, Some, Ok, Err};
 ghost use Rattle.std.specs.Io.KnownBytes.{Appends, Keeps};
 ghost use Rattle.lra_edge.specs.Causes.{Rose};
 ghost use Rattle.lra_edge.specs.ReadEnd.{LosesFront};
@@ -12,18 +12,20 @@ ghost use Rattle.lra_base.specs.declared.refusals.Cause.{Cause};
 ghost use Rattle.lra_base.specs.declared.refusals.Place.{Place};
 ghost use Rattle.lra_tree.specs.Trees.{FileTree};
 ghost use Rattle.lra_tree.specs.Grammar.{Spells};
+ghost use Rattle.lra_tree.specs.Tokens.{greatest_length};
 ghost use Rattle.lra_meaning.specs.Refuse.{Refuse, Accepts};
-ghost use Rattle.lra_top.specs.SourceAnswer.{limit, IsTooLong, IsUnrefused};
+ghost use Rattle.lra_top.specs.SourceAnswer.{IsTooLong, IsUnrefused};
 ghost use Rattle.lra_top.specs.ScriptAnswer.{DeservesScript};
 ghost use Rattle.lra_top.specs.Run.{usage_text, AsksSome, DeservesInput, IsDeserved, Writes, WritesPart, ReadsInput};
 ghost use Rattle.lra_top.specs.Ends.{EndsInUsage, EndsInRefusal, EndsInReport, EndsBySource, EndsInOutput, IsReportOrMemory, IsOutputOrMemory};
 ghost use Rattle.lra_top.specs.Prepared.{IsInputText, PrepareCause};
 
 use crate::answer::Answer;
-use crate::source_answer::{LIMIT, answer_source};
+use crate::source_answer::answer_source;
 use crate::status::Status;
 use lra_calc::{CalcError, script};
 use lra_edge::{ReadEnd, Sink, Source, read_whole, write_whole};
+use lra_tree::GREATEST_LENGTH;
 use lra_words::{Command, asked};
 use std::alloc::{AllocError, Global};
 
@@ -76,7 +78,7 @@ fn refuse_words(alloc: Global) -> Result<Answer, AllocError>
 /// What a command answers to an input, of which no more than one byte past the limit is given.
 fn answer_input(alloc: Global, command: Command, bytes: &[u8]) -> Result<Answer, AllocError>
     requires built { IsBuilt command }
-    requires bound { length bytes.now ≤ 65537 }
+    requires bound { length bytes.now + 1 < 2 ^ 32 }
     ensures { IfOk result (λ a. DeservesInput command bytes.now a.text.items a.status) }
 {
     match command {
@@ -87,7 +89,7 @@ fn answer_input(alloc: Global, command: Command, bytes: &[u8]) -> Result<Answer,
 }
 
 /// What a command answers to its input, which is read.
-#[tactic(auto, using(crate::proofs::Ways::reading))]
+#[tactic(auto, using(crate::proofs::Ways::reading), unfolding(lra_tree::specs::Tokens::greatest_length))]
 fn prepare_input<S: Source>(
     alloc: Global,
     command: Command,
@@ -96,10 +98,10 @@ fn prepare_input<S: Source>(
     requires { IsBuilt command }
     ensures deserved { IfOk result (λ a. IsInputText command (S.left source.old) a.text.items a.status) }
     ensures reads { IfOk result (λ _. ReadsInput (S.left source.old) (S.left source.new)) }
-    ensures front { LosesFront (S.left source.old) (S.left source.new) limit }
+    ensures front { LosesFront (S.left source.old) (S.left source.new) greatest_length }
     ensures cause { PrepareCause (S.faults source.old) (S.faults source.new) result }
 {
-    match read_whole(alloc, source, LIMIT) {
+    match read_whole(alloc, source, GREATEST_LENGTH) {
         Ok(bytes) => Ok(answer_input(alloc, command, &bytes)?),
         Err(ReadEnd::TooLong(bytes)) => Ok(answer_input(alloc, command, &bytes)?),
         Err(ReadEnd::Failed) => Err(NoAnswer::ReadFault),
@@ -114,7 +116,7 @@ fn prepare<S: Source>(alloc: Global, words: &[String], source: &mut S) -> Result
         IsDeserved (map string_bytes words.now) (S.left source.old) a.text.items a.status) }
     ensures reads { IfOk result (λ _. (c : Command) → Asks (map string_bytes words.now) c →
         ReadsInput (S.left source.old) (S.left source.new)) }
-    ensures front { LosesFront (S.left source.old) (S.left source.new) limit }
+    ensures front { LosesFront (S.left source.old) (S.left source.new) greatest_length }
     ensures cause { PrepareCause (S.faults source.old) (S.faults source.new) result }
     ensures unread { AsksNone (map string_bytes words.now) → S.left source.new ≡ S.left source.old }
     ensures untouched { AsksNone (map string_bytes words.now) → S.faults source.new ≡ S.faults source.old }
@@ -184,7 +186,7 @@ pub fn run<S: Source, K: Sink>(
         Asks (map string_bytes words.now) c →
         ReadsInput (S.left source.old) (S.left source.new) }
     // Whatever the answer, at most one byte past the limit is read.
-    ensures front { LosesFront (S.left source.old) (S.left source.new) limit }
+    ensures front { LosesFront (S.left source.old) (S.left source.new) greatest_length }
 
     // A fault is the answer only where its count rose, that of reading only to a command; every other answer leaves the
     // counts.

@@ -1,37 +1,38 @@
 use Rattle.std.proofs.Common.{arith, sym, subst, Err, None}
 use Rattle.lra_base.specs.declared.refusals.Place.{Place}
+use Rattle.lra_tree.proofs.Limit.{limit_is, taken}
 use Rattle.lra_linear.proofs.Polyhedra.{con_gen}
 use Rattle.lra_calc.specs.ScriptText.{lines}
 use Rattle.lra_calc.specs.Script.{TooLong, Runs, AnswersTo}
-use Rattle.lra_calc.proofs.Limit.{limit_is, answer_too_long, answer_not_long, taken}
+use Rattle.lra_calc.proofs.Limit.{answer_too_long, answer_not_long}
 use Rattle.lra_calc.proofs.Endings.{answers_by}
 use Rattle.lra_calc.proofs.OneRefusal.{one_refusal}
 use Rattle.lra_calc.proofs.OneOutput.{one_output}
 use Rattle.lra_calc.proofs.calculator.script.Goals as goal
 
 pub slice_bounds-place_behind-end : goal.slice_bounds-place_behind-end
-slice_bounds-place_behind-end c = taken 65536 c.args.bytes.now c.if-bytes-gt-MOST_BYTES.true
+slice_bounds-place_behind-end c = taken 65536 c.args.bytes.now c.if-bytes-gt-GREATEST_LENGTH.true
 
 pub place_behind-place-requires : goal.place_behind-place-requires
-place_behind-place-requires c = let e = taken 65536 c.args.bytes.now c.if-bytes-gt-MOST_BYTES.true in omega arith
+place_behind-place-requires c = let e = taken 65536 c.args.bytes.now c.if-bytes-gt-GREATEST_LENGTH.true in omega arith
 
-pub returns-then-bytes-gt-MOST_BYTES-clause-answer : goal.returns-then-bytes-gt-MOST_BYTES-clause-answer
-returns-then-bytes-gt-MOST_BYTES-clause-answer c =
+pub returns-then-bytes-gt-GREATEST_LENGTH-clause-answer : goal.returns-then-bytes-gt-GREATEST_LENGTH-clause-answer
+returns-then-bytes-gt-GREATEST_LENGTH-clause-answer c =
     subst (λ (p : Place). AnswersTo c.args.bytes.now (Err (TooLong p))) (sym c.place_behind-place.ensures)
-    (answer_too_long 65536 c.args.bytes.now limit_is c.if-bytes-gt-MOST_BYTES.true)
+    (answer_too_long 65536 c.args.bytes.now limit_is c.if-bytes-gt-GREATEST_LENGTH.true)
 
 pub returns-clause-answer : goal.returns-clause-answer
 returns-clause-answer c = answers_by c.run.result (Runs c.args.bytes.now) (AnswersTo c.args.bytes.now)
-    (λ answer r. answer_not_long 65536 c.args.bytes.now answer limit_is c.if-bytes-gt-MOST_BYTES.false r) c.run.ensures
+    (λ answer r. answer_not_long 65536 c.args.bytes.now answer limit_is c.if-bytes-gt-GREATEST_LENGTH.false r) c.run.ensures
 
-pub returns-then-bytes-gt-MOST_BYTES-clause-one_refusal : goal.returns-then-bytes-gt-MOST_BYTES-clause-one_refusal
-returns-then-bytes-gt-MOST_BYTES-clause-one_refusal c = one_refusal c.args.bytes.now
+pub returns-then-bytes-gt-GREATEST_LENGTH-clause-one_refusal : goal.returns-then-bytes-gt-GREATEST_LENGTH-clause-one_refusal
+returns-then-bytes-gt-GREATEST_LENGTH-clause-one_refusal c = one_refusal c.args.bytes.now
 
-pub returns-then-bytes-gt-MOST_BYTES-clause-one_output : goal.returns-then-bytes-gt-MOST_BYTES-clause-one_output
-returns-then-bytes-gt-MOST_BYTES-clause-one_output c = one_output (lines c.args.bytes.now) 1 None
+pub returns-then-bytes-gt-GREATEST_LENGTH-clause-one_output : goal.returns-then-bytes-gt-GREATEST_LENGTH-clause-one_output
+returns-then-bytes-gt-GREATEST_LENGTH-clause-one_output c = one_output (lines c.args.bytes.now) 1 None
 
-pub returns-then-bytes-gt-MOST_BYTES-clause-both : goal.returns-then-bytes-gt-MOST_BYTES-clause-both
-returns-then-bytes-gt-MOST_BYTES-clause-both c = con_gen
+pub returns-then-bytes-gt-GREATEST_LENGTH-clause-both : goal.returns-then-bytes-gt-GREATEST_LENGTH-clause-both
+returns-then-bytes-gt-GREATEST_LENGTH-clause-both c = con_gen
 
 pub returns-clause-one_refusal : goal.returns-clause-one_refusal
 returns-clause-one_refusal c = one_refusal c.args.bytes.now

@@ -1,0 +1,27 @@
+//! How many bytes a source may have, and where they stand.
+
+ghost use Rattle.std.specs.Prelude.{◌≡◌, ◌+◌, ◌<◌, ◌^◌, length};
+ghost use Rattle.lra_tree.specs.Tokens.{place_behind};
+
+use lra_base::Place;
+
+/// The most bytes that a source or a script may have.
+pub const GREATEST_LENGTH: usize = 65_536;
+
+/// The place of the byte behind these, which begin a source.
+pub fn place_behind(bytes: &[u8]) -> Place
+    requires { length bytes.now + 1 < 2 ^ 32 }
+    ensures { result ≡ place_behind bytes.now }
+{
+    let mut line = 1;
+    let mut column = 1;
+    for byte in bytes {
+        if *byte == b'\n' {
+            line += 1;
+            column = 1;
+        } else {
+            column += 1;
+        }
+    }
+    Place { line, column }
+}
