@@ -34,7 +34,7 @@ mutual
   count_stmt live (while at c b) = ap suc (count_stmt live b)
   count_stmt live (for at i c e b) =
       let x = both_alike (init_labels live i) (step_labels (live_in_for live i) e) (init_labels [] i) (step_labels (live_in_for [] i) e) (count_init live i)
-          (count_step (live_in_for live i) e ∙ sym (count_step (live_in_for [] i) e)) in
+      (count_step (live_in_for live i) e ∙ sym (count_step (live_in_for [] i) e)) in
       ap suc (both_alike (init_labels live i ++ step_labels (live_in_for live i) e) (stmt_labels (live_in_for live i) b)
       (init_labels [] i ++ step_labels (live_in_for [] i) e) (stmt_labels (live_in_for [] i) b) x
       (count_stmt (live_in_for live i) b ∙ sym (count_stmt (live_in_for [] i) b)))

@@ -213,9 +213,9 @@ module _ (ls : List Label) (i n : ℕ) (a b : Label) (inside : i < length ls) (r
   relisted_labels lists front rest l is number =
       let f : Label → Labelled = label_in lists in
       let here : f a ≡ l = ap f read ∙ sym (get_or-map f ls i a (f a) inside) ∙ ap (λ (xs : List Labelled). get_or xs i (f a)) is
-          ∙ ap (λ (k : ℕ). get_or (front ++ l ∷ rest) k (f a)) number ∙ get_or-append_seam front l rest (f a) in
+      ∙ ap (λ (k : ℕ). get_or (front ++ l ∷ rest) k (f a)) number ∙ get_or-append_seam front l rest (f a) in
       let last : f (live_in_call_set b n) ≡ with_live l (list_at lists n) =
-          ap (λ (z : Label). f (live_in_call_set z n)) second_is ∙ ap (λ (z : Labelled). with_live z (list_at lists n)) here in
+      ap (λ (z : Label). f (live_in_call_set z n)) second_is ∙ ap (λ (z : Labelled). with_live z (list_at lists n)) here in
       map-set f (slice_set ls i (live_set a n)) i (live_in_call_set b n)
       ∙ ap (λ (xs : List Labelled). slice_set xs i (f (live_in_call_set b n))) (map-set f ls i (live_set a n)
       ∙ ap (λ (xs : List Labelled). slice_set xs i (f (live_set a n))) is

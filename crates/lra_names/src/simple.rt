@@ -79,7 +79,11 @@ pub fn resolve_call_alone(
 }
 
 /// The label of a `break` or a `continue`, which stand in loops.
-fn take_jump_label(in_loop: bool, labels: &mut Labelling, place: Place) -> Result<usize, SourceError>
+fn take_jump_label(
+    in_loop: bool,
+    labels: &mut Labelling,
+    place: Place,
+) -> Result<usize, SourceError>
     ensures told { TellsOf (fault_if (not in_loop) Misplaced place) result }
     ensures label { IfOk result (λ n. n ≡ labels.old.next) }
     ensures counted { OnOk result (labels.new.next ≡ suc labels.old.next) }

@@ -8,11 +8,12 @@ use Rattle.lra_meaning.proofs.labels.Labels.relist.Goals as goal
 pub invariant_of-self : goal.invariant_of-self
 invariant_of-self c =
     let n = lists_length c.self.inside.entries.items in
-    let below = subst (λ (v : Listed). c.args.live < length v.lists) (sym c.self.view_is) c.requires in
-    (c.self.invariant.0,
-    relisted_invariant c.self.inside.labels.items c.in-Some.index c.args.live c.index_mut.result.now c.index_mut-then-index-len.result.now
-    (omega (arith, c.if-index-len.true, c.len.ensures)) c.index_mut.ensures.value c.index_mut-then-index-len.ensures.value (length c.self.inside.entries.items + 1)
-    c.self.invariant.1 (omega (arith, below, n)))
+    let below = subst (λ (v : Listed). c.args.live < length v.lists) (sym c.self.view_is) c.requires in (
+      c.self.invariant.0,
+      relisted_invariant c.self.inside.labels.items c.in-Some.index c.args.live c.index_mut.result.now c.index_mut-then-index-len.result.now
+          (omega (arith, c.if-index-len.true, c.len.ensures)) c.index_mut.ensures.value c.index_mut-then-index-len.ensures.value (length c.self.inside.entries.items + 1)
+          c.self.invariant.1 (omega (arith, below, n)),
+    )
 
 pub returns-then-index-len-clause-labels : goal.returns-then-index-len-clause-labels
 returns-then-index-len-clause-labels c = λ front rest l is number.
