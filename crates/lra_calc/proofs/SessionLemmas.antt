@@ -7,10 +7,11 @@ use Rattle.std.specs.Map.{update}
 use Rattle.std.proofs.lemmas.Bool.Decides.{nat_tests}
 use Rattle.std.proofs.lemmas.Int.{ints}
 use Rattle.std.proofs.lemmas.List.{take_rest}
+use Rattle.std.proofs.lemmas.List.Elements.{All-nil, All-cons}
 use Rattle.lra_linear.specs.declared.Excess.{Excess}
 use Rattle.lra_linear.specs.Vectors.{product}
 use Rattle.lra_linear.specs.CheckedArithmetic.{checked_product}
-use Rattle.lra_linear.specs.Descriptions.{Given, Holds, HoldsWith}
+use Rattle.lra_linear.specs.Descriptions.{Given, Holds, HoldsWith, Con as points_of}
 use Rattle.lra_linear.specs.Polyhedra.{Polyhedron}
 use Rattle.lra_linear.proofs.CheckedArithmetic.{checked_product_value}
 use Rattle.lra_linear.proofs.Membership.{contains_none, contains_head, contains_tail, contains_cases}
@@ -73,10 +74,30 @@ point_is [] n e = cc
 point_is (d ∷ ds) n e = ap (λ (t : List ℤ). d ∷ t) (take_rest (d ∷ ds) 1)
 
 -- ---- the set of points
-later_points : (g : Given) (gs : List Given) (x : List ℤ) (m : Option Bool) → Holds g x → script.TellsPoints gs x m → script.TellsPoints (g ∷ gs) x m
-later_points g gs x (Some true) h told = λ f k. elim (contains_cases g f gs k) [ inl e ↦ subst (λ (f : Given). Holds f x) e h | inr k ↦ told f k ]
-later_points g gs x (Some false) h told = λ all. told (λ f k. all f (contains_tail g f gs k))
-later_points g gs x None h told = tt
+-- what an answer says of it, and that a row passes where it is wide
+abbrev Tells : List Given → List ℤ → Option Bool → Type 0
+Tells rows x (Some true) = points_of rows x
+Tells rows x (Some false) = points_of rows x → ⊥
+Tells rows x None = script.PassesFirst rows x
+
+passes_later : (g : Given) (gs : List Given) (x : List ℤ) → HoldsInRange x g → script.PassesFirst gs x → script.PassesFirst (g ∷ gs) x
+passes_later g gs x h w = (
+  suc w.0,
+  record {
+    earlier = g ∷ w.1.earlier;
+    constraint = w.1.constraint;
+    later = w.1.later;
+    is = ap (λ (fs : List Given). g ∷ fs) w.1.is;
+    at = let a = w.1.at in omega (arith, a);
+    before = All-cons (HoldsInRange x) g w.1.earlier h w.1.before;
+    here = w.1.here;
+  },
+)
+
+later_tells : (g : Given) (gs : List Given) (x : List ℤ) (m : Option Bool) → HoldsInRange x g → Tells gs x m → Tells (g ∷ gs) x m
+later_tells g gs x (Some true) h told = λ f k. elim (contains_cases g f gs k) [ inl e ↦ subst (λ (f : Given). Holds f x) e h.1 | inr k ↦ told f k ]
+later_tells g gs x (Some false) h told = λ all. told (λ f k. all f (contains_tail g f gs k))
+later_tells g gs x None h told = passes_later g gs x h told
 
 met_holds : (equal : Bool) (p : ℤ) → script.is_met equal p ≡ true → HoldsWith equal p
 met_holds true (pos zero) h = refl
@@ -85,22 +106,44 @@ met_holds true (negsuc n) h = cc
 met_holds false (pos n) h = omega (arith, ints)
 met_holds false (negsuc n) h = cc
 
-points_by : (g : Given) (gs : List Given) (x : List ℤ) (p : ℤ) (b : Bool) (m : Option Bool) → p ≡ product g.row x → script.is_met g.equal p ≡ b → script.TellsPoints gs x m
-    → script.TellsPoints (g ∷ gs) x (cond b m (Some false))
-points_by g gs x p true m value e told = later_points g gs x m (subst (λ (z : ℤ). HoldsWith g.equal z) value (met_holds g.equal p e)) told
-points_by g gs x p false m value e told = λ all.
+decided_tells : (g : Given) (gs : List Given) (x : List ℤ) (p : ℤ) (b : Bool) (m : Option Bool) → IsOk (checked_product g.row x) → p ≡ product g.row x → script.is_met g.equal p ≡ b →
+    Tells gs x m → Tells (g ∷ gs) x (cond b m (Some false))
+decided_tells g gs x p true m ok value e told = later_tells g gs x m (ok, subst (λ (z : ℤ). HoldsWith g.equal z) value (met_holds g.equal p e)) told
+decided_tells g gs x p false m ok value e told = λ all.
     let h : Holds g x = all g (contains_head g gs) in
     let t = met g.equal p (subst (λ (z : ℤ). HoldsWith g.equal z) (sym value) h) in
     absurd (cc)
 
-points_after : (g : Given) (gs : List Given) (x : List ℤ) (q : Result ℤ Excess) (m : Option Bool) → q ≡ checked_product g.row x → script.TellsPoints gs x m →
-    script.TellsPoints (g ∷ gs) x (script.decided g.equal q m)
-points_after g gs x (Ok p) m e told = points_by g gs x p (script.is_met g.equal p) m (checked_product_value g.row x (Ok p) e) refl told
-points_after g gs x (Err f) m e told = tt
+first_tells : (g : Given) (gs : List Given) (x : List ℤ) (q : Result ℤ Excess) (m : Option Bool) → q ≡ checked_product g.row x → Tells gs x m → Tells (g ∷ gs) x (script.decided g.equal q m)
+first_tells g gs x (Ok p) m e told =
+    decided_tells g gs x p (script.is_met g.equal p) m (subst (λ (z : Result ℤ Excess). IsOk z) e refl) (checked_product_value g.row x (Ok p) e) refl told
+first_tells g gs x (Err f) m e told = (
+  0,
+  record {
+    earlier = [];
+    constraint = g;
+    later = gs;
+    is = refl;
+    at = refl;
+    before = All-nil (HoldsInRange x);
+    here = subst (λ (z : Result ℤ Excess). IsErr z) e refl;
+  },
+)
+
+all_tell : (rows : List Given) (x : List ℤ) → Tells rows x (script.membership rows x)
+all_tell [] x = λ f k. absurd (contains_none f k)
+all_tell (g ∷ gs) x = first_tells g gs x (checked_product g.row x) (script.membership gs x) refl (all_tell gs x)
+
+wide_answer : (rows : List Given) (x : List ℤ) (b : Bool) → Some b ≡ script.membership rows x → script.PassesFirst rows x → ⊥
+wide_answer rows x b e w = let n : script.membership rows x ≡ None = answer_is rows x (Wide w.0) w.1 in cc
+
+with_wide : (rows : List Given) (x : List ℤ) (m : Option Bool) → m ≡ script.membership rows x → Tells rows x m → script.TellsPoints rows x m
+with_wide rows x (Some true) e told = (told, wide_answer rows x true e)
+with_wide rows x (Some false) e told = (told, wide_answer rows x false e)
+with_wide rows x None e told = told
 
 pub membership_tells : (rows : List Given) (x : List ℤ) → script.TellsPoints rows x (script.membership rows x)
-membership_tells [] x = λ f k. absurd (contains_none f k)
-membership_tells (g ∷ gs) x = points_after g gs x (checked_product g.row x) (script.membership gs x) refl (membership_tells gs x)
+membership_tells rows x = with_wide rows x (script.membership rows x) refl (all_tell rows x)
 
 -- ---- names
 fit_by_name : (b : Bool) (o : Option Polyhedron) (p : Polyhedron) (dims : ℕ) → p.dims ≡ dims → IfSome o (λ q. q.dims ≡ dims) → IfSome (cond b (Some p) o) (λ q. q.dims ≡ dims)

@@ -14,6 +14,7 @@ use Rattle.lra_linear.specs.Strain.{Loss}
 use Rattle.lra_linear.specs.OperationStrain.{FromRowsStrains, FromGeneratorsStrains}
 use Rattle.lra_sys.specs.declared.system.GenKind.{GenKind}
 use Rattle.lra_sys.specs.declared.system.GenKind.TheVariants as gen
+use Rattle.lra_sys.specs.Membership.{IsWide, FirstAt}
 use Rattle.lra_base.specs.declared.refusals.Place.{Place}
 use Rattle.lra_tree.specs.Tokens.{place_behind, greatest_length}
 use Rattle.lra_base.specs.declared.refusals.Cause.TheVariants as cause
@@ -136,11 +137,17 @@ abbrev pub membership : List Given → List ℤ → Option Bool
 membership [] x = Some true
 membership (g ∷ gs) x = decided g.equal (checked_product g.row x) (membership gs x)
 
--- what the answer says of the set of points with these constraints
+-- of the constraints, tried in order, the first that doesn't hold in the range is one whose product with the point
+-- passes it: a product of two entries or a partial sum does, columns from 0 up
+abbrev pub PassesFirst : List Given → List ℤ → Type 0
+PassesFirst rows x = (place : ℕ) × FirstAt (IsWide x) x 0 rows place
+
+-- what the answer says of the set of points with these constraints; it is wide exactly where their products with the
+-- point pass
 abbrev pub TellsPoints : List Given → List ℤ → Option Bool → Type 0
-TellsPoints rows x (Some true) = points_of rows x
-TellsPoints rows x (Some false) = ¬ (points_of rows x)
-TellsPoints rows x None = Unit {0}
+TellsPoints rows x (Some true) = points_of rows x × (¬ (PassesFirst rows x))
+TellsPoints rows x (Some false) = (¬ (points_of rows x)) × (¬ (PassesFirst rows x))
+TellsPoints rows x None = PassesFirst rows x
 
 abbrev pub answer_text : Option Bool → List ℕ
 answer_text (Some true) = codes "yes"

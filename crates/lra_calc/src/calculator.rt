@@ -132,7 +132,7 @@ pub fn script(alloc: Global, bytes: &[u8]) -> Result<Vec<u8>, CalcError>
     ensures one_refusal { (a b : Result (List ℕ) spec.Refusal) →
         spec.AnswersTo bytes.now a → spec.AnswersTo bytes.now b → spec.AgreesWith a b }
     ensures one_output { spec.HasOneOutput bytes.now }
-    // What an answer to `holds` says of the set that the name stands for.
+    // What an answer to `holds` says of the set that the name stands for, and where it is wide.
     ensures points { (p : Polyhedron) (x : List ℤ) → spec.TellsPoints p.rows x (spec.membership p.rows x) }
     // What `show` prints describes the same points twice.
     ensures both { (p : Polyhedron) → IsPolyhedron p → SameSet p.dims (Con p.rows) (Gen p.generators) }
