@@ -1,10 +1,10 @@
 -- What is known once generators have been taken in.
-use Rattle.std.proofs.Common.{◌≡◌, ◌≢◌, ℕ, suc, ◌<◌, List, [], ◌∷◌, ◌++◌, length, map, ap, sym, ◌∙◌, subst, arith, ℤ}
+use Rattle.std.proofs.Common.{◌≡◌, ◌≢◌, ℕ, suc, ◌<◌, List, [], ◌∷◌, ◌++◌, length, map, refl, ap, sym, ◌∙◌, subst, arith, ℤ}
 use Rattle.std.specs.List.{Contains}
 use Rattle.lra_linear.specs.declared.Excess as E
 use Rattle.lra_linear.specs.Descriptions.{Given, AreGenerators, Con, Gen, system_of}
 use Rattle.lra_linear.specs.OperationStrain.{FromGeneratorsStrains}
-use Rattle.lra_linear.specs.Points.{IsWithin, IsEmptySet}
+use Rattle.lra_linear.specs.Points.{PointSet, IsWithin, IsEmptySet}
 use Rattle.lra_linear.specs.Polyhedra.{Polyhedron, IsPolyhedronOf}
 use Rattle.lra_linear.specs.Strain.{Loss, Strains}
 use Rattle.lra_row.specs.declared.error.RowError.TheVariants as of_row
@@ -23,7 +23,7 @@ use Rattle.lra_cone.proofs.GeneratorLists.{nothing_generated}
 use Rattle.lra_cone.specs.Losses.{IfLost}
 use Rattle.lra_cone.proofs.ConstraintLists.{constrained, dual_given, some_point}
 use Rattle.lra_pair.specs.OwnLists.{IsOwnLoss, IsOwnExcess}
-use Rattle.lra_pair.proofs.PairLosses.{own_lost, from_generators_strain}
+use Rattle.lra_pair.proofs.PairLosses.{own_strain, from_generators_strain}
 
 pub record Taken (n : ℕ) (given : Listed GenKind) (list : Listed ConKind) (cone : Shape) (losses : List Loss) : Type 0 where
   pub within : IsWithin n (Gen (generators given)) (Con (constraints list))
@@ -65,30 +65,32 @@ gen_none : (n : ℕ) → IsEmptySet n (Gen [])
 gen_none n x point h = nothing_generated n [] x point (λ t m. absurd (contains_none t m)) (gen_generated [] (entry x) h)
 
 -- some row was taken in
-pub some_taken : (n : ℕ) (given : Listed GenKind) (list : Listed ConKind) (cone : Shape) (losses : List Loss) → Taken n given list cone losses → losses ≡ [] → 0 < length cone.taken
-some_taken n given list cone losses t none = by_length cone.taken (t.some none)
-  where
-    by_length : (l : List Given) → ¬ (IsEmptySet n (Gen l)) → 0 < length l
-    by_length [] h = absurd (h (gen_none n))
-    by_length (x ∷ l) h = omega arith
+pub some_taken : (n : ℕ) (taken : List Given) → ¬ (IsEmptySet n (Gen taken)) → 0 < length taken
+some_taken n [] h = absurd (h (gen_none n))
+some_taken n (x ∷ taken) h = omega arith
 
 -- ---- what comes of it
 pub exact_pair : (n d : ℕ) (given : Listed GenKind) (list : Listed ConKind) (cone : Shape) (losses : List Loss) (p : Polyhedron) → Taken n given list cone losses → losses ≡ [] → d ≡ n →
     IsPolyhedronOf d (Gen cone.taken) p → IsPolyhedronOf n (Gen (generators given)) p
 exact_pair n d given list cone losses p t none e h = subst (λ (l : List Given). IsPolyhedronOf n (Gen l) p) (t.whole none) (subst (λ (m : ℕ). IsPolyhedronOf m (Gen cone.taken) p) e h)
 
+pub taken_within : (n d : ℕ) (given : Listed GenKind) (list : Listed ConKind) (cone : Shape) (losses : List Loss) (P : PointSet) → Taken n given list cone losses → losses ≡ [] → d ≡ n →
+    IsWithin d (Gen cone.taken) P → IsWithin n (Gen (generators given)) P
+taken_within n d given list cone losses P t none e h = subst (λ (l : List Given). IsWithin n (Gen l) P) (t.whole none) (subst (λ (m : ℕ). IsWithin m (Gen cone.taken) P) e h)
+
+pub taken_strain : (n d : ℕ) (given : Listed GenKind) (list : Listed ConKind) (cone : Shape) (losses after : List Loss) → Taken n given list cone losses → losses ≡ [] → d ≡ n →
+    IfLost (FromGeneratorsStrains d cone.taken) after → IfLost (FromGeneratorsStrains n (generators given)) after
+taken_strain n d given list cone losses after t none e h =
+    subst (λ (l : List Given). IfLost (FromGeneratorsStrains n l) after) (t.whole none) (subst (λ (m : ℕ). IfLost (FromGeneratorsStrains m cone.taken) after) e h)
+
 pub lost_strain : (n : ℕ) (given : Listed GenKind) (list : Listed ConKind) (cone : Shape) (losses after : List Loss) → Taken n given list cone losses → after ≡ losses →
     IfLost (FromGeneratorsStrains n (generators given)) after
 lost_strain n given list cone losses after t e = from_generators_strain n (generators given) after (subst (IfLost (Strains (suc n) (generators given))) (sym e) t.strain)
 
-pub own_lost_strain : (n : ℕ) (given : Listed GenKind) (list : Listed ConKind) (cone : Shape) (e : E.Excess) (losses after told : List Loss) (loss : Loss) → Taken n given list cone losses →
-    after ≡ losses ++ loss ∷ [] → told ≡ after → IsOwnLoss cone e loss → IsOwnExcess cone (of_row.Excess e) →
-    IfLost (FromGeneratorsStrains n (generators given)) told
-own_lost_strain n given list cone e losses after told loss t ea et l x =
-    from_generators_strain n (generators given) told (subst (IfLost (Strains (suc n) (generators given))) (sym et)
-    (subst (λ (m : ℕ). IfLost (Strains (suc m) (generators given)) after) t.dims (own_lost [] (generators given) t.kept cone e losses after loss t.is_cone t.conversion ea l x)))
-
--- a list that was added to isn't empty
-pub some_loss : (losses after told : List Loss) (loss : Loss) → after ≡ losses ++ loss ∷ [] → told ≡ after → told ≡ [] → ⊥
-some_loss [] after told loss e f g = let z : loss ∷ [] ≡ [] = sym e ∙ sym f ∙ g in cc
-some_loss (x ∷ losses) after told loss e f g = let z : x ∷ (losses ++ loss ∷ []) ≡ [] = sym e ∙ sym f ∙ g in cc
+-- the own list strains
+pub own_lost_strain : (n : ℕ) (s : Shape) (e : E.Excess) (losses after told : List Loss) (loss : Loss) → s.dims ≡ n → IsCone s → losses ≡ [] → after ≡ losses ++ loss ∷ [] → told ≡ after →
+    IsOwnLoss s e loss → IsOwnExcess s (of_row.Excess e) → IfLost (FromGeneratorsStrains n s.taken) told
+own_lost_strain n s e losses after told loss d k none ea et l x =
+    let one : loss ∷ [] ≡ told = sym (et ∙ ea ∙ ap (λ (y : List Loss). y ++ loss ∷ []) none) in
+    from_generators_strain n s.taken told (subst (IfLost (Strains (suc n) s.taken)) one
+    (subst (λ (m : ℕ). Strains (suc m) s.taken loss) d (own_strain s s.taken e loss k refl l x)))

@@ -20,7 +20,7 @@ use Rattle.lra_cone.specs.Losses.{IfLost}
 use Rattle.lra_pair.specs.OwnLists.{IsOwnLoss, IsOwnExcess}
 
 -- where no row was left out before, the own list's strain is the list's
-own_strain : (s : Shape) (all : List Given) (e : E.Excess) (loss : Loss) → IsCone s → s.taken ≡ all → IsOwnLoss s e loss → IsOwnExcess s (of_row.Excess e) → Strains (suc s.dims) all loss
+pub own_strain : (s : Shape) (all : List Given) (e : E.Excess) (loss : Loss) → IsCone s → s.taken ≡ all → IsOwnLoss s e loss → IsOwnExcess s (of_row.Excess e) → Strains (suc s.dims) all loss
 own_strain s all e loss k t l x = record {
   rest = [];
   begins = sym t ∙ sym l.chosen ∙ sym (append-nil loss.chosen);
@@ -44,9 +44,6 @@ own_lost first all kept s e losses after loss k c ea l x = subst (IfLost (Strain
 pub from_strain : (n : ℕ) (rows : List Given) (losses : List Loss) → IfLost (Strains (suc n) (with_positivity n rows)) losses → IfLost (FromRowsStrains n rows) losses
 from_strain n rows [] s = tt
 from_strain n rows (loss ∷ later) s = inl s
-
-pub within_kept : (n : ℕ) (rows kept : List Given) (p : Polyhedron) → ((g : Given) → Contains kept g → Contains rows g) → IsPolyhedronOf n (Con kept) p → IsWithin n (Con rows) (Con p.rows)
-within_kept n rows kept p among h x point con = h.points.0 x point (λ g m. con g (among g m))
 
 -- ---- the row that is named
 given_at : {K : Type 0} (equal : K → Bool) (rows : List (List ℤ)) (kinds : List K) (i : ℕ) (d : K) → length kinds ≡ length rows → i < length rows →
@@ -100,20 +97,43 @@ pub within_both : (n d : ℕ) (P Q R : PointSet) → d ≡ n → IsWithin n P Q 
 within_both n d P Q R e h k x point p = subst (λ (m : ℕ). IsWithin m Q R) e k x point (h x point p)
 
 -- ---- as the code tells it, of constraints
+taken_behind : (d : ℕ) (rows kept : List Given) (s start : Shape) (losses : List Loss) → start.taken ≡ inequality (positivity d) ∷ [] → IsConversion start.taken rows kept s losses →
+    drop 1 s.taken ≡ kept
+taken_behind d rows kept s start losses first c = ap (drop 1) (c.taken ∙ ap (λ (l : List Given). l ++ kept) first)
+
+pub rows_exact : (n d : ℕ) (rows kept : List Given) (s start : Shape) (losses : List Loss) (p : Polyhedron) → d ≡ n → start.taken ≡ inequality (positivity d) ∷ [] →
+    IsConversion start.taken rows kept s losses → losses ≡ [] → IsPolyhedronOf d (Con (drop 1 s.taken)) p → IsPolyhedronOf n (Con rows) p
+rows_exact n d rows kept s start losses p e first c none h =
+    subst (λ (m : ℕ). IsPolyhedronOf m (Con rows) p) e (subst (λ (l : List Given). IsPolyhedronOf d (Con l) p) (taken_behind d rows kept s start losses first c ∙ c.whole none) h)
+
 pub rows_within : (n d : ℕ) (rows kept : List Given) (s start : Shape) (losses : List Loss) (p : Polyhedron) → d ≡ n → start.taken ≡ inequality (positivity d) ∷ [] →
-    IsConversion start.taken rows kept s losses → IsPolyhedronOf d (Con (drop 1 s.taken)) p → IsWithin n (Con rows) (Con p.rows)
+    IsConversion start.taken rows kept s losses → IsWithin d (Con (drop 1 s.taken)) (Con p.rows) → IsWithin n (Con rows) (Con p.rows)
 rows_within n d rows kept s start losses p e first c h =
-    let t : drop 1 s.taken ≡ kept = ap (drop 1) (c.taken ∙ ap (λ (l : List Given). l ++ kept) first) in
-    subst (λ (m : ℕ). IsWithin m (Con rows) (Con p.rows)) e (within_kept d rows kept p c.among (subst (λ (l : List Given). IsPolyhedronOf d (Con l) p) t h))
+    subst (λ (m : ℕ). IsWithin m (Con rows) (Con p.rows)) e
+    (first_within d kept rows (Con p.rows) c.among (subst (λ (l : List Given). IsWithin d (Con l) (Con p.rows)) (taken_behind d rows kept s start losses first c) h))
 
 pub universe_within : (n d : ℕ) (rows : List Given) (p : Polyhedron) → d ≡ n → IsPolyhedronOf d (Con []) p → IsWithin n (Con rows) (Con p.rows)
 universe_within n d rows p e h = subst (λ (m : ℕ). IsWithin m (Con rows) (Con p.rows)) e (λ x point con. h.points.0 x point (con_none x))
 
-pub rows_strain : (n d : ℕ) (rows kept : List Given) (s start : Shape) (e : E.Excess) (losses after : List Loss) (loss : Loss) → d ≡ n → s.dims ≡ start.dims → start.dims ≡ d →
-    start.taken ≡ inequality (positivity d) ∷ [] → IsCone s → IsConversion start.taken rows kept s losses → after ≡ losses ++ loss ∷ [] → IsOwnLoss s e loss → IsOwnExcess s (of_row.Excess e) →
-    IfLost (FromRowsStrains n rows) after
-rows_strain n d rows kept s start e losses after loss ed es er first k c ea l x =
-    let i : s.dims ≡ n = es ∙ er ∙ ed in
-    let all : start.taken ++ rows ≡ with_positivity n rows = ap (λ (g : List Given). g ++ rows) (first ∙ ap (λ (m : ℕ). inequality (positivity m) ∷ []) ed) in
+pub rows_strain : (n d : ℕ) (rows kept : List Given) (s start : Shape) (losses after : List Loss) → d ≡ n → start.taken ≡ inequality (positivity d) ∷ [] →
+    IsConversion start.taken rows kept s losses →
+    ((first all kept : List Given) → IsConversion first all kept s losses → IfLost (Strains (suc d) (first ++ all)) after) → IfLost (FromRowsStrains n rows) after
+rows_strain n d rows kept s start losses after e first c h =
+    let all : start.taken ++ rows ≡ with_positivity n rows = ap (λ (g : List Given). g ++ rows) (first ∙ ap (λ (m : ℕ). inequality (positivity m) ∷ []) e) in
     from_strain n rows after (subst (λ (g : List Given). IfLost (Strains (suc n) g) after) all
-    (subst (λ (m : ℕ). IfLost (Strains (suc m) (start.taken ++ rows)) after) i (own_lost start.taken rows kept s e losses after loss k c ea l x)))
+    (subst (λ (m : ℕ). IfLost (Strains (suc m) (start.taken ++ rows)) after) e (h start.taken rows kept c)))
+
+-- nothing more was lost
+pub same_strain : (d : ℕ) (s : Shape) (losses : List Loss) → s.dims ≡ d → (first all kept : List Given) → IsConversion first all kept s losses → IfLost (Strains (suc d) (first ++ all)) losses
+same_strain d s losses e first all kept c = subst (λ (m : ℕ). IfLost (Strains (suc m) (first ++ all)) losses) e c.strain
+
+-- the own list strains
+pub later_strain : (d : ℕ) (s : Shape) (x : E.Excess) (losses after : List Loss) (loss : Loss) → s.dims ≡ d → IsCone s → after ≡ losses ++ loss ∷ [] → IsOwnLoss s x loss →
+    IsOwnExcess s (of_row.Excess x) → (first all kept : List Given) → IsConversion first all kept s losses → IfLost (Strains (suc d) (first ++ all)) after
+later_strain d s x losses after loss e k ea l h first all kept c =
+    subst (λ (m : ℕ). IfLost (Strains (suc m) (first ++ all)) after) e (own_lost first all kept s x losses after loss k c ea l h)
+
+-- a list that was added to isn't empty
+pub some_loss : (losses after told : List Loss) (loss : Loss) → after ≡ losses ++ loss ∷ [] → told ≡ after → told ≡ [] → ⊥
+some_loss [] after told loss e f g = let z : loss ∷ [] ≡ [] = sym e ∙ sym f ∙ g in cc
+some_loss (x ∷ losses) after told loss e f g = let z : x ∷ (losses ++ loss ∷ []) ≡ [] = sym e ∙ sym f ∙ g in cc

@@ -1,6 +1,6 @@
 //! Both canonical lists of a polyhedron.
 
-ghost use Rattle.std.specs.Prelude.{◌≡◌, ◌∷◌, ◌<◌, ◌^◌, [], length, drop, IfOk};
+ghost use Rattle.std.specs.Prelude.{◌≡◌, ◌∷◌, ◌++◌, ◌<◌, ◌^◌, [], List, suc, length, drop, IfOk};
 ghost use Rattle.std.specs.List.{Contains};
 ghost use Rattle.lra_linear.specs.Descriptions.{AreGenerators, Con, Gen, Given, inequality};
 ghost use Rattle.lra_linear.specs.OperationStrain.{FromRowsStrains, FromGeneratorsStrains};
@@ -8,6 +8,9 @@ ghost use Rattle.lra_linear.specs.Points.{IsEmptySet, IsWithin};
 ghost use Rattle.lra_linear.specs.Polyhedra.{IsPolyhedron, IsPolyhedronOf, falsity};
 ghost use Rattle.lra_sys.specs.Listed.{constraints, generators, FitKinds};
 ghost use Rattle.lra_cone.specs.Cones.{IsCone};
+ghost use Rattle.lra_linear.specs.Strain.{Strains};
+ghost use Rattle.lra_sys.specs.declared.system.GenKind.TheVariants.{Point};
+ghost use Rattle.lra_cone.specs.Conversions.{IsConversion};
 ghost use Rattle.lra_cone.specs.Losses.{IfLost};
 ghost use Rattle.lra_pair.specs.OwnLists.{IsOwnList, IsOwnLoss, IsPositive};
 
@@ -168,6 +171,39 @@ fn own_loss(alloc: Global, cone: &Cone, excess: Excess) -> Result<Loss, AllocErr
     )
 }
 
+// The polyhedron of the rows that were taken into the cone, behind these losses; all points where a number passes in
+// its canonical constraints.
+fn of_taken_rows(
+    alloc: Global,
+    n: usize,
+    cone: &Cone,
+    mut losses: Vec<Loss>,
+) -> Result<(Pair, Vec<Loss>), AllocError>
+    requires small { n < 2 ^ 62 }
+    requires dims { cone.now.dims ≡ n }
+    requires positive { IsPositive n cone.now.taken }
+    ensures dims { IfOk result (λ r. r.0.dims ≡ n) }
+    ensures canonical { IfOk result (λ r. IsPolyhedron r.0) }
+    ensures exact { IfOk result (λ r. r.1.items ≡ [] → IsPolyhedronOf n (Con (drop 1 cone.now.taken)) r.0) }
+    ensures none { IfOk result (λ r. r.1.items ≡ [] → losses.items ≡ []) }
+    ensures within { IfOk result (λ r. IsWithin n (Con (drop 1 cone.now.taken)) (Con r.0.rows)) }
+    ensures strain { IfOk result (λ r. (first all kept : List Given) →
+        IsConversion first all kept cone.now losses.items → IfLost (Strains (suc n) (first ++ all)) r.1.items) }
+{
+    match own_list(alloc, cone) {
+        Ok(own) => {
+            let pair = of_rows(alloc, n, cone, &own)?;
+            Ok((pair, losses))
+        }
+        Err(RowError::Memory) => Err(AllocError),
+        Err(RowError::Excess(excess)) => {
+            losses.push(own_loss(alloc, cone, excess)?)?;
+            let pair = universe(alloc, n)?;
+            Ok((pair, losses))
+        }
+    }
+}
+
 /// The polyhedron of the constraints, and what was lost: rows with which a number passes the range, or there are too
 /// many generators, are left out; where a number passes in the canonical constraints, all are. Without a loss it has
 /// the points of the constraints, else at least those.
@@ -182,23 +218,13 @@ pub fn from_rows(alloc: Global, rows: &ConSys) -> Result<(Pair, Vec<Loss>), Allo
     if n >= TOO_MANY_DIMENSIONS {
         return Err(AllocError);
     }
+    let conversion = take_rows(alloc, positive_cone(alloc, n)?, rows)?;
     let Conversion {
         cone,
         kept: _,
-        mut losses,
-    } = take_rows(alloc, positive_cone(alloc, n)?, rows)?;
-    match own_list(alloc, &cone) {
-        Ok(own) => {
-            let pair = of_rows(alloc, n, &cone, &own)?;
-            Ok((pair, losses))
-        }
-        Err(RowError::Memory) => Err(AllocError),
-        Err(RowError::Excess(excess)) => {
-            losses.push(own_loss(alloc, &cone, excess)?)?;
-            let pair = universe(alloc, n)?;
-            Ok((pair, losses))
-        }
-    }
+        losses,
+    } = conversion;
+    of_taken_rows(alloc, n, &cone, losses)
 }
 
 // At most so many constraints are kept behind a loss: what is generated of them stays small.
@@ -240,6 +266,68 @@ fn widened(alloc: Global, list: &ConSys, losses: Vec<Loss>) -> Result<(Pair, Vec
     Ok((pair, losses))
 }
 
+// The polyhedron of the generators that were taken into the cone, some of them points; where a number passes in the
+// canonical ones, that of constraints that hold at each of them.
+fn of_taken_generators(
+    alloc: Global,
+    n: usize,
+    cone: &Cone,
+    list: &ConSys,
+) -> Result<(Pair, Vec<Loss>), AllocError>
+    requires small { n < 2 ^ 62 }
+    requires dims { cone.now.dims ≡ n }
+    requires list_dims { list.now.dims ≡ n }
+    requires columns { AreGenerators cone.now.taken }
+    requires some { ¬ (IsEmptySet n (Gen cone.now.taken)) }
+    requires within { IsWithin n (Gen cone.now.taken) (Con (constraints list.now)) }
+    ensures dims { IfOk result (λ r. r.0.dims ≡ n) }
+    ensures canonical { IfOk result (λ r. IsPolyhedron r.0) }
+    ensures exact { IfOk result (λ r. r.1.items ≡ [] → IsPolyhedronOf n (Gen cone.now.taken) r.0) }
+    ensures within { IfOk result (λ r. IsWithin n (Gen cone.now.taken) (Con r.0.rows)) }
+    ensures strain { IfOk result (λ r. IfLost (FromGeneratorsStrains n cone.now.taken) r.1.items) }
+{
+    let mut losses = Vec::new(alloc);
+    match own_list(alloc, cone) {
+        Ok(own) => {
+            let pair = of_generators(alloc, n, cone, &own)?;
+            Ok((pair, losses))
+        }
+        Err(RowError::Memory) => Err(AllocError),
+        Err(RowError::Excess(excess)) => {
+            losses.push(own_loss(alloc, cone, excess)?)?;
+            widened(alloc, list, losses)
+        }
+    }
+}
+
+// The polyhedron of generators, some of them points, and what was lost.
+fn from_points(alloc: Global, given: &GenSys) -> Result<(Pair, Vec<Loss>), AllocError>
+    requires small { given.now.dims < 2 ^ 62 }
+    requires kinds { FitKinds given.now.rows given.now.kinds }
+    requires many { length given.now.kinds ≡ length given.now.rows }
+    requires point { Contains given.now.kinds Point }
+    ensures dims { IfOk result (λ r. r.0.dims ≡ given.now.dims) }
+    ensures canonical { IfOk result (λ r. IsPolyhedron r.0) }
+    ensures exact { IfOk result (λ r. r.1.items ≡ [] → IsPolyhedronOf given.now.dims (Gen (generators given.now)) r.0) }
+    ensures within { IfOk result (λ r. IsWithin given.now.dims (Gen (generators given.now)) (Con r.0.rows)) }
+    ensures strain { IfOk result (λ r. IfLost (FromGeneratorsStrains given.now.dims (generators given.now)) r.1.items) }
+{
+    let n = given.dims();
+    let rows = dual_rows(alloc, given)?;
+    let conversion = take_rows(alloc, Cone::whole(alloc, n)?, &rows)?;
+    let list = valid_list(alloc, &conversion, &rows)?;
+    let Conversion {
+        cone,
+        kept: _,
+        losses,
+    } = conversion;
+    if losses.is_empty() {
+        of_taken_generators(alloc, n, &cone, &list)
+    } else {
+        widened(alloc, &list, losses)
+    }
+}
+
 /// The polyhedron of the generators, and what was lost. Where one of them isn't taken in, those of the constraints that
 /// are valid on all of them are taken, as where a number passes in the canonical generators. Without a loss it has the
 /// points of the generators, else at least those.
@@ -259,26 +347,5 @@ pub fn from_generators(alloc: Global, given: &GenSys) -> Result<(Pair, Vec<Loss>
         let pair = empty(alloc, n)?;
         return Ok((pair, Vec::new(alloc)));
     }
-    let rows = dual_rows(alloc, given)?;
-    let conversion = take_rows(alloc, Cone::whole(alloc, n)?, &rows)?;
-    let list = valid_list(alloc, &conversion, &rows)?;
-    let Conversion {
-        cone,
-        kept: _,
-        mut losses,
-    } = conversion;
-    if !losses.is_empty() {
-        return widened(alloc, &list, losses);
-    }
-    match own_list(alloc, &cone) {
-        Ok(own) => {
-            let pair = of_generators(alloc, n, &cone, &own)?;
-            Ok((pair, losses))
-        }
-        Err(RowError::Memory) => Err(AllocError),
-        Err(RowError::Excess(excess)) => {
-            losses.push(own_loss(alloc, &cone, excess)?)?;
-            widened(alloc, &list, losses)
-        }
-    }
+    from_points(alloc, given)
 }
