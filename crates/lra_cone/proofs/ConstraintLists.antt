@@ -1,24 +1,23 @@
 -- The constraints that are shown of a cone are the canonical ones of its rows, which are generators.
-use Rattle.std.proofs.Common.{◌≡◌, ◌≢◌, ℕ, suc, ◌+◌, ◌<◌, ◌≤◌, Bool, true, false, cond, List, [], ◌∷◌, ◌++◌, length, replicate, map, take, get_or, refl, ap, sym, ◌∙◌, subst, arith, pos, negsuc, ℤ}
+use Rattle.std.proofs.Common.{◌≡◌, ◌≢◌, ℕ, suc, ◌+◌, ◌<◌, ◌≤◌, Bool, true, false, List, [], ◌∷◌, ◌++◌, length, replicate, map, take, get_or, refl, ap, sym, ◌∙◌, subst, arith, pos, negsuc, ℤ}
 use Rattle.std.proofs.Common.{neg_ℤ, ◌<ℤ◌, ◌≤ℤ◌, inl, inr, ◌⊎◌, zero}
 use Rattle.std.specs.List.{Contains}
-use Rattle.std.specs.List.Sorted.{IsPermutation}
 use Rattle.std.proofs.lemmas.Int.{ints}
 use Rattle.std.proofs.lemmas.List.{length-replicate, get_or_default}
 use Rattle.std.proofs.lemmas.List.Elements.{Contains-append_cases, Contains-append_left, Contains-append_right}
 use Rattle.std.proofs.lemmas.List.Sorted.{Contains-permutation, IsPermutation-sym, length_permutation}
 use Rattle.lra_linear.specs.Vectors.{entry, dot, product, negated, zeros}
-use Rattle.lra_linear.specs.Cones.{Generated, both_ways, all_rows, AreDual}
-use Rattle.lra_linear.specs.Descriptions.{Given, Con, Gen, inequality, equality, given_as, system_of, Holds, HoldsWith}
+use Rattle.lra_linear.specs.Cones.{both_ways, all_rows, AreDual}
+use Rattle.lra_linear.specs.Descriptions.{Given, Con, Gen, inequality, given_as, system_of, HoldsWith}
 use Rattle.lra_linear.specs.OperationStrain.{unit_row}
-use Rattle.lra_linear.specs.Points.{IsPoint, IsWithin, SameSet, IsEmptySet}
+use Rattle.lra_linear.specs.Points.{IsWithin, SameSet, IsEmptySet}
 use Rattle.lra_linear.specs.Polyhedra.{positivity, falsity}
 use Rattle.lra_linear.specs.Canonical.{IsCanonical}
 use Rattle.lra_linear.proofs.CanonicalForms.{no_repeat}
-use Rattle.lra_linear.proofs.Descriptions.{FromGiven, system_from, system_has, gen_generated, generated_gen, dual_same_points, dual_flipped}
+use Rattle.lra_linear.proofs.Descriptions.{system_from, system_has, gen_generated, generated_gen, dual_same_points, dual_flipped}
 use Rattle.lra_linear.proofs.Combinations.{generated_row}
 use Rattle.lra_linear.proofs.LinearMaps.{generated_nonneg}
-use Rattle.lra_linear.proofs.Membership.{NoRepeat, contains_head, contains_tail, contains_none, contains_cases}
+use Rattle.lra_linear.proofs.Membership.{contains_head, contains_tail, contains_none, contains_cases}
 use Rattle.lra_linear.proofs.OneSpelling.{given_from, falsity_never}
 use Rattle.lra_linear.proofs.Lines.{signed_zero}
 use Rattle.lra_linear.proofs.Products.{negated_dot, dot_negated}

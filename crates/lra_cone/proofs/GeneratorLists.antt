@@ -1,5 +1,5 @@
 -- The generators that are shown of a cone are the canonical ones of its rows.
-use Rattle.std.proofs.Common.{◌≡◌, ◌≢◌, ℕ, suc, ◌+◌, ◌<◌, ◌≤◌, Bool, true, false, cond, List, [], ◌∷◌, ◌++◌, length, replicate, refl, ap, sym, ◌∙◌, subst, arith, pos, ℤ, neg_ℤ, ◌<ℤ◌, ◌≤ℤ◌, inl, inr}
+use Rattle.std.proofs.Common.{◌≡◌, ℕ, suc, ◌+◌, Bool, true, false, List, [], ◌∷◌, ◌++◌, length, replicate, refl, ap, sym, ◌∙◌, subst, arith, pos, ℤ, neg_ℤ, ◌<ℤ◌, ◌≤ℤ◌, inl, inr}
 use Rattle.std.proofs.Common.{◌⊎◌}
 use Rattle.std.specs.List.{Contains}
 use Rattle.std.proofs.lemmas.Int.{ints}
@@ -8,7 +8,7 @@ use Rattle.std.proofs.lemmas.List.Elements.{Contains-append_cases, Contains-appe
 use Rattle.lra_linear.specs.Vectors.{entry, dot, product, negated}
 use Rattle.lra_linear.specs.Canonical.{IsCanonical}
 use Rattle.lra_linear.specs.Cones.{Generated, both_ways, all_rows, AreDual}
-use Rattle.lra_linear.specs.Descriptions.{Given, Con, Gen, inequality, given_as, system_of, Holds, HoldsWith}
+use Rattle.lra_linear.specs.Descriptions.{Given, Con, Gen, inequality, given_as, system_of}
 use Rattle.lra_linear.specs.DoubleDescription.{with_row}
 use Rattle.lra_linear.specs.Points.{IsPoint, SameSet, IsEmptySet}
 use Rattle.lra_linear.specs.Polyhedra.{positivity, falsity}
@@ -21,13 +21,12 @@ use Rattle.lra_linear.proofs.Polyhedra.{con_gen}
 use Rattle.lra_linear.proofs.Products.{entry_negated, negated_dot}
 use Rattle.lra_linear.proofs.Signs.{between_opposites}
 use Rattle.lra_canon.proofs.Orders.{ascends}
-use Rattle.lra_canon.specs.declared.order.Order.TheVariants.{Generators, Inequalities}
-use Rattle.lra_sys.specs.Listed.{Listed, generators, constraints, given_by, is_line, FitsKind, FitKinds}
-use Rattle.lra_linear.specs.Kinds.{is_equality}
+use Rattle.lra_canon.specs.declared.order.Order.TheVariants.{Generators}
+use Rattle.lra_sys.specs.Listed.{Listed, generators, given_by, is_line, FitsKind, FitKinds}
 use Rattle.lra_sys.specs.declared.system.GenKind.{GenKind}
 use Rattle.lra_sys.specs.declared.system.GenKind.TheVariants.{Point, Ray, Line}
 use Rattle.lra_cone.specs.Cones.{Shape, IsCone}
-use Rattle.lra_cone.specs.Conversions.{points_of, directions_of, ListsGenerators, ShowsGenerators, HasGenerators, AreGeneratorsOf}
+use Rattle.lra_cone.specs.Conversions.{points_of, ListsGenerators, ShowsGenerators, HasGenerators, AreGeneratorsOf}
 use Rattle.lra_cone.proofs.Reordered.{InParts, in_parts, parts_once, once_left, once_right, dual_again, canonical_again, parted, directions_from}
 
 -- ---- lists of several kinds

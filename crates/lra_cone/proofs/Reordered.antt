@@ -10,7 +10,7 @@ use Rattle.std.proofs.lemmas.List.{length-append, append-nil, take_more}
 use Rattle.std.proofs.lemmas.List.Elements.{Contains-append_cases, Contains-append_left, Contains-append_right, All-contains, All-from_get_or, Contains-get_or}
 use Rattle.std.proofs.lemmas.List.Sorted.{Contains-permutation, IsPermutation-sym, length_permutation, All-permutation}
 use Rattle.lra_linear.specs.Vectors.{entry}
-use Rattle.lra_linear.specs.Cones.{Generated, both_ways, all_rows, AreDual}
+use Rattle.lra_linear.specs.Cones.{both_ways, all_rows, AreDual}
 use Rattle.lra_linear.specs.Canonical.{IsCanonical}
 use Rattle.lra_linear.specs.RowOrder.{row_cmp, inequality_cmp}
 use Rattle.lra_linear.specs.Polyhedra.{positivity}
@@ -304,28 +304,29 @@ without_widths w row rays others h p = All-permutation (λ r. length r ≡ w) (w
     (All-from_contains (λ r. length r ≡ w) (without row rays) (λ r m. All-contains (λ r. length r ≡ w) rays r h (without_from row rays r m).0))
 
 -- ---- the list of generators, as it is put together
-pub put_together : (lines rays found others points directions : List (List ℤ)) (empty first second list : Listed GenKind) → found ≡ points_of rays → others ≡ directions_of rays →
-    IsPermutation found points → IsPermutation others directions →
-    IsSorted row_cmp points → IsSorted row_cmp directions → found ≢ [] → empty.rows ≡ [] → empty.kinds ≡ [] →
+pub put_together : (lines rays points directions : List (List ℤ)) (empty first second list : Listed GenKind) → IsPermutation (points_of rays) points →
+    IsPermutation (directions_of rays) directions → IsSorted row_cmp points → IsSorted row_cmp directions → points ≢ [] → empty.rows ≡ [] → empty.kinds ≡ [] →
     first.rows ≡ empty.rows ++ points → first.kinds ≡ empty.kinds ++ replicate (length points) Point → second.rows ≡ first.rows ++ directions →
     second.kinds ≡ first.kinds ++ replicate (length directions) Ray →
     list.rows ≡ second.rows ++ lines → list.kinds ≡ second.kinds ++ replicate (length lines) Line → ListsGenerators lines rays list
-put_together lines rays found others points directions empty first second list ef eo p d sp sd some r0 k0 r1 k1 r2 k2 r3 k3 = record {
+put_together lines rays points directions empty first second list p d sp sd some r0 k0 r1 k1 r2 k2 r3 k3 = record {
   points = points;
   directions = directions;
   rows_are = r3 ∙ ap (λ (x : List (List ℤ)). x ++ lines) (r2 ∙ ap (λ (x : List (List ℤ)). x ++ directions) (r1 ∙ ap (λ (x : List (List ℤ)). x ++ points) r0));
   kinds_are = k3 ∙ ap (λ (x : List GenKind). x ++ replicate (length lines) Line) (k2 ∙
       ap (λ (x : List GenKind). x ++ replicate (length directions) Ray) (k1 ∙ ap (λ (x : List GenKind). x ++ replicate (length points) Point) k0));
-  points_are = subst (λ (x : List (List ℤ)). IsPermutation x points) ef p;
-  directions_are = subst (λ (x : List (List ℤ)). IsPermutation x directions) eo d;
+  points_are = p;
+  directions_are = d;
   points_sorted = sp;
   directions_sorted = sd;
-  some_point = λ e. some (none_of found points p e);
+  some_point = some;
 }
-  where
-    none_of : (xs ys : List (List ℤ)) → IsPermutation xs ys → ys ≡ [] → xs ≡ []
-    none_of [] ys p e = refl
-    none_of (x ∷ xs) ys p e = absurd (contains_none x (subst (λ (l : List (List ℤ)). Contains l x) e (Contains-permutation (x ∷ xs) ys x p (contains_head x xs))))
+
+-- rows that in another order are none
+pub none_before : (xs ys : List (List ℤ)) → IsPermutation xs ys → length ys ≡ 0 → xs ≡ []
+none_before [] ys p e = refl
+none_before (x ∷ xs) [] p e = absurd (contains_none x (Contains-permutation (x ∷ xs) [] x p (contains_head x xs)))
+none_before (x ∷ xs) (y ∷ ys) p e = absurd (omega (arith, e))
 
 -- ---- and of constraints
 pub put_constraints : (n : ℕ) (lines rays found inequalities : List (List ℤ)) (row : List ℤ) (empty first list : Listed ConKind) → row ≡ positivity n → found ≡ without row rays →

@@ -1,5 +1,5 @@
 -- Rows taken in one by one: what is told of the losses stays so as further rows come.
-use Rattle.std.proofs.Common.{◌≡◌, ℕ, suc, ◌<◌, ◌+◌, List, [], ◌∷◌, ◌++◌, length, get_or, take, refl, ap, sym, ◌∙◌, subst, arith, ℤ, Bool, inl, inr, ◌⊎◌}
+use Rattle.std.proofs.Common.{◌≡◌, ℕ, suc, ◌<◌, ◌+◌, List, [], ◌∷◌, ◌++◌, length, get_or, take, refl, ap, sym, ◌∙◌, subst, arith, ℤ, Bool, inl, inr}
 use Rattle.std.specs.List.{Contains}
 use Rattle.std.proofs.lemmas.List.{append_assoc, append-nil, take_more, length-take-le, take_all, get_or_default}
 use Rattle.std.proofs.lemmas.List.Elements.{Contains-append_cases, Contains-append_left, Contains-append_right}
@@ -13,7 +13,6 @@ use Rattle.lra_sys.specs.Listed.{Listed, constraints, given_by}
 use Rattle.lra_linear.specs.Kinds.{is_equality}
 use Rattle.lra_linear.specs.declared.ConKind.{ConKind}
 use Rattle.lra_cone.specs.declared.strained.Strained.{Strained}
-use Rattle.lra_cone.specs.declared.strained.ConeError as C
 use Rattle.lra_cone.specs.declared.strained.ConeError.TheVariants as of_cone
 use Rattle.lra_cone.specs.Cones.{Shape, IsCone}
 use Rattle.lra_cone.specs.Strains.{IsConeError, cause_of}

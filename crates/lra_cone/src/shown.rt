@@ -2,6 +2,7 @@
 
 ghost use Rattle.std.specs.Prelude.{◌≡◌, ◌++◌, ◌<◌, ◌^◌, suc, pos, int_lt, length, replicate, IfOk, OnOk};
 ghost use Rattle.std.specs.List.{All};
+ghost use Rattle.std.specs.List.Sorted.{IsPermutation, IsSorted};
 ghost use Rattle.std.specs.Ordering.{is_eq};
 ghost use Rattle.lra_linear.specs.Vectors.{entry};
 ghost use Rattle.lra_linear.specs.RowOrder.{row_cmp};
@@ -94,6 +95,28 @@ fn push_constraints(list: &mut ConSys, rows: &[Row], kind: ConKind) -> Result<()
     Ok(())
 }
 
+// The rays above 0 in column 0, in order.
+fn ordered_points(alloc: Global, rays: &[Row]) -> Result<Vec<Row>, AllocError>
+    requires { All (λ r. 0 < length r) rays.now }
+    ensures same { IfOk result (λ points. IsPermutation (points_of rays.now) points.items) }
+    ensures sorted { IfOk result (λ points. IsSorted row_cmp points.items) }
+{
+    let mut points = points_among(alloc, rays)?;
+    canonical_order(&mut points, Order::Generators)?;
+    Ok(points)
+}
+
+// The other rays, in order.
+fn ordered_directions(alloc: Global, rays: &[Row]) -> Result<Vec<Row>, AllocError>
+    requires { All (λ r. 0 < length r) rays.now }
+    ensures same { IfOk result (λ directions. IsPermutation (directions_of rays.now) directions.items) }
+    ensures sorted { IfOk result (λ directions. IsSorted row_cmp directions.items) }
+{
+    let mut directions = directions_among(alloc, rays)?;
+    canonical_order(&mut directions, Order::Generators)?;
+    Ok(directions)
+}
+
 /// The points, rays and lines, each in order, of a cone of n + 1 columns with these lines and rays; none where no ray
 /// is above 0 in column 0.
 pub fn generator_list(
@@ -108,14 +131,12 @@ pub fn generator_list(
     ensures dims { IfOk result (λ list. list.dims ≡ n) }
     ensures shown { IfOk result (ShowsGenerators lines.now rays.now) }
 {
-    let mut list = GenSys::new(alloc, n);
-    let mut points = points_among(alloc, rays)?;
+    let points = ordered_points(alloc, rays)?;
     if points.is_empty() {
-        return Ok(list);
+        return Ok(GenSys::new(alloc, n));
     }
-    let mut directions = directions_among(alloc, rays)?;
-    canonical_order(&mut points, Order::Generators)?;
-    canonical_order(&mut directions, Order::Generators)?;
+    let directions = ordered_directions(alloc, rays)?;
+    let mut list = GenSys::new(alloc, n);
     push_generators(&mut list, &points, GenKind::Point)?;
     push_generators(&mut list, &directions, GenKind::Ray)?;
     push_generators(&mut list, lines, GenKind::Line)?;

@@ -1,4 +1,4 @@
-use Rattle.std.proofs.Common.{arith, ℕ, ◌<◌, length}
+use Rattle.std.proofs.Common.{arith}
 use Rattle.lra_cone.proofs.ConstraintLists.{no_point_found}
 use Rattle.lra_cone.proofs.lists.has_point.Goals as goal
 

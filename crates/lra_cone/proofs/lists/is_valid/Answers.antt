@@ -1,4 +1,4 @@
-use Rattle.std.proofs.Common.{rules, FitsSigned, arith, sym, ◌∙◌, length}
+use Rattle.std.proofs.Common.{rules, FitsSigned, arith}
 use Rattle.std.specs.Int.{w128}
 use Rattle.std.proofs.lemmas.Int.{to_z-of_z}
 use Rattle.lra_linear.specs.Kinds.{is_equality}

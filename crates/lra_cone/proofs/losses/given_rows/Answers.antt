@@ -1,5 +1,4 @@
-use Rattle.std.proofs.Common.{◌∙◌, ap, arith, sym, subst, ◌++◌, ◌∷◌, [], List, ◌≡◌}
-use Rattle.lra_linear.specs.Descriptions.{Given}
+use Rattle.std.proofs.Common.{arith}
 use Rattle.lra_linear.specs.Kinds.{is_equality}
 use Rattle.lra_cone.proofs.RowsTaken.{given_pushed}
 use Rattle.lra_cone.proofs.losses.given_rows.Goals as goal

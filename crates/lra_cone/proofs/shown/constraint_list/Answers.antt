@@ -1,4 +1,4 @@
-use Rattle.std.proofs.Common.{◌≡◌, ◌∙◌, ap, sym, subst, suc, length, List, ℤ, ℕ}
+use Rattle.std.proofs.Common.{◌≡◌, ◌∙◌, sym, subst, suc, length, List, ℤ, ℕ}
 use Rattle.std.specs.List.{All}
 use Rattle.std.specs.List.Sorted.{IsPermutation}
 use Rattle.lra_cone.proofs.Reordered.{without_widths}

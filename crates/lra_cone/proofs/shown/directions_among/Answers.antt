@@ -1,4 +1,4 @@
-use Rattle.std.proofs.Common.{◌∙◌, ap, arith, sym, cond, Bool, List, ℤ, [], ◌∷◌}
+use Rattle.std.proofs.Common.{◌∙◌, ap, arith, sym, cond, Bool, [], ◌∷◌}
 use Rattle.lra_cone.specs.Conversions.{directions_of}
 use Rattle.lra_cone.proofs.Reordered.{directions_append, one_kept, one_left}
 use Rattle.lra_cone.proofs.shown.directions_among.Goals as goal

@@ -1,6 +1,6 @@
-use Rattle.std.proofs.Common.{length, refl, ◌∙◌, ap, sym, subst, ◌++◌, ◌∷◌, []}
+use Rattle.std.proofs.Common.{length, ◌∙◌, ap, sym, subst}
 use Rattle.lra_linear.specs.Descriptions.{Given}
-use Rattle.lra_sys.specs.Listed.{constraints, given_by}
+use Rattle.lra_sys.specs.Listed.{constraints}
 use Rattle.lra_linear.specs.Kinds.{is_equality}
 use Rattle.lra_cone.specs.Strains.{IsConeError}
 use Rattle.lra_cone.proofs.RowsTaken.{conversion_more, conversion_left_out, constraints_pushed}
