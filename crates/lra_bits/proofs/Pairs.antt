@@ -4,12 +4,12 @@ use Rattle.std.specs.Prelude.{◌&&◌, ◌==◌, ◌⊎◌, min}
 use Rattle.std.specs.Int.{bit_at}
 use Rattle.std.proofs.lemmas.Bool.{cases_lt, eqb-true}
 use Rattle.std.proofs.lemmas.Bool.Decides.{nat_tests}
-use Rattle.std.proofs.lemmas.List.{ext_get_or, get_or_past, append_assoc, append-nil}
+use Rattle.std.proofs.lemmas.List.{ext_get_or, get_or_past, get_or_default, append_assoc, append-nil}
 use Rattle.std.proofs.lemmas.Nat.{and_le_l}
 use Rattle.std.proofs.lemmas.Nat.Bits.{bit_at-lt, bit_at_and, same_from_bits_below}
 use Rattle.std.specs.List.{All}
 use Rattle.lra_bits.specs.TruthValues.{value_at, IsSubset, both}
-use Rattle.lra_bits.specs.Words.{bit_of, unpacked, words_needed, common_words, AreWithin}
+use Rattle.lra_bits.specs.Words.{bit_of, unpacked, words_needed, common_words, AreWithin, AreCommonWithin}
 use Rattle.lra_bits.proofs.Packing.{length_unpacked, value_unpacked, place_inside}
 
 -- ---- where both are true
@@ -119,6 +119,37 @@ module _ (width : ℕ) (us vs : List ℕ) (xs ys : List Bool) (e : unpacked widt
         where
           never : false ≡ true → ⊥
           never q = cc
+
+-- ---- where both are true, and the third is
+within_common : (us vs ts : List ℕ) → length us ≡ length vs → AreCommonWithin us vs ts → AreWithin (common_words us vs) ts
+within_common us vs ts e a i h =
+    let w = common_word us vs i e in
+    ap (λ n. bit_and n (get_or ts i 0)) w ∙ a i (omega (arith, h, common_length us vs e)) ∙ sym w
+
+common_within : (us vs ts : List ℕ) → length us ≡ length vs → AreWithin (common_words us vs) ts → AreCommonWithin us vs ts
+common_within us vs ts e a i h =
+    let w = common_word us vs i e in
+    ap (λ n. bit_and n (get_or ts i 0)) (sym w) ∙ a i (omega (arith, h, common_length us vs e)) ∙ w
+
+small_common : (us vs : List ℕ) → length us ≡ length vs → All (λ x. x < 2 ^ 64) us → All (λ x. x < 2 ^ 64) (common_words us vs)
+small_common us vs e r i d h =
+    let l : i < length us = omega (arith, h, common_length us vs e) in
+    let x = get_or us i 0 in
+    let small : x < 2 ^ 64 = r i 0 l in
+    let is : get_or (common_words us vs) i d ≡ bit_and x (get_or vs i 0) = get_or_default (common_words us vs) i d 0 h ∙ common_word us vs i e in
+    omega (arith, is, small, and_le_l x (get_or vs i 0))
+
+pub common_subset : (width : ℕ) (us vs ts : List ℕ) (xs ys zs : List Bool) → unpacked width us ≡ xs → unpacked width vs ≡ ys → unpacked width ts ≡ zs → length us ≡ words_needed width →
+    length vs ≡ words_needed width → length ts ≡ words_needed width → ((k : ℕ) → width ≤ k → bit_of us k ≡ false) → All (λ x. x < 2 ^ 64) us →
+    (AreCommonWithin us vs ts → IsSubset (both xs ys) zs) × (IsSubset (both xs ys) zs → AreCommonWithin us vs ts)
+common_subset width us vs ts xs ys zs e f g m n k u r =
+    let both_words = common_words us vs in
+    let same : length us ≡ length vs = m ∙ sym n in
+    let c = common_is width us vs xs ys e f m n both_words refl in
+    let d = common_unused width us vs xs ys e f m n u both_words refl in (
+      (λ a. words_subset width both_words ts (both xs ys) zs c g d.0 k (within_common us vs ts same a)),
+      (λ s. common_within us vs ts same (subset_words width both_words ts (both xs ys) zs c g d.0 k d.1 (small_common us vs same r) s)),
+    )
 
 -- ---- the loop
 pub common_more : (out xs ys all next xs' ys' : List ℕ) (x y : ℕ) → xs ≡ x ∷ xs' → ys ≡ y ∷ ys' → next ≡ out ++ bit_and x y ∷ [] → out ++ common_words xs ys ≡ all → next ++ common_words xs' ys' ≡ all

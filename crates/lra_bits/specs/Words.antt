@@ -32,3 +32,9 @@ common_words (x ∷ xs) (y ∷ ys) = bit_and x y ∷ common_words xs ys
 -- each bit that is set in a word of the first is set in that of the second
 abbrev pub AreWithin : List ℕ → List ℕ → Type 0
 AreWithin xs ys = (i : ℕ) → i < length xs → bit_and (slice_index xs i) (slice_index ys i) ≡ slice_index xs i
+
+-- each bit that is set in a word of the first and in that of the second is set in that of the third
+abbrev pub AreCommonWithin : List ℕ → List ℕ → List ℕ → Type 0
+AreCommonWithin xs ys zs = (i : ℕ) → i < length xs →
+    bit_and (bit_and (slice_index xs i) (slice_index ys i)) (slice_index zs i)
+    ≡ bit_and (slice_index xs i) (slice_index ys i)

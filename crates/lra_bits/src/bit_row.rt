@@ -90,4 +90,13 @@ impl BitRow {
             words,
         })
     }
+
+    /// Each value that is true here and in the second list is true in the third too. Takes no memory.
+    pub fn common_within(&self, second: &BitRow, third: &BitRow) -> bool
+        requires second { length self.now ≡ length second.now }
+        requires third { length self.now ≡ length third.now }
+        ensures { IsTrue result ↔ IsSubset (both self.now second.now) third.now }
+    {
+        words::are_common_within(&self.words, &second.words, &third.words)
+    }
 }

@@ -24,10 +24,13 @@ fn rows(rt: HostRuntime) -> Result<(), Fail> {
     for width in WIDTHS {
         let even = row_of(rt.alloc(), width, 2)?;
         let third = row_of(rt.alloc(), width, 3)?;
+        let fourth = row_of(rt.alloc(), width, 4)?;
         let sixth = row_of(rt.alloc(), width, 6)?;
         assert_eq!(rt; even.words().len(), width.div_ceil(64));
         assert_eq!(rt; even.subset(&third), width < 3);
         assert!(rt; sixth.subset(&even));
+        assert!(rt; even.common_within(&third, &sixth));
+        assert_eq!(rt; sixth.common_within(&even, &fourth), width < 7);
         let common = even.common(&third)?;
         assert_eq!(rt; common.width(), width);
         for k in 0..common.width() {

@@ -2,7 +2,7 @@
 
 ghost use Rattle.std.specs.Prelude.{◌≡◌, ◌<◌, ◌^◌, ◌↔◌, length, IfOk, IsTrue};
 ghost use Rattle.std.specs.List.{All};
-ghost use Rattle.lra_bits.specs.Words.{common_words, AreWithin};
+ghost use Rattle.lra_bits.specs.Words.{common_words, AreWithin, AreCommonWithin};
 
 use std::alloc::{AllocError, Global};
 
@@ -25,4 +25,17 @@ pub fn are_within(xs: &[u64], ys: &[u64]) -> bool
     ensures fit { All (λ x. x < 2 ^ 64) xs.now }
 {
     xs.iter().zip(ys).all(|(x, y)| x & y == *x)
+}
+
+// Each bit that is set in the first two is set in the third.
+pub fn are_common_within(xs: &[u64], ys: &[u64], zs: &[u64]) -> bool
+    requires second { length xs.now ≡ length ys.now }
+    requires third { length xs.now ≡ length zs.now }
+    ensures within { IsTrue result ↔ AreCommonWithin xs.now ys.now zs.now }
+    ensures fit { All (λ x. x < 2 ^ 64) xs.now }
+{
+    xs.iter()
+        .zip(ys)
+        .zip(zs)
+        .all(|((x, y), z)| (x & y) & z == x & y)
 }

@@ -70,12 +70,9 @@ pub pairs_skip_side : (products : List ℤ) (rows : List (List Bool)) (up down :
     ArePairs products rows up (down + 1) ps
 pairs_skip_side products rows up down ps h a = pairs_skip products rows up down ps (λ x y. absurd (not_below (get_or products down (pos 0)) h y)) a
 
-pub pairs_skip_third : (products : List ℤ) (rows : List (List Bool)) (up down : ℕ) (ps : List Pair) (u d t : List Bool) (b : Bool) → u ≡ get_or rows up [] → d ≡ get_or rows down [] → t ≡ both u d →
-    TellsAdjacent rows up down t b → b ≡ false →
+pub pairs_skip_third : (products : List ℤ) (rows : List (List Bool)) (up down : ℕ) (ps : List Pair) (b : Bool) → TellsAdjacent rows up down (both_tight rows up down) b → b ≡ false →
     ArePairs products rows up down ps → ArePairs products rows up (down + 1) ps
-pairs_skip_third products rows up down ps u d t b eu ed et h eb a =
-    let same : t ≡ both_tight rows up down = et ∙ ap (λ (x : List Bool). both x d) eu ∙ ap (λ (x : List Bool). both (get_or rows up []) x) ed in
-    pairs_skip products rows up down ps (λ x y. subst (λ (z : List Bool). HasThird rows up down z) same (subst (TellsAdjacent rows up down t) eb h)) a
+pairs_skip_third products rows up down ps b h eb a = pairs_skip products rows up down ps (λ x y. subst (TellsAdjacent rows up down (both_tight rows up down)) eb h) a
 
 apart_end : (ps : List Pair) (p : Pair) → AreApart ps → ((q : Pair) → Contains ps q → p.up ≡ q.up → p.down ≡ q.down → ⊥) → AreApart (ps ++ p ∷ [])
 apart_end [] p a h = ((λ q k e f. contains_none q k), tt)
@@ -90,7 +87,7 @@ apart_end (x ∷ ps) p a h = (
 -- a pair at this place
 pub pairs_push : (products : List ℤ) (rows : List (List Bool)) (up down : ℕ) (ps new : List Pair) (p : Pair) (u d : List Bool) (b : Bool) → p.up ≡ up → p.down ≡ down → new ≡ ps ++ p ∷ [] →
     pos 0 <ℤ get_or products up (pos 0) → get_or products down (pos 0) <ℤ pos 0 →
-    u ≡ get_or rows up [] → d ≡ get_or rows down [] → p.tight ≡ both u d → TellsAdjacent rows up down p.tight b → b ≡ true → ArePairs products rows up down ps →
+    u ≡ get_or rows up [] → d ≡ get_or rows down [] → p.tight ≡ both u d → TellsAdjacent rows up down (both_tight rows up down) b → b ≡ true → ArePairs products rows up down ps →
     ArePairs products rows up (down + 1) new
 pairs_push products rows up down ps new p u d b pu pd en above below eu ed et h eb a =
     subst (λ (x : List Pair). ArePairs products rows up (down + 1) x) (sym en)
@@ -110,12 +107,14 @@ pairs_push products rows up down ps new p u d b pu pd en above below eu ed et h 
       ];
     })
   where
+    told : p.tight ≡ both_tight rows up down
+    told = et ∙ ap (λ (x : List Bool). both x d) eu ∙ ap (λ (x : List Bool). both (get_or rows up []) x) ed
+
     same : p.tight ≡ both_tight rows p.up p.down
-    same = et ∙ ap (λ (x : List Bool). both x d) eu ∙ ap (λ (x : List Bool). both (get_or rows up []) x) ed ∙ ap (λ (n : ℕ). both_tight rows n down) (sym pu) ∙
-        ap (λ (n : ℕ). both_tight rows p.up n) (sym pd)
+    same = told ∙ ap (λ (n : ℕ). both_tight rows n down) (sym pu) ∙ ap (λ (n : ℕ). both_tight rows p.up n) (sym pd)
 
     alone : NoThird rows up down p.tight (length rows)
-    alone = subst (TellsAdjacent rows up down p.tight) eb h
+    alone = subst (λ (t : List Bool). NoThird rows up down t (length rows)) (sym told) (subst (TellsAdjacent rows up down (both_tight rows up down)) eb h)
 
     here : IsAdjacentPair products rows p
     here = record {

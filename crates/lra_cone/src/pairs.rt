@@ -1,7 +1,7 @@
 //! Pairs of adjacent rays on both sides of the row.
 
 ghost use Rattle.std.specs.Prelude.{◌≡◌, ◌<◌, ◌+◌, ◌<ℤ◌, pos, length, IfOk, OnOk, slice_index_or};
-ghost use Rattle.lra_cone.specs.Pairs.{TellsAdjacent, ArePairs};
+ghost use Rattle.lra_cone.specs.Pairs.{TellsAdjacent, ArePairs, both_tight};
 
 use lra_bits::{BitRow, SatMatrix};
 use std::alloc::{AllocError, Global};
@@ -14,13 +14,15 @@ pub struct Pair {
     pub tight: BitRow,
 }
 
-// No third ray is tight wherever both are.
-fn are_adjacent(saturation: &SatMatrix, up: usize, down: usize, tight: &BitRow) -> bool
-    requires { length tight.now ≡ saturation.now.width }
-    ensures { TellsAdjacent saturation.now.rows up down tight.now result }
+// No third ray is tight wherever both are. Takes no memory, since most pairs aren't adjacent.
+fn are_adjacent(saturation: &SatMatrix, up: usize, down: usize) -> bool
+    requires up { up < length saturation.now.rows }
+    requires down { down < length saturation.now.rows }
+    ensures { TellsAdjacent saturation.now.rows up down (both_tight saturation.now.rows up down) result }
 {
+    let (first, second) = (saturation.row(up), saturation.row(down));
     for third in 0..saturation.height() {
-        if third != up && third != down && tight.subset(saturation.row(third)) {
+        if third != up && third != down && first.common_within(second, saturation.row(third)) {
             return false;
         }
     }
@@ -42,8 +44,8 @@ fn push_pairs_of(
 {
     for down in 0..products.len() {
         if products[down] < 0 {
-            let tight = saturation.row(up).common(saturation.row(down))?;
-            if are_adjacent(saturation, up, down, &tight) {
+            if are_adjacent(saturation, up, down) {
+                let tight = saturation.row(up).common(saturation.row(down))?;
                 pairs.push(Pair { up, down, tight })?;
             }
         }

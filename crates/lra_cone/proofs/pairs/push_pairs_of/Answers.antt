@@ -1,13 +1,9 @@
 use Rattle.std.proofs.Common.{arith, rules, refl, FitsSigned, get_or, pos}
 use Rattle.std.specs.Int.{w128}
 use Rattle.std.proofs.lemmas.Int.{to_z-of_z}
-use Rattle.lra_cone.proofs.PairLists.{tight_width, less_said, not_less_said, pairs_skip_side, pairs_skip_third, pairs_push, pairs_next}
+use Rattle.lra_cone.proofs.PairLists.{less_said, not_less_said, pairs_skip_side, pairs_skip_third, pairs_push, pairs_next}
 use Rattle.lra_cone.proofs.pairs.push_pairs_of.Goals as goal
-use Rattle.lra_cone.proofs.pairs.push_pairs_of.Goals.{then-products-down-lt0+in_ok-tight+then-are_adjacent+in_ok-push, then-products-down-lt0+in_ok-tight+else-are_adjacent, else-products-down-lt0}
-
-pub are_adjacent-requires : goal.are_adjacent-requires
-are_adjacent-requires c = tight_width c.args.saturation.now.width c.row.result.now c.row-then-products-down-lt0.result.now c.in_ok-tight.tight c.row.ensures.width
-    c.row-then-products-down-lt0.ensures.width c.in_ok-tight.ensures
+use Rattle.lra_cone.proofs.pairs.push_pairs_of.Goals.{then-products-down-lt0+then-are_adjacent+in_ok-tight+in_ok-push, then-products-down-lt0+else-are_adjacent, else-products-down-lt0}
 
 pub loop-down-preserved : goal.loop-down-preserved
 loop-down-preserved c = λ first.
@@ -18,13 +14,12 @@ loop-down-preserved c = λ first.
     let fits : FitsSigned w128 (get_or products down (pos 0)) = search rules in
     let before = c.loop-down.invariant first in
     elim c.if-products-down-lt0.branch [
-      | then-products-down-lt0+in_ok-tight+then-are_adjacent+in_ok-push w ↦ rw (w.pairs-is)
-          (pairs_push products rows up down c.loop-down.pairs.items w.push.new.self.items _ w.row.result.now w.row-then-products-down-lt0.result.now w.are_adjacent.result refl refl
+      | then-products-down-lt0+then-are_adjacent+in_ok-tight+in_ok-push w ↦ rw (w.pairs-is)
+          (pairs_push products rows up down c.loop-down.pairs.items w.push.new.self.items _ w.row.result.now w.row-then-are_adjacent.result.now w.are_adjacent.result refl refl
           w.in_ok-push.ensures.items c.requires.above (less_said (get_or products down (pos 0)) (pos 0) (simp to_z-of_z at w.if-products-down-lt0.true)) w.row.ensures.row
-          w.row-then-products-down-lt0.ensures.row w.in_ok-tight.ensures w.are_adjacent.ensures w.if-are_adjacent.true before)
-      | then-products-down-lt0+in_ok-tight+else-are_adjacent w ↦ rw (w.pairs-is)
-          (pairs_skip_third products rows up down c.loop-down.pairs.items w.row.result.now w.row-then-products-down-lt0.result.now w.in_ok-tight.tight w.are_adjacent.result w.row.ensures.row
-          w.row-then-products-down-lt0.ensures.row w.in_ok-tight.ensures w.are_adjacent.ensures w.if-are_adjacent.false before)
+          w.row-then-are_adjacent.ensures.row w.in_ok-tight.ensures w.are_adjacent.ensures w.if-are_adjacent.true before)
+      | then-products-down-lt0+else-are_adjacent w ↦ rw (w.pairs-is)
+          (pairs_skip_third products rows up down c.loop-down.pairs.items w.are_adjacent.result w.are_adjacent.ensures w.if-are_adjacent.false before)
       | else-products-down-lt0 w ↦ rw (w.pairs-is) (pairs_skip_side products rows up down c.loop-down.pairs.items
           (not_less_said (get_or products down (pos 0)) (pos 0) (simp to_z-of_z at w.if-products-down-lt0.false)) before)
     ]
