@@ -11,3 +11,6 @@ mod testing;
 mod unary;
 
 pub use octagon::Octagon;
+
+#[cfg(test)]
+mod tests;
