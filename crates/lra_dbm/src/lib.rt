@@ -9,4 +9,5 @@ mod pointwise;
 mod shifting;
 mod steps;
 
+pub use cells::opposite;
 pub use matrix::{Closing, Matrix};

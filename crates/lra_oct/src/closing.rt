@@ -2,26 +2,14 @@
 
 ghost use Rattle.std.specs.Prelude.{◌≡◌, ◌≢◌, ◌≤◌, ◌<◌, ◌*◌, ◌/◌, ◌^◌, neg_ℤ};
 ghost use Rattle.lra_linear.specs.Range.{InRange};
-ghost use Rattle.lra_dbm.specs.Tight.{opposite};
 ghost use Rattle.lra_dbm.specs.Cells.{IsMatrix};
 ghost use Rattle.lra_oct.specs.Content.{seen, DimsFit};
 ghost use Rattle.lra_oct.specs.Closed.{ClosedTo, Equates, EquatedTo};
 ghost use Rattle.lra_oct.specs.Tables.{at_least, Forgets};
 
 use crate::bounds::{Bounds, close};
-use lra_dbm::Matrix;
+use lra_dbm::{Matrix, opposite};
 use lra_domain::Exactness;
-
-/// The signed variable of the other sign.
-#[tactic(auto, using(lra_dbm::proofs::CellLemmas::opposite_below), unfolding(lra_dbm::specs::Tight::opposite))]
-pub fn opposite(n: usize, i: usize) -> usize
-    requires few { n ≤ 2 ^ 30 }
-    requires row { i < 2 * n }
-    ensures opposite { result ≡ opposite i }
-    ensures below { result < 2 * n }
-{
-    if i % 2 == 0 { i + 1 } else { i - 1 }
-}
 
 #[tactic(auto, using(crate::proofs::EnterLemmas::forgets_of))]
 /// The entries of `x` become infinite.

@@ -12,9 +12,8 @@ ghost use Rattle.lra_oct.specs.Parts.{kind_row, rising, falling, rows_with, equa
 ghost use Rattle.lra_oct.specs.Parts.{octagon_parts, Pushed};
 
 use crate::bounds::Bounds;
-use crate::closing::opposite;
 use crate::unary::most;
-use lra_dbm::Matrix;
+use lra_dbm::{Matrix, opposite};
 use lra_linear::ConKind;
 use lra_row::Row;
 use lra_sys::ConSys;
