@@ -10,3 +10,4 @@ pub mod OtherLemmas
 pub mod AssignLemmas
 pub mod PartLemmas
 pub mod MeanLemmas
+pub mod LeastLemmas

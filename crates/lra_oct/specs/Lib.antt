@@ -7,4 +7,5 @@ pub mod Answers
 pub mod Heads
 pub mod Parts
 pub mod Meaning
+pub mod Least
 pub mod Laws

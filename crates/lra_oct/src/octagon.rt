@@ -1,5 +1,10 @@
 //! Octagons as a domain.
 
+ghost use Rattle.std.specs.Prelude.{◌≡◌, ◌↔◌, IsTrue, IfOk, OnOk, OnErr, ℤ, List, []};
+ghost use Rattle.lra_domain.specs.Actions.{Within};
+ghost use Rattle.lra_domain.specs.Meaning.{Joins};
+ghost use Rattle.lra_domain.specs.Parts.{CapsWithin};
+ghost use Rattle.lra_oct.specs.Least.{IsTightOctagon, LeastOctagon};
 ghost use Rattle.lra_oct.specs.Meaning.{octagon_meaning};
 
 use crate::assigning::assign_in;
@@ -81,11 +86,25 @@ impl Domain for Octagon {
         self.dims
     }
 
-    fn is_empty(&self) -> bool {
+    /// Yes exactly where there is no part; of a tight octagon, exactly where there is no store.
+    fn is_empty(&self) -> bool
+        ensures parts { IsTrue result ↔ (octagon_meaning.parts self.now ≡ []) }
+        ensures stores { IsTrue result → (s : List ℤ) → ¬ octagon_meaning.has self.now s }
+        ensures tight { IsTightOctagon self.now → (IsTrue result ↔ ((s : List ℤ) → ¬ octagon_meaning.has self.now s)) }
+    {
         self.matrix.is_none()
     }
 
-    fn included(&self, other: &Self) -> Included {
+    /// Entry by entry; of a tight octagon, No only where a store lies beyond the other.
+    fn included(&self, other: &Self) -> Included
+        requires { octagon_meaning.dims self.now ≡ octagon_meaning.dims other.now }
+        ensures stores { result ≡ Included.Yes → Within (octagon_meaning.has self.now) (octagon_meaning.has other.now) }
+        ensures yes { result ≡ Included.Yes → octagon_meaning.inside self.now other.now }
+        ensures no { result ≡ Included.No → ¬ octagon_meaning.inside self.now other.now }
+        ensures wide { result ≡ Included.Wide → octagon_meaning.inside_strains self.now other.now }
+        ensures tight { result ≡ Included.No → IsTightOctagon self.now →
+            ¬ Within (octagon_meaning.has self.now) (octagon_meaning.has other.now) }
+    {
         if is_within(self.dims, &self.matrix, &other.matrix) {
             Included::Yes
         } else {
@@ -114,7 +133,16 @@ impl Domain for Octagon {
         Ok(exactness)
     }
 
-    fn join(&mut self, other: &Self) -> Result<Exactness, AllocError> {
+    /// Of tight octagons, the least with the stores of both.
+    fn join(&mut self, other: &Self) -> Result<Exactness, AllocError>
+        requires { octagon_meaning.dims self.old ≡ octagon_meaning.dims other.now }
+        ensures joins { IfOk result (λ a. Joins octagon_meaning self.old other.now a self.new) }
+        ensures dims { octagon_meaning.dims self.new ≡ octagon_meaning.dims self.old }
+        ensures capped { CapsWithin (λ c. octagon_meaning.capped self.old c × octagon_meaning.capped other.now c)
+            (octagon_meaning.capped self.new) }
+        ensures err { OnErr result (self.new ≡ self.old) }
+        ensures least { OnOk result (LeastOctagon self.old other.now self.new) }
+    {
         let joined = join_bounds(self.alloc, self.dims, &self.matrix, &other.matrix)?;
         self.matrix = joined;
         Ok(Exactness::Exact)

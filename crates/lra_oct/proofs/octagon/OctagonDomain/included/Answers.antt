@@ -1,5 +1,7 @@
 use Rattle.std.proofs.Common.{◌≡◌, ap, sym, ◌∙◌}
-use Rattle.lra_oct.specs.Content.{Content}
+use Rattle.std.proofs.lemmas.Bool.{false≢true}
+use Rattle.lra_oct.specs.Content.{Content, CellsFit, seen}
+use Rattle.lra_oct.proofs.LeastLemmas.{not_within}
 use Rattle.lra_oct.specs.Laws.{octagon_wider}
 use Rattle.lra_oct.proofs.octagon.OctagonDomain.included.Goals as goal
 
@@ -8,3 +10,12 @@ returns-then-is_within-clause-stores c = λ e s.
     let same : c.self.inside.dims ≡ c.other.inside.dims =
     ap (λ (b : Content). b.dims) c.self.view_is ∙ c.requires ∙ sym (ap (λ (b : Content). b.dims) c.other.view_is) in
     rw (← c.self.view_is, ← c.other.view_is) (octagon_wider _ _ (same, c.is_within.ensures.0 c.if-is_within.true) s)
+
+pub returns-else-is_within-clause-tight : goal.returns-else-is_within-clause-tight
+returns-else-is_within-clause-tight c = λ e.
+    let same : c.other.inside.dims ≡ c.self.inside.dims =
+    ap (λ (b : Content). b.dims) c.other.view_is ∙ sym c.requires ∙ sym (ap (λ (b : Content). b.dims) c.self.view_is) in
+    let fit : CellsFit c.self.inside.dims (seen c.other.inside.matrix) = rw (← same) c.other.invariant.2 in
+    rw (← c.self.view_is, ← c.other.view_is, same)
+    (not_within c.self.inside.dims (seen c.self.inside.matrix) (seen c.other.inside.matrix) c.self.invariant.2 fit
+    (λ w. absurd (false≢true (rw c.if-is_within.false at (c.is_within.ensures.1 w)))))

@@ -1,5 +1,6 @@
 use Rattle.std.proofs.Common.{◌≡◌, ap, sym, ◌∙◌}
 use Rattle.lra_oct.specs.Content.{Content, CellsFit, seen}
+use Rattle.lra_oct.proofs.LeastLemmas.{least_octagon}
 use Rattle.lra_oct.proofs.MeetsLemmas.{joined_fit, joins}
 use Rattle.lra_oct.proofs.octagon.OctagonDomain.join.Goals as goal
 
@@ -20,3 +21,11 @@ returns-clause-joins c =
     let fit : CellsFit c.self.inside.dims (seen c.other.inside.matrix) = rw (← same) c.other.invariant.2 in
     rw (c.in_ok-joined.ensures.joined, ← c.self.view_is, ← c.other.view_is, same)
     (joins c.self.inside.dims (seen c.self.inside.matrix) (seen c.other.inside.matrix) c.self.invariant.2 fit)
+
+pub returns-clause-least : goal.returns-clause-least
+returns-clause-least c =
+    let same : c.other.inside.dims ≡ c.self.inside.dims =
+    ap (λ (b : Content). b.dims) c.other.view_is ∙ sym c.requires ∙ sym (ap (λ (b : Content). b.dims) c.self.view_is) in
+    let fit : CellsFit c.self.inside.dims (seen c.other.inside.matrix) = rw (← same) c.other.invariant.2 in
+    rw (c.in_ok-joined.ensures.joined, ← c.self.view_is, ← c.other.view_is, same)
+    (least_octagon c.self.inside.dims (seen c.self.inside.matrix) (seen c.other.inside.matrix) c.self.invariant.2 fit)
