@@ -1,9 +1,11 @@
 -- A list of rows with their kinds, gone through place by place.
-use Rattle.std.proofs.Common.{◌≡◌, ℕ, zero, suc, ◌<◌, ◌≤◌, ◌+◌, add-one, Bool, List, [], ◌∷◌, ◌++◌, length, take, drop, get_or, arith, ap, refl, sym, subst, ℤ, Result, Ok, Err, IsErr, IsOk}
-use Rattle.std.specs.List.{All}
+use Rattle.std.proofs.Common.{◌≡◌, ℕ, zero, suc, ◌<◌, ◌≤◌, ◌+◌, add-one, Bool, List, [], ◌∷◌, ◌++◌, length, take, drop}
+use Rattle.std.proofs.Common.{get_or, arith, ap, refl, sym, subst, ℤ, Result, Ok, Err, IsErr, IsOk}
+use Rattle.std.specs.List.{All, Contains}
 use Rattle.std.proofs.lemmas.List.{take_all}
-use Rattle.std.proofs.lemmas.List.Elements.{All-nil, All-push}
+use Rattle.std.proofs.lemmas.List.Elements.{All-nil, All-push, All-contains, Contains-append_right}
 use Rattle.lra_linear.specs.Descriptions.{Given}
+use Rattle.lra_linear.proofs.Membership.{contains_head}
 use Rattle.lra_sys.specs.Listed.{given_by}
 use Rattle.lra_poly.specs.FirstPlaces.{FirstAt}
 
@@ -14,32 +16,42 @@ front equal rows kinds i = given_by equal (take i rows) (take i kinds)
 abbrev pub member : {K : Type 0} → (K → Bool) → List K → ℕ → List ℤ → K → Given
 member equal kinds i r k = record { row = r; equal = equal (get_or kinds i k) }
 
-given_split : {K : Type 0} (equal : K → Bool) (rows : List (List ℤ)) (kinds : List K) (i : ℕ) (r : List ℤ) (k : K) → length kinds ≡ length rows → i < length rows → r ≡ get_or rows i r →
-    given_by equal rows kinds ≡ front equal rows kinds i ++ member equal kinds i r k ∷ given_by equal (drop (suc i) rows) (drop (suc i) kinds)
+given_split : {K : Type 0} (equal : K → Bool) (rows : List (List ℤ)) (kinds : List K) (i : ℕ) (r : List ℤ) (k : K) →
+    length kinds ≡ length rows → i < length rows → r ≡ get_or rows i r →
+    given_by equal rows kinds ≡ front equal rows kinds i ++ member equal kinds i r k ∷
+    given_by equal (drop (suc i) rows) (drop (suc i) kinds)
 given_split equal [] kinds i r k n h e = absurd (omega (arith, h))
 given_split equal (x ∷ rows) [] i r k n h e = absurd (omega (arith, n))
 given_split equal (x ∷ rows) (kind ∷ kinds) zero r k n h e =
-    ap (λ (y : List ℤ). (let g : Given = record { row = y; equal = equal kind } in g) ∷ given_by equal rows kinds) (sym e)
+    ap (λ (y : List ℤ). (let g : Given = record { row = y; equal = equal kind } in g) ∷ given_by equal rows kinds)
+    (sym e)
 given_split equal (x ∷ rows) (kind ∷ kinds) (suc i) r k n h e =
-    ap (λ (l : List Given). (let g : Given = record { row = x; equal = equal kind } in g) ∷ l) (given_split equal rows kinds i r k (omega (arith, n)) (omega (arith, h)) e)
+    ap (λ (l : List Given). (let g : Given = record { row = x; equal = equal kind } in g) ∷ l)
+    (given_split equal rows kinds i r k (omega (arith, n)) (omega (arith, h)) e)
 
-given_more : {K : Type 0} (equal : K → Bool) (rows : List (List ℤ)) (kinds : List K) (i : ℕ) (r : List ℤ) (k : K) → length kinds ≡ length rows → i < length rows → r ≡ get_or rows i r →
+given_more : {K : Type 0} (equal : K → Bool) (rows : List (List ℤ)) (kinds : List K) (i : ℕ) (r : List ℤ) (k : K) →
+    length kinds ≡ length rows → i < length rows → r ≡ get_or rows i r →
     front equal rows kinds (suc i) ≡ front equal rows kinds i ++ member equal kinds i r k ∷ []
 given_more equal [] kinds i r k n h e = absurd (omega (arith, h))
 given_more equal (x ∷ rows) [] i r k n h e = absurd (omega (arith, n))
 given_more equal (x ∷ rows) (kind ∷ kinds) zero r k n h e =
     ap (λ (y : List ℤ). (let g : Given = record { row = y; equal = equal kind } in g) ∷ []) (sym e)
 given_more equal (x ∷ rows) (kind ∷ kinds) (suc i) r k n h e =
-    ap (λ (l : List Given). (let g : Given = record { row = x; equal = equal kind } in g) ∷ l) (given_more equal rows kinds i r k (omega (arith, n)) (omega (arith, h)) e)
+    ap (λ (l : List Given). (let g : Given = record { row = x; equal = equal kind } in g) ∷ l)
+    (given_more equal rows kinds i r k (omega (arith, n)) (omega (arith, h)) e)
 
-front_length : {K : Type 0} (equal : K → Bool) (rows : List (List ℤ)) (kinds : List K) (i : ℕ) → length kinds ≡ length rows → i < length rows → length (front equal rows kinds i) ≡ i
+front_length : {K : Type 0} (equal : K → Bool) (rows : List (List ℤ)) (kinds : List K) (i : ℕ) →
+    length kinds ≡ length rows → i < length rows → length (front equal rows kinds i) ≡ i
 front_length equal rows kinds zero n h = refl
 front_length equal [] kinds (suc i) n h = absurd (omega (arith, h))
 front_length equal (x ∷ rows) [] (suc i) n h = absurd (omega (arith, n))
-front_length equal (x ∷ rows) (kind ∷ kinds) (suc i) n h = ap suc (front_length equal rows kinds i (omega (arith, n)) (omega (arith, h)))
+front_length equal (x ∷ rows) (kind ∷ kinds) (suc i) n h =
+    ap suc (front_length equal rows kinds i (omega (arith, n)) (omega (arith, h)))
 
-pub first_at : {K : Type 0} (Before Here : Given → Type 0) (equal : K → Bool) (rows : List (List ℤ)) (kinds : List K) (i : ℕ) (r : List ℤ) (k : K) → length kinds ≡ length rows → i < length rows →
-    r ≡ get_or rows i r → All Before (front equal rows kinds i) → Here (member equal kinds i r k) → FirstAt Before Here (given_by equal rows kinds) i
+pub first_at : {K : Type 0} (Before Here : Given → Type 0) (equal : K → Bool) (rows : List (List ℤ)) (kinds : List K)
+    (i : ℕ) (r : List ℤ) (k : K) → length kinds ≡ length rows → i < length rows →
+    r ≡ get_or rows i r → All Before (front equal rows kinds i) → Here (member equal kinds i r k) →
+    FirstAt Before Here (given_by equal rows kinds) i
 first_at Before Here equal rows kinds i r k n h e before here = record {
   earlier = front equal rows kinds i;
   member = member equal kinds i r k;
@@ -50,16 +62,21 @@ first_at Before Here equal rows kinds i r k n h e before here = record {
   here = here;
 }
 
-pub none_yet : {K : Type 0} (Before : Given → Type 0) (equal : K → Bool) (rows : List (List ℤ)) (kinds : List K) → All Before (front equal rows kinds 0)
+pub none_yet : {K : Type 0} (Before : Given → Type 0) (equal : K → Bool) (rows : List (List ℤ)) (kinds : List K) →
+    All Before (front equal rows kinds 0)
 none_yet Before equal rows kinds = All-nil Before
 
-pub one_more : {K : Type 0} (Before : Given → Type 0) (equal : K → Bool) (rows : List (List ℤ)) (kinds : List K) (i : ℕ) (r : List ℤ) (k : K) → length kinds ≡ length rows → i < length rows →
-    r ≡ get_or rows i r → All Before (front equal rows kinds i) → Before (member equal kinds i r k) → All Before (front equal rows kinds (i + 1))
+pub one_more : {K : Type 0} (Before : Given → Type 0) (equal : K → Bool) (rows : List (List ℤ)) (kinds : List K) (i : ℕ)
+    (r : List ℤ) (k : K) → length kinds ≡ length rows → i < length rows →
+    r ≡ get_or rows i r → All Before (front equal rows kinds i) → Before (member equal kinds i r k) →
+    All Before (front equal rows kinds (i + 1))
 one_more Before equal rows kinds i r k n h e before here =
     subst (λ (j : ℕ). All Before (front equal rows kinds j)) (sym (add-one i))
-    (subst (All Before) (sym (given_more equal rows kinds i r k n h e)) (All-push Before (front equal rows kinds i) (member equal kinds i r k) before here))
+    (subst (All Before) (sym (given_more equal rows kinds i r k n h e))
+    (All-push Before (front equal rows kinds i) (member equal kinds i r k) before here))
 
-pub all_gone_through : {K : Type 0} (Before : Given → Type 0) (equal : K → Bool) (rows : List (List ℤ)) (kinds : List K) (i : ℕ) → length kinds ≡ length rows → length rows ≤ i →
+pub all_gone_through : {K : Type 0} (Before : Given → Type 0) (equal : K → Bool) (rows : List (List ℤ)) (kinds : List K)
+    (i : ℕ) → length kinds ≡ length rows → length rows ≤ i →
     All Before (front equal rows kinds i) → All Before (given_by equal rows kinds)
 all_gone_through {K = K} Before equal rows kinds i n h before =
     subst (λ (ks : List K). All Before (given_by equal rows ks)) (take_all i kinds (omega (arith, n, h)))
@@ -75,3 +92,14 @@ err_of {A = A} {E = E} f q e = subst (λ (z : Result A E). IsErr z) e refl
 pub err_from : {A E : Type 0} (q : Result A E) → IsErr q → (e : E) × (q ≡ Err e)
 err_from (Ok x) h = cc
 err_from (Err f) h = (f, refl)
+
+-- what all members have, the one at the place has
+pub at_member : {K : Type 0} (P : Given → Type 0) (equal : K → Bool) (rows : List (List ℤ)) (kinds : List K) (i : ℕ)
+    (r : List ℤ) (k : K) → length kinds ≡ length rows → i < length rows →
+    r ≡ get_or rows i r → All P (given_by equal rows kinds) → P (member equal kinds i r k)
+at_member P equal rows kinds i r k n h e all =
+    All-contains P (given_by equal rows kinds) (member equal kinds i r k) all
+    (subst (λ (l : List Given). Contains l (member equal kinds i r k)) (sym (given_split equal rows kinds i r k n h e))
+    (Contains-append_right (front equal rows kinds i)
+    (member equal kinds i r k ∷ given_by equal (drop (suc i) rows) (drop (suc i) kinds)) (member equal kinds i r k)
+    (contains_head (member equal kinds i r k) (given_by equal (drop (suc i) rows) (drop (suc i) kinds)))))

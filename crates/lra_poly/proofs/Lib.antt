@@ -1,5 +1,7 @@
 pub mod FirstMembers
 pub mod InclusionLemmas
+pub mod MaximumLemmas
 pub mod PolyLemmas
+pub mod GreatestValues
 pub mod JoinedLists
 pub mod PolyExamples

@@ -208,7 +208,7 @@ union_in_gen p q h k e x i (inr c) =
     (gen_generated q.generators (entry x) ((con_gen q k).0 x (subst (λ (n : ℕ). IsPoint n x) (sym e) i) c)))
 
 -- ---- the rows of a polyhedron have a column more than there are dimensions
-zeros_length : (n : ℕ) → length (zeros n) ≡ n
+pub zeros_length : (n : ℕ) → length (zeros n) ≡ n
 zeros_length zero = refl
 zeros_length (suc n) = ap suc (zeros_length n)
 

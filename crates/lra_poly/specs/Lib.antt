@@ -3,3 +3,4 @@ pub mod Rows
 pub mod Outcomes
 pub mod FirstPlaces
 pub mod Inclusions
+pub mod Maxima

@@ -56,7 +56,7 @@ fn reply(generator: &Row, line: bool, rows: &[Row], kinds: &[ConKind]) -> Holds
 }
 
 // Whether a generator of the kind may be taken with either sign.
-fn goes_both_ways(kind: GenKind) -> bool
+pub fn goes_both_ways(kind: GenKind) -> bool
     ensures { result ≡ is_line kind }
 {
     kind == GenKind::Line

@@ -3,10 +3,12 @@
 
 mod inclusion;
 mod lists;
+mod maximum;
 mod outcome;
 mod poly;
 
 pub use inclusion::Inclusion;
+pub use maximum::Maximum;
 pub use outcome::Outcome;
 pub use poly::Poly;
 

@@ -9,14 +9,16 @@ ghost use Rattle.lra_linear.specs.Polyhedra.{IsPolyhedron, IsPolyhedronOf};
 ghost use Rattle.lra_linear.specs.SetOperations.{Meet, Union, Hull};
 ghost use Rattle.lra_sys.specs.Listed.{constraints, generators, FitKinds};
 ghost use Rattle.lra_poly.specs.Inclusions.{IsInclusion, TellsInclusion};
+ghost use Rattle.lra_poly.specs.Maxima.{IsMaximum, TellsMaximum};
 ghost use Rattle.lra_poly.specs.Outcomes.{IfExact, IfFlagged};
 ghost use Rattle.lra_poly.specs.Rows.{form_row, test_row};
 
 use crate::inclusion::{Inclusion, inclusion_of};
 use crate::lists::{joined_generators, joined_rows, with_test};
+use crate::maximum::{Maximum, maximum_of};
 use crate::outcome::{Outcome, outcome_of};
 use lra_cone::nothing;
-use lra_lin::Test;
+use lra_lin::{LinExpr, Test};
 use lra_pair::Pair;
 use lra_sys::{ConSys, GenSys};
 use std::alloc::{AllocError, Global};
@@ -172,6 +174,16 @@ impl Poly {
         ensures tells { TellsInclusion self.now other.now result }
     {
         inclusion_of(&self.by_generators, &other.rows)
+    }
+
+    /// The greatest value of the form, and the first point that has it; or why there is none.
+    pub fn maximise(&self, form: &LinExpr) -> Maximum
+        requires { length form.now.coefficients ≡ self.now.dims }
+        ensures first { IsMaximum (form_row form.now) self.now.generators result }
+        ensures tells { TellsMaximum self.now (form_row form.now) result }
+    {
+        let _kinds = self.by_generators.kinds();
+        maximum_of(form, &self.by_generators)
     }
 
     // Whether it is known that each point is in the other.

@@ -1,0 +1,6 @@
+use Rattle.lra_poly.specs.Rows.{form_row}
+use Rattle.lra_poly.proofs.MaximumLemmas.{BestOfFront}
+use Rattle.lra_poly.proofs.maximum.place_of_greatest.Given as goal
+
+abbrev pub invariant-loop-place : goal.invariant-loop-place
+invariant-loop-place l = BestOfFront (form_row l.form) l.rows l.list.kinds l.place l.best

@@ -1,0 +1,16 @@
+use Rattle.std.proofs.Common.{rules, FitsSigned}
+use Rattle.std.specs.Int.{w128}
+use Rattle.std.proofs.lemmas.Int.{to_z-of_z}
+use Rattle.lra_poly.specs.Rows.{form_row}
+use Rattle.lra_poly.proofs.MaximumLemmas.{value_of_ok, value_in_range}
+use Rattle.lra_poly.proofs.maximum.value_with.Goals as goal
+
+pub returns-in-Some-clause-value : goal.returns-in-Some-clause-value
+returns-in-Some-clause-value c =
+    let fits : FitsSigned w128 c.in-Some.value = search rules in
+    simp to_z-of_z (value_of_ok (form_row c.args.form.now) c.args.row.now c.in-Some.value c.in-Some.ensures)
+
+pub returns-in-Some-clause-in_range : goal.returns-in-Some-clause-in_range
+returns-in-Some-clause-in_range c =
+    let fits : FitsSigned w128 c.in-Some.value = search rules in
+    simp to_z-of_z (value_in_range (form_row c.args.form.now) c.args.row.now c.in-Some.value c.in-Some.ensures)
