@@ -29,7 +29,7 @@ given_split equal (x ∷ rows) (kind ∷ kinds) (suc i) r k n h e =
     ap (λ (l : List Given). (let g : Given = record { row = x; equal = equal kind } in g) ∷ l)
     (given_split equal rows kinds i r k (omega (arith, n)) (omega (arith, h)) e)
 
-given_more : {K : Type 0} (equal : K → Bool) (rows : List (List ℤ)) (kinds : List K) (i : ℕ) (r : List ℤ) (k : K) →
+pub given_more : {K : Type 0} (equal : K → Bool) (rows : List (List ℤ)) (kinds : List K) (i : ℕ) (r : List ℤ) (k : K) →
     length kinds ≡ length rows → i < length rows → r ≡ get_or rows i r →
     front equal rows kinds (suc i) ≡ front equal rows kinds i ++ member equal kinds i r k ∷ []
 given_more equal [] kinds i r k n h e = absurd (omega (arith, h))

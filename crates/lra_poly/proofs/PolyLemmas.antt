@@ -55,18 +55,18 @@ same_polyhedron n P Q p s h = record {
   points = (λ x i c. h.points.0 x i (s.0 x i c), λ x i c. s.1 x i (h.points.1 x i c));
 }
 
-result_strain : (n : ℕ) (P Q : PointSet) (list : Polyhedron → List Given) (loss : Loss) → SameSet n P Q → ResultStrains n Q list loss → ResultStrains n P list loss
+pub result_strain : (n : ℕ) (P Q : PointSet) (list : Polyhedron → List Given) (loss : Loss) → SameSet n P Q → ResultStrains n Q list loss → ResultStrains n P list loss
 result_strain n P Q list loss s r = record { result = r.result; is_result = same_polyhedron n P Q r.result s r.is_result; strains = r.strains }
 
 constraints_strain : (n : ℕ) (P Q : PointSet) (taken : List Given) (loss : Loss) → SameSet n P Q → ConstraintsStrain n Q taken loss → ConstraintsStrain n P taken loss
 constraints_strain n P Q taken loss s (inl a) = inl a
 constraints_strain n P Q taken loss s (inr b) = inr (result_strain n P Q (λ p. p.generators) loss s b)
 
-if_exact : (P Q : Type 0) (o : Outcome) → (P → Q) → IfExact P o → IfExact Q o
+pub if_exact : (P Q : Type 0) (o : Outcome) → (P → Q) → IfExact P o → IfExact Q o
 if_exact P Q Exact f h = f h
 if_exact P Q (Flagged loss) f h = tt
 
-if_flagged : (P Q : Loss → Type 0) (o : Outcome) → ((loss : Loss) → P loss → Q loss) → IfFlagged P o → IfFlagged Q o
+pub if_flagged : (P Q : Loss → Type 0) (o : Outcome) → ((loss : Loss) → P loss → Q loss) → IfFlagged P o → IfFlagged Q o
 if_flagged P Q Exact f h = tt
 if_flagged P Q (Flagged loss) f h = f loss h
 
@@ -182,7 +182,7 @@ joined_has xs ys t (inl k) = let f = system_from xs t k in system_there (xs ++ y
 joined_has xs ys t (inr k) = let f = system_from ys t k in system_there (xs ++ ys) t (record { given = f.given; has = Contains-append_right xs ys f.given f.has; sign = f.sign })
 
 -- an inequality that is valid on a polyhedron holds with each of its generators
-valid_with : (p : Polyhedron) → IsPolyhedron p → (c : List ℤ) → ((y : List ℤ) → IsPoint p.dims y → Con p.rows y → pos 0 ≤ℤ product c y) → (t : List ℤ) → Contains (system_of p.generators) t →
+pub valid_with : (p : Polyhedron) → IsPolyhedron p → (c : List ℤ) → ((y : List ℤ) → IsPoint p.dims y → Con p.rows y → pos 0 ≤ℤ product c y) → (t : List ℤ) → Contains (system_of p.generators) t →
     pos 0 ≤ℤ product c t
 valid_with p (inl none) c valid t k = absurd (contains_none t (subst (λ (l : List Given). Contains (system_of l) t) none.1 k))
 valid_with p (inr h) c valid t k = valid_on_rows p.dims p.generators (has_vertex p h) c (λ y i g. valid y i ((con_gen p (inr h)).1 y i g)) t k
@@ -221,7 +221,7 @@ given_width p (inr h) g k = elim (Contains-append_cases (given_as true h.equalit
       (Contains-append_left h.facets (both_ways h.equalities) g.row (h.shown g.row (given_from false h.inequalities g i).1).0)
 ]
 
-rows_width : (p : Polyhedron) → IsPolyhedron p → (c : List ℤ) → Contains (system_of p.rows) c → length c ≡ suc p.dims
+pub rows_width : (p : Polyhedron) → IsPolyhedron p → (c : List ℤ) → Contains (system_of p.rows) c → length c ≡ suc p.dims
 rows_width p h c k =
     let f = system_from p.rows c k in
     elim f.sign [
@@ -230,7 +230,7 @@ rows_width p h c k =
     ]
 
 -- constraints that hold at each point of a set hold on its hull
-hull_holds : (n : ℕ) (P : PointSet) (rows : List Given) → ((c : List ℤ) → Contains (system_of rows) c → length c ≡ suc n) → IsWithin n P (Con rows) → IsWithin n (Hull n P) (Con rows)
+pub hull_holds : (n : ℕ) (P : PointSet) (rows : List Given) → ((c : List ℤ) → Contains (system_of rows) c → length c ≡ suc n) → IsWithin n P (Con rows) → IsWithin n (Hull n P) (Con rows)
 hull_holds n P rows widths h x i hull = solves_con rows x (λ c k. hull c (widths c k) (λ y j s. con_solves rows y (h y j s) c k))
 
 pub hull_within : (p q r : Polyhedron) (list : List Given) → IsPolyhedron p → IsPolyhedron q → IsPolyhedron r → q.dims ≡ p.dims → r.dims ≡ p.dims → list ≡ p.generators ++ q.generators →

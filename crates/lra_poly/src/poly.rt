@@ -134,6 +134,11 @@ impl Poly {
         })
     }
 
+    /// Where it takes memory.
+    pub fn allocator(&self) -> Global {
+        self.alloc
+    }
+
     /// The number of dimensions.
     pub fn dims(&self) -> usize
         ensures { result ≡ self.now.dims }

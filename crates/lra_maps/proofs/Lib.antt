@@ -1,0 +1,9 @@
+pub mod Sums
+pub mod ListLemmas
+pub mod OutcomeLemmas
+pub mod ForgetLemmas
+pub mod MappedSets
+pub mod ShortenedSets
+pub mod EmbeddedSets
+pub mod ElapsedSets
+pub mod PushedLists

@@ -1,0 +1,1 @@
+-- Images and preimages of polyhedra, and changes of their dimensions.

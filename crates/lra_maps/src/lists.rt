@@ -1,0 +1,167 @@
+//! Generators as the operations take them in.
+
+ghost use Rattle.std.specs.Prelude.{◌≡◌, ◌++◌, ◌∷◌, [], ◌<◌, ◌≤◌, ◌+◌, ◌^◌, suc, take, length, map, List, ℤ, pos, true};
+ghost use Rattle.std.specs.Prelude.{IfOk};
+ghost use Rattle.lra_linear.specs.Descriptions.{given_as, line};
+ghost use Rattle.lra_linear.specs.OperationStrain.{as_directions, shortened, unit_row};
+ghost use Rattle.lra_linear.specs.Vectors.{cleared, entry, units, zeros};
+ghost use Rattle.lra_sys.specs.Listed.{generators, FitKinds, FitsKind, is_line};
+
+use lra_cone::unit;
+use lra_row::Row;
+use lra_sys::{GenKind, GenSys};
+use std::alloc::{AllocError, Global};
+
+// From so many dimensions on there is no memory for a row.
+const TOO_MANY_DIMENSIONS: usize = 1 << 62;
+
+// The generators, then a line along a dimension.
+pub fn with_line(alloc: Global, list: &GenSys, x: usize) -> Result<GenSys, AllocError>
+    requires dimension { x < list.now.dims }
+    requires kinds { FitKinds list.now.rows list.now.kinds }
+    ensures dims { IfOk result (λ all. all.dims ≡ list.now.dims) }
+    ensures generators { IfOk result (λ all. generators all ≡
+        generators list.now ++ line (unit_row list.now.dims (suc x)) ∷ []) }
+    ensures kinds { IfOk result (λ all. FitKinds all.rows all.kinds) }
+{
+    let _kinds = list.kinds();
+    if list.dims() >= TOO_MANY_DIMENSIONS {
+        return Err(AllocError);
+    }
+    let mut all = list.copy()?;
+    let row = unit(alloc, list.dims(), x + 1)?;
+    all.push(row, GenKind::Line)?;
+    Ok(all)
+}
+
+// The first columns of the row.
+fn first_columns(alloc: Global, row: &Row, width: usize) -> Result<Row, AllocError>
+    requires { width ≤ length row.now }
+    ensures { IfOk result (λ short. short ≡ take width row.now) }
+{
+    let short = Row::from_slice(alloc, &row.entries()[..width])?;
+    Ok(short)
+}
+
+// The generators with n dimensions, the first ones.
+pub fn shortened(alloc: Global, list: &GenSys, n: usize) -> Result<GenSys, AllocError>
+    requires dims { n ≤ list.now.dims }
+    requires kinds { FitKinds list.now.rows list.now.kinds }
+    ensures dims { IfOk result (λ all. all.dims ≡ n) }
+    ensures generators { IfOk result (λ all. generators all ≡ shortened n (generators list.now)) }
+    ensures kinds { IfOk result (λ all. FitKinds all.rows all.kinds) }
+{
+    if n >= TOO_MANY_DIMENSIONS {
+        return Err(AllocError);
+    }
+    let mut all = GenSys::new(alloc, n);
+    let (rows, kinds) = (list.rows(), list.kinds());
+    for place in 0..rows.len() {
+        all.push(first_columns(alloc, &rows[place], n + 1)?, kinds[place])?;
+    }
+    Ok(all)
+}
+
+// The row with 0 in column 0.
+fn direction(alloc: Global, row: &Row) -> Result<Row, AllocError>
+    requires { 0 < length row.now }
+    ensures { IfOk result (λ r. r ≡ cleared 0 row.now) }
+{
+    let mut numbers = Vec::from_slice(alloc, row.entries())?;
+    numbers[0] = 0;
+    let row = Row::from_slice(alloc, numbers.as_slice())?;
+    Ok(row)
+}
+
+// What a generator is as a direction.
+fn direction_kind(kind: GenKind) -> GenKind
+    ensures line { is_line result ≡ is_line kind }
+    ensures fits { (r : List ℤ) → entry r 0 ≡ pos 0 → FitsKind result r }
+{
+    match kind {
+        GenKind::Point => GenKind::Ray,
+        GenKind::Ray => GenKind::Ray,
+        GenKind::Line => GenKind::Line,
+    }
+}
+
+// The generators of the first, then those of the second as directions.
+pub fn with_directions(alloc: Global, first: &GenSys, second: &GenSys) -> Result<GenSys, AllocError>
+    requires dims { second.now.dims ≡ first.now.dims }
+    requires kinds { FitKinds first.now.rows first.now.kinds }
+    ensures dims { IfOk result (λ all. all.dims ≡ first.now.dims) }
+    ensures generators { IfOk result (λ all. generators all ≡
+        generators first.now ++ as_directions (generators second.now)) }
+    ensures kinds { IfOk result (λ all. FitKinds all.rows all.kinds) }
+{
+    let _kinds = first.kinds();
+    let mut all = first.copy()?;
+    let (rows, kinds) = (second.rows(), second.kinds());
+    for place in 0..rows.len() {
+        let row = direction(alloc, &rows[place])?;
+        all.push(row, direction_kind(kinds[place]))?;
+    }
+    Ok(all)
+}
+
+// The row with k zeros behind it.
+fn longer(alloc: Global, row: &Row, k: usize) -> Result<Row, AllocError>
+    ensures { IfOk result (λ r. r ≡ row.now ++ zeros k) }
+{
+    let mut numbers = Vec::from_slice(alloc, row.entries())?;
+    for _ in 0..k {
+        numbers.push(0)?;
+    }
+    let row = Row::from_slice(alloc, numbers.as_slice())?;
+    Ok(row)
+}
+
+// The generators with k more columns of zeros.
+fn longer_list(alloc: Global, list: &GenSys, k: usize) -> Result<GenSys, AllocError>
+    requires small { list.now.dims + k < 2 ^ 62 }
+    requires kinds { FitKinds list.now.rows list.now.kinds }
+    ensures dims { IfOk result (λ all. all.dims ≡ list.now.dims + k) }
+    ensures generators { IfOk result (λ all. generators all ≡
+        map (λ g. record { row = g.row ++ zeros k; equal = g.equal }) (generators list.now)) }
+    ensures kinds { IfOk result (λ all. FitKinds all.rows all.kinds) }
+{
+    let mut all = GenSys::new(alloc, list.dims() + k);
+    let (rows, kinds) = (list.rows(), list.kinds());
+    for place in 0..rows.len() {
+        all.push(longer(alloc, &rows[place], k)?, kinds[place])?;
+    }
+    Ok(all)
+}
+
+// The generators, then a line along each of the dimensions behind the first n.
+fn with_new_lines(alloc: Global, list: GenSys, n: usize, k: usize) -> Result<GenSys, AllocError>
+    requires dims { list.dims ≡ n + k }
+    requires small { n + k < 2 ^ 62 }
+    requires kinds { FitKinds list.rows list.kinds }
+    ensures dims { IfOk result (λ all. all.dims ≡ n + k) }
+    ensures generators { IfOk result (λ all. generators all ≡
+        generators list ++ given_as true (map (λ u. zeros (suc n) ++ u) (units k))) }
+    ensures kinds { IfOk result (λ all. FitKinds all.rows all.kinds) }
+{
+    let mut all = list;
+    let _kinds = all.kinds();
+    for i in 0..k {
+        all.push(unit(alloc, n + k, n + 1 + i)?, GenKind::Line)?;
+    }
+    Ok(all)
+}
+
+// The generators with k more dimensions, in which the coordinates may be anything.
+pub fn embedded(alloc: Global, list: &GenSys, k: usize) -> Result<GenSys, AllocError>
+    requires small { list.now.dims + k < 2 ^ 62 }
+    requires kinds { FitKinds list.now.rows list.now.kinds }
+    ensures dims { IfOk result (λ all. all.dims ≡ list.now.dims + k) }
+    ensures generators { IfOk result (λ all. generators all ≡
+        map (λ g. record { row = g.row ++ zeros k; equal = g.equal }) (generators list.now)
+        ++ given_as true (map (λ u. zeros (suc list.now.dims) ++ u) (units k))) }
+    ensures kinds { IfOk result (λ all. FitKinds all.rows all.kinds) }
+{
+    let longer = longer_list(alloc, list, k)?;
+    let all = with_new_lines(alloc, longer, list.dims(), k)?;
+    Ok(all)
+}

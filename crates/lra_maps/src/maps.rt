@@ -1,0 +1,125 @@
+//! Operations that change a polyhedron.
+
+ghost use Rattle.std.specs.Prelude.{◌≡◌, ◌<◌, ◌≤◌, ◌-◌, ◌+◌, ◌^◌, suc, IfOk, OnErr, OnOk};
+ghost use Rattle.lra_linear.specs.Descriptions.{Con, Gen};
+ghost use Rattle.lra_linear.specs.OperationStrain.{FromGeneratorsStrains, EmbedStrains, ForgetStrains};
+ghost use Rattle.lra_linear.specs.OperationStrain.{RemoveLastStrains, TimeElapseStrains};
+ghost use Rattle.lra_linear.specs.Points.{IsEmptySet, IsWithin};
+ghost use Rattle.lra_linear.specs.Polyhedra.{IsPolyhedron, IsPolyhedronOf};
+ghost use Rattle.lra_linear.specs.SetOperations.{Embed, Forget, RemoveLast, TimeElapse};
+ghost use Rattle.lra_poly.specs.Outcomes.{IfExact, IfFlagged};
+ghost use Rattle.lra_sys.specs.Listed.{generators, FitKinds};
+
+use crate::lists::{embedded, shortened, with_directions, with_line};
+use lra_poly::{Outcome, Poly};
+use lra_sys::GenSys;
+use std::alloc::AllocError;
+
+// Becomes the polyhedron of the generators.
+fn replace(p: &mut Poly, list: &GenSys) -> Result<Outcome, AllocError>
+    requires { FitKinds list.now.rows list.now.kinds }
+    ensures dims { OnOk result (p.new.dims ≡ list.now.dims) }
+    ensures exact { IfOk result (IfExact (IsPolyhedronOf list.now.dims (Gen (generators list.now)) p.new)) }
+    ensures within { IfOk result (λ _. IsWithin list.now.dims (Gen (generators list.now)) (Con p.new.rows)) }
+    ensures strain { IfOk result (IfFlagged (FromGeneratorsStrains list.now.dims (generators list.now))) }
+    ensures canonical { OnOk result (IsPolyhedron p.new) }
+    ensures unchanged { OnErr result (p.new ≡ p.old) }
+{
+    let (made, outcome) = Poly::from_generators(p.allocator(), list)?;
+    *p = made;
+    Ok(outcome)
+}
+
+/// Lets the coordinate x be anything: becomes the set of the points that some value of x brings into it. Where it is
+/// flagged it has at least those.
+pub fn forget(p: &mut Poly, x: usize) -> Result<Outcome, AllocError>
+    requires { x < p.old.dims }
+    ensures dims { p.new.dims ≡ p.old.dims }
+    ensures exact { IfOk result (IfExact
+        (IsPolyhedronOf p.old.dims (Forget p.old.dims (suc x) (Con p.old.rows)) p.new)) }
+    ensures within { IfOk result (λ _.
+        IsWithin p.old.dims (Forget p.old.dims (suc x) (Con p.old.rows)) (Con p.new.rows)) }
+    ensures strain { IfOk result (IfFlagged (ForgetStrains (suc x) p.old)) }
+    ensures unchanged { OnErr result (p.new ≡ p.old) }
+{
+    let list = with_line(p.allocator(), p.generators(), x)?;
+    let outcome = replace(p, &list)?;
+    Ok(outcome)
+}
+
+/// Takes away the last k dimensions: becomes the set of its points without their last k coordinates. Where it is
+/// flagged it has at least those.
+pub fn remove_last(p: &mut Poly, k: usize) -> Result<Outcome, AllocError>
+    requires { k ≤ p.old.dims }
+    ensures dims { OnOk result (p.new.dims ≡ p.old.dims - k) }
+    ensures exact { IfOk result (IfExact
+        (IsPolyhedronOf (p.old.dims - k) (RemoveLast (p.old.dims - k) k (Con p.old.rows)) p.new)) }
+    ensures within { IfOk result (λ _.
+        IsWithin (p.old.dims - k) (RemoveLast (p.old.dims - k) k (Con p.old.rows)) (Con p.new.rows)) }
+    ensures strain { IfOk result (IfFlagged (RemoveLastStrains k p.old)) }
+    ensures unchanged { OnErr result (p.new ≡ p.old) }
+{
+    let list = shortened(p.allocator(), p.generators(), p.dims() - k)?;
+    let outcome = replace(p, &list)?;
+    Ok(outcome)
+}
+
+/// Adds k dimensions, the last ones, in which the coordinates may be anything: becomes the set of its points with any
+/// coordinates behind them. Where it is flagged it has at least those.
+pub fn embed(p: &mut Poly, k: usize) -> Result<Outcome, AllocError>
+    requires { p.old.dims + k < 2 ^ 62 }
+    ensures dims { OnOk result (p.new.dims ≡ p.old.dims + k) }
+    ensures exact { IfOk result (IfExact
+        (IsPolyhedronOf (p.old.dims + k) (Embed p.old.dims (Con p.old.rows)) p.new)) }
+    ensures within { IfOk result (λ _.
+        IsWithin (p.old.dims + k) (Embed p.old.dims (Con p.old.rows)) (Con p.new.rows)) }
+    ensures strain { IfOk result (IfFlagged (EmbedStrains k p.old)) }
+    ensures unchanged { OnErr result (p.new ≡ p.old) }
+{
+    let list = embedded(p.allocator(), p.generators(), k)?;
+    let outcome = replace(p, &list)?;
+    Ok(outcome)
+}
+
+// The time-elapse of two that have a point each.
+fn elapse(p: &mut Poly, other: &Poly) -> Result<Outcome, AllocError>
+    requires dims { other.now.dims ≡ p.old.dims }
+    requires first { ¬ (IsEmptySet p.old.dims (Con p.old.rows)) }
+    requires second { ¬ (IsEmptySet other.now.dims (Con other.now.rows)) }
+    ensures dims { OnOk result (p.new.dims ≡ p.old.dims) }
+    ensures exact { IfOk result (IfExact (IsPolyhedronOf p.old.dims
+        (TimeElapse p.old.dims (Con p.old.rows) (Con other.now.rows)) p.new)) }
+    ensures within { IfOk result (λ _. IsWithin p.old.dims
+        (TimeElapse p.old.dims (Con p.old.rows) (Con other.now.rows)) (Con p.new.rows)) }
+    ensures strain { IfOk result (IfFlagged (TimeElapseStrains p.old other.now)) }
+    ensures unchanged { OnErr result (p.new ≡ p.old) }
+{
+    let list = with_directions(p.allocator(), p.generators(), other.generators())?;
+    let outcome = replace(p, &list)?;
+    Ok(outcome)
+}
+
+/// Lets time elapse: becomes the hull of its points moved by any whole number of steps from 0 on, each step by the
+/// coordinates of a point of the other. Where it is flagged it has at least those.
+pub fn time_elapse(p: &mut Poly, other: &Poly) -> Result<Outcome, AllocError>
+    requires { other.now.dims ≡ p.old.dims }
+    ensures dims { OnOk result (p.new.dims ≡ p.old.dims) }
+    ensures exact { IfOk result (IfExact (IsPolyhedronOf p.old.dims
+        (TimeElapse p.old.dims (Con p.old.rows) (Con other.now.rows)) p.new)) }
+    ensures within { IfOk result (λ _. IsWithin p.old.dims
+        (TimeElapse p.old.dims (Con p.old.rows) (Con other.now.rows)) (Con p.new.rows)) }
+    ensures strain { IfOk result (IfFlagged (TimeElapseStrains p.old other.now)) }
+    ensures unchanged { OnErr result (p.new ≡ p.old) }
+{
+    let _canonical = p.rows();
+    let _other_canonical = other.rows();
+    if p.is_empty() {
+        return Ok(Outcome::Exact);
+    }
+    if other.is_empty() {
+        *p = other.copy()?;
+        return Ok(Outcome::Exact);
+    }
+    let outcome = elapse(p, other)?;
+    Ok(outcome)
+}
