@@ -1,6 +1,6 @@
 //! The worked set of a half line.
 
-ghost use Rattle.std.specs.Prelude.{◌≡◌, IfOk};
+ghost use Rattle.std.specs.Prelude.{◌≡◌, length, IfOk};
 
 use crate::{embed, forget, remove_last, time_elapse};
 use lra_poly::Poly;
@@ -9,22 +9,25 @@ use lra_sys::{ConKind, ConSys};
 use std::alloc::Global;
 use std::test::Fail;
 
-const MAX: i128 = i128::MAX;
-
-// The point with these coordinates.
-fn point_of(alloc: Global, first: i128, second: i128) -> Result<Poly, Fail>
-    ensures { IfOk result (λ p. p.dims ≡ 2) }
+fn row_of(alloc: Global, numbers: &[i128; 3]) -> Result<Row, Fail>
+    ensures { IfOk result (λ row. length row ≡ 3) }
 {
-    if first > MAX - 1 || first < -MAX || second > MAX - 1 || second < -MAX {
+    let [constant, first, second] = *numbers;
+    if constant == i128::MIN || first == i128::MIN || second == i128::MIN {
         return Err("a number passes the range".into());
     }
+    let row = Row::from_slice(alloc, &[constant, first, second])?;
+    Ok(row)
+}
+
+// The point of two equalities.
+fn point_of(alloc: Global, first: &[i128; 3], second: &[i128; 3]) -> Result<Poly, Fail>
+    ensures { IfOk result (λ p. p.dims ≡ 2) }
+{
     let mut list = ConSys::new(alloc, 2);
-    list.push(Row::from_slice(alloc, &[-first, 1, 0])?, ConKind::Eq)?;
-    list.push(Row::from_slice(alloc, &[-second, 0, 1])?, ConKind::Eq)?;
-    let (point, outcome) = Poly::from_rows(alloc, &list)?;
-    if !outcome.is_exact() {
-        return Err("a row is lost".into());
-    }
+    list.push(row_of(alloc, first)?, ConKind::Eq)?;
+    list.push(row_of(alloc, second)?, ConKind::Eq)?;
+    let (point, _) = Poly::from_rows(alloc, &list)?;
     Ok(point)
 }
 
@@ -45,23 +48,46 @@ fn shows(p: &Poly, rows: &[[i128; 3]], generators: &[[i128; 3]]) -> bool {
     are(p.rows().rows(), rows) && are(p.generators().rows(), generators)
 }
 
-/// The origin moved by steps of (1, 2) is a half line. Without x2, and with a new x2 behind it, or where x2 is forgotten,
-/// it is the half plane of the points with x1 at least 0.
+// The origin moved by steps of (1, 2).
+fn way_of(alloc: Global) -> Result<Poly, Fail>
+    ensures { IfOk result (λ p. p.dims ≡ 2) }
+{
+    let step = point_of(alloc, &[-1, 1, 0], &[-2, 0, 1])?;
+    let mut way = point_of(alloc, &[0, 1, 0], &[0, 0, 1])?;
+    let outcome = time_elapse(&mut way, &step)?;
+    if !outcome.is_exact() {
+        return Err("a generator is lost".into());
+    }
+    Ok(way)
+}
+
+/// It is a half line.
 #[test]
 fn half_line(rt: HostRuntime) -> Result<(), Fail> {
-    let step = point_of(rt.alloc(), 1, 2)?;
-    let mut set = point_of(rt.alloc(), 0, 0)?;
-    let elapsed = time_elapse(&mut set, &step)?;
-    let mut also = set.copy()?;
-    let way = shows(&set, &[[0, 2, -1], [0, 0, 1]], &[[1, 0, 0], [0, 1, 2]]);
-    assert!(rt; elapsed.is_exact() && way);
-    let removed = remove_last(&mut set, 1)?;
-    let added = embed(&mut set, 1)?;
-    assert!(rt; removed.is_exact() && added.is_exact());
-    let forgotten = forget(&mut also, 1)?;
-    for half in [&set, &also] {
-        assert!(rt; shows(half, &[[0, 1, 0]], &[[1, 0, 0], [0, 1, 0], [0, 0, 1]]));
-    }
-    assert!(rt; forgotten.is_exact());
+    let way = way_of(rt.alloc())?;
+    assert!(rt; shows(&way, &[[0, 2, -1], [0, 0, 1]], &[[1, 0, 0], [0, 1, 2]]));
+    Ok(())
+}
+
+fn is_half_plane(p: &Poly) -> bool {
+    shows(p, &[[0, 1, 0]], &[[1, 0, 0], [0, 1, 0], [0, 0, 1]])
+}
+
+/// Without its x2, and with a new one, it is a half plane.
+#[test]
+fn new_coordinate(rt: HostRuntime) -> Result<(), Fail> {
+    let mut way = way_of(rt.alloc())?;
+    let removed = remove_last(&mut way, 1)?;
+    let added = embed(&mut way, 1)?;
+    assert!(rt; removed.is_exact() && added.is_exact() && is_half_plane(&way));
+    Ok(())
+}
+
+/// As it is where its x2 may be anything.
+#[test]
+fn forgotten_coordinate(rt: HostRuntime) -> Result<(), Fail> {
+    let mut way = way_of(rt.alloc())?;
+    let outcome = forget(&mut way, 1)?;
+    assert!(rt; outcome.is_exact() && is_half_plane(&way));
     Ok(())
 }
