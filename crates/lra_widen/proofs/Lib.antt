@@ -1,0 +1,12 @@
+mod TruthLists
+mod ResidueLemmas
+mod Loops
+mod TightLists
+mod Dimension
+mod Faces
+mod Facets
+mod Counting
+mod RankLaw
+mod Validities
+mod Places
+mod WideningLemmas

@@ -1,0 +1,99 @@
+-- Tightness by lists of truth values.
+use Rattle.std.proofs.Common.{Bool, List, [], ap, arith, get_or, length, map, not, pos, refl, subst, suc, sym, take, zero, ℕ, ℤ, ◌<◌, ◌∙◌, ◌∷◌, ◌≡◌, ◌≤◌}
+use Rattle.std.specs.Prelude.{◌&&◌, ◌||◌}
+use Rattle.std.proofs.lemmas.List.{length-map, take_all}
+use Rattle.std.specs.Bool.{beq}
+use Rattle.std.specs.List.{All, list_all, list_any}
+use Rattle.std.specs.Ordering.{int_eq}
+use Rattle.lra_bits.specs.TruthValues.{value_at}
+use Rattle.lra_linear.specs.Descriptions.{Given}
+use Rattle.lra_linear.specs.Polyhedra.{Polyhedron}
+use Rattle.lra_linear.specs.Vectors.{product}
+use Rattle.lra_linear.specs.Widening.{is_tight, is_tight_as, saturates}
+use Rattle.lra_cone.specs.Steps.{IsFilled}
+use Rattle.lra_sys.specs.Listed.{Listed, given_by}
+use Rattle.lra_widen.specs.Rank.{is_free}
+use Rattle.lra_widen.specs.Saturated.{are_true, same_values, saturated}
+
+-- ---- all, and the same
+pub all_saturate : (generators : List Given) (r : Given) → are_true (saturated generators r.row) ≡ list_all (saturates r) generators
+all_saturate [] r = refl
+all_saturate (g ∷ generators) r = ap (λ b. saturates r g && b) (all_saturate generators r)
+
+pub same_saturate : (generators : List Given) (r s : Given) → same_values (saturated generators r.row) (saturated generators s.row) ≡ is_tight_as generators r s
+same_saturate [] r s = refl
+same_saturate (g ∷ generators) r s = ap (λ b. beq (saturates r g) (saturates s g) && b) (same_saturate generators r s)
+
+pub any_saturates : (generators : List Given) (r : Given) (rows : List Given) →
+    list_any (same_values (saturated generators r.row)) (map (λ (s : Given). saturated generators s.row) rows) ≡ list_any (is_tight_as generators r) rows
+any_saturates generators r [] = refl
+any_saturates generators r (s ∷ rows) =
+    ap (λ b. b || list_any (same_values (saturated generators r.row)) (map (λ (s : Given). saturated generators s.row) rows)) (same_saturate generators r s) ∙
+    ap (λ b. is_tight_as generators r s || b) (any_saturates generators r rows)
+
+-- of rows with kinds
+pub rows_saturate : {K : Type 0} (equal : K → Bool) (generators : List Given) (rows : List (List ℤ)) (kinds : List K) → length kinds ≡ length rows →
+    map (saturated generators) rows ≡ map (λ (s : Given). saturated generators s.row) (given_by equal rows kinds)
+rows_saturate equal generators [] kinds n = refl
+rows_saturate equal generators (r ∷ rows) [] n = absurd (omega (arith, n))
+rows_saturate equal generators (r ∷ rows) (k ∷ kinds) n = ap (λ l. saturated generators r ∷ l) (rows_saturate equal generators rows kinds (omega (arith, n)))
+
+-- tightness
+pub tight_by_values : (p : Polyhedron) (r : Given) (bits : List Bool) (classes : List (List Bool)) → bits ≡ saturated p.generators r.row →
+    classes ≡ map (λ (s : Given). saturated p.generators s.row) p.rows → (are_true bits || list_any (same_values bits) classes) ≡ is_tight p r
+tight_by_values p r bits classes e f =
+    ap (λ l. are_true l || list_any (same_values l) classes) e ∙ ap (λ l. are_true (saturated p.generators r.row) || list_any (same_values (saturated p.generators r.row)) l) f ∙
+    ap (λ b. b || list_any (same_values (saturated p.generators r.row)) (map (λ (s : Given). saturated p.generators s.row) p.rows)) (all_saturate p.generators r) ∙
+    ap (λ b. list_all (saturates r) p.generators || b) (any_saturates p.generators r p.rows)
+
+-- ---- widths
+pub class_widths : (generators : List Given) (rows : List Given) (classes : List (List Bool)) → classes ≡ map (λ (s : Given). saturated generators s.row) rows →
+    All (λ class. length generators ≡ length class) classes
+class_widths generators rows classes e = subst (All (λ class. length generators ≡ length class)) (sym e) (all_wide rows)
+  where
+    all_wide : (rows : List Given) → All (λ class. length generators ≡ length class) (map (λ (s : Given). saturated generators s.row) rows)
+    all_wide [] k d h = absurd (omega (arith, h))
+    all_wide (s ∷ rows) zero d h = sym (length-map generators (λ g. int_eq (product s.row g.row) (pos 0)))
+    all_wide (s ∷ rows) (suc k) d h = all_wide rows k d (omega (arith, h))
+
+-- ---- as they are set one after the other
+pub given_length : {K : Type 0} (equal : K → Bool) (rows : List (List ℤ)) (kinds : List K) → length kinds ≡ length rows → length (given_by equal rows kinds) ≡ length rows
+given_length equal [] kinds n = refl
+given_length equal (r ∷ rows) [] n = absurd (omega (arith, n))
+given_length equal (r ∷ rows) (k ∷ kinds) n = ap suc (given_length equal rows kinds (omega (arith, n)))
+
+filled_here : {K : Type 0} (equal : K → Bool) (rows : List (List ℤ)) (kinds : List K) (r : List ℤ) (bits : List Bool) → length kinds ≡ length rows → length bits ≡ length rows →
+    ((j : ℕ) → j < length rows → value_at bits j ≡ int_eq (product r (get_or rows j [])) (pos 0)) → bits ≡ saturated (given_by equal rows kinds) r
+filled_here equal [] kinds r [] n l h = refl
+filled_here equal [] kinds r (b ∷ bits) n l h = absurd (omega (arith, l))
+filled_here equal (x ∷ rows) [] r bits n l h = absurd (omega (arith, n))
+filled_here equal (x ∷ rows) (k ∷ kinds) r [] n l h = absurd (omega (arith, l))
+filled_here equal (x ∷ rows) (k ∷ kinds) r (b ∷ bits) n l h =
+    ap (λ c. c ∷ bits) (h 0 (omega arith)) ∙
+    ap (λ t. int_eq (product r x) (pos 0) ∷ t) (filled_here equal rows kinds r bits (omega (arith, n)) (omega (arith, l)) (λ j m. h (suc j) (omega (arith, m))))
+
+pub filled_saturated : {K : Type 0} (equal : K → Bool) (all : Listed K) (rows : List (List ℤ)) (kinds : List K) (r : List ℤ) (bits : List Bool) (k : ℕ) → rows ≡ all.rows → kinds ≡ all.kinds →
+    length kinds ≡ length all.rows → length rows ≤ k → IsFilled (λ j. int_eq (product r (get_or rows j [])) (pos 0)) (length rows) k bits → bits ≡ saturated (given_by equal all.rows all.kinds) r
+filled_saturated equal all rows kinds r bits k er ek n h f =
+    filled_here equal rows kinds r bits (n ∙ ap length (sym er)) f.0 (λ j m. f.1 j (omega (arith, m, h))) ∙
+    ap (λ l. saturated (given_by equal l kinds) r) er ∙ ap (λ l. saturated (given_by equal all.rows l) r) ek
+
+pub all_rows_saturate : {K : Type 0} (equal : K → Bool) (generators : List Given) (all : Listed K) (rows : List (List ℤ)) (kinds : List K) (classes : List (List Bool)) (k : ℕ) → rows ≡ all.rows →
+    kinds ≡ all.kinds → length kinds ≡ length all.rows → length rows ≤ k → classes ≡ map (saturated generators) (take k rows) →
+    classes ≡ map (λ (s : Given). saturated generators s.row) (given_by equal all.rows all.kinds)
+all_rows_saturate equal generators all rows kinds classes k er ek n h e =
+    e ∙ ap (map (saturated generators)) (take_all k rows h) ∙ rows_saturate equal generators rows kinds (n ∙ ap length (sym er)) ∙
+    ap (λ l. map (λ (s : Given). saturated generators s.row) (given_by equal l kinds)) er ∙ ap (λ l. map (λ (s : Given). saturated generators s.row) (given_by equal all.rows l)) ek
+
+-- the values of one list beside those of others
+pub bits_widths : (generators : List Given) (r : List ℤ) (bits : List Bool) (classes : List (List Bool)) → bits ≡ saturated generators r → All (λ class. length generators ≡ length class) classes →
+    All (λ class. length bits ≡ length class) classes
+bits_widths generators r bits classes e h k d l =
+    ap length e ∙ length-map generators (λ g. int_eq (product r g.row) (pos 0)) ∙ h k d l
+
+-- freedom
+pub free_by_values : (p : Polyhedron) (r : Given) (bits : List Bool) (classes : List (List Bool)) (given : List Given) (equal : Bool) → bits ≡ saturated p.generators r.row →
+    classes ≡ map (λ (s : Given). saturated p.generators s.row) given → equal ≡ r.equal → (not equal && not (list_any (same_values bits) classes)) ≡ is_free p given r
+free_by_values p r bits classes given equal e f q =
+    ap (λ b. not b && not (list_any (same_values bits) classes)) q ∙ ap (λ l. not r.equal && not (list_any (same_values l) classes)) e ∙
+    ap (λ l. not r.equal && not (list_any (same_values (saturated p.generators r.row)) l)) f ∙ ap (λ b. not r.equal && not b) (any_saturates p.generators r given)

@@ -1,0 +1,317 @@
+-- What the parts of a widening tell of the whole.
+use Rattle.std.proofs.Common.{Bool, List, [], ap, arith, false, inl, inr, length, refl, subst, suc, sym, true, Err, IsOk, IsErr, Ok, Result, ℕ, ℤ, ◌++◌, ◌∙◌, ◌∷◌, ◌≡◌, ◌≢◌}
+use Rattle.std.specs.Prelude.{◌↔◌, IsTrue}
+use Rattle.std.proofs.lemmas.List.Elements.{All-contains, Contains-append_cases, Contains-append_left, Contains-append_right}
+use Rattle.std.specs.List.{All, Contains, filter}
+use Rattle.lra_linear.specs.Cones.{both_ways}
+use Rattle.lra_linear.specs.Descriptions.{Con, Given, given_as, system_of}
+use Rattle.lra_linear.specs.OperationStrain.{ConstraintsStrain, FromRowsStrains, LimitedStrains, ResultStrains, StandardStrains, tight_on, valid_on}
+use Rattle.lra_linear.specs.Points.{IsEmptySet, IsPoint, IsWithin, PointSet, SameSet}
+use Rattle.lra_linear.specs.Polyhedra.{HasPoint, IsPolyhedron, IsPolyhedronOf, Polyhedron}
+use Rattle.lra_linear.specs.Strain.{Loss}
+use Rattle.lra_linear.specs.Widening.{Limited, Standard, StandardFrom, is_tight}
+use Rattle.lra_linear.proofs.Descriptions.{con_none}
+use Rattle.lra_linear.proofs.Lines.{in_lines}
+use Rattle.lra_linear.proofs.Membership.{contains_cases, contains_none, filter_from}
+use Rattle.lra_linear.proofs.OneSpelling.{given_from}
+use Rattle.lra_linear.proofs.SetOperations.{has_vertex}
+use Rattle.lra_linear.proofs.Widening.{limited_con, standard_con, valid_decides}
+use Rattle.lra_poly.specs.declared.inclusion.Inclusion.TheVariants.{Wide, Yes}
+use Rattle.lra_poly.specs.declared.outcome.Outcome.{Outcome}
+use Rattle.lra_poly.specs.declared.outcome.Outcome.TheVariants.{Exact, Flagged}
+use Rattle.lra_poly.specs.FirstPlaces.{FirstAt}
+use Rattle.lra_poly.specs.Inclusions.{IsInclusion, Meets, MeetsAll, Passes, Violates, ViolatesFirst}
+use Rattle.lra_poly.specs.Outcomes.{IfExact, IfFlagged}
+use Rattle.lra_poly.proofs.InclusionLemmas.{has_member}
+use Rattle.lra_poly.proofs.PolyLemmas.{falsity_is_empty, none_where_empty, same_polyhedron}
+use Rattle.lra_sys.specs.Listed.{Listed, given_by}
+use Rattle.lra_widen.specs.Rank.{Falls, equalities_from, kept}
+use Rattle.lra_widen.specs.Widenings.{HaveColumns, IsOutside, IsWidened, PassesOnBoth}
+use Rattle.lra_widen.proofs.Counting.{holds_valid, kept_at}
+use Rattle.lra_widen.proofs.RankLaw.{not_inside, rank_falls}
+
+-- ---- with and without a point
+pub with_point : (p : Polyhedron) → IsPolyhedron p → ¬ (IsEmptySet p.dims (Con p.rows)) → HasPoint p
+with_point p (inl none) some = absurd (some (falsity_is_empty p.dims p.rows none.0))
+with_point p (inr h) some = h
+
+around_point : (p q : Polyhedron) → HasPoint p → IsPolyhedron q → q.dims ≡ p.dims → IsWithin p.dims (Con p.rows) (Con q.rows) → HasPoint q
+around_point p q h (inl none) d w = absurd (not_inside p q h none d w)
+around_point p q h (inr k) d w = k
+
+no_generators : (p : Polyhedron) → HasPoint p → p.generators ≢ []
+no_generators p h e = contains_none (has_vertex p h).vertex (subst (λ (l : List Given). Contains (system_of l) (has_vertex p h).vertex) e (has_vertex p h).has)
+
+-- ---- widths
+pub given_columns : {K : Type 0} (equal : K → Bool) (n : ℕ) (rows : List (List ℤ)) (kinds : List K) → All (λ r. length r ≡ suc n) rows → HaveColumns n (given_by equal rows kinds)
+given_columns equal n [] kinds h g k = absurd (contains_none g k)
+given_columns equal n (r ∷ rows) [] h g k = absurd (contains_none g k)
+given_columns equal n (r ∷ rows) (x ∷ kinds) h g k = elim (contains_cases (let y : Given = record { row = r; equal = equal x } in y) g (given_by equal rows kinds) k) [
+  | inl e ↦ ap (λ (y : Given). length y.row) (sym e) ∙ h 0 r (omega arith)
+  | inr d ↦ given_columns equal n rows kinds (λ j t m. h (suc j) t (omega (arith, m))) g d
+]
+
+row_columns : (q : Polyhedron) → HasPoint q → HaveColumns q.dims q.rows
+row_columns q k g m = elim (Contains-append_cases (given_as true k.equalities) (given_as false k.inequalities) g (subst (λ l. Contains l g) k.rows_are m)) [
+  | inl i ↦ k.dual.system_widths g.row (Contains-append_right k.facets (both_ways k.equalities) g.row (in_lines k.equalities g.row (given_from true k.equalities g i).1))
+  | inr i ↦ k.dual.system_widths g.row (Contains-append_left k.facets (both_ways k.equalities) g.row (k.shown g.row (given_from false k.inequalities g i).1).0)
+]
+
+-- ---- where P has no point
+limited_empty : (p q : Polyhedron) (given : List Given) → q.dims ≡ p.dims → p.generators ≡ [] → SameSet p.dims (Limited p q given) (Con q.rows)
+limited_empty p q given d e = (
+  λ x i l. subst (λ gs. StandardFrom gs p q x) e l.0,
+  λ x i c. (subst (λ gs. StandardFrom gs p q x) (sym e) c, λ g m a b. b x (subst (λ (n : ℕ). IsPoint n x) (sym d) i) c),
+)
+
+pub widened_empty : (p q r : Polyhedron) (given : List Given) → IsPolyhedron p → IsPolyhedron q → q.dims ≡ p.dims → IsEmptySet p.dims (Con p.rows) → r ≡ q → IsWidened p q given r Exact
+widened_empty p q r given hp hq d empty er =
+    let e = none_where_empty p hp empty in
+    let s = limited_empty p q given d e in
+    subst (λ (y : Polyhedron). IsWidened p q given y Exact) (sym er) (record {
+      dims = d;
+      canonical = hq;
+      exact = record { dimensions = d; canonical = hq; points = s };
+      within = s.0;
+      old = λ x i c. absurd (empty x i c);
+      strain = tt;
+      keeps = λ h. absurd (no_generators p h e);
+    })
+
+-- ---- all points
+pub widened_up : (p q u : Polyhedron) (given : List Given) (loss : Loss) → IsPolyhedronOf p.dims (Con []) u → LimitedStrains p q given loss → IsWidened p q given u (Flagged loss)
+widened_up p q u given loss made strains = record {
+  dims = made.dimensions;
+  canonical = made.canonical;
+  exact = tt;
+  within = λ x i l. made.points.0 x i (con_none x);
+  old = λ x i l. made.points.0 x i (con_none x);
+  strain = strains;
+  keeps = λ h. record {
+    rows = [];
+    made = subst (λ (n : ℕ). IsPolyhedronOf n (Con []) u) (sym made.dimensions) made;
+    widths = λ g k. absurd (contains_none g k);
+    told = λ g k. absurd (contains_none g k);
+  };
+}
+
+pub passes_limited : (p q : Polyhedron) (given : List Given) (loss : Loss) → PassesOnBoth p q given loss → LimitedStrains p q given loss
+passes_limited p q given loss x = inr (elim (Contains-append_cases p.generators q.generators x.passes.generator x.passes.has_generator) [
+  | inl a ↦ record {
+    excess = x.excess;
+    is_cause = x.is_cause;
+    generators = p.generators;
+    of = inl refl;
+    passes = record { row = x.passes.row; has_row = x.passes.has_row; generator = x.passes.generator; has_generator = a; passes = x.passes.passes };
+    is_further = x.is_further;
+    nothing = x.nothing;
+  }
+  | inr a ↦ record {
+    excess = x.excess;
+    is_cause = x.is_cause;
+    generators = q.generators;
+    of = inr (inl refl);
+    passes = record { row = x.passes.row; has_row = x.passes.has_row; generator = x.passes.generator; has_generator = a; passes = x.passes.passes };
+    is_further = x.is_further;
+    nothing = x.nothing;
+  }
+])
+
+pub widened_wide : (p q u : Polyhedron) (given : List Given) (loss : Loss) → IsPolyhedronOf p.dims (Con []) u → PassesOnBoth p q given loss → IsWidened p q given u (Flagged loss)
+widened_wide p q u given loss made x = widened_up p q u given loss made (passes_limited p q given loss x)
+
+-- ---- the polyhedron of the tight rows and those kept
+limited_list : (p q : Polyhedron) (given : List Given) → HasPoint p → HasPoint q → IsWithin p.dims (Limited p q given) (Con (tight_on p q ++ kept p q given))
+limited_list p q given h k x i l g m = elim (Contains-append_cases (tight_on p q) (kept p q given) g m) [
+  | inl a ↦ (standard_con p.dims p q (no_generators p h)).0 x i l.0 g a
+  | inr b ↦
+      let f = kept_at p q given g b in
+      l.1 g f.0 ((valid_decides p h g).0 (holds_valid p g f.1)) ((valid_decides q k g).0 (holds_valid q g f.2))
+]
+
+old_list : (p q : Polyhedron) (given : List Given) → HasPoint p → IsWithin p.dims (Con p.rows) (Con q.rows) → IsWithin p.dims (Con p.rows) (Con (tight_on p q ++ kept p q given))
+old_list p q given h w x i c g m = elim (Contains-append_cases (tight_on p q) (kept p q given) g m) [
+  | inl a ↦ w x i c g (filter_from (is_tight p) q.rows g a).0
+  | inr b ↦ (valid_decides p h g).0 (holds_valid p g (kept_at p q given g b).1) x i c
+]
+
+exact_of : (P Q : Type 0) (o : Outcome) → (P → Q) → IfExact P o → IfExact Q o
+exact_of P Q Exact f h = f h
+exact_of P Q (Flagged loss) f h = tt
+
+flagged_of : (P Q : Loss → Type 0) (o : Outcome) → ((loss : Loss) → P loss → Q loss) → IfFlagged P o → IfFlagged Q o
+flagged_of P Q Exact f h = tt
+flagged_of P Q (Flagged loss) f h = f loss h
+
+pub widened_made : (p q made : Polyhedron) (list given : List Given) (n : ℕ) (o lost : Outcome) → IsPolyhedron p → IsPolyhedron q → q.dims ≡ p.dims → ¬ (IsEmptySet p.dims (Con p.rows)) →
+    IsWithin p.dims (Con p.rows) (Con q.rows) → list ≡ tight_on p q ++ kept p q given → n ≡ p.dims → o ≡ Exact → IfExact (IsPolyhedronOf n (Con list) made) o → HaveColumns p.dims given →
+    IfExact (kept p q given ≡ valid_on p q given) lost → IfFlagged (PassesOnBoth p q given) lost → IsWidened p q given made lost
+widened_made p q made list given n o lost hp hq d some w e en eo exact columns same passes =
+    let h = with_point p hp some in
+    let k = around_point p q h hq d w in
+    let all = tight_on p q ++ kept p q given in
+    let m : IsPolyhedronOf p.dims (Con all) made = subst (λ (l : List Given). IsPolyhedronOf p.dims (Con l) made) e
+    (subst (λ (j : ℕ). IsPolyhedronOf j (Con list) made) en (subst (IfExact (IsPolyhedronOf n (Con list) made)) eo exact)) in
+    record {
+      dims = m.dimensions;
+      canonical = m.canonical;
+      exact = exact_of (kept p q given ≡ valid_on p q given) (IsPolyhedronOf p.dims (Limited p q given) made) lost
+          (λ s. same_polyhedron p.dims (Limited p q given) (Con (tight_on p q ++ valid_on p q given)) made (limited_con p q given h k)
+          (subst (λ (l : List Given). IsPolyhedronOf p.dims (Con (tight_on p q ++ l)) made) s m)) same;
+      within = λ x i l. m.points.0 x i (limited_list p q given h k x i l);
+      old = λ x i c. m.points.0 x i (old_list p q given h w x i c);
+      strain = flagged_of (PassesOnBoth p q given) (LimitedStrains p q given) lost (passes_limited p q given) passes;
+      keeps = λ _. record {
+        rows = all;
+        made = subst (λ (j : ℕ). IsPolyhedronOf j (Con all) made) (sym m.dimensions) m;
+        widths = λ g i. all_columns h k g i ∙ ap suc (sym m.dimensions);
+        told = λ g i. elim (Contains-append_cases (tight_on p q) (kept p q given) g i) [
+          | inl a ↦ inl (filter_from (is_tight p) q.rows g a).1
+          | inr b ↦ let f = kept_at p q given g b in inr (f.0, f.1)
+        ];
+      };
+    }
+  where
+    all_columns : HasPoint p → HasPoint q → (g : Given) → Contains (tight_on p q ++ kept p q given) g → length g.row ≡ suc p.dims
+    all_columns h k g i = elim (Contains-append_cases (tight_on p q) (kept p q given) g i) [
+      | inl a ↦ row_columns q k g (filter_from (is_tight p) q.rows g a).0 ∙ ap suc d
+      | inr b ↦ columns g (kept_at p q given g b).0
+    ]
+
+-- ---- where a row is lost
+result_strain : (n : ℕ) (P Q : PointSet) (list : Polyhedron → List Given) (loss : Loss) → SameSet n P Q → ResultStrains n Q list loss → ResultStrains n P list loss
+result_strain n P Q list loss s r = record { result = r.result; is_result = same_polyhedron n P Q r.result s r.is_result; strains = r.strains }
+
+constraints_strain : (n : ℕ) (P Q : PointSet) (taken : List Given) (loss : Loss) → SameSet n P Q → ConstraintsStrain n Q taken loss → ConstraintsStrain n P taken loss
+constraints_strain n P Q taken loss s (inl a) = inl a
+constraints_strain n P Q taken loss s (inr b) = inr (result_strain n P Q (λ p. p.generators) loss s b)
+
+pub widened_lost : (p q u : Polyhedron) (list given : List Given) (n : ℕ) (o lost : Outcome) → IsPolyhedron p → IsPolyhedron q → q.dims ≡ p.dims → ¬ (IsEmptySet p.dims (Con p.rows)) →
+    IsWithin p.dims (Con p.rows) (Con q.rows) → list ≡ tight_on p q ++ kept p q given → n ≡ p.dims → ¬ (o ≡ Exact) → lost ≡ Exact → IfFlagged (FromRowsStrains n list) o →
+    IfExact (kept p q given ≡ valid_on p q given) lost → IsPolyhedronOf p.dims (Con []) u → IsWidened p q given u o
+widened_lost p q u list given n Exact lost hp hq d some w e en other el strains same made = absurd (other refl)
+widened_lost p q u list given n (Flagged loss) lost hp hq d some w e en other el strains same made =
+    let h = with_point p hp some in
+    let k = around_point p q h hq d w in
+    let s : kept p q given ≡ valid_on p q given = subst (IfExact (kept p q given ≡ valid_on p q given)) el same in
+    let el : list ≡ tight_on p q ++ valid_on p q given = e ∙ ap (λ l. tight_on p q ++ l) s in
+    let x : FromRowsStrains p.dims (tight_on p q ++ valid_on p q given) loss = subst (λ (l : List Given). FromRowsStrains p.dims l loss) el (subst (λ (j : ℕ). FromRowsStrains j list loss) en strains) in
+    widened_up p q u given loss made
+    (inl (constraints_strain p.dims (Limited p q given) (Con (tight_on p q ++ valid_on p q given)) (tight_on p q ++ valid_on p q given) loss (limited_con p q given h k) x))
+
+pub widened_passed : (p q u : Polyhedron) (given : List Given) (lost : Outcome) → ¬ (lost ≡ Exact) → IfFlagged (PassesOnBoth p q given) lost → IsPolyhedronOf p.dims (Con []) u → IsWidened p q given u lost
+widened_passed p q u given Exact other passes made = absurd (other refl)
+widened_passed p q u given (Flagged loss) other passes made = widened_wide p q u given loss made passes
+
+pub not_exact : (b : Bool) (o : Outcome) → IsTrue b ↔ (o ≡ Exact) → b ≡ false → ¬ (o ≡ Exact)
+not_exact b o h f e = let t = h.1 e in cc
+
+-- ---- the standard widening is that with no given row
+standard_limited : (n : ℕ) (p q : Polyhedron) → SameSet n (Standard p q) (Limited p q [])
+standard_limited n p q = (λ x i s. (s, λ g m a b. absurd (contains_none g m)), λ x i l. l.0)
+
+append_nothing : {A : Type 0} (xs : List A) → xs ++ [] ≡ xs
+append_nothing [] = refl
+append_nothing (x ∷ xs) = ap (λ l. x ∷ l) (append_nothing xs)
+
+pub standard_exact : (p q r : Polyhedron) (given : List Given) (o : Outcome) → given ≡ [] → IsWidened p q given r o → IfExact (IsPolyhedronOf p.dims (Standard p q) r) o
+standard_exact p q r given o e w =
+    exact_of (IsPolyhedronOf p.dims (Limited p q given) r) (IsPolyhedronOf p.dims (Standard p q) r) o
+    (λ h. same_polyhedron p.dims (Standard p q) (Limited p q []) r (standard_limited p.dims p q) (subst (λ (l : List Given). IsPolyhedronOf p.dims (Limited p q l) r) e h)) w.exact
+
+pub standard_within : (p q r : Polyhedron) (given : List Given) (o : Outcome) → given ≡ [] → IsWidened p q given r o → IsWithin p.dims (Standard p q) (Con r.rows)
+standard_within p q r given o e w x i s = w.within x i (subst (λ (l : List Given). Limited p q l x) (sym e) ((standard_limited p.dims p q).0 x i s))
+
+standard_loss : (p q : Polyhedron) (loss : Loss) → LimitedStrains p q [] loss → StandardStrains p q loss
+standard_loss p q loss (inl a) =
+    inl (constraints_strain p.dims (Standard p q) (Limited p q []) (tight_on p q) loss (standard_limited p.dims p q)
+    (subst (λ (l : List Given). ConstraintsStrain p.dims (Limited p q []) l loss) (append_nothing (tight_on p q)) a))
+standard_loss p q loss (inr b) = inr (record {
+  excess = b.excess;
+  is_cause = b.is_cause;
+  generators = b.generators;
+  of = elim b.of [
+    | inl x ↦ inl x
+    | inr x ↦ elim x [
+      | inl y ↦ inr (inl y)
+      | inr y ↦ inr (inr (record { result = y.result; is_result = same_polyhedron p.dims (Standard p q) (Limited p q []) y.result (standard_limited p.dims p q) y.is_result; are = y.are }))
+    ]
+  ];
+  passes = b.passes;
+  is_further = b.is_further;
+  nothing = b.nothing;
+})
+
+pub standard_strain : (p q r : Polyhedron) (given : List Given) (o : Outcome) → given ≡ [] → IsWidened p q given r o → IfFlagged (StandardStrains p q) o
+standard_strain p q r given o e w =
+    flagged_of (LimitedStrains p q given) (StandardStrains p q) o (λ loss s. standard_loss p q loss (subst (λ (l : List Given). LimitedStrains p q l loss) e s)) w.strain
+
+-- ---- the rank
+pub limited_falls : (p q r : Polyhedron) (given : List Given) (o : Outcome) → IsPolyhedron p → HaveColumns p.dims given → IsWidened p q given r o → r ≢ p → Falls p r given
+limited_falls p q r given o h columns w other = rank_falls p r given h w.canonical w.dims w.old other columns w.keeps
+
+pub standard_falls : (p q r : Polyhedron) (none : List Given) (o : Outcome) → none ≡ [] → IsPolyhedron p → IsWidened p q none r o → r ≢ p → (given : List Given) → HaveColumns p.dims given → Falls p r given
+standard_falls p q r none o e h w other given columns = rank_falls p r given h w.canonical w.dims w.old other columns (λ x.
+    let k = w.keeps x in
+    record {
+      rows = k.rows;
+      made = k.made;
+      widths = k.widths;
+      told = λ g i. elim (k.told g i) [
+        | inl a ↦ inl a
+        | inr b ↦ absurd (contains_none g (subst (λ (l : List Given). Contains l g) e b.0))
+      ];
+    })
+
+-- ---- refusals: the first generator that decides is one
+same_first : {A : Type 0} (B : A → Type 0) (e f : List A) (m n : A) (s t : List A) → e ++ m ∷ s ≡ f ++ n ∷ t → All B e → All B f → ¬ (B m) → ¬ (B n) → m ≡ n
+same_first B [] [] m n s t q a b x y = cc
+same_first B [] (g ∷ f) m n s t q a b x y = let h : m ≡ g = cc in absurd (x (subst B (sym h) (b 0 g (omega arith))))
+same_first B (g ∷ e) [] m n s t q a b x y = let h : g ≡ n = cc in absurd (y (subst B h (a 0 g (omega arith))))
+same_first B (g ∷ e) (k ∷ f) m n s t q a b x y =
+    let h : e ++ m ∷ s ≡ f ++ n ∷ t = cc in
+    same_first B e f m n s t h (λ j d l. a (suc j) d (omega (arith, l))) (λ j d l. b (suc j) d (omega (arith, l))) x y
+
+violation : (rows : List Given) (g : Given) → ViolatesFirst rows g → ¬ (MeetsAll rows g)
+violation rows g v all =
+    let m = All-contains (Meets g) rows v.first.member all (has_member (Meets g) (Violates g) rows v.place v.first) in
+    let t = m.1 in
+    let f = v.first.here.1 in
+    cc
+
+ok_or_err : {A E : Type 0} (q : Result A E) → IsOk q → IsErr q → ⊥
+ok_or_err (Ok x) a b = cc
+ok_or_err (Err e) a b = cc
+
+pub yes_inside : (p q : Polyhedron) → IsInclusion q.rows p.generators Yes → (place : ℕ) → ¬ (IsOutside p q place)
+yes_inside p q all place f = violation q.rows f.member f.here (All-contains (MeetsAll q.rows) p.generators f.member all (has_member (MeetsAll q.rows) (ViolatesFirst q.rows) p.generators place f))
+
+pub wide_inside : (p q : Polyhedron) (generator row : ℕ) → IsInclusion q.rows p.generators (Wide generator row) → (place : ℕ) → ¬ (IsOutside p q place)
+wide_inside p q generator row w place f =
+    let passed : ¬ (MeetsAll q.rows w.member) = λ all. ok_or_err _ (All-contains (Meets w.member) q.rows w.here.member all (has_member (Meets w.member) (Passes w.member) q.rows row w.here)).0 w.here.here in
+    let same : w.member ≡ f.member = same_first (MeetsAll q.rows) w.earlier f.earlier w.member f.member w.later f.later (sym w.is ∙ f.is) w.before f.before passed (violation q.rows f.member f.here) in
+    by_rows f.member (subst (λ (g : Given). FirstAt (Meets g) (Passes g) q.rows row) same w.here) f.here
+  where
+    by_rows : (g : Given) → FirstAt (Meets g) (Passes g) q.rows row → ViolatesFirst q.rows g → ⊥
+    by_rows g a b =
+        let x = b.first in
+        let same : a.member ≡ x.member = same_first (Meets g) a.earlier x.earlier a.member x.member a.later x.later (sym a.is ∙ x.is) a.before x.before
+        (λ m. ok_or_err _ m.0 a.here) (λ m. let t = m.1 in let f = x.here.1 in cc) in
+        ok_or_err _ x.here.0 (subst (Passes g) same a.here)
+
+pub seen_columns : {K : Type 0} (equal : K → Bool) (n m : ℕ) (all : Listed K) (rows : List (List ℤ)) → rows ≡ all.rows → m ≡ n → All (λ r. length r ≡ suc m) rows → HaveColumns n (given_by equal all.rows all.kinds)
+seen_columns equal n m all rows er e h =
+    given_columns equal n all.rows all.kinds (subst (λ (l : List (List ℤ)). All (λ r. length r ≡ suc n) l) er (subst (λ (j : ℕ). All (λ r. length r ≡ suc j) rows) e h))
+
+-- ---- the number of equalities
+pub some_equalities : (p : Polyhedron) (rows : List Given) (b : Bool) (n : ℕ) → IsPolyhedron p → rows ≡ p.rows → b ≡ false → IsTrue b ↔ IsEmptySet p.dims (Con p.rows) →
+    n ≡ length (filter (λ (g : Given). g.equal) rows) → n ≡ equalities_from p.generators p
+some_equalities p rows b n hp er e h m =
+    m ∙ ap (λ l. length (filter (λ (g : Given). g.equal) l)) er ∙ sym (by_list p.generators (no_generators p (with_point p hp (λ s. let t = h.1 s in cc))))
+  where
+    by_list : (l : List Given) → l ≢ [] → equalities_from l p ≡ length (filter (λ (g : Given). g.equal) p.rows)
+    by_list [] x = absurd (x refl)
+    by_list (g ∷ l) x = refl
+
+pub no_equalities : (p : Polyhedron) (n : ℕ) → IsPolyhedron p → IsEmptySet p.dims (Con p.rows) → n ≡ suc p.dims → n ≡ equalities_from p.generators p
+no_equalities p n hp empty e = e ∙ sym (ap (λ l. equalities_from l p) (none_where_empty p hp empty))

@@ -1,0 +1,14 @@
+use Rattle.std.proofs.Common.{ap, ◌∙◌}
+use Rattle.lra_widen.specs.Saturated.{saturated}
+use Rattle.lra_widen.proofs.TightLists.{bits_widths, class_widths, tight_by_values}
+use Rattle.lra_widen.proofs.lists.is_tight.Goals as goal
+
+pub is_full_or_among-stays-requires : goal.is_full_or_among-stays-requires
+is_full_or_among-stays-requires c =
+    bits_widths c.args.p.now.generators c.args.row.now c.in_ok-bits.bits c.args.classes.now (c.in_ok-bits.ensures ∙ ap (λ l. saturated l c.args.row.now) c.generators.ensures.generators)
+    (class_widths c.args.p.now.generators c.args.p.now.rows c.args.classes.now c.requires.classes)
+
+pub returns : goal.returns
+returns c = λ equal. c.is_full_or_among-stays.ensures ∙
+    tight_by_values c.args.p.now (record { row = c.args.row.now; equal = equal }) c.in_ok-bits.bits c.args.classes.now (c.in_ok-bits.ensures ∙ ap (λ l. saturated l c.args.row.now) c.generators.ensures.generators)
+    c.requires.classes

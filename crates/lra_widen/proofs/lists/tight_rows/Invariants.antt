@@ -1,0 +1,13 @@
+use Rattle.std.proofs.Common.{◌≡◌, ◌++◌, []}
+use Rattle.std.specs.List.{filter}
+use Rattle.lra_linear.specs.Kinds.{is_equality}
+use Rattle.lra_linear.specs.Widening.{is_tight}
+use Rattle.lra_poly.proofs.FirstMembers.{front}
+use Rattle.lra_sys.specs.Listed.{constraints}
+use Rattle.lra_widen.proofs.lists.tight_rows.Given as goal
+
+abbrev pub invariant-loop-place : goal.invariant-loop-place
+invariant-loop-place l = record {
+  dims : l.tight.dims ≡ l.p.dims;
+  rows : constraints l.tight ≡ [] ++ filter (is_tight l.p) (front is_equality l.rows l.kinds l.place);
+}

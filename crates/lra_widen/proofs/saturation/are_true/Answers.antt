@@ -1,0 +1,9 @@
+use Rattle.std.proofs.Common.{arith}
+use Rattle.lra_widen.proofs.TruthLists.{none_false, one_false}
+use Rattle.lra_widen.proofs.saturation.are_true.Goals as goal
+
+pub returns-then-not-get : goal.returns-then-not-get
+returns-then-not-get c = one_false c.args.bits.now c.loop-k.k (omega (arith, c.loop-k-test.true, c.width-k-end.ensures)) c.if-not-get.ensures
+
+pub returns : goal.returns
+returns c = none_false c.args.bits.now c.loop-k.k (omega (arith, c.loop-k-test.false, c.width-k-end.ensures)) c.loop-k.invariant

@@ -1,0 +1,6 @@
+-- Widenings of closed polyhedra.
+pub mod Residues
+pub mod Saturated
+pub mod Validity
+pub mod Rank
+pub mod Widenings

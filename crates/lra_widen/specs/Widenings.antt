@@ -1,0 +1,55 @@
+-- What is told of a widening.
+use Rattle.std.specs.Prelude.{◌≡◌, ◌⊎◌, ℕ, suc, true, List, [], ◌++◌, length}
+use Rattle.std.specs.List.{Contains}
+use Rattle.lra_linear.specs.declared.Excess as E
+use Rattle.lra_linear.specs.declared.Cause.TheVariants.{Excess}
+use Rattle.lra_linear.specs.Descriptions.{Given, Con}
+use Rattle.lra_linear.specs.OperationStrain.{LimitedStrains, ProductsPass}
+use Rattle.lra_linear.specs.Points.{IsWithin}
+use Rattle.lra_linear.specs.Polyhedra.{HasPoint, IsPolyhedron, IsPolyhedronOf, Polyhedron}
+use Rattle.lra_linear.specs.Strain as strain
+use Rattle.lra_linear.specs.Widening.{is_tight, Limited}
+use Rattle.lra_poly.specs.declared.inclusion.Inclusion.TheVariants.{No}
+use Rattle.lra_poly.specs.declared.outcome.Outcome.{Outcome}
+use Rattle.lra_poly.specs.Inclusions.{IsInclusion}
+use Rattle.lra_poly.specs.Outcomes.{IfExact, IfFlagged}
+use Rattle.lra_widen.specs.Rank.{holds_in_range}
+use Rattle.lra_widen.specs.declared.error.WidenError.{WidenError}
+use Rattle.lra_widen.specs.declared.error.WidenError.TheVariants.{NotIncluded, Memory}
+
+-- the place is that of the first generator of P outside Q, and no product before it passes
+abbrev pub IsOutside : Polyhedron → Polyhedron → ℕ → Type 0
+IsOutside p q place = IsInclusion q.rows p.generators (No place)
+
+abbrev pub IsRefusal : Polyhedron → Polyhedron → WidenError → Type 0
+IsRefusal p q (NotIncluded place) = IsOutside p q place
+IsRefusal p q Memory = Unit {0}
+
+-- R is the polyhedron of rows each of which is tight on P, or is given and holds in range on P
+pub record KeepsRows (p r : Polyhedron) (given : List Given) : Type 0 where
+  pub rows : List Given
+  pub made : IsPolyhedronOf r.dims (Con rows) r
+  pub widths : (g : Given) → Contains rows g → length g.row ≡ suc r.dims
+  pub told : (g : Given) → Contains rows g → (is_tight p g ≡ true) ⊎ (Contains given g × (holds_in_range p g ≡ true))
+
+-- the loss of a row of Q, or of a given one, whose product with a generator of P or of Q passes
+pub record PassesOnBoth (p q : Polyhedron) (given : List Given) (loss : strain.Loss) : Type 0 where
+  pub excess : E.Excess
+  pub is_cause : loss.cause ≡ Excess excess
+  pub passes : ProductsPass (q.rows ++ given) (p.generators ++ q.generators) excess
+  pub is_further : loss.further ≡ passes.row
+  pub nothing : loss.chosen ≡ []
+
+-- R is what the widening of P by Q, limited by the given rows, gives, and the outcome what it tells
+pub record IsWidened (p q : Polyhedron) (given : List Given) (r : Polyhedron) (o : Outcome) : Type 0 where
+  pub dims : r.dims ≡ p.dims
+  pub canonical : IsPolyhedron r
+  pub exact : IfExact (IsPolyhedronOf p.dims (Limited p q given) r) o
+  pub within : IsWithin p.dims (Limited p q given) (Con r.rows)
+  pub old : IsWithin p.dims (Con p.rows) (Con r.rows)
+  pub strain : IfFlagged (LimitedStrains p q given) o
+  pub keeps : HasPoint p → KeepsRows p r given
+
+-- the rows have a column for the constant and one for each dimension
+abbrev pub HaveColumns : ℕ → List Given → Type 0
+HaveColumns n given = (g : Given) → Contains given g → length g.row ≡ suc n

@@ -1,0 +1,14 @@
+//! The standard and the limited widening of closed polyhedra, and the rank that falls with each.
+#![tactic(auto)]
+
+mod error;
+mod exact;
+mod lists;
+mod ranking;
+mod saturation;
+mod validity;
+mod widening;
+
+pub use error::WidenError;
+pub use ranking::rank;
+pub use widening::{limited, standard};

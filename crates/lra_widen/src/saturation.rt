@@ -1,0 +1,83 @@
+//! Which generators rows saturate, as truth values in words.
+
+ghost use Rattle.std.specs.Prelude.{◌≡◌, ◌||◌, suc, IfOk, length, map};
+ghost use Rattle.std.specs.List.{All, list_any};
+ghost use Rattle.lra_sys.specs.Listed.{constraints, generators};
+ghost use Rattle.lra_widen.specs.Saturated.{saturated, are_true, same_values};
+
+use crate::exact::saturates;
+use lra_bits::BitRow;
+use lra_row::Row;
+use lra_sys::{ConSys, GenSys};
+use std::alloc::{AllocError, Global};
+
+// Which of the generators the row saturates.
+pub fn saturated(alloc: Global, row: &Row, list: &GenSys) -> Result<BitRow, AllocError>
+    requires { length row.now ≡ suc list.now.dims }
+    ensures { IfOk result (λ bits. bits ≡ saturated (generators list.now) row.now) }
+{
+    let (rows, _kinds) = (list.rows(), list.kinds());
+    let mut bits = BitRow::new(alloc, rows.len())?;
+    for place in 0..rows.len() {
+        bits.set(place, saturates(row, &rows[place]));
+    }
+    Ok(bits)
+}
+
+// The same of each of the constraints.
+pub fn all_saturated(
+    alloc: Global,
+    given: &ConSys,
+    list: &GenSys,
+) -> Result<Vec<BitRow>, AllocError>
+    requires { given.now.dims ≡ list.now.dims }
+    ensures { IfOk result (λ classes. classes.items ≡ map (λ s. saturated (generators list.now) s.row) (constraints given.now)) }
+{
+    let (rows, _kinds) = (given.rows(), given.kinds());
+    let mut classes = Vec::new(alloc);
+    for place in 0..rows.len() {
+        classes.push(saturated(alloc, &rows[place], list)?)?;
+    }
+    Ok(classes)
+}
+
+// Whether all values are true.
+fn are_true(bits: &BitRow) -> bool
+    ensures { result ≡ are_true bits.now }
+{
+    for k in 0..bits.width() {
+        if !bits.get(k) {
+            return false;
+        }
+    }
+    true
+}
+
+// Whether the two lists, of one width, are the same.
+fn are_same(bits: &BitRow, other: &BitRow) -> bool
+    requires { length bits.now ≡ length other.now }
+    ensures { result ≡ same_values bits.now other.now }
+{
+    bits.subset(other) && other.subset(bits)
+}
+
+// Whether the list is one of these, of its width.
+pub fn is_among(bits: &BitRow, classes: &[BitRow]) -> bool
+    requires { All (λ class. length bits.now ≡ length class) classes.now }
+    ensures { result ≡ list_any (same_values bits.now) classes.now }
+{
+    for class in classes {
+        if are_same(bits, class) {
+            return true;
+        }
+    }
+    false
+}
+
+// Whether all values are true, or the list is one of these.
+pub fn is_full_or_among(bits: &BitRow, classes: &[BitRow]) -> bool
+    requires { All (λ class. length bits.now ≡ length class) classes.now }
+    ensures { result ≡ (are_true bits.now || list_any (same_values bits.now) classes.now) }
+{
+    are_true(bits) || is_among(bits, classes)
+}

@@ -1,0 +1,124 @@
+//! The standard and the limited widening (after Halbwachs 1979).
+
+ghost use Rattle.std.specs.Prelude.{◌≡◌, ◌≢◌, ℕ, List, IfOk, IfErr};
+ghost use Rattle.lra_linear.specs.Descriptions.{Con, Given};
+ghost use Rattle.lra_linear.specs.OperationStrain.{LimitedStrains, StandardStrains};
+ghost use Rattle.lra_linear.specs.Points.{IsEmptySet, IsWithin};
+ghost use Rattle.lra_linear.specs.Polyhedra.{IsPolyhedron, IsPolyhedronOf};
+ghost use Rattle.lra_linear.specs.Widening.{Limited, Standard};
+ghost use Rattle.lra_sys.specs.Listed.{constraints};
+ghost use Rattle.lra_poly.specs.Outcomes.{IfExact, IfFlagged};
+ghost use Rattle.lra_widen.specs.Rank.{Falls};
+ghost use Rattle.lra_widen.specs.Widenings.{HaveColumns, IsOutside, IsRefusal, IsWidened};
+
+use crate::error::WidenError;
+use crate::lists::{add_held, given_loss, inclusion_loss, no_rows, tight_rows, universe};
+use lra_poly::{Inclusion, Outcome, Poly};
+use lra_sys::ConSys;
+use std::alloc::{AllocError, Global};
+
+// The widening of a polyhedron with a point by one that it lies in. All points, where a constraint is lost.
+fn widened_within(
+    alloc: Global,
+    p: &Poly,
+    q: &Poly,
+    given: &ConSys,
+) -> Result<(Poly, Outcome), AllocError>
+    requires second { q.now.dims ≡ p.now.dims }
+    requires given { given.now.dims ≡ p.now.dims }
+    requires some { ¬ (IsEmptySet p.now.dims (Con p.now.rows)) }
+    requires within { IsWithin p.now.dims (Con p.now.rows) (Con q.now.rows) }
+    ensures { IfOk result (λ r. IsWidened p.now q.now (constraints given.now) r.0 r.1) }
+{
+    let (_rows, _others, _given) = (p.rows(), q.rows(), given.rows());
+    let mut list = tight_rows(alloc, p, q)?;
+    add_held(&mut list, p, q, given)?;
+    let lost = given_loss(alloc, p, q, given)?;
+    let (made, outcome) = Poly::from_rows(alloc, &list)?;
+    if outcome.is_exact() {
+        return Ok((made, lost));
+    }
+    let all = universe(alloc, p.dims())?;
+    if lost.is_exact() {
+        Ok((all, outcome))
+    } else {
+        Ok((all, lost))
+    }
+}
+
+// The widening of the first by the second, limited by the given constraints.
+fn widened(alloc: Global, p: &Poly, q: &Poly, given: &ConSys) -> Result<(Poly, Outcome), WidenError>
+    requires second { q.now.dims ≡ p.now.dims }
+    requires given { given.now.dims ≡ p.now.dims }
+    ensures widened { IfOk result (λ r. IsWidened p.now q.now (constraints given.now) r.0 r.1) }
+    ensures refused { IfErr result (IsRefusal p.now q.now) }
+    ensures inside { IfOk result (λ _. (place : ℕ) → ¬ (IsOutside p.now q.now place)) }
+    ensures canonical { IsPolyhedron p.now }
+{
+    let (_rows, _others) = (p.rows(), q.rows());
+    match p.included(q) {
+        Inclusion::No(place) => Err(WidenError::NotIncluded(place)),
+        Inclusion::Wide(generator, row) => {
+            let loss = inclusion_loss(alloc, p, q, generator, row)?;
+            let all = universe(alloc, p.dims())?;
+            Ok((all, Outcome::Flagged(loss)))
+        }
+        Inclusion::Yes => {
+            if p.is_empty() {
+                let same = q.copy()?;
+                Ok((same, Outcome::Exact))
+            } else {
+                let (made, outcome) = widened_within(alloc, p, q, given)?;
+                Ok((made, outcome))
+            }
+        }
+    }
+}
+
+/// The standard widening of P by Q, which P lies in: the points at which each constraint of Q that is tight on P holds;
+/// Q where P has no point. Where it is flagged it has at least those. Refused with the place of P's first generator
+/// outside Q; where a product passes before that is known, it is flagged and has all points.
+pub fn standard(alloc: Global, p: &Poly, q: &Poly) -> Result<(Poly, Outcome), WidenError>
+    requires { q.now.dims ≡ p.now.dims }
+    ensures dims { IfOk result (λ r. r.0.dims ≡ p.now.dims) }
+    ensures canonical { IfOk result (λ r. IsPolyhedron r.0) }
+    ensures exact { IfOk result (λ r. IfExact (IsPolyhedronOf p.now.dims (Standard p.now q.now) r.0) r.1) }
+    ensures within { IfOk result (λ r. IsWithin p.now.dims (Standard p.now q.now) (Con r.0.rows)) }
+    ensures old { IfOk result (λ r. IsWithin p.now.dims (Con p.now.rows) (Con r.0.rows)) }
+    ensures strain { IfOk result (λ r. IfFlagged (StandardStrains p.now q.now) r.1) }
+    ensures falls { IfOk result (λ r. r.0 ≢ p.now → (given : List Given) → HaveColumns p.now.dims given →
+        Falls p.now r.0 given) }
+    ensures refused { IfErr result (IsRefusal p.now q.now) }
+    ensures inside { IfOk result (λ _. (place : ℕ) → ¬ (IsOutside p.now q.now place)) }
+{
+    let none = no_rows(alloc, p.dims())?;
+    let (made, outcome) = widened(alloc, p, q, &none)?;
+    Ok((made, outcome))
+}
+
+/// The standard widening met with each given constraint that is valid on both. Where it is flagged it has at least those
+/// points. Refused as the standard one is.
+pub fn limited(
+    alloc: Global,
+    p: &Poly,
+    q: &Poly,
+    given: &ConSys,
+) -> Result<(Poly, Outcome), WidenError>
+    requires second { q.now.dims ≡ p.now.dims }
+    requires given { given.now.dims ≡ p.now.dims }
+    ensures dims { IfOk result (λ r. r.0.dims ≡ p.now.dims) }
+    ensures canonical { IfOk result (λ r. IsPolyhedron r.0) }
+    ensures exact { IfOk result (λ r.
+        IfExact (IsPolyhedronOf p.now.dims (Limited p.now q.now (constraints given.now)) r.0) r.1) }
+    ensures within { IfOk result (λ r.
+        IsWithin p.now.dims (Limited p.now q.now (constraints given.now)) (Con r.0.rows)) }
+    ensures old { IfOk result (λ r. IsWithin p.now.dims (Con p.now.rows) (Con r.0.rows)) }
+    ensures strain { IfOk result (λ r. IfFlagged (LimitedStrains p.now q.now (constraints given.now)) r.1) }
+    ensures falls { IfOk result (λ r. r.0 ≢ p.now → Falls p.now r.0 (constraints given.now)) }
+    ensures refused { IfErr result (IsRefusal p.now q.now) }
+    ensures inside { IfOk result (λ _. (place : ℕ) → ¬ (IsOutside p.now q.now place)) }
+{
+    let _rows = given.rows();
+    let (made, outcome) = widened(alloc, p, q, given)?;
+    Ok((made, outcome))
+}
