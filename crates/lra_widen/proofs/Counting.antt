@@ -19,7 +19,8 @@ both_tests : {A : Type 0} (t s : A → Bool) (xs : List A) →
 both_tests t s [] = (omega arith, λ h. refl)
 both_tests {A = A} t s (x ∷ xs) = by_tests (t x) (s x) (both_tests t s xs)
   where
-    by_tests : (a b : Bool) → (length (filter (λ y. t y && s y) xs) ≤ length (filter t xs)) × (length (filter t xs) ≤ length (filter (λ y. t y && s y) xs) → filter (λ y. t y && s y) xs ≡ filter t xs) →
+    by_tests : (a b : Bool) → (length (filter (λ y. t y && s y) xs) ≤ length (filter t xs)) ×
+        (length (filter t xs) ≤ length (filter (λ y. t y && s y) xs) → filter (λ y. t y && s y) xs ≡ filter t xs) →
         (length (cond (a && b) (x ∷ filter (λ y. t y && s y) xs) (filter (λ y. t y && s y) xs)) ≤ length (cond a (x ∷ filter t xs) (filter t xs))) ×
         (length (cond a (x ∷ filter t xs) (filter t xs)) ≤ length (cond (a && b) (x ∷ filter (λ y. t y && s y) xs) (filter (λ y. t y && s y) xs)) →
         cond (a && b) (x ∷ filter (λ y. t y && s y) xs) (filter (λ y. t y && s y) xs) ≡ cond a (x ∷ filter t xs) (filter t xs))

@@ -61,7 +61,8 @@ sum_zero (z ∷ zs) (r ∷ rows) p h =
     ring (v z ⊗ v (pos 0) ⊕ v (pos 0)) (v (pos 0)) (omega arith)
 
 -- with 0 at the first pivot, it is in the span of the rest
-without_first : (r : List ℤ) (rows : List (List ℤ)) (p : ℕ) (u : ℕ → ℤ) → pos 0 <ℤ entry r p → ((t : List ℤ) → Contains rows t → entry t p ≡ pos 0) → u p ≡ pos 0 → Spanned (r ∷ rows) u → Spanned rows u
+without_first : (r : List ℤ) (rows : List (List ℤ)) (p : ℕ) (u : ℕ → ℤ) → pos 0 <ℤ entry r p → ((t : List ℤ) → Contains rows t → entry t p ≡ pos 0) → u p ≡ pos 0 → Spanned (r ∷ rows) u →
+    Spanned rows u
 without_first r rows p u h zeros e g = by_factors g.factors g.is_sum
   where
     by_factors : (zs : List ℤ) → ((j : ℕ) → pos g.multiple *ℤ u j ≡ signed_sum zs (r ∷ rows) j) → Spanned rows u

@@ -220,7 +220,8 @@ positivity_beside p h s k b = beside_same p h s (positivity p.dims) b k (ap suc 
 -- what is valid on all its points is at least 0 on each vector that solves the rows and the positivity row
 solution_above : (r : Polyhedron) (k : HasPoint r) (rows : List Given) → IsPolyhedronOf r.dims (Con rows) r → (c : List ℤ) → Contains (con r k) c → (g : List ℤ) → length g ≡ suc r.dims →
     Solves (positivity r.dims ∷ system_of rows) (entry g) → pos 0 ≤ℤ product c g
-solution_above r k rows made c m g lg s = by_column (above_zero (entry g 0) (subst (λ z. pos 0 ≤ℤ z) (positivity_product r.dims g) (s (positivity r.dims) (contains_head (positivity r.dims) (system_of rows)))))
+solution_above r k rows made c m g lg s = by_column (above_zero (entry g 0) (subst (λ z. pos 0 ≤ℤ z) (positivity_product r.dims g)
+    (s (positivity r.dims) (contains_head (positivity r.dims) (system_of rows)))))
   where
     above_zero : (z : ℤ) → pos 0 ≤ℤ z → (pos 0 <ℤ z) ⊎ (z ≡ pos 0)
     above_zero (pos zero) h = inr refl

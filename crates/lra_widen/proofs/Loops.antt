@@ -30,13 +30,15 @@ pub filter_step : (test : Given → Bool) (xs ys : List Given) (g : Given) → y
 filter_step test xs ys g e = ap (filter test) e ∙ filter-append test xs (g ∷ [])
 
 -- a row that is put behind the others if it is wanted
-pub kept_step : (test : Given → Bool) (first list more xs ys : List Given) (g : Given) (b : Bool) → ys ≡ xs ++ g ∷ [] → b ≡ test g → list ≡ first ++ filter test xs → more ≡ list ++ cond b (g ∷ []) [] →
+pub kept_step : (test : Given → Bool) (first list more xs ys : List Given) (g : Given) (b : Bool) → ys ≡ xs ++ g ∷ [] → b ≡ test g → list ≡ first ++ filter test xs →
+    more ≡ list ++ cond b (g ∷ []) [] →
     more ≡ first ++ filter test ys
 kept_step test first list more xs ys g b e t h m =
     m ∙ ap (λ l. l ++ cond b (g ∷ []) []) h ∙ append_assoc first (filter test xs) (cond b (g ∷ []) []) ∙
     ap (λ l. first ++ l) (ap (λ c. filter test xs ++ cond c (g ∷ []) []) t ∙ sym (filter_step test xs ys g e))
 
-pub count_step : (test : Given → Bool) (n m : ℕ) (xs ys : List Given) (g : Given) (b : Bool) → ys ≡ xs ++ g ∷ [] → b ≡ test g → n ≡ length (filter test xs) → m ≡ cond b 1 0 → n + m ≡ length (filter test ys)
+pub count_step : (test : Given → Bool) (n m : ℕ) (xs ys : List Given) (g : Given) (b : Bool) → ys ≡ xs ++ g ∷ [] → b ≡ test g → n ≡ length (filter test xs) → m ≡ cond b 1 0 →
+    n + m ≡ length (filter test ys)
 count_step test n m xs ys g b e t h q =
     ap (λ k. n + k) (q ∙ one b) ∙ ap (λ k. k + length (cond b (g ∷ []) [])) h ∙ sym (length-append (filter test xs) (cond b (g ∷ []) [])) ∙
     ap length (ap (λ c. filter test xs ++ cond c (g ∷ []) []) t ∙ sym (filter_step test xs ys g e))
@@ -50,7 +52,8 @@ count_few n m i true h e = omega (arith, h, e)
 count_few n m i false h e = omega (arith, h, e)
 
 -- all places of a list
-pub front_seen : {K : Type 0} (equal : K → Bool) (all : Listed K) (rows : List (List ℤ)) (kinds : List K) (i : ℕ) → rows ≡ all.rows → kinds ≡ all.kinds → length kinds ≡ length all.rows → length rows ≤ i →
+pub front_seen : {K : Type 0} (equal : K → Bool) (all : Listed K) (rows : List (List ℤ)) (kinds : List K) (i : ℕ) → rows ≡ all.rows → kinds ≡ all.kinds → length kinds ≡ length all.rows →
+    length rows ≤ i →
     front equal rows kinds i ≡ given_by equal all.rows all.kinds
 front_seen equal all rows kinds i er ek n h =
     front_all equal rows kinds i (n ∙ ap length (sym er)) h ∙ ap (λ l. given_by equal l kinds) er ∙ ap (given_by equal all.rows) ek

@@ -32,9 +32,11 @@ row_at equal (x ∷ rows) (kind ∷ kinds) zero r k n h e =
     subst (λ (y : List ℤ). Contains (given_by equal (x ∷ rows) (kind ∷ kinds)) (record { row = y; equal = equal kind })) (sym e)
     (contains_head (let g : Given = record { row = x; equal = equal kind } in g) (given_by equal rows kinds))
 row_at equal (x ∷ rows) (kind ∷ kinds) (suc i) r k n h e =
-    contains_tail (let g : Given = record { row = x; equal = equal kind } in g) (member equal kinds i r k) (given_by equal rows kinds) (row_at equal rows kinds i r k (omega (arith, n)) (omega (arith, h)) e)
+    contains_tail (let g : Given = record { row = x; equal = equal kind } in g) (member equal kinds i r k) (given_by equal rows kinds)
+    (row_at equal rows kinds i r k (omega (arith, n)) (omega (arith, h)) e)
 
-pub row_among : {K : Type 0} (equal : K → Bool) (all : Listed K) (rows : List (List ℤ)) (kinds : List K) (i : ℕ) (r : List ℤ) (k : K) → rows ≡ all.rows → kinds ≡ all.kinds → length kinds ≡ length all.rows →
+pub row_among : {K : Type 0} (equal : K → Bool) (all : Listed K) (rows : List (List ℤ)) (kinds : List K) (i : ℕ) (r : List ℤ) (k : K) → rows ≡ all.rows → kinds ≡ all.kinds →
+    length kinds ≡ length all.rows →
     i < length rows → r ≡ get_or rows i r → Contains (given_by equal all.rows all.kinds) (member equal kinds i r k)
 row_among equal all rows kinds i r k er ek n h e =
     subst (λ l. Contains (given_by equal all.rows l) (member equal kinds i r k)) ek
@@ -65,7 +67,8 @@ pub record WidePair (p q : Polyhedron) (rows columns : List (List ℤ)) (kinds :
   pub here : (r g : List ℤ) (k : ConKind) → r ≡ get_or rows row r → g ≡ get_or columns generator g →
       Contains q.rows (record { row = r; equal = is_equality (get_or kinds row k) }) × ((x : Given) × Contains p.generators x × (x.row ≡ g)) × IsErr (checked_product r g)
 
-pub wide_pair : (p q : Polyhedron) (list : Listed ConKind) (by : Listed GenKind) (rows columns : List (List ℤ)) (kinds : List ConKind) (others : List GenKind) (generator row : ℕ) → constraints list ≡ q.rows →
+pub wide_pair : (p q : Polyhedron) (list : Listed ConKind) (by : Listed GenKind) (rows columns : List (List ℤ)) (kinds : List ConKind) (others : List GenKind) (generator row : ℕ) →
+    constraints list ≡ q.rows →
     generators by ≡ p.generators → rows ≡ list.rows → kinds ≡ list.kinds → length kinds ≡ length list.rows → columns ≡ by.rows → others ≡ by.kinds → length others ≡ length by.rows →
     IsInclusion q.rows p.generators (Wide generator row) → WidePair p q rows columns kinds generator row
 wide_pair p q list by rows columns kinds others generator row el eb er ek n ec eo m w =
@@ -77,7 +80,8 @@ wide_pair p q list by rows columns kinds others generator row el eb er ek n ec e
       row_below = subst (λ (i : ℕ). i < length rows) w.here.at b.0;
       column_below = subst (λ (i : ℕ). i < length columns) w.at a.0;
       here = λ r g k h i.
-          let r_is : w.here.member ≡ record { row = r; equal = is_equality (get_or kinds row k) } = subst (λ (j : ℕ). w.here.member ≡ record { row = r; equal = is_equality (get_or kinds j k) }) w.here.at
+          let r_is : w.here.member ≡ record { row = r; equal = is_equality (get_or kinds row k) } =
+          subst (λ (j : ℕ). w.here.member ≡ record { row = r; equal = is_equality (get_or kinds j k) }) w.here.at
           (b.1 r k (h ∙ ap (λ (j : ℕ). get_or rows j r) (sym w.here.at))) in
           let g_is : w.member.row ≡ g = column g a.1 i in (
             subst (Contains q.rows) r_is (has_member (Meets w.member) (Passes w.member) q.rows row w.here),

@@ -29,7 +29,8 @@ use Rattle.lra_widen.specs.Rank.{Falls, equalities_from, free, held, holds_in_ra
 use Rattle.lra_widen.specs.Widenings.{KeepsRows}
 use Rattle.lra_widen.proofs.Counting.{IsFree, any_from, any_said, equalities_many, free_apart, free_has, free_said, holds_valid, kept_all, kept_at, kept_fewer, kept_held}
 use Rattle.lra_widen.proofs.Dimension.{Matched, few_rows, no_longer, smaller_span}
-use Rattle.lra_widen.proofs.Faces.{IsFlat, beside_back, beside_product, beside_zero, con, equality_flat, facet_not_flat, flat_said, flat_spanned, gen, line_flat, lines_dot, same_face, spanned_dot, test_above, tight_as_back, tight_as_from, tight_as_said, true_multiple, within_above, within_flat, within_spans}
+use Rattle.lra_widen.proofs.Faces.{IsFlat, beside_back, beside_product, beside_zero, con, equality_flat, facet_not_flat, flat_said, flat_spanned, gen, line_flat, lines_dot, same_face, spanned_dot}
+use Rattle.lra_widen.proofs.Faces.{test_above, tight_as_back, tight_as_from, tight_as_said, true_multiple, within_above, within_flat, within_spans}
 use Rattle.lra_widen.proofs.Facets.{beside_same, facet_row, no_pivot_first}
 
 -- P lies in R, both with a point, and their affine hulls are the same
@@ -138,7 +139,8 @@ source p r given c f m =
     lines : List (List ℤ)
     lines = both_ways c.k.equalities
 
-    from_facet : IsFree r c.k (kept p r given) f → Contains c.k.facets f.row → (s : Given) → Contains p.rows s → ((t : List ℤ) → Contains (gen p c.h) t → product s.row t ≡ pos 0 → product f.row t ≡ pos 0) →
+    from_facet : IsFree r c.k (kept p r given) f → Contains c.k.facets f.row → (s : Given) → Contains p.rows s →
+        ((t : List ℤ) → Contains (gen p c.h) t → product s.row t ≡ pos 0 → product f.row t ≡ pos 0) →
         (s : Given) × Contains (free p (held p given)) s × ComesFrom p c.h f s
     from_facet free shown s i zeros = elim (kind_of s.equal) [
       | inl e ↦ absurd (apart_below p r c.h c.k c.hull f.row shown (λ t j. zeros t j (equality_flat p c.h s.row (equality_row p c.h s i e) t j)))

@@ -1,5 +1,6 @@
 -- Division of a sum of products by a modulus, column by column.
-use Rattle.std.proofs.Common.{Bool, List, [], add-one, ap, arith, false, get_or, length, nat_eq, neg_ℤ, negsuc, of_z, pos, refl, subst, suc, sym, take, to_z, unsigned_abs, zero, FitsSigned, ℕ, ℤ, ◌*ℤ◌, ◌*◌, ◌+ℤ◌, ◌+◌, ◌<ℤ◌, ◌<◌, ◌∙◌, ◌∷◌, ◌≡◌, ◌≤ℤ◌, ◌≤◌, ◌^◌}
+use Rattle.std.proofs.Common.{Bool, List, [], add-one, ap, arith, false, get_or, length, nat_eq, neg_ℤ, negsuc, of_z, pos, refl, subst, suc, sym, take, to_z, unsigned_abs, zero, FitsSigned, ℕ, ℤ}
+use Rattle.std.proofs.Common.{◌*ℤ◌, ◌*◌, ◌+ℤ◌, ◌+◌, ◌<ℤ◌, ◌<◌, ◌∙◌, ◌∷◌, ◌≡◌, ◌≤ℤ◌, ◌≤◌, ◌^◌}
 use Rattle.std.specs.Prelude.{◌↔◌, IsTrue}
 use Rattle.std.proofs.Math.Dec.{eqb-suc-zero}
 use Rattle.std.proofs.Math.Nat.{mul-le-mul, mul-le-mul_right}
@@ -106,7 +107,8 @@ both_divide : (a b u w : ℤ) (z : ℤ) → (u *ℤ a) +ℤ (w *ℤ b) ≡ pos 1
 both_divide a b u w z e x y = (
   (u *ℤ y.0) +ℤ (w *ℤ x.0),
   ring (v z) (v (pos 1) ⊗ v z) (omega arith) ∙ ap (λ o. o *ℤ z) (sym e) ∙
-      ring ((v u ⊗ v a ⊕ v w ⊗ v b) ⊗ v z) ((v u ⊗ v a) ⊗ v z ⊕ (v w ⊗ v b) ⊗ v z) (omega arith) ∙ ap (λ o. ((u *ℤ a) *ℤ o) +ℤ ((w *ℤ b) *ℤ z)) y.1 ∙ ap (λ o. ((u *ℤ a) *ℤ (b *ℤ y.0)) +ℤ ((w *ℤ b) *ℤ o)) x.1 ∙
+      ring ((v u ⊗ v a ⊕ v w ⊗ v b) ⊗ v z) ((v u ⊗ v a) ⊗ v z ⊕ (v w ⊗ v b) ⊗ v z) (omega arith) ∙ ap (λ o. ((u *ℤ a) *ℤ o) +ℤ ((w *ℤ b) *ℤ z)) y.1 ∙
+      ap (λ o. ((u *ℤ a) *ℤ (b *ℤ y.0)) +ℤ ((w *ℤ b) *ℤ o)) x.1 ∙
       ring ((v u ⊗ v a) ⊗ (v b ⊗ v y.0) ⊕ (v w ⊗ v b) ⊗ (v a ⊗ v x.0)) ((v a ⊗ v b) ⊗ (v u ⊗ v y.0 ⊕ v w ⊗ v x.0)) (omega arith),
 )
 
@@ -131,12 +133,15 @@ product_size (x ∷ xs) (y ∷ ys) hx hy =
 abbrev pub primes_product : ℤ
 primes_product = (((pos 9223372036854775783 *ℤ pos 9223372036854775643) *ℤ pos 9223372036854775549) *ℤ pos 9223372036854775507) *ℤ pos 9223372036854775433
 
-all_divide : (z : ℤ) → IsMultiple (pos 9223372036854775783) z → IsMultiple (pos 9223372036854775643) z → IsMultiple (pos 9223372036854775549) z → IsMultiple (pos 9223372036854775507) z → IsMultiple (pos 9223372036854775433) z → IsMultiple primes_product z
+all_divide : (z : ℤ) → IsMultiple (pos 9223372036854775783) z → IsMultiple (pos 9223372036854775643) z → IsMultiple (pos 9223372036854775549) z → IsMultiple (pos 9223372036854775507) z →
+    IsMultiple (pos 9223372036854775433) z → IsMultiple primes_product z
 all_divide z a b c d e =
     let x0 = both_divide (pos 9223372036854775783) (pos 9223372036854775643) (pos 2174080551544339973) (neg_ℤ (pos 2174080551544340006)) z refl a b in
     let x1 = both_divide ((pos 9223372036854775783) *ℤ pos 9223372036854775643) (pos 9223372036854775549) (pos 4196139478669109789) (neg_ℤ (pos 38702555530299044527770171516701769960)) z refl x0 c in
-    let x2 = both_divide (((pos 9223372036854775783) *ℤ pos 9223372036854775643) *ℤ pos 9223372036854775549) (pos 9223372036854775507) (pos 819472669938580582) (neg_ℤ (pos 69713024938430293038392042366666904902793431121555883063)) z refl x1 d in
-    let x3 = both_divide ((((pos 9223372036854775783) *ℤ pos 9223372036854775643) *ℤ pos 9223372036854775549) *ℤ pos 9223372036854775507) (pos 9223372036854775433) (neg_ℤ (pos 2202752423125968076)) (pos 1728362632228903720095167625791543564795259349802584446300484881273155478621) z refl x2 e in
+    let x2 = both_divide (((pos 9223372036854775783) *ℤ pos 9223372036854775643) *ℤ pos 9223372036854775549) (pos 9223372036854775507) (pos 819472669938580582)
+    (neg_ℤ (pos 69713024938430293038392042366666904902793431121555883063)) z refl x1 d in
+    let x3 = both_divide ((((pos 9223372036854775783) *ℤ pos 9223372036854775643) *ℤ pos 9223372036854775549) *ℤ pos 9223372036854775507) (pos 9223372036854775433) (neg_ℤ (pos 2202752423125968076))
+    (pos 1728362632228903720095167625791543564795259349802584446300484881273155478621) z refl x2 e in
     x3
 
 -- a multiple of a number above its size is 0

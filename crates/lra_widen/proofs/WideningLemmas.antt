@@ -195,11 +195,13 @@ widened_lost p q u list given n (Flagged loss) lost hp hq d some w e en other el
     let k = around_point p q h hq d w in
     let s : kept p q given ≡ valid_on p q given = subst (IfExact (kept p q given ≡ valid_on p q given)) el same in
     let el : list ≡ tight_on p q ++ valid_on p q given = e ∙ ap (λ l. tight_on p q ++ l) s in
-    let x : FromRowsStrains p.dims (tight_on p q ++ valid_on p q given) loss = subst (λ (l : List Given). FromRowsStrains p.dims l loss) el (subst (λ (j : ℕ). FromRowsStrains j list loss) en strains) in
+    let x : FromRowsStrains p.dims (tight_on p q ++ valid_on p q given) loss = subst (λ (l : List Given). FromRowsStrains p.dims l loss) el
+    (subst (λ (j : ℕ). FromRowsStrains j list loss) en strains) in
     widened_up p q u given loss made
     (inl (constraints_strain p.dims (Limited p q given) (Con (tight_on p q ++ valid_on p q given)) (tight_on p q ++ valid_on p q given) loss (limited_con p q given h k) x))
 
-pub widened_passed : (p q u : Polyhedron) (given : List Given) (lost : Outcome) → ¬ (lost ≡ Exact) → IfFlagged (PassesOnBoth p q given) lost → IsPolyhedronOf p.dims (Con []) u → IsWidened p q given u lost
+pub widened_passed : (p q u : Polyhedron) (given : List Given) (lost : Outcome) → ¬ (lost ≡ Exact) → IfFlagged (PassesOnBoth p q given) lost → IsPolyhedronOf p.dims (Con []) u →
+    IsWidened p q given u lost
 widened_passed p q u given Exact other passes made = absurd (other refl)
 widened_passed p q u given (Flagged loss) other passes made = widened_wide p q u given loss made passes
 
@@ -250,7 +252,8 @@ standard_strain p q r given o e w =
 pub limited_falls : (p q r : Polyhedron) (given : List Given) (o : Outcome) → IsPolyhedron p → HaveColumns p.dims given → IsWidened p q given r o → r ≢ p → Falls p r given
 limited_falls p q r given o h columns w other = rank_falls p r given h w.canonical w.dims w.old other columns w.keeps
 
-pub standard_falls : (p q r : Polyhedron) (none : List Given) (o : Outcome) → none ≡ [] → IsPolyhedron p → IsWidened p q none r o → r ≢ p → (given : List Given) → HaveColumns p.dims given → Falls p r given
+pub standard_falls : (p q r : Polyhedron) (none : List Given) (o : Outcome) → none ≡ [] → IsPolyhedron p → IsWidened p q none r o → r ≢ p → (given : List Given) → HaveColumns p.dims given →
+    Falls p r given
 standard_falls p q r none o e h w other given columns = rank_falls p r given h w.canonical w.dims w.old other columns (λ x.
     let k = w.keeps x in
     record {
@@ -288,7 +291,8 @@ yes_inside p q all place f = violation q.rows f.member f.here (All-contains (Mee
 
 pub wide_inside : (p q : Polyhedron) (generator row : ℕ) → IsInclusion q.rows p.generators (Wide generator row) → (place : ℕ) → ¬ (IsOutside p q place)
 wide_inside p q generator row w place f =
-    let passed : ¬ (MeetsAll q.rows w.member) = λ all. ok_or_err _ (All-contains (Meets w.member) q.rows w.here.member all (has_member (Meets w.member) (Passes w.member) q.rows row w.here)).0 w.here.here in
+    let passed : ¬ (MeetsAll q.rows w.member) = λ all. ok_or_err _ (All-contains (Meets w.member) q.rows w.here.member all (has_member (Meets w.member) (Passes w.member) q.rows row w.here)).0
+    w.here.here in
     let same : w.member ≡ f.member = same_first (MeetsAll q.rows) w.earlier f.earlier w.member f.member w.later f.later (sym w.is ∙ f.is) w.before f.before passed (violation q.rows f.member f.here) in
     by_rows f.member (subst (λ (g : Given). FirstAt (Meets g) (Passes g) q.rows row) same w.here) f.here
   where
@@ -299,7 +303,8 @@ wide_inside p q generator row w place f =
         (λ m. ok_or_err _ m.0 a.here) (λ m. let t = m.1 in let f = x.here.1 in cc) in
         ok_or_err _ x.here.0 (subst (Passes g) same a.here)
 
-pub seen_columns : {K : Type 0} (equal : K → Bool) (n m : ℕ) (all : Listed K) (rows : List (List ℤ)) → rows ≡ all.rows → m ≡ n → All (λ r. length r ≡ suc m) rows → HaveColumns n (given_by equal all.rows all.kinds)
+pub seen_columns : {K : Type 0} (equal : K → Bool) (n m : ℕ) (all : Listed K) (rows : List (List ℤ)) → rows ≡ all.rows → m ≡ n → All (λ r. length r ≡ suc m) rows →
+    HaveColumns n (given_by equal all.rows all.kinds)
 seen_columns equal n m all rows er e h =
     given_columns equal n all.rows all.kinds (subst (λ (l : List (List ℤ)). All (λ r. length r ≡ suc n) l) er (subst (λ (j : ℕ). All (λ r. length r ≡ suc j) rows) e h))
 

@@ -31,7 +31,8 @@ pub fn all_saturated(
     list: &GenSys,
 ) -> Result<Vec<BitRow>, AllocError>
     requires { given.now.dims ≡ list.now.dims }
-    ensures { IfOk result (λ classes. classes.items ≡ map (λ s. saturated (generators list.now) s.row) (constraints given.now)) }
+    ensures { IfOk result (λ classes. classes.items ≡
+        map (λ s. saturated (generators list.now) s.row) (constraints given.now)) }
 {
     let (rows, _kinds) = (given.rows(), given.kinds());
     let mut classes = Vec::new(alloc);

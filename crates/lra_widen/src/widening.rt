@@ -96,8 +96,8 @@ pub fn standard(alloc: Global, p: &Poly, q: &Poly) -> Result<(Poly, Outcome), Wi
     Ok((made, outcome))
 }
 
-/// The standard widening met with each given constraint that is valid on both. Where it is flagged it has at least those
-/// points. Refused as the standard one is.
+/// The standard widening met with each given constraint that is valid on both. Where it is flagged it has at least
+/// those points. Refused as the standard one is.
 pub fn limited(
     alloc: Global,
     p: &Poly,

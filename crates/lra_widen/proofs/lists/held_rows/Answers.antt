@@ -16,11 +16,13 @@ loop-place-preserved c =
     record {
       dims = c.in_ok-push_if.ensures.dims ∙ c.loop-place.invariant.dims;
       rows = kept_step (holds_in_range c.args.p.now) [] (constraints c.loop-place.list) (constraints c.push_if.new.list) (front is_equality rows kinds i) (front is_equality rows kinds (i + 1))
-          (member is_equality kinds i c.index-rows-place.result Ge) c.holds_in_range-wanted.result (front_step is_equality rows kinds i c.index-rows-place.result Ge many c.loop-place-test.true c.index-rows-place.is)
+          (member is_equality kinds i c.index-rows-place.result Ge) c.holds_in_range-wanted.result
+          (front_step is_equality rows kinds i c.index-rows-place.result Ge many c.loop-place-test.true c.index-rows-place.is)
           c.holds_in_range-wanted.ensures c.loop-place.invariant.rows c.in_ok-push_if.ensures.rows;
     }
 
 pub returns-clause-rows : goal.returns-clause-rows
 returns-clause-rows c =
-    c.loop-place.invariant.rows ∙ ap (held c.args.p.now) (front_seen is_equality c.args.given.now c.rows-rows.result.now c.kinds-kinds.result.now c.loop-place.place c.rows-rows.ensures.rows c.kinds-kinds.ensures.kinds
+    c.loop-place.invariant.rows ∙ ap (held c.args.p.now) (front_seen is_equality c.args.given.now c.rows-rows.result.now c.kinds-kinds.result.now c.loop-place.place c.rows-rows.ensures.rows
+    c.kinds-kinds.ensures.kinds
     c.kinds-kinds.ensures.len (omega (arith, c.loop-place-test.false)))

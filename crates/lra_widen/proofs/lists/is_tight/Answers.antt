@@ -10,5 +10,6 @@ is_full_or_among-stays-requires c =
 
 pub returns : goal.returns
 returns c = λ equal. c.is_full_or_among-stays.ensures ∙
-    tight_by_values c.args.p.now (record { row = c.args.row.now; equal = equal }) c.in_ok-bits.bits c.args.classes.now (c.in_ok-bits.ensures ∙ ap (λ l. saturated l c.args.row.now) c.generators.ensures.generators)
+    tight_by_values c.args.p.now (record { row = c.args.row.now; equal = equal }) c.in_ok-bits.bits c.args.classes.now
+    (c.in_ok-bits.ensures ∙ ap (λ l. saturated l c.args.row.now) c.generators.ensures.generators)
     c.requires.classes

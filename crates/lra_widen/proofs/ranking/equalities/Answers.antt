@@ -3,7 +3,8 @@ use Rattle.lra_widen.proofs.WideningLemmas.{no_equalities, some_equalities}
 use Rattle.lra_widen.proofs.ranking.equalities.Goals as goal
 
 pub returns-else-is_empty : goal.returns-else-is_empty
-returns-else-is_empty c = some_equalities c.args.p.now _ c.is_empty.result c.count_equalities.result c.rows-list.ensures.canonical c.rows-list.ensures.rows c.if-is_empty.false c.is_empty.ensures c.count_equalities.ensures
+returns-else-is_empty c = some_equalities c.args.p.now _ c.is_empty.result c.count_equalities.result c.rows-list.ensures.canonical c.rows-list.ensures.rows c.if-is_empty.false c.is_empty.ensures
+    c.count_equalities.ensures
 
 pub returns-in-Some : goal.returns-in-Some
 returns-in-Some c =

@@ -30,7 +30,8 @@ pub returns-in-Err : goal.returns-in-Err
 returns-in-Err c =
     let r : Given = record { row = c.args.row.now; equal = is_equality c.args.kind } in
     let many : length c.kinds-kinds.result.now ≡ length c.rows-rows.result.now = c.kinds-kinds.ensures.len ∙ ap length (sym c.rows-rows.ensures.rows) in
-    let f = first_at (λ g. Meets g r) (λ g. checked_product r.row g.row ≡ Err c.in-Err.excess) is_line c.rows-rows.result.now c.kinds-kinds.result.now c.loop-place.place c.index-rows-place.result Point
+    let f = first_at (λ g. Meets g r) (λ g. checked_product r.row g.row ≡ Err c.in-Err.excess) is_line c.rows-rows.result.now c.kinds-kinds.result.now c.loop-place.place c.index-rows-place.result
+    Point
     many c.loop-place-test.true c.index-rows-place.is c.loop-place.invariant (sym c.in-Err.ensures.exact) in
     seen_generators (λ (l : List Given). (g : Given) × Contains l g × (checked_product r.row g.row ≡ Err c.in-Err.excess)) c.args.list.now c.rows-rows.result.now c.kinds-kinds.result.now
     c.rows-rows.ensures.rows c.kinds-kinds.ensures.kinds (f.member, has_member _ _ _ c.loop-place.place f, f.here)

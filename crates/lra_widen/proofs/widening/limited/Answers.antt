@@ -6,4 +6,5 @@ use Rattle.lra_widen.proofs.widening.limited.Goals as goal
 pub returns-clause-falls : goal.returns-clause-falls
 returns-clause-falls c =
     limited_falls c.args.p.now c.args.q.now c.in_ok-made.made (constraints c.args.given.now) c.in_ok-made.outcome c.in_ok-made.ensures.canonical
-    (seen_columns is_equality c.args.p.now.dims c.args.given.now.dims c.args.given.now c.rows-rows.result.now c.rows-rows.ensures.rows c.requires.given c.rows-rows.ensures.widths) c.in_ok-made.ensures.widened
+    (seen_columns is_equality c.args.p.now.dims c.args.given.now.dims c.args.given.now c.rows-rows.result.now c.rows-rows.ensures.rows c.requires.given c.rows-rows.ensures.widths)
+    c.in_ok-made.ensures.widened
