@@ -22,7 +22,6 @@ use lra_tree::Tree;
 use std::alloc::Global;
 
 /// The program of a source without faults of names, and the table of its labels; or the first such fault.
-#[tactic(auto, using(crate::proofs::StageSteps::naming))]
 pub fn program_of(alloc: Global, tree: &Tree) -> Result<Resolution, SourceError>
     ensures clean { OnOk result (name_faults (tree_view tree.now) ≡ []) }
     ensures found { IfOk result (λ r. program_view r.program ≡ resolve (tree_view tree.now)) }

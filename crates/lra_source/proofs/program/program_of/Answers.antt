@@ -2,5 +2,5 @@ use Rattle.lra_tree.specs.Views.{tree_view}
 use Rattle.lra_source.proofs.StageSteps.{exit_named}
 use Rattle.lra_source.proofs.program.program_of.Goals as goal
 
-pub returns-in_err-program-clause-refused : goal.returns-in_err-program-clause-refused
-returns-in_err-program-clause-refused c = exit_named (tree_view c.args.tree.now) c.from_residual.result _ c.from_residual.ensures.1 c.in_err-program.ensures.told
+pub returns-in_err-resolution-clause-refused : goal.returns-in_err-resolution-clause-refused
+returns-in_err-resolution-clause-refused c = exit_named (tree_view c.args.tree.now) c.from_residual.result _ c.from_residual.ensures.1 c.in_err-resolution.ensures.told
