@@ -1,13 +1,12 @@
 -- What is known once generators have been taken in.
 use Rattle.std.proofs.Common.{◌≡◌, ◌≢◌, ℕ, suc, ◌<◌, List, [], ◌∷◌, ◌++◌, length, map, refl, ap, sym, ◌∙◌, subst, arith, ℤ}
 use Rattle.std.specs.List.{Contains}
-use Rattle.lra_linear.specs.declared.Excess as E
+use Rattle.lra_linear.specs.declared.Cause.{Cause}
 use Rattle.lra_linear.specs.Descriptions.{Given, AreGenerators, Con, Gen, system_of}
 use Rattle.lra_linear.specs.OperationStrain.{FromGeneratorsStrains}
 use Rattle.lra_linear.specs.Points.{PointSet, IsWithin, IsEmptySet}
 use Rattle.lra_linear.specs.Polyhedra.{Polyhedron, IsPolyhedronOf}
 use Rattle.lra_linear.specs.Strain.{Loss, Strains}
-use Rattle.lra_row.specs.declared.error.RowError.TheVariants as of_row
 use Rattle.lra_sys.specs.Listed.{Listed, constraints, generators, given_by, FitKinds}
 use Rattle.lra_linear.specs.Kinds.{is_equality}
 use Rattle.lra_linear.specs.declared.ConKind.{ConKind}
@@ -22,7 +21,7 @@ use Rattle.lra_linear.proofs.Membership.{contains_none}
 use Rattle.lra_cone.proofs.GeneratorLists.{nothing_generated}
 use Rattle.lra_cone.specs.Losses.{IfLost}
 use Rattle.lra_cone.proofs.ConstraintLists.{constrained, dual_given, some_point}
-use Rattle.lra_pair.specs.OwnLists.{IsOwnLoss, IsOwnExcess}
+use Rattle.lra_pair.specs.OwnLists.{IsOwnLoss, IsOwnCause}
 use Rattle.lra_pair.proofs.PairLosses.{own_strain, from_generators_strain}
 
 pub record Taken (n : ℕ) (given : Listed GenKind) (list : Listed ConKind) (cone : Shape) (losses : List Loss) : Type 0 where
@@ -88,9 +87,9 @@ pub lost_strain : (n : ℕ) (given : Listed GenKind) (list : Listed ConKind) (co
 lost_strain n given list cone losses after t e = from_generators_strain n (generators given) after (subst (IfLost (Strains (suc n) (generators given))) (sym e) t.strain)
 
 -- the own list strains
-pub own_lost_strain : (n : ℕ) (s : Shape) (e : E.Excess) (losses after told : List Loss) (loss : Loss) → s.dims ≡ n → IsCone s → losses ≡ [] → after ≡ losses ++ loss ∷ [] → told ≡ after →
-    IsOwnLoss s e loss → IsOwnExcess s (of_row.Excess e) → IfLost (FromGeneratorsStrains n s.taken) told
-own_lost_strain n s e losses after told loss d k none ea et l x =
+pub own_lost_strain : (n : ℕ) (s : Shape) (cause : Cause) (losses after told : List Loss) (loss : Loss) → s.dims ≡ n → IsCone s → losses ≡ [] → after ≡ losses ++ loss ∷ [] → told ≡ after →
+    IsOwnLoss s cause loss → IsOwnCause s cause → IfLost (FromGeneratorsStrains n s.taken) told
+own_lost_strain n s cause losses after told loss d k none ea et l x =
     let one : loss ∷ [] ≡ told = sym (et ∙ ea ∙ ap (λ (y : List Loss). y ++ loss ∷ []) none) in
     from_generators_strain n s.taken told (subst (IfLost (Strains (suc n) s.taken)) one
-    (subst (λ (m : ℕ). Strains (suc m) s.taken loss) d (own_strain s s.taken e loss k refl l x)))
+    (subst (λ (m : ℕ). Strains (suc m) s.taken loss) d (own_strain s s.taken cause loss k refl l x)))

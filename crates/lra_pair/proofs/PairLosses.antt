@@ -1,27 +1,69 @@
 -- What is told of lost rows.
-use Rattle.std.proofs.Common.{◌≡◌, ℕ, zero, suc, ◌<◌, Bool, List, [], ◌∷◌, ◌++◌, length, get_or, drop, take, refl, ap, sym, ◌∙◌, subst, arith, ℤ, inl, inr}
+use Rattle.std.proofs.Common.{◌≡◌, ℕ, zero, suc, ◌<◌, Bool, true, false, List, [], ◌∷◌, ◌++◌, length, get_or, drop, take, refl, ap, sym, ◌∙◌, subst, arith, ℤ, inl, inr}
 use Rattle.std.specs.List.{Contains}
 use Rattle.std.proofs.lemmas.List.{append-nil, get_or_default}
-use Rattle.lra_linear.specs.declared.Excess as E
-use Rattle.lra_linear.specs.declared.Cause.TheVariants as of_cause
+use Rattle.lra_linear.specs.declared.Cause.{Cause}
+use Rattle.lra_linear.specs.declared.Cause.TheVariants.{Excess, TooMany}
+use Rattle.lra_linear.specs.Canonical.{IsCanonicalOf}
 use Rattle.lra_linear.specs.Descriptions.{Given, Con, inequality, system_of}
-use Rattle.lra_linear.proofs.Descriptions.{con_none}
+use Rattle.lra_linear.specs.DoubleDescription.{with_row}
+use Rattle.lra_linear.specs.Vectors.{negated}
+use Rattle.lra_linear.proofs.Combinations.{generated_row}
+use Rattle.lra_linear.proofs.Descriptions.{con_none, system_has, system_has_negated}
+use Rattle.lra_linear.proofs.LinearMaps.{generated_through}
 use Rattle.lra_linear.specs.OperationStrain.{with_positivity, FromRowsStrains, FromGeneratorsStrains}
 use Rattle.lra_linear.specs.Points.{PointSet, IsWithin}
 use Rattle.lra_linear.specs.Polyhedra.{Polyhedron, IsPolyhedronOf, positivity}
 use Rattle.lra_linear.specs.Cones.{AreDual, all_rows}
-use Rattle.lra_linear.specs.Strain.{Loss, Strains, IsStrained, OwnReductionPasses}
+use Rattle.lra_linear.specs.Strain.{Loss, Strains, IsStrained, OwnReductionPasses, OwnTooMany}
 use Rattle.lra_linear.proofs.Membership.{contains_head, contains_tail, contains_none, contains_cases}
 use Rattle.lra_sys.specs.Listed.{given_by}
-use Rattle.lra_row.specs.declared.error.RowError.TheVariants as of_row
 use Rattle.lra_cone.specs.Cones.{Shape, IsCone}
 use Rattle.lra_cone.specs.Conversions.{IsConversion}
 use Rattle.lra_cone.specs.Losses.{IfLost}
-use Rattle.lra_pair.specs.OwnLists.{IsOwnLoss, IsOwnExcess}
+use Rattle.lra_cone.proofs.TightRows.{with_later}
+use Rattle.lra_pair.specs.OwnLists.{IsOwnLoss, IsOwnCause}
+
+-- ---- a row of a list once more
+row_again : (list : List Given) (g : Given) → Contains list g → (t : List ℤ) → Contains (with_row g.equal g.row (system_of list)) t → Contains (system_of list) t
+row_again list g m t k = by_kind g.equal refl k
+  where
+    by_kind : (b : Bool) → g.equal ≡ b → Contains (with_row b g.row (system_of list)) t → Contains (system_of list) t
+    by_kind true e k = elim (contains_cases g.row t (negated g.row ∷ system_of list) k) [
+      | inl f ↦ subst (Contains (system_of list)) f (system_has list g m)
+      | inr n ↦ elim (contains_cases (negated g.row) t (system_of list) n) [ inl f ↦ subst (Contains (system_of list)) f (system_has_negated list g m e) | inr o ↦ o ]
+    ]
+    by_kind false e k = elim (contains_cases g.row t (system_of list) k) [ inl f ↦ subst (Contains (system_of list)) f (system_has list g m) | inr o ↦ o ]
+
+-- it changes nothing of what the list generates
+canonical_again : (w : ℕ) (list : List Given) (g : Given) (lines rays : List (List ℤ)) → Contains list g → IsCanonicalOf w (system_of list) lines rays →
+    IsCanonicalOf w (with_row g.equal g.row (system_of list)) lines rays
+canonical_again w list g lines rays m c =
+    let system : List (List ℤ) = system_of list in
+    let longer : List (List ℤ) = with_row g.equal g.row system in
+    record {
+      canonical = c.canonical;
+      widths = c.widths;
+      same = λ u. (
+        (λ h. (c.same u).0 (generated_through system longer u (λ t k. generated_row system t (row_again list g m t k)) h)),
+        (λ h. generated_through longer system u (λ t k. generated_row longer t (with_later g.equal g.row system t k)) ((c.same u).1 h)),
+      );
+    }
+
+many_again : (w : ℕ) (list : List Given) (g : Given) (count : ℕ) → Contains list g → OwnTooMany w (system_of list) count → OwnTooMany w (with_row g.equal g.row (system_of list)) count
+many_again w list g count m x = record { lines = x.lines; rays = x.rays; canonical = canonical_again w list g x.lines x.rays m x.canonical; are = x.are; long = x.long }
+
+-- ---- the own list
+own_strained : (s : Shape) (cause : Cause) (loss : Loss) → IsOwnLoss s cause loss → IsOwnCause s cause → IsStrained (suc s.dims) loss.chosen loss.further s.lines s.rays cause
+own_strained s (Excess e) loss l x = inr (inr (inl (subst (λ (g : List Given). OwnReductionPasses (suc s.dims) g s.rays e) (sym l.chosen) x)))
+own_strained s (TooMany count) loss l x =
+    let w = suc s.dims in
+    let c = loss.further in
+    inr (subst (λ (g : List Given). OwnTooMany w (with_row c.equal c.row (system_of g)) count) (sym l.chosen) (many_again w s.taken c count l.further x))
 
 -- where no row was left out before, the own list's strain is the list's
-pub own_strain : (s : Shape) (all : List Given) (e : E.Excess) (loss : Loss) → IsCone s → s.taken ≡ all → IsOwnLoss s e loss → IsOwnExcess s (of_row.Excess e) → Strains (suc s.dims) all loss
-own_strain s all e loss k t l x = record {
+pub own_strain : (s : Shape) (all : List Given) (cause : Cause) (loss : Loss) → IsCone s → s.taken ≡ all → IsOwnLoss s cause loss → IsOwnCause s cause → Strains (suc s.dims) all loss
+own_strain s all cause loss k t l x = record {
   rest = [];
   begins = sym t ∙ sym l.chosen ∙ sym (append-nil loss.chosen);
   next = inr (subst (λ (g : List Given). Contains g loss.further) (sym l.chosen) l.further);
@@ -29,16 +71,15 @@ own_strain s all e loss k t l x = record {
   rays = s.rays;
   dual = subst (λ (g : List Given). AreDual (suc s.dims) (system_of g) (all_rows s.lines s.rays)) (sym l.chosen) k.dual;
   canonical = k.canonical;
-  strained = subst (IsStrained (suc s.dims) loss.chosen loss.further s.lines s.rays) (sym l.cause)
-      (inr (inr (inl (subst (λ (g : List Given). OwnReductionPasses (suc s.dims) g s.rays e) (sym l.chosen) x))));
+  strained = subst (IsStrained (suc s.dims) loss.chosen loss.further s.lines s.rays) (sym l.cause) (own_strained s cause loss l x);
 }
 
-pub own_lost : (first all kept : List Given) (s : Shape) (e : E.Excess) (losses after : List Loss) (loss : Loss) → IsCone s → IsConversion first all kept s losses → after ≡ losses ++ loss ∷ [] →
-    IsOwnLoss s e loss → IsOwnExcess s (of_row.Excess e) → IfLost (Strains (suc s.dims) (first ++ all)) after
-own_lost first all kept s e losses after loss k c ea l x = subst (IfLost (Strains (suc s.dims) (first ++ all))) (sym ea) (by_losses losses c)
+pub own_lost : (first all kept : List Given) (s : Shape) (cause : Cause) (losses after : List Loss) (loss : Loss) → IsCone s → IsConversion first all kept s losses → after ≡ losses ++ loss ∷ [] →
+    IsOwnLoss s cause loss → IsOwnCause s cause → IfLost (Strains (suc s.dims) (first ++ all)) after
+own_lost first all kept s cause losses after loss k c ea l x = subst (IfLost (Strains (suc s.dims) (first ++ all))) (sym ea) (by_losses losses c)
   where
     by_losses : (losses : List Loss) → IsConversion first all kept s losses → IfLost (Strains (suc s.dims) (first ++ all)) (losses ++ loss ∷ [])
-    by_losses [] c = own_strain s (first ++ all) e loss k (c.taken ∙ ap (λ (g : List Given). first ++ g) (c.whole refl)) l x
+    by_losses [] c = own_strain s (first ++ all) cause loss k (c.taken ∙ ap (λ (g : List Given). first ++ g) (c.whole refl)) l x
     by_losses (y ∷ later) c = c.strain
 
 pub from_strain : (n : ℕ) (rows : List Given) (losses : List Loss) → IfLost (Strains (suc n) (with_positivity n rows)) losses → IfLost (FromRowsStrains n rows) losses
@@ -56,10 +97,10 @@ given_at equal (r ∷ rows) (k ∷ kinds) (suc i) d n h = contains_tail
     (let g : Given = record { row = get_or rows i []; equal = equal (get_or kinds i d) } in g)
     (given_by equal rows kinds) (given_at equal rows kinds i d (omega (arith, n)) (omega (arith, h)))
 
-pub own_loss_is : {K : Type 0} (equal : K → Bool) (s : Shape) (e : E.Excess) (loss : Loss) (listed rows : List (List ℤ)) (seen kinds : List K) (i : ℕ) (r : List ℤ) (d : K) →
+pub own_loss_is : {K : Type 0} (equal : K → Bool) (s : Shape) (cause : Cause) (loss : Loss) (listed rows : List (List ℤ)) (seen kinds : List K) (i : ℕ) (r : List ℤ) (d : K) →
     given_by equal rows kinds ≡ s.taken → listed ≡ rows → seen ≡ kinds → length seen ≡ length rows → i < length listed → r ≡ get_or listed i r →
-    loss ≡ record { chosen = given_by equal rows kinds; further = record { row = r; equal = equal (get_or seen i d) }; cause = of_cause.Excess e } → IsOwnLoss s e loss
-own_loss_is {K = K} equal s e loss listed rows seen kinds i r d et el ek n h er eq =
+    loss ≡ record { chosen = given_by equal rows kinds; further = record { row = r; equal = equal (get_or seen i d) }; cause = cause } → IsOwnLoss s cause loss
+own_loss_is {K = K} equal s cause loss listed rows seen kinds i r d et el ek n h er eq =
     let here : r ≡ get_or rows i [] = er ∙ get_or_default listed i r [] h ∙ ap (λ (l : List (List ℤ)). get_or l i []) el in
     let many : length kinds ≡ length rows = ap length (sym ek) ∙ n in
     let inside : i < length rows = subst (λ (l : List (List ℤ)). i < length l) el h in
@@ -128,10 +169,10 @@ pub same_strain : (d : ℕ) (s : Shape) (losses : List Loss) → s.dims ≡ d �
 same_strain d s losses e first all kept c = subst (λ (m : ℕ). IfLost (Strains (suc m) (first ++ all)) losses) e c.strain
 
 -- the own list strains
-pub later_strain : (d : ℕ) (s : Shape) (x : E.Excess) (losses after : List Loss) (loss : Loss) → s.dims ≡ d → IsCone s → after ≡ losses ++ loss ∷ [] → IsOwnLoss s x loss →
-    IsOwnExcess s (of_row.Excess x) → (first all kept : List Given) → IsConversion first all kept s losses → IfLost (Strains (suc d) (first ++ all)) after
-later_strain d s x losses after loss e k ea l h first all kept c =
-    subst (λ (m : ℕ). IfLost (Strains (suc m) (first ++ all)) after) e (own_lost first all kept s x losses after loss k c ea l h)
+pub later_strain : (d : ℕ) (s : Shape) (cause : Cause) (losses after : List Loss) (loss : Loss) → s.dims ≡ d → IsCone s → after ≡ losses ++ loss ∷ [] → IsOwnLoss s cause loss →
+    IsOwnCause s cause → (first all kept : List Given) → IsConversion first all kept s losses → IfLost (Strains (suc d) (first ++ all)) after
+later_strain d s cause losses after loss e k ea l h first all kept c =
+    subst (λ (m : ℕ). IfLost (Strains (suc m) (first ++ all)) after) e (own_lost first all kept s cause losses after loss k c ea l h)
 
 -- a list that was added to isn't empty
 pub some_loss : (losses after told : List Loss) (loss : Loss) → after ≡ losses ++ loss ∷ [] → told ≡ after → told ≡ [] → ⊥

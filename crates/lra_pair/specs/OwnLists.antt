@@ -8,9 +8,9 @@ use Rattle.lra_linear.specs.Vectors.{product}
 use Rattle.lra_linear.specs.Canonical.{IsCanonicalOf}
 use Rattle.lra_linear.specs.Descriptions.{Given, inequality, system_of}
 use Rattle.lra_linear.specs.Polyhedra.{positivity}
-use Rattle.lra_linear.specs.declared.Excess as E
+use Rattle.lra_linear.specs.declared.Cause.{Cause}
 use Rattle.lra_linear.specs.declared.Cause.TheVariants as of_cause
-use Rattle.lra_linear.specs.Strain.{Loss, is_tight_at, tight_rows, OwnReductionPasses}
+use Rattle.lra_linear.specs.Strain.{Loss, is_tight_at, tight_rows, OwnReductionPasses, OwnTooMany}
 use Rattle.lra_bits.specs.TruthValues.{value_at}
 use Rattle.lra_linear.specs.Reduction.{ReductionPasses}
 use Rattle.lra_canon.specs.Reduced.{IsReducedBy}
@@ -51,6 +51,11 @@ abbrev pub IsOwnExcess : Shape → RowError → Type 0
 IsOwnExcess s (Excess e) = OwnReductionPasses (suc s.dims) s.taken s.rays e
 IsOwnExcess s Memory = Unit {0}
 
+-- why no list is told of: a number passes in it, or it has so many rays, and that is too many
+abbrev pub IsOwnCause : Shape → Cause → Type 0
+IsOwnCause s (of_cause.Excess e) = OwnReductionPasses (suc s.dims) s.taken s.rays e
+IsOwnCause s (of_cause.TooMany count) = OwnTooMany (suc s.dims) (system_of s.taken) count
+
 -- ---- as the code goes through the rows
 -- whether the row at the place is tight at a ray; past the rays stand lines, at which each is
 abbrev pub tight_value : List (List Bool) → ℕ → ℕ → Bool
@@ -72,8 +77,8 @@ AnyReductionExcess form rows Memory = Unit {0}
 abbrev pub IsPositive : ℕ → List Given → Type 0
 IsPositive n taken = (kept : List Given) × (taken ≡ inequality (positivity n) ∷ kept)
 
--- a number passes in the own list of the rows taken in, one of which is named
-pub record IsOwnLoss (s : Shape) (e : E.Excess) (loss : Loss) : Type 0 where
+-- the loss of the own list of the rows taken in, one of which is named
+pub record IsOwnLoss (s : Shape) (reason : Cause) (loss : Loss) : Type 0 where
   pub chosen : loss.chosen ≡ s.taken
   pub further : Contains s.taken loss.further
-  pub cause : loss.cause ≡ of_cause.Excess e
+  pub cause : loss.cause ≡ reason

@@ -1,20 +1,22 @@
 //! The canonical list of a list's own kind, from the cone that its rows were taken into.
 
-ghost use Rattle.std.specs.Prelude.{◌≡◌, ◌↔◌, ◌++◌, ◌∷◌, [], ℕ, List, ℤ, true, ◌+◌, ◌<◌, ◌^◌, suc, length};
+ghost use Rattle.std.specs.Prelude.{◌≡◌, ◌↔◌, ◌++◌, ◌∷◌, [], ℕ, List, ℤ, true, ◌+◌, ◌<◌, ◌≤◌, ◌^◌, suc, length};
 ghost use Rattle.std.specs.Prelude.{IsTrue, IfOk, IfErr, OnOk};
 ghost use Rattle.std.specs.List.{All};
 ghost use Rattle.lra_bits.specs.TruthValues.{value_at};
 ghost use Rattle.lra_cone.specs.Cones.{IsCone};
 ghost use Rattle.lra_cone.specs.Steps.{IsFilled};
+ghost use Rattle.lra_linear.specs.ConeStrain.{row_limit};
 ghost use Rattle.lra_linear.specs.Descriptions.{rows_of};
 ghost use Rattle.lra_canon.specs.Reduced.{IsForm, IsReductionExcess};
 ghost use Rattle.lra_canon.specs.Echelons.{HaveWidth};
 ghost use Rattle.lra_pair.specs.OwnLists.{TellsTight, AreParts, AreReducedBy, AnyReductionExcess};
-ghost use Rattle.lra_pair.specs.OwnLists.{IsOwnList, IsOwnExcess, tight_value};
+ghost use Rattle.lra_pair.specs.OwnLists.{IsOwnCause, IsOwnList, IsOwnExcess, tight_value};
 
 use lra_bits::{BitRow, SatMatrix};
 use lra_canon::{drop_redundant, echelon, reduce};
 use lra_cone::Cone;
+use lra_linear::Cause;
 use lra_row::{Row, RowError};
 use std::alloc::{AllocError, Global};
 
@@ -156,4 +158,29 @@ pub fn own_list(alloc: Global, cone: &Cone) -> Result<Own, RowError>
     let mut rays = all_reduced(alloc, &loose, &lines, cone.dims() + 1)?;
     drop_redundant(&mut rays, &mut saturation)?;
     Ok(Own { lines, rays })
+}
+
+// The most inequalities of a description, and the most points and rays together.
+const RAY_LIMIT: usize = 4096;
+
+/// The canonical description of what the rows taken into the cone generate, within the limit of a description; or why
+/// there is none: a number passes the range in it, or it has too many rays.
+pub fn limited_list(alloc: Global, cone: &Cone) -> Result<Result<Own, Cause>, AllocError>
+    requires { cone.now.dims < 2 ^ 62 }
+    ensures list { IfOk result (λ list. IfOk list (λ own. IsOwnList cone.now own.lines.items own.rays.items)) }
+    ensures few { IfOk result (λ list. IfOk list (λ own. length own.rays.items ≤ row_limit)) }
+    ensures cause { IfOk result (λ list. IfErr list (IsOwnCause cone.now)) }
+{
+    match own_list(alloc, cone) {
+        Ok(own) => {
+            let count = own.rays.len();
+            if count > RAY_LIMIT {
+                Ok(Err(Cause::TooMany(count)))
+            } else {
+                Ok(Ok(own))
+            }
+        }
+        Err(RowError::Memory) => Err(AllocError),
+        Err(RowError::Excess(excess)) => Ok(Err(Cause::Excess(excess))),
+    }
 }

@@ -14,13 +14,12 @@ ghost use Rattle.lra_cone.specs.Conversions.{IsConversion};
 ghost use Rattle.lra_cone.specs.Losses.{IfLost};
 ghost use Rattle.lra_pair.specs.OwnLists.{IsOwnList, IsOwnLoss, IsPositive};
 
-use crate::own::{Own, own_list};
+use crate::own::{Own, limited_list};
 use lra_cone::{
     Cone, Conversion, Loss, constraint_list, dual_rows, generator_list, has_point, nothing,
     positive_cone, take_rows, unit, valid_list,
 };
-use lra_linear::{Cause, Excess};
-use lra_row::RowError;
+use lra_linear::Cause;
 use lra_sys::{ConSys, GenSys};
 use std::alloc::{AllocError, Global};
 use std::marker::Model;
@@ -153,26 +152,20 @@ fn of_generators(alloc: Global, n: usize, cone: &Cone, own: &Own) -> Result<Pair
     })
 }
 
-// What is told where a number passes in the own list: the last of the rows taken in stands for them.
-fn own_loss(alloc: Global, cone: &Cone, excess: Excess) -> Result<Loss, AllocError>
+// What is told where there is no own list: the last of the rows taken in stands for them.
+fn own_loss(alloc: Global, cone: &Cone, cause: Cause) -> Result<Loss, AllocError>
     requires { 0 < length cone.now.taken }
     ensures cone { IsCone cone.now }
-    ensures loss { IfOk result (IsOwnLoss cone.now excess) }
+    ensures loss { IfOk result (IsOwnLoss cone.now cause) }
 {
     let taken = cone.taken();
     let (rows, kinds) = (taken.rows(), taken.kinds());
     let last = rows.len() - 1;
-    Loss::new(
-        alloc,
-        taken,
-        &rows[last],
-        kinds[last],
-        Cause::Excess(excess),
-    )
+    Loss::new(alloc, taken, &rows[last], kinds[last], cause)
 }
 
 // The polyhedron of the rows that were taken into the cone, behind these losses; all points where a number passes in
-// its canonical constraints.
+// its canonical constraints, or there are too many.
 fn of_taken_rows(
     alloc: Global,
     n: usize,
@@ -190,14 +183,13 @@ fn of_taken_rows(
     ensures strain { IfOk result (λ r. (first all kept : List Given) →
         IsConversion first all kept cone.now losses.items → IfLost (Strains (suc n) (first ++ all)) r.1.items) }
 {
-    match own_list(alloc, cone) {
+    match limited_list(alloc, cone)? {
         Ok(own) => {
             let pair = of_rows(alloc, n, cone, &own)?;
             Ok((pair, losses))
         }
-        Err(RowError::Memory) => Err(AllocError),
-        Err(RowError::Excess(excess)) => {
-            losses.push(own_loss(alloc, cone, excess)?)?;
+        Err(cause) => {
+            losses.push(own_loss(alloc, cone, cause)?)?;
             let pair = universe(alloc, n)?;
             Ok((pair, losses))
         }
@@ -205,8 +197,8 @@ fn of_taken_rows(
 }
 
 /// The polyhedron of the constraints, and what was lost: rows with which a number passes the range, or there are too
-/// many generators, are left out; where a number passes in the canonical constraints, all are. Without a loss it has
-/// the points of the constraints, else at least those.
+/// many generators, are left out; where a number passes in the canonical constraints, or there are too many, all are.
+/// Without a loss it has the points of the constraints, else at least those.
 pub fn from_rows(alloc: Global, rows: &ConSys) -> Result<(Pair, Vec<Loss>), AllocError>
     ensures dims { IfOk result (λ r. r.0.dims ≡ rows.now.dims) }
     ensures canonical { IfOk result (λ r. IsPolyhedron r.0) }
@@ -267,7 +259,7 @@ fn widened(alloc: Global, list: &ConSys, losses: Vec<Loss>) -> Result<(Pair, Vec
 }
 
 // The polyhedron of the generators that were taken into the cone, some of them points; where a number passes in the
-// canonical ones, that of constraints that hold at each of them.
+// canonical ones, or there are too many, that of constraints that hold at each of them.
 fn of_taken_generators(
     alloc: Global,
     n: usize,
@@ -287,14 +279,13 @@ fn of_taken_generators(
     ensures strain { IfOk result (λ r. IfLost (FromGeneratorsStrains n cone.now.taken) r.1.items) }
 {
     let mut losses = Vec::new(alloc);
-    match own_list(alloc, cone) {
+    match limited_list(alloc, cone)? {
         Ok(own) => {
             let pair = of_generators(alloc, n, cone, &own)?;
             Ok((pair, losses))
         }
-        Err(RowError::Memory) => Err(AllocError),
-        Err(RowError::Excess(excess)) => {
-            losses.push(own_loss(alloc, cone, excess)?)?;
+        Err(cause) => {
+            losses.push(own_loss(alloc, cone, cause)?)?;
             widened(alloc, list, losses)
         }
     }
@@ -329,8 +320,8 @@ fn from_points(alloc: Global, given: &GenSys) -> Result<(Pair, Vec<Loss>), Alloc
 }
 
 /// The polyhedron of the generators, and what was lost. Where one of them isn't taken in, those of the constraints that
-/// are valid on all of them are taken, as where a number passes in the canonical generators. Without a loss it has the
-/// points of the generators, else at least those.
+/// are valid on all of them are taken, as where a number passes in the canonical generators, or there are too many.
+/// Without a loss it has the points of the generators, else at least those.
 pub fn from_generators(alloc: Global, given: &GenSys) -> Result<(Pair, Vec<Loss>), AllocError>
     requires { FitKinds given.now.rows given.now.kinds }
     ensures dims { IfOk result (λ r. r.0.dims ≡ given.now.dims) }

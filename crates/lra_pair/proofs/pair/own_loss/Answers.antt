@@ -12,7 +12,7 @@ returns-clause-loss c =
     let s = c.args.cone.now in
     let some : 0 < length c.rows-rows.result.now = some_rows is_equality c.rows-rows.result.now c.taken-taken.result.now.rows c.taken-taken.result.now.kinds s.taken c.taken-taken.ensures.taken
     c.rows-rows.ensures.rows (ap length (sym c.kinds-kinds.ensures.kinds) ∙ c.kinds-kinds.ensures.len) c.requires in
-    IfOk-weaker c.new.result _ (IsOwnLoss s c.args.excess)
-    (λ l e. own_loss_is is_equality s c.args.excess l c.rows-rows.result.now c.taken-taken.result.now.rows c.kinds-kinds.result.now c.taken-taken.result.now.kinds
+    IfOk-weaker c.new.result _ (IsOwnLoss s c.args.cause)
+    (λ l e. own_loss_is is_equality s c.args.cause l c.rows-rows.result.now c.taken-taken.result.now.rows c.kinds-kinds.result.now c.taken-taken.result.now.kinds
     (length c.rows-rows.result.now - 1) c.index-rows-last.result _ c.taken-taken.ensures.taken c.rows-rows.ensures.rows c.kinds-kinds.ensures.kinds c.kinds-kinds.ensures.len
     (omega (arith, some)) c.index-rows-last.is e) c.new.ensures
