@@ -4,8 +4,8 @@
 int main(void) {
   long first = 0, last = 0;
   while (input()) {
-    if (last - first < 8) last = last + 1;
-    else first = first + 1;
+    last = last + 1;
+    if (last - first > 8) first = last - 8;
   }
   assert(last - first <= 8);
   assert(first <= last);
