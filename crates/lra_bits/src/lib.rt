@@ -7,6 +7,3 @@ mod words;
 
 pub use bit_row::BitRow;
 pub use sat_matrix::SatMatrix;
-
-#[cfg(test)]
-mod tests;

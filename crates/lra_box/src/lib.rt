@@ -14,6 +14,3 @@ pub use boxes::Boxes;
 pub use ends::{Bound, sum_end};
 pub use interval::{Interval, Side, is_crossed};
 pub use refine::{Refined, refine_all, worse};
-
-#[cfg(test)]
-mod tests;

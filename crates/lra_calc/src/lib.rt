@@ -12,6 +12,3 @@ mod showing;
 
 pub use calculator::script;
 pub use refusal::{CalcError, CalcRefusal, Fault};
-
-#[cfg(test)]
-mod tests;

@@ -5,7 +5,5 @@ mod called;
 mod places;
 mod recursion;
 mod search;
-#[cfg(test)]
-mod tests;
 
 pub use recursion::first_recursive;

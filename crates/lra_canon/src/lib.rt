@@ -11,6 +11,3 @@ pub use forms::echelon;
 pub use order::{Order, canonical_order};
 pub use reduction::reduce;
 pub use redundancy::drop_redundant;
-
-#[cfg(test)]
-mod tests;

@@ -23,8 +23,3 @@ pub use losses::{GivenRow, Loss};
 pub use lra_sys::ConKind;
 pub use shown::{constraint_list, generator_list};
 pub use strained::{ConeError, Family, Member, Strained};
-
-#[cfg(test)]
-mod list_tests;
-#[cfg(test)]
-mod tests;

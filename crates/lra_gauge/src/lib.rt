@@ -5,6 +5,3 @@ pub mod bounds;
 pub mod gauge;
 
 pub use gauge::Gauge;
-
-#[cfg(test)]
-mod tests;

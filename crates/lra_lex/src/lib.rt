@@ -12,6 +12,3 @@ mod marks;
 mod spot;
 
 pub use lexer::{one_reading, tokens};
-
-#[cfg(test)]
-mod tests;

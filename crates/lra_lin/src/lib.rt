@@ -6,6 +6,3 @@ pub mod test;
 
 pub use form::LinExpr;
 pub use test::Test;
-
-#[cfg(test)]
-mod tests;

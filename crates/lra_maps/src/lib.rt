@@ -5,6 +5,3 @@ mod lists;
 mod maps;
 
 pub use maps::{embed, forget, remove_last, time_elapse};
-
-#[cfg(test)]
-mod tests;

@@ -16,7 +16,5 @@ mod scopes;
 mod signatures;
 mod simple;
 mod statements;
-#[cfg(test)]
-mod tests;
 
 pub use functions::{Resolution, resolve};

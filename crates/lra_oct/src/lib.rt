@@ -11,6 +11,3 @@ mod testing;
 mod unary;
 
 pub use octagon::Octagon;
-
-#[cfg(test)]
-mod tests;

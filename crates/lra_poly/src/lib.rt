@@ -11,6 +11,3 @@ pub use inclusion::Inclusion;
 pub use maximum::Maximum;
 pub use outcome::Outcome;
 pub use poly::Poly;
-
-#[cfg(test)]
-mod tests;

@@ -16,6 +16,3 @@ pub use path::{CallPlace, path_text};
 pub use refusal::refusal_text;
 pub use report::{Point, PointReport, Report, Verdict};
 pub use writing::{push_generators, push_rows, text};
-
-#[cfg(test)]
-mod tests;

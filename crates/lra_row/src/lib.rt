@@ -13,6 +13,3 @@ pub use error::RowError;
 pub use lra_linear::{Excess, Operation};
 pub use number::{add, floor_div, gcd, mul, ratio_cmp};
 pub use row::Row;
-
-#[cfg(test)]
-mod tests;

@@ -8,6 +8,3 @@ mod row;
 pub use generator::generator_text;
 pub use names::{Names, names_at};
 pub use row::row_text;
-
-#[cfg(test)]
-mod tests;

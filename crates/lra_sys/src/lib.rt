@@ -7,6 +7,3 @@ mod system;
 pub use lra_linear::ConKind;
 pub use membership::Holds;
 pub use system::{ConSys, GenKind, GenSys};
-
-#[cfg(test)]
-mod tests;

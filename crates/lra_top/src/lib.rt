@@ -9,6 +9,3 @@ mod top_call;
 
 pub use status::Status;
 pub use top_call::run;
-
-#[cfg(test)]
-mod tests;

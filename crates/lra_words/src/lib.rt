@@ -10,6 +10,3 @@ pub mod words;
 
 pub use chosen::Command;
 pub use words::{Refusal, asked, command};
-
-#[cfg(test)]
-mod tests;

@@ -1,6 +1,0 @@
-use Rattle.std.specs.List.{All}
-use Rattle.lra_linear.specs.Range.{InRange}
-use Rattle.lra_cone.proofs.tests.row_of.Given as goal
-
-abbrev pub invariant-loop-number : goal.invariant-loop-number
-invariant-loop-number l = All InRange l.entries.items

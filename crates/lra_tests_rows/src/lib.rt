@@ -1,0 +1,20 @@
+//! Tests of exact rows, canonical forms, cones and linear forms: each public call that allocates,
+//! and values from outside.
+//!
+//! They stand apart from what they try, since a crate that has tests in it is proved twice.
+#![tactic(auto)]
+
+#[cfg(test)]
+mod bits;
+#[cfg(test)]
+mod canon;
+#[cfg(test)]
+mod cone;
+#[cfg(test)]
+mod cone_lists;
+#[cfg(test)]
+mod lin;
+#[cfg(test)]
+mod row;
+#[cfg(test)]
+mod sys;

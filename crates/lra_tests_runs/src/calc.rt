@@ -1,0 +1,135 @@
+//! Worked scripts.
+
+use lra_calc::{CalcError, script};
+use std::alloc::{AllocError, Global};
+use std::fmt::Write;
+use std::test::Fail;
+
+/// Scripts, and what is written.
+static SCRIPTS: [(&str, &str); 10] = [
+    ("", "flagged 0\n"),
+    (
+        "dims 2\ncon P >= 0 1 0 ; >= 4 -1 -1\nholds P 2 3 5\nholds P 1 3 2\n\
+            holds P 1 170141183460469231731687303715884105727 170141183460469231731687303715884105727\n",
+        "holds P yes\nholds P no\nholds P wide\nflagged at line 5\n",
+    ),
+    (
+        "dims 1\r\n#\n con  P \r\nholds P 1 170141183460469231731687303715884105727",
+        "holds P yes\nflagged 0\n",
+    ),
+    (
+        "dims 1\ncon P\ncon P = 1 0\nholds P 1 0",
+        "holds P no\nflagged 0\n",
+    ),
+    (
+        "dims 1\ncon P\ncon Q = 0 1\ncon R >= 1 2 3",
+        "refused line 4 WrongDimension 3 2\n",
+    ),
+    (
+        "dims 1\ncon P\ngen Q point 1 0\nshow Z",
+        "refused line 4 UnknownName Z\n",
+    ),
+    ("dims 1\nmeet P P P", "refused line 2 BadLine\n"),
+    (
+        "dims 2\ngen P point 1 0 0 ; point 1 2 0 ; point 1 0 2 ; point 2 1 1\nshow P\ncon Q >= -1 0 0\nshow Q\n",
+        "show P\n  row x1 >= 0\n  row x1 + x2 <= 2\n  row x2 >= 0\n  gen point x1=0 x2=0\n  gen point x1=0 x2=2\n  gen \
+            point x1=2 x2=0\nshow Q\n  empty\nflagged 0\n",
+    ),
+    (
+        "dims 2\ncon P = 0 1 0 ; = 0 0 1 ; >= 1 170141183460469231731687303715884105727 1 ; >= 1 1 \
+            170141183460469231731687303715884105727\nshow P\n",
+        "show P\n  row x1 = 0\n  row x2 = 0\n  gen point x1=0 x2=0\nflagged 0\n",
+    ),
+    (
+        "dims 1\ngen P ray 0 ; point 2 3 ; line 0\nshow P\ncon Q\nshow Q\ngen R ray 1\nshow R\n",
+        "show P\n  row 2*x1 = 3\n  gen point x1=3/2\nshow Q\n  row true\n  gen point x1=0\n  gen line x1=1\n\
+            show R\n  empty\nflagged 0\n",
+    ),
+];
+
+/// The output, or the line that is written in its place.
+fn written(alloc: Global, bytes: &[u8]) -> Result<Vec<u8>, AllocError> {
+    match script(alloc, bytes) {
+        Ok(output) => Ok(output),
+        Err(CalcError::Refused(refusal)) => {
+            let text = refusal.text(alloc)?;
+            Ok(text.into_bytes())
+        }
+        Err(CalcError::Memory) => Err(AllocError),
+    }
+}
+
+/// Whether this is written.
+fn writes(alloc: Global, bytes: &[u8], expected: &str) -> Result<bool, AllocError> {
+    Ok(written(alloc, bytes)?.as_slice() == expected.as_bytes())
+}
+
+#[test]
+fn scripts(rt: HostRuntime) -> Result<(), Fail> {
+    for &(text, expected) in SCRIPTS.iter() {
+        let same = writes(rt.alloc(), text.as_bytes(), expected)?;
+        assert_eq!(rt; same, true, "{text}");
+    }
+    Ok(())
+}
+
+/// Whether so many spaces write this.
+fn spaces_write(alloc: Global, count: usize, expected: &str) -> Result<bool, AllocError> {
+    let bytes = vec![in alloc; b' '; count]?;
+    writes(alloc, &bytes, expected)
+}
+
+#[test]
+fn long_scripts(rt: HostRuntime) -> Result<(), Fail> {
+    let longest = spaces_write(rt.alloc(), 65_536, "flagged 0\n")?;
+    let longer = spaces_write(rt.alloc(), 65_537, "refused 1 TooLong at 1:65537\n")?;
+    assert_eq!(rt; (longest, longer), (true, true));
+    Ok(())
+}
+
+/// Adds the point that has the entry on an axis, and 0 on the others.
+fn push_point(text: &mut String, n: usize, axis: usize, entry: &str) -> Result<(), AllocError> {
+    text.push_str(" point 1")?;
+    for column in 0..n {
+        text.push_str(" ")?;
+        text.push_str(if column == axis { entry } else { "0" })?;
+    }
+    Ok(())
+}
+
+/// Adds the points that have 1 or -1 on an axis, and 0 on the others.
+fn push_points(text: &mut String, n: usize) -> Result<(), AllocError> {
+    for axis in 0..n {
+        text.push_str(if axis == 0 { "gen P" } else { " ;" })?;
+        push_point(text, n, axis, "1")?;
+        text.push_str(" ;")?;
+        push_point(text, n, axis, "-1")?;
+    }
+    Ok(())
+}
+
+/// A script that asks whether the origin is in the hull of these points, which has two to the n facets.
+fn cross_polytope(alloc: Global, n: usize) -> Result<String, AllocError> {
+    let mut text = String::new(alloc);
+    writeln!(&mut text, "dims {n}")?;
+    push_points(&mut text, n)?;
+    text.push_str("\nholds P 1")?;
+    for _ in 0..n {
+        text.push_str(" 0")?;
+    }
+    Ok(text)
+}
+
+/// Whether that script writes this.
+fn polytope_writes(alloc: Global, n: usize, expected: &str) -> Result<bool, AllocError> {
+    let script = cross_polytope(alloc, n)?;
+    writes(alloc, script.as_bytes(), expected)
+}
+
+#[test]
+fn many_facets(rt: HostRuntime) -> Result<(), Fail> {
+    let most = polytope_writes(rt.alloc(), 12, "holds P yes\nflagged 0\n")?;
+    let more = polytope_writes(rt.alloc(), 13, "holds P yes\nflagged at line 2\n")?;
+    assert_eq!(rt; (most, more), (true, true));
+    Ok(())
+}

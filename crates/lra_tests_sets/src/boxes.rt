@@ -1,0 +1,220 @@
+ghost use Rattle.std.specs.Prelude.{◌≡◌, ◌<◌, length, IfOk};
+
+use lra_box::Boxes;
+use lra_domain::{Domain, Exactness, Included, Mode};
+use lra_lin::{LinExpr, Test};
+use lra_linear::ConKind;
+use lra_row::Row;
+use lra_sys::ConSys;
+use std::alloc::{AllocError, Global};
+
+/// Assigns the form of this constant and these factors, through the bound.
+fn set_by<D: Domain>(
+    alloc: Global,
+    value: &mut D,
+    x: usize,
+    constant: i64,
+    factors: &[i64],
+) -> Result<Exactness, AllocError>
+    requires place { x < D.meaning.dims value.old }
+    requires width { length factors.now ≡ D.meaning.dims value.old }
+    ensures { D.meaning.dims value.new ≡ D.meaning.dims value.old }
+{
+    let form = LinExpr::new(alloc, constant, factors)?;
+    let exactness = value.assign(x, &form)?;
+    Ok(exactness)
+}
+
+/// Keeps where the form isn't negative, through the bound.
+fn keep_by<D: Domain>(
+    alloc: Global,
+    value: &mut D,
+    constant: i64,
+    factors: &[i64],
+) -> Result<Exactness, AllocError>
+    requires { length factors.now ≡ D.meaning.dims value.old }
+    ensures { D.meaning.dims value.new ≡ D.meaning.dims value.old }
+{
+    let test = Test {
+        expr: LinExpr::new(alloc, constant, factors)?,
+        kind: ConKind::Ge,
+    };
+    let exactness = value.test(&test)?;
+    Ok(exactness)
+}
+
+/// x = 3 and 3 <= y <= 10, by an assignment and two tests through the bound.
+fn value_by<D: Domain>(alloc: Global) -> Result<D, AllocError>
+    ensures { IfOk result (λ v. D.meaning.dims v ≡ 2) }
+{
+    let mut value = D::universe(alloc, 2, 1)?;
+    set_by(alloc, &mut value, 0, 3, &[0, 0])?;
+    keep_by(alloc, &mut value, 0, &[-1, 1])?;
+    keep_by(alloc, &mut value, 10, &[0, -1])?;
+    Ok(value)
+}
+
+/// Copies, comparisons, a forgotten dimension and a join, through the bound: whether each is as it should be.
+fn compares_by<D: Domain>(alloc: Global, value: &mut D) -> Result<[bool; 5], AllocError>
+    requires { D.meaning.dims value.old ≡ 2 }
+    ensures { D.meaning.dims value.new ≡ 2 }
+{
+    let mut other = value.copy(alloc)?;
+    let same = other.same(value);
+    other.forget(1)?;
+    let inside = value.included(&other) == Included::Yes;
+    let outside = other.included(value) == Included::No;
+    let nothing = D::empty(alloc, 2, 1)?;
+    let vacant = nothing.is_empty() && !value.is_empty();
+    let joined = value.join(&nothing)? == Exactness::Exact;
+    Ok([same, inside, outside, vacant, joined])
+}
+
+/// A dimension more and one less, through the bound; how many there were between.
+fn resizes_by<D: Domain>(value: &mut D) -> Result<usize, AllocError>
+    requires { D.meaning.dims value.old ≡ 2 }
+{
+    value.embed(1)?;
+    let dims = value.dims();
+    value.remove_last(1)?;
+    Ok(dims)
+}
+
+/// Adds 1 to the one dimension and grows the head by that, through the bound: the last number of the head's rank.
+fn grow_by<D: Domain>(
+    alloc: Global,
+    head: &mut D::Head,
+    value: &mut D,
+    mode: Mode,
+) -> Result<u64, AllocError>
+    requires head { D.meaning.head_dims head.old ≡ 1 }
+    requires value { D.meaning.dims value.old ≡ 1 }
+    ensures head { D.meaning.head_dims head.new ≡ 1 }
+    ensures value { D.meaning.dims value.new ≡ 1 }
+{
+    set_by(alloc, value, 0, 1, &[1])?;
+    D::grow(head, value, mode)?;
+    Ok(D::rank(head).fourth)
+}
+
+/// A head of 0, joined with 1, widened by 2, through the bound: its value, and its ranks.
+fn head_by<D: Domain>(alloc: Global) -> Result<(D, [u64; 3]), AllocError> {
+    let mut value = D::universe(alloc, 1, 1)?;
+    set_by(alloc, &mut value, 0, 0, &[0])?;
+    let mut head = D::start(alloc, &value, &ConSys::new(alloc, 1))?;
+    let first = D::rank(&head).fourth;
+    let second = grow_by(alloc, &mut head, &mut value, Mode::Join)?;
+    let third = grow_by(alloc, &mut head, &mut value, Mode::Widen)?;
+    let (last, _exactness) = D::value(alloc, &head)?;
+    Ok((last, [first, second, third]))
+}
+
+/// The rows of the parts, through the bound.
+fn parts_by<D: Domain>(alloc: Global, value: &D) -> Result<Vec<ConSys>, AllocError> {
+    let parts = value.parts(alloc)?;
+    Ok(parts)
+}
+
+fn is_row(row: &Row, numbers: &[i128; 3]) -> bool {
+    for (column, number) in numbers.iter().enumerate() {
+        if column >= row.width() || row.get(column) != *number {
+            return false;
+        }
+    }
+    row.width() == 3
+}
+
+/// Whether the part has these rows, in this order.
+fn has_rows(part: &ConSys, want: &[([i128; 3], ConKind)]) -> bool {
+    for ((row, kind), (numbers, right)) in part.rows().iter().zip(part.kinds()).zip(want.iter()) {
+        if *kind != *right || !is_row(row, numbers) {
+            return false;
+        }
+    }
+    part.rows().len() == want.len()
+}
+
+/// The rows are x = 3, y >= 3, y <= 10, in this order.
+#[test]
+fn values_of_boxes(rt: HostRuntime) -> Result<(), AllocError> {
+    let mut value = value_by::<Boxes>(rt.alloc())?;
+    assert_eq!(rt; compares_by(rt.alloc(), &mut value)?, [true; 5]);
+    assert_eq!(rt; resizes_by(&mut value)?, 3);
+    let parts = parts_by(rt.alloc(), &value)?;
+    assert_eq!(rt; parts.len(), 1);
+    let want = [
+        ([-3, 1, 0], ConKind::Eq),
+        ([-3, 0, 1], ConKind::Ge),
+        ([10, 0, -1], ConKind::Ge),
+    ];
+    for part in &parts {
+        assert!(rt; has_rows(part, &want));
+    }
+    Ok(())
+}
+
+/// The head keeps its lower bound and loses its upper one by widening; its rank falls from 2 to 1.
+#[test]
+fn heads_of_boxes(rt: HostRuntime) -> Result<(), AllocError> {
+    let (value, ranks) = head_by::<Boxes>(rt.alloc())?;
+    assert_eq!(rt; ranks, [2, 2, 1]);
+    let parts = parts_by(rt.alloc(), &value)?;
+    assert_eq!(rt; parts.len(), 1);
+    for part in &parts {
+        assert_eq!(rt; part.rows().len(), 1);
+    }
+    Ok(())
+}
+
+/// A bound that passes the range goes, with a flag: (2^63 - 1)^3 is above 2^127.
+#[test]
+fn passing_the_range(rt: HostRuntime) -> Result<(), AllocError> {
+    let alloc = rt.alloc();
+    let mut value = <Boxes as Domain>::universe(alloc, 2, 1)?;
+    // x is without bounds in the end: the last sum ends there, and nothing behind it passes
+    let rows = [
+        (0, i64::MAX, [0, 0], Exactness::Exact),
+        (0, 0, [i64::MAX, 0], Exactness::Exact),
+        (0, 0, [i64::MAX, 0], Exactness::Flagged),
+        (1, 0, [1, i64::MAX], Exactness::Exact),
+    ];
+    for (x, constant, factors, want) in rows {
+        assert!(rt; value.dims() == 2 && x < 2);
+        let found = set_by(alloc, &mut value, x, constant, &factors)?;
+        assert_eq!(rt; found, want, "{x} by {constant}");
+    }
+    Ok(())
+}
+
+/// x and y from 0 to 2 * (2^63 - 1)^2, just below 2^127.
+fn near_the_range<D: Domain>(alloc: Global) -> Result<D, AllocError>
+    ensures { IfOk result (λ v. D.meaning.dims v ≡ 2) }
+{
+    let mut value = D::universe(alloc, 2, 1)?;
+    keep_by(alloc, &mut value, 0, &[1, 0])?;
+    keep_by(alloc, &mut value, i64::MAX, &[-1, 0])?;
+    set_by(alloc, &mut value, 0, 0, &[i64::MAX, 0])?;
+    set_by(alloc, &mut value, 0, 0, &[2, 0])?;
+    set_by(alloc, &mut value, 1, 0, &[1, 0])?;
+    Ok(value)
+}
+
+/// Of a sum only the bound goes that passes the range: the upper one of x + y, the lower one of -x - y.
+#[test]
+fn sums_passing_the_range(rt: HostRuntime) -> Result<(), AllocError> {
+    let most = 170141183460469231694793815568465002498;
+    for (factors, kept) in [([1, 1], [0, 1, 0]), ([-1, -1], [0, -1, 0])] {
+        let mut value = near_the_range::<Boxes>(rt.alloc())?;
+        let found = set_by(rt.alloc(), &mut value, 0, 0, &factors)?;
+        assert_eq!(rt; found, Exactness::Flagged);
+        let want = [
+            (kept, ConKind::Ge),
+            ([0, 0, 1], ConKind::Ge),
+            ([most, 0, -1], ConKind::Ge),
+        ];
+        for part in &parts_by(rt.alloc(), &value)? {
+            assert!(rt; has_rows(part, &want));
+        }
+    }
+    Ok(())
+}

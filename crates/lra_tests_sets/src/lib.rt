@@ -1,0 +1,16 @@
+//! Tests of boxes, octagons and closed polyhedra: each public call that allocates, and values
+//! from outside.
+//!
+//! They stand apart from what they try, since a crate that has tests in it is proved twice.
+#![tactic(auto)]
+
+#[cfg(test)]
+mod boxes;
+#[cfg(test)]
+mod gauge;
+#[cfg(test)]
+mod maps;
+#[cfg(test)]
+mod oct;
+#[cfg(test)]
+mod poly;

@@ -1,0 +1,93 @@
+//! The worked set of a half line.
+
+ghost use Rattle.std.specs.Prelude.{◌≡◌, length, IfOk};
+
+use lra_maps::{embed, forget, remove_last, time_elapse};
+use lra_poly::Poly;
+use lra_row::Row;
+use lra_sys::{ConKind, ConSys};
+use std::alloc::Global;
+use std::test::Fail;
+
+fn row_of(alloc: Global, numbers: &[i128; 3]) -> Result<Row, Fail>
+    ensures { IfOk result (λ row. length row ≡ 3) }
+{
+    let [constant, first, second] = *numbers;
+    if constant == i128::MIN || first == i128::MIN || second == i128::MIN {
+        return Err("a number passes the range".into());
+    }
+    let row = Row::from_slice(alloc, &[constant, first, second])?;
+    Ok(row)
+}
+
+// The point of two equalities.
+fn point_of(alloc: Global, first: &[i128; 3], second: &[i128; 3]) -> Result<Poly, Fail>
+    ensures { IfOk result (λ p. p.dims ≡ 2) }
+{
+    let mut list = ConSys::new(alloc, 2);
+    list.push(row_of(alloc, first)?, ConKind::Eq)?;
+    list.push(row_of(alloc, second)?, ConKind::Eq)?;
+    let (point, _) = Poly::from_rows(alloc, &list)?;
+    Ok(point)
+}
+
+fn are(rows: &[Row], want: &[[i128; 3]]) -> bool {
+    if rows.len() != want.len() {
+        return false;
+    }
+    for (row, numbers) in rows.iter().zip(want) {
+        if row.entries() != numbers.as_slice() {
+            return false;
+        }
+    }
+    true
+}
+
+// Whether these are its constraints and its generators.
+fn shows(p: &Poly, rows: &[[i128; 3]], generators: &[[i128; 3]]) -> bool {
+    are(p.rows().rows(), rows) && are(p.generators().rows(), generators)
+}
+
+// The origin moved by steps of (1, 2).
+fn way_of(alloc: Global) -> Result<Poly, Fail>
+    ensures { IfOk result (λ p. p.dims ≡ 2) }
+{
+    let step = point_of(alloc, &[-1, 1, 0], &[-2, 0, 1])?;
+    let mut way = point_of(alloc, &[0, 1, 0], &[0, 0, 1])?;
+    let outcome = time_elapse(&mut way, &step)?;
+    if !outcome.is_exact() {
+        return Err("a generator is lost".into());
+    }
+    Ok(way)
+}
+
+/// It is a half line.
+#[test]
+fn half_line(rt: HostRuntime) -> Result<(), Fail> {
+    let way = way_of(rt.alloc())?;
+    assert!(rt; shows(&way, &[[0, 2, -1], [0, 0, 1]], &[[1, 0, 0], [0, 1, 2]]));
+    Ok(())
+}
+
+fn is_half_plane(p: &Poly) -> bool {
+    shows(p, &[[0, 1, 0]], &[[1, 0, 0], [0, 1, 0], [0, 0, 1]])
+}
+
+/// Without its x2, and with a new one, it is a half plane.
+#[test]
+fn new_coordinate(rt: HostRuntime) -> Result<(), Fail> {
+    let mut way = way_of(rt.alloc())?;
+    let removed = remove_last(&mut way, 1)?;
+    let added = embed(&mut way, 1)?;
+    assert!(rt; removed.is_exact() && added.is_exact() && is_half_plane(&way));
+    Ok(())
+}
+
+/// As it is where its x2 may be anything.
+#[test]
+fn forgotten_coordinate(rt: HostRuntime) -> Result<(), Fail> {
+    let mut way = way_of(rt.alloc())?;
+    let outcome = forget(&mut way, 1)?;
+    assert!(rt; outcome.is_exact() && is_half_plane(&way));
+    Ok(())
+}

@@ -1,0 +1,159 @@
+//! Worked sets in two dimensions.
+
+ghost use Rattle.std.specs.Prelude.{◌≡◌, IfOk};
+
+use lra_lin::{LinExpr, Test};
+use lra_poly::{Inclusion, Poly};
+use lra_row::Row;
+use lra_sys::{ConKind, ConSys};
+use std::alloc::Global;
+use std::test::Fail;
+
+const MAX: i128 = i128::MAX;
+
+fn row_of(alloc: Global, numbers: &[i128; 3]) -> Result<Row, Fail> {
+    let [constant, first, second] = *numbers;
+    if constant == i128::MIN || first == i128::MIN || second == i128::MIN {
+        return Err("a number passes the range".into());
+    }
+    let row = Row::from_slice(alloc, &[constant, first, second])?;
+    Ok(row)
+}
+
+fn push_all(
+    alloc: Global,
+    list: &mut ConSys,
+    kind: ConKind,
+    rows: &[[i128; 3]],
+) -> Result<(), Fail> {
+    for numbers in rows {
+        let row = row_of(alloc, numbers)?;
+        if row.width() == 0 || row.width() - 1 != list.dims() {
+            return Err("a row has another width".into());
+        }
+        list.push(row, kind)?;
+    }
+    Ok(())
+}
+
+// The polyhedron of equalities and inequalities.
+fn poly_of(
+    alloc: Global,
+    equalities: &[[i128; 3]],
+    inequalities: &[[i128; 3]],
+) -> Result<Poly, Fail>
+    ensures { IfOk result (λ p. p.dims ≡ 2) }
+{
+    let mut list = ConSys::new(alloc, 2);
+    push_all(alloc, &mut list, ConKind::Eq, equalities)?;
+    push_all(alloc, &mut list, ConKind::Ge, inequalities)?;
+    let (made, outcome) = Poly::from_rows(alloc, &list)?;
+    if !outcome.is_exact() || made.dims() != 2 {
+        return Err("a row is lost".into());
+    }
+    Ok(made)
+}
+
+fn are(rows: &[Row], want: &[[i128; 3]]) -> bool {
+    if rows.len() != want.len() {
+        return false;
+    }
+    for (row, numbers) in rows.iter().zip(want) {
+        if row.entries() != numbers.as_slice() {
+            return false;
+        }
+    }
+    true
+}
+
+// Whether these are its constraints and its generators.
+fn shows(p: &Poly, rows: &[[i128; 3]], generators: &[[i128; 3]]) -> bool {
+    are(p.rows().rows(), rows) && are(p.generators().rows(), generators)
+}
+
+const STRIP: [[i128; 3]; 2] = [[0, 0, 1], [1, 0, -1]];
+
+const STRIP_GENERATORS: [[i128; 3]; 3] = [[1, 0, 0], [1, 0, 1], [0, 1, 0]];
+
+// The hull of a point and a line.
+fn strip_of(alloc: Global, line: &Poly) -> Result<Poly, Fail>
+    requires { line.now.dims ≡ 2 }
+    ensures { IfOk result (λ p. p.dims ≡ 2) }
+{
+    let mut strip = poly_of(alloc, &[[0, 1, 0], [-1, 0, 1]], &[])?;
+    let outcome = strip.hull(line)?;
+    if !outcome.is_exact() {
+        return Err("a generator is lost".into());
+    }
+    Ok(strip)
+}
+
+/// The hull of a point and a line is a strip, which isn't in the line.
+#[test]
+fn strip(rt: HostRuntime) -> Result<(), Fail> {
+    let line = poly_of(rt.alloc(), &[[0, 0, 1]], &[])?;
+    let strip = strip_of(rt.alloc(), &line)?;
+    let both = (line.included(&strip), strip.included(&line));
+    let told = both == (Inclusion::Yes, Inclusion::No(1));
+    assert!(rt; told && shows(&strip, &STRIP, &STRIP_GENERATORS));
+    Ok(())
+}
+
+// The same again, from its generators.
+fn again_of(alloc: Global, p: &Poly) -> Result<Poly, Fail>
+    ensures { IfOk result (λ q. q.dims ≡ p.now.dims) }
+{
+    let (again, outcome) = Poly::from_generators(alloc, p.generators())?;
+    if !outcome.is_exact() {
+        return Err("a generator is lost".into());
+    }
+    Ok(again)
+}
+
+/// The meet of the strip, from its generators, with the line.
+#[test]
+fn line_in_strip(rt: HostRuntime) -> Result<(), Fail> {
+    let line = poly_of(rt.alloc(), &[[0, 0, 1]], &[])?;
+    let strip = poly_of(rt.alloc(), &[], &STRIP)?;
+    let mut again = again_of(rt.alloc(), &strip)?;
+    let outcome = again.meet(&line)?;
+    assert!(rt; outcome.is_exact() && shows(&again, &[[0, 0, 1]], &[[1, 0, 0], [0, 1, 0]]));
+    Ok(())
+}
+
+// The half plane of the points with x1 at least 3.
+fn half_plane(alloc: Global) -> Result<Poly, Fail> {
+    let test = Test {
+        expr: LinExpr::new(alloc, -3, &[1, 0])?,
+        kind: ConKind::Ge,
+    };
+    let mut side = Poly::universe(alloc, 2)?;
+    let outcome = side.add_test(&test)?;
+    if !outcome.is_exact() {
+        return Err("a row is lost".into());
+    }
+    let same = side.copy()?;
+    Ok(same)
+}
+
+/// A test keeps a half plane; no point.
+#[test]
+fn half_plane_and_nothing(rt: HostRuntime) -> Result<(), Fail> {
+    let side = half_plane(rt.alloc())?;
+    assert!(rt; shows(&side, &[[-3, 1, 0]], &[[1, 3, 0], [0, 1, 0], [0, 0, 1]]));
+    let nothing = Poly::empty(rt.alloc(), 2)?;
+    assert_eq!(rt;
+        (side.is_empty(), nothing.is_empty(), side.dims()),
+        (false, true, 2)
+    );
+    Ok(())
+}
+
+/// The product of 2 with the greatest number passes the range.
+#[test]
+fn wide_inclusion(rt: HostRuntime) -> Result<(), Fail> {
+    let point = poly_of(rt.alloc(), &[[-MAX, 1, 0], [0, 0, 1]], &[])?;
+    let side = poly_of(rt.alloc(), &[], &[[0, 2, 1]])?;
+    assert_eq!(rt; point.included(&side), Inclusion::Wide(0, 0));
+    Ok(())
+}

@@ -1,0 +1,149 @@
+//! Sources and their tokens, or their first fault, each with its place.
+
+use lra_base::SourceError;
+use lra_lex::{one_reading, tokens};
+use lra_tree::Kind;
+use std::alloc::Global;
+use std::fmt::Write;
+use std::process::Abort;
+use std::test::Fail;
+
+const CASES: [(&[u8], &str); 46] = [
+    (b"", "End@1:1"),
+    (
+        b"+ - * / % = == != < <= > >= && || !",
+        "Plus@1:1 Minus@1:3 Star@1:5 Slash@1:7 Percent@1:9 Assign@1:11 Equal@1:13 Differs@1:16 Less@1:19 AtMost@1:21 \
+            Greater@1:24 AtLeast@1:26 And@1:29 Or@1:32 Not@1:35 End@1:36",
+    ),
+    (
+        b"++ -- += -= *= /= %= ( ) { } ; ,",
+        "Increment@1:1 Decrement@1:4 PlusAssign@1:7 MinusAssign@1:10 StarAssign@1:13 SlashAssign@1:16 \
+            PercentAssign@1:19 OpenParen@1:22 CloseParen@1:24 OpenBrace@1:26 CloseBrace@1:28 Semicolon@1:30 Comma@1:32 \
+            End@1:33",
+    ),
+    (
+        b"assert assume input break continue else extern for if int long return void while",
+        "Assert@1:1 Assume@1:8 Input@1:15 Break@1:21 Continue@1:27 Else@1:36 Extern@1:41 For@1:48 If@1:52 Int@1:55 \
+            Long@1:59 Return@1:64 Void@1:71 While@1:76 End@1:81",
+    ),
+    (
+        b"auto case char const default do double enum float goto inline register restrict short signed sizeof static \
+            struct switch typedef union unsigned volatile _Alignas _Alignof _Atomic _Bool _Complex _Generic _Imaginary \
+            _Noreturn _Static_assert _Thread_local",
+        "Reserved@1:1 Reserved@1:6 Reserved@1:11 Reserved@1:16 Reserved@1:22 Reserved@1:30 Reserved@1:33 Reserved@1:40 \
+            Reserved@1:45 Reserved@1:51 Reserved@1:56 Reserved@1:63 Reserved@1:72 Reserved@1:81 Reserved@1:87 \
+            Reserved@1:94 Reserved@1:101 Reserved@1:108 Reserved@1:115 Reserved@1:122 Reserved@1:130 Reserved@1:136 \
+            Reserved@1:145 Reserved@1:154 Reserved@1:163 Reserved@1:172 Reserved@1:180 Reserved@1:186 Reserved@1:195 \
+            Reserved@1:204 Reserved@1:215 Reserved@1:225 Reserved@1:240 End@1:253",
+    ),
+    (
+        b"x _y9 longer intx",
+        "name x@1:1 name _y9@1:3 name longer@1:7 name intx@1:14 End@1:18",
+    ),
+    (
+        b"9223372036854775807 0x7fffffffffffffff 0777777777777777777777",
+        "9223372036854775807@1:1 9223372036854775807@1:21 9223372036854775807@1:40 End@1:62",
+    ),
+    (b"x=9223372036854775808", "BadLiteral@1:3"),
+    (b"0x8000000000000000", "BadLiteral@1:1"),
+    (b"01000000000000000000000", "BadLiteral@1:1"),
+    (
+        b"0 00 0L 017 1l 1L 1ll 1LL 0xFfLL 0Xa",
+        "0@1:1 0@1:3 0@1:6 15@1:9 1@1:13 1@1:16 1@1:19 1@1:23 255@1:27 10@1:34 End@1:37",
+    ),
+    (b"08", "BadLiteral@1:1"),
+    (b"0x", "BadLiteral@1:1"),
+    (b"1lL", "BadLiteral@1:1"),
+    (b"1lll", "BadLiteral@1:1"),
+    (b"1u", "BadLiteral@1:1"),
+    (b"12ab", "BadLiteral@1:1"),
+    (b"/* \xe9 */x", "name x@1:8 End@1:9"),
+    (b"x \xe9", "BadByte@1:3"),
+    (b"//\xe9", "End@1:4"),
+    (b"#include <a.h>\nx", "name x@2:1 End@2:2"),
+    (b"x #include <a>", "BadByte@1:3"),
+    (b"#", "BadByte@1:1"),
+    (b"  #\t include<a>", "End@1:16"),
+    (b"#includex", "BadByte@1:1"),
+    (b"\t#include /*\nx", "name x@2:1 End@2:2"),
+    (b"#include a\n#include b\nx", "name x@3:1 End@3:2"),
+    (b"\r#include a", "BadByte@1:2"),
+    (b"/**/#include a", "BadByte@1:5"),
+    (b"/* a", "Unclosed@1:1 End@1:5"),
+    (b"/*/", "Unclosed@1:1 End@1:4"),
+    (b"/**/x/***/y", "name x@1:5 name y@1:11 End@1:12"),
+    (b"/*\n*/x", "name x@2:3 End@2:4"),
+    (b"//", "End@1:3"),
+    (b"x // y\nz", "name x@1:1 name z@2:1 End@2:2"),
+    (b"a/*b*/c", "name a@1:1 name c@1:7 End@1:8"),
+    (
+        b"> >= > =",
+        "Greater@1:1 AtLeast@1:3 Greater@1:6 Assign@1:8 End@1:9",
+    ),
+    (b"+++", "Increment@1:1 Plus@1:3 End@1:4"),
+    (b"a--b", "name a@1:1 Decrement@1:2 name b@1:4 End@1:5"),
+    (
+        b"a---b",
+        "name a@1:1 Decrement@1:2 Minus@1:4 name b@1:5 End@1:6",
+    ),
+    (
+        b"a\tb\x0bc\x0cd\re",
+        "name a@1:1 name b@1:3 name c@1:5 name d@1:7 name e@1:9 End@1:10",
+    ),
+    (b"a\n\n b", "name a@1:1 name b@3:2 End@3:3"),
+    (b"&", "BadByte@1:1"),
+    (b"a | b", "BadByte@1:3"),
+    (b"x.y", "BadByte@1:2"),
+    (b"$", "BadByte@1:1"),
+];
+
+fn write_kind(text: &mut String, kind: &Kind) -> Result<(), Fail> {
+    match kind {
+        Kind::Name(word) => {
+            let name = word.as_str();
+            write!(text, "name {name}")?;
+        }
+        Kind::Number(value) => write!(text, "{value}")?,
+        Kind::Mark(mark) => write!(text, "{mark:?}")?,
+        Kind::Reserved => text.push_str("Reserved")?,
+        Kind::Unclosed => text.push_str("Unclosed")?,
+        Kind::End => text.push_str("End")?,
+    }
+    Ok(())
+}
+
+fn reading(rt: &impl Abort, alloc: Global, source: &[u8]) -> Result<String, Fail> {
+    assert!(rt; source.len() <= 65_536);
+    let mut text = String::new(alloc);
+    match tokens(alloc, source) {
+        Ok(tokens) => {
+            for token in &tokens {
+                if !text.is_empty() {
+                    text.push_str(" ")?;
+                }
+                write_kind(&mut text, &token.kind)?;
+                let line = token.place.line;
+                let column = token.place.column;
+                write!(text, "@{line}:{column}")?;
+            }
+        }
+        Err(SourceError::Refused(refusal)) => {
+            let cause = refusal.cause;
+            let line = refusal.place.line;
+            let column = refusal.place.column;
+            write!(text, "{cause:?}@{line}:{column}")?;
+        }
+        Err(SourceError::Memory) => text.push_str("memory")?,
+    }
+    Ok(text)
+}
+
+#[test]
+fn sources_have_their_tokens(rt: HostRuntime) -> Result<(), Fail> {
+    for (source, expected) in &CASES {
+        let text = reading(&rt, rt.alloc(), source)?;
+        assert_eq!(rt; text.as_str(), *expected);
+    }
+    one_reading();
+    Ok(())
+}

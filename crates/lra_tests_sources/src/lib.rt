@@ -1,0 +1,20 @@
+//! Tests of what reads words and sources, and of what writes reports: each public call that allocates, and values
+//! from outside.
+//!
+//! They stand apart from what they try, since a crate that has tests in it is proved twice.
+#![tactic(auto)]
+
+#[cfg(test)]
+mod calls;
+#[cfg(test)]
+mod edge;
+#[cfg(test)]
+mod lex;
+#[cfg(test)]
+mod names;
+#[cfg(test)]
+mod report;
+#[cfg(test)]
+mod show;
+#[cfg(test)]
+mod words;

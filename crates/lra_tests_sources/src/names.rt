@@ -1,0 +1,305 @@
+//! Trees of small sources, their programs and their refusals.
+
+use lra_base::{Cause, Place, Refusal, SourceError};
+use lra_names::resolve;
+use lra_program::{BlockItem as ProgramItem, Slot, Stmt as ProgramStmt};
+use lra_tree::{
+    Arguments, Assign, Block, BlockItem, Call, Declaration, Declarator, Function, Global, Globals,
+    Identifier, Init, Item, Parameters, Source, Step, Stmt, Tree, Word,
+};
+use std::alloc::AllocError;
+use std::test::Fail;
+
+/// All that a function's block has.
+#[derive(Clone, Copy)]
+enum Body {
+    /// `;`
+    Nothing,
+    /// `break;`
+    Break,
+    /// `continue;`
+    Continue,
+    /// `for (;;) break;`
+    Loop,
+    /// `int x, x;`
+    Declare,
+    /// `x++;`
+    Count,
+    /// `f();`
+    Call,
+    /// `return f();`
+    Return,
+}
+
+/// A line of a source.
+#[derive(Clone, Copy)]
+enum Part {
+    /// A prototype.
+    Prototype,
+    /// `int x;`
+    Global,
+    /// A function with a result or none, its name, how many parameters `a` it has, and its body.
+    Function(bool, &'static str, usize, Body),
+}
+
+/// Where a function or a global variable is named.
+const NAME: u32 = 5;
+
+/// Where a function has its parameters.
+const PARAMETER: u32 = 10;
+
+/// Where a function's statement begins.
+const STATEMENT: u32 = 20;
+
+/// Where the second name of a statement stands.
+const SECOND: u32 = 27;
+
+fn identifier(
+    rt: &HostRuntime,
+    name: &str,
+    line: u32,
+    column: u32,
+) -> Result<Identifier, AllocError> {
+    Ok(Identifier {
+        word: Word::from_str(rt.alloc(), name)?,
+        place: Place { line, column },
+    })
+}
+
+/// `f()`
+fn call(rt: &HostRuntime, line: u32, column: u32) -> Result<Call, AllocError> {
+    Ok(Call {
+        name: identifier(rt, "f", line, column)?,
+        arguments: Arguments {
+            items: Vec::new(rt.alloc()),
+        },
+    })
+}
+
+/// `x`
+fn declarator(rt: &HostRuntime, line: u32, column: u32) -> Result<Declarator, AllocError> {
+    Ok(Declarator {
+        name: identifier(rt, "x", line, column)?,
+        source: None,
+    })
+}
+
+/// `int x, x;`
+fn declaration(rt: &HostRuntime, line: u32) -> Result<Declaration, AllocError> {
+    let mut rest = Vec::new(rt.alloc());
+    rest.push(declarator(rt, line, SECOND)?)?;
+    Ok(Declaration {
+        first: declarator(rt, line, STATEMENT)?,
+        rest,
+    })
+}
+
+/// `for (;;) break;`
+fn endless(rt: &HostRuntime, line: u32) -> Result<Stmt, AllocError> {
+    let column = STATEMENT;
+    let leave = Stmt::Break(Place {
+        line,
+        column: SECOND,
+    });
+    let body = Box::new(rt.alloc(), leave)?;
+    Ok(Stmt::For(Place { line, column }, Init::Nothing, None, None, body))
+}
+
+fn item(rt: &HostRuntime, line: u32, body: Body) -> Result<BlockItem, AllocError> {
+    let place = Place {
+        line,
+        column: STATEMENT,
+    };
+    match body {
+        Body::Nothing => Ok(BlockItem::Statement(Stmt::Nothing(place))),
+        Body::Break => Ok(BlockItem::Statement(Stmt::Break(place))),
+        Body::Continue => Ok(BlockItem::Statement(Stmt::Continue(place))),
+        Body::Loop => Ok(BlockItem::Statement(endless(rt, line)?)),
+        Body::Declare => Ok(BlockItem::Declaration(declaration(rt, line)?)),
+        Body::Count => {
+            let x = identifier(rt, "x", line, STATEMENT)?;
+            Ok(BlockItem::Statement(Stmt::Assign(Assign::After(x, Step::Increment))))
+        }
+        Body::Call => Ok(BlockItem::Statement(Stmt::Call(call(rt, line, STATEMENT)?))),
+        Body::Return => {
+            let source = Source::Result(call(rt, line, SECOND)?);
+            Ok(BlockItem::Statement(Stmt::Return(place, Some(source))))
+        }
+    }
+}
+
+fn parameters(rt: &HostRuntime, line: u32, count: usize) -> Result<Parameters, AllocError> {
+    let mut items = Vec::new(rt.alloc());
+    for _ in 0..count {
+        items.push(identifier(rt, "a", line, PARAMETER)?)?;
+    }
+    Ok(Parameters { items })
+}
+
+fn block(rt: &HostRuntime, line: u32, body: Body) -> Result<Block, AllocError> {
+    let mut items = Vec::new(rt.alloc());
+    items.push(item(rt, line, body)?)?;
+    Ok(Block {
+        items,
+        end: Place { line, column: 40 },
+    })
+}
+
+fn file_item(rt: &HostRuntime, line: u32, part: Part) -> Result<Item, AllocError> {
+    match part {
+        Part::Prototype => Ok(Item::Prototype),
+        Part::Global => Ok(Item::Globals(Globals {
+            first: Global {
+                name: identifier(rt, "x", line, NAME)?,
+                value: None,
+            },
+            rest: Vec::new(rt.alloc()),
+        })),
+        Part::Function(has_result, name, count, body) => Ok(Item::Function(Function {
+            has_result,
+            name: identifier(rt, name, line, NAME)?,
+            parameters: parameters(rt, line, count)?,
+            body: block(rt, line, body)?,
+        })),
+    }
+}
+
+/// A source of two lines.
+fn tree(rt: &HostRuntime, first: Part, second: Part) -> Result<Tree, AllocError> {
+    let mut items = Vec::new(rt.alloc());
+    items.push(file_item(rt, 1, first)?)?;
+    items.push(file_item(rt, 2, second)?)?;
+    Ok(Tree {
+        items,
+        end: Place { line: 3, column: 1 },
+    })
+}
+
+/// Whether the item counts up the first global variable under the label 1.
+fn counts_up(item: &ProgramItem) -> bool {
+    match item {
+        ProgramItem::Statement(ProgramStmt::Assign(label, slot, _)) => *label == 1
+            && *slot == Slot::Global(0),
+        _ => false,
+    }
+}
+
+#[test]
+fn a_source_has_its_program(rt: HostRuntime) -> Result<(), Fail> {
+    let main = Part::Function(true, "main", 0, Body::Count);
+    let resolution = resolve(rt.alloc(), &tree(&rt, Part::Global, main)?)?;
+    let program = &resolution.program;
+    assert_eq!(rt; program.main, 0);
+    assert_eq!(rt; program.functions.len(), 1);
+    let main = &program.functions[0];
+    assert_eq!(rt; main.end, 2);
+    assert_eq!(rt; main.body.items.len(), 1);
+    assert!(rt; counts_up(&main.body.items[0]));
+    Ok(())
+}
+
+/// `int main() { ; }`
+const MAIN: Part = Part::Function(true, "main", 0, Body::Nothing);
+
+/// Two lines of a source, and its first fault.
+static FAULTS: [(Part, Part, Cause, u32, u32); 14] = [
+    (
+        Part::Prototype,
+        Part::Function(true, "main", 0, Body::Count),
+        Cause::UnknownName,
+        2,
+        STATEMENT,
+    ),
+    (
+        Part::Prototype,
+        Part::Function(true, "main", 0, Body::Call),
+        Cause::UnknownName,
+        2,
+        STATEMENT,
+    ),
+    (Part::Global, Part::Global, Cause::DuplicateName, 2, NAME),
+    (MAIN, MAIN, Cause::DuplicateName, 2, NAME),
+    (
+        Part::Function(false, "f", 2, Body::Nothing),
+        MAIN,
+        Cause::DuplicateName,
+        1,
+        PARAMETER,
+    ),
+    (
+        Part::Prototype,
+        Part::Function(true, "main", 0, Body::Declare),
+        Cause::DuplicateName,
+        2,
+        SECOND,
+    ),
+    (
+        Part::Function(false, "f", 1, Body::Nothing),
+        Part::Function(true, "main", 0, Body::Call),
+        Cause::BadCall,
+        2,
+        STATEMENT,
+    ),
+    (
+        Part::Function(false, "f", 0, Body::Nothing),
+        Part::Function(true, "main", 0, Body::Return),
+        Cause::BadCall,
+        2,
+        SECOND,
+    ),
+    (
+        Part::Function(true, "f", 0, Body::Nothing),
+        Part::Function(false, "main", 0, Body::Return),
+        Cause::BadCall,
+        2,
+        STATEMENT,
+    ),
+    (
+        Part::Prototype,
+        Part::Function(true, "main", 0, Body::Break),
+        Cause::Misplaced,
+        2,
+        STATEMENT,
+    ),
+    (
+        Part::Prototype,
+        Part::Function(true, "main", 0, Body::Continue),
+        Cause::Misplaced,
+        2,
+        STATEMENT,
+    ),
+    (
+        Part::Function(false, "f", 0, Body::Loop),
+        Part::Function(true, "main", 0, Body::Break),
+        Cause::Misplaced,
+        2,
+        STATEMENT,
+    ),
+    (
+        Part::Function(false, "f", 0, Body::Continue),
+        Part::Function(true, "main", 0, Body::Count),
+        Cause::Misplaced,
+        1,
+        STATEMENT,
+    ),
+    (
+        Part::Prototype,
+        Part::Function(true, "main", 1, Body::Nothing),
+        Cause::NoMain,
+        3,
+        1,
+    ),
+];
+
+#[test]
+fn a_source_is_refused_at_its_first_fault(rt: HostRuntime) -> Result<(), Fail> {
+    for &(first, second, cause, line, column) in FAULTS.iter() {
+        let refusal = Refusal {
+            cause,
+            place: Place { line, column },
+        };
+        let answer = resolve(rt.alloc(), &tree(&rt, first, second)?);
+        assert!(rt; matches!(answer, Err(SourceError::Refused(r)) if r == refusal));
+    }
+    Ok(())
+}

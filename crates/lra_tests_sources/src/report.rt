@@ -1,0 +1,185 @@
+//! Worked reports.
+
+use lra_base::{Domain, Options, Place};
+use lra_report::{CallPlace, Part, Point, PointReport, Report, Verdict, path_text, text};
+use lra_row::Row;
+use lra_show::{Names, names_at};
+use lra_sys::{ConKind, ConSys, GenKind, GenSys};
+use std::alloc::{AllocError, Global};
+use std::test::Fail;
+
+fn place(line: u32, column: u32) -> Place {
+    Place { line, column }
+}
+
+fn point(alloc: Global, label: usize) -> Point {
+    Point {
+        path: Vec::new(alloc),
+        label,
+    }
+}
+
+fn in_main(
+    alloc: Global,
+    number: u32,
+    place: Place,
+    names: Names,
+    state: Vec<Part>,
+) -> Result<PointReport, AllocError> {
+    Ok(PointReport {
+        number,
+        point: point(alloc, number as usize),
+        path: String::from_str(alloc, "main")?,
+        place,
+        names,
+        state,
+    })
+}
+
+fn x_alone(alloc: Global) -> Result<Names, AllocError> {
+    let mut names = Names::new(alloc);
+    names.push("x")?;
+    Ok(names)
+}
+
+fn one_part(alloc: Global, rows: ConSys) -> Result<Vec<Part>, AllocError> {
+    let mut state = Vec::new(alloc);
+    state.push(Part::new(rows, None))?;
+    Ok(state)
+}
+
+fn x_is_3(alloc: Global) -> Result<Vec<Part>, AllocError> {
+    let mut rows = ConSys::new(alloc, 1);
+    rows.push(Row::from_slice(alloc, &[-3, 1])?, ConKind::Eq)?;
+    one_part(alloc, rows)
+}
+
+/// `int main(void){ long x; x = 3; assert(x >= 3); }` over boxes.
+#[test]
+fn one_variable(rt: HostRuntime) -> Result<(), Fail> {
+    let alloc = rt.alloc();
+    let mut points = Vec::new(alloc);
+    points.push(in_main(
+        alloc,
+        1,
+        place(1, 22),
+        Names::new(alloc),
+        one_part(alloc, ConSys::new(alloc, 0))?,
+    )?)?;
+    points.push(in_main(
+        alloc,
+        2,
+        place(1, 25),
+        x_alone(alloc)?,
+        one_part(alloc, ConSys::new(alloc, 1))?,
+    )?)?;
+    points.push(in_main(alloc, 3, place(1, 32), x_alone(alloc)?, x_is_3(alloc)?)?)?;
+    points.push(in_main(alloc, 4, place(1, 48), x_alone(alloc)?, x_is_3(alloc)?)?)?;
+    let mut verdicts = Vec::new(alloc);
+    verdicts.push(Verdict {
+        number: 3,
+        point: point(alloc, 3),
+        path: String::from_str(alloc, "main")?,
+        place: place(1, 32),
+        proved: true,
+    })?;
+    let report = Report {
+        options: Options {
+            domain: Domain::Box,
+            parts: 1,
+            delay: 1,
+            narrow: 1,
+            limited: false,
+        },
+        flagged: None,
+        points,
+        verdicts,
+    };
+    let written = text(alloc, &report)?;
+    assert_eq!(rt; written.len(), 231);
+    assert_eq!(rt;
+        written.as_str(),
+        "analysis box parts 1 delay 1 narrow 1 limited no\nflagged 0\npoint 1 main 1:22\n  row true\n\
+            point 2 main 1:25\n  row true\npoint 3 main 1:32\n  row x = 3\npoint 4 main 1:48\n  row x = 3\n\
+            assert 3 main 1:32 proved\nverdicts proved 1 unknown 0\n"
+    );
+    Ok(())
+}
+
+fn below(alloc: Global) -> Result<Part, AllocError> {
+    let mut rows = ConSys::new(alloc, 2);
+    rows.push(Row::from_slice(alloc, &[-1, -1, 1])?, ConKind::Ge)?;
+    let mut generators = GenSys::new(alloc, 2);
+    generators.push(Row::from_slice(alloc, &[1, 0, 1])?, GenKind::Point)?;
+    generators.push(Row::from_slice(alloc, &[0, 0, 1])?, GenKind::Ray)?;
+    generators.push(Row::from_slice(alloc, &[0, 1, 1])?, GenKind::Line)?;
+    Ok(Part::new(rows, Some(generators)))
+}
+
+fn above(alloc: Global) -> Result<Part, AllocError> {
+    let mut rows = ConSys::new(alloc, 2);
+    rows.push(Row::from_slice(alloc, &[-1, 1, -1])?, ConKind::Ge)?;
+    let mut generators = GenSys::new(alloc, 2);
+    generators.push(Row::from_slice(alloc, &[2, 1, 0])?, GenKind::Point)?;
+    generators.push(Row::from_slice(alloc, &[0, 1, 1])?, GenKind::Line)?;
+    Ok(Part::new(rows, Some(generators)))
+}
+
+fn both_x(alloc: Global) -> Result<Names, AllocError> {
+    let mut live = Names::new(alloc);
+    live.push("x")?;
+    live.push("x")?;
+    names_at(&live)
+}
+
+/// Two parts over polyhedra in a call, a point that isn't reached, and a flag.
+#[test]
+fn two_parts(rt: HostRuntime) -> Result<(), Fail> {
+    let alloc = rt.alloc();
+    let mut calls = Vec::new(alloc);
+    calls.push(CallPlace {
+        name: String::from_str(alloc, "inc")?,
+        place: place(1, 61),
+    })?;
+    let mut state = Vec::new(alloc);
+    state.push(below(alloc)?)?;
+    state.push(above(alloc)?)?;
+    let mut points = Vec::new(alloc);
+    points.push(PointReport {
+        number: 1,
+        point: point(alloc, 1),
+        path: path_text(alloc, calls.as_slice())?,
+        place: place(1, 22),
+        names: both_x(alloc)?,
+        state,
+    })?;
+    points.push(in_main(alloc, 2, place(3, 9), Names::new(alloc), Vec::new(alloc))?)?;
+    let mut verdicts = Vec::new(alloc);
+    verdicts.push(Verdict {
+        number: 1,
+        point: point(alloc, 1),
+        path: path_text(alloc, calls.as_slice())?,
+        place: place(1, 22),
+        proved: false,
+    })?;
+    let report = Report {
+        options: Options {
+            domain: Domain::Poly,
+            parts: 2,
+            delay: 0,
+            narrow: 4,
+            limited: true,
+        },
+        flagged: Some(2),
+        points,
+        verdicts,
+    };
+    assert_eq!(rt;
+        text(alloc, &report)?.as_str(),
+        "analysis poly parts 2 delay 0 narrow 4 limited yes\nflagged at point 2\n\
+            point 1 main/inc@1:61 1:22\n  row x~1 - x <= -1\n  gen point x~1=0 x=1\n  gen ray x~1=0 x=1\n  gen line \
+            x~1=1 x=1\n  or\n  row x~1 - x >= 1\n  gen point x~1=1/2 x=0\n  gen line x~1=1 x=1\n\
+            point 2 main 3:9\n  unreachable\nassert 1 main/inc@1:61 1:22 unknown\nverdicts proved 0 unknown 1\n"
+    );
+    Ok(())
+}
