@@ -5,7 +5,8 @@ use Rattle.lra_tree.specs.Tokens.{greatest_length}
 use Rattle.lra_linear.specs.Polyhedra.{Polyhedron}
 use Rattle.lra_calc.specs.ScriptText.{is_skipped, words, lines}
 use Rattle.lra_calc.specs.LineForms.{given_of, Line, Dims, Con, Gen, Show, Holds, line_of}
-use Rattle.lra_calc.specs.Script.{Fault, WrongDimension, Session, IsMadeOfRows, IsMadeOfGenerators, made_as, MakesOr, wrong_row, wrong_generator, shown_or, answered_or, AfterLine, AfterForm, Refused, End, GoesOn, Performs, SkipsOr, CarriesOut, Refusal, AtLine, ended, TooLongOr, AnswersTo, AgreesWith}
+use Rattle.lra_calc.specs.Script.{Fault, WrongDimension, Session, IsMadeOfRows, IsMadeOfGenerators, made_as, MakesOr, wrong_row, wrong_generator, shown_or, answered_or, AfterLine, AfterForm, Refused}
+use Rattle.lra_calc.specs.Script.{End, GoesOn, Performs, SkipsOr, CarriesOut, Refusal, AtLine, ended, TooLongOr, AnswersTo, AgreesWith}
 
 -- the same dimensions, and the same names were made
 record Alike (s t : Session) : Type 0 where

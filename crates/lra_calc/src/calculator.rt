@@ -1,6 +1,7 @@
 //! What a script writes.
 
-ghost use Rattle.std.specs.Prelude.{List, ℕ, ℤ, Result, None, ◌≡◌, ◌<◌, ◌^◌, ◌++◌, length, map, string_bytes, Some, IfOk, IfSome, OnOk, option_map};
+ghost use Rattle.std.specs.Prelude.{List, ℕ, ℤ, Result, None, ◌≡◌, ◌<◌, ◌^◌, ◌++◌, length, map, string_bytes, Some};
+ghost use Rattle.std.specs.Prelude.{IfOk, IfSome, OnOk, option_map};
 ghost use Rattle.lra_linear.specs.Points.{SameSet};
 ghost use Rattle.lra_linear.specs.Descriptions.{Con, Gen};
 ghost use Rattle.lra_linear.specs.Polyhedra.{Polyhedron, IsPolyhedron};

@@ -6,7 +6,8 @@ ghost use Rattle.lra_sys.specs.Listed.{constraints as constraints_of};
 ghost use Rattle.lra_calc.specs.LineForms as form;
 ghost use Rattle.lra_calc.specs.LineForms.{greatest_dims};
 ghost use Rattle.lra_calc.specs.Script as script;
-ghost use Rattle.lra_calc.specs.Views.{session_of, IsSession, Gives, constraint_of, generator_of, said, answered, IsLine, IsDivided, HasDivisor};
+ghost use Rattle.lra_calc.specs.Views.{session_of, IsSession, Gives, constraint_of, generator_of, said, answered};
+ghost use Rattle.lra_calc.specs.Views.{IsLine, IsDivided, HasDivisor};
 ghost use Rattle.lra_findings.specs.ReportText.{text_line};
 
 use crate::forms::{Constraint, Generator, Line};

@@ -1,7 +1,9 @@
 -- What statements call, in text order.
 use Rattle.std.specs.Prelude.{ℕ, List, [], ◌∷◌, ◌++◌, Option, Some, None, option_to_list}
 use Rattle.lra_tree.specs.declared.trees.Identifier.{Identifier}
-use Rattle.lra_tree.specs.Trees.{AssignTree, DeclaratorTree, InitTree, no_init, declared, assigned, StmtTree, block, nothing, assign, call, if_only, if_else, while, for, break, continue, return, assert, assume, ItemsTree, no_items, declaration, statement, FunctionTree}
+use Rattle.lra_tree.specs.Trees.{AssignTree, DeclaratorTree, InitTree, no_init, declared, assigned, StmtTree, block}
+use Rattle.lra_tree.specs.Trees.{nothing, assign, call, if_only, if_else, while, for, break, continue, return, assert}
+use Rattle.lra_tree.specs.Trees.{assume, ItemsTree, no_items, declaration, statement, FunctionTree}
 use Rattle.lra_tree.specs.Labels.{called_of, called_by}
 use Rattle.lra_calls.specs.declared.called.Caller.{Caller as CodeCaller}
 

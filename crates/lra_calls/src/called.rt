@@ -2,10 +2,12 @@
 
 ghost use Rattle.std.specs.Prelude.{◌≡◌, [], ◌∷◌, ◌++◌, List, map, option_map, option_to_list, IfOk};
 ghost use Rattle.lra_tree.specs.Trees.{ItemsTree, PartTree};
-ghost use Rattle.lra_tree.specs.Views.{source_view, assign_view, declarator_view, init_view, item_view, stmt_view, block_view, function_view, part_view};
+ghost use Rattle.lra_tree.specs.Views.{source_view, assign_view, declarator_view, init_view, item_view, stmt_view};
+ghost use Rattle.lra_tree.specs.Views.{block_view, function_view, part_view};
 ghost use Rattle.lra_tree.specs.Functions.{functions_in};
 ghost use Rattle.lra_tree.specs.Labels.{called_in, called_of, called_by};
-ghost use Rattle.lra_calls.specs.Called.{declarators_calls, init_calls, step_calls, stmt_calls, items_calls, caller_of, caller_view};
+ghost use Rattle.lra_calls.specs.Called.{declarators_calls, init_calls, step_calls, stmt_calls, items_calls, caller_of};
+ghost use Rattle.lra_calls.specs.Called.{caller_view};
 
 use lra_tree::{
     Assign, Block, BlockItem, Declaration, Function, Identifier, Init, Item, Source, Stmt, Word,

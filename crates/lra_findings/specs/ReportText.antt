@@ -1,10 +1,13 @@
 -- The text of a report. Every line ends with a line feed.
-use Rattle.std.specs.Prelude.{ℕ, zero, suc, ◌/◌, ◌%◌, ℤ, pos, negsuc, ◌-ℤ◌, nat_abs, List, [], ◌∷◌, ◌++◌, map, Bool, true, false, not, codes, if◌then◌else◌, nat_eq, count_by, bytes_eq, int_div, Option, Some, None}
+use Rattle.std.specs.Prelude.{ℕ, zero, suc, ◌/◌, ◌%◌, ℤ, pos, negsuc, ◌-ℤ◌, nat_abs, List, [], ◌∷◌, ◌++◌, map, Bool}
+use Rattle.std.specs.Prelude.{true, false, not, codes, if◌then◌else◌, nat_eq, count_by, bytes_eq, int_div, Option, Some}
+use Rattle.std.specs.Prelude.{None}
 use Rattle.std.specs.List.{flat_map}
 use Rattle.std.specs.Fmt.{decimal, signed_decimal}
 use Rattle.lra_base.specs.declared.options.Options.{Options}
 use Rattle.lra_base.specs.DomainNames.{domain_name}
-use Rattle.lra_findings.specs.Report.{Place, GeneratorKind, point, ray, line, Generator, Part, State, PointReport, Verdict, Report}
+use Rattle.lra_findings.specs.Report.{Place, GeneratorKind, point, ray, line, Generator, Part, State, PointReport}
+use Rattle.lra_findings.specs.Report.{Verdict, Report}
 use Rattle.lra_linear.specs.declared.ConKind.{ConKind}
 use Rattle.lra_linear.specs.declared.ConKind.TheVariants.{Ge, Eq}
 use Rattle.lra_program.specs.Rows.{Row}

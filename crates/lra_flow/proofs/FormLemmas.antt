@@ -14,7 +14,8 @@ use Rattle.lra_linear.proofs.Ring.{ring, v, ⊖, ◌⊕◌, ◌⊗◌}
 use Rattle.lra_base.specs.Operators.{Operator, plus, minus, times, over, modulo, Comparison, below, at_most, above, at_least, equal, differs}
 use Rattle.lra_program.specs.Program.{Expr, literal, read, input, negate, binary, compare}
 use Rattle.lra_program.specs.Value.{◌>>=◌, word, is_word, is_zero, index_of, apply, compares, value_of, truth_of}
-use Rattle.lra_flow.specs.Linear.{fitting, entrywise, combined, scaled, is_constant, operator_form, constant_form, variable_form, form_of, FormsAreRight, IsPassed, negated_form, less_one, at_least_zero, comparison_test, difference_form, TestsAreRight, DiffersIsRight}
+use Rattle.lra_flow.specs.Linear.{fitting, entrywise, combined, scaled, is_constant, operator_form, constant_form, variable_form, form_of, FormsAreRight, IsPassed, negated_form, less_one}
+use Rattle.lra_flow.specs.Linear.{at_least_zero, comparison_test, difference_form, TestsAreRight, DiffersIsRight}
 
 -- what led to something
 pub bind_some : {A B : Type 0} (o : Option A) (f : A → Option B) (y : B) → (o >>= f) ≡ Some y → (x : A) × (o ≡ Some x) × (f x ≡ Some y)
@@ -199,7 +200,8 @@ pub difference_value : (f g h : Form) (store : List ℤ) → Wide (length store)
 difference_value f g h store a b e =
     let p = product f.coefficients store in
     let q = product g.coefficients store in
-    value_same _ h store (fitting_same (combination (λ x y. x -ℤ y) f g) h e) ∙ ap (λ (y : ℤ). (f.constant -ℤ g.constant) +ℤ y) (product_difference f.coefficients g.coefficients store a.width b.width) ∙
+    value_same _ h store (fitting_same (combination (λ x y. x -ℤ y) f g) h e) ∙ ap (λ (y : ℤ). (f.constant -ℤ g.constant) +ℤ y)
+    (product_difference f.coefficients g.coefficients store a.width b.width) ∙
     ap (λ (y : ℤ). y +ℤ (p -ℤ q)) (minus_is f.constant g.constant) ∙ ap (λ (y : ℤ). (f.constant +ℤ (negsuc 0 *ℤ g.constant)) +ℤ y) (minus_is p q) ∙
     ring ((v f.constant ⊕ v (negsuc 0) ⊗ v g.constant) ⊕ (v p ⊕ v (negsuc 0) ⊗ v q)) ((v f.constant ⊕ v p) ⊕ v (negsuc 0) ⊗ (v g.constant ⊕ v q)) (omega arith) ∙
     sym (minus_is (f.constant +ℤ p) (g.constant +ℤ q))

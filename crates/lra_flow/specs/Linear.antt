@@ -1,11 +1,13 @@
 -- Linear forms of expressions (Cousot and Halbwachs 1978): a constant and a coefficient for each live variable, all of
 -- 64 bits.
-use Rattle.std.specs.Prelude.{◌≡◌, ℕ, ℤ, pos, ◌+ℤ◌, ◌-ℤ◌, ◌*ℤ◌, Bool, ◌&&◌, if◌then◌else◌, List, [], ◌∷◌, map, replicate, slice_set, Option, Some, None, negsuc, length, IsTrue, ◌↔◌, ◌⊎◌}
+use Rattle.std.specs.Prelude.{◌≡◌, ℕ, ℤ, pos, ◌+ℤ◌, ◌-ℤ◌, ◌*ℤ◌, Bool, ◌&&◌, if◌then◌else◌, List, [], ◌∷◌, map}
+use Rattle.std.specs.Prelude.{replicate, slice_set, Option, Some, None, negsuc, length, IsTrue, ◌↔◌, ◌⊎◌}
 use Rattle.std.specs.List.{list_all}
 use Rattle.lra_linear.specs.declared.ConKind.TheVariants.{Ge, Eq}
 use Rattle.lra_lin.specs.Form.{Form, form_value, opposite_form, Passes}
 use Rattle.lra_lin.specs.declared.test.Test.{Test}
-use Rattle.lra_base.specs.Operators.{Operator, plus, minus, times, over, modulo, Comparison, below, at_most, above, at_least, equal, differs}
+use Rattle.lra_base.specs.Operators.{Operator, plus, minus, times, over, modulo, Comparison, below, at_most, above}
+use Rattle.lra_base.specs.Operators.{at_least, equal, differs}
 use Rattle.lra_program.specs.Program.{Expr, literal, read, input, negate, binary, compare}
 use Rattle.lra_program.specs.Value.{◌>>=◌, is_word, is_zero, index_of, value_of, truth_of}
 

@@ -9,10 +9,14 @@ use Rattle.lra_program.specs.Program.{Cond, BlockItems, no_more, Function, Progr
 use Rattle.lra_program.specs.Sites.{live_behind}
 use Rattle.lra_meaning.specs.Scope.{Scope, with_local, with_declarators, inner, for_scope}
 use Rattle.lra_tree.specs.Functions.{function_named}
-use Rattle.lra_meaning.specs.NameFaults.{use_faults, unary_faults, term_faults, expr_faults, negation_faults, test_faults, conjunction_faults, cond_faults, called_faults, call_faults, source_faults, assign_faults, given_faults, declarators_faults, init_faults, test_of_for_faults, step_faults, Around, return_faults, stmt_faults, items_faults}
-use Rattle.lra_meaning.specs.Resolve.{function_place, resolve_unary, resolve_term, resolve_expr, resolve_negation, resolve_test, all_of, any_of, resolve_cond, resolve_call, resolve_source, resolve_given, resolve_assign, resolve_declarators, resolve_init, resolve_for_test, resolve_step, init_count, step_count, stmt_count, declarator_count, resolve_stmt, resolve_items}
+use Rattle.lra_meaning.specs.NameFaults.{use_faults, unary_faults, term_faults, expr_faults, negation_faults, test_faults, conjunction_faults, cond_faults, called_faults, call_faults, source_faults}
+use Rattle.lra_meaning.specs.NameFaults.{assign_faults, given_faults, declarators_faults, init_faults, test_of_for_faults, step_faults, Around, return_faults, stmt_faults, items_faults}
+use Rattle.lra_meaning.specs.Resolve.{function_place, resolve_unary, resolve_term, resolve_expr, resolve_negation, resolve_test, all_of, any_of, resolve_cond, resolve_call, resolve_source}
+use Rattle.lra_meaning.specs.Resolve.{resolve_given, resolve_assign, resolve_declarators, resolve_init, resolve_for_test, resolve_step, init_count, step_count, stmt_count, declarator_count}
+use Rattle.lra_meaning.specs.Resolve.{resolve_stmt, resolve_items}
 use Rattle.lra_program.specs.WellFormed.{IsGoodExpr, IsGoodCond, IsGoodCall, IsGoodSource, IsGoodGiven, IsGoodStmt, AreGoodItems}
-use Rattle.lra_formed.specs.Literals.{IsSmallUnary, IsSmallTerm, IsSmallExpr, IsSmallNegation, IsSmallTest, IsSmallConjunction, IsSmallCond, IsSmallCall, IsSmallSource, IsSmallGiven, IsSmallAssign, IsSmallDeclarator, IsSmallInit, IsSmallForTest, IsSmallStep, IsSmallStmt, AreSmallItems}
+use Rattle.lra_formed.specs.Literals.{IsSmallUnary, IsSmallTerm, IsSmallExpr, IsSmallNegation, IsSmallTest, IsSmallConjunction, IsSmallCond, IsSmallCall, IsSmallSource, IsSmallGiven, IsSmallAssign}
+use Rattle.lra_formed.specs.Literals.{IsSmallDeclarator, IsSmallInit, IsSmallForTest, IsSmallStep, IsSmallStmt, AreSmallItems}
 use Rattle.lra_formed.proofs.Faultless.{none_left, none_right, none_if, is_not, Sees, sees_local, sees_inner, variable_lives, called_is}
 
 module _ (P : Program) where

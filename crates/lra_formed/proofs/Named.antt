@@ -11,9 +11,12 @@ use Rattle.lra_program.specs.Program.{Call, BlockItems, no_more, Function, Progr
 use Rattle.lra_meaning.specs.Scope.{Scope, with_local, with_declarators, inner, for_scope, function_scope}
 use Rattle.lra_tree.specs.Functions.{functions_in, functions_of, is_main}
 use Rattle.lra_meaning.specs.NameFaults.{global_names}
-use Rattle.lra_tree.specs.Labels.{Labelled, plain_label, label_with, called_of, assign_label, with_names, declarator_labels, init_labels, step_labels, stmt_labels, items_labels, live_in_for, function_labels, labels_of, label_at}
-use Rattle.lra_meaning.specs.Resolve.{resolve_call, resolve_source, resolve_given, resolve_assign, resolve_declarators, resolve_init, resolve_step, init_count, step_count, stmt_count, items_count, declarator_count, resolve_stmt, resolve_items, resolve_function, global_value, globals_in, resolve_parts, main_of, resolve}
-use Rattle.lra_program.specs.Sites.{Site, Event, comes, one_call_more, greatest_calls, plain_site, live_behind, source_events, given_events, stmt_events, items_events, function_events, call_events, sites_in, sites_of}
+use Rattle.lra_tree.specs.Labels.{Labelled, plain_label, label_with, called_of, assign_label, with_names, declarator_labels, init_labels, step_labels, stmt_labels, items_labels, live_in_for}
+use Rattle.lra_tree.specs.Labels.{function_labels, labels_of, label_at}
+use Rattle.lra_meaning.specs.Resolve.{resolve_call, resolve_source, resolve_given, resolve_assign, resolve_declarators, resolve_init, resolve_step, init_count, step_count, stmt_count, items_count}
+use Rattle.lra_meaning.specs.Resolve.{declarator_count, resolve_stmt, resolve_items, resolve_function, global_value, globals_in, resolve_parts, main_of, resolve}
+use Rattle.lra_program.specs.Sites.{Site, Event, comes, one_call_more, greatest_calls, plain_site, live_behind, source_events, given_events, stmt_events, items_events, function_events, call_events}
+use Rattle.lra_program.specs.Sites.{sites_in, sites_of}
 use Rattle.lra_findings.specs.ReportText.{shown_names}
 use Rattle.lra_meaning.specs.LiveNames.{globals_named, live_in_call_at, live_at, names_outside, live_names}
 use Rattle.lra_meaning.proofs.LabelCounts.{count_stmt, count_declarators, count_items, count_step, count_init}

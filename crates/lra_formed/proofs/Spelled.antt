@@ -13,8 +13,10 @@ use Rattle.lra_tree.specs.Lexeme.{SpellsToken, name, number, mark_of, reserved, 
 use Rattle.lra_tree.specs.Tokens as lexical
 use Rattle.lra_tree.specs.Texts.{Piece, Pieces, plain, Texts, ◌⋅◌, further, separated}
 use Rattle.lra_tree.specs.Texts as text
-use Rattle.lra_tree.specs.Grammar.{IsUnary, IsTerm, IsExpr, IsNegation, IsTest, IsConjunction, IsCond, InParens, IsCall, IsSource, IsAssign, IsGiven, IsDeclarator, IsDeclaration, IsInit, IsForTest, IsForStep, IsReturned, IsStmt, AreItems, IsSigned, IsGlobal, IsPart, AreParts, Spells}
-use Rattle.lra_formed.specs.Literals.{IsSmallUnary, IsSmallTerm, IsSmallExpr, IsSmallNegation, IsSmallTest, IsSmallConjunction, IsSmallCond, IsSmallCall, IsSmallSource, IsSmallGiven, IsSmallAssign, IsSmallDeclarator, IsSmallDeclaration, IsSmallInit, IsSmallForTest, IsSmallStep, IsSmallStmt, AreSmallItems, IsSmallGlobal, IsSmallPart, HasSmallLiterals}
+use Rattle.lra_tree.specs.Grammar.{IsUnary, IsTerm, IsExpr, IsNegation, IsTest, IsConjunction, IsCond, InParens, IsCall, IsSource, IsAssign, IsGiven, IsDeclarator, IsDeclaration, IsInit, IsForTest}
+use Rattle.lra_tree.specs.Grammar.{IsForStep, IsReturned, IsStmt, AreItems, IsSigned, IsGlobal, IsPart, AreParts, Spells}
+use Rattle.lra_formed.specs.Literals.{IsSmallUnary, IsSmallTerm, IsSmallExpr, IsSmallNegation, IsSmallTest, IsSmallConjunction, IsSmallCond, IsSmallCall, IsSmallSource, IsSmallGiven, IsSmallAssign}
+use Rattle.lra_formed.specs.Literals.{IsSmallDeclarator, IsSmallDeclaration, IsSmallInit, IsSmallForTest, IsSmallStep, IsSmallStmt, AreSmallItems, IsSmallGlobal, IsSmallPart, HasSmallLiterals}
 
 -- tokens -----------------------------------------------------------------------------------------------------------
 

@@ -2,7 +2,15 @@
 -- from -2^63 to 2^63 - 1.
 use Rattle.std.specs.Prelude.{◌<◌, Option, Some, None, IsTrue, ⊤, ◌∷◌}
 use Rattle.std.specs.List.{AllByRecursion}
-use Rattle.lra_tree.specs.Trees.{UnaryTree, negated, positive, literal, variable, input, group, TermTree, unary, times, over, modulo, ExprTree, term, plus, minus, NegationTree, opposite_again, value_of_unary, group_opposed, TestTree, opposite, value, compare, group_of, ConjunctionTree, test, and, CondTree, conjunction, or, CallTree, SourceTree, expression, result, AssignTree, set, update, after, before, DeclaratorTree, DeclarationTree, InitTree, no_init, declared, assigned, StmtTree, block, nothing, assign, call, if_only, if_else, while, for, break, continue, return, assert, assume, ItemsTree, no_items, declaration, statement, GlobalTree, PartTree, prototype, globals, function, FileTree}
+use Rattle.lra_tree.specs.Trees.{UnaryTree, negated, positive, literal, variable, input, group, TermTree, unary, times}
+use Rattle.lra_tree.specs.Trees.{over, modulo, ExprTree, term, plus, minus, NegationTree, opposite_again}
+use Rattle.lra_tree.specs.Trees.{value_of_unary, group_opposed, TestTree, opposite, value, compare, group_of}
+use Rattle.lra_tree.specs.Trees.{ConjunctionTree, test, and, CondTree, conjunction, or, CallTree, SourceTree}
+use Rattle.lra_tree.specs.Trees.{expression, result, AssignTree, set, update, after, before, DeclaratorTree}
+use Rattle.lra_tree.specs.Trees.{DeclarationTree, InitTree, no_init, declared, assigned, StmtTree, block, nothing}
+use Rattle.lra_tree.specs.Trees.{assign, call, if_only, if_else, while, for, break, continue, return, assert, assume}
+use Rattle.lra_tree.specs.Trees.{ItemsTree, no_items, declaration, statement, GlobalTree, PartTree, prototype, globals}
+use Rattle.lra_tree.specs.Trees.{function, FileTree}
 use Rattle.lra_program.specs.Value.{is_word}
 use Rattle.lra_meaning.specs.Resolve.{global_value}
 

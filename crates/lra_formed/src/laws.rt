@@ -2,7 +2,8 @@
 
 ghost use Rattle.lra_tree.specs.Grammar.{Spells};
 ghost use Rattle.lra_meaning.specs.Refuse.{AcceptedAreWellFormed};
-ghost use Rattle.lra_formed.specs.Claims.{FaultlessAreWellFormed, LiteralsAreSmall, ReadAreWellFormed, NamesAreAsMany, ShownNamesAreAsMany};
+ghost use Rattle.lra_formed.specs.Claims.{FaultlessAreWellFormed, LiteralsAreSmall, ReadAreWellFormed, NamesAreAsMany};
+ghost use Rattle.lra_formed.specs.Claims.{ShownNamesAreAsMany};
 
 /// The program of a source without faults of names is well-formed.
 pub fn faultless_are_well_formed()

@@ -1,11 +1,13 @@
 //! Linear forms of expressions.
 
-ghost use Rattle.std.specs.Prelude.{◌≡◌, ℤ, pos, ◌*ℤ◌, ◌<◌, ◌≤◌, ◌^◌, ◌⊎◌, Some, slice_set, replicate, IfOk, MatchOption, true, false, map};
+ghost use Rattle.std.specs.Prelude.{◌≡◌, ℤ, pos, ◌*ℤ◌, ◌<◌, ◌≤◌, ◌^◌, ◌⊎◌, Some, slice_set, replicate, IfOk};
+ghost use Rattle.std.specs.Prelude.{MatchOption, true, false, map};
 ghost use Rattle.std.specs.List.{list_all};
 ghost use Rattle.lra_program.specs.Value.{word, is_word, index_of};
 ghost use Rattle.lra_base.specs.OperatorViews.{operator_view};
 ghost use Rattle.lra_program.specs.ProgramViews.{expr_view, operation_view, slot_view};
-ghost use Rattle.lra_flow.specs.Linear.{fitting, entrywise, combined, scaled, is_constant, product_form, operator_form, constant_form, variable_form, form_of};
+ghost use Rattle.lra_flow.specs.Linear.{fitting, entrywise, combined, scaled, is_constant, product_form, operator_form};
+ghost use Rattle.lra_flow.specs.Linear.{constant_form, variable_form, form_of};
 ghost use Rattle.lra_forms.specs.Forms.{sum_of, rest_form};
 
 use lra_base::Operator;

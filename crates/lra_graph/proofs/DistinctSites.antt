@@ -3,11 +3,14 @@
 use Rattle.std.proofs.Common.{◌≡◌, ℕ, zero, suc, ◌+◌, List, [], ◌∷◌, ◌++◌, length, Option, Some, None, Bool, slice_get, inl, inr, refl, sym, ap, ◌∙◌, subst, append_assoc}
 use Rattle.std.specs.List.{AllByRecursion}
 use Rattle.std.proofs.lemmas.Option.{same_Some, none-some, slice_get-get_or}
-use Rattle.lra_program.specs.Program.{Call, Source, value, result, Stmt, absent, nothing, block, assign, call, if, loop, for, break, continue, return, assert, assume, BlockItems, no_more, declaration, statement, Function, Program}
-use Rattle.lra_program.specs.Sites.{Site, Event, comes, one_call_more, live_behind, source_events, given_events, stmt_events, items_events, function_events, call_events, events_of, sites_in, sites_of, greatest_calls}
+use Rattle.lra_program.specs.Program.{Call, Source, value, result, Stmt, absent, nothing, block, assign, call, if, loop, for, break, continue, return, assert, assume, BlockItems, no_more, declaration}
+use Rattle.lra_program.specs.Program.{statement, Function, Program}
+use Rattle.lra_program.specs.Sites.{Site, Event, comes, one_call_more, live_behind, source_events, given_events, stmt_events, items_events, function_events, call_events, events_of, sites_in, sites_of}
+use Rattle.lra_program.specs.Sites.{greatest_calls}
 use Rattle.lra_operations.specs.Agree.{AreDistinct}
 use Rattle.lra_program.specs.WellFormed.{stmt_numbers, items_numbers, function_numbers, IsGoodCall, IsGoodSource, IsGoodGiven, IsGoodStmt, AreGoodItems, IsGoodFunction, IsWellFormed}
-use Rattle.lra_graph.proofs.DistinctLists.{IsIn, AllDiffer, in_left, in_right, in_either, differ_join, differ_left, differ_right, differ_apart, differ_range, differ_piece, one_place, longer, one_before}
+use Rattle.lra_graph.proofs.DistinctLists.{IsIn, AllDiffer, in_left, in_right, in_either, differ_join, differ_left, differ_right, differ_apart, differ_range, differ_piece, one_place, longer}
+use Rattle.lra_graph.proofs.DistinctLists.{one_before}
 
 -- a point's label and call path in one list
 abbrev pub key : Site → List ℕ

@@ -1,14 +1,19 @@
 -- What the tree reaches, a run reaches.
 use Rattle.std.proofs.Common.{◌≡◌, ◌≢◌, ℕ, zero, suc, ◌+◌, ◌≤◌, ℤ, List, ◌∷◌, length, Option, Some, None, Bool, true, false, ◌⊎◌, inl, inr, refl, sym, ap, ◌∙◌, subst, slice_get}
 use Rattle.std.proofs.lemmas.Option.{same_Some, none-some}
-use Rattle.lra_program.specs.Program.{Expr, Cond, Call, Source, value, result, Declarator, Stmt, absent, nothing, block, assign, call, if, loop, for, break, continue, return, assert, assume, BlockItems, no_more, declaration, statement, Function, Program}
+use Rattle.lra_program.specs.Program.{Expr, Cond, Call, Source, value, result, Declarator, Stmt, absent, nothing, block, assign, call, if, loop, for, break, continue, return, assert, assume}
+use Rattle.lra_program.specs.Program.{BlockItems, no_more, declaration, statement, Function, Program}
 use Rattle.lra_program.specs.Value.{Drawn, index_of, truth_of}
-use Rattle.lra_program.specs.Step.{State, Op, append, give, give_any, push, keep, test, run_op, run_any, tested, Here, Back, Item, run, declare, all, end_of, turn, cut, mark, leave_call, Config, Turn, to_turn, Called, to_mark, target_of, go, go_by, go_on, enter, do_source, do_leave, do_break, do_continue, do_stmt, do_declare, next}
+use Rattle.lra_program.specs.Step.{State, Op, append, give, give_any, push, keep, test, run_op, run_any, tested, Here, Back, Item, run, declare, all, end_of, turn, cut, mark, leave_call, Config, Turn}
+use Rattle.lra_program.specs.Step.{to_turn, Called, to_mark, target_of, go, go_by, go_on, enter, do_source, do_leave, do_break, do_continue, do_stmt, do_declare, next}
 use Rattle.lra_program.specs.Run.{Steps, label_on, IsFailing}
 use Rattle.lra_operations.specs.Graph.{Exit, broken, continued, returned, How, normal, jump, Node, empty, point, act, check, seq, choose, leave, Rounds, Ends, Comes, FailsAt}
 use Rattle.lra_program.specs.Sites.{Site}
-use Rattle.lra_operations.specs.Inlined.{Frame, Has, HasSite, callee, Inl, InlAll, Declares, Loops, Gives, as_nothing, as_block, as_absent, as_assign, as_call, as_if, as_loop, as_for, as_break, as_continue, as_return, as_return_value, as_return_call, as_end, as_end_value, as_end_call, as_assert, as_assume, as_none, as_declaration, as_statement, as_fresh, as_given, is_loop, as_value, as_result, loop_node, call_node, return_node}
-use Rattle.lra_graph.proofs.Shapes.{seq_inv, act_inv, point_inv, leave_inv, point_seq, act_seq, check_inv, jump_inv, EndsBody, EndsCall, call_inv, Round, RoundOf, round_inv, LeavesRound, EndsLoop, loop_inv}
+use Rattle.lra_operations.specs.Inlined.{Frame, Has, HasSite, callee, Inl, InlAll, Declares, Loops, Gives, as_nothing, as_block, as_absent, as_assign, as_call, as_if, as_loop, as_for, as_break}
+use Rattle.lra_operations.specs.Inlined.{as_continue, as_return, as_return_value, as_return_call, as_end, as_end_value, as_end_call, as_assert, as_assume, as_none, as_declaration, as_statement}
+use Rattle.lra_operations.specs.Inlined.{as_fresh, as_given, is_loop, as_value, as_result, loop_node, call_node, return_node}
+use Rattle.lra_graph.proofs.Shapes.{seq_inv, act_inv, point_inv, leave_inv, point_seq, act_seq, check_inv, jump_inv, EndsBody, EndsCall, call_inv, Round, RoundOf, round_inv, LeavesRound, EndsLoop}
+use Rattle.lra_graph.proofs.Shapes.{loop_inv}
 use Rattle.lra_graph.proofs.Lengths.{JumpLength, Length, length_one, length_all, length_declarator, length_loop, length_test, length_push, length_append, grows_all, in_loop, mid_length, rounds_length}
 use Rattle.lra_graph.proofs.Landing.{config, land, land_skip, Matches, matches_skip, mark_none, turn_length, back_of, land_broken, land_continued, land_returned}
 

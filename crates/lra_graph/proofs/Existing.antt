@@ -2,7 +2,8 @@
 use Rattle.std.proofs.Common.{◌≡◌, ℕ, zero, suc, ◌+◌, ◌≤◌, List, [], ◌∷◌, ◌++◌, length, Option, Some, None, refl, sym, ap, ◌∙◌, subst, arith}
 use Rattle.std.specs.Prelude.{nat_lt}
 use Rattle.std.proofs.lemmas.Option.{none-some}
-use Rattle.lra_program.specs.Program.{Call, Source, value, result, Stmt, absent, nothing, block, assign, call, if, loop, for, break, continue, return, assert, assume, BlockItems, no_more, declaration, statement, Program}
+use Rattle.lra_program.specs.Program.{Call, Source, value, result, Stmt, absent, nothing, block, assign, call, if, loop, for, break, continue, return, assert, assume, BlockItems, no_more, declaration}
+use Rattle.lra_program.specs.Program.{statement, Program}
 use Rattle.lra_program.specs.Value.{index_of}
 use Rattle.lra_program.specs.Step.{append, give, give_any, keep}
 use Rattle.lra_operations.specs.Graph.{returned, Node, empty, point, act, seq, choose, leave}
@@ -18,9 +19,12 @@ use Rattle.lra_graph.specs.declared.frame.Back.{Back}
 use Rattle.lra_graph.specs.Limits.{Progress, passed, stopped, walk}
 use Rattle.lra_graph.specs.Building.{inside, StmtStands, ItemsStand, GivenStands, CallStands, WritesStmt, WritesItems, WritesSource, WritesDeclared, WritesReturn}
 use Rattle.lra_graph.proofs.Walking.{not_passed, passed_same, chosen_then, chosen_passed}
-use Rattle.lra_graph.proofs.Writing.{absent_written, nothing_written, block_written, assign_written, call_written, if_written, rounds_written, loop_written, break_written, continue_written, assert_written, assume_written, for_written, return_written, return_any_written, return_value_written, return_call_written, end_any_written, end_value_written, end_call_written, none_written, statement_written, declaration_written, fresh_written, given_written, value_written}
+use Rattle.lra_graph.proofs.Writing.{absent_written, nothing_written, block_written, assign_written, call_written, if_written, rounds_written, loop_written, break_written, continue_written}
+use Rattle.lra_graph.proofs.Writing.{assert_written, assume_written, for_written, return_written, return_any_written, return_value_written, return_call_written, end_any_written, end_value_written}
+use Rattle.lra_graph.proofs.Writing.{end_call_written, none_written, statement_written, declaration_written, fresh_written, given_written, value_written}
 use Rattle.lra_graph.proofs.Calling.{no_call_more, invoked}
-use Rattle.lra_graph.proofs.Standing.{block_stands, assign_stands, call_stands, true_stands, false_stands, return_stands, first_stands, others_stand, result_stands, declared_stands, behind_stand, body_stands, step_stands, init_stands, for_again, callee_stands, main_stands, the_callee, break_stands, continue_stands}
+use Rattle.lra_graph.proofs.Standing.{block_stands, assign_stands, call_stands, true_stands, false_stands, return_stands, first_stands, others_stand, result_stands, declared_stands, behind_stand}
+use Rattle.lra_graph.proofs.Standing.{body_stands, step_stands, init_stands, for_again, callee_stands, main_stands, the_callee, break_stands, continue_stands}
 use Rattle.lra_graph.proofs.Totals.{fault_in, walk_fault, first_frame, events_are, whole_graph}
 
 -- what passes, passes up to each place

@@ -7,7 +7,9 @@ use Rattle.lra_program.specs.Value.{◌>>=◌, draw, value_of, values_of, truth_
 use Rattle.lra_program.specs.Step.{State, Op, append, give, give_any, push, keep, test, run_op, run_any, put, given, pushed, kept_if, tested, Back}
 use Rattle.lra_operations.specs.Graph.{Exit, broken, continued, returned, How, normal, jump, Node, empty, choose, Rounds, Ends, point, act, seq, leave, check}
 use Rattle.lra_program.specs.Sites.{Site}
-use Rattle.lra_operations.specs.Inlined.{Frame, callee, Inl, InlAll, Declares, Loops, Gives, as_nothing, as_block, as_absent, as_assign, as_call, as_if, as_loop, as_for, as_break, as_continue, as_return, as_return_value, as_return_call, as_end, as_end_value, as_end_call, as_assert, as_assume, as_none, as_declaration, as_statement, as_fresh, as_given, is_loop, as_value, as_result, loop_node, call_node, return_node}
+use Rattle.lra_operations.specs.Inlined.{Frame, callee, Inl, InlAll, Declares, Loops, Gives, as_nothing, as_block, as_absent, as_assign, as_call, as_if, as_loop, as_for, as_break, as_continue}
+use Rattle.lra_operations.specs.Inlined.{as_return, as_return_value, as_return_call, as_end, as_end_value, as_end_call, as_assert, as_assume, as_none, as_declaration, as_statement, as_fresh, as_given}
+use Rattle.lra_operations.specs.Inlined.{is_loop, as_value, as_result, loop_node, call_node, return_node}
 use Rattle.lra_graph.proofs.Shapes.{seq_inv, act_inv, point_inv, leave_inv, EndsBody, EndsCall, call_inv, check_inv, Round, round_inv, LeavesRound, loop_inv}
 
 length_put : (x : Option ℕ) (z : ℤ) (store : List ℤ) → length (put x z store) ≡ length store

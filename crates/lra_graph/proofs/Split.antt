@@ -1,13 +1,17 @@
 -- A run that comes to a point, cut at the statement on top: the point is inside, or the statement ends or jumps before.
 use Rattle.std.proofs.Common.{◌≡◌, ◌≢◌, ℕ, zero, suc, ◌+◌, ◌<◌, ◌≤◌, List, ◌∷◌, length, Option, Some, None, Bool, true, false, ◌⊎◌, inl, inr, refl, sym, ap, ◌∙◌, subst, slice_get, arith}
 use Rattle.std.proofs.lemmas.Option.{same_Some, none-some}
-use Rattle.lra_program.specs.Program.{Cond, Call, Source, value, result, Declarator, Stmt, absent, nothing, block, assign, call, if, loop, for, break, continue, return, assert, assume, BlockItems, no_more, declaration, statement, Function, Program}
+use Rattle.lra_program.specs.Program.{Cond, Call, Source, value, result, Declarator, Stmt, absent, nothing, block, assign, call, if, loop, for, break, continue, return, assert, assume, BlockItems}
+use Rattle.lra_program.specs.Program.{no_more, declaration, statement, Function, Program}
 use Rattle.lra_program.specs.Value.{index_of, truth_of}
-use Rattle.lra_program.specs.Step.{State, Op, append, give, give_any, push, keep, test, run_op, run_any, Here, Back, Item, run, declare, all, end_of, turn, cut, mark, leave_call, Config, to_turn, to_mark, target_of, go, enter, do_source, do_leave, do_break, do_continue, do_declare, next}
+use Rattle.lra_program.specs.Step.{State, Op, append, give, give_any, push, keep, test, run_op, run_any, Here, Back, Item, run, declare, all, end_of, turn, cut, mark, leave_call, Config, to_turn}
+use Rattle.lra_program.specs.Step.{to_mark, target_of, go, enter, do_source, do_leave, do_break, do_continue, do_declare, next}
 use Rattle.lra_program.specs.Run.{Steps, label_on, IsFailing}
 use Rattle.lra_operations.specs.Graph.{Exit, broken, continued, returned, normal, jump, Node, point, act, check, seq, choose, leave, Ends, Comes, FailsAt}
 use Rattle.lra_program.specs.Sites.{Site}
-use Rattle.lra_operations.specs.Inlined.{Frame, Has, HasSite, callee, Inl, InlAll, Declares, Loops, Gives, as_nothing, as_block, as_absent, as_assign, as_call, as_if, as_loop, as_for, as_break, as_continue, as_return, as_return_value, as_return_call, as_end, as_end_value, as_end_call, as_assert, as_assume, as_none, as_declaration, as_statement, as_fresh, as_given, is_loop, as_value, as_result, loop_node, call_node, return_node}
+use Rattle.lra_operations.specs.Inlined.{Frame, Has, HasSite, callee, Inl, InlAll, Declares, Loops, Gives, as_nothing, as_block, as_absent, as_assign, as_call, as_if, as_loop, as_for, as_break}
+use Rattle.lra_operations.specs.Inlined.{as_continue, as_return, as_return_value, as_return_call, as_end, as_end_value, as_end_call, as_assert, as_assume, as_none, as_declaration, as_statement}
+use Rattle.lra_operations.specs.Inlined.{as_fresh, as_given, is_loop, as_value, as_result, loop_node, call_node, return_node}
 use Rattle.lra_graph.proofs.Shapes.{call_returns, call_ends, Round, round_join, loop_join, loop_first, comes_first, fails_first, jump_join}
 use Rattle.lra_graph.proofs.Lengths.{LengthAt, length_declarator, length_one, length_all, length_test, length_push, length_append, in_loop, mid_length}
 use Rattle.lra_graph.proofs.Landing.{config, land, land_skip, Matches, matches_skip, turn_some, mark_some, mark_none, go_some, go_on_some, go_by_some, lands_broken, lands_continued, lands_returned}

@@ -1,14 +1,17 @@
 -- Each form of a statement, written out behind the points before it.
 use Rattle.std.proofs.Common.{◌≡◌, ℕ, suc, ◌+◌, ◌≤◌, List, [], ◌∷◌, ◌++◌, length, Option, Some, None, Bool, true, false, slice_get, refl, sym, ap, ◌∙◌, subst}
 use Rattle.std.proofs.lemmas.Option.{none-some, same_Some}
-use Rattle.lra_program.specs.Program.{Slot, Expr, Cond, Call, Source, value, result, Declarator, Stmt, absent, nothing, block, assign, call, if, loop, for, break, continue, return, assert, assume, BlockItems, no_more, declaration, statement, Function, Program}
+use Rattle.lra_program.specs.Program.{Slot, Expr, Cond, Call, Source, value, result, Declarator, Stmt, absent, nothing, block, assign, call, if, loop, for, break, continue, return, assert, assume}
+use Rattle.lra_program.specs.Program.{BlockItems, no_more, declaration, statement, Function, Program}
 use Rattle.lra_program.specs.Value.{index_of}
 use Rattle.lra_program.specs.Step as step
 use Rattle.lra_program.specs.Step.{append, give, give_any, push, keep, test}
 use Rattle.lra_operations.specs.Graph.{Exit, broken, continued, returned, Node, empty, point, act, check, seq, choose, leave}
 use Rattle.lra_program.specs.Sites.{Site, comes, plain_site, live_behind, source_events, given_events, stmt_events, items_events, function_events, call_events}
 use Rattle.lra_operations.specs.Inlined as inlined
-use Rattle.lra_operations.specs.Inlined.{Has, HasSite, callee, Inl, InlAll, Declares, Loops, Gives, as_nothing, as_block, as_absent, as_assign, as_call, as_if, as_loop, as_for, as_break, as_continue, as_return, as_return_value, as_return_call, as_end, as_end_value, as_end_call, as_assert, as_assume, as_none, as_declaration, as_statement, as_fresh, as_given, is_loop, as_value, as_result, loop_node, call_node, return_node}
+use Rattle.lra_operations.specs.Inlined.{Has, HasSite, callee, Inl, InlAll, Declares, Loops, Gives, as_nothing, as_block, as_absent, as_assign, as_call, as_if, as_loop, as_for, as_break, as_continue}
+use Rattle.lra_operations.specs.Inlined.{as_return, as_return_value, as_return_call, as_end, as_end_value, as_end_call, as_assert, as_assume, as_none, as_declaration, as_statement, as_fresh, as_given}
+use Rattle.lra_operations.specs.Inlined.{is_loop, as_value, as_result, loop_node, call_node, return_node}
 use Rattle.lra_graph.specs.declared.frame.Frame.{Frame}
 use Rattle.lra_graph.specs.declared.frame.Back.{Back}
 use Rattle.lra_graph.specs.Limits.{walk, passed}

@@ -4,7 +4,8 @@ use Rattle.std.specs.Prelude.{◌≡◌, ◌≢◌, ℕ, suc, ◌+◌, ◌≤◌
 use Rattle.lra_program.specs.Program.{Cond, Call, Source, Stmt, loop, break, continue, return, BlockItems, Program}
 use Rattle.lra_program.specs.Step as step
 use Rattle.lra_operations.specs.Graph.{Exit, broken, continued, returned, Node, seq, point}
-use Rattle.lra_program.specs.Sites.{Site, Event, live_behind, source_events, given_events, stmt_events, items_events, call_events}
+use Rattle.lra_program.specs.Sites.{Site, Event, live_behind, source_events, given_events, stmt_events, items_events}
+use Rattle.lra_program.specs.Sites.{call_events}
 use Rattle.lra_operations.specs.Inlined as inlined
 use Rattle.lra_program.specs.WellFormed.{IsGoodCall, IsGoodGiven, IsGoodStmt, AreGoodItems}
 use Rattle.lra_graph.specs.Limits.{walk, passed, stopped}

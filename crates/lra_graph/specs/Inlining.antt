@@ -5,7 +5,8 @@ use Rattle.lra_operations.specs.declared.graph.Node as code
 use Rattle.lra_operations.specs.declared.graph.Site as code_site
 use Rattle.lra_program.specs.Program.{Cond, Call, Source, Stmt, BlockItems, Program}
 use Rattle.lra_operations.specs.Graph.{Exit}
-use Rattle.lra_program.specs.Sites.{Site, Event, comes, plain_site, source_events, given_events, stmt_events, items_events, call_events}
+use Rattle.lra_program.specs.Sites.{Site, Event, comes, plain_site, source_events, given_events, stmt_events}
+use Rattle.lra_program.specs.Sites.{items_events, call_events}
 use Rattle.lra_program.specs.ProgramViews.{program_view}
 use Rattle.lra_operations.specs.GraphViews.{node_view, site_view}
 use Rattle.lra_graph.specs.Limits.{walk, passed, stopped}

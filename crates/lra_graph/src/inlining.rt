@@ -8,10 +8,15 @@ ghost use Rattle.lra_program.specs.Program as resolved;
 ghost use Rattle.lra_program.specs.Sites.{live_behind};
 ghost use Rattle.lra_program.specs.Value.{index_of};
 ghost use Rattle.lra_program.specs.WellFormed.{IsWellFormed};
-ghost use Rattle.lra_program.specs.ProgramViews.{slot_view, cond_view, call_view, source_view, given_view, stmt_view, item_view, items_of};
+ghost use Rattle.lra_program.specs.ProgramViews.{slot_view, cond_view, call_view, source_view, given_view, stmt_view};
+ghost use Rattle.lra_program.specs.ProgramViews.{item_view, items_of};
 ghost use Rattle.lra_operations.specs.GraphViews.{exit_view};
 ghost use Rattle.lra_graph.specs.Limits.{OnLimit};
-ghost use Rattle.lra_graph.specs.Inlining.{points_in, program_around, own_events, assertion_events, Passes, Stops, StmtStands, ItemsStand, ItemStands, GivenStands, DeclaredStands, CallStands, RoundStands, StopsStmt, StopsItems, StopsItem, StopsGiven, StopsSource, StopsCall, StopsRound, IsStmt, IsPlain, IsExit, AreItems, IsItem, IsSource, IsDeclared, IsLoop, IsReturn};
+ghost use Rattle.lra_graph.specs.Inlining.{points_in, program_around, own_events, assertion_events, Passes, Stops};
+ghost use Rattle.lra_graph.specs.Inlining.{StmtStands, ItemsStand, ItemStands, GivenStands, DeclaredStands, CallStands};
+ghost use Rattle.lra_graph.specs.Inlining.{RoundStands, StopsStmt, StopsItems, StopsItem, StopsGiven, StopsSource};
+ghost use Rattle.lra_graph.specs.Inlining.{StopsCall, StopsRound, IsStmt, IsPlain, IsExit, AreItems, IsItem, IsSource};
+ghost use Rattle.lra_graph.specs.Inlining.{IsDeclared, IsLoop, IsReturn};
 
 use crate::forms::{
     CallPlace, add_part, behind, behind_point, block_end, called, choice, cut_and_leave, in_a_row,

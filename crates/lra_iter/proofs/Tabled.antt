@@ -276,8 +276,11 @@ module _ {V H : Type 0} (m : Meaning V H) (T : List Site) (r : Result V) (n : �
     is_verdict = λ q b h. let k = filled_is 0 u q b (subst (λ (vs : List (ℕ × Bool)). Contains vs (q, b)) are h) in
         let same : k.0 ≡ q = (let e = k.1 in omega (arith, e)) in tabled.is_verdict q b (subst (λ (p : ℕ). slice_get u p ≡ Some (Some b)) same k.2);
     has_verdict = λ q w h.
-        let k = tabled.has_verdict q w h in
-        (k.0, subst (λ (vs : List (ℕ × Bool)). Contains vs (q, k.0)) (sym are) (let same : 0 + q ≡ q = omega arith in subst (λ (p : ℕ). Contains (filled_from 0 u) (p, k.0)) same (filled_has 0 u q k.0 k.1)));
+        let k = tabled.has_verdict q w h in (
+          k.0,
+          subst (λ (vs : List (ℕ × Bool)). Contains vs (q, k.0)) (sym are) (let same : 0 + q ≡ q = omega arith in subst (λ (p : ℕ). Contains (filled_from 0 u) (p, k.0)) same
+              (filled_has 0 u q k.0 k.1)),
+        );
     in_order = λ i j a b h d e. filled_order 0 u i j a b h (subst (λ (vs : List (ℕ × Bool)). slice_get vs i ≡ Some a) are d) (subst (λ (vs : List (ℕ × Bool)). slice_get vs j ≡ Some b) are e);
     is_flagged = flag;
   }

@@ -1,5 +1,6 @@
 -- Each source has a reading: at each place stands a gap, a token, or a fault.
-use Rattle.std.proofs.Common.{◌≡◌, ℕ, zero, suc, ◌+◌, ◌-◌, ◌<◌, ◌≤◌, Bool, true, false, nat_eq, List, [], ◌∷◌, ◌++◌, length, get_or, take, drop, Some, None, bytes_eq, refl, sym, ap, ◌∙◌, subst, arith, inl, inr, ◌⊎◌, codes}
+use Rattle.std.proofs.Common.{◌≡◌, ℕ, zero, suc, ◌+◌, ◌-◌, ◌<◌, ◌≤◌, Bool, true, false, nat_eq, List, [], ◌∷◌, ◌++◌, length, get_or, take, drop, Some, None, bytes_eq, refl, sym, ap, ◌∙◌, subst, arith}
+use Rattle.std.proofs.Common.{inl, inr, ◌⊎◌, codes}
 use Rattle.std.proofs.lemmas.Bool.{cases_Bool, cases_lt, eqb-true, eqb-false}
 use Rattle.std.proofs.lemmas.List.{append-nil, length-drop}
 use Rattle.std.proofs.lemmas.Slice.Eq.{bytes_eq-Decides}
@@ -12,7 +13,8 @@ use Rattle.lra_base.specs.declared.refusals.Refusal.{Refusal}
 use Rattle.lra_tree.specs.declared.tokens.Kind.{Kind}
 use Rattle.lra_tree.specs.declared.tokens.Kind.TheVariants as kind
 use Rattle.lra_tree.specs.declared.tokens.Token.{Token}
-use Rattle.lra_tree.specs.Lexeme.{is_letter, is_digit, is_word_byte, is_word, is_among, further_words, suffixes, Base, octal, decimal_base, hexadecimal, number_behind, IsLiteral, greatest_literal, mark_text, SpellsToken, name, mark_of, reserved}
+use Rattle.lra_tree.specs.Lexeme.{is_letter, is_digit, is_word_byte, is_word, is_among, further_words, suffixes, Base, octal, decimal_base, hexadecimal, number_behind, IsLiteral, greatest_literal}
+use Rattle.lra_tree.specs.Lexeme.{mark_text, SpellsToken, name, mark_of, reserved}
 use Rattle.lra_tree.specs.Tokens.{is_blank, place_from, bytes_of, Lex, IsTokenFault, end_token}
 use Rattle.lra_lex.specs.declared.lexer.Found.{Found}
 use Rattle.lra_lex.specs.Literal.{base_at}

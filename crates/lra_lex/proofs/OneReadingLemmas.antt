@@ -1,5 +1,6 @@
 -- A source has one reading: at each place one gap, or one token with its spelling, or one fault.
-use Rattle.std.proofs.Common.{◌≡◌, ℕ, ◌+◌, ◌<◌, ◌≤◌, true, false, ◌&&◌, nat_eq, List, [], ◌∷◌, ◌++◌, length, get_or, take, drop, refl, sym, ap, ◌∙◌, subst, arith, inl, inr, ◌⊎◌, append_assoc, length-append}
+use Rattle.std.proofs.Common.{◌≡◌, ℕ, ◌+◌, ◌<◌, ◌≤◌, true, false, ◌&&◌, nat_eq, List, [], ◌∷◌, ◌++◌, length, get_or, take, drop, refl, sym, ap, ◌∙◌, subst, arith, inl, inr, ◌⊎◌, append_assoc}
+use Rattle.std.proofs.Common.{length-append}
 use Rattle.std.proofs.lemmas.Bool.{and_parts, cases_Bool, leb-true}
 use Rattle.std.proofs.lemmas.List.{append-nil, take_at, append_cancel_left}
 use Rattle.std.proofs.lemmas.Bool.Decides.{nat_tests}
@@ -13,8 +14,10 @@ use Rattle.lra_tree.specs.declared.tokens.Mark.TheVariants as mark
 use Rattle.lra_tree.specs.declared.tokens.Kind.{Kind}
 use Rattle.lra_tree.specs.declared.tokens.Kind.TheVariants as kind
 use Rattle.lra_tree.specs.declared.tokens.Token.{Token}
-use Rattle.lra_tree.specs.Lexeme.{is_letter, is_digit, is_word_byte, is_word, is_number_word, mark_text, is_among, named_words, further_words, IsOpen, IsUnclosed, IsLiteral, greatest_literal, Lexeme, word, number_word, mark_word, unclosed, SpellsToken, name, number, mark_of, reserved, comment}
-use Rattle.lra_tree.specs.Tokens.{is_blank, in_line, IsLineEnd, IsGap, blank, line_comment, block_comment, skipped_line, IsLongest, IsToken, Piece, gap, token, bytes_of, tokens_of, IsReading, IsFaulty, place_behind, end_token, OneReading}
+use Rattle.lra_tree.specs.Lexeme.{is_letter, is_digit, is_word_byte, is_word, is_number_word, mark_text, is_among, named_words, further_words, IsOpen, IsUnclosed, IsLiteral, greatest_literal, Lexeme}
+use Rattle.lra_tree.specs.Lexeme.{word, number_word, mark_word, unclosed, SpellsToken, name, number, mark_of, reserved, comment}
+use Rattle.lra_tree.specs.Tokens.{is_blank, in_line, IsLineEnd, IsGap, blank, line_comment, block_comment, skipped_line, IsLongest, IsToken, Piece, gap, token, bytes_of, tokens_of, IsReading}
+use Rattle.lra_tree.specs.Tokens.{IsFaulty, place_behind, end_token, OneReading}
 use Rattle.lra_lex.specs.Front.{opens_comment}
 use Rattle.lra_lex.proofs.RunLemmas.{run_exact, Stops, differ}
 use Rattle.lra_lex.proofs.MarkLemmas.{mark_one, mark_some, mark_named, mark_no_number, mark_no_further, among_all}

@@ -7,7 +7,8 @@ use Rattle.std.specs.List.{list_all, prefix_len}
 use Rattle.lra_tree.specs.declared.tokens.Mark.{Mark}
 use Rattle.lra_tree.specs.declared.tokens.Kind.{Kind}
 use Rattle.lra_tree.specs.declared.tokens.Kind.TheVariants as kind
-use Rattle.lra_tree.specs.Lexeme.{is_word_byte, is_letter, is_digit, is_word, is_number_word, mark_text, IsLiteral, greatest_literal, word, number_word, unclosed, IsUnclosed, SpellsToken, number, mark_of, comment}
+use Rattle.lra_tree.specs.Lexeme.{is_word_byte, is_letter, is_digit, is_word, is_number_word, mark_text, IsLiteral, greatest_literal, word, number_word, unclosed, IsUnclosed, SpellsToken, number}
+use Rattle.lra_tree.specs.Lexeme.{mark_of, comment}
 use Rattle.lra_tree.specs.Tokens.{IsLongest}
 use Rattle.lra_lex.specs.Front.{opens_comment, found_mark, operator_at}
 use Rattle.lra_lex.specs.Read.{BeginsToken}

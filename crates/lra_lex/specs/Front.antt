@@ -1,5 +1,6 @@
 -- What stands at the front of the bytes that are left.
-use Rattle.std.specs.Prelude.{◌≡◌, ℕ, ◌+◌, ◌-◌, ◌<◌, ◌≤◌, Bool, true, List, ◌++◌, nat_eq, ◌&&◌, Option, codes, length, slice_index, take, drop, find, bytes_eq}
+use Rattle.std.specs.Prelude.{◌≡◌, ℕ, ◌+◌, ◌-◌, ◌<◌, ◌≤◌, Bool, true, List, ◌++◌, nat_eq, ◌&&◌, Option, codes, length}
+use Rattle.std.specs.Prelude.{slice_index, take, drop, find, bytes_eq}
 use Rattle.std.specs.Option.{option_or}
 use Rattle.lra_lex.specs.declared.marks.TheConstants.{MARKS}
 use Rattle.std.specs.List.{list_all}

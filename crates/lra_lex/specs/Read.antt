@@ -1,5 +1,6 @@
 -- What a call found at the front of the bytes that are left, and how far a source is read.
-use Rattle.std.specs.Prelude.{◌≡◌, ℕ, ◌<◌, ◌≤◌, Bool, true, List, [], ◌∷◌, ◌++◌, length, take, drop, Option, Some, None, Result, Ok, Err}
+use Rattle.std.specs.Prelude.{◌≡◌, ℕ, ◌<◌, ◌≤◌, Bool, true, List, [], ◌∷◌, ◌++◌, length, take, drop, Option, Some, None}
+use Rattle.std.specs.Prelude.{Result, Ok, Err}
 use Rattle.lra_base.specs.declared.refusals.Place.{Place}
 use Rattle.lra_base.specs.declared.refusals.Cause.{Cause}
 use Rattle.lra_base.specs.declared.refusals.Cause.TheVariants.{BadByte, BadLiteral}
@@ -7,7 +8,8 @@ use Rattle.lra_base.specs.declared.refusals.Refusal.{Refusal}
 use Rattle.lra_tree.specs.declared.tokens.Kind.{Kind}
 use Rattle.lra_tree.specs.declared.tokens.Token.{Token}
 use Rattle.lra_tree.specs.Lexeme.{is_number_word, IsLiteral, greatest_literal, Lexeme, SpellsToken}
-use Rattle.lra_tree.specs.Tokens.{IsGap, NoGap, IsLongest, IsFaulty, Piece, bytes_of, tokens_of, IsReading, place_behind}
+use Rattle.lra_tree.specs.Tokens.{IsGap, NoGap, IsLongest, IsFaulty, Piece, bytes_of, tokens_of, IsReading}
+use Rattle.lra_tree.specs.Tokens.{place_behind}
 use Rattle.lra_lex.specs.declared.lexer.Found.{Found}
 use Rattle.lra_lex.specs.Places.{fresh_behind}
 

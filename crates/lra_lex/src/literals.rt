@@ -2,7 +2,8 @@
 
 ghost use Rattle.std.specs.Prelude.{◌≡◌, ◌≤◌, ◌<◌, ◌≢◌, ℕ, [], length, true, IfSome, IfNone, IsTrue};
 ghost use Rattle.std.specs.List.{prefix_len};
-ghost use Rattle.lra_tree.specs.Lexeme.{IsLiteral, octal, base_number, digit_value, greatest_literal, is_among, is_digit_of, number_behind, suffixes};
+ghost use Rattle.lra_tree.specs.Lexeme.{IsLiteral, octal, base_number, digit_value, greatest_literal, is_among};
+ghost use Rattle.lra_tree.specs.Lexeme.{is_digit_of, number_behind, suffixes};
 ghost use Rattle.lra_lex.specs.Literal.{base_at, base_of, front_size};
 
 use crate::marks::is_among;

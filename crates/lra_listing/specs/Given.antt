@@ -1,6 +1,7 @@
 -- What an analysis hands over: a state for each point and a verdict for each assertion. Points are numbered from 0
 -- here.
-use Rattle.std.specs.Prelude.{◌≡◌, ◌<◌, ℕ, suc, Bool, false, List, [], length, Some, slice_get, slice_index_or, IsTrue, Contains}
+use Rattle.std.specs.Prelude.{◌≡◌, ◌<◌, ℕ, suc, Bool, false, List, [], length, Some, slice_get, slice_index_or, IsTrue}
+use Rattle.std.specs.Prelude.{Contains}
 use Rattle.std.specs.List.{AllByRecursion}
 use Rattle.lra_findings.specs.Report.{State, PointReport, Verdict}
 use Rattle.lra_program.specs.Sites.{Site}

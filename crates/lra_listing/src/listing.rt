@@ -1,6 +1,7 @@
 //! The report of what an analysis found.
 
-ghost use Rattle.std.specs.Prelude.{◌≡◌, ◌++◌, ◌∷◌, ◌<◌, ◌^◌, [], ℕ, suc, Bool, length, map, Some, option_map, IfOk, string_bytes, List, All};
+ghost use Rattle.std.specs.Prelude.{◌≡◌, ◌++◌, ◌∷◌, ◌<◌, ◌^◌, [], ℕ, suc, Bool, length, map, Some, option_map, IfOk};
+ghost use Rattle.std.specs.Prelude.{string_bytes, List, All};
 ghost use Rattle.lra_operations.specs.GraphViews.{site_view};
 ghost use Rattle.lra_tree.specs.Trees.{PartTree};
 ghost use Rattle.lra_tree.specs.Views.{tree_view, part_view, global_view};
@@ -10,7 +11,8 @@ ghost use Rattle.lra_program.specs.Sites.{sites_of};
 ghost use Rattle.lra_meaning.specs.NameFaults.{global_names};
 ghost use Rattle.lra_findings.specs.ReportText.{shown_names, path_text};
 ghost use Rattle.lra_meaning.specs.LiveNames.{globals_named, names_outside, live_names};
-ghost use Rattle.lra_report.specs.Listing.{call_at, called_at, calls_on, listed_point, listed_verdict, AreListed, Lists};
+ghost use Rattle.lra_report.specs.Listing.{call_at, called_at, calls_on, listed_point, listed_verdict, AreListed};
+ghost use Rattle.lra_report.specs.Listing.{Lists};
 ghost use Rattle.lra_report.specs.View.{call_place_of, point_report_of, verdict_of, report_of};
 ghost use Rattle.lra_listing.specs.Given.{AreStates, AreVerdicts, state_of, told_of, told, verdict_at};
 

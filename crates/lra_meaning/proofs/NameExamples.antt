@@ -8,7 +8,8 @@ use Rattle.lra_base.specs.declared.refusals.Cause.{Cause}
 use Rattle.lra_base.specs.declared.refusals.Cause.TheVariants.{NoMain, UnknownName, DuplicateName, BadCall, Misplaced, Recursive}
 use Rattle.lra_program.specs.Program as program
 use Rattle.lra_base.specs.Operators as operators
-use Rattle.lra_tree.specs.Trees.{value, compare, conjunction, test, and, or, expression, result, set, after, increment, declared, block, nothing, assign, call, for, break, return, no_items, declaration, statement, globals, function, FileTree, FunctionTree}
+use Rattle.lra_tree.specs.Trees.{value, compare, conjunction, test, and, or, expression, result, set, after, increment, declared, block, nothing, assign, call, for, break, return, no_items}
+use Rattle.lra_tree.specs.Trees.{declaration, statement, globals, function, FileTree, FunctionTree}
 use Rattle.lra_tree.specs.Labels.{labels_of}
 use Rattle.lra_meaning.specs.NameFaults.{name_faults}
 use Rattle.lra_meaning.specs.Resolve.{resolve, resolve_cond}

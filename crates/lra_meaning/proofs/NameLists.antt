@@ -1,5 +1,6 @@
 -- Lists of names by their numbers: a further entry gives a further list, and the others stay.
-use Rattle.std.proofs.Common.{◌≡◌, ◌∙◌, sym, ap, refl, ◌+◌, ◌≤◌, ◌<◌, ◌⊎◌, inl, inr, ℕ, zero, suc, List, [], ◌∷◌, ◌++◌, length, map, Some, get_or, arith, length-append, append_assoc, append-nil, subst, take, ◌-◌}
+use Rattle.std.proofs.Common.{◌≡◌, ◌∙◌, sym, ap, refl, ◌+◌, ◌≤◌, ◌<◌, ◌⊎◌, inl, inr, ℕ, zero, suc, List, [], ◌∷◌, ◌++◌, length, map, Some, get_or, arith, length-append, append_assoc, append-nil}
+use Rattle.std.proofs.Common.{subst, take, ◌-◌}
 use Rattle.std.specs.Prelude.{slice_get, slice_set}
 use Rattle.std.proofs.lemmas.Option.{slice_get_read}
 use Rattle.std.proofs.lemmas.List.{get_or_append_left, get_or-append-add, take-append-le, get_or-set_same, get_or-map, map-set}

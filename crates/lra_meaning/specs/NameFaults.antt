@@ -1,14 +1,23 @@
 -- All faults of names in a source, in text order; at one token the lower number comes first (ISO/IEC 9899:2011, 6.2.1,
 -- 6.5.2.2, 6.7, 6.8.6, 6.9).
-use Rattle.std.specs.Prelude.{ℕ, Bool, true, false, not, if◌then◌else◌, ◌||◌, ◌&&◌, nat_eq, List, [], ◌∷◌, ◌++◌, length, Option, Some, None, bytes_eq, map, is_none}
+use Rattle.std.specs.Prelude.{ℕ, Bool, true, false, not, if◌then◌else◌, ◌||◌, ◌&&◌, nat_eq, List, [], ◌∷◌, ◌++◌, length}
+use Rattle.std.specs.Prelude.{Option, Some, None, bytes_eq, map, is_none}
 use Rattle.std.specs.List.{list_any, flat_map}
 use Rattle.lra_base.specs.declared.refusals.Place.{Place}
 use Rattle.lra_base.specs.declared.refusals.Refusal.{Refusal}
 use Rattle.lra_base.specs.declared.refusals.Cause.{Cause}
 use Rattle.lra_base.specs.declared.refusals.Cause.TheVariants.{NoMain, UnknownName, DuplicateName, BadCall, Misplaced}
 use Rattle.lra_tree.specs.declared.trees.Identifier.{Identifier}
-use Rattle.lra_tree.specs.Trees.{UnaryTree, negated, positive, literal, variable, input, group, TermTree, unary, times, over, modulo, ExprTree, term, plus, minus, NegationTree, opposite_again, value_of_unary, group_opposed, TestTree, opposite, value, compare, group_of, ConjunctionTree, test, and, CondTree, conjunction, or, CallTree, SourceTree, expression, result, AssignTree, set, update, after, before, DeclaratorTree, InitTree, no_init, declared, assigned, StmtTree, block, nothing, assign, call, if_only, if_else, while, for, break, continue, return, assert, assume, ItemsTree, no_items, declaration, statement, FunctionTree, GlobalTree, PartTree, prototype, globals, function, FileTree}
-use Rattle.lra_meaning.specs.Scope.{Scope, slot_of, is_declared, with_local, with_declarators, inner, for_scope, function_scope}
+use Rattle.lra_tree.specs.Trees.{UnaryTree, negated, positive, literal, variable, input, group, TermTree, unary, times}
+use Rattle.lra_tree.specs.Trees.{over, modulo, ExprTree, term, plus, minus, NegationTree, opposite_again}
+use Rattle.lra_tree.specs.Trees.{value_of_unary, group_opposed, TestTree, opposite, value, compare, group_of}
+use Rattle.lra_tree.specs.Trees.{ConjunctionTree, test, and, CondTree, conjunction, or, CallTree, SourceTree}
+use Rattle.lra_tree.specs.Trees.{expression, result, AssignTree, set, update, after, before, DeclaratorTree, InitTree}
+use Rattle.lra_tree.specs.Trees.{no_init, declared, assigned, StmtTree, block, nothing, assign, call, if_only, if_else}
+use Rattle.lra_tree.specs.Trees.{while, for, break, continue, return, assert, assume, ItemsTree, no_items, declaration}
+use Rattle.lra_tree.specs.Trees.{statement, FunctionTree, GlobalTree, PartTree, prototype, globals, function, FileTree}
+use Rattle.lra_meaning.specs.Scope.{Scope, slot_of, is_declared, with_local, with_declarators, inner, for_scope}
+use Rattle.lra_meaning.specs.Scope.{function_scope}
 use Rattle.lra_tree.specs.Functions.{functions_of, function_named, is_main}
 
 abbrev pub fault_if : Bool → Cause → Place → List Refusal

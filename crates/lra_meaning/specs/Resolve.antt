@@ -2,10 +2,14 @@
 -- functions (ISO/IEC 9899:2011, 6.2.1), and labels are given in text order. A call has the label of its statement or
 -- declarator.
 -- All functions of the source can be called, `main` among them.
-use Rattle.std.specs.Prelude.{ℕ, suc, ◌+◌, ℤ, pos, List, [], ◌∷◌, ◌++◌, length, map, Option, Some, None, unwrap_or, cond}
+use Rattle.std.specs.Prelude.{ℕ, suc, ◌+◌, ℤ, pos, List, [], ◌∷◌, ◌++◌, length, map, Option, Some, None, unwrap_or}
+use Rattle.std.specs.Prelude.{cond}
 use Rattle.lra_tree.specs.declared.trees.Identifier.{Identifier}
 use Rattle.lra_tree.specs.Trees as tree
-use Rattle.lra_program.specs.Program.{Slot, global, Expr, literal, read, input, negate, binary, Cond, compare, nonzero, opposite, both_of, either_of, Call, Source, value, result, Stmt, absent, nothing, block, assign, call, if, loop, for, break, continue, return, assert, assume, BlockItems, no_more, declaration, statement, Function, Program}
+use Rattle.lra_program.specs.Program.{Slot, global, Expr, literal, read, input, negate, binary, Cond, compare, nonzero}
+use Rattle.lra_program.specs.Program.{opposite, both_of, either_of, Call, Source, value, result, Stmt, absent, nothing}
+use Rattle.lra_program.specs.Program.{block, assign, call, if, loop, for, break, continue, return, assert, assume}
+use Rattle.lra_program.specs.Program.{BlockItems, no_more, declaration, statement, Function, Program}
 use Rattle.lra_base.specs.Operators.{Operator, plus, minus, times, over, modulo}
 use Rattle.lra_meaning.specs.Scope.{Scope, slot_of, with_local, with_declarators, inner, for_scope, function_scope}
 use Rattle.lra_tree.specs.Functions.{functions_of, is_named, is_main}

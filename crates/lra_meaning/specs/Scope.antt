@@ -1,5 +1,6 @@
 -- Scopes (ISO/IEC 9899:2011, 6.2.1): which variable a name means.
-use Rattle.std.specs.Prelude.{ℕ, suc, Bool, if◌then◌else◌, List, [], ◌∷◌, ◌++◌, length, drop, bytes_eq, Option, Some, None, map}
+use Rattle.std.specs.Prelude.{ℕ, suc, Bool, if◌then◌else◌, List, [], ◌∷◌, ◌++◌, length, drop, bytes_eq, Option, Some}
+use Rattle.std.specs.Prelude.{None, map}
 use Rattle.std.specs.List.{list_any}
 use Rattle.lra_tree.specs.declared.trees.Identifier.{Identifier}
 use Rattle.lra_program.specs.Program.{Slot, global, local}

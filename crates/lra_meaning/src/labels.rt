@@ -1,7 +1,8 @@
 //! The labels of a source with the names that live there. Lists of names share their fronts, so that all of them
 //! together take no more room than the source has variables and labels.
 
-ghost use Rattle.std.specs.Prelude.{◌≡◌, ◌++◌, ◌∷◌, ◌<◌, ◌≤◌, ◌-◌, [], List, length, take, suc, IfOk, OnErr, MatchOption};
+ghost use Rattle.std.specs.Prelude.{◌≡◌, ◌++◌, ◌∷◌, ◌<◌, ◌≤◌, ◌-◌, [], List, length, take, suc, IfOk, OnErr};
+ghost use Rattle.std.specs.Prelude.{MatchOption};
 ghost use Rattle.lra_tree.specs.Labels.{Labelled, label_at, label_place};
 ghost use Rattle.lra_meaning.specs.LiveNames.{live_at, live_in_call_at};
 ghost use Rattle.lra_meaning.specs.LabelTable.{list_at, lists_of, AreOrdered, label_in, with_live};

@@ -16,7 +16,8 @@ use Rattle.lra_tree.specs.declared.trees.Factor.{Factor}
 use Rattle.lra_tree.specs.declared.trees.Summand.{Summand}
 use Rattle.lra_names.proofs.Telling.{tells_front, tells_behind}
 use Rattle.lra_tree.specs.Trees.{UnaryTree, TermTree, unary, ExprTree, term}
-use Rattle.lra_tree.specs.Views.{further_factor, product, further_term, sum_of, unary_view, factor_view, term_view, summand_view, expr_view, unary_step, expr_step, factor_step, summand_step, term_step}
+use Rattle.lra_tree.specs.Views.{further_factor, product, further_term, sum_of, unary_view, factor_view, term_view, summand_view, expr_view, unary_step, expr_step, factor_step, summand_step}
+use Rattle.lra_tree.specs.Views.{term_step}
 use Rattle.lra_program.specs.Program as program
 use Rattle.lra_base.specs.Operators as operators
 use Rattle.lra_program.specs.ProgramViews.{chained}

@@ -1,5 +1,6 @@
 -- The newest of a name among one more, and whether a name is among the later ones; the index of names.
-use Rattle.std.proofs.Common.{◌≡◌, ◌≤◌, ◌<◌, ◌+◌, ℕ, zero, suc, Bool, true, false, cond, ◌||◌, List, [], ◌∷◌, ◌++◌, length, drop, refl, sym, ap, ◌∙◌, subst, bytes_eq, Option, Some, None, nat_le, append_assoc, append-nil, arith, String, IsSome}
+use Rattle.std.proofs.Common.{◌≡◌, ◌≤◌, ◌<◌, ◌+◌, ℕ, zero, suc, Bool, true, false, cond, ◌||◌, List, [], ◌∷◌, ◌++◌, length, drop, refl, sym, ap, ◌∙◌, subst, bytes_eq, Option, Some, None, nat_le}
+use Rattle.std.proofs.Common.{append_assoc, append-nil, arith, String, IsSome}
 use Rattle.std.specs.List.{list_any}
 use Rattle.std.specs.declared.alloc.Global.{Global}
 use Rattle.std.proofs.Math.Bool.{or-false, or-true}

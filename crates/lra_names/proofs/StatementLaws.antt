@@ -1,12 +1,14 @@
 -- How many labels the parts of statements have; how scopes are left; lists of items.
-use Rattle.std.proofs.Common.{◌≡◌, ℕ, suc, ◌+◌, List, [], ◌∷◌, ◌++◌, length, map, refl, sym, ap, ◌∙◌, append_assoc, append-nil, length-append, arith, Option, Some, None, option_map, rules, Vec, Box, Global, Result, Ok, Err}
+use Rattle.std.proofs.Common.{◌≡◌, ℕ, suc, ◌+◌, List, [], ◌∷◌, ◌++◌, length, map, refl, sym, ap, ◌∙◌, append_assoc, append-nil, length-append, arith, Option, Some, None, option_map, rules, Vec, Box}
+use Rattle.std.proofs.Common.{Global, Result, Ok, Err}
 use Rattle.std.specs.Result.{IfOk, OnOk}
 use Rattle.lra_base.specs.declared.error.SourceError.{SourceError}
 use Rattle.std.proofs.lemmas.List.{length-map, map-append, take-append-le}
 use Rattle.std.proofs.Math.Seq.{take-length}
 use Rattle.std.proofs.Math.Nat.{le-max_left, le-max_right}
 use Rattle.lra_base.specs.declared.refusals.Place.{Place}
-use Rattle.lra_tree.specs.Trees.{CondTree, AssignTree, DeclaratorTree, DeclarationTree, InitTree, no_init, declared, assigned, StmtTree, block, if_only, while, if_else, for, ItemsTree, no_items, declaration, statement, FunctionTree, nothing, assign, call, break, continue, return, assert, assume}
+use Rattle.lra_tree.specs.Trees.{CondTree, AssignTree, DeclaratorTree, DeclarationTree, InitTree, no_init, declared, assigned, StmtTree, block, if_only, while, if_else, for, ItemsTree, no_items}
+use Rattle.lra_tree.specs.Trees.{declaration, statement, FunctionTree, nothing, assign, call, break, continue, return, assert, assume}
 use Rattle.lra_program.specs.declared.program.BlockItem.{BlockItem, the_lemmas}
 use Rattle.lra_program.specs.declared.program.BlockItem as program_item
 use Rattle.lra_program.specs.declared.program.Stmt.{Stmt as ProgramStmt}

@@ -2,7 +2,8 @@
 use Rattle.std.specs.Prelude.{◌≡◌, ℕ, List, [], ◌∷◌, ◌++◌, Option, flat_map}
 use Rattle.lra_base.specs.declared.refusals.Place.{Place}
 use Rattle.lra_tree.specs.Trees.{AssignTree, DeclaratorTree, InitTree, ItemsTree, FunctionTree}
-use Rattle.lra_tree.specs.Labels.{Labelled, plain_label, with_names, declarator_labels, init_labels, step_labels, items_labels, live_in_for, function_labels}
+use Rattle.lra_tree.specs.Labels.{Labelled, plain_label, with_names, declarator_labels, init_labels, step_labels}
+use Rattle.lra_tree.specs.Labels.{items_labels, live_in_for, function_labels}
 
 pub record LabelsSoFar : Type 0 where
   -- the function's variables that live now, oldest first
@@ -34,7 +35,8 @@ pub record Follows (old new : LabelsSoFar) (all : ItemsTree → ItemsTree) : Typ
 
 -- the labels of a block's items, so that its end can follow
 pub record Fills (old new : LabelsSoFar) (items : ItemsTree) : Type 0 where
-  pub labels : (end : Place) → new.labels ++ plain_label end new.live ∷ [] ≡ old.labels ++ items_labels old.live items end
+  pub labels : (end : Place) → new.labels ++ plain_label end new.live ∷ [] ≡
+      old.labels ++ items_labels old.live items end
   pub live : Extends old.live new.live
 
 -- a `for` without its body: its own label, how it begins, its step

@@ -1,13 +1,17 @@
 //! Calls, and what variables get.
 
-ghost use Rattle.std.specs.Prelude.{◌≡◌, ◌||◌, ◌&&◌, not, nat_eq, ◌∷◌, ◌++◌, [], map, length, flat_map, Option, Some, None, option_map, IfOk};
+ghost use Rattle.std.specs.Prelude.{◌≡◌, ◌||◌, ◌&&◌, not, nat_eq, ◌∷◌, ◌++◌, [], map, length, flat_map, Option, Some};
+ghost use Rattle.std.specs.Prelude.{None, option_map, IfOk};
 ghost use Rattle.lra_program.specs.Program.{assign as assign_stmt, binary, literal, read, value};
 ghost use Rattle.lra_base.specs.OperatorViews.{operator_view};
-ghost use Rattle.lra_tree.specs.Views.{step_view, expr_view as tree_expr_view, call_view as tree_call_view, source_view as tree_source_view, assign_view};
+ghost use Rattle.lra_tree.specs.Views.{step_view, expr_view as tree_expr_view, call_view as tree_call_view};
+ghost use Rattle.lra_tree.specs.Views.{source_view as tree_source_view, assign_view};
 ghost use Rattle.lra_program.specs.ProgramViews.{slot_view, expr_view, call_view, source_view, given_view, stmt_view};
 ghost use Rattle.lra_tree.specs.Functions.{function_named};
-ghost use Rattle.lra_meaning.specs.NameFaults.{use_faults, expr_faults, called_faults, call_faults, source_faults, given_faults, assign_faults};
-ghost use Rattle.lra_meaning.specs.Resolve.{variable, function_place, resolve_expr, resolve_call, resolve_source, resolve_given, resolve_assign, step_operator};
+ghost use Rattle.lra_meaning.specs.NameFaults.{use_faults, expr_faults, called_faults, call_faults, source_faults};
+ghost use Rattle.lra_meaning.specs.NameFaults.{given_faults, assign_faults};
+ghost use Rattle.lra_meaning.specs.Resolve.{variable, function_place, resolve_expr, resolve_call, resolve_source};
+ghost use Rattle.lra_meaning.specs.Resolve.{resolve_given, resolve_assign, step_operator};
 ghost use Rattle.lra_names.specs.Calls.{functions_at, argument_faults, resolve_argument};
 ghost use Rattle.lra_names.specs.Outcome.{TellsOf};
 

@@ -6,7 +6,8 @@ ghost use Rattle.lra_tree.specs.Views.{unary_view, term_view, factor_view, summa
 ghost use Rattle.lra_program.specs.ProgramViews.{slot_view, expr_view, operation_view, chained};
 ghost use Rattle.lra_meaning.specs.NameFaults.{use_faults, unary_faults, term_faults, expr_faults};
 ghost use Rattle.lra_meaning.specs.Resolve.{variable, resolve_unary, resolve_term, resolve_expr};
-ghost use Rattle.lra_names.specs.Chains.{factor_operator, sum_operator, factor_faults, resolve_factor, summand_faults, resolve_summand};
+ghost use Rattle.lra_names.specs.Chains.{factor_operator, sum_operator, factor_faults, resolve_factor, summand_faults};
+ghost use Rattle.lra_names.specs.Chains.{resolve_summand};
 ghost use Rattle.lra_names.specs.Outcome.{TellsOf};
 
 use crate::errors::refuse;

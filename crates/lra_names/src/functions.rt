@@ -1,14 +1,17 @@
 //! Functions, global variables, and the whole source.
 
-ghost use Rattle.std.specs.Prelude.{◌≡◌, ◌+◌, ◌++◌, ◌∷◌, [], ℕ, List, suc, true, false, map, length, IfOk, OnOk, IfErr, MatchOption};
+ghost use Rattle.std.specs.Prelude.{◌≡◌, ◌+◌, ◌++◌, ◌∷◌, [], ℕ, List, suc, true, false, map, length, IfOk, OnOk, IfErr};
+ghost use Rattle.std.specs.Prelude.{MatchOption};
 ghost use Rattle.std.specs.List.{list_any};
 ghost use Rattle.lra_tree.specs.Trees.{GlobalTree, PartTree, function as part_function};
 ghost use Rattle.lra_tree.specs.Views.{global_view, function_view as tree_function_view, part_view, tree_view};
 ghost use Rattle.lra_program.specs.ProgramViews.{function_view, program_view};
 ghost use Rattle.lra_meaning.specs.Scope.{function_scope};
 ghost use Rattle.lra_tree.specs.Functions.{is_main, functions_in};
-ghost use Rattle.lra_meaning.specs.NameFaults.{parameters_faults, function_faults, globals_faults, global_names, parts_faults, name_faults};
-ghost use Rattle.lra_meaning.specs.Resolve.{resolve_function, global_value, globals_in, resolve_parts, items_count, resolve};
+ghost use Rattle.lra_meaning.specs.NameFaults.{parameters_faults, function_faults, globals_faults, global_names};
+ghost use Rattle.lra_meaning.specs.NameFaults.{parts_faults, name_faults};
+ghost use Rattle.lra_meaning.specs.Resolve.{resolve_function, global_value, globals_in, resolve_parts, items_count};
+ghost use Rattle.lra_meaning.specs.Resolve.{resolve};
 ghost use Rattle.lra_names.specs.Calls.{functions_at};
 ghost use Rattle.lra_tree.specs.Labels.{function_labels, labels_of};
 ghost use Rattle.lra_names.specs.Labelling.{labels_of_functions};
@@ -289,8 +292,8 @@ impl Drop for Resolution {
     }
 }
 
-/// The program that a source means, with its statements labelled in text order from 1, and the table of these labels; or
-/// its first fault of names, or want of memory.
+/// The program that a source means, with its statements labelled in text order from 1, and the table of these labels;
+/// or its first fault of names, or want of memory.
 #[tactic(auto, using(crate::proofs::FunctionLaws::main_rules))]
 pub fn resolve(alloc: Global, tree: &Tree) -> Result<Resolution, SourceError>
     ensures told { TellsOf (name_faults (tree_view tree.now)) result }

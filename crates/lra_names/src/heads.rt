@@ -6,7 +6,8 @@ ghost use Rattle.lra_tree.specs.Views.{init_view, assign_view, cond_view as tree
 ghost use Rattle.lra_program.specs.ProgramViews.{stmt_view, items_view, item_view, cond_view};
 ghost use Rattle.lra_meaning.specs.Scope.{for_scope};
 ghost use Rattle.lra_meaning.specs.NameFaults.{cond_faults, init_faults, test_of_for_faults, step_faults};
-ghost use Rattle.lra_meaning.specs.Resolve.{resolve_cond, resolve_init, resolve_for_test, resolve_step, init_count, step_count};
+ghost use Rattle.lra_meaning.specs.Resolve.{resolve_cond, resolve_init, resolve_for_test, resolve_step, init_count};
+ghost use Rattle.lra_meaning.specs.Resolve.{step_count};
 ghost use Rattle.lra_names.specs.Calls.{functions_at};
 ghost use Rattle.lra_tree.specs.Labels.{plain_label, init_labels, step_labels, live_in_for};
 ghost use Rattle.lra_names.specs.Labelling.{Adds, for_front};

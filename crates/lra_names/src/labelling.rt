@@ -88,8 +88,8 @@ impl Labelling {
         }
     }
 
-    /// The next label, for a declarator: its variable lives behind it, and so in its call. Gives [`SourceError::Memory`]
-    /// only.
+    /// The next label, for a declarator: its variable lives behind it, and so in its call. Gives
+    /// [`SourceError::Memory`] only.
     pub fn add_declarator(
         &mut self,
         alloc: Global,

@@ -4,10 +4,12 @@ ghost use Rattle.std.specs.Prelude.{◌≡◌, ◌+◌, ◌++◌, ◌∷◌, suc
 ghost use Rattle.lra_program.specs.Program.{absent};
 ghost use Rattle.lra_tree.specs.Trees.{ItemsTree, block as tree_block};
 ghost use Rattle.lra_tree.specs.Views.{stmt_view, block_view, item_view, init_view, assign_view, cond_view};
-ghost use Rattle.lra_program.specs.ProgramViews.{stmt_view as program_stmt_view, items_view, item_view as program_item_view};
+ghost use Rattle.lra_program.specs.ProgramViews.{stmt_view as program_stmt_view, items_view};
+ghost use Rattle.lra_program.specs.ProgramViews.{item_view as program_item_view};
 ghost use Rattle.lra_meaning.specs.Scope.{for_scope};
 ghost use Rattle.lra_meaning.specs.NameFaults.{in_a_loop, cond_faults, stmt_faults, items_faults};
-ghost use Rattle.lra_meaning.specs.Resolve.{resolve_cond, resolve_init, resolve_for_test, resolve_step, resolve_stmt, resolve_items, stmt_count, items_count, init_count, step_count};
+ghost use Rattle.lra_meaning.specs.Resolve.{resolve_cond, resolve_init, resolve_for_test, resolve_step, resolve_stmt};
+ghost use Rattle.lra_meaning.specs.Resolve.{resolve_items, stmt_count, items_count, init_count, step_count};
 ghost use Rattle.lra_names.specs.Calls.{functions_at};
 ghost use Rattle.lra_names.specs.Scopes.{Extends};
 ghost use Rattle.lra_tree.specs.Labels.{plain_label, stmt_labels, live_in_for};

@@ -1,11 +1,15 @@
 -- Which tree of operations stands for which statement, with its calls written out: one case for each form of a
 -- statement.
 -- T is the list of the program's points in the order of their numbers.
-use Rattle.std.specs.Prelude.{◌≡◌, ℕ, suc, ◌+◌, ◌≤◌, Bool, true, false, List, ◌∷◌, length, Option, Some, None, slice_get, []}
-use Rattle.lra_program.specs.Program.{Slot, Expr, Cond, Call, Source, value, result, Declarator, Stmt, absent, nothing, block, assign, call, if, loop, for, break, continue, return, assert, assume, BlockItems, no_more, declaration, statement, Function, Program}
+use Rattle.std.specs.Prelude.{◌≡◌, ℕ, suc, ◌+◌, ◌≤◌, Bool, true, false, List, ◌∷◌, length, Option, Some, None}
+use Rattle.std.specs.Prelude.{slice_get, []}
+use Rattle.lra_program.specs.Program.{Slot, Expr, Cond, Call, Source, value, result, Declarator, Stmt, absent, nothing}
+use Rattle.lra_program.specs.Program.{block, assign, call, if, loop, for, break, continue, return, assert, assume}
+use Rattle.lra_program.specs.Program.{BlockItems, no_more, declaration, statement, Function, Program}
 use Rattle.lra_program.specs.Value.{index_of}
 use Rattle.lra_program.specs.Step.{Op, append, give, give_any, push, keep, test, Here, Back}
-use Rattle.lra_operations.specs.Graph.{broken, continued, returned, Node, empty, point, act, check, seq, choose, iterate, catch, leave}
+use Rattle.lra_operations.specs.Graph.{broken, continued, returned, Node, empty, point, act, check, seq, choose}
+use Rattle.lra_operations.specs.Graph.{iterate, catch, leave}
 use Rattle.lra_program.specs.Sites.{Site}
 
 -- where a statement stands: its call, how long the store is at the nearest loop, and what its return goes back to;

@@ -13,12 +13,15 @@ use Rattle.lra_tree.specs.declared.trees.Identifier.{Identifier}
 use Rattle.lra_tree.specs.declared.trees.Step.{Step}
 use Rattle.lra_tree.specs.declared.trees.Step.TheVariants as step
 use Rattle.lra_tree.specs.Texts.{Piece, Pieces, Texts, ◌⋅◌, opens, opens_at}
-use Rattle.lra_tree.specs.Trees.{StmtTree, block, nothing, assign, call, if_only, if_else, while, for, break, continue, return, assert, assume, increment, after, before, no_init, ItemsTree, no_items, declaration, statement}
+use Rattle.lra_tree.specs.Trees.{StmtTree, block, nothing, assign, call, if_only, if_else, while, for, break, continue, return, assert, assume, increment, after, before, no_init, ItemsTree, no_items}
+use Rattle.lra_tree.specs.Trees.{declaration, statement}
 use Rattle.lra_tree.specs.Views.{step_view}
 use Rattle.lra_tree.specs.Grammar.{IsAssign, IsDeclaration, IsStmt, AreItems}
 use Rattle.lra_parse.specs.Tests.{is_mark}
 use Rattle.lra_parse.specs.Reading.{Parse, stop, map_read, identifier_of, has, one_of}
-use Rattle.lra_parse.specs.Statements.{next_step, step_marks, StmtMark, at_nothing, at_if, at_while, at_for, at_break, at_continue, at_return, at_assert, at_assume, stmt_marks, stmt_mark, begins_stmt, ItemTree, declared, stated, items_from, begins_item, stated_of, item_of, items_of, body_of, block_from, too_deep, levels, branch_at, block_at, simple_at, items_at}
+use Rattle.lra_parse.specs.Statements.{next_step, step_marks, StmtMark, at_nothing, at_if, at_while, at_for, at_break, at_continue, at_return, at_assert, at_assume, stmt_marks, stmt_mark, begins_stmt}
+use Rattle.lra_parse.specs.Statements.{ItemTree, declared, stated, items_from, begins_item, stated_of, item_of, items_of, body_of, block_from, too_deep, levels, branch_at, block_at, simple_at}
+use Rattle.lra_parse.specs.Statements.{items_at}
 use Rattle.lra_parse.proofs.Marks.{is_mark_some}
 use Rattle.lra_parse.proofs.Exact.{Exact, Any, Free, Both, test, first_or, then}
 use Rattle.lra_parse.proofs.Forms.{rename, widen, retell, entry, mapped, branch, exact_stop, exact_deep}

@@ -11,19 +11,23 @@ use Rattle.lra_base.specs.declared.operators.Comparison.{Comparison}
 use Rattle.lra_base.specs.declared.operators.Comparison.TheVariants as comparison
 use Rattle.lra_base.specs.Operators as operators
 use Rattle.lra_tree.specs.Texts.{Piece, Pieces, Texts, ◌⋅◌, opens, mark as spells}
-use Rattle.lra_tree.specs.Trees.{UnaryTree, negated, positive, literal, variable, input, group, TermTree, unary, ExprTree, term, NegationTree, opposite_again, value_of_unary, group_opposed, TestTree, opposite, value, compare, group_of, ConjunctionTree, test as one_test, and, CondTree, conjunction, or}
+use Rattle.lra_tree.specs.Trees.{UnaryTree, negated, positive, literal, variable, input, group, TermTree, unary, ExprTree, term, NegationTree, opposite_again, value_of_unary, group_opposed, TestTree}
+use Rattle.lra_tree.specs.Trees.{opposite, value, compare, group_of, ConjunctionTree, test as one_test, and, CondTree, conjunction, or}
 use Rattle.lra_base.specs.OperatorViews.{comparison_view}
 use Rattle.lra_tree.specs.Grammar.{IsUnary, IsTerm, IsExpr, comparison_mark, IsStrict, IsNegation, IsTest, IsConjunction, IsCond}
 use Rattle.lra_parse.specs.Tests.{first}
 use Rattle.lra_parse.specs.Reading.{Parse, stop, seq, has}
-use Rattle.lra_parse.specs.Expressions.{factor_operator, sum_operator, comparisons, next_comparison, next_and, next_or, in_parens, summands, expr_of, unary_at, compared, from_unary, alone, after_alone, after_group, negation_of, TestMark, at_not, at_open, test_marks, test_mark, test_form, negation_form, conjunction_of, cond_of, tests, test_at, negation_at, cond_at}
+use Rattle.lra_parse.specs.Expressions.{factor_operator, sum_operator, comparisons, next_comparison, next_and, next_or, in_parens, summands, expr_of, unary_at, compared, from_unary, alone}
+use Rattle.lra_parse.specs.Expressions.{after_alone, after_group, negation_of, TestMark, at_not, at_open, test_marks, test_mark, test_form, negation_form, conjunction_of, cond_of, tests, test_at}
+use Rattle.lra_parse.specs.Expressions.{negation_at, cond_at}
 use Rattle.lra_parse.proofs.Exact.{Exact, Any, Free, Both, first_or, first_or-both, then}
 use Rattle.lra_parse.proofs.Forms.{rename, widen, entry, mapped, choose, branch, where_told, exact_done, exact_deep}
 use Rattle.lra_parse.proofs.Tokens.{IsInner, exact_operator, some_place, some_name}
 use Rattle.lra_parse.proofs.Turns.{none}
 use Rattle.lra_parse.proofs.Chain.{regroup, IsFollow, IsOperator, Split, split_more, split_start, exact_chain}
 use Rattle.lra_parse.proofs.Parts.{token, exact_behind, exact_ended, table_mark, by_table}
-use Rattle.lra_parse.proofs.ExactExpressions.{AfterTerm, AfterExpr, some_expr, TermSteps, ExprSteps, expr_follows, whole_term, whole_expr, split_term, split_expr, exact_factors, exact_summands, exact_expr_of, Of, first_opened, opened_over, exact_unary}
+use Rattle.lra_parse.proofs.ExactExpressions.{AfterTerm, AfterExpr, some_expr, TermSteps, ExprSteps, expr_follows, whole_term, whole_expr, split_term, split_expr, exact_factors, exact_summands}
+use Rattle.lra_parse.proofs.ExactExpressions.{exact_expr_of, Of, first_opened, opened_over, exact_unary}
 
 -- operators --------------------------------------------------------------------------------------------------------
 

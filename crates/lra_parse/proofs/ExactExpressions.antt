@@ -16,7 +16,8 @@ use Rattle.lra_tree.specs.Views.{further_factor, further_term}
 use Rattle.lra_tree.specs.Grammar.{IsUnary, IsTerm, IsExpr}
 use Rattle.lra_parse.specs.Tests.{first}
 use Rattle.lra_parse.specs.Reading.{Parse, stop, next_number, has}
-use Rattle.lra_parse.specs.Expressions.{factor_operators, factor_operator, sum_operators, sum_operator, factors, term_of, summands, expr_of, UnaryMark, at_minus, at_plus, at_group, at_input, unary_marks, unary_mark, read_input, atom, unary_form, unary_at, expr_at}
+use Rattle.lra_parse.specs.Expressions.{factor_operators, factor_operator, sum_operators, sum_operator, factors, term_of, summands, expr_of, UnaryMark, at_minus, at_plus, at_group, at_input}
+use Rattle.lra_parse.specs.Expressions.{unary_marks, unary_mark, read_input, atom, unary_form, unary_at, expr_at}
 use Rattle.lra_parse.proofs.Exact.{Exact, Any, Free, first_or}
 use Rattle.lra_parse.proofs.Forms.{rename, widen, entry, mapped, choose, branch, exact_deep}
 use Rattle.lra_parse.proofs.Tokens.{IsInner, exact_expect, exact_name, exact_number, exact_operator, some_place, some_name}

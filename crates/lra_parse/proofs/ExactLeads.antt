@@ -15,7 +15,8 @@ use Rattle.lra_parse.specs.declared.functions.Lead.{Lead}
 use Rattle.lra_parse.specs.declared.functions.Lead.TheVariants as lead
 use Rattle.lra_parse.specs.Tests.{is_mark}
 use Rattle.lra_parse.specs.Reading.{take_by, identifier_of, has}
-use Rattle.lra_parse.specs.Files.{is_main, next_main, HeadMark, at_int, at_type, at_void, head_mark, BuiltIn, of_input, of_assert, of_assume, built_ins, next_built_in, named, called, lead_form, plain_lead, read_lead, begins_part}
+use Rattle.lra_parse.specs.Files.{is_main, next_main, HeadMark, at_int, at_type, at_void, head_mark, BuiltIn, of_input, of_assert, of_assume, built_ins, next_built_in, named, called, lead_form}
+use Rattle.lra_parse.specs.Files.{plain_lead, read_lead, begins_part}
 use Rattle.lra_parse.proofs.Exact.{Exact, Any, Free, test, first_or}
 use Rattle.lra_parse.proofs.Forms.{rename, widen, retell, entry, mapped, choose, branch, exact_stop, exact_take}
 use Rattle.lra_parse.proofs.Tokens.{IsInner, name_is, exact_name, exact_operator, some_place, some_name}

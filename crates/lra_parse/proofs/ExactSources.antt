@@ -11,7 +11,8 @@ use Rattle.lra_tree.specs.declared.trees.Identifier.{Identifier}
 use Rattle.lra_tree.specs.declared.trees.SumOperator.{SumOperator}
 use Rattle.lra_tree.specs.declared.trees.SumOperator.TheVariants as sum
 use Rattle.lra_tree.specs.Texts.{Pieces, Texts, ◌⋅◌, opens, mark as spells, name, separated}
-use Rattle.lra_tree.specs.Trees.{UnaryTree, negated, positive, literal, variable, input, group, TermTree, unary, times, over, modulo, ExprTree, term, plus, minus, CallTree, SourceTree, expression, result}
+use Rattle.lra_tree.specs.Trees.{UnaryTree, negated, positive, literal, variable, input, group, TermTree, unary, times, over, modulo, ExprTree, term, plus, minus, CallTree, SourceTree, expression}
+use Rattle.lra_tree.specs.Trees.{result}
 use Rattle.lra_tree.specs.Views.{further_factor, further_term}
 use Rattle.lra_tree.specs.Grammar.{IsUnary, IsTerm, IsExpr, IsCall, IsSource}
 use Rattle.lra_parse.specs.Tests.{is_mark}
@@ -24,7 +25,8 @@ use Rattle.lra_parse.proofs.Tokens.{IsInner, exact_expect, exact_name, some_plac
 use Rattle.lra_parse.proofs.Turns.{none}
 use Rattle.lra_parse.proofs.Chain.{regroup, AfterLast, no_steps, first_of_steps}
 use Rattle.lra_parse.proofs.Parts.{token, exact_behind, exact_ended}
-use Rattle.lra_parse.proofs.ExactExpressions.{factor_mark, sum_mark, AfterTerm, AfterExpr, some_expr, TermSteps, ExprSteps, expr_follows, whole_term, whole_expr, split_term, split_expr, exact_factors, exact_summands, Of, first_opened, exact_unary, exact_expr}
+use Rattle.lra_parse.proofs.ExactExpressions.{factor_mark, sum_mark, AfterTerm, AfterExpr, some_expr, TermSteps, ExprSteps, expr_follows, whole_term, whole_expr, split_term, split_expr, exact_factors}
+use Rattle.lra_parse.proofs.ExactExpressions.{exact_summands, Of, first_opened, exact_unary, exact_expr}
 use Rattle.lra_parse.proofs.ExactConditions.{expr_begun, begun_long, begun_first}
 use Rattle.lra_parse.proofs.ExactLists.{AfterCommas, exact_commas}
 

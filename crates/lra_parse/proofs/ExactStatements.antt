@@ -10,12 +10,14 @@ use Rattle.lra_tree.specs.declared.trees.Identifier.{Identifier}
 use Rattle.lra_tree.specs.declared.trees.Step.{Step}
 use Rattle.lra_tree.specs.declared.trees.Step.TheVariants as step
 use Rattle.lra_tree.specs.Texts.{Pieces, Texts, ◌⋅◌, opens, mark as spells, opens_at, name}
-use Rattle.lra_tree.specs.Trees.{CondTree, CallTree, AssignTree, increment, after, InitTree, StmtTree, block, nothing, assign, call, if_only, if_else, while, for, break, continue, return, assert, assume}
+use Rattle.lra_tree.specs.Trees.{CondTree, CallTree, AssignTree, increment, after, InitTree, StmtTree, block, nothing, assign, call, if_only, if_else, while, for, break, continue, return, assert}
+use Rattle.lra_tree.specs.Trees.{assume}
 use Rattle.lra_tree.specs.Grammar.{InParens, IsSource, IsAssign, TakesElse, IsStmt}
 use Rattle.lra_parse.specs.Tests.{is_mark}
 use Rattle.lra_parse.specs.Reading.{Parse, seq, next_name, has}
 use Rattle.lra_parse.specs.Expressions.{in_parens, cond_at}
-use Rattle.lra_parse.specs.Statements.{StmtMark, at_nothing, at_if, at_while, at_for, at_break, at_continue, at_return, at_assert, at_assume, stmt_mark, else_part, read_if, read_while, for_of, read_for, read_jump, read_return, read_check, named_rest, read_assigned, simple_form, simple_of}
+use Rattle.lra_parse.specs.Statements.{StmtMark, at_nothing, at_if, at_while, at_for, at_break, at_continue, at_return, at_assert, at_assume, stmt_mark, else_part, read_if, read_while, for_of}
+use Rattle.lra_parse.specs.Statements.{read_for, read_jump, read_return, read_check, named_rest, read_assigned, simple_form, simple_of}
 use Rattle.lra_parse.proofs.Exact.{Exact, Any, Free, Both, first_or, then}
 use Rattle.lra_parse.proofs.Forms.{rename, widen, entry, given as given_fact, mapped, choose, branch, where_told, exact_done}
 use Rattle.lra_parse.proofs.Tokens.{IsInner, exact_expect_at, exact_name, some_place}
@@ -24,7 +26,8 @@ use Rattle.lra_parse.proofs.Parts.{token, exact_behind, exact_ended}
 use Rattle.lra_parse.proofs.ExactExpressions.{Of, first_opened}
 use Rattle.lra_parse.proofs.ExactConditions.{some_cond, exact_cond, exact_parens}
 use Rattle.lra_parse.proofs.ExactSources.{CallText, exact_call_rest, call_out, call_in}
-use Rattle.lra_parse.proofs.ExactAssignments.{mark_of_step, RestText, rest_assign, rest_no_open, BeforeText, NamedText, from_assign, exact_assign_rest, exact_assign, placed_first, assign_no_mark, assign_stops}
+use Rattle.lra_parse.proofs.ExactAssignments.{mark_of_step, RestText, rest_assign, rest_no_open, BeforeText, NamedText, from_assign, exact_assign_rest, exact_assign, placed_first, assign_no_mark}
+use Rattle.lra_parse.proofs.ExactAssignments.{assign_stops}
 use Rattle.lra_parse.proofs.ExactHeads.{OptionText, exact_returned, to_returned, from_returned, HeadText, some_head, exact_head, head_rest, rest_head}
 
 -- statements -------------------------------------------------------------------------------------------------------

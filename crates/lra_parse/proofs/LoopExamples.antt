@@ -7,7 +7,8 @@ use Rattle.lra_tree.specs.declared.trees.Identifier.{Identifier}
 use Rattle.lra_base.specs.Operators.{below}
 use Rattle.lra_tree.specs.Faults.{IsTree, IsTextFault}
 use Rattle.lra_tree.specs.Grammar.{Spells}
-use Rattle.lra_tree.specs.Trees.{literal, unary, ExprTree, term, value, conjunction, test, CondTree, expression, DeclarationTree, no_init, declared, StmtTree, block, nothing, if_only, if_else, while, for, break, return, ItemsTree, no_items, declaration, statement, function, FileTree, variable, compare, set, increment, before, assigned, continue}
+use Rattle.lra_tree.specs.Trees.{literal, unary, ExprTree, term, value, conjunction, test, CondTree, expression, DeclarationTree, no_init, declared, StmtTree, block, nothing, if_only, if_else, while}
+use Rattle.lra_tree.specs.Trees.{for, break, return, ItemsTree, no_items, declaration, statement, function, FileTree, variable, compare, set, increment, before, assigned, continue}
 use Rattle.lra_parse.specs.Reading.{Text, loop}
 use Rattle.lra_parse.specs.Expressions.{unary_at, tests}
 use Rattle.lra_parse.specs.Statements.{levels}

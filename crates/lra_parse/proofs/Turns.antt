@@ -8,7 +8,8 @@ use Rattle.lra_tree.specs.Texts.{Piece, Pieces, plain}
 use Rattle.lra_parse.specs.declared.reading.Fault.{Fault}
 use Rattle.lra_parse.specs.Tests.{first}
 use Rattle.lra_parse.specs.Reading.{Text, Read, Parse, stop, ◌>>=◌, done_with, loop, turns}
-use Rattle.lra_parse.proofs.Exact.{Low, Within, Goes, Exact, bind_ok, bind_err, ok_is, test, first_same, plain-then, Low-append, Low-left, Low-right, Within-append, Goes-more, in_first, in_second, lies, first_or, first_or-on, nonempty, same_split}
+use Rattle.lra_parse.proofs.Exact.{Low, Within, Goes, Exact, bind_ok, bind_err, ok_is, test, first_same, plain-then, Low-append, Low-left, Low-right, Within-append, Goes-more, in_first, in_second}
+use Rattle.lra_parse.proofs.Exact.{lies, first_or, first_or-on, nonempty, same_split}
 
 -- b comes from a by steps, one after the other
 pub data Steps {A : Type 0} (S : A → A → Pieces → Type 0) (b : A) : A → Pieces → Type 0 where

@@ -23,7 +23,8 @@ use Rattle.lra_parse.specs.declared.reading.Stopped.{Stopped}
 use Rattle.lra_parse.specs.declared.reading.Stopped.TheVariants as stopped
 use Rattle.lra_parse.specs.Reading.{Text, Read, Gives, GivesErr}
 use Rattle.lra_tree.specs.Trees as tree
-use Rattle.lra_tree.specs.Views.{unary_view, unary_step, factor_view, factor_step, term_view, term_step, summand_view, summand_step, expr_view, expr_step, product, sum_of, further_factor, further_term, negation_view, negation_step, test_view, test_step, conjunction_view, conjunction_step, cond_view, cond_step, all_tests, any_conjunction}
+use Rattle.lra_tree.specs.Views.{unary_view, unary_step, factor_view, factor_step, term_view, term_step, summand_view, summand_step, expr_view, expr_step, product, sum_of, further_factor}
+use Rattle.lra_tree.specs.Views.{further_term, negation_view, negation_step, test_view, test_step, conjunction_view, conjunction_step, cond_view, cond_step, all_tests, any_conjunction}
 
 pub literal_is : (n : ℕ) → unary_view (Literal n) ≡ tree.literal n
 literal_is n = search (rules, the_lemmas)

@@ -10,11 +10,15 @@ use Rattle.lra_tree.specs.declared.trees.SumOperator.{SumOperator}
 use Rattle.lra_tree.specs.declared.trees.SumOperator.TheVariants as sum
 use Rattle.lra_base.specs.declared.operators.Comparison.{Comparison}
 use Rattle.lra_base.specs.declared.operators.Comparison.TheVariants as comparison
-use Rattle.lra_tree.specs.Trees.{UnaryTree, negated, positive, literal, variable, input, group, TermTree, unary, ExprTree, term, NegationTree, opposite_again, value_of_unary, group_opposed, TestTree, opposite, value, compare, group_of, ConjunctionTree, test, and, CondTree, conjunction, or}
+use Rattle.lra_tree.specs.Trees.{UnaryTree, negated, positive, literal, variable, input, group, TermTree, unary}
+use Rattle.lra_tree.specs.Trees.{ExprTree, term, NegationTree, opposite_again, value_of_unary, group_opposed, TestTree}
+use Rattle.lra_tree.specs.Trees.{opposite, value, compare, group_of, ConjunctionTree, test, and, CondTree, conjunction}
+use Rattle.lra_tree.specs.Trees.{or}
 use Rattle.lra_tree.specs.Views.{further_factor, further_term}
 use Rattle.lra_base.specs.OperatorViews.{comparison_view}
 use Rattle.lra_parse.specs.Tests.{first}
-use Rattle.lra_parse.specs.Reading.{Parse, stop, seq, map_read, done_with, expect, take_by, next_name, next_number, has, one_of, chain, chain_rest}
+use Rattle.lra_parse.specs.Reading.{Parse, stop, seq, map_read, done_with, expect, take_by, next_name, next_number, has}
+use Rattle.lra_parse.specs.Reading.{one_of, chain, chain_rest}
 
 -- operators --------------------------------------------------------------------------------------------------------
 

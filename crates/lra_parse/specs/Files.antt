@@ -1,5 +1,6 @@
 -- The reader of a whole file, and the shape of the lists of tokens that are read.
-use Rattle.std.specs.Prelude.{◌≡◌, ◌≢◌, ℕ, ◌<◌, ℤ, pos, neg_ℤ, ⊤, Bool, true, false, cond, bytes_eq, codes, List, [], ◌∷◌, ◌++◌, Option, Some, None, option_map}
+use Rattle.std.specs.Prelude.{◌≡◌, ◌≢◌, ℕ, ◌<◌, ℤ, pos, neg_ℤ, ⊤, Bool, true, false, cond, bytes_eq, codes, List, []}
+use Rattle.std.specs.Prelude.{◌∷◌, ◌++◌, Option, Some, None, option_map}
 use Rattle.std.specs.List.{AllByRecursion}
 use Rattle.lra_base.specs.declared.refusals.Place.{Place}
 use Rattle.lra_base.specs.declared.refusals.Cause.TheVariants.{Syntax}
@@ -13,7 +14,8 @@ use Rattle.lra_tree.specs.Trees.{ItemsTree, FunctionTree, GlobalTree, PartTree, 
 use Rattle.lra_parse.specs.declared.functions.Lead.{Lead}
 use Rattle.lra_parse.specs.declared.functions.Lead.TheVariants as lead
 use Rattle.lra_parse.specs.Tests.{first, is_mark}
-use Rattle.lra_parse.specs.Reading.{Parse, stop, seq, map_read, done_with, expect, take_by, next_name, next_number, has, one_of, list_of}
+use Rattle.lra_parse.specs.Reading.{Parse, stop, seq, map_read, done_with, expect, take_by, next_name, next_number, has}
+use Rattle.lra_parse.specs.Reading.{one_of, list_of}
 use Rattle.lra_parse.specs.Expressions.{behind, ended}
 use Rattle.lra_parse.specs.Statements.{commas_from, commas, listed, type_words, body_of, items_at}
 

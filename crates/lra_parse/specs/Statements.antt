@@ -1,5 +1,6 @@
 -- Readers of calls, assignments, declarations and statements. d levels of nesting are left.
-use Rattle.std.specs.Prelude.{◌≡◌, ℕ, zero, suc, Bool, true, cond, ◌||◌, List, [], ◌∷◌, Option, Some, None, Ok, option_map}
+use Rattle.std.specs.Prelude.{◌≡◌, ℕ, zero, suc, Bool, true, cond, ◌||◌, List, [], ◌∷◌, Option, Some, None, Ok}
+use Rattle.std.specs.Prelude.{option_map}
 use Rattle.lra_base.specs.declared.refusals.Place.{Place}
 use Rattle.lra_base.specs.declared.refusals.Cause.TheVariants.{Syntax, TooDeep}
 use Rattle.lra_tree.specs.declared.tokens.Mark.{Mark}
@@ -10,11 +11,16 @@ use Rattle.lra_base.specs.declared.operators.Operator.{Operator}
 use Rattle.lra_base.specs.declared.operators.Operator.TheVariants as operator
 use Rattle.lra_tree.specs.declared.trees.Step.{Step}
 use Rattle.lra_tree.specs.declared.trees.Step.TheVariants as step
-use Rattle.lra_tree.specs.Trees.{UnaryTree, variable, unary, ExprTree, term, CondTree, CallTree, SourceTree, expression, result, AssignTree, set, update, after, before, DeclaratorTree, DeclarationTree, InitTree, no_init, assigned, declared as declared_first, StmtTree, block, nothing, assign, call, if_only, if_else, while, for, break, continue, return, assert, assume, ItemsTree, no_items, declaration, statement}
+use Rattle.lra_tree.specs.Trees.{UnaryTree, variable, unary, ExprTree, term, CondTree, CallTree, SourceTree, expression}
+use Rattle.lra_tree.specs.Trees.{result, AssignTree, set, update, after, before, DeclaratorTree, DeclarationTree}
+use Rattle.lra_tree.specs.Trees.{InitTree, no_init, assigned, declared as declared_first, StmtTree, block, nothing}
+use Rattle.lra_tree.specs.Trees.{assign, call, if_only, if_else, while, for, break, continue, return, assert, assume}
+use Rattle.lra_tree.specs.Trees.{ItemsTree, no_items, declaration, statement}
 use Rattle.lra_base.specs.OperatorViews.{operator_view}
 use Rattle.lra_tree.specs.Views.{step_view}
 use Rattle.lra_parse.specs.Tests.{first, is_mark}
-use Rattle.lra_parse.specs.Reading.{Text, Parse, stop, seq, map_read, done_with, tail, expect, expect_at, place_of, take_by, next_name, has, one_of, list_of}
+use Rattle.lra_parse.specs.Reading.{Text, Parse, stop, seq, map_read, done_with, tail, expect, expect_at, place_of}
+use Rattle.lra_parse.specs.Reading.{take_by, next_name, has, one_of, list_of}
 use Rattle.lra_parse.specs.Expressions.{behind, ended, in_parens, factors, summands, unary_at, expr_at, cond_at}
 
 -- the text behind the mark, if it is there

@@ -4,7 +4,9 @@ ghost use Rattle.std.specs.Prelude.{◌≡◌, ◌<◌, ◌≤◌, length, IfOk}
 ghost use Rattle.lra_tree.specs.Views.{assign_view, declarator_view, declaration_view};
 ghost use Rattle.lra_parse.specs.Tests.{first};
 ghost use Rattle.lra_parse.specs.Reading.{Gives, map_read};
-ghost use Rattle.lra_parse.specs.Statements.{skip, commas, update_operator, next_step, assign_rest, step_first, assign_at, type_words, given, declarator_at, declaration_of, declaration_at};
+ghost use Rattle.lra_parse.specs.Statements.{skip, commas, update_operator, next_step, assign_rest, step_first};
+ghost use Rattle.lra_parse.specs.Statements.{assign_at, type_words, given, declarator_at, declaration_of};
+ghost use Rattle.lra_parse.specs.Statements.{declaration_at};
 
 use crate::calls::read_source;
 use crate::expressions::read_expr;

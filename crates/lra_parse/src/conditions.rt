@@ -2,10 +2,12 @@
 
 ghost use Rattle.std.specs.Prelude.{◌≡◌, ◌≤◌, length, map, IfOk, MatchResult};
 ghost use Rattle.lra_tree.specs.Trees.{test, conjunction, opposite_again};
-ghost use Rattle.lra_tree.specs.Views.{all_tests, any_conjunction, expr_view, test_view, negation_view, conjunction_view, cond_view};
+ghost use Rattle.lra_tree.specs.Views.{all_tests, any_conjunction, expr_view, test_view, negation_view};
+ghost use Rattle.lra_tree.specs.Views.{conjunction_view, cond_view};
 ghost use Rattle.lra_parse.specs.Tests.{first};
 ghost use Rattle.lra_parse.specs.Reading.{Gives};
-ghost use Rattle.lra_parse.specs.Expressions.{next_comparison, unary_at, compared, alone, after_group, opposed_at, closed_at, test_at, negation_at, negation_of, conjunction_at, cond_at};
+ghost use Rattle.lra_parse.specs.Expressions.{next_comparison, unary_at, compared, alone, after_group, opposed_at};
+ghost use Rattle.lra_parse.specs.Expressions.{closed_at, test_at, negation_at, negation_of, conjunction_at, cond_at};
 
 use crate::expressions::{read_expr, read_factors, read_summands, read_unary};
 use crate::reading::{Stopped, expect, next_is, stop, tail};

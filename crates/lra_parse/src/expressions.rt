@@ -5,7 +5,8 @@ ghost use Rattle.lra_tree.specs.Trees.{unary, term};
 ghost use Rattle.lra_tree.specs.Views.{unary_view, term_view, expr_view};
 ghost use Rattle.lra_parse.specs.Tests.{first};
 ghost use Rattle.lra_parse.specs.Reading.{Gives};
-ghost use Rattle.lra_parse.specs.Expressions.{factor_operator, sum_operator, unary_at, negated_at, positive_at, grouped_at, read_input, factors, term_of, summands, expr_at};
+ghost use Rattle.lra_parse.specs.Expressions.{factor_operator, sum_operator, unary_at, negated_at, positive_at};
+ghost use Rattle.lra_parse.specs.Expressions.{grouped_at, read_input, factors, term_of, summands, expr_at};
 
 use crate::reading::{Stopped, expect, next_is, next_number, read_name, stop, tail};
 use lra_base::Cause;

@@ -6,7 +6,10 @@ ghost use Rattle.lra_parse.specs.declared.functions.Lead.TheVariants as lead;
 ghost use Rattle.lra_parse.specs.Tests.{first};
 ghost use Rattle.lra_parse.specs.Reading.{Gives, map_read, take_by, has};
 ghost use Rattle.lra_parse.specs.Statements.{commas, listed};
-ghost use Rattle.lra_parse.specs.Files.{AreSmall, next_main, next_end, next_built_in, named, called, at_type, at_void, lead_form, plain_lead, read_lead, ends_parameter, name_or_none, parameter_at, parameters_at, names_of, signature_of, function_of, ending, signature_at, rest_at, part_at, begins_part, file_at};
+ghost use Rattle.lra_parse.specs.Files.{AreSmall, next_main, next_end, next_built_in, named, called, at_type, at_void};
+ghost use Rattle.lra_parse.specs.Files.{lead_form, plain_lead, read_lead, ends_parameter, name_or_none, parameter_at};
+ghost use Rattle.lra_parse.specs.Files.{parameters_at, names_of, signature_of, function_of, ending, signature_at};
+ghost use Rattle.lra_parse.specs.Files.{rest_at, part_at, begins_part, file_at};
 ghost use Rattle.lra_parse.specs.Heads.{signature_view};
 
 use crate::assignments::read_type;

@@ -8,7 +8,8 @@ ghost use Rattle.lra_tree.specs.declared.tokens.Mark.TheVariants.{Break, Continu
 ghost use Rattle.lra_parse.specs.Tests.{first, is_loop, is_jump};
 ghost use Rattle.lra_parse.specs.Reading.{Gives};
 ghost use Rattle.lra_parse.specs.Expressions.{cond_at};
-ghost use Rattle.lra_parse.specs.Statements.{source_at, assign_at, up_to, init_of, init_at, for_of, for_head_at, read_jump, read_return};
+ghost use Rattle.lra_parse.specs.Statements.{source_at, assign_at, up_to, init_of, init_at, for_of, for_head_at};
+ghost use Rattle.lra_parse.specs.Statements.{read_jump, read_return};
 ghost use Rattle.lra_parse.specs.Heads.{head_view};
 
 use crate::assignments::{read_assign, read_declaration};

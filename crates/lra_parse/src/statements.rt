@@ -7,7 +7,9 @@ ghost use Rattle.lra_tree.specs.declared.tokens.Mark.TheVariants.{Assert, Assume
 ghost use Rattle.lra_parse.specs.Tests.{first};
 ghost use Rattle.lra_parse.specs.Reading.{Gives, expect_at, map_read, has};
 ghost use Rattle.lra_parse.specs.Expressions.{in_parens, cond_at};
-ghost use Rattle.lra_parse.specs.Statements.{stmt_mark, begins_stmt, begins_item, read_nothing, named_rest, read_assigned, read_check, read_if, else_part, read_while, read_for, simple_at, branch_at, block_at, item_at, items_at, body_of, put};
+ghost use Rattle.lra_parse.specs.Statements.{stmt_mark, begins_stmt, begins_item, read_nothing, named_rest};
+ghost use Rattle.lra_parse.specs.Statements.{read_assigned, read_check, read_if, else_part, read_while, read_for};
+ghost use Rattle.lra_parse.specs.Statements.{simple_at, branch_at, block_at, item_at, items_at, body_of, put};
 
 use crate::assignments::{next_step, read_assign, read_assign_rest, read_declaration};
 use crate::calls::read_call;

@@ -1,9 +1,11 @@
 -- Runs: lists of configurations, each following the one before, from main's start with any draws of 64 bits.
 use Rattle.std.specs.Prelude.{◌≡◌, ℕ, zero, suc, ℤ, List, [], ◌∷◌, length, Option, Some, None, false, IsTrue}
 use Rattle.std.specs.List.{AllByRecursion}
-use Rattle.lra_program.specs.Program.{Stmt, absent, nothing, block, assign, call, if, loop, for, break, continue, return, assert, assume, Program}
+use Rattle.lra_program.specs.Program.{Stmt, absent, nothing, block, assign, call, if, loop, for, break, continue}
+use Rattle.lra_program.specs.Program.{return, assert, assume, Program}
 use Rattle.lra_program.specs.Value.{is_word}
-use Rattle.lra_program.specs.Step.{State, test, run_op, Here, Item, run, declare, all, end_of, turn, cut, mark, leave_call, Config, next}
+use Rattle.lra_program.specs.Step.{State, test, run_op, Here, Item, run, declare, all, end_of, turn, cut, mark}
+use Rattle.lra_program.specs.Step.{leave_call, Config, next}
 
 -- so many steps lead from the one to the other
 abbrev pub Steps : Program → ℕ → Config → Config → Type 0

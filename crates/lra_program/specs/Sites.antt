@@ -1,7 +1,10 @@
 -- The points of a program with its calls written out, in text order, a callee's points behind its call's.
 -- No path has more than 32 calls: a further one is told in place of its points.
-use Rattle.std.specs.Prelude.{ℕ, zero, suc, ◌+◌, Bool, true, false, List, [], ◌∷◌, ◌++◌, length, Option, Some, None, slice_get}
-use Rattle.lra_program.specs.Program.{Call, Source, value, result, Stmt, absent, nothing, block, assign, call, if, loop, for, break, continue, return, assert, assume, BlockItems, no_more, declaration, statement, Function, Program}
+use Rattle.std.specs.Prelude.{ℕ, zero, suc, ◌+◌, Bool, true, false, List, [], ◌∷◌, ◌++◌, length, Option, Some, None}
+use Rattle.std.specs.Prelude.{slice_get}
+use Rattle.lra_program.specs.Program.{Call, Source, value, result, Stmt, absent, nothing, block, assign, call, if, loop}
+use Rattle.lra_program.specs.Program.{for, break, continue, return, assert, assume, BlockItems, no_more, declaration}
+use Rattle.lra_program.specs.Program.{statement, Function, Program}
 
 -- a point: its calls, the innermost first, its label, how many variables live there, and whether it is an assertion
 pub record Site : Type 0 where

@@ -1,7 +1,10 @@
 -- One step of a run. A configuration is a list of pending items, the call that runs, and a state; the top item decides,
 -- and exactly one case applies to it. The step is a function, since a state holds the draws that are left.
-use Rattle.std.specs.Prelude.{ℕ, ◌+◌, ℤ, List, [], ◌∷◌, ◌++◌, length, take, Option, Some, None, Bool, true, false, slice_get, slice_set}
-use Rattle.lra_program.specs.Program.{Expr, Cond, Call, Source, value, result, Declarator, Stmt, absent, nothing, block, assign, call, if, loop, for, break, continue, return, assert, assume, BlockItems, no_more, declaration, statement, Function, Program}
+use Rattle.std.specs.Prelude.{ℕ, ◌+◌, ℤ, List, [], ◌∷◌, ◌++◌, length, take, Option, Some, None, Bool, true, false}
+use Rattle.std.specs.Prelude.{slice_get, slice_set}
+use Rattle.lra_program.specs.Program.{Expr, Cond, Call, Source, value, result, Declarator, Stmt, absent, nothing, block}
+use Rattle.lra_program.specs.Program.{assign, call, if, loop, for, break, continue, return, assert, assume, BlockItems}
+use Rattle.lra_program.specs.Program.{no_more, declaration, statement, Function, Program}
 use Rattle.lra_program.specs.Value.{◌>>=◌, index_of, Drawn, draw, value_of, values_of, truth_of}
 
 -- the variables, oldest first, and the draws that are left

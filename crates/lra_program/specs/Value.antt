@@ -1,9 +1,12 @@
 -- The value of an expression and of a condition, with the draws that are left; none where the run stops:
 -- at a number that doesn't fit 64 bits, at a divisor 0, at -2^63 divided by -1 (also for `%`), and where a draw is
 -- needed and none is left (ISO/IEC 9899:2011, 6.5; overflow, undefined there, ends the run here).
-use Rattle.std.specs.Prelude.{ℕ, zero, suc, ℤ, pos, negsuc, ◌+ℤ◌, ◌-ℤ◌, ◌*ℤ◌, ◌+◌, List, [], ◌∷◌, Option, Some, None, Bool, true, false, not, if◌then◌else◌, slice_get, int_div, int_rem, int_lt, int_le}
-use Rattle.lra_program.specs.Program.{Slot, global, local, Expr, literal, read, input, negate, binary, Cond, compare, nonzero, opposite, both_of, either_of}
-use Rattle.lra_base.specs.Operators.{Operator, plus, minus, times, over, modulo, Comparison, below, at_most, above, at_least, equal, differs}
+use Rattle.std.specs.Prelude.{ℕ, zero, suc, ℤ, pos, negsuc, ◌+ℤ◌, ◌-ℤ◌, ◌*ℤ◌, ◌+◌, List, [], ◌∷◌, Option, Some, None}
+use Rattle.std.specs.Prelude.{Bool, true, false, not, if◌then◌else◌, slice_get, int_div, int_rem, int_lt, int_le}
+use Rattle.lra_program.specs.Program.{Slot, global, local, Expr, literal, read, input, negate, binary, Cond, compare}
+use Rattle.lra_program.specs.Program.{nonzero, opposite, both_of, either_of}
+use Rattle.lra_base.specs.Operators.{Operator, plus, minus, times, over, modulo, Comparison, below, at_most, above}
+use Rattle.lra_base.specs.Operators.{at_least, equal, differs}
 
 -- go on with what is there
 infixl 10 ◌>>=◌

@@ -1,9 +1,13 @@
 -- Well-formed programs: what holds of the program that a source without faults means. A program made by hand may have a
 -- number past 64 bits, one label twice, a variable that isn't there or a call without a callee; its runs are told all
 -- the same, and stop or go on as they may.
-use Rattle.std.specs.Prelude.{◌≡◌, ℕ, suc, ◌<◌, Bool, true, false, List, [], ◌∷◌, ◌++◌, length, Option, Some, None, slice_get, IsTrue, ⊤}
+use Rattle.std.specs.Prelude.{◌≡◌, ℕ, suc, ◌<◌, Bool, true, false, List, [], ◌∷◌, ◌++◌, length, Option, Some, None}
+use Rattle.std.specs.Prelude.{slice_get, IsTrue, ⊤}
 use Rattle.std.specs.List.{AllByRecursion, Contains, flat_map, range_with_len}
-use Rattle.lra_program.specs.Program.{Slot, global, local, Expr, literal, read, input, negate, binary, Cond, compare, nonzero, opposite, both_of, either_of, Call, Source, value, result, Stmt, absent, nothing, block, assign, call, if, loop, for, break, continue, return, assert, assume, BlockItems, no_more, declaration, statement, Function, Program}
+use Rattle.lra_program.specs.Program.{Slot, global, local, Expr, literal, read, input, negate, binary, Cond, compare}
+use Rattle.lra_program.specs.Program.{nonzero, opposite, both_of, either_of, Call, Source, value, result, Stmt, absent}
+use Rattle.lra_program.specs.Program.{nothing, block, assign, call, if, loop, for, break, continue, return, assert}
+use Rattle.lra_program.specs.Program.{assume, BlockItems, no_more, declaration, statement, Function, Program}
 use Rattle.lra_program.specs.Value.{is_word}
 use Rattle.lra_program.specs.Sites.{live_behind}
 

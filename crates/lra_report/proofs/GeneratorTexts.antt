@@ -1,5 +1,6 @@
 -- One text, one generator.
-use Rattle.std.proofs.Common.{◌≡◌, ℕ, zero, suc, ◌<◌, ◌≤◌, ◌*◌, ◌/◌, ◌%◌, ℤ, pos, negsuc, nat_abs, nat_eq, neg_ℤ, ◌*ℤ◌, int_div, Bool, true, false, List, [], ◌∷◌, ◌++◌, length, codes, if◌then◌else◌, refl, ap, sym, ◌∙◌, subst, arith, append_assoc}
+use Rattle.std.proofs.Common.{◌≡◌, ℕ, zero, suc, ◌<◌, ◌≤◌, ◌*◌, ◌/◌, ◌%◌, ℤ, pos, negsuc, nat_abs, nat_eq, neg_ℤ, ◌*ℤ◌, int_div, Bool, true, false, List, [], ◌∷◌, ◌++◌, length, codes, if◌then◌else◌}
+use Rattle.std.proofs.Common.{refl, ap, sym, ◌∙◌, subst, arith, append_assoc}
 use Rattle.std.specs.Prelude.{⊤}
 use Rattle.std.specs.List.{AllByRecursion}
 use Rattle.std.specs.Char.{is_ascii_digit}

@@ -2,8 +2,10 @@
 use Rattle.std.proofs.Common.{ℕ, zero, suc, ◌+◌, ◌≤◌, List, [], ◌∷◌, length, arith, Option, Some, None, slice_get}
 use Rattle.std.specs.Prelude.{⊤}
 use Rattle.std.specs.List.{AllByRecursion}
-use Rattle.lra_program.specs.Program.{Call, Source, value, result, Stmt, absent, nothing, block, assign, call, if, loop, for, break, continue, return, assert, assume, BlockItems, no_more, declaration, statement, Function, Program}
-use Rattle.lra_program.specs.Sites.{Site, Event, comes, one_call_more, greatest_calls, plain_site, live_behind, with_init, source_events, given_events, stmt_events, items_events, function_events, call_events, events_of, sites_in, sites_of}
+use Rattle.lra_program.specs.Program.{Call, Source, value, result, Stmt, absent, nothing, block, assign, call, if, loop, for, break, continue, return, assert, assume, BlockItems, no_more, declaration}
+use Rattle.lra_program.specs.Program.{statement, Function, Program}
+use Rattle.lra_program.specs.Sites.{Site, Event, comes, one_call_more, greatest_calls, plain_site, live_behind, with_init, source_events, given_events, stmt_events, items_events, function_events}
+use Rattle.lra_program.specs.Sites.{call_events, events_of, sites_in, sites_of}
 use Rattle.lra_report.proofs.Every.{every_append}
 
 abbrev IsShallow : Event → Type 0

@@ -2,7 +2,8 @@
 
 ghost use Rattle.std.specs.Prelude.{◌≡◌, [], MatchOption, length};
 ghost use Rattle.lra_sys.specs.Listed.{FitKinds};
-ghost use Rattle.lra_report.specs.Rows.{shown_rows, shown_generators, optional_generators, FitOptionally, IsPartInRange};
+ghost use Rattle.lra_report.specs.Rows.{shown_rows, shown_generators, optional_generators, FitOptionally};
+ghost use Rattle.lra_report.specs.Rows.{IsPartInRange};
 
 use lra_sys::{ConSys, GenSys};
 use std::marker::Model;

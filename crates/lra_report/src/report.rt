@@ -63,7 +63,8 @@ impl Drop for Verdict {
     }
 }
 
-/// A report, under which options it was made. `flagged` is the number of the point to which the first flagged operation belongs.
+/// A report, under which options it was made. `flagged` is the number of the point to which the first flagged operation
+/// belongs.
 pub struct Report {
     pub options: Options,
     pub flagged: Option<u32>,

@@ -1,6 +1,7 @@
 //! The text of a generator.
 
-ghost use Rattle.std.specs.Prelude.{◌≡◌, ◌++◌, ◌∷◌, [], ℤ, pos, ◌<ℤ◌, ◌<◌, nat_abs, int_div, map, drop, OnOk, IfOk, string_bytes, length, codes};
+ghost use Rattle.std.specs.Prelude.{◌≡◌, ◌++◌, ◌∷◌, [], ℤ, pos, ◌<ℤ◌, ◌<◌, nat_abs, int_div, map, drop, OnOk, IfOk};
+ghost use Rattle.std.specs.Prelude.{string_bytes, length, codes};
 ghost use Rattle.lra_linear.specs.Range.{InRange};
 ghost use Rattle.lra_linear.specs.Vectors.{entry};
 ghost use Rattle.lra_sys.specs.Listed.{FitsKind};

@@ -1,6 +1,7 @@
 //! The text of a constraint.
 
-ghost use Rattle.std.specs.Prelude.{◌≡◌, ◌≢◌, ◌++◌, ◌<◌, ◌∷◌, [], ℤ, pos, suc, map, drop, OnOk, IfOk, string_bytes, length, not, unsigned_abs, ◌&&◌};
+ghost use Rattle.std.specs.Prelude.{◌≡◌, ◌≢◌, ◌++◌, ◌<◌, ◌∷◌, [], ℤ, pos, suc, map, drop, OnOk, IfOk, string_bytes};
+ghost use Rattle.std.specs.Prelude.{length, not, unsigned_abs, ◌&&◌};
 ghost use Rattle.lra_linear.specs.Range.{InRange};
 ghost use Rattle.lra_linear.specs.Vectors.{entry};
 ghost use Rattle.lra_findings.specs.ReportText as report;

@@ -6,7 +6,9 @@ use Rattle.std.proofs.lemmas.Option.{none-some, slice_get_within}
 use Rattle.lra_program.specs.Program.{Source, Stmt, BlockItems, Program}
 use Rattle.lra_operations.specs.Graph.{Node, seq, point}
 use Rattle.lra_program.specs.Sites.{Site, sites_of}
-use Rattle.lra_operations.specs.Inlined.{Frame, callee, Has, HasSite, Inl, InlAll, Declares, Loops, Gives, as_nothing, as_block, as_absent, as_assign, as_call, as_if, as_loop, as_for, as_break, as_continue, as_return, as_return_value, as_return_call, as_end, as_end_value, as_end_call, as_assert, as_assume, as_none, as_declaration, as_statement, as_fresh, as_given, is_loop, as_value, as_result, main_frame}
+use Rattle.lra_operations.specs.Inlined.{Frame, callee, Has, HasSite, Inl, InlAll, Declares, Loops, Gives, as_nothing, as_block, as_absent, as_assign, as_call, as_if, as_loop, as_for, as_break}
+use Rattle.lra_operations.specs.Inlined.{as_continue, as_return, as_return_value, as_return_call, as_end, as_end_value, as_end_call, as_assert, as_assume, as_none, as_declaration, as_statement}
+use Rattle.lra_operations.specs.Inlined.{as_fresh, as_given, is_loop, as_value, as_result, main_frame}
 use Rattle.lra_operations.specs.Agree.{IsGraph}
 use Rattle.lra_iter.specs.Numbers.{one_if, values_in, checks_in, asserts_of, IsNumbered}
 use Rattle.lra_iter.proofs.Counting.{one_same, one_other}

@@ -6,7 +6,9 @@ use Rattle.lra_program.specs.Step as step
 use Rattle.lra_program.specs.Step.{Op, append, give, give_any, keep, test}
 use Rattle.lra_operations.specs.Graph.{Exit, broken, continued, returned, Node, point, act, seq, catch, leave}
 use Rattle.lra_program.specs.Sites.{Site, sites_of}
-use Rattle.lra_operations.specs.Inlined.{Frame, callee, HasSite, Inl, InlAll, Declares, Loops, Gives, as_nothing, as_block, as_absent, as_assign, as_call, as_if, as_loop, as_for, as_break, as_continue, as_return, as_return_value, as_return_call, as_end, as_end_value, as_end_call, as_assert, as_assume, as_none, as_declaration, as_statement, as_fresh, as_given, is_loop, as_value, as_result, loop_node, return_node, main_frame}
+use Rattle.lra_operations.specs.Inlined.{Frame, callee, HasSite, Inl, InlAll, Declares, Loops, Gives, as_nothing, as_block, as_absent, as_assign, as_call, as_if, as_loop, as_for, as_break}
+use Rattle.lra_operations.specs.Inlined.{as_continue, as_return, as_return_value, as_return_call, as_end, as_end_value, as_end_call, as_assert, as_assume, as_none, as_declaration, as_statement}
+use Rattle.lra_operations.specs.Inlined.{as_fresh, as_given, is_loop, as_value, as_result, loop_node, return_node, main_frame}
 use Rattle.lra_operations.specs.Agree.{IsGraph}
 use Rattle.lra_change.specs.Changes.{dims_behind}
 use Rattle.lra_iter.specs.Fits.{live_behind}

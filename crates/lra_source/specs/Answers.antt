@@ -1,5 +1,5 @@
--- What a source deserves: its one refusal (`Refuse`), or a report of it that tells the analysis; over boxes and octagons
--- today.
+-- What a source deserves: its one refusal (`Refuse`), or a report of it that tells the analysis; over boxes and
+-- octagons today.
 use Rattle.std.specs.Prelude.{ℕ, List}
 use Rattle.lra_base.specs.declared.options.Domain.{Domain}
 use Rattle.lra_base.specs.declared.options.Domain.TheVariants.{Poly, Box, Oct}

@@ -4,7 +4,8 @@ ghost use Rattle.lra_tree.specs.Grammar.{Spells};
 ghost use Rattle.lra_meaning.specs.Refuse.{OneAnswer};
 ghost use Rattle.lra_flow.specs.Linear.{FormsAreRight, TestsAreRight, DiffersIsRight};
 ghost use Rattle.lra_source.specs.Soundness.{SolvedAreSound};
-ghost use Rattle.lra_source.specs.Claims.{EachAnswer, OneAnsweredText, TreesFit, TreesAreNumbered, AnalysedAreSound, AnalysedAreReports, BoxesAreShown, OctagonsAreShown};
+ghost use Rattle.lra_source.specs.Claims.{EachAnswer, OneAnsweredText, TreesFit, TreesAreNumbered, AnalysedAreSound};
+ghost use Rattle.lra_source.specs.Claims.{AnalysedAreReports, BoxesAreShown, OctagonsAreShown};
 
 use lra_domain::Domain;
 

@@ -48,8 +48,8 @@ fn check_calls(alloc: Global, tree: &Tree) -> Result<(), SourceError>
     }
 }
 
-/// The tree of operations of a program without recursion and its points; or the refusal for its first recursive call, or
-/// for the first limit that it passes.
+/// The tree of operations of a program without recursion and its points; or the refusal for its first recursive call,
+/// or for the first limit that it passes.
 pub fn graph_of(alloc: Global, tree: &Tree, resolution: &Resolution) -> Result<Graph, SourceError>
     requires program { program_view resolution.now.program ≡ resolve (tree_view tree.now) }
     requires labels { resolution.now.labels.labels ≡ labels_of (tree_view tree.now) }

@@ -1053,8 +1053,8 @@ static LINES: [(&str, Pieces, &str); 60] = [
     ),
 ];
 
-/// A source whose assertions octagons prove, and lines of its report over them: whole numbers are rounded, rows that the
-/// bounds imply aren't written, two rows make an equality.
+/// A source whose assertions octagons prove, and lines of its report over them: whole numbers are rounded, rows that
+/// the bounds imply aren't written, two rows make an equality.
 static OCTAGON_LINES: [(Pieces, &str); 4] = [
     (
         ("int main(void){ long x; if(2*x==1) assert(0); }", "", 0, ""),

@@ -10,7 +10,8 @@ use Rattle.lra_words.specs.declared.chosen.Command.TheVariants.{Analyse, Sample,
 use Rattle.lra_top.specs.SourceAnswer.{DeservesSource}
 use Rattle.lra_top.specs.ScriptAnswer.{DeservesScript}
 use Rattle.lra_top.specs.declared.status.Status.{Status}
-use Rattle.lra_top.specs.declared.status.Status.TheVariants.{Proved, Unknown, Refused, Usage, ReadFault, WriteFault, Memory}
+use Rattle.lra_top.specs.declared.status.Status.TheVariants.{Proved, Unknown, Refused, Usage, ReadFault, WriteFault}
+use Rattle.lra_top.specs.declared.status.Status.TheVariants.{Memory}
 
 -- all bytes that are left of an input, where it tells them
 abbrev pub IsInput : Option (List ℕ) → List ℕ → Type 0

@@ -11,7 +11,8 @@ use Rattle.lra_meaning.specs.Refuse.{Refuse}
 use Rattle.lra_findings.specs.RefusalText.{refusal_text}
 use Rattle.lra_source.specs.Answers.{IsAnswered}
 use Rattle.lra_top.specs.declared.status.Status.{Status}
-use Rattle.lra_top.specs.declared.status.Status.TheVariants.{Proved, Unknown, Refused, Usage, ReadFault, WriteFault, Memory}
+use Rattle.lra_top.specs.declared.status.Status.TheVariants.{Proved, Unknown, Refused, Usage, ReadFault, WriteFault}
+use Rattle.lra_top.specs.declared.status.Status.TheVariants.{Memory}
 
 -- the input has more bytes than are taken
 abbrev pub IsTooLong : List ℕ → Type 0

@@ -1,5 +1,6 @@
 // The top call.
-ghost use Rattle.std.specs.Prelude.{◌≡◌, ◌≢◌, ◌≤◌, ◌<◌, ◌+◌, ◌^◌, ℕ, Bool, List, length, map, string_bytes, IfOk, IsErrOf, Some, Ok, Err};
+ghost use Rattle.std.specs.Prelude.{◌≡◌, ◌≢◌, ◌≤◌, ◌<◌, ◌+◌, ◌^◌, ℕ, Bool, List, length, map, string_bytes, IfOk};
+ghost use Rattle.std.specs.Prelude.{IsErrOf, Some, Ok, Err};
 ghost use Rattle.std.specs.Io.KnownBytes.{Appends, Keeps};
 ghost use Rattle.lra_edge.specs.Causes.{Rose};
 ghost use Rattle.lra_edge.specs.ReadEnd.{LosesFront};
@@ -17,7 +18,8 @@ ghost use Rattle.lra_meaning.specs.Refuse.{Refuse, Accepts};
 ghost use Rattle.lra_top.specs.SourceAnswer.{IsTooLong, IsUnrefused};
 ghost use Rattle.lra_top.specs.ScriptAnswer.{DeservesScript};
 ghost use Rattle.lra_top.specs.Run.{usage_text, AsksSome, DeservesInput, IsDeserved, Writes, WritesPart, ReadsInput};
-ghost use Rattle.lra_top.specs.Ends.{EndsInUsage, EndsInRefusal, EndsInReport, EndsBySource, EndsInOutput, IsReportOrMemory, IsOutputOrMemory};
+ghost use Rattle.lra_top.specs.Ends.{EndsInUsage, EndsInRefusal, EndsInReport, EndsBySource, EndsInOutput};
+ghost use Rattle.lra_top.specs.Ends.{IsReportOrMemory, IsOutputOrMemory};
 ghost use Rattle.lra_top.specs.Prepared.{IsInputText, PrepareCause};
 
 use crate::answer::Answer;

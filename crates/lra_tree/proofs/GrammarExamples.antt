@@ -8,7 +8,8 @@ use Rattle.lra_tree.specs.declared.tokens.Mark.{Mark}
 use Rattle.lra_tree.specs.declared.tokens.Mark.TheVariants as mark
 use Rattle.lra_tree.specs.declared.tokens.Token.{Token}
 use Rattle.lra_base.specs.Operators.{below}
-use Rattle.lra_tree.specs.Trees.{group, ExprTree, value, compare, group_of, CondTree, expression, set, no_init, StmtTree, block, nothing, assign, if_only, if_else, while, for, no_items, declaration, statement, FileTree}
+use Rattle.lra_tree.specs.Trees.{group, ExprTree, value, compare, group_of, CondTree, expression, set, no_init, StmtTree, block, nothing, assign, if_only, if_else, while, for, no_items, declaration}
+use Rattle.lra_tree.specs.Trees.{statement, FileTree}
 use Rattle.lra_tree.specs.Texts.{Piece, Pieces, plain}
 use Rattle.lra_tree.specs.Grammar.{IsExpr, IsTest, IsStmt, Spells}
 use Rattle.lra_tree.specs.Faults.{IsTextFault}

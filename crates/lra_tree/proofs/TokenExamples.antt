@@ -12,7 +12,8 @@ use Rattle.lra_tree.specs.declared.tokens.Kind.{Kind}
 use Rattle.lra_tree.specs.declared.tokens.Kind.TheVariants.{Name, Number, Mark, Reserved, End}
 use Rattle.lra_tree.specs.declared.tokens.Mark.TheVariants as mark
 use Rattle.lra_tree.specs.declared.tokens.Token.{Token}
-use Rattle.lra_tree.specs.Lexeme.{octal, decimal_base, hexadecimal, IsLiteral, Base, IsFront, is_digit, is_digit_of, number_behind, greatest_literal, is_between, is_among, suffixes, word, number_word, mark_word, name, number, mark_of, reserved}
+use Rattle.lra_tree.specs.Lexeme.{octal, decimal_base, hexadecimal, IsLiteral, Base, IsFront, is_digit, is_digit_of, number_behind, greatest_literal, is_between, is_among, suffixes, word, number_word}
+use Rattle.lra_tree.specs.Lexeme.{mark_word, name, number, mark_of, reserved}
 use Rattle.lra_tree.specs.Tokens.{place_behind, blank, line_comment, block_comment, skipped_line, gap, token, Lex, IsTokenFault}
 use Rattle.lra_tree.proofs.LongestByTest.{no_gap, longest_by, as_token, is_open, no_lexeme}
 

@@ -3,7 +3,9 @@ use Rattle.std.specs.Prelude.{ℕ, List, [], ◌∷◌, codes, Option, Some, Non
 use Rattle.lra_base.specs.declared.refusals.Place.{Place}
 use Rattle.lra_tree.specs.declared.trees.Identifier.{Identifier}
 use Rattle.lra_base.specs.Operators.{below, at_least, equal}
-use Rattle.lra_tree.specs.Trees.{UnaryTree, literal, variable, unary, ExprTree, term, plus, TestTree, compare, conjunction, test, CondTree, CallTree, SourceTree, expression, result, set, DeclarationTree, declared, block, nothing, assign, if_only, for, break, continue, return, assert, ItemsTree, no_items, declaration, statement, FunctionTree, function, FileTree}
+use Rattle.lra_tree.specs.Trees.{UnaryTree, literal, variable, unary, ExprTree, term, plus, TestTree, compare, conjunction, test, CondTree, CallTree, SourceTree, expression, result, set}
+use Rattle.lra_tree.specs.Trees.{DeclarationTree, declared, block, nothing, assign, if_only, for, break, continue, return, assert, ItemsTree, no_items, declaration, statement, FunctionTree, function}
+use Rattle.lra_tree.specs.Trees.{FileTree}
 
 -- of the first line
 abbrev pub at : ℕ → Place

@@ -1,5 +1,6 @@
 -- The functions of a source, and which function a name means (ISO/IEC 9899:2011, 6.2.1).
-use Rattle.std.specs.Prelude.{ℕ, Bool, if◌then◌else◌, List, [], ◌∷◌, length, bytes_eq, Option, find, codes, nat_eq, false}
+use Rattle.std.specs.Prelude.{ℕ, Bool, if◌then◌else◌, List, [], ◌∷◌, length, bytes_eq, Option, find, codes, nat_eq}
+use Rattle.std.specs.Prelude.{false}
 use Rattle.lra_tree.specs.Trees.{FunctionTree, PartTree, prototype, globals, function, FileTree}
 
 abbrev pub functions_in : List PartTree → List FunctionTree

@@ -2,12 +2,21 @@
 -- l is the level of nesting at which a part stands, o the level that its first token opens. A function's body is level
 -- 1; a block, a branch of an `if`, a loop's body, a grouping parenthesis and a unary operator open one more, from their
 -- first to their last token.
-use Rattle.std.specs.Prelude.{◌≡◌, ℕ, ◌+◌, ◌⊎◌, ℤ, pos, neg_ℤ, Bool, true, false, List, [], ◌∷◌, codes, Option, Some, None, ⊤}
+use Rattle.std.specs.Prelude.{◌≡◌, ℕ, ◌+◌, ◌⊎◌, ℤ, pos, neg_ℤ, Bool, true, false, List, [], ◌∷◌, codes, Option, Some}
+use Rattle.std.specs.Prelude.{None, ⊤}
 use Rattle.lra_tree.specs.declared.tokens.Mark.{Mark}
 use Rattle.lra_tree.specs.declared.tokens.Mark.TheVariants as mark
 use Rattle.lra_tree.specs.declared.trees.Identifier.{Identifier}
 use Rattle.lra_base.specs.Operators as operators
-use Rattle.lra_tree.specs.Trees.{UnaryTree, negated, positive, literal, variable, input, group, TermTree, unary, times, over, modulo, ExprTree, term, plus, minus, NegationTree, opposite_again, value_of_unary, group_opposed, TestTree, opposite, value, compare, group_of, ConjunctionTree, test, and, CondTree, conjunction, or, CallTree, SourceTree, expression, result, StepTree, increment, decrement, AssignTree, set, update, after, before, DeclaratorTree, DeclarationTree, InitTree, no_init, declared, assigned, StmtTree, block, nothing, assign, call, if_only, if_else, while, for, break, continue, return, assert, assume, ItemsTree, no_items, declaration, statement, FunctionTree, GlobalTree, GlobalsTree, PartTree, prototype, globals, function, FileTree}
+use Rattle.lra_tree.specs.Trees.{UnaryTree, negated, positive, literal, variable, input, group, TermTree, unary, times}
+use Rattle.lra_tree.specs.Trees.{over, modulo, ExprTree, term, plus, minus, NegationTree, opposite_again}
+use Rattle.lra_tree.specs.Trees.{value_of_unary, group_opposed, TestTree, opposite, value, compare, group_of}
+use Rattle.lra_tree.specs.Trees.{ConjunctionTree, test, and, CondTree, conjunction, or, CallTree, SourceTree}
+use Rattle.lra_tree.specs.Trees.{expression, result, StepTree, increment, decrement, AssignTree, set, update, after}
+use Rattle.lra_tree.specs.Trees.{before, DeclaratorTree, DeclarationTree, InitTree, no_init, declared, assigned}
+use Rattle.lra_tree.specs.Trees.{StmtTree, block, nothing, assign, call, if_only, if_else, while, for, break, continue}
+use Rattle.lra_tree.specs.Trees.{return, assert, assume, ItemsTree, no_items, declaration, statement, FunctionTree}
+use Rattle.lra_tree.specs.Trees.{GlobalTree, GlobalsTree, PartTree, prototype, globals, function, FileTree}
 use Rattle.lra_tree.specs.Texts.{Texts, ◌⋅◌, ◌∣◌, empty, opens, mark, opens_at, name, number, end_at, separated}
 
 -- expressions ------------------------------------------------------------------------------------------------------

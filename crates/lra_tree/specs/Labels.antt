@@ -5,7 +5,10 @@
 use Rattle.std.specs.Prelude.{ℕ, zero, suc, List, [], ◌∷◌, ◌++◌, map, Option, Some, None, slice_get, flat_map}
 use Rattle.lra_base.specs.declared.refusals.Place.{Place}
 use Rattle.lra_tree.specs.declared.trees.Identifier.{Identifier}
-use Rattle.lra_tree.specs.Trees.{SourceTree, expression, result, AssignTree, set, update, after, before, DeclaratorTree, InitTree, no_init, declared, assigned, StmtTree, block, nothing, assign, call, if_only, if_else, while, for, break, continue, return, assert, assume, ItemsTree, no_items, declaration, statement, FunctionTree, FileTree}
+use Rattle.lra_tree.specs.Trees.{SourceTree, expression, result, AssignTree, set, update, after, before, DeclaratorTree}
+use Rattle.lra_tree.specs.Trees.{InitTree, no_init, declared, assigned, StmtTree, block, nothing, assign, call, if_only}
+use Rattle.lra_tree.specs.Trees.{if_else, while, for, break, continue, return, assert, assume, ItemsTree, no_items}
+use Rattle.lra_tree.specs.Trees.{declaration, statement, FunctionTree, FileTree}
 use Rattle.lra_tree.specs.Functions.{functions_of}
 
 -- a statement, declarator or end of a block, which a label stands for

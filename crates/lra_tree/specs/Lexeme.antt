@@ -1,5 +1,6 @@
 -- The spellings of tokens (ISO/IEC 9899:2011, 6.4: lexical elements), each as a property of its own bytes.
-use Rattle.std.specs.Prelude.{◌≡◌, ℕ, ◌≤◌, Bool, true, false, ◌||◌, ◌&&◌, nat_eq, nat_le, List, [], ◌∷◌, ◌++◌, codes, bytes_eq, ◌*◌, ◌⊎◌, if◌then◌else◌, ◌≢◌, ◌+◌, ◌-◌}
+use Rattle.std.specs.Prelude.{◌≡◌, ℕ, ◌≤◌, Bool, true, false, ◌||◌, ◌&&◌, nat_eq, nat_le, List, [], ◌∷◌, ◌++◌, codes}
+use Rattle.std.specs.Prelude.{bytes_eq, ◌*◌, ◌⊎◌, if◌then◌else◌, ◌≢◌, ◌+◌, ◌-◌}
 use Rattle.std.specs.List.{list_all, list_any}
 use Rattle.lra_tree.specs.declared.tokens.Mark.{Mark}
 use Rattle.lra_tree.specs.declared.tokens.Mark.TheVariants as mark

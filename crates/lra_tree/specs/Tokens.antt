@@ -1,13 +1,15 @@
 -- The tokens of a source (ISO/IEC 9899:2011, 5.1.1.2 and 6.4): its bytes are a sequence of gaps, which stand for
 -- nothing, and of spellings of tokens, each the longest one at its place.
-use Rattle.std.specs.Prelude.{◌≡◌, ◌≢◌, ℕ, ◌+◌, ◌≤◌, ◌⊎◌, Bool, true, false, ◌||◌, nat_eq, List, [], ◌∷◌, ◌++◌, length, codes, if◌then◌else◌, ⊤, not}
+use Rattle.std.specs.Prelude.{◌≡◌, ◌≢◌, ℕ, ◌+◌, ◌≤◌, ◌⊎◌, Bool, true, false, ◌||◌, nat_eq, List, [], ◌∷◌, ◌++◌, length}
+use Rattle.std.specs.Prelude.{codes, if◌then◌else◌, ⊤, not}
 use Rattle.std.specs.List.{list_all}
 use Rattle.lra_base.specs.declared.refusals.Place.{Place}
 use Rattle.lra_base.specs.declared.refusals.Cause.{Cause}
 use Rattle.lra_base.specs.declared.refusals.Cause.TheVariants.{BadByte, BadLiteral}
 use Rattle.lra_tree.specs.declared.tokens.Token.{Token}
 use Rattle.lra_tree.specs.declared.tokens.Kind.TheVariants.{End}
-use Rattle.lra_tree.specs.Lexeme.{is_word_byte, is_number_word, IsLiteral, greatest_literal, IsOpen, Lexeme, SpellsToken}
+use Rattle.lra_tree.specs.Lexeme.{is_word_byte, is_number_word, IsLiteral, greatest_literal, IsOpen, Lexeme}
+use Rattle.lra_tree.specs.Lexeme.{SpellsToken}
 
 -- places -----------------------------------------------------------------------------------------------------------
 

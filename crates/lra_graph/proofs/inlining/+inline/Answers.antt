@@ -18,14 +18,18 @@ use Rattle.lra_graph.proofs.Handed.{stmt_handed, stmt_limit, loop_limit, for_lim
 use Rattle.lra_graph.proofs.Falling.{part_falls, block_falls, assign_falls, call_falls, if_falls, loop_falls, for_falls, return_falls, step_falls, body_falls, init_falls, again_falls}
 use Rattle.lra_graph.proofs.Seen.{given_seen, given_limit, given_returned, if_seen, stmt_seen, block_seen, for_seen, round_walked, loop_seen, return_seen}
 use Rattle.lra_graph.proofs.ForLoops.{only_loops}
-use Rattle.lra_graph.proofs.Shown.{shown_value, shown_result, shown_empty, shown_act, shown_leave, shown_absent, shown_nothing, shown_block, shown_assign, shown_call, shown_if, shown_loop, shown_for, shown_return, shown_break, shown_continue, shown_assert, shown_assume, shown_items}
-use Rattle.lra_graph.proofs.Writing.{stmt_as, absent_written, block_written, assign_written, call_written, if_written, rounds_written, fresh_written, given_written, value_written, return_any_written, end_any_written, for_written, return_written, return_value_written, return_call_written, end_value_written, end_call_written}
-use Rattle.lra_graph.proofs.Standing.{assigned_fits, block_stands, assign_stands, call_stands, true_stands, false_stands, return_stands, result_stands, body_stands, step_stands, init_stands, for_again, break_stands, continue_stands, callee_stands}
+use Rattle.lra_graph.proofs.Shown.{shown_value, shown_result, shown_empty, shown_act, shown_leave, shown_absent, shown_nothing, shown_block, shown_assign, shown_call, shown_if, shown_loop, shown_for}
+use Rattle.lra_graph.proofs.Shown.{shown_return, shown_break, shown_continue, shown_assert, shown_assume, shown_items}
+use Rattle.lra_graph.proofs.Writing.{stmt_as, absent_written, block_written, assign_written, call_written, if_written, rounds_written, fresh_written, given_written, value_written, return_any_written}
+use Rattle.lra_graph.proofs.Writing.{end_any_written, for_written, return_written, return_value_written, return_call_written, end_value_written, end_call_written}
+use Rattle.lra_graph.proofs.Standing.{assigned_fits, block_stands, assign_stands, call_stands, true_stands, false_stands, return_stands, result_stands, body_stands, step_stands, init_stands}
+use Rattle.lra_graph.proofs.Standing.{for_again, break_stands, continue_stands, callee_stands}
 use Rattle.lra_graph.proofs.Calling.{one_less, no_call_more, call_at_body, call_at_end, invoked}
 use Rattle.lra_graph.proofs.Programs.{called_below, called_found, called_fits, called_wide, arguments_fit}
 use Rattle.lra_graph.proofs.Items.{items_stand_as, lighter, callee_lighter}
 use Rattle.lra_graph.proofs.Sizes.{size_items}
-use Rattle.lra_graph.proofs.ItemRows.{declared_item, declared_stops, given_stops, given_item_stands, stated_item, stated_stops, stated_item_stands, item_declared, item_stated, declared_falls, stated_falls, items_begin, item_falls, item_stands, item_stopped, items_step, items_last, items_end}
+use Rattle.lra_graph.proofs.ItemRows.{declared_item, declared_stops, given_stops, given_item_stands, stated_item, stated_stops, stated_item_stands, item_declared, item_stated, declared_falls}
+use Rattle.lra_graph.proofs.ItemRows.{stated_falls, items_begin, item_falls, item_stands, item_stopped, items_step, items_last, items_end}
 use Rattle.lra_graph.proofs.inlining.+inline.Goals as goal
 use Rattle.lra_graph.proofs.inlining.+inline.Goals.{inline_return-in-Some+in_ok-left-in-Some, inline_return-in-None+in_ok-left-in-None}
 

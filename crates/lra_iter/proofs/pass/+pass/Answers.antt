@@ -10,7 +10,9 @@ use Rattle.lra_iter.specs.declared.outcome.Entry.TheVariants.{Value}
 use Rattle.lra_iter.specs.Fits.{live_behind, TreeFits}
 use Rattle.lra_iter.specs.Outcome.{seen, IsPassed, JumpsFit}
 use Rattle.lra_iter.proofs.PassLoops.{node_size, row_size, grow_starts, grow_stable, grow_next, grow_falls, narrow_starts, narrow_next, narrow_ends}
-use Rattle.lra_iter.proofs.PassSteps.{empty_view, point_view, act_view, check_view, leave_view, seq_shown, seq_sized, choose_shown, choose_sized, iterate_shown, iterate_sized, catch_shown, catch_sized, none_fits, same_jumps_fit, caught_have, entered, loop_passed, choice_passed, given_pass, given_dims, given_jumps, caught_pass, caught_dims, caught_jumps}
+use Rattle.lra_iter.proofs.PassSteps.{empty_view, point_view, act_view, check_view, leave_view, seq_shown, seq_sized, choose_shown, choose_sized, iterate_shown, iterate_sized, catch_shown}
+use Rattle.lra_iter.proofs.PassSteps.{catch_sized, none_fits, same_jumps_fit, caught_have, entered, loop_passed, choice_passed, given_pass, given_dims, given_jumps, caught_pass, caught_dims}
+use Rattle.lra_iter.proofs.PassSteps.{caught_jumps}
 use Rattle.lra_iter.proofs.PassRows.{row_at, tree_small, row_done, row_starts, next_fits, row_next, last_fits, row_ends}
 use Rattle.lra_iter.proofs.pass.+pass.Goals as goal
 

@@ -3,7 +3,8 @@ use Rattle.lra_program.specs.ProgramViews.{cond_view}
 use Rattle.lra_meaning.specs.NameFaults.{negation_faults, test_faults}
 use Rattle.lra_names.proofs.Telling.{parts_clean}
 use Rattle.lra_names.proofs.Loops.{memory_told, only_told, first_told, second_told, both_clean, part_told, made_told, found_so, all_clean, rest_clean, parts_found}
-use Rattle.lra_names.proofs.CondLaws.{faults_of_test, test_means, faults_of_conjunction, conjunction_means, code_conjunction_faults, code_cond_faults, conjunction_found, cond_found, again_is, operand_is, opposite_is, value_is, compare_is}
+use Rattle.lra_names.proofs.CondLaws.{faults_of_test, test_means, faults_of_conjunction, conjunction_means, code_conjunction_faults, code_cond_faults, conjunction_found, cond_found, again_is}
+use Rattle.lra_names.proofs.CondLaws.{operand_is, opposite_is, value_is, compare_is}
 use Rattle.lra_names.proofs.conditions.+condition.Goals as goal
 
 pub resolve_conjunction-returns-in_err-first-clause-told : goal.resolve_conjunction-returns-in_err-first-clause-told

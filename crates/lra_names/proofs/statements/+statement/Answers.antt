@@ -11,7 +11,9 @@ use Rattle.lra_names.specs.Statements.{around_of, followed}
 use Rattle.lra_names.proofs.Telling.{tells_front, tells_behind, exit_tells, rest_tells}
 use Rattle.lra_names.proofs.Loops.{parts_step, first_told, second_told, both_clean, made_told}
 use Rattle.std.proofs.lemmas.List.{at_drop_all}
-use Rattle.lra_names.proofs.StatementLaws.{extends_self, extends_then, extends_declared, declaration_counted, statement_found, block_items, block_end, kept_so, counted_so, one_counted, count_if_else, count_for, block_is, nothing_is, assign_is, call_is, break_is, continue_is, return_is, assert_is, assume_is, absent_is, choice_found, loop_found, for_found, if_is, if_else_is, while_is, for_is}
+use Rattle.lra_names.proofs.StatementLaws.{extends_self, extends_then, extends_declared, declaration_counted, statement_found, block_items, block_end, kept_so, counted_so, one_counted, count_if_else}
+use Rattle.lra_names.proofs.StatementLaws.{count_for, block_is, nothing_is, assign_is, call_is, break_is, continue_is, return_is, assert_is, assume_is, absent_is, choice_found, loop_found, for_found}
+use Rattle.lra_names.proofs.StatementLaws.{if_is, if_else_is, while_is, for_is}
 use Rattle.lra_base.specs.declared.refusals.Place.{Place}
 use Rattle.lra_tree.specs.Labels.{plain_label, stmt_labels}
 use Rattle.lra_names.specs.Labelling.{Adds}
@@ -61,7 +63,8 @@ resolve_items-items-preserved t c =
           ∙ c.in_ok-add_item.ensures.found left;
       extended = extends_then _ _ _ c.items.invariant.extended c.in_ok-add_item.ensures.extended;
       counted = c.in_ok-add_item.ensures.counted left
-          ∙ sym (parts_step (λ (fs : List (ItemsTree → ItemsTree)). c.items.labels.next + items_count (items_of fs)) item_view xs c.items.item-index c.item-item.result c.items-test.true c.item-item.is)
+          ∙ sym (parts_step (λ (fs : List (ItemsTree → ItemsTree)). c.items.labels.next + items_count (items_of fs)) item_view xs c.items.item-index c.item-item.result c.items-test.true
+          c.item-item.is)
           ∙ c.items.invariant.counted;
       reaches = reaches_step c.args.labels.now c.items.labels c.add_item.new.labels (items_of (map item_view xs)) (items_of (map item_view (drop c.items.item-index xs))) left
           (item_view c.item-item.result) (parts_step items_of item_view xs c.items.item-index c.item-item.result c.items-test.true c.item-item.is)

@@ -16,7 +16,8 @@ analyse-requires-clause-few g c = small_globals (tree_view c.args.tree.now) (nod
     (map site_view c.args.graph.now.sites.items) c.args.globals.now c.requires.graph c.requires.globals
 
 pub analyse-requires-clause-fits : goal.analyse-requires-clause-fits
-analyse-requires-clause-fits g c = fits (tree_view c.args.tree.now) (node_view c.args.graph.now.tree) (map site_view c.args.graph.now.sites.items) c.args.globals.now c.requires.graph c.requires.globals
+analyse-requires-clause-fits g c = fits (tree_view c.args.tree.now) (node_view c.args.graph.now.tree)
+    (map site_view c.args.graph.now.sites.items) c.args.globals.now c.requires.graph c.requires.globals
 
 pub analyse-requires-clause-numbered : goal.analyse-requires-clause-numbered
 analyse-requires-clause-numbered g c = is_numbered (tree_view c.args.tree.now) (node_view c.args.graph.now.tree) (map site_view c.args.graph.now.sites.items) c.requires.graph
