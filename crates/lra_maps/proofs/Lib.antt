@@ -7,3 +7,6 @@ pub mod ShortenedSets
 pub mod EmbeddedSets
 pub mod ElapsedSets
 pub mod PushedLists
+pub mod AssignedSets
+pub mod FormedLists
+pub mod SubstitutedSets

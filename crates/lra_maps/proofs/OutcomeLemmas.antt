@@ -1,5 +1,5 @@
 -- An operation that takes in generators which give its exact result.
-use Rattle.std.proofs.Common.{◌≡◌, ℕ, List, sym, subst, inl, inr}
+use Rattle.std.proofs.Common.{◌≡◌, ◌≢◌, ℕ, List, refl, sym, subst, inl, inr}
 use Rattle.lra_linear.specs.Descriptions.{Gen, Given}
 use Rattle.lra_linear.specs.OperationStrain.{FromGeneratorsStrains, GeneratorsStrain, with_positivity}
 use Rattle.lra_linear.specs.Points.{IsWithin, PointSet, SameSet}
@@ -9,6 +9,7 @@ use Rattle.lra_sys.specs.Listed.{Listed, generators}
 use Rattle.lra_sys.specs.declared.system.GenKind.{GenKind}
 use Rattle.lra_poly.specs.Outcomes.{IfExact, IfFlagged}
 use Rattle.lra_poly.specs.declared.outcome.Outcome.{Outcome}
+use Rattle.lra_poly.specs.declared.outcome.Outcome.TheVariants.{Exact, Flagged}
 use Rattle.lra_poly.proofs.PolyLemmas.{if_exact, if_flagged, result_strain, same_polyhedron}
 
 -- the list, which stands for these generators, gives the set
@@ -45,3 +46,12 @@ taken_flagged n S given list o t h =
     (λ loss s. taken_strain n S given loss t.same s)
     (subst (λ (l : List Given). IfFlagged (FromGeneratorsStrains n l) o) t.are
     (subst (λ (d : ℕ). IfFlagged (FromGeneratorsStrains d (generators list)) o) t.dimensions h))
+
+pub taken_inside : (n : ℕ) (S : PointSet) (given : List Given) (list : Listed GenKind) (P : PointSet) →
+    Takes n S given list → IsWithin n S P → IsWithin n (Gen (generators list)) P
+taken_inside n S given list P t h x i g = h x i (t.same.1 x i (subst (λ (l : List Given). Gen l x) t.are g))
+
+-- nothing is claimed as exact where the outcome isn't
+pub not_exact : (P : Type 0) (o : Outcome) → o ≢ Exact → IfExact P o
+not_exact P Exact n = absurd (n refl)
+not_exact P (Flagged loss) n = tt

@@ -1,1 +1,2 @@
 -- Images and preimages of polyhedra, and changes of their dimensions.
+pub mod Forming

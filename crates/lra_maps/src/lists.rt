@@ -13,7 +13,7 @@ use lra_sys::{GenKind, GenSys};
 use std::alloc::{AllocError, Global};
 
 // From so many dimensions on there is no memory for a row.
-const TOO_MANY_DIMENSIONS: usize = 1 << 62;
+pub const TOO_MANY_DIMENSIONS: usize = 1 << 62;
 
 // The generators, then a line along a dimension.
 pub fn with_line(alloc: Global, list: &GenSys, x: usize) -> Result<GenSys, AllocError>

@@ -16,7 +16,7 @@ front equal rows kinds i = given_by equal (take i rows) (take i kinds)
 abbrev pub member : {K : Type 0} → (K → Bool) → List K → ℕ → List ℤ → K → Given
 member equal kinds i r k = record { row = r; equal = equal (get_or kinds i k) }
 
-given_split : {K : Type 0} (equal : K → Bool) (rows : List (List ℤ)) (kinds : List K) (i : ℕ) (r : List ℤ) (k : K) →
+pub given_split : {K : Type 0} (equal : K → Bool) (rows : List (List ℤ)) (kinds : List K) (i : ℕ) (r : List ℤ) (k : K) →
     length kinds ≡ length rows → i < length rows → r ≡ get_or rows i r →
     given_by equal rows kinds ≡ front equal rows kinds i ++ member equal kinds i r k ∷
     given_by equal (drop (suc i) rows) (drop (suc i) kinds)

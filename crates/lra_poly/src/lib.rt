@@ -8,6 +8,7 @@ mod outcome;
 mod poly;
 
 pub use inclusion::Inclusion;
+pub use lists::row_of_form;
 pub use maximum::Maximum;
 pub use outcome::Outcome;
 pub use poly::Poly;

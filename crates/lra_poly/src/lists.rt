@@ -44,8 +44,8 @@ pub fn joined_generators(first: &GenSys, second: &GenSys) -> Result<GenSys, Allo
     Ok(all)
 }
 
-// The form as a row.
-fn row_of_form(alloc: Global, form: &LinExpr) -> Result<Row, AllocError>
+/// The form as a row: the constant in column 0, then the coefficients.
+pub fn row_of_form(alloc: Global, form: &LinExpr) -> Result<Row, AllocError>
     ensures { IfOk result (λ row. row ≡ form_row form.now) }
 {
     let mut numbers = Vec::new(alloc);

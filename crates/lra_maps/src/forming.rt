@@ -1,0 +1,146 @@
+//! Generators and constraints formed anew by a form, which takes the place of a coordinate.
+
+ghost use Rattle.std.specs.Prelude.{◌≡◌, ◌≢◌, ◌<◌, suc, List, take, length, IfOk, IfErr};
+ghost use Rattle.std.specs.List.{Contains};
+ghost use Rattle.lra_linear.specs.CheckedArithmetic.{checked_product, checked_substitution};
+ghost use Rattle.lra_linear.specs.Descriptions.{Given};
+ghost use Rattle.lra_linear.specs.Kinds.{is_equality};
+ghost use Rattle.lra_linear.specs.OperationStrain.{FormingPasses, mapped, substituted_rows};
+ghost use Rattle.lra_linear.specs.SetOperations.{assigned};
+ghost use Rattle.lra_row.specs.Rows.{IsExcessOf};
+ghost use Rattle.lra_sys.specs.Listed.{constraints, generators, given_by, FitKinds};
+ghost use Rattle.lra_poly.specs.Outcomes.{IfExact, IfFlagged};
+ghost use Rattle.lra_maps.specs.Forming.{IsLossAt};
+
+use crate::lists::TOO_MANY_DIMENSIONS;
+use lra_cone::{Loss, dual_rows};
+use lra_linear::{Cause, Excess};
+use lra_poly::Outcome;
+use lra_row::{Row, RowError};
+use lra_sys::{ConSys, GenSys};
+use std::alloc::{AllocError, Global};
+
+// The first rows of the list.
+fn first_rows(alloc: Global, list: &ConSys, count: usize) -> Result<ConSys, AllocError>
+    requires { count < length list.now.rows }
+    ensures { IfOk result (λ chosen. constraints chosen ≡
+        given_by is_equality (take count list.now.rows) (take count list.now.kinds)) }
+{
+    let n = list.dims();
+    if n >= TOO_MANY_DIMENSIONS {
+        return Err(AllocError);
+    }
+    let mut chosen = ConSys::new(alloc, n);
+    let (rows, kinds) = (list.rows(), list.kinds());
+    for place in 0..count {
+        chosen.push(rows[place].copy()?, kinds[place])?;
+    }
+    Ok(chosen)
+}
+
+// What is told of the row at the place, with those before it taken, where a number passes as it is formed.
+fn loss_at(alloc: Global, list: &ConSys, place: usize, excess: Excess) -> Result<Loss, AllocError>
+    requires { place < length list.now.rows }
+    ensures { IfOk result (IsLossAt list.now place excess) }
+{
+    let chosen = first_rows(alloc, list, place)?;
+    let (rows, kinds) = (list.rows(), list.kinds());
+    let cause = Cause::Excess(excess);
+    let loss = Loss::new(alloc, &chosen, &rows[place], kinds[place], cause)?;
+    Ok(loss)
+}
+
+// The generator with the form's value in the column, or the first number of that value that passes.
+fn assigned_row(alloc: Global, row: &Row, column: usize, form: &Row) -> Result<Row, RowError>
+    requires column { column < length row.now }
+    requires width { length form.now ≡ length row.now }
+    ensures ok { IfOk result (λ r. r ≡ assigned column form.now row.now) }
+    ensures excess { IfErr result (IsExcessOf (checked_product form.now row.now)) }
+{
+    let value = form.dot(row)?;
+    let mut numbers = Vec::from_slice(alloc, row.entries())?;
+    numbers[column] = value;
+    let row = Row::from_slice(alloc, numbers.as_slice())?;
+    Ok(row)
+}
+
+// The generators, each with the form's value as coordinate x; or what is told of the first with which a number passes.
+pub fn assigned_list(
+    alloc: Global,
+    list: &GenSys,
+    x: usize,
+    form: &Row,
+) -> Result<Result<GenSys, Loss>, AllocError>
+    requires dimension { x < list.now.dims }
+    requires width { length form.now ≡ suc list.now.dims }
+    requires kinds { FitKinds list.now.rows list.now.kinds }
+    ensures dims { IfOk result (λ r. IfOk r (λ all. all.dims ≡ list.now.dims)) }
+    ensures generators { IfOk result (λ r. IfOk r (λ all.
+        generators all ≡ mapped (suc x) form.now (generators list.now))) }
+    ensures kinds { IfOk result (λ r. IfOk r (λ all. FitKinds all.rows all.kinds)) }
+    ensures lost { IfOk result (λ r. IfErr r
+        (FormingPasses (λ g. checked_product form.now g.row) (generators list.now))) }
+{
+    if list.dims() >= TOO_MANY_DIMENSIONS {
+        return Err(AllocError);
+    }
+    let mut all = GenSys::new(alloc, list.dims());
+    let (rows, kinds) = (list.rows(), list.kinds());
+    for place in 0..rows.len() {
+        match assigned_row(alloc, &rows[place], x + 1, form) {
+            Ok(row) => all.push(row, kinds[place])?,
+            Err(RowError::Memory) => return Err(AllocError),
+            Err(RowError::Excess(excess)) => {
+                let rows = dual_rows(alloc, list)?;
+                let loss = loss_at(alloc, &rows, place, excess)?;
+                return Ok(Err(loss));
+            }
+        }
+    }
+    Ok(Ok(all))
+}
+
+// The first, or where that is exact the second.
+pub fn first_told(first: Outcome, second: Outcome) -> Outcome
+    ensures exact { first ≡ Outcome.Exact → result ≡ second }
+    ensures flagged { first ≢ Outcome.Exact → result ≡ first }
+{
+    if first.is_exact() { second } else { first }
+}
+
+// The constraints with the form put in for the coordinate x, without those with which a number passes; and what is told
+// of the first of those.
+pub fn substituted_list(
+    alloc: Global,
+    list: &ConSys,
+    x: usize,
+    form: &Row,
+) -> Result<(ConSys, Outcome), AllocError>
+    requires dimension { x < list.now.dims }
+    requires width { length form.now ≡ suc list.now.dims }
+    ensures dims { IfOk result (λ r. r.0.dims ≡ list.now.dims) }
+    ensures all { IfOk result (λ r. IfExact
+        (constraints r.0 ≡ substituted_rows (suc x) form.now (constraints list.now)) r.1) }
+    ensures among { IfOk result (λ r. (g : Given) → Contains (constraints r.0) g →
+        Contains (substituted_rows (suc x) form.now (constraints list.now)) g) }
+    ensures lost { IfOk result (λ r. IfFlagged
+        (FormingPasses (λ g. checked_substitution (suc x) form.now g.row) (constraints list.now)) r.1) }
+{
+    if list.dims() >= TOO_MANY_DIMENSIONS {
+        return Err(AllocError);
+    }
+    let mut all = ConSys::new(alloc, list.dims());
+    let mut outcome = Outcome::Exact;
+    let (rows, kinds) = (list.rows(), list.kinds());
+    for place in 0..rows.len() {
+        match rows[place].substitute(x + 1, form) {
+            Ok(row) => all.push(row, kinds[place])?,
+            Err(RowError::Memory) => return Err(AllocError),
+            Err(RowError::Excess(excess)) => {
+                let loss = loss_at(alloc, list, place, excess)?;
+                outcome = first_told(outcome, Outcome::Flagged(loss));
+            }
+        }
+    }
+    Ok((all, outcome))
+}

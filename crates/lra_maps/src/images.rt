@@ -1,0 +1,86 @@
+//! Images and preimages under a form.
+
+ghost use Rattle.std.specs.Prelude.{◌≡◌, ◌<◌, suc, length, IfOk, OnErr, OnOk};
+ghost use Rattle.lra_linear.specs.Descriptions.{Con, Gen};
+ghost use Rattle.lra_linear.specs.OperationStrain.{FromGeneratorsStrains, ImageStrains, PreimageStrains};
+ghost use Rattle.lra_linear.specs.Points.{IsWithin};
+ghost use Rattle.lra_linear.specs.Polyhedra.{IsPolyhedronOf};
+ghost use Rattle.lra_linear.specs.SetOperations.{Forget, Image, Preimage};
+ghost use Rattle.lra_poly.specs.Outcomes.{IfExact, IfFlagged};
+ghost use Rattle.lra_poly.specs.Rows.{form_row};
+ghost use Rattle.lra_sys.specs.Listed.{generators, FitKinds};
+
+use crate::forming::{assigned_list, first_told, substituted_list};
+use crate::maps::forget;
+use lra_lin::LinExpr;
+use lra_poly::{Outcome, Poly, row_of_form};
+use lra_sys::GenSys;
+use std::alloc::AllocError;
+
+// Becomes the polyhedron of generators that give no more than what some value of the coordinate x brings into it; where
+// that is flagged, the coordinate x is forgotten.
+fn replace_or_forget(p: &mut Poly, x: usize, list: &GenSys) -> Result<Outcome, AllocError>
+    requires column { x < p.old.dims }
+    requires dims { list.now.dims ≡ p.old.dims }
+    requires kinds { FitKinds list.now.rows list.now.kinds }
+    requires within { IsWithin p.old.dims (Gen (generators list.now)) (Forget p.old.dims (suc x) (Con p.old.rows)) }
+    ensures dims { p.new.dims ≡ p.old.dims }
+    ensures exact { IfOk result (IfExact (IsPolyhedronOf list.now.dims (Gen (generators list.now)) p.new)) }
+    ensures within { IfOk result (λ _. IsWithin list.now.dims (Gen (generators list.now)) (Con p.new.rows)) }
+    ensures strain { IfOk result (IfFlagged (FromGeneratorsStrains list.now.dims (generators list.now))) }
+    ensures unchanged { OnErr result (p.new ≡ p.old) }
+{
+    let (made, outcome) = Poly::from_generators(p.allocator(), list)?;
+    if outcome.is_exact() {
+        *p = made;
+    } else {
+        forget(p, x)?;
+    }
+    Ok(outcome)
+}
+
+/// Gives the coordinate x the form's value: becomes the set of its points, each with that value as coordinate x. Where
+/// it is flagged, the coordinate may be anything: it has at least those points.
+pub fn image(p: &mut Poly, x: usize, form: &LinExpr) -> Result<Outcome, AllocError>
+    requires column { x < p.old.dims }
+    requires form { length form.now.coefficients ≡ p.old.dims }
+    ensures dims { p.new.dims ≡ p.old.dims }
+    ensures exact { IfOk result (IfExact
+        (IsPolyhedronOf p.old.dims (Image p.old.dims (suc x) (form_row form.now) (Con p.old.rows)) p.new)) }
+    ensures within { IfOk result (λ _.
+        IsWithin p.old.dims (Image p.old.dims (suc x) (form_row form.now) (Con p.old.rows)) (Con p.new.rows)) }
+    ensures strain { IfOk result (IfFlagged (ImageStrains (suc x) (form_row form.now) p.old)) }
+    ensures unchanged { OnErr result (p.new ≡ p.old) }
+{
+    let row = row_of_form(p.allocator(), form)?;
+    match assigned_list(p.allocator(), p.generators(), x, &row)? {
+        Ok(list) => {
+            let outcome = replace_or_forget(p, x, &list)?;
+            Ok(outcome)
+        }
+        Err(loss) => {
+            forget(p, x)?;
+            Ok(Outcome::Flagged(loss))
+        }
+    }
+}
+
+/// Becomes the set of the points that are brought into it when the coordinate x is given the form's value. Where it is
+/// flagged it has at least those: constraints with which a number passes are left out.
+pub fn preimage(p: &mut Poly, x: usize, form: &LinExpr) -> Result<Outcome, AllocError>
+    requires column { x < p.old.dims }
+    requires form { length form.now.coefficients ≡ p.old.dims }
+    ensures dims { OnOk result (p.new.dims ≡ p.old.dims) }
+    ensures exact { IfOk result (IfExact
+        (IsPolyhedronOf p.old.dims (Preimage (suc x) (form_row form.now) (Con p.old.rows)) p.new)) }
+    ensures within { IfOk result (λ _.
+        IsWithin p.old.dims (Preimage (suc x) (form_row form.now) (Con p.old.rows)) (Con p.new.rows)) }
+    ensures strain { IfOk result (IfFlagged (PreimageStrains (suc x) (form_row form.now) p.old)) }
+    ensures unchanged { OnErr result (p.new ≡ p.old) }
+{
+    let row = row_of_form(p.allocator(), form)?;
+    let (list, formed) = substituted_list(p.allocator(), p.rows(), x, &row)?;
+    let (made, outcome) = Poly::from_rows(p.allocator(), &list)?;
+    *p = made;
+    Ok(first_told(formed, outcome))
+}
