@@ -1,15 +1,16 @@
 -- Images: the generators with the form's value as one coordinate.
-use Rattle.std.proofs.Common.{◌≡◌, ◌≢◌, ℕ, zero, suc, ◌<◌, List, [], ◌∷◌, length, ap, refl, sym, ◌∙◌, subst, ℤ, pos, neg_ℤ, ◌+ℤ◌, ◌*ℤ◌, arith}
-use Rattle.std.specs.Prelude.{slice_set}
-use Rattle.lra_linear.specs.Descriptions.{Con, Gen, Given}
+use Rattle.std.proofs.Common.{◌≡◌, ℕ, zero, suc, ◌<◌, List, [], ◌∷◌, length, ap, refl, sym, ◌∙◌, subst, ℤ, pos}
+use Rattle.std.proofs.Common.{neg_ℤ, ◌+ℤ◌, ◌*ℤ◌, arith}
+use Rattle.std.specs.Prelude.{IfOk, Result, Ok, slice_set}
+use Rattle.lra_linear.specs.Descriptions.{Con, Gen}
 use Rattle.lra_linear.specs.OperationStrain.{mapped}
-use Rattle.lra_linear.specs.Points.{IsPoint, IsWithin, PointSet, SameSet}
+use Rattle.lra_linear.specs.Points.{IsWithin, PointSet, SameSet}
 use Rattle.lra_linear.specs.Polyhedra.{IsPolyhedron, Polyhedron}
 use Rattle.lra_linear.specs.SetOperations.{Forget, Image, assigned}
+use Rattle.lra_linear.specs.Strain.{Loss}
 use Rattle.lra_linear.specs.Vectors.{dot, entry, negated, product}
 use Rattle.lra_linear.proofs.Polyhedra.{con_gen}
 use Rattle.lra_linear.proofs.Products.{dot_negated, dot_plus, dot_same, dot_zero, entry_set_other}
-use Rattle.lra_linear.proofs.Ring.{ring, v, ◌⊕◌, ◌⊗◌}
 use Rattle.lra_sys.specs.Listed.{Listed, generators}
 use Rattle.lra_sys.specs.declared.system.GenKind.{GenKind}
 use Rattle.lra_maps.proofs.MappedSets.{IsMapOf, mapped_from, mapped_in}
@@ -30,7 +31,8 @@ put_nothing zero (suc j) = refl
 put_nothing (suc k) zero = refl
 put_nothing (suc k) (suc j) = put_nothing k j
 
-put_plus : (k : ℕ) (a y z : ℤ) (x s : ℕ → ℤ) (j : ℕ) → put k ((a *ℤ y) +ℤ z) (λ i. (a *ℤ x i) +ℤ s i) j ≡ (a *ℤ put k y x j) +ℤ put k z s j
+put_plus : (k : ℕ) (a y z : ℤ) (x s : ℕ → ℤ) (j : ℕ) →
+    put k ((a *ℤ y) +ℤ z) (λ i. (a *ℤ x i) +ℤ s i) j ≡ (a *ℤ put k y x j) +ℤ put k z s j
 put_plus zero a y z x s zero = refl
 put_plus zero a y z x s (suc j) = refl
 put_plus (suc k) a y z x s zero = refl
@@ -60,8 +62,10 @@ assigning k form u = put k (dot form u) u
 
 assigning_linear : (k : ℕ) (form : List ℤ) → IsLinear (assigning k form)
 assigning_linear k form = record {
-  nothing = λ j. put_same k (dot form (λ i. pos 0)) (pos 0) (λ i. pos 0) (λ i. pos 0) (dot_zero form) (λ i. refl) j ∙ put_nothing k j;
-  plus = λ a x s j. put_same k (dot form (λ i. (a *ℤ x i) +ℤ s i)) ((a *ℤ dot form x) +ℤ dot form s) (λ i. (a *ℤ x i) +ℤ s i) (λ i. (a *ℤ x i) +ℤ s i) (dot_plus form a x s) (λ i. refl) j ∙
+  nothing = λ j. put_same k (dot form (λ i. pos 0)) (pos 0) (λ i. pos 0) (λ i. pos 0) (dot_zero form) (λ i. refl) j ∙
+      put_nothing k j;
+  plus = λ a x s j. put_same k (dot form (λ i. (a *ℤ x i) +ℤ s i)) ((a *ℤ dot form x) +ℤ dot form s)
+      (λ i. (a *ℤ x i) +ℤ s i) (λ i. (a *ℤ x i) +ℤ s i) (dot_plus form a x s) (λ i. refl) j ∙
       put_plus k a (dot form x) (dot form s) x s j;
   same = λ x y e j. put_same k (dot form x) (dot form y) x y (dot_same form x y e) e j;
 }
@@ -81,11 +85,18 @@ assigned_map k w form above low = record {
 pub assigned_generators : (p : Polyhedron) (k : ℕ) (form : List ℤ) → IsPolyhedron p → 0 < k → k < suc p.dims →
     SameSet p.dims (Image p.dims k form (Con p.rows)) (Gen (mapped k form p.generators))
 assigned_generators p k form h above low = (
-  λ x i f. mapped_in (assigning k form) (assigned k form) p.dims p.generators x f.from (assigned_map k (suc p.dims) form above low) (widths_of p h) i.divisor f.is_point f.same
+  λ x i f. mapped_in (assigning k form) (assigned k form) p.dims p.generators x f.from
+      (assigned_map k (suc p.dims) form above low) (widths_of p h) i.divisor f.is_point f.same
       ((con_gen p h).0 f.from f.is_point f.inside),
   λ x i g.
-      let f = mapped_from (assigning k form) (assigned k form) p.dims p.generators x (assigned_map k (suc p.dims) form above low) (widths_of p h) i.divisor g in
-      record { from = f.from; is_point = f.is_point; inside = (con_gen p h).1 f.from f.is_point f.inside; same = f.same },
+      let f = mapped_from (assigning k form) (assigned k form) p.dims p.generators x
+      (assigned_map k (suc p.dims) form above low) (widths_of p h) i.divisor g in
+      record {
+        from = f.from;
+        is_point = f.is_point;
+        inside = (con_gen p h).1 f.from f.is_point f.inside;
+        same = f.same;
+      },
 )
 
 -- an image forgets no more than the coordinate
@@ -94,12 +105,15 @@ image_forgets n k form P above x i f = record {
   from = f.from;
   is_point = f.is_point;
   inside = f.inside;
-  same = λ j other. ap (λ (z : ℤ). entry x j *ℤ z) (sym (entry_set_other f.from k 0 (product form f.from) (λ e. omega (arith, e, above)))) ∙ f.same j ∙
+  same = λ j other. ap (λ (z : ℤ). entry x j *ℤ z) (sym
+      (entry_set_other f.from k 0 (product form f.from) (λ e. omega (arith, e, above)))) ∙ f.same j ∙
       ap (λ (z : ℤ). z *ℤ entry x 0) (entry_set_other f.from k j (product form f.from) other);
 }
 
-pub image_takes : (p : Polyhedron) (list all : Listed GenKind) (x : ℕ) (form : List ℤ) → IsPolyhedron p → x < p.dims → list.dims ≡ p.dims → generators list ≡ p.generators → all.dims ≡ list.dims →
-    generators all ≡ mapped (suc x) form (generators list) → Takes p.dims (Image p.dims (suc x) form (Con p.rows)) (mapped (suc x) form p.generators) all
+pub image_takes : (p : Polyhedron) (list all : Listed GenKind) (x : ℕ) (form : List ℤ) → IsPolyhedron p → x < p.dims →
+    list.dims ≡ p.dims → generators list ≡ p.generators → all.dims ≡ list.dims →
+    generators all ≡ mapped (suc x) form (generators list) →
+    Takes p.dims (Image p.dims (suc x) form (Con p.rows)) (mapped (suc x) form p.generators) all
 image_takes p list all x form h low ed eg ad ag = record {
   dimensions = ad ∙ ed;
   are = ag ∙ ap (mapped (suc x) form) eg;
@@ -108,3 +122,15 @@ image_takes p list all x form h low ed eg ad ag = record {
 
 pub assigned_level : (x : ℕ) (form r : List ℤ) → entry (assigned (suc x) form r) 0 ≡ entry r 0
 assigned_level x form r = entry_set_other r (suc x) 0 (product form r) (λ e. omega (arith, e))
+
+-- as the code tells it
+pub image_taken : (p : Polyhedron) (given list : Listed GenKind) (x : ℕ) (form : List ℤ)
+    (r : Result (Listed GenKind) Loss) →
+    IsPolyhedron p → x < p.dims → given.dims ≡ p.dims → generators given ≡ p.generators → r ≡ Ok list →
+    IfOk r (λ all. all.dims ≡ given.dims) → IfOk r (λ all. generators all ≡ mapped (suc x) form (generators given)) →
+    Takes p.dims (Image p.dims (suc x) form (Con p.rows)) (mapped (suc x) form p.generators) list
+image_taken p given list x form r h low ed eg is dims all =
+    image_takes p given list x form h low ed eg
+    (subst (λ (q : Result (Listed GenKind) Loss). IfOk q (λ l. l.dims ≡ given.dims)) is dims)
+    (subst (λ (q : Result (Listed GenKind) Loss). IfOk q (λ l. generators l ≡ mapped (suc x) form (generators given)))
+    is all)

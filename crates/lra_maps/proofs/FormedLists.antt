@@ -1,9 +1,12 @@
 -- Rows formed of the rows of a list, place by place, and what is told where a number passes in one.
-use Rattle.std.proofs.Common.{◌≡◌, ◌≢◌, ℕ, zero, suc, ◌<◌, ◌≤◌, ◌+◌, add-one, List, [], ◌∷◌, ◌++◌, length, map, take, drop}
-use Rattle.std.proofs.Common.{get_or, arith, ap, refl, sym, ◌∙◌, subst, ℤ, Result, Err, inl, inr}
+use Rattle.std.proofs.Common.{◌≡◌, ◌≢◌, ℕ, zero, suc, ◌<◌, ◌≤◌, ◌+◌, add-one, List, [], ◌∷◌, ◌++◌, length, map, take}
+use Rattle.std.proofs.Common.{drop}
+use Rattle.std.proofs.Common.{get_or, arith, ap, refl, sym, ◌∙◌, subst, ℤ, pos, Result, Err, inl, inr}
+use Rattle.std.specs.Prelude.{slice_set}
 use Rattle.std.specs.List.{Contains}
 use Rattle.std.proofs.lemmas.List.{map-append, take_all}
 use Rattle.std.proofs.lemmas.List.Elements.{Contains-append_cases, Contains-append_right}
+use Rattle.lra_linear.specs.CheckedArithmetic.{checked_substitution}
 use Rattle.lra_linear.specs.declared.Cause.TheVariants.{Excess}
 use Rattle.lra_linear.specs.declared.ConKind.{ConKind}
 use Rattle.lra_linear.specs.declared.ConKind.TheVariants.{Ge}
@@ -12,8 +15,12 @@ use Rattle.lra_linear.specs.Descriptions.{Given}
 use Rattle.lra_linear.specs.Kinds.{is_equality}
 use Rattle.lra_linear.specs.OperationStrain.{FormingPasses, substituted_rows}
 use Rattle.lra_linear.specs.Strain.{Loss}
-use Rattle.lra_linear.specs.Vectors.{substituted}
+use Rattle.lra_linear.specs.Vectors.{cleared, entry, substituted}
 use Rattle.lra_linear.proofs.Membership.{contains_cases, contains_head, contains_none, contains_tail}
+use Rattle.lra_linear.proofs.Products.{blend_length}
+use Rattle.lra_row.specs.Rows.{IsExcessOf}
+use Rattle.lra_row.specs.declared.error.RowError.{RowError}
+use Rattle.lra_row.specs.declared.error.RowError.TheVariants as of_row
 use Rattle.lra_sys.specs.Listed.{Listed, constraints, generators, given_by}
 use Rattle.lra_sys.specs.declared.system.GenKind.{GenKind}
 use Rattle.lra_cone.specs.Conversions.{dual_kind}
@@ -25,6 +32,7 @@ use Rattle.lra_poly.specs.Outcomes.{IfExact, IfFlagged}
 use Rattle.lra_poly.specs.declared.outcome.Outcome.{Outcome}
 use Rattle.lra_poly.specs.declared.outcome.Outcome.TheVariants.{Exact, Flagged}
 use Rattle.lra_maps.specs.Forming.{IsLossAt}
+use Rattle.lra_maps.proofs.PushedLists.{many_more}
 
 -- ---- the loss of a row
 default_other : {A : Type 0} (xs : List A) (i : ℕ) (d e : A) → i < length xs → get_or xs i d ≡ get_or xs i e
@@ -32,19 +40,29 @@ default_other [] i d e h = absurd (omega (arith, h))
 default_other (x ∷ xs) zero d e h = refl
 default_other (x ∷ xs) (suc i) d e h = default_other xs i d e (omega (arith, h))
 
-pub loss_told : (list : Listed ConKind) (chosen : List Given) (place : ℕ) (row : List ℤ) (e : E.Excess) (loss : Loss) →
-    chosen ≡ front is_equality list.rows list.kinds place → length list.kinds ≡ length list.rows →
-    place < length list.rows → row ≡ get_or list.rows place row →
-    loss ≡ record { chosen = chosen; further = member is_equality list.kinds place row Ge; cause = Excess e } →
+pub loss_told : (list chosen : Listed ConKind) (rows : List (List ℤ)) (kinds : List ConKind) (place : ℕ) (row : List ℤ)
+    (e : E.Excess) (loss : Loss) → constraints chosen ≡ front is_equality list.rows list.kinds place →
+    rows ≡ list.rows → kinds ≡ list.kinds → length kinds ≡ length list.rows →
+    place < length list.rows → row ≡ get_or rows place row →
+    loss ≡ record { chosen = constraints chosen; further = member is_equality kinds place row Ge; cause = Excess e } →
     IsLossAt list place e loss
-loss_told list chosen place row e loss ec n h er el = subst (IsLossAt list place e) (sym el) (record {
-  later = given_by is_equality (drop (suc place) list.rows) (drop (suc place) list.kinds);
-  is = given_split is_equality list.rows list.kinds place row Ge n h er ∙
-      ap (λ (l : List Given). l ++ member is_equality list.kinds place row Ge ∷
-      given_by is_equality (drop (suc place) list.rows) (drop (suc place) list.kinds)) (sym ec);
-  is_row = er ∙ default_other list.rows place row [] h;
-  is_cause = refl;
-})
+loss_told list chosen rows kinds place row e loss ec er ek n h is el =
+    let here : row ≡ get_or list.rows place row = is ∙ ap (λ (l : List (List ℤ)). get_or l place row) er in
+    let many : length list.kinds ≡ length list.rows = ap length (sym ek) ∙ n in
+    let later : List Given = given_by is_equality (drop (suc place) list.rows) (drop (suc place) list.kinds) in
+    subst (IsLossAt list place e) (sym el) (record {
+      later = later;
+      is = given_split is_equality list.rows list.kinds place row Ge many h here ∙
+          ap (λ (l : List Given). l ++ member is_equality list.kinds place row Ge ∷ later) (sym ec) ∙
+          ap (λ (l : List ConKind). constraints chosen ++ member is_equality l place row Ge ∷ later) (sym ek);
+      is_row = here ∙ default_other list.rows place row [] h;
+      is_cause = refl;
+    })
+
+-- the excess that an error tells
+pub excess_of : {A : Type 0} (q : Result A E.Excess) (error : RowError) (e : E.Excess) → error ≡ of_row.Excess e →
+    IsExcessOf q error → q ≡ Err e
+excess_of q error e is h = subst (IsExcessOf q) is h
 
 -- a number passes in what is formed of the row at the place
 pub lost_at : {A : Type 0} (check : List ℤ → Result A E.Excess) (given : List Given) (list : Listed ConKind)
@@ -90,7 +108,8 @@ one_pushed all more t u k n er ek et =
     ∙ given_joined is_equality all.rows (t ∷ []) all.kinds (k ∷ []) n
     ∙ ap (λ (y : List ℤ). constraints all ++ (let g : Given = record { row = y; equal = is_equality k } in g) ∷ []) et
 
-pub substituted_whole : (k : ℕ) (form : List ℤ) (all more : Listed ConKind) (rows : List (List ℤ)) (kinds : List ConKind)
+pub substituted_whole : (k : ℕ) (form : List ℤ) (all more : Listed ConKind) (rows : List (List ℤ))
+    (kinds : List ConKind)
     (i : ℕ) (r t : List ℤ) (o : Outcome) → length all.rows ≡ length all.kinds → more.rows ≡ all.rows ++ t ∷ [] →
     more.kinds ≡ all.kinds ++ get_or kinds i Ge ∷ [] → t ≡ substituted k form r → length kinds ≡ length rows →
     i < length rows → r ≡ get_or rows i r →
@@ -113,11 +132,13 @@ map_contains f (x ∷ xs) g m = elim (contains_cases x g xs m) [
   | inr d ↦ contains_tail (f x) (f g) (map f xs) (map_contains f xs g d)
 ]
 
-pub substituted_among : (k : ℕ) (form : List ℤ) (all more : Listed ConKind) (rows : List (List ℤ)) (kinds : List ConKind)
+pub substituted_among : (k : ℕ) (form : List ℤ) (all more : Listed ConKind) (rows : List (List ℤ))
+    (kinds : List ConKind)
     (i : ℕ) (r t : List ℤ) → length all.rows ≡ length all.kinds → more.rows ≡ all.rows ++ t ∷ [] →
     more.kinds ≡ all.kinds ++ get_or kinds i Ge ∷ [] → t ≡ substituted k form r → length kinds ≡ length rows →
     i < length rows → r ≡ get_or rows i r →
-    ((g : Given) → Contains (constraints all) g → Contains (substituted_rows k form (given_by is_equality rows kinds)) g) →
+    ((g : Given) → Contains (constraints all) g → Contains
+    (substituted_rows k form (given_by is_equality rows kinds)) g) →
     (g : Given) → Contains (constraints more) g → Contains (substituted_rows k form (given_by is_equality rows kinds)) g
 substituted_among k form all more rows kinds i r t m er ek et n h is among g has =
     let new : Given = substituted_given k form (member is_equality kinds i r Ge) in
@@ -142,6 +163,68 @@ substituted_among k form all more rows kinds i r t m er ek et n h is among g has
         (sym (given_split is_equality rows kinds i r Ge n h is))
         (Contains-append_right (front is_equality rows kinds i) (member is_equality kinds i r Ge ∷ later)
         (member is_equality kinds i r Ge) (contains_head (member is_equality kinds i r Ge) later))
+
+-- ---- the rows so far
+-- those that were formed of the rows before the place, and what is told of the others
+pub record AreFormed (k : ℕ) (form : List ℤ) (n : ℕ) (rows : List (List ℤ)) (kinds : List ConKind) (i : ℕ)
+    (all : Listed ConKind) (o : Outcome) : Type 0 where
+  pub dims : all.dims ≡ n
+  pub many : length all.rows ≡ length all.kinds
+  pub whole : IfExact (constraints all ≡ substituted_rows k form (front is_equality rows kinds i)) o
+  pub among : (g : Given) → Contains (constraints all) g →
+      Contains (substituted_rows k form (given_by is_equality rows kinds)) g
+  pub lost : IfFlagged (FormingPasses (λ g. checked_substitution k form g.row) (given_by is_equality rows kinds)) o
+
+pub formed_pushed : (k : ℕ) (form : List ℤ) (n : ℕ) (rows : List (List ℤ)) (kinds : List ConKind) (i : ℕ)
+    (all more : Listed ConKind) (o : Outcome) (r t : List ℤ) → AreFormed k form n rows kinds i all o →
+    more.dims ≡ all.dims → more.rows ≡ all.rows ++ t ∷ [] → more.kinds ≡ all.kinds ++ get_or kinds i Ge ∷ [] →
+    t ≡ substituted k form r → length kinds ≡ length rows → i < length rows → r ≡ get_or rows i r →
+    AreFormed k form n rows kinds (i + 1) more o
+formed_pushed k form n rows kinds i all more o r t h ed er ek et m low is = record {
+  dims = ed ∙ h.dims;
+  many = many_more all.rows more.rows all.kinds more.kinds t (get_or kinds i Ge) h.many er ek;
+  whole = substituted_whole k form all more rows kinds i r t o h.many er ek et m low is h.whole;
+  among = substituted_among k form all more rows kinds i r t h.many er ek et m low is h.among;
+  lost = h.lost;
+}
+
+pub formed_lost : (k : ℕ) (form : List ℤ) (n : ℕ) (rows : List (List ℤ)) (kinds : List ConKind) (i : ℕ)
+    (all : Listed ConKind) (o told : Outcome) (loss : Loss) → AreFormed k form n rows kinds i all o →
+    (o ≡ Exact → told ≡ Flagged loss) → (o ≢ Exact → told ≡ o) →
+    FormingPasses (λ g. checked_substitution k form g.row) (given_by is_equality rows kinds) loss →
+    AreFormed k form n rows kinds (i + 1) all told
+formed_lost k form n rows kinds i all o told loss h first same passes = record {
+  dims = h.dims;
+  many = h.many;
+  whole = told_whole (constraints all ≡ substituted_rows k form (front is_equality rows kinds (i + 1))) o told loss
+      first
+      same;
+  among = h.among;
+  lost = told_flagged
+      (FormingPasses (λ g. checked_substitution k form g.row) (given_by is_equality rows kinds)) o told loss first same
+      h.lost passes;
+}
+
+pub formed_seen : (k : ℕ) (form : List ℤ) (n : ℕ) (rows : List (List ℤ)) (kinds : List ConKind) (i : ℕ)
+    (all seen : Listed ConKind) (o told : Outcome) → seen ≡ all → told ≡ o → AreFormed k form n rows kinds i all o →
+    AreFormed k form n rows kinds i seen told
+formed_seen k form n rows kinds i all seen o told ea eo h =
+    subst (λ (s : Listed ConKind). AreFormed k form n rows kinds i s told) (sym ea)
+    (subst (AreFormed k form n rows kinds i all) (sym eo) h)
+
+set_length : (r : List ℤ) (k : ℕ) (z : ℤ) → length (slice_set r k z) ≡ length r
+set_length [] k z = refl
+set_length (x ∷ r) zero z = refl
+set_length (x ∷ r) (suc k) z = ap suc (set_length r k z)
+
+pub substituted_length : (k : ℕ) (form r : List ℤ) → length form ≡ length r →
+    length (substituted k form r) ≡ length r
+substituted_length k form r e =
+    blend_length (pos 1) (entry r k) (cleared k r) form (set_length r k (pos 0) ∙ sym e) ∙ set_length r k (pos 0)
+
+pub substituted_fits : (k : ℕ) (form r t : List ℤ) (n d : ℕ) → t ≡ substituted k form r → length form ≡ suc n →
+    length r ≡ suc n → d ≡ n → length t ≡ suc d
+substituted_fits k form r t n d et f l e = ap length et ∙ substituted_length k form r (f ∙ sym l) ∙ l ∙ ap suc (sym e)
 
 -- ---- as the code tells it
 pub listed_same : (list : Listed ConKind) (rows : List (List ℤ)) (kinds : List ConKind) → rows ≡ list.rows →
