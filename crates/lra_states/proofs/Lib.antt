@@ -1,0 +1,7 @@
+pub mod RowsHold
+pub mod BoxShown
+pub mod OctShown
+pub mod RowsSpelled
+pub mod SamePoints
+pub mod PolyhedronShown
+pub mod StateSteps

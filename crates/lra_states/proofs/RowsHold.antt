@@ -1,0 +1,81 @@
+-- Rows of constraints as rows of a report: where they hold, how wide they are, which way their equalities are turned.
+use Rattle.std.proofs.Common.{◌≡◌, ℕ, suc, ◌++◌, List, [], ◌∷◌, length, map, inl, inr, refl, subst, arith}
+use Rattle.std.specs.Prelude.{ℤ, pos, ◌+ℤ◌, replicate}
+use Rattle.std.specs.List.{AllByRecursion}
+use Rattle.std.proofs.lemmas.Int.{ints}
+use Rattle.lra_linear.specs.Vectors.{product}
+use Rattle.lra_linear.specs.Descriptions.{Given, Con, HoldsWith}
+use Rattle.lra_linear.proofs.Membership.{contains_head, contains_tail}
+use Rattle.lra_sys.specs.Listed.{Listed, given_by}
+use Rattle.lra_linear.specs.Kinds.{is_equality}
+use Rattle.lra_linear.specs.declared.ConKind.{ConKind}
+use Rattle.lra_linear.specs.declared.ConKind.TheVariants.{Ge, Eq}
+use Rattle.lra_show.specs.Shown.{report_row}
+use Rattle.lra_report.specs.Rows.{shown_rows}
+use Rattle.lra_report.specs.Spelled.{IsDirected}
+use Rattle.lra_domain.specs.Parts.{SomePartHolds}
+use Rattle.lra_findings.specs.Report.{Holds}
+use Rattle.lra_program.specs.Rows.{RowHolds, Row}
+use Rattle.lra_states.specs.Shown.{shown_part}
+
+-- rows ---------------------------------------------------------------------------------------------------------------
+
+row_value : (c : ℤ) (cs s : List ℤ) → product (c ∷ cs) (pos 1 ∷ s) ≡ c +ℤ product cs s
+row_value c cs s = omega (arith, ints)
+
+pub row_holds : (r : List ℤ) (k : ConKind) (s : List ℤ) → HoldsWith (is_equality k) (product r (pos 1 ∷ s)) → RowHolds (report_row r k) s
+row_holds [] Ge s h = omega (arith, ints)
+row_holds [] Eq s h = refl
+row_holds (c ∷ cs) k s h = subst (λ (z : ℤ). HoldsWith (is_equality k) z) (row_value c cs s) h
+
+rows_hold : (rows : List (List ℤ)) (kinds : List ConKind) (s : List ℤ) → Con (given_by is_equality rows kinds) (pos 1 ∷ s) → AllByRecursion (λ (r : Row). RowHolds r s) (shown_rows rows kinds)
+rows_hold [] kinds s h = tt
+rows_hold (r ∷ rows) [] s h = tt
+rows_hold (r ∷ rows) (k ∷ kinds) s h =
+    let g : Given = record { row = r; equal = is_equality k } in
+    (row_holds r k s (h g (contains_head g (given_by is_equality rows kinds))), rows_hold rows kinds s (λ x i. h x (contains_tail g x (given_by is_equality rows kinds) i)))
+
+pub parts_hold : (ps : List (Listed ConKind)) (s : List ℤ) → SomePartHolds ps s → Holds (map shown_part ps) s
+parts_hold [] s h = h
+parts_hold (p ∷ ps) s (inl h) = inl (rows_hold p.rows p.kinds s h)
+parts_hold (p ∷ ps) s (inr h) = inr (parts_hold ps s h)
+
+-- widths -------------------------------------------------------------------------------------------------------------
+
+-- a column more than there are dimensions
+abbrev pub AreWide : ℕ → List (List ℤ) → Type 0
+AreWide n rows = AllByRecursion (λ (r : List ℤ). length r ≡ suc n) rows
+
+pub both_wide : (n : ℕ) (xs ys : List (List ℤ)) → AreWide n xs → AreWide n ys → AreWide n (xs ++ ys)
+both_wide n [] ys h i = i
+both_wide n (x ∷ xs) ys h i = (h.0, both_wide n xs ys h.1 i)
+
+pub shown_wide : (n : ℕ) (rows : List (List ℤ)) (kinds : List ConKind) → AreWide n rows → AllByRecursion (λ (r : Row). length r.coefficients ≡ n) (shown_rows rows kinds)
+shown_wide n [] kinds h = tt
+shown_wide n (r ∷ rows) [] h = tt
+shown_wide n (r ∷ rows) (k ∷ kinds) h = (shown r h.0, shown_wide n rows kinds h.1)
+  where
+    shown : (r : List ℤ) → length r ≡ suc n → length (report_row r k).coefficients ≡ n
+    shown [] e = absurd (omega (arith, e))
+    shown (c ∷ cs) e = omega (arith, e)
+
+-- texts --------------------------------------------------------------------------------------------------------------
+
+abbrev pub IsDirectedRow : Row → Type 0
+IsDirectedRow r = IsDirected r.kind r.coefficients
+
+-- as an equality too
+abbrev pub IsStraight : List ℤ → Type 0
+IsStraight r = IsDirectedRow (report_row r Eq)
+
+inequality_directed : (r : List ℤ) → IsDirectedRow (report_row r Ge)
+inequality_directed [] = tt
+inequality_directed (c ∷ cs) = tt
+
+inequalities_directed : (rows : List (List ℤ)) → AllByRecursion IsDirectedRow (shown_rows rows (replicate (length rows) Ge))
+inequalities_directed [] = tt
+inequalities_directed (r ∷ rows) = (inequality_directed r, inequalities_directed rows)
+
+pub rows_directed : (xs ys : List (List ℤ)) → AllByRecursion IsStraight xs → AllByRecursion IsDirectedRow (shown_rows (xs ++ ys) (replicate (length xs) Eq ++ replicate (length ys) Ge))
+rows_directed [] ys h = inequalities_directed ys
+rows_directed (x ∷ xs) ys h = (h.0, rows_directed xs ys h.1)

@@ -1,0 +1,5 @@
+use Rattle.lra_states.proofs.BoxShown as law
+use Rattle.lra_states.proofs.laws.boxes_are_shown.Goals as goal
+
+pub returns : goal.returns
+returns c = law.boxes_are_shown

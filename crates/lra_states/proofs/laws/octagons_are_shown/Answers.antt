@@ -1,0 +1,5 @@
+use Rattle.lra_states.proofs.OctShown as law
+use Rattle.lra_states.proofs.laws.octagons_are_shown.Goals as goal
+
+pub returns : goal.returns
+returns c = law.octagons_are_shown

@@ -1,0 +1,11 @@
+use Rattle.lra_base.specs.declared.options.Domain.TheVariants.{Box}
+use Rattle.lra_box.specs.Meaning.{box_meaning}
+use Rattle.lra_states.proofs.BoxShown.{boxes_are_shown}
+use Rattle.lra_states.proofs.RowsSpelled.{told, spelled}
+use Rattle.lra_states.proofs.rows.BoxesShow.show.Goals as goal
+
+pub returns-clause-told : goal.returns-clause-told
+returns-clause-told c = told box_meaning Box boxes_are_shown c.args.self.now c.parts_by_rows.result c.parts_by_rows.ensures.shown
+
+pub returns-clause-spelled : goal.returns-clause-spelled
+returns-clause-spelled c = spelled box_meaning Box boxes_are_shown c.args.self.now c.parts_by_rows.result c.parts_by_rows.ensures.shown c.parts_by_rows.ensures.in_range

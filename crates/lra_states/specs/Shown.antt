@@ -1,0 +1,51 @@
+-- What a domain shows of its values, as the states of a report.
+use Rattle.std.specs.Prelude.{◌≡◌, ℕ, ◌≤◌, ℤ, List, [], length, map}
+use Rattle.std.specs.List.{AllByRecursion, Contains}
+use Rattle.lra_sys.specs.Listed.{Listed}
+use Rattle.lra_linear.specs.declared.ConKind.{ConKind}
+use Rattle.lra_report.specs.Rows.{shown_rows}
+use Rattle.lra_domain.specs.Meaning.{Meaning}
+use Rattle.lra_base.specs.declared.options.Domain.{Domain}
+use Rattle.lra_findings.specs.Report.{Part, State, Holds}
+use Rattle.lra_findings.specs.Parts.{Tells}
+use Rattle.lra_program.specs.Rows.{Row}
+use Rattle.lra_report.specs.Listing.{HasWidth}
+use Rattle.lra_report.specs.Spelled.{IsDirected}
+
+-- a value is shown by this state, in reports over this domain
+pub record IsShown {V H : Type 0} (m : Meaning V H) (domain : Domain) (v : V) (state : State) : Type 0 where
+  -- a part for each of the value's parts, so none exactly where the value has none
+  pub as_many : length state ≡ length (m.parts v)
+  -- a number for each dimension; each part as the domain has it
+  pub wide : AllByRecursion (HasWidth (m.dims v)) state
+  pub tell : AllByRecursion (Tells domain (m.dims v)) state
+  -- each store of the value holds there
+  pub holds : (s : List ℤ) → m.has v s → Holds state s
+
+-- so are these values
+abbrev pub AreShown : {V H : Type 0} → Meaning V H → Domain → (V → State) → List V → Type 0
+AreShown {V} m domain shown values = (v : V) → Contains values v → IsShown m domain v (shown v)
+
+-- none of these has more parts
+abbrev pub AreCapped : {V H : Type 0} → Meaning V H → ℕ → List V → Type 0
+AreCapped {V} m cap values = (v : V) → Contains values v → m.capped v cap
+
+-- by rows alone, as domains without generators show their values --------------------------------------------------
+
+-- a part without generators
+abbrev pub shown_part : Listed ConKind → Part
+shown_part p = record { rows = shown_rows p.rows p.kinds; generators = [] }
+
+-- a value's parts by their rows
+abbrev pub shown_state : {V H : Type 0} → Meaning V H → V → State
+shown_state m v = map shown_part (m.parts v)
+
+-- the first coefficient of each equality is above 0
+abbrev pub AreDirected : Part → Type 0
+AreDirected p = AllByRecursion (λ (r : Row). IsDirected r.kind r.coefficients) p.rows
+
+-- in reports over this domain each value is shown by its rows: as it is, as its text tells it, in one part
+pub record ShowsRows {V H : Type 0} (m : Meaning V H) (domain : Domain) : Type 0 where
+  pub shown : (v : V) → IsShown m domain v (shown_state m v)
+  pub directed : (v : V) → AllByRecursion AreDirected (shown_state m v)
+  pub capped : (v : V) (cap : ℕ) → 1 ≤ cap → m.capped v cap

@@ -1,0 +1,16 @@
+//! Laws: each of these does nothing, and its contract is the theorem.
+
+ghost use Rattle.lra_base.specs.declared.options.Domain.TheVariants.{Box, Oct};
+ghost use Rattle.lra_box.specs.Meaning.{box_meaning};
+ghost use Rattle.lra_oct.specs.Meaning.{octagon_meaning};
+ghost use Rattle.lra_states.specs.Shown.{ShowsRows};
+
+/// Boxes are shown as they are by their rows.
+pub fn boxes_are_shown()
+    ensures { ShowsRows box_meaning Box }
+{}
+
+/// Octagons are shown as they are by their rows.
+pub fn octagons_are_shown()
+    ensures { ShowsRows octagon_meaning Oct }
+{}

@@ -1,0 +1,35 @@
+//! Polyhedra, shown by their constraints and their generators.
+
+ghost use Rattle.std.specs.Prelude.{◌≡◌, IfOk};
+ghost use Rattle.std.specs.List.{AllByRecursion};
+ghost use Rattle.lra_linear.specs.Polyhedra.{IsPolyhedron};
+ghost use Rattle.lra_sys.specs.Listed.{FitKinds};
+ghost use Rattle.lra_report.specs.Spelled.{IsSpelledPart};
+ghost use Rattle.lra_states.specs.Polyhedra.{shown_polyhedron, TellsPolyhedron, polyhedron_of};
+
+use lra_report::Part;
+use lra_sys::{ConSys, GenSys};
+use std::alloc::{AllocError, Global};
+
+/// The state of a polyhedron, given by its canonical lists: no part where there is no point, else one part that has
+/// both lists.
+pub fn polyhedron_state(
+    alloc: Global,
+    rows: &ConSys,
+    generators: &GenSys,
+) -> Result<Vec<Part>, AllocError>
+    requires dims { generators.now.dims ≡ rows.now.dims }
+    requires fit { FitKinds generators.now.rows generators.now.kinds }
+    requires canonical { IsPolyhedron (polyhedron_of rows.now generators.now) }
+    ensures shown { IfOk result (λ s. s.items ≡ shown_polyhedron (polyhedron_of rows.now generators.now)) }
+    ensures told { IfOk result (λ s. TellsPolyhedron (polyhedron_of rows.now generators.now) s.items) }
+    ensures spelled { IfOk result (λ s. AllByRecursion IsSpelledPart s.items) }
+{
+    let (_rows, _generators) = (rows.rows(), generators.rows());
+    if generators.kinds().is_empty() {
+        return Ok(Vec::new(alloc));
+    }
+    let mut state = Vec::new(alloc);
+    state.push(Part::new(rows.copy()?, Some(generators.copy()?)))?;
+    Ok(state)
+}

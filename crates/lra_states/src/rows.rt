@@ -1,0 +1,53 @@
+//! Domains whose values are shown by their rows alone.
+
+ghost use Rattle.std.specs.Prelude.{◌≡◌, ◌≤◌, map, IfOk};
+ghost use Rattle.std.specs.List.{AllByRecursion};
+ghost use Rattle.lra_base.specs.declared.options.Domain.TheVariants as options;
+ghost use Rattle.lra_box.specs.Meaning.{box_meaning};
+ghost use Rattle.lra_oct.specs.Meaning.{octagon_meaning};
+ghost use Rattle.lra_report.specs.Rows.{IsPartInRange};
+ghost use Rattle.lra_states.specs.Shown.{shown_state};
+
+use crate::show::Show;
+use lra_box::Boxes;
+use lra_domain::Domain;
+use lra_oct::Octagon;
+use lra_report::Part;
+use std::alloc::{AllocError, Global};
+
+/// The parts of a value, without generators.
+#[tactic(auto, using(crate::proofs::StateSteps::pushed))]
+fn parts_by_rows<D: Domain>(alloc: Global, value: &D) -> Result<Vec<Part>, AllocError>
+    ensures shown { IfOk result (λ s. s.items ≡ shown_state D.meaning value.now) }
+    ensures in_range { IfOk result (λ s. AllByRecursion IsPartInRange s.items) }
+{
+    let mut state = Vec::new(alloc);
+    'each: for part in value.parts(alloc)? {
+        state.push(Part::new(part, None))?;
+    }
+    Ok(state)
+}
+
+impl Show for Boxes {
+    ghost named = { options.Box };
+
+    ghost shown = { shown_state box_meaning };
+
+    ghost capped = { λ v cap one. one };
+
+    fn show(&self, alloc: Global) -> Result<Vec<Part>, AllocError> {
+        parts_by_rows(alloc, self)
+    }
+}
+
+impl Show for Octagon {
+    ghost named = { options.Oct };
+
+    ghost shown = { shown_state octagon_meaning };
+
+    ghost capped = { λ v cap one. one };
+
+    fn show(&self, alloc: Global) -> Result<Vec<Part>, AllocError> {
+        parts_by_rows(alloc, self)
+    }
+}

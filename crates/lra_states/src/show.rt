@@ -1,0 +1,30 @@
+//! What a domain owes to a report.
+
+ghost use Rattle.std.specs.Prelude.{◌≡◌, ◌≤◌, ℕ, IfOk};
+ghost use Rattle.std.specs.List.{AllByRecursion};
+ghost use Rattle.lra_base.specs.declared.options.Domain as options;
+ghost use Rattle.lra_findings.specs.Report.{State};
+ghost use Rattle.lra_report.specs.Spelled.{IsSpelledPart};
+ghost use Rattle.lra_states.specs.Shown.{IsShown};
+
+use lra_domain::Domain;
+use lra_report::Part;
+use std::alloc::{AllocError, Global};
+
+/// A domain whose values a report shows.
+pub trait Show: Domain {
+    /// The domain as options name it.
+    ghost named: { options.Domain };
+
+    /// The state that a value is shown by.
+    ghost shown: { Self → State };
+
+    /// The state of the value: a part for each of its parts, each as the domain has it and as its text tells it.
+    fn show(&self, alloc: Global) -> Result<Vec<Part>, AllocError>
+        ensures shown { IfOk result (λ s. s.items ≡ shown self.now) }
+        ensures told { IfOk result (λ s. IsShown Self.meaning named self.now s.items) }
+        ensures spelled { IfOk result (λ s. AllByRecursion IsSpelledPart s.items) };
+
+    /// A value has one part at most, so each number of parts caps it.
+    ghost capped: { (v : Self) (cap : ℕ) → 1 ≤ cap → Self.meaning.capped v cap };
+}
