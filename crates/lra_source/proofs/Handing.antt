@@ -22,7 +22,7 @@ use Rattle.lra_flow.specs.Analysis.{Derivation, Solves}
 use Rattle.lra_iter.specs.Numbers.{values_in, checks_in, asserts_of, IsNumbered, IsBelow}
 use Rattle.lra_iter.proofs.Counting.{Found, iteration_found, value_counted, failing_counted, counted_value, counted_failing}
 use Rattle.lra_listing.specs.Given.{IsAssertion}
-use Rattle.lra_source.specs.Shown.{AreShown}
+use Rattle.lra_states.specs.Shown.{AreShown}
 use Rattle.lra_source.proofs.Numbering.{numbered}
 use Rattle.lra_source.proofs.Flags.{graph_below, iteration_below}
 use Rattle.lra_iter.proofs.Widths.{values_wide}

@@ -3,15 +3,11 @@ pub mod Fitting
 pub mod Sound
 pub mod Numbering
 pub mod Flags
-pub mod BoxShown
-pub mod RowsShown
-pub mod OctShown
 pub mod Reports
 pub mod EachAnswer
 pub mod ReadSteps
 pub mod StageSteps
 pub mod SomeAnswer
-pub mod StateSteps
 pub mod Widths
 pub mod Handing
 pub mod Readable

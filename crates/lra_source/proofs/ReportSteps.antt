@@ -21,7 +21,7 @@ use Rattle.lra_iter.specs.Numbers.{IsNumbered}
 use Rattle.lra_iter.specs.Solved.{IsSolved}
 use Rattle.lra_listing.specs.Given.{AreStates, AreVerdicts, state_of, told_of, told}
 use Rattle.lra_report.specs.Spelled.{IsSpelledPart}
-use Rattle.lra_source.specs.Shown.{AreShown, AreCapped}
+use Rattle.lra_states.specs.Shown.{AreShown, AreCapped}
 use Rattle.lra_source.specs.Stages.{HasGraph, IsToldOf}
 use Rattle.lra_source.proofs.Fitting.{tree_fits, few_globals}
 use Rattle.lra_source.proofs.Numbering.{numbered}
@@ -67,6 +67,14 @@ few_points t g sites has =
     let few = few_behind (labels_of t) 0 (events_of (resolve t)) has.within (omega arith) in
     let same : length sites ≡ length (sites_of (resolve t)) = ap length has.points in
     omega (arith, few, same)
+
+-- what is shown of the values -----------------------------------------------------------------------------------------
+
+-- under another name of the domain, and of a list that is the same
+pub shown_there : {V H : Type 0} (m : Meaning V H) (shown : V → State) (domain named : Domain) (values listed : List V) → domain ≡ named → listed ≡ values → AreShown m named shown listed
+    → AreShown m domain shown values
+shown_there {V} m shown domain named values listed is same are =
+    subst (λ (d : Domain). AreShown m d shown values) (sym is) (subst (λ (vs : List V). AreShown m named shown vs) same are)
 
 -- what the listing asks ----------------------------------------------------------------------------------------------
 

@@ -26,7 +26,7 @@ use Rattle.lra_operations.specs.Graph.{Node}
 use Rattle.lra_flow.specs.Pass.{Result}
 use Rattle.lra_flow.specs.Analysis.{Derivation, Solves}
 use Rattle.lra_flow.proofs.Unflagged.{unflagged_is_written, flagged_strains}
-use Rattle.lra_source.specs.Shown.{AreShown, AreCapped}
+use Rattle.lra_states.specs.Shown.{AreShown, AreCapped}
 use Rattle.lra_source.specs.Analysed.{told_verdict, verdict_told, IsAnalysed}
 use Rattle.lra_iter.specs.Numbers.{IsBelow}
 use Rattle.lra_source.proofs.Numbering.{numbered}

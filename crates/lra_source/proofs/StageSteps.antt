@@ -39,7 +39,7 @@ use Rattle.lra_domain.specs.Meaning.{Meaning}
 use Rattle.lra_domain.specs.Laws.{Laws}
 use Rattle.lra_box.specs.Meaning.{box_meaning}
 use Rattle.lra_oct.specs.Meaning.{octagon_meaning}
-use Rattle.lra_source.specs.Shown.{shown_state}
+use Rattle.lra_states.specs.Shown.{shown_state}
 use Rattle.lra_source.specs.Analysed.{IsAnalysed}
 use Rattle.lra_source.specs.Answers.{IsAnsweredOver, TellsAnalysis, IsAnswered}
 use Rattle.lra_source.specs.Stages.{HasTree, HasGraph, IsToldOf}
@@ -144,18 +144,18 @@ module _ {V H : Type 0} (m : Meaning V H) (laws : Laws m) (shown : V → State) 
 
 -- and so with what a tree's answer is, whichever it is
 module _ (o : Options) (source : List ℕ) (t : FileTree) (has : HasTree source t) where
-  pub each_answered : {V H : Type 0} (m : Meaning V H) (laws : Laws m) (x : Result code.Report SourceError) → IfOk x (λ r. IsToldOf m (shown_state m) o.domain o t (report_of r)) →
-      IfOk x (λ r. IsAnsweredOver m (shown_state m) o source (report_of r))
-  each_answered m laws (Ok r) is = is_answered m laws (shown_state m) o.domain o source t (report_of r) has is refl
-  each_answered m laws (Err e) is = tt
+  pub each_answered : {V H : Type 0} (m : Meaning V H) (laws : Laws m) (shown : V → State) (x : Result code.Report SourceError) → IfOk x (λ r. IsToldOf m shown o.domain o t (report_of r)) →
+      IfOk x (λ r. IsAnsweredOver m shown o source (report_of r))
+  each_answered m laws shown (Ok r) is = is_answered m laws shown o.domain o source t (report_of r) has is refl
+  each_answered m laws shown (Err e) is = tt
 
   pub each_refused : (x : Result code.Report SourceError) → IfRefused x (λ (r : Refusal). RefusesTree t r.cause r.place) → IfRefused x (λ (r : Refusal). Refuse Spells source r.cause r.place)
   each_refused x = refused_by _ _ (λ r. tree_refused source t r.cause r.place has) x
 
 -- the domain that the options name
-told_over : {V H : Type 0} (m : Meaning V H) (d : Domain) (o : Options) (source : List ℕ) (r : Report) → o.domain ≡ d → ((P : Program) → IsAnalysed m (shown_state m) o P r → TellsAnalysis d o P r) →
-    IsAnsweredOver m (shown_state m) o source r → IsAnswered o source r
-told_over m d o source r is tells over = record {
+told_over : {V H : Type 0} (m : Meaning V H) (shown : V → State) (d : Domain) (o : Options) (source : List ℕ) (r : Report) → o.domain ≡ d
+    → ((P : Program) → IsAnalysed m shown o P r → TellsAnalysis d o P r) → IsAnsweredOver m shown o source r → IsAnswered o source r
+told_over m shown d o source r is tells over = record {
   report = over.report;
   analysed = subst (λ (e : Domain). TellsAnalysis e o (resolve over.report.tree) r) (sym is) (tells (resolve over.report.tree) over.analysed);
   readable = over.readable;
@@ -163,10 +163,10 @@ told_over m d o source r is tells over = record {
 
 pub over_boxes : (o : Options) (source : List ℕ) (x : Result code.Report SourceError) → o.domain ≡ Box → IfOk x (λ r. IsAnsweredOver box_meaning (shown_state box_meaning) o source (report_of r)) →
     IfOk x (λ r. IsAnswered o source (report_of r))
-over_boxes o source (Ok r) is over = told_over box_meaning Box o source (report_of r) is (λ P h. h) over
+over_boxes o source (Ok r) is over = told_over box_meaning (shown_state box_meaning) Box o source (report_of r) is (λ P h. h) over
 over_boxes o source (Err e) is over = tt
 
 pub over_octagons : (o : Options) (source : List ℕ) (x : Result code.Report SourceError) → o.domain ≡ Oct
     → IfOk x (λ r. IsAnsweredOver octagon_meaning (shown_state octagon_meaning) o source (report_of r)) → IfOk x (λ r. IsAnswered o source (report_of r))
-over_octagons o source (Ok r) is over = told_over octagon_meaning Oct o source (report_of r) is (λ P h. h) over
+over_octagons o source (Ok r) is over = told_over octagon_meaning (shown_state octagon_meaning) Oct o source (report_of r) is (λ P h. h) over
 over_octagons o source (Err e) is over = tt

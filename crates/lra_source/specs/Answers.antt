@@ -13,7 +13,7 @@ use Rattle.lra_report.specs.Spelled.{IsReadable}
 use Rattle.lra_domain.specs.Meaning.{Meaning}
 use Rattle.lra_box.specs.Meaning.{box_meaning}
 use Rattle.lra_oct.specs.Meaning.{octagon_meaning}
-use Rattle.lra_source.specs.Shown.{shown_state}
+use Rattle.lra_states.specs.Shown.{shown_state}
 use Rattle.lra_source.specs.Analysed.{IsAnalysed}
 
 -- a report of the source that tells an analysis over a domain with this meaning; it is told by its text, which has
@@ -24,11 +24,15 @@ pub record IsAnsweredOver {V H : Type 0} (m : Meaning V H) (shown : V → State)
   pub analysed : IsAnalysed m shown o (resolve report.tree) r
   pub readable : IsReadable r
 
--- the report tells an analysis of the program over this domain, of which the rows are shown; polyhedra are to come
+-- what is said of this domain's meaning, and of the states that show its values; polyhedra are to come
+abbrev pub Over : Domain → ((V H : Type 0) → Meaning V H → (V → State) → Type 0) → Type 0
+Over Poly say = ⊥
+Over Box say = say _ _ box_meaning (shown_state box_meaning)
+Over Oct say = say _ _ octagon_meaning (shown_state octagon_meaning)
+
+-- the report tells an analysis of the program over this domain
 abbrev pub TellsAnalysis : Domain → Options → Program → Report → Type 0
-TellsAnalysis Poly o P r = ⊥
-TellsAnalysis Box o P r = IsAnalysed box_meaning (shown_state box_meaning) o P r
-TellsAnalysis Oct o P r = IsAnalysed octagon_meaning (shown_state octagon_meaning) o P r
+TellsAnalysis domain o P r = Over domain (λ V H m shown. IsAnalysed m shown o P r)
 
 -- so a source is answered: over the domain that the options name
 pub record IsAnswered (o : Options) (source : List ℕ) (r : Report) : Type 0 where

@@ -6,7 +6,6 @@ use Rattle.lra_tree.specs.Trees.{FileTree}
 use Rattle.lra_program.specs.Program.{Program}
 use Rattle.lra_operations.specs.Graph.{Node}
 use Rattle.lra_base.specs.declared.options.Domain.{Domain}
-use Rattle.lra_base.specs.declared.options.Domain.TheVariants.{Box, Oct}
 use Rattle.lra_base.specs.declared.options.Options.{Options}
 use Rattle.lra_findings.specs.Report.{State, Report, IsSound}
 use Rattle.lra_findings.specs.ReportText.{report_text}
@@ -20,9 +19,7 @@ use Rattle.lra_report.specs.Listing.{Lists, IsReportOf}
 use Rattle.lra_iter.specs.Fits.{TreeFits}
 use Rattle.lra_iter.specs.Numbers.{AreBelow, IsNumbered}
 use Rattle.lra_domain.specs.Meaning.{Meaning}
-use Rattle.lra_box.specs.Meaning.{box_meaning}
-use Rattle.lra_oct.specs.Meaning.{octagon_meaning}
-use Rattle.lra_source.specs.Shown.{AreShown, AreCapped, ShowsRows}
+use Rattle.lra_states.specs.Shown.{AreShown, AreCapped}
 use Rattle.lra_source.specs.Analysed.{IsAnalysed}
 use Rattle.lra_source.specs.Answers.{IsAnswered}
 
@@ -69,13 +66,6 @@ AnalysedAreReports {V} m = (shown : V → State) (o : Options) (settings : Optio
     → (x : IsAnalysed m shown settings (resolve t) r)
     → AreShown m o.domain shown x.values → AreCapped m o.parts x.values
     → Agrees (resolve t) x.tree → Lists t r → r.options ≡ o → Accepts Spells source t → IsReportOf Spells o source r
-
--- each box is shown by its rows, and each octagon
-abbrev pub BoxesAreShown : Type 0
-BoxesAreShown = ShowsRows box_meaning Box
-
-abbrev pub OctagonsAreShown : Type 0
-OctagonsAreShown = ShowsRows octagon_meaning Oct
 
 -- two answers to one source under one list of options that have the same text are the same report
 abbrev pub OneAnsweredText : Type 0

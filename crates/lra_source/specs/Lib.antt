@@ -1,4 +1,3 @@
-pub mod Shown
 pub mod Analysed
 pub mod Soundness
 pub mod Answers

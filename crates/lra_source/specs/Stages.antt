@@ -20,7 +20,7 @@ use Rattle.lra_meaning.specs.Refuse.{limit_fault}
 use Rattle.lra_tree.specs.Reach.{NotRecursive}
 use Rattle.lra_report.specs.Spelled.{IsReadable}
 use Rattle.lra_domain.specs.Meaning.{Meaning}
-use Rattle.lra_source.specs.Shown.{AreShown, AreCapped}
+use Rattle.lra_states.specs.Shown.{AreShown, AreCapped}
 use Rattle.lra_source.specs.Analysed.{IsAnalysed}
 use Rattle.lra_source.specs.Claims.{AreFew}
 

@@ -13,26 +13,24 @@ ghost use Rattle.lra_meaning.specs.Refuse.{RefusesTree, Refuse};
 ghost use Rattle.lra_report.specs.View.{report_of};
 ghost use Rattle.lra_base.specs.declared.options.Domain.TheVariants.{Poly};
 ghost use Rattle.lra_source.specs.Answers.{IsAnsweredOver, IsAnswered};
-ghost use Rattle.lra_source.specs.Shown.{shown_state, ShowsRows};
 ghost use Rattle.lra_source.specs.Stages.{HasGraph, IsToldOf};
 
 use crate::program::{graph_of, program_of};
 use crate::reading::read_tree;
-use crate::states::states_of;
 use lra_base::{Options, SourceError};
 use lra_box::Boxes;
-use lra_domain::Domain;
 use lra_iter::analyse;
 use lra_listing::{Outline, list};
 use lra_meaning::Labels;
 use lra_oct::Octagon;
 use lra_operations::Graph;
 use lra_report::Report;
+use lra_states::{Show, states_of};
 use lra_tree::Tree;
 use std::alloc::{AllocError, Global};
 
 /// The report of the iteration over a program's tree of operations.
-fn report_graph<D: Domain>(
+fn report_graph<D: Show>(
     alloc: Global,
     options: Options,
     tree: &Tree,
@@ -41,11 +39,11 @@ fn report_graph<D: Domain>(
     graph: &Graph,
 ) -> Result<Report, AllocError>
     requires parts { 1 ≤ options.parts }
-    requires shows { ShowsRows D.meaning options.domain }
+    requires named { options.domain ≡ D.named }
     requires graph { HasGraph (tree_view tree.now) (node_view graph.now.tree) (map site_view graph.now.sites.items) }
     requires labels { labels.now.labels ≡ labels_of (tree_view tree.now) }
     requires globals { (resolve (tree_view tree.now)).globals ≡ globals.now }
-    ensures { IfOk result (λ r. IsToldOf D.meaning (shown_state D.meaning) options.domain options
+    ensures { IfOk result (λ r. IsToldOf D.meaning D.shown options.domain options
         (tree_view tree.now) (report_of r)) }
 {
     let solution = analyse::<D>(alloc, &options, globals, graph)?;
@@ -66,15 +64,11 @@ fn report_graph<D: Domain>(
 
 /// The report of a tree, or its refusal: its first fault of names, its first recursive call, or the first limit that
 /// its program passes.
-fn report_tree<D: Domain>(
-    alloc: Global,
-    options: Options,
-    tree: &Tree,
-) -> Result<Report, SourceError>
+fn report_tree<D: Show>(alloc: Global, options: Options, tree: &Tree) -> Result<Report, SourceError>
     requires parts { 1 ≤ options.parts }
-    requires shows { ShowsRows D.meaning options.domain }
+    requires named { options.domain ≡ D.named }
     requires well { name_faults (tree_view tree.now) ≡ [] → IsWellFormed (resolve (tree_view tree.now)) }
-    ensures told { IfOk result (λ r. IsToldOf D.meaning (shown_state D.meaning) options.domain options
+    ensures told { IfOk result (λ r. IsToldOf D.meaning D.shown options.domain options
         (tree_view tree.now) (report_of r)) }
     ensures refused { IfRefused result (λ r. RefusesTree (tree_view tree.now) r.cause r.place) }
 {
@@ -91,16 +85,16 @@ fn report_tree<D: Domain>(
     )?)
 }
 
-/// The report of a source over a domain that shows its values by their rows, or its one refusal.
-fn analyse_over<D: Domain>(
+/// The report of a source over the domain that the options name, or its one refusal.
+fn analyse_over<D: Show>(
     alloc: Global,
     options: Options,
     bytes: &[u8],
 ) -> Result<Report, SourceError>
     requires parts { 1 ≤ options.parts }
-    requires shows { ShowsRows D.meaning options.domain }
+    requires named { options.domain ≡ D.named }
     requires bound { length bytes.now + 1 < 2 ^ 32 }
-    ensures answered { IfOk result (λ r. IsAnsweredOver D.meaning (shown_state D.meaning) options bytes.now
+    ensures answered { IfOk result (λ r. IsAnsweredOver D.meaning D.shown options bytes.now
         (report_of r)) }
     ensures refused { IfRefused result (λ r. Refuse Spells bytes.now r.cause r.place) }
 {

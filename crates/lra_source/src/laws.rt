@@ -4,8 +4,12 @@ ghost use Rattle.lra_tree.specs.Grammar.{Spells};
 ghost use Rattle.lra_meaning.specs.Refuse.{OneAnswer};
 ghost use Rattle.lra_flow.specs.Linear.{FormsAreRight, TestsAreRight, DiffersIsRight};
 ghost use Rattle.lra_source.specs.Soundness.{SolvedAreSound};
+<<<<<<< HEAD
 ghost use Rattle.lra_source.specs.Claims.{EachAnswer, OneAnsweredText, TreesFit, TreesAreNumbered, AnalysedAreSound};
 ghost use Rattle.lra_source.specs.Claims.{AnalysedAreReports, BoxesAreShown, OctagonsAreShown};
+=======
+ghost use Rattle.lra_source.specs.Claims.{EachAnswer, OneAnsweredText, TreesFit, TreesAreNumbered, AnalysedAreSound, AnalysedAreReports};
+>>>>>>> af2a614 (A source is answered over any domain that shows its values)
 
 use lra_domain::Domain;
 
@@ -43,16 +47,6 @@ pub fn trees_fit()
 pub fn analyses_are_right<D: Domain>()
     ensures sound { AnalysedAreSound D.meaning }
     ensures reports { AnalysedAreReports D.meaning }
-{}
-
-/// Boxes are shown as they are by their rows.
-pub fn boxes_are_shown()
-    ensures { BoxesAreShown }
-{}
-
-/// Octagons are shown as they are by their rows.
-pub fn octagons_are_shown()
-    ensures { OctagonsAreShown }
 {}
 
 /// What an iteration over a domain finds holds in all runs.

@@ -1,4 +1,4 @@
-//! What a source deserves: its one refusal, or its report over boxes.
+//! What a source deserves: its one refusal, or its report.
 //!
 //! [`analyse_source`] goes through the stages: tokens, tree, program, tree of operations, iteration, report. `proofs/`
 //! joins the laws of the parts: one reading and one tree make one answer, and its text makes one report; the tree of
@@ -10,10 +10,9 @@ mod answer;
 mod laws;
 mod program;
 mod reading;
-mod states;
 
 pub use answer::analyse_source;
 pub use laws::{
-    analyses_are_right, boxes_are_shown, each_answer, forms_are_right, octagons_are_shown,
-    one_answer, one_answered_text, solved_are_sound, trees_fit,
+    analyses_are_right, each_answer, forms_are_right, one_answer, one_answered_text,
+    solved_are_sound, trees_fit,
 };

@@ -5,10 +5,8 @@ use Rattle.lra_operations.specs.GraphViews.{node_view, site_view}
 use Rattle.lra_meaning.specs.Resolve.{resolve}
 use Rattle.lra_program.specs.Sites.{sites_of}
 use Rattle.lra_report.specs.View.{report_of}
-use Rattle.lra_source.specs.Shown.{shown_state}
 use Rattle.lra_listing.specs.Given.{AreVerdicts, told}
-use Rattle.lra_source.proofs.RowsShown.{states_spelled}
-use Rattle.lra_source.proofs.ReportSteps.{fits, small_globals, is_numbered, few_points, states_handed, verdicts_handed, flag_handed, is_told}
+use Rattle.lra_source.proofs.ReportSteps.{fits, small_globals, is_numbered, few_points, shown_there, states_handed, verdicts_handed, flag_handed, is_told}
 use Rattle.lra_source.proofs.answer.report_graph.Goals as goal
 
 pub analyse-requires-clause-few : goal.analyse-requires-clause-few
@@ -34,7 +32,9 @@ list-requires-clause-states g c =
     states_handed g.D.Domain.meaning (tree_view c.args.tree.now) (node_view c.args.graph.now.tree) (map site_view c.args.graph.now.sites.items) c.requires.graph c.args.options
     c.in_ok-solution.solution.values.items c.in_ok-solution.solution.verdicts.items c.in_ok-solution.solution.flagged
     (c.in_ok-solution.ensures.solved (resolve (tree_view c.args.tree.now)) c.requires.globals)
-    g.met.D.Domain.laws c.args.options.domain (shown_state g.D.Domain.meaning) (λ v listed. c.requires.shows.shown v) _ (c.in_ok-states.ensures.shown ∙ ap (map _) c.deref.ensures.value)
+    g.met.D.Domain.laws c.args.options.domain g.D.Show.shown
+    (shown_there g.D.Domain.meaning g.D.Show.shown c.args.options.domain g.D.Show.named c.in_ok-solution.solution.values.items _ c.requires.named c.deref.ensures.value c.in_ok-states.ensures.told)
+    _ (c.in_ok-states.ensures.shown ∙ ap (map _) c.deref.ensures.value)
 
 pub list-requires-clause-verdicts : goal.list-requires-clause-verdicts
 list-requires-clause-verdicts g c =
@@ -57,11 +57,11 @@ pub returns : goal.returns
 returns g c =
     let o = c.args.options in
     let values = c.in_ok-solution.solution.values.items in
-    let shown : map (λ x. x.items) c.in_ok-states.states.items ≡ map (shown_state g.D.Domain.meaning) values = c.in_ok-states.ensures.shown ∙ ap (map _) c.deref.ensures.value in
-    is_told g.D.Domain.meaning (shown_state g.D.Domain.meaning) c.args.options.domain o (tree_view c.args.tree.now) (node_view c.args.graph.now.tree) (map site_view c.args.graph.now.sites.items)
+    let shown : map (λ x. x.items) c.in_ok-states.states.items ≡ map g.D.Show.shown values = c.in_ok-states.ensures.shown ∙ ap (map _) c.deref.ensures.value in
+    is_told g.D.Domain.meaning g.D.Show.shown o.domain o (tree_view c.args.tree.now) (node_view c.args.graph.now.tree) (map site_view c.args.graph.now.sites.items)
     values c.in_ok-solution.solution.verdicts.items c.in_ok-solution.solution.flagged (map (λ x. x.items) c.in_ok-states.states.items) (report_of c.in_ok-report.report) c.requires.graph
     (c.in_ok-solution.ensures.solved (resolve (tree_view c.args.tree.now)) c.requires.globals)
-    shown (λ v listed. c.requires.shows.shown v) (λ v listed. c.requires.shows.capped v c.args.options.parts c.requires.parts)
-    (states_spelled g.D.Domain.meaning c.args.options.domain c.requires.shows values (map (λ x. x.items) c.in_ok-states.states.items) shown c.in_ok-states.ensures.in_range)
+    shown (shown_there g.D.Domain.meaning g.D.Show.shown o.domain g.D.Show.named values _ c.requires.named c.deref.ensures.value c.in_ok-states.ensures.told)
+    (λ v listed. g.met.D.Show.capped v o.parts c.requires.parts) c.in_ok-states.ensures.spelled
     c.in_ok-report.ensures.options c.in_ok-report.ensures.lists c.in_ok-report.ensures.states
     (c.in_ok-report.ensures.verdicts ∙ ap (map told) c.deref-2.ensures.value) c.in_ok-report.ensures.flag

@@ -1,5 +1,0 @@
-use Rattle.lra_source.proofs.OctShown as law
-use Rattle.lra_source.proofs.laws.octagons_are_shown.Goals as goal
-
-pub returns : goal.returns
-returns c = law.octagons_are_shown

@@ -1,9 +1,0 @@
-use Rattle.lra_source.proofs.StateSteps.{pushed, pushed_in_range}
-use Rattle.lra_source.proofs.states.state_of.Goals as goal
-
-pub each-preserved : goal.each-preserved
-each-preserved g c = record {
-  shown =
-      pushed c.each.state.items c.push.new.self.items c.new.result c.each.yielded c.in-Some.part c.each.invariant.shown c.in_ok-push.ensures.items c.new.ensures.rows c.new.ensures.generators;
-  in_range = pushed_in_range c.each.state.items c.push.new.self.items c.new.result c.each.invariant.in_range c.in_ok-push.ensures.items c.new.ensures.in_range;
-}
