@@ -1,5 +1,5 @@
 -- What the pairs of generators and rows tell of inclusion.
-use Rattle.std.proofs.Common.{◌≡◌, ◌≤ℤ◌, ℕ, Bool, true, false, List, ◌∷◌, ap, refl, sym, ◌∙◌, subst, ℤ, inl, inr, arith, pos, cond}
+use Rattle.std.proofs.Common.{◌≡◌, ◌≤ℤ◌, ℕ, Bool, true, false, List, [], ◌∷◌, ap, refl, sym, ◌∙◌, subst, ℤ, inl, inr, arith, pos, cond}
 use Rattle.std.proofs.lemmas.Int.{ints}
 use Rattle.std.specs.Cmp.{signed_Decides}
 use Rattle.std.specs.Prelude.{◌||◌, int_le, ◌↔◌, IsTrue}
@@ -56,6 +56,12 @@ inclusion_tells p q (Wide place row) h a =
         passes = e.1;
       },
     )
+
+-- of a list of rows
+pub yes_within : (p : Polyhedron) (rows : List Given) (answer : Inclusion) → IsPolyhedron p → IsInclusion rows p.generators answer → answer ≡ Yes →
+    IsWithin p.dims (Con p.rows) (Con rows)
+yes_within p rows answer h a e =
+    all_within p (record { dims = p.dims; rows = rows; generators = [] }) h (subst (IsInclusion rows p.generators) e a)
 
 -- ---- a constraint and a generator whose product is known
 said_at_least : (b : Bool) (z : ℤ) → IsTrue b ↔ (pos 0 ≤ℤ z) → int_le (pos 0) z ≡ b

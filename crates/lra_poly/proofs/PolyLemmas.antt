@@ -139,6 +139,18 @@ meet_within n rows more list P e h x i both = h x i (subst (λ (l : List Given).
 pub meet_inside : (n : ℕ) (rows more list : List Given) → list ≡ rows ++ more → IsWithin n (Con list) (Con rows)
 meet_inside n rows more list e x i c = ((meet_con n rows more).1 x i (subst (λ (l : List Given). Con l x) e c)).0
 
+-- constraints that each point meets change nothing
+pub met_exact : (p : Polyhedron) (more : List Given) → IsPolyhedron p → IsWithin p.dims (Con p.rows) (Con more) →
+    IsPolyhedronOf p.dims (Con (p.rows ++ more)) p
+met_exact p more h within = record {
+  dimensions = refl;
+  canonical = h;
+  points = (
+    λ x i c. ((meet_con p.dims p.rows more).1 x i c).0,
+    λ x i c. (meet_con p.dims p.rows more).0 x i (c, within x i c),
+  );
+}
+
 pub meet_strain : (p q : Polyhedron) (list : List Given) (o : Outcome) → list ≡ p.rows ++ q.rows → IfFlagged (FromRowsStrains p.dims list) o → IfFlagged (MeetStrains p q) o
 meet_strain p q list o e = if_flagged (FromRowsStrains p.dims list) (MeetStrains p q) o
     (λ loss s. constraints_strain p.dims (Meet (Con p.rows) (Con q.rows)) (Con (p.rows ++ q.rows)) (p.rows ++ q.rows) loss (meet_con p.dims p.rows q.rows)

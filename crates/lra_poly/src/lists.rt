@@ -59,16 +59,20 @@ pub fn row_of_form(alloc: Global, form: &LinExpr) -> Result<Row, AllocError>
     Ok(row)
 }
 
-// The constraints, then that of the test.
-pub fn with_test(alloc: Global, list: &ConSys, test: &Test) -> Result<ConSys, AllocError>
-    requires { length test.now.expr.coefficients ≡ list.now.dims }
-    ensures dims { IfOk result (λ all. all.dims ≡ list.now.dims) }
-    ensures rows { IfOk result (λ all. constraints all ≡
-        constraints list.now ++ test_row test.now.kind test.now.expr ∷ []) }
+// No memory holds a row of so many columns.
+const TOO_MANY_DIMENSIONS: usize = 1 << 62;
+
+// The constraint of the test, alone.
+pub fn tested(alloc: Global, test: &Test) -> Result<ConSys, AllocError>
+    ensures dims { IfOk result (λ list. list.dims ≡ length test.now.expr.coefficients) }
+    ensures rows { IfOk result (λ list. constraints list ≡ test_row test.now.kind test.now.expr ∷ []) }
 {
-    let _kinds = list.kinds();
-    let mut all = list.copy()?;
+    let n = test.expr.coefficients().len();
+    if n >= TOO_MANY_DIMENSIONS {
+        return Err(AllocError);
+    }
+    let mut list = ConSys::new(alloc, n);
     let row = row_of_form(alloc, &test.expr)?;
-    all.push(row, test.kind)?;
-    Ok(all)
+    list.push(row, test.kind)?;
+    Ok(list)
 }

@@ -1,6 +1,6 @@
 //! Closed polyhedra.
 
-ghost use Rattle.std.specs.Prelude.{◌≡◌, ◌↔◌, ◌<◌, ◌^◌, ◌∷◌, [], length, IsTrue, IfOk, OnErr};
+ghost use Rattle.std.specs.Prelude.{◌≡◌, ◌↔◌, ◌<◌, ◌^◌, ◌∷◌, ◌++◌, [], length, IsTrue, IfOk, OnErr};
 ghost use Rattle.lra_linear.specs.Descriptions.{Con, Gen, Holds};
 ghost use Rattle.lra_linear.specs.OperationStrain.{FromRowsStrains, FromGeneratorsStrains};
 ghost use Rattle.lra_linear.specs.OperationStrain.{AddTestStrains, MeetStrains, HullStrains};
@@ -14,7 +14,7 @@ ghost use Rattle.lra_poly.specs.Outcomes.{IfExact, IfFlagged};
 ghost use Rattle.lra_poly.specs.Rows.{form_row, test_row};
 
 use crate::inclusion::{Inclusion, inclusion_of};
-use crate::lists::{joined_generators, joined_rows, with_test};
+use crate::lists::{joined_generators, joined_rows, tested};
 use crate::maximum::{Maximum, maximum_of};
 use crate::outcome::{Outcome, outcome_of};
 use lra_cone::nothing;
@@ -203,19 +203,53 @@ impl Poly {
         }
     }
 
-    // Becomes the polyhedron of constraints that have no other points. Where that is flagged and isn't known to lie in
-    // the old value, the old value stays.
-    fn narrow(&mut self, list: &ConSys) -> Result<Outcome, AllocError>
-        requires dims { list.now.dims ≡ self.old.dims }
-        requires within { IsWithin self.old.dims (Con (constraints list.now)) (Con self.old.rows) }
+    // Whether it is known that each point meets each of the constraints.
+    fn meets(&self, list: &ConSys) -> bool
+        requires { list.now.dims ≡ self.now.dims }
+        ensures within { IsTrue result → IsWithin self.now.dims (Con self.now.rows) (Con (constraints list.now)) }
+        ensures canonical { IsPolyhedron self.now }
+    {
+        match inclusion_of(&self.by_generators, list) {
+            Inclusion::Yes => true,
+            Inclusion::No(_) => false,
+            Inclusion::Wide(_, _) => false,
+        }
+    }
+
+    // The polyhedron of the constraints and of these. Where it is flagged it has at least their points.
+    fn narrowed(&self, more: &ConSys) -> Result<(Poly, Outcome), AllocError>
+        requires { more.now.dims ≡ self.now.dims }
+        ensures dims { IfOk result (λ r. r.0.dims ≡ self.now.dims) }
+        ensures exact { IfOk result (λ r.
+            IfExact (IsPolyhedronOf self.now.dims (Con (self.now.rows ++ constraints more.now)) r.0) r.1) }
+        ensures within { IfOk result (λ r.
+            IsWithin self.now.dims (Con (self.now.rows ++ constraints more.now)) (Con r.0.rows)) }
+        ensures strain { IfOk result (λ r.
+            IfFlagged (FromRowsStrains self.now.dims (self.now.rows ++ constraints more.now)) r.1) }
+    {
+        let list = joined_rows(&self.rows, more)?;
+        let (made, outcome) = Poly::from_rows(self.alloc, &list)?;
+        Ok((made, outcome))
+    }
+
+    // Takes these constraints in. Where each point meets them, nothing changes. Where a result that has at least their
+    // points is flagged and isn't known to lie in the old value, the old value stays.
+    fn narrow(&mut self, more: &ConSys) -> Result<Outcome, AllocError>
+        requires { more.now.dims ≡ self.old.dims }
         ensures dims { self.new.dims ≡ self.old.dims }
-        ensures exact { IfOk result (IfExact (IsPolyhedronOf self.old.dims (Con (constraints list.now)) self.new)) }
-        ensures within { IfOk result (λ _. IsWithin self.old.dims (Con (constraints list.now)) (Con self.new.rows)) }
+        ensures exact { IfOk result (IfExact
+            (IsPolyhedronOf self.old.dims (Con (self.old.rows ++ constraints more.now)) self.new)) }
+        ensures within { IfOk result (λ _.
+            IsWithin self.old.dims (Con (self.old.rows ++ constraints more.now)) (Con self.new.rows)) }
         ensures inside { IfOk result (λ _. IsWithin self.old.dims (Con self.new.rows) (Con self.old.rows)) }
-        ensures strain { IfOk result (IfFlagged (FromRowsStrains self.old.dims (constraints list.now))) }
+        ensures strain { IfOk result
+            (IfFlagged (FromRowsStrains self.old.dims (self.old.rows ++ constraints more.now))) }
         ensures unchanged { OnErr result (self.new ≡ self.old) }
     {
-        let (made, outcome) = Poly::from_rows(self.alloc, list)?;
+        if self.meets(more) {
+            return Ok(Outcome::Exact);
+        }
+        let (made, outcome) = self.narrowed(more)?;
         match &outcome {
             Outcome::Exact => *self = made,
             Outcome::Flagged(_) => {
@@ -240,8 +274,8 @@ impl Poly {
         ensures strain { IfOk result (IfFlagged (MeetStrains self.old other.now)) }
         ensures unchanged { OnErr result (self.new ≡ self.old) }
     {
-        let list = joined_rows(&self.rows, &other.rows)?;
-        let outcome = self.narrow(&list)?;
+        let rows = other.rows();
+        let outcome = self.narrow(rows)?;
         Ok(outcome)
     }
 
@@ -258,8 +292,8 @@ impl Poly {
         ensures strain { IfOk result (IfFlagged (AddTestStrains self.old (test_row test.now.kind test.now.expr))) }
         ensures unchanged { OnErr result (self.new ≡ self.old) }
     {
-        let list = with_test(self.alloc, &self.rows, test)?;
-        let outcome = self.narrow(&list)?;
+        let row = tested(self.alloc, test)?;
+        let outcome = self.narrow(&row)?;
         Ok(outcome)
     }
 

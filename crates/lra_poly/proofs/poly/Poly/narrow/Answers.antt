@@ -1,30 +1,41 @@
-use Rattle.std.proofs.Common.{refl, sym, ◌∙◌}
+use Rattle.std.proofs.Common.{refl, sym, ◌++◌}
 use Rattle.lra_linear.specs.Descriptions.{Con}
 use Rattle.lra_sys.specs.Listed.{constraints}
-use Rattle.lra_poly.proofs.PolyLemmas.{within_same, exact_inside, made_inside, old_inside}
+use Rattle.lra_poly.proofs.PolyLemmas.{within_same, exact_inside, made_inside, old_inside, meet_inside, met_exact}
 use Rattle.lra_poly.proofs.poly.Poly.narrow.Goals.{in-Exact, in-Flagged+then-lies_in, in-Flagged+else-lies_in}
 use Rattle.lra_poly.proofs.poly.Poly.narrow.Goals as goal
 
+pub returns-then-meets-clause-exact : goal.returns-then-meets-clause-exact
+returns-then-meets-clause-exact c = met_exact c.args.self.now (constraints c.args.more.now) c.meets.ensures.canonical (c.if-meets.ensures.within refl)
+
+pub returns-then-meets-clause-within : goal.returns-then-meets-clause-within
+returns-then-meets-clause-within c =
+    let p = c.args.self.now in
+    let more = constraints c.args.more.now in
+    meet_inside p.dims p.rows more (p.rows ++ more) refl
+
 pub returns-clause-within : goal.returns-clause-within
 returns-clause-within c =
-    let n = c.args.self.now.dims in
-    let m = c.args.list.now.dims in
-    let P = Con (constraints c.args.list.now) in
+    let p = c.args.self.now in
+    let n = p.dims in
+    let more = constraints c.args.more.now in
+    let list = p.rows ++ more in
     elim c.match-outcome.branch [
-      | in-Exact w ↦ within_same n m P c.match-outcome.self c.in_ok-made.made (w.self-is ∙ w.drop.view_is) (sym c.requires.dims) c.in_ok-made.ensures.within
-      | in-Flagged+then-lies_in w ↦ within_same n m P c.match-outcome.self c.in_ok-made.made (w.self-is ∙ w.drop-then-lies_in.view_is) (sym c.requires.dims) c.in_ok-made.ensures.within
-      | in-Flagged+else-lies_in w ↦ within_same n n P c.match-outcome.self c.args.self.now w.self-is refl c.requires.within
+      | in-Exact w ↦ within_same n n (Con list) c.match-outcome.self c.in_ok-made.made w.self-is refl c.in_ok-made.ensures.within
+      | in-Flagged+then-lies_in w ↦ within_same n n (Con list) c.match-outcome.self c.in_ok-made.made w.self-is refl c.in_ok-made.ensures.within
+      | in-Flagged+else-lies_in w ↦ within_same n n (Con list) c.match-outcome.self p w.self-is refl (meet_inside n p.rows more list refl)
     ]
 
 pub returns-clause-inside : goal.returns-clause-inside
 returns-clause-inside c =
-    let n = c.args.self.now.dims in
-    let m = c.args.list.now.dims in
-    let old = c.args.self.now.rows in
+    let p = c.args.self.now in
+    let n = p.dims in
+    let more = constraints c.args.more.now in
+    let list = p.rows ++ more in
     elim c.match-outcome.branch [
-      | in-Exact w ↦ exact_inside n m (constraints c.args.list.now) old c.match-outcome.self c.in_ok-made.made c.in_ok-made.outcome w.in-Exact.is (w.self-is ∙ w.drop.view_is) (sym c.requires.dims)
-          c.in_ok-made.ensures.exact c.requires.within
-      | in-Flagged+then-lies_in w ↦ made_inside n old c.match-outcome.self c.in_ok-made.made (w.self-is ∙ w.drop-then-lies_in.view_is)
-          (sym c.requires.dims ∙ sym c.in_ok-made.ensures.dims) (w.if-lies_in.ensures refl)
-      | in-Flagged+else-lies_in w ↦ old_inside n c.match-outcome.self c.args.self.now w.self-is
+      | in-Exact w ↦ exact_inside n n list p.rows c.match-outcome.self c.in_ok-made.made c.in_ok-made.outcome w.in-Exact.is w.self-is refl
+          c.in_ok-made.ensures.exact (meet_inside n p.rows more list refl)
+      | in-Flagged+then-lies_in w ↦ made_inside n p.rows c.match-outcome.self c.in_ok-made.made w.self-is
+          (sym c.in_ok-made.ensures.dims) (w.if-lies_in.ensures refl)
+      | in-Flagged+else-lies_in w ↦ old_inside n c.match-outcome.self p w.self-is
     ]
