@@ -90,22 +90,10 @@ fronted a d e at i step before own = (
 left_of_front : (live more : List (List ℕ)) → take (length live) (live ++ more) ≡ live
 left_of_front live more = take-append-le (length live) live more (omega arith) ∙ take-length live
 
-left_of_for : (live : List (List ℕ)) (i : InitTree) → take (length live) (live_in_for live i) ≡ live
+pub left_of_for : (live : List (List ℕ)) (i : InitTree) → take (length live) (live_in_for live i) ≡ live
 left_of_for live no_init = take-length live
 left_of_for live (declared d) = left_of_front live (map (λ (x : DeclaratorTree). x.name.word) (d.first ∷ d.rest))
 left_of_for live (assigned a) = take-length live
-
--- the whole: behind its front the labels of its body, and it is left
-pub loops : (a e f g : LabelsSoFar) (at : Place) (i : InitTree) (step : Option AssignTree) (body : StmtTree) (count : ℕ)
-    → e.labels ≡ a.labels ++ for_front at a.live i step → e.live ≡ live_in_for a.live i → Adds e f (stmt_labels e.live body)
-    → count ≡ length a.live → g.live ≡ take count f.live → g.labels ≡ f.labels
-    → Adds a g (for_front at a.live i step ++ stmt_labels (live_in_for a.live i) body)
-loops a e f g at i step body count front inside within counted left same = record {
-  labels = same ∙ within.labels ∙ ap (λ (ls : List Labelled). ls ++ stmt_labels e.live body) front
-      ∙ append_assoc a.labels (for_front at a.live i step) (stmt_labels e.live body)
-      ∙ ap (λ (ns : List (List ℕ)). a.labels ++ (for_front at a.live i step ++ stmt_labels ns body)) inside;
-  live = left ∙ ap (λ (n : ℕ). take n f.live) counted ∙ ap (λ (ns : List (List ℕ)). take (length a.live) ns) (within.live ∙ inside) ∙ left_of_for a.live i;
-}
 
 -- items ----------------------------------------------------------------------------------------------------------------
 

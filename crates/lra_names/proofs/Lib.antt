@@ -13,6 +13,8 @@ pub mod NameLaws
 pub mod DeclarationLaws
 pub mod StatementLaws
 pub mod LabellingLaws
+pub mod LoopLaws
+pub mod SimpleLaws
 -- Functions by their names.
 pub mod SignatureLaws
 -- Functions and the whole.

@@ -33,7 +33,7 @@ use Rattle.lra_tree.specs.Labels.{with_names, declarator_labels, init_labels, st
 use Rattle.lra_meaning.specs.Resolve.{resolve_stmt, resolve_items, stmt_count, items_count, init_count, step_count}
 use Rattle.lra_meaning.proofs.LabelCounts.{count_stmt, count_declarators, count_items, count_step}
 use Rattle.lra_names.specs.Scopes.{with_more, Extends, left_to}
-use Rattle.lra_names.specs.Statements.{followed, choice, loop_of, for_of}
+use Rattle.lra_names.specs.Statements.{followed, choice}
 use Rattle.lra_names.proofs.Telling.{tells_front, tells_behind}
 use Rattle.lra_names.proofs.DeclarationLaws.{followed_push}
 
@@ -201,17 +201,6 @@ pub choice_found : (r : Result ProgramStmt SourceError) (n l : ℕ) (c d : progr
     → IfOk r (λ s. view.stmt_view s ≡ choice l c t e) → l ≡ n → c ≡ d → t ≡ u → e ≡ f → IfOk r (λ s. view.stmt_view s ≡ choice n d u f)
 choice_found (Ok s) n l c d t u e f h p q v w = h ∙ rw (p, q, v, w)
 choice_found (Err x) n l c d t u e f h p q v w = tt {0}
-
-pub loop_found : (r : Result ProgramStmt SourceError) (n l : ℕ) (c d : program.Cond) (t u e f : program.Stmt)
-    → IfOk r (λ s. view.stmt_view s ≡ loop_of l c t e) → l ≡ n → c ≡ d → t ≡ u → e ≡ f → IfOk r (λ s. view.stmt_view s ≡ loop_of n d u f)
-loop_found (Ok s) n l c d t u e f h p q v w = h ∙ rw (p, q, v, w)
-loop_found (Err x) n l c d t u e f h p q v w = tt {0}
-
-pub for_found : (r : Result ProgramStmt SourceError) (i j : program.BlockItems) (n l : ℕ) (c d : program.Cond) (t u e f : program.Stmt)
-    → IfOk r (λ s. view.stmt_view s ≡ for_of i (loop_of l c t e)) → i ≡ j → l ≡ n → c ≡ d → t ≡ u → e ≡ f
-    → IfOk r (λ s. view.stmt_view s ≡ for_of j (loop_of n d u f))
-for_found (Ok s) i j n l c d t u e f h o p q v w = h ∙ rw (o, p, q, v, w)
-for_found (Err x) i j n l c d t u e f h o p q v w = tt {0}
 
 pub ruleset if_else_rules = (le-max_left, le-max_right)
 

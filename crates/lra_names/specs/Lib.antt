@@ -7,4 +7,5 @@ pub mod Calls
 pub mod Signatures
 pub mod Labelling
 pub mod Statements
+pub mod LoopHeads
 pub mod Mains

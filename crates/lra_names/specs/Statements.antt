@@ -1,8 +1,7 @@
 -- Where statements stand, and lists of items that are built from the front.
-use Rattle.std.specs.Prelude.{ℕ, List, [], ◌∷◌, ◌++◌, Option}
-use Rattle.lra_tree.specs.Trees.{CondTree, AssignTree, InitTree, FunctionTree}
-use Rattle.lra_meaning.specs.Scope.{Scope, for_scope}
-use Rattle.lra_base.specs.declared.refusals.Refusal.{Refusal}
+use Rattle.std.specs.Prelude.{ℕ, List, [], ◌∷◌, Option, Some, None, ⊤}
+use Rattle.lra_base.specs.declared.refusals.Place.{Place}
+use Rattle.lra_tree.specs.Trees.{CondTree, StmtTree, block, if_only, if_else, while, for}
 use Rattle.lra_names.specs.declared.around.Around.{Around}
 use Rattle.lra_names.specs.Calls.{functions_at}
 use Rattle.lra_meaning.specs.NameFaults as faults
@@ -12,10 +11,19 @@ use Rattle.lra_program.specs.Program as program
 abbrev pub around_of : Around → faults.Around
 around_of a = record { functions = functions_at a.functions.now; has_result = a.has_result; in_loop = a.in_loop }
 
--- the faults of what stands in the parentheses of a `for`
-abbrev pub head_faults : List FunctionTree → Scope → InitTree → Option CondTree → Option AssignTree → List Refusal
-head_faults F s i c e = faults.init_faults F s i ++ faults.test_of_for_faults (for_scope s i) c
-    ++ faults.step_faults F (for_scope s i) e
+-- a choice, with a second branch or without one
+abbrev pub choice_tree : Place → CondTree → StmtTree → Option StmtTree → StmtTree
+choice_tree at c t None = if_only at c t
+choice_tree at c t (Some e) = if_else at c t e
+
+-- a statement without statements in it
+abbrev pub IsSimple : StmtTree → Type 0
+IsSimple (block items end) = ⊥
+IsSimple (if_only at c t) = ⊥
+IsSimple (if_else at c t e) = ⊥
+IsSimple (while at c b) = ⊥
+IsSimple (for at i c e b) = ⊥
+IsSimple t = ⊤
 
 -- some items, each of which is what it puts before those behind it, before others
 abbrev pub followed : List (program.BlockItems → program.BlockItems) → program.BlockItems → program.BlockItems

@@ -1,7 +1,7 @@
 //! What stands in the parentheses of a statement.
 
 ghost use Rattle.std.specs.Prelude.{◌≡◌, ◌+◌, ◌++◌, ◌∷◌, [], suc, map, option_map, IfOk, OnOk, IfErr};
-ghost use Rattle.lra_program.specs.Program.{no_more, assert as assert_stmt, assume as assume_stmt};
+ghost use Rattle.lra_program.specs.Program.{Stmt, no_more, assert as assert_stmt, assume as assume_stmt};
 ghost use Rattle.lra_tree.specs.Views.{init_view, assign_view, cond_view as tree_cond_view};
 ghost use Rattle.lra_program.specs.ProgramViews.{stmt_view, items_view, item_view, cond_view};
 ghost use Rattle.lra_meaning.specs.Scope.{for_scope};
@@ -11,7 +11,9 @@ ghost use Rattle.lra_meaning.specs.Resolve.{step_count};
 ghost use Rattle.lra_names.specs.Calls.{functions_at};
 ghost use Rattle.lra_tree.specs.Labels.{plain_label, init_labels, step_labels, live_in_for};
 ghost use Rattle.lra_names.specs.Labelling.{Adds, for_front};
-ghost use Rattle.lra_names.specs.Statements.{followed, choice, loop_of, for_of, head_faults};
+ghost use Rattle.lra_names.specs.Statements.{followed, choice, loop_of, for_of};
+ghost use Rattle.lra_names.specs.LoopHeads.{for_head, head_faults, body_scope, body_label, head_labels, body_live};
+ghost use Rattle.lra_names.specs.LoopHeads.{loop_around, rounds_view, loop_with};
 ghost use Rattle.lra_names.specs.Outcome.{TellsOf};
 
 use crate::around::Around;
@@ -88,10 +90,10 @@ impl Head {
     }
 }
 
-/// Where a statement with a condition stands, and what it asks.
+/// Where a choice stands, and what it asks.
 #[derive(Clone, Copy)]
 pub struct Asked<'a> {
-    pub place: Place,
+    pub place: &'a Place,
     pub cond: &'a Cond,
 }
 
@@ -101,16 +103,17 @@ pub fn resolve_head(
     alloc: Global,
     scope: &Scope,
     labels: &mut Labelling,
-    asked: &Asked<'_>,
+    place: Place,
+    cond: &Cond,
 ) -> Result<Head, SourceError>
-    ensures told { TellsOf (cond_faults scope.now (tree_cond_view asked.now.cond.now)) result }
+    ensures told { TellsOf (cond_faults scope.now (tree_cond_view cond.now)) result }
     ensures label { IfOk result (λ h. h.label ≡ labels.old.next) }
-    ensures found { IfOk result (λ h. cond_view h.cond ≡ resolve_cond scope.now (tree_cond_view asked.now.cond.now)) }
+    ensures found { IfOk result (λ h. cond_view h.cond ≡ resolve_cond scope.now (tree_cond_view cond.now)) }
     ensures counted { OnOk result (labels.new.next ≡ suc labels.old.next) }
-    ensures adds { OnOk result (Adds labels.old labels.new (plain_label asked.now.place labels.old.live ∷ [])) }
+    ensures adds { OnOk result (Adds labels.old labels.new (plain_label place labels.old.live ∷ [])) }
 {
-    let label = labels.add(asked.place, None)?;
-    let cond = resolve_cond(alloc, scope, asked.cond)?;
+    let label = labels.add(place, None)?;
+    let cond = resolve_cond(alloc, scope, cond)?;
     Ok(Head { label, cond })
 }
 
@@ -118,15 +121,16 @@ pub fn resolve_assert(
     around: &Around<'_>,
     scope: &Scope,
     labels: &mut Labelling,
-    asked: &Asked<'_>,
+    place: Place,
+    cond: &Cond,
 ) -> Result<lra_program::Stmt, SourceError>
-    ensures told { TellsOf (cond_faults scope.now (tree_cond_view asked.now.cond.now)) result }
+    ensures told { TellsOf (cond_faults scope.now (tree_cond_view cond.now)) result }
     ensures found { IfOk result (λ s. stmt_view s ≡ assert_stmt labels.old.next
-        (resolve_cond scope.now (tree_cond_view asked.now.cond.now))) }
+        (resolve_cond scope.now (tree_cond_view cond.now))) }
     ensures counted { OnOk result (labels.new.next ≡ suc labels.old.next) }
-    ensures adds { OnOk result (Adds labels.old labels.new (plain_label asked.now.place labels.old.live ∷ [])) }
+    ensures adds { OnOk result (Adds labels.old labels.new (plain_label place labels.old.live ∷ [])) }
 {
-    let head = resolve_head(around.alloc, scope, labels, asked)?;
+    let head = resolve_head(around.alloc, scope, labels, place, cond)?;
     Ok(head.into_assert())
 }
 
@@ -134,15 +138,16 @@ pub fn resolve_assume(
     around: &Around<'_>,
     scope: &Scope,
     labels: &mut Labelling,
-    asked: &Asked<'_>,
+    place: Place,
+    cond: &Cond,
 ) -> Result<lra_program::Stmt, SourceError>
-    ensures told { TellsOf (cond_faults scope.now (tree_cond_view asked.now.cond.now)) result }
+    ensures told { TellsOf (cond_faults scope.now (tree_cond_view cond.now)) result }
     ensures found { IfOk result (λ s. stmt_view s ≡ assume_stmt labels.old.next
-        (resolve_cond scope.now (tree_cond_view asked.now.cond.now))) }
+        (resolve_cond scope.now (tree_cond_view cond.now))) }
     ensures counted { OnOk result (labels.new.next ≡ suc labels.old.next) }
-    ensures adds { OnOk result (Adds labels.old labels.new (plain_label asked.now.place labels.old.live ∷ [])) }
+    ensures adds { OnOk result (Adds labels.old labels.new (plain_label place labels.old.live ∷ [])) }
 {
-    let head = resolve_head(around.alloc, scope, labels, asked)?;
+    let head = resolve_head(around.alloc, scope, labels, place, cond)?;
     Ok(head.into_assume())
 }
 
@@ -235,11 +240,18 @@ fn resolve_step(
 
 /// Where a `for` stands, and what stands in its parentheses, in the source.
 #[derive(Clone, Copy)]
-pub struct Rounds<'a> {
+pub struct Parentheses<'a> {
     pub place: Place,
     pub init: &'a Init,
     pub test: &'a Option<Cond>,
     pub step: &'a Option<Assign>,
+}
+
+/// What stands before a loop's body, in the source.
+#[derive(Clone, Copy)]
+pub enum Rounds<'a> {
+    While(&'a Place, &'a Cond),
+    For(&'a Place, &'a Init, &'a Option<Cond>, &'a Option<Assign>),
 }
 
 /// What it means, and the label of the `for`.
@@ -282,11 +294,11 @@ pub fn resolve_for_head(
     around: &Around<'_>,
     scope: &mut Scope,
     labels: &mut Labelling,
-    rounds: &Rounds<'_>,
+    rounds: &Parentheses<'_>,
 ) -> Result<ForHead, SourceError>
     ensures told { TellsOf (head_faults (functions_at around.now.functions.now) scope.old
-        (init_view rounds.now.init.now) (option_map tree_cond_view rounds.now.test.now)
-        (option_map assign_view rounds.now.step.now)) result }
+        (for_head rounds.now.place (init_view rounds.now.init.now) (option_map tree_cond_view rounds.now.test.now)
+        (option_map assign_view rounds.now.step.now))) result }
     ensures label { IfOk result (λ h. h.head.label ≡ labels.old.next) }
     ensures begun { IfOk result (λ h. items_view h.init
         ≡ resolve_init (functions_at around.now.functions.now) scope.old (suc labels.old.next)
@@ -296,7 +308,8 @@ pub fn resolve_for_head(
         (option_map tree_cond_view rounds.now.test.now)) }
     ensures stepped { IfOk result (λ h. stmt_view h.step
         ≡ resolve_step (functions_at around.now.functions.now) (for_scope scope.old (init_view rounds.now.init.now))
-        (suc labels.old.next + init_count (init_view rounds.now.init.now)) (option_map assign_view rounds.now.step.now)) }
+        (suc labels.old.next + init_count (init_view rounds.now.init.now))
+        (option_map assign_view rounds.now.step.now)) }
     ensures entered { OnOk result (scope.new ≡ for_scope scope.old (init_view rounds.now.init.now)) }
     ensures counted { OnOk result (labels.new.next ≡ suc labels.old.next + init_count (init_view rounds.now.init.now)
         + step_count (option_map assign_view rounds.now.step.now)) }
@@ -311,4 +324,71 @@ pub fn resolve_for_head(
     let step = resolve_step(around, scope, labels, rounds.step)?;
     let head = Head { label, cond };
     Ok(ForHead { init, head, step })
+}
+
+/// What stands before a loop's body means, and the loop's label.
+pub enum LoopHead {
+    While(Head),
+    For(ForHead),
+}
+
+impl Drop for LoopHead {
+    fn drop(self) {
+        match self {
+            LoopHead::While(_) => {}
+            LoopHead::For(_) => {}
+        }
+    }
+}
+
+impl LoopHead {
+    /// The whole loop.
+    pub fn into_loop(
+        self,
+        alloc: Global,
+        body: lra_program::Stmt,
+    ) -> Result<lra_program::Stmt, SourceError>
+        ensures found { IfOk result (λ s. stmt_view s ≡ loop_with self (stmt_view body)) }
+        ensures memory { IfErr result (λ e. e ≡ SourceError.Memory) }
+    {
+        match self {
+            LoopHead::While(head) => head.repeat(alloc, body, lra_program::Stmt::Absent),
+            LoopHead::For(head) => head.into_loop(alloc, body),
+        }
+    }
+}
+
+/// Takes the label of a loop, and resolves what stands before its body. A `for` begins a scope.
+pub fn resolve_loop_head(
+    around: &Around<'_>,
+    scope: &mut Scope,
+    labels: &mut Labelling,
+    rounds: &Rounds<'_>,
+) -> Result<LoopHead, SourceError>
+    ensures told { TellsOf (head_faults (functions_at around.now.functions.now) scope.old (rounds_view rounds.now))
+        result }
+    ensures found { IfOk result (λ h. (body : Stmt) → loop_with h body
+        ≡ loop_around (functions_at around.now.functions.now) scope.old labels.old.next (rounds_view rounds.now) body) }
+    ensures entered { OnOk result (scope.new ≡ body_scope scope.old (rounds_view rounds.now)) }
+    ensures counted { OnOk result (labels.new.next ≡ body_label labels.old.next (rounds_view rounds.now)) }
+    ensures labelled { OnOk result (labels.new.labels
+        ≡ labels.old.labels ++ head_labels labels.old.live (rounds_view rounds.now)) }
+    ensures lives { OnOk result (labels.new.live ≡ body_live labels.old.live (rounds_view rounds.now)) }
+{
+    match *rounds {
+        Rounds::While(place, cond) => {
+            let head = resolve_head(around.alloc, scope, labels, *place, cond)?;
+            Ok(LoopHead::While(head))
+        }
+        Rounds::For(place, init, test, step) => {
+            let parentheses = Parentheses {
+                place: *place,
+                init,
+                test,
+                step,
+            };
+            let head = resolve_for_head(around, scope, labels, &parentheses)?;
+            Ok(LoopHead::For(head))
+        }
+    }
 }

@@ -1,26 +1,24 @@
 //! Statements, each under its label.
 
-ghost use Rattle.std.specs.Prelude.{◌≡◌, ◌+◌, ◌++◌, ◌∷◌, suc, map, option_map, IfOk, OnOk, IfErr};
-ghost use Rattle.lra_program.specs.Program.{absent};
+ghost use Rattle.std.specs.Prelude.{◌≡◌, ◌+◌, map, option_copied, IfOk, OnOk, IfErr};
 ghost use Rattle.lra_tree.specs.Trees.{ItemsTree, block as tree_block};
-ghost use Rattle.lra_tree.specs.Views.{stmt_view, block_view, item_view, init_view, assign_view, cond_view};
+ghost use Rattle.lra_tree.specs.Views.{stmt_view, block_view, item_view};
 ghost use Rattle.lra_program.specs.ProgramViews.{stmt_view as program_stmt_view, items_view};
 ghost use Rattle.lra_program.specs.ProgramViews.{item_view as program_item_view};
-ghost use Rattle.lra_meaning.specs.Scope.{for_scope};
-ghost use Rattle.lra_meaning.specs.NameFaults.{in_a_loop, cond_faults, stmt_faults, items_faults};
-ghost use Rattle.lra_meaning.specs.Resolve.{resolve_cond, resolve_init, resolve_for_test, resolve_step, resolve_stmt};
-ghost use Rattle.lra_meaning.specs.Resolve.{resolve_items, stmt_count, items_count, init_count, step_count};
+ghost use Rattle.lra_meaning.specs.NameFaults.{stmt_faults, items_faults};
+ghost use Rattle.lra_meaning.specs.Resolve.{resolve_stmt, resolve_items, stmt_count, items_count};
 ghost use Rattle.lra_names.specs.Calls.{functions_at};
 ghost use Rattle.lra_names.specs.Scopes.{Extends};
-ghost use Rattle.lra_tree.specs.Labels.{plain_label, stmt_labels, live_in_for};
-ghost use Rattle.lra_names.specs.Labelling.{Adds, Fills, Follows, for_front};
-ghost use Rattle.lra_names.specs.Statements.{around_of, followed, choice, loop_of, for_of, head_faults};
+ghost use Rattle.lra_tree.specs.Labels.{stmt_labels};
+ghost use Rattle.lra_names.specs.Labelling.{Adds, Fills, Follows};
+ghost use Rattle.lra_names.specs.Statements.{around_of, followed, IsSimple};
+ghost use Rattle.lra_names.specs.LoopHeads.{choice_of, loop_tree};
 ghost use Rattle.lra_names.specs.Outcome.{Tells, TellsOf};
 
 use crate::around::Around;
 use crate::declarations::add_declaration;
 use crate::heads::{
-    Asked, Rounds, block_of, resolve_assert, resolve_assume, resolve_for_head, resolve_head,
+    Asked, Rounds, block_of, resolve_assert, resolve_assume, resolve_head, resolve_loop_head,
 };
 use crate::labelling::Labelling;
 use crate::scopes::Scope;
@@ -30,6 +28,33 @@ use crate::simple::{
 };
 use lra_base::SourceError;
 use lra_tree::{Block, BlockItem, Stmt};
+
+/// A statement without statements in it.
+fn resolve_simple(
+    around: &Around<'_>,
+    scope: &Scope,
+    labels: &mut Labelling,
+    stmt: &Stmt,
+) -> Result<lra_program::Stmt, SourceError>
+    requires simple { IsSimple (stmt_view stmt.now) }
+    ensures told { TellsOf (stmt_faults (around_of around.now) scope.now (stmt_view stmt.now)) result }
+    ensures found { IfOk result (λ s. program_stmt_view s
+        ≡ resolve_stmt (functions_at around.now.functions.now) scope.now labels.old.next (stmt_view stmt.now)) }
+    ensures counted { OnOk result (labels.new.next ≡ labels.old.next + stmt_count (stmt_view stmt.now)) }
+    ensures adds { OnOk result (Adds labels.old labels.new (stmt_labels labels.old.live (stmt_view stmt.now))) }
+{
+    match stmt {
+        Stmt::Nothing(place) => resolve_nothing(labels, *place),
+        Stmt::Assign(assign) => resolve_assignment(around, scope, labels, assign),
+        Stmt::Call(call) => resolve_call_alone(around, scope, labels, call),
+        Stmt::Break(place) => resolve_break(around, labels, *place),
+        Stmt::Continue(place) => resolve_continue(around, labels, *place),
+        Stmt::Return(place, source) => resolve_return(around, scope, labels, *place, source),
+        Stmt::Assert(place, cond) => resolve_assert(around, scope, labels, *place, cond),
+        Stmt::Assume(place, cond) => resolve_assume(around, scope, labels, *place, cond),
+        _ => unreachable!(),
+    }
+}
 
 #[cycle(statement)]
 fn resolve_stmt(
@@ -47,195 +72,81 @@ fn resolve_stmt(
 {
     match stmt {
         Stmt::Block(block) => resolve_block(around, scope, labels, block),
-        Stmt::Nothing(place) => resolve_nothing(labels, *place),
-        Stmt::Assign(assign) => resolve_assignment(around, scope, labels, assign),
-        Stmt::Call(call) => resolve_call_alone(around, scope, labels, call),
         Stmt::If(place, cond, branch) => {
-            resolve_if(
-                around,
-                scope,
-                labels,
-                &Asked {
-                    place: *place,
-                    cond,
-                },
-                branch,
-            )
+            let asked = Asked { place, cond };
+            resolve_choice(around, scope, labels, &asked, branch, None)
         }
         Stmt::IfElse(place, cond, branch, other) => {
-            resolve_if_else(
-                around,
-                scope,
-                labels,
-                &Asked {
-                    place: *place,
-                    cond,
-                },
-                branch,
-                other,
-            )
+            let asked = Asked { place, cond };
+            resolve_choice(around, scope, labels, &asked, branch, Some(other))
         }
         Stmt::While(place, cond, body) => {
-            resolve_while(
-                around,
-                scope,
-                labels,
-                &Asked {
-                    place: *place,
-                    cond,
-                },
-                body,
-            )
+            let rounds = Rounds::While(place, cond);
+            resolve_loop(around, scope, labels, &rounds, body)
         }
         Stmt::For(place, init, test, step, body) => {
-            let rounds = Rounds {
-                place: *place,
-                init,
-                test,
-                step,
-            };
-            resolve_for(around, scope, labels, &rounds, body)
+            let rounds = Rounds::For(place, init, test, step);
+            resolve_loop(around, scope, labels, &rounds, body)
         }
-        Stmt::Break(place) => resolve_break(around, labels, *place),
-        Stmt::Continue(place) => resolve_continue(around, labels, *place),
-        Stmt::Return(place, source) => resolve_return(around, scope, labels, *place, source),
-        Stmt::Assert(place, cond) => {
-            resolve_assert(
-                around,
-                scope,
-                labels,
-                &Asked {
-                    place: *place,
-                    cond,
-                },
-            )
-        }
-        Stmt::Assume(place, cond) => {
-            resolve_assume(
-                around,
-                scope,
-                labels,
-                &Asked {
-                    place: *place,
-                    cond,
-                },
-            )
+        _ => resolve_simple(around, scope, labels, stmt),
+    }
+}
+
+/// A choice; without a second branch nothing is done in its place.
+#[cycle(statement)]
+#[tactic(auto, using(crate::proofs::StatementLaws::if_else_rules))]
+fn resolve_choice(
+    around: &Around<'_>,
+    scope: &mut Scope,
+    labels: &mut Labelling,
+    asked: &Asked<'_>,
+    branch: &Stmt,
+    other: Option<&Stmt>,
+) -> Result<lra_program::Stmt, SourceError>
+    ensures told { TellsOf (stmt_faults (around_of around.now) scope.old
+        (choice_of asked.now branch.now (option_copied other.entry))) result }
+    ensures found { IfOk result (λ s. program_stmt_view s
+        ≡ resolve_stmt (functions_at around.now.functions.now) scope.old labels.old.next
+        (choice_of asked.now branch.now (option_copied other.entry))) }
+    ensures kept { OnOk result (scope.new ≡ scope.old) }
+    ensures counted { OnOk result (labels.new.next
+        ≡ labels.old.next + stmt_count (choice_of asked.now branch.now (option_copied other.entry))) }
+    ensures adds { OnOk result (Adds labels.old labels.new
+        (stmt_labels labels.old.live (choice_of asked.now branch.now (option_copied other.entry)))) }
+{
+    let head = resolve_head(around.alloc, scope, labels, *asked.place, asked.cond)?;
+    let branch = resolve_stmt(around, scope, labels, branch)?;
+    match other {
+        None => head.choose(around.alloc, branch, lra_program::Stmt::Absent),
+        Some(other) => {
+            let other = resolve_stmt(around, scope, labels, other)?;
+            head.choose(around.alloc, branch, other)
         }
     }
 }
 
 #[cycle(statement)]
-fn resolve_if(
-    around: &Around<'_>,
-    scope: &mut Scope,
-    labels: &mut Labelling,
-    asked: &Asked<'_>,
-    branch: &Stmt,
-) -> Result<lra_program::Stmt, SourceError>
-    ensures told { TellsOf (cond_faults scope.old (cond_view asked.now.cond.now)
-        ++ stmt_faults (around_of around.now) scope.old (stmt_view branch.now)) result }
-    ensures found { IfOk result (λ s. program_stmt_view s
-        ≡ choice labels.old.next (resolve_cond scope.old (cond_view asked.now.cond.now))
-        (resolve_stmt (functions_at around.now.functions.now) scope.old (suc labels.old.next) (stmt_view branch.now))
-        absent) }
-    ensures kept { OnOk result (scope.new ≡ scope.old) }
-    ensures counted { OnOk result (labels.new.next ≡ suc labels.old.next + stmt_count (stmt_view branch.now)) }
-    ensures adds { OnOk result (Adds labels.old labels.new
-        (plain_label asked.now.place labels.old.live ∷ stmt_labels labels.old.live (stmt_view branch.now))) }
-{
-    let head = resolve_head(around.alloc, scope, labels, asked)?;
-    let branch = resolve_stmt(around, scope, labels, branch)?;
-    head.choose(around.alloc, branch, lra_program::Stmt::Absent)
-}
-
-#[cycle(statement)]
-#[tactic(auto, using(crate::proofs::StatementLaws::if_else_rules))]
-fn resolve_if_else(
-    around: &Around<'_>,
-    scope: &mut Scope,
-    labels: &mut Labelling,
-    asked: &Asked<'_>,
-    branch: &Stmt,
-    other: &Stmt,
-) -> Result<lra_program::Stmt, SourceError>
-    ensures told { TellsOf (cond_faults scope.old (cond_view asked.now.cond.now)
-        ++ stmt_faults (around_of around.now) scope.old (stmt_view branch.now)
-        ++ stmt_faults (around_of around.now) scope.old (stmt_view other.now)) result }
-    ensures found { IfOk result (λ s. program_stmt_view s
-        ≡ choice labels.old.next (resolve_cond scope.old (cond_view asked.now.cond.now))
-        (resolve_stmt (functions_at around.now.functions.now) scope.old (suc labels.old.next) (stmt_view branch.now))
-        (resolve_stmt (functions_at around.now.functions.now) scope.old
-        (suc labels.old.next + stmt_count (stmt_view branch.now)) (stmt_view other.now))) }
-    ensures kept { OnOk result (scope.new ≡ scope.old) }
-    ensures counted { OnOk result (labels.new.next ≡ suc labels.old.next + stmt_count (stmt_view branch.now)
-        + stmt_count (stmt_view other.now)) }
-    ensures adds { OnOk result (Adds labels.old labels.new
-        (plain_label asked.now.place labels.old.live ∷ stmt_labels labels.old.live (stmt_view branch.now)
-        ++ stmt_labels labels.old.live (stmt_view other.now))) }
-{
-    let head = resolve_head(around.alloc, scope, labels, asked)?;
-    let branch = resolve_stmt(around, scope, labels, branch)?;
-    let other = resolve_stmt(around, scope, labels, other)?;
-    head.choose(around.alloc, branch, other)
-}
-
-#[cycle(statement)]
-fn resolve_while(
-    around: &Around<'_>,
-    scope: &mut Scope,
-    labels: &mut Labelling,
-    asked: &Asked<'_>,
-    body: &Stmt,
-) -> Result<lra_program::Stmt, SourceError>
-    ensures told { TellsOf (cond_faults scope.old (cond_view asked.now.cond.now)
-        ++ stmt_faults (in_a_loop (around_of around.now)) scope.old (stmt_view body.now)) result }
-    ensures found { IfOk result (λ s. program_stmt_view s
-        ≡ loop_of labels.old.next (resolve_cond scope.old (cond_view asked.now.cond.now))
-        (resolve_stmt (functions_at around.now.functions.now) scope.old (suc labels.old.next) (stmt_view body.now)) absent) }
-    ensures kept { OnOk result (scope.new ≡ scope.old) }
-    ensures counted { OnOk result (labels.new.next ≡ suc labels.old.next + stmt_count (stmt_view body.now)) }
-    ensures adds { OnOk result (Adds labels.old labels.new
-        (plain_label asked.now.place labels.old.live ∷ stmt_labels labels.old.live (stmt_view body.now))) }
-{
-    let head = resolve_head(around.alloc, scope, labels, asked)?;
-    let body = resolve_stmt(&around.in_a_loop(), scope, labels, body)?;
-    head.repeat(around.alloc, body, lra_program::Stmt::Absent)
-}
-
-#[cycle(statement)]
-#[tactic(auto, using(crate::proofs::StatementLaws::left_for))]
-fn resolve_for(
+#[tactic(auto, using(crate::proofs::LoopLaws::scope_left))]
+fn resolve_loop(
     around: &Around<'_>,
     scope: &mut Scope,
     labels: &mut Labelling,
     rounds: &Rounds<'_>,
     body: &Stmt,
 ) -> Result<lra_program::Stmt, SourceError>
-    ensures told { TellsOf (head_faults (functions_at around.now.functions.now) scope.old
-        (init_view rounds.now.init.now) (option_map cond_view rounds.now.test.now)
-        (option_map assign_view rounds.now.step.now) ++ stmt_faults (in_a_loop (around_of around.now))
-        (for_scope scope.old (init_view rounds.now.init.now)) (stmt_view body.now)) result }
+    ensures told { TellsOf (stmt_faults (around_of around.now) scope.old (loop_tree rounds.now body.now)) result }
     ensures found { IfOk result (λ s. program_stmt_view s
-        ≡ for_of (resolve_init (functions_at around.now.functions.now) scope.old (suc labels.old.next)
-        (init_view rounds.now.init.now)) (loop_of labels.old.next
-        (resolve_for_test (for_scope scope.old (init_view rounds.now.init.now))
-        (option_map cond_view rounds.now.test.now)) (resolve_stmt (functions_at around.now.functions.now)
-        (for_scope scope.old (init_view rounds.now.init.now))
-        (suc labels.old.next + init_count (init_view rounds.now.init.now)
-        + step_count (option_map assign_view rounds.now.step.now)) (stmt_view body.now))
-        (resolve_step (functions_at around.now.functions.now) (for_scope scope.old (init_view rounds.now.init.now))
-        (suc labels.old.next + init_count (init_view rounds.now.init.now)) (option_map assign_view rounds.now.step.now)))) }
+        ≡ resolve_stmt (functions_at around.now.functions.now) scope.old labels.old.next
+        (loop_tree rounds.now body.now)) }
     ensures kept { OnOk result (scope.new ≡ scope.old) }
-    ensures counted { OnOk result (labels.new.next ≡ suc labels.old.next + init_count (init_view rounds.now.init.now)
-        + step_count (option_map assign_view rounds.now.step.now) + stmt_count (stmt_view body.now)) }
-    ensures adds { OnOk result (Adds labels.old labels.new (for_front rounds.now.place labels.old.live
-        (init_view rounds.now.init.now) (option_map assign_view rounds.now.step.now)
-        ++ stmt_labels (live_in_for labels.old.live (init_view rounds.now.init.now)) (stmt_view body.now))) }
+    ensures counted { OnOk result (labels.new.next ≡ labels.old.next + stmt_count (loop_tree rounds.now body.now)) }
+    ensures adds { OnOk result (Adds labels.old labels.new
+        (stmt_labels labels.old.live (loop_tree rounds.now body.now))) }
 {
     let count = scope.count();
     let outer = scope.outer();
     let live = labels.living();
-    let head = resolve_for_head(around, scope, labels, rounds)?;
+    let head = resolve_loop_head(around, scope, labels, rounds)?;
     let body = resolve_stmt(&around.in_a_loop(), scope, labels, body)?;
     scope.leave(count, outer);
     labels.keep_oldest(live);

@@ -1,6 +1,7 @@
 -- The items that are left, in the scope of those before them, are as all of them in the scope of the block. A call goes down the
 -- tree, or hands on what it was given: the arms of a statement stand above the statements in them.
-use Rattle.std.proofs.Common.{◌≡◌, ◌+◌, ◌*◌, max, map, drop}
+use Rattle.std.proofs.Common.{◌≡◌, ℕ, ◌+◌, ◌*◌, max, map, drop, Option, Some, None, option_copied}
+use Rattle.lra_tree.specs.declared.trees.Stmt.{Stmt}
 use Rattle.lra_tree.proofs.trees.Stmt.TheLaws.{the_size}
 use Rattle.lra_tree.proofs.trees.Block.TheLaws.{the_size as block_size}
 use Rattle.lra_tree.proofs.trees.BlockItem.TheLaws.{the_size as item_size}
@@ -31,17 +32,16 @@ decreases-add_item l = 2 * item_size l.item.now
 abbrev pub decreases-resolve_stmt : goal.decreases-resolve_stmt
 decreases-resolve_stmt l = 2 * the_size l.stmt.now
 
-abbrev pub decreases-resolve_if : goal.decreases-resolve_if
-decreases-resolve_if l = 2 * the_size l.branch.now + 1
+-- of the second branch
+abbrev other_size : Option Stmt → ℕ
+other_size None = 0
+other_size (Some s) = the_size s
 
-abbrev pub decreases-resolve_if_else : goal.decreases-resolve_if_else
-decreases-resolve_if_else l = 2 * max (the_size l.branch.now) (the_size l.other.now) + 1
+abbrev pub decreases-resolve_choice : goal.decreases-resolve_choice
+decreases-resolve_choice l = 2 * max (the_size l.branch.now) (other_size (option_copied l.other)) + 1
 
-abbrev pub decreases-resolve_while : goal.decreases-resolve_while
-decreases-resolve_while l = 2 * the_size l.body.now + 1
-
-abbrev pub decreases-resolve_for : goal.decreases-resolve_for
-decreases-resolve_for l = 2 * the_size l.body.now + 1
+abbrev pub decreases-resolve_loop : goal.decreases-resolve_loop
+decreases-resolve_loop l = 2 * the_size l.body.now + 1
 
 abbrev pub decreases-resolve_block : goal.decreases-resolve_block
 decreases-resolve_block l = 2 * block_size l.block.now + 1
