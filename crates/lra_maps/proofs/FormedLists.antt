@@ -45,12 +45,12 @@ pub loss_told : (list chosen : Listed ConKind) (rows : List (List ℤ)) (kinds :
     rows ≡ list.rows → kinds ≡ list.kinds → length kinds ≡ length list.rows →
     place < length list.rows → row ≡ get_or rows place row →
     loss ≡ record { chosen = constraints chosen; further = member is_equality kinds place row Ge; cause = Excess e } →
-    IsLossAt list place e loss
+    IsLossAt (constraints list) list.rows place e loss
 loss_told list chosen rows kinds place row e loss ec er ek n h is el =
     let here : row ≡ get_or list.rows place row = is ∙ ap (λ (l : List (List ℤ)). get_or l place row) er in
     let many : length list.kinds ≡ length list.rows = ap length (sym ek) ∙ n in
     let later : List Given = given_by is_equality (drop (suc place) list.rows) (drop (suc place) list.kinds) in
-    subst (IsLossAt list place e) (sym el) (record {
+    subst (IsLossAt (constraints list) list.rows place e) (sym el) (record {
       later = later;
       is = given_split is_equality list.rows list.kinds place row Ge many h here ∙
           ap (λ (l : List Given). l ++ member is_equality list.kinds place row Ge ∷ later) (sym ec) ∙
@@ -65,17 +65,17 @@ pub excess_of : {A : Type 0} (q : Result A E.Excess) (error : RowError) (e : E.E
 excess_of q error e is h = subst (IsExcessOf q) is h
 
 -- a number passes in what is formed of the row at the place
-pub lost_at : {A : Type 0} (check : List ℤ → Result A E.Excess) (given : List Given) (list : Listed ConKind)
-    (rows : List (List ℤ)) (place : ℕ) (r : List ℤ) (e : E.Excess) (loss : Loss) →
-    IsLossAt list place e loss → constraints list ≡ given → list.rows ≡ rows → place < length rows →
-    r ≡ get_or rows place r → check r ≡ Err e → FormingPasses (λ g. check g.row) given loss
-lost_at check given list rows place r e loss l eg er h is passes = record {
+pub lost_at : {A : Type 0} (check : List ℤ → Result A E.Excess) (given told : List Given) (rows seen : List (List ℤ))
+    (place : ℕ) (r : List ℤ) (e : E.Excess) (loss : Loss) → IsLossAt given rows place e loss → given ≡ told →
+    rows ≡ seen → place < length seen → r ≡ get_or seen place r → check r ≡ Err e →
+    FormingPasses (λ g. check g.row) told loss
+lost_at check given told rows seen place r e loss l eg er h is passes = record {
   later = l.later;
   is = sym eg ∙ l.is;
   excess = e;
   is_cause = l.is_cause;
   passes = subst (λ (y : List ℤ). check y ≡ Err e)
-      (is ∙ default_other rows place r [] h ∙ ap (λ (rs : List (List ℤ)). get_or rs place []) (sym er) ∙ sym l.is_row)
+      (is ∙ default_other seen place r [] h ∙ ap (λ (rs : List (List ℤ)). get_or rs place []) (sym er) ∙ sym l.is_row)
       passes;
 }
 
@@ -83,6 +83,13 @@ pub dual_constraints : (rows : Listed ConKind) (list : Listed GenKind) → rows.
     rows.kinds ≡ map dual_kind list.kinds → constraints rows ≡ generators list
 dual_constraints rows list er ek = ap (λ (l : List (List ℤ)). given_by is_equality l rows.kinds) er ∙
     ap (given_by is_equality list.rows) ek ∙ dual_given list.rows list.kinds
+
+pub dual_loss : (rows : Listed ConKind) (list : Listed GenKind) (place : ℕ) (e : E.Excess) (loss : Loss) →
+    rows.rows ≡ list.rows → rows.kinds ≡ map dual_kind list.kinds →
+    IsLossAt (constraints rows) rows.rows place e loss → IsLossAt (generators list) list.rows place e loss
+dual_loss rows list place e loss er ek h =
+    subst (λ (l : List Given). IsLossAt l list.rows place e loss) (dual_constraints rows list er ek)
+    (subst (λ (l : List (List ℤ)). IsLossAt (constraints rows) l place e loss) er h)
 
 -- ---- the first told
 pub told_flagged : (P : Loss → Type 0) (first told : Outcome) (loss : Loss) → (first ≡ Exact → told ≡ Flagged loss) →

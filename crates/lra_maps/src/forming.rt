@@ -1,6 +1,6 @@
 //! Generators and constraints formed anew by a form, which takes the place of a coordinate.
 
-ghost use Rattle.std.specs.Prelude.{◌≡◌, ◌≢◌, ◌<◌, suc, List, take, length, IfOk, IfErr};
+ghost use Rattle.std.specs.Prelude.{◌≡◌, ◌≢◌, ◌<◌, ◌^◌, suc, List, take, length, IfOk, IfErr};
 ghost use Rattle.std.specs.List.{Contains};
 ghost use Rattle.lra_linear.specs.CheckedArithmetic.{checked_product, checked_substitution};
 ghost use Rattle.lra_linear.specs.Descriptions.{Given};
@@ -41,12 +41,28 @@ fn first_rows(alloc: Global, list: &ConSys, count: usize) -> Result<ConSys, Allo
 // What is told of the row at the place, with those before it taken, where a number passes as it is formed.
 fn loss_at(alloc: Global, list: &ConSys, place: usize, excess: Excess) -> Result<Loss, AllocError>
     requires { place < length list.now.rows }
-    ensures { IfOk result (IsLossAt list.now place excess) }
+    ensures { IfOk result (IsLossAt (constraints list.now) list.now.rows place excess) }
 {
     let chosen = first_rows(alloc, list, place)?;
     let (rows, kinds) = (list.rows(), list.kinds());
     let cause = Cause::Excess(excess);
     let loss = Loss::new(alloc, &chosen, &rows[place], kinds[place], cause)?;
+    Ok(loss)
+}
+
+// The same of a generator.
+fn generator_loss(
+    alloc: Global,
+    list: &GenSys,
+    place: usize,
+    excess: Excess,
+) -> Result<Loss, AllocError>
+    requires small { list.now.dims < 2 ^ 62 }
+    requires place { place < length list.now.rows }
+    ensures { IfOk result (IsLossAt (generators list.now) list.now.rows place excess) }
+{
+    let rows = dual_rows(alloc, list)?;
+    let loss = loss_at(alloc, &rows, place, excess)?;
     Ok(loss)
 }
 
@@ -91,8 +107,7 @@ pub fn assigned_list(
             Ok(row) => all.push(row, kinds[place])?,
             Err(RowError::Memory) => return Err(AllocError),
             Err(RowError::Excess(excess)) => {
-                let rows = dual_rows(alloc, list)?;
-                let loss = loss_at(alloc, &rows, place, excess)?;
+                let loss = generator_loss(alloc, list, place, excess)?;
                 return Ok(Err(loss));
             }
         }

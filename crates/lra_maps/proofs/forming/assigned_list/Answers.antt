@@ -1,27 +1,25 @@
-use Rattle.std.proofs.Common.{◌∙◌, arith, subst, suc, sym}
+use Rattle.std.proofs.Common.{arith, refl, subst, suc, sym}
 use Rattle.lra_linear.specs.CheckedArithmetic.{checked_product}
 use Rattle.lra_linear.specs.SetOperations.{assigned}
 use Rattle.lra_linear.specs.declared.Excess as E
 use Rattle.lra_sys.specs.Listed.{generators}
 use Rattle.lra_maps.specs.Forming.{IsLossAt}
 use Rattle.lra_maps.proofs.AssignedSets.{assigned_level}
-use Rattle.lra_maps.proofs.FormedLists.{dual_constraints, excess_of, lost_at}
+use Rattle.lra_maps.proofs.FormedLists.{excess_of, lost_at}
 use Rattle.lra_maps.proofs.ListLemmas.{mapped_kinds, mapped_listed}
 use Rattle.lra_maps.proofs.forming.assigned_list.Goals as goal
 
 pub returns-in-Err-Excess-clause-lost : goal.returns-in-Err-Excess-clause-lost
 returns-in-Err-Excess-clause-lost c =
     let list = c.args.list.now in
-    let rows = c.in_ok-rows-in-Err-Excess.rows in
+    let given = generators list in
     let row = c.index-rows-place.result in
     let excess = c.in-Err-Excess.excess in
-    lost_at (checked_product c.args.form.now) (generators list) rows c.rows-rows.result.now c.loop-place.place row
-    excess
-    c.in_ok-loss-in-Err-Excess.loss
-    (subst (λ (e : E.Excess). IsLossAt rows c.loop-place.place e c.in_ok-loss-in-Err-Excess.loss)
-    c.in-Err-Excess.excess-is c.in_ok-loss-in-Err-Excess.ensures)
-    (dual_constraints rows list c.in_ok-rows-in-Err-Excess.ensures.rows c.in_ok-rows-in-Err-Excess.ensures.kinds)
-    (c.in_ok-rows-in-Err-Excess.ensures.rows ∙ sym c.rows-rows.ensures.rows) c.loop-place-test.true
+    let loss = c.in_ok-loss-in-Err-Excess.loss in
+    lost_at (checked_product c.args.form.now) given given list.rows c.rows-rows.result.now c.loop-place.place row excess
+    loss
+    (subst (λ (e : E.Excess). IsLossAt given list.rows c.loop-place.place e loss) c.in-Err-Excess.excess-is
+    c.in_ok-loss-in-Err-Excess.ensures) refl (sym c.rows-rows.ensures.rows) c.loop-place-test.true
     c.index-rows-place.is (excess_of (checked_product c.args.form.now row) c.in-Err-Excess.field-0 excess
     c.in-Err-Excess.field-0-is c.in-Err-Excess.ensures.excess)
 

@@ -60,8 +60,9 @@ loop-place-preserved c =
           (formed_lost k form list.dims rows kinds place c.loop-place.all c.loop-place.outcome
           w.first_told-outcome.result
           loss old w.first_told-outcome.ensures.exact w.first_told-outcome.ensures.flagged
-          (lost_at (checked_substitution k form) (given_by is_equality rows kinds) list rows place row excess loss
-          (subst (λ (e : E.Excess). IsLossAt list place e loss) (sym w.in-Err-Excess.excess-is)
+          (lost_at (checked_substitution k form) (constraints list) (given_by is_equality rows kinds) list.rows rows place row
+          excess loss
+          (subst (λ (e : E.Excess). IsLossAt (constraints list) list.rows place e loss) (sym w.in-Err-Excess.excess-is)
           w.in_ok-loss-in-Err-Excess.ensures)
           (sym (listed_same list rows kinds c.rows-rows.ensures.rows c.kinds-kinds.ensures.kinds))
           (sym c.rows-rows.ensures.rows) c.loop-place-test.true c.index-rows-place.is
