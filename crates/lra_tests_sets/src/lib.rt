@@ -9,6 +9,8 @@ mod boxes;
 #[cfg(test)]
 mod gauge;
 #[cfg(test)]
+mod images;
+#[cfg(test)]
 mod maps;
 #[cfg(test)]
 mod oct;

@@ -1,0 +1,225 @@
+//! Worked images and preimages: values by hand, from the definitions.
+
+ghost use Rattle.std.specs.Prelude.{◌≡◌, ◌≤◌, ◌+◌, length, IfOk};
+ghost use Rattle.std.specs.List.{All};
+ghost use Rattle.lra_linear.specs.Range.{InRange};
+
+use lra_lin::LinExpr;
+use lra_maps::{image, preimage};
+use lra_poly::Poly;
+use lra_row::Row;
+use lra_sys::{ConKind, ConSys};
+use std::alloc::Global;
+use std::test::Fail;
+
+const MAX: i128 = i128::MAX;
+
+// A set, the coordinate that is given the form's value, the form, and what the set then shows.
+struct Case {
+    name: &'static str,
+    set: &'static [([i128; 3], ConKind)],
+    x: usize,
+    form: [i64; 3],
+    is_exact: bool,
+    rows: &'static [[i128; 3]],
+    generators: &'static [[i128; 3]],
+}
+
+// The half line from the origin along (1, 2).
+const HALF_LINE: &[([i128; 3], ConKind)] = &[([0, 2, -1], ConKind::Eq), ([0, 0, 1], ConKind::Ge)];
+
+// The point (MAX, 0).
+const FAR_POINT: &[([i128; 3], ConKind)] = &[([-MAX, 1, 0], ConKind::Eq), ([0, 0, 1], ConKind::Eq)];
+
+// MAX x1 is at least 1.
+const STEEP: &[([i128; 3], ConKind)] = &[([-1, MAX, 0], ConKind::Ge)];
+
+// x1 is at least 0, and x2 is 0.
+const WAY: &[([i128; 3], ConKind)] = &[([0, 1, 0], ConKind::Ge), ([0, 0, 1], ConKind::Eq)];
+
+const IMAGES: &[Case] = &[
+    Case {
+        name: "x1 := x1 + 1 moves",
+        set: HALF_LINE,
+        x: 0,
+        form: [1, 1, 0],
+        is_exact: true,
+        rows: &[[-2, 2, -1], [0, 0, 1]],
+        generators: &[[1, 1, 0], [0, 1, 2]],
+    },
+    Case {
+        name: "x1 := 3 - x1 turns round",
+        set: WAY,
+        x: 0,
+        form: [3, -1, 0],
+        is_exact: true,
+        rows: &[[0, 0, 1], [3, -1, 0]],
+        generators: &[[1, 3, 0], [0, -1, 0]],
+    },
+    Case {
+        name: "x2 := 3 loses the line",
+        set: HALF_LINE,
+        x: 1,
+        form: [3, 0, 0],
+        is_exact: true,
+        rows: &[[-3, 0, 1], [0, 1, 0]],
+        generators: &[[1, 0, 3], [0, 1, 0]],
+    },
+    Case {
+        name: "x1 := x2 - x1 shears",
+        set: HALF_LINE,
+        x: 0,
+        form: [0, -1, 1],
+        is_exact: true,
+        rows: &[[0, 2, -1], [0, 0, 1]],
+        generators: &[[1, 0, 0], [0, 1, 2]],
+    },
+    Case {
+        name: "x1 := x1 keeps what is far",
+        set: FAR_POINT,
+        x: 0,
+        form: [0, 1, 0],
+        is_exact: true,
+        rows: &[[-MAX, 1, 0], [0, 0, 1]],
+        generators: &[[1, MAX, 0]],
+    },
+    Case {
+        name: "x1 := 2 x1 passes the range, and x1 may be anything",
+        set: FAR_POINT,
+        x: 0,
+        form: [0, 2, 0],
+        is_exact: false,
+        rows: &[[0, 0, 1]],
+        generators: &[[1, 0, 0], [0, 1, 0]],
+    },
+    Case {
+        name: "x2 := x1 + 1 passes in the sum",
+        set: FAR_POINT,
+        x: 1,
+        form: [1, 1, 0],
+        is_exact: false,
+        rows: &[[-MAX, 1, 0]],
+        generators: &[[1, MAX, 0], [0, 0, 1]],
+    },
+];
+
+const PREIMAGES: &[Case] = &[
+    Case {
+        name: "x1 := x1 - 1 moves",
+        set: HALF_LINE,
+        x: 0,
+        form: [-1, 1, 0],
+        is_exact: true,
+        rows: &[[-2, 2, -1], [0, 0, 1]],
+        generators: &[[1, 1, 0], [0, 1, 2]],
+    },
+    Case {
+        name: "x1 := 5 asks for x2 = 10",
+        set: HALF_LINE,
+        x: 0,
+        form: [5, 0, 0],
+        is_exact: true,
+        rows: &[[-10, 0, 1]],
+        generators: &[[1, 0, 10], [0, 1, 0]],
+    },
+    Case {
+        name: "x2 := -1 has no point",
+        set: HALF_LINE,
+        x: 1,
+        form: [-1, 0, 0],
+        is_exact: true,
+        rows: &[[-1, 0, 0]],
+        generators: &[],
+    },
+    Case {
+        name: "x1 := x2 - x1 shears back",
+        set: WAY,
+        x: 0,
+        form: [0, -1, 1],
+        is_exact: true,
+        rows: &[[0, 0, 1], [0, -1, 0]],
+        generators: &[[1, 0, 0], [0, -1, 0]],
+    },
+    Case {
+        name: "x1 := 2 x1 passes the range, and the row is left out",
+        set: STEEP,
+        x: 0,
+        form: [0, 2, 0],
+        is_exact: false,
+        rows: &[],
+        generators: &[[1, 0, 0], [0, 1, 0], [0, 0, 1]],
+    },
+];
+
+fn set_of(alloc: Global, constraints: &[([i128; 3], ConKind)]) -> Result<Poly, Fail>
+    ensures { IfOk result (λ p. p.dims ≡ 2) }
+{
+    let mut list = ConSys::new(alloc, 2);
+    for &(numbers, kind) in constraints.iter() {
+        let [constant, first, second] = numbers;
+        if constant == i128::MIN || first == i128::MIN || second == i128::MIN {
+            return Err("a number passes the range".into());
+        }
+        let row = Row::from_slice(alloc, &[constant, first, second])?;
+        list.push(row, kind)?;
+    }
+    let (set, _) = Poly::from_rows(alloc, &list)?;
+    Ok(set)
+}
+
+fn are(rows: &[Row], want: &[[i128; 3]]) -> bool {
+    if rows.len() != want.len() {
+        return false;
+    }
+    for (row, numbers) in rows.iter().zip(want) {
+        if row.entries() != numbers.as_slice() {
+            return false;
+        }
+    }
+    true
+}
+
+// Whether the set is the one that the case names, with its constraints and its generators.
+fn shows(set: &Poly, case: &Case) -> bool {
+    are(set.rows().rows(), case.rows) && are(set.generators().rows(), case.generators)
+}
+
+fn form_of(alloc: Global, numbers: &[i64; 3]) -> Result<LinExpr, Fail>
+    ensures { IfOk result (λ form. length form.coefficients ≡ 2) }
+{
+    let [constant, first, second] = *numbers;
+    let form = LinExpr::new(alloc, constant, &[first, second])?;
+    Ok(form)
+}
+
+/// The images, each as it was found by hand.
+#[test]
+fn images(rt: HostRuntime) -> Result<(), Fail> {
+    for case in IMAGES {
+        let mut set = set_of(rt.alloc(), case.set)?;
+        let form = form_of(rt.alloc(), &case.form)?;
+        if case.x >= 2 {
+            return Err("no such coordinate".into());
+        }
+        let outcome = image(&mut set, case.x, &form)?;
+        let holds = outcome.is_exact() == case.is_exact && shows(&set, case);
+        assert!(rt; holds, "{}", case.name);
+    }
+    Ok(())
+}
+
+/// The preimages, each as it was found by hand.
+#[test]
+fn preimages(rt: HostRuntime) -> Result<(), Fail> {
+    for case in PREIMAGES {
+        let mut set = set_of(rt.alloc(), case.set)?;
+        let form = form_of(rt.alloc(), &case.form)?;
+        if case.x >= 2 {
+            return Err("no such coordinate".into());
+        }
+        let outcome = preimage(&mut set, case.x, &form)?;
+        let holds = outcome.is_exact() == case.is_exact && shows(&set, case);
+        assert!(rt; holds, "{}", case.name);
+    }
+    Ok(())
+}
