@@ -4,9 +4,9 @@ mod Loops
 mod TightLists
 mod Dimension
 mod Faces
-mod Facets
-mod Counting
-mod RankLaw
+pub mod Facets
+pub mod Counting
+pub mod RankLaw
 mod Validities
 mod Places
-mod WideningLemmas
+pub mod WideningLemmas

@@ -10,5 +10,6 @@ mod validity;
 mod widening;
 
 pub use error::WidenError;
+pub use lists::held_on_both;
 pub use ranking::rank;
 pub use widening::{limited, standard};

@@ -123,6 +123,19 @@ pub fn add_held(list: &mut ConSys, p: &Poly, q: &Poly, given: &ConSys) -> Result
     Ok(())
 }
 
+/// The given constraints that hold on both, with each product in the range: those that are left to a head whose value
+/// was the first and became the second.
+pub fn held_on_both(alloc: Global, p: &Poly, q: &Poly, given: &ConSys) -> Result<ConSys, AllocError>
+    requires second { q.now.dims ≡ p.now.dims }
+    requires given { given.now.dims ≡ p.now.dims }
+    ensures dims { IfOk result (λ list. list.dims ≡ p.now.dims) }
+    ensures rows { IfOk result (λ list. constraints list ≡ kept p.now q.now (constraints given.now)) }
+{
+    let mut list = no_rows(alloc, p.dims())?;
+    add_held(&mut list, p, q, given)?;
+    Ok(list)
+}
+
 // The given constraints that hold in the range.
 pub fn held_rows(alloc: Global, p: &Poly, given: &ConSys) -> Result<ConSys, AllocError>
     requires { given.now.dims ≡ p.now.dims }
