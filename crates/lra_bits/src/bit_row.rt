@@ -36,6 +36,17 @@ impl BitRow {
         Ok(BitRow { width, words })
     }
 
+    /// The same list again.
+    pub fn copy(&self) -> Result<BitRow, AllocError>
+        ensures { IfOk result (λ row. row ≡ self.now) }
+    {
+        let alloc = *self.words.allocator();
+        Ok(BitRow {
+            width: self.width,
+            words: Vec::from_slice(alloc, self.words.as_slice())?,
+        })
+    }
+
     /// The number of truth values.
     pub fn width(&self) -> usize
         ensures { result ≡ length self.now }

@@ -1,6 +1,6 @@
 //! Matrices of truth values, which say which rows are tight at which vectors.
 
-ghost use Rattle.std.specs.Prelude.{◌≡◌, ◌<◌, ◌++◌, ◌∷◌, [], length, OnOk, OnErr, slice_index_or};
+ghost use Rattle.std.specs.Prelude.{◌≡◌, ◌<◌, ◌++◌, ◌∷◌, [], length, IfOk, OnOk, OnErr, slice_index_or};
 ghost use Rattle.std.specs.List.{All};
 ghost use Rattle.lra_bits.specs.Matrix.{Matrix, unmarked};
 
@@ -32,6 +32,17 @@ impl SatMatrix {
             width,
             rows: Vec::new(alloc),
         }
+    }
+
+    /// The same matrix again.
+    pub fn copy(&self) -> Result<SatMatrix, AllocError>
+        ensures { IfOk result (λ m. m ≡ self.now) }
+    {
+        let alloc = *self.rows.allocator();
+        Ok(SatMatrix {
+            width: self.width,
+            rows: copies(alloc, self.rows.as_slice())?,
+        })
     }
 
     /// The number of columns.
@@ -82,4 +93,14 @@ impl SatMatrix {
         }
         self.rows.truncate(kept);
     }
+}
+
+fn copies(alloc: Global, rows: &[BitRow]) -> Result<Vec<BitRow>, AllocError>
+    ensures { IfOk result (λ copied. copied.items ≡ rows.now) }
+{
+    let mut copied = Vec::with_capacity(alloc, rows.len())?;
+    for row in rows {
+        copied.push(row.copy()?)?;
+    }
+    Ok(copied)
 }

@@ -5,3 +5,5 @@ pub mod PolyLemmas
 pub mod GreatestValues
 pub mod JoinedLists
 pub mod PolyExamples
+mod ResidueLemmas
+pub mod SaturationLemmas

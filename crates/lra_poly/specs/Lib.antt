@@ -4,3 +4,5 @@ pub mod Outcomes
 pub mod FirstPlaces
 pub mod Inclusions
 pub mod Maxima
+pub mod Residues
+pub mod Saturations

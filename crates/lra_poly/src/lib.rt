@@ -1,14 +1,17 @@
 //! Closed polyhedra, each by its canonical constraints and its canonical generators, which have the same points.
 #![tactic(auto)]
 
+mod exact;
 mod inclusion;
 mod lists;
 mod maximum;
 mod outcome;
 mod poly;
+mod saturation;
 
 pub use inclusion::Inclusion;
 pub use lists::row_of_form;
 pub use maximum::Maximum;
 pub use outcome::Outcome;
 pub use poly::Poly;
+pub use saturation::saturated;

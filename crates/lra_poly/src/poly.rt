@@ -1,6 +1,6 @@
 //! Closed polyhedra.
 
-ghost use Rattle.std.specs.Prelude.{◌≡◌, ◌↔◌, ◌<◌, ◌^◌, ◌∷◌, ◌++◌, [], length, IsTrue, IfOk, OnErr};
+ghost use Rattle.std.specs.Prelude.{◌≡◌, ◌↔◌, ◌<◌, ◌^◌, ◌∷◌, ◌++◌, [], length, IsTrue, IfOk, IfSome, IsSome, OnErr};
 ghost use Rattle.lra_linear.specs.Descriptions.{Con, Gen, Holds};
 ghost use Rattle.lra_linear.specs.OperationStrain.{FromRowsStrains, FromGeneratorsStrains};
 ghost use Rattle.lra_linear.specs.OperationStrain.{AddTestStrains, MeetStrains, HullStrains};
@@ -12,11 +12,14 @@ ghost use Rattle.lra_poly.specs.Inclusions.{IsInclusion, TellsInclusion};
 ghost use Rattle.lra_poly.specs.Maxima.{IsMaximum, TellsMaximum};
 ghost use Rattle.lra_poly.specs.Outcomes.{IfExact, IfFlagged};
 ghost use Rattle.lra_poly.specs.Rows.{form_row, test_row};
+ghost use Rattle.lra_poly.specs.Saturations.{saturation_of};
 
 use crate::inclusion::{Inclusion, inclusion_of};
 use crate::lists::{joined_generators, joined_rows, tested};
 use crate::maximum::{Maximum, maximum_of};
 use crate::outcome::{Outcome, outcome_of};
+use crate::saturation::saturation_matrix;
+use lra_bits::SatMatrix;
 use lra_cone::nothing;
 use lra_lin::{LinExpr, Test};
 use lra_pair::Pair;
@@ -25,11 +28,12 @@ use std::alloc::{AllocError, Global};
 use std::marker::Model;
 
 /// A closed polyhedron: its canonical constraints and its canonical generators. Two with the same points have equal
-/// lists.
+/// lists. Which of the ones are tight at which of the others is kept beside them.
 pub struct Poly {
     alloc: Global,
     rows: ConSys,
     by_generators: GenSys,
+    saturation: SatMatrix,
 }
 
 impl Drop for Poly {
@@ -38,6 +42,7 @@ impl Drop for Poly {
             alloc: _,
             rows: _,
             by_generators: _,
+            saturation: _,
         } = self;
     }
 }
@@ -46,6 +51,7 @@ impl Model for Poly {
     ghost use Rattle.std.specs.Prelude.{◌≡◌};
     ghost use Rattle.lra_linear.specs.Polyhedra.{Polyhedron, IsPolyhedron};
     ghost use Rattle.lra_sys.specs.Listed.{constraints, generators, FitKinds};
+    ghost use Rattle.lra_poly.specs.Saturations.{saturation_of};
 
     ghost Value = { Polyhedron };
 
@@ -54,17 +60,20 @@ impl Model for Poly {
 
     ghost invariant = { λ s.
         IsPolyhedron (record { dims = s.rows.dims; rows = constraints s.rows; generators = generators s.by_generators })
-        × (s.by_generators.dims ≡ s.rows.dims) × FitKinds s.by_generators.rows s.by_generators.kinds };
+        × (s.by_generators.dims ≡ s.rows.dims) × FitKinds s.by_generators.rows s.by_generators.kinds
+        × (s.saturation ≡ saturation_of (constraints s.rows) (generators s.by_generators)) };
 }
 
 // The polyhedron of the pair.
 fn of_pair(alloc: Global, pair: &Pair) -> Result<Poly, AllocError>
     ensures { IfOk result (λ p. p ≡ pair.now) }
 {
+    let (rows, by_generators) = (pair.rows(), pair.generators());
     Ok(Poly {
         alloc,
-        rows: pair.rows().copy()?,
-        by_generators: pair.generators().copy()?,
+        rows: rows.copy()?,
+        by_generators: by_generators.copy()?,
+        saturation: saturation_matrix(alloc, rows, by_generators)?,
     })
 }
 
@@ -86,10 +95,14 @@ impl Poly {
         ensures none { IfOk result (λ p. IsEmptySet n (Con p.rows)) }
         ensures canonical { IfOk result IsPolyhedron }
     {
+        let rows = nothing(alloc, n)?;
+        let by_generators = GenSys::new(alloc, n);
+        let saturation = saturation_matrix(alloc, &rows, &by_generators)?;
         Ok(Poly {
             alloc,
-            rows: nothing(alloc, n)?,
-            by_generators: GenSys::new(alloc, n),
+            rows,
+            by_generators,
+            saturation,
         })
     }
 
@@ -131,6 +144,7 @@ impl Poly {
             alloc: self.alloc,
             rows: self.rows.copy()?,
             by_generators: self.by_generators.copy()?,
+            saturation: self.saturation.copy()?,
         })
     }
 
@@ -163,6 +177,15 @@ impl Poly {
         ensures canonical { IsPolyhedron self.now }
     {
         &self.by_generators
+    }
+
+    /// Which constraints are tight at which generators: a row for each constraint with a column for each generator,
+    /// true exactly where their product is 0. It is made with the two lists, so there always is one.
+    pub fn saturation(&self) -> Option<&SatMatrix>
+        ensures some { IsSome result }
+        ensures matrix { IfSome result (λ m. m.now ≡ saturation_of self.now.rows self.now.generators) }
+    {
+        Some(&self.saturation)
     }
 
     /// Whether it has no point.

@@ -5,12 +5,14 @@ use Rattle.lra_poly.proofs.PolyLemmas.{falsity_is_empty}
 use Rattle.lra_poly.proofs.poly.Poly.empty.Goals as goal
 
 pub invariant_of-result : goal.invariant_of-result
-invariant_of-result c = empty_lists c.args.n c.in_ok-nothing.field-0 c.new.result c.in_ok-nothing.ensures.dims c.in_ok-nothing.ensures.rows c.in_ok-nothing.ensures.kinds c.new.ensures.dims
-    c.new.ensures.rows
+invariant_of-result c =
+    let lists = empty_lists c.args.n c.in_ok-rows.rows c.new-by_generators.result c.in_ok-rows.ensures.dims c.in_ok-rows.ensures.rows c.in_ok-rows.ensures.kinds
+    c.new-by_generators.ensures.dims c.new-by_generators.ensures.rows in
+    (lists.0, lists.1, lists.2, c.in_ok-saturation.ensures)
 
 pub returns-clause-none : goal.returns-clause-none
-returns-clause-none c = falsity_is_empty c.args.n (constraints c.in_ok-nothing.field-0) (nothing_is c.args.n c.in_ok-nothing.field-0 c.in_ok-nothing.ensures.rows c.in_ok-nothing.ensures.kinds)
+returns-clause-none c = falsity_is_empty c.args.n (constraints c.in_ok-rows.rows) (nothing_is c.args.n c.in_ok-rows.rows c.in_ok-rows.ensures.rows c.in_ok-rows.ensures.kinds)
 
 pub returns-clause-canonical : goal.returns-clause-canonical
-returns-clause-canonical c = (empty_lists c.args.n c.in_ok-nothing.field-0 c.new.result c.in_ok-nothing.ensures.dims c.in_ok-nothing.ensures.rows c.in_ok-nothing.ensures.kinds c.new.ensures.dims
-    c.new.ensures.rows).0
+returns-clause-canonical c = (empty_lists c.args.n c.in_ok-rows.rows c.new-by_generators.result c.in_ok-rows.ensures.dims c.in_ok-rows.ensures.rows c.in_ok-rows.ensures.kinds
+    c.new-by_generators.ensures.dims c.new-by_generators.ensures.rows).0

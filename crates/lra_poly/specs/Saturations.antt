@@ -1,0 +1,17 @@
+-- Which constraints of a polyhedron are tight at which of its generators.
+use Rattle.std.specs.Prelude.{ℤ, pos, Bool, List, length, map}
+use Rattle.std.specs.Ordering.{int_eq}
+use Rattle.lra_bits.specs.Matrix.{Matrix}
+use Rattle.lra_linear.specs.Descriptions.{Given}
+use Rattle.lra_linear.specs.Vectors.{product}
+
+-- for each of the generators, whether the row has product 0 with it
+abbrev pub saturated : List Given → List ℤ → List Bool
+saturated generators r = map (λ g. int_eq (product r g.row) (pos 0)) generators
+
+-- a row for each of the constraints, with a column for each of the generators: true exactly where their product is 0
+abbrev pub saturation_of : List Given → List Given → Matrix
+saturation_of rows generators = record {
+  width = length generators;
+  rows = map (λ r. saturated generators r.row) rows;
+}
