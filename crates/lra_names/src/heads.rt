@@ -254,7 +254,7 @@ pub enum Rounds<'a> {
     For(&'a Place, &'a Init, &'a Option<Cond>, &'a Option<Assign>),
 }
 
-/// What it means, and the label of the `for`.
+/// What stands in the parentheses of a `for`, resolved, with its label.
 pub struct ForHead {
     init: lra_program::BlockItems,
     head: Head,
@@ -326,7 +326,7 @@ pub fn resolve_for_head(
     Ok(ForHead { init, head, step })
 }
 
-/// What stands before a loop's body means, and the loop's label.
+/// What stands before a loop's body, resolved, with the loop's label.
 pub enum LoopHead {
     While(Head),
     For(ForHead),
