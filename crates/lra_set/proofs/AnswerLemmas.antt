@@ -1,0 +1,110 @@
+-- Lemmas on answers, fitting parts and the ends of a settling.
+use Rattle.std.proofs.Common.{◌≡◌, ◌≢◌, ◌⊎◌, ◌↔◌, ℕ, suc, ◌+◌, ◌≤◌, ◌<◌, ℤ, List, [], ◌∷◌, ◌++◌, length, refl, ap, sym, subst, ◌∙◌, inl, inr}
+use Rattle.std.proofs.Common.{arith, length-append}
+use Rattle.std.specs.Prelude.{flat_map}
+use Rattle.lra_domain.specs.declared.Exactness.{Exactness}
+use Rattle.lra_domain.specs.declared.Exactness.TheVariants.{Exact, Flagged}
+use Rattle.lra_domain.specs.declared.Included.{Included}
+use Rattle.lra_domain.specs.declared.Included.TheVariants.{Yes, No, Wide}
+use Rattle.lra_domain.specs.Meaning.{Meaning}
+use Rattle.lra_domain.specs.Laws.{Laws, PlainLaws}
+use Rattle.lra_set.specs.Lists.{EachPart, SomePart}
+use Rattle.lra_set.specs.ListLemmas.{each_map, each_append, each_left, each_right}
+use Rattle.lra_set.specs.Content.{Parts}
+use Rattle.lra_set.specs.Values.{SetHas, PartsInside}
+use Rattle.lra_set.specs.Outcomes.{Told, both, PartFits, HaveDims, IsReduced, AreMerged, BecameOne, LastTwoMeet, IsSettled}
+use Rattle.lra_set.specs.Laws.{nil_front}
+use Rattle.lra_set.proofs.ReductionLemmas.{cover_trans, reduced_covers, reduced_exact, reduced_strains, reduced_each, reduced_fewer}
+use Rattle.lra_set.proofs.SettleLemmas.{meet_covers, meet_strains, merged_each, settled_whole}
+
+pub told_of : (A S : Type 0) (i : Included) → (i ≡ Yes → A) → (i ≡ No → ¬ A) → (i ≡ Wide → S) → Told A S i
+told_of A S Yes y n w = y refl
+told_of A S No y n w = n refl
+told_of A S Wide y n w = w refl
+
+pub told_yes : (A S : Type 0) (i : Included) → Told A S i → i ≡ Yes → A
+told_yes A S i t e = subst (λ (j : Included). Told A S j) e t
+
+pub told_no : (A S : Type 0) (i : Included) → Told A S i → i ≡ No → ¬ A
+told_no A S i t e = subst (λ (j : Included). Told A S j) e t
+
+pub told_wide : (A S : Type 0) (i : Included) → Told A S i → i ≡ Wide → S
+told_wide A S i t e = subst (λ (j : Included). Told A S j) e t
+
+pub told_both : (A B S T : Type 0) (i j : Included) → Told A S i → Told B T j → Told (A × B) (S ⊎ T) (both i j)
+told_both A B S T No j a b = λ h. a h.0
+told_both A B S T Yes No a b = λ h. b h.1
+told_both A B S T Yes Yes a b = (a, b)
+told_both A B S T Yes Wide a b = inr b
+told_both A B S T Wide No a b = λ h. b h.1
+told_both A B S T Wide Yes a b = inl a
+told_both A B S T Wide Wide a b = inl a
+
+pub fits_dims : {V H : Type 0} (m : Meaning V H) (n : ℕ) (ps : List V) → EachPart (PartFits m n) ps → HaveDims m n ps
+fits_dims m n ps fit = each_map (PartFits m n) (λ p. m.dims p ≡ n) (λ p f. f.dims) ps fit
+
+pub fits_none : {V H : Type 0} (m : Meaning V H) (n : ℕ) (ps : List V) → EachPart (PartFits m n) ps
+    → flat_map m.parts ps ≡ [] → ps ≡ []
+fits_none m n [] fit e = refl
+fits_none m n (p ∷ ps) fit e = absurd (fit.0.full (nil_front (m.parts p) (flat_map m.parts ps) e).0)
+
+pub universe_has : {V H : Type 0} (m : Meaning V H) (n cap : ℕ) (p : V) → ((s : List ℤ) → (m.has p s ↔ (length s ≡ n)))
+    → (s : List ℤ) → (SetHas m (record { dims = n; cap = cap; parts = p ∷ [] }) s ↔ (length s ≡ n))
+universe_has m n cap p has s = (λ own. own.0, λ long. (long, inl ((has s).1 long)))
+
+pub meet_fits : {V H : Type 0} (m : Meaning V H) → PlainLaws m → (n : ℕ) (ps : List V) (e : Exactness) (qs : List V)
+    → LastTwoMeet m ps e qs → EachPart (PartFits m n) ps → EachPart (PartFits m n) qs
+meet_fits {V} m pl n ps e qs t fit =
+    let all : EachPart (PartFits m n) ((t.front ++ t.one ∷ []) ++ t.two ∷ []) =
+    subst (λ (xs : List V). EachPart (PartFits m n) xs) t.old fit in
+    let early = each_left (PartFits m n) (t.front ++ t.one ∷ []) (t.two ∷ []) all in
+    let one = (each_right (PartFits m n) t.front (t.one ∷ []) early).0 in
+    subst (λ (xs : List V). EachPart (PartFits m n) xs) (sym t.new)
+    (each_append (PartFits m n) t.front (t.both ∷ []) (each_left (PartFits m n) t.front (t.one ∷ []) early)
+    (record { dims = t.dims ∙ one.dims; full = λ none. one.full (pl.partless_covered t.one t.both t.joined.left none) }, tt))
+
+pub meet_fewer : {V H : Type 0} (m : Meaning V H) (ps : List V) (e : Exactness) (qs : List V) → LastTwoMeet m ps e qs
+    → length qs < length ps
+meet_fewer m ps e qs t =
+    let old = ap length t.old in
+    let new = ap length t.new in
+    omega (
+      arith,
+      old,
+      new,
+      length-append (t.front ++ t.one ∷ []) (t.two ∷ []),
+      length-append t.front (t.one ∷ []),
+      length-append t.front (t.both ∷ []),
+    )
+
+pub merged_one : {V H : Type 0} (m : Meaning V H) → PlainLaws m → (ps : List V) (e : Exactness) (j : V) → AreMerged m ps e j
+    → ((n : ℕ) → HaveDims m n ps → m.dims j ≡ n) → BecameOne m ps (j ∷ [])
+merged_one m pl [] e j t dims = absurd t
+merged_one m pl (p ∷ ps) e j t dims = record {
+  part = j;
+  alone = refl;
+  covers = (t.first, t.others);
+  fits = λ n fit. record {
+    dims = dims n (fits_dims m n (p ∷ ps) fit);
+    full = λ none. fit.0.full (pl.partless_covered p j t.first none);
+  };
+}
+
+-- the reduction was flagged, and there are more parts than the cap
+pub settled_reduced : {V H : Type 0} (m : Meaning V H) → PlainLaws m → (n cap : ℕ) (ps mid qs : List V) → 1 ≤ cap
+    → IsReduced m ps Flagged mid → BecameOne m mid qs → EachPart (PartFits m n) ps → IsSettled m n cap ps Flagged qs
+settled_reduced {V} m pl n cap ps mid qs some r b fit =
+    subst (λ (xs : List V). IsSettled m n cap ps Flagged xs) (sym b.alone) (settled_whole m pl n cap ps b.part some
+    (merged_each m pl ps mid b.part (reduced_covers m pl ps Flagged mid r) b.covers)
+    (0, inl (reduced_strains m ps Flagged mid r refl)) (b.fits n (reduced_each m (PartFits m n) ps Flagged mid r fit)))
+
+-- the join of the last two was flagged
+pub settled_joined : {V H : Type 0} (m : Meaning V H) → PlainLaws m → (n cap : ℕ) (ps mid next qs : List V) → 1 ≤ cap
+    → IsReduced m ps Exact mid → cap < length mid → LastTwoMeet m mid Flagged next → BecameOne m next qs
+    → EachPart (PartFits m n) ps → IsSettled m n cap ps Flagged qs
+settled_joined {V} m pl n cap ps mid next qs some r over t b fit =
+    subst (λ (xs : List V). IsSettled m n cap ps Flagged xs) (sym b.alone) (settled_whole m pl n cap ps b.part some
+    (merged_each m pl ps next b.part (cover_trans m pl ps mid next (reduced_covers m pl ps Exact mid r)
+    (meet_covers m pl mid Flagged next t)) b.covers)
+    (0, inr (mid, reduced_exact m ps Exact mid r refl, over, meet_strains m mid next t))
+    (b.fits n (meet_fits m pl n mid Flagged next t (reduced_each m (PartFits m n) ps Exact mid r fit))))

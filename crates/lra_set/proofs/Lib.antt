@@ -1,0 +1,4 @@
+pub mod ReductionLemmas
+pub mod SettleLemmas
+pub mod TellLemmas
+pub mod AnswerLemmas

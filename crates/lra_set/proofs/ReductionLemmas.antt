@@ -1,0 +1,215 @@
+-- Lemmas on answers and reductions.
+use Rattle.std.proofs.Common.{◌≡◌, ◌⊎◌, ℕ, suc, ◌≤◌, List, [], ◌∷◌, ◌++◌, length, refl, ap, sym, subst, ◌∙◌, inl, inr}
+use Rattle.std.proofs.Common.{arith, append_assoc}
+use Rattle.lra_domain.specs.declared.Exactness.{Exactness}
+use Rattle.lra_domain.specs.declared.Exactness.TheVariants.{Exact, Flagged}
+use Rattle.lra_domain.specs.declared.Included.{Included}
+use Rattle.lra_domain.specs.declared.Included.TheVariants.{Yes, No, Wide}
+use Rattle.lra_domain.specs.Meaning.{Meaning}
+use Rattle.lra_domain.specs.Laws.{PlainLaws}
+use Rattle.lra_set.specs.Lists.{EachPart, SomePart}
+use Rattle.lra_set.specs.ListLemmas.{each_map, some_map, some_of_each, each_append, some_left, some_right}
+use Rattle.lra_set.specs.Reduction.{Goes, Leaves, LeavesStrains, Reduces, ReduceStrains}
+use Rattle.lra_set.specs.Values.{PartsInside}
+use Rattle.lra_set.specs.Outcomes.{Told, either, worse, decided, all_decided, AreTold, kept, IsReduced}
+
+-- answers -----------------------------------------------------------------------------------------------------------------
+
+none_of : {A B : Type 0} → ¬ A → ¬ B → ¬ (A ⊎ B)
+none_of na nb (inl a) = na a
+none_of na nb (inr b) = nb b
+
+pub told_either : (A B S T : Type 0) (i j : Included) → Told A S i → Told B T j → Told (A ⊎ B) (S ⊎ T) (either i j)
+told_either A B S T Yes j a b = inl a
+told_either A B S T No Yes a b = inr b
+told_either A B S T No No a b = none_of a b
+told_either A B S T No Wide a b = inr b
+told_either A B S T Wide Yes a b = inr b
+told_either A B S T Wide No a b = inl a
+told_either A B S T Wide Wide a b = inl a
+
+-- what covers what --------------------------------------------------------------------------------------------------------
+
+pub inside_trans : {V H : Type 0} (m : Meaning V H) → PlainLaws m → (a b c : V) → m.inside a b → m.inside b c → m.inside a c
+inside_trans m pl a b c i j =
+    (pl.inside_covered a c).1 (pl.covered_transitive a b c ((pl.inside_covered a b).0 i) ((pl.inside_covered b c).0 j))
+
+pub cover_trans : {V H : Type 0} (m : Meaning V H) → PlainLaws m → (ps qs rs : List V) → PartsInside m.covered ps qs
+    → PartsInside m.covered qs rs → PartsInside m.covered ps rs
+cover_trans m pl ps qs rs c d = each_map (λ p. SomePart (m.covered p) qs) (λ p. SomePart (m.covered p) rs)
+    (λ p some. some_of_each (λ q. SomePart (m.covered q) rs) (m.covered p) (SomePart (m.covered p) rs)
+    (λ q more pq. some_map (m.covered q) (m.covered p) (λ r qr. pl.covered_transitive p q r pq qr) rs more) qs d some) ps c
+
+-- the part lies in what stays so far, or below one that stands behind
+abbrev Holds : {V H : Type 0} → Meaning V H → List V → List V → V → Type 0
+Holds m front rest x = SomePart (m.covered x) front ⊎ SomePart (λ q. m.inside x q × ¬ m.inside q x) rest
+
+below_behind : {V H : Type 0} (m : Meaning V H) → PlainLaws m → (rest : List V) (x y : V) → m.inside x y
+    → SomePart (λ q. m.inside y q × ¬ m.inside q y) rest → SomePart (λ q. m.inside x q × ¬ m.inside q x) rest
+below_behind m pl rest x y xy some = some_map (λ q. m.inside y q × ¬ m.inside q y) (λ q. m.inside x q × ¬ m.inside q x)
+    (λ q b. (inside_trans m pl x y q xy b.0, λ qx. b.1 (inside_trans m pl q x y qx xy))) rest some
+
+held_by : {V H : Type 0} (m : Meaning V H) → PlainLaws m → (front rest : List V) (p x y : V) → m.inside x y → m.inside p y
+    → Holds m front (p ∷ rest) y → Holds m front rest x
+held_by m pl front rest p x y xy py (inl c) =
+    inl (some_map (m.covered y) (m.covered x) (λ q d. pl.covered_transitive x y q ((pl.inside_covered x y).0 xy) d) front c)
+held_by m pl front rest p x y xy py (inr (inl b)) = absurd (b.1 py)
+held_by m pl front rest p x y xy py (inr (inr some)) = inr (below_behind m pl rest x y xy some)
+
+-- what lies in a part that goes
+below_goes : {V H : Type 0} (m : Meaning V H) → PlainLaws m → (front rest before : List V) (p x : V) → m.inside x p
+    → EachPart (Holds m front (p ∷ rest)) before → Goes m before p rest → Holds m front rest x
+below_goes m pl front rest before p x xp held (inl some) =
+    some_of_each (Holds m front (p ∷ rest)) (m.inside p) (Holds m front rest x)
+    (λ y hold py. held_by m pl front rest p x y (inside_trans m pl x p y xp py) py hold) before held some
+below_goes m pl front rest before p x xp held (inr some) = inr (below_behind m pl rest x p xp some)
+
+still_held : {V H : Type 0} (m : Meaning V H) → PlainLaws m → (front rest before : List V) (p : V)
+    → EachPart (Holds m front (p ∷ rest)) before → Goes m before p rest
+    → (x : V) → Holds m front (p ∷ rest) x → Holds m front rest x
+still_held m pl front rest before p held g x (inl c) = inl c
+still_held m pl front rest before p held g x (inr (inl b)) = below_goes m pl front rest before p x b.0 held g
+still_held m pl front rest before p held g x (inr (inr some)) = inr some
+
+held_goes : {V H : Type 0} (m : Meaning V H) → PlainLaws m → (front rest before : List V) (p : V)
+    → EachPart (Holds m front (p ∷ rest)) before → Goes m before p rest → EachPart (Holds m front rest) (before ++ p ∷ [])
+held_goes m pl front rest before p held g = each_append (Holds m front rest) before (p ∷ [])
+    (each_map (Holds m front (p ∷ rest)) (Holds m front rest) (still_held m pl front rest before p held g) before held)
+    (below_goes m pl front rest before p p ((pl.inside_covered p p).1 (pl.covered_reflexive p)) held g, tt)
+
+also_held : {V H : Type 0} (m : Meaning V H) → PlainLaws m → (front rest : List V) (p x : V)
+    → Holds m front (p ∷ rest) x → Holds m (front ++ p ∷ []) rest x
+also_held m pl front rest p x (inl c) = inl (some_left (m.covered x) front (p ∷ []) c)
+also_held m pl front rest p x (inr (inl b)) =
+    inl (some_right (m.covered x) front (p ∷ []) (inl ((pl.inside_covered x p).0 b.0)))
+also_held m pl front rest p x (inr (inr some)) = inr some
+
+held_stays : {V H : Type 0} (m : Meaning V H) → PlainLaws m → (front rest before : List V) (p : V)
+    → EachPart (Holds m front (p ∷ rest)) before → EachPart (Holds m (front ++ p ∷ []) rest) (before ++ p ∷ [])
+held_stays m pl front rest before p held = each_append (Holds m (front ++ p ∷ []) rest) before (p ∷ [])
+    (each_map (Holds m front (p ∷ rest)) (Holds m (front ++ p ∷ []) rest) (also_held m pl front rest p) before held)
+    (inl (some_right (m.covered p) front (p ∷ []) (inl (pl.covered_reflexive p))), tt)
+
+abbrev CoveredBy : {V H : Type 0} → Meaning V H → List V → List V → Type 0
+CoveredBy m qs ps = EachPart (λ p. SomePart (m.covered p) qs) ps
+
+held_last : {V H : Type 0} (m : Meaning V H) (front : List V) (x : V) → Holds m front [] x → SomePart (m.covered x) (front ++ [])
+held_last m front x (inl c) = some_left (m.covered x) front [] c
+held_last m front x (inr none) = absurd none
+
+kept_covers : {V H : Type 0} (m : Meaning V H) → PlainLaws m → (front before ps : List V) (is : List Included)
+    → AreTold m before ps is → EachPart (Holds m front ps) before → CoveredBy m (front ++ kept ps is) (before ++ ps)
+kept_covers m pl front before [] [] told held = each_append (λ p. SomePart (m.covered p) (front ++ [])) before []
+    (each_map (Holds m front []) (λ p. SomePart (m.covered p) (front ++ [])) (held_last m front) before held) tt
+kept_covers m pl front before [] (i ∷ is) told held = absurd told
+kept_covers m pl front before (p ∷ ps) [] told held = absurd told
+kept_covers {V} m pl front before (p ∷ ps) (Yes ∷ is) told held =
+    subst (λ (xs : List V). CoveredBy m (front ++ kept ps is) xs) (append_assoc before (p ∷ []) ps)
+    (kept_covers m pl front (before ++ p ∷ []) ps is told.1 (held_goes m pl front ps before p held told.0))
+kept_covers {V} m pl front before (p ∷ ps) (No ∷ is) told held =
+    subst (λ (xs : List V). CoveredBy m (front ++ p ∷ kept ps is) xs) (append_assoc before (p ∷ []) ps)
+    (subst (λ (ys : List V). CoveredBy m ys ((before ++ p ∷ []) ++ ps)) (append_assoc front (p ∷ []) (kept ps is))
+    (kept_covers m pl (front ++ p ∷ []) (before ++ p ∷ []) ps is told.1 (held_stays m pl front ps before p held)))
+kept_covers {V} m pl front before (p ∷ ps) (Wide ∷ is) told held =
+    subst (λ (xs : List V). CoveredBy m (front ++ p ∷ kept ps is) xs) (append_assoc before (p ∷ []) ps)
+    (subst (λ (ys : List V). CoveredBy m ys ((before ++ p ∷ []) ++ ps)) (append_assoc front (p ∷ []) (kept ps is))
+    (kept_covers m pl (front ++ p ∷ []) (before ++ p ∷ []) ps is told.1 (held_stays m pl front ps before p held)))
+
+-- a reduction covers all parts
+pub reduced_covers : {V H : Type 0} (m : Meaning V H) → PlainLaws m → (ps : List V) (e : Exactness) (qs : List V)
+    → IsReduced m ps e qs → PartsInside m.covered ps qs
+reduced_covers {V} m pl ps e qs r = subst (λ (xs : List V). CoveredBy m xs ps) (sym r.left)
+    (kept_covers m pl [] [] ps r.answers r.told tt)
+
+-- what is defined ---------------------------------------------------------------------------------------------------------
+
+kept_leaves : {V H : Type 0} (m : Meaning V H) (before ps : List V) (is : List Included) → AreTold m before ps is
+    → all_decided is ≡ Exact → Leaves m before ps (kept ps is)
+kept_leaves m before [] [] told e = refl
+kept_leaves m before [] (i ∷ is) told e = absurd told
+kept_leaves m before (p ∷ ps) [] told e = absurd told
+kept_leaves m before (p ∷ ps) (Yes ∷ is) told e = inl (told.0, kept_leaves m (before ++ p ∷ []) ps is told.1 e)
+kept_leaves m before (p ∷ ps) (No ∷ is) told e =
+    inr (kept ps is, told.0, refl, kept_leaves m (before ++ p ∷ []) ps is told.1 e)
+kept_leaves m before (p ∷ ps) (Wide ∷ is) told e = let wrong : ⊥ = cc in absurd wrong
+
+kept_strains : {V H : Type 0} (m : Meaning V H) (before ps : List V) (is : List Included) → AreTold m before ps is
+    → all_decided is ≡ Flagged → LeavesStrains m before ps
+kept_strains m before [] [] told e = let wrong : ⊥ = cc in absurd wrong
+kept_strains m before [] (i ∷ is) told e = absurd told
+kept_strains m before (p ∷ ps) [] told e = absurd told
+kept_strains m before (p ∷ ps) (Yes ∷ is) told e = inr (kept_strains m (before ++ p ∷ []) ps is told.1 e)
+kept_strains m before (p ∷ ps) (No ∷ is) told e = inr (kept_strains m (before ++ p ∷ []) ps is told.1 e)
+kept_strains m before (p ∷ ps) (Wide ∷ is) told e = inl told.0
+
+pub reduced_exact : {V H : Type 0} (m : Meaning V H) (ps : List V) (e : Exactness) (qs : List V) → IsReduced m ps e qs
+    → e ≡ Exact → Reduces m ps qs
+reduced_exact {V} m ps e qs r x = subst (λ (xs : List V). Leaves m [] ps xs) (sym r.left)
+    (kept_leaves m [] ps r.answers r.told (sym r.exactness ∙ x))
+
+pub reduced_strains : {V H : Type 0} (m : Meaning V H) (ps : List V) (e : Exactness) (qs : List V) → IsReduced m ps e qs
+    → e ≡ Flagged → ReduceStrains m ps
+reduced_strains m ps e qs r x = kept_strains m [] ps r.answers r.told (sym r.exactness ∙ x)
+
+-- lists that are left -----------------------------------------------------------------------------------------------------
+
+pub leaves_same : {V H : Type 0} (m : Meaning V H) (before ps xs ys : List V) → Leaves m before ps xs
+    → Leaves m before ps ys → xs ≡ ys
+leaves_same m before [] xs ys a b = a ∙ sym b
+leaves_same m before (p ∷ ps) xs ys (inl a) (inl b) = leaves_same m (before ++ p ∷ []) ps xs ys a.1 b.1
+leaves_same m before (p ∷ ps) xs ys (inl a) (inr (s, stays, d, more)) = absurd (stays a.0)
+leaves_same m before (p ∷ ps) xs ys (inr (r, stays, e, rest)) (inl b) = absurd (stays b.0)
+leaves_same {V} m before (p ∷ ps) xs ys (inr (r, stays, e, rest)) (inr (s, stays_too, d, more)) =
+    e ∙ ap (λ (zs : List V). p ∷ zs) (leaves_same m (before ++ p ∷ []) ps r s rest more) ∙ sym d
+
+pub leaves_each : {V H : Type 0} (m : Meaning V H) (P : V → Type 0) (before ps zs : List V) → Leaves m before ps zs
+    → EachPart P ps → EachPart P zs
+leaves_each {V} m P before [] zs e each = subst (λ (xs : List V). EachPart P xs) (sym e) tt
+leaves_each m P before (p ∷ ps) zs (inl a) each = leaves_each m P (before ++ p ∷ []) ps zs a.1 each.1
+leaves_each {V} m P before (p ∷ ps) zs (inr (r, stays, e, rest)) each =
+    subst (λ (xs : List V). EachPart P xs) (sym e) (each.0, leaves_each m P (before ++ p ∷ []) ps r rest each.1)
+
+-- what is kept is no less than what is left
+kept_more : {V H : Type 0} (m : Meaning V H) (before ps zs : List V) (is : List Included) → AreTold m before ps is
+    → Leaves m before ps zs → length zs ≤ length (kept ps is)
+kept_more {V} m before [] zs [] told e = subst (λ (xs : List V). length xs ≤ 0) (sym e) (omega arith)
+kept_more m before [] zs (i ∷ is) told e = absurd told
+kept_more m before (p ∷ ps) zs [] told a = absurd told
+kept_more m before (p ∷ ps) zs (Yes ∷ is) told (inl a) = kept_more m (before ++ p ∷ []) ps zs is told.1 a.1
+kept_more m before (p ∷ ps) zs (Yes ∷ is) told (inr (r, stays, e, rest)) = absurd (stays told.0)
+kept_more m before (p ∷ ps) zs (No ∷ is) told (inl a) = absurd (told.0 a.0)
+kept_more {V} m before (p ∷ ps) zs (No ∷ is) told (inr (r, stays, e, rest)) =
+    let more = kept_more m (before ++ p ∷ []) ps r is told.1 rest in
+    subst (λ (xs : List V). length xs ≤ suc (length (kept ps is))) (sym e) (omega (arith, more))
+kept_more m before (p ∷ ps) zs (Wide ∷ is) told (inl a) =
+    let more = kept_more m (before ++ p ∷ []) ps zs is told.1 a.1 in omega (arith, more)
+kept_more {V} m before (p ∷ ps) zs (Wide ∷ is) told (inr (r, stays, e, rest)) =
+    let more = kept_more m (before ++ p ∷ []) ps r is told.1 rest in
+    subst (λ (xs : List V). length xs ≤ suc (length (kept ps is))) (sym e) (omega (arith, more))
+
+pub reduced_more : {V H : Type 0} (m : Meaning V H) (ps : List V) (e : Exactness) (qs zs : List V) → IsReduced m ps e qs
+    → Reduces m ps zs → length zs ≤ length qs
+reduced_more {V} m ps e qs zs r left = subst (λ (xs : List V). length zs ≤ length xs) (sym r.left)
+    (kept_more m [] ps zs r.answers r.told left)
+
+pub kept_each : {V : Type 0} (P : V → Type 0) (ps : List V) (is : List Included) → EachPart P ps → EachPart P (kept ps is)
+kept_each P [] is each = tt
+kept_each P (p ∷ ps) [] each = each
+kept_each P (p ∷ ps) (Yes ∷ is) each = kept_each P ps is each.1
+kept_each P (p ∷ ps) (No ∷ is) each = (each.0, kept_each P ps is each.1)
+kept_each P (p ∷ ps) (Wide ∷ is) each = (each.0, kept_each P ps is each.1)
+
+pub kept_fewer : {V : Type 0} (ps : List V) (is : List Included) → length (kept ps is) ≤ length ps
+kept_fewer [] is = omega arith
+kept_fewer (p ∷ ps) [] = omega arith
+kept_fewer (p ∷ ps) (Yes ∷ is) = omega (arith, kept_fewer ps is)
+kept_fewer (p ∷ ps) (No ∷ is) = omega (arith, kept_fewer ps is)
+kept_fewer (p ∷ ps) (Wide ∷ is) = omega (arith, kept_fewer ps is)
+
+pub reduced_each : {V H : Type 0} (m : Meaning V H) (P : V → Type 0) (ps : List V) (e : Exactness) (qs : List V)
+    → IsReduced m ps e qs → EachPart P ps → EachPart P qs
+reduced_each {V} m P ps e qs r each = subst (λ (xs : List V). EachPart P xs) (sym r.left) (kept_each P ps r.answers each)
+
+pub reduced_fewer : {V H : Type 0} (m : Meaning V H) (ps : List V) (e : Exactness) (qs : List V) → IsReduced m ps e qs
+    → length qs ≤ length ps
+reduced_fewer {V} m ps e qs r = subst (λ (xs : List V). length xs ≤ length ps) (sym r.left) (kept_fewer ps r.answers)

@@ -1,0 +1,10 @@
+pub mod Lists
+pub mod ListLemmas
+pub mod Content
+pub mod Reduction
+pub mod Joins
+pub mod Values
+pub mod Heads
+pub mod Meaning
+pub mod Outcomes
+pub mod Laws

@@ -1,0 +1,136 @@
+-- What the steps of the code answer and leave, for their contracts.
+use Rattle.std.specs.Prelude.{◌≡◌, ◌≤◌, ℕ, ℤ, List, [], ◌∷◌, ◌++◌, length, ◌⊎◌}
+use Rattle.lra_domain.specs.declared.Exactness.{Exactness}
+use Rattle.lra_domain.specs.declared.Exactness.TheVariants.{Exact, Flagged}
+use Rattle.lra_domain.specs.declared.Included.{Included}
+use Rattle.lra_domain.specs.declared.Included.TheVariants.{Yes, No, Wide}
+use Rattle.lra_domain.specs.Actions.{Action, Leads, dims_after}
+use Rattle.lra_domain.specs.Meaning.{Meaning, Joins}
+use Rattle.lra_set.specs.Lists.{EachPart, SomePart, PartByPart}
+use Rattle.lra_set.specs.Content.{IsFilled, filled}
+use Rattle.lra_set.specs.Reduction.{Goes, GoesStrains}
+use Rattle.lra_set.specs.Joins.{JoinsOn, JoinsOnStrains, Settles, SettleStrains}
+use Rattle.lra_set.specs.Values.{PartsInside}
+
+-- an answer is right: it is so, it isn't, or something strains
+abbrev pub Told : Type 0 → Type 0 → Included → Type 0
+Told so strains Yes = so
+Told so strains No = ¬ so
+Told so strains Wide = strains
+
+-- whether one of two is so
+abbrev pub either : Included → Included → Included
+either Yes j = Yes
+either No j = j
+either Wide Yes = Yes
+either Wide No = Wide
+either Wide Wide = Wide
+
+-- whether both are so
+abbrev pub both : Included → Included → Included
+both No j = No
+both Yes j = j
+both Wide No = No
+both Wide Yes = Wide
+both Wide Wide = Wide
+
+-- flagged where one of two is
+abbrev pub worse : Exactness → Exactness → Exactness
+worse Exact e = e
+worse Flagged e = Flagged
+
+-- flagged where an answer strained
+abbrev pub decided : Included → Exactness
+decided Yes = Exact
+decided No = Exact
+decided Wide = Flagged
+
+abbrev pub all_decided : List Included → Exactness
+all_decided [] = Exact
+all_decided (i ∷ is) = worse (decided i) (all_decided is)
+
+-- of so many dimensions each
+abbrev pub HaveDims : {V H : Type 0} → Meaning V H → ℕ → List V → Type 0
+HaveDims m n ps = EachPart (λ p. m.dims p ≡ n) ps
+
+-- the part has these dimensions, and isn't empty
+pub record PartFits {V H : Type 0} (m : Meaning V H) (n : ℕ) (p : V) : Type 0 where
+  pub dims : m.dims p ≡ n
+  pub full : IsFilled m p
+
+-- of each part it is told whether it goes
+abbrev pub AreTold : {V H : Type 0} → Meaning V H → List V → List V → List Included → Type 0
+AreTold m before [] [] = Unit {0}
+AreTold m before [] (i ∷ is) = ⊥
+AreTold m before (p ∷ ps) [] = ⊥
+AreTold m before (p ∷ ps) (i ∷ is) = Told (Goes m before p ps) (GoesStrains m before p ps) i × AreTold m (before ++ p ∷ []) ps is
+
+-- without the parts that go
+abbrev pub kept : {V : Type 0} → List V → List Included → List V
+kept [] is = []
+kept (p ∷ ps) [] = p ∷ ps
+kept (p ∷ ps) (Yes ∷ is) = kept ps is
+kept (p ∷ ps) (No ∷ is) = p ∷ kept ps is
+kept (p ∷ ps) (Wide ∷ is) = p ∷ kept ps is
+
+-- a reduction in which a part of which it isn't told whether it goes stays
+pub record IsReduced {V H : Type 0} (m : Meaning V H) (ps : List V) (e : Exactness) (qs : List V) : Type 0 where
+  pub answers : List Included
+  pub told : AreTold m [] ps answers
+  pub left : qs ≡ kept ps answers
+  pub exactness : e ≡ all_decided answers
+
+-- the part, joined with the others in order
+pub record IsMerged {V H : Type 0} (m : Meaning V H) (a : V) (ps : List V) (e : Exactness) (j : V) : Type 0 where
+  pub first : m.covered a j
+  pub others : EachPart (λ p. m.covered p j) ps
+  pub exact : e ≡ Exact → JoinsOn m a ps j
+  pub flagged : e ≡ Flagged → JoinsOnStrains m a ps
+
+-- the join of the parts in order
+abbrev pub AreMerged : {V H : Type 0} → Meaning V H → List V → Exactness → V → Type 0
+AreMerged m [] e j = ⊥
+AreMerged m (p ∷ ps) e j = IsMerged m p ps e j
+
+-- one part that covers all
+pub record BecameOne {V H : Type 0} (m : Meaning V H) (ps qs : List V) : Type 0 where
+  pub part : V
+  pub alone : qs ≡ part ∷ []
+  pub covers : EachPart (λ p. m.covered p part) ps
+  pub fits : (n : ℕ) → EachPart (PartFits m n) ps → PartFits m n part
+
+-- the last two parts became their join, in the last place
+pub record LastTwoMeet {V H : Type 0} (m : Meaning V H) (ps : List V) (e : Exactness) (qs : List V) : Type 0 where
+  pub front : List V
+  pub one : V
+  pub two : V
+  pub both : V
+  pub old : ps ≡ (front ++ one ∷ []) ++ two ∷ []
+  pub joined : Joins m one two e both
+  pub dims : m.dims both ≡ m.dims one
+  pub new : qs ≡ front ++ both ∷ []
+
+-- a list that was reduced and kept within its cap
+pub record IsSettled {V H : Type 0} (m : Meaning V H) (n cap : ℕ) (ps : List V) (e : Exactness) (qs : List V)
+    : Type 0 where
+  -- it covers all parts, and what is defined
+  pub parts : PartsInside m.covered ps qs
+  pub covers : (joins : ℕ) (zs : List V) → Settles m cap joins ps zs → PartsInside m.covered zs qs
+  pub exact : e ≡ Exact → (joins : ℕ) × Settles m cap joins ps qs
+  pub flagged : e ≡ Flagged → (joins : ℕ) × SettleStrains m cap joins ps
+  pub few : length qs ≤ cap
+  pub fit : EachPart (PartFits m n) qs
+
+-- each part is changed, and those that became empty are left out
+pub record AreChanged {V H : Type 0} (m : Meaning V H) (step : Action) (ps : List V) (e : Exactness) (qs : List V)
+    : Type 0 where
+  pub changed : List V
+  pub left : qs ≡ filled m changed
+  -- each store to which the change may lead is kept
+  pub stores : (s t : List ℤ) → SomePart (λ p. m.has p s) ps → Leads step s t → SomePart (λ q. m.has q t) qs
+  -- what is defined is covered
+  pub covers : (vs : List V) → PartByPart (m.done step) ps vs → PartsInside m.covered (filled m vs) qs
+  pub exact : e ≡ Exact → PartByPart (m.done step) ps changed
+  pub flagged : e ≡ Flagged → SomePart (m.strains step) ps
+  pub few : length qs ≤ length ps
+  pub fit : (n : ℕ) → HaveDims m n ps → EachPart (PartFits m (dims_after step n)) qs

@@ -1,0 +1,70 @@
+-- What each call on sets of parts gives, and when it may be flagged.
+use Rattle.std.specs.Prelude.{◌≡◌, ◌≤◌, ℕ, ℤ, List, [], ◌∷◌, ◌++◌, length, ◌⊎◌}
+use Rattle.lra_domain.specs.Actions.{Action, dims_after}
+use Rattle.lra_domain.specs.Meaning.{Meaning}
+use Rattle.lra_set.specs.Lists.{EachPart, SomePart, PartByPart}
+use Rattle.lra_set.specs.Content.{Parts, filled}
+use Rattle.lra_set.specs.Reduction.{ReduceStrains}
+use Rattle.lra_set.specs.Joins.{Settles, SettleStrains}
+
+-- a store of some part, with a number for each dimension
+abbrev pub SetHas : {V H : Type 0} → Meaning V H → Parts V → List ℤ → Type 0
+SetHas m v s = (length s ≡ v.dims) × SomePart (λ p. m.has p s) v.parts
+
+-- no more parts than its cap
+abbrev pub SetCapped : {V : Type 0} → Parts V → ℕ → Type 0
+SetCapped v c = (v.cap ≡ c) × (length v.parts ≤ c)
+
+-- each part is in some part of the other
+abbrev pub PartsInside : {V : Type 0} → (V → V → Type 0) → List V → List V → Type 0
+PartsInside R ps qs = EachPart (λ p. SomePart (R p) qs) ps
+
+abbrev pub SetInside : {V H : Type 0} → Meaning V H → Parts V → Parts V → Type 0
+SetInside m a b = (a.dims ≡ b.dims) × PartsInside m.inside a.parts b.parts
+
+abbrev pub SetInsideStrains : {V H : Type 0} → Meaning V H → Parts V → Parts V → Type 0
+SetInsideStrains m a b = SomePart (λ p. SomePart (m.inside_strains p) b.parts) a.parts
+
+abbrev pub SetCovered : {V H : Type 0} → Meaning V H → Parts V → Parts V → Type 0
+SetCovered m a b = (a.dims ≡ b.dims) × PartsInside m.covered a.parts b.parts
+
+-- the part that has all stores, alone
+abbrev pub IsWhole : {V H : Type 0} → Meaning V H → ℕ → V → Type 0
+IsWhole m n p = (c : ℕ) × m.universal n c p
+
+pub record SetUniversal {V H : Type 0} (m : Meaning V H) (n cap : ℕ) (v : Parts V) : Type 0 where
+  pub dims : v.dims ≡ n
+  pub cap_is : v.cap ≡ cap
+  pub part : V
+  pub whole : IsWhole m n part
+  pub alone : v.parts ≡ part ∷ []
+
+-- no part
+abbrev pub SetVoid : {V : Type 0} → ℕ → ℕ → Parts V → Type 0
+SetVoid n cap v = v ≡ record { dims = n; cap = cap; parts = [] }
+
+-- the action is done part by part, parts that became empty are left out, and the list is reduced and kept within its cap
+pub record SetDone {V H : Type 0} (m : Meaning V H) (step : Action) (old new : Parts V) : Type 0 where
+  pub dims : new.dims ≡ dims_after step old.dims
+  pub cap : new.cap ≡ old.cap
+  pub changed : List V
+  pub done : PartByPart (m.done step) old.parts changed
+  pub joins : ℕ
+  pub settled : Settles m old.cap joins (filled m changed) new.parts
+
+-- the action strains on a part, or what comes behind it strains on the parts that it gives
+abbrev pub SetStrains : {V H : Type 0} → Meaning V H → Action → Parts V → Type 0
+SetStrains {V} m step old =
+    SomePart (m.strains step) old.parts
+    ⊎ ((changed : List V) × (joins : ℕ) × PartByPart (m.done step) old.parts changed
+    × SettleStrains m old.cap joins (filled m changed))
+
+-- the other's parts are appended, and the list is reduced and kept within its cap
+pub record SetJoined {V H : Type 0} (m : Meaning V H) (one two new : Parts V) : Type 0 where
+  pub dims : new.dims ≡ one.dims
+  pub cap : new.cap ≡ one.cap
+  pub joins : ℕ
+  pub settled : Settles m one.cap joins (one.parts ++ two.parts) new.parts
+
+abbrev pub SetJoinStrains : {V H : Type 0} → Meaning V H → Parts V → Parts V → Type 0
+SetJoinStrains m one two = (joins : ℕ) × SettleStrains m one.cap joins (one.parts ++ two.parts)
