@@ -9,7 +9,8 @@ use Rattle.lra_tree.specs.Views.{stmt_view, cond_view, init_view, assign_view}
 use Rattle.lra_tree.specs.Labels.{Labelled, plain_label, live_in_for}
 use Rattle.lra_meaning.specs.Scope.{Scope, for_scope}
 use Rattle.lra_meaning.specs.NameFaults.{cond_faults, init_faults, test_of_for_faults, step_faults}
-use Rattle.lra_meaning.specs.Resolve.{resolve_cond, resolve_init, resolve_for_test, resolve_step, init_count, step_count}
+use Rattle.lra_meaning.specs.Resolve.{resolve_cond, resolve_init, resolve_for_test, resolve_step, init_count}
+use Rattle.lra_meaning.specs.Resolve.{step_count}
 use Rattle.lra_program.specs.Program as program
 use Rattle.lra_program.specs.ProgramViews as view
 use Rattle.lra_names.specs.declared.heads.Asked.{Asked}
@@ -69,7 +70,8 @@ rounds_view (rounds.For at i c e) = for_head at.now (init_view i.now) (option_ma
 
 -- and a choice
 abbrev pub choice_of : Asked → Stmt → Option Stmt → StmtTree
-choice_of a branch other = choice_tree a.place.now (cond_view a.cond.now) (stmt_view branch) (option_map stmt_view other)
+choice_of a branch other = choice_tree a.place.now (cond_view a.cond.now) (stmt_view branch)
+    (option_map stmt_view other)
 
 abbrev pub loop_tree : Rounds → Stmt → StmtTree
 loop_tree r body = with_body (rounds_view r) (stmt_view body)

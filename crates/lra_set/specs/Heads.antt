@@ -13,7 +13,7 @@ use Rattle.lra_set.specs.Content.{Parts, Form, many, one, whole, Head, filled}
 use Rattle.lra_set.specs.Joins.{JoinsOn, JoinsOnStrains, Merges, MergeStrains, Settles, SettleStrains}
 use Rattle.lra_set.specs.Values.{PartsInside, IsWhole}
 
--- stores, and how many parts there may be -------------------------------------------------------------------------------
+-- stores, and how many parts there may be ---------------------------------------------------------
 
 abbrev pub FormHas : {V H : Type 0} → Meaning V H → Form V H → List ℤ → Type 0
 FormHas m (many ps) s = SomePart (λ p. m.has p s) ps
@@ -47,7 +47,7 @@ form_rank m (one h) = record {
 }
 form_rank m (whole p) = record { first = 0; second = 0; third = 0; fourth = 0 }
 
--- from values to heads and back -----------------------------------------------------------------------------------------
+-- from values to heads and back -------------------------------------------------------------------
 
 -- a single part becomes a head of its own
 abbrev pub FormStarts : {V H : Type 0} → Meaning V H → Listed ConKind → List V → Form V H → Type 0
@@ -79,7 +79,7 @@ FormValueStrains m (many ps) = ⊥
 FormValueStrains m (one h) = m.value_strains h
 FormValueStrains m (whole p) = ⊥
 
--- whether next lies in a head -------------------------------------------------------------------------------------------
+-- whether next lies in a head ---------------------------------------------------------------------
 
 -- each of these parts lies in the head: in one of its parts; in its single part, whose value is asked in mode Join
 abbrev pub FormStays : {V H : Type 0} → Meaning V H → Form V H → List V → Mode → Type 0
@@ -112,7 +112,7 @@ HeadAnswers m h v mode Yes = HeadStays m h v mode
 HeadAnswers m h v mode No = ¬ HeadStays m h v mode
 HeadAnswers m h v mode Wide = FormStrains m h.form v.parts mode
 
--- growth ----------------------------------------------------------------------------------------------------------------
+-- growth ------------------------------------------------------------------------------------------
 
 -- the first head grows by the value, unless it lies in it
 abbrev pub GrowsBy : {V H : Type 0} → Meaning V H → H → V → Mode → H → Type 0
@@ -173,7 +173,7 @@ pub record HeadGivenUp {V H : Type 0} (m : Meaning V H) (old : Head V H) (mode :
   pub cap : new.cap ≡ old.cap
   pub form : FormGivenUp m old.dims old.form mode new.form
 
--- which head covers another ---------------------------------------------------------------------------------------------
+-- which head covers another -----------------------------------------------------------------------
 
 -- all stores cover everything; else a single part's head covers another, or heads start with parts that cover others
 abbrev pub FormCovered : {V H : Type 0} → Meaning V H → Form V H → Form V H → Type 0

@@ -1,5 +1,6 @@
 -- The laws of sets of parts, from those of their parts.
-use Rattle.std.proofs.Common.{◌≡◌, ◌≢◌, ◌⊎◌, ℕ, ◌≤◌, ℤ, pos, List, [], ◌∷◌, ◌++◌, length, replicate, refl, ap, sym, subst}
+use Rattle.std.proofs.Common.{◌≡◌, ◌≢◌, ◌⊎◌, ℕ, ◌≤◌, ℤ, pos, List, [], ◌∷◌, ◌++◌, length, replicate, refl, ap, sym}
+use Rattle.std.proofs.Common.{subst}
 use Rattle.std.proofs.Common.{◌∙◌, inl, inr, arith, length-append}
 use Rattle.std.specs.Prelude.{flat_map}
 use Rattle.std.proofs.lemmas.List.{length-replicate}
@@ -18,13 +19,14 @@ use Rattle.lra_set.specs.Heads.{FormHas, HeadHas, FormStarts, FormStays, HeadSta
 use Rattle.lra_set.specs.Heads.{HeadGivenUp, FormCovered, HeadCovered}
 use Rattle.lra_set.specs.Meaning.{set_meaning}
 
--- parts, by their stores --------------------------------------------------------------------------------------------------
+-- parts, by their stores --------------------------------------------------------------------------
 
 -- parts that lie in others have no store beyond theirs
 pub parts_within : {V H : Type 0} (m : Meaning V H) → Laws m → (ps qs : List V) → PartsInside m.covered ps qs
     → (s : List ℤ) → SomePart (λ p. m.has p s) ps → SomePart (λ q. m.has q s) qs
 parts_within m l [] qs c s h = absurd h
-parts_within m l (p ∷ ps) qs c s (inl h) = some_map (m.covered p) (λ q. m.has q s) (λ q d. l.covered_stores p q d s h) qs c.0
+parts_within m l (p ∷ ps) qs c s (inl h) = some_map (m.covered p) (λ q. m.has q s)
+    (λ q d. l.covered_stores p q d s h) qs c.0
 parts_within m l (p ∷ ps) qs c s (inr h) = parts_within m l ps qs c.1 s h
 
 -- inclusion is covering
@@ -51,7 +53,8 @@ few_parts m pl (p ∷ ps) =
 -- a part with all stores isn't empty
 pub whole_is_filled : {V H : Type 0} (m : Meaning V H) → Laws m → (n : ℕ) (p : V) → IsWhole m n p → m.parts p ≢ []
 whole_is_filled m l n p w = λ e.
-    l.partless p e (replicate n (pos 0)) (l.universal_stores n w.0 p w.1 (replicate n (pos 0)) (length-replicate n (pos 0)))
+    l.partless p e (replicate n (pos 0)) (l.universal_stores n w.0 p w.1 (replicate n (pos 0))
+    (length-replicate n (pos 0)))
 
 pub with_filled_rows : {V R : Type 0} (rows : List R) (p : V) (qs : List V) → rows ≢ [] → with_filled rows p qs ≡ p ∷ qs
 with_filled_rows [] p qs n = absurd (n refl)
@@ -61,7 +64,7 @@ pub with_filled_none : {V R : Type 0} (rows : List R) (p : V) (qs : List V) → 
 with_filled_none [] p qs e = refl
 with_filled_none (r ∷ rows) p qs e = let wrong : ⊥ = cc in absurd wrong
 
--- heads, by their stores --------------------------------------------------------------------------------------------------
+-- heads, by their stores --------------------------------------------------------------------------
 
 -- a head that starts with parts has their stores, and no others
 pub started_has : {V H : Type 0} (m : Meaning V H) → Laws m → PlainLaws m → (given : Listed ConKind) (ps : List V)
@@ -108,7 +111,7 @@ form_stays m l pl (one h) qs Widen st s own = each_stays m l h Widen qs st s own
 form_stays m l pl (one h) qs Limited st s own = each_stays m l h Limited qs st s own
 form_stays m l pl (whole p) qs mode st s own = tt
 
--- heads that are given up -------------------------------------------------------------------------------------------------
+-- heads that are given up -------------------------------------------------------------------------
 
 given_up_has : {V H : Type 0} (m : Meaning V H) → Laws m → (n : ℕ) (f : Form V H) (mode : Mode) (g : Form V H)
     → FormGivenUp m n f mode g → (s : List ℤ) → length s ≡ n → FormHas m g s
@@ -134,7 +137,7 @@ given_up_is_whole {V} {H} m l n f mode g ps (inr (a, b, e, d, same, u)) v =
     let is : IsWhole m n value.0 = (all.0, subst (λ (k : ℕ). m.universal k all.0 value.0) same all.1) in
     (value.0, is, value.2 ∙ with_filled_rows (m.parts value.0) value.0 [] (whole_is_filled m l n value.0 is))
 
--- the laws ----------------------------------------------------------------------------------------------------------------
+-- the laws ----------------------------------------------------------------------------------------
 
 void_has : {V H : Type 0} (m : Meaning V H) (n cap : ℕ) (v : Parts V) → SetVoid n cap v → (s : List ℤ) → ¬ SetHas m v s
 void_has {V} m n cap v e s own = (subst (λ (w : Parts V). SetHas m w s) e own).1
@@ -143,7 +146,8 @@ whole_has : {V H : Type 0} (m : Meaning V H) → Laws m → (n cap : ℕ) (v : P
     → (s : List ℤ) → length s ≡ n → SetHas m v s
 whole_has {V} m l n cap v u s long = (
   long ∙ sym u.dims,
-  subst (λ (ps : List V). SomePart (λ p. m.has p s) ps) (sym u.alone) (inl (l.universal_stores n u.whole.0 u.part u.whole.1 s long)),
+  subst (λ (ps : List V). SomePart (λ p. m.has p s) ps) (sym u.alone)
+      (inl (l.universal_stores n u.whole.0 u.part u.whole.1 s long)),
 )
 
 void_capped_by : {V : Type 0} (n cap : ℕ) (v : Parts V) → SetVoid n cap v → (v.cap ≡ cap) × (length v.parts ≤ cap)
@@ -167,7 +171,11 @@ set_laws {V} {H} m l pl = record {
   stays_stores = λ h v mode st s own. (own.0 ∙ st.0, form_stays m l pl h.form v.parts mode st.1 s own.1);
   answers_yes = λ h v mode st. st;
   answers_no = λ h v mode st. st;
-  given_up_stores = λ old mode new g s long. (long ∙ sym g.dims, given_up_has m l old.dims old.form mode new.form g.form s long);
+  given_up_stores = λ old mode new g s long. (
+    long ∙
+        sym g.dims,
+    given_up_has m l old.dims old.form mode new.form g.form s long,
+  );
   given_up_valued = λ old mode new g. let v = given_up_is_valued m l old.dims old.form mode new.form g.form in (
     record { dims = new.dims; cap = new.cap; parts = v.0 },
     record { dims = refl; cap = refl; form = v.1 },

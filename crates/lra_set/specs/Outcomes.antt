@@ -63,7 +63,8 @@ abbrev pub AreTold : {V H : Type 0} → Meaning V H → List V → List V → Li
 AreTold m before [] [] = Unit {0}
 AreTold m before [] (i ∷ is) = ⊥
 AreTold m before (p ∷ ps) [] = ⊥
-AreTold m before (p ∷ ps) (i ∷ is) = Told (Goes m before p ps) (GoesStrains m before p ps) i × AreTold m (before ++ p ∷ []) ps is
+AreTold m before (p ∷ ps) (i ∷ is) = Told (Goes m before p ps) (GoesStrains m before p ps) i ×
+    AreTold m (before ++ p ∷ []) ps is
 
 -- without the parts that go
 abbrev pub kept : {V : Type 0} → List V → List Included → List V

@@ -43,7 +43,8 @@ pub record SetUniversal {V H : Type 0} (m : Meaning V H) (n cap : ℕ) (v : Part
 abbrev pub SetVoid : {V : Type 0} → ℕ → ℕ → Parts V → Type 0
 SetVoid n cap v = v ≡ record { dims = n; cap = cap; parts = [] }
 
--- the action is done part by part, parts that became empty are left out, and the list is reduced and kept within its cap
+-- the action is done part by part, parts that became empty are left out, and the list is reduced and kept within its
+-- cap
 pub record SetDone {V H : Type 0} (m : Meaning V H) (step : Action) (old new : Parts V) : Type 0 where
   pub dims : new.dims ≡ dims_after step old.dims
   pub cap : new.cap ≡ old.cap

@@ -8,7 +8,8 @@ ghost use Rattle.lra_source.specs.Soundness.{SolvedAreSound};
 ghost use Rattle.lra_source.specs.Claims.{EachAnswer, OneAnsweredText, TreesFit, TreesAreNumbered, AnalysedAreSound};
 ghost use Rattle.lra_source.specs.Claims.{AnalysedAreReports, BoxesAreShown, OctagonsAreShown};
 =======
-ghost use Rattle.lra_source.specs.Claims.{EachAnswer, OneAnsweredText, TreesFit, TreesAreNumbered, AnalysedAreSound, AnalysedAreReports};
+ghost use Rattle.lra_source.specs.Claims.{EachAnswer, OneAnsweredText, TreesFit, TreesAreNumbered, AnalysedAreSound};
+ghost use Rattle.lra_source.specs.Claims.{AnalysedAreReports};
 >>>>>>> af2a614 (A source is answered over any domain that shows its values)
 
 use lra_domain::Domain;
