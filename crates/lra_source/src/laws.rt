@@ -4,13 +4,8 @@ ghost use Rattle.lra_tree.specs.Grammar.{Spells};
 ghost use Rattle.lra_meaning.specs.Refuse.{OneAnswer};
 ghost use Rattle.lra_flow.specs.Linear.{FormsAreRight, TestsAreRight, DiffersIsRight};
 ghost use Rattle.lra_source.specs.Soundness.{SolvedAreSound};
-<<<<<<< HEAD
-ghost use Rattle.lra_source.specs.Claims.{EachAnswer, OneAnsweredText, TreesFit, TreesAreNumbered, AnalysedAreSound};
-ghost use Rattle.lra_source.specs.Claims.{AnalysedAreReports, BoxesAreShown, OctagonsAreShown};
-=======
 ghost use Rattle.lra_source.specs.Claims.{EachAnswer, OneAnsweredText, TreesFit, TreesAreNumbered, AnalysedAreSound};
 ghost use Rattle.lra_source.specs.Claims.{AnalysedAreReports};
->>>>>>> af2a614 (A source is answered over any domain that shows its values)
 
 use lra_domain::Domain;
 
