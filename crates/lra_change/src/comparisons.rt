@@ -71,10 +71,16 @@ fn leave_differs<D: Domain>(
     Ok(worse_of(worse_of(one, two), joined))
 }
 
+/// In what a condition is read: the allocator of what is built for it, and where the variables of its call begin.
+#[derive(Clone, Copy)]
+pub struct Surroundings {
+    pub alloc: Global,
+    pub base: usize,
+}
+
 /// What a comparison leaves of the value; all of it where the difference isn't linear.
 pub fn leave_comparison<D: Domain>(
-    alloc: Global,
-    base: usize,
+    around: Surroundings,
     op: Comparison,
     left: &Expr,
     right: &Expr,
@@ -82,21 +88,21 @@ pub fn leave_comparison<D: Domain>(
     before: Exactness,
 ) -> Result<Exactness, AllocError>
     requires { D.meaning.dims value.old < 2 ^ 62 }
-    ensures leaves { IfOk result (λ e. Compares D.meaning (D.meaning.dims value.old) base (comparison_view op)
-        (difference_form (D.meaning.dims value.old) base (expr_view left.now) (expr_view right.now)) value.old before
-        value.new e) }
+    ensures leaves { IfOk result (λ e. Compares D.meaning (D.meaning.dims value.old) around.base (comparison_view op)
+        (difference_form (D.meaning.dims value.old) around.base (expr_view left.now) (expr_view right.now))
+        value.old before value.new e) }
     ensures dims { OnOk result (D.meaning.dims value.new ≡ D.meaning.dims value.old) }
 {
-    let Some(d) = difference_of(alloc, value.dims(), base, left, right)? else {
+    let Some(d) = difference_of(around.alloc, value.dims(), around.base, left, right)? else {
         return Ok(before);
     };
     match op {
         Comparison::Differs => {
-            let exactness = leave_differs(alloc, base, &d, value, before)?;
+            let exactness = leave_differs(around.alloc, around.base, &d, value, before)?;
             Ok(exactness)
         }
         _ => {
-            let exactness = leave_test(alloc, base, op, &d, value, before)?;
+            let exactness = leave_test(around.alloc, around.base, op, &d, value, before)?;
             Ok(exactness)
         }
     }

@@ -7,7 +7,7 @@ ghost use Rattle.lra_flow.specs.Condition.{atom, opposite_comparison, push};
 ghost use Rattle.lra_forms.specs.Conditions.{in_turn_of, either_of};
 ghost use Rattle.lra_change.specs.Sides.{Splits, AreJoinedTo};
 
-use crate::comparisons::{leave_comparison, worse_of};
+use crate::comparisons::{Surroundings, leave_comparison, worse_of};
 use lra_base::Comparison;
 use lra_domain::{Domain, Exactness};
 use lra_forms::opposite_of;
@@ -64,8 +64,9 @@ fn split_comparison<D: Domain>(
         exactness: before,
     } = from;
     let mut off = on.copy(alloc)?;
-    let one = leave_comparison(alloc, base, op, left, right, &mut on, before)?;
-    let two = leave_comparison(alloc, base, opposite_of(op), left, right, &mut off, before)?;
+    let around = Surroundings { alloc, base };
+    let one = leave_comparison(around, op, left, right, &mut on, before)?;
+    let two = leave_comparison(around, opposite_of(op), left, right, &mut off, before)?;
     Ok(Sides {
         on: Kept {
             value: on,

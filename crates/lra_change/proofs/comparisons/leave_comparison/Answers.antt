@@ -8,35 +8,35 @@ use Rattle.lra_change.proofs.comparisons.leave_comparison.Goals as goal
 pub leave_differs-requires-clause-width : goal.leave_differs-requires-clause-width
 leave_differs-requires-clause-width g c =
     let n = g.D.Domain.meaning.dims c.args.value.now in
-    let raw : c.in_ok-d.field-0 ≡ difference_form c.dims.result c.args.base (expr_view c.args.left.now) (expr_view c.args.right.now) = c.in_ok-d.ensures in
-    let is : Some c.in-Some.d ≡ difference_form n c.args.base (expr_view c.args.left.now) (expr_view c.args.right.now) =
-    difference_there c.dims.result n c.args.base (expr_view c.args.left.now) (expr_view c.args.right.now) c.in_ok-d.field-0 c.in-Some.d c.dims.ensures c.in-Some.is raw in
-    difference_wide n c.args.base (expr_view c.args.left.now) (expr_view c.args.right.now) c.in-Some.d is
+    let raw : c.in_ok-d.field-0 ≡ difference_form c.dims.result c.args.around.base (expr_view c.args.left.now) (expr_view c.args.right.now) = c.in_ok-d.ensures in
+    let is : Some c.in-Some.d ≡ difference_form n c.args.around.base (expr_view c.args.left.now) (expr_view c.args.right.now) =
+    difference_there c.dims.result n c.args.around.base (expr_view c.args.left.now) (expr_view c.args.right.now) c.in_ok-d.field-0 c.in-Some.d c.dims.ensures c.in-Some.is raw in
+    difference_wide n c.args.around.base (expr_view c.args.left.now) (expr_view c.args.right.now) c.in-Some.d is
 
 pub returns-in-Differs-clause-leaves : goal.returns-in-Differs-clause-leaves
 returns-in-Differs-clause-leaves g c =
     let n = g.D.Domain.meaning.dims c.args.value.now in
-    let raw : c.in_ok-d.field-0 ≡ difference_form c.dims.result c.args.base (expr_view c.args.left.now) (expr_view c.args.right.now) = c.in_ok-d.ensures in
-    let is : Some c.in-Some.d ≡ difference_form n c.args.base (expr_view c.args.left.now) (expr_view c.args.right.now) =
-    difference_there c.dims.result n c.args.base (expr_view c.args.left.now) (expr_view c.args.right.now) c.in_ok-d.field-0 c.in-Some.d c.dims.ensures c.in-Some.is raw in
+    let raw : c.in_ok-d.field-0 ≡ difference_form c.dims.result c.args.around.base (expr_view c.args.left.now) (expr_view c.args.right.now) = c.in_ok-d.ensures in
+    let is : Some c.in-Some.d ≡ difference_form n c.args.around.base (expr_view c.args.left.now) (expr_view c.args.right.now) =
+    difference_there c.dims.result n c.args.around.base (expr_view c.args.left.now) (expr_view c.args.right.now) c.in_ok-d.field-0 c.in-Some.d c.dims.ensures c.in-Some.is raw in
     rw (c.in-Differs.is, sym is) c.in_ok-exactness-in-Differs.ensures.leaves
 
 pub leave_test-requires : goal.leave_test-requires
 leave_test-requires g c =
     let n = g.D.Domain.meaning.dims c.args.value.now in
-    let raw : c.in_ok-d.field-0 ≡ difference_form c.dims.result c.args.base (expr_view c.args.left.now) (expr_view c.args.right.now) = c.in_ok-d.ensures in
-    let is : Some c.in-Some.d ≡ difference_form n c.args.base (expr_view c.args.left.now) (expr_view c.args.right.now) =
-    difference_there c.dims.result n c.args.base (expr_view c.args.left.now) (expr_view c.args.right.now) c.in_ok-d.field-0 c.in-Some.d c.dims.ensures c.in-Some.is raw in
-    record { few = c.requires; width = difference_wide n c.args.base (expr_view c.args.left.now) (expr_view c.args.right.now) c.in-Some.d is }
+    let raw : c.in_ok-d.field-0 ≡ difference_form c.dims.result c.args.around.base (expr_view c.args.left.now) (expr_view c.args.right.now) = c.in_ok-d.ensures in
+    let is : Some c.in-Some.d ≡ difference_form n c.args.around.base (expr_view c.args.left.now) (expr_view c.args.right.now) =
+    difference_there c.dims.result n c.args.around.base (expr_view c.args.left.now) (expr_view c.args.right.now) c.in_ok-d.field-0 c.in-Some.d c.dims.ensures c.in-Some.is raw in
+    record { few = c.requires; width = difference_wide n c.args.around.base (expr_view c.args.left.now) (expr_view c.args.right.now) c.in-Some.d is }
 
 pub returns : goal.returns
 returns g c =
     let n = g.D.Domain.meaning.dims c.args.value.now in
-    let raw : c.in_ok-d.field-0 ≡ difference_form c.dims.result c.args.base (expr_view c.args.left.now) (expr_view c.args.right.now) = c.in_ok-d.ensures in
-    let is : Some c.in-Some.d ≡ difference_form n c.args.base (expr_view c.args.left.now) (expr_view c.args.right.now) =
-    difference_there c.dims.result n c.args.base (expr_view c.args.left.now) (expr_view c.args.right.now) c.in_ok-d.field-0 c.in-Some.d c.dims.ensures c.in-Some.is raw in
+    let raw : c.in_ok-d.field-0 ≡ difference_form c.dims.result c.args.around.base (expr_view c.args.left.now) (expr_view c.args.right.now) = c.in_ok-d.ensures in
+    let is : Some c.in-Some.d ≡ difference_form n c.args.around.base (expr_view c.args.left.now) (expr_view c.args.right.now) =
+    difference_there c.dims.result n c.args.around.base (expr_view c.args.left.now) (expr_view c.args.right.now) c.in_ok-d.field-0 c.in-Some.d c.dims.ensures c.in-Some.is raw in
     record {
-      leaves = rw (sym is) (compares_by_test g.D.Domain.meaning n c.args.base c.args.op c.in-Some.d c.args.value.now c.args.before c.leave_test.new.value
+      leaves = rw (sym is) (compares_by_test g.D.Domain.meaning n c.args.around.base c.args.op c.in-Some.d c.args.value.now c.args.before c.leave_test.new.value
           c.in_ok-exactness-in_default-op.exactness c.in_default-op.not-Differs c.in_ok-exactness-in_default-op.ensures.leaves);
       dims = c.in_ok-exactness-in_default-op.ensures.dims;
     }

@@ -34,6 +34,6 @@ pub leave_either-returns-clause-leaves : goal.leave_either-returns-clause-leaves
 leave_either-returns-clause-leaves g t c =
     let rest : c.args.rest.now ≡ c.in-Some.next.now ∷ c.in-Some.later.now = search rules in
     let sides = rw c.in_ok-copied.ensures at c.in_ok-sides.ensures in
-    rw rest (either_step g.D.Domain.meaning c.args.base c.args.wanted (cond_view c.args.first.now) (cond_view c.in-Some.next.now) (map cond_view c.in-Some.later.now)
+    rw rest (either_step g.D.Domain.meaning c.args.around.base c.args.wanted (cond_view c.args.first.now) (cond_view c.in-Some.next.now) (map cond_view c.in-Some.later.now)
     (record { value = c.args.value.now; exactness = c.args.before }) c.in_ok-sides.sides
     (record { value = c.leave_either.new.value; exactness = c.in_ok-two.two }) c.in_ok-joined.joined sides c.in_ok-two.ensures.leaves c.in_ok-joined.ensures)
