@@ -1,5 +1,4 @@
 mod TruthLists
-mod ResidueLemmas
 mod Loops
 mod TightLists
 mod Dimension

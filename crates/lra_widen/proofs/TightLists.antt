@@ -13,7 +13,8 @@ use Rattle.lra_linear.specs.Widening.{is_tight, is_tight_as, saturates}
 use Rattle.lra_cone.specs.Steps.{IsFilled}
 use Rattle.lra_sys.specs.Listed.{Listed, given_by}
 use Rattle.lra_widen.specs.Rank.{is_free}
-use Rattle.lra_widen.specs.Saturated.{are_true, same_values, saturated}
+use Rattle.lra_poly.specs.Saturations.{saturated}
+use Rattle.lra_widen.specs.Saturated.{are_true, same_values}
 
 -- ---- all, and the same
 pub all_saturate : (generators : List Given) (r : Given) → are_true (saturated generators r.row) ≡ list_all (saturates r) generators
@@ -57,27 +58,6 @@ class_widths generators rows classes e = subst (All (λ class. length generators
     all_wide (s ∷ rows) (suc k) d h = all_wide rows k d (omega (arith, h))
 
 -- ---- as they are set one after the other
-pub given_length : {K : Type 0} (equal : K → Bool) (rows : List (List ℤ)) (kinds : List K) → length kinds ≡ length rows → length (given_by equal rows kinds) ≡ length rows
-given_length equal [] kinds n = refl
-given_length equal (r ∷ rows) [] n = absurd (omega (arith, n))
-given_length equal (r ∷ rows) (k ∷ kinds) n = ap suc (given_length equal rows kinds (omega (arith, n)))
-
-filled_here : {K : Type 0} (equal : K → Bool) (rows : List (List ℤ)) (kinds : List K) (r : List ℤ) (bits : List Bool) → length kinds ≡ length rows → length bits ≡ length rows →
-    ((j : ℕ) → j < length rows → value_at bits j ≡ int_eq (product r (get_or rows j [])) (pos 0)) → bits ≡ saturated (given_by equal rows kinds) r
-filled_here equal [] kinds r [] n l h = refl
-filled_here equal [] kinds r (b ∷ bits) n l h = absurd (omega (arith, l))
-filled_here equal (x ∷ rows) [] r bits n l h = absurd (omega (arith, n))
-filled_here equal (x ∷ rows) (k ∷ kinds) r [] n l h = absurd (omega (arith, l))
-filled_here equal (x ∷ rows) (k ∷ kinds) r (b ∷ bits) n l h =
-    ap (λ c. c ∷ bits) (h 0 (omega arith)) ∙
-    ap (λ t. int_eq (product r x) (pos 0) ∷ t) (filled_here equal rows kinds r bits (omega (arith, n)) (omega (arith, l)) (λ j m. h (suc j) (omega (arith, m))))
-
-pub filled_saturated : {K : Type 0} (equal : K → Bool) (all : Listed K) (rows : List (List ℤ)) (kinds : List K) (r : List ℤ) (bits : List Bool) (k : ℕ) → rows ≡ all.rows → kinds ≡ all.kinds →
-    length kinds ≡ length all.rows → length rows ≤ k → IsFilled (λ j. int_eq (product r (get_or rows j [])) (pos 0)) (length rows) k bits → bits ≡ saturated (given_by equal all.rows all.kinds) r
-filled_saturated equal all rows kinds r bits k er ek n h f =
-    filled_here equal rows kinds r bits (n ∙ ap length (sym er)) f.0 (λ j m. f.1 j (omega (arith, m, h))) ∙
-    ap (λ l. saturated (given_by equal l kinds) r) er ∙ ap (λ l. saturated (given_by equal all.rows l) r) ek
-
 pub all_rows_saturate : {K : Type 0} (equal : K → Bool) (generators : List Given) (all : Listed K) (rows : List (List ℤ)) (kinds : List K) (classes : List (List Bool)) (k : ℕ) → rows ≡ all.rows →
     kinds ≡ all.kinds → length kinds ≡ length all.rows → length rows ≤ k → classes ≡ map (saturated generators) (take k rows) →
     classes ≡ map (λ (s : Given). saturated generators s.row) (given_by equal all.rows all.kinds)

@@ -1,5 +1,4 @@
 -- Widenings of closed polyhedra.
-pub mod Residues
 pub mod Saturated
 pub mod Validity
 pub mod Rank

@@ -1,12 +1,6 @@
--- Which generators a row saturates, as a list of truth values.
-use Rattle.std.specs.Prelude.{ℤ, pos, Bool, true, ◌&&◌, List, [], ◌∷◌, map}
+-- Lists of truth values: which generators rows saturate.
+use Rattle.std.specs.Prelude.{Bool, true, ◌&&◌, List, [], ◌∷◌}
 use Rattle.std.specs.Bool.{beq}
-use Rattle.std.specs.Ordering.{int_eq}
-use Rattle.lra_linear.specs.Descriptions.{Given}
-use Rattle.lra_linear.specs.Vectors.{product}
-
-abbrev pub saturated : List Given → List ℤ → List Bool
-saturated generators r = map (λ g. int_eq (product r g.row) (pos 0)) generators
 
 abbrev pub are_true : List Bool → Bool
 are_true [] = true

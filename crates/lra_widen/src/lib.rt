@@ -2,7 +2,6 @@
 #![tactic(auto)]
 
 mod error;
-mod exact;
 mod lists;
 mod ranking;
 mod saturation;

@@ -12,15 +12,15 @@ ghost use Rattle.lra_poly.specs.Inclusions.{IsInclusion};
 ghost use Rattle.lra_poly.specs.Outcomes.{IfExact, IfFlagged};
 ghost use Rattle.lra_linear.specs.Widening.{is_tight};
 ghost use Rattle.lra_widen.specs.Rank.{held, kept};
-ghost use Rattle.lra_widen.specs.Saturated.{saturated};
+ghost use Rattle.lra_poly.specs.Saturations.{saturated};
 ghost use Rattle.lra_widen.specs.Widenings.{PassesOnBoth};
 
-use crate::saturation::{all_saturated, is_full_or_among, saturated};
+use crate::saturation::{all_saturated, is_full_or_among};
 use crate::validity::{holds_in_range, holds_on_both, validity_on_both};
 use lra_bits::BitRow;
 use lra_cone::Loss;
 use lra_linear::{Cause, ConKind, Excess};
-use lra_poly::{Outcome, Poly};
+use lra_poly::{Outcome, Poly, saturated};
 use lra_row::Row;
 use lra_sys::ConSys;
 use std::alloc::{AllocError, Global};

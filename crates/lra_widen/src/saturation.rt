@@ -1,30 +1,17 @@
 //! Which generators rows saturate, as truth values in words.
 
-ghost use Rattle.std.specs.Prelude.{◌≡◌, ◌||◌, suc, IfOk, length, map};
+ghost use Rattle.std.specs.Prelude.{◌≡◌, ◌||◌, IfOk, length, map};
 ghost use Rattle.std.specs.List.{All, list_any};
 ghost use Rattle.lra_sys.specs.Listed.{constraints, generators};
-ghost use Rattle.lra_widen.specs.Saturated.{saturated, are_true, same_values};
+ghost use Rattle.lra_poly.specs.Saturations.{saturated};
+ghost use Rattle.lra_widen.specs.Saturated.{are_true, same_values};
 
-use crate::exact::saturates;
 use lra_bits::BitRow;
-use lra_row::Row;
+use lra_poly::saturated;
 use lra_sys::{ConSys, GenSys};
 use std::alloc::{AllocError, Global};
 
-// Which of the generators the row saturates.
-pub fn saturated(alloc: Global, row: &Row, list: &GenSys) -> Result<BitRow, AllocError>
-    requires { length row.now ≡ suc list.now.dims }
-    ensures { IfOk result (λ bits. bits ≡ saturated (generators list.now) row.now) }
-{
-    let (rows, _kinds) = (list.rows(), list.kinds());
-    let mut bits = BitRow::new(alloc, rows.len())?;
-    for place in 0..rows.len() {
-        bits.set(place, saturates(row, &rows[place]));
-    }
-    Ok(bits)
-}
-
-// The same of each of the constraints.
+// Which of the generators each of the constraints saturates.
 pub fn all_saturated(
     alloc: Global,
     given: &ConSys,

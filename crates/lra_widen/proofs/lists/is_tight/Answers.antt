@@ -1,5 +1,5 @@
 use Rattle.std.proofs.Common.{ap, ◌∙◌}
-use Rattle.lra_widen.specs.Saturated.{saturated}
+use Rattle.lra_poly.specs.Saturations.{saturated}
 use Rattle.lra_widen.proofs.TightLists.{bits_widths, class_widths, tight_by_values}
 use Rattle.lra_widen.proofs.lists.is_tight.Goals as goal
 
