@@ -1,14 +1,12 @@
 //! Worked images and preimages: values by hand, from the definitions.
 
-ghost use Rattle.std.specs.Prelude.{◌≡◌, ◌≤◌, ◌+◌, length, IfOk};
-ghost use Rattle.std.specs.List.{All};
-ghost use Rattle.lra_linear.specs.Range.{InRange};
+ghost use Rattle.std.specs.Prelude.{◌≡◌, length, IfOk};
 
+use crate::shapes::{Constraint, set_of, shows};
 use lra_lin::LinExpr;
 use lra_maps::{image, preimage};
 use lra_poly::Poly;
-use lra_row::Row;
-use lra_sys::{ConKind, ConSys};
+use lra_sys::ConKind;
 use std::alloc::Global;
 use std::test::Fail;
 
@@ -17,7 +15,7 @@ const MAX: i128 = i128::MAX;
 // A set, the coordinate that is given the form's value, the form, and what the set then shows.
 struct Case {
     name: &'static str,
-    set: &'static [([i128; 3], ConKind)],
+    set: &'static [Constraint],
     x: usize,
     form: [i64; 3],
     is_exact: bool,
@@ -26,16 +24,16 @@ struct Case {
 }
 
 // The half line from the origin along (1, 2).
-const HALF_LINE: &[([i128; 3], ConKind)] = &[([0, 2, -1], ConKind::Eq), ([0, 0, 1], ConKind::Ge)];
+const HALF_LINE: &[Constraint] = &[([0, 2, -1], ConKind::Eq), ([0, 0, 1], ConKind::Ge)];
 
 // The point (MAX, 0).
-const FAR_POINT: &[([i128; 3], ConKind)] = &[([-MAX, 1, 0], ConKind::Eq), ([0, 0, 1], ConKind::Eq)];
+const FAR_POINT: &[Constraint] = &[([-MAX, 1, 0], ConKind::Eq), ([0, 0, 1], ConKind::Eq)];
 
 // MAX x1 is at least 1.
-const STEEP: &[([i128; 3], ConKind)] = &[([-1, MAX, 0], ConKind::Ge)];
+const STEEP: &[Constraint] = &[([-1, MAX, 0], ConKind::Ge)];
 
 // x1 is at least 0, and x2 is 0.
-const WAY: &[([i128; 3], ConKind)] = &[([0, 1, 0], ConKind::Ge), ([0, 0, 1], ConKind::Eq)];
+const WAY: &[Constraint] = &[([0, 1, 0], ConKind::Ge), ([0, 0, 1], ConKind::Eq)];
 
 const IMAGES: &[Case] = &[
     Case {
@@ -151,37 +149,9 @@ const PREIMAGES: &[Case] = &[
     },
 ];
 
-fn set_of(alloc: Global, constraints: &[([i128; 3], ConKind)]) -> Result<Poly, Fail>
-    ensures { IfOk result (λ p. p.dims ≡ 2) }
-{
-    let mut list = ConSys::new(alloc, 2);
-    for &(numbers, kind) in constraints.iter() {
-        let [constant, first, second] = numbers;
-        if constant == i128::MIN || first == i128::MIN || second == i128::MIN {
-            return Err("a number passes the range".into());
-        }
-        let row = Row::from_slice(alloc, &[constant, first, second])?;
-        list.push(row, kind)?;
-    }
-    let (set, _) = Poly::from_rows(alloc, &list)?;
-    Ok(set)
-}
-
-fn are(rows: &[Row], want: &[[i128; 3]]) -> bool {
-    if rows.len() != want.len() {
-        return false;
-    }
-    for (row, numbers) in rows.iter().zip(want) {
-        if row.entries() != numbers.as_slice() {
-            return false;
-        }
-    }
-    true
-}
-
-// Whether the set is the one that the case names, with its constraints and its generators.
-fn shows(set: &Poly, case: &Case) -> bool {
-    are(set.rows().rows(), case.rows) && are(set.generators().rows(), case.generators)
+// Whether the set is the one that the case names.
+fn is_of(set: &Poly, case: &Case) -> bool {
+    shows(set, case.rows, case.generators)
 }
 
 fn form_of(alloc: Global, numbers: &[i64; 3]) -> Result<LinExpr, Fail>
@@ -202,7 +172,7 @@ fn images(rt: HostRuntime) -> Result<(), Fail> {
             return Err("no such coordinate".into());
         }
         let outcome = image(&mut set, case.x, &form)?;
-        let holds = outcome.is_exact() == case.is_exact && shows(&set, case);
+        let holds = outcome.is_exact() == case.is_exact && is_of(&set, case);
         assert!(rt; holds, "{}", case.name);
     }
     Ok(())
@@ -218,7 +188,7 @@ fn preimages(rt: HostRuntime) -> Result<(), Fail> {
             return Err("no such coordinate".into());
         }
         let outcome = preimage(&mut set, case.x, &form)?;
-        let holds = outcome.is_exact() == case.is_exact && shows(&set, case);
+        let holds = outcome.is_exact() == case.is_exact && is_of(&set, case);
         assert!(rt; holds, "{}", case.name);
     }
     Ok(())

@@ -16,3 +16,9 @@ mod maps;
 mod oct;
 #[cfg(test)]
 mod poly;
+#[cfg(test)]
+mod saturation;
+#[cfg(test)]
+mod shapes;
+#[cfg(test)]
+mod widen;

@@ -2,6 +2,7 @@
 
 ghost use Rattle.std.specs.Prelude.{◌≡◌, length, IfOk};
 
+use crate::shapes::shows;
 use lra_maps::{embed, forget, remove_last, time_elapse};
 use lra_poly::Poly;
 use lra_row::Row;
@@ -29,23 +30,6 @@ fn point_of(alloc: Global, first: &[i128; 3], second: &[i128; 3]) -> Result<Poly
     list.push(row_of(alloc, second)?, ConKind::Eq)?;
     let (point, _) = Poly::from_rows(alloc, &list)?;
     Ok(point)
-}
-
-fn are(rows: &[Row], want: &[[i128; 3]]) -> bool {
-    if rows.len() != want.len() {
-        return false;
-    }
-    for (row, numbers) in rows.iter().zip(want) {
-        if row.entries() != numbers.as_slice() {
-            return false;
-        }
-    }
-    true
-}
-
-// Whether these are its constraints and its generators.
-fn shows(p: &Poly, rows: &[[i128; 3]], generators: &[[i128; 3]]) -> bool {
-    are(p.rows().rows(), rows) && are(p.generators().rows(), generators)
 }
 
 // The origin moved by steps of (1, 2).

@@ -2,6 +2,7 @@
 
 ghost use Rattle.std.specs.Prelude.{◌≡◌, IfOk};
 
+use crate::shapes::shows;
 use lra_lin::{LinExpr, Test};
 use lra_poly::{Inclusion, Poly};
 use lra_row::Row;
@@ -52,23 +53,6 @@ fn poly_of(
         return Err("a row is lost".into());
     }
     Ok(made)
-}
-
-fn are(rows: &[Row], want: &[[i128; 3]]) -> bool {
-    if rows.len() != want.len() {
-        return false;
-    }
-    for (row, numbers) in rows.iter().zip(want) {
-        if row.entries() != numbers.as_slice() {
-            return false;
-        }
-    }
-    true
-}
-
-// Whether these are its constraints and its generators.
-fn shows(p: &Poly, rows: &[[i128; 3]], generators: &[[i128; 3]]) -> bool {
-    are(p.rows().rows(), rows) && are(p.generators().rows(), generators)
 }
 
 const STRIP: [[i128; 3]; 2] = [[0, 0, 1], [1, 0, -1]];

@@ -1,0 +1,62 @@
+//! Which constraints are tight at which generators, and tests that change nothing; worked by hand in two dimensions.
+
+use crate::shapes::{Constraint, set_of};
+use lra_lin::{LinExpr, Test};
+use lra_poly::Poly;
+use lra_sys::ConKind;
+use std::test::Fail;
+
+const STRIP: &[Constraint] = &[([0, 0, 1], ConKind::Ge), ([1, 0, -1], ConKind::Ge)];
+
+const RIGHT: &[Constraint] = &[([0, 1, 0], ConKind::Ge)];
+
+// The strip 0 <= x2 <= 1 has the points (0, 0) and (0, 1) and the line along x1. The one row is tight at the first
+// point, the other at the second, both at the line.
+const OF_STRIP: &[[bool; 3]] = &[[true, false, true], [false, true, true]];
+
+// Whether the matrix has these rows of truth values.
+fn has(p: &Poly, want: &[[bool; 3]]) -> bool {
+    let Some(matrix) = p.saturation() else {
+        return false;
+    };
+    if matrix.height() != want.len() || matrix.width() != 3 {
+        return false;
+    }
+    for (place, values) in want.iter().enumerate() {
+        for (k, value) in values.iter().enumerate() {
+            if matrix.row(place).get(k) != *value {
+                return false;
+            }
+        }
+    }
+    true
+}
+
+/// x2 >= 0 once more, and x2 >= -5, change nothing.
+#[test]
+fn tests_without_effect(rt: HostRuntime) -> Result<(), Fail> {
+    let mut strip = set_of(rt.alloc(), STRIP)?;
+    for constant in [0, 5] {
+        let expr = LinExpr::new(rt.alloc(), constant, &[0, 1])?;
+        let kind = ConKind::Ge;
+        let outcome = strip.add_test(&Test { expr, kind })?;
+        assert!(rt; outcome.is_exact() && has(&strip, OF_STRIP));
+    }
+    Ok(())
+}
+
+/// x1 >= 0 leaves the points (0, 0), (0, 1) and the ray along x1; its row, the first, is tight at both points and not
+/// at the ray.
+#[test]
+fn half_strip(rt: HostRuntime) -> Result<(), Fail> {
+    let mut strip = set_of(rt.alloc(), STRIP)?;
+    let right = set_of(rt.alloc(), RIGHT)?;
+    let outcome = strip.meet(&right)?;
+    let want = [
+        [true, true, false],
+        [true, false, true],
+        [false, true, true],
+    ];
+    assert!(rt; outcome.is_exact() && has(&strip, &want));
+    Ok(())
+}

@@ -1,0 +1,53 @@
+//! Sets in two dimensions, made of small tables and compared with them.
+
+ghost use Rattle.std.specs.Prelude.{◌≡◌, IfOk};
+
+use lra_poly::Poly;
+use lra_row::Row;
+use lra_sys::{ConKind, ConSys};
+use std::alloc::Global;
+use std::test::Fail;
+
+/// A constraint's three numbers, the constant first.
+pub type Constraint = ([i128; 3], ConKind);
+
+pub fn list_of(alloc: Global, constraints: &[Constraint]) -> Result<ConSys, Fail>
+    ensures { IfOk result (λ list. list.dims ≡ 2) }
+{
+    let mut list = ConSys::new(alloc, 2);
+    for &(numbers, kind) in constraints.iter() {
+        let [constant, first, second] = numbers;
+        if constant == i128::MIN || first == i128::MIN || second == i128::MIN {
+            return Err("a number passes the range".into());
+        }
+        let row = Row::from_slice(alloc, &[constant, first, second])?;
+        list.push(row, kind)?;
+    }
+    Ok(list)
+}
+
+/// The set where they hold.
+pub fn set_of(alloc: Global, constraints: &[Constraint]) -> Result<Poly, Fail>
+    ensures { IfOk result (λ p. p.dims ≡ 2) }
+{
+    let list = list_of(alloc, constraints)?;
+    let (set, _) = Poly::from_rows(alloc, &list)?;
+    Ok(set)
+}
+
+fn are(rows: &[Row], want: &[[i128; 3]]) -> bool {
+    if rows.len() != want.len() {
+        return false;
+    }
+    for (row, numbers) in rows.iter().zip(want) {
+        if row.entries() != numbers.as_slice() {
+            return false;
+        }
+    }
+    true
+}
+
+/// Whether these are its constraints and its generators.
+pub fn shows(p: &Poly, rows: &[[i128; 3]], generators: &[[i128; 3]]) -> bool {
+    are(p.rows().rows(), rows) && are(p.generators().rows(), generators)
+}
