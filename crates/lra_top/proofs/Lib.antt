@@ -1,3 +1,4 @@
 pub mod ScriptWays
 pub mod SourceWays
 pub mod Ways
+pub mod Headline

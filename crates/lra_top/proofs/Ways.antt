@@ -143,7 +143,7 @@ the_input : (left : Option (List ℕ)) (bytes told : List ℕ) → IsInput left 
 the_input left bytes told input e = let h : IsInput (Some told) bytes = subst (λ o. IsInput o bytes) e input in h
 
 -- what the input of the words' command deserves
-asked_input : (words : List (List ℕ)) (bytes text : List ℕ) (status : Status) (c : Command) → Asks words c → Deserves words bytes text status → DeservesInput c bytes text status
+pub asked_input : (words : List (List ℕ)) (bytes text : List ℕ) (status : Status) (c : Command) → Asks words c → Deserves words bytes text status → DeservesInput c bytes text status
 asked_input words bytes text Proved c asks d = subst (λ x. DeservesInput x bytes text Proved) (one_asked words d.command c d.asked asks) d.deserved
 asked_input words bytes text Unknown c asks d = subst (λ x. DeservesInput x bytes text Unknown) (one_asked words d.command c d.asked asks) d.deserved
 asked_input words bytes text Refused c asks d = subst (λ x. DeservesInput x bytes text Refused) (one_asked words d.command c d.asked asks) d.deserved

@@ -3,6 +3,7 @@
 pub mod SourceAnswer
 pub mod ScriptAnswer
 pub mod Run
+pub mod Headline
 pub mod Ends
 pub mod Exit
 pub mod Prepared

@@ -1,4 +1,4 @@
--- What a source deserves: the text of its one refusal, or of a report of it that tells an analysis over boxes.
+-- What a source deserves: the text of its one refusal, or of a report of it that tells an analysis.
 use Rattle.std.specs.Prelude.{◌≡◌, ◌<◌, ℕ, List, length}
 use Rattle.lra_base.specs.declared.refusals.Cause.{Cause}
 use Rattle.lra_base.specs.declared.refusals.Place.{Place}

@@ -20,6 +20,8 @@ ghost use Rattle.lra_top.specs.ScriptAnswer.{DeservesScript};
 ghost use Rattle.lra_top.specs.Run.{usage_text, AsksSome, DeservesInput, IsDeserved, Writes, WritesPart, ReadsInput};
 ghost use Rattle.lra_top.specs.Ends.{EndsInUsage, EndsInRefusal, EndsInReport, EndsBySource, EndsInOutput};
 ghost use Rattle.lra_top.specs.Ends.{IsReportOrMemory, IsOutputOrMemory};
+ghost use Rattle.lra_top.specs.Headline.{IsReported, WritesReport, HoldsInAllRuns, IsWrittenUnlessFlagged};
+ghost use Rattle.lra_top.specs.Headline.{TellsSamePoints};
 ghost use Rattle.lra_top.specs.Prepared.{IsInputText, PrepareCause};
 
 use crate::answer::Answer;
@@ -149,6 +151,17 @@ pub fn run<S: Source, K: Sink>(
     ensures refused { result ≡ Status.Refused →
         Writes (map string_bytes words.now) (S.left source.old) (K.held sink.old) (K.held sink.new) Status.Refused }
     ensures usage_text { result ≡ Status.Usage → Appends (K.held sink.old) (K.held sink.new) usage_text }
+    // Where the words ask for a report and the status is that of one: the report holds in all runs; where nothing is
+    // flagged, it tells what the written iteration finds; over polyhedra rows and generators tell the same points.
+    ensures holds { (options : Options) (json : Bool) → Asks (map string_bytes words.now) (Analyse options json) →
+        IsReported result →
+        WritesReport HoldsInAllRuns (S.left source.old) (K.held sink.old) (K.held sink.new) }
+    ensures is_written { (options : Options) (json : Bool) → Asks (map string_bytes words.now) (Analyse options json) →
+        IsReported result →
+        WritesReport (IsWrittenUnlessFlagged options) (S.left source.old) (K.held sink.old) (K.held sink.new) }
+    ensures same_points { (options : Options) (json : Bool) →
+        Asks (map string_bytes words.now) (Analyse options json) → IsReported result →
+        WritesReport (TellsSamePoints options) (S.left source.old) (K.held sink.old) (K.held sink.new) }
     // Or a front of it, and not all of it; or nothing.
     ensures part { result ≡ Status.WriteFault →
         WritesPart (map string_bytes words.now) (S.left source.old) (K.held sink.old) (K.held sink.new)

@@ -1,7 +1,10 @@
-use Rattle.std.proofs.Common.{◌<◌, ◌≤◌, length, arith}
+use Rattle.std.proofs.Common.{◌<◌, ◌≤◌, length, arith, rules}
+use Rattle.std.specs.Io.KnownBytes.{Appends}
 use Rattle.std.proofs.lemmas.Grind.{common_steps}
 use Rattle.lra_top.specs.declared.status.Status.TheVariants as status
 use Rattle.lra_top.proofs.Ways.{too_long_status, refused_status, accepted_status, source_status, no_text, complete_status, script_refused_status, script_status, complete_script_status}
+use Rattle.lra_top.specs.Headline.{HoldsInAllRuns, IsWrittenUnlessFlagged, TellsSamePoints}
+use Rattle.lra_top.proofs.Headline.{holds, is_written, same_points, writes_report}
 use Rattle.lra_top.proofs.top_call.run.Goals as goal
 
 pub returns-in-Ok-write_whole-clause-too_long : goal.returns-in-Ok-write_whole-clause-too_long
@@ -50,3 +53,18 @@ returns-clause-room g c = λ fits failed.
     let longer : g.K.Sink.spare c.args.sink.now < length c.in-Ok.answer.text.items = grind (arith, common_steps) in
     let short : length c.in-Ok.answer.text.items ≤ g.K.Sink.spare c.args.sink.now = fits _ _ c.in-Ok.ensures.deserved in
     omega arith
+
+pub returns-in-Ok-write_whole-clause-holds : goal.returns-in-Ok-write_whole-clause-holds
+returns-in-Ok-write_whole-clause-holds g c = λ options json asks reported.
+    let written : Appends (g.K.Sink.held c.args.sink.now) (g.K.Sink.held c.write_whole.new.sink) c.in-Ok.answer.text.items = search rules in
+    writes_report HoldsInAllRuns _ _ _ _ options json (holds options) c.in-Ok.answer.status _ asks reported c.in-Ok.ensures.deserved written
+
+pub returns-in-Ok-write_whole-clause-is_written : goal.returns-in-Ok-write_whole-clause-is_written
+returns-in-Ok-write_whole-clause-is_written g c = λ options json asks reported.
+    let written : Appends (g.K.Sink.held c.args.sink.now) (g.K.Sink.held c.write_whole.new.sink) c.in-Ok.answer.text.items = search rules in
+    writes_report (IsWrittenUnlessFlagged options) _ _ _ _ options json (is_written options) c.in-Ok.answer.status _ asks reported c.in-Ok.ensures.deserved written
+
+pub returns-in-Ok-write_whole-clause-same_points : goal.returns-in-Ok-write_whole-clause-same_points
+returns-in-Ok-write_whole-clause-same_points g c = λ options json asks reported.
+    let written : Appends (g.K.Sink.held c.args.sink.now) (g.K.Sink.held c.write_whole.new.sink) c.in-Ok.answer.text.items = search rules in
+    writes_report (TellsSamePoints options) _ _ _ _ options json (same_points options) c.in-Ok.answer.status _ asks reported c.in-Ok.ensures.deserved written

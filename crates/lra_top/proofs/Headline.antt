@@ -1,0 +1,120 @@
+-- From what a source deserves to what is claimed of its report.
+use Rattle.std.proofs.Common.{◌≡◌, ◌∙◌, ℕ, suc, List, [], ◌∷◌, Bool, length, refl, sym, subst}
+use Rattle.std.specs.Prelude.{Option, None, Some, option_map}
+use Rattle.std.specs.List.{AllByRecursion}
+use Rattle.std.specs.Io.KnownBytes.{Appends}
+use Rattle.lra_base.specs.declared.options.Domain.{Domain}
+use Rattle.lra_base.specs.declared.options.Domain.TheVariants.{Poly, Box, Oct}
+use Rattle.lra_base.specs.declared.options.Options.{Options}
+use Rattle.lra_domain.specs.Meaning.{Meaning}
+use Rattle.lra_program.specs.Program.{Program}
+use Rattle.lra_flow.specs.Analysis.{Solves}
+use Rattle.lra_meaning.specs.Resolve.{resolve}
+use Rattle.lra_findings.specs.Report.{State, Part, Holds, PointReport, Report, IsInvariant}
+use Rattle.lra_findings.specs.Parts.{Tells, HasSamePoints}
+use Rattle.lra_report.specs.Listing.{AreParts}
+use Rattle.lra_source.specs.Analysed.{IsAnalysed}
+use Rattle.lra_source.specs.Answers.{Over, IsAnswered}
+use Rattle.lra_words.specs.Built.{Asks}
+use Rattle.lra_words.specs.declared.chosen.Command.TheVariants.{Analyse}
+use Rattle.lra_top.specs.SourceAnswer.{IsReport, DeservesSource}
+use Rattle.lra_top.specs.Run.{IsInput, IsDeserved}
+use Rattle.lra_top.specs.Headline.{IsReported, WritesReport, IsNeverReached, HoldsInAllRuns, TellsWritten, IsWrittenUnlessFlagged, ShowsSamePoints, TellsSamePoints}
+use Rattle.lra_top.proofs.Ways.{asked_input}
+use Rattle.lra_top.specs.declared.status.Status.{Status}
+use Rattle.lra_top.specs.declared.status.Status.TheVariants.{Proved, Unknown, Refused, Usage, ReadFault, WriteFault, Memory}
+
+-- invariants ----------------------------------------------------------------------
+
+never_reached : (P : Program) (p : PointReport) → IsInvariant P p → IsNeverReached P p
+never_reached P p holds none store at = let h : Holds [] store = subst (λ (state : State). Holds state store) none (holds store at) in h
+
+all_unreached : (P : Program) (ps : List PointReport) → AllByRecursion (IsInvariant P) ps → AllByRecursion (IsNeverReached P) ps
+all_unreached P [] h = tt
+all_unreached P (p ∷ ps) h = (never_reached P p h.0, all_unreached P ps h.1)
+
+pub holds : (o : Options) (bytes : List ℕ) (r : Report) → IsAnswered o bytes r → HoldsInAllRuns bytes r
+holds o bytes r a = record {
+  tree = a.report.tree;
+  accepted = a.report.accepted;
+  lists = a.report.lists;
+  sound = a.report.sound;
+  unreached = all_unreached (resolve a.report.tree) r.points a.report.sound.invariants;
+}
+
+-- the written iteration -----------------------------------------------------------
+
+unflagged : (o : Option ℕ) → option_map suc o ≡ None → o ≡ None
+unflagged None e = refl
+unflagged (Some q) e = let wrong : ⊥ = cc in absurd wrong
+
+tells_written : {V H : Type 0} (m : Meaning V H) (shown : V → State) (o : Options) (P : Program) (r : Report) → r.flagged ≡ None → IsAnalysed m shown o P r → TellsWritten m shown o P r
+tells_written m shown o P r free x =
+    let none = unflagged x.flagged (sym x.flag ∙ free) in
+    record {
+      tree = x.tree;
+      is_graph = x.is_graph;
+      result = x.result;
+      written = x.written none;
+      values = x.values;
+      verdicts = x.verdicts;
+      solves = subst (λ (f : Option ℕ). Solves m x.result x.values x.verdicts f) none x.solves;
+      states = x.states;
+      proved = x.proved;
+    }
+
+over_each : (d : Domain) (o : Options) (P : Program) (r : Report) → r.flagged ≡ None → Over d (λ V H m shown. IsAnalysed m shown o P r) → Over d (λ V H m shown. TellsWritten m shown o P r)
+over_each Poly o P r free x = x
+over_each Box o P r free x = tells_written _ _ o P r free x
+over_each Oct o P r free x = tells_written _ _ o P r free x
+
+pub is_written : (o : Options) (bytes : List ℕ) (r : Report) → IsAnswered o bytes r → IsWrittenUnlessFlagged o bytes r
+is_written o bytes r a = record {
+  tree = a.report.tree;
+  accepted = a.report.accepted;
+  tells = λ free. over_each o.domain o (resolve a.report.tree) r free a.analysed;
+}
+
+-- rows and generators -------------------------------------------------------------
+
+same_in : (n : ℕ) (parts : List Part) → AllByRecursion (Tells Poly n) parts → AllByRecursion (HasSamePoints n) parts
+same_in n [] h = tt
+same_in n (p ∷ parts) h = (h.0.1, same_in n parts h.1)
+
+same_at : (o : Options) (ps : List PointReport) → o.domain ≡ Poly → AllByRecursion (AreParts o) ps → AllByRecursion ShowsSamePoints ps
+same_at o [] is h = tt
+same_at o (p ∷ ps) is h = (
+  same_in (length p.names) p.state (subst (λ (d : Domain). AllByRecursion (Tells d (length p.names)) p.state) is h.0.tell),
+  same_at o ps is h.1,
+)
+
+pub same_points : (o : Options) (bytes : List ℕ) (r : Report) → IsAnswered o bytes r → TellsSamePoints o bytes r
+same_points o bytes r a is = same_at o r.points is a.report.parts
+
+-- what is written -----------------------------------------------------------------
+
+module _ (so : List ℕ → Report → Type 0) (words : List (List ℕ)) (left held_old held_new : Option (List ℕ)) (options : Options) (json : Bool)
+    (claimed : (bytes : List ℕ) (r : Report) → IsAnswered options bytes r → so bytes r) where
+  of_report : (bytes text : List ℕ) (unknown : ℕ) → IsReport options bytes text unknown → IsInput left bytes → Appends held_old held_new text → WritesReport so left held_old held_new
+  of_report bytes text unknown r input written = record {
+    bytes = bytes;
+    input = input;
+    report = r.report;
+    written = subst (Appends held_old held_new) r.written written;
+    is_so = claimed bytes r.report r.answered;
+  }
+
+  of_status : (status : Status) (bytes text : List ℕ) → IsReported status → IsInput left bytes → DeservesSource options bytes text status → Appends held_old held_new text
+      → WritesReport so left held_old held_new
+  of_status Proved bytes text reported input d written = of_report bytes text 0 d input written
+  of_status Unknown bytes text reported input d written = of_report bytes text d.0 d.2 input written
+  of_status Refused bytes text reported input d written = absurd reported
+  of_status Usage bytes text reported input d written = absurd reported
+  of_status ReadFault bytes text reported input d written = absurd reported
+  of_status WriteFault bytes text reported input d written = absurd reported
+  of_status Memory bytes text reported input d written = absurd reported
+
+  pub writes_report : (status : Status) (text : List ℕ) → Asks words (Analyse options json) → IsReported status → IsDeserved words left text status → Appends held_old held_new text
+      → WritesReport so left held_old held_new
+  writes_report status text asks reported d written =
+      of_status status d.bytes text reported d.input (asked_input words d.bytes text status (Analyse options json) asks d.deserved) written

@@ -1,0 +1,85 @@
+-- What is claimed of the report whose text a call writes.
+use Rattle.std.specs.Prelude.{◌≡◌, ℕ, ℤ, List, [], length, map, Bool, Option, None}
+use Rattle.std.specs.List.{AllByRecursion}
+use Rattle.std.specs.Io.KnownBytes.{Appends}
+use Rattle.lra_base.specs.declared.options.Domain.TheVariants.{Poly}
+use Rattle.lra_base.specs.declared.options.Options.{Options}
+use Rattle.lra_tree.specs.Trees.{FileTree}
+use Rattle.lra_tree.specs.Grammar.{Spells}
+use Rattle.lra_meaning.specs.Refuse.{Accepts}
+use Rattle.lra_meaning.specs.Resolve.{resolve}
+use Rattle.lra_program.specs.Program.{Program}
+use Rattle.lra_program.specs.Run.{At}
+use Rattle.lra_operations.specs.Graph.{Node}
+use Rattle.lra_operations.specs.Agree.{IsGraph}
+use Rattle.lra_domain.specs.Meaning.{Meaning}
+use Rattle.lra_flow.specs.Pass.{Result}
+use Rattle.lra_flow.specs.Analysis.{Written, Solves}
+use Rattle.lra_findings.specs.Report.{State, PointReport, Report, IsSound}
+use Rattle.lra_findings.specs.ReportText.{report_text}
+use Rattle.lra_findings.specs.Parts.{HasSamePoints}
+use Rattle.lra_report.specs.Listing.{Lists}
+use Rattle.lra_source.specs.Analysed.{told_verdict, verdict_told}
+use Rattle.lra_source.specs.Answers.{Over}
+use Rattle.lra_top.specs.Run.{IsInput}
+use Rattle.lra_top.specs.declared.status.Status.{Status}
+use Rattle.lra_top.specs.declared.status.Status.TheVariants.{Proved, Unknown, Refused, Usage, ReadFault, WriteFault}
+use Rattle.lra_top.specs.declared.status.Status.TheVariants.{Memory}
+
+-- the statuses with which a report is written, where the words ask for one
+abbrev pub IsReported : Status → Type 0
+IsReported Proved = Unit {0}
+IsReported Unknown = Unit {0}
+IsReported Refused = ⊥
+IsReported Usage = ⊥
+IsReported ReadFault = ⊥
+IsReported WriteFault = ⊥
+IsReported Memory = ⊥
+
+-- the text of a report is written whole, and so it is with the input's bytes and the report
+pub record WritesReport (so : List ℕ → Report → Type 0) (left held_old held_new : Option (List ℕ)) : Type 0 where
+  pub bytes : List ℕ
+  pub input : IsInput left bytes
+  pub report : Report
+  pub written : Appends held_old held_new (report_text report)
+  pub is_so : so bytes report
+
+-- no run comes to a point that is shown as unreachable
+abbrev pub IsNeverReached : Program → PointReport → Type 0
+IsNeverReached P p = p.state ≡ [] → (store : List ℤ) → At P p.point store → ⊥
+
+-- The report lists all points and assertions of the accepted source. Each state holds whenever a run is at its point,
+-- no assertion that is marked proved fails, and no point that is shown as unreachable is reached.
+pub record HoldsInAllRuns (bytes : List ℕ) (r : Report) : Type 0 where
+  pub tree : FileTree
+  pub accepted : Accepts Spells bytes tree
+  pub lists : Lists tree r
+  pub sound : IsSound (resolve tree) r
+  pub unreached : AllByRecursion (IsNeverReached (resolve tree)) r.points
+
+-- the report tells what the written iteration finds: at each point the state that shows its value there, and on each
+-- assertion its verdict
+pub record TellsWritten {V H : Type 0} (m : Meaning V H) (shown : V → State) (o : Options) (P : Program) (r : Report)
+    : Type 0 where
+  pub tree : Node
+  pub is_graph : IsGraph P tree
+  pub result : Result V
+  pub written : Written m o P tree result
+  pub values : List V
+  pub verdicts : List (ℕ × Bool)
+  pub solves : Solves m result values verdicts None
+  pub states : map (λ (p : PointReport). p.state) r.points ≡ map shown values
+  pub proved : map verdict_told r.verdicts ≡ map told_verdict verdicts
+
+-- where nothing is flagged, every value is the written iteration's
+pub record IsWrittenUnlessFlagged (o : Options) (bytes : List ℕ) (r : Report) : Type 0 where
+  pub tree : FileTree
+  pub accepted : Accepts Spells bytes tree
+  pub tells : r.flagged ≡ None → Over o.domain (λ V H m shown. TellsWritten m shown o (resolve tree) r)
+
+abbrev pub ShowsSamePoints : PointReport → Type 0
+ShowsSamePoints p = AllByRecursion (HasSamePoints (length p.names)) p.state
+
+-- over polyhedra the rows and the generators of each part tell the same points, flagged or not
+abbrev pub TellsSamePoints : Options → List ℕ → Report → Type 0
+TellsSamePoints o bytes r = o.domain ≡ Poly → AllByRecursion ShowsSamePoints r.points
