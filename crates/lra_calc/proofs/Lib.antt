@@ -1,13 +1,9 @@
--- Words of letters and digits, and the numbers that they write.
-pub mod WordLemmas
--- A list of answers, one for each element, or none.
-pub mod AllOf
--- Words that are cut at semicolons.
-pub mod Parts
--- What a line makes: systems, rows of generators, polyhedra.
+-- What a recipe makes: systems, rows of generators, polyhedra.
 pub mod MakingLemmas
 -- The texts of polyhedra.
 pub mod ShownLemmas
+-- Inclusions and greatest values have one answer each.
+pub mod OneAnswer
 -- What a session answers: membership of a point, names.
 pub mod SessionLemmas
 -- Scripts that are too long, and others.
@@ -17,5 +13,5 @@ pub mod Endings
 -- One refusal of each script, and one output where nothing is flagged.
 pub mod OneRefusal
 pub mod OneOutput
--- Worked examples: lines and whole scripts whose answers are known.
+-- Worked examples: whole scripts whose answers are known.
 mod ScriptExamples

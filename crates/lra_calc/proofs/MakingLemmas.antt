@@ -1,5 +1,6 @@
 -- What a line makes: systems of rows of one width, with their kinds, and polyhedra of them, flagged or not.
-use Rattle.std.proofs.Common.{◌≡◌, ℕ, suc, ℤ, pos, Bool, true, false, cond, not, nat_eq, List, [], ◌∷◌, ◌++◌, length, map, refl, ap, sym, ◌∙◌, subst, arith, append_assoc, Option, Some, None}
+use Rattle.std.proofs.Common.{◌≡◌, ◌<◌, ◌+◌, get_or, drop, ℕ, suc, ℤ, pos, Bool, true, false, cond, not, nat_eq, List, [], ◌∷◌, ◌++◌, length, map, refl, ap, sym, ◌∙◌, subst, arith, append_assoc}
+use Rattle.std.proofs.Common.{Option, Some, None}
 use Rattle.std.specs.List.{All}
 use Rattle.std.proofs.lemmas.Bool.Decides.{nat_tests}
 use Rattle.std.proofs.lemmas.List.Elements.{All-nil, All-cons}
@@ -7,15 +8,20 @@ use Rattle.lra_linear.specs.Points.{PointSet, IsWithin}
 use Rattle.lra_linear.specs.Descriptions.{Given, Con as points_of}
 use Rattle.lra_linear.specs.Polyhedra.{Polyhedron, IsPolyhedron, IsPolyhedronOf}
 use Rattle.lra_linear.specs.Strain.{Loss}
-use Rattle.lra_cone.specs.Losses.{IfLost}
 use Rattle.lra_sys.specs.declared.system.GenKind.{GenKind}
 use Rattle.lra_sys.specs.declared.system.GenKind.TheVariants as gen
 use Rattle.lra_sys.specs.Listed.{Listed, given_by, is_line, FitsKind, FitKinds}
-use Rattle.lra_calc.specs.LineForms as form
+use Rattle.lra_script.specs.LineForms as form
+use Rattle.lra_poly.specs.Outcomes.{IfExact, IfFlagged}
+use Rattle.lra_poly.specs.declared.outcome.Outcome.{Outcome}
+use Rattle.lra_poly.specs.declared.outcome.Outcome.TheVariants.{Exact, Flagged}
+use Rattle.lra_script.specs.Views.{constraint_of, generator_of, IsDivided}
+use Rattle.lra_script.specs.declared.rows.Constraint.{Constraint}
+use Rattle.lra_script.specs.declared.rows.Generator.{Generator}
+use Rattle.lra_script.proofs.AllOf.{rest_at}
+use Rattle.lra_calc.specs.MadeSets.{IsMadeOf}
 use Rattle.lra_calc.specs.Script as script
-use Rattle.lra_calc.specs.Views.{constraint_of, generator_of, IsDivided}
-use Rattle.lra_calc.specs.declared.forms.Constraint.{Constraint}
-use Rattle.lra_calc.specs.declared.forms.Generator.{Generator}
+use Rattle.lra_calc.specs.Views.{is_flagged}
 
 -- ---- widths
 not_found : (b : Bool) (f : script.Fault) (o : Option script.Fault) → cond b o (Some f) ≡ None → (b ≡ true) × (o ≡ None)
@@ -91,11 +97,40 @@ pub fit_later : (s t : Listed GenKind) (row : List ℤ) (kind : GenKind) → len
 fit_later s t row kind same rows kinds fit f =
     subst (λ (ks : List GenKind). FitKinds t.rows ks) (sym kinds) (subst (λ (rs : List (List ℤ)). FitKinds rs (s.kinds ++ kind ∷ [])) (sym rows) (fit-append s.rows s.kinds row kind same fit f))
 
+pub map_map : {A B C : Type 0} (f : B → C) (g : A → B) (xs : List A) → map (λ x. f (g x)) xs ≡ map f (map g xs)
+map_map f g [] = refl
+map_map {C = C} f g (x ∷ xs) = ap (λ (ys : List C). f (g x) ∷ ys) (map_map f g xs)
+
+-- ---- elements of the lists that are gone through
+wide_by : (n : ℕ) (x y : Constraint) → x ≡ y → length y.row ≡ suc n → length x.row ≡ suc n
+wide_by n x y e h = ap (λ (c : Constraint). length c.row) e ∙ h
+
+pub wide_here : (n : ℕ) (rows : List Constraint) (i : ℕ) (x : Constraint) → script.wrong_row n (map constraint_of rows) ≡ None → i < length rows → x ≡ get_or rows i x → length x.row ≡ suc n
+wide_here n rows i x widths h e = wide_by n x (get_or rows i x) e (all_wide n rows widths i x h)
+
+pub generator_fits : (n : ℕ) (gs : List Generator) (i : ℕ) (x : Generator) (row : List ℤ) → script.wrong_generator n (map generator_of gs) ≡ None → All (λ g. IsDivided g.kind g.numbers) gs →
+    i < length gs →
+    x ≡ get_or gs i x → form.given_of (generator_of x) ≡ record { row = row; equal = is_line x.kind } → (length row ≡ suc n) × FitsKind x.kind row
+generator_fits n gs i x row widths divided h e is =
+    row_fits n x.kind x.numbers row is (subst (IsWide n) (sym e) (all_generators_wide n gs widths i x h)) (subst (λ (g : Generator). IsDivided g.kind g.numbers) (sym e) (divided i x h))
+
+pub pushed_here : {K X : Type 0} (equal : K → Bool) (v : X → Given) (s t : Listed K) (row : List ℤ) (kind : K) (items : List X) (i : ℕ) (x : X) (all : List Given) → length s.rows ≡ length s.kinds →
+    t.rows ≡ s.rows ++ row ∷ [] → t.kinds ≡ s.kinds ++ kind ∷ [] → i < length items → x ≡ get_or items i x → v x ≡ record { row = row; equal = equal kind }
+    → given_by equal s.rows s.kinds ++ map v (drop i items) ≡ all → given_by equal t.rows t.kinds ++ map v (drop (i + 1) items) ≡ all
+pushed_here equal v s t row kind items i x all same rows kinds h e is before =
+    made_later equal s t row kind (map v (drop (i + 1) items)) all same rows kinds
+    (ap (λ (g : Given). given_by equal s.rows s.kinds ++ g ∷ map v (drop (i + 1) items)) (sym is)
+    ∙ ap (λ (gs : List Given). given_by equal s.rows s.kinds ++ gs) (sym (rest_at v items i x x h e)) ∙ before)
+
 -- ---- a polyhedron, flagged where something was lost
-pub made_of : (n : ℕ) (P : PointSet) (Strains : Loss → Type 0) (p : Polyhedron) (losses : List Loss) (k : ℕ) (none : Bool) → k ≡ length losses → none ≡ nat_eq k 0 → p.dims ≡ n → IsPolyhedron p
-    → (losses ≡ [] → IsPolyhedronOf n P p) → IsWithin n P (points_of p.rows) → IfLost Strains losses → script.IsMadeOf n P Strains (not none) p
-made_of n P Strains p [] k true count e dims canonical exact within strain = exact refl
-made_of n P Strains p [] k false count e dims canonical exact within strain = absurd (grind (arith, nat_tests))
-made_of n P Strains p (l ∷ later) k true count e dims canonical exact within strain = absurd (grind (arith, nat_tests))
-made_of n P Strains p (l ∷ later) k false count e dims canonical exact within strain =
-    record { dimensions = dims; canonical = canonical; within = within; loss = l; strains = strain }
+pub made_of : (n : ℕ) (P : PointSet) (Strains : Loss → Type 0) (p : Polyhedron) (outcome : Outcome) → p.dims ≡ n → IsPolyhedron p → IfExact (IsPolyhedronOf n P p) outcome →
+    IsWithin n P (points_of p.rows) → IfFlagged Strains outcome → IsMadeOf n P Strains (is_flagged outcome) p
+made_of n P Strains p Exact dims canonical exact within strain = exact
+made_of n P Strains p (Flagged loss) dims canonical exact within strain = record { dimensions = dims; canonical = canonical; within = within; loss = loss; strains = strain }
+
+-- as the code tells it
+pub made_as_told : (n : ℕ) (P : PointSet) (Strains : Loss → Type 0) (p q : Polyhedron) (outcome : Outcome) (flagged : Bool) → q ≡ p → flagged ≡ is_flagged outcome → p.dims ≡ n → IsPolyhedron p →
+    IfExact (IsPolyhedronOf n P p) outcome → IsWithin n P (points_of p.rows) → IfFlagged Strains outcome → IsMadeOf n P Strains flagged q
+made_as_told n P Strains p q outcome flagged same tells dims canonical exact within strain =
+    subst (λ (x : Polyhedron). IsMadeOf n P Strains flagged x) (sym same)
+    (subst (λ (b : Bool). IsMadeOf n P Strains b p) (sym tells) (made_of n P Strains p outcome dims canonical exact within strain))

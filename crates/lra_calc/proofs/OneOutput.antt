@@ -3,13 +3,20 @@ use Rattle.std.proofs.Common.{◌≡◌, ◌+◌, ℕ, suc, ℤ, Bool, true, fal
 use Rattle.lra_linear.specs.Points.{PointSet}
 use Rattle.lra_linear.specs.Descriptions.{Con as points_of, Gen as generated_by}
 use Rattle.lra_linear.specs.Strain.{Loss}
-use Rattle.lra_linear.specs.OperationStrain.{FromRowsStrains, FromGeneratorsStrains}
+use Rattle.lra_linear.specs.OperationStrain.{FromRowsStrains, FromGeneratorsStrains, ForgetStrains}
+use Rattle.lra_linear.specs.SetOperations as sets
 use Rattle.lra_linear.specs.Polyhedra.{Polyhedron}
 use Rattle.lra_linear.proofs.Polyhedra.{polyhedron_unique}
-use Rattle.lra_calc.specs.ScriptText.{is_skipped, words}
-use Rattle.lra_calc.specs.LineForms.{given_of, Line, Dims, Con, Gen, Show, Holds, line_of}
-use Rattle.lra_calc.specs.Script.{Fault, WrongDimension, Session, flagged_by, IsMadeOf, IsMadeOfRows, IsMadeOfGenerators, made_as, MakesOr, wrong_row, wrong_generator, shown_or, is_wide, membership}
-use Rattle.lra_calc.specs.Script.{answered, answered_or, AfterLine, AfterForm, End, GoesOn, Performs, SkipsOr, CarriesOut, IsUnflagged}
+use Rattle.lra_script.specs.ScriptText.{is_skipped, words}
+use Rattle.lra_script.specs.LineForms.{given_of, Line, Dims, Make, Ask, Recipe, Con, Gen, Combine, Forget, Question, Show, Holds, Include, Maximise, line_of}
+use Rattle.lra_poly.specs.Inclusions.{IsInclusion}
+use Rattle.lra_poly.specs.Maxima.{IsMaximum}
+use Rattle.lra_calc.specs.MadeSets.{IsMadeOf, IsMadeOfRows, IsMadeOfGenerators, combined, CombiningStrains, IsCombined, IsForgotten}
+use Rattle.lra_calc.specs.ShownSets.{include_text, is_wide_inclusion, maximise_text, is_wide_maximum}
+use Rattle.lra_calc.specs.Script.{Fault, Session, flagged_by, Unless, WithSet, wrong_row, wrong_generator, wrong_coordinate, wrong_width, Made, IsMade, MadeBy, Answer, Answers, shown, held, AnswerTo}
+use Rattle.lra_calc.specs.Script.{made_as, printed_by, behind, Brings}
+use Rattle.lra_calc.specs.Script.{AfterLine, AfterForm, End, GoesOn, Performs, SkipsOr, CarriesOut, IsUnflagged}
+use Rattle.lra_calc.proofs.OneAnswer.{one_inclusion, one_maximum}
 
 -- flagged, by some line
 abbrev IsFlagged : Session → Type 0
@@ -28,33 +35,17 @@ set_here number None = (number, refl)
 same_session : (s t : Session) → (let r : Result Session Fault = Ok s in r) ≡ Ok t → s ≡ t
 same_session s t e = cc
 
-by_session : (s t : Session) → (let r : Result Session Fault = Ok s in r) ≡ Ok t → IsFlagged t → IsFlagged s
-by_session s t e f = subst IsFlagged (sym (same_session s t e)) f
-
-made_keeps : (IsMade : Bool → Polyhedron → Type 0) (number : ℕ) (name : List ℕ) (s t : Session) (o : Option Fault) → MakesOr IsMade number name s o (Ok t) → IsFlagged s → IsFlagged t
-made_keeps IsMade number name s t (Some f) h k = absurd (cc)
-made_keeps IsMade number name s t None h k = by_session t (made_as number name h.flagged h.polyhedron s) h.is (k.0, flag_kept number k.0 h.flagged s.flagged k.1)
-
-shown_keeps : (name : List ℕ) (s t : Session) (o : Option Polyhedron) → Ok t ≡ shown_or name s o → IsFlagged s → IsFlagged t
-shown_keeps name s t None e k = absurd (cc)
-shown_keeps name s t (Some p) e k = by_session t _ e k
-
-width_keeps : (b : Bool) (s t u : Session) (f : Fault) → Ok t ≡ cond b (Ok u) (Err f) → (IsFlagged s → IsFlagged u) → IsFlagged s → IsFlagged t
-width_keeps true s t u f e step k = by_session t u e (step k)
-width_keeps false s t u f e step k = absurd (cc)
-
-answered_keeps : (number : ℕ) (name : List ℕ) (x : List ℤ) (s t : Session) (o : Option Polyhedron) → Ok t ≡ answered_or number name x s o → IsFlagged s → IsFlagged t
-answered_keeps number name x s t None e k = absurd (cc)
-answered_keeps number name x s t (Some p) e k =
-    width_keeps (nat_eq (length x) (suc s.dims)) s t (answered number name (membership p.rows x) s) (WrongDimension (length x) (suc s.dims)) e
-    (λ j. (j.0, flag_kept number j.0 (is_wide (membership p.rows x)) s.flagged j.1)) k
+-- a line that is carried out had a result, and what that brings stands behind it
+brought : {A : Type 0} (step : A → Session) (given : Result A Fault) (t : Session) → Ok t ≡ behind step given → (a : A) × (given ≡ Ok a) × (t ≡ step a)
+brought step (Ok a) t e = (a, refl, same_session t (step a) e)
+brought step (Err f) t e = absurd (cc)
 
 line_keeps : (number : ℕ) (s t : Session) (line : Line) → AfterLine number s line (Ok t) → IsFlagged s → IsFlagged t
 line_keeps number s t (Dims n) h k = absurd (cc)
-line_keeps number s t (Con name rows) h k = made_keeps (IsMadeOfRows s.dims rows) number name s t (wrong_row s.dims rows) h k
-line_keeps number s t (Gen name gs) h k = made_keeps (IsMadeOfGenerators s.dims (map given_of gs)) number name s t (wrong_generator s.dims gs) h k
-line_keeps number s t (Show name) h k = shown_keeps name s t (s.made name) h k
-line_keeps number s t (Holds name x) h k = answered_keeps number name x s t (s.made name) h k
+line_keeps number s t (Make name recipe) h k =
+    let b = brought (λ m. made_as number name m s) h.given t h.is in subst IsFlagged (sym b.2) (k.0, flag_kept number k.0 b.0.flagged s.flagged k.1)
+line_keeps number s t (Ask question) h k =
+    let b = brought (λ a. printed_by number a s) h.given t h.is in subst IsFlagged (sym b.2) (k.0, flag_kept number k.0 b.0.wide s.flagged k.1)
 
 form_keeps : (number : ℕ) (s t : Session) (form : Option Line) → AfterForm number (Some s) form (Ok t) → IsFlagged s → IsFlagged t
 form_keeps number s t None h k = absurd (cc)
@@ -82,31 +73,82 @@ stays (line ∷ rest) number s t k h u =
     h
 
 -- ---- what is made without a flag
-made_flag : (number : ℕ) (name : List ℕ) (p : Polyhedron) (s t : Session) → Ok t ≡ (let r : Result Session Fault = Ok (made_as number name true p s) in r) → IsFlagged t
-made_flag number name p s t e = by_session t (made_as number name true p s) e (set_here number s.flagged)
+both_unless : {A : Type 0} (P : Result A Fault → Type 0) (o : Option Fault) (a b : A) (C : Type 0) → (P (Ok a) → P (Ok b) → C) → Unless o P (Ok a) → Unless o P (Ok b) → C
+both_unless P (Some f) a b C both h k = absurd (cc)
+both_unless P None a b C both h k = both h k
 
-one_made : (n : ℕ) (P : PointSet) (Strains : Loss → Type 0) (number : ℕ) (name : List ℕ) (s t u : Session) (f g : Bool) (p q : Polyhedron)
-    → (IsFlagged t → ⊥) → (IsFlagged u → ⊥) → IsMadeOf n P Strains f p → IsMadeOf n P Strains g q →
-    Ok t ≡ (let r : Result Session Fault = Ok (made_as number name f p s) in r) → Ok u ≡ (let r : Result Session Fault = Ok (made_as number name g q s) in r) → t ≡ u
-one_made n P Strains number name s t u true g p q not_t not_u h k e d = absurd (not_t (made_flag number name p s t e))
-one_made n P Strains number name s t u false true p q not_t not_u h k e d = absurd (not_u (made_flag number name q s u d))
-one_made n P Strains number name s t u false false p q not_t not_u h k e d =
-    same_session t (made_as number name false p s) e ∙ ap (λ (x : Polyhedron). made_as number name false x s) (polyhedron_unique n P P p q (λ x i c. c, λ x i c. c) h k) ∙
-    sym (same_session u (made_as number name false q s) d)
+both_sets : {A : Type 0} (P : Polyhedron → Result A Fault → Type 0) (name : List ℕ) (o : Option Polyhedron) (a b : A) (C : Type 0) → ((p : Polyhedron) → P p (Ok a) → P p (Ok b) → C) →
+    WithSet name o P (Ok a) → WithSet name o P (Ok b) → C
+both_sets P name None a b C both h k = absurd (cc)
+both_sets P name (Some p) a b C both h k = both p h k
 
-made_once : (n : ℕ) (P : PointSet) (Strains : Loss → Type 0) (number : ℕ) (name : List ℕ) (s t u : Session) (o : Option Fault) → (IsFlagged t → ⊥) → (IsFlagged u → ⊥)
-    → MakesOr (IsMadeOf n P Strains) number name s o (Ok t) → MakesOr (IsMadeOf n P Strains) number name s o (Ok u) → t ≡ u
-made_once n P Strains number name s t u (Some f) not_t not_u h k = absurd (cc)
-made_once n P Strains number name s t u None not_t not_u h k =
-    one_made n P Strains number name s t u h.flagged k.flagged h.polyhedron k.polyhedron not_t not_u h.is_made k.is_made h.is k.is
+set_once : (n : ℕ) (P : PointSet) (Strains : Loss → Type 0) (f g : Bool) (p q : Polyhedron) → f ≡ false → g ≡ false → IsMadeOf n P Strains f p → IsMadeOf n P Strains g q →
+    (let m : Made = record { flagged = f; polyhedron = p } in m) ≡ record { flagged = g; polyhedron = q }
+set_once n P Strains true g p q clear_f clear_g h k = absurd (cc)
+set_once n P Strains false true p q clear_f clear_g h k = absurd (cc)
+set_once n P Strains false false p q clear_f clear_g h k =
+    ap (λ (x : Polyhedron). let m : Made = record { flagged = false; polyhedron = x } in m) (polyhedron_unique n P P p q (λ x i c. c, λ x i c. c) h k)
+
+made_once : (s : Session) (recipe : Recipe) (m l : Made) → m.flagged ≡ false → l.flagged ≡ false → MadeBy s recipe (Ok m) → MadeBy s recipe (Ok l) → m ≡ l
+made_once s (Con rows) m l clear_m clear_l h k =
+    both_unless (IsMade (IsMadeOfRows s.dims rows)) (wrong_row s.dims rows) m l (m ≡ l)
+    (λ x y. set_once s.dims (points_of rows) (FromRowsStrains s.dims rows) m.flagged l.flagged m.polyhedron l.polyhedron clear_m clear_l x y) h k
+made_once s (Gen gs) m l clear_m clear_l h k =
+    both_unless (IsMade (IsMadeOfGenerators s.dims (map given_of gs))) (wrong_generator s.dims gs) m l (m ≡ l)
+    (λ x y. set_once s.dims (generated_by (map given_of gs)) (FromGeneratorsStrains s.dims (map given_of gs)) m.flagged l.flagged m.polyhedron l.polyhedron clear_m clear_l x y) h k
+made_once s (Combine how first second) m l clear_m clear_l h k =
+    both_sets (λ p. WithSet second (s.made second) (λ q. IsMade (IsCombined how s.dims p q))) first (s.made first) m l (m ≡ l)
+    (λ p x y. both_sets (λ q. IsMade (IsCombined how s.dims p q)) second (s.made second) m l (m ≡ l)
+    (λ q x1 y1. set_once s.dims (combined how s.dims p q) (CombiningStrains how p q) m.flagged l.flagged m.polyhedron l.polyhedron clear_m clear_l x1 y1) x y) h k
+made_once s (Forget from n) m l clear_m clear_l h k =
+    both_unless (WithSet from (s.made from) (λ p. IsMade (IsForgotten s.dims n p))) (wrong_coordinate s.dims n) m l (m ≡ l)
+    (λ x y. both_sets (λ p. IsMade (IsForgotten s.dims n p)) from (s.made from) m l (m ≡ l)
+    (λ p x1 y1. set_once s.dims (sets.Forget s.dims n (points_of p.rows)) (ForgetStrains n p) m.flagged l.flagged m.polyhedron l.polyhedron clear_m clear_l x1 y1) x y) h k
+
+same_answer : (a b : Answer) → (let r : Result Answer Fault = Ok a in r) ≡ Ok b → a ≡ b
+same_answer a b e = cc
+
+right_once : {A : Type 0} (P : A → Type 0) (text : A → List ℕ) (is_wide : A → Bool) (a b : Answer) → ((x y : A) → P x → P y → x ≡ y) → Answers P text is_wide (Ok a) → Answers P text is_wide (Ok b) →
+    a ≡ b
+right_once {A = A} P text is_wide a b one h k =
+    same_answer a (record { text = text h.answer; wide = is_wide h.answer }) h.is
+    ∙ ap (λ (x : A). let c : Answer = record { text = text x; wide = is_wide x } in c) (one h.answer k.answer h.is_right k.is_right)
+    ∙ sym (same_answer b (record { text = text k.answer; wide = is_wide k.answer }) k.is)
+
+answered_once : (s : Session) (question : Question) (a b : Answer) → AnswerTo s question (Ok a) → AnswerTo s question (Ok b) → a ≡ b
+answered_once s (Show name) a b h k =
+    both_sets (λ p (r : Result Answer Fault). r ≡ Ok (shown name p)) name (s.made name) a b (a ≡ b) (λ p x y. same_answer a b (x ∙ sym y)) h k
+answered_once s (Holds name x) a b h k =
+    both_sets (λ p. Unless (wrong_width (length x) (suc s.dims)) (λ (r : Result Answer Fault). r ≡ Ok (held name x p))) name (s.made name) a b (a ≡ b)
+    (λ p x1 y1. both_unless (λ (r : Result Answer Fault). r ≡ Ok (held name x p)) (wrong_width (length x) (suc s.dims)) a b (a ≡ b) (λ x2 y2. same_answer a b (x2 ∙ sym y2)) x1 y1) h k
+answered_once s (Include first second) a b h k =
+    both_sets (λ p. WithSet second (s.made second) (λ q. Answers (IsInclusion q.rows p.generators) (include_text first second p) is_wide_inclusion)) first (s.made first) a b (a ≡ b)
+    (λ p x y. both_sets (λ q. Answers (IsInclusion q.rows p.generators) (include_text first second p) is_wide_inclusion) second (s.made second) a b (a ≡ b)
+    (λ q x1 y1. right_once (IsInclusion q.rows p.generators) (include_text first second p) is_wide_inclusion a b (one_inclusion q.rows p.generators) x1 y1) x y) h k
+answered_once s (Maximise name form) a b h k =
+    both_sets (λ p. Unless (wrong_width (length form) (suc s.dims)) (Answers (IsMaximum form p.generators) (maximise_text name p) is_wide_maximum)) name (s.made name) a b (a ≡ b)
+    (λ p x y. both_unless (Answers (IsMaximum form p.generators) (maximise_text name p) is_wide_maximum) (wrong_width (length form) (suc s.dims)) a b (a ≡ b)
+    (λ x1 y1. right_once (IsMaximum form p.generators) (maximise_text name p) is_wide_maximum a b (one_maximum form p.generators) x1 y1) x y) h k
+
+-- ---- lines
+unflagged : (number : ℕ) (b : Bool) (o : Option ℕ) → (((k : ℕ) × (flagged_by number b o ≡ Some k)) → ⊥) → b ≡ false
+unflagged number true o never = absurd (never (set_here number o))
+unflagged number false o never = refl
 
 line_once : (number : ℕ) (s t u : Session) (line : Line) → (IsFlagged t → ⊥) → (IsFlagged u → ⊥) → AfterLine number s line (Ok t) → AfterLine number s line (Ok u) → t ≡ u
 line_once number s t u (Dims n) not_t not_u h k = absurd (cc)
-line_once number s t u (Con name rows) not_t not_u h k = made_once s.dims (points_of rows) (FromRowsStrains s.dims rows) number name s t u (wrong_row s.dims rows) not_t not_u h k
-line_once number s t u (Gen name gs) not_t not_u h k =
-    made_once s.dims (generated_by (map given_of gs)) (FromGeneratorsStrains s.dims (map given_of gs)) number name s t u (wrong_generator s.dims gs) not_t not_u h k
-line_once number s t u (Show name) not_t not_u h k = same_session t u (h ∙ sym k)
-line_once number s t u (Holds name x) not_t not_u h k = same_session t u (h ∙ sym k)
+line_once number s t u (Make name recipe) not_t not_u h k =
+    let step : Made → Session = λ m. made_as number name m s in
+    let b = brought step h.given t h.is in
+    let d = brought step k.given u k.is in
+    let clear_b = unflagged number b.0.flagged s.flagged (λ f. not_t (subst IsFlagged (sym b.2) f)) in
+    let clear_d = unflagged number d.0.flagged s.flagged (λ f. not_u (subst IsFlagged (sym d.2) f)) in
+    b.2 ∙ ap step (made_once s recipe b.0 d.0 clear_b clear_d (subst (MadeBy s recipe) b.1 h.told) (subst (MadeBy s recipe) d.1 k.told)) ∙ sym d.2
+line_once number s t u (Ask question) not_t not_u h k =
+    let step : Answer → Session = λ a. printed_by number a s in
+    let b = brought step h.given t h.is in
+    let d = brought step k.given u k.is in
+    b.2 ∙ ap step (answered_once s question b.0 d.0 (subst (AnswerTo s question) b.1 h.told) (subst (AnswerTo s question) d.1 k.told)) ∙ sym d.2
 
 form_once : (number : ℕ) (s : Option Session) (t u : Session) (form : Option Line) → (IsFlagged t → ⊥) → (IsFlagged u → ⊥) → AfterForm number s form (Ok t) → AfterForm number s form (Ok u) → t ≡ u
 form_once number s t u None not_t not_u h k = absurd (cc)

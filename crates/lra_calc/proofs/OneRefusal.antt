@@ -3,10 +3,11 @@ use Rattle.std.proofs.Common.{◌≡◌, ◌+◌, ℕ, suc, ℤ, Bool, true, fal
 use Rattle.std.specs.Prelude.{is_some}
 use Rattle.lra_tree.specs.Tokens.{greatest_length}
 use Rattle.lra_linear.specs.Polyhedra.{Polyhedron}
-use Rattle.lra_calc.specs.ScriptText.{is_skipped, words, lines}
-use Rattle.lra_calc.specs.LineForms.{given_of, Line, Dims, Con, Gen, Show, Holds, line_of}
-use Rattle.lra_calc.specs.Script.{Fault, WrongDimension, Session, IsMadeOfRows, IsMadeOfGenerators, made_as, MakesOr, wrong_row, wrong_generator, shown_or, answered_or, AfterLine, AfterForm, Refused}
-use Rattle.lra_calc.specs.Script.{End, GoesOn, Performs, SkipsOr, CarriesOut, Refusal, AtLine, ended, TooLongOr, AnswersTo, AgreesWith}
+use Rattle.lra_script.specs.ScriptText.{is_skipped, words, lines}
+use Rattle.lra_script.specs.LineForms.{Line, Dims, Make, Ask, Recipe, Con, Gen, Combine, Forget, Question, Show, Holds, Include, Maximise, line_of}
+use Rattle.lra_calc.specs.Script.{Fault, UnknownName, Session, Unless, WithSet, wrong_width, wrong_row, wrong_generator, wrong_coordinate, Made, IsMade, MadeBy, Answer, Answers, AnswerTo}
+use Rattle.lra_calc.specs.Script.{made_as, printed_by, behind, Brings, AfterLine, AfterForm, Refused, End, GoesOn, Performs, SkipsOr, CarriesOut, Refusal, AtLine, ended, TooLongOr, AnswersTo}
+use Rattle.lra_calc.specs.Script.{AgreesWith}
 
 -- the same dimensions, and the same names were made
 record Alike (s t : Session) : Type 0 where
@@ -28,55 +29,82 @@ AlikeResults (Err f) (Err g) = f ≡ g
 alike_by : (r q x y : Result Session Fault) → r ≡ x → q ≡ y → AlikeResults x y → AlikeResults r q
 alike_by r q x y e f h = subst (λ (z : Result Session Fault). AlikeResults r z) (sym f) (subst (λ (z : Result Session Fault). AlikeResults z y) (sym e) h)
 
--- ---- con, gen
+agrees_by : {A B : Type 0} (a b x y : Result A B) → a ≡ x → b ≡ y → AgreesWith x y → AgreesWith a b
+agrees_by {A = A} {B = B} a b x y h k g = subst (λ (z : Result A B). AgreesWith a z) (sym k) (subst (λ (z : Result A B). AgreesWith z y) (sym h) g)
+
+-- ---- recipes and questions
+unless_agrees : {A : Type 0} (P Q : Result A Fault → Type 0) (o u : Option Fault) (r q : Result A Fault) → o ≡ u → (P r → Q q → AgreesWith r q) → Unless o P r → Unless u Q q → AgreesWith r q
+unless_agrees P Q (Some f) (Some g) r q e both h k = agrees_by r q (Err f) (Err g) h k (cc)
+unless_agrees P Q (Some f) None r q e both h k = absurd (cc)
+unless_agrees P Q None (Some g) r q e both h k = absurd (cc)
+unless_agrees P Q None None r q e both h k = both h k
+
+set_agrees : {A : Type 0} (P Q : Polyhedron → Result A Fault → Type 0) (name : List ℕ) (o u : Option Polyhedron) (r q : Result A Fault) → is_some o ≡ is_some u →
+    ((p t : Polyhedron) → P p r → Q t q → AgreesWith r q) → WithSet name o P r → WithSet name u Q q → AgreesWith r q
+set_agrees P Q name None None r q e both h k = agrees_by r q (Err (UnknownName name)) (Err (UnknownName name)) h k refl
+set_agrees P Q name None (Some t) r q e both h k = absurd (cc)
+set_agrees P Q name (Some p) None r q e both h k = absurd (cc)
+set_agrees P Q name (Some p) (Some t) r q e both h k = both p t h k
+
+made_agree : (P Q : Bool → Polyhedron → Type 0) (r q : Result Made Fault) → IsMade P r → IsMade Q q → AgreesWith r q
+made_agree P Q (Ok m) (Ok l) h k = tt
+made_agree P Q (Ok m) (Err g) h k = absurd k
+made_agree P Q (Err f) q h k = absurd h
+
+recipe_agrees : (s t : Session) (recipe : Recipe) (r q : Result Made Fault) → Alike s t → MadeBy s recipe r → MadeBy t recipe q → AgreesWith r q
+recipe_agrees s t (Con rows) r q a h k = unless_agrees _ _ _ _ r q (ap (λ (n : ℕ). wrong_row n rows) a.dims) (made_agree _ _ r q) h k
+recipe_agrees s t (Gen gs) r q a h k = unless_agrees _ _ _ _ r q (ap (λ (n : ℕ). wrong_generator n gs) a.dims) (made_agree _ _ r q) h k
+recipe_agrees s t (Combine how first second) r q a h k =
+    set_agrees _ _ first _ _ r q (a.names first) (λ p u x y. set_agrees _ _ second _ _ r q (a.names second) (λ o v. made_agree _ _ r q) x y) h k
+recipe_agrees s t (Forget from n) r q a h k =
+    unless_agrees _ _ _ _ r q (ap (λ (d : ℕ). wrong_coordinate d n) a.dims) (λ x y. set_agrees _ _ from _ _ r q (a.names from) (λ p u. made_agree _ _ r q) x y) h k
+
+answers_agree : {A B : Type 0} (P : A → Type 0) (Q : B → Type 0) (f : A → List ℕ) (g : B → List ℕ) (b : A → Bool) (c : B → Bool) (r q : Result Answer Fault) → Answers P f b r → Answers Q g c q →
+    AgreesWith r q
+answers_agree P Q f g b c r q h k = agrees_by r q _ _ h.is k.is tt
+
+width_agrees : (count n m : ℕ) → n ≡ m → wrong_width count (suc n) ≡ wrong_width count (suc m)
+width_agrees count n m e = ap (λ (k : ℕ). wrong_width count (suc k)) e
+
+question_agrees : (s t : Session) (question : Question) (r q : Result Answer Fault) → Alike s t → AnswerTo s question r → AnswerTo t question q → AgreesWith r q
+question_agrees s t (Show name) r q a h k = set_agrees _ _ name _ _ r q (a.names name) (λ p u x y. agrees_by r q _ _ x y tt) h k
+question_agrees s t (Holds name x) r q a h k =
+    set_agrees _ _ name _ _ r q (a.names name) (λ p u x1 y1. unless_agrees _ _ _ _ r q (width_agrees (length x) s.dims t.dims a.dims) (λ x2 y2. agrees_by r q _ _ x2 y2 tt) x1 y1) h k
+question_agrees s t (Include first second) r q a h k =
+    set_agrees _ _ first _ _ r q (a.names first) (λ p u x y. set_agrees _ _ second _ _ r q (a.names second) (λ o v. answers_agree _ _ _ _ _ _ r q) x y) h k
+question_agrees s t (Maximise name form) r q a h k =
+    set_agrees _ _ name _ _ r q (a.names name)
+    (λ p u x y. unless_agrees _ _ _ _ r q (width_agrees (length form) s.dims t.dims a.dims) (answers_agree _ _ _ _ _ _ r q) x y) h k
+
+-- ---- lines
 both_named : (b : Bool) (p q : Polyhedron) (o u : Option Polyhedron) → is_some o ≡ is_some u → is_some (cond b (Some p) o) ≡ is_some (cond b (Some q) u)
 both_named true p q o u e = refl
 both_named false p q o u e = e
 
-both_made : (number : ℕ) (name : List ℕ) (f g : Bool) (p q : Polyhedron) (s t : Session) → Alike s t → Alike (made_as number name f p s) (made_as number name g q t)
-both_made number name f g p q s t a = record { dims = a.dims; names = λ n. both_named (bytes_eq name n) p q (s.made n) (t.made n) (a.names n) }
+both_made : (number : ℕ) (name : List ℕ) (m l : Made) (s t : Session) → Alike s t → Alike (made_as number name m s) (made_as number name l t)
+both_made number name m l s t a = record { dims = a.dims; names = λ n. both_named (bytes_eq name n) m.polyhedron l.polyhedron (s.made n) (t.made n) (a.names n) }
 
-makes_alike : (A B : Bool → Polyhedron → Type 0) (number : ℕ) (name : List ℕ) (s t : Session) (o u : Option Fault) (r q : Result Session Fault) → Alike s t → o ≡ u → MakesOr A number name s o r →
-    MakesOr B number name t u q → AlikeResults r q
-makes_alike A B number name s t (Some f) (Some g) r q a e h k = alike_by r q (Err f) (Err g) h k (cc)
-makes_alike A B number name s t (Some f) None r q a e h k = absurd (cc)
-makes_alike A B number name s t None (Some g) r q a e h k = absurd (cc)
-makes_alike A B number name s t None None r q a e h k =
-    alike_by r q (Ok (made_as number name h.flagged h.polyhedron s)) (Ok (made_as number name k.flagged k.polyhedron t)) h.is k.is
-    (both_made number name h.flagged k.flagged h.polyhedron k.polyhedron s t a)
+both_printed : (number : ℕ) (x y : Answer) (s t : Session) → Alike s t → Alike (printed_by number x s) (printed_by number y t)
+both_printed number x y s t a = record { dims = a.dims; names = a.names }
 
--- ---- show, holds
-shown_alike : (name : List ℕ) (s t : Session) (o u : Option Polyhedron) → Alike s t → is_some o ≡ is_some u → AlikeResults (shown_or name s o) (shown_or name t u)
-shown_alike name s t None None a e = refl
-shown_alike name s t None (Some q) a e = absurd (cc)
-shown_alike name s t (Some p) None a e = absurd (cc)
-shown_alike name s t (Some p) (Some q) a e = record { dims = a.dims; names = a.names }
+behind_alike : {A : Type 0} (f g : A → Session) (r q : Result A Fault) → AgreesWith r q → ((a b : A) → Alike (f a) (g b)) → AlikeResults (behind f r) (behind g q)
+behind_alike f g (Ok a) (Ok b) e both = both a b
+behind_alike f g (Ok a) (Err y) e both = absurd e
+behind_alike f g (Err x) (Ok b) e both = absurd e
+behind_alike f g (Err x) (Err y) e both = e
 
-widths_alike : (count n m : ℕ) (b c : Bool) (s t u v : Session) → n ≡ m → b ≡ c → Alike s t → AlikeResults (cond b (Ok s) (Err (WrongDimension count n))) (cond c (Ok t) (Err (WrongDimension count m)))
-widths_alike count n m true true s t u v e f a = a
-widths_alike count n m true false s t u v e f a = absurd (cc)
-widths_alike count n m false true s t u v e f a = absurd (cc)
-widths_alike count n m false false s t u v e f a = ap (WrongDimension count) e
+brings_alike : {A : Type 0} (P Q : Result A Fault → Type 0) (f g : A → Session) (r q : Result Session Fault) → ((x y : Result A Fault) → P x → Q y → AgreesWith x y) → ((a b : A) → Alike (f a) (g b)) →
+    Brings P f r → Brings Q g q → AlikeResults r q
+brings_alike P Q f g r q agree both h k = alike_by r q (behind f h.given) (behind g k.given) h.is k.is (behind_alike f g h.given k.given (agree h.given k.given h.told k.told) both)
 
-answered_alike : (number : ℕ) (name : List ℕ) (x : List ℤ) (s t : Session) (o u : Option Polyhedron) → Alike s t → is_some o ≡ is_some u →
-    AlikeResults (answered_or number name x s o) (answered_or number name x t u)
-answered_alike number name x s t None None a e = refl
-answered_alike number name x s t None (Some q) a e = absurd (cc)
-answered_alike number name x s t (Some p) None a e = absurd (cc)
-answered_alike number name x s t (Some p) (Some q) a e =
-    widths_alike (length x) (suc s.dims) (suc t.dims) (nat_eq (length x) (suc s.dims)) (nat_eq (length x) (suc t.dims)) _ _ s t (ap suc a.dims) (ap (λ (n : ℕ). nat_eq (length x) (suc n)) a.dims)
-    (record { dims = a.dims; names = a.names })
-
--- ---- lines
 line_alike : (number : ℕ) (s t : Session) (line : Line) (r q : Result Session Fault) → Alike s t → AfterLine number s line r → AfterLine number t line q → AlikeResults r q
 line_alike number s t (Dims n) r q a h k = alike_by r q _ _ h k refl
-line_alike number s t (Con name rows) r q a h k =
-    makes_alike (IsMadeOfRows s.dims rows) (IsMadeOfRows t.dims rows) number name s t (wrong_row s.dims rows) (wrong_row t.dims rows) r q a (ap (λ (n : ℕ). wrong_row n rows) a.dims) h k
-line_alike number s t (Gen name gs) r q a h k =
-    makes_alike (IsMadeOfGenerators s.dims (map given_of gs)) (IsMadeOfGenerators t.dims (map given_of gs)) number name s t (wrong_generator s.dims gs) (wrong_generator t.dims gs) r q a
-    (ap (λ (n : ℕ). wrong_generator n gs) a.dims) h k
-line_alike number s t (Show name) r q a h k = alike_by r q _ _ h k (shown_alike name s t (s.made name) (t.made name) a (a.names name))
-line_alike number s t (Holds name x) r q a h k = alike_by r q _ _ h k (answered_alike number name x s t (s.made name) (t.made name) a (a.names name))
+line_alike number s t (Make name recipe) r q a h k =
+    brings_alike (MadeBy s recipe) (MadeBy t recipe) (λ m. made_as number name m s) (λ m. made_as number name m t) r q (λ x y. recipe_agrees s t recipe x y a)
+    (λ m l. both_made number name m l s t a) h k
+line_alike number s t (Ask question) r q a h k =
+    brings_alike (AnswerTo s question) (AnswerTo t question) (λ x. printed_by number x s) (λ x. printed_by number x t) r q (λ x y. question_agrees s t question x y a)
+    (λ x y. both_printed number x y s t a) h k
 
 alike_refl : (r : Result Session Fault) → AlikeResults r r
 alike_refl (Ok s) = record { dims = refl; names = λ name. refl }
@@ -88,9 +116,6 @@ form_alike number None None (Some line) r q a h k = alike_by r q _ _ h k (alike_
 form_alike number None (Some t) (Some line) r q a h k = absurd a
 form_alike number (Some s) None (Some line) r q a h k = absurd a
 form_alike number (Some s) (Some t) (Some line) r q a h k = line_alike number s t line r q a h k
-
-agrees_by : {A B : Type 0} (a b x y : Result A B) → a ≡ x → b ≡ y → AgreesWith x y → AgreesWith a b
-agrees_by {A = A} {B = B} a b x y h k g = subst (λ (z : Result A B). AgreesWith a z) (sym k) (subst (λ (z : Result A B). AgreesWith z y) (sym h) g)
 
 go_on_alike : (number : ℕ) (r q : Result Session Fault) (P Q : Option Session → Type 0) (e f : End) → AlikeResults r q → ((s t : Option Session) → AlikeOptions s t → P s → Q t → AgreesWith e f) →
     GoesOn number r P e → GoesOn number q Q f → AgreesWith e f

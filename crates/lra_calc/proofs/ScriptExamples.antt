@@ -8,73 +8,15 @@ use Rattle.lra_linear.specs.Descriptions.{Given, inequality, equality, generator
 use Rattle.lra_linear.specs.Polyhedra.{Polyhedron, IsPolyhedron, falsity}
 use Rattle.lra_linear.proofs.SpellingExamples.{quadrant, plain_is_quadrant}
 use Rattle.lra_linear.proofs.StrainExamples.{third_row_strains}
-use Rattle.lra_sys.specs.declared.system.GenKind.TheVariants as gen
 use Rattle.lra_tree.specs.Tokens.{greatest_length}
 use Rattle.lra_findings.specs.ReportText.{text_line}
-use Rattle.lra_calc.specs.ScriptText.{lines, words, is_skipped, is_name, number_of}
-use Rattle.lra_calc.specs.LineForms.{Line, Dims, Con, Gen, Show, Holds, given_of, line_of}
+use Rattle.lra_script.specs.ScriptText.{lines}
+use Rattle.lra_calc.specs.MadeSets.{IsMadeOfRows}
 use Rattle.lra_calc.specs.ShownSets.{polyhedron_text}
-use Rattle.lra_calc.specs.Script.{Fault, BadLine, UnknownName, WrongDimension, started, IsMadeOfRows, End, Refused, AtLine, TooLong, CarriesOut, output, AnswersTo, refused_text}
+use Rattle.lra_calc.specs.Script.{Fault, BadLine, UnknownName, WrongDimension, started, End, Refused, AtLine, TooLong, CarriesOut, output, AnswersTo, refused_text}
 
 abbrev text : List (List ℕ) → List ℕ
 text = flat_map text_line
-
--- catches a return that stays where no line feed follows it, and one that is dropped twice
-returns : lines (codes "a" ++ 13 ∷ 10 ∷ 13 ∷ 13 ∷ 10 ∷ (codes "b" ++ 13 ∷ [])) ≡ codes "a" ∷ (13 ∷ []) ∷ codes "b" ∷ []
-returns = refl
-
--- catches a tab as a space, and a comment behind a space
-skipped_lines : (is_skipped [] ≡ true) × (is_skipped (codes "  ") ≡ true) × (is_skipped (codes "# con") ≡ true) × (is_skipped (codes " #") ≡ false) × (is_skipped (9 ∷ []) ≡ false)
-skipped_lines = (refl, refl, refl, refl, refl)
-
-some_words : words (codes " con  P >= 1 ") ≡ codes "con" ∷ codes "P" ∷ codes ">=" ∷ codes "1" ∷ []
-some_words = refl
-
-some_names : (is_name (codes "P2x") ≡ true) × (is_name (codes "p") ≡ false) × (is_name (codes "P_") ≡ false) × (is_name (codes "2P") ≡ false)
-some_names = (refl, refl, refl, refl)
-
-some_numbers : (number_of (codes "-12") ≡ Some (negsuc 11)) × (number_of (codes "007") ≡ Some (pos 7)) × (number_of (codes "-0") ≡ Some (pos 0)) × (number_of (codes "+1") ≡ None) ×
-    (number_of (codes "-") ≡ None) × (number_of (codes "--1") ≡ None)
-some_numbers = (refl, refl, refl, refl, refl, refl)
-
--- catches -2^127 as a number of the range
-range_ends : (number_of (codes "-170141183460469231731687303715884105728") ≡ None)
-    × (number_of (codes "170141183460469231731687303715884105727") ≡ Some (pos 170141183460469231731687303715884105727))
-range_ends = (refl, refl)
-
--- what the words of a line say
-abbrev said : List ℕ → Option Line
-said line = line_of (words line)
-
-constraints_line : said (codes "con P >= 0 1 ; = -3 1") ≡ Some (Con (codes "P") (inequality (pos 0 ∷ pos 1 ∷ []) ∷ equality (negsuc 2 ∷ pos 1 ∷ []) ∷ []))
-constraints_line = refl
-
--- catches a row that is read as none, a row without a relation, and a `;` that is no word of its own
-bad_constraints : (said (codes "con P") ≡ Some (Con (codes "P") [])) × (said (codes "con P ;") ≡ None) × (said (codes "con P >= 1 ;") ≡ None) × (said (codes "con P 1") ≡ None) ×
-    (said (codes "con P >= 1; >= 2") ≡ None)
-    × (said (codes "con") ≡ None) × (said (codes "con p") ≡ None)
-bad_constraints = (refl, refl, refl, refl, refl, refl, refl)
-
--- catches a divisor that is asked of a ray, one of a point that isn't, and a generator without a kind
-generators_line : (said (codes "gen P point 2 0 ; ray 0 ; line -1") ≡ Some (Gen (codes "P") (
-    record { kind = gen.Point; numbers = pos 2 ∷ pos 0 ∷ [] } ∷ record { kind = gen.Ray; numbers = pos 0 ∷ [] } ∷ record { kind = gen.Line; numbers = negsuc 0 ∷ [] } ∷ [])))
-    × (said (codes "gen P") ≡ Some (Gen (codes "P") [])) × (said (codes "gen P point 0 1") ≡ None) × (said (codes "gen P 1 0") ≡ None) × (said (codes "gen P point 1 0 ;") ≡ None) ×
-    (said (codes "gen p") ≡ None)
-generators_line = (refl, refl, refl, refl, refl, refl)
-
--- catches a 0 that is left out before a ray's numbers, and a line as a ray
-given_rows : (given_of (record { kind = gen.Point; numbers = pos 2 ∷ pos 0 ∷ [] }) ≡ generator (pos 2 ∷ pos 0 ∷ []))
-    × (given_of (record { kind = gen.Ray; numbers = pos 3 ∷ [] }) ≡ generator (pos 0 ∷ pos 3 ∷ []))
-    × (given_of (record { kind = gen.Line; numbers = pos 3 ∷ [] }) ≡ line (pos 0 ∷ pos 3 ∷ []))
-given_rows = (refl, refl, refl)
-
-show_lines : (said (codes "show P") ≡ Some (Show (codes "P"))) × (said (codes "show") ≡ None) × (said (codes "show P Q") ≡ None) × (said (codes "show 1") ≡ None)
-show_lines = (refl, refl, refl, refl)
-
--- catches 25 dimensions, and a divisor 0
-limits : (said (codes "dims 24") ≡ Some (Dims 24)) × (said (codes "dims 25") ≡ None) × (said (codes "dims -1") ≡ None) × (said (codes "dims 1 2") ≡ None) × (said (codes "dims") ≡ None)
-    × (said (codes "holds P 0 1") ≡ None) × (said (codes "holds P -1 1") ≡ None) × (said (codes "holds P") ≡ Some (Holds (codes "P") []))
-limits = (refl, refl, refl, refl, refl, refl, refl, refl)
 
 -- what is written, or the refused line
 abbrev result_of : End → Result (List ℕ) Refused
@@ -108,8 +50,8 @@ shown_quadrant = (
     after = refl;
     goes_on = record {
       result = _;
-      after = record { flagged = false; polyhedron = quadrant; is_made = plain_is_quadrant; is = refl };
-      goes_on = record { result = _; after = refl; goes_on = refl };
+      after = record { given = Ok (record { flagged = false; polyhedron = quadrant }); told = plain_is_quadrant; is = refl };
+      goes_on = record { result = _; after = record { given = _; told = refl; is = refl }; goes_on = refl };
     };
   },
   refl,
@@ -128,12 +70,11 @@ shown_empty = (
     goes_on = record {
       result = _;
       after = record {
-        flagged = false;
-        polyhedron = nothing;
-        is_made = record { dimensions = refl; canonical = inl (refl, refl); points = (λ x p c. c, λ x p c. c) };
+        given = Ok (record { flagged = false; polyhedron = nothing });
+        told = record { dimensions = refl; canonical = inl (refl, refl); points = (λ x p c. c, λ x p c. c) };
         is = refl;
       };
-      goes_on = record { result = _; after = refl; goes_on = refl };
+      goes_on = record { result = _; after = record { given = _; told = refl; is = refl }; goes_on = refl };
     };
   },
   refl,
@@ -160,9 +101,8 @@ strained_line p dims canonical within = (
     goes_on = record {
       result = _;
       after = record {
-        flagged = true;
-        polyhedron = p;
-        is_made = record { dimensions = dims; canonical = canonical; within = within; loss = _; strains = inl third_row_strains };
+        given = Ok (record { flagged = true; polyhedron = p });
+        told = record { dimensions = dims; canonical = canonical; within = within; loss = _; strains = inl third_row_strains };
         is = refl;
       };
       goes_on = refl;
@@ -187,8 +127,8 @@ some_answers = (
     after = refl;
     goes_on = record {
       result = _;
-      after = record { flagged = false; polyhedron = quadrant; is_made = plain_is_quadrant; is = refl };
-      goes_on = record { result = _; after = refl; goes_on = record { result = _; after = refl; goes_on = refl } };
+      after = record { given = Ok (record { flagged = false; polyhedron = quadrant }); told = plain_is_quadrant; is = refl };
+      goes_on = record { result = _; after = record { given = _; told = refl; is = refl }; goes_on = record { result = _; after = record { given = _; told = refl; is = refl }; goes_on = refl } };
     };
   },
   refl,
@@ -215,11 +155,11 @@ wide_points generators made = (
     after = refl;
     goes_on = record {
       result = _;
-      after = record { flagged = false; polyhedron = ray_from generators; is_made = made; is = refl };
+      after = record { given = Ok (record { flagged = false; polyhedron = ray_from generators }); told = made; is = refl };
       goes_on = record {
         result = _;
-        after = refl;
-        goes_on = record { result = _; after = refl; goes_on = record { result = _; after = refl; goes_on = refl } };
+        after = record { given = _; told = refl; is = refl };
+        goes_on = record { result = _; after = record { given = _; told = refl; is = refl }; goes_on = record { result = _; after = record { given = _; told = refl; is = refl }; goes_on = refl } };
       };
     };
   },
@@ -239,16 +179,15 @@ made_again universe made = (
     after = refl;
     goes_on = record {
       result = _;
-      after = record { flagged = false; polyhedron = universe; is_made = made; is = refl };
+      after = record { given = Ok (record { flagged = false; polyhedron = universe }); told = made; is = refl };
       goes_on = record {
         result = _;
         after = record {
-          flagged = false;
-          polyhedron = nothing_on_a_line;
-          is_made = record { dimensions = refl; canonical = inl (refl, refl); points = (λ x p c. c, λ x p c. c) };
+          given = Ok (record { flagged = false; polyhedron = nothing_on_a_line });
+          told = record { dimensions = refl; canonical = inl (refl, refl); points = (λ x p c. c, λ x p c. c) };
           is = refl;
         };
-        goes_on = record { result = _; after = refl; goes_on = refl };
+        goes_on = record { result = _; after = record { given = _; told = refl; is = refl }; goes_on = refl };
       };
     };
   },
@@ -264,25 +203,25 @@ refused_after_dims fault line = Gives (codes "dims 1" ∷ line ∷ []) (refused_
 wrong_dimensions : refused_after_dims (WrongDimension 3 2) (codes "con R >= 1 2 3") × refused_after_dims (WrongDimension 0 2) (codes "con P >= 1 2 ; >= ; >= 1 2 3")
     × refused_after_dims (WrongDimension 1 2) (codes "gen P ray 0 ; point 1") × refused_after_dims (WrongDimension 2 1) (codes "gen P point 1 0 ; line 0 1")
 wrong_dimensions = (
-  (_, record { result = Ok (started 1); after = refl; goes_on = record { result = _; after = refl; goes_on = refl } }, refl),
-  (_, record { result = Ok (started 1); after = refl; goes_on = record { result = _; after = refl; goes_on = refl } }, refl),
-  (_, record { result = Ok (started 1); after = refl; goes_on = record { result = _; after = refl; goes_on = refl } }, refl),
-  (_, record { result = Ok (started 1); after = refl; goes_on = record { result = _; after = refl; goes_on = refl } }, refl),
+  (_, record { result = Ok (started 1); after = refl; goes_on = record { result = _; after = record { given = _; told = refl; is = refl }; goes_on = refl } }, refl),
+  (_, record { result = Ok (started 1); after = refl; goes_on = record { result = _; after = record { given = _; told = refl; is = refl }; goes_on = refl } }, refl),
+  (_, record { result = Ok (started 1); after = refl; goes_on = record { result = _; after = record { given = _; told = refl; is = refl }; goes_on = refl } }, refl),
+  (_, record { result = Ok (started 1); after = refl; goes_on = record { result = _; after = record { given = _; told = refl; is = refl }; goes_on = refl } }, refl),
 )
 
 -- catches a name that is asked for behind the numbers, and a fault of form that is found last
 first_causes : refused_after_dims (UnknownName (codes "Z")) (codes "holds Z 1") × refused_after_dims (UnknownName (codes "Z")) (codes "show Z") × refused_after_dims BadLine (codes "holds Z 0")
     × refused_after_dims BadLine (codes "gen P ray 0 1 ; point 0 1")
 first_causes = (
-  (_, record { result = Ok (started 1); after = refl; goes_on = record { result = _; after = refl; goes_on = refl } }, refl),
-  (_, record { result = Ok (started 1); after = refl; goes_on = record { result = _; after = refl; goes_on = refl } }, refl),
+  (_, record { result = Ok (started 1); after = refl; goes_on = record { result = _; after = record { given = _; told = refl; is = refl }; goes_on = refl } }, refl),
+  (_, record { result = Ok (started 1); after = refl; goes_on = record { result = _; after = record { given = _; told = refl; is = refl }; goes_on = refl } }, refl),
   (_, record { result = Ok (started 1); after = refl; goes_on = record { result = _; after = refl; goes_on = refl } }, refl),
   (_, record { result = Ok (started 1); after = refl; goes_on = record { result = _; after = refl; goes_on = refl } }, refl),
 )
 
 -- catches a line count that leaves out comments
 skipped_count : Gives (codes "dims 1" ∷ codes "# P" ∷ [] ∷ codes "holds Z 1 0" ∷ []) (refused_at 4 (UnknownName (codes "Z")))
-skipped_count = (_, record { result = Ok (started 1); after = refl; goes_on = record { result = _; after = refl; goes_on = refl } }, refl)
+skipped_count = (_, record { result = Ok (started 1); after = refl; goes_on = record { result = _; after = record { given = _; told = refl; is = refl }; goes_on = refl } }, refl)
 
 -- catches `dims` that is not the first line, or stands twice
 dims_once : Gives (codes "con P" ∷ []) (refused_at 1 BadLine) × refused_after_dims BadLine (codes "dims 1")

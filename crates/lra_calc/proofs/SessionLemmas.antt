@@ -19,7 +19,12 @@ use Rattle.lra_sys.specs.declared.membership.Holds as H
 use Rattle.lra_sys.specs.declared.membership.Holds.TheVariants.{Yes, No, Wide}
 use Rattle.lra_sys.specs.Membership.{HoldsInRange, IsAnswer}
 use Rattle.lra_calc.specs.Script as script
-use Rattle.lra_calc.specs.Views.{answered}
+use Rattle.std.specs.Result.{IsErrAnd}
+use Rattle.std.proofs.lemmas.Result.{err_from_is_err_and}
+use Rattle.lra_calc.specs.Views.{answered, fault_of, IsUnknown, Gives}
+use Rattle.lra_calc.specs.declared.refusal.Fault.{Fault}
+use Rattle.lra_calc.specs.declared.refusal.LineError.{LineError}
+use Rattle.lra_calc.specs.declared.refusal.LineError.TheVariants.{Refused, Memory}
 use Rattle.lra_calc.proofs.MakingLemmas.{all_tail}
 
 -- ---- membership
@@ -154,3 +159,44 @@ pub fit_with : (f g : List ℕ → Option Polyhedron) (name : List ℕ) (p : Pol
     → ((cs : List ℕ) → IfSome (f cs) (λ q. q.dims ≡ dims)) → (cs : List ℕ) → IfSome (g cs) (λ q. q.dims ≡ dims)
 fit_with f g name p dims e same fit cs =
     subst (λ (o : Option Polyhedron). IfSome o (λ q. q.dims ≡ dims)) (sym (same cs)) (fit_by_name (bytes_eq name cs) (f cs) p dims e (fit cs))
+
+-- ---- answers by steps
+-- the name isn't known
+pub unknown_gives : {A B : Type 0} (view : A → B) (Told : Polyhedron → Result B script.Fault → Type 0) (name : List ℕ) (o : Option Polyhedron) (e : LineError) → IsUnknown name o e →
+    Gives view (let r : Result A LineError = Err e in r) (script.WithSet name o Told)
+unknown_gives view Told name o (Refused f) u =
+    subst (λ (x : Option Polyhedron). script.WithSet name x Told (Err (fault_of f))) (sym u.0) (ap Err u.1)
+unknown_gives view Told name o Memory u = tt
+
+-- it is
+pub known_gives : {A B : Type 0} (view : A → B) (Told : Polyhedron → Result B script.Fault → Type 0) (name : List ℕ) (o : Option Polyhedron) (p : Polyhedron) (r : Result A LineError) → o ≡ Some p →
+    Gives view r (Told p) → Gives view r (script.WithSet name o Told)
+known_gives view Told name o p r e h = subst (λ (x : Option Polyhedron). Gives view r (script.WithSet name x Told)) (sym e) h
+
+pub fault_gives : {A B : Type 0} (view : A → B) (Told : Result B script.Fault → Type 0) (o : Option script.Fault) (f : Fault) → o ≡ Some (fault_of f) →
+    Gives view (let r : Result A LineError = Err (Refused f) in r) (script.Unless o Told)
+fault_gives view Told o f e = subst (λ (x : Option script.Fault). script.Unless x Told (Err (fault_of f))) (sym e) refl
+
+pub right_gives : {A B : Type 0} (view : A → B) (Told : Result B script.Fault → Type 0) (o : Option script.Fault) (r : Result A LineError) → o ≡ None → Gives view r Told →
+    Gives view r (script.Unless o Told)
+right_gives view Told o r e h = subst (λ (x : Option script.Fault). Gives view r (script.Unless x Told)) (sym e) h
+
+-- a line whose recipe or question is refused
+pub refused_brings : {A B C : Type 0} (view : A → B) (other : C → script.Session) (Told : Result B script.Fault → Type 0) (step : B → script.Session) (e : LineError) →
+    Gives view (let r : Result A LineError = Err e in r) Told → Gives other (let r : Result C LineError = Err e in r) (script.Brings Told step)
+refused_brings view other Told step (Refused f) h = record { given = Err (fault_of f); told = h; is = refl }
+refused_brings view other Told step Memory h = tt
+
+-- and one that is carried out
+pub given_brings : {B : Type 0} (Told : Result B script.Fault → Type 0) (step : B → script.Session) (b : B) (t : script.Session) → Told (Ok b) → t ≡ step b → script.Brings Told step (Ok t)
+given_brings Told step b t h e = record { given = Ok b; told = h; is = ap Ok e }
+
+-- ---- exits by the error of a call
+pub exit_unknown : {A B : Type 0} (view : A → B) (Told : Polyhedron → Result B script.Fault → Type 0) (name : List ℕ) (o : Option Polyhedron) (x : Result A LineError) (e : LineError) →
+    IsErrAnd x (λ y. y ≡ e) → IsUnknown name o e → Gives view x (script.WithSet name o Told)
+exit_unknown view Told name o x e is u = let p = err_from_is_err_and x is in rw (p.1, p.2) (unknown_gives view Told name o e u)
+
+pub exit_brings : {A B C : Type 0} (view : A → B) (other : C → script.Session) (Told : Result B script.Fault → Type 0) (step : B → script.Session) (r : Result A LineError) (x : Result C LineError)
+    (e : LineError) → IsErrAnd x (λ y. y ≡ e) → r ≡ Err e → Gives view r Told → Gives other x (script.Brings Told step)
+exit_brings view other Told step r x e is same h =
+    let p = err_from_is_err_and x is in rw (p.1, p.2) (refused_brings view other Told step e (rw same at h))

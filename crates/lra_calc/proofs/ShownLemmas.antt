@@ -1,11 +1,11 @@
 -- The text of a polyhedron, by the texts of its lists of rows with their kinds; and the names of its variables.
-use Rattle.std.proofs.Common.{◌≡◌, ◌<◌, ◌-◌, ◌+◌, ℕ, zero, suc, ℤ, pos, negsuc, Bool, false, List, [], ◌∷◌, ◌++◌, length, map, refl, ap, sym, ◌∙◌, subst, arith, append_assoc, nat_eq, ◌<ℤ◌}
+use Rattle.std.proofs.Common.{◌≡◌, ◌<◌, ◌-◌, ◌+◌, ℕ, zero, suc, ℤ, pos, negsuc, Bool, false, List, [], ◌∷◌, ◌++◌, length, get_or, map, refl, ap, sym, ◌∙◌, subst, arith, append_assoc, nat_eq, ◌<ℤ◌}
 use Rattle.std.specs.Prelude.{codes}
 use Rattle.std.specs.Fmt.{decimal}
 use Rattle.std.specs.List.{flat_map}
 use Rattle.std.proofs.lemmas.Int.{ints}
 use Rattle.lra_linear.specs.Vectors.{entry}
-use Rattle.lra_linear.specs.Descriptions.{Given}
+use Rattle.lra_linear.specs.Descriptions.{Given, line}
 use Rattle.lra_linear.specs.Polyhedra.{Polyhedron}
 use Rattle.lra_linear.specs.declared.ConKind.{ConKind}
 use Rattle.lra_linear.specs.declared.ConKind.TheVariants as con
@@ -16,10 +16,10 @@ use Rattle.lra_linear.specs.Kinds.{is_equality}
 use Rattle.lra_show.specs.Shown.{report_row, report_generator}
 use Rattle.lra_program.specs.Rows.{Row}
 use Rattle.lra_findings.specs.Report.{Generator}
-use Rattle.lra_findings.specs.ReportText.{text_line, rows_text, generators_text}
+use Rattle.lra_findings.specs.ReportText.{text_line, rows_text, generators_text, generator_text}
 use Rattle.lra_report.specs.Rows.{shown_rows, shown_generators}
 use Rattle.lra_report.specs.Lines.{generator_line}
-use Rattle.lra_calc.specs.ShownSets.{variables_from, variables, shown_constraint, kind_at, kind_by, shown_generator, empty_or, polyhedron_text}
+use Rattle.lra_calc.specs.ShownSets.{variables_from, variables, shown_constraint, kind_at, kind_by, shown_generator, empty_or, polyhedron_text, generator_at}
 
 -- ---- lists
 row_is : (r : List ℤ) (k : ConKind) → shown_constraint (record { row = r; equal = is_equality k }) ≡ report_row r k
@@ -103,3 +103,58 @@ pub one_more : (n index : ℕ) (names more : List (List ℕ)) (name : List ℕ) 
 one_more n index names more name all h is pushed before =
     let left : n - index ≡ suc (n - (index + 1)) = omega arith in
     next_name (index + 1) (n - (index + 1)) names more name all is pushed (subst (λ (k : ℕ). names ++ variables_from (index + 1) k ≡ all) left before)
+
+-- ---- a generator at a place
+zip_rows : (rows : List (List ℤ)) (kinds : List GenKind) (i : ℕ) → i < length (given_by is_line rows kinds) → i < length rows
+zip_rows [] kinds i h = absurd (omega arith)
+zip_rows (x ∷ rows) [] i h = absurd (omega arith)
+zip_rows (x ∷ rows) (y ∷ kinds) zero h = omega arith
+zip_rows (x ∷ rows) (y ∷ kinds) (suc i) h = let k = zip_rows rows kinds i (omega arith) in omega arith
+
+zip_kinds : (rows : List (List ℤ)) (kinds : List GenKind) (i : ℕ) → i < length (given_by is_line rows kinds) → i < length kinds
+zip_kinds [] kinds i h = absurd (omega arith)
+zip_kinds (x ∷ rows) [] i h = absurd (omega arith)
+zip_kinds (x ∷ rows) (y ∷ kinds) zero h = omega arith
+zip_kinds (x ∷ rows) (y ∷ kinds) (suc i) h = let k = zip_kinds rows kinds i (omega arith) in omega arith
+
+zip_fits : (rows : List (List ℤ)) (kinds : List GenKind) (i : ℕ) (r : List ℤ) → i < length (given_by is_line rows kinds) → FitKinds rows kinds → FitsKind (get_or kinds i gen.Point) (get_or rows i r)
+zip_fits [] kinds i r h f = absurd (omega arith)
+zip_fits (x ∷ rows) [] i r h f = absurd (omega arith)
+zip_fits (x ∷ rows) (y ∷ kinds) zero r h f = f.0
+zip_fits (x ∷ rows) (y ∷ kinds) (suc i) r h f = zip_fits rows kinds i r (omega arith) f.1
+
+zip_shown : (rows : List (List ℤ)) (kinds : List GenKind) (i : ℕ) (d : Given) (r : List ℤ) → i < length (given_by is_line rows kinds) → FitKinds rows kinds
+    → shown_generator (get_or (given_by is_line rows kinds) i d) ≡ report_generator (get_or rows i r) (get_or kinds i gen.Point)
+zip_shown [] kinds i d r h f = absurd (omega arith)
+zip_shown (x ∷ rows) [] i d r h f = absurd (omega arith)
+zip_shown (x ∷ rows) (y ∷ kinds) zero d r h f = ap (λ (j : GenKind). report_generator x j) (kind_is x y f.0)
+zip_shown (x ∷ rows) (y ∷ kinds) (suc i) d r h f = zip_shown rows kinds i d r (omega arith) f.1
+
+count_as : (g : Listed GenKind) (gs : List Given) (i : ℕ) → generators g ≡ gs → i < length gs → i < length (given_by is_line g.rows g.kinds)
+count_as g gs i e h = subst (λ (l : List Given). i < length l) (sym e) h
+
+pub row_there : (g : Listed GenKind) (gs : List Given) (rows : List (List ℤ)) (i : ℕ) → generators g ≡ gs → rows ≡ g.rows → i < length gs → i < length rows
+row_there g gs rows i e same h = subst (λ (l : List (List ℤ)). i < length l) (sym same) (zip_rows g.rows g.kinds i (count_as g gs i e h))
+
+pub kind_there : (g : Listed GenKind) (gs : List Given) (kinds : List GenKind) (i : ℕ) → generators g ≡ gs → kinds ≡ g.kinds → i < length gs → i < length kinds
+kind_there g gs kinds i e same h = subst (λ (l : List GenKind). i < length l) (sym same) (zip_kinds g.rows g.kinds i (count_as g gs i e h))
+
+pub fits_there : (g : Listed GenKind) (gs : List Given) (rows : List (List ℤ)) (kinds : List GenKind) (i : ℕ) (r : List ℤ) → generators g ≡ gs → rows ≡ g.rows → kinds ≡ g.kinds →
+    FitKinds g.rows g.kinds →
+    i < length gs → r ≡ get_or rows i r → FitsKind (get_or kinds i gen.Point) r
+fits_there g gs rows kinds i r e same also f h is =
+    subst (λ (x : List ℤ). FitsKind (get_or kinds i gen.Point) x) (sym (is ∙ ap (λ (l : List (List ℤ)). get_or l i r) same))
+    (subst (λ (l : List GenKind). FitsKind (get_or l i gen.Point) (get_or g.rows i r)) (sym also) (zip_fits g.rows g.kinds i r (count_as g gs i e h) f))
+
+-- the text of the generator, as the code tells it
+pub generator_told : (p : Polyhedron) (g : Listed GenKind) (rows : List (List ℤ)) (kinds : List GenKind) (names : List (List ℕ)) (dims i : ℕ) (r : List ℤ) (text : List ℕ) →
+    generators g ≡ p.generators →
+    rows ≡ g.rows → kinds ≡ g.kinds → FitKinds g.rows g.kinds → i < length p.generators → r ≡ get_or rows i r → names ≡ variables dims → dims ≡ p.dims →
+    text ≡ generator_text names (report_generator r (get_or kinds i gen.Point)) → text ≡ generator_at p i
+generator_told p g rows kinds names dims i r text e same also f h is named sized told =
+    told
+    ∙ ap (λ (ns : List (List ℕ)). generator_text ns (report_generator r (get_or kinds i gen.Point))) (named ∙ ap variables sized)
+    ∙ ap (λ (x : List ℤ). generator_text (variables p.dims) (report_generator x (get_or kinds i gen.Point))) (is ∙ ap (λ (l : List (List ℤ)). get_or l i r) same)
+    ∙ ap (λ (l : List GenKind). generator_text (variables p.dims) (report_generator (get_or g.rows i r) (get_or l i gen.Point))) also
+    ∙ ap (generator_text (variables p.dims)) (sym (zip_shown g.rows g.kinds i (line []) r (count_as g p.generators i e h) f))
+    ∙ ap (λ (l : List Given). generator_text (variables p.dims) (shown_generator (get_or l i (line [])))) e

@@ -1,6 +1,5 @@
 -- In the order in which they are to be read.
-pub mod ScriptText
-pub mod LineForms
 pub mod ShownSets
+pub mod MadeSets
 pub mod Script
 pub mod Views

@@ -2,28 +2,31 @@
 -- place of all. A line that makes a set makes its canonical lists, so that what is shown depends on the set alone. Only
 -- where what it gives strains may it make those of a larger set; then it is flagged. So a script that isn't flagged has
 -- one output.
-use Rattle.std.specs.Prelude.{◌≡◌, ◌+◌, ℕ, suc, ℤ, pos, negsuc, Bool, true, false, nat_eq, nat_lt, List, [], ◌∷◌, ◌++◌}
-use Rattle.std.specs.Prelude.{length, take, map, codes, bytes_eq, if◌then◌else◌, Option, Some, None, Result, Ok, Err}
+use Rattle.std.specs.Prelude.{◌≡◌, ◌+◌, ℕ, suc, ℤ, pos, negsuc, Bool, true, false, ◌&&◌, nat_eq, nat_lt, nat_le}
+use Rattle.std.specs.Prelude.{List, [], ◌∷◌, ◌++◌, length, take, map, codes, bytes_eq, if◌then◌else◌}
+use Rattle.std.specs.Prelude.{Option, Some, None, Result, Ok, Err}
 use Rattle.std.specs.Fmt.{decimal}
 use Rattle.std.specs.Map.{update}
 use Rattle.lra_linear.specs.declared.Excess.{Excess}
 use Rattle.lra_linear.specs.CheckedArithmetic.{checked_product}
-use Rattle.lra_linear.specs.Points.{PointSet, IsWithin}
-use Rattle.lra_linear.specs.Descriptions.{Given, Con as points_of, Gen as generated_by}
-use Rattle.lra_linear.specs.Polyhedra.{Polyhedron, IsPolyhedron, IsPolyhedronOf}
-use Rattle.lra_linear.specs.Strain.{Loss}
-use Rattle.lra_linear.specs.OperationStrain.{FromRowsStrains, FromGeneratorsStrains}
+use Rattle.lra_linear.specs.Descriptions.{Given, Con as points_of}
+use Rattle.lra_linear.specs.Polyhedra.{Polyhedron}
 use Rattle.lra_sys.specs.declared.system.GenKind.{GenKind}
 use Rattle.lra_sys.specs.declared.system.GenKind.TheVariants as gen
 use Rattle.lra_sys.specs.Membership.{IsWide, FirstAt}
+use Rattle.lra_poly.specs.Inclusions.{IsInclusion}
+use Rattle.lra_poly.specs.Maxima.{IsMaximum}
 use Rattle.lra_base.specs.declared.refusals.Place.{Place}
 use Rattle.lra_tree.specs.Tokens.{place_behind, greatest_length}
 use Rattle.lra_base.specs.declared.refusals.Cause.TheVariants as cause
 use Rattle.lra_findings.specs.RefusalText.{refusal_text}
 use Rattle.lra_findings.specs.ReportText.{text_line}
-use Rattle.lra_calc.specs.ScriptText.{lines, is_skipped, words}
-use Rattle.lra_calc.specs.LineForms.{Generator, given_of, Line, Dims, Con, Gen, Show, Holds, line_of}
-use Rattle.lra_calc.specs.ShownSets.{polyhedron_text}
+use Rattle.lra_script.specs.ScriptText.{lines, is_skipped, words}
+use Rattle.lra_script.specs.LineForms.{Generator, given_of, line_of, Line, Dims, Make, Ask, Recipe, Con, Gen, Combine}
+use Rattle.lra_script.specs.LineForms.{Forget, Question, Show, Holds, Include, Maximise}
+use Rattle.lra_calc.specs.ShownSets.{show_text, holds_text, include_text, is_wide_inclusion, maximise_text}
+use Rattle.lra_calc.specs.ShownSets.{is_wide_maximum}
+use Rattle.lra_calc.specs.MadeSets.{IsMadeOfRows, IsMadeOfGenerators, IsCombined, IsForgotten}
 
 -- why a line is refused
 pub data Fault : Type 0 where
@@ -50,50 +53,25 @@ flagged_by number false flag = flag
 flagged_by number true (Some first) = Some first
 flagged_by number true None = Some number
 
--- con, gen ---------------------------------------------------------------------------------------------------------
+-- names and numbers ---------------------------------------------------------------------------------------------
 
--- the canonical lists of a set that has all points of P; what was given strains
-pub record IsFlaggedOf (n : ℕ) (P : PointSet) (Strains : Loss → Type 0) (p : Polyhedron) : Type 0 where
-  pub dimensions : p.dims ≡ n
-  pub canonical : IsPolyhedron p
-  pub within : IsWithin n P (points_of p.rows)
-  pub loss : Loss
-  pub strains : Strains loss
+-- refused where there is a fault
+abbrev pub Unless : {A : Type 0} → Option Fault → (Result A Fault → Type 0) → Result A Fault → Type 0
+Unless (Some fault) Told result = result ≡ Err fault
+Unless None Told result = Told result
 
--- made of what has these points, flagged or not: without a flag the canonical lists of exactly these points
-abbrev pub IsMadeOf : ℕ → PointSet → (Loss → Type 0) → Bool → Polyhedron → Type 0
-IsMadeOf n P Strains false p = IsPolyhedronOf n P p
-IsMadeOf n P Strains true p = IsFlaggedOf n P Strains p
-
-abbrev pub IsMadeOfRows : ℕ → List Given → Bool → Polyhedron → Type 0
-IsMadeOfRows n rows = IsMadeOf n (points_of rows) (FromRowsStrains n rows)
-
-abbrev pub IsMadeOfGenerators : ℕ → List Given → Bool → Polyhedron → Type 0
-IsMadeOfGenerators n generators = IsMadeOf n (generated_by generators) (FromGeneratorsStrains n generators)
-
--- the name stands for it from now on
-abbrev pub made_as : ℕ → List ℕ → Bool → Polyhedron → Session → Session
-made_as number name flagged p s = record s {
-  made = update bytes_eq s.made name (Some p);
-  flagged = flagged_by number flagged s.flagged;
-}
-
--- the line of this number makes what its name stands for then
-pub record Makes (IsMade : Bool → Polyhedron → Type 0) (number : ℕ) (name : List ℕ) (s : Session)
-    (result : Result Session Fault) : Type 0 where
-  pub flagged : Bool
-  pub polyhedron : Polyhedron
-  pub is_made : IsMade flagged polyhedron
-  pub is : result ≡ Ok (made_as number name flagged polyhedron s)
-
--- where there is no fault
-abbrev pub MakesOr : (Bool → Polyhedron → Type 0) → ℕ → List ℕ → Session → Option Fault → Result Session Fault → Type 0
-MakesOr IsMade number name s (Some fault) result = result ≡ Err fault
-MakesOr IsMade number name s None result = Makes IsMade number name s result
+-- what is told of the set that the name stands for; refused where none was made
+abbrev pub WithSet : {A : Type 0} → List ℕ → Option Polyhedron → (Polyhedron → Result A Fault → Type 0)
+    → Result A Fault → Type 0
+WithSet name None Told result = result ≡ Err (UnknownName name)
+WithSet name (Some p) Told result = Told p result
 
 -- a vector with so many numbers, where so many are needed; or the fault of a later one
 abbrev pub width_or : ℕ → ℕ → Option Fault → Option Fault
 width_or count needed later = if nat_eq count needed then later else Some (WrongDimension count needed)
+
+abbrev pub wrong_width : ℕ → ℕ → Option Fault
+wrong_width count needed = width_or count needed None
 
 -- the first row that has not as many numbers as are needed
 abbrev pub wrong_row : ℕ → List Given → Option Fault
@@ -111,18 +89,47 @@ abbrev pub wrong_generator : ℕ → List Generator → Option Fault
 wrong_generator n [] = None
 wrong_generator n (g ∷ gs) = width_or (length g.numbers) (numbers_needed n g.kind) (wrong_generator n gs)
 
--- show -------------------------------------------------------------------------------------------------------------
+-- coordinates are numbered from 1 to n
+abbrev pub wrong_coordinate : ℕ → ℕ → Option Fault
+wrong_coordinate n k = if nat_le 1 k && nat_le k n then None else Some BadLine
 
-abbrev pub show_text : List ℕ → Polyhedron → List ℕ
-show_text name p = text_line (codes "show " ++ name) ++ polyhedron_text p
+-- recipes ----------------------------------------------------------------------------------------------------------
 
-abbrev pub shown_or : List ℕ → Session → Option Polyhedron → Result Session Fault
-shown_or name s None = Err (UnknownName name)
-shown_or name s (Some p) = Ok (record s { printed = s.printed ++ show_text name p })
+-- a set, and whether the line is flagged for it
+pub record Made : Type 0 where
+  pub flagged : Bool
+  pub polyhedron : Polyhedron
 
--- holds ------------------------------------------------------------------------------------------------------------
+-- made as told
+abbrev pub IsMade : (Bool → Polyhedron → Type 0) → Result Made Fault → Type 0
+IsMade Told (Ok made) = Told made.flagged made.polyhedron
+IsMade Told (Err fault) = ⊥
 
--- whether a constraint's product with a point is as it asks
+-- what a recipe makes, or why it is refused
+abbrev pub MadeBy : Session → Recipe → Result Made Fault → Type 0
+MadeBy s (Con rows) = Unless (wrong_row s.dims rows) (IsMade (IsMadeOfRows s.dims rows))
+MadeBy s (Gen generators) =
+    Unless (wrong_generator s.dims generators) (IsMade (IsMadeOfGenerators s.dims (map given_of generators)))
+MadeBy s (Combine how first second) =
+    WithSet first (s.made first) (λ p. WithSet second (s.made second) (λ q. IsMade (IsCombined how s.dims p q)))
+MadeBy s (Forget from k) =
+    Unless (wrong_coordinate s.dims k) (WithSet from (s.made from) (λ p. IsMade (IsForgotten s.dims k p)))
+
+-- questions --------------------------------------------------------------------------------------------------------
+
+-- a text, and whether the line is flagged for it
+pub record Answer : Type 0 where
+  pub text : List ℕ
+  pub wide : Bool
+
+-- the text of an answer that is right, flagged where it is a wide one
+pub record Answers {A : Type 0} (IsRight : A → Type 0) (text : A → List ℕ) (is_wide : A → Bool)
+    (result : Result Answer Fault) : Type 0 where
+  pub answer : A
+  pub is_right : IsRight answer
+  pub is : result ≡ Ok (record { text = text answer; wide = is_wide answer })
+
+-- holds: whether a constraint's product with a point is as it asks
 abbrev pub is_met : Bool → ℤ → Bool
 is_met equal (negsuc n) = false
 is_met true (pos n) = nat_eq n 0
@@ -150,48 +157,69 @@ TellsPoints rows x (Some true) = points_of rows x × (¬ (PassesFirst rows x))
 TellsPoints rows x (Some false) = (¬ (points_of rows x)) × (¬ (PassesFirst rows x))
 TellsPoints rows x None = PassesFirst rows x
 
-abbrev pub answer_text : Option Bool → List ℕ
-answer_text (Some true) = codes "yes"
-answer_text (Some false) = codes "no"
-answer_text None = codes "wide"
+abbrev pub is_none : Option Bool → Bool
+is_none (Some answer) = false
+is_none None = true
 
-abbrev pub is_wide : Option Bool → Bool
-is_wide (Some answer) = false
-is_wide None = true
-
-abbrev pub answered : ℕ → List ℕ → Option Bool → Session → Session
-answered number name answer s = record s {
-  printed = s.printed ++ text_line (codes "holds " ++ name ++ codes " " ++ answer_text answer);
-  flagged = flagged_by number (is_wide answer) s.flagged;
-}
+abbrev pub shown : List ℕ → Polyhedron → Answer
+shown name p = record { text = show_text name p; wide = false }
 
 -- the canonical constraints decide
-abbrev pub answered_or : ℕ → List ℕ → List ℤ → Session → Option Polyhedron → Result Session Fault
-answered_or number name x s None = Err (UnknownName name)
-answered_or number name x s (Some p) =
-    if nat_eq (length x) (suc s.dims) then Ok (answered number name (membership p.rows x) s)
-    else Err (WrongDimension (length x) (suc s.dims))
+abbrev pub held : List ℕ → List ℤ → Polyhedron → Answer
+held name x p = let answer = membership p.rows x in record { text = holds_text name answer; wide = is_none answer }
+
+-- what is answered, or why the question is refused
+abbrev pub AnswerTo : Session → Question → Result Answer Fault → Type 0
+AnswerTo s (Show name) = WithSet name (s.made name) (λ p result. result ≡ Ok (shown name p))
+AnswerTo s (Holds name x) =
+    WithSet name (s.made name) (λ p. Unless (wrong_width (length x) (suc s.dims))
+    (λ result. result ≡ Ok (held name x p)))
+AnswerTo s (Include first second) =
+    WithSet first (s.made first) (λ p. WithSet second (s.made second) (λ q.
+    Answers (IsInclusion q.rows p.generators) (include_text first second p) is_wide_inclusion))
+AnswerTo s (Maximise name form) =
+    WithSet name (s.made name) (λ p. Unless (wrong_width (length form) (suc s.dims))
+    (Answers (IsMaximum form p.generators) (maximise_text name p) is_wide_maximum))
 
 -- lines ------------------------------------------------------------------------------------------------------------
+
+-- the name stands for it from now on
+abbrev pub made_as : ℕ → List ℕ → Made → Session → Session
+made_as number name m s = record s {
+  made = update bytes_eq s.made name (Some m.polyhedron);
+  flagged = flagged_by number m.flagged s.flagged;
+}
+
+-- the text follows what was printed
+abbrev pub printed_by : ℕ → Answer → Session → Session
+printed_by number a s = record s {
+  printed = s.printed ++ a.text;
+  flagged = flagged_by number a.wide s.flagged;
+}
+
+-- what stands behind a line that gave this, or why it is refused
+abbrev pub behind : {A : Type 0} → (A → Session) → Result A Fault → Result Session Fault
+behind step (Ok a) = Ok (step a)
+behind step (Err fault) = Err fault
+
+-- the line has such a result, and behind it stands what the result brings
+pub record Brings {A : Type 0} (Told : Result A Fault → Type 0) (step : A → Session)
+    (result : Result Session Fault) : Type 0 where
+  pub given : Result A Fault
+  pub told : Told given
+  pub is : result ≡ behind step given
 
 -- what stands behind a line, or why it is refused
 abbrev pub AfterLine : ℕ → Session → Line → Result Session Fault → Type 0
 AfterLine number s (Dims n) result = result ≡ Err BadLine
-AfterLine number s (Con name rows) result =
-    MakesOr (IsMadeOfRows s.dims rows) number name s (wrong_row s.dims rows) result
-AfterLine number s (Gen name generators) result =
-    MakesOr (IsMadeOfGenerators s.dims (map given_of generators)) number name s
-    (wrong_generator s.dims generators) result
-AfterLine number s (Show name) result = result ≡ shown_or name s (s.made name)
-AfterLine number s (Holds name x) result = result ≡ answered_or number name x s (s.made name)
+AfterLine number s (Make name recipe) result = Brings (MadeBy s recipe) (λ m. made_as number name m s) result
+AfterLine number s (Ask question) result = Brings (AnswerTo s question) (λ a. printed_by number a s) result
 
 -- the first line gives the dimensions, and no later one
 abbrev pub first_line : Line → Result Session Fault
 first_line (Dims n) = Ok (started n)
-first_line (Con name rows) = Err BadLine
-first_line (Gen name generators) = Err BadLine
-first_line (Show name) = Err BadLine
-first_line (Holds name x) = Err BadLine
+first_line (Make name recipe) = Err BadLine
+first_line (Ask question) = Err BadLine
 
 -- none is before the first line
 abbrev pub AfterForm : ℕ → Option Session → Option Line → Result Session Fault → Type 0

@@ -1,9 +1,10 @@
--- The text of a polyhedron: its canonical constraints, then its canonical generators, in their orders. The variables
--- are x1, x2 and on.
-use Rattle.std.specs.Prelude.{ℕ, zero, suc, ◌+◌, ℤ, pos, negsuc, cond, List, [], ◌∷◌, ◌++◌, map, codes}
+-- What lines print. A polyhedron is printed by its canonical constraints, then its canonical generators, in their
+-- orders. The variables are x1, x2 and on.
+use Rattle.std.specs.Prelude.{ℕ, zero, suc, ◌+◌, ℤ, pos, negsuc, nat_abs, Bool, true, false, cond, List, [], ◌∷◌, ◌++◌}
+use Rattle.std.specs.Prelude.{map, codes, get_or, Option, Some, None}
 use Rattle.std.specs.Fmt.{decimal}
 use Rattle.lra_linear.specs.Vectors.{entry}
-use Rattle.lra_linear.specs.Descriptions.{Given}
+use Rattle.lra_linear.specs.Descriptions.{Given, line}
 use Rattle.lra_linear.specs.Polyhedra.{Polyhedron}
 use Rattle.lra_linear.specs.declared.ConKind.TheVariants as con
 use Rattle.lra_sys.specs.declared.system.GenKind.{GenKind}
@@ -11,7 +12,11 @@ use Rattle.lra_sys.specs.declared.system.GenKind.TheVariants as gen
 use Rattle.lra_show.specs.Shown.{report_row, report_generator}
 use Rattle.lra_program.specs.Rows.{Row}
 use Rattle.lra_findings.specs.Report.{Generator, Part}
-use Rattle.lra_findings.specs.ReportText.{text_line, part_text}
+use Rattle.lra_findings.specs.ReportText.{text_line, part_text, generator_text, fraction_text}
+use Rattle.lra_poly.specs.declared.inclusion.Inclusion.{Inclusion}
+use Rattle.lra_poly.specs.declared.inclusion.Inclusion.TheVariants as inclusion
+use Rattle.lra_poly.specs.declared.maximum.Maximum.{Maximum}
+use Rattle.lra_poly.specs.declared.maximum.Maximum.TheVariants as maximum
 
 -- so many, from this number on
 abbrev pub variables_from : ℕ → ℕ → List (List ℕ)
@@ -46,3 +51,62 @@ empty_or (g ∷ gs) text = text
 
 abbrev pub polyhedron_text : Polyhedron → List ℕ
 polyhedron_text p = empty_or p.generators (part_text (variables p.dims) (part_of p))
+
+-- show -------------------------------------------------------------------------------------------------------------
+
+abbrev pub show_text : List ℕ → Polyhedron → List ℕ
+show_text name p = text_line (codes "show " ++ name) ++ polyhedron_text p
+
+-- holds ------------------------------------------------------------------------------------------------------------
+
+-- yes, no, or wide
+abbrev pub answer_text : Option Bool → List ℕ
+answer_text (Some true) = codes "yes"
+answer_text (Some false) = codes "no"
+answer_text None = codes "wide"
+
+abbrev pub holds_text : List ℕ → Option Bool → List ℕ
+holds_text name answer = text_line (codes "holds " ++ name ++ codes " " ++ answer_text answer)
+
+-- include ----------------------------------------------------------------------------------------------------------
+
+-- the generator at a place of the list, from 0
+abbrev pub generator_at : Polyhedron → ℕ → List ℕ
+generator_at p place = generator_text (variables p.dims) (shown_generator (get_or p.generators place (line [])))
+
+-- of the second set, no with a generator of the first that isn't in it
+abbrev pub inclusion_text : Polyhedron → Inclusion → List ℕ
+inclusion_text p inclusion.Yes = codes "yes"
+inclusion_text p (inclusion.No place) = codes "no " ++ generator_at p place
+inclusion_text p (inclusion.Wide place row) = codes "wide"
+
+abbrev pub include_text : List ℕ → List ℕ → Polyhedron → Inclusion → List ℕ
+include_text first second p answer =
+    text_line (codes "include " ++ first ++ codes " " ++ second ++ codes " " ++ inclusion_text p answer)
+
+abbrev pub is_wide_inclusion : Inclusion → Bool
+is_wide_inclusion inclusion.Yes = false
+is_wide_inclusion (inclusion.No place) = false
+is_wide_inclusion (inclusion.Wide place row) = true
+
+-- maximise ---------------------------------------------------------------------------------------------------------
+
+-- the greatest value, and a point that has it
+abbrev pub greatest_text : Polyhedron → ℤ → ℤ → ℕ → List ℕ
+greatest_text p num den place = codes "at " ++ fraction_text num (nat_abs den) ++ codes " " ++ generator_at p place
+
+-- unbounded with the ray or line along which the form grows
+abbrev pub maximum_text : Polyhedron → Maximum → List ℕ
+maximum_text p maximum.Empty = codes "empty"
+maximum_text p (maximum.Wide place) = codes "wide"
+maximum_text p (maximum.Unbounded place) = codes "unbounded " ++ generator_at p place
+maximum_text p (maximum.At num den place) = greatest_text p num den place
+
+abbrev pub maximise_text : List ℕ → Polyhedron → Maximum → List ℕ
+maximise_text name p answer = text_line (codes "maximise " ++ name ++ codes " " ++ maximum_text p answer)
+
+abbrev pub is_wide_maximum : Maximum → Bool
+is_wide_maximum maximum.Empty = false
+is_wide_maximum (maximum.Wide place) = true
+is_wide_maximum (maximum.Unbounded place) = false
+is_wide_maximum (maximum.At num den place) = false

@@ -1,22 +1,21 @@
 -- What the values of the code stand for.
-use Rattle.std.specs.Prelude.{◌≡◌, ◌≤◌, ℕ, ◌+◌, ℤ, pos, ◌<ℤ◌, Bool, true, false, List, [], ◌∷◌, map, Option, Some, None}
+use Rattle.std.specs.Prelude.{◌≡◌, ◌≤◌, ◌<◌, ℕ, ◌+◌, ℤ, pos, ◌<ℤ◌, Bool, true, false, List, ◌∷◌, Option, Some, None}
 use Rattle.std.specs.Prelude.{option_map, Result, Ok, Err, Vec, IfSome, string_bytes}
-use Rattle.std.specs.Borrow.{Bor}
-use Rattle.std.specs.List.{All}
 use Rattle.std.specs.BTreeMap.{get_by_text}
 use Rattle.std.specs.declared.alloc.Global.{Global}
-use Rattle.lra_linear.specs.Descriptions.{Given}
-use Rattle.lra_linear.specs.Kinds.{is_equality}
-use Rattle.lra_sys.specs.declared.system.GenKind.{GenKind}
-use Rattle.lra_sys.specs.declared.system.GenKind.TheVariants as gen
+use Rattle.lra_linear.specs.Polyhedra.{Polyhedron}
 use Rattle.lra_sys.specs.declared.membership.Holds as H
 use Rattle.lra_sys.specs.declared.membership.Holds.TheVariants as holds
-use Rattle.lra_calc.specs.LineForms as form
+use Rattle.lra_poly.specs.declared.outcome.Outcome.{Outcome}
+use Rattle.lra_poly.specs.declared.outcome.Outcome.TheVariants as outcome
+use Rattle.lra_poly.specs.declared.inclusion.Inclusion.{Inclusion}
+use Rattle.lra_poly.specs.declared.inclusion.Inclusion.TheVariants as inclusion
+use Rattle.lra_poly.specs.declared.maximum.Maximum.{Maximum}
+use Rattle.lra_poly.specs.declared.maximum.Maximum.TheVariants as maximum
+use Rattle.lra_script.specs.LineForms.{greatest_dims}
 use Rattle.lra_calc.specs.Script as script
-use Rattle.lra_calc.specs.declared.forms.Constraint.{Constraint}
-use Rattle.lra_calc.specs.declared.forms.Generator as G
-use Rattle.lra_calc.specs.declared.forms.Line.{Line}
-use Rattle.lra_calc.specs.declared.forms.Line.TheVariants as code
+use Rattle.lra_calc.specs.declared.making.Made as making
+use Rattle.lra_calc.specs.declared.answering.Answer as answering
 use Rattle.lra_calc.specs.declared.refusal.Fault as F
 use Rattle.lra_calc.specs.declared.refusal.Fault.TheVariants as fault
 use Rattle.lra_calc.specs.declared.refusal.CalcRefusal as R
@@ -27,54 +26,35 @@ use Rattle.lra_calc.specs.declared.refusal.CalcError.{CalcError}
 use Rattle.lra_calc.specs.declared.refusal.CalcError.TheVariants as calc_error
 use Rattle.lra_calc.specs.declared.session.Session as S
 
-abbrev pub texts : List (Bor (List ℕ)) → List (List ℕ)
-texts words = map (λ w. w.now) words
+-- recipes and questions --------------------------------------------------------------------------------------------
 
-abbrev pub items_of : {A : Type 0} → Option (Vec A Global) → Option (List A)
-items_of r = option_map (λ v. v.items) r
+abbrev pub is_flagged : Outcome → Bool
+is_flagged outcome.Exact = false
+is_flagged (outcome.Flagged loss) = true
 
--- forms -----------------------------------------------------------------------------------------------------------
+abbrev pub made_of : making.Made → script.Made
+made_of m = record { flagged = m.is_flagged; polyhedron = m.polyhedron }
 
-abbrev pub constraint_of : Constraint → Given
-constraint_of c = record { row = c.row; equal = is_equality c.kind }
+abbrev pub answer_of : answering.Answer → script.Answer
+answer_of a = record { text = string_bytes a.text; wide = a.is_wide }
 
-abbrev pub constraints_of : Option (Vec Constraint Global) → Option (List Given)
-constraints_of r = option_map (λ v. map constraint_of v.items) r
+-- yes, no, or wide
+abbrev pub answered : H.Holds → Option Bool
+answered holds.Yes = Some true
+answered (holds.No place) = Some false
+answered (holds.Wide place) = None
 
-abbrev pub generator_of : G.Generator → form.Generator
-generator_of g = record { kind = g.kind; numbers = g.numbers }
+-- a generator that is told is one of so many
+abbrev pub IsPlacedInclusion : ℕ → Inclusion → Type 0
+IsPlacedInclusion count inclusion.Yes = Unit {0}
+IsPlacedInclusion count (inclusion.No place) = place < count
+IsPlacedInclusion count (inclusion.Wide place row) = Unit {0}
 
-abbrev pub generators_of : Option (Vec G.Generator Global) → Option (List form.Generator)
-generators_of r = option_map (λ v. map generator_of v.items) r
-
-abbrev pub said : Line → form.Line
-said (code.Dims n) = form.Dims n
-said (code.Con name rows) = form.Con (string_bytes name) (map constraint_of rows.items)
-said (code.Gen name generators) = form.Gen (string_bytes name) (map generator_of generators.items)
-said (code.Show name) = form.Show (string_bytes name)
-said (code.Holds name point) = form.Holds (string_bytes name) point.items
-
-abbrev pub line_of : Option Line → Option form.Line
-line_of r = option_map said r
-
--- a divisor that is there is at least 1
-abbrev pub HasDivisor : List ℤ → Type 0
-HasDivisor [] = Unit {0}
-HasDivisor (d ∷ numbers) = pos 0 <ℤ d
-
--- only a point has a divisor
-abbrev pub IsDivided : GenKind → List ℤ → Type 0
-IsDivided gen.Point numbers = HasDivisor numbers
-IsDivided gen.Ray numbers = Unit {0}
-IsDivided gen.Line numbers = Unit {0}
-
--- what lines keep that are read
-abbrev pub IsLine : Line → Type 0
-IsLine (code.Dims n) = n ≤ form.greatest_dims
-IsLine (code.Con name rows) = Unit {0}
-IsLine (code.Gen name generators) = All (λ g. IsDivided g.kind g.numbers) generators.items
-IsLine (code.Show name) = Unit {0}
-IsLine (code.Holds name point) = HasDivisor point.items
+abbrev pub IsPlacedMaximum : ℕ → Maximum → Type 0
+IsPlacedMaximum count maximum.Empty = Unit {0}
+IsPlacedMaximum count (maximum.Wide place) = Unit {0}
+IsPlacedMaximum count (maximum.Unbounded place) = place < count
+IsPlacedMaximum count (maximum.At num den place) = (place < count) × (pos 0 <ℤ den)
 
 -- sessions ---------------------------------------------------------------------------------------------------------
 
@@ -88,14 +68,8 @@ session_of s = record {
 
 -- few dimensions, and each name stands for a polyhedron of so many
 pub record IsSession (s : S.Session) : Type 0 where
-  pub few : s.dims ≤ form.greatest_dims
+  pub few : s.dims ≤ greatest_dims
   pub fit : (name : List ℕ) → IfSome (get_by_text s.made name) (λ p. p.dims ≡ s.dims)
-
--- yes, no, or wide
-abbrev pub answered : H.Holds → Option Bool
-answered holds.Yes = Some true
-answered (holds.No place) = Some false
-answered (holds.Wide place) = None
 
 -- answers ----------------------------------------------------------------------------------------------------------
 
@@ -103,6 +77,11 @@ abbrev pub fault_of : F.Fault → script.Fault
 fault_of fault.BadLine = script.BadLine
 fault_of (fault.UnknownName name) = script.UnknownName (string_bytes name)
 fault_of (fault.WrongDimension count needed) = script.WrongDimension count needed
+
+-- refused, since no set was made under the name; want of memory says nothing
+abbrev pub IsUnknown : List ℕ → Option Polyhedron → LineError → Type 0
+IsUnknown name set (line_error.Refused f) = (set ≡ None) × (fault_of f ≡ script.UnknownName name)
+IsUnknown name set line_error.Memory = Unit {0}
 
 -- the answer is one that the definition allows; want of memory says nothing
 abbrev pub Gives : {A B : Type 0} → (A → B) → Result A LineError → (Result B script.Fault → Type 0) → Type 0

@@ -5,15 +5,15 @@ ghost use Rattle.std.specs.Prelude.{IfOk, IfSome, OnOk, option_map};
 ghost use Rattle.lra_linear.specs.Points.{SameSet};
 ghost use Rattle.lra_linear.specs.Descriptions.{Con, Gen};
 ghost use Rattle.lra_linear.specs.Polyhedra.{Polyhedron, IsPolyhedron};
-ghost use Rattle.lra_calc.specs.ScriptText as text;
-ghost use Rattle.lra_calc.specs.LineForms as form;
+ghost use Rattle.lra_script.specs.ScriptText as text;
+ghost use Rattle.lra_script.specs.LineForms as form;
 ghost use Rattle.lra_calc.specs.Script as spec;
-ghost use Rattle.lra_calc.specs.Views.{texts, session_of, IsSession, IsLine, said, Gives, StepsTo, Ends, Answers};
+ghost use Rattle.lra_script.specs.Views.{texts, said, IsLine};
+ghost use Rattle.lra_calc.specs.Views.{session_of, IsSession, Gives, StepsTo, Ends, Answers};
 
-use crate::forms::{Line, read_line};
-use crate::pieces::{is_skipped, raw_lines, without_return, words};
 use crate::refusal::{CalcError, CalcRefusal, Fault, LineError};
 use crate::session::Session;
+use lra_script::{Line, is_skipped, raw_lines, read_line, without_return, words};
 use lra_tree::{GREATEST_LENGTH, place_behind};
 use std::alloc::{AllocError, Global};
 use std::fmt::Write;
@@ -23,15 +23,16 @@ fn carry_out(
     alloc: Global,
     number: usize,
     session: Option<Session>,
-    line: Line,
+    line: &Line,
 ) -> Result<Session, LineError>
     requires session { IfSome session IsSession }
-    requires line { IsLine line }
-    ensures gives { Gives session_of result (spec.AfterForm number (option_map session_of session) (Some (said line))) }
+    requires line { IsLine line.now }
+    ensures gives { Gives session_of result
+        (spec.AfterForm number (option_map session_of session) (Some (said line.now))) }
     ensures sound { IfOk result IsSession }
 {
     match (session, line) {
-        (None, Line::Dims(n)) => Ok(Session::new(alloc, n)),
+        (None, Line::Dims(n)) => Ok(Session::new(alloc, *n)),
         (None, _) => Err(LineError::Refused(Fault::BadLine)),
         (Some(mut session), line) => {
             session.carry_out(alloc, number, line)?;
@@ -54,7 +55,7 @@ fn perform(
 {
     let words = words(alloc, line)?;
     match read_line(alloc, &words)? {
-        Some(line) => carry_out(alloc, number, session, line),
+        Some(line) => carry_out(alloc, number, session, &line),
         None => Err(LineError::Refused(Fault::BadLine)),
     }
 }

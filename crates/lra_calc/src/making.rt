@@ -1,24 +1,44 @@
-//! What lines make: polyhedra, of constraints or of generators.
+//! What recipes make: polyhedra, of constraints, of generators or of other polyhedra.
 
-ghost use Rattle.std.specs.Prelude.{◌≡◌, ◌≤◌, ◌∷◌, pos, map, None, IfOk, option_map};
+ghost use Rattle.std.specs.Prelude.{◌≡◌, ◌≤◌, ◌<◌, ◌∷◌, suc, length, pos, map, None, IfOk, option_map};
 ghost use Rattle.std.specs.List.{All};
+ghost use Rattle.lra_linear.specs.Descriptions.{Con as points_of};
+ghost use Rattle.lra_linear.specs.Points.{IsWithin};
+ghost use Rattle.lra_linear.specs.Polyhedra.{IsPolyhedron, IsPolyhedronOf};
 ghost use Rattle.lra_sys.specs.Listed.{is_line, constraints as constraints_of, generators as generators_of, FitKinds};
-ghost use Rattle.lra_calc.specs.LineForms.{greatest_dims, as_given, given_of};
+ghost use Rattle.lra_poly.specs.Outcomes.{IfExact, IfFlagged};
+ghost use Rattle.lra_poly.specs.Rows.{form_row};
+ghost use Rattle.lra_script.specs.LineForms.{greatest_dims, as_given, given_of};
+ghost use Rattle.lra_script.specs.Views.{constraint_of, generator_of, IsDivided};
+ghost use Rattle.lra_calc.specs.MadeSets as sets;
 ghost use Rattle.lra_calc.specs.Script as script;
-ghost use Rattle.lra_calc.specs.Views.{constraint_of, generator_of, fault_of, IsDivided};
+ghost use Rattle.lra_calc.specs.Views.{fault_of, is_flagged};
 
-use crate::forms::{Constraint, Generator};
 use crate::refusal::Fault;
-use lra_pair::{Pair, from_generators, from_rows};
+use lra_lin::LinExpr;
+use lra_maps::{forget, time_elapse};
+use lra_poly::{Outcome, Poly};
 use lra_row::Row;
+use lra_script::{Combination, Constraint, Generator};
 use lra_sys::{ConSys, GenKind, GenSys};
 use std::alloc::{AllocError, Global};
 
 /// A polyhedron, and whether it is flagged: it may then be larger than what it was made of.
 #[derive(Drop)]
 pub struct Made {
-    pub polyhedron: Pair,
+    pub polyhedron: Poly,
     pub is_flagged: bool,
+}
+
+/// The fault of a vector that has another count of numbers than is needed.
+pub fn wrong_width(count: usize, needed: usize) -> Option<Fault>
+    ensures { option_map fault_of result ≡ script.wrong_width count needed }
+{
+    if count == needed {
+        None
+    } else {
+        Some(Fault::WrongDimension { count, needed })
+    }
 }
 
 /// The fault of the first row that has not as many numbers as n dimensions need.
@@ -62,17 +82,28 @@ pub fn wrong_generator(n: usize, generators: &[Generator]) -> Option<Fault>
     None
 }
 
+/// The fault of a coordinate that is none of n dimensions, which are numbered from 1.
+pub fn wrong_coordinate(n: usize, coordinate: usize) -> Option<Fault>
+    ensures { option_map fault_of result ≡ script.wrong_coordinate n coordinate }
+{
+    if 1 <= coordinate && coordinate <= n {
+        None
+    } else {
+        Some(Fault::BadLine)
+    }
+}
+
 /// The constraints, each of n + 1 numbers.
-fn constraints_of_rows(alloc: Global, n: usize, rows: Vec<Constraint>) -> Result<ConSys, AllocError>
+fn constraints_of_rows(alloc: Global, n: usize, rows: &[Constraint]) -> Result<ConSys, AllocError>
     requires few { n ≤ greatest_dims }
-    requires widths { script.wrong_row n (map constraint_of rows.items) ≡ None }
+    requires widths { script.wrong_row n (map constraint_of rows.now) ≡ None }
     ensures dims { IfOk result (λ s. s.dims ≡ n) }
-    ensures made { IfOk result (λ s. constraints_of s ≡ map constraint_of rows.items) }
+    ensures made { IfOk result (λ s. constraints_of s ≡ map constraint_of rows.now) }
 {
     let mut system = ConSys::new(alloc, n);
     for constraint in rows {
-        let Constraint { row, kind } = constraint;
-        system.push(row, kind)?;
+        let row = constraint.row.copy()?;
+        system.push(row, constraint.kind)?;
     }
     Ok(system)
 }
@@ -88,12 +119,13 @@ fn behind_zero(alloc: Global, numbers: &Row) -> Result<Row, AllocError>
 }
 
 /// The row of a generator, column 0 first.
-fn row_of(alloc: Global, kind: GenKind, numbers: Row) -> Result<Row, AllocError>
-    ensures { IfOk result (λ row. as_given kind numbers ≡ record { row = row; equal = is_line kind }) }
+fn row_of(alloc: Global, generator: &Generator) -> Result<Row, AllocError>
+    ensures { IfOk result (λ row.
+        given_of (generator_of generator.now) ≡ record { row = row; equal = is_line generator.now.kind }) }
 {
-    match kind {
-        GenKind::Point => Ok(numbers),
-        GenKind::Ray | GenKind::Line => behind_zero(alloc, &numbers),
+    match generator.kind {
+        GenKind::Point => generator.numbers.copy(),
+        GenKind::Ray | GenKind::Line => behind_zero(alloc, &generator.numbers),
     }
 }
 
@@ -101,58 +133,113 @@ fn row_of(alloc: Global, kind: GenKind, numbers: Row) -> Result<Row, AllocError>
 fn generators_of_written(
     alloc: Global,
     n: usize,
-    generators: Vec<Generator>,
+    generators: &[Generator],
 ) -> Result<GenSys, AllocError>
     requires few { n ≤ greatest_dims }
-    requires widths { script.wrong_generator n (map generator_of generators.items) ≡ None }
-    requires divided { All (λ g. IsDivided g.kind g.numbers) generators.items }
+    requires widths { script.wrong_generator n (map generator_of generators.now) ≡ None }
+    requires divided { All (λ g. IsDivided g.kind g.numbers) generators.now }
     ensures dims { IfOk result (λ s. s.dims ≡ n) }
-    ensures made { IfOk result (λ s. generators_of s ≡ map given_of (map generator_of generators.items)) }
+    ensures made { IfOk result (λ s. generators_of s ≡ map (λ g. given_of (generator_of g)) generators.now) }
     ensures fit { IfOk result (λ s. FitKinds s.rows s.kinds) }
 {
     let mut system = GenSys::new(alloc, n);
     for generator in generators {
-        let Generator { kind, numbers } = generator;
-        let row = row_of(alloc, kind, numbers)?;
-        system.push(row, kind)?;
+        let row = row_of(alloc, generator)?;
+        system.push(row, generator.kind)?;
     }
     Ok(system)
 }
 
+/// The form with these numbers, its constant first.
+pub fn form_of(alloc: Global, numbers: &[i64]) -> Result<LinExpr, AllocError>
+    requires { 0 < length numbers.now }
+    ensures row { IfOk result (λ form. form_row form ≡ numbers.now) }
+    ensures width { IfOk result (λ form. suc (length form.coefficients) ≡ length numbers.now) }
+{
+    LinExpr::new(alloc, numbers[0], &numbers[1..])
+}
+
+/// What an operation made that had this outcome.
+fn made_with(polyhedron: Poly, outcome: Outcome) -> Made
+    ensures polyhedron { result.polyhedron ≡ polyhedron }
+    ensures flagged { result.is_flagged ≡ is_flagged outcome }
+    ensures canonical { IsPolyhedron polyhedron }
+{
+    let _canonical = polyhedron.rows();
+    Made {
+        is_flagged: !outcome.is_exact(),
+        polyhedron,
+    }
+}
+
 /// The polyhedron of the points at which the constraints hold.
-pub fn make_of_rows(alloc: Global, n: usize, rows: Vec<Constraint>) -> Result<Made, AllocError>
+pub fn make_of_rows(alloc: Global, n: usize, rows: &[Constraint]) -> Result<Made, AllocError>
     requires few { n ≤ greatest_dims }
-    requires widths { script.wrong_row n (map constraint_of rows.items) ≡ None }
+    requires widths { script.wrong_row n (map constraint_of rows.now) ≡ None }
     ensures dims { IfOk result (λ m. m.polyhedron.dims ≡ n) }
-    ensures made { IfOk result (λ m. script.IsMadeOfRows n (map constraint_of rows.items) m.is_flagged m.polyhedron) }
+    ensures made { IfOk result (λ m. sets.IsMadeOfRows n (map constraint_of rows.now) m.is_flagged m.polyhedron) }
 {
     let constraints = constraints_of_rows(alloc, n, rows)?;
-    let (polyhedron, losses) = from_rows(alloc, &constraints)?;
-    let is_flagged = !losses.is_empty();
-    Ok(Made {
-        polyhedron,
-        is_flagged,
-    })
+    let (polyhedron, outcome) = Poly::from_rows(alloc, &constraints)?;
+    Ok(made_with(polyhedron, outcome))
 }
 
 /// The polyhedron of the points that the generators generate.
 pub fn make_of_generators(
     alloc: Global,
     n: usize,
-    generators: Vec<Generator>,
+    generators: &[Generator],
 ) -> Result<Made, AllocError>
     requires few { n ≤ greatest_dims }
-    requires widths { script.wrong_generator n (map generator_of generators.items) ≡ None }
-    requires divided { All (λ g. IsDivided g.kind g.numbers) generators.items }
+    requires widths { script.wrong_generator n (map generator_of generators.now) ≡ None }
+    requires divided { All (λ g. IsDivided g.kind g.numbers) generators.now }
     ensures dims { IfOk result (λ m. m.polyhedron.dims ≡ n) }
     ensures made { IfOk result (λ m.
-        script.IsMadeOfGenerators n (map given_of (map generator_of generators.items)) m.is_flagged m.polyhedron) }
+        sets.IsMadeOfGenerators n (map given_of (map generator_of generators.now)) m.is_flagged m.polyhedron) }
 {
     let generators = generators_of_written(alloc, n, generators)?;
-    let (polyhedron, losses) = from_generators(alloc, &generators)?;
-    let is_flagged = !losses.is_empty();
-    Ok(Made {
-        polyhedron,
-        is_flagged,
-    })
+    let (polyhedron, outcome) = Poly::from_generators(alloc, &generators)?;
+    Ok(made_with(polyhedron, outcome))
+}
+
+/// The first set becomes what is made of both.
+fn combine_into(how: Combination, set: &mut Poly, other: &Poly) -> Result<Outcome, AllocError>
+    requires { other.now.dims ≡ set.old.dims }
+    ensures dims { set.new.dims ≡ set.old.dims }
+    ensures exact { IfOk result (IfExact
+        (IsPolyhedronOf set.old.dims (sets.combined how set.old.dims set.old other.now) set.new)) }
+    ensures within { IfOk result (λ _.
+        IsWithin set.old.dims (sets.combined how set.old.dims set.old other.now) (points_of set.new.rows)) }
+    ensures strain { IfOk result (IfFlagged (sets.CombiningStrains how set.old other.now)) }
+{
+    match how {
+        Combination::Meet => set.meet(other),
+        Combination::Hull => set.hull(other),
+        Combination::Elapse => time_elapse(set, other),
+    }
+}
+
+/// What is made of two sets.
+pub fn combine(how: Combination, first: &Poly, second: &Poly) -> Result<Made, AllocError>
+    requires { second.now.dims ≡ first.now.dims }
+    ensures dims { IfOk result (λ m. m.polyhedron.dims ≡ first.now.dims) }
+    ensures made { IfOk result (λ m.
+        sets.IsCombined how first.now.dims first.now second.now m.is_flagged m.polyhedron) }
+{
+    let mut set = first.copy()?;
+    let outcome = combine_into(how, &mut set, second)?;
+    Ok(made_with(set, outcome))
+}
+
+/// The set with any value of the coordinate of this number, from 1.
+pub fn without_coordinate(from: &Poly, coordinate: usize) -> Result<Made, AllocError>
+    requires least { 1 ≤ coordinate }
+    requires most { coordinate ≤ from.now.dims }
+    ensures dims { IfOk result (λ m. m.polyhedron.dims ≡ from.now.dims) }
+    ensures made { IfOk result (λ m.
+        sets.IsForgotten from.now.dims coordinate from.now m.is_flagged m.polyhedron) }
+{
+    let mut set = from.copy()?;
+    let outcome = forget(&mut set, coordinate - 1)?;
+    Ok(made_with(set, outcome))
 }

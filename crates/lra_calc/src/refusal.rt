@@ -12,7 +12,7 @@ use std::alloc::{AllocError, AllocFailed, Global};
 use std::fmt::Write;
 
 /// Why a line is refused.
-#[derive(Debug, Drop)]
+#[derive(Debug)]
 pub enum Fault {
     /// It is no line of the format, or the first is no `dims`, or a later one is.
     BadLine,
@@ -24,14 +24,39 @@ pub enum Fault {
     WrongDimension { count: usize, needed: usize },
 }
 
+impl Drop for Fault {
+    fn drop(self) {
+        match self {
+            Fault::BadLine => {}
+            Fault::UnknownName(_) => {}
+            Fault::WrongDimension {
+                count: _,
+                needed: _,
+            } => {}
+        }
+    }
+}
+
 /// Why a script is refused.
-#[derive(Debug, Drop)]
+#[derive(Debug)]
 pub enum CalcRefusal {
     /// It has more than 65,536 bytes; the place of the first that is too many.
     TooLong(Place),
 
     /// The first line that is refused, from 1.
     Line { number: usize, fault: Fault },
+}
+
+impl Drop for CalcRefusal {
+    fn drop(self) {
+        match self {
+            CalcRefusal::TooLong(_) => {}
+            CalcRefusal::Line {
+                number: _,
+                fault: _,
+            } => {}
+        }
+    }
 }
 
 fn dimension_text(alloc: Global, count: usize, needed: usize) -> Result<String, AllocError>

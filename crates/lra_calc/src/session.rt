@@ -1,68 +1,32 @@
 //! What a script has made and printed so far.
 
-ghost use Rattle.std.specs.Prelude.{◌≡◌, ◌≤◌, ◌++◌, suc, map, length, codes, string_bytes, IfOk, OnOk};
+ghost use Rattle.std.specs.Prelude.{◌≡◌, ◌≤◌, ◌++◌, Some, map, string_bytes, IfOk, IfErr, OnOk};
 ghost use Rattle.std.specs.List.{All};
-ghost use Rattle.lra_sys.specs.Listed.{constraints as constraints_of};
-ghost use Rattle.lra_calc.specs.LineForms as form;
-ghost use Rattle.lra_calc.specs.LineForms.{greatest_dims};
+ghost use Rattle.lra_script.specs.LineForms as form;
+ghost use Rattle.lra_script.specs.LineForms.{greatest_dims};
+ghost use Rattle.lra_script.specs.Views.{constraint_of, generator_of, recipe_said, question_said, said};
+ghost use Rattle.lra_script.specs.Views.{IsLine, IsRecipe, IsQuestion, IsDivided, HasDivisor};
 ghost use Rattle.lra_calc.specs.Script as script;
-ghost use Rattle.lra_calc.specs.Views.{session_of, IsSession, Gives, constraint_of, generator_of, said, answered};
-ghost use Rattle.lra_calc.specs.Views.{IsLine, IsDivided, HasDivisor};
-ghost use Rattle.lra_findings.specs.ReportText.{text_line};
+ghost use Rattle.lra_calc.specs.Views.{session_of, made_of, answer_of, IsSession, IsUnknown, Gives};
 
-use crate::forms::{Constraint, Generator, Line};
-use crate::making::{Made, make_of_generators, make_of_rows, wrong_generator, wrong_row};
+use crate::answering::{Answer, hold, include, maximise, show};
+use crate::making::{
+    Made, combine, make_of_generators, make_of_rows, without_coordinate, wrong_coordinate,
+    wrong_generator, wrong_row, wrong_width,
+};
 use crate::refusal::{Fault, LineError};
-use crate::showing::push_polyhedron;
-use lra_pair::Pair;
-use lra_sys::{ConSys, Holds};
+use lra_poly::Poly;
+use lra_script::{Combination, Constraint, Generator, Line, Question, Recipe};
 use std::alloc::{AllocError, Global};
 use std::collections::BTreeMap;
-use std::fmt::Write;
 
 /// A script behind its `dims`: what each name stands for, what was printed, and the first line that was flagged.
 #[derive(Drop)]
 pub struct Session {
     pub dims: usize,
-    pub made: BTreeMap<String, Pair>,
+    pub made: BTreeMap<String, Poly>,
     pub printed: String,
     pub flagged: Option<usize>,
-}
-
-/// What is printed of an answer.
-fn answer_text(answer: Holds) -> &'static str
-    ensures { result.now ≡ script.answer_text (answered answer) }
-{
-    match answer {
-        Holds::Yes => "yes",
-        Holds::No(_) => "no",
-        Holds::Wide(_) => "wide",
-    }
-}
-
-/// Whether the point is in the set that the constraints describe, tried in order; the divisor stands first.
-fn membership(constraints: &ConSys, point: &[i128]) -> Holds
-    requires width { length point.now ≡ suc constraints.now.dims }
-    requires divisor { HasDivisor point.now }
-    ensures { script.membership (constraints_of constraints.now) point.now ≡ answered result }
-{
-    constraints.holds_at(&point[1..], point[0])
-}
-
-/// Prints an answer.
-fn push_answer(printed: &mut String, name: &str, answer: Holds) -> Result<(), AllocError>
-    ensures { OnOk result (string_bytes printed.new ≡ string_bytes printed.old
-        ++ text_line (codes "holds " ++ name.now ++ codes " " ++ script.answer_text (answered answer))) }
-{
-    let text = answer_text(answer);
-    writeln!(printed, "holds {name} {text}")
-}
-
-/// Whether an answer flags its line.
-fn is_wide(answer: Holds) -> bool
-    ensures { result ≡ script.is_wide (answered answer) }
-{
-    matches!(answer, Holds::Wide(_))
 }
 
 /// The first flagged line behind a line, which is flagged or not.
@@ -76,19 +40,14 @@ fn flagged_by(number: usize, is_flagged: bool, flagged: Option<usize>) -> Option
     }
 }
 
-/// Prints a polyhedron under its name.
-fn push_shown(
-    printed: &mut String,
-    alloc: Global,
-    name: &str,
-    pair: &Pair,
-) -> Result<(), AllocError>
-    requires { pair.now.dims ≤ greatest_dims }
-    ensures { OnOk result (string_bytes printed.new
-        ≡ string_bytes printed.old ++ script.show_text name.now pair.now) }
+/// Why a line is not carried out that names a set that wasn't made.
+fn unknown_name(alloc: Global, name: &str) -> LineError
+    ensures { IsUnknown name.now None result }
 {
-    writeln!(printed, "show {name}")?;
-    push_polyhedron(printed, alloc, pair)
+    match String::from_str(alloc, name) {
+        Ok(name) => LineError::Refused(Fault::UnknownName(name)),
+        Err(_) => LineError::Memory,
+    }
 }
 
 impl Session {
@@ -106,115 +65,240 @@ impl Session {
         }
     }
 
+    /// The set that the name stands for.
+    fn set(&self, alloc: Global, name: &str) -> Result<&Poly, LineError>
+        requires { IsSession self.now }
+        ensures found { IfOk result (λ p. (session_of self.now).made name.now ≡ Some p.now) }
+        ensures dims { IfOk result (λ p. p.now.dims ≡ self.now.dims) }
+        ensures unknown { IfErr result (IsUnknown name.now ((session_of self.now).made name.now)) }
+    {
+        match self.made.get(name) {
+            Some(set) => Ok(set),
+            None => Err(unknown_name(alloc, name)),
+        }
+    }
+
+    fn constrain(&self, alloc: Global, rows: &[Constraint]) -> Result<Made, LineError>
+        requires { IsSession self.now }
+        ensures gives { Gives made_of result
+            (script.MadeBy (session_of self.now) (form.Con (map constraint_of rows.now))) }
+        ensures dims { IfOk result (λ m. m.polyhedron.dims ≡ self.now.dims) }
+    {
+        if let Some(fault) = wrong_row(self.dims, rows) {
+            return Err(LineError::Refused(fault));
+        }
+        let made = make_of_rows(alloc, self.dims, rows)?;
+        Ok(made)
+    }
+
+    fn generate(&self, alloc: Global, generators: &[Generator]) -> Result<Made, LineError>
+        requires session { IsSession self.now }
+        requires divided { All (λ g. IsDivided g.kind g.numbers) generators.now }
+        ensures gives { Gives made_of result
+            (script.MadeBy (session_of self.now) (form.Gen (map generator_of generators.now))) }
+        ensures dims { IfOk result (λ m. m.polyhedron.dims ≡ self.now.dims) }
+    {
+        if let Some(fault) = wrong_generator(self.dims, generators) {
+            return Err(LineError::Refused(fault));
+        }
+        let made = make_of_generators(alloc, self.dims, generators)?;
+        Ok(made)
+    }
+
+    fn combine(
+        &self,
+        alloc: Global,
+        how: Combination,
+        first: &str,
+        second: &str,
+    ) -> Result<Made, LineError>
+        requires { IsSession self.now }
+        ensures gives { Gives made_of result
+            (script.MadeBy (session_of self.now) (form.Combine how first.now second.now)) }
+        ensures dims { IfOk result (λ m. m.polyhedron.dims ≡ self.now.dims) }
+    {
+        let first = self.set(alloc, first)?;
+        let second = self.set(alloc, second)?;
+        let made = combine(how, first, second)?;
+        Ok(made)
+    }
+
+    fn forget(&self, alloc: Global, from: &str, coordinate: usize) -> Result<Made, LineError>
+        requires { IsSession self.now }
+        ensures gives { Gives made_of result
+            (script.MadeBy (session_of self.now) (form.Forget from.now coordinate)) }
+        ensures dims { IfOk result (λ m. m.polyhedron.dims ≡ self.now.dims) }
+    {
+        if let Some(fault) = wrong_coordinate(self.dims, coordinate) {
+            return Err(LineError::Refused(fault));
+        }
+        let set = self.set(alloc, from)?;
+        let made = without_coordinate(set, coordinate)?;
+        Ok(made)
+    }
+
+    /// What a recipe makes.
+    fn make(&self, alloc: Global, recipe: &Recipe) -> Result<Made, LineError>
+        requires session { IsSession self.now }
+        requires recipe { IsRecipe recipe.now }
+        ensures gives { Gives made_of result (script.MadeBy (session_of self.now) (recipe_said recipe.now)) }
+        ensures dims { IfOk result (λ m. m.polyhedron.dims ≡ self.now.dims) }
+    {
+        match recipe {
+            Recipe::Con(rows) => self.constrain(alloc, rows),
+            Recipe::Gen(generators) => self.generate(alloc, generators),
+            Recipe::Combine(how, first, second) => self.combine(
+                alloc,
+                *how,
+                first.as_str(),
+                second.as_str(),
+            ),
+            Recipe::Forget(from, coordinate) => self.forget(alloc, from.as_str(), *coordinate),
+        }
+    }
+
+    fn show(&self, alloc: Global, name: &str) -> Result<Answer, LineError>
+        requires { IsSession self.now }
+        ensures { Gives answer_of result (script.AnswerTo (session_of self.now) (form.Show name.now)) }
+    {
+        let set = self.set(alloc, name)?;
+        let answer = show(alloc, name, set)?;
+        Ok(answer)
+    }
+
+    fn hold(&self, alloc: Global, name: &str, point: &[i128]) -> Result<Answer, LineError>
+        requires session { IsSession self.now }
+        requires divisor { HasDivisor point.now }
+        ensures { Gives answer_of result (script.AnswerTo (session_of self.now) (form.Holds name.now point.now)) }
+    {
+        let set = self.set(alloc, name)?;
+        if let Some(fault) = wrong_width(point.len(), self.dims + 1) {
+            return Err(LineError::Refused(fault));
+        }
+        let answer = hold(alloc, name, set, point)?;
+        Ok(answer)
+    }
+
+    fn include(&self, alloc: Global, first: &str, second: &str) -> Result<Answer, LineError>
+        requires { IsSession self.now }
+        ensures { Gives answer_of result (script.AnswerTo (session_of self.now) (form.Include first.now second.now)) }
+    {
+        let set = self.set(alloc, first)?;
+        let other = self.set(alloc, second)?;
+        let answer = include(alloc, first, second, set, other)?;
+        Ok(answer)
+    }
+
+    fn maximise(&self, alloc: Global, name: &str, numbers: &[i64]) -> Result<Answer, LineError>
+        requires { IsSession self.now }
+        ensures { Gives answer_of result (script.AnswerTo (session_of self.now) (form.Maximise name.now numbers.now)) }
+    {
+        let set = self.set(alloc, name)?;
+        if let Some(fault) = wrong_width(numbers.len(), self.dims + 1) {
+            return Err(LineError::Refused(fault));
+        }
+        let answer = maximise(alloc, name, set, numbers)?;
+        Ok(answer)
+    }
+
+    /// The answer to a question.
+    fn answer(&self, alloc: Global, question: &Question) -> Result<Answer, LineError>
+        requires session { IsSession self.now }
+        requires question { IsQuestion question.now }
+        ensures { Gives answer_of result (script.AnswerTo (session_of self.now) (question_said question.now)) }
+    {
+        match question {
+            Question::Show(name) => self.show(alloc, name.as_str()),
+            Question::Holds(name, point) => self.hold(alloc, name.as_str(), point),
+            Question::Include(first, second) => self.include(
+                alloc,
+                first.as_str(),
+                second.as_str(),
+            ),
+            Question::Maximise(name, numbers) => self.maximise(alloc, name.as_str(), numbers),
+        }
+    }
+
     /// The name stands from now on for what the line of a number made.
-    fn bind(&mut self, number: usize, name: String, made: Made) -> Result<(), AllocError>
+    fn bind(
+        &mut self,
+        alloc: Global,
+        number: usize,
+        name: &str,
+        made: Made,
+    ) -> Result<(), AllocError>
         requires session { IsSession self.old }
         requires dims { made.polyhedron.dims ≡ self.old.dims }
         ensures named { OnOk result (session_of self.new
-            ≡ script.made_as number (string_bytes name) made.is_flagged made.polyhedron (session_of self.old)) }
+            ≡ script.made_as number name.now (made_of made) (session_of self.old)) }
         ensures sound { OnOk result (IsSession self.new) }
     {
         let Made {
             polyhedron,
             is_flagged,
         } = made;
+        let name = String::from_str(alloc, name)?;
         self.made.insert(name, polyhedron)?;
         self.flagged = flagged_by(number, is_flagged, self.flagged);
         Ok(())
     }
 
-    fn constrain(
+    /// The answer of the line of a number follows what was printed.
+    fn print(&mut self, number: usize, answer: &Answer) -> Result<(), AllocError>
+        requires { IsSession self.old }
+        ensures printed { OnOk result (session_of self.new
+            ≡ script.printed_by number (answer_of answer.now) (session_of self.old)) }
+        ensures sound { OnOk result (IsSession self.new) }
+    {
+        self.printed.push_str(answer.text.as_str())?;
+        self.flagged = flagged_by(number, answer.is_wide, self.flagged);
+        Ok(())
+    }
+
+    /// Carries out a line that makes a set.
+    fn make_named(
         &mut self,
         alloc: Global,
         number: usize,
-        name: String,
-        rows: Vec<Constraint>,
-    ) -> Result<(), LineError>
-        requires { IsSession self.old }
-        ensures gives { Gives (λ _. session_of self.new) result
-            (script.AfterLine number (session_of self.old)
-            (form.Con (string_bytes name) (map constraint_of rows.items))) }
-        ensures sound { OnOk result (IsSession self.new) }
-    {
-        if let Some(fault) = wrong_row(self.dims, &rows) {
-            return Err(LineError::Refused(fault));
-        }
-        let made = make_of_rows(alloc, self.dims, rows)?;
-        self.bind(number, name, made)?;
-        Ok(())
-    }
-
-    fn generate(
-        &mut self,
-        alloc: Global,
-        number: usize,
-        name: String,
-        generators: Vec<Generator>,
+        name: &str,
+        recipe: &Recipe,
     ) -> Result<(), LineError>
         requires session { IsSession self.old }
-        requires divided { All (λ g. IsDivided g.kind g.numbers) generators.items }
+        requires recipe { IsRecipe recipe.now }
         ensures gives { Gives (λ _. session_of self.new) result
-            (script.AfterLine number (session_of self.old)
-            (form.Gen (string_bytes name) (map generator_of generators.items))) }
+            (script.AfterLine number (session_of self.old) (form.Make name.now (recipe_said recipe.now))) }
         ensures sound { OnOk result (IsSession self.new) }
     {
-        if let Some(fault) = wrong_generator(self.dims, &generators) {
-            return Err(LineError::Refused(fault));
-        }
-        let made = make_of_generators(alloc, self.dims, generators)?;
-        self.bind(number, name, made)?;
+        let made = self.make(alloc, recipe)?;
+        self.bind(alloc, number, name, made)?;
         Ok(())
     }
 
-    fn show(&mut self, alloc: Global, name: String) -> Result<(), LineError>
-        requires { IsSession self.old }
-        ensures gives { Gives (λ _. session_of self.new) result
-            (λ r. r ≡ script.shown_or (string_bytes name) (session_of self.old)
-            ((session_of self.old).made (string_bytes name))) }
-        ensures sound { OnOk result (IsSession self.new) }
-    {
-        let Some(pair) = self.made.get(name.as_str()) else {
-            return Err(LineError::Refused(Fault::UnknownName(name)));
-        };
-        push_shown(&mut self.printed, alloc, name.as_str(), pair)?;
-        Ok(())
-    }
-
-    fn holds(&mut self, number: usize, name: String, point: &[i128]) -> Result<(), LineError>
+    /// Carries out a line that asks.
+    fn ask(&mut self, alloc: Global, number: usize, question: &Question) -> Result<(), LineError>
         requires session { IsSession self.old }
-        requires divisor { HasDivisor point.now }
+        requires question { IsQuestion question.now }
         ensures gives { Gives (λ _. session_of self.new) result
-            (script.AfterLine number (session_of self.old) (form.Holds (string_bytes name) point.now)) }
+            (script.AfterLine number (session_of self.old) (form.Ask (question_said question.now))) }
         ensures sound { OnOk result (IsSession self.new) }
     {
-        let Some(pair) = self.made.get(name.as_str()) else {
-            return Err(LineError::Refused(Fault::UnknownName(name)));
-        };
-        let count = point.len();
-        let needed = self.dims + 1;
-        if count != needed {
-            return Err(LineError::Refused(Fault::WrongDimension { count, needed }));
-        }
-        let answer = membership(pair.rows(), point);
-        push_answer(&mut self.printed, name.as_str(), answer)?;
-        self.flagged = flagged_by(number, is_wide(answer), self.flagged);
+        let answer = self.answer(alloc, question)?;
+        self.print(number, &answer)?;
         Ok(())
     }
 
     /// Carries out a line behind `dims`.
-    pub fn carry_out(&mut self, alloc: Global, number: usize, line: Line) -> Result<(), LineError>
+    pub fn carry_out(&mut self, alloc: Global, number: usize, line: &Line) -> Result<(), LineError>
         requires session { IsSession self.old }
-        requires line { IsLine line }
+        requires line { IsLine line.now }
         ensures gives { Gives (λ _. session_of self.new) result
-            (script.AfterLine number (session_of self.old) (said line)) }
+            (script.AfterLine number (session_of self.old) (said line.now)) }
         ensures sound { OnOk result (IsSession self.new) }
     {
         match line {
             Line::Dims(_) => Err(LineError::Refused(Fault::BadLine)),
-            Line::Con(name, rows) => self.constrain(alloc, number, name, rows),
-            Line::Gen(name, generators) => self.generate(alloc, number, name, generators),
-            Line::Show(name) => self.show(alloc, name),
-            Line::Holds(name, point) => self.holds(number, name, &point),
+            Line::Make(name, recipe) => self.make_named(alloc, number, name.as_str(), recipe),
+            Line::Ask(question) => self.ask(alloc, number, question),
         }
     }
 }

@@ -1,12 +1,13 @@
-//! How a polyhedron is printed.
+//! How polyhedra, their generators and values are printed.
 
-ghost use Rattle.std.specs.Prelude.{◌≡◌, ◌≤◌, ◌++◌, IfOk, OnOk, string_bytes};
-ghost use Rattle.lra_calc.specs.LineForms.{greatest_dims};
+ghost use Rattle.std.specs.Prelude.{◌≡◌, ◌≤◌, ◌<◌, ◌<ℤ◌, ◌++◌, IfOk, OnOk, string_bytes, length, nat_abs, pos};
+ghost use Rattle.lra_findings.specs.ReportText.{fraction_text};
+ghost use Rattle.lra_script.specs.LineForms.{greatest_dims};
 ghost use Rattle.lra_calc.specs.ShownSets as shown;
 
-use lra_pair::Pair;
+use lra_poly::Poly;
 use lra_report::{push_generators, push_rows};
-use lra_show::Names;
+use lra_show::{Names, generator_text};
 use std::alloc::{AllocError, Global};
 use std::fmt::Write;
 
@@ -26,16 +27,57 @@ fn variables(alloc: Global, n: usize) -> Result<Names, AllocError>
 
 /// Appends the lines of the constraints and of the generators, in their orders; or one that says that there is no
 /// point.
-pub fn push_polyhedron(text: &mut String, alloc: Global, pair: &Pair) -> Result<(), AllocError>
-    requires { pair.now.dims ≤ greatest_dims }
-    ensures { OnOk result (string_bytes text.new ≡ string_bytes text.old ++ shown.polyhedron_text pair.now) }
+pub fn push_polyhedron(text: &mut String, alloc: Global, set: &Poly) -> Result<(), AllocError>
+    requires { set.now.dims ≤ greatest_dims }
+    ensures { OnOk result (string_bytes text.new ≡ string_bytes text.old ++ shown.polyhedron_text set.now) }
 {
-    let generators = pair.generators();
+    let generators = set.generators();
     if generators.rows().is_empty() {
         return writeln!(text, "  empty");
     }
-    let names = variables(alloc, pair.dims())?;
-    push_rows(text, alloc, pair.rows(), &names)?;
+    let names = variables(alloc, set.dims())?;
+    push_rows(text, alloc, set.rows(), &names)?;
     push_generators(text, alloc, generators.rows(), generators.kinds(), &names)?;
     Ok(())
+}
+
+/// The text of the generator at a place, from 0.
+pub fn generator_at(alloc: Global, set: &Poly, place: usize) -> Result<String, AllocError>
+    requires few { set.now.dims ≤ greatest_dims }
+    requires inside { place < length set.now.generators }
+    ensures { IfOk result (λ text. string_bytes text ≡ shown.generator_at set.now place) }
+{
+    let names = variables(alloc, set.dims())?;
+    let generators = set.generators();
+    let text = generator_text(
+        alloc,
+        &generators.rows()[place],
+        generators.kinds()[place],
+        &names,
+    )?;
+    Ok(text)
+}
+
+/// Appends a fraction, without the divisor where that is 1.
+#[tactic(auto, using(lra_show::proofs::LowestTerms::whole_text, lra_show::proofs::LowestTerms::divided_text))]
+fn push_fraction(text: &mut String, numerator: i128, divisor: i128) -> Result<(), AllocError>
+    requires { pos 0 <ℤ divisor }
+    ensures { OnOk result (string_bytes text.new ≡ string_bytes text.old ++
+        fraction_text numerator (nat_abs divisor)) }
+{
+    if divisor == 1 {
+        write!(text, "{numerator}")
+    } else {
+        write!(text, "{numerator}/{divisor}")
+    }
+}
+
+/// The text of a fraction in lowest terms.
+pub fn fraction(alloc: Global, numerator: i128, divisor: i128) -> Result<String, AllocError>
+    requires { pos 0 <ℤ divisor }
+    ensures { IfOk result (λ text. string_bytes text ≡ fraction_text numerator (nat_abs divisor)) }
+{
+    let mut text = String::new(alloc);
+    push_fraction(&mut text, numerator, divisor)?;
+    Ok(text)
 }

@@ -6,7 +6,7 @@ use std::fmt::Write;
 use std::test::Fail;
 
 /// Scripts, and what is written.
-static SCRIPTS: [(&str, &str); 10] = [
+static SCRIPTS: [(&str, &str); 22] = [
     ("", "flagged 0\n"),
     (
         "dims 2\ncon P >= 0 1 0 ; >= 4 -1 -1\nholds P 2 3 5\nholds P 1 3 2\n\
@@ -29,7 +29,48 @@ static SCRIPTS: [(&str, &str); 10] = [
         "dims 1\ncon P\ngen Q point 1 0\nshow Z",
         "refused line 4 UnknownName Z\n",
     ),
-    ("dims 1\nmeet P P P", "refused line 2 BadLine\n"),
+    ("dims 1\nmeet P P P", "refused line 2 UnknownName P\n"),
+    (
+        "dims 2\ngen P point 1 0 1\ngen Q point 1 0 0 ; line 1 0\nhull R P Q\nshow R\ninclude Q R\ninclude R Q\n\
+            maximise R 0 1 0\nmaximise R 0 0 1\n",
+        "show R\n  row x2 >= 0\n  row x2 <= 1\n  gen point x1=0 x2=0\n  gen point x1=0 x2=1\n  gen line x1=1 x2=0\n\
+            include Q R yes\ninclude R Q no point x1=0 x2=1\nmaximise R unbounded line x1=1 x2=0\n\
+            maximise R at 1 point x1=0 x2=1\nflagged 0\n",
+    ),
+    (
+        "dims 2\ngen P point 1 0 0\ngen Q point 1 1 2\nelapse E P Q\nshow E\nforget U E 2\nshow U\n",
+        "show E\n  row 2*x1 - x2 = 0\n  row x2 >= 0\n  gen point x1=0 x2=0\n  gen ray x1=1 x2=2\nshow U\n  row x1 >= 0\n\
+            \x20 gen point x1=0 x2=0\n  gen ray x1=1 x2=0\n  gen line x1=0 x2=1\nflagged 0\n",
+    ),
+    // a coordinate that is none comes before a name that isn't known, and that before a wrong width
+    ("dims 1\nforget Q P 2", "refused line 2 BadLine\n"),
+    ("dims 1\nforget Q P 0", "refused line 2 BadLine\n"),
+    ("dims 1\nforget Q P 1", "refused line 2 UnknownName P\n"),
+    (
+        "dims 1\ncon P\ninclude P Q",
+        "refused line 3 UnknownName Q\n",
+    ),
+    ("dims 1\nmaximise P 1", "refused line 2 UnknownName P\n"),
+    (
+        "dims 1\ncon P\nmaximise P 1",
+        "refused line 3 WrongDimension 1 2\n",
+    ),
+    (
+        "dims 1\ncon P\nmaximise P 0 9223372036854775808",
+        "refused line 3 BadLine\n",
+    ),
+    (
+        "dims 1\ncon P >= -1 0\nmaximise P 0 1\ncon Q\nmeet R P Q\ninclude R P\nelapse S Q P\nshow S\n",
+        "maximise P empty\ninclude R P yes\nshow S\n  empty\nflagged 0\n",
+    ),
+    (
+        "dims 1\ngen P point 1 170141183460469231731687303715884105727\ncon Q >= 1 2\nmaximise P 0 2\ninclude P Q\n",
+        "maximise P wide\ninclude P Q wide\nflagged at line 4\n",
+    ),
+    (
+        "dims 1\ngen P point 2 3 ; point 2 -1\nmaximise P 0 1\nmaximise P 1 -2\n",
+        "maximise P at 3/2 point x1=3/2\nmaximise P at 2 point x1=-1/2\nflagged 0\n",
+    ),
     (
         "dims 2\ngen P point 1 0 0 ; point 1 2 0 ; point 1 0 2 ; point 2 1 1\nshow P\ncon Q >= -1 0 0\nshow Q\n",
         "show P\n  row x1 >= 0\n  row x1 + x2 <= 2\n  row x2 >= 0\n  gen point x1=0 x2=0\n  gen point x1=0 x2=2\n  gen \

@@ -1,21 +1,17 @@
-use Rattle.std.proofs.Common.{arith, ◌≡◌, map, length}
-use Rattle.std.specs.Vec.{vec_len}
-use Rattle.std.proofs.lemmas.Grind.{common_steps}
+use Rattle.std.proofs.Common.{map}
 use Rattle.lra_linear.specs.Descriptions.{Con as points_of}
 use Rattle.lra_linear.specs.OperationStrain.{FromRowsStrains}
-use Rattle.lra_calc.specs.Views.{constraint_of}
-use Rattle.lra_calc.proofs.MakingLemmas.{made_of}
+use Rattle.lra_script.specs.Views.{constraint_of}
+use Rattle.lra_calc.proofs.MakingLemmas.{made_as_told}
 use Rattle.lra_calc.proofs.making.make_of_rows.Goals as goal
 
 pub returns-clause-made : goal.returns-clause-made
 returns-clause-made c =
     let n = c.args.n in
-    let given = map constraint_of c.args.rows.items in
-    let losses = c.in_ok-polyhedron.losses in
-    let count : vec_len losses ≡ length losses.items = grind (arith, common_steps) in
-    let told = rw (c.in_ok-constraints.ensures.dims, c.in_ok-constraints.ensures.made) at c.in_ok-polyhedron.ensures.exact in
+    let given = map constraint_of c.args.rows.now in
+    let exact = rw (c.in_ok-constraints.ensures.dims, c.in_ok-constraints.ensures.made) at c.in_ok-polyhedron.ensures.exact in
     let within = rw (c.in_ok-constraints.ensures.dims, c.in_ok-constraints.ensures.made) at c.in_ok-polyhedron.ensures.within in
     let strain = rw (c.in_ok-constraints.ensures.dims, c.in_ok-constraints.ensures.made) at c.in_ok-polyhedron.ensures.strain in
     let dims = rw c.in_ok-constraints.ensures.dims at c.in_ok-polyhedron.ensures.dims in
-    made_of n (points_of given) (FromRowsStrains n given) c.in_ok-polyhedron.polyhedron losses.items (vec_len losses) c.is_empty-is_flagged.result count c.is_empty-is_flagged.ensures
-    dims c.in_ok-polyhedron.ensures.canonical told within strain
+    made_as_told n (points_of given) (FromRowsStrains n given) c.in_ok-polyhedron.polyhedron c.made_with.result.polyhedron c.in_ok-polyhedron.outcome c.made_with.result.is_flagged
+    c.made_with.ensures.polyhedron c.made_with.ensures.flagged dims c.in_ok-polyhedron.ensures.canonical exact within strain

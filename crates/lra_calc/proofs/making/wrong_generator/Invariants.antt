@@ -1,6 +1,6 @@
 use Rattle.std.proofs.Common.{◌≡◌, drop, map}
 use Rattle.lra_calc.specs.Script as script
-use Rattle.lra_calc.specs.Views.{generator_of}
+use Rattle.lra_script.specs.Views.{generator_of}
 use Rattle.lra_calc.proofs.making.wrong_generator.Given as goal
 
 abbrev pub invariant-loop-generator : goal.invariant-loop-generator

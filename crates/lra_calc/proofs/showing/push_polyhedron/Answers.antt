@@ -4,7 +4,7 @@ use Rattle.lra_calc.proofs.showing.push_polyhedron.Goals as goal
 
 pub returns : goal.returns
 returns c =
-    let p = c.args.pair.now in
+    let p = c.args.set.now in
     let g = c.generators-generators.result.now in
     let some = some_rows c.is_empty.result c.rows.result.now g.rows c.is_empty.ensures c.if-is_empty.false c.rows.ensures.rows in
     written p c.rows-2.result.now g c.rows-3.result.now c.kinds.result.now c.in_ok-names.names c.dims.result

@@ -1,9 +1,0 @@
-use Rattle.std.proofs.Common.{◌≡◌, drop, map}
-use Rattle.lra_calc.specs.LineForms.{all_of, row_of}
-use Rattle.lra_calc.specs.Views.{texts, constraint_of}
-use Rattle.lra_calc.proofs.AllOf.{onto}
-use Rattle.lra_calc.proofs.forms.all_rows.Given as goal
-
-abbrev pub invariant-loop-part : goal.invariant-loop-part
-invariant-loop-part l =
-    onto (map constraint_of l.rows.items) (all_of row_of (map (λ p. texts p.now) (drop l.part-index l.parts))) ≡ all_of row_of (map (λ p. texts p.now) l.parts)

@@ -1,0 +1,14 @@
+use Rattle.lra_calc.specs.MadeSets.{combined, CombiningStrains}
+use Rattle.lra_calc.proofs.MakingLemmas.{made_as_told}
+use Rattle.lra_calc.proofs.making.combine.Goals as goal
+
+pub returns-clause-made : goal.returns-clause-made
+returns-clause-made c =
+    let p = c.args.first.now in
+    let q = c.args.second.now in
+    let exact = rw c.in_ok-set.ensures at c.in_ok-outcome.ensures.exact in
+    let within = rw c.in_ok-set.ensures at c.in_ok-outcome.ensures.within in
+    let strain = rw c.in_ok-set.ensures at c.in_ok-outcome.ensures.strain in
+    let dims = rw c.in_ok-set.ensures at c.in_ok-outcome.ensures.dims in
+    made_as_told p.dims (combined c.args.how p.dims p q) (CombiningStrains c.args.how p q) c.combine_into.new.set c.made_with.result.polyhedron c.in_ok-outcome.outcome c.made_with.result.is_flagged
+    c.made_with.ensures.polyhedron c.made_with.ensures.flagged dims c.made_with.ensures.canonical exact within strain

@@ -1,0 +1,51 @@
+-- The sets that lines make: without a flag by the canonical lists of exactly the points that the line tells. A flagged
+-- one may have further points, and there what was given strains.
+use Rattle.std.specs.Prelude.{◌≡◌, ℕ, Bool, true, false, List}
+use Rattle.lra_linear.specs.Points.{PointSet, IsWithin}
+use Rattle.lra_linear.specs.Descriptions.{Given, Con as points_of, Gen as generated_by}
+use Rattle.lra_linear.specs.Polyhedra.{Polyhedron, IsPolyhedron, IsPolyhedronOf}
+use Rattle.lra_linear.specs.SetOperations as sets
+use Rattle.lra_linear.specs.Strain.{Loss}
+use Rattle.lra_linear.specs.OperationStrain.{FromRowsStrains, FromGeneratorsStrains, MeetStrains, HullStrains}
+use Rattle.lra_linear.specs.OperationStrain.{TimeElapseStrains, ForgetStrains}
+use Rattle.lra_script.specs.declared.recipes.Combination.{Combination}
+use Rattle.lra_script.specs.declared.recipes.Combination.TheVariants.{Meet, Hull, Elapse}
+
+-- the canonical lists of a set that has all points of P; what was given strains
+pub record IsFlaggedOf (n : ℕ) (P : PointSet) (Strains : Loss → Type 0) (p : Polyhedron) : Type 0 where
+  pub dimensions : p.dims ≡ n
+  pub canonical : IsPolyhedron p
+  pub within : IsWithin n P (points_of p.rows)
+  pub loss : Loss
+  pub strains : Strains loss
+
+-- made of what has these points, flagged or not: without a flag the canonical lists of exactly these points
+abbrev pub IsMadeOf : ℕ → PointSet → (Loss → Type 0) → Bool → Polyhedron → Type 0
+IsMadeOf n P Strains false p = IsPolyhedronOf n P p
+IsMadeOf n P Strains true p = IsFlaggedOf n P Strains p
+
+-- con, gen
+abbrev pub IsMadeOfRows : ℕ → List Given → Bool → Polyhedron → Type 0
+IsMadeOfRows n rows = IsMadeOf n (points_of rows) (FromRowsStrains n rows)
+
+abbrev pub IsMadeOfGenerators : ℕ → List Given → Bool → Polyhedron → Type 0
+IsMadeOfGenerators n generators = IsMadeOf n (generated_by generators) (FromGeneratorsStrains n generators)
+
+-- meet, hull, elapse: the points of both; the least closed polyhedron with all points of both; all that is reached
+-- from the first along the second
+abbrev pub combined : Combination → ℕ → Polyhedron → Polyhedron → PointSet
+combined Meet n p q = sets.Meet (points_of p.rows) (points_of q.rows)
+combined Hull n p q = sets.Hull n (sets.Union (points_of p.rows) (points_of q.rows))
+combined Elapse n p q = sets.TimeElapse n (points_of p.rows) (points_of q.rows)
+
+abbrev pub CombiningStrains : Combination → Polyhedron → Polyhedron → Loss → Type 0
+CombiningStrains Meet p q = MeetStrains p q
+CombiningStrains Hull p q = HullStrains p q
+CombiningStrains Elapse p q = TimeElapseStrains p q
+
+abbrev pub IsCombined : Combination → ℕ → Polyhedron → Polyhedron → Bool → Polyhedron → Type 0
+IsCombined how n p q = IsMadeOf n (combined how n p q) (CombiningStrains how p q)
+
+-- forget: the points that some value of coordinate k brings into the set
+abbrev pub IsForgotten : ℕ → ℕ → Polyhedron → Bool → Polyhedron → Type 0
+IsForgotten n k p = IsMadeOf n (sets.Forget n k (points_of p.rows)) (ForgetStrains k p)

@@ -1,0 +1,14 @@
+use Rattle.std.proofs.Common.{◌≡◌, drop}
+use Rattle.std.specs.List.{All}
+use Rattle.lra_linear.specs.Range.{InRange}
+use Rattle.lra_script.specs.ScriptText.{number_of}
+use Rattle.lra_script.specs.LineForms.{all_of}
+use Rattle.lra_script.specs.Views.{texts}
+use Rattle.lra_script.proofs.AllOf.{onto}
+use Rattle.lra_script.proofs.numbers.numbers_of.Given as goal
+
+abbrev pub invariant-loop-word : goal.invariant-loop-word
+invariant-loop-word l = record {
+  so_far : onto l.numbers.items (all_of number_of (texts (drop l.word-index l.words))) ≡ all_of number_of (texts l.words);
+  in_range : All InRange l.numbers.items;
+}

@@ -1,0 +1,11 @@
+use Rattle.std.proofs.Common.{rules, bytes_eq}
+use Rattle.std.specs.Prelude.{codes}
+use borrow.Author.Tests.{tests}
+use Rattle.std.proofs.lemmas.Iterator.Consumers.{map_from_collect}
+use Rattle.std.proofs.lemmas.Iterator.Splits.{YieldsList-from_slice_split}
+use Rattle.lra_script.proofs.Parts.{parts_result}
+use Rattle.lra_script.proofs.rows.parts.Goals as goal
+
+pub returns : goal.returns
+returns c = parts_result c.args.words.now c.collect.result (map_from_collect _ c.collect.ensures.ran
+    (YieldsList-from_slice_split _ (λ w. bytes_eq w.now (codes ";")) c.args.words.now c.split.ensures.rest c.split.ensures.done c.split.ensures.closure (λ x r q k. search (rules, tests))))

@@ -1,0 +1,209 @@
+-- What a line says, by its words. Whether names were made and how many numbers a row must have is not asked here.
+use Rattle.std.specs.Prelude.{ℕ, zero, suc, ◌^◌, ℤ, pos, negsuc, nat_le, nat_lt, Bool, true, false, List, [], ◌∷◌}
+use Rattle.std.specs.Prelude.{codes, bytes_eq}
+use Rattle.std.specs.Prelude.{if◌then◌else◌, Option, Some, None, option_map, option_and_then}
+use Rattle.std.specs.List.{slice_split}
+use Rattle.lra_linear.specs.Descriptions.{Given, generator, line}
+use Rattle.lra_sys.specs.declared.system.GenKind.{GenKind}
+use Rattle.lra_sys.specs.declared.system.GenKind.TheVariants as gen
+use Rattle.lra_script.specs.ScriptText.{is_name, number_of}
+use Rattle.lra_script.specs.declared.recipes.Combination.{Combination}
+use Rattle.lra_script.specs.declared.recipes.Combination.TheVariants.{Meet, Hull, Elapse}
+
+-- a generator as it is written: a point's divisor stands before its numerators
+pub record Generator : Type 0 where
+  pub kind : GenKind
+  pub numbers : List ℤ
+
+-- how a set is made
+pub data Recipe : Type 0 where
+  -- con R ROW ; ROW ..: of what meets these constraints
+  Con : List Given → Recipe
+  -- gen R G ; G ..: of what these points, rays and lines generate
+  Gen : List Generator → Recipe
+  -- meet R P Q, hull R P Q, elapse R P Q: of P and Q
+  Combine : Combination → List ℕ → List ℕ → Recipe
+  -- forget R P K: of P, with any value of coordinate K
+  Forget : List ℕ → ℕ → Recipe
+
+-- what is asked of sets
+pub data Question : Type 0 where
+  -- show P: the constraints and the generators of P
+  Show : List ℕ → Question
+  -- holds P d n1 .. nN: whether the point n1/d, .., nN/d is in P; d comes first
+  Holds : List ℕ → List ℤ → Question
+  -- include P Q: whether each point of P is in Q
+  Include : List ℕ → List ℕ → Question
+  -- maximise P c0 c1 .. cN: the greatest value of the form c0 + c1*x1 + .. + cN*xN on P
+  Maximise : List ℕ → List ℤ → Question
+
+pub data Line : Type 0 where
+  -- dims N: how many dimensions all that follows has
+  Dims : ℕ → Line
+  -- the name is to stand for the set that the recipe makes
+  Make : List ℕ → Recipe → Line
+  -- the answer is to be printed
+  Ask : Question → Line
+
+abbrev pub with_first : {A : Type 0} → Option A → Option (List A) → Option (List A)
+with_first None rest = None
+with_first (Some x) rest = option_map (λ xs. x ∷ xs) rest
+
+-- all of these, where each is one
+abbrev pub all_of : {A B : Type 0} → (A → Option B) → List A → Option (List B)
+all_of one [] = Some []
+all_of one (x ∷ xs) = with_first (one x) (all_of one xs)
+
+-- the most dimensions
+abbrev pub greatest_dims : ℕ
+greatest_dims = 24
+
+-- a number of dimensions, or of a coordinate
+abbrev pub small_count : ℤ → Option ℕ
+small_count (pos n) = if nat_le n greatest_dims then Some n else None
+small_count (negsuc n) = None
+
+abbrev pub small_number : List ℕ → Option ℕ
+small_number word = option_and_then small_count (number_of word)
+
+-- one such number, and nothing else
+abbrev pub lone_number : List (List ℕ) → Option ℕ
+lone_number [] = None
+lone_number (word ∷ []) = small_number word
+lone_number (word ∷ more ∷ rest) = None
+
+-- whether an equality is meant, or an inequality
+abbrev pub equality_of : List ℕ → Option Bool
+equality_of relation = if bytes_eq relation (codes ">=") then Some false
+    else (if bytes_eq relation (codes "=") then Some true else None)
+
+-- a row: `>=` or `=`, then numbers
+abbrev pub row_of : List (List ℕ) → Option Given
+row_of [] = None
+row_of (relation ∷ numbers) =
+    option_and_then (λ equal. option_map (λ row. record { row = row; equal = equal }) (all_of number_of numbers))
+    (equality_of relation)
+
+-- no part, or parts with a `;` between each two
+abbrev pub parts_of : {A : Type 0} → (List (List ℕ) → Option A) → List (List ℕ) → Option (List A)
+parts_of part_of [] = Some []
+parts_of part_of (word ∷ words) = all_of part_of (slice_split (λ w. bytes_eq w (codes ";")) (word ∷ words))
+
+-- what is said behind a name
+abbrev pub with_name : {A : Type 0} → List ℕ → Option A → Option A
+with_name name said = if is_name name then said else None
+
+-- a divisor is at least 1
+abbrev pub with_divisor : List ℤ → Option (List ℤ)
+with_divisor [] = Some []
+with_divisor (pos zero ∷ numbers) = None
+with_divisor (pos (suc d) ∷ numbers) = Some (pos (suc d) ∷ numbers)
+with_divisor (negsuc d ∷ numbers) = None
+
+abbrev pub kind_of : List ℕ → Option GenKind
+kind_of word =
+    if bytes_eq word (codes "point") then Some gen.Point
+    else (if bytes_eq word (codes "ray") then Some gen.Ray
+    else (if bytes_eq word (codes "line") then Some gen.Line else None))
+
+-- only a point has a divisor
+abbrev pub divided : GenKind → List ℤ → Option (List ℤ)
+divided gen.Point numbers = with_divisor numbers
+divided gen.Ray numbers = Some numbers
+divided gen.Line numbers = Some numbers
+
+-- a generator: `point`, `ray` or `line`, then numbers
+abbrev pub generator_of : List (List ℕ) → Option Generator
+generator_of [] = None
+generator_of (word ∷ words) =
+    option_and_then (λ kind.
+    option_map (λ numbers. record { kind = kind; numbers = numbers })
+    (option_and_then (divided kind) (all_of number_of words))) (kind_of word)
+
+-- as a row of n + 1 columns: column 0 of a ray and of a line is 0, and isn't written
+abbrev pub as_given : GenKind → List ℤ → Given
+as_given gen.Point numbers = generator numbers
+as_given gen.Ray numbers = generator (pos 0 ∷ numbers)
+as_given gen.Line numbers = line (pos 0 ∷ numbers)
+
+abbrev pub given_of : Generator → Given
+given_of g = as_given g.kind g.numbers
+
+-- recipes ----------------------------------------------------------------------------------------------------------
+
+-- of two sets
+abbrev pub combine_recipe : Combination → List (List ℕ) → Option Recipe
+combine_recipe how [] = None
+combine_recipe how (first ∷ []) = None
+combine_recipe how (first ∷ second ∷ []) = with_name first (with_name second (Some (Combine how first second)))
+combine_recipe how (first ∷ second ∷ more ∷ rest) = None
+
+-- that K is one from 1 to N is asked where N is known
+abbrev pub forget_recipe : List (List ℕ) → Option Recipe
+forget_recipe [] = None
+forget_recipe (from ∷ rest) = with_name from (option_map (Forget from) (lone_number rest))
+
+-- what stands behind the name
+abbrev pub recipe_of : List ℕ → List (List ℕ) → Option Recipe
+recipe_of word rest =
+    if bytes_eq word (codes "con") then option_map Con (parts_of row_of rest)
+    else (if bytes_eq word (codes "gen") then option_map Gen (parts_of generator_of rest)
+    else (if bytes_eq word (codes "meet") then combine_recipe Meet rest
+    else (if bytes_eq word (codes "hull") then combine_recipe Hull rest
+    else (if bytes_eq word (codes "elapse") then combine_recipe Elapse rest
+    else (if bytes_eq word (codes "forget") then forget_recipe rest else None)))))
+
+abbrev pub make_line : List ℕ → List (List ℕ) → Option Line
+make_line word [] = None
+make_line word (name ∷ rest) = with_name name (option_map (Make name) (recipe_of word rest))
+
+-- questions --------------------------------------------------------------------------------------------------------
+
+abbrev pub show_question : List (List ℕ) → Option Question
+show_question [] = None
+show_question (name ∷ []) = with_name name (Some (Show name))
+show_question (name ∷ more ∷ rest) = None
+
+abbrev pub holds_question : List (List ℕ) → Option Question
+holds_question [] = None
+holds_question (name ∷ numbers) =
+    with_name name (option_map (Holds name) (option_and_then with_divisor (all_of number_of numbers)))
+
+abbrev pub include_question : List (List ℕ) → Option Question
+include_question [] = None
+include_question (first ∷ []) = None
+include_question (first ∷ second ∷ []) = with_name first (with_name second (Some (Include first second)))
+include_question (first ∷ second ∷ more ∷ rest) = None
+
+-- a number of a form has 64 bits
+abbrev pub with_64_bits : ℤ → Option ℤ
+with_64_bits (pos n) = if nat_lt n (2 ^ 63) then Some (pos n) else None
+with_64_bits (negsuc n) = if nat_lt n (2 ^ 63) then Some (negsuc n) else None
+
+abbrev pub coefficient_of : List ℕ → Option ℤ
+coefficient_of word = option_and_then with_64_bits (number_of word)
+
+abbrev pub maximise_question : List (List ℕ) → Option Question
+maximise_question [] = None
+maximise_question (name ∷ form) = with_name name (option_map (Maximise name) (all_of coefficient_of form))
+
+abbrev pub question_of : List ℕ → List (List ℕ) → Option Question
+question_of word rest =
+    if bytes_eq word (codes "show") then show_question rest
+    else (if bytes_eq word (codes "holds") then holds_question rest
+    else (if bytes_eq word (codes "include") then include_question rest
+    else (if bytes_eq word (codes "maximise") then maximise_question rest else None)))
+
+-- lines ------------------------------------------------------------------------------------------------------------
+
+-- the first of two that is one
+abbrev pub or_else : {A : Type 0} → Option A → Option A → Option A
+or_else (Some x) later = Some x
+or_else None later = later
+
+-- what the words say, or none where they are no line
+abbrev pub line_of : List (List ℕ) → Option Line
+line_of [] = None
+line_of (word ∷ rest) =
+    if bytes_eq word (codes "dims") then option_map Dims (lone_number rest)
+    else or_else (make_line word rest) (option_map Ask (question_of word rest))

@@ -1,0 +1,15 @@
+//! Lines of scripts: bytes are cut into lines, and the words of a line are read as what it says.
+#![tactic(auto)]
+
+mod lines;
+mod numbers;
+mod pieces;
+mod questions;
+mod recipes;
+mod rows;
+
+pub use lines::{Line, read_line};
+pub use pieces::{is_skipped, raw_lines, without_return, words};
+pub use questions::Question;
+pub use recipes::{Combination, Recipe};
+pub use rows::{Constraint, Generator};
