@@ -1,25 +1,13 @@
 //! The worked set of a half line.
 
-ghost use Rattle.std.specs.Prelude.{◌≡◌, length, IfOk};
+ghost use Rattle.std.specs.Prelude.{◌≡◌, IfOk};
 
-use crate::shapes::shows;
+use crate::shapes::{row_of, shows};
 use lra_maps::{embed, forget, remove_last, time_elapse};
 use lra_poly::Poly;
-use lra_row::Row;
 use lra_sys::{ConKind, ConSys};
 use std::alloc::Global;
 use std::test::Fail;
-
-fn row_of(alloc: Global, numbers: &[i128; 3]) -> Result<Row, Fail>
-    ensures { IfOk result (λ row. length row ≡ 3) }
-{
-    let [constant, first, second] = *numbers;
-    if constant == i128::MIN || first == i128::MIN || second == i128::MIN {
-        return Err("a number passes the range".into());
-    }
-    let row = Row::from_slice(alloc, &[constant, first, second])?;
-    Ok(row)
-}
 
 // The point of two equalities.
 fn point_of(alloc: Global, first: &[i128; 3], second: &[i128; 3]) -> Result<Poly, Fail>

@@ -2,24 +2,14 @@
 
 ghost use Rattle.std.specs.Prelude.{◌≡◌, IfOk};
 
-use crate::shapes::shows;
+use crate::shapes::{row_of, shows};
 use lra_lin::{LinExpr, Test};
 use lra_poly::{Inclusion, Poly};
-use lra_row::Row;
 use lra_sys::{ConKind, ConSys};
 use std::alloc::Global;
 use std::test::Fail;
 
 const MAX: i128 = i128::MAX;
-
-fn row_of(alloc: Global, numbers: &[i128; 3]) -> Result<Row, Fail> {
-    let [constant, first, second] = *numbers;
-    if constant == i128::MIN || first == i128::MIN || second == i128::MIN {
-        return Err("a number passes the range".into());
-    }
-    let row = Row::from_slice(alloc, &[constant, first, second])?;
-    Ok(row)
-}
 
 fn push_all(
     alloc: Global,

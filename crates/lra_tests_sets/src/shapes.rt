@@ -1,6 +1,6 @@
 //! Sets in two dimensions, made of small tables and compared with them.
 
-ghost use Rattle.std.specs.Prelude.{◌≡◌, IfOk};
+ghost use Rattle.std.specs.Prelude.{◌≡◌, length, IfOk};
 
 use lra_poly::Poly;
 use lra_row::Row;
@@ -11,17 +11,23 @@ use std::test::Fail;
 /// A constraint's three numbers, the constant first.
 pub type Constraint = ([i128; 3], ConKind);
 
+pub fn row_of(alloc: Global, numbers: &[i128; 3]) -> Result<Row, Fail>
+    ensures { IfOk result (λ row. length row ≡ 3) }
+{
+    let [constant, first, second] = *numbers;
+    if constant == i128::MIN || first == i128::MIN || second == i128::MIN {
+        return Err("a number passes the range".into());
+    }
+    let row = Row::from_slice(alloc, &[constant, first, second])?;
+    Ok(row)
+}
+
 pub fn list_of(alloc: Global, constraints: &[Constraint]) -> Result<ConSys, Fail>
     ensures { IfOk result (λ list. list.dims ≡ 2) }
 {
     let mut list = ConSys::new(alloc, 2);
     for &(numbers, kind) in constraints.iter() {
-        let [constant, first, second] = numbers;
-        if constant == i128::MIN || first == i128::MIN || second == i128::MIN {
-            return Err("a number passes the range".into());
-        }
-        let row = Row::from_slice(alloc, &[constant, first, second])?;
-        list.push(row, kind)?;
+        list.push(row_of(alloc, &numbers)?, kind)?;
     }
     Ok(list)
 }
