@@ -35,8 +35,8 @@ fn has(p: &Poly, want: &[[bool; 3]]) -> bool {
 /// x2 >= 0 once more, and x2 >= -5, change nothing.
 #[test]
 fn tests_without_effect(rt: HostRuntime) -> Result<(), Fail> {
-    let mut strip = set_of(rt.alloc(), STRIP)?;
     for constant in [0, 5] {
+        let mut strip = set_of(rt.alloc(), STRIP)?;
         let expr = LinExpr::new(rt.alloc(), constant, &[0, 1])?;
         let kind = ConKind::Ge;
         let outcome = strip.add_test(&Test { expr, kind })?;
