@@ -1,0 +1,13 @@
+-- What an inclusion answers.
+use Rattle.std.proofs.Common.{◌≡◌, subst}
+use Rattle.lra_domain.specs.declared.Included.{Included}
+use Rattle.lra_linear.specs.Descriptions.{Con}
+use Rattle.lra_linear.specs.Points.{IsWithin}
+use Rattle.lra_linear.specs.Polyhedra.{Polyhedron}
+use Rattle.lra_polydom.specs.Content.{Answers, Covered}
+
+pub outside : (p q : Polyhedron) → ¬ (IsWithin p.dims (Con p.rows) (Con q.rows)) → ¬ (Covered p q)
+outside p q h c = h c.within
+
+pub said : (p q : Polyhedron) (i j : Included) → i ≡ j → Answers p q i → Answers p q j
+said p q i j e a = subst (Answers p q) e a

@@ -1,0 +1,10 @@
+mod ListLemmas
+mod OutcomeLemmas
+mod ChangeLemmas
+mod PartLemmas
+mod UniverseLemmas
+mod StrikeLemmas
+pub mod InsideLemmas
+mod GrowthLemmas
+mod SameLemmas
+pub mod HeadExamples

@@ -1,0 +1,11 @@
+use Rattle.std.proofs.Common.{ap, length, sym, ◌∙◌}
+use Rattle.std.specs.List.{list_any}
+use Rattle.lra_sys.specs.Listed.{is_line}
+use Rattle.lra_polydom.specs.Growth.{product_passes}
+use Rattle.lra_polydom.proofs.ListLemmas.{any_given}
+use Rattle.lra_polydom.proofs.lists.row_passes.Goals as goal
+
+pub returns : goal.returns
+returns c =
+    c.passes_with_some.ensures ∙ ap (list_any (product_passes c.args.row.now)) c.rows.ensures.rows ∙
+    any_given is_line (product_passes c.args.row.now) c.args.list.now.rows c.args.list.now.kinds (ap length (sym c.kinds-kinds.ensures.kinds) ∙ c.kinds-kinds.ensures.len)

@@ -1,0 +1,7 @@
+use Rattle.lra_sys.specs.Listed.{generators}
+use Rattle.lra_polydom.specs.Growth.{row_passes}
+use Rattle.lra_polydom.proofs.ListLemmas.{none_among}
+use Rattle.lra_polydom.proofs.lists.some_row_passes.Goals as goal
+
+pub returns : goal.returns
+returns c = none_among (row_passes (generators c.args.list.now)) c.args.rows.now c.loop-row.row-index c.loop-row-test.false c.loop-row.invariant

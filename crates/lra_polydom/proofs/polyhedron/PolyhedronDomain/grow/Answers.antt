@@ -1,0 +1,10 @@
+use Rattle.lra_domain.specs.declared.Exactness.{Exactness}
+use Rattle.lra_domain.specs.Meaning.{Grew}
+use Rattle.lra_polydom.specs.Meaning.{polyhedron_meaning}
+use Rattle.lra_polydom.proofs.GrowthLemmas.{flagged_alone}
+use Rattle.lra_polydom.proofs.polyhedron.PolyhedronDomain.grow.Goals as goal
+
+pub returns-in_ok-all-in-Wide-clause-grew : goal.returns-in_ok-all-in-Wide-clause-grew
+returns-in_ok-all-in-Wide-clause-grew c = λ a e.
+    rw (← c.next.view_is)
+    (flagged_alone a (λ (x : Exactness). Grew polyhedron_meaning c.args.head.now c.next.inside.poly c.args.mode x c.in_ok-all-in-Wide.all) e (c.in_ok-all-in-Wide.ensures.grew c.args.mode))

@@ -1,0 +1,71 @@
+-- How a head grows: by the join with next, or by the widening with that join. A growth by widening strikes given rows.
+use Rattle.std.specs.Prelude.{◌≡◌, List, [], ◌⊎◌}
+use Rattle.lra_domain.specs.declared.Mode.{Mode}
+use Rattle.lra_domain.specs.declared.Mode.TheVariants as how
+use Rattle.lra_domain.specs.declared.Rank.{Rank}
+use Rattle.lra_linear.specs.Descriptions.{Con, Given}
+use Rattle.lra_linear.specs.OperationStrain.{HullStrains, LimitedStrains, StandardStrains, valid_on}
+use Rattle.lra_linear.specs.Points.{PointSet}
+use Rattle.lra_linear.specs.Polyhedra.{IsPolyhedronOf, Polyhedron}
+use Rattle.lra_linear.specs.Strain.{Loss}
+use Rattle.lra_linear.specs.Widening.{Limited, Standard}
+use Rattle.lra_widen.specs.Rank.{kept, rank_of}
+use Rattle.lra_polydom.specs.Content.{HeadContent}
+use Rattle.lra_polydom.specs.Sets.{IsJoin}
+
+-- the points of P, grown by the join Q of P and next
+abbrev pub grown_set : Mode → Polyhedron → Polyhedron → List Given → PointSet
+grown_set how.Join p q given = Con q.rows
+grown_set how.Widen p q given = Standard p q
+grown_set how.Limited p q given = Limited p q given
+
+-- the given rows that are left where P became R. A join strikes none. The standard widening strikes each that fails on
+-- the result, or a product of which with a generator of P or of R passes the range. So does the limited one, but a row
+-- struck for its products alone is no part of its definition: that flags
+abbrev pub given_left : Mode → Polyhedron → Polyhedron → List Given → List Given
+given_left how.Join p r given = given
+given_left how.Widen p r given = kept p r given
+given_left how.Limited p r given = valid_on p r given
+
+-- the head that h becomes by next
+pub record IsGrown (h : HeadContent) (next : Polyhedron) (mode : Mode) (new : HeadContent) : Type 0 where
+  pub join : Polyhedron
+  pub is_join : IsJoin h.value next join
+  pub made : IsPolyhedronOf h.value.dims (grown_set mode h.value join h.given) new.value
+  pub left : new.given ≡ given_left mode h.value new.value h.given
+
+-- the head that h becomes where it isn't decided whether next lies in it: all points, and the given rows that are left
+pub record IsGivenUp (h new : HeadContent) : Type 0 where
+  pub all : IsPolyhedronOf h.value.dims (Con []) new.value
+  pub left : new.given ≡ kept h.value new.value h.given
+
+-- the given rows that are left where h became new, flagged or not: a struck row isn't given to that head again
+abbrev pub IsLeft : HeadContent → Mode → HeadContent → Type 0
+IsLeft h how.Join new = (new.given ≡ h.given) ⊎ IsGivenUp h new
+IsLeft h how.Widen new = new.given ≡ kept h.value new.value h.given
+IsLeft h how.Limited new = new.given ≡ kept h.value new.value h.given
+
+-- the widening of P by Q strains; a join of P with Q is Q
+abbrev pub WideningStrains : Mode → Polyhedron → Polyhedron → List Given → Loss → Type 0
+WideningStrains how.Join p q given loss = ⊥
+WideningStrains how.Widen p q given loss = StandardStrains p q loss
+WideningStrains how.Limited p q given loss = LimitedStrains p q given loss
+
+-- the join strains, or the widening with the join that is defined
+pub record WidenedStrains (h : HeadContent) (next : Polyhedron) (mode : Mode) : Type 0 where
+  pub join : Polyhedron
+  pub is_join : IsJoin h.value next join
+  pub loss : Loss
+  pub strains : WideningStrains mode h.value join h.given loss
+
+abbrev pub GrowthStrains : HeadContent → Polyhedron → Mode → Type 0
+GrowthStrains h next mode = ((loss : Loss) × HullStrains h.value next loss) ⊎ WidenedStrains h next mode
+
+-- 1, then the rank of the polyhedron over the given rows
+abbrev pub head_rank : HeadContent → Rank
+head_rank h = let r = rank_of h.value h.given in record {
+  first = 1;
+  second = r.equalities;
+  third = r.held;
+  fourth = r.free;
+}

@@ -1,0 +1,8 @@
+-- Closed polyhedra as an abstract domain.
+pub mod Content
+pub mod Sets
+pub mod Heads
+pub mod Meaning
+pub mod Growth
+pub mod Covering
+pub mod Laws

@@ -1,0 +1,43 @@
+-- The meaning of closed polyhedra. All is said of sets of rational points; a store of whole numbers is one of them.
+use Rattle.std.specs.Prelude.{◌≡◌, ◌≤◌, []}
+use Rattle.lra_domain.specs.Meaning.{Meaning}
+use Rattle.lra_linear.specs.declared.Excess as E
+use Rattle.lra_linear.specs.Descriptions.{Con}
+use Rattle.lra_linear.specs.OperationStrain.{HullStrains, InclusionStrains}
+use Rattle.lra_linear.specs.Points.{IsEmptySet}
+use Rattle.lra_linear.specs.Polyhedra.{IsPolyhedron, IsPolyhedronOf, Polyhedron}
+use Rattle.lra_linear.specs.Strain.{Loss}
+use Rattle.lra_sys.specs.Listed.{constraints}
+use Rattle.lra_polydom.specs.Content.{Answers, Covered, HeadContent, PolyhedronHas, polyhedron_parts}
+use Rattle.lra_polydom.specs.Heads.{GrowthStrains, IsGivenUp, IsGrown, head_rank}
+use Rattle.lra_polydom.specs.Sets.{ChangeStrains, IsChanged, IsJoin}
+
+abbrev pub polyhedron_meaning : Meaning Polyhedron HeadContent
+polyhedron_meaning = record {
+  has = PolyhedronHas;
+  dims = λ p. p.dims;
+  parts = polyhedron_parts;
+  capped = λ p c. 1 ≤ c;
+  covered = Covered;
+  universal = λ n cap p. IsPolyhedronOf n (Con []) p;
+  void = λ n cap p. (p.dims ≡ n) × IsEmptySet n (Con p.rows) × IsPolyhedron p;
+  done = IsChanged;
+  strains = λ step p. (loss : Loss) × ChangeStrains step p loss;
+  joined = IsJoin;
+  join_strains = λ p q. (loss : Loss) × HullStrains p q loss;
+  inside = Covered;
+  inside_strains = λ p q. (e : E.Excess) × InclusionStrains p q e;
+  head_has = λ h. PolyhedronHas h.value;
+  head_dims = λ h. h.value.dims;
+  head_capped = λ h c. 1 ≤ c;
+  rank = head_rank;
+  head_covered = λ a b. Covered a.value b.value;
+  started = λ p given h. h ≡ record { value = p; given = constraints given };
+  stays = λ h p mode. Covered p h.value;
+  answers = λ h p mode i. Answers p h.value i;
+  given_up = λ old mode new. IsGivenUp old new;
+  grown = IsGrown;
+  grow_strains = GrowthStrains;
+  valued = λ h p. p ≡ h.value;
+  value_strains = λ h. ⊥;
+}

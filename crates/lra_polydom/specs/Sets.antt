@@ -1,0 +1,37 @@
+-- The least changes and joins as operations on sets of points, and when they strain.
+use Rattle.std.specs.Prelude.{◌-◌, suc}
+use Rattle.lra_domain.specs.Actions.{Action, assign, forget, test, embed, remove_last, dims_after}
+use Rattle.lra_linear.specs.Descriptions.{Con, Holds}
+use Rattle.lra_linear.specs.OperationStrain.{AddTestStrains, EmbedStrains, ForgetStrains, ImageStrains}
+use Rattle.lra_linear.specs.OperationStrain.{RemoveLastStrains}
+use Rattle.lra_linear.specs.Points.{PointSet}
+use Rattle.lra_linear.specs.Polyhedra.{IsPolyhedronOf, Polyhedron}
+use Rattle.lra_linear.specs.SetOperations.{Embed, Forget, Hull, Image, Meet, RemoveLast, Union}
+use Rattle.lra_linear.specs.Strain.{Loss}
+use Rattle.lra_poly.specs.Rows.{form_row, test_row}
+
+-- the points to which the change leads; dimension x is column x + 1
+abbrev pub reached : Action → Polyhedron → PointSet
+reached (assign x e) p = Image p.dims (suc x) (form_row e) (Con p.rows)
+reached (forget x) p = Forget p.dims (suc x) (Con p.rows)
+reached (test kind e) p = Meet (Con p.rows) (Holds (test_row kind e))
+reached (embed k) p = Embed p.dims (Con p.rows)
+reached (remove_last k) p = RemoveLast (p.dims - k) k (Con p.rows)
+
+abbrev pub ChangeStrains : Action → Polyhedron → Loss → Type 0
+ChangeStrains (assign x e) p = ImageStrains (suc x) (form_row e) p
+ChangeStrains (forget x) p = ForgetStrains (suc x) p
+ChangeStrains (test kind e) p = AddTestStrains p (test_row kind e)
+ChangeStrains (embed k) p = EmbedStrains k p
+ChangeStrains (remove_last k) p = RemoveLastStrains k p
+
+-- R is the polyhedron of these points
+abbrev pub IsChanged : Action → Polyhedron → Polyhedron → Type 0
+IsChanged step p r = IsPolyhedronOf (dims_after step p.dims) (reached step p) r
+
+-- R is the hull of P and Q
+abbrev pub hull_of : Polyhedron → Polyhedron → PointSet
+hull_of p q = Hull p.dims (Union (Con p.rows) (Con q.rows))
+
+abbrev pub IsJoin : Polyhedron → Polyhedron → Polyhedron → Type 0
+IsJoin p q r = IsPolyhedronOf p.dims (hull_of p q) r

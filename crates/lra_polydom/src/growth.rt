@@ -1,0 +1,139 @@
+//! How a head's value grows, and which given rows are left.
+
+ghost use Rattle.std.specs.Prelude.{◌≡◌, ◌≢◌, [], IfOk};
+ghost use Rattle.lra_domain.specs.declared.Exactness.TheVariants.{Flagged};
+ghost use Rattle.lra_domain.specs.declared.Mode.TheVariants.{Join};
+ghost use Rattle.lra_linear.specs.Descriptions.{Con};
+ghost use Rattle.lra_linear.specs.Polyhedra.{IsPolyhedronOf};
+ghost use Rattle.lra_widen.specs.Rank.{kept};
+ghost use Rattle.lra_sys.specs.Listed.{constraints};
+ghost use Rattle.lra_polydom.specs.Growth.{HasGrown, IsStruck, head};
+
+use crate::lists::some_passes;
+use crate::widening::{joined, widened};
+use lra_domain::{Exactness, Mode};
+use lra_poly::Poly;
+use lra_sys::ConSys;
+use lra_widen::held_on_both;
+use std::alloc::{AllocError, Global};
+
+/// What a head holds after a growth: its value, the given rows that are left; and whether that is the defined growth.
+#[derive(Drop)]
+pub struct Growth {
+    pub value: Poly,
+    pub given: ConSys,
+    pub exactness: Exactness,
+}
+
+// No memory holds a row of so many columns.
+const TOO_MANY_DIMENSIONS: usize = 1 << 62;
+
+// All points, and the given rows that hold on them.
+pub fn given_up(alloc: Global, p: &Poly, given: &ConSys) -> Result<Growth, AllocError>
+    requires { given.now.dims ≡ p.now.dims }
+    ensures all { IfOk result (λ g. IsPolyhedronOf p.now.dims (Con []) g.value) }
+    ensures dims { IfOk result (λ g. g.given.dims ≡ p.now.dims) }
+    ensures left { IfOk result (λ g. constraints g.given ≡ kept p.now g.value (constraints given.now)) }
+    ensures flagged { IfOk result (λ g. g.exactness ≡ Flagged) }
+{
+    if p.dims() >= TOO_MANY_DIMENSIONS {
+        return Err(AllocError);
+    }
+    let all = Poly::universe(alloc, p.dims())?;
+    let left = held_on_both(alloc, p, &all, given)?;
+    Ok(Growth {
+        value: all,
+        given: left,
+        exactness: Exactness::Flagged,
+    })
+}
+
+// Flagged where the widening was, or, under the limited one, where a given row is struck for a product.
+fn struck(exactness: Exactness, mode: Mode, p: &Poly, r: &Poly, given: &ConSys) -> Exactness
+    requires given { given.now.dims ≡ p.now.dims }
+    requires result { r.now.dims ≡ p.now.dims }
+    ensures { IsStruck exactness mode p.now r.now (constraints given.now) result }
+{
+    if mode != Mode::Limited {
+        return exactness;
+    }
+    if some_passes(given, p.generators()) {
+        return Exactness::Flagged;
+    }
+    if some_passes(given, r.generators()) {
+        return Exactness::Flagged;
+    }
+    exactness
+}
+
+// The growth by a join.
+fn grown_by_join(p: &Poly, next: &Poly, given: &ConSys) -> Result<Growth, AllocError>
+    requires next { next.now.dims ≡ p.now.dims }
+    requires given { given.now.dims ≡ p.now.dims }
+    ensures grown { IfOk result (λ g.
+        HasGrown (head p.now (constraints given.now)) next.now Join (head g.value (constraints g.given)) g.exactness) }
+    ensures dims { IfOk result (λ g. g.given.dims ≡ p.now.dims) }
+{
+    let (_rows, _others) = (p.rows(), next.rows());
+    let (value, exactness) = joined(p, next)?;
+    let left = given.copy()?;
+    Ok(Growth {
+        value,
+        given: left,
+        exactness,
+    })
+}
+
+// The growth by a widening with the join; all points where the join is flagged.
+fn grown_by_widening(
+    alloc: Global,
+    p: &Poly,
+    next: &Poly,
+    given: &ConSys,
+    mode: Mode,
+) -> Result<Growth, AllocError>
+    requires next { next.now.dims ≡ p.now.dims }
+    requires given { given.now.dims ≡ p.now.dims }
+    requires widens { mode ≢ Join }
+    ensures grown { IfOk result (λ g.
+        HasGrown (head p.now (constraints given.now)) next.now mode (head g.value (constraints g.given)) g.exactness) }
+    ensures dims { IfOk result (λ g. g.given.dims ≡ p.now.dims) }
+{
+    let (_rows, _others, _given) = (p.rows(), next.rows(), given.rows());
+    let (join, exactness) = joined(p, next)?;
+    if exactness == Exactness::Flagged {
+        let all = given_up(alloc, p, given)?;
+        return Ok(all);
+    }
+    let (value, widening) = widened(alloc, p, &join, given, mode)?;
+    let left = held_on_both(alloc, p, &value, given)?;
+    let exactness = struck(widening, mode, p, &value, given);
+    Ok(Growth {
+        value,
+        given: left,
+        exactness,
+    })
+}
+
+/// The growth by what isn't known to lie in the head's value.
+pub fn grown(
+    alloc: Global,
+    p: &Poly,
+    next: &Poly,
+    given: &ConSys,
+    mode: Mode,
+) -> Result<Growth, AllocError>
+    requires next { next.now.dims ≡ p.now.dims }
+    requires given { given.now.dims ≡ p.now.dims }
+    ensures grown { IfOk result (λ g.
+        HasGrown (head p.now (constraints given.now)) next.now mode (head g.value (constraints g.given)) g.exactness) }
+    ensures dims { IfOk result (λ g. g.given.dims ≡ p.now.dims) }
+{
+    if mode == Mode::Join {
+        let growth = grown_by_join(p, next, given)?;
+        Ok(growth)
+    } else {
+        let growth = grown_by_widening(alloc, p, next, given, mode)?;
+        Ok(growth)
+    }
+}

@@ -1,0 +1,153 @@
+//! What is held at a loop's head.
+
+ghost use Rattle.std.specs.Prelude.{◌≡◌, ◌≢◌, IfOk};
+ghost use Rattle.lra_domain.specs.declared.Exactness.TheVariants.{Flagged};
+ghost use Rattle.lra_domain.specs.declared.Mode.TheVariants.{Join};
+ghost use Rattle.lra_domain.specs.Meaning.{Grew};
+ghost use Rattle.lra_domain.specs.Rank.{RankBelow, RankFits};
+ghost use Rattle.lra_linear.specs.declared.Excess as E;
+ghost use Rattle.lra_linear.specs.OperationStrain.{InclusionStrains};
+ghost use Rattle.lra_sys.specs.Listed.{constraints};
+ghost use Rattle.lra_polydom.specs.Content.{Covered};
+ghost use Rattle.lra_polydom.specs.Growth.{head};
+ghost use Rattle.lra_polydom.specs.Heads.{IsLeft, head_rank};
+ghost use Rattle.lra_polydom.specs.Meaning.{polyhedron_meaning};
+
+use crate::growth::{given_up, grown};
+use lra_domain::{Exactness, Mode, Rank};
+use lra_poly::Poly;
+use lra_sys::ConSys;
+use lra_widen::rank;
+use std::alloc::{AllocError, Global};
+use std::marker::Model;
+
+/// A head: the polyhedron that was reached, the given rows that no growth has struck, and its rank.
+pub struct PolyhedronHead {
+    value: Poly,
+    given: ConSys,
+    rank: Rank,
+}
+
+impl Drop for PolyhedronHead {
+    fn drop(self) {
+        let PolyhedronHead {
+            value: _,
+            given: _,
+            rank: _,
+        } = self;
+    }
+}
+
+impl Model for PolyhedronHead {
+    ghost use Rattle.std.specs.Prelude.{◌≡◌};
+    ghost use Rattle.lra_domain.specs.Rank.{RankFits};
+    ghost use Rattle.lra_sys.specs.Listed.{constraints};
+    ghost use Rattle.lra_polydom.specs.Content.{HeadContent};
+    ghost use Rattle.lra_polydom.specs.Heads.{head_rank};
+
+    ghost Value = { HeadContent };
+
+    ghost view = { λ h. record { value = h.value; given = constraints h.given } };
+
+    ghost invariant = { λ h. (h.given.dims ≡ h.value.dims)
+        × (h.rank ≡ head_rank (record { value = h.value; given = constraints h.given })) × RankFits h.rank };
+}
+
+// No memory holds so many rows.
+const TOO_MANY_ROWS: u64 = 1 << 62;
+
+// The rank over the given rows.
+fn rank_of(alloc: Global, value: &Poly, given: &ConSys) -> Result<Rank, AllocError>
+    requires { given.now.dims ≡ value.now.dims }
+    ensures rank { IfOk result (λ r. r ≡ head_rank (head value.now (constraints given.now))) }
+    ensures fits { IfOk result RankFits }
+{
+    let (equalities, held, free) = rank(alloc, value, given)?;
+    if equalities >= TOO_MANY_ROWS || held >= TOO_MANY_ROWS || free >= TOO_MANY_ROWS {
+        return Err(AllocError);
+    }
+    Ok(Rank {
+        first: 1,
+        second: equalities,
+        third: held,
+        fourth: free,
+    })
+}
+
+impl PolyhedronHead {
+    // The head with this value and these given rows.
+    pub(crate) fn new(
+        alloc: Global,
+        value: Poly,
+        given: ConSys,
+    ) -> Result<PolyhedronHead, AllocError>
+        requires { given.dims ≡ value.dims }
+        ensures content { IfOk result (λ h. h ≡ head value (constraints given)) }
+        ensures fits { IfOk result (λ h. RankFits (head_rank h)) }
+    {
+        let rank = rank_of(alloc, &value, &given)?;
+        Ok(PolyhedronHead { value, given, rank })
+    }
+
+    /// The polyhedron that was reached.
+    pub fn value(&self) -> &Poly
+        ensures value { result.now ≡ self.now.value }
+        ensures fits { RankFits (head_rank self.now) }
+    {
+        &self.value
+    }
+
+    /// The given rows that are left.
+    pub fn given(&self) -> &ConSys
+        ensures rows { constraints result.now ≡ self.now.given }
+        ensures dims { result.now.dims ≡ self.now.value.dims }
+    {
+        &self.given
+    }
+
+    /// Its rank.
+    pub fn rank(&self) -> Rank
+        ensures rank { result ≡ head_rank self.now }
+        ensures fits { RankFits result }
+    {
+        self.rank
+    }
+
+    // What it becomes by next, which isn't in its value.
+    pub(crate) fn grown(
+        &self,
+        alloc: Global,
+        next: &Poly,
+        mode: Mode,
+    ) -> Result<(PolyhedronHead, Exactness), AllocError>
+        requires dims { next.now.dims ≡ self.now.value.dims }
+        requires outside { ¬ (Covered next.now self.now.value) }
+        ensures grew { IfOk result (λ r. Grew polyhedron_meaning self.now next.now mode r.1 r.0) }
+        ensures left { IfOk result (λ r. IsLeft self.now mode r.0) }
+        ensures dims { IfOk result (λ r. r.0.value.dims ≡ self.now.value.dims) }
+        ensures lower { IfOk result (λ r. mode ≢ Join → RankBelow (head_rank r.0) (head_rank self.now)) }
+        ensures fits { IfOk result (λ r. RankFits (head_rank r.0)) }
+    {
+        let (_rows, _others) = (self.value.rows(), next.rows());
+        let growth = grown(alloc, &self.value, next, &self.given, mode)?;
+        let exactness = growth.exactness;
+        let new = PolyhedronHead::new(alloc, growth.value, growth.given)?;
+        Ok((new, exactness))
+    }
+
+    // What it becomes where it isn't decided whether next lies in its value: all points.
+    pub(crate) fn given_up(&self, alloc: Global, next: &Poly) -> Result<PolyhedronHead, AllocError>
+        requires dims { next.now.dims ≡ self.now.value.dims }
+        requires strains { (e : E.Excess) × InclusionStrains next.now self.now.value e }
+        ensures grew { IfOk result (λ h. (mode : Mode) → Grew polyhedron_meaning self.now next.now mode Flagged h) }
+        ensures left { IfOk result (λ h. (mode : Mode) → IsLeft self.now mode h) }
+        ensures dims { IfOk result (λ h. h.value.dims ≡ self.now.value.dims) }
+        ensures lower { IfOk result (λ h. RankBelow (head_rank h) (head_rank self.now)) }
+        ensures fits { IfOk result (λ h. RankFits (head_rank h)) }
+    {
+        let (_rows, _others, _given) = (self.value.rows(), next.rows(), self.given.rows());
+        let all = given_up(alloc, &self.value, &self.given)?;
+        let new = PolyhedronHead::new(alloc, all.value, all.given)?;
+        Ok(new)
+    }
+}

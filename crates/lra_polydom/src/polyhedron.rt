@@ -1,0 +1,206 @@
+//! Closed polyhedra as a domain.
+
+ghost use Rattle.std.specs.Prelude.{◌≡◌, ◌≢◌, IfOk, OnErr, OnOk};
+ghost use Rattle.lra_domain.specs.Meaning.{Grew};
+ghost use Rattle.lra_domain.specs.Parts.{CapsWithin};
+ghost use Rattle.lra_domain.specs.Rank.{RankBelow, RankFits};
+ghost use Rattle.lra_linear.specs.Polyhedra.{IsPolyhedron};
+ghost use Rattle.lra_sys.specs.Listed.{constraints, generators, FitKinds};
+ghost use Rattle.lra_polydom.specs.Heads.{IsLeft};
+ghost use Rattle.lra_polydom.specs.Meaning.{polyhedron_meaning};
+
+use crate::head::PolyhedronHead;
+use crate::lists::are_same;
+use crate::outcomes::{exactness_of, included};
+use lra_domain::{Domain, Exactness, Grown, Included, Mode, Plain, Rank};
+use lra_lin::{LinExpr, Test};
+use lra_maps::{embed, forget, image, remove_last};
+use lra_poly::Poly;
+use lra_sys::{ConSys, GenSys};
+use std::alloc::{AllocError, Global};
+use std::marker::Model;
+
+/// A closed polyhedron: its canonical constraints and its canonical generators, which have the same points. Its stores
+/// are the lists of whole numbers among them.
+pub struct Polyhedron {
+    poly: Poly,
+}
+
+impl Drop for Polyhedron {
+    fn drop(self) {
+        let Polyhedron { poly: _ } = self;
+    }
+}
+
+impl Model for Polyhedron {
+    ghost use Rattle.lra_linear.specs.Polyhedra.{Polyhedron as Content};
+
+    ghost Value = { Content };
+
+    ghost view = { λ p. p.poly };
+}
+
+impl Polyhedron {
+    /// The constraints, in canonical order.
+    pub fn rows(&self) -> &ConSys
+        ensures dims { result.now.dims ≡ self.now.dims }
+        ensures rows { constraints result.now ≡ self.now.rows }
+        ensures canonical { IsPolyhedron self.now }
+    {
+        self.poly.rows()
+    }
+
+    /// The points, rays and lines, in canonical order; none where there is no point.
+    pub fn generators(&self) -> &GenSys
+        ensures dims { result.now.dims ≡ self.now.dims }
+        ensures generators { generators result.now ≡ self.now.generators }
+        ensures kinds { FitKinds result.now.rows result.now.kinds }
+        ensures canonical { IsPolyhedron self.now }
+    {
+        self.poly.generators()
+    }
+}
+
+impl Domain for Polyhedron {
+    type Head = PolyhedronHead;
+
+    ghost meaning = { polyhedron_meaning };
+
+    ghost use Rattle.lra_polydom.specs.Laws.{polyhedron_laws};
+
+    ghost laws = { polyhedron_laws };
+
+    fn universe(alloc: Global, n: usize, _cap: u32) -> Result<Self, AllocError> {
+        let poly = Poly::universe(alloc, n)?;
+        Ok(Polyhedron { poly })
+    }
+
+    fn empty(alloc: Global, n: usize, _cap: u32) -> Result<Self, AllocError> {
+        let poly = Poly::empty(alloc, n)?;
+        Ok(Polyhedron { poly })
+    }
+
+    fn copy(&self, _alloc: Global) -> Result<Self, AllocError> {
+        let poly = self.poly.copy()?;
+        Ok(Polyhedron { poly })
+    }
+
+    fn dims(&self) -> usize {
+        self.poly.dims()
+    }
+
+    /// Yes exactly where there is no rational point.
+    fn is_empty(&self) -> bool {
+        let _canonical = self.poly.rows();
+        self.poly.is_empty()
+    }
+
+    fn included(&self, other: &Self) -> Included {
+        included(&self.poly, &other.poly)
+    }
+
+    fn same(&self, other: &Self) -> bool {
+        if self.poly.dims() != other.poly.dims() {
+            return false;
+        }
+        are_same(self.poly.rows(), other.poly.rows())
+    }
+
+    fn assign(&mut self, x: usize, e: &LinExpr) -> Result<Exactness, AllocError> {
+        let outcome = image(&mut self.poly, x, e)?;
+        Ok(exactness_of(&outcome))
+    }
+
+    fn forget(&mut self, x: usize) -> Result<Exactness, AllocError> {
+        let outcome = forget(&mut self.poly, x)?;
+        Ok(exactness_of(&outcome))
+    }
+
+    fn test(&mut self, t: &Test) -> Result<Exactness, AllocError> {
+        let outcome = self.poly.add_test(t)?;
+        Ok(exactness_of(&outcome))
+    }
+
+    /// The hull: the least closed polyhedron with the points of both.
+    fn join(&mut self, other: &Self) -> Result<Exactness, AllocError> {
+        let (_rows, _others) = (self.poly.rows(), other.poly.rows());
+        let outcome = self.poly.hull(&other.poly)?;
+        Ok(exactness_of(&outcome))
+    }
+
+    fn embed(&mut self, k: usize) -> Result<Exactness, AllocError> {
+        let outcome = embed(&mut self.poly, k)?;
+        Ok(exactness_of(&outcome))
+    }
+
+    fn remove_last(&mut self, k: usize) -> Result<Exactness, AllocError> {
+        let outcome = remove_last(&mut self.poly, k)?;
+        Ok(exactness_of(&outcome))
+    }
+
+    fn parts(&self, alloc: Global) -> Result<Vec<ConSys>, AllocError> {
+        let rows = self.poly.rows();
+        let _kinds = rows.kinds();
+        let mut parts = Vec::new(alloc);
+        if self.poly.is_empty() {
+            return Ok(parts);
+        }
+        parts.push(rows.copy()?)?;
+        Ok(parts)
+    }
+
+    fn start(alloc: Global, first: &Self, given: &ConSys) -> Result<PolyhedronHead, AllocError> {
+        let head = PolyhedronHead::new(alloc, first.poly.copy()?, given.copy()?)?;
+        Ok(head)
+    }
+
+    /// Grows by the join with next, or by the widening with that join; is given up where the inclusion is wide. A
+    /// widening leaves of the given rows those that hold on the old value and on the new one, with each product in the
+    /// range.
+    fn grow(head: &mut PolyhedronHead, next: &Self, mode: Mode) -> Result<Grown, AllocError>
+        requires { polyhedron_meaning.head_dims head.old ≡ polyhedron_meaning.dims next.now }
+        ensures dims { polyhedron_meaning.head_dims head.new ≡ polyhedron_meaning.head_dims head.old }
+        ensures capped { CapsWithin (λ c. polyhedron_meaning.head_capped head.old c ×
+            polyhedron_meaning.capped next.now c) (polyhedron_meaning.head_capped head.new) }
+        ensures stable { IfOk result (λ g. g ≡ Grown.Stable → head.new ≡ head.old) }
+        ensures stays { IfOk result (λ g. g ≡ Grown.Stable →
+            polyhedron_meaning.answers head.old next.now mode Included.Yes) }
+        ensures grew { IfOk result (λ g. (a : Exactness) → g ≡ Grown.Grew a →
+            Grew polyhedron_meaning head.old next.now mode a head.new) }
+        ensures lower { IfOk result (λ g. (a : Exactness) → g ≡ Grown.Grew a → mode ≢ Mode.Join →
+            RankBelow (polyhedron_meaning.rank head.new) (polyhedron_meaning.rank head.old)) }
+        ensures fits { OnOk result (RankFits (polyhedron_meaning.rank head.new)) }
+        ensures err { OnErr result (head.new ≡ head.old) }
+        ensures left { IfOk result (λ g. (a : Exactness) → g ≡ Grown.Grew a → IsLeft head.old mode head.new) }
+    {
+        let alloc = next.poly.allocator();
+        match included(&next.poly, head.value()) {
+            Included::Yes => Ok(Grown::Stable),
+            Included::No => {
+                let (new, exactness) = head.grown(alloc, &next.poly, mode)?;
+                *head = new;
+                Ok(Grown::Grew(exactness))
+            }
+            Included::Wide => {
+                let all = head.given_up(alloc, &next.poly)?;
+                *head = all;
+                Ok(Grown::Grew(Exactness::Flagged))
+            }
+        }
+    }
+
+    fn value(_alloc: Global, head: &PolyhedronHead) -> Result<(Self, Exactness), AllocError> {
+        let poly = head.value().copy()?;
+        Ok((Polyhedron { poly }, Exactness::Exact))
+    }
+
+    fn rank(head: &PolyhedronHead) -> Rank {
+        head.rank()
+    }
+}
+
+impl Plain for Polyhedron {
+    ghost use Rattle.lra_polydom.specs.Laws.{polyhedron_plain};
+
+    ghost plain = { polyhedron_plain };
+}
