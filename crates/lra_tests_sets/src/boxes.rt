@@ -9,7 +9,7 @@ use lra_sys::ConSys;
 use std::alloc::{AllocError, Global};
 
 /// Assigns the form of this constant and these factors, through the bound.
-fn set_by<D: Domain>(
+pub fn set_by<D: Domain>(
     alloc: Global,
     value: &mut D,
     x: usize,
@@ -26,7 +26,7 @@ fn set_by<D: Domain>(
 }
 
 /// Keeps where the form isn't negative, through the bound.
-fn keep_by<D: Domain>(
+pub fn keep_by<D: Domain>(
     alloc: Global,
     value: &mut D,
     constant: i64,
@@ -44,7 +44,7 @@ fn keep_by<D: Domain>(
 }
 
 /// x = 3 and 3 <= y <= 10, by an assignment and two tests through the bound.
-fn value_by<D: Domain>(alloc: Global) -> Result<D, AllocError>
+pub fn value_by<D: Domain>(alloc: Global) -> Result<D, AllocError>
     ensures { IfOk result (λ v. D.meaning.dims v ≡ 2) }
 {
     let mut value = D::universe(alloc, 2, 1)?;
@@ -55,7 +55,7 @@ fn value_by<D: Domain>(alloc: Global) -> Result<D, AllocError>
 }
 
 /// Copies, comparisons, a forgotten dimension and a join, through the bound: whether each is as it should be.
-fn compares_by<D: Domain>(alloc: Global, value: &mut D) -> Result<[bool; 5], AllocError>
+pub fn compares_by<D: Domain>(alloc: Global, value: &mut D) -> Result<[bool; 5], AllocError>
     requires { D.meaning.dims value.old ≡ 2 }
     ensures { D.meaning.dims value.new ≡ 2 }
 {
@@ -71,7 +71,7 @@ fn compares_by<D: Domain>(alloc: Global, value: &mut D) -> Result<[bool; 5], All
 }
 
 /// A dimension more and one less, through the bound; how many there were between.
-fn resizes_by<D: Domain>(value: &mut D) -> Result<usize, AllocError>
+pub fn resizes_by<D: Domain>(value: &mut D) -> Result<usize, AllocError>
     requires { D.meaning.dims value.old ≡ 2 }
 {
     value.embed(1)?;
@@ -98,7 +98,7 @@ fn grow_by<D: Domain>(
 }
 
 /// A head of 0, joined with 1, widened by 2, through the bound: its value, and its ranks.
-fn head_by<D: Domain>(alloc: Global) -> Result<(D, [u64; 3]), AllocError> {
+pub fn head_by<D: Domain>(alloc: Global) -> Result<(D, [u64; 3]), AllocError> {
     let mut value = D::universe(alloc, 1, 1)?;
     set_by(alloc, &mut value, 0, 0, &[0])?;
     let mut head = D::start(alloc, &value, &ConSys::new(alloc, 1))?;
@@ -110,7 +110,7 @@ fn head_by<D: Domain>(alloc: Global) -> Result<(D, [u64; 3]), AllocError> {
 }
 
 /// The rows of the parts, through the bound.
-fn parts_by<D: Domain>(alloc: Global, value: &D) -> Result<Vec<ConSys>, AllocError> {
+pub fn parts_by<D: Domain>(alloc: Global, value: &D) -> Result<Vec<ConSys>, AllocError> {
     let parts = value.parts(alloc)?;
     Ok(parts)
 }
@@ -125,7 +125,7 @@ fn is_row(row: &Row, numbers: &[i128; 3]) -> bool {
 }
 
 /// Whether the part has these rows, in this order.
-fn has_rows(part: &ConSys, want: &[([i128; 3], ConKind)]) -> bool {
+pub fn has_rows(part: &ConSys, want: &[([i128; 3], ConKind)]) -> bool {
     for ((row, kind), (numbers, right)) in part.rows().iter().zip(part.kinds()).zip(want.iter()) {
         if *kind != *right || !is_row(row, numbers) {
             return false;

@@ -17,6 +17,8 @@ mod oct;
 #[cfg(test)]
 mod poly;
 #[cfg(test)]
+mod polydom;
+#[cfg(test)]
 mod saturation;
 #[cfg(test)]
 mod shapes;
