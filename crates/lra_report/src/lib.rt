@@ -15,4 +15,4 @@ pub use part::Part;
 pub use path::{CallPlace, path_text};
 pub use refusal::refusal_text;
 pub use report::{Point, PointReport, Report, Verdict};
-pub use writing::{push_generators, push_rows, text};
+pub use writing::{push_counts, push_flag, push_generators, push_rows, text};

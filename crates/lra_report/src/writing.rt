@@ -245,7 +245,7 @@ fn push_options(text: &mut String, options: Options) -> Result<(), AllocError>
 }
 
 /// Appends the line of the flag.
-fn push_flag(text: &mut String, flagged: Option<u32>) -> Result<(), AllocError>
+pub fn push_flag(text: &mut String, flagged: Option<u32>) -> Result<(), AllocError>
     ensures { OnOk result (string_bytes text.new ≡ string_bytes text.old ++ written.flag_text flagged) }
 {
     match flagged {
@@ -254,8 +254,8 @@ fn push_flag(text: &mut String, flagged: Option<u32>) -> Result<(), AllocError>
     }
 }
 
-/// Appends the last line.
-fn push_counts(text: &mut String, report: &Report) -> Result<(), AllocError>
+/// Appends the last line, which counts the verdicts.
+pub fn push_counts(text: &mut String, report: &Report) -> Result<(), AllocError>
     ensures { OnOk result (string_bytes text.new ≡ string_bytes text.old ++
         counts_line (report_of report.now).verdicts) }
 {
