@@ -1,0 +1,5 @@
+pub mod Blocks
+pub mod Lengths
+pub mod Summaries
+mod SampleExamples
+mod SummaryExamples

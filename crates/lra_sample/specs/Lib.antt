@@ -1,0 +1,4 @@
+-- In the order in which they are to be read: what is drawn, the source made of it, what is told of its report.
+pub mod Draws
+pub mod Sample
+pub mod Summary

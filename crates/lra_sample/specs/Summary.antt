@@ -1,0 +1,20 @@
+-- What is told of the report of a sample source: five lines.
+use Rattle.std.specs.Prelude.{ℕ, List, length, ◌++◌, codes}
+use Rattle.std.specs.Fmt.{decimal}
+use Rattle.lra_findings.specs.Report.{Report}
+use Rattle.lra_findings.specs.ReportText.{text_line, flag_text}
+use Rattle.lra_report.specs.Lines.{counts_line}
+use Rattle.lra_sample.specs.Sample.{sample_source}
+
+-- the first three: of a seed, a size, the source's bytes, the report's points
+abbrev pub sizes_text : ℕ → ℕ → ℕ → ℕ → List ℕ
+sizes_text seed size bytes points =
+    text_line (codes "sample seed " ++ decimal seed ++ codes " size " ++ decimal size)
+    ++ text_line (codes "bytes " ++ decimal bytes)
+    ++ text_line (codes "points " ++ decimal points)
+
+abbrev pub summary_text : ℕ → ℕ → Report → List ℕ
+summary_text seed size report =
+    sizes_text seed size (length (sample_source seed size)) (length report.points)
+    ++ flag_text report.flagged
+    ++ counts_line report.verdicts
