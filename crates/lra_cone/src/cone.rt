@@ -80,6 +80,32 @@ impl Cone {
         })
     }
 
+    /// The cone of a description that is at hand: these rows taken in, their lines and rays, and which of them are tight
+    /// at which rays.
+    pub fn of_lists(taken: ConSys, lines: Vec<Row>, rays: Vec<Row>, saturation: SatMatrix) -> Cone
+        requires cone { IsCone (record {
+          dims = taken.dims;
+          taken = constraints taken;
+          lines = lines.items;
+          rays = rays.items;
+        }) }
+        requires saturation { saturation ≡ saturation_of (constraints taken) rays.items }
+        ensures { result ≡ record {
+          dims = taken.dims;
+          taken = constraints taken;
+          lines = lines.items;
+          rays = rays.items;
+        } }
+    {
+        let _kinds = taken.kinds();
+        Cone {
+            taken,
+            lines,
+            rays,
+            saturation,
+        }
+    }
+
     /// The number of dimensions: a row has one column more.
     pub fn dims(&self) -> usize
         ensures { result ≡ self.now.dims }

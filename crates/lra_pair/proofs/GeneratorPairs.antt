@@ -1,6 +1,7 @@
 -- What is known once generators have been taken in.
-use Rattle.std.proofs.Common.{◌≡◌, ◌≢◌, ℕ, suc, ◌<◌, List, [], ◌∷◌, ◌++◌, length, map, refl, ap, sym, ◌∙◌, subst, arith, ℤ}
+use Rattle.std.proofs.Common.{◌≡◌, ◌≢◌, ℕ, suc, ◌<◌, List, [], ◌∷◌, ◌++◌, length, map, refl, ap, sym, ◌∙◌, subst, arith, ℤ, inl, inr}
 use Rattle.std.specs.List.{Contains}
+use Rattle.std.proofs.lemmas.List.Elements.{Contains-append_cases}
 use Rattle.lra_linear.specs.declared.Cause.{Cause}
 use Rattle.lra_linear.specs.Descriptions.{Given, AreGenerators, Con, Gen, system_of}
 use Rattle.lra_linear.specs.OperationStrain.{FromGeneratorsStrains}
@@ -93,3 +94,15 @@ own_lost_strain n s cause losses after told loss d k none ea et l x =
     let one : loss ∷ [] ≡ told = sym (et ∙ ea ∙ ap (λ (y : List Loss). y ++ loss ∷ []) none) in
     from_generators_strain n s.taken told (subst (IfLost (Strains (suc n) s.taken)) one
     (subst (λ (m : ℕ). Strains (suc m) s.taken loss) d (own_strain s s.taken cause loss k refl l x)))
+
+-- ---- further generators
+-- where nothing was lost, all are taken in
+pub further_taken : (more : Listed GenKind) (rows : Listed ConKind) (start cone : Shape) (kept : List Given) (losses : List Loss) → rows.rows ≡ more.rows → rows.kinds ≡ map dual_kind more.kinds →
+    IsConversion start.taken (constraints rows) kept cone losses → losses ≡ [] → cone.taken ≡ start.taken ++ generators more
+further_taken more rows start cone kept losses er ek c none =
+    c.taken ∙ ap (λ (l : List Given). start.taken ++ l) (c.whole none ∙ ap (λ (y : List (List ℤ)). given_by is_equality y rows.kinds) er ∙ ap (given_by is_equality more.rows) ek ∙
+    dual_given more.rows more.kinds)
+
+pub further_columns : (more : Listed GenKind) (first taken : List Given) → FitKinds more.rows more.kinds → AreGenerators first → taken ≡ first ++ generators more → AreGenerators taken
+further_columns more first taken f columns e = subst AreGenerators (sym e)
+    (λ g k. elim (Contains-append_cases first (generators more) g k) [ inl a ↦ columns g a | inr b ↦ fitting_are_generators more f g b ])

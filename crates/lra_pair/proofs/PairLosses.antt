@@ -2,6 +2,7 @@
 use Rattle.std.proofs.Common.{◌≡◌, ℕ, zero, suc, ◌<◌, Bool, true, false, List, [], ◌∷◌, ◌++◌, length, get_or, drop, take, refl, ap, sym, ◌∙◌, subst, arith, ℤ, inl, inr}
 use Rattle.std.specs.List.{Contains}
 use Rattle.std.proofs.lemmas.List.{append-nil, get_or_default}
+use Rattle.std.proofs.lemmas.List.Elements.{Contains-append_cases, Contains-append_left, Contains-append_right}
 use Rattle.lra_linear.specs.declared.Cause.{Cause}
 use Rattle.lra_linear.specs.declared.Cause.TheVariants.{Excess, TooMany}
 use Rattle.lra_linear.specs.Canonical.{IsCanonicalOf}
@@ -22,7 +23,7 @@ use Rattle.lra_cone.specs.Cones.{Shape, IsCone}
 use Rattle.lra_cone.specs.Conversions.{IsConversion}
 use Rattle.lra_cone.specs.Losses.{IfLost}
 use Rattle.lra_cone.proofs.TightRows.{with_later}
-use Rattle.lra_pair.specs.OwnLists.{IsOwnLoss, IsOwnCause}
+use Rattle.lra_pair.specs.OwnLists.{IsOwnLoss, IsOwnCause, IsPositive}
 
 -- ---- a row of a list once more
 row_again : (list : List Given) (g : Given) → Contains list g → (t : List ℤ) → Contains (with_row g.equal g.row (system_of list)) t → Contains (system_of list) t
@@ -138,31 +139,54 @@ pub within_both : (n d : ℕ) (P Q R : PointSet) → d ≡ n → IsWithin n P Q 
 within_both n d P Q R e h k x point p = subst (λ (m : ℕ). IsWithin m Q R) e k x point (h x point p)
 
 -- ---- as the code tells it, of constraints
-taken_behind : (d : ℕ) (rows kept : List Given) (s start : Shape) (losses : List Loss) → start.taken ≡ inequality (positivity d) ∷ [] → IsConversion start.taken rows kept s losses →
-    drop 1 s.taken ≡ kept
-taken_behind d rows kept s start losses first c = ap (drop 1) (c.taken ∙ ap (λ (l : List Given). l ++ kept) first)
+taken_behind : (n : ℕ) (rows kept : List Given) (s start : Shape) (losses : List Loss) → IsPositive n start.taken →
+    IsConversion start.taken rows kept s losses → drop 1 s.taken ≡ drop 1 start.taken ++ kept
+taken_behind n rows kept s start losses first c =
+    ap (drop 1) (c.taken ∙ ap (λ (l : List Given). l ++ kept) first.1) ∙ ap (λ (l : List Given). drop 1 l ++ kept) (sym first.1)
 
-pub rows_exact : (n d : ℕ) (rows kept : List Given) (s start : Shape) (losses : List Loss) (p : Polyhedron) → d ≡ n → start.taken ≡ inequality (positivity d) ∷ [] →
-    IsConversion start.taken rows kept s losses → losses ≡ [] → IsPolyhedronOf d (Con (drop 1 s.taken)) p → IsPolyhedronOf n (Con rows) p
-rows_exact n d rows kept s start losses p e first c none h =
-    subst (λ (m : ℕ). IsPolyhedronOf m (Con rows) p) e (subst (λ (l : List Given). IsPolyhedronOf d (Con l) p) (taken_behind d rows kept s start losses first c ∙ c.whole none) h)
+pub rows_exact : (n d : ℕ) (rows kept : List Given) (s start : Shape) (losses after : List Loss) (p : Polyhedron) → d ≡ n → IsPositive n start.taken →
+    IsConversion start.taken rows kept s losses → (after ≡ [] → losses ≡ []) → (after ≡ [] → IsPolyhedronOf d (Con (drop 1 s.taken)) p) →
+    after ≡ [] → IsPolyhedronOf n (Con (drop 1 start.taken ++ rows)) p
+rows_exact n d rows kept s start losses after p e first c none h a =
+    let same : drop 1 s.taken ≡ drop 1 start.taken ++ rows = taken_behind n rows kept s start losses first c ∙
+    ap (λ (l : List Given). drop 1 start.taken ++ l) (c.whole (none a)) in
+    subst (λ (m : ℕ). IsPolyhedronOf m (Con (drop 1 start.taken ++ rows)) p) e (subst (λ (l : List Given). IsPolyhedronOf d (Con l) p) same (h a))
 
-pub rows_within : (n d : ℕ) (rows kept : List Given) (s start : Shape) (losses : List Loss) (p : Polyhedron) → d ≡ n → start.taken ≡ inequality (positivity d) ∷ [] →
-    IsConversion start.taken rows kept s losses → IsWithin d (Con (drop 1 s.taken)) (Con p.rows) → IsWithin n (Con rows) (Con p.rows)
+-- rows among others, behind the same
+still_among : (front kept rows : List Given) → ((g : Given) → Contains kept g → Contains rows g) → (g : Given) → Contains (front ++ kept) g →
+    Contains (front ++ rows) g
+still_among front kept rows among g m = elim (Contains-append_cases front kept g m) [
+  | inl f ↦ Contains-append_left front rows g f
+  | inr k ↦ Contains-append_right front rows g (among g k)
+]
+
+pub rows_within : (n d : ℕ) (rows kept : List Given) (s start : Shape) (losses : List Loss) (p : Polyhedron) → d ≡ n → IsPositive n start.taken →
+    IsConversion start.taken rows kept s losses → IsWithin d (Con (drop 1 s.taken)) (Con p.rows) → IsWithin n (Con (drop 1 start.taken ++ rows)) (Con p.rows)
 rows_within n d rows kept s start losses p e first c h =
-    subst (λ (m : ℕ). IsWithin m (Con rows) (Con p.rows)) e
-    (first_within d kept rows (Con p.rows) c.among (subst (λ (l : List Given). IsWithin d (Con l) (Con p.rows)) (taken_behind d rows kept s start losses first c) h))
+    let front = drop 1 start.taken in
+    subst (λ (m : ℕ). IsWithin m (Con (front ++ rows)) (Con p.rows)) e
+    (first_within d (front ++ kept) (front ++ rows) (Con p.rows) (still_among front kept rows c.among)
+    (subst (λ (l : List Given). IsWithin d (Con l) (Con p.rows)) (taken_behind n rows kept s start losses first c) h))
 
 pub universe_within : (n d : ℕ) (rows : List Given) (p : Polyhedron) → d ≡ n → IsPolyhedronOf d (Con []) p → IsWithin n (Con rows) (Con p.rows)
 universe_within n d rows p e h = subst (λ (m : ℕ). IsWithin m (Con rows) (Con p.rows)) e (λ x point con. h.points.0 x point (con_none x))
 
-pub rows_strain : (n d : ℕ) (rows kept : List Given) (s start : Shape) (losses after : List Loss) → d ≡ n → start.taken ≡ inequality (positivity d) ∷ [] →
+pub rows_strain : (n d : ℕ) (rows kept : List Given) (s start : Shape) (losses after : List Loss) → d ≡ n → IsPositive n start.taken →
     IsConversion start.taken rows kept s losses →
-    ((first all kept : List Given) → IsConversion first all kept s losses → IfLost (Strains (suc d) (first ++ all)) after) → IfLost (FromRowsStrains n rows) after
+    ((first all kept : List Given) → IsConversion first all kept s losses → IfLost (Strains (suc d) (first ++ all)) after) →
+    IfLost (FromRowsStrains n (drop 1 start.taken ++ rows)) after
 rows_strain n d rows kept s start losses after e first c h =
-    let all : start.taken ++ rows ≡ with_positivity n rows = ap (λ (g : List Given). g ++ rows) (first ∙ ap (λ (m : ℕ). inequality (positivity m) ∷ []) e) in
-    from_strain n rows after (subst (λ (g : List Given). IfLost (Strains (suc n) g) after) all
+    let all : start.taken ++ rows ≡ with_positivity n (drop 1 start.taken ++ rows) = ap (λ (g : List Given). g ++ rows) first.1 ∙
+    ap (λ (g : List Given). with_positivity n (drop 1 g ++ rows)) (sym first.1) in
+    from_strain n (drop 1 start.taken ++ rows) after (subst (λ (g : List Given). IfLost (Strains (suc n) g) after) all
     (subst (λ (m : ℕ). IfLost (Strains (suc m) (start.taken ++ rows)) after) e (h start.taken rows kept c)))
+
+-- behind the positivity row alone, the list itself
+pub none_behind : (n d : ℕ) (taken rows : List Given) → d ≡ n → taken ≡ inequality (positivity d) ∷ [] → drop 1 taken ++ rows ≡ rows
+none_behind n d taken rows e first = ap (λ (l : List Given). drop 1 l ++ rows) first
+
+pub positive_alone : (n d : ℕ) (taken : List Given) → d ≡ n → taken ≡ inequality (positivity d) ∷ [] → IsPositive n taken
+positive_alone n d taken e first = ([], first ∙ ap (λ (m : ℕ). inequality (positivity m) ∷ []) e)
 
 -- nothing more was lost
 pub same_strain : (d : ℕ) (s : Shape) (losses : List Loss) → s.dims ≡ d → (first all kept : List Given) → IsConversion first all kept s losses → IfLost (Strains (suc d) (first ++ all)) losses

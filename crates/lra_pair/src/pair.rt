@@ -1,6 +1,6 @@
 //! Both canonical lists of a polyhedron.
 
-ghost use Rattle.std.specs.Prelude.{◌≡◌, ◌∷◌, ◌++◌, ◌<◌, ◌^◌, [], List, suc, length, drop, IfOk};
+ghost use Rattle.std.specs.Prelude.{◌≡◌, ◌∷◌, ◌++◌, ◌<◌, ◌^◌, [], List, suc, length, drop, IfOk, IfSome};
 ghost use Rattle.std.specs.List.{Contains};
 ghost use Rattle.lra_linear.specs.Descriptions.{AreGenerators, Con, Gen, Given, inequality};
 ghost use Rattle.lra_linear.specs.OperationStrain.{FromRowsStrains, FromGeneratorsStrains};
@@ -196,6 +196,31 @@ fn of_taken_rows(
     }
 }
 
+/// The polyhedron of the constraints that were taken into a cone behind the positivity row, and of further ones that
+/// are taken in after them; and what was lost of these, as by `from_rows`.
+pub fn from_cone(alloc: Global, start: Cone, rows: &ConSys) -> Result<(Pair, Vec<Loss>), AllocError>
+    requires small { rows.now.dims < 2 ^ 62 }
+    requires dims { start.dims ≡ rows.now.dims }
+    requires positive { IsPositive rows.now.dims start.taken }
+    ensures dims { IfOk result (λ r. r.0.dims ≡ rows.now.dims) }
+    ensures canonical { IfOk result (λ r. IsPolyhedron r.0) }
+    ensures exact { IfOk result (λ r. r.1.items ≡ [] →
+        IsPolyhedronOf rows.now.dims (Con (drop 1 start.taken ++ constraints rows.now)) r.0) }
+    ensures within { IfOk result (λ r.
+        IsWithin rows.now.dims (Con (drop 1 start.taken ++ constraints rows.now)) (Con r.0.rows)) }
+    ensures strain { IfOk result (λ r.
+        IfLost (FromRowsStrains rows.now.dims (drop 1 start.taken ++ constraints rows.now)) r.1.items) }
+{
+    let n = rows.dims();
+    let conversion = take_rows(alloc, start, rows)?;
+    let Conversion {
+        cone,
+        kept: _,
+        losses,
+    } = conversion;
+    of_taken_rows(alloc, n, &cone, losses)
+}
+
 /// The polyhedron of the constraints, and what was lost: rows with which a number passes the range, or there are too
 /// many generators, are left out; where a number passes in the canonical constraints, or there are too many, all are.
 /// Without a loss it has the points of the constraints, else at least those.
@@ -210,13 +235,7 @@ pub fn from_rows(alloc: Global, rows: &ConSys) -> Result<(Pair, Vec<Loss>), Allo
     if n >= TOO_MANY_DIMENSIONS {
         return Err(AllocError);
     }
-    let conversion = take_rows(alloc, positive_cone(alloc, n)?, rows)?;
-    let Conversion {
-        cone,
-        kept: _,
-        losses,
-    } = conversion;
-    of_taken_rows(alloc, n, &cone, losses)
+    from_cone(alloc, positive_cone(alloc, n)?, rows)
 }
 
 // At most so many constraints are kept behind a loss: what is generated of them stays small.
@@ -316,6 +335,42 @@ fn from_points(alloc: Global, given: &GenSys) -> Result<(Pair, Vec<Loss>), Alloc
         of_taken_generators(alloc, n, &cone, &list)
     } else {
         widened(alloc, &list, losses)
+    }
+}
+
+/// The polyhedron of the generators that were taken into a cone, and of further ones that are taken in after them, some
+/// of all of them points. None where one of these isn't taken in, or where a number passes in the canonical generators,
+/// or there are too many.
+pub fn with_generators(
+    alloc: Global,
+    start: Cone,
+    more: &GenSys,
+) -> Result<Option<Pair>, AllocError>
+    requires small { more.now.dims < 2 ^ 62 }
+    requires dims { start.dims ≡ more.now.dims }
+    requires kinds { FitKinds more.now.rows more.now.kinds }
+    requires columns { AreGenerators start.taken }
+    requires some { ¬ (IsEmptySet more.now.dims (Gen (start.taken ++ generators more.now))) }
+    ensures { IfOk result (λ pair. IfSome pair
+        (IsPolyhedronOf more.now.dims (Gen (start.taken ++ generators more.now)))) }
+{
+    let n = more.dims();
+    let rows = dual_rows(alloc, more)?;
+    let conversion = take_rows(alloc, start, &rows)?;
+    let Conversion {
+        cone,
+        kept: _,
+        losses,
+    } = conversion;
+    if !losses.is_empty() {
+        return Ok(None);
+    }
+    match limited_list(alloc, &cone)? {
+        Ok(own) => {
+            let pair = of_generators(alloc, n, &cone, &own)?;
+            Ok(Some(pair))
+        }
+        Err(_) => Ok(None),
     }
 }
 

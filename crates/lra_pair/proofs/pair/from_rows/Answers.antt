@@ -1,18 +1,31 @@
+use Rattle.std.proofs.Common.{List, subst}
 use Rattle.std.proofs.lemmas.Result.{IfOk-weaker}
+use Rattle.lra_linear.specs.Descriptions.{Con, Given}
+use Rattle.lra_linear.specs.OperationStrain.{FromRowsStrains}
+use Rattle.lra_linear.specs.Points.{IsWithin}
+use Rattle.lra_linear.specs.Polyhedra.{IsPolyhedronOf}
 use Rattle.lra_sys.specs.Listed.{constraints}
-use Rattle.lra_pair.proofs.PairLosses.{rows_within, rows_strain}
+use Rattle.lra_cone.specs.Losses.{IfLost}
+use Rattle.lra_pair.proofs.PairLosses.{none_behind, positive_alone}
 use Rattle.lra_pair.proofs.pair.from_rows.Goals as goal
+
+pub from_cone-requires-clause-positive : goal.from_cone-requires-clause-positive
+from_cone-requires-clause-positive c = positive_alone c.args.rows.now.dims c.dims-n.result c.in_ok-positive_cone.field-0.taken c.dims-n.ensures c.in_ok-positive_cone.ensures.taken
+
+pub returns-clause-exact : goal.returns-clause-exact
+returns-clause-exact c =
+    let d = c.args.rows.now.dims in
+    let same = none_behind d c.dims-n.result c.in_ok-positive_cone.field-0.taken (constraints c.args.rows.now) c.dims-n.ensures c.in_ok-positive_cone.ensures.taken in
+    IfOk-weaker c.from_cone.result _ _ (λ r h e. subst (λ (l : List Given). IsPolyhedronOf d (Con l) r.0) same (h e)) c.from_cone.ensures.exact
 
 pub returns-clause-within : goal.returns-clause-within
 returns-clause-within c =
-    let conversion = c.in_ok-conversion.conversion in
-    IfOk-weaker c.of_taken_rows.result _ _ (λ r h.
-    rows_within c.args.rows.now.dims c.dims-n.result (constraints c.args.rows.now) (constraints conversion.kept) conversion.cone c.in_ok-positive_cone.field-0 conversion.losses.items r.0
-    c.dims-n.ensures c.in_ok-positive_cone.ensures.taken c.in_ok-conversion.ensures.taken h) c.of_taken_rows.ensures.within
+    let d = c.args.rows.now.dims in
+    let same = none_behind d c.dims-n.result c.in_ok-positive_cone.field-0.taken (constraints c.args.rows.now) c.dims-n.ensures c.in_ok-positive_cone.ensures.taken in
+    IfOk-weaker c.from_cone.result _ _ (λ r h. subst (λ (l : List Given). IsWithin d (Con l) (Con r.0.rows)) same h) c.from_cone.ensures.within
 
 pub returns-clause-strain : goal.returns-clause-strain
 returns-clause-strain c =
-    let conversion = c.in_ok-conversion.conversion in
-    IfOk-weaker c.of_taken_rows.result _ _ (λ r h.
-    rows_strain c.args.rows.now.dims c.dims-n.result (constraints c.args.rows.now) (constraints conversion.kept) conversion.cone c.in_ok-positive_cone.field-0 conversion.losses.items r.1.items
-    c.dims-n.ensures c.in_ok-positive_cone.ensures.taken c.in_ok-conversion.ensures.taken h) c.of_taken_rows.ensures.strain
+    let d = c.args.rows.now.dims in
+    let same = none_behind d c.dims-n.result c.in_ok-positive_cone.field-0.taken (constraints c.args.rows.now) c.dims-n.ensures c.in_ok-positive_cone.ensures.taken in
+    IfOk-weaker c.from_cone.result _ _ (λ r h. subst (λ (l : List Given). IfLost (FromRowsStrains d l) r.1.items) same h) c.from_cone.ensures.strain
