@@ -9,7 +9,7 @@ use Rattle.lra_linear.specs.Points.{IsWithin}
 use Rattle.lra_linear.specs.Polyhedra.{HasPoint, IsPolyhedron, IsPolyhedronOf, Polyhedron}
 use Rattle.lra_linear.specs.Strain as strain
 use Rattle.lra_linear.specs.Widening.{is_tight, Limited}
-use Rattle.lra_poly.specs.declared.inclusion.Inclusion.TheVariants.{No}
+use Rattle.lra_poly.specs.declared.inclusion.Inclusion.TheVariants.{Yes, No, Wide}
 use Rattle.lra_poly.specs.declared.outcome.Outcome.{Outcome}
 use Rattle.lra_poly.specs.Inclusions.{IsInclusion}
 use Rattle.lra_poly.specs.Outcomes.{IfExact, IfFlagged}
@@ -24,6 +24,18 @@ IsOutside p q place = IsInclusion q.rows p.generators (No place)
 abbrev pub IsRefusal : Polyhedron → Polyhedron → WidenError → Type 0
 IsRefusal p q (NotIncluded place) = IsOutside p q place
 IsRefusal p q Memory = Unit {0}
+
+-- a product passes before it is known whether P lies in Q; then it is flagged, and R has all points
+pub record IsGivenUp (p q r : Polyhedron) (o : Outcome) : Type 0 where
+  pub generator : ℕ
+  pub row : ℕ
+  pub wide : IsInclusion q.rows p.generators (Wide generator row)
+  pub flagged : IfExact ⊥ o
+  pub all : IsPolyhedronOf p.dims (Con []) r
+
+-- P lies in Q, or is given up
+abbrev pub LiesOrIsGivenUp : Polyhedron → Polyhedron → Polyhedron → Outcome → Type 0
+LiesOrIsGivenUp p q r o = IsInclusion q.rows p.generators Yes ⊎ IsGivenUp p q r o
 
 -- R is the polyhedron of rows each of which is tight on P, or is given and holds in range on P
 pub record KeepsRows (p r : Polyhedron) (given : List Given) : Type 0 where

@@ -10,6 +10,7 @@ ghost use Rattle.lra_sys.specs.Listed.{constraints};
 ghost use Rattle.lra_poly.specs.Outcomes.{IfExact, IfFlagged};
 ghost use Rattle.lra_widen.specs.Rank.{Falls};
 ghost use Rattle.lra_widen.specs.Widenings.{HaveColumns, IsOutside, IsRefusal, IsWidened};
+ghost use Rattle.lra_widen.specs.Widenings.{LiesOrIsGivenUp};
 
 use crate::error::WidenError;
 use crate::lists::{add_held, given_loss, inclusion_loss, no_rows, tight_rows, universe};
@@ -53,6 +54,7 @@ fn widened(alloc: Global, p: &Poly, q: &Poly, given: &ConSys) -> Result<(Poly, O
     ensures widened { IfOk result (λ r. IsWidened p.now q.now (constraints given.now) r.0 r.1) }
     ensures refused { IfErr result (IsRefusal p.now q.now) }
     ensures inside { IfOk result (λ _. (place : ℕ) → ¬ (IsOutside p.now q.now place)) }
+    ensures known { IfOk result (λ r. LiesOrIsGivenUp p.now q.now r.0 r.1) }
     ensures canonical { IsPolyhedron p.now }
 {
     let (_rows, _others) = (p.rows(), q.rows());
@@ -90,6 +92,7 @@ pub fn standard(alloc: Global, p: &Poly, q: &Poly) -> Result<(Poly, Outcome), Wi
         Falls p.now r.0 given) }
     ensures refused { IfErr result (IsRefusal p.now q.now) }
     ensures inside { IfOk result (λ _. (place : ℕ) → ¬ (IsOutside p.now q.now place)) }
+    ensures known { IfOk result (λ r. LiesOrIsGivenUp p.now q.now r.0 r.1) }
 {
     let none = no_rows(alloc, p.dims())?;
     let (made, outcome) = widened(alloc, p, q, &none)?;
@@ -117,6 +120,7 @@ pub fn limited(
     ensures falls { IfOk result (λ r. r.0 ≢ p.now → Falls p.now r.0 (constraints given.now)) }
     ensures refused { IfErr result (IsRefusal p.now q.now) }
     ensures inside { IfOk result (λ _. (place : ℕ) → ¬ (IsOutside p.now q.now place)) }
+    ensures known { IfOk result (λ r. LiesOrIsGivenUp p.now q.now r.0 r.1) }
 {
     let _rows = given.rows();
     let (made, outcome) = widened(alloc, p, q, given)?;

@@ -1,4 +1,4 @@
-use Rattle.std.proofs.Common.{subst, refl, ℕ, []}
+use Rattle.std.proofs.Common.{subst, refl, inl, inr, ℕ, []}
 use Rattle.lra_linear.specs.Descriptions.{Con}
 use Rattle.lra_linear.specs.Polyhedra.{IsPolyhedronOf}
 use Rattle.lra_sys.specs.Listed.{constraints}
@@ -23,3 +23,18 @@ returns-in_ok-same-in-Yes-clause-inside c = yes_inside c.args.p.now c.args.q.now
 
 pub returns-in_ok-made-in-Yes-clause-inside : goal.returns-in_ok-made-in-Yes-clause-inside
 returns-in_ok-made-in-Yes-clause-inside c = yes_inside c.args.p.now c.args.q.now c.in-Yes.ensures.first
+
+pub returns-in_ok-all-in-Wide-clause-known : goal.returns-in_ok-all-in-Wide-clause-known
+returns-in_ok-all-in-Wide-clause-known c = inr (record {
+  generator = c.in-Wide.generator;
+  row = c.in-Wide.row;
+  wide = c.in-Wide.ensures.first;
+  flagged = tt;
+  all = subst (λ (n : ℕ). IsPolyhedronOf n (Con []) c.in_ok-all-in-Wide.all) c.dims.ensures c.in_ok-all-in-Wide.ensures;
+})
+
+pub returns-in_ok-same-in-Yes-clause-known : goal.returns-in_ok-same-in-Yes-clause-known
+returns-in_ok-same-in-Yes-clause-known c = inl c.in-Yes.ensures.first
+
+pub returns-in_ok-made-in-Yes-clause-known : goal.returns-in_ok-made-in-Yes-clause-known
+returns-in_ok-made-in-Yes-clause-known c = inl c.in-Yes.ensures.first
