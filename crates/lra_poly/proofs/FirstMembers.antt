@@ -40,7 +40,7 @@ given_more equal (x ∷ rows) (kind ∷ kinds) (suc i) r k n h e =
     ap (λ (l : List Given). (let g : Given = record { row = x; equal = equal kind } in g) ∷ l)
     (given_more equal rows kinds i r k (omega (arith, n)) (omega (arith, h)) e)
 
-front_length : {K : Type 0} (equal : K → Bool) (rows : List (List ℤ)) (kinds : List K) (i : ℕ) →
+pub front_length : {K : Type 0} (equal : K → Bool) (rows : List (List ℤ)) (kinds : List K) (i : ℕ) →
     length kinds ≡ length rows → i < length rows → length (front equal rows kinds i) ≡ i
 front_length equal rows kinds zero n h = refl
 front_length equal [] kinds (suc i) n h = absurd (omega (arith, h))

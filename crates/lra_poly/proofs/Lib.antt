@@ -7,3 +7,5 @@ pub mod JoinedLists
 pub mod PolyExamples
 mod ResidueLemmas
 pub mod SaturationLemmas
+pub mod StartLemmas
+pub mod KeptCones

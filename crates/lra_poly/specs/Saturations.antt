@@ -1,7 +1,8 @@
 -- Which constraints of a polyhedron are tight at which of its generators.
-use Rattle.std.specs.Prelude.{ℤ, pos, Bool, List, length, map}
+use Rattle.std.specs.Prelude.{ℕ, ℤ, pos, Bool, List, length, map}
 use Rattle.std.specs.Ordering.{int_eq}
 use Rattle.lra_bits.specs.Matrix.{Matrix}
+use Rattle.lra_bits.specs.TruthValues.{value_at}
 use Rattle.lra_linear.specs.Descriptions.{Given}
 use Rattle.lra_linear.specs.Vectors.{product}
 
@@ -15,3 +16,7 @@ saturation_of rows generators = record {
   width = length generators;
   rows = map (λ r. saturated generators r.row) rows;
 }
+
+-- a column of the matrix
+abbrev pub column : Matrix → ℕ → List Bool
+column m j = map (λ bits. value_at bits j) m.rows

@@ -8,6 +8,7 @@ mod maximum;
 mod outcome;
 mod poly;
 mod saturation;
+mod start;
 
 pub use inclusion::Inclusion;
 pub use lists::row_of_form;

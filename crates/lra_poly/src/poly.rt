@@ -1,6 +1,6 @@
 //! Closed polyhedra.
 
-ghost use Rattle.std.specs.Prelude.{◌≡◌, ◌↔◌, ◌<◌, ◌^◌, ◌∷◌, ◌++◌, [], length, IsTrue, IfOk, IfSome, IsSome, OnErr};
+ghost use Rattle.std.specs.Prelude.{◌≡◌, ◌↔◌, ◌<◌, ◌^◌, ◌∷◌, ◌++◌, [], length, drop, IsTrue, IfOk, IfSome, IsSome, OnErr};
 ghost use Rattle.lra_linear.specs.Descriptions.{Con, Gen, Holds};
 ghost use Rattle.lra_linear.specs.OperationStrain.{FromRowsStrains, FromGeneratorsStrains};
 ghost use Rattle.lra_linear.specs.OperationStrain.{AddTestStrains, MeetStrains, HullStrains};
@@ -8,6 +8,7 @@ ghost use Rattle.lra_linear.specs.Points.{IsEmptySet, IsWithin};
 ghost use Rattle.lra_linear.specs.Polyhedra.{IsPolyhedron, IsPolyhedronOf};
 ghost use Rattle.lra_linear.specs.SetOperations.{Meet, Union, Hull};
 ghost use Rattle.lra_sys.specs.Listed.{constraints, generators, FitKinds};
+ghost use Rattle.lra_pair.specs.OwnLists.{IsPositive};
 ghost use Rattle.lra_poly.specs.Inclusions.{IsInclusion, TellsInclusion};
 ghost use Rattle.lra_poly.specs.Maxima.{IsMaximum, TellsMaximum};
 ghost use Rattle.lra_poly.specs.Outcomes.{IfExact, IfFlagged};
@@ -19,8 +20,9 @@ use crate::lists::{joined_generators, joined_rows, tested};
 use crate::maximum::{Maximum, maximum_of};
 use crate::outcome::{Outcome, outcome_of};
 use crate::saturation::saturation_matrix;
+use crate::start::cone_of;
 use lra_bits::SatMatrix;
-use lra_cone::nothing;
+use lra_cone::{Cone, nothing};
 use lra_lin::{LinExpr, Test};
 use lra_pair::Pair;
 use lra_sys::{ConSys, GenSys};
@@ -75,6 +77,24 @@ fn of_pair(alloc: Global, pair: &Pair) -> Result<Poly, AllocError>
         by_generators: by_generators.copy()?,
         saturation: saturation_matrix(alloc, rows, by_generators)?,
     })
+}
+
+// The polyhedron of the constraints that were taken into the cone behind the positivity row, and of further ones.
+fn of_cone(alloc: Global, cone: Cone, more: &ConSys) -> Result<(Poly, Outcome), AllocError>
+    requires small { more.now.dims < 2 ^ 62 }
+    requires dims { cone.dims ≡ more.now.dims }
+    requires positive { IsPositive more.now.dims cone.taken }
+    ensures dims { IfOk result (λ r. r.0.dims ≡ more.now.dims) }
+    ensures exact { IfOk result (λ r.
+        IfExact (IsPolyhedronOf more.now.dims (Con (drop 1 cone.taken ++ constraints more.now)) r.0) r.1) }
+    ensures within { IfOk result (λ r.
+        IsWithin more.now.dims (Con (drop 1 cone.taken ++ constraints more.now)) (Con r.0.rows)) }
+    ensures strain { IfOk result (λ r.
+        IfFlagged (FromRowsStrains more.now.dims (drop 1 cone.taken ++ constraints more.now)) r.1) }
+{
+    let (pair, losses) = lra_pair::from_cone(alloc, cone, more)?;
+    let made = of_pair(alloc, &pair)?;
+    Ok((made, outcome_of(losses)))
 }
 
 impl Poly {
@@ -239,8 +259,9 @@ impl Poly {
         }
     }
 
-    // The polyhedron of the constraints and of these. Where it is flagged it has at least their points.
-    fn narrowed(&self, more: &ConSys) -> Result<(Poly, Outcome), AllocError>
+    // The polyhedron of the constraints and of these, converted from nothing. Where it is flagged it has at least their
+    // points.
+    fn narrowed_anew(&self, more: &ConSys) -> Result<(Poly, Outcome), AllocError>
         requires { more.now.dims ≡ self.now.dims }
         ensures dims { IfOk result (λ r. r.0.dims ≡ self.now.dims) }
         ensures exact { IfOk result (λ r.
@@ -253,6 +274,34 @@ impl Poly {
         let list = joined_rows(&self.rows, more)?;
         let (made, outcome) = Poly::from_rows(self.alloc, &list)?;
         Ok((made, outcome))
+    }
+
+    // The same, where these are taken in after those, by the lists at hand.
+    fn narrowed(&self, more: &ConSys) -> Result<(Poly, Outcome), AllocError>
+        requires { more.now.dims ≡ self.now.dims }
+        ensures dims { IfOk result (λ r. r.0.dims ≡ self.now.dims) }
+        ensures exact { IfOk result (λ r.
+            IfExact (IsPolyhedronOf self.now.dims (Con (self.now.rows ++ constraints more.now)) r.0) r.1) }
+        ensures within { IfOk result (λ r.
+            IsWithin self.now.dims (Con (self.now.rows ++ constraints more.now)) (Con r.0.rows)) }
+        ensures strain { IfOk result (λ r.
+            IfFlagged (FromRowsStrains self.now.dims (self.now.rows ++ constraints more.now)) r.1) }
+    {
+        match cone_of(
+            self.alloc,
+            &self.rows,
+            &self.by_generators,
+            &self.saturation,
+        )? {
+            Some(cone) => {
+                let (made, outcome) = of_cone(self.alloc, cone, more)?;
+                Ok((made, outcome))
+            }
+            None => {
+                let (made, outcome) = self.narrowed_anew(more)?;
+                Ok((made, outcome))
+            }
+        }
     }
 
     // Takes these constraints in. Where each point meets them, nothing changes. Where a result that has at least their

@@ -1,0 +1,11 @@
+use Rattle.std.proofs.Common.{◌++◌, drop, refl}
+use Rattle.lra_linear.specs.Descriptions.{Con}
+use Rattle.lra_sys.specs.Listed.{constraints}
+use Rattle.lra_poly.proofs.PolyLemmas.{within_same}
+use Rattle.lra_poly.proofs.poly.of_cone.Goals as goal
+
+pub returns-clause-within : goal.returns-clause-within
+returns-clause-within c =
+    let n = c.args.more.now.dims in
+    let list = drop 1 c.args.cone.taken ++ constraints c.args.more.now in
+    within_same n n (Con list) c.in_ok-made.made c.in_ok-pair.pair c.in_ok-made.ensures refl c.in_ok-pair.ensures.within
