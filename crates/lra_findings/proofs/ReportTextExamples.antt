@@ -10,7 +10,6 @@ use Rattle.lra_findings.specs.Report.{Place, point, ray, line, Generator, Part, 
 use Rattle.lra_linear.specs.declared.ConKind.TheVariants.{Ge, Eq}
 use Rattle.lra_program.specs.Rows.{Row}
 use Rattle.lra_findings.specs.ReportText.{text_line, row_text, generator_text, state_text, flag_text, report_text, shown_names, path_text}
-use Rattle.lra_findings.specs.ReportJson.{report_json}
 
 abbrev at : ℕ → ℕ → Place
 at l c = record { line = l; column = c }
@@ -108,12 +107,6 @@ empty_main_text : report_text empty_main ≡ lines (
     ∷ [])
 unfolding digits
 empty_main_text = refl
-
--- keys in byte order, and no blank
-empty_main_json : report_json empty_main
-    ≡ text_line (codes "{\"analysis\":{\"delay\":1,\"domain\":\"poly\",\"limited\":false,\"narrow\":1,\"parts\":1},\"asserts\":[],\"flagged\":0,\"points\":[{\"number\":1,\"parts\":[{\"generators\":[\"point\"],\"rows\":[]}],\"path\":\"main\",\"place\":\"1:16\"}],\"proved\":0,\"unknown\":0}")
-unfolding digits
-empty_main_json = refl
 
 -- two variables: the sign of the first term decides the direction, further terms keep their own sign
 i_and_j : state_text (codes "i" ∷ codes "j" ∷ []) (both (is_positive (negsuc 1) (pos 1 ∷ negsuc 1 ∷ []) ∷ is_positive (pos 0) (pos 0 ∷ pos 1 ∷ []) ∷ [])

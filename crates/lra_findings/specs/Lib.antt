@@ -2,5 +2,4 @@
 pub mod Report
 pub mod Parts
 pub mod ReportText
-pub mod ReportJson
 pub mod RefusalText

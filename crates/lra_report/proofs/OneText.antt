@@ -112,7 +112,7 @@ report_pieces r = pieces (options_text r.options) (flag_text r.flagged) (flat_ma
     pieces : (a b c d e : List ℕ) → (((a ++ b) ++ c) ++ d) ++ e ≡ a ++ (b ++ (c ++ (d ++ e)))
     pieces a b c d e = simp append_assoc
 
-report_by : (r s : Report) → r.options ≡ s.options → r.flagged ≡ s.flagged → r.points ≡ s.points → r.verdicts ≡ s.verdicts → r ≡ s
+pub report_by : (r s : Report) → r.options ≡ s.options → r.flagged ≡ s.flagged → r.points ≡ s.points → r.verdicts ≡ s.verdicts → r ≡ s
 report_by r s o f p v =
     ap (λ x. record { options = x; flagged = r.flagged; points = r.points; verdicts = r.verdicts }) o
     ∙ ap (λ x. record { options = s.options; flagged = x; points = r.points; verdicts = r.verdicts }) f

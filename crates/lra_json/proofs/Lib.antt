@@ -1,0 +1,4 @@
+pub mod Floats
+pub mod JsonPieces
+pub mod OneJson
+mod ReportJsonExamples

@@ -1,0 +1,286 @@
+-- One JSON text, one report.
+use Rattle.std.proofs.Common.{◌≡◌, ℕ, suc, ◌<◌, ◌^◌, Bool, true, false, List, [], ◌∷◌, ◌++◌, length, map, codes, if◌then◌else◌, refl, ap, sym, ◌∙◌, subst, arith, append_assoc, Option, Some, None}
+use Rattle.std.proofs.Common.{decimal}
+use Rattle.std.specs.List.{AllByRecursion}
+use Rattle.std.proofs.lemmas.List.{append_cancel_left}
+use Rattle.std.proofs.lemmas.Bool.{eqb-false}
+use Rattle.json.specs.Print.{quoted}
+use Rattle.serde_json.specs.Data.{Members, string, member, no_members}
+use Rattle.serde_json.specs.View.{items_of}
+use Rattle.serde_json.specs.Written.{compact_text, items_text, members_text}
+use Rattle.lra_base.specs.declared.options.Domain.{Domain}
+use Rattle.lra_base.specs.declared.options.Domain.TheVariants.{Poly, Box, Oct}
+use Rattle.lra_base.specs.declared.options.Options.{Options}
+use Rattle.lra_tree.specs.Texts.{Pieces}
+use Rattle.lra_tree.specs.Trees.{FileTree}
+use Rattle.lra_tree.specs.Grammar.{Spells}
+use Rattle.lra_tree.specs.Faults.{Language}
+use Rattle.lra_tree.specs.Labels.{Labelled, labels_of}
+use Rattle.lra_meaning.specs.Resolve.{resolve}
+use Rattle.lra_meaning.specs.LiveNames.{live_names, globals_named}
+use Rattle.lra_program.specs.Sites.{Site, sites_of}
+use Rattle.lra_program.specs.Rows.{Row}
+use Rattle.lra_program.specs.Assertions.{assertions_from}
+use Rattle.lra_findings.specs.Report.{Generator, Part, State, PointReport, Verdict, Report}
+use Rattle.lra_findings.specs.ReportText.{place_text, shown_names, row_text, generator_text, proved_count, unknown_count}
+use Rattle.lra_findings.specs.Parts.{Tells}
+use Rattle.lra_report.specs.Listing.{listed_point, listed_verdict, Lists, AreListed, AreJudged, AreParts, IsFlag}
+use Rattle.lra_report.specs.Spelled.{IsSpelledRow, IsSpelledGenerator, IsReadablePart, IsReadablePoint, IsSmallFlag, AreWords}
+use Rattle.lra_report.proofs.Fronts.{AreShownNames, first_same, rest_same, both_same}
+use Rattle.lra_report.proofs.Numbers.{IsShort, decimal_same}
+use Rattle.lra_report.proofs.NameTexts.{are_shown}
+use Rattle.lra_report.proofs.RowTexts.{row_same}
+use Rattle.lra_report.proofs.GeneratorTexts.{generator_same}
+use Rattle.lra_report.proofs.LiveWords.{accepted_words}
+use Rattle.lra_report.proofs.OneText.{report_by}
+use Rattle.lra_json.specs.ReportJson.{natural, list_of, options_data, verdict_data, rows_data, generators_data, part_data, point_data, flag_data, report_json}
+use Rattle.lra_json.specs.ToldApart.{OneSourceJson}
+use Rattle.lra_json.proofs.JsonPieces.{quoted_same, member_same, list_same}
+
+all_both : {A : Type 0} (P Q : A → Type 0) (xs : List A) → AllByRecursion P xs → AllByRecursion Q xs → AllByRecursion (λ x. P x × Q x) xs
+all_both P Q [] p q = tt
+all_both P Q (x ∷ xs) p q = ((p.0, q.0), all_both P Q xs p.1 q.1)
+
+-- parts --------------------------------------------------------------------------
+
+abbrev GoodRow : ℕ → Row → Type 0
+GoodRow n r = (length r.coefficients ≡ n) × IsSpelledRow r
+
+abbrev GoodGenerator : ℕ → Generator → Type 0
+GoodGenerator n g = (length g.numbers ≡ n) × IsSpelledGenerator g
+
+string_opens : (s u v : List ℕ) → compact_text (string s) ++ u ≡ 93 ∷ v → ⊥
+string_opens s u v e = eqb-false 34 93 refl (first_same e)
+
+row_told : (ns : List (List ℕ)) → AreShownNames ns → (r s : Row) (u v : List ℕ) → GoodRow (length ns) r → GoodRow (length ns) s →
+    compact_text (string (row_text ns r)) ++ u ≡ compact_text (string (row_text ns s)) ++ v → (r ≡ s) × (u ≡ v)
+row_told ns hn r s u v gr gs e =
+    let q = quoted_same (row_text ns r) (row_text ns s) u v e in
+    ((row_same ns r s [] [] hn gr.0 gs.0 gr.1 gs.1 tt tt (ap (λ t. t ++ []) q.0)).0, q.1)
+
+generator_told : (ns : List (List ℕ)) → AreShownNames ns → (g h : Generator) (u v : List ℕ) → GoodGenerator (length ns) g → GoodGenerator (length ns) h →
+    compact_text (string (generator_text ns g)) ++ u ≡ compact_text (string (generator_text ns h)) ++ v → (g ≡ h) × (u ≡ v)
+generator_told ns hn g h u v gg gh e =
+    let q = quoted_same (generator_text ns g) (generator_text ns h) u v e in
+    ((generator_same ns g h [] [] gg.0 gh.0 gg.1 gh.1 (ap (λ t. t ++ 10 ∷ []) q.0)).0, q.1)
+
+rows_told : (ns : List (List ℕ)) → AreShownNames ns → (rs ss : List Row) (u v : List ℕ) → AllByRecursion (GoodRow (length ns)) rs → AllByRecursion (GoodRow (length ns)) ss →
+    compact_text (rows_data ns rs) ++ u ≡ compact_text (rows_data ns ss) ++ v → (rs ≡ ss) × (u ≡ v)
+rows_told ns hn rs ss u v gr gs e = list_same (λ r. string (row_text ns r)) (GoodRow (length ns)) (row_told ns hn) (λ r. string_opens (row_text ns r)) rs ss u v gr gs e
+
+generators_told : (ns : List (List ℕ)) → AreShownNames ns → (gs hs : List Generator) (u v : List ℕ) → AllByRecursion (GoodGenerator (length ns)) gs → AllByRecursion (GoodGenerator (length ns)) hs →
+    compact_text (generators_data ns gs) ++ u ≡ compact_text (generators_data ns hs) ++ v → (gs ≡ hs) × (u ≡ v)
+generators_told ns hn gs hs u v gg gh e = list_same (λ g. string (generator_text ns g)) (GoodGenerator (length ns)) (generator_told ns hn) (λ g. string_opens (generator_text ns g)) gs hs u v gg gh e
+
+abbrev GoodPart : Domain → ℕ → Part → Type 0
+GoodPart domain n part = IsReadablePart n part × Tells domain n part
+
+good_rows : (n : ℕ) (p : Part) → IsReadablePart n p → AllByRecursion (GoodRow n) p.rows
+good_rows n p h = all_both (λ (r : Row). length r.coefficients ≡ n) IsSpelledRow p.rows h.0.0 h.1.rows
+
+good_generators : (n : ℕ) (p : Part) → IsReadablePart n p → AllByRecursion (GoodGenerator n) p.generators
+good_generators n p h = all_both (λ (g : Generator). length g.numbers ≡ n) IsSpelledGenerator p.generators h.0.1 h.1.generators
+
+part_by : (p q : Part) → p.rows ≡ q.rows → p.generators ≡ q.generators → p ≡ q
+part_by p q r g = ap (λ x. record { rows = x; generators = p.generators }) r ∙ ap (λ x. record { rows = q.rows; generators = x }) g
+
+-- of boxes and octagons
+rows_alone_told : (ns : List (List ℕ)) → AreShownNames ns → (p q : Part) (u v : List ℕ) → IsReadablePart (length ns) p → IsReadablePart (length ns) q → p.generators ≡ [] → q.generators ≡ [] →
+    compact_text (part_data Box ns p) ++ u ≡ compact_text (part_data Box ns q) ++ v → (p ≡ q) × (u ≡ v)
+rows_alone_told ns hn p q u v gp gq np nq e =
+    let end : List ℕ = 125 ∷ [] in
+    let rows = rows_told ns hn p.rows q.rows (end ++ u) (end ++ v) (good_rows _ p gp) (good_rows _ q gq)
+    (member_same (codes "rows") (compact_text (rows_data ns p.rows)) end (compact_text (rows_data ns q.rows)) end u v (rest_same e)) in
+    (part_by p q rows.0 (np ∙ sym nq), rest_same rows.1)
+
+part_told : (domain : Domain) (ns : List (List ℕ)) → AreShownNames ns → (p q : Part) (u v : List ℕ) → GoodPart domain (length ns) p → GoodPart domain (length ns) q →
+    compact_text (part_data domain ns p) ++ u ≡ compact_text (part_data domain ns q) ++ v → (p ≡ q) × (u ≡ v)
+part_told Box ns hn p q u v gp gq e = rows_alone_told ns hn p q u v gp.0 gq.0 gp.1 gq.1 e
+part_told Oct ns hn p q u v gp gq e = rows_alone_told ns hn p q u v gp.0 gq.0 gp.1 gq.1 e
+part_told Poly ns hn p q u v gp gq e =
+    let end : List ℕ = 125 ∷ [] in
+    let rows_p = members_text true (member (codes "rows") (rows_data ns p.rows) no_members) in
+    let rows_q = members_text true (member (codes "rows") (rows_data ns q.rows) no_members) in
+    let generators = generators_told ns hn p.generators q.generators (rows_p ++ u) (rows_q ++ v) (good_generators _ p gp.0) (good_generators _ q gq.0)
+    (member_same (codes "generators") (compact_text (generators_data ns p.generators)) rows_p (compact_text (generators_data ns q.generators)) rows_q u v (rest_same e)) in
+    let rows = rows_told ns hn p.rows q.rows (end ++ u) (end ++ v) (good_rows _ p gp.0) (good_rows _ q gq.0)
+    (member_same (codes "rows") (compact_text (rows_data ns p.rows)) end (compact_text (rows_data ns q.rows)) end u v (rest_same generators.1)) in
+    (part_by p q rows.0 generators.0, rest_same rows.1)
+
+part_opens : (domain : Domain) (ns : List (List ℕ)) (p : Part) (u v : List ℕ) → compact_text (part_data domain ns p) ++ u ≡ 93 ∷ v → ⊥
+part_opens Poly ns p u v e = eqb-false 123 93 refl (first_same e)
+part_opens Box ns p u v e = eqb-false 123 93 refl (first_same e)
+part_opens Oct ns p u v e = eqb-false 123 93 refl (first_same e)
+
+-- points -------------------------------------------------------------------------
+
+abbrev GoodState : Domain → ℕ → State → Type 0
+GoodState domain n state = AllByRecursion (GoodPart domain n) state
+
+abbrev GoodPoint : Domain → PointReport → Type 0
+GoodPoint domain p = GoodState domain (length p.names) p.state
+
+good_points : (o : Options) (ps : List PointReport) → AllByRecursion (AreParts o) ps → AllByRecursion IsReadablePoint ps → AllByRecursion (GoodPoint o.domain) ps
+good_points o [] parts readable = tt
+good_points o (p ∷ ps) parts readable =
+    (all_both (IsReadablePart (length p.names)) (Tells o.domain (length p.names)) p.state readable.0 parts.0.tell, good_points o ps parts.1 readable.1)
+
+-- what stands behind the parts of a point
+abbrev after_parts : PointReport → Members
+after_parts p = member (codes "path") (string p.path) (member (codes "place") (string (place_text p.place)) no_members)
+
+state_told : (domain : Domain) (outside : List (List ℕ)) (ls : List Labelled) (number : ℕ) (site : Site) (s t : State) (u v : List ℕ) → AreWords (live_names outside ls site) →
+    GoodState domain (length (shown_names (live_names outside ls site))) s → GoodState domain (length (shown_names (live_names outside ls site))) t →
+    compact_text (point_data domain (listed_point outside ls number site s)) ++ u ≡ compact_text (point_data domain (listed_point outside ls number site t)) ++ v → (s ≡ t) × (u ≡ v)
+state_told domain outside ls number site s t u v hw gs gt e =
+    let names = shown_names (live_names outside ls site) in
+    let behind = members_text true (after_parts (listed_point outside ls number site s)) in
+    let parts_s = compact_text (list_of (part_data domain names) s) in
+    let parts_t = compact_text (list_of (part_data domain names) t) in
+    let more_s = members_text true (member (codes "parts") (list_of (part_data domain names) s) (after_parts (listed_point outside ls number site s))) in
+    let more_t = members_text true (member (codes "parts") (list_of (part_data domain names) t) (after_parts (listed_point outside ls number site t))) in
+    let numbered = append_cancel_left (decimal number) (more_s ++ u) (more_t ++ v) (member_same (codes "number") (decimal number) more_s (decimal number) more_t u v (rest_same e)) in
+    let told = list_same (part_data domain names) (GoodPart domain (length names)) (part_told domain names (are_shown (live_names outside ls site) hw)) (part_opens domain names) s t
+    (behind ++ u) (behind ++ v) gs gt (member_same (codes "parts") parts_s behind parts_t behind u v (rest_same numbered)) in
+    (told.0, append_cancel_left behind u v told.1)
+
+-- the next item of a list of points or of verdicts
+next_item : (later : Bool) (x y a b u v : List ℕ) → ((if later then 44 ∷ [] else []) ++ (x ++ a)) ++ u ≡ ((if later then 44 ∷ [] else []) ++ (y ++ b)) ++ v → x ++ (a ++ u) ≡ y ++ (b ++ v)
+next_item true x y a b u v e = sym (append_assoc x a u) ∙ rest_same e ∙ append_assoc y b v
+next_item false x y a b u v e = sym (append_assoc x a u) ∙ e ∙ append_assoc y b v
+
+points_same : (domain : Domain) (outside : List (List ℕ)) (ls : List Labelled) (later : Bool) (number : ℕ) (sites : List Site) (ps qs : List PointReport) (u v : List ℕ) →
+    AllByRecursion (λ s. AreWords (live_names outside ls s)) sites → AreListed outside ls number sites ps → AreListed outside ls number sites qs →
+    AllByRecursion (GoodPoint domain) ps → AllByRecursion (GoodPoint domain) qs →
+    items_text later (items_of (map (point_data domain) ps)) ++ u ≡ items_text later (items_of (map (point_data domain) qs)) ++ v → (ps ≡ qs) × (u ≡ v)
+points_same domain outside ls later number [] [] [] u v hw lp lq gp gq e = (refl, rest_same e)
+points_same domain outside ls later number [] [] (q ∷ qs) u v hw lp lq gp gq e = absurd lq
+points_same domain outside ls later number [] (p ∷ ps) qs u v hw lp lq gp gq e = absurd lp
+points_same domain outside ls later number (s ∷ sites) [] qs u v hw lp lq gp gq e = absurd lp
+points_same domain outside ls later number (s ∷ sites) (p ∷ ps) [] u v hw lp lq gp gq e = absurd lq
+points_same domain outside ls later number (s ∷ sites) (p ∷ ps) (q ∷ qs) u v hw lp lq gp gq e =
+    let listed = listed_point outside ls number s in
+    let text = λ (x : PointReport). compact_text (point_data domain x) in
+    let more_p = items_text true (items_of (map (point_data domain) ps)) in
+    let more_q = items_text true (items_of (map (point_data domain) qs)) in
+    let here : text (listed p.state) ++ (more_p ++ u) ≡ text (listed q.state) ++ (more_q ++ v) =
+    ap (λ x. text x ++ (more_p ++ u)) (sym lp.0) ∙ next_item later (text p) (text q) more_p more_q u v e ∙ ap (λ x. text x ++ (more_q ++ v)) lq.0 in
+    let good_p = subst (λ (x : PointReport). GoodState domain (length x.names) p.state) lp.0 gp.0 in
+    let good_q = subst (λ (x : PointReport). GoodState domain (length x.names) q.state) lq.0 gq.0 in
+    let first = state_told domain outside ls number s p.state q.state (more_p ++ u) (more_q ++ v) hw.0 good_p good_q here in
+    let further = points_same domain outside ls true (suc number) sites ps qs u v hw.1 lp.2 lq.2 gp.1 gq.1 first.1 in
+    (both_same (lp.0 ∙ ap listed first.0 ∙ sym lq.0) further.0, further.1)
+
+-- verdicts -----------------------------------------------------------------------
+
+abbrev told : Bool → List ℕ
+told proved = if proved then codes "proved" else codes "unknown"
+
+proved_same : (b c : Bool) → told b ≡ told c → b ≡ c
+proved_same true true e = refl
+proved_same false false e = refl
+proved_same true false e = absurd (eqb-false 112 117 refl (first_same e))
+proved_same false true e = absurd (eqb-false 117 112 refl (first_same e))
+
+verdict_told : (ls : List Labelled) (number : ℕ) (site : Site) (b c : Bool) (u v : List ℕ) →
+    compact_text (verdict_data (listed_verdict ls number site b)) ++ u ≡ compact_text (verdict_data (listed_verdict ls number site c)) ++ v → (b ≡ c) × (u ≡ v)
+verdict_told ls number site b c u v e =
+    let end : List ℕ = 125 ∷ [] in
+    let more = λ (x : Bool). members_text true (member (codes "verdict") (string (told x)) no_members) in
+    let numbered = append_cancel_left (decimal number) (more b ++ u) (more c ++ v) (member_same (codes "point") (decimal number) (more b) (decimal number) (more c) u v (rest_same e)) in
+    let word = quoted_same (told b) (told c) (end ++ u) (end ++ v) (member_same (codes "verdict") (quoted (told b)) end (quoted (told c)) end u v (rest_same numbered)) in
+    (proved_same b c word.0, rest_same word.1)
+
+verdicts_same : (ls : List Labelled) (later : Bool) (sites : List (ℕ × Site)) (vs ws : List Verdict) (u w : List ℕ) → AreJudged ls sites vs → AreJudged ls sites ws →
+    items_text later (items_of (map verdict_data vs)) ++ u ≡ items_text later (items_of (map verdict_data ws)) ++ w → (vs ≡ ws) × (u ≡ w)
+verdicts_same ls later [] [] [] u w lv lw e = (refl, rest_same e)
+verdicts_same ls later [] [] (x ∷ ws) u w lv lw e = absurd lw
+verdicts_same ls later [] (v ∷ vs) ws u w lv lw e = absurd lv
+verdicts_same ls later (a ∷ sites) [] ws u w lv lw e = absurd lv
+verdicts_same ls later (a ∷ sites) (v ∷ vs) [] u w lv lw e = absurd lw
+verdicts_same ls later (a ∷ sites) (v ∷ vs) (x ∷ ws) u w lv lw e =
+    let listed = listed_verdict ls a.0 a.1 in
+    let text = λ (y : Verdict). compact_text (verdict_data y) in
+    let more_v = items_text true (items_of (map verdict_data vs)) in
+    let more_x = items_text true (items_of (map verdict_data ws)) in
+    let here : text (listed v.proved) ++ (more_v ++ u) ≡ text (listed x.proved) ++ (more_x ++ w) =
+    ap (λ y. text y ++ (more_v ++ u)) (sym lv.0) ∙ next_item later (text v) (text x) more_v more_x u w e ∙ ap (λ y. text y ++ (more_x ++ w)) lw.0 in
+    let first = verdict_told ls a.0 a.1 v.proved x.proved (more_v ++ u) (more_x ++ w) here in
+    let further = verdicts_same ls true sites vs ws u w lv.1 lw.1 first.1 in
+    (both_same (lv.0 ∙ ap listed first.0 ∙ sym lw.0) further.0, further.1)
+
+-- the flag -----------------------------------------------------------------------
+
+small_short : (n : ℕ) → n < 2 ^ 64 → IsShort n
+small_short n h = omega (arith, h)
+
+zero_short : IsShort 0
+zero_short = omega arith
+
+-- another text goes on with a comma
+flag_same : (k l : ℕ) (f g : Option ℕ) (u v : List ℕ) → IsSmallFlag f → IsSmallFlag g → IsFlag k f → IsFlag l g →
+    compact_text (flag_data f) ++ (44 ∷ u) ≡ compact_text (flag_data g) ++ (44 ∷ v) → (f ≡ g) × (u ≡ v)
+flag_same k l None None u v hf hg pf pg e = (refl, rest_same (append_cancel_left (decimal 0) (44 ∷ u) (44 ∷ v) e))
+flag_same k l (Some m) (Some n) u v hf hg pf pg e =
+    let s = decimal_same m n (44 ∷ u) (44 ∷ v) (small_short m hf) (small_short n hg) refl refl e in
+    (ap Some s.0, rest_same s.1)
+flag_same k l None (Some n) u v hf hg pf pg e =
+    let s = decimal_same 0 n (44 ∷ u) (44 ∷ v) zero_short (small_short n hg) refl refl e in
+    absurd (omega (arith, s.0, pg.0))
+flag_same k l (Some m) None u v hf hg pf pg e =
+    let s = decimal_same m 0 (44 ∷ u) (44 ∷ v) (small_short m hf) zero_short refl refl e in
+    absurd (omega (arith, s.0, pf.0))
+
+-- reports ------------------------------------------------------------------------
+
+-- the members from the flag, from the points, and behind them
+abbrev counts_of : List Verdict → Members
+counts_of vs = member (codes "proved") (natural (proved_count vs)) (member (codes "unknown") (natural (unknown_count vs)) no_members)
+
+abbrev points_on : Domain → Report → Members
+points_on domain r = member (codes "points") (list_of (point_data domain) r.points) (counts_of r.verdicts)
+
+abbrev flag_on : Domain → Report → Members
+flag_on domain r = member (codes "flagged") (flag_data r.flagged) (points_on domain r)
+
+abbrev asserts_on : Domain → Report → Members
+asserts_on domain r = member (codes "asserts") (list_of verdict_data r.verdicts) (flag_on domain r)
+
+abbrev under : Options → Report → Report
+under o r = record { options = o; flagged = r.flagged; points = r.points; verdicts = r.verdicts }
+
+one_json_of : (t : FileTree) (o : Options) (k l : ℕ) (r s : Report) → AllByRecursion (λ x. AreWords (live_names (globals_named t.parts) (labels_of t) x)) (sites_of (resolve t)) → Lists t r →
+    Lists t s →
+    AllByRecursion (GoodPoint o.domain) r.points → AllByRecursion (GoodPoint o.domain) s.points → IsSmallFlag r.flagged → IsSmallFlag s.flagged → IsFlag k r.flagged → IsFlag l s.flagged →
+    report_json (under o r) ≡ report_json (under o s) → (r.flagged ≡ s.flagged) × (r.points ≡ s.points) × (r.verdicts ≡ s.verdicts)
+one_json_of t o k l r s words lr ls gr gs small_r small_s flag_r flag_s e =
+    let end : List ℕ = 10 ∷ [] in
+    let d = o.domain in
+    let analysis = compact_text (options_data o) in
+    let from_r = members_text true (asserts_on d r) in
+    let from_s = members_text true (asserts_on d s) in
+    let e1 = append_cancel_left analysis (from_r ++ end) (from_s ++ end) (member_same (codes "analysis") analysis from_r analysis from_s end end (rest_same e)) in
+    let flagged_r = members_text true (flag_on d r) in
+    let flagged_s = members_text true (flag_on d s) in
+    let e2 = member_same (codes "asserts") (compact_text (list_of verdict_data r.verdicts)) flagged_r (compact_text (list_of verdict_data s.verdicts)) flagged_s end end (rest_same e1) in
+    let verdicts = verdicts_same (labels_of t) false (assertions_from 1 (sites_of (resolve t))) r.verdicts s.verdicts (flagged_r ++ end) (flagged_s ++ end) lr.verdicts ls.verdicts (rest_same e2) in
+    let pointed_r = members_text true (points_on d r) in
+    let pointed_s = members_text true (points_on d s) in
+    let e3 = member_same (codes "flagged") (compact_text (flag_data r.flagged)) pointed_r (compact_text (flag_data s.flagged)) pointed_s end end (rest_same verdicts.1) in
+    let flag = flag_same k l r.flagged s.flagged _ _ small_r small_s flag_r flag_s e3 in
+    let counts_r = members_text true (counts_of r.verdicts) in
+    let counts_s = members_text true (counts_of s.verdicts) in
+    let e4 = member_same (codes "points") (compact_text (list_of (point_data d) r.points)) counts_r (compact_text (list_of (point_data d) s.points)) counts_s end end flag.1 in
+    let points = points_same d (globals_named t.parts) (labels_of t) false 1 (sites_of (resolve t)) r.points s.points (counts_r ++ end) (counts_s ++ end) words lr.points ls.points gr gs
+    (rest_same e4) in
+    (flag.0, points.0, verdicts.0)
+
+-- of a language whose texts are texts of the grammar
+pub one_source_json : (L : Language) → ((t : FileTree) (z : Pieces) → L t z → Spells t z) → (r s : Report) → OneSourceJson L r s
+one_source_json L spelled r s o source one a b readable_r readable_s e =
+    let listed_s = subst (λ t. Lists t s) (one b.tree a.tree b.accepted a.accepted) b.lists in
+    let here : report_json (under o r) ≡ report_json (under o s) =
+    ap (λ x. report_json (under x r)) (sym a.options) ∙ e ∙ ap (λ x. report_json (under x s)) b.options in
+    let same = one_json_of a.tree o (length r.points) (length s.points) r s (accepted_words L spelled source a.tree a.accepted) a.lists listed_s
+    (good_points o r.points a.parts readable_r.points) (good_points o s.points b.parts readable_s.points) readable_r.flag readable_s.flag a.flag b.flag here in
+    report_by r s (a.options ∙ sym b.options) same.0 same.1 same.2

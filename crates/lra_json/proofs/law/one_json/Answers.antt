@@ -1,0 +1,6 @@
+use Rattle.lra_report.specs.View.{report_of}
+use Rattle.lra_json.proofs.OneJson.{one_source_json}
+use Rattle.lra_json.proofs.law.one_json.Goals as goal
+
+pub returns : goal.returns
+returns c = one_source_json _ (λ t z h. h) (report_of c.args.first.now) (report_of c.args.second.now)

@@ -1,0 +1,134 @@
+//! Points with their parts, and verdicts, as JSON values.
+
+ghost use Rattle.std.specs.Prelude.{◌≡◌, IfOk, map};
+ghost use Rattle.serde_json.specs.Data.{string};
+ghost use Rattle.serde_json.specs.View.{view};
+ghost use Rattle.lra_json.specs.ReportJson.{generators_data, rows_data, part_data, point_data, verdict_data};
+ghost use Rattle.lra_findings.specs.ReportText as written;
+ghost use Rattle.lra_report.specs.View.{point_report_of, verdict_of};
+
+use crate::lists::{generator_values, row_values};
+use lra_base::{Domain, Place};
+use lra_report::{Part, PointReport, Verdict};
+use lra_show::Names;
+use serde_json::{Value, json};
+use std::alloc::{AllocError, Global};
+
+/// The list of a part's rows.
+fn rows_value(alloc: Global, part: &Part, names: &Names) -> Result<Value, AllocError>
+    ensures { IfOk result (λ value. view value ≡ rows_data names.now part.now.rows) }
+{
+    let rows = part.rows();
+    let texts = row_values(alloc, rows.rows(), rows.kinds(), names)?;
+    Ok(Value::from(texts))
+}
+
+/// The list of a part's generators, empty where there is none.
+fn generators_value(alloc: Global, part: &Part, names: &Names) -> Result<Value, AllocError>
+    ensures { IfOk result (λ value. view value ≡ generators_data names.now part.now.generators) }
+{
+    match part.generators() {
+        None => {
+            let texts: Vec<Value> = Vec::new(alloc);
+            Ok(Value::from(texts))
+        }
+        Some(generators) => {
+            let texts = generator_values(alloc, generators.rows(), generators.kinds(), names)?;
+            Ok(Value::from(texts))
+        }
+    }
+}
+
+/// A part: its rows, and under polyhedra its generators.
+fn part_value(
+    alloc: Global,
+    domain: Domain,
+    part: &Part,
+    names: &Names,
+) -> Result<Value, AllocError>
+    ensures { IfOk result (λ value. view value ≡ part_data domain names.now part.now) }
+{
+    let rows = rows_value(alloc, part, names)?;
+    match domain {
+        Domain::Poly => {
+            let generators = generators_value(alloc, part, names)?;
+            json!(in alloc; {"generators": generators, "rows": rows})
+        }
+        Domain::Box => json!(in alloc; {"rows": rows}),
+        Domain::Oct => json!(in alloc; {"rows": rows}),
+    }
+}
+
+/// The parts of a state.
+fn part_values(
+    alloc: Global,
+    domain: Domain,
+    parts: &[Part],
+    names: &Names,
+) -> Result<Vec<Value>, AllocError>
+    ensures { IfOk result (λ values. map view values.items ≡ map (part_data domain names.now) parts.now) }
+{
+    let mut values = Vec::new(alloc);
+    for part in parts {
+        let value = part_value(alloc, domain, part, names)?;
+        values.push(value)?;
+    }
+    Ok(values)
+}
+
+/// A place as it is printed, `LINE:COLUMN`.
+fn place_value(alloc: Global, place: Place) -> Result<Value, AllocError>
+    ensures { IfOk result (λ value. view value ≡ string (written.place_text place)) }
+{
+    let line = place.line;
+    let column = place.column;
+    let text = format!(in alloc; "{line}:{column}")?;
+    Ok(Value::from(text))
+}
+
+/// A point.
+fn point_value(alloc: Global, domain: Domain, point: &PointReport) -> Result<Value, AllocError>
+    ensures { IfOk result (λ value. view value ≡ point_data domain (point_report_of point.now)) }
+{
+    let parts = part_values(alloc, domain, point.state.as_slice(), &point.names)?;
+    let place = place_value(alloc, point.place)?;
+    let path = point.path.as_str();
+    json!(in alloc; {"number": point.number, "parts": parts, "path": path, "place": place})
+}
+
+/// The points.
+pub(crate) fn point_values(
+    alloc: Global,
+    domain: Domain,
+    points: &[PointReport],
+) -> Result<Vec<Value>, AllocError>
+    ensures { IfOk result (λ values. map view values.items ≡
+        map (point_data domain) (map point_report_of points.now)) }
+{
+    let mut values = Vec::new(alloc);
+    for point in points {
+        let value = point_value(alloc, domain, point)?;
+        values.push(value)?;
+    }
+    Ok(values)
+}
+
+/// An assertion.
+fn verdict_value(alloc: Global, verdict: &Verdict) -> Result<Value, AllocError>
+    ensures { IfOk result (λ value. view value ≡ verdict_data (verdict_of verdict.now)) }
+{
+    let word = if verdict.proved { "proved" } else { "unknown" };
+    json!(in alloc; {"point": verdict.number, "verdict": word})
+}
+
+/// The assertions.
+pub(crate) fn verdict_values(alloc: Global, verdicts: &[Verdict]) -> Result<Vec<Value>, AllocError>
+    ensures { IfOk result (λ values. map view values.items ≡ map verdict_data (map verdict_of verdicts.now)) }
+{
+    let mut values = Vec::new(alloc);
+    for verdict in verdicts {
+        let value = verdict_value(alloc, verdict)?;
+        values.push(value)?;
+    }
+    Ok(values)
+}
