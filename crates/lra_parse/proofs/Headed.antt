@@ -5,15 +5,15 @@ use Rattle.lra_base.specs.declared.refusals.Cause.TheVariants.{Syntax}
 use Rattle.lra_tree.specs.declared.tokens.Mark.{Mark}
 use Rattle.lra_tree.specs.declared.trees.Identifier.{Identifier}
 use Rattle.lra_tree.specs.Trees.{PartTree}
-use Rattle.lra_parse.specs.declared.reading.Fault.{Fault}
-use Rattle.lra_parse.specs.declared.reading.Stopped.{Stopped}
-use Rattle.lra_parse.specs.declared.reading.Stopped.TheVariants as stopped
-use Rattle.lra_parse.specs.Tests.{first}
-use Rattle.lra_parse.specs.Reading.{Text, Read, Parse, stop, map_read, tail, expect, take_by, taken, next_name, list_step, GivesErr}
-use Rattle.lra_parse.specs.Expressions.{ended}
-use Rattle.lra_parse.specs.Files.{is_main, next_main, part_at, begins_part, parts_at, next_end, file_of, file_at}
-use Rattle.lra_parse.proofs.Exact.{bind_ok, ok_is}
-use Rattle.lra_parse.proofs.Turning.{Left, turn_on, turn_err, turn_off, expect_err}
+use Rattle.lra_readers.specs.declared.reading.Fault.{Fault}
+use Rattle.lra_readers.specs.declared.reading.Stopped.{Stopped}
+use Rattle.lra_readers.specs.declared.reading.Stopped.TheVariants as stopped
+use Rattle.lra_readers.specs.Tests.{first}
+use Rattle.lra_readers.specs.Reading.{Text, Read, Parse, stop, map_read, tail, expect, take_by, taken, next_name, list_step, GivesErr}
+use Rattle.lra_readers.specs.Expressions.{ended}
+use Rattle.lra_readers.specs.Files.{is_main, next_main, part_at, begins_part, parts_at, next_end, file_of, file_at}
+use Rattle.lra_readers.proofs.Exact.{bind_ok, ok_is}
+use Rattle.lra_phrases.proofs.Turning.{Left, turn_on, turn_err, turn_off, expect_err}
 
 -- the name `main` ----------------------------------------------------------------------------------------------------
 

@@ -14,14 +14,14 @@ use Rattle.lra_tree.specs.declared.trees.BlockItem.TheFolds.{fold-roll-Block}
 use Rattle.lra_tree.specs.Trees.{DeclarationTree, StmtTree, ItemsTree, no_items, declaration, statement}
 use Rattle.lra_tree.specs.Views as views
 use Rattle.lra_tree.specs.Views.{declaration_view, stmt_view, item_view, block_view, item_step, stmt_step, block_step}
-use Rattle.lra_parse.specs.declared.reading.Fault.{Fault}
-use Rattle.lra_parse.specs.declared.reading.Stopped.{Stopped}
-use Rattle.lra_parse.specs.declared.reading.Stopped.TheVariants as stopped
-use Rattle.lra_parse.specs.Tests.{first, is_mark}
-use Rattle.lra_parse.specs.Reading.{Text, Read, Parse, stop, ◌>>=◌, map_read, expect, expect_at, list_step, GivesErr}
-use Rattle.lra_parse.specs.Statements.{declaration_at, ItemTree, declared, stated, put, items_from, begins_item, stated_of, body_of, block_from, too_deep, levels, branch_at, block_at, simple_at}
-use Rattle.lra_parse.specs.Statements.{item_at, items_at, put_list, put_all, ArePut}
-use Rattle.lra_parse.proofs.Turning.{Left, turn_on, turn_err, turn_off}
+use Rattle.lra_readers.specs.declared.reading.Fault.{Fault}
+use Rattle.lra_readers.specs.declared.reading.Stopped.{Stopped}
+use Rattle.lra_readers.specs.declared.reading.Stopped.TheVariants as stopped
+use Rattle.lra_readers.specs.Tests.{first, is_mark}
+use Rattle.lra_readers.specs.Reading.{Text, Read, Parse, stop, ◌>>=◌, map_read, expect, expect_at, list_step, GivesErr}
+use Rattle.lra_readers.specs.Statements.{declaration_at, ItemTree, declared, stated, put, items_from, begins_item, stated_of, body_of, block_from, too_deep, levels, branch_at, block_at, simple_at}
+use Rattle.lra_readers.specs.Statements.{item_at, items_at, put_list, put_all, ArePut}
+use Rattle.lra_phrases.proofs.Turning.{Left, turn_on, turn_err, turn_off}
 
 pub branch_zero : (d : ℕ) (T : Text) → d ≡ 0 → branch_at d T ≡ too_deep T
 unfolding levels

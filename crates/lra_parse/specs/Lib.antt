@@ -1,6 +1,1 @@
-pub mod Tests
-pub mod Reading
-pub mod Expressions
-pub mod Statements
 pub mod Heads
-pub mod Files

@@ -2,21 +2,21 @@
 
 ghost use Rattle.std.specs.Prelude.{◌≡◌, ◌<◌, ◌≤◌, [], ◌∷◌, length, Some, option_map, IfOk};
 ghost use Rattle.lra_tree.specs.Views.{block_view, function_view, part_view, tree_view};
-ghost use Rattle.lra_parse.specs.declared.functions.Lead.TheVariants as lead;
-ghost use Rattle.lra_parse.specs.Tests.{first};
-ghost use Rattle.lra_parse.specs.Reading.{Gives, map_read, take_by, has};
-ghost use Rattle.lra_parse.specs.Statements.{commas, listed};
-ghost use Rattle.lra_parse.specs.Files.{AreSmall, next_main, next_end, next_built_in, named, called, at_type, at_void};
-ghost use Rattle.lra_parse.specs.Files.{lead_form, plain_lead, read_lead, ends_parameter, name_or_none, parameter_at};
-ghost use Rattle.lra_parse.specs.Files.{parameters_at, names_of, signature_of, function_of, ending, signature_at};
-ghost use Rattle.lra_parse.specs.Files.{rest_at, part_at, begins_part, file_at};
+ghost use Rattle.lra_readers.specs.declared.lead.Lead.TheVariants as lead;
+ghost use Rattle.lra_readers.specs.Tests.{first};
+ghost use Rattle.lra_readers.specs.Reading.{Gives, map_read, take_by, has};
+ghost use Rattle.lra_readers.specs.Statements.{commas, listed};
+ghost use Rattle.lra_readers.specs.Files.{AreSmall, next_main, next_end, next_built_in, named, called, at_type, at_void};
+ghost use Rattle.lra_readers.specs.Files.{lead_form, plain_lead, read_lead, ends_parameter, name_or_none, parameter_at};
+ghost use Rattle.lra_readers.specs.Files.{parameters_at, names_of, signature_of, function_of, ending, signature_at};
+ghost use Rattle.lra_readers.specs.Files.{rest_at, part_at, begins_part, file_at};
 ghost use Rattle.lra_parse.specs.Heads.{signature_view};
 
-use crate::assignments::read_type;
 use crate::globals::read_globals;
-use crate::reading::{Stopped, expect, next_is, next_is_name, read_name, stop, tail};
 use crate::statements::read_body;
 use lra_base::{Cause, Place};
+use lra_phrases::read_type;
+use lra_readers::{Lead, Stopped, expect, next_is, next_is_name, read_name, stop, tail};
 use lra_tree::{Block, Function, Identifier, Item, Kind, Mark, Parameters, Token, Tree};
 use std::alloc::{AllocError, Global};
 
@@ -33,42 +33,15 @@ fn read_main(alloc: Global, rest: &[Token]) -> Result<(Identifier, &[Token]), St
     }
 }
 
-/// What a part begins with.
-pub enum Lead {
-    /// `int main`.
-    Main(Identifier),
-    /// A type and a name.
-    Typed(Identifier),
-    /// `void` and a name.
-    Void(Identifier),
-    /// `extern`, or `input`, `assert` or `assume` in place of a name: what no function begins with.
-    Bare,
-}
-
-impl Drop for Lead {
-    fn drop(self) {
-        match self {
-            Lead::Main(_) => {}
-            Lead::Typed(_) => {}
-            Lead::Void(_) => {}
-            Lead::Bare => {}
-        }
-    }
-}
-
-impl Lead {
-    /// The part, behind this.
-    fn read_rest(self, alloc: Global, rest: &[Token]) -> Result<(Item, &[Token]), Stopped>
-        requires { AreSmall rest.now }
-        ensures shorter { IfOk result (λ r. length r.1.now < length rest.now) }
-        ensures gives { Gives (λ r. (part_view r.0, r.1.now)) result (rest_at 63 self rest.now) }
-    {
-        match self {
-            Lead::Main(name) => read_signature(alloc, Some((true, name)), rest),
-            Lead::Typed(name) => read_typed(alloc, name, rest),
-            Lead::Void(name) => read_signature(alloc, Some((false, name)), rest),
-            Lead::Bare => read_signature(alloc, None, rest),
-        }
+/// The part, behind what it begins with.
+fn read_rest(alloc: Global, lead: Lead, rest: &[Token]) -> Result<(Item, &[Token]), Stopped>
+    requires { AreSmall rest.now }
+    ensures shorter { IfOk result (λ r. length r.1.now < length rest.now) }
+    ensures gives { Gives (λ r. (part_view r.0, r.1.now)) result (rest_at 63 lead rest.now) }
+{
+    match lead.split() {
+        Ok(name) => read_typed(alloc, name, rest),
+        Err(head) => read_signature(alloc, head, rest),
     }
 }
 
@@ -386,7 +359,7 @@ fn read_part(alloc: Global, rest: &[Token]) -> Result<(Item, &[Token]), Stopped>
     ensures gives { Gives (λ r. (part_view r.0, r.1.now)) result (part_at 63 rest.now) }
 {
     let (lead, behind) = read_lead(alloc, rest)?;
-    let (item, after) = lead.read_rest(alloc, behind)?;
+    let (item, after) = read_rest(alloc, lead, behind)?;
     Ok((item, after))
 }
 

@@ -3,12 +3,12 @@
 ghost use Rattle.std.specs.Prelude.{◌≡◌, ◌<◌, ◌≤◌, pos, length, IfOk};
 ghost use Rattle.lra_tree.specs.Views.{global_view, globals_view, part_view};
 ghost use Rattle.lra_tree.specs.Trees.{globals};
-ghost use Rattle.lra_parse.specs.Reading.{Gives, map_read};
-ghost use Rattle.lra_parse.specs.Statements.{commas_from};
-ghost use Rattle.lra_parse.specs.Files.{AreSmall, opposite, signed_at, value_at, global_at, globals_of, globals_at};
+ghost use Rattle.lra_readers.specs.Reading.{Gives, map_read};
+ghost use Rattle.lra_readers.specs.Statements.{commas_from};
+ghost use Rattle.lra_readers.specs.Files.{AreSmall, opposite, signed_at, value_at, global_at, globals_of, globals_at};
 
-use crate::reading::{Stopped, expect, next_is, next_number, read_name, stop, tail};
 use lra_base::Cause;
+use lra_readers::{Stopped, expect, next_is, next_number, read_name, stop, tail};
 use lra_tree::{Global as Variable, Globals, Identifier, Item, Mark, Token};
 use std::alloc::Global;
 

@@ -5,18 +5,16 @@ ghost use Rattle.std.specs.Prelude.{◌≡◌, ◌<◌, ◌≤◌, length, optio
 ghost use Rattle.lra_tree.specs.Views.{source_view, assign_view, cond_view, init_view, stmt_view};
 ghost use Rattle.lra_tree.specs.Trees.{break, continue};
 ghost use Rattle.lra_tree.specs.declared.tokens.Mark.TheVariants.{Break, Continue, Semicolon};
-ghost use Rattle.lra_parse.specs.Tests.{first, is_loop, is_jump};
-ghost use Rattle.lra_parse.specs.Reading.{Gives};
-ghost use Rattle.lra_parse.specs.Expressions.{cond_at};
-ghost use Rattle.lra_parse.specs.Statements.{source_at, assign_at, up_to, init_of, init_at, for_of, for_head_at};
-ghost use Rattle.lra_parse.specs.Statements.{read_jump, read_return};
+ghost use Rattle.lra_readers.specs.Tests.{first, is_loop, is_jump};
+ghost use Rattle.lra_readers.specs.Reading.{Gives};
+ghost use Rattle.lra_readers.specs.Expressions.{cond_at};
+ghost use Rattle.lra_readers.specs.Statements.{source_at, assign_at, up_to, init_of, init_at, for_of, for_head_at};
+ghost use Rattle.lra_readers.specs.Statements.{read_jump, read_return};
 ghost use Rattle.lra_parse.specs.Heads.{head_view};
 
-use crate::assignments::{read_assign, read_declaration};
-use crate::calls::read_source;
-use crate::conditions::read_cond;
-use crate::reading::{Stopped, expect, expect_at, next_is, tail};
 use lra_base::Place;
+use lra_phrases::{read_assign, read_cond, read_declaration, read_source};
+use lra_readers::{Stopped, expect, expect_at, next_is, tail};
 use lra_tree::{Assign, Cond, Init, Mark, Source, Stmt, Token};
 use std::alloc::Global;
 

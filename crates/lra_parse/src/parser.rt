@@ -5,11 +5,11 @@ ghost use Rattle.lra_base.specs.Refused.{IfRefused};
 ghost use Rattle.lra_tree.specs.Grammar.{Spells};
 ghost use Rattle.lra_tree.specs.Faults.{IsTree, IsTextFault};
 ghost use Rattle.lra_tree.specs.Views.{tree_view};
-ghost use Rattle.lra_parse.specs.Files.{EndsOnce, AreSmall, file_at};
+ghost use Rattle.lra_readers.specs.Files.{EndsOnce, AreSmall, file_at};
 
 use crate::functions::read_file;
-use crate::reading::{Fault, Stopped};
 use lra_base::{Refusal, SourceError};
+use lra_readers::{Fault, Stopped};
 use lra_tree::{Token, Tree};
 use std::alloc::Global;
 

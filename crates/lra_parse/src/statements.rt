@@ -4,21 +4,21 @@ ghost use Rattle.std.specs.Prelude.{◌≡◌, ◌<◌, ◌≤◌, length, map, 
 ghost use Rattle.lra_tree.specs.Views.{cond_view, stmt_view, item_view, items_of, block_view};
 ghost use Rattle.lra_tree.specs.Trees.{assert, assume};
 ghost use Rattle.lra_tree.specs.declared.tokens.Mark.TheVariants.{Assert, Assume, CloseBrace};
-ghost use Rattle.lra_parse.specs.Tests.{first};
-ghost use Rattle.lra_parse.specs.Reading.{Gives, expect_at, map_read, has};
-ghost use Rattle.lra_parse.specs.Expressions.{in_parens, cond_at};
-ghost use Rattle.lra_parse.specs.Statements.{stmt_mark, begins_stmt, begins_item, read_nothing, named_rest};
-ghost use Rattle.lra_parse.specs.Statements.{read_assigned, read_check, read_if, else_part, read_while, read_for};
-ghost use Rattle.lra_parse.specs.Statements.{simple_at, branch_at, block_at, item_at, items_at, body_of, put};
+ghost use Rattle.lra_readers.specs.Tests.{first};
+ghost use Rattle.lra_readers.specs.Reading.{Gives, expect_at, map_read, has};
+ghost use Rattle.lra_readers.specs.Expressions.{in_parens, cond_at};
+ghost use Rattle.lra_readers.specs.Statements.{stmt_mark, begins_stmt, begins_item, read_nothing, named_rest};
+ghost use Rattle.lra_readers.specs.Statements.{read_assigned, read_check, read_if, else_part, read_while, read_for};
+ghost use Rattle.lra_readers.specs.Statements.{simple_at, branch_at, block_at, item_at, items_at, body_of, put};
 
-use crate::assignments::{next_step, read_assign, read_assign_rest, read_declaration};
-use crate::calls::read_call;
-use crate::conditions::read_cond;
 use crate::loops::{
     begins_jump, begins_loop, read_break, read_continue, read_for_head, read_return,
 };
-use crate::reading::{Stopped, expect, expect_at, next_is, next_is_name, read_name, stop, tail};
 use lra_base::{Cause, Place};
+use lra_phrases::{
+    next_step, read_assign, read_assign_rest, read_call, read_cond, read_declaration,
+};
+use lra_readers::{Stopped, expect, expect_at, next_is, next_is_name, read_name, stop, tail};
 use lra_tree::{Block, BlockItem, Cond, Identifier, Mark, Stmt, Token};
 use std::alloc::Global;
 

@@ -17,10 +17,10 @@ use Rattle.lra_tree.specs.Tokens.{greatest_length}
 use Rattle.lra_meaning.specs.Refuse.{limit_fault, bad_name, recursive, past_limit, too_long, bad_token, bad_text, OneAnswer}
 use Rattle.lra_tree.specs.Reach.{NotRecursive}
 use Rattle.lra_lex.proofs.EachReading.{each_reading}
-use Rattle.lra_parse.specs.Reading.{Read}
-use Rattle.lra_parse.specs.Files.{EndsOnce, file_at}
-use Rattle.lra_parse.proofs.Answered.{tree_found, stops_at}
-use Rattle.lra_parse.proofs.Ended.{lexed_end}
+use Rattle.lra_readers.specs.Reading.{Read}
+use Rattle.lra_readers.specs.Files.{EndsOnce, file_at}
+use Rattle.lra_readers.proofs.Answered.{tree_found, stops_at}
+use Rattle.lra_readers.proofs.Ended.{lexed_end}
 use Rattle.lra_calls.proofs.Deciding.{each_recursion}
 use Rattle.lra_graph.proofs.Agreement.{graphs_agree}
 use Rattle.lra_graph.proofs.DistinctSites.{distinct_sites}

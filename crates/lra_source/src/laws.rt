@@ -14,7 +14,7 @@ pub fn one_answer()
     ensures { OneAnswer Spells }
 {
     lra_lex::one_reading();
-    lra_parse::one_tree();
+    lra_readers::one_tree();
 }
 
 /// Every list of bytes is refused, one of more than 65,536 bytes for that, or accepted with its tree and the tree of

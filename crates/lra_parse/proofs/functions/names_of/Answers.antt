@@ -1,4 +1,4 @@
-use Rattle.lra_parse.proofs.Named.{next_named, next_unnamed}
+use Rattle.lra_readers.proofs.Named.{next_named, next_unnamed}
 use Rattle.lra_parse.proofs.functions.names_of.Goals as goal
 
 pub names-preserved-in-Continue-1 : goal.names-preserved-in-Continue-1

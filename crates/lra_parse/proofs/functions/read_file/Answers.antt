@@ -2,10 +2,10 @@ use Rattle.std.proofs.Common.{List, ap, map}
 use Rattle.std.proofs.lemmas.Result.{err_from_is_err_and}
 use Rattle.lra_tree.specs.Trees.{PartTree}
 use Rattle.lra_tree.specs.Views.{part_view}
-use Rattle.lra_parse.specs.Files.{parts_at}
-use Rattle.lra_parse.proofs.Turning.{list_grown}
+use Rattle.lra_readers.specs.Files.{parts_at}
+use Rattle.lra_phrases.proofs.Turning.{list_grown}
 use Rattle.lra_parse.proofs.Headed.{parts_start, part_turn, file_exit, end_exit, file_gives}
-use Rattle.lra_parse.proofs.Small.{small_part}
+use Rattle.lra_readers.proofs.Small.{small_part}
 use Rattle.lra_parse.proofs.functions.read_file.Goals as goal
 
 pub parts-init : goal.parts-init

@@ -1,6 +1,6 @@
 use Rattle.std.proofs.Common.{length, map}
 use Rattle.lra_tree.specs.Views.{part_view}
-use Rattle.lra_parse.specs.Files.{AreSmall, parts_at}
+use Rattle.lra_readers.specs.Files.{AreSmall, parts_at}
 use Rattle.lra_parse.proofs.Headed.{PartsLeft}
 use Rattle.lra_parse.proofs.functions.read_file.Given as goal
 

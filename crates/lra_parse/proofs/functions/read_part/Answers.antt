@@ -1,4 +1,4 @@
-use Rattle.lra_parse.proofs.Small.{small_lead}
+use Rattle.lra_readers.proofs.Small.{small_lead}
 use Rattle.lra_parse.proofs.functions.read_part.Goals as goal
 
 pub read_rest-requires : goal.read_rest-requires

@@ -1,4 +1,4 @@
-use Rattle.lra_parse.proofs.Small.{small_name}
+use Rattle.lra_readers.proofs.Small.{small_name}
 use Rattle.lra_parse.proofs.globals.read_global.Goals as goal
 
 pub read_value-requires : goal.read_value-requires

@@ -2,8 +2,8 @@ use Rattle.std.proofs.lemmas.Result.{err_from_is_err_and}
 use Rattle.lra_tree.specs.declared.tokens.Mark.TheVariants as mark
 use Rattle.lra_tree.specs.Trees.{globals}
 use Rattle.lra_tree.specs.Views.{globals_view}
-use Rattle.lra_parse.specs.Statements.{commas_from}
-use Rattle.lra_parse.specs.Files.{value_at, global_at, globals_of}
+use Rattle.lra_readers.specs.Statements.{commas_from}
+use Rattle.lra_readers.specs.Files.{value_at, global_at, globals_of}
 use Rattle.lra_parse.proofs.Headed.{ended_exit}
 use Rattle.lra_parse.proofs.globals.read_globals.Goals as goal
 

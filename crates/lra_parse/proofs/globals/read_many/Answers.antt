@@ -3,12 +3,12 @@ use Rattle.std.proofs.lemmas.Result.{err_from_is_err_and}
 use Rattle.lra_tree.specs.declared.tokens.Mark.TheVariants as mark
 use Rattle.lra_tree.specs.Trees.{GlobalTree}
 use Rattle.lra_tree.specs.Views.{global_view}
-use Rattle.lra_parse.specs.Tests.{is_mark}
-use Rattle.lra_parse.specs.Reading.{list_step}
-use Rattle.lra_parse.specs.Expressions.{behind}
-use Rattle.lra_parse.specs.Files.{value_at, global_at, globals_of}
-use Rattle.lra_parse.proofs.Turning.{turns_start, turn_off, list_grown, comma_turn, comma_exit, from_gives, from_exit}
-use Rattle.lra_parse.proofs.Small.{small_tail, small_value, small_global}
+use Rattle.lra_readers.specs.Tests.{is_mark}
+use Rattle.lra_readers.specs.Reading.{list_step}
+use Rattle.lra_readers.specs.Expressions.{behind}
+use Rattle.lra_readers.specs.Files.{value_at, global_at, globals_of}
+use Rattle.lra_phrases.proofs.Turning.{turns_start, turn_off, list_grown, comma_turn, comma_exit, from_gives, from_exit}
+use Rattle.lra_readers.proofs.Small.{small_tail, small_value, small_global}
 use Rattle.lra_parse.proofs.globals.read_many.Goals as goal
 
 pub globals-init : goal.globals-init

@@ -1,11 +1,11 @@
 use Rattle.std.proofs.Common.{length, ◌≤◌, map}
 use Rattle.lra_tree.specs.declared.tokens.Mark.TheVariants as mark
 use Rattle.lra_tree.specs.Views.{global_view}
-use Rattle.lra_parse.specs.Tests.{is_mark}
-use Rattle.lra_parse.specs.Reading.{list_step, list_of}
-use Rattle.lra_parse.specs.Expressions.{behind}
-use Rattle.lra_parse.specs.Files.{AreSmall, global_at}
-use Rattle.lra_parse.proofs.Turning.{Left}
+use Rattle.lra_readers.specs.Tests.{is_mark}
+use Rattle.lra_readers.specs.Reading.{list_step, list_of}
+use Rattle.lra_readers.specs.Expressions.{behind}
+use Rattle.lra_readers.specs.Files.{AreSmall, global_at}
+use Rattle.lra_phrases.proofs.Turning.{Left}
 use Rattle.lra_parse.proofs.globals.read_many.Given as goal
 
 abbrev pub invariant-globals : goal.invariant-globals

@@ -1,7 +1,7 @@
 use Rattle.std.proofs.lemmas.Result.{err_from_is_err_and}
 use Rattle.lra_tree.specs.Views.{assign_view}
-use Rattle.lra_parse.specs.Statements.{assign_at}
-use Rattle.lra_parse.proofs.Turning.{up_to_exit}
+use Rattle.lra_readers.specs.Statements.{assign_at}
+use Rattle.lra_phrases.proofs.Turning.{up_to_exit}
 use Rattle.lra_parse.proofs.loops.read_assign_to.Goals as goal
 
 pub returns-in_err-after-clause-gives : goal.returns-in_err-after-clause-gives

@@ -1,5 +1,5 @@
 use Rattle.lra_tree.specs.Views.{tree_view}
-use Rattle.lra_parse.proofs.Answered.{tree_found}
+use Rattle.lra_readers.proofs.Answered.{tree_found}
 use Rattle.lra_parse.proofs.parser.parse.Goals as goal
 
 pub returns-in-Ok-clause-found : goal.returns-in-Ok-clause-found

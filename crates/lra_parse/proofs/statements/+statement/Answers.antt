@@ -5,8 +5,8 @@ use Rattle.lra_tree.specs.Trees.{StmtTree, ItemsTree}
 use Rattle.lra_tree.specs.Views.{block_view, stmt_view}
 use Rattle.lra_tree.specs.declared.tokens.Token.{Token}
 use Rattle.lra_tree.specs.declared.trees.Block.{Block}
-use Rattle.lra_parse.specs.Reading.{Read, Gives}
-use Rattle.lra_parse.proofs.Turning.{ok_shorter}
+use Rattle.lra_readers.specs.Reading.{Read, Gives}
+use Rattle.lra_phrases.proofs.Turning.{ok_shorter}
 use Rattle.lra_parse.proofs.Stated.{state_start, state_turn, body_exit, body_closes, block_stmt, branch_block, item_other, statement_item}
 use Rattle.lra_parse.proofs.statements.+statement.Goals as goal
 

@@ -1,5 +1,5 @@
 use Rattle.std.proofs.Common.{length, ◌+◌, ◌*◌, ◌<◌}
-use Rattle.lra_parse.specs.Statements.{items_at}
+use Rattle.lra_readers.specs.Statements.{items_at}
 use Rattle.lra_parse.proofs.Stated.{State}
 use Rattle.lra_parse.proofs.statements.+statement.Given as goal
 

@@ -7,8 +7,8 @@ use Rattle.lra_tree.specs.Views.{tree_view}
 use Rattle.lra_tree.specs.Faults.{IsTree}
 use Rattle.lra_tree.specs.Grammar.{Spells}
 use Rattle.lra_meaning.specs.Refuse.{Refuse}
-use Rattle.lra_parse.specs.Files.{EndsOnce, AreSmall}
-use Rattle.lra_parse.proofs.Ended.{lexed_end, lexed_small}
+use Rattle.lra_readers.specs.Files.{EndsOnce, AreSmall}
+use Rattle.lra_readers.proofs.Ended.{lexed_end, lexed_small}
 use Rattle.lra_source.proofs.ReadSteps.{long_refused, exit_lexed, exit_parsed, has_tree}
 use Rattle.lra_source.proofs.reading.read_tree.Goals as goal
 

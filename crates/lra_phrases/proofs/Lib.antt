@@ -1,0 +1,5 @@
+pub mod Lone
+pub mod Viewed
+pub mod Turning
+pub mod Unfolded
+pub mod Called

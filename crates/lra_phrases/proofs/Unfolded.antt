@@ -1,0 +1,183 @@
+-- Readers with levels, one level unfolded.
+use Rattle.std.proofs.Common.{◌≡◌, ℕ, zero, suc, ◌-◌, true, false, List, [], ◌∷◌, Option, Some, None, Ok, Err, refl, sym, ap, ◌∙◌, arith}
+use Rattle.lra_base.specs.declared.refusals.Cause.TheVariants.{TooDeep}
+use Rattle.lra_tree.specs.declared.tokens.Mark.TheVariants as mark
+use Rattle.lra_base.specs.declared.refusals.Place.{Place}
+use Rattle.lra_tree.specs.declared.tokens.Mark.{Mark}
+use Rattle.lra_tree.specs.declared.tokens.Kind.{Kind}
+use Rattle.lra_tree.specs.declared.tokens.Kind.TheVariants.{Name, Number, Mark as MarkOf, Reserved, Unclosed, End}
+use Rattle.lra_tree.specs.declared.tokens.Token.{Token}
+use Rattle.lra_tree.specs.declared.trees.Identifier.{Identifier}
+use Rattle.lra_tree.specs.Trees.{UnaryTree, negated, positive, group, literal, variable, ExprTree, NegationTree, opposite, opposite_again, value_of_unary, CondTree}
+use Rattle.lra_readers.specs.Tests.{first, is_mark, is_kind}
+use Rattle.lra_readers.specs.Reading.{Text, Read, stop, ◌>>=◌, seq, map_read, tail, expect, take_by, taken, next_name, next_number, number_of, identifier_of, one_of}
+use Rattle.lra_readers.specs.Expressions.{behind, in_parens, unary_marks, unary_mark, unary_form, unary_at, expr_at, negated_at, positive_at, grouped_at, TestMark, at_not, at_open, test_mark, test_form}
+use Rattle.lra_readers.specs.Expressions.{negation_form, tests, test_at, negation_at, cond_at, opposed_at, closed_at, after_group, negation_of}
+use Rattle.lra_readers.proofs.Exact.{ok_is}
+use Rattle.lra_phrases.proofs.Turning.{expect_value}
+
+pub unary_is : (d : ℕ) (T : Text) → unary_at d T ≡ unary_form (negated_at d) (positive_at d) (grouped_at d) (unary_mark (first T)) T
+unfolding unary_at
+unary_is zero T = refl
+unary_is (suc d) T = refl
+
+pub negated_zero : (d : ℕ) (T : Text) → d ≡ 0 → negated_at d T ≡ stop TooDeep T
+negated_zero d T h = rw h refl
+
+pub negated_some : (d : ℕ) (T : Text) → (d ≡ 0 → ⊥) → negated_at d T ≡ behind mark.Minus (map_read negated (unary_at (d - 1))) T
+negated_some zero T h = absurd (h refl)
+negated_some (suc d) T h = let e : d ≡ suc d - 1 = omega arith in ap (λ (k : ℕ). behind mark.Minus (map_read negated (unary_at k)) T) e
+
+pub positive_zero : (d : ℕ) (T : Text) → d ≡ 0 → positive_at d T ≡ stop TooDeep T
+positive_zero d T h = rw h refl
+
+pub positive_some : (d : ℕ) (T : Text) → (d ≡ 0 → ⊥) → positive_at d T ≡ behind mark.Plus (map_read positive (unary_at (d - 1))) T
+positive_some zero T h = absurd (h refl)
+positive_some (suc d) T h = let e : d ≡ suc d - 1 = omega arith in ap (λ (k : ℕ). behind mark.Plus (map_read positive (unary_at k)) T) e
+
+pub grouped_zero : (d : ℕ) (T : Text) → d ≡ 0 → grouped_at d T ≡ stop TooDeep T
+grouped_zero d T h = rw h refl
+
+pub grouped_some : (d : ℕ) (T : Text) → (d ≡ 0 → ⊥) → grouped_at d T ≡ map_read group (in_parens (expr_at (d - 1))) T
+grouped_some zero T h = absurd (h refl)
+grouped_some (suc d) T h = let e : d ≡ suc d - 1 = omega arith in ap (λ (k : ℕ). map_read group (in_parens (expr_at k)) T) e
+
+pub ruleset negated_rules = (negated_zero, negated_some)
+
+pub ruleset positive_rules = (positive_zero, positive_some)
+
+pub ruleset grouped_rules = (grouped_zero, grouped_some)
+
+-- the next token is a literal, or a name ------------------------------------------------------------------------------
+
+number_mark : (k : Kind) (v : ℕ) (m : Mark) → number_of k ≡ Some v → is_kind m k ≡ false
+number_mark (Name w) v m e = absurd cc
+number_mark (Number n) v m e = refl
+number_mark (MarkOf k) v m e = absurd cc
+number_mark Reserved v m e = absurd cc
+number_mark Unclosed v m e = absurd cc
+number_mark End v m e = absurd cc
+
+name_mark : (k : Kind) (at : Place) (x : Identifier) (m : Mark) → identifier_of k at ≡ Some x → is_kind m k ≡ false
+name_mark (Name w) at x m e = refl
+name_mark (Number n) at x m e = absurd cc
+name_mark (MarkOf k) at x m e = absurd cc
+name_mark Reserved at x m e = absurd cc
+name_mark Unclosed at x m e = absurd cc
+name_mark End at x m e = absurd cc
+
+name_number : (k : Kind) (at : Place) (x : Identifier) → identifier_of k at ≡ Some x → number_of k ≡ None
+name_number (Name w) at x e = refl
+name_number (Number n) at x e = absurd cc
+name_number (MarkOf k) at x e = absurd cc
+name_number Reserved at x e = absurd cc
+name_number Unclosed at x e = absurd cc
+name_number End at x e = absurd cc
+
+-- no mark of a table is a token that is no mark
+pub no_table : {A : Type 0} (ks : List (Mark × A)) (o : Option Token) → ((m : Mark) → is_mark m o ≡ false) → one_of ks o ≡ None
+no_table [] o h = refl
+no_table (k ∷ ks) o h = rw (h k.0) (no_table ks o h)
+
+pub literal_gives : (d : ℕ) (T : Text) (v : ℕ) → next_number (first T) ≡ Some v → unary_at d T ≡ Ok (literal v, tail T)
+literal_gives d [] v e = absurd cc
+literal_gives d (t ∷ T) v e =
+    let none : unary_mark (Some t) ≡ None = no_table unary_marks (Some t) (λ m. number_mark t.kind v m e) in
+    rw (unary_is d (t ∷ T), none, e) refl
+
+taken_name : (o : Option Identifier) (T R : Text) (x : Identifier) → taken o T ≡ Ok (x, R) → (o ≡ Some x)
+taken_name None T R x e = absurd cc
+taken_name (Some y) T R x e = let f : (y, tail T) ≡ (x, R) = ok_is (y, tail T) (x, R) e in ap (λ (r : Identifier × Text). Some r.0) f
+
+pub variable_gives : (d : ℕ) (T R : Text) (x : Identifier) → take_by next_name T ≡ Ok (x, R) → unary_at d T ≡ Ok (variable x, R)
+variable_gives d [] R x e = absurd cc
+variable_gives d (t ∷ T) R x e =
+    let name : identifier_of t.kind t.place ≡ Some x = taken_name (identifier_of t.kind t.place) (t ∷ T) R x e in
+    let none : unary_mark (Some t) ≡ None = no_table unary_marks (Some t) (λ m. name_mark t.kind t.place x m name) in
+    let number : number_of t.kind ≡ None = name_number t.kind t.place x name in
+    rw (unary_is d (t ∷ T), none, number) (rw e refl)
+
+pub grouped_gives : (d : ℕ) (T U R R' : Text) (e : ExprTree) → (d ≡ 0 → ⊥) → expect mark.OpenParen (tt {0}) T ≡ Ok (tt {0}, U) → expr_at (d - 1) U ≡ Ok (e, R) →
+    expect mark.CloseParen (tt {0}) R ≡ Ok (tt {0}, R') → grouped_at d T ≡ Ok (group e, R')
+grouped_gives d T U R R' e h o i c = rw (grouped_some d T h, o, i, expect_value mark.CloseParen (tt {0}) e R R' c) refl
+
+-- conditions -------------------------------------------------------------------------------------------------------
+
+bind_again : {A B C : Type 0} (r : Read A) (f : A × Text → Read B) (g : B × Text → Read C) → (r >>= (λ x. f x >>= g)) ≡ ((r >>= f) >>= g)
+bind_again (Ok x) f g = refl
+bind_again (Err e) f g = refl
+
+test_zero : (T : Text) (k : Option TestMark) → test_form (unary_at zero) (stop TooDeep) (stop TooDeep) k T ≡
+    test_form (unary_at zero) (map_read opposite (opposed_at zero)) (seq (closed_at zero) (after_group (unary_at zero))) k T
+test_zero T (Some at_not) = refl
+test_zero T (Some at_open) = refl
+test_zero T None = refl
+
+test_some : (d : ℕ) (T : Text) (k : Option TestMark) → test_form (unary_at (suc d)) (behind mark.Not (map_read opposite (negation_at d)))
+    (seq (in_parens (cond_at d)) (after_group (unary_at (suc d)))) k T
+    ≡ test_form (unary_at (suc d)) (map_read opposite (opposed_at (suc d))) (seq (closed_at (suc d)) (after_group (unary_at (suc d)))) k T
+test_some d T (Some at_not) = bind_again (expect mark.Not (tt {0}) T) (λ r. negation_at d r.1) (λ r. Ok (opposite r.0, r.1))
+test_some d T (Some at_open) = refl
+test_some d T None = refl
+
+negation_zero : (T : Text) (k : Option TestMark) → negation_form (unary_at zero) (stop TooDeep) (stop TooDeep) k T ≡
+    negation_form (unary_at zero) (map_read opposite_again (opposed_at zero)) (map_read negation_of (closed_at zero)) k T
+negation_zero T (Some at_not) = refl
+negation_zero T (Some at_open) = refl
+negation_zero T None = refl
+
+negation_some : (d : ℕ) (T : Text) (k : Option TestMark) → negation_form (unary_at (suc d)) (behind mark.Not (map_read opposite_again (negation_at d)))
+    (map_read negation_of (in_parens (cond_at d))) k T
+    ≡ negation_form (unary_at (suc d)) (map_read opposite_again (opposed_at (suc d))) (map_read negation_of (closed_at (suc d))) k T
+negation_some d T (Some at_not) = bind_again (expect mark.Not (tt {0}) T) (λ r. negation_at d r.1) (λ r. Ok (opposite_again r.0, r.1))
+negation_some d T (Some at_open) = refl
+negation_some d T None = refl
+
+pub test_is : (d : ℕ) (T : Text) → test_at d T ≡ test_form (unary_at d) (map_read opposite (opposed_at d)) (seq (closed_at d) (after_group (unary_at d))) (test_mark (first T)) T
+unfolding tests
+test_is zero T = test_zero T (test_mark (first T))
+test_is (suc d) T = test_some d T (test_mark (first T))
+
+pub negation_is : (d : ℕ) (T : Text) → negation_at d T ≡ negation_form (unary_at d) (map_read opposite_again (opposed_at d)) (map_read negation_of (closed_at d)) (test_mark (first T)) T
+unfolding tests
+negation_is zero T = negation_zero T (test_mark (first T))
+negation_is (suc d) T = negation_some d T (test_mark (first T))
+
+pub opposed_zero : (d : ℕ) (T : Text) → d ≡ 0 → opposed_at d T ≡ stop TooDeep T
+opposed_zero d T h = rw h refl
+
+pub opposed_some : (d : ℕ) (T : Text) → (d ≡ 0 → ⊥) → opposed_at d T ≡ behind mark.Not (negation_at (d - 1)) T
+opposed_some zero T h = absurd (h refl)
+opposed_some (suc d) T h = let e : d ≡ suc d - 1 = omega arith in ap (λ (k : ℕ). behind mark.Not (negation_at k) T) e
+
+pub closed_zero : (d : ℕ) (T : Text) → d ≡ 0 → closed_at d T ≡ stop TooDeep T
+closed_zero d T h = rw h refl
+
+pub closed_some : (d : ℕ) (T : Text) → (d ≡ 0 → ⊥) → closed_at d T ≡ in_parens (cond_at (d - 1)) T
+closed_some zero T h = absurd (h refl)
+closed_some (suc d) T h = let e : d ≡ suc d - 1 = omega arith in ap (λ (k : ℕ). in_parens (cond_at k) T) e
+
+pub ruleset opposed_rules = (opposed_zero, opposed_some)
+
+pub ruleset closed_rules = (closed_zero, closed_some)
+
+-- a table of one mark
+pub one_on : (m : Mark) (o : Option Token) → true ≡ is_mark m o → one_of ((m, tt {0}) ∷ []) o ≡ Some (tt {0})
+one_on m o e = rw (sym e) refl
+
+pub one_off : (m : Mark) (o : Option Token) → false ≡ is_mark m o → one_of ((m, tt {0}) ∷ []) o ≡ None
+one_off m o e = rw (sym e) refl
+
+pub opposite_gives : (d : ℕ) (T R : Text) (n : NegationTree) → true ≡ is_mark mark.Not (first T) → opposed_at d T ≡ Ok (n, R) → test_at d T ≡ Ok (opposite n, R)
+opposite_gives d T R n e f = test_is d T ∙ rw (sym e) (rw f refl)
+
+pub again_gives : (d : ℕ) (T R : Text) (n : NegationTree) → true ≡ is_mark mark.Not (first T) → opposed_at d T ≡ Ok (n, R) → negation_at d T ≡ Ok (opposite_again n, R)
+again_gives d T R n e f = negation_is d T ∙ rw (sym e) (rw f refl)
+
+pub strict_gives : (d : ℕ) (T R : Text) (c : CondTree) → false ≡ is_mark mark.Not (first T) → true ≡ is_mark mark.OpenParen (first T) → closed_at d T ≡ Ok (c, R) →
+    negation_at d T ≡ Ok (negation_of c, R)
+strict_gives d T R c e o f = negation_is d T ∙ rw (sym e, sym o) (rw f refl)
+
+pub operand_gives : (d : ℕ) (T R : Text) (u : UnaryTree) → false ≡ is_mark mark.Not (first T) → false ≡ is_mark mark.OpenParen (first T) → unary_at d T ≡ Ok (u, R) →
+    negation_at d T ≡ Ok (value_of_unary u, R)
+operand_gives d T R u e o f = negation_is d T ∙ rw (sym e, sym o) (rw f refl)

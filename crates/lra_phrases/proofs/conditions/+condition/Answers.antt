@@ -1,0 +1,106 @@
+use Rattle.std.proofs.Common.{List, Ok, refl, sym, ap, ◌∙◌, arith, map}
+use Rattle.std.proofs.lemmas.Result.{err_from_is_err_and}
+use Rattle.lra_tree.specs.declared.tokens.Mark.TheVariants as mark
+use Rattle.lra_tree.specs.declared.trees.Test.{Test}
+use Rattle.lra_tree.specs.declared.trees.Conjunction.{Conjunction}
+use Rattle.lra_tree.specs.Trees.{NegationTree, opposite_again, TestTree, test, ConjunctionTree, and, CondTree, conjunction, or}
+use Rattle.lra_tree.specs.Views.{all_tests, any_conjunction, test_view, negation_view, conjunction_view, cond_view, unary_view}
+use Rattle.lra_readers.specs.Tests.{first}
+use Rattle.lra_readers.specs.Expressions.{next_and, next_or, test_at, negation_at, negation_of, conjunction_at, cond_at}
+use Rattle.lra_phrases.proofs.Turning.{chain_start, grown_turn, list_grown, chain_exit, chain_end}
+use Rattle.lra_phrases.proofs.Viewed.{operand_is, opposite_is, conjunction_is, cond_is, and_push, or_push, negation_handed, negation_shorter}
+use Rattle.lra_phrases.proofs.Unfolded.{one_on, one_off, opposite_gives, again_gives, strict_gives, operand_gives}
+use Rattle.lra_phrases.proofs.conditions.+condition.Goals as goal
+
+pub read_test-returns-then-next_is-clause-gives : goal.read_test-returns-then-next_is-clause-gives
+read_test-returns-then-next_is-clause-gives t c =
+    opposite_gives c.args.depth c.args.rest.now c.in_ok-negation.after.now (negation_view c.in_ok-negation.negation) c.if-next_is.ensures c.in_ok-negation.ensures.gives
+    ∙ ap (λ (x : TestTree). Ok (x, c.in_ok-negation.after.now)) (sym (opposite_is c.in_ok-negation.negation))
+
+pub read_negation-returns-then-next_is-clause-shorter : goal.read_negation-returns-then-next_is-clause-shorter
+read_negation-returns-then-next_is-clause-shorter t c =
+    negation_shorter c.opposed_again.result (opposite_again (negation_view c.in_ok-negation.negation)) c.in_ok-negation.after.now c.args.rest.now c.in_ok-negation.ensures.shorter
+    c.opposed_again.ensures
+
+pub read_negation-returns-then-next_is-clause-gives : goal.read_negation-returns-then-next_is-clause-gives
+read_negation-returns-then-next_is-clause-gives t c =
+    negation_handed c.opposed_again.result (opposite_again (negation_view c.in_ok-negation.negation)) c.in_ok-negation.after.now (negation_at c.args.depth c.args.rest.now)
+    (again_gives c.args.depth c.args.rest.now c.in_ok-negation.after.now (negation_view c.in_ok-negation.negation) c.if-next_is.ensures c.in_ok-negation.ensures.gives) c.opposed_again.ensures
+
+pub read_negation-returns-then-next_is-2-clause-shorter : goal.read_negation-returns-then-next_is-2-clause-shorter
+read_negation-returns-then-next_is-2-clause-shorter t c =
+    negation_shorter c.group_opposed.result (negation_of (cond_view c.in_ok-cond.cond)) c.in_ok-cond.closed.now c.args.rest.now c.in_ok-cond.ensures.shorter c.group_opposed.ensures
+
+pub read_negation-returns-then-next_is-2-clause-gives : goal.read_negation-returns-then-next_is-2-clause-gives
+read_negation-returns-then-next_is-2-clause-gives t c =
+    negation_handed c.group_opposed.result (negation_of (cond_view c.in_ok-cond.cond)) c.in_ok-cond.closed.now (negation_at c.args.depth c.args.rest.now)
+    (strict_gives c.args.depth c.args.rest.now c.in_ok-cond.closed.now (cond_view c.in_ok-cond.cond) c.if-next_is.ensures c.if-next_is-2.ensures c.in_ok-cond.ensures.gives) c.group_opposed.ensures
+
+pub read_negation-returns-clause-gives : goal.read_negation-returns-clause-gives
+read_negation-returns-clause-gives t c =
+    operand_gives c.args.depth c.args.rest.now c.in_ok-unary.behind.now (unary_view c.in_ok-unary.unary) c.if-next_is.ensures c.if-next_is-2.ensures c.in_ok-unary.ensures.gives
+    ∙ ap (λ (x : NegationTree). Ok (x, c.in_ok-unary.behind.now)) (sym (operand_is c.in_ok-unary.unary))
+
+pub read_conjunction-tests-init : goal.read_conjunction-tests-init
+read_conjunction-tests-init t c = record {
+  room = c.in_ok-first.ensures.shorter;
+  same = chain_start next_and test (λ c k t. and c t) (test_at c.args.depth) (λ (ts : List Test). all_tests (test (test_view c.in_ok-first.first)) (map test_view ts)) c.new-tests.result.items
+      (test_view c.in_ok-first.first) c.args.rest.now c.in_ok-first.left.now c.in_ok-first.ensures.gives c.new-tests.ensures.items refl;
+}
+
+pub read_conjunction-tests-preserved : goal.read_conjunction-tests-preserved
+read_conjunction-tests-preserved t c = record {
+  room = omega (arith, c.in_ok-test.ensures.shorter, c.tail.ensures.shorter);
+  same = grown_turn next_and refl (λ c k t. and c t) (test_at c.args.depth) _ _
+      (tt {0}) (test_view c.in_ok-test.test) c.tests.left.now c.tail.result.now c.in_ok-test.after.now (conjunction_at c.args.depth c.args.rest.now)
+      (list_grown (all_tests _) test_view c.tests.tests.items c.push.new.self.items c.in_ok-test.test c.in_ok-push.ensures.items ∙
+      and_push _ (map test_view c.tests.tests.items) (test_view c.in_ok-test.test))
+      c.tests.invariant.same (one_on mark.And (first c.tests.left.now) c.tests-test.ensures) c.tail.ensures.value c.in_ok-test.ensures.gives c.in_ok-test.ensures.shorter;
+}
+
+pub read_conjunction-returns-clause-gives : goal.read_conjunction-returns-clause-gives
+read_conjunction-returns-clause-gives t c =
+    chain_end next_and refl (λ c k t. and c t) (test_at c.args.depth) _ c.tests.left.now _ c.tests.invariant.same (one_off mark.And (first c.tests.left.now) c.tests-test.ensures)
+    ∙ ap (λ (x : ConjunctionTree). Ok (x, c.tests.left.now)) (sym (conjunction_is (record { first = _; rest = c.tests.tests })))
+
+pub read_conjunction-returns-in_err-test-clause-gives : goal.read_conjunction-returns-in_err-test-clause-gives
+read_conjunction-returns-in_err-test-clause-gives t c =
+    let p = err_from_is_err_and c.from_residual-in_err-test.result c.from_residual-in_err-test.ensures.1 in
+    rw (p.1, p.2) (chain_exit next_and refl (λ c k t. and c t) (test_at c.args.depth) _ (tt {0}) c.tests.left.now c.tail.result.now c.in_err-test.field-0.0
+    (conjunction_at c.args.depth c.args.rest.now)
+    c.tests.invariant.same (one_on mark.And (first c.tests.left.now) c.tests-test.ensures) c.tail.ensures.value c.in_err-test.ensures.gives)
+
+pub read_cond-conjunctions-init : goal.read_cond-conjunctions-init
+read_cond-conjunctions-init t c = record {
+  room = c.in_ok-first.ensures.shorter;
+  same = chain_start next_or conjunction (λ c k d. or c d) (conjunction_at c.args.depth)
+      (λ (ks : List Conjunction). any_conjunction (conjunction (conjunction_view c.in_ok-first.first)) (map conjunction_view ks)) c.new-conjunctions.result.items
+      (conjunction_view c.in_ok-first.first) c.args.rest.now c.in_ok-first.left.now c.in_ok-first.ensures.gives c.new-conjunctions.ensures.items refl;
+}
+
+pub read_cond-conjunctions-preserved : goal.read_cond-conjunctions-preserved
+read_cond-conjunctions-preserved t c = record {
+  room = omega (arith, c.in_ok-conjunction.ensures.shorter, c.tail.ensures.shorter);
+  same = grown_turn next_or refl (λ c k d. or c d) (conjunction_at c.args.depth) (any_conjunction (conjunction (conjunction_view c.in_ok-first.first))
+      (map conjunction_view c.conjunctions.conjunctions.items))
+      (any_conjunction (conjunction (conjunction_view c.in_ok-first.first)) (map conjunction_view c.push.new.self.items))
+      (tt {0}) (conjunction_view c.in_ok-conjunction.conjunction) c.conjunctions.left.now c.tail.result.now c.in_ok-conjunction.after.now (cond_at c.args.depth c.args.rest.now)
+      (list_grown (any_conjunction (conjunction (conjunction_view c.in_ok-first.first))) conjunction_view c.conjunctions.conjunctions.items c.push.new.self.items c.in_ok-conjunction.conjunction
+      c.in_ok-push.ensures.items
+      ∙ or_push (conjunction (conjunction_view c.in_ok-first.first)) (map conjunction_view c.conjunctions.conjunctions.items) (conjunction_view c.in_ok-conjunction.conjunction))
+      c.conjunctions.invariant.same (one_on mark.Or (first c.conjunctions.left.now) c.conjunctions-test.ensures) c.tail.ensures.value c.in_ok-conjunction.ensures.gives
+      c.in_ok-conjunction.ensures.shorter;
+}
+
+pub read_cond-returns-clause-gives : goal.read_cond-returns-clause-gives
+read_cond-returns-clause-gives t c =
+    chain_end next_or refl (λ c k d. or c d) (conjunction_at c.args.depth) _ c.conjunctions.left.now _ c.conjunctions.invariant.same
+    (one_off mark.Or (first c.conjunctions.left.now) c.conjunctions-test.ensures)
+    ∙ ap (λ (x : CondTree). Ok (x, c.conjunctions.left.now)) (sym (cond_is (record { first = _; rest = c.conjunctions.conjunctions })))
+
+pub read_cond-returns-in_err-conjunction-clause-gives : goal.read_cond-returns-in_err-conjunction-clause-gives
+read_cond-returns-in_err-conjunction-clause-gives t c =
+    let p = err_from_is_err_and c.from_residual-in_err-conjunction.result c.from_residual-in_err-conjunction.ensures.1 in
+    rw (p.1, p.2) (chain_exit next_or refl (λ c k d. or c d) (conjunction_at c.args.depth) _ (tt {0}) c.conjunctions.left.now c.tail.result.now c.in_err-conjunction.field-0.0
+    (cond_at c.args.depth c.args.rest.now)
+    c.conjunctions.invariant.same (one_on mark.Or (first c.conjunctions.left.now) c.conjunctions-test.ensures) c.tail.ensures.value c.in_err-conjunction.ensures.gives)

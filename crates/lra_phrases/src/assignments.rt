@@ -1,0 +1,184 @@
+//! Assignments and declarations. A function reads where `depth` levels of nesting are left.
+
+ghost use Rattle.std.specs.Prelude.{◌≡◌, ◌<◌, ◌≤◌, length, IfOk};
+ghost use Rattle.lra_tree.specs.Views.{assign_view, declarator_view, declaration_view};
+ghost use Rattle.lra_readers.specs.Tests.{first};
+ghost use Rattle.lra_readers.specs.Reading.{Gives, map_read};
+ghost use Rattle.lra_readers.specs.Statements.{skip, commas, update_operator, next_step, assign_rest, step_first};
+ghost use Rattle.lra_readers.specs.Statements.{assign_at, type_words, given, declarator_at, declaration_of};
+ghost use Rattle.lra_readers.specs.Statements.{declaration_at};
+
+use crate::calls::read_source;
+use crate::expressions::read_expr;
+use lra_base::{Cause, Operator, Place};
+use lra_readers::{Stopped, expect, next_is, read_name, stop, tail};
+use lra_tree::{Assign, Declaration, Declarator, Identifier, Mark, Step, Token};
+use std::alloc::Global;
+
+/// The operator of `x op= e`, if it is the next token.
+fn update_operator(rest: &[Token]) -> Option<Operator>
+    ensures { result ≡ update_operator (first rest.now) }
+{
+    if next_is(rest, Mark::PlusAssign) {
+        Some(Operator::Plus)
+    } else if next_is(rest, Mark::MinusAssign) {
+        Some(Operator::Minus)
+    } else if next_is(rest, Mark::StarAssign) {
+        Some(Operator::Times)
+    } else if next_is(rest, Mark::SlashAssign) {
+        Some(Operator::Over)
+    } else if next_is(rest, Mark::PercentAssign) {
+        Some(Operator::Modulo)
+    } else {
+        None
+    }
+}
+
+/// `++` or `--`, with its place, if it is the next token.
+pub fn next_step(rest: &[Token]) -> Option<(Step, Place)>
+    ensures { result ≡ next_step (first rest.now) }
+{
+    if next_is(rest, Mark::Increment) {
+        Some((Step::Increment, rest[0].place))
+    } else if next_is(rest, Mark::Decrement) {
+        Some((Step::Decrement, rest[0].place))
+    } else {
+        None
+    }
+}
+
+/// What comes behind the mark, if it is the next token, or else all.
+fn skip(rest: &[Token], mark: Mark) -> &[Token]
+    ensures shorter { length result.now ≤ length rest.now }
+    ensures value { result.now ≡ skip mark rest.now }
+{
+    if next_is(rest, mark) {
+        tail(rest)
+    } else {
+        rest
+    }
+}
+
+/// `++x` or `--x`
+fn read_step_first(alloc: Global, rest: &[Token]) -> Result<(Assign, &[Token]), Stopped>
+    ensures shorter { IfOk result (λ r. length r.1.now < length rest.now) }
+    ensures gives { Gives (λ r. (assign_view r.0, r.1.now)) result (step_first rest.now) }
+{
+    match next_step(rest) {
+        Some((step, place)) => {
+            let (name, after) = read_name(alloc, tail(rest))?;
+            Ok((Assign::Before(place, step, name), after))
+        }
+        None => stop(Cause::Syntax, rest),
+    }
+}
+
+/// The assignment to a variable whose name was read.
+pub fn read_assign_rest(
+    alloc: Global,
+    name: Identifier,
+    rest: &[Token],
+    depth: usize,
+) -> Result<(Assign, &[Token]), Stopped>
+    ensures shorter { IfOk result (λ r. length r.1.now < length rest.now) }
+    ensures gives { Gives (λ r. (assign_view r.0, r.1.now)) result (assign_rest depth name rest.now) }
+{
+    if next_is(rest, Mark::Assign) {
+        let (source, after) = read_source(alloc, tail(rest), depth)?;
+        return Ok((Assign::Set(name, source), after));
+    }
+    match update_operator(rest) {
+        Some(operator) => {
+            let (expr, after) = read_expr(alloc, tail(rest), depth)?;
+            Ok((Assign::Update(name, operator, expr), after))
+        }
+        None => match next_step(rest) {
+            Some((step, _place)) => Ok((Assign::After(name, step), tail(rest))),
+            None => stop(Cause::Syntax, rest),
+        },
+    }
+}
+
+/// An assignment, without a semicolon.
+pub fn read_assign(
+    alloc: Global,
+    rest: &[Token],
+    depth: usize,
+) -> Result<(Assign, &[Token]), Stopped>
+    ensures shorter { IfOk result (λ r. length r.1.now < length rest.now) }
+    ensures gives { Gives (λ r. (assign_view r.0, r.1.now)) result (assign_at depth rest.now) }
+{
+    if next_step(rest).is_some() {
+        return read_step_first(alloc, rest);
+    }
+    let (name, after) = read_name(alloc, rest)?;
+    read_assign_rest(alloc, name, after, depth)
+}
+
+/// What comes behind the words of a type: `long`, maybe `long`, maybe `int`.
+pub fn read_type(rest: &[Token]) -> Result<&[Token], Stopped>
+    ensures shorter { IfOk result (λ r. length r.now < length rest.now) }
+    ensures gives { Gives (λ r. (tt {0}, r.now)) result (type_words rest.now) }
+{
+    let word = expect(rest, Mark::Long)?;
+    Ok(skip(skip(word, Mark::Long), Mark::Int))
+}
+
+/// A name, and what the variable gets.
+fn read_declarator(
+    alloc: Global,
+    rest: &[Token],
+    depth: usize,
+) -> Result<(Declarator, &[Token]), Stopped>
+    ensures shorter { IfOk result (λ r. length r.1.now ≤ length rest.now) }
+    ensures gives { Gives (λ r. (declarator_view r.0, r.1.now)) result (declarator_at depth rest.now) }
+{
+    let (name, behind) = read_name(alloc, rest)?;
+    if next_is(behind, Mark::Assign) {
+        let (source, after) = read_source(alloc, tail(behind), depth)?;
+        let source = Some(source);
+        return Ok((Declarator { name, source }, after));
+    }
+    Ok((Declarator { name, source: None }, behind))
+}
+
+/// Declarators with commas between them.
+fn read_declarators(
+    alloc: Global,
+    rest: &[Token],
+    depth: usize,
+) -> Result<(Declaration, &[Token]), Stopped>
+    ensures shorter { IfOk result (λ r. length r.1.now ≤ length rest.now) }
+    ensures gives { Gives (λ r. (declaration_view r.0, r.1.now)) result
+        (map_read declaration_of (commas (declarator_at depth)) rest.now) }
+{
+    let (first, mut left) = read_declarator(alloc, rest, depth)?;
+    let mut declarators = Vec::new(alloc);
+    'declarators: while next_is(left, Mark::Comma) {
+        let (declarator, after) = read_declarator(alloc, tail(left), depth)?;
+        declarators.push(declarator)?;
+        left = after;
+    }
+    Ok((
+        Declaration {
+            first,
+            rest: declarators,
+        },
+        left,
+    ))
+}
+
+/// A declaration, with its semicolon.
+pub fn read_declaration(
+    alloc: Global,
+    rest: &[Token],
+    depth: usize,
+) -> Result<(Declaration, &[Token]), Stopped>
+    ensures shorter { IfOk result (λ r. length r.1.now < length rest.now) }
+    ensures gives { Gives (λ r. (declaration_view r.0, r.1.now)) result (declaration_at depth rest.now) }
+{
+    let behind = read_type(rest)?;
+    let (declaration, after) = read_declarators(alloc, behind, depth)?;
+    let end = expect(after, Mark::Semicolon)?;
+    Ok((declaration, end))
+}

@@ -1,0 +1,13 @@
+//! Phrases of a source, read from its tokens: expressions, conditions, calls, assignments and declarations.
+//!
+//! Each function computes a reader of `lra_readers`, which has what the reader is.
+#![tactic(auto)]
+
+mod assignments;
+mod calls;
+mod conditions;
+mod expressions;
+
+pub use assignments::{next_step, read_assign, read_assign_rest, read_declaration, read_type};
+pub use calls::{read_call, read_source};
+pub use conditions::read_cond;

@@ -1,0 +1,40 @@
+-- The tokens of a source end with the end, and have no other; their numbers are small.
+use Rattle.std.proofs.Common.{◌≢◌, ℕ, List, [], ◌∷◌, ◌++◌, refl, sym, subst, arith}
+use Rattle.std.specs.List.{AllByRecursion}
+use Rattle.lra_tree.specs.declared.tokens.Kind.{Kind}
+use Rattle.lra_tree.specs.declared.tokens.Kind.TheVariants.{End}
+use Rattle.lra_tree.specs.declared.tokens.Token.{Token}
+use Rattle.lra_tree.specs.Lexeme.{SpellsToken, name, number, mark_of, reserved, comment}
+use Rattle.lra_tree.specs.Tokens.{Piece, gap, token, tokens_of, IsReading, end_token, Lex}
+use Rattle.lra_readers.specs.Files.{EndsOnce, IsSmallKind, AreSmall}
+
+not_end : (s : List ℕ) (k : Kind) → SpellsToken s k → k ≢ End
+not_end s k (name w n f) = λ e. cc
+not_end s k (number n w l g) = λ e. cc
+not_end s k (mark_of m w) = λ e. cc
+not_end s k (reserved w) = λ e. cc
+not_end s k (comment w) = λ e. cc
+
+no_end : (before after : List ℕ) (ps : List Piece) → IsReading before ps after → AllByRecursion (λ (t : Token). t.kind ≢ End) (tokens_of ps)
+no_end before after [] h = tt
+no_end before after (gap bytes ∷ ps) h = no_end (before ++ bytes) after ps h.1
+no_end before after (token bytes t ∷ ps) h = (not_end bytes t.kind h.0.spells, no_end (before ++ bytes) after ps h.1)
+
+pub lexed_end : (source : List ℕ) (tokens : List Token) → Lex source tokens → EndsOnce tokens
+lexed_end source tokens (ps, parts, reading, are) = record { front = tokens_of ps; last = end_token source; parts = are; is_end = refl; no_other = no_end [] [] ps reading }
+
+-- and its numbers are below 2^63
+spelled_small : (s : List ℕ) (k : Kind) → SpellsToken s k → IsSmallKind k
+spelled_small s k (name w n f) = tt
+spelled_small s k (number n w l g) = omega (arith, g)
+spelled_small s k (mark_of m w) = tt
+spelled_small s k (reserved w) = tt
+spelled_small s k (comment w) = tt
+
+read_small : (before after : List ℕ) (ps : List Piece) (rest : List Token) → IsReading before ps after → AreSmall rest → AreSmall (tokens_of ps ++ rest)
+read_small before after [] rest h k = k
+read_small before after (gap bytes ∷ ps) rest h k = read_small (before ++ bytes) after ps rest h.1 k
+read_small before after (token bytes t ∷ ps) rest h k = (spelled_small bytes t.kind h.0.spells, read_small (before ++ bytes) after ps rest h.1 k)
+
+pub lexed_small : (source : List ℕ) (tokens : List Token) → Lex source tokens → AreSmall tokens
+lexed_small source tokens (ps, parts, reading, are) = subst AreSmall (sym are) (read_small [] [] ps (end_token source ∷ []) reading (tt, tt))

@@ -1,0 +1,355 @@
+-- The readers of assignments and declarations are exact.
+use Rattle.std.proofs.Common.{◌≡◌, ℕ, ◌+◌, ◌≤◌, true, false, ◌⊎◌, List, [], ◌∷◌, ◌++◌, Option, Some, None, Ok, Err, refl, sym, ap, subst, ◌∙◌, arith, inl, inr, option_map}
+use Rattle.std.specs.Bool.{⊤}
+use Rattle.lra_base.specs.declared.refusals.Place.{Place}
+use Rattle.lra_tree.specs.declared.tokens.Mark.{Mark}
+use Rattle.lra_tree.specs.declared.tokens.Mark.TheVariants as mark
+use Rattle.lra_tree.specs.declared.tokens.Kind.TheVariants.{Name, Mark as MarkOf}
+use Rattle.lra_tree.specs.declared.tokens.Token.{Token}
+use Rattle.lra_tree.specs.declared.trees.Identifier.{Identifier}
+use Rattle.lra_base.specs.declared.operators.Operator.{Operator}
+use Rattle.lra_base.specs.declared.operators.Operator.TheVariants as operator
+use Rattle.lra_tree.specs.declared.trees.Step.{Step}
+use Rattle.lra_tree.specs.declared.trees.Step.TheVariants as step
+use Rattle.lra_base.specs.Operators as operators
+use Rattle.lra_tree.specs.Texts.{Pieces, Texts, ◌⋅◌, ◌∣◌, empty, opens, mark as spells, opens_at, name, separated}
+use Rattle.lra_tree.specs.Trees.{SourceTree, expression, result, StepTree, increment, decrement, AssignTree, set, update, after, before, DeclaratorTree, DeclarationTree}
+use Rattle.lra_base.specs.OperatorViews.{operator_view}
+use Rattle.lra_tree.specs.Views.{step_view}
+use Rattle.lra_tree.specs.Grammar.{IsExpr, IsSource, update_mark, step_mark, IsAssign, IsType, IsDeclarator, IsDeclaration}
+use Rattle.lra_readers.specs.Tests.{is_mark}
+use Rattle.lra_readers.specs.Reading.{Text, Read, Parse, ◌>>=◌, seq, expect, take_by, has, one_of}
+use Rattle.lra_readers.specs.Statements.{skip, update_operators, update_operator, step_marks, next_step, assign_rest, assign_at, type_words, given, declarator_at, declaration_of, declaration_at}
+use Rattle.lra_readers.proofs.Marks.{is_mark_some}
+use Rattle.lra_readers.proofs.Exact.{Exact, Any, Free, Both, first_or, then}
+use Rattle.lra_readers.proofs.Forms.{widen, retell, entry, mapped, branch, same_where, exact_done, exact_take}
+use Rattle.lra_readers.proofs.Tokens.{IsInner, table_is, exact_name, exact_operator, some_place, some_name}
+use Rattle.lra_readers.proofs.Chain.{regroup, joined_left, joined_right, AfterLast}
+use Rattle.lra_readers.proofs.Parts.{token, exact_behind, exact_ended}
+use Rattle.lra_readers.proofs.ExactExpressions.{AfterExpr, some_expr, Of, first_opened, exact_expr}
+use Rattle.lra_readers.proofs.ExactLists.{exact_skip, AfterCommas, exact_commas}
+use Rattle.lra_readers.proofs.ExactSources.{AfterSource, some_source, exact_source}
+
+-- operators --------------------------------------------------------------------------------------------------------
+
+abbrev pub mark_of_update : Operator → Mark
+mark_of_update op = update_mark (operator_view op)
+
+update_self : (k : Operator) (at : Place) → update_operator (Some (token (mark_of_update k) at)) ≡ Some k
+update_self operator.Plus at = refl
+update_self operator.Minus at = refl
+update_self operator.Times at = refl
+update_self operator.Over at = refl
+update_self operator.Modulo at = refl
+
+exact_update : (n : ℕ) → Exact n IsInner (take_by update_operator) Any (λ k z. spells (mark_of_update k) z) (λ k z. spells (mark_of_update k) z) Free
+exact_update n = exact_operator n mark_of_update update_operators (refl, (refl, (refl, (refl, (refl, tt))))) update_self refl operator.Plus
+
+operator_of : (op : operators.Operator) → (k : Operator) × (operator_view k ≡ op)
+operator_of operators.plus = (operator.Plus, refl)
+operator_of operators.minus = (operator.Minus, refl)
+operator_of operators.times = (operator.Times, refl)
+operator_of operators.over = (operator.Over, refl)
+operator_of operators.modulo = (operator.Modulo, refl)
+
+abbrev pub mark_of_step : Step → Mark
+mark_of_step s = step_mark (step_view s)
+
+step_of : (s : StepTree) → (k : Step) × (step_view k ≡ s)
+step_of increment = (step.Increment, refl)
+step_of decrement = (step.Decrement, refl)
+
+pub step_self : (k : Step) (at : Place) → next_step (Some (token (mark_of_step k) at)) ≡ Some (k, at)
+step_self step.Increment at = refl
+step_self step.Decrement at = refl
+
+mapped_some : (at : Place) (m : Option Step) (a : Step × Place) → option_map (λ s. (s, at)) m ≡ Some a → (m ≡ Some a.0) × (at ≡ a.1)
+mapped_some at None a e = absurd cc
+mapped_some at (Some s) a e = let f : (s, at) ≡ a = cc in (ap (λ (p : Step × Place). Some p.0) f, ap (λ (p : Step × Place). p.1) f)
+
+step_token : (t : Token) (a : Step × Place) → next_step (Some t) ≡ Some a → t ≡ token (mark_of_step a.0) a.1
+step_token t a e =
+    let m = mapped_some t.place (one_of step_marks (Some t)) a e in
+    let k = is_mark_some (mark_of_step a.0) t (table_is mark_of_step step_marks (refl, (refl, tt)) (Some t) a.0 m.0) in
+    k ∙ ap (λ (p : Place). token (mark_of_step a.0) p) m.1
+
+abbrev pub StepText : ℕ → Step × Place → Texts
+StepText o s z = opens_at (mark_of_step s.0) s.1 o z
+
+exact_step : (n o : ℕ) → o ≤ n → Exact n IsInner (take_by next_step) Any (StepText o) (StepText o) Free
+exact_step n o low =
+    let t = exact_take n IsInner next_step o low refl (λ t a e f. let k = ap (λ (u : Token). u.kind) (step_token t a e) in let g : MarkOf (mark_of_step a.0) ≡ _ = sym k ∙ f in cc)
+    (step.Increment, some_place) (token mark.Increment some_place) refl in
+    retell t (StepText o) (λ a z s. s.1 ∙ ap (λ (u : Token). (u, o) ∷ []) (step_token s.0 a s.2)) (λ a z s. (token (mark_of_step a.0) a.1, s, step_self a.0 a.1))
+
+-- assignments ------------------------------------------------------------------------------------------------------
+
+abbrev pub AfterAssign : AssignTree → Option Token → Type 0
+AfterAssign (set x e) o = AfterSource e o
+AfterAssign (update x op e) o = AfterExpr e o
+AfterAssign (after x s) o = ⊤
+AfterAssign (before at s x) o = ⊤
+
+abbrev SetText : ℕ → Identifier → AssignTree → Texts
+SetText l x b = opens mark.Assign 0 ⋅ Of (set x) (IsSource l) b
+
+abbrev UpdateText : ℕ → Identifier → AssignTree → Texts
+UpdateText l x b z = Both (λ op z. spells (mark_of_update op) z) (λ op b. Of (update x (operator_view op)) (IsExpr l) b) b z
+
+abbrev AfterText : Identifier → AssignTree → Texts
+AfterText x b z = Of (λ (s : Step × Place). after x (step_view s.0)) (StepText 0) b z
+
+-- behind the name
+abbrev pub RestText : ℕ → Identifier → AssignTree → Texts
+RestText l x b z = SetText l x b z ⊎ (UpdateText l x b z ⊎ AfterText x b z)
+
+update_begins : (l : ℕ) (x : Identifier) (b : AssignTree) (z : Pieces) (o : Option Token) → UpdateText l x b z → has (update_operator (first_or z o)) ≡ true
+update_begins l x b z o (op, (u, v, e, s, r)) = first_opened (λ i. has (update_operator i) ≡ true) (mark_of_update op) 0 u v z o e s (λ at. rw (update_self op at) refl)
+
+update_not_set : (op : Operator) (at : Place) → is_mark mark.Assign (Some (token (mark_of_update op) at)) ≡ false
+update_not_set operator.Plus at = refl
+update_not_set operator.Minus at = refl
+update_not_set operator.Times at = refl
+update_not_set operator.Over at = refl
+update_not_set operator.Modulo at = refl
+
+update_no_set : (l : ℕ) (x : Identifier) (b : AssignTree) (z : Pieces) (o : Option Token) → UpdateText l x b z → is_mark mark.Assign (first_or z o) ≡ false
+update_no_set l x b z o (op, (u, v, e, s, r)) = first_opened (λ i. is_mark mark.Assign i ≡ false) (mark_of_update op) 0 u v z o e s (λ at. update_not_set op at)
+
+step_not : (s : Step) (at : Place) → (has (update_operator (Some (token (mark_of_step s) at))) ≡ false) × (is_mark mark.Assign (Some (token (mark_of_step s) at)) ≡ false)
+step_not step.Increment at = (refl, refl)
+step_not step.Decrement at = (refl, refl)
+
+step_no_update : (x : Identifier) (b : AssignTree) (z : Pieces) (o : Option Token) → AfterText x b z → has (update_operator (first_or z o)) ≡ false
+step_no_update x b z o (s, f, e) = rw e (step_not s.0 s.1).0
+
+step_no_set : (x : Identifier) (b : AssignTree) (z : Pieces) (o : Option Token) → AfterText x b z → is_mark mark.Assign (first_or z o) ≡ false
+step_no_set x b z o (s, f, e) = rw e (step_not s.0 s.1).1
+
+pub exact_assign_rest : (n d l : ℕ) → d + l ≡ n → (x : Identifier) → Exact n IsInner (assign_rest d x) Any (RestText l x) (RestText l x) AfterAssign
+exact_assign_rest n d l h x =
+    let sets = exact_behind mark.Assign 0 (omega arith) (mapped (exact_source n d l h) (set x) AfterAssign (λ e o f. f) (λ e o f. f))
+    (set x (some_source l).0, (some_source l).1, ((some_source l).0, refl, (some_source l).2)) in
+    let updates = then (exact_update n) (λ op. mapped (exact_expr n d l h) (update x (operator_view op)) AfterAssign (λ e o f. f) (λ e o f. f)) (UpdateText l x)
+    (λ op b y o s f. tt)
+    (λ op z v. (update x (operator_view op) (some_expr l).0, (some_expr l).1, (op, (z, (some_expr l).1, refl, v, ((some_expr l).0, refl, (some_expr l).2)))))
+    (λ op b u v s r. (op, (u, v, refl, s, r))) in
+    let steps = mapped (exact_step n 0 (omega arith)) (λ (s : Step × Place). after x (step_view s.0)) AfterAssign (λ s o f. tt) (λ s o f. tt) in
+    let b1 = branch (λ o. has (update_operator o)) {E = λ o. ⊤ × (is_mark mark.Assign o ≡ false)}
+    (entry (widen updates (λ b z. UpdateText l x b z ⊎ AfterText x b z) (λ b z s. inl s)) (λ o. (⊤ × (is_mark mark.Assign o ≡ false)) × (has (update_operator o) ≡ true)) (λ o i. tt))
+    (entry (widen steps (λ b z. UpdateText l x b z ⊎ AfterText x b z) (λ b z s. inr s)) (λ o. (⊤ × (is_mark mark.Assign o ≡ false)) × (has (update_operator o) ≡ false)) (λ o i. tt))
+    (λ b z o s f. update_begins l x b z o s) (λ b z o s f. step_no_update x b z o s) in
+    branch (is_mark mark.Assign) (entry (widen sets (RestText l x) (λ b z s. inl s)) (λ o. ⊤ × (is_mark mark.Assign o ≡ true)) (λ o i. tt))
+    (widen b1 (RestText l x) (λ b z s. inr s))
+    (λ b z o s f. first_opened (λ i. is_mark mark.Assign i ≡ true) mark.Assign 0 s.0 s.1 z o s.2 s.3 (λ at. refl))
+    (λ b z o s f. elim s [ inl u ↦ update_no_set l x b z o u | inr u ↦ step_no_set x b z o u ])
+
+update_no_open : (op : Operator) (at : Place) → is_mark mark.OpenParen (Some (token (mark_of_update op) at)) ≡ false
+update_no_open operator.Plus at = refl
+update_no_open operator.Minus at = refl
+update_no_open operator.Times at = refl
+update_no_open operator.Over at = refl
+update_no_open operator.Modulo at = refl
+
+step_no_open : (s : Step) (at : Place) → is_mark mark.OpenParen (Some (token (mark_of_step s) at)) ≡ false
+step_no_open step.Increment at = refl
+step_no_open step.Decrement at = refl
+
+-- no parenthesis comes behind the name
+pub rest_no_open : (l : ℕ) (x : Identifier) (b : AssignTree) (u v z : Pieces) (o : Option Token) → z ≡ u ++ v → RestText l x b u → is_mark mark.OpenParen (first_or z o) ≡ false
+rest_no_open l x b u v z o e (inl (p, q, f, m, r)) = first_opened (λ i. is_mark mark.OpenParen i ≡ false) mark.Assign 0 p (q ++ v) z o (e ∙ regroup u v p q f) m (λ at. refl)
+rest_no_open l x b u v z o e (inr (inl (op, (p, q, f, m, r)))) = first_opened (λ i. is_mark mark.OpenParen i ≡ false) (mark_of_update op) 0 p (q ++ v) z o (e ∙ regroup u v p q f) m
+    (λ at. update_no_open op at)
+rest_no_open l x b u v z o e (inr (inr (s, g, f))) = rw (e, f) (step_no_open s.0 s.1)
+
+abbrev pub BeforeText : ℕ → AssignTree → Texts
+BeforeText o b z = Both (StepText o) (λ s b. Of (before s.1 (step_view s.0)) (λ x. name x 0) b) b z
+
+abbrev pub NamedText : ℕ → ℕ → AssignTree → Texts
+NamedText o l b z = Both (λ x. name x o) (RestText l) b z
+
+pub rest_assign : (o l : ℕ) (x : Identifier) (b : AssignTree) (u v z : Pieces) → z ≡ u ++ v → name x o u → RestText l x b v → IsAssign o l b z
+rest_assign o l x b u v z e s (inl (p, q, f, m, (a, g, t))) = subst (λ (c : AssignTree). IsAssign o l c z) g (u, v, e, s, (p, q, f, m, t))
+rest_assign o l x b u v z e s (inr (inl (op, (p, q, f, m, (a, g, t))))) = subst (λ (c : AssignTree). IsAssign o l c z) g (u, v, e, s, (p, q, f, m, t))
+rest_assign o l x b u v z e s (inr (inr (k, g, t))) = subst (λ (c : AssignTree). IsAssign o l c z) g (u, v, e, s, (k.1, t))
+
+pub to_assign : (o l : ℕ) (b : AssignTree) (z : Pieces) → BeforeText o b z ⊎ NamedText o l b z → IsAssign o l b z
+to_assign o l b z (inl (s, (u, v, e, m, (x, g, t)))) = subst (λ (c : AssignTree). IsAssign o l c z) g (u, v, e, m, t)
+to_assign o l b z (inr (x, (u, v, e, s, r))) = rest_assign o l x b u v z e s r
+
+pub from_assign : (o l : ℕ) (b : AssignTree) (z : Pieces) → IsAssign o l b z → BeforeText o b z ⊎ NamedText o l b z
+from_assign o l (set x a) z (u, v, e, s, (p, q, f, m, t)) = inr (x, (u, v, e, s, inl (p, q, f, m, (a, refl, t))))
+from_assign o l (update x op a) z (u, v, e, s, (p, q, f, m, t)) =
+    let c = operator_of op in
+    inr (x, (u, v, e, s, inr (inl (c.0, (p, q, f, subst (λ (i : operators.Operator). spells (update_mark i) p) (sym c.1) m, (a, ap (λ (i : operators.Operator). update x i a) c.1, t))))))
+from_assign o l (after x s) z (u, v, e, m, (at, t)) =
+    let c = step_of s in
+    inr (x, (u, v, e, m, inr (inr ((c.0, at), ap (λ (i : StepTree). after x i) c.1, subst (λ (i : StepTree). opens_at (step_mark i) at 0 v) (sym c.1) t))))
+from_assign o l (before at s x) z (u, v, e, m, t) =
+    let c = step_of s in
+    inl ((c.0, at), (u, v, e, subst (λ (i : StepTree). opens_at (step_mark i) at o u) (sym c.1) m, (x, ap (λ (i : StepTree). before at i x) c.1, t)))
+
+before_begins : (o : ℕ) (b : AssignTree) (z : Pieces) (k : Option Token) → BeforeText o b z → has (next_step (first_or z k)) ≡ true
+before_begins o b z k (s, (u, v, e, m, r)) = rw (e, m) (rw (step_self s.0 s.1) refl)
+
+named_begins : (o l : ℕ) (b : AssignTree) (z : Pieces) (k : Option Token) → NamedText o l b z → has (next_step (first_or z k)) ≡ false
+named_begins o l b z k (x, (u, v, e, s, r)) = rw (e, s) refl
+
+pub some_assign : (o l : ℕ) → (a : AssignTree) × (x : Pieces) × IsAssign o l a x
+some_assign o l = (after some_name increment, _, (_, _, refl, refl, (some_place, refl)))
+
+pub exact_assign : (n d l o : ℕ) → d + l ≡ n → o ≤ n → Exact n IsInner (assign_at d) Any (IsAssign o l) (IsAssign o l) AfterAssign
+exact_assign n d l o h low =
+    let befores = then (exact_step n o low) (λ s. mapped (exact_name n 0 (omega arith)) (before s.1 (step_view s.0)) AfterAssign (λ x k f. tt) (λ x k f. tt)) (BeforeText o)
+    (λ s b y k t f. tt)
+    (λ s z v. (before s.1 (step_view s.0) some_name, _, (s, (z, _, refl, v, (some_name, refl, refl)))))
+    (λ s b u v t r. (s, (u, v, refl, t, r))) in
+    let named = then (exact_name n o low) (exact_assign_rest n d l h) (NamedText o l)
+    (λ x b y k s f. tt)
+    (λ x z v. (after x increment, _, (x, (z, _, refl, v, inr (inr ((step.Increment, some_place), refl, refl))))))
+    (λ x b u v s r. (x, (u, v, refl, s, r))) in
+    let t = branch (λ k. has (next_step k)) (entry (widen befores (λ b z. BeforeText o b z ⊎ NamedText o l b z) (λ b z s. inl s)) (λ k. ⊤ × (has (next_step k) ≡ true)) (λ k i. tt))
+    (entry (widen named (λ b z. BeforeText o b z ⊎ NamedText o l b z) (λ b z s. inr s)) (λ k. ⊤ × (has (next_step k) ≡ false)) (λ k i. tt))
+    (λ b z k s f. before_begins o b z k s) (λ b z k s f. named_begins o l b z k s) in
+    retell t (IsAssign o l) (λ b z s. to_assign o l b z s) (λ b z s. from_assign o l b z s)
+
+-- a text that begins with a mark at a place
+pub placed_first : (P : Option Token → Type 0) (m : Mark) (at : Place) (o : ℕ) (x y z : Pieces) (k : Option Token) → z ≡ x ++ y → opens_at m at o x → P (Some (token m at)) → P (first_or z k)
+placed_first P m at o x y z k e s f = subst (λ (w : Pieces). P (first_or w k)) (sym (e ∙ ap (λ (v : Pieces). v ++ y) s)) f
+
+pub assign_no_mark : (o l : ℕ) (a : AssignTree) (x y z : Pieces) (k : Option Token) → z ≡ x ++ y → IsAssign o l a x → (P : Option Token → Type 0) →
+    ((i : Identifier) → P (Some (record { kind = Name i.word; place = i.place })))
+    → ((s : Step) (at : Place) → P (Some (token (mark_of_step s) at))) → P (first_or z k)
+assign_no_mark o l a x y z k e s P named stepped = elim (from_assign o l a x s) [
+  | inl (j, (u, v, f, m, r)) ↦ subst (λ (w : Pieces). P (first_or w k)) (sym (e ∙ regroup x y u v f ∙ ap (λ (w : Pieces). w ++ (v ++ y)) m)) (stepped j.0 j.1)
+  | inr (i, (u, v, f, m, r)) ↦ subst (λ (w : Pieces). P (first_or w k)) (sym (e ∙ regroup x y u v f ∙ ap (λ (w : Pieces). w ++ (v ++ y)) m)) (named i)
+]
+
+pub assign_stops : (a : AssignTree) (at : Place) → AfterAssign a (Some (token mark.Semicolon at))
+assign_stops (set x (expression e)) at = (((tt, refl), refl), (λ i. refl))
+assign_stops (set x (result c)) at = tt
+assign_stops (update x op e) at = ((tt, refl), refl)
+assign_stops (after x s) at = tt
+assign_stops (before p s x) at = tt
+
+pub assign_closes : (a : AssignTree) (at : Place) → AfterAssign a (Some (token mark.CloseParen at))
+assign_closes (set x (expression e)) at = (((tt, refl), refl), (λ i. refl))
+assign_closes (set x (result c)) at = tt
+assign_closes (update x op e) at = ((tt, refl), refl)
+assign_closes (after x s) at = tt
+assign_closes (before p s x) at = tt
+
+-- declarations -----------------------------------------------------------------------------------------------------
+
+twice : {A : Type 0} (r : Read (Unit {0})) (f : Text → Text) (p : Parse A) → ((r >>= (λ x. Ok (tt {0}, f x.1))) >>= (λ x. p x.1)) ≡ (r >>= (λ x. p (f x.1)))
+twice (Ok x) f p = refl
+twice (Err e) f p = refl
+
+type_out : (R : Texts) (z : Pieces) → (opens mark.Long 0 ⋅ ((spells mark.Long ∣ empty) ⋅ ((spells mark.Int ∣ empty) ⋅ R))) z → (IsType ⋅ R) z
+type_out R z (x, y, e, s, t) = joined_left (opens mark.Long 0) ((spells mark.Long ∣ empty) ⋅ (spells mark.Int ∣ empty)) R z
+    (x, y, e, s, joined_left (spells mark.Long ∣ empty) (spells mark.Int ∣ empty) R y t)
+
+type_in : (R : Texts) (z : Pieces) → (IsType ⋅ R) z → (opens mark.Long 0 ⋅ ((spells mark.Long ∣ empty) ⋅ ((spells mark.Int ∣ empty) ⋅ R))) z
+type_in R z s = let k = joined_right (opens mark.Long 0) ((spells mark.Long ∣ empty) ⋅ (spells mark.Int ∣ empty)) R z s in
+    (k.0, k.1, k.2, k.3, joined_right (spells mark.Long ∣ empty) (spells mark.Int ∣ empty) R k.1 k.4)
+
+skipped_first : {A : Type 0} (S : A → Texts) (F : A → Option Token → Type 0) (m k : Mark) → ((at : Place) → is_mark m (Some (token k at)) ≡ false) →
+    (begins : (a : A) (x : Pieces) (o : Option Token) → S a x → (x ≡ [] → F a o) → is_mark m (first_or x o) ≡ false)
+    → (a : A) (x : Pieces) (o : Option Token) → ((spells k ∣ empty) ⋅ S a) x → (x ≡ [] → F a o) → is_mark m (first_or x o) ≡ false
+skipped_first S F m k other begins a x o (u, v, e, inl s, t) f = first_opened (λ i. is_mark m i ≡ false) k 0 u v x o e s other
+skipped_first S F m k other begins a x o (u, v, e, inr s, t) f =
+    let same : x ≡ v = e ∙ ap (λ (w : Pieces). w ++ v) s in
+    subst (λ (w : Pieces). is_mark m (first_or w o) ≡ false) (sym same) (begins a v o t (λ i. f (same ∙ i)))
+
+-- behind a type
+pub exact_type : {n : ℕ} {A : Type 0} {p : Parse A} {S : A → Pieces → Type 0} {F : A → Option Token → Type 0} → Exact n IsInner p Any S S F → (some : (a : A) × (x : Pieces) × S a x)
+    → (no_int : (a : A) (x : Pieces) (o : Option Token) → S a x → (x ≡ [] → F a o) → is_mark mark.Int (first_or x o) ≡ false)
+    → (no_long : (a : A) (x : Pieces) (o : Option Token) → S a x → (x ≡ [] → F a o) → is_mark mark.Long (first_or x o) ≡ false)
+    → Exact n IsInner (seq type_words (λ _. p)) Any (λ b. IsType ⋅ S b) (λ b. IsType ⋅ S b) F
+exact_type {n} {A} {p} {S = S} {F = F} P some no_int no_long =
+    let ints = exact_skip mark.Int P some no_int in
+    let some_int : (a : A) × (x : Pieces) × ((spells mark.Int ∣ empty) ⋅ S a) x = (some.0, some.1, ([], some.1, refl, inr refl, some.2)) in
+    let longs = exact_skip mark.Long ints some_int (λ a x o s f. skipped_first S F mark.Long mark.Int (λ at. refl) no_long a x o s f) in
+    let some_long : (a : A) × (x : Pieces) × ((spells mark.Long ∣ empty) ⋅ ((spells mark.Int ∣ empty) ⋅ S a)) x = (some.0, some.1, ([], some.1, refl, inr refl, some_int.2)) in
+    let t = exact_behind mark.Long 0 (omega arith) longs some_long in
+    let s = same_where t (seq type_words (λ _. p)) (λ T i. sym (twice (expect mark.Long (tt {0}) T) (λ T. skip mark.Int (skip mark.Long T)) p)) in
+    retell s (λ b. IsType ⋅ S b) (λ b z s. type_out (S b) z s) (λ b z s. type_in (S b) z s)
+
+abbrev AfterGiven : Option SourceTree → Option Token → Type 0
+AfterGiven None o = is_mark mark.Assign o ≡ false
+AfterGiven (Some e) o = AfterSource e o
+
+abbrev AfterDeclarator : DeclaratorTree → Option Token → Type 0
+AfterDeclarator d o = AfterGiven d.source o
+
+abbrev with_source : Identifier → SourceTree → DeclaratorTree
+with_source x e = record { name = x; source = Some e }
+
+abbrev alone_name : Identifier → DeclaratorTree
+alone_name x = record { name = x; source = None }
+
+abbrev GivenText : ℕ → Identifier → DeclaratorTree → Texts
+GivenText l x b z = (opens mark.Assign 0 ⋅ Of (with_source x) (IsSource l) b) z ⊎ ((b ≡ alone_name x) × (z ≡ []))
+
+not_given : (x : Identifier) (b : DeclaratorTree) (z : Pieces) (o : Option Token) → b ≡ alone_name x → z ≡ [] → (z ≡ [] → AfterDeclarator b o) → is_mark mark.Assign (first_or z o) ≡ false
+not_given x b z o e f h = rw f (let g : AfterDeclarator (alone_name x) o = subst (λ (c : DeclaratorTree). AfterDeclarator c o) e (h f) in g)
+
+exact_given : (n d l : ℕ) → d + l ≡ n → (x : Identifier) → Exact n IsInner (given d x) Any (GivenText l x) (GivenText l x) AfterDeclarator
+exact_given n d l h x =
+    let some = exact_behind mark.Assign 0 (omega arith) (mapped (exact_source n d l h) (with_source x) AfterDeclarator (λ e o f. f) (λ e o f. f))
+    (with_source x (some_source l).0, (some_source l).1, ((some_source l).0, refl, (some_source l).2)) in
+    branch (is_mark mark.Assign) (entry (widen some (GivenText l x) (λ b z s. inl s)) (λ o. ⊤ × (is_mark mark.Assign o ≡ true)) (λ o i. tt))
+    (widen (exact_done n IsInner (alone_name x) (λ o. ⊤ × (is_mark mark.Assign o ≡ false)) (λ b z. (b ≡ alone_name x) × (z ≡ [])) AfterDeclarator (λ o i. i.1)) (GivenText l x) (λ b z s. inr s))
+    (λ b z o s f. first_opened (λ i. is_mark mark.Assign i ≡ true) mark.Assign 0 s.0 s.1 z o s.2 s.3 (λ at. refl))
+    (λ b z o s f. not_given x b z o s.0 s.1 f)
+
+to_declarator : (l : ℕ) (b : DeclaratorTree) (z : Pieces) → Both (λ x. name x 0) (GivenText l) b z → IsDeclarator l b z
+to_declarator l b z (x, (u, v, e, s, inl (p, q, f, m, (a, g, t)))) = subst (λ (c : DeclaratorTree). IsDeclarator l c z) g (u, v, e, s, (p, q, f, m, t))
+to_declarator l b z (x, (u, v, e, s, inr (g, f))) = subst (λ (c : DeclaratorTree). IsDeclarator l c z) (sym g) (u, v, e, s, f)
+
+from_given : (l : ℕ) (x : Identifier) (m : Option SourceTree) (z : Pieces) → IsDeclarator l (record { name = x; source = m }) z → Both (λ x. name x 0) (GivenText l) (record { name = x; source = m }) z
+from_given l x None z (u, v, e, s, t) = (x, (u, v, e, s, inr (refl, t)))
+from_given l x (Some a) z (u, v, e, s, (p, q, f, m, t)) = (x, (u, v, e, s, inl (p, q, f, m, (a, refl, t))))
+
+some_declarator : (l : ℕ) → (d : DeclaratorTree) × (x : Pieces) × IsDeclarator l d x
+some_declarator l = (alone_name some_name, _, (_, _, refl, refl, refl))
+
+exact_declarator : (n d l : ℕ) → d + l ≡ n → Exact n IsInner (declarator_at d) Any (IsDeclarator l) (IsDeclarator l) AfterDeclarator
+exact_declarator n d l h =
+    let t = then (exact_name n 0 (omega arith)) (exact_given n d l h) (λ b z. Both (λ x. name x 0) (GivenText l) b z)
+    (λ x b y o s f. tt) (λ x z v. (alone_name x, [], (x, (z, [], refl, v, inr (refl, refl))))) (λ x b u v s r. (x, (u, v, refl, s, r))) in
+    retell t (IsDeclarator l) (λ b z s. to_declarator l b z s) (λ b z s. from_given l b.name b.source z s)
+
+abbrev Declared : ℕ → DeclarationTree → Texts
+Declared l b = Of declaration_of (λ ds. separated (IsDeclarator l) (ds.0 ∷ ds.1)) b
+
+to_declaration : (l : ℕ) (b : DeclarationTree) (z : Pieces) → (IsType ⋅ (Declared l b ⋅ spells mark.Semicolon)) z → IsDeclaration l b z
+to_declaration l b z (x, y, e, s, (u, v, f, (ds, g, t), m)) = subst (λ (c : DeclarationTree). IsDeclaration l c z) g (x, y, e, s, (u, v, f, t, m))
+
+from_declaration : (l : ℕ) (b : DeclarationTree) (z : Pieces) → IsDeclaration l b z → (IsType ⋅ (Declared l b ⋅ spells mark.Semicolon)) z
+from_declaration l b z (x, y, e, s, (u, v, f, t, m)) = (x, y, e, s, (u, v, f, ((b.first, b.rest), refl, t), m))
+
+given_stops : (m : Option SourceTree) (at : Place) → AfterGiven m (Some (token mark.Semicolon at)) × AfterGiven m (Some (token mark.Comma at))
+given_stops None at = (refl, refl)
+given_stops (Some (expression e)) at = ((((tt, refl), refl), (λ i. refl)), (((tt, refl), refl), (λ i. refl)))
+given_stops (Some (result c)) at = (tt, tt)
+
+last_stops : (ds : List DeclaratorTree) (d : DeclaratorTree) (at : Place) → AfterLast AfterDeclarator (AfterDeclarator d) ds (Some (token mark.Semicolon at))
+last_stops [] d at = (given_stops d.source at).0
+last_stops (e ∷ ds) d at = last_stops ds e at
+
+declared_begins : (l : ℕ) (m : Mark) (b : DeclarationTree) (x : Pieces) (o : Option Token) → (Declared l b ⋅ spells mark.Semicolon) x → is_mark m (first_or x o) ≡ false
+declared_begins l m b x o (u, v, f, (ds, g, (p, q, i, (a, c, j, s, t), r)), w) = rw (f, i, j, s) refl
+
+pub declaration_first : (l : ℕ) (d : DeclarationTree) (z : Pieces) (k : Option Token) → IsDeclaration l d z → is_mark mark.Long (first_or z k) ≡ true
+declaration_first l d z k (x, y, e, (u, v, f, s, r), t) = first_opened (λ i. is_mark mark.Long i ≡ true) mark.Long 0 u (v ++ y) z k (e ∙ regroup x y u v f) s (λ at. refl)
+
+pub exact_declaration : (n d l : ℕ) → d + l ≡ n → Exact n IsInner (declaration_at d) Any (IsDeclaration l) (IsDeclaration l) Free
+exact_declaration n d l h =
+    let list = exact_commas (exact_declarator n d l h) (some_declarator l) (λ a at. (given_stops a.source at).1) in
+    let made = mapped list declaration_of (λ b o. AfterCommas AfterDeclarator (b.first, b.rest) o) (λ i o f. f) (λ i o f. f) in
+    let whole = exact_ended mark.Semicolon made (λ b at. (last_stops b.rest b.first at, refl)) in
+    let some = some_declarator l in
+    let t = exact_type whole (declaration_of (some.0, []), _, (_, _, refl, ((some.0, []), refl, (_, _, refl, some.2, refl)), (some_place, refl))) (λ b x o s f. declared_begins l mark.Int b x o s)
+    (λ b x o s f. declared_begins l mark.Long b x o s) in
+    retell t (IsDeclaration l) (λ b z s. to_declaration l b z s) (λ b z s. from_declaration l b z s)

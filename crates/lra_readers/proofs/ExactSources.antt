@@ -1,0 +1,335 @@
+-- The readers of calls, and of what a variable gets or a `return` gives, are exact.
+use Rattle.std.proofs.Common.{◌≡◌, ℕ, ◌+◌, true, false, ◌⊎◌, List, [], ◌∷◌, ◌++◌, Option, Some, None, refl, sym, ap, subst, ◌∙◌, append_assoc, arith, inl, inr}
+use Rattle.std.specs.Bool.{⊤}
+use Rattle.std.proofs.lemmas.List.{append-nil}
+use Rattle.lra_base.specs.declared.refusals.Place.{Place}
+use Rattle.lra_tree.specs.declared.tokens.Mark.TheVariants as mark
+use Rattle.lra_tree.specs.declared.tokens.Token.{Token}
+use Rattle.lra_tree.specs.declared.trees.FactorOperator.{FactorOperator}
+use Rattle.lra_tree.specs.declared.trees.FactorOperator.TheVariants as factor
+use Rattle.lra_tree.specs.declared.trees.Identifier.{Identifier}
+use Rattle.lra_tree.specs.declared.trees.SumOperator.{SumOperator}
+use Rattle.lra_tree.specs.declared.trees.SumOperator.TheVariants as sum
+use Rattle.lra_tree.specs.Texts.{Pieces, Texts, ◌⋅◌, opens, mark as spells, name, separated}
+use Rattle.lra_tree.specs.Trees.{UnaryTree, negated, positive, literal, variable, input, group, TermTree, unary, times, over, modulo, ExprTree, term, plus, minus, CallTree, SourceTree, expression}
+use Rattle.lra_tree.specs.Trees.{result}
+use Rattle.lra_tree.specs.Views.{further_factor, further_term}
+use Rattle.lra_tree.specs.Grammar.{IsUnary, IsTerm, IsExpr, IsCall, IsSource}
+use Rattle.lra_readers.specs.Tests.{is_mark}
+use Rattle.lra_readers.specs.Reading.{next_name, has}
+use Rattle.lra_readers.specs.Expressions.{unary_at}
+use Rattle.lra_readers.specs.Statements.{listed, arguments_at, call_of, call_rest, source_from, source_rest, source_at}
+use Rattle.lra_readers.proofs.Exact.{Exact, Any, Free, Both, first_or, first_or-both, then}
+use Rattle.lra_readers.proofs.Forms.{rename, widen, entry, follows, noted, mapped, branch, where_told}
+use Rattle.lra_readers.proofs.Tokens.{IsInner, exact_expect, exact_name, some_place}
+use Rattle.lra_readers.proofs.Turns.{none}
+use Rattle.lra_readers.proofs.Chain.{regroup, AfterLast, no_steps, first_of_steps}
+use Rattle.lra_readers.proofs.Parts.{token, exact_behind, exact_ended}
+use Rattle.lra_readers.proofs.ExactExpressions.{factor_mark, sum_mark, AfterTerm, AfterExpr, some_expr, TermSteps, ExprSteps, expr_follows, whole_term, whole_expr, split_term, split_expr, exact_factors}
+use Rattle.lra_readers.proofs.ExactExpressions.{exact_summands, Of, first_opened, exact_unary, exact_expr}
+use Rattle.lra_readers.proofs.ExactConditions.{expr_begun, begun_long, begun_first}
+use Rattle.lra_readers.proofs.ExactLists.{AfterCommas, exact_commas}
+
+-- first tokens: no expression begins with `;` or `)` -------------------------------------------------------------------
+
+abbrev pub Inside : Option Token → Type 0
+Inside o = (is_mark mark.Semicolon o ≡ false) × (is_mark mark.CloseParen o ≡ false)
+
+pub front : (x y z : Pieces) (k : Option Token) → z ≡ x ++ y → Inside (first_or x (first_or y k)) → Inside (first_or z k)
+front x y z k e f = subst (λ (w : Pieces). Inside (first_or w k)) (sym e) (subst Inside (sym (first_or-both x y k)) f)
+
+unary_inside : (l : ℕ) (a : UnaryTree) (z : Pieces) (k : Option Token) → IsUnary l a z → Inside (first_or z k)
+unary_inside l (negated u) z k (x, y, e, s, t) = first_opened Inside mark.Minus (l + 1) x y z k e s (λ at. (refl, refl))
+unary_inside l (positive u) z k (x, y, e, s, t) = first_opened Inside mark.Plus (l + 1) x y z k e s (λ at. (refl, refl))
+unary_inside l (literal i) z k s = rw (s.1) (refl, refl)
+unary_inside l (variable x) z k s = rw s (refl, refl)
+unary_inside l input z k (x, y, e, s, t) = first_opened Inside mark.Input 0 x y z k e s (λ at. (refl, refl))
+unary_inside l (group a) z k (x, y, e, s, t) = first_opened Inside mark.OpenParen (l + 1) x y z k e s (λ at. (refl, refl))
+
+term_inside : (l : ℕ) (a : TermTree) (z : Pieces) (k : Option Token) → IsTerm l a z → Inside (first_or z k)
+term_inside l (unary u) z k h = unary_inside l u z k h
+term_inside l (times t u) z k (x, y, e, h, s) = front x y z k e (term_inside l t x (first_or y k) h)
+term_inside l (over t u) z k (x, y, e, h, s) = front x y z k e (term_inside l t x (first_or y k) h)
+term_inside l (modulo t u) z k (x, y, e, h, s) = front x y z k e (term_inside l t x (first_or y k) h)
+
+pub expr_inside : (l : ℕ) (a : ExprTree) (z : Pieces) (k : Option Token) → IsExpr l a z → Inside (first_or z k)
+expr_inside l (term t) z k h = term_inside l t z k h
+expr_inside l (plus a t) z k (x, y, e, h, s) = front x y z k e (expr_inside l a x (first_or y k) h)
+expr_inside l (minus a t) z k (x, y, e, h, s) = front x y z k e (expr_inside l a x (first_or y k) h)
+
+-- calls ----------------------------------------------------------------------------------------------------------------
+
+abbrev ManyText : ℕ → ExprTree × List ExprTree → Texts
+ManyText l es z = separated (IsExpr l) (es.0 ∷ es.1) z
+
+abbrev pub ArgumentsText : ℕ → List ExprTree → Texts
+ArgumentsText l es = separated (IsExpr l) es ⋅ spells mark.CloseParen
+
+last_closes : (e : ExprTree) (es : List ExprTree) (at : Place) → AfterLast AfterExpr (AfterExpr e) es (Some (token mark.CloseParen at))
+last_closes e [] at = ((tt, refl), refl)
+last_closes e (f ∷ es) at = last_closes f es at
+
+abbrev AfterMany : List ExprTree → Option Token → Type 0
+AfterMany [] o = ⊤
+AfterMany (e ∷ es) o = AfterCommas AfterExpr (e, es) o
+
+many_closes : (es : List ExprTree) (at : Place) → AfterMany es (Some (token mark.CloseParen at))
+many_closes [] at = tt
+many_closes (e ∷ es) at = (last_closes e es at, refl)
+
+abbrev NoArguments : List ExprTree → Texts
+NoArguments all z = (all ≡ []) × spells mark.CloseParen z
+
+abbrev SomeArguments : ℕ → List ExprTree → Texts
+SomeArguments l all = Of listed (ManyText l) all ⋅ spells mark.CloseParen
+
+none_out : (l : ℕ) (all : List ExprTree) (z : Pieces) → NoArguments all z → ArgumentsText l all z
+none_out l all z (e, s) = subst (λ (es : List ExprTree). ArgumentsText l es z) (sym e) ([], z, refl, refl, s)
+
+some_out : (l : ℕ) (all : List ExprTree) (z : Pieces) → SomeArguments l all z → ArgumentsText l all z
+some_out l all z (x, y, e, (es, f, s), t) = subst (λ (is : List ExprTree). ArgumentsText l is z) f (x, y, e, s, t)
+
+arguments_sides : (l : ℕ) (all : List ExprTree) (z : Pieces) → ArgumentsText l all z → NoArguments all z ⊎ SomeArguments l all z
+arguments_sides l [] z (x, y, e, s, t) = inl (refl, subst (λ (w : Pieces). spells mark.CloseParen w) (sym (e ∙ ap (λ (w : Pieces). w ++ y) s)) t)
+arguments_sides l (i ∷ is) z (x, y, e, s, t) = inr (x, y, e, ((i, is), refl, s), t)
+
+some_inside : (l : ℕ) (all : List ExprTree) (z : Pieces) (k : Option Token) → SomeArguments l all z → is_mark mark.CloseParen (first_or z k) ≡ false
+some_inside l all z k (x, y, e, (es, f, (p, q, g, s, r)), t) = (front x y z k e (front p q x (first_or y k) g (expr_inside l es.0 p (first_or q (first_or y k)) s))).1
+
+exact_arguments : (n d l : ℕ) → d + l ≡ n → Exact n IsInner (arguments_at d) Any (ArgumentsText l) (ArgumentsText l) Free
+exact_arguments n d l h =
+    let none = exact_expect n mark.CloseParen 0 (omega arith) [] in
+    let list = mapped (exact_commas (exact_expr n d l h) (some_expr l) (λ a at. ((tt, refl), refl))) listed AfterMany (λ es o f. f) (λ es o f. f) in
+    let b = branch (is_mark mark.CloseParen) (entry (widen none (ArgumentsText l) (λ all z s. none_out l all z s)) (λ o. ⊤ × (is_mark mark.CloseParen o ≡ true)) (λ o i. tt))
+    (entry (widen (exact_ended mark.CloseParen list many_closes) (ArgumentsText l) (λ all z s. some_out l all z s)) (λ o. ⊤ × (is_mark mark.CloseParen o ≡ false)) (λ o i. tt))
+    (λ all z o s f. first_opened (λ i. is_mark mark.CloseParen i ≡ true) mark.CloseParen 0 z [] z o (sym (append-nil z)) s.1 (λ at. refl))
+    (λ all z o s f. some_inside l all z o s) in
+    rename b (ArgumentsText l) (λ all z s. elim s [ inl k ↦ none_out l all z k | inr k ↦ some_out l all z k ]) (λ all z s. arguments_sides l all z s)
+
+-- behind the name
+abbrev pub CallText : ℕ → Identifier → CallTree → Texts
+CallText l x c = opens mark.OpenParen 0 ⋅ Of (call_of x) (ArgumentsText l) c
+
+pub some_call : (l : ℕ) (x : Identifier) → (c : CallTree) × (z : Pieces) × CallText l x c z
+some_call l x = (call_of x [], _, (_, _, refl, (some_place, refl), ([], refl, ([], _, refl, refl, (some_place, refl)))))
+
+pub exact_call_rest : (n d l : ℕ) → d + l ≡ n → (x : Identifier) → Exact n IsInner (call_rest d x) Any (CallText l x) (CallText l x) Free
+exact_call_rest n d l h x =
+    exact_behind mark.OpenParen 0 (omega arith) (mapped (exact_arguments n d l h) (call_of x) Free (λ es o f. tt) (λ es o f. tt)) (call_of x [], _, ([], refl, ([], _, refl, refl, (some_place, refl))))
+
+pub call_out : (o l : ℕ) (x : Identifier) (c : CallTree) (u v : Pieces) → name x o u → CallText l x c v → IsCall o l c (u ++ v)
+call_out o l x c u v m (p, q, e, s, (es, f, t)) = subst (λ (k : CallTree). IsCall o l k (u ++ v)) f (u, v, refl, m, (p, q, e, s, t))
+
+pub call_in : (l : ℕ) (c : CallTree) (v : Pieces) → (spells mark.OpenParen ⋅ ArgumentsText l c.arguments) v → CallText l c.name c v
+call_in l c v (p, q, e, s, t) = (p, q, e, s, (c.arguments, refl, t))
+
+-- sources --------------------------------------------------------------------------------------------------------------
+
+abbrev IsName : TermTree → Type 0
+IsName (unary (variable x)) = ⊤
+IsName (unary (negated u)) = ⊥
+IsName (unary (positive u)) = ⊥
+IsName (unary (literal i)) = ⊥
+IsName (unary input) = ⊥
+IsName (unary (group e)) = ⊥
+IsName (times t u) = ⊥
+IsName (over t u) = ⊥
+IsName (modulo t u) = ⊥
+
+-- an expression that is a name alone, which a parenthesis behind it would make a call
+abbrev pub IsNameAlone : ExprTree → Type 0
+IsNameAlone (term t) = IsName t
+IsNameAlone (plus e t) = ⊥
+IsNameAlone (minus e t) = ⊥
+
+abbrev pub AfterSource : SourceTree → Option Token → Type 0
+AfterSource (expression e) o = AfterExpr e o × (IsNameAlone e → is_mark mark.OpenParen o ≡ false)
+AfterSource (result c) o = ⊤
+
+-- what may follow an expression, and what its beginning tells of that
+abbrev AfterPlain : SourceTree → Option Token → Type 0
+AfterPlain (expression e) o = AfterExpr e o
+AfterPlain (result c) o = ⊤
+
+abbrev Noted : SourceTree → Option Token → Type 0
+Noted (expression e) o = IsNameAlone e → is_mark mark.OpenParen o ≡ false
+Noted (result c) o = ⊤
+
+both_after : (b : SourceTree) (o : Option Token) → AfterPlain b o × Noted b o → AfterSource b o
+both_after (expression e) o f = f
+both_after (result c) o f = tt
+
+after_both : (b : SourceTree) (o : Option Token) → AfterSource b o → AfterPlain b o × Noted b o
+after_both (expression e) o f = f
+after_both (result c) o f = (tt, tt)
+
+grown_term : (t : TermTree) (k : FactorOperator) (i : UnaryTree) → IsName (further_factor t k i) → ⊥
+grown_term t factor.Times i h = h
+grown_term t factor.Over i h = h
+grown_term t factor.Modulo i h = h
+
+grown_expr : (e : ExprTree) (k : SumOperator) (i : TermTree) → IsNameAlone (further_term e k i) → ⊥
+grown_expr e sum.Plus i h = h
+grown_expr e sum.Minus i h = h
+
+term_alone : (l : ℕ) (b a : TermTree) (y : Pieces) → TermSteps l b a y → IsName b → (y ≡ []) × (b ≡ a)
+term_alone l = no_steps factor_mark unary further_factor (IsUnary l) IsName grown_term
+
+expr_alone : (l : ℕ) (b a : ExprTree) (y : Pieces) → ExprSteps l b a y → IsNameAlone b → (y ≡ []) × (b ≡ a)
+expr_alone l = no_steps sum_mark term further_term (IsTerm l) IsNameAlone grown_expr
+
+factor_no_open : (k : FactorOperator) (at : Place) → is_mark mark.OpenParen (Some (token (factor_mark k) at)) ≡ false
+factor_no_open factor.Times at = refl
+factor_no_open factor.Over at = refl
+factor_no_open factor.Modulo at = refl
+
+sum_no_open : (k : SumOperator) (at : Place) → is_mark mark.OpenParen (Some (token (sum_mark k) at)) ≡ false
+sum_no_open sum.Plus at = refl
+sum_no_open sum.Minus at = refl
+
+abbrev FromTerm : ℕ → TermTree → SourceTree → Texts
+FromTerm l t b = Of expression (λ e z. ExprSteps l e (term t) z) b
+
+-- behind a name that an expression begins with
+abbrev FromName : ℕ → Identifier → SourceTree → Texts
+FromName l x b z = Both (λ t z. TermSteps l t (unary (variable x)) z) (FromTerm l) b z
+
+abbrev SourceRest : ℕ → Identifier → SourceTree → Texts
+SourceRest l x b z = Of result (CallText l x) b z ⊎ FromName l x b z
+
+abbrev NotOpen : Option Token → Type 0
+NotOpen o = is_mark mark.OpenParen o ≡ false
+
+no_more : (u v z : Pieces) → z ≡ u ++ v → u ≡ [] → v ≡ [] → z ≡ []
+no_more u v z e f g = e ∙ ap (λ (w : Pieces). w ++ v) f ∙ g
+
+name_noted : (l : ℕ) (x : Identifier) (b : SourceTree) (z : Pieces) (o : Option Token) → FromName l x b z → NotOpen (first_or z o) → Noted b o
+name_noted l x b z o (t, (u, v, e, s, (a, g, r))) i = subst (λ (c : SourceTree). Noted c o) g (λ j.
+    let q = expr_alone l a (term t) v r j in
+    let p = term_alone l t (unary (variable x)) u s (subst IsNameAlone q.1 j) in
+    subst (λ (w : Pieces). NotOpen (first_or w o)) (no_more u v z e p.0 q.0) i)
+
+plain_after : (e : ExprTree) (b : SourceTree) (o : Option Token) → expression e ≡ b → AfterPlain b o → AfterExpr e o
+plain_after e b o g f = let r : AfterPlain (expression e) o = subst (λ (c : SourceTree). AfterPlain c o) (sym g) f in r
+
+-- an expression that is a name alone is followed by no parenthesis
+alone_after : (e : ExprTree) (b : SourceTree) (o : Option Token) → expression e ≡ b → AfterSource b o → IsNameAlone e → NotOpen o
+alone_after e b o g f = let r : AfterSource (expression e) o = subst (λ (c : SourceTree). AfterSource c o) (sym g) f in r.1
+
+from_no_open : (l : ℕ) (x : Identifier) (b : SourceTree) (z : Pieces) (o : Option Token) → FromName l x b z → (z ≡ [] → AfterSource b o) → NotOpen (first_or z o)
+from_no_open l x b z o (t, (u, v, e, s, (a, g, r))) f =
+    let behind_terms : u ≡ [] → t ≡ unary (variable x) → NotOpen (first_or v o) = λ i j.
+    first_of_steps sum_mark term further_term (IsTerm l) a (term t) v o NotOpen r sum_no_open
+    (λ i' j'. alone_after a b o g (f (no_more u v z e i i')) (subst IsNameAlone (sym (j' ∙ ap term j)) tt)) in
+    let whole : NotOpen (first_or u (first_or v o)) = first_of_steps factor_mark unary further_factor (IsUnary l) t (unary (variable x)) u (first_or v o) NotOpen s factor_no_open behind_terms in
+    subst NotOpen (sym (ap (λ (k : Pieces). first_or k o) e ∙ first_or-both u v o)) whole
+
+module _ (n d l : ℕ) (h : d + l ≡ n) where
+  term_follows : (t : TermTree) (b : SourceTree) (y : Pieces) (o : Option Token) → FromTerm l t b y → (y ≡ [] → AfterPlain b o) → AfterTerm t (first_or y o)
+  term_follows t b y o (e, g, s) f = expr_follows n l (term t) e y o s (λ i. plain_after e b o g (f i))
+
+  exact_from : (x : Identifier) → Exact n IsInner (source_from d (variable x)) Any (FromName l x) (FromName l x) AfterPlain
+  exact_from x =
+      let U = exact_unary n d l h in
+      then (exact_factors n l (unary_at d) U (unary (variable x))) (λ t. mapped (exact_summands n l (unary_at d) U (term t)) expression AfterPlain (λ e o f. f) (λ e o f. f)) (FromName l x)
+      (λ t b y o s f. term_follows t b y o s f)
+      (λ t z v. (expression (term t), [], (t, (z, [], refl, v, (term t, refl, none)))))
+      (λ t b u v s r. (t, (u, v, refl, s, r)))
+
+  exact_source_rest : (x : Identifier) → Exact n IsInner (source_rest d x) Any (SourceRest l x) (SourceRest l x) AfterSource
+  exact_source_rest x =
+      let calls = mapped (exact_call_rest n d l h x) result AfterSource (λ c o f. tt) (λ c o f. tt) in
+      let from = noted (entry (exact_from x) (λ o. ⊤ × NotOpen o) (λ o i. tt)) Noted (λ b z o s i. name_noted l x b z o s i.1) in
+      branch (is_mark mark.OpenParen) (entry (widen calls (SourceRest l x) (λ b z s. inl s)) (λ o. ⊤ × (is_mark mark.OpenParen o ≡ true)) (λ o i. tt))
+      (widen (follows from AfterSource both_after after_both) (SourceRest l x) (λ b z s. inr s))
+      (λ b z o s f. first_opened (λ i. is_mark mark.OpenParen i ≡ true) mark.OpenParen 0 s.2.0 s.2.1 z o s.2.2 s.2.3 (λ at. refl))
+      (λ b z o s f. from_no_open l x b z o s f)
+
+abbrev NamedSource : ℕ → SourceTree → Texts
+NamedSource l b z = Both (λ x. name x 0) (SourceRest l) b z
+
+-- an expression that begins with no name
+abbrev OtherSource : ℕ → SourceTree → Texts
+OtherSource l b z = Of expression (IsExpr l) b z × (has (next_name (first_or z None)) ≡ false)
+
+named_out : (l : ℕ) (b : SourceTree) (z : Pieces) → NamedSource l b z → IsSource l b z
+named_out l b z (x, (u, v, e, s, inl (c, g, t))) = subst (λ (k : SourceTree). IsSource l k z) g (subst (IsCall 0 l c) (sym e) (call_out 0 l x c u v s t))
+named_out l b z (x, (u, v, e, s, inr (t, (p, q, f, m, (a, g, r))))) =
+    let first : IsTerm l t (u ++ p) = whole_term l t (unary (variable x)) u p s m in
+    let all : IsExpr l a ((u ++ p) ++ q) = whole_expr l a (term t) (u ++ p) q first r in
+    subst (λ (k : SourceTree). IsSource l k z) g (subst (IsExpr l a) (sym (e ∙ ap (λ (w : Pieces). u ++ w) f ∙ sym (append_assoc u p q))) all)
+
+-- a unary that is no name begins with none
+unary_no_name : (l : ℕ) (a : UnaryTree) (v w z : Pieces) → z ≡ v ++ w → IsUnary l a v → (IsName (unary a) → ⊥) → has (next_name (first_or z None)) ≡ false
+unary_no_name l (negated u) v w z e (x, y, f, s, t) g = first_opened (λ i. has (next_name i) ≡ false) mark.Minus (l + 1) x (y ++ w) z None (e ∙ regroup v w x y f) s (λ at. refl)
+unary_no_name l (positive u) v w z e (x, y, f, s, t) g = first_opened (λ i. has (next_name i) ≡ false) mark.Plus (l + 1) x (y ++ w) z None (e ∙ regroup v w x y f) s (λ at. refl)
+unary_no_name l (literal i) v w z e s g = rw (e, s.1) refl
+unary_no_name l (variable i) v w z e s g = absurd (g tt)
+unary_no_name l input v w z e (x, y, f, s, t) g = first_opened (λ i. has (next_name i) ≡ false) mark.Input 0 x (y ++ w) z None (e ∙ regroup v w x y f) s (λ at. refl)
+unary_no_name l (group i) v w z e (x, y, f, s, t) g = first_opened (λ i. has (next_name i) ≡ false) mark.OpenParen (l + 1) x (y ++ w) z None (e ∙ regroup v w x y f) s (λ at. refl)
+
+by_first : (l : ℕ) (e : ExprTree) (a : UnaryTree) (z p q : Pieces) → IsExpr l e z → z ≡ p ++ q → IsUnary l a p → Both (λ t z. TermSteps l t (unary a) z) (FromTerm l) (expression e) q
+    → NamedSource l (expression e) z ⊎ OtherSource l (expression e) z
+by_first l e (variable x) z p q h f s r = inl (x, (p, q, f, s, inr r))
+by_first l e (negated u) z p q h f s r = inr ((e, refl, h), unary_no_name l (negated u) p q z f s (λ g. g))
+by_first l e (positive u) z p q h f s r = inr ((e, refl, h), unary_no_name l (positive u) p q z f s (λ g. g))
+by_first l e (literal i) z p q h f s r = inr ((e, refl, h), unary_no_name l (literal i) p q z f s (λ g. g))
+by_first l e input z p q h f s r = inr ((e, refl, h), unary_no_name l input p q z f s (λ g. g))
+by_first l e (group i) z p q h f s r = inr ((e, refl, h), unary_no_name l (group i) p q z f s (λ g. g))
+
+source_sides : (l : ℕ) (b : SourceTree) (z : Pieces) → IsSource l b z → NamedSource l b z ⊎ OtherSource l b z
+source_sides l (result c) z (u, v, e, m, t) = inl (c.name, (u, v, e, m, inl (c, refl, call_in l c v t)))
+source_sides l (expression e) z h =
+    let p = split_expr l e z h in
+    let q = split_term l p.0 p.1.0 p.1.3 in
+    by_first l e q.0 z q.1.0 (q.1.1 ++ p.1.1) h (p.1.2 ∙ regroup p.1.0 p.1.1 q.1.0 q.1.1 q.1.2) q.1.3 (p.0, (q.1.1, p.1.1, refl, q.1.4, (e, refl, p.1.4)))
+
+-- a name alone begins with a name
+alone_begins : (l : ℕ) (t : TermTree) (z : Pieces) → IsName t → IsTerm l t z → has (next_name (first_or z None)) ≡ true
+alone_begins l (unary (variable x)) z j s = rw s refl
+alone_begins l (unary (negated u)) z j s = absurd j
+alone_begins l (unary (positive u)) z j s = absurd j
+alone_begins l (unary (literal i)) z j s = absurd j
+alone_begins l (unary input) z j s = absurd j
+alone_begins l (unary (group e)) z j s = absurd j
+alone_begins l (times t u) z j s = absurd j
+alone_begins l (over t u) z j s = absurd j
+alone_begins l (modulo t u) z j s = absurd j
+
+not_alone : (l : ℕ) (e : ExprTree) (z : Pieces) → IsExpr l e z → has (next_name (first_or z None)) ≡ false → IsNameAlone e → ⊥
+not_alone l (term t) z s k j = let f = alone_begins l t z j s in cc
+not_alone l (plus e t) z s k j = absurd j
+not_alone l (minus e t) z s k j = absurd j
+
+other_noted : (l : ℕ) (b : SourceTree) (z : Pieces) (o : Option Token) → OtherSource l b z → Noted b o
+other_noted l b z o ((e, g, s), k) = subst (λ (c : SourceTree). Noted c o) g (λ j. absurd (not_alone l e z s k j))
+
+other_begins : (l : ℕ) (b : SourceTree) (z : Pieces) (o : Option Token) → OtherSource l b z → has (next_name (first_or z o)) ≡ false
+other_begins l b z o ((e, g, s), k) = ap (λ (i : Option Token). has (next_name i)) (begun_first z o (expr_begun l e z s)) ∙ k
+
+named_begins : (l : ℕ) (b : SourceTree) (z : Pieces) (o : Option Token) → NamedSource l b z → has (next_name (first_or z o)) ≡ true
+named_begins l b z o (x, (u, v, e, s, r)) = rw (e, s) refl
+
+pub some_source : (l : ℕ) → (e : SourceTree) × (x : Pieces) × IsSource l e x
+some_source l = (expression (some_expr l).0, (some_expr l).1, (some_expr l).2)
+
+pub exact_source : (n d l : ℕ) → d + l ≡ n → Exact n IsInner (source_at d) Any (IsSource l) (IsSource l) AfterSource
+exact_source n d l h =
+    let named = then (exact_name n 0 (omega arith)) (exact_source_rest n d l h) (NamedSource l)
+    (λ x b y o s f. tt)
+    (λ x z v. (expression (term (unary (variable x))), [], (x, (z, [], refl, v, inr (unary (variable x), ([], [], refl, none, (term (unary (variable x)), refl, none)))))))
+    (λ x b u v s r. (x, (u, v, refl, s, r))) in
+    let exprs = where_told (mapped (exact_expr n d l h) expression AfterPlain (λ e o f. f) (λ e o f. f)) (λ o. has (next_name o)) false (λ b z s. begun_long z (expr_begun l s.0 z s.2)) in
+    let others = follows (noted exprs Noted (λ b z o s i. other_noted l b z o s)) AfterSource both_after after_both in
+    let t = branch (λ o. has (next_name o)) (entry (widen named (IsSource l) (λ b z s. named_out l b z s)) (λ o. ⊤ × (has (next_name o) ≡ true)) (λ o i. tt))
+    (entry (widen others (IsSource l) (λ b z s. subst (λ (k : SourceTree). IsSource l k z) s.1 s.2)) (λ o. ⊤ × (has (next_name o) ≡ false)) (λ o i. (i.1, tt)))
+    (λ b z o s f. named_begins l b z o s) (λ b z o s f. other_begins l b z o s) in
+    rename t (IsSource l) (λ b z s. elim s [ inl k ↦ named_out l b z k | inr k ↦ subst (λ (c : SourceTree). IsSource l c z) k.0.1 k.0.2 ]) (λ b z s. source_sides l b z s)
+
+pub source_stops : (e : SourceTree) (at : Place) → AfterSource e (Some (token mark.Semicolon at))
+source_stops (expression e) at = (((tt, refl), refl), (λ i. refl))
+source_stops (result c) at = tt
+
+pub source_no_stop : (l : ℕ) (a : SourceTree) (z : Pieces) (k : Option Token) → IsSource l a z → is_mark mark.Semicolon (first_or z k) ≡ false
+source_no_stop l (expression a) z k s = (expr_inside l a z k s).0
+source_no_stop l (result c) z k (x, y, e, s, t) = rw (e, s) refl

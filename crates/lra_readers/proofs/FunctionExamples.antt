@@ -1,0 +1,74 @@
+-- Trees and first faults of sources with functions, found by reading their tokens.
+use Rattle.std.proofs.Common.{◌≡◌, true, false, [], ◌∷◌, codes, Ok, Err, refl}
+use Rattle.lra_base.specs.declared.refusals.Cause.TheVariants.{Syntax}
+use Rattle.lra_tree.specs.declared.tokens.Mark.TheVariants as mark
+use Rattle.lra_tree.specs.declared.tokens.Kind.TheVariants.{Number}
+use Rattle.lra_tree.specs.Faults.{IsTree, IsTextFault}
+use Rattle.lra_tree.specs.Grammar.{Spells}
+use Rattle.lra_tree.specs.Trees.{call, no_items, statement, function, FileTree}
+use Rattle.lra_readers.specs.Reading.{Text, loop}
+use Rattle.lra_readers.specs.Expressions.{unary_at, tests}
+use Rattle.lra_readers.specs.Statements.{levels}
+use Rattle.lra_readers.specs.Files.{file_at}
+use Rattle.lra_readers.proofs.Answered.{tree_found, text_fault}
+use Rattle.lra_readers.proofs.FaultExamples.{in_line, token_at, mark_token}
+use Rattle.lra_readers.proofs.LoopExamples.{ended_at, ends, number}
+use Rattle.lra_readers.proofs.CallExamples.{word_at, named_at}
+
+-- void f(long a,long long int b){} long g(){} int main(){f(1,2);}
+abbrev three : Text
+three = mark_token mark.Void 1 ∷ word_at (codes "f") 6 ∷ mark_token mark.OpenParen 7 ∷ mark_token mark.Long 8 ∷ word_at (codes "a") 13 ∷ mark_token mark.Comma 14 ∷ mark_token mark.Long 15 ∷
+    mark_token mark.Long 20 ∷ mark_token mark.Int 25
+    ∷ word_at (codes "b") 29 ∷ mark_token mark.CloseParen 30 ∷ mark_token mark.OpenBrace 31 ∷ mark_token mark.CloseBrace 32 ∷ mark_token mark.Long 34 ∷ word_at (codes "g") 39 ∷
+    mark_token mark.OpenParen 40 ∷ mark_token mark.CloseParen 41
+    ∷ mark_token mark.OpenBrace 42 ∷ mark_token mark.CloseBrace 43 ∷ mark_token mark.Int 45 ∷ word_at (codes "main") 49 ∷ mark_token mark.OpenParen 53 ∷ mark_token mark.CloseParen 54 ∷
+    mark_token mark.OpenBrace 55 ∷ word_at (codes "f") 56
+    ∷ mark_token mark.OpenParen 57 ∷ token_at (Number 1) 58 ∷ mark_token mark.Comma 59 ∷ token_at (Number 2) 60 ∷ mark_token mark.CloseParen 61 ∷ mark_token mark.Semicolon 62 ∷
+    mark_token mark.CloseBrace 63 ∷ []
+
+abbrev three_tree : FileTree
+three_tree = record {
+  parts = function (record { has_result = false; name = named_at (codes "f") 6; parameters = named_at (codes "a") 13 ∷ named_at (codes "b") 29 ∷ []; body = no_items; end = in_line 32 })
+      ∷ function (record { has_result = true; name = named_at (codes "g") 39; parameters = []; body = no_items; end = in_line 43 })
+      ∷ function (record {
+        has_result = true;
+        name = named_at (codes "main") 49;
+        parameters = [];
+        body = statement (call (record { name = named_at (codes "f") 56; arguments = number 1 ∷ number 2 ∷ [] })) no_items;
+        end = in_line 63;
+      })
+      ∷ [];
+  end = in_line 64;
+}
+
+three_read : file_at 63 (ended_at three 64) ≡ Ok (three_tree, [])
+unfolding loop unary_at tests levels
+three_read = refl
+
+pub three_found : IsTree Spells (ended_at three 64) three_tree
+three_found = tree_found (ended_at three 64) [] three_tree (ends three 64 refl) three_read
+
+-- int f(void){}: the type `int` alone is that of `main`
+abbrev int_result : Text
+int_result = mark_token mark.Int 1 ∷ word_at (codes "f") 5 ∷ mark_token mark.OpenParen 6 ∷ mark_token mark.Void 7 ∷ mark_token mark.CloseParen 11 ∷ mark_token mark.OpenBrace 12 ∷
+    mark_token mark.CloseBrace 13 ∷ []
+
+int_result_stops : file_at 63 (ended_at int_result 14) ≡ Err (record { cause = Syntax; left = 7 })
+unfolding loop unary_at tests levels
+int_result_stops = refl
+
+pub int_function : IsTextFault Spells (ended_at int_result 14) Syntax (in_line 5)
+int_function = text_fault (ended_at int_result 14) (record { cause = Syntax; left = 7 }) (ends int_result 14 refl) int_result_stops (word_at (codes "f") 5) refl
+
+-- void f(void,long a){}: nothing stands beside `void`
+abbrev void_more : Text
+void_more = mark_token mark.Void 1 ∷ word_at (codes "f") 6 ∷ mark_token mark.OpenParen 7 ∷ mark_token mark.Void 8 ∷ mark_token mark.Comma 12 ∷ mark_token mark.Long 13 ∷ word_at (codes "a") 18 ∷
+    mark_token mark.CloseParen 19 ∷ mark_token mark.OpenBrace 20
+    ∷ mark_token mark.CloseBrace 21 ∷ []
+
+void_more_stops : file_at 63 (ended_at void_more 22) ≡ Err (record { cause = Syntax; left = 7 })
+unfolding loop unary_at tests levels
+void_more_stops = refl
+
+pub void_and_more : IsTextFault Spells (ended_at void_more 22) Syntax (in_line 12)
+void_and_more = text_fault (ended_at void_more 22) (record { cause = Syntax; left = 7 }) (ends void_more 22 refl) void_more_stops (mark_token mark.Comma 12) refl

@@ -1,0 +1,70 @@
+-- Trees and first faults of sources with globals, found by reading their tokens.
+use Rattle.std.proofs.Common.{◌≡◌, true, [], ◌∷◌, codes, Some, None, Ok, Err, refl}
+use Rattle.std.specs.Prelude.{negsuc}
+use Rattle.lra_base.specs.declared.refusals.Cause.TheVariants.{Syntax}
+use Rattle.lra_tree.specs.declared.tokens.Mark.TheVariants as mark
+use Rattle.lra_tree.specs.declared.tokens.Kind.TheVariants.{Number}
+use Rattle.lra_tree.specs.Faults.{IsTree, IsTextFault}
+use Rattle.lra_tree.specs.Grammar.{Spells}
+use Rattle.lra_tree.specs.Trees.{no_items, globals, function, FileTree}
+use Rattle.lra_readers.specs.Reading.{Text, loop}
+use Rattle.lra_readers.specs.Expressions.{unary_at, tests}
+use Rattle.lra_readers.specs.Statements.{levels}
+use Rattle.lra_readers.specs.Files.{file_at}
+use Rattle.lra_readers.proofs.Answered.{tree_found, text_fault}
+use Rattle.lra_readers.proofs.FaultExamples.{in_line, token_at, mark_token}
+use Rattle.lra_readers.proofs.LoopExamples.{ended_at, ends}
+use Rattle.lra_readers.proofs.CallExamples.{word_at, named_at}
+
+-- long g,h=-5;int main(){}
+abbrev two : Text
+two = mark_token mark.Long 1 ∷ word_at (codes "g") 6 ∷ mark_token mark.Comma 7 ∷ word_at (codes "h") 8 ∷ mark_token mark.Assign 9 ∷ mark_token mark.Minus 10 ∷ token_at (Number 5) 11 ∷
+    mark_token mark.Semicolon 12
+    ∷ mark_token mark.Int 13 ∷ word_at (codes "main") 17 ∷ mark_token mark.OpenParen 21 ∷ mark_token mark.CloseParen 22 ∷ mark_token mark.OpenBrace 23 ∷ mark_token mark.CloseBrace 24 ∷ []
+
+abbrev two_tree : FileTree
+two_tree = record {
+  parts = globals (record { first = record { name = named_at (codes "g") 6; value = None }; rest = record { name = named_at (codes "h") 8; value = Some (negsuc 4) } ∷ [] })
+      ∷ function (record { has_result = true; name = named_at (codes "main") 17; parameters = []; body = no_items; end = in_line 24 }) ∷ [];
+  end = in_line 25;
+}
+
+two_read : file_at 63 (ended_at two 25) ≡ Ok (two_tree, [])
+unfolding loop unary_at tests levels
+two_read = refl
+
+pub two_found : IsTree Spells (ended_at two 25) two_tree
+two_found = tree_found (ended_at two 25) [] two_tree (ends two 25 refl) two_read
+
+-- long g=h;: a global gets a literal
+abbrev by_name : Text
+by_name = mark_token mark.Long 1 ∷ word_at (codes "g") 6 ∷ mark_token mark.Assign 7 ∷ word_at (codes "h") 8 ∷ mark_token mark.Semicolon 9 ∷ []
+
+by_name_stops : file_at 63 (ended_at by_name 10) ≡ Err (record { cause = Syntax; left = 3 })
+unfolding loop unary_at tests levels
+by_name_stops = refl
+
+pub named_value : IsTextFault Spells (ended_at by_name 10) Syntax (in_line 8)
+named_value = text_fault (ended_at by_name 10) (record { cause = Syntax; left = 3 }) (ends by_name 10 refl) by_name_stops (word_at (codes "h") 8) refl
+
+-- long g=- -1;: with one sign at most
+abbrev two_signs : Text
+two_signs = mark_token mark.Long 1 ∷ word_at (codes "g") 6 ∷ mark_token mark.Assign 7 ∷ mark_token mark.Minus 8 ∷ mark_token mark.Minus 10 ∷ token_at (Number 1) 11 ∷ mark_token mark.Semicolon 12 ∷ []
+
+two_signs_stop : file_at 63 (ended_at two_signs 13) ≡ Err (record { cause = Syntax; left = 4 })
+unfolding loop unary_at tests levels
+two_signs_stop = refl
+
+pub second_sign : IsTextFault Spells (ended_at two_signs 13) Syntax (in_line 10)
+second_sign = text_fault (ended_at two_signs 13) (record { cause = Syntax; left = 4 }) (ends two_signs 13 refl) two_signs_stop (mark_token mark.Minus 10) refl
+
+-- void g;: no variable is `void`
+abbrev void_variable : Text
+void_variable = mark_token mark.Void 1 ∷ word_at (codes "g") 6 ∷ mark_token mark.Semicolon 7 ∷ []
+
+void_variable_stops : file_at 63 (ended_at void_variable 8) ≡ Err (record { cause = Syntax; left = 2 })
+unfolding loop unary_at tests levels
+void_variable_stops = refl
+
+pub void_global : IsTextFault Spells (ended_at void_variable 8) Syntax (in_line 7)
+void_global = text_fault (ended_at void_variable 8) (record { cause = Syntax; left = 2 }) (ends void_variable 8 refl) void_variable_stops (mark_token mark.Semicolon 7) refl

@@ -1,0 +1,228 @@
+-- The reader of a whole file, and the shape of the lists of tokens that are read.
+use Rattle.std.specs.Prelude.{◌≡◌, ◌≢◌, ℕ, ◌<◌, ℤ, pos, neg_ℤ, ⊤, Bool, true, false, cond, bytes_eq, codes, List, []}
+use Rattle.std.specs.Prelude.{◌∷◌, ◌++◌, Option, Some, None, option_map, Result, Ok, Err}
+use Rattle.std.specs.List.{AllByRecursion}
+use Rattle.lra_base.specs.declared.refusals.Place.{Place}
+use Rattle.lra_base.specs.declared.refusals.Cause.TheVariants.{Syntax}
+use Rattle.lra_tree.specs.declared.tokens.Mark.{Mark}
+use Rattle.lra_tree.specs.declared.tokens.Mark.TheVariants as mark
+use Rattle.lra_tree.specs.declared.tokens.Kind.{Kind}
+use Rattle.lra_tree.specs.declared.tokens.Kind.TheVariants.{Name, Number, Mark as MarkOf, Reserved, Unclosed, End}
+use Rattle.lra_tree.specs.declared.tokens.Token.{Token}
+use Rattle.lra_tree.specs.declared.trees.Identifier.{Identifier}
+use Rattle.lra_tree.specs.Trees.{ItemsTree, FunctionTree, GlobalTree, PartTree, prototype, globals, function, FileTree}
+use Rattle.lra_readers.specs.declared.lead.Lead.{Lead}
+use Rattle.lra_readers.specs.declared.lead.Lead.TheVariants as lead
+use Rattle.lra_readers.specs.Tests.{first, is_mark}
+use Rattle.lra_readers.specs.Reading.{Parse, stop, seq, map_read, done_with, expect, take_by, next_name, next_number, has}
+use Rattle.lra_readers.specs.Reading.{one_of, list_of}
+use Rattle.lra_readers.specs.Expressions.{behind, ended}
+use Rattle.lra_readers.specs.Statements.{commas_from, commas, listed, type_words, body_of, items_at}
+
+-- the last token, and no other, is the end
+pub record EndsOnce (tokens : List Token) : Type 0 where
+  pub front : List Token
+  pub last : Token
+  pub parts : tokens ≡ front ++ last ∷ []
+  pub is_end : last.kind ≡ End
+  pub no_other : AllByRecursion (λ (t : Token). t.kind ≢ End) front
+
+-- each number has 64 bits with its sign or without it
+abbrev pub IsSmallKind : Kind → Type 0
+IsSmallKind (Name w) = ⊤
+IsSmallKind (Number n) = n < 9223372036854775808
+IsSmallKind (MarkOf m) = ⊤
+IsSmallKind Reserved = ⊤
+IsSmallKind Unclosed = ⊤
+IsSmallKind End = ⊤
+
+abbrev pub AreSmall : List Token → Type 0
+AreSmall tokens = AllByRecursion (λ (t : Token). IsSmallKind t.kind) tokens
+
+-- what a part begins with -------------------------------------------------------------------------------------------
+
+abbrev pub is_main : Option Identifier → Option Identifier
+is_main None = None
+is_main (Some x) = cond (bytes_eq x.word (codes "main")) (Some x) None
+
+-- the name `main`
+abbrev pub next_main : Option Token → Option Identifier
+next_main o = is_main (next_name o)
+
+-- the words that a part begins with, `extern` aside
+pub data HeadMark : Type 0 where
+  at_int : HeadMark
+  at_type : HeadMark
+  at_void : HeadMark
+
+abbrev pub head_marks : List (Mark × HeadMark)
+head_marks = (mark.Int, at_int) ∷ (mark.Long, at_type) ∷ (mark.Void, at_void) ∷ []
+
+abbrev pub head_mark : Option Token → Option HeadMark
+head_mark o = one_of head_marks o
+
+-- the words that a prototype may have in place of a name
+pub data BuiltIn : Type 0 where
+  of_input : BuiltIn
+  of_assert : BuiltIn
+  of_assume : BuiltIn
+
+abbrev pub built_ins : List (Mark × BuiltIn)
+built_ins = (mark.Input, of_input) ∷ (mark.Assert, of_assert) ∷ (mark.Assume, of_assume) ∷ []
+
+abbrev pub next_built_in : Option Token → Option BuiltIn
+next_built_in o = one_of built_ins o
+
+-- behind a type, or behind `void`
+abbrev pub named : Bool → Identifier → Lead
+named true x = lead.Typed x
+named false x = lead.Void x
+
+abbrev pub called : Bool → Parse Lead
+called b T = cond (has (next_built_in (first T))) (map_read (λ w. lead.Bare) (take_by next_built_in) T)
+    (map_read (named b) (take_by next_name) T)
+
+abbrev pub lead_form : Option HeadMark → Parse Lead
+lead_form (Some at_int) = behind mark.Int (map_read lead.Main (take_by next_main))
+lead_form (Some at_type) = seq type_words (λ _. called true)
+lead_form (Some at_void) = behind mark.Void (called false)
+lead_form None = stop Syntax
+
+-- without `extern`
+abbrev pub plain_lead : Parse Lead
+plain_lead T = lead_form (head_mark (first T)) T
+
+-- what a part begins with
+abbrev pub read_lead : Parse Lead
+read_lead T = cond (is_mark mark.Extern (first T)) (behind mark.Extern (map_read (λ l. lead.Bare) plain_lead) T)
+    (plain_lead T)
+
+-- parameters --------------------------------------------------------------------------------------------------------
+
+-- the marks behind a parameter: a comma, or else the closing parenthesis
+abbrev pub parameter_ends : List (Mark × Bool)
+parameter_ends = (mark.Comma, true) ∷ (mark.CloseParen, false) ∷ []
+
+abbrev pub ends_parameter : Option Token → Bool
+ends_parameter o = has (one_of parameter_ends o)
+
+-- nothing, where a parameter ends
+abbrev pub no_name : Parse (Option Identifier)
+no_name T = cond (ends_parameter (first T)) (done_with None T) (stop Syntax T)
+
+-- a name, or nothing
+abbrev pub name_or_none : Parse (Option Identifier)
+name_or_none T = cond (has (next_name (first T))) (map_read Some (take_by next_name) T) (no_name T)
+
+-- a type, and maybe a name
+abbrev pub parameter_at : Parse (Option Identifier)
+parameter_at = seq type_words (λ _. name_or_none)
+
+-- parameters with commas between them, `void` or nothing, and the closing parenthesis
+abbrev pub parameters_at : Parse (List (Option Identifier))
+parameters_at T =
+    cond (is_mark mark.CloseParen (first T)) (expect mark.CloseParen [] T)
+    (cond (is_mark mark.Void (first T)) (behind mark.Void (expect mark.CloseParen []) T)
+    (ended mark.CloseParen (map_read listed (commas parameter_at)) T))
+
+-- the names, if each parameter has one
+abbrev pub names_of : List (Option Identifier) → Option (List Identifier)
+names_of [] = Some []
+names_of (None ∷ ps) = None
+names_of (Some x ∷ ps) = option_map (λ xs. x ∷ xs) (names_of ps)
+
+-- functions and prototypes ------------------------------------------------------------------------------------------
+
+abbrev pub signature_of : Option (Bool × Identifier) → List (Option Identifier) →
+    Option ((Bool × Identifier) × List Identifier)
+signature_of None ps = None
+signature_of (Some h) ps = option_map (λ xs. (h, xs)) (names_of ps)
+
+abbrev pub function_of : (Bool × Identifier) × List Identifier → ItemsTree × Place → FunctionTree
+function_of s b = record { has_result = s.0.0; name = s.0.1; parameters = s.1; body = b.0; end = b.1 }
+
+-- behind the parameters: a body, where the part may be a function, or a semicolon; d levels are left inside
+abbrev pub ending : ℕ → Option ((Bool × Identifier) × List Identifier) → Parse PartTree
+ending d None = expect mark.Semicolon prototype
+ending d (Some s) = λ T. cond (is_mark mark.OpenBrace (first T))
+    (map_read (λ b. function (function_of s b)) (body_of (items_at d)) T) (expect mark.Semicolon prototype T)
+
+-- behind what it begins with
+abbrev pub signature_at : ℕ → Option (Bool × Identifier) → Parse PartTree
+signature_at d h = behind mark.OpenParen (seq parameters_at (λ ps. ending d (signature_of h ps)))
+
+-- globals -----------------------------------------------------------------------------------------------------------
+
+abbrev pub opposite : ℕ → ℤ
+opposite n = neg_ℤ (pos n)
+
+-- a literal with or without a sign
+abbrev pub signed_at : Parse ℤ
+signed_at T = cond (is_mark mark.Minus (first T)) (behind mark.Minus (map_read opposite (take_by next_number)) T)
+    (map_read pos (take_by next_number) T)
+
+abbrev pub with_value : Identifier → ℤ → GlobalTree
+with_value x v = record { name = x; value = Some v }
+
+abbrev pub without_value : Identifier → GlobalTree
+without_value x = record { name = x; value = None }
+
+-- behind the name of a global
+abbrev pub value_at : Identifier → Parse GlobalTree
+value_at x T = cond (is_mark mark.Assign (first T)) (behind mark.Assign (map_read (with_value x) signed_at) T)
+    (done_with (without_value x) T)
+
+abbrev pub global_at : Parse GlobalTree
+global_at = seq (take_by next_name) value_at
+
+abbrev pub globals_of : GlobalTree × List GlobalTree → PartTree
+globals_of gs = globals (record { first = gs.0; rest = gs.1 })
+
+-- behind the name of the first
+abbrev pub globals_at : Identifier → Parse PartTree
+globals_at x = map_read globals_of (ended mark.Semicolon (commas_from (value_at x) global_at))
+
+-- parts -------------------------------------------------------------------------------------------------------------
+
+-- behind what a part begins with
+-- what a part may go on as: with a name behind a type as a function or as globals, else with this head of a signature
+abbrev pub split_lead : Lead → Result Identifier (Option (Bool × Identifier))
+split_lead (lead.Main x) = Err (Some (true, x))
+split_lead (lead.Typed x) = Ok x
+split_lead (lead.Void x) = Err (Some (false, x))
+split_lead lead.Bare = Err None
+
+abbrev pub rest_of : ℕ → Result Identifier (Option (Bool × Identifier)) → Parse PartTree
+rest_of d (Ok x) = λ T. cond (is_mark mark.OpenParen (first T)) (signature_at d (Some (true, x)) T) (globals_at x T)
+rest_of d (Err head) = signature_at d head
+
+abbrev pub rest_at : ℕ → Lead → Parse PartTree
+rest_at d l = rest_of d (split_lead l)
+
+abbrev pub part_at : ℕ → Parse PartTree
+part_at d = seq read_lead (rest_at d)
+
+abbrev pub begins_part : Option Token → Bool
+begins_part o = cond (is_mark mark.Extern o) true (has (head_mark o))
+
+abbrev pub parts_at : ℕ → Parse (List PartTree)
+parts_at d = list_of begins_part (part_at d)
+
+abbrev pub end_of : Kind → Place → Option Place
+end_of (Name w) at = None
+end_of (Number n) at = None
+end_of (MarkOf m) at = None
+end_of Reserved at = None
+end_of Unclosed at = None
+end_of End at = Some at
+
+abbrev pub next_end : Option Token → Option Place
+next_end None = None
+next_end (Some t) = end_of t.kind t.place
+
+abbrev pub file_of : List PartTree → Place → FileTree
+file_of ps at = record { parts = ps; end = at }
+
+-- a file, where the first level is one of n
+abbrev pub file_at : ℕ → Parse FileTree
+file_at d = seq (parts_at d) (λ ps. map_read (file_of ps) (take_by next_end))
