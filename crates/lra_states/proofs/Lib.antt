@@ -4,4 +4,5 @@ pub mod OctShown
 pub mod RowsSpelled
 pub mod SamePoints
 pub mod PolyhedronShown
+pub mod PolyhedronParts
 pub mod StateSteps

@@ -166,10 +166,10 @@ divide : (gs : List Generator) → AllByRecursion IsSpelledGenerator gs → AllB
 divide [] h = tt
 divide (g ∷ gs) h = (h.0.divides, divide gs h.1)
 
-abbrev part_of : Polyhedron → Part
+abbrev pub part_of : Polyhedron → Part
 part_of p = record { rows = map shown_row p.rows; generators = map shown_generator p.generators }
 
-row_is_point : (n : ℕ) (x : parts.RationalPoint) → parts.IsPoint n x → IsPoint n (as_row x)
+pub row_is_point : (n : ℕ) (x : parts.RationalPoint) → parts.IsPoint n x → IsPoint n (as_row x)
 row_is_point n x i = record { width = ap suc i.width; divisor = omega (arith, ints, i.divides) }
 
 same_points : (p : Polyhedron) → IsPolyhedron p → parts.HasSamePoints p.dims (part_of p)
@@ -196,7 +196,7 @@ first_of : (points : List (List ℤ)) → points ≢ [] → (r : List ℤ) × Co
 first_of [] some = absurd (some refl)
 first_of (r ∷ points) some = (r, contains_head r points)
 
-has_point : (p : Polyhedron) → HasPoint p → parts.HasPoint p.dims (part_of p)
+pub has_point : (p : Polyhedron) → HasPoint p → parts.HasPoint p.dims (part_of p)
 has_point p h =
     let (r, k) = first_of h.points h.some_point in
     let member = Contains-append_left h.points h.rays r k in
@@ -224,6 +224,9 @@ any_part : (part : Part) (points : List (List ℤ)) (further : List Given) → p
 any_part part [] further some = absurd (some refl)
 any_part part (r ∷ points) further some = refl
 
+pub no_part : (p : Polyhedron) → p.generators ≡ [] → shown_polyhedron p ≡ []
+no_part p none = ap (λ (gs : List Given). part_if_any gs (part_of p)) none
+
 pub one_part : (p : Polyhedron) → HasPoint p → (part : Part) → part_if_any p.generators part ≡ part ∷ []
 one_part p h part =
     ap (λ (gs : List Given). part_if_any gs part) (h.generators_are ∙ append_assoc (given_as false h.points) (given_as false h.rays) (given_as true h.lines))
@@ -235,7 +238,7 @@ AreWide n list = (g : Given) → Contains list g → length g.row ≡ suc n
 
 pub told : (p : Polyhedron) → IsPolyhedron p → AreWide p.dims p.rows → AreWide p.dims p.generators → AreSmall p.generators → TellsPolyhedron p (shown_polyhedron p)
 told p (inl none) wide_rows wide_generators small =
-    subst (TellsPolyhedron p) (sym (ap (λ (gs : List Given). part_if_any gs (part_of p)) none.1))
+    subst (TellsPolyhedron p) (sym (no_part p none.1))
     (record {
       wide = tt;
       tell = tt;
@@ -253,7 +256,7 @@ told p (inr h) wide_rows wide_generators small =
 
 pub spelled : (p : Polyhedron) → IsPolyhedron p → AreSmall p.rows → AreSmall p.generators → AllByRecursion IsSpelledPart (shown_polyhedron p)
 spelled p (inl none) small_rows small =
-    subst (AllByRecursion IsSpelledPart) (sym (ap (λ (gs : List Given). part_if_any gs (part_of p)) none.1)) tt
+    subst (AllByRecursion IsSpelledPart) (sym (no_part p none.1)) tt
 spelled p (inr h) small_rows small =
     subst (AllByRecursion IsSpelledPart) (sym (one_part p h (part_of p)))
     (record { rows = rows_spelled p h small_rows; generators = generators_spelled p h small }, tt)

@@ -8,6 +8,5 @@ mod show;
 mod states;
 
 pub use laws::{boxes_are_shown, octagons_are_shown};
-pub use polyhedron::polyhedron_state;
 pub use show::Show;
 pub use states::states_of;

@@ -2,18 +2,21 @@
 
 ghost use Rattle.std.specs.Prelude.{◌≡◌, IfOk};
 ghost use Rattle.std.specs.List.{AllByRecursion};
+ghost use Rattle.lra_base.specs.declared.options.Domain.TheVariants as options;
 ghost use Rattle.lra_linear.specs.Polyhedra.{IsPolyhedron};
 ghost use Rattle.lra_sys.specs.Listed.{FitKinds};
 ghost use Rattle.lra_report.specs.Spelled.{IsSpelledPart};
 ghost use Rattle.lra_states.specs.Polyhedra.{shown_polyhedron, TellsPolyhedron, polyhedron_of};
 
+use crate::show::Show;
+use lra_polydom::Polyhedron;
 use lra_report::Part;
 use lra_sys::{ConSys, GenSys};
 use std::alloc::{AllocError, Global};
 
 /// The state of a polyhedron, given by its canonical lists: no part where there is no point, else one part that has
 /// both lists.
-pub fn polyhedron_state(
+fn polyhedron_state(
     alloc: Global,
     rows: &ConSys,
     generators: &GenSys,
@@ -32,4 +35,16 @@ pub fn polyhedron_state(
     let mut state = Vec::new(alloc);
     state.push(Part::new(rows.copy()?, Some(generators.copy()?)))?;
     Ok(state)
+}
+
+impl Show for Polyhedron {
+    ghost named = { options.Poly };
+
+    ghost shown = { shown_polyhedron };
+
+    ghost capped = { λ v cap one. one };
+
+    fn show(&self, alloc: Global) -> Result<Vec<Part>, AllocError> {
+        polyhedron_state(alloc, self.rows(), self.generators())
+    }
 }
