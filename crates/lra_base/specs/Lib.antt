@@ -1,3 +1,4 @@
+pub mod TextOrder
 pub mod Operators
 pub mod OperatorViews
 pub mod DomainNames

@@ -191,12 +191,9 @@ module _ (P : Program) where
           let to_step = none_left _ body e in
           let to_test = none_left _ (step_faults F u a) to_step in (
             good_init (suc n) live s i sees small.0 (none_left (init_faults F s i) (test_of_for_faults u c) to_test),
-            tt,
-            (
-              good_for_test more u c after small.1 (none_right (init_faults F s i) (test_of_for_faults u c) to_test),
-              good_stmt r true (m + step_count a) more u t after small.3 (none_right _ body e),
-              good_step m more u a after small.2 (none_right _ (step_faults F u a) to_step),
-            ),
+            good_for_test more u c after small.1 (none_right (init_faults F s i) (test_of_for_faults u c) to_test),
+            good_stmt r true (m + step_count a) more u t after small.3 (none_right _ body e),
+            good_step m more u a after small.2 (none_right _ (step_faults F u a) to_step),
           )
       good_stmt r b n live s (tree.break at) sees small e = is_not b (none_if (not b) _ at e)
       good_stmt r b n live s (tree.continue at) sees small e = is_not b (none_if (not b) _ at e)

@@ -210,13 +210,14 @@ module _ (outside : List (List ℕ)) (ls : List Labelled) where
           let y = count_step longer a in
           let f : suc n + length (first ++ step) ≡ k = omega (arith, e) in
           let front = stand_left ls (suc n) (first ++ step) body stand.1 in
+          let begin = items_events inside path live (resolve_init F s (suc n) i) in
           let turns = stmt_events inside path more (resolve_step F u m a) in
           let rounds = stmt_events inside path more (resolve_stmt F u k t) in (
             point_has n more false (plain_label at longer) j stand.0,
-            each_then HasAsMany (items_events inside path live (resolve_init F s (suc n) i)) (turns ++ rounds)
-                (init_has (suc n) live s i names h (stand_left ls (suc n) first step front))
-                (each_then HasAsMany turns rounds (step_has m more u a longer j (stand_right ls (suc n) m first step e front))
-                (stmt_has k more u t longer j (stand_right ls (suc n) k (first ++ step) body f stand.1))),
+            each_then HasAsMany (begin ++ turns) rounds
+                (each_then HasAsMany begin turns (init_has (suc n) live s i names h (stand_left ls (suc n) first step front))
+                (step_has m more u a longer j (stand_right ls (suc n) m first step e front)))
+                (stmt_has k more u t longer j (stand_right ls (suc n) k (first ++ step) body f stand.1)),
           )
       stmt_has n live s (tree.break at) names h stand = (point_has n live false (plain_label at names) h stand.0, tt)
       stmt_has n live s (tree.continue at) names h stand = (point_has n live false (plain_label at names) h stand.0, tt)

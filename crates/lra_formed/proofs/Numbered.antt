@@ -109,11 +109,12 @@ module _ (F : List tree.FunctionTree) where
         let m = suc n + init_count i in
         let k = m + step_count a in
         let last = n + stmt_count (tree.for at i c a t) in
+        let begin = items_numbers (resolve_init F s (suc n) i) in
         let step = stmt_numbers (resolve_step F u m a) in
         let body = stmt_numbers (resolve_stmt F u k t) in (
           refl,
-          run_then (suc n) m last (items_numbers (resolve_init F s (suc n) i)) (step ++ body) (init_run (suc n) s i)
-              (run_then m k last step body (step_run m u a) (run_to k (k + stmt_count t) last body (for_end n at i c a t) (stmt_run k u t))),
+          run_then (suc n) k last (begin ++ step) body (run_then (suc n) m k begin step (init_run (suc n) s i) (step_run m u a))
+              (run_to k (k + stmt_count t) last body (for_end n at i c a t) (stmt_run k u t)),
         )
     stmt_run n s (tree.break at) = (refl, one_more n)
     stmt_run n s (tree.continue at) = (refl, one_more n)

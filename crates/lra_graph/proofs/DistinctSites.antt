@@ -104,23 +104,22 @@ module _ (P : Program) where
       spread_stmt b here live (loop at c s step) good d = rw keys_append
           (spread_parts at path (stmt_numbers step) (stmt_numbers s) (keys_in (stmt_events inside path live step)) (keys_in (stmt_events inside path live s)) d
           (spread_stmt _ here live step good.2 (differ_left (stmt_numbers step) (stmt_numbers s) d.1)) (spread_stmt _ here live s good.1 (differ_right (stmt_numbers step) (stmt_numbers s) d.1)))
-      spread_stmt b here live (for init (loop at c s step)) good d =
+      spread_stmt b here live (for at init c s step) good d =
           let front = items_numbers init in
-          let back = stmt_numbers step ++ stmt_numbers s in
+          let turns = stmt_numbers step in
+          let rounds = stmt_numbers s in
           let later = live_behind live init in
-          let apart = differ_right front back d.1 in
+          let early = differ_left (front ++ turns) rounds d.1 in
           let init_events = items_events inside path live init in
           let step_events = stmt_events inside path later step in
           let body_events = stmt_events inside path later s in
-          subst (λ ks. Spread path (at ∷ (front ++ back)) ((at ∷ path) ∷ ks))
-          (sym (keys_append init_events (step_events ++ body_events) ∙ ap (λ ks. keys_in init_events ++ ks) (keys_append step_events body_events)))
-          (spread_parts at path front back (keys_in (items_events inside path live init)) (keys_in (stmt_events inside path later step) ++ keys_in (stmt_events inside path later s)) d
-          (spread_items _ here live init good.0 (differ_left front back d.1))
-          (spread_join path (stmt_numbers step) (stmt_numbers s) (keys_in (stmt_events inside path later step)) (keys_in (stmt_events inside path later s))
-          (differ_apart (stmt_numbers step) (stmt_numbers s) apart)
-          (spread_stmt _ (live_behind here init) later step good.2.2 (differ_left (stmt_numbers step) (stmt_numbers s) apart))
-          (spread_stmt _ (live_behind here init) later s good.2.1 (differ_right (stmt_numbers step) (stmt_numbers s) apart))))
-      spread_stmt b here live (for init again) good d = absurd good.1
+          subst (λ ks. Spread path (at ∷ (front ++ turns ++ rounds)) ((at ∷ path) ∷ ks))
+          (sym (keys_append (init_events ++ step_events) body_events ∙ ap (λ ks. ks ++ keys_in body_events) (keys_append init_events step_events)))
+          (spread_parts at path (front ++ turns) rounds (keys_in init_events ++ keys_in step_events) (keys_in body_events) d
+          (spread_join path front turns (keys_in init_events) (keys_in step_events) (differ_apart front turns early)
+          (spread_items _ here live init good.0 (differ_left front turns early))
+          (spread_stmt _ (live_behind here init) later step good.3 (differ_right front turns early)))
+          (spread_stmt _ (live_behind here init) later s good.2 (differ_right (front ++ turns) rounds d.1)))
       spread_stmt b here live (break at) good d = spread_alone at path
       spread_stmt b here live (continue at) good d = spread_alone at path
       spread_stmt b here live (return at e) good d = let y = spread_given at here live e good in spread_point at path y.0 (keys_in (given_events inside path live e)) y.1

@@ -603,44 +603,45 @@ module _ (P : Program) (T : List Site) (f : Frame) (n q : ℕ) where
           rw (← same_Some (config k f.here t) e w) (step_to P (config (declare d ∷ k) f.here s) r.0 (config k f.here t) (starts k s u r.0 l o r.1) r.2)
       by_how k s (jump j) t e l (u, o, z) w = absurd (y.quiet u j t (length_append s u o ∙ ap suc l) z)
 
-  does_for : (init : BlockItems) (again : Stmt) (g h : Node) (n' : ℕ) → Length f n n' g → Length f n' n' h → Does P T f n (all init) g → Does P T f n' (run again) h
-      → Does P T f n (run (for init again)) (seq g (seq h (act q (keep n))))
-  does_for init again g h n' lg lh x y = record {
-    ends = λ k s how t e mm l z w. step_to P (config (run (for init again) ∷ k) f.here s) (config (all init ∷ run again ∷ cut n ∷ k) f.here s) e (starts k s l)
-        (elim (seq_inv g (seq h (act q (keep n))) s how t z) as (λ _. RunsTo P (config (all init ∷ run again ∷ cut n ∷ k) f.here s) e) [
-          | inl u ↦ x.ends (run again ∷ cut n ∷ k) s (jump u.0) t e (deeper k mm) l u.2 (skips u.0 k t ∙ subst (λ v. landing v f.here k t ≡ Some e) u.1 w)
-          | inr u ↦ join P (config (all init ∷ run again ∷ cut n ∷ k) f.here s) (config (run again ∷ cut n ∷ k) f.here u.0) e
-              (x.ends (run again ∷ cut n ∷ k) s normal u.0 (config (run again ∷ cut n ∷ k) f.here u.0) (deeper k mm) l u.1 refl)
-              ((does_seq P T f n' (run again) (cut n) n' h (act q (keep n)) (λ k. refl) (λ k. refl) lh y (does_act P T f n' q (keep n) (cut n) (λ k s. refl)) k u.0 mm (lg.ends s u.0 normal l u.1)).0
+  does_for : (at : ℕ) (init : BlockItems) (b : Cond) (a step : Stmt) (g h : Node) (n' : ℕ) → Length f n n' g → Length f n' n' h → Does P T f n (all init) g → Does P T f n' (run (loop at b a step)) h
+      → Does P T f n (run (for at init b a step)) (seq g (seq h (act q (keep n))))
+  does_for at init b a step g h n' lg lh x y = record {
+    ends = λ k s how t e mm l z w. step_to P (config (run (for at init b a step) ∷ k) f.here s) (config (all init ∷ run (loop at b a step) ∷ cut n ∷ k) f.here s) e (starts k s l)
+        (elim (seq_inv g (seq h (act q (keep n))) s how t z) as (λ _. RunsTo P (config (all init ∷ run (loop at b a step) ∷ cut n ∷ k) f.here s) e) [
+          | inl u ↦ x.ends (run (loop at b a step) ∷ cut n ∷ k) s (jump u.0) t e (deeper k mm) l u.2 (skips u.0 k t ∙ subst (λ v. landing v f.here k t ≡ Some e) u.1 w)
+          | inr u ↦ join P (config (all init ∷ run (loop at b a step) ∷ cut n ∷ k) f.here s) (config (run (loop at b a step) ∷ cut n ∷ k) f.here u.0) e
+              (x.ends (run (loop at b a step) ∷ cut n ∷ k) s normal u.0 (config (run (loop at b a step) ∷ cut n ∷ k) f.here u.0) (deeper k mm) l u.1 refl)
+              ((does_seq P T f n' (run (loop at b a step)) (cut n) n' h (act q (keep n)) (λ k. refl) (λ k. refl) lh y (does_act P T f n' q (keep n) (cut n) (λ k s. refl)) k u.0 mm
+              (lg.ends s u.0 normal l u.1)).0
               how t e u.2 w)
         ]);
-    comes = λ k s p t mm l z. later P T (config (run (for init again) ∷ k) f.here s) (config (all init ∷ run again ∷ cut n ∷ k) f.here s) p (HasState t)
-        (one_step P (config (run (for init again) ∷ k) f.here s) (config (all init ∷ run again ∷ cut n ∷ k) f.here s) (starts k s l))
-        (elim z as (λ _. Stands P T (config (all init ∷ run again ∷ cut n ∷ k) f.here s) p (HasState t)) [
-          | inl u ↦ x.comes (run again ∷ cut n ∷ k) s p t (deeper k mm) l u
-          | inr u ↦ later P T (config (all init ∷ run again ∷ cut n ∷ k) f.here s) (config (run again ∷ cut n ∷ k) f.here u.0) p (HasState t)
-              (x.ends (run again ∷ cut n ∷ k) s normal u.0 (config (run again ∷ cut n ∷ k) f.here u.0) (deeper k mm) l u.1 refl)
-              ((does_seq P T f n' (run again) (cut n) n' h (act q (keep n)) (λ k. refl) (λ k. refl) lh y (does_act P T f n' q (keep n) (cut n) (λ k s. refl)) k u.0 mm
+    comes = λ k s p t mm l z. later P T (config (run (for at init b a step) ∷ k) f.here s) (config (all init ∷ run (loop at b a step) ∷ cut n ∷ k) f.here s) p (HasState t)
+        (one_step P (config (run (for at init b a step) ∷ k) f.here s) (config (all init ∷ run (loop at b a step) ∷ cut n ∷ k) f.here s) (starts k s l))
+        (elim z as (λ _. Stands P T (config (all init ∷ run (loop at b a step) ∷ cut n ∷ k) f.here s) p (HasState t)) [
+          | inl u ↦ x.comes (run (loop at b a step) ∷ cut n ∷ k) s p t (deeper k mm) l u
+          | inr u ↦ later P T (config (all init ∷ run (loop at b a step) ∷ cut n ∷ k) f.here s) (config (run (loop at b a step) ∷ cut n ∷ k) f.here u.0) p (HasState t)
+              (x.ends (run (loop at b a step) ∷ cut n ∷ k) s normal u.0 (config (run (loop at b a step) ∷ cut n ∷ k) f.here u.0) (deeper k mm) l u.1 refl)
+              ((does_seq P T f n' (run (loop at b a step)) (cut n) n' h (act q (keep n)) (λ k. refl) (λ k. refl) lh y (does_act P T f n' q (keep n) (cut n) (λ k s. refl)) k u.0 mm
               (lg.ends s u.0 normal l u.1)).1 p t u.2)
         ]);
-    fails = λ k s p mm l z. later P T (config (run (for init again) ∷ k) f.here s) (config (all init ∷ run again ∷ cut n ∷ k) f.here s) p IsFalse
-        (one_step P (config (run (for init again) ∷ k) f.here s) (config (all init ∷ run again ∷ cut n ∷ k) f.here s) (starts k s l))
-        (elim z as (λ _. Stands P T (config (all init ∷ run again ∷ cut n ∷ k) f.here s) p IsFalse) [
-          | inl u ↦ x.fails (run again ∷ cut n ∷ k) s p (deeper k mm) l u
-          | inr u ↦ later P T (config (all init ∷ run again ∷ cut n ∷ k) f.here s) (config (run again ∷ cut n ∷ k) f.here u.0) p IsFalse
-              (x.ends (run again ∷ cut n ∷ k) s normal u.0 (config (run again ∷ cut n ∷ k) f.here u.0) (deeper k mm) l u.1 refl)
-              ((does_seq P T f n' (run again) (cut n) n' h (act q (keep n)) (λ k. refl) (λ k. refl) lh y (does_act P T f n' q (keep n) (cut n) (λ k s. refl)) k u.0 mm
+    fails = λ k s p mm l z. later P T (config (run (for at init b a step) ∷ k) f.here s) (config (all init ∷ run (loop at b a step) ∷ cut n ∷ k) f.here s) p IsFalse
+        (one_step P (config (run (for at init b a step) ∷ k) f.here s) (config (all init ∷ run (loop at b a step) ∷ cut n ∷ k) f.here s) (starts k s l))
+        (elim z as (λ _. Stands P T (config (all init ∷ run (loop at b a step) ∷ cut n ∷ k) f.here s) p IsFalse) [
+          | inl u ↦ x.fails (run (loop at b a step) ∷ cut n ∷ k) s p (deeper k mm) l u
+          | inr u ↦ later P T (config (all init ∷ run (loop at b a step) ∷ cut n ∷ k) f.here s) (config (run (loop at b a step) ∷ cut n ∷ k) f.here u.0) p IsFalse
+              (x.ends (run (loop at b a step) ∷ cut n ∷ k) s normal u.0 (config (run (loop at b a step) ∷ cut n ∷ k) f.here u.0) (deeper k mm) l u.1 refl)
+              ((does_seq P T f n' (run (loop at b a step)) (cut n) n' h (act q (keep n)) (λ k. refl) (λ k. refl) lh y (does_act P T f n' q (keep n) (cut n) (λ k s. refl)) k u.0 mm
               (lg.ends s u.0 normal l u.1)).2 p u.2)
         ]);
   }
     where
-      deeper : (k : List Item) → Matches f k → Matches f (run again ∷ cut n ∷ k)
-      deeper k m = matches_skip f (run again) (cut n ∷ k) refl refl (matches_skip f (cut n) k refl refl m)
+      deeper : (k : List Item) → Matches f k → Matches f (run (loop at b a step) ∷ cut n ∷ k)
+      deeper k m = matches_skip f (run (loop at b a step)) (cut n ∷ k) refl refl (matches_skip f (cut n) k refl refl m)
 
-      skips : (j : Exit) (k : List Item) (t : State) → land j f.here (run again ∷ cut n ∷ k) t ≡ land j f.here k t
-      skips j k t = land_skip j f.here (run again) (cut n ∷ k) t refl refl ∙ land_skip j f.here (cut n) k t refl refl
+      skips : (j : Exit) (k : List Item) (t : State) → land j f.here (run (loop at b a step) ∷ cut n ∷ k) t ≡ land j f.here k t
+      skips j k t = land_skip j f.here (run (loop at b a step)) (cut n ∷ k) t refl refl ∙ land_skip j f.here (cut n) k t refl refl
 
-      starts : (k : List Item) (s : State) → length s.store ≡ n → next P (config (run (for init again) ∷ k) f.here s) ≡ Some (config (all init ∷ run again ∷ cut n ∷ k) f.here s)
+      starts : (k : List Item) (s : State) → length s.store ≡ n → next P (config (run (for at init b a step) ∷ k) f.here s) ≡ Some (config (all init ∷ run (loop at b a step) ∷ cut n ∷ k) f.here s)
       starts k s l = rw l refl
 
 -- a block's end
@@ -659,7 +660,7 @@ mutual
   does_one {P = P} {T = T} (as_if f n q at c a b g h r q' i d e) = does_point P T f n q at (run (if at c a b)) (choose q f.here.base c g h) i (λ k. refl)
       (does_if P T f n q at c a b g h (does_one d) (does_one e))
   does_one (as_loop f n q s g q' d) = does_loops d
-  does_one {P = P} {T = T} (as_for f n q init again g h n' r q' d e) = does_for P T f n q init again g h n' (length_all d) (length_loop e) (does_all d) (does_loops e)
+  does_one {P = P} {T = T} (as_for f n q at init b a step g h n' r q' d e) = does_for P T f n q at init b a step g h n' (length_all d) (length_loop e) (does_all d) (does_loops e)
   does_one {P = P} {T = T} (as_break f n q at m i k j) = does_point P T f n q at (run (break at)) (seq (act q (keep m)) (leave n broken)) j (λ k. refl) (does_break P T f n q at m i)
   does_one {P = P} {T = T} (as_continue f n q at m i k j) = does_point P T f n q at (run (continue at)) (seq (act q (keep m)) (leave n continued)) j (λ k. refl) (does_continue P T f n q at m i)
   does_one {P = P} {T = T} (as_return f n q at b i k j) = does_point P T f n q at (run (return at None)) (return_node q (give_any b.target) b.length n) j (λ k. refl)

@@ -139,14 +139,16 @@ module _ (P : Program) where
           let (h', y) = stmt s path (record r { loop_length = Some r.live }) W U left (body_stands P r at c s t stands) d in
           let rounds = loop_node (length S) r.base c h' h in
           (rounds, loop_written P path r S V U (length S) at c s t rounds refl a (rounds_written P path r V W U (length S) c s t h' h rounds x y refl))
-      stmt (for init (loop at c s t)) path r S U left stands w =
+      stmt (for at init c s t) path r S U left stands w =
           let n = live_behind r.live init in
-          let again = stmt_events (inside P path r) path n t ++ stmt_events (inside P path r) path n s in
-          let (V, a, e) = walk_parts S (plain_site path at n ∷ []) (items_events (inside P path r) path r.live init ++ again) U w in
-          let (W, b, d) = walk_parts V (items_events (inside P path r) path r.live init) again U e in
-          let (X, i, j) = walk_parts W (stmt_events (inside P path r) path n t) (stmt_events (inside P path r) path n s) U d in
-          let (k, z) = items init path r V W left (init_stands P r init (loop at c s t) stands) b in
-          let inner = for_again P r init at c s t n refl stands in
+          let begin = items_events (inside P path r) path r.live init in
+          let turns = stmt_events (inside P path r) path n t in
+          let rest = stmt_events (inside P path r) path n s in
+          let (V, a, e) = walk_parts S (plain_site path at n ∷ []) (begin ++ turns ++ rest) U w in
+          let (X, c', j) = walk_parts V (begin ++ turns) rest U e in
+          let (W, b, i) = walk_parts V begin turns X c' in
+          let (k, z) = items init path r V W left (init_stands P r at init c s t stands) b in
+          let inner = for_again P r at init c s t n refl stands in
           let (h, x) = stmt t path (record r { live = n; loop_length = None }) W X left (step_stands P (record r { live = n }) at c s t inner) i in
           let (h', y) = stmt s path (record r { live = n; loop_length = Some n }) X U left (body_stands P (record r { live = n }) at c s t inner) j in
           let rounds = loop_node (length S) r.base c h' h in
@@ -155,18 +157,6 @@ module _ (P : Program) where
             for_written P path r S V W U (length S) at n init c s t k rounds tail (seq k tail) refl refl a z
                 (rounds_written P path (record r { live = n }) W X U (length S) c s t h' h rounds x y refl) refl refl,
           )
-      stmt (for init absent) path r S U left stands w = absurd stands.good.1
-      stmt (for init (nothing at)) path r S U left stands w = absurd stands.good.1
-      stmt (for init (block b end)) path r S U left stands w = absurd stands.good.1
-      stmt (for init (assign at v e)) path r S U left stands w = absurd stands.good.1
-      stmt (for init (call at c)) path r S U left stands w = absurd stands.good.1
-      stmt (for init (if at c s t)) path r S U left stands w = absurd stands.good.1
-      stmt (for init (for d s)) path r S U left stands w = absurd stands.good.1
-      stmt (for init (break at)) path r S U left stands w = absurd stands.good.1
-      stmt (for init (continue at)) path r S U left stands w = absurd stands.good.1
-      stmt (for init (return at o)) path r S U left stands w = absurd stands.good.1
-      stmt (for init (assert at c)) path r S U left stands w = absurd stands.good.1
-      stmt (for init (assume at c)) path r S U left stands w = absurd stands.good.1
       stmt (break at) path r S U left stands w =
           let (m, is) = break_stands P r at stands in
           (_, break_written P path r S U (length S) at m _ _ refl w is (stands.loop_low m is) refl refl)

@@ -33,10 +33,8 @@ module _ (P : Program) (left t : ℕ) where
       subst (λ z. Falls (1 + (size_stmt z + size_stmt b'))) (sym j)
       (subst (λ z. Falls (1 + (size_stmt a + size_stmt z))) (sym k) (stmt_falls (1 + (size_stmt a + size_stmt b)) s (loop at c a b) e i (omega arith)))
 
-  pub for_falls : (s : Stmt) (b b' : BlockItems) (a a' : Stmt) → Weighs (size_stmt s) → s ≡ for b a → b' ≡ b → a' ≡ a → Falls (1 + (size_items b' + size_stmt a'))
-  for_falls s b b' a a' e i j k =
-      subst (λ z. Falls (1 + (size_items z + size_stmt a'))) (sym j)
-      (subst (λ z. Falls (1 + (size_items b + size_stmt z))) (sym k) (stmt_falls (1 + (size_items b + size_stmt a)) s (for b a) e i (omega arith)))
+  pub for_falls : (s : Stmt) (at : ℕ) (d : BlockItems) (c : Cond) (a b : Stmt) → Weighs (size_stmt s) → s ≡ for at d c a b → Falls (2 + (size_items d + (size_stmt a + size_stmt b)))
+  for_falls s at d c a b e i = stmt_falls (2 + (size_items d + (size_stmt a + size_stmt b))) s (for at d c a b) e i (omega arith)
 
   pub return_falls : (s : Stmt) (at : ℕ) (o : Option Source) → Weighs (size_stmt s) → s ≡ return at o → Falls 5
   return_falls s at o e i = stmt_falls 5 s (return at o) e i (omega arith)
@@ -47,12 +45,8 @@ module _ (P : Program) (left t : ℕ) where
   pub body_falls : (a b : Stmt) → Weighs (1 + (size_stmt a + size_stmt b)) → Falls (size_stmt a)
   body_falls a b e = part_falls (size_stmt a) (1 + (size_stmt a + size_stmt b)) e (omega arith)
 
-  pub init_falls : (b : BlockItems) (s : Stmt) → Weighs (1 + (size_items b + size_stmt s)) → Falls (size_items b)
-  init_falls b s e = part_falls (size_items b) (1 + (size_items b + size_stmt s)) e (omega arith)
+  pub init_falls : (d : BlockItems) (a b : Stmt) → Weighs (2 + (size_items d + (size_stmt a + size_stmt b))) → Falls (size_items d)
+  init_falls d a b e = part_falls (size_items d) (2 + (size_items d + (size_stmt a + size_stmt b))) e (omega arith)
 
-  pub again_falls : (d : BlockItems) (s : Stmt) (at : ℕ) (c : Cond) (a b a' b' : Stmt) → Weighs (1 + (size_items d + size_stmt s)) → s ≡ loop at c a b → a' ≡ a → b' ≡ b
-      → Falls (1 + (size_stmt a' + size_stmt b'))
-  again_falls d s at c a b a' b' e i j k =
-      let all = subst (λ z. Weighs (1 + (size_items d + size_stmt z))) i e in
-      let less = part_falls (1 + (size_stmt a + size_stmt b)) (1 + (size_items d + size_stmt (loop at c a b))) all (omega arith) in
-      subst (λ z. Falls (1 + (size_stmt z + size_stmt b'))) (sym j) (subst (λ z. Falls (1 + (size_stmt a + size_stmt z))) (sym k) less)
+  pub again_falls : (d : BlockItems) (a b : Stmt) → Weighs (2 + (size_items d + (size_stmt a + size_stmt b))) → Falls (1 + (size_stmt a + size_stmt b))
+  again_falls d a b e = part_falls (1 + (size_stmt a + size_stmt b)) (2 + (size_items d + (size_stmt a + size_stmt b))) e (omega arith)

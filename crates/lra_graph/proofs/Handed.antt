@@ -1,6 +1,6 @@
 -- What a call answers is handed on as that of the whole statement.
 use Rattle.std.proofs.Common.{◌≡◌, ℕ, ◌≤◌, List, [], ◌∷◌, ◌++◌, length, Some, Result, IfOk, sym, subst}
-use Rattle.lra_program.specs.Program.{Cond, Stmt, loop, for, break, continue, BlockItems, Program}
+use Rattle.lra_program.specs.Program.{Cond, Stmt, loop, break, continue, Program}
 use Rattle.lra_operations.specs.Graph.{broken, continued, returned, Node}
 use Rattle.lra_program.specs.Sites.{Site, Event, plain_site, stmt_events}
 use Rattle.lra_graph.specs.declared.points.GraphError.{GraphError}
@@ -35,11 +35,6 @@ module _ (P : Program) (path : List ℕ) (r : Frame) (S : List Site) where
         stmt_limit s (loop at c a t) e (limit_through b (λ x. walk V (on_stmt t ++ on_stmt a) ≡ stopped x) (λ x. walk S (on_stmt (loop at c a t)) ≡ stopped x)
         (λ x k. second_stopped S V (own at) (on_stmt t ++ on_stmt a) x w k) h')
 
-    pub for_limit : (s : Stmt) (d d' : BlockItems) (a a' : Stmt) → s ≡ for d a → d' ≡ d → a' ≡ a → OnLimit b (λ x. walk S (on_stmt (for d' a')) ≡ stopped x)
-        → OnLimit b (λ x. walk S (on_stmt s) ≡ stopped x)
-    for_limit s d d' a a' e i j h =
-        stmt_limit s (for d a) e (subst (λ z. OnLimit b (λ x. walk S (on_stmt (for d z)) ≡ stopped x)) j (subst (λ z. OnLimit b (λ x. walk S (on_stmt (for z a')) ≡ stopped x)) i h))
-
     module _ (view : A → Node) (U : List Site) where
       pub stmt_handed : (s s' : Stmt) → s ≡ s' → IfOk b (λ g. WritesStmt P path r S s' (view g) U) → IfOk b (λ g. WritesStmt P path r S s (view g) U)
       stmt_handed s s' e h = subst (λ z. IfOk b (λ g. WritesStmt P path r S z (view g) U)) (sym e) h
@@ -51,11 +46,6 @@ module _ (P : Program) (path : List ℕ) (r : Frame) (S : List Site) where
           let h' = subst (λ z. IfOk b (λ g. WritesLoop P path r q V c z t (view g) U)) i (subst (λ z. IfOk b (λ g. WritesLoop P path r q V c a' z (view g) U)) j h) in
           stmt_handed s (loop at c a t) e (ok_through b (λ g. WritesLoop P path r q V c a t (view g) U) (λ g. WritesStmt P path r S (loop at c a t) (view g) U)
           (λ g x. loop_written P path r S V U q at c a t (view g) n w x) h')
-
-      pub for_handed : (s : Stmt) (d d' : BlockItems) (a a' : Stmt) → s ≡ for d a → d' ≡ d → a' ≡ a → IfOk b (λ g. WritesStmt P path r S (for d' a') (view g) U)
-          → IfOk b (λ g. WritesStmt P path r S s (view g) U)
-      for_handed s d d' a a' e i j h =
-          stmt_handed s (for d a) e (subst (λ z. IfOk b (λ g. WritesStmt P path r S (for d z) (view g) U)) j (subst (λ z. IfOk b (λ g. WritesStmt P path r S (for z a') (view g) U)) i h))
 
       pub break_handed : (s : Stmt) (at : ℕ) → s ≡ break at → ((m : ℕ) → r.loop_length ≡ Some m → m ≤ r.live) → IfOk b (λ g. LeavesLoop path r S at broken (view g) U)
           → IfOk b (λ g. WritesStmt P path r S s (view g) U)

@@ -223,7 +223,7 @@ mutual
   length_one (as_call f n q at c g q' i d) = seq_length _ _ (point_length q) (length_gives d)
   length_one (as_if f n q at c a b g h r q' i d e) = seq_length _ _ (point_length q) (choose_length q f.here.base c g h (length_one d) (length_one e))
   length_one (as_loop f n q s g q' d) = length_loop d
-  length_one (as_for f n q init again g h n' r q' d e) = seq_length _ _ (length_all d) (seq_length _ _ (length_loop e) (keep_length q n (grows_all d)))
+  length_one (as_for f n q at init b a step g h n' r q' d e) = seq_length _ _ (length_all d) (seq_length _ _ (length_loop e) (keep_length q n (grows_all d)))
   length_one (as_break f n q at m i k j) = seq_length _ _ (point_length q) (seq_length _ _ (keep_length q m k) (break_length n i))
   length_one (as_continue f n q at m i k j) = seq_length _ _ (point_length q) (seq_length _ _ (keep_length q m k) (continue_length n i))
   length_one (as_return f n q at b i k j) = seq_length _ _ (point_length q) (return_node_length q _ b i k (any_length q b.target))

@@ -26,7 +26,6 @@ pub mod Shown
 pub mod LiveInside
 pub mod Standing
 pub mod Seen
-pub mod ForLoops
 pub mod Sizes
 pub mod Falling
 pub mod Items

@@ -1,12 +1,12 @@
 -- What holds of a part holds of it as the code sees it, behind its references.
-use Rattle.std.proofs.Common.{◌≡◌, ℕ, List, ◌++◌, Option, Result, sym, ap, ◌∙◌, subst}
-use Rattle.lra_program.specs.Program.{Cond, Source, Stmt, block, if, for, BlockItems, Program}
+use Rattle.std.proofs.Common.{◌≡◌, ℕ, List, Option, Result, sym, ap, ◌∙◌, subst}
+use Rattle.lra_program.specs.Program.{Cond, Source, Stmt, block, if, BlockItems, Program}
 use Rattle.lra_operations.specs.Graph.{Node}
-use Rattle.lra_program.specs.Sites.{Site, given_events, stmt_events}
+use Rattle.lra_program.specs.Sites.{Site, given_events}
 use Rattle.lra_graph.specs.declared.frame.Frame.{Frame}
 use Rattle.lra_graph.specs.declared.points.GraphError.{GraphError}
-use Rattle.lra_graph.specs.Limits.{Progress, walk, stopped, OnLimit}
-use Rattle.lra_graph.specs.Building.{StmtStands, GivenStands, inside, WritesLoop, WritesReturn}
+use Rattle.lra_graph.specs.Limits.{walk, stopped, OnLimit}
+use Rattle.lra_graph.specs.Building.{StmtStands, GivenStands, inside, WritesReturn}
 
 pub if_seen : (at : ℕ) (c : Cond) (a a' b b' : Stmt) → a' ≡ a → b' ≡ b → if at c a b ≡ if at c a' b'
 if_seen at c a a' b b' e f = ap (λ z. if at c z b) (sym e) ∙ ap (λ z. if at c a' z) (sym f)
@@ -18,9 +18,6 @@ module _ (P : Program) (r : Frame) where
   pub block_seen : (b b' : BlockItems) (end : ℕ) → b' ≡ b → StmtStands P r (block b end) → StmtStands P r (block b' end)
   block_seen b b' end e x = subst (λ z. StmtStands P r (block z end)) (sym e) x
 
-  pub for_seen : (b b' : BlockItems) (s s' : Stmt) → b' ≡ b → s' ≡ s → StmtStands P r (for b s) → StmtStands P r (for b' s')
-  for_seen b b' s s' e f x = subst (λ z. StmtStands P r (for z s')) (sym e) (subst (λ z. StmtStands P r (for b z)) (sym f) x)
-
   pub given_seen : (o o' : Option Source) → o ≡ o' → GivenStands P r o → GivenStands P r o'
   given_seen o o' e x = subst (λ z. GivenStands P r z) e x
 
@@ -31,17 +28,6 @@ module _ (P : Program) (r : Frame) where
 
   pub given_returned : (path : List ℕ) (S U : List Site) (q : ℕ) (o o' : Option Source) (g : Node) → o ≡ o' → WritesReturn P path r q S o' g U → WritesReturn P path r q S o g U
   given_returned path S U q o o' g e x = subst (λ z. WritesReturn P path r q S z g U) (sym e) x
-
-  module _ (path : List ℕ) (S : List Site) (w : Progress) where
-    pub round_walked : (n : ℕ) (a a' t t' : Stmt) → a' ≡ a → t' ≡ t → walk S (stmt_events (inside P path r) path n t' ++ stmt_events (inside P path r) path n a') ≡ w
-        → walk S (stmt_events (inside P path r) path n t ++ stmt_events (inside P path r) path n a) ≡ w
-    round_walked n a a' t t' e f h =
-        subst (λ z. walk S (stmt_events (inside P path r) path n t ++ stmt_events (inside P path r) path n z) ≡ w) e
-        (subst (λ z. walk S (stmt_events (inside P path r) path n z ++ stmt_events (inside P path r) path n a') ≡ w) f h)
-
-pub loop_seen : (P : Program) (path : List ℕ) (r : Frame) (S U : List Site) (q : ℕ) (c : Cond) (a a' t t' : Stmt) (g : Node) → a' ≡ a → t' ≡ t → WritesLoop P path r q S c a' t' g U
-    → WritesLoop P path r q S c a t g U
-loop_seen P path r S U q c a a' t t' g e f x = subst (λ z. WritesLoop P path r q S c a z g U) f (subst (λ z. WritesLoop P path r q S c z t' g U) e x)
 
 pub return_seen : (P : Program) (path : List ℕ) (r : Frame) (S U U' : List Site) (q : ℕ) (o : Option Source) (g g' : Node) → g ≡ g' → U ≡ U' → WritesReturn P path r q S o g' U'
     → WritesReturn P path r q S o g U

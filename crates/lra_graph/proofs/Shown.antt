@@ -1,5 +1,5 @@
 -- What values of the code's types stand for, form by form.
-use Rattle.std.proofs.Common.{◌≡◌, ℕ, map, Option, Some, ap, ◌∙◌, rules, Box, Global}
+use Rattle.std.proofs.Common.{◌≡◌, ℕ, List, map, Option, Some, ap, sym, ◌∙◌, rules, Box, Global}
 use Rattle.lra_program.specs.Program as program
 use Rattle.lra_operations.specs.Graph as graph
 use Rattle.lra_program.specs.declared.program.Slot.{Slot}
@@ -16,7 +16,7 @@ use Rattle.lra_program.specs.declared.program.Stmt.{Stmt, the_lemmas as stmt_lem
 use Rattle.lra_program.specs.declared.program.Stmt as code
 use Rattle.lra_operations.specs.declared.graph.Op.{Op}
 use Rattle.lra_operations.specs.declared.graph.Exit.{Exit}
-use Rattle.lra_operations.specs.declared.graph.Node.{Node, the_lemmas as node_lemmas}
+use Rattle.lra_operations.specs.declared.graph.Node.{the_lemmas as node_lemmas}
 use Rattle.lra_operations.specs.declared.graph.Node as code_node
 use Rattle.lra_program.specs.ProgramViews.{slot_view, expr_view, cond_view, call_view, source_view, given_view, declarator_view, stmt_view, item_view, items_of, items_view}
 use Rattle.lra_operations.specs.GraphViews.{op_view, exit_view, node_view}
@@ -66,8 +66,17 @@ shown_if at c a b = search (rules, stmt_lemmas)
 pub shown_loop : (at : ℕ) (c : Cond) (a b : Box Stmt Global) → stmt_view (code.Loop at c a b) ≡ program.loop at (cond_view c) (stmt_view a.value) (stmt_view b.value)
 shown_loop at c a b = search (rules, stmt_lemmas)
 
-pub shown_for : (init : BlockItems) (again : Box Stmt Global) → stmt_view (code.For init again) ≡ program.for (items_of (map item_view init.items.items)) (stmt_view again.value)
-shown_for init again = search (rules, stmt_lemmas)
+shown_for : (at : ℕ) (init : BlockItems) (c : Cond) (p q : Box Stmt Global)
+    → stmt_view (code.For at init c p q) ≡ program.for at (items_of (map item_view init.items.items)) (cond_view c) (stmt_view p.value) (stmt_view q.value)
+shown_for at init c p q = search (rules, stmt_lemmas)
+
+-- as the code sees its parts, behind its references
+pub for_seen : (s : Stmt) (at : ℕ) (init : BlockItems) (c : Cond) (p q : Box Stmt Global) (items : List BlockItem) (a b : Stmt) → s ≡ code.For at init c p q → items ≡ init.items.items
+    → a ≡ p.value → b ≡ q.value → stmt_view s ≡ program.for at (items_of (map item_view items)) (cond_view c) (stmt_view a) (stmt_view b)
+for_seen s at init c p q items a b is e f g =
+    ap stmt_view is ∙ shown_for at init c p q ∙ ap (λ z. program.for at (items_of (map item_view z)) (cond_view c) (stmt_view p.value) (stmt_view q.value)) (sym e)
+    ∙ ap (λ z. program.for at (items_of (map item_view items)) (cond_view c) (stmt_view z) (stmt_view q.value)) (sym f)
+    ∙ ap (λ z. program.for at (items_of (map item_view items)) (cond_view c) (stmt_view a) (stmt_view z)) (sym g)
 
 pub shown_break : (at : ℕ) → stmt_view (code.Break at) ≡ program.break at
 shown_break at = search (rules, stmt_lemmas)

@@ -14,7 +14,7 @@ abbrev mutual
   size_stmt (call at c) = 4
   size_stmt (if at c a b) = 2 + (size_stmt a + size_stmt b)
   size_stmt (loop at c a step) = 2 + (size_stmt a + size_stmt step)
-  size_stmt (for init again) = 2 + (size_items init + size_stmt again)
+  size_stmt (for at init c a step) = 3 + (size_items init + (size_stmt a + size_stmt step))
   size_stmt (break at) = 1
   size_stmt (continue at) = 1
   size_stmt (return at e) = 6

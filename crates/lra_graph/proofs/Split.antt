@@ -334,14 +334,16 @@ module _ (P : Program) (T : List Site) (c : Config) (p : ℕ) (on : label_on c.i
       → (j : Exit) (m : State) → land j h (i ∷ i' ∷ k) m ≡ land j h k m
   land_two h i i' k a b d e j m = land_skip j h i (i' ∷ k) m a b ∙ land_skip j h i' k m d e
 
-  splits_for : (f : Frame) (n q : ℕ) (init : BlockItems) (again : Stmt) (g h : Node) (n' r q' : ℕ) → InlAll P T f n (suc q) init g n' r → Loops P T f n' q r again h q'
+  splits_for : (f : Frame) (n q : ℕ) (at : ℕ) (init : BlockItems) (b : Cond) (a step : Stmt) (g h : Node) (n' r q' : ℕ) → InlAll P T f n (suc q) init g n' r →
+      Loops P T f n' q r (loop at b a step) h q'
       → (k : List Item) (s : State) (count : ℕ)
-      → Matches f k → length s.store ≡ n → count < fuel → Steps P count (config (all init ∷ run again ∷ cut n ∷ k) f.here s) c → Cut f.here k count (seq g (seq h (act q (keep n)))) s
-  splits_for f n q init again g h n' r q' d e k s count m l less t =
-      splits_seq P T c p on f.here k (run again ∷ cut n ∷ k) count g (seq h (act q (keep n))) s (land_two f.here (run again) (cut n) k refl refl refl refl)
-      (below.every f n (suc q) init g n' r d (run again ∷ cut n ∷ k) s count (matches_skip f (run again) (cut n ∷ k) refl refl (matches_skip f (cut n) k refl refl m)) l less t)
+      → Matches f k → length s.store ≡ n → count < fuel → Steps P count (config (all init ∷ run (loop at b a step) ∷ cut n ∷ k) f.here s) c → Cut f.here k count (seq g (seq h (act q (keep n)))) s
+  splits_for f n q at init b a step g h n' r q' d e k s count m l less t =
+      splits_seq P T c p on f.here k (run (loop at b a step) ∷ cut n ∷ k) count g (seq h (act q (keep n))) s (land_two f.here (run (loop at b a step)) (cut n) k refl refl refl refl)
+      (below.every f n (suc q) init g n' r d (run (loop at b a step) ∷ cut n ∷ k) s count
+      (matches_skip f (run (loop at b a step)) (cut n ∷ k) refl refl (matches_skip f (cut n) k refl refl m)) l less t)
       (λ j u i z w. splits_seq P T c p on f.here k (cut n ∷ k) j h (act q (keep n)) u (skip_one f.here (cut n) k refl refl)
-      (below.loops f n' q r again h q' e (cut n ∷ k) u j (matches_skip f (cut n) k refl refl m) ((length_all d).ends s u normal l z) (omega arith) w)
+      (below.loops f n' q r (loop at b a step) h q' e (cut n ∷ k) u j (matches_skip f (cut n) k refl refl m) ((length_all d).ends s u normal l z) (omega arith) w)
       (λ j' u' i' z' w'. cut_tail f.here n q k u' j' w'))
 
   -- nothing follows in `main`
@@ -418,10 +420,10 @@ module _ (P : Program) (T : List Site) (c : Config) (p : ℕ) (on : label_on c.i
             (below.one f n r a' h n q' d' k z.0 j m (length_test f.here.base b false s z.0 z.1 ∙ l) (omega arith) (rw z.2 w)))
       ])
   splits_one _ _ _ _ _ _ _ (as_loop f n q a g q' d) k s count m l less t = of_loop f n q (suc q) a g q' d k s count m l less t
-  splits_one _ _ _ _ _ _ _ (as_for f n q init again g h n' r q' d e) k s count m l less t =
-      let x = past P T c p on (config (run (for init again) ∷ k) f.here s) (config (all init ∷ run again ∷ cut (length s.store) ∷ k) f.here s) count refl refl t in
+  splits_one _ _ _ _ _ _ _ (as_for f n q at init b a step g h n' r q' d e) k s count m l less t =
+      let x = past P T c p on (config (run (for at init b a step) ∷ k) f.here s) (config (all init ∷ run (loop at b a step) ∷ cut (length s.store) ∷ k) f.here s) count refl refl t in
       splits_more P T c p on f.here k x.0 count (seq g (seq h (act q (keep n)))) s (omega arith)
-      (splits_for f n q init again g h n' r q' d e k s x.0 m l (omega arith) (subst (λ w. Steps P x.0 (config (all init ∷ run again ∷ cut w ∷ k) f.here s) c) l x.2))
+      (splits_for f n q at init b a step g h n' r q' d e k s x.0 m l (omega arith) (subst (λ w. Steps P x.0 (config (all init ∷ run (loop at b a step) ∷ cut w ∷ k) f.here s) c) l x.2))
   splits_one _ _ _ _ _ _ _ (as_break f n q at b i i' has) k s count m l less t = splits_point P T c p on f n q at false (run (break at)) (seq (act q (keep b)) (leave n broken)) k s count has l
       refl (λ z. absurd z) t
       (λ j e j' y w. splits_more P T c p on f.here k (suc j) count (seq (act q (keep b)) (leave n broken)) s (omega arith) (splits_break f q b n k s j e i m y w))

@@ -95,8 +95,8 @@ module _ (P : Program) (r : Frame) where
       false_true : false ≡ true → ⊥
       false_true e = cc
 
-  pub init_stands : (init : BlockItems) (again : Stmt) → StmtStands P r (for init again) → ItemsStand P r init
-  init_stands init again x = record {
+  pub init_stands : (at : ℕ) (init : BlockItems) (c : Cond) (s t : Stmt) → StmtStands P r (for at init c s t) → ItemsStand P r init
+  init_stands at init c s t x = record {
     in_loop = false;
     own = x.own;
     good = x.good.0;
@@ -109,13 +109,15 @@ module _ (P : Program) (r : Frame) where
       false_true : false ≡ true → ⊥
       false_true e = cc
 
-  pub again_stands : (n : ℕ) (init : BlockItems) (again : Stmt) → n ≡ live_behind r.live init → StmtStands P r (for init again) → StmtStands P (record r { live = n }) again
-  again_stands n init again same x =
+  -- its loop, behind its variables
+  pub for_again : (at : ℕ) (init : BlockItems) (c : Cond) (s t : Stmt) (n : ℕ) → n ≡ live_behind r.live init → StmtStands P r (for at init c s t)
+      → StmtStands P (record r { live = n }) (loop at c s t)
+  for_again at init c s t n same x =
       let low = live_low r.live init in
       record {
         in_loop = false;
         own = live_behind x.own init;
-        good = x.good.2;
+        good = (x.good.1, x.good.2, x.good.3);
         within = let w = both_live r.base x.own r.live init x.within in omega arith;
         loops = λ e. absurd (false_true e);
         loop_low = λ m e. let l = x.loop_low m e in omega arith;
@@ -124,10 +126,6 @@ module _ (P : Program) (r : Frame) where
     where
       false_true : false ≡ true → ⊥
       false_true e = cc
-
-  pub for_again : (init : BlockItems) (at : ℕ) (c : Cond) (s t : Stmt) (n : ℕ) → n ≡ live_behind r.live init → StmtStands P r (for init (loop at c s t))
-      → StmtStands P (record r { live = n }) (loop at c s t)
-  for_again init at c s t n same x = again_stands n init (loop at c s t) same x
 
   -- a callee's body in its own frame
   pub callee_stands : (n more k : ℕ) (x : Option ℕ) (c : Call) (fn : Function) → IsWellFormed P → CallStands P r c → slice_get P.functions c.function ≡ Some fn → n ≡ r.live → k ≡ n + fn.parameters

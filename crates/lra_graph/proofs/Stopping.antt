@@ -1,8 +1,8 @@
 -- Where a part is stopped by a limit, the whole is.
-use Rattle.std.proofs.Common.{◌≡◌, ℕ, ◌<◌, false, List, [], ◌∷◌, ◌++◌, Result, Ok, Err, IfOk, sym, subst}
+use Rattle.std.proofs.Common.{◌≡◌, ℕ, ◌<◌, false, List, [], ◌∷◌, ◌++◌, Result, Ok, Err, IfOk, sym, subst, append_assoc}
 use Rattle.std.specs.Result.{IsErrAnd}
 use Rattle.std.proofs.lemmas.Result.{err_from_is_err_and}
-use Rattle.lra_program.specs.Program.{Cond, Stmt, loop, for, BlockItems, Program}
+use Rattle.lra_program.specs.Program.{Cond, Stmt, for, BlockItems, Program}
 use Rattle.lra_program.specs.Sites.{Site, Event, plain_site, live_behind, stmt_events, items_events}
 use Rattle.lra_graph.specs.declared.points.Limit.{Limit}
 use Rattle.lra_graph.specs.declared.points.Limit.TheVariants.{Variables}
@@ -82,24 +82,31 @@ module _ (P : Program) (path : List ℕ) (r : Frame) (S : List Site) (init : Blo
   abbrev begin : List Event
   begin = items_events (inside P path r) path r.live init
 
+  abbrev turns : ℕ → List Event
+  turns n = stmt_events (inside P path r) path n t
+
+  abbrev rounds : ℕ → List Event
+  rounds n = stmt_events (inside P path r) path n s
+
   abbrev round : ℕ → List Event
-  round n = stmt_events (inside P path r) path n t ++ stmt_events (inside P path r) path n s
+  round n = turns n ++ rounds n
 
   abbrev whole : List Event
-  whole = stmt_events (inside P path r) path r.live (for init (loop at c s t))
+  whole = stmt_events (inside P path r) path r.live (for at init c s t)
 
   abbrev last : ℕ
   last = live_behind r.live init
 
   pub for_too_many : 24 < last → walk S whole ≡ stopped (Variables at)
-  for_too_many l = too_many S (record { path = path; label = at; live = last; asserts = false }) (begin ++ round last) l
+  for_too_many l = too_many S (record { path = path; label = at; live = last; asserts = false }) (begin ++ turns last ++ rounds last) l
 
   pub for_at_point : (n : ℕ) (x : Limit) → n ≡ last → walk S (own n) ≡ stopped x → walk S whole ≡ stopped x
-  for_at_point n x same h = walk_stop S (own last) (begin ++ round last) x (subst (λ z. walk S (own z) ≡ stopped x) same h)
+  for_at_point n x same h = walk_stop S (own last) (begin ++ turns last ++ rounds last) x (subst (λ z. walk S (own z) ≡ stopped x) same h)
 
   pub for_at_begin : (V : List Site) (n : ℕ) (x : Limit) → n ≡ last → walk S (own n) ≡ passed V → walk V begin ≡ stopped x → walk S whole ≡ stopped x
-  for_at_begin V n x same e h = middle_stopped S V (own last) begin (round last) x (subst (λ z. walk S (own z) ≡ passed V) same e) h
+  for_at_begin V n x same e h = middle_stopped S V (own last) (begin ++ turns last) (rounds last) x (subst (λ z. walk S (own z) ≡ passed V) same e) (walk_stop V begin (turns last) x h)
 
   pub for_at_round : (V W : List Site) (n : ℕ) (x : Limit) → n ≡ last → walk S (own n) ≡ passed V → walk V begin ≡ passed W → walk W (round n) ≡ stopped x → walk S whole ≡ stopped x
   for_at_round V W n x same e f h =
-      third_stopped S V W (own last) begin (round last) x (subst (λ z. walk S (own z) ≡ passed V) same e) f (subst (λ z. walk W (round z) ≡ stopped x) same h)
+      subst (λ es. walk S (own last ++ es) ≡ stopped x) (sym (append_assoc begin (turns last) (rounds last)))
+      (third_stopped S V W (own last) begin (round last) x (subst (λ z. walk S (own z) ≡ passed V) same e) f (subst (λ z. walk W (round z) ≡ stopped x) same h))

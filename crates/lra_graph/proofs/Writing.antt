@@ -1,11 +1,11 @@
 -- Each form of a statement, written out behind the points before it.
-use Rattle.std.proofs.Common.{◌≡◌, ℕ, suc, ◌+◌, ◌≤◌, List, [], ◌∷◌, ◌++◌, length, Option, Some, None, Bool, true, false, slice_get, refl, sym, ap, ◌∙◌, subst}
+use Rattle.std.proofs.Common.{◌≡◌, ℕ, suc, ◌+◌, ◌≤◌, List, [], ◌∷◌, ◌++◌, length, Option, Some, None, Bool, true, false, slice_get, refl, sym, ap, ◌∙◌, subst, append_assoc}
 use Rattle.std.proofs.lemmas.Option.{none-some, same_Some}
 use Rattle.lra_program.specs.Program.{Slot, Expr, Cond, Call, Source, value, result, Declarator, Stmt, absent, nothing, block, assign, call, if, loop, for, break, continue, return, assert, assume}
 use Rattle.lra_program.specs.Program.{BlockItems, no_more, declaration, statement, Function, Program}
 use Rattle.lra_program.specs.Value.{index_of}
 use Rattle.lra_program.specs.Step as step
-use Rattle.lra_program.specs.Step.{append, give, give_any, push, keep, test}
+use Rattle.lra_program.specs.Step.{append, give, give_any, keep, test}
 use Rattle.lra_operations.specs.Graph.{Exit, broken, continued, returned, Node, empty, point, act, check, seq, choose, leave}
 use Rattle.lra_program.specs.Sites.{Site, comes, plain_site, live_behind, source_events, given_events, stmt_events, items_events, function_events, call_events}
 use Rattle.lra_operations.specs.Inlined as inlined
@@ -176,20 +176,23 @@ module _ (P : Program) (path : List ℕ) (r : Frame) where
 
   pub for_written : (S V W U : List Site) (q at n : ℕ) (init : BlockItems) (c : Cond) (s t : Stmt) (h k l g : Node) → q ≡ length S → n ≡ live_behind N init → Pointed S (site at n false) V
       → WritesItems P path r V init h W
-      → WritesLoop P path (record r { live = n }) q W c s t k U → l ≡ seq k (act q (keep N)) → g ≡ seq h l → WritesStmt P path r S (for init (loop at c s t)) g U
+      → WritesLoop P path (record r { live = n }) q W c s t k U → l ≡ seq k (act q (keep N)) → g ≡ seq h l → WritesStmt P path r S (for at init c s t) g U
   for_written S V W U q at n init c s t h k l g i same e x y a a' =
       let m = live_behind N init in
       let e' : Pointed S (site at m false) V = subst (λ z. Pointed S (site at z false) V) same e in
       let y' = subst (λ z. WritesLoop P path (record r { live = z }) q W c s t k U) same y in
-      let rest = stmt_events (inside P path r) path m t ++ stmt_events (inside P path r) path m s in
+      let begin = items_events (inside P path r) path N init in
+      let turns = stmt_events (inside P path r) path m t in
+      let rounds = stmt_events (inside P path r) path m s in
+      let rest = turns ++ rounds in
       record {
-        walked = walk_then S (plain_site path at m ∷ []) (items_events (inside P path r) path N init ++ rest) V (passed U) e'
-            (walk_then V (items_events (inside P path r) path N init) rest W (passed U) x.walked y'.walked);
+        walked = subst (λ es. walk S (plain_site path at m ∷ es) ≡ passed U) (sym (append_assoc begin turns rounds))
+            (walk_then S (plain_site path at m ∷ []) (begin ++ rest) V (passed U) e' (walk_then V begin rest W (passed U) x.walked y'.walked));
         placed = λ T f b is.
             let b' = begins_join W U T (begins_walk W rest U y'.walked) b in
-            let b'' = begins_join V W T (begins_walk V (items_events (inside P path r) path N init) W x.walked) b' in
+            let b'' = begins_join V W T (begins_walk V begin W x.walked) b' in
             let has : Has T q f m at = subst (λ z. Has T z f m at) (sym i) (has_point S V T f at m false e' b'' is) in
-            rw (a', a, i) (as_for f N (length S) init (loop at c s t) h k m (length W) (length U)
+            rw (a', a, i) (as_for f N (length S) at init c s t h k m (length W) (length U)
             (subst (λ z. InlAll P T f N z init h m (length W)) (one_longer S V (site at m false) e') (x.placed T f b' is))
             (loops_as T f m q (length S) (length W) (length W) (loop at c s t) k (length U) i refl (y'.placed T f b (with_live m is) at has)));
       }

@@ -3,22 +3,27 @@ use Rattle.std.specs.Prelude.{◌≡◌, ℕ, ◌+◌, ◌++◌, List, [], ◌�
 use Rattle.std.specs.declared.alloc.Global.{Global}
 use Rattle.lra_operations.specs.declared.graph.Node as code
 use Rattle.lra_operations.specs.declared.graph.Site as code_site
-use Rattle.lra_program.specs.Program.{Cond, Call, Source, Stmt, BlockItems, Program}
+use Rattle.lra_program.specs.Program.{Cond, Call, Source, Stmt, for, BlockItems, Program}
 use Rattle.lra_operations.specs.Graph.{Exit}
 use Rattle.lra_program.specs.Sites.{Site, Event, comes, plain_site, source_events, given_events, stmt_events}
 use Rattle.lra_program.specs.Sites.{items_events, call_events}
-use Rattle.lra_program.specs.ProgramViews.{program_view}
+use Rattle.lra_program.specs.ProgramViews.{cond_view, stmt_view, program_view}
 use Rattle.lra_operations.specs.GraphViews.{node_view, site_view}
 use Rattle.lra_graph.specs.Limits.{walk, passed, stopped}
 use Rattle.lra_graph.specs.Building as building
 use Rattle.lra_graph.specs.declared.points.Limit.{Limit}
 use Rattle.lra_graph.specs.declared.frame.Around.{Around}
+use Rattle.lra_graph.specs.declared.frame.Repeated.{Repeated}
 
 abbrev pub Points : Type 0
 Points = Vec code_site.Site Global
 
 abbrev pub points_in : Points → List Site
 points_in points = map site_view points.items
+
+-- a `for`, by how it begins and what it repeats
+abbrev pub for_of : BlockItems → Repeated → Stmt
+for_of init r = for r.label init (cond_view r.cond.now) (stmt_view r.body.now) (stmt_view r.step.now)
 
 module _ (at : Around) where
   abbrev pub program_around : Program

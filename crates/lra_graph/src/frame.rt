@@ -1,7 +1,7 @@
 //! Where a statement stands.
 
 use lra_operations::Path;
-use lra_program::Program;
+use lra_program::{Cond, Program, Stmt};
 use std::alloc::Global;
 
 /// Where the call that runs goes back to: what gets its value, and how many variables live at the call.
@@ -34,4 +34,13 @@ pub struct Around<'a> {
     /// The calls that lead there.
     pub path: &'a Path,
     pub frame: Frame,
+}
+
+/// What a `for` repeats, and its label.
+#[derive(Clone, Copy)]
+pub struct Repeated<'a> {
+    pub label: usize,
+    pub cond: &'a Cond,
+    pub body: &'a Stmt,
+    pub step: &'a Stmt,
 }

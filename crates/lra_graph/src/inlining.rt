@@ -16,13 +16,13 @@ ghost use Rattle.lra_graph.specs.Inlining.{points_in, program_around, own_events
 ghost use Rattle.lra_graph.specs.Inlining.{StmtStands, ItemsStand, ItemStands, GivenStands, DeclaredStands, CallStands};
 ghost use Rattle.lra_graph.specs.Inlining.{RoundStands, StopsStmt, StopsItems, StopsItem, StopsGiven, StopsSource};
 ghost use Rattle.lra_graph.specs.Inlining.{StopsCall, StopsRound, IsStmt, IsPlain, IsExit, AreItems, IsItem, IsSource};
-ghost use Rattle.lra_graph.specs.Inlining.{IsDeclared, IsLoop, IsReturn};
+ghost use Rattle.lra_graph.specs.Inlining.{IsDeclared, IsLoop, IsReturn, for_of};
 
 use crate::forms::{
     CallPlace, add_part, behind, behind_point, block_end, called, choice, cut_and_leave, in_a_row,
     in_turn, returned, rounds,
 };
-use crate::frame::{Around, Back, Frame};
+use crate::frame::{Around, Back, Frame, Repeated};
 use crate::points::{GraphError, Limit, add_point};
 use lra_operations::{Exit, Node, Op, Site};
 use lra_program::{BlockItem, Call, Cond, Slot, Source, Stmt};
@@ -154,7 +154,21 @@ fn inline_stmt(around: &Around<'_>, stmt: &Stmt, sites: &mut Vec<Site>) -> Resul
             let point = own_point(around, *label, sites)?;
             inline_loop(around, point, cond, body, step, sites)
         }
-        Stmt::For(init, again) => inline_for(around, &init.items, again, sites),
+        Stmt::For {
+            label,
+            init,
+            cond,
+            body,
+            step,
+        } => {
+            let repeated = Repeated {
+                label: *label,
+                cond,
+                body,
+                step,
+            };
+            inline_for(around, &init.items, &repeated, sites)
+        }
         Stmt::Break(label) => leave_loop(around, *label, Exit::Broken, sites),
         Stmt::Continue(label) => leave_loop(around, *label, Exit::Continued, sites),
         Stmt::Return(label, source) => inline_return(around, *label, source, sites),
@@ -374,41 +388,44 @@ fn inline_loop(
     Ok(rounds(around.alloc, point, base, cond, body, step)?)
 }
 
-/// A `for`: the loop's point, at which its variables live already, its beginning, and the loop, behind which they go.
+/// A `for`: its point, at which its variables live already, its beginning, and its loop, behind which they go.
 #[tactic(none)]
 #[cycle(inline)]
 fn inline_for(
     around: &Around<'_>,
     init: &[BlockItem],
-    again: &Stmt,
+    repeated: &Repeated<'_>,
     sites: &mut Vec<Site>,
 ) -> Result<Node, GraphError>
     requires well { IsWellFormed (program_around around.now) }
-    requires stands { StmtStands around.now (resolved.for (items_of (map item_view init.now)) (stmt_view again.now)) }
+    requires stands { StmtStands around.now (for_of (items_of (map item_view init.now)) repeated.now) }
     ensures written { IfOk result (IsStmt around.now sites.old sites.new
-        (resolved.for (items_of (map item_view init.now)) (stmt_view again.now))) }
+        (for_of (items_of (map item_view init.now)) repeated.now)) }
     ensures limit { OnLimit result (StopsStmt around.now sites.old
-        (resolved.for (items_of (map item_view init.now)) (stmt_view again.now))) }
+        (for_of (items_of (map item_view init.now)) repeated.now)) }
 {
-    match again {
-        Stmt::Loop(label, cond, body, step) => {
-            let Some(live) = live_inside(around.frame.live, init) else {
-                return Err(GraphError::Passed(Limit::Variables(*label)));
-            };
-            let point = add_point(around.alloc, around.path, *label, live, false, sites)?;
-            let (init, _) = inline_items(around, init, sites)?;
-            let frame = Frame {
-                live,
-                ..around.frame
-            };
-            let behind_init = Around { frame, ..*around };
-            let again = inline_loop(&behind_init, point, cond, body, step, sites)?;
-            let end = Node::Act(point, Op::Keep(around.frame.live));
-            let rest = in_turn(around.alloc, again, end)?;
-            Ok(in_turn(around.alloc, init, rest)?)
-        }
-        _ => unreachable!(),
-    }
+    let label = repeated.label;
+    let Some(live) = live_inside(around.frame.live, init) else {
+        return Err(GraphError::Passed(Limit::Variables(label)));
+    };
+    let point = add_point(around.alloc, around.path, label, live, false, sites)?;
+    let (init, _) = inline_items(around, init, sites)?;
+    let frame = Frame {
+        live,
+        ..around.frame
+    };
+    let behind_init = Around { frame, ..*around };
+    let again = inline_loop(
+        &behind_init,
+        point,
+        repeated.cond,
+        repeated.body,
+        repeated.step,
+        sites,
+    )?;
+    let end = Node::Act(point, Op::Keep(around.frame.live));
+    let rest = in_turn(around.alloc, again, end)?;
+    Ok(in_turn(around.alloc, init, rest)?)
 }
 
 /// A `return`: its point, and what leaves the call that runs, or `main`.

@@ -55,9 +55,9 @@ abbrev one_for : FileTree
 one_for = main_of (statement (for (at 17) (declared (declared_as (x_at 26) (Some (expression (number 0))))) (Some (tested (compare (use_of (x_at 31)) operators.below (number 3))))
     (Some (after (x_at 36) increment)) (nothing (at 41))) no_items) 43
 
-one_for_body : (resolve one_for).main.body ≡ program.statement (program.for (program.declaration (record { label = 2; source = Some (program.value (program.literal 0)) }) program.no_more)
-    (program.loop 1 (program.compare operators.below (program.read (program.local 0)) (program.literal 3)) (program.nothing 4)
-    (program.assign 3 (program.local 0) (program.value (program.binary operators.plus (program.read (program.local 0)) (program.literal 1)))))) program.no_more
+one_for_body : (resolve one_for).main.body ≡ program.statement (program.for 1 (program.declaration (record { label = 2; source = Some (program.value (program.literal 0)) }) program.no_more)
+    (program.compare operators.below (program.read (program.local 0)) (program.literal 3)) (program.nothing 4)
+    (program.assign 3 (program.local 0) (program.value (program.binary operators.plus (program.read (program.local 0)) (program.literal 1))))) program.no_more
 one_for_body = refl
 
 one_for_places : (map (λ l. l.place.column) (labels_of one_for) ≡ 17 ∷ 26 ∷ 36 ∷ 41 ∷ 43 ∷ []) ×

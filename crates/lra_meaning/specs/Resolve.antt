@@ -167,8 +167,8 @@ abbrev mutual
   resolve_stmt F s n (tree.for at i c e b) =
       let t = for_scope s i in
       let m = suc n + init_count i in
-      for (resolve_init F s (suc n) i) (loop n (resolve_for_test t c) (resolve_stmt F t (m + step_count e) b)
-      (resolve_step F t m e))
+      for n (resolve_init F s (suc n) i) (resolve_for_test t c) (resolve_stmt F t (m + step_count e) b)
+      (resolve_step F t m e)
   resolve_stmt F s n (tree.break at) = break n
   resolve_stmt F s n (tree.continue at) = continue n
   resolve_stmt F s n (tree.return at e) = return n (resolve_given F s n e)

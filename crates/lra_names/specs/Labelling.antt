@@ -1,6 +1,7 @@
 -- The labels of a source while it is resolved: what each part adds.
 use Rattle.std.specs.Prelude.{◌≡◌, ℕ, List, [], ◌∷◌, ◌++◌, Option, flat_map}
 use Rattle.lra_base.specs.declared.refusals.Place.{Place}
+use Rattle.lra_base.specs.TextOrder.{before_body}
 use Rattle.lra_tree.specs.Trees.{AssignTree, DeclaratorTree, InitTree, ItemsTree, FunctionTree}
 use Rattle.lra_tree.specs.Labels.{Labelled, plain_label, with_names, declarator_labels, init_labels, step_labels}
 use Rattle.lra_tree.specs.Labels.{items_labels, live_in_for, function_labels}
@@ -41,7 +42,8 @@ pub record Fills (old new : LabelsSoFar) (items : ItemsTree) : Type 0 where
 
 -- a `for` without its body: its own label, how it begins, its step
 abbrev pub for_front : Place → List (List ℕ) → InitTree → Option AssignTree → List Labelled
-for_front at live i e = plain_label at (live_in_for live i) ∷ init_labels live i ++ step_labels (live_in_for live i) e
+for_front at live i e = before_body (plain_label at (live_in_for live i)) (init_labels live i)
+    (step_labels (live_in_for live i) e)
 
 abbrev pub labels_of_functions : List FunctionTree → List Labelled
 labels_of_functions fs = flat_map function_labels fs

@@ -58,8 +58,8 @@ body_live live (for_head at i c e) = live_in_for live i
 abbrev pub loop_around : List FunctionTree → Scope → ℕ → HeadTree → program.Stmt → program.Stmt
 loop_around F s n (while_head at c) b = loop_of n (resolve_cond s c) b program.absent
 loop_around F s n (for_head at i c e) b =
-    for_of (resolve_init F s (suc n) i) (loop_of n (resolve_for_test (for_scope s i) c) b
-    (resolve_step F (for_scope s i) (suc n + init_count i) e))
+    for_of n (resolve_init F s (suc n) i) (resolve_for_test (for_scope s i) c) b
+    (resolve_step F (for_scope s i) (suc n + init_count i) e)
 
 -- what stands for the code's values --------------------------------------------------------------------
 
@@ -78,5 +78,5 @@ loop_tree r body = with_body (rounds_view r) (stmt_view body)
 
 abbrev pub loop_with : LoopHead → program.Stmt → program.Stmt
 loop_with (head.While h) b = loop_of h.label (view.cond_view h.cond) b program.absent
-loop_with (head.For h) b = for_of (view.items_view h.init)
-    (loop_of h.head.label (view.cond_view h.head.cond) b (view.stmt_view h.step))
+loop_with (head.For h) b = for_of h.head.label (view.items_view h.init) (view.cond_view h.head.cond) b
+    (view.stmt_view h.step)

@@ -37,8 +37,8 @@ choice n c t e = program.if n c t e
 abbrev pub loop_of : ℕ → program.Cond → program.Stmt → program.Stmt → program.Stmt
 loop_of n c body step = program.loop n c body step
 
-abbrev pub for_of : program.BlockItems → program.Stmt → program.Stmt
-for_of items again = program.for items again
+abbrev pub for_of : ℕ → program.BlockItems → program.Cond → program.Stmt → program.Stmt → program.Stmt
+for_of n init c body step = program.for n init c body step
 
 abbrev pub return_of : ℕ → Option program.Source → program.Stmt
 return_of n e = program.return n e

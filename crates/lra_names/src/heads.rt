@@ -73,6 +73,30 @@ impl Head {
         Ok(lra_program::Stmt::Loop(label, cond, body, step))
     }
 
+    /// A `for` that begins so.
+    fn repeat_behind(
+        self,
+        alloc: Global,
+        init: lra_program::BlockItems,
+        body: lra_program::Stmt,
+        step: lra_program::Stmt,
+    ) -> Result<lra_program::Stmt, SourceError>
+        ensures found { IfOk result (λ s. stmt_view s ≡ for_of self.label (items_view init) (cond_view self.cond)
+            (stmt_view body) (stmt_view step)) }
+        ensures memory { IfErr result (λ e. e ≡ SourceError.Memory) }
+    {
+        let Head { label, cond } = self;
+        let body = Box::new(alloc, body)?;
+        let step = Box::new(alloc, step)?;
+        Ok(lra_program::Stmt::For {
+            label,
+            init,
+            cond,
+            body,
+            step,
+        })
+    }
+
     /// An `assert`.
     fn into_assert(self) -> lra_program::Stmt
         ensures { stmt_view result ≡ assert_stmt self.label (cond_view self.cond) }
@@ -278,14 +302,12 @@ impl ForHead {
         alloc: Global,
         body: lra_program::Stmt,
     ) -> Result<lra_program::Stmt, SourceError>
-        ensures found { IfOk result (λ s. stmt_view s ≡ for_of (items_view self.init)
-            (loop_of self.head.label (cond_view self.head.cond) (stmt_view body) (stmt_view self.step))) }
+        ensures found { IfOk result (λ s. stmt_view s ≡ for_of self.head.label (items_view self.init)
+            (cond_view self.head.cond) (stmt_view body) (stmt_view self.step)) }
         ensures memory { IfErr result (λ e. e ≡ SourceError.Memory) }
     {
         let ForHead { init, head, step } = self;
-        let again = head.repeat(alloc, body, step)?;
-        let again = Box::new(alloc, again)?;
-        Ok(lra_program::Stmt::For(init, again))
+        head.repeat_behind(alloc, init, body, step)
     }
 }
 

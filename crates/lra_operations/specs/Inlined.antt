@@ -70,9 +70,9 @@ mutual
         Inl P T f n q (if at c a b) (seq (point q) (choose q f.here.base c g h)) n q'
     as_loop : (f : Frame) (n q : ℕ) (s : Stmt) (g : Node) (q' : ℕ) → Loops P T f n q (suc q) s g q' →
         Inl P T f n q s g n q'
-    as_for : (f : Frame) (n q : ℕ) (init : BlockItems) (again : Stmt) (g h : Node) (n' r q' : ℕ) →
-        InlAll P T f n (suc q) init g n' r
-        → Loops P T f n' q r again h q' → Inl P T f n q (for init again) (seq g (seq h (act q (keep n)))) n q'
+    as_for : (f : Frame) (n q at : ℕ) (init : BlockItems) (c : Cond) (a step : Stmt) (g h : Node) (n' r q' : ℕ) →
+        InlAll P T f n (suc q) init g n' r → Loops P T f n' q r (loop at c a step) h q'
+        → Inl P T f n q (for at init c a step) (seq g (seq h (act q (keep n)))) n q'
     as_break : (f : Frame) (n q at m : ℕ) → f.loop ≡ Some m → m ≤ n → Has T q f n at
         → Inl P T f n q (break at) (seq (point q) (seq (act q (keep m)) (leave n broken))) n (suc q)
     as_continue : (f : Frame) (n q at m : ℕ) → f.loop ≡ Some m → m ≤ n → Has T q f n at

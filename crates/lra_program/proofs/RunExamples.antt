@@ -182,9 +182,9 @@ bare_return_run = refl
 -- int main(void){ for (long i=0; ; i=i+1) { long j=i; if (j==1) break; continue; } }
 -- catches a store that stays long: `continue` and `break` cut off j, the loop's end cuts off i; `continue` goes to the step
 abbrev pub left_blocks : Program
-left_blocks = main_alone (statement (for (declaration (set_to 2 (literal 0)) no_more) (loop 1 (nonzero (literal 1))
+left_blocks = main_alone (statement (for 1 (declaration (set_to 2 (literal 0)) no_more) (nonzero (literal 1))
     (block (declaration (set_to 4 x) (statement (if 5 (compare equal y (literal 1)) (break 6) absent) (statement (continue 7) no_more))) 8)
-    (assign 3 (local 0) (value (binary plus x (literal 1)))))) no_more) 9
+    (assign 3 (local 0) (value (binary plus x (literal 1))))) no_more) 9
 
 left_blocks_run : visited left_blocks (pos 5 ∷ pos 6 ∷ pos 7 ∷ []) ≡ ([], 2, []) ∷ ([], 1, pos 0 ∷ []) ∷ ([], 4, pos 0 ∷ []) ∷ ([], 5, pos 0 ∷ pos 0 ∷ []) ∷ ([], 7, pos 0 ∷ pos 0 ∷ [])
     ∷ ([], 3, pos 0 ∷ []) ∷ ([], 1, pos 1 ∷ []) ∷ ([], 4, pos 1 ∷ []) ∷ ([], 5, pos 1 ∷ pos 1 ∷ []) ∷ ([], 6, pos 1 ∷ pos 1 ∷ []) ∷ ([], 9, []) ∷ []

@@ -8,7 +8,7 @@ use Rattle.lra_program.proofs.RunExamples as run
 -- int main(void){ for (long i=0; ; i=i+1) { long j=i; if (j==1) break; continue; } }
 -- catches a `for` whose labels are told with its body before its step, and a declared variable that doesn't live in the loop
 left_blocks_are_good : AreInTextOrder (run.left_blocks.main ∷ []) × IsGoodFunction run.left_blocks run.left_blocks.main
-left_blocks_are_good = (refl, (((omega arith, tt), tt, (omega arith, (omega arith, (((omega arith, omega arith), refl, tt), (refl, tt))), (omega arith, (omega arith, omega arith)))), tt))
+left_blocks_are_good = (refl, (((omega arith, tt), omega arith, (omega arith, (((omega arith, omega arith), refl, tt), (refl, tt))), (omega arith, (omega arith, omega arith))), tt))
 
 -- a literal of 2^63
 wide_literal : (IsGoodExpr run.one_variable 0 (literal 9223372036854775807)) × (IsGoodExpr run.one_variable 0 (literal 9223372036854775808) → ⊥)

@@ -54,8 +54,8 @@ mutual
     if : ℕ → Cond → Stmt → Stmt → Stmt
     -- a loop: its body, and the step behind each round
     loop : ℕ → Cond → Stmt → Stmt → Stmt
-    -- a `for`: its declarators or its assignment, and its loop, at whose end the store is cut back
-    for : BlockItems → Stmt → Stmt
+    -- a `for`: how it begins, and its loop's test, body and step; at the loop's end the store is cut back
+    for : ℕ → BlockItems → Cond → Stmt → Stmt → Stmt
     break : ℕ → Stmt
     continue : ℕ → Stmt
     return : ℕ → Option Source → Stmt

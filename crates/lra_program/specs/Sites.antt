@@ -2,6 +2,7 @@
 -- No path has more than 32 calls: a further one is told in place of its points.
 use Rattle.std.specs.Prelude.{ℕ, zero, suc, ◌+◌, Bool, true, false, List, [], ◌∷◌, ◌++◌, length, Option, Some, None}
 use Rattle.std.specs.Prelude.{slice_get}
+use Rattle.lra_base.specs.TextOrder.{for_order}
 use Rattle.lra_program.specs.Program.{Call, Source, value, result, Stmt, absent, nothing, block, assign, call, if, loop}
 use Rattle.lra_program.specs.Program.{for, break, continue, return, assert, assume, BlockItems, no_more, declaration}
 use Rattle.lra_program.specs.Program.{statement, Function, Program}
@@ -30,11 +31,6 @@ live_behind live no_more = live
 live_behind live (declaration d items) = live_behind (suc live) items
 live_behind live (statement s items) = live_behind live items
 
--- a loop's own point comes before those of what begins it
-abbrev pub with_init : List Event → List Event → List Event
-with_init init [] = init
-with_init init (first ∷ rest) = first ∷ init ++ rest
-
 -- a call's points, on a path with so many live variables
 module _ (inside : List ℕ → ℕ → Call → List Event) (path : List ℕ) where
   abbrev pub source_events : ℕ → Source → List Event
@@ -53,8 +49,11 @@ module _ (inside : List ℕ → ℕ → Call → List Event) (path : List ℕ) w
     stmt_events live (assign at x e) = plain_site path at live ∷ source_events live e
     stmt_events live (call at c) = plain_site path at live ∷ inside path live c
     stmt_events live (if at c a b) = plain_site path at live ∷ stmt_events live a ++ stmt_events live b
-    stmt_events live (loop at c a step) = plain_site path at live ∷ stmt_events live step ++ stmt_events live a
-    stmt_events live (for init again) = with_init (items_events live init) (stmt_events (live_behind live init) again)
+    stmt_events live (loop at c a step) = for_order (plain_site path at live) [] (stmt_events live step)
+        (stmt_events live a)
+    stmt_events live (for at init c a step) =
+        let inside = live_behind live init in
+        for_order (plain_site path at inside) (items_events live init) (stmt_events inside step) (stmt_events inside a)
     stmt_events live (break at) = plain_site path at live ∷ []
     stmt_events live (continue at) = plain_site path at live ∷ []
     stmt_events live (return at e) = plain_site path at live ∷ given_events live e

@@ -187,7 +187,7 @@ do_stmt P (call at c) k h s = do_source P None (result c) k h s
 do_stmt P (if at c a b) k h s = go_by (run a ∷ k) (run b ∷ k) h s.store (truth_of c h.base s.store s.draws)
 do_stmt P (loop at c a step) k h s = go_by (run a ∷ turn step (loop at c a step) (length s.store) ∷ k) k h s.store
     (truth_of c h.base s.store s.draws)
-do_stmt P (for init again) k h s = go (all init ∷ run again ∷ cut (length s.store) ∷ k) h (Some s)
+do_stmt P (for at init c a step) k h s = go (all init ∷ run (loop at c a step) ∷ cut (length s.store) ∷ k) h (Some s)
 do_stmt P (break at) k h s = do_break (to_turn k) h s
 do_stmt P (continue at) k h s = do_continue (to_turn k) h s
 do_stmt P (return at e) k h s = do_return P e k h s

@@ -4,6 +4,7 @@
 use Rattle.std.specs.Prelude.{◌≡◌, ℕ, suc, ◌<◌, Bool, true, false, List, [], ◌∷◌, ◌++◌, length, Option, Some, None}
 use Rattle.std.specs.Prelude.{slice_get, IsTrue, ⊤}
 use Rattle.std.specs.List.{AllByRecursion, Contains, flat_map, range_with_len}
+use Rattle.lra_base.specs.TextOrder.{for_order}
 use Rattle.lra_program.specs.Program.{Slot, global, local, Expr, literal, read, input, negate, binary, Cond, compare}
 use Rattle.lra_program.specs.Program.{nonzero, opposite, both_of, either_of, Call, Source, value, result, Stmt, absent}
 use Rattle.lra_program.specs.Program.{nothing, block, assign, call, if, loop, for, break, continue, return, assert}
@@ -12,11 +13,6 @@ use Rattle.lra_program.specs.Value.{is_word}
 use Rattle.lra_program.specs.Sites.{live_behind}
 
 -- labels -----------------------------------------------------------------------------------------------------------
-
--- a loop's own label comes before those of what begins it
-abbrev pub loop_first : List ℕ → List ℕ → List ℕ
-loop_first init [] = init
-loop_first init (own ∷ rest) = own ∷ init ++ rest
 
 -- in text order
 abbrev mutual
@@ -27,8 +23,8 @@ abbrev mutual
   stmt_numbers (assign at x e) = at ∷ []
   stmt_numbers (call at c) = at ∷ []
   stmt_numbers (if at c a b) = at ∷ stmt_numbers a ++ stmt_numbers b
-  stmt_numbers (loop at c a step) = at ∷ stmt_numbers step ++ stmt_numbers a
-  stmt_numbers (for init again) = loop_first (items_numbers init) (stmt_numbers again)
+  stmt_numbers (loop at c a step) = for_order at [] (stmt_numbers step) (stmt_numbers a)
+  stmt_numbers (for at init c a step) = for_order at (items_numbers init) (stmt_numbers step) (stmt_numbers a)
   stmt_numbers (break at) = at ∷ []
   stmt_numbers (continue at) = at ∷ []
   stmt_numbers (return at e) = at ∷ []
@@ -46,10 +42,6 @@ function_numbers f = items_numbers f.body ++ f.end ∷ []
 -- the labels of the functions, in their order, are 1, 2, 3 ..
 abbrev pub AreInTextOrder : List Function → Type 0
 AreInTextOrder fs = flat_map function_numbers fs ≡ range_with_len 1 (length (flat_map function_numbers fs))
-
-abbrev pub IsLoop : Stmt → Type 0
-IsLoop (loop at c a step) = ⊤
-IsLoop s = ⊥
 
 -- what stands in a program, where so many of the call's own variables live ------------------------
 
@@ -90,7 +82,7 @@ module _ (P : Program) where
   IsGoodGiven at live (Some e) = IsGoodSource at live e
 
   abbrev mutual
-    -- `break` and `continue` stand in a loop's body; a `for` has a loop
+    -- `break` and `continue` stand in a loop's body
     pub IsGoodStmt : Bool → ℕ → Stmt → Type 0
     IsGoodStmt in_loop live absent = ⊤
     IsGoodStmt in_loop live (nothing at) = ⊤
@@ -99,8 +91,9 @@ module _ (P : Program) where
     IsGoodStmt in_loop live (call at c) = IsGoodCall at live c
     IsGoodStmt in_loop live (if at c a b) = IsGoodCond live c × IsGoodStmt in_loop live a × IsGoodStmt in_loop live b
     IsGoodStmt in_loop live (loop at c a step) = IsGoodCond live c × IsGoodStmt true live a × IsGoodStmt false live step
-    IsGoodStmt in_loop live (for init again) = AreGoodItems false live init × IsLoop again ×
-        IsGoodStmt false (live_behind live init) again
+    IsGoodStmt in_loop live (for at init c a step) =
+        let inside = live_behind live init in
+        AreGoodItems false live init × IsGoodCond inside c × IsGoodStmt true inside a × IsGoodStmt false inside step
     IsGoodStmt in_loop live (break at) = IsTrue in_loop
     IsGoodStmt in_loop live (continue at) = IsTrue in_loop
     IsGoodStmt in_loop live (return at e) = IsGoodGiven at live e

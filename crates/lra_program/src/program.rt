@@ -141,8 +141,14 @@ pub enum Stmt {
     If(usize, Cond, Box<Stmt>, Box<Stmt>),
     /// The body, and the step behind each round.
     Loop(usize, Cond, Box<Stmt>, Box<Stmt>),
-    /// How a `for` begins, and its loop.
-    For(BlockItems, Box<Stmt>),
+    /// Its variables live at the label too.
+    For {
+        label: usize,
+        init: BlockItems,
+        cond: Cond,
+        body: Box<Stmt>,
+        step: Box<Stmt>,
+    },
     Break(usize),
     Continue(usize),
     Return(usize, Option<Source>),
@@ -161,7 +167,13 @@ impl Drop for Stmt {
             Stmt::Call(_, _) => {}
             Stmt::If(_, _, _, _) => {}
             Stmt::Loop(_, _, _, _) => {}
-            Stmt::For(_, _) => {}
+            Stmt::For {
+                label: _,
+                init: _,
+                cond: _,
+                body: _,
+                step: _,
+            } => {}
             Stmt::Break(_) => {}
             Stmt::Continue(_) => {}
             Stmt::Return(_, _) => {}

@@ -1,20 +1,16 @@
 -- No point of a program has a path of more calls than the greatest number.
-use Rattle.std.proofs.Common.{ℕ, zero, suc, ◌+◌, ◌≤◌, List, [], ◌∷◌, length, arith, Option, Some, None, slice_get}
+use Rattle.std.proofs.Common.{ℕ, zero, suc, ◌+◌, ◌≤◌, List, [], ◌∷◌, ◌++◌, length, arith, Option, Some, None, slice_get}
 use Rattle.std.specs.Prelude.{⊤}
 use Rattle.std.specs.List.{AllByRecursion}
 use Rattle.lra_program.specs.Program.{Call, Source, value, result, Stmt, absent, nothing, block, assign, call, if, loop, for, break, continue, return, assert, assume, BlockItems, no_more, declaration}
 use Rattle.lra_program.specs.Program.{statement, Function, Program}
-use Rattle.lra_program.specs.Sites.{Site, Event, comes, one_call_more, greatest_calls, plain_site, live_behind, with_init, source_events, given_events, stmt_events, items_events, function_events}
+use Rattle.lra_program.specs.Sites.{Site, Event, comes, one_call_more, greatest_calls, plain_site, live_behind, source_events, given_events, stmt_events, items_events, function_events}
 use Rattle.lra_program.specs.Sites.{call_events, events_of, sites_in, sites_of}
 use Rattle.lra_report.proofs.Every.{every_append}
 
 abbrev IsShallow : Event → Type 0
 IsShallow (comes s) = length s.path ≤ greatest_calls
 IsShallow (one_call_more at) = ⊤
-
-with_init_shallow : (init es : List Event) → AllByRecursion IsShallow init → AllByRecursion IsShallow es → AllByRecursion IsShallow (with_init init es)
-with_init_shallow init [] h k = h
-with_init_shallow init (e ∷ es) h k = (k.0, every_append IsShallow init es h k.1)
 
 -- where the calls inside are so
 module _ (inside : List ℕ → ℕ → Call → List Event) (path : List ℕ) (here : length path ≤ greatest_calls) (deeper : (live : ℕ) (c : Call) → AllByRecursion IsShallow (inside path live c)) where
@@ -36,8 +32,13 @@ module _ (inside : List ℕ → ℕ → Call → List Event) (path : List ℕ) (
     stmt_shallow live (call at c) = (here, deeper live c)
     stmt_shallow live (if at c a b) = (here, every_append IsShallow (stmt_events inside path live a) (stmt_events inside path live b) (stmt_shallow live a) (stmt_shallow live b))
     stmt_shallow live (loop at c a step) = (here, every_append IsShallow (stmt_events inside path live step) (stmt_events inside path live a) (stmt_shallow live step) (stmt_shallow live a))
-    stmt_shallow live (for init again) =
-        with_init_shallow (items_events inside path live init) (stmt_events inside path (live_behind live init) again) (items_shallow live init) (stmt_shallow (live_behind live init) again)
+    stmt_shallow live (for at init c a step) =
+        let n = live_behind live init in
+        let begin = items_events inside path live init in
+        let turns = stmt_events inside path n step in (
+          here,
+          every_append IsShallow (begin ++ turns) (stmt_events inside path n a) (every_append IsShallow begin turns (items_shallow live init) (stmt_shallow n step)) (stmt_shallow n a),
+        )
     stmt_shallow live (break at) = (here, tt)
     stmt_shallow live (continue at) = (here, tt)
     stmt_shallow live (return at e) = (here, given_shallow live e)

@@ -264,11 +264,11 @@ module _ (P : Program) (T : List Site) (few : AllFew T) (well : IsWellFormed P) 
     fit_one (as_if f n q at c a b g h r q' i d e) l own st fw good =
         seq_fit _ _ fw (point_fit q) (choose_fit q f.here.base c g h (fit_one d l own st fw good.1) (fit_one e l own st fw good.2))
     fit_one (as_loop f n q s g q' d) l own st fw good = fit_loop d l own st good
-    fit_one (as_for f n q init again g h n' r q' d e) l own st fw good =
+    fit_one (as_for f n q at init c a step g h n' r q' d e) l own st fw good =
         let fw' : Few n' = loop_few e in
         let low : n ≤ n' = low_all d in
         seq_fit _ _ fw' (fit_all d false own st fw' good.0)
-        (seq_fit _ _ fw' (fit_loop e false (sites.live_behind own init) (behind_init f n n' own init st low (own_low f.here.base own d st.within)) good.2) (keep_fit q n low))
+        (seq_fit _ _ fw' (fit_loop e false (sites.live_behind own init) (behind_init f n n' own init st low (own_low f.here.base own d st.within)) (good.1, good.2, good.3)) (keep_fit q n low))
     fit_one (as_break f n q at m i k j) l own st fw good = seq_fit _ _ fw (point_fit q) (seq_fit _ _ (omega arith) (keep_fit q m k) (break_fit fw i))
     fit_one (as_continue f n q at m i k j) l own st fw good = seq_fit _ _ fw (point_fit q) (seq_fit _ _ (omega arith) (keep_fit q m k) (continue_fit fw i))
     fit_one (as_return f n q at b i k j) l own st fw good =

@@ -38,7 +38,7 @@ module _ (P : Program) (T : List Site) where
     below_one (as_call f n q at c g q' i d) = (tt, below_gives d (site_below f q n at _ i))
     below_one (as_if f n q at c a b g h r q' i d e) = (tt, (site_below f q n at _ i, below_one d, below_one e))
     below_one (as_loop f n q s g q' d) = (below_loop d).1
-    below_one (as_for f n q init again g h n' r q' d e) = let l = below_loop e in (below_all d, (l.1, l.0))
+    below_one (as_for f n q at init c a step g h n' r q' d e) = let l = below_loop e in (below_all d, (l.1, l.0))
     below_one (as_break f n q at m i l j) = (tt, (site_below f q n at _ j, tt))
     below_one (as_continue f n q at m i l j) = (tt, (site_below f q n at _ j, tt))
     below_one (as_return f n q at b i l j) = (tt, (site_below f q n at _ j, (site_below f q n at _ j, tt)))

@@ -105,7 +105,7 @@ module _ (T : List Site) (k : ℕ) where
           point_then q q' (values_in g k + values_in h k) (checks_in g k + checks_in h k) _ _ (plain f q n at i)
           (then (values_in g k) (checks_in g k) (values_in h k) (checks_in h k) _ _ (suc q) r q' (in_one d) (in_one e) refl refl) refl (omega arith)
       in_one (as_loop f n q s g q' d) = let l = in_loop d in point_then q q' l.others (checks_in g k) _ _ l.own l.rest l.is refl
-      in_one (as_for f n q init again g h n' r q' d e) =
+      in_one (as_for f n q at init c a step g h n' r q' d e) =
           let l = in_loop e in
           point_then q q' (values_in g k + l.others) (checks_in g k + checks_in h k) _ _ l.own
           (then (values_in g k) (checks_in g k) l.others (checks_in h k) _ _ (suc q) r q' (in_all d) l.rest refl refl) (let is = l.is in omega (arith, is)) (omega arith)

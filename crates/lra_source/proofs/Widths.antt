@@ -72,7 +72,7 @@ module _ (T : List Site) where
           let y : Lives T n n h = lives_one e in
           then_lives _ _ (at_point q (live_at T f q n at _ i)) (record { points = (x.points, y.points); behind = x.behind })
       lives_one (as_loop f n q s g q' d) = lives_loop d
-      lives_one (as_for f n q init again g h n' r q' d e) = then_lives _ _ (lives_all d) (then_lives _ _ (lives_loop e) (keeps q n (low_all d)))
+      lives_one (as_for f n q at init c a step g h n' r q' d e) = then_lives _ _ (lives_all d) (then_lives _ _ (lives_loop e) (keeps q n (low_all d)))
       lives_one (as_break f n q at m i l j) = then_lives _ _ (at_point q (live_at T f q n at _ j)) (then_lives _ _ (keeps q m l) (leaves n broken))
       lives_one (as_continue f n q at m i l j) = then_lives _ _ (at_point q (live_at T f q n at _ j)) (then_lives _ _ (keeps q m l) (leaves n continued))
       lives_one (as_return f n q at b i l j) = then_lives _ _ (at_point q (live_at T f q n at _ j)) (returns q (give_any b.target) b.length l refl)

@@ -1,9 +1,9 @@
 -- The labels of a source: its statements, declarators of functions and ends of blocks, in text order; the n-th has the
 -- label n, from 1.
--- A `for` comes in the order of its text: its word, how it begins, its step, its body. A block has no label but at its
--- `}`.
+-- A block has no label but at its `}`.
 use Rattle.std.specs.Prelude.{ℕ, zero, suc, List, [], ◌∷◌, ◌++◌, map, Option, Some, None, slice_get, flat_map}
 use Rattle.lra_base.specs.declared.refusals.Place.{Place}
+use Rattle.lra_base.specs.TextOrder.{for_order}
 use Rattle.lra_tree.specs.declared.trees.Identifier.{Identifier}
 use Rattle.lra_tree.specs.Trees.{SourceTree, expression, result, AssignTree, set, update, after, before, DeclaratorTree}
 use Rattle.lra_tree.specs.Trees.{InitTree, no_init, declared, assigned, StmtTree, block, nothing, assign, call, if_only}
@@ -89,7 +89,7 @@ abbrev mutual
   stmt_labels live (while at c b) = plain_label at live ∷ stmt_labels live b
   stmt_labels live (for at i c e b) =
       let inside = live_in_for live i in
-      plain_label at inside ∷ init_labels live i ++ step_labels inside e ++ stmt_labels inside b
+      for_order (plain_label at inside) (init_labels live i) (step_labels inside e) (stmt_labels inside b)
   stmt_labels live (break at) = plain_label at live ∷ []
   stmt_labels live (continue at) = plain_label at live ∷ []
   stmt_labels live (return at e) = label_with at (called_of e) live ∷ []

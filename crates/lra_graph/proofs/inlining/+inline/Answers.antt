@@ -2,7 +2,7 @@
 use Rattle.std.proofs.Common.{rules, ◌≡◌, ◌+◌, ◌++◌, ◌∷◌, [], map, refl, ap, ◌∙◌, subst, arith, Some, None, Vec, Global, ◌-◌, sym}
 use Rattle.std.proofs.lemmas.Result.{err_from_is_err_and}
 use Rattle.lra_operations.specs.declared.graph.Site.{Site}
-use Rattle.lra_program.specs.Program.{value, result, nothing, block, assign, call, if, loop, for, break, continue, return, assert, assume}
+use Rattle.lra_program.specs.Program.{value, result, nothing, block, assign, call, if, break, continue, return, assert, assume}
 use Rattle.lra_program.specs.Step.{give}
 use Rattle.lra_operations.specs.Graph.{act, seq}
 use Rattle.lra_operations.specs.Inlined.{return_node}
@@ -11,14 +11,13 @@ use Rattle.lra_program.specs.ProgramViews.{slot_view, expr_view, cond_view, call
 use Rattle.lra_operations.specs.GraphViews.{node_view, site_view}
 use Rattle.lra_graph.specs.Limits.{walk, stopped}
 use Rattle.lra_graph.specs.Building.{StmtStands, StopsItem, WritesReturn}
-use Rattle.lra_graph.specs.Inlining.{points_in, program_around, inside, own_events, on_stmt}
+use Rattle.lra_graph.specs.Inlining.{points_in, program_around, inside, own_events, on_stmt, for_of}
 use Rattle.lra_graph.proofs.Walking.{walk_stop}
 use Rattle.lra_graph.proofs.Stopping.{err_ok, err_memory, err_limit, err_stopped, stmt_stopped, second_stopped, middle_stopped, third_stopped, for_too_many, for_at_point, for_at_begin, for_at_round}
-use Rattle.lra_graph.proofs.Handed.{stmt_handed, stmt_limit, loop_limit, for_limit, loop_handed, for_handed, break_handed, continue_handed, any_handed}
+use Rattle.lra_graph.proofs.Handed.{stmt_handed, stmt_limit, loop_limit, loop_handed, break_handed, continue_handed, any_handed}
 use Rattle.lra_graph.proofs.Falling.{part_falls, block_falls, assign_falls, call_falls, if_falls, loop_falls, for_falls, return_falls, step_falls, body_falls, init_falls, again_falls}
-use Rattle.lra_graph.proofs.Seen.{given_seen, given_limit, given_returned, if_seen, stmt_seen, block_seen, for_seen, round_walked, loop_seen, return_seen}
-use Rattle.lra_graph.proofs.ForLoops.{only_loops}
-use Rattle.lra_graph.proofs.Shown.{shown_value, shown_result, shown_empty, shown_act, shown_leave, shown_absent, shown_nothing, shown_block, shown_assign, shown_call, shown_if, shown_loop, shown_for}
+use Rattle.lra_graph.proofs.Seen.{given_seen, given_limit, given_returned, if_seen, stmt_seen, block_seen, return_seen}
+use Rattle.lra_graph.proofs.Shown.{shown_value, shown_result, shown_empty, shown_act, shown_leave, shown_absent, shown_nothing, shown_block, shown_assign, shown_call, shown_if, shown_loop, for_seen}
 use Rattle.lra_graph.proofs.Shown.{shown_return, shown_break, shown_continue, shown_assert, shown_assume, shown_items}
 use Rattle.lra_graph.proofs.Writing.{stmt_as, absent_written, block_written, assign_written, call_written, if_written, rounds_written, fresh_written, given_written, value_written, return_any_written}
 use Rattle.lra_graph.proofs.Writing.{end_any_written, for_written, return_written, return_value_written, return_call_written, end_value_written, end_call_written}
@@ -316,132 +315,107 @@ inline_declared-returns-in_ok-behind-in-Some-clause-written t c =
     rw c.in-Some.is (given_written (program_around here) here.path.now here.frame _ _ c.args.point (here.frame.live + 1) (source_view c.in-Some.source) _ _ (omega arith)
     c.in_ok-given-in-Some.ensures.written c.in_ok-behind-in-Some.ensures)
 
-pub inline_for-returns-in_default-live_inside-clause-limit : goal.inline_for-returns-in_default-live_inside-clause-limit
-inline_for-returns-in_default-live_inside-clause-limit t c =
+pub inline_for-returns-in_default-clause-limit : goal.inline_for-returns-in_default-clause-limit
+inline_for-returns-in_default-clause-limit t c =
     let here = c.args.around.now in
-    stmt_stopped (program_around here) here.path.now here.frame (points_in c.args.sites.now) (for (items_of (map item_view c.args.init.now)) (stmt_view c.args.again.now)) (for (items_of (map
-    item_view c.args.init.now)) (loop c.in-Loop.label (cond_view c.in-Loop.cond) (stmt_view c.in-Loop.body.value) (stmt_view c.in-Loop.step.value))) _ (ap (λ z. for (items_of (map item_view
-    c.args.init.now)) z) (ap stmt_view c.in-Loop.is ∙ shown_loop c.in-Loop.label c.in-Loop.cond c.in-Loop.body c.in-Loop.step)) (for_too_many (program_around here) here.path.now here.frame
-    (points_in c.args.sites.now) (items_of (map item_view c.args.init.now)) c.in-Loop.label (cond_view c.in-Loop.cond) (stmt_view c.in-Loop.body.value) (stmt_view c.in-Loop.step.value)
-    c.in_default-live_inside.ensures)
+    let r = c.args.repeated.now in
+    let b = items_of (map item_view c.args.init.now) in
+    for_too_many (program_around here) here.path.now here.frame (points_in c.args.sites.now) b r.label (cond_view r.cond.now) (stmt_view r.body.now) (stmt_view r.step.now) c.in_default.ensures
 
-pub inline_for-returns-in_err-point-in-Loop-clause-written : goal.inline_for-returns-in_err-point-in-Loop-clause-written
-inline_for-returns-in_err-point-in-Loop-clause-written t c = err_ok c.from_residual.result _ (err_from_is_err_and c.from_residual.result c.from_residual.ensures.1)
+pub inline_for-returns-in_err-point-clause-written : goal.inline_for-returns-in_err-point-clause-written
+inline_for-returns-in_err-point-clause-written t c = err_ok c.from_residual.result _ (err_from_is_err_and c.from_residual.result c.from_residual.ensures.1)
 
-pub inline_for-returns-in_err-point-in-Loop-clause-limit : goal.inline_for-returns-in_err-point-in-Loop-clause-limit
-inline_for-returns-in_err-point-in-Loop-clause-limit t c =
+pub inline_for-returns-in_err-point-clause-limit : goal.inline_for-returns-in_err-point-clause-limit
+inline_for-returns-in_err-point-clause-limit t c =
     let here = c.args.around.now in
-    err_limit c.from_residual.result _ (points_in c.args.sites.now) (points_in c.args.sites.now) (on_stmt here (for (items_of (map item_view c.args.init.now)) (stmt_view c.args.again.now)))
-    (plain_site here.path.now c.in-Loop.label c.in-Some.live ∷ []) c.from_residual.ensures.1 (λ x h. stmt_stopped (program_around here) here.path.now here.frame (points_in c.args.sites.now)
-    (for (items_of (map item_view c.args.init.now)) (stmt_view c.args.again.now)) (for (items_of (map item_view c.args.init.now)) (loop c.in-Loop.label (cond_view c.in-Loop.cond) (stmt_view
-    c.in-Loop.body.value) (stmt_view c.in-Loop.step.value))) (stopped x) (ap (λ z. for (items_of (map item_view c.args.init.now)) z) (ap stmt_view c.in-Loop.is ∙ shown_loop c.in-Loop.label
-    c.in-Loop.cond c.in-Loop.body c.in-Loop.step)) (for_at_point (program_around here) here.path.now here.frame (points_in c.args.sites.now) (items_of (map item_view c.args.init.now))
-    c.in-Loop.label (cond_view c.in-Loop.cond) (stmt_view c.in-Loop.body.value) (stmt_view c.in-Loop.step.value) c.in-Some.live x c.in-Some.ensures h)) c.in_err-point-in-Loop.ensures.limit
+    let r = c.args.repeated.now in
+    let b = items_of (map item_view c.args.init.now) in
+    err_limit c.from_residual.result _ (points_in c.args.sites.now) (points_in c.args.sites.now) (on_stmt here (for_of b r))
+    (plain_site here.path.now r.label c.in-Some.live ∷ []) c.from_residual.ensures.1
+    (λ x h. for_at_point (program_around here) here.path.now here.frame (points_in c.args.sites.now) b r.label (cond_view r.cond.now) (stmt_view r.body.now)
+    (stmt_view r.step.now) c.in-Some.live x c.in-Some.ensures h)
+    c.in_err-point.ensures.limit
 
 pub inline_for-inline_items-requires : goal.inline_for-inline_items-requires
 inline_for-inline_items-requires t c =
-    let here = c.args.around.now in (
-      init_falls (program_around here) here.frame.calls_left t (items_of (map item_view c.args.init.now)) (stmt_view c.args.again.now) c.decreases,
-      (
-        c.requires.well,
-        init_stands
-            (program_around here) here.frame (items_of (map item_view c.args.init.now)) (stmt_view c.args.again.now) c.requires.stands,
-      ),
+    let here = c.args.around.now in
+    let r = c.args.repeated.now in
+    let b = items_of (map item_view c.args.init.now) in (
+      init_falls (program_around here) here.frame.calls_left t b (stmt_view r.body.now) (stmt_view r.step.now) c.decreases,
+      (c.requires.well, init_stands (program_around here) here.frame r.label b (cond_view r.cond.now) (stmt_view r.body.now) (stmt_view r.step.now) c.requires.stands),
     )
 
-pub inline_for-returns-in_err-init-in-Loop-clause-written : goal.inline_for-returns-in_err-init-in-Loop-clause-written
-inline_for-returns-in_err-init-in-Loop-clause-written t c = err_ok c.from_residual-in_err-init-in-Loop.result _
-    (err_from_is_err_and c.from_residual-in_err-init-in-Loop.result c.from_residual-in_err-init-in-Loop.ensures.1)
+pub inline_for-returns-in_err-init-clause-written : goal.inline_for-returns-in_err-init-clause-written
+inline_for-returns-in_err-init-clause-written t c = err_ok c.from_residual-in_err-init.result _ (err_from_is_err_and c.from_residual-in_err-init.result c.from_residual-in_err-init.ensures.1)
 
-pub inline_for-returns-in_err-init-in-Loop-clause-limit : goal.inline_for-returns-in_err-init-in-Loop-clause-limit
-inline_for-returns-in_err-init-in-Loop-clause-limit t c =
+pub inline_for-returns-in_err-init-clause-limit : goal.inline_for-returns-in_err-init-clause-limit
+inline_for-returns-in_err-init-clause-limit t c =
     let here = c.args.around.now in
-    err_limit c.from_residual-in_err-init-in-Loop.result _ (points_in c.args.sites.now) (points_in c.add_point.new.sites) (on_stmt here (for (items_of (map item_view c.args.init.now))
-    (stmt_view c.args.again.now))) (items_events (inside here) here.path.now here.frame.live (items_of (map item_view c.args.init.now))) c.from_residual-in_err-init-in-Loop.ensures.1 (λ x h.
-    stmt_stopped (program_around here) here.path.now here.frame (points_in c.args.sites.now) (for (items_of (map item_view c.args.init.now)) (stmt_view c.args.again.now)) (for (items_of (map
-    item_view c.args.init.now)) (loop c.in-Loop.label (cond_view c.in-Loop.cond) (stmt_view c.in-Loop.body.value) (stmt_view c.in-Loop.step.value))) (stopped x) (ap (λ z. for (items_of (map
-    item_view c.args.init.now)) z) (ap stmt_view c.in-Loop.is ∙ shown_loop c.in-Loop.label c.in-Loop.cond c.in-Loop.body c.in-Loop.step)) (for_at_begin (program_around here) here.path.now
-    here.frame (points_in c.args.sites.now) (items_of (map item_view c.args.init.now)) c.in-Loop.label (cond_view c.in-Loop.cond) (stmt_view c.in-Loop.body.value) (stmt_view
-    c.in-Loop.step.value) (points_in c.add_point.new.sites) c.in-Some.live x c.in-Some.ensures c.in_ok-point-in-Loop.ensures.walked h)) c.in_err-init-in-Loop.ensures.limit
+    let r = c.args.repeated.now in
+    let b = items_of (map item_view c.args.init.now) in
+    err_limit c.from_residual-in_err-init.result _ (points_in c.args.sites.now) (points_in c.add_point.new.sites) (on_stmt here (for_of b r))
+    (items_events (inside here) here.path.now here.frame.live b)
+    c.from_residual-in_err-init.ensures.1
+    (λ x h. for_at_begin (program_around here) here.path.now here.frame (points_in c.args.sites.now) b r.label (cond_view r.cond.now) (stmt_view r.body.now) (stmt_view r.step.now)
+    (points_in c.add_point.new.sites)
+    c.in-Some.live x c.in-Some.ensures c.in_ok-point.ensures.walked h)
+    c.in_err-init.ensures.limit
 
 pub inline_for-inline_loop-requires : goal.inline_for-inline_loop-requires
 inline_for-inline_loop-requires t c =
-    let here = c.args.around.now in (
-      again_falls (program_around here) here.frame.calls_left t (items_of (map item_view c.args.init.now)) (stmt_view c.args.again.now) c.in-Loop.label (cond_view c.in-Loop.cond) (stmt_view
-          c.in-Loop.body.value) (stmt_view c.in-Loop.step.value) (stmt_view c.deref.result.now) (stmt_view c.deref-in-Loop.result.now) c.decreases (ap stmt_view c.in-Loop.is ∙ shown_loop
-          c.in-Loop.label c.in-Loop.cond c.in-Loop.body c.in-Loop.step) (ap stmt_view c.deref.ensures) (ap stmt_view c.deref-in-Loop.ensures),
+    let here = c.args.around.now in
+    let r = c.args.repeated.now in
+    let b = items_of (map item_view c.args.init.now) in
+    let frame = record here.frame { live = c.in-Some.live } in
+    let again =
+    for_again (program_around here) here.frame r.label b (cond_view r.cond.now) (stmt_view r.body.now) (stmt_view r.step.now) c.in-Some.live c.in-Some.ensures c.requires.stands in (
+      again_falls (program_around here) here.frame.calls_left t b (stmt_view r.body.now) (stmt_view r.step.now) c.decreases,
       (
         c.requires.well,
         (
-          stmt_seen (program_around here)
-              (record here.frame { live = c.in-Some.live; loop_length = Some c.in-Some.live }) (stmt_view c.in-Loop.body.value) (stmt_view c.deref.result.now) (ap stmt_view c.deref.ensures)
-              (body_stands (program_around here) (record here.frame { live = c.in-Some.live }) c.in-Loop.label (cond_view c.in-Loop.cond) (stmt_view c.in-Loop.body.value) (stmt_view
-              c.in-Loop.step.value) (for_again (program_around here) here.frame (items_of (map item_view c.args.init.now)) c.in-Loop.label (cond_view c.in-Loop.cond) (stmt_view c.in-Loop.body.value)
-              (stmt_view c.in-Loop.step.value) c.in-Some.live c.in-Some.ensures (subst (λ z. StmtStands (program_around here) here.frame (for (items_of (map item_view c.args.init.now)) z)) (ap
-              stmt_view c.in-Loop.is ∙ shown_loop c.in-Loop.label c.in-Loop.cond c.in-Loop.body c.in-Loop.step) c.requires.stands))),
-          stmt_seen (program_around here) (record here.frame {
-            live =
-                c.in-Some.live;
-            loop_length = None;
-          }) (stmt_view c.in-Loop.step.value) (stmt_view c.deref-in-Loop.result.now) (ap stmt_view c.deref-in-Loop.ensures) (step_stands (program_around here)
-              (record here.frame { live = c.in-Some.live }) c.in-Loop.label (cond_view c.in-Loop.cond) (stmt_view c.in-Loop.body.value) (stmt_view c.in-Loop.step.value) (for_again (program_around
-              here) here.frame (items_of (map item_view c.args.init.now)) c.in-Loop.label (cond_view c.in-Loop.cond) (stmt_view c.in-Loop.body.value) (stmt_view c.in-Loop.step.value) c.in-Some.live
-              c.in-Some.ensures (subst (λ z. StmtStands (program_around here) here.frame (for (items_of (map item_view c.args.init.now)) z)) (ap stmt_view c.in-Loop.is ∙ shown_loop c.in-Loop.label
-              c.in-Loop.cond c.in-Loop.body c.in-Loop.step) c.requires.stands))),
+          body_stands (program_around here) frame r.label (cond_view r.cond.now) (stmt_view r.body.now) (stmt_view r.step.now) again,
+          step_stands (program_around here) frame r.label (cond_view r.cond.now) (stmt_view r.body.now) (stmt_view r.step.now) again,
         ),
       ),
     )
 
-pub inline_for-returns-in_err-again-in-Loop-clause-written : goal.inline_for-returns-in_err-again-in-Loop-clause-written
-inline_for-returns-in_err-again-in-Loop-clause-written t c = err_ok c.from_residual-in_err-again-in-Loop.result _
-    (err_from_is_err_and c.from_residual-in_err-again-in-Loop.result c.from_residual-in_err-again-in-Loop.ensures.1)
+pub inline_for-returns-in_err-again-clause-written : goal.inline_for-returns-in_err-again-clause-written
+inline_for-returns-in_err-again-clause-written t c = err_ok c.from_residual-in_err-again.result _ (err_from_is_err_and c.from_residual-in_err-again.result c.from_residual-in_err-again.ensures.1)
 
-pub inline_for-returns-in_err-again-in-Loop-clause-limit : goal.inline_for-returns-in_err-again-in-Loop-clause-limit
-inline_for-returns-in_err-again-in-Loop-clause-limit t c =
+pub inline_for-returns-in_err-again-clause-limit : goal.inline_for-returns-in_err-again-clause-limit
+inline_for-returns-in_err-again-clause-limit t c =
     let here = c.args.around.now in
-    err_limit c.from_residual-in_err-again-in-Loop.result _ (points_in c.args.sites.now) (points_in c.inline_items.new.sites) (on_stmt here (for (items_of (map item_view c.args.init.now))
-    (stmt_view c.args.again.now))) (stmt_events (inside here) here.path.now c.in-Some.live (stmt_view c.deref-in-Loop.result.now) ++ stmt_events (inside here) here.path.now c.in-Some.live
-    (stmt_view c.deref.result.now)) c.from_residual-in_err-again-in-Loop.ensures.1 (λ x h. stmt_stopped (program_around here) here.path.now here.frame (points_in c.args.sites.now) (for
-    (items_of (map item_view c.args.init.now)) (stmt_view c.args.again.now)) (for (items_of (map item_view c.args.init.now)) (loop c.in-Loop.label (cond_view c.in-Loop.cond) (stmt_view
-    c.in-Loop.body.value) (stmt_view c.in-Loop.step.value))) (stopped x) (ap (λ z. for (items_of (map item_view c.args.init.now)) z) (ap stmt_view c.in-Loop.is ∙ shown_loop c.in-Loop.label
-    c.in-Loop.cond c.in-Loop.body c.in-Loop.step)) (for_at_round (program_around here) here.path.now here.frame (points_in c.args.sites.now) (items_of (map item_view c.args.init.now))
-    c.in-Loop.label (cond_view c.in-Loop.cond) (stmt_view c.in-Loop.body.value) (stmt_view c.in-Loop.step.value) (points_in c.add_point.new.sites) (points_in c.inline_items.new.sites)
-    c.in-Some.live x c.in-Some.ensures c.in_ok-point-in-Loop.ensures.walked c.in_ok-init-in-Loop.ensures.written.walked (round_walked (program_around here) here.frame here.path.now
-    (points_in c.inline_items.new.sites) (stopped x) c.in-Some.live (stmt_view c.in-Loop.body.value) (stmt_view c.deref.result.now) (stmt_view c.in-Loop.step.value) (stmt_view
-    c.deref-in-Loop.result.now) (ap stmt_view c.deref.ensures) (ap stmt_view c.deref-in-Loop.ensures) h))) c.in_err-again-in-Loop.ensures.limit
+    let r = c.args.repeated.now in
+    let b = items_of (map item_view c.args.init.now) in
+    let step = stmt_events (inside here) here.path.now c.in-Some.live (stmt_view r.step.now) in
+    let body = stmt_events (inside here) here.path.now c.in-Some.live (stmt_view r.body.now) in
+    err_limit c.from_residual-in_err-again.result _ (points_in c.args.sites.now) (points_in c.inline_items.new.sites) (on_stmt here (for_of b r)) (step ++ body) c.from_residual-in_err-again.ensures.1
+    (λ x h. for_at_round (program_around here) here.path.now here.frame (points_in c.args.sites.now) b r.label (cond_view r.cond.now) (stmt_view r.body.now) (stmt_view r.step.now)
+    (points_in c.add_point.new.sites)
+    (points_in c.inline_items.new.sites) c.in-Some.live x c.in-Some.ensures c.in_ok-point.ensures.walked c.in_ok-init.ensures.written.walked h)
+    c.in_err-again.ensures.limit
 
-pub inline_for-returns-in_err-rest-in-Loop-clause-written : goal.inline_for-returns-in_err-rest-in-Loop-clause-written
-inline_for-returns-in_err-rest-in-Loop-clause-written t c = err_ok c.from_residual-in_err-rest-in-Loop.result _
-    (err_from_is_err_and c.from_residual-in_err-rest-in-Loop.result c.from_residual-in_err-rest-in-Loop.ensures.1)
+pub inline_for-returns-in_err-rest-clause-written : goal.inline_for-returns-in_err-rest-clause-written
+inline_for-returns-in_err-rest-clause-written t c = err_ok c.from_residual-in_err-rest.result _ (err_from_is_err_and c.from_residual-in_err-rest.result c.from_residual-in_err-rest.ensures.1)
 
-pub inline_for-returns-in_err-rest-in-Loop-clause-limit : goal.inline_for-returns-in_err-rest-in-Loop-clause-limit
-inline_for-returns-in_err-rest-in-Loop-clause-limit t c = err_memory c.from_residual-in_err-rest-in-Loop.result _ c.from_residual-in_err-rest-in-Loop.ensures.1
+pub inline_for-returns-in_err-rest-clause-limit : goal.inline_for-returns-in_err-rest-clause-limit
+inline_for-returns-in_err-rest-clause-limit t c = err_memory c.from_residual-in_err-rest.result _ c.from_residual-in_err-rest.ensures.1
 
-pub inline_for-returns-in_err-in_turn-in-Loop-clause-written : goal.inline_for-returns-in_err-in_turn-in-Loop-clause-written
-inline_for-returns-in_err-in_turn-in-Loop-clause-written t c = err_ok c.from_residual-in_err-in_turn-in-Loop.result _
-    (err_from_is_err_and c.from_residual-in_err-in_turn-in-Loop.result c.from_residual-in_err-in_turn-in-Loop.ensures.1)
+pub inline_for-returns-in_err-in_turn-clause-written : goal.inline_for-returns-in_err-in_turn-clause-written
+inline_for-returns-in_err-in_turn-clause-written t c = err_ok c.from_residual-in_err-in_turn.result _
+    (err_from_is_err_and c.from_residual-in_err-in_turn.result c.from_residual-in_err-in_turn.ensures.1)
 
-pub inline_for-returns-in_err-in_turn-in-Loop-clause-limit : goal.inline_for-returns-in_err-in_turn-in-Loop-clause-limit
-inline_for-returns-in_err-in_turn-in-Loop-clause-limit t c = err_memory c.from_residual-in_err-in_turn-in-Loop.result _ c.from_residual-in_err-in_turn-in-Loop.ensures.1
-
-pub inline_for-unreachable-requires : goal.inline_for-unreachable-requires
-inline_for-unreachable-requires t c = only_loops c.args.again.now c.requires.stands.good.1 c.in_default.not-Loop
-
-pub inline_for-unreachable-unreachable : goal.inline_for-unreachable-unreachable
-inline_for-unreachable-unreachable t c = only_loops c.args.again.now c.requires.stands.good.1 c.in_default.not-Loop
+pub inline_for-returns-in_err-in_turn-clause-limit : goal.inline_for-returns-in_err-in_turn-clause-limit
+inline_for-returns-in_err-in_turn-clause-limit t c = err_memory c.from_residual-in_err-in_turn.result _ c.from_residual-in_err-in_turn.ensures.1
 
 pub inline_for-returns-clause-written : goal.inline_for-returns-clause-written
 inline_for-returns-clause-written t c =
     let here = c.args.around.now in
-    stmt_as (program_around here) here.path.now here.frame _ _ (for (items_of (map item_view c.args.init.now)) (stmt_view c.args.again.now)) (for (items_of (map item_view c.args.init.now))
-    (loop c.in-Loop.label (cond_view c.in-Loop.cond) (stmt_view c.in-Loop.body.value) (stmt_view c.in-Loop.step.value))) _ _ (ap (λ z. for (items_of (map item_view c.args.init.now)) z) (ap
-    stmt_view c.in-Loop.is ∙ shown_loop c.in-Loop.label c.in-Loop.cond c.in-Loop.body c.in-Loop.step)) refl (for_written (program_around here) here.path.now here.frame _ _ _ _
-    c.in_ok-point-in-Loop.point c.in-Loop.label c.in-Some.live (items_of (map item_view c.args.init.now)) (cond_view c.in-Loop.cond) (stmt_view c.in-Loop.body.value) (stmt_view
-    c.in-Loop.step.value) _ _ _ _ c.in_ok-point-in-Loop.ensures.number c.in-Some.ensures c.in_ok-point-in-Loop.ensures.walked c.in_ok-init-in-Loop.ensures.written (loop_seen (program_around
-    here) here.path.now (record here.frame { live = c.in-Some.live }) _ _ c.in_ok-point-in-Loop.point (cond_view c.in-Loop.cond) (stmt_view c.in-Loop.body.value) (stmt_view
-    c.deref.result.now) (stmt_view c.in-Loop.step.value) (stmt_view c.deref-in-Loop.result.now) _ (ap stmt_view c.deref.ensures) (ap stmt_view c.deref-in-Loop.ensures)
-    c.in_ok-again-in-Loop.ensures.written) (c.in_ok-rest-in-Loop.ensures ∙ ap (λ z. seq (node_view c.in_ok-again-in-Loop.again) z) (shown_act c.in_ok-point-in-Loop.point _))
-    c.in_ok-in_turn-in-Loop.ensures)
+    let r = c.args.repeated.now in
+    let b = items_of (map item_view c.args.init.now) in
+    for_written (program_around here) here.path.now here.frame _ _ _ _ c.in_ok-point.point r.label c.in-Some.live b (cond_view r.cond.now) (stmt_view r.body.now) (stmt_view r.step.now) _ _ _ _
+    c.in_ok-point.ensures.number c.in-Some.ensures c.in_ok-point.ensures.walked c.in_ok-init.ensures.written c.in_ok-again.ensures.written
+    (c.in_ok-rest.ensures ∙ ap (λ z. seq (node_view c.in_ok-again.again) z) (shown_act c.in_ok-point.point _)) c.in_ok-in_turn.ensures
 
 pub inline_loop-inline_stmt-requires : goal.inline_loop-inline_stmt-requires
 inline_loop-inline_stmt-requires t c =
@@ -1148,32 +1122,30 @@ inline_stmt-returns-in_ok-point-in-Loop-clause-limit t c =
 
 pub inline_stmt-inline_for-requires : goal.inline_stmt-inline_for-requires
 inline_stmt-inline_for-requires t c =
-    let here = c.args.around.now in (
-      for_falls (program_around here) here.frame.calls_left t (stmt_view c.args.stmt.now) (items_of (map item_view c.in-For.init.items.items)) (items_of (map item_view
-          c.deref-in-For.result.now)) (stmt_view c.in-For.again.value) (stmt_view c.deref-in-For-2.result.now) c.decreases (ap stmt_view c.in-For.is ∙ shown_for c.in-For.init c.in-For.again) (ap
-          (λ z. items_of (map item_view z)) c.deref-in-For.ensures.value) (ap stmt_view c.deref-in-For-2.ensures),
-      (
-        c.requires.well,
-        for_seen (program_around here) here.frame (items_of (map
-            item_view c.in-For.init.items.items)) (items_of (map item_view c.deref-in-For.result.now)) (stmt_view c.in-For.again.value) (stmt_view c.deref-in-For-2.result.now) (ap (λ z. items_of
-            (map item_view z)) c.deref-in-For.ensures.value) (ap stmt_view c.deref-in-For-2.ensures) (subst (StmtStands (program_around here) here.frame) (ap stmt_view c.in-For.is ∙ shown_for
-            c.in-For.init c.in-For.again) c.requires.stands),
-      ),
+    let here = c.args.around.now in
+    let is =
+    for_seen c.args.stmt.now c.in-For.label c.in-For.init c.in-For.cond c.in-For.body c.in-For.step c.deref-in-For-3.result.now c.deref-in-For.result.now c.deref-in-For-2.result.now
+    c.in-For.is c.deref-in-For-3.ensures.value c.deref-in-For.ensures c.deref-in-For-2.ensures in (
+      for_falls (program_around here) here.frame.calls_left t (stmt_view c.args.stmt.now) c.in-For.label (items_of (map item_view c.deref-in-For-3.result.now)) (cond_view c.in-For.cond)
+          (stmt_view c.deref-in-For.result.now) (stmt_view c.deref-in-For-2.result.now) c.decreases is,
+      (c.requires.well, subst (StmtStands (program_around here) here.frame) is c.requires.stands),
     )
 
 pub inline_stmt-returns-in-For-clause-written : goal.inline_stmt-returns-in-For-clause-written
 inline_stmt-returns-in-For-clause-written t c =
     let here = c.args.around.now in
-    for_handed (program_around here) here.path.now here.frame (points_in c.args.sites.now) c.inline_for.result node_view _ (stmt_view c.args.stmt.now) (items_of (map item_view
-    c.in-For.init.items.items)) (items_of (map item_view c.deref-in-For.result.now)) (stmt_view c.in-For.again.value) (stmt_view c.deref-in-For-2.result.now) (ap stmt_view c.in-For.is ∙
-    shown_for c.in-For.init c.in-For.again) (ap (λ z. items_of (map item_view z)) c.deref-in-For.ensures.value) (ap stmt_view c.deref-in-For-2.ensures) c.inline_for.ensures.written
+    let is =
+    for_seen c.args.stmt.now c.in-For.label c.in-For.init c.in-For.cond c.in-For.body c.in-For.step c.deref-in-For-3.result.now c.deref-in-For.result.now c.deref-in-For-2.result.now
+    c.in-For.is c.deref-in-For-3.ensures.value c.deref-in-For.ensures c.deref-in-For-2.ensures in
+    stmt_handed (program_around here) here.path.now here.frame (points_in c.args.sites.now) c.inline_for.result node_view _ (stmt_view c.args.stmt.now) _ is c.inline_for.ensures.written
 
 pub inline_stmt-returns-in-For-clause-limit : goal.inline_stmt-returns-in-For-clause-limit
 inline_stmt-returns-in-For-clause-limit t c =
     let here = c.args.around.now in
-    for_limit (program_around here) here.path.now here.frame (points_in c.args.sites.now) c.inline_for.result (stmt_view c.args.stmt.now) (items_of (map item_view c.in-For.init.items.items))
-    (items_of (map item_view c.deref-in-For.result.now)) (stmt_view c.in-For.again.value) (stmt_view c.deref-in-For-2.result.now) (ap stmt_view c.in-For.is ∙ shown_for c.in-For.init
-    c.in-For.again) (ap (λ z. items_of (map item_view z)) c.deref-in-For.ensures.value) (ap stmt_view c.deref-in-For-2.ensures) c.inline_for.ensures.limit
+    let is =
+    for_seen c.args.stmt.now c.in-For.label c.in-For.init c.in-For.cond c.in-For.body c.in-For.step c.deref-in-For-3.result.now c.deref-in-For.result.now c.deref-in-For-2.result.now
+    c.in-For.is c.deref-in-For-3.ensures.value c.deref-in-For.ensures c.deref-in-For-2.ensures in
+    stmt_limit (program_around here) here.path.now here.frame (points_in c.args.sites.now) c.inline_for.result (stmt_view c.args.stmt.now) _ is c.inline_for.ensures.limit
 
 pub inline_stmt-leave_loop-requires : goal.inline_stmt-leave_loop-requires
 inline_stmt-leave_loop-requires t c =

@@ -28,7 +28,9 @@ abbrev pub decreases-inline_loop : goal.decreases-inline_loop
 decreases-inline_loop l = weight (program_around l.around.now) l.around.now.frame.calls_left (1 + (size_stmt (stmt_view l.body.now) + size_stmt (stmt_view l.step.now)))
 
 abbrev pub decreases-inline_for : goal.decreases-inline_for
-decreases-inline_for l = weight (program_around l.around.now) l.around.now.frame.calls_left (1 + (size_items (items_of (map item_view l.init.now)) + size_stmt (stmt_view l.again.now)))
+decreases-inline_for l =
+    let rest = size_stmt (stmt_view l.repeated.now.body.now) + size_stmt (stmt_view l.repeated.now.step.now) in
+    weight (program_around l.around.now) l.around.now.frame.calls_left (2 + (size_items (items_of (map item_view l.init.now)) + rest))
 
 abbrev pub decreases-inline_block : goal.decreases-inline_block
 decreases-inline_block l = weight (program_around l.around.now) l.around.now.frame.calls_left (1 + size_items (items_of (map item_view l.items.now)))
