@@ -19,7 +19,7 @@ use Rattle.lra_operations.specs.Agree.{IsGraph, Agrees}
 use Rattle.lra_program.specs.WellFormed.{IsWellFormed}
 use Rattle.lra_tree.specs.Grammar.{Spells}
 use Rattle.lra_base.specs.declared.options.Domain.{Domain}
-use Rattle.lra_base.specs.declared.options.Domain.TheVariants.{Box, Oct}
+use Rattle.lra_base.specs.declared.options.Domain.TheVariants.{Poly, Box, Oct}
 use Rattle.lra_base.specs.declared.options.Options.{Options}
 use Rattle.lra_findings.specs.Report.{State, Report}
 use Rattle.lra_meaning.specs.Refuse.{limit_fault, RefusesTree, bad_name, recursive, past_limit, Refuse, Accepts}
@@ -39,6 +39,8 @@ use Rattle.lra_domain.specs.Meaning.{Meaning}
 use Rattle.lra_domain.specs.Laws.{Laws}
 use Rattle.lra_box.specs.Meaning.{box_meaning}
 use Rattle.lra_oct.specs.Meaning.{octagon_meaning}
+use Rattle.lra_polydom.specs.Meaning.{polyhedron_meaning}
+use Rattle.lra_states.specs.Polyhedra.{shown_polyhedron}
 use Rattle.lra_states.specs.Shown.{shown_state}
 use Rattle.lra_source.specs.Analysed.{IsAnalysed}
 use Rattle.lra_source.specs.Answers.{IsAnsweredOver, TellsAnalysis, IsAnswered}
@@ -160,6 +162,11 @@ told_over m shown d o source r is tells over = record {
   analysed = subst (λ (e : Domain). TellsAnalysis e o (resolve over.report.tree) r) (sym is) (tells (resolve over.report.tree) over.analysed);
   readable = over.readable;
 }
+
+pub over_polyhedra : (o : Options) (source : List ℕ) (x : Result code.Report SourceError) → o.domain ≡ Poly → IfOk x (λ r. IsAnsweredOver polyhedron_meaning shown_polyhedron o source (report_of r))
+    → IfOk x (λ r. IsAnswered o source (report_of r))
+over_polyhedra o source (Ok r) is over = told_over polyhedron_meaning shown_polyhedron Poly o source (report_of r) is (λ P h. h) over
+over_polyhedra o source (Err e) is over = tt
 
 pub over_boxes : (o : Options) (source : List ℕ) (x : Result code.Report SourceError) → o.domain ≡ Box → IfOk x (λ r. IsAnsweredOver box_meaning (shown_state box_meaning) o source (report_of r)) →
     IfOk x (λ r. IsAnswered o source (report_of r))

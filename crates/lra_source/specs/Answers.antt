@@ -1,5 +1,4 @@
--- What a source deserves: its one refusal (`Refuse`), or a report of it that tells the analysis; over boxes and
--- octagons today.
+-- What a source deserves: its one refusal (`Refuse`), or a report of it that tells the analysis.
 use Rattle.std.specs.Prelude.{ℕ, List}
 use Rattle.lra_base.specs.declared.options.Domain.{Domain}
 use Rattle.lra_base.specs.declared.options.Domain.TheVariants.{Poly, Box, Oct}
@@ -13,6 +12,8 @@ use Rattle.lra_report.specs.Spelled.{IsReadable}
 use Rattle.lra_domain.specs.Meaning.{Meaning}
 use Rattle.lra_box.specs.Meaning.{box_meaning}
 use Rattle.lra_oct.specs.Meaning.{octagon_meaning}
+use Rattle.lra_polydom.specs.Meaning.{polyhedron_meaning}
+use Rattle.lra_states.specs.Polyhedra.{shown_polyhedron}
 use Rattle.lra_states.specs.Shown.{shown_state}
 use Rattle.lra_source.specs.Analysed.{IsAnalysed}
 
@@ -24,9 +25,9 @@ pub record IsAnsweredOver {V H : Type 0} (m : Meaning V H) (shown : V → State)
   pub analysed : IsAnalysed m shown o (resolve report.tree) r
   pub readable : IsReadable r
 
--- what is said of this domain's meaning, and of the states that show its values; polyhedra are to come
+-- what is said of this domain's meaning, and of the states that show its values
 abbrev pub Over : Domain → ((V H : Type 0) → Meaning V H → (V → State) → Type 0) → Type 0
-Over Poly say = ⊥
+Over Poly say = say _ _ polyhedron_meaning shown_polyhedron
 Over Box say = say _ _ box_meaning (shown_state box_meaning)
 Over Oct say = say _ _ octagon_meaning (shown_state octagon_meaning)
 

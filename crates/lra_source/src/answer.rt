@@ -1,6 +1,6 @@
 //! From the bytes of a source to its report, or to its one refusal.
 
-ghost use Rattle.std.specs.Prelude.{◌≡◌, ◌≢◌, ◌≤◌, ◌<◌, ◌+◌, ◌^◌, [], length, map, IfOk};
+ghost use Rattle.std.specs.Prelude.{◌≡◌, ◌≤◌, ◌<◌, ◌+◌, ◌^◌, [], length, map, IfOk};
 ghost use Rattle.lra_base.specs.Refused.{IfRefused};
 ghost use Rattle.lra_tree.specs.Views.{tree_view};
 ghost use Rattle.lra_operations.specs.GraphViews.{node_view, site_view};
@@ -11,19 +11,19 @@ ghost use Rattle.lra_program.specs.WellFormed.{IsWellFormed};
 ghost use Rattle.lra_tree.specs.Grammar.{Spells};
 ghost use Rattle.lra_meaning.specs.Refuse.{RefusesTree, Refuse};
 ghost use Rattle.lra_report.specs.View.{report_of};
-ghost use Rattle.lra_base.specs.declared.options.Domain.TheVariants.{Poly};
 ghost use Rattle.lra_source.specs.Answers.{IsAnsweredOver, IsAnswered};
 ghost use Rattle.lra_source.specs.Stages.{HasGraph, IsToldOf};
 
 use crate::program::{graph_of, program_of};
 use crate::reading::read_tree;
-use lra_base::{Options, SourceError};
+use lra_base::{Domain, Options, SourceError};
 use lra_box::Boxes;
 use lra_iter::analyse;
 use lra_listing::{Outline, list};
 use lra_meaning::Labels;
 use lra_oct::Octagon;
 use lra_operations::Graph;
+use lra_polydom::Polyhedron;
 use lra_report::Report;
 use lra_states::{Show, states_of};
 use lra_tree::Tree;
@@ -102,19 +102,18 @@ fn analyse_over<D: Show>(
     report_tree::<D>(alloc, options, &tree)
 }
 
-/// The report of a source over the domain that the options name, boxes or octagons, or its one refusal; memory may be
-/// wanting. A source past the limit of 65,536 bytes is refused by its first bytes, so that no more than one byte past
-/// the limit need be given.
+/// The report of a source over the domain that the options name, or its one refusal; memory may be wanting. A source
+/// past the limit of 65,536 bytes is refused by its first bytes, so that no more than one byte past the limit need be
+/// given.
 pub fn analyse_source(alloc: Global, options: Options, bytes: &[u8]) -> Result<Report, SourceError>
-    requires domain { options.domain ≢ Poly }
     requires parts { 1 ≤ options.parts }
     requires bound { length bytes.now + 1 < 2 ^ 32 }
     ensures answered { IfOk result (λ r. IsAnswered options bytes.now (report_of r)) }
     ensures refused { IfRefused result (λ r. Refuse Spells bytes.now r.cause r.place) }
 {
     match options.domain {
-        lra_base::Domain::Poly => unreachable!(),
-        lra_base::Domain::Box => analyse_over::<Boxes>(alloc, options, bytes),
-        lra_base::Domain::Oct => analyse_over::<Octagon>(alloc, options, bytes),
+        Domain::Poly => analyse_over::<Polyhedron>(alloc, options, bytes),
+        Domain::Box => analyse_over::<Boxes>(alloc, options, bytes),
+        Domain::Oct => analyse_over::<Octagon>(alloc, options, bytes),
     }
 }
