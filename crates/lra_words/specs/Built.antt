@@ -1,14 +1,13 @@
 -- Which commands are carried out, and what words ask for. A later stage changes the line of what it adds.
-use Rattle.std.specs.Prelude.{◌≡◌, ◌≢◌, ◌⊎◌, ⊤, false, List, Option, Some, None}
+use Rattle.std.specs.Prelude.{◌≡◌, ◌⊎◌, ⊤, false, List, Option, Some, None}
 use Rattle.clap.specs.Words.{Text}
-use Rattle.lra_base.specs.declared.options.Domain.TheVariants.{Poly}
 use Rattle.lra_base.specs.declared.options.Options.{Options}
 use Rattle.lra_words.specs.Chosen.{IsRefused, IsTakenAs}
 use Rattle.lra_words.specs.declared.chosen.Command.{Command}
 use Rattle.lra_words.specs.declared.chosen.Command.TheVariants.{Analyse, Sample, Calc}
 
 abbrev pub HasBuiltOptions : Options → Type 0
-HasBuiltOptions options = (options.domain ≢ Poly) × (options.parts ≡ 1)
+HasBuiltOptions options = options.parts ≡ 1
 
 abbrev pub IsBuilt : Command → Type 0
 IsBuilt (Analyse options json) = HasBuiltOptions options × (json ≡ false)

@@ -1,7 +1,7 @@
 //! The commands that words can choose.
 ghost use Rattle.std.specs.Prelude.{◌↔◌, IsTrue};
 
-use lra_base::{Domain, Options};
+use lra_base::Options;
 
 /// What the words ask for.
 #[derive(Clone, Copy, PartialEq, Debug)]
@@ -22,9 +22,7 @@ impl Command {
         ensures { IsTrue result ↔ IsBuilt self.now }
     {
         match self {
-            Command::Analyse { options, json } => {
-                !matches!(options.domain, Domain::Poly) && options.parts == 1 && !*json
-            }
+            Command::Analyse { options, json } => options.parts == 1 && !*json,
             Command::Sample { .. } => false,
             Command::Calc => true,
         }
