@@ -1,0 +1,23 @@
+#include "analysed.h"
+
+/* Two queues in a row: what enters the first one goes over to the second, and leaves it. */
+int main(void) {
+  long first = 0, second = 0, entered = 0, left = 0;
+  while (input()) {
+    if (input()) {
+      entered = entered + 1;
+      first = first + 1;
+    } else if (input()) {
+      if (first >= 1) {
+        first = first - 1;
+        second = second + 1;
+      }
+    } else if (second >= 1) {
+      second = second - 1;
+      left = left + 1;
+    }
+    assert(first >= 0 && second >= 0);
+    assert(entered == first + second + left);
+    assert(left <= entered);
+  }
+}
