@@ -7,4 +7,6 @@
 #[cfg(test)]
 mod calc;
 #[cfg(test)]
+mod polyhedra;
+#[cfg(test)]
 mod top;

@@ -7,12 +7,12 @@ const BOXES: &str = "lra analyse --domain box";
 const OCTAGONS: &str = "lra analyse --domain oct";
 
 /// No read and no write fails.
-const SOUND: (u64, u64) = (0, 0);
+pub const SOUND: (u64, u64) = (0, 0);
 
 /// A text, and so many copies of a second one between it and a third.
-type Pieces = (&'static str, &'static str, usize, &'static str);
+pub type Pieces = (&'static str, &'static str, usize, &'static str);
 
-const PROVED: Pieces = (
+pub const PROVED: Pieces = (
     "int main(void){ long x; x = 3; assert(x >= 3); }",
     "",
     0,
@@ -117,7 +117,7 @@ verdicts proved 1 unknown 1
 ";
 
 /// An endless loop: behind it nothing is reached.
-const ENDLESS: Pieces = ("int main(void){ while(1){} assert(0); }", "", 0, "");
+pub const ENDLESS: Pieces = ("int main(void){ while(1){} assert(0); }", "", 0, "");
 
 const ENDLESS_REPORT: &str = "analysis box parts 1 delay 1 narrow 1 limited no
 flagged 0
@@ -134,7 +134,7 @@ verdicts proved 1 unknown 0
 ";
 
 /// A loop that counts to ten.
-const COUNTING: Pieces = ("int main(void){ long i=0; while(i<10) i=i+1; }", "", 0, "");
+pub const COUNTING: Pieces = ("int main(void){ long i=0; while(i<10) i=i+1; }", "", 0, "");
 
 /// A loop in a loop, which is left by `break` and by `return`.
 const NESTED: Pieces = (
@@ -194,14 +194,14 @@ static ANSWERS: [(&str, Pieces, (u64, u64), Status, &str); 33] = [
         "refused usage\n",
     ),
     (
-        "lra analyse",
+        "lra analyse --parts 2",
         PROVED,
         (1, 0),
         Status::Usage,
         "refused usage\n",
     ),
     (
-        "lra analyse --domain poly",
+        "lra analyse --json",
         PROVED,
         (1, 0),
         Status::Usage,
@@ -1090,7 +1090,7 @@ static OCTAGON_LINES: [(Pieces, &str); 4] = [
 ];
 
 /// The copies of the second text between the first and the third.
-fn joined(rt: &HostRuntime, (before, middle, count, after): Pieces) -> Result<String, Fail> {
+pub fn joined(rt: &HostRuntime, (before, middle, count, after): Pieces) -> Result<String, Fail> {
     let mut text = String::from_str(rt.alloc(), before)?;
     for _ in 0..count {
         text.push_str(middle)?;
@@ -1100,18 +1100,29 @@ fn joined(rt: &HostRuntime, (before, middle, count, after): Pieces) -> Result<St
 }
 
 /// What `run` does over memory, ten bytes a call: its status, and what the sink then holds.
-fn ended(
+pub fn ended(
+    rt: &HostRuntime,
+    words: &str,
+    source: &[u8],
+    fails: (u64, u64),
+) -> Result<(Status, String), Fail> {
+    ended_within(rt, words, source, fails, 200_000)
+}
+
+/// The same with a sink that has room for so many bytes.
+pub fn ended_within(
     rt: &HostRuntime,
     words: &str,
     source: &[u8],
     (read, write): (u64, u64),
+    room: usize,
 ) -> Result<(Status, String), Fail> {
     let mut all = Vec::new(rt.alloc());
     for word in words.split(' ') {
         all.push(String::from_str(rt.alloc(), word)?)?;
     }
     let mut source = MemSource::new(rt.alloc(), source, 10, &[read])?;
-    let mut sink = MemSink::new(rt.alloc(), 200_000, 10, &[write])?;
+    let mut sink = MemSink::new(rt.alloc(), room, 10, &[write])?;
     let status = run(rt.alloc(), &all, &mut source, &mut sink);
     let text = String::from_str(rt.alloc(), str::from_utf8(sink.bytes())?)?;
     Ok((status, text))

@@ -64,7 +64,7 @@ tells_written m shown o P r free x =
     }
 
 over_each : (d : Domain) (o : Options) (P : Program) (r : Report) → r.flagged ≡ None → Over d (λ V H m shown. IsAnalysed m shown o P r) → Over d (λ V H m shown. TellsWritten m shown o P r)
-over_each Poly o P r free x = x
+over_each Poly o P r free x = tells_written _ _ o P r free x
 over_each Box o P r free x = tells_written _ _ o P r free x
 over_each Oct o P r free x = tells_written _ _ o P r free x
 
@@ -95,17 +95,18 @@ same_points o bytes r a is = same_at o r.points is a.report.parts
 
 module _ (so : List ℕ → Report → Type 0) (words : List (List ℕ)) (left held_old held_new : Option (List ℕ)) (options : Options) (json : Bool)
     (claimed : (bytes : List ℕ) (r : Report) → IsAnswered options bytes r → so bytes r) where
-  of_report : (bytes text : List ℕ) (unknown : ℕ) → IsReport options bytes text unknown → IsInput left bytes → Appends held_old held_new text → WritesReport so left held_old held_new
+  of_report : (bytes text : List ℕ) (unknown : ℕ) → IsReport options bytes text unknown → IsInput left bytes → Appends held_old held_new text → WritesReport options so left held_old held_new
   of_report bytes text unknown r input written = record {
     bytes = bytes;
     input = input;
     report = r.report;
+    deserved = r.answered;
     written = subst (Appends held_old held_new) r.written written;
     is_so = claimed bytes r.report r.answered;
   }
 
   of_status : (status : Status) (bytes text : List ℕ) → IsReported status → IsInput left bytes → DeservesSource options bytes text status → Appends held_old held_new text
-      → WritesReport so left held_old held_new
+      → WritesReport options so left held_old held_new
   of_status Proved bytes text reported input d written = of_report bytes text 0 d input written
   of_status Unknown bytes text reported input d written = of_report bytes text d.0 d.2 input written
   of_status Refused bytes text reported input d written = absurd reported
@@ -115,6 +116,6 @@ module _ (so : List ℕ → Report → Type 0) (words : List (List ℕ)) (left h
   of_status Memory bytes text reported input d written = absurd reported
 
   pub writes_report : (status : Status) (text : List ℕ) → Asks words (Analyse options json) → IsReported status → IsDeserved words left text status → Appends held_old held_new text
-      → WritesReport so left held_old held_new
+      → WritesReport options so left held_old held_new
   writes_report status text asks reported d written =
       of_status status d.bytes text reported d.input (asked_input words d.bytes text status (Analyse options json) asks d.deserved) written

@@ -20,7 +20,7 @@ use Rattle.lra_findings.specs.ReportText.{report_text}
 use Rattle.lra_findings.specs.Parts.{HasSamePoints}
 use Rattle.lra_report.specs.Listing.{Lists}
 use Rattle.lra_source.specs.Analysed.{told_verdict, verdict_told}
-use Rattle.lra_source.specs.Answers.{Over}
+use Rattle.lra_source.specs.Answers.{Over, IsAnswered}
 use Rattle.lra_top.specs.Run.{IsInput}
 use Rattle.lra_top.specs.declared.status.Status.{Status}
 use Rattle.lra_top.specs.declared.status.Status.TheVariants.{Proved, Unknown, Refused, Usage, ReadFault, WriteFault}
@@ -36,11 +36,14 @@ IsReported ReadFault = ⊥
 IsReported WriteFault = ⊥
 IsReported Memory = ⊥
 
--- the text of a report is written whole, and so it is with the input's bytes and the report
-pub record WritesReport (so : List ℕ → Report → Type 0) (left held_old held_new : Option (List ℕ)) : Type 0 where
+-- The report that the input deserves under the options, which has a text of its own, is written whole, and so it is with
+-- the input's bytes and this report.
+pub record WritesReport (o : Options) (so : List ℕ → Report → Type 0) (left held_old held_new : Option (List ℕ))
+    : Type 0 where
   pub bytes : List ℕ
   pub input : IsInput left bytes
   pub report : Report
+  pub deserved : IsAnswered o bytes report
   pub written : Appends held_old held_new (report_text report)
   pub is_so : so bytes report
 

@@ -151,17 +151,18 @@ pub fn run<S: Source, K: Sink>(
     ensures refused { result ≡ Status.Refused →
         Writes (map string_bytes words.now) (S.left source.old) (K.held sink.old) (K.held sink.new) Status.Refused }
     ensures usage_text { result ≡ Status.Usage → Appends (K.held sink.old) (K.held sink.new) usage_text }
-    // Where the words ask for a report and the status is that of one: the report holds in all runs; where nothing is
-    // flagged, it tells what the written iteration finds; over polyhedra rows and generators tell the same points.
+    // Where the words ask for a report and the status is that of one, the one report that the input deserves and this
+    // text spells: it holds in all runs; where nothing is flagged, it tells what the written iteration finds; over
+    // polyhedra rows and generators tell the same points.
     ensures holds { (options : Options) (json : Bool) → Asks (map string_bytes words.now) (Analyse options json) →
         IsReported result →
-        WritesReport HoldsInAllRuns (S.left source.old) (K.held sink.old) (K.held sink.new) }
+        WritesReport options HoldsInAllRuns (S.left source.old) (K.held sink.old) (K.held sink.new) }
     ensures is_written { (options : Options) (json : Bool) → Asks (map string_bytes words.now) (Analyse options json) →
         IsReported result →
-        WritesReport (IsWrittenUnlessFlagged options) (S.left source.old) (K.held sink.old) (K.held sink.new) }
+        WritesReport options (IsWrittenUnlessFlagged options) (S.left source.old) (K.held sink.old) (K.held sink.new) }
     ensures same_points { (options : Options) (json : Bool) →
         Asks (map string_bytes words.now) (Analyse options json) → IsReported result →
-        WritesReport (TellsSamePoints options) (S.left source.old) (K.held sink.old) (K.held sink.new) }
+        WritesReport options (TellsSamePoints options) (S.left source.old) (K.held sink.old) (K.held sink.new) }
     // Or a front of it, and not all of it; or nothing.
     ensures part { result ≡ Status.WriteFault →
         WritesPart (map string_bytes words.now) (S.left source.old) (K.held sink.old) (K.held sink.new)
