@@ -2,13 +2,12 @@
 use Rattle.std.proofs.Common.{◌≡◌, ℕ, zero, suc, ◌++◌, List, [], ◌∷◌, length, map, Option, Some, None, Bool, true, false, refl, ap, ◌∙◌}
 use Rattle.std.specs.Prelude.{ℤ, pos, negsuc, neg_ℤ, replicate, slice_set, if◌then◌else◌}
 use Rattle.std.specs.List.{AllByRecursion}
-use Rattle.std.proofs.lemmas.List.{length-replicate, length-map, length-set}
+use Rattle.std.proofs.lemmas.List.{length-replicate, length-set}
 use Rattle.lra_sys.specs.Listed.{Listed}
 use Rattle.lra_linear.specs.declared.ConKind.{ConKind}
 use Rattle.lra_report.proofs.Every.{every_append}
 use Rattle.lra_box.specs.declared.interval.Interval.{Interval}
 use Rattle.lra_box.specs.Bounds.{InBounds}
-use Rattle.lra_box.specs.Content.{Content}
 use Rattle.lra_box.specs.Tables.{has_bounds}
 use Rattle.lra_box.specs.Parts.{bound_row, is_single, low_rows, high_rows, equal_rows, unequal_rows, box_rows, box_system, box_parts}
 use Rattle.lra_box.specs.Meaning.{box_meaning}
@@ -18,7 +17,7 @@ use Rattle.lra_findings.specs.Report.{Holds}
 use Rattle.lra_findings.specs.ReportText.{is_turned}
 use Rattle.lra_findings.specs.Parts.{Tells}
 use Rattle.lra_report.specs.Listing.{HasWidth}
-use Rattle.lra_states.specs.Shown.{shown_part, shown_state, IsShown, AreDirected, ShowsRows}
+use Rattle.lra_states.specs.Shown.{shown_part, AreDirected, ShowsRows}
 use Rattle.lra_states.proofs.RowsHold.{parts_hold, AreWide, both_wide, shown_wide, IsStraight, rows_directed}
 
 -- stores -------------------------------------------------------------------------------------------------------------
@@ -73,14 +72,6 @@ no_generators : (n : ℕ) (ps : List (Listed ConKind)) → AllByRecursion (Tells
 no_generators n [] = tt
 no_generators n (p ∷ ps) = (refl, no_generators n ps)
 
-box_is_shown : (v : Content) → IsShown box_meaning Box v (shown_state box_meaning v)
-box_is_shown v = record {
-  as_many = length-map (box_meaning.parts v) shown_part;
-  wide = parts_wide v.dims v.bounds;
-  tell = no_generators v.dims (box_meaning.parts v);
-  holds = λ s h. content_holds v.dims v.bounds s h.1 h.0;
-}
-
 -- texts --------------------------------------------------------------------------------------------------------------
 
 -- the only coefficient that isn't 0 is 1
@@ -109,7 +100,9 @@ parts_directed n (Some is) = (rows_directed (equal_rows n 0 is) (unequal_rows n 
 
 pub boxes_are_shown : ShowsRows box_meaning Box
 boxes_are_shown = record {
-  shown = box_is_shown;
+  wide = λ v. parts_wide v.dims v.bounds;
+  tell = λ v. no_generators v.dims (box_meaning.parts v);
+  holds = λ v s h. content_holds v.dims v.bounds s h.1 h.0;
   directed = λ v. parts_directed v.dims v.bounds;
   capped = λ v cap one. one;
 }

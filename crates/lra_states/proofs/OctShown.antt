@@ -1,8 +1,8 @@
--- Octagons are shown as they are by their rows.
+-- Octagons are shown by their rows, which hold at each of their stores.
 use Rattle.std.proofs.Common.{◌≡◌, ℕ, zero, suc, ◌+◌, ◌*◌, ◌/◌, ◌-◌, ◌<◌, ◌⊎◌, ◌++◌, ℤ, pos, List, [], ◌∷◌, length, map, Option, Some, None, Bool, true, false, inl, inr, refl, ap, ◌∙◌, arith}
 use Rattle.std.specs.Prelude.{replicate, slice_set, if◌then◌else◌}
 use Rattle.std.specs.List.{AllByRecursion}
-use Rattle.std.proofs.lemmas.List.{length-replicate, length-map, length-set}
+use Rattle.std.proofs.lemmas.List.{length-replicate, length-set}
 use Rattle.lra_base.specs.declared.options.Domain.TheVariants.{Oct}
 use Rattle.lra_sys.specs.Listed.{Listed}
 use Rattle.lra_linear.specs.declared.ConKind.{ConKind}
@@ -143,12 +143,9 @@ octagon_holds v s h = parts_hold (octagon_parts v.dims v.cells) s (stores_hold v
 
 pub octagons_are_shown : ShowsRows octagon_meaning Oct
 octagons_are_shown = record {
-  shown = λ v. record {
-    as_many = length-map (octagon_meaning.parts v) shown_part;
-    wide = parts_wide v.dims v.cells;
-    tell = no_generators v.dims (octagon_meaning.parts v);
-    holds = octagon_holds v;
-  };
+  wide = λ v. parts_wide v.dims v.cells;
+  tell = λ v. no_generators v.dims (octagon_meaning.parts v);
+  holds = octagon_holds;
   directed = λ v. parts_directed v.dims v.cells;
   capped = λ v cap one. one;
 }

@@ -50,6 +50,7 @@ shown_so p is state e t = record {
   wide = t.wide;
   tell = t.tell;
   holds = λ s h. t.holds s h.0 h.1;
+  only = λ s long h. (long, t.only s long h);
 }
 
 module _ {E : Type 0} (p q : Polyhedron) (same : q ≡ p) where

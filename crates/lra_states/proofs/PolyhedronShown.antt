@@ -1,5 +1,5 @@
 -- A polyhedron is shown by its canonical lists: as wide as it has dimensions, with the same points by rows and by generators, and told by its text.
-use Rattle.std.proofs.Common.{◌≡◌, ◌≢◌, ◌∙◌, ◌<◌, ℕ, zero, suc, ℤ, pos, negsuc, ◌<ℤ◌, Bool, true, false, List, [], ◌∷◌, ◌++◌, length, map, inl, inr, refl, sym, ap, subst, arith, append_assoc}
+use Rattle.std.proofs.Common.{◌≡◌, ◌≢◌, ◌∙◌, ◌<◌, ◌⊎◌, ℕ, zero, suc, ℤ, pos, negsuc, ◌<ℤ◌, Bool, true, false, List, [], ◌∷◌, ◌++◌, length, map, inl, inr, refl, sym, ap, subst, arith, append_assoc}
 use Rattle.std.specs.List.{All, AllByRecursion, Contains}
 use Rattle.std.proofs.lemmas.Int.{ints}
 use Rattle.std.proofs.lemmas.List.{map-append}
@@ -30,7 +30,7 @@ use Rattle.lra_report.proofs.CanonicalLists.{spelled_equality, spelled_inequalit
 use Rattle.lra_findings.specs.Report.{Generator, Part, State}
 use Rattle.lra_findings.specs.Parts as parts
 use Rattle.lra_states.specs.Polyhedra.{row_kind, generator_kind, shown_row, shown_generator, part_if_any, shown_polyhedron, TellsPolyhedron, polyhedron_of}
-use Rattle.lra_states.proofs.RowsHold.{row_holds}
+use Rattle.lra_states.proofs.RowsHold.{row_holds, row_held}
 use Rattle.lra_states.proofs.SamePoints.{as_row, within_con, con_within, generated_gen, gen_generated}
 
 -- ---- the lists of a report are those of the polyhedron
@@ -216,6 +216,21 @@ each_holds (g ∷ rows) s h = (one g.row g.equal (h g (contains_head g rows)), e
     one row true h = row_holds row Eq s h
     one row false h = row_holds row Ge s h
 
+each_held : (rows : List Given) (s : List ℤ) → AllByRecursion (λ (r : Row). RowHolds r s) (map shown_row rows) → Con rows (pos 1 ∷ s)
+each_held [] s h g i = absurd (contains_none g i)
+each_held (x ∷ rows) s h g i = elim (contains_cases x g rows i) [
+  | inl e ↦ subst (λ (y : Given). HoldsWith y.equal (product y.row (pos 1 ∷ s))) e (one x.row x.equal h.0)
+  | inr d ↦ each_held rows s h.1 g d
+]
+  where
+    one : (row : List ℤ) (b : Bool) → RowHolds (report_row row (row_kind b)) s → HoldsWith b (product row (pos 1 ∷ s))
+    one row true h = row_held row Eq s h
+    one row false h = row_held row Ge s h
+
+one_held : (rows : List Given) (s : List ℤ) → AllByRecursion (λ (r : Row). RowHolds r s) (map shown_row rows) ⊎ ⊥ → Con rows (pos 1 ∷ s)
+one_held rows s (inl h) = each_held rows s h
+one_held rows s (inr h) = absurd h
+
 store_point : (n : ℕ) (s : List ℤ) → length s ≡ n → IsPoint n (pos 1 ∷ s)
 store_point n s long = record { width = ap suc long; divisor = omega (arith, ints) }
 
@@ -245,6 +260,7 @@ told p (inl none) wide_rows wide_generators small =
       holds = λ s long c.
           let never : Given = record { row = falsity p.dims; equal = false } in
           absurd (falsity_never p.dims (pos 1 ∷ s) (store_point p.dims s long) (c never (subst (λ l. Contains l never) (sym none.0) (contains_head never []))));
+      only = λ s long h. absurd h;
     })
 told p (inr h) wide_rows wide_generators small =
     subst (TellsPolyhedron p) (sym (one_part p h (part_of p)))
@@ -252,6 +268,7 @@ told p (inr h) wide_rows wide_generators small =
       wide = ((rows_wide p.dims p.rows wide_rows, generators_wide p.dims p.generators wide_generators), tt);
       tell = ((divide (map shown_generator p.generators) (generators_spelled p h small), same_points p (inr h), has_point p h), tt);
       holds = λ s long c. inl (each_holds p.rows s c);
+      only = λ s long h. one_held p.rows s h;
     })
 
 pub spelled : (p : Polyhedron) → IsPolyhedron p → AreSmall p.rows → AreSmall p.generators → AllByRecursion IsSpelledPart (shown_polyhedron p)

@@ -1,11 +1,11 @@
 -- Rows of constraints as rows of a report: where they hold, how wide they are, which way their equalities are turned.
-use Rattle.std.proofs.Common.{◌≡◌, ℕ, suc, ◌++◌, List, [], ◌∷◌, length, map, inl, inr, refl, subst, arith}
+use Rattle.std.proofs.Common.{◌≡◌, ◌↔◌, ℕ, suc, ◌++◌, List, [], ◌∷◌, length, map, inl, inr, refl, sym, subst, arith}
 use Rattle.std.specs.Prelude.{ℤ, pos, ◌+ℤ◌, replicate}
 use Rattle.std.specs.List.{AllByRecursion}
 use Rattle.std.proofs.lemmas.Int.{ints}
 use Rattle.lra_linear.specs.Vectors.{product}
 use Rattle.lra_linear.specs.Descriptions.{Given, Con, HoldsWith}
-use Rattle.lra_linear.proofs.Membership.{contains_head, contains_tail}
+use Rattle.lra_linear.proofs.Membership.{contains_none, contains_head, contains_tail, contains_cases}
 use Rattle.lra_sys.specs.Listed.{Listed, given_by}
 use Rattle.lra_linear.specs.Kinds.{is_equality}
 use Rattle.lra_linear.specs.declared.ConKind.{ConKind}
@@ -13,10 +13,11 @@ use Rattle.lra_linear.specs.declared.ConKind.TheVariants.{Ge, Eq}
 use Rattle.lra_show.specs.Shown.{report_row}
 use Rattle.lra_report.specs.Rows.{shown_rows}
 use Rattle.lra_report.specs.Spelled.{IsDirected}
+use Rattle.lra_domain.specs.Meaning.{Meaning}
 use Rattle.lra_domain.specs.Parts.{SomePartHolds}
-use Rattle.lra_findings.specs.Report.{Holds}
+use Rattle.lra_findings.specs.Report.{Part, Holds}
 use Rattle.lra_program.specs.Rows.{RowHolds, Row}
-use Rattle.lra_states.specs.Shown.{shown_part}
+use Rattle.lra_states.specs.Shown.{shown_part, MeansValue}
 
 -- rows ---------------------------------------------------------------------------------------------------------------
 
@@ -28,6 +29,11 @@ row_holds [] Ge s h = omega (arith, ints)
 row_holds [] Eq s h = refl
 row_holds (c ∷ cs) k s h = subst (λ (z : ℤ). HoldsWith (is_equality k) z) (row_value c cs s) h
 
+pub row_held : (r : List ℤ) (k : ConKind) (s : List ℤ) → RowHolds (report_row r k) s → HoldsWith (is_equality k) (product r (pos 1 ∷ s))
+row_held [] Ge s h = omega (arith, ints)
+row_held [] Eq s h = refl
+row_held (c ∷ cs) k s h = subst (λ (z : ℤ). HoldsWith (is_equality k) z) (sym (row_value c cs s)) h
+
 rows_hold : (rows : List (List ℤ)) (kinds : List ConKind) (s : List ℤ) → Con (given_by is_equality rows kinds) (pos 1 ∷ s) → AllByRecursion (λ (r : Row). RowHolds r s) (shown_rows rows kinds)
 rows_hold [] kinds s h = tt
 rows_hold (r ∷ rows) [] s h = tt
@@ -35,10 +41,34 @@ rows_hold (r ∷ rows) (k ∷ kinds) s h =
     let g : Given = record { row = r; equal = is_equality k } in
     (row_holds r k s (h g (contains_head g (given_by is_equality rows kinds))), rows_hold rows kinds s (λ x i. h x (contains_tail g x (given_by is_equality rows kinds) i)))
 
+rows_held : (rows : List (List ℤ)) (kinds : List ConKind) (s : List ℤ) → AllByRecursion (λ (r : Row). RowHolds r s) (shown_rows rows kinds) → Con (given_by is_equality rows kinds) (pos 1 ∷ s)
+rows_held [] kinds s h g i = absurd (contains_none g i)
+rows_held (r ∷ rows) [] s h g i = absurd (contains_none g i)
+rows_held (r ∷ rows) (k ∷ kinds) s h g i =
+    let first : Given = record { row = r; equal = is_equality k } in
+    elim (contains_cases first g (given_by is_equality rows kinds) i) [
+      | inl e ↦ subst (λ (x : Given). HoldsWith x.equal (product x.row (pos 1 ∷ s))) e (row_held r k s h.0)
+      | inr d ↦ rows_held rows kinds s h.1 g d
+    ]
+
 pub parts_hold : (ps : List (Listed ConKind)) (s : List ℤ) → SomePartHolds ps s → Holds (map shown_part ps) s
 parts_hold [] s h = h
 parts_hold (p ∷ ps) s (inl h) = inl (rows_hold p.rows p.kinds s h)
 parts_hold (p ∷ ps) s (inr h) = inr (parts_hold ps s h)
+
+parts_held : (ps : List (Listed ConKind)) (s : List ℤ) → Holds (map shown_part ps) s → SomePartHolds ps s
+parts_held [] s h = h
+parts_held (p ∷ ps) s (inl h) = inl (rows_held p.rows p.kinds s h)
+parts_held (p ∷ ps) s (inr h) = inr (parts_held ps s h)
+
+-- what the parts of a value mean, their state means
+pub state_means : {V H : Type 0} (m : Meaning V H) (v : V) (ps : List (Listed ConKind)) (state : List Part) → state ≡ map shown_part ps
+    → ((s : List ℤ) → length s ≡ m.dims v → m.has v s ↔ SomePartHolds ps s) → MeansValue m v state
+state_means m v ps state is mean s long =
+    let meant = mean s long in (
+      λ h. subst (λ l. Holds l s) (sym is) (parts_hold ps s (meant.0 h)),
+      λ h. meant.1 (parts_held ps s (subst (λ l. Holds l s) is h)),
+    )
 
 -- widths -------------------------------------------------------------------------------------------------------------
 

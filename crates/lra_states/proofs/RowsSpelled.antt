@@ -1,16 +1,19 @@
 -- What is shown by rows with numbers of the range is shown as it is, and told by its text.
-use Rattle.std.proofs.Common.{◌≡◌, List, [], ◌∷◌, map, sym, subst, Vec, Global}
+use Rattle.std.proofs.Common.{◌≡◌, ◌∙◌, List, [], ◌∷◌, length, map, ap, sym, subst, Vec, Global}
 use Rattle.std.specs.Prelude.{Result, Ok, Err, IfOk}
 use Rattle.std.specs.List.{AllByRecursion}
+use Rattle.std.proofs.lemmas.List.{length-map}
 use Rattle.lra_base.specs.declared.options.Domain.{Domain}
 use Rattle.lra_sys.specs.Listed.{Listed}
 use Rattle.lra_linear.specs.declared.ConKind.{ConKind}
 use Rattle.lra_domain.specs.Meaning.{Meaning}
 use Rattle.lra_program.specs.Rows.{Row}
-use Rattle.lra_findings.specs.Report.{Part}
+use Rattle.lra_findings.specs.Report.{Part, State, Holds}
+use Rattle.lra_findings.specs.Parts.{Tells}
+use Rattle.lra_report.specs.Listing.{HasWidth}
 use Rattle.lra_report.specs.Rows.{shown_rows, IsRowInRange, IsPartInRange}
 use Rattle.lra_report.specs.Spelled.{IsDirected, IsSpelledRow, IsSpelledPart}
-use Rattle.lra_states.specs.Shown.{IsShown, shown_part, shown_state, AreDirected, ShowsRows}
+use Rattle.lra_states.specs.Shown.{IsShown, shown_part, shown_state, AreDirected, MeansValue, ShowsRows}
 
 rows_spelled : (rs : List Row) → AllByRecursion (λ (r : Row). IsDirected r.kind r.coefficients) rs → AllByRecursion IsRowInRange rs → AllByRecursion IsSpelledRow rs
 rows_spelled [] d h = tt
@@ -21,9 +24,15 @@ parts_spelled [] d h = tt
 parts_spelled (p ∷ ps) d h = (record { rows = rows_spelled (shown_rows p.rows p.kinds) d.0 h.0; generators = tt }, parts_spelled ps d.1 h.1)
 
 module _ {V H E : Type 0} (m : Meaning V H) (domain : Domain) (shows : ShowsRows m domain) (v : V) where
-  pub told : (x : Result (Vec Part Global) E) → IfOk x (λ s. s.items ≡ shown_state m v) → IfOk x (λ s. IsShown m domain v s.items)
-  told (Ok s) is = subst (IsShown m domain v) (sym is) (shows.shown v)
-  told (Err e) is = tt
+  pub told : (x : Result (Vec Part Global) E) → IfOk x (λ s. s.items ≡ shown_state m v) → IfOk x (λ s. MeansValue m v s.items) → IfOk x (λ s. IsShown m domain v s.items)
+  told (Ok s) is mean = record {
+    as_many = ap length is ∙ length-map (m.parts v) shown_part;
+    wide = subst (AllByRecursion (HasWidth (m.dims v))) (sym is) (shows.wide v);
+    tell = subst (AllByRecursion (Tells domain (m.dims v))) (sym is) (shows.tell v);
+    holds = λ t h. subst (λ (state : State). Holds state t) (sym is) (shows.holds v t h);
+    only = λ t long h. (mean t long).1 h;
+  }
+  told (Err e) is mean = tt
 
   pub spelled : (x : Result (Vec Part Global) E) → IfOk x (λ s. s.items ≡ shown_state m v) → IfOk x (λ s. AllByRecursion IsPartInRange s.items) → IfOk x (λ s. AllByRecursion IsSpelledPart s.items)
   spelled (Ok s) is h =

@@ -48,6 +48,8 @@ pub record TellsPolyhedron (p : Polyhedron) (state : State) : Type 0 where
   pub tell : AllByRecursion (Tells Poly p.dims) state
   -- each store in it holds there
   pub holds : (s : List ℤ) → length s ≡ p.dims → Con p.rows (pos 1 ∷ s) → Holds state s
+  -- and no other list of that many numbers does
+  pub only : (s : List ℤ) → length s ≡ p.dims → Holds state s → Con p.rows (pos 1 ∷ s)
 
 -- what two lists show
 abbrev pub polyhedron_of : Listed ConKind → Listed GenKind → Polyhedron

@@ -1,5 +1,5 @@
 -- What a domain shows of its values, as the states of a report.
-use Rattle.std.specs.Prelude.{◌≡◌, ℕ, ◌≤◌, ℤ, List, [], length, map}
+use Rattle.std.specs.Prelude.{◌≡◌, ◌↔◌, ℕ, ◌≤◌, ℤ, List, [], length, map}
 use Rattle.std.specs.List.{AllByRecursion, Contains}
 use Rattle.lra_sys.specs.Listed.{Listed}
 use Rattle.lra_linear.specs.declared.ConKind.{ConKind}
@@ -21,6 +21,8 @@ pub record IsShown {V H : Type 0} (m : Meaning V H) (domain : Domain) (v : V) (s
   pub tell : AllByRecursion (Tells domain (m.dims v)) state
   -- each store of the value holds there
   pub holds : (s : List ℤ) → m.has v s → Holds state s
+  -- and no other list of that many numbers does
+  pub only : (s : List ℤ) → length s ≡ m.dims v → Holds state s → m.has v s
 
 -- so are these values
 abbrev pub AreShown : {V H : Type 0} → Meaning V H → Domain → (V → State) → List V → Type 0
@@ -44,8 +46,15 @@ shown_state m v = map shown_part (m.parts v)
 abbrev pub AreDirected : Part → Type 0
 AreDirected p = AllByRecursion (λ (r : Row). IsDirected r.kind r.coefficients) p.rows
 
--- in reports over this domain each value is shown by its rows: as it is, as its text tells it, in one part
+-- a list of as many numbers as dimensions is a store of the value exactly where the state holds
+abbrev pub MeansValue : {V H : Type 0} → Meaning V H → V → State → Type 0
+MeansValue m v state = (s : List ℤ) → length s ≡ m.dims v → (m.has v s ↔ Holds state s)
+
+-- in reports over this domain each value is shown by its rows: as wide as it is and as the domain has them, holding at
+-- its stores, as their text tells them, in one part
 pub record ShowsRows {V H : Type 0} (m : Meaning V H) (domain : Domain) : Type 0 where
-  pub shown : (v : V) → IsShown m domain v (shown_state m v)
+  pub wide : (v : V) → AllByRecursion (HasWidth (m.dims v)) (shown_state m v)
+  pub tell : (v : V) → AllByRecursion (Tells domain (m.dims v)) (shown_state m v)
+  pub holds : (v : V) (s : List ℤ) → m.has v s → Holds (shown_state m v) s
   pub directed : (v : V) → AllByRecursion AreDirected (shown_state m v)
   pub capped : (v : V) (cap : ℕ) → 1 ≤ cap → m.capped v cap

@@ -5,12 +5,12 @@ ghost use Rattle.lra_box.specs.Meaning.{box_meaning};
 ghost use Rattle.lra_oct.specs.Meaning.{octagon_meaning};
 ghost use Rattle.lra_states.specs.Shown.{ShowsRows};
 
-/// Boxes are shown as they are by their rows.
+/// Boxes are shown by their rows, which hold at each of their stores.
 pub fn boxes_are_shown()
     ensures { ShowsRows box_meaning Box }
 {}
 
-/// Octagons are shown as they are by their rows.
+/// Octagons are shown by their rows, which hold at each of their stores.
 pub fn octagons_are_shown()
     ensures { ShowsRows octagon_meaning Oct }
 {}

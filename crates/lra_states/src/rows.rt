@@ -6,7 +6,7 @@ ghost use Rattle.lra_base.specs.declared.options.Domain.TheVariants as options;
 ghost use Rattle.lra_box.specs.Meaning.{box_meaning};
 ghost use Rattle.lra_oct.specs.Meaning.{octagon_meaning};
 ghost use Rattle.lra_report.specs.Rows.{IsPartInRange};
-ghost use Rattle.lra_states.specs.Shown.{shown_state};
+ghost use Rattle.lra_states.specs.Shown.{shown_state, MeansValue};
 
 use crate::show::Show;
 use lra_box::Boxes;
@@ -15,10 +15,11 @@ use lra_oct::Octagon;
 use lra_report::Part;
 use std::alloc::{AllocError, Global};
 
-/// The parts of a value, without generators.
-#[tactic(auto, using(crate::proofs::StateSteps::pushed))]
+/// The parts of a value, without generators; they mean the value.
+#[tactic(auto, using(crate::proofs::StateSteps::pushed, crate::proofs::RowsHold::state_means))]
 fn parts_by_rows<D: Domain>(alloc: Global, value: &D) -> Result<Vec<Part>, AllocError>
     ensures shown { IfOk result (λ s. s.items ≡ shown_state D.meaning value.now) }
+    ensures mean { IfOk result (λ s. MeansValue D.meaning value.now s.items) }
     ensures in_range { IfOk result (λ s. AllByRecursion IsPartInRange s.items) }
 {
     let mut state = Vec::new(alloc);

@@ -19,7 +19,8 @@ pub trait Show: Domain {
     /// The state that a value is shown by.
     ghost shown: { Self → State };
 
-    /// The state of the value: a part for each of its parts, each as the domain has it and as its text tells it.
+    /// The state of the value: a part for each of its parts, each as the domain has it and as its text tells it. Of
+    /// the lists with a number for each dimension it holds at the value's stores and at no other.
     fn show(&self, alloc: Global) -> Result<Vec<Part>, AllocError>
         ensures shown { IfOk result (λ s. s.items ≡ shown self.now) }
         ensures told { IfOk result (λ s. IsShown Self.meaning named self.now s.items) }
