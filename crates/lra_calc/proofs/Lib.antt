@@ -8,10 +8,12 @@ pub mod OneAnswer
 pub mod SessionLemmas
 -- Scripts that are too long, and others.
 pub mod Limit
+-- What is answered of widenings.
+pub mod WidenLemmas
 -- From one fact about an answer to another.
 pub mod Endings
--- One refusal of each script, and one output where nothing is flagged.
+-- What refuses a script by its lines alone; one end of each script where nothing is flagged.
 pub mod OneRefusal
-pub mod OneOutput
+pub mod OneEnd
 -- Worked examples: whole scripts whose answers are known.
 mod ScriptExamples

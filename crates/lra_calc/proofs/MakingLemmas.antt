@@ -1,5 +1,5 @@
 -- What a line makes: systems of rows of one width, with their kinds, and polyhedra of them, flagged or not.
-use Rattle.std.proofs.Common.{◌≡◌, ◌<◌, ◌+◌, get_or, drop, ℕ, suc, ℤ, pos, Bool, true, false, cond, not, nat_eq, List, [], ◌∷◌, ◌++◌, length, map, refl, ap, sym, ◌∙◌, subst, arith, append_assoc}
+use Rattle.std.proofs.Common.{◌≡◌, ◌<◌, ◌+◌, get_or, drop, ℕ, suc, ℤ, pos, Bool, true, false, cond, nat_eq, List, [], ◌∷◌, ◌++◌, length, map, refl, ap, sym, ◌∙◌, subst, arith, append_assoc}
 use Rattle.std.proofs.Common.{Option, Some, None}
 use Rattle.std.specs.List.{All}
 use Rattle.std.proofs.lemmas.Bool.Decides.{nat_tests}

@@ -1,5 +1,5 @@
 -- Lines and scripts whose answers are known. Which slip an example would catch stands beside it.
-use Rattle.std.proofs.Common.{◌≡◌, ℕ, pos, negsuc, List, [], ◌∷◌, ◌++◌, refl, inl, Option, Some, None, Result, Ok, Err, true, false}
+use Rattle.std.proofs.Common.{◌≡◌, ℕ, pos, negsuc, List, [], ◌∷◌, refl, inl, None, Result, Ok, Err, true, false}
 use Rattle.std.specs.Prelude.{codes}
 use Rattle.std.specs.List.{flat_map}
 use Rattle.std.specs.Fmt.{digits}
@@ -13,7 +13,7 @@ use Rattle.lra_findings.specs.ReportText.{text_line}
 use Rattle.lra_script.specs.ScriptText.{lines}
 use Rattle.lra_calc.specs.MadeSets.{IsMadeOfRows}
 use Rattle.lra_calc.specs.ShownSets.{polyhedron_text}
-use Rattle.lra_calc.specs.Script.{Fault, BadLine, UnknownName, WrongDimension, started, End, Refused, AtLine, TooLong, CarriesOut, output, AnswersTo, refused_text}
+use Rattle.lra_calc.specs.Script.{Fault, BadLine, UnknownName, WrongDimension, NotIncluded, started, End, Refused, AtLine, TooLong, CarriesOut, output, AnswersTo, refused_text}
 
 abbrev text : List (List ℕ) → List ℕ
 text = flat_map text_line
@@ -21,7 +21,7 @@ text = flat_map text_line
 -- what is written, or the refused line
 abbrev result_of : End → Result (List ℕ) Refused
 result_of (Ok end) = Ok (output end)
-result_of (Err refused) = Err refused
+result_of (Err stop) = Err stop.refused
 
 -- the script with these lines may write this, or is refused so
 abbrev Gives : List (List ℕ) → Result (List ℕ) Refused → Type 0
@@ -241,6 +241,7 @@ empty_script = record { end = Ok None; carries_out = refl; is = refl }
 refused_texts : (refused_text (AtLine (record { number = 4; fault = WrongDimension 3 2 })) ≡ text (codes "refused line 4 WrongDimension 3 2" ∷ []))
     × (refused_text (AtLine (record { number = 4; fault = UnknownName (codes "Z") })) ≡ text (codes "refused line 4 UnknownName Z" ∷ []))
     × (refused_text (AtLine (record { number = 12; fault = BadLine })) ≡ text (codes "refused line 12 BadLine" ∷ []))
+    × (refused_text (AtLine (record { number = 4; fault = NotIncluded (codes "line x1=1") })) ≡ text (codes "refused line 4 NotIncluded line x1=1" ∷ []))
     × (refused_text (TooLong (record { line = 1; column = 65537 })) ≡ text (codes "refused 1 TooLong at 1:65537" ∷ []))
 unfolding digits
-refused_texts = (refl, refl, refl, refl)
+refused_texts = (refl, refl, refl, refl, refl)

@@ -1,7 +1,7 @@
 -- What a session answers: membership of a point, tried constraint by constraint; and what its names stand for.
 use Rattle.std.proofs.Common.{◌≡◌, ◌-◌, ℕ, zero, suc, ℤ, pos, negsuc, Bool, true, false, cond, nat_eq, List, [], ◌∷◌, ◌++◌, length, get_or, take, drop, refl, ap, sym, ◌∙◌, subst, inl, inr, arith}
 use Rattle.std.proofs.Common.{append-nil, bytes_eq, Option, Some, None, Result, Ok, Err, IsOk, IsErr}
-use Rattle.std.specs.Prelude.{IfSome}
+use Rattle.std.specs.Prelude.{◌+◌, IfSome, option_map}
 use Rattle.std.specs.List.{All}
 use Rattle.std.specs.Map.{update}
 use Rattle.std.proofs.lemmas.Bool.Decides.{nat_tests}
@@ -21,7 +21,13 @@ use Rattle.lra_sys.specs.Membership.{HoldsInRange, IsAnswer}
 use Rattle.lra_calc.specs.Script as script
 use Rattle.std.specs.Result.{IsErrAnd}
 use Rattle.std.proofs.lemmas.Result.{err_from_is_err_and}
-use Rattle.lra_calc.specs.Views.{answered, fault_of, IsUnknown, Gives}
+use Rattle.lra_script.specs.ScriptText.{is_skipped, words}
+use Rattle.lra_script.specs.LineForms.{line_of}
+use Rattle.lra_calc.specs.Views.{answered, fault_of, session_of, IsUnknown, Gives, StepsTo, Ends}
+use Rattle.lra_calc.specs.declared.session.Session as S
+use Rattle.lra_calc.specs.declared.refusal.CalcRefusal.TheVariants as refusal
+use Rattle.lra_calc.specs.declared.refusal.CalcError.{CalcError}
+use Rattle.lra_calc.specs.declared.refusal.CalcError.TheVariants as calc_error
 use Rattle.lra_calc.specs.declared.refusal.Fault.{Fault}
 use Rattle.lra_calc.specs.declared.refusal.LineError.{LineError}
 use Rattle.lra_calc.specs.declared.refusal.LineError.TheVariants.{Refused, Memory}
@@ -190,6 +196,24 @@ refused_brings view other Told step Memory h = tt
 -- and one that is carried out
 pub given_brings : {B : Type 0} (Told : Result B script.Fault → Type 0) (step : B → script.Session) (b : B) (t : script.Session) → Told (Ok b) → t ≡ step b → script.Brings Told step (Ok t)
 given_brings Told step b t h e = record { given = Ok b; told = h; is = ap Ok e }
+
+-- a line that is refused, and the end that it is of all lines
+pub refused_steps : (number : ℕ) (s : Option S.Session) (line : List ℕ) (f : Fault) → is_skipped line ≡ false →
+    script.AfterForm number (option_map session_of s) (line_of (words line)) (Err (fault_of f))
+    → StepsTo number s line (Err (calc_error.Refused (refusal.Line number f)))
+refused_steps number s line f seen h = λ rest. (
+  option_map session_of s,
+  let end : script.End = Err (script.stopped number (option_map session_of s) (fault_of f)) in
+      subst (λ (b : Bool). script.SkipsOr b (script.CarriesOut (number + 1) (option_map session_of s) rest end)
+      (script.Performs number (option_map session_of s) line (λ t. script.CarriesOut (number + 1) t rest end) end)) (sym seen)
+      (record { result = Err (fault_of f); after = h; goes_on = refl }),
+)
+
+pub stop_ends : (number : ℕ) (s : Option S.Session) (line : List ℕ) (rest : List (List ℕ)) (e : CalcError) (Told : script.End → Type 0) → StepsTo number s line (Err e) →
+    ((end : script.End) → script.CarriesOut number (option_map session_of s) (line ∷ rest) end → Told end) → Ends (Err e) Told
+stop_ends number s line rest (calc_error.Refused (refusal.Line at f)) Told h step = let w = h rest in (w.0, step _ w.1)
+stop_ends number s line rest (calc_error.Refused (refusal.TooLong place)) Told h step = absurd h
+stop_ends number s line rest calc_error.Memory Told h step = tt
 
 -- ---- exits by the error of a call
 pub exit_unknown : {A B : Type 0} (view : A → B) (Told : Polyhedron → Result B script.Fault → Type 0) (name : List ℕ) (o : Option Polyhedron) (x : Result A LineError) (e : LineError) →

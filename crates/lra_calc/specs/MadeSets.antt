@@ -1,15 +1,19 @@
 -- The sets that lines make: without a flag by the canonical lists of exactly the points that the line tells. A flagged
 -- one may have further points, and there what was given strains.
-use Rattle.std.specs.Prelude.{◌≡◌, ℕ, Bool, true, false, List}
+use Rattle.std.specs.Prelude.{◌≡◌, ℕ, ℤ, Bool, true, false, List, []}
 use Rattle.lra_linear.specs.Points.{PointSet, IsWithin}
 use Rattle.lra_linear.specs.Descriptions.{Given, Con as points_of, Gen as generated_by}
 use Rattle.lra_linear.specs.Polyhedra.{Polyhedron, IsPolyhedron, IsPolyhedronOf}
 use Rattle.lra_linear.specs.SetOperations as sets
 use Rattle.lra_linear.specs.Strain.{Loss}
 use Rattle.lra_linear.specs.OperationStrain.{FromRowsStrains, FromGeneratorsStrains, MeetStrains, HullStrains}
-use Rattle.lra_linear.specs.OperationStrain.{TimeElapseStrains, ForgetStrains}
+use Rattle.lra_linear.specs.OperationStrain.{TimeElapseStrains, ImageStrains, PreimageStrains, ForgetStrains}
+use Rattle.lra_linear.specs.OperationStrain.{StandardStrains, LimitedStrains}
+use Rattle.lra_linear.specs.Widening as widening
 use Rattle.lra_script.specs.declared.recipes.Combination.{Combination}
 use Rattle.lra_script.specs.declared.recipes.Combination.TheVariants.{Meet, Hull, Elapse}
+use Rattle.lra_script.specs.declared.recipes.Mapping.{Mapping}
+use Rattle.lra_script.specs.declared.recipes.Mapping.TheVariants.{Image, Preimage}
 
 -- the canonical lists of a set that has all points of P; what was given strains
 pub record IsFlaggedOf (n : ℕ) (P : PointSet) (Strains : Loss → Type 0) (p : Polyhedron) : Type 0 where
@@ -45,6 +49,31 @@ CombiningStrains Elapse p q = TimeElapseStrains p q
 
 abbrev pub IsCombined : Combination → ℕ → Polyhedron → Polyhedron → Bool → Polyhedron → Type 0
 IsCombined how n p q = IsMadeOf n (combined how n p q) (CombiningStrains how p q)
+
+-- widen: of P inside Q the points at which each row of Q holds that is tight on P; Q where P is empty
+abbrev pub IsWidened : ℕ → Polyhedron → Polyhedron → Bool → Polyhedron → Type 0
+IsWidened n p q = IsMadeOf n (widening.Standard p q) (StandardStrains p q)
+
+-- limited: of these the points at which each given row holds that is valid on both
+abbrev pub IsLimited : ℕ → List Given → Polyhedron → Polyhedron → Bool → Polyhedron → Type 0
+IsLimited n given p q = IsMadeOf n (widening.Limited p q given) (LimitedStrains p q given)
+
+-- all points, with a flag
+abbrev pub IsAllFlagged : ℕ → Bool → Polyhedron → Type 0
+IsAllFlagged n false p = ⊥
+IsAllFlagged n true p = IsPolyhedronOf n (points_of []) p
+
+-- image, preimage: the points with the form's value as coordinate k; the points that it brings into the set
+abbrev pub mapped : Mapping → ℕ → ℕ → List ℤ → Polyhedron → PointSet
+mapped Image n k form p = sets.Image n k form (points_of p.rows)
+mapped Preimage n k form p = sets.Preimage k form (points_of p.rows)
+
+abbrev pub MappingStrains : Mapping → ℕ → List ℤ → Polyhedron → Loss → Type 0
+MappingStrains Image k form p = ImageStrains k form p
+MappingStrains Preimage k form p = PreimageStrains k form p
+
+abbrev pub IsMapped : Mapping → ℕ → ℕ → List ℤ → Polyhedron → Bool → Polyhedron → Type 0
+IsMapped how n k form p = IsMadeOf n (mapped how n k form p) (MappingStrains how k form p)
 
 -- forget: the points that some value of coordinate k brings into the set
 abbrev pub IsForgotten : ℕ → ℕ → Polyhedron → Bool → Polyhedron → Type 0

@@ -1,11 +1,12 @@
 -- What a script may write: its lines are carried out one after the other, and the first that is refused is answered in
 -- place of all. A line that makes a set makes its canonical lists, so that what is shown depends on the set alone. Only
 -- where what it gives strains may it make those of a larger set; then it is flagged. So a script that isn't flagged has
--- one output.
+-- one answer.
 use Rattle.std.specs.Prelude.{◌≡◌, ◌+◌, ℕ, suc, ℤ, pos, negsuc, Bool, true, false, ◌&&◌, nat_eq, nat_lt, nat_le}
 use Rattle.std.specs.Prelude.{List, [], ◌∷◌, ◌++◌, length, take, map, codes, bytes_eq, if◌then◌else◌}
 use Rattle.std.specs.Prelude.{Option, Some, None, Result, Ok, Err}
 use Rattle.std.specs.Fmt.{decimal}
+use Rattle.std.specs.List.{All}
 use Rattle.std.specs.Map.{update}
 use Rattle.lra_linear.specs.declared.Excess.{Excess}
 use Rattle.lra_linear.specs.CheckedArithmetic.{checked_product}
@@ -15,6 +16,8 @@ use Rattle.lra_sys.specs.declared.system.GenKind.{GenKind}
 use Rattle.lra_sys.specs.declared.system.GenKind.TheVariants as gen
 use Rattle.lra_sys.specs.Membership.{IsWide, FirstAt}
 use Rattle.lra_poly.specs.Inclusions.{IsInclusion}
+use Rattle.lra_poly.specs.declared.inclusion.Inclusion.{Inclusion}
+use Rattle.lra_poly.specs.declared.inclusion.Inclusion.TheVariants as inclusion
 use Rattle.lra_poly.specs.Maxima.{IsMaximum}
 use Rattle.lra_base.specs.declared.refusals.Place.{Place}
 use Rattle.lra_tree.specs.Tokens.{place_behind, greatest_length}
@@ -23,10 +26,11 @@ use Rattle.lra_findings.specs.RefusalText.{refusal_text}
 use Rattle.lra_findings.specs.ReportText.{text_line}
 use Rattle.lra_script.specs.ScriptText.{lines, is_skipped, words}
 use Rattle.lra_script.specs.LineForms.{Generator, given_of, line_of, Line, Dims, Make, Ask, Recipe, Con, Gen, Combine}
-use Rattle.lra_script.specs.LineForms.{Forget, Question, Show, Holds, Include, Maximise}
+use Rattle.lra_script.specs.LineForms.{Widen, Limited, Map, Forget, Question, Show, Holds, Include, Maximise}
 use Rattle.lra_calc.specs.ShownSets.{show_text, holds_text, include_text, is_wide_inclusion, maximise_text}
-use Rattle.lra_calc.specs.ShownSets.{is_wide_maximum}
-use Rattle.lra_calc.specs.MadeSets.{IsMadeOfRows, IsMadeOfGenerators, IsCombined, IsForgotten}
+use Rattle.lra_calc.specs.ShownSets.{is_wide_maximum, generator_at}
+use Rattle.lra_calc.specs.MadeSets.{IsMadeOfRows, IsMadeOfGenerators, IsCombined, IsMapped, IsForgotten}
+use Rattle.lra_calc.specs.MadeSets.{IsWidened, IsLimited, IsAllFlagged}
 
 -- why a line is refused
 pub data Fault : Type 0 where
@@ -36,6 +40,8 @@ pub data Fault : Type 0 where
   UnknownName : List ℕ → Fault
   -- a vector with so many numbers where so many are needed
   WrongDimension : ℕ → ℕ → Fault
+  -- what is to be widened isn't in the other set; the text of its first generator outside
+  NotIncluded : List ℕ → Fault
 
 -- behind `dims`: what each name stands for, if it was made; what was printed, and the first line that was flagged
 pub record Session : Type 0 where
@@ -105,6 +111,19 @@ abbrev pub IsMade : (Bool → Polyhedron → Type 0) → Result Made Fault → T
 IsMade Told (Ok made) = Told made.flagged made.polyhedron
 IsMade Told (Err fault) = ⊥
 
+-- of P widened by Q: what is told, where P is in Q; else refused with the first generator of P outside Q; all points,
+-- flagged, where a product passes before that is known
+abbrev pub WidenedBy : ℕ → Polyhedron → (Bool → Polyhedron → Type 0) → Inclusion → Result Made Fault → Type 0
+WidenedBy n p Told inclusion.Yes result = IsMade Told result
+WidenedBy n p Told (inclusion.No place) result = result ≡ Err (NotIncluded (generator_at p place))
+WidenedBy n p Told (inclusion.Wide place row) result = IsMade (IsAllFlagged n) result
+
+pub record Widens (n : ℕ) (p q : Polyhedron) (Told : Bool → Polyhedron → Type 0)
+    (result : Result Made Fault) : Type 0 where
+  pub answer : Inclusion
+  pub is_right : IsInclusion q.rows p.generators answer
+  pub gives : WidenedBy n p Told answer result
+
 -- what a recipe makes, or why it is refused
 abbrev pub MadeBy : Session → Recipe → Result Made Fault → Type 0
 MadeBy s (Con rows) = Unless (wrong_row s.dims rows) (IsMade (IsMadeOfRows s.dims rows))
@@ -112,6 +131,15 @@ MadeBy s (Gen generators) =
     Unless (wrong_generator s.dims generators) (IsMade (IsMadeOfGenerators s.dims (map given_of generators)))
 MadeBy s (Combine how first second) =
     WithSet first (s.made first) (λ p. WithSet second (s.made second) (λ q. IsMade (IsCombined how s.dims p q)))
+MadeBy s (Widen first second) =
+    WithSet first (s.made first) (λ p. WithSet second (s.made second) (λ q.
+    Widens s.dims p q (IsWidened s.dims p q)))
+MadeBy s (Limited first second given) =
+    WithSet first (s.made first) (λ p. WithSet second (s.made second) (λ q.
+    Unless (wrong_row s.dims given) (Widens s.dims p q (IsLimited s.dims given p q))))
+MadeBy s (Map how from k form) =
+    Unless (wrong_coordinate s.dims k) (WithSet from (s.made from) (λ p.
+    Unless (wrong_width (length form) (suc s.dims)) (IsMade (IsMapped how s.dims k form p))))
 MadeBy s (Forget from k) =
     Unless (wrong_coordinate s.dims k) (WithSet from (s.made from) (λ p. IsMade (IsForgotten s.dims k p)))
 
@@ -232,20 +260,28 @@ pub record Refused : Type 0 where
   pub number : ℕ
   pub fault : Fault
 
+-- with the session before it
+pub record Stopped : Type 0 where
+  pub before : Option Session
+  pub refused : Refused
+
 -- a script's end: the last session, none where all lines are skipped; or its first refused line
 abbrev pub End : Type 0
-End = Result (Option Session) Refused
+End = Result (Option Session) Stopped
 
-abbrev pub GoesOn : ℕ → Result Session Fault → (Option Session → Type 0) → End → Type 0
-GoesOn number (Err fault) Later end = end ≡ Err (record { number = number; fault = fault })
-GoesOn number (Ok s) Later end = Later (Some s)
+abbrev pub stopped : ℕ → Option Session → Fault → Stopped
+stopped number s fault = record { before = s; refused = record { number = number; fault = fault } }
+
+abbrev pub GoesOn : ℕ → Option Session → Result Session Fault → (Option Session → Type 0) → End → Type 0
+GoesOn number s (Err fault) Later end = end ≡ Err (stopped number s fault)
+GoesOn number s (Ok t) Later end = Later (Some t)
 
 -- the line of this number is carried out, then those behind it
 pub record Performs (number : ℕ) (s : Option Session) (line : List ℕ) (Later : Option Session → Type 0)
     (end : End) : Type 0 where
   pub result : Result Session Fault
   pub after : AfterForm number s (line_of (words line)) result
-  pub goes_on : GoesOn number result Later end
+  pub goes_on : GoesOn number s result Later end
 
 abbrev pub SkipsOr : Bool → Type 0 → Type 0 → Type 0
 SkipsOr true Later Here = Later
@@ -278,7 +314,7 @@ pub data Refusal : Type 0 where
 
 abbrev pub ended : End → Result (List ℕ) Refusal
 ended (Ok end) = Ok (output end)
-ended (Err refused) = Err (AtLine refused)
+ended (Err stop) = Err (AtLine stop.refused)
 
 -- all lines are carried out
 pub record Runs (script : List ℕ) (answer : Result (List ℕ) Refusal) : Type 0 where
@@ -294,18 +330,61 @@ TooLongOr false script answer = Runs script answer
 abbrev pub AnswersTo : List ℕ → Result (List ℕ) Refusal → Type 0
 AnswersTo script answer = TooLongOr (nat_lt greatest_length (length script)) script answer
 
+-- the last session before the end, or before the refused line
+abbrev pub last_session : End → Option Session
+last_session (Ok s) = s
+last_session (Err stop) = stop.before
+
 -- no line was flagged
 abbrev pub IsUnflagged : Option Session → Type 0
 IsUnflagged None = Unit {0}
 IsUnflagged (Some s) = s.flagged ≡ None
 
--- a script that isn't flagged has one output
-abbrev pub HasOneOutput : List ℕ → Type 0
-HasOneOutput script =
-    (s t : Option Session) → CarriesOut 1 None (lines script) (Ok s) → CarriesOut 1 None (lines script) (Ok t)
-    → IsUnflagged s → IsUnflagged t → s ≡ t
+-- a script has one end where no line is flagged: one output, or one refusal
+abbrev pub HasOneEnd : List ℕ → Type 0
+HasOneEnd script =
+    (e f : End) → CarriesOut 1 None (lines script) e → CarriesOut 1 None (lines script) f
+    → IsUnflagged (last_session e) → IsUnflagged (last_session f) → e ≡ f
 
--- both are outputs, or both are one refusal: whether a script is refused, and why, is told by its lines alone
+-- a flagged set may be larger, so whether a set is in another isn't told by the lines alone; all other faults are
+abbrev pub IsToldByWords : Fault → Type 0
+IsToldByWords BadLine = Unit {0}
+IsToldByWords (UnknownName name) = Unit {0}
+IsToldByWords (WrongDimension count needed) = Unit {0}
+IsToldByWords (NotIncluded generator) = ⊥
+
+abbrev pub IsToldByLines : Result (List ℕ) Refusal → Type 0
+IsToldByLines (Ok output) = Unit {0}
+IsToldByLines (Err (TooLong place)) = Unit {0}
+IsToldByLines (Err (AtLine refused)) = IsToldByWords refused.fault
+
+-- so all are in a script without a widening
+abbrev pub is_widening : Recipe → Bool
+is_widening (Con rows) = false
+is_widening (Gen generators) = false
+is_widening (Combine how first second) = false
+is_widening (Widen first second) = true
+is_widening (Limited first second given) = true
+is_widening (Map how from k form) = false
+is_widening (Forget from k) = false
+
+abbrev pub widens : Option Line → Bool
+widens None = false
+widens (Some (Dims n)) = false
+widens (Some (Make name recipe)) = is_widening recipe
+widens (Some (Ask question)) = false
+
+abbrev pub NeverWidens : List ℕ → Type 0
+NeverWidens script = All (λ line. widens (line_of (words line)) ≡ false) (lines script)
+
+-- no answer to the script is an output, or a refusal
+abbrev pub NeverRuns : List ℕ → Type 0
+NeverRuns script = (output : List ℕ) → ¬ (AnswersTo script (Ok output))
+
+abbrev pub NeverIsRefused : List ℕ → Type 0
+NeverIsRefused script = (r : Refusal) → ¬ (AnswersTo script (Err r))
+
+-- both are outputs, or both are one refusal
 abbrev pub AgreesWith : {A B : Type 0} → Result A B → Result A B → Type 0
 AgreesWith (Ok a) (Ok b) = Unit {0}
 AgreesWith (Ok a) (Err g) = ⊥
@@ -318,6 +397,7 @@ abbrev pub fault_text : Fault → List ℕ
 fault_text BadLine = codes "BadLine"
 fault_text (UnknownName name) = codes "UnknownName " ++ name
 fault_text (WrongDimension count needed) = codes "WrongDimension " ++ decimal count ++ codes " " ++ decimal needed
+fault_text (NotIncluded generator) = codes "NotIncluded " ++ generator
 
 -- written in place of all output
 abbrev pub refused_text : Refusal → List ℕ

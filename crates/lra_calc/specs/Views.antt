@@ -1,5 +1,5 @@
 -- What the values of the code stand for.
-use Rattle.std.specs.Prelude.{◌≡◌, ◌≤◌, ◌<◌, ℕ, ◌+◌, ℤ, pos, ◌<ℤ◌, Bool, true, false, List, ◌∷◌, Option, Some, None}
+use Rattle.std.specs.Prelude.{◌≡◌, ◌≤◌, ◌<◌, ℕ, ◌+◌, pos, ◌<ℤ◌, Bool, true, false, List, ◌∷◌, Option, Some, None}
 use Rattle.std.specs.Prelude.{option_map, Result, Ok, Err, Vec, IfSome, string_bytes}
 use Rattle.std.specs.BTreeMap.{get_by_text}
 use Rattle.std.specs.declared.alloc.Global.{Global}
@@ -12,7 +12,10 @@ use Rattle.lra_poly.specs.declared.inclusion.Inclusion.{Inclusion}
 use Rattle.lra_poly.specs.declared.inclusion.Inclusion.TheVariants as inclusion
 use Rattle.lra_poly.specs.declared.maximum.Maximum.{Maximum}
 use Rattle.lra_poly.specs.declared.maximum.Maximum.TheVariants as maximum
+use Rattle.lra_widen.specs.declared.error.WidenError.{WidenError}
+use Rattle.lra_widen.specs.declared.error.WidenError.TheVariants as widen_error
 use Rattle.lra_script.specs.LineForms.{greatest_dims}
+use Rattle.lra_calc.specs.ShownSets.{generator_at}
 use Rattle.lra_calc.specs.Script as script
 use Rattle.lra_calc.specs.declared.making.Made as making
 use Rattle.lra_calc.specs.declared.answering.Answer as answering
@@ -56,6 +59,10 @@ IsPlacedMaximum count (maximum.Wide place) = Unit {0}
 IsPlacedMaximum count (maximum.Unbounded place) = place < count
 IsPlacedMaximum count (maximum.At num den place) = (place < count) × (pos 0 <ℤ den)
 
+abbrev pub IsPlacedRefusal : ℕ → WidenError → Type 0
+IsPlacedRefusal count (widen_error.NotIncluded place) = place < count
+IsPlacedRefusal count widen_error.Memory = Unit {0}
+
 -- sessions ---------------------------------------------------------------------------------------------------------
 
 abbrev pub session_of : S.Session → script.Session
@@ -77,11 +84,19 @@ abbrev pub fault_of : F.Fault → script.Fault
 fault_of fault.BadLine = script.BadLine
 fault_of (fault.UnknownName name) = script.UnknownName (string_bytes name)
 fault_of (fault.WrongDimension count needed) = script.WrongDimension count needed
+fault_of (fault.NotIncluded generator) = script.NotIncluded (string_bytes generator)
 
 -- refused, since no set was made under the name; want of memory says nothing
 abbrev pub IsUnknown : List ℕ → Option Polyhedron → LineError → Type 0
 IsUnknown name set (line_error.Refused f) = (set ≡ None) × (fault_of f ≡ script.UnknownName name)
 IsUnknown name set line_error.Memory = Unit {0}
+
+-- refused with the generator that is outside; want of memory says nothing
+abbrev pub TellsOutside : Polyhedron → WidenError → LineError → Type 0
+TellsOutside p (widen_error.NotIncluded place) (line_error.Refused f) =
+    fault_of f ≡ script.NotIncluded (generator_at p place)
+TellsOutside p widen_error.Memory (line_error.Refused f) = ⊥
+TellsOutside p error line_error.Memory = Unit {0}
 
 -- the answer is one that the definition allows; want of memory says nothing
 abbrev pub Gives : {A B : Type 0} → (A → B) → Result A LineError → (Result B script.Fault → Type 0) → Type 0
@@ -99,16 +114,16 @@ StepsTo number s line (Ok t) =
     (rest : List (List ℕ)) (end : script.End) → script.CarriesOut (number + 1) (option_map session_of t) rest end
     → script.CarriesOut number (option_map session_of s) (line ∷ rest) end
 StepsTo number s line (Err (calc_error.Refused (refusal.Line at f))) =
-    (rest : List (List ℕ))
-    → script.CarriesOut number (option_map session_of s) (line ∷ rest)
-    (Err (record { number = at; fault = fault_of f }))
+    (rest : List (List ℕ)) → (before : Option script.Session)
+    × script.CarriesOut number (option_map session_of s) (line ∷ rest) (Err (script.stopped at before (fault_of f)))
 StepsTo number s line (Err (calc_error.Refused (refusal.TooLong place))) = ⊥
 StepsTo number s line (Err calc_error.Memory) = Unit {0}
 
 -- all lines leave this session, or the one told is refused
 abbrev pub Ends : Result (Option S.Session) CalcError → (script.End → Type 0) → Type 0
 Ends (Ok t) Told = Told (Ok (option_map session_of t))
-Ends (Err (calc_error.Refused (refusal.Line at f))) Told = Told (Err (record { number = at; fault = fault_of f }))
+Ends (Err (calc_error.Refused (refusal.Line at f))) Told =
+    (before : Option script.Session) × Told (Err (script.stopped at before (fault_of f)))
 Ends (Err (calc_error.Refused (refusal.TooLong place))) Told = ⊥
 Ends (Err calc_error.Memory) Told = Unit {0}
 

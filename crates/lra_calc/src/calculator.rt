@@ -1,10 +1,14 @@
 //! What a script writes.
 
-ghost use Rattle.std.specs.Prelude.{List, ℕ, ℤ, Result, None, ◌≡◌, ◌<◌, ◌^◌, ◌++◌, length, map, string_bytes, Some};
-ghost use Rattle.std.specs.Prelude.{IfOk, IfSome, OnOk, option_map};
+ghost use Rattle.std.specs.Prelude.{List, ℕ, suc, ℤ, Result, None, ◌≡◌, ◌<◌, ◌^◌, ◌++◌, length, map, Some};
+ghost use Rattle.std.specs.Prelude.{string_bytes, IfOk, IfSome, OnOk, option_map};
 ghost use Rattle.lra_linear.specs.Points.{SameSet};
 ghost use Rattle.lra_linear.specs.Descriptions.{Con, Gen};
 ghost use Rattle.lra_linear.specs.Polyhedra.{Polyhedron, IsPolyhedron};
+ghost use Rattle.lra_poly.specs.Inclusions.{IsInclusion, TellsInclusion};
+ghost use Rattle.lra_poly.specs.Maxima.{IsMaximum, TellsMaximum};
+ghost use Rattle.lra_poly.specs.declared.inclusion.Inclusion.{Inclusion};
+ghost use Rattle.lra_poly.specs.declared.maximum.Maximum.{Maximum};
 ghost use Rattle.lra_script.specs.ScriptText as text;
 ghost use Rattle.lra_script.specs.LineForms as form;
 ghost use Rattle.lra_calc.specs.Script as spec;
@@ -130,12 +134,20 @@ fn run(alloc: Global, bytes: &[u8]) -> Result<Vec<u8>, CalcError>
 #[tactic(auto, using(crate::proofs::SessionLemmas::membership_tells))]
 pub fn script(alloc: Global, bytes: &[u8]) -> Result<Vec<u8>, CalcError>
     ensures answer { Answers result (spec.AnswersTo bytes.now) }
-    // Whether a script is refused, and why, is told by its lines alone; and one that isn't flagged has one output.
-    ensures one_refusal { (a b : Result (List ℕ) spec.Refusal) →
-        spec.AnswersTo bytes.now a → spec.AnswersTo bytes.now b → spec.AgreesWith a b }
-    ensures one_output { spec.HasOneOutput bytes.now }
+    // Whether a script is refused, and why, is told by its lines alone, but for sets that are widened and aren't in the
+    // other; and a script of which no line is flagged has one answer.
+    ensures one_refusal { (a b : Result (List ℕ) spec.Refusal) → spec.AnswersTo bytes.now a →
+        spec.AnswersTo bytes.now b → spec.IsToldByLines a → spec.IsToldByLines b → spec.AgreesWith a b }
+    ensures without_widenings { spec.NeverWidens bytes.now → (a : Result (List ℕ) spec.Refusal) →
+        spec.AnswersTo bytes.now a → spec.IsToldByLines a }
+    ensures one_end { spec.HasOneEnd bytes.now }
     // What an answer to `holds` says of the set that the name stands for, and where it is wide.
     ensures points { (p : Polyhedron) (x : List ℤ) → spec.TellsPoints p.rows x (spec.membership p.rows x) }
+    // What an answer to `include` says of the sets, and an answer to `maximise`.
+    ensures inclusions { (p q : Polyhedron) (answer : Inclusion) → IsPolyhedron p →
+        IsInclusion q.rows p.generators answer → TellsInclusion p q answer }
+    ensures maxima { (p : Polyhedron) (numbers : List ℤ) (answer : Maximum) → IsPolyhedron p →
+        length numbers ≡ suc p.dims → IsMaximum numbers p.generators answer → TellsMaximum p numbers answer }
     // What `show` prints describes the same points twice.
     ensures both { (p : Polyhedron) → IsPolyhedron p → SameSet p.dims (Con p.rows) (Gen p.generators) }
 {

@@ -7,6 +7,7 @@ mod making;
 mod refusal;
 mod session;
 mod showing;
+mod widening;
 
 pub use calculator::script;
 pub use refusal::{CalcError, CalcRefusal, Fault};

@@ -1,6 +1,6 @@
 //! What recipes make: polyhedra, of constraints, of generators or of other polyhedra.
 
-ghost use Rattle.std.specs.Prelude.{◌≡◌, ◌≤◌, ◌<◌, ◌∷◌, suc, length, pos, map, None, IfOk, option_map};
+ghost use Rattle.std.specs.Prelude.{◌≡◌, ◌≤◌, ◌<◌, ◌∷◌, suc, length, pos, map, None, IfOk, OnOk, option_map};
 ghost use Rattle.std.specs.List.{All};
 ghost use Rattle.lra_linear.specs.Descriptions.{Con as points_of};
 ghost use Rattle.lra_linear.specs.Points.{IsWithin};
@@ -16,10 +16,10 @@ ghost use Rattle.lra_calc.specs.Views.{fault_of, is_flagged};
 
 use crate::refusal::Fault;
 use lra_lin::LinExpr;
-use lra_maps::{forget, time_elapse};
+use lra_maps::{forget, image, preimage, time_elapse};
 use lra_poly::{Outcome, Poly};
 use lra_row::Row;
-use lra_script::{Combination, Constraint, Generator};
+use lra_script::{Combination, Constraint, Generator, Mapping};
 use lra_sys::{ConSys, GenKind, GenSys};
 use std::alloc::{AllocError, Global};
 
@@ -94,7 +94,11 @@ pub fn wrong_coordinate(n: usize, coordinate: usize) -> Option<Fault>
 }
 
 /// The constraints, each of n + 1 numbers.
-fn constraints_of_rows(alloc: Global, n: usize, rows: &[Constraint]) -> Result<ConSys, AllocError>
+pub fn constraints_of_rows(
+    alloc: Global,
+    n: usize,
+    rows: &[Constraint],
+) -> Result<ConSys, AllocError>
     requires few { n ≤ greatest_dims }
     requires widths { script.wrong_row n (map constraint_of rows.now) ≡ None }
     ensures dims { IfOk result (λ s. s.dims ≡ n) }
@@ -160,7 +164,7 @@ pub fn form_of(alloc: Global, numbers: &[i64]) -> Result<LinExpr, AllocError>
 }
 
 /// What an operation made that had this outcome.
-fn made_with(polyhedron: Poly, outcome: Outcome) -> Made
+pub fn made_with(polyhedron: Poly, outcome: Outcome) -> Made
     ensures polyhedron { result.polyhedron ≡ polyhedron }
     ensures flagged { result.is_flagged ≡ is_flagged outcome }
     ensures canonical { IsPolyhedron polyhedron }
@@ -228,6 +232,42 @@ pub fn combine(how: Combination, first: &Poly, second: &Poly) -> Result<Made, Al
 {
     let mut set = first.copy()?;
     let outcome = combine_into(how, &mut set, second)?;
+    Ok(made_with(set, outcome))
+}
+
+/// The set becomes what the form in place of the coordinate x, from 0, makes of it.
+fn map_into(how: Mapping, set: &mut Poly, x: usize, form: &LinExpr) -> Result<Outcome, AllocError>
+    requires column { x < set.old.dims }
+    requires form { length form.now.coefficients ≡ set.old.dims }
+    ensures dims { OnOk result (set.new.dims ≡ set.old.dims) }
+    ensures exact { IfOk result (IfExact (IsPolyhedronOf set.old.dims
+        (sets.mapped how set.old.dims (suc x) (form_row form.now) set.old) set.new)) }
+    ensures within { IfOk result (λ _. IsWithin set.old.dims
+        (sets.mapped how set.old.dims (suc x) (form_row form.now) set.old) (points_of set.new.rows)) }
+    ensures strain { IfOk result (IfFlagged (sets.MappingStrains how (suc x) (form_row form.now) set.old)) }
+{
+    match how {
+        Mapping::Image => image(set, x, form),
+        Mapping::Preimage => preimage(set, x, form),
+    }
+}
+
+/// The set mapped by the form, its constant first, in place of the coordinate of this number, from 1.
+pub fn map_set(
+    how: Mapping,
+    from: &Poly,
+    coordinate: usize,
+    form: &LinExpr,
+) -> Result<Made, AllocError>
+    requires least { 1 ≤ coordinate }
+    requires most { coordinate ≤ from.now.dims }
+    requires form { length form.now.coefficients ≡ from.now.dims }
+    ensures dims { IfOk result (λ m. m.polyhedron.dims ≡ from.now.dims) }
+    ensures made { IfOk result (λ m. sets.IsMapped how from.now.dims coordinate (form_row form.now) from.now
+        m.is_flagged m.polyhedron) }
+{
+    let mut set = from.copy()?;
+    let outcome = map_into(how, &mut set, coordinate - 1, form)?;
     Ok(made_with(set, outcome))
 }
 

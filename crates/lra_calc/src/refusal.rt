@@ -22,6 +22,9 @@ pub enum Fault {
 
     /// A row or a point has another count of numbers than is needed.
     WrongDimension { count: usize, needed: usize },
+
+    /// The set that is to be widened isn't in the other; its first generator outside, as it is shown.
+    NotIncluded(String),
 }
 
 impl Drop for Fault {
@@ -33,6 +36,7 @@ impl Drop for Fault {
                 count: _,
                 needed: _,
             } => {}
+            Fault::NotIncluded(_) => {}
         }
     }
 }
@@ -66,7 +70,8 @@ fn dimension_text(alloc: Global, count: usize, needed: usize) -> Result<String, 
 }
 
 impl Fault {
-    /// The fault and what it names: `BadLine`, `UnknownName NAME`, `WrongDimension COUNT NEEDED`.
+    /// The fault and what it names: `BadLine`, `UnknownName NAME`, `WrongDimension COUNT NEEDED`, `NotIncluded
+    /// GENERATOR`.
     pub fn text(&self, alloc: Global) -> Result<String, AllocError>
         ensures { IfOk result (λ text. string_bytes text ≡ script.fault_text (fault_of self.now)) }
     {
@@ -74,6 +79,7 @@ impl Fault {
             Fault::BadLine => String::from_str(alloc, "BadLine"),
             Fault::UnknownName(name) => format!(in alloc; "UnknownName {name}"),
             Fault::WrongDimension { count, needed } => dimension_text(alloc, *count, *needed),
+            Fault::NotIncluded(generator) => format!(in alloc; "NotIncluded {generator}"),
         }
     }
 }

@@ -11,12 +11,13 @@ ghost use Rattle.lra_calc.specs.Views.{session_of, made_of, answer_of, IsSession
 
 use crate::answering::{Answer, hold, include, maximise, show};
 use crate::making::{
-    Made, combine, make_of_generators, make_of_rows, without_coordinate, wrong_coordinate,
-    wrong_generator, wrong_row, wrong_width,
+    Made, combine, form_of, make_of_generators, make_of_rows, map_set, without_coordinate,
+    wrong_coordinate, wrong_generator, wrong_row, wrong_width,
 };
 use crate::refusal::{Fault, LineError};
+use crate::widening::{limit, widen};
 use lra_poly::Poly;
-use lra_script::{Combination, Constraint, Generator, Line, Question, Recipe};
+use lra_script::{Combination, Constraint, Generator, Line, Mapping, Question, Recipe};
 use std::alloc::{AllocError, Global};
 use std::collections::BTreeMap;
 
@@ -123,6 +124,62 @@ impl Session {
         Ok(made)
     }
 
+    fn widen(&self, alloc: Global, first: &str, second: &str) -> Result<Made, LineError>
+        requires { IsSession self.now }
+        ensures gives { Gives made_of result
+            (script.MadeBy (session_of self.now) (form.Widen first.now second.now)) }
+        ensures dims { IfOk result (λ m. m.polyhedron.dims ≡ self.now.dims) }
+    {
+        let first = self.set(alloc, first)?;
+        let second = self.set(alloc, second)?;
+        widen(alloc, first, second)
+    }
+
+    fn limit(
+        &self,
+        alloc: Global,
+        first: &str,
+        second: &str,
+        given: &[Constraint],
+    ) -> Result<Made, LineError>
+        requires { IsSession self.now }
+        ensures gives { Gives made_of result (script.MadeBy (session_of self.now)
+            (form.Limited first.now second.now (map constraint_of given.now))) }
+        ensures dims { IfOk result (λ m. m.polyhedron.dims ≡ self.now.dims) }
+    {
+        let first = self.set(alloc, first)?;
+        let second = self.set(alloc, second)?;
+        if let Some(fault) = wrong_row(self.dims, given) {
+            return Err(LineError::Refused(fault));
+        }
+        limit(alloc, first, second, given)
+    }
+
+    fn map(
+        &self,
+        alloc: Global,
+        how: Mapping,
+        from: &str,
+        coordinate: usize,
+        numbers: &[i64],
+    ) -> Result<Made, LineError>
+        requires { IsSession self.now }
+        ensures gives { Gives made_of result
+            (script.MadeBy (session_of self.now) (form.Map how from.now coordinate numbers.now)) }
+        ensures dims { IfOk result (λ m. m.polyhedron.dims ≡ self.now.dims) }
+    {
+        if let Some(fault) = wrong_coordinate(self.dims, coordinate) {
+            return Err(LineError::Refused(fault));
+        }
+        let set = self.set(alloc, from)?;
+        if let Some(fault) = wrong_width(numbers.len(), self.dims + 1) {
+            return Err(LineError::Refused(fault));
+        }
+        let form = form_of(alloc, numbers)?;
+        let made = map_set(how, set, coordinate, &form)?;
+        Ok(made)
+    }
+
     fn forget(&self, alloc: Global, from: &str, coordinate: usize) -> Result<Made, LineError>
         requires { IsSession self.now }
         ensures gives { Gives made_of result
@@ -153,6 +210,13 @@ impl Session {
                 first.as_str(),
                 second.as_str(),
             ),
+            Recipe::Widen(first, second) => self.widen(alloc, first.as_str(), second.as_str()),
+            Recipe::Limited(first, second, given) => {
+                self.limit(alloc, first.as_str(), second.as_str(), given)
+            }
+            Recipe::Map(how, from, coordinate, numbers) => {
+                self.map(alloc, *how, from.as_str(), *coordinate, numbers)
+            }
             Recipe::Forget(from, coordinate) => self.forget(alloc, from.as_str(), *coordinate),
         }
     }

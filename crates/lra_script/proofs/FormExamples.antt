@@ -4,8 +4,9 @@ use Rattle.std.specs.Prelude.{codes}
 use Rattle.lra_linear.specs.Descriptions.{inequality, equality, generator, line}
 use Rattle.lra_sys.specs.declared.system.GenKind.TheVariants as gen
 use Rattle.lra_script.specs.ScriptText.{lines, words, is_skipped, is_name, number_of}
-use Rattle.lra_script.specs.LineForms.{Line, Dims, Make, Ask, Con, Gen, Combine, Forget, Show, Holds, Include, Maximise, given_of, line_of}
+use Rattle.lra_script.specs.LineForms.{Line, Dims, Make, Ask, Con, Gen, Combine, Widen, Limited, Map, Forget, Show, Holds, Include, Maximise, given_of, line_of}
 use Rattle.lra_script.specs.declared.recipes.Combination.TheVariants.{Meet, Hull, Elapse}
+use Rattle.lra_script.specs.declared.recipes.Mapping.TheVariants.{Image, Preimage}
 
 -- catches a return that stays where no line feed follows it, and one that is dropped twice
 returns : lines (codes "a" ++ 13 ∷ 10 ∷ 13 ∷ 13 ∷ 10 ∷ (codes "b" ++ 13 ∷ [])) ≡ codes "a" ∷ (13 ∷ []) ∷ codes "b" ∷ []
@@ -70,6 +71,18 @@ combined_lines : (said (codes "meet R P Q") ≡ Some (Make (codes "R") (Combine 
     (said (codes "elapse R P Q") ≡ Some (Make (codes "R") (Combine Elapse (codes "P") (codes "Q")))) × (said (codes "meet R P q") ≡ None) × (said (codes "meet R P") ≡ None) ×
     (said (codes "hull R P Q S") ≡ None)
 combined_lines = (refl, refl, refl, refl, refl, refl)
+
+-- catches given constraints that a `widen` may have, a `limited` whose second set is a row, and a `;` behind the sets
+widened_lines : (said (codes "widen R P Q") ≡ Some (Make (codes "R") (Widen (codes "P") (codes "Q")))) × (said (codes "widen R P") ≡ None) × (said (codes "widen R P Q >= 1 0") ≡ None) ×
+    (said (codes "limited R P Q >= 1 0") ≡ Some (Make (codes "R") (Limited (codes "P") (codes "Q") (inequality (pos 1 ∷ pos 0 ∷ []) ∷ [])))) ×
+    (said (codes "limited R P Q") ≡ Some (Make (codes "R") (Limited (codes "P") (codes "Q") []))) × (said (codes "limited R P >= 1 0") ≡ None) × (said (codes "limited R P Q ; >= 1 0") ≡ None)
+widened_lines = (refl, refl, refl, refl, refl, refl, refl)
+
+-- catches a form before its coordinate, and a coefficient of more than 64 bits
+map_lines : (said (codes "image R P 1 0 2") ≡ Some (Make (codes "R") (Map Image (codes "P") 1 (pos 0 ∷ pos 2 ∷ [])))) ×
+    (said (codes "preimage R P 2") ≡ Some (Make (codes "R") (Map Preimage (codes "P") 2 []))) × (said (codes "image R P") ≡ None) × (said (codes "image R P 25 0 1") ≡ None) ×
+    (said (codes "image R P 1 0 9223372036854775808") ≡ None)
+map_lines = (refl, refl, refl, refl, refl)
 
 -- catches a coordinate that is no number, and one that can be none
 forget_lines : (said (codes "forget R P 2") ≡ Some (Make (codes "R") (Forget (codes "P") 2))) × (said (codes "forget R P") ≡ None) × (said (codes "forget R P 25") ≡ None) ×

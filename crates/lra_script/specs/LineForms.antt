@@ -9,6 +9,8 @@ use Rattle.lra_sys.specs.declared.system.GenKind.TheVariants as gen
 use Rattle.lra_script.specs.ScriptText.{is_name, number_of}
 use Rattle.lra_script.specs.declared.recipes.Combination.{Combination}
 use Rattle.lra_script.specs.declared.recipes.Combination.TheVariants.{Meet, Hull, Elapse}
+use Rattle.lra_script.specs.declared.recipes.Mapping.{Mapping}
+use Rattle.lra_script.specs.declared.recipes.Mapping.TheVariants.{Image, Preimage}
 
 -- a generator as it is written: a point's divisor stands before its numerators
 pub record Generator : Type 0 where
@@ -23,6 +25,12 @@ pub data Recipe : Type 0 where
   Gen : List Generator → Recipe
   -- meet R P Q, hull R P Q, elapse R P Q: of P and Q
   Combine : Combination → List ℕ → List ℕ → Recipe
+  -- widen R P Q: of P, widened by Q, in which it lies
+  Widen : List ℕ → List ℕ → Recipe
+  -- limited R P Q ROW ; ROW ..: so, and of these constraints those that are valid on both stay
+  Limited : List ℕ → List ℕ → List Given → Recipe
+  -- image R P K FORM, preimage R P K FORM: of P, by the form c0 + c1*x1 + .. + cN*xN in place of coordinate K
+  Map : Mapping → List ℕ → ℕ → List ℤ → Recipe
   -- forget R P K: of P, with any value of coordinate K
   Forget : List ℕ → ℕ → Recipe
 
@@ -48,6 +56,11 @@ pub data Line : Type 0 where
 abbrev pub with_first : {A : Type 0} → Option A → Option (List A) → Option (List A)
 with_first None rest = None
 with_first (Some x) rest = option_map (λ xs. x ∷ xs) rest
+
+-- the first of two that is one
+abbrev pub or_else : {A : Type 0} → Option A → Option A → Option A
+or_else (Some x) later = Some x
+or_else None later = later
 
 -- all of these, where each is one
 abbrev pub all_of : {A B : Type 0} → (A → Option B) → List A → Option (List B)
@@ -138,20 +151,63 @@ combine_recipe how (first ∷ []) = None
 combine_recipe how (first ∷ second ∷ []) = with_name first (with_name second (Some (Combine how first second)))
 combine_recipe how (first ∷ second ∷ more ∷ rest) = None
 
+abbrev pub widen_recipe : List (List ℕ) → Option Recipe
+widen_recipe [] = None
+widen_recipe (first ∷ []) = None
+widen_recipe (first ∷ second ∷ []) = with_name first (with_name second (Some (Widen first second)))
+widen_recipe (first ∷ second ∷ more ∷ rest) = None
+
+-- without a row nothing more stays than in a widening
+abbrev pub limited_recipe : List (List ℕ) → Option Recipe
+limited_recipe [] = None
+limited_recipe (first ∷ []) = None
+limited_recipe (first ∷ second ∷ rest) =
+    with_name first (with_name second (option_map (Limited first second) (parts_of row_of rest)))
+
+-- a number of a form has 64 bits
+abbrev pub with_64_bits : ℤ → Option ℤ
+with_64_bits (pos n) = if nat_lt n (2 ^ 63) then Some (pos n) else None
+with_64_bits (negsuc n) = if nat_lt n (2 ^ 63) then Some (negsuc n) else None
+
+abbrev pub coefficient_of : List ℕ → Option ℤ
+coefficient_of word = option_and_then with_64_bits (number_of word)
+
 -- that K is one from 1 to N is asked where N is known
+abbrev pub map_behind : Mapping → List ℕ → List (List ℕ) → Option Recipe
+map_behind how from [] = None
+map_behind how from (word ∷ form) =
+    option_and_then (λ k. option_map (Map how from k) (all_of coefficient_of form)) (small_number word)
+
+abbrev pub map_recipe : Mapping → List (List ℕ) → Option Recipe
+map_recipe how [] = None
+map_recipe how (from ∷ rest) = with_name from (map_behind how from rest)
+
 abbrev pub forget_recipe : List (List ℕ) → Option Recipe
 forget_recipe [] = None
 forget_recipe (from ∷ rest) = with_name from (option_map (Forget from) (lone_number rest))
+
+-- of one set
+abbrev pub change_recipe : List ℕ → List (List ℕ) → Option Recipe
+change_recipe word rest =
+    if bytes_eq word (codes "image") then map_recipe Image rest
+    else (if bytes_eq word (codes "preimage") then map_recipe Preimage rest
+    else (if bytes_eq word (codes "forget") then forget_recipe rest else None))
+
+-- of two sets
+abbrev pub pair_recipe : List ℕ → List (List ℕ) → Option Recipe
+pair_recipe word rest =
+    if bytes_eq word (codes "meet") then combine_recipe Meet rest
+    else (if bytes_eq word (codes "hull") then combine_recipe Hull rest
+    else (if bytes_eq word (codes "elapse") then combine_recipe Elapse rest
+    else (if bytes_eq word (codes "widen") then widen_recipe rest
+    else (if bytes_eq word (codes "limited") then limited_recipe rest else None))))
 
 -- what stands behind the name
 abbrev pub recipe_of : List ℕ → List (List ℕ) → Option Recipe
 recipe_of word rest =
     if bytes_eq word (codes "con") then option_map Con (parts_of row_of rest)
     else (if bytes_eq word (codes "gen") then option_map Gen (parts_of generator_of rest)
-    else (if bytes_eq word (codes "meet") then combine_recipe Meet rest
-    else (if bytes_eq word (codes "hull") then combine_recipe Hull rest
-    else (if bytes_eq word (codes "elapse") then combine_recipe Elapse rest
-    else (if bytes_eq word (codes "forget") then forget_recipe rest else None)))))
+    else or_else (pair_recipe word rest) (change_recipe word rest))
 
 abbrev pub make_line : List ℕ → List (List ℕ) → Option Line
 make_line word [] = None
@@ -175,14 +231,6 @@ include_question (first ∷ []) = None
 include_question (first ∷ second ∷ []) = with_name first (with_name second (Some (Include first second)))
 include_question (first ∷ second ∷ more ∷ rest) = None
 
--- a number of a form has 64 bits
-abbrev pub with_64_bits : ℤ → Option ℤ
-with_64_bits (pos n) = if nat_lt n (2 ^ 63) then Some (pos n) else None
-with_64_bits (negsuc n) = if nat_lt n (2 ^ 63) then Some (negsuc n) else None
-
-abbrev pub coefficient_of : List ℕ → Option ℤ
-coefficient_of word = option_and_then with_64_bits (number_of word)
-
 abbrev pub maximise_question : List (List ℕ) → Option Question
 maximise_question [] = None
 maximise_question (name ∷ form) = with_name name (option_map (Maximise name) (all_of coefficient_of form))
@@ -195,11 +243,6 @@ question_of word rest =
     else (if bytes_eq word (codes "maximise") then maximise_question rest else None)))
 
 -- lines ------------------------------------------------------------------------------------------------------------
-
--- the first of two that is one
-abbrev pub or_else : {A : Type 0} → Option A → Option A → Option A
-or_else (Some x) later = Some x
-or_else None later = later
 
 -- what the words say, or none where they are no line
 abbrev pub line_of : List (List ℕ) → Option Line

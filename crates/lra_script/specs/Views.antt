@@ -39,6 +39,10 @@ abbrev pub recipe_said : Recipe → form.Recipe
 recipe_said (recipe.Con rows) = form.Con (map constraint_of rows.items)
 recipe_said (recipe.Gen generators) = form.Gen (map generator_of generators.items)
 recipe_said (recipe.Combine how first second) = form.Combine how (string_bytes first) (string_bytes second)
+recipe_said (recipe.Widen first second) = form.Widen (string_bytes first) (string_bytes second)
+recipe_said (recipe.Limited first second given) =
+    form.Limited (string_bytes first) (string_bytes second) (map constraint_of given.items)
+recipe_said (recipe.Map how from k numbers) = form.Map how (string_bytes from) k numbers.items
 recipe_said (recipe.Forget from k) = form.Forget (string_bytes from) k
 
 abbrev pub recipe_of : Option Recipe → Option form.Recipe
@@ -77,6 +81,9 @@ abbrev pub IsRecipe : Recipe → Type 0
 IsRecipe (recipe.Con rows) = Unit {0}
 IsRecipe (recipe.Gen generators) = All (λ g. IsDivided g.kind g.numbers) generators.items
 IsRecipe (recipe.Combine how first second) = Unit {0}
+IsRecipe (recipe.Widen first second) = Unit {0}
+IsRecipe (recipe.Limited first second given) = Unit {0}
+IsRecipe (recipe.Map how from k numbers) = Unit {0}
 IsRecipe (recipe.Forget from k) = Unit {0}
 
 abbrev pub IsQuestion : Question → Type 0

@@ -11,5 +11,5 @@ mod rows;
 pub use lines::{Line, read_line};
 pub use pieces::{is_skipped, raw_lines, without_return, words};
 pub use questions::Question;
-pub use recipes::{Combination, Recipe};
+pub use recipes::{Combination, Mapping, Recipe};
 pub use rows::{Constraint, Generator};

@@ -117,7 +117,7 @@ pub fn number_of(word: &[u8]) -> Option<i128>
 const MOST_DIMS: i128 = 24;
 
 /// The number of a word, where it is one from 0 to 24.
-fn small_number(word: &[u8]) -> Option<usize>
+pub fn small_number(word: &[u8]) -> Option<usize>
     ensures count { result ≡ form.small_number word.now }
     ensures small { IfSome result (λ n. n ≤ form.greatest_dims) }
 {

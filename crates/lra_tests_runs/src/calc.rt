@@ -88,6 +88,104 @@ static SCRIPTS: [(&str, &str); 22] = [
     ),
 ];
 
+/// Scripts with images and preimages, and what is written.
+static MAPPED: [(&str, &str); 8] = [
+    (
+        "dims 2\ngen P point 1 0 0\ngen Q point 1 1 2\nelapse E P Q\nshow E\nimage S E 1 1 1 0\npreimage T S 1 1 1 0\n\
+            include T E\nforget U E 2\nshow U\n",
+        "show E\n  row 2*x1 - x2 = 0\n  row x2 >= 0\n  gen point x1=0 x2=0\n  gen ray x1=1 x2=2\ninclude T E yes\n\
+            show U\n  row x1 >= 0\n  gen point x1=0 x2=0\n  gen ray x1=1 x2=0\n  gen line x1=0 x2=1\nflagged 0\n",
+    ),
+    (
+        "dims 1\ngen P point 1 170141183460469231731687303715884105727\nimage Q P 1 0 2\nshow Q\n",
+        "show Q\n  row true\n  gen point x1=0\n  gen line x1=1\nflagged at line 3\n",
+    ),
+    (
+        "dims 1\ngen P point 1 170141183460469231731687303715884105727\nimage Q P 1 0 1\nshow Q\n",
+        "show Q\n  row x1 = 170141183460469231731687303715884105727\n  gen \
+            point x1=170141183460469231731687303715884105727\nflagged 0\n",
+    ),
+    // an image that isn't the preimage, of a coordinate that is in its form, and a preimage that is empty
+    (
+        "dims 2\ngen P point 1 0 0 ; point 1 2 0\nimage Q P 2 1 3 0\nshow Q\nimage R Q 1 0 -1 1\nshow R\n",
+        "show Q\n  row 3*x1 - x2 = -1\n  row x2 >= 1\n  row x2 <= 7\n  gen point x1=0 x2=1\n  gen point x1=2 x2=7\n\
+            show R\n  row 3*x1 - 2*x2 = 1\n  row x2 >= 1\n  row x2 <= 7\n  gen point x1=1 x2=1\n\
+            \x20 gen point x1=5 x2=7\nflagged 0\n",
+    ),
+    (
+        "dims 2\ngen Q point 1 0 1 ; point 1 2 7\npreimage S Q 2 1 3 0\nshow S\npreimage T Q 1 0 0 1\nshow T\n",
+        "show S\n  row x1 >= 0\n  row x1 <= 2\n  gen point x1=0 x2=0\n  gen point x1=2 x2=0\n  gen line x1=0 x2=1\n\
+            show T\n  empty\nflagged 0\n",
+    ),
+    // a coordinate that is none, then a name that isn't known, then a wrong width
+    ("dims 1\nimage Q P 2 0\n", "refused line 2 BadLine\n"),
+    ("dims 1\npreimage Q P 1\n", "refused line 2 UnknownName P\n"),
+    (
+        "dims 1\ncon P\nimage Q P 1 0\n",
+        "refused line 3 WrongDimension 1 2\n",
+    ),
+];
+
+/// Scripts with widenings, and what is written.
+static WIDENED: [(&str, &str); 12] = [
+    (
+        "dims 2\ncon P = 0 0 1 ; >= 0 1 0\ncon Q >= 0 1 0 ; >= 0 0 1 ; >= 1 0 -1\nwiden R P Q\nshow R\n",
+        "show R\n  row x1 >= 0\n  row x2 >= 0\n  gen point x1=0 x2=0\n  gen ray x1=0 x2=1\n  gen ray x1=1 x2=0\n\
+            flagged 0\n",
+    ),
+    // a row that says on P what one of P's does, in other words, is tight
+    (
+        "dims 2\ncon P = 0 0 1 ; >= 0 1 0\ncon Q >= 0 1 1 ; >= 0 0 1 ; >= 1 0 -1\nwiden R P Q\nshow R\n",
+        "show R\n  row x1 + x2 >= 0\n  row x2 >= 0\n  gen point x1=0 x2=0\n  gen ray x1=-1 x2=1\n\
+            \x20 gen ray x1=1 x2=0\nflagged 0\n",
+    ),
+    // of the given rows one is valid on both, one on P alone and one on none
+    (
+        "dims 2\ncon P = 0 0 1 ; >= 0 1 0\ncon Q >= 0 1 0 ; >= 0 0 1 ; >= 1 0 -1\n\
+            limited R P Q >= 5 0 -1 ; >= 0 1 -1 ; >= 1 -1 0\nshow R\nlimited R P Q\nshow R\n",
+        "show R\n  row x1 >= 0\n  row x2 >= 0\n  row x2 <= 5\n  gen point x1=0 x2=0\n  gen point x1=0 x2=5\n\
+            \x20 gen ray x1=1 x2=0\nshow R\n  row x1 >= 0\n  row x2 >= 0\n  gen point x1=0 x2=0\n\
+            \x20 gen ray x1=0 x2=1\n  gen ray x1=1 x2=0\nflagged 0\n",
+    ),
+    (
+        "dims 1\ngen P\ngen Q point 1 3\nwiden R P Q\nshow R\n",
+        "show R\n  row x1 = 3\n  gen point x1=3\nflagged 0\n",
+    ),
+    (
+        "dims 1\ncon P\ngen Q point 1 0\nwiden R P Q\n",
+        "refused line 4 NotIncluded line x1=1\n",
+    ),
+    (
+        "dims 1\ngen P point 2 1\ngen Q point 1 0\nlimited R P Q >= 0 1\n",
+        "refused line 4 NotIncluded point x1=1/2\n",
+    ),
+    // a product passes before it is known whether P is in Q
+    (
+        "dims 1\ngen P point 1 170141183460469231731687303715884105727\ncon Q >= 1 2\nwiden R P Q\nshow R\n",
+        "show R\n  row true\n  gen point x1=0\n  gen line x1=1\nflagged at line 4\n",
+    ),
+    // a given row with which one does is left out
+    (
+        "dims 1\ngen P point 1 170141183460469231731687303715884105727\nlimited R P P >= 1 2\nshow R\n",
+        "show R\n  row x1 = 170141183460469231731687303715884105727\n  gen \
+            point x1=170141183460469231731687303715884105727\nflagged at line 3\n",
+    ),
+    // a name that isn't known comes before a wrong width, and that before a generator outside
+    ("dims 1\nwiden R P Q\n", "refused line 2 UnknownName P\n"),
+    (
+        "dims 1\ncon P\nlimited R P Q >= 1\n",
+        "refused line 3 UnknownName Q\n",
+    ),
+    (
+        "dims 1\ncon P\ngen Q point 1 0\nlimited R P Q >= 0 1 ; = 1\n",
+        "refused line 4 WrongDimension 1 2\n",
+    ),
+    (
+        "dims 1\ncon P\nwiden R P P >= 0 1\n",
+        "refused line 3 BadLine\n",
+    ),
+];
+
 /// The output, or the line that is written in its place.
 fn written(alloc: Global, bytes: &[u8]) -> Result<Vec<u8>, AllocError> {
     match script(alloc, bytes) {
@@ -108,6 +206,24 @@ fn writes(alloc: Global, bytes: &[u8], expected: &str) -> Result<bool, AllocErro
 #[test]
 fn scripts(rt: HostRuntime) -> Result<(), Fail> {
     for &(text, expected) in SCRIPTS.iter() {
+        let same = writes(rt.alloc(), text.as_bytes(), expected)?;
+        assert_eq!(rt; same, true, "{text}");
+    }
+    Ok(())
+}
+
+#[test]
+fn mapped_scripts(rt: HostRuntime) -> Result<(), Fail> {
+    for &(text, expected) in MAPPED.iter() {
+        let same = writes(rt.alloc(), text.as_bytes(), expected)?;
+        assert_eq!(rt; same, true, "{text}");
+    }
+    Ok(())
+}
+
+#[test]
+fn widened_scripts(rt: HostRuntime) -> Result<(), Fail> {
+    for &(text, expected) in WIDENED.iter() {
         let same = writes(rt.alloc(), text.as_bytes(), expected)?;
         assert_eq!(rt; same, true, "{text}");
     }

@@ -2,12 +2,14 @@ use Rattle.std.proofs.Common.{arith, sym, subst, Err, None}
 use Rattle.lra_base.specs.declared.refusals.Place.{Place}
 use Rattle.lra_tree.proofs.Limit.{limit_is, taken}
 use Rattle.lra_linear.proofs.Polyhedra.{con_gen}
+use Rattle.lra_poly.proofs.GreatestValues.{maximum_tells}
+use Rattle.lra_poly.proofs.InclusionLemmas.{inclusion_tells}
 use Rattle.lra_script.specs.ScriptText.{lines}
 use Rattle.lra_calc.specs.Script.{TooLong, Runs, AnswersTo}
 use Rattle.lra_calc.proofs.Limit.{answer_too_long, answer_not_long}
 use Rattle.lra_calc.proofs.Endings.{answers_by}
-use Rattle.lra_calc.proofs.OneRefusal.{one_refusal}
-use Rattle.lra_calc.proofs.OneOutput.{one_output}
+use Rattle.lra_calc.proofs.OneRefusal.{one_refusal, never_widens}
+use Rattle.lra_calc.proofs.OneEnd.{one_end}
 use Rattle.lra_calc.proofs.calculator.script.Goals as goal
 
 pub slice_bounds-place_behind-end : goal.slice_bounds-place_behind-end
@@ -28,8 +30,8 @@ returns-clause-answer c = answers_by c.run.result (Runs c.args.bytes.now) (Answe
 pub returns-then-bytes-gt-GREATEST_LENGTH-clause-one_refusal : goal.returns-then-bytes-gt-GREATEST_LENGTH-clause-one_refusal
 returns-then-bytes-gt-GREATEST_LENGTH-clause-one_refusal c = one_refusal c.args.bytes.now
 
-pub returns-then-bytes-gt-GREATEST_LENGTH-clause-one_output : goal.returns-then-bytes-gt-GREATEST_LENGTH-clause-one_output
-returns-then-bytes-gt-GREATEST_LENGTH-clause-one_output c = one_output (lines c.args.bytes.now) 1 None
+pub returns-then-bytes-gt-GREATEST_LENGTH-clause-one_end : goal.returns-then-bytes-gt-GREATEST_LENGTH-clause-one_end
+returns-then-bytes-gt-GREATEST_LENGTH-clause-one_end c = one_end (lines c.args.bytes.now) 1 None
 
 pub returns-then-bytes-gt-GREATEST_LENGTH-clause-both : goal.returns-then-bytes-gt-GREATEST_LENGTH-clause-both
 returns-then-bytes-gt-GREATEST_LENGTH-clause-both c = con_gen
@@ -37,8 +39,26 @@ returns-then-bytes-gt-GREATEST_LENGTH-clause-both c = con_gen
 pub returns-clause-one_refusal : goal.returns-clause-one_refusal
 returns-clause-one_refusal c = one_refusal c.args.bytes.now
 
-pub returns-clause-one_output : goal.returns-clause-one_output
-returns-clause-one_output c = one_output (lines c.args.bytes.now) 1 None
+pub returns-clause-one_end : goal.returns-clause-one_end
+returns-clause-one_end c = one_end (lines c.args.bytes.now) 1 None
 
 pub returns-clause-both : goal.returns-clause-both
 returns-clause-both c = con_gen
+
+pub returns-then-bytes-gt-GREATEST_LENGTH-clause-without_widenings : goal.returns-then-bytes-gt-GREATEST_LENGTH-clause-without_widenings
+returns-then-bytes-gt-GREATEST_LENGTH-clause-without_widenings c = λ never a h. never_widens c.args.bytes.now a never h
+
+pub returns-then-bytes-gt-GREATEST_LENGTH-clause-inclusions : goal.returns-then-bytes-gt-GREATEST_LENGTH-clause-inclusions
+returns-then-bytes-gt-GREATEST_LENGTH-clause-inclusions c = inclusion_tells
+
+pub returns-then-bytes-gt-GREATEST_LENGTH-clause-maxima : goal.returns-then-bytes-gt-GREATEST_LENGTH-clause-maxima
+returns-then-bytes-gt-GREATEST_LENGTH-clause-maxima c = maximum_tells
+
+pub returns-clause-without_widenings : goal.returns-clause-without_widenings
+returns-clause-without_widenings c = λ never a h. never_widens c.args.bytes.now a never h
+
+pub returns-clause-inclusions : goal.returns-clause-inclusions
+returns-clause-inclusions c = inclusion_tells
+
+pub returns-clause-maxima : goal.returns-clause-maxima
+returns-clause-maxima c = maximum_tells

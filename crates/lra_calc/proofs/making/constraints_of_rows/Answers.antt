@@ -1,7 +1,7 @@
-use Rattle.std.proofs.Common.{arith, ◌≡◌, ◌∙◌, ◌+◌, suc, ℤ, List, ap, sym, length, length-append, map, drop}
+use Rattle.std.proofs.Common.{arith, ◌∙◌, suc, ℤ, List, ap, sym, length, length-append}
 use Rattle.lra_linear.specs.Kinds.{is_equality}
 use Rattle.lra_script.specs.Views.{constraint_of}
-use Rattle.lra_calc.proofs.MakingLemmas.{all_wide, wide_here, pushed_here}
+use Rattle.lra_calc.proofs.MakingLemmas.{wide_here, pushed_here}
 use Rattle.lra_calc.proofs.making.constraints_of_rows.Goals as goal
 
 pub push-requires : goal.push-requires

@@ -1,4 +1,4 @@
-use Rattle.std.proofs.Common.{arith, ◌≡◌, ◌∙◌, suc, ap, sym, length-append}
+use Rattle.std.proofs.Common.{arith, ◌∙◌, suc, ap, sym, length-append}
 use Rattle.lra_sys.specs.Listed.{is_line}
 use Rattle.lra_script.specs.LineForms.{given_of}
 use Rattle.lra_script.specs.Views.{generator_of}

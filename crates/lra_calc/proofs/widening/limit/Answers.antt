@@ -1,0 +1,29 @@
+use Rattle.std.proofs.Common.{List, map, subst, Ok}
+use Rattle.lra_linear.specs.Descriptions.{Given}
+use Rattle.lra_linear.specs.OperationStrain.{LimitedStrains}
+use Rattle.lra_linear.specs.Widening.{Limited}
+use Rattle.lra_sys.specs.Listed.{constraints}
+use Rattle.lra_script.specs.Views.{constraint_of}
+use Rattle.lra_calc.specs.MadeSets.{IsLimited}
+use Rattle.lra_calc.specs.Script.{Widens}
+use Rattle.lra_calc.specs.Views.{made_of}
+use Rattle.lra_calc.proofs.WidenLemmas.{made_widens, outside_widens, refusal_placed}
+use Rattle.lra_calc.proofs.widening.limit.Goals as goal
+
+pub returns-in-Ok-clause-gives : goal.returns-in-Ok-clause-gives
+returns-in-Ok-clause-gives c =
+    let p = c.args.first.now in
+    let q = c.args.second.now in
+    let given = constraints c.in_ok-given.given in
+    subst (λ (gs : List Given). Widens p.dims p q (IsLimited p.dims gs p q) (Ok (made_of c.made_with.result))) c.in_ok-given.ensures.made
+    (made_widens p q c.in-Ok.polyhedron c.made_with.result.polyhedron (Limited p q given) (LimitedStrains p q given) c.in-Ok.outcome c.made_with.result.is_flagged c.made_with.ensures.polyhedron
+    c.made_with.ensures.flagged c.in-Ok.ensures.dims c.in-Ok.ensures.canonical c.in-Ok.ensures.exact c.in-Ok.ensures.within c.in-Ok.ensures.strain c.in-Ok.ensures.known)
+
+pub outside-requires-clause-placed : goal.outside-requires-clause-placed
+outside-requires-clause-placed c = refusal_placed c.args.first.now c.args.second.now c.in-Err.error c.in-Err.ensures.refused
+
+pub returns-clause-gives : goal.returns-clause-gives
+returns-clause-gives c =
+    let p = c.args.first.now in
+    let q = c.args.second.now in
+    outside_widens p q (IsLimited p.dims (map constraint_of c.args.given.now) p q) c.in-Err.error c.outside.result c.in-Err.ensures.refused c.outside.ensures

@@ -1,0 +1,21 @@
+use Rattle.lra_linear.specs.OperationStrain.{StandardStrains}
+use Rattle.lra_linear.specs.Widening.{Standard}
+use Rattle.lra_calc.specs.MadeSets.{IsWidened}
+use Rattle.lra_calc.proofs.WidenLemmas.{made_widens, outside_widens, refusal_placed}
+use Rattle.lra_calc.proofs.widening.widen.Goals as goal
+
+pub returns-in-Ok-clause-gives : goal.returns-in-Ok-clause-gives
+returns-in-Ok-clause-gives c =
+    let p = c.args.first.now in
+    let q = c.args.second.now in
+    made_widens p q c.in-Ok.polyhedron c.made_with.result.polyhedron (Standard p q) (StandardStrains p q) c.in-Ok.outcome c.made_with.result.is_flagged c.made_with.ensures.polyhedron
+    c.made_with.ensures.flagged c.in-Ok.ensures.dims c.in-Ok.ensures.canonical c.in-Ok.ensures.exact c.in-Ok.ensures.within c.in-Ok.ensures.strain c.in-Ok.ensures.known
+
+pub outside-requires-clause-placed : goal.outside-requires-clause-placed
+outside-requires-clause-placed c = refusal_placed c.args.first.now c.args.second.now c.in-Err.error c.in-Err.ensures.refused
+
+pub returns-in-Err-clause-gives : goal.returns-in-Err-clause-gives
+returns-in-Err-clause-gives c =
+    let p = c.args.first.now in
+    let q = c.args.second.now in
+    outside_widens p q (IsWidened p.dims p q) c.in-Err.error c.outside.result c.in-Err.ensures.refused c.outside.ensures
