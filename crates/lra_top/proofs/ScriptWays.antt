@@ -6,7 +6,6 @@ use Rattle.std.proofs.lemmas.List.{take-append-le}
 use Rattle.lra_tree.specs.Tokens.{greatest_length, place_behind}
 use Rattle.lra_calc.specs.Script as script
 use Rattle.lra_calc.proofs.Limit.{answer_too_long, long_answer}
-use Rattle.lra_calc.proofs.OneRefusal.{one_refusal}
 use Rattle.lra_top.specs.Ends.{IsAnswer, EndsInRefusal, EndsInOutput}
 use Rattle.lra_top.specs.ScriptAnswer.{DeservesScript}
 use Rattle.lra_top.specs.declared.status.Status.{Status}
@@ -41,20 +40,24 @@ script_answer bytes text ReadFault d = d
 script_answer bytes text WriteFault d = d
 script_answer bytes text Memory d = d
 
-pub script_refusal : (bytes text : List ℕ) (status : Status) (r : script.Refusal) → DeservesScript bytes text status → script.AnswersTo bytes (Err r) → EndsInRefusal status
-script_refusal bytes text Proved r d e = absurd (one_refusal bytes (Ok text) (Err r) d e)
-script_refusal bytes text Unknown r d e = d
-script_refusal bytes text Refused r d e = tt
-script_refusal bytes text Usage r d e = d
-script_refusal bytes text ReadFault r d e = tt
-script_refusal bytes text WriteFault r d e = tt
-script_refusal bytes text Memory r d e = tt
+pub script_refusal : (bytes text : List ℕ) (status : Status) → DeservesScript bytes text status → script.NeverRuns bytes → EndsInRefusal status
+script_refusal bytes text Proved d never = absurd (never text d)
+script_refusal bytes text Unknown d never = d
+script_refusal bytes text Refused d never = tt
+script_refusal bytes text Usage d never = d
+script_refusal bytes text ReadFault d never = tt
+script_refusal bytes text WriteFault d never = tt
+script_refusal bytes text Memory d never = tt
 
-pub script_output : (bytes text : List ℕ) (status : Status) (output : List ℕ) → DeservesScript bytes text status → script.AnswersTo bytes (Ok output) → EndsInOutput status
-script_output bytes text Proved output d e = tt
-script_output bytes text Unknown output d e = d
-script_output bytes text Refused output d e = absurd (one_refusal bytes (Ok output) (Err d.0) e d.1)
-script_output bytes text Usage output d e = d
-script_output bytes text ReadFault output d e = tt
-script_output bytes text WriteFault output d e = tt
-script_output bytes text Memory output d e = tt
+-- a script that is too long has no output
+pub too_long_never_runs : (bytes : List ℕ) → greatest_length < length bytes → script.NeverRuns bytes
+too_long_never_runs bytes long = λ output a. absurd (let e = long_answer bytes (Ok output) long a in cc)
+
+pub script_output : (bytes text : List ℕ) (status : Status) → DeservesScript bytes text status → script.NeverIsRefused bytes → EndsInOutput status
+script_output bytes text Proved d never = tt
+script_output bytes text Unknown d never = d
+script_output bytes text Refused d never = absurd (never d.0 d.1)
+script_output bytes text Usage d never = d
+script_output bytes text ReadFault d never = tt
+script_output bytes text WriteFault d never = tt
+script_output bytes text Memory d never = tt

@@ -20,7 +20,7 @@ use Rattle.lra_top.specs.Ends.{IsAnswer, EndsInUsage, EndsInRefusal, EndsInRepor
 use Rattle.lra_top.specs.Run.{IsInput, usage_text, AsksSome, DeservesInput, Deserves, IsDeserved}
 use Rattle.lra_top.specs.Prepared.{IsInputText}
 use Rattle.lra_top.proofs.SourceWays.{longer_source, source_answer, source_refused, source_reported, source_ended, source_unrefused, source_too_long}
-use Rattle.lra_top.proofs.ScriptWays.{longer_script, too_long_answer, script_answer, script_refusal, script_output}
+use Rattle.lra_top.proofs.ScriptWays.{longer_script, too_long_never_runs, script_answer, script_refusal, script_output}
 use Rattle.lra_top.specs.declared.status.Status.{Status}
 use Rattle.lra_top.specs.declared.status.Status.TheVariants.{Proved, Unknown, Refused, Usage, ReadFault, WriteFault, Memory}
 
@@ -136,7 +136,7 @@ too_long_of : (c : Command) (bytes text : List ℕ) (status : Status) → Deserv
 too_long_of (Analyse options json) bytes text status d long =
     source_too_long options bytes text status d long
 too_long_of (Sample seed size) bytes text status d long = absurd d
-too_long_of Calc bytes text status d long = script_refusal bytes text status _ d (too_long_answer bytes long)
+too_long_of Calc bytes text status d long = script_refusal bytes text status d (too_long_never_runs bytes long)
 
 -- the input that tells its bytes is these bytes
 the_input : (left : Option (List ℕ)) (bytes told : List ℕ) → IsInput left bytes → left ≡ Some told → told ≡ bytes
@@ -186,13 +186,13 @@ source_status words left text status told options json d asks tells =
 pub no_text : (told : List ℕ) (status : Status) → EndsInRefusal status → EndsInReport status → EndsBySource told status
 no_text told status refused reported = source_ended told status (λ c at r. refused) (λ t a. reported)
 
-pub script_refused_status : (words : List (List ℕ)) (left : Option (List ℕ)) (text : List ℕ) (status : Status) (told : List ℕ) (r : script.Refusal)
-    → IsDeserved words left text status → Asks words Calc → left ≡ Some told → script.AnswersTo told (Err r) → EndsInRefusal status
-script_refused_status words left text status told r d asks tells e = script_refusal told text status r (told_input words left text status told Calc d asks tells) e
+pub script_refused_status : (words : List (List ℕ)) (left : Option (List ℕ)) (text : List ℕ) (status : Status) (told : List ℕ)
+    → IsDeserved words left text status → Asks words Calc → left ≡ Some told → script.NeverRuns told → EndsInRefusal status
+script_refused_status words left text status told d asks tells never = script_refusal told text status (told_input words left text status told Calc d asks tells) never
 
-pub script_status : (words : List (List ℕ)) (left : Option (List ℕ)) (text : List ℕ) (status : Status) (told output : List ℕ)
-    → IsDeserved words left text status → Asks words Calc → left ≡ Some told → script.AnswersTo told (Ok output) → EndsInOutput status
-script_status words left text status told output d asks tells e = script_output told text status output (told_input words left text status told Calc d asks tells) e
+pub script_status : (words : List (List ℕ)) (left : Option (List ℕ)) (text : List ℕ) (status : Status) (told : List ℕ)
+    → IsDeserved words left text status → Asks words Calc → left ≡ Some told → script.NeverIsRefused told → EndsInOutput status
+script_status words left text status told d asks tells never = script_output told text status (told_input words left text status told Calc d asks tells) never
 
 complete_script_of : (words : List (List ℕ)) (bytes text : List ℕ) (status : Status) → Deserves words bytes text status → EndsInOutput status → IsOutputOrMemory status
 complete_script_of words bytes text Proved d ends = tt
@@ -203,10 +203,10 @@ complete_script_of words bytes text ReadFault d ends = d
 complete_script_of words bytes text WriteFault d ends = d
 complete_script_of words bytes text Memory d ends = tt
 
-pub complete_script_status : (words : List (List ℕ)) (left : Option (List ℕ)) (text : List ℕ) (status : Status) (told output : List ℕ)
-    → IsDeserved words left text status → Asks words Calc → left ≡ Some told → script.AnswersTo told (Ok output) → IsOutputOrMemory status
-complete_script_status words left text status told output d asks tells e =
-    complete_script_of words d.bytes text status d.deserved (script_status words left text status told output d asks tells e)
+pub complete_script_status : (words : List (List ℕ)) (left : Option (List ℕ)) (text : List ℕ) (status : Status) (told : List ℕ)
+    → IsDeserved words left text status → Asks words Calc → left ≡ Some told → script.NeverIsRefused told → IsOutputOrMemory status
+complete_script_status words left text status told d asks tells never =
+    complete_script_of words d.bytes text status d.deserved (script_status words left text status told d asks tells never)
 
 complete_of : (words : List (List ℕ)) (bytes text : List ℕ) (status : Status) → Deserves words bytes text status → EndsInReport status → IsReportOrMemory status
 complete_of words bytes text Proved d ends = tt

@@ -177,7 +177,8 @@ pub fn run<S: Source, K: Sink>(
     ensures untouched { AsksNone (map string_bytes words.now) → S.faults source.new ≡ S.faults source.old }
 
     // Refused: exactly where the input is too long, the source is refused, or a script has a refused line.
-    // A source that is accepted gets its report, and a script that runs whole its output.
+    // A source that is accepted gets its report, and a script that runs whole its output. (Where a flagged set is
+    // widened, both answers may be right: which of them depends on the set.)
     ensures too_long { (c : Command) → Asks (map string_bytes words.now) c →
         (bytes : List ℕ) → S.left source.old ≡ Some bytes → IsTooLong bytes → EndsInRefusal result }
     ensures source_refused { (options : Options) (json : Bool) →
@@ -194,10 +195,9 @@ pub fn run<S: Source, K: Sink>(
         Asks (map string_bytes words.now) (Analyse options json) →
         (bytes : List ℕ) → S.left source.old ≡ Some bytes → EndsBySource bytes result }
     ensures script_refused { Asks (map string_bytes words.now) Calc → (bytes : List ℕ) →
-        S.left source.old ≡ Some bytes →
-        (r : script.Refusal) → script.AnswersTo bytes (Err r) → EndsInRefusal result }
+        S.left source.old ≡ Some bytes → script.NeverRuns bytes → EndsInRefusal result }
     ensures script_ran { Asks (map string_bytes words.now) Calc → (bytes : List ℕ) → S.left source.old ≡ Some bytes →
-        (output : List ℕ) → script.AnswersTo bytes (Ok output) → EndsInOutput result }
+        script.NeverIsRefused bytes → EndsInOutput result }
     ensures reads { result ≢ Status.ReadFault → result ≢ Status.Memory → (c : Command) →
         Asks (map string_bytes words.now) c →
         ReadsInput (S.left source.old) (S.left source.new) }
@@ -224,8 +224,7 @@ pub fn run<S: Source, K: Sink>(
         (Rose (S.faults source.old) (S.faults source.new) → ⊥) → (Rose (K.faults sink.old) (K.faults sink.new) → ⊥) →
         IsReportOrMemory result }
     ensures complete_script { Asks (map string_bytes words.now) Calc → (bytes : List ℕ) →
-        S.left source.old ≡ Some bytes →
-        (output : List ℕ) → script.AnswersTo bytes (Ok output) →
+        S.left source.old ≡ Some bytes → script.NeverIsRefused bytes →
         (Rose (S.faults source.old) (S.faults source.new) → ⊥) → (Rose (K.faults sink.old) (K.faults sink.new) → ⊥) →
         IsOutputOrMemory result }
     ensures room { ((text : List ℕ) (status : _) →

@@ -37,16 +37,16 @@ returns-in-Ok-write_whole-clause-complete g c = λ options json asks bytes tells
     complete_status _ _ _ c.in-Ok.answer.status bytes options json c.in-Ok.ensures.deserved asks tells free
 
 pub returns-in-Ok-write_whole-clause-script_refused : goal.returns-in-Ok-write_whole-clause-script_refused
-returns-in-Ok-write_whole-clause-script_refused g c = λ asks bytes tells refusal e.
-    script_refused_status _ _ _ c.in-Ok.answer.status bytes refusal c.in-Ok.ensures.deserved asks tells e
+returns-in-Ok-write_whole-clause-script_refused g c = λ asks bytes tells never.
+    script_refused_status _ _ _ c.in-Ok.answer.status bytes c.in-Ok.ensures.deserved asks tells never
 
 pub returns-in-Ok-write_whole-clause-script_ran : goal.returns-in-Ok-write_whole-clause-script_ran
-returns-in-Ok-write_whole-clause-script_ran g c = λ asks bytes tells output e.
-    script_status _ _ _ c.in-Ok.answer.status bytes output c.in-Ok.ensures.deserved asks tells e
+returns-in-Ok-write_whole-clause-script_ran g c = λ asks bytes tells never.
+    script_status _ _ _ c.in-Ok.answer.status bytes c.in-Ok.ensures.deserved asks tells never
 
 pub returns-in-Ok-write_whole-clause-complete_script : goal.returns-in-Ok-write_whole-clause-complete_script
-returns-in-Ok-write_whole-clause-complete_script g c = λ asks bytes tells output e unread unwritten.
-    complete_script_status _ _ _ c.in-Ok.answer.status bytes output c.in-Ok.ensures.deserved asks tells e
+returns-in-Ok-write_whole-clause-complete_script g c = λ asks bytes tells never unread unwritten.
+    complete_script_status _ _ _ c.in-Ok.answer.status bytes c.in-Ok.ensures.deserved asks tells never
 
 pub returns-clause-room : goal.returns-clause-room
 returns-clause-room g c = λ fits failed.
