@@ -353,7 +353,8 @@ fn a_list_of_points_has_a_limit(rt: HostRuntime) -> Result<(), Fail> {
     let last = behind(&held, "\npoint 27 main ");
     let rows = count_lines(last, "  row ");
     let points = count_lines(last, "  gen point ");
-    let others = count_lines(last, "  gen ray ") + count_lines(last, "  gen line ");
-    assert_eq!(rt; (rows, points, others), (24, 4096, 1));
+    let rays = count_lines(last, "  gen ray ");
+    let lines = count_lines(last, "  gen line ");
+    assert_eq!(rt; (rows, points, rays, lines), (24, 4096, 0, 1));
     Ok(())
 }
