@@ -27,10 +27,10 @@ const ANALYSE_BOXES: Command = Command::Analyse {
 
 /// Lines, the commands that they give, and whether these are carried out.
 static TAKEN: [(&str, Command, bool); 27] = [
-    ("lra analyse", ANALYSE, false),
-    ("other analyse", ANALYSE, false),
-    ("lra analyse --", ANALYSE, false),
-    ("lra analyse --domain poly", ANALYSE, false),
+    ("lra analyse", ANALYSE, true),
+    ("other analyse", ANALYSE, true),
+    ("lra analyse --", ANALYSE, true),
+    ("lra analyse --domain poly", ANALYSE, true),
     ("lra analyse --domain box", ANALYSE_BOXES, true),
     (
         "lra analyse --domain=oct",
@@ -72,7 +72,7 @@ static TAKEN: [(&str, Command, bool); 27] = [
             },
             json: false,
         },
-        false,
+        true,
     ),
     (
         "lra analyse --delay=8",
@@ -83,7 +83,7 @@ static TAKEN: [(&str, Command, bool); 27] = [
             },
             json: false,
         },
-        false,
+        true,
     ),
     (
         "lra analyse --delay=+2",
@@ -94,7 +94,7 @@ static TAKEN: [(&str, Command, bool); 27] = [
             },
             json: false,
         },
-        false,
+        true,
     ),
     (
         "lra analyse --delay +3",
@@ -105,7 +105,7 @@ static TAKEN: [(&str, Command, bool); 27] = [
             },
             json: false,
         },
-        false,
+        true,
     ),
     (
         "lra analyse --delay=007",
@@ -116,7 +116,7 @@ static TAKEN: [(&str, Command, bool); 27] = [
             },
             json: false,
         },
-        false,
+        true,
     ),
     (
         "lra analyse --delay 3 --domain box --limited",
@@ -139,7 +139,7 @@ static TAKEN: [(&str, Command, bool); 27] = [
             },
             json: false,
         },
-        false,
+        true,
     ),
     (
         "lra analyse --narrow 4 --domain=box --delay 0",
@@ -162,7 +162,7 @@ static TAKEN: [(&str, Command, bool); 27] = [
             },
             json: false,
         },
-        false,
+        true,
     ),
     (
         "lra analyse --json",
