@@ -1,7 +1,7 @@
 #include "analysed.h"
 
-/* A leaky bucket: each second lets three cells in at most, and one leaks out of a bucket that isn't empty. What was let
-   through is bounded by the time and by what is in the bucket. */
+/* The leaky bucket (J. Turner, New directions in communications, 1986): a cell is let in where the bucket has room, and each
+   second one leaks out of a bucket that isn't empty. What was let in is bounded by the time and the capacity. */
 int main(void) {
   long capacity = input();
   assume(capacity >= 1);
