@@ -1,6 +1,6 @@
 #include "analysed.h"
 
-/* Two queues in series (J. R. Jackson, Networks of waiting lines, 1957): what enters the first one goes over to the second, and leaves it. */
+/* Two queues in series (J. R. Jackson, Networks of waiting lines, 1957): what leaves the first enters the second. */
 int main(void) {
   long first = 0, second = 0, entered = 0, left = 0;
   while (input()) {
