@@ -1,6 +1,6 @@
 -- A condition's value keeps each store at which the condition is so.
 use Rattle.std.proofs.Common.{◌≡◌, ℕ, zero, suc, ℤ, pos, negsuc, List, Option, Some, None, Bool, true, false, length, refl, sym, ap, subst, ◌∙◌, arith, inl, inr}
-use Rattle.std.specs.Prelude.{not, if◌then◌else◌, IsTrue, ◌⊎◌, int_le, ◌-ℤ◌, ◌≤ℤ◌}
+use Rattle.std.specs.Prelude.{not, if◌then◌else◌, IsTrue, ◌⊎◌, int_le, ◌-ℤ◌}
 use Rattle.std.proofs.lemmas.Int.{ints}
 use Rattle.lra_domain.specs.Actions.{Leads}
 use Rattle.lra_domain.specs.declared.Exactness.{Exactness}

@@ -1,7 +1,7 @@
 -- Each least change of a value keeps the stores to which the change of the program leads.
-use Rattle.std.proofs.Common.{◌≡◌, ℕ, zero, suc, ◌+◌, ◌-◌, ◌≤◌, ◌++◌, ℤ, pos, ◌+ℤ◌, List, [], ◌∷◌, Option, Some, None, Bool, length, take, refl, sym, ap, subst, ◌∙◌, arith, append_assoc, append-nil}
+use Rattle.std.proofs.Common.{◌≡◌, ℕ, zero, suc, ◌+◌, ◌-◌, ◌≤◌, ◌++◌, ℤ, pos, List, [], ◌∷◌, Option, Some, None, Bool, length, take, refl, sym, ap, subst, ◌∙◌, arith, append_assoc, append-nil}
 use Rattle.std.proofs.Common.{length-append}
-use Rattle.std.specs.Prelude.{◌-ℤ◌, ◌*ℤ◌, slice_set, slice_get}
+use Rattle.std.specs.Prelude.{◌-ℤ◌, slice_set, slice_get}
 use Rattle.lra_domain.specs.Actions.{Action, forget, embed, Leads}
 use Rattle.lra_lin.specs.Form.{Form}
 use Rattle.lra_program.specs.Program.{Expr, literal, read, input, negate, binary, Cond}

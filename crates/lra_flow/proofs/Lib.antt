@@ -8,6 +8,8 @@ pub mod CondKeeping
 -- The values of a derivation have all stores of the runs.
 pub mod Sound
 pub mod Keeps
+-- The values of a derivation have no more parts than the options say.
+pub mod Caps
 -- Single definitions on small operands.
 mod PieceExamples
 -- Linear forms, and how conditions are pushed to their atoms.

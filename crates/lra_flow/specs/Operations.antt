@@ -9,6 +9,7 @@ use Rattle.lra_domain.specs.declared.Mode.{Mode}
 use Rattle.lra_domain.specs.declared.Exactness.{Exactness}
 use Rattle.lra_domain.specs.declared.Exactness.TheVariants.{Exact, Flagged}
 use Rattle.lra_domain.specs.declared.Included.TheVariants.{Yes}
+use Rattle.lra_domain.specs.Parts.{CapsWithin}
 use Rattle.lra_domain.specs.Meaning.{Meaning, Meets, Joins, Starts, GrowthStrains, Grew, Values}
 
 pub record Operations (V H : Type 0) : Type 1 where
@@ -39,18 +40,21 @@ defined m = record {
 }
 
 -- an operation that strains on the operands that it has may be flagged; its result then covers the defined one.
--- Operands and results have the dimensions that they must have
+-- Operands and results have the dimensions that they must have; a result has the caps that all its operands have
 abbrev pub dropping : {V H : Type 0} → Meaning V H → Operations V H
 dropping m = record {
   dims = m.dims;
   universal = m.universal;
   void = m.void;
-  changed = λ step v e w. Meets m step v e w × (m.dims w ≡ dims_after step (m.dims v));
-  joined = λ u v e w. Joins m u v e w × (m.dims v ≡ m.dims u) × (m.dims w ≡ m.dims u);
-  started = λ v rows h. Starts m v rows h × (m.head_dims h ≡ m.dims v);
+  changed = λ step v e w. Meets m step v e w × (m.dims w ≡ dims_after step (m.dims v)) ×
+      CapsWithin (m.capped v) (m.capped w);
+  joined = λ u v e w. Joins m u v e w × (m.dims v ≡ m.dims u) × (m.dims w ≡ m.dims u) ×
+      CapsWithin (λ c. m.capped u c × m.capped v c) (m.capped w);
+  started = λ v rows h. Starts m v rows h × (m.head_dims h ≡ m.dims v) × CapsWithin (m.capped v) (m.head_capped h);
   stays = λ h v mode. m.answers h v mode Yes × (m.dims v ≡ m.head_dims h);
-  grown = λ h v mode e next. Grew m h v mode e next × (m.dims v ≡ m.head_dims h) × (m.head_dims next ≡ m.head_dims h);
-  valued = λ h e v. Values m h e v × (m.dims v ≡ m.head_dims h);
+  grown = λ h v mode e next. Grew m h v mode e next × (m.dims v ≡ m.head_dims h) × (m.head_dims next ≡ m.head_dims h) ×
+      CapsWithin (λ c. m.head_capped h c × m.capped v c) (m.head_capped next);
+  valued = λ h e v. Values m h e v × (m.dims v ≡ m.head_dims h) × CapsWithin (m.head_capped h) (m.capped v);
 }
 
 -- an operation that strains may be flagged, and then gives anything: so what comes before the first flag is as it is

@@ -1,0 +1,193 @@
+-- What each operation of an iteration keeps, all its values have; so none has more parts than the options say.
+use Rattle.std.proofs.Common.{◌≡◌, ℕ, zero, suc, ◌-◌, ◌≤◌, ◌++◌, List, [], ◌∷◌, length, Option, Some, None, Bool, true, false, inl, inr, refl, sym, subst}
+use Rattle.std.specs.List.{AllByRecursion, Contains}
+use Rattle.std.proofs.lemmas.Option.{slice_get_read}
+use Rattle.lra_linear.proofs.Membership.{contains_none, contains_cases}
+use Rattle.lra_sys.specs.Listed.{Listed}
+use Rattle.lra_linear.specs.declared.ConKind.{ConKind}
+use Rattle.lra_domain.specs.Actions.{Action}
+use Rattle.lra_domain.specs.declared.Mode.{Mode}
+use Rattle.lra_domain.specs.declared.Exactness.{Exactness}
+use Rattle.lra_domain.specs.declared.Exactness.TheVariants.{Exact}
+use Rattle.lra_domain.specs.Meaning.{Meaning}
+use Rattle.lra_domain.specs.Laws.{Laws}
+use Rattle.lra_program.specs.Program.{Cond, Program}
+use Rattle.lra_base.specs.Operators.{Comparison, below, above, differs}
+use Rattle.lra_program.specs.Step.{Op, append, give, give_any, push, keep, test}
+use Rattle.lra_operations.specs.Graph.{Exit, broken, continued, returned, Node, empty, point, act, check, seq, choose, iterate, catch, leave}
+use Rattle.lra_lin.specs.Form.{Form}
+use Rattle.lra_lin.specs.declared.test.Test.{Test}
+use Rattle.lra_flow.specs.Linear.{comparison_test, difference_form}
+use Rattle.lra_flow.specs.Condition as condition
+use Rattle.lra_base.specs.declared.options.Options.{Options}
+use Rattle.lra_flow.specs.Operations.{Operations, dropping}
+use Rattle.lra_flow.specs.Changes.{actions_of, first_values, AreDone, AreJoined}
+use Rattle.lra_flow.specs.Conditions.{testing, tested, Leaves}
+use Rattle.lra_flow.specs.Pass.{Entry, value, failing, Result, noted, goes_on, jumps, in_turn, first_of_call, caught, behind, Changes, Through, GoesRound, Grows, Narrows, Pass}
+use Rattle.lra_flow.specs.Analysis.{Derivation, Solves}
+
+-- what has no operand has the property, and each operation keeps it, where this many parts are asked for
+pub record Preserves {V H : Type 0} (ops : Operations V H) (parts : ℕ) (Good : V → Type 0) (Fine : H → Type 0) : Type 0 where
+  pub void : (n : ℕ) (v : V) → ops.void n parts v → Good v
+  pub changed : (step : Action) (v : V) (e : Exactness) (w : V) → ops.changed step v e w → Good v → Good w
+  pub joined : (u v : V) (e : Exactness) (w : V) → ops.joined u v e w → Good u → Good v → Good w
+  pub started : (v : V) (rows : Listed ConKind) (h : H) → ops.started v rows h → Good v → Fine h
+  pub grown : (h : H) (v : V) (mode : Mode) (e : Exactness) (next : H) → ops.grown h v mode e next → Fine h → Good v → Fine next
+  pub valued : (h : H) (e : Exactness) (v : V) → ops.valued h e v → Fine h → Good v
+
+pub all_both : {X : Type 0} (P : X → Type 0) (xs ys : List X) → AllByRecursion P xs → AllByRecursion P ys → AllByRecursion P (xs ++ ys)
+all_both P [] ys h i = i
+all_both P (x ∷ xs) ys h i = (h.0, all_both P xs ys h.1 i)
+
+module _ (V H : Type 0) (ops : Operations V H) (set : Options) (Good : V → Type 0) (Fine : H → Type 0) (keeps : Preserves ops set.parts Good Fine) where
+  done_good : (steps : List Action) (v : V) (e : Exactness) (w : V) → AreDone ops steps v e w → Good v → Good w
+  done_good [] v e w (same, exact) g = subst Good (sym same) g
+  done_good (step ∷ steps) v e w (x, c, d, one, rest, worst) g = done_good steps x d w rest (keeps.changed step v c x one g)
+
+  -- joins
+  joined_good : (v : V) (us : List V) (e : Exactness) (w : V) → AreJoined ops v us e w → Good v → AllByRecursion Good us → Good w
+  joined_good v [] e w (same, exact) g gs = subst Good (sym same) g
+  joined_good v (u ∷ us) e w (x, c, d, one, rest, worst) g gs = joined_good x us d w rest (keeps.joined v u c x one g gs.0) gs.1
+
+  returned_good : (rs : List V) (n : V) (e : Exactness) (w : V) → AreJoined ops (first_of_call rs n).0 (first_of_call rs n).1 e w → Good n → AllByRecursion Good rs → Good w
+  returned_good [] n e w is g gs = joined_good n [] e w is g tt
+  returned_good (v ∷ vs) n e w is g gs = joined_good v (vs ++ n ∷ []) e w is gs.0 (all_both Good vs (n ∷ []) gs.1 (g, tt))
+
+  -- conditions
+  tested_good : (live base : ℕ) (o : Option Test) (v w : V × Exactness) → condition.IsTestedBy (V × Exactness) (testing ops) live base o v w → Good v.0 → Good w.0
+  tested_good live base None v w is g = subst (λ (x : V × Exactness). Good x.0) (sym is) g
+  tested_good live base (Some t) v w (e, done, worst) g = keeps.changed (tested t) v.0 e w.0 done g
+
+  atom_good : (live base : ℕ) (op : Comparison) (o : Option Form) (v w : V × Exactness) → condition.IsAtom (V × Exactness) (testing ops) live base op o v w → Good v.0 → Good w.0
+  atom_good live base op None v w is g = subst (λ (x : V × Exactness). Good x.0) (sym is) g
+  atom_good live base differs (Some d) v w (less, more, one, two, (e, joined, worst)) g =
+      keeps.joined less.0 more.0 e w.0 joined (tested_good live base (comparison_test below d) v less one g) (tested_good live base (comparison_test above d) v more two g)
+  atom_good live base op (Some d) v w is g = tested_good live base (comparison_test op d) v w is g
+
+  pushed_good : (live base : ℕ) (p : condition.Pushed) (v w : V × Exactness) → condition.IsPushed (V × Exactness) (testing ops) live base p v w → Good v.0 → Good w.0
+  pushed_good live base (condition.atom op a b) v w is g = atom_good live base op (difference_form live base a b) v w is g
+  pushed_good live base (condition.first_then a b) v w (x, one, two) g = pushed_good live base b x w two (pushed_good live base a v x one g)
+  pushed_good live base (condition.one_or a opposed b) v w (left, x, right, one, off, two, (e, joined, worst)) g =
+      keeps.joined left.0 right.0 e w.0 joined (pushed_good live base a v left one g) (pushed_good live base b x right two (pushed_good live base opposed v x off g))
+
+  leaves_good : (base : ℕ) (c : Cond) (wanted : Bool) (v : V) (e : Exactness) (w : V) → Leaves ops base c wanted v e w → Good v → Good w
+  leaves_good base c wanted v e w is g = pushed_good (ops.dims v) base (condition.push wanted c) (v, Exact) (w, e) is g
+
+  changes_good : (op : Op) (v : V) (e : Exactness) (w : V) → Changes V H ops op v e w → Good v → Good w
+  changes_good append v e w is g = done_good (actions_of (ops.dims v) append) v e w is g
+  changes_good (give base x y) v e w is g = done_good (actions_of (ops.dims v) (give base x y)) v e w is g
+  changes_good (give_any x) v e w is g = done_good (actions_of (ops.dims v) (give_any x)) v e w is g
+  changes_good (push base es) v e w is g = done_good (actions_of (ops.dims v) (push base es)) v e w is g
+  changes_good (keep n) v e w is g = done_good (actions_of (ops.dims v) (keep n)) v e w is g
+  changes_good (test base c wanted) v e w is g = leaves_good base c wanted v e w is g
+
+  -- passes
+  abbrev IsGood : Entry V → Type 0
+  IsGood (value q v) = Good v
+  IsGood (failing q v) = Good v
+
+  pub record AreGood (r : Result V) : Type 0 where
+    pub normal : Good r.normal
+    pub breaks : AllByRecursion Good r.breaks
+    pub continues : AllByRecursion Good r.continues
+    pub returns : AllByRecursion Good r.returns
+    pub entries : AllByRecursion IsGood r.entries
+
+  same_good : (r s : Result V) → r ≡ s → AreGood s → AreGood r
+  same_good r s is h = subst AreGood (sym is) h
+
+  on_good : (xs : List (Entry V)) (v : V) (f : Option ℕ) → AllByRecursion IsGood xs → Good v → AreGood (goes_on xs v f)
+  on_good xs v f h g = record { normal = g; breaks = tt; continues = tt; returns = tt; entries = h }
+
+  both_good : (s t : Result V) (v : V) (f : Option ℕ) → AreGood s → AreGood t → Good v → AreGood (in_turn s t v f)
+  both_good s t v f h i g = record {
+    normal = g;
+    breaks = all_both Good s.breaks t.breaks h.breaks i.breaks;
+    continues = all_both Good s.continues t.continues h.continues i.continues;
+    returns = all_both Good s.returns t.returns h.returns i.returns;
+    entries = all_both IsGood s.entries t.entries h.entries i.entries;
+  }
+
+  jump_good : (k : Exit) (v nothing : V) (f : Option ℕ) → Good v → Good nothing → AreGood (jumps k v nothing f)
+  jump_good broken v nothing f g n = record { normal = n; breaks = (g, tt); continues = tt; returns = tt; entries = tt }
+  jump_good continued v nothing f g n = record { normal = n; breaks = tt; continues = (g, tt); returns = tt; entries = tt }
+  jump_good returned v nothing f g n = record { normal = n; breaks = tt; continues = tt; returns = (g, tt); entries = tt }
+
+  caught_good : (k : Exit) (r : Result V) (e : Exactness) (w : V) → AreJoined ops (caught k r).0 (caught k r).1 e w → AreGood r → Good w
+  caught_good broken r e w is h = joined_good r.normal r.breaks e w is h.normal h.breaks
+  caught_good continued r e w is h = joined_good r.normal r.continues e w is h.normal h.continues
+  caught_good returned r e w is h = returned_good r.returns r.normal e w is h.normal h.returns
+
+  behind_good : (k : Exit) (r : Result V) (v : V) (f : Option ℕ) → AreGood r → Good v → AreGood (behind k r v f)
+  behind_good broken r v f h g = record { normal = g; breaks = tt; continues = h.continues; returns = h.returns; entries = h.entries }
+  behind_good continued r v f h g = record { normal = g; breaks = h.breaks; continues = tt; returns = h.returns; entries = h.entries }
+  behind_good returned r v f h g = record { normal = g; breaks = h.breaks; continues = h.continues; returns = tt; entries = h.entries }
+
+  module _ (q base : ℕ) (c : Cond) (body : Through V) (inside : (f : Option ℕ) (v : V) (r : Result V) → body f v r → Good v → AreGood r) where
+    round_good : (f : Option ℕ) (v : V) (r : Result V) → GoesRound V H ops q base c body f v r → Good v → AreGood r
+    round_good f v r (w, e, s, on, turn, is) g =
+        let h = inside (noted q e f) w s turn (leaves_good base c true v e w on g) in
+        same_good r _ is (record { normal = h.normal; breaks = h.breaks; continues = h.continues; returns = h.returns; entries = (g, h.entries) })
+
+    grows_good : (limited : Bool) (left : ℕ) (f : Option ℕ) (h : H) (later : List H) (v : V) (r : Result V) → Grows V H ops q base c body limited left f h later v r → Fine h → Good v × AreGood r
+    grows_good limited left f h [] v r ((e, valued, turn), stays) fine =
+        let g = keeps.valued h e v valued fine in
+        (g, round_good (noted q e f) v r turn g)
+    grows_good limited left f h (next ∷ later) v r (u, s, e, (d, valued, turn), grown, rest) fine =
+        let inner = round_good (noted q d f) u s turn (keeps.valued h d u valued fine) in
+        grows_good limited (left - 1) (noted q e s.flag) next later v r rest (keeps.grown h s.normal _ e next grown fine inner.normal)
+
+    narrows_good : (more : ℕ) (first u : V) (s : Result V) (v : V) (r : Result V) → Narrows V H ops q base c body more first u s v r → Good first → Good u → AreGood s → Good v × AreGood r
+    narrows_good zero first u s v r (same, is) g k h = (subst Good (sym same) k, same_good r s is h)
+    narrows_good (suc more) first u s v r (next, t, e, joined, turn, rest) g k h =
+        let top = keeps.joined first s.normal e next joined g h.normal in
+        narrows_good more first next t v r rest g top (round_good (noted q e s.flag) next t turn top)
+
+  pub pass_good : (tree : Node) (f : Option ℕ) (v : V) (r : Result V) → Pass V H ops set tree f v r → Good v → AreGood r
+  pass_good empty f v r is g = same_good r _ is (on_good [] v f tt g)
+  pass_good (point q) f v r is g = same_good r _ is (on_good (value q v ∷ []) v f (g, tt) g)
+  pass_good (act q op) f v r (w, e, done, is) g = same_good r _ is (on_good [] w (noted q e f) tt (changes_good op v e w done g))
+  pass_good (check q base c) f v r (u, w, d, e, off, on, is) g =
+      same_good r _ is (on_good (failing q u ∷ []) w (noted q e (noted q d f)) (leaves_good base c false v d u off g, tt) (leaves_good base c true v e w on g))
+  pass_good (seq a b) f v r (s, t, one, two, is) g =
+      let x = pass_good a f v s one g in
+      let y = pass_good b s.flag s.normal t two x.normal in
+      same_good r _ is (both_good s t t.normal t.flag x y y.normal)
+  pass_good (choose q base c a b) f v r (on, off, w, d, e, i, s, t, holds, one, fails, two, joined, is) g =
+      let x = pass_good a (noted q d f) on s one (leaves_good base c true v d on holds g) in
+      let y = pass_good b (noted q e s.flag) off t two (leaves_good base c false v e off fails g) in
+      same_good r _ is (both_good s t w (noted q i t.flag) x y (keeps.joined s.normal t.normal i w joined x.normal y.normal))
+  pass_good (iterate q base c a) f v r (h, later, u, top, out, s, t, e, started, grown, narrowed, off, is) g =
+      let x = grows_good q base c (Pass V H ops set a) (pass_good a) set.limited set.delay f h later u s grown (keeps.started v _ h started g) in
+      let y = narrows_good q base c (Pass V H ops set a) (pass_good a) set.narrow v u s top t narrowed g x.0 x.1 in
+      let z = y.1 in
+      same_good r _ is (record { normal = leaves_good base c false top e out off y.0; breaks = z.breaks; continues = z.continues; returns = z.returns; entries = z.entries })
+  pass_good (catch q k a) f v r (w, e, s, one, joined, is) g =
+      let x = pass_good a f v s one g in
+      same_good r _ is (behind_good k s w (noted q e s.flag) x (caught_good k s e w joined x))
+  pass_good (leave n k) f v r (w, nothing, is) g = same_good r _ is (jump_good k v w f g (keeps.void n w nothing))
+
+  value_good : (xs : List (Entry V)) (q : ℕ) (v : V) → AllByRecursion IsGood xs → Contains xs (value q v) → Good v
+  value_good [] q v h there = absurd (contains_none (value q v) there)
+  value_good (x ∷ xs) q v h there = elim (contains_cases x (value q v) xs there) [ inl same ↦ subst IsGood same h.0 | inr later ↦ value_good xs q v h.1 later ]
+
+module _ {V H : Type 0} (m : Meaning V H) (laws : Laws m) (set : Options) (some : 1 ≤ set.parts) where
+  caps_kept : Preserves (dropping m) set.parts (λ v. m.capped v set.parts) (λ h. m.head_capped h set.parts)
+  caps_kept = record {
+    void = λ n v is. laws.void_capped n set.parts v some is;
+    changed = λ step v e w h g. h.2 set.parts g;
+    joined = λ u v e w h g k. h.3 set.parts (g, k);
+    started = λ v rows h is g. is.2 set.parts g;
+    grown = λ h v mode e next is f g. is.3 set.parts (f, g);
+    valued = λ h e v is f. is.2 set.parts f;
+  }
+
+  -- the values that an iteration finds have the cap that the options say
+  pub solved_capped : (P : Program) (tree : Node) (r : Result V) (values : List V) (verdicts : List (ℕ × Bool)) (flagged : Option ℕ) → Derivation m set P tree r → Solves m r values verdicts flagged
+      → (v : V) → Contains values v → m.capped v set.parts
+  solved_capped P tree r values verdicts flagged (whole, first, e, universal, begun, pass) solves v there =
+      let begins = done_good V H (dropping m) set (λ x. m.capped x set.parts) (λ h. m.head_capped h set.parts) caps_kept (first_values 0 P.globals) whole e first begun
+      (laws.universal_capped 0 set.parts whole some universal) in
+      let all = pass_good V H (dropping m) set (λ x. m.capped x set.parts) (λ h. m.head_capped h set.parts) caps_kept tree (noted 0 e None) first r pass begins in
+      value_good V H (dropping m) set (λ x. m.capped x set.parts) (λ h. m.head_capped h set.parts) caps_kept r.entries there.0 v all.entries
+      ((solves.is_value there.0 v).0 (slice_get_read values (length values) there.0 v refl there.1 (sym there.2)))
