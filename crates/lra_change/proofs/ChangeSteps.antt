@@ -4,6 +4,7 @@ use Rattle.lra_lin.specs.Form.{Form}
 use Rattle.lra_domain.specs.Actions.{Action, embed, dims_after}
 use Rattle.lra_domain.specs.declared.Exactness.{Exactness}
 use Rattle.lra_domain.specs.declared.Exactness.TheVariants.{Exact, Flagged}
+use Rattle.lra_domain.specs.Parts.{CapsWithin}
 use Rattle.lra_domain.specs.Meaning.{Meaning, Meets}
 use Rattle.lra_program.specs.Program.{Expr}
 use Rattle.lra_flow.specs.Linear as linear
@@ -21,8 +22,9 @@ worse_worse Exact b c = refl
 worse_worse Flagged b c = refl
 
 -- one change alone
-pub done_one : {V H : Type 0} (m : Meaning V H) (step : Action) (v : V) (e : Exactness) (w : V) → Meets m step v e w → m.dims w ≡ dims_after step (m.dims v) → Does m (step ∷ []) v e w
-done_one m step v e w meets dims = (w, e, Exact, (meets, dims), (refl, refl), worse_exact e)
+pub done_one : {V H : Type 0} (m : Meaning V H) (step : Action) (v : V) (e : Exactness) (w : V) → Meets m step v e w → m.dims w ≡ dims_after step (m.dims v) → CapsWithin (m.capped v) (m.capped w)
+    → Does m (step ∷ []) v e w
+done_one m step v e w meets dims caps = (w, e, Exact, (meets, dims, caps), (refl, refl), worse_exact e)
 
 pub done_none : {V H : Type 0} (m : Meaning V H) (v : V) → Does m [] v Exact v
 done_none m v = (refl, refl)
@@ -36,19 +38,22 @@ set_dims : (x : ℕ) (o : Option Form) (n : ℕ) → dims_after (set_to x o) n �
 set_dims x None n = refl
 set_dims x (Some f) n = refl
 
-pub done_set : {V H : Type 0} (m : Meaning V H) (x : ℕ) (o : Option Form) (v : V) (e : Exactness) (w : V) → Meets m (set_to x o) v e w → m.dims w ≡ m.dims v → Does m (set_to x o ∷ []) v e w
-done_set m x o v e w meets dims = done_one m (set_to x o) v e w meets (dims ∙ sym (set_dims x o (m.dims v)))
+pub done_set : {V H : Type 0} (m : Meaning V H) (x : ℕ) (o : Option Form) (v : V) (e : Exactness) (w : V) → Meets m (set_to x o) v e w → m.dims w ≡ m.dims v → CapsWithin (m.capped v) (m.capped w)
+    → Does m (set_to x o ∷ []) v e w
+done_set m x o v e w meets dims caps = done_one m (set_to x o) v e w meets (dims ∙ sym (set_dims x o (m.dims v))) caps
 
 -- a new variable and its value
-pub done_append : {V H : Type 0} (m : Meaning V H) (base : ℕ) (e : Expr) (v x w : V) (c d : Exactness) → Meets m (embed 1) v c x → m.dims x ≡ m.dims v + 1 → suc (m.dims v) ≡ m.dims v + 1
-    → Meets m (set_to (m.dims v) (linear.form_of (m.dims x) base e)) x d w → m.dims w ≡ m.dims x → Does m (append_set (m.dims v) (linear.form_of (suc (m.dims v)) base e)) v (worse c d) w
-done_append m base e v x w c d first dims one second same =
+pub done_append : {V H : Type 0} (m : Meaning V H) (base : ℕ) (e : Expr) (v x w : V) (c d : Exactness) → Meets m (embed 1) v c x → m.dims x ≡ m.dims v + 1
+    → CapsWithin (m.capped v) (m.capped x) → suc (m.dims v) ≡ m.dims v + 1
+    → Meets m (set_to (m.dims v) (linear.form_of (m.dims x) base e)) x d w → m.dims w ≡ m.dims x → CapsWithin (m.capped x) (m.capped w)
+    → Does m (append_set (m.dims v) (linear.form_of (suc (m.dims v)) base e)) v (worse c d) w
+done_append m base e v x w c d first dims caps one second same more =
     let live : m.dims x ≡ suc (m.dims v) = dims ∙ sym one in (
       x,
       c,
       d,
-      (first, dims),
-      done_set m (m.dims v) (linear.form_of (suc (m.dims v)) base e) x d w (subst (λ (n : ℕ). Meets m (set_to (m.dims v) (linear.form_of n base e)) x d w) live second) same,
+      (first, dims, caps),
+      done_set m (m.dims v) (linear.form_of (suc (m.dims v)) base e) x d w (subst (λ (n : ℕ). Meets m (set_to (m.dims v) (linear.form_of n base e)) x d w) live second) same more,
       refl,
     )
 

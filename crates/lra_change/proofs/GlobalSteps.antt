@@ -5,6 +5,7 @@ use Rattle.std.proofs.lemmas.List.{length-replicate}
 use Rattle.lra_lin.specs.Form.{Form}
 use Rattle.lra_domain.specs.Actions.{assign, embed}
 use Rattle.lra_domain.specs.declared.Exactness.{Exactness}
+use Rattle.lra_domain.specs.Parts.{CapsWithin}
 use Rattle.lra_domain.specs.Meaning.{Meaning, Meets}
 use Rattle.lra_flow.specs.Linear.{constant_form}
 use Rattle.lra_flow.specs.Operations.{worse}
@@ -17,16 +18,18 @@ pub constant_wide : (f : Form) (n : ℕ) (z : ℤ) → f ≡ constant_form n z �
 constant_wide f n z is = ap (λ (g : Form). length g.coefficients) is ∙ length-replicate n (pos 0)
 
 -- a new variable and its constant
-pub appended : {V H : Type 0} (m : Meaning V H) (z : ℤ) (f : Form) (v x w : V) (c d : Exactness) → Meets m (embed 1) v c x → m.dims x ≡ m.dims v + 1 → f ≡ constant_form (m.dims v + 1) z
-    → Meets m (assign (m.dims v) f) x d w → m.dims w ≡ m.dims x → Does m (append_set (m.dims v) (Some (constant_form (suc (m.dims v)) z))) v (worse c d) w
-appended {V} {H} m z f v x w c d first dims is second same =
+pub appended : {V H : Type 0} (m : Meaning V H) (z : ℤ) (f : Form) (v x w : V) (c d : Exactness) → Meets m (embed 1) v c x → m.dims x ≡ m.dims v + 1
+    → CapsWithin (m.capped v) (m.capped x) → f ≡ constant_form (m.dims v + 1) z
+    → Meets m (assign (m.dims v) f) x d w → m.dims w ≡ m.dims x → CapsWithin (m.capped x) (m.capped w)
+    → Does m (append_set (m.dims v) (Some (constant_form (suc (m.dims v)) z))) v (worse c d) w
+appended {V} {H} m z f v x w c d first dims caps is second same more =
     let one : m.dims v + 1 ≡ suc (m.dims v) = omega arith in
     let form : f ≡ constant_form (suc (m.dims v)) z = is ∙ ap (λ (n : ℕ). constant_form n z) one in (
       x,
       c,
       d,
-      (first, dims),
-      done_one m (assign (m.dims v) (constant_form (suc (m.dims v)) z)) x d w (subst (λ (g : Form). Meets m (assign (m.dims v) g) x d w) form second) same,
+      (first, dims, caps),
+      done_one m (assign (m.dims v) (constant_form (suc (m.dims v)) z)) x d w (subst (λ (g : Form). Meets m (assign (m.dims v) g) x d w) form second) same more,
       refl,
     )
 

@@ -1,6 +1,7 @@
 //! What a least change of the program does to a value.
 
 ghost use Rattle.std.specs.Prelude.{◌≡◌, ◌≤◌, ◌<◌, ◌+◌, ◌-◌, ◌^◌, suc, map, length, IfOk, OnOk};
+ghost use Rattle.lra_domain.specs.Parts.{CapsWithin};
 ghost use Rattle.lra_domain.specs.Meaning.{Meets};
 ghost use Rattle.lra_program.specs.ProgramViews.{expr_view};
 ghost use Rattle.lra_operations.specs.GraphViews.{op_view};
@@ -29,6 +30,7 @@ fn set<D: Domain>(
     ensures sets { IfOk result (λ a. Meets D.meaning (set_to place
         (form_of (D.meaning.dims value.old) base (expr_view e.now))) value.old a value.new) }
     ensures dims { OnOk result (D.meaning.dims value.new ≡ D.meaning.dims value.old) }
+    ensures capped { OnOk result (CapsWithin (D.meaning.capped value.old) (D.meaning.capped value.new)) }
 {
     match form_of_expression(alloc, value.dims(), base, e)? {
         None => {

@@ -7,4 +7,4 @@ pub returns-clause-pushes : goal.returns-clause-pushes
 returns-clause-pushes g c =
     let sets = rw c.dims-place.ensures at c.in_ok-two.ensures.sets in
     rw c.worse_of.ensures (done_append g.D.Domain.meaning c.args.base (expr_view c.args.e.now) c.args.value.now c.embed.new.self c.set.new.value c.in_ok-one.one c.in_ok-two.two
-    c.in_ok-one.ensures.meets c.in_ok-one.ensures.dims (omega arith) sets c.in_ok-two.ensures.dims)
+    c.in_ok-one.ensures.meets c.in_ok-one.ensures.dims c.in_ok-one.ensures.capped (omega arith) sets c.in_ok-two.ensures.dims c.in_ok-two.ensures.capped)

@@ -12,7 +12,7 @@ returns-clause-leaves g c =
       c.in_ok-two.ensures.leaves,
       (
         c.in_ok-joined.joined,
-        (c.in_ok-joined.ensures.joins, c.in_ok-two.ensures.dims ∙ sym one_dims, c.in_ok-joined.ensures.dims),
+        (c.in_ok-joined.ensures.joins, c.in_ok-two.ensures.dims ∙ sym one_dims, c.in_ok-joined.ensures.dims, c.in_ok-joined.ensures.capped),
         rw (c.worse_of-2.ensures, c.worse_of.ensures) refl,
       ),
     )
