@@ -6,6 +6,7 @@ use Rattle.lra_domain.specs.declared.Rank.{Rank}
 use Rattle.lra_domain.specs.declared.Mode.TheVariants.{Join}
 use Rattle.lra_domain.specs.declared.Included.TheVariants.{Yes}
 use Rattle.lra_domain.specs.Rank.{RankFits, RankBelow}
+use Rattle.lra_domain.specs.Parts.{CapsWithin}
 use Rattle.lra_domain.specs.Meaning.{Meaning, Values, Grew}
 use Rattle.lra_domain.proofs.RankNumbers.{phased, phased_joins, phased_falls}
 use Rattle.lra_domain.specs.declared.Exactness.{Exactness}
@@ -64,24 +65,27 @@ module _ {V H : Type 0} (m : Meaning V H) (set : Options) (q base : ℕ) (c : Co
 
   -- it doesn't grow more
   pub grow_stable : (first : V) (f : Option ℕ) (left : ℕ) (so_far : Option ℕ) (head : H) (v : V) (e : Exactness) (s : Result V) → GrowLoop m set q base c a first f left so_far head
-      → Values m head e v → m.dims v ≡ m.head_dims head → GoesRound V H (dropping m) q base c (Pass V H (dropping m) set a) (noted q e so_far) v s
+      → Values m head e v → m.dims v ≡ m.head_dims head → CapsWithin (m.head_capped head) (m.capped v)
+      → GoesRound V H (dropping m) q base c (Pass V H (dropping m) set a) (noted q e so_far) v s
       → m.answers head s.normal (mode_at set.limited left) Yes → m.dims s.normal ≡ m.head_dims head → HasGrown m set q base c a first f v s
-  grow_stable first f left so_far head v e s loop values dims round stays behind = loop.grows [] v s ((e, (values, dims), round), (stays, behind))
+  grow_stable first f left so_far head v e s loop values dims caps round stays behind = loop.grows [] v s ((e, (values, dims, caps), round), (stays, behind))
 
   -- it grows by what its round left
   pub grow_next : (first : V) (f : Option ℕ) (left left' : ℕ) (so_far : Option ℕ) (head next : H) (v : V) (e d : Exactness) (s : Result V) → GrowLoop m set q base c a first f left so_far head
-      → Values m head e v → m.dims v ≡ m.head_dims head → GoesRound V H (dropping m) q base c (Pass V H (dropping m) set a) (noted q e so_far) v s
-      → Grew m head s.normal (mode_at set.limited left) d next → m.dims s.normal ≡ m.head_dims head → m.head_dims next ≡ m.head_dims head → RankFits (m.rank next)
+      → Values m head e v → m.dims v ≡ m.head_dims head → CapsWithin (m.head_capped head) (m.capped v)
+      → GoesRound V H (dropping m) q base c (Pass V H (dropping m) set a) (noted q e so_far) v s
+      → Grew m head s.normal (mode_at set.limited left) d next → m.dims s.normal ≡ m.head_dims head → m.head_dims next ≡ m.head_dims head
+      → CapsWithin (λ k. m.head_capped head k × m.capped s.normal k) (m.head_capped next) → RankFits (m.rank next)
       → left' ≡ left - 1 → GrowLoop m set q base c a first f left' (noted q d s.flag) next
-  grow_next first f left left' so_far head next v e d s loop values dims round grew behind kept fits is = record {
+  grow_next first f left left' so_far head next v e d s loop values dims caps round grew behind kept more fits is = record {
     dims = kept ∙ loop.dims;
     fits = fits;
     grows = λ later w r h. loop.grows (next ∷ later) w r (
       v,
       s,
       d,
-      (e, (values, dims), round),
-      (grew, behind, kept),
+      (e, (values, dims, caps), round),
+      (grew, behind, kept, more),
       subst (λ (n : ℕ). Grows V H (dropping m) q base c (Pass V H (dropping m) set a) set.limited n (noted q d s.flag) next later w r) is h,
     );
   }

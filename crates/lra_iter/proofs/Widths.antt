@@ -25,6 +25,7 @@ use Rattle.lra_flow.specs.Changes.{set_to, push_all, drop_last, actions_of, firs
 use Rattle.lra_flow.specs.Conditions.{testing, Leaves}
 use Rattle.lra_flow.specs.Pass.{Entry, value, failing, Result, noted, jumps, first_of_call, caught, behind, Through, Changes, GoesRound, Grows, Narrows, Pass}
 use Rattle.lra_flow.specs.Analysis.{Derivation, Solves}
+use Rattle.lra_flow.proofs.Caps.{all_both}
 use Rattle.lra_change.specs.Changes.{dims_behind}
 use Rattle.lra_iter.specs.Fits.{live_behind}
 use Rattle.lra_iter.specs.Lives.{LiveAt, PointsHave, AreWide}
@@ -122,10 +123,6 @@ module _ (V H : Type 0) (m : Meaning V H) where
     wide_is : (n : ℕ) (r s : Result V) → r ≡ s → Wide n s → Wide n r
     wide_is n r s is h = subst (λ (x : Result V). Wide n x) (sym is) h
 
-    both_wide : (xs ys : List (Entry V)) → AllByRecursion EntryHas xs → AllByRecursion EntryHas ys → AllByRecursion EntryHas (xs ++ ys)
-    both_wide [] ys h i = i
-    both_wide (x ∷ xs) ys h i = (h.0, both_wide xs ys h.1 i)
-
     live_same : (q n k : ℕ) → k ≡ n → LiveAt T q n → LiveAt T q k
     live_same q n k e h = λ s there. e ∙ h s there
 
@@ -173,11 +170,11 @@ module _ (V H : Type 0) (m : Meaning V H) where
       pass_wide (seq a b) f v r n (s, t, one, two, is) h p =
           let x = pass_wide a f v s n one h p.0 in
           let y = pass_wide b s.flag s.normal t (live_behind a n) two x.normal p.1 in
-          wide_is (live_behind b (live_behind a n)) r _ is (record { normal = y.normal; entries = both_wide s.entries t.entries x.entries y.entries })
+          wide_is (live_behind b (live_behind a n)) r _ is (record { normal = y.normal; entries = all_both EntryHas s.entries t.entries x.entries y.entries })
       pass_wide (choose q base c a b) f v r n (on, off, w, d, e, i, s, t, is_on, one, is_off, two, joined, is) h p =
           let x = pass_wide a (noted q d f) on s n one (leaves_dims base c true v d on is_on ∙ h) p.0 in
           let y = pass_wide b (noted q e s.flag) off t n two (leaves_dims base c false v e off is_off ∙ h) p.1 in
-          wide_is (live_behind a n) r _ is (record { normal = joined.2 ∙ x.normal; entries = both_wide s.entries t.entries x.entries y.entries })
+          wide_is (live_behind a n) r _ is (record { normal = joined.2 ∙ x.normal; entries = all_both EntryHas s.entries t.entries x.entries y.entries })
       pass_wide (iterate q base c a) f v r n (k, later, u, top, out, s, t, e, started, grown, narrowed, off, is) h p =
           let inside : (f' : Option ℕ) (v' : V) (r' : Result V) → Pass V H (dropping m) set a f' v' r' → m.dims v' ≡ n → Wide n r' =
           λ f' v' r' turn d. subst (λ (j : ℕ). Wide j r') p.2 (pass_wide a f' v' r' n turn d p.1) in

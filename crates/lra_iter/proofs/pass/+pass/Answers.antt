@@ -8,7 +8,7 @@ use Rattle.lra_operations.specs.Graph as graph
 use Rattle.lra_flow.specs.Pass.{Result, noted, mode_at}
 use Rattle.lra_iter.specs.declared.outcome.Entry.TheVariants.{Value}
 use Rattle.lra_iter.specs.Fits.{live_behind, TreeFits}
-use Rattle.lra_iter.specs.Outcome.{seen, IsPassed, JumpsFit}
+use Rattle.lra_iter.specs.Outcome.{seen, IsPassed}
 use Rattle.lra_iter.proofs.PassLoops.{node_size, row_size, grow_starts, grow_stable, grow_next, grow_falls, narrow_starts, narrow_next, narrow_ends}
 use Rattle.lra_iter.proofs.PassSteps.{empty_view, point_view, act_view, check_view, leave_view, seq_shown, seq_sized, choose_shown, choose_sized, iterate_shown, iterate_sized, catch_shown}
 use Rattle.lra_iter.proofs.PassSteps.{catch_sized, none_fits, same_jumps_fit, caught_have, entered, loop_passed, choice_passed, given_pass, given_dims, given_jumps, caught_pass, caught_dims}
@@ -81,7 +81,7 @@ grow-returns-in-Stable-clause-grows g t c =
     let stays : m.answers c.head.head c.in_ok-outcome.outcome.normal (mode_at l.options.now.limited c.head.left) Yes = rw (← c.mode_of-mode.ensures) (c.in_ok-grow.ensures.stays c.in-Stable.is) in
     let round = rw c.note-so_far_here.ensures at c.in_ok-outcome.ensures.round in
     grow_stable m l.options.now l.point l.base (cond_view l.condition.now) (node_view l.body.now) c.args.first.now c.args.flag c.head.left c.head.so_far c.head.head
-    c.in_ok-value.value c.in_ok-value.exactness (seen c.in_ok-outcome.outcome) c.head.invariant c.in_ok-value.ensures.values c.in_ok-value.ensures.dims round stays
+    c.in_ok-value.value c.in_ok-value.exactness (seen c.in_ok-outcome.outcome) c.head.invariant c.in_ok-value.ensures.values c.in_ok-value.ensures.dims c.in_ok-value.ensures.capped round stays
     (c.in_ok-outcome.ensures.dims ∙ c.in_ok-value.ensures.dims)
 
 pub grow-returns-in-Stable-clause-dims : goal.grow-returns-in-Stable-clause-dims
@@ -111,8 +111,9 @@ grow-head-preserved g t c =
     let round = rw c.note-so_far_here.ensures at c.in_ok-outcome.ensures.round in
     rw c.note-so_far.ensures (grow_next m l.options.now l.point l.base (cond_view l.condition.now) (node_view l.body.now) c.args.first.now c.args.flag c.head.left c.saturating_sub-left.result
     c.head.so_far c.head.head c.grow.new.head
-    c.in_ok-value.value c.in_ok-value.exactness c.in-Grew.exactness (seen c.in_ok-outcome.outcome) c.head.invariant c.in_ok-value.ensures.values c.in_ok-value.ensures.dims round grew
-    (c.in_ok-outcome.ensures.dims ∙ c.in_ok-value.ensures.dims) c.in_ok-grow.ensures.dims c.in_ok-grow.ensures.fits c.saturating_sub-left.ensures)
+    c.in_ok-value.value c.in_ok-value.exactness c.in-Grew.exactness (seen c.in_ok-outcome.outcome) c.head.invariant c.in_ok-value.ensures.values c.in_ok-value.ensures.dims
+    c.in_ok-value.ensures.capped round grew
+    (c.in_ok-outcome.ensures.dims ∙ c.in_ok-value.ensures.dims) c.in_ok-grow.ensures.dims c.in_ok-grow.ensures.capped c.in_ok-grow.ensures.fits c.saturating_sub-left.ensures)
 
 -- a loop, narrowed and left ---------------------------------------------------------------------------------------------
 

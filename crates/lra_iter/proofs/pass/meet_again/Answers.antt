@@ -10,7 +10,7 @@ returns-clause-joined g c =
     let found = c.in_ok-append.ensures one.normal two.normal c.join.new.self one.flag two.flag c.note-both.result in (
       c.join.new.self,
       c.in_ok-exactness.exactness,
-      (c.in_ok-exactness.ensures.joins, sym c.requires, c.in_ok-exactness.ensures.dims),
+      (c.in_ok-exactness.ensures.joins, sym c.requires, c.in_ok-exactness.ensures.dims, c.in_ok-exactness.ensures.capped),
       found ∙
           ap (λ f. in_turn (seen one) (seen two) c.join.new.self f) c.note-both.ensures,
     )
