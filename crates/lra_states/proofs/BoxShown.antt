@@ -104,5 +104,4 @@ boxes_are_shown = record {
   tell = λ v. no_generators v.dims (box_meaning.parts v);
   holds = λ v s h. content_holds v.dims v.bounds s h.1 h.0;
   directed = λ v. parts_directed v.dims v.bounds;
-  capped = λ v cap one. one;
 }

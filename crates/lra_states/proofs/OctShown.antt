@@ -147,5 +147,4 @@ octagons_are_shown = record {
   tell = λ v. no_generators v.dims (octagon_meaning.parts v);
   holds = octagon_holds;
   directed = λ v. parts_directed v.dims v.cells;
-  capped = λ v cap one. one;
 }

@@ -1,5 +1,5 @@
 -- What a domain shows of its values, as the states of a report.
-use Rattle.std.specs.Prelude.{◌≡◌, ◌↔◌, ℕ, ◌≤◌, ℤ, List, [], length, map}
+use Rattle.std.specs.Prelude.{◌≡◌, ◌↔◌, ℤ, List, [], length, map}
 use Rattle.std.specs.List.{AllByRecursion, Contains}
 use Rattle.lra_sys.specs.Listed.{Listed}
 use Rattle.lra_linear.specs.declared.ConKind.{ConKind}
@@ -28,10 +28,6 @@ pub record IsShown {V H : Type 0} (m : Meaning V H) (domain : Domain) (v : V) (s
 abbrev pub AreShown : {V H : Type 0} → Meaning V H → Domain → (V → State) → List V → Type 0
 AreShown {V} m domain shown values = (v : V) → Contains values v → IsShown m domain v (shown v)
 
--- none of these has more parts
-abbrev pub AreCapped : {V H : Type 0} → Meaning V H → ℕ → List V → Type 0
-AreCapped {V} m cap values = (v : V) → Contains values v → m.capped v cap
-
 -- by rows alone, as domains without generators show their values --------------------------------------------------
 
 -- a part without generators
@@ -51,10 +47,9 @@ abbrev pub MeansValue : {V H : Type 0} → Meaning V H → V → State → Type 
 MeansValue m v state = (s : List ℤ) → length s ≡ m.dims v → (m.has v s ↔ Holds state s)
 
 -- in reports over this domain each value is shown by its rows: as wide as it is and as the domain has them, holding at
--- its stores, as their text tells them, in one part
+-- its stores, as their text tells them
 pub record ShowsRows {V H : Type 0} (m : Meaning V H) (domain : Domain) : Type 0 where
   pub wide : (v : V) → AllByRecursion (HasWidth (m.dims v)) (shown_state m v)
   pub tell : (v : V) → AllByRecursion (Tells domain (m.dims v)) (shown_state m v)
   pub holds : (v : V) (s : List ℤ) → m.has v s → Holds (shown_state m v) s
   pub directed : (v : V) → AllByRecursion AreDirected (shown_state m v)
-  pub capped : (v : V) (cap : ℕ) → 1 ≤ cap → m.capped v cap

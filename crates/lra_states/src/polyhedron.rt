@@ -42,8 +42,6 @@ impl Show for Polyhedron {
 
     ghost shown = { shown_polyhedron };
 
-    ghost capped = { λ v cap one. one };
-
     fn show(&self, alloc: Global) -> Result<Vec<Part>, AllocError> {
         polyhedron_state(alloc, self.rows(), self.generators())
     }

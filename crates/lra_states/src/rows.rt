@@ -1,6 +1,6 @@
 //! Domains whose values are shown by their rows alone.
 
-ghost use Rattle.std.specs.Prelude.{◌≡◌, ◌≤◌, map, IfOk};
+ghost use Rattle.std.specs.Prelude.{◌≡◌, IfOk};
 ghost use Rattle.std.specs.List.{AllByRecursion};
 ghost use Rattle.lra_base.specs.declared.options.Domain.TheVariants as options;
 ghost use Rattle.lra_box.specs.Meaning.{box_meaning};
@@ -34,8 +34,6 @@ impl Show for Boxes {
 
     ghost shown = { shown_state box_meaning };
 
-    ghost capped = { λ v cap one. one };
-
     fn show(&self, alloc: Global) -> Result<Vec<Part>, AllocError> {
         parts_by_rows(alloc, self)
     }
@@ -45,8 +43,6 @@ impl Show for Octagon {
     ghost named = { options.Oct };
 
     ghost shown = { shown_state octagon_meaning };
-
-    ghost capped = { λ v cap one. one };
 
     fn show(&self, alloc: Global) -> Result<Vec<Part>, AllocError> {
         parts_by_rows(alloc, self)

@@ -1,6 +1,6 @@
 //! What a domain owes to a report.
 
-ghost use Rattle.std.specs.Prelude.{◌≡◌, ◌≤◌, ℕ, IfOk};
+ghost use Rattle.std.specs.Prelude.{◌≡◌, IfOk};
 ghost use Rattle.std.specs.List.{AllByRecursion};
 ghost use Rattle.lra_base.specs.declared.options.Domain as options;
 ghost use Rattle.lra_findings.specs.Report.{State};
@@ -25,7 +25,4 @@ pub trait Show: Domain {
         ensures shown { IfOk result (λ s. s.items ≡ shown self.now) }
         ensures told { IfOk result (λ s. IsShown Self.meaning named self.now s.items) }
         ensures spelled { IfOk result (λ s. AllByRecursion IsSpelledPart s.items) };
-
-    /// A value has one part at most, so each number of parts caps it.
-    ghost capped: { (v : Self) (cap : ℕ) → 1 ≤ cap → Self.meaning.capped v cap };
 }
