@@ -21,7 +21,7 @@ use Rattle.lra_iter.specs.Numbers.{IsNumbered}
 use Rattle.lra_iter.specs.Solved.{IsSolved}
 use Rattle.lra_listing.specs.Given.{AreStates, AreVerdicts, state_of, told_of, told}
 use Rattle.lra_report.specs.Spelled.{IsSpelledPart}
-use Rattle.lra_states.specs.Shown.{AreShown, AreCapped}
+use Rattle.lra_states.specs.Shown.{AreShown}
 use Rattle.lra_source.specs.Stages.{HasGraph, IsToldOf}
 use Rattle.lra_source.proofs.Fitting.{tree_fits, few_globals}
 use Rattle.lra_source.proofs.Numbering.{numbered}
@@ -101,10 +101,10 @@ module _ {V H : Type 0} (m : Meaning V H) (t : FileTree) (g : Node) (sites : Lis
 
 pub is_told : {V H : Type 0} (m : Meaning V H) (shown : V → State) (domain : Domain) (o : Options) (t : FileTree) (g : Node) (sites : List Site)
     (values : List V) (verdicts : List (ℕ × Bool)) (flagged : Option ℕ) (states : List State) (r : Report)
-    → HasGraph t g sites → IsSolved m o (resolve t) g values verdicts flagged → states ≡ map shown values → AreShown m domain shown values → AreCapped m o.parts values
+    → HasGraph t g sites → IsSolved m o (resolve t) g values verdicts flagged → states ≡ map shown values → AreShown m domain shown values
     → AllByRecursion (AllByRecursion IsSpelledPart) states → r.options ≡ o → Lists t r → map state_of r.points ≡ states
     → map told_of r.verdicts ≡ map told verdicts → r.flagged ≡ option_map suc flagged → IsToldOf m shown domain o t r
-is_told m shown domain o t g sites values verdicts flagged states r has solved are are_shown are_capped spelled options lists same judged flag = record {
+is_told m shown domain o t g sites values verdicts flagged states r has solved are are_shown spelled options lists same judged flag = record {
   names = has.names;
   straight = has.straight;
   within = has.within;
@@ -126,7 +126,6 @@ is_told m shown domain o t g sites values verdicts flagged states r has solved a
     flag = flag;
   };
   are_shown = are_shown;
-  are_capped = are_capped;
   agrees = has.agrees;
   readable = readable t r flagged lists (subst (AllByRecursion (AllByRecursion IsSpelledPart)) (sym same) spelled) flag low;
 }

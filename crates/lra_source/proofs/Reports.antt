@@ -26,7 +26,8 @@ use Rattle.lra_operations.specs.Graph.{Node}
 use Rattle.lra_flow.specs.Pass.{Result}
 use Rattle.lra_flow.specs.Analysis.{Derivation, Solves}
 use Rattle.lra_flow.proofs.Unflagged.{unflagged_is_written, flagged_strains}
-use Rattle.lra_states.specs.Shown.{AreShown, AreCapped}
+use Rattle.lra_flow.proofs.Caps.{solved_capped}
+use Rattle.lra_states.specs.Shown.{AreShown}
 use Rattle.lra_source.specs.Analysed.{told_verdict, verdict_told, IsAnalysed}
 use Rattle.lra_iter.specs.Numbers.{IsBelow}
 use Rattle.lra_source.proofs.Numbering.{numbered}
@@ -113,13 +114,16 @@ module _ {V H : Type 0} (m : Meaning V H) (laws : Laws m) (domain : Domain) (sho
       subst (λ (o : Option ℕ). IsFlag (length r.points) o) (sym x.flag) (is_flag (length r.points) x.flagged there)
 
   -- no more parts than the value's cap, each over the variables that are named
-  parts_are : (o : Options) → o.domain ≡ domain → AreCapped m o.parts x.values → (k : ℕ) (s : Site) (p : PointReport) → slice_get (sites_of (resolve t)) k ≡ Some s → slice_get r.points k ≡ Some p
+  parts_are : (o : Options) → o.domain ≡ domain → 1 ≤ settings.parts → settings.parts ≤ o.parts
+      → (k : ℕ) (s : Site) (p : PointReport) → slice_get (sites_of (resolve t)) k ≡ Some s → slice_get r.points k ≡ Some p
       → IsListed (globals_named t.parts) (labels_of t) s p → AreParts o p
-  parts_are o same capped k s p there listed (is, names) =
+  parts_are o same some room k s p there listed (is, names) =
       let (v, found, state) = value_of k p listed in
-      let one = are v (contained x.values k v found) in
-      let cap : length (m.parts v) ≤ o.parts = laws.capped_parts v o.parts (capped v (contained x.values k v found)) in
-      let few : length (shown v) ≤ o.parts = let many = one.as_many in omega (arith, many, cap) in
+      let here = contained x.values k v found in
+      let one = are v here in
+      let capped = solved_capped m laws settings some (resolve t) x.tree x.result x.values x.verdicts x.flagged x.derived x.solves v here in
+      let cap : length (m.parts v) ≤ settings.parts = laws.capped_parts v settings.parts capped in
+      let few : length (shown v) ≤ o.parts = let many = one.as_many in omega (arith, many, cap, room) in
       let dims : m.dims v ≡ s.live = value_dims m settings (resolve t) x.tree x.result x.values x.verdicts x.flagged x.is_graph x.derived x.solves laws k v s found there in
       let named : m.dims v ≡ length p.names = dims ∙ sym (ap length names ∙ shown_as_many t k s there) in
       record {
@@ -128,13 +132,13 @@ module _ {V H : Type 0} (m : Meaning V H) (laws : Laws m) (domain : Domain) (sho
             (subst (λ (d : Domain). AllByRecursion (Tells d (length p.names)) (shown v)) (sym same) (subst (λ (n : ℕ). AllByRecursion (Tells domain n) (shown v)) named one.tell));
       }
 
-  pub is_report : (o : Options) (source : List ℕ) → o.domain ≡ domain → AreCapped m o.parts x.values → r.options ≡ o → Accepts Spells source t → IsReportOf Spells o source r
-  is_report o source same capped options accepted = record {
+  pub is_report : (o : Options) (source : List ℕ) → o.domain ≡ domain → 1 ≤ settings.parts → settings.parts ≤ o.parts → r.options ≡ o → Accepts Spells source t → IsReportOf Spells o source r
+  is_report o source same some room options accepted = record {
     options = options;
     tree = t;
     accepted = accepted;
     lists = lists;
-    parts = listed_all (AreParts o) (globals_named t.parts) (labels_of t) 1 (sites_of (resolve t)) r.points lists.points (parts_are o same capped);
+    parts = listed_all (AreParts o) (globals_named t.parts) (labels_of t) 1 (sites_of (resolve t)) r.points lists.points (parts_are o same some room);
     sound = sound;
     flag = flag_there;
   }

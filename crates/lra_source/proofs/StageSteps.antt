@@ -1,5 +1,5 @@
 -- What the stages behind the reading answer, as answers of the tree and of the source.
-use Rattle.std.proofs.Common.{◌≡◌, ℕ, List, [], ◌∷◌, map, Some, None, refl, sym, ap, ◌∙◌, subst}
+use Rattle.std.proofs.Common.{◌≡◌, ℕ, ◌≤◌, List, [], ◌∷◌, Some, None, refl, sym, ap, ◌∙◌, subst, arith}
 use Rattle.std.specs.Prelude.{Option, Result, Ok, Err, IfOk, MatchOption}
 use Rattle.std.specs.Result.{IsErrAnd}
 use Rattle.lra_base.specs.declared.refusals.Refusal.{Refusal}
@@ -114,7 +114,7 @@ pub well : (source : List ℕ) (t : FileTree) → HasTree source t → name_faul
 well source t has names = well_formed t (spelled_are_small source has.tokens t has.parsed.0 has.lexed has.parsed.1 has.parsed.2) names
 
 module _ {V H : Type 0} (m : Meaning V H) (laws : Laws m) (shown : V → State) (domain : Domain) (o : Options) (source : List ℕ) (t : FileTree) (r : Report)
-    (has : HasTree source t) (is : IsToldOf m shown domain o t r) where
+    (has : HasTree source t) (is : IsToldOf m shown domain o t r) (some : 1 ≤ o.parts) where
   accepted : Accepts Spells source t
   accepted = record {
     tokens = has.tokens;
@@ -129,7 +129,7 @@ module _ {V H : Type 0} (m : Meaning V H) (laws : Laws m) (shown : V → State) 
   -- a source whose tree's report is told
   pub is_answered : o.domain ≡ domain → IsAnsweredOver m shown o source r
   is_answered same =
-      let whole = is_report m laws domain shown o t r is.lists is.analysed is.are_shown is.agrees o source same is.are_capped is.options accepted in
+      let whole = is_report m laws domain shown o t r is.lists is.analysed is.are_shown is.agrees o source same some (omega arith) is.options accepted in
       record {
         report = record {
           options = is.options;
@@ -146,10 +146,11 @@ module _ {V H : Type 0} (m : Meaning V H) (laws : Laws m) (shown : V → State) 
 
 -- and so with what a tree's answer is, whichever it is
 module _ (o : Options) (source : List ℕ) (t : FileTree) (has : HasTree source t) where
-  pub each_answered : {V H : Type 0} (m : Meaning V H) (laws : Laws m) (shown : V → State) (x : Result code.Report SourceError) → IfOk x (λ r. IsToldOf m shown o.domain o t (report_of r)) →
+  pub each_answered : {V H : Type 0} (m : Meaning V H) (laws : Laws m) (shown : V → State) (x : Result code.Report SourceError) → 1 ≤ o.parts
+      → IfOk x (λ r. IsToldOf m shown o.domain o t (report_of r)) →
       IfOk x (λ r. IsAnsweredOver m shown o source (report_of r))
-  each_answered m laws shown (Ok r) is = is_answered m laws shown o.domain o source t (report_of r) has is refl
-  each_answered m laws shown (Err e) is = tt
+  each_answered m laws shown (Ok r) some is = is_answered m laws shown o.domain o source t (report_of r) has is some refl
+  each_answered m laws shown (Err e) some is = tt
 
   pub each_refused : (x : Result code.Report SourceError) → IfRefused x (λ (r : Refusal). RefusesTree t r.cause r.place) → IfRefused x (λ (r : Refusal). Refuse Spells source r.cause r.place)
   each_refused x = refused_by _ _ (λ r. tree_refused source t r.cause r.place has) x

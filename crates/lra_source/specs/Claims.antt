@@ -19,7 +19,7 @@ use Rattle.lra_report.specs.Listing.{Lists, IsReportOf}
 use Rattle.lra_iter.specs.Fits.{TreeFits}
 use Rattle.lra_iter.specs.Numbers.{AreBelow, IsNumbered}
 use Rattle.lra_domain.specs.Meaning.{Meaning}
-use Rattle.lra_states.specs.Shown.{AreShown, AreCapped}
+use Rattle.lra_states.specs.Shown.{AreShown}
 use Rattle.lra_source.specs.Analysed.{IsAnalysed}
 use Rattle.lra_source.specs.Answers.{IsAnswered}
 
@@ -59,12 +59,12 @@ AnalysedAreSound {V} m = (domain : Domain) (shown : V → State) (settings : Opt
     → (x : IsAnalysed m shown settings (resolve t) r) → AreShown m domain shown x.values
     → Agrees (resolve t) x.tree → Lists t r → IsSound (resolve t) r
 
--- and of an accepted source it is a report, where no value has more parts than the options say
+-- and of an accepted source it is a report, under options that allow as many parts as the analysis had, or more
 abbrev pub AnalysedAreReports : {V H : Type 0} → Meaning V H → Type 0
 AnalysedAreReports {V} m = (shown : V → State) (o : Options) (settings : Options) (source : List ℕ) (t : FileTree)
     (r : Report)
     → (x : IsAnalysed m shown settings (resolve t) r)
-    → AreShown m o.domain shown x.values → AreCapped m o.parts x.values
+    → AreShown m o.domain shown x.values → 1 ≤ settings.parts → settings.parts ≤ o.parts
     → Agrees (resolve t) x.tree → Lists t r → r.options ≡ o → Accepts Spells source t → IsReportOf Spells o source r
 
 -- two answers to one source under one list of options that have the same text are the same report

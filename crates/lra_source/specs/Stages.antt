@@ -20,7 +20,7 @@ use Rattle.lra_meaning.specs.Refuse.{limit_fault}
 use Rattle.lra_tree.specs.Reach.{NotRecursive}
 use Rattle.lra_report.specs.Spelled.{IsReadable}
 use Rattle.lra_domain.specs.Meaning.{Meaning}
-use Rattle.lra_states.specs.Shown.{AreShown, AreCapped}
+use Rattle.lra_states.specs.Shown.{AreShown}
 use Rattle.lra_source.specs.Analysed.{IsAnalysed}
 use Rattle.lra_source.specs.Claims.{AreFew}
 
@@ -54,6 +54,5 @@ pub record IsToldOf {V H : Type 0} (m : Meaning V H) (shown : V → State) (doma
   pub lists : Lists t r
   pub analysed : IsAnalysed m shown o (resolve t) r
   pub are_shown : AreShown m domain shown analysed.values
-  pub are_capped : AreCapped m o.parts analysed.values
   pub agrees : Agrees (resolve t) analysed.tree
   pub readable : IsReadable r

@@ -39,7 +39,7 @@ pub fn trees_fit()
 {}
 
 /// What a report tells of an analysis over a domain holds in all runs, and the report is one of its source, where
-/// values are shown as they are and have no more parts than the options say.
+/// values are shown as they are and the options allow as many parts as the analysis had.
 pub fn analyses_are_right<D: Domain>()
     ensures sound { AnalysedAreSound D.meaning }
     ensures reports { AnalysedAreReports D.meaning }

@@ -8,7 +8,7 @@ report_tree-requires-clause-well g c = well c.args.bytes.now (tree_view c.in_ok-
 pub returns-clause-answered : goal.returns-clause-answered
 returns-clause-answered g c =
     each_answered c.args.options c.args.bytes.now (tree_view c.in_ok-tree.tree) c.in_ok-tree.ensures.found g.D.Domain.meaning g.met.D.Domain.laws g.D.Show.shown c.report_tree.result
-    c.report_tree.ensures.told
+    c.requires.parts c.report_tree.ensures.told
 
 pub returns-clause-refused : goal.returns-clause-refused
 returns-clause-refused g c =

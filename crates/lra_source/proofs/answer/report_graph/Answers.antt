@@ -62,6 +62,6 @@ returns g c =
     values c.in_ok-solution.solution.verdicts.items c.in_ok-solution.solution.flagged (map (λ x. x.items) c.in_ok-states.states.items) (report_of c.in_ok-report.report) c.requires.graph
     (c.in_ok-solution.ensures.solved (resolve (tree_view c.args.tree.now)) c.requires.globals)
     shown (shown_there g.D.Domain.meaning g.D.Show.shown o.domain g.D.Show.named values _ c.requires.named c.deref.ensures.value c.in_ok-states.ensures.told)
-    (λ v listed. g.met.D.Show.capped v o.parts c.requires.parts) c.in_ok-states.ensures.spelled
+    c.in_ok-states.ensures.spelled
     c.in_ok-report.ensures.options c.in_ok-report.ensures.lists c.in_ok-report.ensures.states
     (c.in_ok-report.ensures.verdicts ∙ ap (map told) c.deref-2.ensures.value) c.in_ok-report.ensures.flag
