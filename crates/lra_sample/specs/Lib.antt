@@ -1,4 +1,6 @@
--- In the order in which they are to be read: what is drawn, the source made of it, what is told of its report.
+-- In the order in which they are to be read: what is drawn, the source made of it, what is told of its report, which
+-- sources are accepted.
 pub mod Draws
 pub mod Sample
 pub mod Summary
+pub mod Accepted

@@ -1,12 +1,15 @@
 //! Large sources from a number, and what is told of their reports.
 //!
 //! [`program`] makes the source of a seed and a size, [`summary`] tells of its report in five lines.
+//! [`samples_are_accepted`] is the law that up to 400 blocks no such source is refused.
 #![tactic(auto)]
 
 mod block;
 mod draws;
+mod laws;
 mod source;
 mod telling;
 
+pub use laws::samples_are_accepted;
 pub use source::program;
 pub use telling::summary;

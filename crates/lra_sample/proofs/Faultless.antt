@@ -1,0 +1,66 @@
+-- Such sources have no fault of names, and no call.
+use Rattle.std.proofs.Common.{◌≡◌, ℕ, List, [], ◌∷◌, ◌++◌, refl, sym, ap, ◌∙◌, map}
+use Rattle.lra_base.specs.declared.refusals.Place.{Place}
+use Rattle.lra_tree.specs.declared.trees.Identifier.{Identifier}
+use Rattle.lra_tree.specs.Trees.{ItemsTree}
+use Rattle.lra_tree.specs.Functions.{functions_of}
+use Rattle.lra_tree.specs.Labels.{items_labels}
+use Rattle.lra_tree.specs.Reach.{called_names, calls_in, NotRecursive}
+use Rattle.lra_meaning.specs.Scope.{function_scope}
+use Rattle.lra_meaning.specs.NameFaults.{Around, items_faults, name_faults}
+use Rattle.lra_sample.specs.declared.block.Kind.{Kind}
+use Rattle.lra_sample.specs.declared.block.Kind.TheVariants.{Sum, Choice, Count, Input}
+use Rattle.lra_sample.proofs.Lexemes.{behind, place_of}
+use Rattle.lra_sample.proofs.Numerals.{four}
+use Rattle.lra_sample.proofs.Lines.{Line, items_of, tree_as}
+use Rattle.lra_sample.proofs.Whole.{head_items, lines_tree, last_tree, body_tree, main_tree, file_tree}
+
+-- names --------------------------------------------------------------------------------------------------------------
+
+line_faultless : (k : Kind) (l : Line) (a : Around) (at : ℕ → Place) (rest : ItemsTree) →
+    items_faults a four (tree_as k l at rest) ≡ items_faults a four rest
+line_faultless Sum l a at rest = rw (l.is_first.known, l.is_second.known) refl
+line_faultless Choice l a at rest = rw (l.is_first.known, l.is_second.known) refl
+line_faultless Count l a at rest = rw (l.is_first.known) refl
+line_faultless Input l a at rest = rw (l.is_first.known) refl
+
+lines_faultless : (ls : List Line) (a : Around) (before : List ℕ) →
+    items_faults a four (lines_tree before ls last_tree) ≡ []
+lines_faultless [] a before = refl
+lines_faultless (l ∷ ls) a before =
+    line_faultless l.kind l a (place_of before (items_of l)) (lines_tree (behind before (items_of l)) ls last_tree) ∙
+    lines_faultless ls a (behind before (items_of l))
+
+body_faultless : (before : List ℕ) (ls : List Line) (a : Around) →
+    items_faults a (function_scope [] []) (body_tree before ls) ≡ []
+body_faultless before ls a = lines_faultless ls a _
+
+pub names : (source : List ℕ) (ls : List Line) → name_faults (file_tree source ls) ≡ []
+names source ls = ap (λ t. (t ++ []) ++ []) (body_faultless (behind [] head_items) ls _)
+
+-- calls --------------------------------------------------------------------------------------------------------------
+
+line_calls : (k : Kind) (l : Line) (live : List (List ℕ)) (at : ℕ → Place) (rest : ItemsTree) (end : Place) →
+    called_names (items_labels live (tree_as k l at rest) end) ≡ called_names (items_labels live rest end)
+line_calls Sum l live at rest end = refl
+line_calls Choice l live at rest end = refl
+line_calls Count l live at rest end = refl
+line_calls Input l live at rest end = refl
+
+lines_calls : (ls : List Line) (live : List (List ℕ)) (before : List ℕ) (end : Place) →
+    called_names (items_labels live (lines_tree before ls last_tree) end) ≡ []
+lines_calls [] live before end = refl
+lines_calls (l ∷ ls) live before end =
+    line_calls l.kind l live (place_of before (items_of l)) (lines_tree (behind before (items_of l)) ls last_tree) end ∙
+    lines_calls ls live (behind before (items_of l)) end
+
+no_calls : (source : List ℕ) (ls : List Line) → calls_in (functions_of (file_tree source ls)) ≡ []
+no_calls source ls = ap (λ (cs : List Identifier). map (λ (c : Identifier). ((main_tree ls).name.word, c)) cs ++ [])
+    (lines_calls ls _ _ (main_tree ls).end)
+
+none_first : (before after : List (List ℕ × Identifier)) (c : List ℕ × Identifier) → [] ≡ before ++ c ∷ after → ⊥
+none_first [] after c e = cc
+none_first (b ∷ before) after c e = cc
+
+pub not_recursive : (source : List ℕ) (ls : List Line) → NotRecursive (file_tree source ls)
+not_recursive source ls at r = none_first r.0 r.1 r.2 (sym (no_calls source ls) ∙ r.3)

@@ -1,0 +1,171 @@
+-- Sources that are written lexeme by lexeme: their tokens, and the pieces of their grammar.
+use Rattle.std.proofs.Common.{◌≡◌, ℕ, zero, suc, ◌≤◌, Bool, true, false, ◌||◌, List, [], ◌∷◌, ◌++◌, refl, sym, ap, ◌∙◌}
+use Rattle.std.proofs.Common.{subst, append_assoc}
+use Rattle.std.proofs.lemmas.List.{append-nil}
+use Rattle.std.proofs.lemmas.Bool.{leb-true}
+use Rattle.std.specs.Prelude.{⊤, nat_le, nat_eq}
+use Rattle.lra_base.specs.declared.refusals.Place.{Place}
+use Rattle.lra_tree.specs.declared.tokens.Kind.{Kind}
+use Rattle.lra_tree.specs.declared.tokens.Kind.TheVariants.{Mark as MarkOf}
+use Rattle.lra_tree.specs.declared.tokens.Mark.{Mark}
+use Rattle.lra_tree.specs.declared.tokens.Token.{Token}
+use Rattle.lra_tree.specs.Lexeme.{mark_text, Lexeme, SpellsToken, mark_word, mark_of}
+use Rattle.lra_tree.specs.Tokens.{is_blank, blank, Piece, gap, token, bytes_of, tokens_of, IsToken, IsReading, Lex}
+use Rattle.lra_tree.specs.Tokens.{end_token, place_behind}
+use Rattle.lra_tree.specs.Texts.{Pieces, plain}
+use Rattle.lra_tree.specs.Faults.{IsLow, greatest_level}
+use Rattle.lra_tree.proofs.LongestByTest.{is_lexeme, begins_gap, opens_comment, ends_there, as_token}
+
+-- a blank, or a token: its first byte and the others, its kind, the level that it opens
+pub data Item : Type 0 where
+  skip : ℕ → Item
+  lexeme : ℕ → List ℕ → Kind → ℕ → Item
+
+abbrev pub written : List Item → List ℕ
+written [] = []
+written (skip c ∷ xs) = c ∷ written xs
+written (lexeme c cs k o ∷ xs) = (c ∷ cs) ++ written xs
+
+-- what stands behind them
+abbrev pub behind : List ℕ → List Item → List ℕ
+behind before [] = before
+behind before (skip c ∷ xs) = behind (before ++ c ∷ []) xs
+behind before (lexeme c cs k o ∷ xs) = behind (before ++ c ∷ cs) xs
+
+abbrev pub reading : List ℕ → List Item → List Piece
+reading before [] = []
+reading before (skip c ∷ xs) = gap (c ∷ []) ∷ reading (before ++ c ∷ []) xs
+reading before (lexeme c cs k o ∷ xs) = token (c ∷ cs) (record { kind = k; place = place_behind before }) ∷
+    reading (before ++ c ∷ cs) xs
+
+abbrev pub pieces : List ℕ → List Item → Pieces
+pieces before [] = []
+pieces before (skip c ∷ xs) = pieces (before ++ c ∷ []) xs
+pieces before (lexeme c cs k o ∷ xs) = (record { kind = k; place = place_behind before }, o) ∷
+    pieces (before ++ c ∷ cs) xs
+
+-- the place of the item with this number, from 0
+abbrev pub place_of : List ℕ → List Item → ℕ → Place
+place_of before [] n = place_behind before
+place_of before (skip c ∷ xs) zero = place_behind before
+place_of before (skip c ∷ xs) (suc n) = place_of (before ++ c ∷ []) xs n
+place_of before (lexeme c cs k o ∷ xs) zero = place_behind before
+place_of before (lexeme c cs k o ∷ xs) (suc n) = place_of (before ++ c ∷ cs) xs n
+
+-- where they are right ---------------------------------------------------------------------------------------------
+
+-- a token's bytes
+pub record IsGood (c : ℕ) (cs : List ℕ) (k : Kind) : Type 0 where
+  pub lexeme : Lexeme (c ∷ cs)
+  pub spells : SpellsToken (c ∷ cs) k
+  pub gapless : begins_gap c ≡ false
+
+-- nothing longer is a lexeme
+abbrev pub Ends : List ℕ → List ℕ → Type 0
+Ends s [] = ⊤
+Ends s (c ∷ cs) = (u : List ℕ) → is_lexeme (s ++ c ∷ u) ≡ false
+
+-- they stand before such bytes, and open no level past the greatest
+pub record IsRead (c : ℕ) (cs : List ℕ) (k : Kind) (o : ℕ) (after : List ℕ) : Type 0 where
+  pub good : IsGood c cs k
+  pub ends : Ends (c ∷ cs) after
+  pub low : nat_le o greatest_level ≡ true
+
+abbrev pub AreRead : List Item → Type 0
+AreRead [] = ⊤
+AreRead (skip c ∷ xs) = (is_blank c ≡ true) × AreRead xs
+AreRead (lexeme c cs k o ∷ xs) = IsRead c cs k o (written xs) × AreRead xs
+
+-- one item and the others
+infixr 4 ◌⨾◌
+pub ◌⨾◌ : {A B : Type 0} → A → B → A × B
+a ⨾ b = (a, b)
+
+pub as_read : {c : ℕ} {cs : List ℕ} {k : Kind} {o : ℕ} {after : List ℕ} → IsGood c cs k → Ends (c ∷ cs) after →
+    nat_le o greatest_level ≡ true → IsRead c cs k o after
+as_read good ends low = record { good = good; ends = ends; low = low }
+
+pub is_mark : (m : Mark) {c : ℕ} {cs : List ℕ} {o : ℕ} {after : List ℕ} → c ∷ cs ≡ mark_text m → begins_gap c ≡ false →
+    nat_le o greatest_level ≡ true → Ends (c ∷ cs) after →
+    IsRead c cs (MarkOf m) o after
+is_mark m e g low ends = record {
+  good = record { lexeme = mark_word m e; spells = mark_of m e; gapless = g };
+  ends = ends;
+  low = low;
+}
+
+-- one behind the other ---------------------------------------------------------------------------------------------
+
+pub written_append : (xs ys : List Item) → written (xs ++ ys) ≡ written xs ++ written ys
+written_append [] ys = refl
+written_append (skip c ∷ xs) ys = ap (λ t. c ∷ t) (written_append xs ys)
+written_append (lexeme c cs k o ∷ xs) ys = ap (λ t. (c ∷ cs) ++ t) (written_append xs ys) ∙
+    sym (append_assoc (c ∷ cs) (written xs) (written ys))
+
+pub pieces_append : (before : List ℕ) (xs ys : List Item) →
+    pieces before (xs ++ ys) ≡ pieces before xs ++ pieces (behind before xs) ys
+pieces_append before [] ys = refl
+pieces_append before (skip c ∷ xs) ys = pieces_append (before ++ c ∷ []) xs ys
+pieces_append before (lexeme c cs k o ∷ xs) ys = ap (λ t. (record { kind = k; place = place_behind before }, o) ∷ t)
+    (pieces_append (before ++ c ∷ cs) xs ys)
+
+-- tokens -------------------------------------------------------------------------------------------------------------
+
+bytes_read : (before : List ℕ) (xs : List Item) → bytes_of (reading before xs) ≡ written xs
+bytes_read before [] = refl
+bytes_read before (skip c ∷ xs) = ap (λ t. c ∷ t) (bytes_read (before ++ c ∷ []) xs)
+bytes_read before (lexeme c cs k o ∷ xs) = ap (λ t. (c ∷ cs) ++ t) (bytes_read (before ++ c ∷ cs) xs)
+
+ends_by : (after s : List ℕ) (c : ℕ) → ((u : List ℕ) → is_lexeme (s ++ c ∷ u) ≡ false) → ends_there s (c ∷ after) ≡ true
+ends_by [] s c none = rw (none []) refl
+ends_by (d ∷ after) s c none =
+    rw (none []) (ends_by after (s ++ c ∷ []) d (λ u. subst (λ z. is_lexeme z ≡ false)
+    (sym (append_assoc s (c ∷ []) (d ∷ u))) (none (d ∷ u))))
+
+ends : (s after : List ℕ) → Ends s after → ends_there s after ≡ true
+ends s [] e = refl
+ends s (c ∷ after) e = ends_by after s c e
+
+second_of : (a b c : Bool) → (a || b || c) ≡ false → b ≡ false
+second_of true b c e = cc
+second_of false true c e = cc
+second_of false false c e = refl
+
+no_comment : (c : ℕ) (rest : List ℕ) → begins_gap c ≡ false → opens_comment (c ∷ rest) ≡ false
+no_comment c [] e = refl
+no_comment c (d ∷ rest) e = rw (second_of (is_blank c) (nat_eq c 47) (nat_eq c 35) e) refl
+
+token_read : (before : List ℕ) (c : ℕ) (cs after : List ℕ) (k : Kind) (o : ℕ) → IsRead c cs k o after →
+    IsToken before (c ∷ cs) ((c ∷ cs) ++ after) (record { kind = k; place = place_behind before })
+token_read before c cs after k o r =
+    as_token before (c ∷ cs) after k r.good.lexeme r.good.spells r.good.gapless
+    (no_comment c (cs ++ after) r.good.gapless) (ends (c ∷ cs) after r.ends)
+
+read : (before : List ℕ) (xs : List Item) → AreRead xs → IsReading before (reading before xs) []
+read before [] g = tt
+read before (skip c ∷ xs) g = (blank c refl g.0, read (before ++ c ∷ []) xs g.1)
+read before (lexeme c cs k o ∷ xs) g = (
+  subst (λ z. IsToken before (c ∷ cs) ((c ∷ cs) ++ z) (record { kind = k; place = place_behind before }))
+      (sym (append-nil (bytes_of (reading (before ++ c ∷ cs) xs)) ∙ bytes_read (before ++ c ∷ cs) xs))
+      (token_read before c cs (written xs) k o g.0),
+  read (before ++ c ∷ cs) xs g.1,
+)
+
+pub lexed : (source : List ℕ) (xs : List Item) → source ≡ written xs → AreRead xs →
+    Lex source (tokens_of (reading [] xs) ++ end_token source ∷ [])
+lexed source xs e g = (reading [] xs, e ∙ sym (bytes_read [] xs), read [] xs g, refl)
+
+pub plain_pieces : (before : List ℕ) (xs : List Item) (t : Token) →
+    plain (pieces before xs ++ (t, 0) ∷ []) ≡ tokens_of (reading before xs) ++ t ∷ []
+plain_pieces before [] t = refl
+plain_pieces before (skip c ∷ xs) t = plain_pieces (before ++ c ∷ []) xs t
+plain_pieces before (lexeme c cs k o ∷ xs) t = ap (λ ts. record { kind = k; place = place_behind before } ∷ ts)
+    (plain_pieces (before ++ c ∷ cs) xs t)
+
+level_by : (o : ℕ) → nat_le o greatest_level ≡ true → o ≤ greatest_level
+level_by o e = leb-true o greatest_level e
+
+pub low_pieces : (before : List ℕ) (xs : List Item) (t : Token) → AreRead xs → IsLow (pieces before xs ++ (t, 0) ∷ [])
+low_pieces before [] t g = (level_by 0 refl, tt)
+low_pieces before (skip c ∷ xs) t g = low_pieces (before ++ c ∷ []) xs t g.1
+low_pieces before (lexeme c cs k o ∷ xs) t g = (level_by o g.0.low, low_pieces (before ++ c ∷ cs) xs t g.1)

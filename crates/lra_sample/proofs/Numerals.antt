@@ -1,0 +1,249 @@
+-- The numerals and the names of variables that sample sources have.
+use Rattle.std.proofs.Common.{◌≡◌, ℕ, zero, suc, ◌+◌, ◌*◌, ◌/◌, ◌%◌, ◌<◌, ◌≤◌, Bool, true, false, ◌&&◌, List, [], ◌∷◌}
+use Rattle.std.proofs.Common.{◌++◌, refl, ap, ◌∙◌, arith, inl, inr}
+use Rattle.std.proofs.lemmas.Bool.{cases_lt, or_right}
+use Rattle.std.proofs.lemmas.Fmt.{decimal_digit, decimal_step}
+use Rattle.std.specs.Fmt.{decimal}
+use Rattle.std.specs.List.{list_all}
+use Rattle.std.specs.Prelude.{codes, is_none, nat_le}
+use Rattle.lra_tree.specs.declared.tokens.Kind.TheVariants.{Name, Number}
+use Rattle.lra_tree.specs.Lexeme.{is_between, is_digit, is_word_byte, is_letter, digit_value, number_behind}
+use Rattle.lra_tree.specs.Lexeme.{decimal_base, octal, greatest_literal, number_word, word, name, number}
+use Rattle.lra_tree.proofs.LongestByTest.{is_lexeme, begins_gap}
+use Rattle.lra_meaning.specs.Scope.{Scope, slot_of}
+use Rattle.lra_tree.specs.Faults.{greatest_level}
+use Rattle.lra_sample.proofs.Lexemes.{IsGood, IsRead, as_read}
+
+-- words --------------------------------------------------------------------------------------------------------------
+
+-- a word ends before a byte that is none of a word's
+none_passes : (cs u : List ℕ) (c : ℕ) → is_word_byte c ≡ false → list_all is_word_byte (cs ++ c ∷ u) ≡ false
+none_passes [] u c e = rw e refl
+none_passes (x ∷ cs) u c e = fails (is_word_byte x) (list_all is_word_byte (cs ++ c ∷ u)) (none_passes cs u c e)
+  where
+    fails : (a b : Bool) → b ≡ false → (a && b) ≡ false
+    fails true b e = e
+    fails false b e = refl
+
+-- with this byte in front only words are lexemes
+abbrev pub OnlyWords : ℕ → Type 0
+OnlyWords x = (z : List ℕ) → list_all is_word_byte z ≡ false → is_lexeme (x ∷ z) ≡ false
+
+pub word_ends : (x : ℕ) → OnlyWords x → (cs : List ℕ) (c : ℕ) → is_word_byte c ≡ false → (u : List ℕ) →
+    is_lexeme ((x ∷ cs) ++ c ∷ u) ≡ false
+word_ends x only cs c e u = only (cs ++ c ∷ u) (none_passes cs u c e)
+
+pub names_end : (cs : List ℕ) (c : ℕ) → is_word_byte c ≡ false → (u : List ℕ) → is_lexeme ((118 ∷ cs) ++ c ∷ u) ≡ false
+names_end = word_ends 118 (λ z e. rw e refl)
+
+-- digits -------------------------------------------------------------------------------------------------------------
+
+-- what is used of the first digit of a numeral
+pub record IsFirstDigit (x : ℕ) : Type 0 where
+  pub only : OnlyWords x
+  pub behind_plus : (u : List ℕ) → is_lexeme (43 ∷ x ∷ u) ≡ false
+  pub behind_less : (u : List ℕ) → is_lexeme (60 ∷ x ∷ u) ≡ false
+  pub behind_assign : (u : List ℕ) → is_lexeme (61 ∷ x ∷ u) ≡ false
+
+-- by cases over ten digits
+digit_cases : (P : ℕ → Type 0) → P 48 → P 49 → P 50 → P 51 → P 52 → P 53 → P 54 → P 55 → P 56 → P 57 → (n : ℕ) →
+    n < 10 → P (48 + n)
+digit_cases P a b c d e f g h i j zero l = a
+digit_cases P a b c d e f g h i j (suc zero) l = b
+digit_cases P a b c d e f g h i j (suc (suc zero)) l = c
+digit_cases P a b c d e f g h i j (suc (suc (suc zero))) l = d
+digit_cases P a b c d e f g h i j (suc (suc (suc (suc zero)))) l = e
+digit_cases P a b c d e f g h i j (suc (suc (suc (suc (suc zero))))) l = f
+digit_cases P a b c d e f g h i j (suc (suc (suc (suc (suc (suc zero)))))) l = g
+digit_cases P a b c d e f g h i j (suc (suc (suc (suc (suc (suc (suc zero))))))) l = h
+digit_cases P a b c d e f g h i j (suc (suc (suc (suc (suc (suc (suc (suc zero)))))))) l = i
+digit_cases P a b c d e f g h i j (suc (suc (suc (suc (suc (suc (suc (suc (suc zero))))))))) l = j
+digit_cases P a b c d e f g h i j (suc (suc (suc (suc (suc (suc (suc (suc (suc (suc n)))))))))) l =
+    absurd (omega (arith, l))
+
+first_digit : (n : ℕ) → n < 10 → IsFirstDigit (48 + n)
+first_digit = digit_cases IsFirstDigit
+    (as_first (λ z e. rw e refl) (λ u. refl) (λ u. refl) (λ u. refl))
+    (as_first (λ z e. rw e refl) (λ u. refl) (λ u. refl) (λ u. refl))
+    (as_first (λ z e. rw e refl) (λ u. refl) (λ u. refl) (λ u. refl))
+    (as_first (λ z e. rw e refl) (λ u. refl) (λ u. refl) (λ u. refl))
+    (as_first (λ z e. rw e refl) (λ u. refl) (λ u. refl) (λ u. refl))
+    (as_first (λ z e. rw e refl) (λ u. refl) (λ u. refl) (λ u. refl))
+    (as_first (λ z e. rw e refl) (λ u. refl) (λ u. refl) (λ u. refl))
+    (as_first (λ z e. rw e refl) (λ u. refl) (λ u. refl) (λ u. refl))
+    (as_first (λ z e. rw e refl) (λ u. refl) (λ u. refl) (λ u. refl))
+    (as_first (λ z e. rw e refl) (λ u. refl) (λ u. refl) (λ u. refl))
+  where
+    as_first : {x : ℕ} → OnlyWords x → ((u : List ℕ) → is_lexeme (43 ∷ x ∷ u) ≡ false) →
+        ((u : List ℕ) → is_lexeme (60 ∷ x ∷ u) ≡ false) → ((u : List ℕ) → is_lexeme (61 ∷ x ∷ u) ≡ false) → IsFirstDigit x
+    as_first only plus less assign = record { only = only; behind_plus = plus; behind_less = less; behind_assign = assign }
+
+-- what is used of the digits of a literal
+record IsDigit (x : ℕ) : Type 0 where
+  digit : is_digit x ≡ true
+  small : digit_value x ≤ 9
+
+a_digit : (n : ℕ) → n < 10 → IsDigit (48 + n)
+a_digit = digit_cases IsDigit
+    (record { digit = refl; small = omega arith })
+    (record { digit = refl; small = omega arith })
+    (record { digit = refl; small = omega arith })
+    (record { digit = refl; small = omega arith })
+    (record { digit = refl; small = omega arith })
+    (record { digit = refl; small = omega arith })
+    (record { digit = refl; small = omega arith })
+    (record { digit = refl; small = omega arith })
+    (record { digit = refl; small = omega arith })
+    (record { digit = refl; small = omega arith })
+
+-- and of the first where there are more, or where it isn't 0
+record IsFront (x : ℕ) : Type 0 where
+  front : is_between 49 57 x ≡ true
+  gapless : begins_gap x ≡ false
+
+a_front : (n : ℕ) → n < 10 → 48 < 48 + n → IsFront (48 + n)
+a_front = digit_cases (λ x. 48 < x → IsFront x)
+    (λ l. absurd (omega (arith, l)))
+    (λ l. record { front = refl; gapless = refl })
+    (λ l. record { front = refl; gapless = refl })
+    (λ l. record { front = refl; gapless = refl })
+    (λ l. record { front = refl; gapless = refl })
+    (λ l. record { front = refl; gapless = refl })
+    (λ l. record { front = refl; gapless = refl })
+    (λ l. record { front = refl; gapless = refl })
+    (λ l. record { front = refl; gapless = refl })
+    (λ l. record { front = refl; gapless = refl })
+
+-- numerals below 100 -------------------------------------------------------------------------------------------------
+
+pub zero_good : IsGood 48 [] (Number 0)
+zero_good = record {
+  lexeme = number_word refl;
+  spells = number 0 refl (record {
+    base = octal;
+    front = codes "0";
+    digits = [];
+    suffix = [];
+    parts = refl;
+    begins = refl;
+    all_digits = refl;
+    is_suffix = refl;
+    number = refl;
+  }) (omega arith);
+  gapless = refl;
+}
+
+one_digit : (x : ℕ) → IsFront x → IsDigit x → IsGood x [] (Number (number_behind decimal_base 0 (x ∷ [])))
+one_digit x f d = record {
+  lexeme = number_word (rw d.digit refl);
+  spells = number (number_behind decimal_base 0 (x ∷ [])) (rw d.digit refl)
+      (record {
+        base = decimal_base;
+        front = [];
+        digits = x ∷ [];
+        suffix = [];
+        parts = refl;
+        begins = (x, [], refl, refl, f.front);
+        all_digits = rw d.digit refl;
+        is_suffix = refl;
+        number = refl;
+      })
+      (fits (digit_value x) d.small);
+  gapless = f.gapless;
+}
+  where
+    fits : (a : ℕ) → a ≤ 9 → 0 * 10 + a ≤ greatest_literal
+    fits a l = omega (arith, l)
+
+pub one_good : IsGood 49 [] (Number 1)
+one_good = one_digit 49 (a_front 1 (omega arith) (omega arith)) (a_digit 1 (omega arith))
+
+two_digits : (x y : ℕ) → IsFront x → IsDigit x → IsDigit y → IsGood x (y ∷ []) (Number (number_behind decimal_base 0 (x ∷ y ∷ [])))
+two_digits x y f d b = record {
+  lexeme = number_word (rw (d.digit, digit_is y b.digit) refl);
+  spells = number (number_behind decimal_base 0 (x ∷ y ∷ [])) (rw (d.digit, digit_is y b.digit) refl)
+      (record {
+        base = decimal_base;
+        front = [];
+        digits = x ∷ y ∷ [];
+        suffix = [];
+        parts = refl;
+        begins = (x, y ∷ [], refl, refl, f.front);
+        all_digits = rw (d.digit, b.digit) refl;
+        is_suffix = refl;
+        number = refl;
+      })
+      (fits (digit_value x) (digit_value y) d.small b.small);
+  gapless = f.gapless;
+}
+  where
+    fits : (a b : ℕ) → a ≤ 9 → b ≤ 9 → (0 * 10 + a) * 10 + b ≤ greatest_literal
+    fits a b l m = omega (arith, l, m)
+
+    digit_is : (c : ℕ) → is_digit c ≡ true → is_word_byte c ≡ true
+    digit_is c h = or_right (is_letter c) (is_digit c) h
+
+-- the text of a number below 100
+pub record Numeral (s : List ℕ) : Type 0 where
+  pub head : ℕ
+  pub tail : List ℕ
+  pub value : ℕ
+  pub spelled : s ≡ head ∷ tail
+  pub first : IsFirstDigit head
+  pub good : IsGood head tail (Number value)
+
+one_of : (n : ℕ) → n < 10 → Numeral (decimal n)
+one_of zero l = record {
+  head = 48;
+  tail = [];
+  value = 0;
+  spelled = decimal_digit 0 l;
+  first = first_digit 0 l;
+  good = zero_good;
+}
+one_of (suc n) l = record {
+  head = 48 + suc n;
+  tail = [];
+  value = number_behind decimal_base 0 ((48 + suc n) ∷ []);
+  spelled = decimal_digit (suc n) l;
+  first = first_digit (suc n) l;
+  good = one_digit (48 + suc n) (a_front (suc n) l (omega arith)) (a_digit (suc n) l);
+}
+
+two_of : (n : ℕ) → n < 100 → 10 ≤ n → Numeral (decimal n)
+two_of n l g =
+    let tens : n / 10 < 10 = omega (arith, l) in
+    let ones : n % 10 < 10 = omega arith in
+    let some : 48 < 48 + n / 10 = omega (arith, g) in
+    record {
+      head = 48 + n / 10;
+      tail = (48 + n % 10) ∷ [];
+      value = number_behind decimal_base 0 ((48 + n / 10) ∷ (48 + n % 10) ∷ []);
+      spelled = decimal_step n g (omega (arith, l)) ∙ ap (λ t. t ++ (48 + n % 10) ∷ []) (decimal_digit (n / 10) tens);
+      first = first_digit (n / 10) tens;
+      good = two_digits (48 + n / 10) (48 + n % 10) (a_front (n / 10) tens some) (a_digit (n / 10) tens) (a_digit (n % 10) ones);
+    }
+
+pub numeral : (n : ℕ) → n < 100 → Numeral (decimal n)
+numeral n l = elim (cases_lt n 10) [ inl small ↦ one_of n small | inr large ↦ two_of n l large ]
+
+-- variables ----------------------------------------------------------------------------------------------------------
+
+-- the four of a sample source
+abbrev pub four : Scope
+four = record { globals = []; locals = codes "v0" ∷ codes "v1" ∷ codes "v2" ∷ codes "v3" ∷ []; outer = 0 }
+
+pub record IsVariable (x : ℕ) : Type 0 where
+  pub good : IsGood 118 (x ∷ []) (Name (118 ∷ x ∷ []))
+  pub known : is_none (slot_of four (118 ∷ x ∷ [])) ≡ false
+
+pub variable : (n : ℕ) → n < 4 → IsVariable (48 + n)
+variable zero l = record { good = record { lexeme = word refl; spells = name refl refl refl; gapless = refl }; known = refl }
+variable (suc zero) l = record { good = record { lexeme = word refl; spells = name refl refl refl; gapless = refl }; known = refl }
+variable (suc (suc zero)) l = record { good = record { lexeme = word refl; spells = name refl refl refl; gapless = refl }; known = refl }
+variable (suc (suc (suc zero))) l = record { good = record { lexeme = word refl; spells = name refl refl refl; gapless = refl }; known = refl }
+variable (suc (suc (suc (suc n)))) l = absurd (omega (arith, l))
+
+pub is_name : {x o : ℕ} {cs : List ℕ} → IsVariable x → (c : ℕ) → is_word_byte c ≡ false →
+    nat_le o greatest_level ≡ true → IsRead 118 (x ∷ []) (Name (118 ∷ x ∷ [])) o (c ∷ cs)
+is_name {x} v c e low = as_read v.good (names_end (x ∷ []) c e) low

@@ -1,0 +1,5 @@
+use Rattle.lra_sample.proofs.Samples.{accepted}
+use Rattle.lra_sample.proofs.laws.samples_are_accepted.Goals as goal
+
+pub returns : goal.returns
+returns c = accepted

@@ -1,0 +1,10 @@
+-- Which sample sources are accepted.
+use Rattle.std.specs.Prelude.{ℕ, ◌≤◌}
+use Rattle.lra_tree.specs.Grammar.{Spells}
+use Rattle.lra_tree.specs.Trees.{FileTree}
+use Rattle.lra_meaning.specs.Refuse.{Accepts}
+use Rattle.lra_sample.specs.Sample.{sample_source}
+
+-- with at most 400 blocks a source of any seed has a tree, and nothing refuses it
+abbrev pub SamplesAreAccepted : Type 0
+SamplesAreAccepted = (seed size : ℕ) → size ≤ 400 → (t : FileTree) × Accepts Spells (sample_source seed size) t
