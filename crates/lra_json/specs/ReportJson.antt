@@ -48,7 +48,7 @@ part_data Poly names part = object (
 part_data Box names part = object (member (codes "rows") (rows_data names part.rows) no_members)
 part_data Oct names part = object (member (codes "rows") (rows_data names part.rows) no_members)
 
--- a point that no run reaches has no part
+-- no run reaches a point that has no part
 abbrev pub point_data : Domain → PointReport → Data
 point_data domain p = object (
     member (codes "number") (natural p.number) (

@@ -6,6 +6,7 @@
 
 pub mod law;
 mod lists;
+mod object;
 mod parts;
 mod whole;
 

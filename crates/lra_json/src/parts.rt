@@ -8,10 +8,11 @@ ghost use Rattle.lra_findings.specs.ReportText as written;
 ghost use Rattle.lra_report.specs.View.{point_report_of, verdict_of};
 
 use crate::lists::{generator_values, row_values};
+use crate::object::Object;
 use lra_base::{Domain, Place};
 use lra_report::{Part, PointReport, Verdict};
 use lra_show::Names;
-use serde_json::{Value, json};
+use serde_json::Value;
 use std::alloc::{AllocError, Global};
 
 /// The list of a part's rows.
@@ -49,13 +50,14 @@ fn part_value(
     ensures { IfOk result (λ value. view value ≡ part_data domain names.now part.now) }
 {
     let rows = rows_value(alloc, part, names)?;
+    let object = Object::new(alloc).with("rows", rows)?;
     match domain {
         Domain::Poly => {
             let generators = generators_value(alloc, part, names)?;
-            json!(in alloc; {"generators": generators, "rows": rows})
+            Ok(object.with("generators", generators)?.into_value())
         }
-        Domain::Box => json!(in alloc; {"rows": rows}),
-        Domain::Oct => json!(in alloc; {"rows": rows}),
+        Domain::Box => Ok(object.into_value()),
+        Domain::Oct => Ok(object.into_value()),
     }
 }
 
@@ -91,9 +93,12 @@ fn point_value(alloc: Global, domain: Domain, point: &PointReport) -> Result<Val
     ensures { IfOk result (λ value. view value ≡ point_data domain (point_report_of point.now)) }
 {
     let parts = part_values(alloc, domain, point.state.as_slice(), &point.names)?;
+    let object = Object::new(alloc).with("parts", Value::from(parts))?;
+    let object = object.with("number", Value::from(point.number))?;
+    let object = object.with_text("path", point.path.as_str())?;
     let place = place_value(alloc, point.place)?;
-    let path = point.path.as_str();
-    json!(in alloc; {"number": point.number, "parts": parts, "path": path, "place": place})
+    let object = object.with("place", place)?;
+    Ok(object.into_value())
 }
 
 /// The points.
@@ -118,7 +123,9 @@ fn verdict_value(alloc: Global, verdict: &Verdict) -> Result<Value, AllocError>
     ensures { IfOk result (λ value. view value ≡ verdict_data (verdict_of verdict.now)) }
 {
     let word = if verdict.proved { "proved" } else { "unknown" };
-    json!(in alloc; {"point": verdict.number, "verdict": word})
+    let object = Object::new(alloc).with("point", Value::from(verdict.number))?;
+    let object = object.with_text("verdict", word)?;
+    Ok(object.into_value())
 }
 
 /// The assertions.
