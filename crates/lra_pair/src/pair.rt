@@ -338,6 +338,24 @@ fn from_points(alloc: Global, given: &GenSys) -> Result<(Pair, Vec<Loss>), Alloc
     }
 }
 
+// The polyhedron of the generators that were taken into the cone, some of them points; none where a number passes in the
+// canonical ones, or there are too many.
+fn by_own_list(alloc: Global, n: usize, cone: &Cone) -> Result<Option<Pair>, AllocError>
+    requires small { n < 2 ^ 62 }
+    requires dims { cone.now.dims ≡ n }
+    requires columns { AreGenerators cone.now.taken }
+    requires some { ¬ (IsEmptySet n (Gen cone.now.taken)) }
+    ensures { IfOk result (λ pair. IfSome pair (IsPolyhedronOf n (Gen cone.now.taken))) }
+{
+    match limited_list(alloc, cone)? {
+        Ok(own) => {
+            let pair = of_generators(alloc, n, cone, &own)?;
+            Ok(Some(pair))
+        }
+        Err(_) => Ok(None),
+    }
+}
+
 /// The polyhedron of the generators that were taken into a cone, and of further ones that are taken in after them, some
 /// of all of them points. None where one of these isn't taken in, or where a number passes in the canonical generators,
 /// or there are too many.
@@ -365,13 +383,8 @@ pub fn with_generators(
     if !losses.is_empty() {
         return Ok(None);
     }
-    match limited_list(alloc, &cone)? {
-        Ok(own) => {
-            let pair = of_generators(alloc, n, &cone, &own)?;
-            Ok(Some(pair))
-        }
-        Err(_) => Ok(None),
-    }
+    let pair = by_own_list(alloc, n, &cone)?;
+    Ok(pair)
 }
 
 /// The polyhedron of the generators, and what was lost. Where one of them isn't taken in, those of the constraints that

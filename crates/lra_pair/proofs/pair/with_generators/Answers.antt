@@ -1,4 +1,4 @@
-use Rattle.std.proofs.Common.{◌≡◌, arith, length, subst, sym, List, ℕ, []}
+use Rattle.std.proofs.Common.{◌≡◌, arith, length, subst, sym, IfSome, List, ℕ, []}
 use Rattle.std.specs.Vec.{vec_len}
 use Rattle.std.proofs.lemmas.Grind.{common_steps}
 use Rattle.lra_linear.specs.Descriptions.{Given, Gen}
@@ -9,8 +9,8 @@ use Rattle.lra_pair.proofs.GeneratorPairs.{further_columns, further_taken}
 use Rattle.lra_pair.proofs.OwnRows.{none_of}
 use Rattle.lra_pair.proofs.pair.with_generators.Goals as goal
 
-pub of_generators-requires-clause-columns : goal.of_generators-requires-clause-columns
-of_generators-requires-clause-columns c =
+pub by_own_list-requires-clause-columns : goal.by_own_list-requires-clause-columns
+by_own_list-requires-clause-columns c =
     let more = c.args.more.now in
     let conversion = c.in_ok-conversion.conversion in
     let losses = conversion.losses.items in
@@ -20,8 +20,8 @@ of_generators-requires-clause-columns c =
     c.in_ok-conversion.ensures.taken none in
     further_columns more c.args.start.taken conversion.cone.taken c.requires.kinds c.requires.columns taken
 
-pub of_generators-requires-clause-some : goal.of_generators-requires-clause-some
-of_generators-requires-clause-some c =
+pub by_own_list-requires-clause-some : goal.by_own_list-requires-clause-some
+by_own_list-requires-clause-some c =
     let more = c.args.more.now in
     let conversion = c.in_ok-conversion.conversion in
     let losses = conversion.losses.items in
@@ -32,8 +32,8 @@ of_generators-requires-clause-some c =
     subst (λ (n : ℕ). ¬ (IsEmptySet n (Gen conversion.cone.taken))) (sym c.dims-n.ensures)
     (subst (λ (l : List Given). ¬ (IsEmptySet more.dims (Gen l))) (sym taken) c.requires.some)
 
-pub returns-in-Ok : goal.returns-in-Ok
-returns-in-Ok c =
+pub returns : goal.returns
+returns c =
     let more = c.args.more.now in
     let conversion = c.in_ok-conversion.conversion in
     let losses = conversion.losses.items in
@@ -41,6 +41,6 @@ returns-in-Ok c =
     let none : losses ≡ [] = none_of losses (vec_len conversion.losses) c.is_empty.result same c.is_empty.ensures c.if-not-is_empty.false in
     let taken = further_taken more c.in_ok-rows.rows c.args.start conversion.cone (constraints conversion.kept) losses c.in_ok-rows.ensures.rows c.in_ok-rows.ensures.kinds
     c.in_ok-conversion.ensures.taken none in
-    let pair = c.in_ok-pair-in-Ok.pair in
-    subst (λ (l : List Given). IsPolyhedronOf more.dims (Gen l) pair) taken
-    (subst (λ (n : ℕ). IsPolyhedronOf n (Gen conversion.cone.taken) pair) c.dims-n.ensures c.in_ok-pair-in-Ok.ensures)
+    let pair = c.in_ok-pair.pair in
+    subst (λ (l : List Given). IfSome pair (IsPolyhedronOf more.dims (Gen l))) taken
+    (subst (λ (n : ℕ). IfSome pair (IsPolyhedronOf n (Gen conversion.cone.taken))) c.dims-n.ensures c.in_ok-pair.ensures)
