@@ -23,7 +23,7 @@ use Rattle.lra_pair.specs.OwnLists.{IsPositive}
 use Rattle.lra_poly.proofs.PolyLemmas.{rows_width, zeros_length}
 
 -- a row of one kind
-given_there : (b : Bool) (rows : List (List ℤ)) (r : List ℤ) → Contains rows r → Contains (given_as b rows) (record { row = r; equal = b })
+pub given_there : (b : Bool) (rows : List (List ℤ)) (r : List ℤ) → Contains rows r → Contains (given_as b rows) (record { row = r; equal = b })
 given_there b [] r k = absurd (contains_none r k)
 given_there b (x ∷ rows) r k = elim (contains_cases x r rows k) [
   | inl e ↦ subst (λ (y : List ℤ). Contains (given_as b (x ∷ rows)) (record { row = y; equal = b })) e
@@ -75,7 +75,7 @@ row_facet p h t k =
     ]
 
 -- the positivity row is valid on the generators
-positivity_generated : (p : Polyhedron) (h : HasPoint p) → Generated (all_rows h.equalities h.facets) (entry (positivity p.dims))
+pub positivity_generated : (p : Polyhedron) (h : HasPoint p) → Generated (all_rows h.equalities h.facets) (entry (positivity p.dims))
 positivity_generated p h = h.dual.consequences (positivity p.dims) (ap suc (zeros_length p.dims)) (λ t k.
     at_least (product t (positivity p.dims)) (entry t 0) (product_comm t (positivity p.dims) ∙ positivity_product p.dims t) (columns_of p h t k))
   where
@@ -117,7 +117,7 @@ kept_cone p h few = record {
 }
 
 -- ---- as the code tells it
-fewer_rays : (list : List Given) → length (rays_of list) ≤ length list
+pub fewer_rays : (list : List Given) → length (rays_of list) ≤ length list
 fewer_rays [] = omega arith
 fewer_rays (g ∷ list) = by_kind g.equal (fewer_rays list)
   where
@@ -125,7 +125,7 @@ fewer_rays (g ∷ list) = by_kind g.equal (fewer_rays list)
     by_kind true h = omega (arith, h)
     by_kind false h = omega (arith, h)
 
-with_some : (p : Polyhedron) → IsPolyhedron p → p.generators ≢ [] → HasPoint p
+pub with_some : (p : Polyhedron) → IsPolyhedron p → p.generators ≢ [] → HasPoint p
 with_some p (inl none) some = absurd (some none.1)
 with_some p (inr h) some = h
 

@@ -9,3 +9,5 @@ mod ResidueLemmas
 pub mod SaturationLemmas
 pub mod StartLemmas
 pub mod KeptCones
+pub mod KeptFacets
+pub mod FacetLemmas

@@ -219,6 +219,15 @@ union_in_gen p q h k e x i (inr c) =
     (λ t m. generated_row (system_of (p.generators ++ q.generators)) t (joined_has p.generators q.generators t (inr m)))
     (gen_generated q.generators (entry x) ((con_gen q k).0 x (subst (λ (n : ℕ). IsPoint n x) (sym e) i) c)))
 
+-- where the one has a point, so has the hull
+pub some_united : (p q : Polyhedron) → IsPolyhedron p → IsPolyhedron q → q.dims ≡ p.dims → p.generators ≢ [] → ¬ (IsEmptySet p.dims (Gen (p.generators ++ q.generators)))
+some_united p q (inl none) k e some empty = some none.1
+some_united p q (inr h) k e some empty =
+    let v = has_vertex p h in
+    let is_point : IsPoint p.dims v.vertex = record { width = v.widths v.vertex v.has; divisor = v.divisor } in
+    empty v.vertex is_point (union_in_gen p q (inr h) k e v.vertex is_point
+    (inl ((con_gen p (inr h)).1 v.vertex is_point (generated_gen p.generators (entry v.vertex) (generated_row (system_of p.generators) v.vertex v.has)))))
+
 -- ---- the rows of a polyhedron have a column more than there are dimensions
 pub zeros_length : (n : ℕ) → length (zeros n) ≡ n
 zeros_length zero = refl
@@ -250,6 +259,18 @@ pub hull_within : (p q r : Polyhedron) (list : List Given) → IsPolyhedron p �
 hull_within p q r list h k m e er el within = hull_holds p.dims (Union (Con p.rows) (Con q.rows)) r.rows (λ c i. rows_width r m c i ∙ ap suc er)
     (λ x i u. within x i (subst (λ (l : List Given). Gen l x) (sym el) (union_in_gen p q h k e x i u)))
 
+-- the hull with a set that lies inside
+pub hull_inside : (p q : Polyhedron) → IsPolyhedron p → q.dims ≡ p.dims → IsWithin q.dims (Con q.rows) (Con p.rows) → IsPolyhedronOf p.dims (Hull p.dims (Union (Con p.rows) (Con q.rows))) p
+hull_inside p q h e within = record {
+  dimensions = refl;
+  canonical = h;
+  points = (
+    hull_holds p.dims (Union (Con p.rows) (Con q.rows)) p.rows (rows_width p h)
+        (λ x i u. elim u [ inl c ↦ c | inr c ↦ within x (subst (λ (n : ℕ). IsPoint n x) (sym e) i) c ]),
+    λ x i c f width valid. valid x i (inl c),
+  );
+}
+
 hull_made : (p q r : Polyhedron) → IsPolyhedron p → IsPolyhedron q → q.dims ≡ p.dims → IsPolyhedronOf p.dims (Gen (p.generators ++ q.generators)) r →
     IsPolyhedronOf p.dims (Hull p.dims (Union (Con p.rows) (Con q.rows))) r
 hull_made p q r h k e a = record {
@@ -274,3 +295,11 @@ pub hull_strain : (p q : Polyhedron) (list : List Given) (o : Outcome) → IsPol
     IfFlagged (FromGeneratorsStrains p.dims list) o → IfFlagged (HullStrains p q) o
 hull_strain p q list o h k e el = if_flagged (FromGeneratorsStrains p.dims list) (HullStrains p q) o
     (λ loss s. taken_strain p q loss h k e (subst (λ (l : List Given). FromGeneratorsStrains p.dims l loss) el s))
+
+-- ---- generators taken in after those of a polyhedron that has a point
+pub some_grown : (p q : Polyhedron) (n : ℕ) (taken listed more : List Given) → IsPolyhedron p → IsPolyhedron q → q.dims ≡ p.dims → n ≡ q.dims → taken ≡ listed → listed ≡ p.generators →
+    more ≡ q.generators → listed ≢ [] → ¬ (IsEmptySet n (Gen (taken ++ more)))
+some_grown p q n taken listed more h k e en et el em some =
+    subst (λ (m : ℕ). ¬ (IsEmptySet m (Gen (taken ++ more)))) (sym (en ∙ e))
+    (subst (λ (l : List Given). ¬ (IsEmptySet p.dims (Gen (l ++ more)))) (sym (et ∙ el))
+    (subst (λ (l : List Given). ¬ (IsEmptySet p.dims (Gen (p.generators ++ l)))) (sym em) (some_united p q h k e (λ none. some (el ∙ none)))))

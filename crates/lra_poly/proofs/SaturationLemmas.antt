@@ -1,5 +1,5 @@
 -- Which generators rows saturate, set one after the other.
-use Rattle.std.proofs.Common.{Bool, List, [], ap, arith, get_or, length, map, pos, refl, suc, sym, take, zero, ℕ, ℤ, ◌<◌, ◌∙◌, ◌∷◌, ◌≡◌, ◌≤◌}
+use Rattle.std.proofs.Common.{Bool, List, [], ap, arith, get_or, length, map, pos, refl, suc, sym, take, ℕ, ℤ, ◌<◌, ◌∙◌, ◌∷◌, ◌≡◌, ◌≤◌}
 use Rattle.std.proofs.lemmas.List.{take_all}
 use Rattle.std.specs.Ordering.{int_eq}
 use Rattle.lra_bits.specs.Matrix.{Matrix}

@@ -74,13 +74,13 @@ line_left equal rows kinds i r k line items n h e el l ei =
     ap (λ (x : List (List ℤ)). lines_of (front equal rows kinds i) ++ x) (sym (none_of (equal (get_or kinds i k)) line r (sym el) l)) ∙
     sym (parted equal lines_of lines_push rows kinds i r k n h e)
 
-rays_more : {K : Type 0} (equal : K → Bool) (rows : List (List ℤ)) (kinds : List K) (i : ℕ) (r : List ℤ) (k : K) (line : Bool) → length kinds ≡ length rows → i < length rows → r ≡ get_or rows i r →
+pub rays_more : {K : Type 0} (equal : K → Bool) (rows : List (List ℤ)) (kinds : List K) (i : ℕ) (r : List ℤ) (k : K) (line : Bool) → length kinds ≡ length rows → i < length rows → r ≡ get_or rows i r →
     line ≡ equal (get_or kinds i k) → line ≡ false → rays_of (front equal rows kinds (i + 1)) ≡ rays_of (front equal rows kinds i) ++ r ∷ []
 rays_more equal rows kinds i r k line n h e el l =
     parted equal rays_of rays_push rows kinds i r k n h e ∙
     ap (λ (x : List (List ℤ)). rays_of (front equal rows kinds i) ++ x) (other_of (equal (get_or kinds i k)) line r (sym el) l)
 
-rays_same : {K : Type 0} (equal : K → Bool) (rows : List (List ℤ)) (kinds : List K) (i : ℕ) (r : List ℤ) (k : K) (line : Bool) → length kinds ≡ length rows → i < length rows → r ≡ get_or rows i r →
+pub rays_same : {K : Type 0} (equal : K → Bool) (rows : List (List ℤ)) (kinds : List K) (i : ℕ) (r : List ℤ) (k : K) (line : Bool) → length kinds ≡ length rows → i < length rows → r ≡ get_or rows i r →
     line ≡ equal (get_or kinds i k) → line ≡ true → rays_of (front equal rows kinds (i + 1)) ≡ rays_of (front equal rows kinds i)
 rays_same equal rows kinds i r k line n h e el l =
     parted equal rays_of rays_push rows kinds i r k n h e ∙

@@ -1,7 +1,7 @@
 //! Closed polyhedra.
 
 ghost use Rattle.std.specs.Prelude.{◌≡◌, ◌↔◌, ◌<◌, ◌^◌, ◌∷◌, ◌++◌, [], length, drop, IsTrue, IfOk, IfSome, IsSome, OnErr};
-ghost use Rattle.lra_linear.specs.Descriptions.{Con, Gen, Holds};
+ghost use Rattle.lra_linear.specs.Descriptions.{AreGenerators, Con, Gen, Holds};
 ghost use Rattle.lra_linear.specs.OperationStrain.{FromRowsStrains, FromGeneratorsStrains};
 ghost use Rattle.lra_linear.specs.OperationStrain.{AddTestStrains, MeetStrains, HullStrains};
 ghost use Rattle.lra_linear.specs.Points.{IsEmptySet, IsWithin};
@@ -15,6 +15,7 @@ ghost use Rattle.lra_poly.specs.Outcomes.{IfExact, IfFlagged};
 ghost use Rattle.lra_poly.specs.Rows.{form_row, test_row};
 ghost use Rattle.lra_poly.specs.Saturations.{saturation_of};
 
+use crate::facets::facet_cone;
 use crate::inclusion::{Inclusion, inclusion_of};
 use crate::lists::{joined_generators, joined_rows, tested};
 use crate::maximum::{Maximum, maximum_of};
@@ -95,6 +96,25 @@ fn of_cone(alloc: Global, cone: Cone, more: &ConSys) -> Result<(Poly, Outcome), 
     let (pair, losses) = lra_pair::from_cone(alloc, cone, more)?;
     let made = of_pair(alloc, &pair)?;
     Ok((made, outcome_of(losses)))
+}
+
+// The polyhedron of the generators that were taken into the cone, and of further ones, where none of these is left out.
+fn of_facets(alloc: Global, cone: Cone, more: &GenSys) -> Result<Option<Poly>, AllocError>
+    requires small { more.now.dims < 2 ^ 62 }
+    requires dims { cone.dims ≡ more.now.dims }
+    requires kinds { FitKinds more.now.rows more.now.kinds }
+    requires columns { AreGenerators cone.taken }
+    requires some { ¬ (IsEmptySet more.now.dims (Gen (cone.taken ++ generators more.now))) }
+    ensures { IfOk result (λ made. IfSome made
+        (IsPolyhedronOf more.now.dims (Gen (cone.taken ++ generators more.now)))) }
+{
+    match lra_pair::with_generators(alloc, cone, more)? {
+        Some(pair) => {
+            let made = of_pair(alloc, &pair)?;
+            Ok(Some(made))
+        }
+        None => Ok(None),
+    }
 }
 
 impl Poly {
@@ -369,8 +389,67 @@ impl Poly {
         Ok(outcome)
     }
 
-    /// Becomes the hull with the other: the least closed polyhedron that has the points of both. Where it is flagged it
-    /// has at least its points.
+    // The polyhedron of the generators of both, of which the other's are taken in after the first's, by the lists at
+    // hand; none where one of them isn't taken in, or there are no lists to go on from.
+    fn grown(&self, other: &Poly) -> Result<Option<Poly>, AllocError>
+        requires { other.now.dims ≡ self.now.dims }
+        ensures { IfOk result (λ made. IfSome made
+            (IsPolyhedronOf self.now.dims (Gen (self.now.generators ++ other.now.generators)))) }
+    {
+        match facet_cone(
+            self.alloc,
+            &self.rows,
+            &self.by_generators,
+            &self.saturation,
+        )? {
+            Some(cone) => {
+                let made = of_facets(self.alloc, cone, &other.by_generators)?;
+                Ok(made)
+            }
+            None => Ok(None),
+        }
+    }
+
+    // The same, converted from nothing. Where it is flagged it has at least their points.
+    fn united_anew(&self, other: &Poly) -> Result<(Poly, Outcome), AllocError>
+        requires { other.now.dims ≡ self.now.dims }
+        ensures dims { IfOk result (λ r. r.0.dims ≡ self.now.dims) }
+        ensures canonical { IfOk result (λ r. IsPolyhedron r.0) }
+        ensures exact { IfOk result (λ r. IfExact
+            (IsPolyhedronOf self.now.dims (Gen (self.now.generators ++ other.now.generators)) r.0) r.1) }
+        ensures within { IfOk result (λ r.
+            IsWithin self.now.dims (Gen (self.now.generators ++ other.now.generators)) (Con r.0.rows)) }
+        ensures strain { IfOk result (λ r. IfFlagged
+            (FromGeneratorsStrains self.now.dims (self.now.generators ++ other.now.generators)) r.1) }
+    {
+        let all = joined_generators(&self.by_generators, &other.by_generators)?;
+        let (made, outcome) = Poly::from_generators(self.alloc, &all)?;
+        Ok((made, outcome))
+    }
+
+    // The polyhedron of the generators of both. Where it is flagged it has at least their points.
+    fn united(&self, other: &Poly) -> Result<(Poly, Outcome), AllocError>
+        requires { other.now.dims ≡ self.now.dims }
+        ensures dims { IfOk result (λ r. r.0.dims ≡ self.now.dims) }
+        ensures canonical { IfOk result (λ r. IsPolyhedron r.0) }
+        ensures exact { IfOk result (λ r. IfExact
+            (IsPolyhedronOf self.now.dims (Gen (self.now.generators ++ other.now.generators)) r.0) r.1) }
+        ensures within { IfOk result (λ r.
+            IsWithin self.now.dims (Gen (self.now.generators ++ other.now.generators)) (Con r.0.rows)) }
+        ensures strain { IfOk result (λ r. IfFlagged
+            (FromGeneratorsStrains self.now.dims (self.now.generators ++ other.now.generators)) r.1) }
+    {
+        match self.grown(other)? {
+            Some(made) => Ok((made, Outcome::Exact)),
+            None => {
+                let (made, outcome) = self.united_anew(other)?;
+                Ok((made, outcome))
+            }
+        }
+    }
+
+    /// Becomes the hull with the other: the least closed polyhedron that has the points of both. Where the other lies in
+    /// it, nothing changes. Where it is flagged it has at least its points.
     pub fn hull(&mut self, other: &Poly) -> Result<Outcome, AllocError>
         requires { other.now.dims ≡ self.old.dims }
         ensures dims { self.new.dims ≡ self.old.dims }
@@ -381,8 +460,11 @@ impl Poly {
         ensures strain { IfOk result (IfFlagged (HullStrains self.old other.now)) }
         ensures unchanged { OnErr result (self.new ≡ self.old) }
     {
-        let all = joined_generators(&self.by_generators, &other.by_generators)?;
-        let (made, outcome) = Poly::from_generators(self.alloc, &all)?;
+        let (_rows, _others) = (self.rows(), other.rows());
+        if other.lies_in(self) {
+            return Ok(Outcome::Exact);
+        }
+        let (made, outcome) = self.united(other)?;
         *self = made;
         Ok(outcome)
     }

@@ -1,6 +1,6 @@
 //! The cone of a polyhedron from its two lists, with no conversion.
 
-ghost use Rattle.std.specs.Prelude.{◌≡◌, ◌∷◌, ◌<◌, ◌≤◌, ◌^◌, suc, pos, length, List, IsTrue, IfOk, IfSome};
+ghost use Rattle.std.specs.Prelude.{◌≡◌, ◌∷◌, ◌+◌, ◌<◌, ◌≤◌, ◌^◌, suc, pos, length, List, IsTrue, IfOk, IfSome};
 ghost use Rattle.std.specs.Ordering.{int_eq};
 ghost use Rattle.lra_linear.specs.ConeStrain.{row_limit};
 ghost use Rattle.lra_linear.specs.Descriptions.{Given, inequality, lines_of, rays_of};
@@ -134,12 +134,19 @@ fn behind_positivity(alloc: Global, list: &ConSys) -> Result<ConSys, AllocError>
 const RAY_LIMIT: usize = 4096;
 
 // Whether a cone of n dimensions may be made of so many generators.
-fn fits(n: usize, count: usize) -> bool
+pub fn fits(n: usize, count: usize) -> bool
     ensures small { IsTrue result → n < 2 ^ 62 }
     ensures some { IsTrue result → 0 < count }
     ensures few { IsTrue result → count ≤ row_limit }
 {
     n < TOO_MANY_DIMENSIONS && count > 0 && count <= RAY_LIMIT
+}
+
+// Whether a cone of so many rays may have one more.
+pub fn leaves_room(count: usize) -> bool
+    ensures { IsTrue result → count + 1 ≤ row_limit }
+{
+    count < RAY_LIMIT
 }
 
 // The cone of the constraints, by these generators; none where there is no generator, or are more than a cone may have.
