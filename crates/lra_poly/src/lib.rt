@@ -2,7 +2,9 @@
 #![tactic(auto)]
 
 mod exact;
+mod facets;
 mod inclusion;
+mod law;
 mod lists;
 mod maximum;
 mod outcome;
@@ -11,6 +13,7 @@ mod saturation;
 mod start;
 
 pub use inclusion::Inclusion;
+pub use law::polyhedra_have_one_spelling;
 pub use lists::row_of_form;
 pub use maximum::Maximum;
 pub use outcome::Outcome;

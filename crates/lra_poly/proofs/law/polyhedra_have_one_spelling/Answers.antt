@@ -1,0 +1,9 @@
+use Rattle.lra_linear.proofs.OneSpelling.{same_points_same_lists}
+use Rattle.lra_linear.proofs.Polyhedra.{con_gen}
+use Rattle.lra_poly.proofs.law.polyhedra_have_one_spelling.Goals as goal
+
+pub returns-clause-one : goal.returns-clause-one
+returns-clause-one c = same_points_same_lists
+
+pub returns-clause-both : goal.returns-clause-both
+returns-clause-both c = con_gen
