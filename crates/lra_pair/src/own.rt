@@ -111,8 +111,8 @@ fn parted(alloc: Global, cone: &Cone) -> Result<Parts, AllocError>
     Ok(parts)
 }
 
-// The rows reduced by the form.
-fn all_reduced(
+/// The rows reduced by the form. Or names the first number that passes the range.
+pub fn all_reduced(
     alloc: Global,
     rows: &[Row],
     form: &[Row],
