@@ -176,6 +176,34 @@ impl Poly {
         Ok((made, outcome_of(losses)))
     }
 
+    /// The polyhedron with these two lists, which are its canonical ones.
+    pub fn from_canonical(
+        alloc: Global,
+        rows: ConSys,
+        by_generators: GenSys,
+    ) -> Result<Poly, AllocError>
+        requires canonical { IsPolyhedron (record {
+          dims = rows.dims;
+          rows = constraints rows;
+          generators = generators by_generators;
+        }) }
+        requires dims { by_generators.dims ≡ rows.dims }
+        requires kinds { FitKinds by_generators.rows by_generators.kinds }
+        ensures { IfOk result (λ p. p ≡ record {
+          dims = rows.dims;
+          rows = constraints rows;
+          generators = generators by_generators;
+        }) }
+    {
+        let saturation = saturation_matrix(alloc, &rows, &by_generators)?;
+        Ok(Poly {
+            alloc,
+            rows,
+            by_generators,
+            saturation,
+        })
+    }
+
     /// The same polyhedron again.
     pub fn copy(&self) -> Result<Poly, AllocError>
         ensures { IfOk result (λ p. p ≡ self.now) }
