@@ -25,33 +25,33 @@ put zero z u (suc j) = u (suc j)
 put (suc k) z u zero = u 0
 put (suc k) z u (suc j) = put k z (λ i. u (suc i)) j
 
-put_nothing : (k j : ℕ) → put k (pos 0) (λ i. pos 0) j ≡ pos 0
+pub put_nothing : (k j : ℕ) → put k (pos 0) (λ i. pos 0) j ≡ pos 0
 put_nothing zero zero = refl
 put_nothing zero (suc j) = refl
 put_nothing (suc k) zero = refl
 put_nothing (suc k) (suc j) = put_nothing k j
 
-put_plus : (k : ℕ) (a y z : ℤ) (x s : ℕ → ℤ) (j : ℕ) →
+pub put_plus : (k : ℕ) (a y z : ℤ) (x s : ℕ → ℤ) (j : ℕ) →
     put k ((a *ℤ y) +ℤ z) (λ i. (a *ℤ x i) +ℤ s i) j ≡ (a *ℤ put k y x j) +ℤ put k z s j
 put_plus zero a y z x s zero = refl
 put_plus zero a y z x s (suc j) = refl
 put_plus (suc k) a y z x s zero = refl
 put_plus (suc k) a y z x s (suc j) = put_plus k a y z (λ i. x (suc i)) (λ i. s (suc i)) j
 
-put_same : (k : ℕ) (y z : ℤ) (x s : ℕ → ℤ) → y ≡ z → ((i : ℕ) → x i ≡ s i) → (j : ℕ) → put k y x j ≡ put k z s j
+pub put_same : (k : ℕ) (y z : ℤ) (x s : ℕ → ℤ) → y ≡ z → ((i : ℕ) → x i ≡ s i) → (j : ℕ) → put k y x j ≡ put k z s j
 put_same zero y z x s e h zero = e
 put_same zero y z x s e h (suc j) = h (suc j)
 put_same (suc k) y z x s e h zero = h 0
 put_same (suc k) y z x s e h (suc j) = put_same k y z (λ i. x (suc i)) (λ i. s (suc i)) e (λ i. h (suc i)) j
 
-set_entry : (k : ℕ) (z : ℤ) (r : List ℤ) → k < length r → (j : ℕ) → entry (slice_set r k z) j ≡ put k z (entry r) j
+pub set_entry : (k : ℕ) (z : ℤ) (r : List ℤ) → k < length r → (j : ℕ) → entry (slice_set r k z) j ≡ put k z (entry r) j
 set_entry k z [] h j = absurd (omega (arith, h))
 set_entry zero z (x ∷ r) h zero = refl
 set_entry zero z (x ∷ r) h (suc j) = refl
 set_entry (suc k) z (x ∷ r) h zero = refl
 set_entry (suc k) z (x ∷ r) h (suc j) = set_entry k z r (omega (arith, h)) j
 
-set_negated : (k : ℕ) (z : ℤ) (r : List ℤ) → slice_set (negated r) k (neg_ℤ z) ≡ negated (slice_set r k z)
+pub set_negated : (k : ℕ) (z : ℤ) (r : List ℤ) → slice_set (negated r) k (neg_ℤ z) ≡ negated (slice_set r k z)
 set_negated k z [] = refl
 set_negated zero z (x ∷ r) = refl
 set_negated (suc k) z (x ∷ r) = ap (λ (l : List ℤ). neg_ℤ x ∷ l) (set_negated k z r)
@@ -60,7 +60,7 @@ set_negated (suc k) z (x ∷ r) = ap (λ (l : List ℤ). neg_ℤ x ∷ l) (set_n
 abbrev pub assigning : ℕ → List ℤ → (ℕ → ℤ) → ℕ → ℤ
 assigning k form u = put k (dot form u) u
 
-assigning_linear : (k : ℕ) (form : List ℤ) → IsLinear (assigning k form)
+pub assigning_linear : (k : ℕ) (form : List ℤ) → IsLinear (assigning k form)
 assigning_linear k form = record {
   nothing = λ j. put_same k (dot form (λ i. pos 0)) (pos 0) (λ i. pos 0) (λ i. pos 0) (dot_zero form) (λ i. refl) j ∙
       put_nothing k j;

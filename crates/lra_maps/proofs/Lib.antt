@@ -10,3 +10,10 @@ pub mod PushedLists
 pub mod AssignedSets
 pub mod FormedLists
 pub mod SubstitutedSets
+pub mod MovedForms
+pub mod TakenBack
+pub mod MovedPairs
+pub mod MovedFacets
+pub mod MovedLists
+pub mod MovedPolyhedra
+pub mod BackImages

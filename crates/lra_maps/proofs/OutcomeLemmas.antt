@@ -1,10 +1,12 @@
 -- An operation that takes in generators which give its exact result.
 use Rattle.std.proofs.Common.{◌≡◌, ◌≢◌, ℕ, List, refl, sym, subst, inl, inr}
-use Rattle.lra_linear.specs.Descriptions.{Gen, Given}
-use Rattle.lra_linear.specs.OperationStrain.{FromGeneratorsStrains, GeneratorsStrain, with_positivity}
+use Rattle.lra_linear.specs.Descriptions.{Con, Gen, Given}
+use Rattle.lra_linear.specs.OperationStrain.{ForgetStrains, FromGeneratorsStrains, GeneratorsStrain, with_positivity}
 use Rattle.lra_linear.specs.Points.{IsWithin, PointSet, SameSet}
 use Rattle.lra_linear.specs.Polyhedra.{IsPolyhedronOf, Polyhedron}
+use Rattle.lra_linear.specs.SetOperations.{Forget}
 use Rattle.lra_linear.specs.Strain.{Loss}
+use Rattle.lra_maps.specs.Forgetting.{IsForgotten}
 use Rattle.lra_sys.specs.Listed.{Listed, generators}
 use Rattle.lra_sys.specs.declared.system.GenKind.{GenKind}
 use Rattle.lra_poly.specs.Outcomes.{IfExact, IfFlagged}
@@ -55,3 +57,18 @@ taken_inside n S given list P t h x i g = h x i (t.same.1 x i (subst (λ (l : Li
 pub not_exact : (P : Type 0) (o : Outcome) → o ≢ Exact → IfExact P o
 not_exact P Exact n = absurd (n refl)
 not_exact P (Flagged loss) n = tt
+
+-- a coordinate that is forgotten, with the outcome of that
+pub is_forgotten : (k : ℕ) (p q : Polyhedron) (o : Outcome) → IsWithin p.dims (Forget p.dims k (Con p.rows)) (Con q.rows) →
+    IfExact (IsPolyhedronOf p.dims (Forget p.dims k (Con p.rows)) q) o → IfFlagged (ForgetStrains k p) o → IsForgotten k p q
+is_forgotten k p q Exact w e s = record { within = w; exact = inl e }
+is_forgotten k p q (Flagged loss) w e s = record { within = w; exact = inr (loss, s) }
+
+-- nothing is claimed as flagged where the outcome is exact
+pub not_flagged : (P : Loss → Type 0) (o : Outcome) → o ≡ Exact → IfFlagged P o
+not_flagged P Exact e = tt
+not_flagged P (Flagged loss) e = absurd (cc)
+
+pub flagged_anyway : (P : Type 0) (o : Outcome) → P → IfFlagged (λ loss. P) o
+flagged_anyway P Exact h = tt
+flagged_anyway P (Flagged loss) h = h

@@ -1,5 +1,5 @@
 -- Preimages: the constraints with the form put in for one coordinate.
-use Rattle.std.proofs.Common.{◌≡◌, ◌≢◌, ℕ, suc, ◌<◌, List, length, ap, arith, refl, sym, ◌∙◌, subst, ℤ, inl, inr}
+use Rattle.std.proofs.Common.{◌≡◌, ◌≢◌, ℕ, suc, ◌<◌, List, length, arith, refl, sym, subst, ℤ, inl, inr}
 use Rattle.std.specs.List.{Contains}
 use Rattle.lra_linear.specs.CheckedArithmetic.{checked_substitution}
 use Rattle.lra_linear.specs.Descriptions.{Con, Given}
@@ -8,10 +8,8 @@ use Rattle.lra_linear.specs.Points.{IsWithin, SameSet}
 use Rattle.lra_linear.specs.Polyhedra.{IsPolyhedron, IsPolyhedronOf, Polyhedron}
 use Rattle.lra_linear.specs.SetOperations.{Preimage}
 use Rattle.lra_linear.proofs.SetOperations.{preimage_con}
-use Rattle.lra_lin.specs.Form.{Form}
 use Rattle.lra_poly.proofs.PolyLemmas.{constraints_strain, given_width, if_exact, if_flagged, same_polyhedron}
 use Rattle.lra_poly.specs.Outcomes.{IfExact, IfFlagged}
-use Rattle.lra_poly.specs.Rows.{form_row}
 use Rattle.lra_poly.specs.declared.outcome.Outcome.{Outcome}
 use Rattle.lra_poly.specs.declared.outcome.Outcome.TheVariants.{Exact, Flagged}
 
@@ -21,13 +19,9 @@ pub record IsAssignment (p : Polyhedron) (k : ℕ) (form : List ℤ) : Type 0 wh
   pub column : k < suc p.dims
   pub width : length form ≡ suc p.dims
 
-pub assignment_of : (p : Polyhedron) (x : ℕ) (form : Form) (row : List ℤ) → IsPolyhedron p → x < p.dims →
-    length form.coefficients ≡ p.dims → row ≡ form_row form → IsAssignment p (suc x) row
-assignment_of p x form row h low n e = record {
-  canonical = h;
-  column = omega (arith, low);
-  width = ap length e ∙ ap suc n;
-}
+pub assignment_of : (p : Polyhedron) (x : ℕ) (form : List ℤ) → IsPolyhedron p → x < p.dims → length form ≡ suc p.dims →
+    IsAssignment p (suc x) form
+assignment_of p x form h low n = record { canonical = h; column = omega (arith, low); width = n }
 
 preimage_same : (p : Polyhedron) (k : ℕ) (form : List ℤ) → IsAssignment p k form →
     SameSet p.dims (Preimage k form (Con p.rows)) (Con (substituted_rows k form p.rows))

@@ -98,7 +98,7 @@ pub record IsLinear (f : (ℕ → ℤ) → ℕ → ℤ) : Type 0 where
   pub plus : (a : ℤ) (x s : ℕ → ℤ) (j : ℕ) → f (λ i. (a *ℤ x i) +ℤ s i) j ≡ (a *ℤ f x j) +ℤ f s j
   pub same : (x y : ℕ → ℤ) → ((i : ℕ) → x i ≡ y i) → (j : ℕ) → f x j ≡ f y j
 
-linear_times : (f : (ℕ → ℤ) → ℕ → ℤ) → IsLinear f → (a : ℤ) (x : ℕ → ℤ) (j : ℕ) → f (λ i. a *ℤ x i) j ≡ a *ℤ f x j
+pub linear_times : (f : (ℕ → ℤ) → ℕ → ℤ) → IsLinear f → (a : ℤ) (x : ℕ → ℤ) (j : ℕ) → f (λ i. a *ℤ x i) j ≡ a *ℤ f x j
 linear_times f l a x j =
     l.same (λ i. a *ℤ x i) (λ i. (a *ℤ x i) +ℤ pos 0)
     (λ i. ring (v a ⊗ v (x i)) (v a ⊗ v (x i) ⊕ v (pos 0)) (omega arith)) j

@@ -67,7 +67,7 @@ fn generator_loss(
 }
 
 // The generator with the form's value in the column, or the first number of that value that passes.
-fn assigned_row(alloc: Global, row: &Row, column: usize, form: &Row) -> Result<Row, RowError>
+pub fn assigned_row(alloc: Global, row: &Row, column: usize, form: &Row) -> Result<Row, RowError>
     requires column { column < length row.now }
     requires width { length form.now ≡ length row.now }
     ensures ok { IfOk result (λ r. r ≡ assigned column form.now row.now) }

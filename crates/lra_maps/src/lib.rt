@@ -5,6 +5,7 @@ mod forming;
 mod images;
 mod lists;
 mod maps;
+mod moved;
 
 pub use images::{image, preimage};
 pub use maps::{embed, forget, remove_last, time_elapse};

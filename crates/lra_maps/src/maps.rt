@@ -1,6 +1,6 @@
 //! Operations that change a polyhedron.
 
-ghost use Rattle.std.specs.Prelude.{◌≡◌, ◌<◌, ◌≤◌, ◌-◌, ◌+◌, ◌^◌, suc, IfOk, OnErr, OnOk};
+ghost use Rattle.std.specs.Prelude.{◌≡◌, ◌⊎◌, ◌<◌, ◌≤◌, ◌-◌, ◌+◌, ◌^◌, suc, IfOk, OnErr, OnOk};
 ghost use Rattle.lra_linear.specs.Descriptions.{Con, Gen};
 ghost use Rattle.lra_linear.specs.OperationStrain.{FromGeneratorsStrains, EmbedStrains, ForgetStrains};
 ghost use Rattle.lra_linear.specs.OperationStrain.{RemoveLastStrains, TimeElapseStrains};
@@ -100,7 +100,8 @@ fn elapse(p: &mut Poly, other: &Poly) -> Result<Outcome, AllocError>
 }
 
 /// Lets time elapse: becomes the hull of its points moved by any whole number of steps from 0 on, each step by the
-/// coordinates of a point of the other. Where it is flagged it has at least those.
+/// coordinates of a point of the other. Where it is flagged it has at least those; where one of the two has no point it
+/// is never flagged.
 pub fn time_elapse(p: &mut Poly, other: &Poly) -> Result<Outcome, AllocError>
     requires { other.now.dims ≡ p.old.dims }
     ensures dims { OnOk result (p.new.dims ≡ p.old.dims) }
@@ -109,6 +110,8 @@ pub fn time_elapse(p: &mut Poly, other: &Poly) -> Result<Outcome, AllocError>
     ensures within { IfOk result (λ _. IsWithin p.old.dims
         (TimeElapse p.old.dims (Con p.old.rows) (Con other.now.rows)) (Con p.new.rows)) }
     ensures strain { IfOk result (IfFlagged (TimeElapseStrains p.old other.now)) }
+    ensures empty { IsEmptySet p.old.dims (Con p.old.rows) ⊎ IsEmptySet other.now.dims (Con other.now.rows) →
+        IfOk result (λ outcome. outcome ≡ Outcome.Exact) }
     ensures unchanged { OnErr result (p.new ≡ p.old) }
 {
     let _canonical = p.rows();

@@ -1,21 +1,17 @@
-use Rattle.std.proofs.Common.{arith, inr, suc, subst, List, ℤ}
+use Rattle.std.proofs.Common.{arith, inr, suc}
 use Rattle.lra_linear.specs.Descriptions.{Con}
 use Rattle.lra_linear.specs.OperationStrain.{GeneratorsStrain, ImageStrains, mapped}
-use Rattle.lra_linear.specs.Points.{IsWithin}
-use Rattle.lra_linear.specs.Polyhedra.{IsPolyhedronOf}
 use Rattle.lra_linear.specs.SetOperations.{Forget, Image}
 use Rattle.lra_poly.proofs.PolyLemmas.{if_flagged}
-use Rattle.lra_poly.specs.Outcomes.{IfExact, IfFlagged}
-use Rattle.lra_poly.specs.Rows.{form_row}
 use Rattle.lra_maps.proofs.AssignedSets.{image_forgets, image_taken}
 use Rattle.lra_maps.proofs.OutcomeLemmas.{Takes, taken_exact, taken_flagged, taken_inside, taken_within}
-use Rattle.lra_maps.proofs.images.image.Goals as goal
+use Rattle.lra_maps.proofs.images.converted_image.Goals as goal
 
 pub replace_or_forget-requires-clause-within : goal.replace_or_forget-requires-clause-within
 replace_or_forget-requires-clause-within c =
     let p = c.args.p.now in
     let k = suc c.args.x in
-    let row = c.in_ok-row.row in
+    let row = c.args.form.now in
     let image = Image p.dims k row (Con p.rows) in
     let takes : Takes p.dims image (mapped k row p.generators) c.in-Ok.list =
     image_taken p c.generators.result.now c.in-Ok.list c.args.x row c.in_ok-list.field-0
@@ -24,55 +20,50 @@ replace_or_forget-requires-clause-within c =
     taken_inside p.dims image (mapped k row p.generators) c.in-Ok.list (Forget p.dims k (Con p.rows)) takes
     (image_forgets p.dims k row (Con p.rows) (omega arith))
 
-pub returns-in-Ok-clause-exact : goal.returns-in-Ok-clause-exact
-returns-in-Ok-clause-exact c =
+pub returns-in_ok-outcome-in-Ok-clause-exact : goal.returns-in_ok-outcome-in-Ok-clause-exact
+returns-in_ok-outcome-in-Ok-clause-exact c =
     let p = c.args.p.now in
     let k = suc c.args.x in
-    let row = c.in_ok-row.row in
+    let row = c.args.form.now in
     let image = Image p.dims k row (Con p.rows) in
     let takes : Takes p.dims image (mapped k row p.generators) c.in-Ok.list =
     image_taken p c.generators.result.now c.in-Ok.list c.args.x row c.in_ok-list.field-0
     c.generators.ensures.canonical c.requires.column c.generators.ensures.dims c.generators.ensures.generators
     c.in-Ok.is c.in_ok-list.ensures.dims c.in_ok-list.ensures.generators in
-    subst (λ (f : List ℤ). IfExact (IsPolyhedronOf p.dims (Image p.dims k f (Con p.rows)) c.replace_or_forget.new.p)
-    c.in_ok-outcome-in-Ok.outcome) c.in_ok-row.ensures
-    (taken_exact p.dims image (mapped k row p.generators) c.in-Ok.list c.replace_or_forget.new.p
-    c.in_ok-outcome-in-Ok.outcome takes c.in_ok-outcome-in-Ok.ensures.exact)
+    taken_exact p.dims image (mapped k row p.generators) c.in-Ok.list c.replace_or_forget.new.p
+    c.in_ok-outcome-in-Ok.outcome takes c.in_ok-outcome-in-Ok.ensures.exact
 
-pub returns-in-Ok-clause-within : goal.returns-in-Ok-clause-within
-returns-in-Ok-clause-within c =
+pub returns-in_ok-outcome-in-Ok-clause-within : goal.returns-in_ok-outcome-in-Ok-clause-within
+returns-in_ok-outcome-in-Ok-clause-within c =
     let p = c.args.p.now in
     let k = suc c.args.x in
-    let row = c.in_ok-row.row in
+    let row = c.args.form.now in
     let image = Image p.dims k row (Con p.rows) in
     let takes : Takes p.dims image (mapped k row p.generators) c.in-Ok.list =
     image_taken p c.generators.result.now c.in-Ok.list c.args.x row c.in_ok-list.field-0
     c.generators.ensures.canonical c.requires.column c.generators.ensures.dims c.generators.ensures.generators
     c.in-Ok.is c.in_ok-list.ensures.dims c.in_ok-list.ensures.generators in
-    subst (λ (f : List ℤ). IsWithin p.dims (Image p.dims k f (Con p.rows)) (Con c.replace_or_forget.new.p.rows))
-    c.in_ok-row.ensures
-    (taken_within p.dims image (mapped k row p.generators) c.in-Ok.list (Con c.replace_or_forget.new.p.rows) takes
-    c.in_ok-outcome-in-Ok.ensures.within)
+    taken_within p.dims image (mapped k row p.generators) c.in-Ok.list (Con c.replace_or_forget.new.p.rows) takes
+    c.in_ok-outcome-in-Ok.ensures.within
 
-pub returns-in-Ok-clause-strain : goal.returns-in-Ok-clause-strain
-returns-in-Ok-clause-strain c =
+pub returns-in_ok-outcome-in-Ok-clause-strain : goal.returns-in_ok-outcome-in-Ok-clause-strain
+returns-in_ok-outcome-in-Ok-clause-strain c =
     let p = c.args.p.now in
     let k = suc c.args.x in
-    let row = c.in_ok-row.row in
+    let row = c.args.form.now in
     let image = Image p.dims k row (Con p.rows) in
     let takes : Takes p.dims image (mapped k row p.generators) c.in-Ok.list =
     image_taken p c.generators.result.now c.in-Ok.list c.args.x row c.in_ok-list.field-0
     c.generators.ensures.canonical c.requires.column c.generators.ensures.dims c.generators.ensures.generators
     c.in-Ok.is c.in_ok-list.ensures.dims c.in_ok-list.ensures.generators in
-    subst (λ (f : List ℤ). IfFlagged (ImageStrains k f p) c.in_ok-outcome-in-Ok.outcome) c.in_ok-row.ensures
-    (if_flagged (GeneratorsStrain p.dims image (mapped k row p.generators)) (ImageStrains k row p)
+    if_flagged (GeneratorsStrain p.dims image (mapped k row p.generators)) (ImageStrains k row p)
     c.in_ok-outcome-in-Ok.outcome (λ loss s. inr s)
     (taken_flagged p.dims image (mapped k row p.generators) c.in-Ok.list c.in_ok-outcome-in-Ok.outcome takes
-    c.in_ok-outcome-in-Ok.ensures.strain))
+    c.in_ok-outcome-in-Ok.ensures.strain)
 
-pub returns-clause-within : goal.returns-clause-within
-returns-clause-within c =
+pub returns-in_ok-give_up-in-Err-clause-within : goal.returns-in_ok-give_up-in-Err-clause-within
+returns-in_ok-give_up-in-Err-clause-within c =
     let p = c.args.p.now in
     let k = suc c.args.x in
-    λ x i s. c.in_ok-forget-in-Err.ensures.within x i
-    (image_forgets p.dims k (form_row c.args.form.now) (Con p.rows) (omega arith) x i s)
+    λ x i s. c.in_ok-give_up-in-Err.ensures.within x i
+    (image_forgets p.dims k c.args.form.now (Con p.rows) (omega arith) x i s)

@@ -1,0 +1,36 @@
+use Rattle.std.proofs.Common.{◌+◌, arith, sym, ◌∙◌}
+use Rattle.lra_linear.specs.Kinds.{is_equality}
+use Rattle.lra_linear.specs.Vectors.{substituted}
+use Rattle.lra_maps.proofs.MovedLists.{KeepsWidth, lines_wide, rays_wide}
+use Rattle.lra_maps.proofs.TakenBack.{substituted_width}
+use Rattle.lra_maps.proofs.moved.substituted_canonical.Goals as goal
+
+pub remade-requires-clause-lines : goal.remade-requires-clause-lines
+remade-requires-clause-lines c =
+    let k = c.args.column in
+    let form = c.args.form.now in
+    let list = c.args.list.now in
+    let seen = c.rows-rows.result.now in
+    let keeps : KeepsWidth (substituted k form) (c.dims-n.result + 1) list seen = record {
+      width = omega arith;
+      are = c.rows-rows.ensures.rows;
+      widths = c.rows-rows.ensures.widths;
+      keeps = λ r l. substituted_width k form r (l ∙ sym c.requires.width) ∙ l;
+    } in
+    lines_wide (substituted k form) is_equality (c.dims-n.result + 1) list seen c.in_ok-parts.parts.lines.items keeps
+    c.in_ok-parts.ensures.lines
+
+pub remade-requires-clause-rays : goal.remade-requires-clause-rays
+remade-requires-clause-rays c =
+    let k = c.args.column in
+    let form = c.args.form.now in
+    let list = c.args.list.now in
+    let seen = c.rows-rows.result.now in
+    let keeps : KeepsWidth (substituted k form) (c.dims-n.result + 1) list seen = record {
+      width = omega arith;
+      are = c.rows-rows.ensures.rows;
+      widths = c.rows-rows.ensures.widths;
+      keeps = λ r l. substituted_width k form r (l ∙ sym c.requires.width) ∙ l;
+    } in
+    rays_wide (substituted k form) is_equality (c.dims-n.result + 1) list seen c.in_ok-parts.parts.rays.items keeps
+    c.in_ok-parts.ensures.rays
