@@ -1,5 +1,5 @@
 -- Lemmas on answers, fitting parts and the ends of a settling.
-use Rattle.std.proofs.Common.{◌≡◌, ◌≢◌, ◌⊎◌, ◌↔◌, ℕ, suc, ◌+◌, ◌≤◌, ◌<◌, ℤ, List, [], ◌∷◌, ◌++◌, length, refl, ap, sym, subst, ◌∙◌, inl, inr}
+use Rattle.std.proofs.Common.{◌≡◌, ◌⊎◌, ◌↔◌, ℕ, ◌≤◌, ◌<◌, ℤ, List, [], ◌∷◌, ◌++◌, length, refl, ap, sym, subst, ◌∙◌, inl, inr}
 use Rattle.std.proofs.Common.{arith, length-append}
 use Rattle.std.specs.Prelude.{flat_map}
 use Rattle.lra_domain.specs.declared.Exactness.{Exactness}
@@ -7,15 +7,14 @@ use Rattle.lra_domain.specs.declared.Exactness.TheVariants.{Exact, Flagged}
 use Rattle.lra_domain.specs.declared.Included.{Included}
 use Rattle.lra_domain.specs.declared.Included.TheVariants.{Yes, No, Wide}
 use Rattle.lra_domain.specs.Meaning.{Meaning}
-use Rattle.lra_domain.specs.Laws.{Laws, PlainLaws}
-use Rattle.lra_set.specs.Lists.{EachPart, SomePart}
+use Rattle.lra_domain.specs.Laws.{PlainLaws}
+use Rattle.lra_set.specs.Lists.{EachPart}
 use Rattle.lra_set.specs.ListLemmas.{each_map, each_append, each_left, each_right}
-use Rattle.lra_set.specs.Content.{Parts}
-use Rattle.lra_set.specs.Values.{SetHas, PartsInside}
+use Rattle.lra_set.specs.Values.{SetHas}
 use Rattle.lra_set.specs.Outcomes.{Told, both, PartFits, HaveDims, IsReduced, AreMerged, BecameOne, LastTwoMeet, IsSettled}
 use Rattle.lra_set.specs.Laws.{nil_front}
 use Rattle.lra_set.proofs.ReductionLemmas.{cover_trans, reduced_covers, reduced_exact, reduced_strains, reduced_each, reduced_fewer}
-use Rattle.lra_set.proofs.SettleLemmas.{meet_covers, meet_strains, merged_each, settled_whole}
+use Rattle.lra_set.proofs.SettleLemmas.{meet_covers, meet_strains, merged_each, settled_on, settled_whole}
 
 pub told_of : (A S : Type 0) (i : Included) → (i ≡ Yes → A) → (i ≡ No → ¬ A) → (i ≡ Wide → S) → Told A S i
 told_of A S Yes y n w = y refl
@@ -108,3 +107,75 @@ settled_joined {V} m pl n cap ps mid next qs some r over t b fit =
     (meet_covers m pl mid Flagged next t)) b.covers)
     (0, inr (mid, reduced_exact m ps Exact mid r refl, over, meet_strains m mid next t))
     (b.fits n (meet_fits m pl n mid Flagged next t (reduced_each m (PartFits m n) ps Exact mid r fit))))
+
+pub merged_one_is : {V H : Type 0} (m : Meaning V H) → PlainLaws m → (ps : List V) (e : Exactness) (j : V) (qs : List V)
+    → qs ≡ j ∷ [] → AreMerged m ps e j → ((n : ℕ) → HaveDims m n ps → m.dims j ≡ n) → BecameOne m ps qs
+merged_one_is {V} m pl ps e j qs alone t dims =
+    subst (λ (xs : List V). BecameOne m ps xs) (sym alone) (merged_one m pl ps e j t dims)
+
+-- the reduced parts fit
+pub reduced_fit : {V H : Type 0} (m : Meaning V H) (n : ℕ) (ps : List V) (e : Exactness) (qs : List V) → IsReduced m ps e qs
+    → EachPart (PartFits m n) ps → EachPart (PartFits m n) qs
+reduced_fit m n ps e qs r fit = reduced_each m (PartFits m n) ps e qs r fit
+
+pub reduced_alike : {V H : Type 0} (m : Meaning V H) (n : ℕ) (ps : List V) (e : Exactness) (qs : List V) → IsReduced m ps e qs
+    → EachPart (PartFits m n) ps → HaveDims m n qs
+reduced_alike m n ps e qs r fit = fits_dims m n qs (reduced_fit m n ps e qs r fit)
+
+pub not_flagged : (e : Exactness) → ¬ (e ≡ Flagged) → e ≡ Exact
+not_flagged Exact n = refl
+not_flagged Flagged n = absurd (n refl)
+
+-- the answers of the steps as they stand ----------------------------------------------------------------------------------
+
+pub meet_fit : {V H : Type 0} (m : Meaning V H) → PlainLaws m → (n : ℕ) (ps : List V) (d : Exactness) (mid : List V)
+    (e : Exactness) (next : List V) → IsReduced m ps d mid → LastTwoMeet m mid e next → EachPart (PartFits m n) ps
+    → EachPart (PartFits m n) next
+meet_fit m pl n ps d mid e next r t fit = meet_fits m pl n mid e next t (reduced_fit m n ps d mid r fit)
+
+pub meet_alike : {V H : Type 0} (m : Meaning V H) → PlainLaws m → (n : ℕ) (ps : List V) (d : Exactness) (mid : List V)
+    (e : Exactness) (next : List V) → IsReduced m ps d mid → LastTwoMeet m mid e next → EachPart (PartFits m n) ps
+    → HaveDims m n next
+meet_alike m pl n ps d mid e next r t fit = fits_dims m n next (meet_fit m pl n ps d mid e next r t fit)
+
+pub settled_reduced_is : {V H : Type 0} (m : Meaning V H) → PlainLaws m → (n cap : ℕ) (ps : List V) (e : Exactness)
+    (mid qs : List V) → 1 ≤ cap → e ≡ Flagged → IsReduced m ps e mid → BecameOne m mid qs → EachPart (PartFits m n) ps
+    → IsSettled m n cap ps Flagged qs
+settled_reduced_is {V} m pl n cap ps e mid qs some is r b fit =
+    settled_reduced m pl n cap ps mid qs some (subst (λ (d : Exactness). IsReduced m ps d mid) is r) b fit
+
+pub settled_joined_is : {V H : Type 0} (m : Meaning V H) → PlainLaws m → (n cap : ℕ) (ps : List V) (d : Exactness)
+    (mid : List V) (e : Exactness) (next qs : List V) → 1 ≤ cap → ¬ (d ≡ Flagged) → e ≡ Flagged → cap < length mid
+    → IsReduced m ps d mid → LastTwoMeet m mid e next → BecameOne m next qs → EachPart (PartFits m n) ps
+    → IsSettled m n cap ps Flagged qs
+settled_joined_is m pl n cap ps d mid e next qs some lossless is over r t b fit =
+    settled_joined m pl n cap ps mid next qs some
+    (subst (λ (x : Exactness). IsReduced m ps x mid) (not_flagged d lossless) r) over
+    (subst (λ (x : Exactness). LastTwoMeet m mid x next) is t) b fit
+
+pub settled_on_is : {V H : Type 0} (m : Meaning V H) → PlainLaws m → (n cap : ℕ) (ps : List V) (d : Exactness)
+    (mid : List V) (e : Exactness) (next : List V) (f : Exactness) (qs : List V) → ¬ (d ≡ Flagged) → ¬ (e ≡ Flagged)
+    → cap < length mid → IsReduced m ps d mid → LastTwoMeet m mid e next
+    → ((k : ℕ) → EachPart (PartFits m k) next → IsSettled m k cap next f qs) → EachPart (PartFits m n) ps
+    → IsSettled m n cap ps f qs
+settled_on_is m pl n cap ps d mid e next f qs lossless exact over r t s fit =
+    settled_on m pl n cap ps mid next f qs
+    (subst (λ (x : Exactness). IsReduced m ps x mid) (not_flagged d lossless) r) over
+    (subst (λ (x : Exactness). LastTwoMeet m mid x next) (not_flagged e exact) t)
+    (s n (meet_fit m pl n ps d mid e next r t fit))
+
+pub fewer_next : {V H : Type 0} (m : Meaning V H) (ps : List V) (d : Exactness) (mid : List V) (e : Exactness) (next : List V)
+    → IsReduced m ps d mid → LastTwoMeet m mid e next → length next < length ps
+fewer_next m ps d mid e next r t =
+    let no_more = reduced_fewer m ps d mid r in
+    let fewer = meet_fewer m mid e next t in
+    omega (arith, no_more, fewer)
+
+-- parts as a list has them
+pub refit : {V H : Type 0} (m : Meaning V H) (n k : ℕ) (ps : List V) → n ≡ k → EachPart (PartFits m n) ps
+    → EachPart (PartFits m k) ps
+refit {V} m n k ps same fit = subst (λ (i : ℕ). EachPart (PartFits m i) ps) same fit
+
+pub alike : {V H : Type 0} (m : Meaning V H) (n k : ℕ) (ps qs : List V) → n ≡ k → qs ≡ ps → EachPart (PartFits m n) ps
+    → HaveDims m k qs
+alike {V} m n k ps qs same is fit = subst (λ (xs : List V). HaveDims m k xs) (sym is) (fits_dims m k ps (refit m n k ps same fit))

@@ -2,3 +2,10 @@ pub mod ReductionLemmas
 pub mod SettleLemmas
 pub mod TellLemmas
 pub mod AnswerLemmas
+pub mod ChangeLemmas
+pub mod GrowthLemmas
+pub mod SetLemmas
+pub mod HeadLemmas
+pub mod ValueLemmas
+pub mod HeadSteps
+pub mod ReduceSteps

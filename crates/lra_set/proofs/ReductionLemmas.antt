@@ -1,5 +1,5 @@
 -- Lemmas on answers and reductions.
-use Rattle.std.proofs.Common.{◌≡◌, ◌⊎◌, ℕ, suc, ◌≤◌, List, [], ◌∷◌, ◌++◌, length, refl, ap, sym, subst, ◌∙◌, inl, inr}
+use Rattle.std.proofs.Common.{◌≡◌, ◌⊎◌, suc, ◌≤◌, List, [], ◌∷◌, ◌++◌, length, refl, ap, sym, subst, ◌∙◌, inl, inr}
 use Rattle.std.proofs.Common.{arith, append_assoc}
 use Rattle.lra_domain.specs.declared.Exactness.{Exactness}
 use Rattle.lra_domain.specs.declared.Exactness.TheVariants.{Exact, Flagged}
@@ -11,7 +11,7 @@ use Rattle.lra_set.specs.Lists.{EachPart, SomePart}
 use Rattle.lra_set.specs.ListLemmas.{each_map, some_map, some_of_each, each_append, some_left, some_right}
 use Rattle.lra_set.specs.Reduction.{Goes, Leaves, LeavesStrains, Reduces, ReduceStrains}
 use Rattle.lra_set.specs.Values.{PartsInside}
-use Rattle.lra_set.specs.Outcomes.{Told, either, worse, decided, all_decided, AreTold, kept, IsReduced}
+use Rattle.lra_set.specs.Outcomes.{Told, either, all_decided, AreTold, kept, IsReduced}
 
 -- answers -----------------------------------------------------------------------------------------------------------------
 

@@ -1,5 +1,5 @@
 -- Lemmas on the loops that tell of each part whether it goes, and leave out those that go.
-use Rattle.std.proofs.Common.{◌≡◌, ◌⊎◌, ℕ, suc, ◌+◌, ◌-◌, ◌≤◌, ◌<◌, List, [], ◌∷◌, ◌++◌, length, take, drop, refl, ap, sym, subst, ◌∙◌}
+use Rattle.std.proofs.Common.{◌≡◌, ℕ, suc, ◌+◌, ◌-◌, ◌<◌, List, [], ◌∷◌, ◌++◌, length, take, refl, ap, sym, subst, ◌∙◌}
 use Rattle.std.proofs.Common.{arith, append_assoc, append-nil, length-append}
 use Rattle.std.proofs.Math.Seq.{take-append_seam}
 use Rattle.std.proofs.lemmas.List.Edits.{remove-append_right}
@@ -7,7 +7,6 @@ use Rattle.std.specs.List.{remove}
 use Rattle.lra_domain.specs.declared.Included.{Included}
 use Rattle.lra_domain.specs.declared.Included.TheVariants.{Yes, No, Wide}
 use Rattle.lra_domain.specs.Meaning.{Meaning}
-use Rattle.lra_set.specs.Lists.{EachPart}
 use Rattle.lra_set.specs.ListLemmas.{each_left, each_right}
 use Rattle.lra_set.specs.Reduction.{Goes, GoesStrains}
 use Rattle.lra_set.specs.Outcomes.{Told, AreTold, HaveDims, kept}
@@ -135,3 +134,13 @@ leave_ends {V} parts told now rest at l e = none l.front l.back l.all (l.same �
         → front ++ kept back [] ≡ all → now ≡ all
     none front [] e l k = e ∙ k
     none front (p ∷ back) e l k = let wrong : ⊥ = omega (arith, l) in absurd wrong
+
+pub told_long : {V H : Type 0} (m : Meaning V H) (before ps : List V) (is : List Included) → AreTold m before ps is
+    → length is ≡ length ps
+told_long m before [] [] told = refl
+told_long m before [] (i ∷ is) told = absurd told
+told_long m before (p ∷ ps) [] told = absurd told
+told_long m before (p ∷ ps) (i ∷ is) told = ap suc (told_long m (before ++ p ∷ []) ps is told.1)
+
+-- the steps of the loop that leaves parts out
+pub ruleset leaving = (leave_stays, leave_gone, leave_ends)

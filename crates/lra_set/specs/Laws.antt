@@ -1,5 +1,5 @@
 -- The laws of sets of parts, from those of their parts.
-use Rattle.std.proofs.Common.{◌≡◌, ◌≢◌, ◌⊎◌, ℕ, ◌≤◌, ℤ, pos, List, [], ◌∷◌, ◌++◌, length, replicate, refl, ap, sym}
+use Rattle.std.proofs.Common.{◌≡◌, ◌≢◌, ℕ, ◌≤◌, ℤ, pos, List, [], ◌∷◌, ◌++◌, length, replicate, refl, ap, sym}
 use Rattle.std.proofs.Common.{subst}
 use Rattle.std.proofs.Common.{◌∙◌, inl, inr, arith, length-append}
 use Rattle.std.specs.Prelude.{flat_map}
@@ -14,9 +14,9 @@ use Rattle.lra_domain.specs.Laws.{Laws, PlainLaws}
 use Rattle.lra_set.specs.Lists.{EachPart, SomePart}
 use Rattle.lra_set.specs.ListLemmas.{each_map, some_map, some_of_each}
 use Rattle.lra_set.specs.Content.{Parts, Form, many, one, whole, Head, filled, with_filled}
-use Rattle.lra_set.specs.Values.{SetHas, PartsInside, SetCovered, SetUniversal, SetVoid, IsWhole}
-use Rattle.lra_set.specs.Heads.{FormHas, HeadHas, FormStarts, FormStays, HeadStays, FormValued, HeadValued, FormGivenUp}
-use Rattle.lra_set.specs.Heads.{HeadGivenUp, FormCovered, HeadCovered}
+use Rattle.lra_set.specs.Values.{SetHas, PartsInside, SetUniversal, SetVoid, IsWhole}
+use Rattle.lra_set.specs.Heads.{FormHas, HeadHas, FormStarts, FormStays, FormValued, FormGivenUp}
+use Rattle.lra_set.specs.Heads.{FormCovered, HeadCovered}
 use Rattle.lra_set.specs.Meaning.{set_meaning}
 
 -- parts, by their stores --------------------------------------------------------------------------

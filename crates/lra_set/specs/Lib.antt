@@ -7,4 +7,7 @@ pub mod Values
 pub mod Heads
 pub mod Meaning
 pub mod Outcomes
+pub mod Changes
+pub mod Forms
+pub mod Growth
 pub mod Laws

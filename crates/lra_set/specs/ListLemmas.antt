@@ -1,5 +1,5 @@
 -- Lemmas on what holds of each or of some part.
-use Rattle.std.proofs.Common.{◌≡◌, ◌≢◌, ◌⊎◌, List, [], ◌∷◌, ◌++◌, refl, inl, inr}
+use Rattle.std.proofs.Common.{◌⊎◌, List, [], ◌∷◌, ◌++◌, inl, inr}
 use Rattle.lra_set.specs.Lists.{EachPart, SomePart}
 
 pub each_map : {V : Type 0} (P Q : V → Type 0) → ((p : V) → P p → Q p) → (ps : List V) → EachPart P ps → EachPart Q ps

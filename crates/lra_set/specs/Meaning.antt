@@ -1,5 +1,5 @@
 -- The meaning of sets of parts, from that of their parts.
-use Rattle.std.specs.Prelude.{List, flat_map}
+use Rattle.std.specs.Prelude.{flat_map}
 use Rattle.lra_domain.specs.Meaning.{Meaning}
 use Rattle.lra_set.specs.Content.{Parts, Head}
 use Rattle.lra_set.specs.Values.{SetHas, SetCapped, SetCovered, SetUniversal, SetVoid, SetDone, SetStrains}

@@ -4,7 +4,6 @@ use Rattle.lra_domain.specs.Actions.{Action, dims_after}
 use Rattle.lra_domain.specs.Meaning.{Meaning}
 use Rattle.lra_set.specs.Lists.{EachPart, SomePart, PartByPart}
 use Rattle.lra_set.specs.Content.{Parts, filled}
-use Rattle.lra_set.specs.Reduction.{ReduceStrains}
 use Rattle.lra_set.specs.Joins.{Settles, SettleStrains}
 
 -- a store of some part, with a number for each dimension

@@ -1,9 +1,11 @@
 //! Parts that become one.
 
-ghost use Rattle.std.specs.Prelude.{◌≡◌, ◌<◌, ℕ, length, IfOk, OnOk};
-ghost use Rattle.lra_set.specs.Outcomes.{AreMerged, HaveDims, IsMerged};
+ghost use Rattle.std.specs.Prelude.{◌≡◌, ◌≤◌, ◌<◌, ℕ, List, [], length, IfOk, OnErr, OnOk, vec_len};
+ghost use Rattle.lra_set.specs.Lists.{EachPart};
+ghost use Rattle.lra_set.specs.Outcomes.{AreMerged, BecameOne, HaveDims, IsMerged, IsSettled, LastTwoMeet, PartFits};
 
 use crate::answers::worse_of;
+use crate::reduction::reduce;
 use lra_domain::{Domain, Exactness, Plain};
 use std::alloc::{AllocError, Global};
 
@@ -32,4 +34,57 @@ pub fn merge<D: Plain>(alloc: Global, parts: &[D]) -> Result<(D, Exactness), All
     let mut whole = first.copy(alloc)?;
     let exactness = join_on(&mut whole, others)?;
     Ok((whole, exactness))
+}
+
+/// All parts become one.
+pub fn into_one<D: Plain>(alloc: Global, parts: &[D]) -> Result<Vec<D>, AllocError>
+    requires some { 0 < length parts.now }
+    requires alike { (n : ℕ) × HaveDims D.meaning n parts.now }
+    ensures { IfOk result (λ one. BecameOne D.meaning parts.now one.items) }
+{
+    let (whole, _) = merge(alloc, parts)?;
+    let mut one = Vec::new(alloc);
+    one.push(whole)?;
+    Ok(one)
+}
+
+/// The last two parts become their join, in the last place.
+pub fn join_last_two<D: Plain>(parts: &mut Vec<D>) -> Result<Exactness, AllocError>
+    requires two { 2 ≤ vec_len parts.old }
+    requires alike { (n : ℕ) × HaveDims D.meaning n parts.old.items }
+    ensures { IfOk result (λ e. LastTwoMeet D.meaning parts.old.items e parts.new.items) }
+{
+    let two = parts.pop().unwrap();
+    let mut one = parts.pop().unwrap();
+    let exactness = one.join(&two)?;
+    parts.push(one)?;
+    Ok(exactness)
+}
+
+/// The parts reduced and kept within the cap: while there are more, the last two become their join. Where something was
+/// flagged and there are more, all become one.
+pub fn settle<D: Plain>(
+    alloc: Global,
+    cap: usize,
+    parts: Vec<D>,
+) -> Result<(Vec<D>, Exactness), AllocError>
+    requires cap { 1 ≤ cap }
+    requires fit { (n : ℕ) × EachPart (PartFits D.meaning n) parts.items }
+    ensures { IfOk result (λ r. (n : ℕ) → EachPart (PartFits D.meaning n) parts.items →
+        IsSettled D.meaning n cap parts.items r.1 r.0.items) }
+{
+    let mut left = parts;
+    let reduced = reduce(alloc, &mut left)?;
+    if left.len() <= cap {
+        return Ok((left, reduced));
+    }
+    if reduced == Exactness::Flagged {
+        return Ok((into_one(alloc, left.as_slice())?, Exactness::Flagged));
+    }
+    let joined = join_last_two(&mut left)?;
+    if joined == Exactness::Flagged {
+        return Ok((into_one(alloc, left.as_slice())?, Exactness::Flagged));
+    }
+    let settled = settle(alloc, cap, left)?;
+    Ok(settled)
 }

@@ -1,0 +1,480 @@
+-- Lemmas on the heads of sets.
+use Rattle.std.proofs.Common.{◌≡◌, ◌≢◌, ◌⊎◌, ℕ, ℤ, List, [], ◌∷◌, ◌++◌, length, Some, None, refl, ap, sym}
+use Rattle.std.proofs.Common.{subst, ◌∙◌, inl, inr, arith}
+use Rattle.lra_sys.specs.Listed.{Listed}
+use Rattle.lra_linear.specs.declared.ConKind.{ConKind}
+use Rattle.lra_domain.specs.declared.Exactness.{Exactness}
+use Rattle.lra_domain.specs.declared.Exactness.TheVariants.{Exact, Flagged}
+use Rattle.lra_domain.specs.declared.Included.{Included}
+use Rattle.lra_domain.specs.declared.Included.TheVariants.{Yes, No, Wide}
+use Rattle.lra_domain.specs.declared.Mode.{Mode}
+use Rattle.lra_domain.specs.declared.Mode.TheVariants.{Join, Widen, Limited}
+use Rattle.lra_domain.specs.declared.Grown.{Grown}
+use Rattle.lra_domain.specs.declared.Grown.TheVariants.{Stable, Grew as grew_by}
+use Rattle.lra_domain.specs.Rank.{RankBelow}
+use Rattle.lra_domain.specs.Meaning.{Meaning, Grew, Values}
+use Rattle.lra_domain.specs.Laws.{Laws, PlainLaws}
+use Rattle.lra_set.specs.Lists.{EachPart, SomePart}
+use Rattle.lra_set.specs.ListLemmas.{each_map, some_map, some_left, some_right}
+use Rattle.lra_set.specs.Content.{Parts, Form, many, one, whole, Head, filled, with_filled}
+use Rattle.lra_set.specs.Joins.{Merges, MergeStrains, Settles}
+use Rattle.lra_set.specs.Values.{PartsInside, IsWhole}
+use Rattle.lra_set.specs.Heads.{FormHas, HeadHas, FormStarts, FormStays, OneStrains, FormStrains, HeadAnswers}
+use Rattle.lra_set.specs.Heads.{FormValued, FormValueStrains, FormGrown, HeadGrown, HeadGrowStrains, Widens}
+use Rattle.lra_set.specs.Heads.{WidenStrains, FormCovered, HeadCovered, HeadGivenUp, form_rank}
+use Rattle.lra_set.specs.Meaning.{set_meaning}
+use Rattle.lra_set.specs.Outcomes.{PartFits, IsSettled, Told}
+use Rattle.lra_set.specs.Laws.{parts_within, started_has, whole_is_filled, with_filled_rows}
+use Rattle.lra_set.specs.Growth.{StartsAnew, BecomesOne, OneGrew, OneAnswers, LiesIn, HasGrown, valued_set}
+use Rattle.lra_set.proofs.GrowthLemmas.{merge_same, merge_stays, has_all}
+
+-- modes of widening -------------------------------------------------------------------------------------------------------
+
+stays_one : {V H : Type 0} (m : Meaning V H) (h : H) (qs : List V) (mode : Mode) → mode ≢ Join
+    → EachPart (λ q. m.stays h q mode) qs → FormStays m (one h) qs mode
+stays_one m h qs Join w each = absurd (w refl)
+stays_one m h qs Widen w each = each
+stays_one m h qs Limited w each = each
+
+each_stays : {V H : Type 0} (m : Meaning V H) (h : H) (qs : List V) (mode : Mode) → mode ≢ Join
+    → FormStays m (one h) qs mode → EachPart (λ q. m.stays h q mode) qs
+each_stays m h qs Join w st = absurd (w refl)
+each_stays m h qs Widen w st = st
+each_stays m h qs Limited w st = st
+
+strains_one : {V H : Type 0} (m : Meaning V H) (h : H) (qs : List V) (mode : Mode) → mode ≢ Join
+    → OneStrains m h qs mode → FormStrains m (one h) qs mode
+strains_one m h qs Join w st = absurd (w refl)
+strains_one m h qs Widen w st = st
+strains_one m h qs Limited w st = st
+
+widens_grows : {V H : Type 0} (m : Meaning V H) (old : Head V H) (qs : List V) (mode : Mode) (f : Form V H) → mode ≢ Join
+    → Widens m old.given old.form qs mode f → FormGrown m old qs mode f
+widens_grows m old qs Join f w g = absurd (w refl)
+widens_grows m old qs Widen f w g = g
+widens_grows m old qs Limited f w g = g
+
+grows_widens : {V H : Type 0} (m : Meaning V H) (old : Head V H) (qs : List V) (mode : Mode) (f : Form V H) → mode ≢ Join
+    → FormGrown m old qs mode f → Widens m old.given old.form qs mode f
+grows_widens m old qs Join f w g = absurd (w refl)
+grows_widens m old qs Widen f w g = g
+grows_widens m old qs Limited f w g = g
+
+widening_strains : {V H : Type 0} (m : Meaning V H) (old : Head V H) (next : Parts V) (mode : Mode) → mode ≢ Join
+    → WidenStrains m old.given old.form next.parts mode → HeadGrowStrains m old next mode
+widening_strains m old next Join w s = absurd (w refl)
+widening_strains m old next Widen w s = s
+widening_strains m old next Limited w s = s
+
+-- what a growth leaves ----------------------------------------------------------------------------------------------------
+
+pub grown_stable : {V H : Type 0} (m : Meaning V H) (old : Head V H) (next : Parts V) (mode : Mode) (new : Head V H)
+    → new ≡ old → FormStays m old.form next.parts mode → HasGrown m old next mode Stable new
+grown_stable m old next mode new same st = record {
+  stable = λ e. same;
+  stays = λ e. st;
+  grew = λ a e. let wrong : ⊥ = cc in absurd wrong;
+  lower = λ a e. let wrong : ⊥ = cc in absurd wrong;
+}
+
+pub grown_grew : {V H : Type 0} (m : Meaning V H) (old : Head V H) (next : Parts V) (mode : Mode) (e : Exactness)
+    (new : Head V H) → Grew (set_meaning m) old next mode e new
+    → (mode ≢ Join → RankBelow (form_rank m new.form) (form_rank m old.form)) → HasGrown m old next mode (grew_by e) new
+grown_grew m old next mode e new grew lower = record {
+  stable = λ x. let wrong : ⊥ = cc in absurd wrong;
+  stays = λ x. let wrong : ⊥ = cc in absurd wrong;
+  grew = λ a x. let same : e ≡ a = cc in subst (λ (d : Exactness). Grew (set_meaning m) old next mode d new) same grew;
+  lower = λ a x w. lower w;
+}
+
+-- it doesn't hold the part with all stores
+abbrev pub NotWhole : {V H : Type 0} → Form V H → Type 0
+NotWhole (many ps) = Unit {0}
+NotWhole (one h) = Unit {0}
+NotWhole (whole p) = ⊥
+
+whole_below : {V H : Type 0} (m : Meaning V H) (f : Form V H) (p : V) → NotWhole f
+    → RankBelow (form_rank m (whole p)) (form_rank m f)
+whole_below m (many []) p n = inl (omega arith)
+whole_below m (many (q ∷ qs)) p n = inl (omega arith)
+whole_below m (one h) p n = inl (omega arith)
+whole_below m (whole q) p n = absurd n
+
+-- the head is given up: it has all stores
+pub whole_grown : {V H : Type 0} (m : Meaning V H) → (old : Head V H) (next : Parts V) (mode : Mode) (new : Head V H) (p : V)
+    → new.dims ≡ old.dims → new.cap ≡ old.cap → new.form ≡ whole p → IsWhole m old.dims p → next.dims ≡ old.dims
+    → NotWhole old.form
+    → HeadAnswers m old next mode Wide ⊎ (HeadAnswers m old next mode No × HeadGrowStrains m old next mode)
+    → HasGrown m old next mode (grew_by Flagged) new
+whole_grown {V} {H} m old next mode new p dims cap form all same other strains =
+    let every : (s : List ℤ) → length s ≡ old.dims → HeadHas m new s = λ s long. (
+      long ∙ sym dims,
+      subst (λ (f : Form V H). FormHas m f s) (sym form) tt,
+    ) in
+    grown_grew m old next mode Flagged new (record {
+      kept = λ s own. every s own.0;
+      added = λ s own. every s (own.0 ∙ same);
+      covers = λ h g. (g.dims ∙ sym dims, inl (p, form));
+      moved = λ e. let wrong : ⊥ = cc in absurd wrong;
+      exact = λ e. let wrong : ⊥ = cc in absurd wrong;
+      flagged = λ e. flagged m old next mode new p dims cap form all strains;
+    }) (λ w. subst (λ (f : Form V H). RankBelow (form_rank m f) (form_rank m old.form)) (sym form)
+    (whole_below m old.form p other))
+  where
+    flagged : {V H : Type 0} (m : Meaning V H) (old : Head V H) (next : Parts V) (mode : Mode) (new : Head V H) (p : V)
+        → new.dims ≡ old.dims → new.cap ≡ old.cap → new.form ≡ whole p → IsWhole m old.dims p
+        → HeadAnswers m old next mode Wide ⊎ (HeadAnswers m old next mode No × HeadGrowStrains m old next mode)
+        → (HeadAnswers m old next mode Wide × HeadGivenUp m old mode new)
+        ⊎ (HeadAnswers m old next mode No × HeadGrowStrains m old next mode)
+    flagged m old next mode new p dims cap form all (inl wide) =
+        inl (wide, record { dims = dims; cap = cap; form = inl (p, all, form) })
+    flagged m old next mode new p dims cap form all (inr out) = inr out
+
+-- the part with all stores fits
+pub whole_fits : {V H : Type 0} (m : Meaning V H) → Laws m → (n c : ℕ) (p : V) → m.universal n c p → m.dims p ≡ n
+    → IsWhole m n p × PartFits m n p
+whole_fits m l n c p u dims = ((c, u), record { dims = dims; full = whole_is_filled m l n p (c, u) })
+
+-- widening: the head of a single part -------------------------------------------------------------------------------------
+
+one_below : {V H : Type 0} (m : Meaning V H) → PlainLaws m → (g h : H) → RankBelow (m.rank h) (m.rank g)
+    → RankBelow (form_rank m (one h)) (form_rank m (one g))
+one_below m pl g h (inl first) =
+    let wrong : ⊥ = omega (arith, first, pl.rank_first g, pl.rank_first h) in absurd wrong
+one_below m pl g h (inr (inl second)) = inr (inl (refl, second.1))
+one_below m pl g h (inr (inr (inl third))) = inr (inr (inl (refl, third.1, third.2)))
+one_below m pl g h (inr (inr (inr fourth))) = inr (inr (inr (refl, fourth.1, fourth.2, fourth.3)))
+
+-- the head with the head of a single part
+abbrev pub with_one : {V H : Type 0} → ℕ → ℕ → Listed ConKind → H → Head V H
+with_one n c given h = record { dims = n; cap = c; given = given; form = one h }
+
+-- the join of next's parts isn't in the single part's head
+out_of_one : {V H : Type 0} (m : Meaning V H) → Laws m → PlainLaws m → (n c : ℕ) (given : Listed ConKind) (g : H)
+    (next : Parts V) (mode : Mode) (k : V) → mode ≢ Join → Merges m next.parts k → m.answers g k mode No
+    → HeadAnswers m (with_one n c given g) next mode No
+out_of_one m l pl n c given g next mode k w merged out =
+    λ st. l.answers_no g k mode out (merge_stays m pl g next.parts k mode merged (each_stays m g next.parts mode w st.1))
+
+one_flagged : {V H : Type 0} (m : Meaning V H) → Laws m → PlainLaws m → (n c : ℕ) (given : Listed ConKind) (g h : H)
+    (next : Parts V) (mode : Mode) (k : V) → mode ≢ Join → Merges m next.parts k → m.head_dims g ≡ n
+    → (m.answers g k mode Wide × m.given_up g mode h) ⊎ (m.answers g k mode No × m.grow_strains g k mode)
+    → (HeadAnswers m (with_one n c given g) next mode Wide
+    × HeadGivenUp m (with_one n c given g) mode (with_one n c given h))
+    ⊎ (HeadAnswers m (with_one n c given g) next mode No × HeadGrowStrains m (with_one n c given g) next mode)
+one_flagged m l pl n c given g h next mode k w merged dims (inl wide) = inl (
+  strains_one m g next.parts mode w (inl (k, merged, wide.0)),
+  record { dims = refl; cap = refl; form = inr (g, h, refl, refl, dims, wide.1) },
+)
+one_flagged m l pl n c given g h next mode k w merged dims (inr out) = inr (
+  out_of_one m l pl n c given g next mode k w merged out.0,
+  widening_strains m (with_one n c given g) next mode w (inr (k, merged, out.1)),
+)
+
+one_covers : {V H : Type 0} (m : Meaning V H) → PlainLaws m → (n c : ℕ) (given : Listed ConKind) (g h : H)
+    (next : Parts V) (mode : Mode) (e : Exactness) → mode ≢ Join → (o : OneGrew m g next.parts mode e h) → (x : Head V H)
+    → HeadGrown m (with_one n c given g) next mode x → HeadCovered m x (with_one n c given h)
+one_covers {V} {H} m pl n c given g h next mode e w o x grown =
+    let by = grows_widens m (with_one n c given g) next.parts mode x.form w grown.form in
+    let same : by.0 ≡ o.join = merge_same m pl next.parts by.0 o.join by.2 o.merged in
+    (grown.dims, inr (inl (by.1, h, by.4, refl, o.grew.covers by.1 (subst (λ (z : V). m.grown g z mode by.1) same by.3))))
+
+pub one_grew : {V H : Type 0} (m : Meaning V H) → Laws m → PlainLaws m → (n c : ℕ) (given : Listed ConKind) (g h : H)
+    (next : Parts V) (mode : Mode) (e : Exactness) → mode ≢ Join → next.dims ≡ n → m.head_dims g ≡ n
+    → OneGrew m g next.parts mode e h
+    → HasGrown m (with_one n c given g) next mode (grew_by e) (with_one n c given h)
+one_grew m l pl n c given g h next mode e w same dims o =
+    grown_grew m (with_one n c given g) next mode e (with_one n c given h) (record {
+      kept = λ s own. (own.0, o.grew.kept s own.1);
+      added = λ s own. (own.0 ∙ same, o.grew.added s (has_all m l next.parts o.join o.all s own.1));
+      covers = one_covers m pl n c given g h next mode e w o;
+      moved = λ x. out_of_one m l pl n c given g next mode o.join w o.merged (o.grew.moved x);
+      exact = λ x. record {
+        dims = refl;
+        cap = refl;
+        rows = refl;
+        form = widens_grows m (with_one n c given g) next.parts mode (one h) w (o.join, h, o.merged, o.grew.exact x, refl);
+      };
+      flagged = λ x. one_flagged m l pl n c given g h next mode o.join w o.merged dims (o.grew.flagged x);
+    }) (λ x. one_below m pl g h o.lower)
+
+pub one_has_grown : {V H : Type 0} (m : Meaning V H) → Laws m → PlainLaws m → (n c : ℕ) (given : Listed ConKind) (old new : H)
+    (next : Parts V) (mode : Mode) (g : Grown) → mode ≢ Join → next.dims ≡ n → m.head_dims old ≡ n
+    → OneAnswers m old next.parts mode (Some g) new
+    → HasGrown m (with_one n c given old) next mode g (with_one n c given new)
+one_has_grown {V} {H} m l pl n c given old new next mode Stable w same dims o =
+    grown_stable m (with_one n c given old) next mode (with_one n c given new)
+    (ap (λ (x : H). with_one {V = V} {H = H} n c given x) o.0) (stays_one m old next.parts mode w o.1)
+one_has_grown m l pl n c given old new next mode (grew_by e) w same dims o =
+    one_grew m l pl n c given old new next mode e w same dims o
+
+-- one of next's parts isn't in the single part's head, or can't be told to be
+some_or : {V H : Type 0} (m : Meaning V H) → Laws m → (h : H) (mode : Mode) (qs : List V)
+    → SomePart (λ q. m.answers h q mode No ⊎ m.answers h q mode Wide) qs
+    → SomePart (λ q. m.answers h q mode Wide) qs ⊎ ¬ EachPart (λ q. m.stays h q mode) qs
+some_or m l h mode [] some = absurd some
+some_or m l h mode (q ∷ qs) (inl (inl out)) = inr (λ each. l.answers_no h q mode out each.0)
+some_or m l h mode (q ∷ qs) (inl (inr wide)) = inl (inl wide)
+some_or m l h mode (q ∷ qs) (inr some) = later m h mode q qs (some_or m l h mode qs some)
+  where
+    later : {V H : Type 0} (m : Meaning V H) (h : H) (mode : Mode) (q : V) (qs : List V)
+        → SomePart (λ p. m.answers h p mode Wide) qs ⊎ ¬ EachPart (λ p. m.stays h p mode) qs
+        → SomePart (λ p. m.answers h p mode Wide) (q ∷ qs) ⊎ ¬ EachPart (λ p. m.stays h p mode) (q ∷ qs)
+    later m h mode q qs (inl some) = inl (inr some)
+    later m h mode q qs (inr not) = inr (λ each. not each.1)
+
+one_fails : {V H : Type 0} (m : Meaning V H) (n c : ℕ) (given : Listed ConKind) (old : H) (next : Parts V) (mode : Mode)
+    → mode ≢ Join → MergeStrains m next.parts
+    → SomePart (λ q. m.answers old q mode Wide) next.parts ⊎ ¬ EachPart (λ q. m.stays old q mode) next.parts
+    → HeadAnswers m (with_one n c given old) next mode Wide
+    ⊎ (HeadAnswers m (with_one n c given old) next mode No × HeadGrowStrains m (with_one n c given old) next mode)
+one_fails m n c given old next mode w strains (inl wide) = inl (strains_one m old next.parts mode w (inr (strains, wide)))
+one_fails m n c given old next mode w strains (inr not) = inr (
+  (λ st. not (each_stays m old next.parts mode w st.1)),
+  widening_strains m (with_one n c given old) next mode w (inl strains),
+)
+
+-- the head with the part that has all stores
+abbrev pub with_whole : {V H : Type 0} → ℕ → ℕ → Listed ConKind → V → Head V H
+with_whole n c given p = record { dims = n; cap = c; given = given; form = whole p }
+
+pub one_given_up : {V H : Type 0} (m : Meaning V H) → Laws m → (n c : ℕ) (given : Listed ConKind) (old new : H)
+    (next : Parts V) (mode : Mode) (cap : ℕ) (p : V) → mode ≢ Join → next.dims ≡ n → m.universal n cap p
+    → OneAnswers m old next.parts mode None new
+    → HasGrown m (with_one n c given old) next mode (grew_by Flagged) (with_whole n c given p)
+one_given_up m l n c given old new next mode cap p w same all o =
+    whole_grown m (with_one n c given old) next mode (with_whole n c given p) p refl refl refl (cap, all) same tt
+    (one_fails m n c given old next mode w o.0 (some_or m l old mode next.parts o.1))
+
+-- widening: parts, not one ------------------------------------------------------------------------------------------------
+
+-- the head with parts
+abbrev pub with_parts : {V H : Type 0} → ℕ → ℕ → Listed ConKind → List V → Head V H
+with_parts n c given ps = record { dims = n; cap = c; given = given; form = many ps }
+
+pub many_stays : {V H : Type 0} (m : Meaning V H) (n c : ℕ) (given : Listed ConKind) (ps : List V) (next : Parts V)
+    (mode : Mode) → PartsInside m.inside next.parts ps
+    → HasGrown m (with_parts n c given ps) next mode Stable (with_parts n c given ps)
+many_stays m n c given ps next mode st =
+    grown_stable m (with_parts n c given ps) next mode (with_parts n c given ps) refl st
+
+pub many_wide : {V H : Type 0} (m : Meaning V H) (n c : ℕ) (given : Listed ConKind) (ps : List V) (next : Parts V)
+    (mode : Mode) (cap : ℕ) (p : V) → next.dims ≡ n → m.universal n cap p
+    → SomePart (λ q. SomePart (m.inside_strains q) ps) next.parts
+    → HasGrown m (with_parts n c given ps) next mode (grew_by Flagged) (with_whole n c given p)
+many_wide m n c given ps next mode cap p same all strains =
+    whole_grown m (with_parts n c given ps) next mode (with_whole n c given p) p refl refl refl (cap, all) same tt
+    (inl strains)
+
+pub many_strains : {V H : Type 0} (m : Meaning V H) (n c : ℕ) (given : Listed ConKind) (ps : List V) (next : Parts V)
+    (mode : Mode) (cap : ℕ) (p : V) → mode ≢ Join → next.dims ≡ n → m.universal n cap p
+    → ¬ PartsInside m.inside next.parts ps → BecomesOne m given ps next.parts mode None
+    → HasGrown m (with_parts n c given ps) next mode (grew_by Flagged) (with_whole n c given p)
+many_strains m n c given ps next mode cap p w same all out strains =
+    whole_grown m (with_parts n c given ps) next mode (with_whole n c given p) p refl refl refl (cap, all) same tt
+    (inr ((λ st. out st.1), widening_strains m (with_parts n c given ps) next mode w strains))
+
+many_below : {V H : Type 0} (m : Meaning V H) (ps : List V) (h : H) → length ps ≢ 1
+    → RankBelow (form_rank m (one h)) (form_rank m (many ps))
+many_below m [] h n = inl (omega arith)
+many_below m (p ∷ []) h n = absurd (n refl)
+many_below m (p ∷ q ∷ ps) h n = inl (omega arith)
+
+pub many_one : {V H : Type 0} (m : Meaning V H) (n c : ℕ) (given : Listed ConKind) (ps : List V) (h : H) (next : Parts V)
+    (mode : Mode) → mode ≢ Join → next.dims ≡ n → length ps ≢ 1 → ¬ PartsInside m.inside next.parts ps
+    → BecomesOne m given ps next.parts mode (Some h)
+    → HasGrown m (with_parts n c given ps) next mode (grew_by Exact) (with_one n c given h)
+many_one m n c given ps h next mode w same not_one out (widens, covers, own, by) =
+    grown_grew m (with_parts n c given ps) next mode Exact (with_one n c given h) (record {
+      kept = λ s has. (has.0, own s has.1);
+      added = λ s has. (has.0 ∙ same, by s has.1);
+      covers = λ x g. (g.dims, covers x.form (grows_widens m (with_parts n c given ps) next.parts mode x.form w g.form));
+      moved = λ e st. out st.1;
+      exact = λ e. record {
+        dims = refl;
+        cap = refl;
+        rows = refl;
+        form = widens_grows m (with_parts n c given ps) next.parts mode (one h) w widens;
+      };
+      flagged = λ e. let wrong : ⊥ = cc in absurd wrong;
+    }) (λ x. many_below m ps h not_one)
+
+-- joining -----------------------------------------------------------------------------------------------------------------
+
+-- what lies in the parts of the value lies in the head
+pub stays_valued : {V H : Type 0} (m : Meaning V H) (f : Form V H) (ps qs : List V) → FormValued m f ps
+    → PartsInside m.inside qs ps → FormStays m f qs Join
+stays_valued {V} m (many rs) ps qs v st = subst (λ (xs : List V). PartsInside m.inside qs xs) v st
+stays_valued {V} m (one h) ps qs (p, v, e) st = (p, v, in_one m p qs (subst (λ (xs : List V). PartsInside m.inside qs xs) e st))
+  where
+    in_filled : {V R : Type 0} (P : V → Type 0) (rows : List R) (p : V) → SomePart P (with_filled rows p []) → P p
+    in_filled P [] p some = absurd some
+    in_filled P (r ∷ rows) p (inl x) = x
+    in_filled P (r ∷ rows) p (inr none) = absurd none
+
+    in_one : {V H : Type 0} (m : Meaning V H) (p : V) (qs : List V) → PartsInside m.inside qs (filled m (p ∷ []))
+        → EachPart (λ q. m.inside q p) qs
+    in_one m p qs st = each_map (λ q. SomePart (m.inside q) (filled m (p ∷ []))) (λ q. m.inside q p)
+        (λ q some. in_filled (m.inside q) (m.parts p) p some) qs st
+stays_valued m (whole p) ps qs v st = tt
+
+-- and what lies in the head, in its parts
+pub valued_stays : {V H : Type 0} (m : Meaning V H) → PlainLaws m → (n : ℕ) (f : Form V H) (ps qs : List V) → NotWhole f
+    → FormValued m f ps → EachPart (PartFits m n) qs → FormStays m f qs Join → PartsInside m.inside qs ps
+valued_stays {V} m pl n (many rs) ps qs w v fit st = subst (λ (xs : List V). PartsInside m.inside qs xs) (sym v) st
+valued_stays {V} m pl n (one h) ps qs w (p, v, e) fit (q, u, each) =
+    let same : q ≡ p = pl.one_valued h q p u v in
+    subst (λ (xs : List V). PartsInside m.inside qs xs) (sym e)
+    (in_part m pl n p qs fit (subst (λ (x : V). EachPart (λ y. m.inside y x) qs) same each))
+  where
+    in_part : {V H : Type 0} (m : Meaning V H) → PlainLaws m → (n : ℕ) (p : V) (qs : List V) → EachPart (PartFits m n) qs
+        → EachPart (λ q. m.inside q p) qs → PartsInside m.inside qs (filled m (p ∷ []))
+    in_part m pl n p [] fit each = tt
+    in_part {V} m pl n p (q ∷ qs) fit each = (
+      subst (λ (xs : List V). SomePart (m.inside q) xs) (sym (with_filled_rows (m.parts p) p []
+          (λ none. fit.0.full (pl.partless_covered q p ((pl.inside_covered q p).0 each.0) none)))) (inl each.0),
+      in_part m pl n p qs fit.1 each.1,
+    )
+valued_stays m pl n (whole p) ps qs w v fit st = absurd w
+
+-- where an inclusion in the parts of the value strains
+pub strains_valued : {V H : Type 0} (m : Meaning V H) (f : Form V H) (ps qs : List V) → NotWhole f → FormValued m f ps
+    → SomePart (λ q. SomePart (m.inside_strains q) ps) qs → FormStrains m f qs Join
+strains_valued {V} m (many rs) ps qs w v some = subst (λ (xs : List V). SomePart (λ q. SomePart (m.inside_strains q) xs) qs) v some
+strains_valued {V} m (one h) ps qs w (p, v, e) some = inr (
+  p,
+  v,
+  some_map (λ q. SomePart (m.inside_strains q) (filled m (p ∷ [])))
+      (λ q. m.inside_strains q p) (λ q x. in_filled (m.inside_strains q) (m.parts p) p x) qs
+      (subst (λ (xs : List V). SomePart (λ q. SomePart (m.inside_strains q) xs) qs) e some),
+)
+  where
+    in_filled : {V R : Type 0} (P : V → Type 0) (rows : List R) (p : V) → SomePart P (with_filled rows p []) → P p
+    in_filled P [] p some = absurd some
+    in_filled P (r ∷ rows) p (inl x) = x
+    in_filled P (r ∷ rows) p (inr none) = absurd none
+strains_valued m (whole p) ps qs w v some = absurd w
+
+pub lies_whole : {V H : Type 0} (m : Meaning V H) (h : Head V H) (p : V) (ps : List V) (next : Parts V) → h.form ≡ whole p
+    → next.dims ≡ h.dims → LiesIn m h ps next Yes
+lies_whole {V} {H} m h p ps next form same = record {
+  answers = (same, subst (λ (f : Form V H). FormStays m f next.parts Join) (sym form) tt);
+  valued = λ e. let wrong : ⊥ = cc in absurd wrong;
+}
+
+pub lies_flagged : {V H : Type 0} (m : Meaning V H) (h : Head V H) (g : H) (ps : List V) (next : Parts V) (e : Exactness)
+    → h.form ≡ one g → Values (set_meaning m) h e (valued_set h ps) → e ≡ Flagged → LiesIn m h ps next Wide
+lies_flagged {V} {H} m h g ps next e form v is = record {
+  answers = subst (λ (f : Form V H). FormStrains m f next.parts Join) (sym form)
+      (inl (subst (λ (f : Form V H). FormValueStrains m f) form (v.flagged is)));
+  valued = λ x. let wrong : ⊥ = cc in absurd wrong;
+}
+
+value_exact : {V H : Type 0} (m : Meaning V H) (f : Form V H) (rs : List V) (e : Exactness) → f ≡ many rs
+    → (e ≡ Flagged → FormValueStrains m f) → e ≡ Exact
+value_exact m f rs Exact is strains = refl
+value_exact {V} {H} m f rs Flagged is strains = absurd (subst (λ (g : Form V H). FormValueStrains m g) is (strains refl))
+
+lies_told : {V H : Type 0} (m : Meaning V H) → PlainLaws m → (h : Head V H) (ps : List V) (next : Parts V) (i : Included)
+    → NotWhole h.form → next.dims ≡ h.dims → EachPart (PartFits m h.dims) next.parts → FormValued m h.form ps
+    → Told (PartsInside m.inside next.parts ps) (SomePart (λ q. SomePart (m.inside_strains q) ps) next.parts) i
+    → LiesIn m h ps next i
+lies_told m pl h ps next Yes w same fit v t = record {
+  answers = (same, stays_valued m h.form ps next.parts v t);
+  valued = λ e. v;
+}
+lies_told m pl h ps next No w same fit v t = record {
+  answers = λ st. t (valued_stays m pl h.dims h.form ps next.parts w v fit st.1);
+  valued = λ e. v;
+}
+lies_told m pl h ps next Wide w same fit v t = record {
+  answers = strains_valued m h.form ps next.parts w v t;
+  valued = λ e. v;
+}
+
+pub lies_many : {V H : Type 0} (m : Meaning V H) → PlainLaws m → (h : Head V H) (rs ps : List V) (next : Parts V)
+    (e : Exactness) (i : Included) → h.form ≡ many rs → next.dims ≡ h.dims → EachPart (PartFits m h.dims) next.parts
+    → Values (set_meaning m) h e (valued_set h ps)
+    → Told (PartsInside m.inside next.parts ps) (SomePart (λ q. SomePart (m.inside_strains q) ps) next.parts) i
+    → LiesIn m h ps next i
+lies_many {V} {H} m pl h rs ps next e i form same fit v t =
+    lies_told m pl h ps next i (subst (λ (f : Form V H). NotWhole f) (sym form) tt) same fit
+    (v.exact (value_exact m h.form rs e form v.flagged)).form t
+
+pub lies_one : {V H : Type 0} (m : Meaning V H) → PlainLaws m → (h : Head V H) (g : H) (ps : List V) (next : Parts V)
+    (e : Exactness) (i : Included) → h.form ≡ one g → next.dims ≡ h.dims → EachPart (PartFits m h.dims) next.parts
+    → Values (set_meaning m) h e (valued_set h ps) → e ≡ Exact
+    → Told (PartsInside m.inside next.parts ps) (SomePart (λ q. SomePart (m.inside_strains q) ps) next.parts) i
+    → LiesIn m h ps next i
+lies_one {V} {H} m pl h g ps next e i form same fit v is t =
+    lies_told m pl h ps next i (subst (λ (f : Form V H). NotWhole f) (sym form) tt) same fit (v.exact is).form t
+
+valued_same : {V H : Type 0} (m : Meaning V H) → PlainLaws m → (f : Form V H) (ps qs : List V) → FormValued m f ps
+    → FormValued m f qs → ps ≡ qs
+valued_same m pl (many rs) ps qs a b = a ∙ sym b
+valued_same {V} m pl (one h) ps qs (p, v, e) (q, u, d) =
+    e ∙ ap (λ (x : V). filled m (x ∷ [])) (pl.one_valued h p q v u) ∙ sym d
+valued_same m pl (whole p) ps qs a b = a ∙ sym b
+
+strains_open : {V H : Type 0} (m : Meaning V H) (f : Form V H) (qs : List V) (mode : Mode) → FormStrains m f qs mode
+    → NotWhole f
+strains_open m (many ps) qs mode s = tt
+strains_open m (one h) qs mode s = tt
+strains_open m (whole p) qs mode s = s
+
+join_covers : {V H : Type 0} (m : Meaning V H) → PlainLaws m → (old : Head V H) (next : Parts V) (e : Exactness)
+    (new : Head V H) (ps rs : List V) → FormValued m old.form ps
+    → IsSettled m old.dims old.cap (ps ++ next.parts) e rs → FormStarts m old.given rs new.form → (x : Head V H)
+    → HeadGrown m old next Join x → FormCovered m x.form new.form
+join_covers {V} {H} m pl old next e new ps rs valued settled starts x g =
+    let by = g.form in
+    let same : by.0 ≡ ps = valued_same m pl old.form by.0 ps by.3 valued in
+    inr (inr (
+      by.1,
+      rs,
+      old.given,
+      old.given,
+      by.5,
+      starts,
+      settled.covers by.2 by.1
+          (subst (λ (xs : List V). Settles m old.cap by.2 (xs ++ next.parts) by.1) same by.4),
+    ))
+
+pub join_grew : {V H : Type 0} (m : Meaning V H) → Laws m → PlainLaws m → (old : Head V H) (next : Parts V) (d e : Exactness)
+    (new : Head V H) (ps : List V) → next.dims ≡ old.dims → new.dims ≡ old.dims → new.cap ≡ old.cap
+    → new.given ≡ old.given → Values (set_meaning m) old d (valued_set old ps) → LiesIn m old ps next No
+    → StartsAnew m old.given old.dims old.cap ps next.parts e new.form → HasGrown m old next Join (grew_by e) new
+join_grew {V} {H} m l pl old next d e new ps same dims cap given v lies (rs, settled, starts) =
+    let comes : (s : List ℤ) → SomePart (λ p. m.has p s) (ps ++ next.parts) → FormHas m new.form s = λ s own.
+    started_has m l pl old.given rs new.form starts s (parts_within m l (ps ++ next.parts) rs settled.parts s own) in
+    let valued : FormValued m old.form ps = lies.valued refl in
+    grown_grew m old next Join e new (record {
+      kept = λ s own. (own.0 ∙ sym dims, comes s (some_left (λ p. m.has p s) ps next.parts (v.stores s own).1));
+      added = λ s own. (own.0 ∙ same ∙ sym dims, comes s (some_right (λ p. m.has p s) ps next.parts own.1));
+      covers = λ x g. (g.dims ∙ sym dims, join_covers m pl old next e new ps rs valued settled starts x g);
+      moved = λ x. lies.answers;
+      exact = λ x. let k = settled.exact x in record {
+        dims = dims;
+        cap = cap;
+        rows = given;
+        form = (ps, rs, k.0, valued, k.1, starts);
+      };
+      flagged = λ x. let k = settled.flagged x in inr (lies.answers, (ps, k.0, valued, k.1));
+    }) (λ w. absurd (w refl))
+
+pub join_stays : {V H : Type 0} (m : Meaning V H) (old : Head V H) (next : Parts V) (ps : List V) → LiesIn m old ps next Yes
+    → HasGrown m old next Join Stable old
+join_stays m old next ps lies = grown_stable m old next Join old refl lies.answers.1
+
+pub join_wide : {V H : Type 0} (m : Meaning V H) (old : Head V H) (next : Parts V) (ps : List V) (new : Head V H) (c : ℕ) (p : V)
+    → next.dims ≡ old.dims → new.dims ≡ old.dims → new.cap ≡ old.cap → new.form ≡ whole p → m.universal old.dims c p
+    → LiesIn m old ps next Wide → HasGrown m old next Join (grew_by Flagged) new
+join_wide m old next ps new c p same dims cap form all lies =
+    whole_grown m old next Join new p dims cap form (c, all) same (strains_open m old.form next.parts Join lies.answers)
+    (inl lies.answers)
+
+-- the whole stays
+pub whole_stays : {V H : Type 0} (m : Meaning V H) (old : Head V H) (next : Parts V) (mode : Mode) (p : V)
+    → old.form ≡ whole p → HasGrown m old next mode Stable old
+whole_stays {V} {H} m old next mode p form = grown_stable m old next mode old refl
+    (subst (λ (f : Form V H). FormStays m f next.parts mode) (sym form) tt)

@@ -1,0 +1,214 @@
+-- Lemmas on sets of parts.
+use Rattle.std.proofs.Common.{◌≡◌, ◌⊎◌, ◌↔◌, ℕ, ◌≤◌, ◌^◌, ℤ, List, [], ◌∷◌, ◌++◌, length, refl, ap, sym}
+use Rattle.std.proofs.Common.{subst, ◌∙◌, inl, inr, arith}
+use Rattle.std.proofs.lemmas.List.Elements.{All-append}
+use Rattle.std.specs.Prelude.{flat_map}
+use Rattle.std.specs.List.{All}
+use Rattle.lra_sys.specs.Listed.{Listed}
+use Rattle.lra_linear.specs.declared.ConKind.{ConKind}
+use Rattle.lra_domain.specs.declared.Exactness.{Exactness}
+use Rattle.lra_domain.specs.Actions.{Action, dims_after, Within}
+use Rattle.lra_domain.specs.Parts.{SomePartHolds}
+use Rattle.lra_domain.specs.Meaning.{Meaning, Meets, Joins}
+use Rattle.lra_domain.specs.Laws.{Laws, PlainLaws}
+use Rattle.lra_set.specs.declared.changes.Change.{Change}
+use Rattle.lra_set.specs.declared.changes.Change.TheVariants.{Assign, Forget, Test, Embed, RemoveLast}
+use Rattle.lra_set.specs.Changes.{ChangeFits, action_of}
+use Rattle.lra_set.specs.Lists.{EachPart, SomePart}
+use Rattle.lra_set.specs.ListLemmas.{each_append}
+use Rattle.lra_set.specs.Content.{Parts, Form}
+use Rattle.lra_set.specs.Heads.{FormStarts}
+use Rattle.lra_set.specs.Growth.{StartsAnew}
+use Rattle.lra_set.specs.Values.{PartsInside, SetHas}
+use Rattle.lra_set.specs.Meaning.{set_meaning}
+use Rattle.lra_set.specs.Outcomes.{PartFits, HaveDims, IsSettled, AreChanged, worse}
+use Rattle.lra_set.specs.Laws.{parts_within, inside_covers, whole_is_filled}
+use Rattle.lra_set.proofs.AnswerLemmas.{fits_dims, fits_none}
+use Rattle.lra_set.proofs.ChangeLemmas.{Appended, set_meets, set_joins}
+
+-- a set that lies in another has no store beyond its
+pub inside_stores : {V H : Type 0} (m : Meaning V H) → Laws m → PlainLaws m → (a b : Parts V) → a.dims ≡ b.dims
+    → PartsInside m.inside a.parts b.parts → Within (SetHas m a) (SetHas m b)
+inside_stores m l pl a b same st s own =
+    (own.0 ∙ same, parts_within m l a.parts b.parts (inside_covers m pl a.parts b.parts st) s own.1)
+
+-- the part with all stores fits
+pub universe_fits : {V H : Type 0} (m : Meaning V H) → Laws m → (n cap : ℕ) (p : V) (ps : List V) → ps ≡ p ∷ []
+    → m.universal n cap p → m.dims p ≡ n → EachPart (PartFits m n) ps
+universe_fits {V} m l n cap p ps alone u dims = subst (λ (xs : List V). EachPart (PartFits m n) xs) (sym alone)
+    (record { dims = dims; full = whole_is_filled m l n p (cap, u) }, tt)
+
+-- changes -----------------------------------------------------------------------------------------------------------------
+
+pub dims_small : (change : Change) (n : ℕ) → ChangeFits change n → n ≤ 2 ^ 30 → dims_after (action_of change) n ≤ 2 ^ 30
+dims_small (Assign x e) n fits small = small
+dims_small (Forget x) n fits small = small
+dims_small (Test t) n fits small = small
+dims_small (Embed k) n fits small = fits
+dims_small (RemoveLast k) n fits small = omega (arith, small)
+
+-- what was appended to no part
+pub appended_fit : {V H : Type 0} (m : Meaning V H) (step : Action) (n : ℕ) (ps : List V) (e : Exactness) (none qs : List V)
+    → none ≡ [] → EachPart (PartFits m n) ps → Appended m step none ps e qs → EachPart (PartFits m (dims_after step n)) qs
+appended_fit {V} m step n ps e none qs is fit (rs, same, c) =
+    let whole : qs ≡ rs = same ∙ ap (λ (xs : List V). xs ++ rs) is in
+    subst (λ (xs : List V). EachPart (PartFits m (dims_after step n)) xs) (sym whole) (c.fit n (fits_dims m n ps fit))
+
+pub change_meets : {V H : Type 0} (m : Meaning V H) → Laws m → PlainLaws m → (step : Action) (old new : Parts V)
+    (one two : Exactness) (none qs : List V) → none ≡ [] → new.dims ≡ dims_after step old.dims → new.cap ≡ old.cap
+    → length old.parts ≤ old.cap → EachPart (PartFits m old.dims) old.parts → Appended m step none old.parts one qs
+    → ((n : ℕ) → EachPart (PartFits m n) qs → IsSettled m n old.cap qs two new.parts)
+    → Meets (set_meaning m) step old (worse one two) new
+change_meets {V} m l pl step old new one two none qs is dims cap few fit (rs, same, c) settled =
+    let whole : qs ≡ rs = same ∙ ap (λ (xs : List V). xs ++ rs) is in
+    let all = appended_fit m step old.dims old.parts one none qs is fit (rs, same, c) in
+    set_meets m l pl step old new one two qs dims cap few (fits_dims m old.dims old.parts fit)
+    (subst (λ (xs : List V). AreChanged m step old.parts one xs) (sym whole) c) (settled (dims_after step old.dims) all)
+
+pub settled_few : {V H : Type 0} (m : Meaning V H) (n cap : ℕ) (ps qs : List V) (e : Exactness) → EachPart (PartFits m n) ps
+    → ((k : ℕ) → EachPart (PartFits m k) ps → IsSettled m k cap ps e qs) → length qs ≤ cap
+settled_few m n cap ps qs e fit settled = (settled n fit).few
+
+pub settled_fit : {V H : Type 0} (m : Meaning V H) (n cap : ℕ) (ps qs : List V) (e : Exactness) → EachPart (PartFits m n) ps
+    → ((k : ℕ) → EachPart (PartFits m k) ps → IsSettled m k cap ps e qs) → EachPart (PartFits m n) qs
+settled_fit m n cap ps qs e fit settled = (settled n fit).fit
+
+-- joins -------------------------------------------------------------------------------------------------------------------
+
+pub both_fit : {V H : Type 0} (m : Meaning V H) (n k : ℕ) (ps qs all : List V) → n ≡ k → all ≡ ps ++ qs
+    → EachPart (PartFits m n) ps → EachPart (PartFits m k) qs → EachPart (PartFits m n) all
+both_fit {V} m n k ps qs all same is a b = subst (λ (xs : List V). EachPart (PartFits m n) xs) (sym is)
+    (each_append (PartFits m n) ps qs a (subst (λ (i : ℕ). EachPart (PartFits m i) qs) (sym same) b))
+
+pub join_joins : {V H : Type 0} (m : Meaning V H) (one two new : Parts V) (e : Exactness) (all : List V)
+    → one.dims ≡ two.dims → new.dims ≡ one.dims → new.cap ≡ one.cap → all ≡ one.parts ++ two.parts
+    → EachPart (PartFits m one.dims) all
+    → ((k : ℕ) → EachPart (PartFits m k) all → IsSettled m k one.cap all e new.parts)
+    → Joins (set_meaning m) one two e new
+join_joins {V} m one two new e all same dims cap is fit settled = set_joins m one two new e same dims cap
+    (subst (λ (xs : List V). IsSettled m one.dims one.cap xs e new.parts) is (settled one.dims fit))
+
+-- a head that starts anew
+pub anew_starts : {V H : Type 0} (m : Meaning V H) (given : Listed ConKind) (n cap : ℕ) (ps qs all rs : List V) (e : Exactness)
+    (f : Form V H) → all ≡ ps ++ qs → EachPart (PartFits m n) all
+    → ((k : ℕ) → EachPart (PartFits m k) all → IsSettled m k cap all e rs) → FormStarts m given rs f
+    → StartsAnew m given n cap ps qs e f
+anew_starts {V} m given n cap ps qs all rs e f is fit settled starts =
+    (rs, subst (λ (xs : List V). IsSettled m n cap xs e rs) is (settled n fit), starts)
+
+-- the rows that mean the parts --------------------------------------------------------------------------------------------
+
+holds_left : (ps qs : List (Listed ConKind)) (s : List ℤ) → SomePartHolds ps s → SomePartHolds (ps ++ qs) s
+holds_left [] qs s h = absurd h
+holds_left (p ∷ ps) qs s (inl h) = inl h
+holds_left (p ∷ ps) qs s (inr h) = inr (holds_left ps qs s h)
+
+holds_right : (ps qs : List (Listed ConKind)) (s : List ℤ) → SomePartHolds qs s → SomePartHolds (ps ++ qs) s
+holds_right [] qs s h = h
+holds_right (p ∷ ps) qs s h = inr (holds_right ps qs s h)
+
+holds_split : (ps qs : List (Listed ConKind)) (s : List ℤ) → SomePartHolds (ps ++ qs) s
+    → SomePartHolds ps s ⊎ SomePartHolds qs s
+holds_split [] qs s h = inr h
+holds_split (p ∷ ps) qs s (inl h) = inl (inl h)
+holds_split (p ∷ ps) qs s (inr h) = after p ps qs s (holds_split ps qs s h)
+  where
+    after : (p : Listed ConKind) (ps qs : List (Listed ConKind)) (s : List ℤ) → SomePartHolds ps s ⊎ SomePartHolds qs s
+        → SomePartHolds (p ∷ ps) s ⊎ SomePartHolds qs s
+    after p ps qs s (inl h) = inl (inr h)
+    after p ps qs s (inr h) = inr h
+
+-- what the rows of parts are: of their dimensions, and they mean the parts
+abbrev pub RowsFit : {V H : Type 0} → Meaning V H → List V → Type 0
+RowsFit m ps = (n : ℕ) → HaveDims m n ps → All (λ p. p.dims ≡ n) (flat_map m.parts ps)
+
+abbrev pub RowsMean : {V H : Type 0} → Meaning V H → List V → Type 0
+RowsMean m ps = (n : ℕ) → HaveDims m n ps → (s : List ℤ) → length s ≡ n
+    → (SomePart (λ p. m.has p s) ps ↔ SomePartHolds (flat_map m.parts ps) s)
+
+rows_mean : {V H : Type 0} (m : Meaning V H) (p : V) (later : List V) (s : List ℤ) → (m.has p s ↔ SomePartHolds (m.parts p) s)
+    → (SomePart (λ q. m.has q s) later ↔ SomePartHolds (flat_map m.parts later) s)
+    → (SomePart (λ q. m.has q s) (p ∷ later) ↔ SomePartHolds (m.parts p ++ flat_map m.parts later) s)
+rows_mean {V} m p later s one more = (
+  λ h. there m p later s one more h,
+  λ h. back m p later s one more (holds_split (m.parts p) (flat_map m.parts later) s h),
+)
+  where
+    there : {V H : Type 0} (m : Meaning V H) (p : V) (later : List V) (s : List ℤ)
+        → (m.has p s ↔ SomePartHolds (m.parts p) s)
+        → (SomePart (λ q. m.has q s) later ↔ SomePartHolds (flat_map m.parts later) s)
+        → SomePart (λ q. m.has q s) (p ∷ later) → SomePartHolds (m.parts p ++ flat_map m.parts later) s
+    there m p later s one more (inl h) = holds_left (m.parts p) (flat_map m.parts later) s (one.0 h)
+    there m p later s one more (inr h) = holds_right (m.parts p) (flat_map m.parts later) s (more.0 h)
+
+    back : {V H : Type 0} (m : Meaning V H) (p : V) (later : List V) (s : List ℤ)
+        → (m.has p s ↔ SomePartHolds (m.parts p) s)
+        → (SomePart (λ q. m.has q s) later ↔ SomePartHolds (flat_map m.parts later) s)
+        → SomePartHolds (m.parts p) s ⊎ SomePartHolds (flat_map m.parts later) s → SomePart (λ q. m.has q s) (p ∷ later)
+    back m p later s one more (inl h) = inl (one.1 h)
+    back m p later s one more (inr h) = inr (more.1 h)
+
+pub more_mean : {V H : Type 0} (m : Meaning V H) (ps : List V) (p : V) (later : List V) (rows : List (Listed ConKind))
+    → ps ≡ p ∷ later → rows ≡ m.parts p
+    → ((s : List ℤ) → length s ≡ m.dims p → (m.has p s ↔ SomePartHolds rows s)) → RowsMean m later → RowsMean m ps
+more_mean {V} m ps p later rows cut is one more = subst (λ (xs : List V). RowsMean m xs) (sym cut)
+    (λ n all s long. rows_mean m p later s
+    (subst (λ (r : List (Listed ConKind)). m.has p s ↔ SomePartHolds r s) is (one s (long ∙ sym all.0)))
+    (more n all.1 s long))
+
+each_both : (n : ℕ) (xs ys : List (Listed ConKind)) → All (λ p. p.dims ≡ n) xs → All (λ p. p.dims ≡ n) ys
+    → All (λ p. p.dims ≡ n) (xs ++ ys)
+each_both n xs ys a b = All-append (λ (p : Listed ConKind). p.dims ≡ n) xs ys a b
+
+pub more_fit : {V H : Type 0} (m : Meaning V H) (ps : List V) (p : V) (later : List V) (rows : List (Listed ConKind))
+    → ps ≡ p ∷ later → rows ≡ m.parts p → All (λ r. r.dims ≡ m.dims p) rows → RowsFit m later → RowsFit m ps
+more_fit {V} m ps p later rows cut is one more = subst (λ (xs : List V). RowsFit m xs) (sym cut)
+    (λ n all. each_both n (m.parts p) (flat_map m.parts later)
+    (subst (λ (r : List (Listed ConKind)). All (λ x. x.dims ≡ n) r) is
+    (subst (λ (k : ℕ). All (λ x. x.dims ≡ k) rows) all.0 one)) (more n all.1))
+
+pub change_fits : (change : Change) (n k : ℕ) → n ≡ k → ChangeFits change n → ChangeFits change k
+change_fits change n k same fits = subst (λ (i : ℕ). ChangeFits change i) same fits
+
+-- the calls as they stand -------------------------------------------------------------------------------------------------
+
+pub none_rows : {V H : Type 0} (m : Meaning V H) (ps : List V) → ps ≡ [] → flat_map m.parts ps ≡ []
+none_rows {V} m ps e = subst (λ (xs : List V). flat_map m.parts xs ≡ []) (sym e) refl
+
+pub rows_none : {V H : Type 0} (m : Meaning V H) (n : ℕ) (ps qs : List V) → ps ≡ qs → EachPart (PartFits m n) ps
+    → flat_map m.parts qs ≡ [] → ps ≡ []
+rows_none {V} m n ps qs e fit none = fits_none m n ps fit (subst (λ (xs : List V). flat_map m.parts xs ≡ []) (sym e) none)
+
+pub joined_lists : {V : Type 0} (xs ys all ps qs : List V) → all ≡ xs ++ ys → xs ≡ ps → ys ≡ qs → all ≡ ps ++ qs
+joined_lists {V} xs ys all ps qs e d f =
+    e ∙ ap (λ (zs : List V). zs ++ ys) d ∙ ap (λ (zs : List V). ps ++ zs) f
+
+pub others_fit : {V H : Type 0} (m : Meaning V H) (n k : ℕ) (ps qs : List V) → n ≡ k → ps ≡ qs → EachPart (PartFits m n) ps
+    → EachPart (PartFits m k) qs
+others_fit {V} m n k ps qs e d fit = subst (λ (xs : List V). EachPart (PartFits m k) xs) d
+    (subst (λ (i : ℕ). EachPart (PartFits m i) ps) e fit)
+
+all_rows : {V H : Type 0} (m : Meaning V H) (ps : List V) (none all : List (Listed ConKind)) → none ≡ []
+    → all ≡ none ++ flat_map m.parts ps → all ≡ flat_map m.parts ps
+all_rows m ps none all e d = d ∙ ap (λ (rows : List (Listed ConKind)). rows ++ flat_map m.parts ps) e
+
+pub set_rows_fit : {V H : Type 0} (m : Meaning V H) (n k : ℕ) (ps : List V) (none all : List (Listed ConKind)) → n ≡ k
+    → none ≡ [] → all ≡ none ++ flat_map m.parts ps → RowsFit m ps → HaveDims m n ps → All (λ p. p.dims ≡ k) all
+set_rows_fit m n k ps none all same e d fit dims =
+    subst (λ (rows : List (Listed ConKind)). All (λ p. p.dims ≡ k) rows) (sym (all_rows m ps none all e d))
+    (subst (λ (i : ℕ). All (λ p. p.dims ≡ i) (flat_map m.parts ps)) same (fit n dims))
+
+pub set_mean : {V H : Type 0} (m : Meaning V H) (v : Parts V) (n : ℕ) (ps : List V) (none all : List (Listed ConKind))
+    → n ≡ v.dims → ps ≡ v.parts → none ≡ [] → all ≡ none ++ flat_map m.parts ps → RowsMean m ps → HaveDims m n ps
+    → (s : List ℤ) → length s ≡ v.dims → (SetHas m v s ↔ SomePartHolds all s)
+set_mean {V} m v n ps none all same own e d mean dims s long =
+    let told = mean n dims s (long ∙ sym same) in
+    let rows : all ≡ flat_map m.parts ps = all_rows m ps none all e d in (
+      (λ has. subst (λ (xs : List (Listed ConKind)). SomePartHolds xs s) (sym rows)
+          (told.0 (subst (λ (xs : List V). SomePart (λ p. m.has p s) xs) (sym own) has.1))),
+      (λ holds. (
+        long,
+        subst (λ (xs : List V). SomePart (λ p. m.has p s) xs) own
+            (told.1 (subst (λ (xs : List (Listed ConKind)). SomePartHolds xs s) rows holds)),
+      )),
+    )

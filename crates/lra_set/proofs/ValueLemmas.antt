@@ -1,0 +1,186 @@
+-- Lemmas on the values of heads, their ranks and how many parts they have.
+use Rattle.std.proofs.Common.{◌≡◌, ℕ, zero, suc, ◌≤◌, ◌<◌, ◌^◌, List, [], ◌∷◌, length, refl, ap, sym}
+use Rattle.std.proofs.Common.{subst, ◌∙◌, inl, arith}
+use Rattle.lra_sys.specs.Listed.{Listed}
+use Rattle.lra_linear.specs.declared.ConKind.{ConKind}
+use Rattle.lra_domain.specs.declared.Exactness.{Exactness}
+use Rattle.lra_domain.specs.declared.Exactness.TheVariants.{Exact}
+use Rattle.lra_domain.specs.Rank.{RankFits}
+use Rattle.lra_domain.specs.Meaning.{Meaning, Starts, Values}
+use Rattle.lra_domain.specs.Laws.{Laws, PlainLaws}
+use Rattle.lra_set.specs.Lists.{EachPart, SomePart}
+use Rattle.lra_set.specs.Content.{Parts, Form, many, one, whole, Head, filled}
+use Rattle.lra_set.specs.Values.{PartsInside, IsWhole}
+use Rattle.lra_set.specs.Heads.{FormHas, FormStarts, FormValued, FormCapped, HeadCapped, counted, form_rank}
+use Rattle.lra_set.specs.Meaning.{set_meaning}
+use Rattle.lra_set.specs.Outcomes.{PartFits}
+use Rattle.lra_set.specs.Laws.{started_has}
+use Rattle.lra_set.specs.Forms.{FormFits, HeadFits}
+use Rattle.lra_set.specs.Growth.{valued_set}
+use Rattle.lra_set.proofs.SettleLemmas.{covers_itself}
+use Rattle.lra_set.proofs.ChangeLemmas.{with_filled_each, with_filled_some, with_filled_few, with_filled_inside}
+
+covers_same : {V H : Type 0} (m : Meaning V H) → PlainLaws m → (ps qs : List V) → ps ≡ qs → PartsInside m.covered ps qs
+covers_same {V} m pl ps qs e = subst (λ (xs : List V). PartsInside m.covered ps xs) e (covers_itself m pl ps)
+
+-- values ------------------------------------------------------------------------------------------------------------------
+
+pub many_values : {V H : Type 0} (m : Meaning V H) → PlainLaws m → (h : Head V H) (rs ps : List V) → h.form ≡ many rs
+    → ps ≡ rs → Values (set_meaning m) h Exact (valued_set h ps)
+many_values {V} {H} m pl h rs ps form e = record {
+  stores = λ s own. (
+    own.0,
+    subst (λ (xs : List V). SomePart (λ p. m.has p s) xs) (sym e) (subst (λ (f : Form V H). FormHas m f s) form own.1),
+  );
+  covers = λ v val. (
+    val.dims,
+    covers_same m pl v.parts ps (subst (λ (f : Form V H). FormValued m f v.parts) form val.form ∙ sym e),
+  );
+  exact = λ x. record {
+    dims = refl;
+    cap = refl;
+    form = subst (λ (f : Form V H). FormValued m f ps) (sym form) e;
+  };
+  flagged = λ x. let wrong : ⊥ = cc in absurd wrong;
+}
+
+one_covers : {V H : Type 0} (m : Meaning V H) → PlainLaws m → (g : H) (e : Exactness) (p : V) (qs ps : List V)
+    → Values m g e p → ps ≡ filled m (p ∷ []) → FormValued m (one g) qs → PartsInside m.covered qs ps
+one_covers {V} m pl g e p qs ps v is (q, valued, d) =
+    let covered = v.covers q valued in
+    subst (λ (xs : List V). PartsInside m.covered xs ps) (sym d)
+    (subst (λ (xs : List V). PartsInside m.covered (filled m (q ∷ [])) xs) (sym is)
+    (with_filled_inside m.covered (m.parts q) (m.parts p) q p (pl.partless_covered q p covered) covered))
+
+pub one_values : {V H : Type 0} (m : Meaning V H) → Laws m → PlainLaws m → (h : Head V H) (g : H) (e : Exactness) (p : V)
+    (ps : List V) → h.form ≡ one g → Values m g e p → ps ≡ filled m (p ∷ []) → Values (set_meaning m) h e (valued_set h ps)
+one_values {V} {H} m l pl h g e p ps form v is = record {
+  stores = λ s own.
+      let has = v.stores s (subst (λ (f : Form V H). FormHas m f s) form own.1) in (
+        own.0,
+        subst (λ (xs : List V). SomePart (λ q. m.has q s) xs) (sym is)
+            (with_filled_some (λ q. m.has q s) (m.parts p) p (λ none. l.partless p none s has) has),
+      );
+  covers = λ w val. (
+    val.dims,
+    one_covers m pl g e p w.parts ps v is (subst (λ (f : Form V H). FormValued m f w.parts) form val.form),
+  );
+  exact = λ x. record {
+    dims = refl;
+    cap = refl;
+    form = subst (λ (f : Form V H). FormValued m f ps) (sym form) (p, v.exact x, is);
+  };
+  flagged = λ x. strains m h g form (v.flagged x);
+}
+  where
+    strains : {V H : Type 0} (m : Meaning V H) (h : Head V H) (g : H) → h.form ≡ one g → m.value_strains g
+        → (set_meaning m).value_strains h
+    strains {V} {H} m h g form s = subst (λ (f : Form V H). (set_meaning m).value_strains (record {
+      dims = h.dims;
+      cap = h.cap;
+      given = h.given;
+      form = f;
+    })) (sym form) s
+
+pub whole_values : {V H : Type 0} (m : Meaning V H) → Laws m → PlainLaws m → (h : Head V H) (p q : V) (ps : List V)
+    → h.form ≡ whole p → IsWhole m h.dims p → q ≡ p → ps ≡ q ∷ [] → Values (set_meaning m) h Exact (valued_set h ps)
+whole_values {V} {H} m l pl h p q ps form all same is =
+    let alone : ps ≡ p ∷ [] = is ∙ ap (λ (x : V). x ∷ []) same in record {
+      stores = λ s own. (
+        own.0,
+        subst (λ (xs : List V). SomePart (λ x. m.has x s) xs) (sym alone) (inl (l.universal_stores h.dims all.0 p all.1 s own.0)),
+      );
+      covers = λ v val. (
+        val.dims,
+        covers_same m pl v.parts ps (subst (λ (f : Form V H). FormValued m f v.parts) form val.form ∙ sym alone),
+      );
+      exact = λ x. record {
+        dims = refl;
+        cap = refl;
+        form = subst (λ (f : Form V H). FormValued m f ps) (sym form) alone;
+      };
+      flagged = λ x. let wrong : ⊥ = cc in absurd wrong;
+    }
+
+-- parts that fit ----------------------------------------------------------------------------------------------------------
+
+-- the parts of a value are no more than the cap, and fit
+pub record ValueFits {V H : Type 0} (m : Meaning V H) (n cap : ℕ) (ps : List V) : Type 0 where
+  pub fit : EachPart (PartFits m n) ps
+  pub few : length ps ≤ cap
+
+pub many_fits : {V H : Type 0} (m : Meaning V H) (n cap : ℕ) (f : Form V H) (rs ps : List V) → f ≡ many rs → ps ≡ rs
+    → FormFits m n cap f → ValueFits m n cap ps
+many_fits {V} {H} m n cap f rs ps form e fits =
+    let all = subst (λ (g : Form V H). FormFits m n cap g) form fits in
+    subst (λ (xs : List V). ValueFits m n cap xs) (sym e) (record { fit = all.0; few = all.1 })
+
+pub one_fits : {V H : Type 0} (m : Meaning V H) (n cap : ℕ) (f : Form V H) (g : H) (p : V) (ps : List V) → f ≡ one g
+    → m.dims p ≡ m.head_dims g → ps ≡ filled m (p ∷ []) → 1 ≤ cap → FormFits m n cap f → ValueFits m n cap ps
+one_fits {V} {H} m n cap f g p ps form dims is some fits =
+    let all = subst (λ (x : Form V H). FormFits m n cap x) form fits in
+    let few = with_filled_few (m.parts p) p in
+    subst (λ (xs : List V). ValueFits m n cap xs) (sym is) (record {
+      fit = with_filled_each (PartFits m n) (m.parts p) p (λ full. record { dims = dims ∙ all.0; full = full });
+      few = omega (arith, few, some);
+    })
+
+pub whole_fit : {V H : Type 0} (m : Meaning V H) (n cap : ℕ) (f : Form V H) (p q : V) (ps : List V) → f ≡ whole p
+    → q ≡ p → ps ≡ q ∷ [] → 1 ≤ cap → FormFits m n cap f → ValueFits m n cap ps
+whole_fit {V} {H} m n cap f p q ps form same is some fits =
+    let all = subst (λ (x : Form V H). FormFits m n cap x) form fits in
+    let alone : ps ≡ p ∷ [] = is ∙ ap (λ (x : V). x ∷ []) same in
+    subst (λ (xs : List V). ValueFits m n cap xs) (sym alone) (record { fit = (all.1, tt); few = some })
+
+-- heads that start, ranks and caps ----------------------------------------------------------------------------------------
+
+pub set_starts : {V H : Type 0} (m : Meaning V H) → Laws m → PlainLaws m → (first : Parts V) (given : Listed ConKind)
+    (h : Head V H) → h.dims ≡ first.dims → h.cap ≡ first.cap → h.given ≡ given → FormStarts m given first.parts h.form
+    → Starts (set_meaning m) first given h
+set_starts m l pl first given h dims cap rows starts = record {
+  stores = λ s own. (own.0 ∙ sym dims, started_has m l pl given first.parts h.form starts s own.1);
+  started = record { dims = dims; cap = cap; rows = rows; form = starts };
+}
+
+pub head_rank_fits : {V H : Type 0} (m : Meaning V H) (h : Head V H) → HeadFits m h → RankFits (form_rank m h.form)
+head_rank_fits m h f = of_form m h.dims h.cap h.form f.few f.form
+  where
+    of_count : (k : ℕ) → k < 2 ^ 32 → RankFits (counted k)
+    of_count zero few = record {
+      fits_first = omega arith;
+      fits_second = omega arith;
+      fits_third = omega arith;
+      fits_fourth = omega arith;
+    }
+    of_count (suc k) few = record {
+      fits_first = omega (arith, few);
+      fits_second = omega arith;
+      fits_third = omega arith;
+      fits_fourth = omega arith;
+    }
+
+    of_form : {V H : Type 0} (m : Meaning V H) (n cap : ℕ) (f : Form V H) → cap < 2 ^ 32 → FormFits m n cap f
+        → RankFits (form_rank m f)
+    of_form m n cap (many ps) few fits = let less = fits.1 in of_count (length ps) (omega (arith, few, less))
+    of_form m n cap (one h) few fits = record {
+      fits_first = omega arith;
+      fits_second = fits.1.fits_second;
+      fits_third = fits.1.fits_third;
+      fits_fourth = fits.1.fits_fourth;
+    }
+    of_form m n cap (whole p) few fits = record {
+      fits_first = omega arith;
+      fits_second = omega arith;
+      fits_third = omega arith;
+      fits_fourth = omega arith;
+    }
+
+form_capped : {V H : Type 0} (m : Meaning V H) (n cap : ℕ) (f : Form V H) → 1 ≤ cap → FormFits m n cap f → FormCapped f cap
+form_capped m n cap (many ps) some fits = fits.1
+form_capped m n cap (one h) some fits = some
+form_capped m n cap (whole p) some fits = some
+
+-- a head that fits has its cap
+pub head_capped : {V H : Type 0} (m : Meaning V H) (h : Head V H) (c : ℕ) → HeadFits m h → h.cap ≡ c → HeadCapped h c
+head_capped {V} {H} m h c f e =
+    (e, subst (λ (k : ℕ). FormCapped h.form k) e (form_capped m h.dims h.cap h.form f.some f.form))

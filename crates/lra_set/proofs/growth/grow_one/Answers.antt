@@ -1,0 +1,29 @@
+use Rattle.std.proofs.Common.{◌≡◌, sym, rules}
+use Rattle.lra_domain.specs.declared.Exactness.TheVariants.{Exact}
+use Rattle.lra_set.proofs.AnswerLemmas.{fits_dims}
+use Rattle.lra_set.proofs.GrowthLemmas.{merged_exact, one_exact}
+use Rattle.lra_set.proofs.growth.grow_one.Goals as goal
+
+pub merge-requires-clause-alike : goal.merge-requires-clause-alike
+merge-requires-clause-alike g c = (
+  g.D.Domain.meaning.head_dims c.args.head.now,
+  fits_dims g.D.Domain.meaning (g.D.Domain.meaning.head_dims c.args.head.now) c.args.next.now c.requires.next,
+)
+
+pub grow-requires : goal.grow-requires
+grow-requires g c = sym (c.in_ok-joined.ensures.dims (g.D.Domain.meaning.head_dims c.args.head.now)
+    (fits_dims g.D.Domain.meaning (g.D.Domain.meaning.head_dims c.args.head.now) c.args.next.now c.requires.next))
+
+pub returns-then-eq-clause-answers : goal.returns-then-eq-clause-answers
+returns-then-eq-clause-answers g c =
+    let exact : c.in_ok-joined.exactness ≡ Exact = search rules in
+    one_exact g.D.Domain.meaning g.met.D.Domain.laws g.met.D.Plain.plain c.args.head.now c.grow.new.head c.in_ok-joined.joined
+    c.args.next.now c.args.mode c.in_ok-grown.grown
+    (merged_exact g.D.Domain.meaning c.args.next.now c.in_ok-joined.exactness c.in_ok-joined.joined
+    c.in_ok-joined.ensures.merged exact)
+    c.in_ok-grown.ensures.stable c.in_ok-grown.ensures.stays c.in_ok-grown.ensures.grew c.in_ok-grown.ensures.lower
+    c.requires.widens
+
+pub stays_with_all-requires : goal.stays_with_all-requires
+stays_with_all-requires g c =
+    fits_dims g.D.Domain.meaning (g.D.Domain.meaning.head_dims c.args.head.now) c.args.next.now c.requires.next

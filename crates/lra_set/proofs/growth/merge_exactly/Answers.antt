@@ -1,0 +1,6 @@
+use Rattle.lra_set.proofs.GrowthLemmas.{dims_of_some}
+use Rattle.lra_set.proofs.growth.merge_exactly.Goals as goal
+
+pub returns-in-Exact-clause-dims : goal.returns-in-Exact-clause-dims
+returns-in-Exact-clause-dims g c = λ j e n all. dims_of_some g.D.Domain.meaning c.args.parts.now c.in_ok-joined.joined j
+    c.in_ok-joined.ensures.dims e n all

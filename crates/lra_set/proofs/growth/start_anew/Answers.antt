@@ -1,0 +1,36 @@
+use Rattle.std.proofs.Common.{refl}
+use Rattle.lra_set.proofs.SetLemmas.{anew_starts, both_fit, settled_few, settled_fit}
+use Rattle.lra_set.specs.Forms.{form_of}
+use Rattle.lra_set.proofs.growth.start_anew.Goals as goal
+
+pub settle-requires-clause-fit : goal.settle-requires-clause-fit
+settle-requires-clause-fit g c = (
+  c.args.given.now.dims,
+  both_fit g.D.Domain.meaning c.args.given.now.dims c.args.given.now.dims c.args.parts.items c.args.next.now
+      c.append_copies.new.all.items refl c.in_ok-append_copies.ensures c.requires.fit c.requires.next,
+)
+
+pub start_with-requires : goal.start_with-requires
+start_with-requires g c =
+    let fit = both_fit g.D.Domain.meaning c.args.given.now.dims c.args.given.now.dims c.args.parts.items c.args.next.now
+    c.append_copies.new.all.items refl c.in_ok-append_copies.ensures c.requires.fit c.requires.next in
+    record {
+      fit = settled_fit g.D.Domain.meaning c.args.given.now.dims c.args.cap c.append_copies.new.all.items c.in_ok-settled.settled.items
+          c.in_ok-settled.exactness fit (λ k. c.in_ok-settled.ensures k);
+    }
+
+pub returns-clause-starts : goal.returns-clause-starts
+returns-clause-starts g c =
+    let fit = both_fit g.D.Domain.meaning c.args.given.now.dims c.args.given.now.dims c.args.parts.items c.args.next.now
+    c.append_copies.new.all.items refl c.in_ok-append_copies.ensures c.requires.fit c.requires.next in
+    anew_starts g.D.Domain.meaning c.args.given.now c.args.given.now.dims c.args.cap c.args.parts.items c.args.next.now
+    c.append_copies.new.all.items c.in_ok-settled.settled.items c.in_ok-settled.exactness (form_of c.in_ok-held.held)
+    c.in_ok-append_copies.ensures fit (λ k. c.in_ok-settled.ensures k) c.in_ok-held.ensures.starts
+
+pub returns-clause-fits : goal.returns-clause-fits
+returns-clause-fits g c =
+    let fit = both_fit g.D.Domain.meaning c.args.given.now.dims c.args.given.now.dims c.args.parts.items c.args.next.now
+    c.append_copies.new.all.items refl c.in_ok-append_copies.ensures c.requires.fit c.requires.next in
+    c.in_ok-held.ensures.fits c.args.cap (settled_few g.D.Domain.meaning c.args.given.now.dims c.args.cap
+    c.append_copies.new.all.items c.in_ok-settled.settled.items c.in_ok-settled.exactness fit
+    (λ k. c.in_ok-settled.ensures k))

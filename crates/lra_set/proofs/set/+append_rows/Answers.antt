@@ -1,0 +1,16 @@
+use Rattle.std.proofs.Common.{◌≡◌, ◌∷◌, arith}
+use Rattle.std.proofs.lemmas.Grind.{common_steps}
+use Rattle.lra_set.proofs.SetLemmas.{more_fit, more_mean}
+use Rattle.lra_set.proofs.set.+append_rows.Goals as goal
+
+pub returns-clause-dims : goal.returns-clause-dims
+returns-clause-dims g t c =
+    let cut : c.args.parts.now ≡ c.in-Some.first.now ∷ c.in-Some.later.now = grind (arith, common_steps) in
+    more_fit g.D.Domain.meaning c.args.parts.now c.in-Some.first.now c.in-Some.later.now c.in_ok-rows.rows.items cut
+    c.in_ok-rows.ensures.parts c.in_ok-rows.ensures.dims c.in_ok-append_rows.ensures.dims
+
+pub returns-clause-mean : goal.returns-clause-mean
+returns-clause-mean g t c =
+    let cut : c.args.parts.now ≡ c.in-Some.first.now ∷ c.in-Some.later.now = grind (arith, common_steps) in
+    more_mean g.D.Domain.meaning c.args.parts.now c.in-Some.first.now c.in-Some.later.now c.in_ok-rows.rows.items cut
+    c.in_ok-rows.ensures.parts c.in_ok-rows.ensures.mean c.in_ok-append_rows.ensures.mean

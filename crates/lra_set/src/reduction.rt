@@ -1,0 +1,119 @@
+//! The reduction of a list of parts.
+
+ghost use Rattle.std.specs.Prelude.{◌≡◌, ℕ, List, [], ◌⊎◌, length, IfOk, OnErr, OnOk, vec_len};
+ghost use Rattle.lra_set.specs.Lists.{SomePart};
+ghost use Rattle.lra_set.specs.Reduction.{Goes, GoesStrains};
+ghost use Rattle.lra_set.specs.Values.{PartsInside};
+ghost use Rattle.lra_set.specs.Outcomes.{AreTold, HaveDims, IsReduced, Told, kept};
+
+use crate::answers::{both, either, exactness_of};
+use lra_domain::{Domain, Exactness, Included, Plain};
+use std::alloc::{AllocError, Global};
+
+/// Whether the part lies in one of the others.
+pub fn lies_in_some<D: Plain>(part: &D, others: &[D]) -> Included
+    requires { HaveDims D.meaning (D.meaning.dims part.now) others.now }
+    ensures { Told (SomePart (D.meaning.inside part.now) others.now)
+        (SomePart (D.meaning.inside_strains part.now) others.now) result }
+{
+    let Some((first, later)) = others.split_first() else {
+        return Included::No;
+    };
+    either(part.included(first), lies_in_some(part, later))
+}
+
+/// Whether each part lies in one of the others.
+pub fn all_lie_in<D: Plain>(parts: &[D], others: &[D]) -> Included
+    requires { (n : ℕ) × HaveDims D.meaning n parts.now × HaveDims D.meaning n others.now }
+    ensures { Told (PartsInside D.meaning.inside parts.now others.now)
+        (SomePart (λ p. SomePart (D.meaning.inside_strains p) others.now) parts.now) result }
+{
+    let Some((first, later)) = parts.split_first() else {
+        return Included::Yes;
+    };
+    both(lies_in_some(first, others), all_lie_in(later, others))
+}
+
+/// Whether the part lies in the other, and the other not in it.
+fn lies_below<D: Plain>(part: &D, other: &D) -> Included
+    requires { D.meaning.dims part.now ≡ D.meaning.dims other.now }
+    ensures { let m = D.meaning in let p = part.now in let q = other.now in
+        Told (m.inside p q × ¬ m.inside q p) (m.inside_strains p q ⊎ (m.inside p q × m.inside_strains q p)) result }
+{
+    match part.included(other) {
+        Included::No => Included::No,
+        Included::Wide => Included::Wide,
+        Included::Yes => match other.included(part) {
+            Included::Yes => Included::No,
+            Included::No => Included::Yes,
+            Included::Wide => Included::Wide,
+        },
+    }
+}
+
+/// Whether the part lies in one of the others that doesn't lie in it.
+fn lies_below_some<D: Plain>(part: &D, others: &[D]) -> Included
+    requires { HaveDims D.meaning (D.meaning.dims part.now) others.now }
+    ensures { let m = D.meaning in let p = part.now in Told (SomePart (λ q. m.inside p q × ¬ m.inside q p) others.now)
+        (SomePart (λ q. m.inside_strains p q ⊎ (m.inside p q × m.inside_strains q p)) others.now) result }
+{
+    let Some((first, later)) = others.split_first() else {
+        return Included::No;
+    };
+    either(lies_below(part, first), lies_below_some(part, later))
+}
+
+/// Whether the part goes, with these before it and these behind it.
+fn goes<D: Plain>(before: &[D], part: &D, behind: &[D]) -> Included
+    requires before { HaveDims D.meaning (D.meaning.dims part.now) before.now }
+    requires behind { HaveDims D.meaning (D.meaning.dims part.now) behind.now }
+    ensures { Told (Goes D.meaning before.now part.now behind.now)
+        (GoesStrains D.meaning before.now part.now behind.now) result }
+{
+    either(lies_in_some(part, before), lies_below_some(part, behind))
+}
+
+/// Of each part whether it goes.
+fn tell_all<D: Plain>(alloc: Global, parts: &[D]) -> Result<Vec<Included>, AllocError>
+    requires { (n : ℕ) × HaveDims D.meaning n parts.now }
+    ensures { IfOk result (λ told. AreTold D.meaning [] parts.now told.items) }
+{
+    let mut told = Vec::new(alloc);
+    let mut rest = parts;
+    while let Some((part, behind)) = rest.split_first() {
+        let (before, _) = parts.split_at(told.len());
+        told.push(goes(before, part, behind))?;
+        rest = behind;
+    }
+    Ok(told)
+}
+
+/// Leaves out the parts that go.
+#[tactic(auto, using(crate::proofs::TellLemmas::leaving))]
+fn leave_out<D: Plain>(parts: &mut Vec<D>, told: &[Included])
+    requires { length told.now ≡ vec_len parts.old }
+    ensures { parts.new.items ≡ kept parts.old.items told.now }
+{
+    let mut at = 0;
+    let mut rest = told;
+    while let Some((answer, more)) = rest.split_first() {
+        if *answer == Included::Yes {
+            parts.remove(at);
+        } else {
+            at += 1;
+        }
+        rest = more;
+    }
+}
+
+/// Reduces the list. A part of which it isn't told whether it goes stays, and flags.
+#[tactic(auto, using(crate::proofs::TellLemmas::told_long))]
+pub fn reduce<D: Plain>(alloc: Global, parts: &mut Vec<D>) -> Result<Exactness, AllocError>
+    requires { (n : ℕ) × HaveDims D.meaning n parts.old.items }
+    ensures reduced { IfOk result (λ e. IsReduced D.meaning parts.old.items e parts.new.items) }
+    ensures err { OnErr result (parts.new ≡ parts.old) }
+{
+    let told = tell_all(alloc, parts.as_slice())?;
+    leave_out(parts, told.as_slice());
+    Ok(exactness_of(told.as_slice()))
+}

@@ -1,0 +1,303 @@
+//! Sets of parts as a domain.
+
+ghost use Rattle.std.specs.Prelude.{◌≡◌, ◌≤◌, ◌++◌, ◌^◌, ◌↔◌, ℕ, ℤ, List, [], length, flat_map, IfOk, IsTrue, OnErr};
+ghost use Rattle.std.specs.Prelude.{OnOk};
+ghost use Rattle.std.specs.List.{All};
+ghost use Rattle.lra_domain.specs.Parts.{SomePartHolds};
+ghost use Rattle.lra_domain.specs.Actions.{dims_after};
+ghost use Rattle.lra_domain.specs.Meaning.{Meets};
+ghost use Rattle.lra_set.specs.Lists.{EachPart, SomePart};
+ghost use Rattle.lra_set.specs.Reduction.{Reduces, ReduceStrains};
+ghost use Rattle.lra_set.specs.Values.{PartsInside};
+ghost use Rattle.lra_set.specs.Changes.{ChangeFits, action_of};
+ghost use Rattle.lra_set.specs.Outcomes.{HaveDims, PartFits};
+ghost use Rattle.lra_set.specs.Meaning.{set_meaning};
+
+use crate::answers::worse_of;
+use crate::changes::{Change, append_changed, dims_behind};
+use crate::heads::PowerSetHead;
+use crate::joins::settle;
+use crate::reduction::{all_lie_in, reduce};
+use lra_domain::{Domain, Exactness, Grown, Included, Mode, Plain, Rank};
+use lra_lin::{LinExpr, Test};
+use lra_sys::ConSys;
+use std::alloc::{AllocError, Global};
+use std::marker::Model;
+
+/// A set of parts: a list of at most `cap` of them, of the same dimensions each, none of them empty. Its stores are
+/// those of any part.
+pub struct PowerSet<D: Plain> {
+    alloc: Global,
+    dims: usize,
+    cap: u32,
+    parts: Vec<D>,
+}
+
+impl<D: Plain> Drop for PowerSet<D> {
+    fn drop(self) {
+        let PowerSet {
+            alloc: _,
+            dims: _,
+            cap: _,
+            parts: _,
+        } = self;
+    }
+}
+
+impl<D: Plain> Model for PowerSet<D> {
+    ghost use Rattle.std.specs.Prelude.{◌≤◌, ◌^◌, length};
+    ghost use Rattle.lra_set.specs.Content.{Parts};
+    ghost use Rattle.lra_set.specs.Lists.{EachPart};
+    ghost use Rattle.lra_set.specs.Outcomes.{PartFits};
+
+    ghost Value = { Parts D };
+
+    ghost view = { λ v. record { dims = v.dims; cap = v.cap; parts = v.parts.items } };
+
+    ghost invariant = { λ v. (v.dims ≤ 2 ^ 30) × (1 ≤ v.cap) × (length v.parts.items ≤ v.cap) ×
+        EachPart (PartFits D.meaning v.dims) v.parts.items };
+}
+
+/// Appends copies of the parts.
+pub fn append_copies<D: Plain>(
+    alloc: Global,
+    all: &mut Vec<D>,
+    parts: &[D],
+) -> Result<(), AllocError>
+    ensures { OnOk result (all.new.items ≡ all.old.items ++ parts.now) }
+{
+    let Some((first, later)) = parts.split_first() else {
+        return Ok(());
+    };
+    all.push(first.copy(alloc)?)?;
+    append_copies(alloc, all, later)?;
+    Ok(())
+}
+
+/// Appends the rows that mean the parts.
+fn append_rows<D: Plain>(
+    alloc: Global,
+    all: &mut Vec<ConSys>,
+    parts: &[D],
+) -> Result<(), AllocError>
+    ensures rows { OnOk result (all.new.items ≡ all.old.items ++ flat_map D.meaning.parts parts.now) }
+    ensures dims { OnOk result ((n : ℕ) → HaveDims D.meaning n parts.now →
+        All (λ p. p.dims ≡ n) (flat_map D.meaning.parts parts.now)) }
+    ensures mean { OnOk result ((n : ℕ) → HaveDims D.meaning n parts.now → (s : List ℤ) → length s ≡ n →
+        (SomePart (λ p. D.meaning.has p s) parts.now ↔ SomePartHolds (flat_map D.meaning.parts parts.now) s)) }
+{
+    let Some((first, later)) = parts.split_first() else {
+        return Ok(());
+    };
+    let mut rows = first.parts(alloc)?;
+    all.append(&mut rows)?;
+    append_rows(alloc, all, later)?;
+    Ok(())
+}
+
+/// Whether the parts are the same, in the same order.
+fn are_same<D: Plain>(parts: &[D], others: &[D]) -> bool
+    ensures { IsTrue result ↔ (parts.now ≡ others.now) }
+{
+    let Some((first, later)) = parts.split_first() else {
+        return others.is_empty();
+    };
+    let Some((other, more)) = others.split_first() else {
+        return false;
+    };
+    first.same(other) && are_same(later, more)
+}
+
+impl<D: Plain> PowerSet<D> {
+    // The set with these parts.
+    pub(crate) fn new(alloc: Global, dims: usize, cap: u32, parts: Vec<D>) -> Self
+        requires few { dims ≤ 2 ^ 30 }
+        requires cap { 1 ≤ cap }
+        requires capped { length parts.items ≤ cap }
+        requires fit { EachPart (PartFits D.meaning dims) parts.items }
+        ensures { result ≡ record { dims = dims; cap = cap; parts = parts.items } }
+    {
+        PowerSet {
+            alloc,
+            dims,
+            cap,
+            parts,
+        }
+    }
+
+    /// The most parts that it may have.
+    pub fn cap(&self) -> u32
+        ensures cap { result ≡ self.now.cap }
+        ensures some { 1 ≤ result }
+    {
+        let _parts = &self.parts;
+        self.cap
+    }
+
+    /// The parts, in order; none of them is empty, and each has the set's dimensions.
+    pub fn items(&self) -> &[D]
+        ensures parts { result.now ≡ self.now.parts }
+        ensures fit { EachPart (PartFits D.meaning self.now.dims) self.now.parts }
+        ensures capped { length self.now.parts ≤ self.now.cap }
+        ensures few { self.now.dims ≤ 2 ^ 30 }
+    {
+        self.parts.as_slice()
+    }
+
+    /// The parts are reduced: one that lies in another goes; of two that lie in each other the first stays. Each call
+    /// that changes the set does this by itself. A part of which it isn't told whether it goes stays, and flags.
+    pub fn reduce(&mut self) -> Result<Exactness, AllocError>
+        ensures covers { OnOk result (PartsInside D.meaning.covered self.old.parts self.new.parts) }
+        ensures exact { IfOk result (λ e. e ≡ Exactness.Exact → Reduces D.meaning self.old.parts self.new.parts) }
+        ensures flagged { IfOk result (λ e. e ≡ Exactness.Flagged → ReduceStrains D.meaning self.old.parts) }
+        ensures dims { self.new.dims ≡ self.old.dims }
+        ensures cap { self.new.cap ≡ self.old.cap }
+        ensures err { OnErr result (self.new ≡ self.old) }
+    {
+        reduce(self.alloc, &mut self.parts)
+    }
+
+    /// Each part is changed; those that became empty are left out, and the others are reduced.
+    fn change(&mut self, change: &Change<'_>) -> Result<Exactness, AllocError>
+        requires { ChangeFits change.now self.old.dims }
+        ensures meets { IfOk result (λ a. Meets (set_meaning D.meaning) (action_of change.now) self.old a self.new) }
+        ensures dims { OnOk result (self.new.dims ≡ dims_after (action_of change.now) self.old.dims) }
+        ensures cap { self.new.cap ≡ self.old.cap }
+        ensures capped { length self.new.parts ≤ self.new.cap }
+        ensures err { OnErr result (self.new ≡ self.old) }
+    {
+        let mut changed = Vec::new(self.alloc);
+        let one = append_changed(self.alloc, self.parts.as_slice(), change, &mut changed)?;
+        let (settled, two) = settle(self.alloc, self.cap as usize, changed)?;
+        self.dims = dims_behind(change, self.dims);
+        self.parts = settled;
+        Ok(worse_of(one, two))
+    }
+}
+
+impl<D: Plain> Domain for PowerSet<D> {
+    type Head = PowerSetHead<D>;
+
+    ghost meaning = { set_meaning D.meaning };
+
+    ghost use Rattle.lra_set.specs.Laws.{set_laws};
+
+    ghost laws = { set_laws D.meaning D.laws D.plain };
+
+    fn universe(alloc: Global, n: usize, cap: u32) -> Result<Self, AllocError> {
+        let mut parts = Vec::new(alloc);
+        parts.push(D::universe(alloc, n, cap)?)?;
+        Ok(PowerSet {
+            alloc,
+            dims: n,
+            cap,
+            parts,
+        })
+    }
+
+    fn empty(alloc: Global, n: usize, cap: u32) -> Result<Self, AllocError> {
+        Ok(PowerSet {
+            alloc,
+            dims: n,
+            cap,
+            parts: Vec::new(alloc),
+        })
+    }
+
+    fn copy(&self, alloc: Global) -> Result<Self, AllocError> {
+        let mut parts = Vec::new(alloc);
+        append_copies(alloc, &mut parts, self.parts.as_slice())?;
+        Ok(PowerSet {
+            alloc,
+            dims: self.dims,
+            cap: self.cap,
+            parts,
+        })
+    }
+
+    fn dims(&self) -> usize {
+        self.dims
+    }
+
+    /// Yes exactly where there is no part.
+    fn is_empty(&self) -> bool {
+        self.parts.is_empty()
+    }
+
+    /// Yes where each part lies in some part of the other.
+    fn included(&self, other: &Self) -> Included {
+        all_lie_in(self.parts.as_slice(), other.parts.as_slice())
+    }
+
+    fn same(&self, other: &Self) -> bool {
+        self.dims == other.dims
+            && self.cap == other.cap
+            && are_same(self.parts.as_slice(), other.parts.as_slice())
+    }
+
+    fn assign(&mut self, x: usize, e: &LinExpr) -> Result<Exactness, AllocError> {
+        let exactness = self.change(&Change::Assign(x, e))?;
+        Ok(exactness)
+    }
+
+    fn forget(&mut self, x: usize) -> Result<Exactness, AllocError> {
+        let exactness = self.change(&Change::Forget(x))?;
+        Ok(exactness)
+    }
+
+    fn test(&mut self, t: &Test) -> Result<Exactness, AllocError> {
+        let exactness = self.change(&Change::Test(t))?;
+        Ok(exactness)
+    }
+
+    /// The other's parts are appended, and the list is reduced and kept within the cap.
+    fn join(&mut self, other: &Self) -> Result<Exactness, AllocError> {
+        let mut both = Vec::new(self.alloc);
+        append_copies(self.alloc, &mut both, self.parts.as_slice())?;
+        append_copies(self.alloc, &mut both, other.parts.as_slice())?;
+        let (settled, exactness) = settle(self.alloc, self.cap as usize, both)?;
+        self.parts = settled;
+        Ok(exactness)
+    }
+
+    fn embed(&mut self, k: usize) -> Result<Exactness, AllocError> {
+        let exactness = self.change(&Change::Embed(k))?;
+        Ok(exactness)
+    }
+
+    fn remove_last(&mut self, k: usize) -> Result<Exactness, AllocError> {
+        let exactness = self.change(&Change::RemoveLast(k))?;
+        Ok(exactness)
+    }
+
+    fn parts(&self, alloc: Global) -> Result<Vec<ConSys>, AllocError> {
+        let mut all = Vec::new(alloc);
+        append_rows(alloc, &mut all, self.parts.as_slice())?;
+        Ok(all)
+    }
+
+    /// A single part becomes a head of its own; otherwise the head has the parts.
+    fn start(alloc: Global, first: &Self, given: &ConSys) -> Result<PowerSetHead<D>, AllocError> {
+        let head = PowerSetHead::start(alloc, first, given)?;
+        Ok(head)
+    }
+
+    /// In joining it becomes the set's join with next. Otherwise a head that isn't one part becomes one, the join of
+    /// its parts in order, and that part grows by the join of next's parts in order. Where that can't be told, it is
+    /// given up.
+    fn grow(head: &mut PowerSetHead<D>, next: &Self, mode: Mode) -> Result<Grown, AllocError> {
+        let grown = head.grow(next, mode)?;
+        let _dims = head.dims();
+        Ok(grown)
+    }
+
+    /// The parts that were reached; those of a single part are its value, unless that is empty.
+    fn value(alloc: Global, head: &PowerSetHead<D>) -> Result<(Self, Exactness), AllocError> {
+        let (value, exactness) = head.value(alloc)?;
+        Ok((value, exactness))
+    }
+
+    fn rank(head: &PowerSetHead<D>) -> Rank {
+        head.rank()
+    }
+}
