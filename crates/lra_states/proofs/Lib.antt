@@ -6,3 +6,4 @@ pub mod SamePoints
 pub mod PolyhedronShown
 pub mod PolyhedronParts
 pub mod StateSteps
+pub mod SetShown

@@ -4,6 +4,7 @@
 mod laws;
 mod polyhedron;
 mod rows;
+mod sets;
 mod show;
 mod states;
 

@@ -1,0 +1,7 @@
+use Rattle.lra_states.proofs.SetShown.{state_told}
+use Rattle.lra_states.proofs.sets.PowerSetShow.show.Goals as goal
+
+pub returns-clause-told : goal.returns-clause-told
+returns-clause-told g c =
+    state_told g.D.Domain.meaning g.D.Show.named g.D.Show.shown c.args.self.now c.items.result.now c.items.ensures.parts c.items.ensures.fit
+    c.states_in_turn.result c.states_in_turn.ensures.shown c.states_in_turn.ensures.told
