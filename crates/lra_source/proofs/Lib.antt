@@ -14,3 +14,4 @@ pub mod Readable
 pub mod OneText
 pub mod ReportSteps
 pub mod Holding
+pub mod Sayings

@@ -99,12 +99,12 @@ module _ {V H : Type 0} (m : Meaning V H) (t : FileTree) (g : Node) (sites : Lis
 
 -- the report ---------------------------------------------------------------------------------------------------------
 
-pub is_told : {V H : Type 0} (m : Meaning V H) (shown : V → State) (domain : Domain) (o : Options) (t : FileTree) (g : Node) (sites : List Site)
+pub is_told : {V H : Type 0} (m : Meaning V H) (shown : V → State) (o : Options) (t : FileTree) (g : Node) (sites : List Site)
     (values : List V) (verdicts : List (ℕ × Bool)) (flagged : Option ℕ) (states : List State) (r : Report)
-    → HasGraph t g sites → IsSolved m o (resolve t) g values verdicts flagged → states ≡ map shown values → AreShown m domain shown values
+    → HasGraph t g sites → IsSolved m o (resolve t) g values verdicts flagged → states ≡ map shown values → AreShown m o.domain shown values
     → AllByRecursion (AllByRecursion IsSpelledPart) states → r.options ≡ o → Lists t r → map state_of r.points ≡ states
-    → map told_of r.verdicts ≡ map told verdicts → r.flagged ≡ option_map suc flagged → IsToldOf m shown domain o t r
-is_told m shown domain o t g sites values verdicts flagged states r has solved are are_shown spelled options lists same judged flag = record {
+    → map told_of r.verdicts ≡ map told verdicts → r.flagged ≡ option_map suc flagged → IsToldOf m shown o t r
+is_told m shown o t g sites values verdicts flagged states r has solved are are_shown spelled options lists same judged flag = record {
   names = has.names;
   straight = has.straight;
   within = has.within;
@@ -121,11 +121,11 @@ is_told m shown domain o t g sites values verdicts flagged states r has solved a
     derived = solved.derived;
     written = solved.written;
     strained = solved.strained;
+    are_shown = are_shown;
     states = same ∙ are;
     proved = judged;
     flag = flag;
   };
-  are_shown = are_shown;
   agrees = has.agrees;
   readable = readable t r flagged lists (subst (AllByRecursion (AllByRecursion IsSpelledPart)) (sym same) spelled) flag low;
 }

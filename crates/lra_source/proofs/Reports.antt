@@ -62,8 +62,8 @@ listed_length o ls n (s ∷ ss) (p ∷ ps) l = ap suc (listed_length o ls (suc n
 
 -- reports ------------------------------------------------------------------------------------------------------------
 
-module _ {V H : Type 0} (m : Meaning V H) (laws : Laws m) (domain : Domain) (shown : V → State) (settings : Options) (t : FileTree) (r : Report) (lists : Lists t r)
-    (x : IsAnalysed m shown settings (resolve t) r) (are : AreShown m domain shown x.values) (agrees : Agrees (resolve t) x.tree) where
+module _ {V H : Type 0} (m : Meaning V H) (laws : Laws m) (shown : V → State) (settings : Options) (t : FileTree) (r : Report) (lists : Lists t r)
+    (x : IsAnalysed m shown settings (resolve t) r) (agrees : Agrees (resolve t) x.tree) where
   -- the value at a listed point, by whose state it is shown
   value_of : (k : ℕ) (p : PointReport) → slice_get r.points k ≡ Some p → (v : V) × (slice_get x.values k ≡ Some v) × (p.state ≡ shown v)
   value_of k p listed = map_at (λ (q : PointReport). q.state) shown r.points x.values x.states k p listed
@@ -75,7 +75,7 @@ module _ {V H : Type 0} (m : Meaning V H) (laws : Laws m) (domain : Domain) (sho
       (subst (λ y. At (resolve t) y store) is at) in
       let (w, found', state) = value_of k p listed in
       let same : v ≡ w = same_Some v w (sym found ∙ found') in
-      subst (λ (y : State). Holds y store) (sym (state ∙ ap shown (sym same))) ((are v (contained x.values k v found)).holds store has)
+      subst (λ (y : State). Holds y store) (sym (state ∙ ap shown (sym same))) ((x.are_shown v (contained x.values k v found)).holds store has)
 
   right : (k : ℕ) (a : ℕ × Site) (v : Verdict) → slice_get (assertions_from 1 (sites_of (resolve t))) k ≡ Some a → slice_get r.verdicts k ≡ Some v → (v.number ≡ a.0) × (v.point ≡ point_of a.1) →
       IsRight (resolve t) v
@@ -114,13 +114,13 @@ module _ {V H : Type 0} (m : Meaning V H) (laws : Laws m) (domain : Domain) (sho
       subst (λ (o : Option ℕ). IsFlag (length r.points) o) (sym x.flag) (is_flag (length r.points) x.flagged there)
 
   -- no more parts than the value's cap, each over the variables that are named
-  parts_are : (o : Options) → o.domain ≡ domain → 1 ≤ settings.parts → settings.parts ≤ o.parts
+  parts_are : (o : Options) → o.domain ≡ settings.domain → 1 ≤ settings.parts → settings.parts ≤ o.parts
       → (k : ℕ) (s : Site) (p : PointReport) → slice_get (sites_of (resolve t)) k ≡ Some s → slice_get r.points k ≡ Some p
       → IsListed (globals_named t.parts) (labels_of t) s p → AreParts o p
   parts_are o same some room k s p there listed (is, names) =
       let (v, found, state) = value_of k p listed in
       let here = contained x.values k v found in
-      let one = are v here in
+      let one = x.are_shown v here in
       let capped = solved_capped m laws settings some (resolve t) x.tree x.result x.values x.verdicts x.flagged x.derived x.solves v here in
       let cap : length (m.parts v) ≤ settings.parts = laws.capped_parts v settings.parts capped in
       let few : length (shown v) ≤ o.parts = let many = one.as_many in omega (arith, many, cap, room) in
@@ -129,10 +129,10 @@ module _ {V H : Type 0} (m : Meaning V H) (laws : Laws m) (domain : Domain) (sho
       record {
         few = subst (λ (y : State). length y ≤ o.parts) (sym state) few;
         tell = subst (λ (y : State). AllByRecursion (Tells o.domain (length p.names)) y) (sym state)
-            (subst (λ (d : Domain). AllByRecursion (Tells d (length p.names)) (shown v)) (sym same) (subst (λ (n : ℕ). AllByRecursion (Tells domain n) (shown v)) named one.tell));
+            (subst (λ (d : Domain). AllByRecursion (Tells d (length p.names)) (shown v)) (sym same) (subst (λ (n : ℕ). AllByRecursion (Tells settings.domain n) (shown v)) named one.tell));
       }
 
-  pub is_report : (o : Options) (source : List ℕ) → o.domain ≡ domain → 1 ≤ settings.parts → settings.parts ≤ o.parts → r.options ≡ o → Accepts Spells source t → IsReportOf Spells o source r
+  pub is_report : (o : Options) (source : List ℕ) → o.domain ≡ settings.domain → 1 ≤ settings.parts → settings.parts ≤ o.parts → r.options ≡ o → Accepts Spells source t → IsReportOf Spells o source r
   is_report o source same some room options accepted = record {
     options = options;
     tree = t;
@@ -142,27 +142,3 @@ module _ {V H : Type 0} (m : Meaning V H) (laws : Laws m) (domain : Domain) (sho
     sound = sound;
     flag = flag_there;
   }
-
--- analyses -----------------------------------------------------------------------------------------------------------
-
--- a derivation with drops whose values, verdicts and flag a report tells
-pub analysed : {V H : Type 0} (m : Meaning V H) → Laws m → (shown : V → State) (settings : Options) (P : Program) (r : Report) (tree : Node) (result : Result V) (values : List V)
-    (verdicts : List (ℕ × Bool)) (flagged : Option ℕ)
-    → IsGraph P tree → Derivation m settings P tree result → Solves m result values verdicts flagged
-    → map (λ (p : PointReport). p.state) r.points ≡ map shown values → map verdict_told r.verdicts ≡ map told_verdict verdicts → r.flagged ≡ option_map suc flagged
-    → IsAnalysed m shown settings P r
-analysed m laws shown settings P r tree result values verdicts flagged graph derived solves states proved flag = record {
-  tree = tree;
-  is_graph = graph;
-  result = result;
-  values = values;
-  verdicts = verdicts;
-  flagged = flagged;
-  solves = solves;
-  derived = derived;
-  written = λ none. unflagged_is_written m laws settings P tree result derived (sym solves.is_flagged ∙ none);
-  strained = λ q is. flagged_strains m laws settings P tree result q derived (sym solves.is_flagged ∙ is);
-  states = states;
-  proved = proved;
-  flag = flag;
-}

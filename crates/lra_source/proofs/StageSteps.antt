@@ -19,7 +19,6 @@ use Rattle.lra_operations.specs.Agree.{IsGraph, Agrees}
 use Rattle.lra_program.specs.WellFormed.{IsWellFormed}
 use Rattle.lra_tree.specs.Grammar.{Spells}
 use Rattle.lra_base.specs.declared.options.Domain.{Domain}
-use Rattle.lra_base.specs.declared.options.Domain.TheVariants.{Poly, Box, Oct}
 use Rattle.lra_base.specs.declared.options.Options.{Options}
 use Rattle.lra_findings.specs.Report.{State, Report}
 use Rattle.lra_meaning.specs.Refuse.{limit_fault, RefusesTree, bad_name, recursive, past_limit, Refuse, Accepts}
@@ -37,13 +36,7 @@ use Rattle.lra_base.specs.declared.error.SourceError.{SourceError}
 use Rattle.lra_base.specs.declared.error.SourceError.TheVariants.{Refused, Memory}
 use Rattle.lra_domain.specs.Meaning.{Meaning}
 use Rattle.lra_domain.specs.Laws.{Laws}
-use Rattle.lra_box.specs.Meaning.{box_meaning}
-use Rattle.lra_oct.specs.Meaning.{octagon_meaning}
-use Rattle.lra_polydom.specs.Meaning.{polyhedron_meaning}
-use Rattle.lra_states.specs.Polyhedra.{shown_polyhedron}
-use Rattle.lra_states.specs.Shown.{shown_state}
-use Rattle.lra_source.specs.Analysed.{IsAnalysed}
-use Rattle.lra_source.specs.Answers.{IsAnsweredOver, TellsAnalysis, IsAnswered}
+use Rattle.lra_source.specs.Answers.{IsAnsweredOver}
 use Rattle.lra_source.specs.Stages.{HasTree, HasGraph, IsToldOf}
 use Rattle.lra_source.proofs.Reports.{sound, is_report}
 use Rattle.lra_source.proofs.ReadSteps.{tree_refused}
@@ -113,8 +106,8 @@ limit_refused t P x r labels is names straight passed table told_by =
 pub well : (source : List ℕ) (t : FileTree) → HasTree source t → name_faults t ≡ [] → IsWellFormed (resolve t)
 well source t has names = well_formed t (spelled_are_small source has.tokens t has.parsed.0 has.lexed has.parsed.1 has.parsed.2) names
 
-module _ {V H : Type 0} (m : Meaning V H) (laws : Laws m) (shown : V → State) (domain : Domain) (o : Options) (source : List ℕ) (t : FileTree) (r : Report)
-    (has : HasTree source t) (is : IsToldOf m shown domain o t r) (some : 1 ≤ o.parts) where
+module _ {V H : Type 0} (m : Meaning V H) (laws : Laws m) (shown : V → State) (o : Options) (source : List ℕ) (t : FileTree) (r : Report)
+    (has : HasTree source t) (is : IsToldOf m shown o t r) (some : 1 ≤ o.parts) where
   accepted : Accepts Spells source t
   accepted = record {
     tokens = has.tokens;
@@ -127,9 +120,9 @@ module _ {V H : Type 0} (m : Meaning V H) (laws : Laws m) (shown : V → State) 
   }
 
   -- a source whose tree's report is told
-  pub is_answered : o.domain ≡ domain → IsAnsweredOver m shown o source r
-  is_answered same =
-      let whole = is_report m laws domain shown o t r is.lists is.analysed is.are_shown is.agrees o source same some (omega arith) is.options accepted in
+  pub is_answered : IsAnsweredOver m shown o source r
+  is_answered =
+      let whole = is_report m laws shown o t r is.lists is.analysed is.agrees o source refl some (omega arith) is.options accepted in
       record {
         report = record {
           options = is.options;
@@ -137,7 +130,7 @@ module _ {V H : Type 0} (m : Meaning V H) (laws : Laws m) (shown : V → State) 
           accepted = accepted;
           lists = is.lists;
           parts = whole.parts;
-          sound = sound m laws domain shown o t r is.lists is.analysed is.are_shown is.agrees;
+          sound = sound m laws shown o t r is.lists is.analysed is.agrees;
           flag = whole.flag;
         };
         analysed = is.analysed;
@@ -147,34 +140,10 @@ module _ {V H : Type 0} (m : Meaning V H) (laws : Laws m) (shown : V → State) 
 -- and so with what a tree's answer is, whichever it is
 module _ (o : Options) (source : List ℕ) (t : FileTree) (has : HasTree source t) where
   pub each_answered : {V H : Type 0} (m : Meaning V H) (laws : Laws m) (shown : V → State) (x : Result code.Report SourceError) → 1 ≤ o.parts
-      → IfOk x (λ r. IsToldOf m shown o.domain o t (report_of r)) →
+      → IfOk x (λ r. IsToldOf m shown o t (report_of r)) →
       IfOk x (λ r. IsAnsweredOver m shown o source (report_of r))
-  each_answered m laws shown (Ok r) some is = is_answered m laws shown o.domain o source t (report_of r) has is some refl
+  each_answered m laws shown (Ok r) some is = is_answered m laws shown o source t (report_of r) has is some
   each_answered m laws shown (Err e) some is = tt
 
   pub each_refused : (x : Result code.Report SourceError) → IfRefused x (λ (r : Refusal). RefusesTree t r.cause r.place) → IfRefused x (λ (r : Refusal). Refuse Spells source r.cause r.place)
   each_refused x = refused_by _ _ (λ r. tree_refused source t r.cause r.place has) x
-
--- the domain that the options name
-told_over : {V H : Type 0} (m : Meaning V H) (shown : V → State) (d : Domain) (o : Options) (source : List ℕ) (r : Report) → o.domain ≡ d
-    → ((P : Program) → IsAnalysed m shown o P r → TellsAnalysis d o P r) → IsAnsweredOver m shown o source r → IsAnswered o source r
-told_over m shown d o source r is tells over = record {
-  report = over.report;
-  analysed = subst (λ (e : Domain). TellsAnalysis e o (resolve over.report.tree) r) (sym is) (tells (resolve over.report.tree) over.analysed);
-  readable = over.readable;
-}
-
-pub over_polyhedra : (o : Options) (source : List ℕ) (x : Result code.Report SourceError) → o.domain ≡ Poly → IfOk x (λ r. IsAnsweredOver polyhedron_meaning shown_polyhedron o source (report_of r))
-    → IfOk x (λ r. IsAnswered o source (report_of r))
-over_polyhedra o source (Ok r) is over = told_over polyhedron_meaning shown_polyhedron Poly o source (report_of r) is (λ P h. h) over
-over_polyhedra o source (Err e) is over = tt
-
-pub over_boxes : (o : Options) (source : List ℕ) (x : Result code.Report SourceError) → o.domain ≡ Box → IfOk x (λ r. IsAnsweredOver box_meaning (shown_state box_meaning) o source (report_of r)) →
-    IfOk x (λ r. IsAnswered o source (report_of r))
-over_boxes o source (Ok r) is over = told_over box_meaning (shown_state box_meaning) Box o source (report_of r) is (λ P h. h) over
-over_boxes o source (Err e) is over = tt
-
-pub over_octagons : (o : Options) (source : List ℕ) (x : Result code.Report SourceError) → o.domain ≡ Oct
-    → IfOk x (λ r. IsAnsweredOver octagon_meaning (shown_state octagon_meaning) o source (report_of r)) → IfOk x (λ r. IsAnswered o source (report_of r))
-over_octagons o source (Ok r) is over = told_over octagon_meaning (shown_state octagon_meaning) Oct o source (report_of r) is (λ P h. h) over
-over_octagons o source (Err e) is over = tt

@@ -9,6 +9,7 @@ use Rattle.lra_findings.specs.Report.{State, PointReport, Verdict, Report}
 use Rattle.lra_base.specs.declared.options.Options.{Options}
 use Rattle.lra_flow.specs.Pass.{Result}
 use Rattle.lra_flow.specs.Analysis.{Written, Derivation, Strains, Solves}
+use Rattle.lra_states.specs.Shown.{AreShown}
 
 -- a verdict as a report tells it; a point's number in a report is one more than in the iteration
 abbrev pub told_verdict : ℕ × Bool → ℕ × Bool
@@ -33,6 +34,8 @@ pub record IsAnalysed {V H : Type 0} (m : Meaning V H) (shown : V → State) (se
   pub derived : Derivation m settings P tree result
   pub written : flagged ≡ None → Written m settings P tree result
   pub strained : (q : ℕ) → flagged ≡ Some q → Strains m settings P tree q
+  -- each value is shown as it is: the rows of its state mean it
+  pub are_shown : AreShown m settings.domain shown values
   -- and the report tells it
   pub states : map (λ (p : PointReport). p.state) r.points ≡ map shown values
   pub proved : map verdict_told r.verdicts ≡ map told_verdict verdicts

@@ -1,5 +1,5 @@
 -- What a source deserves: its one refusal (`Refuse`), or a report of it that tells the analysis.
-use Rattle.std.specs.Prelude.{ℕ, List}
+use Rattle.std.specs.Prelude.{ℕ, suc, List}
 use Rattle.lra_base.specs.declared.options.Domain.{Domain}
 use Rattle.lra_base.specs.declared.options.Domain.TheVariants.{Poly, Box, Oct}
 use Rattle.lra_base.specs.declared.options.Options.{Options}
@@ -13,7 +13,10 @@ use Rattle.lra_domain.specs.Meaning.{Meaning}
 use Rattle.lra_box.specs.Meaning.{box_meaning}
 use Rattle.lra_oct.specs.Meaning.{octagon_meaning}
 use Rattle.lra_polydom.specs.Meaning.{polyhedron_meaning}
+use Rattle.lra_set.specs.Content.{Parts, Head}
+use Rattle.lra_set.specs.Meaning.{set_meaning}
 use Rattle.lra_states.specs.Polyhedra.{shown_polyhedron}
+use Rattle.lra_states.specs.Sets.{shown_set}
 use Rattle.lra_states.specs.Shown.{shown_state}
 use Rattle.lra_source.specs.Analysed.{IsAnalysed}
 
@@ -25,18 +28,31 @@ pub record IsAnsweredOver {V H : Type 0} (m : Meaning V H) (shown : V → State)
   pub analysed : IsAnalysed m shown o (resolve report.tree) r
   pub readable : IsReadable r
 
--- what is said of this domain's meaning, and of the states that show its values
-abbrev pub Over : Domain → ((V H : Type 0) → Meaning V H → (V → State) → Type 0) → Type 0
-Over Poly say = say _ _ polyhedron_meaning shown_polyhedron
-Over Box say = say _ _ box_meaning (shown_state box_meaning)
-Over Oct say = say _ _ octagon_meaning (shown_state octagon_meaning)
+-- what is said of a domain's meaning, and of the states that show its values
+abbrev pub Saying : Type 1
+Saying = (V H : Type 0) → Meaning V H → (V → State) → Type 0
 
--- the report tells an analysis of the program over this domain
-abbrev pub TellsAnalysis : Domain → Options → Program → Report → Type 0
-TellsAnalysis domain o P r = Over domain (λ V H m shown. IsAnalysed m shown o P r)
+-- it is said of the sets of a domain's values where there may be more parts than one, else of the domain itself
+abbrev pub AloneOrSets : ℕ → Saying → Saying
+AloneOrSets (suc (suc n)) say V H m shown = say (Parts V) (Head V H) (set_meaning m) (shown_set shown)
+AloneOrSets n say V H m shown = say V H m shown
 
--- so a source is answered: over the domain that the options name
+-- it is said of this domain
+abbrev pub OverDomain : Domain → Saying → Type 0
+OverDomain Poly say = say _ _ polyhedron_meaning shown_polyhedron
+OverDomain Box say = say _ _ box_meaning (shown_state box_meaning)
+OverDomain Oct say = say _ _ octagon_meaning (shown_state octagon_meaning)
+
+-- it is said of the domain and the number of parts that the options name
+abbrev pub Over : Options → Saying → Type 0
+Over o say = OverDomain o.domain (AloneOrSets o.parts say)
+
+-- the report tells an analysis of the program over these
+abbrev pub TellsAnalysis : Options → Program → Report → Type 0
+TellsAnalysis o P r = Over o (λ V H m shown. IsAnalysed m shown o P r)
+
+-- so a source is answered: over the domain and the number of parts that the options name
 pub record IsAnswered (o : Options) (source : List ℕ) (r : Report) : Type 0 where
   pub report : IsReportOf Spells o source r
-  pub analysed : TellsAnalysis o.domain o (resolve report.tree) r
+  pub analysed : TellsAnalysis o (resolve report.tree) r
   pub readable : IsReadable r

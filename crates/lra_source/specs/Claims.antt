@@ -19,7 +19,6 @@ use Rattle.lra_report.specs.Listing.{Lists, IsReportOf}
 use Rattle.lra_iter.specs.Fits.{TreeFits}
 use Rattle.lra_iter.specs.Numbers.{AreBelow, IsNumbered}
 use Rattle.lra_domain.specs.Meaning.{Meaning}
-use Rattle.lra_states.specs.Shown.{AreShown}
 use Rattle.lra_source.specs.Analysed.{IsAnalysed}
 use Rattle.lra_source.specs.Answers.{IsAnswered}
 
@@ -52,19 +51,18 @@ TreesFit = (P : Program) (g : Node) → IsWellFormed P → AreFew (sites_of P) �
 abbrev pub TreesAreNumbered : Type 0
 TreesAreNumbered = (P : Program) (g : Node) → IsGraph P g → IsNumbered (sites_of P) g × AreBelow (length (sites_of P)) g
 
--- where tree and runs agree, and values are shown as they are: the states hold in all runs, and no assertion that is
--- marked proved fails
+-- where tree and runs agree the states hold in all runs, and no assertion that is marked proved fails
 abbrev pub AnalysedAreSound : {V H : Type 0} → Meaning V H → Type 0
-AnalysedAreSound {V} m = (domain : Domain) (shown : V → State) (settings : Options) (t : FileTree) (r : Report)
-    → (x : IsAnalysed m shown settings (resolve t) r) → AreShown m domain shown x.values
-    → Agrees (resolve t) x.tree → Lists t r → IsSound (resolve t) r
+AnalysedAreSound {V} m = (shown : V → State) (settings : Options) (t : FileTree) (r : Report)
+    → (x : IsAnalysed m shown settings (resolve t) r) → Agrees (resolve t) x.tree → Lists t r → IsSound (resolve t) r
 
--- and of an accepted source it is a report, under options that allow as many parts as the analysis had, or more
+-- and of an accepted source it is a report, under options that name the analysis' domain and allow as many parts as it
+-- had, or more
 abbrev pub AnalysedAreReports : {V H : Type 0} → Meaning V H → Type 0
 AnalysedAreReports {V} m = (shown : V → State) (o : Options) (settings : Options) (source : List ℕ) (t : FileTree)
     (r : Report)
     → (x : IsAnalysed m shown settings (resolve t) r)
-    → AreShown m o.domain shown x.values → 1 ≤ settings.parts → settings.parts ≤ o.parts
+    → o.domain ≡ settings.domain → 1 ≤ settings.parts → settings.parts ≤ o.parts
     → Agrees (resolve t) x.tree → Lists t r → r.options ≡ o → Accepts Spells source t → IsReportOf Spells o source r
 
 -- two answers to one source under one list of options that have the same text are the same report

@@ -20,7 +20,6 @@ use Rattle.lra_meaning.specs.Refuse.{limit_fault}
 use Rattle.lra_tree.specs.Reach.{NotRecursive}
 use Rattle.lra_report.specs.Spelled.{IsReadable}
 use Rattle.lra_domain.specs.Meaning.{Meaning}
-use Rattle.lra_states.specs.Shown.{AreShown}
 use Rattle.lra_source.specs.Analysed.{IsAnalysed}
 use Rattle.lra_source.specs.Claims.{AreFew}
 
@@ -43,16 +42,14 @@ pub record HasGraph (t : FileTree) (tree : Node) (sites : List Site) : Type 0 wh
   pub agrees : Agrees (resolve t) tree
   pub points : sites ≡ sites_of (resolve t)
 
--- a report that lists the points of such a tree, tells what an analysis of its program found over this domain, shows
--- the values as they are, and is told by its text
-pub record IsToldOf {V H : Type 0} (m : Meaning V H) (shown : V → State) (domain : Domain) (o : Options) (t : FileTree)
-    (r : Report) : Type 0 where
+-- a report that lists the points of such a tree, tells what an analysis of its program found, and is told by its text
+pub record IsToldOf {V H : Type 0} (m : Meaning V H) (shown : V → State) (o : Options) (t : FileTree) (r : Report)
+    : Type 0 where
   pub names : name_faults t ≡ []
   pub straight : NotRecursive t
   pub within : limit_fault (labels_of t) 0 (events_of (resolve t)) ≡ None
   pub options : r.options ≡ o
   pub lists : Lists t r
   pub analysed : IsAnalysed m shown o (resolve t) r
-  pub are_shown : AreShown m domain shown analysed.values
   pub agrees : Agrees (resolve t) analysed.tree
   pub readable : IsReadable r

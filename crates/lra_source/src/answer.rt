@@ -11,13 +11,14 @@ ghost use Rattle.lra_program.specs.WellFormed.{IsWellFormed};
 ghost use Rattle.lra_tree.specs.Grammar.{Spells};
 ghost use Rattle.lra_meaning.specs.Refuse.{RefusesTree, Refuse};
 ghost use Rattle.lra_report.specs.View.{report_of};
-ghost use Rattle.lra_source.specs.Answers.{IsAnsweredOver, IsAnswered};
+ghost use Rattle.lra_source.specs.Answers.{IsAnsweredOver, AloneOrSets, IsAnswered};
 ghost use Rattle.lra_source.specs.Stages.{HasGraph, IsToldOf};
 
 use crate::program::{graph_of, program_of};
 use crate::reading::read_tree;
 use lra_base::{Domain, Options, SourceError};
 use lra_box::Boxes;
+use lra_domain::Plain;
 use lra_iter::analyse;
 use lra_listing::{Outline, list};
 use lra_meaning::Labels;
@@ -25,6 +26,7 @@ use lra_oct::Octagon;
 use lra_operations::Graph;
 use lra_polydom::Polyhedron;
 use lra_report::Report;
+use lra_set::PowerSet;
 use lra_states::{Show, states_of};
 use lra_tree::Tree;
 use std::alloc::{AllocError, Global};
@@ -43,7 +45,7 @@ fn report_graph<D: Show>(
     requires graph { HasGraph (tree_view tree.now) (node_view graph.now.tree) (map site_view graph.now.sites.items) }
     requires labels { labels.now.labels ≡ labels_of (tree_view tree.now) }
     requires globals { (resolve (tree_view tree.now)).globals ≡ globals.now }
-    ensures { IfOk result (λ r. IsToldOf D.meaning D.shown options.domain options
+    ensures { IfOk result (λ r. IsToldOf D.meaning D.shown options
         (tree_view tree.now) (report_of r)) }
 {
     let solution = analyse::<D>(alloc, &options, globals, graph)?;
@@ -68,7 +70,7 @@ fn report_tree<D: Show>(alloc: Global, options: Options, tree: &Tree) -> Result<
     requires parts { 1 ≤ options.parts }
     requires named { options.domain ≡ D.named }
     requires well { name_faults (tree_view tree.now) ≡ [] → IsWellFormed (resolve (tree_view tree.now)) }
-    ensures told { IfOk result (λ r. IsToldOf D.meaning D.shown options.domain options
+    ensures told { IfOk result (λ r. IsToldOf D.meaning D.shown options
         (tree_view tree.now) (report_of r)) }
     ensures refused { IfRefused result (λ r. RefusesTree (tree_view tree.now) r.cause r.place) }
 {
@@ -85,7 +87,7 @@ fn report_tree<D: Show>(alloc: Global, options: Options, tree: &Tree) -> Result<
     )?)
 }
 
-/// The report of a source over the domain that the options name, or its one refusal.
+/// The report of a source over a domain that shows its values as the options name it, or its one refusal.
 fn analyse_over<D: Show>(
     alloc: Global,
     options: Options,
@@ -102,9 +104,30 @@ fn analyse_over<D: Show>(
     report_tree::<D>(alloc, options, &tree)
 }
 
-/// The report of a source over the domain that the options name, or its one refusal; memory may be wanting. A source
-/// past the limit of 65,536 bytes is refused by its first bytes, so that no more than one byte past the limit need be
-/// given.
+/// The report of a source over the sets of a domain's values where the options allow more parts than one, else over the
+/// domain itself; or its one refusal.
+fn analyse_parts<D: Show + Plain>(
+    alloc: Global,
+    options: Options,
+    bytes: &[u8],
+) -> Result<Report, SourceError>
+    requires parts { 1 ≤ options.parts }
+    requires named { options.domain ≡ D.named }
+    requires bound { length bytes.now + 1 < 2 ^ 32 }
+    ensures answered { IfOk result (λ r. AloneOrSets options.parts
+        (λ V H m shown. IsAnsweredOver m shown options bytes.now (report_of r)) _ _ D.meaning D.shown) }
+    ensures refused { IfRefused result (λ r. Refuse Spells bytes.now r.cause r.place) }
+{
+    if options.parts > 1 {
+        analyse_over::<PowerSet<D>>(alloc, options, bytes)
+    } else {
+        analyse_over::<D>(alloc, options, bytes)
+    }
+}
+
+/// The report of a source over the domain and the number of parts that the options name, or its one refusal; memory may
+/// be wanting. A source past the limit of 65,536 bytes is refused by its first bytes, so that no more than one byte past
+/// the limit need be given.
 pub fn analyse_source(alloc: Global, options: Options, bytes: &[u8]) -> Result<Report, SourceError>
     requires parts { 1 ≤ options.parts }
     requires bound { length bytes.now + 1 < 2 ^ 32 }
@@ -112,8 +135,8 @@ pub fn analyse_source(alloc: Global, options: Options, bytes: &[u8]) -> Result<R
     ensures refused { IfRefused result (λ r. Refuse Spells bytes.now r.cause r.place) }
 {
     match options.domain {
-        Domain::Poly => analyse_over::<Polyhedron>(alloc, options, bytes),
-        Domain::Box => analyse_over::<Boxes>(alloc, options, bytes),
-        Domain::Oct => analyse_over::<Octagon>(alloc, options, bytes),
+        Domain::Poly => analyse_parts::<Polyhedron>(alloc, options, bytes),
+        Domain::Box => analyse_parts::<Boxes>(alloc, options, bytes),
+        Domain::Oct => analyse_parts::<Octagon>(alloc, options, bytes),
     }
 }

@@ -1,11 +1,25 @@
-use Rattle.lra_source.proofs.StageSteps.{over_polyhedra, over_boxes, over_octagons}
+use Rattle.std.proofs.lemmas.Result.{IfOk-weaker}
+use Rattle.lra_base.specs.declared.options.Domain.TheVariants.{Poly, Box, Oct}
+use Rattle.lra_box.specs.Meaning.{box_meaning}
+use Rattle.lra_oct.specs.Meaning.{octagon_meaning}
+use Rattle.lra_polydom.specs.Meaning.{polyhedron_meaning}
+use Rattle.lra_report.specs.View.{report_of}
+use Rattle.lra_states.specs.Polyhedra.{shown_polyhedron}
+use Rattle.lra_states.specs.Shown.{shown_state}
+use Rattle.lra_source.proofs.Sayings.{over_domain}
 use Rattle.lra_source.proofs.answer.analyse_source.Goals as goal
 
 pub returns-in-Poly-clause-answered : goal.returns-in-Poly-clause-answered
-returns-in-Poly-clause-answered c = over_polyhedra c.args.options c.args.bytes.now c.analyse_over.result c.in-Poly.is c.analyse_over.ensures.answered
+returns-in-Poly-clause-answered c =
+    IfOk-weaker c.analyse_parts.result _ _ (λ r. over_domain Poly c.args.options c.args.bytes.now polyhedron_meaning shown_polyhedron c.in-Poly.is (λ say h. h) (report_of r))
+    c.analyse_parts.ensures.answered
 
 pub returns-in-Box-clause-answered : goal.returns-in-Box-clause-answered
-returns-in-Box-clause-answered c = over_boxes c.args.options c.args.bytes.now c.analyse_over-in-Box.result c.in-Box.is c.analyse_over-in-Box.ensures.answered
+returns-in-Box-clause-answered c =
+    IfOk-weaker c.analyse_parts-in-Box.result _ _ (λ r. over_domain Box c.args.options c.args.bytes.now box_meaning (shown_state box_meaning) c.in-Box.is (λ say h. h) (report_of r))
+    c.analyse_parts-in-Box.ensures.answered
 
 pub returns-in-Oct-clause-answered : goal.returns-in-Oct-clause-answered
-returns-in-Oct-clause-answered c = over_octagons c.args.options c.args.bytes.now c.analyse_over-in-Oct.result c.in-Oct.is c.analyse_over-in-Oct.ensures.answered
+returns-in-Oct-clause-answered c =
+    IfOk-weaker c.analyse_parts-in-Oct.result _ _ (λ r. over_domain Oct c.args.options c.args.bytes.now octagon_meaning (shown_state octagon_meaning) c.in-Oct.is (λ say h. h) (report_of r))
+    c.analyse_parts-in-Oct.ensures.answered

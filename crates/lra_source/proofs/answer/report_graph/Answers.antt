@@ -58,7 +58,7 @@ returns g c =
     let o = c.args.options in
     let values = c.in_ok-solution.solution.values.items in
     let shown : map (λ x. x.items) c.in_ok-states.states.items ≡ map g.D.Show.shown values = c.in_ok-states.ensures.shown ∙ ap (map _) c.deref.ensures.value in
-    is_told g.D.Domain.meaning g.D.Show.shown o.domain o (tree_view c.args.tree.now) (node_view c.args.graph.now.tree) (map site_view c.args.graph.now.sites.items)
+    is_told g.D.Domain.meaning g.D.Show.shown o (tree_view c.args.tree.now) (node_view c.args.graph.now.tree) (map site_view c.args.graph.now.sites.items)
     values c.in_ok-solution.solution.verdicts.items c.in_ok-solution.solution.flagged (map (λ x. x.items) c.in_ok-states.states.items) (report_of c.in_ok-report.report) c.requires.graph
     (c.in_ok-solution.ensures.solved (resolve (tree_view c.args.tree.now)) c.requires.globals)
     shown (shown_there g.D.Domain.meaning g.D.Show.shown o.domain g.D.Show.named values _ c.requires.named c.deref.ensures.value c.in_ok-states.ensures.told)

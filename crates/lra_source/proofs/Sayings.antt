@@ -1,0 +1,60 @@
+-- What is said of a domain or of its sets, as the options name them.
+use Rattle.std.proofs.Common.{◌≡◌, ℕ, zero, suc, ◌≤◌, ◌<◌, List, sym, subst, arith}
+use Rattle.lra_base.specs.declared.options.Domain.{Domain}
+use Rattle.lra_base.specs.declared.options.Domain.TheVariants.{Poly, Box, Oct}
+use Rattle.lra_base.specs.declared.options.Options.{Options}
+use Rattle.lra_domain.specs.Meaning.{Meaning}
+use Rattle.lra_findings.specs.Report.{State, Report}
+use Rattle.lra_meaning.specs.Resolve.{resolve}
+use Rattle.lra_program.specs.Program.{Program}
+use Rattle.lra_set.specs.Content.{Parts, Head}
+use Rattle.lra_set.specs.Meaning.{set_meaning}
+use Rattle.lra_states.specs.Sets.{shown_set}
+use Rattle.lra_source.specs.Analysed.{IsAnalysed}
+use Rattle.lra_source.specs.Answers.{Saying, AloneOrSets, OverDomain, Over, IsAnsweredOver, TellsAnalysis, IsAnswered}
+
+module _ (say : Saying) {V H : Type 0} (m : Meaning V H) (shown : V → State) where
+  pub over_sets : (n : ℕ) → 1 < n → say (Parts V) (Head V H) (set_meaning m) (shown_set shown) → AloneOrSets n say V H m shown
+  over_sets zero some h = absurd (omega (arith, some))
+  over_sets (suc zero) some h = absurd (omega (arith, some))
+  over_sets (suc (suc n)) some h = h
+
+  pub over_one : (n : ℕ) → n ≤ 1 → say V H m shown → AloneOrSets n say V H m shown
+  over_one zero few h = h
+  over_one (suc zero) few h = h
+  over_one (suc (suc n)) few h = absurd (omega (arith, few))
+
+-- what follows over each domain follows over those that the options name
+module _ (say tell : Saying) (follows : (V H : Type 0) (m : Meaning V H) (shown : V → State) → say V H m shown → tell V H m shown) where
+  each_number : (n : ℕ) (V H : Type 0) (m : Meaning V H) (shown : V → State) → AloneOrSets n say V H m shown → AloneOrSets n tell V H m shown
+  each_number zero V H m shown h = follows V H m shown h
+  each_number (suc zero) V H m shown h = follows V H m shown h
+  each_number (suc (suc n)) V H m shown h = follows (Parts V) (Head V H) (set_meaning m) (shown_set shown) h
+
+  each_domain : (d : Domain) (n : ℕ) → OverDomain d (AloneOrSets n say) → OverDomain d (AloneOrSets n tell)
+  each_domain Poly n h = each_number n _ _ _ _ h
+  each_domain Box n h = each_number n _ _ _ _ h
+  each_domain Oct n h = each_number n _ _ _ _ h
+
+  pub over_each : (o : Options) → Over o say → Over o tell
+  over_each o h = each_domain o.domain o.parts h
+
+-- what answers over this domain answers as the options say
+module _ (d : Domain) (o : Options) (source : List ℕ) {V H : Type 0} (m : Meaning V H) (shown : V → State) (is : o.domain ≡ d) (names : (say : Saying) → say V H m shown → OverDomain d say)
+    (r : Report) where
+  abbrev Answers : ℕ → Type 0
+  Answers n = AloneOrSets n (λ V H m shown. IsAnsweredOver m shown o source r) V H m shown
+
+  abbrev Analyses : ℕ → Program → Saying
+  Analyses n P = AloneOrSets n (λ V H m shown. IsAnalysed m shown o P r)
+
+  tells : (P : Program) → Analyses o.parts P V H m shown → TellsAnalysis o P r
+  tells P h = subst (λ (e : Domain). OverDomain e (Analyses o.parts P)) (sym is) (names (Analyses o.parts P) h)
+
+  answers : (n : ℕ) → Answers n → ((P : Program) → Analyses n P V H m shown → TellsAnalysis o P r) → IsAnswered o source r
+  answers zero a told = record { report = a.report; analysed = told (resolve a.report.tree) a.analysed; readable = a.readable }
+  answers (suc zero) a told = record { report = a.report; analysed = told (resolve a.report.tree) a.analysed; readable = a.readable }
+  answers (suc (suc n)) a told = record { report = a.report; analysed = told (resolve a.report.tree) a.analysed; readable = a.readable }
+
+  pub over_domain : Answers o.parts → IsAnswered o source r
+  over_domain a = answers o.parts a tells
