@@ -14,12 +14,15 @@ use Rattle.lra_findings.specs.Report.{State, Part, Holds, PointReport, Report, I
 use Rattle.lra_findings.specs.Parts.{Tells, HasSamePoints}
 use Rattle.lra_report.specs.Listing.{AreParts}
 use Rattle.lra_source.specs.Analysed.{IsAnalysed}
-use Rattle.lra_source.specs.Answers.{Over, IsAnswered}
-use Rattle.lra_words.specs.Built.{Asks}
-use Rattle.lra_words.specs.declared.chosen.Command.TheVariants.{Analyse}
-use Rattle.lra_top.specs.SourceAnswer.{IsReport, DeservesSource}
+use Rattle.lra_source.specs.Answers.{IsAnswered}
+use Rattle.lra_source.proofs.Sayings.{over_each}
+use Rattle.lra_sample.specs.Sample.{sample_source}
+use Rattle.lra_sample.specs.Summary.{summary_text}
+use Rattle.lra_words.specs.Chosen.{Asks, default_options}
+use Rattle.lra_words.specs.declared.chosen.Command.TheVariants.{Analyse, Sample}
+use Rattle.lra_top.specs.SourceAnswer.{IsReport, DeservesSource, written_report}
 use Rattle.lra_top.specs.Run.{IsInput, IsDeserved}
-use Rattle.lra_top.specs.Headline.{IsReported, WritesReport, IsNeverReached, HoldsInAllRuns, TellsWritten, IsWrittenUnlessFlagged, ShowsSamePoints, TellsSamePoints}
+use Rattle.lra_top.specs.Headline.{IsReported, WritesReport, IsNeverReached, HoldsInAllRuns, TellsWritten, IsWrittenUnlessFlagged, ShowsSamePoints, TellsSamePoints, WritesSummary}
 use Rattle.lra_top.proofs.Ways.{asked_input}
 use Rattle.lra_top.specs.declared.status.Status.{Status}
 use Rattle.lra_top.specs.declared.status.Status.TheVariants.{Proved, Unknown, Refused, Usage, ReadFault, WriteFault, Memory}
@@ -60,19 +63,17 @@ tells_written m shown o P r free x =
       verdicts = x.verdicts;
       solves = subst (λ (f : Option ℕ). Solves m x.result x.values x.verdicts f) none x.solves;
       states = x.states;
+      are_shown = x.are_shown;
       proved = x.proved;
     }
-
-over_each : (d : Domain) (o : Options) (P : Program) (r : Report) → r.flagged ≡ None → Over d (λ V H m shown. IsAnalysed m shown o P r) → Over d (λ V H m shown. TellsWritten m shown o P r)
-over_each Poly o P r free x = tells_written _ _ o P r free x
-over_each Box o P r free x = tells_written _ _ o P r free x
-over_each Oct o P r free x = tells_written _ _ o P r free x
 
 pub is_written : (o : Options) (bytes : List ℕ) (r : Report) → IsAnswered o bytes r → IsWrittenUnlessFlagged o bytes r
 is_written o bytes r a = record {
   tree = a.report.tree;
   accepted = a.report.accepted;
-  tells = λ free. over_each o.domain o (resolve a.report.tree) r free a.analysed;
+  tells = λ free.
+      let P = resolve a.report.tree in
+      over_each (λ V H m shown. IsAnalysed m shown o P r) (λ V H m shown. TellsWritten m shown o P r) (λ V H m shown x. tells_written m shown o P r free x) o a.analysed;
 }
 
 -- rows and generators -------------------------------------------------------------
@@ -93,9 +94,10 @@ same_points o bytes r a is = same_at o r.points is a.report.parts
 
 -- what is written -----------------------------------------------------------------
 
-module _ (so : List ℕ → Report → Type 0) (words : List (List ℕ)) (left held_old held_new : Option (List ℕ)) (options : Options) (json : Bool)
+module _ (so : List ℕ → Report → Type 0) (left held_old held_new : Option (List ℕ)) (options : Options) (write : Report → List ℕ)
     (claimed : (bytes : List ℕ) (r : Report) → IsAnswered options bytes r → so bytes r) where
-  of_report : (bytes text : List ℕ) (unknown : ℕ) → IsReport options bytes text unknown → IsInput left bytes → Appends held_old held_new text → WritesReport options so left held_old held_new
+  of_report : (bytes text : List ℕ) (unknown : ℕ) → IsReport options write bytes text unknown → IsInput left bytes → Appends held_old held_new text
+      → WritesReport options write so left held_old held_new
   of_report bytes text unknown r input written = record {
     bytes = bytes;
     input = input;
@@ -105,8 +107,8 @@ module _ (so : List ℕ → Report → Type 0) (words : List (List ℕ)) (left h
     is_so = claimed bytes r.report r.answered;
   }
 
-  of_status : (status : Status) (bytes text : List ℕ) → IsReported status → IsInput left bytes → DeservesSource options bytes text status → Appends held_old held_new text
-      → WritesReport options so left held_old held_new
+  of_status : (status : Status) (bytes text : List ℕ) → IsReported status → IsInput left bytes → DeservesSource options write bytes text status → Appends held_old held_new text
+      → WritesReport options write so left held_old held_new
   of_status Proved bytes text reported input d written = of_report bytes text 0 d input written
   of_status Unknown bytes text reported input d written = of_report bytes text d.0 d.2 input written
   of_status Refused bytes text reported input d written = absurd reported
@@ -115,7 +117,20 @@ module _ (so : List ℕ → Report → Type 0) (words : List (List ℕ)) (left h
   of_status WriteFault bytes text reported input d written = absurd reported
   of_status Memory bytes text reported input d written = absurd reported
 
-  pub writes_report : (status : Status) (text : List ℕ) → Asks words (Analyse options json) → IsReported status → IsDeserved words left text status → Appends held_old held_new text
-      → WritesReport options so left held_old held_new
-  writes_report status text asks reported d written =
-      of_status status d.bytes text reported d.input (asked_input words d.bytes text status (Analyse options json) asks d.deserved) written
+pub writes_report : (so : List ℕ → Report → Type 0) (words : List (List ℕ)) (left held_old held_new : Option (List ℕ)) (options : Options) (json : Bool)
+    → ((bytes : List ℕ) (r : Report) → IsAnswered options bytes r → so bytes r) → (status : Status) (text : List ℕ)
+    → Asks words (Analyse options json) → IsReported status → IsDeserved words left text status → Appends held_old held_new text
+    → WritesReport options (written_report json) so left held_old held_new
+writes_report so words left held_old held_new options json claimed status text asks reported d written =
+    of_status so left held_old held_new options (written_report json) claimed status d.bytes text reported d.input
+    (asked_input words d.bytes text status (Analyse options json) asks d.deserved) written
+
+all_held : (bytes : List ℕ) (r : Report) → IsAnswered default_options bytes r → HoldsInAllRuns bytes r × IsWrittenUnlessFlagged default_options bytes r × TellsSamePoints default_options bytes r
+all_held bytes r a = (holds default_options bytes r a, is_written default_options bytes r a, same_points default_options bytes r a)
+
+pub writes_summary : (words : List (List ℕ)) (left held_old held_new : Option (List ℕ)) (seed size : ℕ) (status : Status) (text : List ℕ)
+    → Asks words (Sample seed size) → IsReported status → IsDeserved words left text status → Appends held_old held_new text
+    → WritesSummary seed size held_old held_new
+writes_summary words left held_old held_new seed size status text asks reported d written =
+    of_status _ (Some (sample_source seed size)) held_old held_new default_options (summary_text seed size) all_held status (sample_source seed size) text reported refl
+    (asked_input words d.bytes text status (Sample seed size) asks d.deserved) written

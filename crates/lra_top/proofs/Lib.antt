@@ -1,4 +1,6 @@
 pub mod ScriptWays
 pub mod SourceWays
+pub mod SampleWays
 pub mod Ways
 pub mod Headline
+pub mod OneWritten

@@ -1,6 +1,6 @@
 -- From what words and their input deserve to what a call of `run` does.
-use Rattle.std.proofs.Common.{◌≡◌, ◌≤◌, ◌<◌, ◌+◌, ℕ, List, [], ◌++◌, length, refl, sym, arith, append-nil, subst, Bool}
-use Rattle.std.specs.Prelude.{Option, Some, None, Ok, Err}
+use Rattle.std.proofs.Common.{◌≡◌, ◌≤◌, ◌<◌, ◌+◌, ℕ, List, [], ◌++◌, length, refl, sym, arith, append-nil, subst, Bool, inl, inr}
+use Rattle.std.specs.Prelude.{Option, Some, None, Result, Ok, Err, IfOk}
 use Rattle.std.specs.Io.KnownBytes.{Consumes, IsAtEnd}
 use Rattle.lra_base.specs.declared.options.Options.{Options}
 use Rattle.lra_base.specs.declared.refusals.Cause.{Cause}
@@ -11,13 +11,17 @@ use Rattle.lra_tree.specs.Tokens.{greatest_length}
 use Rattle.lra_meaning.specs.Refuse.{Refuse, Accepts}
 use Rattle.lra_edge.specs.ReadEnd.{LosesFront}
 use Rattle.lra_calc.specs.Script as script
-use Rattle.lra_words.specs.Built.{Asks, AsksNone, AsksFor}
+use Rattle.lra_sample.specs.Sample.{sample_source}
+use Rattle.lra_sample.specs.Summary.{summary_text}
+use Rattle.lra_sample.proofs.Samples.{accepted as all_accepted}
+use Rattle.lra_words.specs.Chosen.{Asks, AsksNone, AsksFor, IsWithinRanges, default_options}
 use Rattle.lra_words.specs.declared.chosen.Command.{Command}
 use Rattle.lra_words.specs.declared.chosen.Command.TheVariants.{Analyse, Sample, Calc}
-use Rattle.lra_words.proofs.OneCommand.{one_asked, asks_not_none}
-use Rattle.lra_top.specs.SourceAnswer.{IsTooLong, IsUnrefused}
+use Rattle.lra_words.proofs.OneCommand.{one_asked, asks_not_none, asks_within}
+use Rattle.lra_top.specs.SourceAnswer.{IsTooLong, IsUnrefused, written_report}
+use Rattle.lra_top.specs.SampleAnswer.{DeservesSample}
 use Rattle.lra_top.specs.Ends.{IsAnswer, EndsInUsage, EndsInRefusal, EndsInReport, EndsBySource, EndsInOutput, IsReportOrMemory, IsOutputOrMemory}
-use Rattle.lra_top.specs.Run.{IsInput, usage_text, AsksSome, DeservesInput, Deserves, IsDeserved}
+use Rattle.lra_top.specs.Run.{IsInput, usage_text, Reads, AsksReader, AsksNoReader, DeservesInput, Deserves, IsDeserved, ReadsInput}
 use Rattle.lra_top.specs.Prepared.{IsInputText}
 use Rattle.lra_top.proofs.SourceWays.{longer_source, source_answer, source_refused, source_reported, source_ended, source_unrefused, source_too_long}
 use Rattle.lra_top.proofs.ScriptWays.{longer_script, too_long_never_runs, script_answer, script_refusal, script_output}
@@ -58,7 +62,7 @@ past_front old new n bytes taken past = (bytes, taken, omega arith)
 -- one byte past the limit says as much as the whole input --------------------------
 
 longer_input : (c : Command) (bytes rest text : List ℕ) (status : Status) → greatest_length < length bytes → DeservesInput c bytes text status → DeservesInput c (bytes ++ rest) text status
-longer_input (Analyse options json) bytes rest text status long d = longer_source options bytes rest text status long d
+longer_input (Analyse options json) bytes rest text status long d = longer_source options (written_report json) bytes rest text status long d
 longer_input (Sample seed size) bytes rest text status long d = d
 longer_input Calc bytes rest text status long d = longer_script bytes rest text status long d
 
@@ -73,11 +77,33 @@ too_long_input c old new bytes shown text status d same read past =
 
 pub ruleset reading = (whole_text, too_long_input, whole_front, past_front)
 
+-- samples --------------------------------------------------------------------------
+
+some_input : (left : Option (List ℕ)) → (bytes : List ℕ) × IsInput left bytes
+some_input None = ([], tt)
+some_input (Some left) = (left, refl)
+
+-- what a sample deserves doesn't depend on the input
+pub sample_input : (c : Command) (seed size : ℕ) (left : Option (List ℕ)) (text : List ℕ) (status : Status) → c ≡ Sample seed size → DeservesSample seed size text status
+    → IsInputText c left text status
+sample_input c seed size left text status is d =
+    let (bytes, input) = some_input left in
+    let deserved : DeservesInput (Sample seed size) bytes text status = d in
+    record { bytes = bytes; input = input; deserved = subst (λ x. DeservesInput x bytes text status) (sym is) deserved }
+
+pub analyse_reads : (c : Command) (options : Options) (json : Bool) → c ≡ Analyse options json → Reads c
+analyse_reads c options json is = subst Reads (sym is) tt
+
+pub calc_reads : (c : Command) → c ≡ Calc → Reads c
+calc_reads c is = subst Reads (sym is) tt
+
+pub ruleset commanding = (sample_input, unread_front, analyse_reads, calc_reads)
+
 -- words ------------------------------------------------------------------------------
 
 answer_of : (c : Command) (bytes text : List ℕ) (status : Status) → DeservesInput c bytes text status → IsAnswer status
-answer_of (Analyse options json) bytes text status d = source_answer options bytes text status d
-answer_of (Sample seed size) bytes text status d = absurd d
+answer_of (Analyse options json) bytes text status d = source_answer options (written_report json) bytes text status d
+answer_of (Sample seed size) bytes text status d = source_answer default_options (summary_text seed size) (sample_source seed size) text status d
 answer_of Calc bytes text status d = script_answer bytes text status d
 
 command_deserves : (words : List (List ℕ)) (bytes text : List ℕ) (status : Status) (c : Command) → Asks words c → IsAnswer status → DeservesInput c bytes text status
@@ -102,15 +128,21 @@ deserved_asked words left text status c asks d = record {
 pub some_asked : (words : List (List ℕ)) (asked : Option Command) (c : Command) → AsksFor words asked → asked ≡ Some c → AsksNone words → ⊥
 some_asked words asked c asks is none = let h : Asks words c = subst (AsksFor words) is asks in asks_not_none words c h none
 
-pub asked_some : (words : List (List ℕ)) (asked : Option Command) (c : Command) → AsksFor words asked → asked ≡ Some c → AsksSome words
-asked_some words asked c asks is = (c, subst (AsksFor words) is asks)
+-- of a command that reads its input
+pub asked_reader : (words : List (List ℕ)) (asked : Option Command) (c : Command) → AsksFor words asked → asked ≡ Some c → Reads c → AsksReader words
+asked_reader words asked c asks is reads = (c, subst (AsksFor words) is asks, reads)
+
+pub no_reader : (words : List (List ℕ)) (asked : Option Command) (c : Command) → AsksFor words asked → asked ≡ Some c → AsksNoReader words → Reads c → ⊥
+no_reader words asked c asks is (inl none) reads = some_asked words asked c asks is none
+no_reader words asked c asks is (inr (d, other, unread)) reads = unread (subst Reads (one_asked words c d (subst (AsksFor words) is asks) other) reads)
+
+pub reads_asked : {T E : Type 0} (words : List (List ℕ)) (asked : Option Command) (c : Command) (result : Result T E) (old new : Option (List ℕ)) → AsksFor words asked → asked ≡ Some c
+    → IfOk result (λ t. Reads c → ReadsInput old new) → IfOk result (λ t. (d : Command) → Asks words d → Reads d → ReadsInput old new)
+reads_asked words asked c (Ok t) old new asks is read = λ d other reads. read (subst Reads (one_asked words d c other (subst (AsksFor words) is asks)) reads)
+reads_asked words asked c (Err e) old new asks is read = tt
 
 pub none_asked : (words : List (List ℕ)) (asked : Option Command) → AsksFor words asked → asked ≡ None → AsksNone words
 none_asked words asked asks is = let h : AsksNone words = subst (AsksFor words) is asks in h
-
-some_input : (left : Option (List ℕ)) → (bytes : List ℕ) × IsInput left bytes
-some_input None = ([], tt)
-some_input (Some left) = (left, refl)
 
 -- words that ask for none
 pub deserved_usage : (words : List (List ℕ)) (left : Option (List ℕ)) (text : List ℕ) (status : Status)
@@ -132,11 +164,10 @@ usage_of words bytes text ReadFault d none = d
 usage_of words bytes text WriteFault d none = tt
 usage_of words bytes text Memory d none = tt
 
-too_long_of : (c : Command) (bytes text : List ℕ) (status : Status) → DeservesInput c bytes text status → IsTooLong bytes → EndsInRefusal status
-too_long_of (Analyse options json) bytes text status d long =
-    source_too_long options bytes text status d long
-too_long_of (Sample seed size) bytes text status d long = absurd d
-too_long_of Calc bytes text status d long = script_refusal bytes text status d (too_long_never_runs bytes long)
+too_long_of : (c : Command) (bytes text : List ℕ) (status : Status) → Reads c → DeservesInput c bytes text status → IsTooLong bytes → EndsInRefusal status
+too_long_of (Analyse options json) bytes text status reads d long = source_too_long options (written_report json) bytes text status d long
+too_long_of (Sample seed size) bytes text status reads d long = absurd reads
+too_long_of Calc bytes text status reads d long = script_refusal bytes text status d (too_long_never_runs bytes long)
 
 -- the input that tells its bytes is these bytes
 the_input : (left : Option (List ℕ)) (bytes told : List ℕ) → IsInput left bytes → left ≡ Some told → told ≡ bytes
@@ -163,24 +194,35 @@ pub none_status : (words : List (List ℕ)) (left : Option (List ℕ)) (text : L
 none_status words left text status d none = usage_of words d.bytes text status d.deserved none
 
 pub too_long_status : (words : List (List ℕ)) (left : Option (List ℕ)) (text : List ℕ) (status : Status) (told : List ℕ) (c : Command) → IsDeserved words left text status
-    → Asks words c → left ≡ Some told → IsTooLong told → EndsInRefusal status
-too_long_status words left text status told c d asks tells long = too_long_of c told text status (told_input words left text status told c d asks tells) long
+    → Asks words c → Reads c → left ≡ Some told → IsTooLong told → EndsInRefusal status
+too_long_status words left text status told c d asks reads tells long = too_long_of c told text status reads (told_input words left text status told c d asks tells) long
 
 pub refused_status : (words : List (List ℕ)) (left : Option (List ℕ)) (text : List ℕ) (status : Status) (told : List ℕ) (options : Options) (json : Bool) (cause : Cause) (at : Place)
     → IsDeserved words left text status → Asks words (Analyse options json) → left ≡ Some told → Refuse Spells told cause at → EndsInRefusal status
 refused_status words left text status told options json cause at d asks tells refused =
-    source_refused options told text status cause at (told_input words left text status told (Analyse options json) d asks tells) refused
+    source_refused options (written_report json) told text status cause at (told_input words left text status told (Analyse options json) d asks tells) refused
 
 pub accepted_status : (words : List (List ℕ)) (left : Option (List ℕ)) (text : List ℕ) (status : Status) (told : List ℕ) (options : Options) (json : Bool) (t : FileTree)
     → IsDeserved words left text status → Asks words (Analyse options json) → left ≡ Some told → Accepts Spells told t → EndsInReport status
 accepted_status words left text status told options json t d asks tells accepted =
-    source_reported options told text status t (told_input words left text status told (Analyse options json) d asks tells) accepted
+    source_reported options (written_report json) told text status t (told_input words left text status told (Analyse options json) d asks tells) accepted
 
 pub source_status : (words : List (List ℕ)) (left : Option (List ℕ)) (text : List ℕ) (status : Status) (told : List ℕ) (options : Options) (json : Bool)
     → IsDeserved words left text status → Asks words (Analyse options json) → left ≡ Some told → EndsBySource told status
 source_status words left text status told options json d asks tells =
     let deserved = told_input words left text status told (Analyse options json) d asks tells in
-    source_ended told status (λ c at r. source_refused options told text status c at deserved r) (λ t a. source_reported options told text status t deserved a)
+    source_ended told status (λ c at r. source_refused options (written_report json) told text status c at deserved r) (λ t a. source_reported options (written_report json) told text status t deserved a)
+
+-- a sample
+sample_asked : (words : List (List ℕ)) (left : Option (List ℕ)) (text : List ℕ) (status : Status) (seed size : ℕ)
+    → IsDeserved words left text status → Asks words (Sample seed size) → DeservesSample seed size text status
+sample_asked words left text status seed size d asks = asked_input words d.bytes text status (Sample seed size) asks d.deserved
+
+pub sample_status : (words : List (List ℕ)) (left : Option (List ℕ)) (text : List ℕ) (status : Status) (seed size : ℕ)
+    → IsDeserved words left text status → Asks words (Sample seed size) → EndsInReport status
+sample_status words left text status seed size d asks =
+    let (tree, accepted) = all_accepted seed size (asks_within words (Sample seed size) asks) in
+    source_reported default_options (summary_text seed size) (sample_source seed size) text status tree (sample_asked words left text status seed size d asks) accepted
 
 -- no text is there
 pub no_text : (told : List ℕ) (status : Status) → EndsInRefusal status → EndsInReport status → EndsBySource told status
@@ -220,4 +262,9 @@ complete_of words bytes text Memory d ends = tt
 pub complete_status : (words : List (List ℕ)) (left : Option (List ℕ)) (text : List ℕ) (status : Status) (told : List ℕ) (options : Options) (json : Bool)
     → IsDeserved words left text status → Asks words (Analyse options json) → left ≡ Some told → IsUnrefused told → IsReportOrMemory status
 complete_status words left text status told options json d asks tells free =
-    complete_of words d.bytes text status d.deserved (source_unrefused options told text status (told_input words left text status told (Analyse options json) d asks tells) free)
+    complete_of words d.bytes text status d.deserved (source_unrefused options (written_report json) told text status (told_input words left text status told (Analyse options json) d asks tells) free)
+
+pub complete_sample_status : (words : List (List ℕ)) (left : Option (List ℕ)) (text : List ℕ) (status : Status) (seed size : ℕ)
+    → IsDeserved words left text status → Asks words (Sample seed size) → IsReportOrMemory status
+complete_sample_status words left text status seed size d asks =
+    complete_of words d.bytes text status d.deserved (sample_status words left text status seed size d asks)

@@ -1,5 +1,5 @@
--- What is claimed of the report whose text a call writes.
-use Rattle.std.specs.Prelude.{◌≡◌, ℕ, ℤ, List, [], length, map, Bool, Option, None}
+-- What is claimed of the report that a call writes.
+use Rattle.std.specs.Prelude.{◌≡◌, ℕ, ℤ, List, [], length, map, Bool, Option, None, Some}
 use Rattle.std.specs.List.{AllByRecursion}
 use Rattle.std.specs.Io.KnownBytes.{Appends}
 use Rattle.lra_base.specs.declared.options.Domain.TheVariants.{Poly}
@@ -16,17 +16,20 @@ use Rattle.lra_domain.specs.Meaning.{Meaning}
 use Rattle.lra_flow.specs.Pass.{Result}
 use Rattle.lra_flow.specs.Analysis.{Written, Solves}
 use Rattle.lra_findings.specs.Report.{State, PointReport, Report, IsSound}
-use Rattle.lra_findings.specs.ReportText.{report_text}
 use Rattle.lra_findings.specs.Parts.{HasSamePoints}
 use Rattle.lra_report.specs.Listing.{Lists}
 use Rattle.lra_source.specs.Analysed.{told_verdict, verdict_told}
+use Rattle.lra_sample.specs.Sample.{sample_source}
+use Rattle.lra_sample.specs.Summary.{summary_text}
 use Rattle.lra_source.specs.Answers.{Over, IsAnswered}
+use Rattle.lra_states.specs.Shown.{AreShown}
+use Rattle.lra_words.specs.Chosen.{default_options}
 use Rattle.lra_top.specs.Run.{IsInput}
 use Rattle.lra_top.specs.declared.status.Status.{Status}
 use Rattle.lra_top.specs.declared.status.Status.TheVariants.{Proved, Unknown, Refused, Usage, ReadFault, WriteFault}
 use Rattle.lra_top.specs.declared.status.Status.TheVariants.{Memory}
 
--- the statuses with which a report is written, where the words ask for one
+-- the statuses with which a report is written, where the words ask for one or for a sample
 abbrev pub IsReported : Status → Type 0
 IsReported Proved = Unit {0}
 IsReported Unknown = Unit {0}
@@ -36,15 +39,15 @@ IsReported ReadFault = ⊥
 IsReported WriteFault = ⊥
 IsReported Memory = ⊥
 
--- The report that the input deserves under the options, which has a text of its own, is written whole, and so it is with
--- the input's bytes and this report.
-pub record WritesReport (o : Options) (so : List ℕ → Report → Type 0) (left held_old held_new : Option (List ℕ))
-    : Type 0 where
+-- What `write` makes of a report that the input deserves under the options is written whole, and so it is with the
+-- input's bytes and this report.
+pub record WritesReport (o : Options) (write : Report → List ℕ) (so : List ℕ → Report → Type 0)
+    (left held_old held_new : Option (List ℕ)) : Type 0 where
   pub bytes : List ℕ
   pub input : IsInput left bytes
   pub report : Report
   pub deserved : IsAnswered o bytes report
-  pub written : Appends held_old held_new (report_text report)
+  pub written : Appends held_old held_new (write report)
   pub is_so : so bytes report
 
 -- no run comes to a point that is shown as unreachable
@@ -60,8 +63,8 @@ pub record HoldsInAllRuns (bytes : List ℕ) (r : Report) : Type 0 where
   pub sound : IsSound (resolve tree) r
   pub unreached : AllByRecursion (IsNeverReached (resolve tree)) r.points
 
--- the report tells what the written iteration finds: at each point the state that shows its value there, and on each
--- assertion its verdict
+-- the report tells what the written iteration finds: at each point the state that shows its value there, whose rows
+-- mean the value, and on each assertion its verdict
 pub record TellsWritten {V H : Type 0} (m : Meaning V H) (shown : V → State) (o : Options) (P : Program) (r : Report)
     : Type 0 where
   pub tree : Node
@@ -72,13 +75,14 @@ pub record TellsWritten {V H : Type 0} (m : Meaning V H) (shown : V → State) (
   pub verdicts : List (ℕ × Bool)
   pub solves : Solves m result values verdicts None
   pub states : map (λ (p : PointReport). p.state) r.points ≡ map shown values
+  pub are_shown : AreShown m o.domain shown values
   pub proved : map verdict_told r.verdicts ≡ map told_verdict verdicts
 
 -- where nothing is flagged, every value is the written iteration's
 pub record IsWrittenUnlessFlagged (o : Options) (bytes : List ℕ) (r : Report) : Type 0 where
   pub tree : FileTree
   pub accepted : Accepts Spells bytes tree
-  pub tells : r.flagged ≡ None → Over o.domain (λ V H m shown. TellsWritten m shown o (resolve tree) r)
+  pub tells : r.flagged ≡ None → Over o (λ V H m shown. TellsWritten m shown o (resolve tree) r)
 
 abbrev pub ShowsSamePoints : PointReport → Type 0
 ShowsSamePoints p = AllByRecursion (HasSamePoints (length p.names)) p.state
@@ -86,3 +90,10 @@ ShowsSamePoints p = AllByRecursion (HasSamePoints (length p.names)) p.state
 -- over polyhedra the rows and the generators of each part tell the same points, flagged or not
 abbrev pub TellsSamePoints : Options → List ℕ → Report → Type 0
 TellsSamePoints o bytes r = o.domain ≡ Poly → AllByRecursion ShowsSamePoints r.points
+
+-- what is told of a report of the sample is written whole, and all of this is claimed of that report
+abbrev pub WritesSummary : ℕ → ℕ → Option (List ℕ) → Option (List ℕ) → Type 0
+WritesSummary seed size held_old held_new = WritesReport default_options (summary_text seed size)
+    (λ source r. HoldsInAllRuns source r × IsWrittenUnlessFlagged default_options source r
+    × TellsSamePoints default_options source r)
+    (Some (sample_source seed size)) held_old held_new

@@ -1,13 +1,14 @@
 -- What a call of `run` does, by its status.
-use Rattle.std.specs.Prelude.{◌≡◌, ◌<◌, ◌⊎◌, ◌+◌, ℕ, List, length, codes, Option, Some, None}
+use Rattle.std.specs.Prelude.{◌≡◌, ◌<◌, ◌⊎◌, ◌+◌, ⊤, ℕ, List, length, codes, Option, Some, None}
 use Rattle.std.specs.Io.KnownBytes.{Appends, Consumes, IsAtEnd}
 use Rattle.lra_edge.specs.Causes.{AppendsPart}
 use Rattle.lra_findings.specs.ReportText.{text_line}
 use Rattle.lra_tree.specs.Tokens.{greatest_length}
-use Rattle.lra_words.specs.Built.{Asks, AsksNone}
+use Rattle.lra_words.specs.Chosen.{Asks, AsksNone}
 use Rattle.lra_words.specs.declared.chosen.Command.{Command}
 use Rattle.lra_words.specs.declared.chosen.Command.TheVariants.{Analyse, Sample, Calc}
-use Rattle.lra_top.specs.SourceAnswer.{DeservesSource}
+use Rattle.lra_top.specs.SourceAnswer.{DeservesSource, written_report}
+use Rattle.lra_top.specs.SampleAnswer.{DeservesSample}
 use Rattle.lra_top.specs.ScriptAnswer.{DeservesScript}
 use Rattle.lra_top.specs.declared.status.Status.{Status}
 use Rattle.lra_top.specs.declared.status.Status.TheVariants.{Proved, Unknown, Refused, Usage, ReadFault, WriteFault}
@@ -18,17 +19,27 @@ abbrev pub IsInput : Option (List ℕ) → List ℕ → Type 0
 IsInput None bytes = Unit {0}
 IsInput (Some left) bytes = left ≡ bytes
 
--- the text and the status that the input of a command deserves
+-- the commands that read their input
+abbrev pub Reads : Command → Type 0
+Reads (Analyse options json) = ⊤
+Reads (Sample seed size) = ⊥
+Reads Calc = ⊤
+
+-- the text and the status that a command deserves, by these bytes of the input where it reads it
 abbrev pub DeservesInput : Command → List ℕ → List ℕ → Status → Type 0
-DeservesInput (Analyse options json) bytes text status = DeservesSource options bytes text status
-DeservesInput (Sample seed size) bytes text status = ⊥
+DeservesInput (Analyse options json) bytes text status = DeservesSource options (written_report json) bytes text status
+DeservesInput (Sample seed size) bytes text status = DeservesSample seed size text status
 DeservesInput Calc bytes text status = DeservesScript bytes text status
 
--- the words ask for a command
-abbrev pub AsksSome : List (List ℕ) → Type 0
-AsksSome words = (c : Command) × Asks words c
+-- the words ask for a command that reads its input
+abbrev pub AsksReader : List (List ℕ) → Type 0
+AsksReader words = (c : Command) × Asks words c × Reads c
 
--- the words ask for a command of which the input deserves the text
+-- the words ask for no command, or for one that doesn't read its input
+abbrev pub AsksNoReader : List (List ℕ) → Type 0
+AsksNoReader words = AsksNone words ⊎ ((c : Command) × Asks words c × (Reads c → ⊥))
+
+-- the words ask for a command that deserves the text
 pub record DeservesCommand (words : List (List ℕ)) (bytes text : List ℕ) (status : Status) : Type 0 where
   pub command : Command
   pub asked : Asks words command

@@ -1,11 +1,14 @@
 //! The one call of the analyser: from the words of a command line and the bytes of its input to the text of a report,
-//! of a script's output or of a refusal.
+//! of a sample's summary, of a script's output or of a refusal.
 #![tactic(auto)]
 
 mod answer;
+mod law;
+mod sample_answer;
 mod source_answer;
 mod status;
 mod top_call;
 
+pub use law::one_written_report;
 pub use status::Status;
 pub use top_call::run;

@@ -5,11 +5,11 @@ ghost use Rattle.lra_top.specs.Exit.{exit_of};
 /// How a call of [`run`](crate::run) ended.
 #[derive(Clone, Copy, Debug, PartialEq, Eq)]
 pub enum Status {
-    /// The report is written, and each assertion is proved.
+    /// The report, or what is told of a sample's, is written, and each assertion is proved; or a script's output is.
     Proved,
-    /// The report is written, and some verdict is unknown.
+    /// The report, or what is told of a sample's, is written, and some verdict is unknown.
     Unknown,
-    /// The refusal of the source is written.
+    /// The refusal of the source or the script is written.
     Refused,
     /// The words name no command; this is written.
     Usage,

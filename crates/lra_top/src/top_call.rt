@@ -5,9 +5,9 @@ ghost use Rattle.std.specs.Io.KnownBytes.{Appends, Keeps};
 ghost use Rattle.lra_edge.specs.Causes.{Rose};
 ghost use Rattle.lra_edge.specs.ReadEnd.{LosesFront};
 ghost use Rattle.lra_calc.specs.Script as script;
-ghost use Rattle.lra_words.specs.Built.{IsBuilt, Asks, AsksNone};
 ghost use Rattle.lra_words.specs.declared.chosen.Command.{Command};
-ghost use Rattle.lra_words.specs.declared.chosen.Command.TheVariants.{Analyse, Calc};
+ghost use Rattle.lra_words.specs.declared.chosen.Command.TheVariants.{Analyse, Sample, Calc};
+ghost use Rattle.lra_words.specs.Chosen.{Asks, AsksNone, IsWithinRanges};
 ghost use Rattle.lra_base.specs.declared.options.Options.{Options};
 ghost use Rattle.lra_base.specs.declared.refusals.Cause.{Cause};
 ghost use Rattle.lra_base.specs.declared.refusals.Place.{Place};
@@ -15,16 +15,18 @@ ghost use Rattle.lra_tree.specs.Trees.{FileTree};
 ghost use Rattle.lra_tree.specs.Grammar.{Spells};
 ghost use Rattle.lra_tree.specs.Tokens.{greatest_length};
 ghost use Rattle.lra_meaning.specs.Refuse.{Refuse, Accepts};
-ghost use Rattle.lra_top.specs.SourceAnswer.{IsTooLong, IsUnrefused};
+ghost use Rattle.lra_top.specs.SourceAnswer.{IsTooLong, IsUnrefused, written_report};
 ghost use Rattle.lra_top.specs.ScriptAnswer.{DeservesScript};
-ghost use Rattle.lra_top.specs.Run.{usage_text, AsksSome, DeservesInput, IsDeserved, Writes, WritesPart, ReadsInput};
+ghost use Rattle.lra_top.specs.Run.{usage_text, Reads, AsksReader, AsksNoReader, DeservesInput, IsDeserved, Writes};
+ghost use Rattle.lra_top.specs.Run.{WritesPart, ReadsInput};
 ghost use Rattle.lra_top.specs.Ends.{EndsInUsage, EndsInRefusal, EndsInReport, EndsBySource, EndsInOutput};
 ghost use Rattle.lra_top.specs.Ends.{IsReportOrMemory, IsOutputOrMemory};
 ghost use Rattle.lra_top.specs.Headline.{IsReported, WritesReport, HoldsInAllRuns, IsWrittenUnlessFlagged};
-ghost use Rattle.lra_top.specs.Headline.{TellsSamePoints};
+ghost use Rattle.lra_top.specs.Headline.{TellsSamePoints, WritesSummary};
 ghost use Rattle.lra_top.specs.Prepared.{IsInputText, PrepareCause};
 
 use crate::answer::Answer;
+use crate::sample_answer::answer_sample;
 use crate::source_answer::answer_source;
 use crate::status::Status;
 use lra_calc::{CalcError, script};
@@ -79,14 +81,15 @@ fn refuse_words(alloc: Global) -> Result<Answer, AllocError>
     })
 }
 
-/// What a command answers to an input, of which no more than one byte past the limit is given.
+/// What a command that reads its input answers to it; no more than one byte past the limit is given.
 fn answer_input(alloc: Global, command: Command, bytes: &[u8]) -> Result<Answer, AllocError>
-    requires built { IsBuilt command }
+    requires ranges { IsWithinRanges command }
+    requires reads { Reads command }
     requires bound { length bytes.now + 1 < 2 ^ 32 }
     ensures { IfOk result (λ a. DeservesInput command bytes.now a.text.items a.status) }
 {
     match command {
-        Command::Analyse { options, .. } => answer_source(alloc, options, bytes),
+        Command::Analyse { options, json } => answer_source(alloc, options, json, bytes),
         Command::Calc => answer_script(alloc, bytes),
         Command::Sample { .. } => unreachable!(),
     }
@@ -99,7 +102,8 @@ fn prepare_input<S: Source>(
     command: Command,
     source: &mut S,
 ) -> Result<Answer, NoAnswer>
-    requires { IsBuilt command }
+    requires ranges { IsWithinRanges command }
+    requires reads { Reads command }
     ensures deserved { IfOk result (λ a. IsInputText command (S.left source.old) a.text.items a.status) }
     ensures reads { IfOk result (λ _. ReadsInput (S.left source.old) (S.left source.new)) }
     ensures front { LosesFront (S.left source.old) (S.left source.new) greatest_length }
@@ -113,27 +117,51 @@ fn prepare_input<S: Source>(
     }
 }
 
+/// What a command answers; a sample leaves the input as it is.
+#[tactic(auto, using(crate::proofs::Ways::commanding))]
+fn prepare_command<S: Source>(
+    alloc: Global,
+    command: Command,
+    source: &mut S,
+) -> Result<Answer, NoAnswer>
+    requires { IsWithinRanges command }
+    ensures deserved { IfOk result (λ a. IsInputText command (S.left source.old) a.text.items a.status) }
+    ensures reads { IfOk result (λ _. Reads command → ReadsInput (S.left source.old) (S.left source.new)) }
+    ensures front { LosesFront (S.left source.old) (S.left source.new) greatest_length }
+    ensures cause { PrepareCause (S.faults source.old) (S.faults source.new) result }
+    ensures unread { (Reads command → ⊥) → S.left source.new ≡ S.left source.old }
+    ensures untouched { (Reads command → ⊥) → S.faults source.new ≡ S.faults source.old }
+    ensures taken { IsErrOf result NoAnswer.ReadFault → Reads command }
+{
+    match command {
+        Command::Analyse { .. } => prepare_input(alloc, command, source),
+        Command::Sample { seed, size } => Ok(answer_sample(alloc, seed, size)?),
+        Command::Calc => prepare_input(alloc, command, source),
+    }
+}
+
 /// Everything but the writing.
 #[tactic(auto, using(crate::proofs::Ways::preparing))]
 fn prepare<S: Source>(alloc: Global, words: &[String], source: &mut S) -> Result<Answer, NoAnswer>
     ensures deserved { IfOk result (λ a.
         IsDeserved (map string_bytes words.now) (S.left source.old) a.text.items a.status) }
-    ensures reads { IfOk result (λ _. (c : Command) → Asks (map string_bytes words.now) c →
+    ensures reads { IfOk result (λ _. (c : Command) → Asks (map string_bytes words.now) c → Reads c →
         ReadsInput (S.left source.old) (S.left source.new)) }
     ensures front { LosesFront (S.left source.old) (S.left source.new) greatest_length }
     ensures cause { PrepareCause (S.faults source.old) (S.faults source.new) result }
-    ensures unread { AsksNone (map string_bytes words.now) → S.left source.new ≡ S.left source.old }
-    ensures untouched { AsksNone (map string_bytes words.now) → S.faults source.new ≡ S.faults source.old }
+    ensures unread { AsksNoReader (map string_bytes words.now) → S.left source.new ≡ S.left source.old }
+    ensures untouched { AsksNoReader (map string_bytes words.now) → S.faults source.new ≡ S.faults source.old }
     ensures untaken { AsksNone (map string_bytes words.now) → IsErrOf result NoAnswer.ReadFault → ⊥ }
-    ensures taken { IsErrOf result NoAnswer.ReadFault → AsksSome (map string_bytes words.now) }
+    ensures taken { IsErrOf result NoAnswer.ReadFault → AsksReader (map string_bytes words.now) }
 {
     match asked(alloc, words)? {
-        Some(command) => prepare_input(alloc, command, source),
+        Some(command) => prepare_command(alloc, command, source),
         None => Ok(refuse_words(alloc)?),
     }
 }
 
-/// Reads the words, reads the input of their command, and writes what it deserves: a report, or a refusal.
+/// Reads the words, reads the input of their command, if it reads one, and writes what it deserves: a report, a
+/// summary, an output, or a refusal.
 ///
 /// `words` has the program's name first. The whole text is made before the first byte is written.
 #[tactic(auto, using(crate::proofs::Ways::none_status))]
@@ -151,18 +179,24 @@ pub fn run<S: Source, K: Sink>(
     ensures refused { result ≡ Status.Refused →
         Writes (map string_bytes words.now) (S.left source.old) (K.held sink.old) (K.held sink.new) Status.Refused }
     ensures usage_text { result ≡ Status.Usage → Appends (K.held sink.old) (K.held sink.new) usage_text }
-    // Where the words ask for a report and the status is that of one, the one report that the input deserves and this
-    // text spells: it holds in all runs; where nothing is flagged, it tells what the written iteration finds; over
-    // polyhedra rows and generators tell the same points.
+    // Where the words ask for a report and the status is that of one, the one report that the input deserves and that is
+    // written so, as lines or as JSON: it holds in all runs; where nothing is flagged, it tells what the written
+    // iteration finds; over polyhedra rows and generators tell the same points.
     ensures holds { (options : Options) (json : Bool) → Asks (map string_bytes words.now) (Analyse options json) →
         IsReported result →
-        WritesReport options HoldsInAllRuns (S.left source.old) (K.held sink.old) (K.held sink.new) }
+        WritesReport options (written_report json) HoldsInAllRuns (S.left source.old) (K.held sink.old)
+        (K.held sink.new) }
     ensures is_written { (options : Options) (json : Bool) → Asks (map string_bytes words.now) (Analyse options json) →
         IsReported result →
-        WritesReport options (IsWrittenUnlessFlagged options) (S.left source.old) (K.held sink.old) (K.held sink.new) }
+        WritesReport options (written_report json) (IsWrittenUnlessFlagged options) (S.left source.old)
+        (K.held sink.old) (K.held sink.new) }
     ensures same_points { (options : Options) (json : Bool) →
         Asks (map string_bytes words.now) (Analyse options json) → IsReported result →
-        WritesReport options (TellsSamePoints options) (S.left source.old) (K.held sink.old) (K.held sink.new) }
+        WritesReport options (written_report json) (TellsSamePoints options) (S.left source.old) (K.held sink.old)
+        (K.held sink.new) }
+    // Where they ask for a sample, what is told of a report of its source, of which all of this holds.
+    ensures sampled { (seed size : ℕ) → Asks (map string_bytes words.now) (Sample seed size) → IsReported result →
+        WritesSummary seed size (K.held sink.old) (K.held sink.new) }
     // Or a front of it, and not all of it; or nothing.
     ensures part { result ≡ Status.WriteFault →
         WritesPart (map string_bytes words.now) (S.left source.old) (K.held sink.old) (K.held sink.new)
@@ -170,16 +204,17 @@ pub fn run<S: Source, K: Sink>(
     ensures nothing_read { result ≡ Status.ReadFault → Keeps (K.held sink.old) (K.held sink.new) }
     ensures nothing_stored { result ≡ Status.Memory → Keeps (K.held sink.old) (K.held sink.new) }
 
-    // Usage: exactly where the words ask for no command. Nothing is read then.
+    // Usage: exactly where the words ask for no command.
     ensures usage { result ≡ Status.Usage → AsksNone (map string_bytes words.now) }
     ensures untaken { AsksNone (map string_bytes words.now) → EndsInUsage result }
-    ensures unread { AsksNone (map string_bytes words.now) → S.left source.new ≡ S.left source.old }
-    ensures untouched { AsksNone (map string_bytes words.now) → S.faults source.new ≡ S.faults source.old }
+    // Nothing is read then, nor for a sample.
+    ensures unread { AsksNoReader (map string_bytes words.now) → S.left source.new ≡ S.left source.old }
+    ensures untouched { AsksNoReader (map string_bytes words.now) → S.faults source.new ≡ S.faults source.old }
 
     // Refused: exactly where the input is too long, the source is refused, or a script has a refused line.
     // A source that is accepted gets its report, and a script that runs whole its output. (Where a flagged set is
     // widened, both answers may be right: which of them depends on the set.)
-    ensures too_long { (c : Command) → Asks (map string_bytes words.now) c →
+    ensures too_long { (c : Command) → Asks (map string_bytes words.now) c → Reads c →
         (bytes : List ℕ) → S.left source.old ≡ Some bytes → IsTooLong bytes → EndsInRefusal result }
     ensures source_refused { (options : Options) (json : Bool) →
         Asks (map string_bytes words.now) (Analyse options json) →
@@ -194,20 +229,23 @@ pub fn run<S: Source, K: Sink>(
     ensures each_source { (options : Options) (json : Bool) →
         Asks (map string_bytes words.now) (Analyse options json) →
         (bytes : List ℕ) → S.left source.old ≡ Some bytes → EndsBySource bytes result }
+    // A sample's source is accepted.
+    ensures sample_reported { (seed size : ℕ) → Asks (map string_bytes words.now) (Sample seed size) →
+        EndsInReport result }
     ensures script_refused { Asks (map string_bytes words.now) Calc → (bytes : List ℕ) →
         S.left source.old ≡ Some bytes → script.NeverRuns bytes → EndsInRefusal result }
     ensures script_ran { Asks (map string_bytes words.now) Calc → (bytes : List ℕ) → S.left source.old ≡ Some bytes →
         script.NeverIsRefused bytes → EndsInOutput result }
     ensures reads { result ≢ Status.ReadFault → result ≢ Status.Memory → (c : Command) →
-        Asks (map string_bytes words.now) c →
+        Asks (map string_bytes words.now) c → Reads c →
         ReadsInput (S.left source.old) (S.left source.new) }
     // Whatever the answer, at most one byte past the limit is read.
     ensures front { LosesFront (S.left source.old) (S.left source.new) greatest_length }
 
-    // A fault is the answer only where its count rose, that of reading only to a command; every other answer leaves the
-    // counts.
+    // A fault is the answer only where its count rose, that of reading only to a command that reads; every other answer
+    // leaves the counts.
     ensures read_fault { result ≡ Status.ReadFault → Rose (S.faults source.old) (S.faults source.new) }
-    ensures read_asked { result ≡ Status.ReadFault → AsksSome (map string_bytes words.now) }
+    ensures read_asked { result ≡ Status.ReadFault → AsksReader (map string_bytes words.now) }
     ensures no_read_fault { result ≢ Status.ReadFault → S.faults source.new ≡ S.faults source.old }
     ensures write_fault { result ≡ Status.WriteFault → Rose (K.faults sink.old) (K.faults sink.new) }
     ensures no_write_fault { result ≢ Status.WriteFault → K.faults sink.new ≡ K.faults sink.old }
@@ -221,6 +259,9 @@ pub fn run<S: Source, K: Sink>(
     ensures complete { (options : Options) (json : Bool) →
         Asks (map string_bytes words.now) (Analyse options json) →
         (bytes : List ℕ) → S.left source.old ≡ Some bytes → IsUnrefused bytes →
+        (Rose (S.faults source.old) (S.faults source.new) → ⊥) → (Rose (K.faults sink.old) (K.faults sink.new) → ⊥) →
+        IsReportOrMemory result }
+    ensures complete_sample { (seed size : ℕ) → Asks (map string_bytes words.now) (Sample seed size) →
         (Rose (S.faults source.old) (S.faults source.new) → ⊥) → (Rose (K.faults sink.old) (K.faults sink.new) → ⊥) →
         IsReportOrMemory result }
     ensures complete_script { Asks (map string_bytes words.now) Calc → (bytes : List ℕ) →

@@ -1,3 +1,4 @@
+mod DefaultExamples
 pub mod OptionRows
 pub mod ParsedWords
 pub mod Readings

@@ -10,12 +10,12 @@ use Rattle.clap.specs.Walk.{nothing_held}
 use Rattle.clap.specs.declared.builder.value_parser.ValueParser.{ValueParser}
 use Rattle.clap.specs.declared.builder.value_parser.ValueParser.TheVariants as vp
 use Rattle.clap.proofs.OnLiterals.{clap_on_literals}
-use Rattle.lra_words.specs.Built.{Asks, AsksNone, IsBuilt}
-use Rattle.lra_words.specs.Chosen.{IsRefused, IsTakenAs, command_of}
+use Rattle.lra_words.specs.Chosen.{Asks, AsksNone, IsWithinRanges, command_of}
 use Rattle.lra_words.specs.CommandLine.{TakesDomains, command_line}
 use Rattle.lra_words.specs.declared.chosen.Command.{Command}
 use Rattle.lra_words.proofs.SameWalk.{placed, in_app, entered_same, stop_same}
 use Rattle.lra_words.proofs.SameFaults.{built_same}
+use Rattle.lra_words.proofs.TakenWords.{words_give}
 
 -- the parser of these names, each at one place
 named : List Text → ValueParser
@@ -59,21 +59,19 @@ module _ (words : List Text) where
   one_rows : (d e : ValueParser) → TakesDomains d → TakesDomains e → subcommand_of (command_line d) words ≡ subcommand_of (command_line e) words
   one_rows d e p q = sym (rows_placed d) ∙ ap (λ (x : ValueParser). subcommand_of (command_line x) words) (placed_domains d p ∙ sym (placed_domains e q)) ∙ rows_placed e
 
-  -- words that are taken aren't refused
-  taken_not_refused : (c : Command) → IsTakenAs words c → IsRefused words → ⊥
-  taken_not_refused c taken refused = refused.2 (one_fault refused.0 taken.0 refused.1 taken.1 ∙ taken.2)
+  -- words that ask for a command don't ask for none
+  pub asks_not_none : (c : Command) → Asks words c → AsksNone words → ⊥
+  asks_not_none c asks none = none.2 (one_fault none.0 asks.0 none.1 asks.1 ∙ asks.2)
 
-  -- and give one command
-  one_command : (c d : Command) → IsTakenAs words c → IsTakenAs words d → c ≡ d
-  one_command c d taken other =
-      let both : Some c ≡ Some d = sym taken.3 ∙ ap command_of (one_rows taken.0 other.0 taken.1 other.1) ∙ other.3 in
+  -- and ask for one command
+  pub one_asked : (c d : Command) → Asks words c → Asks words d → c ≡ d
+  one_asked c d asks other =
+      let both : Some c ≡ Some d = sym asks.3 ∙ ap command_of (one_rows asks.0 other.0 asks.1 other.1) ∙ other.3 in
       ap (λ (o : Option Command). unwrap_or o c) both
 
-  -- words ask for one command
-  pub one_asked : (c d : Command) → Asks words c → Asks words d → c ≡ d
-  one_asked c d asks other = one_command c d asks.taken other.taken
-
-  -- or for none
-  pub asks_not_none : (c : Command) → Asks words c → AsksNone words → ⊥
-  asks_not_none c asks (inl refused) = taken_not_refused c asks.taken refused
-  asks_not_none c asks (inr (d, taken, unbuilt)) = unbuilt (subst IsBuilt (one_command c d asks.taken taken) asks.built)
+  -- whose values lie in their ranges
+  pub asks_within : (c : Command) → Asks words c → IsWithinRanges c
+  asks_within c asks =
+      let (d, is, within) = words_give asks.0 asks.1 words asks.2 in
+      let both : Some d ≡ Some c = sym is ∙ asks.3 in
+      subst IsWithinRanges (ap (λ (o : Option Command). unwrap_or o d) both) within

@@ -11,7 +11,7 @@ use Rattle.clap.specs.declared.error.kind.ErrorKind.TheVariants.{OutOfMemory}
 use Rattle.clap.specs.declared.parser.matches.ArgMatches.{ArgMatches}
 use Rattle.clap.specs.declared.parser.matches.ArgMatches.TheViews.{out-ArgMatches}
 use Rattle.clap.proofs.OnLiterals.{clap_on_literals}
-use Rattle.lra_words.specs.Chosen.{IsRefused, IsTakenAs, IsWithinRanges, command_of}
+use Rattle.lra_words.specs.Chosen.{AsksNone, Asks, IsWithinRanges, command_of}
 use Rattle.lra_words.specs.CommandLine.{DeclaresCommandLine, TakesDomains, command_line}
 use Rattle.lra_words.specs.Refusals.{refusal}
 use Rattle.lra_words.specs.declared.chosen.Command.{Command}
@@ -33,7 +33,7 @@ not_memory k usage memory =
 
 -- a parse that failed for another cause than memory
 pub refused : (a : App) (words : List Text) (e : Error) → DeclaresCommandLine a → (is_simple_and_free a ≡ true → HasKind (fault_of a words) e)
-    → (takes a words ≡ true → kind_of e ≡ OutOfMemory) → refusal (kind_of e) ≡ Usage → IsRefused words
+    → (takes a words ≡ true → kind_of e ≡ OutOfMemory) → refusal (kind_of e) ≡ Usage → AsksNone words
 refused a words e declares kinds passes usage =
     let line_kinds = rw declares.2 at kinds in
     let line_passes = rw declares.2 at passes in
@@ -49,7 +49,7 @@ refused a words e declares kinds passes usage =
 pub record Succeeds (words : List Text) (m : ArgMatches) : Type 0 where
   pub chosen : Command
   pub is_command : command_of (subcommand_rows_of m) ≡ Some chosen
-  pub taken : IsTakenAs words chosen
+  pub taken : Asks words chosen
   pub ranges : IsWithinRanges chosen
 
 pub succeeds : (a : App) (words : List Text) (m : ArgMatches) → DeclaresCommandLine a → (is_simple_and_free a ≡ true → fault_of a words ≡ [])
@@ -87,11 +87,11 @@ chosen_of m r name inner chosen names rows is chose =
         rw (same_name, same_rows) refl
 
 module _ (words : List Text) (m : ArgMatches) (done : Succeeds words m) where
-  pub taken_as : (chosen : Option Command) (c : Command) → chosen ≡ command_of (subcommand_rows_of m) → chosen ≡ Some c → IsTakenAs words c × IsWithinRanges c
+  pub taken_as : (chosen : Option Command) (c : Command) → chosen ≡ command_of (subcommand_rows_of m) → chosen ≡ Some c → Asks words c × IsWithinRanges c
   taken_as chosen c is some =
       let same : Some done.chosen ≡ Some c = sym done.is_command ∙ (sym is ∙ some) in
       let one : done.chosen ≡ c = ap (λ (o : Option Command). unwrap_or o c) same in
-      (subst (IsTakenAs words) one done.taken, subst IsWithinRanges one done.ranges)
+      (subst (Asks words) one done.taken, subst IsWithinRanges one done.ranges)
 
   pub never_none : (chosen : Option Command) → chosen ≡ command_of (subcommand_rows_of m) → chosen ≡ None → ⊥
   never_none chosen is none =

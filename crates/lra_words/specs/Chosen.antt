@@ -57,6 +57,16 @@ options_of rows =
     (number_at (codes "parts") (2 ^ 32) rows))
     (domain_at (codes "domain") rows)
 
+-- the options of an analysis where words name none, as a sample's
+abbrev pub default_options : Options
+default_options = record {
+  domain = Poly;
+  parts = 1;
+  delay = 1;
+  narrow = 1;
+  limited = false;
+}
+
 abbrev pub analyse_of : List Row → Option Command
 analyse_of rows = option_and_then (λ options. option_map (λ json. Analyse options json)
     (flag_at (codes "json") rows))
@@ -85,14 +95,19 @@ IsWithinRanges (Analyse options json) = (1 ≤ options.parts) × (options.parts 
 IsWithinRanges (Sample seed size) = size ≤ 400
 IsWithinRanges Calc = ⊤
 
--- the command line doesn't take the words: the parse has a kind of error for them
-abbrev pub IsRefused : List Text → Type 0
-IsRefused words = (domains : ValueParser) × TakesDomains domains
+-- the words ask for no command: the parse has a kind of error for them
+abbrev pub AsksNone : List Text → Type 0
+AsksNone words = (domains : ValueParser) × TakesDomains domains
     × (fault_of (command_line domains) words ≡ [] → ⊥)
     × (takes (command_line domains) words ≡ true → ⊥)
 
--- the command line takes the words, and the command is that of the matches
-abbrev pub IsTakenAs : List Text → Command → Type 0
-IsTakenAs words chosen = (domains : ValueParser) × TakesDomains domains
+-- the words ask for this command: the command line takes them, and it is that of the matches
+abbrev pub Asks : List Text → Command → Type 0
+Asks words chosen = (domains : ValueParser) × TakesDomains domains
     × (fault_of (command_line domains) words ≡ [])
     × (command_of (subcommand_of (command_line domains) words) ≡ Some chosen)
+
+-- the command that the words ask for, or none
+abbrev pub AsksFor : List Text → Option Command → Type 0
+AsksFor words None = AsksNone words
+AsksFor words (Some c) = Asks words c

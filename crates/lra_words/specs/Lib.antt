@@ -1,4 +1,3 @@
 pub mod CommandLine
 pub mod Chosen
-pub mod Built
 pub mod Refusals

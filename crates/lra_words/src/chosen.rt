@@ -1,7 +1,21 @@
 //! The commands that words can choose.
-ghost use Rattle.std.specs.Prelude.{◌↔◌, IsTrue};
+ghost use Rattle.std.specs.Prelude.{◌≡◌};
+ghost use Rattle.lra_words.specs.Chosen.{default_options};
 
-use lra_base::Options;
+use lra_base::{Domain, Options};
+
+/// The options of an analysis where words name none: polyhedra of one part, delay and narrowing 1, not limited.
+pub fn default_options() -> Options
+    ensures { result ≡ default_options }
+{
+    Options {
+        domain: Domain::Poly,
+        parts: 1,
+        delay: 1,
+        narrow: 1,
+        limited: false,
+    }
+}
 
 /// What the words ask for.
 #[derive(Clone, Copy, PartialEq, Debug)]
@@ -12,19 +26,4 @@ pub enum Command {
     Sample { seed: u64, size: u32 },
     /// Run a script of the library's calls.
     Calc,
-}
-
-impl Command {
-    ghost use Rattle.lra_words.specs.Built.{IsBuilt};
-
-    /// Whether the product carries out this command; any other is to be refused as usage.
-    pub fn is_built(&self) -> bool
-        ensures { IsTrue result ↔ IsBuilt self.now }
-    {
-        match self {
-            Command::Analyse { options, json } => options.parts == 1 && !*json,
-            Command::Sample { .. } => false,
-            Command::Calc => true,
-        }
-    }
 }

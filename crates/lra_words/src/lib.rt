@@ -8,5 +8,5 @@ pub mod chosen;
 mod command_line;
 pub mod words;
 
-pub use chosen::Command;
+pub use chosen::{Command, default_options};
 pub use words::{Refusal, asked, command};

@@ -1,8 +1,7 @@
 //! The command that a list of words gives.
 ghost use Rattle.std.specs.Prelude.{◌≡◌, ◌^◌, Err, IfOk, IfSome, Some, codes, map, string_bytes};
 ghost use Rattle.clap.specs.Words.{found_of, kind_of, rows_of};
-ghost use Rattle.lra_words.specs.Built.{AsksFor};
-ghost use Rattle.lra_words.specs.Chosen.{IsRefused, IsTakenAs, IsWithinRanges, command_of, domain_at};
+ghost use Rattle.lra_words.specs.Chosen.{Asks, AsksFor, AsksNone, IsWithinRanges, command_of, domain_at};
 ghost use Rattle.lra_words.specs.Chosen.{analyse_of, domain_named, flag_at, number_at, options_of, sample_of};
 ghost use Rattle.lra_words.specs.Refusals.{refusal};
 
@@ -115,8 +114,8 @@ fn chosen_command(name: &str, matches: &ArgMatches) -> Option<Command>
 /// `Usage` comes exactly where the command line doesn't take the words, `Memory` only for want of
 /// memory. Nothing is printed.
 pub fn command(alloc: Global, words: &[String]) -> Result<Command, Refusal>
-    ensures usage { result ≡ Err Refusal.Usage → IsRefused (map string_bytes words.now) }
-    ensures taken { IfOk result (λ c. IsTakenAs (map string_bytes words.now) c) }
+    ensures usage { result ≡ Err Refusal.Usage → AsksNone (map string_bytes words.now) }
+    ensures taken { IfOk result (λ c. Asks (map string_bytes words.now) c) }
     ensures ranges { IfOk result (λ c. IsWithinRanges c) }
 {
     let Ok(app) = declare(alloc) else {
@@ -135,15 +134,14 @@ pub fn command(alloc: Global, words: &[String]) -> Result<Command, Refusal>
     }
 }
 
-/// The command that the words ask for, where the product carries it out; no other words are answered but
-/// by their refusal.
+/// The command that the words ask for, `None` where the command line doesn't take them.
 pub fn asked(alloc: Global, words: &[String]) -> Result<Option<Command>, AllocError>
     ensures asks { IfOk result (λ asked. AsksFor (map string_bytes words.now) asked) }
     ensures ranges { IfOk result (λ asked. IfSome asked IsWithinRanges) }
 {
     match command(alloc, words) {
-        Ok(command) if command.is_built() => Ok(Some(command)),
-        Ok(_) | Err(Refusal::Usage) => Ok(None),
+        Ok(command) => Ok(Some(command)),
+        Err(Refusal::Usage) => Ok(None),
         Err(Refusal::Memory) => Err(AllocError),
     }
 }

@@ -2,14 +2,17 @@ use Rattle.std.proofs.Common.{◌<◌, ◌≤◌, length, arith, rules}
 use Rattle.std.specs.Io.KnownBytes.{Appends}
 use Rattle.std.proofs.lemmas.Grind.{common_steps}
 use Rattle.lra_top.specs.declared.status.Status.TheVariants as status
-use Rattle.lra_top.proofs.Ways.{too_long_status, refused_status, accepted_status, source_status, no_text, complete_status, script_refused_status, script_status, complete_script_status}
+use Rattle.lra_top.proofs.Ways.{too_long_status, refused_status, accepted_status, source_status, sample_status, no_text, complete_status, complete_sample_status, script_refused_status, script_status, complete_script_status}
 use Rattle.lra_top.specs.Headline.{HoldsInAllRuns, IsWrittenUnlessFlagged, TellsSamePoints}
-use Rattle.lra_top.proofs.Headline.{holds, is_written, same_points, writes_report}
+use Rattle.lra_top.proofs.Headline.{holds, is_written, same_points, writes_report, writes_summary}
 use Rattle.lra_top.proofs.top_call.run.Goals as goal
 
+pub returns-in-Err-ReadFault-clause-untaken : goal.returns-in-Err-ReadFault-clause-untaken
+returns-in-Err-ReadFault-clause-untaken g c = λ none. c.in-Err-ReadFault.ensures.untaken none (search rules)
+
 pub returns-in-Ok-write_whole-clause-too_long : goal.returns-in-Ok-write_whole-clause-too_long
-returns-in-Ok-write_whole-clause-too_long g c = λ command asks bytes tells long.
-    too_long_status _ _ _ c.in-Ok.answer.status bytes command c.in-Ok.ensures.deserved asks tells long
+returns-in-Ok-write_whole-clause-too_long g c = λ command asks reads bytes tells long.
+    too_long_status _ _ _ c.in-Ok.answer.status bytes command c.in-Ok.ensures.deserved asks reads tells long
 
 pub returns-in-Ok-write_whole-clause-source_refused : goal.returns-in-Ok-write_whole-clause-source_refused
 returns-in-Ok-write_whole-clause-source_refused g c = λ options json asks bytes tells cause at refused.
@@ -31,6 +34,13 @@ returns-in-Err-Memory-clause-each_source g c = λ options json asks bytes tells.
 
 pub returns-clause-each_source : goal.returns-clause-each_source
 returns-clause-each_source g c = λ options json asks bytes tells. no_text bytes status.WriteFault tt tt
+
+pub returns-in-Ok-write_whole-clause-sample_reported : goal.returns-in-Ok-write_whole-clause-sample_reported
+returns-in-Ok-write_whole-clause-sample_reported g c = λ seed size asks. sample_status _ _ _ c.in-Ok.answer.status seed size c.in-Ok.ensures.deserved asks
+
+pub returns-in-Ok-write_whole-clause-complete_sample : goal.returns-in-Ok-write_whole-clause-complete_sample
+returns-in-Ok-write_whole-clause-complete_sample g c = λ seed size asks unread unwritten.
+    complete_sample_status _ _ _ c.in-Ok.answer.status seed size c.in-Ok.ensures.deserved asks
 
 pub returns-in-Ok-write_whole-clause-complete : goal.returns-in-Ok-write_whole-clause-complete
 returns-in-Ok-write_whole-clause-complete g c = λ options json asks bytes tells free unread unwritten.
@@ -68,3 +78,8 @@ pub returns-in-Ok-write_whole-clause-same_points : goal.returns-in-Ok-write_whol
 returns-in-Ok-write_whole-clause-same_points g c = λ options json asks reported.
     let written : Appends (g.K.Sink.held c.args.sink.now) (g.K.Sink.held c.write_whole.new.sink) c.in-Ok.answer.text.items = search rules in
     writes_report (TellsSamePoints options) _ _ _ _ options json (same_points options) c.in-Ok.answer.status _ asks reported c.in-Ok.ensures.deserved written
+
+pub returns-in-Ok-write_whole-clause-sampled : goal.returns-in-Ok-write_whole-clause-sampled
+returns-in-Ok-write_whole-clause-sampled g c = λ seed size asks reported.
+    let written : Appends (g.K.Sink.held c.args.sink.now) (g.K.Sink.held c.write_whole.new.sink) c.in-Ok.answer.text.items = search rules in
+    writes_summary _ _ _ _ seed size c.in-Ok.answer.status _ asks reported c.in-Ok.ensures.deserved written

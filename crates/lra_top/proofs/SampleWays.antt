@@ -1,0 +1,46 @@
+-- From the answer to a sample source to what the sample deserves.
+use Rattle.std.proofs.Common.{◌≡◌, ℕ, List, subst}
+use Rattle.std.specs.Prelude.{Result, Ok, Err, IfOk}
+use Rattle.lra_base.specs.declared.refusals.Cause.{Cause}
+use Rattle.lra_base.specs.declared.refusals.Place.{Place}
+use Rattle.lra_base.specs.declared.refusals.Refusal.{Refusal}
+use Rattle.lra_base.specs.declared.options.Options.{Options}
+use Rattle.lra_findings.specs.Report.{Report}
+use Rattle.lra_findings.specs.ReportText.{unknown_count}
+use Rattle.lra_findings.specs.RefusalText.{refusal_text}
+use Rattle.lra_tree.specs.Grammar.{Spells}
+use Rattle.lra_meaning.specs.Refuse.{Refuse}
+use Rattle.lra_sample.specs.Sample.{sample_source}
+use Rattle.lra_sample.specs.Summary.{summary_text}
+use Rattle.lra_source.specs.Answers.{IsAnswered}
+use Rattle.lra_words.specs.Chosen.{default_options}
+use Rattle.lra_top.specs.SourceAnswer.{IsReportStatus}
+use Rattle.lra_top.specs.SampleAnswer.{DeservesSample}
+use Rattle.lra_top.proofs.SourceWays.{deserves_report, deserves_refusal}
+use Rattle.lra_top.specs.declared.answer.Answer.{Answer}
+use Rattle.lra_top.specs.declared.status.Status.{Status}
+use Rattle.lra_top.specs.declared.status.Status.TheVariants.{Refused}
+
+deserves_summary : (seed size : ℕ) (o : Options) (source : List ℕ) (r : Report) (text : List ℕ) (status : Status) → o ≡ default_options → source ≡ sample_source seed size
+    → IsAnswered o source r → text ≡ summary_text seed size r → IsReportStatus (unknown_count r.verdicts) status → DeservesSample seed size text status
+deserves_summary seed size o source r text status default made answered written counted =
+    let answered_default : IsAnswered default_options source r = subst (λ (x : Options). IsAnswered x source r) default answered in
+    let answered_sample : IsAnswered default_options (sample_source seed size) r = subst (λ (x : List ℕ). IsAnswered default_options x r) made answered_default in
+    deserves_report default_options (summary_text seed size) (sample_source seed size) r text status answered_sample written counted
+
+sample_refused : (seed size : ℕ) (source text : List ℕ) (c : Cause) (at : Place) (status : Status) → source ≡ sample_source seed size
+    → Refuse Spells source c at → text ≡ refusal_text c at → status ≡ Refused → DeservesSample seed size text status
+sample_refused seed size source text c at status made refused written s =
+    deserves_refusal default_options (summary_text seed size) (sample_source seed size) text c at status (subst (λ (x : List ℕ). Refuse Spells x c at) made refused) written s
+
+-- of a call's result
+pub summary_answer : {E : Type 0} (seed size : ℕ) (o : Options) (source : List ℕ) (r : Report) (result : Result Answer E) → o ≡ default_options → source ≡ sample_source seed size
+    → IsAnswered o source r → IfOk result (λ a. a.text.items ≡ summary_text seed size r) → IfOk result (λ a. IsReportStatus (unknown_count r.verdicts) a.status)
+    → IfOk result (λ a. DeservesSample seed size a.text.items a.status)
+summary_answer seed size o source r (Ok a) default made answered written counted = deserves_summary seed size o source r a.text.items a.status default made answered written counted
+summary_answer seed size o source r (Err e) default made answered written counted = tt
+
+pub refusal_answer : {E : Type 0} (seed size : ℕ) (source : List ℕ) (r : Refusal) (result : Result Answer E) → source ≡ sample_source seed size → Refuse Spells source r.cause r.place
+    → IfOk result (λ a. a.text.items ≡ refusal_text r.cause r.place) → IfOk result (λ a. a.status ≡ Refused) → IfOk result (λ a. DeservesSample seed size a.text.items a.status)
+refusal_answer seed size source r (Ok a) made refused written is = sample_refused seed size source a.text.items r.cause r.place a.status made refused written is
+refusal_answer seed size source r (Err e) made refused written is = tt
