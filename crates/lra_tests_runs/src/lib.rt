@@ -7,6 +7,10 @@
 #[cfg(test)]
 mod calc;
 #[cfg(test)]
+mod parts;
+#[cfg(test)]
 mod polyhedra;
+#[cfg(test)]
+mod samples;
 #[cfg(test)]
 mod top;

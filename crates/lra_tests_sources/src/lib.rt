@@ -9,11 +9,15 @@ mod calls;
 #[cfg(test)]
 mod edge;
 #[cfg(test)]
+mod json_reports;
+#[cfg(test)]
 mod lex;
 #[cfg(test)]
 mod names;
 #[cfg(test)]
 mod report;
+#[cfg(test)]
+mod sample;
 #[cfg(test)]
 mod show;
 #[cfg(test)]

@@ -25,13 +25,13 @@ const ANALYSE_BOXES: Command = Command::Analyse {
     json: false,
 };
 
-/// Lines, the commands that they give, and whether these are carried out.
-static TAKEN: [(&str, Command, bool); 27] = [
-    ("lra analyse", ANALYSE, true),
-    ("other analyse", ANALYSE, true),
-    ("lra analyse --", ANALYSE, true),
-    ("lra analyse --domain poly", ANALYSE, true),
-    ("lra analyse --domain box", ANALYSE_BOXES, true),
+/// Lines, and the commands that they ask for.
+static TAKEN: [(&str, Command); 27] = [
+    ("lra analyse", ANALYSE),
+    ("other analyse", ANALYSE),
+    ("lra analyse --", ANALYSE),
+    ("lra analyse --domain poly", ANALYSE),
+    ("lra analyse --domain box", ANALYSE_BOXES),
     (
         "lra analyse --domain=oct",
         Command::Analyse {
@@ -41,9 +41,8 @@ static TAKEN: [(&str, Command, bool); 27] = [
             },
             json: false,
         },
-        true,
     ),
-    ("lra analyse --parts 1 --domain=box", ANALYSE_BOXES, true),
+    ("lra analyse --parts 1 --domain=box", ANALYSE_BOXES),
     (
         "lra analyse --parts=16",
         Command::Analyse {
@@ -53,7 +52,6 @@ static TAKEN: [(&str, Command, bool); 27] = [
             },
             json: false,
         },
-        false,
     ),
     (
         "lra analyse --domain box --parts 2",
@@ -61,7 +59,6 @@ static TAKEN: [(&str, Command, bool); 27] = [
             options: Options { parts: 2, ..BOXES },
             json: false,
         },
-        false,
     ),
     (
         "lra analyse --delay 0",
@@ -72,7 +69,6 @@ static TAKEN: [(&str, Command, bool); 27] = [
             },
             json: false,
         },
-        true,
     ),
     (
         "lra analyse --delay=8",
@@ -83,7 +79,6 @@ static TAKEN: [(&str, Command, bool); 27] = [
             },
             json: false,
         },
-        true,
     ),
     (
         "lra analyse --delay=+2",
@@ -94,7 +89,6 @@ static TAKEN: [(&str, Command, bool); 27] = [
             },
             json: false,
         },
-        true,
     ),
     (
         "lra analyse --delay +3",
@@ -105,7 +99,6 @@ static TAKEN: [(&str, Command, bool); 27] = [
             },
             json: false,
         },
-        true,
     ),
     (
         "lra analyse --delay=007",
@@ -116,7 +109,6 @@ static TAKEN: [(&str, Command, bool); 27] = [
             },
             json: false,
         },
-        true,
     ),
     (
         "lra analyse --delay 3 --domain box --limited",
@@ -128,7 +120,6 @@ static TAKEN: [(&str, Command, bool); 27] = [
             },
             json: false,
         },
-        true,
     ),
     (
         "lra analyse --narrow=0",
@@ -139,7 +130,6 @@ static TAKEN: [(&str, Command, bool); 27] = [
             },
             json: false,
         },
-        true,
     ),
     (
         "lra analyse --narrow 4 --domain=box --delay 0",
@@ -151,7 +141,6 @@ static TAKEN: [(&str, Command, bool); 27] = [
             },
             json: false,
         },
-        true,
     ),
     (
         "lra analyse --limited",
@@ -162,7 +151,6 @@ static TAKEN: [(&str, Command, bool); 27] = [
             },
             json: false,
         },
-        true,
     ),
     (
         "lra analyse --json",
@@ -170,7 +158,6 @@ static TAKEN: [(&str, Command, bool); 27] = [
             options: DEFAULTS,
             json: true,
         },
-        false,
     ),
     (
         "lra analyse --domain box --json",
@@ -178,7 +165,6 @@ static TAKEN: [(&str, Command, bool); 27] = [
             options: BOXES,
             json: true,
         },
-        false,
     ),
     (
         "lra analyse --json --narrow 3 --limited --delay=2 --parts 5 --domain oct --",
@@ -192,12 +178,10 @@ static TAKEN: [(&str, Command, bool); 27] = [
             },
             json: true,
         },
-        false,
     ),
     (
         "lra sample --seed 0 --size 0",
         Command::Sample { seed: 0, size: 0 },
-        false,
     ),
     (
         "lra sample --size=400 --seed=18446744073709551615",
@@ -205,16 +189,14 @@ static TAKEN: [(&str, Command, bool); 27] = [
             seed: 18446744073709551615,
             size: 400,
         },
-        false,
     ),
     (
         "lra sample --seed +5 --size=+7 --",
         Command::Sample { seed: 5, size: 7 },
-        false,
     ),
-    ("other calc", Command::Calc, true),
-    ("lra calc", Command::Calc, true),
-    ("lra calc --", Command::Calc, true),
+    ("other calc", Command::Calc),
+    ("lra calc", Command::Calc),
+    ("lra calc --", Command::Calc),
 ];
 
 /// The words of a line, between single spaces.
@@ -228,11 +210,13 @@ fn words_of(rt: &HostRuntime, line: &str) -> Result<Vec<String>, Fail> {
 
 #[test]
 fn words_are_taken(rt: HostRuntime) -> Result<(), Fail> {
-    for &(line, chosen, built) in TAKEN.iter() {
+    for &(line, chosen) in TAKEN.iter() {
         let words = words_of(&rt, line)?;
-        let wanted = if built { Some(chosen) } else { None };
         let taken = command(rt.alloc(), &words) == Ok(chosen);
-        assert!(rt; taken && asked(rt.alloc(), &words) == Ok(wanted), "{line}");
+        assert!(rt;
+            taken && asked(rt.alloc(), &words) == Ok(Some(chosen)),
+            "{line}"
+        );
     }
     Ok(())
 }

@@ -1,0 +1,130 @@
+//! Sample sources, and what is told of their reports.
+
+use lra_base::{Domain, Options, Place};
+use lra_report::{Point, PointReport, Report, Verdict};
+use lra_sample::{program, summary};
+use lra_show::Names;
+use std::alloc::{AllocError, Global};
+use std::test::Fail;
+
+/// Seeds and sizes with the lines between the declarations and the assertion.
+static SOURCES: [(u64, u32, &str); 4] = [
+    (0, 0, ""),
+    (
+        0,
+        3,
+        "v0=input();assume(v0>=0&&v0<=36);\nif(v3<75)v0=v0+1;else v0=75;\nv3=v3+82;\n",
+    ),
+    (1, 1, "v1=0;while(v1<70)v1=v1+1;\n"),
+    (18446744073709551615, 2, "v3=v1+2;\nv3=v1+47;\n"),
+];
+
+const HEAD: &str = "int main(void){\nlong v0=0;\nlong v1=0;\nlong v2=0;\nlong v3=0;\n";
+
+const END: &str = "assert(v0<=v0);\n}\n";
+
+fn source_of(alloc: Global, lines: &str) -> Result<Vec<u8>, AllocError> {
+    let mut text = String::from_str(alloc, HEAD)?;
+    text.push_str(lines)?;
+    text.push_str(END)?;
+    Ok(text.into_bytes())
+}
+
+#[test]
+fn sources(rt: HostRuntime) -> Result<(), Fail> {
+    let alloc = rt.alloc();
+    for (seed, size, lines) in SOURCES.iter() {
+        let made = program(alloc, *seed, *size)?;
+        let expected = source_of(alloc, lines)?;
+        let same = made.as_slice() == expected.as_slice();
+        assert!(rt; same);
+    }
+    Ok(())
+}
+
+/// Seeds with the bytes of their greatest sources.
+static LENGTHS: [(u64, usize); 2] = [(1, 9912), (2, 9647)];
+
+#[test]
+fn greatest_sources(rt: HostRuntime) -> Result<(), Fail> {
+    let alloc = rt.alloc();
+    for (seed, bytes) in LENGTHS.iter() {
+        assert_eq!(rt; program(alloc, *seed, 400)?.len(), *bytes);
+    }
+    Ok(())
+}
+
+fn point(alloc: Global, label: usize) -> Point {
+    Point {
+        path: Vec::new(alloc),
+        label,
+    }
+}
+
+fn points(alloc: Global, count: u32) -> Result<Vec<PointReport>, AllocError> {
+    let mut points = Vec::new(alloc);
+    for number in 0..count {
+        points.push(PointReport {
+            number,
+            point: point(alloc, 1),
+            path: String::from_str(alloc, "main")?,
+            place: Place {
+                line: 1,
+                column: 16,
+            },
+            names: Names::new(alloc),
+            state: Vec::new(alloc),
+        })?;
+    }
+    Ok(points)
+}
+
+fn report(alloc: Global, count: u32) -> Result<Report, AllocError> {
+    let mut verdicts = Vec::new(alloc);
+    verdicts.push(Verdict {
+        number: 6,
+        point: point(alloc, 6),
+        path: String::from_str(alloc, "main")?,
+        place: Place { line: 6, column: 1 },
+        proved: true,
+    })?;
+    Ok(Report {
+        options: Options {
+            domain: Domain::Poly,
+            parts: 1,
+            delay: 1,
+            narrow: 1,
+            limited: false,
+        },
+        flagged: None,
+        points: points(alloc, count)?,
+        verdicts,
+    })
+}
+
+/// Sizes with the points of their reports and the lines that are told of them.
+static SUMMARIES: [(u32, u32, &str); 2] = [
+    (
+        0,
+        6,
+        "sample seed 0 size 0\nbytes 78\npoints 6\nflagged 0\nverdicts proved 1 unknown 0\n",
+    ),
+    (
+        1,
+        8,
+        "sample seed 0 size 1\nbytes 112\npoints 8\nflagged 0\nverdicts proved 1 unknown 0\n",
+    ),
+];
+
+#[test]
+fn summaries(rt: HostRuntime) -> Result<(), Fail> {
+    let alloc = rt.alloc();
+    for (size, count, lines) in SUMMARIES.iter() {
+        let source = program(alloc, 0, *size)?;
+        let report = report(alloc, *count)?;
+        let told = summary(alloc, 0, *size, source.as_slice(), &report)?;
+        let same = told.as_str().as_bytes() == lines.as_bytes();
+        assert!(rt; same);
+    }
+    Ok(())
+}
