@@ -1,4 +1,4 @@
-//! Tests of boxes, octagons and closed polyhedra: each public call that allocates, and values
+//! Tests of boxes, octagons, closed polyhedra and sets of parts: each public call that allocates, and values
 //! from outside.
 //!
 //! They stand apart from what they try, since a crate that has tests in it is proved twice.
@@ -20,6 +20,8 @@ mod poly;
 mod polydom;
 #[cfg(test)]
 mod saturation;
+#[cfg(test)]
+mod sets;
 #[cfg(test)]
 mod shapes;
 #[cfg(test)]
