@@ -80,8 +80,8 @@ impl Cone {
         })
     }
 
-    /// The cone of a description that is at hand: these rows taken in, their lines and rays, and which of them are tight
-    /// at which rays.
+    /// The cone of a description that is at hand: these rows taken in, their lines and rays, and which of them are
+    /// tight at which rays.
     pub fn of_lists(taken: ConSys, lines: Vec<Row>, rays: Vec<Row>, saturation: SatMatrix) -> Cone
         requires cone { IsCone (record {
           dims = taken.dims;

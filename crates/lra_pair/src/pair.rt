@@ -338,8 +338,8 @@ fn from_points(alloc: Global, given: &GenSys) -> Result<(Pair, Vec<Loss>), Alloc
     }
 }
 
-// The polyhedron of the generators that were taken into the cone, some of them points; none where a number passes in the
-// canonical ones, or there are too many.
+// The polyhedron of the generators that were taken into the cone, some of them points; none where a number passes in
+// the canonical ones, or there are too many.
 fn by_own_list(alloc: Global, n: usize, cone: &Cone) -> Result<Option<Pair>, AllocError>
     requires small { n < 2 ^ 62 }
     requires dims { cone.now.dims ≡ n }

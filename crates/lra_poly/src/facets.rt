@@ -120,8 +120,8 @@ fn with_row(
     Ok((rays, matrix))
 }
 
-// The rays of the cone of what is valid on the generators, and which generators they are tight at: the inequalities, and
-// the positivity row where none of them is tight wherever it is.
+// The rays of the cone of what is valid on the generators, and which generators they are tight at: the inequalities,
+// and the positivity row where none of them is tight wherever it is.
 fn facets(
     alloc: Global,
     list: &ConSys,

@@ -1,6 +1,7 @@
 //! Closed polyhedra.
 
-ghost use Rattle.std.specs.Prelude.{◌≡◌, ◌↔◌, ◌<◌, ◌^◌, ◌∷◌, ◌++◌, [], length, drop, IsTrue, IfOk, IfSome, IsSome, OnErr};
+ghost use Rattle.std.specs.Prelude.{◌≡◌, ◌↔◌, ◌<◌, ◌^◌, ◌∷◌, ◌++◌, [], length, drop, IsTrue, IfOk, IfSome, IsSome};
+ghost use Rattle.std.specs.Prelude.{OnErr};
 ghost use Rattle.lra_linear.specs.Descriptions.{AreGenerators, Con, Gen, Holds};
 ghost use Rattle.lra_linear.specs.OperationStrain.{FromRowsStrains, FromGeneratorsStrains};
 ghost use Rattle.lra_linear.specs.OperationStrain.{AddTestStrains, MeetStrains, HullStrains};
@@ -476,8 +477,8 @@ impl Poly {
         }
     }
 
-    /// Becomes the hull with the other: the least closed polyhedron that has the points of both. Where the other lies in
-    /// it, nothing changes. Where it is flagged it has at least its points.
+    /// Becomes the hull with the other: the least closed polyhedron that has the points of both. Where the other lies
+    /// in it, nothing changes. Where it is flagged it has at least its points.
     pub fn hull(&mut self, other: &Poly) -> Result<Outcome, AllocError>
         requires { other.now.dims ≡ self.old.dims }
         ensures dims { self.new.dims ≡ self.old.dims }

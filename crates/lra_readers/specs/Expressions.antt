@@ -17,7 +17,8 @@ use Rattle.lra_tree.specs.Trees.{or}
 use Rattle.lra_tree.specs.Views.{further_factor, further_term}
 use Rattle.lra_base.specs.OperatorViews.{comparison_view}
 use Rattle.lra_readers.specs.Tests.{first}
-use Rattle.lra_readers.specs.Reading.{Parse, stop, seq, map_read, done_with, expect, take_by, next_name, next_number, has}
+use Rattle.lra_readers.specs.Reading.{Parse, stop, seq, map_read, done_with, expect, take_by, next_name, next_number}
+use Rattle.lra_readers.specs.Reading.{has}
 use Rattle.lra_readers.specs.Reading.{one_of, chain, chain_rest}
 
 -- operators --------------------------------------------------------------------------------------------------------

@@ -14,7 +14,8 @@ use Rattle.lra_tree.specs.Trees.{ItemsTree, FunctionTree, GlobalTree, PartTree, 
 use Rattle.lra_readers.specs.declared.lead.Lead.{Lead}
 use Rattle.lra_readers.specs.declared.lead.Lead.TheVariants as lead
 use Rattle.lra_readers.specs.Tests.{first, is_mark}
-use Rattle.lra_readers.specs.Reading.{Parse, stop, seq, map_read, done_with, expect, take_by, next_name, next_number, has}
+use Rattle.lra_readers.specs.Reading.{Parse, stop, seq, map_read, done_with, expect, take_by, next_name, next_number}
+use Rattle.lra_readers.specs.Reading.{has}
 use Rattle.lra_readers.specs.Reading.{one_of, list_of}
 use Rattle.lra_readers.specs.Expressions.{behind, ended}
 use Rattle.lra_readers.specs.Statements.{commas_from, commas, listed, type_words, body_of, items_at}

@@ -29,8 +29,8 @@ impl Drop for Lead {
 }
 
 impl Lead {
-    /// The name behind a type, with which a function or globals may begin; else the head of a signature: whether it has a
-    /// result, and its name.
+    /// The name behind a type, with which a function or globals may begin; else the head of a signature: whether it
+    /// has a result, and its name.
     pub fn split(self) -> Result<Identifier, Option<(bool, Identifier)>>
         ensures { result ≡ split_lead self }
     {

@@ -179,8 +179,8 @@ pub fn run<S: Source, K: Sink>(
     ensures refused { result ≡ Status.Refused →
         Writes (map string_bytes words.now) (S.left source.old) (K.held sink.old) (K.held sink.new) Status.Refused }
     ensures usage_text { result ≡ Status.Usage → Appends (K.held sink.old) (K.held sink.new) usage_text }
-    // Where the words ask for a report and the status is that of one, the one report that the input deserves and that is
-    // written so, as lines or as JSON: it holds in all runs; where nothing is flagged, it tells what the written
+    // Where the words ask for a report and the status is that of one, the one report that the input deserves and that
+    // is written so, as lines or as JSON: it holds in all runs; where nothing is flagged, it tells what the written
     // iteration finds; over polyhedra rows and generators tell the same points.
     ensures holds { (options : Options) (json : Bool) → Asks (map string_bytes words.now) (Analyse options json) →
         IsReported result →
