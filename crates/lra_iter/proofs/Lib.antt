@@ -7,3 +7,4 @@ pub mod Covering
 pub mod Widths
 mod PassSteps
 mod PassRows
+mod Again

@@ -1,5 +1,5 @@
 -- The size of a tree, and what the loops of a pass keep.
-use Rattle.std.proofs.Common.{◌≡◌, ◌≢◌, ℕ, zero, suc, ◌+◌, ◌-◌, ◌^◌, ◌<◌, Bool, true, false, List, [], ◌∷◌, ◌++◌, Option, take, drop, refl, sym, ap, subst, ◌∙◌, arith}
+use Rattle.std.proofs.Common.{◌≡◌, ◌≢◌, ℕ, zero, suc, ◌+◌, ◌-◌, ◌^◌, ◌<◌, Bool, true, false, List, [], ◌∷◌, ◌++◌, Option, None, take, drop, refl, sym, ap, subst, ◌∙◌, arith}
 use Rattle.std.specs.Prelude.{slice_index_or}
 use Rattle.std.specs.List.{sum, sum_by}
 use Rattle.lra_domain.specs.declared.Rank.{Rank}
@@ -20,7 +20,8 @@ use Rattle.lra_flow.specs.Operations.{Operations, dropping}
 use Rattle.lra_flow.specs.Changes.{AreJoined}
 use Rattle.lra_flow.specs.Given.{given_rows}
 use Rattle.lra_flow.specs.Pass.{Result, noted, first_of_call, mode_at, Pass, GoesRound, Grows, Narrows}
-use Rattle.lra_iter.specs.Outcome.{AllHave, HasGrown, JumpsFit}
+use Rattle.lra_iter.specs.declared.outcome.Turn.{Turn}
+use Rattle.lra_iter.specs.Outcome.{headed, AllHave, AreKept, HasGrown, IsKept, JumpsFit}
 
 abbrev pub size_step : Node-F ℕ → ℕ
 size_step Node-F.Empty = 0
@@ -40,82 +41,91 @@ node_size = fold-Node ℕ size_step
 abbrev pub row_size : List Node → Node → ℕ
 row_size gs last = sum_by node_size gs + node_size last
 
--- the head grew from the first value: however it grows on, it is a growth of that
-pub record GrowLoop {V H : Type 0} (m : Meaning V H) (set : Options) (q base : ℕ) (c : Cond) (a : graph.Node) (first : V) (f : Option ℕ) (left : ℕ) (so_far : Option ℕ) (head : H) : Type 0 where
+-- the head grew from the first value: however it grows on, it is a growth of that; the last turn may be given again
+pub record GrowLoop {V H : Type 0} (m : Meaning V H) (set : Options) (q base : ℕ) (c : Cond) (a : graph.Node) (first : V) (f : Option ℕ) (left : ℕ) (so_far : Option ℕ) (head : H)
+    (turn : Option (Turn V)) : Type 0 where
   pub dims : m.head_dims head ≡ m.dims first
   pub fits : RankFits (m.rank head)
+  pub kept : AreKept m set a so_far turn
   pub grows : (later : List H) (v : V) (r : Result V) → Grows V H (dropping m) q base c (Pass V H (dropping m) set a) set.limited left so_far head later v r → HasGrown m set q base c a first f v r
 
--- what is narrowed on is a narrowing from the first round, with which the head was stable
-pub record NarrowLoop {V H : Type 0} (m : Meaning V H) (set : Options) (q base : ℕ) (c : Cond) (a : graph.Node) (first : V) (f : Option ℕ) (left : ℕ) (top : V) (last : Result V) : Type 0 where
+-- what is narrowed on is a narrowing from the first round, with which the head was stable; `entered` came into the body last
+pub record NarrowLoop {V H : Type 0} (m : Meaning V H) (set : Options) (q base : ℕ) (c : Cond) (a : graph.Node) (first : V) (f : Option ℕ) (left : ℕ) (top entered : V) (last : Result V)
+    : Type 0 where
   pub start : V
   pub round : Result V
   pub grown : HasGrown m set q base c a first f start round
   pub dims : m.dims top ≡ m.dims first
   pub behind : m.dims last.normal ≡ m.dims first
   pub jumps : JumpsFit m a (m.dims first) last
-  pub narrows : (v : V) (r : Result V) → Narrows V H (dropping m) q base c (Pass V H (dropping m) set a) left first top last v r
+  pub kept : IsKept m set a last.flag entered last
+  pub narrows : (v : V) (r : Result V) → Narrows V H (dropping m) q base c (Pass V H (dropping m) set a) left first top (headed q top last) v r
       → Narrows V H (dropping m) q base c (Pass V H (dropping m) set a) set.narrow first start round v r
 
 module _ {V H : Type 0} (m : Meaning V H) (set : Options) (q base : ℕ) (c : Cond) (a : graph.Node) where
   -- a head begins
   pub grow_starts : (first : V) (f : Option ℕ) (head : H) → (dropping m).started first (given_rows (m.dims first) base c) head → RankFits (m.rank head)
-      → GrowLoop m set q base c a first f set.delay f head
-  grow_starts first f head begins fits = record { dims = begins.1; fits = fits; grows = λ later v r h. (head, later, begins, h) }
+      → GrowLoop m set q base c a first f set.delay f head None
+  grow_starts first f head begins fits = record { dims = begins.1; fits = fits; kept = tt; grows = λ later v r h. (head, later, begins, h) }
 
   -- it doesn't grow more
-  pub grow_stable : (first : V) (f : Option ℕ) (left : ℕ) (so_far : Option ℕ) (head : H) (v : V) (e : Exactness) (s : Result V) → GrowLoop m set q base c a first f left so_far head
-      → Values m head e v → m.dims v ≡ m.head_dims head → CapsWithin (m.head_capped head) (m.capped v)
-      → GoesRound V H (dropping m) q base c (Pass V H (dropping m) set a) (noted q e so_far) v s
-      → m.answers head s.normal (mode_at set.limited left) Yes → m.dims s.normal ≡ m.head_dims head → HasGrown m set q base c a first f v s
-  grow_stable first f left so_far head v e s loop values dims caps round stays behind = loop.grows [] v s ((e, (values, dims, caps), round), (stays, behind))
+  pub grow_stable : (first : V) (f : Option ℕ) (left : ℕ) (so_far : Option ℕ) (head : H) (v : V) (e : Exactness) (s : Result V) (turn : Option (Turn V))
+      → GrowLoop m set q base c a first f left so_far head turn → Values m head e v → m.dims v ≡ m.head_dims head → CapsWithin (m.head_capped head) (m.capped v)
+      → GoesRound V H (dropping m) q base c (Pass V H (dropping m) set a) (noted q e so_far) v (headed q v s)
+      → m.answers head s.normal (mode_at set.limited left) Yes → m.dims s.normal ≡ m.head_dims head → HasGrown m set q base c a first f v (headed q v s)
+  grow_stable first f left so_far head v e s turn loop values dims caps round stays behind = loop.grows [] v (headed q v s) ((e, (values, dims, caps), round), (stays, behind))
 
   -- it grows by what its round left
-  pub grow_next : (first : V) (f : Option ℕ) (left left' : ℕ) (so_far : Option ℕ) (head next : H) (v : V) (e d : Exactness) (s : Result V) → GrowLoop m set q base c a first f left so_far head
+  pub grow_next : (first : V) (f : Option ℕ) (left left' : ℕ) (so_far : Option ℕ) (head next : H) (v : V) (e d : Exactness) (s : Result V) (before turn : Option (Turn V))
+      → GrowLoop m set q base c a first f left so_far head before
       → Values m head e v → m.dims v ≡ m.head_dims head → CapsWithin (m.head_capped head) (m.capped v)
-      → GoesRound V H (dropping m) q base c (Pass V H (dropping m) set a) (noted q e so_far) v s
+      → GoesRound V H (dropping m) q base c (Pass V H (dropping m) set a) (noted q e so_far) v (headed q v s)
       → Grew m head s.normal (mode_at set.limited left) d next → m.dims s.normal ≡ m.head_dims head → m.head_dims next ≡ m.head_dims head
       → CapsWithin (λ k. m.head_capped head k × m.capped s.normal k) (m.head_capped next) → RankFits (m.rank next)
-      → left' ≡ left - 1 → GrowLoop m set q base c a first f left' (noted q d s.flag) next
-  grow_next first f left left' so_far head next v e d s loop values dims caps round grew behind kept more fits is = record {
-    dims = kept ∙ loop.dims;
+      → left' ≡ left - 1 → AreKept m set a (noted q d s.flag) turn → GrowLoop m set q base c a first f left' (noted q d s.flag) next turn
+  grow_next first f left left' so_far head next v e d s before turn loop values dims caps round grew behind same more fits is kept = record {
+    dims = same ∙ loop.dims;
     fits = fits;
+    kept = kept;
     grows = λ later w r h. loop.grows (next ∷ later) w r (
       v,
-      s,
+      headed q v s,
       d,
       (e, (values, dims, caps), round),
-      (grew, behind, kept, more),
+      (grew, behind, same, more),
       subst (λ (n : ℕ). Grows V H (dropping m) q base c (Pass V H (dropping m) set a) set.limited n (noted q d s.flag) next later w r) is h,
     );
   }
 
   -- a narrowing begins
-  pub narrow_starts : (first u : V) (f : Option ℕ) (s : Result V) → HasGrown m set q base c a first f u s → m.dims u ≡ m.dims first → m.dims s.normal ≡ m.dims first
-      → JumpsFit m a (m.dims first) s → NarrowLoop m set q base c a first f set.narrow u s
-  narrow_starts first u f s grown dims behind jumps = record { start = u; round = s; grown = grown; dims = dims; behind = behind; jumps = jumps; narrows = λ v r h. h }
+  pub narrow_starts : (first u entered : V) (f : Option ℕ) (s : Result V) → HasGrown m set q base c a first f u (headed q u s) → m.dims u ≡ m.dims first → m.dims s.normal ≡ m.dims first
+      → JumpsFit m a (m.dims first) s → IsKept m set a s.flag entered s → NarrowLoop m set q base c a first f set.narrow u entered s
+  narrow_starts first u entered f s grown dims behind jumps kept =
+      record { start = u; round = headed q u s; grown = grown; dims = dims; behind = behind; jumps = jumps; kept = kept; narrows = λ v r h. h }
 
   -- one round of narrowing more
-  pub narrow_next : (first : V) (f : Option ℕ) (left k : ℕ) (top next : V) (last turned : Result V) (e : Exactness) (so_far : Option ℕ)
-      → NarrowLoop m set q base c a first f left top last → left ≡ suc k → (dropping m).joined first last.normal e next → so_far ≡ noted q e last.flag
-      → GoesRound V H (dropping m) q base c (Pass V H (dropping m) set a) so_far next turned
-      → m.dims turned.normal ≡ m.dims next → JumpsFit m a (m.dims next) turned → NarrowLoop m set q base c a first f k next turned
-  narrow_next first f left k top next last turned e so_far loop is joined flagged round behind jumps = record {
+  pub narrow_next : (first : V) (f : Option ℕ) (left k : ℕ) (top next entered on : V) (last turned : Result V) (e : Exactness) (so_far : Option ℕ)
+      → NarrowLoop m set q base c a first f left top entered last → left ≡ suc k → (dropping m).joined first last.normal e next → so_far ≡ noted q e last.flag
+      → GoesRound V H (dropping m) q base c (Pass V H (dropping m) set a) so_far next (headed q next turned)
+      → m.dims turned.normal ≡ m.dims next → JumpsFit m a (m.dims next) turned → IsKept m set a turned.flag on turned → NarrowLoop m set q base c a first f k next on turned
+  narrow_next first f left k top next entered on last turned e so_far loop is joined flagged round behind jumps kept = record {
     start = loop.start;
     round = loop.round;
     grown = loop.grown;
     dims = joined.2;
     behind = behind ∙ joined.2;
     jumps = subst (λ (n : ℕ). JumpsFit m a n turned) joined.2 jumps;
-    narrows = λ v r h. loop.narrows v r (subst (λ (n : ℕ). Narrows V H (dropping m) q base c (Pass V H (dropping m) set a) n first top last v r) (sym is)
-        (next, turned, e, joined, subst (λ (x : Option ℕ). GoesRound V H (dropping m) q base c (Pass V H (dropping m) set a) x next turned) flagged round, h));
+    kept = kept;
+    narrows = λ v r h. loop.narrows v r (subst (λ (n : ℕ). Narrows V H (dropping m) q base c (Pass V H (dropping m) set a) n first top (headed q top last) v r) (sym is)
+        (next, headed q next turned, e, joined, subst (λ (x : Option ℕ). GoesRound V H (dropping m) q base c (Pass V H (dropping m) set a) x next (headed q next turned)) flagged round, h));
   }
 
   -- no round is left
-  pub narrow_ends : (first : V) (f : Option ℕ) (left : ℕ) (top : V) (last : Result V) (loop : NarrowLoop m set q base c a first f left top last) → left ≡ 0
-      → Narrows V H (dropping m) q base c (Pass V H (dropping m) set a) set.narrow first loop.start loop.round top last
-  narrow_ends first f left top last loop is =
-      loop.narrows top last (subst (λ (n : ℕ). Narrows V H (dropping m) q base c (Pass V H (dropping m) set a) n first top last top last) (sym is) (refl, refl))
+  pub narrow_ends : (first : V) (f : Option ℕ) (left : ℕ) (top entered : V) (last : Result V) (loop : NarrowLoop m set q base c a first f left top entered last) → left ≡ 0
+      → Narrows V H (dropping m) q base c (Pass V H (dropping m) set a) set.narrow first loop.start loop.round top (headed q top last)
+  narrow_ends first f left top entered last loop is =
+      loop.narrows top (headed q top last)
+      (subst (λ (n : ℕ). Narrows V H (dropping m) q base c (Pass V H (dropping m) set a) n first top (headed q top last) top (headed q top last)) (sym is) (refl, refl))
 
 not_join : (limited : Bool) → mode_at limited 0 ≡ Join → ⊥
 not_join true e = cc

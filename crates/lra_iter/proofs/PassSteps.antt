@@ -3,7 +3,7 @@ use Rattle.std.proofs.Common.{rules, Box, Vec, Global, map, ◌≡◌, ℕ, zero
 use Rattle.std.specs.Prelude.{◌⊎◌, IfOk, true}
 use Rattle.std.specs.Prelude as outcome_or
 use Rattle.std.proofs.lemmas.Result.{IfOk-weaker}
-use Rattle.std.specs.List.{Contains, insert, sum}
+use Rattle.std.specs.List.{Contains, sum}
 use Rattle.std.proofs.lemmas.List.Sums.{sum-map}
 use Rattle.std.proofs.lemmas.List.Elements.{Contains-append_cases}
 use Rattle.lra_domain.specs.Meaning.{Meaning}
@@ -20,13 +20,11 @@ use Rattle.lra_operations.specs.Graph as graph
 use Rattle.lra_base.specs.declared.options.Options.{Options}
 use Rattle.lra_flow.specs.Operations.{dropping}
 use Rattle.lra_flow.specs.Conditions.{Leaves}
-use Rattle.lra_flow.specs.Pass.{Entry, value, Result, noted, goes_on, jumps, in_turn, behind, Pass, Narrows}
+use Rattle.lra_flow.specs.Pass.{Entry, Result, noted, goes_on, jumps, in_turn, behind, Pass, Narrows}
 use Rattle.lra_flow.specs.Sound.{jumps_of}
 use Rattle.lra_iter.specs.Fits.{live_behind, JumpsWith, TreeFits}
-use Rattle.lra_iter.specs.declared.outcome.Entry as entry
-use Rattle.lra_iter.specs.declared.outcome.Entry.TheVariants as entry_variants
 use Rattle.lra_iter.specs.declared.outcome.Outcome.{Outcome}
-use Rattle.lra_iter.specs.Outcome.{entry_view, seen, AllHave, AreMet, Catches, JumpsFit, HasGrown, IsPassed, LeavesWith}
+use Rattle.lra_iter.specs.Outcome.{headed, seen, AllHave, AreMet, Catches, JumpsFit, HasGrown, IsPassed, LeavesWith}
 use Rattle.lra_iter.proofs.PassLoops.{node_size, row_size}
 
 -- the views of the nine forms
@@ -209,10 +207,10 @@ module _ {V H : Type 0} (m : Meaning V H) where
 
   -- a loop
   pub loop_passed : (set : Options) (q base : ℕ) (c : Cond) (a : graph.Node) (f : Option ℕ) (first u top : V) (s t r : Result V)
-      → HasGrown m set q base c a first f u s → Narrows V H (dropping m) q base c (Pass V H (dropping m) set a) set.narrow first u s top t → LeavesWith m q base c top t r
+      → HasGrown m set q base c a first f u s → Narrows V H (dropping m) q base c (Pass V H (dropping m) set a) set.narrow first u s top (headed q top t) → LeavesWith m q base c top t r
       → m.dims top ≡ m.dims first → m.dims r.normal ≡ m.dims top → JumpsFit m a (m.dims first) t → IsPassed m set (graph.iterate q base c a) f first r
   loop_passed set q base c a f first u top s t r (h, later, started, grows) narrows (out, e, leaves, is) dims left inner = record {
-    pass = (h, later, u, top, out, s, t, e, started, grows, narrows, leaves, is);
+    pass = (h, later, u, top, out, s, headed q top t, e, started, grows, narrows, leaves, is);
     dims = left ∙ dims;
     jumps = subst (λ (x : Result V). JumpsFit m (graph.iterate q base c a) (m.dims first) x) (sym is) (same_jumps_fit (graph.iterate q base c a) (m.dims first) t _ refl refl refl inner);
   }
@@ -260,9 +258,3 @@ module _ {V H E : Type 0} (m : Meaning V H) (set : Options) (g g' : graph.Node) 
     pub caught_jumps : IfOk R (λ r. Catches m q k s (seen r)) → IfOk R (λ r. JumpsFit m g (m.dims v) (seen r))
     caught_jumps h = IfOk-weaker R (λ r. Catches m q k s (seen r)) (λ r. JumpsFit m g (m.dims v) (seen r))
         (λ r p. subst (λ z. JumpsFit m z (m.dims v) (seen r)) (sym (same ∙ is)) (catch_fits m q k a (m.dims v) s (seen r) inner.jumps p)) h
-
--- the value at a loop's point comes first
-pub entered : {V : Type 0} (o : Outcome V) (es : Vec (entry.Entry V) Global) (q : ℕ) (v w : V) → es.items ≡ insert o.found.entries.items 0 (entry_variants.Value q w) → w ≡ v
-    → seen (record o { found = record o.found { entries = es } }) ≡ record (seen o) { entries = value q v ∷ (seen o).entries }
-entered {V} o es q v w is same =
-    ap (λ (xs : List (Entry V)). record (seen o) { entries = xs }) (ap (map entry_view) is ∙ ap (λ (x : V). value q x ∷ map entry_view o.found.entries.items) same)

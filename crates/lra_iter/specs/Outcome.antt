@@ -1,10 +1,11 @@
 -- What a pass in code gives, as the result of a pass.
-use Rattle.std.specs.Prelude.{◌≡◌, ℕ, false, List, [], ◌∷◌, map, Option}
+use Rattle.std.specs.Prelude.{◌≡◌, ℕ, false, List, [], ◌∷◌, map, Option, None, Some, ⊤}
 use Rattle.lra_domain.specs.Meaning.{Meaning}
 use Rattle.lra_iter.specs.declared.outcome.Entry as entry
 use Rattle.lra_iter.specs.declared.outcome.Entry.TheVariants.{Value, Failing}
 use Rattle.lra_iter.specs.declared.outcome.Found.{Found}
 use Rattle.lra_iter.specs.declared.outcome.Outcome.{Outcome}
+use Rattle.lra_iter.specs.declared.outcome.Turn.{Turn}
 use Rattle.lra_domain.specs.declared.Exactness.{Exactness}
 use Rattle.std.specs.List.{Contains}
 use Rattle.lra_program.specs.Program.{Cond}
@@ -16,7 +17,8 @@ use Rattle.lra_flow.specs.Sound.{jumps_of}
 use Rattle.lra_iter.specs.Fits.{live_behind, JumpsWith}
 use Rattle.lra_flow.specs.Operations.{dropping}
 use Rattle.lra_flow.specs.Changes.{AreJoined}
-use Rattle.lra_flow.specs.Pass.{Entry, value, failing, Result, noted, in_turn, caught, behind, Pass, Grows}
+use Rattle.lra_flow.specs.Pass.{Entry, value, failing, Result, noted, in_turn, caught, behind, Pass}
+use Rattle.lra_flow.specs.Pass.{GoesRound, Grows}
 
 abbrev pub entry_view : {V : Type 0} → entry.Entry V → Entry V
 entry_view (Value q v) = value q v
@@ -35,6 +37,10 @@ ended x v f = record {
 
 abbrev pub seen : {V : Type 0} → Outcome V → Result V
 seen r = ended r.found r.normal r.flag
+
+-- the value at a loop's point comes before what its body found
+abbrev pub headed : {V : Type 0} → ℕ → V → Result V → Result V
+headed q v s = record s { entries = value q v ∷ s.entries }
 
 -- what the first two found, one behind the other, is the third, whatever their ends
 abbrev pub AreInTurn : {V : Type 0} → Found V → Found V → Found V → Type 0
@@ -59,10 +65,11 @@ AreMet {V} m q s t r = (w : V) × (e : Exactness) × (dropping m).joined s.norma
 abbrev pub JumpsFit : {V H : Type 0} → Meaning V H → Node → ℕ → Result V → Type 0
 JumpsFit {V} m g n r = (k : Exit) (u : V) → Contains (jumps_of k r) u → JumpsWith g n k (m.dims u)
 
--- a loop is left with what its last round found, and with the value at its head where the condition is false
+-- a loop is left with the value at its head, what its last round found behind it, and that value where the condition is
+-- false
 abbrev pub LeavesWith : {V H : Type 0} → Meaning V H → ℕ → ℕ → Cond → V → Result V → Result V → Type 0
 LeavesWith {V} m q base c top s r = (out : V) × (e : Exactness) × Leaves (dropping m) base c false top e out ×
-    (r ≡ record s { normal = out; flag = noted q e s.flag })
+    (r ≡ record (headed q top s) { normal = out; flag = noted q e s.flag })
 
 -- a pass over the tree, behind which, and at whose jumps, values have as many dimensions as live there
 pub record IsPassed {V H : Type 0} (m : Meaning V H) (set : Options) (g : Node) (f : Option ℕ) (v : V)
@@ -77,3 +84,29 @@ abbrev pub HasGrown : {V H : Type 0} → Meaning V H → Options → ℕ → ℕ
 HasGrown {V} {H} m set q base c a first f u s =
     (h : H) × (later : List H) × (dropping m).started first (given_rows (m.dims first) base c) h
     × Grows V H (dropping m) q base c (Pass V H (dropping m) set a) set.limited set.delay f h later u s
+
+-- a result that may be given again for this value: that of a pass from it, whatever was flagged before that. Where
+-- nothing is flagged so far, nothing was flagged then
+pub record IsKept {V H : Type 0} (m : Meaning V H) (set : Options) (g : Node) (f : Option ℕ) (v : V)
+    (r : Result V) : Type 0 where
+  pub before : Option ℕ
+  pub passed : IsPassed m set g before v r
+  pub unflagged : f ≡ None → r.flag ≡ None
+
+-- a kept turn of a loop's body, if there is one, may be given again
+abbrev pub AreKept : {V H : Type 0} → Meaning V H → Options → Node → Option ℕ → Option (Turn V) → Type 0
+AreKept m set g f None = ⊤
+AreKept m set g f (Some turn) = IsKept m set g f turn.entered (seen turn.outcome)
+
+-- a turn that is given, if one is, is that of a pass from this value
+abbrev pub AreGiven : {V H : Type 0} → Meaning V H → Options → Node → Option ℕ → V → Option (Turn V) → Type 0
+AreGiven m set g f v None = ⊤
+AreGiven m set g f v (Some turn) = (turn.entered ≡ v) × IsPassed m set g f v (seen turn.outcome)
+
+-- once round a loop from this value at its head: what entered the body, and what its pass gave
+pub record IsTurned {V H : Type 0} (m : Meaning V H) (set : Options) (q base : ℕ) (c : Cond) (a : Node) (f : Option ℕ)
+    (v : V) (turn : Turn V) : Type 0 where
+  pub round : GoesRound V H (dropping m) q base c (Pass V H (dropping m) set a) f v (headed q v (seen turn.outcome))
+  pub dims : m.dims turn.outcome.normal ≡ m.dims v
+  pub jumps : JumpsFit m a (m.dims v) (seen turn.outcome)
+  pub kept : IsKept m set a turn.outcome.flag turn.entered (seen turn.outcome)

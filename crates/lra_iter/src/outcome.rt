@@ -1,12 +1,13 @@
 //! What a pass over a tree of operations gives.
 
 ghost use Rattle.std.specs.Prelude.{◌≡◌, ℕ, [], Option, map, IfOk, OnOk};
-ghost use Rattle.lra_operations.specs.Graph.{broken, continued, returned};
+ghost use Rattle.lra_operations.specs.Graph.{broken, continued, returned, Node};
 ghost use Rattle.lra_operations.specs.GraphViews.{exit_view};
+ghost use Rattle.lra_base.specs.declared.options.Options.{Options};
 ghost use Rattle.lra_flow.specs.Operations.{dropping};
 ghost use Rattle.lra_flow.specs.Changes.{AreJoined};
 ghost use Rattle.lra_flow.specs.Pass.{noted, goes_on, jumps, behind};
-ghost use Rattle.lra_iter.specs.Outcome.{entry_view, ended, seen, AllHave, AreInTurn};
+ghost use Rattle.lra_iter.specs.Outcome.{entry_view, ended, seen, AllHave, AreGiven, AreInTurn, AreKept};
 
 use lra_change::worse_of;
 use lra_domain::{Domain, Exactness};
@@ -49,6 +50,21 @@ pub struct Outcome<D> {
     pub found: Found<D>,
     pub normal: D,
     pub flag: Option<usize>,
+}
+
+/// One time round a loop's body: the value that entered it, and what its pass gave.
+pub struct Turn<D> {
+    pub entered: D,
+    pub outcome: Outcome<D>,
+}
+
+impl<D: Drop> Drop for Turn<D> {
+    fn drop(self) {
+        let Turn {
+            entered: _,
+            outcome: _,
+        } = self;
+    }
 }
 
 /// The first flagged point so far, behind an operation of this point.
@@ -181,6 +197,35 @@ impl<D: Drop> Outcome<D> {
         }
         Ok(outcome)
     }
+}
+
+impl<D: Drop> Turn<D> {
+    /// What its pass gave alone.
+    pub fn into_outcome(self) -> Outcome<D>
+        ensures { result ≡ self.outcome }
+    {
+        let Turn {
+            entered: _,
+            outcome,
+        } = self;
+        outcome
+    }
+}
+
+/// The kept turn of a loop's body, where the same value enters it again: passed anew it would give the same, but for
+/// what is flagged so far.
+pub fn given_again<D: Domain>(kept: Option<Turn<D>>, on: &D, flag: Option<usize>) -> Option<Turn<D>>
+    ensures { (options : Options) (body : Node) → AreKept D.meaning options body flag kept →
+        AreGiven D.meaning options body flag on.now result }
+{
+    let Some(mut turn) = kept else {
+        return None;
+    };
+    if !turn.entered.same(on) {
+        return None;
+    }
+    turn.outcome.flag = flag;
+    Some(turn)
 }
 
 /// The values joined one by one, from the left.

@@ -1,20 +1,22 @@
 //! The pass over a tree of operations.
 
-ghost use Rattle.std.specs.Prelude.{◌≡◌, ◌≤◌, ◌^◌, map, IfOk};
+ghost use Rattle.std.specs.Prelude.{◌≡◌, ◌≤◌, ◌^◌, ℕ, Option, map, true, IfOk};
 ghost use Rattle.lra_domain.specs.Rank.{RankFits};
 ghost use Rattle.lra_domain.specs.declared.Exactness.{Exactness};
 ghost use Rattle.lra_operations.specs.Graph.{choose, iterate};
 ghost use Rattle.lra_program.specs.ProgramViews.{cond_view};
 ghost use Rattle.lra_operations.specs.GraphViews.{node_view, row};
+ghost use Rattle.lra_flow.specs.Conditions.{Leaves};
 ghost use Rattle.lra_flow.specs.Given.{given_rows};
 ghost use Rattle.lra_flow.specs.Operations.{dropping};
-ghost use Rattle.lra_flow.specs.Pass.{GoesRound, Pass, mode_at, noted};
+ghost use Rattle.lra_flow.specs.Pass.{Pass, mode_at, noted};
 ghost use Rattle.lra_iter.specs.Fits.{live_behind, TreeFits};
-ghost use Rattle.lra_iter.specs.Outcome.{seen, AreMet, HasGrown, IsPassed, JumpsFit, LeavesWith};
+ghost use Rattle.lra_iter.specs.Outcome.{ended, headed, seen, AreKept, AreMet, HasGrown, IsKept, IsPassed};
+ghost use Rattle.lra_iter.specs.Outcome.{IsTurned, JumpsFit, LeavesWith};
 
 use crate::catches::catch_jumps;
 use crate::leaves::{pass_act, pass_check, pass_leave, pass_point};
-use crate::outcome::{Entry, Found, Outcome, note};
+use crate::outcome::{Entry, Found, Outcome, Turn, given_again, note};
 use lra_base::Options;
 use lra_change::{Kept, leave, split};
 use lra_domain::{Domain, Exactness, Grown, Mode};
@@ -92,23 +94,38 @@ fn start<D: Domain>(
     D::start(alloc, first, &given)
 }
 
-/// The first value joined with what a round left, and the first flagged point so far: of the round nothing else stays.
+/// The first value joined with what a round left, and the first flagged point so far.
 fn narrowed<D: Domain>(
     alloc: Global,
     point: usize,
     first: &D,
-    last: Outcome<D>,
+    last: &Outcome<D>,
 ) -> Result<(D, Option<usize>), AllocError>
-    requires { D.meaning.dims last.normal ≡ D.meaning.dims first.now }
-    ensures { IfOk result (λ r. (e : Exactness) × (dropping D.meaning).joined first.now last.normal e r.0 ×
-        (r.1 ≡ noted point e last.flag)) }
+    requires { D.meaning.dims last.now.normal ≡ D.meaning.dims first.now }
+    ensures { IfOk result (λ r. (e : Exactness) × (dropping D.meaning).joined first.now last.now.normal e r.0 ×
+        (r.1 ≡ noted point e last.now.flag)) }
 {
     let mut next = first.copy(alloc)?;
     let exactness = next.join(&last.normal)?;
     Ok((next, note(point, exactness, last.flag)))
 }
 
-/// What the last round found, and behind it what the value at the head leaves where the condition is false.
+/// The value at a loop's point comes before what its last round found.
+fn head_first<D: Domain>(
+    alloc: Global,
+    point: usize,
+    value: &D,
+    found: Found<D>,
+) -> Result<Found<D>, AllocError>
+    ensures { IfOk result (λ r. (v : D) (f : Option ℕ) → ended r v f ≡ headed point value.now (ended found v f)) }
+{
+    let mut all = found;
+    let at_head = value.copy(alloc)?;
+    all.entries.insert(0, Entry::Value(point, at_head))?;
+    Ok(all)
+}
+
+/// The value at the head and what its round found, and behind it what that value leaves where the condition is false.
 fn leave_loop<D: Domain>(
     alloc: Global,
     the_loop: &Loop<'_>,
@@ -120,6 +137,7 @@ fn leave_loop<D: Domain>(
         (cond_view the_loop.now.condition.now) top (seen last) (seen r)) }
     ensures dims { IfOk result (λ r. D.meaning.dims r.normal ≡ D.meaning.dims top) }
 {
+    let found = head_first(alloc, the_loop.point, &top, last.found)?;
     let mut out = top;
     let exactness = leave(
         alloc,
@@ -130,31 +148,23 @@ fn leave_loop<D: Domain>(
         Exactness::Exact,
     )?;
     Ok(Outcome {
-        found: last.found,
+        found,
         normal: out,
         flag: note(the_loop.point, exactness, last.flag),
     })
 }
 
-/// Once round a loop from a value at its head.
-#[cycle(pass)]
-fn round<D: Domain>(
+/// What the value at a loop's head leaves where the condition is true, and the first flagged point so far.
+fn enter<D: Domain>(
     alloc: Global,
     the_loop: &Loop<'_>,
     value: &D,
     flag: Option<usize>,
-) -> Result<Outcome<D>, AllocError>
-    requires parts { 1 ≤ the_loop.now.options.now.parts }
-    requires few { D.meaning.dims value.now ≤ 2 ^ 30 }
-    requires fits { TreeFits (node_view the_loop.now.body.now) (D.meaning.dims value.now) }
-    requires closed { live_behind (node_view the_loop.now.body.now) (D.meaning.dims value.now) ≡
-        D.meaning.dims value.now }
-    ensures round { IfOk result (λ r. GoesRound D D.Head (dropping D.meaning) the_loop.now.point the_loop.now.base
-        (cond_view the_loop.now.condition.now) (Pass D D.Head (dropping D.meaning) the_loop.now.options.now
-        (node_view the_loop.now.body.now)) flag value.now (seen r)) }
-    ensures dims { IfOk result (λ r. D.meaning.dims r.normal ≡ D.meaning.dims value.now) }
-    ensures jumps { IfOk result (λ r. JumpsFit D.meaning (node_view the_loop.now.body.now) (D.meaning.dims value.now)
-        (seen r)) }
+) -> Result<(D, Option<usize>), AllocError>
+    requires { D.meaning.dims value.now ≤ 2 ^ 30 }
+    ensures enters { IfOk result (λ r. (e : Exactness) × Leaves (dropping D.meaning) the_loop.now.base
+        (cond_view the_loop.now.condition.now) true value.now e r.0 × (r.1 ≡ noted the_loop.now.point e flag)) }
+    ensures dims { IfOk result (λ r. D.meaning.dims r.0 ≡ D.meaning.dims value.now) }
 {
     let mut on = value.copy(alloc)?;
     let exactness = leave(
@@ -165,49 +175,75 @@ fn round<D: Domain>(
         &mut on,
         Exactness::Exact,
     )?;
-    let inside = note(the_loop.point, exactness, flag);
-    let mut outcome = pass(alloc, the_loop.options, the_loop.body, on, inside)?;
-    let found = value.copy(alloc)?;
-    outcome
-        .found
-        .entries
-        .insert(0, Entry::Value(the_loop.point, found))?;
-    Ok(outcome)
+    Ok((on, note(the_loop.point, exactness, flag)))
 }
 
-/// A loop's head from its first value on, until what a round leaves lies in it: the value there, and what its round
-/// gave.
+/// Once round a loop from a value at its head. The body isn't passed anew where the same value entered it last.
+#[cycle(pass)]
+fn round<D: Domain>(
+    alloc: Global,
+    the_loop: &Loop<'_>,
+    value: &D,
+    flag: Option<usize>,
+    kept: Option<Turn<D>>,
+) -> Result<Turn<D>, AllocError>
+    requires parts { 1 ≤ the_loop.now.options.now.parts }
+    requires few { D.meaning.dims value.now ≤ 2 ^ 30 }
+    requires fits { TreeFits (node_view the_loop.now.body.now) (D.meaning.dims value.now) }
+    requires closed { live_behind (node_view the_loop.now.body.now) (D.meaning.dims value.now) ≡
+        D.meaning.dims value.now }
+    requires kept { AreKept D.meaning the_loop.now.options.now (node_view the_loop.now.body.now) flag kept }
+    ensures { IfOk result (λ r. IsTurned D.meaning the_loop.now.options.now the_loop.now.point the_loop.now.base
+        (cond_view the_loop.now.condition.now) (node_view the_loop.now.body.now) flag value.now r) }
+{
+    let (on, inside) = enter(alloc, the_loop, value, flag)?;
+    if let Some(turn) = given_again(kept, &on, inside) {
+        return Ok(turn);
+    }
+    let entered = on.copy(alloc)?;
+    let outcome = pass(alloc, the_loop.options, the_loop.body, on, inside)?;
+    Ok(Turn { entered, outcome })
+}
+
+/// A loop's head from its first value on, until what a round leaves lies in it: the value there, and its turn.
 #[cycle(pass)]
 fn grow<D: Domain>(
     alloc: Global,
     the_loop: &Loop<'_>,
     first: &D,
     flag: Option<usize>,
-) -> Result<(D, Outcome<D>), AllocError>
+) -> Result<(D, Turn<D>), AllocError>
     requires parts { 1 ≤ the_loop.now.options.now.parts }
     requires few { D.meaning.dims first.now ≤ 2 ^ 30 }
     requires fits { TreeFits (node_view the_loop.now.body.now) (D.meaning.dims first.now) }
     requires closed { live_behind (node_view the_loop.now.body.now) (D.meaning.dims first.now) ≡
         D.meaning.dims first.now }
     ensures grows { IfOk result (λ r. HasGrown D.meaning the_loop.now.options.now the_loop.now.point the_loop.now.base
-        (cond_view the_loop.now.condition.now) (node_view the_loop.now.body.now) first.now flag r.0 (seen r.1)) }
+        (cond_view the_loop.now.condition.now) (node_view the_loop.now.body.now) first.now flag r.0
+        (headed the_loop.now.point r.0 (seen r.1.outcome))) }
     ensures dims { IfOk result (λ r. D.meaning.dims r.0 ≡ D.meaning.dims first.now) }
-    ensures behind { IfOk result (λ r. D.meaning.dims r.1.normal ≡ D.meaning.dims first.now) }
+    ensures behind { IfOk result (λ r. D.meaning.dims r.1.outcome.normal ≡ D.meaning.dims first.now) }
     ensures jumps { IfOk result (λ r. JumpsFit D.meaning (node_view the_loop.now.body.now) (D.meaning.dims first.now)
-        (seen r.1)) }
+        (seen r.1.outcome)) }
+    ensures kept { IfOk result (λ r. IsKept D.meaning the_loop.now.options.now (node_view the_loop.now.body.now)
+        r.1.outcome.flag r.1.entered (seen r.1.outcome)) }
 {
     let mut head = start(alloc, the_loop.base, the_loop.condition, first)?;
     let mut left = the_loop.options.delay;
     let mut so_far = flag;
+    let mut kept = None;
     'head: loop {
         let (value, exactness) = D::value(alloc, &head)?;
         let so_far_here = note(the_loop.point, exactness, so_far);
-        let outcome = round(alloc, the_loop, &value, so_far_here)?;
+        let turn = round(alloc, the_loop, &value, so_far_here, kept)?;
         let mode = mode_of(the_loop.options.limited, left);
-        match D::grow(&mut head, &outcome.normal, mode)? {
-            Grown::Stable => return Ok((value, outcome)),
-            Grown::Grew(exactness) => so_far = note(the_loop.point, exactness, outcome.flag),
+        match D::grow(&mut head, &turn.outcome.normal, mode)? {
+            Grown::Stable => return Ok((value, turn)),
+            Grown::Grew(exactness) => {
+                so_far = note(the_loop.point, exactness, turn.outcome.flag);
+            }
         }
+        kept = Some(turn);
         left = left.saturating_sub(1);
     }
 }
@@ -229,17 +265,17 @@ fn pass_loop<D: Domain>(
         (iterate the_loop.now.point the_loop.now.base (cond_view the_loop.now.condition.now)
         (node_view the_loop.now.body.now)) flag value (seen r)) }
 {
-    let (grown, outcome) = grow(alloc, the_loop, &value, flag)?;
+    let (grown, turn) = grow(alloc, the_loop, &value, flag)?;
     let mut top = grown;
-    let mut last = outcome;
+    let mut last = turn;
     let mut left = the_loop.options.narrow;
     'narrowing: while left > 0 {
-        let (next, so_far) = narrowed(alloc, the_loop.point, &value, last)?;
+        let (next, so_far) = narrowed(alloc, the_loop.point, &value, &last.outcome)?;
         top = next;
-        last = round(alloc, the_loop, &top, so_far)?;
+        last = round(alloc, the_loop, &top, so_far, Some(last))?;
         left -= 1;
     }
-    let outcome = leave_loop(alloc, the_loop, top, last)?;
+    let outcome = leave_loop(alloc, the_loop, top, last.into_outcome())?;
     Ok(outcome)
 }
 

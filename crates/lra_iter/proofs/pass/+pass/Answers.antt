@@ -1,18 +1,17 @@
-use Rattle.std.proofs.Common.{rules, ◌≡◌, ◌≤◌, ◌-◌, ◌+◌, ◌^◌, suc, map, refl, sym, ap, subst, ◌∙◌, arith}
-use Rattle.std.specs.List.{insert}
+use Rattle.std.proofs.Common.{rules, ◌≡◌, ◌≤◌, ◌-◌, ◌+◌, ◌^◌, suc, Some, map, refl, sym, ap, subst, ◌∙◌, arith}
 use Rattle.lra_domain.specs.declared.Included.TheVariants.{Yes}
 use Rattle.lra_domain.specs.Meaning.{Grew}
 use Rattle.lra_program.specs.ProgramViews.{cond_view}
 use Rattle.lra_operations.specs.GraphViews.{node_view, exit_view, op_view, row}
 use Rattle.lra_operations.specs.Graph as graph
 use Rattle.lra_flow.specs.Pass.{Result, noted, mode_at}
-use Rattle.lra_iter.specs.declared.outcome.Entry.TheVariants.{Value}
 use Rattle.lra_iter.specs.Fits.{live_behind, TreeFits}
-use Rattle.lra_iter.specs.Outcome.{seen, IsPassed}
+use Rattle.lra_iter.specs.Outcome.{seen, AreKept, IsKept, IsPassed}
 use Rattle.lra_iter.proofs.PassLoops.{node_size, row_size, grow_starts, grow_stable, grow_next, grow_falls, narrow_starts, narrow_next, narrow_ends}
 use Rattle.lra_iter.proofs.PassSteps.{empty_view, point_view, act_view, check_view, leave_view, seq_shown, seq_sized, choose_shown, choose_sized, iterate_shown, iterate_sized, catch_shown}
-use Rattle.lra_iter.proofs.PassSteps.{catch_sized, none_fits, same_jumps_fit, caught_have, entered, loop_passed, choice_passed, given_pass, given_dims, given_jumps, caught_pass, caught_dims}
+use Rattle.lra_iter.proofs.PassSteps.{catch_sized, none_fits, caught_have, loop_passed, choice_passed, given_pass, given_dims, given_jumps, caught_pass, caught_dims}
 use Rattle.lra_iter.proofs.PassSteps.{caught_jumps}
+use Rattle.lra_iter.proofs.Again.{all_noted, kept_noted, given_turned, turned}
 use Rattle.lra_iter.proofs.PassRows.{row_at, tree_small, row_done, row_starts, next_fits, row_next, last_fits, row_ends}
 use Rattle.lra_iter.proofs.pass.+pass.Goals as goal
 
@@ -21,37 +20,30 @@ use Rattle.lra_iter.proofs.pass.+pass.Goals as goal
 pub round-pass-requires : goal.round-pass-requires
 round-pass-requires g t c =
     let m = g.D.Domain.meaning in
-    let same : m.dims c.leave.new.value ≡ m.dims c.args.value.now = c.in_ok-exactness.ensures.dims ∙ ap m.dims c.in_ok-on.ensures in
-    let few : m.dims c.leave.new.value ≤ 2 ^ 30 = subst (λ n. n ≤ 2 ^ 30) (sym same) c.requires.few in
-    let fits : TreeFits (node_view c.args.the_loop.now.body.now) (m.dims c.leave.new.value) = subst (λ n. TreeFits (node_view c.args.the_loop.now.body.now) n) (sym same) c.requires.fits in
+    let same : m.dims c.in_ok-on.on ≡ m.dims c.args.value.now = c.in_ok-on.ensures.dims in
+    let few : m.dims c.in_ok-on.on ≤ 2 ^ 30 = subst (λ n. n ≤ 2 ^ 30) (sym same) c.requires.few in
+    let fits : TreeFits (node_view c.args.the_loop.now.body.now) (m.dims c.in_ok-on.on) = subst (λ n. TreeFits (node_view c.args.the_loop.now.body.now) n) (sym same) c.requires.fits in
     search rules
 
-pub round-returns-clause-round : goal.round-returns-clause-round
-round-returns-clause-round g t c =
-    let leaves = rw c.in_ok-on.ensures at c.in_ok-exactness.ensures.leaves in
-    let passes = rw c.note-inside.ensures at c.in_ok-outcome.ensures.pass in
-    let inserted : c.insert.new.self.items ≡ insert c.in_ok-outcome.outcome.found.entries.items 0 (Value c.args.the_loop.now.point c.in_ok-found.found) = search rules in (
-      c.leave.new.value,
-      c.in_ok-exactness.exactness,
-      seen c.in_ok-outcome.outcome,
-      leaves,
-      passes,
-      entered c.in_ok-outcome.outcome c.insert.new.self c.args.the_loop.now.point c.args.value.now
-          c.in_ok-found.found inserted c.in_ok-found.ensures,
-    )
-
-pub round-returns-clause-dims : goal.round-returns-clause-dims
-round-returns-clause-dims g t c =
+pub round-returns-in-Some : goal.round-returns-in-Some
+round-returns-in-Some g t c =
     let m = g.D.Domain.meaning in
-    let same : m.dims c.leave.new.value ≡ m.dims c.args.value.now = c.in_ok-exactness.ensures.dims ∙ ap m.dims c.in_ok-on.ensures in
-    c.in_ok-outcome.ensures.dims ∙ ap (live_behind (node_view c.args.the_loop.now.body.now)) same ∙ c.requires.closed
+    let l = c.args.the_loop.now in
+    let body = node_view l.body.now in
+    let entered = c.in_ok-on.ensures.enters in
+    given_turned m l.options.now body l.point l.base (cond_view l.condition.now) c.args.flag c.in_ok-on.inside c.args.value.now c.in_ok-on.on entered.0 c.args.kept c.given_again.result
+    c.in-Some.turn entered.1 entered.2 c.in_ok-on.ensures.dims c.requires.closed c.requires.kept (c.given_again.ensures l.options.now body) c.in-Some.is
 
-pub round-returns-clause-jumps : goal.round-returns-clause-jumps
-round-returns-clause-jumps g t c =
+pub round-returns : goal.round-returns
+round-returns g t c =
     let m = g.D.Domain.meaning in
-    let same : m.dims c.leave.new.value ≡ m.dims c.args.value.now = c.in_ok-exactness.ensures.dims ∙ ap m.dims c.in_ok-on.ensures in
-    let inner = rw same at c.in_ok-outcome.ensures.jumps in
-    same_jumps_fit m (node_view c.args.the_loop.now.body.now) (m.dims c.args.value.now) (seen c.in_ok-outcome.outcome) _ refl refl refl inner
+    let l = c.args.the_loop.now in
+    let body = node_view l.body.now in
+    let entered = c.in_ok-on.ensures.enters in
+    let done = c.in_ok-outcome.ensures in
+    turned m l.options.now body l.point l.base (cond_view l.condition.now) c.args.flag c.in_ok-on.inside c.args.value.now c.in_ok-on.on entered.0
+    (record { entered = c.in_ok-entered.entered; outcome = c.in_ok-outcome.outcome }) entered.1 entered.2 c.in_ok-on.ensures.dims c.requires.closed c.in_ok-entered.ensures
+    (record { pass = done.pass; dims = done.dims; jumps = done.jumps })
 
 -- a head that grows ---------------------------------------------------------------------------------------------------
 
@@ -64,37 +56,45 @@ grow-head-init g t c =
 pub grow-round-requires : goal.grow-round-requires
 grow-round-requires g t c =
     let m = g.D.Domain.meaning in
-    let body = node_view c.args.the_loop.now.body.now in
+    let l = c.args.the_loop.now in
+    let body = node_view l.body.now in
     let same : m.dims c.in_ok-value.value ≡ m.dims c.args.first.now = c.in_ok-value.ensures.dims ∙ c.head.invariant.dims in
     let few : m.dims c.in_ok-value.value ≤ 2 ^ 30 = subst (λ n. n ≤ 2 ^ 30) (sym same) c.requires.few in
     let fits : TreeFits (node_view c.args.the_loop.now.body.now) (m.dims c.in_ok-value.value) = subst (λ n. TreeFits body n) (sym same) c.requires.fits in
     let closed : live_behind (node_view c.args.the_loop.now.body.now) (m.dims c.in_ok-value.value) ≡ m.dims c.in_ok-value.value = subst (λ n. live_behind body n ≡ n) (sym same) c.requires.closed in
+    let kept : AreKept m c.args.the_loop.now.options.now (node_view c.args.the_loop.now.body.now) c.note-so_far_here.result c.head.kept =
+    subst (λ f. AreKept m l.options.now body f c.head.kept) (sym c.note-so_far_here.ensures)
+    (all_noted m l.options.now body l.point c.in_ok-value.exactness c.head.so_far c.head.kept c.head.invariant.kept) in
     search rules
 
 pub grow-grow-requires : goal.grow-grow-requires
-grow-grow-requires g t c = sym (c.in_ok-outcome.ensures.dims ∙ c.in_ok-value.ensures.dims)
+grow-grow-requires g t c = sym (c.in_ok-turn.ensures.dims ∙ c.in_ok-value.ensures.dims)
 
 pub grow-returns-in-Stable-clause-grows : goal.grow-returns-in-Stable-clause-grows
 grow-returns-in-Stable-clause-grows g t c =
     let m = g.D.Domain.meaning in
     let l = c.args.the_loop.now in
-    let stays : m.answers c.head.head c.in_ok-outcome.outcome.normal (mode_at l.options.now.limited c.head.left) Yes = rw (← c.mode_of-mode.ensures) (c.in_ok-grow.ensures.stays c.in-Stable.is) in
-    let round = rw c.note-so_far_here.ensures at c.in_ok-outcome.ensures.round in
+    let outcome = c.in_ok-turn.turn.outcome in
+    let stays : m.answers c.head.head outcome.normal (mode_at l.options.now.limited c.head.left) Yes = rw (← c.mode_of-mode.ensures) (c.in_ok-grow.ensures.stays c.in-Stable.is) in
+    let round = rw c.note-so_far_here.ensures at c.in_ok-turn.ensures.round in
     grow_stable m l.options.now l.point l.base (cond_view l.condition.now) (node_view l.body.now) c.args.first.now c.args.flag c.head.left c.head.so_far c.head.head
-    c.in_ok-value.value c.in_ok-value.exactness (seen c.in_ok-outcome.outcome) c.head.invariant c.in_ok-value.ensures.values c.in_ok-value.ensures.dims c.in_ok-value.ensures.capped round stays
-    (c.in_ok-outcome.ensures.dims ∙ c.in_ok-value.ensures.dims)
+    c.in_ok-value.value c.in_ok-value.exactness (seen outcome) c.head.kept c.head.invariant c.in_ok-value.ensures.values c.in_ok-value.ensures.dims c.in_ok-value.ensures.capped round stays
+    (c.in_ok-turn.ensures.dims ∙ c.in_ok-value.ensures.dims)
 
 pub grow-returns-in-Stable-clause-dims : goal.grow-returns-in-Stable-clause-dims
 grow-returns-in-Stable-clause-dims g t c = c.in_ok-value.ensures.dims ∙ c.head.invariant.dims
 
 pub grow-returns-in-Stable-clause-behind : goal.grow-returns-in-Stable-clause-behind
-grow-returns-in-Stable-clause-behind g t c = c.in_ok-outcome.ensures.dims ∙ c.in_ok-value.ensures.dims ∙ c.head.invariant.dims
+grow-returns-in-Stable-clause-behind g t c = c.in_ok-turn.ensures.dims ∙ c.in_ok-value.ensures.dims ∙ c.head.invariant.dims
 
 pub grow-returns-in-Stable-clause-jumps : goal.grow-returns-in-Stable-clause-jumps
 grow-returns-in-Stable-clause-jumps g t c =
     let m = g.D.Domain.meaning in
     let same : m.dims c.in_ok-value.value ≡ m.dims c.args.first.now = c.in_ok-value.ensures.dims ∙ c.head.invariant.dims in
-    rw same at c.in_ok-outcome.ensures.jumps
+    rw same at c.in_ok-turn.ensures.jumps
+
+pub grow-returns-in-Stable-clause-kept : goal.grow-returns-in-Stable-clause-kept
+grow-returns-in-Stable-clause-kept g t c = c.in_ok-turn.ensures.kept
 
 pub grow-head-smaller : goal.grow-head-smaller
 grow-head-smaller g t c =
@@ -106,14 +106,16 @@ pub grow-head-preserved : goal.grow-head-preserved
 grow-head-preserved g t c =
     let m = g.D.Domain.meaning in
     let l = c.args.the_loop.now in
-    let grew : Grew m c.head.head c.in_ok-outcome.outcome.normal (mode_at l.options.now.limited c.head.left) c.in-Grew.exactness c.grow.new.head = rw (← c.mode_of-mode.ensures)
+    let turn = c.in_ok-turn.turn in
+    let grew : Grew m c.head.head turn.outcome.normal (mode_at l.options.now.limited c.head.left) c.in-Grew.exactness c.grow.new.head = rw (← c.mode_of-mode.ensures)
     (c.in_ok-grow.ensures.grew c.in-Grew.exactness c.in-Grew.is) in
-    let round = rw c.note-so_far_here.ensures at c.in_ok-outcome.ensures.round in
+    let round = rw c.note-so_far_here.ensures at c.in_ok-turn.ensures.round in
+    let kept = kept_noted m l.options.now (node_view l.body.now) l.point c.in-Grew.exactness turn.outcome.flag turn.entered (seen turn.outcome) c.in_ok-turn.ensures.kept in
     rw c.note-so_far.ensures (grow_next m l.options.now l.point l.base (cond_view l.condition.now) (node_view l.body.now) c.args.first.now c.args.flag c.head.left c.saturating_sub-left.result
     c.head.so_far c.head.head c.grow.new.head
-    c.in_ok-value.value c.in_ok-value.exactness c.in-Grew.exactness (seen c.in_ok-outcome.outcome) c.head.invariant c.in_ok-value.ensures.values c.in_ok-value.ensures.dims
+    c.in_ok-value.value c.in_ok-value.exactness c.in-Grew.exactness (seen turn.outcome) c.head.kept (Some turn) c.head.invariant c.in_ok-value.ensures.values c.in_ok-value.ensures.dims
     c.in_ok-value.ensures.capped round grew
-    (c.in_ok-outcome.ensures.dims ∙ c.in_ok-value.ensures.dims) c.in_ok-grow.ensures.dims c.in_ok-grow.ensures.capped c.in_ok-grow.ensures.fits c.saturating_sub-left.ensures)
+    (c.in_ok-turn.ensures.dims ∙ c.in_ok-value.ensures.dims) c.in_ok-grow.ensures.dims c.in_ok-grow.ensures.capped c.in_ok-grow.ensures.fits c.saturating_sub-left.ensures kept)
 
 -- a loop, narrowed and left ---------------------------------------------------------------------------------------------
 
@@ -125,8 +127,9 @@ pub pass_loop-narrowing-init : goal.pass_loop-narrowing-init
 pass_loop-narrowing-init g t c =
     let l = c.args.the_loop.now in
     let grown = c.in_ok-grown.ensures in
-    narrow_starts g.D.Domain.meaning l.options.now l.point l.base (cond_view l.condition.now) (node_view l.body.now) c.args.value c.in_ok-grown.grown c.args.flag (seen c.in_ok-grown.outcome)
-    grown.grows grown.dims grown.behind grown.jumps
+    let turn = c.in_ok-grown.turn in
+    narrow_starts g.D.Domain.meaning l.options.now l.point l.base (cond_view l.condition.now) (node_view l.body.now) c.args.value c.in_ok-grown.grown turn.entered c.args.flag (seen turn.outcome)
+    grown.grows grown.dims grown.behind grown.jumps grown.kept
 
 pub pass_loop-narrowed-requires : goal.pass_loop-narrowed-requires
 pass_loop-narrowed-requires g t c = c.narrowing.invariant.behind
@@ -134,21 +137,30 @@ pass_loop-narrowed-requires g t c = c.narrowing.invariant.behind
 pub pass_loop-round-requires : goal.pass_loop-round-requires
 pass_loop-round-requires g t c =
     let m = g.D.Domain.meaning in
-    let body = node_view c.args.the_loop.now.body.now in
-    let same : m.dims c.in_ok-next.next ≡ m.dims c.args.value = c.in_ok-next.ensures.1.2 in
+    let l = c.args.the_loop.now in
+    let body = node_view l.body.now in
+    let last = c.narrowing.last in
+    let joined = c.in_ok-next.ensures in
+    let same : m.dims c.in_ok-next.next ≡ m.dims c.args.value = joined.1.2 in
     let few : m.dims c.in_ok-next.next ≤ 2 ^ 30 = subst (λ n. n ≤ 2 ^ 30) (sym same) c.requires.few in
     let fits : TreeFits (node_view c.args.the_loop.now.body.now) (m.dims c.in_ok-next.next) = subst (λ n. TreeFits body n) (sym same) c.requires.fits in
     let closed : live_behind (node_view c.args.the_loop.now.body.now) (m.dims c.in_ok-next.next) ≡ m.dims c.in_ok-next.next = subst (λ n. live_behind body n ≡ n) (sym same) c.requires.closed in
+    let kept : IsKept m c.args.the_loop.now.options.now (node_view c.args.the_loop.now.body.now) c.in_ok-next.so_far c.narrowing.last.entered (seen c.narrowing.last.outcome) =
+    subst (λ f. IsKept m l.options.now body f last.entered (seen last.outcome)) (sym joined.2)
+    (kept_noted m l.options.now body l.point joined.0 last.outcome.flag last.entered (seen last.outcome) c.narrowing.invariant.kept) in
     search rules
 
 pub pass_loop-narrowing-preserved : goal.pass_loop-narrowing-preserved
 pass_loop-narrowing-preserved g t c =
     let l = c.args.the_loop.now in
+    let before = c.narrowing.last in
+    let after = c.in_ok-last.last in
     let counts : c.narrowing.left ≡ suc (c.narrowing.left - 1) = omega arith in
     narrow_next g.D.Domain.meaning l.options.now l.point l.base (cond_view l.condition.now) (node_view l.body.now) c.args.value c.args.flag c.narrowing.left (c.narrowing.left - 1)
-    c.narrowing.top c.in_ok-next.next (seen c.narrowing.last) (seen c.in_ok-last.last) c.in_ok-next.ensures.0 c.in_ok-next.so_far c.narrowing.invariant counts c.in_ok-next.ensures.1
+    c.narrowing.top c.in_ok-next.next before.entered after.entered (seen before.outcome) (seen after.outcome) c.in_ok-next.ensures.0 c.in_ok-next.so_far c.narrowing.invariant counts
+    c.in_ok-next.ensures.1
     c.in_ok-next.ensures.2
-    c.in_ok-last.ensures.round c.in_ok-last.ensures.dims c.in_ok-last.ensures.jumps
+    c.in_ok-last.ensures.round c.in_ok-last.ensures.dims c.in_ok-last.ensures.jumps c.in_ok-last.ensures.kept
 
 pub pass_loop-leave_loop-requires : goal.pass_loop-leave_loop-requires
 pass_loop-leave_loop-requires g t c = subst (λ n. n ≤ 2 ^ 30) (sym c.narrowing.invariant.dims) c.requires.few
@@ -157,11 +169,13 @@ pub pass_loop-returns : goal.pass_loop-returns
 pass_loop-returns g t c =
     let l = c.args.the_loop.now in
     let loop = c.narrowing.invariant in
+    let last = c.narrowing.last in
     let none : c.narrowing.left ≡ 0 = omega arith in
     let narrows = narrow_ends g.D.Domain.meaning l.options.now l.point l.base (cond_view l.condition.now) (node_view l.body.now) c.args.value c.args.flag c.narrowing.left c.narrowing.top
-    (seen c.narrowing.last) loop none in
+    last.entered (seen last.outcome) loop none in
+    let left = rw c.into_outcome.ensures at c.in_ok-outcome.ensures.left in
     loop_passed g.D.Domain.meaning l.options.now l.point l.base (cond_view l.condition.now) (node_view l.body.now) c.args.flag c.args.value loop.start c.narrowing.top
-    loop.round (seen c.narrowing.last) (seen c.in_ok-outcome.outcome) loop.grown narrows c.in_ok-outcome.ensures.left loop.dims c.in_ok-outcome.ensures.dims loop.jumps
+    loop.round (seen last.outcome) (seen c.in_ok-outcome.outcome) loop.grown narrows left loop.dims c.in_ok-outcome.ensures.dims loop.jumps
 
 -- a choice ------------------------------------------------------------------------------------------------------------
 

@@ -9,14 +9,14 @@ use Rattle.lra_iter.proofs.pass.+pass.Given as goal
 
 abbrev pub invariant-grow-head : goal.invariant-grow-head
 invariant-grow-head g l = GrowLoop g.D.Domain.meaning l.the_loop.options.now l.the_loop.point l.the_loop.base (cond_view l.the_loop.condition.now) (node_view l.the_loop.body.now) l.first
-    l.fn.flag l.left l.so_far l.head
+    l.fn.flag l.left l.so_far l.head l.kept
 
 abbrev pub decreases-grow-head : goal.decreases-grow-head
 decreases-grow-head g l = phased (2 ^ 64) l.left (g.D.Domain.meaning.rank l.head)
 
 abbrev pub invariant-pass_loop-narrowing : goal.invariant-pass_loop-narrowing
 invariant-pass_loop-narrowing g l = NarrowLoop g.D.Domain.meaning l.the_loop.options.now l.the_loop.point l.the_loop.base (cond_view l.the_loop.condition.now) (node_view l.the_loop.body.now)
-    l.fn.value l.fn.flag l.left l.top (seen l.last)
+    l.fn.value l.fn.flag l.left l.top l.last.entered (seen l.last.outcome)
 
 abbrev pub decreases-pass_loop-narrowing : goal.decreases-pass_loop-narrowing
 decreases-pass_loop-narrowing g l = l.left

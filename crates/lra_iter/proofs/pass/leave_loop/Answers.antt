@@ -1,0 +1,13 @@
+use Rattle.std.proofs.Common.{ap, ◌∙◌}
+use Rattle.lra_iter.specs.Outcome.{headed, seen}
+use Rattle.lra_iter.proofs.pass.leave_loop.Goals as goal
+
+pub returns-clause-left : goal.returns-clause-left
+returns-clause-left g c =
+    let out = c.leave.new.value in (
+      out,
+      c.in_ok-exactness.exactness,
+      c.in_ok-exactness.ensures.leaves,
+      c.in_ok-found.ensures out c.note.result ∙
+          ap (λ f. record (headed c.args.the_loop.now.point c.args.top (seen c.args.last)) { normal = out; flag = f }) c.note.ensures,
+    )
