@@ -290,9 +290,10 @@ fn list_verdicts(
     Ok(listed)
 }
 
-/// What a report lists of a source: the table of its labels, and its points.
+/// What a report lists of a source: its tree, the table of its labels, and its points.
 #[derive(Clone, Copy)]
 pub struct Outline<'a> {
+    pub tree: &'a Tree,
     pub labels: &'a Labels,
     pub sites: &'a [Site],
 }
@@ -301,26 +302,26 @@ pub struct Outline<'a> {
 /// the verdicts in order, each with the number of its assertion and whether it was proved, and the first flagged point.
 pub fn list(
     alloc: Global,
-    tree: &Tree,
     outline: &Outline<'_>,
     options: Options,
     states: Vec<Vec<Part>>,
     verdicts: &[(usize, bool)],
     flagged: Option<usize>,
 ) -> Result<Report, AllocError>
-    requires labels { outline.now.labels.now.labels ≡ labels_of (tree_view tree.now) }
-    requires sites { map site_view outline.now.sites.now ≡ sites_of (resolve (tree_view tree.now)) }
+    requires labels { outline.now.labels.now.labels ≡ labels_of (tree_view outline.now.tree.now) }
+    requires sites { map site_view outline.now.sites.now ≡ sites_of (resolve (tree_view outline.now.tree.now)) }
     requires numbers { length outline.now.sites.now < 2 ^ 32 }
-    requires states { AreStates (sites_of (resolve (tree_view tree.now))) (map (λ x. x.items) states.items) }
-    requires verdicts { AreVerdicts (sites_of (resolve (tree_view tree.now))) verdicts.now }
+    requires states { AreStates (sites_of (resolve (tree_view outline.now.tree.now)))
+        (map (λ x. x.items) states.items) }
+    requires verdicts { AreVerdicts (sites_of (resolve (tree_view outline.now.tree.now))) verdicts.now }
     requires flag { (q : ℕ) → flagged ≡ Some q → q < length outline.now.sites.now }
-    ensures lists { IfOk result (λ r. Lists (tree_view tree.now) (report_of r)) }
+    ensures lists { IfOk result (λ r. Lists (tree_view outline.now.tree.now) (report_of r)) }
     ensures states { IfOk result (λ r. map state_of (report_of r).points ≡ map (λ x. x.items) states.items) }
     ensures verdicts { IfOk result (λ r. map told_of (report_of r).verdicts ≡ map told verdicts.now) }
     ensures options { IfOk result (λ r. r.options ≡ options) }
     ensures flag { IfOk result (λ r. r.flagged ≡ option_map suc flagged) }
 {
-    let globals = names_of_globals(alloc, tree)?;
+    let globals = names_of_globals(alloc, outline.tree)?;
     let points = list_points(alloc, outline.labels, &globals, outline.sites, states)?;
     let verdicts = list_verdicts(alloc, outline.labels, outline.sites, verdicts)?;
     let flagged = match flagged {

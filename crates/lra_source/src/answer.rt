@@ -51,10 +51,13 @@ fn report_graph<D: Show>(
     let solution = analyse::<D>(alloc, &options, globals, graph)?;
     let states = states_of(alloc, &solution.values)?;
     let sites = graph.sites.as_slice();
-    let outline = Outline { labels, sites };
+    let outline = Outline {
+        tree,
+        labels,
+        sites,
+    };
     let report = list(
         alloc,
-        tree,
         &outline,
         options,
         states,

@@ -10,11 +10,11 @@ use Rattle.lra_listing.proofs.listing.list.Goals as goal
 
 pub list_verdicts-requires-clause-there : goal.list_verdicts-requires-clause-there
 list_verdicts-requires-clause-there c =
-    verdicts_there c.args.outline.now.sites.now (sites_of (resolve (tree_view c.args.tree.now))) c.args.verdicts.now c.requires.sites c.requires.verdicts
+    verdicts_there c.args.outline.now.sites.now (sites_of (resolve (tree_view c.args.outline.now.tree.now))) c.args.verdicts.now c.requires.sites c.requires.verdicts
 
 pub returns-clause-lists : goal.returns-clause-lists
 returns-clause-lists c =
-    lists_by_parts (tree_view c.args.tree.now) c.in_ok-globals.globals c.args.outline.now.labels.now.labels (map site_view c.args.outline.now.sites.now) c.args.verdicts.now
+    lists_by_parts (tree_view c.args.outline.now.tree.now) c.in_ok-globals.globals c.args.outline.now.labels.now.labels (map site_view c.args.outline.now.sites.now) c.args.verdicts.now
     (report_of (record { options = c.args.options; flagged = c.match-flagged.flagged; points = c.in_ok-points.points; verdicts = c.in_ok-verdicts.verdicts }))
     c.in_ok-globals.ensures c.requires.labels c.requires.sites c.requires.verdicts c.in_ok-points.ensures.listed c.in_ok-verdicts.ensures
 
