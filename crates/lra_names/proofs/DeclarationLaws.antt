@@ -10,9 +10,8 @@ use Rattle.lra_program.specs.Program as program
 use Rattle.lra_meaning.specs.Scope.{Scope, with_local}
 use Rattle.lra_meaning.specs.NameFaults.{declarators_faults}
 use Rattle.lra_meaning.specs.Resolve.{resolve_given, resolve_declarators}
-use Rattle.lra_names.specs.Calls.{declarator_faults}
-use Rattle.lra_names.specs.Statements.{followed}
-use Rattle.lra_names.proofs.Telling.{tells_front, tells_behind}
+use Rattle.lra_names.specs.Statements.{declarator_faults, followed}
+use Rattle.lra_scopes.proofs.Telling.{tells_front, tells_behind}
 
 pub followed_push : (fs : List (program.BlockItems → program.BlockItems)) (f : program.BlockItems → program.BlockItems) (items : program.BlockItems)
     → followed (fs ++ f ∷ []) items ≡ followed fs (f items)

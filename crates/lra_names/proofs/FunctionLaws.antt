@@ -9,7 +9,7 @@ use Rattle.lra_program.specs.ProgramViews.{function_or}
 use Rattle.lra_tree.specs.Functions.{is_main}
 use Rattle.lra_meaning.specs.Resolve.{main_of}
 use Rattle.lra_names.specs.Mains.{main_place}
-use Rattle.lra_names.proofs.Telling.{tells_front, tells_behind}
+use Rattle.lra_scopes.proofs.Telling.{tells_front, tells_behind}
 
 main_case : (b : Bool) (rest : Bool) (g : program.Function) (gs : List program.Function) (k : ℕ) (other : program.Function)
     → (rest ≡ true → other ≡ function_or (slice_get gs k)) → b || rest ≡ true

@@ -9,13 +9,13 @@ use Rattle.lra_tree.specs.Labels.{Labelled, plain_label, stmt_labels}
 use Rattle.lra_meaning.specs.Scope.{Scope}
 use Rattle.lra_meaning.specs.NameFaults.{Around, in_a_loop, cond_faults, stmt_faults}
 use Rattle.lra_meaning.specs.Resolve.{resolve_stmt, stmt_count}
-use Rattle.lra_names.specs.Scopes.{left_to}
-use Rattle.lra_names.specs.Outcome.{Tells}
+use Rattle.lra_scopes.specs.Scopes.{left_to}
+use Rattle.lra_scopes.specs.Outcome.{Tells}
 use Rattle.lra_names.specs.Labelling.{LabelsSoFar, Adds}
 use Rattle.lra_names.specs.Statements.{choice_tree}
 use Rattle.lra_names.specs.LoopHeads.{HeadTree, while_head, for_head, with_body, head_faults, body_scope, body_label, head_labels, body_live, loop_around}
-use Rattle.lra_names.proofs.Telling.{tells_front, tells_behind}
-use Rattle.lra_names.proofs.Loops.{both_clean}
+use Rattle.lra_scopes.proofs.Telling.{tells_front, tells_behind}
+use Rattle.lra_scopes.proofs.Loops.{both_clean}
 use Rattle.lra_names.proofs.StatementLaws.{left_for, count_for, count_if_else}
 use Rattle.lra_names.proofs.LabellingLaws.{left_of_for, adds_then}
 

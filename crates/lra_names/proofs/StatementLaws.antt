@@ -32,9 +32,9 @@ use Rattle.lra_meaning.specs.Scope.{Scope, with_local, with_declarators, inner, 
 use Rattle.lra_tree.specs.Labels.{with_names, declarator_labels, init_labels, step_labels, stmt_labels, items_labels, live_in_for}
 use Rattle.lra_meaning.specs.Resolve.{resolve_stmt, resolve_items, stmt_count, items_count, init_count, step_count}
 use Rattle.lra_meaning.proofs.LabelCounts.{count_stmt, count_declarators, count_items, count_step}
-use Rattle.lra_names.specs.Scopes.{with_more, Extends, left_to}
+use Rattle.lra_scopes.specs.Scopes.{with_more, Extends, left_to}
 use Rattle.lra_names.specs.Statements.{followed, choice}
-use Rattle.lra_names.proofs.Telling.{tells_front, tells_behind}
+use Rattle.lra_scopes.proofs.Telling.{tells_front, tells_behind}
 use Rattle.lra_names.proofs.DeclarationLaws.{followed_push}
 
 -- how many labels statements have -----------------------------------------------------------------------

@@ -1,10 +1,3 @@
--- What an answer tells of the faults of a part.
-pub mod Outcome
-pub mod Names
-pub mod Scopes
-pub mod Chains
-pub mod Calls
-pub mod Signatures
 pub mod Labelling
 pub mod Statements
 pub mod LoopHeads

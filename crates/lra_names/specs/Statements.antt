@@ -1,15 +1,23 @@
--- Where statements stand, and lists of items that are built from the front.
-use Rattle.std.specs.Prelude.{ℕ, List, [], ◌∷◌, Option, Some, None, ⊤}
+-- Where statements stand, the faults of one declarator, and lists of items that are built from the front.
+use Rattle.std.specs.Prelude.{ℕ, List, [], ◌∷◌, ◌++◌, Option, Some, None, ⊤}
 use Rattle.lra_base.specs.declared.refusals.Place.{Place}
-use Rattle.lra_tree.specs.Trees.{CondTree, StmtTree, block, if_only, if_else, while, for}
+use Rattle.lra_base.specs.declared.refusals.Refusal.{Refusal}
+use Rattle.lra_base.specs.declared.refusals.Cause.TheVariants.{DuplicateName}
+use Rattle.lra_tree.specs.Trees.{FunctionTree, DeclaratorTree, CondTree, StmtTree, block, if_only, if_else, while, for}
 use Rattle.lra_names.specs.declared.around.Around.{Around}
-use Rattle.lra_names.specs.Calls.{functions_at}
+use Rattle.lra_scopes.specs.Calls.{functions_at}
+use Rattle.lra_meaning.specs.Scope.{Scope, is_declared, with_local}
 use Rattle.lra_meaning.specs.NameFaults as faults
 use Rattle.lra_program.specs.Program as program
 
 -- among the functions of these parts, in a function with a result or not, in a loop or not
 abbrev pub around_of : Around → faults.Around
 around_of a = record { functions = functions_at a.functions.now; has_result = a.has_result; in_loop = a.in_loop }
+
+-- of one declarator
+abbrev pub declarator_faults : List FunctionTree → Scope → DeclaratorTree → List Refusal
+declarator_faults F s d = faults.fault_if (is_declared s d.name.word) DuplicateName d.name.place
+    ++ faults.given_faults F (with_local s d.name.word) d.source
 
 -- a choice, with a second branch or without one
 abbrev pub choice_tree : Place → CondTree → StmtTree → Option StmtTree → StmtTree

@@ -4,7 +4,7 @@ ghost use Rattle.std.specs.Prelude.{◌≡◌};
 ghost use Rattle.lra_meaning.specs.NameFaults.{in_a_loop};
 ghost use Rattle.lra_names.specs.Statements.{around_of};
 
-use crate::signatures::Functions;
+use lra_scopes::Functions;
 use std::alloc::Global;
 
 /// Among which functions a statement stands, and in what kind of function and of statement.

@@ -8,23 +8,20 @@ ghost use Rattle.lra_program.specs.ProgramViews.{declarator_view as program_decl
 ghost use Rattle.lra_meaning.specs.Scope.{with_local, with_declarators};
 ghost use Rattle.lra_meaning.specs.NameFaults.{declarators_faults};
 ghost use Rattle.lra_meaning.specs.Resolve.{resolve_given, resolve_declarators};
-ghost use Rattle.lra_names.specs.Calls.{functions_at, declarator_faults};
+ghost use Rattle.lra_scopes.specs.Calls.{functions_at};
 ghost use Rattle.lra_names.specs.Labelling.{Declares};
-ghost use Rattle.lra_names.specs.Statements.{followed};
-ghost use Rattle.lra_names.specs.Outcome.{Tells, TellsOf};
+ghost use Rattle.lra_names.specs.Statements.{declarator_faults, followed};
+ghost use Rattle.lra_scopes.specs.Outcome.{Tells, TellsOf};
 
 use crate::called::called_by_given;
-use crate::calls::resolve_given;
-use crate::errors::refuse;
 use crate::labelling::Labelling;
-use crate::scopes::Scope;
-use crate::signatures::Functions;
 use lra_base::{Cause, SourceError};
+use lra_scopes::{Functions, Scope, refuse, resolve_given};
 use lra_tree::{Declaration, Declarator};
 use std::alloc::Global;
 
 /// Declares the variable, and resolves what it gets.
-#[tactic(auto, using(crate::proofs::Telling::telling_rules))]
+#[tactic(auto, using(lra_scopes::proofs::Telling::telling_rules))]
 fn resolve_declarator(
     alloc: Global,
     functions: &Functions<'_>,
@@ -38,7 +35,8 @@ fn resolve_declarator(
         ≡ record {
           label = labels.old.next;
           source = resolve_given (functions_at functions.now)
-              (with_local scope.old declarator.now.name.word) labels.old.next (option_map source_view declarator.now.source);
+              (with_local scope.old declarator.now.name.word) labels.old.next
+              (option_map source_view declarator.now.source);
         }) }
     ensures declared { OnOk result (scope.new ≡ with_local scope.old declarator.now.name.word) }
     ensures counted { OnOk result (labels.new.next ≡ suc labels.old.next) }

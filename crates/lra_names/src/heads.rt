@@ -8,21 +8,20 @@ ghost use Rattle.lra_meaning.specs.Scope.{for_scope};
 ghost use Rattle.lra_meaning.specs.NameFaults.{cond_faults, init_faults, test_of_for_faults, step_faults};
 ghost use Rattle.lra_meaning.specs.Resolve.{resolve_cond, resolve_init, resolve_for_test, resolve_step, init_count};
 ghost use Rattle.lra_meaning.specs.Resolve.{step_count};
-ghost use Rattle.lra_names.specs.Calls.{functions_at};
+ghost use Rattle.lra_scopes.specs.Calls.{functions_at};
 ghost use Rattle.lra_tree.specs.Labels.{plain_label, init_labels, step_labels, live_in_for};
 ghost use Rattle.lra_names.specs.Labelling.{Adds, for_front};
 ghost use Rattle.lra_names.specs.Statements.{followed, choice, loop_of, for_of};
 ghost use Rattle.lra_names.specs.LoopHeads.{for_head, head_faults, body_scope, body_label, head_labels, body_live};
 ghost use Rattle.lra_names.specs.LoopHeads.{loop_around, rounds_view, loop_with};
-ghost use Rattle.lra_names.specs.Outcome.{TellsOf};
+ghost use Rattle.lra_scopes.specs.Outcome.{TellsOf};
 
 use crate::around::Around;
-use crate::conditions::resolve_cond;
 use crate::declarations::add_declaration;
 use crate::labelling::Labelling;
-use crate::scopes::Scope;
 use crate::simple::resolve_assignment;
 use lra_base::{Place, SourceError};
+use lra_scopes::{Scope, resolve_cond};
 use lra_tree::{Assign, Cond, Init};
 use std::alloc::Global;
 
@@ -122,7 +121,7 @@ pub struct Asked<'a> {
 }
 
 /// The next label, and the condition of the statement under it.
-#[tactic(auto, using(crate::proofs::Loops::wanting_told))]
+#[tactic(auto, using(lra_scopes::proofs::Loops::wanting_told))]
 pub fn resolve_head(
     alloc: Global,
     scope: &Scope,

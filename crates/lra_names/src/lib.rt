@@ -3,17 +3,10 @@
 
 mod around;
 mod called;
-mod calls;
-mod conditions;
 mod declarations;
-mod errors;
-mod expressions;
 mod functions;
 mod heads;
 mod labelling;
-mod names;
-mod scopes;
-mod signatures;
 mod simple;
 mod statements;
 

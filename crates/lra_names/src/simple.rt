@@ -7,23 +7,21 @@ ghost use Rattle.lra_program.specs.ProgramViews.{stmt_view};
 ghost use Rattle.lra_meaning.specs.NameFaults.{fault_if, call_faults, assign_faults, return_faults};
 ghost use Rattle.lra_meaning.specs.Resolve.{resolve_call, resolve_assign, resolve_given};
 ghost use Rattle.lra_base.specs.declared.refusals.Cause.TheVariants.{Misplaced};
-ghost use Rattle.lra_names.specs.Calls.{functions_at};
+ghost use Rattle.lra_scopes.specs.Calls.{functions_at};
 ghost use Rattle.lra_tree.specs.Labels.{plain_label, label_with, assign_label, called_of};
 ghost use Rattle.lra_names.specs.Labelling.{Adds};
 ghost use Rattle.lra_names.specs.Statements.{around_of, break_of, continue_of, return_of};
-ghost use Rattle.lra_names.specs.Outcome.{TellsOf};
+ghost use Rattle.lra_scopes.specs.Outcome.{TellsOf};
 
 use crate::around::Around;
 use crate::called::{called_by_assign, called_by_given, place_of};
-use crate::calls::{resolve_assign, resolve_call, resolve_given};
-use crate::errors::refuse;
 use crate::labelling::Labelling;
-use crate::scopes::Scope;
 use lra_base::{Cause, Place, SourceError};
+use lra_scopes::{Scope, refuse, resolve_assign, resolve_call, resolve_given};
 use lra_tree::{Assign, Call, Source};
 
 /// A statement that does nothing.
-#[tactic(auto, using(crate::proofs::Loops::wanting_told))]
+#[tactic(auto, using(lra_scopes::proofs::Loops::wanting_told))]
 pub fn resolve_nothing(
     labels: &mut Labelling,
     place: Place,
@@ -127,7 +125,7 @@ pub fn resolve_continue(
 }
 
 /// A `return`; only a function with a result gives one.
-#[tactic(auto, using(crate::proofs::Telling::telling_rules))]
+#[tactic(auto, using(lra_scopes::proofs::Telling::telling_rules))]
 pub fn resolve_return(
     around: &Around<'_>,
     scope: &Scope,

@@ -7,13 +7,13 @@ ghost use Rattle.lra_program.specs.ProgramViews.{stmt_view as program_stmt_view,
 ghost use Rattle.lra_program.specs.ProgramViews.{item_view as program_item_view};
 ghost use Rattle.lra_meaning.specs.NameFaults.{stmt_faults, items_faults};
 ghost use Rattle.lra_meaning.specs.Resolve.{resolve_stmt, resolve_items, stmt_count, items_count};
-ghost use Rattle.lra_names.specs.Calls.{functions_at};
-ghost use Rattle.lra_names.specs.Scopes.{Extends};
+ghost use Rattle.lra_scopes.specs.Calls.{functions_at};
+ghost use Rattle.lra_scopes.specs.Scopes.{Extends};
 ghost use Rattle.lra_tree.specs.Labels.{stmt_labels};
 ghost use Rattle.lra_names.specs.Labelling.{Adds, Fills, Follows};
 ghost use Rattle.lra_names.specs.Statements.{around_of, followed, IsSimple};
 ghost use Rattle.lra_names.specs.LoopHeads.{choice_of, loop_tree};
-ghost use Rattle.lra_names.specs.Outcome.{Tells, TellsOf};
+ghost use Rattle.lra_scopes.specs.Outcome.{Tells, TellsOf};
 
 use crate::around::Around;
 use crate::declarations::add_declaration;
@@ -21,12 +21,12 @@ use crate::heads::{
     Asked, Rounds, block_of, resolve_assert, resolve_assume, resolve_head, resolve_loop_head,
 };
 use crate::labelling::Labelling;
-use crate::scopes::Scope;
 use crate::simple::{
     resolve_assignment, resolve_break, resolve_call_alone, resolve_continue, resolve_nothing,
     resolve_return,
 };
 use lra_base::SourceError;
+use lra_scopes::Scope;
 use lra_tree::{Block, BlockItem, Stmt};
 
 /// A statement without statements in it.

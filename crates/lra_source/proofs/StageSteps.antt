@@ -24,7 +24,7 @@ use Rattle.lra_findings.specs.Report.{State, Report}
 use Rattle.lra_meaning.specs.Refuse.{limit_fault, RefusesTree, bad_name, recursive, past_limit, Refuse, Accepts}
 use Rattle.lra_report.specs.declared.report.Report as code
 use Rattle.lra_report.specs.View.{report_of}
-use Rattle.lra_names.specs.Outcome.{first_fault, Tells}
+use Rattle.lra_scopes.specs.Outcome.{first_fault, Tells}
 use Rattle.lra_graph.specs.declared.points.Limit.{Limit}
 use Rattle.lra_graph.specs.declared.points.GraphError.{GraphError}
 use Rattle.lra_graph.specs.declared.points.GraphError.TheVariants.{Passed}

@@ -7,12 +7,12 @@ use Rattle.lra_program.specs.ProgramViews.{item_view}
 use Rattle.lra_meaning.specs.Scope.{Scope, with_declarators}
 use Rattle.lra_meaning.specs.NameFaults.{declarators_faults}
 use Rattle.lra_meaning.specs.Resolve.{resolve_declarators}
-use Rattle.lra_names.specs.Calls.{functions_at}
+use Rattle.lra_scopes.specs.Calls.{functions_at}
 use Rattle.lra_names.specs.Statements.{followed}
-use Rattle.lra_names.proofs.Telling.{exit_tells, rest_tells}
+use Rattle.lra_scopes.proofs.Telling.{exit_tells, rest_tells}
 use Rattle.std.proofs.lemmas.List.{take_all}
 use Rattle.lra_names.specs.Labelling.{Declares}
-use Rattle.lra_names.proofs.Loops.{parts_step, parts_end}
+use Rattle.lra_scopes.proofs.Loops.{parts_step, parts_end}
 use Rattle.lra_names.proofs.LabellingLaws.{declares_step}
 use Rattle.lra_names.proofs.declarations.add_declaration.Goals as goal
 

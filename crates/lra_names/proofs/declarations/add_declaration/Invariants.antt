@@ -6,7 +6,7 @@ use Rattle.lra_program.specs.ProgramViews.{item_view}
 use Rattle.lra_meaning.specs.Scope.{with_declarators}
 use Rattle.lra_meaning.specs.NameFaults.{declarators_faults}
 use Rattle.lra_meaning.specs.Resolve.{resolve_declarators}
-use Rattle.lra_names.specs.Calls.{functions_at}
+use Rattle.lra_scopes.specs.Calls.{functions_at}
 use Rattle.lra_names.specs.Labelling.{Declares}
 use Rattle.lra_names.specs.Statements.{followed}
 use Rattle.lra_names.proofs.declarations.add_declaration.Given as goal

@@ -1,5 +1,5 @@
 use Rattle.lra_tree.specs.Views.{declarator_view}
-use Rattle.lra_names.specs.Calls.{functions_at}
+use Rattle.lra_scopes.specs.Calls.{functions_at}
 use Rattle.lra_names.proofs.DeclarationLaws.{declarator_found}
 use Rattle.lra_names.proofs.declarations.add_declarator.Goals as goal
 

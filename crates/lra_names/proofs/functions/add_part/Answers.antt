@@ -2,8 +2,8 @@ use Rattle.std.proofs.Common.{List, ◌∷◌}
 use Rattle.lra_tree.specs.Trees.{PartTree}
 use Rattle.lra_tree.specs.Views.{part_view}
 use Rattle.lra_meaning.specs.NameFaults.{parts_faults}
-use Rattle.lra_names.specs.Calls.{functions_at}
-use Rattle.lra_names.proofs.Telling.{exit_tells_all}
+use Rattle.lra_scopes.specs.Calls.{functions_at}
+use Rattle.lra_scopes.proofs.Telling.{exit_tells_all}
 use Rattle.lra_names.proofs.functions.add_part.Goals as goal
 
 pub returns-in_err-add_function-in-Function-clause-told : goal.returns-in_err-add_function-in-Function-clause-told

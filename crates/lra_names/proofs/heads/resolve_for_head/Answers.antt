@@ -1,7 +1,7 @@
 use Rattle.std.proofs.Common.{refl, option_map, ◌∙◌}
 use Rattle.lra_tree.specs.Views.{init_view, assign_view}
-use Rattle.lra_names.proofs.Telling.{tells_front, tells_behind}
-use Rattle.lra_names.proofs.Loops.{wanting_told, first_told, second_told, both_clean}
+use Rattle.lra_scopes.proofs.Telling.{tells_front, tells_behind}
+use Rattle.lra_scopes.proofs.Loops.{wanting_told, first_told, second_told, both_clean}
 use Rattle.lra_names.proofs.LabellingLaws.{begun, fronted}
 use Rattle.lra_names.proofs.heads.resolve_for_head.Goals as goal
 

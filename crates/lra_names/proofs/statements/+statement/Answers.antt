@@ -7,11 +7,11 @@ use Rattle.lra_tree.specs.Views.{items_of, item_view, block_view, declarator_vie
 use Rattle.lra_program.specs.ProgramViews.{item_view as program_item_view, stmt_view as program_stmt_view}
 use Rattle.lra_meaning.specs.NameFaults.{Around, items_faults}
 use Rattle.lra_meaning.specs.Resolve.{resolve_stmt, resolve_items, items_count}
-use Rattle.lra_names.specs.Calls.{functions_at}
+use Rattle.lra_scopes.specs.Calls.{functions_at}
 use Rattle.lra_names.specs.Statements.{around_of, followed}
 use Rattle.lra_names.specs.LoopHeads.{rounds_view, loop_around}
-use Rattle.lra_names.proofs.Telling.{tells_front, tells_behind, exit_tells, rest_tells}
-use Rattle.lra_names.proofs.Loops.{parts_step, first_told, second_told, both_clean, made_told, found_so}
+use Rattle.lra_scopes.proofs.Telling.{tells_front, tells_behind, exit_tells, rest_tells}
+use Rattle.lra_scopes.proofs.Loops.{parts_step, first_told, second_told, both_clean, made_told, found_so}
 use Rattle.std.proofs.lemmas.List.{at_drop_all}
 use Rattle.lra_names.proofs.StatementLaws.{extends_self, extends_then, extends_declared, declaration_counted, statement_found, block_items, block_end, kept_so, block_is, absent_is, choice_found}
 use Rattle.lra_names.proofs.StatementLaws.{if_is, if_else_is, while_is, for_is}

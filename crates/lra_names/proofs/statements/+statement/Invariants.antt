@@ -9,8 +9,8 @@ use Rattle.lra_tree.specs.Views.{items_of, item_view}
 use Rattle.lra_program.specs.ProgramViews.{item_view as program_item_view}
 use Rattle.lra_meaning.specs.NameFaults.{items_faults}
 use Rattle.lra_meaning.specs.Resolve.{resolve_items, items_count}
-use Rattle.lra_names.specs.Calls.{functions_at}
-use Rattle.lra_names.specs.Scopes.{Extends}
+use Rattle.lra_scopes.specs.Calls.{functions_at}
+use Rattle.lra_scopes.specs.Scopes.{Extends}
 use Rattle.lra_names.specs.Statements.{around_of, followed}
 use Rattle.lra_names.proofs.LabellingLaws.{Reaches}
 use Rattle.lra_names.proofs.statements.+statement.Given as goal

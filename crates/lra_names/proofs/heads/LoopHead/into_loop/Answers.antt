@@ -4,7 +4,7 @@ use Rattle.lra_program.specs.ProgramViews.{cond_view, stmt_view}
 use Rattle.lra_names.specs.declared.heads.LoopHead.{LoopHead}
 use Rattle.lra_names.specs.Statements.{loop_of}
 use Rattle.lra_names.specs.LoopHeads.{loop_with}
-use Rattle.lra_names.proofs.Loops.{found_so}
+use Rattle.lra_scopes.proofs.Loops.{found_so}
 use Rattle.lra_names.proofs.StatementLaws.{absent_is}
 use Rattle.lra_names.proofs.heads.LoopHead.into_loop.Goals as goal
 

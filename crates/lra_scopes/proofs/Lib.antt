@@ -1,0 +1,13 @@
+-- Errors that tell the first fault.
+pub mod Telling
+-- Loops over the parts of a chain.
+pub mod Loops
+-- Chains of operators.
+pub mod ChainLaws
+pub mod CondLaws
+-- Calls.
+pub mod CallLaws
+-- Names with an index.
+pub mod NameLaws
+-- Functions by their names.
+pub mod SignatureLaws

@@ -1,0 +1,17 @@
+use Rattle.std.proofs.Common.{◌≡◌, ℕ, None, length, ap, rules, string_bytes}
+use Rattle.std.proofs.lemmas.Map.Text.{hash_map_updates_text}
+use Rattle.indexmap.specs.IndexMap.{get_by_text}
+use Rattle.lra_tree.specs.Views.{function_view}
+use Rattle.lra_scopes.specs.declared.signatures.Signature.{Signature}
+use Rattle.lra_scopes.proofs.SignatureLaws.{signature_added}
+use Rattle.lra_scopes.proofs.signatures.add_signature.Goals as goal
+
+pub returns : goal.returns
+returns c =
+    let f = c.args.function.now in
+    let text : string_bytes c.in_ok-text.text ≡ f.name.word = search rules in
+    let count : c.len.result ≡ length f.parameters.items.items = search rules in
+    let none : get_by_text c.args.signatures.now f.name.word ≡ None = search rules in
+    let s : ℕ → Signature = λ n. record { place = c.args.place; parameters = n; has_result = f.has_result } in
+    signature_added c.args.signatures.now c.insert.new.self (string_bytes c.in_ok-text.text) c.args.place (function_view f) (s c.len.result) text (ap s count) none
+    (hash_map_updates_text (string_bytes c.in_ok-text.text) c.args.signatures.now c.insert.new.self _ c.in_ok-insert.ensures.updates)

@@ -1,0 +1,255 @@
+//! Calls, and what variables get.
+
+ghost use Rattle.std.specs.Prelude.{◌≡◌, ◌||◌, ◌&&◌, not, nat_eq, ◌∷◌, ◌++◌, [], map, length, flat_map, Option, Some};
+ghost use Rattle.std.specs.Prelude.{None, option_map, IfOk};
+ghost use Rattle.lra_program.specs.Program.{assign as assign_stmt, binary, literal, read, value};
+ghost use Rattle.lra_base.specs.OperatorViews.{operator_view};
+ghost use Rattle.lra_tree.specs.Views.{step_view, expr_view as tree_expr_view, call_view as tree_call_view};
+ghost use Rattle.lra_tree.specs.Views.{source_view as tree_source_view, assign_view};
+ghost use Rattle.lra_program.specs.ProgramViews.{slot_view, expr_view, call_view, source_view, given_view, stmt_view};
+ghost use Rattle.lra_tree.specs.Functions.{function_named};
+ghost use Rattle.lra_meaning.specs.NameFaults.{use_faults, expr_faults, called_faults, call_faults, source_faults};
+ghost use Rattle.lra_meaning.specs.NameFaults.{given_faults, assign_faults};
+ghost use Rattle.lra_meaning.specs.Resolve.{variable, function_place, resolve_expr, resolve_call, resolve_source};
+ghost use Rattle.lra_meaning.specs.Resolve.{resolve_given, resolve_assign, step_operator};
+ghost use Rattle.lra_scopes.specs.Calls.{functions_at, argument_faults, resolve_argument};
+ghost use Rattle.lra_scopes.specs.Outcome.{TellsOf};
+
+use crate::errors::refuse;
+use crate::expressions::{resolve_expr, resolve_variable};
+use crate::scopes::Scope;
+use crate::signatures::{Functions, Signature};
+use lra_base::{Cause, Operator, SourceError};
+use lra_program::{Operation, Slot};
+use lra_tree::{Assign, Call, Expr, Identifier, Source, Step};
+use std::alloc::{AllocError, Global};
+
+/// Whether a function can't be called so.
+fn is_bad_call(signature: Signature, count: usize, used: bool) -> bool
+    ensures { result ≡ not (nat_eq signature.parameters count) || (used && not signature.has_result) }
+{
+    signature.parameters != count || (used && !signature.has_result)
+}
+
+/// The place of the called function, where it has so many parameters, and a result if one is used.
+fn resolve_called(
+    functions: &Functions<'_>,
+    name: &Identifier,
+    count: usize,
+    used: bool,
+) -> Result<usize, SourceError>
+    ensures told { TellsOf (called_faults (function_named (functions_at functions.now) name.now.word) name.now count
+        used) result }
+    ensures found { IfOk result (λ p. p ≡ function_place (functions_at functions.now) name.now.word) }
+{
+    match functions.named(&name.word) {
+        None => refuse(Cause::UnknownName, name.place),
+        Some(signature) => {
+            if is_bad_call(signature, count, used) {
+                refuse(Cause::BadCall, name.place)
+            } else {
+                Ok(signature.place)
+            }
+        }
+    }
+}
+
+fn resolve_arguments(
+    alloc: Global,
+    scope: &Scope,
+    arguments: &[Expr],
+) -> Result<Vec<lra_program::Expr>, SourceError>
+    ensures told { TellsOf (flat_map (argument_faults scope.now) arguments.now) result }
+    ensures found { IfOk result (λ v. map expr_view v.items ≡ map (resolve_argument scope.now) arguments.now) }
+{
+    let mut values = Vec::new(alloc);
+    'arguments: for argument in arguments {
+        let value = resolve_expr(alloc, scope, argument)?;
+        values.push(value)?;
+    }
+    Ok(values)
+}
+
+/// A call under a label, whose result is used or not.
+#[tactic(auto, using(crate::proofs::CallLaws::call_rules))]
+pub fn resolve_call(
+    alloc: Global,
+    functions: &Functions<'_>,
+    scope: &Scope,
+    label: usize,
+    call: &Call,
+    used: bool,
+) -> Result<lra_program::Call, SourceError>
+    ensures told { TellsOf (call_faults (functions_at functions.now) scope.now (tree_call_view call.now) used) result }
+    ensures found { IfOk result (λ c. call_view c ≡ resolve_call (functions_at functions.now) scope.now label
+        (tree_call_view call.now)) }
+{
+    let function = resolve_called(functions, &call.name, call.arguments.items.len(), used)?;
+    let arguments = resolve_arguments(alloc, scope, &call.arguments.items)?;
+    Ok(lra_program::Call {
+        label,
+        function,
+        arguments,
+    })
+}
+
+pub fn resolve_source(
+    alloc: Global,
+    functions: &Functions<'_>,
+    scope: &Scope,
+    label: usize,
+    source: &Source,
+) -> Result<lra_program::Source, SourceError>
+    ensures told { TellsOf (source_faults (functions_at functions.now) scope.now (tree_source_view source.now)) result }
+    ensures found { IfOk result (λ e. source_view e ≡ resolve_source (functions_at functions.now) scope.now label
+        (tree_source_view source.now)) }
+{
+    match source {
+        Source::Value(expr) => {
+            let value = resolve_expr(alloc, scope, expr)?;
+            Ok(lra_program::Source::Value(value))
+        }
+        Source::Result(call) => {
+            let call = resolve_call(alloc, functions, scope, label, call, true)?;
+            Ok(lra_program::Source::Result(call))
+        }
+    }
+}
+
+pub fn resolve_given(
+    alloc: Global,
+    functions: &Functions<'_>,
+    scope: &Scope,
+    label: usize,
+    source: &Option<Source>,
+) -> Result<Option<lra_program::Source>, SourceError>
+    ensures told { TellsOf (given_faults (functions_at functions.now) scope.now
+        (option_map tree_source_view source.now)) result }
+    ensures found { IfOk result (λ e. given_view e ≡ resolve_given (functions_at functions.now) scope.now label
+        (option_map tree_source_view source.now)) }
+{
+    match source {
+        None => Ok(None),
+        Some(source) => {
+            let source = resolve_source(alloc, functions, scope, label, source)?;
+            Ok(Some(source))
+        }
+    }
+}
+
+/// The variable's value, an operator and an operand.
+fn updated(
+    alloc: Global,
+    slot: Slot,
+    operator: Operator,
+    operand: lra_program::Expr,
+) -> Result<lra_program::Source, AllocError>
+    ensures { IfOk result (λ e. source_view e ≡ value (binary (operator_view operator) (read (slot_view slot))
+        (expr_view operand))) }
+{
+    let mut rest = Vec::new(alloc);
+    rest.push(Operation { operator, operand })?;
+    let first = Box::new(alloc, lra_program::Expr::Read(slot))?;
+    Ok(lra_program::Source::Value(lra_program::Expr::Chain(first, rest)))
+}
+
+fn step_operator(step: Step) -> Operator
+    ensures { operator_view result ≡ step_operator (step_view step) }
+{
+    match step {
+        Step::Increment => Operator::Plus,
+        Step::Decrement => Operator::Minus,
+    }
+}
+
+/// `x++` and `++x` alike: one more, or one less.
+fn stepped(alloc: Global, slot: Slot, step: Step) -> Result<lra_program::Source, AllocError>
+    ensures { IfOk result (λ e. source_view e ≡ value (binary (step_operator (step_view step)) (read (slot_view slot))
+        (literal 1))) }
+{
+    updated(
+        alloc,
+        slot,
+        step_operator(step),
+        lra_program::Expr::Literal(1),
+    )
+}
+
+/// `x = e`
+#[tactic(auto, using(crate::proofs::Telling::telling_rules))]
+fn resolve_set(
+    alloc: Global,
+    functions: &Functions<'_>,
+    scope: &Scope,
+    label: usize,
+    x: &Identifier,
+    source: &Source,
+) -> Result<lra_program::Stmt, SourceError>
+    ensures told { TellsOf (use_faults scope.now x.now ++ source_faults (functions_at functions.now) scope.now
+        (tree_source_view source.now)) result }
+    ensures found { IfOk result (λ s. stmt_view s ≡ assign_stmt label (variable scope.now x.now)
+        (resolve_source (functions_at functions.now) scope.now label (tree_source_view source.now))) }
+{
+    let slot = resolve_variable(scope, x)?;
+    let source = resolve_source(alloc, functions, scope, label, source)?;
+    Ok(lra_program::Stmt::Assign(label, slot, source))
+}
+
+/// `x op= e`
+#[tactic(auto, using(crate::proofs::Telling::telling_rules))]
+fn resolve_update(
+    alloc: Global,
+    scope: &Scope,
+    label: usize,
+    x: &Identifier,
+    operator: Operator,
+    expr: &Expr,
+) -> Result<lra_program::Stmt, SourceError>
+    ensures told { TellsOf (use_faults scope.now x.now ++ expr_faults scope.now (tree_expr_view expr.now)) result }
+    ensures found { IfOk result (λ s. stmt_view s ≡ assign_stmt label (variable scope.now x.now)
+        (value (binary (operator_view operator) (read (variable scope.now x.now))
+        (resolve_expr scope.now (tree_expr_view expr.now))))) }
+{
+    let slot = resolve_variable(scope, x)?;
+    let operand = resolve_expr(alloc, scope, expr)?;
+    let source = updated(alloc, slot, operator, operand)?;
+    Ok(lra_program::Stmt::Assign(label, slot, source))
+}
+
+/// `x++`, `x--`, and with the sign in front.
+fn resolve_increment(
+    alloc: Global,
+    scope: &Scope,
+    label: usize,
+    x: &Identifier,
+    step: Step,
+) -> Result<lra_program::Stmt, SourceError>
+    ensures told { TellsOf (use_faults scope.now x.now) result }
+    ensures found { IfOk result (λ s. stmt_view s ≡ assign_stmt label (variable scope.now x.now)
+        (value (binary (step_operator (step_view step)) (read (variable scope.now x.now)) (literal 1)))) }
+{
+    let slot = resolve_variable(scope, x)?;
+    let source = stepped(alloc, slot, step)?;
+    Ok(lra_program::Stmt::Assign(label, slot, source))
+}
+
+pub fn resolve_assign(
+    alloc: Global,
+    functions: &Functions<'_>,
+    scope: &Scope,
+    label: usize,
+    assign: &Assign,
+) -> Result<lra_program::Stmt, SourceError>
+    ensures told { TellsOf (assign_faults (functions_at functions.now) scope.now (assign_view assign.now)) result }
+    ensures found { IfOk result (λ s. stmt_view s ≡ resolve_assign (functions_at functions.now) scope.now label
+        (assign_view assign.now)) }
+{
+    match assign {
+        Assign::Set(x, source) => resolve_set(alloc, functions, scope, label, x, source),
+        Assign::Update(x, operator, expr) => {
+            resolve_update(alloc, scope, label, x, *operator, expr)
+        }
+        Assign::After(x, step) => resolve_increment(alloc, scope, label, x, *step),
+        Assign::Before(_, step, x) => resolve_increment(alloc, scope, label, x, *step),
+    }
+}

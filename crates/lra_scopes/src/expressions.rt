@@ -1,0 +1,147 @@
+//! Expressions: each variable is a place in the store.
+
+ghost use Rattle.std.specs.Prelude.{◌≡◌, map, IfOk, IfErr, flat_map};
+ghost use Rattle.lra_base.specs.OperatorViews.{operator_view};
+ghost use Rattle.lra_tree.specs.Views.{unary_view, term_view, factor_view, summand_view, expr_view as tree_expr_view};
+ghost use Rattle.lra_program.specs.ProgramViews.{slot_view, expr_view, operation_view, chained};
+ghost use Rattle.lra_meaning.specs.NameFaults.{use_faults, unary_faults, term_faults, expr_faults};
+ghost use Rattle.lra_meaning.specs.Resolve.{variable, resolve_unary, resolve_term, resolve_expr};
+ghost use Rattle.lra_scopes.specs.Chains.{factor_operator, sum_operator, factor_faults, resolve_factor, summand_faults};
+ghost use Rattle.lra_scopes.specs.Chains.{resolve_summand};
+ghost use Rattle.lra_scopes.specs.Outcome.{TellsOf};
+
+use crate::errors::refuse;
+use crate::scopes::Scope;
+use lra_base::{Cause, Operator, SourceError};
+use lra_program::{Operation, Slot};
+use lra_tree::{Expr, Factor, FactorOperator, Identifier, SumOperator, Summand, Term, Unary};
+use std::alloc::Global;
+
+/// The variable that a name means; `UnknownName` where none is in scope.
+pub fn resolve_variable(scope: &Scope, x: &Identifier) -> Result<Slot, SourceError>
+    ensures told { TellsOf (use_faults scope.now x.now) result }
+    ensures found { IfOk result (λ v. slot_view v ≡ variable scope.now x.now) }
+{
+    match scope.slot_of(&x.word) {
+        Some(slot) => Ok(slot),
+        None => refuse(Cause::UnknownName, x.place),
+    }
+}
+
+/// A chain, or its only operand.
+fn chain(
+    alloc: Global,
+    first: lra_program::Expr,
+    rest: Vec<Operation>,
+) -> Result<lra_program::Expr, SourceError>
+    ensures found { IfOk result (λ e. expr_view e ≡ chained (expr_view first) (map operation_view rest.items)) }
+    ensures memory { IfErr result (λ e. e ≡ SourceError.Memory) }
+{
+    if rest.is_empty() {
+        Ok(first)
+    } else {
+        Ok(lra_program::Expr::Chain(Box::new(alloc, first)?, rest))
+    }
+}
+
+fn factor_operator(operator: FactorOperator) -> Operator
+    ensures { operator_view result ≡ factor_operator operator }
+{
+    match operator {
+        FactorOperator::Times => Operator::Times,
+        FactorOperator::Over => Operator::Over,
+        FactorOperator::Modulo => Operator::Modulo,
+    }
+}
+
+fn sum_operator(operator: SumOperator) -> Operator
+    ensures { operator_view result ≡ sum_operator operator }
+{
+    match operator {
+        SumOperator::Plus => Operator::Plus,
+        SumOperator::Minus => Operator::Minus,
+    }
+}
+
+#[cycle(expression)]
+pub fn resolve_unary(
+    alloc: Global,
+    scope: &Scope,
+    unary: &Unary,
+) -> Result<lra_program::Expr, SourceError>
+    ensures told { TellsOf (unary_faults scope.now (unary_view unary.now)) result }
+    ensures found { IfOk result (λ e. expr_view e ≡ resolve_unary scope.now (unary_view unary.now)) }
+{
+    match unary {
+        Unary::Negated(inner) => {
+            let inner = resolve_unary(alloc, scope, inner)?;
+            Ok(lra_program::Expr::Negate(Box::new(alloc, inner)?))
+        }
+        Unary::Positive(inner) => resolve_unary(alloc, scope, inner),
+        Unary::Literal(n) => Ok(lra_program::Expr::Literal(*n)),
+        Unary::Variable(x) => {
+            let slot = resolve_variable(scope, x)?;
+            Ok(lra_program::Expr::Read(slot))
+        }
+        Unary::Input => Ok(lra_program::Expr::Input),
+        Unary::Group(inner) => resolve_expr(alloc, scope, inner),
+    }
+}
+
+#[cycle(expression)]
+fn resolve_factor(alloc: Global, scope: &Scope, factor: &Factor) -> Result<Operation, SourceError>
+    ensures told { TellsOf (factor_faults scope.now (factor_view factor.now)) result }
+    ensures found { IfOk result (λ o. operation_view o ≡ resolve_factor scope.now (factor_view factor.now)) }
+{
+    let operand = resolve_unary(alloc, scope, &factor.unary)?;
+    let operator = factor_operator(factor.operator);
+    Ok(Operation { operator, operand })
+}
+
+#[cycle(expression)]
+fn resolve_summand(
+    alloc: Global,
+    scope: &Scope,
+    summand: &Summand,
+) -> Result<Operation, SourceError>
+    ensures told { TellsOf (summand_faults scope.now (summand_view summand.now)) result }
+    ensures found { IfOk result (λ o. operation_view o ≡ resolve_summand scope.now (summand_view summand.now)) }
+{
+    let operand = resolve_term(alloc, scope, &summand.term)?;
+    let operator = sum_operator(summand.operator);
+    Ok(Operation { operator, operand })
+}
+
+#[cycle(expression)]
+#[tactic(auto, using(crate::proofs::ChainLaws::term_rules))]
+fn resolve_term(alloc: Global, scope: &Scope, term: &Term) -> Result<lra_program::Expr, SourceError>
+    ensures told { TellsOf (term_faults scope.now (term_view term.now)) result }
+    ensures found { IfOk result (λ e. expr_view e ≡ resolve_term scope.now (term_view term.now)) }
+{
+    let first = resolve_unary(alloc, scope, &term.first)?;
+    let mut rest = Vec::new(alloc);
+    'factors: for factor in &term.rest {
+        let operation = resolve_factor(alloc, scope, factor)?;
+        rest.push(operation)?;
+    }
+    chain(alloc, first, rest)
+}
+
+#[cycle(expression)]
+#[tactic(auto, using(crate::proofs::ChainLaws::expr_rules))]
+pub fn resolve_expr(
+    alloc: Global,
+    scope: &Scope,
+    expr: &Expr,
+) -> Result<lra_program::Expr, SourceError>
+    ensures told { TellsOf (expr_faults scope.now (tree_expr_view expr.now)) result }
+    ensures found { IfOk result (λ e. expr_view e ≡ resolve_expr scope.now (tree_expr_view expr.now)) }
+{
+    let first = resolve_term(alloc, scope, &expr.first)?;
+    let mut rest = Vec::new(alloc);
+    'summands: for summand in &expr.rest {
+        let operation = resolve_summand(alloc, scope, summand)?;
+        rest.push(operation)?;
+    }
+    chain(alloc, first, rest)
+}

@@ -1,0 +1,18 @@
+//! What the names of an expression mean where it stands: scopes with an index of names, functions by name; expressions,
+//! conditions, calls and assignments resolved in a scope, or their first fault of names.
+#![tactic(auto)]
+
+mod calls;
+mod conditions;
+mod errors;
+mod expressions;
+mod names;
+mod scopes;
+mod signatures;
+
+pub use calls::{resolve_assign, resolve_call, resolve_given};
+pub use conditions::resolve_cond;
+pub use errors::refuse;
+pub use names::Names;
+pub use scopes::Scope;
+pub use signatures::{Functions, Signature};

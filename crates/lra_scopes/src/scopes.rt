@@ -1,0 +1,123 @@
+//! Scopes: the variables that can be named, oldest first.
+
+ghost use Rattle.std.specs.Prelude.{◌≡◌, ◌∷◌, ◌++◌, [], length, option_map, IfOk};
+ghost use Rattle.lra_meaning.specs.Scope.{slot_of, is_declared, with_local, inner};
+ghost use Rattle.lra_program.specs.ProgramViews.{slot_view};
+ghost use Rattle.lra_scopes.specs.Scopes.{left_to};
+
+use crate::names::Names;
+use lra_program::Slot;
+use lra_tree::Word;
+use std::alloc::{AllocError, Global};
+use std::marker::Model;
+
+/// The variables that can be named, oldest first.
+pub struct Scope {
+    globals: Names,
+    locals: Names,
+    /// How many of the locals the scopes around this one declare.
+    outer: usize,
+}
+
+impl Drop for Scope {
+    fn drop(self) {
+        let Scope {
+            globals: _,
+            locals: _,
+            outer: _,
+        } = self;
+    }
+}
+
+impl Model for Scope {
+    ghost use Rattle.lra_meaning.specs.Scope.{Scope};
+
+    ghost Value = { Scope };
+
+    ghost view = { λ s. record { globals = s.globals; locals = s.locals; outer = s.outer } };
+}
+
+impl Scope {
+    /// The variable that the name means.
+    pub fn slot_of(&self, name: &Word) -> Option<Slot>
+        ensures { option_map slot_view result ≡ slot_of self.now name.now }
+    {
+        match self.locals.newest(name) {
+            Some(place) => Some(Slot::Local(place)),
+            None => match self.globals.newest(name) {
+                Some(place) => Some(Slot::Global(place)),
+                None => None,
+            },
+        }
+    }
+
+    /// Declares a further variable.
+    pub fn declare(&mut self, alloc: Global, name: &Word) -> Result<(), AllocError>
+        ensures { IfOk result (λ _. self.new ≡ with_local self.old name.now) }
+    {
+        self.locals.push(alloc, name)
+    }
+
+    /// Whether this scope has declared the name.
+    pub fn is_declared(&self, name: &Word) -> bool
+        ensures { result ≡ is_declared self.now name.now }
+    {
+        self.locals.has_behind(self.outer, name)
+    }
+
+    /// How many locals there are.
+    pub fn count(&self) -> usize
+        ensures { result ≡ length self.now.locals }
+    {
+        self.locals.len()
+    }
+
+    /// How many of the locals the scopes around this one declare.
+    pub fn outer(&self) -> usize
+        ensures { result ≡ self.now.outer }
+    {
+        self.outer
+    }
+
+    /// Begins a scope inside this one.
+    pub fn enter(&mut self)
+        ensures { self.new ≡ inner self.old }
+    {
+        self.outer = self.locals.len();
+    }
+
+    /// Ends a scope: so many locals stay, and so many of them lie outside the scope around it.
+    pub fn leave(&mut self, count: usize, outer: usize)
+        ensures { self.new ≡ left_to count outer self.old }
+    {
+        self.locals.truncate(count);
+        self.outer = outer;
+    }
+
+    /// The scope of the file, with nothing declared yet.
+    pub fn outermost(alloc: Global) -> Scope
+        ensures { result ≡ record { globals = []; locals = []; outer = 0 } }
+    {
+        Scope {
+            globals: Names::new(alloc),
+            locals: Names::new(alloc),
+            outer: 0,
+        }
+    }
+
+    /// Declares a further global variable.
+    pub fn declare_global(&mut self, alloc: Global, name: &Word) -> Result<(), AllocError>
+        ensures { IfOk result (λ _. self.new ≡
+            record { globals = self.old.globals ++ name.now ∷ []; locals = self.old.locals; outer = self.old.outer }) }
+    {
+        self.globals.push(alloc, name)
+    }
+
+    /// Begins a function: no local is declared.
+    pub fn begin_function(&mut self)
+        ensures { self.new ≡ record { globals = self.old.globals; locals = []; outer = 0 } }
+    {
+        self.locals.truncate(0);
+        self.outer = 0;
+    }
+}
