@@ -89,6 +89,8 @@ pub parsed_past : {E : Type 0} (word : List ℕ) (r : Result ℤ E) → is_numbe
 parsed_past word (Ok m) h p f e fits = cc
 parsed_past word (Err g) h p f e fits = p ((numeral_and_low word h).0, fits)
 
+pub ruleset parsed_rules = (parsed_fits, parsed_past, number_is_utf8)
+
 -- ---- the number of a word
 in_range_true : (z : ℤ) → InRange z → in_range z ≡ true
 in_range_true z h = grind (arith, nat_tests)

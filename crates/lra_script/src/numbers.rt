@@ -79,7 +79,7 @@ fn is_number(word: &[u8]) -> bool
 }
 
 /// The number that a word of digits writes, where it fits.
-#[tactic(auto, using(crate::proofs::WordLemmas::parsed_fits, crate::proofs::WordLemmas::parsed_past, crate::proofs::WordLemmas::number_is_utf8))]
+#[tactic(auto, using(crate::proofs::WordLemmas::parsed_rules))]
 fn parsed(word: &[u8]) -> Option<i128>
     requires { script.is_number word.now ≡ true }
     ensures { SomeIff result (FitsSigned w128 (signed_digits_value 10 word.now)) (signed_digits_value 10 word.now) }

@@ -46,6 +46,8 @@ turned_equal cs j c all e at h equal = sym (equal_first (entry cs j) (drop (j + 
 pub turned_end : (cs : List ℤ) (j : ℕ) (all : Bool) → is_turned (drop j cs) ≡ all → length cs ≤ j → false ≡ all
 turned_end cs j all e h = ap is_turned (sym (drop_all j cs h)) ∙ e
 
+pub ruleset turned_rules = (turned_less, turned_greater, turned_equal, turned_end)
+
 -- ---- a term, and what follows
 terms_none : (b : Bool) (cs : List ℤ) → rest_text b cs [] ≡ []
 terms_none true [] = refl

@@ -81,7 +81,7 @@ fn push_column(
 }
 
 /// Whether the first coefficient other than 0 is below 0.
-#[tactic(auto, using(crate::proofs::Terms::turned_less, crate::proofs::Terms::turned_greater, crate::proofs::Terms::turned_equal, crate::proofs::Terms::turned_end))]
+#[tactic(auto, using(crate::proofs::Terms::turned_rules))]
 fn is_turned(row: &Row) -> bool
     ensures { result ≡ report.is_turned (drop 1 row.now) }
 {
