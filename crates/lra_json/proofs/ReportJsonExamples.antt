@@ -1,5 +1,5 @@
 -- The JSON of reports. Which slip an example would catch stands beside it.
-use Rattle.std.proofs.Common.{◌≡◌, pos, negsuc, List, [], ◌∷◌, Some, None, refl}
+use Rattle.std.proofs.Common.{◌≡◌, pos, negsuc, List, [], ◌∷◌, ◌++◌, Some, None, refl}
 use Rattle.std.specs.Prelude.{codes}
 use Rattle.std.specs.Fmt.{digits}
 use Rattle.serde_json.proofs.OnLiterals.{serde_json_on_literals}
@@ -12,13 +12,21 @@ use Rattle.lra_json.specs.ReportJson.{flag_data, point_data, report_json}
 
 -- keys in byte order, and no blank
 empty_main_json : report_json empty_main
-    ≡ text_line (codes "{\"analysis\":{\"delay\":1,\"domain\":\"poly\",\"limited\":false,\"narrow\":1,\"parts\":1},\"asserts\":[],\"flagged\":0,\"points\":[{\"number\":1,\"parts\":[{\"generators\":[\"point\"],\"rows\":[]}],\"path\":\"main\",\"place\":\"1:16\"}],\"proved\":0,\"unknown\":0}")
+    ≡ text_line (codes "{\"analysis\":{\"delay\":1,\"domain\":\"poly\",\"limited\":false,\"narrow\":1,\"parts\":1},\"asserts\":[]"
+    ++ codes ",\"flagged\":0,\"points\":[{\"number\":1,\"parts\":[{\"generators\":[\"point\"],\"rows\":[]}],\"path\":\"main\",\"place\":\"1:16\"}],\"proved\":0,\"unknown\":0}")
 unfolding digits serde_json_on_literals
 empty_main_json = refl
 
 -- int main(void){ long x; if(input()) x=0; else x=5; } at its end
 abbrev end_of : List Part → PointReport
-end_of state = record { number = 5; point = record { path = []; label = 5 }; path = codes "main"; place = (let at : Place = record { line = 1; column = 52 } in at); names = codes "x" ∷ []; state = state }
+end_of state = record {
+  number = 5;
+  point = record { path = []; label = 5 };
+  path = codes "main";
+  place = (let at : Place = record { line = 1; column = 52 } in at);
+  names = codes "x" ∷ [];
+  state = state;
+}
 
 -- a word between the parts, or generators of a box
 two_parts : compact_text (point_data Box (end_of (rows_alone (is_zero (pos 0) (pos 1 ∷ []) ∷ []) ∷ rows_alone (is_zero (negsuc 4) (pos 1 ∷ []) ∷ []) ∷ [])))
