@@ -1,8 +1,4 @@
--- Declarations and statements.
-pub mod DeclarationLaws
-pub mod StatementLaws
-pub mod LabellingLaws
+-- Statements with statements in them.
 pub mod LoopLaws
-pub mod SimpleLaws
 -- Functions and the whole.
 pub mod FunctionLaws

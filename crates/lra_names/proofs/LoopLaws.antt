@@ -2,7 +2,6 @@
 use Rattle.std.proofs.Common.{◌≡◌, ℕ, suc, ◌+◌, List, [], ◌∷◌, ◌++◌, length, take, refl, sym, ap, ◌∙◌, append_assoc, arith, Option, Some, None, subst}
 use Rattle.std.proofs.Math.Seq.{take-length}
 use Rattle.lra_base.specs.declared.refusals.Place.{Place}
-use Rattle.lra_base.specs.declared.refusals.Refusal.{Refusal}
 use Rattle.lra_base.specs.declared.error.SourceError.{SourceError}
 use Rattle.lra_tree.specs.Trees.{CondTree, StmtTree, if_only, if_else, FunctionTree}
 use Rattle.lra_tree.specs.Labels.{Labelled, plain_label, stmt_labels}
@@ -11,13 +10,13 @@ use Rattle.lra_meaning.specs.NameFaults.{Around, in_a_loop, cond_faults, stmt_fa
 use Rattle.lra_meaning.specs.Resolve.{resolve_stmt, stmt_count}
 use Rattle.lra_scopes.specs.Scopes.{left_to}
 use Rattle.lra_scopes.specs.Outcome.{Tells}
-use Rattle.lra_names.specs.Labelling.{LabelsSoFar, Adds}
-use Rattle.lra_names.specs.Statements.{choice_tree}
-use Rattle.lra_names.specs.LoopHeads.{HeadTree, while_head, for_head, with_body, head_faults, body_scope, body_label, head_labels, body_live, loop_around}
+use Rattle.lra_simple.specs.Labelling.{LabelsSoFar, Adds}
+use Rattle.lra_simple.specs.Statements.{choice_tree}
+use Rattle.lra_simple.specs.LoopHeads.{HeadTree, while_head, for_head, with_body, head_faults, body_scope, body_label, head_labels, body_live, loop_around}
 use Rattle.lra_scopes.proofs.Telling.{tells_front, tells_behind}
 use Rattle.lra_scopes.proofs.Loops.{both_clean}
-use Rattle.lra_names.proofs.StatementLaws.{left_for, count_for, count_if_else}
-use Rattle.lra_names.proofs.LabellingLaws.{left_of_for, adds_then}
+use Rattle.lra_simple.proofs.StatementLaws.{left_for, count_for, count_if_else}
+use Rattle.lra_simple.proofs.LabellingLaws.{left_of_for, adds_then}
 
 -- loops ----------------------------------------------------------------------------------------------------------------
 

@@ -1,4 +1,1 @@
-pub mod Labelling
-pub mod Statements
-pub mod LoopHeads
 pub mod Mains

@@ -14,17 +14,16 @@ ghost use Rattle.lra_meaning.specs.Resolve.{resolve_function, global_value, glob
 ghost use Rattle.lra_meaning.specs.Resolve.{resolve};
 ghost use Rattle.lra_scopes.specs.Calls.{functions_at};
 ghost use Rattle.lra_tree.specs.Labels.{function_labels, labels_of};
-ghost use Rattle.lra_names.specs.Labelling.{labels_of_functions};
+ghost use Rattle.lra_simple.specs.Labelling.{labels_of_functions};
 ghost use Rattle.lra_names.specs.Mains.{main_place};
 ghost use Rattle.lra_scopes.specs.Outcome.{Tells, TellsOf};
 
-use crate::around::Around;
-use crate::labelling::Labelling;
 use crate::statements::resolve_items;
 use lra_base::{Cause, SourceError};
 use lra_meaning::Labels;
 use lra_program::Program;
 use lra_scopes::{Functions, Names, Scope, refuse};
+use lra_simple::{Around, Labelling};
 use lra_tree::{Function, Globals, Identifier, Item, Tree};
 use std::alloc::Global;
 

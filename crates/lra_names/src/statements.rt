@@ -10,51 +10,18 @@ ghost use Rattle.lra_meaning.specs.Resolve.{resolve_stmt, resolve_items, stmt_co
 ghost use Rattle.lra_scopes.specs.Calls.{functions_at};
 ghost use Rattle.lra_scopes.specs.Scopes.{Extends};
 ghost use Rattle.lra_tree.specs.Labels.{stmt_labels};
-ghost use Rattle.lra_names.specs.Labelling.{Adds, Fills, Follows};
-ghost use Rattle.lra_names.specs.Statements.{around_of, followed, IsSimple};
-ghost use Rattle.lra_names.specs.LoopHeads.{choice_of, loop_tree};
+ghost use Rattle.lra_simple.specs.Labelling.{Adds, Fills, Follows};
+ghost use Rattle.lra_simple.specs.Statements.{around_of, followed};
+ghost use Rattle.lra_simple.specs.LoopHeads.{choice_of, loop_tree};
 ghost use Rattle.lra_scopes.specs.Outcome.{Tells, TellsOf};
 
-use crate::around::Around;
-use crate::declarations::add_declaration;
-use crate::heads::{
-    Asked, Rounds, block_of, resolve_assert, resolve_assume, resolve_head, resolve_loop_head,
-};
-use crate::labelling::Labelling;
-use crate::simple::{
-    resolve_assignment, resolve_break, resolve_call_alone, resolve_continue, resolve_nothing,
-    resolve_return,
-};
 use lra_base::SourceError;
 use lra_scopes::Scope;
+use lra_simple::{
+    Around, Asked, Labelling, Rounds, add_declaration, block_of, resolve_head, resolve_loop_head,
+    resolve_simple,
+};
 use lra_tree::{Block, BlockItem, Stmt};
-
-/// A statement without statements in it.
-fn resolve_simple(
-    around: &Around<'_>,
-    scope: &Scope,
-    labels: &mut Labelling,
-    stmt: &Stmt,
-) -> Result<lra_program::Stmt, SourceError>
-    requires simple { IsSimple (stmt_view stmt.now) }
-    ensures told { TellsOf (stmt_faults (around_of around.now) scope.now (stmt_view stmt.now)) result }
-    ensures found { IfOk result (λ s. program_stmt_view s
-        ≡ resolve_stmt (functions_at around.now.functions.now) scope.now labels.old.next (stmt_view stmt.now)) }
-    ensures counted { OnOk result (labels.new.next ≡ labels.old.next + stmt_count (stmt_view stmt.now)) }
-    ensures adds { OnOk result (Adds labels.old labels.new (stmt_labels labels.old.live (stmt_view stmt.now))) }
-{
-    match stmt {
-        Stmt::Nothing(place) => resolve_nothing(labels, *place),
-        Stmt::Assign(assign) => resolve_assignment(around, scope, labels, assign),
-        Stmt::Call(call) => resolve_call_alone(around, scope, labels, call),
-        Stmt::Break(place) => resolve_break(around, labels, *place),
-        Stmt::Continue(place) => resolve_continue(around, labels, *place),
-        Stmt::Return(place, source) => resolve_return(around, scope, labels, *place, source),
-        Stmt::Assert(place, cond) => resolve_assert(around, scope, labels, *place, cond),
-        Stmt::Assume(place, cond) => resolve_assume(around, scope, labels, *place, cond),
-        _ => unreachable!(),
-    }
-}
 
 #[cycle(statement)]
 fn resolve_stmt(
@@ -94,7 +61,7 @@ fn resolve_stmt(
 
 /// A choice; without a second branch nothing is done in its place.
 #[cycle(statement)]
-#[tactic(auto, using(crate::proofs::StatementLaws::if_else_rules))]
+#[tactic(auto, using(lra_simple::proofs::StatementLaws::if_else_rules))]
 fn resolve_choice(
     around: &Around<'_>,
     scope: &mut Scope,
@@ -154,7 +121,7 @@ fn resolve_loop(
 }
 
 #[cycle(statement)]
-#[tactic(auto, using(crate::proofs::StatementLaws::block_rules))]
+#[tactic(auto, using(lra_simple::proofs::StatementLaws::block_rules))]
 fn resolve_block(
     around: &Around<'_>,
     scope: &mut Scope,
@@ -184,7 +151,7 @@ fn resolve_block(
 }
 
 #[cycle(statement)]
-#[tactic(auto, using(crate::proofs::StatementLaws::items_rules))]
+#[tactic(auto, using(lra_simple::proofs::StatementLaws::items_rules))]
 pub fn resolve_items(
     around: &Around<'_>,
     scope: &mut Scope,
@@ -207,7 +174,7 @@ pub fn resolve_items(
 
 /// Resolves an item of a block into further items.
 #[cycle(statement)]
-#[tactic(auto, using(crate::proofs::StatementLaws::item_rules))]
+#[tactic(auto, using(lra_simple::proofs::StatementLaws::item_rules))]
 fn add_item(
     around: &Around<'_>,
     scope: &mut Scope,

@@ -7,7 +7,7 @@ use Rattle.lra_meaning.specs.NameFaults.{parts_faults}
 use Rattle.lra_meaning.specs.Resolve.{globals_in, resolve_parts}
 use Rattle.lra_tree.specs.Functions.{functions_in}
 use Rattle.lra_scopes.specs.Calls.{functions_at}
-use Rattle.lra_names.specs.Labelling.{labels_of_functions}
+use Rattle.lra_simple.specs.Labelling.{labels_of_functions}
 use Rattle.lra_scopes.proofs.Telling.{exit_tells, rest_tells}
 use Rattle.lra_scopes.proofs.Loops.{parts_step, parts_end}
 use Rattle.lra_names.proofs.functions.resolve_all.Goals as goal

@@ -1,4 +1,4 @@
-use Rattle.std.proofs.Common.{List, ℕ, [], ◌∷◌, ◌+◌, subst, map, drop, refl, ap, sym, ◌∙◌, arith, Option, option_map, option_copied, Bor}
+use Rattle.std.proofs.Common.{List, [], ◌∷◌, ◌+◌, subst, map, drop, refl, ap, sym, ◌∙◌, arith, Option, option_map, option_copied, Bor}
 use Rattle.lra_tree.specs.Trees.{ItemsTree, StmtTree}
 use Rattle.lra_program.specs.declared.program.BlockItem.{BlockItem as ProgramItem}
 use Rattle.lra_tree.specs.declared.trees.BlockItem.{BlockItem}
@@ -8,20 +8,20 @@ use Rattle.lra_program.specs.ProgramViews.{item_view as program_item_view, stmt_
 use Rattle.lra_meaning.specs.NameFaults.{Around, items_faults}
 use Rattle.lra_meaning.specs.Resolve.{resolve_stmt, resolve_items, items_count}
 use Rattle.lra_scopes.specs.Calls.{functions_at}
-use Rattle.lra_names.specs.Statements.{around_of, followed}
-use Rattle.lra_names.specs.LoopHeads.{rounds_view, loop_around}
+use Rattle.lra_simple.specs.Statements.{around_of, followed}
+use Rattle.lra_simple.specs.LoopHeads.{rounds_view, loop_around}
 use Rattle.lra_scopes.proofs.Telling.{tells_front, tells_behind, exit_tells, rest_tells}
 use Rattle.lra_scopes.proofs.Loops.{parts_step, first_told, second_told, both_clean, made_told, found_so}
 use Rattle.std.proofs.lemmas.List.{at_drop_all}
-use Rattle.lra_names.proofs.StatementLaws.{extends_self, extends_then, extends_declared, declaration_counted, statement_found, block_items, block_end, kept_so, block_is, absent_is, choice_found}
-use Rattle.lra_names.proofs.StatementLaws.{if_is, if_else_is, while_is, for_is}
+use Rattle.lra_simple.proofs.StatementLaws.{extends_self, extends_then, extends_declared, declaration_counted, statement_found, block_items, block_end, kept_so, block_is, absent_is, choice_found}
+use Rattle.lra_simple.proofs.StatementLaws.{if_is, if_else_is, while_is, for_is}
 use Rattle.lra_names.proofs.LoopLaws.{faults_of_loop, meaning_of_loop, count_of_loop, loops, without, with_other, count_without, count_with, labelled_without, labelled_with, front_told, other_told}
 use Rattle.lra_names.proofs.LoopLaws.{clean_without, clean_with}
-use Rattle.lra_names.proofs.SimpleLaws.{rest_is_simple}
+use Rattle.lra_simple.proofs.SimpleLaws.{rest_is_simple}
 use Rattle.lra_base.specs.declared.refusals.Place.{Place}
 use Rattle.lra_tree.specs.Labels.{plain_label}
-use Rattle.lra_names.specs.Labelling.{Adds}
-use Rattle.lra_names.proofs.LabellingLaws.{declaration_follows, statement_follows, reaches_none, reaches_step, reaches_all, blocks}
+use Rattle.lra_simple.specs.Labelling.{Adds}
+use Rattle.lra_simple.proofs.LabellingLaws.{declaration_follows, statement_follows, reaches_none, reaches_step, reaches_all, blocks}
 use Rattle.lra_names.proofs.statements.+statement.Goals as goal
 
 -- the second branch of a choice

@@ -11,8 +11,8 @@ use Rattle.lra_meaning.specs.NameFaults.{items_faults}
 use Rattle.lra_meaning.specs.Resolve.{resolve_items, items_count}
 use Rattle.lra_scopes.specs.Calls.{functions_at}
 use Rattle.lra_scopes.specs.Scopes.{Extends}
-use Rattle.lra_names.specs.Statements.{around_of, followed}
-use Rattle.lra_names.proofs.LabellingLaws.{Reaches}
+use Rattle.lra_simple.specs.Statements.{around_of, followed}
+use Rattle.lra_simple.proofs.LabellingLaws.{Reaches}
 use Rattle.lra_names.proofs.statements.+statement.Given as goal
 
 abbrev pub invariant-resolve_items-items : goal.invariant-resolve_items-items

@@ -1,5 +1,0 @@
-use Rattle.lra_names.proofs.StatementLaws.{items_view_is}
-use Rattle.lra_names.proofs.heads.block_of.Goals as goal
-
-pub returns : goal.returns
-returns c = items_view_is c.args.items

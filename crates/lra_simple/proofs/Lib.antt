@@ -1,0 +1,5 @@
+-- Declarations and statements.
+pub mod DeclarationLaws
+pub mod StatementLaws
+pub mod LabellingLaws
+pub mod SimpleLaws

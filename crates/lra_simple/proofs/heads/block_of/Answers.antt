@@ -1,0 +1,5 @@
+use Rattle.lra_simple.proofs.StatementLaws.{items_view_is}
+use Rattle.lra_simple.proofs.heads.block_of.Goals as goal
+
+pub returns : goal.returns
+returns c = items_view_is c.args.items

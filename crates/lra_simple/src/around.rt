@@ -1,0 +1,31 @@
+//! Where a statement stands.
+
+ghost use Rattle.std.specs.Prelude.{◌≡◌};
+ghost use Rattle.lra_meaning.specs.NameFaults.{in_a_loop};
+ghost use Rattle.lra_simple.specs.Statements.{around_of};
+
+use lra_scopes::Functions;
+use std::alloc::Global;
+
+/// Among which functions a statement stands, and in what kind of function and of statement.
+#[derive(Clone, Copy)]
+pub struct Around<'a> {
+    pub alloc: Global,
+    pub functions: &'a Functions<'a>,
+    pub has_result: bool,
+    pub in_loop: bool,
+}
+
+impl<'a> Around<'a> {
+    /// Where the body of a loop stands that stands here.
+    pub fn in_a_loop(&self) -> Around<'a>
+        ensures { around_of result ≡ in_a_loop (around_of self.now) }
+    {
+        Around {
+            alloc: self.alloc,
+            functions: self.functions,
+            has_result: self.has_result,
+            in_loop: true,
+        }
+    }
+}

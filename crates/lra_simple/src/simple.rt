@@ -1,0 +1,152 @@
+//! Statements without parts that are statements, each under its label.
+
+ghost use Rattle.std.specs.Prelude.{◌≡◌, ◌∷◌, [], suc, not, false, Some, option_map, IfOk, OnOk};
+ghost use Rattle.lra_program.specs.Program.{nothing, call as call_stmt};
+ghost use Rattle.lra_tree.specs.Views.{source_view, call_view, assign_view};
+ghost use Rattle.lra_program.specs.ProgramViews.{stmt_view};
+ghost use Rattle.lra_meaning.specs.NameFaults.{fault_if, call_faults, assign_faults, return_faults};
+ghost use Rattle.lra_meaning.specs.Resolve.{resolve_call, resolve_assign, resolve_given};
+ghost use Rattle.lra_base.specs.declared.refusals.Cause.TheVariants.{Misplaced};
+ghost use Rattle.lra_scopes.specs.Calls.{functions_at};
+ghost use Rattle.lra_tree.specs.Labels.{plain_label, label_with, assign_label, called_of};
+ghost use Rattle.lra_simple.specs.Labelling.{Adds};
+ghost use Rattle.lra_simple.specs.Statements.{around_of, break_of, continue_of, return_of};
+ghost use Rattle.lra_scopes.specs.Outcome.{TellsOf};
+
+use crate::around::Around;
+use crate::called::{called_by_assign, called_by_given, place_of};
+use crate::labelling::Labelling;
+use lra_base::{Cause, Place, SourceError};
+use lra_scopes::{Scope, refuse, resolve_assign, resolve_call, resolve_given};
+use lra_tree::{Assign, Call, Source};
+
+/// A statement that does nothing.
+#[tactic(auto, using(lra_scopes::proofs::Loops::wanting_told))]
+pub fn resolve_nothing(
+    labels: &mut Labelling,
+    place: Place,
+) -> Result<lra_program::Stmt, SourceError>
+    ensures told { TellsOf [] result }
+    ensures found { IfOk result (λ s. stmt_view s ≡ nothing labels.old.next) }
+    ensures counted { OnOk result (labels.new.next ≡ suc labels.old.next) }
+    ensures adds { OnOk result (Adds labels.old labels.new (plain_label place labels.old.live ∷ [])) }
+{
+    let label = labels.add(place, None)?;
+    Ok(lra_program::Stmt::Nothing(label))
+}
+
+/// An assignment under the next label.
+pub fn resolve_assignment(
+    around: &Around<'_>,
+    scope: &Scope,
+    labels: &mut Labelling,
+    assign: &Assign,
+) -> Result<lra_program::Stmt, SourceError>
+    ensures told { TellsOf (assign_faults (functions_at around.now.functions.now) scope.now (assign_view assign.now))
+        result }
+    ensures found { IfOk result (λ s. stmt_view s ≡ resolve_assign
+        (functions_at around.now.functions.now) scope.now labels.old.next (assign_view assign.now)) }
+    ensures counted { OnOk result (labels.new.next ≡ suc labels.old.next) }
+    ensures adds { OnOk result (Adds labels.old labels.new
+        (assign_label labels.old.live (assign_view assign.now) ∷ [])) }
+{
+    let called = called_by_assign(around.alloc, assign)?;
+    let label = labels.add(place_of(assign), called)?;
+    resolve_assign(around.alloc, around.functions, scope, label, assign)
+}
+
+/// A call whose result isn't used.
+pub fn resolve_call_alone(
+    around: &Around<'_>,
+    scope: &Scope,
+    labels: &mut Labelling,
+    call: &Call,
+) -> Result<lra_program::Stmt, SourceError>
+    ensures told { TellsOf (call_faults (functions_at around.now.functions.now) scope.now (call_view call.now) false)
+        result }
+    ensures found { IfOk result (λ s. stmt_view s ≡ call_stmt labels.old.next
+        (resolve_call (functions_at around.now.functions.now) scope.now labels.old.next (call_view call.now))) }
+    ensures counted { OnOk result (labels.new.next ≡ suc labels.old.next) }
+    ensures adds { OnOk result (Adds labels.old labels.new
+        (label_with call.now.name.place (Some call.now.name) labels.old.live ∷ [])) }
+{
+    let called = call.name.copy(around.alloc)?;
+    let label = labels.add(call.name.place, Some(called))?;
+    let call = resolve_call(around.alloc, around.functions, scope, label, call, false)?;
+    Ok(lra_program::Stmt::Call(label, call))
+}
+
+/// The label of a `break` or a `continue`, which stand in loops.
+fn take_jump_label(
+    in_loop: bool,
+    labels: &mut Labelling,
+    place: Place,
+) -> Result<usize, SourceError>
+    ensures told { TellsOf (fault_if (not in_loop) Misplaced place) result }
+    ensures label { IfOk result (λ n. n ≡ labels.old.next) }
+    ensures counted { OnOk result (labels.new.next ≡ suc labels.old.next) }
+    ensures adds { OnOk result (Adds labels.old labels.new (plain_label place labels.old.live ∷ [])) }
+{
+    if in_loop {
+        labels.add(place, None)
+    } else {
+        refuse(Cause::Misplaced, place)
+    }
+}
+
+/// A `break`, in a loop or not.
+pub fn resolve_break(
+    around: &Around<'_>,
+    labels: &mut Labelling,
+    place: Place,
+) -> Result<lra_program::Stmt, SourceError>
+    ensures told { TellsOf (fault_if (not around.now.in_loop) Misplaced place) result }
+    ensures found { IfOk result (λ s. stmt_view s ≡ break_of labels.old.next) }
+    ensures counted { OnOk result (labels.new.next ≡ suc labels.old.next) }
+    ensures adds { OnOk result (Adds labels.old labels.new (plain_label place labels.old.live ∷ [])) }
+{
+    let label = take_jump_label(around.in_loop, labels, place)?;
+    Ok(lra_program::Stmt::Break(label))
+}
+
+/// A `continue`, in a loop or not.
+pub fn resolve_continue(
+    around: &Around<'_>,
+    labels: &mut Labelling,
+    place: Place,
+) -> Result<lra_program::Stmt, SourceError>
+    ensures told { TellsOf (fault_if (not around.now.in_loop) Misplaced place) result }
+    ensures found { IfOk result (λ s. stmt_view s ≡ continue_of labels.old.next) }
+    ensures counted { OnOk result (labels.new.next ≡ suc labels.old.next) }
+    ensures adds { OnOk result (Adds labels.old labels.new (plain_label place labels.old.live ∷ [])) }
+{
+    let label = take_jump_label(around.in_loop, labels, place)?;
+    Ok(lra_program::Stmt::Continue(label))
+}
+
+/// A `return`; only a function with a result gives one.
+#[tactic(auto, using(lra_scopes::proofs::Telling::telling_rules))]
+pub fn resolve_return(
+    around: &Around<'_>,
+    scope: &Scope,
+    labels: &mut Labelling,
+    place: Place,
+    source: &Option<Source>,
+) -> Result<lra_program::Stmt, SourceError>
+    ensures told { TellsOf (return_faults (around_of around.now) scope.now place (option_map source_view source.now))
+        result }
+    ensures found { IfOk result (λ s. stmt_view s ≡ return_of labels.old.next
+        (resolve_given (functions_at around.now.functions.now) scope.now labels.old.next
+        (option_map source_view source.now))) }
+    ensures counted { OnOk result (labels.new.next ≡ suc labels.old.next) }
+    ensures adds { OnOk result (Adds labels.old labels.new
+        (label_with place (called_of (option_map source_view source.now)) labels.old.live ∷ [])) }
+{
+    if source.is_some() && !around.has_result {
+        return refuse(Cause::BadCall, place);
+    }
+    let called = called_by_given(around.alloc, source)?;
+    let label = labels.add(place, called)?;
+    let source = resolve_given(around.alloc, around.functions, scope, label, source)?;
+    Ok(lra_program::Stmt::Return(label, source))
+}
