@@ -58,7 +58,8 @@ no_other : (b also : Bool) (r : List ℤ) → b ≡ also → also ≡ true → c
 no_other true also r e t = refl
 no_other false also r e t = cc
 
-pub line_more : {K : Type 0} (equal : K → Bool) (rows : List (List ℤ)) (kinds : List K) (i : ℕ) (r t : List ℤ) (k : K) (line : Bool) (items new : List (List ℤ)) → length kinds ≡ length rows → i < length rows →
+pub line_more : {K : Type 0} (equal : K → Bool) (rows : List (List ℤ)) (kinds : List K) (i : ℕ) (r t : List ℤ) (k : K) (line : Bool) (items new : List (List ℤ)) → length kinds ≡ length rows →
+    i < length rows →
     r ≡ get_or rows i r → line ≡ equal (get_or kinds i k) → line ≡ true → t ≡ r → new ≡ items ++ t ∷ [] → items ≡ lines_of (front equal rows kinds i) →
     new ≡ lines_of (front equal rows kinds (i + 1))
 line_more equal rows kinds i r t k line items new n h e el l et en ei =
@@ -66,7 +67,8 @@ line_more equal rows kinds i r t k line items new n h e el l et en ei =
     ap (λ (x : List (List ℤ)). lines_of (front equal rows kinds i) ++ x) (sym (kept_of (equal (get_or kinds i k)) line r (sym el) l)) ∙
     sym (parted equal lines_of lines_push rows kinds i r k n h e)
 
-pub line_left : {K : Type 0} (equal : K → Bool) (rows : List (List ℤ)) (kinds : List K) (i : ℕ) (r : List ℤ) (k : K) (line : Bool) (items : List (List ℤ)) → length kinds ≡ length rows → i < length rows →
+pub line_left : {K : Type 0} (equal : K → Bool) (rows : List (List ℤ)) (kinds : List K) (i : ℕ) (r : List ℤ) (k : K) (line : Bool) (items : List (List ℤ)) → length kinds ≡ length rows →
+    i < length rows →
     r ≡ get_or rows i r → line ≡ equal (get_or kinds i k) → line ≡ false → items ≡ lines_of (front equal rows kinds i) →
     items ≡ lines_of (front equal rows kinds (i + 1))
 line_left equal rows kinds i r k line items n h e el l ei =
@@ -74,33 +76,38 @@ line_left equal rows kinds i r k line items n h e el l ei =
     ap (λ (x : List (List ℤ)). lines_of (front equal rows kinds i) ++ x) (sym (none_of (equal (get_or kinds i k)) line r (sym el) l)) ∙
     sym (parted equal lines_of lines_push rows kinds i r k n h e)
 
-pub rays_more : {K : Type 0} (equal : K → Bool) (rows : List (List ℤ)) (kinds : List K) (i : ℕ) (r : List ℤ) (k : K) (line : Bool) → length kinds ≡ length rows → i < length rows → r ≡ get_or rows i r →
+pub rays_more : {K : Type 0} (equal : K → Bool) (rows : List (List ℤ)) (kinds : List K) (i : ℕ) (r : List ℤ) (k : K) (line : Bool) → length kinds ≡ length rows → i < length rows →
+    r ≡ get_or rows i r →
     line ≡ equal (get_or kinds i k) → line ≡ false → rays_of (front equal rows kinds (i + 1)) ≡ rays_of (front equal rows kinds i) ++ r ∷ []
 rays_more equal rows kinds i r k line n h e el l =
     parted equal rays_of rays_push rows kinds i r k n h e ∙
     ap (λ (x : List (List ℤ)). rays_of (front equal rows kinds i) ++ x) (other_of (equal (get_or kinds i k)) line r (sym el) l)
 
-pub rays_same : {K : Type 0} (equal : K → Bool) (rows : List (List ℤ)) (kinds : List K) (i : ℕ) (r : List ℤ) (k : K) (line : Bool) → length kinds ≡ length rows → i < length rows → r ≡ get_or rows i r →
+pub rays_same : {K : Type 0} (equal : K → Bool) (rows : List (List ℤ)) (kinds : List K) (i : ℕ) (r : List ℤ) (k : K) (line : Bool) → length kinds ≡ length rows → i < length rows →
+    r ≡ get_or rows i r →
     line ≡ equal (get_or kinds i k) → line ≡ true → rays_of (front equal rows kinds (i + 1)) ≡ rays_of (front equal rows kinds i)
 rays_same equal rows kinds i r k line n h e el l =
     parted equal rays_of rays_push rows kinds i r k n h e ∙
     ap (λ (x : List (List ℤ)). rays_of (front equal rows kinds i) ++ x) (no_other (equal (get_or kinds i k)) line r (sym el) l) ∙
     append-nil (rays_of (front equal rows kinds i))
 
-pub ray_more : {K : Type 0} (equal : K → Bool) (rows : List (List ℤ)) (kinds : List K) (i : ℕ) (r t : List ℤ) (k : K) (line : Bool) (items new : List (List ℤ)) → length kinds ≡ length rows → i < length rows →
+pub ray_more : {K : Type 0} (equal : K → Bool) (rows : List (List ℤ)) (kinds : List K) (i : ℕ) (r t : List ℤ) (k : K) (line : Bool) (items new : List (List ℤ)) → length kinds ≡ length rows →
+    i < length rows →
     r ≡ get_or rows i r → line ≡ equal (get_or kinds i k) → line ≡ false → t ≡ r → new ≡ items ++ t ∷ [] → items ≡ rays_of (front equal rows kinds i) →
     new ≡ rays_of (front equal rows kinds (i + 1))
 ray_more equal rows kinds i r t k line items new n h e el l et en ei =
     en ∙ ap (λ (x : List (List ℤ)). x ++ t ∷ []) ei ∙ ap (λ (y : List ℤ). rays_of (front equal rows kinds i) ++ y ∷ []) et ∙
     sym (rays_more equal rows kinds i r k line n h e el l)
 
-pub ray_left : {K : Type 0} (equal : K → Bool) (rows : List (List ℤ)) (kinds : List K) (i : ℕ) (r : List ℤ) (k : K) (line : Bool) (items : List (List ℤ)) → length kinds ≡ length rows → i < length rows →
+pub ray_left : {K : Type 0} (equal : K → Bool) (rows : List (List ℤ)) (kinds : List K) (i : ℕ) (r : List ℤ) (k : K) (line : Bool) (items : List (List ℤ)) → length kinds ≡ length rows →
+    i < length rows →
     r ≡ get_or rows i r → line ≡ equal (get_or kinds i k) → line ≡ true → items ≡ rays_of (front equal rows kinds i) →
     items ≡ rays_of (front equal rows kinds (i + 1))
 ray_left equal rows kinds i r k line items n h e el l ei = ei ∙ sym (rays_same equal rows kinds i r k line n h e el l)
 
 -- once all are seen
-pub seen_all : {K : Type 0} (equal : K → Bool) (P : List Given → Type 0) (rows listed : List (List ℤ)) (kinds also : List K) (i : ℕ) → rows ≡ listed → kinds ≡ also → length kinds ≡ length listed → length rows ≤ i →
+pub seen_all : {K : Type 0} (equal : K → Bool) (P : List Given → Type 0) (rows listed : List (List ℤ)) (kinds also : List K) (i : ℕ) → rows ≡ listed → kinds ≡ also → length kinds ≡ length listed →
+    length rows ≤ i →
     P (front equal rows kinds i) → P (given_by equal listed also)
 seen_all {K = K} equal P rows listed kinds also i er ek n h x =
     let many : length kinds ≤ i = let m = ap length er in omega (arith, m, n, h) in
