@@ -23,6 +23,7 @@ use Rattle.lra_cone.specs.Cones.{Shape, IsCone}
 use Rattle.lra_cone.specs.Conversions.{IsConversion}
 use Rattle.lra_cone.specs.Losses.{IfLost}
 use Rattle.lra_cone.proofs.TightRows.{with_later}
+use Rattle.lra_pair.specs.KeptRows.{IsOfSome}
 use Rattle.lra_pair.specs.OwnLists.{IsOwnLoss, IsOwnCause, IsPositive}
 
 -- ---- a row of a list once more
@@ -202,3 +203,20 @@ later_strain d s cause losses after loss e k ea l h first all kept c =
 pub some_loss : (losses after told : List Loss) (loss : Loss) → after ≡ losses ++ loss ∷ [] → told ≡ after → told ≡ [] → ⊥
 some_loss [] after told loss e f g = let z : loss ∷ [] ≡ [] = sym e ∙ sym f ∙ g in cc
 some_loss (x ∷ losses) after told loss e f g = let z : x ∷ (losses ++ loss ∷ []) ≡ [] = sym e ∙ sym f ∙ g in cc
+
+-- ---- what is left of the rows
+pub all_of : (n : ℕ) (rows : List Given) (p : Polyhedron) → IsPolyhedronOf n (Con rows) p → IsOfSome n rows p
+all_of n rows p h = record { rows = rows; among = λ g m. m; made = h }
+
+pub none_of : (n : ℕ) (rows : List Given) (p : Polyhedron) → IsPolyhedronOf n (Con []) p → IsOfSome n rows p
+none_of n rows p h = record { rows = []; among = λ g m. absurd (contains_none g m); made = h }
+
+pub some_taken : (n d : ℕ) (rows kept : List Given) (s start : Shape) (losses : List Loss) (p : Polyhedron) → d ≡ n → IsPositive n start.taken →
+    IsConversion start.taken rows kept s losses → IsOfSome d (drop 1 s.taken) p → IsOfSome n (drop 1 start.taken ++ rows) p
+some_taken n d rows kept s start losses p e first c h =
+    let front = drop 1 start.taken in
+    record {
+      rows = h.rows;
+      among = λ g m. still_among front kept rows c.among g (subst (λ (l : List Given). Contains l g) (taken_behind n rows kept s start losses first c) (h.among g m));
+      made = subst (λ (m : ℕ). IsPolyhedronOf m (Con h.rows) p) e h.made;
+    }

@@ -1,2 +1,3 @@
 -- Canonical lists of a list's own kind.
 pub mod OwnLists
+pub mod KeptRows

@@ -12,6 +12,7 @@ ghost use Rattle.lra_linear.specs.Strain.{Strains};
 ghost use Rattle.lra_sys.specs.declared.system.GenKind.TheVariants.{Point};
 ghost use Rattle.lra_cone.specs.Conversions.{IsConversion};
 ghost use Rattle.lra_cone.specs.Losses.{IfLost};
+ghost use Rattle.lra_pair.specs.KeptRows.{IsOfSome};
 ghost use Rattle.lra_pair.specs.OwnLists.{IsOwnList, IsOwnLoss, IsPositive};
 
 use crate::own::{Own, limited_list};
@@ -180,6 +181,7 @@ fn of_taken_rows(
     ensures exact { IfOk result (λ r. r.1.items ≡ [] → IsPolyhedronOf n (Con (drop 1 cone.now.taken)) r.0) }
     ensures none { IfOk result (λ r. r.1.items ≡ [] → losses.items ≡ []) }
     ensures within { IfOk result (λ r. IsWithin n (Con (drop 1 cone.now.taken)) (Con r.0.rows)) }
+    ensures some { IfOk result (λ r. IsOfSome n (drop 1 cone.now.taken) r.0) }
     ensures strain { IfOk result (λ r. (first all kept : List Given) →
         IsConversion first all kept cone.now losses.items → IfLost (Strains (suc n) (first ++ all)) r.1.items) }
 {
@@ -208,6 +210,7 @@ pub fn from_cone(alloc: Global, start: Cone, rows: &ConSys) -> Result<(Pair, Vec
         IsPolyhedronOf rows.now.dims (Con (drop 1 start.taken ++ constraints rows.now)) r.0) }
     ensures within { IfOk result (λ r.
         IsWithin rows.now.dims (Con (drop 1 start.taken ++ constraints rows.now)) (Con r.0.rows)) }
+    ensures some { IfOk result (λ r. IsOfSome rows.now.dims (drop 1 start.taken ++ constraints rows.now) r.0) }
     ensures strain { IfOk result (λ r.
         IfLost (FromRowsStrains rows.now.dims (drop 1 start.taken ++ constraints rows.now)) r.1.items) }
 {
@@ -229,6 +232,7 @@ pub fn from_rows(alloc: Global, rows: &ConSys) -> Result<(Pair, Vec<Loss>), Allo
     ensures canonical { IfOk result (λ r. IsPolyhedron r.0) }
     ensures exact { IfOk result (λ r. r.1.items ≡ [] → IsPolyhedronOf rows.now.dims (Con (constraints rows.now)) r.0) }
     ensures within { IfOk result (λ r. IsWithin rows.now.dims (Con (constraints rows.now)) (Con r.0.rows)) }
+    ensures some { IfOk result (λ r. IsOfSome rows.now.dims (constraints rows.now) r.0) }
     ensures strain { IfOk result (λ r. IfLost (FromRowsStrains rows.now.dims (constraints rows.now)) r.1.items) }
 {
     let n = rows.dims();

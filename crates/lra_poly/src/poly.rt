@@ -9,6 +9,7 @@ ghost use Rattle.lra_linear.specs.Points.{IsEmptySet, IsWithin};
 ghost use Rattle.lra_linear.specs.Polyhedra.{IsPolyhedron, IsPolyhedronOf};
 ghost use Rattle.lra_linear.specs.SetOperations.{Meet, Union, Hull};
 ghost use Rattle.lra_sys.specs.Listed.{constraints, generators, FitKinds};
+ghost use Rattle.lra_pair.specs.KeptRows.{IsOfSome};
 ghost use Rattle.lra_pair.specs.OwnLists.{IsPositive};
 ghost use Rattle.lra_poly.specs.Inclusions.{IsInclusion, TellsInclusion};
 ghost use Rattle.lra_poly.specs.Maxima.{IsMaximum, TellsMaximum};
@@ -154,6 +155,7 @@ impl Poly {
         ensures exact { IfOk result (λ r.
             IfExact (IsPolyhedronOf rows.now.dims (Con (constraints rows.now)) r.0) r.1) }
         ensures within { IfOk result (λ r. IsWithin rows.now.dims (Con (constraints rows.now)) (Con r.0.rows)) }
+        ensures some { IfOk result (λ r. IsOfSome rows.now.dims (constraints rows.now) r.0) }
         ensures strain { IfOk result (λ r. IfFlagged (FromRowsStrains rows.now.dims (constraints rows.now)) r.1) }
     {
         let (pair, losses) = lra_pair::from_rows(alloc, rows)?;

@@ -1,16 +1,14 @@
 -- Tightness by lists of truth values.
-use Rattle.std.proofs.Common.{Bool, List, [], ap, arith, get_or, length, map, not, pos, refl, subst, suc, sym, take, zero, ℕ, ℤ, ◌<◌, ◌∙◌, ◌∷◌, ◌≡◌, ◌≤◌}
+use Rattle.std.proofs.Common.{Bool, List, [], ap, arith, length, map, not, pos, refl, subst, suc, sym, take, zero, ℕ, ℤ, ◌∙◌, ◌∷◌, ◌≡◌, ◌≤◌}
 use Rattle.std.specs.Prelude.{◌&&◌, ◌||◌}
 use Rattle.std.proofs.lemmas.List.{length-map, take_all}
 use Rattle.std.specs.Bool.{beq}
 use Rattle.std.specs.List.{All, list_all, list_any}
 use Rattle.std.specs.Ordering.{int_eq}
-use Rattle.lra_bits.specs.TruthValues.{value_at}
 use Rattle.lra_linear.specs.Descriptions.{Given}
 use Rattle.lra_linear.specs.Polyhedra.{Polyhedron}
 use Rattle.lra_linear.specs.Vectors.{product}
 use Rattle.lra_linear.specs.Widening.{is_tight, is_tight_as, saturates}
-use Rattle.lra_cone.specs.Steps.{IsFilled}
 use Rattle.lra_sys.specs.Listed.{Listed, given_by}
 use Rattle.lra_widen.specs.Rank.{is_free}
 use Rattle.lra_poly.specs.Saturations.{saturated}

@@ -1,6 +1,6 @@
 -- What the parts of a widening tell of the whole.
 use Rattle.std.proofs.Common.{Bool, List, [], ap, arith, false, inl, inr, length, refl, subst, suc, sym, true, Err, IsOk, IsErr, Ok, Result, ℕ, ℤ, ◌++◌, ◌∙◌, ◌∷◌, ◌≡◌, ◌≢◌}
-use Rattle.std.specs.Prelude.{◌↔◌, IsTrue}
+use Rattle.std.specs.Prelude.{◌↔◌, ◌⊎◌, IsTrue}
 use Rattle.std.proofs.lemmas.List.Elements.{All-contains, Contains-append_cases, Contains-append_left, Contains-append_right}
 use Rattle.std.specs.List.{All, Contains, filter}
 use Rattle.lra_linear.specs.Cones.{both_ways}
@@ -21,11 +21,12 @@ use Rattle.lra_poly.specs.declared.outcome.Outcome.{Outcome}
 use Rattle.lra_poly.specs.declared.outcome.Outcome.TheVariants.{Exact, Flagged}
 use Rattle.lra_poly.specs.FirstPlaces.{FirstAt}
 use Rattle.lra_poly.specs.Inclusions.{IsInclusion, Meets, MeetsAll, Passes, Violates, ViolatesFirst}
+use Rattle.lra_pair.specs.KeptRows.{IsOfSome}
 use Rattle.lra_poly.specs.Outcomes.{IfExact, IfFlagged}
 use Rattle.lra_poly.proofs.InclusionLemmas.{has_member}
 use Rattle.lra_poly.proofs.PolyLemmas.{falsity_is_empty, none_where_empty, same_polyhedron}
 use Rattle.lra_sys.specs.Listed.{Listed, given_by}
-use Rattle.lra_widen.specs.Rank.{Falls, equalities_from, kept}
+use Rattle.lra_widen.specs.Rank.{Falls, equalities_from, holds_in_range, kept}
 use Rattle.lra_widen.specs.Widenings.{HaveColumns, IsOutside, IsWidened, PassesOnBoth}
 use Rattle.lra_widen.proofs.Counting.{holds_valid, kept_at}
 use Rattle.lra_widen.proofs.RankLaw.{not_inside, rank_falls}
@@ -143,42 +144,41 @@ flagged_of : (P Q : Loss → Type 0) (o : Outcome) → ((loss : Loss) → P loss
 flagged_of P Q Exact f h = tt
 flagged_of P Q (Flagged loss) f h = f loss h
 
-pub widened_made : (p q made : Polyhedron) (list given : List Given) (n : ℕ) (o lost : Outcome) → IsPolyhedron p → IsPolyhedron q → q.dims ≡ p.dims → ¬ (IsEmptySet p.dims (Con p.rows)) →
-    IsWithin p.dims (Con p.rows) (Con q.rows) → list ≡ tight_on p q ++ kept p q given → n ≡ p.dims → o ≡ Exact → IfExact (IsPolyhedronOf n (Con list) made) o → HaveColumns p.dims given →
-    IfExact (kept p q given ≡ valid_on p q given) lost → IfFlagged (PassesOnBoth p q given) lost → IsWidened p q given made lost
-widened_made p q made list given n o lost hp hq d some w e en eo exact columns same passes =
-    let h = with_point p hp some in
-    let k = around_point p q h hq d w in
-    let all = tight_on p q ++ kept p q given in
-    let m : IsPolyhedronOf p.dims (Con all) made = subst (λ (l : List Given). IsPolyhedronOf p.dims (Con l) made) e
-    (subst (λ (j : ℕ). IsPolyhedronOf j (Con list) made) en (subst (IfExact (IsPolyhedronOf n (Con list) made)) eo exact)) in
+-- the widths of these rows
+limited_columns : (p q : Polyhedron) (given : List Given) → HasPoint q → q.dims ≡ p.dims → HaveColumns p.dims given → HaveColumns p.dims (tight_on p q ++ kept p q given)
+limited_columns p q given k d columns g i = elim (Contains-append_cases (tight_on p q) (kept p q given) g i) [
+  | inl a ↦ row_columns q k g (filter_from (is_tight p) q.rows g a).0 ∙ ap suc d
+  | inr b ↦ columns g (kept_at p q given g b).0
+]
+
+limited_told : (p q : Polyhedron) (given : List Given) (g : Given) → Contains (tight_on p q ++ kept p q given) g → (is_tight p g ≡ true) ⊎ (Contains given g × (holds_in_range p g ≡ true))
+limited_told p q given g i = elim (Contains-append_cases (tight_on p q) (kept p q given) g i) [
+  | inl a ↦ inl (filter_from (is_tight p) q.rows g a).1
+  | inr b ↦ let f = kept_at p q given g b in inr (f.0, f.1)
+]
+
+-- the polyhedron of some of them, with what is told of it
+of_some : (p q made : Polyhedron) (given : List Given) (o : Outcome) → HasPoint p → HasPoint q → q.dims ≡ p.dims → IsWithin p.dims (Con p.rows) (Con q.rows) →
+    IsOfSome p.dims (tight_on p q ++ kept p q given) made → HaveColumns p.dims given → IfExact (IsPolyhedronOf p.dims (Limited p q given) made) o →
+    IfFlagged (LimitedStrains p q given) o → IsWidened p q given made o
+of_some p q made given o h k d w s columns exact strain =
+    let m = s.made in
     record {
       dims = m.dimensions;
       canonical = m.canonical;
-      exact = exact_of (kept p q given ≡ valid_on p q given) (IsPolyhedronOf p.dims (Limited p q given) made) lost
-          (λ s. same_polyhedron p.dims (Limited p q given) (Con (tight_on p q ++ valid_on p q given)) made (limited_con p q given h k)
-          (subst (λ (l : List Given). IsPolyhedronOf p.dims (Con (tight_on p q ++ l)) made) s m)) same;
-      within = λ x i l. m.points.0 x i (limited_list p q given h k x i l);
-      old = λ x i c. m.points.0 x i (old_list p q given h w x i c);
-      strain = flagged_of (PassesOnBoth p q given) (LimitedStrains p q given) lost (passes_limited p q given) passes;
+      exact = exact;
+      within = λ x i l. m.points.0 x i (λ g c. limited_list p q given h k x i l g (s.among g c));
+      old = λ x i c. m.points.0 x i (λ g b. old_list p q given h w x i c g (s.among g b));
+      strain = strain;
       keeps = λ _. record {
-        rows = all;
-        made = subst (λ (j : ℕ). IsPolyhedronOf j (Con all) made) (sym m.dimensions) m;
-        widths = λ g i. all_columns h k g i ∙ ap suc (sym m.dimensions);
-        told = λ g i. elim (Contains-append_cases (tight_on p q) (kept p q given) g i) [
-          | inl a ↦ inl (filter_from (is_tight p) q.rows g a).1
-          | inr b ↦ let f = kept_at p q given g b in inr (f.0, f.1)
-        ];
+        rows = s.rows;
+        made = subst (λ (j : ℕ). IsPolyhedronOf j (Con s.rows) made) (sym m.dimensions) m;
+        widths = λ g i. limited_columns p q given k d columns g (s.among g i) ∙ ap suc (sym m.dimensions);
+        told = λ g i. limited_told p q given g (s.among g i);
       };
     }
-  where
-    all_columns : HasPoint p → HasPoint q → (g : Given) → Contains (tight_on p q ++ kept p q given) g → length g.row ≡ suc p.dims
-    all_columns h k g i = elim (Contains-append_cases (tight_on p q) (kept p q given) g i) [
-      | inl a ↦ row_columns q k g (filter_from (is_tight p) q.rows g a).0 ∙ ap suc d
-      | inr b ↦ columns g (kept_at p q given g b).0
-    ]
 
--- ---- where a row is lost
+-- ---- what is told where rows are lost
 result_strain : (n : ℕ) (P Q : PointSet) (list : Polyhedron → List Given) (loss : Loss) → SameSet n P Q → ResultStrains n Q list loss → ResultStrains n P list loss
 result_strain n P Q list loss s r = record { result = r.result; is_result = same_polyhedron n P Q r.result s r.is_result; strains = r.strains }
 
@@ -186,24 +186,50 @@ constraints_strain : (n : ℕ) (P Q : PointSet) (taken : List Given) (loss : Los
 constraints_strain n P Q taken loss s (inl a) = inl a
 constraints_strain n P Q taken loss s (inr b) = inr (result_strain n P Q (λ p. p.generators) loss s b)
 
-pub widened_lost : (p q u : Polyhedron) (list given : List Given) (n : ℕ) (o lost : Outcome) → IsPolyhedron p → IsPolyhedron q → q.dims ≡ p.dims → ¬ (IsEmptySet p.dims (Con p.rows)) →
-    IsWithin p.dims (Con p.rows) (Con q.rows) → list ≡ tight_on p q ++ kept p q given → n ≡ p.dims → ¬ (o ≡ Exact) → lost ≡ Exact → IfFlagged (FromRowsStrains n list) o →
-    IfExact (kept p q given ≡ valid_on p q given) lost → IsPolyhedronOf p.dims (Con []) u → IsWidened p q given u o
-widened_lost p q u list given n Exact lost hp hq d some w e en other el strains same made = absurd (other refl)
-widened_lost p q u list given n (Flagged loss) lost hp hq d some w e en other el strains same made =
-    let h = with_point p hp some in
-    let k = around_point p q h hq d w in
-    let s : kept p q given ≡ valid_on p q given = subst (IfExact (kept p q given ≡ valid_on p q given)) el same in
-    let el : list ≡ tight_on p q ++ valid_on p q given = e ∙ ap (λ l. tight_on p q ++ l) s in
-    let x : FromRowsStrains p.dims (tight_on p q ++ valid_on p q given) loss = subst (λ (l : List Given). FromRowsStrains p.dims l loss) el
-    (subst (λ (j : ℕ). FromRowsStrains j list loss) en strains) in
-    widened_up p q u given loss made
-    (inl (constraints_strain p.dims (Limited p q given) (Con (tight_on p q ++ valid_on p q given)) (tight_on p q ++ valid_on p q given) loss (limited_con p q given h k) x))
+-- what the polyhedron is made of, and what is told of it
+pub record IsMade (p q made : Polyhedron) (list given : List Given) (n : ℕ) (o lost : Outcome) : Type 0 where
+  pub first : IsPolyhedron p
+  pub second : IsPolyhedron q
+  pub dims : q.dims ≡ p.dims
+  pub some_point : ¬ (IsEmptySet p.dims (Con p.rows))
+  pub within : IsWithin p.dims (Con p.rows) (Con q.rows)
+  pub rows : list ≡ tight_on p q ++ kept p q given
+  pub list_dims : n ≡ p.dims
+  pub columns : HaveColumns p.dims given
+  pub some : IsOfSome n list made
+  pub exact : IfExact (IsPolyhedronOf n (Con list) made) o
+  pub strain : IfFlagged (FromRowsStrains n list) o
+  pub same : IfExact (kept p q given ≡ valid_on p q given) lost
+  pub passes : IfFlagged (PassesOnBoth p q given) lost
 
-pub widened_passed : (p q u : Polyhedron) (given : List Given) (lost : Outcome) → ¬ (lost ≡ Exact) → IfFlagged (PassesOnBoth p q given) lost → IsPolyhedronOf p.dims (Con []) u →
-    IsWidened p q given u lost
-widened_passed p q u given Exact other passes made = absurd (other refl)
-widened_passed p q u given (Flagged loss) other passes made = widened_wide p q u given loss made passes
+some_limited : (p q made : Polyhedron) (list given : List Given) (n : ℕ) (o lost : Outcome) → IsMade p q made list given n o lost → IsOfSome p.dims (tight_on p q ++ kept p q given) made
+some_limited p q made list given n o lost x =
+    subst (λ (l : List Given). IsOfSome p.dims l made) x.rows (subst (λ (j : ℕ). IsOfSome j list made) x.list_dims x.some)
+
+-- no given row passes
+pub widened_made : (p q made : Polyhedron) (list given : List Given) (n : ℕ) (o lost : Outcome) → IsMade p q made list given n o lost → lost ≡ Exact → IsWidened p q given made o
+widened_made p q made list given n o lost x el =
+    let h = with_point p x.first x.some_point in
+    let k = around_point p q h x.second x.dims x.within in
+    let s : kept p q given ≡ valid_on p q given = subst (IfExact (kept p q given ≡ valid_on p q given)) el x.same in
+    let e : list ≡ tight_on p q ++ valid_on p q given = x.rows ∙ ap (λ l. tight_on p q ++ l) s in
+    let all = Con (tight_on p q ++ valid_on p q given) in
+    let c = limited_con p q given h k in
+    of_some p q made given o h k x.dims x.within (some_limited p q made list given n o lost x) x.columns
+    (exact_of (IsPolyhedronOf n (Con list) made) (IsPolyhedronOf p.dims (Limited p q given) made) o
+    (λ m. same_polyhedron p.dims (Limited p q given) all made c
+    (subst (λ (l : List Given). IsPolyhedronOf p.dims (Con l) made) e (subst (λ (j : ℕ). IsPolyhedronOf j (Con list) made) x.list_dims m))) x.exact)
+    (flagged_of (FromRowsStrains n list) (LimitedStrains p q given) o
+    (λ loss f. inl (constraints_strain p.dims (Limited p q given) all (tight_on p q ++ valid_on p q given) loss c
+    (subst (λ (l : List Given). FromRowsStrains p.dims l loss) e (subst (λ (j : ℕ). FromRowsStrains j list loss) x.list_dims f)))) x.strain)
+
+-- some given row passes
+pub widened_passed : (p q made : Polyhedron) (list given : List Given) (n : ℕ) (o lost : Outcome) → IsMade p q made list given n o lost → ¬ (lost ≡ Exact) → IsWidened p q given made lost
+widened_passed p q made list given n o Exact x other = absurd (other refl)
+widened_passed p q made list given n o (Flagged loss) x other =
+    let h = with_point p x.first x.some_point in
+    let k = around_point p q h x.second x.dims x.within in
+    of_some p q made given (Flagged loss) h k x.dims x.within (some_limited p q made list given n o (Flagged loss) x) x.columns tt (passes_limited p q given loss x.passes)
 
 pub not_exact : (b : Bool) (o : Outcome) → IsTrue b ↔ (o ≡ Exact) → b ≡ false → ¬ (o ≡ Exact)
 not_exact b o h f e = let t = h.1 e in cc

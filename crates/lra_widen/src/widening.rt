@@ -18,7 +18,7 @@ use lra_poly::{Inclusion, Outcome, Poly};
 use lra_sys::ConSys;
 use std::alloc::{AllocError, Global};
 
-// The widening of a polyhedron with a point by one that it lies in. All points, where a constraint is lost.
+// The widening of a polyhedron with a point by one that it lies in. A constraint that is lost is left out.
 fn widened_within(
     alloc: Global,
     p: &Poly,
@@ -36,14 +36,10 @@ fn widened_within(
     add_held(&mut list, p, q, given)?;
     let lost = given_loss(alloc, p, q, given)?;
     let (made, outcome) = Poly::from_rows(alloc, &list)?;
-    if outcome.is_exact() {
-        return Ok((made, lost));
-    }
-    let all = universe(alloc, p.dims())?;
     if lost.is_exact() {
-        Ok((all, outcome))
+        Ok((made, outcome))
     } else {
-        Ok((all, lost))
+        Ok((made, lost))
     }
 }
 

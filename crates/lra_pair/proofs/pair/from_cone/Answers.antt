@@ -1,6 +1,6 @@
 use Rattle.std.proofs.lemmas.Result.{IfOk-weaker}
 use Rattle.lra_sys.specs.Listed.{constraints}
-use Rattle.lra_pair.proofs.PairLosses.{rows_within, rows_strain}
+use Rattle.lra_pair.proofs.PairLosses.{rows_within, rows_strain, some_taken}
 use Rattle.lra_pair.proofs.pair.from_cone.Goals as goal
 
 pub returns-clause-within : goal.returns-clause-within
@@ -16,3 +16,10 @@ returns-clause-strain c =
     IfOk-weaker c.of_taken_rows.result _ _ (λ r h.
     rows_strain c.args.rows.now.dims c.dims-n.result (constraints c.args.rows.now) (constraints conversion.kept) conversion.cone c.args.start conversion.losses.items r.1.items
     c.dims-n.ensures c.requires.positive c.in_ok-conversion.ensures.taken h) c.of_taken_rows.ensures.strain
+
+pub returns-clause-some : goal.returns-clause-some
+returns-clause-some c =
+    let conversion = c.in_ok-conversion.conversion in
+    IfOk-weaker c.of_taken_rows.result _ _ (λ r h.
+    some_taken c.args.rows.now.dims c.dims-n.result (constraints c.args.rows.now) (constraints conversion.kept) conversion.cone c.args.start conversion.losses.items r.0
+    c.dims-n.ensures c.requires.positive c.in_ok-conversion.ensures.taken h) c.of_taken_rows.ensures.some

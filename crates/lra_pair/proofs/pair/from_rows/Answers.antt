@@ -6,6 +6,7 @@ use Rattle.lra_linear.specs.Points.{IsWithin}
 use Rattle.lra_linear.specs.Polyhedra.{IsPolyhedronOf}
 use Rattle.lra_sys.specs.Listed.{constraints}
 use Rattle.lra_cone.specs.Losses.{IfLost}
+use Rattle.lra_pair.specs.KeptRows.{IsOfSome}
 use Rattle.lra_pair.proofs.PairLosses.{none_behind, positive_alone}
 use Rattle.lra_pair.proofs.pair.from_rows.Goals as goal
 
@@ -29,3 +30,9 @@ returns-clause-strain c =
     let d = c.args.rows.now.dims in
     let same = none_behind d c.dims-n.result c.in_ok-positive_cone.field-0.taken (constraints c.args.rows.now) c.dims-n.ensures c.in_ok-positive_cone.ensures.taken in
     IfOk-weaker c.from_cone.result _ _ (λ r h. subst (λ (l : List Given). IfLost (FromRowsStrains d l) r.1.items) same h) c.from_cone.ensures.strain
+
+pub returns-clause-some : goal.returns-clause-some
+returns-clause-some c =
+    let d = c.args.rows.now.dims in
+    let same = none_behind d c.dims-n.result c.in_ok-positive_cone.field-0.taken (constraints c.args.rows.now) c.dims-n.ensures c.in_ok-positive_cone.ensures.taken in
+    IfOk-weaker c.from_cone.result _ _ (λ r h. subst (λ (l : List Given). IsOfSome d l r.0) same h) c.from_cone.ensures.some

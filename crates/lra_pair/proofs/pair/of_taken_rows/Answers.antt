@@ -1,5 +1,5 @@
 use Rattle.std.proofs.Common.{drop, refl}
-use Rattle.lra_pair.proofs.PairLosses.{universe_within, later_strain}
+use Rattle.lra_pair.proofs.PairLosses.{all_of, none_of, universe_within, later_strain}
 use Rattle.lra_pair.proofs.pair.of_taken_rows.Goals as goal
 
 pub returns-in_ok-pair-in-Err-clause-within : goal.returns-in_ok-pair-in-Err-clause-within
@@ -10,3 +10,9 @@ returns-in_ok-pair-in-Err-clause-strain c =
     let cause = rw c.in-Err.is at c.in_ok-own.ensures.cause in
     later_strain c.args.n c.args.cone.now c.in-Err.cause c.args.losses.items c.push.new.self.items c.in_ok-own_loss-in-Err.field-0 c.requires.dims
     c.in_ok-own_loss-in-Err.ensures.cone c.in_ok-push-in-Err.ensures.items c.in_ok-own_loss-in-Err.ensures.loss cause
+
+pub returns-in_ok-pair-in-Ok-clause-some : goal.returns-in_ok-pair-in-Ok-clause-some
+returns-in_ok-pair-in-Ok-clause-some c = all_of c.args.n (drop 1 c.args.cone.now.taken) c.in_ok-pair-in-Ok.pair c.in_ok-pair-in-Ok.ensures
+
+pub returns-in_ok-pair-in-Err-clause-some : goal.returns-in_ok-pair-in-Err-clause-some
+returns-in_ok-pair-in-Err-clause-some c = none_of c.args.n (drop 1 c.args.cone.now.taken) c.in_ok-pair-in-Err.pair c.in_ok-pair-in-Err.ensures
