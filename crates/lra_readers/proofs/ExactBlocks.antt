@@ -19,7 +19,8 @@ use Rattle.lra_tree.specs.Views.{step_view}
 use Rattle.lra_tree.specs.Grammar.{IsAssign, IsDeclaration, IsStmt, AreItems}
 use Rattle.lra_readers.specs.Tests.{is_mark}
 use Rattle.lra_readers.specs.Reading.{Parse, stop, map_read, identifier_of, has, one_of}
-use Rattle.lra_readers.specs.Statements.{next_step, step_marks, StmtMark, at_nothing, at_if, at_while, at_for, at_break, at_continue, at_return, at_assert, at_assume, stmt_marks, stmt_mark, begins_stmt}
+use Rattle.lra_readers.specs.Statements.{next_step, step_marks, StmtMark, at_nothing, at_if, at_while, at_for, at_break, at_continue, at_return, at_assert, at_assume, stmt_marks, stmt_mark}
+use Rattle.lra_readers.specs.Statements.{begins_stmt}
 use Rattle.lra_readers.specs.Statements.{ItemTree, declared, stated, items_from, begins_item, stated_of, item_of, items_of, body_of, block_from, too_deep, levels, branch_at, block_at, simple_at}
 use Rattle.lra_readers.specs.Statements.{items_at}
 use Rattle.lra_readers.proofs.Marks.{is_mark_some}

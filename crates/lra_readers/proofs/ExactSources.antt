@@ -25,7 +25,8 @@ use Rattle.lra_readers.proofs.Tokens.{IsInner, exact_expect, exact_name, some_pl
 use Rattle.lra_readers.proofs.Turns.{none}
 use Rattle.lra_readers.proofs.Chain.{regroup, AfterLast, no_steps, first_of_steps}
 use Rattle.lra_readers.proofs.Parts.{token, exact_behind, exact_ended}
-use Rattle.lra_readers.proofs.ExactExpressions.{factor_mark, sum_mark, AfterTerm, AfterExpr, some_expr, TermSteps, ExprSteps, expr_follows, whole_term, whole_expr, split_term, split_expr, exact_factors}
+use Rattle.lra_readers.proofs.ExactExpressions.{factor_mark, sum_mark, AfterTerm, AfterExpr, some_expr, TermSteps, ExprSteps, expr_follows, whole_term, whole_expr, split_term, split_expr}
+use Rattle.lra_readers.proofs.ExactExpressions.{exact_factors}
 use Rattle.lra_readers.proofs.ExactExpressions.{exact_summands, Of, first_opened, exact_unary, exact_expr}
 use Rattle.lra_readers.proofs.ExactConditions.{expr_begun, begun_long, begun_first}
 use Rattle.lra_readers.proofs.ExactLists.{AfterCommas, exact_commas}
