@@ -11,7 +11,8 @@ use Rattle.lra_tree.specs.declared.trees.Identifier.{Identifier}
 use Rattle.lra_tree.specs.Trees.{UnaryTree, negated, positive, group, literal, variable, ExprTree, NegationTree, opposite, opposite_again, value_of_unary, CondTree}
 use Rattle.lra_readers.specs.Tests.{first, is_mark, is_kind}
 use Rattle.lra_readers.specs.Reading.{Text, Read, stop, ◌>>=◌, seq, map_read, tail, expect, take_by, taken, next_name, next_number, number_of, identifier_of, one_of}
-use Rattle.lra_readers.specs.Expressions.{behind, in_parens, unary_marks, unary_mark, unary_form, unary_at, expr_at, negated_at, positive_at, grouped_at, TestMark, at_not, at_open, test_mark, test_form}
+use Rattle.lra_readers.specs.Expressions.{behind, in_parens, unary_marks, unary_mark, unary_form, unary_at, expr_at, negated_at, positive_at, grouped_at, TestMark, at_not, at_open, test_mark}
+use Rattle.lra_readers.specs.Expressions.{test_form}
 use Rattle.lra_readers.specs.Expressions.{negation_form, tests, test_at, negation_at, cond_at, opposed_at, closed_at, after_group, negation_of}
 use Rattle.lra_readers.proofs.Exact.{ok_is}
 use Rattle.lra_phrases.proofs.Turning.{expect_value}

@@ -87,7 +87,8 @@ not_reported : (o : Options) (write : Report → List ℕ) (bytes text : List �
 not_reported o write bytes text n c at d refused = (each_answer bytes).2 d.answered.report.tree c at d.answered.report.accepted refused
 
 -- a source that is refused
-pub source_refused : (o : Options) (write : Report → List ℕ) (bytes text : List ℕ) (status : Status) (c : Cause) (at : Place) → DeservesSource o write bytes text status → Refuse Spells bytes c at → EndsInRefusal status
+pub source_refused : (o : Options) (write : Report → List ℕ) (bytes text : List ℕ) (status : Status) (c : Cause) (at : Place) → DeservesSource o write bytes text status → Refuse Spells bytes c at →
+    EndsInRefusal status
 source_refused o write bytes text Proved c at d refused = not_reported o write bytes text 0 c at d refused
 source_refused o write bytes text Unknown c at d refused = not_reported o write bytes text d.0 c at d.2 refused
 source_refused o write bytes text Refused c at d refused = tt
@@ -100,7 +101,8 @@ pub source_too_long : (o : Options) (write : Report → List ℕ) (bytes text : 
 source_too_long o write bytes text status d long = source_refused o write bytes text status TooLong _ d (too_long long)
 
 -- a source that is accepted
-pub source_reported : (o : Options) (write : Report → List ℕ) (bytes text : List ℕ) (status : Status) (t : FileTree) → DeservesSource o write bytes text status → Accepts Spells bytes t → EndsInReport status
+pub source_reported : (o : Options) (write : Report → List ℕ) (bytes text : List ℕ) (status : Status) (t : FileTree) → DeservesSource o write bytes text status → Accepts Spells bytes t →
+    EndsInReport status
 source_reported o write bytes text Proved t d accepted = tt
 source_reported o write bytes text Unknown t d accepted = tt
 source_reported o write bytes text Refused t d accepted = (each_answer bytes).2 t d.cause d.place accepted d.refused

@@ -211,7 +211,8 @@ pub source_status : (words : List (List ℕ)) (left : Option (List ℕ)) (text :
     → IsDeserved words left text status → Asks words (Analyse options json) → left ≡ Some told → EndsBySource told status
 source_status words left text status told options json d asks tells =
     let deserved = told_input words left text status told (Analyse options json) d asks tells in
-    source_ended told status (λ c at r. source_refused options (written_report json) told text status c at deserved r) (λ t a. source_reported options (written_report json) told text status t deserved a)
+    source_ended told status (λ c at r. source_refused options (written_report json) told text status c at deserved r)
+    (λ t a. source_reported options (written_report json) told text status t deserved a)
 
 -- a sample
 sample_asked : (words : List (List ℕ)) (left : Option (List ℕ)) (text : List ℕ) (status : Status) (seed size : ℕ)

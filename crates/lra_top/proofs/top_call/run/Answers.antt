@@ -2,7 +2,8 @@ use Rattle.std.proofs.Common.{◌<◌, ◌≤◌, length, arith, rules}
 use Rattle.std.specs.Io.KnownBytes.{Appends}
 use Rattle.std.proofs.lemmas.Grind.{common_steps}
 use Rattle.lra_top.specs.declared.status.Status.TheVariants as status
-use Rattle.lra_top.proofs.Ways.{too_long_status, refused_status, accepted_status, source_status, sample_status, no_text, complete_status, complete_sample_status, script_refused_status, script_status, complete_script_status}
+use Rattle.lra_top.proofs.Ways.{too_long_status, refused_status, accepted_status, source_status, sample_status, no_text, complete_status, complete_sample_status, script_refused_status, script_status}
+use Rattle.lra_top.proofs.Ways.{complete_script_status}
 use Rattle.lra_top.specs.Headline.{HoldsInAllRuns, IsWrittenUnlessFlagged, TellsSamePoints}
 use Rattle.lra_top.proofs.Headline.{holds, is_written, same_points, writes_report, writes_summary}
 use Rattle.lra_top.proofs.top_call.run.Goals as goal
