@@ -1,0 +1,63 @@
+"""What the scripts of this folder share: runs of the program on a stack of 1 MB within a limit of processor time.
+
+Each case prints one line. `ended()` ends with status 1 where a case disagreed. Expected values were written by hand.
+"""
+import os
+import resource
+import subprocess
+import sys
+
+HERE = os.path.dirname(os.path.abspath(__file__))
+PROGRAM = os.path.abspath(sys.argv[1] if len(sys.argv) > 1 else os.path.join(HERE, '../crates/lra/out/lra'))
+STACK = 1 << 20
+disagreed = 0
+
+
+def bounded():
+    """Gives the process a stack of 1 MB."""
+    resource.setrlimit(resource.RLIMIT_STACK, (STACK, STACK))
+
+
+def spent():
+    """The processor time of the processes that have ended, in seconds."""
+    usage = resource.getrusage(resource.RUSAGE_CHILDREN)
+    return usage.ru_utime + usage.ru_stime
+
+
+def answer(words, source, added=None):
+    """The status (negative where a signal ended the run), what was written, and the processor time."""
+    before = spent()
+    environment = dict(os.environ, **added) if added else None
+    try:
+        run = subprocess.run([PROGRAM] + words.split(), input=source.encode(), capture_output=True, timeout=120,
+                             preexec_fn=bounded, env=environment)
+    except subprocess.TimeoutExpired:
+        return None, '', 120.0
+    return run.returncode, run.stdout.decode(), spent() - before
+
+
+def tell(name, agrees, seen):
+    """Prints the case's line, with what was seen where it disagrees."""
+    global disagreed
+    if not agrees:
+        disagreed += 1
+    print(f'agrees    {name}' if agrees else f'DISAGREES {name}: {seen}', flush=True)
+
+
+def case(name, words, source, status, whole=None, begins=None, holds=(), lacks=(), limit=1.0):
+    """Runs one case: its status, its text (whole, its beginning, what is in it, what isn't), its limit in seconds."""
+    ended_with, text, seconds = answer(words, source)
+    agrees = (ended_with == status and (whole is None or text == whole) and (begins is None or text.startswith(begins))
+              and all(part in text for part in holds) and not any(part in text for part in lacks))
+    tell(f'{name} ({seconds:.2f} s)', agrees and seconds <= limit, (ended_with, text[:100], f'limit {limit} s'))
+
+
+def refused(name, source, text, words='analyse', limit=1.0):
+    """A source that is refused with this line alone."""
+    case(name, words, source, 2, whole=text + '\n', limit=limit)
+
+
+def ended():
+    """Ends with status 1 where a case disagreed."""
+    print(f'disagreed: {disagreed}')
+    sys.exit(1 if disagreed else 0)
