@@ -97,53 +97,31 @@ fn combining(alloc: Global, u: &[i128], v: &[i128], c: &[i128]) -> Result<Option
     Ok(passing(Row::combine(&u, &v, &c)))
 }
 
-/// Each place at which a number may pass: in `c.u`, in `c.v`, and in the sum of the two multiples, products and sums.
+/// A product that passes: in `c.u`, in `c.v`, and in each of the two multiples.
 #[test]
-fn excesses_of_combinations(rt: HostRuntime) -> Result<(), Fail> {
+fn products_of_combinations(rt: HostRuntime) -> Result<(), Fail> {
     let alloc = rt.alloc();
-    for (got, op, left, right) in [
-        (
-            combining(alloc, &[MAX, 1], &[-1, 0], &[2, 0])?,
-            Operation::Product,
-            2,
-            MAX,
-        ),
-        (
-            combining(alloc, &[MAX, 1], &[-MAX, -1], &[1, 1])?,
-            Operation::Sum,
-            MAX,
-            1,
-        ),
-        (
-            combining(alloc, &[1, 0], &[-MAX, 0], &[2, 0])?,
-            Operation::Product,
-            2,
-            -MAX,
-        ),
-        (
-            combining(alloc, &[1, 0], &[-MAX, -1], &[1, 1])?,
-            Operation::Sum,
-            -MAX,
-            -1,
-        ),
-        (
-            combining(alloc, &[MAX, 1], &[0, -2], &[0, 1])?,
-            Operation::Product,
-            2,
-            MAX,
-        ),
-        (
-            combining(alloc, &[0, 2], &[-MAX, -1], &[0, 1])?,
-            Operation::Product,
-            2,
-            -MAX,
-        ),
-        (
-            combining(alloc, &[MAX, 1], &[3, -1], &[0, 1])?,
-            Operation::Sum,
-            MAX,
-            3,
-        ),
+    let op = Operation::Product;
+    for (got, left, right) in [
+        (combining(alloc, &[MAX, 1], &[-1, 0], &[2, 0])?, 2, MAX),
+        (combining(alloc, &[1, 0], &[-MAX, 0], &[2, 0])?, 2, -MAX),
+        (combining(alloc, &[MAX, 1], &[0, -2], &[0, 1])?, 2, MAX),
+        (combining(alloc, &[0, 2], &[-MAX, -1], &[0, 1])?, 2, -MAX),
+    ] {
+        assert_eq!(rt; got, Some(Excess { op, left, right }));
+    }
+    Ok(())
+}
+
+/// A sum that passes: in `c.u`, in `c.v`, and of the two multiples.
+#[test]
+fn sums_of_combinations(rt: HostRuntime) -> Result<(), Fail> {
+    let alloc = rt.alloc();
+    let op = Operation::Sum;
+    for (got, left, right) in [
+        (combining(alloc, &[MAX, 1], &[-MAX, -1], &[1, 1])?, MAX, 1),
+        (combining(alloc, &[1, 0], &[-MAX, -1], &[1, 1])?, -MAX, -1),
+        (combining(alloc, &[MAX, 1], &[3, -1], &[0, 1])?, MAX, 3),
     ] {
         assert_eq!(rt; got, Some(Excess { op, left, right }));
     }
