@@ -7,6 +7,8 @@
 #[cfg(test)]
 mod calc;
 #[cfg(test)]
+mod hostile;
+#[cfg(test)]
 mod parts;
 #[cfg(test)]
 mod polyhedra;

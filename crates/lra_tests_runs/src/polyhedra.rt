@@ -320,14 +320,20 @@ fn count_lines(text: &str, front: &str) -> usize {
     text.lines().filter(|line| line.starts_with(front)).count()
 }
 
-/// A loop whose value is lost at its last doubling tells nothing at any point.
+/// A loop whose value is lost at its last doubling tells nothing at any point, nor of `x` once it is declared.
 #[test]
 fn doublings_past_the_range_tell_nothing(rt: HostRuntime) -> Result<(), Fail> {
     let source = joined(&rt, LOOP_PAST)?;
     let (end, held) = ended(&rt, "lra analyse", source.as_bytes(), SOUND)?;
     let told = count_lines(&held, "  row ");
     let nothing = count_lines(&held, "  row true");
-    assert_eq!(rt; (end, told, nothing), (Status::Proved, 131, 131));
+    let origins = count_lines(&held, "  gen point x=0");
+    let lines = count_lines(&held, "  gen line x=1");
+    let generators = count_lines(&held, "  gen ");
+    assert_eq!(rt;
+        ((end, told, nothing), (origins, lines, generators)),
+        ((Status::Proved, 131, 131), (130, 130, 261))
+    );
     Ok(())
 }
 

@@ -54,35 +54,36 @@ fn x_is_3(alloc: Global) -> Result<Vec<Part>, AllocError> {
     one_part(alloc, rows)
 }
 
-/// `int main(void){ long x; x = 3; assert(x >= 3); }` over boxes.
-#[test]
-fn one_variable(rt: HostRuntime) -> Result<(), Fail> {
-    let alloc = rt.alloc();
+/// The four points of `int main(void){ long x; x = 3; assert(x >= 3); }`.
+fn points_of_one_variable(alloc: Global) -> Result<Vec<PointReport>, AllocError> {
     let mut points = Vec::new(alloc);
-    points.push(in_main(
-        alloc,
-        1,
-        place(1, 22),
-        Names::new(alloc),
-        one_part(alloc, ConSys::new(alloc, 0))?,
-    )?)?;
-    points.push(in_main(
-        alloc,
-        2,
-        place(1, 25),
-        x_alone(alloc)?,
-        one_part(alloc, ConSys::new(alloc, 1))?,
-    )?)?;
+    let start = one_part(alloc, ConSys::new(alloc, 0))?;
+    points.push(in_main(alloc, 1, place(1, 22), Names::new(alloc), start)?)?;
+    let declared = one_part(alloc, ConSys::new(alloc, 1))?;
+    points.push(in_main(alloc, 2, place(1, 25), x_alone(alloc)?, declared)?)?;
     points.push(in_main(alloc, 3, place(1, 32), x_alone(alloc)?, x_is_3(alloc)?)?)?;
     points.push(in_main(alloc, 4, place(1, 48), x_alone(alloc)?, x_is_3(alloc)?)?)?;
-    let mut verdicts = Vec::new(alloc);
-    verdicts.push(Verdict {
+    Ok(points)
+}
+
+/// The verdict on its assertion.
+fn verdict_of_one_variable(alloc: Global) -> Result<Verdict, AllocError> {
+    Ok(Verdict {
         number: 3,
         point: point(alloc, 3),
         path: String::from_str(alloc, "main")?,
         place: place(1, 32),
         proved: true,
-    })?;
+    })
+}
+
+/// `int main(void){ long x; x = 3; assert(x >= 3); }` over boxes.
+#[test]
+fn one_variable(rt: HostRuntime) -> Result<(), Fail> {
+    let alloc = rt.alloc();
+    let points = points_of_one_variable(alloc)?;
+    let mut verdicts = Vec::new(alloc);
+    verdicts.push(verdict_of_one_variable(alloc)?)?;
     let report = Report {
         options: Options {
             domain: Domain::Box,
@@ -132,15 +133,18 @@ fn both_x(alloc: Global) -> Result<Names, AllocError> {
     names_at(&live)
 }
 
-/// Two parts over polyhedra in a call, a point that isn't reached, and a flag.
-#[test]
-fn two_parts(rt: HostRuntime) -> Result<(), Fail> {
-    let alloc = rt.alloc();
+/// The path of a call of `inc`.
+fn path_to_inc(alloc: Global) -> Result<String, AllocError> {
     let mut calls = Vec::new(alloc);
     calls.push(CallPlace {
         name: String::from_str(alloc, "inc")?,
         place: place(1, 61),
     })?;
+    path_text(alloc, calls.as_slice())
+}
+
+/// A point of two parts in that call, and one in `main` that isn't reached.
+fn points_of_two_parts(alloc: Global) -> Result<Vec<PointReport>, AllocError> {
     let mut state = Vec::new(alloc);
     state.push(below(alloc)?)?;
     state.push(above(alloc)?)?;
@@ -148,20 +152,33 @@ fn two_parts(rt: HostRuntime) -> Result<(), Fail> {
     points.push(PointReport {
         number: 1,
         point: point(alloc, 1),
-        path: path_text(alloc, calls.as_slice())?,
+        path: path_to_inc(alloc)?,
         place: place(1, 22),
         names: both_x(alloc)?,
         state,
     })?;
     points.push(in_main(alloc, 2, place(3, 9), Names::new(alloc), Vec::new(alloc))?)?;
-    let mut verdicts = Vec::new(alloc);
-    verdicts.push(Verdict {
+    Ok(points)
+}
+
+/// The verdict on the first of them.
+fn verdict_of_two_parts(alloc: Global) -> Result<Verdict, AllocError> {
+    Ok(Verdict {
         number: 1,
         point: point(alloc, 1),
-        path: path_text(alloc, calls.as_slice())?,
+        path: path_to_inc(alloc)?,
         place: place(1, 22),
         proved: false,
-    })?;
+    })
+}
+
+/// Two parts over polyhedra in a call, a point that isn't reached, and a flag.
+#[test]
+fn two_parts(rt: HostRuntime) -> Result<(), Fail> {
+    let alloc = rt.alloc();
+    let points = points_of_two_parts(alloc)?;
+    let mut verdicts = Vec::new(alloc);
+    verdicts.push(verdict_of_two_parts(alloc)?)?;
     let report = Report {
         options: Options {
             domain: Domain::Poly,
