@@ -100,7 +100,7 @@ module _ (V H : Type 0) (ops : Operations V H) (set : Options) (p : ℕ) where
   passed_again (leave n k) f v r (w, nothing, is) = (w, nothing, ap (flagged_at p) is ∙ jump_again p k v w f)
 
 -- no flag, none before
-none_noted : (q : ℕ) (e : Exactness) (f : Option ℕ) → noted q e f ≡ None → f ≡ None
+pub none_noted : (q : ℕ) (e : Exactness) (f : Option ℕ) → noted q e f ≡ None → f ≡ None
 none_noted q e (Some p) h = cc
 none_noted q e None h = refl
 
@@ -117,7 +117,7 @@ same_ones ops = record {
   valued = λ h e v k s. s;
 }
 
-none_before : {V H : Type 0} (ops : Operations V H) (set : Options) (g : Node) (f : Option ℕ) (v : V) (r : Result V) → r.flag ≡ None → Pass V H ops set g f v r → f ≡ None
+pub none_before : {V H : Type 0} (ops : Operations V H) (set : Options) (g : Node) (f : Option ℕ) (v : V) (r : Result V) → r.flag ≡ None → Pass V H ops set g f v r → f ≡ None
 none_before {V} {H} ops set g f v r none pass = (passes V H ops ops (λ e. Unit {0}) (λ f. f ≡ None) none_matters (same_ones ops) set g f v r none pass).0
 
 with_flag : {V : Type 0} (r : Result V) (f : Option ℕ) → r.flag ≡ f → r ≡ record r { flag = f }

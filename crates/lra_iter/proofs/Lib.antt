@@ -8,3 +8,5 @@ pub mod Widths
 mod PassSteps
 mod PassRows
 mod Again
+mod KeptLoops
+mod LoopNumbers

@@ -1,5 +1,6 @@
 -- The size of a tree, and what the loops of a pass keep.
-use Rattle.std.proofs.Common.{◌≡◌, ◌≢◌, ℕ, zero, suc, ◌+◌, ◌-◌, ◌^◌, ◌<◌, Bool, true, false, List, [], ◌∷◌, ◌++◌, Option, None, take, drop, refl, sym, ap, subst, ◌∙◌, arith}
+use Rattle.std.proofs.Common.{◌≡◌, ◌≢◌, ℕ, zero, suc, ◌+◌, ◌-◌, ◌^◌, ◌<◌, Bool, true, false, List, [], ◌∷◌, ◌++◌}
+use Rattle.std.proofs.Common.{Option, None, take, drop, refl, sym, ap, subst, ◌∙◌, arith}
 use Rattle.std.specs.Prelude.{slice_index_or}
 use Rattle.std.specs.List.{sum, sum_by}
 use Rattle.lra_domain.specs.declared.Rank.{Rank}
@@ -21,6 +22,8 @@ use Rattle.lra_flow.specs.Changes.{AreJoined}
 use Rattle.lra_flow.specs.Given.{given_rows}
 use Rattle.lra_flow.specs.Pass.{Result, noted, first_of_call, mode_at, Pass, GoesRound, Grows, Narrows}
 use Rattle.lra_iter.specs.declared.outcome.Turn.{Turn}
+use Rattle.lra_iter.specs.declared.memory.Memory.{Memory}
+use Rattle.lra_iter.specs.Memory.{StaysKept}
 use Rattle.lra_iter.specs.Outcome.{headed, AllHave, AreKept, HasGrown, IsKept, JumpsFit}
 
 abbrev pub size_step : Node-F ℕ → ℕ
@@ -42,16 +45,22 @@ abbrev pub row_size : List Node → Node → ℕ
 row_size gs last = sum_by node_size gs + node_size last
 
 -- the head grew from the first value: however it grows on, it is a growth of that; the last turn may be given again
-pub record GrowLoop {V H : Type 0} (m : Meaning V H) (set : Options) (q base : ℕ) (c : Cond) (a : graph.Node) (first : V) (f : Option ℕ) (left : ℕ) (so_far : Option ℕ) (head : H)
-    (turn : Option (Turn V)) : Type 0 where
+pub record GrowLoop {V H : Type 0} (m : Meaning V H) (set : Options) (q base : ℕ) (c : Cond) (a : graph.Node)
+    (first : V) (f : Option ℕ) (left : ℕ) (so_far : Option ℕ) (head : H)
+    (turn : Option (Turn V)) (old memory : Memory V) : Type 0 where
   pub dims : m.head_dims head ≡ m.dims first
   pub fits : RankFits (m.rank head)
   pub kept : AreKept m set a so_far turn
-  pub grows : (later : List H) (v : V) (r : Result V) → Grows V H (dropping m) q base c (Pass V H (dropping m) set a) set.limited left so_far head later v r → HasGrown m set q base c a first f v r
+  pub stays : StaysKept m set a f old so_far memory
+  pub grows : (later : List H) (v : V) (r : Result V) →
+      Grows V H (dropping m) q base c (Pass V H (dropping m) set a) set.limited left so_far head later v r →
+      HasGrown m set q base c a first f v r
 
--- what is narrowed on is a narrowing from the first round, with which the head was stable; `entered` came into the body last
-pub record NarrowLoop {V H : Type 0} (m : Meaning V H) (set : Options) (q base : ℕ) (c : Cond) (a : graph.Node) (first : V) (f : Option ℕ) (left : ℕ) (top entered : V) (last : Result V)
-    : Type 0 where
+-- what is narrowed on is a narrowing from the first round, with which the head was stable; `entered` came into the body
+-- last
+pub record NarrowLoop {V H : Type 0} (m : Meaning V H) (set : Options) (q base : ℕ) (c : Cond) (a : graph.Node)
+    (first : V) (f : Option ℕ) (left : ℕ) (top entered : V) (last : Result V)
+    (old memory : Memory V) : Type 0 where
   pub start : V
   pub round : Result V
   pub grown : HasGrown m set q base c a first f start round
@@ -59,89 +68,141 @@ pub record NarrowLoop {V H : Type 0} (m : Meaning V H) (set : Options) (q base :
   pub behind : m.dims last.normal ≡ m.dims first
   pub jumps : JumpsFit m a (m.dims first) last
   pub kept : IsKept m set a last.flag entered last
-  pub narrows : (v : V) (r : Result V) → Narrows V H (dropping m) q base c (Pass V H (dropping m) set a) left first top (headed q top last) v r
+  pub stays : StaysKept m set (graph.iterate q base c a) f old last.flag memory
+  pub narrows : (v : V) (r : Result V) → Narrows V H (dropping m) q base c (Pass V H (dropping m) set a) left first top
+      (headed q top last) v r
       → Narrows V H (dropping m) q base c (Pass V H (dropping m) set a) set.narrow first start round v r
 
 module _ {V H : Type 0} (m : Meaning V H) (set : Options) (q base : ℕ) (c : Cond) (a : graph.Node) where
   -- a head begins
-  pub grow_starts : (first : V) (f : Option ℕ) (head : H) → (dropping m).started first (given_rows (m.dims first) base c) head → RankFits (m.rank head)
-      → GrowLoop m set q base c a first f set.delay f head None
-  grow_starts first f head begins fits = record { dims = begins.1; fits = fits; kept = tt; grows = λ later v r h. (head, later, begins, h) }
+  pub grow_starts : (first : V) (f : Option ℕ) (head : H) (memory : Memory V) →
+      (dropping m).started first (given_rows (m.dims first) base c) head → RankFits (m.rank head)
+      → GrowLoop m set q base c a first f set.delay f head None memory memory
+  grow_starts first f head memory begins fits = record {
+    dims = begins.1;
+    fits = fits;
+    kept = tt;
+    stays = λ loops has all. all;
+    grows = λ later v r h. (head, later, begins, h);
+  }
 
   -- it doesn't grow more
-  pub grow_stable : (first : V) (f : Option ℕ) (left : ℕ) (so_far : Option ℕ) (head : H) (v : V) (e : Exactness) (s : Result V) (turn : Option (Turn V))
-      → GrowLoop m set q base c a first f left so_far head turn → Values m head e v → m.dims v ≡ m.head_dims head → CapsWithin (m.head_capped head) (m.capped v)
+  pub grow_stable : (first : V) (f : Option ℕ) (left : ℕ) (so_far : Option ℕ) (head : H) (v : V) (e : Exactness)
+      (s : Result V) (turn : Option (Turn V)) (old memory : Memory V)
+      → GrowLoop m set q base c a first f left so_far head turn old memory → Values m head e v →
+      m.dims v ≡ m.head_dims head → CapsWithin (m.head_capped head) (m.capped v)
       → GoesRound V H (dropping m) q base c (Pass V H (dropping m) set a) (noted q e so_far) v (headed q v s)
-      → m.answers head s.normal (mode_at set.limited left) Yes → m.dims s.normal ≡ m.head_dims head → HasGrown m set q base c a first f v (headed q v s)
-  grow_stable first f left so_far head v e s turn loop values dims caps round stays behind = loop.grows [] v (headed q v s) ((e, (values, dims, caps), round), (stays, behind))
+      → m.answers head s.normal (mode_at set.limited left) Yes → m.dims s.normal ≡ m.head_dims head →
+      HasGrown m set q base c a first f v (headed q v s)
+  grow_stable first f left so_far head v e s turn old memory loop values dims caps round stays behind =
+      loop.grows [] v (headed q v s) ((e, (values, dims, caps), round), (stays, behind))
 
   -- it grows by what its round left
-  pub grow_next : (first : V) (f : Option ℕ) (left left' : ℕ) (so_far : Option ℕ) (head next : H) (v : V) (e d : Exactness) (s : Result V) (before turn : Option (Turn V))
-      → GrowLoop m set q base c a first f left so_far head before
+  pub grow_next : (first : V) (f : Option ℕ) (left left' : ℕ) (so_far : Option ℕ) (head next : H) (v : V)
+      (e d : Exactness) (s : Result V) (before turn : Option (Turn V)) (old memory new : Memory V)
+      → GrowLoop m set q base c a first f left so_far head before old memory
       → Values m head e v → m.dims v ≡ m.head_dims head → CapsWithin (m.head_capped head) (m.capped v)
       → GoesRound V H (dropping m) q base c (Pass V H (dropping m) set a) (noted q e so_far) v (headed q v s)
-      → Grew m head s.normal (mode_at set.limited left) d next → m.dims s.normal ≡ m.head_dims head → m.head_dims next ≡ m.head_dims head
+      → Grew m head s.normal (mode_at set.limited left) d next → m.dims s.normal ≡ m.head_dims head →
+      m.head_dims next ≡ m.head_dims head
       → CapsWithin (λ k. m.head_capped head k × m.capped s.normal k) (m.head_capped next) → RankFits (m.rank next)
-      → left' ≡ left - 1 → AreKept m set a (noted q d s.flag) turn → GrowLoop m set q base c a first f left' (noted q d s.flag) next turn
-  grow_next first f left left' so_far head next v e d s before turn loop values dims caps round grew behind same more fits is kept = record {
-    dims = same ∙ loop.dims;
-    fits = fits;
-    kept = kept;
-    grows = λ later w r h. loop.grows (next ∷ later) w r (
-      v,
-      headed q v s,
-      d,
-      (e, (values, dims, caps), round),
-      (grew, behind, same, more),
-      subst (λ (n : ℕ). Grows V H (dropping m) q base c (Pass V H (dropping m) set a) set.limited n (noted q d s.flag) next later w r) is h,
-    );
-  }
+      → left' ≡ left - 1 → AreKept m set a (noted q d s.flag) turn → StaysKept m set a f old (noted q d s.flag) new
+      → GrowLoop m set q base c a first f left' (noted q d s.flag) next turn old new
+  grow_next first f left left' so_far head next v e d s before turn old memory new loop values dims caps round grew
+      behind same more fits is kept stays = record {
+        dims = same ∙ loop.dims;
+        fits = fits;
+        kept = kept;
+        stays = stays;
+        grows = λ later w r h. loop.grows (next ∷ later) w r (
+          v,
+          headed q v s,
+          d,
+          (e, (values, dims, caps), round),
+          (grew, behind, same, more),
+          subst (λ (n : ℕ). Grows V H (dropping m) q base c (Pass V H (dropping m) set a) set.limited n
+              (noted q d s.flag) next later w r) is h,
+        );
+      }
 
   -- a narrowing begins
-  pub narrow_starts : (first u entered : V) (f : Option ℕ) (s : Result V) → HasGrown m set q base c a first f u (headed q u s) → m.dims u ≡ m.dims first → m.dims s.normal ≡ m.dims first
-      → JumpsFit m a (m.dims first) s → IsKept m set a s.flag entered s → NarrowLoop m set q base c a first f set.narrow u entered s
-  narrow_starts first u entered f s grown dims behind jumps kept =
-      record { start = u; round = headed q u s; grown = grown; dims = dims; behind = behind; jumps = jumps; kept = kept; narrows = λ v r h. h }
+  pub narrow_starts : (first u entered : V) (f : Option ℕ) (s : Result V) (old memory : Memory V) →
+      HasGrown m set q base c a first f u (headed q u s) → m.dims u ≡ m.dims first → m.dims s.normal ≡ m.dims first
+      → JumpsFit m a (m.dims first) s → IsKept m set a s.flag entered s →
+      StaysKept m set (graph.iterate q base c a) f old s.flag memory
+      → NarrowLoop m set q base c a first f set.narrow u entered s old memory
+  narrow_starts first u entered f s old memory grown dims behind jumps kept stays =
+      record {
+        start = u;
+        round = headed q u s;
+        grown = grown;
+        dims = dims;
+        behind = behind;
+        jumps = jumps;
+        kept = kept;
+        stays = stays;
+        narrows = λ v r h. h;
+      }
 
   -- one round of narrowing more
-  pub narrow_next : (first : V) (f : Option ℕ) (left k : ℕ) (top next entered on : V) (last turned : Result V) (e : Exactness) (so_far : Option ℕ)
-      → NarrowLoop m set q base c a first f left top entered last → left ≡ suc k → (dropping m).joined first last.normal e next → so_far ≡ noted q e last.flag
+  pub narrow_next : (first : V) (f : Option ℕ) (left k : ℕ) (top next entered on : V) (last turned : Result V)
+      (e : Exactness) (so_far : Option ℕ) (old memory new : Memory V)
+      → NarrowLoop m set q base c a first f left top entered last old memory → left ≡ suc k →
+      (dropping m).joined first last.normal e next → so_far ≡ noted q e last.flag
       → GoesRound V H (dropping m) q base c (Pass V H (dropping m) set a) so_far next (headed q next turned)
-      → m.dims turned.normal ≡ m.dims next → JumpsFit m a (m.dims next) turned → IsKept m set a turned.flag on turned → NarrowLoop m set q base c a first f k next on turned
-  narrow_next first f left k top next entered on last turned e so_far loop is joined flagged round behind jumps kept = record {
-    start = loop.start;
-    round = loop.round;
-    grown = loop.grown;
-    dims = joined.2;
-    behind = behind ∙ joined.2;
-    jumps = subst (λ (n : ℕ). JumpsFit m a n turned) joined.2 jumps;
-    kept = kept;
-    narrows = λ v r h. loop.narrows v r (subst (λ (n : ℕ). Narrows V H (dropping m) q base c (Pass V H (dropping m) set a) n first top (headed q top last) v r) (sym is)
-        (next, headed q next turned, e, joined, subst (λ (x : Option ℕ). GoesRound V H (dropping m) q base c (Pass V H (dropping m) set a) x next (headed q next turned)) flagged round, h));
-  }
+      → m.dims turned.normal ≡ m.dims next → JumpsFit m a (m.dims next) turned → IsKept m set a turned.flag on turned
+      → StaysKept m set (graph.iterate q base c a) f old turned.flag new →
+      NarrowLoop m set q base c a first f k next on turned old new
+  narrow_next first f left k top next entered on last turned e so_far old memory new loop is joined flagged round behind
+      jumps kept stays = record {
+        start = loop.start;
+        round = loop.round;
+        grown = loop.grown;
+        dims = joined.2;
+        behind = behind ∙ joined.2;
+        jumps = subst (λ (n : ℕ). JumpsFit m a n turned) joined.2 jumps;
+        kept = kept;
+        stays = stays;
+        narrows = λ v r h. loop.narrows v r (subst (λ (n : ℕ). Narrows V H (dropping m) q base c
+            (Pass V H (dropping m) set a) n first top (headed q top last) v r) (sym is) (
+              next,
+              headed q next turned,
+              e,
+              joined,
+              subst (λ (x : Option ℕ). GoesRound V H (dropping m) q base c
+                  (Pass V H (dropping m) set a) x next (headed q next turned)) flagged round,
+              h,
+            ));
+      }
 
   -- no round is left
-  pub narrow_ends : (first : V) (f : Option ℕ) (left : ℕ) (top entered : V) (last : Result V) (loop : NarrowLoop m set q base c a first f left top entered last) → left ≡ 0
-      → Narrows V H (dropping m) q base c (Pass V H (dropping m) set a) set.narrow first loop.start loop.round top (headed q top last)
-  narrow_ends first f left top entered last loop is =
+  pub narrow_ends : (first : V) (f : Option ℕ) (left : ℕ) (top entered : V) (last : Result V) (old memory : Memory V)
+      (loop : NarrowLoop m set q base c a first f left top entered last old memory) → left ≡ 0
+      → Narrows V H (dropping m) q base c (Pass V H (dropping m) set a) set.narrow first loop.start loop.round top
+      (headed q top last)
+  narrow_ends first f left top entered last old memory loop is =
       loop.narrows top (headed q top last)
-      (subst (λ (n : ℕ). Narrows V H (dropping m) q base c (Pass V H (dropping m) set a) n first top (headed q top last) top (headed q top last)) (sym is) (refl, refl))
+      (subst (λ (n : ℕ). Narrows V H (dropping m) q base c (Pass V H (dropping m) set a) n first top
+      (headed q top last) top (headed q top last)) (sym is) (refl, refl))
 
 not_join : (limited : Bool) → mode_at limited 0 ≡ Join → ⊥
 not_join true e = cc
 not_join false e = cc
 
 -- a round less of joining, or a lower rank
-pub grow_falls : (limited : Bool) (left left' : ℕ) (r r' : Rank) → RankFits r' → left' ≡ left - 1 → (mode_at limited left ≢ Join → RankBelow r' r) → phased (2 ^ 64) left' r' < phased (2 ^ 64) left r
+pub grow_falls : (limited : Bool) (left left' : ℕ) (r r' : Rank) → RankFits r' → left' ≡ left - 1 →
+    (mode_at limited left ≢ Join → RankBelow r' r) → phased (2 ^ 64) left' r' < phased (2 ^ 64) left r
 grow_falls limited zero left' r r' fits is below = phased_falls zero left' r r' fits is (below (not_join limited))
 grow_falls limited (suc k) left' r r' fits is below = phased_joins (suc k) left' r r' fits (omega arith)
 
-have_append : {V H : Type 0} (m : Meaning V H) (k : ℕ) (vs : List V) (n : V) → AllHave m k vs → m.dims n ≡ k → AllHave m k (vs ++ n ∷ [])
+have_append : {V H : Type 0} (m : Meaning V H) (k : ℕ) (vs : List V) (n : V) → AllHave m k vs → m.dims n ≡ k →
+    AllHave m k (vs ++ n ∷ [])
 have_append m k [] n h is = (is, tt)
 have_append m k (v ∷ vs) n h is = (h.0, have_append m k vs n h.1 is)
 
 -- what comes out behind a call has as many dimensions as its end
-pub returns_have : {V H : Type 0} (m : Meaning V H) (rs ys xs : List V) (n x : V) → ys ≡ rs ++ n ∷ [] → x ≡ slice_index_or ys 0 x → xs ≡ take 0 ys ++ drop 1 ys → AllHave m (m.dims n) rs
+pub returns_have : {V H : Type 0} (m : Meaning V H) (rs ys xs : List V) (n x : V) → ys ≡ rs ++ n ∷ [] →
+    x ≡ slice_index_or ys 0 x → xs ≡ take 0 ys ++ drop 1 ys → AllHave m (m.dims n) rs
     → (m.dims x ≡ m.dims n) × AllHave m (m.dims x) xs
 returns_have {V} m [] ys xs n x is first others have =
     let one : x ≡ n = subst (λ (zs : List V). x ≡ slice_index_or zs 0 x) is first in
@@ -150,11 +211,15 @@ returns_have {V} m [] ys xs n x is first others have =
 returns_have {V} m (v ∷ vs) ys xs n x is first others have =
     let one : x ≡ v = subst (λ (zs : List V). x ≡ slice_index_or zs 0 x) is first in
     let more : xs ≡ vs ++ n ∷ [] = subst (λ (zs : List V). xs ≡ take 0 zs ++ drop 1 zs) is others in
-    let same : m.dims x ≡ m.dims n = ap m.dims one ∙ have.0 in
-    (same, subst (λ (k : ℕ). AllHave m k xs) (sym same) (subst (λ (zs : List V). AllHave m (m.dims n) zs) (sym more) (have_append m (m.dims n) vs n have.1 refl)))
+    let same : m.dims x ≡ m.dims n = ap m.dims one ∙ have.0 in (
+      same,
+      subst (λ (k : ℕ). AllHave m k xs) (sym same)
+          (subst (λ (zs : List V). AllHave m (m.dims n) zs) (sym more) (have_append m (m.dims n) vs n have.1 refl)),
+    )
 
 -- the first of what comes out behind a call, and the others: what returned, and then its end
-pub returns_joined : {V H : Type 0} (ops : Operations V H) (rs ys xs : List V) (n x w : V) (e : Exactness) → ys ≡ rs ++ n ∷ [] → x ≡ slice_index_or ys 0 x → xs ≡ take 0 ys ++ drop 1 ys
+pub returns_joined : {V H : Type 0} (ops : Operations V H) (rs ys xs : List V) (n x w : V) (e : Exactness) →
+    ys ≡ rs ++ n ∷ [] → x ≡ slice_index_or ys 0 x → xs ≡ take 0 ys ++ drop 1 ys
     → AreJoined ops x xs e w → AreJoined ops (first_of_call rs n).0 (first_of_call rs n).1 e w
 returns_joined {V} ops [] ys xs n x w e is first others joined =
     let one : x ≡ n = subst (λ (zs : List V). x ≡ slice_index_or zs 0 x) is first in
@@ -163,4 +228,5 @@ returns_joined {V} ops [] ys xs n x w e is first others joined =
 returns_joined {V} ops (v ∷ vs) ys xs n x w e is first others joined =
     let one : x ≡ v = subst (λ (zs : List V). x ≡ slice_index_or zs 0 x) is first in
     let more : xs ≡ vs ++ n ∷ [] = subst (λ (zs : List V). xs ≡ take 0 zs ++ drop 1 zs) is others in
-    subst (λ (y : V). AreJoined ops y (vs ++ n ∷ []) e w) one (subst (λ (zs : List V). AreJoined ops x zs e w) more joined)
+    subst (λ (y : V). AreJoined ops y (vs ++ n ∷ []) e w) one
+    (subst (λ (zs : List V). AreJoined ops x zs e w) more joined)

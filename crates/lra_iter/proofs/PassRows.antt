@@ -1,6 +1,7 @@
--- Trees that are passed one after the other, along a sequence of them: what was found so far, with whatever the rest finds behind it, is
--- what a pass of the whole finds.
-use Rattle.std.proofs.Common.{◌≡◌, ℕ, suc, ◌+◌, ◌<◌, ◌≤◌, ◌^◌, List, [], ◌∷◌, length, map, drop, get_or, Option, refl, sym, ap, subst, ◌∙◌, arith, add-one, drop-cons}
+-- Trees that are passed one after the other, along a sequence of them: what was found so far, with whatever the rest
+-- finds behind it, is what a pass of the whole finds.
+use Rattle.std.proofs.Common.{◌≡◌, ℕ, suc, ◌+◌, ◌<◌, ◌≤◌, ◌^◌, List, [], ◌∷◌, length, map, drop, get_or, Option, refl}
+use Rattle.std.proofs.Common.{sym, ap, subst, ◌∙◌, arith, add-one, drop-cons}
 use Rattle.std.specs.List.{sum_by}
 use Rattle.std.proofs.lemmas.List.{append_assoc, drop_all}
 use Rattle.std.proofs.lemmas.List.Sums.{get_or-le-sum_by}
@@ -14,21 +15,36 @@ use Rattle.lra_iter.specs.Fits.{live_behind, TreeFits}
 use Rattle.lra_iter.specs.declared.outcome.Found.{Found}
 use Rattle.lra_iter.specs.declared.outcome.Outcome.{Outcome}
 use Rattle.lra_iter.specs.Outcome.{ended, seen, AreInTurn, JumpsFit, IsPassed}
+use Rattle.lra_iter.specs.declared.memory.Memory.{Memory}
+use Rattle.lra_iter.specs.Memory.{HasLoops, MayRecall, Remembers, StaysKept}
 use Rattle.lra_iter.proofs.PassLoops.{node_size, row_size}
 use Rattle.lra_iter.proofs.PassSteps.{seq_fits}
 
-same_lists : {V : Type 0} (v : V) (f : Option ℕ) (xs xs' : List (Entry V)) (bs bs' cs cs' rs rs' : List V) → xs ≡ xs' → bs ≡ bs' → cs ≡ cs' → rs ≡ rs'
+same_lists : {V : Type 0} (v : V) (f : Option ℕ) (xs xs' : List (Entry V)) (bs bs' cs cs' rs rs' : List V) → xs ≡ xs' →
+    bs ≡ bs' → cs ≡ cs' → rs ≡ rs'
     → ◌≡◌ {A = Result V} (record { entries = xs; normal = v; breaks = bs; continues = cs; returns = rs; flag = f })
     (record { entries = xs'; normal = v; breaks = bs'; continues = cs'; returns = rs'; flag = f })
 same_lists {V} v f xs xs' bs bs' cs cs' rs rs' one two three four =
-    ap (λ (zs : List (Entry V)). record { entries = zs; normal = v; breaks = bs; continues = cs; returns = rs; flag = f }) one
-    ∙ ap (λ (zs : List V). record { entries = xs'; normal = v; breaks = zs; continues = cs; returns = rs; flag = f }) two
-    ∙ ap (λ (zs : List V). record { entries = xs'; normal = v; breaks = bs'; continues = zs; returns = rs; flag = f }) three
-    ∙ ap (λ (zs : List V). record { entries = xs'; normal = v; breaks = bs'; continues = cs'; returns = zs; flag = f }) four
+    ap (λ (zs : List (Entry V)). record {
+      entries = zs;
+      normal = v;
+      breaks = bs;
+      continues = cs;
+      returns = rs;
+      flag = f;
+    }) one
+    ∙ ap (λ (zs : List V). record { entries = xs'; normal = v; breaks = zs; continues = cs; returns = rs; flag = f })
+    two
+    ∙ ap (λ (zs : List V). record { entries = xs'; normal = v; breaks = bs'; continues = zs; returns = rs; flag = f })
+    three
+    ∙ ap (λ (zs : List V). record { entries = xs'; normal = v; breaks = bs'; continues = cs'; returns = zs; flag = f })
+    four
 
 -- three in turn, from either side
-pub turns : {V : Type 0} (x y t : Result V) (v w u : V) (f g h : Option ℕ) → in_turn x (in_turn y t v f) u h ≡ in_turn (in_turn x y w g) t u h
-turns x y t v w u f g h = same_lists u h _ _ _ _ _ _ _ _ (sym (append_assoc x.entries y.entries t.entries)) (sym (append_assoc x.breaks y.breaks t.breaks))
+pub turns : {V : Type 0} (x y t : Result V) (v w u : V) (f g h : Option ℕ) →
+    in_turn x (in_turn y t v f) u h ≡ in_turn (in_turn x y w g) t u h
+turns x y t v w u f g h = same_lists u h _ _ _ _ _ _ _ _ (sym (append_assoc x.entries y.entries t.entries))
+    (sym (append_assoc x.breaks y.breaks t.breaks))
     (sym (append_assoc x.continues y.continues t.continues)) (sym (append_assoc x.returns y.returns t.returns))
 
 -- the tree at this place, and those behind it
@@ -36,60 +52,91 @@ trees_at : (gs : List Node) (i : ℕ) (x : Node) → i < length gs → x ≡ get
 trees_at gs i x below at = drop-cons gs i x below ∙ ap (λ (y : Node). y ∷ drop (suc i) gs) (sym at) ∙ rw add-one refl
 
 pub row_at : (gs : List Node) (i : ℕ) (x last : Node) → i < length gs → x ≡ get_or gs i x
-    → row (map node_view (drop i gs)) (node_view last) ≡ graph.seq (node_view x) (row (map node_view (drop (i + 1) gs)) (node_view last))
+    → row (map node_view (drop i gs)) (node_view last) ≡
+    graph.seq (node_view x) (row (map node_view (drop (i + 1) gs)) (node_view last))
 row_at gs i x last below at = ap (λ (z : List Node). row (map node_view z) (node_view last)) (trees_at gs i x below at)
 
-pub tree_small : (gs : List Node) (i : ℕ) (x last : Node) → i < length gs → x ≡ get_or gs i x → node_size x ≤ row_size gs last
+pub tree_small : (gs : List Node) (i : ℕ) (x last : Node) → i < length gs → x ≡ get_or gs i x →
+    node_size x ≤ row_size gs last
 tree_small gs i x last below at =
-    let one : node_size x ≤ sum_by node_size gs = subst (λ (y : Node). node_size y ≤ sum_by node_size gs) (sym at) (get_or-le-sum_by node_size gs i x below) in
+    let one : node_size x ≤ sum_by node_size gs = subst (λ (y : Node). node_size y ≤ sum_by node_size gs) (sym at)
+    (get_or-le-sum_by node_size gs i x below) in
     omega (arith, one)
 
 -- no tree but the last is left
-pub row_done : (gs : List Node) (i : ℕ) (last : Node) → length gs ≤ i → row (map node_view (drop i gs)) (node_view last) ≡ node_view last
+pub row_done : (gs : List Node) (i : ℕ) (last : Node) → length gs ≤ i →
+    row (map node_view (drop i gs)) (node_view last) ≡ node_view last
 row_done gs i last beyond = ap (λ (z : List Node). row (map node_view z) (node_view last)) (drop_all i gs beyond)
 
 -- what stands behind what was found so far: it fits, and whatever its pass finds comes behind, as a pass of the whole
-pub record RowLoop {V H : Type 0} (m : Meaning V H) (set : Options) (g : graph.Node) (f : Option ℕ) (v : V) (rest : graph.Node) (found : Found V) (behind : V) (so_far : Option ℕ) : Type 0 where
+pub record RowLoop {V H : Type 0} (m : Meaning V H) (set : Options) (g : graph.Node) (f : Option ℕ) (v : V)
+    (rest : graph.Node) (found : Found V) (behind : V) (so_far : Option ℕ)
+    (old memory : Memory V) : Type 0 where
   pub few : m.dims behind ≤ 2 ^ 30
   pub fits : TreeFits rest (m.dims behind)
-  pub passes : (t : Result V) → IsPassed m set rest so_far behind t → IsPassed m set g f v (in_turn (ended found behind so_far) t t.normal t.flag)
+  pub stays : (loops : ℕ → graph.Node) → HasLoops loops g → MayRecall m set loops f old → HasLoops loops rest ×
+      MayRecall m set loops so_far memory
+  pub passes : (t : Result V) → IsPassed m set rest so_far behind t →
+      IsPassed m set g f v (in_turn (ended found behind so_far) t t.normal t.flag)
 
 module _ {V H : Type 0} (m : Meaning V H) (set : Options) where
-  seq_passed : (a b : graph.Node) (f : Option ℕ) (v : V) (s t : Result V) → IsPassed m set a f v s → IsPassed m set b s.flag s.normal t
+  seq_passed : (a b : graph.Node) (f : Option ℕ) (v : V) (s t : Result V) → IsPassed m set a f v s →
+      IsPassed m set b s.flag s.normal t
       → IsPassed m set (graph.seq a b) f v (in_turn s t t.normal t.flag)
   seq_passed a b f v s t one two = record {
     pass = (s, t, one.pass, two.pass, refl);
     dims = two.dims ∙ ap (live_behind b) one.dims;
-    jumps = seq_fits m a b (m.dims v) s t _ t.normal t.flag refl one.jumps (subst (λ (n : ℕ). JumpsFit m b n t) one.dims two.jumps);
+    jumps = seq_fits m a b (m.dims v) s t _ t.normal t.flag refl one.jumps
+        (subst (λ (n : ℕ). JumpsFit m b n t) one.dims two.jumps);
   }
 
   -- nothing is found yet
-  pub row_starts : (g : graph.Node) (f : Option ℕ) (v : V) (found : Found V) → m.dims v ≤ 2 ^ 30 → TreeFits g (m.dims v) → ((u : V) (d : Option ℕ) → ended found u d ≡ goes_on [] u d)
-      → RowLoop m set g f v g found v f
-  row_starts g f v found few fits none = record {
+  pub row_starts : (g : graph.Node) (f : Option ℕ) (v : V) (found : Found V) (memory : Memory V) → m.dims v ≤ 2 ^ 30 →
+      TreeFits g (m.dims v) → ((u : V) (d : Option ℕ) → ended found u d ≡ goes_on [] u d)
+      → RowLoop m set g f v g found v f memory memory
+  row_starts g f v found memory few fits none = record {
     few = few;
     fits = fits;
+    stays = λ loops has all. (has, all);
     passes = λ t one. subst (λ (x : Result V). IsPassed m set g f v (in_turn x t t.normal t.flag)) (sym (none v f)) one;
   }
 
-  module _ (g : graph.Node) (f : Option ℕ) (v : V) (rest : graph.Node) (found : Found V) (behind : V) (so_far : Option ℕ) (loop : RowLoop m set g f v rest found behind so_far) where
+  module _ (g : graph.Node) (f : Option ℕ) (v : V) (rest : graph.Node) (found : Found V) (behind : V)
+      (so_far : Option ℕ) (old memory : Memory V)
+      (loop : RowLoop m set g f v rest found behind so_far old memory) where
     -- what is next, and what stands behind it
     module _ (next others : graph.Node) (is : rest ≡ graph.seq next others) where
       pub next_fits : TreeFits next (m.dims behind)
       next_fits = (subst (λ x. TreeFits x (m.dims behind)) is loop.fits).0
 
-      pub row_next : (part : Outcome V) (all : Found V) (value : V) (flag : Option ℕ) → IsPassed m set next so_far behind (seen part) → AreInTurn found part.found all
-          → value ≡ part.normal → flag ≡ part.flag → RowLoop m set g f v others all value flag
-      row_next part all value flag one turn value-is flag-is =
-          let fits : TreeFits (graph.seq next others) (m.dims behind) = subst (λ x. TreeFits x (m.dims behind)) is loop.fits in
-          subst (λ (x : V). RowLoop m set g f v others all x flag) (sym value-is) (subst (λ (x : Option ℕ). RowLoop m set g f v others all part.normal x) (sym flag-is) (record {
+      next_has : (loops : ℕ → graph.Node) → HasLoops loops g → MayRecall m set loops f old →
+          HasLoops loops (graph.seq next others) × MayRecall m set loops so_far memory
+      next_has loops has all = let so_far_all = loop.stays loops has all in
+          (subst (λ x. HasLoops loops x) is so_far_all.0, so_far_all.1)
+
+      pub next_remembers : Remembers m set g f old → Remembers m set next so_far memory
+      next_remembers (loops, has, all) = let now = next_has loops has all in (loops, now.0.0, now.1)
+
+      pub row_next : (part : Outcome V) (all : Found V) (value : V) (flag : Option ℕ) (new : Memory V) →
+          StaysKept m set next so_far memory part.flag new → IsPassed m set next so_far behind (seen part) →
+          AreInTurn found part.found all
+          → value ≡ part.normal → flag ≡ part.flag → RowLoop m set g f v others all value flag old new
+      row_next part all value flag new stays one turn value-is flag-is =
+          let fits : TreeFits (graph.seq next others) (m.dims behind) =
+          subst (λ x. TreeFits x (m.dims behind)) is loop.fits in
+          subst (λ (x : V). RowLoop m set g f v others all x flag old new) (sym value-is)
+          (subst (λ (x : Option ℕ). RowLoop m set g f v others all part.normal x old new) (sym flag-is) (record {
             few = subst (λ (n : ℕ). n ≤ 2 ^ 30) (sym one.dims) fits.1;
             fits = subst (λ (n : ℕ). TreeFits others n) (sym one.dims) fits.2;
+            stays = λ loops has kept. (let now = next_has loops has kept in (now.0.1, stays loops now.0.0 now.1));
             passes = λ t two.
-                let both = subst (λ x. IsPassed m set x so_far behind (in_turn (seen part) t t.normal t.flag)) (sym is) (seq_passed next others so_far behind (seen part) t one two) in
-                let same : in_turn (ended found behind so_far) (in_turn (seen part) t t.normal t.flag) t.normal t.flag ≡ in_turn (ended all part.normal part.flag) t t.normal t.flag =
+                let both = subst (λ x. IsPassed m set x so_far behind (in_turn (seen part) t t.normal t.flag)) (sym is)
+                (seq_passed next others so_far behind (seen part) t one two) in
+                let same : in_turn (ended found behind so_far) (in_turn (seen part) t t.normal t.flag) t.normal t.flag ≡
+                in_turn (ended all part.normal part.flag) t t.normal t.flag =
                 turns (ended found behind so_far) (seen part) t t.normal part.normal t.normal t.flag part.flag t.flag
-                ∙ ap (λ x. in_turn x t t.normal t.flag) (sym (turn behind part.normal part.normal so_far part.flag part.flag)) in
+                ∙ ap (λ x. in_turn x t t.normal t.flag) (sym
+                (turn behind part.normal part.normal so_far part.flag part.flag)) in
                 subst (λ x. IsPassed m set g f v x) same (loop.passes _ both);
           }))
 
@@ -98,10 +145,23 @@ module _ {V H : Type 0} (m : Meaning V H) (set : Options) where
       pub last_fits : TreeFits last (m.dims behind)
       last_fits = subst (λ x. TreeFits x (m.dims behind)) is loop.fits
 
-      pub row_ends : (part : Outcome V) (all : Found V) (value : V) (flag : Option ℕ) → IsPassed m set last so_far behind (seen part) → AreInTurn found part.found all
+      pub last_remembers : Remembers m set g f old → Remembers m set last so_far memory
+      last_remembers (loops, has, all) = let now = loop.stays loops has all in
+          (loops, subst (λ x. HasLoops loops x) is now.0, now.1)
+
+      pub row_stays : (f' : Option ℕ) (new : Memory V) → StaysKept m set last so_far memory f' new →
+          StaysKept m set g f old f' new
+      row_stays f' new stays loops has all = let now = loop.stays loops has all in stays loops
+          (subst (λ x. HasLoops loops x) is now.0) now.1
+
+      pub row_ends : (part : Outcome V) (all : Found V) (value : V) (flag : Option ℕ) →
+          IsPassed m set last so_far behind (seen part) → AreInTurn found part.found all
           → value ≡ part.normal → flag ≡ part.flag → IsPassed m set g f v (ended all value flag)
       row_ends part all value flag one turn value-is flag-is =
-          let all_is : IsPassed m set g f v (in_turn (ended found behind so_far) (seen part) part.normal part.flag) = loop.passes (seen part)
+          let all_is : IsPassed m set g f v (in_turn (ended found behind so_far) (seen part) part.normal part.flag) =
+          loop.passes (seen part)
           (subst (λ x. IsPassed m set x so_far behind (seen part)) (sym is) one) in
-          subst (λ (x : V). IsPassed m set g f v (ended all x flag)) (sym value-is) (subst (λ (x : Option ℕ). IsPassed m set g f v (ended all part.normal x)) (sym flag-is)
-          (subst (λ x. IsPassed m set g f v x) (sym (turn behind part.normal part.normal so_far part.flag part.flag)) all_is))
+          subst (λ (x : V). IsPassed m set g f v (ended all x flag)) (sym value-is)
+          (subst (λ (x : Option ℕ). IsPassed m set g f v (ended all part.normal x)) (sym flag-is)
+          (subst (λ x. IsPassed m set g f v x) (sym (turn behind part.normal part.normal so_far part.flag part.flag))
+          all_is))

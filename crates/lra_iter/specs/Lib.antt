@@ -1,4 +1,5 @@
 pub mod Outcome
+pub mod Memory
 pub mod Fits
 pub mod Lives
 pub mod Numbers

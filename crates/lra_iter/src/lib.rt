@@ -3,6 +3,7 @@
 
 mod catches;
 mod leaves;
+mod memory;
 mod outcome;
 mod pass;
 mod solution;

@@ -67,6 +67,46 @@ impl<D: Drop> Drop for Turn<D> {
     }
 }
 
+impl<D: Domain> Entry<D> {
+    /// The same entry again.
+    fn copy(&self, alloc: Global) -> Result<Entry<D>, AllocError>
+        ensures { IfOk result (λ e. e ≡ self.now) }
+    {
+        match self {
+            Entry::Value(point, value) => {
+                let copied = value.copy(alloc)?;
+                Ok(Entry::Value(*point, copied))
+            }
+            Entry::Failing(point, value) => {
+                let copied = value.copy(alloc)?;
+                Ok(Entry::Failing(*point, copied))
+            }
+        }
+    }
+}
+
+/// Copies of entries.
+fn copy_entries<D: Domain>(alloc: Global, entries: &[Entry<D>]) -> Result<Vec<Entry<D>>, AllocError>
+    ensures { IfOk result (λ copies. copies.items ≡ entries.now) }
+{
+    let mut copies = Vec::new(alloc);
+    'entries: for entry in entries {
+        copies.push(entry.copy(alloc)?)?;
+    }
+    Ok(copies)
+}
+
+/// Copies of values.
+fn copy_values<D: Domain>(alloc: Global, values: &[D]) -> Result<Vec<D>, AllocError>
+    ensures { IfOk result (λ copies. copies.items ≡ values.now) }
+{
+    let mut copies = Vec::new(alloc);
+    'values: for value in values {
+        copies.push(value.copy(alloc)?)?;
+    }
+    Ok(copies)
+}
+
 /// The first flagged point so far, behind an operation of this point.
 pub fn note(point: usize, exactness: Exactness, flag: Option<usize>) -> Option<usize>
     ensures { result ≡ noted point exactness flag }
@@ -151,6 +191,39 @@ impl<D: Drop> Found<D> {
             returns: _,
         } = self;
         entries
+    }
+}
+
+impl<D: Domain> Found<D> {
+    /// The same again.
+    fn copy(&self, alloc: Global) -> Result<Found<D>, AllocError>
+        ensures { IfOk result (λ r. (v : D) (f : Option ℕ) → ended r v f ≡ ended self.now v f) }
+    {
+        let entries = copy_entries(alloc, &self.entries)?;
+        let breaks = copy_values(alloc, &self.breaks)?;
+        let continues = copy_values(alloc, &self.continues)?;
+        let returns = copy_values(alloc, &self.returns)?;
+        Ok(Found {
+            entries,
+            breaks,
+            continues,
+            returns,
+        })
+    }
+}
+
+impl<D: Domain> Outcome<D> {
+    /// The same again, with what is flagged so far.
+    pub fn copy(&self, alloc: Global, flag: Option<usize>) -> Result<Outcome<D>, AllocError>
+        ensures { IfOk result (λ r. seen r ≡ ended self.now.found self.now.normal flag) }
+    {
+        let found = self.found.copy(alloc)?;
+        let normal = self.normal.copy(alloc)?;
+        Ok(Outcome {
+            found,
+            normal,
+            flag,
+        })
     }
 }
 

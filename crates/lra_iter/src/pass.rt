@@ -3,7 +3,9 @@
 ghost use Rattle.std.specs.Prelude.{◌≡◌, ◌≤◌, ◌^◌, ℕ, Option, map, true, IfOk};
 ghost use Rattle.lra_domain.specs.Rank.{RankFits};
 ghost use Rattle.lra_domain.specs.declared.Exactness.{Exactness};
+ghost use Rattle.lra_operations.specs.Graph as graph;
 ghost use Rattle.lra_operations.specs.Graph.{choose, iterate};
+ghost use Rattle.lra_base.specs.declared.options.Options.{Options};
 ghost use Rattle.lra_program.specs.ProgramViews.{cond_view};
 ghost use Rattle.lra_operations.specs.GraphViews.{node_view, row};
 ghost use Rattle.lra_flow.specs.Conditions.{Leaves};
@@ -13,9 +15,11 @@ ghost use Rattle.lra_flow.specs.Pass.{Pass, mode_at, noted};
 ghost use Rattle.lra_iter.specs.Fits.{live_behind, TreeFits};
 ghost use Rattle.lra_iter.specs.Outcome.{ended, headed, seen, AreKept, AreMet, HasGrown, IsKept, IsPassed};
 ghost use Rattle.lra_iter.specs.Outcome.{IsTurned, JumpsFit, LeavesWith};
+ghost use Rattle.lra_iter.specs.Memory.{MayRecall, Remembers, StaysKept};
 
 use crate::catches::catch_jumps;
 use crate::leaves::{pass_act, pass_check, pass_leave, pass_point};
+use crate::memory::Memory;
 use crate::outcome::{Entry, Found, Outcome, Turn, given_again, note};
 use lra_base::Options;
 use lra_change::{Kept, leave, split};
@@ -45,6 +49,14 @@ struct Choice<'a> {
     condition: &'a Cond,
     yes: &'a Node,
     no: &'a Node,
+}
+
+/// Trees one after the other, and then the last, and how they are passed.
+#[derive(Drop)]
+struct Row<'a> {
+    options: &'a Options,
+    trees: &'a [Node],
+    last: &'a Node,
 }
 
 /// How a round grows the head, by how many rounds of joining are left.
@@ -154,6 +166,29 @@ fn leave_loop<D: Domain>(
     })
 }
 
+/// The loop is left with the value at its head and its last round, and may be kept.
+fn finish<D: Domain>(
+    alloc: Global,
+    memory: &mut Memory<D>,
+    the_loop: &Loop<'_>,
+    first: D,
+    top: D,
+    last: Turn<D>,
+) -> Result<Outcome<D>, AllocError>
+    requires { D.meaning.dims top ≤ 2 ^ 30 }
+    ensures left { IfOk result (λ r. LeavesWith D.meaning the_loop.now.point the_loop.now.base
+        (cond_view the_loop.now.condition.now) top (seen last.outcome) (seen r)) }
+    ensures dims { IfOk result (λ r. D.meaning.dims r.normal ≡ D.meaning.dims top) }
+    ensures keeps { (options : Options) (loops : ℕ → graph.Node) → IfOk result (λ r.
+        MayRecall D.meaning options loops last.outcome.flag memory.old →
+        IsKept D.meaning options (loops the_loop.now.point) r.flag first (seen r) →
+        MayRecall D.meaning options loops r.flag memory.new) }
+{
+    let outcome = leave_loop(alloc, the_loop, top, last.into_outcome())?;
+    memory.end(alloc, the_loop.point, first, &outcome)?;
+    Ok(outcome)
+}
+
 /// What the value at a loop's head leaves where the condition is true, and the first flagged point so far.
 fn enter<D: Domain>(
     alloc: Global,
@@ -182,6 +217,7 @@ fn enter<D: Domain>(
 #[cycle(pass)]
 fn round<D: Domain>(
     alloc: Global,
+    memory: &mut Memory<D>,
     the_loop: &Loop<'_>,
     value: &D,
     flag: Option<usize>,
@@ -193,15 +229,19 @@ fn round<D: Domain>(
     requires closed { live_behind (node_view the_loop.now.body.now) (D.meaning.dims value.now) ≡
         D.meaning.dims value.now }
     requires kept { AreKept D.meaning the_loop.now.options.now (node_view the_loop.now.body.now) flag kept }
-    ensures { IfOk result (λ r. IsTurned D.meaning the_loop.now.options.now the_loop.now.point the_loop.now.base
+    requires remembers { Remembers D.meaning the_loop.now.options.now
+        (node_view the_loop.now.body.now) flag memory.old }
+    ensures turned { IfOk result (λ r. IsTurned D.meaning the_loop.now.options.now the_loop.now.point the_loop.now.base
         (cond_view the_loop.now.condition.now) (node_view the_loop.now.body.now) flag value.now r) }
+    ensures stays { IfOk result (λ r. StaysKept D.meaning the_loop.now.options.now (node_view the_loop.now.body.now)
+        flag memory.old r.outcome.flag memory.new) }
 {
     let (on, inside) = enter(alloc, the_loop, value, flag)?;
     if let Some(turn) = given_again(kept, &on, inside) {
         return Ok(turn);
     }
     let entered = on.copy(alloc)?;
-    let outcome = pass(alloc, the_loop.options, the_loop.body, on, inside)?;
+    let outcome = pass(alloc, the_loop.options, memory, the_loop.body, on, inside)?;
     Ok(Turn { entered, outcome })
 }
 
@@ -209,6 +249,7 @@ fn round<D: Domain>(
 #[cycle(pass)]
 fn grow<D: Domain>(
     alloc: Global,
+    memory: &mut Memory<D>,
     the_loop: &Loop<'_>,
     first: &D,
     flag: Option<usize>,
@@ -218,6 +259,8 @@ fn grow<D: Domain>(
     requires fits { TreeFits (node_view the_loop.now.body.now) (D.meaning.dims first.now) }
     requires closed { live_behind (node_view the_loop.now.body.now) (D.meaning.dims first.now) ≡
         D.meaning.dims first.now }
+    requires remembers { Remembers D.meaning the_loop.now.options.now
+        (node_view the_loop.now.body.now) flag memory.old }
     ensures grows { IfOk result (λ r. HasGrown D.meaning the_loop.now.options.now the_loop.now.point the_loop.now.base
         (cond_view the_loop.now.condition.now) (node_view the_loop.now.body.now) first.now flag r.0
         (headed the_loop.now.point r.0 (seen r.1.outcome))) }
@@ -227,6 +270,8 @@ fn grow<D: Domain>(
         (seen r.1.outcome)) }
     ensures kept { IfOk result (λ r. IsKept D.meaning the_loop.now.options.now (node_view the_loop.now.body.now)
         r.1.outcome.flag r.1.entered (seen r.1.outcome)) }
+    ensures stays { IfOk result (λ r. StaysKept D.meaning the_loop.now.options.now (node_view the_loop.now.body.now)
+        flag memory.old r.1.outcome.flag memory.new) }
 {
     let mut head = start(alloc, the_loop.base, the_loop.condition, first)?;
     let mut left = the_loop.options.delay;
@@ -235,7 +280,7 @@ fn grow<D: Domain>(
     'head: loop {
         let (value, exactness) = D::value(alloc, &head)?;
         let so_far_here = note(the_loop.point, exactness, so_far);
-        let turn = round(alloc, the_loop, &value, so_far_here, kept)?;
+        let turn = round(alloc, memory, the_loop, &value, so_far_here, kept)?;
         let mode = mode_of(the_loop.options.limited, left);
         match D::grow(&mut head, &turn.outcome.normal, mode)? {
             Grown::Stable => return Ok((value, turn)),
@@ -253,6 +298,7 @@ fn grow<D: Domain>(
 #[cycle(pass)]
 fn pass_loop<D: Domain>(
     alloc: Global,
+    memory: &mut Memory<D>,
     the_loop: &Loop<'_>,
     value: D,
     flag: Option<usize>,
@@ -261,21 +307,29 @@ fn pass_loop<D: Domain>(
     requires few { D.meaning.dims value ≤ 2 ^ 30 }
     requires fits { TreeFits (node_view the_loop.now.body.now) (D.meaning.dims value) }
     requires closed { live_behind (node_view the_loop.now.body.now) (D.meaning.dims value) ≡ D.meaning.dims value }
-    ensures { IfOk result (λ r. IsPassed D.meaning the_loop.now.options.now
+    requires remembers { Remembers D.meaning the_loop.now.options.now (iterate the_loop.now.point the_loop.now.base
+        (cond_view the_loop.now.condition.now) (node_view the_loop.now.body.now)) flag memory.old }
+    ensures passed { IfOk result (λ r. IsPassed D.meaning the_loop.now.options.now
         (iterate the_loop.now.point the_loop.now.base (cond_view the_loop.now.condition.now)
         (node_view the_loop.now.body.now)) flag value (seen r)) }
+    ensures stays { IfOk result (λ r. StaysKept D.meaning the_loop.now.options.now (iterate the_loop.now.point
+        the_loop.now.base (cond_view the_loop.now.condition.now) (node_view the_loop.now.body.now)) flag memory.old
+        r.flag memory.new) }
 {
-    let (grown, turn) = grow(alloc, the_loop, &value, flag)?;
+    if let Some(given) = memory.begin(alloc, the_loop.point, &value, flag)? {
+        return Ok(given);
+    }
+    let (grown, turn) = grow(alloc, memory, the_loop, &value, flag)?;
     let mut top = grown;
     let mut last = turn;
     let mut left = the_loop.options.narrow;
     'narrowing: while left > 0 {
         let (next, so_far) = narrowed(alloc, the_loop.point, &value, &last.outcome)?;
         top = next;
-        last = round(alloc, the_loop, &top, so_far, Some(last))?;
+        last = round(alloc, memory, the_loop, &top, so_far, Some(last))?;
         left -= 1;
     }
-    let outcome = leave_loop(alloc, the_loop, top, last.into_outcome())?;
+    let outcome = finish(alloc, memory, the_loop, value, top, last)?;
     Ok(outcome)
 }
 
@@ -283,6 +337,7 @@ fn pass_loop<D: Domain>(
 #[cycle(pass)]
 fn pass_choice<D: Domain>(
     alloc: Global,
+    memory: &mut Memory<D>,
     choice: &Choice<'_>,
     value: D,
     flag: Option<usize>,
@@ -291,9 +346,15 @@ fn pass_choice<D: Domain>(
     requires few { D.meaning.dims value ≤ 2 ^ 30 }
     requires fits { TreeFits (choose choice.now.point choice.now.base (cond_view choice.now.condition.now)
         (node_view choice.now.yes.now) (node_view choice.now.no.now)) (D.meaning.dims value) }
-    ensures { IfOk result (λ r. IsPassed D.meaning choice.now.options.now
+    requires remembers { Remembers D.meaning choice.now.options.now (choose choice.now.point choice.now.base
+        (cond_view choice.now.condition.now) (node_view choice.now.yes.now) (node_view choice.now.no.now)) flag
+        memory.old }
+    ensures passed { IfOk result (λ r. IsPassed D.meaning choice.now.options.now
         (choose choice.now.point choice.now.base (cond_view choice.now.condition.now) (node_view choice.now.yes.now)
         (node_view choice.now.no.now)) flag value (seen r)) }
+    ensures stays { IfOk result (λ r. StaysKept D.meaning choice.now.options.now (choose choice.now.point
+        choice.now.base (cond_view choice.now.condition.now) (node_view choice.now.yes.now)
+        (node_view choice.now.no.now)) flag memory.old r.flag memory.new) }
 {
     let from = Kept {
         value,
@@ -303,9 +364,16 @@ fn pass_choice<D: Domain>(
     let on = sides.on;
     let off = sides.off;
     let on_flag = note(choice.point, on.exactness, flag);
-    let first = pass(alloc, choice.options, choice.yes, on.value, on_flag)?;
+    let first = pass(alloc, choice.options, memory, choice.yes, on.value, on_flag)?;
     let off_flag = note(choice.point, off.exactness, first.flag);
-    let second = pass(alloc, choice.options, choice.no, off.value, off_flag)?;
+    let second = pass(
+        alloc,
+        choice.options,
+        memory,
+        choice.no,
+        off.value,
+        off_flag,
+    )?;
     let both = meet_again(choice.point, first, second)?;
     Ok(both)
 }
@@ -314,28 +382,33 @@ fn pass_choice<D: Domain>(
 #[cycle(pass)]
 fn pass_row<D: Domain>(
     alloc: Global,
-    options: &Options,
-    trees: &[Node],
-    last: &Node,
+    memory: &mut Memory<D>,
+    the_row: &Row<'_>,
     value: D,
     flag: Option<usize>,
 ) -> Result<Outcome<D>, AllocError>
-    requires parts { 1 ≤ options.now.parts }
+    requires parts { 1 ≤ the_row.now.options.now.parts }
     requires few { D.meaning.dims value ≤ 2 ^ 30 }
-    requires fits { TreeFits (row (map node_view trees.now) (node_view last.now)) (D.meaning.dims value) }
-    ensures { IfOk result (λ r. IsPassed D.meaning options.now
-        (row (map node_view trees.now) (node_view last.now)) flag value (seen r)) }
+    requires fits { TreeFits (row (map node_view the_row.now.trees.now) (node_view the_row.now.last.now))
+        (D.meaning.dims value) }
+    requires remembers { Remembers D.meaning the_row.now.options.now
+        (row (map node_view the_row.now.trees.now) (node_view the_row.now.last.now)) flag memory.old }
+    ensures passed { IfOk result (λ r. IsPassed D.meaning the_row.now.options.now
+        (row (map node_view the_row.now.trees.now) (node_view the_row.now.last.now)) flag value (seen r)) }
+    ensures stays { IfOk result (λ r. StaysKept D.meaning the_row.now.options.now
+        (row (map node_view the_row.now.trees.now) (node_view the_row.now.last.now)) flag memory.old r.flag
+        memory.new) }
 {
     let mut found = Found::nothing(alloc);
     let mut behind = value;
     let mut so_far = flag;
-    'row: for tree in trees {
-        let part = pass(alloc, options, tree, behind, so_far)?;
+    'row: for tree in the_row.trees {
+        let part = pass(alloc, the_row.options, memory, tree, behind, so_far)?;
         let (value, flag) = found.take(part)?;
         behind = value;
         so_far = flag;
     }
-    let end = pass(alloc, options, last, behind, so_far)?;
+    let end = pass(alloc, the_row.options, memory, the_row.last, behind, so_far)?;
     let (normal, flag) = found.take(end)?;
     Ok(Outcome {
         found,
@@ -349,6 +422,7 @@ fn pass_row<D: Domain>(
 pub fn pass<D: Domain>(
     alloc: Global,
     options: &Options,
+    memory: &mut Memory<D>,
     node: &Node,
     value: D,
     flag: Option<usize>,
@@ -356,11 +430,14 @@ pub fn pass<D: Domain>(
     requires parts { 1 ≤ options.now.parts }
     requires few { D.meaning.dims value ≤ 2 ^ 30 }
     requires fits { TreeFits (node_view node.now) (D.meaning.dims value) }
+    requires remembers { Remembers D.meaning options.now (node_view node.now) flag memory.old }
     ensures pass { IfOk result (λ r. Pass D D.Head (dropping D.meaning) options.now (node_view node.now) flag value
         (seen r)) }
     ensures dims { IfOk result (λ r. D.meaning.dims r.normal ≡
         live_behind (node_view node.now) (D.meaning.dims value)) }
     ensures jumps { IfOk result (λ r. JumpsFit D.meaning (node_view node.now) (D.meaning.dims value) (seen r)) }
+    ensures stays { IfOk result (λ r. StaysKept D.meaning options.now (node_view node.now) flag memory.old r.flag
+        memory.new) }
 {
     match node {
         Node::Empty => Ok(Outcome::going_on(alloc, Vec::new(alloc), value, flag)),
@@ -369,7 +446,14 @@ pub fn pass<D: Domain>(
         Node::Check(point, base, condition) => {
             pass_check(alloc, *point, *base, condition, value, flag)
         }
-        Node::Seq(trees, last) => pass_row(alloc, options, trees, last, value, flag),
+        Node::Seq(trees, last) => {
+            let the_row = Row {
+                options,
+                trees,
+                last,
+            };
+            pass_row(alloc, memory, &the_row, value, flag)
+        }
         Node::Choose(point, base, condition, yes, no) => {
             let choice = Choice {
                 options,
@@ -379,7 +463,7 @@ pub fn pass<D: Domain>(
                 yes,
                 no,
             };
-            pass_choice(alloc, &choice, value, flag)
+            pass_choice(alloc, memory, &choice, value, flag)
         }
         Node::Iterate(point, base, condition, body) => {
             let the_loop = Loop {
@@ -389,10 +473,10 @@ pub fn pass<D: Domain>(
                 condition,
                 body,
             };
-            pass_loop(alloc, &the_loop, value, flag)
+            pass_loop(alloc, memory, &the_loop, value, flag)
         }
         Node::Catch(point, exit, body) => {
-            let inner = pass(alloc, options, body, value, flag)?;
+            let inner = pass(alloc, options, memory, body, value, flag)?;
             catch_jumps(alloc, *point, *exit, inner)
         }
         Node::Leave(live, exit) => pass_leave(alloc, options, *live, *exit, value, flag),

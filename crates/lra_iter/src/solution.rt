@@ -13,6 +13,7 @@ ghost use Rattle.lra_iter.specs.Counts.{AreCounted};
 ghost use Rattle.lra_iter.specs.Solved.{IsSolved};
 ghost use Rattle.lra_iter.specs.Sound.{HoldsInTree};
 
+use crate::memory::Memory;
 use crate::outcome::{Outcome, note};
 use crate::pass::pass;
 use crate::tables::{held_in, numbered_in, tables_of};
@@ -77,7 +78,9 @@ pub fn analyse<D: Domain>(
 {
     let mut value = D::universe(alloc, 0, options.parts)?;
     let exactness = append_globals(alloc, globals, &mut value)?;
-    let outcome = pass(alloc, options, &graph.tree, value, note(0, exactness, None))?;
+    let mut memory = Memory::nothing(alloc);
+    let flag = note(0, exactness, None);
+    let outcome = pass(alloc, options, &mut memory, &graph.tree, value, flag)?;
     let solution = solution_of(alloc, &graph.sites, outcome)?;
     Ok(solution)
 }

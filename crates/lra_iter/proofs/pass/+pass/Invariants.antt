@@ -9,27 +9,27 @@ use Rattle.lra_iter.proofs.pass.+pass.Given as goal
 
 abbrev pub invariant-grow-head : goal.invariant-grow-head
 invariant-grow-head g l = GrowLoop g.D.Domain.meaning l.the_loop.options.now l.the_loop.point l.the_loop.base (cond_view l.the_loop.condition.now) (node_view l.the_loop.body.now) l.first
-    l.fn.flag l.left l.so_far l.head l.kept
+    l.fn.flag l.left l.so_far l.head l.kept l.fn.memory l.memory
 
 abbrev pub decreases-grow-head : goal.decreases-grow-head
 decreases-grow-head g l = phased (2 ^ 64) l.left (g.D.Domain.meaning.rank l.head)
 
 abbrev pub invariant-pass_loop-narrowing : goal.invariant-pass_loop-narrowing
 invariant-pass_loop-narrowing g l = NarrowLoop g.D.Domain.meaning l.the_loop.options.now l.the_loop.point l.the_loop.base (cond_view l.the_loop.condition.now) (node_view l.the_loop.body.now)
-    l.fn.value l.fn.flag l.left l.top l.last.entered (seen l.last.outcome)
+    l.fn.value l.fn.flag l.left l.top l.last.entered (seen l.last.outcome) l.fn.memory l.memory
 
 abbrev pub decreases-pass_loop-narrowing : goal.decreases-pass_loop-narrowing
 decreases-pass_loop-narrowing g l = l.left
 
 abbrev pub invariant-pass_row-row : goal.invariant-pass_row-row
-invariant-pass_row-row g l = RowLoop g.D.Domain.meaning l.options (row (map node_view l.trees) (node_view l.last)) l.fn.flag l.fn.value
-    (row (map node_view (drop l.tree-index l.trees)) (node_view l.last)) l.found l.behind l.so_far
+invariant-pass_row-row g l = RowLoop g.D.Domain.meaning l.the_row.options.now (row (map node_view l.the_row.trees.now) (node_view l.the_row.last.now)) l.fn.flag l.fn.value
+    (row (map node_view (drop l.tree-index l.the_row.trees.now)) (node_view l.the_row.last.now)) l.found l.behind l.so_far l.fn.memory l.memory
 
 abbrev pub decreases-pass : goal.decreases-pass
 decreases-pass g l = 4 * node_size l.node.now
 
 abbrev pub decreases-pass_row : goal.decreases-pass_row
-decreases-pass_row g l = 4 * row_size l.trees.now l.last.now + 1
+decreases-pass_row g l = 4 * row_size l.the_row.now.trees.now l.the_row.now.last.now + 1
 
 abbrev pub decreases-round : goal.decreases-round
 decreases-round g l = 4 * node_size l.the_loop.now.body.now + 1

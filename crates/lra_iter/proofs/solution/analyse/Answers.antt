@@ -1,17 +1,29 @@
-use Rattle.std.proofs.Common.{◌≡◌, length, map, arith}
+use Rattle.std.proofs.Common.{◌≡◌, length, map, sym, subst, arith}
+use Rattle.std.specs.List.{All}
+use Rattle.std.proofs.lemmas.List.Elements.{All-nil}
 use Rattle.lra_operations.specs.GraphViews.{node_view, site_view}
 use Rattle.lra_flow.specs.Operations.{dropping}
 use Rattle.lra_iter.specs.Outcome.{seen}
+use Rattle.lra_iter.specs.Memory.{IsRecalled}
+use Rattle.lra_iter.proofs.LoopNumbers.{numbered_loops}
 use Rattle.lra_iter.proofs.Counting.{pass_counted}
 use Rattle.lra_iter.proofs.Solving.{solved, derived_from}
 use Rattle.lra_iter.proofs.Covering.{begun_covers, covered_holds}
 use Rattle.lra_iter.proofs.Widths.{found_wide}
 use Rattle.lra_iter.proofs.solution.analyse.Goals as goal
 
+pub pass-requires-clause-remembers : goal.pass-requires-clause-remembers
+pass-requires-clause-remembers g c =
+    let loops = numbered_loops (map site_view c.args.graph.now.sites.items) (node_view c.args.graph.now.tree) c.requires.numbered in (
+      loops.0,
+      loops.1,
+      subst (λ xs. All (IsRecalled g.D.Domain.meaning c.args.options.now loops.0 c.note-flag.result) xs) (sym c.nothing-memory.ensures) (All-nil _),
+    )
+
 pub solution_of-requires : goal.solution_of-requires
 solution_of-requires g c =
     let graph = c.args.graph.now in
-    rw c.deref.ensures.value (pass_counted (dropping g.D.Domain.meaning) (map site_view graph.sites.items) c.args.options.now (node_view graph.tree) c.note.result c.append_globals.new.value
+    rw c.deref.ensures.value (pass_counted (dropping g.D.Domain.meaning) (map site_view graph.sites.items) c.args.options.now (node_view graph.tree) c.note-flag.result c.append_globals.new.value
     (seen c.in_ok-outcome.outcome)
     c.requires.numbered c.in_ok-outcome.ensures.pass)
 
@@ -22,7 +34,7 @@ returns-clause-solved g c P same =
     let result = seen c.in_ok-outcome.outcome in
     let solution = c.in_ok-solution.solution in
     let done = rw c.in_ok-value.ensures.dims at c.in_ok-exactness.ensures.appends in
-    let pass = rw c.note.ensures at c.in_ok-outcome.ensures.pass in
+    let pass = rw c.note-flag.ensures at c.in_ok-outcome.ensures.pass in
     let derived = derived_from m c.args.options.now P (node_view graph.tree) c.args.globals.now c.in_ok-value.value c.append_globals.new.value c.in_ok-exactness.exactness result same
     c.in_ok-value.ensures.defined done pass in
     solved m g.met.D.Domain.laws c.args.options.now P (node_view graph.tree) result solution.values.items solution.verdicts.items solution.flagged derived c.in_ok-solution.ensures.solves
@@ -34,9 +46,9 @@ returns-clause-sound g c =
     let result = seen c.in_ok-outcome.outcome in
     let solution = c.in_ok-solution.solution in
     let done = rw c.in_ok-value.ensures.dims at c.in_ok-exactness.ensures.appends in
-    let pass = rw c.note.ensures at c.in_ok-outcome.ensures.pass in
+    let pass = rw c.note-flag.ensures at c.in_ok-outcome.ensures.pass in
     let counted = pass_counted (dropping m) (map site_view graph.sites.items) c.args.options.now
-    (node_view graph.tree) c.note.result c.append_globals.new.value result c.requires.numbered c.in_ok-outcome.ensures.pass in
+    (node_view graph.tree) c.note-flag.result c.append_globals.new.value result c.requires.numbered c.in_ok-outcome.ensures.pass in
     covered_holds m g.met.D.Domain.laws c.args.globals.now (node_view graph.tree) result (map site_view graph.sites.items) solution.values.items solution.verdicts.items solution.flagged
     (begun_covers m g.met.D.Domain.laws c.args.options.now c.args.globals.now (node_view graph.tree) c.in_ok-value.value c.append_globals.new.value c.in_ok-exactness.exactness result
     c.in_ok-value.ensures.defined done pass)
@@ -51,6 +63,6 @@ returns-clause-wide g c lives =
     let one = c.in_ok-exactness.ensures.dims in
     let whole = c.in_ok-value.ensures.dims in
     omega (arith, one, whole) in
-    found_wide m g.met.D.Domain.laws (map site_view graph.sites.items) c.args.options.now (node_view graph.tree) c.note.result c.append_globals.new.value (seen c.in_ok-outcome.outcome)
+    found_wide m g.met.D.Domain.laws (map site_view graph.sites.items) c.args.options.now (node_view graph.tree) c.note-flag.result c.append_globals.new.value (seen c.in_ok-outcome.outcome)
     (length c.args.globals.now)
     solution.values.items solution.verdicts.items solution.flagged c.in_ok-outcome.ensures.pass begins c.in_ok-solution.ensures.solves lives

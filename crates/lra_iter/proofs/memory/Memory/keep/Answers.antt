@@ -1,0 +1,13 @@
+use Rattle.std.proofs.Common.{sym, subst}
+use Rattle.std.specs.List.{All}
+use Rattle.std.proofs.lemmas.List.Elements.{All-set, All-push}
+use Rattle.lra_iter.specs.Memory.{IsRecalled}
+use Rattle.lra_iter.proofs.memory.Memory.keep.Goals as goal
+
+pub returns-in-Some : goal.returns-in-Some
+returns-in-Some g c options loops f all one = All-set (IsRecalled g.D.Domain.meaning options loops f) c.args.self.now.kept.items c.in-Some.place c.args.one one all
+
+pub returns-in_ok-push-in-None : goal.returns-in_ok-push-in-None
+returns-in_ok-push-in-None g c options loops f all one =
+    subst (λ xs. All (IsRecalled g.D.Domain.meaning options loops f) xs) (sym c.in_ok-push-in-None.ensures.items)
+    (All-push (IsRecalled g.D.Domain.meaning options loops f) c.args.self.now.kept.items c.args.one all one)
