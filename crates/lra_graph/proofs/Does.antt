@@ -9,7 +9,8 @@ use Rattle.lra_program.specs.Step.{to_turn, Called, to_mark, target_of, go, go_b
 use Rattle.lra_program.specs.Run.{Steps, label_on, IsFailing}
 use Rattle.lra_operations.specs.Graph.{Exit, broken, continued, returned, How, normal, jump, Node, empty, point, act, check, seq, choose, leave, Rounds, Ends, Comes, FailsAt}
 use Rattle.lra_program.specs.Sites.{Site}
-use Rattle.lra_operations.specs.Inlined.{Frame, Has, HasSite, callee, Inl, InlAll, Declares, Loops, Gives, as_nothing, as_block, as_absent, as_assign, as_call, as_if, as_loop, as_for, as_break}
+use Rattle.lra_operations.specs.Inlined.{Frame, Spot, spot_of, Has, HasSite, callee, Inl, InlAll, Declares, Loops, Gives, as_nothing, as_block, as_absent, as_assign, as_call, as_if, as_loop, as_for}
+use Rattle.lra_operations.specs.Inlined.{as_break}
 use Rattle.lra_operations.specs.Inlined.{as_continue, as_return, as_return_value, as_return_call, as_end, as_end_value, as_end_call, as_assert, as_assume, as_none, as_declaration, as_statement}
 use Rattle.lra_operations.specs.Inlined.{as_fresh, as_given, is_loop, as_value, as_result, loop_node, call_node, return_node}
 use Rattle.lra_graph.proofs.Shapes.{seq_inv, act_inv, point_inv, leave_inv, point_seq, act_seq, check_inv, jump_inv, EndsBody, EndsCall, call_inv, Round, RoundOf, round_inv, LeavesRound, EndsLoop}
@@ -90,7 +91,7 @@ module _ (P : Program) (T : List Site) (f : Frame) (n : ℕ) where
   D i g = Does P T f n i g
 
   -- an item's point stands before what it does
-  does_point : (q at : ℕ) (i : Item) (g : Node) → Has T q f n at → ((k : List Item) → label_on (i ∷ k) ≡ Some at) → Does P T f n i g → Does P T f n i (seq (point q) g)
+  does_point : (q at : ℕ) (i : Item) (g : Node) → Has T (spot_of f n q) at → ((k : List Item) → label_on (i ∷ k) ≡ Some at) → Does P T f n i g → Does P T f n i (seq (point q) g)
   does_point q at i g has lab x = record {
     ends = λ k s h t e m l y z. x.ends k s h t e m l (point_seq q g s h t y) z;
     comes = λ k s q' t m l y. elim y as (λ _. Stands P T (config (i ∷ k) f.here s) q' (HasState t)) [
@@ -113,7 +114,7 @@ module _ (P : Program) (T : List Site) (f : Frame) (n : ℕ) where
   }
 
   -- an assertion, whose point is that of its verdict
-  does_assert : (q at : ℕ) (b : Cond) → HasSite T q f n at true → Does P T f n (run (assert at b)) (seq (point q) (check q f.here.base b))
+  does_assert : (q at : ℕ) (b : Cond) → HasSite T (spot_of f n q) at true → Does P T f n (run (assert at b)) (seq (point q) (check q f.here.base b))
   does_assert q at b has = record {
     ends = λ k s h t e m l y z. let x = check_inv q f.here.base b s h t (point_seq q (check q f.here.base b) s h t y) in
         let z' : config k f.here t ≡ e = same_Some (config k f.here t) e (subst (λ w. landing w f.here k t ≡ Some e) x.0 z) in
@@ -129,7 +130,7 @@ module _ (P : Program) (T : List Site) (f : Frame) (n : ℕ) where
     ];
   }
 
-  does_nothing : (q at : ℕ) → Has T q f n at → Does P T f n (run (nothing at)) (point q)
+  does_nothing : (q at : ℕ) → Has T (spot_of f n q) at → Does P T f n (run (nothing at)) (point q)
   does_nothing q at has = record {
     ends = λ k s h t e m l y z. let x = point_inv q s h t y in
         let z' : config k f.here t ≡ e = same_Some (config k f.here t) e (subst (λ w. landing w f.here k t ≡ Some e) x.0 z) in
@@ -249,7 +250,7 @@ module _ (P : Program) (T : List Site) (f : Frame) (n : ℕ) where
   call_behind fn x k = end_of fn.end (n + fn.parameters) ∷ mark (record { target = x; here = f.here; length = n }) ∷ k
 
   does_call : (q r r' : ℕ) (x : Option ℕ) (b : Call) (fn : Function) (g : Node) (n' : ℕ) → slice_get P.functions b.function ≡ Some fn → length b.arguments ≡ fn.parameters
-      → Length (callee f n x b) (n + fn.parameters) n' g → n + fn.parameters ≤ n' → Has T r' (callee f n x b) n' fn.end → Does P T (callee f n x b) (n + fn.parameters) (all fn.body) g
+      → Length (callee f n x b) (n + fn.parameters) n' g → n + fn.parameters ≤ n' → Has T (spot_of (callee f n x b) n' r') fn.end → Does P T (callee f n x b) (n + fn.parameters) (all fn.body) g
       → GivesDoes P T f n x (result b) (call_node q r' f.here.base n x b.arguments fn.parameters g)
   does_call q r r' x b fn g n' found i len up has y = record {
     ends = λ k s t l z. by_end k s t l (call_inv q r' f.here.base n x b.arguments fn.parameters g s normal t z);
@@ -339,7 +340,7 @@ module _ (P : Program) (T : List Site) (f : Frame) (n : ℕ) where
 not_normal : (j : Exit) → jump j ≡ normal → ⊥
 not_normal j e = cc
 
-module _ (P : Program) (T : List Site) (f : Frame) (n q at : ℕ) (b : Cond) (a step : Stmt) (g h : Node) (has : Has T q f n at) (body : Does P T (in_loop f (Some n)) n (run a) g)
+module _ (P : Program) (T : List Site) (f : Frame) (n q at : ℕ) (b : Cond) (a step : Stmt) (g h : Node) (has : Has T (spot_of f n q) at) (body : Does P T (in_loop f (Some n)) n (run a) g)
     (stepping : Does P T (in_loop f None) n (run step) h)
     (body_length : Length (in_loop f (Some n)) n n g) (step_length : Length (in_loop f None) n n h) where
   abbrev L : Item
@@ -645,55 +646,73 @@ module _ (P : Program) (T : List Site) (f : Frame) (n q : ℕ) where
       starts k s l = rw l refl
 
 -- a block's end
-does_end : (P : Program) (T : List Site) (f : Frame) (n n' q at : ℕ) → Has T q f n' at → Does P T f n' (end_of at n) (seq (point q) (act q (keep n)))
+does_end : (P : Program) (T : List Site) (f : Frame) (n n' q at : ℕ) → Has T (spot_of f n' q) at → Does P T f n' (end_of at n) (seq (point q) (act q (keep n)))
 does_end P T f n n' q at has = does_point P T f n' q at (end_of at n) (act q (keep n)) has (λ k. refl) (does_act P T f n' q (keep n) (end_of at n) (λ k s. refl))
 
 mutual
-  pub does_one : {P : Program} {T : List Site} {f : Frame} {n q : ℕ} {a : Stmt} {g : Node} {n' q' : ℕ} → Inl P T f n q a g n' q' → Does P T f n (run a) g
-  does_one {P = P} {T = T} (as_nothing f n q at i) = does_nothing P T f n q at i
-  does_one {P = P} {T = T} (as_block f n q body end g n' q' d i) = does_two P T f n (run (block body end)) (all body) (end_of end n) n' g (seq (point q') (act q' (keep n)))
-      (λ k s l. rw l refl) (λ k. refl) (λ k. refl) (length_all d) (does_all d) (does_end P T f n n' q' end i)
-  does_one {P = P} {T = T} (as_absent f n q) = does_empty P T f n (run absent) (λ k s. refl)
-  does_one {P = P} {T = T} (as_assign f n q at x e g q' i d) = does_point P T f n q at (run (assign at x e)) g i (λ k. refl)
-      (does_source P T f n (assign at x e) (Some (index_of f.here.base x)) e g (λ k s l. refl) (does_gives d))
-  does_one {P = P} {T = T} (as_call f n q at c g q' i d) = does_point P T f n q at (run (call at c)) g i (λ k. refl) (does_source P T f n (call at c) None (result c) g (λ k s l. refl) (does_gives d))
-  does_one {P = P} {T = T} (as_if f n q at c a b g h r q' i d e) = does_point P T f n q at (run (if at c a b)) (choose q f.here.base c g h) i (λ k. refl)
-      (does_if P T f n q at c a b g h (does_one d) (does_one e))
-  does_one (as_loop f n q s g q' d) = does_loops d
-  does_one {P = P} {T = T} (as_for f n q at init b a step g h n' r q' d e) = does_for P T f n q at init b a step g h n' (length_all d) (length_loop e) (does_all d) (does_loops e)
-  does_one {P = P} {T = T} (as_break f n q at m i k j) = does_point P T f n q at (run (break at)) (seq (act q (keep m)) (leave n broken)) j (λ k. refl) (does_break P T f n q at m i)
-  does_one {P = P} {T = T} (as_continue f n q at m i k j) = does_point P T f n q at (run (continue at)) (seq (act q (keep m)) (leave n continued)) j (λ k. refl) (does_continue P T f n q at m i)
-  does_one {P = P} {T = T} (as_return f n q at b i k j) = does_point P T f n q at (run (return at None)) (return_node q (give_any b.target) b.length n) j (λ k. refl)
-      (does_return P T f n q (run (return at None)) (give_any b.target) b i (λ k s z. ap (λ x. do_leave (to_mark k) (run_any x s)) z))
-  does_one {P = P} {T = T} (as_return_value f n q at e b i k j) = does_point P T f n q at (run (return at (Some (value e)))) (return_node q (give f.here.base b.target e) b.length n) j (λ k. refl)
-      (does_return P T f n q (run (return at (Some (value e)))) (give f.here.base b.target e) b i (λ k s z. ap (λ x. do_leave (to_mark k) (run_op (give f.here.base x e) s)) z))
-  does_one {P = P} {T = T} (as_return_call f n q at c b g q' i k j d) = does_point P T f n q at (run (return at (Some (result c)))) (seq g (seq (act q (keep b.length)) (leave n returned))) j
-      (λ k. refl) (does_return_call P T f n q at c b g i (does_gives d))
-  does_one {P = P} {T = T} (as_end f n q at i j) = does_point P T f n q at (run (return at None)) (leave n returned) j (λ k. refl) (does_stop P T f n q (run (return at None)) i)
-  does_one {P = P} {T = T} (as_end_value f n q at e i j) = does_point P T f n q at (run (return at (Some (value e)))) (leave n returned) j (λ k. refl)
-      (does_stop P T f n q (run (return at (Some (value e)))) i)
-  does_one {P = P} {T = T} (as_end_call f n q at c g q' i j d) = does_point P T f n q at (run (return at (Some (result c)))) (seq g (leave n returned)) j (λ k. refl)
-      (does_stop_call P T f n q at c g i (does_gives d))
-  does_one {P = P} {T = T} (as_assert f n q at c i) = does_assert P T f n q at c i
-  does_one {P = P} {T = T} (as_assume f n q at c i) = does_point P T f n q at (run (assume at c)) (act q (test f.here.base c true)) i (λ k. refl)
-      (does_act P T f n q (test f.here.base c true) (run (assume at c)) (λ k s. refl))
+  pub does_one : {P : Program} {T : List Site} {spot : Spot} {a : Stmt} {g : Node} {q : ℕ} → Inl P T spot a g q → Does P T spot.frame spot.live (run a) g
+  does_one {P = P} {T = T} (as_nothing {s = spot} {at = at} i) = does_nothing P T spot.frame spot.live spot.next at i
+  does_one {P = P} {T = T} (as_block {s = spot} {body = body} {end = end} {g = g} {n = n'} {q = q'} d i) =
+      does_two P T spot.frame spot.live (run (block body end)) (all body) (end_of end spot.live) n' g (seq (point q') (act q' (keep spot.live)))
+      (λ k s l. rw l refl) (λ k. refl) (λ k. refl) (length_all d) (does_all d) (does_end P T spot.frame spot.live n' q' end i)
+  does_one {P = P} {T = T} (as_absent {s = spot}) = does_empty P T spot.frame spot.live (run absent) (λ k s. refl)
+  does_one {P = P} {T = T} (as_assign {s = spot} {at = at} {x = x} {e = e} {g = g} i d) = does_point P T spot.frame spot.live spot.next at (run (assign at x e)) g i (λ k. refl)
+      (does_source P T spot.frame spot.live (assign at x e) (Some (index_of spot.frame.here.base x)) e g (λ k s l. refl) (does_gives d))
+  does_one {P = P} {T = T} (as_call {s = spot} {at = at} {c = c} {g = g} i d) = does_point P T spot.frame spot.live spot.next at (run (call at c)) g i (λ k. refl)
+      (does_source P T spot.frame spot.live (call at c) None (result c) g (λ k s l. refl) (does_gives d))
+  does_one {P = P} {T = T} (as_if {s = spot} {at = at} {c = c} {a = a} {b = b} {g = g} {h = h} i d e) =
+      does_point P T spot.frame spot.live spot.next at (run (if at c a b)) (choose spot.next spot.frame.here.base c g h) i (λ k. refl)
+      (does_if P T spot.frame spot.live spot.next at c a b g h (does_one d) (does_one e))
+  does_one (as_loop d) = does_loops d
+  does_one {P = P} {T = T} (as_for {s = spot} {at = at} {init = init} {c = b} {a = a} {step = step} {g = g} {h = h} {n = n'} d e) =
+      does_for P T spot.frame spot.live spot.next at init b a step g h n' (length_all d) (length_loop e) (does_all d) (does_loops e)
+  does_one {P = P} {T = T} (as_break {s = spot} {at = at} {m = m} i k j) = does_point P T spot.frame spot.live spot.next at (run (break at)) (seq (act spot.next (keep m)) (leave spot.live broken)) j
+      (λ k. refl) (does_break P T spot.frame spot.live spot.next at m i)
+  does_one {P = P} {T = T} (as_continue {s = spot} {at = at} {m = m} i k j) = does_point P T spot.frame spot.live spot.next at (run (continue at))
+      (seq (act spot.next (keep m)) (leave spot.live continued)) j (λ k. refl) (does_continue P T spot.frame spot.live spot.next at m i)
+  does_one {P = P} {T = T} (as_return {s = spot} {at = at} {b = b} i k j) = does_point P T spot.frame spot.live spot.next at (run (return at None))
+      (return_node spot.next (give_any b.target) b.length spot.live) j (λ k. refl)
+      (does_return P T spot.frame spot.live spot.next (run (return at None)) (give_any b.target) b i (λ k s z. ap (λ x. do_leave (to_mark k) (run_any x s)) z))
+  does_one {P = P} {T = T} (as_return_value {s = spot} {at = at} {e = e} {b = b} i k j) =
+      does_point P T spot.frame spot.live spot.next at (run (return at (Some (value e)))) (return_node spot.next (give spot.frame.here.base b.target e) b.length spot.live) j (λ k. refl)
+      (does_return P T spot.frame spot.live spot.next (run (return at (Some (value e)))) (give spot.frame.here.base b.target e) b i
+      (λ k s z. ap (λ x. do_leave (to_mark k) (run_op (give spot.frame.here.base x e) s)) z))
+  does_one {P = P} {T = T} (as_return_call {s = spot} {at = at} {c = c} {b = b} {g = g} i k j d) =
+      does_point P T spot.frame spot.live spot.next at (run (return at (Some (result c)))) (seq g (seq (act spot.next (keep b.length)) (leave spot.live returned))) j
+      (λ k. refl) (does_return_call P T spot.frame spot.live spot.next at c b g i (does_gives d))
+  does_one {P = P} {T = T} (as_end {s = spot} {at = at} i j) = does_point P T spot.frame spot.live spot.next at (run (return at None)) (leave spot.live returned) j (λ k. refl)
+      (does_stop P T spot.frame spot.live spot.next (run (return at None)) i)
+  does_one {P = P} {T = T} (as_end_value {s = spot} {at = at} {e = e} i j) = does_point P T spot.frame spot.live spot.next at (run (return at (Some (value e)))) (leave spot.live returned) j
+      (λ k. refl)
+      (does_stop P T spot.frame spot.live spot.next (run (return at (Some (value e)))) i)
+  does_one {P = P} {T = T} (as_end_call {s = spot} {at = at} {c = c} {g = g} i j d) = does_point P T spot.frame spot.live spot.next at (run (return at (Some (result c))))
+      (seq g (leave spot.live returned)) j (λ k. refl)
+      (does_stop_call P T spot.frame spot.live spot.next at c g i (does_gives d))
+  does_one {P = P} {T = T} (as_assert {s = spot} {at = at} {c = c} i) = does_assert P T spot.frame spot.live spot.next at c i
+  does_one {P = P} {T = T} (as_assume {s = spot} {at = at} {c = c} i) = does_point P T spot.frame spot.live spot.next at (run (assume at c)) (act spot.next (test spot.frame.here.base c true)) i
+      (λ k. refl)
+      (does_act P T spot.frame spot.live spot.next (test spot.frame.here.base c true) (run (assume at c)) (λ k s. refl))
 
-  pub does_all : {P : Program} {T : List Site} {f : Frame} {n q : ℕ} {a : BlockItems} {g : Node} {n' q' : ℕ} → InlAll P T f n q a g n' q' → Does P T f n (all a) g
-  does_all {P = P} {T = T} (as_none f n q) = does_empty P T f n (all no_more) (λ k s. refl)
-  does_all {P = P} {T = T} (as_declaration f n q d b g h r n' q' i j e) = does_two P T f n (all (declaration d b)) (declare d) (all b) (suc n) (seq (point q) g) h (λ k s l. refl) (λ k. refl)
-      (λ k. refl) (length_declarator q j)
-      (does_point P T f n q d.label (declare d) g i (λ k. refl) (does_declares d j refl)) (does_all e)
-  does_all {P = P} {T = T} (as_statement f n q a b g h r n' q' d e) = does_two P T f n (all (statement a b)) (run a) (all b) n g h (λ k s l. refl) (λ k. refl) (λ k. refl) (length_one d)
+  pub does_all : {P : Program} {T : List Site} {spot : Spot} {a : BlockItems} {g : Node} {n q : ℕ} → InlAll P T spot a g n q → Does P T spot.frame spot.live (all a) g
+  does_all {P = P} {T = T} (as_none {s = spot}) = does_empty P T spot.frame spot.live (all no_more) (λ k s. refl)
+  does_all {P = P} {T = T} (as_declaration {s = spot} {d = d} {b = b} {g = g} {h = h} i j e) =
+      does_two P T spot.frame spot.live (all (declaration d b)) (declare d) (all b) (suc spot.live) (seq (point spot.next) g) h (λ k s l. refl) (λ k. refl)
+      (λ k. refl) (length_declarator j)
+      (does_point P T spot.frame spot.live spot.next d.label (declare d) g i (λ k. refl) (does_declares d j refl)) (does_all e)
+  does_all {P = P} {T = T} (as_statement {s = spot} {a = a} {b = b} {g = g} {h = h} d e) =
+      does_two P T spot.frame spot.live (all (statement a b)) (run a) (all b) spot.live g h (λ k s l. refl) (λ k. refl) (λ k. refl) (length_one d)
       (does_one d) (does_all e)
 
-  pub does_declares : {P : Program} {T : List Site} {f : Frame} {n q r : ℕ} {o : Option Source} {g : Node} {q' : ℕ} (d : Declarator) → Declares P T f n q r o g q' → d.source ≡ o
-      → Does P T f n (declare d) g
-  does_declares {P = P} {T = T} d (as_fresh f n q r) same = does_act P T f n q append (declare d) (λ k s. ap (λ w. do_declare P w k f.here s) same)
-  does_declares {P = P} {T = T} d (as_given f n q r e g q' x) same = does_given P T f n q d e g same (does_gives x)
+  pub does_declares : {P : Program} {T : List Site} {spot : Spot} {r : ℕ} {o : Option Source} {g : Node} {q : ℕ} (d : Declarator) → Declares P T spot r o g q → d.source ≡ o
+      → Does P T spot.frame spot.live (declare d) g
+  does_declares {P = P} {T = T} d (as_fresh {s = spot}) same = does_act P T spot.frame spot.live spot.next append (declare d) (λ k s. ap (λ w. do_declare P w k spot.frame.here s) same)
+  does_declares {P = P} {T = T} d (as_given {s = spot} {e = e} {g = g} x) same = does_given P T spot.frame spot.live spot.next d e g same (does_gives x)
 
-  pub does_loops : {P : Program} {T : List Site} {f : Frame} {n q r : ℕ} {a : Stmt} {g : Node} {q' : ℕ} → Loops P T f n q r a g q' → Does P T f n (run a) g
-  does_loops {P = P} {T = T} (is_loop f n q r at c a step g h r' q' i d e) = does_loop P T f n q at c a step g h i (does_one e) (does_one d) (length_one e) (length_one d)
+  pub does_loops : {P : Program} {T : List Site} {spot : Spot} {r : ℕ} {a : Stmt} {g : Node} {q : ℕ} → Loops P T spot r a g q → Does P T spot.frame spot.live (run a) g
+  does_loops {P = P} {T = T} (is_loop {s = spot} {at = at} {c = c} {a = a} {step = step} {g = g} {h = h} i d e) =
+      does_loop P T spot.frame spot.live spot.next at c a step g h i (does_one e) (does_one d) (length_one e) (length_one d)
 
-  pub does_gives : {P : Program} {T : List Site} {f : Frame} {n q r : ℕ} {x : Option ℕ} {e : Source} {g : Node} {q' : ℕ} → Gives P T f n q r x e g q' → GivesDoes P T f n x e g
-  does_gives {P = P} {T = T} (as_value f n q r x e) = does_give P T f n q r x e
-  does_gives {P = P} {T = T} (as_result f n q r x c fn g n' r' i j d k) = does_call P T f n q r r' x c fn g n' i j (length_all d) (grows_all d) k (does_all d)
+  pub does_gives : {P : Program} {T : List Site} {spot : Spot} {r : ℕ} {x : Option ℕ} {e : Source} {g : Node} {q : ℕ} → Gives P T spot r x e g q → GivesDoes P T spot.frame spot.live x e g
+  does_gives {P = P} {T = T} (as_value {s = spot} {r = r} {x = x} {e = e}) = does_give P T spot.frame spot.live spot.next r x e
+  does_gives {P = P} {T = T} (as_result {s = spot} {r = r} {x = x} {c = c} {fn = fn} {g = g} {n = n'} {q = r'} i j d k) =
+      does_call P T spot.frame spot.live spot.next r r' x c fn g n' i j (length_all d) (grows_all d) k (does_all d)

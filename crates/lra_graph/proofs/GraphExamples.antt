@@ -5,24 +5,24 @@ use Rattle.lra_meaning.specs.Resolve.{resolve}
 use Rattle.lra_program.specs.Sites.{sites_of}
 use Rattle.lra_operations.specs.Graph.{Node, returned, empty, point, act, seq, choose, catch, leave}
 use Rattle.lra_program.specs.Step.{append, give, give_any, push, keep}
-use Rattle.lra_operations.specs.Inlined.{InlAll, as_absent, as_if, as_declaration, as_given, as_assign, as_assert, as_return_value, as_none, as_statement, as_value, as_result, main_frame}
+use Rattle.lra_operations.specs.Inlined.{InlAll, as_absent, as_if, as_declaration, as_given, as_assign, as_assert, as_return_value, as_none, as_statement, as_value, as_result, main_spot}
 use Rattle.lra_program.specs.Program as program
 use Rattle.lra_tree.specs.Trees.{FileTree, function, statement, declaration, no_items, if_only, return, value, expression, result}
 use Rattle.lra_tree.proofs.TreeSamples.{at, x_at, name_at, number, use_of, tested, call_of, declared_as, function_of, called_twice}
 use Rattle.lra_program.proofs.RunExamples as run
 
 -- its tree is derived, one case for each statement
-called_twice_graph : (g : Node) × InlAll (resolve called_twice) (sites_of (resolve called_twice)) (main_frame (resolve called_twice)) 0 0 (resolve called_twice).main.body g 1 9
+called_twice_graph : (g : Node) × InlAll (resolve called_twice) (sites_of (resolve called_twice)) (main_spot (resolve called_twice)) (resolve called_twice).main.body g 1 9
 called_twice_graph = (
   _,
-  as_declaration _ _ _ _ _ _ _ _ _ _ refl
-      (as_given _ _ _ _ _ _ _ (as_result _ _ _ _ _ _ run.inc _ _ _ refl refl
-      (as_statement _ _ _ _ _ _ _ _ _ _ (as_assign _ _ _ _ _ _ _ _ refl (as_value _ _ _ _ _ _))
-      (as_statement _ _ _ _ _ _ _ _ _ _ (as_return_value _ _ _ _ _ _ refl (omega arith) refl) (as_none _ _ _))) refl))
-      (as_statement _ _ _ _ _ _ _ _ _ _ (as_assign _ _ _ _ _ _ _ _ refl (as_result _ _ _ _ _ _ run.inc _ _ _ refl refl
-      (as_statement _ _ _ _ _ _ _ _ _ _ (as_assign _ _ _ _ _ _ _ _ refl (as_value _ _ _ _ _ _))
-      (as_statement _ _ _ _ _ _ _ _ _ _ (as_return_value _ _ _ _ _ _ refl (omega arith) refl) (as_none _ _ _))) refl))
-      (as_statement _ _ _ _ _ _ _ _ _ _ (as_assert _ _ _ _ _ refl) (as_none _ _ _))),
+  as_declaration refl
+      (as_given (as_result {fn = run.inc} refl refl
+      (as_statement (as_assign refl as_value)
+      (as_statement (as_return_value refl (omega arith) refl) as_none)) refl))
+      (as_statement (as_assign refl (as_result {fn = run.inc} refl refl
+      (as_statement (as_assign refl as_value)
+      (as_statement (as_return_value refl (omega arith) refl) as_none)) refl))
+      (as_statement (as_assert refl) as_none)),
 )
 
 -- long f(long a){ if(a) return 1; return 2; } int main(void){ long x=f(0); }
@@ -41,14 +41,14 @@ abbrev returned_from : ℕ → ℕ → Node
 returned_from q n = seq (point q) (seq (act q (give 1 (Some 0) (program.literal n))) (seq (act q (keep 1)) (leave 2 returned)))
 
 -- the call's tree has its returns in text order and then its end, where the target gets a draw: catches an end before the returns
-two_returns_graph : InlAll (resolve two_returns) (sites_of (resolve two_returns)) (main_frame (resolve two_returns)) 0 0 (resolve two_returns).main.body
+two_returns_graph : InlAll (resolve two_returns) (sites_of (resolve two_returns)) (main_spot (resolve two_returns)) (resolve two_returns).main.body
     (seq (seq (point 0) (seq (act 0 append) (seq (act 0 (push 0 (program.literal 0 ∷ [])))
     (catch 0 returned (seq
     (seq (seq (point 1) (choose 1 1 (program.nonzero (program.read (program.local 0))) (returned_from 2 1) empty)) (seq (returned_from 3 2) empty))
     (seq (point 4) (seq (act 4 (keep 2)) (seq (act 4 (give_any (Some 0))) (act 4 (keep 1)))))))))) empty) 1 5
 two_returns_graph =
-    as_declaration _ _ _ _ _ _ _ _ _ _ refl
-    (as_given _ _ _ _ _ _ _ (as_result _ _ _ _ _ _ (record { parameters = 1; body = _; end = 4 }) _ _ _ refl refl
-    (as_statement _ _ _ _ _ _ _ _ _ _ (as_if _ _ _ _ _ _ _ _ _ _ _ refl (as_return_value _ _ _ _ _ _ refl (omega arith) refl) (as_absent _ _ _))
-    (as_statement _ _ _ _ _ _ _ _ _ _ (as_return_value _ _ _ _ _ _ refl (omega arith) refl) (as_none _ _ _))) refl))
-    (as_none _ _ _)
+    as_declaration refl
+    (as_given (as_result {fn = (record { parameters = 1; body = _; end = 4 })} refl refl
+    (as_statement (as_if refl (as_return_value refl (omega arith) refl) as_absent)
+    (as_statement (as_return_value refl (omega arith) refl) as_none)) refl))
+    as_none

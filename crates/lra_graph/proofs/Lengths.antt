@@ -7,7 +7,7 @@ use Rattle.lra_program.specs.Value.{◌>>=◌, draw, value_of, values_of, truth_
 use Rattle.lra_program.specs.Step.{State, Op, append, give, give_any, push, keep, test, run_op, run_any, put, given, pushed, kept_if, tested, Back}
 use Rattle.lra_operations.specs.Graph.{Exit, broken, continued, returned, How, normal, jump, Node, empty, choose, Rounds, Ends, point, act, seq, leave, check}
 use Rattle.lra_program.specs.Sites.{Site}
-use Rattle.lra_operations.specs.Inlined.{Frame, callee, Inl, InlAll, Declares, Loops, Gives, as_nothing, as_block, as_absent, as_assign, as_call, as_if, as_loop, as_for, as_break, as_continue}
+use Rattle.lra_operations.specs.Inlined.{Frame, Spot, callee, Inl, InlAll, Declares, Loops, Gives, as_nothing, as_block, as_absent, as_assign, as_call, as_if, as_loop, as_for, as_break, as_continue}
 use Rattle.lra_operations.specs.Inlined.{as_return, as_return_value, as_return_call, as_end, as_end_value, as_end_call, as_assert, as_assume, as_none, as_declaration, as_statement, as_fresh, as_given}
 use Rattle.lra_operations.specs.Inlined.{is_loop, as_value, as_result, loop_node, call_node, return_node}
 use Rattle.lra_graph.proofs.Shapes.{seq_inv, act_inv, point_inv, leave_inv, EndsBody, EndsCall, call_inv, check_inv, Round, round_inv, LeavesRound, loop_inv}
@@ -82,10 +82,10 @@ back_length : (f : Frame) (b : Back) (t : State) → f.back ≡ Some b → lengt
 back_length f b t e l b' e' = rw l (ap (λ (c : Back). c.length) (same_Some b b' (sym e ∙ e')))
 
 -- store lengths never fall below where a list of items began
-pub grows_all : {P : Program} {T : List Site} {f : Frame} {n q : ℕ} {s : BlockItems} {g : Node} {n' q' : ℕ} → InlAll P T f n q s g n' q' → n ≤ n'
-grows_all (as_none f n q) = omega arith
-grows_all (as_declaration f n q d b g h r n' q' i j e) = let rest = grows_all e in omega arith
-grows_all (as_statement f n q a b g h r n' q' d e) = grows_all e
+pub grows_all : {P : Program} {T : List Site} {spot : Spot} {s : BlockItems} {g : Node} {n q : ℕ} → InlAll P T spot s g n q → spot.live ≤ n
+grows_all as_none = omega arith
+grows_all (as_declaration i j e) = let rest = grows_all e in omega arith
+grows_all (as_statement d e) = grows_all e
 
 -- begun with n variables the tree ends with n', or jumps with as many as there are at the jump's end
 pub record Length (f : Frame) (n n' : ℕ) (g : Node) : Type 0 where
@@ -215,42 +215,45 @@ empty_length f n s t normal l e = rw e l
 empty_length f n s t (jump j) l e = absurd e
 
 mutual
-  pub length_one : {P : Program} {T : List Site} {f : Frame} {n q : ℕ} {s : Stmt} {g : Node} {n' q' : ℕ} → Inl P T f n q s g n' q' → Length f n n' g
-  length_one (as_nothing f n q at i) = point_length q
-  length_one (as_block f n q body end g n' q' d i) = seq_length _ _ (length_all d) (seq_length _ _ (point_length q') (keep_length q' n (grows_all d)))
-  length_one (as_absent f n q) = record { ends = λ s t h l e. empty_length f n s t h l e }
-  length_one (as_assign f n q at x e g q' i d) = seq_length _ _ (point_length q) (length_gives d)
-  length_one (as_call f n q at c g q' i d) = seq_length _ _ (point_length q) (length_gives d)
-  length_one (as_if f n q at c a b g h r q' i d e) = seq_length _ _ (point_length q) (choose_length q f.here.base c g h (length_one d) (length_one e))
-  length_one (as_loop f n q s g q' d) = length_loop d
-  length_one (as_for f n q at init b a step g h n' r q' d e) = seq_length _ _ (length_all d) (seq_length _ _ (length_loop e) (keep_length q n (grows_all d)))
-  length_one (as_break f n q at m i k j) = seq_length _ _ (point_length q) (seq_length _ _ (keep_length q m k) (break_length n i))
-  length_one (as_continue f n q at m i k j) = seq_length _ _ (point_length q) (seq_length _ _ (keep_length q m k) (continue_length n i))
-  length_one (as_return f n q at b i k j) = seq_length _ _ (point_length q) (return_node_length q _ b i k (any_length q b.target))
-  length_one (as_return_value f n q at e b i k j) = seq_length _ _ (point_length q) (return_node_length q _ b i k (give_length q f.here.base b.target e))
-  length_one (as_return_call f n q at c b g q' i k j d) = seq_length _ _ (point_length q) (seq_length _ _ (length_gives d) (seq_length _ _ (keep_length q b.length k) (return_length n b i)))
-  length_one (as_end f n q at i j) = seq_length _ _ (point_length q) (end_length n i)
-  length_one (as_end_value f n q at e i j) = seq_length _ _ (point_length q) (end_length n i)
-  length_one (as_end_call f n q at c g q' i j d) = seq_length _ _ (point_length q) (seq_length _ _ (length_gives d) (end_length n i))
-  length_one (as_assert f n q at c i) = seq_length _ _ (point_length q) (check_length q f.here.base c)
-  length_one (as_assume f n q at c i) = seq_length _ _ (point_length q) (test_length q f.here.base c true)
+  pub length_one : {P : Program} {T : List Site} {spot : Spot} {s : Stmt} {g : Node} {q : ℕ} → Inl P T spot s g q → Length spot.frame spot.live spot.live g
+  length_one (as_nothing {s = spot} i) = point_length spot.next
+  length_one (as_block {s = spot} {q = q'} d i) = seq_length _ _ (length_all d) (seq_length _ _ (point_length q') (keep_length q' spot.live (grows_all d)))
+  length_one (as_absent {s = spot}) = record { ends = λ s t h l e. empty_length spot.frame spot.live s t h l e }
+  length_one (as_assign {s = spot} i d) = seq_length _ _ (point_length spot.next) (length_gives d)
+  length_one (as_call {s = spot} i d) = seq_length _ _ (point_length spot.next) (length_gives d)
+  length_one (as_if {s = spot} {c = c} {g = g} {h = h} i d e) = seq_length _ _ (point_length spot.next) (choose_length spot.next spot.frame.here.base c g h (length_one d) (length_one e))
+  length_one (as_loop d) = length_loop d
+  length_one (as_for {s = spot} d e) = seq_length _ _ (length_all d) (seq_length _ _ (length_loop e) (keep_length spot.next spot.live (grows_all d)))
+  length_one (as_break {s = spot} {m = m} i k j) = seq_length _ _ (point_length spot.next) (seq_length _ _ (keep_length spot.next m k) (break_length spot.live i))
+  length_one (as_continue {s = spot} {m = m} i k j) = seq_length _ _ (point_length spot.next) (seq_length _ _ (keep_length spot.next m k) (continue_length spot.live i))
+  length_one (as_return {s = spot} {b = b} i k j) = seq_length _ _ (point_length spot.next) (return_node_length spot.next _ b i k (any_length spot.next b.target))
+  length_one (as_return_value {s = spot} {e = e} {b = b} i k j) = seq_length _ _ (point_length spot.next) (return_node_length spot.next _ b i k (give_length spot.next spot.frame.here.base b.target e))
+  length_one (as_return_call {s = spot} {b = b} i k j d) = seq_length _ _ (point_length spot.next)
+      (seq_length _ _ (length_gives d) (seq_length _ _ (keep_length spot.next b.length k) (return_length spot.live b i)))
+  length_one (as_end {s = spot} i j) = seq_length _ _ (point_length spot.next) (end_length spot.live i)
+  length_one (as_end_value {s = spot} i j) = seq_length _ _ (point_length spot.next) (end_length spot.live i)
+  length_one (as_end_call {s = spot} i j d) = seq_length _ _ (point_length spot.next) (seq_length _ _ (length_gives d) (end_length spot.live i))
+  length_one (as_assert {s = spot} {c = c} i) = seq_length _ _ (point_length spot.next) (check_length spot.next spot.frame.here.base c)
+  length_one (as_assume {s = spot} {c = c} i) = seq_length _ _ (point_length spot.next) (test_length spot.next spot.frame.here.base c true)
 
-  pub length_all : {P : Program} {T : List Site} {f : Frame} {n q : ℕ} {s : BlockItems} {g : Node} {n' q' : ℕ} → InlAll P T f n q s g n' q' → Length f n n' g
-  length_all (as_none f n q) = record { ends = λ s t h l e. empty_length f n s t h l e }
-  length_all (as_declaration f n q d b g h r n' q' i j e) = seq_length _ _ (seq_length _ _ (point_length q) (length_declares j)) (length_all e)
-  length_all (as_statement f n q a b g h r n' q' d e) = seq_length _ _ (length_one d) (length_all e)
+  pub length_all : {P : Program} {T : List Site} {spot : Spot} {s : BlockItems} {g : Node} {n q : ℕ} → InlAll P T spot s g n q → Length spot.frame spot.live n g
+  length_all (as_none {s = spot}) = record { ends = λ s t h l e. empty_length spot.frame spot.live s t h l e }
+  length_all (as_declaration {s = spot} i j e) = seq_length _ _ (seq_length _ _ (point_length spot.next) (length_declares j)) (length_all e)
+  length_all (as_statement d e) = seq_length _ _ (length_one d) (length_all e)
 
-  pub length_declares : {P : Program} {T : List Site} {f : Frame} {n q r : ℕ} {e : Option Source} {g : Node} {q' : ℕ} → Declares P T f n q r e g q' → Length f n (suc n) g
-  length_declares (as_fresh f n q r) = append_length q
-  length_declares (as_given f n q r e g q' d) = seq_length _ _ (append_length q) (length_gives d)
+  pub length_declares : {P : Program} {T : List Site} {spot : Spot} {r : ℕ} {e : Option Source} {g : Node} {q : ℕ} → Declares P T spot r e g q → Length spot.frame spot.live (suc spot.live) g
+  length_declares (as_fresh {s = spot}) = append_length spot.next
+  length_declares (as_given {s = spot} d) = seq_length _ _ (append_length spot.next) (length_gives d)
 
-  pub length_loop : {P : Program} {T : List Site} {f : Frame} {n q r : ℕ} {s : Stmt} {g : Node} {q' : ℕ} → Loops P T f n q r s g q' → Length f n n g
-  length_loop (is_loop f n q r at c a step g h r' q' i d e) = loop_length f n g h (length_one e) (length_one d) q f.here.base c
+  pub length_loop : {P : Program} {T : List Site} {spot : Spot} {r : ℕ} {s : Stmt} {g : Node} {q : ℕ} → Loops P T spot r s g q → Length spot.frame spot.live spot.live g
+  length_loop (is_loop {s = spot} {c = c} {g = g} {h = h} i d e) = loop_length spot.frame spot.live g h (length_one e) (length_one d) spot.next spot.frame.here.base c
 
-  pub length_gives : {P : Program} {T : List Site} {f : Frame} {n q r : ℕ} {x : Option ℕ} {e : Source} {g : Node} {q' : ℕ} → Gives P T f n q r x e g q' → Length f n n g
-  length_gives (as_value f n q r x e) = give_length q f.here.base x e
-  length_gives (as_result f n q r x c fn g n' r' i j d k) = call_length f n r' x c.arguments fn.parameters g (callee f n x c) n' j refl refl (grows_all d) (length_all d) q
+  pub length_gives : {P : Program} {T : List Site} {spot : Spot} {r : ℕ} {x : Option ℕ} {e : Source} {g : Node} {q : ℕ} → Gives P T spot r x e g q → Length spot.frame spot.live spot.live g
+  length_gives (as_value {s = spot} {x = x} {e = e}) = give_length spot.next spot.frame.here.base x e
+  length_gives (as_result {s = spot} {x = x} {c = c} {fn = fn} {g = g} {n = n'} {q = r'} i j d k) =
+      call_length spot.frame spot.live r' x c.arguments fn.parameters g (callee spot.frame spot.live x c) n' j refl refl (grows_all d) (length_all d) spot.next
 
 -- a declarator's point, and what follows it
-pub length_declarator : {P : Program} {T : List Site} {f : Frame} {n r : ℕ} {e : Option Source} {g : Node} {q' : ℕ} (q : ℕ) → Declares P T f n q r e g q' → Length f n (suc n) (seq (point q) g)
-length_declarator q d = seq_length _ _ (point_length q) (length_declares d)
+pub length_declarator : {P : Program} {T : List Site} {spot : Spot} {r : ℕ} {e : Option Source} {g : Node} {q : ℕ} → Declares P T spot r e g q →
+    Length spot.frame spot.live (suc spot.live) (seq (point spot.next) g)
+length_declarator {spot} d = seq_length _ _ (point_length spot.next) (length_declares d)

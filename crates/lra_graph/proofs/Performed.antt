@@ -6,7 +6,7 @@ use Rattle.lra_program.specs.Step.{State, Item, all, end_of}
 use Rattle.lra_program.specs.Run.{start}
 use Rattle.lra_operations.specs.Graph.{normal, Node, seq, point, Comes, FailsAt}
 use Rattle.lra_program.specs.Sites.{Site, sites_of}
-use Rattle.lra_operations.specs.Inlined.{Has, InlAll, main_frame}
+use Rattle.lra_operations.specs.Inlined.{move, Has, InlAll, main_frame, main_spot}
 use Rattle.lra_operations.specs.Agree.{begins, IsGraph}
 use Rattle.lra_graph.proofs.Lengths.{length_all}
 use Rattle.lra_graph.proofs.Landing.{config, Matches}
@@ -18,8 +18,8 @@ bottom P = end_of P.main.end (length P.globals) ∷ []
 bottom_matches : (P : Program) → Matches (main_frame P) (bottom P)
 bottom_matches P = record { loops = λ m e. absurd (none-some m e); backs = refl }
 
-module _ (P : Program) (T : List Site) (body : Node) (last live : ℕ) (d : InlAll P T (main_frame P) (length P.globals) 0 P.main.body body live last)
-    (has : Has T last (main_frame P) live P.main.end) where
+module _ (P : Program) (T : List Site) (body : Node) (last live : ℕ) (d : InlAll P T (main_spot P) P.main.body body live last)
+    (has : Has T (move (main_spot P) live last) P.main.end) where
   stands : (s : State) (q : ℕ) (t : State) → length s.store ≡ length P.globals → Comes (seq body (point last)) s q t → Stands P T (config (all P.main.body ∷ bottom P) (main_frame P).here s) q
       (HasState t)
   stands s q t l (inl x) = (does_all d).comes (bottom P) s q t (bottom_matches P) l x

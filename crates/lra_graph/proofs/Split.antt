@@ -9,7 +9,8 @@ use Rattle.lra_program.specs.Step.{to_mark, target_of, go, enter, do_source, do_
 use Rattle.lra_program.specs.Run.{Steps, label_on, IsFailing}
 use Rattle.lra_operations.specs.Graph.{Exit, broken, continued, returned, normal, jump, Node, point, act, check, seq, choose, leave, Ends, Comes, FailsAt}
 use Rattle.lra_program.specs.Sites.{Site}
-use Rattle.lra_operations.specs.Inlined.{Frame, Has, HasSite, callee, Inl, InlAll, Declares, Loops, Gives, as_nothing, as_block, as_absent, as_assign, as_call, as_if, as_loop, as_for, as_break}
+use Rattle.lra_operations.specs.Inlined.{Frame, Spot, move, at_point, within, called, Has, HasSite, callee, Inl, InlAll, Declares, Loops, Gives, as_nothing, as_block, as_absent, as_assign}
+use Rattle.lra_operations.specs.Inlined.{as_call, as_if, as_loop, as_for, as_break}
 use Rattle.lra_operations.specs.Inlined.{as_continue, as_return, as_return_value, as_return_call, as_end, as_end_value, as_end_call, as_assert, as_assume, as_none, as_declaration, as_statement}
 use Rattle.lra_operations.specs.Inlined.{as_fresh, as_given, is_loop, as_value, as_result, loop_node, call_node, return_node}
 use Rattle.lra_graph.proofs.Shapes.{call_returns, call_ends, Round, round_join, loop_join, loop_first, comes_first, fails_first, jump_join}
@@ -44,11 +45,11 @@ pub data Splits (P : Program) (T : List Site) (c : Config) (p : ℕ) (h : Here) 
   ended : (j : ℕ) (m : State) → j < n → Ends g s normal m → Steps P j (config k h m) c → Splits P T c p h k n g s
   jumped : (j : ℕ) (kind : Exit) (m : State) (d : Config) → j < n → Ends g s (jump kind) m → land kind h k m ≡ Some d → Steps P j d c → Splits P T c p h k n g s
 
-pub hit_there : (T : List Site) (c : Config) (p : ℕ) (f : Frame) (n q at : ℕ) (asserts : Bool) (i : Item) (k : List Item) (s : State) (g : Node) → label_on c.items ≡ Some p
-    → HasSite T q f n at asserts → length s.store ≡ n
-    → label_on (i ∷ k) ≡ Some at → Comes g s q s → (IsFailing (i ∷ k) f.here s → FailsAt g s q) → config (i ∷ k) f.here s ≡ c → Hit T c p g s
-hit_there T c p f n q at asserts i k s g on has l lab x y e = subst (λ (d : Config). label_on d.items ≡ Some p → Hit T d p g s) e (λ o. record {
-  number = q;
+pub hit_there : (T : List Site) (c : Config) (p : ℕ) (spot : Spot) (at : ℕ) (asserts : Bool) (i : Item) (k : List Item) (s : State) (g : Node) → label_on c.items ≡ Some p
+    → HasSite T spot at asserts → length s.store ≡ spot.live
+    → label_on (i ∷ k) ≡ Some at → Comes g s spot.next s → (IsFailing (i ∷ k) spot.frame.here s → FailsAt g s spot.next) → config (i ∷ k) spot.frame.here s ≡ c → Hit T c p g s
+hit_there T c p spot at asserts i k s g on has l lab x y e = subst (λ (d : Config). label_on d.items ≡ Some p → Hit T d p g s) e (λ o. record {
+  number = spot.next;
   asserts = asserts;
   site = rw (l, ← same_Some _ _ (sym lab ∙ o)) has;
   comes = x;
@@ -83,16 +84,17 @@ module _ (P : Program) (T : List Site) (c : Config) (p : ℕ) (on : label_on c.i
       after (jumped j' kind m' d i' e' l r') = jumped j' kind m' d (omega arith) (inr (m, e, e')) l r'
 
   -- an item with a point of its own, which fails where the tree behind the point does
-  splits_point : (f : Frame) (n q at : ℕ) (asserts : Bool) (a : Item) (g : Node) (k : List Item) (s : State) (count : ℕ) → HasSite T q f n at asserts → length s.store ≡ n → label_on (a ∷ k) ≡ Some at
-      → (IsFailing (a ∷ k) f.here s → FailsAt g s q) → Steps P count (config (a ∷ k) f.here s) c
-      → ((j : ℕ) (e : Config) → suc j ≡ count → next P (config (a ∷ k) f.here s) ≡ Some e → Steps P j e c → Splits P T c p f.here k count g s)
-      → Splits P T c p f.here k count (seq (point q) g) s
-  splits_point f n q at asserts a g k s zero has l lab fails r inner =
-      hits (hit_there T c p f n q at asserts a k s (seq (point q) g) on has l lab (inl (refl, refl)) (λ z. inr (s, refl, fails z)) r)
-  splits_point f n q at asserts a g k s (suc j) has l lab fails (e, x, r) inner = after (inner j e refl x r)
+  splits_point : (spot : Spot) (at : ℕ) (asserts : Bool) (a : Item) (g : Node) (k : List Item) (s : State) (count : ℕ) → HasSite T spot at asserts → length s.store ≡ spot.live →
+      label_on (a ∷ k) ≡ Some at
+      → (IsFailing (a ∷ k) spot.frame.here s → FailsAt g s spot.next) → Steps P count (config (a ∷ k) spot.frame.here s) c
+      → ((j : ℕ) (e : Config) → suc j ≡ count → next P (config (a ∷ k) spot.frame.here s) ≡ Some e → Steps P j e c → Splits P T c p spot.frame.here k count g s)
+      → Splits P T c p spot.frame.here k count (seq (point spot.next) g) s
+  splits_point spot at asserts a g k s zero has l lab fails r inner =
+      hits (hit_there T c p spot at asserts a k s (seq (point spot.next) g) on has l lab (inl (refl, refl)) (λ z. inr (s, refl, fails z)) r)
+  splits_point spot at asserts a g k s (suc j) has l lab fails (e, x, r) inner = after (inner j e refl x r)
     where
-      after : Splits P T c p f.here k (suc j) g s → Splits P T c p f.here k (suc j) (seq (point q) g) s
-      after (hits y) = hits (hit_then T c p (point q) g s s refl y)
+      after : Splits P T c p spot.frame.here k (suc j) g s → Splits P T c p spot.frame.here k (suc j) (seq (point spot.next) g) s
+      after (hits y) = hits (hit_then T c p (point spot.next) g s s refl y)
       after (ended j' m i y z) = ended j' m i (s, refl, y) z
       after (jumped j' kind m d i y l z) = jumped j' kind m d i (inr (s, refl, y)) l z
 
@@ -120,132 +122,144 @@ call_items fn n x h k = end_of fn.end (n + fn.parameters) ∷ mark (record { tar
 
 -- runs of fewer steps are cut so
 pub record Below (P : Program) (T : List Site) (c : Config) (p fuel : ℕ) : Type 0 where
-  pub one : (f : Frame) (n q : ℕ) (a : Stmt) (g : Node) (n' q' : ℕ) → Inl P T f n q a g n' q' → (k : List Item) (s : State) (count : ℕ) → Matches f k → length s.store ≡ n → count < fuel
-      → Steps P count (config (run a ∷ k) f.here s) c → Splits P T c p f.here k count g s
-  pub every : (f : Frame) (n q : ℕ) (a : BlockItems) (g : Node) (n' q' : ℕ) → InlAll P T f n q a g n' q' → (k : List Item) (s : State) (count : ℕ) → Matches f k → length s.store ≡ n → count < fuel
-      → Steps P count (config (all a ∷ k) f.here s) c → Splits P T c p f.here k count g s
-  pub loops : (f : Frame) (n q r : ℕ) (a : Stmt) (g : Node) (q' : ℕ) → Loops P T f n q r a g q' → (k : List Item) (s : State) (count : ℕ) → Matches f k → length s.store ≡ n → count < fuel
-      → Steps P count (config (run a ∷ k) f.here s) c → Splits P T c p f.here k count g s
+  pub one : (spot : Spot) (a : Stmt) (g : Node) (q : ℕ) → Inl P T spot a g q → (k : List Item) (s : State) (count : ℕ) → Matches spot.frame k → length s.store ≡ spot.live → count < fuel
+      → Steps P count (config (run a ∷ k) spot.frame.here s) c → Splits P T c p spot.frame.here k count g s
+  pub every : (spot : Spot) (a : BlockItems) (g : Node) (n q : ℕ) → InlAll P T spot a g n q → (k : List Item) (s : State) (count : ℕ) → Matches spot.frame k → length s.store ≡ spot.live → count < fuel
+      → Steps P count (config (all a ∷ k) spot.frame.here s) c → Splits P T c p spot.frame.here k count g s
+  pub loops : (spot : Spot) (r : ℕ) (a : Stmt) (g : Node) (q : ℕ) → Loops P T spot r a g q → (k : List Item) (s : State) (count : ℕ) → Matches spot.frame k → length s.store ≡ spot.live → count < fuel
+      → Steps P count (config (run a ∷ k) spot.frame.here s) c → Splits P T c p spot.frame.here k count g s
 
 module _ (P : Program) (T : List Site) (c : Config) (p : ℕ) (on : label_on c.items ≡ Some p) (fuel : ℕ) (below : Below P T c p fuel) where
   -- what a callee's body leaves: its end, and the call's
-  call_tail : (f f' : Frame) (n n' r : ℕ) (x : Option ℕ) (end params : ℕ) (k : List Item) (count : ℕ) (s : State) → Has T r f' n' end → length s.store ≡ n'
-      → Steps P count (config (end_of end (n + params) ∷ mark (record { target = x; here = f.here; length = n }) ∷ k) f'.here s) c
-      → Hit T c p (point r) s ⊎ Tail P c f.here n x params k count s
-  call_tail f f' n n' r x end params k zero s has l e = inl (hit_there T c p f' n' r end false (end_of end (n + params)) (mark (record { target = x; here = f.here; length = n }) ∷ k) s (point r)
+  call_tail : (spot : Spot) (n : ℕ) (h : Here) (x : Option ℕ) (end params : ℕ) (k : List Item) (count : ℕ) (s : State) → Has T spot end → length s.store ≡ spot.live
+      → Steps P count (config (end_of end (n + params) ∷ mark (record { target = x; here = h; length = n }) ∷ k) spot.frame.here s) c
+      → Hit T c p (point spot.next) s ⊎ Tail P c h n x params k count s
+  call_tail spot n h x end params k zero s has l e = inl (hit_there T c p spot end false (end_of end (n + params)) (mark (record { target = x; here = h; length = n }) ∷ k) s (point spot.next)
       on has l refl (refl, refl) (λ z. z) e)
-  call_tail f f' n n' r x end params k (suc i) s has l (e, y, rest) =
-      let cutting = go_some (mark (record { target = x; here = f.here; length = n }) ∷ k) f'.here (run_op (keep (n + params)) s) e y in
+  call_tail spot n h x end params k (suc i) s has l (e, y, rest) =
+      let cutting = go_some (mark (record { target = x; here = h; length = n }) ∷ k) spot.frame.here (run_op (keep (n + params)) s) e y in
       marked i cutting.0 cutting.1 (rw cutting.2 rest)
     where
-      marked : (i : ℕ) (short : State) → run_op (keep (n + params)) s ≡ Some short → Steps P i (config (mark (record { target = x; here = f.here; length = n }) ∷ k) f'.here short) c
-          → Hit T c p (point r) s ⊎ Tail P c f.here n x params k (suc i) s
+      marked : (i : ℕ) (short : State) → run_op (keep (n + params)) s ≡ Some short → Steps P i (config (mark (record { target = x; here = h; length = n }) ∷ k) spot.frame.here short) c
+          → Hit T c p (point spot.next) s ⊎ Tail P c h n x params k (suc i) s
       marked zero short o rest = absurd (not_there c _ p on refl rest)
       marked (suc j) short o (e, y, rest) =
-          let setting = go_on_some (run_any x short) (λ t. go k f.here (run_op (keep n) t)) e y in
-          let back = go_some k f.here (run_op (keep n) setting.0) e setting.2 in
+          let setting = go_on_some (run_any x short) (λ t. go k h (run_op (keep n) t)) e y in
+          let back = go_some k h (run_op (keep n) setting.0) e setting.2 in
           inr (record { left = j; cut = short; set = setting.0; final = back.0; fewer = omega arith; cuts = o; sets = setting.1; backs = back.1; rest = rw back.2 rest })
 
-  splits_call : (f : Frame) (n q r : ℕ) (x : Option ℕ) (b : Call) (fn : Function) (g : Node) (n' r' : ℕ) (k : List Item) (s : State) (j : ℕ) (e : Config)
-      → length b.arguments ≡ fn.parameters → InlAll P T (callee f n x b) (n + fn.parameters) r fn.body g n' r' → Has T r' (callee f n x b) n' fn.end → length s.store ≡ n → j < fuel
-      → enter (Some fn) b x k f.here s ≡ Some e → Steps P j e c → Splits P T c p f.here k (suc j) (call_node q r' f.here.base n x b.arguments fn.parameters g) s
-  splits_call f n q r x b fn g n' r' k s j e i d has l less y rest =
-      let y' : go (all fn.body ∷ call_items fn n x f.here k) (callee f n x b).here (run_op (push f.here.base b.arguments) s) ≡ Some e = rw (← l) y in
-      let entering = go_some (all fn.body ∷ call_items fn n x f.here k) (callee f n x b).here (run_op (push f.here.base b.arguments) s) e y' in
+  splits_call : (spot : Spot) (r : ℕ) (x : Option ℕ) (b : Call) (fn : Function) (g : Node) (n' r' : ℕ) (k : List Item) (s : State) (j : ℕ) (e : Config)
+      → length b.arguments ≡ fn.parameters → InlAll P T (called spot x b fn.parameters r) fn.body g n' r' → Has T (move (called spot x b fn.parameters r) n' r') fn.end → length s.store ≡ spot.live →
+      j < fuel
+      → enter (Some fn) b x k spot.frame.here s ≡ Some e → Steps P j e c → Splits P T c p spot.frame.here k (suc j)
+      (call_node spot.next r' spot.frame.here.base spot.live x b.arguments fn.parameters g) s
+  splits_call spot r x b fn g n' r' k s j e i d has l less y rest =
+      let y' : go (all fn.body ∷ call_items fn spot.live x spot.frame.here k) (callee spot.frame spot.live x b).here (run_op (push spot.frame.here.base b.arguments) s) ≡ Some e = rw (← l) y in
+      let entering = go_some (all fn.body ∷ call_items fn spot.live x spot.frame.here k) (callee spot.frame spot.live x b).here (run_op (push spot.frame.here.base b.arguments) s) e y' in
       inside entering.0 entering.1 (rw entering.2 rest)
     where
-      ended_inside : (u : State) → run_op (push f.here.base b.arguments) s ≡ Some u → (i : ℕ) (m : State) → i < j → Ends g u normal m
-          → Hit T c p (point r') m ⊎ Tail P c f.here n x fn.parameters k i m → Splits P T c p f.here k (suc j) (call_node q r' f.here.base n x b.arguments fn.parameters g) s
-      ended_inside u o i m z a (inl h) = hits (hit_as T c p (point r') (call_node q r' f.here.base n x b.arguments fn.parameters g) m s (λ v y. inr (u, o, inr (m, a, inl y))) (λ v y. absurd y) h)
+      ended_inside : (u : State) → run_op (push spot.frame.here.base b.arguments) s ≡ Some u → (i : ℕ) (m : State) → i < j → Ends g u normal m
+          → Hit T c p (point r') m ⊎ Tail P c spot.frame.here spot.live x fn.parameters k i m →
+          Splits P T c p spot.frame.here k (suc j) (call_node spot.next r' spot.frame.here.base spot.live x b.arguments fn.parameters g) s
+      ended_inside u o i m z a (inl h) = hits (hit_as T c p (point r') (call_node spot.next r' spot.frame.here.base spot.live x b.arguments fn.parameters g) m s (λ v y. inr (u, o, inr (m, a, inl y)))
+          (λ v y. absurd y) h)
       ended_inside u o i m z a (inr t) = let few = t.fewer in ended t.left t.final (omega arith)
-          (call_ends q r' f.here.base n x b.arguments fn.parameters g s u t.final o (record { before = m; cut = t.cut; set = t.set; body = a; cuts = t.cuts; sets = t.sets; back = t.backs })) t.rest
+          (call_ends spot.next r' spot.frame.here.base spot.live x b.arguments fn.parameters g s u t.final o
+          (record { before = m; cut = t.cut; set = t.set; body = a; cuts = t.cuts; sets = t.sets; back = t.backs })) t.rest
 
-      after : (u : State) → run_op (push f.here.base b.arguments) s ≡ Some u → Splits P T c p (callee f n x b).here (call_items fn n x f.here k) j g u
-          → Splits P T c p f.here k (suc j) (call_node q r' f.here.base n x b.arguments fn.parameters g) s
-      after u o (hits h) = hits (hit_as T c p g (call_node q r' f.here.base n x b.arguments fn.parameters g) u s (λ v y. inr (u, o, inl y)) (λ v y. inr (u, o, inl y)) h)
+      after : (u : State) → run_op (push spot.frame.here.base b.arguments) s ≡ Some u → Splits P T c p (callee spot.frame spot.live x b).here (call_items fn spot.live x spot.frame.here k) j g u
+          → Splits P T c p spot.frame.here k (suc j) (call_node spot.next r' spot.frame.here.base spot.live x b.arguments fn.parameters g) s
+      after u o (hits h) = hits (hit_as T c p g (call_node spot.next r' spot.frame.here.base spot.live x b.arguments fn.parameters g) u s (λ v y. inr (u, o, inl y)) (λ v y. inr (u, o, inl y)) h)
       after u o (jumped i' broken m d' z a l' t) = absurd (none-some d' l')
       after u o (jumped i' continued m d' z a l' t) = absurd (none-some d' l')
-      after u o (jumped i' returned m d' z a l' t) = ended i' m (omega arith) (call_returns q r' f.here.base n x b.arguments fn.parameters g s u m o a) (rw (same_Some (config k f.here m) d' l') t)
-      after u o (ended i' m z a t) = ended_inside u o i' m z a (call_tail f (callee f n x b) n n' r' x fn.end fn.parameters k i' m has
-          ((length_all d).ends u m normal (length_push f.here.base b.arguments s u o ∙ rw (l, i) refl) a) t)
+      after u o (jumped i' returned m d' z a l' t) = ended i' m (omega arith) (call_returns spot.next r' spot.frame.here.base spot.live x b.arguments fn.parameters g s u m o a)
+          (rw (same_Some (config k spot.frame.here m) d' l') t)
+      after u o (ended i' m z a t) = ended_inside u o i' m z a (call_tail (move (called spot x b fn.parameters r) n' r') spot.live spot.frame.here x fn.end fn.parameters k i' m has
+          ((length_all d).ends u m normal (length_push spot.frame.here.base b.arguments s u o ∙ rw (l, i) refl) a) t)
 
-      inside : (u : State) → run_op (push f.here.base b.arguments) s ≡ Some u → Steps P j (config (all fn.body ∷ call_items fn n x f.here k) (callee f n x b).here u) c
-          → Splits P T c p f.here k (suc j) (call_node q r' f.here.base n x b.arguments fn.parameters g) s
-      inside u o t = after u o (below.every (callee f n x b) (n + fn.parameters) r fn.body g n' r' d (call_items fn n x f.here k) u j
-          (record { loops = λ m z. absurd (none-some m z); backs = refl }) (length_push f.here.base b.arguments s u o ∙ rw (l, i) refl) less t)
+      inside : (u : State) → run_op (push spot.frame.here.base b.arguments) s ≡ Some u →
+          Steps P j (config (all fn.body ∷ call_items fn spot.live x spot.frame.here k) (callee spot.frame spot.live x b).here u) c
+          → Splits P T c p spot.frame.here k (suc j) (call_node spot.next r' spot.frame.here.base spot.live x b.arguments fn.parameters g) s
+      inside u o t = after u o (below.every (called spot x b fn.parameters r) fn.body g n' r' d (call_items fn spot.live x spot.frame.here k) u j
+          (record { loops = λ m z. absurd (none-some m z); backs = refl }) (length_push spot.frame.here.base b.arguments s u o ∙ rw (l, i) refl) less t)
 
-  splits_gives : (f : Frame) (n q r : ℕ) (x : Option ℕ) (a : Source) (g : Node) (q' : ℕ) (k : List Item) (s : State) (j : ℕ) (e : Config) → Gives P T f n q r x a g q' → length s.store ≡ n → j < fuel
-      → do_source P x a k f.here s ≡ Some e → Steps P j e c → Splits P T c p f.here k (suc j) g s
-  splits_gives _ _ _ _ _ _ _ _ k s j e (as_value f n q r x v) l less y rest = splits_act P T c p on q (give f.here.base x v) f.here k s j e y rest
-  splits_gives _ _ _ _ _ _ _ _ k s j e (as_result f n q r x b fn g' n' r' found i d has) l less y rest =
-      let y' : enter (Some fn) b x k f.here s ≡ Some e = subst (λ o. enter o b x k f.here s ≡ Some e) found y in
-      splits_call f n q r x b fn g' n' r' k s j e i d has l less y' rest
+  splits_gives : (spot : Spot) (r : ℕ) (x : Option ℕ) (a : Source) (g : Node) (q : ℕ) (k : List Item) (s : State) (j : ℕ) (e : Config) → Gives P T spot r x a g q → length s.store ≡ spot.live →
+      j < fuel
+      → do_source P x a k spot.frame.here s ≡ Some e → Steps P j e c → Splits P T c p spot.frame.here k (suc j) g s
+  splits_gives _ _ _ _ _ _ k s j e (as_value {s = spot} {x = x} {e = v}) l less y rest = splits_act P T c p on spot.next (give spot.frame.here.base x v) spot.frame.here k s j e y rest
+  splits_gives _ _ _ _ _ _ k s j e (as_result {s = spot} {r = r} {x = x} {c = b} {fn = fn} {g = g'} {n = n'} {q = r'} found i d has) l less y rest =
+      let y' : enter (Some fn) b x k spot.frame.here s ≡ Some e = subst (λ o. enter o b x k spot.frame.here s ≡ Some e) found y in
+      splits_call spot r x b fn g' n' r' k s j e i d has l less y' rest
 
-  splits_loop : (f : Frame) (n q r at : ℕ) (b : Cond) (a step : Stmt) (g h : Node) (r' q' : ℕ) → Has T q f n at
-      → Inl P T (in_loop f None) n r step h n r' → Inl P T (in_loop f (Some n)) n r' a g n q' → (k : List Item) (s : State) (count : ℕ) → Matches f k → length s.store ≡ n → count < suc fuel
-      → Steps P count (config (run (loop at b a step) ∷ k) f.here s) c → Splits P T c p f.here k count (loop_node q f.here.base b g h) s
-  splits_loop f n q r at b a step g h r' q' has d e k s zero m l less t =
-      hits (hit_there T c p f n q at false (run (loop at b a step)) k s (loop_node q f.here.base b g h) on has l refl (0, s, refl, inl (refl, refl)) (λ z. absurd z) t)
-  splits_loop f n q r at b a step g h r' q' has d e k s (suc j) m l less (next_one, y, rest) =
-      elim (go_by_some (run a ∷ turn step (loop at b a step) (length s.store) ∷ k) k f.here s.store (truth_of b f.here.base s.store s.draws) next_one y) [
-        | inl z ↦ round z.0 z.1 (subst (λ w. Steps P j (config (run a ∷ turn step (loop at b a step) w ∷ k) f.here z.0) c) l (rw z.2 rest))
+  splits_loop : (spot : Spot) (r at : ℕ) (b : Cond) (a step : Stmt) (g h : Node) (r' q' : ℕ) → Has T spot at
+      → Inl P T (within spot None r) step h r' → Inl P T (within spot (Some spot.live) r') a g q' → (k : List Item) (s : State) (count : ℕ) → Matches spot.frame k → length s.store ≡ spot.live →
+      count < suc fuel
+      → Steps P count (config (run (loop at b a step) ∷ k) spot.frame.here s) c → Splits P T c p spot.frame.here k count (loop_node spot.next spot.frame.here.base b g h) s
+  splits_loop spot r at b a step g h r' q' has d e k s zero m l less t =
+      hits (hit_there T c p spot at false (run (loop at b a step)) k s (loop_node spot.next spot.frame.here.base b g h) on has l refl (0, s, refl, inl (refl, refl)) (λ z. absurd z) t)
+  splits_loop spot r at b a step g h r' q' has d e k s (suc j) m l less (next_one, y, rest) =
+      elim (go_by_some (run a ∷ turn step (loop at b a step) (length s.store) ∷ k) k spot.frame.here s.store (truth_of b spot.frame.here.base s.store s.draws) next_one y) [
+        | inl z ↦ round z.0 z.1 (subst (λ w. Steps P j (config (run a ∷ turn step (loop at b a step) w ∷ k) spot.frame.here z.0) c) l (rw z.2 rest))
         | inr z ↦ ended j z.0 (omega arith) (inl (0, s, refl, z.1)) (rw z.2 rest)
       ]
     where
       -- the loop again, behind a whole round
-      again : (on' mid v : State) → run_op (test f.here.base b true) s ≡ Some on' → Ends g on' normal mid ⊎ Ends g on' (jump continued) mid → Ends h mid normal v → (i : ℕ) → i < j
-          → Steps P i (config (run (loop at b a step) ∷ k) f.here v) c → Splits P T c p f.here k (suc j) (loop_node q f.here.base b g h) s
-      again on' mid v o x x' i less' t = shift (below.loops f n q r (loop at b a step) (loop_node q f.here.base b g h) q' (is_loop f n q r at b a step g h r' q' has d e) k v i m long (omega arith) t)
+      again : (on' mid v : State) → run_op (test spot.frame.here.base b true) s ≡ Some on' → Ends g on' normal mid ⊎ Ends g on' (jump continued) mid → Ends h mid normal v → (i : ℕ) → i < j
+          → Steps P i (config (run (loop at b a step) ∷ k) spot.frame.here v) c → Splits P T c p spot.frame.here k (suc j) (loop_node spot.next spot.frame.here.base b g h) s
+      again on' mid v o x x' i less' t = shift (below.loops spot r (loop at b a step) (loop_node spot.next spot.frame.here.base b g h) q' (is_loop has d e) k v i m long (omega arith) t)
         where
-          whole : Round q f.here.base b g h s v
-          whole = round_join q f.here.base b g h s v (record { on = on'; mid = mid; tests = o; body = x; steps = x' })
+          whole : Round spot.next spot.frame.here.base b g h s v
+          whole = round_join spot.next spot.frame.here.base b g h s v (record { on = on'; mid = mid; tests = o; body = x; steps = x' })
 
-          long : length v.store ≡ n
-          long = (length_one d).ends mid v normal (mid_length f n g h (length_one e) (length_one d) on' mid (length_test f.here.base b true s on' o ∙ l) x) x'
+          long : length v.store ≡ spot.live
+          long = (length_one d).ends mid v normal (mid_length spot.frame spot.live g h (length_one e) (length_one d) on' mid (length_test spot.frame.here.base b true s on' o ∙ l) x) x'
 
-          shift : Splits P T c p f.here k i (loop_node q f.here.base b g h) v → Splits P T c p f.here k (suc j) (loop_node q f.here.base b g h) s
-          shift (hits y') = hits (hit_as T c p (loop_node q f.here.base b g h) (loop_node q f.here.base b g h) v s (λ w z. comes_first q f.here.base b g h s v w c.state whole z)
-              (λ w z. fails_first q f.here.base b g h s v w whole z) y')
-          shift (ended i' m' z e' t') = ended i' m' (omega arith) (loop_first q f.here.base b g h s v normal m' whole e') t'
-          shift (jumped i' kind m' d' z e' l' t') = jumped i' kind m' d' (omega arith) (loop_first q f.here.base b g h s v (jump kind) m' whole e') l' t'
+          shift : Splits P T c p spot.frame.here k i (loop_node spot.next spot.frame.here.base b g h) v → Splits P T c p spot.frame.here k (suc j) (loop_node spot.next spot.frame.here.base b g h) s
+          shift (hits y') = hits (hit_as T c p (loop_node spot.next spot.frame.here.base b g h) (loop_node spot.next spot.frame.here.base b g h) v s
+              (λ w z. comes_first spot.next spot.frame.here.base b g h s v w c.state whole z)
+              (λ w z. fails_first spot.next spot.frame.here.base b g h s v w whole z) y')
+          shift (ended i' m' z e' t') = ended i' m' (omega arith) (loop_first spot.next spot.frame.here.base b g h s v normal m' whole e') t'
+          shift (jumped i' kind m' d' z e' l' t') = jumped i' kind m' d' (omega arith) (loop_first spot.next spot.frame.here.base b g h s v (jump kind) m' whole e') l' t'
 
       -- the step, behind the body
-      stepping : (on' mid : State) → run_op (test f.here.base b true) s ≡ Some on' → Ends g on' normal mid ⊎ Ends g on' (jump continued) mid → (i : ℕ) → i < j
-          → Steps P i (config (turn step (loop at b a step) n ∷ k) f.here mid) c → Splits P T c p f.here k (suc j) (loop_node q f.here.base b g h) s
+      stepping : (on' mid : State) → run_op (test spot.frame.here.base b true) s ≡ Some on' → Ends g on' normal mid ⊎ Ends g on' (jump continued) mid → (i : ℕ) → i < j
+          → Steps P i (config (turn step (loop at b a step) spot.live ∷ k) spot.frame.here mid) c → Splits P T c p spot.frame.here k (suc j) (loop_node spot.next spot.frame.here.base b g h) s
       stepping on' mid o x i less' t =
-          let moved = past P T c p on (config (turn step (loop at b a step) n ∷ k) f.here mid) (config (run step ∷ run (loop at b a step) ∷ k) f.here mid) i refl refl t in
-          cases moved.0 (omega arith) (below.one (in_loop f None) n r step h n r' d (run (loop at b a step) ∷ k) mid moved.0 (record { loops = λ w z. absurd (none-some w z); backs = m.backs })
+          let moved = past P T c p on (config (turn step (loop at b a step) spot.live ∷ k) spot.frame.here mid) (config (run step ∷ run (loop at b a step) ∷ k) spot.frame.here mid) i refl refl t in
+          cases moved.0 (omega arith) (below.one (within spot None r) step h r' d (run (loop at b a step) ∷ k) mid moved.0 (record { loops = λ w z. absurd (none-some w z); backs = m.backs })
           long (omega arith) moved.2)
         where
-          long : length mid.store ≡ n
-          long = mid_length f n g h (length_one e) (length_one d) on' mid (length_test f.here.base b true s on' o ∙ l) x
+          long : length mid.store ≡ spot.live
+          long = mid_length spot.frame spot.live g h (length_one e) (length_one d) on' mid (length_test spot.frame.here.base b true s on' o ∙ l) x
 
-          no_jump : (kind : Exit) (v : State) → kind ≢ returned → LengthAt (in_loop f None) n (jump kind) v → ⊥
+          no_jump : (kind : Exit) (v : State) → kind ≢ returned → LengthAt (in_loop spot.frame None) spot.live (jump kind) v → ⊥
           no_jump broken v z w = none-some _ w.1
           no_jump continued v z w = none-some _ w.1
           no_jump returned v z w = z refl
 
-          cases : (i' : ℕ) → i' < j → Splits P T c p f.here (run (loop at b a step) ∷ k) i' h mid → Splits P T c p f.here k (suc j) (loop_node q f.here.base b g h) s
-          cases i' less'' (hits y') = hits (hit_as T c p h (loop_node q f.here.base b g h) mid s (λ w z. (0, s, refl, inr (on', o, inr (mid, x, z)))) (λ w z. (0, s, refl, on', o, inr (mid, x, z))) y')
+          cases : (i' : ℕ) → i' < j → Splits P T c p spot.frame.here (run (loop at b a step) ∷ k) i' h mid → Splits P T c p spot.frame.here k (suc j) (loop_node spot.next spot.frame.here.base b g h) s
+          cases i' less'' (hits y') = hits (hit_as T c p h (loop_node spot.next spot.frame.here.base b g h) mid s (λ w z. (0, s, refl, inr (on', o, inr (mid, x, z))))
+              (λ w z. (0, s, refl, on', o, inr (mid, x, z))) y')
           cases i' less'' (ended i'' v z e' t') = again on' mid v o x e' i'' (omega arith) t'
           cases i' less'' (jumped i'' broken v d' z e' l' t') = absurd (none-some _ ((length_one d).ends mid v (jump broken) long e').1)
           cases i' less'' (jumped i'' continued v d' z e' l' t') = absurd (none-some _ ((length_one d).ends mid v (jump continued) long e').1)
           cases i' less'' (jumped i'' returned v d' z e' l' t') = jumped i'' returned v d' (omega arith)
-              (loop_join q f.here.base b g h s (jump returned) v (0, s, refl, inr (on', returned, o, inr (mid, x, e'), inr (returned_broken, refl)))) l' t'
+              (loop_join spot.next spot.frame.here.base b g h s (jump returned) v (0, s, refl, inr (on', returned, o, inr (mid, x, e'), inr (returned_broken, refl)))) l' t'
 
-      round : (on' : State) → run_op (test f.here.base b true) s ≡ Some on' → Steps P j (config (run a ∷ turn step (loop at b a step) n ∷ k) f.here on') c
-          → Splits P T c p f.here k (suc j) (loop_node q f.here.base b g h) s
-      round on' o t = cases (below.one (in_loop f (Some n)) n r' a g n q' e (turn step (loop at b a step) n ∷ k) on' j (record { loops = λ w z. z; backs = m.backs })
-          (length_test f.here.base b true s on' o ∙ l) (omega arith) t)
+      round : (on' : State) → run_op (test spot.frame.here.base b true) s ≡ Some on' → Steps P j (config (run a ∷ turn step (loop at b a step) spot.live ∷ k) spot.frame.here on') c
+          → Splits P T c p spot.frame.here k (suc j) (loop_node spot.next spot.frame.here.base b g h) s
+      round on' o t = cases (below.one (within spot (Some spot.live) r') a g q' e (turn step (loop at b a step) spot.live ∷ k) on' j (record { loops = λ w z. z; backs = m.backs })
+          (length_test spot.frame.here.base b true s on' o ∙ l) (omega arith) t)
         where
-          cases : Splits P T c p f.here (turn step (loop at b a step) n ∷ k) j g on' → Splits P T c p f.here k (suc j) (loop_node q f.here.base b g h) s
-          cases (hits y') = hits (hit_as T c p g (loop_node q f.here.base b g h) on' s (λ w z. (0, s, refl, inr (on', o, inl z))) (λ w z. (0, s, refl, on', o, inl z)) y')
+          cases : Splits P T c p spot.frame.here (turn step (loop at b a step) spot.live ∷ k) j g on' → Splits P T c p spot.frame.here k (suc j) (loop_node spot.next spot.frame.here.base b g h) s
+          cases (hits y') = hits (hit_as T c p g (loop_node spot.next spot.frame.here.base b g h) on' s (λ w z. (0, s, refl, inr (on', o, inl z))) (λ w z. (0, s, refl, on', o, inl z)) y')
           cases (ended i m' z x t') = stepping on' m' o (inl x) i z t'
           cases (jumped i broken m' d' z x l' t') = ended i m' (omega arith)
-              (loop_join q f.here.base b g h s normal m' (0, s, refl, inr (on', broken, o, inl (broken_continued, x), inl (refl, refl)))) (rw (same_Some (config k f.here m') d' l') t')
-          cases (jumped i continued m' d' z x l' t') = stepping on' m' o (inr x) i z (rw (same_Some (config (turn step (loop at b a step) n ∷ k) f.here m') d' l') t')
+              (loop_join spot.next spot.frame.here.base b g h s normal m' (0, s, refl, inr (on', broken, o, inl (broken_continued, x), inl (refl, refl))))
+              (rw (same_Some (config k spot.frame.here m') d' l') t')
+          cases (jumped i continued m' d' z x l' t') = stepping on' m' o (inr x) i z (rw (same_Some (config (turn step (loop at b a step) spot.live ∷ k) spot.frame.here m') d' l') t')
           cases (jumped i returned m' d' z x l' t') = jumped i returned m' d' (omega arith)
-              (loop_join q f.here.base b g h s (jump returned) m' (0, s, refl, inr (on', returned, o, inl (returned_continued, x), inr (returned_broken, refl)))) l' t'
+              (loop_join spot.next spot.frame.here.base b g h s (jump returned) m' (0, s, refl, inr (on', returned, o, inl (returned_continued, x), inr (returned_broken, refl)))) l' t'
 
   abbrev Cut : Here → List Item → ℕ → Node → State → Type 0
   Cut h k n g s = Splits P T c p h k n g s
@@ -254,10 +268,10 @@ module _ (P : Program) (T : List Site) (c : Config) (p : ℕ) (on : label_on c.i
   skip_one h i k e e' j m = land_skip j h i k m e e'
 
   -- a block's end
-  end_tail : (f : Frame) (n n' q at : ℕ) (k : List Item) (s : State) (count : ℕ) → Has T q f n' at → length s.store ≡ n' → Steps P count (config (end_of at n ∷ k) f.here s) c
-      → Cut f.here k count (seq (point q) (act q (keep n))) s
-  end_tail f n n' q at k s zero has l t = hits (hit_there T c p f n' q at false (end_of at n) k s (seq (point q) (act q (keep n))) on has l refl (inl (refl, refl)) (λ z. absurd z) t)
-  end_tail f n n' q at k s (suc j) has l (e, y, t) = let x = go_some k f.here (run_op (keep n) s) e y in ended j x.0 (omega arith) (s, refl, x.1) (rw x.2 t)
+  end_tail : (spot : Spot) (n at : ℕ) (k : List Item) (s : State) (count : ℕ) → Has T spot at → length s.store ≡ spot.live → Steps P count (config (end_of at n ∷ k) spot.frame.here s) c
+      → Cut spot.frame.here k count (seq (point spot.next) (act spot.next (keep n))) s
+  end_tail spot n at k s zero has l t = hits (hit_there T c p spot at false (end_of at n) k s (seq (point spot.next) (act spot.next (keep n))) on has l refl (inl (refl, refl)) (λ z. absurd z) t)
+  end_tail spot n at k s (suc j) has l (e, y, t) = let x = go_some k spot.frame.here (run_op (keep n) s) e y in ended j x.0 (omega arith) (s, refl, x.1) (rw x.2 t)
 
   -- the end of a `for`
   cut_tail : (h : Here) (n q : ℕ) (k : List Item) (s : State) (count : ℕ) → Steps P count (config (cut n ∷ k) h s) c → Cut h k count (act q (keep n)) s
@@ -334,146 +348,173 @@ module _ (P : Program) (T : List Site) (c : Config) (p : ℕ) (on : label_on c.i
       → (j : Exit) (m : State) → land j h (i ∷ i' ∷ k) m ≡ land j h k m
   land_two h i i' k a b d e j m = land_skip j h i (i' ∷ k) m a b ∙ land_skip j h i' k m d e
 
-  splits_for : (f : Frame) (n q : ℕ) (at : ℕ) (init : BlockItems) (b : Cond) (a step : Stmt) (g h : Node) (n' r q' : ℕ) → InlAll P T f n (suc q) init g n' r →
-      Loops P T f n' q r (loop at b a step) h q'
+  splits_for : (spot : Spot) (at : ℕ) (init : BlockItems) (b : Cond) (a step : Stmt) (g h : Node) (n' r q' : ℕ) → InlAll P T (at_point spot (suc spot.next)) init g n' r →
+      Loops P T (move spot n' spot.next) r (loop at b a step) h q'
       → (k : List Item) (s : State) (count : ℕ)
-      → Matches f k → length s.store ≡ n → count < fuel → Steps P count (config (all init ∷ run (loop at b a step) ∷ cut n ∷ k) f.here s) c → Cut f.here k count (seq g (seq h (act q (keep n)))) s
-  splits_for f n q at init b a step g h n' r q' d e k s count m l less t =
-      splits_seq P T c p on f.here k (run (loop at b a step) ∷ cut n ∷ k) count g (seq h (act q (keep n))) s (land_two f.here (run (loop at b a step)) (cut n) k refl refl refl refl)
-      (below.every f n (suc q) init g n' r d (run (loop at b a step) ∷ cut n ∷ k) s count
-      (matches_skip f (run (loop at b a step)) (cut n ∷ k) refl refl (matches_skip f (cut n) k refl refl m)) l less t)
-      (λ j u i z w. splits_seq P T c p on f.here k (cut n ∷ k) j h (act q (keep n)) u (skip_one f.here (cut n) k refl refl)
-      (below.loops f n' q r (loop at b a step) h q' e (cut n ∷ k) u j (matches_skip f (cut n) k refl refl m) ((length_all d).ends s u normal l z) (omega arith) w)
-      (λ j' u' i' z' w'. cut_tail f.here n q k u' j' w'))
+      → Matches spot.frame k → length s.store ≡ spot.live → count < fuel → Steps P count (config (all init ∷ run (loop at b a step) ∷ cut spot.live ∷ k) spot.frame.here s) c →
+      Cut spot.frame.here k count (seq g (seq h (act spot.next (keep spot.live)))) s
+  splits_for spot at init b a step g h n' r q' d e k s count m l less t =
+      splits_seq P T c p on spot.frame.here k (run (loop at b a step) ∷ cut spot.live ∷ k) count g (seq h (act spot.next (keep spot.live))) s
+      (land_two spot.frame.here (run (loop at b a step)) (cut spot.live) k refl refl refl refl)
+      (below.every (at_point spot (suc spot.next)) init g n' r d (run (loop at b a step) ∷ cut spot.live ∷ k) s count
+      (matches_skip spot.frame (run (loop at b a step)) (cut spot.live ∷ k) refl refl (matches_skip spot.frame (cut spot.live) k refl refl m)) l less t)
+      (λ j u i z w. splits_seq P T c p on spot.frame.here k (cut spot.live ∷ k) j h (act spot.next (keep spot.live)) u (skip_one spot.frame.here (cut spot.live) k refl refl)
+      (below.loops (move spot n' spot.next) r (loop at b a step) h q' e (cut spot.live ∷ k) u j (matches_skip spot.frame (cut spot.live) k refl refl m) ((length_all d).ends s u normal l z)
+      (omega arith) w)
+      (λ j' u' i' z' w'. cut_tail spot.frame.here spot.live spot.next k u' j' w'))
 
   -- nothing follows in `main`
   end_tail_of : (f : Frame) (k : List Item) (s : State) (count : ℕ) (g : Node) → to_mark k ≡ None → Steps P count (config (leave_call ∷ k) f.here s) c → Cut f.here k count g s
   end_tail_of f k s zero g i t = absurd (not_there c _ p on refl t)
   end_tail_of f k s (suc j) g i (e, y, t) = absurd (none-some e (subst (λ o. do_leave o (Some s) ≡ Some e) i y))
 
-  of_loop : (f : Frame) (n q r : ℕ) (a : Stmt) (g : Node) (q' : ℕ) → Loops P T f n q r a g q' → (k : List Item) (s : State) (count : ℕ) → Matches f k → length s.store ≡ n → count < suc fuel
-      → Steps P count (config (run a ∷ k) f.here s) c → Cut f.here k count g s
-  of_loop _ _ _ _ _ _ _ (is_loop f n q r at b a step g h r' q' i d e) k s count m l less t = splits_loop f n q r at b a step g h r' q' i d e k s count m l less t
+  of_loop : (spot : Spot) (r : ℕ) (a : Stmt) (g : Node) (q : ℕ) → Loops P T spot r a g q → (k : List Item) (s : State) (count : ℕ) → Matches spot.frame k → length s.store ≡ spot.live →
+      count < suc fuel
+      → Steps P count (config (run a ∷ k) spot.frame.here s) c → Cut spot.frame.here k count g s
+  of_loop _ _ _ _ _ (is_loop {s = spot} {r = r} {at = at} {c = b} {a = a} {step = step} {g = g} {h = h} {m = r'} {q = q'} i d e) k s count m l less t =
+      splits_loop spot r at b a step g h r' q' i d e k s count m l less t
 
   -- a declarator: the point, the new variable, and what it gets
-  splits_declare : (f : Frame) (n q : ℕ) (d : Declarator) (g : Node) (q' : ℕ) → Has T q f n d.label → Declares P T f n q (suc q) d.source g q' → (k : List Item) (s : State) (count : ℕ)
-      → length s.store ≡ n → count < suc fuel
-      → Steps P count (config (declare d ∷ k) f.here s) c → Cut f.here k count (seq (point q) g) s
-  splits_declare f n q d g q' i x k s count l less t = splits_point P T c p on f n q d.label false (declare d) g k s count i l refl (λ z. absurd z) t
-      (λ j e j' y w. splits_more P T c p on f.here k (suc j) count g s (omega arith) (by_source f n q (suc q) d.source g q' x k s j e l (omega arith) y w))
+  splits_declare : (spot : Spot) (d : Declarator) (g : Node) (q' : ℕ) → Has T spot d.label → Declares P T spot (suc spot.next) d.source g q' → (k : List Item) (s : State) (count : ℕ)
+      → length s.store ≡ spot.live → count < suc fuel
+      → Steps P count (config (declare d ∷ k) spot.frame.here s) c → Cut spot.frame.here k count (seq (point spot.next) g) s
+  splits_declare spot d g q' i x k s count l less t = splits_point P T c p on spot d.label false (declare d) g k s count i l refl (λ z. absurd z) t
+      (λ j e j' y w. splits_more P T c p on spot.frame.here k (suc j) count g s (omega arith) (by_source spot (suc spot.next) d.source g q' x k s j e l (omega arith) y w))
     where
-      by_source : (f : Frame) (n q r : ℕ) (o : Option Source) (g : Node) (q' : ℕ) → Declares P T f n q r o g q' → (k : List Item) (s : State) (j : ℕ) (e : Config) → length s.store ≡ n → j < fuel
-          → do_declare P o k f.here s ≡ Some e → Steps P j e c → Cut f.here k (suc j) g s
-      by_source _ _ _ _ _ _ _ (as_fresh f n q r) k s j e l less y w = splits_act P T c p on q append f.here k s j e y w
-      by_source _ _ _ _ _ _ _ (as_given f n q r b g q' d) k s j e l less y w =
-          let x = go_on_some (run_op append s) (do_source P (Some (length s.store)) b k f.here) e y in
-          let y' : do_source P (Some n) b k f.here x.0 ≡ Some e = subst (λ v. do_source P (Some v) b k f.here x.0 ≡ Some e) l x.2 in
-          after_act q append g f.here k (suc j) s x.0 x.1
-          (splits_gives f (suc n) q r (Some n) b g q' k x.0 j e d (length_append s x.0 x.1 ∙ ap suc l) less y' w)
+      by_source : (spot : Spot) (r : ℕ) (o : Option Source) (g : Node) (q' : ℕ) → Declares P T spot r o g q' → (k : List Item) (s : State) (j : ℕ) (e : Config) → length s.store ≡ spot.live → j < fuel
+          → do_declare P o k spot.frame.here s ≡ Some e → Steps P j e c → Cut spot.frame.here k (suc j) g s
+      by_source _ _ _ _ _ (as_fresh {s = spot}) k s j e l less y w = splits_act P T c p on spot.next append spot.frame.here k s j e y w
+      by_source _ _ _ _ _ (as_given {s = spot} {r = r} {e = b} {g = g} {q = q'} d) k s j e l less y w =
+          let x = go_on_some (run_op append s) (do_source P (Some (length s.store)) b k spot.frame.here) e y in
+          let y' : do_source P (Some spot.live) b k spot.frame.here x.0 ≡ Some e = subst (λ v. do_source P (Some v) b k spot.frame.here x.0 ≡ Some e) l x.2 in
+          after_act spot.next append g spot.frame.here k (suc j) s x.0 x.1
+          (splits_gives (move spot (suc spot.live) spot.next) r (Some spot.live) b g q' k x.0 j e d (length_append s x.0 x.1 ∙ ap suc l) less y' w)
 
-  splits_every : (f : Frame) (n q : ℕ) (a : BlockItems) (g : Node) (n' q' : ℕ) → InlAll P T f n q a g n' q' → (k : List Item) (s : State) (count : ℕ) → Matches f k → length s.store ≡ n
+  splits_every : (spot : Spot) (a : BlockItems) (g : Node) (n q : ℕ) → InlAll P T spot a g n q → (k : List Item) (s : State) (count : ℕ) → Matches spot.frame k → length s.store ≡ spot.live
       → count < suc fuel
-      → Steps P count (config (all a ∷ k) f.here s) c → Cut f.here k count g s
-  splits_every _ _ _ _ _ _ _ (as_none f n q) k s count m l less t =
-      let x = past P T c p on (config (all no_more ∷ k) f.here s) (config k f.here s) count refl refl t in
+      → Steps P count (config (all a ∷ k) spot.frame.here s) c → Cut spot.frame.here k count g s
+  splits_every _ _ _ _ _ (as_none {s = spot}) k s count m l less t =
+      let x = past P T c p on (config (all no_more ∷ k) spot.frame.here s) (config k spot.frame.here s) count refl refl t in
       ended x.0 s (omega arith) refl x.2
-  splits_every _ _ _ _ _ _ _ (as_declaration f n q a b g h r n' q' i d e) k s count m l less t =
-      let x = past P T c p on (config (all (declaration a b) ∷ k) f.here s) (config (declare a ∷ all b ∷ k) f.here s) count refl refl t in
+  splits_every _ _ _ _ _ (as_declaration {s = spot} {d = a} {b = b} {g = g} {h = h} {r = r} {n = n'} {q = q'} i d e) k s count m l less t =
+      let x = past P T c p on (config (all (declaration a b) ∷ k) spot.frame.here s) (config (declare a ∷ all b ∷ k) spot.frame.here s) count refl refl t in
       let few : x.0 < count = omega arith in
-      splits_more P T c p on f.here k x.0 count (seq (seq (point q) g) h) s (omega arith)
-      (splits_seq P T c p on f.here k (all b ∷ k) x.0 (seq (point q) g) h s (skip_one f.here (all b) k refl refl)
-      (splits_declare f n q a g r i d (all b ∷ k) s x.0 l (omega arith) x.2)
-      (λ j u less' z w. below.every f (suc n) r b h n' q' e k u j m ((length_declarator q d).ends s u normal l z) (omega arith) w))
-  splits_every _ _ _ _ _ _ _ (as_statement f n q a b g h r n' q' d e) k s count m l less t =
-      let x = past P T c p on (config (all (statement a b) ∷ k) f.here s) (config (run a ∷ all b ∷ k) f.here s) count refl refl t in
+      splits_more P T c p on spot.frame.here k x.0 count (seq (seq (point spot.next) g) h) s (omega arith)
+      (splits_seq P T c p on spot.frame.here k (all b ∷ k) x.0 (seq (point spot.next) g) h s (skip_one spot.frame.here (all b) k refl refl)
+      (splits_declare spot a g r i d (all b ∷ k) s x.0 l (omega arith) x.2)
+      (λ j u less' z w. below.every (move spot (suc spot.live) r) b h n' q' e k u j m ((length_declarator d).ends s u normal l z) (omega arith) w))
+  splits_every _ _ _ _ _ (as_statement {s = spot} {a = a} {b = b} {g = g} {h = h} {r = r} {n = n'} {q = q'} d e) k s count m l less t =
+      let x = past P T c p on (config (all (statement a b) ∷ k) spot.frame.here s) (config (run a ∷ all b ∷ k) spot.frame.here s) count refl refl t in
       let few : x.0 < count = omega arith in
-      splits_more P T c p on f.here k x.0 count (seq g h) s (omega arith)
-      (splits_seq P T c p on f.here k (all b ∷ k) x.0 g h s (skip_one f.here (all b) k refl refl)
-      (below.one f n q a g n r d (all b ∷ k) s x.0 (matches_skip f (all b) k refl refl m) l (omega arith) x.2)
-      (λ j u i z w. below.every f n r b h n' q' e k u j m ((length_one d).ends s u normal l z) (omega arith) w))
+      splits_more P T c p on spot.frame.here k x.0 count (seq g h) s (omega arith)
+      (splits_seq P T c p on spot.frame.here k (all b ∷ k) x.0 g h s (skip_one spot.frame.here (all b) k refl refl)
+      (below.one spot a g r d (all b ∷ k) s x.0 (matches_skip spot.frame (all b) k refl refl m) l (omega arith) x.2)
+      (λ j u i z w. below.every (at_point spot r) b h n' q' e k u j m ((length_one d).ends s u normal l z) (omega arith) w))
 
-  splits_one : (f : Frame) (n q : ℕ) (a : Stmt) (g : Node) (n' q' : ℕ) → Inl P T f n q a g n' q' → (k : List Item) (s : State) (count : ℕ) → Matches f k → length s.store ≡ n → count < suc fuel
-      → Steps P count (config (run a ∷ k) f.here s) c → Cut f.here k count g s
-  splits_one _ _ _ _ _ _ _ (as_nothing f n q at i) k s zero m l less t = hits (hit_there T c p f n q at false (run (nothing at)) k s (point q) on i l refl (refl, refl) (λ z. absurd z) t)
-  splits_one _ _ _ _ _ _ _ (as_nothing f n q at i) k s (suc j) m l less (e, y, t) = ended j s (omega arith) refl (rw (same_Some (config k f.here s) e y) t)
-  splits_one _ _ _ _ _ _ _ (as_block f n q body end g n' q' d i) k s count m l less t =
-      let x = past P T c p on (config (run (block body end) ∷ k) f.here s) (config (all body ∷ end_of end (length s.store) ∷ k) f.here s) count refl refl t in
+  splits_one : (spot : Spot) (a : Stmt) (g : Node) (q : ℕ) → Inl P T spot a g q → (k : List Item) (s : State) (count : ℕ) → Matches spot.frame k → length s.store ≡ spot.live → count < suc fuel
+      → Steps P count (config (run a ∷ k) spot.frame.here s) c → Cut spot.frame.here k count g s
+  splits_one _ _ _ _ (as_nothing {s = spot} {at = at} i) k s zero m l less t = hits (hit_there T c p spot at false (run (nothing at)) k s (point spot.next) on i l refl (refl, refl) (λ z. absurd z) t)
+  splits_one _ _ _ _ (as_nothing {s = spot} i) k s (suc j) m l less (e, y, t) = ended j s (omega arith) refl (rw (same_Some (config k spot.frame.here s) e y) t)
+  splits_one _ _ _ _ (as_block {s = spot} {body = body} {end = end} {g = g} {n = n'} {q = q'} d i) k s count m l less t =
+      let x = past P T c p on (config (run (block body end) ∷ k) spot.frame.here s) (config (all body ∷ end_of end (length s.store) ∷ k) spot.frame.here s) count refl refl t in
       let few : x.0 < count = omega arith in
-      splits_more P T c p on f.here k x.0 count (seq g (seq (point q') (act q' (keep n)))) s (omega arith)
-      (splits_seq P T c p on f.here k (end_of end n ∷ k) x.0 g (seq (point q') (act q' (keep n))) s (skip_one f.here (end_of end n) k refl refl)
-      (below.every f n q body g n' q' d (end_of end n ∷ k) s x.0 (matches_skip f (end_of end n) k refl refl m) l (omega arith)
-      (subst (λ w. Steps P x.0 (config (all body ∷ end_of end w ∷ k) f.here s) c) l x.2))
-      (λ j u z a b. end_tail f n n' q' end k u j i ((length_all d).ends s u normal l a) b))
-  splits_one _ _ _ _ _ _ _ (as_absent f n q) k s count m l less t =
-      let x = past P T c p on (config (run absent ∷ k) f.here s) (config k f.here s) count refl refl t in
+      splits_more P T c p on spot.frame.here k x.0 count (seq g (seq (point q') (act q' (keep spot.live)))) s (omega arith)
+      (splits_seq P T c p on spot.frame.here k (end_of end spot.live ∷ k) x.0 g (seq (point q') (act q' (keep spot.live))) s (skip_one spot.frame.here (end_of end spot.live) k refl refl)
+      (below.every spot body g n' q' d (end_of end spot.live ∷ k) s x.0 (matches_skip spot.frame (end_of end spot.live) k refl refl m) l (omega arith)
+      (subst (λ w. Steps P x.0 (config (all body ∷ end_of end w ∷ k) spot.frame.here s) c) l x.2))
+      (λ j u z a b. end_tail (move spot n' q') spot.live end k u j i ((length_all d).ends s u normal l a) b))
+  splits_one _ _ _ _ (as_absent {s = spot}) k s count m l less t =
+      let x = past P T c p on (config (run absent ∷ k) spot.frame.here s) (config k spot.frame.here s) count refl refl t in
       ended x.0 s (omega arith) refl x.2
-  splits_one _ _ _ _ _ _ _ (as_assign f n q at x b g q' i d) k s count m l less t = splits_point P T c p on f n q at false (run (assign at x b)) g k s count i l refl (λ z. absurd z) t
-      (λ j e j' y w. splits_more P T c p on f.here k (suc j) count g s (omega arith) (splits_gives f n q (suc q) (Some (index_of f.here.base x)) b g q' k s j e d l (omega arith) y w))
-  splits_one _ _ _ _ _ _ _ (as_call f n q at b g q' i d) k s count m l less t = splits_point P T c p on f n q at false (run (call at b)) g k s count i l refl (λ z. absurd z) t
-      (λ j e j' y w. splits_more P T c p on f.here k (suc j) count g s (omega arith) (splits_gives f n q (suc q) None (result b) g q' k s j e d l (omega arith) y w))
-  splits_one _ _ _ _ _ _ _ (as_if f n q at b a a' g h r q' i d d') k s count m l less t = splits_point P T c p on f n q at false (run (if at b a a')) (choose q f.here.base b g h) k s count i l
+  splits_one _ _ _ _ (as_assign {s = spot} {at = at} {x = x} {e = b} {g = g} {q = q'} i d) k s count m l less t =
+      splits_point P T c p on spot at false (run (assign at x b)) g k s count i l refl (λ z. absurd z) t
+      (λ j e j' y w. splits_more P T c p on spot.frame.here k (suc j) count g s (omega arith)
+      (splits_gives spot (suc spot.next) (Some (index_of spot.frame.here.base x)) b g q' k s j e d l (omega arith) y w))
+  splits_one _ _ _ _ (as_call {s = spot} {at = at} {c = b} {g = g} {q = q'} i d) k s count m l less t = splits_point P T c p on spot at false (run (call at b)) g k s count i l refl (λ z. absurd z) t
+      (λ j e j' y w. splits_more P T c p on spot.frame.here k (suc j) count g s (omega arith) (splits_gives spot (suc spot.next) None (result b) g q' k s j e d l (omega arith) y w))
+  splits_one _ _ _ _ (as_if {s = spot} {at = at} {c = b} {a = a} {b = a'} {g = g} {h = h} {r = r} {q = q'} i d d') k s count m l less t =
+      splits_point P T c p on spot at false (run (if at b a a')) (choose spot.next spot.frame.here.base b g h) k s count i l
       refl (λ z. absurd z) t
-      (λ j e j' y w. elim (go_by_some (run a ∷ k) (run a' ∷ k) f.here s.store (truth_of b f.here.base s.store s.draws) e y) as (λ z. Cut f.here k count (choose q f.here.base b g h) s) [
-        | inl z ↦ splits_more P T c p on f.here k j count (choose q f.here.base b g h) s (omega arith) (choose_on q f.here.base b g h f.here k j s z.0 z.1
-            (below.one f n (suc q) a g n r d k z.0 j m (length_test f.here.base b true s z.0 z.1 ∙ l) (omega arith) (rw z.2 w)))
-        | inr z ↦ splits_more P T c p on f.here k j count (choose q f.here.base b g h) s (omega arith) (choose_off q f.here.base b g h f.here k j s z.0 z.1
-            (below.one f n r a' h n q' d' k z.0 j m (length_test f.here.base b false s z.0 z.1 ∙ l) (omega arith) (rw z.2 w)))
+      (λ j e j' y w. elim (go_by_some (run a ∷ k) (run a' ∷ k) spot.frame.here s.store (truth_of b spot.frame.here.base s.store s.draws) e y) as
+      (λ z. Cut spot.frame.here k count (choose spot.next spot.frame.here.base b g h) s) [
+        | inl z ↦ splits_more P T c p on spot.frame.here k j count (choose spot.next spot.frame.here.base b g h) s (omega arith)
+            (choose_on spot.next spot.frame.here.base b g h spot.frame.here k j s z.0 z.1
+            (below.one (at_point spot (suc spot.next)) a g r d k z.0 j m (length_test spot.frame.here.base b true s z.0 z.1 ∙ l) (omega arith) (rw z.2 w)))
+        | inr z ↦ splits_more P T c p on spot.frame.here k j count (choose spot.next spot.frame.here.base b g h) s (omega arith)
+            (choose_off spot.next spot.frame.here.base b g h spot.frame.here k j s z.0 z.1
+            (below.one (at_point spot r) a' h q' d' k z.0 j m (length_test spot.frame.here.base b false s z.0 z.1 ∙ l) (omega arith) (rw z.2 w)))
       ])
-  splits_one _ _ _ _ _ _ _ (as_loop f n q a g q' d) k s count m l less t = of_loop f n q (suc q) a g q' d k s count m l less t
-  splits_one _ _ _ _ _ _ _ (as_for f n q at init b a step g h n' r q' d e) k s count m l less t =
-      let x = past P T c p on (config (run (for at init b a step) ∷ k) f.here s) (config (all init ∷ run (loop at b a step) ∷ cut (length s.store) ∷ k) f.here s) count refl refl t in
-      splits_more P T c p on f.here k x.0 count (seq g (seq h (act q (keep n)))) s (omega arith)
-      (splits_for f n q at init b a step g h n' r q' d e k s x.0 m l (omega arith) (subst (λ w. Steps P x.0 (config (all init ∷ run (loop at b a step) ∷ cut w ∷ k) f.here s) c) l x.2))
-  splits_one _ _ _ _ _ _ _ (as_break f n q at b i i' has) k s count m l less t = splits_point P T c p on f n q at false (run (break at)) (seq (act q (keep b)) (leave n broken)) k s count has l
+  splits_one _ _ _ _ (as_loop {s = spot} {a = a} {g = g} {q = q'} d) k s count m l less t = of_loop spot (suc spot.next) a g q' d k s count m l less t
+  splits_one _ _ _ _ (as_for {s = spot} {at = at} {init = init} {c = b} {a = a} {step = step} {g = g} {h = h} {n = n'} {r = r} {q = q'} d e) k s count m l less t =
+      let x = past P T c p on (config (run (for at init b a step) ∷ k) spot.frame.here s) (config (all init ∷ run (loop at b a step) ∷ cut (length s.store) ∷ k) spot.frame.here s) count refl refl t in
+      splits_more P T c p on spot.frame.here k x.0 count (seq g (seq h (act spot.next (keep spot.live)))) s (omega arith)
+      (splits_for spot at init b a step g h n' r q' d e k s x.0 m l (omega arith) (subst (λ w. Steps P x.0 (config (all init ∷ run (loop at b a step) ∷ cut w ∷ k) spot.frame.here s) c) l x.2))
+  splits_one _ _ _ _ (as_break {s = spot} {at = at} {m = b} i i' has) k s count m l less t =
+      splits_point P T c p on spot at false (run (break at)) (seq (act spot.next (keep b)) (leave spot.live broken)) k s count has l
       refl (λ z. absurd z) t
-      (λ j e j' y w. splits_more P T c p on f.here k (suc j) count (seq (act q (keep b)) (leave n broken)) s (omega arith) (splits_break f q b n k s j e i m y w))
-  splits_one _ _ _ _ _ _ _ (as_continue f n q at b i i' has) k s count m l less t = splits_point P T c p on f n q at false (run (continue at)) (seq (act q (keep b)) (leave n continued)) k s
+      (λ j e j' y w. splits_more P T c p on spot.frame.here k (suc j) count (seq (act spot.next (keep b)) (leave spot.live broken)) s (omega arith)
+      (splits_break spot.frame spot.next b spot.live k s j e i m y w))
+  splits_one _ _ _ _ (as_continue {s = spot} {at = at} {m = b} i i' has) k s count m l less t =
+      splits_point P T c p on spot at false (run (continue at)) (seq (act spot.next (keep b)) (leave spot.live continued)) k s
       count has l refl (λ z. absurd z) t
-      (λ j e j' y w. splits_more P T c p on f.here k (suc j) count (seq (act q (keep b)) (leave n continued)) s (omega arith) (splits_continue f q b n k s j e i m y w))
-  splits_one _ _ _ _ _ _ _ (as_return f n q at b i i' has) k s count m l less t = splits_point P T c p on f n q at false (run (return at None)) (return_node q (give_any b.target) b.length n) k s
-      count has l refl (λ z. absurd z) t
-      (λ j e j' y w.
-      let y' : do_leave (to_mark k) (run_any b.target s) ≡ Some e = subst (λ v. do_leave (to_mark k) (run_any v s) ≡ Some e) (target_is f k b i m) y in
-      splits_more P T c p on f.here k (suc j) count (return_node q (give_any b.target) b.length n) s (omega arith) (splits_return f q n (give_any b.target) b k s j e i m y' w))
-  splits_one _ _ _ _ _ _ _ (as_return_value f n q at v b i i' has) k s count m l less t = splits_point P T c p on f n q at false (run (return at (Some (value v))))
-      (return_node q (give f.here.base b.target v) b.length n) k s count has l refl (λ z. absurd z) t
-      (λ j e j' y w.
-      let y' : do_leave (to_mark k) (run_op (give f.here.base b.target v) s) ≡ Some e = subst (λ x. do_leave (to_mark k) (run_op (give f.here.base x v) s) ≡ Some e) (target_is f k b i m) y in
-      splits_more P T c p on f.here k (suc j) count (return_node q (give f.here.base b.target v) b.length n) s (omega arith) (splits_return f q n (give f.here.base b.target v) b k s j e i m y' w))
-  splits_one _ _ _ _ _ _ _ (as_return_call f n q at v b g q' i i' has d) k s count m l less t = splits_point P T c p on f n q at false (run (return at (Some (result v))))
-      (seq g (seq (act q (keep b.length)) (leave n returned))) k s count has l refl (λ z. absurd z) t
-      (λ j e j' y w.
-      let y' : do_source P b.target (result v) (leave_call ∷ k) f.here s ≡ Some e = subst (λ x. do_source P x (result v) (leave_call ∷ k) f.here s ≡ Some e) (target_is f k b i m) y in
-      splits_more P T c p on f.here k (suc j) count (seq g (seq (act q (keep b.length)) (leave n returned))) s (omega arith)
-      (splits_seq P T c p on f.here k (leave_call ∷ k) (suc j) g (seq (act q (keep b.length)) (leave n returned)) s (skip_one f.here leave_call k refl refl)
-      (splits_gives f n q (suc q) b.target (result v) g q' (leave_call ∷ k) s j e d l (omega arith) y' w)
-      (λ j'' u z a b'. leave_tail f q n b k u j'' i m b')))
-  splits_one _ _ _ _ _ _ _ (as_end f n q at i has) k s count m l less t = splits_point P T c p on f n q at false (run (return at None)) (leave n returned) k s count has l refl (λ z. absurd z) t
-      (λ j e j' y w. absurd (none-some e (subst (λ o. do_leave o (run_any (target_of o) s) ≡ Some e) (no_mark f k i m) y)))
-  splits_one _ _ _ _ _ _ _ (as_end_value f n q at v i has) k s count m l less t = splits_point P T c p on f n q at false (run (return at (Some (value v)))) (leave n returned) k s count has l
-      refl (λ z. absurd z) t
-      (λ j e j' y w. absurd (none-some e (subst (λ o. do_leave o (run_op (give f.here.base (target_of o) v) s) ≡ Some e) (no_mark f k i m) y)))
-  splits_one _ _ _ _ _ _ _ (as_end_call f n q at v g q' i has d) k s count m l less t = splits_point P T c p on f n q at false (run (return at (Some (result v)))) (seq g (leave n returned)) k s
+      (λ j e j' y w. splits_more P T c p on spot.frame.here k (suc j) count (seq (act spot.next (keep b)) (leave spot.live continued)) s (omega arith)
+      (splits_continue spot.frame spot.next b spot.live k s j e i m y w))
+  splits_one _ _ _ _ (as_return {s = spot} {at = at} {b = b} i i' has) k s count m l less t =
+      splits_point P T c p on spot at false (run (return at None)) (return_node spot.next (give_any b.target) b.length spot.live) k s
       count has l refl (λ z. absurd z) t
       (λ j e j' y w.
-      let y' : do_source P None (result v) (leave_call ∷ k) f.here s ≡ Some e = subst (λ o. do_source P (target_of o) (result v) (leave_call ∷ k) f.here s ≡ Some e) (no_mark f k i m) y in
-      splits_more P T c p on f.here k (suc j) count (seq g (leave n returned)) s (omega arith)
-      (splits_seq P T c p on f.here k (leave_call ∷ k) (suc j) g (leave n returned) s (skip_one f.here leave_call k refl refl)
-      (splits_gives f n q (suc q) None (result v) g q' (leave_call ∷ k) s j e d l (omega arith) y' w)
-      (λ j'' u z a b'. end_tail_of f k u j'' (leave n returned) (no_mark f k i m) b')))
-  splits_one _ _ _ _ _ _ _ (as_assert f n q at b i) k s count m l less t = splits_point P T c p on f n q at true (run (assert at b)) (check q f.here.base b) k s count i l refl
-      (λ z. (refl, z.0, z.1)) t
-      (λ j e j' y w. let x = go_some k f.here (run_op (test f.here.base b true) s) e y in ended j x.0 (omega arith) x.1 (rw x.2 w))
-  splits_one _ _ _ _ _ _ _ (as_assume f n q at b i) k s count m l less t = splits_point P T c p on f n q at false (run (assume at b)) (act q (test f.here.base b true)) k s count i l refl
+      let y' : do_leave (to_mark k) (run_any b.target s) ≡ Some e = subst (λ v. do_leave (to_mark k) (run_any v s) ≡ Some e) (target_is spot.frame k b i m) y in
+      splits_more P T c p on spot.frame.here k (suc j) count (return_node spot.next (give_any b.target) b.length spot.live) s (omega arith)
+      (splits_return spot.frame spot.next spot.live (give_any b.target) b k s j e i m y' w))
+  splits_one _ _ _ _ (as_return_value {s = spot} {at = at} {e = v} {b = b} i i' has) k s count m l less t = splits_point P T c p on spot at false (run (return at (Some (value v))))
+      (return_node spot.next (give spot.frame.here.base b.target v) b.length spot.live) k s count has l refl (λ z. absurd z) t
+      (λ j e j' y w.
+      let y' : do_leave (to_mark k) (run_op (give spot.frame.here.base b.target v) s) ≡ Some e =
+      subst (λ x. do_leave (to_mark k) (run_op (give spot.frame.here.base x v) s) ≡ Some e) (target_is spot.frame k b i m) y in
+      splits_more P T c p on spot.frame.here k (suc j) count (return_node spot.next (give spot.frame.here.base b.target v) b.length spot.live) s (omega arith)
+      (splits_return spot.frame spot.next spot.live (give spot.frame.here.base b.target v) b k s j e i m y' w))
+  splits_one _ _ _ _ (as_return_call {s = spot} {at = at} {c = v} {b = b} {g = g} {q = q'} i i' has d) k s count m l less t = splits_point P T c p on spot at false (run (return at (Some (result v))))
+      (seq g (seq (act spot.next (keep b.length)) (leave spot.live returned))) k s count has l refl (λ z. absurd z) t
+      (λ j e j' y w.
+      let y' : do_source P b.target (result v) (leave_call ∷ k) spot.frame.here s ≡ Some e =
+      subst (λ x. do_source P x (result v) (leave_call ∷ k) spot.frame.here s ≡ Some e) (target_is spot.frame k b i m) y in
+      splits_more P T c p on spot.frame.here k (suc j) count (seq g (seq (act spot.next (keep b.length)) (leave spot.live returned))) s (omega arith)
+      (splits_seq P T c p on spot.frame.here k (leave_call ∷ k) (suc j) g (seq (act spot.next (keep b.length)) (leave spot.live returned)) s (skip_one spot.frame.here leave_call k refl refl)
+      (splits_gives spot (suc spot.next) b.target (result v) g q' (leave_call ∷ k) s j e d l (omega arith) y' w)
+      (λ j'' u z a b'. leave_tail spot.frame spot.next spot.live b k u j'' i m b')))
+  splits_one _ _ _ _ (as_end {s = spot} {at = at} i has) k s count m l less t = splits_point P T c p on spot at false (run (return at None)) (leave spot.live returned) k s count has l refl
       (λ z. absurd z) t
-      (λ j e j' y w. splits_more P T c p on f.here k (suc j) count (act q (test f.here.base b true)) s (omega arith) (splits_act P T c p on q (test f.here.base b true) f.here k s j e y w))
+      (λ j e j' y w. absurd (none-some e (subst (λ o. do_leave o (run_any (target_of o) s) ≡ Some e) (no_mark spot.frame k i m) y)))
+  splits_one _ _ _ _ (as_end_value {s = spot} {at = at} {e = v} i has) k s count m l less t =
+      splits_point P T c p on spot at false (run (return at (Some (value v)))) (leave spot.live returned) k s count has l
+      refl (λ z. absurd z) t
+      (λ j e j' y w. absurd (none-some e (subst (λ o. do_leave o (run_op (give spot.frame.here.base (target_of o) v) s) ≡ Some e) (no_mark spot.frame k i m) y)))
+  splits_one _ _ _ _ (as_end_call {s = spot} {at = at} {c = v} {g = g} {q = q'} i has d) k s count m l less t =
+      splits_point P T c p on spot at false (run (return at (Some (result v)))) (seq g (leave spot.live returned)) k s
+      count has l refl (λ z. absurd z) t
+      (λ j e j' y w.
+      let y' : do_source P None (result v) (leave_call ∷ k) spot.frame.here s ≡ Some e =
+      subst (λ o. do_source P (target_of o) (result v) (leave_call ∷ k) spot.frame.here s ≡ Some e) (no_mark spot.frame k i m) y in
+      splits_more P T c p on spot.frame.here k (suc j) count (seq g (leave spot.live returned)) s (omega arith)
+      (splits_seq P T c p on spot.frame.here k (leave_call ∷ k) (suc j) g (leave spot.live returned) s (skip_one spot.frame.here leave_call k refl refl)
+      (splits_gives spot (suc spot.next) None (result v) g q' (leave_call ∷ k) s j e d l (omega arith) y' w)
+      (λ j'' u z a b'. end_tail_of spot.frame k u j'' (leave spot.live returned) (no_mark spot.frame k i m) b')))
+  splits_one _ _ _ _ (as_assert {s = spot} {at = at} {c = b} i) k s count m l less t =
+      splits_point P T c p on spot at true (run (assert at b)) (check spot.next spot.frame.here.base b) k s count i l refl
+      (λ z. (refl, z.0, z.1)) t
+      (λ j e j' y w. let x = go_some k spot.frame.here (run_op (test spot.frame.here.base b true) s) e y in ended j x.0 (omega arith) x.1 (rw x.2 w))
+  splits_one _ _ _ _ (as_assume {s = spot} {at = at} {c = b} i) k s count m l less t =
+      splits_point P T c p on spot at false (run (assume at b)) (act spot.next (test spot.frame.here.base b true)) k s count i l refl
+      (λ z. absurd z) t
+      (λ j e j' y w. splits_more P T c p on spot.frame.here k (suc j) count (act spot.next (test spot.frame.here.base b true)) s (omega arith)
+      (splits_act P T c p on spot.next (test spot.frame.here.base b true) spot.frame.here k s j e y w))
 
 module _ (P : Program) (T : List Site) (c : Config) (p : ℕ) (on : label_on c.items ≡ Some p) where
   nothing_below : Below P T c p zero
   nothing_below = record {
-    one = λ f n q a g n' q' d k s count m l less t. absurd (omega arith);
-    every = λ f n q a g n' q' d k s count m l less t. absurd (omega arith);
-    loops = λ f n q r a g q' d k s count m l less t. absurd (omega arith);
+    one = λ spot a g q d k s count m l less t. absurd (omega arith);
+    every = λ spot a g n q d k s count m l less t. absurd (omega arith);
+    loops = λ spot r a g q d k s count m l less t. absurd (omega arith);
   }
 
   pub all_below : (fuel : ℕ) → Below P T c p fuel

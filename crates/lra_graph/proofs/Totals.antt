@@ -10,7 +10,7 @@ use Rattle.lra_program.specs.Program.{BlockItems, Program}
 use Rattle.lra_tree.specs.Labels.{Labelled}
 use Rattle.lra_operations.specs.Graph.{Node, seq, point}
 use Rattle.lra_program.specs.Sites.{Site, Event, comes, one_call_more, plain_site, live_behind, items_events, call_events, events_of, sites_in, sites_of}
-use Rattle.lra_operations.specs.Inlined.{Has, InlAll, main_frame}
+use Rattle.lra_operations.specs.Inlined.{move, Has, InlAll, main_frame, main_spot}
 use Rattle.lra_operations.specs.Agree.{IsGraph}
 use Rattle.lra_program.specs.WellFormed.{IsWellFormed}
 use Rattle.lra_meaning.specs.Refuse.{greatest_live, greatest_points, limit_fault}
@@ -110,8 +110,8 @@ module _ (P : Program) (alone : P.main.parameters ≡ 0) where
         body = h;
         last = length V;
         live = n;
-        inlined = subst (λ T. InlAll P T (main_frame P) (length P.globals) 0 P.main.body h n (length V)) same (x.placed U (main_frame P) (pointed_begins V U (last_site n) e) is);
-        ends = subst (λ T. Has T (length V) (main_frame P) n P.main.end) same (point_there V U U (last_site n) e (begins_same U));
+        inlined = subst (λ T. InlAll P T (main_spot P) P.main.body h n (length V)) same (x.placed U (main_frame P) (pointed_begins V U (last_site n) e) is);
+        ends = subst (λ T. Has T (move (main_spot P) n (length V)) P.main.end) same (point_there V U U (last_site n) e (begins_same U));
         all = rw (← same) (one_longer V U (last_site n) e);
         parts = rw (← i) a;
       }

@@ -9,7 +9,8 @@ use Rattle.lra_program.specs.Step.{append, give, give_any, keep, test}
 use Rattle.lra_operations.specs.Graph.{Exit, broken, continued, returned, Node, empty, point, act, check, seq, choose, leave}
 use Rattle.lra_program.specs.Sites.{Site, comes, plain_site, live_behind, source_events, given_events, stmt_events, items_events, function_events, call_events}
 use Rattle.lra_operations.specs.Inlined as inlined
-use Rattle.lra_operations.specs.Inlined.{Has, HasSite, callee, Inl, InlAll, Declares, Loops, Gives, as_nothing, as_block, as_absent, as_assign, as_call, as_if, as_loop, as_for, as_break, as_continue}
+use Rattle.lra_operations.specs.Inlined.{spot_of, Has, HasSite, callee, Inl, InlAll, Declares, Loops, Gives, as_nothing, as_block, as_absent, as_assign, as_call, as_if, as_loop}
+use Rattle.lra_operations.specs.Inlined.{as_for, as_break, as_continue}
 use Rattle.lra_operations.specs.Inlined.{as_return, as_return_value, as_return_call, as_end, as_end_value, as_end_call, as_assert, as_assume, as_none, as_declaration, as_statement, as_fresh, as_given}
 use Rattle.lra_operations.specs.Inlined.{is_loop, as_value, as_result, loop_node, call_node, return_node}
 use Rattle.lra_graph.specs.declared.frame.Frame.{Frame}
@@ -49,19 +50,19 @@ module _ (P : Program) (path : List ℕ) (r : Frame) where
   abbrev N : ℕ
   N = r.live
 
-  has_point : (S U T : List Site) (f : inlined.Frame) (at n : ℕ) (asserts : Bool) → Pointed S (site at n asserts) U → Begins U T → IsFrame path r f → HasSite T (length S) f n at asserts
+  has_point : (S U T : List Site) (f : inlined.Frame) (at n : ℕ) (asserts : Bool) → Pointed S (site at n asserts) U → Begins U T → IsFrame path r f → HasSite T (spot_of f n (length S)) at asserts
   has_point S U T f at n asserts e b is = rw is.path (point_there S U T (site at n asserts) e b)
 
   pub stmt_as : (S U : List Site) (s s' : Stmt) (g g' : Node) → s ≡ s' → g ≡ g' → WritesStmt P path r S s' g' U → WritesStmt P path r S s g U
   stmt_as S U s s' g g' e f x = subst (λ z. WritesStmt P path r S z g U) (sym e) (subst (λ z. WritesStmt P path r S s' z U) (sym f) x)
 
   pub absent_written : (S : List Site) → WritesStmt P path r S absent empty S
-  absent_written S = record { walked = refl; placed = λ T f b is. as_absent f N (length S) }
+  absent_written S = record { walked = refl; placed = λ T f b is. as_absent }
 
   pub nothing_written : (S U : List Site) (q at : ℕ) → q ≡ length S → Pointed S (site at N false) U → WritesStmt P path r S (nothing at) (point q) U
   nothing_written S U q at i e = record {
     walked = e;
-    placed = λ T f b is. rw (i, one_longer S U (site at N false) e) (as_nothing f N (length S) at (has_point S U T f at N false e b is));
+    placed = λ T f b is. rw (i, one_longer S U (site at N false) e) (as_nothing (has_point S U T f at N false e b is));
   }
 
   pub block_written : (S V U : List Site) (q n end : ℕ) (items : BlockItems) (h tail g : Node) → WritesItems P path r S items h V → n ≡ live_behind N items → q ≡ length V
@@ -72,17 +73,17 @@ module _ (P : Program) (path : List ℕ) (r : Frame) where
       record {
         walked = walk_then S (items_events (inside P path r) path N items) (plain_site path end (live_behind N items) ∷ []) V (passed U) x.walked e';
         placed = λ T f b is. rw (a', a, i, one_longer V U (site end (live_behind N items) false) e')
-            (as_block f N (length S) items end h (live_behind N items) (length V) (x.placed T f (begins_join V U T (pointed_begins V U (site end (live_behind N items) false) e') b) is)
+            (as_block (x.placed T f (begins_join V U T (pointed_begins V U (site end (live_behind N items) false) e') b) is)
             (has_point V U T f end (live_behind N items) false e' b is));
       }
 
-  gives_as : (T : List Site) (f : inlined.Frame) (n k k' m m' : ℕ) (x x' : Option ℕ) (s : Source) (h : Node) (u : ℕ) → k ≡ k' → m ≡ m' → x ≡ x' → Gives P T f n k m x s h u
-      → Gives P T f n k' m' x' s h u
+  gives_as : (T : List Site) (f : inlined.Frame) (n k k' m m' : ℕ) (x x' : Option ℕ) (s : Source) (h : Node) (u : ℕ) → k ≡ k' → m ≡ m' → x ≡ x' → Gives P T (spot_of f n k) m x s h u
+      → Gives P T (spot_of f n k') m' x' s h u
   gives_as T f n k k' m m' x x' s h u a b c y =
-      subst (λ z. Gives P T f n k' m' z s h u) c (subst (λ z. Gives P T f n k' z x s h u) b (subst (λ z. Gives P T f n z m x s h u) a y))
+      subst (λ z. Gives P T (spot_of f n k') m' z s h u) c (subst (λ z. Gives P T (spot_of f n k') z x s h u) b (subst (λ z. Gives P T (spot_of f n z) m x s h u) a y))
 
-  inl_as : (T : List Site) (f : inlined.Frame) (n k k' : ℕ) (s : Stmt) (h : Node) (u : ℕ) → k ≡ k' → Inl P T f n k s h n u → Inl P T f n k' s h n u
-  inl_as T f n k k' s h u e y = subst (λ z. Inl P T f n z s h n u) e y
+  inl_as : (T : List Site) (f : inlined.Frame) (n k k' : ℕ) (s : Stmt) (h : Node) (u : ℕ) → k ≡ k' → Inl P T (spot_of f n k) s h u → Inl P T (spot_of f n k') s h u
+  inl_as T f n k k' s h u e y = subst (λ z. Inl P T (spot_of f n z) s h u) e y
 
   pub assign_written : (S V U : List Site) (q at place : ℕ) (x : Slot) (s : Source) (h g : Node) → q ≡ length S → Pointed S (site at N false) V → place ≡ index_of r.base x
       → WritesSource P path r q (Some place) V s h U
@@ -93,7 +94,7 @@ module _ (P : Program) (path : List ℕ) (r : Frame) where
         let b' = begins_join V U T (begins_walk V (source_events (inside P path r) path N s) U y.walked) b in
         let y' = gives_as T f N q (length S) (length V) (suc (length S)) (Some place) (Some (index_of f.here.base x)) s h (length U) i (one_longer S V (site at N false) e)
         (ap (λ z. Some z) j ∙ ap (λ z. Some (index_of z x)) (sym is.base)) (y.placed T f b is) in
-        rw (a, i) (as_assign f N (length S) at x s h (length U) (has_point S V T f at N false e b' is) y');
+        rw (a, i) (as_assign (has_point S V T f at N false e b' is) y');
   }
 
   pub call_written : (S V U : List Site) (q at : ℕ) (c : Call) (h g : Node) → q ≡ length S → Pointed S (site at N false) V → WritesSource P path r q None V (result c) h U
@@ -103,7 +104,7 @@ module _ (P : Program) (path : List ℕ) (r : Frame) where
     placed = λ T f b is.
         let b' = begins_join V U T (begins_walk V (inside P path r path N c) U y.walked) b in
         let y' = gives_as T f N q (length S) (length V) (suc (length S)) None None (result c) h (length U) i (one_longer S V (site at N false) e) refl (y.placed T f b is) in
-        rw (a, i) (as_call f N (length S) at c h (length U) (has_point S V T f at N false e b' is) y');
+        rw (a, i) (as_call (has_point S V T f at N false e b' is) y');
   }
 
   pub if_written : (S V W U : List Site) (q at : ℕ) (c : Cond) (s t : Stmt) (h h' k g : Node) → q ≡ length S → Pointed S (site at N false) V → WritesStmt P path r V s h W
@@ -116,7 +117,7 @@ module _ (P : Program) (path : List ℕ) (r : Frame) where
         let b' = begins_join W U T (begins_walk W (stmt_events (inside P path r) path N t) U y.walked) b in
         let b'' = begins_join V W T (begins_walk V (stmt_events (inside P path r) path N s) W x.walked) b' in
         let x' = inl_as T f N (length V) (suc (length S)) s h (length W) (one_longer S V (site at N false) e) (x.placed T f b' is) in
-        rw (a', a, i, ← is.base) (as_if f N (length S) at c s t h h' (length W) (length U) (has_point S V T f at N false e b'' is) x' (y.placed T f b is));
+        rw (a', a, i, ← is.base) (as_if (has_point S V T f at N false e b'' is) x' (y.placed T f b is));
   }
 
   -- a loop behind its own point
@@ -127,12 +128,12 @@ module _ (P : Program) (path : List ℕ) (r : Frame) where
     walked = walk_then V (stmt_events (inside P path r) path N t) (stmt_events (inside P path r) path N s) W (passed U) x.walked y.walked;
     placed = λ T f b is at has.
         let b' = begins_join W U T (begins_walk W (stmt_events (inside P path r) path N s) U y.walked) b in
-        rw (a, ← is.base) (is_loop f N q (length V) at c s t h h' (length W) (length U) has (x.placed T (record f { loop = None }) b' (in_loop None is))
+        rw (a, ← is.base) (is_loop has (x.placed T (record f { loop = None }) b' (in_loop None is))
         (y.placed T (record f { loop = Some N }) b (in_loop (Some N) is)));
   }
 
-  loops_as : (T : List Site) (f : inlined.Frame) (n k k' m m' : ℕ) (s : Stmt) (g : Node) (u : ℕ) → k ≡ k' → m ≡ m' → Loops P T f n k m s g u → Loops P T f n k' m' s g u
-  loops_as T f n k k' m m' s g u a b y = subst (λ z. Loops P T f n k' z s g u) b (subst (λ z. Loops P T f n z m s g u) a y)
+  loops_as : (T : List Site) (f : inlined.Frame) (n k k' m m' : ℕ) (s : Stmt) (g : Node) (u : ℕ) → k ≡ k' → m ≡ m' → Loops P T (spot_of f n k) m s g u → Loops P T (spot_of f n k') m' s g u
+  loops_as T f n k k' m m' s g u a b y = subst (λ z. Loops P T (spot_of f n k') z s g u) b (subst (λ z. Loops P T (spot_of f n z) m s g u) a y)
 
   pub loop_written : (S V U : List Site) (q at : ℕ) (c : Cond) (s t : Stmt) (g : Node) → q ≡ length S → Pointed S (site at N false) V → WritesLoop P path r q V c s t g U
       → WritesStmt P path r S (loop at c s t) g U
@@ -140,8 +141,8 @@ module _ (P : Program) (path : List ℕ) (r : Frame) where
     walked = walk_then S (plain_site path at N ∷ []) (stmt_events (inside P path r) path N t ++ stmt_events (inside P path r) path N s) V (passed U) e x.walked;
     placed = λ T f b is.
         let b' = begins_join V U T (begins_walk V (stmt_events (inside P path r) path N t ++ stmt_events (inside P path r) path N s) U x.walked) b in
-        let has : Has T q f N at = subst (λ z. Has T z f N at) (sym i) (has_point S V T f at N false e b' is) in
-        as_loop f N (length S) (loop at c s t) g (length U)
+        let has : Has T (spot_of f N q) at = subst (λ z. Has T (spot_of f N z) at) (sym i) (has_point S V T f at N false e b' is) in
+        as_loop
         (loops_as T f N q (length S) (length V) (suc (length S)) (loop at c s t) g (length U) i (one_longer S V (site at N false) e) (x.placed T f b is at has));
   }
 
@@ -150,7 +151,7 @@ module _ (P : Program) (path : List ℕ) (r : Frame) where
       → WritesStmt P path r S (break at) g U
   break_written S U q at m h g i e j low a a' = record {
     walked = e;
-    placed = λ T f b is. rw (a', a, i, one_longer S U (site at N false) e) (as_break f N (length S) at m (is.loop ∙ j) low (has_point S U T f at N false e b is));
+    placed = λ T f b is. rw (a', a, i, one_longer S U (site at N false) e) (as_break (is.loop ∙ j) low (has_point S U T f at N false e b is));
   }
 
   pub continue_written : (S U : List Site) (q at m : ℕ) (h g : Node) → q ≡ length S → Pointed S (site at N false) U → r.loop_length ≡ Some m → m ≤ N
@@ -158,20 +159,20 @@ module _ (P : Program) (path : List ℕ) (r : Frame) where
       → WritesStmt P path r S (continue at) g U
   continue_written S U q at m h g i e j low a a' = record {
     walked = e;
-    placed = λ T f b is. rw (a', a, i, one_longer S U (site at N false) e) (as_continue f N (length S) at m (is.loop ∙ j) low (has_point S U T f at N false e b is));
+    placed = λ T f b is. rw (a', a, i, one_longer S U (site at N false) e) (as_continue (is.loop ∙ j) low (has_point S U T f at N false e b is));
   }
 
   pub assert_written : (S U : List Site) (q at : ℕ) (c : Cond) (g : Node) → q ≡ length S → Pointed S (site at N true) U → g ≡ seq (point q) (check q r.base c) → WritesStmt P path r S (assert at c) g U
   assert_written S U q at c g i e a = record {
     walked = e;
-    placed = λ T f b is. rw (a, i, ← is.base, one_longer S U (site at N true) e) (as_assert f N (length S) at c (has_point S U T f at N true e b is));
+    placed = λ T f b is. rw (a, i, ← is.base, one_longer S U (site at N true) e) (as_assert (has_point S U T f at N true e b is));
   }
 
   pub assume_written : (S U : List Site) (q at : ℕ) (c : Cond) (g : Node) → q ≡ length S → Pointed S (site at N false) U → g ≡ seq (point q) (act q (test r.base c true))
       → WritesStmt P path r S (assume at c) g U
   assume_written S U q at c g i e a = record {
     walked = e;
-    placed = λ T f b is. rw (a, i, ← is.base, one_longer S U (site at N false) e) (as_assume f N (length S) at c (has_point S U T f at N false e b is));
+    placed = λ T f b is. rw (a, i, ← is.base, one_longer S U (site at N false) e) (as_assume (has_point S U T f at N false e b is));
   }
 
   pub for_written : (S V W U : List Site) (q at n : ℕ) (init : BlockItems) (c : Cond) (s t : Stmt) (h k l g : Node) → q ≡ length S → n ≡ live_behind N init → Pointed S (site at n false) V
@@ -191,9 +192,9 @@ module _ (P : Program) (path : List ℕ) (r : Frame) where
         placed = λ T f b is.
             let b' = begins_join W U T (begins_walk W rest U y'.walked) b in
             let b'' = begins_join V W T (begins_walk V begin W x.walked) b' in
-            let has : Has T q f m at = subst (λ z. Has T z f m at) (sym i) (has_point S V T f at m false e' b'' is) in
-            rw (a', a, i) (as_for f N (length S) at init c s t h k m (length W) (length U)
-            (subst (λ z. InlAll P T f N z init h m (length W)) (one_longer S V (site at m false) e') (x.placed T f b' is))
+            let has : Has T (spot_of f m q) at = subst (λ z. Has T (spot_of f m z) at) (sym i) (has_point S V T f at m false e' b'' is) in
+            rw (a', a, i) (as_for
+            (subst (λ z. InlAll P T (spot_of f N z) init h m (length W)) (one_longer S V (site at m false) e') (x.placed T f b' is))
             (loops_as T f m q (length S) (length W) (length W) (loop at c s t) k (length U) i refl (y'.placed T f b (with_live m is) at has)));
       }
 
@@ -203,15 +204,15 @@ module _ (P : Program) (path : List ℕ) (r : Frame) where
     walked = walk_then S (plain_site path at N ∷ []) (given_events (inside P path r) path N o) V (passed U) e x.walked;
     placed = λ T f b is.
         let b' = begins_join V U T (begins_walk V (given_events (inside P path r) path N o) U x.walked) b in
-        let has : Has T q f N at = subst (λ z. Has T z f N at) (sym i) (has_point S V T f at N false e b' is) in
+        let has : Has T (spot_of f N q) at = subst (λ z. Has T (spot_of f N z) at) (sym i) (has_point S V T f at N false e b' is) in
         rw a (inl_as T f N q (length S) (return at o) (seq (point q) h) (length U) i (x.placed T f b is at (one_longer S V (site at N false) e ∙ ap suc (sym i)) has));
   }
 
   return_as : (T : List Site) (f : inlined.Frame) (q : ℕ) (s : Stmt) (op : Option ℕ → step.Op) (u : ℕ) (t t' : Option ℕ) (m m' : ℕ) → t ≡ t' → m ≡ m'
-      → Inl P T f N q s (seq (point q) (return_node q (op t) m N)) N u
-      → Inl P T f N q s (seq (point q) (return_node q (op t') m' N)) N u
-  return_as T f q s op u t t' m m' a b y = subst (λ z. Inl P T f N q s (seq (point q) (return_node q (op t') z N)) N u) b
-      (subst (λ z. Inl P T f N q s (seq (point q) (return_node q (op z) m N)) N u) a y)
+      → Inl P T (spot_of f N q) s (seq (point q) (return_node q (op t) m N)) u
+      → Inl P T (spot_of f N q) s (seq (point q) (return_node q (op t') m' N)) u
+  return_as T f q s op u t t' m m' a b y = subst (λ z. Inl P T (spot_of f N q) s (seq (point q) (return_node q (op t') z N)) u) b
+      (subst (λ z. Inl P T (spot_of f N q) s (seq (point q) (return_node q (op z) m N)) u) a y)
 
   module _ (S : List Site) (q : ℕ) (b : Back) (back : r.back ≡ Some b) (low : b.length ≤ N) where
     pub return_any_written : (g : Node) → g ≡ return_node q (give_any b.target) b.length N → WritesReturn P path r q S None g S
@@ -220,7 +221,7 @@ module _ (P : Program) (path : List ℕ) (r : Frame) where
       placed = λ T f bs is at long has.
           let z = back_there f.back b (is.back ∙ back) in
           let low' : z.0.length ≤ N = subst (λ m. m ≤ N) (sym z.3) low in
-          rw (a, long) (return_as T f q (return at None) give_any (suc q) z.0.target b.target z.0.length b.length z.2 z.3 (as_return f N q at z.0 z.1 low' has));
+          rw (a, long) (return_as T f q (return at None) give_any (suc q) z.0.target b.target z.0.length b.length z.2 z.3 (as_return z.1 low' has));
     }
 
     pub return_value_written : (e : Expr) (g : Node) → g ≡ return_node q (give r.base b.target e) b.length N → WritesReturn P path r q S (Some (value e)) g S
@@ -230,7 +231,7 @@ module _ (P : Program) (path : List ℕ) (r : Frame) where
           let z = back_there f.back b (is.back ∙ back) in
           let low' : z.0.length ≤ N = subst (λ m. m ≤ N) (sym z.3) low in
           rw (a, long, ← is.base) (return_as T f q (return at (Some (value e))) (λ t. give f.here.base t e) (suc q) z.0.target b.target z.0.length b.length z.2 z.3
-          (as_return_value f N q at e z.0 z.1 low' has));
+          (as_return_value z.1 low' has));
     }
 
     pub return_call_written : (U : List Site) (c : Call) (h k g : Node) → WritesSource P path r q b.target S (result c) h U → k ≡ seq (act q (keep b.length)) (leave N returned) → g ≡ seq h k
@@ -240,27 +241,27 @@ module _ (P : Program) (path : List ℕ) (r : Frame) where
       placed = λ T f bs is at long has.
           let z = back_there f.back b (is.back ∙ back) in
           let low' : z.0.length ≤ N = subst (λ m. m ≤ N) (sym z.3) low in
-          rw (a', a, ← z.3) (as_return_call f N q at c z.0 h (length U) z.1 low' has
+          rw (a', a, ← z.3) (as_return_call z.1 low' has
           (gives_as T f N q q (length S) (suc q) b.target z.0.target (result c) h (length U) refl long (sym z.2) (y.placed T f bs is)));
     }
 
   module _ (S : List Site) (q : ℕ) (back : r.back ≡ None) where
     pub end_any_written : (g : Node) → g ≡ leave N returned → WritesReturn P path r q S None g S
-    end_any_written g a = record { walked = refl; placed = λ T f bs is at long has. rw (a, long) (as_end f N q at (no_back_there f.back (is.back ∙ back)) has) }
+    end_any_written g a = record { walked = refl; placed = λ T f bs is at long has. rw (a, long) (as_end (no_back_there f.back (is.back ∙ back)) has) }
 
     pub end_value_written : (e : Expr) (g : Node) → g ≡ leave N returned → WritesReturn P path r q S (Some (value e)) g S
-    end_value_written e g a = record { walked = refl; placed = λ T f bs is at long has. rw (a, long) (as_end_value f N q at e (no_back_there f.back (is.back ∙ back)) has) }
+    end_value_written e g a = record { walked = refl; placed = λ T f bs is at long has. rw (a, long) (as_end_value (no_back_there f.back (is.back ∙ back)) has) }
 
     pub end_call_written : (U : List Site) (c : Call) (h g : Node) → WritesSource P path r q None S (result c) h U → g ≡ seq h (leave N returned) → WritesReturn P path r q S (Some (result c)) g U
     end_call_written U c h g y a = record {
       walked = y.walked;
       placed = λ T f bs is at long has.
-          rw a (as_end_call f N q at c h (length U) (no_back_there f.back (is.back ∙ back)) has
+          rw a (as_end_call (no_back_there f.back (is.back ∙ back)) has
           (gives_as T f N q q (length S) (suc q) None None (result c) h (length U) refl long refl (y.placed T f bs is)));
     }
 
   pub none_written : (S : List Site) → WritesItems P path r S no_more empty S
-  none_written S = record { walked = refl; placed = λ T f b is. as_none f N (length S) }
+  none_written S = record { walked = refl; placed = λ T f b is. as_none }
 
   pub statement_written : (S V U : List Site) (a : Stmt) (b : BlockItems) (h k g : Node) → WritesStmt P path r S a h V → WritesItems P path r V b k U → g ≡ seq h k
       → WritesItems P path r S (statement a b) g U
@@ -268,7 +269,7 @@ module _ (P : Program) (path : List ℕ) (r : Frame) where
     walked = walk_then S (stmt_events (inside P path r) path N a) (items_events (inside P path r) path N b) V (passed U) x.walked y.walked;
     placed = λ T f bs is.
         let bs' = begins_join V U T (begins_walk V (items_events (inside P path r) path N b) U y.walked) bs in
-        rw e (as_statement f N (length S) a b h k (length V) (live_behind N b) (length U) (x.placed T f bs' is) (y.placed T f bs is));
+        rw e (as_statement (x.placed T f bs' is) (y.placed T f bs is));
   }
 
   pub declaration_written : (S V W U : List Site) (q n : ℕ) (d : Declarator) (b : BlockItems) (h j k g : Node) → q ≡ length S → n ≡ suc N → Pointed S (site d.label N false) V
@@ -283,24 +284,24 @@ module _ (P : Program) (path : List ℕ) (r : Frame) where
         placed = λ T f bs is.
             let bs' = begins_join W U T (begins_walk W rest U y'.walked) bs in
             let bs'' = begins_join V W T (begins_walk V mid W x.walked) bs' in
-            let x' : Declares P T f N (length S) (suc (length S)) d.source h (length W) =
-            subst (λ z. Declares P T f N (length S) z d.source h (length W)) (one_longer S V (site d.label N false) e)
-            (subst (λ z. Declares P T f N z (length V) d.source h (length W)) i (x.placed T f bs' is)) in
-            rw (a', a, i) (as_declaration f N (length S) d b h k (length W) (live_behind (suc N) b) (length U) (has_point S V T f d.label N false e bs'' is) x'
+            let x' : Declares P T (spot_of f N (length S)) (suc (length S)) d.source h (length W) =
+            subst (λ z. Declares P T (spot_of f N (length S)) z d.source h (length W)) (one_longer S V (site d.label N false) e)
+            (subst (λ z. Declares P T (spot_of f N z) (length V) d.source h (length W)) i (x.placed T f bs' is)) in
+            rw (a', a, i) (as_declaration (has_point S V T f d.label N false e bs'' is) x'
             (y'.placed T f bs (with_live (suc N) is)));
       }
 
   pub fresh_written : (S : List Site) (q : ℕ) (g : Node) → g ≡ act q append → WritesDeclared P path r q S None g S
-  fresh_written S q g a = record { walked = refl; placed = λ T f b is. rw a (as_fresh f N q (length S)) }
+  fresh_written S q g a = record { walked = refl; placed = λ T f b is. rw a as_fresh }
 
   pub given_written : (S U : List Site) (q n : ℕ) (e : Source) (h g : Node) → n ≡ suc N → WritesSource P path (record r { live = n }) q (Some r.live) S e h U → g ≡ seq (act q append) h
       → WritesDeclared P path r q S (Some e) g U
   given_written S U q n e h g same y a =
       let y' = subst (λ z. WritesSource P path (record r { live = z }) q (Some r.live) S e h U) same y in
-      record { walked = y'.walked; placed = λ T f b is. rw a (as_given f N q (length S) e h (length U) (y'.placed T f b (with_live (suc N) is))) }
+      record { walked = y'.walked; placed = λ T f b is. rw a (as_given (y'.placed T f b (with_live (suc N) is))) }
 
   pub value_written : (S : List Site) (q : ℕ) (x : Option ℕ) (e : Expr) (g : Node) → g ≡ act q (give r.base x e) → WritesSource P path r q x S (value e) g S
-  value_written S q x e g a = record { walked = refl; placed = λ T f b is. rw (a, ← is.base) (as_value f N q (length S) x e) }
+  value_written S q x e g a = record { walked = refl; placed = λ T f b is. rw (a, ← is.base) as_value }
 
   -- a call that may still be made
   pub result_written : (S V U : List Site) (q k n more : ℕ) (x : Option ℕ) (c : Call) (fn : Function) (h g : Node) → r.calls_left ≡ suc more → slice_get P.functions c.function ≡ Some fn
@@ -321,7 +322,7 @@ module _ (P : Program) (path : List ℕ) (r : Frame) where
             (record { base = r.live; live = r.live + fn.parameters; calls_left = more; loop_length = None; back = Some (record { target = x; length = r.live }) }) (callee f N x c) = record
             { path = ap (λ z. c.label ∷ z) is.path; base = refl; loop = refl; back = refl } in
             rw (a, i, ← is.base, one_longer V U last e')
-            (as_result f N q (length S) x c fn h m (length V) found wide (y.placed T (callee f N x c) (begins_join V U T (pointed_begins V U last e') b) is')
+            (as_result {s = spot_of f N q} found wide (y.placed T (callee f N x c) (begins_join V U T (pointed_begins V U last e') b) is')
             (rw is.path (point_there V U T last e' b)));
       }
 

@@ -67,34 +67,34 @@ module _ (P : Program) (path : List ℕ) (r : Frame) where
 
   abbrev pub WritesStmt : List Site → Stmt → Node → List Site → Type 0
   WritesStmt S s g U = Writes path r (stmt_events inside path r.live s) S U
-      (λ T f. inlined.Inl P T f r.live (length S) s g r.live (length U))
+      (λ T f. inlined.Inl P T (inlined.spot_of f r.live (length S)) s g (length U))
 
   abbrev pub WritesItems : List Site → BlockItems → Node → List Site → Type 0
   WritesItems S b g U = Writes path r (items_events inside path r.live b) S U
-      (λ T f. inlined.InlAll P T f r.live (length S) b g (live_behind r.live b) (length U))
+      (λ T f. inlined.InlAll P T (inlined.spot_of f r.live (length S)) b g (live_behind r.live b) (length U))
 
   -- what a variable gets, from the point q on
   abbrev pub WritesSource : ℕ → Option ℕ → List Site → Source → Node → List Site → Type 0
   WritesSource q x S e g U = Writes path r (source_events inside path r.live e) S U
-      (λ T f. inlined.Gives P T f r.live q (length S) x e g (length U))
+      (λ T f. inlined.Gives P T (inlined.spot_of f r.live q) (length S) x e g (length U))
 
   -- a loop behind its own point q
   abbrev pub WritesLoop : ℕ → List Site → Cond → Stmt → Stmt → Node → List Site → Type 0
   WritesLoop q S c a step g U =
       Writes path r (stmt_events inside path r.live step ++ stmt_events inside path r.live a) S U
-      (λ T f. (at : ℕ) → inlined.Has T q f r.live at
-      → inlined.Loops P T f r.live q (length S) (loop at c a step) g (length U))
+      (λ T f. (at : ℕ) → inlined.Has T (inlined.spot_of f r.live q) at
+      → inlined.Loops P T (inlined.spot_of f r.live q) (length S) (loop at c a step) g (length U))
 
   -- a declarator, and its variable's value, behind its point q
   abbrev pub WritesDeclared : ℕ → List Site → Option Source → Node → List Site → Type 0
   WritesDeclared q S o g U = Writes path r (given_events inside path (suc r.live) o) S U
-      (λ T f. inlined.Declares P T f r.live q (length S) o g (length U))
+      (λ T f. inlined.Declares P T (inlined.spot_of f r.live q) (length S) o g (length U))
 
   -- a return behind its point q
   abbrev pub WritesReturn : ℕ → List Site → Option Source → Node → List Site → Type 0
   WritesReturn q S o g U = Writes path r (given_events inside path r.live o) S U
-      (λ T f. (at : ℕ) → length S ≡ suc q → inlined.Has T q f r.live at
-      → inlined.Inl P T f r.live q (return at o) (seq (point q) g) r.live (length U))
+      (λ T f. (at : ℕ) → length S ≡ suc q → inlined.Has T (inlined.spot_of f r.live q) at
+      → inlined.Inl P T (inlined.spot_of f r.live q) (return at o) (seq (point q) g) (length U))
 
 -- an item takes what stands behind it: it stands in the frame with some items behind it
 abbrev pub ItemStands : Program → Frame → (BlockItems → BlockItems) → Type 0

@@ -7,7 +7,7 @@ use Rattle.lra_program.specs.Step.{State}
 use Rattle.lra_program.specs.Run.{Point, At, Fails}
 use Rattle.lra_operations.specs.Graph.{Node, seq, point, Comes, FailsAt}
 use Rattle.lra_program.specs.Sites.{Site, sites_of}
-use Rattle.lra_operations.specs.Inlined.{Has, InlAll, main_frame}
+use Rattle.lra_operations.specs.Inlined.{Has, InlAll, move, main_spot}
 
 -- the globals at their first values
 abbrev pub begins : Program → List ℤ → State
@@ -18,8 +18,8 @@ pub record IsGraph (P : Program) (g : Node) : Type 0 where
   pub body : Node
   pub last : ℕ
   pub live : ℕ
-  pub inlined : InlAll P (sites_of P) (main_frame P) (length P.globals) 0 P.main.body body live last
-  pub ends : Has (sites_of P) last (main_frame P) live P.main.end
+  pub inlined : InlAll P (sites_of P) (main_spot P) P.main.body body live last
+  pub ends : Has (sites_of P) (move (main_spot P) live last) P.main.end
   pub all : length (sites_of P) ≡ suc last
   pub parts : g ≡ seq body (point last)
 

@@ -42,93 +42,123 @@ call_node q r base n x es params g =
 abbrev pub return_node : ℕ → Op → ℕ → ℕ → Node
 return_node q op n live = seq (act q op) (seq (act q (keep n)) (leave live returned))
 
--- the point q of the list
-abbrev pub HasSite : List Site → ℕ → Frame → ℕ → ℕ → Bool → Type 0
-HasSite T q f n at asserts = slice_get T q ≡ Some (record
-    { path = f.here.path; label = at; live = n; asserts = asserts })
+-- where an inlining stands: in which frame, how many variables live, and the next point's number
+pub record Spot : Type 0 where
+  pub frame : Frame
+  pub live : ℕ
+  pub next : ℕ
 
-abbrev pub Has : List Site → ℕ → Frame → ℕ → ℕ → Type 0
-Has T q f n at = HasSite T q f n at false
+abbrev pub spot_of : Frame → ℕ → ℕ → Spot
+spot_of f live next = record { frame = f; live = live; next = next }
+
+-- in the same frame, further on
+abbrev pub move : Spot → ℕ → ℕ → Spot
+move s live next = spot_of s.frame live next
+
+abbrev pub at_point : Spot → ℕ → Spot
+at_point s next = move s s.live next
+
+-- in a loop's body, or in its step
+abbrev pub within : Spot → Option ℕ → ℕ → Spot
+within s length next = spot_of (record s.frame { loop = length }) s.live next
+
+-- where the called function's body begins
+abbrev pub called : Spot → Option ℕ → Call → ℕ → ℕ → Spot
+called s x c params next = spot_of (callee s.frame s.live x c) (s.live + params) next
+
+-- the point of the list where the spot is
+abbrev pub HasSite : List Site → Spot → ℕ → Bool → Type 0
+HasSite T s at asserts = slice_get T s.next ≡ Some (record
+    { path = s.frame.here.path; label = at; live = s.live; asserts = asserts })
+
+abbrev pub Has : List Site → Spot → ℕ → Type 0
+Has T s at = HasSite T s at false
 
 mutual
-  -- in the frame, with n variables live and q the next point's number, the statement has the tree; behind it n' are
-  -- live and q' is next
-  pub data Inl (P : Program) (T : List Site) : Frame → ℕ → ℕ → Stmt → Node → ℕ → ℕ → Type 0 where
-    as_nothing : (f : Frame) (n q at : ℕ) → Has T q f n at → Inl P T f n q (nothing at) (point q) n (suc q)
-    as_block : (f : Frame) (n q : ℕ) (body : BlockItems) (end : ℕ) (g : Node) (n' q' : ℕ) →
-        InlAll P T f n q body g n' q' → Has T q' f n' end
-        → Inl P T f n q (block body end) (seq g (seq (point q') (act q' (keep n)))) n (suc q')
-    as_absent : (f : Frame) (n q : ℕ) → Inl P T f n q absent empty n q
-    as_assign : (f : Frame) (n q at : ℕ) (x : Slot) (e : Source) (g : Node) (q' : ℕ) → Has T q f n at →
-        Gives P T f n q (suc q) (Some (index_of f.here.base x)) e g q'
-        → Inl P T f n q (assign at x e) (seq (point q) g) n q'
-    as_call : (f : Frame) (n q at : ℕ) (c : Call) (g : Node) (q' : ℕ) → Has T q f n at →
-        Gives P T f n q (suc q) None (result c) g q'
-        → Inl P T f n q (call at c) (seq (point q) g) n q'
-    as_if : (f : Frame) (n q at : ℕ) (c : Cond) (a b : Stmt) (g h : Node) (r q' : ℕ) → Has T q f n at
-        → Inl P T f n (suc q) a g n r → Inl P T f n r b h n q' →
-        Inl P T f n q (if at c a b) (seq (point q) (choose q f.here.base c g h)) n q'
-    as_loop : (f : Frame) (n q : ℕ) (s : Stmt) (g : Node) (q' : ℕ) → Loops P T f n q (suc q) s g q' →
-        Inl P T f n q s g n q'
-    as_for : (f : Frame) (n q at : ℕ) (init : BlockItems) (c : Cond) (a step : Stmt) (g h : Node) (n' r q' : ℕ) →
-        InlAll P T f n (suc q) init g n' r → Loops P T f n' q r (loop at c a step) h q'
-        → Inl P T f n q (for at init c a step) (seq g (seq h (act q (keep n)))) n q'
-    as_break : (f : Frame) (n q at m : ℕ) → f.loop ≡ Some m → m ≤ n → Has T q f n at
-        → Inl P T f n q (break at) (seq (point q) (seq (act q (keep m)) (leave n broken))) n (suc q)
-    as_continue : (f : Frame) (n q at m : ℕ) → f.loop ≡ Some m → m ≤ n → Has T q f n at
-        → Inl P T f n q (continue at) (seq (point q) (seq (act q (keep m)) (leave n continued))) n (suc q)
-    as_return : (f : Frame) (n q at : ℕ) (b : Back) → f.back ≡ Some b → b.length ≤ n → Has T q f n at
-        → Inl P T f n q (return at None) (seq (point q) (return_node q (give_any b.target) b.length n)) n (suc q)
-    as_return_value : (f : Frame) (n q at : ℕ) (e : Expr) (b : Back) → f.back ≡ Some b → b.length ≤ n → Has T q f n at
-        → Inl P T f n q (return at (Some (value e))) (seq (point q)
-        (return_node q (give f.here.base b.target e) b.length n)) n (suc q)
-    as_return_call : (f : Frame) (n q at : ℕ) (c : Call) (b : Back) (g : Node) (q' : ℕ) → f.back ≡ Some b →
-        b.length ≤ n → Has T q f n at
-        → Gives P T f n q (suc q) b.target (result c) g q'
-        → Inl P T f n q (return at (Some (result c))) (seq (point q)
-        (seq g (seq (act q (keep b.length)) (leave n returned)))) n q'
-    as_end : (f : Frame) (n q at : ℕ) → f.back ≡ None → Has T q f n at →
-        Inl P T f n q (return at None) (seq (point q) (leave n returned)) n (suc q)
-    as_end_value : (f : Frame) (n q at : ℕ) (e : Expr) → f.back ≡ None → Has T q f n at
-        → Inl P T f n q (return at (Some (value e))) (seq (point q) (leave n returned)) n (suc q)
-    as_end_call : (f : Frame) (n q at : ℕ) (c : Call) (g : Node) (q' : ℕ) → f.back ≡ None → Has T q f n at →
-        Gives P T f n q (suc q) None (result c) g q'
-        → Inl P T f n q (return at (Some (result c))) (seq (point q) (seq g (leave n returned))) n q'
-    as_assert : (f : Frame) (n q at : ℕ) (c : Cond) → HasSite T q f n at true →
-        Inl P T f n q (assert at c) (seq (point q) (check q f.here.base c)) n (suc q)
-    as_assume : (f : Frame) (n q at : ℕ) (c : Cond) → Has T q f n at →
-        Inl P T f n q (assume at c) (seq (point q) (act q (test f.here.base c true))) n (suc q)
+  -- at the spot the statement has the tree, and q is the next point's number behind it; as many variables live there
+  pub data Inl (P : Program) (T : List Site) : Spot → Stmt → Node → ℕ → Type 0 where
+    as_nothing : {s : Spot} {at : ℕ} → Has T s at → Inl P T s (nothing at) (point s.next) (suc s.next)
+    as_block : {s : Spot} {body : BlockItems} {end : ℕ} {g : Node} {n q : ℕ} →
+        InlAll P T s body g n q → Has T (move s n q) end
+        → Inl P T s (block body end) (seq g (seq (point q) (act q (keep s.live)))) (suc q)
+    as_absent : {s : Spot} → Inl P T s absent empty s.next
+    as_assign : {s : Spot} {at : ℕ} {x : Slot} {e : Source} {g : Node} {q : ℕ} → Has T s at →
+        Gives P T s (suc s.next) (Some (index_of s.frame.here.base x)) e g q
+        → Inl P T s (assign at x e) (seq (point s.next) g) q
+    as_call : {s : Spot} {at : ℕ} {c : Call} {g : Node} {q : ℕ} → Has T s at →
+        Gives P T s (suc s.next) None (result c) g q
+        → Inl P T s (call at c) (seq (point s.next) g) q
+    as_if : {s : Spot} {at : ℕ} {c : Cond} {a b : Stmt} {g h : Node} {r q : ℕ} → Has T s at
+        → Inl P T (at_point s (suc s.next)) a g r → Inl P T (at_point s r) b h q →
+        Inl P T s (if at c a b) (seq (point s.next) (choose s.next s.frame.here.base c g h)) q
+    as_loop : {s : Spot} {a : Stmt} {g : Node} {q : ℕ} → Loops P T s (suc s.next) a g q → Inl P T s a g q
+    as_for : {s : Spot} {at : ℕ} {init : BlockItems} {c : Cond} {a step : Stmt} {g h : Node} {n r q : ℕ} →
+        InlAll P T (at_point s (suc s.next)) init g n r → Loops P T (move s n s.next) r (loop at c a step) h q
+        → Inl P T s (for at init c a step) (seq g (seq h (act s.next (keep s.live)))) q
+    as_break : {s : Spot} {at m : ℕ} → s.frame.loop ≡ Some m → m ≤ s.live → Has T s at
+        → Inl P T s (break at) (seq (point s.next) (seq (act s.next (keep m)) (leave s.live broken))) (suc s.next)
+    as_continue : {s : Spot} {at m : ℕ} → s.frame.loop ≡ Some m → m ≤ s.live → Has T s at
+        → Inl P T s (continue at) (seq (point s.next) (seq (act s.next (keep m)) (leave s.live continued))) (suc s.next)
+    as_return : {s : Spot} {at : ℕ} {b : Back} → s.frame.back ≡ Some b → b.length ≤ s.live → Has T s at
+        → Inl P T s (return at None) (seq (point s.next) (return_node s.next (give_any b.target) b.length s.live))
+        (suc s.next)
+    as_return_value : {s : Spot} {at : ℕ} {e : Expr} {b : Back} → s.frame.back ≡ Some b → b.length ≤ s.live → Has T s at
+        → Inl P T s (return at (Some (value e))) (seq (point s.next)
+        (return_node s.next (give s.frame.here.base b.target e) b.length s.live)) (suc s.next)
+    as_return_call : {s : Spot} {at : ℕ} {c : Call} {b : Back} {g : Node} {q : ℕ} → s.frame.back ≡ Some b →
+        b.length ≤ s.live → Has T s at
+        → Gives P T s (suc s.next) b.target (result c) g q
+        → Inl P T s (return at (Some (result c))) (seq (point s.next)
+        (seq g (seq (act s.next (keep b.length)) (leave s.live returned)))) q
+    as_end : {s : Spot} {at : ℕ} → s.frame.back ≡ None → Has T s at →
+        Inl P T s (return at None) (seq (point s.next) (leave s.live returned)) (suc s.next)
+    as_end_value : {s : Spot} {at : ℕ} {e : Expr} → s.frame.back ≡ None → Has T s at
+        → Inl P T s (return at (Some (value e))) (seq (point s.next) (leave s.live returned)) (suc s.next)
+    as_end_call : {s : Spot} {at : ℕ} {c : Call} {g : Node} {q : ℕ} → s.frame.back ≡ None → Has T s at →
+        Gives P T s (suc s.next) None (result c) g q
+        → Inl P T s (return at (Some (result c))) (seq (point s.next) (seq g (leave s.live returned))) q
+    as_assert : {s : Spot} {at : ℕ} {c : Cond} → HasSite T s at true →
+        Inl P T s (assert at c) (seq (point s.next) (check s.next s.frame.here.base c)) (suc s.next)
+    as_assume : {s : Spot} {at : ℕ} {c : Cond} → Has T s at →
+        Inl P T s (assume at c) (seq (point s.next) (act s.next (test s.frame.here.base c true))) (suc s.next)
 
-  pub data InlAll (P : Program) (T : List Site) : Frame → ℕ → ℕ → BlockItems → Node → ℕ → ℕ → Type 0 where
-    as_none : (f : Frame) (n q : ℕ) → InlAll P T f n q no_more empty n q
-    as_declaration : (f : Frame) (n q : ℕ) (d : Declarator) (b : BlockItems) (g h : Node) (r n' q' : ℕ) →
-        Has T q f n d.label
-        → Declares P T f n q (suc q) d.source g r → InlAll P T f (suc n) r b h n' q'
-        → InlAll P T f n q (declaration d b) (seq (seq (point q) g) h) n' q'
-    as_statement : (f : Frame) (n q : ℕ) (a : Stmt) (b : BlockItems) (g h : Node) (r n' q' : ℕ) →
-        Inl P T f n q a g n r → InlAll P T f n r b h n' q'
-        → InlAll P T f n q (statement a b) (seq g h) n' q'
+  -- behind the items n live, and q is next
+  pub data InlAll (P : Program) (T : List Site) : Spot → BlockItems → Node → ℕ → ℕ → Type 0 where
+    as_none : {s : Spot} → InlAll P T s no_more empty s.live s.next
+    as_declaration : {s : Spot} {d : Declarator} {b : BlockItems} {g h : Node} {r n q : ℕ} →
+        Has T s d.label → Declares P T s (suc s.next) d.source g r → InlAll P T (move s (suc s.live) r) b h n q
+        → InlAll P T s (declaration d b) (seq (seq (point s.next) g) h) n q
+    as_statement : {s : Spot} {a : Stmt} {b : BlockItems} {g h : Node} {r n q : ℕ} →
+        Inl P T s a g r → InlAll P T (at_point s r) b h n q
+        → InlAll P T s (statement a b) (seq g h) n q
 
-  -- a declarator behind its point q: a new variable, and what it gets
-  pub data Declares (P : Program) (T : List Site) : Frame → ℕ → ℕ → ℕ → Option Source → Node → ℕ → Type 0 where
-    as_fresh : (f : Frame) (n q r : ℕ) → Declares P T f n q r None (act q append) r
-    as_given : (f : Frame) (n q r : ℕ) (e : Source) (g : Node) (q' : ℕ) → Gives P T f (suc n) q r (Some n) e g q'
-        → Declares P T f n q r (Some e) (seq (act q append) g) q'
+  -- a declarator at its point: a new variable, and what it gets; r is the next one's number
+  pub data Declares (P : Program) (T : List Site) : Spot → ℕ → Option Source → Node → ℕ → Type 0 where
+    as_fresh : {s : Spot} {r : ℕ} → Declares P T s r None (act s.next append) r
+    as_given : {s : Spot} {r : ℕ} {e : Source} {g : Node} {q : ℕ} →
+        Gives P T (move s (suc s.live) s.next) r (Some s.live) e g q
+        → Declares P T s r (Some e) (seq (act s.next append) g) q
 
-  -- a loop whose own point is q; its step comes before its body in text order
-  pub data Loops (P : Program) (T : List Site) : Frame → ℕ → ℕ → ℕ → Stmt → Node → ℕ → Type 0 where
-    is_loop : (f : Frame) (n q r at : ℕ) (c : Cond) (a step : Stmt) (g h : Node) (r' q' : ℕ) → Has T q f n at
-        → Inl P T (record f { loop = None }) n r step h n r' → Inl P T (record f { loop = Some n }) n r' a g n q'
-        → Loops P T f n q r (loop at c a step) (loop_node q f.here.base c g h) q'
+  -- a loop at its own point; its step comes before its body in text order
+  pub data Loops (P : Program) (T : List Site) : Spot → ℕ → Stmt → Node → ℕ → Type 0 where
+    is_loop : {s : Spot} {r at : ℕ} {c : Cond} {a step : Stmt} {g h : Node} {m q : ℕ} → Has T s at
+        → Inl P T (within s None r) step h m → Inl P T (within s (Some s.live) m) a g q
+        → Loops P T s r (loop at c a step) (loop_node s.next s.frame.here.base c g h) q
 
-  -- what the variable gets, where there is one; q is the statement's point, r the next one's number
-  pub data Gives (P : Program) (T : List Site) : Frame → ℕ → ℕ → ℕ → Option ℕ → Source → Node → ℕ → Type 0 where
-    as_value : (f : Frame) (n q r : ℕ) (x : Option ℕ) (e : Expr) →
-        Gives P T f n q r x (value e) (act q (give f.here.base x e)) r
-    as_result : (f : Frame) (n q r : ℕ) (x : Option ℕ) (c : Call) (fn : Function) (g : Node) (n' r' : ℕ)
+  -- what the variable gets, where there is one, at the statement's point; r is the next one's number
+  pub data Gives (P : Program) (T : List Site) : Spot → ℕ → Option ℕ → Source → Node → ℕ → Type 0 where
+    as_value : {s : Spot} {r : ℕ} {x : Option ℕ} {e : Expr} →
+        Gives P T s r x (value e) (act s.next (give s.frame.here.base x e)) r
+    as_result : {s : Spot} {r : ℕ} {x : Option ℕ} {c : Call} {fn : Function} {g : Node} {n q : ℕ}
         → slice_get P.functions c.function ≡ Some fn → length c.arguments ≡ fn.parameters
-        → InlAll P T (callee f n x c) (n + fn.parameters) r fn.body g n' r' → Has T r' (callee f n x c) n' fn.end
-        → Gives P T f n q r x (result c) (call_node q r' f.here.base n x c.arguments fn.parameters g) (suc r')
+        → InlAll P T (called s x c fn.parameters r) fn.body g n q
+        → Has T (move (called s x c fn.parameters r) n q) fn.end
+        → Gives P T s r x (result c)
+        (call_node s.next q s.frame.here.base s.live x c.arguments fn.parameters g) (suc q)
 
 abbrev pub main_frame : Program → Frame
 main_frame P = record { here = record { path = []; base = length P.globals }; loop = None; back = None }
+
+-- where main's items begin
+abbrev pub main_spot : Program → Spot
+main_spot P = spot_of (main_frame P) (length P.globals) 0

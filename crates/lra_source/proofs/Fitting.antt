@@ -10,7 +10,7 @@ use Rattle.lra_program.specs.Step.{Op, append, give, give_any, push, keep, test,
 use Rattle.lra_operations.specs.Graph.{Exit, broken, continued, returned, Node, empty, point, act, check, seq, choose, catch, leave}
 use Rattle.lra_program.specs.Sites.{Site, sites_of}
 use Rattle.lra_program.specs.Sites as sites
-use Rattle.lra_operations.specs.Inlined.{Frame, callee, Inl, InlAll, Declares, Loops, Gives, as_nothing, as_block, as_absent, as_assign, as_call, as_if, as_loop, as_for, as_break, as_continue}
+use Rattle.lra_operations.specs.Inlined.{Frame, Spot, callee, Inl, InlAll, Declares, Loops, Gives, as_nothing, as_block, as_absent, as_assign, as_call, as_if, as_loop, as_for, as_break, as_continue}
 use Rattle.lra_operations.specs.Inlined.{as_return, as_return_value, as_return_call, as_end, as_end_value, as_end_call, as_assert, as_assume, as_none, as_declaration, as_statement, as_fresh, as_given}
 use Rattle.lra_operations.specs.Inlined.{is_loop, as_value, as_result, loop_node, call_node, return_node, main_frame}
 use Rattle.lra_operations.specs.Agree.{IsGraph}
@@ -228,19 +228,19 @@ one_more P f n own st = record { globals = (let g = st.globals in omega arith); 
 other_loop : (P : Program) (f : Frame) (n own : ℕ) (l : Option ℕ) → Standing P f n own → Standing P (in_loop f l) n own
 other_loop P f n own l st = record { globals = st.globals; within = st.within; target = st.target }
 
-low_all : {P : Program} {T : List Site} {f : Frame} {n q : ℕ} {s : BlockItems} {g : Node} {n' q' : ℕ} → InlAll P T f n q s g n' q' → n ≤ n'
-low_all (as_none f n q) = omega arith
-low_all (as_declaration f n q d b g h r n' q' i j e) = let rest = low_all e in omega arith
-low_all (as_statement f n q a b g h r n' q' d e) = low_all e
+low_all : {P : Program} {T : List Site} {spot : Spot} {s : BlockItems} {g : Node} {n q : ℕ} → InlAll P T spot s g n q → spot.live ≤ n
+low_all as_none = omega arith
+low_all (as_declaration i j e) = let rest = low_all e in omega arith
+low_all (as_statement d e) = low_all e
 
-own_low : {P : Program} {T : List Site} {f : Frame} {n q : ℕ} {s : BlockItems} {g : Node} {n' q' : ℕ} (base own : ℕ) → InlAll P T f n q s g n' q' → base + own ≤ n → base + sites.live_behind own s ≤ n'
-own_low base own (as_none f n q) w = w
-own_low base own (as_declaration f n q d b g h r n' q' i j e) w = own_low base (suc own) e (omega arith)
-own_low base own (as_statement f n q a b g h r n' q' d e) w = own_low base own e w
+own_low : {P : Program} {T : List Site} {spot : Spot} {s : BlockItems} {g : Node} {n q : ℕ} (base own : ℕ) → InlAll P T spot s g n q → base + own ≤ spot.live → base + sites.live_behind own s ≤ n
+own_low base own as_none w = w
+own_low base own (as_declaration i j e) w = own_low base (suc own) e (omega arith)
+own_low base own (as_statement d e) w = own_low base own e w
 
 module _ (P : Program) (T : List Site) (few : AllFew T) (well : IsWellFormed P) where
-  loop_few : {f : Frame} {n q r : ℕ} {s : Stmt} {g : Node} {q' : ℕ} → Loops P T f n q r s g q' → Few n
-  loop_few (is_loop f n q r at c a step g h r' q' i d e) = few q _ i
+  loop_few : {spot : Spot} {r : ℕ} {s : Stmt} {g : Node} {q : ℕ} → Loops P T spot r s g q → Few spot.live
+  loop_few (is_loop {s = spot} i d e) = few spot.next _ i
 
   behind_init : (f : Frame) (n n' own : ℕ) (items : BlockItems) → Standing P f n own → n ≤ n' → f.here.base + sites.live_behind own items ≤ n' → Standing P f n' (sites.live_behind own items)
   behind_init f n n' own items st low w = record { globals = (let g = st.globals in omega arith); within = w; target = st.target }
@@ -254,66 +254,74 @@ module _ (P : Program) (T : List Site) (few : AllFew T) (well : IsWellFormed P) 
   }
 
   mutual
-    fit_one : {f : Frame} {n q : ℕ} {s : Stmt} {g : Node} {n' q' : ℕ} → Inl P T f n q s g n' q' → (l : Bool) (own : ℕ) → Standing P f n own → Few n → IsGoodStmt P l own s → Fit f n n' g
-    fit_one (as_nothing f n q at i) l own st fw good = point_fit q
-    fit_one (as_block f n q body end g n' q' d i) l own st fw good =
-        let fw' : Few n' = few q' _ i in seq_fit _ _ fw' (fit_all d l own st fw' good) (seq_fit _ _ fw' (point_fit q') (keep_fit q' n (low_all d)))
-    fit_one (as_absent f n q) l own st fw good = empty_fit
-    fit_one (as_assign f n q at x e g q' i d) l own st fw good = seq_fit _ _ fw (point_fit q) (fit_gives d at own st fw (place_of P f n own x st good.0) good.1)
-    fit_one (as_call f n q at c g q' i d) l own st fw good = seq_fit _ _ fw (point_fit q) (fit_gives d at own st fw tt good)
-    fit_one (as_if f n q at c a b g h r q' i d e) l own st fw good =
-        seq_fit _ _ fw (point_fit q) (choose_fit q f.here.base c g h (fit_one d l own st fw good.1) (fit_one e l own st fw good.2))
-    fit_one (as_loop f n q s g q' d) l own st fw good = fit_loop d l own st good
-    fit_one (as_for f n q at init c a step g h n' r q' d e) l own st fw good =
+    fit_one : {spot : Spot} {s : Stmt} {g : Node} {q : ℕ} → Inl P T spot s g q → (l : Bool) (own : ℕ) → Standing P spot.frame spot.live own → Few spot.live → IsGoodStmt P l own s →
+        Fit spot.frame spot.live spot.live g
+    fit_one (as_nothing {s = spot} i) l own st fw good = point_fit spot.next
+    fit_one (as_block {s = spot} {n = n'} {q = q'} d i) l own st fw good =
+        let fw' : Few n' = few q' _ i in seq_fit _ _ fw' (fit_all d l own st fw' good) (seq_fit _ _ fw' (point_fit q') (keep_fit q' spot.live (low_all d)))
+    fit_one as_absent l own st fw good = empty_fit
+    fit_one (as_assign {s = spot} {at = at} {x = x} i d) l own st fw good = seq_fit _ _ fw (point_fit spot.next) (fit_gives d at own st fw (place_of P spot.frame spot.live own x st good.0) good.1)
+    fit_one (as_call {s = spot} {at = at} i d) l own st fw good = seq_fit _ _ fw (point_fit spot.next) (fit_gives d at own st fw tt good)
+    fit_one (as_if {s = spot} {c = c} {g = g} {h = h} i d e) l own st fw good =
+        seq_fit _ _ fw (point_fit spot.next) (choose_fit spot.next spot.frame.here.base c g h (fit_one d l own st fw good.1) (fit_one e l own st fw good.2))
+    fit_one (as_loop d) l own st fw good = fit_loop d l own st good
+    fit_one (as_for {s = spot} {init = init} {n = n'} d e) l own st fw good =
         let fw' : Few n' = loop_few e in
-        let low : n ≤ n' = low_all d in
+        let low : spot.live ≤ n' = low_all d in
         seq_fit _ _ fw' (fit_all d false own st fw' good.0)
-        (seq_fit _ _ fw' (fit_loop e false (sites.live_behind own init) (behind_init f n n' own init st low (own_low f.here.base own d st.within)) (good.1, good.2, good.3)) (keep_fit q n low))
-    fit_one (as_break f n q at m i k j) l own st fw good = seq_fit _ _ fw (point_fit q) (seq_fit _ _ (omega arith) (keep_fit q m k) (break_fit fw i))
-    fit_one (as_continue f n q at m i k j) l own st fw good = seq_fit _ _ fw (point_fit q) (seq_fit _ _ (omega arith) (keep_fit q m k) (continue_fit fw i))
-    fit_one (as_return f n q at b i k j) l own st fw good =
-        seq_fit _ _ fw (point_fit q) (return_node_fit q _ b i k fw (any_fit q b.target (place_more b.target b.length n k (st.target b i))))
-    fit_one (as_return_value f n q at e b i k j) l own st fw good =
-        seq_fit _ _ fw (point_fit q) (return_node_fit q _ b i k fw (give_fit q f.here.base b.target e (place_more b.target b.length n k (st.target b i))))
-    fit_one (as_return_call f n q at c b g q' i k j d) l own st fw good =
-        seq_fit _ _ fw (point_fit q) (seq_fit _ _ fw (fit_gives d at own st fw (place_more b.target b.length n k (st.target b i)) good)
-        (seq_fit _ _ (omega arith) (keep_fit q b.length k) (return_fit b fw i)))
-    fit_one (as_end f n q at i j) l own st fw good = seq_fit _ _ fw (point_fit q) (end_fit fw i)
-    fit_one (as_end_value f n q at e i j) l own st fw good = seq_fit _ _ fw (point_fit q) (end_fit fw i)
-    fit_one (as_end_call f n q at c g q' i j d) l own st fw good = seq_fit _ _ fw (point_fit q) (seq_fit _ _ fw (fit_gives d at own st fw tt good) (end_fit fw i))
-    fit_one (as_assert f n q at c i) l own st fw good = seq_fit _ _ fw (point_fit q) (check_fit q f.here.base c)
-    fit_one (as_assume f n q at c i) l own st fw good = seq_fit _ _ fw (point_fit q) (test_fit q f.here.base c true)
+        (seq_fit _ _ fw' (fit_loop e false (sites.live_behind own init) (behind_init spot.frame spot.live n' own init st low (own_low spot.frame.here.base own d st.within)) (good.1, good.2, good.3))
+        (keep_fit spot.next spot.live low))
+    fit_one (as_break {s = spot} {m = m} i k j) l own st fw good = seq_fit _ _ fw (point_fit spot.next) (seq_fit _ _ (omega arith) (keep_fit spot.next m k) (break_fit fw i))
+    fit_one (as_continue {s = spot} {m = m} i k j) l own st fw good = seq_fit _ _ fw (point_fit spot.next) (seq_fit _ _ (omega arith) (keep_fit spot.next m k) (continue_fit fw i))
+    fit_one (as_return {s = spot} {b = b} i k j) l own st fw good =
+        seq_fit _ _ fw (point_fit spot.next) (return_node_fit spot.next _ b i k fw (any_fit spot.next b.target (place_more b.target b.length spot.live k (st.target b i))))
+    fit_one (as_return_value {s = spot} {e = e} {b = b} i k j) l own st fw good =
+        seq_fit _ _ fw (point_fit spot.next) (return_node_fit spot.next _ b i k fw (give_fit spot.next spot.frame.here.base b.target e (place_more b.target b.length spot.live k (st.target b i))))
+    fit_one (as_return_call {s = spot} {at = at} {b = b} i k j d) l own st fw good =
+        seq_fit _ _ fw (point_fit spot.next) (seq_fit _ _ fw (fit_gives d at own st fw (place_more b.target b.length spot.live k (st.target b i)) good)
+        (seq_fit _ _ (omega arith) (keep_fit spot.next b.length k) (return_fit b fw i)))
+    fit_one (as_end {s = spot} i j) l own st fw good = seq_fit _ _ fw (point_fit spot.next) (end_fit fw i)
+    fit_one (as_end_value {s = spot} i j) l own st fw good = seq_fit _ _ fw (point_fit spot.next) (end_fit fw i)
+    fit_one (as_end_call {s = spot} {at = at} i j d) l own st fw good = seq_fit _ _ fw (point_fit spot.next) (seq_fit _ _ fw (fit_gives d at own st fw tt good) (end_fit fw i))
+    fit_one (as_assert {s = spot} {c = c} i) l own st fw good = seq_fit _ _ fw (point_fit spot.next) (check_fit spot.next spot.frame.here.base c)
+    fit_one (as_assume {s = spot} {c = c} i) l own st fw good = seq_fit _ _ fw (point_fit spot.next) (test_fit spot.next spot.frame.here.base c true)
 
-    fit_all : {f : Frame} {n q : ℕ} {s : BlockItems} {g : Node} {n' q' : ℕ} → InlAll P T f n q s g n' q' → (l : Bool) (own : ℕ) → Standing P f n own → Few n' → AreGoodItems P l own s → Fit f n n' g
-    fit_all (as_none f n q) l own st fw good = empty_fit
-    fit_all (as_declaration f n q d b g h r n' q' i j e) l own st fw good =
-        let low : suc n ≤ n' = low_all e in
-        let more : Few (suc n) = omega arith in
-        let now : Few n = omega arith in
-        seq_fit _ _ more (seq_fit _ _ now (point_fit q) (fit_declares j d.label own st more good.0)) (fit_all e l (suc own) (one_more P f n own st) fw good.1)
-    fit_all (as_statement f n q a b g h r n' q' d e) l own st fw good =
-        let low : n ≤ n' = low_all e in
-        let now : Few n = omega arith in
+    fit_all : {spot : Spot} {s : BlockItems} {g : Node} {n q : ℕ} → InlAll P T spot s g n q → (l : Bool) (own : ℕ) → Standing P spot.frame spot.live own → Few n → AreGoodItems P l own s →
+        Fit spot.frame spot.live n g
+    fit_all as_none l own st fw good = empty_fit
+    fit_all (as_declaration {s = spot} {d = d} {n = n'} i j e) l own st fw good =
+        let low : suc spot.live ≤ n' = low_all e in
+        let more : Few (suc spot.live) = omega arith in
+        let now : Few spot.live = omega arith in
+        seq_fit _ _ more (seq_fit _ _ now (point_fit spot.next) (fit_declares j d.label own st more good.0)) (fit_all e l (suc own) (one_more P spot.frame spot.live own st) fw good.1)
+    fit_all (as_statement {s = spot} {n = n'} d e) l own st fw good =
+        let low : spot.live ≤ n' = low_all e in
+        let now : Few spot.live = omega arith in
         seq_fit _ _ now (fit_one d l own st now good.0) (fit_all e l own st fw good.1)
 
-    fit_declares : {f : Frame} {n q r : ℕ} {e : Option Source} {g : Node} {q' : ℕ} → Declares P T f n q r e g q' → (at own : ℕ) → Standing P f n own → Few (suc n) → IsGoodGiven P at (suc own) e →
-        Fit f n (suc n) g
-    fit_declares (as_fresh f n q r) at own st fw good = append_fit q fw
-    fit_declares (as_given f n q r e g q' d) at own st fw good =
-        seq_fit _ _ fw (append_fit q fw) (fit_gives d at (suc own) (one_more P f n own st) fw (let last : n < suc n = omega arith in last) good)
+    fit_declares : {spot : Spot} {r : ℕ} {e : Option Source} {g : Node} {q : ℕ} → Declares P T spot r e g q → (at own : ℕ) → Standing P spot.frame spot.live own → Few (suc spot.live) →
+        IsGoodGiven P at (suc own) e →
+        Fit spot.frame spot.live (suc spot.live) g
+    fit_declares (as_fresh {s = spot}) at own st fw good = append_fit spot.next fw
+    fit_declares (as_given {s = spot} d) at own st fw good =
+        seq_fit _ _ fw (append_fit spot.next fw) (fit_gives d at (suc own) (one_more P spot.frame spot.live own st) fw (let last : spot.live < suc spot.live = omega arith in last) good)
 
-    fit_loop : {f : Frame} {n q r : ℕ} {s : Stmt} {g : Node} {q' : ℕ} → Loops P T f n q r s g q' → (l : Bool) (own : ℕ) → Standing P f n own → IsGoodStmt P l own s → Fit f n n g
-    fit_loop (is_loop f n q r at c a step g h r' q' i d e) l own st good =
-        let fw : Few n = few q _ i in
-        loop_fit f n g h fw (fit_one e true own (other_loop P f n own (Some n) st) fw good.1) (fit_one d false own (other_loop P f n own None st) fw good.2) q f.here.base c
+    fit_loop : {spot : Spot} {r : ℕ} {s : Stmt} {g : Node} {q : ℕ} → Loops P T spot r s g q → (l : Bool) (own : ℕ) → Standing P spot.frame spot.live own → IsGoodStmt P l own s →
+        Fit spot.frame spot.live spot.live g
+    fit_loop (is_loop {s = spot} {c = c} {g = g} {h = h} i d e) l own st good =
+        let fw : Few spot.live = few spot.next _ i in
+        loop_fit spot.frame spot.live g h fw (fit_one e true own (other_loop P spot.frame spot.live own (Some spot.live) st) fw good.1)
+        (fit_one d false own (other_loop P spot.frame spot.live own None st) fw good.2) spot.next spot.frame.here.base c
 
-    fit_gives : {f : Frame} {n q r : ℕ} {x : Option ℕ} {e : Source} {g : Node} {q' : ℕ} → Gives P T f n q r x e g q' → (at own : ℕ) → Standing P f n own → Few n → PlaceFits x n →
-        IsGoodSource P at own e → Fit f n n g
-    fit_gives (as_value f n q r x e) at own st fw place good = give_fit q f.here.base x e place
-    fit_gives (as_result f n q r x c fn g n' r' i j d k) at own st fw place good =
+    fit_gives : {spot : Spot} {r : ℕ} {x : Option ℕ} {e : Source} {g : Node} {q : ℕ} → Gives P T spot r x e g q → (at own : ℕ) → Standing P spot.frame spot.live own → Few spot.live →
+        PlaceFits x spot.live →
+        IsGoodSource P at own e → Fit spot.frame spot.live spot.live g
+    fit_gives (as_value {s = spot} {x = x} {e = e}) at own st fw place good = give_fit spot.next spot.frame.here.base x e place
+    fit_gives (as_result {s = spot} {x = x} {c = c} {fn = fn} {g = g} {n = n'} {q = r'} i j d k) at own st fw place good =
         let fw' : Few n' = few r' _ k in
-        call_fit f n r' x c.arguments fn.parameters g (callee f n x c) n' j refl refl (low_all d) fw' place
-        (fit_all d false fn.parameters (in_callee f n own fn.parameters x (callee f n x c) st place refl refl) fw' (all_at (IsGoodFunction P) P.functions c.function fn well.functions i)) q
+        call_fit spot.frame spot.live r' x c.arguments fn.parameters g (callee spot.frame spot.live x c) n' j refl refl (low_all d) fw' place
+        (fit_all d false fn.parameters (in_callee spot.frame spot.live own fn.parameters x (callee spot.frame spot.live x c) st place refl refl) fw'
+        (all_at (IsGoodFunction P) P.functions c.function fn well.functions i)) spot.next
 
 contains_at : {A : Type 0} (P : A → Type 0) (xs : List A) (x : A) → AllByRecursion P xs → Contains xs x → P x
 contains_at P [] x h there = absurd (contains_none x there)

@@ -6,7 +6,7 @@ use Rattle.lra_domain.specs.declared.Exactness.TheVariants.{Exact, Flagged}
 use Rattle.lra_program.specs.Program.{Cond, Source, Stmt, BlockItems, Program}
 use Rattle.lra_operations.specs.Graph.{Exit, broken, continued, returned, Node, empty, point, act, check, seq, choose, iterate, catch, leave}
 use Rattle.lra_program.specs.Sites.{Site, sites_of}
-use Rattle.lra_operations.specs.Inlined.{Frame, HasSite, Inl, InlAll, Declares, Loops, Gives, as_nothing, as_block, as_absent, as_assign, as_call, as_if, as_loop, as_for, as_break, as_continue}
+use Rattle.lra_operations.specs.Inlined.{Spot, move, HasSite, Inl, InlAll, Declares, Loops, Gives, as_nothing, as_block, as_absent, as_assign, as_call, as_if, as_loop, as_for, as_break, as_continue}
 use Rattle.lra_operations.specs.Inlined.{as_return, as_return_value, as_return_call, as_end, as_end_value, as_end_call, as_assert, as_assume, as_none, as_declaration, as_statement, as_fresh, as_given}
 use Rattle.lra_operations.specs.Inlined.{is_loop, as_value, as_result}
 use Rattle.lra_operations.specs.Agree.{IsGraph}
@@ -19,8 +19,8 @@ use Rattle.lra_iter.specs.Numbers.{AreBelow, IsBelow}
 -- trees --------------------------------------------------------------------------------------------------------------
 
 module _ (P : Program) (T : List Site) where
-  site_below : (f : Frame) (q n at : ℕ) (b : Bool) → HasSite T q f n at b → q < length T
-  site_below f q n at b has = slice_get_within T q _ has
+  site_below : (s : Spot) (at : ℕ) (b : Bool) → HasSite T s at b → s.next < length T
+  site_below s at b has = slice_get_within T s.next _ has
 
   abbrev Below : Node → Type 0
   Below g = AreBelow (length T) g
@@ -30,41 +30,41 @@ module _ (P : Program) (T : List Site) where
   LoopBelow g q = (q < length T) × Below g
 
   mutual
-    below_one : {f : Frame} {n q : ℕ} {s : Stmt} {g : Node} {n' q' : ℕ} → Inl P T f n q s g n' q' → Below g
-    below_one (as_nothing f n q at i) = tt
-    below_one (as_block f n q body end g n' q' d i) = (below_all d, (tt, site_below f q' n' end _ i))
-    below_one (as_absent f n q) = tt
-    below_one (as_assign f n q at x e g q' i d) = (tt, below_gives d (site_below f q n at _ i))
-    below_one (as_call f n q at c g q' i d) = (tt, below_gives d (site_below f q n at _ i))
-    below_one (as_if f n q at c a b g h r q' i d e) = (tt, (site_below f q n at _ i, below_one d, below_one e))
-    below_one (as_loop f n q s g q' d) = (below_loop d).1
-    below_one (as_for f n q at init c a step g h n' r q' d e) = let l = below_loop e in (below_all d, (l.1, l.0))
-    below_one (as_break f n q at m i l j) = (tt, (site_below f q n at _ j, tt))
-    below_one (as_continue f n q at m i l j) = (tt, (site_below f q n at _ j, tt))
-    below_one (as_return f n q at b i l j) = (tt, (site_below f q n at _ j, (site_below f q n at _ j, tt)))
-    below_one (as_return_value f n q at e b i l j) = (tt, (site_below f q n at _ j, (site_below f q n at _ j, tt)))
-    below_one (as_return_call f n q at c b g q' i l j d) = (tt, (below_gives d (site_below f q n at _ j), (site_below f q n at _ j, tt)))
-    below_one (as_end f n q at i j) = (tt, tt)
-    below_one (as_end_value f n q at e i j) = (tt, tt)
-    below_one (as_end_call f n q at c g q' i j d) = (tt, (below_gives d (site_below f q n at _ j), tt))
-    below_one (as_assert f n q at c i) = (tt, site_below f q n at _ i)
-    below_one (as_assume f n q at c i) = (tt, site_below f q n at _ i)
+    below_one : {spot : Spot} {s : Stmt} {g : Node} {q : ℕ} → Inl P T spot s g q → Below g
+    below_one (as_nothing i) = tt
+    below_one (as_block {s = spot} {end = end} {n = n'} {q = q'} d i) = (below_all d, (tt, site_below (move spot n' q') end _ i))
+    below_one as_absent = tt
+    below_one (as_assign {s = spot} {at = at} i d) = (tt, below_gives d (site_below spot at _ i))
+    below_one (as_call {s = spot} {at = at} i d) = (tt, below_gives d (site_below spot at _ i))
+    below_one (as_if {s = spot} {at = at} i d e) = (tt, (site_below spot at _ i, below_one d, below_one e))
+    below_one (as_loop d) = (below_loop d).1
+    below_one (as_for d e) = let l = below_loop e in (below_all d, (l.1, l.0))
+    below_one (as_break {s = spot} {at = at} i l j) = (tt, (site_below spot at _ j, tt))
+    below_one (as_continue {s = spot} {at = at} i l j) = (tt, (site_below spot at _ j, tt))
+    below_one (as_return {s = spot} {at = at} i l j) = (tt, (site_below spot at _ j, (site_below spot at _ j, tt)))
+    below_one (as_return_value {s = spot} {at = at} i l j) = (tt, (site_below spot at _ j, (site_below spot at _ j, tt)))
+    below_one (as_return_call {s = spot} {at = at} i l j d) = (tt, (below_gives d (site_below spot at _ j), (site_below spot at _ j, tt)))
+    below_one (as_end i j) = (tt, tt)
+    below_one (as_end_value i j) = (tt, tt)
+    below_one (as_end_call {s = spot} {at = at} i j d) = (tt, (below_gives d (site_below spot at _ j), tt))
+    below_one (as_assert {s = spot} {at = at} i) = (tt, site_below spot at _ i)
+    below_one (as_assume {s = spot} {at = at} i) = (tt, site_below spot at _ i)
 
-    below_all : {f : Frame} {n q : ℕ} {s : BlockItems} {g : Node} {n' q' : ℕ} → InlAll P T f n q s g n' q' → Below g
-    below_all (as_none f n q) = tt
-    below_all (as_declaration f n q d b g h r n' q' i j e) = ((tt, below_declares j (site_below f q n _ _ i)), below_all e)
-    below_all (as_statement f n q a b g h r n' q' d e) = (below_one d, below_all e)
+    below_all : {spot : Spot} {s : BlockItems} {g : Node} {n q : ℕ} → InlAll P T spot s g n q → Below g
+    below_all as_none = tt
+    below_all (as_declaration {s = spot} i j e) = ((tt, below_declares j (site_below spot _ _ i)), below_all e)
+    below_all (as_statement d e) = (below_one d, below_all e)
 
-    below_declares : {f : Frame} {n q r : ℕ} {e : Option Source} {g : Node} {q' : ℕ} → Declares P T f n q r e g q' → q < length T → Below g
-    below_declares (as_fresh f n q r) l = l
-    below_declares (as_given f n q r e g q' d) l = (l, below_gives d l)
+    below_declares : {spot : Spot} {r : ℕ} {e : Option Source} {g : Node} {q : ℕ} → Declares P T spot r e g q → spot.next < length T → Below g
+    below_declares as_fresh l = l
+    below_declares (as_given d) l = (l, below_gives d l)
 
-    below_loop : {f : Frame} {n q r : ℕ} {s : Stmt} {g : Node} {q' : ℕ} → Loops P T f n q r s g q' → LoopBelow g q
-    below_loop (is_loop f n q r at c a step g h r' q' i d e) = let l = site_below f q n at _ i in (l, (l, (l, ((l, below_one e), below_one d))))
+    below_loop : {spot : Spot} {r : ℕ} {s : Stmt} {g : Node} {q : ℕ} → Loops P T spot r s g q → LoopBelow g spot.next
+    below_loop (is_loop {s = spot} {at = at} i d e) = let l = site_below spot at _ i in (l, (l, (l, ((l, below_one e), below_one d))))
 
-    below_gives : {f : Frame} {n q r : ℕ} {x : Option ℕ} {e : Source} {g : Node} {q' : ℕ} → Gives P T f n q r x e g q' → q < length T → Below g
-    below_gives (as_value f n q r x e) l = l
-    below_gives (as_result f n q r x c fn g n' r' i j d h) l = let m = slice_get_within T r' _ h in (l, (l, (below_all d, (tt, (m, (m, m))))))
+    below_gives : {spot : Spot} {r : ℕ} {x : Option ℕ} {e : Source} {g : Node} {q : ℕ} → Gives P T spot r x e g q → spot.next < length T → Below g
+    below_gives as_value l = l
+    below_gives (as_result {q = r'} i j d h) l = let m = slice_get_within T r' _ h in (l, (l, (below_all d, (tt, (m, (m, m))))))
 
 pub graph_below : (P : Program) (g : Node) → IsGraph P g → AreBelow (length (sites_of P)) g
 graph_below P g graph = subst (λ (h : Node). AreBelow (length (sites_of P)) h) (sym graph.parts) (below_all P (sites_of P) graph.inlined, tt)

@@ -6,9 +6,10 @@ use Rattle.std.proofs.lemmas.Option.{none-some, slice_get_within}
 use Rattle.lra_program.specs.Program.{Source, Stmt, BlockItems, Program}
 use Rattle.lra_operations.specs.Graph.{Node, seq, point}
 use Rattle.lra_program.specs.Sites.{Site, sites_of}
-use Rattle.lra_operations.specs.Inlined.{Frame, callee, Has, HasSite, Inl, InlAll, Declares, Loops, Gives, as_nothing, as_block, as_absent, as_assign, as_call, as_if, as_loop, as_for, as_break}
+use Rattle.lra_operations.specs.Inlined.{Spot, spot_of, move, callee, Has, HasSite, Inl, InlAll, Declares, Loops, Gives, as_nothing, as_block, as_absent, as_assign, as_call, as_if, as_loop, as_for}
+use Rattle.lra_operations.specs.Inlined.{as_break}
 use Rattle.lra_operations.specs.Inlined.{as_continue, as_return, as_return_value, as_return_call, as_end, as_end_value, as_end_call, as_assert, as_assume, as_none, as_declaration, as_statement}
-use Rattle.lra_operations.specs.Inlined.{as_fresh, as_given, is_loop, as_value, as_result, main_frame}
+use Rattle.lra_operations.specs.Inlined.{as_fresh, as_given, is_loop, as_value, as_result, main_spot}
 use Rattle.lra_operations.specs.Agree.{IsGraph}
 use Rattle.lra_iter.specs.Numbers.{one_if, values_in, checks_in, asserts_of, IsNumbered}
 use Rattle.lra_iter.proofs.Counting.{one_same, one_other}
@@ -57,26 +58,26 @@ module _ (T : List Site) (k : ℕ) where
   same : (c d x y a b : ℕ) → Numbers c d a b → x ≡ c → y ≡ d → Numbers x y a b
   same c d x y a b p e f = subst (λ (z : ℕ). Numbers x z a b) (sym f) (subst (λ (z : ℕ). Numbers z d a b) (sym e) p)
 
-  asserts_there : (f : Frame) (q n at : ℕ) (b : Bool) → HasSite T q f n at b → q ≡ k → asserts_of (slice_get T k) ≡ cond b 1 0
-  asserts_there f q n at b has e = subst (λ (j : ℕ). asserts_of (slice_get T j) ≡ cond b 1 0) e (ap asserts_of has)
+  asserts_there : (s : Spot) (at : ℕ) (b : Bool) → HasSite T s at b → s.next ≡ k → asserts_of (slice_get T k) ≡ cond b 1 0
+  asserts_there s at b has e = subst (λ (j : ℕ). asserts_of (slice_get T j) ≡ cond b 1 0) e (ap asserts_of has)
 
   -- a point that is no assertion
-  plain : (f : Frame) (q n at : ℕ) → Has T q f n at → Numbers (one_if q k) 0 q (suc q)
-  plain f q n at has = record {
+  plain : (s : Spot) (at : ℕ) → Has T s at → Numbers (one_if s.next k) 0 s.next (suc s.next)
+  plain s at has = record {
     low = omega arith;
-    values = one_counts q k;
-    checks = record { inside = λ h i. sym (asserts_there f q n at false has (omega (arith, h, i))); before = λ h. refl; behind = λ h. refl };
+    values = one_counts s.next k;
+    checks = record { inside = λ h i. sym (asserts_there s at false has (omega (arith, h, i))); before = λ h. refl; behind = λ h. refl };
   }
 
   -- and one that is
-  asserted : (f : Frame) (q n at : ℕ) → HasSite T q f n at true → Numbers (one_if q k) (one_if q k) q (suc q)
-  asserted f q n at has = record {
+  asserted : (s : Spot) (at : ℕ) → HasSite T s at true → Numbers (one_if s.next k) (one_if s.next k) s.next (suc s.next)
+  asserted s at has = record {
     low = omega arith;
-    values = one_counts q k;
+    values = one_counts s.next k;
     checks = record {
-      inside = λ h i. (one_counts q k).inside h i ∙ sym (asserts_there f q n at true has (omega (arith, h, i)));
-      before = (one_counts q k).before;
-      behind = (one_counts q k).behind;
+      inside = λ h i. (one_counts s.next k).inside h i ∙ sym (asserts_there s at true has (omega (arith, h, i)));
+      before = (one_counts s.next k).before;
+      behind = (one_counts s.next k).behind;
     };
   }
 
@@ -95,54 +96,55 @@ module _ (T : List Site) (k : ℕ) where
 
   module _ (P : Program) where
     mutual
-      in_one : {f : Frame} {n q : ℕ} {s : Stmt} {g : Node} {n' q' : ℕ} → Inl P T f n q s g n' q' → In g q q'
-      in_one (as_nothing f n q at i) = plain f q n at i
-      in_one (as_block f n q body end g n' q' d i) = then (values_in g k) (checks_in g k) (one_if q' k) 0 _ _ q q' (suc q') (in_all d) (plain f q' n' end i) (omega arith) (omega arith)
-      in_one (as_absent f n q) = none q
-      in_one (as_assign f n q at x e g q' i d) = point_then q q' (values_in g k) (checks_in g k) _ _ (plain f q n at i) (in_gives d) refl (omega arith)
-      in_one (as_call f n q at c g q' i d) = point_then q q' (values_in g k) (checks_in g k) _ _ (plain f q n at i) (in_gives d) refl (omega arith)
-      in_one (as_if f n q at c a b g h r q' i d e) =
-          point_then q q' (values_in g k + values_in h k) (checks_in g k + checks_in h k) _ _ (plain f q n at i)
-          (then (values_in g k) (checks_in g k) (values_in h k) (checks_in h k) _ _ (suc q) r q' (in_one d) (in_one e) refl refl) refl (omega arith)
-      in_one (as_loop f n q s g q' d) = let l = in_loop d in point_then q q' l.others (checks_in g k) _ _ l.own l.rest l.is refl
-      in_one (as_for f n q at init c a step g h n' r q' d e) =
+      in_one : {spot : Spot} {s : Stmt} {g : Node} {q : ℕ} → Inl P T spot s g q → In g spot.next q
+      in_one (as_nothing {s = spot} {at = at} i) = plain spot at i
+      in_one (as_block {s = spot} {end = end} {g = g} {n = n'} {q = q'} d i) = then (values_in g k) (checks_in g k) (one_if q' k) 0 _ _ spot.next q' (suc q') (in_all d) (plain (move spot n' q') end i)
+          (omega arith) (omega arith)
+      in_one (as_absent {s = spot}) = none spot.next
+      in_one (as_assign {s = spot} {at = at} {g = g} {q = q'} i d) = point_then spot.next q' (values_in g k) (checks_in g k) _ _ (plain spot at i) (in_gives d) refl (omega arith)
+      in_one (as_call {s = spot} {at = at} {g = g} {q = q'} i d) = point_then spot.next q' (values_in g k) (checks_in g k) _ _ (plain spot at i) (in_gives d) refl (omega arith)
+      in_one (as_if {s = spot} {at = at} {g = g} {h = h} {r = r} {q = q'} i d e) =
+          point_then spot.next q' (values_in g k + values_in h k) (checks_in g k + checks_in h k) _ _ (plain spot at i)
+          (then (values_in g k) (checks_in g k) (values_in h k) (checks_in h k) _ _ (suc spot.next) r q' (in_one d) (in_one e) refl refl) refl (omega arith)
+      in_one (as_loop {s = spot} {g = g} {q = q'} d) = let l = in_loop d in point_then spot.next q' l.others (checks_in g k) _ _ l.own l.rest l.is refl
+      in_one (as_for {s = spot} {g = g} {h = h} {r = r} {q = q'} d e) =
           let l = in_loop e in
-          point_then q q' (values_in g k + l.others) (checks_in g k + checks_in h k) _ _ l.own
-          (then (values_in g k) (checks_in g k) l.others (checks_in h k) _ _ (suc q) r q' (in_all d) l.rest refl refl) (let is = l.is in omega (arith, is)) (omega arith)
-      in_one (as_break f n q at m i l j) = same (one_if q k) 0 _ _ q (suc q) (plain f q n at j) (omega arith) (omega arith)
-      in_one (as_continue f n q at m i l j) = same (one_if q k) 0 _ _ q (suc q) (plain f q n at j) (omega arith) (omega arith)
-      in_one (as_return f n q at b i l j) = same (one_if q k) 0 _ _ q (suc q) (plain f q n at j) (omega arith) (omega arith)
-      in_one (as_return_value f n q at e b i l j) = same (one_if q k) 0 _ _ q (suc q) (plain f q n at j) (omega arith) (omega arith)
-      in_one (as_return_call f n q at c b g q' i l j d) = point_then q q' (values_in g k) (checks_in g k) _ _ (plain f q n at j) (in_gives d) (omega arith) (omega arith)
-      in_one (as_end f n q at i j) = same (one_if q k) 0 _ _ q (suc q) (plain f q n at j) (omega arith) (omega arith)
-      in_one (as_end_value f n q at e i j) = same (one_if q k) 0 _ _ q (suc q) (plain f q n at j) (omega arith) (omega arith)
-      in_one (as_end_call f n q at c g q' i j d) = point_then q q' (values_in g k) (checks_in g k) _ _ (plain f q n at j) (in_gives d) (omega arith) (omega arith)
-      in_one (as_assert f n q at c i) = same (one_if q k) (one_if q k) _ _ q (suc q) (asserted f q n at i) (omega arith) (omega arith)
-      in_one (as_assume f n q at c i) = same (one_if q k) 0 _ _ q (suc q) (plain f q n at i) (omega arith) (omega arith)
+          point_then spot.next q' (values_in g k + l.others) (checks_in g k + checks_in h k) _ _ l.own
+          (then (values_in g k) (checks_in g k) l.others (checks_in h k) _ _ (suc spot.next) r q' (in_all d) l.rest refl refl) (let is = l.is in omega (arith, is)) (omega arith)
+      in_one (as_break {s = spot} {at = at} i l j) = same (one_if spot.next k) 0 _ _ spot.next (suc spot.next) (plain spot at j) (omega arith) (omega arith)
+      in_one (as_continue {s = spot} {at = at} i l j) = same (one_if spot.next k) 0 _ _ spot.next (suc spot.next) (plain spot at j) (omega arith) (omega arith)
+      in_one (as_return {s = spot} {at = at} i l j) = same (one_if spot.next k) 0 _ _ spot.next (suc spot.next) (plain spot at j) (omega arith) (omega arith)
+      in_one (as_return_value {s = spot} {at = at} i l j) = same (one_if spot.next k) 0 _ _ spot.next (suc spot.next) (plain spot at j) (omega arith) (omega arith)
+      in_one (as_return_call {s = spot} {at = at} {g = g} {q = q'} i l j d) = point_then spot.next q' (values_in g k) (checks_in g k) _ _ (plain spot at j) (in_gives d) (omega arith) (omega arith)
+      in_one (as_end {s = spot} {at = at} i j) = same (one_if spot.next k) 0 _ _ spot.next (suc spot.next) (plain spot at j) (omega arith) (omega arith)
+      in_one (as_end_value {s = spot} {at = at} i j) = same (one_if spot.next k) 0 _ _ spot.next (suc spot.next) (plain spot at j) (omega arith) (omega arith)
+      in_one (as_end_call {s = spot} {at = at} {g = g} {q = q'} i j d) = point_then spot.next q' (values_in g k) (checks_in g k) _ _ (plain spot at j) (in_gives d) (omega arith) (omega arith)
+      in_one (as_assert {s = spot} {at = at} i) = same (one_if spot.next k) (one_if spot.next k) _ _ spot.next (suc spot.next) (asserted spot at i) (omega arith) (omega arith)
+      in_one (as_assume {s = spot} {at = at} i) = same (one_if spot.next k) 0 _ _ spot.next (suc spot.next) (plain spot at i) (omega arith) (omega arith)
 
-      in_all : {f : Frame} {n q : ℕ} {s : BlockItems} {g : Node} {n' q' : ℕ} → InlAll P T f n q s g n' q' → In g q q'
-      in_all (as_none f n q) = none q
-      in_all (as_declaration f n q d b g h r n' q' i j e) =
-          point_then q q' (values_in g k + values_in h k) (checks_in g k + checks_in h k) _ _ (plain f q n d.label i)
-          (then (values_in g k) (checks_in g k) (values_in h k) (checks_in h k) _ _ (suc q) r q' (in_declares j) (in_all e) refl refl) (omega arith) (omega arith)
-      in_all (as_statement f n q a b g h r n' q' d e) = then (values_in g k) (checks_in g k) (values_in h k) (checks_in h k) _ _ q r q' (in_one d) (in_all e) refl refl
+      in_all : {spot : Spot} {s : BlockItems} {g : Node} {n q : ℕ} → InlAll P T spot s g n q → In g spot.next q
+      in_all (as_none {s = spot}) = none spot.next
+      in_all (as_declaration {s = spot} {d = d} {g = g} {h = h} {r = r} {q = q'} i j e) =
+          point_then spot.next q' (values_in g k + values_in h k) (checks_in g k + checks_in h k) _ _ (plain spot d.label i)
+          (then (values_in g k) (checks_in g k) (values_in h k) (checks_in h k) _ _ (suc spot.next) r q' (in_declares j) (in_all e) refl refl) (omega arith) (omega arith)
+      in_all (as_statement {s = spot} {g = g} {h = h} {r = r} {q = q'} d e) = then (values_in g k) (checks_in g k) (values_in h k) (checks_in h k) _ _ spot.next r q' (in_one d) (in_all e) refl refl
 
-      in_declares : {f : Frame} {n q r : ℕ} {e : Option Source} {g : Node} {q' : ℕ} → Declares P T f n q r e g q' → In g r q'
-      in_declares (as_fresh f n q r) = none r
-      in_declares (as_given f n q r e g q' d) = same (values_in g k) (checks_in g k) _ _ r q' (in_gives d) (omega arith) (omega arith)
+      in_declares : {spot : Spot} {r : ℕ} {e : Option Source} {g : Node} {q : ℕ} → Declares P T spot r e g q → In g r q
+      in_declares (as_fresh {r = r}) = none r
+      in_declares (as_given {r = r} {g = g} {q = q'} d) = same (values_in g k) (checks_in g k) _ _ r q' (in_gives d) (omega arith) (omega arith)
 
-      in_loop : {f : Frame} {n q r : ℕ} {s : Stmt} {g : Node} {q' : ℕ} → Loops P T f n q r s g q' → Loop g q r q'
-      in_loop (is_loop f n q r at c a step g h r' q' i d e) = record {
+      in_loop : {spot : Spot} {r : ℕ} {s : Stmt} {g : Node} {q : ℕ} → Loops P T spot r s g q → Loop g spot.next r q
+      in_loop (is_loop {s = spot} {r = r} {at = at} {g = g} {h = h} {m = r'} {q = q'} i d e) = record {
         others = values_in g k + values_in h k;
-        own = plain f q n at i;
+        own = plain spot at i;
         rest = then (values_in h k) (checks_in h k) (values_in g k) (checks_in g k) _ _ r r' q' (in_one d) (in_one e) (omega arith) (omega arith);
         is = refl;
       }
 
-      in_gives : {f : Frame} {n q r : ℕ} {x : Option ℕ} {e : Source} {g : Node} {q' : ℕ} → Gives P T f n q r x e g q' → In g r q'
-      in_gives (as_value f n q r x e) = none r
-      in_gives (as_result f n q r x c fn g n' r' i j d l) =
-          then (values_in g k) (checks_in g k) (one_if r' k) 0 _ _ r r' (suc r') (in_all d) (plain (callee f n x c) r' n' fn.end l) (omega arith) (omega arith)
+      in_gives : {spot : Spot} {r : ℕ} {x : Option ℕ} {e : Source} {g : Node} {q : ℕ} → Gives P T spot r x e g q → In g r q
+      in_gives (as_value {r = r}) = none r
+      in_gives (as_result {s = spot} {r = r} {x = x} {c = c} {fn = fn} {g = g} {n = n'} {q = r'} i j d l) =
+          then (values_in g k) (checks_in g k) (one_if r' k) 0 _ _ r r' (suc r') (in_all d) (plain (spot_of (callee spot.frame spot.live x c) n' r') fn.end l) (omega arith) (omega arith)
 
 past_none : {A : Type 0} (xs : List A) (k : ℕ) → slice_get xs k ≡ None → length xs ≤ k
 past_none [] k e = omega arith
@@ -158,7 +160,7 @@ numbered P g graph = subst (λ (h : Node). IsNumbered (sites_of P) h) (sym graph
   where
     all : (k : ℕ) → Numbers (sites_of P) k (values_in (seq graph.body (point graph.last)) k) (checks_in (seq graph.body (point graph.last)) k) 0 (suc graph.last)
     all k = then (sites_of P) k (values_in graph.body k) (checks_in graph.body k) (one_if graph.last k) 0 _ _ 0 graph.last (suc graph.last)
-        (in_all (sites_of P) k P graph.inlined) (plain (sites_of P) k (main_frame P) graph.last graph.live P.main.end graph.ends) refl refl
+        (in_all (sites_of P) k P graph.inlined) (plain (sites_of P) k (move (main_spot P) graph.live graph.last) P.main.end graph.ends) refl refl
 
     checked : (k : ℕ) (o : Option Site) → slice_get (sites_of P) k ≡ o → checks_in (seq graph.body (point graph.last)) k ≡ asserts_of (slice_get (sites_of P) k)
     checked k (Some s) there = let n = all k in let inside = slice_get_within (sites_of P) k s there in n.checks.inside (omega arith) (omega (arith, inside, graph.all))

@@ -6,9 +6,10 @@ use Rattle.lra_program.specs.Step as step
 use Rattle.lra_program.specs.Step.{Op, append, give, give_any, keep, test}
 use Rattle.lra_operations.specs.Graph.{Exit, broken, continued, returned, Node, point, act, seq, catch, leave}
 use Rattle.lra_program.specs.Sites.{Site, sites_of}
-use Rattle.lra_operations.specs.Inlined.{Frame, callee, HasSite, Inl, InlAll, Declares, Loops, Gives, as_nothing, as_block, as_absent, as_assign, as_call, as_if, as_loop, as_for, as_break}
+use Rattle.lra_operations.specs.Inlined.{Spot, spot_of, move, callee, HasSite, Inl, InlAll, Declares, Loops, Gives, as_nothing, as_block, as_absent, as_assign, as_call, as_if, as_loop, as_for}
+use Rattle.lra_operations.specs.Inlined.{as_break}
 use Rattle.lra_operations.specs.Inlined.{as_continue, as_return, as_return_value, as_return_call, as_end, as_end_value, as_end_call, as_assert, as_assume, as_none, as_declaration, as_statement}
-use Rattle.lra_operations.specs.Inlined.{as_fresh, as_given, is_loop, as_value, as_result, loop_node, return_node, main_frame}
+use Rattle.lra_operations.specs.Inlined.{as_fresh, as_given, is_loop, as_value, as_result, loop_node, return_node, main_spot}
 use Rattle.lra_operations.specs.Agree.{IsGraph}
 use Rattle.lra_change.specs.Changes.{dims_behind}
 use Rattle.lra_iter.specs.Fits.{live_behind}
@@ -16,8 +17,8 @@ use Rattle.lra_iter.specs.Lives.{LiveAt, PointsHave}
 
 -- trees --------------------------------------------------------------------------------------------------------------
 
-live_at : (T : List Site) (f : Frame) (q n at : ℕ) (b : Bool) → HasSite T q f n at b → LiveAt T q n
-live_at T f q n at b has s there = ap (λ (x : Site). x.live) (same_Some _ s (sym has ∙ there))
+live_at : (T : List Site) (spot : Spot) (at : ℕ) (b : Bool) → HasSite T spot at b → LiveAt T spot.next spot.live
+live_at T spot at b has s there = ap (λ (x : Site). x.live) (same_Some _ s (sym has ∙ there))
 
 -- begun with n variables, the tree has its points so and ends with n' variables
 pub record Lives (T : List Site) (n n' : ℕ) (g : Node) : Type 0 where
@@ -54,61 +55,63 @@ module _ (T : List Site) where
       let body : Lives T n n (seq (catch q continued g) h) = then_lives _ _ caught_body y in
       record { points = (here, body.points, body.behind); behind = refl }
 
-  low_all : {P : Program} {f : Frame} {n q : ℕ} {s : BlockItems} {g : Node} {n' q' : ℕ} → InlAll P T f n q s g n' q' → n ≤ n'
-  low_all (as_none f n q) = omega arith
-  low_all (as_declaration f n q d b g h r n' q' i j e) = let rest = low_all e in omega arith
-  low_all (as_statement f n q a b g h r n' q' d e) = low_all e
+  low_all : {P : Program} {spot : Spot} {s : BlockItems} {g : Node} {n q : ℕ} → InlAll P T spot s g n q → spot.live ≤ n
+  low_all as_none = omega arith
+  low_all (as_declaration i j e) = let rest = low_all e in omega arith
+  low_all (as_statement d e) = low_all e
 
   module _ (P : Program) where
     mutual
-      lives_one : {f : Frame} {n q : ℕ} {s : Stmt} {g : Node} {n' q' : ℕ} → Inl P T f n q s g n' q' → Lives T n n' g
-      lives_one (as_nothing f n q at i) = at_point q (live_at T f q n at _ i)
-      lives_one (as_block f n q body end g n' q' d i) = then_lives _ _ (lives_all d) (then_lives _ _ (at_point q' (live_at T f q' n' end _ i)) (keeps q' n (low_all d)))
-      lives_one (as_absent f n q) = record { points = tt; behind = refl }
-      lives_one (as_assign f n q at x e g q' i d) = then_lives _ _ (at_point q (live_at T f q n at _ i)) (lives_gives d)
-      lives_one (as_call f n q at c g q' i d) = then_lives _ _ (at_point q (live_at T f q n at _ i)) (lives_gives d)
-      lives_one (as_if f n q at c a b g h r q' i d e) =
-          let x : Lives T n n g = lives_one d in
-          let y : Lives T n n h = lives_one e in
-          then_lives _ _ (at_point q (live_at T f q n at _ i)) (record { points = (x.points, y.points); behind = x.behind })
-      lives_one (as_loop f n q s g q' d) = lives_loop d
-      lives_one (as_for f n q at init c a step g h n' r q' d e) = then_lives _ _ (lives_all d) (then_lives _ _ (lives_loop e) (keeps q n (low_all d)))
-      lives_one (as_break f n q at m i l j) = then_lives _ _ (at_point q (live_at T f q n at _ j)) (then_lives _ _ (keeps q m l) (leaves n broken))
-      lives_one (as_continue f n q at m i l j) = then_lives _ _ (at_point q (live_at T f q n at _ j)) (then_lives _ _ (keeps q m l) (leaves n continued))
-      lives_one (as_return f n q at b i l j) = then_lives _ _ (at_point q (live_at T f q n at _ j)) (returns q (give_any b.target) b.length l refl)
-      lives_one (as_return_value f n q at e b i l j) = then_lives _ _ (at_point q (live_at T f q n at _ j)) (returns q (give f.here.base b.target e) b.length l refl)
-      lives_one (as_return_call f n q at c b g q' i l j d) =
-          then_lives _ _ (at_point q (live_at T f q n at _ j)) (then_lives _ _ (lives_gives d) (then_lives _ _ (keeps q b.length l) (leaves n returned)))
-      lives_one (as_end f n q at i j) = then_lives _ _ (at_point q (live_at T f q n at _ j)) (leaves n returned)
-      lives_one (as_end_value f n q at e i j) = then_lives _ _ (at_point q (live_at T f q n at _ j)) (leaves n returned)
-      lives_one (as_end_call f n q at c g q' i j d) = then_lives _ _ (at_point q (live_at T f q n at _ j)) (then_lives _ _ (lives_gives d) (leaves n returned))
-      lives_one (as_assert f n q at c i) = then_lives _ _ (at_point q (live_at T f q n at _ i)) (record { points = tt; behind = refl })
-      lives_one (as_assume f n q at c i) = then_lives _ _ (at_point q (live_at T f q n at _ i)) (acts q (test f.here.base c true) refl)
+      lives_one : {spot : Spot} {s : Stmt} {g : Node} {q : ℕ} → Inl P T spot s g q → Lives T spot.live spot.live g
+      lives_one (as_nothing {s = spot} {at = at} i) = at_point spot.next (live_at T spot at _ i)
+      lives_one (as_block {s = spot} {end = end} {n = n'} {q = q'} d i) = then_lives _ _ (lives_all d)
+          (then_lives _ _ (at_point q' (live_at T (move spot n' q') end _ i)) (keeps q' spot.live (low_all d)))
+      lives_one as_absent = record { points = tt; behind = refl }
+      lives_one (as_assign {s = spot} {at = at} i d) = then_lives _ _ (at_point spot.next (live_at T spot at _ i)) (lives_gives d)
+      lives_one (as_call {s = spot} {at = at} i d) = then_lives _ _ (at_point spot.next (live_at T spot at _ i)) (lives_gives d)
+      lives_one (as_if {s = spot} {at = at} {g = g} {h = h} i d e) =
+          let x : Lives T spot.live spot.live g = lives_one d in
+          let y : Lives T spot.live spot.live h = lives_one e in
+          then_lives _ _ (at_point spot.next (live_at T spot at _ i)) (record { points = (x.points, y.points); behind = x.behind })
+      lives_one (as_loop d) = lives_loop d
+      lives_one (as_for {s = spot} d e) = then_lives _ _ (lives_all d) (then_lives _ _ (lives_loop e) (keeps spot.next spot.live (low_all d)))
+      lives_one (as_break {s = spot} {at = at} {m = m} i l j) = then_lives _ _ (at_point spot.next (live_at T spot at _ j)) (then_lives _ _ (keeps spot.next m l) (leaves spot.live broken))
+      lives_one (as_continue {s = spot} {at = at} {m = m} i l j) = then_lives _ _ (at_point spot.next (live_at T spot at _ j)) (then_lives _ _ (keeps spot.next m l) (leaves spot.live continued))
+      lives_one (as_return {s = spot} {at = at} {b = b} i l j) = then_lives _ _ (at_point spot.next (live_at T spot at _ j)) (returns spot.next (give_any b.target) b.length l refl)
+      lives_one (as_return_value {s = spot} {at = at} {e = e} {b = b} i l j) = then_lives _ _ (at_point spot.next (live_at T spot at _ j))
+          (returns spot.next (give spot.frame.here.base b.target e) b.length l refl)
+      lives_one (as_return_call {s = spot} {at = at} {b = b} i l j d) =
+          then_lives _ _ (at_point spot.next (live_at T spot at _ j)) (then_lives _ _ (lives_gives d) (then_lives _ _ (keeps spot.next b.length l) (leaves spot.live returned)))
+      lives_one (as_end {s = spot} {at = at} i j) = then_lives _ _ (at_point spot.next (live_at T spot at _ j)) (leaves spot.live returned)
+      lives_one (as_end_value {s = spot} {at = at} i j) = then_lives _ _ (at_point spot.next (live_at T spot at _ j)) (leaves spot.live returned)
+      lives_one (as_end_call {s = spot} {at = at} i j d) = then_lives _ _ (at_point spot.next (live_at T spot at _ j)) (then_lives _ _ (lives_gives d) (leaves spot.live returned))
+      lives_one (as_assert {s = spot} {at = at} i) = then_lives _ _ (at_point spot.next (live_at T spot at _ i)) (record { points = tt; behind = refl })
+      lives_one (as_assume {s = spot} {at = at} {c = c} i) = then_lives _ _ (at_point spot.next (live_at T spot at _ i)) (acts spot.next (test spot.frame.here.base c true) refl)
 
-      lives_all : {f : Frame} {n q : ℕ} {s : BlockItems} {g : Node} {n' q' : ℕ} → InlAll P T f n q s g n' q' → Lives T n n' g
-      lives_all (as_none f n q) = record { points = tt; behind = refl }
-      lives_all (as_declaration f n q d b g h r n' q' i j e) = then_lives _ _ (then_lives _ _ (at_point q (live_at T f q n d.label _ i)) (lives_declares j)) (lives_all e)
-      lives_all (as_statement f n q a b g h r n' q' d e) = then_lives _ _ (lives_one d) (lives_all e)
+      lives_all : {spot : Spot} {s : BlockItems} {g : Node} {n q : ℕ} → InlAll P T spot s g n q → Lives T spot.live n g
+      lives_all as_none = record { points = tt; behind = refl }
+      lives_all (as_declaration {s = spot} {d = d} i j e) = then_lives _ _ (then_lives _ _ (at_point spot.next (live_at T spot d.label _ i)) (lives_declares j)) (lives_all e)
+      lives_all (as_statement d e) = then_lives _ _ (lives_one d) (lives_all e)
 
-      lives_declares : {f : Frame} {n q r : ℕ} {e : Option Source} {g : Node} {q' : ℕ} → Declares P T f n q r e g q' → Lives T n (suc n) g
-      lives_declares (as_fresh f n q r) = acts q append refl
-      lives_declares (as_given f n q r e g q' d) = then_lives _ _ (acts q append refl) (lives_gives d)
+      lives_declares : {spot : Spot} {r : ℕ} {e : Option Source} {g : Node} {q : ℕ} → Declares P T spot r e g q → Lives T spot.live (suc spot.live) g
+      lives_declares (as_fresh {s = spot}) = acts spot.next append refl
+      lives_declares (as_given {s = spot} d) = then_lives _ _ (acts spot.next append refl) (lives_gives d)
 
-      lives_loop : {f : Frame} {n q r : ℕ} {s : Stmt} {g : Node} {q' : ℕ} → Loops P T f n q r s g q' → Lives T n n g
-      lives_loop (is_loop f n q r at c a step g h r' q' i d e) = loops q f.here.base c g h (live_at T f q n at _ i) (lives_one e) (lives_one d)
+      lives_loop : {spot : Spot} {r : ℕ} {s : Stmt} {g : Node} {q : ℕ} → Loops P T spot r s g q → Lives T spot.live spot.live g
+      lives_loop (is_loop {s = spot} {at = at} {c = c} {g = g} {h = h} i d e) = loops spot.next spot.frame.here.base c g h (live_at T spot at _ i) (lives_one e) (lives_one d)
 
-      lives_gives : {f : Frame} {n q r : ℕ} {x : Option ℕ} {e : Source} {g : Node} {q' : ℕ} → Gives P T f n q r x e g q' → Lives T n n g
-      lives_gives (as_value f n q r x e) = acts q (give f.here.base x e) refl
-      lives_gives (as_result f n q r x c fn g n' r' i j d k) =
-          let low : n + fn.parameters ≤ n' = low_all d in
-          let inner : Lives T (n + fn.parameters) n (seq g (seq (point r') (seq (act r' (keep (n + fn.parameters))) (seq (act r' (give_any x)) (act r' (keep n)))))) =
-          then_lives _ _ (lives_all d) (then_lives _ _ (at_point r' (live_at T (callee f n x c) r' n' fn.end _ k)) (then_lives _ _ (keeps r' (n + fn.parameters) low)
-          (then_lives _ _ (acts r' (give_any x) refl) (keeps r' n (omega arith))))) in
-          then_lives _ _ (acts q (step.push f.here.base c.arguments) (ap (λ (k : ℕ). n + k) j)) (record { points = inner.points; behind = inner.behind })
+      lives_gives : {spot : Spot} {r : ℕ} {x : Option ℕ} {e : Source} {g : Node} {q : ℕ} → Gives P T spot r x e g q → Lives T spot.live spot.live g
+      lives_gives (as_value {s = spot} {x = x} {e = e}) = acts spot.next (give spot.frame.here.base x e) refl
+      lives_gives (as_result {s = spot} {x = x} {c = c} {fn = fn} {g = g} {n = n'} {q = r'} i j d k) =
+          let low : spot.live + fn.parameters ≤ n' = low_all d in
+          let inner : Lives T (spot.live + fn.parameters) spot.live (seq g (seq (point r') (seq (act r' (keep (spot.live + fn.parameters))) (seq (act r' (give_any x)) (act r' (keep spot.live)))))) =
+          then_lives _ _ (lives_all d) (then_lives _ _ (at_point r' (live_at T (spot_of (callee spot.frame spot.live x c) n' r') fn.end _ k)) (then_lives _ _ (keeps r' (spot.live + fn.parameters) low)
+          (then_lives _ _ (acts r' (give_any x) refl) (keeps r' spot.live (omega arith))))) in
+          then_lives _ _ (acts spot.next (step.push spot.frame.here.base c.arguments) (ap (λ (k : ℕ). spot.live + k) j)) (record { points = inner.points; behind = inner.behind })
 
 pub graph_lives : (P : Program) (g : Node) → IsGraph P g → PointsHave (sites_of P) g (length P.globals)
 graph_lives P g graph =
     let T = sites_of P in
     let body = lives_all T P graph.inlined in
-    let last = at_point T graph.last (live_at T (main_frame P) graph.last graph.live P.main.end _ graph.ends) in
+    let last = at_point T graph.last (live_at T (move (main_spot P) graph.live graph.last) P.main.end _ graph.ends) in
     subst (λ (h : Node). PointsHave T h (length P.globals)) (sym graph.parts) (then_lives T graph.body (point graph.last) body last).points

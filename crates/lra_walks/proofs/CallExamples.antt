@@ -69,12 +69,12 @@ calling_graph = record {
   body = _;
   last = 6;
   live = 1;
-  inlined = as_declaration _ _ _ _ _ _ _ _ _ _ refl
-      (as_given _ _ _ _ _ _ _ (as_result _ _ _ _ _ _ f_alone _ _ _ refl refl
-      (as_statement _ _ _ _ _ _ _ _ _ _ (as_if _ _ _ _ _ _ _ _ _ _ _ refl (as_return_value _ _ _ _ _ _ refl (omega arith) refl) (as_absent _ _ _))
-      (as_statement _ _ _ _ _ _ _ _ _ _ (as_assign _ _ _ _ _ _ _ _ refl (as_value _ _ _ _ _ _))
-      (as_statement _ _ _ _ _ _ _ _ _ _ (as_return_value _ _ _ _ _ _ refl (omega arith) refl) (as_none _ _ _)))) refl))
-      (as_none _ _ _);
+  inlined = as_declaration refl
+      (as_given (as_result {fn = f_alone} refl refl
+      (as_statement (as_if refl (as_return_value refl (omega arith) refl) as_absent)
+      (as_statement (as_assign refl as_value)
+      (as_statement (as_return_value refl (omega arith) refl) as_none))) refl))
+      as_none;
   ends = refl;
   all = refl;
   parts = refl;

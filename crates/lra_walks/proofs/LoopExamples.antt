@@ -75,8 +75,8 @@ counting_graph = record {
   body = _;
   last = 3;
   live = 1;
-  inlined = as_declaration _ _ _ _ _ _ _ _ _ _ refl (as_given _ _ _ _ _ _ _ (as_value _ _ _ _ _ _))
-      (as_statement _ _ _ _ _ _ _ _ _ _ (as_loop _ _ _ _ _ _ (is_loop _ _ _ _ _ _ _ _ _ _ _ _ refl (as_absent _ _ _) (as_assign _ _ _ _ _ _ _ _ refl (as_value _ _ _ _ _ _)))) (as_none _ _ _));
+  inlined = as_declaration refl (as_given as_value)
+      (as_statement (as_loop (is_loop refl as_absent (as_assign refl as_value))) as_none);
   ends = refl;
   all = refl;
   parts = refl;

@@ -565,18 +565,18 @@ nested_graph = record {
   body = _;
   last = 14;
   live = 2;
-  inlined = as_declaration _ _ _ _ _ _ _ _ _ _ refl (as_given _ _ _ _ _ _ _ (as_value _ _ _ _ _ _))
-      (as_declaration _ _ _ _ _ _ _ _ _ _ refl (as_given _ _ _ _ _ _ _ (as_value _ _ _ _ _ _))
-      (as_statement _ _ _ _ _ _ _ _ _ _ (as_loop _ _ _ _ _ _ (is_loop _ _ _ _ _ _ _ _ _ _ _ _ refl (as_absent _ _ _)
-      (as_block _ _ _ _ _ _ _ _
-      (as_statement _ _ _ _ _ _ _ _ _ _ (as_assign _ _ _ _ _ _ _ _ refl (as_value _ _ _ _ _ _))
-      (as_statement _ _ _ _ _ _ _ _ _ _ (as_loop _ _ _ _ _ _ (is_loop _ _ _ _ _ _ _ _ _ _ _ _ refl (as_absent _ _ _)
-      (as_block _ _ _ _ _ _ _ _
-      (as_statement _ _ _ _ _ _ _ _ _ _ (as_if _ _ _ _ _ _ _ _ _ _ _ refl (as_break _ _ _ _ _ refl (omega arith) refl) (as_absent _ _ _))
-      (as_statement _ _ _ _ _ _ _ _ _ _ (as_if _ _ _ _ _ _ _ _ _ _ _ refl (as_end_value _ _ _ _ _ refl refl) (as_absent _ _ _))
-      (as_statement _ _ _ _ _ _ _ _ _ _ (as_assign _ _ _ _ _ _ _ _ refl (as_value _ _ _ _ _ _)) (as_none _ _ _)))) refl)))
-      (as_statement _ _ _ _ _ _ _ _ _ _ (as_assign _ _ _ _ _ _ _ _ refl (as_value _ _ _ _ _ _)) (as_none _ _ _)))) refl)))
-      (as_statement _ _ _ _ _ _ _ _ _ _ (as_assert _ _ _ _ _ refl) (as_none _ _ _))));
+  inlined = as_declaration refl (as_given as_value)
+      (as_declaration refl (as_given as_value)
+      (as_statement (as_loop (is_loop refl as_absent
+      (as_block
+      (as_statement (as_assign refl as_value)
+      (as_statement (as_loop (is_loop refl as_absent
+      (as_block
+      (as_statement (as_if refl (as_break refl (omega arith) refl) as_absent)
+      (as_statement (as_if refl (as_end_value refl refl) as_absent)
+      (as_statement (as_assign refl as_value) as_none))) refl)))
+      (as_statement (as_assign refl as_value) as_none))) refl)))
+      (as_statement (as_assert refl) as_none)));
   ends = refl;
   all = refl;
   parts = refl;
