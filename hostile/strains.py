@@ -106,9 +106,8 @@ for count in (14, 30, 60):
          holds=['\n  row x >= 1\n'])
 
 # lists and numbers at their limits and past them
-case('a cross-polytope of 12 dimensions', 'calc', cross_polytope(12), 0, whole='holds P yes\nflagged 0\n', limit=10)
-case('a cross-polytope of 13 dimensions', 'calc', cross_polytope(13), 0, whole='holds P yes\nflagged at line 2\n',
-     limit=10)
+case('a cross-polytope of 12 dimensions', 'calc', cross_polytope(12), 0, whole='holds P yes\nflagged 0\n')
+case('a cross-polytope of 13 dimensions', 'calc', cross_polytope(13), 0, whole='holds P yes\nflagged at line 2\n')
 case('numbers that pass only by themselves', 'calc',
      f'dims 2\ncon P = 0 1 0 ; = 0 0 1 ; >= 1 {M} 1 ; >= 1 1 {M}\nshow P\n', 0,
      whole='show P\n  row x1 = 0\n  row x2 = 0\n  gen point x1=0 x2=0\nflagged 0\n')
@@ -123,7 +122,7 @@ case('127 doublings', 'analyse', DOUBLINGS % (' x=x+x;' * 127), 0,
 LOOP = 'int main(void){ long x=1; while(input()){' + ' x=x+x;' * 127 + ' } }'
 for parts in (1, 16):
     case(f'127 doublings in a loop, {parts} parts', f'analyse --parts {parts}', LOOP, 0,
-         whole=doubled_in_loop(parts), limit=5)
+         whole=doubled_in_loop(parts))
 case('a cube of 12 dimensions', 'analyse', cube('abcdefghijkl'), 0, holds=['\nflagged 0\n'], limit=10)
 case('a cube of 13 dimensions', 'analyse', cube('abcdefghijklm'), 0, holds=['\nflagged at point 26\n'], limit=10)
 case('an image whose number passes', 'calc', f'dims 1\ngen P point 1 {M}\nimage Q P 1 0 2\nshow Q\n', 0,
