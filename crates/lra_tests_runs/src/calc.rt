@@ -1,6 +1,6 @@
 //! Worked scripts.
 
-use lra_calc::{CalcError, script};
+use crate::top::{SOUND, ended};
 use std::alloc::{AllocError, Global};
 use std::fmt::Write;
 use std::test::Fail;
@@ -39,8 +39,8 @@ static SCRIPTS: [(&str, &str); 22] = [
     ),
     (
         "dims 2\ngen P point 1 0 0\ngen Q point 1 1 2\nelapse E P Q\nshow E\nforget U E 2\nshow U\n",
-        "show E\n  row 2*x1 - x2 = 0\n  row x2 >= 0\n  gen point x1=0 x2=0\n  gen ray x1=1 x2=2\nshow U\n  row x1 >= 0\n\
-            \x20 gen point x1=0 x2=0\n  gen ray x1=1 x2=0\n  gen line x1=0 x2=1\nflagged 0\n",
+        "show E\n  row 2*x1 - x2 = 0\n  row x2 >= 0\n  gen point x1=0 x2=0\n  gen ray x1=1 x2=2\nshow U\n\
+            \x20 row x1 >= 0\n  gen point x1=0 x2=0\n  gen ray x1=1 x2=0\n  gen line x1=0 x2=1\nflagged 0\n",
     ),
     // a coordinate that is none comes before a name that isn't known, and that before a wrong width
     ("dims 1\nforget Q P 2", "refused line 2 BadLine\n"),
@@ -186,27 +186,16 @@ static WIDENED: [(&str, &str); 12] = [
     ),
 ];
 
-/// The output, or the line that is written in its place.
-fn written(alloc: Global, bytes: &[u8]) -> Result<Vec<u8>, AllocError> {
-    match script(alloc, bytes) {
-        Ok(output) => Ok(output),
-        Err(CalcError::Refused(refusal)) => {
-            let text = refusal.text(alloc)?;
-            Ok(text.into_bytes())
-        }
-        Err(CalcError::Memory) => Err(AllocError),
-    }
-}
-
-/// Whether this is written.
-fn writes(alloc: Global, bytes: &[u8], expected: &str) -> Result<bool, AllocError> {
-    Ok(written(alloc, bytes)?.as_slice() == expected.as_bytes())
+/// Whether the program writes this for the script.
+fn writes(rt: &HostRuntime, bytes: &[u8], expected: &str) -> Result<bool, Fail> {
+    let (_status, held) = ended(rt, "lra calc", bytes, SOUND)?;
+    Ok(held.as_bytes() == expected.as_bytes())
 }
 
 #[test]
 fn scripts(rt: HostRuntime) -> Result<(), Fail> {
     for &(text, expected) in SCRIPTS.iter() {
-        let same = writes(rt.alloc(), text.as_bytes(), expected)?;
+        let same = writes(&rt, text.as_bytes(), expected)?;
         assert_eq!(rt; same, true, "{text}");
     }
     Ok(())
@@ -215,7 +204,7 @@ fn scripts(rt: HostRuntime) -> Result<(), Fail> {
 #[test]
 fn mapped_scripts(rt: HostRuntime) -> Result<(), Fail> {
     for &(text, expected) in MAPPED.iter() {
-        let same = writes(rt.alloc(), text.as_bytes(), expected)?;
+        let same = writes(&rt, text.as_bytes(), expected)?;
         assert_eq!(rt; same, true, "{text}");
     }
     Ok(())
@@ -224,22 +213,22 @@ fn mapped_scripts(rt: HostRuntime) -> Result<(), Fail> {
 #[test]
 fn widened_scripts(rt: HostRuntime) -> Result<(), Fail> {
     for &(text, expected) in WIDENED.iter() {
-        let same = writes(rt.alloc(), text.as_bytes(), expected)?;
+        let same = writes(&rt, text.as_bytes(), expected)?;
         assert_eq!(rt; same, true, "{text}");
     }
     Ok(())
 }
 
 /// Whether so many spaces write this.
-fn spaces_write(alloc: Global, count: usize, expected: &str) -> Result<bool, AllocError> {
-    let bytes = vec![in alloc; b' '; count]?;
-    writes(alloc, &bytes, expected)
+fn spaces_write(rt: &HostRuntime, count: usize, expected: &str) -> Result<bool, Fail> {
+    let bytes = vec![in rt.alloc(); b' '; count]?;
+    writes(rt, &bytes, expected)
 }
 
 #[test]
 fn long_scripts(rt: HostRuntime) -> Result<(), Fail> {
-    let longest = spaces_write(rt.alloc(), 65_536, "flagged 0\n")?;
-    let longer = spaces_write(rt.alloc(), 65_537, "refused 1 TooLong at 1:65537\n")?;
+    let longest = spaces_write(&rt, 65_536, "flagged 0\n")?;
+    let longer = spaces_write(&rt, 65_537, "refused 1 TooLong at 1:65537\n")?;
     assert_eq!(rt; (longest, longer), (true, true));
     Ok(())
 }
@@ -278,15 +267,15 @@ fn cross_polytope(alloc: Global, n: usize) -> Result<String, AllocError> {
 }
 
 /// Whether that script writes this.
-fn polytope_writes(alloc: Global, n: usize, expected: &str) -> Result<bool, AllocError> {
-    let script = cross_polytope(alloc, n)?;
-    writes(alloc, script.as_bytes(), expected)
+fn polytope_writes(rt: &HostRuntime, n: usize, expected: &str) -> Result<bool, Fail> {
+    let script = cross_polytope(rt.alloc(), n)?;
+    writes(rt, script.as_bytes(), expected)
 }
 
 #[test]
 fn many_facets(rt: HostRuntime) -> Result<(), Fail> {
-    let most = polytope_writes(rt.alloc(), 12, "holds P yes\nflagged 0\n")?;
-    let more = polytope_writes(rt.alloc(), 13, "holds P yes\nflagged at line 2\n")?;
+    let most = polytope_writes(&rt, 12, "holds P yes\nflagged 0\n")?;
+    let more = polytope_writes(&rt, 13, "holds P yes\nflagged at line 2\n")?;
     assert_eq!(rt; (most, more), (true, true));
     Ok(())
 }
