@@ -23,8 +23,8 @@ pub place_inside : (width k n : ℕ) → k < width → n ≡ words_needed width 
 place_inside width k n h e = omega arith
 
 -- a place inside the values has its word
-pub place_of : (width : ℕ) (words : List ℕ) (values : List Bool) (k n : ℕ) → unpacked width words ≡ values → k < length values → length words ≡ words_needed width → n ≡ length words → k / 64 < n
-place_of width words values k n e h m s =
+pub bit_place : (width : ℕ) (words : List ℕ) (values : List Bool) (k n : ℕ) → unpacked width words ≡ values → k < length values → length words ≡ words_needed width → n ≡ length words → k / 64 < n
+bit_place width words values k n e h m s =
     let w = sym (length_unpacked width words) ∙ ap length e in
     place_inside width k n (omega (arith, h, w)) (s ∙ m)
 

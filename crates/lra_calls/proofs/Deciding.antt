@@ -8,7 +8,7 @@ use Rattle.lra_base.specs.declared.refusals.Place.{Place}
 use Rattle.lra_tree.specs.declared.trees.Identifier.{Identifier}
 use Rattle.lra_tree.specs.Trees.{FunctionTree, FileTree}
 use Rattle.lra_tree.specs.Functions.{functions_of}
-use Rattle.lra_tree.specs.Reach.{calls_of, IsCalling, Reaches, there, by_call, calls_in, IsRecursive, IsFirstRecursive, NotRecursive}
+use Rattle.lra_tree.specs.Reach.{calls_of, IsCalling, ReachesByCalls, there, by_call, calls_in, IsRecursive, IsFirstRecursive, NotRecursive}
 use Rattle.lra_calls.proofs.Elements.{in_cons, in_further, nothing_in, has_one, all_at}
 
 -- what holds or doesn't
@@ -105,13 +105,13 @@ module _ (t : FileTree) where
   is_calling : (c : Call) → Contains (calls_in (functions_of t)) c → IsCalling t c.0 c.1.word
   is_calling c h = let k = call_held (functions_of t) c h in record { function = k.0; is_there = k.1; name = k.2; called = c.1; calls = k.3; called_name = refl }
 
-  goes_on : (goal b a : List ℕ) → Reaches t b a → Reaches t goal b → Reaches t goal a
+  goes_on : (goal b a : List ℕ) → ReachesByCalls t b a → ReachesByCalls t goal b → ReachesByCalls t goal a
   goes_on goal b _ there r = r
   goes_on goal b a (by_call _ g call further) r = by_call a g call (goes_on goal b g further r)
 
   -- a path is one by calls of the source
-  path_reaches : (cs : List Call) (a b : List ℕ) → ((c : Call) → Contains cs c → Contains (calls_in (functions_of t)) c) → Path cs a b → Reaches t b a
-  path_reaches [] a b within p = subst (λ z. Reaches t z a) p there
+  path_reaches : (cs : List Call) (a b : List ℕ) → ((c : Call) → Contains cs c → Contains (calls_in (functions_of t)) c) → Path cs a b → ReachesByCalls t b a
+  path_reaches [] a b within p = subst (λ z. ReachesByCalls t z a) p there
   path_reaches (c ∷ cs) a b within (inl p) = path_reaches cs a b (λ d h. within d (in_further c cs d h)) p
   path_reaches (c ∷ cs) a b within (inr p) =
       let inside = λ (d : Call) (h : Contains cs d). within d (in_further c cs d h) in
@@ -123,11 +123,11 @@ module _ (t : FileTree) where
       let p = one_call (calls_in (functions_of t)) (c.function.name.word, c.called) (call_there (functions_of t) c.function c.called c.is_there c.calls) in
       subst (λ z. Path (calls_in (functions_of t)) z b) c.name (subst (Path (calls_in (functions_of t)) c.function.name.word) c.called_name p)
 
-  reaches_path : (goal a : List ℕ) → Reaches t goal a → Path (calls_in (functions_of t)) a goal
+  reaches_path : (goal a : List ℕ) → ReachesByCalls t goal a → Path (calls_in (functions_of t)) a goal
   reaches_path goal _ there = no_call (calls_in (functions_of t)) goal
   reaches_path goal a (by_call _ g call further) = joined (calls_in (functions_of t)) a g goal (call_path a g call) (reaches_path goal g further)
 
-  reaches : (goal a : List ℕ) → Decided (Reaches t goal a)
+  reaches : (goal a : List ℕ) → Decided (ReachesByCalls t goal a)
   reaches goal a = elim (path (calls_in (functions_of t)) a goal) [
     | inl p ↦ inl (path_reaches (calls_in (functions_of t)) a goal (λ c h. h) p)
     | inr none ↦ inr (λ r. none (reaches_path goal a r))

@@ -10,7 +10,7 @@ use Rattle.lra_tree.specs.Trees.{AssignTree, DeclaratorTree, InitTree, no_init, 
 use Rattle.lra_tree.specs.Trees.{assert, assume, ItemsTree, no_items, declaration, statement, FunctionTree, FileTree}
 use Rattle.lra_tree.specs.Functions.{functions_of}
 use Rattle.lra_tree.specs.Labels.{Labelled, with_names, declarator_labels, init_labels, step_labels, stmt_labels, items_labels, live_in_for, called_of, called_by}
-use Rattle.lra_tree.specs.Reach.{called_names, calls_of, IsCalling, Reaches, there, by_call, calls_in, IsRecursive, IsFirstRecursive, NotRecursive}
+use Rattle.lra_tree.specs.Reach.{called_names, calls_of, IsCalling, ReachesByCalls, there, by_call, calls_in, IsRecursive, IsFirstRecursive, NotRecursive}
 use Rattle.lra_calls.specs.declared.called.Caller.{Caller as CodeCaller}
 use Rattle.lra_calls.specs.Called.{Caller, caller_of, caller_view, declarators_calls, init_calls, step_calls, stmt_calls, items_calls}
 use Rattle.lra_calls.specs.Places.{places_of, row_at, rows_of}
@@ -103,11 +103,11 @@ calling t j k row c is h at =
     )
 
 come_reached : (t : FileTree) (name goal : List ℕ) (k : ℕ) → Comes (rows_of (callers_of t)) (places_of (callers_of t) name) k
-    → (c : Caller) → slice_get (callers_of t) k ≡ Some c → Reaches t goal c.name → Reaches t goal name
+    → (c : Caller) → slice_get (callers_of t) k ≡ Some c → ReachesByCalls t goal c.name → ReachesByCalls t goal name
 come_reached t name goal _ (begins k l h) c at r =
     let n = named_at (callers_of t) name k h in
     let same : c ≡ n.0 = same_at (callers_of t) k c n.0 at n.1 in
-    subst (Reaches t goal) (ap (λ (y : Caller). y.name) same ∙ n.2) r
+    subst (ReachesByCalls t goal) (ap (λ (y : Caller). y.name) same ∙ n.2) r
 come_reached t name goal _ (goes_on j k row l h is e) c at r =
     let d = calling t j k row c is e at in
     come_reached t name goal j h d.0 d.1 (by_call d.0.name c.name d.2 r)
@@ -126,7 +126,7 @@ row_met t start f g calls met k c at named =
     goes_on j.0 k (row_at cs (caller_of calls.function)) within (met j.0 (caller_of calls.function) d calls.name) (mapped_at (row_at cs) cs j.0 (caller_of calls.function) d)
     (row_in cs (caller_of calls.function).calls calls.called k there (place_in cs calls.called.word k c at (named ∙ sym calls.called_name)))
 
-reached_met : (t : FileTree) (start goal name : List ℕ) → Reaches t goal name → AreMet t start name → AreMet t start goal
+reached_met : (t : FileTree) (start goal name : List ℕ) → ReachesByCalls t goal name → AreMet t start name → AreMet t start goal
 reached_met t start goal _ there met = met
 reached_met t start goal _ (by_call f g calls r) met = reached_met t start goal g r (row_met t start f g calls met)
 

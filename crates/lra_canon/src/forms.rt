@@ -38,7 +38,7 @@ fn directed(row: Row) -> Result<Option<Row>, AllocError>
 }
 
 // How many rows stand before the first whose pivot doesn't come before the column.
-fn place_of(form: &[Row], column: usize) -> usize
+fn rows_before(form: &[Row], column: usize) -> usize
     ensures inside { result ≤ length form.now }
     ensures before { (k : ℕ) → k < result → Before (pivot (slice_index_or form.now k [])) column }
     ensures behind { result < length form.now → ¬ (Before (pivot (slice_index_or form.now result [])) column) }
@@ -82,7 +82,7 @@ fn inserted(alloc: Global, form: &[Row], line: Row) -> Result<Vec<Row>, RowError
     ensures ok { IfOk result (λ out. IsInserted form.now line out.items) }
     ensures excess { IfErr result (IsInsertionExcess form.now line) }
 {
-    let place = place_of(form, line.pivot());
+    let place = rows_before(form, line.pivot());
     let (low, high) = form.split_at(place);
     let mut rows = cleared(alloc, low, &line)?;
     rows.push(line)?;

@@ -31,7 +31,7 @@ fn row_place(n: usize, i: usize, j: usize) -> usize
 }
 
 /// The place of the entry, or of its twin where the row doesn't hold it.
-pub fn place_of(n: usize, i: usize, j: usize) -> usize
+pub fn cell_place(n: usize, i: usize, j: usize) -> usize
     requires few { n ≤ 2 ^ 30 }
     requires row { i < 2 * n }
     requires column { j < 2 * n }
@@ -55,7 +55,7 @@ pub fn entry(n: usize, cells: &[Option<i128>], i: usize, j: usize) -> Option<i12
     ensures cell { result ≡ cell cells.now i j }
     ensures entry { result ≡ entries n cells.now i j }
 {
-    cells[place_of(n, i, j)]
+    cells[cell_place(n, i, j)]
 }
 
 /// Writes the entry at `i` and `j` and its twin.
@@ -66,8 +66,8 @@ pub fn write(n: usize, cells: &mut [Option<i128>], i: usize, j: usize, value: Op
     requires column { j < 2 * n }
     ensures { cells.new ≡ written i j value cells.old }
 {
-    let here = place_of(n, i, j);
-    let twin = place_of(n, opposite(n, j), opposite(n, i));
+    let here = cell_place(n, i, j);
+    let twin = cell_place(n, opposite(n, j), opposite(n, i));
     cells[here] = value;
     cells[twin] = value;
 }

@@ -25,8 +25,8 @@ pub record Part : Type 0 where
   pub generators : List Generator
 
 -- what is known at a point: one of the parts holds; no part says that no run comes here
-abbrev pub State : Type 0
-State = List Part
+abbrev pub Invariant : Type 0
+Invariant = List Part
 
 -- a point with its number, its path and place as they are printed, the names of its variables, and its state
 pub record PointReport : Type 0 where
@@ -35,7 +35,7 @@ pub record PointReport : Type 0 where
   pub path : List ℕ
   pub place : Place
   pub names : List (List ℕ)
-  pub state : State
+  pub state : Invariant
 
 -- an assertion's point, and whether no run fails it
 pub record Verdict : Type 0 where
@@ -55,7 +55,7 @@ pub record Report : Type 0 where
 -- what it claims -------------------------------------------------------------
 
 -- all rows of some part hold
-abbrev pub Holds : State → List ℤ → Type 0
+abbrev pub Holds : Invariant → List ℤ → Type 0
 Holds [] store = ⊥
 Holds (part ∷ parts) store = AllByRecursion (λ r. RowHolds r store) part.rows ⊎ Holds parts store
 

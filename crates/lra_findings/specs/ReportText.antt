@@ -6,7 +6,7 @@ use Rattle.std.specs.List.{flat_map}
 use Rattle.std.specs.Fmt.{decimal, signed_decimal}
 use Rattle.lra_base.specs.declared.options.Options.{Options}
 use Rattle.lra_base.specs.DomainNames.{domain_name}
-use Rattle.lra_findings.specs.Report.{Place, GeneratorKind, point, ray, line, Generator, Part, State, PointReport}
+use Rattle.lra_findings.specs.Report.{Place, GeneratorKind, point, ray, line, Generator, Part, Invariant, PointReport}
 use Rattle.lra_findings.specs.Report.{Verdict, Report}
 use Rattle.lra_linear.specs.declared.ConKind.{ConKind}
 use Rattle.lra_linear.specs.declared.ConKind.TheVariants.{Ge, Eq}
@@ -142,7 +142,7 @@ further_parts_text names [] = []
 further_parts_text names (part ∷ parts) = text_line (codes "  or") ++ part_text names part ++
     further_parts_text names parts
 
-abbrev pub state_text : List (List ℕ) → State → List ℕ
+abbrev pub state_text : List (List ℕ) → Invariant → List ℕ
 state_text names [] = text_line (codes "  unreachable")
 state_text names (part ∷ parts) = part_text names part ++ further_parts_text names parts
 

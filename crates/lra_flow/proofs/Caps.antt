@@ -23,7 +23,7 @@ use Rattle.lra_base.specs.declared.options.Options.{Options}
 use Rattle.lra_flow.specs.Operations.{Operations, dropping}
 use Rattle.lra_flow.specs.Changes.{actions_of, first_values, AreDone, AreJoined}
 use Rattle.lra_flow.specs.Conditions.{testing, tested, Leaves}
-use Rattle.lra_flow.specs.Pass.{Entry, value, failing, Result, noted, goes_on, jumps, in_turn, first_of_call, caught, behind, Changes, Through, GoesRound, Grows, Narrows, Pass}
+use Rattle.lra_flow.specs.Pass.{Entry, value, failing, Result, noted, goes_on, jumps, in_turn, first_of_call, values_behind, behind, Changes, Through, GoesRound, Grows, Narrows, Pass}
 use Rattle.lra_flow.specs.Analysis.{Derivation, Solves}
 
 -- what has no operand has the property, and each operation keeps it, where this many parts are asked for
@@ -113,7 +113,7 @@ module _ (V H : Type 0) (ops : Operations V H) (set : Options) (Good : V → Typ
   jump_good continued v nothing f g n = record { normal = n; breaks = tt; continues = (g, tt); returns = tt; entries = tt }
   jump_good returned v nothing f g n = record { normal = n; breaks = tt; continues = tt; returns = (g, tt); entries = tt }
 
-  caught_good : (k : Exit) (r : Result V) (e : Exactness) (w : V) → AreJoined ops (caught k r).0 (caught k r).1 e w → AreGood r → Good w
+  caught_good : (k : Exit) (r : Result V) (e : Exactness) (w : V) → AreJoined ops (values_behind k r).0 (values_behind k r).1 e w → AreGood r → Good w
   caught_good broken r e w is h = joined_good r.normal r.breaks e w is h.normal h.breaks
   caught_good continued r e w is h = joined_good r.normal r.continues e w is h.normal h.continues
   caught_good returned r e w is h = returned_good r.returns r.normal e w is h.normal h.returns

@@ -6,7 +6,7 @@ use Rattle.lra_domain.specs.Actions.{Action, forget, embed, Leads}
 use Rattle.lra_lin.specs.Form.{Form}
 use Rattle.lra_program.specs.Program.{Expr, literal, read, input, negate, binary, Cond}
 use Rattle.lra_program.specs.Value.{◌>>=◌, word, index_of, apply, Drawn, draw, value_of, values_of}
-use Rattle.lra_program.specs.Step.{State, Op, append, give, give_any, push, keep, test, put, given, pushed, run_op}
+use Rattle.lra_program.specs.Step.{State, Op, append, give, give_any, push, keep, test, put, receive, pushed, run_op}
 use Rattle.lra_flow.specs.Linear as linear
 use Rattle.lra_flow.specs.Changes.{set_to, push_all, drop_last, actions_of}
 use Rattle.lra_flow.proofs.FormLemmas.{bind_some, pair_first, forms_are_right}
@@ -102,14 +102,14 @@ arguments_lead base (e ∷ es) store more draws r is =
     (argument_leads base e store more draws s.1 s.0 got) (subst (λ (xs : List ℤ). LeadsAll (push_all (suc (length all)) base es) next xs) ended then_later)
 
 -- a variable that gets any number, where there is one
-any_leads : (x : Option ℕ) (store : List ℤ) (draws : List ℤ) (t : State) (o : Drawn ℤ) → given x store o ≡ Some t → (z : ℤ) × (put x z store ≡ t.store)
+any_leads : (x : Option ℕ) (store : List ℤ) (draws : List ℤ) (t : State) (o : Drawn ℤ) → receive x store o ≡ Some t → (z : ℤ) × (put x z store ≡ t.store)
 any_leads x store draws t None is = cc
 any_leads x store draws t (Some r) is = (r.0, store_is (record { store = put x r.0 store; draws = r.1 }) t is)
 
 one_lead : (step : Action) (s t : List ℤ) → Leads step s t → LeadsAll (step ∷ []) s t
 one_lead step s t h = (t, h, refl)
 
-given_leads : (base x : ℕ) (e : Expr) (store : List ℤ) (draws : List ℤ) (t : State) (o : Drawn ℤ) → value_of e base store draws ≡ o → given (Some x) store o ≡ Some t
+given_leads : (base x : ℕ) (e : Expr) (store : List ℤ) (draws : List ℤ) (t : State) (o : Drawn ℤ) → value_of e base store draws ≡ o → receive (Some x) store o ≡ Some t
     → LeadsAll (set_to x (linear.form_of (length store) base e) ∷ []) store t.store
 given_leads base x e store draws t None ran is = cc
 given_leads base x e store draws t (Some r) ran is =

@@ -11,7 +11,7 @@ use Rattle.lra_program.specs.Step.{give, push, keep}
 use Rattle.lra_operations.specs.Graph.{broken, returned}
 use Rattle.lra_flow.specs.Changes.{actions_of, first_values}
 use Rattle.lra_flow.specs.Given.{given_rows}
-use Rattle.lra_flow.specs.Pass.{Result, noted, caught, mode_at}
+use Rattle.lra_flow.specs.Pass.{Result, noted, values_behind, mode_at}
 
 abbrev form : ℤ → List ℤ → Form
 form c cs = record { constant = c; coefficients = cs }
@@ -64,8 +64,8 @@ modes = (refl, refl, refl)
 abbrev two_jumps : Result ℕ
 two_jumps = record { entries = []; normal = 9; breaks = 1 ∷ 2 ∷ []; continues = []; returns = 3 ∷ 4 ∷ []; flag = None }
 
-broken_order : caught broken two_jumps ≡ (9, 1 ∷ 2 ∷ [])
+broken_order : values_behind broken two_jumps ≡ (9, 1 ∷ 2 ∷ [])
 broken_order = refl
 
-returned_order : caught returned two_jumps ≡ (3, 4 ∷ 9 ∷ [])
+returned_order : values_behind returned two_jumps ≡ (3, 4 ∷ 9 ∷ [])
 returned_order = refl

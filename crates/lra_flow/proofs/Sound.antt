@@ -13,7 +13,7 @@ use Rattle.lra_operations.specs.Graph.{Exit, broken, continued, returned, normal
 use Rattle.lra_base.specs.declared.options.Options.{Options}
 use Rattle.lra_flow.specs.Operations.{dropping}
 use Rattle.lra_flow.specs.Changes.{AreJoined}
-use Rattle.lra_flow.specs.Pass.{Entry, value, failing, Result, noted, first_of_call, caught, in_turn, behind, jumps, GoesRound, Grows, Narrows, mode_at, Pass}
+use Rattle.lra_flow.specs.Pass.{Entry, value, failing, Result, noted, first_of_call, values_behind, in_turn, behind, jumps, GoesRound, Grows, Narrows, mode_at, Pass}
 use Rattle.lra_flow.specs.Sound.{jumps_of, ChangesKeep, Covers}
 
 left_jump : {V : Type 0} (k : Exit) (r s : Result V) (v : V) (f : Option ℕ) (u : V) → Contains (jumps_of k r) u → Contains (jumps_of k (in_turn r s v f)) u
@@ -79,7 +79,7 @@ module _ (V H : Type 0) (m : Meaning V H) (laws : Laws m) (keeps : ChangesKeep m
         λ u there st k. elim (contains_cases v u vs there) [ inl same ↦ r.0 st (subst (λ (z : V). m.has z st) (sym same) k) | inr later ↦ r.1 u (Contains-append_left vs (n ∷ []) u later) st k ],
       )
 
-  joined_caught : (k : Exit) (r : Result V) (e : Exactness) (w : V) → AreJoined (dropping m) (caught k r).0 (caught k r).1 e w
+  joined_caught : (k : Exit) (r : Result V) (e : Exactness) (w : V) → AreJoined (dropping m) (values_behind k r).0 (values_behind k r).1 e w
       → ((st : List ℤ) → m.has r.normal st → m.has w st) × ((u : V) → Contains (jumps_of k r) u → (st : List ℤ) → m.has u st → m.has w st)
   joined_caught broken r e w h = joined_all r.normal r.breaks e w h
   joined_caught continued r e w h = joined_all r.normal r.continues e w h

@@ -19,7 +19,7 @@ use Rattle.lra_flow.specs.Operations.{Operations, worse}
 use Rattle.lra_flow.specs.Changes.{actions_of, AreDone, AreJoined}
 use Rattle.lra_flow.specs.Conditions.{testing, tested, Leaves}
 use Rattle.lra_flow.specs.Given.{given_rows}
-use Rattle.lra_flow.specs.Pass.{Result, noted, jumps, caught, behind, Changes, Through, GoesRound, GoesFrom, Grows, Narrows, mode_at, Pass}
+use Rattle.lra_flow.specs.Pass.{Result, noted, jumps, values_behind, behind, Changes, Through, GoesRound, GoesFrom, Grows, Narrows, mode_at, Pass}
 
 -- the answers that matter: with this exactness, with this flag
 pub record Matters (Keeps : Exactness → Type 0) (Fine : Option ℕ → Type 0) : Type 0 where
@@ -168,6 +168,6 @@ module _ (V H : Type 0) (a b : Operations V H) (Keeps : Exactness → Type 0) (F
   passes set (catch q kind x) f v r k (w, e, s, one, joined, is) =
       let p = matters.before q e s.flag (subst Fine (behind_flag kind s w (noted q e s.flag)) (subst (λ (z : Result V). Fine z.flag) is k)) in
       let i = passes set x f v s p.1 one in
-      (i.0, (w, e, s, i.1, joins (caught kind s).0 (caught kind s).1 e w p.0 joined, is))
+      (i.0, (w, e, s, i.1, joins (values_behind kind s).0 (values_behind kind s).1 e w p.0 joined, is))
   passes set (leave n kind) f v r k (w, nothing, is) =
       (subst Fine (jump_flag kind v w f) (subst (λ (z : Result V). Fine z.flag) is k), (w, nothing, is))

@@ -87,10 +87,10 @@ abbrev pub first_of_call : {V : Type 0} → List V → V → V × List V
 first_of_call [] normal = (normal, [])
 first_of_call (v ∷ vs) normal = (v, vs ++ normal ∷ [])
 
-abbrev pub caught : {V : Type 0} → Exit → Result V → V × List V
-caught broken r = (r.normal, r.breaks)
-caught continued r = (r.normal, r.continues)
-caught returned r = first_of_call r.returns r.normal
+abbrev pub values_behind : {V : Type 0} → Exit → Result V → V × List V
+values_behind broken r = (r.normal, r.breaks)
+values_behind continued r = (r.normal, r.continues)
+values_behind returned r = first_of_call r.returns r.normal
 
 -- the jumps of this kind end here, and the value goes on
 abbrev pub behind : {V : Type 0} → Exit → Result V → V → Option ℕ → Result V
@@ -168,6 +168,7 @@ Pass V H ops set (iterate q base c a) f v r =
     × Leaves ops base c false top e out × (r ≡ record t { normal = out; flag = noted q e t.flag })
 Pass V H ops set (catch q k a) f v r =
     (w : V) × (e : Exactness) × (s : Result V)
-    × Pass V H ops set a f v s × AreJoined ops (caught k s).0 (caught k s).1 e w × (r ≡ behind k s w (noted q e s.flag))
+    × Pass V H ops set a f v s × AreJoined ops (values_behind k s).0 (values_behind k s).1 e w
+    × (r ≡ behind k s w (noted q e s.flag))
 -- the value that jumps may be cut already; the one that goes on has the dimensions of where the jump stands
 Pass V H ops set (leave n k) f v r = (w : V) × ops.void n set.parts w × (r ≡ jumps k v w f)

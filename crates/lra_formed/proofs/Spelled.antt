@@ -33,7 +33,7 @@ spelled_is_small s k (mark_of m f) n e = absurd cc
 spelled_is_small s k (reserved r) n e = absurd cc
 spelled_is_small s k (comment u) n e = absurd cc
 
-read_are_small : (before : List ℕ) (ps : List lexical.Piece) (after : List ℕ) → lexical.IsReading before ps after → AllByRecursion IsSmallToken (lexical.tokens_of ps)
+read_are_small : (before : List ℕ) (ps : List lexical.Fragment) (after : List ℕ) → lexical.IsReading before ps after → AllByRecursion IsSmallToken (lexical.tokens_of ps)
 read_are_small before [] after h = tt
 read_are_small before (lexical.gap bytes ∷ ps) after h = read_are_small (before ++ bytes) ps after h.1
 read_are_small before (lexical.token bytes t ∷ ps) after h = (λ n e. spelled_is_small bytes t.kind h.0.spells n e, read_are_small (before ++ bytes) ps after h.1)

@@ -4,7 +4,7 @@ use Rattle.std.proofs.lemmas.Option.{same_Some, none-some}
 use Rattle.std.proofs.lemmas.List.{length-set, length-take-le}
 use Rattle.lra_program.specs.Program.{Expr, Cond, Source, Stmt, BlockItems, Program}
 use Rattle.lra_program.specs.Value.{◌>>=◌, draw, value_of, values_of, truth_of, Drawn}
-use Rattle.lra_program.specs.Step.{State, Op, append, give, give_any, push, keep, test, run_op, run_any, put, given, pushed, kept_if, tested, Back}
+use Rattle.lra_program.specs.Step.{State, Op, append, give, give_any, push, keep, test, run_op, run_any, put, receive, pushed, kept_if, tested, Back}
 use Rattle.lra_operations.specs.Graph.{Exit, broken, continued, returned, How, normal, jump, Node, empty, choose, Rounds, Ends, point, act, seq, leave, check}
 use Rattle.lra_program.specs.Sites.{Site}
 use Rattle.lra_operations.specs.Inlined.{Frame, Spot, callee, Inl, InlAll, Declares, Loops, Gives, as_nothing, as_block, as_absent, as_assign, as_call, as_if, as_loop, as_for, as_break, as_continue}
@@ -16,7 +16,7 @@ length_put : (x : Option ℕ) (z : ℤ) (store : List ℤ) → length (put x z s
 length_put None z store = refl
 length_put (Some x) z store = length-set store x z
 
-length_given : (x : Option ℕ) (store : List ℤ) (v : Drawn ℤ) (t : State) → given x store v ≡ Some t → length t.store ≡ length store
+length_given : (x : Option ℕ) (store : List ℤ) (v : Drawn ℤ) (t : State) → receive x store v ≡ Some t → length t.store ≡ length store
 length_given x store None t e = absurd (none-some t e)
 length_given x store (Some r) t e = rw (← same_Some _ t e) (length_put x r.0 store)
 

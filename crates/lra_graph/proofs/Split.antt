@@ -9,7 +9,7 @@ use Rattle.lra_program.specs.Step.{to_mark, target_of, go, enter, do_source, do_
 use Rattle.lra_program.specs.Run.{Steps, label_on, IsFailing}
 use Rattle.lra_operations.specs.Graph.{Exit, broken, continued, returned, normal, jump, Node, point, act, check, seq, choose, leave, Ends, Comes, FailsAt}
 use Rattle.lra_program.specs.Sites.{Site}
-use Rattle.lra_operations.specs.Inlined.{Frame, Spot, move, at_point, within, called, Has, HasSite, callee, Inl, InlAll, Declares, Loops, Gives, as_nothing, as_block, as_absent, as_assign}
+use Rattle.lra_operations.specs.Inlined.{Frame, Spot, move, at_point, within, into_callee, Has, HasSite, callee, Inl, InlAll, Declares, Loops, Gives, as_nothing, as_block, as_absent, as_assign}
 use Rattle.lra_operations.specs.Inlined.{as_call, as_if, as_loop, as_for, as_break}
 use Rattle.lra_operations.specs.Inlined.{as_continue, as_return, as_return_value, as_return_call, as_end, as_end_value, as_end_call, as_assert, as_assume, as_none, as_declaration, as_statement}
 use Rattle.lra_operations.specs.Inlined.{as_fresh, as_given, is_loop, as_value, as_result, loop_node, call_node, return_node}
@@ -149,7 +149,8 @@ module _ (P : Program) (T : List Site) (c : Config) (p : ℕ) (on : label_on c.i
           inr (record { left = j; cut = short; set = setting.0; final = back.0; fewer = omega arith; cuts = o; sets = setting.1; backs = back.1; rest = rw back.2 rest })
 
   splits_call : (spot : Spot) (r : ℕ) (x : Option ℕ) (b : Call) (fn : Function) (g : Node) (n' r' : ℕ) (k : List Item) (s : State) (j : ℕ) (e : Config)
-      → length b.arguments ≡ fn.parameters → InlAll P T (called spot x b fn.parameters r) fn.body g n' r' → Has T (move (called spot x b fn.parameters r) n' r') fn.end → length s.store ≡ spot.live →
+      → length b.arguments ≡ fn.parameters → InlAll P T (into_callee spot x b fn.parameters r) fn.body g n' r' → Has T (move (into_callee spot x b fn.parameters r) n' r') fn.end
+      → length s.store ≡ spot.live →
       j < fuel
       → enter (Some fn) b x k spot.frame.here s ≡ Some e → Steps P j e c → Splits P T c p spot.frame.here k (suc j)
       (call_node spot.next r' spot.frame.here.base spot.live x b.arguments fn.parameters g) s
@@ -174,13 +175,13 @@ module _ (P : Program) (T : List Site) (c : Config) (p : ℕ) (on : label_on c.i
       after u o (jumped i' continued m d' z a l' t) = absurd (none-some d' l')
       after u o (jumped i' returned m d' z a l' t) = ended i' m (omega arith) (call_returns spot.next r' spot.frame.here.base spot.live x b.arguments fn.parameters g s u m o a)
           (rw (same_Some (config k spot.frame.here m) d' l') t)
-      after u o (ended i' m z a t) = ended_inside u o i' m z a (call_tail (move (called spot x b fn.parameters r) n' r') spot.live spot.frame.here x fn.end fn.parameters k i' m has
+      after u o (ended i' m z a t) = ended_inside u o i' m z a (call_tail (move (into_callee spot x b fn.parameters r) n' r') spot.live spot.frame.here x fn.end fn.parameters k i' m has
           ((length_all d).ends u m normal (length_push spot.frame.here.base b.arguments s u o ∙ rw (l, i) refl) a) t)
 
       inside : (u : State) → run_op (push spot.frame.here.base b.arguments) s ≡ Some u →
           Steps P j (config (all fn.body ∷ call_items fn spot.live x spot.frame.here k) (callee spot.frame spot.live x b).here u) c
           → Splits P T c p spot.frame.here k (suc j) (call_node spot.next r' spot.frame.here.base spot.live x b.arguments fn.parameters g) s
-      inside u o t = after u o (below.every (called spot x b fn.parameters r) fn.body g n' r' d (call_items fn spot.live x spot.frame.here k) u j
+      inside u o t = after u o (below.every (into_callee spot x b fn.parameters r) fn.body g n' r' d (call_items fn spot.live x spot.frame.here k) u j
           (record { loops = λ m z. absurd (none-some m z); backs = refl }) (length_push spot.frame.here.base b.arguments s u o ∙ rw (l, i) refl) less t)
 
   splits_gives : (spot : Spot) (r : ℕ) (x : Option ℕ) (a : Source) (g : Node) (q : ℕ) (k : List Item) (s : State) (j : ℕ) (e : Config) → Gives P T spot r x a g q → length s.store ≡ spot.live →

@@ -35,7 +35,7 @@ pub fn in_a_row(alloc: Global, parts: Vec<Node>) -> Result<Node, AllocError>
     Ok(Node::Seq(parts, Box::new(alloc, Node::Empty)?))
 }
 
-fn caught(alloc: Global, point: usize, exit: Exit, body: Node) -> Result<Node, AllocError>
+fn catch_exit(alloc: Global, point: usize, exit: Exit, body: Node) -> Result<Node, AllocError>
     ensures { IfOk result (λ g. node_view g ≡ graph.catch point (exit_view exit) (node_view body)) }
 {
     Ok(Node::Catch(point, exit, Box::new(alloc, body)?))
@@ -97,10 +97,10 @@ pub fn rounds(
         ≡ loop_node point base (cond_view cond.now) (node_view body) (node_view step)) }
 {
     let cond = cond.copy(alloc)?;
-    let body = caught(alloc, point, Exit::Continued, body)?;
+    let body = catch_exit(alloc, point, Exit::Continued, body)?;
     let round = in_turn(alloc, body, step)?;
     let all = Node::Iterate(point, base, cond, Box::new(alloc, round)?);
-    caught(alloc, point, Exit::Broken, all)
+    catch_exit(alloc, point, Exit::Broken, all)
 }
 
 /// A jump, which first cuts the store.
@@ -164,7 +164,7 @@ pub struct CallPlace {
 }
 
 /// A call of a function with so many parameters and this body.
-pub fn called(
+pub fn enclose_call(
     alloc: Global,
     place: CallPlace,
     arguments: &[Expr],
@@ -178,7 +178,7 @@ pub fn called(
 {
     let end = call_end(alloc, place.end, place.live, parameters, place.target)?;
     let whole = in_turn(alloc, body, end)?;
-    let inside = caught(alloc, place.point, Exit::Returned, whole)?;
+    let inside = catch_exit(alloc, place.point, Exit::Returned, whole)?;
     let arguments = copy_expressions(alloc, arguments)?;
     behind(alloc, place.point, Op::Push(place.base, arguments), inside)
 }

@@ -19,8 +19,8 @@ ghost use Rattle.lra_graph.specs.Inlining.{StopsCall, StopsRound, IsStmt, IsPlai
 ghost use Rattle.lra_graph.specs.Inlining.{IsDeclared, IsLoop, IsReturn, for_of};
 
 use crate::forms::{
-    CallPlace, add_part, behind, behind_point, block_end, called, choice, cut_and_leave, in_a_row,
-    in_turn, returned, rounds,
+    CallPlace, add_part, behind, behind_point, block_end, choice, cut_and_leave, enclose_call,
+    in_a_row, in_turn, returned, rounds,
 };
 use crate::frame::{Around, Back, Frame, Repeated};
 use crate::points::{GraphError, Limit, add_point};
@@ -588,5 +588,5 @@ fn inline_call(
         live: frame.live,
         target,
     };
-    Ok(called(around.alloc, place, &call.arguments, parameters, body)?)
+    Ok(enclose_call(around.alloc, place, &call.arguments, parameters, body)?)
 }

@@ -8,7 +8,7 @@ use Rattle.lra_base.specs.declared.options.Options.{Options}
 use Rattle.lra_flow.specs.Operations.{Operations, dropping}
 use Rattle.lra_flow.specs.Changes.{AreJoined}
 use Rattle.lra_flow.specs.Conditions.{Leaves}
-use Rattle.lra_flow.specs.Pass.{Result, noted, jumps, caught, behind, Through, GoesRound, Grows, Narrows, Pass}
+use Rattle.lra_flow.specs.Pass.{Result, noted, jumps, values_behind, behind, Through, GoesRound, Grows, Narrows, Pass}
 use Rattle.lra_flow.proofs.Transfer.{Matters, Transfers, passes}
 use Rattle.lra_iter.specs.Fits.{live_behind}
 use Rattle.lra_iter.specs.declared.outcome.Turn.{Turn}
@@ -19,7 +19,7 @@ use Rattle.lra_iter.proofs.PassSteps.{same_jumps_fit}
 abbrev pub flagged_at : {V : Type 0} → ℕ → Result V → Result V
 flagged_at p r = record r { flag = Some p }
 
-caught_again : {V : Type 0} (p : ℕ) (k : Exit) (s : Result V) → caught k s ≡ caught k (flagged_at p s)
+caught_again : {V : Type 0} (p : ℕ) (k : Exit) (s : Result V) → values_behind k s ≡ values_behind k (flagged_at p s)
 caught_again p broken s = refl
 caught_again p continued s = refl
 caught_again p returned s = refl

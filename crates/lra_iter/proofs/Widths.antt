@@ -23,7 +23,7 @@ use Rattle.lra_base.specs.declared.options.Options.{Options}
 use Rattle.lra_flow.specs.Operations.{dropping}
 use Rattle.lra_flow.specs.Changes.{set_to, push_all, drop_last, actions_of, first_values, AreDone, AreJoined}
 use Rattle.lra_flow.specs.Conditions.{testing, Leaves}
-use Rattle.lra_flow.specs.Pass.{Entry, value, failing, Result, noted, jumps, first_of_call, caught, behind, Through, Changes, GoesRound, Grows, Narrows, Pass}
+use Rattle.lra_flow.specs.Pass.{Entry, value, failing, Result, noted, jumps, first_of_call, values_behind, behind, Through, Changes, GoesRound, Grows, Narrows, Pass}
 use Rattle.lra_flow.specs.Analysis.{Derivation, Solves}
 use Rattle.lra_flow.proofs.Caps.{all_both}
 use Rattle.lra_change.specs.Changes.{dims_behind}
@@ -103,7 +103,7 @@ module _ (V H : Type 0) (m : Meaning V H) where
   returned_dims [] n e w is = joined_dims n [] e w is
   returned_dims (v ∷ vs) n e w is = last_joined v vs n e w is
 
-  caught_dims : (k : Exit) (r : Result V) (e : Exactness) (w : V) → AreJoined (dropping m) (caught k r).0 (caught k r).1 e w → m.dims w ≡ m.dims r.normal
+  caught_dims : (k : Exit) (r : Result V) (e : Exactness) (w : V) → AreJoined (dropping m) (values_behind k r).0 (values_behind k r).1 e w → m.dims w ≡ m.dims r.normal
   caught_dims broken r e w is = joined_dims r.normal r.breaks e w is
   caught_dims continued r e w is = joined_dims r.normal r.continues e w is
   caught_dims returned r e w is = returned_dims r.returns r.normal e w is

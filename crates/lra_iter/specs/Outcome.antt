@@ -17,7 +17,7 @@ use Rattle.lra_flow.specs.Sound.{jumps_of}
 use Rattle.lra_iter.specs.Fits.{live_behind, JumpsWith}
 use Rattle.lra_flow.specs.Operations.{dropping}
 use Rattle.lra_flow.specs.Changes.{AreJoined}
-use Rattle.lra_flow.specs.Pass.{Entry, value, failing, Result, noted, in_turn, caught, behind, Pass}
+use Rattle.lra_flow.specs.Pass.{Entry, value, failing, Result, noted, in_turn, values_behind, behind, Pass}
 use Rattle.lra_flow.specs.Pass.{GoesRound, Grows}
 
 abbrev pub entry_view : {V : Type 0} → entry.Entry V → Entry V
@@ -53,7 +53,8 @@ AllHave m n (v ∷ vs) = (m.dims v ≡ n) × AllHave m n vs
 
 -- the jumps of this kind come out and are joined at this point
 abbrev pub Catches : {V H : Type 0} → Meaning V H → ℕ → Exit → Result V → Result V → Type 0
-Catches {V} m q k s r = (w : V) × (e : Exactness) × AreJoined (dropping m) (caught k s).0 (caught k s).1 e w ×
+Catches {V} m q k s r = (w : V) × (e : Exactness)
+    × AreJoined (dropping m) (values_behind k s).0 (values_behind k s).1 e w ×
     (r ≡ behind k s w (noted q e s.flag))
 
 -- both branches of a choice, whose ends are joined at this point

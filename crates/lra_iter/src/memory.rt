@@ -41,7 +41,7 @@ impl<D: Drop> Drop for Memory<D> {
 }
 
 /// Where the loop of this point is among the kept ones.
-fn place_of<D: Drop>(kept: &[KeptLoop<D>], point: usize) -> Option<usize>
+fn find_kept<D: Drop>(kept: &[KeptLoop<D>], point: usize) -> Option<usize>
     ensures inside { (place : ℕ) → result ≡ Some place → place < length kept.now }
     ensures point { (place : ℕ) (none : KeptLoop D) → result ≡ Some place →
         (slice_index_or kept.now place none).point ≡ point }
@@ -73,7 +73,7 @@ impl<D: Domain> Memory<D> {
             MayRecall D.meaning options loops f self.old → IsRecalled D.meaning options loops f one →
             OnOk result (MayRecall D.meaning options loops f self.new) }
     {
-        match place_of(&self.kept, one.point) {
+        match find_kept(&self.kept, one.point) {
             Some(place) => self.kept[place] = one,
             None => self.kept.push(one)?,
         }
@@ -92,7 +92,7 @@ impl<D: Domain> Memory<D> {
         ensures { (options : Options) (loops : ℕ → Node) → MayRecall D.meaning options loops flag self.now →
             IfOk result (λ r. AreRecalled D.meaning options (loops point) flag first.now r) }
     {
-        let Some(place) = place_of(&self.kept, point) else {
+        let Some(place) = find_kept(&self.kept, point) else {
             return Ok(None);
         };
         let one = &self.kept[place];

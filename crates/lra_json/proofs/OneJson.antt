@@ -21,7 +21,7 @@ use Rattle.lra_meaning.specs.LiveNames.{live_names, globals_named}
 use Rattle.lra_program.specs.Sites.{Site, sites_of}
 use Rattle.lra_program.specs.Rows.{Row}
 use Rattle.lra_program.specs.Assertions.{assertions_from}
-use Rattle.lra_findings.specs.Report.{Generator, Part, State, PointReport, Verdict, Report}
+use Rattle.lra_findings.specs.Report.{Generator, Part, Invariant, PointReport, Verdict, Report}
 use Rattle.lra_findings.specs.ReportText.{place_text, shown_names, row_text, generator_text, proved_count, unknown_count}
 use Rattle.lra_findings.specs.Parts.{Tells}
 use Rattle.lra_report.specs.Listing.{listed_point, listed_verdict, Lists, AreListed, AreJudged, AreParts, IsFlag}
@@ -114,11 +114,11 @@ part_opens Oct ns p u v e = eqb-false 123 93 refl (first_same e)
 
 -- points -------------------------------------------------------------------------
 
-abbrev GoodState : Domain → ℕ → State → Type 0
-GoodState domain n state = AllByRecursion (GoodPart domain n) state
+abbrev GoodInvariant : Domain → ℕ → Invariant → Type 0
+GoodInvariant domain n state = AllByRecursion (GoodPart domain n) state
 
 abbrev GoodPoint : Domain → PointReport → Type 0
-GoodPoint domain p = GoodState domain (length p.names) p.state
+GoodPoint domain p = GoodInvariant domain (length p.names) p.state
 
 good_points : (o : Options) (ps : List PointReport) → AllByRecursion (AreParts o) ps → AllByRecursion IsReadablePoint ps → AllByRecursion (GoodPoint o.domain) ps
 good_points o [] parts readable = tt
@@ -129,8 +129,8 @@ good_points o (p ∷ ps) parts readable =
 abbrev after_parts : PointReport → Members
 after_parts p = member (codes "path") (string p.path) (member (codes "place") (string (place_text p.place)) no_members)
 
-state_told : (domain : Domain) (outside : List (List ℕ)) (ls : List Labelled) (number : ℕ) (site : Site) (s t : State) (u v : List ℕ) → AreWords (live_names outside ls site) →
-    GoodState domain (length (shown_names (live_names outside ls site))) s → GoodState domain (length (shown_names (live_names outside ls site))) t →
+state_told : (domain : Domain) (outside : List (List ℕ)) (ls : List Labelled) (number : ℕ) (site : Site) (s t : Invariant) (u v : List ℕ) → AreWords (live_names outside ls site) →
+    GoodInvariant domain (length (shown_names (live_names outside ls site))) s → GoodInvariant domain (length (shown_names (live_names outside ls site))) t →
     compact_text (point_data domain (listed_point outside ls number site s)) ++ u ≡ compact_text (point_data domain (listed_point outside ls number site t)) ++ v → (s ≡ t) × (u ≡ v)
 state_told domain outside ls number site s t u v hw gs gt e =
     let names = shown_names (live_names outside ls site) in
@@ -165,8 +165,8 @@ points_same domain outside ls later number (s ∷ sites) (p ∷ ps) (q ∷ qs) u
     let more_q = items_text true (items_of (map (point_data domain) qs)) in
     let here : text (listed p.state) ++ (more_p ++ u) ≡ text (listed q.state) ++ (more_q ++ v) =
     ap (λ x. text x ++ (more_p ++ u)) (sym lp.0) ∙ next_item later (text p) (text q) more_p more_q u v e ∙ ap (λ x. text x ++ (more_q ++ v)) lq.0 in
-    let good_p = subst (λ (x : PointReport). GoodState domain (length x.names) p.state) lp.0 gp.0 in
-    let good_q = subst (λ (x : PointReport). GoodState domain (length x.names) q.state) lq.0 gq.0 in
+    let good_p = subst (λ (x : PointReport). GoodInvariant domain (length x.names) p.state) lp.0 gp.0 in
+    let good_q = subst (λ (x : PointReport). GoodInvariant domain (length x.names) q.state) lq.0 gq.0 in
     let first = state_told domain outside ls number s p.state q.state (more_p ++ u) (more_q ++ v) hw.0 good_p good_q here in
     let further = points_same domain outside ls true (suc number) sites ps qs u v hw.1 lp.2 lq.2 gp.1 gq.1 first.1 in
     (both_same (lp.0 ∙ ap listed first.0 ∙ sym lq.0) further.0, further.1)

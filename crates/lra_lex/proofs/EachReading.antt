@@ -13,7 +13,8 @@ use Rattle.lra_base.specs.declared.refusals.Refusal.{Refusal}
 use Rattle.lra_tree.specs.declared.tokens.Kind.{Kind}
 use Rattle.lra_tree.specs.declared.tokens.Kind.TheVariants as kind
 use Rattle.lra_tree.specs.declared.tokens.Token.{Token}
-use Rattle.lra_tree.specs.Lexeme.{is_letter, is_digit, is_word_byte, is_word, is_among, further_words, suffixes, Base, octal, decimal_base, hexadecimal, number_behind, IsLiteral, greatest_literal}
+use Rattle.lra_tree.specs.Lexeme.{is_letter, is_digit, is_word_byte, is_name_word, is_among, further_words, suffixes, Base, octal, decimal_base, hexadecimal}
+use Rattle.lra_tree.specs.Lexeme.{number_behind, IsLiteral, greatest_literal}
 use Rattle.lra_tree.specs.Lexeme.{mark_text, SpellsToken, name, mark_of, reserved}
 use Rattle.lra_tree.specs.Tokens.{is_blank, place_from, bytes_of, Lex, IsTokenFault, end_token}
 use Rattle.lra_lex.specs.declared.lexer.Found.{Found}
@@ -137,7 +138,7 @@ gaps fresh rest l = elim (cases_Bool (is_blank (get_or rest 0 0))) [
 
 -- tokens ---------------------------------------------------------------------------------------------------------------------
 
-word_kind : (s : List ℕ) → is_word s ≡ true → (k : Kind) × SpellsToken s k
+word_kind : (s : List ℕ) → is_name_word s ≡ true → (k : Kind) × SpellsToken s k
 word_kind s w = elim (found_mark s) as (λ o. found_mark s ≡ o → (k : Kind) × SpellsToken s k) [
   | Some m ↦ λ e. (kind.Mark m, mark_of m (found_is s m e))
   | None ↦ λ e. elim (cases_Bool (is_among s further_words)) [

@@ -5,7 +5,7 @@ use Rattle.std.proofs.lemmas.Slice.Eq.{bytes_eq-Decides}
 use Rattle.std.specs.List.{list_all}
 use Rattle.lra_tree.specs.declared.tokens.Mark.{Mark}
 use Rattle.lra_tree.specs.declared.tokens.Mark.TheVariants as mark
-use Rattle.lra_tree.specs.Lexeme.{is_word_byte, is_word, is_number_word, mark_text, is_among, named_words, further_words}
+use Rattle.lra_tree.specs.Lexeme.{is_word_byte, is_name_word, is_number_word, mark_text, is_among, named_words, further_words}
 use Rattle.lra_lex.specs.declared.marks.TheConstants.{MARKS}
 use Rattle.lra_lex.specs.Front.{found_mark}
 
@@ -52,7 +52,7 @@ pub mark_short : (m : Mark) → (is_word_byte (get_or (mark_text m) 0 0) || nat_
 mark_short mark.Plus = refl
 mark_short _ = refl
 
-pub mark_named : (m : Mark) → (not (is_word (mark_text m)) || is_among (mark_text m) named_words) ≡ true
+pub mark_named : (m : Mark) → (not (is_name_word (mark_text m)) || is_among (mark_text m) named_words) ≡ true
 mark_named mark.Plus = refl
 mark_named _ = refl
 

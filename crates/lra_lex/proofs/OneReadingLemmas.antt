@@ -14,9 +14,10 @@ use Rattle.lra_tree.specs.declared.tokens.Mark.TheVariants as mark
 use Rattle.lra_tree.specs.declared.tokens.Kind.{Kind}
 use Rattle.lra_tree.specs.declared.tokens.Kind.TheVariants as kind
 use Rattle.lra_tree.specs.declared.tokens.Token.{Token}
-use Rattle.lra_tree.specs.Lexeme.{is_letter, is_digit, is_word_byte, is_word, is_number_word, mark_text, is_among, named_words, further_words, IsOpen, IsUnclosed, IsLiteral, greatest_literal, Lexeme}
+use Rattle.lra_tree.specs.Lexeme.{is_letter, is_digit, is_word_byte, is_name_word, is_number_word, mark_text, is_among}
+use Rattle.lra_tree.specs.Lexeme.{named_words, further_words, IsOpen, IsUnclosed, IsLiteral, greatest_literal, Lexeme}
 use Rattle.lra_tree.specs.Lexeme.{word, number_word, mark_word, unclosed, SpellsToken, name, number, mark_of, reserved, comment}
-use Rattle.lra_tree.specs.Tokens.{is_blank, in_line, IsLineEnd, IsGap, blank, line_comment, block_comment, skipped_line, IsLongest, IsToken, Piece, gap, token, bytes_of, tokens_of, IsReading}
+use Rattle.lra_tree.specs.Tokens.{is_blank, in_line, IsLineEnd, IsGap, blank, line_comment, block_comment, skipped_line, IsLongest, IsToken, Fragment, gap, token, bytes_of, tokens_of, IsReading}
 use Rattle.lra_tree.specs.Tokens.{IsFaulty, place_behind, end_token, OneReading}
 use Rattle.lra_lex.specs.Front.{opens_comment}
 use Rattle.lra_lex.proofs.RunLemmas.{run_exact, Stops, differ}
@@ -101,15 +102,15 @@ lexeme_some (c ∷ s) l = omega arith
 not_letter_digit : (c : ℕ) → is_letter c ≡ true → is_digit c ≡ true → ⊥
 not_letter_digit c h k = grind (arith, nat_tests)
 
-word_number : (s : List ℕ) → is_word s ≡ true → is_number_word s ≡ true → ⊥
+word_number : (s : List ℕ) → is_name_word s ≡ true → is_number_word s ≡ true → ⊥
 word_number [] h k = absurd (cc)
 word_number (c ∷ s) h k = not_letter_digit c (and_parts (is_letter c) (list_all is_word_byte s) h).0 (and_parts (is_digit c) (list_all is_word_byte s) k).0
 
-name_mark : (s : List ℕ) (m : Mark) → is_word s ≡ true → is_among s named_words ≡ false → s ≡ mark_text m → ⊥
-name_mark s m w n e = differ (not_or (is_word (mark_text m)) (is_among (mark_text m) named_words) (mark_named m) (rw e at w)) (rw e at n)
+name_mark : (s : List ℕ) (m : Mark) → is_name_word s ≡ true → is_among s named_words ≡ false → s ≡ mark_text m → ⊥
+name_mark s m w n e = differ (not_or (is_name_word (mark_text m)) (is_among (mark_text m) named_words) (mark_named m) (rw e at w)) (rw e at n)
 
-comment_word : (s : List ℕ) → is_word s ≡ true → IsUnclosed s → ⊥
-comment_word s w u = let h : is_word (codes "/*" ++ u.0) ≡ true = rw u.1 at w in absurd (cc)
+comment_word : (s : List ℕ) → is_name_word s ≡ true → IsUnclosed s → ⊥
+comment_word s w u = let h : is_name_word (codes "/*" ++ u.0) ≡ true = rw u.1 at w in absurd (cc)
 
 comment_number : (s : List ℕ) → is_number_word s ≡ true → IsUnclosed s → ⊥
 comment_number s w u = let h : is_number_word (codes "/*" ++ u.0) ≡ true = rw u.1 at w in absurd (cc)
@@ -117,8 +118,8 @@ comment_number s w u = let h : is_number_word (codes "/*" ++ u.0) ≡ true = rw 
 number_mark : (s : List ℕ) (m : Mark) → is_number_word s ≡ true → s ≡ mark_text m → ⊥
 number_mark s m w e = differ (rw e at w) (mark_no_number m)
 
-further_word : (s : List ℕ) → is_among s further_words ≡ true → is_word s ≡ true
-further_word s h = among_all is_word s further_words refl h
+further_word : (s : List ℕ) → is_among s further_words ≡ true → is_name_word s ≡ true
+further_word s h = among_all is_name_word s further_words refl h
 
 mark_no_comment : (m : Mark) → opens_comment (mark_text m) ≡ false
 mark_no_comment mark.Plus = refl
@@ -195,10 +196,10 @@ token_one before s t rest k l h i =
     (same, token_same k l kinds (h.place ∙ sym i.place))
 
 -- behind pieces that are the same
-abbrev Same : List Piece → List Piece → List ℕ → List ℕ → Type 0
+abbrev Same : List Fragment → List Fragment → List ℕ → List ℕ → Type 0
 Same ps qs r u = (ps ≡ qs) × (r ≡ u)
 
-one : (before : List ℕ) (ps qs : List Piece) (r u : List ℕ) → bytes_of ps ++ r ≡ bytes_of qs ++ u → IsReading before ps r → IsReading before qs u
+one : (before : List ℕ) (ps qs : List Fragment) (r u : List ℕ) → bytes_of ps ++ r ≡ bytes_of qs ++ u → IsReading before ps r → IsReading before qs u
     → IsFinal (before ++ bytes_of ps) r → IsFinal (before ++ bytes_of qs) u → Same ps qs r u
 one before [] [] r u e k l f g = (refl, e)
 one before [] (gap h ∷ qs) r u e k l f g =
@@ -216,7 +217,7 @@ one before (gap s ∷ ps) (gap t ∷ qs) r u e k l f g =
     let rest = one (before ++ s) ps qs r u left k.1 (subst (λ (z : List ℕ). IsReading (before ++ z) qs u) (sym same) l.1)
     (subst (λ (z : List ℕ). IsFinal z r) (sym (append_assoc before s (bytes_of ps))) f)
     (subst (λ (z : List ℕ). IsFinal z u) (ap (λ (z : List ℕ). before ++ (z ++ bytes_of qs)) (sym same) ∙ sym (append_assoc before s (bytes_of qs))) g) in
-    (ap (λ (z : List ℕ). gap z ∷ ps) same ∙ ap (λ (z : List Piece). gap t ∷ z) rest.0, rest.1)
+    (ap (λ (z : List ℕ). gap z ∷ ps) same ∙ ap (λ (z : List Fragment). gap t ∷ z) rest.0, rest.1)
 one before (gap s ∷ ps) (token t y ∷ qs) r u e k l f g =
     let whole : s ++ (bytes_of ps ++ r) ≡ t ++ (bytes_of qs ++ u) = sym (append_assoc s (bytes_of ps) r) ∙ e ∙ append_assoc t (bytes_of qs) u in
     absurd (l.0.no_gap s (bytes_of ps ++ r) (sym whole) k.0)
@@ -230,7 +231,7 @@ one before (token s x ∷ ps) (token t y ∷ qs) r u e k l f g =
     let rest = one (before ++ s) ps qs r u left k.1 (subst (λ (z : List ℕ). IsReading (before ++ z) qs u) (sym both.0) l.1)
     (subst (λ (z : List ℕ). IsFinal z r) (sym (append_assoc before s (bytes_of ps))) f)
     (subst (λ (z : List ℕ). IsFinal z u) (ap (λ (z : List ℕ). before ++ (z ++ bytes_of qs)) (sym both.0) ∙ sym (append_assoc before s (bytes_of qs))) g) in
-    (ap (λ (z : List ℕ). token z x ∷ ps) both.0 ∙ ap (λ (z : Token). token t z ∷ ps) both.1 ∙ ap (λ (z : List Piece). token t y ∷ z) rest.0, rest.1)
+    (ap (λ (z : List ℕ). token z x ∷ ps) both.0 ∙ ap (λ (z : Token). token t z ∷ ps) both.1 ∙ ap (λ (z : List Fragment). token t y ∷ z) rest.0, rest.1)
 
 -- one fault at a place
 cause_one : (c d : Cause) (before rest : List ℕ) → IsFaulty c before rest → IsFaulty d before rest → c ≡ d
@@ -252,11 +253,11 @@ one_reading source = (
   (λ T U l k.
       let e : bytes_of l.0 ++ [] ≡ bytes_of k.0 ++ [] = append-nil (bytes_of l.0) ∙ sym l.1 ∙ k.1 ∙ sym (append-nil (bytes_of k.0)) in
       let same = one [] l.0 k.0 [] [] e l.2 k.2 (inl refl) (inl refl) in
-      l.3 ∙ ap (λ (z : List Piece). tokens_of z ++ end_token source ∷ []) same.0 ∙ sym k.3),
+      l.3 ∙ ap (λ (z : List Fragment). tokens_of z ++ end_token source ∷ []) same.0 ∙ sym k.3),
   (λ c d p q l k.
       let same = one [] l.0 k.0 l.1 k.1 (sym l.2 ∙ k.2) l.3 k.3 (inr (c, l.4)) (inr (d, k.4)) in
-      let there : IsFaulty d (bytes_of l.0) l.1 = subst (λ (z : List Piece). IsFaulty d (bytes_of z) l.1) (sym same.0) (subst (λ (z : List ℕ). IsFaulty d (bytes_of k.0) z) (sym same.1) k.4) in
-      (cause_one c d (bytes_of l.0) l.1 l.4 there, l.5 ∙ ap (λ (z : List Piece). place_behind (bytes_of z)) same.0 ∙ sym k.5)),
+      let there : IsFaulty d (bytes_of l.0) l.1 = subst (λ (z : List Fragment). IsFaulty d (bytes_of z) l.1) (sym same.0) (subst (λ (z : List ℕ). IsFaulty d (bytes_of k.0) z) (sym same.1) k.4) in
+      (cause_one c d (bytes_of l.0) l.1 l.4 there, l.5 ∙ ap (λ (z : List Fragment). place_behind (bytes_of z)) same.0 ∙ sym k.5)),
   (λ T c p l k.
       let e : bytes_of l.0 ++ [] ≡ bytes_of k.0 ++ k.1 = append-nil (bytes_of l.0) ∙ sym l.1 ∙ k.2 in
       let same = one [] l.0 k.0 [] k.1 e l.2 k.3 (inl refl) (inr (c, k.4)) in

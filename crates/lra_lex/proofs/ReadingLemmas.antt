@@ -8,7 +8,7 @@ use Rattle.lra_base.specs.declared.refusals.Refusal.{Refusal}
 use Rattle.lra_base.specs.Refused.{IfRefusal}
 use Rattle.lra_tree.specs.declared.tokens.Kind.{Kind}
 use Rattle.lra_tree.specs.declared.tokens.Token.{Token}
-use Rattle.lra_tree.specs.Tokens.{IsGap, NoGap, IsToken, Piece, gap, token, bytes_of, tokens_of, IsReading, IsFaulty, place_from, place_behind}
+use Rattle.lra_tree.specs.Tokens.{IsGap, NoGap, IsToken, Fragment, gap, token, bytes_of, tokens_of, IsReading, IsFaulty, place_from, place_behind}
 use Rattle.lra_lex.specs.Places.{fresh_behind}
 use Rattle.lra_lex.specs.Front.{HasNoGap}
 use Rattle.lra_lex.specs.Read.{BeginsToken, HasFault, BeginsFound, FaultsAt, found_tokens, IsReadTo}
@@ -40,48 +40,48 @@ refusal_at place fresh rest Memory l n h = tt
 
 -- one piece more -------------------------------------------------------------------------------------------------------------
 
-abbrev bytes_in : Piece → List ℕ
+abbrev bytes_in : Fragment → List ℕ
 bytes_in (gap bytes) = bytes
 bytes_in (token bytes t) = bytes
 
-abbrev tokens_in : Piece → List Token
+abbrev tokens_in : Fragment → List Token
 tokens_in (gap bytes) = []
 tokens_in (token bytes t) = t ∷ []
 
-abbrev IsPiece : List ℕ → Piece → List ℕ → Type 0
-IsPiece before (gap bytes) after = IsGap before bytes after
-IsPiece before (token bytes t) after = IsToken before bytes (bytes ++ after) t
+abbrev IsFragment : List ℕ → Fragment → List ℕ → Type 0
+IsFragment before (gap bytes) after = IsGap before bytes after
+IsFragment before (token bytes t) after = IsToken before bytes (bytes ++ after) t
 
-bytes_push : (ps : List Piece) (p : Piece) → bytes_of (ps ++ p ∷ []) ≡ bytes_of ps ++ bytes_in p
+bytes_push : (ps : List Fragment) (p : Fragment) → bytes_of (ps ++ p ∷ []) ≡ bytes_of ps ++ bytes_in p
 bytes_push [] (gap bytes) = append-nil bytes
 bytes_push [] (token bytes t) = append-nil bytes
 bytes_push (gap bytes ∷ ps) p = ap (λ (z : List ℕ). bytes ++ z) (bytes_push ps p) ∙ sym (append_assoc bytes (bytes_of ps) (bytes_in p))
 bytes_push (token bytes t ∷ ps) p = ap (λ (z : List ℕ). bytes ++ z) (bytes_push ps p) ∙ sym (append_assoc bytes (bytes_of ps) (bytes_in p))
 
-tokens_push : (ps : List Piece) (p : Piece) → tokens_of (ps ++ p ∷ []) ≡ tokens_of ps ++ tokens_in p
+tokens_push : (ps : List Fragment) (p : Fragment) → tokens_of (ps ++ p ∷ []) ≡ tokens_of ps ++ tokens_in p
 tokens_push [] (gap bytes) = refl
 tokens_push [] (token bytes t) = refl
 tokens_push (gap bytes ∷ ps) p = tokens_push ps p
 tokens_push (token bytes t ∷ ps) p = ap (λ (z : List Token). t ∷ z) (tokens_push ps p)
 
-behind_is : (ps : List Piece) (p : Piece) (after : List ℕ) → bytes_of ps ++ (bytes_in p ++ after) ≡ bytes_of (ps ++ p ∷ []) ++ after
+behind_is : (ps : List Fragment) (p : Fragment) (after : List ℕ) → bytes_of ps ++ (bytes_in p ++ after) ≡ bytes_of (ps ++ p ∷ []) ++ after
 behind_is ps p after = sym (append_assoc (bytes_of ps) (bytes_in p) after) ∙ ap (λ (z : List ℕ). z ++ after) (sym (bytes_push ps p))
 
-reading_push : (before : List ℕ) (ps : List Piece) (p : Piece) (after : List ℕ) → IsReading before ps (bytes_in p ++ after) → IsPiece (before ++ bytes_of ps) p after →
+reading_push : (before : List ℕ) (ps : List Fragment) (p : Fragment) (after : List ℕ) → IsReading before ps (bytes_in p ++ after) → IsFragment (before ++ bytes_of ps) p after →
     IsReading before (ps ++ p ∷ []) after
 reading_push before [] (gap bytes) after r h = (subst (λ (z : List ℕ). IsGap z bytes after) (append-nil before) h, tt)
 reading_push before [] (token bytes t) after r h = (subst (λ (z : List ℕ). IsToken z bytes (bytes ++ after) t) (append-nil before) h, tt)
 reading_push before (gap bytes ∷ ps) p after r h = (
   subst (λ (z : List ℕ). IsGap before bytes z) (behind_is ps p after) r.0,
-  reading_push (before ++ bytes) ps p after r.1 (subst (λ (z : List ℕ). IsPiece z p after) (sym (append_assoc before bytes (bytes_of ps))) h),
+  reading_push (before ++ bytes) ps p after r.1 (subst (λ (z : List ℕ). IsFragment z p after) (sym (append_assoc before bytes (bytes_of ps))) h),
 )
 reading_push before (token bytes t ∷ ps) p after r h = (
   subst (λ (z : List ℕ). IsToken before bytes (bytes ++ z) t) (behind_is ps p after) r.0,
-  reading_push (before ++ bytes) ps p after r.1 (subst (λ (z : List ℕ). IsPiece z p after) (sym (append_assoc before bytes (bytes_of ps))) h),
+  reading_push (before ++ bytes) ps p after r.1 (subst (λ (z : List ℕ). IsFragment z p after) (sym (append_assoc before bytes (bytes_of ps))) h),
 )
 
-read_more : (source rest s after : List ℕ) (tokens : List Token) (place : Place) (fresh : Bool) (p : Piece) (r : IsReadTo source rest tokens place fresh) → rest ≡ s ++ after → bytes_in p ≡ s
-    → IsPiece (bytes_of r.pieces) p after → IsReadTo source after (tokens ++ tokens_in p) (place_from place s) (fresh_behind fresh s)
+read_more : (source rest s after : List ℕ) (tokens : List Token) (place : Place) (fresh : Bool) (p : Fragment) (r : IsReadTo source rest tokens place fresh) → rest ≡ s ++ after → bytes_in p ≡ s
+    → IsFragment (bytes_of r.pieces) p after → IsReadTo source after (tokens ++ tokens_in p) (place_from place s) (fresh_behind fresh s)
 read_more source rest s after tokens place fresh p r e b h =
     let push : bytes_of (r.pieces ++ p ∷ []) ≡ bytes_of r.pieces ++ s = bytes_push r.pieces p ∙ ap (λ (z : List ℕ). bytes_of r.pieces ++ z) b in
     let more : rest ≡ bytes_in p ++ after = e ∙ ap (λ (z : List ℕ). z ++ after) (sym b) in

@@ -7,7 +7,7 @@ use Rattle.std.specs.List.{list_all, prefix_len}
 use Rattle.lra_tree.specs.declared.tokens.Mark.{Mark}
 use Rattle.lra_tree.specs.declared.tokens.Kind.{Kind}
 use Rattle.lra_tree.specs.declared.tokens.Kind.TheVariants as kind
-use Rattle.lra_tree.specs.Lexeme.{is_word_byte, is_letter, is_digit, is_word, is_number_word, mark_text, IsLiteral, greatest_literal, word, number_word, unclosed, IsUnclosed, SpellsToken, number}
+use Rattle.lra_tree.specs.Lexeme.{is_word_byte, is_letter, is_digit, is_name_word, is_number_word, mark_text, IsLiteral, greatest_literal, word, number_word, unclosed, IsUnclosed, SpellsToken, number}
 use Rattle.lra_tree.specs.Lexeme.{mark_of, comment}
 use Rattle.lra_tree.specs.Tokens.{IsLongest}
 use Rattle.lra_lex.specs.Front.{opens_comment, found_mark, operator_at}
@@ -24,7 +24,7 @@ run_some : (rest : List ℕ) → 0 < length rest → is_word_byte (get_or rest 0
 run_some [] l h = absurd (omega arith)
 run_some (c ∷ cs) l h = rw h (omega arith)
 
-pub word_at : (rest s : List ℕ) → 0 < length rest → is_letter (get_or rest 0 0) ≡ true → s ≡ take (prefix_len is_word_byte rest) rest → is_word s ≡ true
+pub word_at : (rest s : List ℕ) → 0 < length rest → is_letter (get_or rest 0 0) ≡ true → s ≡ take (prefix_len is_word_byte rest) rest → is_name_word s ≡ true
 word_at [] s l h e = absurd (omega arith)
 word_at (c ∷ cs) s l h e = rw (e, run_front c cs (letter_is c h)) (and_from (is_letter c) (list_all is_word_byte (take (prefix_len is_word_byte cs) cs)) h (run_is is_word_byte cs).passes)
 

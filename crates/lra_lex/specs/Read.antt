@@ -8,7 +8,7 @@ use Rattle.lra_base.specs.declared.refusals.Refusal.{Refusal}
 use Rattle.lra_tree.specs.declared.tokens.Kind.{Kind}
 use Rattle.lra_tree.specs.declared.tokens.Token.{Token}
 use Rattle.lra_tree.specs.Lexeme.{is_number_word, IsLiteral, greatest_literal, Lexeme, SpellsToken}
-use Rattle.lra_tree.specs.Tokens.{IsGap, NoGap, IsLongest, IsFaulty, Piece, bytes_of, tokens_of, IsReading}
+use Rattle.lra_tree.specs.Tokens.{IsGap, NoGap, IsLongest, IsFaulty, Fragment, bytes_of, tokens_of, IsReading}
 use Rattle.lra_tree.specs.Tokens.{place_behind}
 use Rattle.lra_lex.specs.declared.lexer.Found.{Found}
 use Rattle.lra_lex.specs.Places.{fresh_behind}
@@ -50,7 +50,7 @@ found_tokens (Some k) place = record { kind = k; place = place } ∷ []
 
 -- the source is read up to rest
 pub record IsReadTo (source rest : List ℕ) (tokens : List Token) (place : Place) (fresh : Bool) : Type 0 where
-  pub pieces : List Piece
+  pub pieces : List Fragment
   pub parts : source ≡ bytes_of pieces ++ rest
   pub reading : IsReading [] pieces rest
   pub tokens_are : tokens ≡ tokens_of pieces

@@ -4,7 +4,7 @@ ghost use Rattle.std.specs.Prelude.{◌≡◌, ◌++◌, ◌+◌, ◌<◌, ◌^�
 ghost use Rattle.std.specs.Prelude.{OnOk};
 ghost use Rattle.lra_base.specs.declared.refusals.Cause.TheVariants.{BadByte, BadLiteral};
 ghost use Rattle.lra_base.specs.Refused.{IfRefused};
-ghost use Rattle.lra_tree.specs.Lexeme.{is_digit, is_letter, is_word, is_word_byte, IsUnclosed, SpellsToken};
+ghost use Rattle.lra_tree.specs.Lexeme.{is_digit, is_letter, is_name_word, is_word_byte, IsUnclosed, SpellsToken};
 ghost use Rattle.lra_tree.specs.Tokens.{IsTokenFault, Lex, OneReading};
 ghost use Rattle.lra_lex.specs.Front.{opens_comment, operator_at};
 ghost use Rattle.lra_lex.specs.Read.{found_tokens, BeginsFound, BeginsToken, FaultsAt, HasFault};
@@ -28,7 +28,7 @@ struct Found {
 /// The text of a word: its bytes are below 128.
 #[tactic(auto, using(crate::proofs::AsciiLemmas::word_is_text))]
 fn word_text(word: &[u8]) -> &str
-    requires { is_word word.now ≡ true }
+    requires { is_name_word word.now ≡ true }
     ensures { result.now ≡ word.now }
 {
     str::from_utf8(word).unwrap()
@@ -36,7 +36,7 @@ fn word_text(word: &[u8]) -> &str
 
 /// The kind of a word.
 fn word_kind(alloc: Global, word: &[u8]) -> Result<Kind, AllocError>
-    requires { is_word word.now ≡ true }
+    requires { is_name_word word.now ≡ true }
     ensures { IfOk result (SpellsToken word.now) }
 {
     match mark(word) {

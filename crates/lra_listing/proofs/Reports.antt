@@ -8,10 +8,10 @@ use Rattle.lra_program.specs.Sites.{Site, sites_of}
 use Rattle.lra_operations.specs.declared.graph.Site as code_site
 use Rattle.lra_operations.specs.GraphViews.{site_view}
 use Rattle.lra_tree.specs.Labels.{Labelled, labels_of}
-use Rattle.lra_findings.specs.Report.{State, Report}
+use Rattle.lra_findings.specs.Report.{Invariant, Report}
 use Rattle.lra_meaning.specs.LiveNames.{globals_named}
 use Rattle.lra_report.specs.Listing.{AreListed, Lists}
-use Rattle.lra_listing.specs.Given.{AreStates, AreVerdicts, verdict_at}
+use Rattle.lra_listing.specs.Given.{AreInvariants, AreVerdicts, verdict_at}
 use Rattle.lra_listing.proofs.Verdicts.{are_judged, are_there}
 
 pub lists_by_parts : (t : FileTree) (outside : List (List ℕ)) (ls : List Labelled) (ss : List Site) (vs : List (ℕ × Bool)) (r : Report) → outside ≡ globals_named t.parts → ls ≡ labels_of t
@@ -27,8 +27,8 @@ lists_by_parts t outside ls ss vs r named labelled sited judged points verdicts 
 }
 
 -- what is known at the program's points is known at the given ones
-pub states_there : (ss tt : List Site) (states : List State) → ss ≡ tt → AreStates tt states → AreStates ss states
-states_there ss tt states same are = subst (λ (xs : List Site). AreStates xs states) (sym same) are
+pub states_there : (ss tt : List Site) (states : List Invariant) → ss ≡ tt → AreInvariants tt states → AreInvariants ss states
+states_there ss tt states same are = subst (λ (xs : List Site). AreInvariants xs states) (sym same) are
 
 pub verdicts_there : (sites : List code_site.Site) (tt : List Site) (vs : List (ℕ × Bool)) → map site_view sites ≡ tt → AreVerdicts tt vs → All (λ (v : ℕ × Bool). v.0 < length sites) vs
 verdicts_there sites tt vs same are =

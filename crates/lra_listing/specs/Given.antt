@@ -3,7 +3,7 @@
 use Rattle.std.specs.Prelude.{◌≡◌, ◌<◌, ℕ, suc, Bool, false, List, [], length, Some, slice_get, slice_index_or, IsTrue}
 use Rattle.std.specs.Prelude.{Contains}
 use Rattle.std.specs.List.{AllByRecursion}
-use Rattle.lra_findings.specs.Report.{State, PointReport, Verdict}
+use Rattle.lra_findings.specs.Report.{Invariant, PointReport, Verdict}
 use Rattle.lra_program.specs.Sites.{Site}
 use Rattle.lra_tree.specs.Labels.{Labelled}
 use Rattle.lra_report.specs.Listing.{HasWidth, listed_verdict}
@@ -13,9 +13,9 @@ abbrev pub IsAssertion : List Site → ℕ → Type 0
 IsAssertion sites q = (s : Site) × (slice_get sites q ≡ Some s) × IsTrue s.asserts
 
 -- as many states as points, each part with a number for each variable that lives there
-pub record AreStates (sites : List Site) (states : List State) : Type 0 where
+pub record AreInvariants (sites : List Site) (states : List Invariant) : Type 0 where
   pub as_many : length states ≡ length sites
-  pub wide : (q : ℕ) (s : Site) (state : State) → slice_get sites q ≡ Some s → slice_get states q ≡ Some state →
+  pub wide : (q : ℕ) (s : Site) (state : Invariant) → slice_get sites q ≡ Some s → slice_get states q ≡ Some state →
       AllByRecursion (HasWidth s.live) state
 
 -- one verdict for each assertion, in order: the number of its point, and whether it is proved
@@ -25,7 +25,7 @@ pub record AreVerdicts (sites : List Site) (verdicts : List (ℕ × Bool)) : Typ
   pub in_order : (i j : ℕ) (a b : ℕ × Bool) → i < j → slice_get verdicts i ≡ Some a → slice_get verdicts j ≡ Some b →
       a.0 < b.0
 
-abbrev pub state_of : PointReport → State
+abbrev pub state_of : PointReport → Invariant
 state_of p = p.state
 
 -- a verdict as a report tells it, where points are numbered from 1

@@ -14,7 +14,7 @@ ghost use Rattle.lra_meaning.specs.LiveNames.{globals_named, names_outside, live
 ghost use Rattle.lra_report.specs.Listing.{call_at, called_at, calls_on, listed_point, listed_verdict, AreListed};
 ghost use Rattle.lra_report.specs.Listing.{Lists};
 ghost use Rattle.lra_report.specs.View.{call_place_of, point_report_of, verdict_of, report_of};
-ghost use Rattle.lra_listing.specs.Given.{AreStates, AreVerdicts, state_of, told_of, told, verdict_at};
+ghost use Rattle.lra_listing.specs.Given.{AreInvariants, AreVerdicts, state_of, told_of, told, verdict_at};
 
 use lra_base::Options;
 use lra_meaning::Labels;
@@ -254,7 +254,7 @@ fn list_points(
     states: Vec<Vec<Part>>,
 ) -> Result<Vec<PointReport>, AllocError>
     requires numbers { length sites.now < 2 ^ 32 }
-    requires states { AreStates (map site_view sites.now) (map (λ x. x.items) states.items) }
+    requires states { AreInvariants (map site_view sites.now) (map (λ x. x.items) states.items) }
     ensures listed { IfOk result (λ points. AreListed globals.now labels.now.labels 1 (map site_view sites.now)
         (map point_report_of points.items)) }
     ensures states { IfOk result (λ points. map state_of (map point_report_of points.items) ≡
@@ -311,7 +311,7 @@ pub fn list(
     requires labels { outline.now.labels.now.labels ≡ labels_of (tree_view outline.now.tree.now) }
     requires sites { map site_view outline.now.sites.now ≡ sites_of (resolve (tree_view outline.now.tree.now)) }
     requires numbers { length outline.now.sites.now < 2 ^ 32 }
-    requires states { AreStates (sites_of (resolve (tree_view outline.now.tree.now)))
+    requires states { AreInvariants (sites_of (resolve (tree_view outline.now.tree.now)))
         (map (λ x. x.items) states.items) }
     requires verdicts { AreVerdicts (sites_of (resolve (tree_view outline.now.tree.now))) verdicts.now }
     requires flag { (q : ℕ) → flagged ≡ Some q → q < length outline.now.sites.now }

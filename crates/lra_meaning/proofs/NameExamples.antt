@@ -13,7 +13,7 @@ use Rattle.lra_tree.specs.Trees.{declaration, statement, globals, function, File
 use Rattle.lra_tree.specs.Labels.{labels_of}
 use Rattle.lra_meaning.specs.NameFaults.{name_faults}
 use Rattle.lra_meaning.specs.Resolve.{resolve, resolve_cond}
-use Rattle.lra_tree.specs.Reach.{calls_of, Reaches, there, by_call, IsRecursive, IsFirstRecursive, NotRecursive}
+use Rattle.lra_tree.specs.Reach.{calls_of, ReachesByCalls, there, by_call, IsRecursive, IsFirstRecursive, NotRecursive}
 use Rattle.lra_meaning.specs.Refuse.{RefusesTree, recursive}
 use Rattle.lra_program.proofs.RunExamples as run
 use Rattle.lra_tree.proofs.TreeSamples.{at, name_at, x_at, number, use_of, tested, call_of, declared_as, function_of, void_of, main_of, one_variable, called_twice}
@@ -175,7 +175,7 @@ calls_nothing f c n (zero, l, s) calls =
 calls_nothing f c n (suc zero, l, s) calls = no_call f c s calls
 calls_nothing f c n (suc (suc k), l, s) calls = omega (arith, l)
 
-main_reaches_no_f : (g : List ℕ) → g ≡ codes "main" → Reaches main_called (codes "f") g → ⊥
+main_reaches_no_f : (g : List ℕ) → g ≡ codes "main" → ReachesByCalls main_called (codes "f") g → ⊥
 main_reaches_no_f _ e there =
     let k : 1 ≡ 4 = ap (length {A = ℕ}) e in
     omega (arith, k)
@@ -215,7 +215,7 @@ called_name_short f c (suc (suc zero), l, s) calls =
     ap (λ (d : Identifier). length d.word) (sym (only_call c (name_at (codes "f") 59) (subst (λ (g : FunctionTree). Contains (calls_of g) c) (sym s) calls)))
 called_name_short f c (suc (suc (suc k)), l, s) calls = omega (arith, l)
 
-main_not_reached : (g : List ℕ) → length g ≡ 1 → Reaches one_another (codes "main") g → ⊥
+main_not_reached : (g : List ℕ) → length g ≡ 1 → ReachesByCalls one_another (codes "main") g → ⊥
 main_not_reached _ e there = omega (arith, e)
 main_not_reached _ e (by_call f g c r) = main_not_reached g (sym (ap (length {A = ℕ}) c.called_name) ∙ called_name_short c.function c.called c.is_there c.calls) r
 

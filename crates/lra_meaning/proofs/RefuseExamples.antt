@@ -486,55 +486,58 @@ duplicate_name_tokens = token_at (MarkOf mark.Int) 1 ∷ token_at (Name (codes "
 
 duplicate_name_refused : Refuse Spells (codes "int main(void){ long x; long x; }") DuplicateName (at 30)
 unfolding greatest_length
-duplicate_name_refused = bad_tree duplicate_name_tokens (main_of (declaration (declared_as (x_at 22) None) (declaration (declared_as (x_at 30) None) no_items)) 33) DuplicateName (at 30) (omega arith) (
-  token (codes "int") (token_at (MarkOf mark.Int) 1) ∷ gap (codes " ") ∷ token (codes "main") (token_at (Name (codes "main")) 5) ∷ token (codes "(") (token_at (MarkOf mark.OpenParen) 9) ∷
-      token (codes "void") (token_at (MarkOf mark.Void) 10) ∷ token (codes ")") (token_at (MarkOf mark.CloseParen) 14) ∷ token (codes "{") (token_at (MarkOf mark.OpenBrace) 15) ∷ gap (codes " ") ∷
-      token (codes "long") (token_at (MarkOf mark.Long) 17) ∷ gap (codes " ") ∷ token (codes "x") (token_at (Name (codes "x")) 22) ∷ token (codes ";") (token_at (MarkOf mark.Semicolon) 23) ∷
-      gap (codes " ") ∷ token (codes "long") (token_at (MarkOf mark.Long) 25) ∷ gap (codes " ") ∷ token (codes "x") (token_at (Name (codes "x")) 30) ∷
-      token (codes ";") (token_at (MarkOf mark.Semicolon) 31) ∷ gap (codes " ") ∷ token (codes "}") (token_at (MarkOf mark.CloseBrace) 33) ∷ [],
-  refl,
-  (
-    as_token [] (codes "int") (codes " main(void){ long x; long x; }") (MarkOf mark.Int) (mark_word mark.Int refl) (mark_of mark.Int refl) refl refl refl,
-    (
-      blank 32 refl refl,
+duplicate_name_refused = bad_tree duplicate_name_tokens (main_of (declaration (declared_as (x_at 22) None) (declaration (declared_as (x_at 30) None) no_items)) 33)
+    DuplicateName (at 30) (omega arith) (
+      token (codes "int") (token_at (MarkOf mark.Int) 1) ∷ gap (codes " ") ∷ token (codes "main") (token_at (Name (codes "main")) 5) ∷ token (codes "(") (token_at (MarkOf mark.OpenParen) 9) ∷
+          token (codes "void") (token_at (MarkOf mark.Void) 10) ∷ token (codes ")") (token_at (MarkOf mark.CloseParen) 14) ∷ token (codes "{") (token_at (MarkOf mark.OpenBrace) 15) ∷ gap (codes " ") ∷
+          token (codes "long") (token_at (MarkOf mark.Long) 17) ∷ gap (codes " ") ∷ token (codes "x") (token_at (Name (codes "x")) 22) ∷ token (codes ";") (token_at (MarkOf mark.Semicolon) 23) ∷
+          gap (codes " ") ∷ token (codes "long") (token_at (MarkOf mark.Long) 25) ∷ gap (codes " ") ∷ token (codes "x") (token_at (Name (codes "x")) 30) ∷
+          token (codes ";") (token_at (MarkOf mark.Semicolon) 31) ∷ gap (codes " ") ∷ token (codes "}") (token_at (MarkOf mark.CloseBrace) 33) ∷ [],
+      refl,
       (
-        as_token (codes "int ") (codes "main") (codes "(void){ long x; long x; }") (Name (codes "main")) (word refl) (name refl refl refl) refl refl refl,
+        as_token [] (codes "int") (codes " main(void){ long x; long x; }") (MarkOf mark.Int) (mark_word mark.Int refl) (mark_of mark.Int refl) refl refl refl,
         (
-          as_token (codes "int main") (codes "(") (codes "void){ long x; long x; }") (MarkOf mark.OpenParen) (mark_word mark.OpenParen refl) (mark_of mark.OpenParen refl) refl refl refl,
+          blank 32 refl refl,
           (
-            as_token (codes "int main(") (codes "void") (codes "){ long x; long x; }") (MarkOf mark.Void) (mark_word mark.Void refl) (mark_of mark.Void refl) refl refl refl,
+            as_token (codes "int ") (codes "main") (codes "(void){ long x; long x; }") (Name (codes "main")) (word refl) (name refl refl refl) refl refl refl,
             (
-              as_token (codes "int main(void") (codes ")") (codes "{ long x; long x; }") (MarkOf mark.CloseParen) (mark_word mark.CloseParen refl) (mark_of mark.CloseParen refl) refl refl refl,
+              as_token (codes "int main") (codes "(") (codes "void){ long x; long x; }") (MarkOf mark.OpenParen) (mark_word mark.OpenParen refl) (mark_of mark.OpenParen refl) refl refl refl,
               (
-                as_token (codes "int main(void)") (codes "{") (codes " long x; long x; }") (MarkOf mark.OpenBrace) (mark_word mark.OpenBrace refl) (mark_of mark.OpenBrace refl) refl refl refl,
+                as_token (codes "int main(") (codes "void") (codes "){ long x; long x; }") (MarkOf mark.Void) (mark_word mark.Void refl) (mark_of mark.Void refl) refl refl refl,
                 (
-                  blank 32 refl refl,
+                  as_token (codes "int main(void") (codes ")") (codes "{ long x; long x; }") (MarkOf mark.CloseParen) (mark_word mark.CloseParen refl) (mark_of mark.CloseParen refl) refl refl refl,
                   (
-                    as_token (codes "int main(void){ ") (codes "long") (codes " x; long x; }") (MarkOf mark.Long) (mark_word mark.Long refl) (mark_of mark.Long refl) refl refl refl,
+                    as_token (codes "int main(void)") (codes "{") (codes " long x; long x; }") (MarkOf mark.OpenBrace) (mark_word mark.OpenBrace refl) (mark_of mark.OpenBrace refl) refl refl refl,
                     (
                       blank 32 refl refl,
                       (
-                        as_token (codes "int main(void){ long ") (codes "x") (codes "; long x; }") (Name (codes "x")) (word refl) (name refl refl refl) refl refl refl,
+                        as_token (codes "int main(void){ ") (codes "long") (codes " x; long x; }") (MarkOf mark.Long) (mark_word mark.Long refl) (mark_of mark.Long refl) refl refl refl,
                         (
-                          as_token (codes "int main(void){ long x") (codes ";") (codes " long x; }") (MarkOf mark.Semicolon) (mark_word mark.Semicolon refl)
-                              (mark_of mark.Semicolon refl) refl refl refl,
+                          blank 32 refl refl,
                           (
-                            blank 32 refl refl,
+                            as_token (codes "int main(void){ long ") (codes "x") (codes "; long x; }") (Name (codes "x")) (word refl) (name refl refl refl) refl refl refl,
                             (
-                              as_token (codes "int main(void){ long x; ") (codes "long") (codes " x; }") (MarkOf mark.Long) (mark_word mark.Long refl) (mark_of mark.Long refl) refl refl refl,
+                              as_token (codes "int main(void){ long x") (codes ";") (codes " long x; }") (MarkOf mark.Semicolon) (mark_word mark.Semicolon refl)
+                                  (mark_of mark.Semicolon refl) refl refl refl,
                               (
                                 blank 32 refl refl,
                                 (
-                                  as_token (codes "int main(void){ long x; long ") (codes "x") (codes "; }") (Name (codes "x")) (word refl) (name refl refl refl) refl refl refl,
+                                  as_token (codes "int main(void){ long x; ") (codes "long") (codes " x; }") (MarkOf mark.Long) (mark_word mark.Long refl) (mark_of mark.Long refl) refl refl refl,
                                   (
-                                    as_token (codes "int main(void){ long x; long x") (codes ";") (codes " }") (MarkOf mark.Semicolon) (mark_word mark.Semicolon refl)
-                                        (mark_of mark.Semicolon refl) refl refl refl,
+                                    blank 32 refl refl,
                                     (
-                                      blank 32 refl refl,
+                                      as_token (codes "int main(void){ long x; long ") (codes "x") (codes "; }") (Name (codes "x")) (word refl) (name refl refl refl) refl refl refl,
                                       (
-                                        as_token (codes "int main(void){ long x; long x; ") (codes "}") [] (MarkOf mark.CloseBrace) (mark_word mark.CloseBrace refl)
-                                            (mark_of mark.CloseBrace refl) refl refl refl,
-                                        tt,
+                                        as_token (codes "int main(void){ long x; long x") (codes ";") (codes " }") (MarkOf mark.Semicolon) (mark_word mark.Semicolon refl)
+                                            (mark_of mark.Semicolon refl) refl refl refl,
+                                        (
+                                          blank 32 refl refl,
+                                          (
+                                            as_token (codes "int main(void){ long x; long x; ") (codes "}") [] (MarkOf mark.CloseBrace) (mark_word mark.CloseBrace refl)
+                                                (mark_of mark.CloseBrace refl) refl refl refl,
+                                            tt,
+                                          ),
+                                        ),
                                       ),
                                     ),
                                   ),
@@ -552,85 +555,83 @@ duplicate_name_refused = bad_tree duplicate_name_tokens (main_of (declaration (d
           ),
         ),
       ),
-    ),
-  ),
-  refl,
-) (
-  piece (MarkOf mark.Int) 1 0 ∷ piece (Name (codes "main")) 5 0 ∷ piece (MarkOf mark.OpenParen) 9 0 ∷ piece (MarkOf mark.Void) 10 0 ∷ piece (MarkOf mark.CloseParen) 14 0 ∷
-      piece (MarkOf mark.OpenBrace) 15 1 ∷ piece (MarkOf mark.Long) 17 0 ∷ piece (Name (codes "x")) 22 0 ∷ piece (MarkOf mark.Semicolon) 23 0 ∷ piece (MarkOf mark.Long) 25 0 ∷
-      piece (Name (codes "x")) 30 0 ∷ piece (MarkOf mark.Semicolon) 31 0 ∷ piece (MarkOf mark.CloseBrace) 33 0 ∷ piece End 34 0 ∷ [],
-  (
-    _,
-    _,
-    refl,
-    (
-      _,
-      _,
       refl,
+    ) (
+      piece (MarkOf mark.Int) 1 0 ∷ piece (Name (codes "main")) 5 0 ∷ piece (MarkOf mark.OpenParen) 9 0 ∷ piece (MarkOf mark.Void) 10 0 ∷ piece (MarkOf mark.CloseParen) 14 0 ∷
+          piece (MarkOf mark.OpenBrace) 15 1 ∷ piece (MarkOf mark.Long) 17 0 ∷ piece (Name (codes "x")) 22 0 ∷ piece (MarkOf mark.Semicolon) 23 0 ∷ piece (MarkOf mark.Long) 25 0 ∷
+          piece (Name (codes "x")) 30 0 ∷ piece (MarkOf mark.Semicolon) 31 0 ∷ piece (MarkOf mark.CloseBrace) 33 0 ∷ piece End 34 0 ∷ [],
       (
         _,
         _,
         refl,
-        inl (refl, (_, _, refl, (at 1, refl), refl)),
         (
           _,
           _,
           refl,
-          (at 9, refl),
           (
             _,
             _,
             refl,
-            inl (at 10, refl),
+            inl (refl, (_, _, refl, (at 1, refl), refl)),
             (
               _,
               _,
               refl,
-              (at 14, refl),
+              (at 9, refl),
               (
                 _,
                 _,
                 refl,
-                (at 15, refl),
+                inl (at 10, refl),
                 (
                   _,
                   _,
                   refl,
+                  (at 14, refl),
                   (
                     _,
                     _,
                     refl,
+                    (at 15, refl),
                     (
                       _,
                       _,
                       refl,
-                      (_, _, refl, (at 17, refl), (_, _, refl, inr refl, inr refl)),
-                      (_, _, refl, (_, _, refl, (_, _, refl, refl, refl), refl), (at 23, refl)),
-                    ),
-                    (
-                      _,
-                      _,
-                      refl,
-                      (_, _, refl, (_, _, refl, (at 25, refl), (_, _, refl, inr refl, inr refl)), (_, _, refl, (_, _, refl, (_, _, refl, refl, refl), refl), (at 31, refl))),
+                      (
+                        _,
+                        _,
+                        refl,
+                        (
+                          _,
+                          _,
+                          refl,
+                          (_, _, refl, (at 17, refl), (_, _, refl, inr refl, inr refl)),
+                          (_, _, refl, (_, _, refl, (_, _, refl, refl, refl), refl), (at 23, refl)),
+                        ),
+                        (
+                          _,
+                          _,
+                          refl,
+                          (_, _, refl, (_, _, refl, (at 25, refl), (_, _, refl, inr refl, inr refl)), (_, _, refl, (_, _, refl, (_, _, refl, refl, refl), refl), (at 31, refl))),
+                          refl,
+                        ),
+                      ),
                       refl,
                     ),
                   ),
-                  refl,
                 ),
               ),
             ),
           ),
+          refl,
         ),
+        refl,
       ),
       refl,
-    ),
-    refl,
-  ),
-  refl,
-  low_by (piece (MarkOf mark.Int) 1 0 ∷ piece (Name (codes "main")) 5 0 ∷ piece (MarkOf mark.OpenParen) 9 0 ∷ piece (MarkOf mark.Void) 10 0 ∷ piece (MarkOf mark.CloseParen) 14 0 ∷
-      piece (MarkOf mark.OpenBrace) 15 1 ∷ piece (MarkOf mark.Long) 17 0 ∷ piece (Name (codes "x")) 22 0 ∷ piece (MarkOf mark.Semicolon) 23 0 ∷ piece (MarkOf mark.Long) 25 0 ∷
-      piece (Name (codes "x")) 30 0 ∷ piece (MarkOf mark.Semicolon) 31 0 ∷ piece (MarkOf mark.CloseBrace) 33 0 ∷ piece End 34 0 ∷ []) refl,
-)
+      low_by (piece (MarkOf mark.Int) 1 0 ∷ piece (Name (codes "main")) 5 0 ∷ piece (MarkOf mark.OpenParen) 9 0 ∷ piece (MarkOf mark.Void) 10 0 ∷ piece (MarkOf mark.CloseParen) 14 0 ∷
+          piece (MarkOf mark.OpenBrace) 15 1 ∷ piece (MarkOf mark.Long) 17 0 ∷ piece (Name (codes "x")) 22 0 ∷ piece (MarkOf mark.Semicolon) 23 0 ∷ piece (MarkOf mark.Long) 25 0 ∷
+          piece (Name (codes "x")) 30 0 ∷ piece (MarkOf mark.Semicolon) 31 0 ∷ piece (MarkOf mark.CloseBrace) 33 0 ∷ piece End 34 0 ∷ []) refl,
+    )
     (bad_name (record { cause = DuplicateName; place = at 30 }) [] refl)
 
 -- void f(void){} int main(void){ f(1); }

@@ -106,6 +106,8 @@ pub record BoundsUpTo (n k : ℕ) (ends : List Interval) (old new : Cells) (e : 
   pub apart : (a b : ℕ) → (a ≡ opposite b → b < k → ⊥) → entries n new a b ≡ entries n old a b
   pub flagged : e ≡ Flagged → SomePasses n ends
 
+pub ruleset bound_rules = (bound_none, bound_left_out, bound_entered)
+
 pub bounds_start : (n : ℕ) (is : List Interval) (old : Cells) → IsMatrix n old → BoundsUpTo n 0 is old old Exact
 bounds_start n is old fit = record {
   is = fit;

@@ -65,8 +65,8 @@ pub fn intervals_of(alloc: Global, n: usize, matrix: &Matrix) -> Result<Vec<Inte
     Ok(intervals)
 }
 
-#[tactic(auto, using(crate::proofs::EnterLemmas::bound_none, crate::proofs::EnterLemmas::bound_left_out, crate::proofs::EnterLemmas::bound_entered))]
 /// A signed variable is at most a number: enters twice the number, unless that passes the range.
+#[tactic(auto, using(crate::proofs::EnterLemmas::bound_rules))]
 fn bound_above(n: usize, matrix: &mut Matrix, i: usize, most: Option<i128>) -> Exactness
     requires few { n ≤ 2 ^ 30 }
     requires row { i < 2 * n }

@@ -63,8 +63,8 @@ abbrev pub within : Spot → Option ℕ → ℕ → Spot
 within s length next = spot_of (record s.frame { loop = length }) s.live next
 
 -- where the called function's body begins
-abbrev pub called : Spot → Option ℕ → Call → ℕ → ℕ → Spot
-called s x c params next = spot_of (callee s.frame s.live x c) (s.live + params) next
+abbrev pub into_callee : Spot → Option ℕ → Call → ℕ → ℕ → Spot
+into_callee s x c params next = spot_of (callee s.frame s.live x c) (s.live + params) next
 
 -- the point of the list where the spot is
 abbrev pub HasSite : List Site → Spot → ℕ → Bool → Type 0
@@ -151,8 +151,8 @@ mutual
         Gives P T s r x (value e) (act s.next (give s.frame.here.base x e)) r
     as_result : {s : Spot} {r : ℕ} {x : Option ℕ} {c : Call} {fn : Function} {g : Node} {n q : ℕ}
         → slice_get P.functions c.function ≡ Some fn → length c.arguments ≡ fn.parameters
-        → InlAll P T (called s x c fn.parameters r) fn.body g n q
-        → Has T (move (called s x c fn.parameters r) n q) fn.end
+        → InlAll P T (into_callee s x c fn.parameters r) fn.body g n q
+        → Has T (move (into_callee s x c fn.parameters r) n q) fn.end
         → Gives P T s r x (result c)
         (call_node s.next q s.frame.here.base s.live x c.arguments fn.parameters g) (suc q)
 

@@ -6,7 +6,7 @@ ghost use Rattle.lra_readers.specs.declared.lead.Lead.TheVariants as lead;
 ghost use Rattle.lra_readers.specs.Tests.{first};
 ghost use Rattle.lra_readers.specs.Reading.{Gives, map_read, take_by, has};
 ghost use Rattle.lra_readers.specs.Statements.{commas, listed};
-ghost use Rattle.lra_readers.specs.Files.{AreSmall, next_main, next_end, next_built_in, named, called, at_type};
+ghost use Rattle.lra_readers.specs.Files.{AreSmall, next_main, next_end, next_built_in, named, lead_behind, at_type};
 ghost use Rattle.lra_readers.specs.Files.{at_void};
 ghost use Rattle.lra_readers.specs.Files.{lead_form, plain_lead, read_lead, ends_parameter, name_or_none, parameter_at};
 ghost use Rattle.lra_readers.specs.Files.{parameters_at, names_of, signature_of, function_of, ending, signature_at};
@@ -73,7 +73,7 @@ fn named(has_result: bool, name: Identifier) -> Lead
 /// A name, or a word in its place.
 fn read_called(alloc: Global, has_result: bool, rest: &[Token]) -> Result<(Lead, &[Token]), Stopped>
     ensures shorter { IfOk result (λ r. length r.1.now ≤ length rest.now) }
-    ensures gives { Gives (λ r. (r.0, r.1.now)) result (called has_result rest.now) }
+    ensures gives { Gives (λ r. (r.0, r.1.now)) result (lead_behind has_result rest.now) }
 {
     if next_is_built_in(rest) {
         return Ok((Lead::Bare, tail(rest)));

@@ -30,9 +30,9 @@ abbrev pub put : Option ℕ → ℤ → List ℤ → List ℤ
 put None z store = store
 put (Some x) z store = slice_set store x z
 
-abbrev pub given : Option ℕ → List ℤ → Drawn ℤ → Option State
-given x store None = None
-given x store (Some r) = Some (record { store = put x r.0 store; draws = r.1 })
+abbrev pub receive : Option ℕ → List ℤ → Drawn ℤ → Option State
+receive x store None = None
+receive x store (Some r) = Some (record { store = put x r.0 store; draws = r.1 })
 
 abbrev pub pushed : List ℤ → Drawn (List ℤ) → Option State
 pushed store None = None
@@ -50,11 +50,11 @@ tested wanted store (Some r) = kept_if wanted r.0 (record { store = store; draws
 
 abbrev pub run_any : Option ℕ → State → Option State
 run_any None s = Some s
-run_any (Some x) s = given (Some x) s.store (draw s.draws)
+run_any (Some x) s = receive (Some x) s.store (draw s.draws)
 
 abbrev pub run_op : Op → State → Option State
 run_op append s = draw s.draws >>= λ r. Some (record { store = s.store ++ r.0 ∷ []; draws = r.1 })
-run_op (give base x e) s = given x s.store (value_of e base s.store s.draws)
+run_op (give base x e) s = receive x s.store (value_of e base s.store s.draws)
 run_op (give_any x) s = run_any x s
 run_op (push base es) s = pushed s.store (values_of es base s.store s.draws)
 run_op (keep n) s = Some (record { store = take n s.store; draws = s.draws })

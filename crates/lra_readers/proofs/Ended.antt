@@ -5,7 +5,7 @@ use Rattle.lra_tree.specs.declared.tokens.Kind.{Kind}
 use Rattle.lra_tree.specs.declared.tokens.Kind.TheVariants.{End}
 use Rattle.lra_tree.specs.declared.tokens.Token.{Token}
 use Rattle.lra_tree.specs.Lexeme.{SpellsToken, name, number, mark_of, reserved, comment}
-use Rattle.lra_tree.specs.Tokens.{Piece, gap, token, tokens_of, IsReading, end_token, Lex}
+use Rattle.lra_tree.specs.Tokens.{Fragment, gap, token, tokens_of, IsReading, end_token, Lex}
 use Rattle.lra_readers.specs.Files.{EndsOnce, IsSmallKind, AreSmall}
 
 not_end : (s : List ℕ) (k : Kind) → SpellsToken s k → k ≢ End
@@ -15,7 +15,7 @@ not_end s k (mark_of m w) = λ e. cc
 not_end s k (reserved w) = λ e. cc
 not_end s k (comment w) = λ e. cc
 
-no_end : (before after : List ℕ) (ps : List Piece) → IsReading before ps after → AllByRecursion (λ (t : Token). t.kind ≢ End) (tokens_of ps)
+no_end : (before after : List ℕ) (ps : List Fragment) → IsReading before ps after → AllByRecursion (λ (t : Token). t.kind ≢ End) (tokens_of ps)
 no_end before after [] h = tt
 no_end before after (gap bytes ∷ ps) h = no_end (before ++ bytes) after ps h.1
 no_end before after (token bytes t ∷ ps) h = (not_end bytes t.kind h.0.spells, no_end (before ++ bytes) after ps h.1)
@@ -31,7 +31,7 @@ spelled_small s k (mark_of m w) = tt
 spelled_small s k (reserved w) = tt
 spelled_small s k (comment w) = tt
 
-read_small : (before after : List ℕ) (ps : List Piece) (rest : List Token) → IsReading before ps after → AreSmall rest → AreSmall (tokens_of ps ++ rest)
+read_small : (before after : List ℕ) (ps : List Fragment) (rest : List Token) → IsReading before ps after → AreSmall rest → AreSmall (tokens_of ps ++ rest)
 read_small before after [] rest h k = k
 read_small before after (gap bytes ∷ ps) rest h k = read_small (before ++ bytes) after ps rest h.1 k
 read_small before after (token bytes t ∷ ps) rest h k = (spelled_small bytes t.kind h.0.spells, read_small (before ++ bytes) after ps rest h.1 k)

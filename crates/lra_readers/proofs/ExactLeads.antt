@@ -15,7 +15,7 @@ use Rattle.lra_readers.specs.declared.lead.Lead.{Lead}
 use Rattle.lra_readers.specs.declared.lead.Lead.TheVariants as lead
 use Rattle.lra_readers.specs.Tests.{is_mark}
 use Rattle.lra_readers.specs.Reading.{take_by, identifier_of, has}
-use Rattle.lra_readers.specs.Files.{is_main, next_main, HeadMark, at_int, at_type, at_void, head_mark, BuiltIn, of_input, of_assert, of_assume, built_ins, next_built_in, named, called, lead_form}
+use Rattle.lra_readers.specs.Files.{is_main, next_main, HeadMark, at_int, at_type, at_void, head_mark, BuiltIn, of_input, of_assert, of_assume, built_ins, next_built_in, named, lead_behind, lead_form}
 use Rattle.lra_readers.specs.Files.{plain_lead, read_lead, begins_part}
 use Rattle.lra_readers.proofs.Exact.{Exact, Any, Free, test, first_or}
 use Rattle.lra_readers.proofs.Forms.{rename, widen, retell, entry, mapped, choose, branch, exact_stop, exact_take}
@@ -100,7 +100,7 @@ word_begins l z o (w, f, (at, e)) = rw e (rw (built_in_self w at) refl)
 name_begins : (b : Bool) (l : Lead) (z : Pieces) (o : Option Token) → Of (named b) NameText l z → has (next_built_in (first_or z o)) ≡ false
 name_begins b l z o (x, f, e) = rw e refl
 
-exact_called : (n : ℕ) (b : Bool) → Exact n IsInner (called b) Any (CalledText b) (CalledText b) Free
+exact_called : (n : ℕ) (b : Bool) → Exact n IsInner (lead_behind b) Any (CalledText b) (CalledText b) Free
 exact_called n b =
     branch (λ o. has (next_built_in o))
     (entry (widen (mapped (exact_word n) bare Free (λ w o f. tt) (λ w o f. tt)) (CalledText b) (λ l z s. inl s)) (λ o. ⊤ × (has (next_built_in o) ≡ true)) (λ o i. tt))

@@ -79,14 +79,14 @@ abbrev pub named : Bool → Identifier → Lead
 named true x = lead.Typed x
 named false x = lead.Void x
 
-abbrev pub called : Bool → Parse Lead
-called b T = cond (has (next_built_in (first T))) (map_read (λ w. lead.Bare) (take_by next_built_in) T)
+abbrev pub lead_behind : Bool → Parse Lead
+lead_behind b T = cond (has (next_built_in (first T))) (map_read (λ w. lead.Bare) (take_by next_built_in) T)
     (map_read (named b) (take_by next_name) T)
 
 abbrev pub lead_form : Option HeadMark → Parse Lead
 lead_form (Some at_int) = behind mark.Int (map_read lead.Main (take_by next_main))
-lead_form (Some at_type) = seq type_words (λ _. called true)
-lead_form (Some at_void) = behind mark.Void (called false)
+lead_form (Some at_type) = seq type_words (λ _. lead_behind true)
+lead_form (Some at_void) = behind mark.Void (lead_behind false)
 lead_form None = stop Syntax
 
 -- without `extern`

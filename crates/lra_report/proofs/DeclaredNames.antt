@@ -4,7 +4,7 @@ use Rattle.std.proofs.Common.{◌≡◌, ℕ, ◌+◌, ◌≤◌, ◌<◌, true,
 use Rattle.std.specs.List.{AllByRecursion, flat_map}
 use Rattle.lra_base.specs.declared.refusals.Place.{Place}
 use Rattle.lra_tree.specs.declared.trees.Identifier.{Identifier}
-use Rattle.lra_tree.specs.Lexeme.{is_word}
+use Rattle.lra_tree.specs.Lexeme.{is_name_word}
 use Rattle.lra_tree.specs.Texts.{Piece, Pieces, Texts, ◌⋅◌, name, further, separated}
 use Rattle.lra_tree.specs.Trees.{AssignTree, DeclaratorTree, DeclarationTree, InitTree, no_init, declared, assigned, StmtTree, block, nothing, assign, call, if_only, if_else, while, for, break}
 use Rattle.lra_tree.specs.Trees.{continue, return, assert, assume, ItemsTree, no_items, declaration, statement, FunctionTree, GlobalTree, GlobalsTree, PartTree, prototype, globals, function}
@@ -21,14 +21,14 @@ IsNamed p = HasWord p.0.kind
 
 -- words, and no more than most of them
 abbrev pub AreFew : ℕ → List (List ℕ) → Type 0
-AreFew most live = AllByRecursion (λ n. is_word n ≡ true) live × (length live ≤ most)
+AreFew most live = AllByRecursion (λ n. is_name_word n ≡ true) live × (length live ≤ most)
 
 abbrev pub AreFewAt : ℕ → Labelled → Type 0
 AreFewAt most l = AreFew most l.live × AreFew most l.live_in_call
 
 -- and no more than most with a name for each piece of the text behind
 abbrev pub HasRoom : ℕ → List (List ℕ) → Pieces → Type 0
-HasRoom most live z = AllByRecursion (λ n. is_word n ≡ true) live × (length live + length z ≤ most) × AllByRecursion IsNamed z
+HasRoom most live z = AllByRecursion (λ n. is_name_word n ≡ true) live × (length live + length z ≤ most) × AllByRecursion IsNamed z
 
 -- room ---------------------------------------------------------------------------
 
@@ -58,7 +58,7 @@ room_behind most live x y a b e h = room_last most live (a ++ (b ++ y)) a (b ++ 
 
 -- the name that x declares is a word, and stands among the pieces
 abbrev Declares : List ℕ → Pieces → Type 0
-Declares w x = AllByRecursion IsNamed x → (is_word w ≡ true) × (0 < length x)
+Declares w x = AllByRecursion IsNamed x → (is_name_word w ≡ true) × (0 < length x)
 
 name_declares : (x : Identifier) (o : ℕ) (z : Pieces) → name x o z → Declares x.word z
 name_declares x o z e h = let n = ap (λ (y : Pieces). length y) e in ((subst (AllByRecursion IsNamed) e h).0, omega (arith, n))
@@ -82,7 +82,7 @@ declared_room most live w x y d h =
     let own = d (every_front IsNamed x y h.2) in
     let n = h.1 in
     let some = own.1 in
-    (every_append (λ n. is_word n ≡ true) live (w ∷ []) h.0 (own.0, tt), omega (arith, n, some, length-append x y, length-append live (w ∷ [])), every_back IsNamed x y h.2)
+    (every_append (λ n. is_name_word n ≡ true) live (w ∷ []) h.0 (own.0, tt), omega (arith, n, some, length-append x y, length-append live (w ∷ [])), every_back IsNamed x y h.2)
 
 -- items with commas between them, each of which declares a name
 module _ {A : Type 0} (R : A → Texts) (word : A → List ℕ) (declares : (a : A) (x : Pieces) → R a x → Declares (word a) x) (most : ℕ) where
@@ -103,7 +103,7 @@ module _ {A : Type 0} (R : A → Texts) (word : A → List ℕ) (declares : (a :
 -- declarations -------------------------------------------------------------------
 
 few_front : (most : ℕ) (live more : List (List ℕ)) → AreFew most (live ++ more) → AreFew most live
-few_front most live more h = let n = h.1 in (every_front (λ n. is_word n ≡ true) live more h.0, omega (arith, n, length-append live more))
+few_front most live more h = let n = h.1 in (every_front (λ n. is_name_word n ≡ true) live more h.0, omega (arith, n, length-append live more))
 
 declarators_few : (most : ℕ) (live : List (List ℕ)) (ds : List DeclaratorTree) → AreFew most (with_names live ds) → AllByRecursion (AreFewAt most) (declarator_labels live ds)
 declarators_few most live [] h = tt

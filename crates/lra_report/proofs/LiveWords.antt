@@ -3,7 +3,7 @@ use Rattle.std.proofs.Common.{◌≡◌, ℕ, zero, suc, ◌*◌, ◌≤◌, tru
 use Rattle.std.specs.List.{AllByRecursion}
 use Rattle.std.proofs.lemmas.List.{length-map}
 use Rattle.lra_tree.specs.declared.tokens.Token.{Token}
-use Rattle.lra_tree.specs.Lexeme.{is_word}
+use Rattle.lra_tree.specs.Lexeme.{is_name_word}
 use Rattle.lra_tree.specs.Texts.{Piece, Pieces, plain}
 use Rattle.lra_tree.specs.Trees.{FileTree}
 use Rattle.lra_tree.specs.Grammar.{Spells}
@@ -40,9 +40,9 @@ few_at ls (suc n) h = few_got ls n h
 
 -- on a path ----------------------------------------------------------------------
 
-outside_words : (ls : List Labelled) (path : List ℕ) → AllByRecursion (AreFewAt most_tokens) ls → AllByRecursion (λ n. is_word n ≡ true) (names_outside ls path)
+outside_words : (ls : List Labelled) (path : List ℕ) → AllByRecursion (AreFewAt most_tokens) ls → AllByRecursion (λ n. is_name_word n ≡ true) (names_outside ls path)
 outside_words ls [] h = tt
-outside_words ls (c ∷ outer) h = every_append (λ n. is_word n ≡ true) (names_outside ls outer) (live_in_call_at (label_at ls c)) (outside_words ls outer h) (few_at ls c h).1.0
+outside_words ls (c ∷ outer) h = every_append (λ n. is_name_word n ≡ true) (names_outside ls outer) (live_in_call_at (label_at ls c)) (outside_words ls outer h) (few_at ls c h).1.0
 
 outside_few : (ls : List Labelled) (path : List ℕ) → AllByRecursion (AreFewAt most_tokens) ls → length (names_outside ls path) ≤ length path * 65537
 outside_few ls [] h = omega arith
@@ -61,7 +61,7 @@ live_words outside ls s first h path =
     let most_called = outside_few ls s.path h in
     let most_own = own_few.0.1 in
     record {
-      words = every_append (λ n. is_word n ≡ true) (outside ++ called) own (every_append (λ n. is_word n ≡ true) outside called first.0 (outside_words ls s.path h)) own_few.0.0;
+      words = every_append (λ n. is_name_word n ≡ true) (outside ++ called) own (every_append (λ n. is_name_word n ≡ true) outside called first.0 (outside_words ls s.path h)) own_few.0.0;
       few = omega (arith, most, most_called, most_own, path, length-append outside called, length-append (outside ++ called) own);
     }
 

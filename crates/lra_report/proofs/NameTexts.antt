@@ -8,7 +8,7 @@ use Rattle.std.proofs.lemmas.Bool.{and_parts}
 use Rattle.std.proofs.lemmas.Bool.Decides.{nat_tests}
 use Rattle.std.proofs.lemmas.Slice.Eq.{bytes_eq-Decides}
 use Rattle.std.proofs.lemmas.List.Sums.{sum_by-cons, count_by-le-length}
-use Rattle.lra_tree.specs.Lexeme.{is_letter, is_word_byte, is_word}
+use Rattle.lra_tree.specs.Lexeme.{is_letter, is_word_byte, is_name_word}
 use Rattle.lra_findings.specs.ReportText.{shown_name, shown_names}
 use Rattle.lra_report.specs.Spelled.{AreWords}
 use Rattle.lra_report.proofs.Fronts.{is_visible, AllVisible, IsShownName, AreShownNames, Passes, Ends, front_same, rest_same}
@@ -30,7 +30,7 @@ all_pass : (p : ℕ → Bool) (bs : List ℕ) → list_all p bs ≡ true → Pas
 all_pass p [] h = tt
 all_pass p (b ∷ bs) h = let (here, behind) = and_parts (p b) (list_all p bs) h in (here, all_pass p bs behind)
 
-word_passes : (n : List ℕ) → is_word n ≡ true → Passes is_word_byte n
+word_passes : (n : List ℕ) → is_name_word n ≡ true → Passes is_word_byte n
 word_passes [] h = cc
 word_passes (c ∷ cs) h = let (here, behind) = and_parts (is_letter c) (list_all is_word_byte cs) h in (letter_word_byte c here, all_pass is_word_byte cs behind)
 
@@ -66,7 +66,7 @@ mark_same zero (suc l) hk hl e = cc
 mark_same (suc k) zero hk hl e = cc
 mark_same (suc k) (suc l) hk hl e = (decimal_same (suc k) (suc l) [] [] hk hl tt tt (ap (λ t. t ++ []) (rest_same e))).0
 
-shown_same : (k l : ℕ) (n m : List ℕ) → IsShort k → IsShort l → is_word n ≡ true → is_word m ≡ true → shown_name k n ≡ shown_name l m → (n ≡ m) × (k ≡ l)
+shown_same : (k l : ℕ) (n m : List ℕ) → IsShort k → IsShort l → is_name_word n ≡ true → is_name_word m ≡ true → shown_name k n ≡ shown_name l m → (n ≡ m) × (k ≡ l)
 shown_same k l n m hk hl hn hm e =
     let s = front_same is_word_byte n m (mark k) (mark l) (word_passes n hn) (word_passes m hm) (mark_ends k) (mark_ends l) (sym (shown_is k n) ∙ e ∙ shown_is l m) in
     (s.0, mark_same k l hk hl s.1)
@@ -75,7 +75,7 @@ mark_visible : (k : ℕ) → IsShort k → AllVisible (mark k)
 mark_visible zero h = tt
 mark_visible (suc k) h = (refl, digits_visible (decimal (suc k)) (decimal_passes (suc k) h))
 
-marked_word : (k : ℕ) (n : List ℕ) → IsShort k → is_word n ≡ true → IsShownName (n ++ mark k)
+marked_word : (k : ℕ) (n : List ℕ) → IsShort k → is_name_word n ≡ true → IsShownName (n ++ mark k)
 marked_word k [] hk hn = cc
 marked_word k (c ∷ cs) hk hn =
     let (here, behind) = and_parts (is_letter c) (list_all is_word_byte cs) hn in
@@ -99,7 +99,7 @@ short_count : (n : List ℕ) (ns : List (List ℕ)) → length ns < 2 ^ 64 → I
 short_count n ns few = let most = count_by-le-length (bytes_eq n) ns in omega (arith, most)
 
 -- a name with a mark that is no less than its count differs from all that are shown of the newer ones
-others : (n : List ℕ) (k : ℕ) (ns : List (List ℕ)) → is_word n ≡ true → IsShort k → count_by (bytes_eq n) ns ≤ k → AllByRecursion (λ m. is_word m ≡ true) ns → length ns < 2 ^ 64 →
+others : (n : List ℕ) (k : ℕ) (ns : List (List ℕ)) → is_name_word n ≡ true → IsShort k → count_by (bytes_eq n) ns ≤ k → AllByRecursion (λ m. is_name_word m ≡ true) ns → length ns < 2 ^ 64 →
     AllByRecursion (λ x. shown_name k n ≢ x) (shown_names ns)
 others n k [] hn hk most words few = tt
 others n k (m ∷ ns) hn hk most words few = (
@@ -111,7 +111,7 @@ others n k (m ∷ ns) hn hk most words few = (
   others n k ns hn hk (let behind = count_behind n m ns in omega arith) words.1 (omega arith),
 )
 
-each_shown : (ns : List (List ℕ)) → AllByRecursion (λ m. is_word m ≡ true) ns → length ns < 2 ^ 64 → AreShownNames (shown_names ns)
+each_shown : (ns : List (List ℕ)) → AllByRecursion (λ m. is_name_word m ≡ true) ns → length ns < 2 ^ 64 → AreShownNames (shown_names ns)
 each_shown [] words few = tt
 each_shown (n ∷ ns) words few =
     let k = count_by (bytes_eq n) ns in

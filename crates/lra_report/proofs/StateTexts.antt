@@ -4,7 +4,7 @@ use Rattle.std.specs.List.{AllByRecursion, flat_map}
 use Rattle.std.proofs.lemmas.List.{append_cancel_left}
 use Rattle.std.proofs.lemmas.Bool.{eqb-false}
 use Rattle.lra_program.specs.Rows.{Row}
-use Rattle.lra_findings.specs.Report.{Generator, Part, State}
+use Rattle.lra_findings.specs.Report.{Generator, Part, Invariant}
 use Rattle.lra_findings.specs.ReportText.{text_line, row_text, generator_text, rows_text, generators_text, part_text, further_parts_text, state_text}
 use Rattle.lra_report.specs.Spelled.{IsSpelledRow, IsSpelledGenerator, IsReadablePart}
 use Rattle.lra_report.specs.Lines.{row_line, generator_line}
@@ -138,7 +138,7 @@ rows_letter ns (r ∷ rs) (g ∷ gs) t = refl
 reached : (ns : Names) (p : Part) (t u v : List ℕ) → text_line (codes "  unreachable") ++ u ≡ (part_text ns p ++ t) ++ v → ⊥
 reached ns p t u v e = no_letters 117 114 refl (ap letter (e ∙ append_assoc (part_text ns p) t v) ∙ rows_letter ns p.rows p.generators (t ++ v))
 
-pub state_same : (ns : Names) (s t : State) (u v : List ℕ) → AreShownNames ns → AllByRecursion (IsReadablePart (length ns)) s → AllByRecursion (IsReadablePart (length ns)) t → letter u ≡ 0 →
+pub state_same : (ns : Names) (s t : Invariant) (u v : List ℕ) → AreShownNames ns → AllByRecursion (IsReadablePart (length ns)) s → AllByRecursion (IsReadablePart (length ns)) t → letter u ≡ 0 →
     letter v ≡ 0 →
     state_text ns s ++ u ≡ state_text ns t ++ v → (s ≡ t) × (u ≡ v)
 state_same ns [] [] u v hn hp hq lu lv e = (refl, append_cancel_left (text_line (codes "  unreachable")) u v e)

@@ -8,13 +8,13 @@ use Rattle.lra_tree.specs.declared.tokens.Mark.TheVariants as mark
 use Rattle.lra_tree.specs.declared.tokens.Kind.{Kind}
 use Rattle.lra_tree.specs.declared.tokens.Kind.TheVariants as kind
 use Rattle.lra_tree.specs.declared.tokens.Token.{Token}
-use Rattle.lra_tree.specs.Lexeme.{is_word, mark_text, Lexeme, word, number_word, mark_word, unclosed, SpellsToken, name, number, mark_of, reserved, comment}
-use Rattle.lra_tree.specs.Tokens.{Piece, gap, token, bytes_of, tokens_of, IsReading, end_token, Lex}
+use Rattle.lra_tree.specs.Lexeme.{is_name_word, mark_text, Lexeme, word, number_word, mark_word, unclosed, SpellsToken, name, number, mark_of, reserved, comment}
+use Rattle.lra_tree.specs.Tokens.{Fragment, gap, token, bytes_of, tokens_of, IsReading, end_token, Lex}
 use Rattle.lra_report.proofs.Every.{every_append}
 
 -- where it is a name, a word
 abbrev pub HasWord : Kind → Type 0
-HasWord (kind.Name s) = is_word s ≡ true
+HasWord (kind.Name s) = is_name_word s ≡ true
 HasWord k = ⊤
 
 named_word : (s : List ℕ) (k : Kind) → SpellsToken s k → HasWord k
@@ -36,12 +36,12 @@ lexeme_some [] (mark_word m e) = let k = leb-true 1 (length (mark_text m)) (mark
 lexeme_some [] (unclosed u) = let n = ap (λ (z : List ℕ). length z) u.1 in omega (arith, n)
 lexeme_some (c ∷ s) l = omega arith
 
-reading_words : (before : List ℕ) (ps : List Piece) (after : List ℕ) → IsReading before ps after → AllByRecursion (λ (t : Token). HasWord t.kind) (tokens_of ps)
+reading_words : (before : List ℕ) (ps : List Fragment) (after : List ℕ) → IsReading before ps after → AllByRecursion (λ (t : Token). HasWord t.kind) (tokens_of ps)
 reading_words before [] after h = tt
 reading_words before (gap bytes ∷ ps) after h = reading_words (before ++ bytes) ps after h.1
 reading_words before (token bytes t ∷ ps) after h = (named_word bytes t.kind h.0.spells, reading_words (before ++ bytes) ps after h.1)
 
-reading_few : (before : List ℕ) (ps : List Piece) (after : List ℕ) → IsReading before ps after → length (tokens_of ps) ≤ length (bytes_of ps)
+reading_few : (before : List ℕ) (ps : List Fragment) (after : List ℕ) → IsReading before ps after → length (tokens_of ps) ≤ length (bytes_of ps)
 reading_few before [] after h = omega arith
 reading_few before (gap bytes ∷ ps) after h = let few = reading_few (before ++ bytes) ps after h.1 in let n = length-append bytes (bytes_of ps) in omega (arith, few, n)
 reading_few before (token bytes t ∷ ps) after h =

@@ -5,7 +5,7 @@ use Rattle.std.specs.Prelude.{◌≡◌, ℕ, suc, Bool, List, [], ◌∷◌, �
 use Rattle.std.specs.List.{AllByRecursion}
 use Rattle.lra_tree.specs.declared.trees.Identifier.{Identifier}
 use Rattle.lra_base.specs.declared.options.Options.{Options}
-use Rattle.lra_findings.specs.Report.{Generator, Part, State, PointReport, Verdict, Report, IsSound}
+use Rattle.lra_findings.specs.Report.{Generator, Part, Invariant, PointReport, Verdict, Report, IsSound}
 use Rattle.lra_program.specs.Rows.{Row}
 use Rattle.lra_findings.specs.ReportText.{CallPlace, path_text, shown_names}
 use Rattle.lra_findings.specs.Parts.{Tells}
@@ -31,7 +31,7 @@ calls_on ls [] = []
 calls_on ls (c ∷ outer) = calls_on ls outer ++ called_at (label_at ls c)
 
 -- what is listed, but for the state
-abbrev pub listed_point : List (List ℕ) → List Labelled → ℕ → Site → State → PointReport
+abbrev pub listed_point : List (List ℕ) → List Labelled → ℕ → Site → Invariant → PointReport
 listed_point outside ls number s state = record {
   number = number;
   point = record { path = s.path; label = s.label };

@@ -4,7 +4,7 @@ use Rattle.std.specs.Prelude.{◌≡◌, ℕ, ℤ, pos, List, ◌∷◌, length,
 use Rattle.std.specs.List.{AllByRecursion}
 use Rattle.lra_linear.specs.Range.{InRange}
 use Rattle.lra_linear.specs.LowestTerms.{IsPrimitive}
-use Rattle.lra_tree.specs.Lexeme.{is_word}
+use Rattle.lra_tree.specs.Lexeme.{is_name_word}
 use Rattle.lra_tree.specs.Trees.{FileTree}
 use Rattle.lra_tree.specs.Labels.{labels_of}
 use Rattle.lra_meaning.specs.Resolve.{resolve}
@@ -65,7 +65,7 @@ pub record IsReadable (r : Report) : Type 0 where
 
 -- the variables that live together are named by words
 pub record AreWords (live : List (List ℕ)) : Type 0 where
-  pub words : AllByRecursion (λ n. is_word n ≡ true) live
+  pub words : AllByRecursion (λ n. is_name_word n ≡ true) live
   pub few : length live < 2 ^ 64
 
 -- at each point of the program

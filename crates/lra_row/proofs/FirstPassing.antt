@@ -8,7 +8,7 @@ use Rattle.lra_linear.specs.declared.Operation.TheVariants.{Product, Sum}
 use Rattle.lra_linear.specs.Range.{in_range}
 use Rattle.lra_linear.specs.CheckedArithmetic.{checked_product_from, checked_product, then_rest, checked_blend, and_then, checked_added, checked_combination}
 use Rattle.lra_linear.specs.Vectors.{product}
-use Rattle.lra_linear.proofs.CheckedArithmetic.{checked_product_value}
+use Rattle.lra_linear.proofs.CheckedArithmetic.{checked_product_value, checked_product_in_range, checked_blend_is, checked_blend_in_range}
 use Rattle.lra_row.specs.declared.error.RowError.{RowError}
 use Rattle.lra_row.specs.declared.error.RowError.TheVariants as of_row
 use Rattle.lra_row.specs.Operations.{result_of, Fits, NamesFirst, IsFirstNamed, NamesFirstOrMemory, product_operations_from, product_operations, blend_operations, added_operations}
@@ -134,3 +134,8 @@ combination_is u w c above below e f = rw (← e, ← f) refl
 
 pub combination_passes : (u w c : List ℤ) (above : ℤ) (x : Excess) → Ok above ≡ checked_product c u → Err x ≡ checked_product c w → checked_combination u w c ≡ Err x
 combination_passes u w c above x e f = rw (← e, ← f) refl
+
+-- what a product's contract follows from, and a blend's
+pub ruleset product_rules = (checked_product_value, checked_product_in_range, product_names_first)
+
+pub ruleset blend_rules = (checked_blend_is, checked_blend_in_range)

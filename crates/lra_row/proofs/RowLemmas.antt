@@ -112,3 +112,5 @@ refilled xs ws d e =
     let n : length ws ≡ length xs = ap length e ∙ divided_length xs d in
     let rest : drop (length ws) xs ≡ [] = drop_all (length ws) xs (omega (arith, n)) in
     ap (λ r. take (length xs) (ws ++ r)) rest ∙ ap (take (length xs)) (append-nil ws) ∙ take_all (length xs) ws (omega (arith, n)) ∙ e
+
+pub ruleset lowest_rules = (lowest_divided, lowest_same, divided_in_range)

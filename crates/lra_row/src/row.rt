@@ -98,7 +98,7 @@ impl Row {
     }
 
     /// The product with a row of the same width, or the first product or partial sum that passes, columns from 0 up.
-    #[tactic(auto, using(lra_linear::proofs::CheckedArithmetic::checked_product_value, lra_linear::proofs::CheckedArithmetic::checked_product_in_range, crate::proofs::FirstPassing::product_names_first))]
+    #[tactic(auto, using(crate::proofs::FirstPassing::product_rules))]
     pub fn dot(&self, other: &Row) -> Result<i128, Excess>
         requires { length self.now ≡ length other.now }
         ensures exact { result ≡ checked_product self.now other.now }
@@ -110,7 +110,7 @@ impl Row {
     }
 
     /// The product with the vector whose column 0 is `divisor` and whose further columns are `numerators`.
-    #[tactic(auto, using(lra_linear::proofs::CheckedArithmetic::checked_product_value, lra_linear::proofs::CheckedArithmetic::checked_product_in_range, crate::proofs::FirstPassing::product_names_first))]
+    #[tactic(auto, using(crate::proofs::FirstPassing::product_rules))]
     pub fn value_at(&self, divisor: i128, numerators: &[i128]) -> Result<i128, Excess>
         requires { length self.now ≡ length numerators.now + 1 }
         ensures exact { result ≡ checked_product self.now (divisor ∷ numerators.now) }
@@ -123,7 +123,7 @@ impl Row {
 
     /// `a` times this row and `b` times the other, or the first product or sum that passes: columns from 0 up, in each
     /// the product with this row, that with the other, and their sum.
-    #[tactic(auto, using(lra_linear::proofs::CheckedArithmetic::checked_blend_is, lra_linear::proofs::CheckedArithmetic::checked_blend_in_range))]
+    #[tactic(auto, using(crate::proofs::FirstPassing::blend_rules))]
     pub fn blend(&self, a: i128, b: i128, other: &Row) -> Result<Row, RowError>
         requires { length self.now ≡ length other.now }
         ensures made { IfOk result (λ row. checked_blend a b self.now other.now ≡ Ok row) }
@@ -192,7 +192,7 @@ impl Row {
     }
 
     /// Divides the row by the greatest number that divides each entry, that of column 0 among them.
-    #[tactic(auto, using(crate::proofs::RowLemmas::lowest_divided, crate::proofs::RowLemmas::lowest_same, crate::proofs::RowLemmas::divided_in_range))]
+    #[tactic(auto, using(crate::proofs::RowLemmas::lowest_rules))]
     pub fn lowest_terms(&mut self)
         ensures { IsLowest self.old self.new }
     {

@@ -10,7 +10,7 @@ use Rattle.lra_meaning.specs.Scope.{function_scope}
 use Rattle.lra_meaning.specs.NameFaults.{Around, items_faults, name_faults}
 use Rattle.lra_sample.specs.declared.block.Kind.{Kind}
 use Rattle.lra_sample.specs.declared.block.Kind.TheVariants.{Sum, Choice, Count, Input}
-use Rattle.lra_sample.proofs.Lexemes.{behind, place_of}
+use Rattle.lra_sample.proofs.Lexemes.{behind, item_place}
 use Rattle.lra_sample.proofs.Numerals.{four}
 use Rattle.lra_sample.proofs.Lines.{Line, items_of, tree_as}
 use Rattle.lra_sample.proofs.Whole.{head_items, lines_tree, last_tree, body_tree, main_tree, file_tree}
@@ -28,7 +28,7 @@ lines_faultless : (ls : List Line) (a : Around) (before : List ℕ) →
     items_faults a four (lines_tree before ls last_tree) ≡ []
 lines_faultless [] a before = refl
 lines_faultless (l ∷ ls) a before =
-    line_faultless l.kind l a (place_of before (items_of l)) (lines_tree (behind before (items_of l)) ls last_tree) ∙
+    line_faultless l.kind l a (item_place before (items_of l)) (lines_tree (behind before (items_of l)) ls last_tree) ∙
     lines_faultless ls a (behind before (items_of l))
 
 body_faultless : (before : List ℕ) (ls : List Line) (a : Around) →
@@ -51,7 +51,7 @@ lines_calls : (ls : List Line) (live : List (List ℕ)) (before : List ℕ) (end
     called_names (items_labels live (lines_tree before ls last_tree) end) ≡ []
 lines_calls [] live before end = refl
 lines_calls (l ∷ ls) live before end =
-    line_calls l.kind l live (place_of before (items_of l)) (lines_tree (behind before (items_of l)) ls last_tree) end ∙
+    line_calls l.kind l live (item_place before (items_of l)) (lines_tree (behind before (items_of l)) ls last_tree) end ∙
     lines_calls ls live (behind before (items_of l)) end
 
 no_calls : (source : List ℕ) (ls : List Line) → calls_in (functions_of (file_tree source ls)) ≡ []

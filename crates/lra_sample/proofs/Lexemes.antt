@@ -10,7 +10,7 @@ use Rattle.lra_tree.specs.declared.tokens.Kind.TheVariants.{Mark as MarkOf}
 use Rattle.lra_tree.specs.declared.tokens.Mark.{Mark}
 use Rattle.lra_tree.specs.declared.tokens.Token.{Token}
 use Rattle.lra_tree.specs.Lexeme.{mark_text, Lexeme, SpellsToken, mark_word, mark_of}
-use Rattle.lra_tree.specs.Tokens.{is_blank, blank, Piece, gap, token, bytes_of, tokens_of, IsToken, IsReading, Lex}
+use Rattle.lra_tree.specs.Tokens.{is_blank, blank, Fragment, gap, token, bytes_of, tokens_of, IsToken, IsReading, Lex}
 use Rattle.lra_tree.specs.Tokens.{end_token, place_behind}
 use Rattle.lra_tree.specs.Texts.{Pieces, plain}
 use Rattle.lra_tree.specs.Faults.{IsLow, greatest_level}
@@ -32,7 +32,7 @@ behind before [] = before
 behind before (skip c ∷ xs) = behind (before ++ c ∷ []) xs
 behind before (lexeme c cs k o ∷ xs) = behind (before ++ c ∷ cs) xs
 
-abbrev pub reading : List ℕ → List Item → List Piece
+abbrev pub reading : List ℕ → List Item → List Fragment
 reading before [] = []
 reading before (skip c ∷ xs) = gap (c ∷ []) ∷ reading (before ++ c ∷ []) xs
 reading before (lexeme c cs k o ∷ xs) = token (c ∷ cs) (record { kind = k; place = place_behind before }) ∷
@@ -45,12 +45,12 @@ pieces before (lexeme c cs k o ∷ xs) = (record { kind = k; place = place_behin
     pieces (before ++ c ∷ cs) xs
 
 -- the place of the item with this number, from 0
-abbrev pub place_of : List ℕ → List Item → ℕ → Place
-place_of before [] n = place_behind before
-place_of before (skip c ∷ xs) zero = place_behind before
-place_of before (skip c ∷ xs) (suc n) = place_of (before ++ c ∷ []) xs n
-place_of before (lexeme c cs k o ∷ xs) zero = place_behind before
-place_of before (lexeme c cs k o ∷ xs) (suc n) = place_of (before ++ c ∷ cs) xs n
+abbrev pub item_place : List ℕ → List Item → ℕ → Place
+item_place before [] n = place_behind before
+item_place before (skip c ∷ xs) zero = place_behind before
+item_place before (skip c ∷ xs) (suc n) = item_place (before ++ c ∷ []) xs n
+item_place before (lexeme c cs k o ∷ xs) zero = place_behind before
+item_place before (lexeme c cs k o ∷ xs) (suc n) = item_place (before ++ c ∷ cs) xs n
 
 -- where they are right ---------------------------------------------------------------------------------------------
 

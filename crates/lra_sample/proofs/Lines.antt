@@ -15,7 +15,7 @@ use Rattle.lra_tree.specs.Grammar.{AreItems}
 use Rattle.lra_tree.proofs.TreeSamples.{alone, number, use_of, tested}
 use Rattle.lra_sample.specs.declared.block.Kind.{Kind}
 use Rattle.lra_sample.specs.declared.block.Kind.TheVariants.{Sum, Choice, Count, Input}
-use Rattle.lra_sample.proofs.Lexemes.{Item, skip, lexeme, pieces, place_of, IsGood}
+use Rattle.lra_sample.proofs.Lexemes.{Item, skip, lexeme, pieces, item_place, IsGood}
 use Rattle.lra_sample.proofs.Numerals.{IsFirstDigit, IsVariable}
 
 -- the digits of two variables, and a numeral with its value
@@ -97,7 +97,7 @@ tree_as Input l at rest = statement (given l.first (at 0) (alone input)) (statem
     (compare (use_of (var l.first (at 12))) at_most (number l.value))))) rest)
 
 abbrev pub tree_of : List ℕ → Line → ItemsTree → ItemsTree
-tree_of before l rest = tree_as l.kind l (place_of before (items_of l)) rest
+tree_of before l rest = tree_as l.kind l (item_place before (items_of l)) rest
 
 -- the tokens have the trees ------------------------------------------------------------------------------------------
 
@@ -106,7 +106,7 @@ pub both : {R Q : Texts} (x y : Pieces) → R x → Q y → (R ⋅ Q) (x ++ y)
 both x y a b = (x, y, refl, a, b)
 
 pub spells_as : (k : Kind) (l : Line) (before : List ℕ) (rest : ItemsTree) (z : Pieces) → AreItems 1 rest z →
-    AreItems 1 (tree_as k l (place_of before (items_as k l)) rest) (pieces before (items_as k l) ++ z)
+    AreItems 1 (tree_as k l (item_place before (items_as k l)) rest) (pieces before (items_as k l) ++ z)
 spells_as Sum l before rest z r = both _ _ (both _ _ (both _ _ refl (both _ _ (_, refl) (both _ _ refl (both _ _ (_, refl) (_, refl))))) (_, refl)) r
 spells_as Choice l before rest z r = both _ _ (
   both _ _ refl (both _ _

@@ -16,7 +16,7 @@ use Rattle.lra_tree.specs.Texts.{Pieces}
 use Rattle.lra_tree.specs.Grammar.{AreItems, IsFunction, Spells}
 use Rattle.lra_tree.specs.Faults.{IsTree}
 use Rattle.lra_tree.proofs.TreeSamples.{number, use_of, tested}
-use Rattle.lra_sample.proofs.Lexemes.{Item, skip, lexeme, written, behind, reading, pieces, place_of, IsGood, AreRead}
+use Rattle.lra_sample.proofs.Lexemes.{Item, skip, lexeme, written, behind, reading, pieces, item_place, IsGood, AreRead}
 use Rattle.lra_sample.proofs.Lexemes.{◌⨾◌, as_read, is_mark, written_append, pieces_append, lexed, plain_pieces}
 use Rattle.lra_sample.proofs.Lexemes.{low_pieces}
 use Rattle.lra_sample.proofs.Numerals.{zero_good, IsVariable, variable, is_name}
@@ -137,13 +137,13 @@ lines_tree before (l ∷ ls) last = tree_of before l (lines_tree (behind before 
 
 -- behind these bytes
 abbrev pub last_tree : List ℕ → ItemsTree
-last_tree before = statement (assert (place_of before last_items 0)
-    (tested (compare (use_of (var 48 (place_of before last_items 2))) at_most
-    (use_of (var 48 (place_of before last_items 4)))))) no_items
+last_tree before = statement (assert (item_place before last_items 0)
+    (tested (compare (use_of (var 48 (item_place before last_items 2))) at_most
+    (use_of (var 48 (item_place before last_items 4)))))) no_items
 
 abbrev pub declarations_tree : List ℕ → List ℕ → (List ℕ → ItemsTree) → ItemsTree
 declarations_tree before [] last = last before
-declarations_tree before (x ∷ xs) last = declared_tree x (place_of before (declared_items x) 2)
+declarations_tree before (x ∷ xs) last = declared_tree x (item_place before (declared_items x) 2)
     (declarations_tree (behind before (declared_items x)) xs last)
 
 abbrev pub body_tree : List ℕ → List Line → ItemsTree
@@ -152,7 +152,7 @@ body_tree before ls = declarations_tree before four_digits (λ b. lines_tree b l
 abbrev pub main_tree : List Line → FunctionTree
 main_tree ls = record {
   has_result = true;
-  name = record { word = codes "main"; place = place_of [] head_items 2 };
+  name = record { word = codes "main"; place = item_place [] head_items 2 };
   parameters = [];
   body = body_tree (behind [] head_items) ls;
   end = place_behind (behind (behind [] head_items) (body_items ls));
@@ -175,7 +175,7 @@ lines_spell (l ∷ ls) before end last e =
     (lines_spell ls (behind before (items_of l)) end last e))
 
 declared_spells : (x : ℕ) (before : List ℕ) (rest : ItemsTree) (z : Pieces) → AreItems 1 rest z →
-    AreItems 1 (declared_tree x (place_of before (declared_items x) 2) rest) (pieces before (declared_items x) ++ z)
+    AreItems 1 (declared_tree x (item_place before (declared_items x) 2) rest) (pieces before (declared_items x) ++ z)
 declared_spells x before rest z r = both _ _ (both _ _
     -- the type, the declarator, `;`
     (both _ _ (_, refl) (both _ _ (inr refl) (inr refl)))

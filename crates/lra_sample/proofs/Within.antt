@@ -15,7 +15,7 @@ use Rattle.lra_meaning.specs.Resolve.{resolve_items, resolve}
 use Rattle.lra_meaning.specs.Refuse.{greatest_live, greatest_points, limit_fault}
 use Rattle.lra_sample.specs.declared.block.Kind.{Kind}
 use Rattle.lra_sample.specs.declared.block.Kind.TheVariants.{Sum, Choice, Count, Input}
-use Rattle.lra_sample.proofs.Lexemes.{behind, place_of}
+use Rattle.lra_sample.proofs.Lexemes.{behind, item_place}
 use Rattle.lra_sample.proofs.Lines.{Line, items_of, tree_as}
 use Rattle.lra_sample.proofs.Numerals.{four}
 use Rattle.lra_sample.proofs.Whole.{four_declared, head_items, lines_tree, last_tree, file_tree}
@@ -74,7 +74,7 @@ module _ (inside : List ℕ → ℕ → Call → List Event) (F : List FunctionT
   lines_few (l ∷ ls) before n =
       subst (λ (m : ℕ). Few m (points n (lines_tree before (l ∷ ls) last_tree)))
       (let same : 1 + 3 * length ls + 3 ≡ 1 + 3 * suc (length ls) = omega arith in same)
-      (line_few l.kind l (place_of before (items_of l)) (lines_tree (behind before (items_of l)) ls last_tree)
+      (line_few l.kind l (item_place before (items_of l)) (lines_tree (behind before (items_of l)) ls last_tree)
       (1 + 3 * length ls) n (λ k. lines_few ls (behind before (items_of l)) k))
 
   -- no line declares a variable
@@ -89,7 +89,7 @@ module _ (inside : List ℕ → ℕ → Call → List Event) (F : List FunctionT
   lines_live : (ls : List Line) (before : List ℕ) (n : ℕ) →
       live_behind 4 (resolve_items F s n (lines_tree before ls last_tree)) ≡ 4
   lines_live [] before n = refl
-  lines_live (l ∷ ls) before n = line_lives l.kind l (place_of before (items_of l))
+  lines_live (l ∷ ls) before n = line_lives l.kind l (item_place before (items_of l))
       (lines_tree (behind before (items_of l)) ls last_tree) (lines_live ls (behind before (items_of l))) n
 
 -- four declarations, the lines, the assertion and the end

@@ -132,20 +132,20 @@ statement_follows a b item t is h =
     }
 
 -- what is left of items follows what is there so far
-pub record Reaches (a b : LabelsSoFar) (all left : ItemsTree) : Type 0 where
+pub record LeadsOn (a b : LabelsSoFar) (all left : ItemsTree) : Type 0 where
   pub labels : (end : Place) → b.labels ++ items_labels b.live left end ≡ a.labels ++ items_labels a.live all end
   pub live : Extends a.live b.live
 
-pub reaches_none : (a : LabelsSoFar) (all : ItemsTree) → Reaches a a all all
+pub reaches_none : (a : LabelsSoFar) (all : ItemsTree) → LeadsOn a a all all
 reaches_none a all = record { labels = λ end. refl; live = lives_on a.live }
 
-pub reaches_step : (a b c : LabelsSoFar) (all left rest : ItemsTree) (f : ItemsTree → ItemsTree) → left ≡ f rest → Reaches a b all left → Follows b c f → Reaches a c all rest
+pub reaches_step : (a b c : LabelsSoFar) (all left rest : ItemsTree) (f : ItemsTree → ItemsTree) → left ≡ f rest → LeadsOn a b all left → Follows b c f → LeadsOn a c all rest
 reaches_step a b c all left rest f is so one = record {
   labels = λ end. one.labels rest end ∙ ap (λ (items : ItemsTree). b.labels ++ items_labels b.live items end) (sym is) ∙ so.labels end;
   live = lives_then a.live b.live c.live so.live one.live;
 }
 
-pub reaches_all : (a b : LabelsSoFar) (all left items : ItemsTree) → left ≡ no_items → items ≡ all → Reaches a b all left → Fills a b items
+pub reaches_all : (a b : LabelsSoFar) (all left items : ItemsTree) → left ≡ no_items → items ≡ all → LeadsOn a b all left → Fills a b items
 reaches_all a b all left items none is so = record {
   labels = λ end. sym (ap (λ (x : ItemsTree). b.labels ++ items_labels b.live x end) none) ∙ so.labels end
       ∙ ap (λ (x : ItemsTree). a.labels ++ items_labels a.live x end) (sym is);

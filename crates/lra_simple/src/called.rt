@@ -9,7 +9,7 @@ use lra_tree::{Assign, Identifier, Source};
 use std::alloc::{AllocError, Global};
 
 /// The place of an assignment's first token.
-pub fn place_of(assign: &Assign) -> Place
+pub fn place_of_assign(assign: &Assign) -> Place
     ensures { result ≡ assign_place (assign_view assign.now) }
 {
     match assign {

@@ -14,7 +14,7 @@ ghost use Rattle.lra_simple.specs.Statements.{around_of, break_of, continue_of, 
 ghost use Rattle.lra_scopes.specs.Outcome.{TellsOf};
 
 use crate::around::Around;
-use crate::called::{called_by_assign, called_by_given, place_of};
+use crate::called::{called_by_assign, called_by_given, place_of_assign};
 use crate::labelling::Labelling;
 use lra_base::{Cause, Place, SourceError};
 use lra_scopes::{Scope, refuse, resolve_assign, resolve_call, resolve_given};
@@ -51,7 +51,7 @@ pub fn resolve_assignment(
         (assign_label labels.old.live (assign_view assign.now) ∷ [])) }
 {
     let called = called_by_assign(around.alloc, assign)?;
-    let label = labels.add(place_of(assign), called)?;
+    let label = labels.add(place_of_assign(assign), called)?;
     resolve_assign(around.alloc, around.functions, scope, label, assign)
 }
 

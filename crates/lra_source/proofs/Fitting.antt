@@ -218,9 +218,9 @@ pub record Standing (P : Program) (f : Frame) (n own : ℕ) : Type 0 where
   pub within : f.here.base + own ≤ n
   pub target : (b : Back) → f.back ≡ Some b → PlaceFits b.target b.length
 
-place_of : (P : Program) (f : Frame) (n own : ℕ) (x : Slot) → Standing P f n own → IsLive P own x → PlaceFits (Some (index_of f.here.base x)) n
-place_of P f n own (global k) st live = let g = st.globals in omega arith
-place_of P f n own (local k) st live = let w = st.within in omega arith
+standing_place : (P : Program) (f : Frame) (n own : ℕ) (x : Slot) → Standing P f n own → IsLive P own x → PlaceFits (Some (index_of f.here.base x)) n
+standing_place P f n own (global k) st live = let g = st.globals in omega arith
+standing_place P f n own (local k) st live = let w = st.within in omega arith
 
 one_more : (P : Program) (f : Frame) (n own : ℕ) → Standing P f n own → Standing P f (suc n) (suc own)
 one_more P f n own st = record { globals = (let g = st.globals in omega arith); within = (let w = st.within in omega arith); target = st.target }
@@ -260,7 +260,8 @@ module _ (P : Program) (T : List Site) (few : AllFew T) (well : IsWellFormed P) 
     fit_one (as_block {s = spot} {n = n'} {q = q'} d i) l own st fw good =
         let fw' : Few n' = few q' _ i in seq_fit _ _ fw' (fit_all d l own st fw' good) (seq_fit _ _ fw' (point_fit q') (keep_fit q' spot.live (low_all d)))
     fit_one as_absent l own st fw good = empty_fit
-    fit_one (as_assign {s = spot} {at = at} {x = x} i d) l own st fw good = seq_fit _ _ fw (point_fit spot.next) (fit_gives d at own st fw (place_of P spot.frame spot.live own x st good.0) good.1)
+    fit_one (as_assign {s = spot} {at = at} {x = x} i d) l own st fw good =
+      seq_fit _ _ fw (point_fit spot.next) (fit_gives d at own st fw (standing_place P spot.frame spot.live own x st good.0) good.1)
     fit_one (as_call {s = spot} {at = at} i d) l own st fw good = seq_fit _ _ fw (point_fit spot.next) (fit_gives d at own st fw tt good)
     fit_one (as_if {s = spot} {c = c} {g = g} {h = h} i d e) l own st fw good =
         seq_fit _ _ fw (point_fit spot.next) (choose_fit spot.next spot.frame.here.base c g h (fit_one d l own st fw good.1) (fit_one e l own st fw good.2))

@@ -13,7 +13,7 @@ use Rattle.lra_operations.specs.Graph.{Node}
 use Rattle.lra_program.specs.Sites.{Site, sites_of}
 use Rattle.lra_operations.specs.Agree.{IsGraph}
 use Rattle.lra_base.specs.declared.options.Domain.{Domain}
-use Rattle.lra_findings.specs.Report.{State}
+use Rattle.lra_findings.specs.Report.{Invariant}
 use Rattle.lra_report.specs.Listing.{HasWidth}
 use Rattle.lra_base.specs.declared.options.Options.{Options}
 use Rattle.lra_flow.specs.Operations.{dropping}
@@ -129,15 +129,16 @@ module _ {V H : Type 0} (m : Meaning V H) (settings : Options) (P : Program) (g 
   pub value_dims : Laws m → (q : ℕ) (v : V) (s : Site) → slice_get values q ≡ Some v → slice_get (sites_of P) q ≡ Some s → m.dims v ≡ s.live
   value_dims laws q v s there site = values_wide m laws (sites_of P) settings P g r (graph_lives P g graph) derived q v s ((solves.is_value q v).0 there) site
 
-  module _ (shown : V → State) where
+  module _ (shown : V → Invariant) where
     -- as many states as points
     pub states_as_many : length (map shown values) ≡ length (sites_of P)
     states_as_many = length-map values shown ∙ as_many
 
     -- each state has a number for each variable that lives at its point
-    pub states_wide : Laws m → (domain : Domain) → AreShown m domain shown values → (q : ℕ) (s : Site) (state : State) → slice_get (sites_of P) q ≡ Some s → slice_get (map shown values) q ≡ Some state
+    pub states_wide : Laws m → (domain : Domain) → AreShown m domain shown values
+        → (q : ℕ) (s : Site) (state : Invariant) → slice_get (sites_of P) q ≡ Some s → slice_get (map shown values) q ≡ Some state
         → AllByRecursion (HasWidth s.live) state
     states_wide laws domain are q s state there got =
         let (v, value_there, is) = image_of shown values q state got in
         let dims : m.dims v ≡ s.live = value_dims laws q v s value_there there in
-        subst (λ (x : State). AllByRecursion (HasWidth s.live) x) is (subst (λ (n : ℕ). AllByRecursion (HasWidth n) (shown v)) dims (are v (contained values q v value_there)).wide)
+        subst (λ (x : Invariant). AllByRecursion (HasWidth s.live) x) is (subst (λ (n : ℕ). AllByRecursion (HasWidth n) (shown v)) dims (are v (contained values q v value_there)).wide)

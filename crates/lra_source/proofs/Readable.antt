@@ -6,14 +6,14 @@ use Rattle.lra_tree.specs.Trees.{FileTree}
 use Rattle.lra_tree.specs.Labels.{Labelled, labels_of}
 use Rattle.lra_meaning.specs.Resolve.{resolve}
 use Rattle.lra_program.specs.Sites.{Site, sites_of}
-use Rattle.lra_findings.specs.Report.{State, PointReport, Report}
+use Rattle.lra_findings.specs.Report.{Invariant, PointReport, Report}
 use Rattle.lra_findings.specs.ReportText.{shown_names}
 use Rattle.lra_report.specs.Listing.{HasWidth, AreListed, Lists}
 use Rattle.lra_meaning.specs.LiveNames.{live_names, globals_named}
 use Rattle.lra_report.specs.Spelled.{IsSpelledPart, IsReadablePart, IsReadablePoint, IsSmallFlag, IsReadable}
 use Rattle.lra_formed.proofs.Named.{shown_as_many}
 
-state_readable : (n : ℕ) (ps : State) → AllByRecursion IsSpelledPart ps → AllByRecursion (HasWidth n) ps → AllByRecursion (IsReadablePart n) ps
+state_readable : (n : ℕ) (ps : Invariant) → AllByRecursion IsSpelledPart ps → AllByRecursion (HasWidth n) ps → AllByRecursion (IsReadablePart n) ps
 state_readable n [] h w = tt
 state_readable n (p ∷ ps) h w = ((w.0, h.0), state_readable n ps h.1 w.1)
 

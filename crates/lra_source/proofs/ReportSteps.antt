@@ -11,7 +11,7 @@ use Rattle.lra_program.specs.Sites.{Site, Event, comes, one_call_more, events_of
 use Rattle.lra_meaning.specs.Resolve.{resolve}
 use Rattle.lra_base.specs.declared.options.Domain.{Domain}
 use Rattle.lra_base.specs.declared.options.Options.{Options}
-use Rattle.lra_findings.specs.Report.{State, Report}
+use Rattle.lra_findings.specs.Report.{Invariant, Report}
 use Rattle.lra_report.specs.Listing.{Lists}
 use Rattle.lra_meaning.specs.Refuse.{greatest_live, greatest_points, limit_fault}
 use Rattle.lra_domain.specs.Meaning.{Meaning}
@@ -19,7 +19,7 @@ use Rattle.lra_domain.specs.Laws.{Laws}
 use Rattle.lra_iter.specs.Fits.{TreeFits}
 use Rattle.lra_iter.specs.Numbers.{IsNumbered}
 use Rattle.lra_iter.specs.Solved.{IsSolved}
-use Rattle.lra_listing.specs.Given.{AreStates, AreVerdicts, state_of, told_of, told}
+use Rattle.lra_listing.specs.Given.{AreInvariants, AreVerdicts, state_of, told_of, told}
 use Rattle.lra_report.specs.Spelled.{IsSpelledPart}
 use Rattle.lra_states.specs.Shown.{AreShown}
 use Rattle.lra_source.specs.Stages.{HasGraph, IsToldOf}
@@ -71,7 +71,7 @@ few_points t g sites has =
 -- what is shown of the values -----------------------------------------------------------------------------------------
 
 -- under another name of the domain, and of a list that is the same
-pub shown_there : {V H : Type 0} (m : Meaning V H) (shown : V → State) (domain named : Domain) (values listed : List V) → domain ≡ named → listed ≡ values → AreShown m named shown listed
+pub shown_there : {V H : Type 0} (m : Meaning V H) (shown : V → Invariant) (domain named : Domain) (values listed : List V) → domain ≡ named → listed ≡ values → AreShown m named shown listed
     → AreShown m domain shown values
 shown_there {V} m shown domain named values listed is same are =
     subst (λ (d : Domain). AreShown m d shown values) (sym is) (subst (λ (vs : List V). AreShown m named shown vs) same are)
@@ -80,11 +80,12 @@ shown_there {V} m shown domain named values listed is same are =
 
 module _ {V H : Type 0} (m : Meaning V H) (t : FileTree) (g : Node) (sites : List Site) (has : HasGraph t g sites) (settings : Options)
     (values : List V) (verdicts : List (ℕ × Bool)) (flagged : Option ℕ) (solved : IsSolved m settings (resolve t) g values verdicts flagged) where
-  pub states_handed : Laws m → (domain : Domain) (shown : V → State) → AreShown m domain shown values → (states : List State) → states ≡ map shown values → AreStates (sites_of (resolve t)) states
+  pub states_handed : Laws m → (domain : Domain) (shown : V → Invariant) → AreShown m domain shown values
+      → (states : List Invariant) → states ≡ map shown values → AreInvariants (sites_of (resolve t)) states
   states_handed laws domain shown are states is = record {
     as_many = ap length is ∙ states_as_many m settings (resolve t) g solved.result values verdicts flagged has.is_graph solved.derived solved.solves shown;
     wide = λ q s state there got. states_wide m settings (resolve t) g solved.result values verdicts flagged has.is_graph solved.derived solved.solves shown laws domain are q s state there
-        (ap (λ (l : List State). slice_get l q) (sym is) ∙ got);
+        (ap (λ (l : List Invariant). slice_get l q) (sym is) ∙ got);
   }
 
   pub verdicts_handed : AreVerdicts (sites_of (resolve t)) verdicts
@@ -99,8 +100,8 @@ module _ {V H : Type 0} (m : Meaning V H) (t : FileTree) (g : Node) (sites : Lis
 
 -- the report ---------------------------------------------------------------------------------------------------------
 
-pub is_told : {V H : Type 0} (m : Meaning V H) (shown : V → State) (o : Options) (t : FileTree) (g : Node) (sites : List Site)
-    (values : List V) (verdicts : List (ℕ × Bool)) (flagged : Option ℕ) (states : List State) (r : Report)
+pub is_told : {V H : Type 0} (m : Meaning V H) (shown : V → Invariant) (o : Options) (t : FileTree) (g : Node) (sites : List Site)
+    (values : List V) (verdicts : List (ℕ × Bool)) (flagged : Option ℕ) (states : List Invariant) (r : Report)
     → HasGraph t g sites → IsSolved m o (resolve t) g values verdicts flagged → states ≡ map shown values → AreShown m o.domain shown values
     → AllByRecursion (AllByRecursion IsSpelledPart) states → r.options ≡ o → Lists t r → map state_of r.points ≡ states
     → map told_of r.verdicts ≡ map told verdicts → r.flagged ≡ option_map suc flagged → IsToldOf m shown o t r

@@ -13,7 +13,7 @@ use Rattle.lra_operations.specs.Agree.{IsGraph, point_of, Agrees}
 use Rattle.lra_tree.specs.Labels.{Labelled, labels_of}
 use Rattle.lra_base.specs.declared.options.Domain.{Domain}
 use Rattle.lra_base.specs.declared.options.Options.{Options}
-use Rattle.lra_findings.specs.Report.{State, Holds, PointReport, Verdict, Report, IsInvariant, IsRight, IsSound}
+use Rattle.lra_findings.specs.Report.{Invariant, Holds, PointReport, Verdict, Report, IsInvariant, IsRight, IsSound}
 use Rattle.lra_findings.specs.Parts.{Tells}
 use Rattle.lra_meaning.specs.Refuse.{Accepts}
 use Rattle.lra_report.specs.Listing.{AreListed, Lists, IsFlag, AreParts, IsReportOf}
@@ -62,7 +62,7 @@ listed_length o ls n (s ∷ ss) (p ∷ ps) l = ap suc (listed_length o ls (suc n
 
 -- reports ------------------------------------------------------------------------------------------------------------
 
-module _ {V H : Type 0} (m : Meaning V H) (laws : Laws m) (shown : V → State) (settings : Options) (t : FileTree) (r : Report) (lists : Lists t r)
+module _ {V H : Type 0} (m : Meaning V H) (laws : Laws m) (shown : V → Invariant) (settings : Options) (t : FileTree) (r : Report) (lists : Lists t r)
     (x : IsAnalysed m shown settings (resolve t) r) (agrees : Agrees (resolve t) x.tree) where
   -- the value at a listed point, by whose state it is shown
   value_of : (k : ℕ) (p : PointReport) → slice_get r.points k ≡ Some p → (v : V) × (slice_get x.values k ≡ Some v) × (p.state ≡ shown v)
@@ -75,7 +75,7 @@ module _ {V H : Type 0} (m : Meaning V H) (laws : Laws m) (shown : V → State) 
       (subst (λ y. At (resolve t) y store) is at) in
       let (w, found', state) = value_of k p listed in
       let same : v ≡ w = same_Some v w (sym found ∙ found') in
-      subst (λ (y : State). Holds y store) (sym (state ∙ ap shown (sym same))) ((x.are_shown v (contained x.values k v found)).holds store has)
+      subst (λ (y : Invariant). Holds y store) (sym (state ∙ ap shown (sym same))) ((x.are_shown v (contained x.values k v found)).holds store has)
 
   right : (k : ℕ) (a : ℕ × Site) (v : Verdict) → slice_get (assertions_from 1 (sites_of (resolve t))) k ≡ Some a → slice_get r.verdicts k ≡ Some v → (v.number ≡ a.0) × (v.point ≡ point_of a.1) →
       IsRight (resolve t) v
@@ -127,8 +127,8 @@ module _ {V H : Type 0} (m : Meaning V H) (laws : Laws m) (shown : V → State) 
       let dims : m.dims v ≡ s.live = value_dims m settings (resolve t) x.tree x.result x.values x.verdicts x.flagged x.is_graph x.derived x.solves laws k v s found there in
       let named : m.dims v ≡ length p.names = dims ∙ sym (ap length names ∙ shown_as_many t k s there) in
       record {
-        few = subst (λ (y : State). length y ≤ o.parts) (sym state) few;
-        tell = subst (λ (y : State). AllByRecursion (Tells o.domain (length p.names)) y) (sym state)
+        few = subst (λ (y : Invariant). length y ≤ o.parts) (sym state) few;
+        tell = subst (λ (y : Invariant). AllByRecursion (Tells o.domain (length p.names)) y) (sym state)
             (subst (λ (d : Domain). AllByRecursion (Tells d (length p.names)) (shown v)) (sym same) (subst (λ (n : ℕ). AllByRecursion (Tells settings.domain n) (shown v)) named one.tell));
       }
 

@@ -4,7 +4,7 @@ use Rattle.lra_base.specs.declared.options.Domain.{Domain}
 use Rattle.lra_base.specs.declared.options.Domain.TheVariants.{Poly, Box, Oct}
 use Rattle.lra_base.specs.declared.options.Options.{Options}
 use Rattle.lra_domain.specs.Meaning.{Meaning}
-use Rattle.lra_findings.specs.Report.{State, Report}
+use Rattle.lra_findings.specs.Report.{Invariant, Report}
 use Rattle.lra_meaning.specs.Resolve.{resolve}
 use Rattle.lra_program.specs.Program.{Program}
 use Rattle.lra_set.specs.Content.{Parts, Head}
@@ -13,7 +13,7 @@ use Rattle.lra_states.specs.Sets.{shown_set}
 use Rattle.lra_source.specs.Analysed.{IsAnalysed}
 use Rattle.lra_source.specs.Answers.{Saying, AloneOrSets, OverDomain, Over, IsAnsweredOver, TellsAnalysis, IsAnswered}
 
-module _ (say : Saying) {V H : Type 0} (m : Meaning V H) (shown : V → State) where
+module _ (say : Saying) {V H : Type 0} (m : Meaning V H) (shown : V → Invariant) where
   pub over_sets : (n : ℕ) → 1 < n → say (Parts V) (Head V H) (set_meaning m) (shown_set shown) → AloneOrSets n say V H m shown
   over_sets zero some h = absurd (omega (arith, some))
   over_sets (suc zero) some h = absurd (omega (arith, some))
@@ -25,8 +25,8 @@ module _ (say : Saying) {V H : Type 0} (m : Meaning V H) (shown : V → State) w
   over_one (suc (suc n)) few h = absurd (omega (arith, few))
 
 -- what follows over each domain follows over those that the options name
-module _ (say tell : Saying) (follows : (V H : Type 0) (m : Meaning V H) (shown : V → State) → say V H m shown → tell V H m shown) where
-  each_number : (n : ℕ) (V H : Type 0) (m : Meaning V H) (shown : V → State) → AloneOrSets n say V H m shown → AloneOrSets n tell V H m shown
+module _ (say tell : Saying) (follows : (V H : Type 0) (m : Meaning V H) (shown : V → Invariant) → say V H m shown → tell V H m shown) where
+  each_number : (n : ℕ) (V H : Type 0) (m : Meaning V H) (shown : V → Invariant) → AloneOrSets n say V H m shown → AloneOrSets n tell V H m shown
   each_number zero V H m shown h = follows V H m shown h
   each_number (suc zero) V H m shown h = follows V H m shown h
   each_number (suc (suc n)) V H m shown h = follows (Parts V) (Head V H) (set_meaning m) (shown_set shown) h
@@ -40,7 +40,7 @@ module _ (say tell : Saying) (follows : (V H : Type 0) (m : Meaning V H) (shown 
   over_each o h = each_domain o.domain o.parts h
 
 -- what answers over this domain answers as the options say
-module _ (d : Domain) (o : Options) (source : List ℕ) {V H : Type 0} (m : Meaning V H) (shown : V → State) (is : o.domain ≡ d) (names : (say : Saying) → say V H m shown → OverDomain d say)
+module _ (d : Domain) (o : Options) (source : List ℕ) {V H : Type 0} (m : Meaning V H) (shown : V → Invariant) (is : o.domain ≡ d) (names : (say : Saying) → say V H m shown → OverDomain d say)
     (r : Report) where
   abbrev Answers : ℕ → Type 0
   Answers n = AloneOrSets n (λ V H m shown. IsAnsweredOver m shown o source r) V H m shown

@@ -20,7 +20,7 @@ use Rattle.lra_program.specs.WellFormed.{IsWellFormed}
 use Rattle.lra_tree.specs.Grammar.{Spells}
 use Rattle.lra_base.specs.declared.options.Domain.{Domain}
 use Rattle.lra_base.specs.declared.options.Options.{Options}
-use Rattle.lra_findings.specs.Report.{State, Report}
+use Rattle.lra_findings.specs.Report.{Invariant, Report}
 use Rattle.lra_meaning.specs.Refuse.{limit_fault, RefusesTree, bad_name, recursive, past_limit, Refuse, Accepts}
 use Rattle.lra_report.specs.declared.report.Report as code
 use Rattle.lra_report.specs.View.{report_of}
@@ -106,7 +106,7 @@ limit_refused t P x r labels is names straight passed table told_by =
 pub well : (source : List ℕ) (t : FileTree) → HasTree source t → name_faults t ≡ [] → IsWellFormed (resolve t)
 well source t has names = well_formed t (spelled_are_small source has.tokens t has.parsed.0 has.lexed has.parsed.1 has.parsed.2) names
 
-module _ {V H : Type 0} (m : Meaning V H) (laws : Laws m) (shown : V → State) (o : Options) (source : List ℕ) (t : FileTree) (r : Report)
+module _ {V H : Type 0} (m : Meaning V H) (laws : Laws m) (shown : V → Invariant) (o : Options) (source : List ℕ) (t : FileTree) (r : Report)
     (has : HasTree source t) (is : IsToldOf m shown o t r) (some : 1 ≤ o.parts) where
   accepted : Accepts Spells source t
   accepted = record {
@@ -139,7 +139,7 @@ module _ {V H : Type 0} (m : Meaning V H) (laws : Laws m) (shown : V → State) 
 
 -- and so with what a tree's answer is, whichever it is
 module _ (o : Options) (source : List ℕ) (t : FileTree) (has : HasTree source t) where
-  pub each_answered : {V H : Type 0} (m : Meaning V H) (laws : Laws m) (shown : V → State) (x : Result code.Report SourceError) → 1 ≤ o.parts
+  pub each_answered : {V H : Type 0} (m : Meaning V H) (laws : Laws m) (shown : V → Invariant) (x : Result code.Report SourceError) → 1 ≤ o.parts
       → IfOk x (λ r. IsToldOf m shown o t (report_of r)) →
       IfOk x (λ r. IsAnsweredOver m shown o source (report_of r))
   each_answered m laws shown (Ok r) some is = is_answered m laws shown o source t (report_of r) has is some

@@ -5,7 +5,7 @@ use Rattle.lra_domain.specs.Meaning.{Meaning}
 use Rattle.lra_program.specs.Program.{Program}
 use Rattle.lra_operations.specs.Graph.{Node}
 use Rattle.lra_operations.specs.Agree.{IsGraph}
-use Rattle.lra_findings.specs.Report.{State, PointReport, Verdict, Report}
+use Rattle.lra_findings.specs.Report.{Invariant, PointReport, Verdict, Report}
 use Rattle.lra_base.specs.declared.options.Options.{Options}
 use Rattle.lra_flow.specs.Pass.{Result}
 use Rattle.lra_flow.specs.Analysis.{Written, Derivation, Strains, Solves}
@@ -19,7 +19,7 @@ abbrev pub verdict_told : Verdict → ℕ × Bool
 verdict_told v = (v.number, v.proved)
 
 -- `shown` is what the domain shows of a value
-pub record IsAnalysed {V H : Type 0} (m : Meaning V H) (shown : V → State) (settings : Options) (P : Program)
+pub record IsAnalysed {V H : Type 0} (m : Meaning V H) (shown : V → Invariant) (settings : Options) (P : Program)
     (r : Report) : Type 0 where
   pub tree : Node
   pub is_graph : IsGraph P tree

@@ -3,7 +3,7 @@ use Rattle.std.specs.Prelude.{ℕ, suc, List}
 use Rattle.lra_base.specs.declared.options.Domain.{Domain}
 use Rattle.lra_base.specs.declared.options.Domain.TheVariants.{Poly, Box, Oct}
 use Rattle.lra_base.specs.declared.options.Options.{Options}
-use Rattle.lra_findings.specs.Report.{State, Report}
+use Rattle.lra_findings.specs.Report.{Invariant, Report}
 use Rattle.lra_meaning.specs.Resolve.{resolve}
 use Rattle.lra_program.specs.Program.{Program}
 use Rattle.lra_tree.specs.Grammar.{Spells}
@@ -22,7 +22,7 @@ use Rattle.lra_source.specs.Analysed.{IsAnalysed}
 
 -- a report of the source that tells an analysis over a domain with this meaning; it is told by its text, which has
 -- numbers of the range and each part as wide as its point has names
-pub record IsAnsweredOver {V H : Type 0} (m : Meaning V H) (shown : V → State) (o : Options) (source : List ℕ)
+pub record IsAnsweredOver {V H : Type 0} (m : Meaning V H) (shown : V → Invariant) (o : Options) (source : List ℕ)
     (r : Report) : Type 0 where
   pub report : IsReportOf Spells o source r
   pub analysed : IsAnalysed m shown o (resolve report.tree) r
@@ -30,7 +30,7 @@ pub record IsAnsweredOver {V H : Type 0} (m : Meaning V H) (shown : V → State)
 
 -- what is said of a domain's meaning, and of the states that show its values
 abbrev pub Saying : Type 1
-Saying = (V H : Type 0) → Meaning V H → (V → State) → Type 0
+Saying = (V H : Type 0) → Meaning V H → (V → Invariant) → Type 0
 
 -- it is said of the sets of a domain's values where there may be more parts than one, else of the domain itself
 abbrev pub AloneOrSets : ℕ → Saying → Saying

@@ -7,7 +7,7 @@ use Rattle.lra_program.specs.Program.{Program}
 use Rattle.lra_operations.specs.Graph.{Node}
 use Rattle.lra_base.specs.declared.options.Domain.{Domain}
 use Rattle.lra_base.specs.declared.options.Options.{Options}
-use Rattle.lra_findings.specs.Report.{State, Report, IsSound}
+use Rattle.lra_findings.specs.Report.{Invariant, Report, IsSound}
 use Rattle.lra_findings.specs.ReportText.{report_text}
 use Rattle.lra_meaning.specs.Resolve.{resolve}
 use Rattle.lra_program.specs.Sites.{Site, sites_of}
@@ -53,13 +53,13 @@ TreesAreNumbered = (P : Program) (g : Node) → IsGraph P g → IsNumbered (site
 
 -- where tree and runs agree the states hold in all runs, and no assertion that is marked proved fails
 abbrev pub AnalysedAreSound : {V H : Type 0} → Meaning V H → Type 0
-AnalysedAreSound {V} m = (shown : V → State) (settings : Options) (t : FileTree) (r : Report)
+AnalysedAreSound {V} m = (shown : V → Invariant) (settings : Options) (t : FileTree) (r : Report)
     → (x : IsAnalysed m shown settings (resolve t) r) → Agrees (resolve t) x.tree → Lists t r → IsSound (resolve t) r
 
 -- and of an accepted source it is a report, under options that name the analysis' domain and allow as many parts as it
 -- had, or more
 abbrev pub AnalysedAreReports : {V H : Type 0} → Meaning V H → Type 0
-AnalysedAreReports {V} m = (shown : V → State) (o : Options) (settings : Options) (source : List ℕ) (t : FileTree)
+AnalysedAreReports {V} m = (shown : V → Invariant) (o : Options) (settings : Options) (source : List ℕ) (t : FileTree)
     (r : Report)
     → (x : IsAnalysed m shown settings (resolve t) r)
     → o.domain ≡ settings.domain → 1 ≤ settings.parts → settings.parts ≤ o.parts

@@ -14,7 +14,7 @@ use Rattle.lra_operations.specs.Agree.{IsGraph, Agrees}
 use Rattle.lra_program.specs.WellFormed.{IsWellFormed}
 use Rattle.lra_base.specs.declared.options.Domain.{Domain}
 use Rattle.lra_base.specs.declared.options.Options.{Options}
-use Rattle.lra_findings.specs.Report.{State, Report}
+use Rattle.lra_findings.specs.Report.{Invariant, Report}
 use Rattle.lra_report.specs.Listing.{Lists}
 use Rattle.lra_meaning.specs.Refuse.{limit_fault}
 use Rattle.lra_tree.specs.Reach.{NotRecursive}
@@ -43,7 +43,7 @@ pub record HasGraph (t : FileTree) (tree : Node) (sites : List Site) : Type 0 wh
   pub points : sites ≡ sites_of (resolve t)
 
 -- a report that lists the points of such a tree, tells what an analysis of its program found, and is told by its text
-pub record IsToldOf {V H : Type 0} (m : Meaning V H) (shown : V → State) (o : Options) (t : FileTree) (r : Report)
+pub record IsToldOf {V H : Type 0} (m : Meaning V H) (shown : V → Invariant) (o : Options) (t : FileTree) (r : Report)
     : Type 0 where
   pub names : name_faults t ≡ []
   pub straight : NotRecursive t

@@ -14,7 +14,7 @@ use Rattle.lra_sys.specs.Listed.{Listed, constraints, generators}
 use Rattle.lra_polydom.specs.Content.{is_absurd, listed, polyhedron_parts}
 use Rattle.lra_polydom.specs.Covering.{empty_parts, parts_empty}
 use Rattle.lra_polydom.specs.Meaning.{polyhedron_meaning}
-use Rattle.lra_findings.specs.Report.{Part, State}
+use Rattle.lra_findings.specs.Report.{Part, Invariant}
 use Rattle.lra_states.specs.Shown.{IsShown}
 use Rattle.lra_states.specs.Polyhedra.{shown_polyhedron, TellsPolyhedron, polyhedron_of}
 use Rattle.lra_states.proofs.SamePoints.{as_row, within_con}
@@ -44,7 +44,7 @@ as_many p (inr h) =
     ap length (one_part p h (part_of p))
     ∙ kept (list_any is_absurd p.rows) (listed p) (λ e. not_empty p h (parts_empty p p.dims (ap (λ (b : Bool). cond b [] (listed p ∷ [])) e)))
 
-shown_so : (p : Polyhedron) → IsPolyhedron p → (state : State) → state ≡ shown_polyhedron p → TellsPolyhedron p state → IsShown polyhedron_meaning Poly p state
+shown_so : (p : Polyhedron) → IsPolyhedron p → (state : Invariant) → state ≡ shown_polyhedron p → TellsPolyhedron p state → IsShown polyhedron_meaning Poly p state
 shown_so p is state e t = record {
   as_many = ap length e ∙ as_many p is;
   wide = t.wide;

@@ -27,7 +27,7 @@ use Rattle.lra_report.specs.Rows.{shown_rows, shown_generators}
 use Rattle.lra_report.specs.Spelled.{IsSpelledRow, IsSpelledGenerator, IsSpelledPart}
 use Rattle.lra_report.proofs.Every.{every_append}
 use Rattle.lra_report.proofs.CanonicalLists.{spelled_equality, spelled_inequality, spelled_point, spelled_ray, spelled_line}
-use Rattle.lra_findings.specs.Report.{Generator, Part, State}
+use Rattle.lra_findings.specs.Report.{Generator, Part, Invariant}
 use Rattle.lra_findings.specs.Parts as parts
 use Rattle.lra_states.specs.Polyhedra.{row_kind, generator_kind, shown_row, shown_generator, part_if_any, shown_polyhedron, TellsPolyhedron, polyhedron_of}
 use Rattle.lra_states.proofs.RowsHold.{row_holds, row_held}
@@ -311,11 +311,11 @@ module _ (rows : Listed ConKind) (gens : Listed GenKind) (is : IsPolyhedron (pol
   generators_small : AreSmall (generators gens)
   generators_small = members is_line (AllByRecursion InRange) gens.rows gens.kinds (λ k d h. each_number _ (small_generators k d h))
 
-  pub told_so : (state : State) → state ≡ shown_polyhedron (polyhedron_of rows gens) → TellsPolyhedron (polyhedron_of rows gens) state
+  pub told_so : (state : Invariant) → state ≡ shown_polyhedron (polyhedron_of rows gens) → TellsPolyhedron (polyhedron_of rows gens) state
   told_so state e =
       subst (TellsPolyhedron (polyhedron_of rows gens)) (sym e)
       (told (polyhedron_of rows gens) is (members is_equality (λ (r : List ℤ). length r ≡ suc rows.dims) rows.rows rows.kinds wide_rows)
       (subst (λ (n : ℕ). AreWide n (generators gens)) same (members is_line (λ (r : List ℤ). length r ≡ suc gens.dims) gens.rows gens.kinds wide_generators)) generators_small)
 
-  pub spelled_so : (state : State) → state ≡ shown_polyhedron (polyhedron_of rows gens) → AllByRecursion IsSpelledPart state
+  pub spelled_so : (state : Invariant) → state ≡ shown_polyhedron (polyhedron_of rows gens) → AllByRecursion IsSpelledPart state
   spelled_so state e = subst (AllByRecursion IsSpelledPart) (sym e) (spelled (polyhedron_of rows gens) is rows_small generators_small)

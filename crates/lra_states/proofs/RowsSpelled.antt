@@ -8,7 +8,7 @@ use Rattle.lra_sys.specs.Listed.{Listed}
 use Rattle.lra_linear.specs.declared.ConKind.{ConKind}
 use Rattle.lra_domain.specs.Meaning.{Meaning}
 use Rattle.lra_program.specs.Rows.{Row}
-use Rattle.lra_findings.specs.Report.{Part, State, Holds}
+use Rattle.lra_findings.specs.Report.{Part, Invariant, Holds}
 use Rattle.lra_findings.specs.Parts.{Tells}
 use Rattle.lra_report.specs.Listing.{HasWidth}
 use Rattle.lra_report.specs.Rows.{shown_rows, IsRowInRange, IsPartInRange}
@@ -29,7 +29,7 @@ module _ {V H E : Type 0} (m : Meaning V H) (domain : Domain) (shows : ShowsRows
     as_many = ap length is ∙ length-map (m.parts v) shown_part;
     wide = subst (AllByRecursion (HasWidth (m.dims v))) (sym is) (shows.wide v);
     tell = subst (AllByRecursion (Tells domain (m.dims v))) (sym is) (shows.tell v);
-    holds = λ t h. subst (λ (state : State). Holds state t) (sym is) (shows.holds v t h);
+    holds = λ t h. subst (λ (state : Invariant). Holds state t) (sym is) (shows.holds v t h);
     only = λ t long h. (mean t long).1 h;
   }
   told (Err e) is mean = tt

@@ -12,30 +12,30 @@ use Rattle.lra_set.specs.Meaning.{set_meaning}
 use Rattle.lra_base.specs.declared.options.Domain.{Domain}
 use Rattle.lra_report.specs.Listing.{HasWidth}
 use Rattle.lra_report.proofs.Every.{every_append}
-use Rattle.lra_findings.specs.Report.{Part, State, Holds}
+use Rattle.lra_findings.specs.Report.{Part, Invariant, Holds}
 use Rattle.lra_findings.specs.Parts.{Tells}
 use Rattle.lra_states.specs.Shown.{IsShown, AreShown}
 use Rattle.lra_states.specs.Sets.{shown_set}
 
 -- states one after another -----------------------------------------------------------------------------------------
 
-holds_first : (a b : State) (s : List ℤ) → Holds a s → Holds (a ++ b) s
+holds_first : (a b : Invariant) (s : List ℤ) → Holds a s → Holds (a ++ b) s
 holds_first [] b s h = absurd h
 holds_first (p ∷ a) b s (inl h) = inl h
 holds_first (p ∷ a) b s (inr h) = inr (holds_first a b s h)
 
-holds_second : (a b : State) (s : List ℤ) → Holds b s → Holds (a ++ b) s
+holds_second : (a b : Invariant) (s : List ℤ) → Holds b s → Holds (a ++ b) s
 holds_second [] b s h = h
 holds_second (p ∷ a) b s h = inr (holds_second a b s h)
 
-holds_either : (a b : State) (s : List ℤ) → Holds (a ++ b) s → Holds a s ⊎ Holds b s
+holds_either : (a b : Invariant) (s : List ℤ) → Holds (a ++ b) s → Holds a s ⊎ Holds b s
 holds_either [] b s h = inr h
 holds_either (p ∷ a) b s (inl h) = inl (inl h)
 holds_either (p ∷ a) b s (inr h) = elim (holds_either a b s h) [ inl i ↦ inl (inr i) | inr i ↦ inr i ]
 
 -- parts ------------------------------------------------------------------------------------------------------------
 
-module _ {V H : Type 0} (m : Meaning V H) (domain : Domain) (shown : V → State) where
+module _ {V H : Type 0} (m : Meaning V H) (domain : Domain) (shown : V → Invariant) where
   rest_shown : (p : V) (ps : List V) → AreShown m domain shown (p ∷ ps) → AreShown m domain shown ps
   rest_shown p ps are v k = are v (contains_tail p v ps k)
 
@@ -86,6 +86,6 @@ module _ {V H : Type 0} (m : Meaning V H) (domain : Domain) (shown : V → State
   pub state_told : {E : Type 0} (v : Parts V) (ps : List V) → ps ≡ v.parts → EachPart (PartFits m v.dims) v.parts → (x : Result (Vec Part Global) E)
       → IfOk x (λ s. s.items ≡ flat_map shown ps) → IfOk x (λ _. AreShown m domain shown ps) → IfOk x (λ s. IsShown (set_meaning m) domain v s.items)
   state_told v ps same fit (Ok s) is are =
-      subst (λ (state : State). IsShown (set_meaning m) domain v state) (sym (is ∙ ap (flat_map shown) same))
+      subst (λ (state : Invariant). IsShown (set_meaning m) domain v state) (sym (is ∙ ap (flat_map shown) same))
       (set_shown v fit (subst (AreShown m domain shown) same are))
   state_told v ps same fit (Err e) is are = tt

@@ -12,7 +12,7 @@ use Rattle.lra_sys.specs.Listed.{Listed, constraints, generators}
 use Rattle.lra_base.specs.declared.options.Domain.TheVariants.{Poly}
 use Rattle.lra_show.specs.Shown.{report_row, report_generator}
 use Rattle.lra_program.specs.Rows.{Row}
-use Rattle.lra_findings.specs.Report.{Generator, Part, State, Holds}
+use Rattle.lra_findings.specs.Report.{Generator, Part, Invariant, Holds}
 use Rattle.lra_findings.specs.Parts.{Tells}
 use Rattle.lra_report.specs.Listing.{HasWidth}
 
@@ -34,16 +34,16 @@ abbrev pub shown_generator : Given → Generator
 shown_generator g = report_generator g.row (generator_kind g.equal (entry g.row 0))
 
 -- no part where there is no generator
-abbrev pub part_if_any : List Given → Part → State
+abbrev pub part_if_any : List Given → Part → Invariant
 part_if_any [] part = []
 part_if_any (g ∷ gs) part = part ∷ []
 
-abbrev pub shown_polyhedron : Polyhedron → State
+abbrev pub shown_polyhedron : Polyhedron → Invariant
 shown_polyhedron p = part_if_any p.generators
     (record { rows = map shown_row p.rows; generators = map shown_generator p.generators })
 
 -- the state tells the polyhedron
-pub record TellsPolyhedron (p : Polyhedron) (state : State) : Type 0 where
+pub record TellsPolyhedron (p : Polyhedron) (state : Invariant) : Type 0 where
   pub wide : AllByRecursion (HasWidth p.dims) state
   pub tell : AllByRecursion (Tells Poly p.dims) state
   -- each store in it holds there

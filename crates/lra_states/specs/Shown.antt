@@ -6,14 +6,14 @@ use Rattle.lra_linear.specs.declared.ConKind.{ConKind}
 use Rattle.lra_report.specs.Rows.{shown_rows}
 use Rattle.lra_domain.specs.Meaning.{Meaning}
 use Rattle.lra_base.specs.declared.options.Domain.{Domain}
-use Rattle.lra_findings.specs.Report.{Part, State, Holds}
+use Rattle.lra_findings.specs.Report.{Part, Invariant, Holds}
 use Rattle.lra_findings.specs.Parts.{Tells}
 use Rattle.lra_program.specs.Rows.{Row}
 use Rattle.lra_report.specs.Listing.{HasWidth}
 use Rattle.lra_report.specs.Spelled.{IsDirected}
 
 -- a value is shown by this state, in reports over this domain
-pub record IsShown {V H : Type 0} (m : Meaning V H) (domain : Domain) (v : V) (state : State) : Type 0 where
+pub record IsShown {V H : Type 0} (m : Meaning V H) (domain : Domain) (v : V) (state : Invariant) : Type 0 where
   -- a part for each of the value's parts, so none exactly where the value has none
   pub as_many : length state ≡ length (m.parts v)
   -- a number for each dimension; each part as the domain has it
@@ -25,7 +25,7 @@ pub record IsShown {V H : Type 0} (m : Meaning V H) (domain : Domain) (v : V) (s
   pub only : (s : List ℤ) → length s ≡ m.dims v → Holds state s → m.has v s
 
 -- so are these values
-abbrev pub AreShown : {V H : Type 0} → Meaning V H → Domain → (V → State) → List V → Type 0
+abbrev pub AreShown : {V H : Type 0} → Meaning V H → Domain → (V → Invariant) → List V → Type 0
 AreShown {V} m domain shown values = (v : V) → Contains values v → IsShown m domain v (shown v)
 
 -- by rows alone, as domains without generators show their values --------------------------------------------------
@@ -35,7 +35,7 @@ abbrev pub shown_part : Listed ConKind → Part
 shown_part p = record { rows = shown_rows p.rows p.kinds; generators = [] }
 
 -- a value's parts by their rows
-abbrev pub shown_state : {V H : Type 0} → Meaning V H → V → State
+abbrev pub shown_state : {V H : Type 0} → Meaning V H → V → Invariant
 shown_state m v = map shown_part (m.parts v)
 
 -- the first coefficient of each equality is above 0
@@ -43,7 +43,7 @@ abbrev pub AreDirected : Part → Type 0
 AreDirected p = AllByRecursion (λ (r : Row). IsDirected r.kind r.coefficients) p.rows
 
 -- a list of as many numbers as dimensions is a store of the value exactly where the state holds
-abbrev pub MeansValue : {V H : Type 0} → Meaning V H → V → State → Type 0
+abbrev pub MeansValue : {V H : Type 0} → Meaning V H → V → Invariant → Type 0
 MeansValue m v state = (s : List ℤ) → length s ≡ m.dims v → (m.has v s ↔ Holds state s)
 
 -- in reports over this domain each value is shown by its rows: as wide as it is and as the domain has them, holding at

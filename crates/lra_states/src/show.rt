@@ -3,7 +3,7 @@
 ghost use Rattle.std.specs.Prelude.{◌≡◌, IfOk};
 ghost use Rattle.std.specs.List.{AllByRecursion};
 ghost use Rattle.lra_base.specs.declared.options.Domain as options;
-ghost use Rattle.lra_findings.specs.Report.{State};
+ghost use Rattle.lra_findings.specs.Report.{Invariant};
 ghost use Rattle.lra_report.specs.Spelled.{IsSpelledPart};
 ghost use Rattle.lra_states.specs.Shown.{IsShown};
 
@@ -17,7 +17,7 @@ pub trait Show: Domain {
     ghost named: { options.Domain };
 
     /// The state that a value is shown by.
-    ghost shown: { Self → State };
+    ghost shown: { Self → Invariant };
 
     /// The state of the value: a part for each of its parts, each as the domain has it and as its text tells it. Of
     /// the lists with a number for each dimension it holds at the value's stores and at no other.

@@ -65,7 +65,7 @@ fn cone_of(
     Ok(cone)
 }
 
-fn place_of(rows: &[Row], numbers: &[i128]) -> Option<usize> {
+fn find_ray(rows: &[Row], numbers: &[i128]) -> Option<usize> {
     for place in 0..rows.len() {
         if rows[place].entries() == numbers {
             return Some(place);
@@ -76,7 +76,7 @@ fn place_of(rows: &[Row], numbers: &[i128]) -> Option<usize> {
 
 fn are(rows: &[Row], list: &[&[i128]]) -> bool {
     for numbers in list {
-        if place_of(rows, numbers).is_none() {
+        if find_ray(rows, numbers).is_none() {
             return false;
         }
     }
@@ -273,7 +273,7 @@ fn strain_in_a_product(rt: HostRuntime) -> Result<(), Fail> {
     let alloc = rt.alloc();
     let rays: &[&[i128]] = &[&[1, MAX], &[0, 1]];
     let mut cone = cone_of(alloc, 1, &[], &[&[1, 0], &[-MAX, 1]])?;
-    let Some(place) = place_of(cone.rays(), &[1, MAX]) else {
+    let Some(place) = find_ray(cone.rays(), &[1, MAX]) else {
         return Err("the vertex is missing".into());
     };
     let want = Strained::Product(member(Family::Rays, place), product(2, MAX));
@@ -287,7 +287,7 @@ fn strain_in_a_pair_of_rays(rt: HostRuntime) -> Result<(), Fail> {
     let alloc = rt.alloc();
     let rays: &[&[i128]] = &[&[2, 1], &[0, 1]];
     let mut cone = cone_of(alloc, 1, &[], &[&[1, 0], &[-1, 2]])?;
-    let Some(up) = place_of(cone.rays(), &[2, 1]) else {
+    let Some(up) = find_ray(cone.rays(), &[2, 1]) else {
         return Err("the vertex is missing".into());
     };
     let above = member(Family::Rays, up);

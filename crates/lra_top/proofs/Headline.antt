@@ -10,7 +10,7 @@ use Rattle.lra_domain.specs.Meaning.{Meaning}
 use Rattle.lra_program.specs.Program.{Program}
 use Rattle.lra_flow.specs.Analysis.{Solves}
 use Rattle.lra_meaning.specs.Resolve.{resolve}
-use Rattle.lra_findings.specs.Report.{State, Part, Holds, PointReport, Report, IsInvariant}
+use Rattle.lra_findings.specs.Report.{Invariant, Part, Holds, PointReport, Report, IsInvariant}
 use Rattle.lra_findings.specs.Parts.{Tells, HasSamePoints}
 use Rattle.lra_report.specs.Listing.{AreParts}
 use Rattle.lra_source.specs.Analysed.{IsAnalysed}
@@ -30,7 +30,7 @@ use Rattle.lra_top.specs.declared.status.Status.TheVariants.{Proved, Unknown, Re
 -- invariants ----------------------------------------------------------------------
 
 never_reached : (P : Program) (p : PointReport) → IsInvariant P p → IsNeverReached P p
-never_reached P p holds none store at = let h : Holds [] store = subst (λ (state : State). Holds state store) none (holds store at) in h
+never_reached P p holds none store at = let h : Holds [] store = subst (λ (state : Invariant). Holds state store) none (holds store at) in h
 
 all_unreached : (P : Program) (ps : List PointReport) → AllByRecursion (IsInvariant P) ps → AllByRecursion (IsNeverReached P) ps
 all_unreached P [] h = tt
@@ -51,7 +51,7 @@ unflagged : (o : Option ℕ) → option_map suc o ≡ None → o ≡ None
 unflagged None e = refl
 unflagged (Some q) e = let wrong : ⊥ = cc in absurd wrong
 
-tells_written : {V H : Type 0} (m : Meaning V H) (shown : V → State) (o : Options) (P : Program) (r : Report) → r.flagged ≡ None → IsAnalysed m shown o P r → TellsWritten m shown o P r
+tells_written : {V H : Type 0} (m : Meaning V H) (shown : V → Invariant) (o : Options) (P : Program) (r : Report) → r.flagged ≡ None → IsAnalysed m shown o P r → TellsWritten m shown o P r
 tells_written m shown o P r free x =
     let none = unflagged x.flagged (sym x.flag ∙ free) in
     record {

@@ -15,7 +15,7 @@ use Rattle.lra_operations.specs.Agree.{IsGraph}
 use Rattle.lra_domain.specs.Meaning.{Meaning}
 use Rattle.lra_flow.specs.Pass.{Result}
 use Rattle.lra_flow.specs.Analysis.{Written, Solves}
-use Rattle.lra_findings.specs.Report.{State, PointReport, Report, IsSound}
+use Rattle.lra_findings.specs.Report.{Invariant, PointReport, Report, IsSound}
 use Rattle.lra_findings.specs.Parts.{HasSamePoints}
 use Rattle.lra_report.specs.Listing.{Lists}
 use Rattle.lra_source.specs.Analysed.{told_verdict, verdict_told}
@@ -65,8 +65,8 @@ pub record HoldsInAllRuns (bytes : List ℕ) (r : Report) : Type 0 where
 
 -- the report tells what the written iteration finds: at each point the state that shows its value there, whose rows
 -- mean the value, and on each assertion its verdict
-pub record TellsWritten {V H : Type 0} (m : Meaning V H) (shown : V → State) (o : Options) (P : Program) (r : Report)
-    : Type 0 where
+pub record TellsWritten {V H : Type 0} (m : Meaning V H) (shown : V → Invariant) (o : Options) (P : Program)
+    (r : Report) : Type 0 where
   pub tree : Node
   pub is_graph : IsGraph P tree
   pub result : Result V

@@ -5,7 +5,7 @@ use Rattle.std.specs.Prelude.{codes, ◌⊎◌}
 use Rattle.lra_tree.specs.declared.tokens.Mark.{Mark}
 use Rattle.lra_tree.specs.declared.tokens.Mark.TheVariants as mark
 use Rattle.lra_tree.specs.declared.tokens.Kind.{Kind}
-use Rattle.lra_tree.specs.Lexeme.{is_word, is_number_word, mark_text, is_among, IsOpen, SpellsToken, Lexeme, word, number_word, mark_word, unclosed}
+use Rattle.lra_tree.specs.Lexeme.{is_name_word, is_number_word, mark_text, is_among, IsOpen, SpellsToken, Lexeme, word, number_word, mark_word, unclosed}
 use Rattle.lra_tree.specs.Tokens.{is_blank, IsGap, blank, line_comment, block_comment, skipped_line, NoGap, IsLongest, IsToken, place_behind}
 
 -- no gap begins with another byte than a blank, `/`, `#`
@@ -31,7 +31,7 @@ operators = codes "+" ∷ codes "-" ∷ codes "*" ∷ codes "/" ∷ codes "%" �
     ∷ codes "++" ∷ codes "--" ∷ codes "+=" ∷ codes "-=" ∷ codes "*=" ∷ codes "/=" ∷ codes "%=" ∷ codes "(" ∷ codes ")" ∷ codes "{" ∷ codes "}" ∷ codes ";" ∷ codes "," ∷ []
 
 abbrev pub is_lexeme : List ℕ → Bool
-is_lexeme s = is_word s || is_number_word s || is_among s operators
+is_lexeme s = is_name_word s || is_number_word s || is_among s operators
 
 mark_is_lexeme : (m : Mark) → is_lexeme (mark_text m) ≡ true
 mark_is_lexeme mark.Plus = refl
@@ -52,8 +52,8 @@ opens_comment (c ∷ []) = false
 opens_comment (c ∷ d ∷ cs) = nat_eq c 47 && nat_eq d 42
 
 pub tested : (s after : List ℕ) → opens_comment (s ++ after) ≡ false → Lexeme s → is_lexeme s ≡ true
-tested s after other (word w) = or_first (is_word s || is_number_word s) (is_among s operators) (or_first (is_word s) (is_number_word s) w)
-tested s after other (number_word w) = or_first (is_word s || is_number_word s) (is_among s operators) (or_second (is_word s) (is_number_word s) w)
+tested s after other (word w) = or_first (is_name_word s || is_number_word s) (is_among s operators) (or_first (is_name_word s) (is_number_word s) w)
+tested s after other (number_word w) = or_first (is_name_word s || is_number_word s) (is_among s operators) (or_second (is_name_word s) (is_number_word s) w)
 tested s after other (mark_word m e) = rw e (mark_is_lexeme m)
 tested s after other (unclosed u) = let h : opens_comment ((codes "/*" ++ u.0) ++ after) ≡ false = subst (λ (z : List ℕ). opens_comment (z ++ after) ≡ false) u.1 other in cc
 

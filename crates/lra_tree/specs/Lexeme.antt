@@ -24,9 +24,9 @@ is_word_byte c = is_letter c || is_digit c
 -- words ------------------------------------------------------------------------------------------------------------
 
 -- a letter or `_`, then letters, digits, `_`
-abbrev pub is_word : List ℕ → Bool
-is_word [] = false
-is_word (c ∷ cs) = is_letter c && list_all is_word_byte cs
+abbrev pub is_name_word : List ℕ → Bool
+is_name_word [] = false
+is_name_word (c ∷ cs) = is_letter c && list_all is_word_byte cs
 
 -- a digit, then letters, digits, `_`
 abbrev pub is_number_word : List ℕ → Bool
@@ -166,14 +166,15 @@ IsUnclosed s = (text : List ℕ) × (s ≡ codes "/*" ++ text) × IsOpen text
 
 -- the bytes spell a token, or would if its number were a literal
 pub data Lexeme (s : List ℕ) : Type 0 where
-  word : is_word s ≡ true → Lexeme s
+  word : is_name_word s ≡ true → Lexeme s
   number_word : is_number_word s ≡ true → Lexeme s
   mark_word : (m : Mark) → s ≡ mark_text m → Lexeme s
   unclosed : IsUnclosed s → Lexeme s
 
 -- which token they spell
 pub data SpellsToken (s : List ℕ) : Kind → Type 0 where
-  name : is_word s ≡ true → is_among s named_words ≡ false → is_among s further_words ≡ false → SpellsToken s (Name s)
+  name : is_name_word s ≡ true → is_among s named_words ≡ false → is_among s further_words ≡ false
+      → SpellsToken s (Name s)
   number : (n : ℕ) → is_number_word s ≡ true → IsLiteral s n → n ≤ greatest_literal → SpellsToken s (Number n)
   mark_of : (m : Mark) → s ≡ mark_text m → SpellsToken s (MarkOf m)
   reserved : is_among s further_words ≡ true → SpellsToken s Reserved

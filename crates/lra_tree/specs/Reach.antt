@@ -25,9 +25,9 @@ pub record IsCalling (t : FileTree) (caller callee : List ℕ) : Type 0 where
   pub called_name : called.word ≡ callee
 
 -- by any number of calls, none among them
-pub data Reaches (t : FileTree) (goal : List ℕ) : List ℕ → Type 0 where
-  there : Reaches t goal goal
-  by_call : (f g : List ℕ) → IsCalling t f g → Reaches t goal g → Reaches t goal f
+pub data ReachesByCalls (t : FileTree) (goal : List ℕ) : List ℕ → Type 0 where
+  there : ReachesByCalls t goal goal
+  by_call : (f g : List ℕ) → IsCalling t f g → ReachesByCalls t goal g → ReachesByCalls t goal f
 
 -- each call of the source in text order: the function that holds it, and the called name
 abbrev pub calls_in : List FunctionTree → List (List ℕ × Identifier)
@@ -35,7 +35,7 @@ calls_in [] = []
 calls_in (f ∷ fs) = map (λ (c : Identifier). (f.name.word, c)) (calls_of f) ++ calls_in fs
 
 abbrev pub IsRecursive : FileTree → List ℕ × Identifier → Type 0
-IsRecursive t c = Reaches t c.0 c.1.word
+IsRecursive t c = ReachesByCalls t c.0 c.1.word
 
 -- the first call whose callee reaches the function that holds it
 abbrev pub IsFirstRecursive : FileTree → Place → Type 0

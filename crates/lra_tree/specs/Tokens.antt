@@ -83,16 +83,16 @@ pub record IsLongest (s rest : List ℕ) : Type 0 where
 -- the whole --------------------------------------------------------------------------------------------------------
 
 -- a gap, or a token with its spelling
-pub data Piece : Type 0 where
-  gap : List ℕ → Piece
-  token : List ℕ → Token → Piece
+pub data Fragment : Type 0 where
+  gap : List ℕ → Fragment
+  token : List ℕ → Token → Fragment
 
-abbrev pub bytes_of : List Piece → List ℕ
+abbrev pub bytes_of : List Fragment → List ℕ
 bytes_of [] = []
 bytes_of (gap bytes ∷ ps) = bytes ++ bytes_of ps
 bytes_of (token bytes t ∷ ps) = bytes ++ bytes_of ps
 
-abbrev pub tokens_of : List Piece → List Token
+abbrev pub tokens_of : List Fragment → List Token
 tokens_of [] = []
 tokens_of (gap bytes ∷ ps) = tokens_of ps
 tokens_of (token bytes t ∷ ps) = t ∷ tokens_of ps
@@ -105,7 +105,7 @@ pub record IsToken (before s rest : List ℕ) (t : Token) : Type 0 where
   pub place : t.place ≡ place_behind before
 
 -- the pieces stand between the bytes before and after them
-abbrev pub IsReading : List ℕ → List Piece → List ℕ → Type 0
+abbrev pub IsReading : List ℕ → List Fragment → List ℕ → Type 0
 IsReading before [] after = ⊤
 IsReading before (gap bytes ∷ ps) after = IsGap before bytes (bytes_of ps ++ after) ×
     IsReading (before ++ bytes) ps after
@@ -117,7 +117,7 @@ end_token source = record { kind = End; place = place_behind source }
 
 -- the tokens of the source; behind the last byte stands the end
 abbrev pub Lex : List ℕ → List Token → Type 0
-Lex source tokens = (ps : List Piece) × (source ≡ bytes_of ps) × IsReading [] ps [] ×
+Lex source tokens = (ps : List Fragment) × (source ≡ bytes_of ps) × IsReading [] ps [] ×
     (tokens ≡ tokens_of ps ++ end_token source ∷ [])
 
 -- faults -----------------------------------------------------------------------------------------------------------
@@ -132,7 +132,7 @@ IsFaulty cause before rest = ⊥
 -- up to the first fault the source is read, and the fault is there
 abbrev pub IsTokenFault : List ℕ → Cause → Place → Type 0
 IsTokenFault source cause place =
-    (ps : List Piece) × (rest : List ℕ) × (source ≡ bytes_of ps ++ rest) × IsReading [] ps rest
+    (ps : List Fragment) × (rest : List ℕ) × (source ≡ bytes_of ps ++ rest) × IsReading [] ps rest
     × IsFaulty cause (bytes_of ps) rest × (place ≡ place_behind (bytes_of ps))
 
 -- a source has one list of tokens, or one first fault

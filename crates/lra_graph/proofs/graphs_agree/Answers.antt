@@ -1,3 +1,4 @@
+-- Goals of `graphs_agree`: does nothing.
 use Rattle.lra_graph.proofs.Agreement.{graphs_agree}
 use Rattle.lra_graph.proofs.DistinctSites.{distinct_sites}
 use Rattle.lra_graph.proofs.graphs_agree.Goals as goal

@@ -1,3 +1,4 @@
+-- Goals of `one_tree`: a law of the language.
 use Rattle.lra_readers.proofs.Laws.{spelled_one, spelled_one_fault}
 use Rattle.lra_readers.proofs.one_tree.Goals as goal
 

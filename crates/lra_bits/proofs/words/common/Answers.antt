@@ -1,3 +1,4 @@
+-- Goals of `common`: the bits that are set in both.
 use Rattle.std.proofs.lemmas.Slice.Zip.{Zip-more, either_empty_from_Zip}
 use Rattle.lra_bits.proofs.Pairs.{common_more, common_end}
 use Rattle.lra_bits.proofs.words.common.Goals as goal

@@ -1,3 +1,4 @@
+-- Goals of `assign_in`: assigns `constant + factors` to place `x`.
 use Rattle.std.proofs.Common.{arith, ap, refl, ◌≡◌, ◌++◌, take, drop, length}
 use Rattle.std.specs.Int.{w128}
 use Rattle.std.proofs.lemmas.Int.{to_z-of_z}

@@ -1,3 +1,4 @@
+-- Goals of `opposite_row`: the same times -1.
 use Rattle.std.proofs.Common.{rules, map, ◌≡◌, [], ◌∷◌, ◌++◌, ◌∙◌, append_assoc, FitsSigned}
 use Rattle.std.specs.Prelude.{neg_ℤ}
 use Rattle.std.specs.Int.{w128}

@@ -1,3 +1,4 @@
+-- Goals of `test_eq`: refines by `constant + factors = 0`.
 use Rattle.std.proofs.Common.{rules, arith, ◌≡◌, pos, ◌-ℤ◌, length, FitsSigned}
 use Rattle.std.specs.Prelude.{neg_ℤ}
 use Rattle.std.specs.Int.{w128}

@@ -1,3 +1,4 @@
+-- Goals of `test_ge`: refines by `constant + factors >= 0`.
 use Rattle.std.proofs.Common.{rules, ◌≡◌, false, true, None}
 use Rattle.std.specs.Prelude.{pos, int_lt}
 use Rattle.lra_box.specs.Refine.{some_occurs}

@@ -1,3 +1,5 @@
+-- Goals of `sum_end`: the least or the greatest value of `constant + coefficients` over the intervals, summed from
+-- the constant on in column order.
 use Rattle.std.proofs.Common.{rules, ◌≡◌, ◌∷◌, ◌∙◌, sym, Some, FitsSigned, to_z}
 use Rattle.std.specs.Int.{w128}
 use Rattle.std.proofs.lemmas.Int.{to_z-of_z}

@@ -1,3 +1,4 @@
+-- Goals of `assign_bounds`: replaces the interval of a place by the ends of a form.
 use Rattle.std.specs.Int.{w128}
 use Rattle.std.proofs.lemmas.Int.{to_z-of_z}
 use Rattle.lra_domain.specs.declared.Exactness.TheVariants.{Flagged}

@@ -1,3 +1,4 @@
+-- Goals of `push_equals`: adds the equalities of all places.
 use Rattle.std.proofs.Common.{rules, arith, suc, add-one, ◌≡◌, ◌∷◌, length}
 use Rattle.lra_linear.specs.declared.ConKind.TheVariants.{Eq}
 use Rattle.lra_box.specs.Parts.{equal_rows}

@@ -1,3 +1,4 @@
+-- Goals of `push_unequals`: adds the inequalities of all places.
 use Rattle.std.proofs.Common.{rules, arith, suc, add-one, ◌≡◌, ◌∷◌, length}
 use Rattle.lra_linear.specs.declared.ConKind.TheVariants.{Ge}
 use Rattle.lra_box.specs.Parts.{unequal_rows}

@@ -1,3 +1,4 @@
+-- Goals of `row_of`: the row `constant + factor * x_k` in `n` dimensions.
 use Rattle.std.proofs.Common.{rules, ◌≡◌}
 use Rattle.lra_box.specs.Parts.{bound_row}
 use Rattle.lra_box.proofs.PartLemmas.{row_in_range}

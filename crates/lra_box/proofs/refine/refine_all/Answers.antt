@@ -1,3 +1,4 @@
+-- Goals of `refine_all`: tightens each place in order by `constant + factors >= 0`, until one is crossed.
 use Rattle.std.proofs.Common.{◌≡◌, ◌<◌, length, add-one, arith, sym, ◌∙◌, true, false, refl}
 use Rattle.std.specs.Int.{w128}
 use Rattle.std.proofs.lemmas.Int.{to_z-of_z}

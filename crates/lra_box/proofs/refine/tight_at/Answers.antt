@@ -1,3 +1,4 @@
+-- Goals of `tight_at`: the interval of a place, tightened by `constant + factors >= 0`.
 use Rattle.std.proofs.Common.{rules}
 use Rattle.std.specs.Int.{w128}
 use Rattle.std.proofs.lemmas.Int.{to_z-of_z}

@@ -1,3 +1,4 @@
+-- Goals of `include`: whether each point of the first polyhedron is in the second.
 use Rattle.lra_calc.proofs.OneAnswer.{inclusion_placed}
 use Rattle.lra_calc.proofs.answering.include.Goals as goal
 

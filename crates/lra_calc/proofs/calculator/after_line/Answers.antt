@@ -1,3 +1,4 @@
+-- Goals of `after_line`: what stands behind the line of a number, which may be skipped.
 use Rattle.std.proofs.Common.{◌∙◌, sym}
 use Rattle.lra_calc.proofs.SessionLemmas.{refused_steps}
 use Rattle.lra_calc.proofs.calculator.after_line.Goals as goal

@@ -1,3 +1,4 @@
+-- Goals of `script`: what a script writes, or why it is refused.
 use Rattle.std.proofs.Common.{arith, sym, subst, Err, None}
 use Rattle.lra_base.specs.declared.refusals.Place.{Place}
 use Rattle.lra_tree.proofs.Limit.{limit_is, taken}

@@ -1,3 +1,4 @@
+-- Goals of `combine`: what is made of two sets.
 use Rattle.lra_calc.specs.MadeSets.{combined, CombiningStrains}
 use Rattle.lra_calc.proofs.MakingLemmas.{made_as_told}
 use Rattle.lra_calc.proofs.making.combine.Goals as goal

@@ -1,3 +1,4 @@
+-- Goals of `constraints_of_rows`: the constraints, each of n + 1 numbers.
 use Rattle.std.proofs.Common.{arith, ◌∙◌, suc, ℤ, List, ap, sym, length, length-append}
 use Rattle.lra_linear.specs.Kinds.{is_equality}
 use Rattle.lra_script.specs.Views.{constraint_of}

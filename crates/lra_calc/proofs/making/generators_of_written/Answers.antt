@@ -1,3 +1,4 @@
+-- Goals of `generators_of_written`: the generators, each with as many numbers as it needs.
 use Rattle.std.proofs.Common.{arith, ◌∙◌, suc, ap, sym, length-append}
 use Rattle.lra_sys.specs.Listed.{is_line}
 use Rattle.lra_script.specs.LineForms.{given_of}

@@ -1,3 +1,4 @@
+-- Goals of `make_of_generators`: the polyhedron of the points that the generators generate.
 use Rattle.std.proofs.Common.{map, ◌∙◌}
 use Rattle.lra_linear.specs.Descriptions.{Gen as generated_by}
 use Rattle.lra_linear.specs.OperationStrain.{FromGeneratorsStrains}

@@ -1,3 +1,4 @@
+-- Goals of `make_of_rows`: the polyhedron of the points at which the constraints hold.
 use Rattle.std.proofs.Common.{map}
 use Rattle.lra_linear.specs.Descriptions.{Con as points_of}
 use Rattle.lra_linear.specs.OperationStrain.{FromRowsStrains}

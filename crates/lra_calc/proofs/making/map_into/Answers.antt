@@ -1,3 +1,4 @@
+-- Goals of `map_into`: the set becomes what the form in place of the coordinate x, from 0, makes of it.
 use Rattle.std.proofs.Common.{Result, Ok, Err, OnOk}
 use Rattle.lra_calc.proofs.making.map_into.Goals as goal
 

@@ -1,3 +1,5 @@
+-- Goals of `map_set`: the set mapped by the form, its constant first, in place of the coordinate of this number,
+-- from 1.
 use Rattle.std.proofs.Common.{arith, ◌≡◌, ◌-◌, ℕ, suc, subst}
 use Rattle.lra_poly.specs.Rows.{form_row}
 use Rattle.lra_poly.specs.Outcomes.{IfFlagged}

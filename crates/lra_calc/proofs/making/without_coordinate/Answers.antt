@@ -1,3 +1,4 @@
+-- Goals of `without_coordinate`: the set with any value of the coordinate of this number, from 1.
 use Rattle.std.proofs.Common.{arith, ◌≡◌, ◌-◌, ℕ, suc, subst}
 use Rattle.lra_linear.specs.Descriptions.{Con as points_of}
 use Rattle.lra_linear.specs.SetOperations as sets

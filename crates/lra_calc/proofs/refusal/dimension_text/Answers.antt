@@ -1,3 +1,4 @@
+-- Goals of `dimension_text`.
 use Rattle.std.proofs.Common.{append_assoc}
 use Rattle.lra_calc.proofs.refusal.dimension_text.Goals as goal
 

@@ -1,3 +1,4 @@
+-- Goals of `push_line`.
 use Rattle.std.proofs.Common.{append_assoc}
 use Rattle.lra_calc.proofs.refusal.push_line.Goals as goal
 

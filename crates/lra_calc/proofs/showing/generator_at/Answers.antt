@@ -1,3 +1,4 @@
+-- Goals of `generator_at`: the text of the generator at a place, from 0.
 use Rattle.std.proofs.Common.{rules, ◌<◌, length, string_bytes}
 use Rattle.lra_calc.proofs.ShownLemmas.{row_there, kind_there, fits_there, generator_told}
 use Rattle.lra_calc.proofs.showing.generator_at.Goals as goal

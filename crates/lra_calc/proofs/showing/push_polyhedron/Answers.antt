@@ -1,3 +1,5 @@
+-- Goals of `push_polyhedron`: appends the lines of the constraints and of the generators, in their orders; or one
+-- that says that there is no point.
 use Rattle.std.proofs.Common.{string_bytes}
 use Rattle.lra_calc.proofs.ShownLemmas.{written, some_rows}
 use Rattle.lra_calc.proofs.showing.push_polyhedron.Goals as goal

@@ -1,3 +1,4 @@
+-- Goals of `variables`: the names `x1`, `x2` and on, n of them.
 use Rattle.std.proofs.Common.{arith, ◌∙◌}
 use Rattle.lra_calc.proofs.ShownLemmas.{one_more}
 use Rattle.lra_calc.proofs.showing.variables.Goals as goal

@@ -1,3 +1,5 @@
+-- Goals of `limit`: the first set widened by the second, with those of the given constraints that are valid on
+-- both.
 use Rattle.std.proofs.Common.{List, map, subst, Ok}
 use Rattle.lra_linear.specs.Descriptions.{Given}
 use Rattle.lra_linear.specs.OperationStrain.{LimitedStrains}

@@ -1,3 +1,4 @@
+-- Goals of `widen`: the first set widened by the second.
 use Rattle.lra_linear.specs.OperationStrain.{StandardStrains}
 use Rattle.lra_linear.specs.Widening.{Standard}
 use Rattle.lra_calc.specs.MadeSets.{IsWidened}

@@ -1,3 +1,4 @@
+-- Goals of `first_back`: the place of the first of these calls that comes back to the function at a place.
 use Rattle.std.proofs.Common.{length, refl}
 use Rattle.std.proofs.lemmas.Option.{slice_get_read}
 use Rattle.lra_calls.proofs.Reaching.{back_found}

@@ -1,3 +1,5 @@
+-- Goals of `first_recursive`: the place of the first call, in text order, whose callee reaches the function that
+-- holds it.
 use Rattle.std.proofs.Common.{map, length, refl, sym, ap, ◌∙◌}
 use Rattle.std.proofs.lemmas.Option.{slice_get_read, MatchOption-at_none, MatchOption-at_some}
 use Rattle.lra_tree.specs.Views.{part_view, tree_view}

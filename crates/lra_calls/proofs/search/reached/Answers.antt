@@ -1,3 +1,4 @@
+-- Goals of `reached`: for each place whether it is come to.
 use Rattle.std.proofs.Common.{map, length, arith, rules, refl, sym, ap, ◌∙◌, Some, ◌≡◌, ◌<◌}
 use Rattle.std.proofs.lemmas.List.{length-map}
 use Rattle.std.proofs.lemmas.Option.{slice_get_read}

@@ -1,3 +1,4 @@
+-- Goals of `cleared`: the rows with 0 at the line's pivot.
 use Rattle.std.proofs.Common.{arith, List, ℤ, subst}
 use Rattle.lra_canon.specs.Reduced.{IsCleared, IsClearingExcess}
 use Rattle.std.proofs.lemmas.Result.{err_from_is_err_and}

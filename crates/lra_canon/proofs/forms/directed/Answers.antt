@@ -1,3 +1,4 @@
+-- Goals of `directed`: the row or its negative, whichever is positive at its pivot; none of a row of zeros.
 use Rattle.std.proofs.Common.{FitsSigned}
 use Rattle.std.specs.Int.{w128}
 use Rattle.std.proofs.lemmas.Int.{to_z-of_z, fits_signed_from_abs}

@@ -1,3 +1,4 @@
+-- Goals of `extended`: the form extended by the row.
 use Rattle.std.proofs.lemmas.Result.{IfOk-weaker, IfErr-weaker}
 use Rattle.lra_canon.specs.Echelons.{IsInserted, IsInsertionExcess, IsExtended, IsExtensionExcess}
 use Rattle.lra_canon.proofs.EchelonSteps.{directed_at, width_same, extended_ok, extended_excess}

@@ -1,3 +1,4 @@
+-- Goals of `canonical_order`: puts the rows in order.
 use Rattle.std.proofs.Common.{rules}
 use Rattle.lra_canon.specs.Ordered.{cmp_by}
 use Rattle.lra_canon.proofs.Orders.{sorted_by, one_order, cmp_by_total}

@@ -1,3 +1,4 @@
+-- Goals of `clear`: the row with 0 at the line's pivot.
 use Rattle.std.proofs.Common.{inl, inr, rules, FitsSigned}
 use Rattle.std.specs.Int.{w128}
 use Rattle.std.proofs.lemmas.Int.{to_z-of_z, fits_signed_from_abs}

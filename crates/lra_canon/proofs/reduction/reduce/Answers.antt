@@ -1,3 +1,4 @@
+-- Goals of `reduce`: clears the row at the pivot of each row of the echelon form and takes it in lowest terms.
 use Rattle.lra_canon.proofs.Solutions.{reduced_same, one_reduced}
 use Rattle.lra_canon.proofs.reduction.reduce.Goals as goal
 

@@ -1,3 +1,4 @@
+-- Goals of `reduced`: the row reduced by the form.
 use Rattle.std.proofs.Common.{◌≡◌, length, rules, arith}
 use Rattle.std.proofs.lemmas.Result.{err_from_is_err_and}
 use Rattle.lra_canon.proofs.Chains.{partly_more, partly_first, partly_end, partly_chain}

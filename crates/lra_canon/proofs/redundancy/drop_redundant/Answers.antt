@@ -1,3 +1,4 @@
+-- Goals of `drop_redundant`: takes out the redundant inequalities, and their rows of the matrix.
 use Rattle.std.proofs.Common.{List, ℤ, length, subst}
 use Rattle.lra_canon.specs.Irredundant.{AreMarks}
 use Rattle.lra_canon.proofs.Irredundant.{marks_end}

@@ -1,3 +1,4 @@
+-- Goals of `redundant`: marks the rows that are covered by a row that isn't marked, one after the other.
 use Rattle.std.proofs.Common.{arith, sym, ◌∙◌, true≢false}
 use Rattle.lra_canon.proofs.Irredundant.{marks_start, marks_more, marks_stay}
 use Rattle.lra_canon.proofs.redundancy.redundant.Goals as goal

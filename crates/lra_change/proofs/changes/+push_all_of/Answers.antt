@@ -1,3 +1,4 @@
+-- Goals of the functions that call each other around `push_all_of`: `returns`.
 use Rattle.std.proofs.Common.{rules, ◌≡◌, ◌∷◌, map, suc}
 use Rattle.lra_program.specs.ProgramViews.{expr_view}
 use Rattle.lra_flow.specs.Linear.{form_of}

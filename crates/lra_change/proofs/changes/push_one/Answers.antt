@@ -1,3 +1,4 @@
+-- Goals of `push_one`: a new variable, with the value of an argument.
 use Rattle.std.proofs.Common.{arith}
 use Rattle.lra_program.specs.ProgramViews.{expr_view}
 use Rattle.lra_change.proofs.ChangeSteps.{done_append}

@@ -1,3 +1,4 @@
+-- Goals of `set`: the variable at the place gets the expression's value.
 use Rattle.lra_program.specs.ProgramViews.{expr_view}
 use Rattle.lra_change.proofs.ChangeSteps.{form_there}
 use Rattle.lra_change.proofs.changes.set.Goals as goal

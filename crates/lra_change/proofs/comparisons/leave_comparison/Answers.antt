@@ -1,3 +1,4 @@
+-- Goals of `leave_comparison`: what a comparison leaves of the value; all of it where the difference isn't linear.
 use Rattle.std.proofs.Common.{◌≡◌, Some, sym}
 use Rattle.lra_program.specs.ProgramViews.{expr_view}
 use Rattle.lra_flow.specs.Linear.{difference_form}

@@ -1,3 +1,4 @@
+-- Goals of `leave_differs`: what `<` or `>` leaves of the value.
 use Rattle.std.proofs.Common.{refl, sym, ◌∙◌}
 use Rattle.lra_change.proofs.comparisons.leave_differs.Goals as goal
 

@@ -1,3 +1,4 @@
+-- Goals of the functions that call each other around `append_globals`: `returns`.
 use Rattle.std.proofs.Common.{rules, ◌≡◌, ◌∷◌}
 use Rattle.lra_change.proofs.GlobalSteps.{appended_all}
 use Rattle.lra_change.proofs.globals.+append_globals.Goals as goal

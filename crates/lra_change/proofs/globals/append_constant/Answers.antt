@@ -1,3 +1,4 @@
+-- Goals of `append_constant`: a new variable, with this value.
 use Rattle.std.proofs.Common.{◌+◌, arith}
 use Rattle.lra_change.proofs.GlobalSteps.{constant_wide, appended}
 use Rattle.lra_change.proofs.globals.append_constant.Goals as goal

@@ -1,3 +1,4 @@
+-- Goals of the functions that call each other around `split`: `split`, `split_all`, `split_any`.
 use Rattle.std.proofs.Common.{rules, ◌≡◌, ◌∷◌, map}
 use Rattle.lra_program.specs.ProgramViews.{cond_view}
 use Rattle.lra_forms.proofs.CondSteps.{all_view, any_view, all_true, any_false, all_false, any_true}

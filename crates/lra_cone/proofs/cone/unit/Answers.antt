@@ -1,3 +1,4 @@
+-- Goals of `unit`: the row of n + 1 columns with 1 in this column and 0 elsewhere.
 use Rattle.std.proofs.Common.{◌∙◌, ap, pos, slice_set, List, ℤ}
 use Rattle.lra_cone.proofs.WholeSpace.{zeros_more}
 use Rattle.lra_cone.proofs.cone.unit.Goals as goal

@@ -1,3 +1,4 @@
+-- Goals of `take_rows`: takes the rows into the cone in their order.
 use Rattle.std.proofs.Common.{◌∙◌, arith}
 use Rattle.lra_sys.specs.Listed.{constraints}
 use Rattle.lra_linear.specs.Kinds.{is_equality}

@@ -1,3 +1,4 @@
+-- Goals of `flat_lines`: the lines.
 use Rattle.lra_cone.proofs.Flattening.{flat_lines_are}
 use Rattle.lra_cone.proofs.line_step.flat_lines.Goals as goal
 

@@ -1,3 +1,4 @@
+-- Goals of `flattened`: the row combined with the line so that its product is 0, in lowest terms.
 use Rattle.std.proofs.Common.{rules, FitsSigned, subst, List, ℤ}
 use Rattle.std.specs.Int.{w128}
 use Rattle.std.proofs.lemmas.Int.{to_z-of_z}

@@ -1,3 +1,4 @@
+-- Goals of `push_flattened`: each row combined with the line, behind what is there.
 use Rattle.std.proofs.Common.{arith, ◌<◌, length, rules, FitsSigned, subst, get_or, pos, List, ℤ, []}
 use Rattle.std.specs.Int.{w128}
 use Rattle.std.proofs.lemmas.Int.{to_z-of_z}

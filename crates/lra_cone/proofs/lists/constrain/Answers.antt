@@ -1,3 +1,4 @@
+-- Goals of `constrain`: the constraints of the generators, and the generators that were not taken in.
 use Rattle.std.proofs.Common.{◌≡◌, ◌∙◌, ap, sym, subst, length, List, ℕ, ◌∷◌, []}
 use Rattle.std.specs.List.{Contains}
 use Rattle.lra_linear.specs.OperationStrain.{unit_row}

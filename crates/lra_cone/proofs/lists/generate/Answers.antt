@@ -1,3 +1,4 @@
+-- Goals of `generate`: the rows kept, their points, rays and lines, and the rows left out.
 use Rattle.std.proofs.Common.{◌∙◌, ap, sym, suc}
 use Rattle.lra_sys.specs.Listed.{constraints, generators}
 use Rattle.lra_cone.proofs.GeneratorLists.{generated, same_points}

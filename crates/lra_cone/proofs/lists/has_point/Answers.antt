@@ -1,3 +1,4 @@
+-- Goals of `has_point`: whether there is a point among the kinds.
 use Rattle.std.proofs.Common.{arith}
 use Rattle.lra_cone.proofs.ConstraintLists.{no_point_found}
 use Rattle.lra_cone.proofs.lists.has_point.Goals as goal

@@ -1,3 +1,4 @@
+-- Goals of `is_valid`: whether the product of the row with each of these is in the range and as both kinds ask.
 use Rattle.std.proofs.Common.{rules, FitsSigned, arith}
 use Rattle.std.specs.Int.{w128}
 use Rattle.std.proofs.lemmas.Int.{to_z-of_z}

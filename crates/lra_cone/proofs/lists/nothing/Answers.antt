@@ -1,3 +1,4 @@
+-- Goals of `nothing`: the one row -1 >= 0, which holds at no point.
 use Rattle.std.proofs.Common.{ap, sym, ◌∙◌, length, suc}
 use Rattle.lra_linear.proofs.Products.{negated_length}
 use Rattle.lra_cone.proofs.WholeSpace.{unit_length}

@@ -1,3 +1,4 @@
+-- Goals of `positive_cone`: the cone of the points of n dimensions.
 use Rattle.std.proofs.Common.{ap, sym, ◌∙◌, length, suc}
 use Rattle.lra_cone.specs.Cones.{Shape}
 use Rattle.lra_cone.proofs.WholeSpace.{unit_length}

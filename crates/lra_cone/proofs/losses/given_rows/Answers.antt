@@ -1,3 +1,4 @@
+-- Goals of `given_rows`: the rows of the list.
 use Rattle.std.proofs.Common.{arith}
 use Rattle.lra_linear.specs.Kinds.{is_equality}
 use Rattle.lra_cone.proofs.RowsTaken.{given_pushed}

@@ -1,3 +1,4 @@
+-- Goals of `adjacent_pairs`: the adjacent pairs of rays on both sides.
 use Rattle.std.proofs.Common.{rules, FitsSigned, get_or, pos}
 use Rattle.std.specs.Int.{w128}
 use Rattle.std.proofs.lemmas.Int.{to_z-of_z}

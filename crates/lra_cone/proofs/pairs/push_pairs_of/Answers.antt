@@ -1,3 +1,4 @@
+-- Goals of `push_pairs_of`: the adjacent pairs with the first ray at `up`, behind what is there.
 use Rattle.std.proofs.Common.{arith, rules, refl, FitsSigned, get_or, pos}
 use Rattle.std.specs.Int.{w128}
 use Rattle.std.proofs.lemmas.Int.{to_z-of_z}

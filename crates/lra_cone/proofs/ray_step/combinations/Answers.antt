@@ -1,3 +1,4 @@
+-- Goals of `combinations`: a ray for each pair.
 use Rattle.std.proofs.Common.{arith}
 use Rattle.lra_cone.proofs.PairLists.{combined_more, pair_error}
 use Rattle.lra_cone.proofs.ray_step.combinations.Goals as goal

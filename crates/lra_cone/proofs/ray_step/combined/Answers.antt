@@ -1,3 +1,4 @@
+-- Goals of `combined`: the two rays combined so that the product is 0, in lowest terms.
 use Rattle.std.proofs.Common.{ap, sym, ◌∙◌, length, List, ℤ, []}
 use Rattle.lra_cone.proofs.Flattening.{at_place}
 use Rattle.lra_cone.proofs.ray_step.combined.Goals as goal

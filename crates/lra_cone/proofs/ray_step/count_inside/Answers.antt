@@ -1,3 +1,4 @@
+-- Goals of `count_inside`: how many products are as the kind asks.
 use Rattle.std.proofs.Common.{rules, FitsSigned, get_or, pos, ap, sym, ◌∙◌, cond, ◌+◌, Bool}
 use Rattle.std.specs.Int.{w128}
 use Rattle.std.proofs.lemmas.Int.{to_z-of_z}

@@ -1,3 +1,4 @@
+-- Goals of `cut_rays`: takes the row with these products in.
 use Rattle.std.proofs.Common.{arith, sym, length, ◌≡◌}
 use Rattle.std.proofs.lemmas.Grind.{common_steps}
 use Rattle.lra_linear.specs.Kinds.{is_equality}

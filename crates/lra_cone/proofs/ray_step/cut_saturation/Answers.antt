@@ -1,3 +1,4 @@
+-- Goals of `cut_saturation`: the matrix of the new rays.
 use Rattle.std.proofs.Common.{arith, refl, ℕ, [], sym, ◌∙◌, ap, ◌≡◌, ◌++◌, suc, ◌+◌}
 use Rattle.lra_bits.specs.Matrix.{Matrix, unmarked}
 use Rattle.lra_cone.specs.Steps.{lengthened_rows}

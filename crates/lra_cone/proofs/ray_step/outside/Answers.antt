@@ -1,3 +1,5 @@
+-- Goals of `outside`: marks the rays whose product isn't as the kind asks; so many further places behind them are
+-- not marked.
 use Rattle.std.proofs.Common.{rules, arith, FitsSigned, get_or, pos}
 use Rattle.std.specs.Int.{w128}
 use Rattle.std.proofs.lemmas.Int.{to_z-of_z}

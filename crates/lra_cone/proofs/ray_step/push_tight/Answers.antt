@@ -1,3 +1,4 @@
+-- Goals of `push_tight`: for each pair the rows that are tight at both, and the new row, behind what is there.
 use Rattle.std.proofs.Common.{arith}
 use Rattle.lra_cone.proofs.PairLists.{tight_step}
 use Rattle.lra_cone.proofs.ray_step.push_tight.Goals as goal

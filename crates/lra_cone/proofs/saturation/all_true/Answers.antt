@@ -1,3 +1,4 @@
+-- Goals of `all_true`: so many truth values, all true.
 use Rattle.std.proofs.Common.{arith}
 use Rattle.lra_cone.proofs.Filling.{filled_true}
 use Rattle.lra_cone.proofs.saturation.all_true.Goals as goal

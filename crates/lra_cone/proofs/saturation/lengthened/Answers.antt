@@ -1,3 +1,4 @@
+-- Goals of `lengthened`: the values, and one more behind them.
 use Rattle.std.proofs.Common.{arith}
 use Rattle.lra_cone.proofs.Filling.{filled_longer}
 use Rattle.lra_cone.proofs.saturation.lengthened.Goals as goal

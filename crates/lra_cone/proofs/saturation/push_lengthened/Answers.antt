@@ -1,3 +1,4 @@
+-- Goals of `push_lengthened`: each row of the matrix with one more value, behind what is there.
 use Rattle.std.proofs.Common.{arith}
 use Rattle.lra_cone.proofs.Filling.{lengthened_step}
 use Rattle.lra_cone.proofs.saturation.push_lengthened.Goals as goal

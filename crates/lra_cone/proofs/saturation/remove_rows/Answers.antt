@@ -1,3 +1,4 @@
+-- Goals of `remove_rows`: takes out the rows that are marked as gone; the others keep their order.
 use Rattle.std.proofs.Common.{List, [], ℤ, length, sym, ◌∙◌, arith, ◌<◌, ◌≡◌}
 use Rattle.std.specs.Vec.{vec_len}
 use Rattle.std.proofs.lemmas.Grind.{common_steps}

@@ -1,3 +1,4 @@
+-- Goals of `tight`: true where the product is 0.
 use Rattle.std.proofs.Common.{arith}
 use Rattle.lra_cone.proofs.Filling.{filled_tight}
 use Rattle.lra_cone.proofs.saturation.tight.Goals as goal

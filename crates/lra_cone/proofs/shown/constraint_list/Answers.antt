@@ -1,3 +1,4 @@
+-- Goals of `constraint_list`: the lines as equalities, then the rays but this one, in order, as inequalities.
 use Rattle.std.proofs.Common.{◌≡◌, ◌∙◌, sym, subst, suc, length, List, ℤ, ℕ}
 use Rattle.std.specs.List.{All}
 use Rattle.std.specs.List.Sorted.{IsPermutation}

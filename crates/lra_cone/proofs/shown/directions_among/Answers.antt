@@ -1,3 +1,4 @@
+-- Goals of `directions_among`: the other rays.
 use Rattle.std.proofs.Common.{◌∙◌, ap, arith, sym, cond, Bool, [], ◌∷◌}
 use Rattle.lra_cone.specs.Conversions.{directions_of}
 use Rattle.lra_cone.proofs.Reordered.{directions_append, one_kept, one_left}

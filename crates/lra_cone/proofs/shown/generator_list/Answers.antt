@@ -1,3 +1,5 @@
+-- Goals of `generator_list`: the points, rays and lines, each in order, of a cone of n + 1 columns with these lines
+-- and rays; none where no ray is above 0 in column 0.
 use Rattle.std.proofs.Common.{arith, rules, ◌≡◌, ◌≢◌, ◌∙◌, ap, sym, subst, suc, length, List, ℤ, [], inl, inr, ℕ, ◌++◌, replicate}
 use Rattle.std.specs.List.{All}
 use Rattle.std.proofs.lemmas.Grind.{common_steps}

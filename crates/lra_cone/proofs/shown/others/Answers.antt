@@ -1,3 +1,4 @@
+-- Goals of `others`: the rows other than this one.
 use Rattle.std.proofs.Common.{◌∙◌, ap, arith, sym, cond, Bool, [], ◌∷◌}
 use Rattle.lra_cone.specs.Conversions.{without}
 use Rattle.lra_cone.proofs.Reordered.{without_append, one_kept, one_left}

@@ -1,3 +1,4 @@
+-- Goals of `points_among`: the rays above 0 in column 0.
 use Rattle.std.proofs.Common.{◌∙◌, ap, arith, sym, cond, Bool, [], ◌∷◌}
 use Rattle.lra_cone.specs.Conversions.{points_of}
 use Rattle.lra_cone.proofs.Reordered.{points_append, one_kept, one_left}

@@ -1,3 +1,4 @@
+-- Goals of `clear`: all entries of variable `x` become infinite, those of the diagonal apart.
 use Rattle.lra_dbm.proofs.Clears.{forgotten_matrix}
 use Rattle.lra_dbm.proofs.clearing.clear.Goals as goal
 

@@ -1,3 +1,4 @@
+-- Goals of `clear_row`: all entries of row `i` and their twins become infinite, those of the diagonal apart.
 use Rattle.std.proofs.Common.{subst, sym, ◌∙◌, ◌+◌}
 use Rattle.lra_dbm.specs.Cells.{Cells, entries}
 use Rattle.lra_dbm.specs.Clearing.{RowCleared}

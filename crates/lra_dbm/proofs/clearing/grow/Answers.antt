@@ -1,3 +1,4 @@
+-- Goals of `grow`: `k` variables with no bounds come last.
 use Rattle.std.proofs.Common.{subst, sym, ◌≡◌, ◌+◌, ◌∙◌, ap}
 use Rattle.lra_dbm.specs.Cells.{Cells, size, entries, IsMatrix}
 use Rattle.lra_dbm.specs.Clearing.{Settled}

@@ -1,3 +1,4 @@
+-- Goals of `settle`: the diagonal of the variables from `from` on becomes 0.
 use Rattle.std.proofs.Common.{subst, sym, rules, ◌+◌}
 use Rattle.lra_dbm.specs.Cells.{Cells}
 use Rattle.lra_dbm.specs.Clearing.{Settled}

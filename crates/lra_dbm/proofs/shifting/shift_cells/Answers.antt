@@ -1,3 +1,4 @@
+-- Goals of `shift_cells`: the entries become those that the shift gives; whether a number of them passes the range.
 use Rattle.std.proofs.Common.{◌*◌, ap, sym, ◌∙◌, subst}
 use Rattle.std.specs.Prelude.{◌||◌}
 use Rattle.lra_dbm.specs.Cells.{Cells, entries}

@@ -1,3 +1,5 @@
+-- Goals of `shift_row`: row `i` and its twins become those that the shift gives; whether a number of them passes
+-- the range.
 use Rattle.std.proofs.Common.{rules, subst, sym, ap, ◌≡◌, ◌+◌, ◌∙◌}
 use Rattle.std.specs.Prelude.{◌||◌}
 use Rattle.lra_dbm.specs.Cells.{Cells, entries}

@@ -1,3 +1,4 @@
+-- Goals of `close`: closes the matrix in place.
 use Rattle.lra_dbm.proofs.Closes.{matrix_by}
 use Rattle.lra_dbm.proofs.steps.close.Goals as goal
 

@@ -1,3 +1,5 @@
+-- Goals of `write_whole`: writes all bytes, or only the first of them up to a write that fails, which is the last
+-- one.
 use Rattle.std.proofs.Common.{arith, refl}
 use Rattle.std.proofs.KnownBytes.{Appends-nil}
 use Rattle.lra_edge.specs.Calls.{none}

@@ -1,3 +1,4 @@
+-- Goals of `read_whole`: reads to the end of the input, or one byte past the limit.
 use Rattle.std.proofs.Common.{◌≡◌, ◌∙◌, ◌+◌, ◌-◌, ◌≤◌, length, vec_len, arith}
 use Rattle.std.proofs.lemmas.Grind.{common_steps}
 use Rattle.lra_edge.specs.Calls.{one_more}

@@ -1,3 +1,4 @@
+-- Goals of `faultless_are_well_formed`: the program of a source without faults of names is well-formed.
 use Rattle.lra_formed.proofs.Whole.{well_formed}
 use Rattle.lra_formed.proofs.Spelled.{spelled_are_small}
 use Rattle.lra_formed.proofs.laws.faultless_are_well_formed.Goals as goal

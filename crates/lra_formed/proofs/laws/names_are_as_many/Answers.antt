@@ -1,3 +1,4 @@
+-- Goals of `names_are_as_many`: at each point of a source as many names are printed as variables live there.
 use Rattle.lra_formed.proofs.Named.{names_as_many, shown_as_many}
 use Rattle.lra_formed.proofs.laws.names_are_as_many.Goals as goal
 

@@ -1,3 +1,4 @@
+-- Goals of `difference_of`: the form of the left side minus the right one.
 use Rattle.lra_program.specs.ProgramViews.{expr_view}
 use Rattle.lra_forms.proofs.CondSteps.{difference_is}
 use Rattle.lra_forms.proofs.comparisons.difference_of.Goals as goal

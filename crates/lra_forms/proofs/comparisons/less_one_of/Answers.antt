@@ -1,3 +1,4 @@
+-- Goals of `less_one_of`: the form minus one, where all its numbers have 64 bits.
 use Rattle.std.proofs.Common.{rules, ◌≡◌, pos, length}
 use Rattle.lra_flow.specs.Linear.{constant_form}
 use Rattle.lra_forms.proofs.CondSteps.{less_one_is}

@@ -1,3 +1,4 @@
+-- Goals of `opposite_form_of`: minus the form, minus one, where all its numbers have 64 bits.
 use Rattle.std.proofs.Common.{rules, ◌≡◌, negsuc, length}
 use Rattle.lra_flow.specs.Linear.{constant_form}
 use Rattle.lra_forms.proofs.CondSteps.{opposite_is}

@@ -1,3 +1,5 @@
+-- Goals of `test_of`: the test of a comparison whose left side minus its right one is `d`; none of `!=`, nor where
+-- a number passes 64 bits.
 use Rattle.lra_forms.proofs.comparisons.test_of.Goals as goal
 
 pub returns-in_ok-form-in-Below : goal.returns-in_ok-form-in-Below

@@ -1,3 +1,4 @@
+-- Goals of the functions that call each other around `form`: `form_of_chain`, `form_of_expression`.
 use Rattle.std.proofs.Common.{rules, ◌≡◌, Some, None, map, sym}
 use Rattle.lra_program.specs.ProgramViews.{chained, expr_view, operation_view}
 use Rattle.lra_program.specs.declared.program.Expr.{the_lemmas}

@@ -1,3 +1,4 @@
+-- Goals of `product_entries`: the products with `factor`, where all have 64 bits.
 use Rattle.std.proofs.Common.{rules, ◌≡◌, ◌++◌, [], ◌∷◌, Some, map}
 use Rattle.std.specs.Prelude.{◌*ℤ◌}
 use Rattle.lra_program.specs.Value.{word}

@@ -1,3 +1,4 @@
+-- Goals of `sum_entries`: the sums or differences place by place, where all have 64 bits.
 use Rattle.std.proofs.Common.{rules, ◌≡◌, ◌++◌, [], ◌∷◌, Some}
 use Rattle.lra_program.specs.Value.{word}
 use Rattle.lra_flow.specs.Linear.{entrywise}

@@ -1,3 +1,4 @@
+-- Goals of the functions that call each other around `give`: `give`.
 use Rattle.std.proofs.Common.{map}
 use Rattle.lra_program.specs.ProgramViews.{cond_view}
 use Rattle.lra_forms.proofs.CondSteps.{all_view, any_view}

@@ -1,3 +1,4 @@
+-- Goals of `give_comparison`: the rows of a comparison; none where its difference isn't linear.
 use Rattle.lra_program.specs.ProgramViews.{expr_view}
 use Rattle.lra_forms.proofs.CondSteps.{difference_wide, difference_there}
 use Rattle.std.proofs.Common.{sym}

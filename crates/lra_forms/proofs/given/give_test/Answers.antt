@@ -1,3 +1,4 @@
+-- Goals of `give_test`: the rows of a test `e >= 0`.
 use Rattle.std.proofs.Common.{◌∙◌, ap, suc, sym}
 use Rattle.lra_forms.proofs.GivenSteps.{test_wide}
 use Rattle.lra_forms.proofs.given.give_test.Goals as goal

@@ -1,3 +1,4 @@
+-- Goals of `opposite_row_of`: the row `-form >= 0`.
 use Rattle.std.proofs.Common.{rules, map, ◌≡◌, [], ◌∷◌, ◌++◌, ◌∙◌, append_assoc}
 use Rattle.std.specs.Prelude.{neg_ℤ}
 use Rattle.lra_linear.specs.Range.{InRange}

@@ -1,3 +1,4 @@
+-- Goals of `row_of_form`: the row `form + more >= 0`, where `more` is 0 or 1.
 use Rattle.std.proofs.Common.{rules, ◌≡◌, [], ◌∷◌, ◌++◌, ◌∙◌, append_assoc}
 use Rattle.lra_linear.specs.Range.{InRange}
 use Rattle.std.proofs.lemmas.List.Elements.{All-push}

@@ -259,14 +259,15 @@ inline_call-returns-in_err-end-clause-limit t c =
     c.deref.ensures.value ∙ sym (shown_items c.index-function.result.now.body)) (points_in c.inline_items.new.sites) c.in_ok-body.last x c.in_ok-body.ensures.last
     c.in_ok-body.ensures.written.walked h) c.in_err-end.ensures.limit
 
-pub inline_call-called-requires : goal.inline_call-called-requires
-inline_call-called-requires t c = let here = c.args.around.now in arguments_fit here.frame.live c.len-parameters.result c.args.call.now c.len-parameters.ensures c.requires.few
+pub inline_call-enclose_call-requires : goal.inline_call-enclose_call-requires
+inline_call-enclose_call-requires t c = let here = c.args.around.now in arguments_fit here.frame.live c.len-parameters.result c.args.call.now c.len-parameters.ensures c.requires.few
 
-pub inline_call-returns-in_err-called-clause-written : goal.inline_call-returns-in_err-called-clause-written
-inline_call-returns-in_err-called-clause-written t c = err_ok c.from_residual-in_err-called.result _ (err_from_is_err_and c.from_residual-in_err-called.result c.from_residual-in_err-called.ensures.1)
+pub inline_call-returns-in_err-enclose_call-clause-written : goal.inline_call-returns-in_err-enclose_call-clause-written
+inline_call-returns-in_err-enclose_call-clause-written t c =
+    err_ok c.from_residual-in_err-enclose_call.result _ (err_from_is_err_and c.from_residual-in_err-enclose_call.result c.from_residual-in_err-enclose_call.ensures.1)
 
-pub inline_call-returns-in_err-called-clause-limit : goal.inline_call-returns-in_err-called-clause-limit
-inline_call-returns-in_err-called-clause-limit t c = err_memory c.from_residual-in_err-called.result _ c.from_residual-in_err-called.ensures.1
+pub inline_call-returns-in_err-enclose_call-clause-limit : goal.inline_call-returns-in_err-enclose_call-clause-limit
+inline_call-returns-in_err-enclose_call-clause-limit t c = err_memory c.from_residual-in_err-enclose_call.result _ c.from_residual-in_err-enclose_call.ensures.1
 
 pub inline_call-returns-clause-written : goal.inline_call-returns-clause-written
 inline_call-returns-clause-written t c =
@@ -277,7 +278,7 @@ inline_call-returns-clause-written t c =
     c.args.call.now c.requires.stands c.index-function.result.now c.index-function.ensures c.len-parameters.result c.len-parameters.ensures) (ap (λ z. items_of (map item_view z))
     c.deref.ensures.value ∙ sym (shown_items c.index-function.result.now.body)) _ _ c.args.point c.in_ok-end.end c.in_ok-body.last _ _ (called_fits here.program.now here.frame
     c.args.call.now c.requires.stands c.index-function.result.now c.index-function.ensures) c.in_ok-body.ensures.written c.in_ok-body.ensures.last c.in_ok-end.ensures.number
-    c.in_ok-end.ensures.walked (rw c.deref-2.ensures.value at c.in_ok-called.ensures)
+    c.in_ok-end.ensures.walked (rw c.deref-2.ensures.value at c.in_ok-enclose_call.ensures)
 
 pub inline_declared-overflow_add-frame : goal.inline_declared-overflow_add-frame
 inline_declared-overflow_add-frame t c = let h = c.requires.few in record { fits = omega arith }

@@ -1,3 +1,4 @@
+-- Goals of `assertion`: an assertion.
 use Rattle.std.proofs.Common.{◌∙◌, ap}
 use Rattle.lra_operations.specs.Graph.{Node, seq, point, check}
 use Rattle.lra_graph.proofs.Shown.{shown_check}

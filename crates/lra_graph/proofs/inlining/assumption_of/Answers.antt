@@ -1,3 +1,4 @@
+-- Goals of `assumption_of`: an assumption.
 use Rattle.std.proofs.Common.{◌∙◌, ap, true}
 use Rattle.lra_program.specs.Step.{test}
 use Rattle.lra_operations.specs.Graph.{Node, seq, point, act}

@@ -1,3 +1,4 @@
+-- Goals of `leave_loop`: out of a loop, or on to its next round.
 use Rattle.lra_graph.proofs.Writing.{leaves_written}
 use Rattle.lra_graph.proofs.inlining.leave_loop.Goals as goal
 

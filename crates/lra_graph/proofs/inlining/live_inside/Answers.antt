@@ -1,3 +1,4 @@
+-- Goals of `live_inside`: how many variables live behind the items, where the number fits.
 use Rattle.std.proofs.Common.{◌∙◌}
 use Rattle.lra_graph.proofs.LiveInside.{declared_behind, stated_behind, none_behind, beyond}
 use Rattle.lra_graph.proofs.inlining.live_inside.Goals as goal

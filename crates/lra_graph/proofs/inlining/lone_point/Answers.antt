@@ -1,3 +1,4 @@
+-- Goals of `lone_point`: nothing but a point.
 use Rattle.std.proofs.Common.{refl}
 use Rattle.lra_graph.proofs.Shown.{shown_point}
 use Rattle.lra_graph.proofs.Writing.{stmt_as, nothing_written}

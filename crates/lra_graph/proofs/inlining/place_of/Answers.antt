@@ -1,3 +1,4 @@
+-- Goals of `place_of`: where a variable stands in the store.
 use Rattle.std.proofs.Common.{refl}
 use Rattle.lra_graph.proofs.inlining.place_of.Goals as goal
 

@@ -1,3 +1,4 @@
+-- Goals of `catch_continues`: `continue` comes out here.
 use Rattle.std.proofs.Common.{ap, ◌∙◌}
 use Rattle.lra_operations.specs.Graph.{continued}
 use Rattle.lra_flow.specs.Operations.{dropping}

@@ -1,3 +1,4 @@
+-- Goals of `catch_returns`: `return` comes out here.
 use Rattle.std.proofs.Common.{rules, ◌≡◌, ◌++◌, ◌∷◌, [], ap, ◌∙◌}
 use Rattle.lra_operations.specs.Graph.{returned}
 use Rattle.lra_flow.specs.Operations.{dropping}

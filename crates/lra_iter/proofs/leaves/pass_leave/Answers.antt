@@ -1,3 +1,4 @@
+-- Goals of `pass_leave`: a jump.
 use Rattle.lra_operations.specs.GraphViews.{exit_view}
 use Rattle.lra_iter.specs.Outcome.{seen}
 use Rattle.lra_iter.proofs.PassSteps.{jump_fits, jump_dims}

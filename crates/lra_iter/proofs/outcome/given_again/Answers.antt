@@ -1,3 +1,4 @@
+-- Goals of `given_again`: the kept turn of a loop's body, where the same value enters it again.
 use Rattle.std.proofs.Common.{rules, ◌≡◌}
 use Rattle.lra_iter.proofs.Again.{same_given}
 use Rattle.lra_iter.proofs.outcome.given_again.Goals as goal

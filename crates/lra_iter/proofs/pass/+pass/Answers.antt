@@ -1,3 +1,5 @@
+-- Goals of the functions that call each other around `pass`: `round`, `grow`, `pass_loop`, `pass_choice`,
+-- `pass_row`, `pass`.
 use Rattle.std.proofs.Common.{rules, ◌≡◌, ◌≤◌, ◌-◌, ◌+◌, ◌^◌, suc, Some, map, refl, sym, ap, subst, ◌∙◌, arith}
 use Rattle.lra_domain.specs.declared.Included.TheVariants.{Yes}
 use Rattle.lra_domain.specs.Meaning.{Grew}

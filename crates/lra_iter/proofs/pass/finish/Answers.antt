@@ -1,3 +1,4 @@
+-- Goals of `finish`: the loop is left with the value at its head and its last round, and may be kept.
 use Rattle.lra_program.specs.ProgramViews.{cond_view}
 use Rattle.lra_iter.specs.Outcome.{seen}
 use Rattle.lra_iter.proofs.KeptLoops.{recall_later, left_later}

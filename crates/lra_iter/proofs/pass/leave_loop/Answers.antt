@@ -1,3 +1,5 @@
+-- Goals of `leave_loop`: the value at the head and what its round found, and behind it what that value leaves where
+-- the condition is false.
 use Rattle.std.proofs.Common.{ap, ◌∙◌}
 use Rattle.lra_iter.specs.Outcome.{headed, seen}
 use Rattle.lra_iter.proofs.pass.leave_loop.Goals as goal

@@ -1,3 +1,4 @@
+-- Goals of `meet_again`: both branches of a choice, whose ends are joined at this point.
 use Rattle.std.proofs.Common.{sym, ap, ◌∙◌}
 use Rattle.lra_flow.specs.Pass.{in_turn}
 use Rattle.lra_iter.specs.Outcome.{seen}

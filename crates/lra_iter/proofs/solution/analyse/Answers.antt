@@ -1,3 +1,5 @@
+-- Goals of `analyse`: the iteration over a program's tree of operations, from its global variables at their first
+-- values.
 use Rattle.std.proofs.Common.{◌≡◌, length, map, sym, subst, arith}
 use Rattle.std.specs.List.{All}
 use Rattle.std.proofs.lemmas.List.Elements.{All-nil}

@@ -1,3 +1,4 @@
+-- Goals of `solution_of`: what a pass found, in the order of the points.
 use Rattle.std.proofs.Common.{map, length, refl, sym}
 use Rattle.std.proofs.lemmas.List.{length-map}
 use Rattle.lra_operations.specs.GraphViews.{site_view}

@@ -1,3 +1,4 @@
+-- Goals of `numbered_in`: what the filled places hold, with the places' numbers.
 use Rattle.std.proofs.Common.{ap, ◌∙◌}
 use Rattle.std.proofs.Common.{Vec, Global, ℕ, Bool}
 use Rattle.lra_iter.proofs.Filling.{place_some, place_none}

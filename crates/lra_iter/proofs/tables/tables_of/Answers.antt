@@ -1,3 +1,4 @@
+-- Goals of `tables_of`: the entries at their numbers; an assertion is proved where its value is empty.
 use Rattle.std.proofs.Common.{◌≡◌, ◌<◌, length, arith, ◌∙◌}
 use Rattle.std.specs.Vec.{vec_len}
 use Rattle.std.proofs.lemmas.Grind.{common_steps}

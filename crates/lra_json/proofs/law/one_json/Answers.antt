@@ -1,3 +1,5 @@
+-- Goals of `one_json`: two reports of one source under one list of options that have the same JSON are the same
+-- report.
 use Rattle.lra_report.specs.View.{report_of}
 use Rattle.lra_json.proofs.OneJson.{one_source_json}
 use Rattle.lra_json.proofs.law.one_json.Goals as goal

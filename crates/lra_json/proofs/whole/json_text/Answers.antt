@@ -1,3 +1,4 @@
+-- Goals of `json_text`: the JSON of a report, ended by a line feed.
 use Rattle.std.proofs.Common.{◌∷◌, ◌++◌, [], ap, ◌∙◌}
 use Rattle.lra_report.specs.View.{report_of}
 use Rattle.lra_json.proofs.Floats.{written_without_floats}

@@ -1,3 +1,4 @@
+-- Goals of `comment`: how many bytes a comment at the front has.
 use Rattle.std.proofs.Common.{arith}
 use Rattle.lra_lex.proofs.GapLemmas.{line_gap, block_gap, no_close}
 use Rattle.lra_lex.proofs.gaps.comment.Goals as goal

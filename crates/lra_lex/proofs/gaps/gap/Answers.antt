@@ -1,3 +1,4 @@
+-- Goals of `gap`: how many bytes a gap at the front has.
 use Rattle.std.proofs.Common.{◌∙◌, ℕ, List, sym}
 use Rattle.std.specs.Prelude.{IfSome, Option, Some, None, Bool}
 use Rattle.lra_lex.specs.Front.{BeginsGap}

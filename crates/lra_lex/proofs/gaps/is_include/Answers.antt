@@ -1,3 +1,4 @@
+-- Goals of `is_include`: whether `#include` stands at the front, with spaces or tabs behind the `#` or without.
 use Rattle.std.proofs.Common.{◌≡◌, ℕ, ◌∙◌, List, sym, take, drop}
 use Rattle.std.proofs.lemmas.Bool.Decides.{Decides-eqb}
 use Rattle.std.proofs.lemmas.List.Sums.{prefix_len-le-length}

@@ -1,3 +1,4 @@
+-- Goals of `longest_operator`: the longest operator at the front.
 use Rattle.lra_lex.proofs.TokenLemmas.{operator_other}
 use Rattle.lra_lex.proofs.lexer.longest_operator.Goals as goal
 

@@ -1,3 +1,4 @@
+-- Goals of `operator_token`: the length and kind of the operator at the front.
 use Rattle.std.proofs.Common.{sym}
 use Rattle.lra_lex.proofs.LexemeLemmas.{operator_none}
 use Rattle.lra_lex.proofs.TokenLemmas.{operator_token_is}

@@ -1,3 +1,4 @@
+-- Goals of `token`: the length and kind of the token at the front, where no gap is.
 use Rattle.std.proofs.Common.{sym, ◌∙◌}
 use Rattle.lra_lex.proofs.TokenLemmas.{comment_is}
 use Rattle.lra_lex.proofs.lexer.token.Goals as goal

@@ -1,3 +1,5 @@
+-- Goals of `tokens`: the tokens of the source, each the longest spelling at its place, and the end behind its last
+-- byte; or its first fault.
 use Rattle.std.proofs.Common.{arith}
 use Rattle.lra_lex.proofs.ReadingLemmas.{read_on, read_within}
 use Rattle.lra_lex.proofs.lexer.tokens.Goals as goal

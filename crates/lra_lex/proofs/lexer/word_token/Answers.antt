@@ -1,3 +1,4 @@
+-- Goals of `word_token`: the length and kind of the word at the front.
 use Rattle.std.proofs.Common.{ap, ◌∙◌, ℕ, take}
 use Rattle.std.proofs.lemmas.List.Sums.{prefix_len-le-length}
 use Rattle.lra_tree.specs.Lexeme.{is_word_byte}

@@ -1,3 +1,4 @@
+-- Goals of `literal`: the value of the literal that the word is, if it is one.
 use Rattle.std.proofs.Common.{◌≡◌, ℕ, List, take, drop}
 use Rattle.std.specs.List.{prefix_len}
 use Rattle.lra_tree.specs.Lexeme.{is_digit_of, Base}

@@ -1,3 +1,4 @@
+-- Goals of `number`: the number that the digits write, if it is at most 2^63 - 1.
 use Rattle.std.proofs.Common.{◌∙◌}
 use Rattle.lra_lex.specs.Literal.{base_of}
 use Rattle.lra_lex.proofs.LiteralLemmas.{too_large}

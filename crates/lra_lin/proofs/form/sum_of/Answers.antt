@@ -1,3 +1,4 @@
+-- Goals of `sum_of`.
 use Rattle.std.proofs.Common.{rules, arith, ◌≡◌, [], ◌∷◌, ◌∙◌, sym, FitsSigned, to_z}
 use Rattle.std.specs.Int.{w64, w128}
 use Rattle.std.proofs.lemmas.Int.{ints, to_z-of_z}

@@ -1,3 +1,4 @@
+-- Goals of `negated`: the numbers times -1, or `None` where one of these passes i64.
 use Rattle.std.proofs.Common.{rules, map, ◌≡◌, [], ◌∷◌, ◌∙◌, append_assoc}
 use Rattle.std.specs.Prelude.{neg_ℤ}
 use Rattle.std.specs.Int.{w64}

@@ -1,3 +1,4 @@
+-- Goals of `list`: the report of what an analysis found in a source, whose points are numbered from 0 here.
 use Rattle.std.proofs.Common.{map}
 use Rattle.lra_operations.specs.GraphViews.{site_view}
 use Rattle.lra_tree.specs.Views.{tree_view}

@@ -1,3 +1,5 @@
+-- Goals of `assigned_list`: the generators, each with the form's value as coordinate x; or what is told of the
+-- first with which a number passes.
 use Rattle.std.proofs.Common.{arith, refl, subst, suc, sym}
 use Rattle.lra_linear.specs.CheckedArithmetic.{checked_product}
 use Rattle.lra_linear.specs.SetOperations.{assigned}

@@ -1,3 +1,4 @@
+-- Goals of `generator_loss`: the same of a generator.
 use Rattle.lra_maps.proofs.FormedLists.{dual_loss}
 use Rattle.lra_maps.proofs.forming.generator_loss.Goals as goal
 

@@ -1,3 +1,5 @@
+-- Goals of `substituted_list`: the constraints with the form put in for the coordinate x, without those with which
+-- a number passes; and what is told of the first of those.
 use Rattle.std.proofs.Common.{◌≡◌, ◌∙◌, ◌+◌, add-one, ap, length, suc, sym, subst, ℕ, List}
 use Rattle.std.specs.List.{Contains}
 use Rattle.lra_linear.specs.CheckedArithmetic.{checked_substitution}

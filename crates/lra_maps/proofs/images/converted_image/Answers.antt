@@ -1,3 +1,4 @@
+-- Goals of `converted_image`: the image, where the generators are converted.
 use Rattle.std.proofs.Common.{arith, inr, suc}
 use Rattle.lra_linear.specs.Descriptions.{Con}
 use Rattle.lra_linear.specs.OperationStrain.{GeneratorsStrain, ImageStrains, mapped}

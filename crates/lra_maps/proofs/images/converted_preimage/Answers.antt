@@ -1,3 +1,4 @@
+-- Goals of `converted_preimage`: the preimage, where the constraints are converted.
 use Rattle.std.proofs.Common.{◌≡◌, ◌∙◌, suc, subst, List}
 use Rattle.std.specs.List.{Contains}
 use Rattle.lra_linear.specs.CheckedArithmetic.{checked_substitution}

@@ -1,3 +1,4 @@
+-- Goals of `give_up`: lets the coordinate x be anything, or gives at least those points.
 use Rattle.std.proofs.Common.{suc}
 use Rattle.lra_maps.proofs.OutcomeLemmas.{is_forgotten}
 use Rattle.lra_maps.proofs.images.give_up.Goals as goal

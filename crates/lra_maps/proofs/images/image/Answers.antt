@@ -1,3 +1,4 @@
+-- Goals of `image`: gives the coordinate x the form's value.
 use Rattle.std.proofs.Common.{suc, subst, List, ℤ}
 use Rattle.lra_linear.specs.Descriptions.{Con}
 use Rattle.lra_linear.specs.OperationStrain.{ImageStrains}

@@ -1,3 +1,5 @@
+-- Goals of `preimage`: becomes the set of the points that are brought into it when the coordinate x is given the
+-- form's value.
 use Rattle.std.proofs.Common.{suc, subst, List, ℤ}
 use Rattle.lra_linear.specs.Descriptions.{Con}
 use Rattle.lra_linear.specs.OperationStrain.{PreimageStrains}

@@ -1,3 +1,5 @@
+-- Goals of `replace_or_forget`: becomes the polyhedron of generators that give no more than what some value of the
+-- coordinate x brings into it; where that is flagged, the coordinate x is forgotten.
 use Rattle.std.proofs.Common.{rules, suc, sym, subst, ℕ}
 use Rattle.lra_linear.specs.Descriptions.{Con, Gen}
 use Rattle.lra_linear.specs.Points.{IsPoint, IsWithin}

@@ -1,3 +1,4 @@
+-- Goals of `longer_list`: the generators with k more columns of zeros.
 use Rattle.std.proofs.Common.{◌∙◌, ◌++◌, ap, arith, length, suc, sym}
 use Rattle.lra_linear.specs.Vectors.{zeros}
 use Rattle.lra_maps.proofs.EmbeddedSets.{longer_entry}

@@ -1,3 +1,4 @@
+-- Goals of `shortened`: the generators with n dimensions, the first ones.
 use Rattle.std.proofs.Common.{◌∙◌, ◌<◌, add-one, ap, arith, length, rules, subst, suc, sym, take, ℕ}
 use Rattle.lra_maps.proofs.ListLemmas.{kinds_more, mapped_kinds, mapped_listed, mapped_more}
 use Rattle.lra_maps.proofs.ShortenedSets.{short_divisor}

@@ -1,3 +1,4 @@
+-- Goals of `with_directions`: the generators of the first, then those of the second as directions.
 use Rattle.std.proofs.Common.{◌≡◌, ◌∙◌, ap, length, sym, ℤ, List}
 use Rattle.lra_linear.specs.Vectors.{entry}
 use Rattle.lra_sys.specs.Listed.{generators}

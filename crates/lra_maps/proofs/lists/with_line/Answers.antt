@@ -1,3 +1,4 @@
+-- Goals of `with_line`: the generators, then a line along a dimension.
 use Rattle.std.proofs.Common.{◌∙◌, ap, length, suc, sym}
 use Rattle.lra_linear.specs.OperationStrain.{unit_row}
 use Rattle.lra_cone.proofs.WholeSpace.{unit_length}

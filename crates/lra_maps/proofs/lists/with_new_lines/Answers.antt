@@ -1,3 +1,4 @@
+-- Goals of `with_new_lines`: the generators, then a line along each of the dimensions behind the first n.
 use Rattle.std.proofs.Common.{◌∙◌, ◌+◌, ap, arith, length, refl, suc, sym, ℤ, List}
 use Rattle.lra_linear.specs.Vectors.{entry}
 use Rattle.lra_cone.proofs.WholeSpace.{unit_length}

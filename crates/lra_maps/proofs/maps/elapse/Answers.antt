@@ -1,3 +1,4 @@
+-- Goals of `elapse`: the time-elapse of two that have a point each.
 use Rattle.std.proofs.Common.{◌≡◌, ◌∙◌, ◌++◌, subst, ℕ}
 use Rattle.lra_linear.specs.Descriptions.{Con, Gen}
 use Rattle.lra_linear.specs.OperationStrain.{FromGeneratorsStrains, as_directions}

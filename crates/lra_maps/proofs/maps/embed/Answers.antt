@@ -1,3 +1,4 @@
+-- Goals of `embed`: adds k dimensions, the last ones, in which the coordinates may be anything.
 use Rattle.std.proofs.Common.{◌+◌}
 use Rattle.lra_linear.specs.Descriptions.{Con}
 use Rattle.lra_linear.specs.OperationStrain.{embedded}

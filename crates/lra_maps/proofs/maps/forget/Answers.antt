@@ -1,3 +1,4 @@
+-- Goals of `forget`: lets the coordinate x be anything.
 use Rattle.std.proofs.Common.{◌++◌, ◌∷◌, [], suc}
 use Rattle.lra_linear.specs.Descriptions.{Con, line}
 use Rattle.lra_linear.specs.OperationStrain.{unit_row}

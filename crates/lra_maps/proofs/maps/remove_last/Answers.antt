@@ -1,3 +1,4 @@
+-- Goals of `remove_last`: takes away the last k dimensions.
 use Rattle.std.proofs.Common.{◌-◌, ap, ℕ}
 use Rattle.lra_linear.specs.Descriptions.{Con}
 use Rattle.lra_linear.specs.OperationStrain.{shortened}

@@ -1,3 +1,4 @@
+-- Goals of `time_elapse`: lets time elapse.
 use Rattle.std.proofs.Common.{inl, refl}
 use Rattle.lra_maps.proofs.ElapsedSets.{elapse_copied, elapse_nothing}
 use Rattle.lra_maps.proofs.maps.time_elapse.Goals as goal

@@ -1,3 +1,4 @@
+-- Goals of `assigned_canonical`: the generators with the form's value in the column, as a canonical list.
 use Rattle.std.proofs.Common.{◌+◌, arith, ◌∙◌}
 use Rattle.lra_sys.specs.Listed.{is_line}
 use Rattle.lra_linear.specs.SetOperations.{assigned}

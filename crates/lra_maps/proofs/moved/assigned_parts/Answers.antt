@@ -1,3 +1,4 @@
+-- Goals of `assigned_parts`: the generators with the form's value in the column, lines apart.
 use Rattle.std.proofs.Common.{◌≡◌, ◌∙◌, ap, length, rules, sym}
 use Rattle.lra_linear.specs.SetOperations.{assigned}
 use Rattle.lra_sys.specs.Listed.{is_line}

@@ -1,3 +1,4 @@
+-- Goals of `moved`: the image under the assignment of the form to the column, which the other form takes back.
 use Rattle.std.proofs.Common.{subst, sym}
 use Rattle.lra_linear.specs.Descriptions.{Con}
 use Rattle.lra_linear.specs.Polyhedra.{IsPolyhedronOf}

@@ -1,3 +1,4 @@
+-- Goals of `moved_image`: the image under the assignment of the form to the column, by both lists.
 use Rattle.lra_maps.proofs.BackImages.{back_of}
 use Rattle.lra_maps.proofs.moved.moved_image.Goals as goal
 

@@ -1,3 +1,5 @@
+-- Goals of `moved_preimage`: the preimage under the assignment of the form to the column, by both lists; none as
+-- with the image.
 use Rattle.std.proofs.Common.{suc}
 use Rattle.lra_maps.proofs.BackImages.{back_of, preimage_if_moved}
 use Rattle.lra_maps.proofs.TakenBack.{taken_forth}

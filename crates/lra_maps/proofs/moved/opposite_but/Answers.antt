@@ -1,3 +1,4 @@
+-- Goals of `opposite_but`: the opposite form, with 1 at the column again.
 use Rattle.std.proofs.Common.{ap, arith, length}
 use Rattle.lra_linear.proofs.Products.{negated_length}
 use Rattle.lra_maps.proofs.moved.opposite_but.Goals as goal

@@ -1,3 +1,4 @@
+-- Goals of `remade`: the lines in echelon form, and the rays reduced by it.
 use Rattle.std.proofs.Common.{sym, subst, List, ℤ}
 use Rattle.lra_canon.specs.Echelons.{HaveWidth}
 use Rattle.lra_maps.proofs.moved.remade.Goals as goal

@@ -1,3 +1,4 @@
+-- Goals of `substituted_canonical`: the constraints with the form put in for the column, as a canonical list.
 use Rattle.std.proofs.Common.{◌+◌, arith, sym, ◌∙◌}
 use Rattle.lra_linear.specs.Kinds.{is_equality}
 use Rattle.lra_linear.specs.Vectors.{substituted}

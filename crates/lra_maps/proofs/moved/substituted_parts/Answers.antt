@@ -1,3 +1,4 @@
+-- Goals of `substituted_parts`: the constraints with the form put in for the column, equalities apart.
 use Rattle.std.proofs.Common.{◌≡◌, ◌∙◌, ap, length, rules, sym}
 use Rattle.lra_linear.specs.Kinds.{is_equality}
 use Rattle.lra_linear.specs.Vectors.{substituted}

@@ -1,3 +1,4 @@
+-- Goals of `taken_back`: the form that takes the form back, where that has 1 or -1 at the column.
 use Rattle.std.proofs.Common.{length, refl, subst, sym}
 use Rattle.lra_maps.specs.Moving.{TakesBack}
 use Rattle.lra_maps.proofs.TakenBack.{minus_one_back, one_back}

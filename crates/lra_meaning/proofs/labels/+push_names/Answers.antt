@@ -1,3 +1,4 @@
+-- Goals of the functions that call each other around `push_names`: `returns`.
 use Rattle.std.proofs.Common.{◌∙◌, ap, arith, ◌++◌, ◌∷◌, []}
 use Rattle.lra_meaning.proofs.NameLists.{names_behind, no_names}
 use Rattle.lra_meaning.proofs.labels.+push_names.Goals as goal

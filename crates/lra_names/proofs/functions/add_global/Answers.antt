@@ -1,3 +1,4 @@
+-- Goals of `add_global`.
 use Rattle.std.proofs.Common.{List, ◌∷◌}
 use Rattle.lra_tree.specs.Trees.{GlobalTree}
 use Rattle.lra_tree.specs.Views.{global_view}

@@ -1,3 +1,4 @@
+-- Goals of `add_globals`.
 use Rattle.std.proofs.Common.{map}
 use Rattle.lra_tree.specs.Views.{global_view}
 use Rattle.lra_meaning.specs.NameFaults.{globals_faults}

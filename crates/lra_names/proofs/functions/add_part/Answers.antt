@@ -1,3 +1,4 @@
+-- Goals of `add_part`.
 use Rattle.std.proofs.Common.{List, ◌∷◌}
 use Rattle.lra_tree.specs.Trees.{PartTree}
 use Rattle.lra_tree.specs.Views.{part_view}

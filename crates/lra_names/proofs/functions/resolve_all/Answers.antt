@@ -1,3 +1,4 @@
+-- Goals of `resolve_all`: all parts of the source.
 use Rattle.std.proofs.Common.{List, [], ◌++◌, ◌+◌, map, drop, sym, ap, ◌∙◌, append-nil}
 use Rattle.lra_tree.specs.declared.trees.Item.{Item}
 use Rattle.lra_tree.specs.Trees.{PartTree}

@@ -1,3 +1,5 @@
+-- Goals of the functions that call each other around `statement`: `add_item`, `resolve_items`, `resolve_stmt`,
+-- `resolve_block`, `resolve_choice`, `resolve_loop`.
 use Rattle.std.proofs.Common.{List, [], ◌∷◌, ◌+◌, subst, map, drop, refl, ap, sym, ◌∙◌, arith, Option, option_map, option_copied, Bor}
 use Rattle.lra_tree.specs.Trees.{ItemsTree, StmtTree}
 use Rattle.lra_program.specs.declared.program.BlockItem.{BlockItem as ProgramItem}

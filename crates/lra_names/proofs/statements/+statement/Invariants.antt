@@ -12,7 +12,7 @@ use Rattle.lra_meaning.specs.Resolve.{resolve_items, items_count}
 use Rattle.lra_scopes.specs.Calls.{functions_at}
 use Rattle.lra_scopes.specs.Scopes.{Extends}
 use Rattle.lra_simple.specs.Statements.{around_of, followed}
-use Rattle.lra_simple.proofs.LabellingLaws.{Reaches}
+use Rattle.lra_simple.proofs.LabellingLaws.{LeadsOn}
 use Rattle.lra_names.proofs.statements.+statement.Given as goal
 
 abbrev pub invariant-resolve_items-items : goal.invariant-resolve_items-items
@@ -23,7 +23,7 @@ invariant-resolve_items-items l = record {
       ≡ followed (map program_item_view l.items.items) (resolve_items (functions_at l.around.functions.now) l.scope l.labels.next (items_of (map item_view (drop l.item-index l.item-items))));
   extended : Extends l.fn.scope l.scope;
   counted : l.labels.next + items_count (items_of (map item_view (drop l.item-index l.item-items))) ≡ l.fn.labels.next + items_count (items_of (map item_view l.item-items));
-  reaches : Reaches l.fn.labels l.labels (items_of (map item_view l.item-items)) (items_of (map item_view (drop l.item-index l.item-items)));
+  reaches : LeadsOn l.fn.labels l.labels (items_of (map item_view l.item-items)) (items_of (map item_view (drop l.item-index l.item-items)));
 }
 
 abbrev pub decreases-add_item : goal.decreases-add_item

@@ -1,3 +1,4 @@
+-- Goals of `assign_ends`: gives `x` the bounds of the form over the unary bounds.
 use Rattle.std.proofs.Common.{◌≡◌, ◌∙◌}
 use Rattle.std.specs.Int.{w128}
 use Rattle.std.proofs.lemmas.Int.{to_z-of_z}

@@ -1,3 +1,4 @@
+-- Goals of `assign_in`: the octagon where `x` has the form's value.
 use Rattle.std.proofs.Common.{rules}
 use Rattle.lra_oct.specs.Content.{seen}
 use Rattle.lra_oct.proofs.AssignLemmas.{meets_some}

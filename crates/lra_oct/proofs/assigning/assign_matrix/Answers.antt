@@ -1,3 +1,4 @@
+-- Goals of `assign_matrix`: assigns `constant + factors` to `x`.
 use Rattle.std.proofs.Common.{rules, ◌≡◌, ◌∙◌, sym, ap}
 use Rattle.lra_box.specs.Bounds.{form}
 use Rattle.lra_oct.specs.Content.{seen}

@@ -1,3 +1,4 @@
+-- Goals of `closed_copy`: the closure of a head's matrix.
 use Rattle.lra_oct.specs.Content.{seen}
 use Rattle.lra_oct.proofs.MeetsLemmas.{closed_value_of}
 use Rattle.lra_oct.proofs.bounds.closed_copy.Goals as goal

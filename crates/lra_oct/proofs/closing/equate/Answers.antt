@@ -1,3 +1,4 @@
+-- Goals of `equate`: makes `x` equal to `v_i + c`.
 use Rattle.std.proofs.Common.{rules}
 use Rattle.lra_oct.proofs.EnterLemmas.{equates_of}
 use Rattle.lra_oct.proofs.closing.equate.Goals as goal

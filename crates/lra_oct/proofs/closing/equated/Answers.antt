@@ -1,3 +1,4 @@
+-- Goals of `equated`: makes `x` equal to `v_i + c`, and closes.
 use Rattle.std.proofs.Common.{rules}
 use Rattle.lra_oct.specs.Content.{seen}
 use Rattle.lra_oct.proofs.EnterLemmas.{equated_to}

@@ -1,3 +1,4 @@
+-- Goals of `classify`: the shape of the form with these coefficients.
 use Rattle.std.proofs.Common.{rules, arith, ◌≡◌, ◌∷◌, FitsSigned}
 use Rattle.std.specs.Int.{w128}
 use Rattle.std.proofs.lemmas.Int.{to_z-of_z}

@@ -1,3 +1,4 @@
+-- Goals of `pair_row`: the row `q + v_i + v_j` in `n` dimensions, and with `j` the same as `i` the row `q + v_i`.
 use Rattle.std.proofs.Common.{rules, ◌≡◌}
 use Rattle.lra_oct.specs.Parts.{pair_row}
 use Rattle.lra_oct.proofs.PartLemmas.{pair_in_range}

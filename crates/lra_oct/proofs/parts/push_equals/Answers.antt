@@ -1,3 +1,4 @@
+-- Goals of `push_equals`: adds the equalities.
 use Rattle.std.proofs.Common.{rules, ◌-◌, ◌+◌, ◌*◌, ◌∙◌}
 use Rattle.lra_linear.specs.declared.ConKind.TheVariants.{Eq}
 use Rattle.lra_dbm.specs.Cells.{entry_at}

@@ -1,3 +1,4 @@
+-- Goals of `push_falling`: adds the rows of `v_i` with `-x_b`, for each later variable from the last down.
 use Rattle.std.proofs.Common.{rules, arith, suc, ℕ, ◌≡◌, ◌-◌, ◌+◌, ◌*◌, ◌/◌, ◌∙◌, subst}
 use Rattle.lra_dbm.specs.Cells.{entry_at}
 use Rattle.lra_oct.specs.Parts.{kind_row, falling, Pushed}

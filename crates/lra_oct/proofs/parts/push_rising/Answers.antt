@@ -1,3 +1,4 @@
+-- Goals of `push_rising`: adds the rows of `v_i` with `+x_b`, for each later variable.
 use Rattle.std.proofs.Common.{rules, suc, ◌-◌, ◌+◌, ◌*◌, ◌/◌, ◌∙◌}
 use Rattle.lra_dbm.specs.Cells.{entry_at}
 use Rattle.lra_oct.specs.Parts.{kind_row, rising}

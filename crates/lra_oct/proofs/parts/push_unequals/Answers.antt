@@ -1,3 +1,4 @@
+-- Goals of `push_unequals`: adds the inequalities.
 use Rattle.std.proofs.Common.{rules, ◌-◌, ◌+◌, ◌*◌, ◌∙◌, ◌++◌}
 use Rattle.lra_linear.specs.declared.ConKind.TheVariants.{Ge}
 use Rattle.lra_dbm.specs.Cells.{entry_at}

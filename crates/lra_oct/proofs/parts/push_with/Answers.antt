@@ -1,3 +1,4 @@
+-- Goals of `push_with`: adds the rows that begin with `v_i`.
 use Rattle.lra_oct.proofs.PartLemmas.{pushed_three}
 use Rattle.lra_oct.proofs.parts.push_with.Goals as goal
 

@@ -1,3 +1,4 @@
+-- Goals of `test_eq`: tests by `e = 0`.
 use Rattle.std.proofs.Common.{rules}
 use Rattle.lra_oct.specs.Content.{seen}
 use Rattle.lra_oct.specs.Tables.{opposite_form}

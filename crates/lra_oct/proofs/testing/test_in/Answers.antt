@@ -1,3 +1,4 @@
+-- Goals of `test_in`: the octagon's stores that pass the test.
 use Rattle.std.proofs.Common.{rules}
 use Rattle.lra_oct.specs.Content.{seen}
 use Rattle.lra_oct.proofs.TestLemmas.{meets_ge, tested_as}

@@ -1,3 +1,4 @@
+-- Goals of `test_matrix`: tests a matrix by `constant + factors >= 0`.
 use Rattle.std.proofs.Common.{rules, ◌≡◌, sym, ◌∙◌, true}
 use Rattle.std.specs.Prelude.{pos, int_lt}
 use Rattle.lra_box.specs.Bounds.{form}

@@ -1,3 +1,4 @@
+-- Goals of `test_refined`: refines the unary bounds by `constant + factors >= 0`, enters them, and closes.
 use Rattle.std.proofs.Common.{rules, ◌≡◌, sym, ap, ◌∙◌, length, true, false}
 use Rattle.std.specs.Int.{w128}
 use Rattle.std.proofs.lemmas.Int.{to_z-of_z}

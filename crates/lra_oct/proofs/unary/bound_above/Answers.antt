@@ -1,3 +1,4 @@
+-- Goals of `bound_above`: a signed variable is at most a number.
 use Rattle.std.proofs.Common.{rules}
 use Rattle.lra_oct.proofs.EnterLemmas.{bound_entered}
 use Rattle.lra_oct.proofs.unary.bound_above.Goals as goal

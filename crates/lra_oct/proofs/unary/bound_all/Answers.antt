@@ -1,3 +1,4 @@
+-- Goals of `bound_all`: each variable lies in its interval.
 use Rattle.std.proofs.Common.{rules, ◌≡◌}
 use Rattle.lra_oct.specs.Tables.{upper}
 use Rattle.lra_oct.proofs.EnterLemmas.{bounds_more}

@@ -1,3 +1,4 @@
+-- Goals of `most`: the greatest value of the signed variable that the matrix allows, rounded down.
 use Rattle.std.proofs.Common.{rules}
 use Rattle.lra_oct.specs.Tables.{IsHalf}
 use Rattle.lra_oct.proofs.PartLemmas.{half_of_bound}

@@ -1,3 +1,4 @@
+-- Goals of `all_reduced`: the rows reduced by the form.
 use Rattle.std.proofs.Common.{arith, subst, List, ℤ}
 use Rattle.std.proofs.lemmas.Result.{err_from_is_err_and}
 use Rattle.lra_canon.specs.Reduced.{IsReducedBy}

@@ -1,3 +1,4 @@
+-- Goals of `own_list`: the canonical description of what the rows taken into the cone generate.
 use Rattle.std.proofs.Common.{◌≡◌, ◌+◌, arith, sym, subst, suc, length, List, ℤ, ℕ}
 use Rattle.std.proofs.lemmas.Result.{err_from_is_err_and}
 use Rattle.lra_canon.specs.Echelons.{HaveWidth}

@@ -1,3 +1,4 @@
+-- Goals of `parted`: the parts of the rows taken in.
 use Rattle.std.proofs.Common.{rules, ◌≡◌, ◌+◌, ◌∙◌, arith, ap, sym, length}
 use Rattle.lra_linear.specs.Kinds.{is_equality}
 use Rattle.lra_pair.proofs.OwnRows.{taken_length, told_row, parts_next, parts_all}

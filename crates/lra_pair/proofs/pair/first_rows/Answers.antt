@@ -1,3 +1,4 @@
+-- Goals of `first_rows`: the first constraints of the list, at most as many as are kept behind a loss.
 use Rattle.std.proofs.Common.{◌≡◌, List, ℤ, take, ap, ◌∙◌, subst}
 use Rattle.std.specs.List.{Contains}
 use Rattle.lra_linear.specs.declared.ConKind.{ConKind}

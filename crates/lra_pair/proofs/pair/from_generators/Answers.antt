@@ -1,3 +1,4 @@
+-- Goals of `from_generators`: the polyhedron of the generators, and what was lost.
 use Rattle.std.proofs.Common.{◌∙◌, ap, subst, List, ℕ, ◌∷◌, []}
 use Rattle.std.specs.List.{Contains}
 use Rattle.lra_linear.specs.Descriptions.{Gen, inequality}

@@ -1,3 +1,4 @@
+-- Goals of `from_points`: the polyhedron of generators, some of them points, and what was lost.
 use Rattle.std.proofs.Common.{◌≡◌, ◌∙◌, ap, arith, sym, subst, length, List, ℕ, []}
 use Rattle.std.specs.Vec.{vec_len}
 use Rattle.std.proofs.lemmas.Grind.{common_steps}

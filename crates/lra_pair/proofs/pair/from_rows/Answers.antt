@@ -1,3 +1,4 @@
+-- Goals of `from_rows`: the polyhedron of the constraints, and what was lost.
 use Rattle.std.proofs.Common.{List, subst}
 use Rattle.std.proofs.lemmas.Result.{IfOk-weaker}
 use Rattle.lra_linear.specs.Descriptions.{Con, Given}

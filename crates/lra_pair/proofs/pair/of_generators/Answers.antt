@@ -1,3 +1,5 @@
+-- Goals of `of_generators`: the polyhedron of the generators that were taken into the cone, some of them points, of
+-- which this is the own list.
 use Rattle.std.proofs.Common.{ap, sym, suc}
 use Rattle.lra_cone.proofs.Stepped.{lines_have_width, rays_have_width}
 use Rattle.lra_pair.proofs.PairLists.{own_lines_width, own_rays_width, generators_made}

@@ -1,3 +1,4 @@
+-- Goals of `of_rows`: the polyhedron of the rows that were taken into the cone, of which this is the own list.
 use Rattle.std.proofs.Common.{rules, ◌≡◌, ◌≢◌, ap, sym, suc, []}
 use Rattle.lra_cone.proofs.Stepped.{lines_have_width, rays_have_width}
 use Rattle.lra_pair.proofs.PairLists.{own_lines_width, own_rays_width, rows_made, none_made}

@@ -1,3 +1,6 @@
+-- Goals of `of_taken_generators`: the polyhedron of the generators that were taken into the cone, some of them
+-- points; where a number passes in the canonical ones, or there are too many, that of constraints that hold at each
+-- of them.
 use Rattle.std.proofs.lemmas.Result.{IfOk-weaker}
 use Rattle.lra_linear.specs.Descriptions.{Con, Gen}
 use Rattle.lra_sys.specs.Listed.{constraints}

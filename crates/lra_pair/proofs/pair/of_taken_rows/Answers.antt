@@ -1,3 +1,5 @@
+-- Goals of `of_taken_rows`: the polyhedron of the rows that were taken into the cone, behind these losses; all
+-- points where a number passes in its canonical constraints, or there are too many.
 use Rattle.std.proofs.Common.{drop, refl}
 use Rattle.lra_pair.proofs.PairLosses.{all_of, none_of, universe_within, later_strain}
 use Rattle.lra_pair.proofs.pair.of_taken_rows.Goals as goal

@@ -1,3 +1,4 @@
+-- Goals of `own_loss`: what is told where there is no own list.
 use Rattle.std.proofs.Common.{◌∙◌, arith, ap, sym, length}
 use Rattle.std.proofs.Common.{◌<◌, ◌-◌}
 use Rattle.std.proofs.lemmas.Result.{IfOk-weaker}

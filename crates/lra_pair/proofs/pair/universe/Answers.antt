@@ -1,3 +1,4 @@
+-- Goals of `universe`: all points of n dimensions.
 use Rattle.std.proofs.Common.{ap, sym, suc}
 use Rattle.lra_cone.proofs.Stepped.{lines_have_width, rays_have_width}
 use Rattle.lra_pair.proofs.PairLists.{universe_made}

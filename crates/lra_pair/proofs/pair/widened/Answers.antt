@@ -1,3 +1,4 @@
+-- Goals of `widened`: the polyhedron of constraints that hold at each of the points, after a loss.
 use Rattle.std.proofs.Common.{ℕ, subst}
 use Rattle.lra_linear.specs.Descriptions.{Con}
 use Rattle.lra_linear.specs.Points.{IsWithin}

@@ -1,3 +1,5 @@
+-- Goals of `with_generators`: the polyhedron of the generators that were taken into a cone, and of further ones
+-- that are taken in after them, some of all of them points.
 use Rattle.std.proofs.Common.{◌≡◌, arith, length, subst, sym, IfSome, List, ℕ, []}
 use Rattle.std.specs.Vec.{vec_len}
 use Rattle.std.proofs.lemmas.Grind.{common_steps}

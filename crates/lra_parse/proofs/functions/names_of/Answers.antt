@@ -1,3 +1,4 @@
+-- Goals of `names_of`: the names of parameters, if each has one.
 use Rattle.lra_readers.proofs.Named.{next_named, next_unnamed}
 use Rattle.lra_parse.proofs.functions.names_of.Goals as goal
 

@@ -1,3 +1,4 @@
+-- Goals of `read_file`: parts, and the end.
 use Rattle.std.proofs.Common.{List, ap, map}
 use Rattle.std.proofs.lemmas.Result.{err_from_is_err_and}
 use Rattle.lra_tree.specs.Trees.{PartTree}

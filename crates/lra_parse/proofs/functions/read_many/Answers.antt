@@ -1,3 +1,4 @@
+-- Goals of `read_many`: parameters with commas between them.
 use Rattle.std.proofs.Common.{arith}
 use Rattle.std.proofs.lemmas.Result.{err_from_is_err_and}
 use Rattle.lra_readers.specs.Files.{parameter_at}

@@ -1,3 +1,4 @@
+-- Goals of `read_part`: a function, a prototype or globals.
 use Rattle.lra_readers.proofs.Small.{small_lead}
 use Rattle.lra_parse.proofs.functions.read_part.Goals as goal
 

@@ -1,3 +1,4 @@
+-- Goals of `read_global`: a global.
 use Rattle.lra_readers.proofs.Small.{small_name}
 use Rattle.lra_parse.proofs.globals.read_global.Goals as goal
 

@@ -1,3 +1,4 @@
+-- Goals of `read_globals`: globals with their semicolon, behind the name of the first.
 use Rattle.std.proofs.lemmas.Result.{err_from_is_err_and}
 use Rattle.lra_tree.specs.declared.tokens.Mark.TheVariants as mark
 use Rattle.lra_tree.specs.Trees.{globals}

@@ -1,3 +1,4 @@
+-- Goals of `read_assign_to`: an assignment up to the mark, or the mark alone.
 use Rattle.std.proofs.lemmas.Result.{err_from_is_err_and}
 use Rattle.lra_tree.specs.Views.{assign_view}
 use Rattle.lra_readers.specs.Statements.{assign_at}

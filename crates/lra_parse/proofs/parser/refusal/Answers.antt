@@ -1,3 +1,4 @@
+-- Goals of `refusal`: the refusal for the fault at which reading stops.
 use Rattle.std.proofs.Common.{subst, arith}
 use Rattle.lra_tree.specs.declared.tokens.Token.{Token}
 use Rattle.lra_tree.specs.Faults.{IsTextFault}

@@ -1,3 +1,4 @@
+-- Goals of the functions that call each other around `statement`: `read_body`, `read_branch`, `read_item`.
 use Rattle.std.proofs.Common.{List, Bor, subst, Ok, sym, ap, ◌∙◌, arith}
 use Rattle.std.proofs.lemmas.Result.{err_from_is_err_and}
 use Rattle.lra_base.specs.declared.refusals.Place.{Place}

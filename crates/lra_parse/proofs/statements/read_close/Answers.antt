@@ -1,3 +1,4 @@
+-- Goals of `read_close`: the block of these items, whose brace comes next.
 use Rattle.std.proofs.Common.{Ok, sym, ap, map, ◌∙◌}
 use Rattle.lra_base.specs.declared.refusals.Place.{Place}
 use Rattle.lra_tree.specs.Trees.{ItemsTree}

@@ -1,3 +1,4 @@
+-- Goals of `read_declarators`: declarators with commas between them.
 use Rattle.std.proofs.Common.{List, [], refl, sym, arith, map}
 use Rattle.std.proofs.lemmas.Result.{err_from_is_err_and}
 use Rattle.lra_tree.specs.declared.tokens.Mark.TheVariants as mark

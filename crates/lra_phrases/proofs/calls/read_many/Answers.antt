@@ -1,3 +1,4 @@
+-- Goals of `read_many`: expressions with commas between them.
 use Rattle.std.proofs.Common.{List, ap, arith, map}
 use Rattle.std.proofs.lemmas.Result.{err_from_is_err_and}
 use Rattle.lra_tree.specs.Trees.{ExprTree}

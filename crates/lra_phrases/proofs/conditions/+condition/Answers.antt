@@ -1,3 +1,5 @@
+-- Goals of the functions that call each other around `condition`: `read_test`, `read_negation`, `read_conjunction`,
+-- `read_cond`.
 use Rattle.std.proofs.Common.{List, Ok, refl, sym, ap, ◌∙◌, arith, map}
 use Rattle.std.proofs.lemmas.Result.{err_from_is_err_and}
 use Rattle.lra_tree.specs.declared.tokens.Mark.TheVariants as mark

@@ -1,3 +1,4 @@
+-- Goals of `alone`: the expression that a condition is alone, or else the condition.
 use Rattle.std.proofs.Common.{ap, map}
 use Rattle.lra_tree.specs.Views.{expr_view, test_view, conjunction_view, cond_view}
 use Rattle.lra_phrases.proofs.Lone.{empty_is, full_is, map_full, lone_value, more_conjunctions, more_tests, other_test}

@@ -1,3 +1,5 @@
+-- Goals of the functions that call each other around `expression`: `read_unary`, `read_group`, `read_factors`,
+-- `read_summands`.
 use Rattle.std.proofs.Common.{List, Ok, refl, sym, ap, ◌∙◌, arith, map}
 use Rattle.std.proofs.lemmas.Result.{err_from_is_err_and}
 use Rattle.lra_tree.specs.declared.trees.Unary.{Unary, Literal}

@@ -1,3 +1,4 @@
+-- Goals of `divides`: whether the modulus divides the product of two rows.
 use Rattle.std.proofs.Common.{rules, FitsSigned}
 use Rattle.std.specs.Int.{w128}
 use Rattle.std.proofs.lemmas.Int.{to_z-of_z}

@@ -1,3 +1,4 @@
+-- Goals of `residue`: what is left of the product of two rows when it is divided by the modulus.
 use Rattle.std.proofs.Common.{arith, rules, FitsSigned, get_or, pos, ℕ, ◌<◌, ◌≡◌, to_z}
 use Rattle.std.specs.Int.{w128}
 use Rattle.std.proofs.lemmas.Int.{to_z-of_z}

@@ -1,3 +1,4 @@
+-- Goals of `vanishes`: whether the product of two rows is 0.
 use Rattle.std.proofs.Common.{rules, refl, length, ◌<◌, ◌^◌, pos}
 use Rattle.lra_linear.specs.Vectors.{product}
 use Rattle.lra_poly.proofs.ResidueLemmas.{last_left, one_left}

@@ -1,3 +1,5 @@
+-- Goals of `facet_cone`: the cone of what is valid on the generators, by the constraints; none where there is no
+-- generator, or are as many constraints as a cone may have rays.
 use Rattle.std.proofs.Common.{◌∙◌, List, ap, refl, sym}
 use Rattle.lra_linear.specs.Descriptions.{Given}
 use Rattle.lra_cone.specs.Cones.{Shape, saturation_of as by_rays}

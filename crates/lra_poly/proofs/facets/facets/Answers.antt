@@ -1,3 +1,5 @@
+-- Goals of `facets`: the rays of the cone of what is valid on the generators, and which generators they are tight
+-- at.
 use Rattle.std.proofs.Common.{◌∙◌, ap, length, suc, sym, ℕ}
 use Rattle.lra_bits.specs.Matrix.{Matrix}
 use Rattle.lra_linear.specs.Descriptions.{rays_of}

@@ -1,3 +1,4 @@
+-- Goals of `inequalities_among`: the inequalities among them.
 use Rattle.std.proofs.Common.{◌≡◌, ◌∙◌, ap, length, sym}
 use Rattle.lra_linear.specs.Kinds.{is_equality}
 use Rattle.lra_linear.specs.declared.ConKind.TheVariants.{Ge}

@@ -1,3 +1,4 @@
+-- Goals of `inequality_saturation`: which generators the inequalities are tight at.
 use Rattle.std.proofs.Common.{◌≡◌, ◌<◌, ◌≤◌, ◌∙◌, List, [], ap, arith, get_or, length, refl, subst, sym}
 use Rattle.std.proofs.lemmas.List.{get_or_default}
 use Rattle.lra_bits.specs.Matrix.{Matrix}

@@ -1,3 +1,4 @@
+-- Goals of `inclusion_of`: whether each of the generators meets each of the constraints.
 use Rattle.std.proofs.Common.{arith, ap, sym, ◌∙◌, ◌≡◌, length, List}
 use Rattle.std.specs.List.{All}
 use Rattle.lra_linear.specs.Descriptions.{Given}

@@ -1,3 +1,4 @@
+-- Goals of `reply`: whether each row holds with the generator.
 use Rattle.std.proofs.Common.{rules, arith, refl, FitsSigned}
 use Rattle.std.specs.Int.{w128}
 use Rattle.std.proofs.lemmas.Int.{to_z-of_z}

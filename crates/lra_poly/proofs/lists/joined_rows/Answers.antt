@@ -1,3 +1,4 @@
+-- Goals of `joined_rows`: the constraints of the first list, then those of the second.
 use Rattle.std.proofs.Common.{arith, ap, sym, ◌∙◌, length}
 use Rattle.lra_linear.specs.Kinds.{is_equality}
 use Rattle.lra_poly.proofs.JoinedLists.{joined_given}

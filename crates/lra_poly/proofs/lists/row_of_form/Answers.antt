@@ -1,3 +1,4 @@
+-- Goals of `row_of_form`: the form as a row.
 use Rattle.std.proofs.Common.{rules, ◌≡◌, [], ◌∷◌, ◌++◌, ◌∙◌, append_assoc}
 use Rattle.lra_linear.specs.Range.{InRange}
 use Rattle.std.proofs.lemmas.List.Elements.{All-push}

@@ -1,3 +1,4 @@
+-- Goals of `tested`: the constraint of the test, alone.
 use Rattle.std.proofs.Common.{◌≡◌, ◌∙◌, ◌++◌, ◌∷◌, [], List, ℤ, ap, length, refl, sym}
 use Rattle.lra_linear.specs.Kinds.{is_equality}
 use Rattle.lra_sys.specs.Listed.{given_by}

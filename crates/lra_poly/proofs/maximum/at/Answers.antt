@@ -1,3 +1,4 @@
+-- Goals of `at`: the form's value at the point, in lowest terms.
 use Rattle.std.proofs.Common.{rules, FitsSigned}
 use Rattle.std.specs.Int.{w128}
 use Rattle.std.proofs.lemmas.Int.{to_z-of_z, quot_is, quot_fits}

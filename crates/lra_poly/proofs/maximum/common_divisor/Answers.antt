@@ -1,3 +1,4 @@
+-- Goals of `common_divisor`: the greatest number that divides both.
 use Rattle.std.proofs.Common.{rules, FitsSigned}
 use Rattle.std.specs.Int.{w128}
 use Rattle.std.proofs.lemmas.Int.{to_z-of_z}

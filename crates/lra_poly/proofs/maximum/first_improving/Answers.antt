@@ -1,3 +1,4 @@
+-- Goals of `first_improving`: the first ray along which the form grows, or line along which it changes.
 use Rattle.std.proofs.Common.{◌≡◌, ◌∙◌, ap, arith, false, length, List, refl, sym, true}
 use Rattle.std.specs.List.{All}
 use Rattle.lra_linear.specs.Descriptions.{Given}

@@ -1,3 +1,4 @@
+-- Goals of `first_wide`: the first generator with which the product passes the range.
 use Rattle.std.proofs.Common.{arith, List, sym}
 use Rattle.std.specs.List.{All}
 use Rattle.lra_linear.specs.Descriptions.{Given}

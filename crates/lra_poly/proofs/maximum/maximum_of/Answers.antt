@@ -1,3 +1,4 @@
+-- Goals of `maximum_of`: the greatest value on the points of the generators.
 use Rattle.std.proofs.Common.{◌<◌, ap, length, subst, sym, ℕ}
 use Rattle.std.specs.List.{All}
 use Rattle.lra_sys.specs.Listed.{generators, is_line}

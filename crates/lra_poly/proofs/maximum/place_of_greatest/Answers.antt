@@ -1,3 +1,4 @@
+-- Goals of `place_of_greatest`: the first point at which the form's value is the greatest.
 use Rattle.std.proofs.Common.{arith, refl}
 use Rattle.std.specs.List.{All}
 use Rattle.lra_sys.specs.Listed.{is_line}

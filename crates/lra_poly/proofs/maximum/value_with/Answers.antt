@@ -1,3 +1,4 @@
+-- Goals of `value_with`: the product of the form with a row with which it stays in the range.
 use Rattle.std.proofs.Common.{rules, FitsSigned}
 use Rattle.std.specs.Int.{w128}
 use Rattle.std.proofs.lemmas.Int.{to_z-of_z}

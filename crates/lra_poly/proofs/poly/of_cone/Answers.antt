@@ -1,3 +1,5 @@
+-- Goals of `of_cone`: the polyhedron of the constraints that were taken into the cone behind the positivity row,
+-- and of further ones.
 use Rattle.std.proofs.Common.{◌++◌, drop, refl}
 use Rattle.lra_linear.specs.Descriptions.{Con}
 use Rattle.lra_sys.specs.Listed.{constraints}

@@ -1,3 +1,4 @@
+-- Goals of `saturation_matrix`: a row for each of the constraints, with a column for each of the generators.
 use Rattle.std.proofs.Common.{arith}
 use Rattle.lra_linear.specs.Kinds.{is_equality}
 use Rattle.lra_sys.specs.Listed.{generators, is_line}

@@ -1,3 +1,5 @@
+-- Goals of `cone_of`: the cone of the constraints, by these generators; none where there is no generator, or are
+-- more than a cone may have.
 use Rattle.lra_linear.specs.ConeStrain.{row_limit}
 use Rattle.lra_sys.specs.Listed.{constraints, generators, is_line}
 use Rattle.lra_poly.proofs.KeptCones.{start_cone}

@@ -1,3 +1,4 @@
+-- Goals of `lines_among`: the lines among the generators.
 use Rattle.std.proofs.Common.{◌≡◌, ◌∙◌, ap, length, sym}
 use Rattle.lra_sys.specs.Listed.{is_line}
 use Rattle.lra_sys.specs.declared.system.GenKind.TheVariants.{Point}

@@ -1,3 +1,4 @@
+-- Goals of `ray_saturation`: which of the positivity row and the constraints are tight at which points and rays.
 use Rattle.std.proofs.Common.{◌≡◌, ◌∙◌, ◌∷◌, ap, length, sym}
 use Rattle.lra_bits.specs.Matrix.{Matrix}
 use Rattle.lra_linear.specs.Descriptions.{inequality}

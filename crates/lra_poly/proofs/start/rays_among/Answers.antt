@@ -1,3 +1,4 @@
+-- Goals of `rays_among`: the points and rays among them.
 use Rattle.std.proofs.Common.{◌≡◌, ◌∙◌, ap, length, sym}
 use Rattle.lra_sys.specs.Listed.{is_line}
 use Rattle.lra_sys.specs.declared.system.GenKind.TheVariants.{Point}

@@ -1,3 +1,4 @@
+-- Goals of `values_of`: all of them.
 use Rattle.std.proofs.Common.{arith}
 use Rattle.lra_poly.proofs.StartLemmas.{all_values}
 use Rattle.lra_poly.proofs.start.values_of.Goals as goal

@@ -1,3 +1,4 @@
+-- Goals of `grown_by_widening`: the growth by a widening with the join; all points where the join is flagged.
 use Rattle.std.proofs.Common.{rules, ◌≡◌}
 use Rattle.lra_domain.specs.declared.Exactness.TheVariants as degree
 use Rattle.lra_linear.specs.Kinds.{is_equality}

@@ -1,3 +1,4 @@
+-- Goals of `are_same`: whether they have the same constraints in the same order.
 use Rattle.lra_polydom.proofs.ListLemmas.{same_kinds_decide, same_rows_decide}
 use Rattle.lra_polydom.proofs.lists.are_same.Goals as goal
 

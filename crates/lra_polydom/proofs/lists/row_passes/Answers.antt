@@ -1,3 +1,4 @@
+-- Goals of `row_passes`: whether the product of the row with one of the generators does.
 use Rattle.std.proofs.Common.{ap, length, sym, ◌∙◌}
 use Rattle.std.specs.List.{list_any}
 use Rattle.lra_sys.specs.Listed.{is_line}

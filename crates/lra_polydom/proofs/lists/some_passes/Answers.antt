@@ -1,3 +1,4 @@
+-- Goals of `some_passes`: whether the product of one of the constraints with one of the generators does.
 use Rattle.std.proofs.Common.{ap, length, sym, ◌∙◌}
 use Rattle.std.specs.List.{list_any}
 use Rattle.lra_linear.specs.Kinds.{is_equality}

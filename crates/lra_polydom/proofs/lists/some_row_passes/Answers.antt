@@ -1,3 +1,4 @@
+-- Goals of `some_row_passes`: whether the product of one of the rows with one of the generators does.
 use Rattle.lra_sys.specs.Listed.{generators}
 use Rattle.lra_polydom.specs.Growth.{row_passes}
 use Rattle.lra_polydom.proofs.ListLemmas.{none_among}

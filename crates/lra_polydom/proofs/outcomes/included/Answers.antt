@@ -1,3 +1,4 @@
+-- Goals of `included`: whether the first lies in the second.
 use Rattle.std.proofs.Common.{sym}
 use Rattle.lra_polydom.specs.Covering.{covered_from}
 use Rattle.lra_polydom.proofs.outcomes.included.Goals as goal

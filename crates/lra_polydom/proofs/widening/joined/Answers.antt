@@ -1,3 +1,4 @@
+-- Goals of `joined`: the join with next.
 use Rattle.lra_polydom.proofs.GrowthLemmas.{is_joined}
 use Rattle.lra_polydom.proofs.widening.joined.Goals as goal
 

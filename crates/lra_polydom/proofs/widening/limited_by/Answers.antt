@@ -1,3 +1,4 @@
+-- Goals of `limited_by`: the limited widening by a polyhedron that the first lies in.
 use Rattle.lra_polydom.proofs.GrowthLemmas.{never_refused}
 use Rattle.lra_polydom.proofs.widening.limited_by.Goals as goal
 

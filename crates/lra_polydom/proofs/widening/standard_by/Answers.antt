@@ -1,3 +1,4 @@
+-- Goals of `standard_by`: the standard widening by a polyhedron that the first lies in.
 use Rattle.lra_linear.specs.Kinds.{is_equality}
 use Rattle.lra_sys.specs.Listed.{constraints}
 use Rattle.lra_widen.proofs.WideningLemmas.{seen_columns}

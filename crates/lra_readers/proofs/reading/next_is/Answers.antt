@@ -1,3 +1,4 @@
+-- Goals of `next_is`: whether the next token is the mark.
 use Rattle.std.proofs.Common.{◌∙◌}
 use Rattle.lra_readers.proofs.Marks.{next_mark}
 use Rattle.lra_readers.proofs.reading.next_is.Goals as goal

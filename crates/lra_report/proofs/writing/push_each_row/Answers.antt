@@ -1,3 +1,4 @@
+-- Goals of `push_each_row`: appends the lines of all rows.
 use Rattle.std.proofs.Common.{arith, get_or}
 use Rattle.lra_linear.specs.declared.ConKind.TheVariants as con
 use Rattle.lra_show.proofs.NamesShown.{drop_front}

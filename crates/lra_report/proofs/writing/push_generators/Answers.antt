@@ -1,3 +1,4 @@
+-- Goals of `push_generators`: appends the lines of the generators.
 use Rattle.std.proofs.Common.{arith, get_or}
 use Rattle.lra_sys.specs.declared.system.GenKind.TheVariants as gen
 use Rattle.lra_show.proofs.NamesShown.{drop_front}

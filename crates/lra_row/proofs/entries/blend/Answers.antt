@@ -1,3 +1,4 @@
+-- Goals of `blend`: a u + b v of two rows.
 use Rattle.std.proofs.Common.{rules, FitsSigned, ◌∙◌, sym}
 use Rattle.std.specs.Int.{w128}
 use Rattle.std.proofs.lemmas.Int.{to_z-of_z}

@@ -1,3 +1,4 @@
+-- Goals of `blend_entry`: a u + b v in one column.
 use Rattle.std.proofs.Common.{rules, FitsSigned, ◌∙◌, ap, Err}
 use Rattle.std.specs.Int.{w128}
 use Rattle.std.proofs.lemmas.Int.{to_z-of_z}

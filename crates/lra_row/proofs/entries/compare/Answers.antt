@@ -1,3 +1,4 @@
+-- Goals of `compare`: compares two rows by columns 1, 2, 3 and on, and by column 0 last.
 use Rattle.std.proofs.Common.{arith, ◌∙◌}
 use Rattle.lra_row.proofs.OrderLemmas.{places_end}
 use Rattle.lra_row.proofs.entries.compare.Goals as goal

@@ -1,3 +1,4 @@
+-- Goals of `divide`: divides each entry, all of which the positive divisor divides.
 use Rattle.std.proofs.Common.{rules, arith, FitsSigned, get_or, pos, ap, ◌∙◌, int_div, set}
 use Rattle.std.specs.Int.{w128}
 use Rattle.std.proofs.lemmas.Int.{to_z-of_z, quot_is, quot_fits}

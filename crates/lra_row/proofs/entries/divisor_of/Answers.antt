@@ -1,3 +1,4 @@
+-- Goals of `divisor_of`: the greatest number that divides each entry, 0 where all are 0.
 use Rattle.std.proofs.Common.{rules, arith, FitsSigned, get_or, pos}
 use Rattle.std.specs.Int.{w128}
 use Rattle.std.proofs.lemmas.Int.{to_z-of_z}

@@ -1,3 +1,4 @@
+-- Goals of `product_from`: the sum of `start` and the product of two rows.
 use Rattle.std.proofs.Common.{rules, FitsSigned, ◌∙◌, ap, Err}
 use Rattle.std.specs.Int.{w128}
 use Rattle.std.proofs.lemmas.Int.{to_z-of_z}

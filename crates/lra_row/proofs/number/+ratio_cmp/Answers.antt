@@ -1,3 +1,4 @@
+-- Goals of the functions that call each other around `ratio_cmp`: `returns`, `ratio_cmp`.
 use Rattle.std.proofs.Common.{arith, ◌∙◌, sym, inl, inr, ℤ, pos, ◌*ℤ◌, ◌≡◌, ap, FitsSigned, to_z, of_z, ◌⊎◌}
 use Rattle.std.proofs.lemmas.Int.{ints, to_z-of_z}
 use Rattle.std.specs.Ordering.{int_cmp}

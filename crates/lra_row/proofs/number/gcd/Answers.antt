@@ -1,3 +1,4 @@
+-- Goals of `gcd`: the greatest common divisor, never negative; that of 0 and 0 is 0.
 use Rattle.lra_row.proofs.Facts.{gcd_read}
 use Rattle.lra_row.proofs.number.gcd.Goals as goal
 

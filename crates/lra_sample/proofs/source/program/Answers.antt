@@ -1,3 +1,5 @@
+-- Goals of `program`: the sample source of a seed, with as many blocks as `size` says; up to 400 of them keep
+-- within 65,536 bytes.
 use Rattle.std.proofs.Common.{ℕ, Vec, Global, ap, ◌∙◌}
 use Rattle.lra_sample.proofs.Lengths.{short_source}
 use Rattle.lra_sample.proofs.source.program.Goals as goal

@@ -1,3 +1,4 @@
+-- Goals of `summary`: the lines that tell of a sample source of this seed and size and of its report.
 use Rattle.std.proofs.Common.{◌≡◌, length, refl, arith, ◌∙◌}
 use Rattle.std.proofs.lemmas.Grind.{common_steps}
 use Rattle.std.specs.Vec.{vec_len}

@@ -1,3 +1,4 @@
+-- Goals of `resolve_arguments`.
 use Rattle.std.proofs.Common.{refl, map, ap}
 use Rattle.lra_program.specs.ProgramViews.{expr_view}
 use Rattle.lra_scopes.specs.Calls.{argument_faults, resolve_argument}

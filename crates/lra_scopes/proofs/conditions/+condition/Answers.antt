@@ -1,3 +1,5 @@
+-- Goals of the functions that call each other around `condition`: `resolve_conjunction`, `resolve_cond`,
+-- `resolve_negation`, `resolve_test`.
 use Rattle.std.proofs.Common.{map, ap, arith, refl, ◌∙◌}
 use Rattle.lra_program.specs.ProgramViews.{cond_view}
 use Rattle.lra_meaning.specs.NameFaults.{negation_faults, test_faults}

@@ -1,3 +1,4 @@
+-- Goals of the functions that call each other around `expression`: `resolve_term`, `resolve_expr`.
 use Rattle.std.proofs.Common.{map, ap, arith, refl}
 use Rattle.lra_program.specs.ProgramViews.{expr_view, operation_view}
 use Rattle.lra_scopes.proofs.Telling.{parts_clean}

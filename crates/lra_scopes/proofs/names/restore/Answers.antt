@@ -1,3 +1,4 @@
+-- Goals of `restore`: ends a declaration of the name.
 use Rattle.std.proofs.Common.{◌∙◌, ℕ, List, Option, Some, cond, bytes_eq, sym, ap, rules}
 use Rattle.std.proofs.lemmas.Map.Text.{hash_map_updates_text}
 use Rattle.indexmap.specs.IndexMap.{get_by_text}

@@ -1,3 +1,4 @@
+-- Goals of `add_signature`: adds a function's signature, unless there is one of its name.
 use Rattle.std.proofs.Common.{◌≡◌, ℕ, None, length, ap, rules, string_bytes}
 use Rattle.std.proofs.lemmas.Map.Text.{hash_map_updates_text}
 use Rattle.indexmap.specs.IndexMap.{get_by_text}

@@ -1,3 +1,4 @@
+-- Goals of `coefficients_of`: the numbers that the words write, where each writes one that has 64 bits.
 use Rattle.std.proofs.Common.{rules, ◌≡◌, ℕ, Bor, List, [], ◌∷◌, ◌++◌, get_or, refl, sym, FitsSigned}
 use Rattle.std.specs.Int.{w64}
 use Rattle.std.proofs.lemmas.Int.{to_z-of_z}

@@ -1,3 +1,4 @@
+-- Goals of `numbers_of`: the numbers that the words write, where each writes one.
 use Rattle.std.proofs.Common.{rules, ◌≡◌, ℕ, Bor, List, [], ◌∷◌, ◌++◌, get_or, refl, sym, FitsSigned}
 use Rattle.std.specs.Int.{w128}
 use Rattle.std.proofs.lemmas.Int.{to_z-of_z}

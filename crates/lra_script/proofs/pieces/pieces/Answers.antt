@@ -1,3 +1,4 @@
+-- Goals of `pieces`: what stands before, between and behind the separators.
 use Rattle.std.proofs.Common.{rules}
 use borrow.Author.Tests.{tests}
 use Rattle.std.proofs.lemmas.Iterator.Consumers.{map_from_collect}

@@ -1,3 +1,4 @@
+-- Goals of `parts`: the words before, between and behind the semicolons.
 use Rattle.std.proofs.Common.{rules, bytes_eq}
 use Rattle.std.specs.Prelude.{codes}
 use borrow.Author.Tests.{tests}

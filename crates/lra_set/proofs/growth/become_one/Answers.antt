@@ -1,3 +1,5 @@
+-- Goals of `become_one`: the parts, not one, become one, which grows by next's; nothing where a join of parts or
+-- its growth strains.
 use Rattle.std.proofs.Common.{◌≡◌, ◌<◌, [], length, sym, ◌∙◌, arith}
 use Rattle.std.proofs.lemmas.Grind.{common_steps}
 use Rattle.lra_set.proofs.AnswerLemmas.{fits_dims}

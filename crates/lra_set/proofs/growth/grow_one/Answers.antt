@@ -1,3 +1,4 @@
+-- Goals of `grow_one`: the head of a single part grows by the join of next's parts.
 use Rattle.std.proofs.Common.{◌≡◌, sym, rules}
 use Rattle.lra_domain.specs.declared.Exactness.TheVariants.{Exact}
 use Rattle.lra_set.proofs.AnswerLemmas.{fits_dims}

@@ -1,3 +1,4 @@
+-- Goals of `merge_exactly`: the join of the parts in order, if it lost nothing.
 use Rattle.lra_set.proofs.GrowthLemmas.{dims_of_some}
 use Rattle.lra_set.proofs.growth.merge_exactly.Goals as goal
 

@@ -1,3 +1,5 @@
+-- Goals of `start_and_grow`: the parts become one, which grows by the other; nothing where a join of parts or its
+-- growth strains.
 use Rattle.std.proofs.Common.{sym, ◌∙◌}
 use Rattle.lra_domain.specs.declared.Exactness.TheVariants.{Exact}
 use Rattle.lra_domain.specs.Meaning.{Grew}

@@ -1,3 +1,4 @@
+-- Goals of `start_anew`: the parts and next's, reduced and kept within the cap; with them a head starts anew.
 use Rattle.std.proofs.Common.{refl}
 use Rattle.lra_set.proofs.SetLemmas.{anew_starts, both_fit, settled_few, settled_fit}
 use Rattle.lra_set.specs.Forms.{form_of}

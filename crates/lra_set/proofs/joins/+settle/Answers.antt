@@ -1,3 +1,4 @@
+-- Goals of the functions that call each other around `settle`: `returns`, `into_one`, `join_last_two`, `settle`.
 use Rattle.std.proofs.Common.{◌≡◌, ◌≤◌, ◌<◌, length, vec_len, arith, rules}
 use Rattle.std.proofs.lemmas.Grind.{common_steps}
 use Rattle.lra_domain.specs.declared.Exactness.TheVariants.{Flagged}

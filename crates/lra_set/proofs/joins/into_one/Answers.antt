@@ -1,3 +1,4 @@
+-- Goals of `into_one`: all parts become one.
 use Rattle.std.proofs.Common.{◌≡◌, [], ◌∷◌, arith}
 use Rattle.std.proofs.lemmas.Grind.{common_steps}
 use Rattle.lra_set.proofs.AnswerLemmas.{merged_one_is}

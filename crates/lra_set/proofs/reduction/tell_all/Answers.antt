@@ -1,3 +1,4 @@
+-- Goals of `tell_all`: of each part whether it goes.
 use Rattle.std.proofs.Common.{◌≡◌, [], arith}
 use Rattle.std.proofs.lemmas.Grind.{common_steps}
 use Rattle.lra_set.proofs.TellLemmas.{tell_ends}

@@ -1,3 +1,4 @@
+-- Goals of the functions that call each other around `append_rows`: `returns`.
 use Rattle.std.proofs.Common.{◌≡◌, ◌∷◌, arith}
 use Rattle.std.proofs.lemmas.Grind.{common_steps}
 use Rattle.lra_set.proofs.SetLemmas.{more_fit, more_mean}

@@ -1,3 +1,4 @@
+-- Goals of `push_coordinate`: appends a coordinate in lowest terms.
 use Rattle.std.proofs.Common.{FitsSigned}
 use Rattle.std.specs.Int.{w128}
 use Rattle.std.proofs.lemmas.Int.{to_z-of_z}

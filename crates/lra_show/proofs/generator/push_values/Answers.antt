@@ -1,3 +1,4 @@
+-- Goals of `push_values`: appends the values of the variables.
 use Rattle.std.proofs.Common.{arith, string_bytes, nat_abs, ap, ◌∙◌, ◌++◌, codes}
 use Rattle.lra_linear.specs.Vectors.{entry}
 use Rattle.lra_findings.specs.ReportText.{value_text}

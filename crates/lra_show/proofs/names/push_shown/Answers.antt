@@ -1,3 +1,4 @@
+-- Goals of `push_shown`: adds the text of a name that so many newer variables of the name hide.
 use Rattle.std.proofs.Common.{◌≡◌, ◌∙◌}
 use Rattle.lra_findings.specs.ReportText.{shown_name}
 use Rattle.lra_show.proofs.NamesShown.{hidden_name}

@@ -1,3 +1,4 @@
+-- Goals of `push_form`: appends the terms of the coefficients.
 use Rattle.std.proofs.Common.{refl, ◌+◌, arith, string_bytes, ap, ◌∙◌, ◌++◌, ◌∷◌, []}
 use Rattle.lra_linear.specs.Vectors.{entry}
 use Rattle.lra_findings.specs.ReportText.{turned}

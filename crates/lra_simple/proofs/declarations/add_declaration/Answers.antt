@@ -1,3 +1,4 @@
+-- Goals of `add_declaration`: resolves the declarators of a declaration into further items.
 use Rattle.std.proofs.Common.{List, ◌∷◌, ◌+◌, map, drop, subst, sym, ap, ◌∙◌, arith}
 use Rattle.lra_tree.specs.declared.trees.Declarator.{Declarator}
 use Rattle.lra_program.specs.Program.{BlockItems}

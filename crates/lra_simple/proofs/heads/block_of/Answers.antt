@@ -1,3 +1,4 @@
+-- Goals of `block_of`: the items of a block.
 use Rattle.lra_simple.proofs.StatementLaws.{items_view_is}
 use Rattle.lra_simple.proofs.heads.block_of.Goals as goal
 

@@ -1,3 +1,5 @@
+-- Goals of `resolve_for_head`: takes the label of a `for`, begins its scope, and resolves what stands in its
+-- parentheses.
 use Rattle.std.proofs.Common.{refl, option_map, ◌∙◌}
 use Rattle.lra_tree.specs.Views.{init_view, assign_view}
 use Rattle.lra_scopes.proofs.Telling.{tells_front, tells_behind}

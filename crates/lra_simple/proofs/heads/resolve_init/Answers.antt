@@ -1,3 +1,4 @@
+-- Goals of `resolve_init`: begins the scope of a `for`, and resolves how it begins.
 use Rattle.std.proofs.Common.{◌+◌, ℕ, ap, sym, ◌∙◌}
 use Rattle.lra_simple.proofs.StatementLaws.{code_init_count}
 use Rattle.lra_simple.proofs.heads.resolve_init.Goals as goal

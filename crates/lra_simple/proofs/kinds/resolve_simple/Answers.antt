@@ -1,3 +1,4 @@
+-- Goals of `resolve_simple`: a statement without statements in it.
 use Rattle.std.proofs.Common.{ap}
 use Rattle.lra_meaning.specs.Resolve.{stmt_count}
 use Rattle.lra_simple.proofs.StatementLaws.{one_counted, nothing_is, assign_is, call_is, break_is, continue_is, return_is, assert_is, assume_is}

@@ -1,3 +1,5 @@
+-- Goals of `analyse_over`: the report of a source over a domain that shows its values as the options name it, or
+-- its one refusal.
 use Rattle.lra_tree.specs.Views.{tree_view}
 use Rattle.lra_source.proofs.StageSteps.{well, each_answered, each_refused}
 use Rattle.lra_source.proofs.answer.analyse_over.Goals as goal

@@ -1,3 +1,5 @@
+-- Goals of `analyse_parts`: the report of a source over the sets of a domain's values where the options allow more
+-- parts than one, else over the domain itself; or its one refusal.
 use Rattle.std.proofs.lemmas.Result.{IfOk-weaker}
 use Rattle.lra_report.specs.View.{report_of}
 use Rattle.lra_source.specs.Answers.{IsAnsweredOver}

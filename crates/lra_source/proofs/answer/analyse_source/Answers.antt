@@ -1,3 +1,5 @@
+-- Goals of `analyse_source`: the report of a source over the domain and the number of parts that the options name,
+-- or its one refusal; memory may be wanting.
 use Rattle.std.proofs.lemmas.Result.{IfOk-weaker}
 use Rattle.lra_base.specs.declared.options.Domain.TheVariants.{Poly, Box, Oct}
 use Rattle.lra_box.specs.Meaning.{box_meaning}

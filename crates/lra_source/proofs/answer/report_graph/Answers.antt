@@ -1,3 +1,4 @@
+-- Goals of `report_graph`: the report of the iteration over a program's tree of operations.
 use Rattle.std.proofs.Common.{◌≡◌, ℕ, List, Bool, map, length, sym, ap, ◌∙◌, subst, arith}
 use Rattle.std.proofs.lemmas.List.{length-map}
 use Rattle.lra_tree.specs.Views.{tree_view}

@@ -1,3 +1,5 @@
+-- Goals of `each_answer`: every list of bytes is refused, one of more than 65,536 bytes for that, or accepted with
+-- its tree and the tree of operations of its program; never both.
 use Rattle.lra_source.proofs.SomeAnswer as law
 use Rattle.lra_source.proofs.laws.each_answer.Goals as goal
 

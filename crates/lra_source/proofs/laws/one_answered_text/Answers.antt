@@ -1,3 +1,5 @@
+-- Goals of `one_answered_text`: two reports that answer one source under one list of options and have the same text
+-- are the same report.
 use Rattle.lra_source.proofs.OneText.{one_text}
 use Rattle.lra_source.proofs.laws.one_answered_text.Goals as goal
 

@@ -1,3 +1,4 @@
+-- Goals of `solved_are_sound`: what an iteration over a domain finds holds in all runs.
 use Rattle.lra_source.proofs.Holding.{solved_holds}
 use Rattle.lra_source.proofs.laws.solved_are_sound.Goals as goal
 

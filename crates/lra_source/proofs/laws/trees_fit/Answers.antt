@@ -1,3 +1,5 @@
+-- Goals of `trees_fit`: the tree of operations of a well-formed program fits the iteration, and has each point
+-- once.
 use Rattle.lra_source.proofs.Fitting.{tree_fits}
 use Rattle.lra_source.proofs.Numbering.{numbered}
 use Rattle.lra_source.proofs.Flags.{graph_below}

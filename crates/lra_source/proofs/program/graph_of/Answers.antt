@@ -1,3 +1,5 @@
+-- Goals of `graph_of`: the tree of operations of a program without recursion and its points; or the refusal for its
+-- first recursive call, or for the first limit that it passes.
 use Rattle.std.proofs.Common.{◌≡◌, List, map, Some, ◌∙◌}
 use Rattle.lra_tree.specs.Labels.{Labelled}
 use Rattle.lra_tree.specs.Views.{tree_view}

@@ -1,3 +1,4 @@
+-- Goals of `read_tree`: the tree of a source, or its refusal.
 use Rattle.std.proofs.Common.{List, arith, refl, sym, subst}
 use Rattle.lra_tree.specs.declared.tokens.Token.{Token}
 use Rattle.lra_base.specs.declared.refusals.Cause.TheVariants.{TooLong}

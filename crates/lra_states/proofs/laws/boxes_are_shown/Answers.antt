@@ -1,3 +1,4 @@
+-- Goals of `boxes_are_shown`: boxes are shown by their rows, which hold at each of their stores.
 use Rattle.lra_states.proofs.BoxShown as law
 use Rattle.lra_states.proofs.laws.boxes_are_shown.Goals as goal
 

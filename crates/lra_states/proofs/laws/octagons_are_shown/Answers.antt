@@ -1,3 +1,4 @@
+-- Goals of `octagons_are_shown`: octagons are shown by their rows, which hold at each of their stores.
 use Rattle.lra_states.proofs.OctShown as law
 use Rattle.lra_states.proofs.laws.octagons_are_shown.Goals as goal
 

@@ -1,3 +1,4 @@
+-- Goals of `polyhedron_state`: the state of a polyhedron, given by its canonical lists.
 use Rattle.std.proofs.Common.{◌≡◌, ◌∙◌, ◌<◌, ℤ, suc, List, [], ◌∷◌, ◌++◌, length, sym, ap, subst, arith}
 use Rattle.std.specs.List.{All}
 use Rattle.std.proofs.lemmas.Grind.{common_steps}

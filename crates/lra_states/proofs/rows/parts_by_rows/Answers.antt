@@ -1,3 +1,4 @@
+-- Goals of `parts_by_rows`: the parts of a value, without generators; they mean the value.
 use Rattle.lra_states.proofs.StateSteps.{pushed, pushed_in_range}
 use Rattle.lra_states.proofs.rows.parts_by_rows.Goals as goal
 

@@ -1,3 +1,4 @@
+-- Goals of `first_deciding`.
 use Rattle.std.proofs.Common.{rules, arith, FitsSigned, ◌∷◌, refl, drop}
 use Rattle.std.specs.Int.{w128}
 use Rattle.std.proofs.lemmas.Int.{to_z-of_z}

@@ -1,3 +1,4 @@
+-- Goals of `answer_sample`: the answer to a sample of up to 400 blocks.
 use Rattle.std.proofs.Common.{◌∙◌, rules}
 use Rattle.lra_tree.specs.Grammar.{Spells}
 use Rattle.lra_meaning.specs.Refuse.{Refuse}

@@ -1,3 +1,4 @@
+-- Goals of `prepare`: everything but the writing.
 use Rattle.std.proofs.Common.{map, string_bytes}
 use Rattle.lra_words.proofs.OneCommand.{asks_not_none}
 use Rattle.lra_top.proofs.Ways.{some_asked, asked_reader, no_reader, reads_asked, none_asked, deserved_usage}

@@ -1,3 +1,5 @@
+-- Goals of `given_loss`: the loss of the first given constraint that isn't known to fail and a product of which
+-- passes the range.
 use Rattle.std.proofs.Common.{arith, ap, sym, subst, ◌∙◌, ◌≡◌, ◌+◌, ◌++◌, length, List}
 use Rattle.lra_linear.specs.declared.ConKind.TheVariants.{Ge}
 use Rattle.lra_linear.specs.Descriptions.{Given}

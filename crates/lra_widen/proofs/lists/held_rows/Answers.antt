@@ -1,3 +1,4 @@
+-- Goals of `held_rows`: the given constraints that hold in the range.
 use Rattle.std.proofs.Common.{arith, ap, sym, ◌∙◌, ◌≡◌, ◌+◌, [], length}
 use Rattle.lra_linear.specs.declared.ConKind.TheVariants.{Ge}
 use Rattle.lra_linear.specs.Kinds.{is_equality}

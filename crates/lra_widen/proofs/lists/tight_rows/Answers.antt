@@ -1,3 +1,4 @@
+-- Goals of `tight_rows`: the constraints of the second that are tight on the first.
 use Rattle.std.proofs.Common.{arith, ap, sym, ◌∙◌, ◌≡◌, ◌+◌, [], length}
 use Rattle.std.specs.List.{filter}
 use Rattle.lra_linear.specs.declared.ConKind.TheVariants.{Ge}

@@ -1,3 +1,4 @@
+-- Goals of `count_equalities`: how many equalities are among the constraints.
 use Rattle.std.proofs.Common.{arith, ap, ◌∙◌, ◌<◌, ◌+◌, [], get_or, length, refl}
 use Rattle.std.proofs.lemmas.List.{get_or_default}
 use Rattle.std.specs.List.{filter}

@@ -1,3 +1,4 @@
+-- Goals of `count_free`: how many inequalities saturate what none of these do.
 use Rattle.std.proofs.Common.{arith, ap, sym, ◌∙◌, ◌≡◌, ◌+◌, length, List, refl}
 use Rattle.std.specs.List.{filter}
 use Rattle.lra_linear.specs.declared.ConKind.TheVariants.{Ge}

@@ -1,3 +1,4 @@
+-- Goals of `equalities`: the equalities, one more than the dimensions where there is no point.
 use Rattle.std.proofs.Common.{rules, refl, suc, ◌≡◌}
 use Rattle.lra_widen.proofs.WideningLemmas.{no_equalities, some_equalities}
 use Rattle.lra_widen.proofs.ranking.equalities.Goals as goal

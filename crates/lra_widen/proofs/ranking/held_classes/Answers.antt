@@ -1,3 +1,4 @@
+-- Goals of `held_classes`: of each given constraint that holds in the range, which generators it saturates.
 use Rattle.std.proofs.Common.{ap, map, ◌∙◌, List}
 use Rattle.lra_linear.specs.Descriptions.{Given}
 use Rattle.lra_sys.specs.Listed.{constraints}

@@ -1,3 +1,4 @@
+-- Goals of `rank`: the rank of a polyhedron over given constraints.
 use Rattle.std.proofs.Common.{◌∙◌}
 use Rattle.lra_sys.specs.Listed.{constraints}
 use Rattle.lra_widen.specs.Rank.{held}

@@ -1,3 +1,4 @@
+-- Goals of `all_saturated`: which of the generators each of the constraints saturates.
 use Rattle.std.proofs.Common.{arith}
 use Rattle.lra_linear.specs.Kinds.{is_equality}
 use Rattle.lra_sys.specs.Listed.{generators}

@@ -1,3 +1,4 @@
+-- Goals of `are_same`: whether the two lists, of one width, are the same.
 use Rattle.std.proofs.Common.{refl}
 use Rattle.lra_widen.proofs.TruthLists.{first_decides, second_decides}
 use Rattle.lra_widen.proofs.saturation.are_same.Goals as goal

@@ -1,3 +1,4 @@
+-- Goals of `are_true`: whether all values are true.
 use Rattle.std.proofs.Common.{arith}
 use Rattle.lra_widen.proofs.TruthLists.{none_false, one_false}
 use Rattle.lra_widen.proofs.saturation.are_true.Goals as goal

@@ -1,3 +1,4 @@
+-- Goals of `is_among`: whether the list is one of these, of its width.
 use Rattle.lra_widen.specs.Saturated.{same_values}
 use Rattle.lra_widen.proofs.TruthLists.{none_among}
 use Rattle.lra_widen.proofs.saturation.is_among.Goals as goal

@@ -1,3 +1,4 @@
+-- Goals of `holds_in_range`: whether it holds with each of the generators, and each product stays in the range.
 use Rattle.lra_linear.specs.Descriptions.{Given}
 use Rattle.lra_linear.specs.Kinds.{is_equality}
 use Rattle.lra_widen.specs.declared.validity.Validity.TheVariants.{Holds}

@@ -1,3 +1,4 @@
+-- Goals of `validity_of`: whether the constraint holds with each of the generators.
 use Rattle.std.proofs.Common.{rules, arith, refl, FitsSigned, ◌≡◌, ◌∙◌, ap, sym, length, List, Err}
 use Rattle.std.specs.Int.{w128}
 use Rattle.std.specs.List.{All, Contains}

@@ -1,3 +1,4 @@
+-- Goals of `validity_on_both`: whether it holds with each generator of the first, then of the second.
 use Rattle.lra_linear.specs.Descriptions.{Given}
 use Rattle.lra_linear.specs.Kinds.{is_equality}
 use Rattle.lra_widen.specs.declared.validity.Validity.TheVariants.{Fails, Holds, Wide}

@@ -1,3 +1,4 @@
+-- Goals of `standard`: the standard widening of P by Q, which P lies in.
 use Rattle.lra_sys.specs.Listed.{constraints}
 use Rattle.lra_widen.proofs.WideningLemmas.{standard_exact, standard_falls, standard_strain, standard_within}
 use Rattle.lra_widen.proofs.widening.standard.Goals as goal

@@ -1,3 +1,4 @@
+-- Goals of `widened`: the widening of the first by the second, limited by the given constraints.
 use Rattle.std.proofs.Common.{subst, refl, inl, inr, ℕ, []}
 use Rattle.lra_linear.specs.Descriptions.{Con}
 use Rattle.lra_linear.specs.Polyhedra.{IsPolyhedronOf}

@@ -1,3 +1,4 @@
+-- Goals of `widened_within`: the widening of a polyhedron with a point by one that it lies in.
 use Rattle.std.proofs.Common.{ap, ◌∙◌, ◌++◌}
 use Rattle.lra_linear.specs.Kinds.{is_equality}
 use Rattle.lra_sys.specs.Listed.{constraints}

@@ -1,3 +1,4 @@
+-- Goals of `analyse_command`.
 use Rattle.std.proofs.Common.{◌∙◌, ap₂}
 use Rattle.clap.specs.Words.{with_rule}
 use Rattle.lra_words.proofs.command_line.analyse_command.Goals as goal

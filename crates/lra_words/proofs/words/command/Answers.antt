@@ -1,3 +1,5 @@
+-- Goals of `command`: `Usage` comes exactly where the command line doesn't take the words, `Memory` only for want
+-- of memory.
 use Rattle.lra_words.proofs.ParsedWords.{chosen_of, refused, succeeds, taken_as, never_none}
 use Rattle.lra_words.proofs.words.command.Goals as goal
 

@@ -1,3 +1,4 @@
+-- Goals of `domain`.
 use Rattle.std.proofs.Common.{◌∙◌, ap, codes, sym}
 use Rattle.std.specs.Prelude.{option_and_then}
 use Rattle.clap.specs.Words.{found_of}

@@ -1,3 +1,4 @@
+-- Goals of `flag`.
 use Rattle.clap.specs.Words.{found_of}
 use Rattle.lra_words.proofs.Readings.{flag_got}
 use Rattle.lra_words.proofs.words.flag.Goals as goal

@@ -1,3 +1,4 @@
+-- Goals of `number`.
 use Rattle.std.specs.Str.Parse.{ExplainsUnsignedError, HasUnsignedDigitsIfOk, ParsesUnsigned}
 use Rattle.clap.specs.Words.{found_of}
 use Rattle.lra_words.proofs.Readings.{number_got}

@@ -1,3 +1,4 @@
+-- Goals of `BitRow::common`: the list that is true where both are.
 use Rattle.std.proofs.Common.{sym, ◌∙◌, ap}
 use Rattle.lra_bits.specs.Words.{unpacked, words_needed}
 use Rattle.lra_bits.proofs.Packing.{same_width}

@@ -1,3 +1,4 @@
+-- Goals of `BitRow::common_within`: each value that is true here and in the second list is true in the third too.
 use Rattle.std.proofs.Common.{◌<◌, ◌^◌, sym, ◌∙◌, ap}
 use Rattle.std.specs.List.{All}
 use Rattle.lra_bits.specs.Words.{unpacked, words_needed}

@@ -1,3 +1,4 @@
+-- Goals of `BitRow::new`: so many truth values, all false.
 use Rattle.lra_bits.proofs.Packing.{zeros_unpacked}
 use Rattle.lra_bits.proofs.bit_row.BitRow.new.Goals as goal
 

@@ -1,3 +1,4 @@
+-- Goals of `BitRow::subset`: each value that is true is true in the other list too.
 use Rattle.std.proofs.Common.{◌<◌, ◌^◌, sym, ◌∙◌, ap}
 use Rattle.std.specs.List.{All}
 use Rattle.lra_bits.specs.Words.{unpacked, words_needed}

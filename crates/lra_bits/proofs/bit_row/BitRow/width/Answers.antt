@@ -1,3 +1,4 @@
+-- Goals of `BitRow::width`: the number of truth values.
 use Rattle.std.proofs.Common.{◌∙◌, sym, ap, length}
 use Rattle.lra_bits.proofs.Packing.{length_unpacked}
 use Rattle.lra_bits.proofs.bit_row.BitRow.width.Goals as goal

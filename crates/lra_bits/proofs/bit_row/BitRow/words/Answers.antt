@@ -1,3 +1,4 @@
+-- Goals of `BitRow::words`: the words.
 use Rattle.std.proofs.Common.{List, Bool, subst}
 use Rattle.lra_bits.specs.Words.{ArePacked}
 use Rattle.lra_bits.proofs.Packing.{all_packed}

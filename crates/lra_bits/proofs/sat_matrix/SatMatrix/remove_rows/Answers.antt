@@ -1,3 +1,4 @@
+-- Goals of `SatMatrix::remove_rows`: takes out the rows that are marked as gone; the others keep their order.
 use Rattle.std.proofs.Common.{◌≡◌, ℕ, ◌<◌, List, Bool, length, sym, ◌∙◌, ap, subst, arith, []}
 use Rattle.std.specs.Vec.{vec_len}
 use Rattle.std.specs.List.{All}

@@ -1,3 +1,4 @@
+-- Goals of `BoxesDomain::assign`.
 use Rattle.std.proofs.Common.{rules, refl, ◌≡◌, ◌∙◌, ℤ, to_z, of_z}
 use Rattle.std.proofs.Math.ListN.{length-set}
 use Rattle.std.specs.Int.{w64, w128}

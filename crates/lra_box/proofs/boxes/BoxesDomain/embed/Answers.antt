@@ -1,3 +1,4 @@
+-- Goals of `BoxesDomain::embed`.
 use Rattle.std.proofs.Common.{◌≡◌, ◌+◌, ℕ, refl, arith, ◌∙◌, length-append}
 use Rattle.lra_box.specs.Covering.{within_refl}
 use Rattle.lra_box.proofs.StepLemmas.{embedded_fit, embedded_sound, has_embedded}

@@ -1,3 +1,4 @@
+-- Goals of `BoxesDomain::forget`.
 use Rattle.std.proofs.Common.{refl, ◌∙◌, ℤ}
 use Rattle.std.proofs.Math.ListN.{length-set}
 use Rattle.lra_box.specs.Covering.{within_refl}

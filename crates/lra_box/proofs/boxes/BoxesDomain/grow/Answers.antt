@@ -1,3 +1,4 @@
+-- Goals of `BoxesDomain::grow`.
 use Rattle.std.proofs.Common.{◌≡◌, refl, ap, sym, ◌∙◌, inr}
 use Rattle.std.proofs.lemmas.Bool.{false≢true}
 use Rattle.lra_box.specs.Content.{Content, BoundsFit, seen}

@@ -1,3 +1,4 @@
+-- Goals of `BoxesDomain::included`.
 use Rattle.std.proofs.Common.{◌≡◌, ap, sym, ◌∙◌}
 use Rattle.lra_box.specs.Content.{Content}
 use Rattle.lra_box.specs.Laws.{box_wider}

@@ -1,3 +1,4 @@
+-- Goals of `BoxesDomain::is_empty`: yes exactly where there is no part, and exactly where there is no store.
 use Rattle.lra_box.specs.Content.{seen}
 use Rattle.lra_box.proofs.SoundLemmas.{none_stores}
 use Rattle.lra_box.proofs.StepLemmas.{has_length}

@@ -1,3 +1,4 @@
+-- Goals of `BoxesDomain::join`.
 use Rattle.std.proofs.Common.{◌≡◌, refl, ap, sym, ◌∙◌}
 use Rattle.lra_box.specs.Content.{Content, BoundsFit, seen}
 use Rattle.lra_box.proofs.BoundLemmas.{joined_fit}

@@ -1,3 +1,4 @@
+-- Goals of `BoxesDomain::parts`.
 use Rattle.std.proofs.Common.{rules, ◌≡◌}
 use Rattle.lra_box.specs.Content.{seen}
 use Rattle.lra_box.specs.Parts.{box_parts}

@@ -1,3 +1,4 @@
+-- Goals of `BoxesDomain::remove_last`.
 use Rattle.std.proofs.Common.{refl, arith, ◌-◌}
 use Rattle.lra_box.specs.Covering.{within_refl}
 use Rattle.lra_box.proofs.StepLemmas.{taken_length, taken_fit, taken_sound, has_taken}

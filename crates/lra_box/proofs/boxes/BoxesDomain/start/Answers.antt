@@ -1,3 +1,4 @@
+-- Goals of `BoxesDomain::start`.
 use Rattle.lra_box.proofs.BoundLemmas.{rank_fits}
 use Rattle.lra_box.proofs.boxes.BoxesDomain.start.Goals as goal
 

@@ -1,3 +1,4 @@
+-- Goals of `BoxesDomain::test`.
 use Rattle.lra_box.proofs.boxes.BoxesDomain.test.Goals as goal
 
 pub invariant_of-self-2 : goal.invariant_of-self-2

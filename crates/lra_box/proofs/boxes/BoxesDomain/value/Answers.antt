@@ -1,3 +1,4 @@
+-- Goals of `BoxesDomain::value`.
 use Rattle.std.proofs.Common.{refl}
 use Rattle.lra_box.specs.Laws.{same_within}
 use Rattle.lra_box.proofs.boxes.BoxesDomain.value.Goals as goal

@@ -1,3 +1,4 @@
+-- Goals of `Session::answer`: the answer to a question.
 use Rattle.lra_calc.proofs.session.Session.answer.Goals as goal
 
 pub returns-in-Show : goal.returns-in-Show

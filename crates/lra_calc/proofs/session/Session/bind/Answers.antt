@@ -1,3 +1,4 @@
+-- Goals of `Session::bind`: the name stands from now on for what the line of a number made.
 use Rattle.std.proofs.Common.{rules, ◌≡◌, ℕ, List, ap, ◌∙◌, Option, Some, string_bytes, bytes_eq}
 use Rattle.std.specs.Map.{update}
 use Rattle.std.specs.BTreeMap.{get_by_text}

@@ -1,3 +1,4 @@
+-- Goals of `Session::make`: what a recipe makes.
 use Rattle.lra_calc.proofs.session.Session.make.Goals as goal
 
 pub returns-in-Combine-clause-gives : goal.returns-in-Combine-clause-gives

@@ -1,3 +1,4 @@
+-- Goals of `Session::set`: the set that the name stands for.
 use Rattle.std.proofs.Common.{rules, ◌≡◌, Some}
 use Rattle.std.specs.BTreeMap.{get_by_text}
 use Rattle.lra_calc.proofs.session.Session.set.Goals as goal

@@ -1,3 +1,4 @@
+-- Goals of `Session::widen`.
 use Rattle.std.proofs.Common.{◌≡◌, ℕ, subst, IfOk}
 use Rattle.lra_calc.specs.Views.{session_of}
 use Rattle.lra_calc.proofs.WidenLemmas.{session_widens}

@@ -1,3 +1,4 @@
+-- Goals of `Search::meet`: meets a place.
 use Rattle.std.proofs.Common.{rules}
 use Rattle.lra_calls.proofs.Meeting.{meets_one}
 use Rattle.lra_calls.proofs.search.Search.meet.Goals as goal

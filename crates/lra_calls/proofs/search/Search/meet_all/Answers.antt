@@ -1,3 +1,4 @@
+-- Goals of `Search::meet_all`: meets places.
 use Rattle.std.proofs.Common.{subst, sym}
 use Rattle.std.proofs.lemmas.List.{take_more}
 use Rattle.lra_calls.specs.Search.{Grows}

@@ -1,3 +1,4 @@
+-- Goals of `Cone::add_row`: takes a row in.
 use Rattle.std.proofs.Common.{sym, ◌∙◌, ap, map, length, suc, ◌≡◌}
 use Rattle.lra_linear.specs.Vectors.{product}
 use Rattle.lra_sys.specs.Listed.{constraints}

@@ -1,3 +1,4 @@
+-- Goals of `Cone::cut`: takes a row in where its product with each line is 0.
 use Rattle.std.proofs.Common.{arith, sym, ◌∙◌, ap, length, subst, ◌≡◌, ◌++◌, ◌∷◌, List, ℤ, [], pos, map, suc, Bool, cond}
 use Rattle.std.specs.Prelude.{IsOk}
 use Rattle.std.specs.List.{All, Contains}

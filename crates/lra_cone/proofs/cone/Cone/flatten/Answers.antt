@@ -1,3 +1,5 @@
+-- Goals of `Cone::flatten`: takes a row in where its product with the line at the place, and with none behind it,
+-- isn't 0.
 use Rattle.std.proofs.Common.{arith, sym, ◌∙◌, ap, length, subst, get_or, ◌<◌, ◌≤◌, ◌≡◌, ◌++◌, ◌∷◌, List, ℤ, [], pos, map, suc, rules, FitsSigned}
 use Rattle.std.specs.Int.{w128}
 use Rattle.std.proofs.lemmas.Int.{to_z-of_z}

@@ -1,3 +1,4 @@
+-- Goals of `Cone::whole`: all vectors of n + 1 columns.
 use Rattle.std.proofs.Common.{arith, sym, ◌∙◌, ap, subst, List, [], ℤ, length}
 use Rattle.lra_linear.specs.Descriptions.{Given}
 use Rattle.lra_sys.specs.Listed.{constraints, given_by}

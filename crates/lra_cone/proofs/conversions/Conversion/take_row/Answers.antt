@@ -1,3 +1,4 @@
+-- Goals of `Conversion::take_row`: takes a row in, or leaves it out where it strains the cone.
 use Rattle.std.proofs.Common.{length, ◌∙◌, ap, sym, subst}
 use Rattle.lra_linear.specs.Descriptions.{Given}
 use Rattle.lra_sys.specs.Listed.{constraints}

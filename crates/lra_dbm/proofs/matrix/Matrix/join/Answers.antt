@@ -1,3 +1,4 @@
+-- Goals of `Matrix::join`: the entries that are the greater of both.
 use Rattle.std.proofs.Common.{rules}
 use Rattle.lra_dbm.proofs.PointwiseLemmas.{contents_joined}
 use Rattle.lra_dbm.proofs.matrix.Matrix.join.Goals as goal

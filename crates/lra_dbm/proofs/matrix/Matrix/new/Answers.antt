@@ -1,3 +1,4 @@
+-- Goals of `Matrix::new`: all entries of `n` variables infinite, those of the diagonal 0.
 use Rattle.std.proofs.Common.{subst, sym}
 use Rattle.lra_dbm.specs.Cells.{Cells, IsMatrix}
 use Rattle.lra_dbm.proofs.Grows.{none_matrix, from_none}

@@ -1,3 +1,4 @@
+-- Goals of `MemSourceSource::read`.
 use Rattle.std.proofs.Common.{◌≡◌, ◌-◌, ℕ, List, length, take, drop, sym, ap, ◌∙◌, add-zero}
 use Rattle.std.proofs.lemmas.List.{take_rest}
 use Rattle.lra_edge.proofs.Bytes.{piece_and_rest}

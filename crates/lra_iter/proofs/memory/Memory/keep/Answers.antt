@@ -1,3 +1,4 @@
+-- Goals of `Memory::keep`: this pass takes the place of the same loop's last one.
 use Rattle.std.proofs.Common.{sym, subst}
 use Rattle.std.specs.List.{All}
 use Rattle.std.proofs.lemmas.List.Elements.{All-set, All-push}

@@ -1,3 +1,4 @@
+-- Goals of `Outcome::copy`: the same entry again.
 use Rattle.lra_iter.proofs.outcome.Outcome.copy.Goals as goal
 use Rattle.std.proofs.Common.{ap, ◌∙◌}
 use Rattle.lra_iter.specs.Outcome.{ended}

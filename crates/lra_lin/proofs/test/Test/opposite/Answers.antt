@@ -1,3 +1,4 @@
+-- Goals of `Test::opposite`: the test that passes exactly where this one fails.
 use Rattle.std.proofs.Common.{rules}
 use Rattle.lra_lin.proofs.FormLemmas.{opposite_holds}
 use Rattle.lra_lin.proofs.test.Test.opposite.Goals as goal

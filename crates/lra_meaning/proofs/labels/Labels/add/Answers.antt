@@ -1,3 +1,4 @@
+-- Goals of `Labels::add`: adds a label with the lists of these numbers.
 use Rattle.std.proofs.Common.{◌<◌, length, subst, sym}
 use Rattle.lra_meaning.specs.LabelTable.{Listed}
 use Rattle.lra_meaning.proofs.NameLists.{added_invariant}

@@ -1,3 +1,4 @@
+-- Goals of `Labels::get`: the label of a number, from 1.
 use Rattle.std.proofs.Common.{arith}
 use Rattle.lra_meaning.proofs.FoundLabels.{found_label}
 use Rattle.lra_meaning.proofs.labels.Labels.get.Goals as goal

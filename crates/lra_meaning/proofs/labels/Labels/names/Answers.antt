@@ -1,3 +1,4 @@
+-- Goals of `Labels::names`: the names of a list, oldest first.
 use Rattle.std.proofs.Common.{◌<◌, ap, length, subst, sym, arith}
 use Rattle.lra_meaning.specs.declared.labels.Entry.{Entry}
 use Rattle.std.specs.Prelude.{List}

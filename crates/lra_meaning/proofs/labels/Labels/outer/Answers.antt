@@ -1,3 +1,4 @@
+-- Goals of `Labels::outer`: the list of all names of a list but the newest; where it has none, that list.
 use Rattle.std.proofs.Common.{◌≡◌, ◌<◌, ◌-◌, ap, length, subst, sym, take, arith}
 use Rattle.lra_meaning.specs.declared.labels.Entry.{Entry}
 use Rattle.std.specs.Prelude.{List}

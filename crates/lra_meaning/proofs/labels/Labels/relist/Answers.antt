@@ -1,3 +1,4 @@
+-- Goals of `Labels::relist`: gives the label of a number another list.
 use Rattle.std.proofs.Common.{◌≡◌, ◌∷◌, ◌++◌, ◌<◌, ◌+◌, ◌∙◌, ap, length, map, subst, sym, arith, List}
 use Rattle.std.specs.Prelude.{slice_set}
 use Rattle.lra_tree.specs.Labels.{Labelled}

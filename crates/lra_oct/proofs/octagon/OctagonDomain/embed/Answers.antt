@@ -1,3 +1,4 @@
+-- Goals of `OctagonDomain::embed`.
 use Rattle.lra_oct.specs.Content.{seen}
 use Rattle.lra_oct.proofs.MeetsLemmas.{meets_embed}
 use Rattle.lra_oct.proofs.octagon.OctagonDomain.embed.Goals as goal

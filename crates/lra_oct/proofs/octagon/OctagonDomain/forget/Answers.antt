@@ -1,3 +1,4 @@
+-- Goals of `OctagonDomain::forget`.
 use Rattle.lra_oct.specs.Content.{seen}
 use Rattle.lra_oct.proofs.MeetsLemmas.{meets_forget}
 use Rattle.lra_oct.proofs.octagon.OctagonDomain.forget.Goals as goal

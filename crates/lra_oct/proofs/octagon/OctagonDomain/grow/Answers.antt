@@ -1,3 +1,4 @@
+-- Goals of `OctagonDomain::grow`.
 use Rattle.std.proofs.Common.{◌≡◌, ap, sym, ◌∙◌}
 use Rattle.std.proofs.lemmas.Bool.{false≢true}
 use Rattle.lra_oct.specs.Content.{Content, CellsFit, seen}

@@ -1,3 +1,5 @@
+-- Goals of `OctagonDomain::included`: entry by entry; of a tight octagon, No only where a store lies beyond the
+-- other.
 use Rattle.std.proofs.Common.{◌≡◌, ap, sym, ◌∙◌}
 use Rattle.std.proofs.lemmas.Bool.{false≢true}
 use Rattle.lra_oct.specs.Content.{Content, CellsFit, seen}

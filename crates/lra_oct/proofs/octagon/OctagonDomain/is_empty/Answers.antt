@@ -1,3 +1,5 @@
+-- Goals of `OctagonDomain::is_empty`: yes exactly where there is no part; of a tight octagon, exactly where there
+-- is no store.
 use Rattle.lra_oct.proofs.LeastLemmas.{no_store}
 use Rattle.lra_oct.proofs.octagon.OctagonDomain.is_empty.Goals as goal
 

@@ -1,3 +1,4 @@
+-- Goals of `OctagonDomain::join`: of tight octagons, the least with the stores of both.
 use Rattle.std.proofs.Common.{◌≡◌, ap, sym, ◌∙◌}
 use Rattle.lra_oct.specs.Content.{Content, CellsFit, seen}
 use Rattle.lra_oct.proofs.LeastLemmas.{least_octagon}

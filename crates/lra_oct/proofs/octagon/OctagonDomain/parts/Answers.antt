@@ -1,3 +1,4 @@
+-- Goals of `OctagonDomain::parts`.
 use Rattle.lra_oct.specs.Content.{seen}
 use Rattle.lra_oct.proofs.MeanLemmas.{parts_mean, parts_dims}
 use Rattle.lra_oct.proofs.octagon.OctagonDomain.parts.Goals as goal

@@ -1,3 +1,4 @@
+-- Goals of `OctagonDomain::remove_last`.
 use Rattle.lra_oct.specs.Content.{seen}
 use Rattle.lra_oct.proofs.MeetsLemmas.{meets_remove}
 use Rattle.lra_oct.proofs.octagon.OctagonDomain.remove_last.Goals as goal

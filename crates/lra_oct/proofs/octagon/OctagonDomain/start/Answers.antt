@@ -1,3 +1,4 @@
+-- Goals of `OctagonDomain::start`.
 use Rattle.lra_oct.proofs.MeetsLemmas.{rank_fits}
 use Rattle.lra_oct.proofs.octagon.OctagonDomain.start.Goals as goal
 

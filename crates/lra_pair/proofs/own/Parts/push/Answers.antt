@@ -1,3 +1,4 @@
+-- Goals of `Parts::push`: puts a row, tight where the values say, to its part.
 use Rattle.lra_pair.proofs.TightRows.{part_tight, part_loose}
 use Rattle.std.proofs.Common.{ap}
 use Rattle.lra_bits.specs.Matrix.{Matrix}

@@ -1,3 +1,4 @@
+-- Goals of `Poly::add_test`: keeps the points that pass the test.
 use Rattle.std.proofs.Common.{◌≡◌, ◌++◌, ◌∷◌, [], List, ap}
 use Rattle.lra_linear.specs.Descriptions.{Con, Given}
 use Rattle.lra_sys.specs.Listed.{constraints}

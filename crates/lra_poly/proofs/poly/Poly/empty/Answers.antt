@@ -1,3 +1,4 @@
+-- Goals of `Poly::empty`: no point, in n dimensions.
 use Rattle.lra_cone.proofs.ConstraintLists.{nothing_is}
 use Rattle.lra_pair.proofs.PairLists.{empty_lists}
 use Rattle.lra_sys.specs.Listed.{constraints}

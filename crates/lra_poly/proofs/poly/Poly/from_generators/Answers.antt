@@ -1,3 +1,4 @@
+-- Goals of `Poly::from_generators`: the polyhedron of the generators.
 use Rattle.std.proofs.Common.{refl}
 use Rattle.lra_linear.specs.Descriptions.{Gen}
 use Rattle.lra_sys.specs.Listed.{generators}

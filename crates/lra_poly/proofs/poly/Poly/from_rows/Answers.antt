@@ -1,3 +1,4 @@
+-- Goals of `Poly::from_rows`: the polyhedron of the constraints.
 use Rattle.std.proofs.Common.{refl}
 use Rattle.lra_linear.specs.Descriptions.{Con}
 use Rattle.lra_sys.specs.Listed.{constraints}

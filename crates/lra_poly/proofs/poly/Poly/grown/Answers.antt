@@ -1,3 +1,5 @@
+-- Goals of `Poly::grown`: the polyhedron of the generators of both, of which the other's are taken in after the
+-- first's, by the lists at hand; none where one of them isn't taken in, or there are no lists to go on from.
 use Rattle.std.proofs.Common.{◌∙◌, ap, subst, sym}
 use Rattle.lra_linear.specs.Descriptions.{AreGenerators}
 use Rattle.lra_linear.specs.Polyhedra.{IsPolyhedron, Polyhedron}

@@ -1,3 +1,4 @@
+-- Goals of `Poly::hull`: becomes the hull with the other.
 use Rattle.std.proofs.Common.{◌++◌, refl}
 use Rattle.lra_linear.specs.Descriptions.{Con}
 use Rattle.lra_linear.specs.Polyhedra.{IsPolyhedronOf}

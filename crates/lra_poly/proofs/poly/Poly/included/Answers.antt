@@ -1,3 +1,4 @@
+-- Goals of `Poly::included`: whether each point is in the other.
 use Rattle.lra_linear.specs.Polyhedra.{Polyhedron}
 use Rattle.lra_sys.specs.Listed.{constraints, generators}
 use Rattle.lra_poly.proofs.InclusionLemmas.{inclusion_tells}

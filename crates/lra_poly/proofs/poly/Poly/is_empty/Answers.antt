@@ -1,3 +1,4 @@
+-- Goals of `Poly::is_empty`: whether it has no point.
 use Rattle.std.proofs.Common.{refl}
 use Rattle.lra_linear.specs.Polyhedra.{Polyhedron}
 use Rattle.lra_sys.specs.Listed.{constraints, generators}

@@ -1,3 +1,4 @@
+-- Goals of `Poly::meets`: whether it is known that each point meets each of the constraints.
 use Rattle.lra_linear.specs.Polyhedra.{Polyhedron}
 use Rattle.lra_sys.specs.Listed.{constraints, generators}
 use Rattle.lra_poly.proofs.InclusionLemmas.{yes_within}

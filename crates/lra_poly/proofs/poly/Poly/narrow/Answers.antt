@@ -1,3 +1,4 @@
+-- Goals of `Poly::narrow`: takes these constraints in.
 use Rattle.std.proofs.Common.{refl, sym, ◌++◌}
 use Rattle.lra_linear.specs.Descriptions.{Con}
 use Rattle.lra_sys.specs.Listed.{constraints}

@@ -1,3 +1,4 @@
+-- Goals of `Poly::narrowed`: the same, where these are taken in after those, by the lists at hand.
 use Rattle.std.proofs.Common.{◌≡◌, ◌∷◌, ◌++◌, drop, List, ℕ, ap, subst}
 use Rattle.lra_linear.specs.Descriptions.{Con, Given, inequality}
 use Rattle.lra_linear.specs.Points.{IsWithin}

@@ -1,3 +1,4 @@
+-- Goals of `Poly::narrowed_anew`: the polyhedron of the constraints and of these, converted from nothing.
 use Rattle.std.proofs.Common.{◌≡◌, ◌++◌, ◌∙◌, ap, List, ℕ, subst}
 use Rattle.lra_linear.specs.Descriptions.{Con, Given}
 use Rattle.lra_linear.specs.OperationStrain.{FromRowsStrains}

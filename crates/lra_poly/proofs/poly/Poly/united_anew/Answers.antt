@@ -1,3 +1,4 @@
+-- Goals of `Poly::united_anew`: the same, converted from nothing.
 use Rattle.std.proofs.Common.{◌≡◌, ◌++◌, ◌∙◌, List, ℕ, ap, subst}
 use Rattle.lra_linear.specs.Descriptions.{Con, Gen, Given}
 use Rattle.lra_linear.specs.OperationStrain.{FromGeneratorsStrains}

@@ -1,3 +1,4 @@
+-- Goals of `PolyhedronDomain::assign`.
 use Rattle.lra_domain.specs.Actions as action
 use Rattle.lra_polydom.proofs.ChangeLemmas.{changes}
 use Rattle.lra_polydom.proofs.polyhedron.PolyhedronDomain.assign.Goals as goal

@@ -1,3 +1,4 @@
+-- Goals of `PolyhedronDomain::empty`.
 use Rattle.lra_polydom.proofs.PartLemmas.{void_stores}
 use Rattle.lra_polydom.proofs.polyhedron.PolyhedronDomain.empty.Goals as goal
 

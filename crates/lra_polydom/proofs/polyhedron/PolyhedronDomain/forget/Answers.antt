@@ -1,3 +1,4 @@
+-- Goals of `PolyhedronDomain::forget`.
 use Rattle.lra_domain.specs.Actions as action
 use Rattle.lra_polydom.proofs.ChangeLemmas.{changes}
 use Rattle.lra_polydom.proofs.polyhedron.PolyhedronDomain.forget.Goals as goal

@@ -1,3 +1,4 @@
+-- Goals of `PolyhedronDomain::included`.
 use Rattle.lra_domain.specs.declared.Included.TheVariants.{Yes, No, Wide}
 use Rattle.lra_polydom.specs.Covering.{covered_has}
 use Rattle.lra_polydom.proofs.InsideLemmas.{said}

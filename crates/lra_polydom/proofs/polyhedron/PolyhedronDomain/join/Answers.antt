@@ -1,3 +1,4 @@
+-- Goals of `PolyhedronDomain::join`: the hull.
 use Rattle.std.proofs.Common.{◌≡◌, ap, sym, ◌∙◌}
 use Rattle.lra_linear.specs.Polyhedra.{Polyhedron}
 use Rattle.lra_polydom.proofs.ChangeLemmas.{joins}

@@ -1,3 +1,4 @@
+-- Goals of `PolyhedronDomain::parts`.
 use Rattle.std.proofs.Common.{◌≡◌, ◌∙◌, length, ap, sym}
 use Rattle.lra_polydom.specs.Content.{polyhedron_parts}
 use Rattle.lra_polydom.proofs.PartLemmas.{no_parts, parts_mean, some_parts}

@@ -1,3 +1,4 @@
+-- Goals of `PolyhedronDomain::same`.
 use Rattle.std.proofs.Common.{◌≡◌, rules}
 use Rattle.lra_polydom.proofs.SameLemmas.{same_decides}
 use Rattle.lra_polydom.proofs.polyhedron.PolyhedronDomain.same.Goals as goal

@@ -1,3 +1,4 @@
+-- Goals of `PolyhedronDomain::universe`.
 use Rattle.lra_polydom.proofs.PartLemmas.{universe_stores}
 use Rattle.lra_polydom.proofs.polyhedron.PolyhedronDomain.universe.Goals as goal
 

@@ -1,3 +1,4 @@
+-- Goals of `Row::blend`: `a` times this row and `b` times the other, or the first product or sum that passes.
 use Rattle.std.proofs.lemmas.Int.{to_z-of_z}
 use Rattle.std.proofs.lemmas.Result.{err_from_is_err_and}
 use Rattle.lra_linear.specs.CheckedArithmetic.{checked_blend}

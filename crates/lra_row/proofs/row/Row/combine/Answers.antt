@@ -1,3 +1,4 @@
+-- Goals of `Row::combine`: `(-c.v) u + (c.u) v` in lowest terms, for `c.u` above 0 and `c.v` below.
 use Rattle.std.proofs.Common.{◌∙◌, List, ℤ, sym, rules, FitsSigned, subst, Result}
 use Rattle.std.specs.Int.{w128}
 use Rattle.std.proofs.lemmas.Int.{to_z-of_z}

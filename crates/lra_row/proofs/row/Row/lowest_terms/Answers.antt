@@ -1,3 +1,5 @@
+-- Goals of `Row::lowest_terms`: divides the row by the greatest number that divides each entry, that of column 0
+-- among them.
 use Rattle.std.proofs.Common.{rules, arith, ap, ◌∙◌, sym, subst, ℤ, List, FitsSigned, ◌≡◌, unsigned_abs, length}
 use Rattle.std.specs.Int.{w128}
 use Rattle.std.specs.List.{All, refill}

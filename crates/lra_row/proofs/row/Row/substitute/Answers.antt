@@ -1,3 +1,4 @@
+-- Goals of `Row::substitute`: the row with the entry of column `x` times the form in place of `x`.
 use Rattle.std.proofs.Common.{arith, ◌≡◌, ◌∙◌, ap, List, ℤ, sym, rules, FitsSigned, subst, Result}
 use Rattle.std.specs.Int.{w128}
 use Rattle.std.proofs.lemmas.Int.{to_z-of_z}

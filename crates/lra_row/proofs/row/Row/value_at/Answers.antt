@@ -1,3 +1,5 @@
+-- Goals of `Row::value_at`: the product with the vector whose column 0 is `divisor` and whose further columns are
+-- `numerators`.
 use Rattle.std.proofs.Common.{◌∷◌, ◌∙◌, ap, List, ℤ}
 use Rattle.std.proofs.lemmas.Int.{to_z-of_z}
 use Rattle.lra_linear.specs.CheckedArithmetic.{checked_product}

@@ -1,3 +1,4 @@
+-- Goals of `Block::push_choice`.
 use Rattle.std.proofs.Common.{decimal}
 use Rattle.std.proofs.lemmas.Result.{on_ok_weaker}
 use Rattle.lra_sample.proofs.Blocks.{choice_line}

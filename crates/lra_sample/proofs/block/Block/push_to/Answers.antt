@@ -1,3 +1,4 @@
+-- Goals of `Block::push_to`: appends the block's line.
 use Rattle.lra_sample.proofs.Blocks.{line_of_kind}
 use Rattle.lra_sample.proofs.block.Block.push_to.Goals as goal
 

@@ -1,3 +1,4 @@
+-- Goals of `Names::pop`: forgets the newest name.
 use Rattle.std.proofs.Common.{◌∙◌, ℕ, List, cond, bytes_eq, ap}
 use Rattle.indexmap.specs.IndexMap.{get_by_text}
 use Rattle.lra_scopes.proofs.NameLaws.{indexed_pop, newest_indexed}

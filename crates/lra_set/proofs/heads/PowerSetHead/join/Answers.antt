@@ -1,3 +1,4 @@
+-- Goals of `PowerSetHead::join`: it becomes the set's join with next, unless next lies in it.
 use Rattle.std.proofs.Common.{◌≡◌, refl, ◌∙◌}
 use Rattle.lra_domain.specs.declared.Included.TheVariants.{No}
 use Rattle.lra_set.specs.Forms.{form_of}

@@ -1,3 +1,4 @@
+-- Goals of `PowerSetHead::lies_in`: in joining, whether next lies in it, whose value has these parts.
 use Rattle.std.proofs.Common.{◌≡◌, refl}
 use Rattle.lra_set.specs.Content.{one}
 use Rattle.lra_set.proofs.AnswerLemmas.{alike, fits_dims, refit}

@@ -1,3 +1,4 @@
+-- Goals of `PowerSetHead::parts`: the parts of its value.
 use Rattle.std.proofs.Common.{◌≡◌, ◌∷◌, [], refl, ◌∙◌}
 use Rattle.lra_set.specs.Content.{many, one, filled}
 use Rattle.lra_set.proofs.HeadSteps.{behind_none}

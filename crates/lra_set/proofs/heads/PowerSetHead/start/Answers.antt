@@ -1,3 +1,4 @@
+-- Goals of `PowerSetHead::start`: the head that starts with the set.
 use Rattle.std.proofs.Common.{◌≡◌, ◌∙◌}
 use Rattle.lra_set.specs.Forms.{form_of}
 use Rattle.lra_set.proofs.HeadSteps.{behind_none, starts_as}

@@ -1,3 +1,4 @@
+-- Goals of `PowerSetHead::widen_many`: its parts become one, which grows, unless next lies in them.
 use Rattle.std.proofs.Common.{◌≡◌, Some, refl, ◌∙◌}
 use Rattle.lra_domain.specs.declared.Included.TheVariants.{No, Wide}
 use Rattle.lra_set.specs.Forms.{form_of}

@@ -1,3 +1,4 @@
+-- Goals of `PowerSetHead::widen_one`: the head of its single part grows, unless next lies in it.
 use Rattle.std.proofs.Common.{◌≡◌, Some, None, refl, ◌∙◌}
 use Rattle.lra_set.specs.Forms.{form_of}
 use Rattle.lra_set.proofs.HeadLemmas.{one_given_up, one_has_grown}

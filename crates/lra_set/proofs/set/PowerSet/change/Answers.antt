@@ -1,3 +1,5 @@
+-- Goals of `PowerSet::change`: each part is changed; those that became empty are left out, and the others are
+-- reduced.
 use Rattle.std.proofs.Common.{◌≡◌, [], refl, arith}
 use Rattle.std.proofs.lemmas.Grind.{common_steps}
 use Rattle.lra_domain.specs.Actions.{dims_after}

@@ -1,3 +1,4 @@
+-- Goals of `PowerSet::reduce`: the parts are reduced.
 use Rattle.std.proofs.Common.{◌≡◌, refl}
 use Rattle.lra_set.proofs.AnswerLemmas.{fits_dims}
 use Rattle.lra_set.proofs.ReduceSteps.{still_fits, still_covers, reduces_exactly, reduces_flagged, same_items}

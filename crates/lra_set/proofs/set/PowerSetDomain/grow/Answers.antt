@@ -1,3 +1,4 @@
+-- Goals of `PowerSetDomain::grow`: in joining it becomes the set's join with next.
 use Rattle.std.proofs.Common.{◌∙◌}
 use Rattle.lra_set.proofs.ValueLemmas.{head_capped, head_rank_fits}
 use Rattle.lra_set.proofs.set.PowerSetDomain.grow.Goals as goal

@@ -1,3 +1,4 @@
+-- Goals of `PowerSetDomain::is_empty`: yes exactly where there is no part.
 use Rattle.std.proofs.Common.{◌≡◌, [], refl, sym, ◌∙◌, arith}
 use Rattle.std.specs.Prelude.{IsTrue}
 use Rattle.std.proofs.lemmas.Grind.{common_steps}

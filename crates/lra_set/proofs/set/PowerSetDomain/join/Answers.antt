@@ -1,3 +1,4 @@
+-- Goals of `PowerSetDomain::join`: the other's parts are appended, and the list is reduced and kept within the cap.
 use Rattle.std.proofs.Common.{◌≡◌, ◌++◌, refl, ◌∙◌, arith}
 use Rattle.lra_set.proofs.HeadSteps.{behind_none}
 use Rattle.lra_set.proofs.SetLemmas.{both_fit, join_joins, joined_lists, others_fit, settled_few, settled_fit}

@@ -1,3 +1,4 @@
+-- Goals of `PowerSetDomain::parts`.
 use Rattle.std.proofs.Common.{◌≡◌, refl, ◌∙◌}
 use Rattle.lra_set.proofs.AnswerLemmas.{alike}
 use Rattle.lra_set.proofs.SetLemmas.{set_mean, set_rows_fit}

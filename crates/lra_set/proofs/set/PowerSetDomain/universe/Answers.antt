@@ -1,3 +1,4 @@
+-- Goals of `PowerSetDomain::universe`.
 use Rattle.std.proofs.Common.{◌≡◌, [], ◌∷◌, length, ap, arith}
 use Rattle.std.proofs.lemmas.Grind.{common_steps}
 use Rattle.lra_set.proofs.SetLemmas.{universe_fits}

@@ -1,3 +1,4 @@
+-- Goals of `LoopHead::into_loop`: the whole `for`.
 use Rattle.std.proofs.Common.{ap, sym, ◌∙◌}
 use Rattle.lra_program.specs.Program.{Stmt}
 use Rattle.lra_program.specs.ProgramViews.{cond_view, stmt_view}

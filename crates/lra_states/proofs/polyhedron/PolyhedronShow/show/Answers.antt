@@ -1,3 +1,4 @@
+-- Goals of `PolyhedronShow::show`.
 use Rattle.std.proofs.Common.{◌∙◌, sym, subst}
 use Rattle.lra_linear.specs.Polyhedra.{IsPolyhedron}
 use Rattle.lra_states.proofs.PolyhedronParts.{lists_are, state_is, state_told}

@@ -1,3 +1,4 @@
+-- Goals of `BoxesShow::show`.
 use Rattle.lra_base.specs.declared.options.Domain.TheVariants.{Box}
 use Rattle.lra_box.specs.Meaning.{box_meaning}
 use Rattle.lra_states.proofs.BoxShown.{boxes_are_shown}

@@ -1,3 +1,4 @@
+-- Goals of `OctagonShow::show`.
 use Rattle.lra_base.specs.declared.options.Domain.TheVariants.{Oct}
 use Rattle.lra_oct.specs.Meaning.{octagon_meaning}
 use Rattle.lra_states.proofs.OctShown.{octagons_are_shown}

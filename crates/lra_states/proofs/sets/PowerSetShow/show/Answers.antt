@@ -1,3 +1,4 @@
+-- Goals of `PowerSetShow::show`.
 use Rattle.lra_states.proofs.SetShown.{state_told}
 use Rattle.lra_states.proofs.sets.PowerSetShow.show.Goals as goal
 

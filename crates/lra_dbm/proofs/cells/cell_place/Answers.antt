@@ -1,6 +1,7 @@
+-- Goals of `cell_place`: the place of the entry, or of its twin where the row doesn't hold it.
 use Rattle.std.proofs.Common.{rules}
 use Rattle.lra_dbm.proofs.CellLemmas.{place_in_row, place_of_twin, that_place_below}
-use Rattle.lra_dbm.proofs.cells.place_of.Goals as goal
+use Rattle.lra_dbm.proofs.cells.cell_place.Goals as goal
 
 pub returns-then-j-i-clause-place : goal.returns-then-j-i-clause-place
 returns-then-j-i-clause-place c =
