@@ -11,3 +11,4 @@ pub mod Whole
 pub mod Spelled
 -- Worked examples.
 mod LiteralExamples
+mod RefuseExamples

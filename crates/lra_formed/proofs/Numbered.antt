@@ -1,12 +1,11 @@
 -- The labels of what a tree means are numbers one after the other: as many as it has statements, declarators and ends of blocks.
 use Rattle.std.proofs.Common.{◌≡◌, ℕ, suc, ◌+◌, List, [], ◌∷◌, ◌++◌, length, Option, Some, None, refl, sym, ap, ◌∙◌, subst, arith, length-append, add-one}
 use Rattle.std.specs.List.{range_with_len, flat_map}
-use Rattle.std.proofs.lemmas.List.{length-map}
 use Rattle.lra_base.specs.declared.refusals.Place.{Place}
 use Rattle.lra_tree.specs.Trees as tree
 use Rattle.lra_program.specs.Program.{BlockItems, no_more}
 use Rattle.lra_meaning.specs.Scope.{Scope, with_local, with_declarators, inner, for_scope}
-use Rattle.lra_tree.specs.Labels.{with_names, declarator_labels, init_labels, step_labels, stmt_labels, items_labels, live_in_for}
+use Rattle.lra_tree.specs.Labels.{init_labels, step_labels, stmt_labels, live_in_for}
 use Rattle.lra_meaning.specs.Resolve.{resolve_assign, resolve_declarators, resolve_init, resolve_step, init_count, step_count, stmt_count, items_count, declarator_count, resolve_stmt, resolve_items}
 use Rattle.lra_meaning.specs.Resolve.{resolve_function, resolve_parts}
 use Rattle.lra_program.specs.WellFormed.{stmt_numbers, items_numbers, function_numbers}

@@ -4,7 +4,7 @@ pub mod LabelCounts
 pub mod NameLists
 pub mod FoundLabels
 -- Worked examples: what the names of sources mean, and which sources are refused.
-mod NameExamples
+pub mod NameExamples
 mod SourceRunExamples
 mod WellFormedSourceExamples
 pub mod SiteExamples

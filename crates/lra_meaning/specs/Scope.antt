@@ -4,7 +4,7 @@ use Rattle.std.specs.Prelude.{None, map}
 use Rattle.std.specs.List.{list_any}
 use Rattle.lra_tree.specs.declared.trees.Identifier.{Identifier}
 use Rattle.lra_program.specs.Program.{Slot, global, local}
-use Rattle.lra_tree.specs.Trees.{DeclaratorTree, InitTree, no_init, declared, assigned, globals}
+use Rattle.lra_tree.specs.Trees.{DeclaratorTree, InitTree, no_init, declared, assigned}
 
 -- the variables that can be named, oldest first
 pub record Scope : Type 0 where

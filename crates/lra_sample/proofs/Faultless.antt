@@ -10,7 +10,7 @@ use Rattle.lra_meaning.specs.Scope.{function_scope}
 use Rattle.lra_meaning.specs.NameFaults.{Around, items_faults, name_faults}
 use Rattle.lra_sample.specs.declared.block.Kind.{Kind}
 use Rattle.lra_sample.specs.declared.block.Kind.TheVariants.{Sum, Choice, Count, Input}
-use Rattle.lra_sample.proofs.Lexemes.{behind, item_place}
+use Rattle.lra_tree.proofs.Lexemes.{behind, item_place}
 use Rattle.lra_sample.proofs.Numerals.{four}
 use Rattle.lra_sample.proofs.Lines.{Line, items_of, tree_as}
 use Rattle.lra_sample.proofs.Whole.{head_items, lines_tree, last_tree, body_tree, main_tree, file_tree}

@@ -4,7 +4,6 @@ pub mod Summaries
 mod SampleExamples
 mod SummaryExamples
 -- Sources written lexeme by lexeme; the lines of a sample source and the whole, their tokens and their trees.
-pub mod Lexemes
 pub mod Numerals
 pub mod Lines
 pub mod LineTokens

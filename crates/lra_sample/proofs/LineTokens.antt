@@ -7,7 +7,7 @@ use Rattle.lra_findings.specs.ReportText.{text_line}
 use Rattle.lra_sample.specs.Sample.{statements_text}
 use Rattle.lra_sample.specs.declared.block.Kind.{Kind}
 use Rattle.lra_sample.specs.declared.block.Kind.TheVariants.{Sum, Choice, Count, Input}
-use Rattle.lra_sample.proofs.Lexemes.{Item, written, IsRead, AreRead, ◌⨾◌, as_read, is_mark}
+use Rattle.lra_tree.proofs.Lexemes.{Item, written, IsRead, AreRead, ◌⨾◌, as_read, is_mark}
 use Rattle.lra_sample.proofs.Numerals.{word_ends, zero_good, one_good, is_name}
 use Rattle.lra_sample.proofs.Lines.{Line, items_as}
 

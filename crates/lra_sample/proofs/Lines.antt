@@ -15,7 +15,7 @@ use Rattle.lra_tree.specs.Grammar.{AreItems}
 use Rattle.lra_tree.proofs.TreeSamples.{alone, number, use_of, tested}
 use Rattle.lra_sample.specs.declared.block.Kind.{Kind}
 use Rattle.lra_sample.specs.declared.block.Kind.TheVariants.{Sum, Choice, Count, Input}
-use Rattle.lra_sample.proofs.Lexemes.{Item, skip, lexeme, pieces, item_place, IsGood}
+use Rattle.lra_tree.proofs.Lexemes.{Item, skip, lexeme, pieces, item_place, IsGood}
 use Rattle.lra_sample.proofs.Numerals.{IsFirstDigit, IsVariable}
 
 -- the digits of two variables, and a numeral with its value

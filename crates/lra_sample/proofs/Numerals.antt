@@ -12,7 +12,7 @@ use Rattle.lra_tree.specs.Lexeme.{decimal_base, octal, greatest_literal, number_
 use Rattle.lra_tree.proofs.LongestByTest.{is_lexeme, begins_gap}
 use Rattle.lra_meaning.specs.Scope.{Scope, slot_of}
 use Rattle.lra_tree.specs.Faults.{greatest_level}
-use Rattle.lra_sample.proofs.Lexemes.{IsGood, IsRead, as_read}
+use Rattle.lra_tree.proofs.Lexemes.{IsGood, IsRead, as_read}
 
 -- words --------------------------------------------------------------------------------------------------------------
 

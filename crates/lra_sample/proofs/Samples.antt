@@ -15,7 +15,7 @@ use Rattle.lra_sample.specs.Sample.{statements_text, kind_of, block_from, block_
 use Rattle.lra_sample.specs.Accepted.{SamplesAreAccepted}
 use Rattle.lra_sample.specs.declared.block.Kind.{Kind}
 use Rattle.lra_sample.proofs.Lengths.{short_source}
-use Rattle.lra_sample.proofs.Lexemes.{written}
+use Rattle.lra_tree.proofs.Lexemes.{written}
 use Rattle.lra_sample.proofs.Numerals.{numeral, variable}
 use Rattle.lra_sample.proofs.Lines.{Line, items_of}
 use Rattle.lra_sample.proofs.LineTokens.{text_as}

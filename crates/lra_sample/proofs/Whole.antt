@@ -16,9 +16,9 @@ use Rattle.lra_tree.specs.Texts.{Pieces}
 use Rattle.lra_tree.specs.Grammar.{AreItems, IsFunction, Spells}
 use Rattle.lra_tree.specs.Faults.{IsTree}
 use Rattle.lra_tree.proofs.TreeSamples.{number, use_of, tested}
-use Rattle.lra_sample.proofs.Lexemes.{Item, skip, lexeme, written, behind, reading, pieces, item_place, IsGood, AreRead}
-use Rattle.lra_sample.proofs.Lexemes.{◌⨾◌, as_read, is_mark, written_append, pieces_append, lexed, plain_pieces}
-use Rattle.lra_sample.proofs.Lexemes.{low_pieces}
+use Rattle.lra_tree.proofs.Lexemes.{Item, skip, lexeme, written, behind, reading, pieces, item_place, IsGood, AreRead}
+use Rattle.lra_tree.proofs.Lexemes.{◌⨾◌, as_read, is_mark, written_append, pieces_append, lexed, plain_pieces}
+use Rattle.lra_tree.proofs.Lexemes.{low_pieces}
 use Rattle.lra_sample.proofs.Numerals.{zero_good, IsVariable, variable, is_name}
 use Rattle.lra_sample.proofs.Lines.{Line, opening, sign, named, small, var, items_of, tree_of, both, spells_as}
 use Rattle.lra_sample.proofs.LineTokens.{line_read}

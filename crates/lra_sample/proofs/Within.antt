@@ -15,7 +15,7 @@ use Rattle.lra_meaning.specs.Resolve.{resolve_items, resolve}
 use Rattle.lra_meaning.specs.Refuse.{greatest_live, greatest_points, limit_fault}
 use Rattle.lra_sample.specs.declared.block.Kind.{Kind}
 use Rattle.lra_sample.specs.declared.block.Kind.TheVariants.{Sum, Choice, Count, Input}
-use Rattle.lra_sample.proofs.Lexemes.{behind, item_place}
+use Rattle.lra_tree.proofs.Lexemes.{behind, item_place}
 use Rattle.lra_sample.proofs.Lines.{Line, items_of, tree_as}
 use Rattle.lra_sample.proofs.Numerals.{four}
 use Rattle.lra_sample.proofs.Whole.{four_declared, head_items, lines_tree, last_tree, file_tree}

@@ -3,6 +3,8 @@ pub mod Limit
 -- Worked examples: each definition of specs/ on texts whose answers are known.
 -- Tests by which the examples find longest spellings, and the examples.
 pub mod LongestByTest
+pub mod Lexemes
+pub mod LexedByTest
 pub mod TokenExamples
 -- Trees, and what they stand for.
 mod ViewExamples

@@ -1,8 +1,6 @@
 -- Goals of `Labels::outer`: the list of all names of a list but the newest; where it has none, that list.
-use Rattle.std.proofs.Common.{◌≡◌, ◌<◌, ◌-◌, ap, length, subst, sym, take, arith}
-use Rattle.lra_meaning.specs.declared.labels.Entry.{Entry}
-use Rattle.std.specs.Prelude.{List}
-use Rattle.lra_meaning.specs.LabelTable.{Listed, list_at, lists_of}
+use Rattle.std.proofs.Common.{◌≡◌, ◌<◌, ◌-◌, length, subst, sym, take, arith}
+use Rattle.lra_meaning.specs.LabelTable.{Listed, list_at}
 use Rattle.lra_meaning.proofs.NameLists.{lists_length, outer_of_entry, outer_of_first, outer_inside}
 use Rattle.lra_meaning.proofs.labels.Labels.outer.Goals as goal
 

@@ -1,7 +1,6 @@
 -- Goals of `Labels::relist`: gives the label of a number another list.
-use Rattle.std.proofs.Common.{◌≡◌, ◌∷◌, ◌++◌, ◌<◌, ◌+◌, ◌∙◌, ap, length, map, subst, sym, arith, List}
+use Rattle.std.proofs.Common.{◌≡◌, ◌∷◌, ◌++◌, ◌<◌, ◌+◌, ◌∙◌, ap, length, map, subst, sym, arith}
 use Rattle.std.specs.Prelude.{slice_set}
-use Rattle.lra_tree.specs.Labels.{Labelled}
 use Rattle.lra_meaning.specs.LabelTable.{Listed, list_at, lists_of, label_in, with_live}
 use Rattle.lra_meaning.proofs.NameLists.{lists_length, live_set, live_in_call_set, relisted_invariant, relisted_labels}
 use Rattle.lra_meaning.proofs.labels.Labels.relist.Goals as goal

@@ -65,10 +65,20 @@ abbrev pub Ends : List ℕ → List ℕ → Type 0
 Ends s [] = ⊤
 Ends s (c ∷ cs) = (u : List ℕ) → is_lexeme (s ++ c ∷ u) ≡ false
 
+ends_by : (after s : List ℕ) (c : ℕ) → ((u : List ℕ) → is_lexeme (s ++ c ∷ u) ≡ false) → ends_there s (c ∷ after) ≡ true
+ends_by [] s c none = rw (none []) refl
+ends_by (d ∷ after) s c none =
+    rw (none []) (ends_by after (s ++ c ∷ []) d (λ u. subst (λ z. is_lexeme z ≡ false)
+    (sym (append_assoc s (c ∷ []) (d ∷ u))) (none (d ∷ u))))
+
+ends : (s after : List ℕ) → Ends s after → ends_there s after ≡ true
+ends s [] e = refl
+ends s (c ∷ after) e = ends_by after s c e
+
 -- they stand before such bytes, and open no level past the greatest
 pub record IsRead (c : ℕ) (cs : List ℕ) (k : Kind) (o : ℕ) (after : List ℕ) : Type 0 where
   pub good : IsGood c cs k
-  pub ends : Ends (c ∷ cs) after
+  pub ends : ends_there (c ∷ cs) after ≡ true
   pub low : nat_le o greatest_level ≡ true
 
 abbrev pub AreRead : List Item → Type 0
@@ -83,14 +93,14 @@ a ⨾ b = (a, b)
 
 pub as_read : {c : ℕ} {cs : List ℕ} {k : Kind} {o : ℕ} {after : List ℕ} → IsGood c cs k → Ends (c ∷ cs) after →
     nat_le o greatest_level ≡ true → IsRead c cs k o after
-as_read good ends low = record { good = good; ends = ends; low = low }
+as_read {c} {cs} {after = after} good above low = record { good = good; ends = ends (c ∷ cs) after above; low = low }
 
 pub is_mark : (m : Mark) {c : ℕ} {cs : List ℕ} {o : ℕ} {after : List ℕ} → c ∷ cs ≡ mark_text m → begins_gap c ≡ false →
     nat_le o greatest_level ≡ true → Ends (c ∷ cs) after →
     IsRead c cs (MarkOf m) o after
-is_mark m e g low ends = record {
+is_mark m {c} {cs} {after = after} e g low above = record {
   good = record { lexeme = mark_word m e; spells = mark_of m e; gapless = g };
-  ends = ends;
+  ends = ends (c ∷ cs) after above;
   low = low;
 }
 
@@ -116,16 +126,6 @@ bytes_read before [] = refl
 bytes_read before (skip c ∷ xs) = ap (λ t. c ∷ t) (bytes_read (before ++ c ∷ []) xs)
 bytes_read before (lexeme c cs k o ∷ xs) = ap (λ t. (c ∷ cs) ++ t) (bytes_read (before ++ c ∷ cs) xs)
 
-ends_by : (after s : List ℕ) (c : ℕ) → ((u : List ℕ) → is_lexeme (s ++ c ∷ u) ≡ false) → ends_there s (c ∷ after) ≡ true
-ends_by [] s c none = rw (none []) refl
-ends_by (d ∷ after) s c none =
-    rw (none []) (ends_by after (s ++ c ∷ []) d (λ u. subst (λ z. is_lexeme z ≡ false)
-    (sym (append_assoc s (c ∷ []) (d ∷ u))) (none (d ∷ u))))
-
-ends : (s after : List ℕ) → Ends s after → ends_there s after ≡ true
-ends s [] e = refl
-ends s (c ∷ after) e = ends_by after s c e
-
 second_of : (a b c : Bool) → (a || b || c) ≡ false → b ≡ false
 second_of true b c e = cc
 second_of false true c e = cc
@@ -139,7 +139,7 @@ token_read : (before : List ℕ) (c : ℕ) (cs after : List ℕ) (k : Kind) (o :
     IsToken before (c ∷ cs) ((c ∷ cs) ++ after) (record { kind = k; place = place_behind before })
 token_read before c cs after k o r =
     as_token before (c ∷ cs) after k r.good.lexeme r.good.spells r.good.gapless
-    (no_comment c (cs ++ after) r.good.gapless) (ends (c ∷ cs) after r.ends)
+    (no_comment c (cs ++ after) r.good.gapless) r.ends
 
 read : (before : List ℕ) (xs : List Item) → AreRead xs → IsReading before (reading before xs) []
 read before [] g = tt
