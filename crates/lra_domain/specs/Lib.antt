@@ -3,4 +3,3 @@ pub mod Parts
 pub mod Rank
 pub mod Meaning
 pub mod Laws
-pub mod DomainExamples
