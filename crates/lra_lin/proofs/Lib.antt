@@ -1,1 +1,3 @@
 pub mod FormLemmas
+-- Worked examples: forms and their opposites.
+mod FormExamples
