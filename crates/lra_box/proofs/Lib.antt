@@ -12,3 +12,5 @@ pub mod RefineLemmas
 pub mod RefineSteps
 pub mod TestLemmas
 pub mod PartLemmas
+-- Worked examples: each table of specs/ on small boxes.
+mod BoxExamples

@@ -8,4 +8,3 @@ pub mod Answers
 pub mod Parts
 pub mod Meaning
 pub mod Laws
-pub mod BoxExamples

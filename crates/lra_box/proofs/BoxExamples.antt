@@ -1,5 +1,5 @@
 -- Worked examples of the tables.
-use Rattle.std.specs.Prelude.{◌≡◌, ℤ, pos, negsuc, [], ◌∷◌, None, Some, refl}
+use Rattle.std.proofs.Common.{◌≡◌, ℤ, pos, negsuc, [], ◌∷◌, None, Some, refl}
 use Rattle.lra_linear.specs.declared.ConKind.TheVariants.{Ge, Eq}
 use Rattle.lra_domain.specs.declared.Mode.TheVariants.{Widen}
 use Rattle.lra_box.specs.declared.interval.Interval.{Interval}
@@ -7,36 +7,36 @@ use Rattle.lra_box.specs.Bounds.{open_interval, form}
 use Rattle.lra_box.specs.Refine.{tested}
 use Rattle.lra_box.specs.Tables.{assigned, grown_bounds, joined_bounds}
 
-abbrev pub between : ℤ → ℤ → Interval
+abbrev between : ℤ → ℤ → Interval
 between l h = record { low = Some l; high = Some h }
 
 -- x - y of x in 0..3 and y in 1..5 lies in -5..2
-pub assign_example : assigned 0 (form (pos 0) (pos 1 ∷ negsuc 0 ∷ []))
+assign_example : assigned 0 (form (pos 0) (pos 1 ∷ negsuc 0 ∷ []))
     (between (pos 0) (pos 3) ∷ between (pos 1) (pos 5) ∷ []) ≡ between (negsuc 4) (pos 2) ∷ between (pos 1) (pos 5) ∷ []
 assign_example = refl
 
 -- 2x - 7 >= 0 makes x at least 4
-pub test_example : tested Ge (form (negsuc 6) (pos 2 ∷ [])) (Some (open_interval ∷ [])) ≡
+test_example : tested Ge (form (negsuc 6) (pos 2 ∷ [])) (Some (open_interval ∷ [])) ≡
     Some (record { low = Some (pos 4); high = None } ∷ [])
 test_example = refl
 
 -- x - 1 = 0 makes x = 1 of x in 0..5, and is empty on x in 3..5
-pub equal_example : tested Eq (form (negsuc 0) (pos 1 ∷ [])) (Some (between (pos 0) (pos 5) ∷ [])) ≡
+equal_example : tested Eq (form (negsuc 0) (pos 1 ∷ [])) (Some (between (pos 0) (pos 5) ∷ [])) ≡
     Some (between (pos 1) (pos 1) ∷ [])
 equal_example = refl
 
-pub crossed_example : tested Eq (form (negsuc 0) (pos 1 ∷ [])) (Some (between (pos 3) (pos 5) ∷ [])) ≡ None
+crossed_example : tested Eq (form (negsuc 0) (pos 1 ∷ [])) (Some (between (pos 3) (pos 5) ∷ [])) ≡ None
 crossed_example = refl
 
 -- where no variable occurs the constant decides
-pub constant_example : tested Ge (form (negsuc 0) (pos 0 ∷ [])) (Some (open_interval ∷ [])) ≡ None
+constant_example : tested Ge (form (negsuc 0) (pos 0 ∷ [])) (Some (open_interval ∷ [])) ≡ None
 constant_example = refl
 
 -- 0..0 widened by 1..1 loses its upper bound
-pub widen_example : grown_bounds Widen (Some (between (pos 0) (pos 0) ∷ [])) (Some (between (pos 1) (pos 1) ∷ [])) ≡
+widen_example : grown_bounds Widen (Some (between (pos 0) (pos 0) ∷ [])) (Some (between (pos 1) (pos 1) ∷ [])) ≡
     Some (record { low = Some (pos 0); high = None } ∷ [])
 widen_example = refl
 
 -- an empty operand gives the other
-pub join_example : joined_bounds None (Some (between (pos 0) (pos 3) ∷ [])) ≡ Some (between (pos 0) (pos 3) ∷ [])
+join_example : joined_bounds None (Some (between (pos 0) (pos 3) ∷ [])) ≡ Some (between (pos 0) (pos 3) ∷ [])
 join_example = refl
