@@ -23,9 +23,11 @@ use Rattle.lra_set.specs.Heads.{FormHas, HeadHas, FormStarts, FormStays, OneStra
 use Rattle.lra_set.specs.Heads.{FormValued, FormValueStrains, FormGrown, HeadGrown, HeadGrowStrains, Widens}
 use Rattle.lra_set.specs.Heads.{WidenStrains, FormCovered, HeadCovered, HeadGivenUp, form_rank}
 use Rattle.lra_set.specs.Meaning.{set_meaning}
-use Rattle.lra_set.specs.Outcomes.{PartFits, IsSettled, Told}
+use Rattle.lra_set.specs.Outcomes.{PartFits, HaveDims, IsSettled, Told}
+use Rattle.lra_set.specs.Forms.{FormFits, HeadFits}
 use Rattle.lra_set.specs.Laws.{parts_within, started_has, whole_is_filled, with_filled_rows}
-use Rattle.lra_set.specs.Growth.{StartsAnew, BecomesOne, OneGrew, OneAnswers, LiesIn, HasGrown, valued_set}
+use Rattle.lra_set.specs.Growth.{StartsAnew, BecomesOne, HasAll, OneGrew, OneAnswers, SingleAnswers, LiesIn, HasGrown, valued_set}
+use Rattle.lra_set.proofs.AnswerLemmas.{fits_dims}
 use Rattle.lra_set.proofs.GrowthLemmas.{merge_same, merge_stays, has_all}
 
 -- modes of widening -------------------------------------------------------------------------------------------------------
@@ -101,7 +103,7 @@ whole_below m (one h) p n = inl (omega arith)
 whole_below m (whole q) p n = absurd n
 
 -- the head is given up: it has all stores
-pub whole_grown : {V H : Type 0} (m : Meaning V H) → (old : Head V H) (next : Parts V) (mode : Mode) (new : Head V H) (p : V)
+whole_grown : {V H : Type 0} (m : Meaning V H) → (old : Head V H) (next : Parts V) (mode : Mode) (new : Head V H) (p : V)
     → new.dims ≡ old.dims → new.cap ≡ old.cap → new.form ≡ whole p → IsWhole m old.dims p → next.dims ≡ old.dims
     → NotWhole old.form
     → HeadAnswers m old next mode Wide ⊎ (HeadAnswers m old next mode No × HeadGrowStrains m old next mode)
@@ -198,7 +200,7 @@ one_grew m l pl n c given g h next mode e w same dims o =
       flagged = λ x. one_flagged m l pl n c given g h next mode o.join w o.merged dims (o.grew.flagged x);
     }) (λ x. one_below m pl g h o.lower)
 
-pub one_has_grown : {V H : Type 0} (m : Meaning V H) → Laws m → PlainLaws m → (n c : ℕ) (given : Listed ConKind) (old new : H)
+one_has_grown : {V H : Type 0} (m : Meaning V H) → Laws m → PlainLaws m → (n c : ℕ) (given : Listed ConKind) (old new : H)
     (next : Parts V) (mode : Mode) (g : Grown) → mode ≢ Join → next.dims ≡ n → m.head_dims old ≡ n
     → OneAnswers m old next.parts mode (Some g) new
     → HasGrown m (with_one n c given old) next mode g (with_one n c given new)
@@ -234,17 +236,35 @@ one_fails m n c given old next mode w strains (inr not) = inr (
   widening_strains m (with_one n c given old) next mode w (inl strains),
 )
 
--- the head with the part that has all stores
-abbrev pub with_whole : {V H : Type 0} → ℕ → ℕ → Listed ConKind → V → Head V H
-with_whole n c given p = record { dims = n; cap = c; given = given; form = whole p }
+-- the same head, by what it has
+head_is : {V H : Type 0} (h : Head V H) (n c : ℕ) (given : Listed ConKind) (f : Form V H) → h.dims ≡ n → h.cap ≡ c
+    → h.given ≡ given → h.form ≡ f → h ≡ record { dims = n; cap = c; given = given; form = f }
+head_is {V} {H} h n c given f dims cap rows form =
+    subst (λ (k : ℕ). h ≡ record { dims = k; cap = c; given = given; form = f }) dims
+    (subst (λ (k : ℕ). h ≡ record { dims = h.dims; cap = k; given = given; form = f }) cap
+    (subst (λ (x : Listed ConKind). h ≡ record { dims = h.dims; cap = h.cap; given = x; form = f }) rows
+    (subst (λ (x : Form V H). h ≡ record { dims = h.dims; cap = h.cap; given = h.given; form = x }) form refl)))
 
-pub one_given_up : {V H : Type 0} (m : Meaning V H) → Laws m → (n c : ℕ) (given : Listed ConKind) (old new : H)
-    (next : Parts V) (mode : Mode) (cap : ℕ) (p : V) → mode ≢ Join → next.dims ≡ n → m.universal n cap p
-    → OneAnswers m old next.parts mode None new
-    → HasGrown m (with_one n c given old) next mode (grew_by Flagged) (with_whole n c given p)
-one_given_up m l n c given old new next mode cap p w same all o =
-    whole_grown m (with_one n c given old) next mode (with_whole n c given p) p refl refl refl (cap, all) same tt
-    (one_fails m n c given old next mode w o.0 (some_or m l old mode next.parts o.1))
+pub single_grown : {V H : Type 0} (m : Meaning V H) → Laws m → PlainLaws m → (old new : Head V H) (next : Parts V)
+    (mode : Mode) (g : Grown) → mode ≢ Join → next.dims ≡ old.dims → new.dims ≡ old.dims → new.cap ≡ old.cap
+    → SingleAnswers m old next.parts mode (Some g) new → HasGrown m old next mode g new
+single_grown {V} {H} m l pl old new next mode g w same dims cap s =
+    subst (λ (x : Head V H). HasGrown m x next mode g new)
+    (sym (head_is old old.dims old.cap old.given (one s.before) refl refl refl s.was))
+    (subst (λ (x : Head V H). HasGrown m (with_one old.dims old.cap old.given s.before) next mode g x)
+    (sym (head_is new old.dims old.cap old.given (one s.after) dims cap s.rows s.form))
+    (one_has_grown m l pl old.dims old.cap old.given s.before s.after next mode g w same s.dims s.answers))
+
+-- nothing is known of the single part's head, and the head is given up
+pub single_given_up : {V H : Type 0} (m : Meaning V H) → Laws m → (old between new : Head V H) (next : Parts V) (mode : Mode)
+    (n cap : ℕ) (p : V) → mode ≢ Join → next.dims ≡ old.dims → SingleAnswers m old next.parts mode None between
+    → new.dims ≡ old.dims → new.cap ≡ old.cap → new.form ≡ whole p → n ≡ old.dims → m.universal n cap p
+    → HasGrown m old next mode (grew_by Flagged) new
+single_given_up {V} {H} m l old between new next mode n k p w same s dims cap form is all =
+    whole_grown m old next mode new p dims cap form (k, subst (λ (i : ℕ). m.universal i k p) is all) same (subst (λ (f : Form V H). NotWhole f) (sym s.was) tt)
+    (subst (λ (x : Head V H). HeadAnswers m x next mode Wide ⊎ (HeadAnswers m x next mode No × HeadGrowStrains m x next mode))
+    (sym (head_is old old.dims old.cap old.given (one s.before) refl refl refl s.was))
+    (one_fails m old.dims old.cap old.given s.before next mode w s.answers.0 (some_or m l s.before mode next.parts s.answers.1)))
 
 -- widening: parts, not one ------------------------------------------------------------------------------------------------
 
@@ -252,27 +272,32 @@ one_given_up m l n c given old new next mode cap p w same all o =
 abbrev pub with_parts : {V H : Type 0} → ℕ → ℕ → Listed ConKind → List V → Head V H
 with_parts n c given ps = record { dims = n; cap = c; given = given; form = many ps }
 
-pub many_stays : {V H : Type 0} (m : Meaning V H) (n c : ℕ) (given : Listed ConKind) (ps : List V) (next : Parts V)
-    (mode : Mode) → PartsInside m.inside next.parts ps
-    → HasGrown m (with_parts n c given ps) next mode Stable (with_parts n c given ps)
-many_stays m n c given ps next mode st =
-    grown_stable m (with_parts n c given ps) next mode (with_parts n c given ps) refl st
+pub many_stays : {V H : Type 0} (m : Meaning V H) (old : Head V H) (ps : List V) (next : Parts V) (mode : Mode)
+    → old.form ≡ many ps → PartsInside m.inside next.parts ps → HasGrown m old next mode Stable old
+many_stays {V} {H} m old ps next mode form st = grown_stable m old next mode old refl
+    (subst (λ (f : Form V H). FormStays m f next.parts mode) (sym form) st)
 
-pub many_wide : {V H : Type 0} (m : Meaning V H) (n c : ℕ) (given : Listed ConKind) (ps : List V) (next : Parts V)
-    (mode : Mode) (cap : ℕ) (p : V) → next.dims ≡ n → m.universal n cap p
-    → SomePart (λ q. SomePart (m.inside_strains q) ps) next.parts
-    → HasGrown m (with_parts n c given ps) next mode (grew_by Flagged) (with_whole n c given p)
-many_wide m n c given ps next mode cap p same all strains =
-    whole_grown m (with_parts n c given ps) next mode (with_whole n c given p) p refl refl refl (cap, all) same tt
-    (inl strains)
+-- an inclusion in its parts strains, and the head is given up
+pub many_wide : {V H : Type 0} (m : Meaning V H) (old new : Head V H) (ps : List V) (next : Parts V) (mode : Mode)
+    → old.form ≡ many ps → next.dims ≡ old.dims → HasAll m old new
+    → SomePart (λ q. SomePart (m.inside_strains q) ps) next.parts → HasGrown m old next mode (grew_by Flagged) new
+many_wide {V} {H} m old new ps next mode form same a strains =
+    whole_grown m old next mode new a.part a.dims a.cap a.form (old.cap, a.all) same
+    (subst (λ (f : Form V H). NotWhole f) (sym form) tt)
+    (inl (subst (λ (f : Form V H). FormStrains m f next.parts mode) (sym form) strains))
 
-pub many_strains : {V H : Type 0} (m : Meaning V H) (n c : ℕ) (given : Listed ConKind) (ps : List V) (next : Parts V)
-    (mode : Mode) (cap : ℕ) (p : V) → mode ≢ Join → next.dims ≡ n → m.universal n cap p
-    → ¬ PartsInside m.inside next.parts ps → BecomesOne m given ps next.parts mode None
-    → HasGrown m (with_parts n c given ps) next mode (grew_by Flagged) (with_whole n c given p)
-many_strains m n c given ps next mode cap p w same all out strains =
-    whole_grown m (with_parts n c given ps) next mode (with_whole n c given p) p refl refl refl (cap, all) same tt
-    (inr ((λ st. out st.1), widening_strains m (with_parts n c given ps) next mode w strains))
+-- its parts become one where that strains, and the head is given up
+pub many_strains : {V H : Type 0} (m : Meaning V H) (old new : Head V H) (ps : List V) (next : Parts V) (mode : Mode)
+    → mode ≢ Join → old.form ≡ many ps → next.dims ≡ old.dims → HasAll m old new → ¬ PartsInside m.inside next.parts ps
+    → BecomesOne m old.given ps next.parts mode None → HasGrown m old next mode (grew_by Flagged) new
+many_strains {V} {H} m old new ps next mode w form same a out strains =
+    whole_grown m old next mode new a.part a.dims a.cap a.form (old.cap, a.all) same
+    (subst (λ (f : Form V H). NotWhole f) (sym form) tt)
+    (inr (
+      (λ st. out (subst (λ (f : Form V H). FormStays m f next.parts mode) form st.1)),
+      widening_strains m old next mode w
+          (subst (λ (f : Form V H). WidenStrains m old.given f next.parts mode) (sym form) strains),
+    ))
 
 many_below : {V H : Type 0} (m : Meaning V H) (ps : List V) (h : H) → length ps ≢ 1
     → RankBelow (form_rank m (one h)) (form_rank m (many ps))
@@ -280,7 +305,7 @@ many_below m [] h n = inl (omega arith)
 many_below m (p ∷ []) h n = absurd (n refl)
 many_below m (p ∷ q ∷ ps) h n = inl (omega arith)
 
-pub many_one : {V H : Type 0} (m : Meaning V H) (n c : ℕ) (given : Listed ConKind) (ps : List V) (h : H) (next : Parts V)
+many_one : {V H : Type 0} (m : Meaning V H) (n c : ℕ) (given : Listed ConKind) (ps : List V) (h : H) (next : Parts V)
     (mode : Mode) → mode ≢ Join → next.dims ≡ n → length ps ≢ 1 → ¬ PartsInside m.inside next.parts ps
     → BecomesOne m given ps next.parts mode (Some h)
     → HasGrown m (with_parts n c given ps) next mode (grew_by Exact) (with_one n c given h)
@@ -298,6 +323,27 @@ many_one m n c given ps h next mode w same not_one out (widens, covers, own, by)
       };
       flagged = λ e. let wrong : ⊥ = cc in absurd wrong;
     }) (λ x. many_below m ps h not_one)
+
+pub many_unite : {V H : Type 0} (m : Meaning V H) (old new : Head V H) (ps : List V) (h : H) (next : Parts V) (mode : Mode)
+    → mode ≢ Join → old.form ≡ many ps → next.dims ≡ old.dims → HeadFits m old → new.dims ≡ old.dims → new.cap ≡ old.cap
+    → new.given ≡ old.given → new.form ≡ one h → ¬ PartsInside m.inside next.parts ps
+    → BecomesOne m old.given ps next.parts mode (Some h) → HasGrown m old next mode (grew_by Exact) new
+many_unite {V} {H} m old new ps h next mode w was same fits dims cap rows form out one_of =
+    let all : FormFits m old.dims old.cap (many ps) = subst (λ (f : Form V H). FormFits m old.dims old.cap f) was fits.form in
+    subst (λ (x : Head V H). HasGrown m x next mode (grew_by Exact) new)
+    (sym (head_is old old.dims old.cap old.given (many ps) refl refl refl was))
+    (subst (λ (x : Head V H). HasGrown m (with_parts old.dims old.cap old.given ps) next mode (grew_by Exact) x)
+    (sym (head_is new old.dims old.cap old.given (one h) dims cap rows form))
+    (many_one m old.dims old.cap old.given ps h next mode w same all.2 out one_of))
+
+-- the parts of a head that fits
+pub many_fit : {V H : Type 0} (m : Meaning V H) (h : Head V H) (ps : List V) → h.form ≡ many ps → HeadFits m h
+    → EachPart (PartFits m h.dims) ps
+many_fit {V} {H} m h ps form fits = (subst (λ (f : Form V H). FormFits m h.dims h.cap f) form fits.form).0
+
+pub many_alike : {V H : Type 0} (m : Meaning V H) (h : Head V H) (ps : List V) → h.form ≡ many ps → HeadFits m h
+    → HaveDims m h.dims ps
+many_alike m h ps form fits = fits_dims m h.dims ps (many_fit m h ps form fits)
 
 -- joining -----------------------------------------------------------------------------------------------------------------
 
@@ -466,12 +512,11 @@ pub join_stays : {V H : Type 0} (m : Meaning V H) (old : Head V H) (next : Parts
     → HasGrown m old next Join Stable old
 join_stays m old next ps lies = grown_stable m old next Join old refl lies.answers.1
 
-pub join_wide : {V H : Type 0} (m : Meaning V H) (old : Head V H) (next : Parts V) (ps : List V) (new : Head V H) (c : ℕ) (p : V)
-    → next.dims ≡ old.dims → new.dims ≡ old.dims → new.cap ≡ old.cap → new.form ≡ whole p → m.universal old.dims c p
-    → LiesIn m old ps next Wide → HasGrown m old next Join (grew_by Flagged) new
-join_wide m old next ps new c p same dims cap form all lies =
-    whole_grown m old next Join new p dims cap form (c, all) same (strains_open m old.form next.parts Join lies.answers)
-    (inl lies.answers)
+pub join_wide : {V H : Type 0} (m : Meaning V H) (old new : Head V H) (next : Parts V) (ps : List V) → next.dims ≡ old.dims
+    → HasAll m old new → LiesIn m old ps next Wide → HasGrown m old next Join (grew_by Flagged) new
+join_wide m old new next ps same a lies =
+    whole_grown m old next Join new a.part a.dims a.cap a.form (old.cap, a.all) same
+    (strains_open m old.form next.parts Join lies.answers) (inl lies.answers)
 
 -- the whole stays
 pub whole_stays : {V H : Type 0} (m : Meaning V H) (old : Head V H) (next : Parts V) (mode : Mode) (p : V)

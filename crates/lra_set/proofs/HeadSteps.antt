@@ -30,6 +30,12 @@ fits_whole m l n c given f p cap fits all dims = record {
   form = whole_fits m l n cap p all dims;
 }
 
+pub fits_whole_as : {V H : Type 0} (m : Meaning V H) → Laws m → (n i c : ℕ) (given : Listed ConKind) (f : Form V H) (p : V)
+    (cap : ℕ) → HeadFits m (record { dims = n; cap = c; given = given; form = f }) → i ≡ n → m.universal i cap p → m.dims p ≡ i
+    → HeadFits m (record { dims = n; cap = c; given = given; form = whole p })
+fits_whole_as m l n i c given f p cap fits same all dims =
+    fits_whole m l n c given f p cap fits (subst (λ (k : ℕ). m.universal k cap p) same all) (dims ∙ same)
+
 pub fits_one : {V H : Type 0} (m : Meaning V H) (n c : ℕ) (given : Listed ConKind) (f : Form V H) (h : H)
     → HeadFits m (record { dims = n; cap = c; given = given; form = f }) → m.head_dims h ≡ n → RankFits (m.rank h)
     → HeadFits m (record { dims = n; cap = c; given = given; form = one h })

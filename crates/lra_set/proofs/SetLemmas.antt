@@ -188,6 +188,12 @@ pub others_fit : {V H : Type 0} (m : Meaning V H) (n k : ℕ) (ps qs : List V) �
 others_fit {V} m n k ps qs e d fit = subst (λ (xs : List V). EachPart (PartFits m k) xs) d
     (subst (λ (i : ℕ). EachPart (PartFits m i) ps) e fit)
 
+-- the parts of both sets, one behind the other
+pub joined_fit : {V H : Type 0} (m : Meaning V H) (n i k : ℕ) (ps qs xs ys all : List V) → n ≡ k → i ≡ k → all ≡ xs ++ ys
+    → xs ≡ ps → ys ≡ qs → EachPart (PartFits m n) ps → EachPart (PartFits m i) qs → EachPart (PartFits m n) all
+joined_fit m n i k ps qs xs ys all own others is first second a b =
+    both_fit m n k ps qs all own (joined_lists xs ys all ps qs is first second) a (others_fit m i k qs qs others refl b)
+
 all_rows : {V H : Type 0} (m : Meaning V H) (ps : List V) (none all : List (Listed ConKind)) → none ≡ []
     → all ≡ none ++ flat_map m.parts ps → all ≡ flat_map m.parts ps
 all_rows m ps none all e d = d ∙ ap (λ (rows : List (Listed ConKind)). rows ++ flat_map m.parts ps) e

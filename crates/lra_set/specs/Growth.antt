@@ -1,5 +1,5 @@
 -- What the steps of a head's growth leave, for the contracts of the code.
-use Rattle.std.specs.Prelude.{◌≡◌, ◌≢◌, ℕ, ℤ, Bool, true, false, List, ◌++◌, Option, Some, None, ◌⊎◌}
+use Rattle.std.specs.Prelude.{◌≡◌, ◌≢◌, ℕ, ℤ, Bool, true, false, List, [], ◌∷◌, ◌++◌, Option, Some, None, ◌⊎◌}
 use Rattle.lra_sys.specs.Listed.{Listed}
 use Rattle.lra_linear.specs.declared.ConKind.{ConKind}
 use Rattle.lra_domain.specs.declared.Exactness.{Exactness}
@@ -10,9 +10,9 @@ use Rattle.lra_domain.specs.declared.Mode.TheVariants.{Join}
 use Rattle.lra_domain.specs.declared.Grown.{Grown}
 use Rattle.lra_domain.specs.declared.Grown.TheVariants.{Stable, Grew as grew_by}
 use Rattle.lra_domain.specs.Rank.{RankBelow}
-use Rattle.lra_domain.specs.Meaning.{Meaning, Grew, GrowthStrains}
+use Rattle.lra_domain.specs.Meaning.{Meaning, Grew, GrowthStrains, Values}
 use Rattle.lra_set.specs.Lists.{EachPart, SomePart}
-use Rattle.lra_set.specs.Content.{Form, many, one, Parts, Head}
+use Rattle.lra_set.specs.Content.{Form, many, one, whole, Parts, Head, filled}
 use Rattle.lra_set.specs.Heads.{FormStarts, FormCovered, FormStays, FormValued, HeadAnswers, Widens, WidenStrains}
 use Rattle.lra_set.specs.Heads.{GrowsBy, form_rank}
 use Rattle.lra_set.specs.Joins.{Merges, MergeStrains}
@@ -70,6 +70,24 @@ OneAnswers m old qs mode (Some (grew_by e)) new = OneGrew m old qs mode e new
 OneAnswers m old qs mode None new =
     MergeStrains m qs × SomePart (λ q. m.answers old q mode No ⊎ m.answers old q mode Wide) qs
 
+-- what became of a head whose single part's head grew
+pub record SingleAnswers {V H : Type 0} (m : Meaning V H) (old : Head V H) (qs : List V) (mode : Mode)
+    (o : Option Grown) (new : Head V H) : Type 0 where
+  pub before : H
+  pub after : H
+  pub was : old.form ≡ one before
+  pub form : new.form ≡ one after
+  pub rows : new.given ≡ old.given
+  pub dims : m.head_dims before ≡ old.dims
+  pub answers : OneAnswers m before qs mode o after
+
+-- the value of a single part's head, as parts: none where it is empty
+pub record OneValued {V H : Type 0} (m : Meaning V H) (h : H) (e : Exactness) (ps : List V) : Type 0 where
+  pub value : V
+  pub values : Values m h e value
+  pub dims : m.dims value ≡ m.head_dims h
+  pub parts : ps ≡ filled m (value ∷ [])
+
 -- the parts of a head's value, as a set
 abbrev pub valued_set : {V H : Type 0} → Head V H → List V → Parts V
 valued_set h ps = record { dims = h.dims; cap = h.cap; parts = ps }
@@ -79,6 +97,14 @@ pub record LiesIn {V H : Type 0} (m : Meaning V H) (h : Head V H) (ps : List V) 
     (i : Included) : Type 0 where
   pub answers : HeadAnswers m h next Join i
   pub valued : i ≡ No → FormValued m h.form ps
+
+-- the head was given up: it has the part with all stores, and is else as it was
+pub record HasAll {V H : Type 0} (m : Meaning V H) (old new : Head V H) : Type 0 where
+  pub part : V
+  pub all : m.universal old.dims old.cap part
+  pub dims : new.dims ≡ old.dims
+  pub cap : new.cap ≡ old.cap
+  pub form : new.form ≡ whole part
 
 -- what a growth of a head leaves
 pub record HasGrown {V H : Type 0} (m : Meaning V H) (old : Head V H) (next : Parts V) (mode : Mode) (g : Grown)

@@ -7,8 +7,10 @@ ghost use Rattle.lra_set.specs.Lists.{EachPart};
 ghost use Rattle.lra_set.specs.Heads.{FormStarts};
 ghost use Rattle.lra_set.specs.Outcomes.{HaveDims, PartFits};
 ghost use Rattle.lra_set.specs.Forms.{FormFits, form_of};
-ghost use Rattle.lra_set.specs.Growth.{BecomesOne, MergesExactly, OneAnswers, StartsAndGrows, StartsAnew, StaysWithAll};
+ghost use Rattle.lra_set.specs.Growth.{BecomesOne, MergesExactly, OneAnswers, OneValued, StartsAndGrows, StartsAnew};
+ghost use Rattle.lra_set.specs.Growth.{StaysWithAll};
 
+use crate::changes::push_filled;
 use crate::joins::{merge, settle};
 use crate::set::append_copies;
 use lra_domain::{Domain, Exactness, Grown, Mode, Plain};
@@ -51,6 +53,16 @@ pub fn start_with<D: Plain>(
         return Ok(Held::One(one));
     }
     Ok(Held::Many(parts))
+}
+
+/// The parts of the value of a single part's head: none where it is empty.
+pub fn value_one<D: Plain>(alloc: Global, head: &D::Head) -> Result<(Vec<D>, Exactness), AllocError>
+    ensures { IfOk result (λ r. OneValued D.meaning head.now r.1 r.0.items) }
+{
+    let (value, exactness) = D::value(alloc, head)?;
+    let mut parts = Vec::new(alloc);
+    push_filled(&mut parts, value)?;
+    Ok((parts, exactness))
 }
 
 /// The parts and next's, reduced and kept within the cap; with them a head starts anew.

@@ -1,19 +1,19 @@
 //! The heads of sets.
 
-ghost use Rattle.std.specs.Prelude.{◌≡◌, ◌≢◌, ◌≤◌, List, length, IfOk, OnErr};
+ghost use Rattle.std.specs.Prelude.{◌≡◌, ◌≢◌, ◌≤◌, List, length, IfOk, OnErr, OnOk};
 ghost use Rattle.lra_domain.specs.declared.Mode.TheVariants.{Join};
 ghost use Rattle.lra_domain.specs.Meaning.{Starts, Values};
 ghost use Rattle.lra_set.specs.Lists.{EachPart};
 ghost use Rattle.lra_set.specs.Meaning.{set_meaning};
+ghost use Rattle.lra_set.specs.Values.{PartsInside};
 ghost use Rattle.lra_set.specs.Outcomes.{PartFits};
 ghost use Rattle.lra_set.specs.Content.{one, many};
 ghost use Rattle.lra_set.specs.Forms.{HeadFits};
-ghost use Rattle.lra_set.specs.Growth.{HasGrown, LiesIn, valued_set};
+ghost use Rattle.lra_set.specs.Growth.{HasAll, HasGrown, LiesIn, SingleAnswers, StartsAnew, valued_set};
 
-use crate::changes::push_filled;
-use crate::growth::{Held, become_one, grow_one, start_anew, start_with};
+use crate::growth::{Held, become_one, grow_one, start_anew, start_with, value_one};
 use crate::reduction::all_lie_in;
-use crate::set::{PowerSet, append_copies};
+use crate::set::{PowerSet, copy_alone, copy_parts};
 use lra_domain::{Domain, Exactness, Grown, Included, Mode, Plain, Rank};
 use lra_sys::ConSys;
 use std::alloc::{AllocError, Global};
@@ -101,8 +101,7 @@ impl<D: Plain> PowerSetHead<D> {
         ensures cap { IfOk result (λ h. h.cap ≡ first.now.cap) }
         ensures fit { IfOk result (λ h. HeadFits D.meaning h) }
     {
-        let mut parts = Vec::new(alloc);
-        append_copies(alloc, &mut parts, first.items())?;
+        let parts = copy_parts(alloc, first.items())?;
         let held = start_with(alloc, parts, given)?;
         let given = given.copy()?;
         Ok(PowerSetHead {
@@ -121,19 +120,17 @@ impl<D: Plain> PowerSetHead<D> {
         ensures fit { IfOk result (λ r. EachPart (PartFits D.meaning self.now.dims) r.0.items) }
         ensures few { IfOk result (λ r. length r.0.items ≤ self.now.cap) }
     {
-        let mut parts = Vec::new(alloc);
         match &self.held {
             Held::Many(held) => {
-                append_copies(alloc, &mut parts, held.as_slice())?;
+                let parts = copy_parts(alloc, held.as_slice())?;
                 Ok((parts, Exactness::Exact))
             }
             Held::One(one) => {
-                let (part, exactness) = D::value(alloc, one)?;
-                push_filled(&mut parts, part)?;
+                let (parts, exactness) = value_one(alloc, one)?;
                 Ok((parts, exactness))
             }
             Held::Whole(part) => {
-                parts.push(part.copy(alloc)?)?;
+                let parts = copy_alone(alloc, part)?;
                 Ok((parts, Exactness::Exact))
             }
         }
@@ -168,6 +165,65 @@ impl<D: Plain> PowerSetHead<D> {
         }
     }
 
+    // These parts and next's, reduced and kept within the cap, take the place of what it has.
+    fn restart(&mut self, parts: Vec<D>, next: &[D]) -> Result<Exactness, AllocError>
+        requires fit { EachPart (PartFits D.meaning self.old.dims) parts.items }
+        requires next { EachPart (PartFits D.meaning self.old.dims) next.now }
+        ensures starts { IfOk result (λ e. StartsAnew D.meaning
+            self.old.given self.old.dims self.old.cap parts.items next.now e self.new.form) }
+        ensures dims { self.new.dims ≡ self.old.dims }
+        ensures cap { self.new.cap ≡ self.old.cap }
+        ensures given { self.new.given ≡ self.old.given }
+        ensures err { OnErr result (self.new ≡ self.old) }
+    {
+        let cap = self.cap as usize;
+        let (held, exactness) = start_anew(self.alloc, cap, &self.given, parts, next)?;
+        self.held = held;
+        Ok(exactness)
+    }
+
+    // It is given up: it has all stores.
+    fn give_up(&mut self) -> Result<(), AllocError>
+        ensures given_up { OnOk result (HasAll D.meaning self.old self.new) }
+        ensures dims { self.new.dims ≡ self.old.dims }
+        ensures cap { self.new.cap ≡ self.old.cap }
+        ensures err { OnErr result (self.new ≡ self.old) }
+    {
+        let all = D::universe(self.alloc, self.dims, self.cap)?;
+        self.held = Held::Whole(all);
+        Ok(())
+    }
+
+    // The join with next, where it is told whether next lies in it, whose value has these parts.
+    fn join_told(
+        &mut self,
+        parts: Vec<D>,
+        lies: Included,
+        next: &PowerSet<D>,
+    ) -> Result<Grown, AllocError>
+        requires dims { next.now.dims ≡ self.old.dims }
+        requires values { (e : Exactness) ×
+            Values (set_meaning D.meaning) self.old e (valued_set self.old parts.items) }
+        requires fit { EachPart (PartFits D.meaning self.old.dims) parts.items }
+        requires lies { LiesIn D.meaning self.old parts.items next.now lies }
+        ensures grown { IfOk result (λ g. HasGrown D.meaning self.old next.now Join g self.new) }
+        ensures dims { self.new.dims ≡ self.old.dims }
+        ensures cap { self.new.cap ≡ self.old.cap }
+        ensures err { OnErr result (self.new ≡ self.old) }
+    {
+        match lies {
+            Included::Yes => Ok(Grown::Stable),
+            Included::No => {
+                let exactness = self.restart(parts, next.items())?;
+                Ok(Grown::Grew(exactness))
+            }
+            Included::Wide => {
+                self.give_up()?;
+                Ok(Grown::Grew(Exactness::Flagged))
+            }
+        }
+    }
+
     // It becomes the set's join with next, unless next lies in it.
     fn join(&mut self, next: &PowerSet<D>) -> Result<Grown, AllocError>
         requires { next.now.dims ≡ self.old.dims }
@@ -177,25 +233,28 @@ impl<D: Plain> PowerSetHead<D> {
         ensures err { OnErr result (self.new ≡ self.old) }
     {
         let (parts, exactness) = self.parts(self.alloc)?;
-        match self.lies_in(parts.as_slice(), exactness, next) {
-            Included::Yes => Ok(Grown::Stable),
-            Included::No => {
-                let cap = self.cap as usize;
-                let (held, exactness) = start_anew(
-                    self.alloc,
-                    cap,
-                    &self.given,
-                    parts,
-                    next.items(),
-                )?;
-                self.held = held;
-                Ok(Grown::Grew(exactness))
+        let lies = self.lies_in(parts.as_slice(), exactness, next);
+        let grown = self.join_told(parts, lies, next)?;
+        Ok(grown)
+    }
+
+    // The head of its single part grows by next's parts, or nothing is known of it.
+    fn grow_single(&mut self, next: &PowerSet<D>, mode: Mode) -> Result<Option<Grown>, AllocError>
+        requires dims { next.now.dims ≡ self.old.dims }
+        requires widens { mode ≢ Join }
+        requires single { (h : D.Head) × (self.old.form ≡ one h) }
+        ensures answers { IfOk result (λ o. SingleAnswers D.meaning self.old next.now.parts mode o self.new) }
+        ensures dims { self.new.dims ≡ self.old.dims }
+        ensures cap { self.new.cap ≡ self.old.cap }
+        ensures err { OnErr result (self.new ≡ self.old) }
+    {
+        match &mut self.held {
+            Held::One(one) => {
+                let grown = grow_one(self.alloc, one, next.items(), mode)?;
+                Ok(grown)
             }
-            Included::Wide => {
-                let all = D::universe(self.alloc, self.dims, self.cap)?;
-                self.held = Held::Whole(all);
-                Ok(Grown::Grew(Exactness::Flagged))
-            }
+            Held::Many(_) => unreachable!(),
+            Held::Whole(_) => unreachable!(),
         }
     }
 
@@ -210,16 +269,48 @@ impl<D: Plain> PowerSetHead<D> {
         ensures err { OnErr result (self.new ≡ self.old) }
     {
         let all = D::universe(self.alloc, self.dims, self.cap)?;
-        match &mut self.held {
-            Held::One(one) => match grow_one(self.alloc, one, next.items(), mode)? {
-                Some(grown) => Ok(grown),
-                None => {
-                    self.held = Held::Whole(all);
-                    Ok(Grown::Grew(Exactness::Flagged))
-                }
-            },
-            Held::Many(_) => unreachable!(),
+        match self.grow_single(next, mode)? {
+            Some(grown) => Ok(grown),
+            None => {
+                self.held = Held::Whole(all);
+                Ok(Grown::Grew(Exactness::Flagged))
+            }
+        }
+    }
+
+    // The parts that it has, where it isn't one.
+    fn held_parts(&self) -> &[D]
+        requires { (ps : List D) × (self.now.form ≡ many ps) }
+        ensures form { self.now.form ≡ many result.now }
+        ensures fits { HeadFits D.meaning self.now }
+    {
+        match &self.held {
+            Held::Many(parts) => parts.as_slice(),
+            Held::One(_) => unreachable!(),
             Held::Whole(_) => unreachable!(),
+        }
+    }
+
+    // Its parts, in which next doesn't lie, become one, which grows.
+    fn unite(&mut self, next: &PowerSet<D>, mode: Mode) -> Result<Grown, AllocError>
+        requires dims { next.now.dims ≡ self.old.dims }
+        requires widens { mode ≢ Join }
+        requires parts { (ps : List D) × (self.old.form ≡ many ps) × ¬ PartsInside D.meaning.inside next.now.parts ps }
+        ensures grown { IfOk result (λ g. HasGrown D.meaning self.old next.now mode g self.new) }
+        ensures dims { self.new.dims ≡ self.old.dims }
+        ensures cap { self.new.cap ≡ self.old.cap }
+        ensures err { OnErr result (self.new ≡ self.old) }
+    {
+        let parts = self.held_parts();
+        match become_one(self.alloc, &self.given, parts, next.items(), mode)? {
+            None => {
+                self.give_up()?;
+                Ok(Grown::Grew(Exactness::Flagged))
+            }
+            Some(head) => {
+                self.held = Held::One(head);
+                Ok(Grown::Grew(Exactness::Exact))
+            }
         }
     }
 
@@ -233,28 +324,16 @@ impl<D: Plain> PowerSetHead<D> {
         ensures cap { self.new.cap ≡ self.old.cap }
         ensures err { OnErr result (self.new ≡ self.old) }
     {
-        let all = D::universe(self.alloc, self.dims, self.cap)?;
-        let held = match &self.held {
-            Held::Many(parts) => parts.as_slice(),
-            Held::One(_) => unreachable!(),
-            Held::Whole(_) => unreachable!(),
-        };
-        match all_lie_in(next.items(), held) {
+        match all_lie_in(next.items(), self.held_parts()) {
             Included::Yes => Ok(Grown::Stable),
             Included::Wide => {
-                self.held = Held::Whole(all);
+                self.give_up()?;
                 Ok(Grown::Grew(Exactness::Flagged))
             }
-            Included::No => match become_one(self.alloc, &self.given, held, next.items(), mode)? {
-                None => {
-                    self.held = Held::Whole(all);
-                    Ok(Grown::Grew(Exactness::Flagged))
-                }
-                Some(head) => {
-                    self.held = Held::One(head);
-                    Ok(Grown::Grew(Exactness::Exact))
-                }
-            },
+            Included::No => {
+                let grown = self.unite(next, mode)?;
+                Ok(grown)
+            }
         }
     }
 

@@ -6,6 +6,7 @@ ghost use Rattle.lra_set.specs.Outcomes.{AreMerged, BecameOne, HaveDims, IsMerge
 
 use crate::answers::worse_of;
 use crate::reduction::reduce;
+use crate::set::list_alone;
 use lra_domain::{Domain, Exactness, Plain};
 use std::alloc::{AllocError, Global};
 
@@ -43,8 +44,7 @@ pub fn into_one<D: Plain>(alloc: Global, parts: &[D]) -> Result<Vec<D>, AllocErr
     ensures { IfOk result (λ one. BecameOne D.meaning parts.now one.items) }
 {
     let (whole, _) = merge(alloc, parts)?;
-    let mut one = Vec::new(alloc);
-    one.push(whole)?;
+    let one = list_alone(alloc, whole)?;
     Ok(one)
 }
 

@@ -1,7 +1,7 @@
 //! Sets of parts as a domain.
 
-ghost use Rattle.std.specs.Prelude.{◌≡◌, ◌≤◌, ◌++◌, ◌^◌, ◌↔◌, ℕ, ℤ, List, [], length, flat_map, IfOk, IsTrue, OnErr};
-ghost use Rattle.std.specs.Prelude.{OnOk};
+ghost use Rattle.std.specs.Prelude.{◌≡◌, ◌≤◌, ◌++◌, ◌∷◌, ◌^◌, ◌↔◌, ℕ, ℤ, List, [], length, flat_map, IfOk, IsTrue};
+ghost use Rattle.std.specs.Prelude.{OnErr, OnOk};
 ghost use Rattle.std.specs.List.{All};
 ghost use Rattle.lra_domain.specs.Parts.{SomePartHolds};
 ghost use Rattle.lra_domain.specs.Actions.{dims_after};
@@ -72,6 +72,41 @@ pub fn append_copies<D: Plain>(
     all.push(first.copy(alloc)?)?;
     append_copies(alloc, all, later)?;
     Ok(())
+}
+
+/// The parts again.
+pub fn copy_parts<D: Plain>(alloc: Global, parts: &[D]) -> Result<Vec<D>, AllocError>
+    ensures { IfOk result (λ copies. copies.items ≡ parts.now) }
+{
+    let mut copies = Vec::new(alloc);
+    append_copies(alloc, &mut copies, parts)?;
+    Ok(copies)
+}
+
+/// The parts and then the others.
+fn copy_both<D: Plain>(alloc: Global, parts: &[D], others: &[D]) -> Result<Vec<D>, AllocError>
+    ensures { IfOk result (λ both. both.items ≡ parts.now ++ others.now) }
+{
+    let mut both = copy_parts(alloc, parts)?;
+    append_copies(alloc, &mut both, others)?;
+    Ok(both)
+}
+
+/// The part alone.
+pub fn list_alone<D: Plain>(alloc: Global, part: D) -> Result<Vec<D>, AllocError>
+    ensures { IfOk result (λ parts. parts.items ≡ part ∷ []) }
+{
+    let mut parts = Vec::new(alloc);
+    parts.push(part)?;
+    Ok(parts)
+}
+
+/// The part again, alone.
+pub fn copy_alone<D: Plain>(alloc: Global, part: &D) -> Result<Vec<D>, AllocError>
+    ensures { IfOk result (λ parts. parts.items ≡ part.now ∷ []) }
+{
+    let parts = list_alone(alloc, part.copy(alloc)?)?;
+    Ok(parts)
 }
 
 /// Appends the rows that mean the parts.
@@ -185,8 +220,7 @@ impl<D: Plain> Domain for PowerSet<D> {
     ghost laws = { set_laws D.meaning D.laws D.plain };
 
     fn universe(alloc: Global, n: usize, cap: u32) -> Result<Self, AllocError> {
-        let mut parts = Vec::new(alloc);
-        parts.push(D::universe(alloc, n, cap)?)?;
+        let parts = list_alone(alloc, D::universe(alloc, n, cap)?)?;
         Ok(PowerSet {
             alloc,
             dims: n,
@@ -205,8 +239,7 @@ impl<D: Plain> Domain for PowerSet<D> {
     }
 
     fn copy(&self, alloc: Global) -> Result<Self, AllocError> {
-        let mut parts = Vec::new(alloc);
-        append_copies(alloc, &mut parts, self.parts.as_slice())?;
+        let parts = copy_parts(alloc, self.parts.as_slice())?;
         Ok(PowerSet {
             alloc,
             dims: self.dims,
@@ -252,9 +285,7 @@ impl<D: Plain> Domain for PowerSet<D> {
 
     /// The other's parts are appended, and the list is reduced and kept within the cap.
     fn join(&mut self, other: &Self) -> Result<Exactness, AllocError> {
-        let mut both = Vec::new(self.alloc);
-        append_copies(self.alloc, &mut both, self.parts.as_slice())?;
-        append_copies(self.alloc, &mut both, other.parts.as_slice())?;
+        let both = copy_both(self.alloc, self.parts.as_slice(), other.parts.as_slice())?;
         let (settled, exactness) = settle(self.alloc, self.cap as usize, both)?;
         self.parts = settled;
         Ok(exactness)

@@ -1,15 +1,12 @@
 -- Goals of `PowerSetHead::start`: the head that starts with the set.
-use Rattle.std.proofs.Common.{◌≡◌, ◌∙◌}
+use Rattle.std.proofs.Common.{◌∙◌}
 use Rattle.lra_set.specs.Forms.{form_of}
-use Rattle.lra_set.proofs.HeadSteps.{behind_none, starts_as}
+use Rattle.lra_set.proofs.HeadSteps.{starts_as}
 use Rattle.lra_set.proofs.ValueLemmas.{set_starts}
 use Rattle.lra_set.proofs.heads.PowerSetHead.start.Goals as goal
 
 pub returns-clause-starts : goal.returns-clause-starts
 returns-clause-starts g c =
-    let all : c.append_copies.new.all.items ≡ c.args.first.now.parts =
-    behind_none c.new-parts.result.items c.items.result.now c.append_copies.new.all.items c.new-parts.ensures.items
-    c.in_ok-append_copies.ensures ∙ c.items.ensures.parts in
     set_starts g.D.Domain.meaning g.met.D.Domain.laws g.met.D.Plain.plain c.args.first.now c.args.given.now
     (record {
       dims = c.dims.result;
@@ -17,5 +14,5 @@ returns-clause-starts g c =
       given = c.in_ok-given.given;
       form = form_of c.in_ok-held.held;
     }) c.dims.ensures c.cap.ensures.cap c.in_ok-given.ensures
-    (starts_as g.D.Domain.meaning c.args.given.now c.append_copies.new.all.items c.args.first.now.parts
-    (form_of c.in_ok-held.held) all c.in_ok-held.ensures.starts)
+    (starts_as g.D.Domain.meaning c.args.given.now c.in_ok-parts.parts.items c.args.first.now.parts
+    (form_of c.in_ok-held.held) (c.in_ok-parts.ensures ∙ c.items.ensures.parts) c.in_ok-held.ensures.starts)

@@ -1,32 +1,36 @@
 -- Goals of `PowerSetHead::widen_one`: the head of its single part grows, unless next lies in it.
-use Rattle.std.proofs.Common.{◌≡◌, Some, None, refl, ◌∙◌}
+use Rattle.std.proofs.Common.{◌≡◌, refl, sym, ◌∙◌}
+use Rattle.lra_set.specs.Content.{whole}
 use Rattle.lra_set.specs.Forms.{form_of}
-use Rattle.lra_set.proofs.HeadLemmas.{one_given_up, one_has_grown}
-use Rattle.lra_set.proofs.HeadSteps.{fits_whole, told_as}
+use Rattle.lra_set.proofs.HeadLemmas.{single_given_up, single_grown}
+use Rattle.lra_set.proofs.HeadSteps.{fits_whole_as}
 use Rattle.lra_set.proofs.heads.PowerSetHead.widen_one.Goals as goal
 
-pub invariant_of-self-in-None : goal.invariant_of-self-in-None
-invariant_of-self-in-None g c = fits_whole g.D.Domain.meaning g.met.D.Domain.laws c.self.inside.dims c.self.inside.cap
-    c.self.inside.given (form_of c.self.inside.held) c.in_ok-all.all c.self.inside.cap c.self.invariant
-    c.in_ok-all.ensures.defined c.in_ok-all.ensures.dims
+pub invariant_of-self : goal.invariant_of-self
+invariant_of-self g c =
+    let own : c.self.inside.dims ≡ c.args.self.now.dims = rw (← c.self.view_is) refl in
+    let later : c.self-2.inside.dims ≡ c.grow_single.new.self.dims = rw (← c.self-2.view_is) refl in
+    fits_whole_as g.D.Domain.meaning g.met.D.Domain.laws c.self-2.inside.dims c.self.inside.dims c.self-2.inside.cap c.self-2.inside.given
+    (form_of c.self-2.inside.held) c.in_ok-all.all c.self.inside.cap c.self-2.invariant
+    (own ∙ sym c.grow_single.ensures.dims ∙ sym later) c.in_ok-all.ensures.defined c.in_ok-all.ensures.dims
 
 pub returns-in-Some-clause-grown : goal.returns-in-Some-clause-grown
 returns-in-Some-clause-grown g c =
-    let own : c.args.self.now.dims ≡ c.self.inside.dims = rw (← c.self.view_is) refl in
-    let form = rw c.in-One.is at c.self.invariant.form in
-    let told = told_as g.D.Domain.meaning c.in-One.one c.grow_one.new.head c.items.result.now c.args.next.now.parts
-    c.args.mode c.in_ok-grown-in-One.field-0 (Some c.in-Some.grown) c.items.ensures.parts c.in-Some.is
-    c.in_ok-grown-in-One.ensures.answers in
-    rw (← c.self.view_is) (rw c.in-One.is (one_has_grown g.D.Domain.meaning g.met.D.Domain.laws g.met.D.Plain.plain
-    c.self.inside.dims c.self.inside.cap c.self.inside.given c.in-One.one c.grow_one.new.head c.args.next.now c.args.mode
-    c.in-Some.grown c.requires.widens (c.requires.dims ∙ own) form.0 told))
+    single_grown g.D.Domain.meaning g.met.D.Domain.laws g.met.D.Plain.plain c.args.self.now c.grow_single.new.self c.args.next.now c.args.mode c.in-Some.grown
+    c.requires.widens c.requires.dims c.grow_single.ensures.dims c.grow_single.ensures.cap
+    (rw c.in-Some.is at c.in_ok-grown.ensures.answers)
 
 pub returns-in-None-clause-grown : goal.returns-in-None-clause-grown
 returns-in-None-clause-grown g c =
-    let own : c.args.self.now.dims ≡ c.self.inside.dims = rw (← c.self.view_is) refl in
-    let told = told_as g.D.Domain.meaning c.in-One.one c.grow_one.new.head c.items.result.now c.args.next.now.parts
-    c.args.mode c.in_ok-grown-in-One.field-0 None c.items.ensures.parts c.in-None.is
-    c.in_ok-grown-in-One.ensures.answers in
-    rw (← c.self.view_is) (rw c.in-One.is (one_given_up g.D.Domain.meaning g.met.D.Domain.laws c.self.inside.dims
-    c.self.inside.cap c.self.inside.given c.in-One.one c.grow_one.new.head c.args.next.now c.args.mode c.self.inside.cap
-    c.in_ok-all.all c.requires.widens (c.requires.dims ∙ own) c.in_ok-all.ensures.defined told))
+    let own : c.self.inside.dims ≡ c.args.self.now.dims = rw (← c.self.view_is) refl in
+    let dims : c.self-2.inside.dims ≡ c.grow_single.new.self.dims = rw (← c.self-2.view_is) refl in
+    let cap : c.self-2.inside.cap ≡ c.grow_single.new.self.cap = rw (← c.self-2.view_is) refl in
+    single_given_up g.D.Domain.meaning g.met.D.Domain.laws c.args.self.now c.grow_single.new.self
+    (record {
+      dims = c.self-2.inside.dims;
+      cap = c.self-2.inside.cap;
+      given = c.self-2.inside.given;
+      form = whole c.in_ok-all.all;
+    }) c.args.next.now c.args.mode c.self.inside.dims c.self.inside.cap c.in_ok-all.all c.requires.widens c.requires.dims
+    (rw c.in-None.is at c.in_ok-grown.ensures.answers) (dims ∙ c.grow_single.ensures.dims) (cap ∙ c.grow_single.ensures.cap)
+    refl own c.in_ok-all.ensures.defined
