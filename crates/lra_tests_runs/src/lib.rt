@@ -1,18 +1,24 @@
 //! Tests of whole scripts and whole runs: each public call that allocates, and values
 //! from outside.
 //!
-//! They stand apart from what they try, since a crate that has tests in it is proved twice.
+//! They stand apart from what they try, since a crate that has tests in it is proved twice. `memory` runs over memory,
+//! here and for the tests of strains.
 #![tactic(auto)]
 
 #[cfg(test)]
-mod calc;
+mod answers;
 #[cfg(test)]
-mod hostile;
+mod boxes;
+#[cfg(test)]
+mod checks;
+pub mod memory;
 #[cfg(test)]
 mod parts;
 #[cfg(test)]
 mod polyhedra;
 #[cfg(test)]
+mod refusals;
+#[cfg(test)]
 mod samples;
 #[cfg(test)]
-mod top;
+mod scripts;

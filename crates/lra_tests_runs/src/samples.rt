@@ -1,17 +1,13 @@
 //! Samples, and reports as JSON.
 
-use crate::top::{PROVED, Pieces, SOUND, ended, joined};
+use crate::checks::{Answer, are_answers};
+use crate::memory::{PROVED, SOUND};
 use lra_top::Status;
 use std::test::Fail;
 
-const EMPTY: Pieces = ("int main(void){}", "", 0, "");
+const EMPTY: &str = "int main(void){}";
 
-const UNKNOWN: Pieces = (
-    "int main(void){ long x; x = 2; assert(x >= 3); }",
-    "",
-    0,
-    "",
-);
+const UNKNOWN: &str = "int main(void){ long x; x = 2; assert(x >= 3); }";
 
 const NO_BLOCK: &str =
     "sample seed 0 size 0\nbytes 78\npoints 6\nflagged 0\nverdicts proved 1 unknown 0\n";
@@ -20,20 +16,20 @@ const ONE_BLOCK: &str =
     "sample seed 0 size 1\nbytes 112\npoints 8\nflagged 0\nverdicts proved 1 unknown 0\n";
 
 const EMPTY_JSON: &str =
-    "{\"analysis\":{\"delay\":1,\"domain\":\"poly\",\"limited\":false,\"narrow\":1,\"parts\":1},\
-    \"asserts\":[],\"flagged\":0,\"points\":[{\"number\":1,\"parts\":[{\"generators\":[\"point\"],\"rows\":[]}],\
-    \"path\":\"main\",\"place\":\"1:16\"}],\"proved\":0,\"unknown\":0}\n";
+    "{\"analysis\":{\"delay\":1,\"domain\":\"poly\",\"limited\":false,\"narrow\":1,\"parts\":1},\"asserts\":[],\
+    \"flagged\":0,\"points\":[{\"number\":1,\"parts\":[{\"generators\":[\"point\"],\"rows\":[]}],\"path\":\
+    \"main\",\"place\":\"1:16\"}],\"proved\":0,\"unknown\":0}\n";
 
 const UNKNOWN_JSON: &str =
-    "{\"analysis\":{\"delay\":1,\"domain\":\"box\",\"limited\":false,\"narrow\":1,\"parts\":1},\
-    \"asserts\":[{\"point\":3,\"verdict\":\"unknown\"}],\"flagged\":0,\"points\":[\
-    {\"number\":1,\"parts\":[{\"rows\":[]}],\"path\":\"main\",\"place\":\"1:22\"},\
-    {\"number\":2,\"parts\":[{\"rows\":[]}],\"path\":\"main\",\"place\":\"1:25\"},\
-    {\"number\":3,\"parts\":[{\"rows\":[\"x = 2\"]}],\"path\":\"main\",\"place\":\"1:32\"},\
-    {\"number\":4,\"parts\":[],\"path\":\"main\",\"place\":\"1:48\"}],\"proved\":0,\"unknown\":1}\n";
+    "{\"analysis\":{\"delay\":1,\"domain\":\"box\",\"limited\":false,\"narrow\":1,\"parts\":1},\"asserts\":[{\"p\
+    oint\":3,\"verdict\":\"unknown\"}],\"flagged\":0,\"points\":[{\"number\":1,\"parts\":[{\"rows\":[]}],\"\
+    path\":\"main\",\"place\":\"1:22\"},{\"number\":2,\"parts\":[{\"rows\":[]}],\"path\":\"main\",\"place\"\
+    :\"1:25\"},{\"number\":3,\"parts\":[{\"rows\":[\"x = \
+    2\"]}],\"path\":\"main\",\"place\":\"1:32\"},{\"number\":4,\"parts\":[],\"path\":\"main\",\"place\":\"1\
+    :48\"}],\"proved\":0,\"unknown\":1}\n";
 
-/// Words, a source, the read and the write that are to fail, the status, and the whole text that is written.
-static ANSWERS: [(&str, Pieces, (u64, u64), Status, &str); 7] = [
+/// Samples, which read nothing, and reports as JSON.
+static ANSWERS: [Answer; 7] = [
     // the first read would fail, so none is made
     (
         "lra sample --seed 0 --size 0",
@@ -72,7 +68,7 @@ static ANSWERS: [(&str, Pieces, (u64, u64), Status, &str); 7] = [
     ),
     (
         "lra analyse --json",
-        ("", "", 0, ""),
+        "",
         SOUND,
         Status::Refused,
         "refused 6 NoMain at 1:1\n",
@@ -82,10 +78,5 @@ static ANSWERS: [(&str, Pieces, (u64, u64), Status, &str); 7] = [
 
 #[test]
 fn samples_and_json_are_whole(rt: HostRuntime) -> Result<(), Fail> {
-    for &(words, source, fails, status, text) in ANSWERS.iter() {
-        let (end, held) = ended(&rt, words, joined(&rt, source)?.as_bytes(), fails)?;
-        let same = held.as_bytes() == text.as_bytes();
-        assert_eq!(rt; (end, same), (status, true), "{words}: {text}");
-    }
-    Ok(())
+    are_answers(&rt, rt.alloc(), &ANSWERS)
 }

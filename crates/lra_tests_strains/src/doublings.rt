@@ -1,0 +1,81 @@
+//! Doublings up to the end of the range and past it.
+
+use crate::hulls::count_lines;
+use crate::pieces::{Pieces, are_proved, joined};
+use lra_tests_runs::memory::{BOXES, SOUND, ended};
+use lra_top::Status;
+use std::alloc::Global;
+use std::test::Fail;
+
+/// The greatest power of two that has 127 bits.
+const WITHIN: Pieces = ("int main(void){ long x=1;", " x=x+x;", 126, " }");
+
+/// One doubling more.
+const PAST: Pieces = ("int main(void){ long x=1;", " x=x+x;", 127, " }");
+
+/// The same doublings in a loop.
+const LOOP_PAST: Pieces = (
+    "int main(void){ long x=1; while(input()){",
+    " x=x+x;",
+    127,
+    " } }",
+);
+
+/// Lines of reports over boxes.
+static OVER_BOXES: [(Pieces, &str); 3] = [
+    (WITHIN, "\nflagged 0\n"),
+    (PAST, "\nflagged at point 128\n"),
+    (PAST, "point 129 main 1:916\n  row true\n"),
+];
+
+/// Lines of reports over polyhedra.
+static OVER_POLYHEDRA: [(Pieces, &str); 5] = [
+    (WITHIN, "\nflagged 0\n"),
+    (
+        WITHIN,
+        "point 128 main 1:909\n  row x = 85070591730234615865843651857942052864\n\
+            \x20 gen point x=85070591730234615865843651857942052864\nverdicts proved 0 unknown 0\n",
+    ),
+    (PAST, "\nflagged at point 128\n"),
+    (
+        PAST,
+        "point 129 main 1:916\n  row true\n  gen point x=0\n  gen line x=1\nverdicts proved 0 unknown 0\n",
+    ),
+    (LOOP_PAST, "\nflagged at point 129\n"),
+];
+
+#[test]
+fn doublings_over_boxes(rt: HostRuntime) -> Result<(), Fail> {
+    are_proved(&rt, rt.alloc(), BOXES, &OVER_BOXES)
+}
+
+#[test]
+fn doublings_over_polyhedra(rt: HostRuntime) -> Result<(), Fail> {
+    are_proved(&rt, rt.alloc(), "lra analyse", &OVER_POLYHEDRA)
+}
+
+/// How many rows, true rows, origins, lines along `x` and generators a text tells.
+fn counts_of(text: &str) -> [usize; 5] {
+    [
+        count_lines(text, "  row "),
+        count_lines(text, "  row true"),
+        count_lines(text, "  gen point x=0"),
+        count_lines(text, "  gen line x=1"),
+        count_lines(text, "  gen "),
+    ]
+}
+
+/// How the run over the loop ends, and what its text tells.
+fn loop_tells(alloc: Global) -> Result<(Status, [usize; 5]), Fail> {
+    let source = joined(alloc, LOOP_PAST)?;
+    let (end, text) = ended(alloc, "lra analyse", source.as_bytes(), SOUND)?;
+    Ok((end, counts_of(&text)))
+}
+
+/// A loop whose value is lost at its last doubling tells nothing at any point, nor of `x` once it is declared.
+#[test]
+fn doublings_past_the_range_tell_nothing(rt: HostRuntime) -> Result<(), Fail> {
+    let told = loop_tells(rt.alloc())?;
+    assert_eq!(rt; told, (Status::Proved, [131, 131, 130, 130, 261]));
+    Ok(())
+}
