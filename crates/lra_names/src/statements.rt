@@ -150,6 +150,10 @@ fn resolve_block(
     Ok(lra_program::Stmt::Block(items, end))
 }
 
+/// The items of a block, each under its labels; what they declare stays in the scope.
+///
+/// Refused at the first fault: `UnknownName`, `DuplicateName`, `BadCall`, or `Misplaced` for `break` and `continue`.
+/// `Memory` where memory runs out.
 #[cycle(statement)]
 #[tactic(auto, using(lra_simple::proofs::StatementLaws::items_rules))]
 pub fn resolve_items(

@@ -93,6 +93,10 @@ pub fn resolve_call(
     })
 }
 
+/// What is written into a variable or returned: a value, or the result of a call, which stands under the label.
+///
+/// Refused at the first fault: `UnknownName` where a variable or the called function isn't known, `BadCall` where that
+/// has another number of parameters or no result. `Memory` where memory runs out.
 pub fn resolve_source(
     alloc: Global,
     functions: &Functions<'_>,
@@ -233,6 +237,10 @@ fn resolve_increment(
     Ok(lra_program::Stmt::Assign(label, slot, source))
 }
 
+/// An assignment under its label: `x += e` and `x++` read `x` first.
+///
+/// Refused at the first fault, that of `x` before those of the source, with the causes of `resolve_source`. `Memory`
+/// where memory runs out.
 pub fn resolve_assign(
     alloc: Global,
     functions: &Functions<'_>,

@@ -110,6 +110,9 @@ fn resolve_conjunction(
     all(alloc, first, rest)
 }
 
+/// A condition: its conjunctions, joined by `||` where there are several.
+///
+/// `UnknownName` at the first variable that isn't known, `Memory` where memory runs out.
 #[cycle(condition)]
 #[tactic(auto, using(crate::proofs::CondLaws::cond_rules))]
 pub fn resolve_cond(

@@ -63,6 +63,9 @@ fn sum_operator(operator: SumOperator) -> Operator
     }
 }
 
+/// An operand with the signs before it; a plus sign changes nothing.
+///
+/// `UnknownName` at the first variable that isn't known, `Memory` where memory runs out.
 #[cycle(expression)]
 pub fn resolve_unary(
     alloc: Global,
@@ -127,6 +130,9 @@ fn resolve_term(alloc: Global, scope: &Scope, term: &Term) -> Result<lra_program
     chain(alloc, first, rest)
 }
 
+/// A sum of products, from the left.
+///
+/// `UnknownName` at the first variable that isn't known, `Memory` where memory runs out.
 #[cycle(expression)]
 #[tactic(auto, using(crate::proofs::ChainLaws::expr_rules))]
 pub fn resolve_expr(

@@ -140,6 +140,9 @@ pub fn resolve_head(
     Ok(Head { label, cond })
 }
 
+/// An assertion under a new label at its place.
+///
+/// `UnknownName` at the first variable of its condition that isn't known, `Memory` where memory runs out.
 pub fn resolve_assert(
     around: &Around<'_>,
     scope: &Scope,
@@ -157,6 +160,9 @@ pub fn resolve_assert(
     Ok(head.into_assert())
 }
 
+/// An assumption under a new label at its place.
+///
+/// `UnknownName` at the first variable of its condition that isn't known, `Memory` where memory runs out.
 pub fn resolve_assume(
     around: &Around<'_>,
     scope: &Scope,
