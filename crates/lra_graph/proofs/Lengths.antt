@@ -188,27 +188,27 @@ module _ (f : Frame) (n : ℕ) (g step : Node) (x : Length (in_loop f (Some n)) 
   }
 
 -- of a call whose body is g
-module _ (f : Frame) (n r : ℕ) (x : Option ℕ) (es : List Expr) (params : ℕ) (g : Node) (f' : Frame) (n' : ℕ) (i : length es ≡ params) (no_loop : f'.loop ≡ None)
-    (j : f'.back ≡ Some (record { target = x; here = f.here; length = n })) (d : n + params ≤ n') (y : Length f' (n + params) n' g) where
+module _ (spot : Spot) (r : ℕ) (x : Option ℕ) (es : List Expr) (params : ℕ) (g : Node) (f' : Frame) (n' : ℕ) (i : length es ≡ params) (no_loop : f'.loop ≡ None)
+    (j : f'.back ≡ Some (record { target = x; here = spot.frame.here; length = spot.live })) (d : spot.live + params ≤ n') (y : Length f' (spot.live + params) n' g) where
   no_jump : (kind : Exit) (u : State) → kind ≢ returned → JumpLength f' kind u → ⊥
   no_jump broken u z w = none-some _ (sym no_loop ∙ w.1)
   no_jump continued u z w = none-some _ (sym no_loop ∙ w.1)
   no_jump returned u z w = z refl
 
-  end_of_body : (u t : State) → length u.store ≡ n + params → EndsBody r n x params g u t → length t.store ≡ n
+  end_of_body : (u t : State) → length u.store ≡ spot.live + params → EndsBody r spot.live x params g u t → length t.store ≡ spot.live
   end_of_body u t o b =
       let one : length b.before.store ≡ n' = y.ends u b.before normal o b.body in
-      let two : length b.cut.store ≡ n + params = length_keep (n + params) b.before b.cut (omega arith) b.cuts in
-      let three : length b.set.store ≡ n + params = length_any x b.cut b.set b.sets ∙ two in
-      length_keep n b.set t (omega arith) b.back
+      let two : length b.cut.store ≡ spot.live + params = length_keep (spot.live + params) b.before b.cut (omega arith) b.cuts in
+      let three : length b.set.store ≡ spot.live + params = length_any x b.cut b.set b.sets ∙ two in
+      length_keep spot.live b.set t (omega arith) b.back
 
-  after_call_length : (s t : State) (h : How) → length s.store ≡ n → EndsCall r f.here.base n x es params g s h t → LengthAt f n h t
-  after_call_length s t h l (u, o, inl (a, b)) = rw a (y.ends u t (jump returned) (length_push f.here.base es s u o ∙ rw (l, i) refl) b _ j)
-  after_call_length s t h l (u, o, inr (inl (a, b))) = rw a (end_of_body u t (length_push f.here.base es s u o ∙ rw (l, i) refl) b)
-  after_call_length s t h l (u, o, inr (inr (kind, a, z, b))) = absurd (no_jump kind t z (y.ends u t (jump kind) (length_push f.here.base es s u o ∙ rw (l, i) refl) b))
+  after_call_length : (s t : State) (h : How) → length s.store ≡ spot.live → EndsCall spot r x es params g s h t → LengthAt spot.frame spot.live h t
+  after_call_length s t h l (u, o, inl (a, b)) = rw a (y.ends u t (jump returned) (length_push spot.frame.here.base es s u o ∙ rw (l, i) refl) b _ j)
+  after_call_length s t h l (u, o, inr (inl (a, b))) = rw a (end_of_body u t (length_push spot.frame.here.base es s u o ∙ rw (l, i) refl) b)
+  after_call_length s t h l (u, o, inr (inr (kind, a, z, b))) = absurd (no_jump kind t z (y.ends u t (jump kind) (length_push spot.frame.here.base es s u o ∙ rw (l, i) refl) b))
 
-  call_length : (q : ℕ) → Length f n n (call_node q r f.here.base n x es params g)
-  call_length q = record { ends = λ s t h l e. after_call_length s t h l (call_inv q r f.here.base n x es params g s h t e) }
+  call_length : Length spot.frame spot.live spot.live (call_node spot.next r spot.frame.here.base spot.live x es params g)
+  call_length = record { ends = λ s t h l e. after_call_length s t h l (call_inv spot r x es params g s h t e) }
 
 empty_length : (f : Frame) (n : ℕ) (s t : State) (h : How) → length s.store ≡ n → Ends empty s h t → LengthAt f n h t
 empty_length f n s t normal l e = rw e l
@@ -251,7 +251,7 @@ mutual
   pub length_gives : {P : Program} {T : List Site} {spot : Spot} {r : ℕ} {x : Option ℕ} {e : Source} {g : Node} {q : ℕ} → Gives P T spot r x e g q → Length spot.frame spot.live spot.live g
   length_gives (as_value {s = spot} {x = x} {e = e}) = give_length spot.next spot.frame.here.base x e
   length_gives (as_result {s = spot} {x = x} {c = c} {fn = fn} {g = g} {n = n'} {q = r'} i j d k) =
-      call_length spot.frame spot.live r' x c.arguments fn.parameters g (callee spot.frame spot.live x c) n' j refl refl (grows_all d) (length_all d) spot.next
+      call_length spot r' x c.arguments fn.parameters g (callee spot.frame spot.live x c) n' j refl refl (grows_all d) (length_all d)
 
 -- a declarator's point, and what follows it
 pub length_declarator : {P : Program} {T : List Site} {spot : Spot} {r : ℕ} {e : Option Source} {g : Node} {q : ℕ} → Declares P T spot r e g q →

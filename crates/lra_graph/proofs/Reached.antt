@@ -15,7 +15,7 @@ use Rattle.lra_graph.proofs.Split.{Hit, Splits, hits, ended, jumped, all_below, 
 module _ (P : Program) (T : List Site) (c : Config) (p : ℕ) (on : label_on c.items ≡ Some p) (body : Node) (last live : ℕ)
     (d : InlAll P T (main_spot P) P.main.body body live last) (has : Has T (move (main_spot P) live last) P.main.end) where
   at_end : (m : State) (n : ℕ) → length m.store ≡ live → Steps P n (config (end_of P.main.end (length P.globals) ∷ []) (main_frame P).here m) c → Hit T c p (point last) m
-  at_end m zero l t = hit_there T c p (move (main_spot P) live last) P.main.end false (end_of P.main.end (length P.globals)) [] m (point last) on has l refl (refl, refl) (λ z. z) t
+  at_end m zero l t = hit_there T c p (move (main_spot P) live last) P.main.end false (end_of P.main.end (length P.globals) ∷ []) m (point last) on has l refl (refl, refl) (λ z. z) t
   at_end m (suc zero) l (e, y, t) = absurd (not_there c e p on (ap (λ (x : Config). label_on x.items) (sym (go_some [] (main_frame P).here (run_op (keep (length P.globals)) m) e y).2)) t)
   at_end m (suc (suc n)) l (e, y, (e', y', t)) = absurd (none-some e' (subst (λ (x : Config). next P x ≡ Some e') (sym (go_some [] (main_frame P).here (run_op (keep (length P.globals)) m) e y).2) y'))
 

@@ -3,7 +3,7 @@ use Rattle.std.proofs.Common.{◌≡◌, ◌≢◌, ℕ, zero, suc, ◌+◌, Lis
 use Rattle.lra_program.specs.Program.{Expr, Cond}
 use Rattle.lra_program.specs.Step.{State, Op, run_op, test, push, keep, give_any}
 use Rattle.lra_operations.specs.Graph.{Exit, broken, continued, returned, How, normal, jump, Node, point, act, check, seq, catch, leave, Rounds, Ends, Comes, FailsAt}
-use Rattle.lra_operations.specs.Inlined.{loop_node, call_node}
+use Rattle.lra_operations.specs.Inlined.{Spot, loop_node, call_node}
 
 -- a jump out of the first part, or the second part's end
 abbrev pub EndsSeq : Node → Node → State → How → State → Type 0
@@ -35,9 +35,6 @@ point_seq q a s normal t (m, e, x) = rw e at x
 point_seq q a s (jump j) t (inl x) = absurd x
 point_seq q a s (jump j) t (inr (m, e, x)) = rw e at x
 
-pub point_join : (q : ℕ) (a : Node) (s : State) (h : How) (t : State) → Ends a s h t → Ends (seq (point q) a) s h t
-point_join q a s h t x = seq_join (point q) a s s h t refl x
-
 pub act_seq : (q : ℕ) (op : Op) (a : Node) (s : State) (h : How) (t : State) → Ends (seq (act q op) a) s h t → (m : State) × (run_op op s ≡ Some m) × Ends a m h t
 act_seq q op a s normal t (m, e, x) = (m, e, x)
 act_seq q op a s (jump j) t (inl x) = absurd x
@@ -67,10 +64,11 @@ pub record EndsBody (r n : ℕ) (x : Option ℕ) (params : ℕ) (g : Node) (u t 
   pub sets : run_op (give_any x) cut ≡ Some set
   pub back : run_op (keep n) set ≡ Some t
 
-abbrev pub EndsCall : ℕ → ℕ → ℕ → Option ℕ → List Expr → ℕ → Node → State → How → State → Type 0
-EndsCall r base n x es params g s h t =
-    (u : State) × (run_op (push base es) s ≡ Some u)
-    × (((h ≡ normal) × Ends g u (jump returned) t) ⊎ (((h ≡ normal) × EndsBody r n x params g u t) ⊎ ((j : Exit) × (h ≡ jump j) × (j ≢ returned) × Ends g u (jump j) t)))
+-- of a call at the spot; r is the point of the callee's end
+abbrev pub EndsCall : Spot → ℕ → Option ℕ → List Expr → ℕ → Node → State → How → State → Type 0
+EndsCall spot r x es params g s h t =
+    (u : State) × (run_op (push spot.frame.here.base es) s ≡ Some u)
+    × (((h ≡ normal) × Ends g u (jump returned) t) ⊎ (((h ≡ normal) × EndsBody r spot.live x params g u t) ⊎ ((j : Exit) × (h ≡ jump j) × (j ≢ returned) × Ends g u (jump j) t)))
 
 abbrev pub tail_node : ℕ → ℕ → Option ℕ → ℕ → Node
 tail_node r n x params = seq (point r) (seq (act r (keep (n + params))) (seq (act r (give_any x)) (act r (keep n))))
@@ -84,22 +82,23 @@ no_tail_jump r n x params s j t (inr (m, e, inl f)) = f
 no_tail_jump r n x params s j t (inr (m, e, inr (m', f, inl h))) = h
 no_tail_jump r n x params s j t (inr (m, e, inr (m', f, inr (m'', h, i)))) = i
 
-pub call_inv : (q r base n : ℕ) (x : Option ℕ) (es : List Expr) (params : ℕ) (g : Node) (s : State) (h : How) (t : State)
-    → Ends (call_node q r base n x es params g) s h t → EndsCall r base n x es params g s h t
-call_inv q r base n x es params g s normal t (u, e, inl (m, b, c)) = (u, e, inr (inl (refl, body_inv r n x params g u t m b c)))
-call_inv q r base n x es params g s normal t (u, e, inr (inl b)) = (u, e, inl (refl, b))
-call_inv q r base n x es params g s normal t (u, e, inr (inr (m, b, c))) = absurd (no_tail_jump r n x params m returned t c)
-call_inv q r base n x es params g s (jump j) t (inl e) = absurd e
-call_inv q r base n x es params g s (jump j) t (inr (u, e, (d, inl b))) = (u, e, inr (inr (j, refl, d, b)))
-call_inv q r base n x es params g s (jump j) t (inr (u, e, (d, inr (m, b, c)))) = absurd (no_tail_jump r n x params m j t c)
+module _ (spot : Spot) (r : ℕ) (x : Option ℕ) (es : List Expr) (params : ℕ) (g : Node) where
+  abbrev call_tree : Node
+  call_tree = call_node spot.next r spot.frame.here.base spot.live x es params g
 
-pub call_returns : (q r base n : ℕ) (x : Option ℕ) (es : List Expr) (params : ℕ) (g : Node) (s u t : State)
-    → run_op (push base es) s ≡ Some u → Ends g u (jump returned) t → Ends (call_node q r base n x es params g) s normal t
-call_returns q r base n x es params g s u t e b = (u, e, inr (inl b))
+  pub call_inv : (s : State) (h : How) (t : State) → Ends call_tree s h t → EndsCall spot r x es params g s h t
+  call_inv s normal t (u, e, inl (m, b, c)) = (u, e, inr (inl (refl, body_inv r spot.live x params g u t m b c)))
+  call_inv s normal t (u, e, inr (inl b)) = (u, e, inl (refl, b))
+  call_inv s normal t (u, e, inr (inr (m, b, c))) = absurd (no_tail_jump r spot.live x params m returned t c)
+  call_inv s (jump j) t (inl e) = absurd e
+  call_inv s (jump j) t (inr (u, e, (d, inl b))) = (u, e, inr (inr (j, refl, d, b)))
+  call_inv s (jump j) t (inr (u, e, (d, inr (m, b, c)))) = absurd (no_tail_jump r spot.live x params m j t c)
 
-pub call_ends : (q r base n : ℕ) (x : Option ℕ) (es : List Expr) (params : ℕ) (g : Node) (s u t : State)
-    → run_op (push base es) s ≡ Some u → EndsBody r n x params g u t → Ends (call_node q r base n x es params g) s normal t
-call_ends q r base n x es params g s u t e b = (u, e, inl (b.before, b.body, (b.before, refl, (b.cut, b.cuts, (b.set, b.sets, b.back)))))
+  pub call_returns : (s u t : State) → run_op (push spot.frame.here.base es) s ≡ Some u → Ends g u (jump returned) t → Ends call_tree s normal t
+  call_returns s u t e b = (u, e, inr (inl b))
+
+  pub call_ends : (s u t : State) → run_op (push spot.frame.here.base es) s ≡ Some u → EndsBody r spot.live x params g u t → Ends call_tree s normal t
+  call_ends s u t e b = (u, e, inl (b.before, b.body, (b.before, refl, (b.cut, b.cuts, (b.set, b.sets, b.back)))))
 
 -- one round of a loop
 abbrev pub Round : ℕ → ℕ → Cond → Node → Node → State → State → Type 0
@@ -125,10 +124,6 @@ rounds_first one (suc n) s m t o (u, r, l) = (u, rounds_first one n s m u o r, l
 -- the last, unfinished round: a jump out of the body, or out of the step
 abbrev pub LeavesRound : Node → Node → State → Exit → State → Type 0
 LeavesRound g step w j t = ((j ≢ continued) × Ends g w (jump j) t) ⊎ ((m : State) × (Ends g w normal m ⊎ Ends g w (jump continued) m) × Ends step m (jump j) t)
-
-pub leaves_inv : (q : ℕ) (g step : Node) (w : State) (j : Exit) (t : State) → Ends (seq (catch q continued g) step) w (jump j) t → LeavesRound g step w j t
-leaves_inv q g step w j t (inl e) = inl e
-leaves_inv q g step w j t (inr e) = inr e
 
 abbrev pub EndsLoop : ℕ → ℕ → Cond → Node → Node → State → How → State → Type 0
 EndsLoop q base c g step s h t = (n : ℕ) × (m : State) × Rounds (Round q base c g step) n s m

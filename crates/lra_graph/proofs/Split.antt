@@ -45,10 +45,10 @@ pub data Splits (P : Program) (T : List Site) (c : Config) (p : ℕ) (h : Here) 
   ended : (j : ℕ) (m : State) → j < n → Ends g s normal m → Steps P j (config k h m) c → Splits P T c p h k n g s
   jumped : (j : ℕ) (kind : Exit) (m : State) (d : Config) → j < n → Ends g s (jump kind) m → land kind h k m ≡ Some d → Steps P j d c → Splits P T c p h k n g s
 
-pub hit_there : (T : List Site) (c : Config) (p : ℕ) (spot : Spot) (at : ℕ) (asserts : Bool) (i : Item) (k : List Item) (s : State) (g : Node) → label_on c.items ≡ Some p
+pub hit_there : (T : List Site) (c : Config) (p : ℕ) (spot : Spot) (at : ℕ) (asserts : Bool) (is : List Item) (s : State) (g : Node) → label_on c.items ≡ Some p
     → HasSite T spot at asserts → length s.store ≡ spot.live
-    → label_on (i ∷ k) ≡ Some at → Comes g s spot.next s → (IsFailing (i ∷ k) spot.frame.here s → FailsAt g s spot.next) → config (i ∷ k) spot.frame.here s ≡ c → Hit T c p g s
-hit_there T c p spot at asserts i k s g on has l lab x y e = subst (λ (d : Config). label_on d.items ≡ Some p → Hit T d p g s) e (λ o. record {
+    → label_on is ≡ Some at → Comes g s spot.next s → (IsFailing is spot.frame.here s → FailsAt g s spot.next) → config is spot.frame.here s ≡ c → Hit T c p g s
+hit_there T c p spot at asserts is s g on has l lab x y e = subst (λ (d : Config). label_on d.items ≡ Some p → Hit T d p g s) e (λ o. record {
   number = spot.next;
   asserts = asserts;
   site = rw (l, ← same_Some _ _ (sym lab ∙ o)) has;
@@ -90,7 +90,7 @@ module _ (P : Program) (T : List Site) (c : Config) (p : ℕ) (on : label_on c.i
       → ((j : ℕ) (e : Config) → suc j ≡ count → next P (config (a ∷ k) spot.frame.here s) ≡ Some e → Steps P j e c → Splits P T c p spot.frame.here k count g s)
       → Splits P T c p spot.frame.here k count (seq (point spot.next) g) s
   splits_point spot at asserts a g k s zero has l lab fails r inner =
-      hits (hit_there T c p spot at asserts a k s (seq (point spot.next) g) on has l lab (inl (refl, refl)) (λ z. inr (s, refl, fails z)) r)
+      hits (hit_there T c p spot at asserts (a ∷ k) s (seq (point spot.next) g) on has l lab (inl (refl, refl)) (λ z. inr (s, refl, fails z)) r)
   splits_point spot at asserts a g k s (suc j) has l lab fails (e, x, r) inner = after (inner j e refl x r)
     where
       after : Splits P T c p spot.frame.here k (suc j) g s → Splits P T c p spot.frame.here k (suc j) (seq (point spot.next) g) s
@@ -134,7 +134,7 @@ module _ (P : Program) (T : List Site) (c : Config) (p : ℕ) (on : label_on c.i
   call_tail : (spot : Spot) (n : ℕ) (h : Here) (x : Option ℕ) (end params : ℕ) (k : List Item) (count : ℕ) (s : State) → Has T spot end → length s.store ≡ spot.live
       → Steps P count (config (end_of end (n + params) ∷ mark (record { target = x; here = h; length = n }) ∷ k) spot.frame.here s) c
       → Hit T c p (point spot.next) s ⊎ Tail P c h n x params k count s
-  call_tail spot n h x end params k zero s has l e = inl (hit_there T c p spot end false (end_of end (n + params)) (mark (record { target = x; here = h; length = n }) ∷ k) s (point spot.next)
+  call_tail spot n h x end params k zero s has l e = inl (hit_there T c p spot end false (end_of end (n + params) ∷ mark (record { target = x; here = h; length = n }) ∷ k) s (point spot.next)
       on has l refl (refl, refl) (λ z. z) e)
   call_tail spot n h x end params k (suc i) s has l (e, y, rest) =
       let cutting = go_some (mark (record { target = x; here = h; length = n }) ∷ k) spot.frame.here (run_op (keep (n + params)) s) e y in
@@ -165,7 +165,7 @@ module _ (P : Program) (T : List Site) (c : Config) (p : ℕ) (on : label_on c.i
       ended_inside u o i m z a (inl h) = hits (hit_as T c p (point r') (call_node spot.next r' spot.frame.here.base spot.live x b.arguments fn.parameters g) m s (λ v y. inr (u, o, inr (m, a, inl y)))
           (λ v y. absurd y) h)
       ended_inside u o i m z a (inr t) = let few = t.fewer in ended t.left t.final (omega arith)
-          (call_ends spot.next r' spot.frame.here.base spot.live x b.arguments fn.parameters g s u t.final o
+          (call_ends spot r' x b.arguments fn.parameters g s u t.final o
           (record { before = m; cut = t.cut; set = t.set; body = a; cuts = t.cuts; sets = t.sets; back = t.backs })) t.rest
 
       after : (u : State) → run_op (push spot.frame.here.base b.arguments) s ≡ Some u → Splits P T c p (callee spot.frame spot.live x b).here (call_items fn spot.live x spot.frame.here k) j g u
@@ -173,7 +173,7 @@ module _ (P : Program) (T : List Site) (c : Config) (p : ℕ) (on : label_on c.i
       after u o (hits h) = hits (hit_as T c p g (call_node spot.next r' spot.frame.here.base spot.live x b.arguments fn.parameters g) u s (λ v y. inr (u, o, inl y)) (λ v y. inr (u, o, inl y)) h)
       after u o (jumped i' broken m d' z a l' t) = absurd (none-some d' l')
       after u o (jumped i' continued m d' z a l' t) = absurd (none-some d' l')
-      after u o (jumped i' returned m d' z a l' t) = ended i' m (omega arith) (call_returns spot.next r' spot.frame.here.base spot.live x b.arguments fn.parameters g s u m o a)
+      after u o (jumped i' returned m d' z a l' t) = ended i' m (omega arith) (call_returns spot r' x b.arguments fn.parameters g s u m o a)
           (rw (same_Some (config k spot.frame.here m) d' l') t)
       after u o (ended i' m z a t) = ended_inside u o i' m z a (call_tail (move (into_callee spot x b fn.parameters r) n' r') spot.live spot.frame.here x fn.end fn.parameters k i' m has
           ((length_all d).ends u m normal (length_push spot.frame.here.base b.arguments s u o ∙ rw (l, i) refl) a) t)
@@ -197,7 +197,7 @@ module _ (P : Program) (T : List Site) (c : Config) (p : ℕ) (on : label_on c.i
       count < suc fuel
       → Steps P count (config (run (loop at b a step) ∷ k) spot.frame.here s) c → Splits P T c p spot.frame.here k count (loop_node spot.next spot.frame.here.base b g h) s
   splits_loop spot r at b a step g h r' q' has d e k s zero m l less t =
-      hits (hit_there T c p spot at false (run (loop at b a step)) k s (loop_node spot.next spot.frame.here.base b g h) on has l refl (0, s, refl, inl (refl, refl)) (λ z. absurd z) t)
+      hits (hit_there T c p spot at false (run (loop at b a step) ∷ k) s (loop_node spot.next spot.frame.here.base b g h) on has l refl (0, s, refl, inl (refl, refl)) (λ z. absurd z) t)
   splits_loop spot r at b a step g h r' q' has d e k s (suc j) m l less (next_one, y, rest) =
       elim (go_by_some (run a ∷ turn step (loop at b a step) (length s.store) ∷ k) k spot.frame.here s.store (truth_of b spot.frame.here.base s.store s.draws) next_one y) [
         | inl z ↦ round z.0 z.1 (subst (λ w. Steps P j (config (run a ∷ turn step (loop at b a step) w ∷ k) spot.frame.here z.0) c) l (rw z.2 rest))
@@ -271,7 +271,7 @@ module _ (P : Program) (T : List Site) (c : Config) (p : ℕ) (on : label_on c.i
   -- a block's end
   end_tail : (spot : Spot) (n at : ℕ) (k : List Item) (s : State) (count : ℕ) → Has T spot at → length s.store ≡ spot.live → Steps P count (config (end_of at n ∷ k) spot.frame.here s) c
       → Cut spot.frame.here k count (seq (point spot.next) (act spot.next (keep n))) s
-  end_tail spot n at k s zero has l t = hits (hit_there T c p spot at false (end_of at n) k s (seq (point spot.next) (act spot.next (keep n))) on has l refl (inl (refl, refl)) (λ z. absurd z) t)
+  end_tail spot n at k s zero has l t = hits (hit_there T c p spot at false (end_of at n ∷ k) s (seq (point spot.next) (act spot.next (keep n))) on has l refl (inl (refl, refl)) (λ z. absurd z) t)
   end_tail spot n at k s (suc j) has l (e, y, t) = let x = go_some k spot.frame.here (run_op (keep n) s) e y in ended j x.0 (omega arith) (s, refl, x.1) (rw x.2 t)
 
   -- the end of a `for`
@@ -414,7 +414,8 @@ module _ (P : Program) (T : List Site) (c : Config) (p : ℕ) (on : label_on c.i
 
   splits_one : (spot : Spot) (a : Stmt) (g : Node) (q : ℕ) → Inl P T spot a g q → (k : List Item) (s : State) (count : ℕ) → Matches spot.frame k → length s.store ≡ spot.live → count < suc fuel
       → Steps P count (config (run a ∷ k) spot.frame.here s) c → Cut spot.frame.here k count g s
-  splits_one _ _ _ _ (as_nothing {s = spot} {at = at} i) k s zero m l less t = hits (hit_there T c p spot at false (run (nothing at)) k s (point spot.next) on i l refl (refl, refl) (λ z. absurd z) t)
+  splits_one _ _ _ _ (as_nothing {s = spot} {at = at} i) k s zero m l less t = hits (hit_there T c p spot at false (run (nothing at) ∷ k) s (point spot.next) on i l refl (refl, refl)
+      (λ z. absurd z) t)
   splits_one _ _ _ _ (as_nothing {s = spot} i) k s (suc j) m l less (e, y, t) = ended j s (omega arith) refl (rw (same_Some (config k spot.frame.here s) e y) t)
   splits_one _ _ _ _ (as_block {s = spot} {body = body} {end = end} {g = g} {n = n'} {q = q'} d i) k s count m l less t =
       let x = past P T c p on (config (run (block body end) ∷ k) spot.frame.here s) (config (all body ∷ end_of end (length s.store) ∷ k) spot.frame.here s) count refl refl t in
