@@ -1,5 +1,6 @@
 -- A call written out as the code has it: the callee's path, its body and the number of its parameters are known by equations.
-use Rattle.std.proofs.Common.{◌≡◌, ℕ, suc, ◌+◌, ◌-◌, List, [], ◌∷◌, length, Option, Some, None, false, slice_get, refl, sym, ap, ◌∙◌, subst, arith}
+use Rattle.std.proofs.Common.{◌≡◌, ℕ, suc, ◌+◌, ◌-◌, ◌<◌, List, [], ◌∷◌, length, Option, Some, None, false, slice_get, refl, sym, ap, ◌∙◌, subst, arith}
+use Rattle.std.proofs.lemmas.Option.{same_Some}
 use Rattle.lra_program.specs.Program.{Call, result, BlockItems, Function, Program}
 use Rattle.lra_operations.specs.Graph.{Node}
 use Rattle.lra_program.specs.Sites.{Site, plain_site, live_behind, items_events, function_events, call_events}
@@ -8,9 +9,13 @@ use Rattle.lra_graph.specs.declared.points.Limit.{Limit}
 use Rattle.lra_graph.specs.declared.points.Limit.TheVariants.{Calls}
 use Rattle.lra_graph.specs.declared.frame.Frame.{Frame}
 use Rattle.lra_graph.specs.Limits.{Progress, passed, stopped, walk}
-use Rattle.lra_graph.specs.Building.{WritesItems, WritesSource}
+use Rattle.lra_program.specs.WellFormed.{IsWellFormed}
+use Rattle.lra_graph.specs.Building.{inside, callee_frame, CallStands, ItemsStand, WritesItems, WritesSource, WritesBody}
 use Rattle.lra_graph.proofs.Walking.{walk_then, walk_stop}
 use Rattle.lra_graph.proofs.Writing.{Pointed, result_written}
+use Rattle.lra_graph.proofs.Standing.{callee_stands}
+use Rattle.lra_graph.proofs.Sizes.{size_items, weight}
+use Rattle.lra_graph.proofs.Items.{callee_lighter}
 
 pub one_less : (n : ℕ) → (n ≡ 0 → ⊥) → n ≡ suc (n - 1)
 one_less n some = omega (arith, some)
@@ -60,3 +65,55 @@ module _ (P : Program) (path : List ℕ) (r : Frame) (S : List Site) (c : Call) 
       (λ z. Pointed V (record { path = z; label = fn.end; live = n; asserts = false }) U) within pointed in
       let a' : g ≡ call_node q e r.base r.live x c.arguments fn.parameters h = subst (λ z. g ≡ call_node q e r.base r.live x c.arguments z h) wide a in
       result_written P path r S V U q e n less x c fn h g left found fits y' (lives_as n same) i pointed' a'
+
+-- the callee's body as the code has it: its path, its frame and its items are known by equations
+pub record IsCallee (P : Program) (path : List ℕ) (r : Frame) (x : Option ℕ) (c : Call) (p : List ℕ) (f : Frame) (b : BlockItems) : Type 0 where
+  pub fn : Function
+  pub found : slice_get P.functions c.function ≡ Some fn
+  pub some_left : r.calls_left ≡ 0 → ⊥
+  pub within : p ≡ c.label ∷ path
+  pub frame : f ≡ callee_frame r x fn.parameters
+  pub body : b ≡ fn.body
+
+module _ (P : Program) (path : List ℕ) (r : Frame) (x : Option ℕ) (c : Call) (p : List ℕ) (f : Frame) (b : BlockItems) (is : IsCallee P path r x c p f b) where
+  pub callee_falls : (t : ℕ) → weight P r.calls_left 2 ≡ t → weight P f.calls_left (size_items b) < t
+  callee_falls t e = subst (λ (z : Frame). weight P z.calls_left (size_items b) < t) (sym is.frame) (callee_lighter P c.function r.calls_left t is.fn b e is.found is.some_left is.body)
+
+  pub callee_body_stands : IsWellFormed P → CallStands P r c → ItemsStand P f b
+  callee_body_stands well s = subst (λ z. ItemsStand P f z) (sym is.body) (subst (λ z. ItemsStand P z is.fn.body) (sym is.frame)
+      (callee_stands P r r.live (r.calls_left - 1) (r.live + is.fn.parameters) x c is.fn well s is.found refl refl))
+
+  pub callee_stopped : (S : List Site) (l : Limit) → walk S (items_events (inside P p f) p f.live b) ≡ stopped l → walk S (call_events P r.calls_left path r.live c) ≡ stopped l
+  callee_stopped S l e =
+      call_at_body P path r S c is.fn (r.calls_left - 1) x p is.fn.parameters b (one_less r.calls_left is.some_left) is.found is.within refl is.body l
+      (subst (λ (z : Frame). walk S (items_events (inside P p z) p z.live b) ≡ stopped l) is.frame e)
+
+  pub callee_written : (S V : List Site) (h : Node) (n : ℕ) → WritesItems P p f S b h V → n ≡ live_behind f.live b → WritesBody P path r x c S h n V
+  callee_written S V h n y last = record {
+    fn = is.fn;
+    found = is.found;
+    some_left = is.some_left;
+    written = subst (λ z. WritesItems P (c.label ∷ path) (callee_frame r x is.fn.parameters) S z h V) is.body
+        (subst (λ z. WritesItems P (c.label ∷ path) z S b h V) is.frame (subst (λ z. WritesItems P z f S b h V) is.within y));
+    last = last ∙ ap (λ (z : Frame). live_behind z.live b) is.frame ∙ ap (λ z. live_behind (r.live + is.fn.parameters) z) is.body;
+  }
+
+-- the call behind its callee's body
+module _ (P : Program) (path : List ℕ) (r : Frame) (x : Option ℕ) (c : Call) (S V : List Site) (h : Node) (n : ℕ) (w : WritesBody P path r x c S h n V) where
+  module _ (fn : Function) (found : slice_get P.functions c.function ≡ Some fn) (p : List ℕ) (within : p ≡ c.label ∷ path) where
+    same : fn ≡ w.fn
+    same = same_Some fn w.fn (sym found ∙ w.found)
+
+    end_seen : (y : Progress) → walk V (plain_site p fn.end n ∷ []) ≡ y → walk V (plain_site (c.label ∷ path) w.fn.end n ∷ []) ≡ y
+    end_seen y e = subst (λ (z : Function). walk V (plain_site (c.label ∷ path) z.end n ∷ []) ≡ y) same (subst (λ z. walk V (plain_site z fn.end n ∷ []) ≡ y) within e)
+
+    pub end_stopped : (l : Limit) → walk V (plain_site p fn.end n ∷ []) ≡ stopped l → walk S (call_events P r.calls_left path r.live c) ≡ stopped l
+    end_stopped l e = call_at_end P path r S c w.fn (r.calls_left - 1) x (c.label ∷ path) w.fn.parameters w.fn.body (one_less r.calls_left w.some_left) w.found refl refl refl V n l w.last
+        w.written.walked (end_seen (stopped l) e)
+
+    pub end_written : (U : List Site) (q e k : ℕ) (g : Node) → length c.arguments ≡ fn.parameters → k ≡ fn.parameters → e ≡ length V → walk V (plain_site p fn.end n ∷ []) ≡ passed U
+        → g ≡ call_node q e r.base r.live x c.arguments k h → WritesSource P path r q x S (result c) g U
+    end_written U q e k g fits wide i pointed a =
+        let params = ap (λ (z : Function). z.parameters) same in
+        invoked P path r S c w.fn (r.calls_left - 1) x (c.label ∷ path) w.fn.parameters w.fn.body (one_less r.calls_left w.some_left) w.found refl refl refl V U q e n h g (fits ∙ params)
+        w.written w.last i (end_seen (passed U) pointed) (subst (λ z. g ≡ call_node q e r.base r.live x c.arguments z h) (wide ∙ params) a)

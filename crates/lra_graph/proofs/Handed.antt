@@ -27,25 +27,19 @@ module _ (P : Program) (path : List ℕ) (r : Frame) (S : List Site) where
     pub stmt_limit : (s s' : Stmt) → s ≡ s' → OnLimit b (λ x. walk S (on_stmt s') ≡ stopped x) → OnLimit b (λ x. walk S (on_stmt s) ≡ stopped x)
     stmt_limit s s' e h = subst (λ z. OnLimit b (λ x. walk S (on_stmt z) ≡ stopped x)) (sym e) h
 
-    pub loop_limit : (V : List Site) (s : Stmt) (at : ℕ) (c : Cond) (a t a' t' : Stmt) → s ≡ loop at c a t → a' ≡ a → t' ≡ t → walk S (own at) ≡ passed V
-        → OnLimit b (λ x. walk V (on_stmt t' ++ on_stmt a') ≡ stopped x)
-        → OnLimit b (λ x. walk S (on_stmt s) ≡ stopped x)
-    loop_limit V s at c a t a' t' e i j w h =
-        let h' = subst (λ z. OnLimit b (λ x. walk V (on_stmt t ++ on_stmt z) ≡ stopped x)) i (subst (λ z. OnLimit b (λ x. walk V (on_stmt z ++ on_stmt a') ≡ stopped x)) j h) in
-        stmt_limit s (loop at c a t) e (limit_through b (λ x. walk V (on_stmt t ++ on_stmt a) ≡ stopped x) (λ x. walk S (on_stmt (loop at c a t)) ≡ stopped x)
-        (λ x k. second_stopped S V (own at) (on_stmt t ++ on_stmt a) x w k) h')
+    pub loop_limit : (V : List Site) (at : ℕ) (c : Cond) (a t : Stmt) → walk S (own at) ≡ passed V → OnLimit b (λ x. walk V (on_stmt t ++ on_stmt a) ≡ stopped x)
+        → OnLimit b (λ x. walk S (on_stmt (loop at c a t)) ≡ stopped x)
+    loop_limit V at c a t w h = limit_through b (λ x. walk V (on_stmt t ++ on_stmt a) ≡ stopped x) (λ x. walk S (on_stmt (loop at c a t)) ≡ stopped x)
+        (λ x k. second_stopped S V (own at) (on_stmt t ++ on_stmt a) x w k) h
 
     module _ (view : A → Node) (U : List Site) where
       pub stmt_handed : (s s' : Stmt) → s ≡ s' → IfOk b (λ g. WritesStmt P path r S s' (view g) U) → IfOk b (λ g. WritesStmt P path r S s (view g) U)
       stmt_handed s s' e h = subst (λ z. IfOk b (λ g. WritesStmt P path r S z (view g) U)) (sym e) h
 
-      pub loop_handed : (V : List Site) (q : ℕ) (s : Stmt) (at : ℕ) (c : Cond) (a t a' t' : Stmt) → s ≡ loop at c a t → a' ≡ a → t' ≡ t → q ≡ length S → walk S (own at) ≡ passed V
-          → IfOk b (λ g. WritesLoop P path r q V c a' t' (view g) U)
-          → IfOk b (λ g. WritesStmt P path r S s (view g) U)
-      loop_handed V q s at c a t a' t' e i j n w h =
-          let h' = subst (λ z. IfOk b (λ g. WritesLoop P path r q V c z t (view g) U)) i (subst (λ z. IfOk b (λ g. WritesLoop P path r q V c a' z (view g) U)) j h) in
-          stmt_handed s (loop at c a t) e (ok_through b (λ g. WritesLoop P path r q V c a t (view g) U) (λ g. WritesStmt P path r S (loop at c a t) (view g) U)
-          (λ g x. loop_written P path r S V U q at c a t (view g) n w x) h')
+      pub loop_handed : (V : List Site) (q : ℕ) (at : ℕ) (c : Cond) (a t : Stmt) → q ≡ length S → walk S (own at) ≡ passed V → IfOk b (λ g. WritesLoop P path r q V c a t (view g) U)
+          → IfOk b (λ g. WritesStmt P path r S (loop at c a t) (view g) U)
+      loop_handed V q at c a t n w h = ok_through b (λ g. WritesLoop P path r q V c a t (view g) U) (λ g. WritesStmt P path r S (loop at c a t) (view g) U)
+          (λ g x. loop_written P path r S V U q at c a t (view g) n w x) h
 
       pub break_handed : (s : Stmt) (at : ℕ) → s ≡ break at → ((m : ℕ) → r.loop_length ≡ Some m → m ≤ r.live) → IfOk b (λ g. LeavesLoop path r S at broken (view g) U)
           → IfOk b (λ g. WritesStmt P path r S s (view g) U)

@@ -77,14 +77,14 @@ item_stated x s e b = ap (λ z. item_view z b) e ∙ shown_statement s b
 
 -- their sizes ------------------------------------------------------------------------------------------------------------
 
-size_some : (b : program.BlockItems) → 1 ≤ size_items b
-size_some no_more = omega arith
-size_some (declaration d b) = omega arith
-size_some (statement a b) = omega arith
+items_some : (b : program.BlockItems) → 1 ≤ size_items b
+items_some no_more = omega arith
+items_some (declaration d b) = omega arith
+items_some (statement a b) = omega arith
 
 item_below : (x : BlockItem) (b : program.BlockItems) → size_items (item_view x no_more) - 1 < size_items (item_view x b)
-item_below (code_item.Declaration d) b = let some = size_some b in rw (shown_declaration d no_more, shown_declaration d b) (omega (arith, some))
-item_below (code_item.Statement s) b = let some = size_some b in rw (shown_statement s no_more, shown_statement s b) (omega (arith, some))
+item_below (code_item.Declaration d) b = let some = items_some b in rw (shown_declaration d no_more, shown_declaration d b) (omega (arith, some))
+item_below (code_item.Statement s) b = let some = items_some b in rw (shown_statement s no_more, shown_statement s b) (omega (arith, some))
 
 others_below : (x : BlockItem) (b : program.BlockItems) → size_items b ≤ size_items (item_view x b)
 others_below (code_item.Declaration d) b = rw (shown_declaration d b) (omega arith)

@@ -26,6 +26,7 @@ pub mod Shown
 pub mod LiveInside
 pub mod Standing
 pub mod Seen
+pub mod Lone
 pub mod Sizes
 pub mod Falling
 pub mod Items

@@ -1,9 +1,10 @@
 -- Which function of the defined program a function of the code's stands for, and that `main` is one of them.
-use Rattle.std.proofs.Common.{◌≡◌, ℕ, ◌+◌, ◌≤◌, ◌<◌, [], ◌∷◌, length, map, Some, None, option_map, slice_get, get_or, inl, inr, refl, sym, ap, ◌∙◌, subst, arith}
+use Rattle.std.proofs.Common.{◌≡◌, ℕ, ◌+◌, ◌≤◌, ◌<◌, List, Option, [], ◌∷◌, length, map, Some, None, option_map, slice_get, get_or, inl, inr, refl, sym, ap, ◌∙◌, subst, arith}
 use Rattle.std.specs.Vec.{vec_len}
 use Rattle.std.proofs.lemmas.List.{length-map}
 use Rattle.std.proofs.lemmas.Option.{none-some, same_Some, slice_get-map, slice_get_cases, slice_get_read, get_or_from_slice_get}
 use Rattle.lra_program.specs.Program as resolved
+use Rattle.lra_program.specs.declared.program.BlockItem.{BlockItem}
 use Rattle.lra_program.specs.declared.program.Call.{Call}
 use Rattle.lra_program.specs.declared.program.Function.{Function}
 use Rattle.lra_program.specs.declared.program.Program.{Program}
@@ -12,7 +13,8 @@ use Rattle.lra_program.specs.WellFormed.{items_numbers, function_numbers, IsWell
 use Rattle.lra_graph.proofs.DistinctLists.{IsIn, in_right, in_piece, in_range}
 use Rattle.lra_graph.proofs.DistinctSites.{main_at}
 use Rattle.lra_graph.specs.declared.frame.Frame.{Frame}
-use Rattle.lra_graph.specs.Building.{CallStands}
+use Rattle.lra_graph.specs.Building.{callee_frame, CallStands}
+use Rattle.lra_graph.proofs.Calling.{IsCallee}
 use Rattle.lra_graph.proofs.Shown.{shown_items}
 use Rattle.lra_graph.proofs.Standing.{the_callee}
 use Rattle.lra_graph.proofs.Totals.{first_frame}
@@ -67,13 +69,26 @@ module _ (p : Program) (r : Frame) (c : Call) (stands : CallStands (program_view
       | inr h ↦ absurd (none-some _ (sym (slice_get-map function_view p.functions.items c.function ∙ ap (option_map function_view) h.1) ∙ (the_callee (program_view p) r (call_view c) stands).1))
     ]
 
+  module _ (f : Function) (found : slice_get (program_view p).functions c.function ≡ Some (function_view f)) where
     pub called_fits : length (call_view c).arguments ≡ f.parameters
     called_fits =
         let z = the_callee (program_view p) r (call_view c) stands in
-        z.2 ∙ ap (λ (g : resolved.Function). g.parameters) (same_Some z.0 (function_view f) (sym z.1 ∙ called_found))
+        z.2 ∙ ap (λ (g : resolved.Function). g.parameters) (same_Some z.0 (function_view f) (sym z.1 ∙ found))
 
     pub called_wide : (k : ℕ) → k ≡ vec_len c.arguments → k ≡ f.parameters
     called_wide k e = e ∙ c.arguments.ok.0 ∙ sym (length-map c.arguments.items expr_view) ∙ called_fits
+
+    -- its body, under the path and in the frame that are made for it
+    pub callee_is : (path : List ℕ) (x : Option ℕ) (q : List ℕ) (s : Frame) (items : List BlockItem) → (r.calls_left ≡ 0 → ⊥) → q ≡ c.label ∷ path
+        → s ≡ callee_frame r x (length (call_view c).arguments) → items ≡ f.body.items.items → IsCallee (program_view p) path r x (call_view c) q s (items_of (map item_view items))
+    callee_is path x q s items some within frame body = record {
+      fn = function_view f;
+      found = found;
+      some_left = some;
+      within = within;
+      frame = frame ∙ ap (λ k. callee_frame r x k) called_fits;
+      body = ap (λ (z : List BlockItem). items_of (map item_view z)) body ∙ sym (shown_items f.body);
+    }
 
 -- as many arguments as there may be fit behind the variables that live
 pub arguments_fit : (live k : ℕ) (c : Call) → k ≡ vec_len c.arguments → live ≤ 25 → live + k < 18446744073709551616

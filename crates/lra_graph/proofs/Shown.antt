@@ -15,11 +15,10 @@ use Rattle.lra_program.specs.declared.program.BlockItems.{BlockItems, the_lemmas
 use Rattle.lra_program.specs.declared.program.Stmt.{Stmt, the_lemmas as stmt_lemmas}
 use Rattle.lra_program.specs.declared.program.Stmt as code
 use Rattle.lra_operations.specs.declared.graph.Op.{Op}
-use Rattle.lra_operations.specs.declared.graph.Exit.{Exit}
 use Rattle.lra_operations.specs.declared.graph.Node.{the_lemmas as node_lemmas}
 use Rattle.lra_operations.specs.declared.graph.Node as code_node
 use Rattle.lra_program.specs.ProgramViews.{slot_view, expr_view, cond_view, call_view, source_view, given_view, declarator_view, stmt_view, item_view, items_of, items_view}
-use Rattle.lra_operations.specs.GraphViews.{op_view, exit_view, node_view}
+use Rattle.lra_operations.specs.GraphViews.{op_view, node_view}
 
 pub shown_empty : node_view code_node.Empty ≡ graph.empty
 shown_empty = search (rules, node_lemmas)
@@ -32,9 +31,6 @@ shown_act q o = search (rules, node_lemmas)
 
 pub shown_check : (q base : ℕ) (c : Cond) → node_view (code_node.Check q base c) ≡ graph.check q base (cond_view c)
 shown_check q base c = search (rules, node_lemmas)
-
-pub shown_leave : (n : ℕ) (k : Exit) → node_view (code_node.Leave n k) ≡ graph.leave n (exit_view k)
-shown_leave n k = search (rules, node_lemmas)
 
 pub shown_items : (b : BlockItems) → items_view b ≡ items_of (map item_view b.items.items)
 shown_items b = search (rules, items_lemmas)
@@ -66,7 +62,7 @@ shown_if at c a b = search (rules, stmt_lemmas)
 pub shown_loop : (at : ℕ) (c : Cond) (a b : Box Stmt Global) → stmt_view (code.Loop at c a b) ≡ program.loop at (cond_view c) (stmt_view a.value) (stmt_view b.value)
 shown_loop at c a b = search (rules, stmt_lemmas)
 
-shown_for : (at : ℕ) (init : BlockItems) (c : Cond) (p q : Box Stmt Global)
+pub shown_for : (at : ℕ) (init : BlockItems) (c : Cond) (p q : Box Stmt Global)
     → stmt_view (code.For at init c p q) ≡ program.for at (items_of (map item_view init.items.items)) (cond_view c) (stmt_view p.value) (stmt_view q.value)
 shown_for at init c p q = search (rules, stmt_lemmas)
 

@@ -10,14 +10,14 @@ abbrev mutual
   size_stmt absent = 1
   size_stmt (nothing at) = 1
   size_stmt (block items end) = 2 + size_items items
-  size_stmt (assign at x e) = 5
-  size_stmt (call at c) = 4
+  size_stmt (assign at x e) = 6
+  size_stmt (call at c) = 5
   size_stmt (if at c a b) = 2 + (size_stmt a + size_stmt b)
-  size_stmt (loop at c a step) = 2 + (size_stmt a + size_stmt step)
+  size_stmt (loop at c a step) = 3 + (size_stmt a + size_stmt step)
   size_stmt (for at init c a step) = 3 + (size_items init + (size_stmt a + size_stmt step))
   size_stmt (break at) = 1
   size_stmt (continue at) = 1
-  size_stmt (return at e) = 6
+  size_stmt (return at e) = 7
   size_stmt (assert at c) = 1
   size_stmt (assume at c) = 1
 
@@ -25,6 +25,21 @@ abbrev mutual
   size_items no_more = 1
   size_items (declaration d b) = 6 + size_items b
   size_items (statement a b) = 1 + (size_stmt a + size_items b)
+
+pub size_some : (s : Stmt) → 0 < size_stmt s
+size_some absent = omega arith
+size_some (nothing at) = omega arith
+size_some (block items end) = omega arith
+size_some (assign at x e) = omega arith
+size_some (call at c) = omega arith
+size_some (if at c a b) = omega arith
+size_some (loop at c a step) = omega arith
+size_some (for at init c a step) = omega arith
+size_some (break at) = omega arith
+size_some (continue at) = omega arith
+size_some (return at e) = omega arith
+size_some (assert at c) = omega arith
+size_some (assume at c) = omega arith
 
 abbrev pub size_functions : List Function → ℕ
 size_functions [] = 0

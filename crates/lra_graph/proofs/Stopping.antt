@@ -9,18 +9,13 @@ use Rattle.lra_graph.specs.declared.points.Limit.TheVariants.{Variables}
 use Rattle.lra_graph.specs.declared.points.GraphError.{GraphError}
 use Rattle.lra_graph.specs.declared.points.GraphError.TheVariants.{Passed, Memory}
 use Rattle.lra_graph.specs.declared.frame.Frame.{Frame}
-use Rattle.lra_graph.specs.Limits.{Progress, passed, stopped, walk, OnError, OnLimit}
+use Rattle.lra_graph.specs.Limits.{passed, stopped, walk, OnError, OnLimit}
 use Rattle.lra_graph.specs.Building.{inside}
 use Rattle.lra_graph.proofs.Walking.{walk_then, walk_stop, too_many}
 
 pub error_as : (e : GraphError) (X Y : Limit → Type 0) → ((x : Limit) → X x → Y x) → OnError e X → OnError e Y
 error_as (Passed x) X Y f h = f x h
 error_as Memory X Y f h = tt
-
--- in a statement that is so
-pub stmt_stopped : (P : Program) (path : List ℕ) (r : Frame) (S : List Site) (s s' : Stmt) (w : Progress) → s ≡ s' → walk S (stmt_events (inside P path r) path r.live s') ≡ w
-    → walk S (stmt_events (inside P path r) path r.live s) ≡ w
-stmt_stopped P path r S s s' w e h = subst (λ z. walk S (stmt_events (inside P path r) path r.live z) ≡ w) (sym e) h
 
 -- in the second of two parts, in the third of three
 pub second_stopped : (S V : List Site) (es fs : List Event) (x : Limit) → walk S es ≡ passed V → walk V fs ≡ stopped x → walk S (es ++ fs) ≡ stopped x
@@ -35,12 +30,6 @@ middle_stopped S V es fs gs x e f = walk_then S es (fs ++ gs) V (stopped x) e (w
 
 -- errors handed on --------------------------------------------------------------------------------------------------
 
-pub ok_at_err : {A E : Type 0} (b : Result A E) (d : E) (X : A → Type 0) → b ≡ Err d → IfOk b X
-ok_at_err b d X i = rw i tt
-
-pub limit_memory : {A : Type 0} (b : Result A GraphError) (d : GraphError) (Y : Limit → Type 0) → b ≡ Err d → d ≡ Memory → OnLimit b Y
-limit_memory b d Y i j = rw (i, j) tt
-
 pub limit_by : {A : Type 0} (b : Result A GraphError) (d e : GraphError) (S V : List Site) (es fs : List Event) → b ≡ Err d → d ≡ e → ((x : Limit) → walk V fs ≡ stopped x → walk S es ≡ stopped x)
     → OnError e (λ x. walk V fs ≡ stopped x) → OnLimit b (λ x. walk S es ≡ stopped x)
 limit_by b d e S V es fs i j f h = rw (i, j) (error_as e (λ x. walk V fs ≡ stopped x) (λ x. walk S es ≡ stopped x) f h)
@@ -48,17 +37,27 @@ limit_by b d e S V es fs i j f h = rw (i, j) (error_as e (λ x. walk V fs ≡ st
 pub limit_to : {A : Type 0} (b : Result A GraphError) (d e : GraphError) (X Y : Limit → Type 0) → b ≡ Err d → d ≡ e → ((x : Limit) → X x → Y x) → OnError e X → OnLimit b Y
 limit_to b d e X Y i j f h = rw (i, j) (error_as e X Y f h)
 
--- what the exit of a `?` answers: no part is written out; it may be the memory that failed, or a limit that a part passed
+-- what the exit of a `?` answers where a part passed a limit (where the memory failed, nothing is owed)
 module _ {A : Type 0} (b : Result A GraphError) where
-  pub err_ok : {Z : GraphError → Type 0} (X : A → Type 0) → (d : GraphError) × (b ≡ Err d) × Z d → IfOk b X
-  err_ok X p = ok_at_err b p.0 X p.1
-
-  pub err_memory : (Y : Limit → Type 0) → IsErrAnd b (λ d. d ≡ Memory) → OnLimit b Y
-  err_memory Y h = let p = err_from_is_err_and b h in limit_memory b p.0 Y p.1 p.2
-
   pub err_limit : (e : GraphError) (S V : List Site) (es fs : List Event) → IsErrAnd b (λ d. d ≡ e) → ((x : Limit) → walk V fs ≡ stopped x → walk S es ≡ stopped x)
       → OnError e (λ x. walk V fs ≡ stopped x) → OnLimit b (λ x. walk S es ≡ stopped x)
   err_limit e S V es fs h f o = let p = err_from_is_err_and b h in limit_by b p.0 e S V es fs p.1 p.2 f o
+
+  -- the limit that the first, or the second of two parts passes; the second, or the third of three
+  pub first_limit : (e : GraphError) (S : List Site) (es fs : List Event) → IsErrAnd b (λ d. d ≡ e) → OnError e (λ x. walk S es ≡ stopped x) → OnLimit b (λ x. walk S (es ++ fs) ≡ stopped x)
+  first_limit e S es fs h o = err_limit e S S (es ++ fs) es h (λ x k. walk_stop S es fs x k) o
+
+  pub second_limit : (e : GraphError) (S V : List Site) (es fs : List Event) → walk S es ≡ passed V → IsErrAnd b (λ d. d ≡ e) → OnError e (λ x. walk V fs ≡ stopped x)
+      → OnLimit b (λ x. walk S (es ++ fs) ≡ stopped x)
+  second_limit e S V es fs w h o = err_limit e S V (es ++ fs) fs h (λ x k. second_stopped S V es fs x w k) o
+
+  pub middle_limit : (e : GraphError) (S V : List Site) (es fs gs : List Event) → walk S es ≡ passed V → IsErrAnd b (λ d. d ≡ e) → OnError e (λ x. walk V fs ≡ stopped x)
+      → OnLimit b (λ x. walk S (es ++ (fs ++ gs)) ≡ stopped x)
+  middle_limit e S V es fs gs w h o = err_limit e S V (es ++ (fs ++ gs)) fs h (λ x k. middle_stopped S V es fs gs x w k) o
+
+  pub third_limit : (e : GraphError) (S V W : List Site) (es fs gs : List Event) → walk S es ≡ passed V → walk V fs ≡ passed W → IsErrAnd b (λ d. d ≡ e)
+      → OnError e (λ x. walk W gs ≡ stopped x) → OnLimit b (λ x. walk S (es ++ (fs ++ gs)) ≡ stopped x)
+  third_limit e S V W es fs gs w y h o = err_limit e S W (es ++ (fs ++ gs)) gs h (λ x k. third_stopped S V W es fs gs x w y k) o
 
   pub err_stopped : (e : GraphError) (X Y : Limit → Type 0) → IsErrAnd b (λ d. d ≡ e) → ((x : Limit) → X x → Y x) → OnError e X → OnLimit b Y
   err_stopped e X Y h f o = let p = err_from_is_err_and b h in limit_to b p.0 e X Y p.1 p.2 f o
@@ -72,6 +71,14 @@ ok_through (Err e) X Y f h = tt
 pub limit_through : {A : Type 0} (b : Result A GraphError) (X Y : Limit → Type 0) → ((x : Limit) → X x → Y x) → OnLimit b X → OnLimit b Y
 limit_through (Ok a) X Y f h = tt
 limit_through (Err e) X Y f h = error_as e X Y f h
+
+-- of what is made of its parts, where only the memory may fail
+pub made_ok : {A E : Type 0} (b : Result A GraphError) (a : Result A E) (X Y : A → Type 0) → IfOk b (λ g. a ≡ Ok g) → IfOk a X → ((g : A) → X g → Y g) → IfOk b Y
+made_ok (Ok g) a X Y e x f = f g (subst (λ z. IfOk z X) e x)
+made_ok (Err d) a X Y e x f = tt
+
+pub made_limit : {A : Type 0} (b : Result A GraphError) (Y : Limit → Type 0) → OnLimit b (λ _. ⊥) → OnLimit b Y
+made_limit b Y h = limit_through b (λ _. ⊥) Y (λ x z. absurd z) h
 
 -- in a `for` -------------------------------------------------------------------------------------------------------------
 

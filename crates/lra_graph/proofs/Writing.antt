@@ -16,7 +16,8 @@ use Rattle.lra_operations.specs.Inlined.{is_loop, as_value, as_result, loop_node
 use Rattle.lra_graph.specs.declared.frame.Frame.{Frame}
 use Rattle.lra_graph.specs.declared.frame.Back.{Back}
 use Rattle.lra_graph.specs.Limits.{walk, passed}
-use Rattle.lra_graph.specs.Building.{back_parts, IsFrame, Begins, inside, WritesStmt, WritesItems, WritesSource, WritesLoop, WritesDeclared, WritesReturn, LeavesLoop}
+use Rattle.lra_graph.specs.Building.{receiver, any_left, value_left, call_left, back_parts, IsFrame, Begins, inside, WritesStmt, WritesItems, WritesSource, WritesLoop, WritesDeclared, WritesReturn}
+use Rattle.lra_graph.specs.Building.{LeavesLoop}
 use Rattle.lra_graph.proofs.Walking.{walk_then, begins_walk, point_there, one_longer}
 
 begins_join : (S T U : List Site) → Begins S T → Begins T U → Begins S U
@@ -260,6 +261,32 @@ module _ (P : Program) (path : List ℕ) (r : Frame) where
           (gives_as T f N q q (length S) (suc q) None None (result c) h (length U) refl long refl (y.placed T f bs is)));
     }
 
+  -- a whole `return`, in a called function or in `main`
+  module _ (V : List Site) (q : ℕ) (low : (b : Back) → r.back ≡ Some b → b.length ≤ N) where
+    any_back : (o : Option Back) → r.back ≡ o → WritesReturn P path r q V None (any_left o q N) V
+    any_back None e = end_any_written V q e (leave N returned) refl
+    any_back (Some b) e = return_any_written V q b e (low b e) (any_left (Some b) q N) refl
+
+    value_back : (x : Expr) (o : Option Back) → r.back ≡ o → WritesReturn P path r q V (Some (value x)) (value_left o q r.base x N) V
+    value_back x None e = end_value_written V q e x (leave N returned) refl
+    value_back x (Some b) e = return_value_written V q b e (low b e) x (value_left (Some b) q r.base x N) refl
+
+    call_back : (U : List Site) (c : Call) (h : Node) (o : Option Back) → r.back ≡ o → WritesSource P path r q (receiver o) V (result c) h U
+        → WritesReturn P path r q V (Some (result c)) (call_left o q h N) U
+    call_back U c h None e y = end_call_written V q e U c h (call_left None q h N) y refl
+    call_back U c h (Some b) e y = return_call_written V q b e (low b e) U c h (seq (act q (keep b.length)) (leave N returned)) (call_left (Some b) q h N) y refl refl
+
+    module _ (S : List Site) (at : ℕ) (g : Node) (i : q ≡ length S) (pointed : Pointed S (site at N false) V) where
+      pub any_returned : g ≡ seq (point q) (any_left r.back q N) → WritesStmt P path r S (return at None) g V
+      any_returned a = return_written S V V q at None (any_left r.back q N) g i pointed (any_back r.back refl) a
+
+      pub value_returned : (x : Expr) → g ≡ seq (point q) (value_left r.back q r.base x N) → WritesStmt P path r S (return at (Some (value x))) g V
+      value_returned x a = return_written S V V q at (Some (value x)) (value_left r.back q r.base x N) g i pointed (value_back x r.back refl) a
+
+      pub call_returned : (U : List Site) (c : Call) (h : Node) → WritesSource P path r q (receiver r.back) V (result c) h U → g ≡ seq (point q) (call_left r.back q h N)
+          → WritesStmt P path r S (return at (Some (result c))) g U
+      call_returned U c h y a = return_written S V U q at (Some (result c)) (call_left r.back q h N) g i pointed (call_back U c h r.back refl y) a
+
   pub none_written : (S : List Site) → WritesItems P path r S no_more empty S
   none_written S = record { walked = refl; placed = λ T f b is. as_none }
 
@@ -327,9 +354,10 @@ module _ (P : Program) (path : List ℕ) (r : Frame) where
       }
 
 -- `break` and `continue`
-pub leaves_written : (path : List ℕ) (r : Frame) (S U : List Site) (q at m : ℕ) (exit : Exit) (h g : Node) → q ≡ length S
-    → Pointed S (record { path = path; label = at; live = r.live; asserts = false }) U → r.loop_length ≡ Some m
-    → h ≡ seq (act q (keep m)) (leave r.live exit) → g ≡ seq (point q) h → LeavesLoop path r S at exit g U
-leaves_written path r S U q at m broken h g i e j a a' P d low = break_written P path r S U q at m h g i e j (low m j) a a'
-leaves_written path r S U q at m continued h g i e j a a' P d low = continue_written P path r S U q at m h g i e j (low m j) a a'
-leaves_written path r S U q at m returned h g i e j a a' P d low = absurd (d refl)
+module _ (path : List ℕ) (r : Frame) where
+  pub leaves_written : (S U : List Site) (q at m : ℕ) (exit : Exit) (h g : Node) → q ≡ length S
+      → Pointed S (record { path = path; label = at; live = r.live; asserts = false }) U → r.loop_length ≡ Some m
+      → h ≡ seq (act q (keep m)) (leave r.live exit) → g ≡ seq (point q) h → LeavesLoop path r S at exit g U
+  leaves_written S U q at m broken h g i e j a a' P d low = break_written P path r S U q at m h g i e j (low m j) a a'
+  leaves_written S U q at m continued h g i e j a a' P d low = continue_written P path r S U q at m h g i e j (low m j) a a'
+  leaves_written S U q at m returned h g i e j a a' P d low = absurd (d refl)

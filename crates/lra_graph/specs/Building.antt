@@ -1,9 +1,12 @@
 -- What is owed for each part of a program that is written out: its points stand behind those before it, and whatever
 -- points follow, its tree is that of the definition.
-use Rattle.std.specs.Prelude.{◌≡◌, ◌≢◌, ℕ, suc, ◌+◌, ◌≤◌, Bool, true, List, ◌++◌, length, Option, Some, None, slice_get}
-use Rattle.lra_program.specs.Program.{Cond, Call, Source, Stmt, loop, break, continue, return, BlockItems, Program}
+use Rattle.std.specs.Prelude.{◌≡◌, ◌≢◌, ℕ, suc, ◌+◌, ◌-◌, ◌≤◌, Bool, true, List, ◌∷◌, ◌++◌, length, Option, Some, None}
+use Rattle.std.specs.Prelude.{slice_get}
+use Rattle.lra_program.specs.Program.{Expr, Cond, Call, Source, Stmt, loop, break, continue, return, BlockItems}
+use Rattle.lra_program.specs.Program.{Function, Program}
 use Rattle.lra_program.specs.Step as step
-use Rattle.lra_operations.specs.Graph.{Exit, broken, continued, returned, Node, seq, point}
+use Rattle.lra_program.specs.Step.{give, give_any, keep}
+use Rattle.lra_operations.specs.Graph.{Exit, broken, continued, returned, Node, act, leave, seq, point}
 use Rattle.lra_program.specs.Sites.{Site, Event, live_behind, source_events, given_events, stmt_events, items_events}
 use Rattle.lra_program.specs.Sites.{call_events}
 use Rattle.lra_operations.specs.Inlined as inlined
@@ -50,6 +53,34 @@ module _ (P : Program) (r : Frame) where
   abbrev pub CallStands : Call → Type 0
   CallStands c = Stands r (λ in_loop own. (at : ℕ) × IsGoodCall P at own c)
 
+-- where the body of a called function stands
+abbrev pub callee_frame : Frame → Option ℕ → ℕ → Frame
+callee_frame r x params = record {
+  base = r.live;
+  live = r.live + params;
+  calls_left = r.calls_left - 1;
+  loop_length = None;
+  back = Some (record { target = x; length = r.live });
+}
+
+-- what a `return` does behind its point q: in a called function the target gets the value, and the store is cut to the
+-- caller's
+abbrev pub receiver : Option Back → Option ℕ
+receiver None = None
+receiver (Some b) = b.target
+
+abbrev pub any_left : Option Back → ℕ → ℕ → Node
+any_left None q live = leave live returned
+any_left (Some b) q live = inlined.return_node q (give_any b.target) b.length live
+
+abbrev pub value_left : Option Back → ℕ → ℕ → Expr → ℕ → Node
+value_left None q base e live = leave live returned
+value_left (Some b) q base e live = inlined.return_node q (give base b.target e) b.length live
+
+abbrev pub call_left : Option Back → ℕ → Node → ℕ → Node
+call_left None q g live = seq g (leave live returned)
+call_left (Some b) q g live = seq g (seq (act q (keep b.length)) (leave live returned))
+
 -- what is written ---------------------------------------------------------------------------------------------------
 
 -- the points of the one are the first of the other
@@ -95,6 +126,15 @@ module _ (P : Program) (path : List ℕ) (r : Frame) where
   WritesReturn q S o g U = Writes path r (given_events inside path r.live o) S U
       (λ T f. (at : ℕ) → length S ≡ suc q → inlined.Has T (inlined.spot_of f r.live q) at
       → inlined.Inl P T (inlined.spot_of f r.live q) (return at o) (seq (point q) g) (length U))
+
+-- the body of the function that a call names, from the points S to V, behind which n live
+pub record WritesBody (P : Program) (path : List ℕ) (r : Frame) (x : Option ℕ) (c : Call) (S : List Site) (g : Node)
+    (n : ℕ) (V : List Site) : Type 0 where
+  pub fn : Function
+  pub found : slice_get P.functions c.function ≡ Some fn
+  pub some_left : r.calls_left ≢ 0
+  pub written : WritesItems P (c.label ∷ path) (callee_frame r x fn.parameters) S fn.body g V
+  pub last : n ≡ live_behind (r.live + fn.parameters) fn.body
 
 -- an item takes what stands behind it: it stands in the frame with some items behind it
 abbrev pub ItemStands : Program → Frame → (BlockItems → BlockItems) → Type 0

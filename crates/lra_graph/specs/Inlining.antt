@@ -1,9 +1,10 @@
 -- What is owed for a part, by what stands around it in code, and by the points before it and behind it.
-use Rattle.std.specs.Prelude.{◌≡◌, ℕ, ◌+◌, ◌++◌, List, [], ◌∷◌, map, Option, true, Vec}
+use Rattle.std.specs.Prelude.{◌≡◌, ℕ, ◌+◌, ◌++◌, List, [], ◌∷◌, map, Option, true, ⊤, Vec}
 use Rattle.std.specs.declared.alloc.Global.{Global}
 use Rattle.lra_operations.specs.declared.graph.Node as code
 use Rattle.lra_operations.specs.declared.graph.Site as code_site
-use Rattle.lra_program.specs.Program.{Cond, Call, Source, Stmt, for, BlockItems, Program}
+use Rattle.lra_program.specs.Program.{Cond, Call, Source, Stmt, block, assign, call, if, loop, for, return}
+use Rattle.lra_program.specs.Program.{result, BlockItems, Program}
 use Rattle.lra_operations.specs.Graph.{Exit}
 use Rattle.lra_program.specs.Sites.{Site, Event, comes, plain_site, source_events, given_events, stmt_events}
 use Rattle.lra_program.specs.Sites.{items_events, call_events}
@@ -24,6 +25,25 @@ points_in points = map site_view points.items
 -- a `for`, by how it begins and what it repeats
 abbrev pub for_of : BlockItems → Repeated → Stmt
 for_of init r = for r.label init (cond_view r.cond.now) (stmt_view r.body.now) (stmt_view r.step.now)
+
+-- a statement with no statements in it
+abbrev pub IsSimple : Stmt → Type 0
+IsSimple (block items end) = ⊥
+IsSimple (if label c a b) = ⊥
+IsSimple (loop label c a step) = ⊥
+IsSimple (for label init c a step) = ⊥
+IsSimple s = ⊤
+
+-- a statement with no part to be written out, which makes no call
+abbrev pub IsLone : Stmt → Type 0
+IsLone (block items end) = ⊥
+IsLone (assign label x e) = ⊥
+IsLone (call label c) = ⊥
+IsLone (if label c a b) = ⊥
+IsLone (loop label c a step) = ⊥
+IsLone (for label init c a step) = ⊥
+IsLone (return label e) = ⊥
+IsLone s = ⊤
 
 module _ (at : Around) where
   abbrev pub program_around : Program
@@ -65,7 +85,12 @@ module _ (at : Around) where
 
   -- the body of a loop, and its step
   abbrev pub RoundStands : Option ℕ → Stmt → Type 0
-  RoundStands loop s = building.StmtStands program_around (record at.frame { loop_length = loop }) s
+  RoundStands length s = building.StmtStands program_around (record at.frame { loop_length = length }) s
+
+  -- no call more may be made there, whatever points come before
+  abbrev pub StopsAnywhere : Call → Limit → Type 0
+  StopsAnywhere c x =
+      (S : List Site) → walk S (call_events program_around at.frame.calls_left at.path.now at.frame.live c) ≡ stopped x
 
   module _ (before : Points) where
     -- it passes the limit, behind these points
@@ -89,6 +114,13 @@ module _ (at : Around) where
 
     abbrev pub StopsCall : Call → Limit → Type 0
     StopsCall c = Stops (call_events program_around at.frame.calls_left at.path.now at.frame.live c)
+
+    -- behind its callee's body, wherever that begins
+    abbrev pub StopsBehind : Option ℕ → Call → code.Node → ℕ → Limit → Type 0
+    StopsBehind x c g n l =
+        (S : List Site) → building.WritesBody program_around at.path.now at.frame x c S (node_view g) n
+        (points_in before)
+        → walk S (call_events program_around at.frame.calls_left at.path.now at.frame.live c) ≡ stopped l
 
     abbrev pub StopsRound : Stmt → Stmt → Limit → Type 0
     StopsRound a step = Stops (on_stmt step ++ on_stmt a)
@@ -127,6 +159,13 @@ module _ (at : Around) where
       IsSource q x e g =
           building.WritesSource program_around at.path.now at.frame q x (points_in before) e (node_view g)
           (points_in after)
+
+      -- g is the call's tree, where h is its callee's body, wherever that begins
+      abbrev pub IsCall : ℕ → Option ℕ → Call → code.Node → ℕ → code.Node → Type 0
+      IsCall q x c h n g =
+          (S : List Site)
+          → building.WritesBody program_around at.path.now at.frame x c S (node_view h) n (points_in before)
+          → building.WritesSource program_around at.path.now at.frame q x S (result c) (node_view g) (points_in after)
 
       abbrev pub IsDeclared : ℕ → Option Source → code.Node → Type 0
       IsDeclared q o g =

@@ -55,14 +55,31 @@ pub fn behind(alloc: Global, point: usize, op: Op, node: Node) -> Result<Node, A
     in_turn(alloc, Node::Act(point, op), node)
 }
 
-/// The point of a block's end, where its variables go.
-pub fn block_end(alloc: Global, point: usize, live: usize) -> Result<Node, AllocError>
-    ensures { IfOk result (λ g. node_view g ≡ graph.seq (graph.point point) (graph.act point (step.keep live))) }
+/// A block: its items, then the point of its end, where its variables go.
+pub fn block(alloc: Global, point: usize, live: usize, items: Node) -> Result<Node, AllocError>
+    ensures { IfOk result (λ g. node_view g
+        ≡ graph.seq (node_view items) (graph.seq (graph.point point) (graph.act point (step.keep live)))) }
 {
-    behind_point(alloc, point, Node::Act(point, Op::Keep(live)))
+    let end = behind_point(alloc, point, Node::Act(point, Op::Keep(live)))?;
+    in_turn(alloc, items, end)
 }
 
-/// The one where the condition is true, the other where it is false.
+/// A `for` behind its point: its beginning, then its loop, then its variables go.
+pub fn begun(
+    alloc: Global,
+    point: usize,
+    live: usize,
+    init: Node,
+    rounds: Node,
+) -> Result<Node, AllocError>
+    ensures { IfOk result (λ g. node_view g
+        ≡ graph.seq (node_view init) (graph.seq (node_view rounds) (graph.act point (step.keep live)))) }
+{
+    let rest = in_turn(alloc, rounds, Node::Act(point, Op::Keep(live)))?;
+    in_turn(alloc, init, rest)
+}
+
+/// The point, then the one where the condition is true, the other where it is false.
 pub fn choice(
     alloc: Global,
     point: usize,
@@ -71,17 +88,17 @@ pub fn choice(
     on_true: Node,
     on_false: Node,
 ) -> Result<Node, AllocError>
-    ensures { IfOk result (λ g. node_view g
-        ≡ graph.choose point base (cond_view cond.now) (node_view on_true) (node_view on_false)) }
+    ensures { IfOk result (λ g. node_view g ≡ graph.seq (graph.point point)
+        (graph.choose point base (cond_view cond.now) (node_view on_true) (node_view on_false))) }
 {
     let cond = cond.copy(alloc)?;
-    Ok(Node::Choose(
+    let on_true = Box::new(alloc, on_true)?;
+    let on_false = Box::new(alloc, on_false)?;
+    behind_point(
+        alloc,
         point,
-        base,
-        cond,
-        Box::new(alloc, on_true)?,
-        Box::new(alloc, on_false)?,
-    ))
+        Node::Choose(point, base, cond, on_true, on_false),
+    )
 }
 
 /// A loop: `break` comes out behind it, `continue` behind the body and before the step.

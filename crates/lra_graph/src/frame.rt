@@ -36,6 +36,13 @@ pub struct Around<'a> {
     pub frame: Frame,
 }
 
+/// What calls: its point, and the variable that gets the value, where there is one.
+#[derive(Clone, Copy)]
+pub struct Caller {
+    pub point: usize,
+    pub target: Option<usize>,
+}
+
 /// What a `for` repeats, and its label.
 #[derive(Clone, Copy)]
 pub struct Repeated<'a> {

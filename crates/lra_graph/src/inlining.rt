@@ -1,35 +1,40 @@
 //! Calls written out: the tree of a program and its points. A call is written out where it stands, so a function that
 //! is called twice has its points twice, under two paths.
 
+mod calls;
+mod returns;
 mod whole;
 
-ghost use Rattle.std.specs.Prelude.{◌≡◌, ◌<◌, ◌≤◌, ◌+◌, ◌^◌, ℕ, length, map, IfOk, MatchOption, Option};
+ghost use Rattle.std.specs.Prelude.{◌≡◌, ◌<◌, ◌≤◌, ◌+◌, ◌^◌, ℕ, length, map, IfOk, MatchOption, Option, Some, None};
 ghost use Rattle.lra_program.specs.Program as resolved;
 ghost use Rattle.lra_program.specs.Sites.{live_behind};
 ghost use Rattle.lra_program.specs.Value.{index_of};
 ghost use Rattle.lra_program.specs.WellFormed.{IsWellFormed};
-ghost use Rattle.lra_program.specs.ProgramViews.{slot_view, cond_view, call_view, source_view, given_view, stmt_view};
+ghost use Rattle.lra_program.specs.ProgramViews.{slot_view, expr_view, cond_view, call_view, source_view, given_view};
+ghost use Rattle.lra_program.specs.ProgramViews.{stmt_view};
 ghost use Rattle.lra_program.specs.ProgramViews.{item_view, items_of};
 ghost use Rattle.lra_operations.specs.GraphViews.{exit_view};
 ghost use Rattle.lra_graph.specs.Limits.{OnLimit};
 ghost use Rattle.lra_graph.specs.Inlining.{points_in, program_around, own_events, assertion_events, Passes, Stops};
 ghost use Rattle.lra_graph.specs.Inlining.{StmtStands, ItemsStand, ItemStands, GivenStands, DeclaredStands, CallStands};
 ghost use Rattle.lra_graph.specs.Inlining.{RoundStands, StopsStmt, StopsItems, StopsItem, StopsGiven, StopsSource};
-ghost use Rattle.lra_graph.specs.Inlining.{StopsCall, StopsRound, IsStmt, IsPlain, IsExit, AreItems, IsItem, IsSource};
-ghost use Rattle.lra_graph.specs.Inlining.{IsDeclared, IsLoop, IsReturn, for_of};
+ghost use Rattle.lra_graph.specs.Inlining.{StopsCall, StopsRound, IsSimple, IsLone, IsStmt, IsPlain, IsExit, AreItems};
+ghost use Rattle.lra_graph.specs.Inlining.{IsItem, IsSource};
+ghost use Rattle.lra_graph.specs.Inlining.{IsDeclared, IsLoop, for_of};
 
 use crate::forms::{
-    CallPlace, add_part, behind, behind_point, block_end, choice, cut_and_leave, enclose_call,
-    in_a_row, in_turn, returned, rounds,
+    add_part, begun, behind, behind_point, block, choice, cut_and_leave, in_a_row, rounds,
 };
-use crate::frame::{Around, Back, Frame, Repeated};
-use crate::points::{GraphError, Limit, add_point};
+use crate::frame::{Around, Caller, Frame, Repeated};
+use crate::points::{GraphError, Limit, add_point, made};
+use calls::{callee, end_call, enter_call};
 use lra_operations::{Exit, Node, Op, Site};
-use lra_program::{BlockItem, Call, Cond, Slot, Source, Stmt};
+use lra_program::{BlockItem, Call, Cond, Expr, Slot, Source, Stmt};
+use returns::{leave_any, leave_call, leave_value, receiver_of};
 pub use whole::build;
 
-/// Where a variable stands in the store.
-fn place_of(base: usize, slot: Slot) -> usize
+/// Where the variable stands in the store.
+fn store_index(base: usize, slot: Slot) -> usize
     requires { (k : ℕ) → slot_view slot ≡ resolved.local k → base + k < 2 ^ 64 }
     ensures { result ≡ index_of base (slot_view slot) }
 {
@@ -93,7 +98,7 @@ fn leave_loop(
     match frame.loop_length {
         Some(length) => {
             let leave = cut_and_leave(around.alloc, point, length, frame.live, exit)?;
-            Ok(behind_point(around.alloc, point, leave)?)
+            made(behind_point(around.alloc, point, leave))
         }
         None => unreachable!(),
     }
@@ -113,7 +118,8 @@ fn assertion(
     let frame = around.frame;
     let point = add_point(around.alloc, around.path, label, frame.live, true, sites)?;
     let cond = cond.copy(around.alloc)?;
-    Ok(behind_point(around.alloc, point, Node::Check(point, frame.base, cond))?)
+    let check = Node::Check(point, frame.base, cond);
+    made(behind_point(around.alloc, point, check))
 }
 
 /// An assumption: only where its condition is true does the run go on.
@@ -129,11 +135,55 @@ fn assumption_of(
 {
     let point = own_point(around, label, sites)?;
     let test = Op::Test(around.frame.base, cond.copy(around.alloc)?, true);
-    Ok(behind_point(around.alloc, point, Node::Act(point, test))?)
+    made(behind_point(around.alloc, point, Node::Act(point, test)))
+}
+
+/// A `return` without a value.
+fn return_any(around: &Around<'_>, label: usize, sites: &mut Vec<Site>) -> Result<Node, GraphError>
+    requires { StmtStands around.now (resolved.return label None) }
+    ensures written { IfOk result (IsStmt around.now sites.old sites.new (resolved.return label None)) }
+    ensures limit { OnLimit result (StopsStmt around.now sites.old (resolved.return label None)) }
+{
+    let point = own_point(around, label, sites)?;
+    made(leave_any(around, point))
+}
+
+/// A `return` with a value that no call gives.
+fn return_value(
+    around: &Around<'_>,
+    label: usize,
+    value: &Expr,
+    sites: &mut Vec<Site>,
+) -> Result<Node, GraphError>
+    requires { StmtStands around.now (resolved.return label (Some (resolved.value (expr_view value.now)))) }
+    ensures written { IfOk result (IsStmt around.now sites.old sites.new
+        (resolved.return label (Some (resolved.value (expr_view value.now))))) }
+    ensures limit { OnLimit result (StopsStmt around.now sites.old
+        (resolved.return label (Some (resolved.value (expr_view value.now))))) }
+{
+    let point = own_point(around, label, sites)?;
+    made(leave_value(around, point, value))
+}
+
+/// A statement without parts, which makes no call.
+fn inline_lone(around: &Around<'_>, stmt: &Stmt, sites: &mut Vec<Site>) -> Result<Node, GraphError>
+    requires lone { IsLone (stmt_view stmt.now) }
+    requires stands { StmtStands around.now (stmt_view stmt.now) }
+    ensures written { IfOk result (IsStmt around.now sites.old sites.new (stmt_view stmt.now)) }
+    ensures limit { OnLimit result (StopsStmt around.now sites.old (stmt_view stmt.now)) }
+{
+    match stmt {
+        Stmt::Absent => Ok(Node::Empty),
+        Stmt::Nothing(label) => lone_point(around, *label, sites),
+        Stmt::Break(label) => leave_loop(around, *label, Exit::Broken, sites),
+        Stmt::Continue(label) => leave_loop(around, *label, Exit::Continued, sites),
+        Stmt::Assert(label, cond) => assertion(around, *label, cond, sites),
+        Stmt::Assume(label, cond) => assumption_of(around, *label, cond, sites),
+        _ => unreachable!(),
+    }
 }
 
 /// A statement.
-#[tactic(none)]
 #[cycle(inline)]
 fn inline_stmt(around: &Around<'_>, stmt: &Stmt, sites: &mut Vec<Site>) -> Result<Node, GraphError>
     requires well { IsWellFormed (program_around around.now) }
@@ -142,17 +192,12 @@ fn inline_stmt(around: &Around<'_>, stmt: &Stmt, sites: &mut Vec<Site>) -> Resul
     ensures limit { OnLimit result (StopsStmt around.now sites.old (stmt_view stmt.now)) }
 {
     match stmt {
-        Stmt::Absent => Ok(Node::Empty),
-        Stmt::Nothing(label) => lone_point(around, *label, sites),
         Stmt::Block(items, end) => inline_block(around, &items.items, *end, sites),
-        Stmt::Assign(label, slot, source) => inline_assign(around, *label, *slot, source, sites),
-        Stmt::Call(label, call) => inline_call_alone(around, *label, call, sites),
         Stmt::If(label, cond, on_true, on_false) => {
             inline_if(around, *label, cond, on_true, on_false, sites)
         }
         Stmt::Loop(label, cond, body, step) => {
-            let point = own_point(around, *label, sites)?;
-            inline_loop(around, point, cond, body, step, sites)
+            inline_while(around, *label, cond, body, step, sites)
         }
         Stmt::For {
             label,
@@ -169,16 +214,36 @@ fn inline_stmt(around: &Around<'_>, stmt: &Stmt, sites: &mut Vec<Site>) -> Resul
             };
             inline_for(around, &init.items, &repeated, sites)
         }
-        Stmt::Break(label) => leave_loop(around, *label, Exit::Broken, sites),
-        Stmt::Continue(label) => leave_loop(around, *label, Exit::Continued, sites),
+        _ => inline_simple(around, stmt, sites),
+    }
+}
+
+/// A statement without statements in it.
+#[cycle(inline)]
+fn inline_simple(
+    around: &Around<'_>,
+    stmt: &Stmt,
+    sites: &mut Vec<Site>,
+) -> Result<Node, GraphError>
+    requires well { IsWellFormed (program_around around.now) }
+    requires simple { IsSimple (stmt_view stmt.now) }
+    requires stands { StmtStands around.now (stmt_view stmt.now) }
+    ensures written { IfOk result (IsStmt around.now sites.old sites.new (stmt_view stmt.now)) }
+    ensures limit { OnLimit result (StopsStmt around.now sites.old (stmt_view stmt.now)) }
+{
+    match stmt {
+        Stmt::Assign(label, slot, source) => inline_assign(around, *label, *slot, source, sites),
+        Stmt::Call(label, call) => {
+            let point = own_point(around, *label, sites)?;
+            let given = inline_call(around, point, None, call, sites)?;
+            made(behind_point(around.alloc, point, given))
+        }
         Stmt::Return(label, source) => inline_return(around, *label, source, sites),
-        Stmt::Assert(label, cond) => assertion(around, *label, cond, sites),
-        Stmt::Assume(label, cond) => assumption_of(around, *label, cond, sites),
+        _ => inline_lone(around, stmt, sites),
     }
 }
 
 /// A block: its items, and the point of its end, where its variables go.
-#[tactic(none)]
 #[cycle(inline)]
 fn inline_block(
     around: &Around<'_>,
@@ -195,12 +260,10 @@ fn inline_block(
 {
     let (body, last) = inline_items(around, items, sites)?;
     let point = add_point(around.alloc, around.path, end, last, false, sites)?;
-    let end = block_end(around.alloc, point, around.frame.live)?;
-    Ok(in_turn(around.alloc, body, end)?)
+    made(block(around.alloc, point, around.frame.live, body))
 }
 
 /// An assignment: its point, and what the variable gets.
-#[tactic(none)]
 #[cycle(inline)]
 fn inline_assign(
     around: &Around<'_>,
@@ -217,32 +280,12 @@ fn inline_assign(
         (resolved.assign label (slot_view slot) (source_view source.now))) }
 {
     let point = own_point(around, label, sites)?;
-    let target = Some(place_of(around.frame.base, slot));
+    let target = Some(store_index(around.frame.base, slot));
     let given = inline_source(around, point, target, source, sites)?;
-    Ok(behind_point(around.alloc, point, given)?)
-}
-
-/// A call whose value nothing gets.
-#[tactic(none)]
-#[cycle(inline)]
-fn inline_call_alone(
-    around: &Around<'_>,
-    label: usize,
-    call: &Call,
-    sites: &mut Vec<Site>,
-) -> Result<Node, GraphError>
-    requires well { IsWellFormed (program_around around.now) }
-    requires stands { StmtStands around.now (resolved.call label (call_view call.now)) }
-    ensures written { IfOk result (IsStmt around.now sites.old sites.new (resolved.call label (call_view call.now))) }
-    ensures limit { OnLimit result (StopsStmt around.now sites.old (resolved.call label (call_view call.now))) }
-{
-    let point = own_point(around, label, sites)?;
-    let given = inline_call(around, point, None, call, sites)?;
-    Ok(behind_point(around.alloc, point, given)?)
+    made(behind_point(around.alloc, point, given))
 }
 
 /// A choice behind its point: its first branch's points come before those of the second.
-#[tactic(none)]
 #[cycle(inline)]
 fn inline_if(
     around: &Around<'_>,
@@ -264,8 +307,7 @@ fn inline_if(
     let on_true = inline_stmt(around, on_true, sites)?;
     let on_false = inline_stmt(around, on_false, sites)?;
     let base = around.frame.base;
-    let chosen = choice(around.alloc, point, base, cond, on_true, on_false)?;
-    Ok(behind_point(around.alloc, point, chosen)?)
+    made(choice(around.alloc, point, base, cond, on_true, on_false))
 }
 
 /// The items, and how many variables live behind them.
@@ -299,7 +341,6 @@ fn inline_items(
 }
 
 /// An item, and how many variables live behind it.
-#[tactic(none)]
 #[cycle(inline)]
 fn inline_item(
     around: &Around<'_>,
@@ -326,7 +367,6 @@ fn inline_item(
 }
 
 /// The new variable of a declarator behind its point, and what it gets.
-#[tactic(none)]
 #[cycle(inline)]
 fn inline_declared(
     around: &Around<'_>,
@@ -351,13 +391,34 @@ fn inline_declared(
             };
             let behind_it = Around { frame, ..*around };
             let given = inline_source(&behind_it, point, Some(place), source, sites)?;
-            Ok(behind(around.alloc, point, Op::Append, given)?)
+            made(behind(around.alloc, point, Op::Append, given))
         }
     }
 }
 
+/// A loop: its point, and its rounds.
+#[cycle(inline)]
+fn inline_while(
+    around: &Around<'_>,
+    label: usize,
+    cond: &Cond,
+    body: &Stmt,
+    step: &Stmt,
+    sites: &mut Vec<Site>,
+) -> Result<Node, GraphError>
+    requires well { IsWellFormed (program_around around.now) }
+    requires stands { StmtStands around.now
+        (resolved.loop label (cond_view cond.now) (stmt_view body.now) (stmt_view step.now)) }
+    ensures written { IfOk result (IsStmt around.now sites.old sites.new
+        (resolved.loop label (cond_view cond.now) (stmt_view body.now) (stmt_view step.now))) }
+    ensures limit { OnLimit result (StopsStmt around.now sites.old
+        (resolved.loop label (cond_view cond.now) (stmt_view body.now) (stmt_view step.now))) }
+{
+    let point = own_point(around, label, sites)?;
+    inline_loop(around, point, cond, body, step, sites)
+}
+
 /// A loop behind its own point. Its step's points come before those of its body.
-#[tactic(none)]
 #[cycle(inline)]
 fn inline_loop(
     around: &Around<'_>,
@@ -385,11 +446,10 @@ fn inline_loop(
     };
     let body = inline_stmt(&Around { frame, ..*around }, body, sites)?;
     let base = around.frame.base;
-    Ok(rounds(around.alloc, point, base, cond, body, step)?)
+    made(rounds(around.alloc, point, base, cond, body, step))
 }
 
 /// A `for`: its point, at which its variables live already, its beginning, and its loop, behind which they go.
-#[tactic(none)]
 #[cycle(inline)]
 fn inline_for(
     around: &Around<'_>,
@@ -423,13 +483,10 @@ fn inline_for(
         repeated.step,
         sites,
     )?;
-    let end = Node::Act(point, Op::Keep(around.frame.live));
-    let rest = in_turn(around.alloc, again, end)?;
-    Ok(in_turn(around.alloc, init, rest)?)
+    made(begun(around.alloc, point, around.frame.live, init, again))
 }
 
-/// A `return`: its point, and what leaves the call that runs, or `main`.
-#[tactic(none)]
+/// A `return`: its point, and what leaves the call that runs, or `main`; a call that gives the value is made in both.
 #[cycle(inline)]
 fn inline_return(
     around: &Around<'_>,
@@ -443,80 +500,19 @@ fn inline_return(
         (resolved.return label (given_view source.now))) }
     ensures limit { OnLimit result (StopsStmt around.now sites.old (resolved.return label (given_view source.now))) }
 {
-    let point = own_point(around, label, sites)?;
-    let left = match around.frame.back {
-        Some(back) => inline_back(around, point, back, source, sites)?,
-        None => inline_end(around, point, source, sites)?,
-    };
-    Ok(behind_point(around.alloc, point, left)?)
-}
-
-/// A return to the caller, behind its point.
-#[tactic(none)]
-#[cycle(inline)]
-fn inline_back(
-    around: &Around<'_>,
-    point: usize,
-    back: Back,
-    source: &Option<Source>,
-    sites: &mut Vec<Site>,
-) -> Result<Node, GraphError>
-    requires well { IsWellFormed (program_around around.now) }
-    requires few { around.now.frame.live ≤ 24 }
-    requires back { around.now.frame.back ≡ Some back }
-    requires stands { GivenStands around.now (given_view source.now) }
-    ensures written { IfOk result (IsReturn around.now sites.old sites.new point (given_view source.now)) }
-    ensures limit { OnLimit result (StopsGiven around.now sites.old around.now.frame.live (given_view source.now)) }
-{
-    let alloc = around.alloc;
-    let live = around.frame.live;
     match source {
-        None => {
-            let any = Op::GiveAny(back.target);
-            Ok(returned(alloc, point, any, back.length, live)?)
-        }
-        Some(Source::Value(value)) => {
-            let give = Op::Give(around.frame.base, back.target, value.copy(alloc)?);
-            Ok(returned(alloc, point, give, back.length, live)?)
-        }
+        None => return_any(around, label, sites),
+        Some(Source::Value(value)) => return_value(around, label, value, sites),
         Some(Source::Result(call)) => {
-            let given = inline_call(around, point, back.target, call, sites)?;
-            let leave = cut_and_leave(alloc, point, back.length, live, Exit::Returned)?;
-            Ok(in_turn(alloc, given, leave)?)
+            let point = own_point(around, label, sites)?;
+            let target = receiver_of(around.frame.back);
+            let given = inline_call(around, point, target, call, sites)?;
+            made(leave_call(around, point, given))
         }
-    }
-}
-
-/// A return of `main`, behind its point: the run ends. A call is still made.
-#[tactic(none)]
-#[cycle(inline)]
-fn inline_end(
-    around: &Around<'_>,
-    point: usize,
-    source: &Option<Source>,
-    sites: &mut Vec<Site>,
-) -> Result<Node, GraphError>
-    requires well { IsWellFormed (program_around around.now) }
-    requires few { around.now.frame.live ≤ 24 }
-    requires back { around.now.frame.back ≡ None }
-    requires stands { GivenStands around.now (given_view source.now) }
-    ensures written { IfOk result (IsReturn around.now sites.old sites.new point (given_view source.now)) }
-    ensures limit { OnLimit result (StopsGiven around.now sites.old around.now.frame.live (given_view source.now)) }
-{
-    let live = around.frame.live;
-    match source {
-        Some(Source::Result(call)) => {
-            let given = inline_call(around, point, None, call, sites)?;
-            let leave = Node::Leave(live, Exit::Returned);
-            Ok(in_turn(around.alloc, given, leave)?)
-        }
-        Some(Source::Value(_)) => Ok(Node::Leave(live, Exit::Returned)),
-        None => Ok(Node::Leave(live, Exit::Returned)),
     }
 }
 
 /// What the target gets, where there is one.
-#[tactic(none)]
 #[cycle(inline)]
 fn inline_source(
     around: &Around<'_>,
@@ -541,7 +537,6 @@ fn inline_source(
 }
 
 /// A call: the callee's body under a path of its own, and the point of its end.
-#[tactic(none)]
 #[cycle(inline)]
 fn inline_call(
     around: &Around<'_>,
@@ -557,36 +552,14 @@ fn inline_call(
         (resolved.result (call_view call.now))) }
     ensures limit { OnLimit result (StopsCall around.now sites.old (call_view call.now)) }
 {
-    let frame = around.frame;
-    if frame.calls_left == 0 {
-        return Err(GraphError::Passed(Limit::Calls(call.label)));
-    }
-    let function = &around.program.functions[call.function];
-    let parameters = call.arguments.len();
-    let inner_path = around.path.with_call(around.alloc, call.label)?;
-    let inner = Frame {
-        base: frame.live,
-        live: frame.live + parameters,
-        calls_left: frame.calls_left - 1,
-        loop_length: None,
-        back: Some(Back {
-            target,
-            length: frame.live,
-        }),
-    };
+    let (path, frame) = enter_call(around, target, call)?;
+    let function = callee(around, call);
     let within = Around {
-        path: &inner_path,
-        frame: inner,
+        path: &path,
+        frame,
         ..*around
     };
-    let (body, last) = inline_items(&within, &function.body.items, sites)?;
-    let end = add_point(around.alloc, &inner_path, function.end, last, false, sites)?;
-    let place = CallPlace {
-        point,
-        end,
-        base: frame.base,
-        live: frame.live,
-        target,
-    };
-    Ok(enclose_call(around.alloc, place, &call.arguments, parameters, body)?)
+    let body = inline_items(&within, &function.body.items, sites)?;
+    let caller = Caller { point, target };
+    end_call(around, &path, caller, call, body, sites)
 }

@@ -1,11 +1,11 @@
 //! The points of a program in their order, and the limits on them.
 
-ghost use Rattle.std.specs.Prelude.{◌≡◌, ◌≤◌, ◌∷◌, ◌++◌, [], length, map, IfOk};
+ghost use Rattle.std.specs.Prelude.{◌≡◌, ◌≤◌, ◌∷◌, ◌++◌, [], length, map, Ok, IfOk};
 ghost use Rattle.lra_program.specs.Sites.{comes};
 ghost use Rattle.lra_operations.specs.GraphViews.{site_view};
 ghost use Rattle.lra_graph.specs.Limits.{walk, passed, stopped, OnLimit};
 
-use lra_operations::{Path, Site};
+use lra_operations::{Node, Path, Site};
 use std::alloc::{AllocError, Global};
 
 /// The most variables that may live at a point.
@@ -41,6 +41,14 @@ impl From<AllocError> for GraphError {
     fn from(_: AllocError) -> Self {
         GraphError::Memory
     }
+}
+
+/// What is made of its parts, where only the memory may fail.
+pub fn made(tree: Result<Node, AllocError>) -> Result<Node, GraphError>
+    ensures tree { IfOk result (λ g. tree ≡ Ok g) }
+    ensures memory { OnLimit result (λ _. ⊥) }
+{
+    Ok(tree?)
 }
 
 fn add_site(sites: &mut Vec<Site>, site: Site) -> Result<(), AllocError>

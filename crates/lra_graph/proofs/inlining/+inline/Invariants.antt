@@ -27,6 +27,9 @@ decreases-inline_declared l = weight (program_around l.around.now) l.around.now.
 abbrev pub decreases-inline_loop : goal.decreases-inline_loop
 decreases-inline_loop l = weight (program_around l.around.now) l.around.now.frame.calls_left (1 + (size_stmt (stmt_view l.body.now) + size_stmt (stmt_view l.step.now)))
 
+abbrev pub decreases-inline_while : goal.decreases-inline_while
+decreases-inline_while l = weight (program_around l.around.now) l.around.now.frame.calls_left (2 + (size_stmt (stmt_view l.body.now) + size_stmt (stmt_view l.step.now)))
+
 abbrev pub decreases-inline_for : goal.decreases-inline_for
 decreases-inline_for l =
     let rest = size_stmt (stmt_view l.repeated.now.body.now) + size_stmt (stmt_view l.repeated.now.step.now) in
@@ -38,23 +41,17 @@ decreases-inline_block l = weight (program_around l.around.now) l.around.now.fra
 abbrev pub decreases-inline_assign : goal.decreases-inline_assign
 decreases-inline_assign l = weight (program_around l.around.now) l.around.now.frame.calls_left 4
 
-abbrev pub decreases-inline_call_alone : goal.decreases-inline_call_alone
-decreases-inline_call_alone l = weight (program_around l.around.now) l.around.now.frame.calls_left 3
-
 abbrev pub decreases-inline_if : goal.decreases-inline_if
 decreases-inline_if l = weight (program_around l.around.now) l.around.now.frame.calls_left (1 + (size_stmt (stmt_view l.on_true.now) + size_stmt (stmt_view l.on_false.now)))
 
 abbrev pub decreases-inline_return : goal.decreases-inline_return
 decreases-inline_return l = weight (program_around l.around.now) l.around.now.frame.calls_left 5
 
-abbrev pub decreases-inline_back : goal.decreases-inline_back
-decreases-inline_back l = weight (program_around l.around.now) l.around.now.frame.calls_left 4
-
-abbrev pub decreases-inline_end : goal.decreases-inline_end
-decreases-inline_end l = weight (program_around l.around.now) l.around.now.frame.calls_left 4
-
 abbrev pub decreases-inline_source : goal.decreases-inline_source
 decreases-inline_source l = weight (program_around l.around.now) l.around.now.frame.calls_left 3
 
 abbrev pub decreases-inline_call : goal.decreases-inline_call
 decreases-inline_call l = weight (program_around l.around.now) l.around.now.frame.calls_left 2
+
+abbrev pub decreases-inline_simple : goal.decreases-inline_simple
+decreases-inline_simple l = weight (program_around l.around.now) l.around.now.frame.calls_left (size_stmt (stmt_view l.stmt.now) - 1)

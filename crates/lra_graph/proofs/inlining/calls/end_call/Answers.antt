@@ -1,0 +1,39 @@
+-- Goals of `end_call`: the point of the callee's end, and the whole call.
+use Rattle.std.proofs.Common.{◌∷◌, [], ◌≡◌}
+use Rattle.lra_program.specs.Sites.{plain_site}
+use Rattle.lra_program.specs.ProgramViews.{call_view, function_view}
+use Rattle.lra_operations.specs.GraphViews.{node_view}
+use Rattle.lra_graph.specs.Limits.{walk, stopped}
+use Rattle.lra_graph.specs.Inlining.{points_in, program_around, StopsBehind}
+use Rattle.lra_graph.proofs.Stopping.{err_stopped, made_ok, made_limit}
+use Rattle.lra_graph.proofs.Calling.{end_stopped, end_written}
+use Rattle.lra_graph.proofs.Programs.{called_fits, called_wide, arguments_fit}
+use Rattle.lra_graph.proofs.inlining.calls.end_call.Goals as goal
+
+pub returns-in_err-end-clause-limit : goal.returns-in_err-end-clause-limit
+returns-in_err-end-clause-limit c =
+    let here = c.args.around.now in
+    let call = call_view c.args.call.now in
+    err_stopped c.from_residual.result _ (λ l. walk (points_in c.args.sites.now) (plain_site c.args.path.now c.callee-function.result.now.end c.args.body.1 ∷ []) ≡ stopped l)
+    (StopsBehind here c.args.sites.now c.args.caller.target call c.args.body.0 c.args.body.1) c.from_residual.ensures.1
+    (λ l h S w. end_stopped (program_around here) here.path.now here.frame c.args.caller.target call S (points_in c.args.sites.now) (node_view c.args.body.0) c.args.body.1 w
+    (function_view c.callee-function.result.now) c.callee-function.ensures c.args.path.now c.requires.within l h)
+    c.in_err-end.ensures.limit
+
+pub enclose_call-requires : goal.enclose_call-requires
+enclose_call-requires c = arguments_fit c.args.around.now.frame.live c.len-parameters.result c.args.call.now c.len-parameters.ensures c.requires.few
+
+pub returns-clause-written : goal.returns-clause-written
+returns-clause-written c =
+    let here = c.args.around.now in
+    let call = call_view c.args.call.now in
+    let fn = c.callee-function.result.now in
+    made_ok c.made.result c.enclose_call.result _ _ c.made.ensures.tree c.enclose_call.ensures
+    (λ g a S w. end_written (program_around here) here.path.now here.frame c.args.caller.target call S (points_in c.args.sites.now) (node_view c.args.body.0) c.args.body.1 w (function_view fn)
+    c.callee-function.ensures c.args.path.now c.requires.within (points_in c.add_point.new.sites) c.args.caller.point c.in_ok-end.end c.len-parameters.result (node_view g)
+    (called_fits here.program.now here.frame c.args.call.now c.requires.stands fn c.callee-function.ensures)
+    (called_wide here.program.now here.frame c.args.call.now c.requires.stands fn c.callee-function.ensures c.len-parameters.result c.len-parameters.ensures) c.in_ok-end.ensures.number
+    c.in_ok-end.ensures.walked (rw c.deref.ensures.value at a))
+
+pub returns-clause-limit : goal.returns-clause-limit
+returns-clause-limit c = made_limit c.made.result _ c.made.ensures.memory

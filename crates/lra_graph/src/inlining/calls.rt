@@ -1,0 +1,85 @@
+//! What a call is but for its callee's body: where that stands, and what comes behind it.
+
+ghost use Rattle.std.specs.Prelude.{◌≡◌, ◌≢◌, ◌≤◌, ◌∷◌, length, Some, slice_get, IfOk};
+ghost use Rattle.lra_program.specs.ProgramViews.{call_view, function_view};
+ghost use Rattle.lra_graph.specs.Limits.{OnLimit};
+ghost use Rattle.lra_graph.specs.Building.{callee_frame};
+ghost use Rattle.lra_graph.specs.Inlining.{program_around, CallStands, IsCall, StopsAnywhere, StopsBehind};
+
+use crate::forms::{CallPlace, enclose_call};
+use crate::frame::{Around, Back, Caller, Frame};
+use crate::points::{GraphError, Limit, add_point, made};
+use lra_operations::{Node, Path, Site};
+use lra_program::{Call, Function};
+
+/// The function that the call names.
+pub fn callee<'a>(around: &Around<'a>, call: &Call) -> &'a Function
+    requires { CallStands around.now (call_view call.now) }
+    ensures { slice_get (program_around around.now).functions (call_view call.now).function
+        ≡ Some (function_view result.now) }
+{
+    &around.program.functions[call.function]
+}
+
+/// The path of the callee's body, and where that stands; or that the path may have no call more.
+pub fn enter_call(
+    around: &Around<'_>,
+    target: Option<usize>,
+    call: &Call,
+) -> Result<(Path, Frame), GraphError>
+    requires { around.now.frame.live ≤ 25 }
+    ensures path { IfOk result (λ r. r.0 ≡ call.now.label ∷ around.now.path.now) }
+    ensures frame { IfOk result (λ r. r.1
+        ≡ callee_frame around.now.frame target (length (call_view call.now).arguments)) }
+    ensures some_left { IfOk result (λ _. around.now.frame.calls_left ≢ 0) }
+    ensures limit { OnLimit result (StopsAnywhere around.now (call_view call.now)) }
+{
+    let frame = around.frame;
+    if frame.calls_left == 0 {
+        return Err(GraphError::Passed(Limit::Calls(call.label)));
+    }
+    let path = around.path.with_call(around.alloc, call.label)?;
+    let inner = Frame {
+        base: frame.live,
+        live: frame.live + call.arguments.len(),
+        calls_left: frame.calls_left - 1,
+        loop_length: None,
+        back: Some(Back {
+            target,
+            length: frame.live,
+        }),
+    };
+    Ok((path, inner))
+}
+
+/// A call whose callee's body is written out under this path, with so many variables live behind it: the point of its
+/// end comes next.
+pub fn end_call(
+    around: &Around<'_>,
+    path: &Path,
+    caller: Caller,
+    call: &Call,
+    body: (Node, usize),
+    sites: &mut Vec<Site>,
+) -> Result<Node, GraphError>
+    requires few { around.now.frame.live ≤ 25 }
+    requires stands { CallStands around.now (call_view call.now) }
+    requires within { path.now ≡ call.now.label ∷ around.now.path.now }
+    ensures written { IfOk result (IsCall around.now sites.old sites.new caller.point caller.target
+        (call_view call.now) body.0 body.1) }
+    ensures limit { OnLimit result (StopsBehind around.now sites.old caller.target
+        (call_view call.now) body.0 body.1) }
+{
+    let (inside, last) = body;
+    let function = callee(around, call);
+    let end = add_point(around.alloc, path, function.end, last, false, sites)?;
+    let place = CallPlace {
+        point: caller.point,
+        end,
+        base: around.frame.base,
+        live: around.frame.live,
+        target: caller.target,
+    };
+    let parameters = call.arguments.len();
+    made(enclose_call(around.alloc, place, &call.arguments, parameters, inside))
+}
