@@ -191,8 +191,8 @@ fn unit_entries(alloc: Global, live: usize, place: usize) -> Result<Vec<i64>, Al
     Ok(entries)
 }
 
-/// Where the variable stands in the store.
-fn place_of(base: usize, slot: Slot) -> usize
+/// Where the variable stands in the store; a place too large to be told is past every variable that may live.
+fn saturated_index(base: usize, slot: Slot) -> usize
     ensures { (result ≡ index_of base (slot_view slot)) ⊎
         ((2 ^ 62 ≤ result) × (2 ^ 62 ≤ index_of base (slot_view slot))) }
 {
@@ -212,7 +212,7 @@ pub fn variable_of(
     requires { live < 2 ^ 62 }
     ensures { IfOk result (λ f. f ≡ variable_form live (index_of base (slot_view slot))) }
 {
-    let entries = unit_entries(alloc, live, place_of(base, slot))?;
+    let entries = unit_entries(alloc, live, saturated_index(base, slot))?;
     let form = LinExpr::new(alloc, 0, entries.as_slice())?;
     Ok(form)
 }
