@@ -1,6 +1,17 @@
 -- Steps of the proofs on both sides of a condition.
-use Rattle.std.proofs.Common.{◌≡◌, ℕ, List, ◌∷◌, Bool, true, false, subst, ◌∙◌}
-use Rattle.std.specs.Prelude.{not}
+use Rattle.std.proofs.Common.{rules, Box, Vec, Global, map, ◌≡◌, ℕ, List, ◌∷◌, Bool, true, false, sym, ap, subst, ◌∙◌}
+use Rattle.std.specs.Prelude.{not, IfOk}
+use Rattle.std.specs.Prelude as handed
+use Rattle.std.proofs.lemmas.Result.{IfOk-weaker}
+use Rattle.lra_base.specs.declared.operators.Comparison as declared_comparison
+use Rattle.lra_base.specs.OperatorViews.{comparison_view}
+use Rattle.lra_domain.specs.declared.Exactness.{Exactness}
+use Rattle.lra_program.specs.declared.program.Cond as declared_cond
+use Rattle.lra_program.specs.declared.program.Cond.{Compare, Nonzero, Opposite, All, Any, the_lemmas}
+use Rattle.lra_program.specs.declared.program.Expr as declared_expr
+use Rattle.lra_program.specs.Program.{compare, nonzero, opposite}
+use Rattle.lra_program.specs.ProgramViews.{all_of, any_of, cond_view, expr_view}
+use Rattle.lra_forms.proofs.CondSteps.{all_view, any_view}
 use Rattle.lra_domain.specs.Meaning.{Meaning}
 use Rattle.lra_program.specs.Program.{Cond}
 use Rattle.lra_flow.specs.Condition.{Pushed, push}
@@ -9,6 +20,55 @@ use Rattle.lra_change.specs.declared.sides.Sides.{Sides}
 use Rattle.lra_forms.specs.Conditions.{in_turn_of, either_of}
 use Rattle.lra_change.specs.Conditions.{Pushes}
 use Rattle.lra_change.specs.Sides.{Splits, AreJoinedTo}
+
+-- the views of the forms, by the conditions in them
+pub compare_view : (op : declared_comparison.Comparison) (a b : declared_expr.Expr)
+    → cond_view (Compare op a b) ≡ compare (comparison_view op) (expr_view a) (expr_view b)
+compare_view op a b = search (rules, the_lemmas)
+
+pub nonzero_view : (e : declared_expr.Expr) → cond_view (Nonzero e) ≡ nonzero (expr_view e)
+nonzero_view e = search (rules, the_lemmas)
+
+opposite_view : (c : Box declared_cond.Cond Global) → cond_view (Opposite c) ≡ opposite (cond_view c.value)
+opposite_view c = search (rules, the_lemmas)
+
+pub opposite_shown : (c x : declared_cond.Cond) (inner : Box declared_cond.Cond Global) → c ≡ Opposite inner
+    → x ≡ inner.value → cond_view c ≡ opposite (cond_view x)
+opposite_shown c x inner is one = ap cond_view is ∙ opposite_view inner ∙ ap (λ z. opposite (cond_view z)) (sym one)
+
+module _ (c x : declared_cond.Cond) (xs : List declared_cond.Cond) (first : Box declared_cond.Cond Global)
+    (rest : Vec declared_cond.Cond Global) (one : x ≡ first.value) (two : xs ≡ rest.items) where
+  pub all_shown : c ≡ All first rest → cond_view c ≡ all_of (cond_view x) (map cond_view xs)
+  all_shown is = ap cond_view is ∙ all_view first rest ∙ ap (λ z. all_of (cond_view z) (map cond_view rest.items)) (sym one)
+      ∙ ap (λ (zs : List declared_cond.Cond). all_of (cond_view x) (map cond_view zs)) (sym two)
+
+  pub any_shown : c ≡ Any first rest → cond_view c ≡ any_of (cond_view x) (map cond_view xs)
+  any_shown is = ap cond_view is ∙ any_view first rest ∙ ap (λ z. any_of (cond_view z) (map cond_view rest.items)) (sym one)
+      ∙ ap (λ (zs : List declared_cond.Cond). any_of (cond_view x) (map cond_view zs)) (sym two)
+
+-- what is handed on as both sides of this condition, or as the one side
+pub sides_as : {V H E : Type 0} (m : Meaning V H) (base : ℕ) (R : handed.Result (Sides V) E) (from : Kept V)
+    (p p' q q' : Pushed) → p' ≡ p → q' ≡ q → IfOk R (λ s. Splits m base p q from s)
+    → IfOk R (λ s. Splits m base p' q' from s)
+sides_as m base R from p p' q q' one two h = subst (λ (x : Pushed). IfOk R (λ s. Splits m base x q' from s)) (sym one)
+    (subst (λ (x : Pushed). IfOk R (λ s. Splits m base p x from s)) (sym two) h)
+
+module _ {V H E : Type 0} (m : Meaning V H) (base : ℕ) (R : handed.Result Exactness E) (v : V) (before : Exactness)
+    (w : V) where
+  pub leaves_as : (n : ℕ) (p p' : Pushed) → p' ≡ p → IfOk R (λ e. Pushes m n base p v before w e)
+      → IfOk R (λ e. Pushes m n base p' v before w e)
+  leaves_as n p p' is h = subst (λ (x : Pushed). IfOk R (λ e. Pushes m n base x v before w e)) (sym is) h
+
+  -- the others of a chain go on from what the first one leaves
+  pub turn_step : (n k : ℕ) (wanted : Bool) (c d : Cond) (ds cs : List Cond) (x : V) (one : Exactness) → cs ≡ d ∷ ds
+      → k ≡ n → Pushes m n base (push wanted c) v before x one
+      → IfOk R (λ e. Pushes m k base (in_turn_of wanted d ds) x one w e)
+      → IfOk R (λ e. Pushes m n base (in_turn_of wanted c cs) v before w e)
+  turn_step n k wanted c d ds cs x one is same first h =
+      subst (λ (ys : List Cond). IfOk R (λ e. Pushes m n base (in_turn_of wanted c ys) v before w e)) (sym is)
+      (IfOk-weaker R (λ e. Pushes m k base (in_turn_of wanted d ds) x one w e)
+      (λ e. Pushes m n base (in_turn_of wanted c (d ∷ ds)) v before w e)
+      (λ e rest. ((x, one), first, subst (λ (l : ℕ). Pushes m l base (in_turn_of wanted d ds) x one w e) same rest)) h)
 
 module _ {V H : Type 0} (m : Meaning V H) (base : ℕ) where
   -- so many variables live
@@ -66,3 +126,17 @@ module _ {V H : Type 0} (m : Meaning V H) (base : ℕ) where
     pushes_at (m.dims one.off.value) (m.dims from.value) (either_of wanted d ds) one.off right first.off_dims rest,
     join.is_joined,
   )
+
+  -- which is what a chain leaves
+  pub either_ends : {E : Type 0} (R : handed.Result Exactness E) (wanted : Bool) (c d : Cond) (ds cs : List Cond)
+      (from : Kept V) (one : Sides V) (right : Kept V) (w : V) → cs ≡ d ∷ ds
+      → Splits m base (push wanted c) (push (not wanted) c) from one
+      → Pushes m (m.dims one.off.value) base (either_of wanted d ds) one.off.value one.off.exactness right.value right.exactness
+      → IfOk R (λ e. AreJoinedTo m one.on right (record { value = w; exactness = e }))
+      → IfOk R (λ e. Pushes m (m.dims from.value) base (either_of wanted c cs) from.value from.exactness w e)
+  either_ends R wanted c d ds cs from one right w is first rest h =
+      subst (λ (ys : List Cond). IfOk R (λ e. Pushes m (m.dims from.value) base (either_of wanted c ys) from.value from.exactness w e))
+      (sym is)
+      (IfOk-weaker R (λ e. AreJoinedTo m one.on right (record { value = w; exactness = e }))
+      (λ e. Pushes m (m.dims from.value) base (either_of wanted c (d ∷ ds)) from.value from.exactness w e)
+      (λ e joined. either_step wanted c d ds from one right (record { value = w; exactness = e }) first rest joined) h)

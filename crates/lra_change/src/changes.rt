@@ -1,8 +1,10 @@
 //! What a least change of the program does to a value.
 
-ghost use Rattle.std.specs.Prelude.{◌≡◌, ◌≤◌, ◌<◌, ◌+◌, ◌-◌, ◌^◌, suc, map, length, IfOk, OnOk};
+ghost use Rattle.std.specs.Prelude.{◌≡◌, ◌≤◌, ◌<◌, ◌+◌, ◌-◌, ◌^◌, Some, suc, map, length, IfOk, OnOk};
 ghost use Rattle.lra_domain.specs.Parts.{CapsWithin};
 ghost use Rattle.lra_domain.specs.Meaning.{Meets};
+ghost use Rattle.lra_program.specs.Step as step;
+ghost use Rattle.lra_program.specs.Step.{append, give_any};
 ghost use Rattle.lra_program.specs.ProgramViews.{expr_view};
 ghost use Rattle.lra_operations.specs.GraphViews.{op_view};
 ghost use Rattle.lra_flow.specs.Linear.{form_of};
@@ -96,6 +98,45 @@ fn keep<D: Domain>(n: usize, value: &mut D) -> Result<Exactness, AllocError>
     Ok(exactness)
 }
 
+/// A new variable, with any value.
+fn append_any<D: Domain>(value: &mut D) -> Result<Exactness, AllocError>
+    requires { D.meaning.dims value.old < 2 ^ 30 }
+    ensures changes { IfOk result (λ a. ChangesTo D.meaning append value.old a value.new) }
+    ensures dims { OnOk result (D.meaning.dims value.new ≡ suc (D.meaning.dims value.old)) }
+{
+    let exactness = value.embed(1)?;
+    Ok(exactness)
+}
+
+/// The variable at the place gets any value.
+fn give_any_value<D: Domain>(place: usize, value: &mut D) -> Result<Exactness, AllocError>
+    requires few { D.meaning.dims value.old ≤ 2 ^ 30 }
+    requires place { place < D.meaning.dims value.old }
+    ensures changes { IfOk result (λ a. ChangesTo D.meaning (give_any (Some place)) value.old a value.new) }
+    ensures dims { OnOk result (D.meaning.dims value.new ≡ D.meaning.dims value.old) }
+{
+    let exactness = value.forget(place)?;
+    Ok(exactness)
+}
+
+/// The variable at the place gets the expression's value, as a change of its own.
+fn give<D: Domain>(
+    alloc: Global,
+    base: usize,
+    place: usize,
+    e: &Expr,
+    value: &mut D,
+) -> Result<Exactness, AllocError>
+    requires few { D.meaning.dims value.old ≤ 2 ^ 30 }
+    requires place { place < D.meaning.dims value.old }
+    ensures changes { IfOk result (λ a. ChangesTo D.meaning (step.give base (Some place) (expr_view e.now))
+        value.old a value.new) }
+    ensures dims { OnOk result (D.meaning.dims value.new ≡ D.meaning.dims value.old) }
+{
+    let exactness = set(alloc, base, place, e, value)?;
+    Ok(exactness)
+}
+
 /// What the least change of the program does to the value.
 pub fn change<D: Domain>(alloc: Global, op: &Op, value: &mut D) -> Result<Exactness, AllocError>
     requires few { D.meaning.dims value.old ≤ 2 ^ 30 }
@@ -104,30 +145,14 @@ pub fn change<D: Domain>(alloc: Global, op: &Op, value: &mut D) -> Result<Exactn
     ensures dims { OnOk result (D.meaning.dims value.new ≡ dims_behind (op_view op.now) (D.meaning.dims value.old)) }
 {
     match op {
-        Op::Append => {
-            let exactness = value.embed(1)?;
-            Ok(exactness)
-        }
+        Op::Append => append_any(value),
         Op::Give(_, None, _) | Op::GiveAny(None) => Ok(Exactness::Exact),
-        Op::Give(base, Some(place), e) => {
-            let exactness = set(alloc, *base, *place, e, value)?;
-            Ok(exactness)
-        }
-        Op::GiveAny(Some(place)) => {
-            let exactness = value.forget(*place)?;
-            Ok(exactness)
-        }
-        Op::Push(base, es) => {
-            let exactness = push_all_of(alloc, *base, es.as_slice(), value)?;
-            Ok(exactness)
-        }
-        Op::Keep(n) => {
-            let exactness = keep(*n, value)?;
-            Ok(exactness)
-        }
+        Op::Give(base, Some(place), e) => give(alloc, *base, *place, e, value),
+        Op::GiveAny(Some(place)) => give_any_value(*place, value),
+        Op::Push(base, es) => push_all_of(alloc, *base, es, value),
+        Op::Keep(n) => keep(*n, value),
         Op::Test(base, condition, wanted) => {
-            let exactness = leave(alloc, *base, condition, *wanted, value, Exactness::Exact)?;
-            Ok(exactness)
+            leave(alloc, *base, condition, *wanted, value, Exactness::Exact)
         }
     }
 }

@@ -1,7 +1,7 @@
 //! What a comparison leaves of a value.
 
 ghost use Rattle.std.specs.Prelude.{◌≡◌, ◌<◌, ◌^◌, Some, length, IfOk, OnOk};
-ghost use Rattle.lra_base.specs.Operators.{differs};
+ghost use Rattle.lra_base.specs.Operators.{below, differs};
 ghost use Rattle.lra_base.specs.OperatorViews.{comparison_view};
 ghost use Rattle.lra_program.specs.ProgramViews.{expr_view};
 ghost use Rattle.lra_flow.specs.Linear.{difference_form, comparison_test};
@@ -49,6 +49,25 @@ fn leave_test<D: Domain>(
     }
 }
 
+/// What `<` leaves of the value, which itself stays.
+fn leave_below<D: Domain>(
+    alloc: Global,
+    base: usize,
+    d: &LinExpr,
+    value: &D,
+    before: Exactness,
+) -> Result<(D, Exactness), AllocError>
+    requires few { D.meaning.dims value.now < 2 ^ 62 }
+    requires width { length d.now.coefficients ≡ D.meaning.dims value.now }
+    ensures leaves { IfOk result (λ r. Tests D.meaning (D.meaning.dims value.now) base
+        (comparison_test below d.now) value.now before r.0 r.1) }
+    ensures dims { IfOk result (λ r. D.meaning.dims r.0 ≡ D.meaning.dims value.now) }
+{
+    let mut less = value.copy(alloc)?;
+    let exactness = leave_test(alloc, base, Comparison::Below, d, &mut less, before)?;
+    Ok((less, exactness))
+}
+
 /// What `<` or `>` leaves of the value.
 fn leave_differs<D: Domain>(
     alloc: Global,
@@ -63,8 +82,7 @@ fn leave_differs<D: Domain>(
         (Some d.now) value.old before value.new e) }
     ensures dims { OnOk result (D.meaning.dims value.new ≡ D.meaning.dims value.old) }
 {
-    let mut less = value.copy(alloc)?;
-    let one = leave_test(alloc, base, Comparison::Below, d, &mut less, before)?;
+    let (mut less, one) = leave_below(alloc, base, d, value, before)?;
     let two = leave_test(alloc, base, Comparison::Above, d, value, before)?;
     let joined = less.join(value)?;
     *value = less;
@@ -97,13 +115,7 @@ pub fn leave_comparison<D: Domain>(
         return Ok(before);
     };
     match op {
-        Comparison::Differs => {
-            let exactness = leave_differs(around.alloc, around.base, &d, value, before)?;
-            Ok(exactness)
-        }
-        _ => {
-            let exactness = leave_test(around.alloc, around.base, op, &d, value, before)?;
-            Ok(exactness)
-        }
+        Comparison::Differs => leave_differs(around.alloc, around.base, &d, value, before),
+        _ => leave_test(around.alloc, around.base, op, &d, value, before),
     }
 }

@@ -2,6 +2,7 @@
 
 ghost use Rattle.std.specs.Prelude.{◌≡◌, ◌<◌, ◌^◌, map, not, true, false, IfOk};
 ghost use Rattle.lra_base.specs.OperatorViews.{comparison_view};
+ghost use Rattle.lra_program.specs.Program.{nonzero};
 ghost use Rattle.lra_program.specs.ProgramViews.{expr_view, cond_view};
 ghost use Rattle.lra_flow.specs.Condition.{atom, opposite_comparison, push};
 ghost use Rattle.lra_forms.specs.Conditions.{in_turn_of, either_of};
@@ -79,6 +80,21 @@ fn split_comparison<D: Domain>(
     })
 }
 
+/// Both sides of `e != 0`.
+fn split_nonzero<D: Domain>(
+    alloc: Global,
+    base: usize,
+    e: &Expr,
+    from: Kept<D>,
+) -> Result<Sides<D>, AllocError>
+    requires { D.meaning.dims from.value < 2 ^ 62 }
+    ensures { IfOk result (λ s. Splits D.meaning base (push true (nonzero (expr_view e.now)))
+        (push false (nonzero (expr_view e.now))) from s) }
+{
+    let zero = Expr::Literal(0);
+    split_comparison(alloc, base, Comparison::Differs, e, &zero, from)
+}
+
 /// Both sides of `condition`, each of its comparisons taken once: `&&` goes on with what its left side leaves, `||`
 /// with what that leaves where it is false; the other side of each is a join.
 #[cycle(split)]
@@ -93,27 +109,14 @@ pub fn split<D: Domain>(
         (push false (cond_view condition.now)) from s) }
 {
     match condition {
-        Cond::Compare(op, left, right) => {
-            let sides = split_comparison(alloc, base, *op, left, right, from)?;
-            Ok(sides)
-        }
-        Cond::Nonzero(e) => {
-            let zero = Expr::Literal(0);
-            let sides = split_comparison(alloc, base, Comparison::Differs, e, &zero, from)?;
-            Ok(sides)
-        }
+        Cond::Compare(op, left, right) => split_comparison(alloc, base, *op, left, right, from),
+        Cond::Nonzero(e) => split_nonzero(alloc, base, e, from),
         Cond::Opposite(inner) => {
             let Sides { on, off } = split(alloc, base, inner, from)?;
             Ok(Sides { on: off, off: on })
         }
-        Cond::All(first, rest) => {
-            let sides = split_all(alloc, base, first, rest.as_slice(), from)?;
-            Ok(sides)
-        }
-        Cond::Any(first, rest) => {
-            let sides = split_any(alloc, base, first, rest.as_slice(), from)?;
-            Ok(sides)
-        }
+        Cond::All(first, rest) => split_all(alloc, base, first, rest.as_slice(), from),
+        Cond::Any(first, rest) => split_any(alloc, base, first, rest.as_slice(), from),
     }
 }
 
