@@ -162,10 +162,12 @@ module _ {V H : Type 0} (m : Meaning V H) (set : Options) where
         (recall_later loops f2 f3 between after (one loops has.0 (recall_later loops f f1 old later all))))
 
   -- what is handed on as the pass of a tree that is the other
-  pub stays_given : {E : Type 0} (g g' : Node) (f : Option ℕ) (R : outcome_or.Result (Outcome V) E)
-      (old new : Memory V) → g ≡ g' → IfOk R (λ r. StaysKept m set g' f old r.flag new)
+  pub stays_given : {E : Type 0} (set' : Options) (g g' : Node) (f : Option ℕ) (R : outcome_or.Result (Outcome V) E)
+      (old new : Memory V) → g ≡ g' → set' ≡ set → IfOk R (λ r. StaysKept m set' g' f old r.flag new)
       → IfOk R (λ r. StaysKept m set g f old r.flag new)
-  stays_given g g' f R old new same h = subst (λ z. IfOk R (λ r. StaysKept m set z f old r.flag new)) (sym same) h
+  stays_given set' g g' f R old new same options h =
+      subst (λ (x : Options). IfOk R (λ r. StaysKept m x g f old r.flag new)) options
+      (subst (λ (z : Node). IfOk R (λ r. StaysKept m set' z f old r.flag new)) (sym same) h)
 
   -- of a leaf
   pub stays_leaf : {E : Type 0} (g g' : Node) (f : Option ℕ) (v : V) (R : outcome_or.Result (Outcome V) E)
@@ -186,9 +188,10 @@ module _ {V H : Type 0} (m : Meaning V H) (set : Options) where
       (λ loops has all. recall_later loops s.flag r.flag new (caught_later m q k s (seen r) p)
       (inner loops has all))) h
 
-  pub remembers_given : (g g' : Node) (f : Option ℕ) (memory : Memory V) → g ≡ g' → Remembers m set g f memory →
-      Remembers m set g' f memory
-  remembers_given g g' f memory same h = subst (λ z. Remembers m set z f memory) same h
+  pub remembers_given : (set' : Options) (g g' : Node) (f : Option ℕ) (memory : Memory V) → g ≡ g' → set' ≡ set
+      → Remembers m set g f memory → Remembers m set' g' f memory
+  remembers_given set' g g' f memory same options h = subst (λ (x : Options). Remembers m x g' f memory) (sym options)
+      (subst (λ (z : Node). Remembers m set z f memory) same h)
 
   -- a turn that is given again
   pub given_stays : (g : Node) (q : ℕ) (f inside : Option ℕ) (e : Exactness) (on : V) (kept given : Option (Turn V))

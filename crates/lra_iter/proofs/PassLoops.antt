@@ -1,8 +1,7 @@
--- The size of a tree, and what the loops of a pass keep.
+-- What the loops of a pass keep.
 use Rattle.std.proofs.Common.{◌≡◌, ◌≢◌, ℕ, zero, suc, ◌+◌, ◌-◌, ◌^◌, ◌<◌, Bool, true, false, List, [], ◌∷◌, ◌++◌}
 use Rattle.std.proofs.Common.{Option, None, take, drop, refl, sym, ap, subst, ◌∙◌, arith}
 use Rattle.std.specs.Prelude.{slice_index_or}
-use Rattle.std.specs.List.{sum, sum_by}
 use Rattle.lra_domain.specs.declared.Rank.{Rank}
 use Rattle.lra_domain.specs.declared.Mode.TheVariants.{Join}
 use Rattle.lra_domain.specs.declared.Included.TheVariants.{Yes}
@@ -11,9 +10,6 @@ use Rattle.lra_domain.specs.Parts.{CapsWithin}
 use Rattle.lra_domain.specs.Meaning.{Meaning, Values, Grew}
 use Rattle.lra_domain.proofs.RankNumbers.{phased, phased_joins, phased_falls}
 use Rattle.lra_domain.specs.declared.Exactness.{Exactness}
-use Rattle.lra_operations.specs.declared.graph.Node.{Node}
-use Rattle.lra_operations.specs.declared.graph.Node.TheFolds.{fold-Node}
-use Rattle.lra_operations.specs.declared.graph.Node.TheOpen.{Node-F}
 use Rattle.lra_program.specs.Program.{Cond}
 use Rattle.lra_operations.specs.Graph as graph
 use Rattle.lra_base.specs.declared.options.Options.{Options}
@@ -25,24 +21,6 @@ use Rattle.lra_iter.specs.declared.outcome.Turn.{Turn}
 use Rattle.lra_iter.specs.declared.memory.Memory.{Memory}
 use Rattle.lra_iter.specs.Memory.{StaysKept}
 use Rattle.lra_iter.specs.Outcome.{headed, AllHave, AreKept, HasGrown, IsKept, JumpsFit}
-
-abbrev pub size_step : Node-F ℕ → ℕ
-size_step Node-F.Empty = 0
-size_step (Node-F.Point q) = 0
-size_step (Node-F.Act q o) = 0
-size_step (Node-F.Check q base c) = 0
-size_step (Node-F.Seq gs last) = 1 + (sum gs.items + last.value)
-size_step (Node-F.Choose q base c a b) = 1 + (a.value + b.value)
-size_step (Node-F.Iterate q base c a) = 1 + a.value
-size_step (Node-F.Catch q k a) = 1 + a.value
-size_step (Node-F.Leave n k) = 0
-
-abbrev pub node_size : Node → ℕ
-node_size = fold-Node ℕ size_step
-
--- of trees one after the other, and then the last
-abbrev pub row_size : List Node → Node → ℕ
-row_size gs last = sum_by node_size gs + node_size last
 
 -- the head grew from the first value: however it grows on, it is a growth of that; the last turn may be given again
 pub record GrowLoop {V H : Type 0} (m : Meaning V H) (set : Options) (q base : ℕ) (c : Cond) (a : graph.Node)

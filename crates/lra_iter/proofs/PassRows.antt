@@ -17,7 +17,7 @@ use Rattle.lra_iter.specs.declared.outcome.Outcome.{Outcome}
 use Rattle.lra_iter.specs.Outcome.{ended, seen, AreInTurn, JumpsFit, IsPassed}
 use Rattle.lra_iter.specs.declared.memory.Memory.{Memory}
 use Rattle.lra_iter.specs.Memory.{HasLoops, MayRecall, Remembers, StaysKept}
-use Rattle.lra_iter.proofs.PassLoops.{node_size, row_size}
+use Rattle.lra_iter.specs.Shapes.{node_size, row_size}
 use Rattle.lra_iter.proofs.PassSteps.{seq_fits}
 
 same_lists : {V : Type 0} (v : V) (f : Option ℕ) (xs xs' : List (Entry V)) (bs bs' cs cs' rs rs' : List V) → xs ≡ xs' →

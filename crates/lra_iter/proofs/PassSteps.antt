@@ -2,7 +2,6 @@
 use Rattle.std.proofs.Common.{rules, Box, Vec, Global, map, ◌≡◌, ℕ, zero, suc, ◌+◌, ◌<◌, List, [], ◌∷◌, ◌++◌, Option, false, refl, sym, ap, subst, ◌∙◌, inl, inr, arith}
 use Rattle.std.specs.Prelude.{◌⊎◌, IfOk, true}
 use Rattle.std.specs.Prelude as outcome_or
-use Rattle.std.proofs.lemmas.Result.{IfOk-weaker}
 use Rattle.std.specs.List.{Contains, sum}
 use Rattle.std.proofs.lemmas.List.Sums.{sum-map}
 use Rattle.std.proofs.lemmas.List.Elements.{Contains-append_cases}
@@ -25,7 +24,7 @@ use Rattle.lra_flow.specs.Sound.{jumps_of}
 use Rattle.lra_iter.specs.Fits.{live_behind, JumpsWith, TreeFits}
 use Rattle.lra_iter.specs.declared.outcome.Outcome.{Outcome}
 use Rattle.lra_iter.specs.Outcome.{headed, seen, AllHave, AreMet, Catches, JumpsFit, HasGrown, IsPassed, LeavesWith}
-use Rattle.lra_iter.proofs.PassLoops.{node_size, row_size}
+use Rattle.lra_iter.specs.Shapes.{node_size, row_size}
 
 -- the views of the nine forms
 pub empty_view : node_view Empty ≡ graph.empty
@@ -232,29 +231,39 @@ module _ {V H : Type 0} (m : Meaning V H) where
       → IsPassed m set a f on s → IsPassed m set b g off t → m.dims s.normal ≡ m.dims t.normal
   ends_meet set q base c a b f g n on off s t fits wide wide' one two = one.dims ∙ ap (live_behind a) wide ∙ sym fits.2 ∙ ap (live_behind b) (sym wide') ∙ sym two.dims
 
--- what is handed on as the pass of a tree that is the other
-module _ {V H E : Type 0} (m : Meaning V H) (set : Options) (g g' : graph.Node) (f : Option ℕ) (v : V) (R : outcome_or.Result (Outcome V) E) (same : g ≡ g') where
-  module _ (h : IfOk R (λ r. IsPassed m set g' f v (seen r))) where
-    pub given_pass : IfOk R (λ r. Pass V H (dropping m) set g f v (seen r))
-    given_pass = IfOk-weaker R (λ r. IsPassed m set g' f v (seen r)) (λ r. Pass V H (dropping m) set g f v (seen r)) (λ r p. subst (λ z. Pass V H (dropping m) set z f v (seen r)) (sym same) p.pass) h
+-- from both that hold of a result
+pub if_both : {T E : Type 0} (R : outcome_or.Result T E) (P Q S : T → Type 0) → ((x : T) → P x → Q x → S x) → IfOk R P
+    → IfOk R Q → IfOk R S
+if_both (outcome_or.Ok x) P Q S f p q = f x p q
+if_both (outcome_or.Err e) P Q S f p q = tt
 
-    pub given_dims : IfOk R (λ r. m.dims r.normal ≡ live_behind g (m.dims v))
-    given_dims = IfOk-weaker R (λ r. IsPassed m set g' f v (seen r)) (λ r. m.dims r.normal ≡ live_behind g (m.dims v))
-        (λ r p. subst (λ z. m.dims r.normal ≡ live_behind z (m.dims v)) (sym same) p.dims) h
-
-    pub given_jumps : IfOk R (λ r. JumpsFit m g (m.dims v) (seen r))
-    given_jumps = IfOk-weaker R (λ r. IsPassed m set g' f v (seen r)) (λ r. JumpsFit m g (m.dims v) (seen r)) (λ r p. subst (λ z. JumpsFit m z (m.dims v) (seen r)) (sym same) p.jumps) h
+-- what is handed on as the pass of a tree that is the other, passed with the same options
+module _ {V H E : Type 0} (m : Meaning V H) (set set' : Options) (g g' : graph.Node) (f : Option ℕ) (v : V)
+    (R : outcome_or.Result (Outcome V) E) (same : g ≡ g') where
+  pub passed_given : set' ≡ set → IfOk R (λ r. IsPassed m set' g' f v (seen r)) → IfOk R (λ r. IsPassed m set g f v (seen r))
+  passed_given options h = subst (λ (x : Options). IfOk R (λ r. IsPassed m x g f v (seen r))) options
+      (subst (λ (z : graph.Node). IfOk R (λ r. IsPassed m set' z f v (seen r))) (sym same) h)
 
   -- and of one whose jumps come out
-  module _ (q : ℕ) (k : Exit) (a : graph.Node) (is : g' ≡ graph.catch q k a) (s : Result V) (inner : IsPassed m set a f v s) where
-    pub caught_pass : IfOk R (λ r. Catches m q k s (seen r)) → IfOk R (λ r. Pass V H (dropping m) set g f v (seen r))
-    caught_pass h = IfOk-weaker R (λ r. Catches m q k s (seen r)) (λ r. Pass V H (dropping m) set g f v (seen r))
-        (λ r p. subst (λ z. Pass V H (dropping m) set z f v (seen r)) (sym (same ∙ is)) (catch_passes m set q k a f v s (seen r) inner.pass p)) h
+  pub caught_passed : (q : ℕ) (k : Exit) (a : graph.Node) → g' ≡ graph.catch q k a → (s : Result V) → IsPassed m set a f v s
+      → IfOk R (λ r. Catches m q k s (seen r)) → IfOk R (λ r. m.dims r.normal ≡ m.dims s.normal)
+      → IfOk R (λ r. IsPassed m set g f v (seen r))
+  caught_passed q k a is s inner one two = if_both R (λ r. Catches m q k s (seen r)) (λ r. m.dims r.normal ≡ m.dims s.normal)
+      (λ r. IsPassed m set g f v (seen r))
+      (λ r catches dims. subst (λ (z : graph.Node). IsPassed m set z f v (seen r)) (sym (same ∙ is)) (record {
+        pass = catch_passes m set q k a f v s (seen r) inner.pass catches;
+        dims = dims ∙ inner.dims;
+        jumps = catch_fits m q k a (m.dims v) s (seen r) inner.jumps catches;
+      })) one two
 
-    pub caught_dims : IfOk R (λ r. m.dims r.normal ≡ m.dims s.normal) → IfOk R (λ r. m.dims r.normal ≡ live_behind g (m.dims v))
-    caught_dims h = IfOk-weaker R (λ r. m.dims r.normal ≡ m.dims s.normal) (λ r. m.dims r.normal ≡ live_behind g (m.dims v))
-        (λ r p. subst (λ z. m.dims r.normal ≡ live_behind z (m.dims v)) (sym (same ∙ is)) (p ∙ inner.dims)) h
+-- nothing is done
+pub empty_passed : {V H : Type 0} (m : Meaning V H) (set : Options) (g : graph.Node) (f : Option ℕ) (v : V) (r : Result V)
+    → g ≡ graph.empty → r ≡ goes_on [] v f → IsPassed m set g f v r
+empty_passed {V} {H} m set g f v r same is = subst (λ (z : graph.Node). IsPassed m set z f v r) (sym same) (record {
+  pass = is;
+  dims = ap (λ (x : Result V). m.dims x.normal) is;
+  jumps = none_fits m graph.empty (m.dims v) [] v f r is;
+})
 
-    pub caught_jumps : IfOk R (λ r. Catches m q k s (seen r)) → IfOk R (λ r. JumpsFit m g (m.dims v) (seen r))
-    caught_jumps h = IfOk-weaker R (λ r. Catches m q k s (seen r)) (λ r. JumpsFit m g (m.dims v) (seen r))
-        (λ r p. subst (λ z. JumpsFit m z (m.dims v) (seen r)) (sym (same ∙ is)) (catch_fits m q k a (m.dims v) s (seen r) inner.jumps p)) h
+pub less_by_one : (n k : ℕ) → n ≡ 1 + k → k < n
+less_by_one n k is = omega (arith, is)

@@ -7,3 +7,4 @@ pub mod Counts
 pub mod Tables
 pub mod Solved
 pub mod Sound
+pub mod Shapes

@@ -6,9 +6,12 @@ ghost use Rattle.lra_program.specs.ProgramViews.{cond_view};
 ghost use Rattle.lra_operations.specs.GraphViews.{exit_view, op_view};
 ghost use Rattle.lra_base.specs.declared.options.Options.{Options};
 ghost use Rattle.lra_change.specs.Changes.{dims_behind, OpFits};
+ghost use Rattle.lra_iter.specs.Fits.{TreeFits};
 ghost use Rattle.lra_iter.specs.Outcome.{seen, IsPassed};
+ghost use Rattle.lra_iter.specs.Shapes.{leaf_view};
 
 use crate::outcome::{Entry, Outcome, note};
+use crate::shapes::Leaf;
 use lra_base::Options;
 use lra_change::{Kept, change, split};
 use lra_domain::{Domain, Exactness};
@@ -17,7 +20,7 @@ use lra_program::Cond;
 use std::alloc::{AllocError, Global};
 
 /// A point: its value is found.
-pub fn pass_point<D: Domain>(
+fn pass_point<D: Domain>(
     alloc: Global,
     point: usize,
     value: D,
@@ -32,7 +35,7 @@ pub fn pass_point<D: Domain>(
 }
 
 /// A least change.
-pub fn pass_act<D: Domain>(
+fn pass_act<D: Domain>(
     alloc: Global,
     point: usize,
     op: &Op,
@@ -51,7 +54,7 @@ pub fn pass_act<D: Domain>(
 }
 
 /// An assertion: where its condition is false, and then where it is true.
-pub fn pass_check<D: Domain>(
+fn pass_check<D: Domain>(
     alloc: Global,
     point: usize,
     base: usize,
@@ -77,7 +80,7 @@ pub fn pass_check<D: Domain>(
 }
 
 /// A jump: it takes the value.
-pub fn pass_leave<D: Domain>(
+fn pass_leave<D: Domain>(
     alloc: Global,
     options: &Options,
     live: usize,
@@ -92,4 +95,28 @@ pub fn pass_leave<D: Domain>(
     let nothing = D::empty(alloc, live, options.parts)?;
     let outcome = Outcome::jumping(alloc, exit, value, nothing, flag)?;
     Ok(outcome)
+}
+
+/// The pass over a tree with no tree in it.
+pub fn pass_leaf<D: Domain>(
+    alloc: Global,
+    options: &Options,
+    leaf: &Leaf<'_>,
+    value: D,
+    flag: Option<usize>,
+) -> Result<Outcome<D>, AllocError>
+    requires parts { 1 ≤ options.now.parts }
+    requires few { D.meaning.dims value ≤ 2 ^ 30 }
+    requires fits { TreeFits (leaf_view leaf.now) (D.meaning.dims value) }
+    ensures { IfOk result (λ r. IsPassed D.meaning options.now (leaf_view leaf.now) flag value (seen r)) }
+{
+    match leaf {
+        Leaf::Empty => Ok(Outcome::going_on(alloc, Vec::new(alloc), value, flag)),
+        Leaf::Point(point) => pass_point(alloc, *point, value, flag),
+        Leaf::Act(point, op) => pass_act(alloc, *point, op, value, flag),
+        Leaf::Check(point, base, condition) => {
+            pass_check(alloc, *point, *base, condition, value, flag)
+        }
+        Leaf::Leave(live, exit) => pass_leave(alloc, options, *live, *exit, value, flag),
+    }
 }

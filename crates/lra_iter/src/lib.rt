@@ -6,6 +6,7 @@ mod leaves;
 mod memory;
 mod outcome;
 mod pass;
+mod shapes;
 mod solution;
 mod tables;
 

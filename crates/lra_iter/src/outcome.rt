@@ -142,18 +142,23 @@ impl<D: Drop> Found<D> {
         Ok(())
     }
 
-    /// What a pass found comes behind; its end is handed out.
-    pub fn take(&mut self, outcome: Outcome<D>) -> Result<(D, Option<usize>), AllocError>
-        ensures { IfOk result (λ r. AreInTurn self.old outcome.found self.new × (r.0 ≡ outcome.normal) ×
-            (r.1 ≡ outcome.flag)) }
+    /// What a pass found comes behind, and its end is the end.
+    pub fn followed_by(self, outcome: Outcome<D>) -> Result<Outcome<D>, AllocError>
+        ensures { IfOk result (λ r. AreInTurn self outcome.found r.found × (r.normal ≡ outcome.normal) ×
+            (r.flag ≡ outcome.flag)) }
     {
+        let mut all = self;
         let Outcome {
             mut found,
             normal,
             flag,
         } = outcome;
-        self.append(&mut found)?;
-        Ok((normal, flag))
+        all.append(&mut found)?;
+        Ok(Outcome {
+            found: all,
+            normal,
+            flag,
+        })
     }
 
     /// The values of `break` come out.

@@ -11,16 +11,17 @@ ghost use Rattle.lra_operations.specs.GraphViews.{node_view, row};
 ghost use Rattle.lra_flow.specs.Conditions.{Leaves};
 ghost use Rattle.lra_flow.specs.Given.{given_rows};
 ghost use Rattle.lra_flow.specs.Operations.{dropping};
-ghost use Rattle.lra_flow.specs.Pass.{Pass, mode_at, noted};
+ghost use Rattle.lra_flow.specs.Pass.{mode_at, noted};
 ghost use Rattle.lra_iter.specs.Fits.{live_behind, TreeFits};
 ghost use Rattle.lra_iter.specs.Outcome.{ended, headed, seen, AreKept, AreMet, HasGrown, IsKept, IsPassed};
 ghost use Rattle.lra_iter.specs.Outcome.{IsTurned, JumpsFit, LeavesWith};
 ghost use Rattle.lra_iter.specs.Memory.{MayRecall, Remembers, StaysKept};
 
 use crate::catches::catch_jumps;
-use crate::leaves::{pass_act, pass_check, pass_leave, pass_point};
+use crate::leaves::pass_leaf;
 use crate::memory::Memory;
 use crate::outcome::{Entry, Found, Outcome, Turn, given_again, note};
+use crate::shapes::{Choice, Loop, Row, Shape};
 use lra_base::Options;
 use lra_change::{Kept, leave, split};
 use lra_domain::{Domain, Exactness, Grown, Mode};
@@ -28,36 +29,6 @@ use lra_forms::given_of;
 use lra_operations::Node;
 use lra_program::Cond;
 use std::alloc::{AllocError, Global};
-use std::mem;
-
-/// A loop, and how it is passed.
-#[derive(Drop)]
-struct Loop<'a> {
-    options: &'a Options,
-    point: usize,
-    base: usize,
-    condition: &'a Cond,
-    body: &'a Node,
-}
-
-/// A choice, and how it is passed.
-#[derive(Drop)]
-struct Choice<'a> {
-    options: &'a Options,
-    point: usize,
-    base: usize,
-    condition: &'a Cond,
-    yes: &'a Node,
-    no: &'a Node,
-}
-
-/// Trees one after the other, and then the last, and how they are passed.
-#[derive(Drop)]
-struct Row<'a> {
-    options: &'a Options,
-    trees: &'a [Node],
-    last: &'a Node,
-}
 
 /// How a round grows the head, by how many rounds of joining are left.
 fn mode_of(limited: bool, left: u32) -> Mode
@@ -374,8 +345,7 @@ fn pass_choice<D: Domain>(
         off.value,
         off_flag,
     )?;
-    let both = meet_again(choice.point, first, second)?;
-    Ok(both)
+    meet_again(choice.point, first, second)
 }
 
 /// The trees one after the other, and then the last: what each of them finds comes behind what was found before it.
@@ -399,22 +369,28 @@ fn pass_row<D: Domain>(
         (row (map node_view the_row.now.trees.now) (node_view the_row.now.last.now)) flag memory.old r.flag
         memory.new) }
 {
-    let mut found = Found::nothing(alloc);
-    let mut behind = value;
-    let mut so_far = flag;
+    let found = Found::nothing(alloc);
+    let mut so_far = Outcome {
+        found,
+        normal: value,
+        flag,
+    };
     'row: for tree in the_row.trees {
-        let part = pass(alloc, the_row.options, memory, tree, behind, so_far)?;
-        let (value, flag) = found.take(part)?;
-        behind = value;
-        so_far = flag;
+        let Outcome {
+            found,
+            normal,
+            flag,
+        } = so_far;
+        let part = pass(alloc, the_row.options, memory, tree, normal, flag)?;
+        so_far = found.followed_by(part)?;
     }
-    let end = pass(alloc, the_row.options, memory, the_row.last, behind, so_far)?;
-    let (normal, flag) = found.take(end)?;
-    Ok(Outcome {
+    let Outcome {
         found,
         normal,
         flag,
-    })
+    } = so_far;
+    let end = pass(alloc, the_row.options, memory, the_row.last, normal, flag)?;
+    found.followed_by(end)
 }
 
 /// The pass from `value` over the tree.
@@ -431,54 +407,18 @@ pub fn pass<D: Domain>(
     requires few { D.meaning.dims value ≤ 2 ^ 30 }
     requires fits { TreeFits (node_view node.now) (D.meaning.dims value) }
     requires remembers { Remembers D.meaning options.now (node_view node.now) flag memory.old }
-    ensures pass { IfOk result (λ r. Pass D D.Head (dropping D.meaning) options.now (node_view node.now) flag value
-        (seen r)) }
-    ensures dims { IfOk result (λ r. D.meaning.dims r.normal ≡
-        live_behind (node_view node.now) (D.meaning.dims value)) }
-    ensures jumps { IfOk result (λ r. JumpsFit D.meaning (node_view node.now) (D.meaning.dims value) (seen r)) }
+    ensures passed { IfOk result (λ r. IsPassed D.meaning options.now (node_view node.now) flag value (seen r)) }
     ensures stays { IfOk result (λ r. StaysKept D.meaning options.now (node_view node.now) flag memory.old r.flag
         memory.new) }
 {
-    match node {
-        Node::Empty => Ok(Outcome::going_on(alloc, Vec::new(alloc), value, flag)),
-        Node::Point(point) => pass_point(alloc, *point, value, flag),
-        Node::Act(point, op) => pass_act(alloc, *point, op, value, flag),
-        Node::Check(point, base, condition) => {
-            pass_check(alloc, *point, *base, condition, value, flag)
+    match Shape::of(options, node) {
+        Shape::Leaf(leaf) => pass_leaf(alloc, options, &leaf, value, flag),
+        Shape::Row(the_row) => pass_row(alloc, memory, &the_row, value, flag),
+        Shape::Choice(choice) => pass_choice(alloc, memory, &choice, value, flag),
+        Shape::Loop(the_loop) => pass_loop(alloc, memory, &the_loop, value, flag),
+        Shape::Catch(catch) => {
+            let inner = pass(alloc, options, memory, catch.body, value, flag)?;
+            catch_jumps(alloc, catch.point, catch.exit, inner)
         }
-        Node::Seq(trees, last) => {
-            let the_row = Row {
-                options,
-                trees,
-                last,
-            };
-            pass_row(alloc, memory, &the_row, value, flag)
-        }
-        Node::Choose(point, base, condition, yes, no) => {
-            let choice = Choice {
-                options,
-                point: *point,
-                base: *base,
-                condition,
-                yes,
-                no,
-            };
-            pass_choice(alloc, memory, &choice, value, flag)
-        }
-        Node::Iterate(point, base, condition, body) => {
-            let the_loop = Loop {
-                options,
-                point: *point,
-                base: *base,
-                condition,
-                body,
-            };
-            pass_loop(alloc, memory, &the_loop, value, flag)
-        }
-        Node::Catch(point, exit, body) => {
-            let inner = pass(alloc, options, memory, body, value, flag)?;
-            catch_jumps(alloc, *point, *exit, inner)
-        }
-        Node::Leave(live, exit) => pass_leave(alloc, options, *live, *exit, value, flag),
     }
 }

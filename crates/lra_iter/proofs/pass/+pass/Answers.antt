@@ -1,21 +1,22 @@
 -- Goals of the functions that call each other around `pass`: `round`, `grow`, `pass_loop`, `pass_choice`,
 -- `pass_row`, `pass`.
-use Rattle.std.proofs.Common.{rules, ◌≡◌, ◌≤◌, ◌-◌, ◌+◌, ◌^◌, suc, Some, map, refl, sym, ap, subst, ◌∙◌, arith}
+use Rattle.std.proofs.Common.{rules, ◌≡◌, ◌≤◌, ◌-◌, ◌+◌, ◌^◌, ◌<◌, suc, Some, map, refl, sym, ap, subst, ◌∙◌, arith}
 use Rattle.lra_domain.specs.declared.Included.TheVariants.{Yes}
 use Rattle.lra_domain.specs.Meaning.{Grew}
 use Rattle.lra_program.specs.ProgramViews.{cond_view}
-use Rattle.lra_operations.specs.GraphViews.{node_view, exit_view, op_view, row}
+use Rattle.lra_operations.specs.GraphViews.{node_view, exit_view, row}
 use Rattle.lra_operations.specs.Graph as graph
+use Rattle.lra_base.specs.declared.options.Options.{Options}
+use Rattle.std.proofs.lemmas.Result.{IfOk-weaker}
 use Rattle.lra_flow.specs.Pass.{Result, noted, mode_at}
 use Rattle.lra_iter.specs.Fits.{live_behind, TreeFits}
-use Rattle.lra_iter.specs.Outcome.{seen, AreKept, IsKept, IsPassed}
-use Rattle.lra_iter.proofs.PassLoops.{node_size, row_size, grow_starts, grow_stable, grow_next, grow_falls}
+use Rattle.lra_iter.specs.Outcome.{seen, AreInTurn, AreKept, AreMet, IsKept, IsPassed}
+use Rattle.lra_iter.proofs.PassLoops.{grow_starts, grow_stable, grow_next, grow_falls}
+use Rattle.lra_iter.specs.declared.shapes.Shape.{Shape}
+use Rattle.lra_iter.specs.declared.shapes.Shape.TheVariants.{Leaf, Row, Choice, Loop, Catch}
+use Rattle.lra_iter.specs.Shapes.{node_size, row_size, leaf_view, IsShape}
 use Rattle.lra_iter.proofs.PassLoops.{narrow_starts, narrow_next}
-use Rattle.lra_iter.proofs.PassSteps.{empty_view, point_view, act_view, check_view, leave_view, seq_shown, seq_sized}
-use Rattle.lra_iter.proofs.PassSteps.{choose_shown, choose_sized, iterate_shown, iterate_sized, catch_shown}
-use Rattle.lra_iter.proofs.PassSteps.{catch_sized, none_fits, caught_have, choice_passed, given_pass}
-use Rattle.lra_iter.proofs.PassSteps.{given_dims, given_jumps, caught_pass, caught_dims}
-use Rattle.lra_iter.proofs.PassSteps.{caught_jumps}
+use Rattle.lra_iter.proofs.PassSteps.{caught_have, choice_passed, if_both, passed_given, caught_passed}
 use Rattle.lra_iter.proofs.Again.{all_noted, kept_noted, given_turned, turned}
 use Rattle.lra_iter.proofs.PassRows.{row_at, tree_small, row_done, row_starts, next_fits, next_remembers, row_next}
 use Rattle.lra_iter.proofs.PassRows.{last_fits, last_remembers, row_ends, row_stays}
@@ -84,7 +85,7 @@ round-returns-clause-turned g t c =
     c.args.value.now c.in_ok-on.on entered.0
     (record { entered = c.in_ok-entered.entered; outcome = c.in_ok-outcome.outcome }) entered.1 entered.2
     c.in_ok-on.ensures.dims c.requires.closed c.in_ok-entered.ensures
-    (record { pass = done.pass; dims = done.dims; jumps = done.jumps })
+    done.passed
 
 -- a head that grows ---------------------------------------------------------------------------------------------------
 
@@ -364,9 +365,9 @@ pass_choice-pass-requires-2 g t c =
 pub pass_choice-meet_again-requires : goal.pass_choice-meet_again-requires
 pass_choice-meet_again-requires g t c =
     let k = c.args.choice.now in
-    c.in_ok-first.ensures.dims ∙ ap (live_behind (node_view k.yes.now)) c.in_ok-sides.ensures.on_dims ∙
+    c.in_ok-first.ensures.passed.dims ∙ ap (live_behind (node_view k.yes.now)) c.in_ok-sides.ensures.on_dims ∙
     sym c.requires.fits.2
-    ∙ ap (live_behind (node_view k.no.now)) (sym c.in_ok-sides.ensures.off_dims) ∙ sym c.in_ok-second.ensures.dims
+    ∙ ap (live_behind (node_view k.no.now)) (sym c.in_ok-sides.ensures.off_dims) ∙ sym c.in_ok-second.ensures.passed.dims
 
 pub pass_choice-returns-clause-passed : goal.pass_choice-returns-clause-passed
 pass_choice-returns-clause-passed g t c =
@@ -374,42 +375,37 @@ pass_choice-returns-clause-passed g t c =
     let k = c.args.choice.now in
     let sides = c.in_ok-sides.sides in
     let given = c.in_ok-sides.ensures in
-    let one : IsPassed m k.options.now (node_view k.yes.now)
-    (noted k.point sides.on.exactness c.args.flag) sides.on.value (seen c.in_ok-first.first) =
-    record {
-      pass = rw c.note-on_flag.ensures at c.in_ok-first.ensures.pass;
-      dims = c.in_ok-first.ensures.dims;
-      jumps = c.in_ok-first.ensures.jumps;
-    } in
-    let two : IsPassed m k.options.now (node_view k.no.now)
-    (noted k.point sides.off.exactness c.in_ok-first.first.flag) sides.off.value (seen c.in_ok-second.second) =
-    record {
-      pass = rw c.note-off_flag.ensures at c.in_ok-second.ensures.pass;
-      dims = c.in_ok-second.ensures.dims;
-      jumps = c.in_ok-second.ensures.jumps;
-    } in
-    choice_passed m k.options.now k.point k.base (cond_view k.condition.now) (node_view k.yes.now)
-    (node_view k.no.now) c.args.flag c.args.value sides.on.value sides.off.value
-    sides.on.exactness sides.off.exactness
-    (seen c.in_ok-first.first) (seen c.in_ok-second.second)
-    (seen c.in_ok-both.both) given.on given.on_dims one given.off given.off_dims two c.in_ok-both.ensures.joined
-    c.in_ok-both.ensures.dims
+    let one = rw c.note-on_flag.ensures at c.in_ok-first.ensures.passed in
+    let two = rw c.note-off_flag.ensures at c.in_ok-second.ensures.passed in
+    let first = seen c.in_ok-first.first in
+    let second = seen c.in_ok-second.second in
+    let tree = graph.choose k.point k.base (cond_view k.condition.now) (node_view k.yes.now) (node_view k.no.now) in
+    if_both c.meet_again.result (λ r. AreMet m k.point first second (seen r))
+    (λ r. m.dims r.normal ≡ m.dims c.in_ok-first.first.normal)
+    (λ r. IsPassed m k.options.now tree c.args.flag c.args.value (seen r))
+    (λ r met dims. choice_passed m k.options.now k.point k.base (cond_view k.condition.now) (node_view k.yes.now)
+    (node_view k.no.now) c.args.flag c.args.value sides.on.value sides.off.value sides.on.exactness sides.off.exactness
+    first second (seen r) given.on given.on_dims one given.off given.off_dims two met dims)
+    c.meet_again.ensures.joined c.meet_again.ensures.dims
 
 pub pass_choice-returns-clause-stays : goal.pass_choice-returns-clause-stays
 pass_choice-returns-clause-stays g t c =
     let m = g.D.Domain.meaning in
     let k = c.args.choice.now in
     let sides = c.in_ok-sides.sides in
-    stays_choice m k.options.now k.point k.base (cond_view k.condition.now) (node_view k.yes.now)
+    let first = seen c.in_ok-first.first in
+    let second = seen c.in_ok-second.second in
+    let tree = graph.choose k.point k.base (cond_view k.condition.now) (node_view k.yes.now) (node_view k.no.now) in
+    IfOk-weaker c.meet_again.result (λ r. AreMet m k.point first second (seen r))
+    (λ r. StaysKept m k.options.now tree c.args.flag c.args.memory.now r.flag c.pass-2.new.memory)
+    (λ r met. stays_choice m k.options.now k.point k.base (cond_view k.condition.now) (node_view k.yes.now)
     (node_view k.no.now) c.args.flag c.note-on_flag.result c.in_ok-first.first.flag
-    c.note-off_flag.result c.args.memory.now c.pass.new.memory c.in_ok-second.second.flag c.in_ok-both.both.flag
+    c.note-off_flag.result c.args.memory.now c.pass.new.memory c.in_ok-second.second.flag r.flag
     c.pass-2.new.memory
     (later_noted k.point sides.on.exactness c.args.flag c.note-on_flag.result c.note-on_flag.ensures)
     c.in_ok-first.ensures.stays
     (later_noted k.point sides.off.exactness c.in_ok-first.first.flag c.note-off_flag.result c.note-off_flag.ensures)
-    c.in_ok-second.ensures.stays
-    (met_later m k.point (seen c.in_ok-first.first) (seen c.in_ok-second.second)
-    (seen c.in_ok-both.both) c.in_ok-both.ensures.joined)
+    c.in_ok-second.ensures.stays (met_later m k.point first second (seen r) met)) c.meet_again.ensures.joined
 
 -- trees in a row ------------------------------------------------------------------------------------------------------
 
@@ -427,415 +423,233 @@ pass_row-pass-requires g t c =
     tree_small c.args.the_row.now.trees.now c.row.tree-index c.tree-item.result c.args.the_row.now.last.now
     c.row-test.true
     c.tree-item.is in
-    let few : m.dims c.row.behind ≤ 2 ^ 30 = c.row.invariant.few in
-    let fits : TreeFits (node_view c.tree-item.result) (m.dims c.row.behind) =
+    let few : m.dims c.row.so_far.normal ≤ 2 ^ 30 = c.row.invariant.few in
+    let fits : TreeFits (node_view c.tree-item.result) (m.dims c.row.so_far.normal) =
     next_fits m c.args.the_row.now.options.now (row (map node_view c.args.the_row.now.trees.now)
-    (node_view c.args.the_row.now.last.now)) c.args.flag c.args.value _ c.row.found c.row.behind c.row.so_far
+    (node_view c.args.the_row.now.last.now)) c.args.flag c.args.value _ c.row.so_far.found c.row.so_far.normal c.row.so_far.flag
     c.args.memory.now c.row.memory c.row.invariant _ _
     (row_at c.args.the_row.now.trees.now c.row.tree-index c.tree-item.result c.args.the_row.now.last.now c.row-test.true
     c.tree-item.is) in
-    let memory : Remembers m c.args.the_row.now.options.now (node_view c.tree-item.result) c.row.so_far c.row.memory =
+    let memory : Remembers m c.args.the_row.now.options.now (node_view c.tree-item.result) c.row.so_far.flag c.row.memory =
     next_remembers m c.args.the_row.now.options.now (row (map node_view c.args.the_row.now.trees.now)
-    (node_view c.args.the_row.now.last.now)) c.args.flag c.args.value _ c.row.found c.row.behind
-    c.row.so_far c.args.memory.now c.row.memory c.row.invariant _ _
+    (node_view c.args.the_row.now.last.now)) c.args.flag c.args.value _ c.row.so_far.found c.row.so_far.normal
+    c.row.so_far.flag c.args.memory.now c.row.memory c.row.invariant _ _
     (row_at c.args.the_row.now.trees.now c.row.tree-index c.tree-item.result c.args.the_row.now.last.now c.row-test.true
     c.tree-item.is) c.requires.remembers in
     search rules
 
 pub pass_row-row-preserved : goal.pass_row-row-preserved
 pass_row-row-preserved g t c =
-    let done = c.in_ok-part.ensures in
-    let taken = c.in_ok-value.ensures in
+    let next = c.in_ok-so_far.so_far in
+    let taken = c.in_ok-so_far.ensures in
     row_next g.D.Domain.meaning c.args.the_row.now.options.now
     (row (map node_view c.args.the_row.now.trees.now) (node_view c.args.the_row.now.last.now)) c.args.flag
-    c.args.value _ c.row.found c.row.behind c.row.so_far
+    c.args.value _ c.row.so_far.found c.row.so_far.normal c.row.so_far.flag
     c.args.memory.now c.row.memory c.row.invariant _ _
     (row_at c.args.the_row.now.trees.now c.row.tree-index c.tree-item.result c.args.the_row.now.last.now c.row-test.true
     c.tree-item.is)
-    c.in_ok-part.part c.take.new.self c.in_ok-value.value c.in_ok-value.flag c.pass.new.memory done.stays
-    (record { pass = done.pass; dims = done.dims; jumps = done.jumps }) taken.0 taken.1 taken.2
+    c.in_ok-part.part next.found next.normal next.flag c.pass.new.memory c.in_ok-part.ensures.stays
+    c.in_ok-part.ensures.passed taken.0 taken.1 taken.2
 
 pub pass_row-pass-requires-2 : goal.pass_row-pass-requires-2
 pass_row-pass-requires-2 g t c =
     let m = g.D.Domain.meaning in
-    let few : m.dims c.row.behind ≤ 2 ^ 30 = c.row.invariant.few in
-    let fits : TreeFits (node_view c.args.the_row.now.last.now) (m.dims c.row.behind) =
+    let few : m.dims c.row.so_far.normal ≤ 2 ^ 30 = c.row.invariant.few in
+    let fits : TreeFits (node_view c.args.the_row.now.last.now) (m.dims c.row.so_far.normal) =
     last_fits m c.args.the_row.now.options.now (row (map node_view c.args.the_row.now.trees.now)
-    (node_view c.args.the_row.now.last.now)) c.args.flag c.args.value _ c.row.found c.row.behind c.row.so_far
+    (node_view c.args.the_row.now.last.now)) c.args.flag c.args.value _ c.row.so_far.found c.row.so_far.normal c.row.so_far.flag
     c.args.memory.now c.row.memory c.row.invariant
     (node_view c.args.the_row.now.last.now)
     (row_done c.args.the_row.now.trees.now c.row.tree-index c.args.the_row.now.last.now c.row-test.false) in
     let memory : Remembers m c.args.the_row.now.options.now
-    (node_view c.args.the_row.now.last.now) c.row.so_far c.row.memory =
+    (node_view c.args.the_row.now.last.now) c.row.so_far.flag c.row.memory =
     last_remembers m c.args.the_row.now.options.now (row (map node_view c.args.the_row.now.trees.now)
-    (node_view c.args.the_row.now.last.now)) c.args.flag c.args.value _ c.row.found c.row.behind
-    c.row.so_far c.args.memory.now c.row.memory c.row.invariant (node_view c.args.the_row.now.last.now)
+    (node_view c.args.the_row.now.last.now)) c.args.flag c.args.value _ c.row.so_far.found c.row.so_far.normal
+    c.row.so_far.flag c.args.memory.now c.row.memory c.row.invariant (node_view c.args.the_row.now.last.now)
     (row_done c.args.the_row.now.trees.now c.row.tree-index c.args.the_row.now.last.now c.row-test.false)
     c.requires.remembers in
     search rules
 
 pub pass_row-returns-clause-passed : goal.pass_row-returns-clause-passed
 pass_row-returns-clause-passed g t c =
-    let done = c.in_ok-end.ensures in
-    let taken = c.in_ok-normal.ensures in
-    row_ends g.D.Domain.meaning c.args.the_row.now.options.now
-    (row (map node_view c.args.the_row.now.trees.now) (node_view c.args.the_row.now.last.now)) c.args.flag
-    c.args.value _ c.row.found c.row.behind c.row.so_far
+    let m = g.D.Domain.meaning in
+    let set = c.args.the_row.now.options.now in
+    let whole = row (map node_view c.args.the_row.now.trees.now) (node_view c.args.the_row.now.last.now) in
+    let end = c.in_ok-end.end in
+    IfOk-weaker c.followed_by-2.result
+    (λ r. AreInTurn c.row.so_far.found end.found r.found × (r.normal ≡ end.normal) × (r.flag ≡ end.flag))
+    (λ r. IsPassed m set whole c.args.flag c.args.value (seen r))
+    (λ r taken. row_ends m set whole c.args.flag c.args.value _ c.row.so_far.found c.row.so_far.normal c.row.so_far.flag
     c.args.memory.now c.row.memory c.row.invariant (node_view c.args.the_row.now.last.now)
     (row_done c.args.the_row.now.trees.now c.row.tree-index c.args.the_row.now.last.now c.row-test.false)
-    c.in_ok-end.end c.take-2.new.self c.in_ok-normal.normal c.in_ok-normal.flag
-    (record { pass = done.pass; dims = done.dims; jumps = done.jumps }) taken.0 taken.1 taken.2
+    end r.found r.normal r.flag c.in_ok-end.ensures.passed taken.0 taken.1 taken.2) c.followed_by-2.ensures
 
 pub pass_row-returns-clause-stays : goal.pass_row-returns-clause-stays
 pass_row-returns-clause-stays g t c =
-    let taken = c.in_ok-normal.ensures in
-    let stays = row_stays g.D.Domain.meaning c.args.the_row.now.options.now
-    (row (map node_view c.args.the_row.now.trees.now) (node_view c.args.the_row.now.last.now)) c.args.flag
-    c.args.value _
-    c.row.found c.row.behind c.row.so_far c.args.memory.now c.row.memory c.row.invariant
+    let m = g.D.Domain.meaning in
+    let set = c.args.the_row.now.options.now in
+    let whole = row (map node_view c.args.the_row.now.trees.now) (node_view c.args.the_row.now.last.now) in
+    let end = c.in_ok-end.end in
+    let stays = row_stays m set whole c.args.flag c.args.value _
+    c.row.so_far.found c.row.so_far.normal c.row.so_far.flag c.args.memory.now c.row.memory c.row.invariant
     (node_view c.args.the_row.now.last.now)
     (row_done c.args.the_row.now.trees.now c.row.tree-index c.args.the_row.now.last.now c.row-test.false)
-    c.in_ok-end.end.flag c.pass-2.new.memory c.in_ok-end.ensures.stays in
-    subst (λ x. StaysKept g.D.Domain.meaning c.args.the_row.now.options.now
-    (row (map node_view c.args.the_row.now.trees.now) (node_view c.args.the_row.now.last.now)) c.args.flag
-    c.args.memory.now x
-    c.pass-2.new.memory) (sym taken.2) stays
+    end.flag c.pass-2.new.memory c.in_ok-end.ensures.stays in
+    IfOk-weaker c.followed_by-2.result
+    (λ r. AreInTurn c.row.so_far.found end.found r.found × (r.normal ≡ end.normal) × (r.flag ≡ end.flag))
+    (λ r. StaysKept m set whole c.args.flag c.args.memory.now r.flag c.pass-2.new.memory)
+    (λ r taken. subst (λ x. StaysKept m set whole c.args.flag c.args.memory.now x c.pass-2.new.memory) (sym taken.2)
+    stays) c.followed_by-2.ensures
 
 -- a tree --------------------------------------------------------------------------------------------------------------
 
-pub pass-returns-in-Empty-clause-pass : goal.pass-returns-in-Empty-clause-pass
-pass-returns-in-Empty-clause-pass g t c = rw (c.in-Empty.is, empty_view) (search rules)
+pub pass-pass_leaf-requires : goal.pass-pass_leaf-requires
+pass-pass_leaf-requires g t c =
+    let shown : IsShape c.args.options.now c.args.node.now (Leaf c.in-Leaf.leaf) =
+    subst (λ (x : Shape). IsShape c.args.options.now c.args.node.now x) c.in-Leaf.is c.of.ensures in
+    let fits : TreeFits (leaf_view c.in-Leaf.leaf) (g.D.Domain.meaning.dims c.args.value) =
+    subst (λ x. TreeFits x (g.D.Domain.meaning.dims c.args.value)) shown c.requires.fits in
+    record { parts = c.requires.parts; few = c.requires.few; fits = fits }
 
-pub pass-returns-in-Empty-clause-dims : goal.pass-returns-in-Empty-clause-dims
-pass-returns-in-Empty-clause-dims g t c = rw (c.in-Empty.is, empty_view)
-    (ap (λ (r : Result _). g.D.Domain.meaning.dims r.normal) c.going_on.ensures)
+pub pass-returns-in-Leaf-clause-passed : goal.pass-returns-in-Leaf-clause-passed
+pass-returns-in-Leaf-clause-passed g t c =
+    let shown : IsShape c.args.options.now c.args.node.now (Leaf c.in-Leaf.leaf) =
+    subst (λ (x : Shape). IsShape c.args.options.now c.args.node.now x) c.in-Leaf.is c.of.ensures in
+    passed_given g.D.Domain.meaning c.args.options.now c.args.options.now (node_view c.args.node.now)
+    (leaf_view c.in-Leaf.leaf) c.args.flag c.args.value c.pass_leaf.result shown refl c.pass_leaf.ensures
 
-pub pass-returns-in-Empty-clause-jumps : goal.pass-returns-in-Empty-clause-jumps
-pass-returns-in-Empty-clause-jumps g t c = none_fits g.D.Domain.meaning (node_view c.args.node.now)
-    (g.D.Domain.meaning.dims c.args.value) _ _ _ _ c.going_on.ensures
-
-pub pass-returns-in-Point-clause-pass : goal.pass-returns-in-Point-clause-pass
-pass-returns-in-Point-clause-pass g t c = given_pass g.D.Domain.meaning c.args.options.now (node_view c.args.node.now)
-    (graph.point c.in-Point.point) c.args.flag c.args.value c.pass_point.result
-    (ap node_view c.in-Point.is ∙ point_view c.in-Point.point) (c.pass_point.ensures c.args.options.now)
-
-pub pass-returns-in-Point-clause-stays : goal.pass-returns-in-Point-clause-stays
-pass-returns-in-Point-clause-stays g t c = stays_leaf g.D.Domain.meaning c.args.options.now (node_view c.args.node.now)
-    (graph.point c.in-Point.point) c.args.flag c.args.value c.pass_point.result c.args.memory.now
-    (ap node_view c.in-Point.is ∙ point_view c.in-Point.point) (c.pass_point.ensures c.args.options.now)
-
-pub pass-returns-in-Point-clause-dims : goal.pass-returns-in-Point-clause-dims
-pass-returns-in-Point-clause-dims g t c = given_dims g.D.Domain.meaning c.args.options.now (node_view c.args.node.now)
-    (graph.point c.in-Point.point) c.args.flag c.args.value c.pass_point.result
-    (ap node_view c.in-Point.is ∙ point_view c.in-Point.point) (c.pass_point.ensures c.args.options.now)
-
-pub pass-returns-in-Point-clause-jumps : goal.pass-returns-in-Point-clause-jumps
-pass-returns-in-Point-clause-jumps g t c = given_jumps g.D.Domain.meaning c.args.options.now (node_view c.args.node.now)
-    (graph.point c.in-Point.point) c.args.flag c.args.value c.pass_point.result
-    (ap node_view c.in-Point.is ∙ point_view c.in-Point.point) (c.pass_point.ensures c.args.options.now)
-
-pub pass-returns-in-Act-clause-pass : goal.pass-returns-in-Act-clause-pass
-pass-returns-in-Act-clause-pass g t c = given_pass g.D.Domain.meaning c.args.options.now (node_view c.args.node.now)
-    (graph.act c.in-Act.point (op_view c.in-Act.op)) c.args.flag c.args.value
-    c.pass_act.result
-    (ap node_view c.in-Act.is ∙ act_view c.in-Act.point c.in-Act.op) (c.pass_act.ensures c.args.options.now)
-
-pub pass-returns-in-Act-clause-dims : goal.pass-returns-in-Act-clause-dims
-pass-returns-in-Act-clause-dims g t c = given_dims g.D.Domain.meaning c.args.options.now (node_view c.args.node.now)
-    (graph.act c.in-Act.point (op_view c.in-Act.op)) c.args.flag c.args.value
-    c.pass_act.result
-    (ap node_view c.in-Act.is ∙ act_view c.in-Act.point c.in-Act.op) (c.pass_act.ensures c.args.options.now)
-
-pub pass-returns-in-Act-clause-jumps : goal.pass-returns-in-Act-clause-jumps
-pass-returns-in-Act-clause-jumps g t c = given_jumps g.D.Domain.meaning c.args.options.now (node_view c.args.node.now)
-    (graph.act c.in-Act.point (op_view c.in-Act.op)) c.args.flag c.args.value
-    c.pass_act.result
-    (ap node_view c.in-Act.is ∙ act_view c.in-Act.point c.in-Act.op) (c.pass_act.ensures c.args.options.now)
-
-pub pass-returns-in-Check-clause-pass : goal.pass-returns-in-Check-clause-pass
-pass-returns-in-Check-clause-pass g t c = given_pass g.D.Domain.meaning c.args.options.now (node_view c.args.node.now)
-    (graph.check c.in-Check.point c.in-Check.base (cond_view c.in-Check.condition)) c.args.flag c.args.value
-    c.pass_check.result
-    (ap node_view c.in-Check.is ∙ check_view c.in-Check.point c.in-Check.base c.in-Check.condition)
-    (c.pass_check.ensures c.args.options.now)
-
-pub pass-returns-in-Check-clause-stays : goal.pass-returns-in-Check-clause-stays
-pass-returns-in-Check-clause-stays g t c = stays_leaf g.D.Domain.meaning c.args.options.now (node_view c.args.node.now)
-    (graph.check c.in-Check.point c.in-Check.base (cond_view c.in-Check.condition)) c.args.flag c.args.value
-    c.pass_check.result c.args.memory.now
-    (ap node_view c.in-Check.is ∙ check_view c.in-Check.point c.in-Check.base c.in-Check.condition)
-    (c.pass_check.ensures c.args.options.now)
-
-pub pass-returns-in-Check-clause-dims : goal.pass-returns-in-Check-clause-dims
-pass-returns-in-Check-clause-dims g t c = given_dims g.D.Domain.meaning c.args.options.now (node_view c.args.node.now)
-    (graph.check c.in-Check.point c.in-Check.base (cond_view c.in-Check.condition)) c.args.flag c.args.value
-    c.pass_check.result
-    (ap node_view c.in-Check.is ∙ check_view c.in-Check.point c.in-Check.base c.in-Check.condition)
-    (c.pass_check.ensures c.args.options.now)
-
-pub pass-returns-in-Check-clause-jumps : goal.pass-returns-in-Check-clause-jumps
-pass-returns-in-Check-clause-jumps g t c = given_jumps g.D.Domain.meaning c.args.options.now (node_view c.args.node.now)
-    (graph.check c.in-Check.point c.in-Check.base (cond_view c.in-Check.condition)) c.args.flag c.args.value
-    c.pass_check.result
-    (ap node_view c.in-Check.is ∙ check_view c.in-Check.point c.in-Check.base c.in-Check.condition)
-    (c.pass_check.ensures c.args.options.now)
+pub pass-returns-in-Leaf-clause-stays : goal.pass-returns-in-Leaf-clause-stays
+pass-returns-in-Leaf-clause-stays g t c =
+    let shown : IsShape c.args.options.now c.args.node.now (Leaf c.in-Leaf.leaf) =
+    subst (λ (x : Shape). IsShape c.args.options.now c.args.node.now x) c.in-Leaf.is c.of.ensures in
+    stays_leaf g.D.Domain.meaning c.args.options.now (node_view c.args.node.now) (leaf_view c.in-Leaf.leaf) c.args.flag
+    c.args.value c.pass_leaf.result c.args.memory.now shown c.pass_leaf.ensures
 
 pub pass-pass_row-requires : goal.pass-pass_row-requires
 pass-pass_row-requires g t c =
-    let n = g.D.Domain.meaning.dims c.args.value in
-    let shown = seq_shown c.args.node.now c.deref-in-Seq.result.now c.deref.result.now c.in-Seq.trees c.in-Seq.last
-    c.deref.ensures.value c.deref-in-Seq.ensures c.in-Seq.is in
-    let sized : node_size c.args.node.now ≡ 1 + row_size c.deref.result.now c.deref-in-Seq.result.now =
-    seq_sized c.args.node.now c.deref-in-Seq.result.now c.deref.result.now c.in-Seq.trees
-    c.in-Seq.last c.deref.ensures.value c.deref-in-Seq.ensures c.in-Seq.is in
-    let fits : TreeFits (row (map node_view c.deref.result.now) (node_view c.deref-in-Seq.result.now)) n =
-    subst (λ x. TreeFits x n) shown c.requires.fits in
-    let memory : Remembers g.D.Domain.meaning c.args.options.now
-    (row (map node_view c.deref.result.now) (node_view c.deref-in-Seq.result.now)) c.args.flag
-    c.args.memory.now =
-    remembers_given g.D.Domain.meaning c.args.options.now
-    (node_view c.args.node.now) _ c.args.flag c.args.memory.now shown c.requires.remembers in
+    let m = g.D.Domain.meaning in
+    let shape : IsShape c.args.options.now c.args.node.now (Row c.in-Row.the_row) =
+    subst (λ (x : Shape). IsShape c.args.options.now c.args.node.now x) c.in-Row.is c.of.ensures in
+    let sized : row_size c.in-Row.the_row.trees.now c.in-Row.the_row.last.now < node_size c.args.node.now = shape.1 in
+    let parts : 1 ≤ c.in-Row.the_row.options.now.parts = subst (λ (s : Options). 1 ≤ s.parts) (sym shape.2) c.requires.parts in
+    let fits : TreeFits (row (map node_view c.in-Row.the_row.trees.now) (node_view c.in-Row.the_row.last.now)) (m.dims c.args.value) =
+    subst (λ x. TreeFits x (m.dims c.args.value)) shape.0 c.requires.fits in
+    let memory : Remembers m c.in-Row.the_row.options.now (row (map node_view c.in-Row.the_row.trees.now) (node_view c.in-Row.the_row.last.now)) c.args.flag c.args.memory.now =
+    remembers_given m c.args.options.now c.in-Row.the_row.options.now (node_view c.args.node.now) _ c.args.flag c.args.memory.now
+    shape.0 shape.2 c.requires.remembers in
     search rules
 
-pub pass-returns-in-Seq-clause-pass : goal.pass-returns-in-Seq-clause-pass
-pass-returns-in-Seq-clause-pass g t c = given_pass g.D.Domain.meaning c.args.options.now (node_view c.args.node.now)
-    (row (map node_view c.deref.result.now) (node_view c.deref-in-Seq.result.now)) c.args.flag c.args.value
-    c.pass_row.result
-    (seq_shown c.args.node.now c.deref-in-Seq.result.now c.deref.result.now c.in-Seq.trees c.in-Seq.last
-    c.deref.ensures.value c.deref-in-Seq.ensures c.in-Seq.is) c.pass_row.ensures.passed
+pub pass-returns-in-Row-clause-passed : goal.pass-returns-in-Row-clause-passed
+pass-returns-in-Row-clause-passed g t c =
+    let shape : IsShape c.args.options.now c.args.node.now (Row c.in-Row.the_row) =
+    subst (λ (x : Shape). IsShape c.args.options.now c.args.node.now x) c.in-Row.is c.of.ensures in
+    passed_given g.D.Domain.meaning c.args.options.now c.in-Row.the_row.options.now (node_view c.args.node.now)
+    (row (map node_view c.in-Row.the_row.trees.now) (node_view c.in-Row.the_row.last.now)) c.args.flag c.args.value c.pass_row.result shape.0 shape.2 c.pass_row.ensures.passed
 
-pub pass-returns-in-Seq-clause-stays : goal.pass-returns-in-Seq-clause-stays
-pass-returns-in-Seq-clause-stays g t c = stays_given g.D.Domain.meaning c.args.options.now (node_view c.args.node.now)
-    (row (map node_view c.deref.result.now) (node_view c.deref-in-Seq.result.now)) c.args.flag c.pass_row.result
-    c.args.memory.now c.pass_row.new.memory
-    (seq_shown c.args.node.now c.deref-in-Seq.result.now c.deref.result.now c.in-Seq.trees c.in-Seq.last
-    c.deref.ensures.value c.deref-in-Seq.ensures c.in-Seq.is) c.pass_row.ensures.stays
-
-pub pass-returns-in-Seq-clause-dims : goal.pass-returns-in-Seq-clause-dims
-pass-returns-in-Seq-clause-dims g t c = given_dims g.D.Domain.meaning c.args.options.now (node_view c.args.node.now)
-    (row (map node_view c.deref.result.now) (node_view c.deref-in-Seq.result.now)) c.args.flag c.args.value
-    c.pass_row.result
-    (seq_shown c.args.node.now c.deref-in-Seq.result.now c.deref.result.now c.in-Seq.trees c.in-Seq.last
-    c.deref.ensures.value c.deref-in-Seq.ensures c.in-Seq.is) c.pass_row.ensures.passed
-
-pub pass-returns-in-Seq-clause-jumps : goal.pass-returns-in-Seq-clause-jumps
-pass-returns-in-Seq-clause-jumps g t c = given_jumps g.D.Domain.meaning c.args.options.now (node_view c.args.node.now)
-    (row (map node_view c.deref.result.now) (node_view c.deref-in-Seq.result.now)) c.args.flag c.args.value
-    c.pass_row.result
-    (seq_shown c.args.node.now c.deref-in-Seq.result.now c.deref.result.now c.in-Seq.trees c.in-Seq.last
-    c.deref.ensures.value c.deref-in-Seq.ensures c.in-Seq.is) c.pass_row.ensures.passed
+pub pass-returns-in-Row-clause-stays : goal.pass-returns-in-Row-clause-stays
+pass-returns-in-Row-clause-stays g t c =
+    let shape : IsShape c.args.options.now c.args.node.now (Row c.in-Row.the_row) =
+    subst (λ (x : Shape). IsShape c.args.options.now c.args.node.now x) c.in-Row.is c.of.ensures in
+    stays_given g.D.Domain.meaning c.args.options.now c.in-Row.the_row.options.now (node_view c.args.node.now)
+    (row (map node_view c.in-Row.the_row.trees.now) (node_view c.in-Row.the_row.last.now)) c.args.flag c.pass_row.result c.args.memory.now c.pass_row.new.memory shape.0 shape.2 c.pass_row.ensures.stays
 
 pub pass-pass_choice-requires : goal.pass-pass_choice-requires
 pass-pass_choice-requires g t c =
-    let n = g.D.Domain.meaning.dims c.args.value in
-    let shown = choose_shown c.args.node.now c.deref-in-Choose.result.now c.deref-in-Choose-2.result.now c.in-Choose.yes
-    c.in-Choose.no c.deref-in-Choose.ensures c.deref-in-Choose-2.ensures
-    c.in-Choose.point c.in-Choose.base c.in-Choose.condition c.in-Choose.is in
-    let sized : node_size c.args.node.now ≡ 1 + (node_size c.deref-in-Choose.result.now + node_size
-    c.deref-in-Choose-2.result.now) = choose_sized c.args.node.now c.deref-in-Choose.result.now
-    c.deref-in-Choose-2.result.now c.in-Choose.yes c.in-Choose.no c.deref-in-Choose.ensures c.deref-in-Choose-2.ensures
-    c.in-Choose.point c.in-Choose.base c.in-Choose.condition
-    c.in-Choose.is in
-    let fits : TreeFits (graph.choose c.in-Choose.point c.in-Choose.base (cond_view c.in-Choose.condition)
-    (node_view c.deref-in-Choose.result.now) (node_view c.deref-in-Choose-2.result.now)) n
-    = subst (λ x. TreeFits x n) shown c.requires.fits in
-    let memory : Remembers g.D.Domain.meaning c.args.options.now
-    (graph.choose c.in-Choose.point c.in-Choose.base (cond_view c.in-Choose.condition)
-    (node_view c.deref-in-Choose.result.now)
-    (node_view c.deref-in-Choose-2.result.now)) c.args.flag c.args.memory.now =
-    remembers_given g.D.Domain.meaning c.args.options.now
-    (node_view c.args.node.now) _ c.args.flag c.args.memory.now shown c.requires.remembers in
+    let m = g.D.Domain.meaning in
+    let shape : IsShape c.args.options.now c.args.node.now (Choice c.in-Choice.choice) =
+    subst (λ (x : Shape). IsShape c.args.options.now c.args.node.now x) c.in-Choice.is c.of.ensures in
+    let sized : node_size c.in-Choice.choice.yes.now + node_size c.in-Choice.choice.no.now < node_size c.args.node.now = shape.1 in
+    let parts : 1 ≤ c.in-Choice.choice.options.now.parts = subst (λ (s : Options). 1 ≤ s.parts) (sym shape.2) c.requires.parts in
+    let fits : TreeFits (graph.choose c.in-Choice.choice.point c.in-Choice.choice.base (cond_view c.in-Choice.choice.condition.now) (node_view c.in-Choice.choice.yes.now) (node_view c.in-Choice.choice.no.now)) (m.dims c.args.value) =
+    subst (λ x. TreeFits x (m.dims c.args.value)) shape.0 c.requires.fits in
+    let memory : Remembers m c.in-Choice.choice.options.now (graph.choose c.in-Choice.choice.point c.in-Choice.choice.base (cond_view c.in-Choice.choice.condition.now) (node_view c.in-Choice.choice.yes.now) (node_view c.in-Choice.choice.no.now)) c.args.flag c.args.memory.now =
+    remembers_given m c.args.options.now c.in-Choice.choice.options.now (node_view c.args.node.now) _ c.args.flag c.args.memory.now
+    shape.0 shape.2 c.requires.remembers in
     search rules
 
-pub pass-returns-in-Choose-clause-pass : goal.pass-returns-in-Choose-clause-pass
-pass-returns-in-Choose-clause-pass g t c = given_pass g.D.Domain.meaning c.args.options.now (node_view c.args.node.now)
-    (graph.choose c.in-Choose.point c.in-Choose.base (cond_view c.in-Choose.condition)
-    (node_view c.deref-in-Choose.result.now) (node_view c.deref-in-Choose-2.result.now)) c.args.flag
-    c.args.value c.pass_choice.result
-    (choose_shown c.args.node.now c.deref-in-Choose.result.now c.deref-in-Choose-2.result.now c.in-Choose.yes
-    c.in-Choose.no c.deref-in-Choose.ensures c.deref-in-Choose-2.ensures
-    c.in-Choose.point c.in-Choose.base c.in-Choose.condition c.in-Choose.is) c.pass_choice.ensures.passed
+pub pass-returns-in-Choice-clause-passed : goal.pass-returns-in-Choice-clause-passed
+pass-returns-in-Choice-clause-passed g t c =
+    let shape : IsShape c.args.options.now c.args.node.now (Choice c.in-Choice.choice) =
+    subst (λ (x : Shape). IsShape c.args.options.now c.args.node.now x) c.in-Choice.is c.of.ensures in
+    passed_given g.D.Domain.meaning c.args.options.now c.in-Choice.choice.options.now (node_view c.args.node.now)
+    (graph.choose c.in-Choice.choice.point c.in-Choice.choice.base (cond_view c.in-Choice.choice.condition.now) (node_view c.in-Choice.choice.yes.now) (node_view c.in-Choice.choice.no.now)) c.args.flag c.args.value c.pass_choice.result shape.0 shape.2 c.pass_choice.ensures.passed
 
-pub pass-returns-in-Choose-clause-stays : goal.pass-returns-in-Choose-clause-stays
-pass-returns-in-Choose-clause-stays g t c = stays_given g.D.Domain.meaning c.args.options.now
-    (node_view c.args.node.now) (graph.choose c.in-Choose.point c.in-Choose.base (cond_view c.in-Choose.condition)
-    (node_view c.deref-in-Choose.result.now) (node_view c.deref-in-Choose-2.result.now)) c.args.flag
-    c.pass_choice.result c.args.memory.now c.pass_choice.new.memory
-    (choose_shown c.args.node.now c.deref-in-Choose.result.now c.deref-in-Choose-2.result.now c.in-Choose.yes
-    c.in-Choose.no c.deref-in-Choose.ensures c.deref-in-Choose-2.ensures
-    c.in-Choose.point c.in-Choose.base c.in-Choose.condition c.in-Choose.is) c.pass_choice.ensures.stays
-
-pub pass-returns-in-Choose-clause-dims : goal.pass-returns-in-Choose-clause-dims
-pass-returns-in-Choose-clause-dims g t c = given_dims g.D.Domain.meaning c.args.options.now (node_view c.args.node.now)
-    (graph.choose c.in-Choose.point c.in-Choose.base (cond_view c.in-Choose.condition)
-    (node_view c.deref-in-Choose.result.now) (node_view c.deref-in-Choose-2.result.now)) c.args.flag
-    c.args.value c.pass_choice.result
-    (choose_shown c.args.node.now c.deref-in-Choose.result.now c.deref-in-Choose-2.result.now c.in-Choose.yes
-    c.in-Choose.no c.deref-in-Choose.ensures c.deref-in-Choose-2.ensures
-    c.in-Choose.point c.in-Choose.base c.in-Choose.condition c.in-Choose.is) c.pass_choice.ensures.passed
-
-pub pass-returns-in-Choose-clause-jumps : goal.pass-returns-in-Choose-clause-jumps
-pass-returns-in-Choose-clause-jumps g t c = given_jumps g.D.Domain.meaning c.args.options.now
-    (node_view c.args.node.now)
-    (graph.choose c.in-Choose.point c.in-Choose.base (cond_view c.in-Choose.condition)
-    (node_view c.deref-in-Choose.result.now) (node_view c.deref-in-Choose-2.result.now)) c.args.flag
-    c.args.value c.pass_choice.result
-    (choose_shown c.args.node.now c.deref-in-Choose.result.now c.deref-in-Choose-2.result.now c.in-Choose.yes
-    c.in-Choose.no c.deref-in-Choose.ensures c.deref-in-Choose-2.ensures
-    c.in-Choose.point c.in-Choose.base c.in-Choose.condition c.in-Choose.is) c.pass_choice.ensures.passed
+pub pass-returns-in-Choice-clause-stays : goal.pass-returns-in-Choice-clause-stays
+pass-returns-in-Choice-clause-stays g t c =
+    let shape : IsShape c.args.options.now c.args.node.now (Choice c.in-Choice.choice) =
+    subst (λ (x : Shape). IsShape c.args.options.now c.args.node.now x) c.in-Choice.is c.of.ensures in
+    stays_given g.D.Domain.meaning c.args.options.now c.in-Choice.choice.options.now (node_view c.args.node.now)
+    (graph.choose c.in-Choice.choice.point c.in-Choice.choice.base (cond_view c.in-Choice.choice.condition.now) (node_view c.in-Choice.choice.yes.now) (node_view c.in-Choice.choice.no.now)) c.args.flag c.pass_choice.result c.args.memory.now c.pass_choice.new.memory shape.0 shape.2 c.pass_choice.ensures.stays
 
 pub pass-pass_loop-requires : goal.pass-pass_loop-requires
 pass-pass_loop-requires g t c =
-    let n = g.D.Domain.meaning.dims c.args.value in
-    let shown = iterate_shown c.args.node.now c.deref-in-Iterate.result.now c.in-Iterate.body c.deref-in-Iterate.ensures
-    c.in-Iterate.point c.in-Iterate.base c.in-Iterate.condition c.in-Iterate.is in
-    let sized : node_size c.args.node.now ≡ 1 + node_size c.deref-in-Iterate.result.now =
-    iterate_sized c.args.node.now c.deref-in-Iterate.result.now c.in-Iterate.body c.deref-in-Iterate.ensures
-    c.in-Iterate.point c.in-Iterate.base c.in-Iterate.condition c.in-Iterate.is in
-    let fits = subst (λ x. TreeFits x n) shown c.requires.fits in
-    let inner : TreeFits (node_view c.deref-in-Iterate.result.now) n = fits.0 in
-    let closed : live_behind (node_view c.deref-in-Iterate.result.now) n ≡ n = fits.1 in
-    let memory : Remembers g.D.Domain.meaning c.args.options.now
-    (graph.iterate c.in-Iterate.point c.in-Iterate.base (cond_view c.in-Iterate.condition)
-    (node_view c.deref-in-Iterate.result.now))
-    c.args.flag c.args.memory.now =
-    remembers_given g.D.Domain.meaning c.args.options.now
-    (node_view c.args.node.now) _ c.args.flag c.args.memory.now shown c.requires.remembers in
+    let m = g.D.Domain.meaning in
+    let shape : IsShape c.args.options.now c.args.node.now (Loop c.in-Loop.the_loop) =
+    subst (λ (x : Shape). IsShape c.args.options.now c.args.node.now x) c.in-Loop.is c.of.ensures in
+    let sized : node_size c.in-Loop.the_loop.body.now < node_size c.args.node.now = shape.1 in
+    let parts : 1 ≤ c.in-Loop.the_loop.options.now.parts = subst (λ (s : Options). 1 ≤ s.parts) (sym shape.2) c.requires.parts in
+    let both : TreeFits (graph.iterate c.in-Loop.the_loop.point c.in-Loop.the_loop.base (cond_view c.in-Loop.the_loop.condition.now) (node_view c.in-Loop.the_loop.body.now)) (m.dims c.args.value) =
+    subst (λ x. TreeFits x (m.dims c.args.value)) shape.0 c.requires.fits in
+    let fits : TreeFits (node_view c.in-Loop.the_loop.body.now) (m.dims c.args.value) = both.0 in
+    let closed : live_behind (node_view c.in-Loop.the_loop.body.now) (m.dims c.args.value) ≡ m.dims c.args.value = both.1 in
+    let memory : Remembers m c.in-Loop.the_loop.options.now (graph.iterate c.in-Loop.the_loop.point c.in-Loop.the_loop.base (cond_view c.in-Loop.the_loop.condition.now) (node_view c.in-Loop.the_loop.body.now)) c.args.flag c.args.memory.now =
+    remembers_given m c.args.options.now c.in-Loop.the_loop.options.now (node_view c.args.node.now) _ c.args.flag c.args.memory.now
+    shape.0 shape.2 c.requires.remembers in
     search rules
 
-pub pass-returns-in-Iterate-clause-pass : goal.pass-returns-in-Iterate-clause-pass
-pass-returns-in-Iterate-clause-pass g t c = given_pass g.D.Domain.meaning c.args.options.now (node_view c.args.node.now)
-    (graph.iterate c.in-Iterate.point c.in-Iterate.base (cond_view c.in-Iterate.condition)
-    (node_view c.deref-in-Iterate.result.now)) c.args.flag c.args.value c.pass_loop.result
-    (iterate_shown c.args.node.now c.deref-in-Iterate.result.now c.in-Iterate.body c.deref-in-Iterate.ensures
-    c.in-Iterate.point c.in-Iterate.base c.in-Iterate.condition c.in-Iterate.is)
-    c.pass_loop.ensures.passed
+pub pass-returns-in-Loop-clause-passed : goal.pass-returns-in-Loop-clause-passed
+pass-returns-in-Loop-clause-passed g t c =
+    let shape : IsShape c.args.options.now c.args.node.now (Loop c.in-Loop.the_loop) =
+    subst (λ (x : Shape). IsShape c.args.options.now c.args.node.now x) c.in-Loop.is c.of.ensures in
+    passed_given g.D.Domain.meaning c.args.options.now c.in-Loop.the_loop.options.now (node_view c.args.node.now)
+    (graph.iterate c.in-Loop.the_loop.point c.in-Loop.the_loop.base (cond_view c.in-Loop.the_loop.condition.now) (node_view c.in-Loop.the_loop.body.now)) c.args.flag c.args.value c.pass_loop.result shape.0 shape.2 c.pass_loop.ensures.passed
 
-pub pass-returns-in-Iterate-clause-stays : goal.pass-returns-in-Iterate-clause-stays
-pass-returns-in-Iterate-clause-stays g t c = stays_given g.D.Domain.meaning c.args.options.now
-    (node_view c.args.node.now) (graph.iterate c.in-Iterate.point c.in-Iterate.base (cond_view c.in-Iterate.condition)
-    (node_view c.deref-in-Iterate.result.now)) c.args.flag c.pass_loop.result c.args.memory.now c.pass_loop.new.memory
-    (iterate_shown c.args.node.now c.deref-in-Iterate.result.now c.in-Iterate.body c.deref-in-Iterate.ensures
-    c.in-Iterate.point c.in-Iterate.base c.in-Iterate.condition c.in-Iterate.is)
-    c.pass_loop.ensures.stays
-
-pub pass-returns-in-Iterate-clause-dims : goal.pass-returns-in-Iterate-clause-dims
-pass-returns-in-Iterate-clause-dims g t c = given_dims g.D.Domain.meaning c.args.options.now (node_view c.args.node.now)
-    (graph.iterate c.in-Iterate.point c.in-Iterate.base (cond_view c.in-Iterate.condition)
-    (node_view c.deref-in-Iterate.result.now)) c.args.flag c.args.value c.pass_loop.result
-    (iterate_shown c.args.node.now c.deref-in-Iterate.result.now c.in-Iterate.body c.deref-in-Iterate.ensures
-    c.in-Iterate.point c.in-Iterate.base c.in-Iterate.condition c.in-Iterate.is)
-    c.pass_loop.ensures.passed
-
-pub pass-returns-in-Iterate-clause-jumps : goal.pass-returns-in-Iterate-clause-jumps
-pass-returns-in-Iterate-clause-jumps g t c = given_jumps g.D.Domain.meaning c.args.options.now
-    (node_view c.args.node.now)
-    (graph.iterate c.in-Iterate.point c.in-Iterate.base (cond_view c.in-Iterate.condition)
-    (node_view c.deref-in-Iterate.result.now)) c.args.flag c.args.value c.pass_loop.result
-    (iterate_shown c.args.node.now c.deref-in-Iterate.result.now c.in-Iterate.body c.deref-in-Iterate.ensures
-    c.in-Iterate.point c.in-Iterate.base c.in-Iterate.condition c.in-Iterate.is)
-    c.pass_loop.ensures.passed
+pub pass-returns-in-Loop-clause-stays : goal.pass-returns-in-Loop-clause-stays
+pass-returns-in-Loop-clause-stays g t c =
+    let shape : IsShape c.args.options.now c.args.node.now (Loop c.in-Loop.the_loop) =
+    subst (λ (x : Shape). IsShape c.args.options.now c.args.node.now x) c.in-Loop.is c.of.ensures in
+    stays_given g.D.Domain.meaning c.args.options.now c.in-Loop.the_loop.options.now (node_view c.args.node.now)
+    (graph.iterate c.in-Loop.the_loop.point c.in-Loop.the_loop.base (cond_view c.in-Loop.the_loop.condition.now) (node_view c.in-Loop.the_loop.body.now)) c.args.flag c.pass_loop.result c.args.memory.now c.pass_loop.new.memory shape.0 shape.2 c.pass_loop.ensures.stays
 
 pub pass-pass-requires : goal.pass-pass-requires
 pass-pass-requires g t c =
-    let n = g.D.Domain.meaning.dims c.args.value in
-    let shown = catch_shown c.args.node.now c.deref-in-Catch.result.now c.in-Catch.body c.deref-in-Catch.ensures
-    c.in-Catch.point c.in-Catch.exit c.in-Catch.is in
-    let sized : node_size c.args.node.now ≡ 1 + node_size c.deref-in-Catch.result.now =
-    catch_sized c.args.node.now c.deref-in-Catch.result.now c.in-Catch.body c.deref-in-Catch.ensures
-    c.in-Catch.point c.in-Catch.exit c.in-Catch.is in
-    let fits : TreeFits (node_view c.deref-in-Catch.result.now) n =
-    (subst (λ x. TreeFits x n) shown c.requires.fits).0 in
-    let memory : Remembers g.D.Domain.meaning c.args.options.now
-    (node_view c.deref-in-Catch.result.now) c.args.flag c.args.memory.now =
-    remembers_given g.D.Domain.meaning c.args.options.now (node_view c.args.node.now)
-    (graph.catch c.in-Catch.point (exit_view c.in-Catch.exit) (node_view c.deref-in-Catch.result.now)) c.args.flag
-    c.args.memory.now shown c.requires.remembers in
+    let m = g.D.Domain.meaning in
+    let shape : IsShape c.args.options.now c.args.node.now (Catch c.in-Catch.catch) =
+    subst (λ (x : Shape). IsShape c.args.options.now c.args.node.now x) c.in-Catch.is c.of.ensures in
+    let sized : node_size c.in-Catch.catch.body.now < node_size c.args.node.now = shape.1 in
+    let fits : TreeFits (node_view c.in-Catch.catch.body.now) (m.dims c.args.value) =
+    (subst (λ x. TreeFits x (m.dims c.args.value)) shape.0 c.requires.fits).0 in
+    let memory : Remembers m c.args.options.now (node_view c.in-Catch.catch.body.now) c.args.flag c.args.memory.now =
+    remembers_given m c.args.options.now c.args.options.now (node_view c.args.node.now)
+    (graph.catch c.in-Catch.catch.point (exit_view c.in-Catch.catch.exit) (node_view c.in-Catch.catch.body.now)) c.args.flag
+    c.args.memory.now shape.0 refl c.requires.remembers in
     search rules
 
 pub pass-catch_jumps-requires : goal.pass-catch_jumps-requires
 pass-catch_jumps-requires g t c =
     let m = g.D.Domain.meaning in
-    let shown = catch_shown c.args.node.now c.deref-in-Catch.result.now c.in-Catch.body c.deref-in-Catch.ensures
-    c.in-Catch.point c.in-Catch.exit c.in-Catch.is in
-    let fits = subst (λ x. TreeFits x (m.dims c.args.value)) shown c.requires.fits in
-    caught_have m c.in-Catch.point (exit_view c.in-Catch.exit) (node_view c.deref-in-Catch.result.now)
-    (m.dims c.args.value) (seen c.in_ok-inner-in-Catch.inner) fits
-    c.in_ok-inner-in-Catch.ensures.jumps c.in_ok-inner-in-Catch.ensures.dims
+    let shape : IsShape c.args.options.now c.args.node.now (Catch c.in-Catch.catch) =
+    subst (λ (x : Shape). IsShape c.args.options.now c.args.node.now x) c.in-Catch.is c.of.ensures in
+    let fits = subst (λ x. TreeFits x (m.dims c.args.value)) shape.0 c.requires.fits in
+    let passed = c.in_ok-inner-in-Catch.ensures.passed in
+    caught_have m c.in-Catch.catch.point (exit_view c.in-Catch.catch.exit) (node_view c.in-Catch.catch.body.now)
+    (m.dims c.args.value) (seen c.in_ok-inner-in-Catch.inner) fits passed.jumps passed.dims
 
-pub pass-returns-in_ok-inner-in-Catch-clause-pass : goal.pass-returns-in_ok-inner-in-Catch-clause-pass
-pass-returns-in_ok-inner-in-Catch-clause-pass g t c =
-    let done = c.in_ok-inner-in-Catch.ensures in
-    caught_pass g.D.Domain.meaning c.args.options.now (node_view c.args.node.now)
-    (graph.catch c.in-Catch.point (exit_view c.in-Catch.exit) (node_view c.deref-in-Catch.result.now)) c.args.flag
-    c.args.value c.catch_jumps.result
-    (catch_shown c.args.node.now c.deref-in-Catch.result.now c.in-Catch.body c.deref-in-Catch.ensures c.in-Catch.point
-    c.in-Catch.exit c.in-Catch.is) c.in-Catch.point (exit_view c.in-Catch.exit)
-    (node_view c.deref-in-Catch.result.now) refl (seen c.in_ok-inner-in-Catch.inner)
-    (record { pass = done.pass; dims = done.dims; jumps = done.jumps }) c.catch_jumps.ensures.caught
-
-pub pass-returns-in_ok-inner-in-Catch-clause-dims : goal.pass-returns-in_ok-inner-in-Catch-clause-dims
-pass-returns-in_ok-inner-in-Catch-clause-dims g t c =
-    let done = c.in_ok-inner-in-Catch.ensures in
-    caught_dims g.D.Domain.meaning c.args.options.now (node_view c.args.node.now)
-    (graph.catch c.in-Catch.point (exit_view c.in-Catch.exit) (node_view c.deref-in-Catch.result.now)) c.args.flag
-    c.args.value c.catch_jumps.result
-    (catch_shown c.args.node.now c.deref-in-Catch.result.now c.in-Catch.body c.deref-in-Catch.ensures c.in-Catch.point
-    c.in-Catch.exit c.in-Catch.is) c.in-Catch.point (exit_view c.in-Catch.exit)
-    (node_view c.deref-in-Catch.result.now) refl (seen c.in_ok-inner-in-Catch.inner)
-    (record { pass = done.pass; dims = done.dims; jumps = done.jumps }) c.catch_jumps.ensures.dims
-
-pub pass-returns-in_ok-inner-in-Catch-clause-jumps : goal.pass-returns-in_ok-inner-in-Catch-clause-jumps
-pass-returns-in_ok-inner-in-Catch-clause-jumps g t c =
-    let done = c.in_ok-inner-in-Catch.ensures in
-    caught_jumps g.D.Domain.meaning c.args.options.now (node_view c.args.node.now)
-    (graph.catch c.in-Catch.point (exit_view c.in-Catch.exit) (node_view c.deref-in-Catch.result.now)) c.args.flag
-    c.args.value c.catch_jumps.result
-    (catch_shown c.args.node.now c.deref-in-Catch.result.now c.in-Catch.body c.deref-in-Catch.ensures c.in-Catch.point
-    c.in-Catch.exit c.in-Catch.is) c.in-Catch.point (exit_view c.in-Catch.exit)
-    (node_view c.deref-in-Catch.result.now) refl (seen c.in_ok-inner-in-Catch.inner)
-    (record { pass = done.pass; dims = done.dims; jumps = done.jumps }) c.catch_jumps.ensures.caught
-
-pub pass-returns-in-Leave-clause-pass : goal.pass-returns-in-Leave-clause-pass
-pass-returns-in-Leave-clause-pass g t c = given_pass g.D.Domain.meaning c.args.options.now (node_view c.args.node.now)
-    (graph.leave c.in-Leave.live (exit_view c.in-Leave.exit)) c.args.flag
-    c.args.value c.pass_leave.result
-    (ap node_view c.in-Leave.is ∙ leave_view c.in-Leave.live c.in-Leave.exit) c.pass_leave.ensures
-
-pub pass-returns-in-Leave-clause-stays : goal.pass-returns-in-Leave-clause-stays
-pass-returns-in-Leave-clause-stays g t c = stays_leaf g.D.Domain.meaning c.args.options.now (node_view c.args.node.now)
-    (graph.leave c.in-Leave.live (exit_view c.in-Leave.exit)) c.args.flag c.args.value c.pass_leave.result
-    c.args.memory.now
-    (ap node_view c.in-Leave.is ∙ leave_view c.in-Leave.live c.in-Leave.exit) c.pass_leave.ensures
-
-pub pass-returns-in-Leave-clause-dims : goal.pass-returns-in-Leave-clause-dims
-pass-returns-in-Leave-clause-dims g t c = given_dims g.D.Domain.meaning c.args.options.now (node_view c.args.node.now)
-    (graph.leave c.in-Leave.live (exit_view c.in-Leave.exit)) c.args.flag
-    c.args.value c.pass_leave.result
-    (ap node_view c.in-Leave.is ∙ leave_view c.in-Leave.live c.in-Leave.exit) c.pass_leave.ensures
-
-pub pass-returns-in-Leave-clause-jumps : goal.pass-returns-in-Leave-clause-jumps
-pass-returns-in-Leave-clause-jumps g t c = given_jumps g.D.Domain.meaning c.args.options.now (node_view c.args.node.now)
-    (graph.leave c.in-Leave.live (exit_view c.in-Leave.exit)) c.args.flag
-    c.args.value c.pass_leave.result
-    (ap node_view c.in-Leave.is ∙ leave_view c.in-Leave.live c.in-Leave.exit) c.pass_leave.ensures
-
-pub pass-returns-in-Empty-clause-stays : goal.pass-returns-in-Empty-clause-stays
-pass-returns-in-Empty-clause-stays g t c =
-    stays_same g.D.Domain.meaning c.args.options.now (node_view c.args.node.now) c.args.flag c.going_on.result.flag
-    c.args.memory.now (λ none. sym (ap (λ (r : Result _). r.flag) c.going_on.ensures) ∙ none)
+pub pass-returns-in_ok-inner-in-Catch-clause-passed : goal.pass-returns-in_ok-inner-in-Catch-clause-passed
+pass-returns-in_ok-inner-in-Catch-clause-passed g t c =
+    let shape : IsShape c.args.options.now c.args.node.now (Catch c.in-Catch.catch) =
+    subst (λ (x : Shape). IsShape c.args.options.now c.args.node.now x) c.in-Catch.is c.of.ensures in
+    caught_passed g.D.Domain.meaning c.args.options.now c.args.options.now (node_view c.args.node.now)
+    (graph.catch c.in-Catch.catch.point (exit_view c.in-Catch.catch.exit) (node_view c.in-Catch.catch.body.now)) c.args.flag
+    c.args.value c.catch_jumps.result shape.0 c.in-Catch.catch.point (exit_view c.in-Catch.catch.exit)
+    (node_view c.in-Catch.catch.body.now) refl (seen c.in_ok-inner-in-Catch.inner) c.in_ok-inner-in-Catch.ensures.passed
+    c.catch_jumps.ensures.caught c.catch_jumps.ensures.dims
 
 pub pass-returns-in_ok-inner-in-Catch-clause-stays : goal.pass-returns-in_ok-inner-in-Catch-clause-stays
 pass-returns-in_ok-inner-in-Catch-clause-stays g t c =
-    stays_caught g.D.Domain.meaning c.args.options.now (node_view c.args.node.now) c.in-Catch.point
-    (exit_view c.in-Catch.exit) (node_view c.deref-in-Catch.result.now) c.args.flag
+    let shape : IsShape c.args.options.now c.args.node.now (Catch c.in-Catch.catch) =
+    subst (λ (x : Shape). IsShape c.args.options.now c.args.node.now x) c.in-Catch.is c.of.ensures in
+    stays_caught g.D.Domain.meaning c.args.options.now (node_view c.args.node.now) c.in-Catch.catch.point
+    (exit_view c.in-Catch.catch.exit) (node_view c.in-Catch.catch.body.now) c.args.flag
     c.catch_jumps.result (seen c.in_ok-inner-in-Catch.inner) c.args.memory.now c.pass.new.memory
-    (catch_shown c.args.node.now c.deref-in-Catch.result.now c.in-Catch.body c.deref-in-Catch.ensures c.in-Catch.point
-    c.in-Catch.exit c.in-Catch.is) c.in_ok-inner-in-Catch.ensures.stays
-    c.catch_jumps.ensures.caught
-
-pub pass-returns-in-Act-clause-stays : goal.pass-returns-in-Act-clause-stays
-pass-returns-in-Act-clause-stays g t c = stays_leaf g.D.Domain.meaning c.args.options.now (node_view c.args.node.now)
-    (graph.act c.in-Act.point (op_view c.in-Act.op)) c.args.flag c.args.value
-    c.pass_act.result c.args.memory.now
-    (ap node_view c.in-Act.is ∙ act_view c.in-Act.point c.in-Act.op) (c.pass_act.ensures c.args.options.now)
+    shape.0 c.in_ok-inner-in-Catch.ensures.stays c.catch_jumps.ensures.caught

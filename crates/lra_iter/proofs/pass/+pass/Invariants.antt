@@ -3,7 +3,8 @@ use Rattle.lra_domain.proofs.RankNumbers.{phased}
 use Rattle.lra_program.specs.ProgramViews.{cond_view}
 use Rattle.lra_operations.specs.GraphViews.{node_view, row}
 use Rattle.lra_iter.specs.Outcome.{seen}
-use Rattle.lra_iter.proofs.PassLoops.{node_size, row_size, GrowLoop, NarrowLoop}
+use Rattle.lra_iter.proofs.PassLoops.{GrowLoop, NarrowLoop}
+use Rattle.lra_iter.specs.Shapes.{node_size, row_size}
 use Rattle.lra_iter.proofs.PassRows.{RowLoop}
 use Rattle.lra_iter.proofs.pass.+pass.Given as goal
 
@@ -23,7 +24,7 @@ decreases-pass_loop-narrowing g l = l.left
 
 abbrev pub invariant-pass_row-row : goal.invariant-pass_row-row
 invariant-pass_row-row g l = RowLoop g.D.Domain.meaning l.the_row.options.now (row (map node_view l.the_row.trees.now) (node_view l.the_row.last.now)) l.fn.flag l.fn.value
-    (row (map node_view (drop l.tree-index l.the_row.trees.now)) (node_view l.the_row.last.now)) l.found l.behind l.so_far l.fn.memory l.memory
+    (row (map node_view (drop l.tree-index l.the_row.trees.now)) (node_view l.the_row.last.now)) l.so_far.found l.so_far.normal l.so_far.flag l.fn.memory l.memory
 
 abbrev pub decreases-pass : goal.decreases-pass
 decreases-pass g l = 4 * node_size l.node.now

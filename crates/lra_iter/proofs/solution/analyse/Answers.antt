@@ -27,7 +27,7 @@ solution_of-requires g c =
     let graph = c.args.graph.now in
     rw c.deref.ensures.value (pass_counted (dropping g.D.Domain.meaning) (map site_view graph.sites.items) c.args.options.now (node_view graph.tree) c.note-flag.result c.append_globals.new.value
     (seen c.in_ok-outcome.outcome)
-    c.requires.numbered c.in_ok-outcome.ensures.pass)
+    c.requires.numbered c.in_ok-outcome.ensures.passed.pass)
 
 pub returns-clause-solved : goal.returns-clause-solved
 returns-clause-solved g c P same =
@@ -36,7 +36,7 @@ returns-clause-solved g c P same =
     let result = seen c.in_ok-outcome.outcome in
     let solution = c.in_ok-solution.solution in
     let done = rw c.in_ok-value.ensures.dims at c.in_ok-exactness.ensures.appends in
-    let pass = rw c.note-flag.ensures at c.in_ok-outcome.ensures.pass in
+    let pass = rw c.note-flag.ensures at c.in_ok-outcome.ensures.passed.pass in
     let derived = derived_from m c.args.options.now P (node_view graph.tree) c.args.globals.now c.in_ok-value.value c.append_globals.new.value c.in_ok-exactness.exactness result same
     c.in_ok-value.ensures.defined done pass in
     solved m g.met.D.Domain.laws c.args.options.now P (node_view graph.tree) result solution.values.items solution.verdicts.items solution.flagged derived c.in_ok-solution.ensures.solves
@@ -48,9 +48,9 @@ returns-clause-sound g c =
     let result = seen c.in_ok-outcome.outcome in
     let solution = c.in_ok-solution.solution in
     let done = rw c.in_ok-value.ensures.dims at c.in_ok-exactness.ensures.appends in
-    let pass = rw c.note-flag.ensures at c.in_ok-outcome.ensures.pass in
+    let pass = rw c.note-flag.ensures at c.in_ok-outcome.ensures.passed.pass in
     let counted = pass_counted (dropping m) (map site_view graph.sites.items) c.args.options.now
-    (node_view graph.tree) c.note-flag.result c.append_globals.new.value result c.requires.numbered c.in_ok-outcome.ensures.pass in
+    (node_view graph.tree) c.note-flag.result c.append_globals.new.value result c.requires.numbered c.in_ok-outcome.ensures.passed.pass in
     covered_holds m g.met.D.Domain.laws c.args.globals.now (node_view graph.tree) result (map site_view graph.sites.items) solution.values.items solution.verdicts.items solution.flagged
     (begun_covers m g.met.D.Domain.laws c.args.options.now c.args.globals.now (node_view graph.tree) c.in_ok-value.value c.append_globals.new.value c.in_ok-exactness.exactness result
     c.in_ok-value.ensures.defined done pass)
@@ -67,4 +67,4 @@ returns-clause-wide g c lives =
     omega (arith, one, whole) in
     found_wide m g.met.D.Domain.laws (map site_view graph.sites.items) c.args.options.now (node_view graph.tree) c.note-flag.result c.append_globals.new.value (seen c.in_ok-outcome.outcome)
     (length c.args.globals.now)
-    solution.values.items solution.verdicts.items solution.flagged c.in_ok-outcome.ensures.pass begins c.in_ok-solution.ensures.solves lives
+    solution.values.items solution.verdicts.items solution.flagged c.in_ok-outcome.ensures.passed.pass begins c.in_ok-solution.ensures.solves lives

@@ -1,0 +1,106 @@
+//! Trees of operations by what stands in them.
+
+ghost use Rattle.lra_iter.specs.Shapes.{IsShape};
+
+use lra_base::Options;
+use lra_operations::{Exit, Node, Op};
+use lra_program::Cond;
+
+/// A tree with no tree in it.
+#[derive(Clone, Copy)]
+pub enum Leaf<'a> {
+    Empty,
+    Point(usize),
+    Act(usize, &'a Op),
+    Check(usize, usize, &'a Cond),
+    Leave(usize, Exit),
+}
+
+/// Trees one after the other, and then the last, and how they are passed.
+#[derive(Clone, Copy)]
+pub struct Row<'a> {
+    pub options: &'a Options,
+    pub trees: &'a [Node],
+    pub last: &'a Node,
+}
+
+/// A choice, and how it is passed.
+#[derive(Clone, Copy)]
+pub struct Choice<'a> {
+    pub options: &'a Options,
+    pub point: usize,
+    pub base: usize,
+    pub condition: &'a Cond,
+    pub yes: &'a Node,
+    pub no: &'a Node,
+}
+
+/// A loop, and how it is passed.
+#[derive(Clone, Copy)]
+pub struct Loop<'a> {
+    pub options: &'a Options,
+    pub point: usize,
+    pub base: usize,
+    pub condition: &'a Cond,
+    pub body: &'a Node,
+}
+
+/// A tree whose jumps of this kind come out at this point.
+#[derive(Clone, Copy)]
+pub struct Catch<'a> {
+    pub point: usize,
+    pub exit: Exit,
+    pub body: &'a Node,
+}
+
+/// A tree by the trees in it.
+#[derive(Clone, Copy)]
+pub enum Shape<'a> {
+    Leaf(Leaf<'a>),
+    Row(Row<'a>),
+    Choice(Choice<'a>),
+    Loop(Loop<'a>),
+    Catch(Catch<'a>),
+}
+
+impl<'a> Shape<'a> {
+    /// The shape of the tree, which is passed with these options.
+    pub fn of(options: &'a Options, node: &'a Node) -> Shape<'a>
+        ensures { IsShape options.now node.now result }
+    {
+        match node {
+            Node::Empty => Shape::Leaf(Leaf::Empty),
+            Node::Point(point) => Shape::Leaf(Leaf::Point(*point)),
+            Node::Act(point, op) => Shape::Leaf(Leaf::Act(*point, op)),
+            Node::Check(point, base, condition) => {
+                Shape::Leaf(Leaf::Check(*point, *base, condition))
+            }
+            Node::Seq(trees, last) => Shape::Row(Row {
+                options,
+                trees: trees.as_slice(),
+                last,
+            }),
+            Node::Choose(point, base, condition, yes, no) => Shape::Choice(Choice {
+                options,
+                point: *point,
+                base: *base,
+                condition,
+                yes,
+                no,
+            }),
+            Node::Iterate(point, base, condition, body) => Shape::Loop(Loop {
+                options,
+                point: *point,
+                base: *base,
+                condition,
+                body,
+            }),
+            Node::Catch(point, exit, body) => Shape::Catch(Catch {
+                point: *point,
+                exit: *exit,
+                body,
+            }),
+            Node::Leave(live, exit) => Shape::Leaf(Leaf::Leave(*live, *exit)),
+        }
+    }
+}
