@@ -24,10 +24,9 @@ use Rattle.lra_cone.specs.declared.pairs.Pair.{Pair}
 use Rattle.lra_cone.specs.Cones.{tight_values, saturation_rows}
 use Rattle.lra_cone.specs.Steps.{is_inside, outside_marks, lengthened_rows}
 use Rattle.lra_cone.specs.Pairs.{HasThird, both_tight, IsAdjacentPair, AreApart, ArePairs, pair_sum, AreCombined, tight_rows}
-use Rattle.lra_cone.specs.RayCase.{IsAdjacentSum, RayCase}
 use Rattle.lra_cone.proofs.PairLists.{tight_width, inside_yes, inside_said}
 use Rattle.lra_cone.proofs.TightRows.{subset_said, subset_from, row_at, rows_length, with_has, with_later, values_end}
-use Rattle.lra_cone.proofs.RayCase.{none_between, same_two, sum_flat, sum_tight, tight_sum_of}
+use Rattle.lra_cone.proofs.RayCase.{IsAdjacentSum, RayCase, none_between, same_two, sum_flat, sum_tight, tight_sum_of}
 
 -- ---- the rays that are not marked
 none_marked : {A : Type 0} (n : ℕ) (xs : List A) → unmarked (replicate n false) xs ≡ xs

@@ -1,5 +1,5 @@
--- The step where the product of each line with c is 0: the new rays, with the lines, are the canonical description of the cone at
--- which c holds.
+-- The step where the product of each line with c is 0: the rays on which c holds stay, and adjacent rays on both sides are combined.
+-- These new rays, with the lines, are the canonical description of the cone at which c holds.
 use Rattle.std.proofs.Common.{◌≡◌, ◌≢◌, ℕ, Bool, true, false, List, [], ◌∷◌, ◌++◌, length, refl, ap, sym, ◌∙◌, subst, pos, negsuc, ℤ, ◌+ℤ◌, ◌*ℤ◌, neg_ℤ, ◌≤ℤ◌, ◌<ℤ◌, arith, inl, inr, ◌⊎◌, int_le}
 use Rattle.std.specs.List.{Contains, filter}
 use Rattle.std.proofs.lemmas.Int.{ints}
@@ -10,7 +10,7 @@ use Rattle.lra_linear.specs.LowestTerms.{IsPrimitive, IsLowest}
 use Rattle.lra_linear.specs.Canonical.{IsCanonical}
 use Rattle.lra_linear.specs.DoubleDescription.{pair, StepOf}
 use Rattle.lra_linear.specs.Descriptions.{HoldsWith}
-use Rattle.lra_linear.specs.Saturation.{TightToo, Beside, AdjacentStep}
+use Rattle.lra_linear.specs.Saturation.{NotAdjacent, TightToo, Beside, AdjacentStep}
 use Rattle.lra_linear.specs.ConeStrain.{IsMet}
 use Rattle.lra_linear.proofs.AdjacentPairs.{adjacent_pairs_suffice}
 use Rattle.lra_linear.proofs.CanonicalForms.{lines_are_all, ray_extreme}
@@ -26,7 +26,26 @@ use Rattle.lra_linear.proofs.Products.{entry_blend, blend_length, row_same, dot_
 use Rattle.lra_linear.proofs.Redundancy.{drop_keeps, redundant_tight, kept_pointed, pair_pointed}
 use Rattle.lra_linear.proofs.Ring.{ring, v, ⊖, ◌⊕◌, ◌⊗◌, mul_nonnegative}
 use Rattle.lra_linear.proofs.Signs.{as_nat, no_product, no_factor, cancel_same, positive_is_nonnegative, between_opposites, zero_at_least, cases_sign, above_zero}
-use Rattle.lra_cone.specs.RayCase.{IsAdjacentSum, RayCase}
+
+-- ---- the step
+-- t is two adjacent rays on both sides of c combined, in lowest terms
+pub record IsAdjacentSum (c : List ℤ) (system rays : List (List ℤ)) (t : List ℤ) : Type 0 where
+  pub up : List ℤ
+  pub down : List ℤ
+  pub has_up : Contains rays up
+  pub has_down : Contains rays down
+  pub above : pos 0 <ℤ product c up
+  pub below : product c down <ℤ pos 0
+  pub adjacent : ¬ (NotAdjacent system rays up down)
+  pub lowest : IsLowest (pair c up down) t
+
+pub record RayCase (equal : Bool) (c : List ℤ) (system rays new : List (List ℤ)) : Type 0 where
+  pub keeps : (r : List ℤ) → Contains rays r → HoldsWith equal (product c r) → Contains new r
+  pub pairs : (u d : List ℤ) → Contains rays u → Contains rays d → pos 0 <ℤ product c u → product c d <ℤ pos 0 →
+      NotAdjacent system rays u d ⊎ ((t : List ℤ) × Contains new t × IsLowest (pair c u d) t)
+  pub from : (t : List ℤ) → Contains new t →
+      (Contains rays t × HoldsWith equal (product c t)) ⊎ IsAdjacentSum c system rays t
+  pub once : NoRepeat new
 
 -- ---- lists without repeats
 -- an element at one place stands at no other

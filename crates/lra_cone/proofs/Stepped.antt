@@ -29,8 +29,7 @@ use Rattle.lra_cone.specs.declared.ray_step.Cut.{Cut}
 use Rattle.lra_cone.specs.Steps.{IsLastAcross, IsTurned, AreFlatLines, AreFlatRays, lengthened_rows, flat_matrix, outside_marks, is_inside, inside_count}
 use Rattle.lra_cone.specs.Pairs.{HaveOneWidth, IsAdjacentPair, ArePairs, AreCombined, tight_rows, IsCut}
 use Rattle.lra_cone.specs.Strains.{TooManyRays}
-use Rattle.lra_cone.specs.RayCase.{RayCase}
-use Rattle.lra_cone.proofs.RayCase.{system_same, new_canonical, new_met}
+use Rattle.lra_cone.proofs.RayCase.{RayCase, system_same, new_canonical, new_met}
 use Rattle.lra_cone.proofs.TightRows.{values_end, rows_length, rows_append, rows_unmarked, row_at, values_length}
 use Rattle.lra_cone.proofs.Cutting.{inside_rays, unmarked_are, cut_case, pair_rows}
 use Rattle.lra_cone.proofs.Taking.{to_end, from_end, line_case, flat_rows, values_line, kept_rows}

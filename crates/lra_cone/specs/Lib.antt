@@ -2,7 +2,6 @@
 pub mod Cones
 pub mod Steps
 pub mod Pairs
-pub mod RayCase
 pub mod Strains
 pub mod Losses
 pub mod Conversions
