@@ -140,6 +140,16 @@ module _ {V H : Type 0} (m : Meaning V H) (set : Options) where
         (subst (λ (g : Node). IsKept m set g r.flag v r) (sym has.0)
         (passed_kept m set (iterate q base c a) f v r passed))
 
+    pub finish_stays : {E : Type 0} (f f1 : Option ℕ) (v : V) (R : outcome_or.Result (Outcome V) E)
+        (old between new : Memory V) → StaysKept m set (iterate q base c a) f old f1 between
+        → IfOk R (λ r. IsPassed m set (iterate q base c a) f v (seen r))
+        → ((loops : ℕ → Node) → IfOk R (λ r. MayRecall m set loops f1 between →
+        IsKept m set (loops q) r.flag v (seen r) → MayRecall m set loops r.flag new))
+        → IfOk R (λ r. StaysKept m set (iterate q base c a) f old r.flag new)
+    finish_stays f f1 v (outcome_or.Ok r) old between new stays passed ends =
+        stays_finished f f1 v (seen r) old between new stays passed ends
+    finish_stays f f1 v (outcome_or.Err e) old between new stays passed ends = tt
+
   -- a choice
   module _ (q base : ℕ) (c : Cond) (a b : Node) (f f1 f2 f3 : Option ℕ) (old between : Memory V) where
     pub remembers_first : Remembers m set (choose q base c a b) f old → Later f f1 → Remembers m set a f1 old

@@ -4,7 +4,6 @@ use Rattle.std.proofs.Common.{Option, None, take, drop, refl, sym, ap, subst, �
 use Rattle.std.specs.Prelude.{slice_index_or}
 use Rattle.lra_domain.specs.declared.Rank.{Rank}
 use Rattle.lra_domain.specs.declared.Mode.TheVariants.{Join}
-use Rattle.lra_domain.specs.declared.Included.TheVariants.{Yes}
 use Rattle.lra_domain.specs.Rank.{RankFits, RankBelow}
 use Rattle.lra_domain.specs.Parts.{CapsWithin}
 use Rattle.lra_domain.specs.Meaning.{Meaning, Values, Grew}
@@ -18,7 +17,9 @@ use Rattle.lra_flow.specs.Changes.{AreJoined}
 use Rattle.lra_flow.specs.Given.{given_rows}
 use Rattle.lra_flow.specs.Pass.{Result, noted, first_of_call, mode_at, Pass, GoesRound, Grows, Narrows}
 use Rattle.lra_iter.specs.declared.outcome.Turn.{Turn}
+use Rattle.lra_iter.specs.declared.heads.Growing.{Growing}
 use Rattle.lra_iter.specs.declared.memory.Memory.{Memory}
+use Rattle.lra_iter.specs.Heads.{IsValued, GrowsBy}
 use Rattle.lra_iter.specs.Memory.{StaysKept}
 use Rattle.lra_iter.specs.Outcome.{headed, AllHave, AreKept, HasGrown, IsKept, JumpsFit}
 
@@ -33,6 +34,13 @@ pub record GrowLoop {V H : Type 0} (m : Meaning V H) (set : Options) (q base : �
   pub grows : (later : List H) (v : V) (r : Result V) →
       Grows V H (dropping m) q base c (Pass V H (dropping m) set a) set.limited left so_far head later v r →
       HasGrown m set q base c a first f v r
+
+-- so it did up to this head, whose value is there
+pub record HeadLoop {V H : Type 0} (m : Meaning V H) (set : Options) (q base : ℕ) (c : Cond) (a : graph.Node)
+    (first : V) (f : Option ℕ) (growing : Growing V H) (turn : Option (Turn V)) (old memory : Memory V) : Type 0 where
+  pub so_far : Option ℕ
+  pub valued : IsValued m q so_far growing.head growing.value growing.flag
+  pub loop : GrowLoop m set q base c a first f growing.left so_far growing.head turn old memory
 
 -- what is narrowed on is a narrowing from the first round, with which the head was stable; `entered` came into the body
 -- last
@@ -64,17 +72,6 @@ module _ {V H : Type 0} (m : Meaning V H) (set : Options) (q base : ℕ) (c : Co
     grows = λ later v r h. (head, later, begins, h);
   }
 
-  -- it doesn't grow more
-  pub grow_stable : (first : V) (f : Option ℕ) (left : ℕ) (so_far : Option ℕ) (head : H) (v : V) (e : Exactness)
-      (s : Result V) (turn : Option (Turn V)) (old memory : Memory V)
-      → GrowLoop m set q base c a first f left so_far head turn old memory → Values m head e v →
-      m.dims v ≡ m.head_dims head → CapsWithin (m.head_capped head) (m.capped v)
-      → GoesRound V H (dropping m) q base c (Pass V H (dropping m) set a) (noted q e so_far) v (headed q v s)
-      → m.answers head s.normal (mode_at set.limited left) Yes → m.dims s.normal ≡ m.head_dims head →
-      HasGrown m set q base c a first f v (headed q v s)
-  grow_stable first f left so_far head v e s turn old memory loop values dims caps round stays behind =
-      loop.grows [] v (headed q v s) ((e, (values, dims, caps), round), (stays, behind))
-
   -- it grows by what its round left
   pub grow_next : (first : V) (f : Option ℕ) (left left' : ℕ) (so_far : Option ℕ) (head next : H) (v : V)
       (e d : Exactness) (s : Result V) (before turn : Option (Turn V)) (old memory new : Memory V)
@@ -102,6 +99,49 @@ module _ {V H : Type 0} (m : Meaning V H) (set : Options) (q base : ℕ) (c : Co
               (noted q d s.flag) next later w r) is h,
         );
       }
+
+  -- the same of a head with its value
+  pub head_starts : (first : V) (f : Option ℕ) (growing : Growing V H) (memory : Memory V) →
+      (dropping m).started first (given_rows (m.dims first) base c) growing.head → RankFits (m.rank growing.head)
+      → IsValued m q f growing.head growing.value growing.flag → growing.left ≡ set.delay
+      → HeadLoop m set q base c a first f growing None memory memory
+  head_starts first f growing memory begins fits valued left = record {
+    so_far = f;
+    valued = valued;
+    loop = subst (λ (n : ℕ). GrowLoop m set q base c a first f n f growing.head None memory memory) (sym left)
+        (grow_starts first f growing.head memory begins fits);
+  }
+
+  module _ (first : V) (f : Option ℕ) (growing : Growing V H) (turn : Option (Turn V)) (old memory : Memory V)
+      (loop : HeadLoop m set q base c a first f growing turn old memory) where
+    pub head_wide : m.dims growing.value ≡ m.dims first
+    head_wide = loop.valued.1.1 ∙ loop.loop.dims
+
+    module _ (s : Result V) (round : GoesRound V H (dropping m) q base c (Pass V H (dropping m) set a) growing.flag
+        growing.value (headed q growing.value s)) where
+      head_round : GoesRound V H (dropping m) q base c (Pass V H (dropping m) set a)
+          (noted q loop.valued.0 loop.so_far) growing.value (headed q growing.value s)
+      head_round = subst (λ (x : Option ℕ). GoesRound V H (dropping m) q base c (Pass V H (dropping m) set a) x
+          growing.value (headed q growing.value s)) loop.valued.2 round
+
+      pub head_stable : (dropping m).stays growing.head s.normal (mode_at set.limited growing.left)
+          → HasGrown m set q base c a first f growing.value (headed q growing.value s)
+      head_stable stays = loop.loop.grows [] growing.value (headed q growing.value s)
+          ((loop.valued.0, loop.valued.1, head_round), stays)
+
+      pub head_next : (d : Exactness) (next : Growing V H) (last : Option (Turn V)) (new : Memory V)
+          → GrowsBy m set.limited q d growing s next → AreKept m set a (noted q d s.flag) last
+          → StaysKept m set a f old (noted q d s.flag) new → HeadLoop m set q base c a first f next last old new
+      head_next d next last new by kept stays =
+          let value = loop.valued.1 in
+          let grown = by.grown in
+          record {
+            so_far = noted q d s.flag;
+            valued = by.valued;
+            loop = grow_next first f growing.left next.left loop.so_far growing.head next.head growing.value
+                loop.valued.0 d s turn last old memory new loop.loop value.0 value.1 value.2 head_round grown.0 grown.1
+                grown.2 grown.3 by.fits by.left kept stays;
+          }
 
   -- a narrowing begins
   pub narrow_starts : (first u entered : V) (f : Option ℕ) (s : Result V) (old memory : Memory V) →

@@ -91,7 +91,7 @@ module _ {V H : Type 0} (m : Meaning V H) (set : Options) where
   }
 
   -- nothing is found yet
-  pub row_starts : (g : graph.Node) (f : Option ℕ) (v : V) (found : Found V) (memory : Memory V) → m.dims v ≤ 2 ^ 30 →
+  row_starts : (g : graph.Node) (f : Option ℕ) (v : V) (found : Found V) (memory : Memory V) → m.dims v ≤ 2 ^ 30 →
       TreeFits g (m.dims v) → ((u : V) (d : Option ℕ) → ended found u d ≡ goes_on [] u d)
       → RowLoop m set g f v g found v f memory memory
   row_starts g f v found memory few fits none = record {
@@ -100,6 +100,14 @@ module _ {V H : Type 0} (m : Meaning V H) (set : Options) where
     stays = λ loops has all. (has, all);
     passes = λ t one. subst (λ (x : Result V). IsPassed m set g f v (in_turn x t t.normal t.flag)) (sym (none v f)) one;
   }
+
+  pub row_begins : (g : graph.Node) (f : Option ℕ) (v : V) (begun : Outcome V) (memory : Memory V) → m.dims v ≤ 2 ^ 30 →
+      TreeFits g (m.dims v) → ((u : V) (d : Option ℕ) → ended begun.found u d ≡ goes_on [] u d)
+      → begun.normal ≡ v → begun.flag ≡ f → RowLoop m set g f v g begun.found begun.normal begun.flag memory memory
+  row_begins g f v begun memory few fits none one two =
+      subst (λ (x : V). RowLoop m set g f v g begun.found x begun.flag memory memory) (sym one)
+      (subst (λ (x : Option ℕ). RowLoop m set g f v g begun.found v x memory memory) (sym two)
+      (row_starts g f v begun.found memory few fits none))
 
   module _ (g : graph.Node) (f : Option ℕ) (v : V) (rest : graph.Node) (found : Found V) (behind : V)
       (so_far : Option ℕ) (old memory : Memory V)

@@ -8,3 +8,4 @@ pub mod Tables
 pub mod Solved
 pub mod Sound
 pub mod Shapes
+pub mod Heads

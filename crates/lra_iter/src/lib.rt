@@ -2,6 +2,7 @@
 #![tactic(auto)]
 
 mod catches;
+mod heads;
 mod leaves;
 mod memory;
 mod outcome;

@@ -120,7 +120,7 @@ pub fn note(point: usize, exactness: Exactness, flag: Option<usize>) -> Option<u
 
 impl<D: Drop> Found<D> {
     /// Nothing yet.
-    pub fn nothing(alloc: Global) -> Found<D>
+    fn nothing(alloc: Global) -> Found<D>
         ensures { (v : D) (f : Option ℕ) → ended result v f ≡ goes_on [] v f }
     {
         Found {
@@ -233,6 +233,19 @@ impl<D: Domain> Outcome<D> {
 }
 
 impl<D: Drop> Outcome<D> {
+    /// Nothing is found yet.
+    pub fn nothing_yet(alloc: Global, normal: D, flag: Option<usize>) -> Outcome<D>
+        ensures found { (v : D) (f : Option ℕ) → ended result.found v f ≡ goes_on [] v f }
+        ensures normal { result.normal ≡ normal }
+        ensures flag { result.flag ≡ flag }
+    {
+        Outcome {
+            found: Found::nothing(alloc),
+            normal,
+            flag,
+        }
+    }
+
     /// Without a jump.
     pub fn going_on(
         alloc: Global,

@@ -1,46 +1,46 @@
 //! The pass over a tree of operations.
 
-ghost use Rattle.std.specs.Prelude.{◌≡◌, ◌≤◌, ◌^◌, ℕ, Option, map, true, IfOk};
-ghost use Rattle.lra_domain.specs.Rank.{RankFits};
+ghost use Rattle.std.specs.Prelude.{◌≡◌, ◌≤◌, ◌^◌, ℕ, Option, map, true, false, IfOk};
 ghost use Rattle.lra_domain.specs.declared.Exactness.{Exactness};
 ghost use Rattle.lra_operations.specs.Graph as graph;
 ghost use Rattle.lra_operations.specs.Graph.{choose, iterate};
 ghost use Rattle.lra_base.specs.declared.options.Options.{Options};
 ghost use Rattle.lra_program.specs.ProgramViews.{cond_view};
 ghost use Rattle.lra_operations.specs.GraphViews.{node_view, row};
+ghost use Rattle.lra_flow.specs.Condition.{push};
 ghost use Rattle.lra_flow.specs.Conditions.{Leaves};
-ghost use Rattle.lra_flow.specs.Given.{given_rows};
+ghost use Rattle.lra_change.specs.Sides.{Splits};
 ghost use Rattle.lra_flow.specs.Operations.{dropping};
-ghost use Rattle.lra_flow.specs.Pass.{mode_at, noted};
+ghost use Rattle.lra_flow.specs.Pass.{noted};
 ghost use Rattle.lra_iter.specs.Fits.{live_behind, TreeFits};
 ghost use Rattle.lra_iter.specs.Outcome.{ended, headed, seen, AreKept, AreMet, HasGrown, IsKept, IsPassed};
 ghost use Rattle.lra_iter.specs.Outcome.{IsTurned, JumpsFit, LeavesWith};
 ghost use Rattle.lra_iter.specs.Memory.{MayRecall, Remembers, StaysKept};
 
 use crate::catches::catch_jumps;
+use crate::heads::{grow_by, start};
 use crate::leaves::pass_leaf;
 use crate::memory::Memory;
 use crate::outcome::{Entry, Found, Outcome, Turn, given_again, note};
 use crate::shapes::{Choice, Loop, Row, Shape};
 use lra_base::Options;
-use lra_change::{Kept, leave, split};
-use lra_domain::{Domain, Exactness, Grown, Mode};
-use lra_forms::given_of;
+use lra_change::{Kept, Sides, leave, split};
+use lra_domain::{Domain, Exactness, Grown};
 use lra_operations::Node;
 use lra_program::Cond;
 use std::alloc::{AllocError, Global};
 
-/// How a round grows the head, by how many rounds of joining are left.
-fn mode_of(limited: bool, left: u32) -> Mode
-    ensures { result ≡ mode_at limited left }
+/// What a choice's condition leaves of the value: where it is true, and where it is false.
+fn sides_of<D: Domain>(alloc: Global, choice: &Choice<'_>, value: D) -> Result<Sides<D>, AllocError>
+    requires { D.meaning.dims value ≤ 2 ^ 30 }
+    ensures { IfOk result (λ s. Splits D.meaning choice.now.base (push true (cond_view choice.now.condition.now))
+        (push false (cond_view choice.now.condition.now)) (record { value = value; exactness = Exactness.Exact }) s) }
 {
-    if left > 0 {
-        Mode::Join
-    } else if limited {
-        Mode::Limited
-    } else {
-        Mode::Widen
-    }
+    let from = Kept {
+        value,
+        exactness: Exactness::Exact,
+    };
+    split(alloc, choice.base, choice.condition, from)
 }
 
 /// Both branches of a choice, whose ends are joined at this point.
@@ -59,22 +59,6 @@ fn meet_again<D: Domain>(
     both.flag = note(point, exactness, more.flag);
     both.found.append(&mut more.found)?;
     Ok(both)
-}
-
-/// A loop's head, from its first value.
-fn start<D: Domain>(
-    alloc: Global,
-    base: usize,
-    condition: &Cond,
-    first: &D,
-) -> Result<D::Head, AllocError>
-    requires { D.meaning.dims first.now ≤ 2 ^ 30 }
-    ensures started { IfOk result (λ h. (dropping D.meaning).started first.now
-        (given_rows (D.meaning.dims first.now) base (cond_view condition.now)) h) }
-    ensures fits { IfOk result (λ h. RankFits (D.meaning.rank h)) }
-{
-    let given = given_of(alloc, first.dims(), base, condition)?;
-    D::start(alloc, first, &given)
 }
 
 /// The first value joined with what a round left, and the first flagged point so far.
@@ -244,23 +228,15 @@ fn grow<D: Domain>(
     ensures stays { IfOk result (λ r. StaysKept D.meaning the_loop.now.options.now (node_view the_loop.now.body.now)
         flag memory.old r.1.outcome.flag memory.new) }
 {
-    let mut head = start(alloc, the_loop.base, the_loop.condition, first)?;
-    let mut left = the_loop.options.delay;
-    let mut so_far = flag;
+    let mut head = start(alloc, the_loop, first, flag)?;
     let mut kept = None;
     'head: loop {
-        let (value, exactness) = D::value(alloc, &head)?;
-        let so_far_here = note(the_loop.point, exactness, so_far);
-        let turn = round(alloc, memory, the_loop, &value, so_far_here, kept)?;
-        let mode = mode_of(the_loop.options.limited, left);
-        match D::grow(&mut head, &turn.outcome.normal, mode)? {
-            Grown::Stable => return Ok((value, turn)),
-            Grown::Grew(exactness) => {
-                so_far = note(the_loop.point, exactness, turn.outcome.flag);
-            }
+        let turn = round(alloc, memory, the_loop, &head.value, head.flag, kept)?;
+        match grow_by(alloc, the_loop, &mut head, &turn.outcome)? {
+            Grown::Stable => return Ok((head.into_value(), turn)),
+            Grown::Grew(_exactness) => {}
         }
         kept = Some(turn);
-        left = left.saturating_sub(1);
     }
 }
 
@@ -300,8 +276,7 @@ fn pass_loop<D: Domain>(
         last = round(alloc, memory, the_loop, &top, so_far, Some(last))?;
         left -= 1;
     }
-    let outcome = finish(alloc, memory, the_loop, value, top, last)?;
-    Ok(outcome)
+    finish(alloc, memory, the_loop, value, top, last)
 }
 
 /// The one side where the condition is true, the other where it is false.
@@ -327,11 +302,7 @@ fn pass_choice<D: Domain>(
         choice.now.base (cond_view choice.now.condition.now) (node_view choice.now.yes.now)
         (node_view choice.now.no.now)) flag memory.old r.flag memory.new) }
 {
-    let from = Kept {
-        value,
-        exactness: Exactness::Exact,
-    };
-    let sides = split(alloc, choice.base, choice.condition, from)?;
+    let sides = sides_of(alloc, choice, value)?;
     let on = sides.on;
     let off = sides.off;
     let on_flag = note(choice.point, on.exactness, flag);
@@ -369,12 +340,7 @@ fn pass_row<D: Domain>(
         (row (map node_view the_row.now.trees.now) (node_view the_row.now.last.now)) flag memory.old r.flag
         memory.new) }
 {
-    let found = Found::nothing(alloc);
-    let mut so_far = Outcome {
-        found,
-        normal: value,
-        flag,
-    };
+    let mut so_far = Outcome::nothing_yet(alloc, value, flag);
     'row: for tree in the_row.trees {
         let Outcome {
             found,
@@ -411,11 +377,11 @@ pub fn pass<D: Domain>(
     ensures stays { IfOk result (λ r. StaysKept D.meaning options.now (node_view node.now) flag memory.old r.flag
         memory.new) }
 {
-    match Shape::of(options, node) {
-        Shape::Leaf(leaf) => pass_leaf(alloc, options, &leaf, value, flag),
-        Shape::Row(the_row) => pass_row(alloc, memory, &the_row, value, flag),
-        Shape::Choice(choice) => pass_choice(alloc, memory, &choice, value, flag),
-        Shape::Loop(the_loop) => pass_loop(alloc, memory, &the_loop, value, flag),
+    match &Shape::of(options, node) {
+        Shape::Leaf(leaf) => pass_leaf(alloc, options, leaf, value, flag),
+        Shape::Row(the_row) => pass_row(alloc, memory, the_row, value, flag),
+        Shape::Choice(choice) => pass_choice(alloc, memory, choice, value, flag),
+        Shape::Loop(the_loop) => pass_loop(alloc, memory, the_loop, value, flag),
         Shape::Catch(catch) => {
             let inner = pass(alloc, options, memory, catch.body, value, flag)?;
             catch_jumps(alloc, catch.point, catch.exit, inner)

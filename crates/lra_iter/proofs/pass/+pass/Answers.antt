@@ -1,28 +1,26 @@
 -- Goals of the functions that call each other around `pass`: `round`, `grow`, `pass_loop`, `pass_choice`,
 -- `pass_row`, `pass`.
 use Rattle.std.proofs.Common.{rules, ◌≡◌, ◌≤◌, ◌-◌, ◌+◌, ◌^◌, ◌<◌, suc, Some, map, refl, sym, ap, subst, ◌∙◌, arith}
-use Rattle.lra_domain.specs.declared.Included.TheVariants.{Yes}
-use Rattle.lra_domain.specs.Meaning.{Grew}
 use Rattle.lra_program.specs.ProgramViews.{cond_view}
 use Rattle.lra_operations.specs.GraphViews.{node_view, exit_view, row}
 use Rattle.lra_operations.specs.Graph as graph
 use Rattle.lra_base.specs.declared.options.Options.{Options}
 use Rattle.std.proofs.lemmas.Result.{IfOk-weaker}
-use Rattle.lra_flow.specs.Pass.{Result, noted, mode_at}
+use Rattle.lra_flow.specs.Pass.{noted}
 use Rattle.lra_iter.specs.Fits.{live_behind, TreeFits}
-use Rattle.lra_iter.specs.Outcome.{seen, AreInTurn, AreKept, AreMet, IsKept, IsPassed}
-use Rattle.lra_iter.proofs.PassLoops.{grow_starts, grow_stable, grow_next, grow_falls}
+use Rattle.lra_iter.specs.Outcome.{headed, seen, AreInTurn, AreKept, AreMet, HasGrown, IsKept, IsPassed, JumpsFit, LeavesWith}
+use Rattle.lra_iter.proofs.PassLoops.{grow_falls, head_starts, head_wide, head_stable, head_next}
 use Rattle.lra_iter.specs.declared.shapes.Shape.{Shape}
 use Rattle.lra_iter.specs.declared.shapes.Shape.TheVariants.{Leaf, Row, Choice, Loop, Catch}
 use Rattle.lra_iter.specs.Shapes.{node_size, row_size, leaf_view, IsShape}
 use Rattle.lra_iter.proofs.PassLoops.{narrow_starts, narrow_next}
 use Rattle.lra_iter.proofs.PassSteps.{caught_have, choice_passed, if_both, passed_given, caught_passed}
 use Rattle.lra_iter.proofs.Again.{all_noted, kept_noted, given_turned, turned}
-use Rattle.lra_iter.proofs.PassRows.{row_at, tree_small, row_done, row_starts, next_fits, next_remembers, row_next}
+use Rattle.lra_iter.proofs.PassRows.{row_at, tree_small, row_done, row_begins, next_fits, next_remembers, row_next}
 use Rattle.lra_iter.proofs.PassRows.{last_fits, last_remembers, row_ends, row_stays}
 use Rattle.lra_iter.proofs.KeptLoops.{later_noted, met_later, stays_same, stays_both, stays_then, stays_since}
 use Rattle.lra_iter.proofs.KeptLoops.{remembers_later, remembers_on, recalled_passed, remembers_body, stays_begun}
-use Rattle.lra_iter.proofs.KeptLoops.{stays_recalled, remembers_round, stays_round, stays_finished, remembers_first}
+use Rattle.lra_iter.proofs.KeptLoops.{stays_recalled, remembers_round, stays_round, finish_stays, remembers_first}
 use Rattle.lra_iter.proofs.KeptLoops.{remembers_second, stays_choice, stays_given, stays_leaf, stays_caught}
 use Rattle.lra_iter.proofs.KeptLoops.{remembers_given, given_stays, narrowed_passed}
 use Rattle.lra_iter.specs.Memory.{Remembers, StaysKept}
@@ -92,65 +90,76 @@ round-returns-clause-turned g t c =
 pub grow-head-init : goal.grow-head-init
 grow-head-init g t c =
     let l = c.args.the_loop.now in
-    grow_starts g.D.Domain.meaning l.options.now l.point l.base (cond_view l.condition.now)
-    (node_view l.body.now) c.args.first.now c.args.flag c.in_ok-head.head c.args.memory.now
-    c.in_ok-head.ensures.started
-    c.in_ok-head.ensures.fits
+    let begun = c.in_ok-head.ensures in
+    head_starts g.D.Domain.meaning l.options.now l.point l.base (cond_view l.condition.now) (node_view l.body.now)
+    c.args.first.now c.args.flag c.in_ok-head.head c.args.memory.now begun.started begun.fits begun.valued begun.left
 
 pub grow-round-requires : goal.grow-round-requires
 grow-round-requires g t c =
     let m = g.D.Domain.meaning in
     let l = c.args.the_loop.now in
     let body = node_view l.body.now in
-    let same : m.dims c.in_ok-value.value ≡ m.dims c.args.first.now = c.in_ok-value.ensures.dims ∙
-    c.head.invariant.dims in
-    let few : m.dims c.in_ok-value.value ≤ 2 ^ 30 = subst (λ n. n ≤ 2 ^ 30) (sym same) c.requires.few in
-    let fits : TreeFits (node_view c.args.the_loop.now.body.now) (m.dims c.in_ok-value.value) =
+    let here = c.head.invariant in
+    let same : m.dims c.head.head.value ≡ m.dims c.args.first.now = head_wide m l.options.now l.point l.base
+    (cond_view l.condition.now) body c.args.first.now c.args.flag c.head.head c.head.kept c.args.memory.now c.head.memory
+    here in
+    let few : m.dims c.head.head.value ≤ 2 ^ 30 = subst (λ n. n ≤ 2 ^ 30) (sym same) c.requires.few in
+    let fits : TreeFits (node_view c.args.the_loop.now.body.now) (m.dims c.head.head.value) =
     subst (λ n. TreeFits body n) (sym same) c.requires.fits in
-    let closed : live_behind (node_view c.args.the_loop.now.body.now) (m.dims c.in_ok-value.value) ≡
-    m.dims c.in_ok-value.value = subst (λ n. live_behind body n ≡ n) (sym same) c.requires.closed in
+    let closed : live_behind (node_view c.args.the_loop.now.body.now) (m.dims c.head.head.value) ≡
+    m.dims c.head.head.value = subst (λ n. live_behind body n ≡ n) (sym same) c.requires.closed in
     let kept : AreKept m c.args.the_loop.now.options.now
-    (node_view c.args.the_loop.now.body.now) c.note-so_far_here.result c.head.kept =
-    subst (λ f. AreKept m l.options.now body f c.head.kept) (sym c.note-so_far_here.ensures)
-    (all_noted m l.options.now body l.point c.in_ok-value.exactness c.head.so_far c.head.kept c.head.invariant.kept) in
+    (node_view c.args.the_loop.now.body.now) c.head.head.flag c.head.kept =
+    subst (λ f. AreKept m l.options.now body f c.head.kept) (sym here.valued.2)
+    (all_noted m l.options.now body l.point here.valued.0 here.so_far c.head.kept here.loop.kept) in
     let memory : Remembers m c.args.the_loop.now.options.now
-    (node_view c.args.the_loop.now.body.now) c.note-so_far_here.result c.head.memory =
-    remembers_on m l.options.now body c.args.flag c.head.so_far c.note-so_far_here.result c.args.memory.now
-    c.head.memory c.requires.remembers c.head.invariant.stays
-    (later_noted l.point c.in_ok-value.exactness c.head.so_far c.note-so_far_here.result c.note-so_far_here.ensures) in
+    (node_view c.args.the_loop.now.body.now) c.head.head.flag c.head.memory =
+    remembers_on m l.options.now body c.args.flag here.so_far c.head.head.flag c.args.memory.now
+    c.head.memory c.requires.remembers here.loop.stays
+    (later_noted l.point here.valued.0 here.so_far c.head.head.flag here.valued.2) in
     search rules
 
-pub grow-grow-requires : goal.grow-grow-requires
-grow-grow-requires g t c = sym (c.in_ok-turn.ensures.turned.dims ∙ c.in_ok-value.ensures.dims)
+pub grow-grow_by-requires : goal.grow-grow_by-requires
+grow-grow_by-requires g t c = sym (c.in_ok-turn.ensures.turned.dims ∙ c.head.invariant.valued.1.1)
 
 pub grow-returns-in-Stable-clause-grows : goal.grow-returns-in-Stable-clause-grows
 grow-returns-in-Stable-clause-grows g t c =
     let m = g.D.Domain.meaning in
     let l = c.args.the_loop.now in
-    let outcome = c.in_ok-turn.turn.outcome in
-    let stays : m.answers c.head.head outcome.normal (mode_at l.options.now.limited c.head.left) Yes =
-    rw (← c.mode_of-mode.ensures) (c.in_ok-grow.ensures.stays c.in-Stable.is) in
-    let round = rw c.note-so_far_here.ensures at c.in_ok-turn.ensures.turned.round in
-    grow_stable m l.options.now l.point l.base (cond_view l.condition.now)
-    (node_view l.body.now) c.args.first.now c.args.flag c.head.left c.head.so_far c.head.head
-    c.in_ok-value.value c.in_ok-value.exactness (seen outcome) c.head.kept c.args.memory.now c.head.memory
-    c.head.invariant c.in_ok-value.ensures.values c.in_ok-value.ensures.dims c.in_ok-value.ensures.capped round
-    stays
-    (c.in_ok-turn.ensures.turned.dims ∙ c.in_ok-value.ensures.dims)
+    let body = node_view l.body.now in
+    let outcome = seen c.in_ok-turn.turn.outcome in
+    let same : c.into_value.result ≡ c.head.head.value = c.into_value.ensures ∙
+    c.in_ok-grow_by.ensures.same c.in-Stable.is in
+    subst (λ x. HasGrown m l.options.now l.point l.base (cond_view l.condition.now) body c.args.first.now c.args.flag x
+    (headed l.point x outcome)) (sym same)
+    (head_stable m l.options.now l.point l.base (cond_view l.condition.now) body c.args.first.now c.args.flag c.head.head
+    c.head.kept c.args.memory.now c.head.memory c.head.invariant outcome c.in_ok-turn.ensures.turned.round
+    (c.in_ok-grow_by.ensures.stays c.in-Stable.is))
 
 pub grow-returns-in-Stable-clause-dims : goal.grow-returns-in-Stable-clause-dims
-grow-returns-in-Stable-clause-dims g t c = c.in_ok-value.ensures.dims ∙ c.head.invariant.dims
+grow-returns-in-Stable-clause-dims g t c =
+    let m = g.D.Domain.meaning in
+    let l = c.args.the_loop.now in
+    let same : c.into_value.result ≡ c.head.head.value = c.into_value.ensures ∙
+    c.in_ok-grow_by.ensures.same c.in-Stable.is in
+    ap m.dims same ∙ head_wide m l.options.now l.point l.base (cond_view l.condition.now) (node_view l.body.now)
+    c.args.first.now c.args.flag c.head.head c.head.kept c.args.memory.now c.head.memory c.head.invariant
 
 pub grow-returns-in-Stable-clause-behind : goal.grow-returns-in-Stable-clause-behind
-grow-returns-in-Stable-clause-behind g t c = c.in_ok-turn.ensures.turned.dims ∙ c.in_ok-value.ensures.dims ∙
-    c.head.invariant.dims
+grow-returns-in-Stable-clause-behind g t c =
+    let l = c.args.the_loop.now in
+    c.in_ok-turn.ensures.turned.dims ∙ head_wide g.D.Domain.meaning l.options.now l.point l.base
+    (cond_view l.condition.now) (node_view l.body.now)
+    c.args.first.now c.args.flag c.head.head c.head.kept c.args.memory.now c.head.memory c.head.invariant
 
 pub grow-returns-in-Stable-clause-jumps : goal.grow-returns-in-Stable-clause-jumps
 grow-returns-in-Stable-clause-jumps g t c =
     let m = g.D.Domain.meaning in
-    let same : m.dims c.in_ok-value.value ≡ m.dims c.args.first.now = c.in_ok-value.ensures.dims ∙
-    c.head.invariant.dims in
-    rw same at c.in_ok-turn.ensures.turned.jumps
+    let l = c.args.the_loop.now in
+    let body = node_view l.body.now in
+    let same = head_wide m l.options.now l.point l.base (cond_view l.condition.now) body
+    c.args.first.now c.args.flag c.head.head c.head.kept c.args.memory.now c.head.memory c.head.invariant in
+    subst (λ n. JumpsFit m body n (seen c.in_ok-turn.turn.outcome)) same c.in_ok-turn.ensures.turned.jumps
 
 pub grow-returns-in-Stable-clause-kept : goal.grow-returns-in-Stable-clause-kept
 grow-returns-in-Stable-clause-kept g t c = c.in_ok-turn.ensures.turned.kept
@@ -158,48 +167,40 @@ grow-returns-in-Stable-clause-kept g t c = c.in_ok-turn.ensures.turned.kept
 pub grow-returns-in-Stable-clause-stays : goal.grow-returns-in-Stable-clause-stays
 grow-returns-in-Stable-clause-stays g t c =
     let l = c.args.the_loop.now in
-    stays_both g.D.Domain.meaning l.options.now (node_view l.body.now) c.args.flag c.head.so_far
-    c.note-so_far_here.result c.in_ok-turn.turn.outcome.flag c.args.memory.now c.head.memory
-    c.round.new.memory c.head.invariant.stays
-    (later_noted l.point c.in_ok-value.exactness c.head.so_far c.note-so_far_here.result c.note-so_far_here.ensures)
+    let here = c.head.invariant in
+    stays_both g.D.Domain.meaning l.options.now (node_view l.body.now) c.args.flag here.so_far
+    c.head.head.flag c.in_ok-turn.turn.outcome.flag c.args.memory.now c.head.memory
+    c.round.new.memory here.loop.stays
+    (later_noted l.point here.valued.0 here.so_far c.head.head.flag here.valued.2)
     c.in_ok-turn.ensures.stays
 
 pub grow-head-smaller : goal.grow-head-smaller
 grow-head-smaller g t c =
     let m = g.D.Domain.meaning in
-    grow_falls c.args.the_loop.now.options.now.limited c.head.left c.saturating_sub-left.result (m.rank c.head.head)
-    (m.rank c.grow.new.head) c.in_ok-grow.ensures.fits c.saturating_sub-left.ensures
-    (λ joins. c.in_ok-grow.ensures.lower c.in-Grew.exactness c.in-Grew.is (λ e. joins (sym c.mode_of-mode.ensures ∙ e)))
+    let by = c.in_ok-grow_by.ensures.grew c.in-Grew._exactness c.in-Grew.is in
+    grow_falls c.args.the_loop.now.options.now.limited c.head.head.left c.grow_by.new.growing.left
+    (m.rank c.head.head.head) (m.rank c.grow_by.new.growing.head) by.fits by.left by.lower
 
 pub grow-head-preserved : goal.grow-head-preserved
 grow-head-preserved g t c =
     let m = g.D.Domain.meaning in
     let l = c.args.the_loop.now in
+    let body = node_view l.body.now in
     let turn = c.in_ok-turn.turn in
-    let grew : Grew m c.head.head turn.outcome.normal
-    (mode_at l.options.now.limited c.head.left) c.in-Grew.exactness c.grow.new.head =
-    rw (← c.mode_of-mode.ensures)
-    (c.in_ok-grow.ensures.grew c.in-Grew.exactness c.in-Grew.is) in
-    let round = rw c.note-so_far_here.ensures at c.in_ok-turn.ensures.turned.round in
-    let kept = kept_noted m l.options.now (node_view l.body.now) l.point c.in-Grew.exactness turn.outcome.flag
+    let here = c.head.invariant in
+    let behind = noted l.point c.in-Grew._exactness turn.outcome.flag in
+    let kept = kept_noted m l.options.now body l.point c.in-Grew._exactness turn.outcome.flag
     turn.entered (seen turn.outcome) c.in_ok-turn.ensures.turned.kept in
-    let here = stays_both m l.options.now (node_view l.body.now) c.args.flag c.head.so_far c.note-so_far_here.result
+    let all = stays_both m l.options.now body c.args.flag here.so_far c.head.head.flag
     turn.outcome.flag c.args.memory.now c.head.memory c.round.new.memory
-    c.head.invariant.stays (later_noted l.point c.in_ok-value.exactness c.head.so_far c.note-so_far_here.result
-    c.note-so_far_here.ensures) c.in_ok-turn.ensures.stays in
-    let stays = stays_then m l.options.now (node_view l.body.now) c.args.flag turn.outcome.flag
-    (noted l.point c.in-Grew.exactness turn.outcome.flag) c.args.memory.now c.round.new.memory here
-    (later_noted l.point c.in-Grew.exactness turn.outcome.flag
-    (noted l.point c.in-Grew.exactness turn.outcome.flag) refl) in
-    rw c.note-so_far.ensures (grow_next m l.options.now l.point l.base (cond_view l.condition.now)
-    (node_view l.body.now) c.args.first.now c.args.flag c.head.left c.saturating_sub-left.result
-    c.head.so_far c.head.head c.grow.new.head
-    c.in_ok-value.value c.in_ok-value.exactness c.in-Grew.exactness (seen turn.outcome) c.head.kept
-    (Some turn) c.args.memory.now c.head.memory c.round.new.memory c.head.invariant c.in_ok-value.ensures.values
-    c.in_ok-value.ensures.dims
-    c.in_ok-value.ensures.capped round grew
-    (c.in_ok-turn.ensures.turned.dims ∙ c.in_ok-value.ensures.dims) c.in_ok-grow.ensures.dims
-    c.in_ok-grow.ensures.capped c.in_ok-grow.ensures.fits c.saturating_sub-left.ensures kept stays)
+    here.loop.stays (later_noted l.point here.valued.0 here.so_far c.head.head.flag here.valued.2)
+    c.in_ok-turn.ensures.stays in
+    let stays = stays_then m l.options.now body c.args.flag turn.outcome.flag behind c.args.memory.now
+    c.round.new.memory all (later_noted l.point c.in-Grew._exactness turn.outcome.flag behind refl) in
+    head_next m l.options.now l.point l.base (cond_view l.condition.now) body c.args.first.now c.args.flag c.head.head
+    c.head.kept c.args.memory.now c.head.memory here (seen turn.outcome) c.in_ok-turn.ensures.turned.round
+    c.in-Grew._exactness c.grow_by.new.growing (Some turn) c.round.new.memory
+    (c.in_ok-grow_by.ensures.grew c.in-Grew._exactness c.in-Grew.is) kept stays
 
 -- a loop, narrowed and left -----------------------------------------------------------------------
 
@@ -300,30 +301,40 @@ pass_loop-finish-requires g t c = subst (λ n. n ≤ 2 ^ 30) (sym c.narrowing.in
 
 pub pass_loop-returns-clause-passed : goal.pass_loop-returns-clause-passed
 pass_loop-returns-clause-passed g t c =
+    let m = g.D.Domain.meaning in
     let l = c.args.the_loop.now in
+    let body = node_view l.body.now in
+    let last = c.narrowing.last in
     let none : c.narrowing.left ≡ 0 = omega arith in
-    narrowed_passed g.D.Domain.meaning l.options.now l.point l.base (cond_view l.condition.now)
-    (node_view l.body.now) c.args.value c.args.flag c.narrowing.left c.narrowing.top
-    c.narrowing.last.entered (seen c.narrowing.last.outcome)
-    (seen c.in_ok-outcome.outcome) c.args.memory.now c.narrowing.memory c.narrowing.invariant none
-    c.in_ok-outcome.ensures.left
-    c.in_ok-outcome.ensures.dims
+    if_both c.finish.result
+    (λ r. LeavesWith m l.point l.base (cond_view l.condition.now) c.narrowing.top (seen last.outcome) (seen r))
+    (λ r. m.dims r.normal ≡ m.dims c.narrowing.top)
+    (λ r. IsPassed m l.options.now (graph.iterate l.point l.base (cond_view l.condition.now) body) c.args.flag
+    c.args.value (seen r))
+    (λ r left dims. narrowed_passed m l.options.now l.point l.base (cond_view l.condition.now) body
+    c.args.value c.args.flag c.narrowing.left c.narrowing.top last.entered (seen last.outcome) (seen r)
+    c.args.memory.now c.narrowing.memory c.narrowing.invariant none left dims)
+    c.finish.ensures.left c.finish.ensures.dims
 
 pub pass_loop-returns-clause-stays : goal.pass_loop-returns-clause-stays
 pass_loop-returns-clause-stays g t c =
     let m = g.D.Domain.meaning in
     let l = c.args.the_loop.now in
+    let body = node_view l.body.now in
+    let last = c.narrowing.last in
     let none : c.narrowing.left ≡ 0 = omega arith in
-    let passed = narrowed_passed m l.options.now l.point l.base (cond_view l.condition.now)
-    (node_view l.body.now) c.args.value c.args.flag c.narrowing.left c.narrowing.top
-    c.narrowing.last.entered (seen c.narrowing.last.outcome)
-    (seen c.in_ok-outcome.outcome) c.args.memory.now c.narrowing.memory c.narrowing.invariant none
-    c.in_ok-outcome.ensures.left
-    c.in_ok-outcome.ensures.dims in
-    stays_finished m l.options.now l.point l.base (cond_view l.condition.now)
-    (node_view l.body.now) c.args.flag c.narrowing.last.outcome.flag c.args.value (seen c.in_ok-outcome.outcome)
-    c.args.memory.now c.narrowing.memory c.finish.new.memory c.narrowing.invariant.stays passed
-    (c.in_ok-outcome.ensures.keeps l.options.now)
+    let passed = if_both c.finish.result
+    (λ r. LeavesWith m l.point l.base (cond_view l.condition.now) c.narrowing.top (seen last.outcome) (seen r))
+    (λ r. m.dims r.normal ≡ m.dims c.narrowing.top)
+    (λ r. IsPassed m l.options.now (graph.iterate l.point l.base (cond_view l.condition.now) body) c.args.flag
+    c.args.value (seen r))
+    (λ r left dims. narrowed_passed m l.options.now l.point l.base (cond_view l.condition.now) body
+    c.args.value c.args.flag c.narrowing.left c.narrowing.top last.entered (seen last.outcome) (seen r)
+    c.args.memory.now c.narrowing.memory c.narrowing.invariant none left dims)
+    c.finish.ensures.left c.finish.ensures.dims in
+    finish_stays m l.options.now l.point l.base (cond_view l.condition.now) body c.args.flag last.outcome.flag
+    c.args.value c.finish.result c.args.memory.now c.narrowing.memory c.finish.new.memory c.narrowing.invariant.stays
+    passed (c.finish.ensures.keeps l.options.now)
 
 -- a choice ------------------------------------------------------------------------------------------------------------
 
@@ -411,10 +422,11 @@ pass_choice-returns-clause-stays g t c =
 
 pub pass_row-row-init : goal.pass_row-row-init
 pass_row-row-init g t c =
-    row_starts g.D.Domain.meaning c.args.the_row.now.options.now
+    let begun = c.nothing_yet-so_far.ensures in
+    row_begins g.D.Domain.meaning c.args.the_row.now.options.now
     (row (map node_view c.args.the_row.now.trees.now) (node_view c.args.the_row.now.last.now)) c.args.flag
-    c.args.value c.nothing-found.result c.args.memory.now c.requires.few
-    c.requires.fits c.nothing-found.ensures
+    c.args.value c.nothing_yet-so_far.result c.args.memory.now c.requires.few
+    c.requires.fits begun.found begun.normal begun.flag
 
 pub pass_row-pass-requires : goal.pass_row-pass-requires
 pass_row-pass-requires g t c =

@@ -3,17 +3,18 @@ use Rattle.lra_domain.proofs.RankNumbers.{phased}
 use Rattle.lra_program.specs.ProgramViews.{cond_view}
 use Rattle.lra_operations.specs.GraphViews.{node_view, row}
 use Rattle.lra_iter.specs.Outcome.{seen}
-use Rattle.lra_iter.proofs.PassLoops.{GrowLoop, NarrowLoop}
+use Rattle.lra_iter.proofs.PassLoops.{HeadLoop, NarrowLoop}
 use Rattle.lra_iter.specs.Shapes.{node_size, row_size}
 use Rattle.lra_iter.proofs.PassRows.{RowLoop}
 use Rattle.lra_iter.proofs.pass.+pass.Given as goal
 
 abbrev pub invariant-grow-head : goal.invariant-grow-head
-invariant-grow-head g l = GrowLoop g.D.Domain.meaning l.the_loop.options.now l.the_loop.point l.the_loop.base (cond_view l.the_loop.condition.now) (node_view l.the_loop.body.now) l.first
-    l.fn.flag l.left l.so_far l.head l.kept l.fn.memory l.memory
+invariant-grow-head g l = HeadLoop g.D.Domain.meaning l.the_loop.options.now l.the_loop.point l.the_loop.base
+    (cond_view l.the_loop.condition.now) (node_view l.the_loop.body.now) l.first l.fn.flag l.head l.kept l.fn.memory
+    l.memory
 
 abbrev pub decreases-grow-head : goal.decreases-grow-head
-decreases-grow-head g l = phased (2 ^ 64) l.left (g.D.Domain.meaning.rank l.head)
+decreases-grow-head g l = phased (2 ^ 64) l.head.left (g.D.Domain.meaning.rank l.head.head)
 
 abbrev pub invariant-pass_loop-narrowing : goal.invariant-pass_loop-narrowing
 invariant-pass_loop-narrowing g l = NarrowLoop g.D.Domain.meaning l.the_loop.options.now l.the_loop.point l.the_loop.base (cond_view l.the_loop.condition.now) (node_view l.the_loop.body.now)
