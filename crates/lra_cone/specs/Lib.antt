@@ -3,5 +3,6 @@ pub mod Cones
 pub mod Steps
 pub mod Pairs
 pub mod Strains
+pub mod Flat
 pub mod Losses
 pub mod Conversions

@@ -1,6 +1,6 @@
 //! Cones.
 
-ghost use Rattle.std.specs.Prelude.{◌≡◌, ◌++◌, ◌∷◌, [], suc, pos, ◌<◌, ◌≤◌};
+ghost use Rattle.std.specs.Prelude.{◌≡◌, ◌≢◌, ◌++◌, ◌∷◌, [], suc, pos, ◌<◌, ◌≤◌, slice_index_or};
 ghost use Rattle.std.specs.Prelude.{◌^◌, Some, length, map, IfOk, IfErr, OnOk, OnErr};
 ghost use Rattle.std.specs.List.{All};
 ghost use Rattle.lra_linear.specs.Range.{InRange};
@@ -13,8 +13,9 @@ ghost use Rattle.lra_linear.specs.Kinds.{is_equality};
 ghost use Rattle.lra_cone.specs.Cones.{Shape, IsCone, IsTakenIn, saturation_of, whole_space};
 ghost use Rattle.lra_cone.specs.Steps.{IsLastAcross};
 ghost use Rattle.lra_cone.specs.Strains.{IsConeError};
+ghost use Rattle.lra_cone.specs.Flat.{AreFlat, IsFlatError};
 
-use crate::line_step::{flat_lines, flat_rays, flat_saturation, turned};
+use crate::line_step::{Flat, flat_lines, flat_rays, flat_saturation, turned};
 use crate::products::{last_across, products};
 use crate::ray_step::{Cut, RAY_LIMIT, cut_rays};
 use crate::saturation::remove_rows;
@@ -166,6 +167,37 @@ impl Cone {
         }
     }
 
+    // What comes of its lists with the line at the place across, by the products of a row with the lines and rays.
+    fn flattened(
+        &self,
+        kind: ConKind,
+        place: usize,
+        of_lines: &[i128],
+        of_rays: &[i128],
+    ) -> Result<Flat, ConeError>
+        requires inside { place < length self.now.lines }
+        requires across { slice_index_or of_lines.now place (pos 0) ≢ pos 0 }
+        requires each_line { length of_lines.now ≡ length self.now.lines }
+        requires each_ray { length of_rays.now ≡ length self.now.rays }
+        requires lines_in_range { All InRange of_lines.now }
+        requires rays_in_range { All InRange of_rays.now }
+        ensures cone { IsCone self.now }
+        ensures flat { IfOk result (λ flat. AreFlat (is_equality kind) self.now place of_lines.now of_rays.now
+            flat.lines.items flat.rays.items flat.saturation) }
+        ensures strained { IfErr result (IsFlatError self.now place of_lines.now of_rays.now) }
+    {
+        let alloc = *self.lines.allocator();
+        let line = turned(&self.lines, place, of_lines[place])?;
+        let lines = flat_lines(alloc, &self.lines, of_lines, &line)?;
+        let rays = flat_rays(alloc, &self.rays, of_rays, &line, kind)?;
+        let saturation = flat_saturation(alloc, &self.saturation, kind)?;
+        Ok(Flat {
+            lines,
+            rays,
+            saturation,
+        })
+    }
+
     // Takes a row in where its product with the line at the place, and with none behind it, isn't 0.
     fn flatten(
         &mut self,
@@ -185,15 +217,17 @@ impl Cone {
         ensures strained { IfErr result (IsConeError self.old (is_equality kind) row.now) }
         ensures unchanged { OnErr result (self.new ≡ self.old) }
     {
-        let alloc = *self.lines.allocator();
-        let line = turned(&self.lines, place, of_lines[place])?;
-        let lines = flat_lines(alloc, &self.lines, of_lines, &line)?;
-        let rays = flat_rays(alloc, &self.rays, of_rays, &line, kind)?;
-        let saturation = flat_saturation(alloc, &self.saturation, kind)?;
-        if rays.len() > RAY_LIMIT {
-            return Err(ConeError::Strained(Strained::TooMany(rays.len())));
+        let flat = self.flattened(kind, place, of_lines, of_rays)?;
+        let count = flat.rays.len();
+        if count > RAY_LIMIT {
+            return Err(ConeError::Strained(Strained::TooMany(count)));
         }
         self.taken.push(row.copy()?, kind)?;
+        let Flat {
+            lines,
+            rays,
+            saturation,
+        } = flat;
         self.lines = lines;
         self.rays = rays;
         self.saturation = saturation;

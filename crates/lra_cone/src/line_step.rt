@@ -30,6 +30,14 @@ pub struct Across {
     pub product: i128,
 }
 
+// The lists of a cone and its matrix, with a line across: its other rows are combined with that line.
+#[derive(Drop)]
+pub struct Flat {
+    pub lines: Vec<Row>,
+    pub rays: Vec<Row>,
+    pub saturation: SatMatrix,
+}
+
 // The line at the place, whose product with the row is this one.
 pub fn turned(lines: &[Row], place: usize, product: i128) -> Result<Across, AllocError>
     requires inside { place < length lines.now }
