@@ -22,8 +22,8 @@ flat_rays_told s place of_lines of_rays line of_cone.Memory t x = tt
 flat_rays_told s place of_lines of_rays line (of_cone.Strained strained) t x = record { line = line; turned = t; told = inr x }
 
 -- the cone strains
-pub flat_error : (s : Shape) → IsCone s → (equal : Bool) (c : List ℤ) (place : ℕ) (of_lines of_rays : List ℤ) (e : C.ConeError) → of_lines ≡ map (product c) s.lines → of_rays ≡ map (product c) s.rays →
-    place < length s.lines → IsFlatError s place of_lines of_rays e → IsConeError s equal c e
+pub flat_error : (s : Shape) → IsCone s → (equal : Bool) (c : List ℤ) (place : ℕ) (of_lines of_rays : List ℤ) (e : C.ConeError) → of_lines ≡ map (product c) s.lines →
+    of_rays ≡ map (product c) s.rays → place < length s.lines → IsFlatError s place of_lines of_rays e → IsConeError s equal c e
 flat_error s k equal c place of_lines of_rays of_cone.Memory el er h x = tt
 flat_error s k equal c place of_lines of_rays (of_cone.Strained strained) el er h x =
     let t = turned_at s c of_lines place x.line el h x.turned in

@@ -184,10 +184,18 @@ told_row equal s listed rows kinds place n r copied bits m em et el nk h er ec e
     told_by equal s.taken rows kinds s.rays (length s.lines) n place copied bits m.rows et (sym nk) (subst (λ (l : List (List ℤ)). place < length l) el h)
     (ec ∙ er ∙ get_or_default listed place r [] h ∙ ap (λ (l : List (List ℤ)). get_or l place []) el) (ap (λ (x : Matrix). x.rows) em) en filled
 
-pub parts_next : (rays : List (List ℤ)) (lines : ℕ) (rows : List (List ℤ)) (i : ℕ) (r copied : List ℤ) (tight loose : List (List ℤ)) (bits : List (List Bool)) → i < length rows → r ≡ get_or rows i r →
-    copied ≡ r → AreParts rays lines (take i rows ++ copied ∷ []) tight loose bits → AreParts rays lines (take (i + 1) rows) tight loose bits
-parts_next rays lines rows i r copied tight loose bits h e c a =
-    subst (λ (l : List (List ℤ)). AreParts rays lines l tight loose bits) (ap (λ (y : List ℤ). take i rows ++ y ∷ []) (c ∙ e) ∙ sym (take_more rows i r h)) a
+-- the rows as the code lists them
+pub rows_listed : {K : Type 0} (equal : K → Bool) (taken : List Given) (listed rows : List (List ℤ)) (kinds : List K) → given_by equal rows kinds ≡ taken → listed ≡ rows → length kinds ≡ length rows →
+    listed ≡ rows_of taken
+rows_listed equal taken listed rows kinds et el nk = el ∙ sym (rows_of_given equal rows kinds (sym nk)) ∙ ap rows_of et
+
+pub row_told : (listed rows : List (List ℤ)) (place : ℕ) (r copied : List ℤ) → listed ≡ rows → place < length listed → r ≡ get_or listed place r → copied ≡ r → copied ≡ get_or rows place []
+row_told listed rows place r copied el h er ec = ec ∙ er ∙ get_or_default listed place r [] h ∙ ap (λ (l : List (List ℤ)). get_or l place []) el
+
+pub parts_next : (rays : List (List ℤ)) (lines : ℕ) (rows : List (List ℤ)) (i : ℕ) (r : List ℤ) (tight loose : List (List ℤ)) (bits : List (List Bool)) → i < length rows →
+    r ≡ get_or rows i [] → AreParts rays lines (take i rows ++ r ∷ []) tight loose bits → AreParts rays lines (take (i + 1) rows) tight loose bits
+parts_next rays lines rows i r tight loose bits h e a =
+    subst (λ (l : List (List ℤ)). AreParts rays lines l tight loose bits) (ap (λ (y : List ℤ). take i rows ++ y ∷ []) e ∙ sym (take_more rows i [] h)) a
 
 pub parts_none : (rays : List (List ℤ)) (lines : ℕ) (tight loose : List (List ℤ)) (bits : List (List Bool)) → tight ≡ [] → loose ≡ [] → bits ≡ [] → AreParts rays lines [] tight loose bits
 parts_none rays lines tight loose bits et el eb = record {
@@ -196,11 +204,9 @@ parts_none rays lines tight loose bits et el eb = record {
   told = subst (λ (l : List (List ℤ)). AllTellTight rays lines l bits) (sym el) (subst (AllTellTight rays lines []) (sym eb) tt);
 }
 
-pub parts_all : {K : Type 0} (equal : K → Bool) (s : Shape) (listed rows : List (List ℤ)) (kinds : List K) (i : ℕ) (tight loose : List (List ℤ)) (bits : List (List Bool)) →
-    given_by equal rows kinds ≡ s.taken → listed ≡ rows → length kinds ≡ length rows → i ≡ length listed → AreParts s.rays (length s.lines) (take i listed) tight loose bits →
-    AreParts s.rays (length s.lines) (rows_of s.taken) tight loose bits
-parts_all equal s listed rows kinds i tight loose bits et el nk h a =
-    subst (λ (l : List (List ℤ)). AreParts s.rays (length s.lines) l tight loose bits) (take_all i listed (omega (arith, h)) ∙ el ∙ sym (rows_of_given equal rows kinds (sym nk)) ∙ ap rows_of et) a
+pub parts_all : (rays : List (List ℤ)) (lines : ℕ) (rows : List (List ℤ)) (i : ℕ) (tight loose : List (List ℤ)) (bits : List (List Bool)) → length rows ≤ i →
+    AreParts rays lines (take i rows) tight loose bits → AreParts rays lines rows tight loose bits
+parts_all rays lines rows i tight loose bits h a = subst (λ (l : List (List ℤ)). AreParts rays lines l tight loose bits) (take_all i rows h) a
 
 told_length : (rays : List (List ℤ)) (lines : ℕ) (rows : List (List ℤ)) (bits : List (List Bool)) → AllTellTight rays lines rows bits → length bits ≡ length rows
 told_length rays lines [] [] a = refl

@@ -24,7 +24,7 @@ use Rattle.lra_cone.specs.Conversions.{IsConversion}
 use Rattle.lra_cone.specs.Losses.{IfLost}
 use Rattle.lra_cone.proofs.TightRows.{with_later}
 use Rattle.lra_pair.specs.KeptRows.{IsOfSome}
-use Rattle.lra_pair.specs.OwnLists.{IsOwnLoss, IsOwnCause, IsPositive}
+use Rattle.lra_pair.specs.OwnLists.{IsOwnLoss, IsOwnCause, IsPositive, TellsOwnLoss}
 
 -- ---- a row of a list once more
 row_again : (list : List Given) (g : Given) → Contains list g → (t : List ℤ) → Contains (with_row g.equal g.row (system_of list)) t → Contains (system_of list) t
@@ -194,15 +194,18 @@ pub same_strain : (d : ℕ) (s : Shape) (losses : List Loss) → s.dims ≡ d �
 same_strain d s losses e first all kept c = subst (λ (m : ℕ). IfLost (Strains (suc m) (first ++ all)) losses) e c.strain
 
 -- the own list strains
-pub later_strain : (d : ℕ) (s : Shape) (cause : Cause) (losses after : List Loss) (loss : Loss) → s.dims ≡ d → IsCone s → after ≡ losses ++ loss ∷ [] → IsOwnLoss s cause loss →
+pub later_strain : (d : ℕ) (s : Shape) (cause : Cause) (losses after : List Loss) → s.dims ≡ d → IsCone s → TellsOwnLoss s cause losses after →
     IsOwnCause s cause → (first all kept : List Given) → IsConversion first all kept s losses → IfLost (Strains (suc d) (first ++ all)) after
-later_strain d s cause losses after loss e k ea l h first all kept c =
-    subst (λ (m : ℕ). IfLost (Strains (suc m) (first ++ all)) after) e (own_lost first all kept s cause losses after loss k c ea l h)
+later_strain d s cause losses after e k t h first all kept c =
+    subst (λ (m : ℕ). IfLost (Strains (suc m) (first ++ all)) after) e (own_lost first all kept s cause losses after t.loss k c t.told t.own h)
 
 -- a list that was added to isn't empty
-pub some_loss : (losses after told : List Loss) (loss : Loss) → after ≡ losses ++ loss ∷ [] → told ≡ after → told ≡ [] → ⊥
-some_loss [] after told loss e f g = let z : loss ∷ [] ≡ [] = sym e ∙ sym f ∙ g in cc
-some_loss (x ∷ losses) after told loss e f g = let z : x ∷ (losses ++ loss ∷ []) ≡ [] = sym e ∙ sym f ∙ g in cc
+pub some_loss : (s : Shape) (cause : Cause) (losses after told : List Loss) → TellsOwnLoss s cause losses after → told ≡ after → told ≡ [] → ⊥
+some_loss s cause losses after told t f g = not_none losses (sym t.told ∙ sym f ∙ g)
+  where
+    not_none : (losses : List Loss) → losses ++ t.loss ∷ [] ≡ [] → ⊥
+    not_none [] e = let z : t.loss ∷ [] ≡ [] = e in cc
+    not_none (x ∷ losses) e = let z : x ∷ (losses ++ t.loss ∷ []) ≡ [] = e in cc
 
 -- ---- what is left of the rows
 pub all_of : (n : ℕ) (rows : List Given) (p : Polyhedron) → IsPolyhedronOf n (Con rows) p → IsOfSome n rows p

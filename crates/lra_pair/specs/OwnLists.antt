@@ -2,7 +2,7 @@
 -- generators the canonical generators. Rows that are tight at all rays of the cone come into an echelon form; the
 -- others are reduced by it.
 use Rattle.std.specs.Prelude.{◌≡◌, ◌↔◌, ℕ, suc, ◌+◌, ◌<◌, ◌≤◌, ℤ, pos, Bool, true, cond}
-use Rattle.std.specs.Prelude.{List, [], ◌∷◌, length, slice_index_or, nat_lt}
+use Rattle.std.specs.Prelude.{List, [], ◌∷◌, ◌++◌, length, slice_index_or, nat_lt}
 use Rattle.std.specs.List.{Contains}
 use Rattle.lra_linear.specs.Vectors.{product}
 use Rattle.lra_linear.specs.Canonical.{IsCanonicalOf}
@@ -82,3 +82,9 @@ pub record IsOwnLoss (s : Shape) (reason : Cause) (loss : Loss) : Type 0 where
   pub chosen : loss.chosen ≡ s.taken
   pub further : Contains s.taken loss.further
   pub cause : loss.cause ≡ reason
+
+-- behind the losses told before stands that of the own list
+pub record TellsOwnLoss (s : Shape) (reason : Cause) (before after : List Loss) : Type 0 where
+  pub loss : Loss
+  pub told : after ≡ before ++ loss ∷ []
+  pub own : IsOwnLoss s reason loss

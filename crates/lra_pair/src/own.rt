@@ -1,7 +1,7 @@
 //! The canonical list of a list's own kind, from the cone that its rows were taken into.
 
 ghost use Rattle.std.specs.Prelude.{◌≡◌, ◌↔◌, ◌++◌, ◌∷◌, [], ℕ, List, ℤ, true, ◌+◌, ◌<◌, ◌≤◌, ◌^◌, suc, length};
-ghost use Rattle.std.specs.Prelude.{IsTrue, IfOk, IfErr, OnOk};
+ghost use Rattle.std.specs.Prelude.{IsTrue, IfOk, IfErr, OnOk, slice_index_or};
 ghost use Rattle.std.specs.List.{All};
 ghost use Rattle.lra_bits.specs.TruthValues.{value_at};
 ghost use Rattle.lra_cone.specs.Cones.{IsCone};
@@ -88,6 +88,25 @@ impl Parts {
     }
 }
 
+// The row taken in at the place, and at which rays, and lines behind them, it is tight.
+fn told_row(
+    alloc: Global,
+    cone: &Cone,
+    width: usize,
+    place: usize,
+) -> Result<(Row, BitRow), AllocError>
+    requires width { width ≡ length cone.now.rays + length cone.now.lines }
+    requires inside { place < length (rows_of cone.now.taken) }
+    ensures row { IfOk result (λ told. told.0 ≡ slice_index_or (rows_of cone.now.taken) place []) }
+    ensures tight { IfOk result (λ told. TellsTight cone.now.rays (length cone.now.lines) told.0 told.1) }
+{
+    let taken = cone.taken();
+    let (rows, _kinds) = (taken.rows(), taken.kinds());
+    let bits = tight_where(alloc, cone.saturation(), width, place)?;
+    let row = rows[place].copy()?;
+    Ok((row, bits))
+}
+
 // The parts of the rows taken in.
 fn parted(alloc: Global, cone: &Cone) -> Result<Parts, AllocError>
     ensures cone { IsCone cone.now }
@@ -105,8 +124,8 @@ fn parted(alloc: Global, cone: &Cone) -> Result<Parts, AllocError>
     let taken = cone.taken();
     let (rows, _kinds) = (taken.rows(), taken.kinds());
     for place in 0..rows.len() {
-        let bits = tight_where(alloc, cone.saturation(), width, place)?;
-        parts.push(rows[place].copy()?, bits)?;
+        let (row, bits) = told_row(alloc, cone, width, place)?;
+        parts.push(row, bits)?;
     }
     Ok(parts)
 }

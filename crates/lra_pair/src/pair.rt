@@ -1,6 +1,6 @@
 //! Both canonical lists of a polyhedron.
 
-ghost use Rattle.std.specs.Prelude.{◌≡◌, ◌∷◌, ◌++◌, ◌<◌, ◌^◌, [], List, suc, length, drop, IfOk, IfSome};
+ghost use Rattle.std.specs.Prelude.{◌≡◌, ◌∷◌, ◌++◌, ◌<◌, ◌^◌, [], List, suc, length, drop, IfOk, IfSome, OnOk};
 ghost use Rattle.std.specs.List.{Contains};
 ghost use Rattle.lra_linear.specs.Descriptions.{AreGenerators, Con, Gen, Given, inequality};
 ghost use Rattle.lra_linear.specs.OperationStrain.{FromRowsStrains, FromGeneratorsStrains};
@@ -13,7 +13,8 @@ ghost use Rattle.lra_sys.specs.declared.system.GenKind.TheVariants.{Point};
 ghost use Rattle.lra_cone.specs.Conversions.{IsConversion};
 ghost use Rattle.lra_cone.specs.Losses.{IfLost};
 ghost use Rattle.lra_pair.specs.KeptRows.{IsOfSome};
-ghost use Rattle.lra_pair.specs.OwnLists.{IsOwnList, IsOwnLoss, IsPositive};
+ghost use Rattle.lra_pair.specs.OwnLists.{IsOwnList, IsOwnLoss, IsPositive, TellsOwnLoss};
+ghost use Rattle.lra_pair.specs.TakenPoints.{AreTaken};
 
 use crate::own::{Own, limited_list};
 use lra_cone::{
@@ -165,6 +166,21 @@ fn own_loss(alloc: Global, cone: &Cone, cause: Cause) -> Result<Loss, AllocError
     Loss::new(alloc, taken, &rows[last], kinds[last], cause)
 }
 
+// Tells that there is no own list, behind what was lost before.
+fn push_own_loss(
+    losses: &mut Vec<Loss>,
+    alloc: Global,
+    cone: &Cone,
+    cause: Cause,
+) -> Result<(), AllocError>
+    requires { 0 < length cone.now.taken }
+    ensures cone { IsCone cone.now }
+    ensures loss { OnOk result (TellsOwnLoss cone.now cause losses.old.items losses.new.items) }
+{
+    losses.push(own_loss(alloc, cone, cause)?)?;
+    Ok(())
+}
+
 // The polyhedron of the rows that were taken into the cone, behind these losses; all points where a number passes in
 // its canonical constraints, or there are too many.
 fn of_taken_rows(
@@ -191,7 +207,7 @@ fn of_taken_rows(
             Ok((pair, losses))
         }
         Err(cause) => {
-            losses.push(own_loss(alloc, cone, cause)?)?;
+            push_own_loss(&mut losses, alloc, cone, cause)?;
             let pair = universe(alloc, n)?;
             Ok((pair, losses))
         }
@@ -308,10 +324,26 @@ fn of_taken_generators(
             Ok((pair, losses))
         }
         Err(cause) => {
-            losses.push(own_loss(alloc, cone, cause)?)?;
+            push_own_loss(&mut losses, alloc, cone, cause)?;
             widened(alloc, list, losses)
         }
     }
+}
+
+// The generators, some of them points, taken into a cone, and constraints that hold at each of them.
+fn take_points(alloc: Global, given: &GenSys) -> Result<(Conversion, ConSys), AllocError>
+    requires small { given.now.dims < 2 ^ 62 }
+    requires kinds { FitKinds given.now.rows given.now.kinds }
+    requires many { length given.now.kinds ≡ length given.now.rows }
+    requires point { Contains given.now.kinds Point }
+    ensures { IfOk result (λ r.
+        AreTaken given.now.dims (generators given.now) r.1 r.0.cone r.0.losses.items) }
+{
+    let n = given.dims();
+    let rows = dual_rows(alloc, given)?;
+    let conversion = take_rows(alloc, Cone::whole(alloc, n)?, &rows)?;
+    let list = valid_list(alloc, &conversion, &rows)?;
+    Ok((conversion, list))
 }
 
 // The polyhedron of generators, some of them points, and what was lost.
@@ -327,9 +359,7 @@ fn from_points(alloc: Global, given: &GenSys) -> Result<(Pair, Vec<Loss>), Alloc
     ensures strain { IfOk result (λ r. IfLost (FromGeneratorsStrains given.now.dims (generators given.now)) r.1.items) }
 {
     let n = given.dims();
-    let rows = dual_rows(alloc, given)?;
-    let conversion = take_rows(alloc, Cone::whole(alloc, n)?, &rows)?;
-    let list = valid_list(alloc, &conversion, &rows)?;
+    let (conversion, list) = take_points(alloc, given)?;
     let Conversion {
         cone,
         kept: _,

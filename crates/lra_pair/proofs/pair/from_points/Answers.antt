@@ -1,25 +1,21 @@
 -- Goals of `from_points`: the polyhedron of generators, some of them points, and what was lost.
-use Rattle.std.proofs.Common.{◌≡◌, ◌∙◌, ap, arith, sym, subst, length, List, ℕ, []}
+use Rattle.std.proofs.Common.{◌≡◌, arith, sym, subst, length, List, ℕ, []}
 use Rattle.std.specs.Vec.{vec_len}
 use Rattle.std.proofs.lemmas.Grind.{common_steps}
 use Rattle.std.proofs.lemmas.Result.{IfOk-weaker}
 use Rattle.lra_linear.specs.Descriptions.{Given, Con, Gen}
 use Rattle.lra_linear.specs.Points.{IsEmptySet, IsWithin}
 use Rattle.lra_sys.specs.Listed.{constraints, generators}
-use Rattle.lra_cone.specs.Cones.{whole_space}
 use Rattle.lra_pair.proofs.OwnRows.{none_of}
 use Rattle.lra_pair.proofs.PairLosses.{within_both}
-use Rattle.lra_pair.proofs.GeneratorPairs.{taken, exact_pair, taken_within, taken_strain, lost_strain}
+use Rattle.lra_pair.proofs.GeneratorPairs.{exact_pair, taken_within, taken_strain, lost_strain}
 use Rattle.lra_pair.proofs.pair.from_points.Goals as goal
 
 pub of_taken_generators-requires-clause-columns : goal.of_taken_generators-requires-clause-columns
 of_taken_generators-requires-clause-columns c =
     let cone = c.in_ok-conversion.conversion.cone in
     let losses = c.in_ok-conversion.conversion.losses.items in
-    let t = taken c.args.given.now.dims c.args.given.now c.in_ok-rows.rows c.in_ok-list.list c.in_ok-whole.field-0 cone (constraints c.in_ok-conversion.conversion.kept) losses
-    c.requires.many c.requires.kinds c.requires.point c.in_ok-rows.ensures.rows c.in_ok-rows.ensures.kinds c.in_ok-rows.ensures.dims
-    (c.in_ok-whole.ensures ∙ ap whole_space c.dims-n.ensures) c.in_ok-conversion.ensures.dims c.in_ok-conversion.ensures.taken c.in_ok-list.ensures.cone
-    c.in_ok-list.ensures.exact c.in_ok-list.ensures.valid in
+    let t = c.in_ok-conversion.ensures in
     let same : length losses ≡ vec_len c.in_ok-conversion.conversion.losses = grind (arith, common_steps) in
     let none : losses ≡ [] = none_of losses (vec_len c.in_ok-conversion.conversion.losses) c.is_empty.result same c.is_empty.ensures c.if-is_empty.true in
     t.columns none
@@ -28,10 +24,7 @@ pub of_taken_generators-requires-clause-some : goal.of_taken_generators-requires
 of_taken_generators-requires-clause-some c =
     let cone = c.in_ok-conversion.conversion.cone in
     let losses = c.in_ok-conversion.conversion.losses.items in
-    let t = taken c.args.given.now.dims c.args.given.now c.in_ok-rows.rows c.in_ok-list.list c.in_ok-whole.field-0 cone (constraints c.in_ok-conversion.conversion.kept) losses
-    c.requires.many c.requires.kinds c.requires.point c.in_ok-rows.ensures.rows c.in_ok-rows.ensures.kinds c.in_ok-rows.ensures.dims
-    (c.in_ok-whole.ensures ∙ ap whole_space c.dims-n.ensures) c.in_ok-conversion.ensures.dims c.in_ok-conversion.ensures.taken c.in_ok-list.ensures.cone
-    c.in_ok-list.ensures.exact c.in_ok-list.ensures.valid in
+    let t = c.in_ok-conversion.ensures in
     let same : length losses ≡ vec_len c.in_ok-conversion.conversion.losses = grind (arith, common_steps) in
     let none : losses ≡ [] = none_of losses (vec_len c.in_ok-conversion.conversion.losses) c.is_empty.result same c.is_empty.ensures c.if-is_empty.true in
     subst (λ (n : ℕ). ¬ (IsEmptySet n (Gen cone.taken))) (sym c.dims-n.ensures) (t.some none)
@@ -40,71 +33,58 @@ pub of_taken_generators-requires-clause-within : goal.of_taken_generators-requir
 of_taken_generators-requires-clause-within c =
     let cone = c.in_ok-conversion.conversion.cone in
     let losses = c.in_ok-conversion.conversion.losses.items in
-    let t = taken c.args.given.now.dims c.args.given.now c.in_ok-rows.rows c.in_ok-list.list c.in_ok-whole.field-0 cone (constraints c.in_ok-conversion.conversion.kept) losses
-    c.requires.many c.requires.kinds c.requires.point c.in_ok-rows.ensures.rows c.in_ok-rows.ensures.kinds c.in_ok-rows.ensures.dims
-    (c.in_ok-whole.ensures ∙ ap whole_space c.dims-n.ensures) c.in_ok-conversion.ensures.dims c.in_ok-conversion.ensures.taken c.in_ok-list.ensures.cone
-    c.in_ok-list.ensures.exact c.in_ok-list.ensures.valid in
+    let t = c.in_ok-conversion.ensures in
     let same : length losses ≡ vec_len c.in_ok-conversion.conversion.losses = grind (arith, common_steps) in
     let none : losses ≡ [] = none_of losses (vec_len c.in_ok-conversion.conversion.losses) c.is_empty.result same c.is_empty.ensures c.if-is_empty.true in
-    subst (λ (n : ℕ). IsWithin n (Gen cone.taken) (Con (constraints c.in_ok-list.list))) (sym c.dims-n.ensures)
-    (subst (λ (l : List Given). IsWithin c.args.given.now.dims (Gen l) (Con (constraints c.in_ok-list.list))) (sym (t.whole none)) t.within)
+    subst (λ (n : ℕ). IsWithin n (Gen cone.taken) (Con (constraints c.in_ok-conversion.list))) (sym c.dims-n.ensures)
+    (subst (λ (l : List Given). IsWithin c.args.given.now.dims (Gen l) (Con (constraints c.in_ok-conversion.list))) (sym (t.whole none)) t.within)
 
 pub returns-then-is_empty-clause-exact : goal.returns-then-is_empty-clause-exact
 returns-then-is_empty-clause-exact c =
     let cone = c.in_ok-conversion.conversion.cone in
     let losses = c.in_ok-conversion.conversion.losses.items in
-    let t = taken c.args.given.now.dims c.args.given.now c.in_ok-rows.rows c.in_ok-list.list c.in_ok-whole.field-0 cone (constraints c.in_ok-conversion.conversion.kept) losses
-    c.requires.many c.requires.kinds c.requires.point c.in_ok-rows.ensures.rows c.in_ok-rows.ensures.kinds c.in_ok-rows.ensures.dims
-    (c.in_ok-whole.ensures ∙ ap whole_space c.dims-n.ensures) c.in_ok-conversion.ensures.dims c.in_ok-conversion.ensures.taken c.in_ok-list.ensures.cone
-    c.in_ok-list.ensures.exact c.in_ok-list.ensures.valid in
+    let t = c.in_ok-conversion.ensures in
     let same : length losses ≡ vec_len c.in_ok-conversion.conversion.losses = grind (arith, common_steps) in
     let none : losses ≡ [] = none_of losses (vec_len c.in_ok-conversion.conversion.losses) c.is_empty.result same c.is_empty.ensures c.if-is_empty.true in
-    IfOk-weaker c.of_taken_generators.result _ _ (λ r h e. exact_pair c.args.given.now.dims c.dims-n.result c.args.given.now c.in_ok-list.list cone losses r.0 t none c.dims-n.ensures (h e))
+    IfOk-weaker c.of_taken_generators.result _ _
+    (λ r h e. exact_pair c.args.given.now.dims c.dims-n.result (generators c.args.given.now) c.in_ok-conversion.list cone losses r.0 t none c.dims-n.ensures (h e))
     c.of_taken_generators.ensures.exact
 
 pub returns-then-is_empty-clause-within : goal.returns-then-is_empty-clause-within
 returns-then-is_empty-clause-within c =
     let cone = c.in_ok-conversion.conversion.cone in
     let losses = c.in_ok-conversion.conversion.losses.items in
-    let t = taken c.args.given.now.dims c.args.given.now c.in_ok-rows.rows c.in_ok-list.list c.in_ok-whole.field-0 cone (constraints c.in_ok-conversion.conversion.kept) losses
-    c.requires.many c.requires.kinds c.requires.point c.in_ok-rows.ensures.rows c.in_ok-rows.ensures.kinds c.in_ok-rows.ensures.dims
-    (c.in_ok-whole.ensures ∙ ap whole_space c.dims-n.ensures) c.in_ok-conversion.ensures.dims c.in_ok-conversion.ensures.taken c.in_ok-list.ensures.cone
-    c.in_ok-list.ensures.exact c.in_ok-list.ensures.valid in
+    let t = c.in_ok-conversion.ensures in
     let same : length losses ≡ vec_len c.in_ok-conversion.conversion.losses = grind (arith, common_steps) in
     let none : losses ≡ [] = none_of losses (vec_len c.in_ok-conversion.conversion.losses) c.is_empty.result same c.is_empty.ensures c.if-is_empty.true in
-    IfOk-weaker c.of_taken_generators.result _ _ (λ r h. taken_within c.args.given.now.dims c.dims-n.result c.args.given.now c.in_ok-list.list cone losses (Con r.0.rows) t none c.dims-n.ensures h)
+    IfOk-weaker c.of_taken_generators.result _ _
+    (λ r h. taken_within c.args.given.now.dims c.dims-n.result (generators c.args.given.now) c.in_ok-conversion.list cone losses (Con r.0.rows) t none c.dims-n.ensures h)
     c.of_taken_generators.ensures.within
 
 pub returns-then-is_empty-clause-strain : goal.returns-then-is_empty-clause-strain
 returns-then-is_empty-clause-strain c =
     let cone = c.in_ok-conversion.conversion.cone in
     let losses = c.in_ok-conversion.conversion.losses.items in
-    let t = taken c.args.given.now.dims c.args.given.now c.in_ok-rows.rows c.in_ok-list.list c.in_ok-whole.field-0 cone (constraints c.in_ok-conversion.conversion.kept) losses
-    c.requires.many c.requires.kinds c.requires.point c.in_ok-rows.ensures.rows c.in_ok-rows.ensures.kinds c.in_ok-rows.ensures.dims
-    (c.in_ok-whole.ensures ∙ ap whole_space c.dims-n.ensures) c.in_ok-conversion.ensures.dims c.in_ok-conversion.ensures.taken c.in_ok-list.ensures.cone
-    c.in_ok-list.ensures.exact c.in_ok-list.ensures.valid in
+    let t = c.in_ok-conversion.ensures in
     let same : length losses ≡ vec_len c.in_ok-conversion.conversion.losses = grind (arith, common_steps) in
     let none : losses ≡ [] = none_of losses (vec_len c.in_ok-conversion.conversion.losses) c.is_empty.result same c.is_empty.ensures c.if-is_empty.true in
-    IfOk-weaker c.of_taken_generators.result _ _ (λ r h. taken_strain c.args.given.now.dims c.dims-n.result c.args.given.now c.in_ok-list.list cone losses r.1.items t none c.dims-n.ensures h)
+    IfOk-weaker c.of_taken_generators.result _ _
+    (λ r h. taken_strain c.args.given.now.dims c.dims-n.result (generators c.args.given.now) c.in_ok-conversion.list cone losses r.1.items t none c.dims-n.ensures h)
     c.of_taken_generators.ensures.strain
 
 pub returns-clause-within : goal.returns-clause-within
 returns-clause-within c =
     let cone = c.in_ok-conversion.conversion.cone in
     let losses = c.in_ok-conversion.conversion.losses.items in
-    let t = taken c.args.given.now.dims c.args.given.now c.in_ok-rows.rows c.in_ok-list.list c.in_ok-whole.field-0 cone (constraints c.in_ok-conversion.conversion.kept) losses
-    c.requires.many c.requires.kinds c.requires.point c.in_ok-rows.ensures.rows c.in_ok-rows.ensures.kinds c.in_ok-rows.ensures.dims
-    (c.in_ok-whole.ensures ∙ ap whole_space c.dims-n.ensures) c.in_ok-conversion.ensures.dims c.in_ok-conversion.ensures.taken c.in_ok-list.ensures.cone
-    c.in_ok-list.ensures.exact c.in_ok-list.ensures.valid in
-    IfOk-weaker c.widened.result _ _ (λ r h. within_both c.args.given.now.dims c.in_ok-list.list.dims (Gen (generators c.args.given.now)) (Con (constraints c.in_ok-list.list)) (Con r.0.rows)
-    (c.in_ok-list.ensures.dims ∙ c.in_ok-rows.ensures.dims) t.within h) c.widened.ensures.within
+    let t = c.in_ok-conversion.ensures in
+    IfOk-weaker c.widened.result _ _
+    (λ r h. within_both c.args.given.now.dims c.in_ok-conversion.list.dims (Gen (generators c.args.given.now)) (Con (constraints c.in_ok-conversion.list)) (Con r.0.rows)
+    t.list_dims t.within h) c.widened.ensures.within
 
 pub returns-clause-strain : goal.returns-clause-strain
 returns-clause-strain c =
     let cone = c.in_ok-conversion.conversion.cone in
     let losses = c.in_ok-conversion.conversion.losses.items in
-    let t = taken c.args.given.now.dims c.args.given.now c.in_ok-rows.rows c.in_ok-list.list c.in_ok-whole.field-0 cone (constraints c.in_ok-conversion.conversion.kept) losses
-    c.requires.many c.requires.kinds c.requires.point c.in_ok-rows.ensures.rows c.in_ok-rows.ensures.kinds c.in_ok-rows.ensures.dims
-    (c.in_ok-whole.ensures ∙ ap whole_space c.dims-n.ensures) c.in_ok-conversion.ensures.dims c.in_ok-conversion.ensures.taken c.in_ok-list.ensures.cone
-    c.in_ok-list.ensures.exact c.in_ok-list.ensures.valid in
-    IfOk-weaker c.widened.result _ _ (λ r e. lost_strain c.args.given.now.dims c.args.given.now c.in_ok-list.list cone losses r.1.items t e) c.widened.ensures.losses
+    let t = c.in_ok-conversion.ensures in
+    IfOk-weaker c.widened.result _ _
+    (λ r e. lost_strain c.args.given.now.dims (generators c.args.given.now) c.in_ok-conversion.list cone losses r.1.items t e) c.widened.ensures.losses

@@ -10,8 +10,8 @@ returns-in_ok-pair-in-Err-clause-within c = universe_within c.args.n c.args.n (d
 pub returns-in_ok-pair-in-Err-clause-strain : goal.returns-in_ok-pair-in-Err-clause-strain
 returns-in_ok-pair-in-Err-clause-strain c =
     let cause = rw c.in-Err.is at c.in_ok-own.ensures.cause in
-    later_strain c.args.n c.args.cone.now c.in-Err.cause c.args.losses.items c.push.new.self.items c.in_ok-own_loss-in-Err.field-0 c.requires.dims
-    c.in_ok-own_loss-in-Err.ensures.cone c.in_ok-push-in-Err.ensures.items c.in_ok-own_loss-in-Err.ensures.loss cause
+    later_strain c.args.n c.args.cone.now c.in-Err.cause c.args.losses.items c.push_own_loss.new.losses.items c.requires.dims
+    c.push_own_loss.ensures.cone c.in_ok-push_own_loss-in-Err.ensures.loss cause
 
 pub returns-in_ok-pair-in-Ok-clause-some : goal.returns-in_ok-pair-in-Ok-clause-some
 returns-in_ok-pair-in-Ok-clause-some c = all_of c.args.n (drop 1 c.args.cone.now.taken) c.in_ok-pair-in-Ok.pair c.in_ok-pair-in-Ok.ensures

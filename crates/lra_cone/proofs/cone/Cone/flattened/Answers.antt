@@ -4,7 +4,6 @@ use Rattle.std.specs.Int.{w128}
 use Rattle.std.proofs.lemmas.Int.{to_z-of_z}
 use Rattle.std.proofs.lemmas.Result.{err_from_is_err_and}
 use Rattle.std.proofs.lemmas.List.Elements.{Contains-get_or}
-use Rattle.lra_bits.specs.Matrix.{Matrix}
 use Rattle.lra_sys.specs.Listed.{constraints}
 use Rattle.lra_linear.specs.Kinds.{is_equality}
 use Rattle.lra_cone.specs.Cones.{Shape}
