@@ -56,7 +56,12 @@ pub fn behind(alloc: Global, point: usize, op: Op, node: Node) -> Result<Node, A
 }
 
 /// A block: its items, then the point of its end, where its variables go.
-pub fn block(alloc: Global, point: usize, live: usize, items: Node) -> Result<Node, AllocError>
+pub fn close_block(
+    alloc: Global,
+    point: usize,
+    live: usize,
+    items: Node,
+) -> Result<Node, AllocError>
     ensures { IfOk result (λ g. node_view g
         ≡ graph.seq (node_view items) (graph.seq (graph.point point) (graph.act point (step.keep live)))) }
 {
@@ -65,7 +70,7 @@ pub fn block(alloc: Global, point: usize, live: usize, items: Node) -> Result<No
 }
 
 /// A `for` behind its point: its beginning, then its loop, then its variables go.
-pub fn begun(
+pub fn enclose_for(
     alloc: Global,
     point: usize,
     live: usize,

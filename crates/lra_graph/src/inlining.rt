@@ -23,10 +23,11 @@ ghost use Rattle.lra_graph.specs.Inlining.{IsItem, IsSource};
 ghost use Rattle.lra_graph.specs.Inlining.{IsDeclared, IsLoop, for_of};
 
 use crate::forms::{
-    add_part, begun, behind, behind_point, block, choice, cut_and_leave, in_a_row, rounds,
+    add_part, behind, behind_point, choice, close_block, cut_and_leave, enclose_for, in_a_row,
+    rounds,
 };
 use crate::frame::{Around, Caller, Frame, Repeated};
-use crate::points::{GraphError, Limit, add_point, made};
+use crate::points::{GraphError, Limit, add_point, finish};
 use calls::{callee, end_call, enter_call};
 use lra_operations::{Exit, Node, Op, Site};
 use lra_program::{BlockItem, Call, Cond, Expr, Slot, Source, Stmt};
@@ -98,7 +99,7 @@ fn leave_loop(
     match frame.loop_length {
         Some(length) => {
             let leave = cut_and_leave(around.alloc, point, length, frame.live, exit)?;
-            made(behind_point(around.alloc, point, leave))
+            finish(behind_point(around.alloc, point, leave))
         }
         None => unreachable!(),
     }
@@ -119,7 +120,7 @@ fn assertion(
     let point = add_point(around.alloc, around.path, label, frame.live, true, sites)?;
     let cond = cond.copy(around.alloc)?;
     let check = Node::Check(point, frame.base, cond);
-    made(behind_point(around.alloc, point, check))
+    finish(behind_point(around.alloc, point, check))
 }
 
 /// An assumption: only where its condition is true does the run go on.
@@ -135,7 +136,7 @@ fn assumption_of(
 {
     let point = own_point(around, label, sites)?;
     let test = Op::Test(around.frame.base, cond.copy(around.alloc)?, true);
-    made(behind_point(around.alloc, point, Node::Act(point, test)))
+    finish(behind_point(around.alloc, point, Node::Act(point, test)))
 }
 
 /// A `return` without a value.
@@ -145,7 +146,7 @@ fn return_any(around: &Around<'_>, label: usize, sites: &mut Vec<Site>) -> Resul
     ensures limit { OnLimit result (StopsStmt around.now sites.old (resolved.return label None)) }
 {
     let point = own_point(around, label, sites)?;
-    made(leave_any(around, point))
+    finish(leave_any(around, point))
 }
 
 /// A `return` with a value that no call gives.
@@ -162,7 +163,7 @@ fn return_value(
         (resolved.return label (Some (resolved.value (expr_view value.now))))) }
 {
     let point = own_point(around, label, sites)?;
-    made(leave_value(around, point, value))
+    finish(leave_value(around, point, value))
 }
 
 /// A statement without parts, which makes no call.
@@ -236,7 +237,7 @@ fn inline_simple(
         Stmt::Call(label, call) => {
             let point = own_point(around, *label, sites)?;
             let given = inline_call(around, point, None, call, sites)?;
-            made(behind_point(around.alloc, point, given))
+            finish(behind_point(around.alloc, point, given))
         }
         Stmt::Return(label, source) => inline_return(around, *label, source, sites),
         _ => inline_lone(around, stmt, sites),
@@ -260,7 +261,7 @@ fn inline_block(
 {
     let (body, last) = inline_items(around, items, sites)?;
     let point = add_point(around.alloc, around.path, end, last, false, sites)?;
-    made(block(around.alloc, point, around.frame.live, body))
+    finish(close_block(around.alloc, point, around.frame.live, body))
 }
 
 /// An assignment: its point, and what the variable gets.
@@ -282,7 +283,7 @@ fn inline_assign(
     let point = own_point(around, label, sites)?;
     let target = Some(store_index(around.frame.base, slot));
     let given = inline_source(around, point, target, source, sites)?;
-    made(behind_point(around.alloc, point, given))
+    finish(behind_point(around.alloc, point, given))
 }
 
 /// A choice behind its point: its first branch's points come before those of the second.
@@ -307,7 +308,7 @@ fn inline_if(
     let on_true = inline_stmt(around, on_true, sites)?;
     let on_false = inline_stmt(around, on_false, sites)?;
     let base = around.frame.base;
-    made(choice(around.alloc, point, base, cond, on_true, on_false))
+    finish(choice(around.alloc, point, base, cond, on_true, on_false))
 }
 
 /// The items, and how many variables live behind them.
@@ -391,7 +392,7 @@ fn inline_declared(
             };
             let behind_it = Around { frame, ..*around };
             let given = inline_source(&behind_it, point, Some(place), source, sites)?;
-            made(behind(around.alloc, point, Op::Append, given))
+            finish(behind(around.alloc, point, Op::Append, given))
         }
     }
 }
@@ -446,7 +447,7 @@ fn inline_loop(
     };
     let body = inline_stmt(&Around { frame, ..*around }, body, sites)?;
     let base = around.frame.base;
-    made(rounds(around.alloc, point, base, cond, body, step))
+    finish(rounds(around.alloc, point, base, cond, body, step))
 }
 
 /// A `for`: its point, at which its variables live already, its beginning, and its loop, behind which they go.
@@ -483,7 +484,7 @@ fn inline_for(
         repeated.step,
         sites,
     )?;
-    made(begun(around.alloc, point, around.frame.live, init, again))
+    finish(enclose_for(around.alloc, point, around.frame.live, init, again))
 }
 
 /// A `return`: its point, and what leaves the call that runs, or `main`; a call that gives the value is made in both.
@@ -507,7 +508,7 @@ fn inline_return(
             let point = own_point(around, label, sites)?;
             let target = receiver_of(around.frame.back);
             let given = inline_call(around, point, target, call, sites)?;
-            made(leave_call(around, point, given))
+            finish(leave_call(around, point, given))
         }
     }
 }

@@ -44,7 +44,7 @@ impl From<AllocError> for GraphError {
 }
 
 /// What is made of its parts, where only the memory may fail.
-pub fn made(tree: Result<Node, AllocError>) -> Result<Node, GraphError>
+pub fn finish(tree: Result<Node, AllocError>) -> Result<Node, GraphError>
     ensures tree { IfOk result (λ g. tree ≡ Ok g) }
     ensures memory { OnLimit result (λ _. ⊥) }
 {

@@ -8,7 +8,7 @@ ghost use Rattle.lra_graph.specs.Inlining.{program_around, CallStands, IsCall, S
 
 use crate::forms::{CallPlace, enclose_call};
 use crate::frame::{Around, Back, Caller, Frame};
-use crate::points::{GraphError, Limit, add_point, made};
+use crate::points::{GraphError, Limit, add_point, finish};
 use lra_operations::{Node, Path, Site};
 use lra_program::{Call, Function};
 
@@ -81,5 +81,5 @@ pub fn end_call(
         target: caller.target,
     };
     let parameters = call.arguments.len();
-    made(enclose_call(around.alloc, place, &call.arguments, parameters, inside))
+    finish(enclose_call(around.alloc, place, &call.arguments, parameters, inside))
 }

@@ -240,7 +240,7 @@ inline_for-returns-clause-written t c =
     let here = c.args.around.now in
     let r = c.args.repeated.now in
     let b = items_of (map item_view c.args.init.now) in
-    made_ok c.made.result c.begun.result _ _ c.made.ensures.tree c.begun.ensures
+    made_ok c.finish.result c.enclose_for.result _ _ c.finish.ensures.tree c.enclose_for.ensures
     (λ g a. for_written (program_around here) here.path.now here.frame _ _ _ _ c.in_ok-point.point r.label c.in-Some.live b (cond_view r.cond.now) (stmt_view r.body.now) (stmt_view r.step.now) _ _ _
     (node_view g)
     c.in_ok-point.ensures.number c.in-Some.ensures c.in_ok-point.ensures.walked c.in_ok-init.ensures.written c.in_ok-again.ensures.written refl a)
@@ -270,7 +270,7 @@ inline_loop-returns-in_err-body-clause-limit t c =
 pub inline_loop-returns-clause-written : goal.inline_loop-returns-clause-written
 inline_loop-returns-clause-written t c =
     let here = c.args.around.now in
-    made_ok c.made.result c.rounds.result _ _ c.made.ensures.tree c.rounds.ensures
+    made_ok c.finish.result c.rounds.result _ _ c.finish.ensures.tree c.rounds.ensures
     (λ g a. rounds_written (program_around here) here.path.now here.frame _ _ _ c.args.point (cond_view c.args.cond.now) (stmt_view c.args.body.now) (stmt_view c.args.step.now) _ _ (node_view g)
     c.in_ok-step.ensures.written c.in_ok-body.ensures.written a)
 
@@ -326,7 +326,7 @@ inline_block-returns-in_err-point-clause-limit t c =
 pub inline_block-returns-clause-written : goal.inline_block-returns-clause-written
 inline_block-returns-clause-written t c =
     let here = c.args.around.now in
-    made_ok c.made.result c.block.result _ _ c.made.ensures.tree c.block.ensures
+    made_ok c.finish.result c.close_block.result _ _ c.finish.ensures.tree c.close_block.ensures
     (λ g a. block_written (program_around here) here.path.now here.frame _ _ _ c.in_ok-point.point c.in_ok-body.last c.args.end _ _ _
     (node_view g) c.in_ok-body.ensures.written c.in_ok-body.ensures.last
     c.in_ok-point.ensures.number c.in_ok-point.ensures.walked refl a)
@@ -365,7 +365,7 @@ inline_assign-returns-in_err-given-clause-limit t c =
 pub inline_assign-returns-clause-written : goal.inline_assign-returns-clause-written
 inline_assign-returns-clause-written t c =
     let here = c.args.around.now in
-    made_ok c.made.result c.behind_point.result _ _ c.made.ensures.tree c.behind_point.ensures
+    made_ok c.finish.result c.behind_point.result _ _ c.finish.ensures.tree c.behind_point.ensures
     (λ g a. assign_written (program_around here) here.path.now here.frame _ _ _ c.in_ok-point.point c.args.label c.store_index.result (slot_view c.args.slot) (source_view c.args.source.now) _
     (node_view g)
     c.in_ok-point.ensures.number c.in_ok-point.ensures.walked c.store_index.ensures c.in_ok-given.ensures.written a)
@@ -414,7 +414,7 @@ inline_if-returns-in_err-on_false-clause-limit t c =
 pub inline_if-returns-clause-written : goal.inline_if-returns-clause-written
 inline_if-returns-clause-written t c =
     let here = c.args.around.now in
-    made_ok c.made.result c.choice.result _ _ c.made.ensures.tree c.choice.ensures
+    made_ok c.finish.result c.choice.result _ _ c.finish.ensures.tree c.choice.ensures
     (λ g a. if_written (program_around here) here.path.now here.frame _ _ _ _ c.in_ok-point.point c.args.label (cond_view c.args.cond.now) (stmt_view c.args.on_true.now)
     (stmt_view c.args.on_false.now) _ _ _
     (node_view g) c.in_ok-point.ensures.number c.in_ok-point.ensures.walked c.in_ok-on_true.ensures.written c.in_ok-on_false.ensures.written refl a)
@@ -613,33 +613,33 @@ inline_call-returns-clause-limit t c =
 pub inline_declared-returns-in_ok-given-in-Some-clause-written : goal.inline_declared-returns-in_ok-given-in-Some-clause-written
 inline_declared-returns-in_ok-given-in-Some-clause-written t c =
     let here = c.args.around.now in
-    rw c.in-Some.is (made_ok c.made.result c.behind.result _ _ c.made.ensures.tree c.behind.ensures
+    rw c.in-Some.is (made_ok c.finish.result c.behind.result _ _ c.finish.ensures.tree c.behind.ensures
     (λ g a. given_written (program_around here) here.path.now here.frame _ _ c.args.point (here.frame.live + 1) (source_view c.in-Some.source) _ (node_view g)
     (omega arith) c.in_ok-given-in-Some.ensures.written a))
 
 pub inline_block-returns-clause-limit : goal.inline_block-returns-clause-limit
 inline_block-returns-clause-limit t c =
-    made_limit c.made.result _ c.made.ensures.memory
+    made_limit c.finish.result _ c.finish.ensures.memory
 
 pub inline_assign-returns-clause-limit : goal.inline_assign-returns-clause-limit
 inline_assign-returns-clause-limit t c =
-    made_limit c.made.result _ c.made.ensures.memory
+    made_limit c.finish.result _ c.finish.ensures.memory
 
 pub inline_if-returns-clause-limit : goal.inline_if-returns-clause-limit
 inline_if-returns-clause-limit t c =
-    made_limit c.made.result _ c.made.ensures.memory
+    made_limit c.finish.result _ c.finish.ensures.memory
 
 pub inline_for-returns-clause-limit : goal.inline_for-returns-clause-limit
 inline_for-returns-clause-limit t c =
-    made_limit c.made.result _ c.made.ensures.memory
+    made_limit c.finish.result _ c.finish.ensures.memory
 
 pub inline_loop-returns-clause-limit : goal.inline_loop-returns-clause-limit
 inline_loop-returns-clause-limit t c =
-    made_limit c.made.result _ c.made.ensures.memory
+    made_limit c.finish.result _ c.finish.ensures.memory
 
 pub inline_declared-returns-in_ok-given-in-Some-clause-limit : goal.inline_declared-returns-in_ok-given-in-Some-clause-limit
 inline_declared-returns-in_ok-given-in-Some-clause-limit t c =
-    made_limit c.made.result _ c.made.ensures.memory
+    made_limit c.finish.result _ c.finish.ensures.memory
 
 pub inline_return-return_any-requires : goal.inline_return-return_any-requires
 inline_return-return_any-requires t c =
@@ -719,16 +719,16 @@ inline_return-returns-in_ok-given-in-Some-Result-clause-written t c =
     let here = c.args.around.now in
     let is = (shown_result c.args.source.now c.in-Some-Result.field-0 c.in-Some-Result.call c.in-Some-Result.is (rw c.in-Some-Result.is at c.in-Some-Result.field-0-is)) in
     let call = call_view c.in-Some-Result.call in
-    stmt_handed (program_around here) here.path.now here.frame (points_in c.args.sites.now) c.made.result node_view _ (return c.args.label (given_view c.args.source.now))
+    stmt_handed (program_around here) here.path.now here.frame (points_in c.args.sites.now) c.finish.result node_view _ (return c.args.label (given_view c.args.source.now))
     (return c.args.label (Some (result (call_view c.in-Some-Result.call)))) (ap (λ o. return c.args.label o) is)
-    (made_ok c.made.result c.leave_call.result _ _ c.made.ensures.tree c.leave_call.ensures (λ g a. call_returned (program_around here) here.path.now here.frame (points_in c.own_point.new.sites)
+    (made_ok c.finish.result c.leave_call.result _ _ c.finish.ensures.tree c.leave_call.ensures (λ g a. call_returned (program_around here) here.path.now here.frame (points_in c.own_point.new.sites)
     c.in_ok-point-in-Some-Result.point c.requires.stands.back_low (points_in c.args.sites.now) c.args.label (node_view g) c.in_ok-point-in-Some-Result.ensures.number
     c.in_ok-point-in-Some-Result.ensures.walked _ call (node_view c.in_ok-given-in-Some-Result.given)
     (rw c.receiver_of-target.ensures at c.in_ok-given-in-Some-Result.ensures.written) a))
 
 pub inline_return-returns-in_ok-given-in-Some-Result-clause-limit : goal.inline_return-returns-in_ok-given-in-Some-Result-clause-limit
 inline_return-returns-in_ok-given-in-Some-Result-clause-limit t c =
-    made_limit c.made.result _ c.made.ensures.memory
+    made_limit c.finish.result _ c.finish.ensures.memory
 
 pub inline_while-returns-in_err-point-clause-limit : goal.inline_while-returns-in_err-point-clause-limit
 inline_while-returns-in_err-point-clause-limit t c =
@@ -848,11 +848,11 @@ inline_simple-returns-in_ok-given-in-Call-clause-written t c =
     let here = c.args.around.now in
     let is = ap stmt_view c.in-Call.is ∙ shown_call c.in-Call.label c.in-Call.call in
     let call' = call_view c.in-Call.call in
-    stmt_handed (program_around here) here.path.now here.frame (points_in c.args.sites.now) c.made.result node_view _ (stmt_view c.args.stmt.now) (call c.in-Call.label call') is
-    (made_ok c.made.result c.behind_point.result _ _ c.made.ensures.tree c.behind_point.ensures
+    stmt_handed (program_around here) here.path.now here.frame (points_in c.args.sites.now) c.finish.result node_view _ (stmt_view c.args.stmt.now) (call c.in-Call.label call') is
+    (made_ok c.finish.result c.behind_point.result _ _ c.finish.ensures.tree c.behind_point.ensures
     (λ g a. call_written (program_around here) here.path.now here.frame _ _ _ c.in_ok-point-in-Call.point c.in-Call.label call' _ (node_view g) c.in_ok-point-in-Call.ensures.number
     c.in_ok-point-in-Call.ensures.walked c.in_ok-given-in-Call.ensures.written a))
 
 pub inline_simple-returns-in_ok-given-in-Call-clause-limit : goal.inline_simple-returns-in_ok-given-in-Call-clause-limit
 inline_simple-returns-in_ok-given-in-Call-clause-limit t c =
-    made_limit c.made.result _ c.made.ensures.memory
+    made_limit c.finish.result _ c.finish.ensures.memory

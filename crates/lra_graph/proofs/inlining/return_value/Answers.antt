@@ -9,10 +9,10 @@ use Rattle.lra_graph.proofs.inlining.return_value.Goals as goal
 pub returns-clause-written : goal.returns-clause-written
 returns-clause-written c =
     let here = c.args.around.now in
-    made_ok c.made.result c.leave_value.result _ _ c.made.ensures.tree c.leave_value.ensures
+    made_ok c.finish.result c.leave_value.result _ _ c.finish.ensures.tree c.leave_value.ensures
     (λ g a. value_returned (program_around here) here.path.now here.frame (points_in c.own_point.new.sites) c.in_ok-point.point c.requires.back_low (points_in c.args.sites.now) c.args.label
     (node_view g)
     c.in_ok-point.ensures.number c.in_ok-point.ensures.walked (expr_view c.args.value.now) a)
 
 pub returns-clause-limit : goal.returns-clause-limit
-returns-clause-limit c = made_limit c.made.result _ c.made.ensures.memory
+returns-clause-limit c = made_limit c.finish.result _ c.finish.ensures.memory

@@ -28,7 +28,7 @@ returns-clause-written c =
     let here = c.args.around.now in
     let call = call_view c.args.call.now in
     let fn = c.callee-function.result.now in
-    made_ok c.made.result c.enclose_call.result _ _ c.made.ensures.tree c.enclose_call.ensures
+    made_ok c.finish.result c.enclose_call.result _ _ c.finish.ensures.tree c.enclose_call.ensures
     (λ g a S w. end_written (program_around here) here.path.now here.frame c.args.caller.target call S (points_in c.args.sites.now) (node_view c.args.body.0) c.args.body.1 w (function_view fn)
     c.callee-function.ensures c.args.path.now c.requires.within (points_in c.add_point.new.sites) c.args.caller.point c.in_ok-end.end c.len-parameters.result (node_view g)
     (called_fits here.program.now here.frame c.args.call.now c.requires.stands fn c.callee-function.ensures)
@@ -36,4 +36,4 @@ returns-clause-written c =
     c.in_ok-end.ensures.walked (rw c.deref.ensures.value at a))
 
 pub returns-clause-limit : goal.returns-clause-limit
-returns-clause-limit c = made_limit c.made.result _ c.made.ensures.memory
+returns-clause-limit c = made_limit c.finish.result _ c.finish.ensures.memory
