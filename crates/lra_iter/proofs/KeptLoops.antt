@@ -19,8 +19,6 @@ use Rattle.lra_iter.specs.Outcome.{ended, seen, AreMet, Catches, IsKept, IsPasse
 use Rattle.lra_iter.specs.Memory.{IsRecalled, AreRecalled, MayRecall, Remembers, StaysKept}
 use Rattle.lra_iter.specs.declared.outcome.Turn.{Turn}
 use Rattle.lra_iter.proofs.Again.{none_noted, none_before, kept_passed, passed_kept, all_noted}
-use Rattle.lra_iter.proofs.PassLoops.{NarrowLoop, narrow_ends}
-use Rattle.lra_iter.proofs.PassSteps.{loop_passed}
 
 -- what is flagged later, if anything was before
 abbrev pub Later : Option ℕ → Option ℕ → Type 0
@@ -121,18 +119,7 @@ module _ {V H : Type 0} (m : Meaning V H) (set : Options) where
         recall_later loops f r.flag new (passed_later m set (iterate q base c a) f v r passed)
         (subst (λ (kept : Vec (KeptLoop V) Global). All (IsRecalled m set loops f) kept.items) (sym same) all)
 
-    pub remembers_round : (f f1 f2 : Option ℕ) (old new : Memory V) → Remembers m set (iterate q base c a) f old →
-        StaysKept m set (iterate q base c a) f old f1 new → Later f1 f2 → Remembers m set a f2 new
-    remembers_round f f1 f2 old new (loops, has, all) stays later =
-        (loops, has.1, recall_later loops f1 f2 new later (stays loops has all))
-
-    pub stays_round : (f f1 f2 f3 : Option ℕ) (old between new : Memory V) →
-        StaysKept m set (iterate q base c a) f old f1 between → Later f1 f2 → StaysKept m set a f2 between f3 new
-        → StaysKept m set (iterate q base c a) f old f3 new
-    stays_round f f1 f2 f3 old between new one later two loops has all =
-        two loops has.1 (recall_later loops f1 f2 between later (one loops has all))
-
-    pub stays_finished : (f f1 : Option ℕ) (v : V) (r : Result V) (old between new : Memory V) →
+    stays_finished : (f f1 : Option ℕ) (v : V) (r : Result V) (old between new : Memory V) →
         StaysKept m set (iterate q base c a) f old f1 between → IsPassed m set (iterate q base c a) f v r
         → ((loops : ℕ → Node) → MayRecall m set loops f1 between → IsKept m set (loops q) r.flag v r →
         MayRecall m set loops r.flag new) → StaysKept m set (iterate q base c a) f old r.flag new
@@ -215,17 +202,6 @@ module _ {V H : Type 0} (m : Meaning V H) (set : Options) where
       subst (λ (x : Option (Turn V)). AreGiven m set g inside on x) is (gives now) in
       stays_since g f inside turn.outcome.flag memory memory (later_noted q e f inside flagged)
       (stays_passed g inside on (seen turn.outcome) memory found.1)
-
-  -- what is left behind the narrowing
-  pub narrowed_passed : (q base : ℕ) (c : Cond) (a : Node) (first : V) (f : Option ℕ) (left : ℕ) (top entered : V)
-      (last r : Result V) (old memory : Memory V)
-      (loop : NarrowLoop m set q base c a first f left top entered last old memory) → left ≡ 0 →
-      LeavesWith m q base c top last r → m.dims r.normal ≡ m.dims top
-      → IsPassed m set (iterate q base c a) f first r
-  narrowed_passed q base c a first f left top entered last r old memory loop none left_with dims =
-      loop_passed m set q base c a f first loop.start top loop.round last r loop.grown
-      (narrow_ends m set q base c a first f left top entered last old memory loop none) left_with loop.dims dims
-      loop.jumps
 
   -- what is kept of the loop at this place, which began with the same value
   pub recalled : (loops : ℕ → Node) (point : ℕ) (f : Option ℕ) (kept : List (KeptLoop V)) (place : ℕ) (one : KeptLoop V)

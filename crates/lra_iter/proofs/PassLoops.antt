@@ -21,7 +21,7 @@ use Rattle.lra_iter.specs.declared.heads.Growing.{Growing}
 use Rattle.lra_iter.specs.declared.memory.Memory.{Memory}
 use Rattle.lra_iter.specs.Heads.{IsValued, GrowsBy}
 use Rattle.lra_iter.specs.Memory.{StaysKept}
-use Rattle.lra_iter.specs.Outcome.{headed, AllHave, AreKept, HasGrown, IsKept, JumpsFit}
+use Rattle.lra_iter.specs.Outcome.{headed, AllHave, AreKept, HasGrown, IsKept, JumpsFit, NarrowsTo}
 
 -- the head grew from the first value: however it grows on, it is a growth of that; the last turn may be given again
 pub record GrowLoop {V H : Type 0} (m : Meaning V H) (set : Options) (q base : ℕ) (c : Cond) (a : graph.Node)
@@ -42,22 +42,17 @@ pub record HeadLoop {V H : Type 0} (m : Meaning V H) (set : Options) (q base : �
   pub valued : IsValued m q so_far growing.head growing.value growing.flag
   pub loop : GrowLoop m set q base c a first f growing.left so_far growing.head turn old memory
 
--- what is narrowed on is a narrowing from the first round, with which the head was stable; `entered` came into the body
--- last
+-- what is narrowed on is a narrowing from the round with which the head was stable; `entered` came into the body last
 pub record NarrowLoop {V H : Type 0} (m : Meaning V H) (set : Options) (q base : ℕ) (c : Cond) (a : graph.Node)
-    (first : V) (f : Option ℕ) (left : ℕ) (top entered : V) (last : Result V)
+    (first start : V) (round : Result V) (left : ℕ) (top entered : V) (last : Result V)
     (old memory : Memory V) : Type 0 where
-  pub start : V
-  pub round : Result V
-  pub grown : HasGrown m set q base c a first f start round
   pub dims : m.dims top ≡ m.dims first
   pub behind : m.dims last.normal ≡ m.dims first
   pub jumps : JumpsFit m a (m.dims first) last
   pub kept : IsKept m set a last.flag entered last
-  pub stays : StaysKept m set (graph.iterate q base c a) f old last.flag memory
+  pub stays : StaysKept m set a round.flag old last.flag memory
   pub narrows : (v : V) (r : Result V) → Narrows V H (dropping m) q base c (Pass V H (dropping m) set a) left first top
-      (headed q top last) v r
-      → Narrows V H (dropping m) q base c (Pass V H (dropping m) set a) set.narrow first start round v r
+      (headed q top last) v r → NarrowsTo m set q base c a first start (headed q start round) v r
 
 module _ {V H : Type 0} (m : Meaning V H) (set : Options) (q base : ℕ) (c : Cond) (a : graph.Node) where
   -- a head begins
@@ -144,38 +139,29 @@ module _ {V H : Type 0} (m : Meaning V H) (set : Options) (q base : ℕ) (c : Co
           }
 
   -- a narrowing begins
-  pub narrow_starts : (first u entered : V) (f : Option ℕ) (s : Result V) (old memory : Memory V) →
-      HasGrown m set q base c a first f u (headed q u s) → m.dims u ≡ m.dims first → m.dims s.normal ≡ m.dims first
-      → JumpsFit m a (m.dims first) s → IsKept m set a s.flag entered s →
-      StaysKept m set (graph.iterate q base c a) f old s.flag memory
-      → NarrowLoop m set q base c a first f set.narrow u entered s old memory
-  narrow_starts first u entered f s old memory grown dims behind jumps kept stays =
-      record {
-        start = u;
-        round = headed q u s;
-        grown = grown;
-        dims = dims;
-        behind = behind;
-        jumps = jumps;
-        kept = kept;
-        stays = stays;
-        narrows = λ v r h. h;
-      }
+  pub narrow_starts : (first u entered : V) (s : Result V) (memory : Memory V) → m.dims u ≡ m.dims first →
+      m.dims s.normal ≡ m.dims first → JumpsFit m a (m.dims first) s → IsKept m set a s.flag entered s
+      → NarrowLoop m set q base c a first u s set.narrow u entered s memory memory
+  narrow_starts first u entered s memory dims behind jumps kept = record {
+    dims = dims;
+    behind = behind;
+    jumps = jumps;
+    kept = kept;
+    stays = λ loops has all. all;
+    narrows = λ v r h. h;
+  }
 
   -- one round of narrowing more
-  pub narrow_next : (first : V) (f : Option ℕ) (left k : ℕ) (top next entered on : V) (last turned : Result V)
+  pub narrow_next : (first start : V) (begun : Result V) (left k : ℕ) (top next entered on : V) (last turned : Result V)
       (e : Exactness) (so_far : Option ℕ) (old memory new : Memory V)
-      → NarrowLoop m set q base c a first f left top entered last old memory → left ≡ suc k →
+      → NarrowLoop m set q base c a first start begun left top entered last old memory → left ≡ suc k →
       (dropping m).joined first last.normal e next → so_far ≡ noted q e last.flag
       → GoesRound V H (dropping m) q base c (Pass V H (dropping m) set a) so_far next (headed q next turned)
       → m.dims turned.normal ≡ m.dims next → JumpsFit m a (m.dims next) turned → IsKept m set a turned.flag on turned
-      → StaysKept m set (graph.iterate q base c a) f old turned.flag new →
-      NarrowLoop m set q base c a first f k next on turned old new
-  narrow_next first f left k top next entered on last turned e so_far old memory new loop is joined flagged round behind
-      jumps kept stays = record {
-        start = loop.start;
-        round = loop.round;
-        grown = loop.grown;
+      → StaysKept m set a begun.flag old turned.flag new →
+      NarrowLoop m set q base c a first start begun k next on turned old new
+  narrow_next first start begun left k top next entered on last turned e so_far old memory new loop is joined flagged
+      round behind jumps kept stays = record {
         dims = joined.2;
         behind = behind ∙ joined.2;
         jumps = subst (λ (n : ℕ). JumpsFit m a n turned) joined.2 jumps;
@@ -194,11 +180,10 @@ module _ {V H : Type 0} (m : Meaning V H) (set : Options) (q base : ℕ) (c : Co
       }
 
   -- no round is left
-  pub narrow_ends : (first : V) (f : Option ℕ) (left : ℕ) (top entered : V) (last : Result V) (old memory : Memory V)
-      (loop : NarrowLoop m set q base c a first f left top entered last old memory) → left ≡ 0
-      → Narrows V H (dropping m) q base c (Pass V H (dropping m) set a) set.narrow first loop.start loop.round top
-      (headed q top last)
-  narrow_ends first f left top entered last old memory loop is =
+  pub narrow_ends : (first start : V) (begun : Result V) (left : ℕ) (top entered : V) (last : Result V)
+      (old memory : Memory V) (loop : NarrowLoop m set q base c a first start begun left top entered last old memory)
+      → left ≡ 0 → NarrowsTo m set q base c a first start (headed q start begun) top (headed q top last)
+  narrow_ends first start begun left top entered last old memory loop is =
       loop.narrows top (headed q top last)
       (subst (λ (n : ℕ). Narrows V H (dropping m) q base c (Pass V H (dropping m) set a) n first top
       (headed q top last) top (headed q top last)) (sym is) (refl, refl))

@@ -18,7 +18,7 @@ use Rattle.lra_iter.specs.Fits.{live_behind, JumpsWith}
 use Rattle.lra_flow.specs.Operations.{dropping}
 use Rattle.lra_flow.specs.Changes.{AreJoined}
 use Rattle.lra_flow.specs.Pass.{Entry, value, failing, Result, noted, in_turn, values_behind, behind, Pass}
-use Rattle.lra_flow.specs.Pass.{GoesRound, Grows}
+use Rattle.lra_flow.specs.Pass.{GoesRound, Grows, Narrows}
 
 abbrev pub entry_view : {V : Type 0} → entry.Entry V → Entry V
 entry_view (Value q v) = value q v
@@ -85,6 +85,12 @@ abbrev pub HasGrown : {V H : Type 0} → Meaning V H → Options → ℕ → ℕ
 HasGrown {V} {H} m set q base c a first f u s =
     (h : H) × (later : List H) × (dropping m).started first (given_rows (m.dims first) base c) h
     × Grows V H (dropping m) q base c (Pass V H (dropping m) set a) set.limited set.delay f h later u s
+
+-- the value at a stable head and its round, narrowed as often as the options say
+abbrev pub NarrowsTo : {V H : Type 0} → Meaning V H → Options → ℕ → ℕ → Cond → Node → V → V → Result V → V → Result V →
+    Type 0
+NarrowsTo {V} {H} m set q base c a first u s v r =
+    Narrows V H (dropping m) q base c (Pass V H (dropping m) set a) set.narrow first u s v r
 
 -- a result that may be given again for this value: that of a pass from it, whatever was flagged before that. Where
 -- nothing is flagged so far, nothing was flagged then

@@ -30,12 +30,22 @@ fn mode_of(limited: bool, left: u32) -> Mode
 }
 
 /// A loop's head while it grows, its value, the first flagged point so far, and how many rounds of joining are left.
-#[derive(Drop)]
 pub struct Growing<D, H> {
     pub head: H,
     pub value: D,
     pub flag: Option<usize>,
     pub left: u32,
+}
+
+impl<D: Drop, H: Drop> Drop for Growing<D, H> {
+    fn drop(self) {
+        let Growing {
+            head: _,
+            value: _,
+            flag: _,
+            left: _,
+        } = self;
+    }
 }
 
 impl<D: Drop, H: Drop> Growing<D, H> {

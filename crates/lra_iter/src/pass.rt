@@ -14,7 +14,7 @@ ghost use Rattle.lra_flow.specs.Operations.{dropping};
 ghost use Rattle.lra_flow.specs.Pass.{noted};
 ghost use Rattle.lra_iter.specs.Fits.{live_behind, TreeFits};
 ghost use Rattle.lra_iter.specs.Outcome.{ended, headed, seen, AreKept, AreMet, HasGrown, IsKept, IsPassed};
-ghost use Rattle.lra_iter.specs.Outcome.{IsTurned, JumpsFit, LeavesWith};
+ghost use Rattle.lra_iter.specs.Outcome.{IsTurned, JumpsFit, LeavesWith, NarrowsTo};
 ghost use Rattle.lra_iter.specs.Memory.{MayRecall, Remembers, StaysKept};
 
 use crate::catches::catch_jumps;
@@ -240,8 +240,52 @@ fn grow<D: Domain>(
     }
 }
 
-/// A loop: its head grows, is narrowed, and is left where the condition is false. In each round of narrowing the value
-/// at the head becomes the join of the first one with what its last round left; the last round stays.
+/// The value at the head of a loop that is stable, and its round, narrowed: in each further round the value becomes the
+/// join of the first one with what its last round left; the last round stays.
+#[cycle(pass)]
+fn narrow<D: Domain>(
+    alloc: Global,
+    memory: &mut Memory<D>,
+    the_loop: &Loop<'_>,
+    first: &D,
+    grown: D,
+    turn: Turn<D>,
+) -> Result<(D, Turn<D>), AllocError>
+    requires parts { 1 ≤ the_loop.now.options.now.parts }
+    requires few { D.meaning.dims first.now ≤ 2 ^ 30 }
+    requires fits { TreeFits (node_view the_loop.now.body.now) (D.meaning.dims first.now) }
+    requires closed { live_behind (node_view the_loop.now.body.now) (D.meaning.dims first.now) ≡
+        D.meaning.dims first.now }
+    requires dims { D.meaning.dims grown ≡ D.meaning.dims first.now }
+    requires behind { D.meaning.dims turn.outcome.normal ≡ D.meaning.dims first.now }
+    requires jumps { JumpsFit D.meaning (node_view the_loop.now.body.now) (D.meaning.dims first.now)
+        (seen turn.outcome) }
+    requires kept { IsKept D.meaning the_loop.now.options.now (node_view the_loop.now.body.now)
+        turn.outcome.flag turn.entered (seen turn.outcome) }
+    requires remembers { Remembers D.meaning the_loop.now.options.now
+        (node_view the_loop.now.body.now) turn.outcome.flag memory.old }
+    ensures narrows { IfOk result (λ r. NarrowsTo D.meaning the_loop.now.options.now the_loop.now.point
+        the_loop.now.base (cond_view the_loop.now.condition.now) (node_view the_loop.now.body.now) first.now grown
+        (headed the_loop.now.point grown (seen turn.outcome)) r.0 (headed the_loop.now.point r.0 (seen r.1.outcome))) }
+    ensures dims { IfOk result (λ r. D.meaning.dims r.0 ≡ D.meaning.dims first.now) }
+    ensures jumps { IfOk result (λ r. JumpsFit D.meaning (node_view the_loop.now.body.now) (D.meaning.dims first.now)
+        (seen r.1.outcome)) }
+    ensures stays { IfOk result (λ r. StaysKept D.meaning the_loop.now.options.now (node_view the_loop.now.body.now)
+        turn.outcome.flag memory.old r.1.outcome.flag memory.new) }
+{
+    let mut top = grown;
+    let mut last = turn;
+    let mut left = the_loop.options.narrow;
+    'narrowing: while left > 0 {
+        let (next, so_far) = narrowed(alloc, the_loop.point, first, &last.outcome)?;
+        top = next;
+        last = round(alloc, memory, the_loop, &top, so_far, Some(last))?;
+        left -= 1;
+    }
+    Ok((top, last))
+}
+
+/// A loop: its head grows, is narrowed, and is left where the condition is false.
 #[cycle(pass)]
 fn pass_loop<D: Domain>(
     alloc: Global,
@@ -267,15 +311,7 @@ fn pass_loop<D: Domain>(
         return Ok(given);
     }
     let (grown, turn) = grow(alloc, memory, the_loop, &value, flag)?;
-    let mut top = grown;
-    let mut last = turn;
-    let mut left = the_loop.options.narrow;
-    'narrowing: while left > 0 {
-        let (next, so_far) = narrowed(alloc, the_loop.point, &value, &last.outcome)?;
-        top = next;
-        last = round(alloc, memory, the_loop, &top, so_far, Some(last))?;
-        left -= 1;
-    }
+    let (top, last) = narrow(alloc, memory, the_loop, &value, grown, turn)?;
     finish(alloc, memory, the_loop, value, top, last)
 }
 

@@ -13,16 +13,16 @@ use Rattle.lra_iter.proofs.PassLoops.{grow_falls, head_starts, head_wide, head_s
 use Rattle.lra_iter.specs.declared.shapes.Shape.{Shape}
 use Rattle.lra_iter.specs.declared.shapes.Shape.TheVariants.{Leaf, Row, Choice, Loop, Catch}
 use Rattle.lra_iter.specs.Shapes.{node_size, row_size, leaf_view, IsShape}
-use Rattle.lra_iter.proofs.PassLoops.{narrow_starts, narrow_next}
-use Rattle.lra_iter.proofs.PassSteps.{caught_have, choice_passed, if_both, passed_given, caught_passed}
+use Rattle.lra_iter.proofs.PassLoops.{narrow_starts, narrow_next, narrow_ends}
+use Rattle.lra_iter.proofs.PassSteps.{caught_have, choice_passed, loop_passed, if_both, passed_given, caught_passed}
 use Rattle.lra_iter.proofs.Again.{all_noted, kept_noted, given_turned, turned}
 use Rattle.lra_iter.proofs.PassRows.{row_at, tree_small, row_done, row_begins, next_fits, next_remembers, row_next}
 use Rattle.lra_iter.proofs.PassRows.{last_fits, last_remembers, row_ends, row_stays}
 use Rattle.lra_iter.proofs.KeptLoops.{later_noted, met_later, stays_same, stays_both, stays_then, stays_since}
 use Rattle.lra_iter.proofs.KeptLoops.{remembers_later, remembers_on, recalled_passed, remembers_body, stays_begun}
-use Rattle.lra_iter.proofs.KeptLoops.{stays_recalled, remembers_round, stays_round, finish_stays, remembers_first}
+use Rattle.lra_iter.proofs.KeptLoops.{stays_recalled, finish_stays, remembers_first}
 use Rattle.lra_iter.proofs.KeptLoops.{remembers_second, stays_choice, stays_given, stays_leaf, stays_caught}
-use Rattle.lra_iter.proofs.KeptLoops.{remembers_given, given_stays, narrowed_passed}
+use Rattle.lra_iter.proofs.KeptLoops.{remembers_given, given_stays}
 use Rattle.lra_iter.specs.Memory.{Remembers, StaysKept}
 use Rattle.lra_iter.proofs.pass.+pass.Goals as goal
 
@@ -233,29 +233,93 @@ pass_loop-returns-in-Some-clause-stays g t c =
     (node_view l.body.now) c.args.flag c.args.value (seen c.in-Some.given) c.args.memory.now c.begin.new.self
     c.begin.ensures.kept passed
 
-pub pass_loop-narrowing-init : goal.pass_loop-narrowing-init
-pass_loop-narrowing-init g t c =
+pub pass_loop-narrow-requires : goal.pass_loop-narrow-requires
+pass_loop-narrow-requires g t c =
+    let m = g.D.Domain.meaning in
     let l = c.args.the_loop.now in
+    let body = node_view l.body.now in
     let grown = c.in_ok-grown.ensures in
-    let turn = c.in_ok-grown.turn in
+    let dims : m.dims c.in_ok-grown.grown ≡ m.dims c.args.value = grown.dims in
+    let behind : m.dims c.in_ok-grown.turn.outcome.normal ≡ m.dims c.args.value = grown.behind in
+    let jumps : JumpsFit m (node_view c.args.the_loop.now.body.now) (m.dims c.args.value) (seen c.in_ok-grown.turn.outcome)
+    = grown.jumps in
+    let kept : IsKept m c.args.the_loop.now.options.now (node_view c.args.the_loop.now.body.now)
+    c.in_ok-grown.turn.outcome.flag c.in_ok-grown.turn.entered (seen c.in_ok-grown.turn.outcome) = grown.kept in
+    let memory : Remembers m c.args.the_loop.now.options.now (node_view c.args.the_loop.now.body.now)
+    c.in_ok-grown.turn.outcome.flag c.grow.new.memory =
+    remembers_on m l.options.now body c.args.flag c.in_ok-grown.turn.outcome.flag c.in_ok-grown.turn.outcome.flag
+    c.begin.new.self c.grow.new.memory
+    (remembers_body m l.options.now l.point l.base (cond_view l.condition.now)
+    body c.args.flag c.args.memory.now c.begin.new.self c.begin.ensures.kept c.requires.remembers)
+    grown.stays (λ none. none) in
+    search rules
+
+pub pass_loop-finish-requires : goal.pass_loop-finish-requires
+pass_loop-finish-requires g t c = subst (λ n. n ≤ 2 ^ 30) (sym c.in_ok-top.ensures.dims) c.requires.few
+
+pub pass_loop-returns-clause-passed : goal.pass_loop-returns-clause-passed
+pass_loop-returns-clause-passed g t c =
+    let m = g.D.Domain.meaning in
+    let l = c.args.the_loop.now in
+    let body = node_view l.body.now in
+    let top = c.in_ok-top.top in
+    let last = seen c.in_ok-top.last.outcome in
+    if_both c.finish.result (λ r. LeavesWith m l.point l.base (cond_view l.condition.now) top last (seen r))
+    (λ r. m.dims r.normal ≡ m.dims top)
+    (λ r. IsPassed m l.options.now (graph.iterate l.point l.base (cond_view l.condition.now) body) c.args.flag
+    c.args.value (seen r))
+    (λ r left dims. loop_passed m l.options.now l.point l.base (cond_view l.condition.now) body c.args.flag
+    c.args.value c.in_ok-grown.grown top (headed l.point c.in_ok-grown.grown (seen c.in_ok-grown.turn.outcome)) last
+    (seen r) c.in_ok-grown.ensures.grows c.in_ok-top.ensures.narrows left c.in_ok-top.ensures.dims dims
+    c.in_ok-top.ensures.jumps)
+    c.finish.ensures.left c.finish.ensures.dims
+
+pub pass_loop-returns-clause-stays : goal.pass_loop-returns-clause-stays
+pass_loop-returns-clause-stays g t c =
+    let m = g.D.Domain.meaning in
+    let l = c.args.the_loop.now in
+    let body = node_view l.body.now in
+    let top = c.in_ok-top.top in
+    let last = c.in_ok-top.last.outcome in
+    let grown = c.in_ok-grown.turn.outcome in
+    let passed = if_both c.finish.result
+    (λ r. LeavesWith m l.point l.base (cond_view l.condition.now) top (seen last) (seen r))
+    (λ r. m.dims r.normal ≡ m.dims top)
+    (λ r. IsPassed m l.options.now (graph.iterate l.point l.base (cond_view l.condition.now) body) c.args.flag
+    c.args.value (seen r))
+    (λ r left dims. loop_passed m l.options.now l.point l.base (cond_view l.condition.now) body c.args.flag
+    c.args.value c.in_ok-grown.grown top (headed l.point c.in_ok-grown.grown (seen grown)) (seen last)
+    (seen r) c.in_ok-grown.ensures.grows c.in_ok-top.ensures.narrows left c.in_ok-top.ensures.dims dims
+    c.in_ok-top.ensures.jumps)
+    c.finish.ensures.left c.finish.ensures.dims in
+    finish_stays m l.options.now l.point l.base (cond_view l.condition.now) body c.args.flag last.flag
+    c.args.value c.finish.result c.args.memory.now c.narrow.new.memory c.finish.new.memory
+    (stays_begun m l.options.now l.point l.base (cond_view l.condition.now) body c.args.flag last.flag
+    c.args.memory.now c.begin.new.self c.narrow.new.memory c.begin.ensures.kept
+    (stays_both m l.options.now body c.args.flag grown.flag grown.flag last.flag c.begin.new.self c.grow.new.memory
+    c.narrow.new.memory c.in_ok-grown.ensures.stays (λ none. none) c.in_ok-top.ensures.stays))
+    passed (c.finish.ensures.keeps l.options.now)
+
+-- a stable head, narrowed ---------------------------------------------------------------------------------------------
+
+pub narrow-narrowing-init : goal.narrow-narrowing-init
+narrow-narrowing-init g t c =
+    let l = c.args.the_loop.now in
     narrow_starts g.D.Domain.meaning l.options.now l.point l.base (cond_view l.condition.now)
-    (node_view l.body.now) c.args.value c.in_ok-grown.grown turn.entered c.args.flag (seen turn.outcome)
-    c.args.memory.now c.grow.new.memory grown.grows grown.dims grown.behind grown.jumps grown.kept
-    (stays_begun g.D.Domain.meaning l.options.now l.point l.base (cond_view l.condition.now)
-    (node_view l.body.now) c.args.flag turn.outcome.flag c.args.memory.now c.begin.new.self c.grow.new.memory
-    c.begin.ensures.kept grown.stays)
+    (node_view l.body.now) c.args.first.now c.args.grown c.args.turn.entered (seen c.args.turn.outcome)
+    c.args.memory.now c.requires.dims c.requires.behind c.requires.jumps c.requires.kept
 
-pub pass_loop-narrowed-requires : goal.pass_loop-narrowed-requires
-pass_loop-narrowed-requires g t c = c.narrowing.invariant.behind
+pub narrow-narrowed-requires : goal.narrow-narrowed-requires
+narrow-narrowed-requires g t c = c.narrowing.invariant.behind
 
-pub pass_loop-round-requires : goal.pass_loop-round-requires
-pass_loop-round-requires g t c =
+pub narrow-round-requires : goal.narrow-round-requires
+narrow-round-requires g t c =
     let m = g.D.Domain.meaning in
     let l = c.args.the_loop.now in
     let body = node_view l.body.now in
     let last = c.narrowing.last in
     let joined = c.in_ok-next.ensures in
-    let same : m.dims c.in_ok-next.next ≡ m.dims c.args.value = joined.1.2 in
+    let same : m.dims c.in_ok-next.next ≡ m.dims c.args.first.now = joined.1.2 in
     let few : m.dims c.in_ok-next.next ≤ 2 ^ 30 = subst (λ n. n ≤ 2 ^ 30) (sym same) c.requires.few in
     let fits : TreeFits (node_view c.args.the_loop.now.body.now) (m.dims c.in_ok-next.next) =
     subst (λ n. TreeFits body n) (sym same) c.requires.fits in
@@ -269,72 +333,47 @@ pass_loop-round-requires g t c =
     (seen last.outcome) c.narrowing.invariant.kept) in
     let memory : Remembers m c.args.the_loop.now.options.now
     (node_view c.args.the_loop.now.body.now) c.in_ok-next.so_far c.narrowing.memory =
-    remembers_round m l.options.now l.point l.base (cond_view l.condition.now) body c.args.flag last.outcome.flag
-    c.in_ok-next.so_far c.args.memory.now c.narrowing.memory c.requires.remembers
-    c.narrowing.invariant.stays (later_noted l.point joined.0 last.outcome.flag c.in_ok-next.so_far joined.2) in
+    remembers_on m l.options.now body c.args.turn.outcome.flag last.outcome.flag c.in_ok-next.so_far c.args.memory.now
+    c.narrowing.memory c.requires.remembers c.narrowing.invariant.stays
+    (later_noted l.point joined.0 last.outcome.flag c.in_ok-next.so_far joined.2) in
     search rules
 
-pub pass_loop-narrowing-preserved : goal.pass_loop-narrowing-preserved
-pass_loop-narrowing-preserved g t c =
+pub narrow-narrowing-preserved : goal.narrow-narrowing-preserved
+narrow-narrowing-preserved g t c =
     let l = c.args.the_loop.now in
+    let body = node_view l.body.now in
     let before = c.narrowing.last in
     let after = c.in_ok-last.last in
     let counts : c.narrowing.left ≡ suc (c.narrowing.left - 1) = omega arith in
-    narrow_next g.D.Domain.meaning l.options.now l.point l.base (cond_view l.condition.now)
-    (node_view l.body.now) c.args.value c.args.flag c.narrowing.left (c.narrowing.left - 1)
+    narrow_next g.D.Domain.meaning l.options.now l.point l.base (cond_view l.condition.now) body
+    c.args.first.now c.args.grown (seen c.args.turn.outcome) c.narrowing.left (c.narrowing.left - 1)
     c.narrowing.top c.in_ok-next.next before.entered after.entered (seen before.outcome)
     (seen after.outcome) c.in_ok-next.ensures.0 c.in_ok-next.so_far c.args.memory.now c.narrowing.memory
-    c.round.new.memory
-    c.narrowing.invariant counts
-    c.in_ok-next.ensures.1
-    c.in_ok-next.ensures.2
+    c.round.new.memory c.narrowing.invariant counts c.in_ok-next.ensures.1 c.in_ok-next.ensures.2
     c.in_ok-last.ensures.turned.round c.in_ok-last.ensures.turned.dims c.in_ok-last.ensures.turned.jumps
     c.in_ok-last.ensures.turned.kept
-    (stays_round g.D.Domain.meaning l.options.now l.point l.base (cond_view l.condition.now)
-    (node_view l.body.now) c.args.flag before.outcome.flag c.in_ok-next.so_far after.outcome.flag
-    c.args.memory.now c.narrowing.memory c.round.new.memory c.narrowing.invariant.stays
+    (stays_both g.D.Domain.meaning l.options.now body c.args.turn.outcome.flag before.outcome.flag
+    c.in_ok-next.so_far after.outcome.flag c.args.memory.now c.narrowing.memory c.round.new.memory
+    c.narrowing.invariant.stays
     (later_noted l.point c.in_ok-next.ensures.0 before.outcome.flag c.in_ok-next.so_far c.in_ok-next.ensures.2)
     c.in_ok-last.ensures.stays)
 
-pub pass_loop-finish-requires : goal.pass_loop-finish-requires
-pass_loop-finish-requires g t c = subst (λ n. n ≤ 2 ^ 30) (sym c.narrowing.invariant.dims) c.requires.few
-
-pub pass_loop-returns-clause-passed : goal.pass_loop-returns-clause-passed
-pass_loop-returns-clause-passed g t c =
-    let m = g.D.Domain.meaning in
+pub narrow-returns-clause-narrows : goal.narrow-returns-clause-narrows
+narrow-returns-clause-narrows g t c =
     let l = c.args.the_loop.now in
-    let body = node_view l.body.now in
-    let last = c.narrowing.last in
     let none : c.narrowing.left ≡ 0 = omega arith in
-    if_both c.finish.result
-    (λ r. LeavesWith m l.point l.base (cond_view l.condition.now) c.narrowing.top (seen last.outcome) (seen r))
-    (λ r. m.dims r.normal ≡ m.dims c.narrowing.top)
-    (λ r. IsPassed m l.options.now (graph.iterate l.point l.base (cond_view l.condition.now) body) c.args.flag
-    c.args.value (seen r))
-    (λ r left dims. narrowed_passed m l.options.now l.point l.base (cond_view l.condition.now) body
-    c.args.value c.args.flag c.narrowing.left c.narrowing.top last.entered (seen last.outcome) (seen r)
-    c.args.memory.now c.narrowing.memory c.narrowing.invariant none left dims)
-    c.finish.ensures.left c.finish.ensures.dims
+    narrow_ends g.D.Domain.meaning l.options.now l.point l.base (cond_view l.condition.now) (node_view l.body.now)
+    c.args.first.now c.args.grown (seen c.args.turn.outcome) c.narrowing.left c.narrowing.top c.narrowing.last.entered
+    (seen c.narrowing.last.outcome) c.args.memory.now c.narrowing.memory c.narrowing.invariant none
 
-pub pass_loop-returns-clause-stays : goal.pass_loop-returns-clause-stays
-pass_loop-returns-clause-stays g t c =
-    let m = g.D.Domain.meaning in
-    let l = c.args.the_loop.now in
-    let body = node_view l.body.now in
-    let last = c.narrowing.last in
-    let none : c.narrowing.left ≡ 0 = omega arith in
-    let passed = if_both c.finish.result
-    (λ r. LeavesWith m l.point l.base (cond_view l.condition.now) c.narrowing.top (seen last.outcome) (seen r))
-    (λ r. m.dims r.normal ≡ m.dims c.narrowing.top)
-    (λ r. IsPassed m l.options.now (graph.iterate l.point l.base (cond_view l.condition.now) body) c.args.flag
-    c.args.value (seen r))
-    (λ r left dims. narrowed_passed m l.options.now l.point l.base (cond_view l.condition.now) body
-    c.args.value c.args.flag c.narrowing.left c.narrowing.top last.entered (seen last.outcome) (seen r)
-    c.args.memory.now c.narrowing.memory c.narrowing.invariant none left dims)
-    c.finish.ensures.left c.finish.ensures.dims in
-    finish_stays m l.options.now l.point l.base (cond_view l.condition.now) body c.args.flag last.outcome.flag
-    c.args.value c.finish.result c.args.memory.now c.narrowing.memory c.finish.new.memory c.narrowing.invariant.stays
-    passed (c.finish.ensures.keeps l.options.now)
+pub narrow-returns-clause-dims : goal.narrow-returns-clause-dims
+narrow-returns-clause-dims g t c = c.narrowing.invariant.dims
+
+pub narrow-returns-clause-jumps : goal.narrow-returns-clause-jumps
+narrow-returns-clause-jumps g t c = c.narrowing.invariant.jumps
+
+pub narrow-returns-clause-stays : goal.narrow-returns-clause-stays
+narrow-returns-clause-stays g t c = c.narrowing.invariant.stays
 
 -- a choice ------------------------------------------------------------------------------------------------------------
 

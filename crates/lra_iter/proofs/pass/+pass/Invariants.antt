@@ -16,12 +16,13 @@ invariant-grow-head g l = HeadLoop g.D.Domain.meaning l.the_loop.options.now l.t
 abbrev pub decreases-grow-head : goal.decreases-grow-head
 decreases-grow-head g l = phased (2 ^ 64) l.head.left (g.D.Domain.meaning.rank l.head.head)
 
-abbrev pub invariant-pass_loop-narrowing : goal.invariant-pass_loop-narrowing
-invariant-pass_loop-narrowing g l = NarrowLoop g.D.Domain.meaning l.the_loop.options.now l.the_loop.point l.the_loop.base (cond_view l.the_loop.condition.now) (node_view l.the_loop.body.now)
-    l.fn.value l.fn.flag l.left l.top l.last.entered (seen l.last.outcome) l.fn.memory l.memory
+abbrev pub invariant-narrow-narrowing : goal.invariant-narrow-narrowing
+invariant-narrow-narrowing g l = NarrowLoop g.D.Domain.meaning l.the_loop.options.now l.the_loop.point l.the_loop.base
+    (cond_view l.the_loop.condition.now) (node_view l.the_loop.body.now) l.first l.fn.grown (seen l.fn.turn.outcome)
+    l.left l.top l.last.entered (seen l.last.outcome) l.fn.memory l.memory
 
-abbrev pub decreases-pass_loop-narrowing : goal.decreases-pass_loop-narrowing
-decreases-pass_loop-narrowing g l = l.left
+abbrev pub decreases-narrow-narrowing : goal.decreases-narrow-narrowing
+decreases-narrow-narrowing g l = l.left
 
 abbrev pub invariant-pass_row-row : goal.invariant-pass_row-row
 invariant-pass_row-row g l = RowLoop g.D.Domain.meaning l.the_row.options.now (row (map node_view l.the_row.trees.now) (node_view l.the_row.last.now)) l.fn.flag l.fn.value
@@ -38,6 +39,9 @@ decreases-round g l = 4 * node_size l.the_loop.now.body.now + 1
 
 abbrev pub decreases-grow : goal.decreases-grow
 decreases-grow g l = 4 * node_size l.the_loop.now.body.now + 2
+
+abbrev pub decreases-narrow : goal.decreases-narrow
+decreases-narrow g l = 4 * node_size l.the_loop.now.body.now + 2
 
 abbrev pub decreases-pass_loop : goal.decreases-pass_loop
 decreases-pass_loop g l = 4 * node_size l.the_loop.now.body.now + 3
