@@ -1,6 +1,6 @@
 //! A loop's head while it grows.
 
-ghost use Rattle.std.specs.Prelude.{◌≡◌, ◌≤◌, ◌^◌, IfOk};
+ghost use Rattle.std.specs.Prelude.{◌≡◌, ◌≤◌, ◌^◌, true, false, IfOk};
 ghost use Rattle.lra_domain.specs.Rank.{RankFits};
 ghost use Rattle.lra_domain.specs.declared.Exactness.{Exactness};
 ghost use Rattle.lra_program.specs.ProgramViews.{cond_view};
@@ -101,30 +101,31 @@ pub fn start<D: Domain>(
     })
 }
 
-/// The head grows by what its round left, unless it is stable.
+/// The head grows by what its round left, unless it is stable under that: whether it is.
 pub fn grow_by<D: Domain>(
     alloc: Global,
     the_loop: &Loop<'_>,
     growing: &mut Growing<D, D::Head>,
     last: &Outcome<D>,
-) -> Result<Grown, AllocError>
+) -> Result<bool, AllocError>
     requires { D.meaning.head_dims growing.old.head ≡ D.meaning.dims last.now.normal }
-    ensures same { IfOk result (λ g. g ≡ Grown.Stable → growing.new.value ≡ growing.old.value) }
-    ensures stays { IfOk result (λ g. g ≡ Grown.Stable → (dropping D.meaning).stays growing.old.head
+    ensures same { IfOk result (λ stable. stable ≡ true → growing.new.value ≡ growing.old.value) }
+    ensures stays { IfOk result (λ stable. stable ≡ true → (dropping D.meaning).stays growing.old.head
         last.now.normal (mode_at the_loop.now.options.now.limited growing.old.left)) }
-    ensures grew { IfOk result (λ g. (a : Exactness) → g ≡ Grown.Grew a →
-        GrowsBy D.meaning the_loop.now.options.now.limited the_loop.now.point a growing.old (seen last.now) growing.new) }
+    ensures grew { IfOk result (λ stable. stable ≡ false → (a : Exactness) ×
+        GrowsBy D.meaning the_loop.now.options.now.limited the_loop.now.point a growing.old (seen last.now)
+        growing.new) }
 {
     let mode = mode_of(the_loop.options.limited, growing.left);
     match D::grow(&mut growing.head, &last.normal, mode)? {
-        Grown::Stable => Ok(Grown::Stable),
+        Grown::Stable => Ok(true),
         Grown::Grew(exactness) => {
             let so_far = note(the_loop.point, exactness, last.flag);
             let (value, inside) = value_of(alloc, the_loop.point, &growing.head, so_far)?;
             growing.value = value;
             growing.flag = inside;
             growing.left = growing.left.saturating_sub(1);
-            Ok(Grown::Grew(exactness))
+            Ok(false)
         }
     }
 }

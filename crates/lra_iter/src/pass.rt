@@ -25,7 +25,7 @@ use crate::outcome::{Entry, Found, Outcome, Turn, given_again, note};
 use crate::shapes::{Choice, Loop, Row, Shape};
 use lra_base::Options;
 use lra_change::{Kept, Sides, leave, split};
-use lra_domain::{Domain, Exactness, Grown};
+use lra_domain::{Domain, Exactness};
 use lra_operations::Node;
 use lra_program::Cond;
 use std::alloc::{AllocError, Global};
@@ -232,9 +232,9 @@ fn grow<D: Domain>(
     let mut kept = None;
     'head: loop {
         let turn = round(alloc, memory, the_loop, &head.value, head.flag, kept)?;
-        match grow_by(alloc, the_loop, &mut head, &turn.outcome)? {
-            Grown::Stable => return Ok((head.into_value(), turn)),
-            Grown::Grew(_exactness) => {}
+        let stable = grow_by(alloc, the_loop, &mut head, &turn.outcome)?;
+        if stable {
+            return Ok((head.into_value(), turn));
         }
         kept = Some(turn);
     }

@@ -1,5 +1,5 @@
--- Goals of the functions that call each other around `pass`: `round`, `grow`, `pass_loop`, `pass_choice`,
--- `pass_row`, `pass`.
+-- Goals of the functions that call each other around `pass`: `round`, `grow`, `narrow`, `pass_loop`,
+-- `pass_choice`, `pass_row`, `pass`.
 use Rattle.std.proofs.Common.{rules, ◌≡◌, ◌≤◌, ◌-◌, ◌+◌, ◌^◌, ◌<◌, suc, Some, map, refl, sym, ap, subst, ◌∙◌, arith}
 use Rattle.lra_program.specs.ProgramViews.{cond_view}
 use Rattle.lra_operations.specs.GraphViews.{node_view, exit_view, row}
@@ -18,7 +18,7 @@ use Rattle.lra_iter.proofs.PassSteps.{caught_have, choice_passed, loop_passed, i
 use Rattle.lra_iter.proofs.Again.{all_noted, kept_noted, given_turned, turned}
 use Rattle.lra_iter.proofs.PassRows.{row_at, tree_small, row_done, row_begins, next_fits, next_remembers, row_next}
 use Rattle.lra_iter.proofs.PassRows.{last_fits, last_remembers, row_ends, row_stays}
-use Rattle.lra_iter.proofs.KeptLoops.{later_noted, met_later, stays_same, stays_both, stays_then, stays_since}
+use Rattle.lra_iter.proofs.KeptLoops.{later_noted, met_later, stays_both, stays_then, stays_since}
 use Rattle.lra_iter.proofs.KeptLoops.{remembers_later, remembers_on, recalled_passed, remembers_body, stays_begun}
 use Rattle.lra_iter.proofs.KeptLoops.{stays_recalled, finish_stays, remembers_first}
 use Rattle.lra_iter.proofs.KeptLoops.{remembers_second, stays_choice, stays_given, stays_leaf, stays_caught}
@@ -122,38 +122,38 @@ grow-round-requires g t c =
 pub grow-grow_by-requires : goal.grow-grow_by-requires
 grow-grow_by-requires g t c = sym (c.in_ok-turn.ensures.turned.dims ∙ c.head.invariant.valued.1.1)
 
-pub grow-returns-in-Stable-clause-grows : goal.grow-returns-in-Stable-clause-grows
-grow-returns-in-Stable-clause-grows g t c =
+pub grow-returns-then-stable-clause-grows : goal.grow-returns-then-stable-clause-grows
+grow-returns-then-stable-clause-grows g t c =
     let m = g.D.Domain.meaning in
     let l = c.args.the_loop.now in
     let body = node_view l.body.now in
     let outcome = seen c.in_ok-turn.turn.outcome in
     let same : c.into_value.result ≡ c.head.head.value = c.into_value.ensures ∙
-    c.in_ok-grow_by.ensures.same c.in-Stable.is in
+    c.in_ok-stable.ensures.same c.if-stable.true in
     subst (λ x. HasGrown m l.options.now l.point l.base (cond_view l.condition.now) body c.args.first.now c.args.flag x
     (headed l.point x outcome)) (sym same)
     (head_stable m l.options.now l.point l.base (cond_view l.condition.now) body c.args.first.now c.args.flag c.head.head
     c.head.kept c.args.memory.now c.head.memory c.head.invariant outcome c.in_ok-turn.ensures.turned.round
-    (c.in_ok-grow_by.ensures.stays c.in-Stable.is))
+    (c.in_ok-stable.ensures.stays c.if-stable.true))
 
-pub grow-returns-in-Stable-clause-dims : goal.grow-returns-in-Stable-clause-dims
-grow-returns-in-Stable-clause-dims g t c =
+pub grow-returns-then-stable-clause-dims : goal.grow-returns-then-stable-clause-dims
+grow-returns-then-stable-clause-dims g t c =
     let m = g.D.Domain.meaning in
     let l = c.args.the_loop.now in
     let same : c.into_value.result ≡ c.head.head.value = c.into_value.ensures ∙
-    c.in_ok-grow_by.ensures.same c.in-Stable.is in
+    c.in_ok-stable.ensures.same c.if-stable.true in
     ap m.dims same ∙ head_wide m l.options.now l.point l.base (cond_view l.condition.now) (node_view l.body.now)
     c.args.first.now c.args.flag c.head.head c.head.kept c.args.memory.now c.head.memory c.head.invariant
 
-pub grow-returns-in-Stable-clause-behind : goal.grow-returns-in-Stable-clause-behind
-grow-returns-in-Stable-clause-behind g t c =
+pub grow-returns-then-stable-clause-behind : goal.grow-returns-then-stable-clause-behind
+grow-returns-then-stable-clause-behind g t c =
     let l = c.args.the_loop.now in
     c.in_ok-turn.ensures.turned.dims ∙ head_wide g.D.Domain.meaning l.options.now l.point l.base
     (cond_view l.condition.now) (node_view l.body.now)
     c.args.first.now c.args.flag c.head.head c.head.kept c.args.memory.now c.head.memory c.head.invariant
 
-pub grow-returns-in-Stable-clause-jumps : goal.grow-returns-in-Stable-clause-jumps
-grow-returns-in-Stable-clause-jumps g t c =
+pub grow-returns-then-stable-clause-jumps : goal.grow-returns-then-stable-clause-jumps
+grow-returns-then-stable-clause-jumps g t c =
     let m = g.D.Domain.meaning in
     let l = c.args.the_loop.now in
     let body = node_view l.body.now in
@@ -161,11 +161,11 @@ grow-returns-in-Stable-clause-jumps g t c =
     c.args.first.now c.args.flag c.head.head c.head.kept c.args.memory.now c.head.memory c.head.invariant in
     subst (λ n. JumpsFit m body n (seen c.in_ok-turn.turn.outcome)) same c.in_ok-turn.ensures.turned.jumps
 
-pub grow-returns-in-Stable-clause-kept : goal.grow-returns-in-Stable-clause-kept
-grow-returns-in-Stable-clause-kept g t c = c.in_ok-turn.ensures.turned.kept
+pub grow-returns-then-stable-clause-kept : goal.grow-returns-then-stable-clause-kept
+grow-returns-then-stable-clause-kept g t c = c.in_ok-turn.ensures.turned.kept
 
-pub grow-returns-in-Stable-clause-stays : goal.grow-returns-in-Stable-clause-stays
-grow-returns-in-Stable-clause-stays g t c =
+pub grow-returns-then-stable-clause-stays : goal.grow-returns-then-stable-clause-stays
+grow-returns-then-stable-clause-stays g t c =
     let l = c.args.the_loop.now in
     let here = c.head.invariant in
     stays_both g.D.Domain.meaning l.options.now (node_view l.body.now) c.args.flag here.so_far
@@ -177,7 +177,7 @@ grow-returns-in-Stable-clause-stays g t c =
 pub grow-head-smaller : goal.grow-head-smaller
 grow-head-smaller g t c =
     let m = g.D.Domain.meaning in
-    let by = c.in_ok-grow_by.ensures.grew c.in-Grew._exactness c.in-Grew.is in
+    let by = (c.in_ok-stable.ensures.grew c.if-stable.false).1 in
     grow_falls c.args.the_loop.now.options.now.limited c.head.head.left c.grow_by.new.growing.left
     (m.rank c.head.head.head) (m.rank c.grow_by.new.growing.head) by.fits by.left by.lower
 
@@ -188,19 +188,20 @@ grow-head-preserved g t c =
     let body = node_view l.body.now in
     let turn = c.in_ok-turn.turn in
     let here = c.head.invariant in
-    let behind = noted l.point c.in-Grew._exactness turn.outcome.flag in
-    let kept = kept_noted m l.options.now body l.point c.in-Grew._exactness turn.outcome.flag
+    let grew = c.in_ok-stable.ensures.grew c.if-stable.false in
+    let behind = noted l.point grew.0 turn.outcome.flag in
+    let kept = kept_noted m l.options.now body l.point grew.0 turn.outcome.flag
     turn.entered (seen turn.outcome) c.in_ok-turn.ensures.turned.kept in
     let all = stays_both m l.options.now body c.args.flag here.so_far c.head.head.flag
     turn.outcome.flag c.args.memory.now c.head.memory c.round.new.memory
     here.loop.stays (later_noted l.point here.valued.0 here.so_far c.head.head.flag here.valued.2)
     c.in_ok-turn.ensures.stays in
     let stays = stays_then m l.options.now body c.args.flag turn.outcome.flag behind c.args.memory.now
-    c.round.new.memory all (later_noted l.point c.in-Grew._exactness turn.outcome.flag behind refl) in
+    c.round.new.memory all (later_noted l.point grew.0 turn.outcome.flag behind refl) in
     head_next m l.options.now l.point l.base (cond_view l.condition.now) body c.args.first.now c.args.flag c.head.head
     c.head.kept c.args.memory.now c.head.memory here (seen turn.outcome) c.in_ok-turn.ensures.turned.round
-    c.in-Grew._exactness c.grow_by.new.growing (Some turn) c.round.new.memory
-    (c.in_ok-grow_by.ensures.grew c.in-Grew._exactness c.in-Grew.is) kept stays
+    grew.0 c.grow_by.new.growing (Some turn) c.round.new.memory
+    grew.1 kept stays
 
 -- a loop, narrowed and left -----------------------------------------------------------------------
 
@@ -602,7 +603,8 @@ pass-returns-in-Row-clause-stays g t c =
     let shape : IsShape c.args.options.now c.args.node.now (Row c.in-Row.the_row) =
     subst (λ (x : Shape). IsShape c.args.options.now c.args.node.now x) c.in-Row.is c.of.ensures in
     stays_given g.D.Domain.meaning c.args.options.now c.in-Row.the_row.options.now (node_view c.args.node.now)
-    (row (map node_view c.in-Row.the_row.trees.now) (node_view c.in-Row.the_row.last.now)) c.args.flag c.pass_row.result c.args.memory.now c.pass_row.new.memory shape.0 shape.2 c.pass_row.ensures.stays
+    (row (map node_view c.in-Row.the_row.trees.now) (node_view c.in-Row.the_row.last.now)) c.args.flag c.pass_row.result c.args.memory.now c.pass_row.new.memory shape.0 shape.2
+    c.pass_row.ensures.stays
 
 pub pass-pass_choice-requires : goal.pass-pass_choice-requires
 pass-pass_choice-requires g t c =
@@ -611,9 +613,11 @@ pass-pass_choice-requires g t c =
     subst (λ (x : Shape). IsShape c.args.options.now c.args.node.now x) c.in-Choice.is c.of.ensures in
     let sized : node_size c.in-Choice.choice.yes.now + node_size c.in-Choice.choice.no.now < node_size c.args.node.now = shape.1 in
     let parts : 1 ≤ c.in-Choice.choice.options.now.parts = subst (λ (s : Options). 1 ≤ s.parts) (sym shape.2) c.requires.parts in
-    let fits : TreeFits (graph.choose c.in-Choice.choice.point c.in-Choice.choice.base (cond_view c.in-Choice.choice.condition.now) (node_view c.in-Choice.choice.yes.now) (node_view c.in-Choice.choice.no.now)) (m.dims c.args.value) =
+    let fits : TreeFits (graph.choose c.in-Choice.choice.point c.in-Choice.choice.base (cond_view c.in-Choice.choice.condition.now) (node_view c.in-Choice.choice.yes.now)
+    (node_view c.in-Choice.choice.no.now)) (m.dims c.args.value) =
     subst (λ x. TreeFits x (m.dims c.args.value)) shape.0 c.requires.fits in
-    let memory : Remembers m c.in-Choice.choice.options.now (graph.choose c.in-Choice.choice.point c.in-Choice.choice.base (cond_view c.in-Choice.choice.condition.now) (node_view c.in-Choice.choice.yes.now) (node_view c.in-Choice.choice.no.now)) c.args.flag c.args.memory.now =
+    let memory : Remembers m c.in-Choice.choice.options.now (graph.choose c.in-Choice.choice.point c.in-Choice.choice.base (cond_view c.in-Choice.choice.condition.now)
+    (node_view c.in-Choice.choice.yes.now) (node_view c.in-Choice.choice.no.now)) c.args.flag c.args.memory.now =
     remembers_given m c.args.options.now c.in-Choice.choice.options.now (node_view c.args.node.now) _ c.args.flag c.args.memory.now
     shape.0 shape.2 c.requires.remembers in
     search rules
@@ -623,14 +627,16 @@ pass-returns-in-Choice-clause-passed g t c =
     let shape : IsShape c.args.options.now c.args.node.now (Choice c.in-Choice.choice) =
     subst (λ (x : Shape). IsShape c.args.options.now c.args.node.now x) c.in-Choice.is c.of.ensures in
     passed_given g.D.Domain.meaning c.args.options.now c.in-Choice.choice.options.now (node_view c.args.node.now)
-    (graph.choose c.in-Choice.choice.point c.in-Choice.choice.base (cond_view c.in-Choice.choice.condition.now) (node_view c.in-Choice.choice.yes.now) (node_view c.in-Choice.choice.no.now)) c.args.flag c.args.value c.pass_choice.result shape.0 shape.2 c.pass_choice.ensures.passed
+    (graph.choose c.in-Choice.choice.point c.in-Choice.choice.base (cond_view c.in-Choice.choice.condition.now) (node_view c.in-Choice.choice.yes.now) (node_view c.in-Choice.choice.no.now))
+    c.args.flag c.args.value c.pass_choice.result shape.0 shape.2 c.pass_choice.ensures.passed
 
 pub pass-returns-in-Choice-clause-stays : goal.pass-returns-in-Choice-clause-stays
 pass-returns-in-Choice-clause-stays g t c =
     let shape : IsShape c.args.options.now c.args.node.now (Choice c.in-Choice.choice) =
     subst (λ (x : Shape). IsShape c.args.options.now c.args.node.now x) c.in-Choice.is c.of.ensures in
     stays_given g.D.Domain.meaning c.args.options.now c.in-Choice.choice.options.now (node_view c.args.node.now)
-    (graph.choose c.in-Choice.choice.point c.in-Choice.choice.base (cond_view c.in-Choice.choice.condition.now) (node_view c.in-Choice.choice.yes.now) (node_view c.in-Choice.choice.no.now)) c.args.flag c.pass_choice.result c.args.memory.now c.pass_choice.new.memory shape.0 shape.2 c.pass_choice.ensures.stays
+    (graph.choose c.in-Choice.choice.point c.in-Choice.choice.base (cond_view c.in-Choice.choice.condition.now) (node_view c.in-Choice.choice.yes.now) (node_view c.in-Choice.choice.no.now))
+    c.args.flag c.pass_choice.result c.args.memory.now c.pass_choice.new.memory shape.0 shape.2 c.pass_choice.ensures.stays
 
 pub pass-pass_loop-requires : goal.pass-pass_loop-requires
 pass-pass_loop-requires g t c =
@@ -643,7 +649,8 @@ pass-pass_loop-requires g t c =
     subst (λ x. TreeFits x (m.dims c.args.value)) shape.0 c.requires.fits in
     let fits : TreeFits (node_view c.in-Loop.the_loop.body.now) (m.dims c.args.value) = both.0 in
     let closed : live_behind (node_view c.in-Loop.the_loop.body.now) (m.dims c.args.value) ≡ m.dims c.args.value = both.1 in
-    let memory : Remembers m c.in-Loop.the_loop.options.now (graph.iterate c.in-Loop.the_loop.point c.in-Loop.the_loop.base (cond_view c.in-Loop.the_loop.condition.now) (node_view c.in-Loop.the_loop.body.now)) c.args.flag c.args.memory.now =
+    let memory : Remembers m c.in-Loop.the_loop.options.now (graph.iterate c.in-Loop.the_loop.point c.in-Loop.the_loop.base (cond_view c.in-Loop.the_loop.condition.now)
+    (node_view c.in-Loop.the_loop.body.now)) c.args.flag c.args.memory.now =
     remembers_given m c.args.options.now c.in-Loop.the_loop.options.now (node_view c.args.node.now) _ c.args.flag c.args.memory.now
     shape.0 shape.2 c.requires.remembers in
     search rules
@@ -653,14 +660,16 @@ pass-returns-in-Loop-clause-passed g t c =
     let shape : IsShape c.args.options.now c.args.node.now (Loop c.in-Loop.the_loop) =
     subst (λ (x : Shape). IsShape c.args.options.now c.args.node.now x) c.in-Loop.is c.of.ensures in
     passed_given g.D.Domain.meaning c.args.options.now c.in-Loop.the_loop.options.now (node_view c.args.node.now)
-    (graph.iterate c.in-Loop.the_loop.point c.in-Loop.the_loop.base (cond_view c.in-Loop.the_loop.condition.now) (node_view c.in-Loop.the_loop.body.now)) c.args.flag c.args.value c.pass_loop.result shape.0 shape.2 c.pass_loop.ensures.passed
+    (graph.iterate c.in-Loop.the_loop.point c.in-Loop.the_loop.base (cond_view c.in-Loop.the_loop.condition.now) (node_view c.in-Loop.the_loop.body.now)) c.args.flag c.args.value c.pass_loop.result
+    shape.0 shape.2 c.pass_loop.ensures.passed
 
 pub pass-returns-in-Loop-clause-stays : goal.pass-returns-in-Loop-clause-stays
 pass-returns-in-Loop-clause-stays g t c =
     let shape : IsShape c.args.options.now c.args.node.now (Loop c.in-Loop.the_loop) =
     subst (λ (x : Shape). IsShape c.args.options.now c.args.node.now x) c.in-Loop.is c.of.ensures in
     stays_given g.D.Domain.meaning c.args.options.now c.in-Loop.the_loop.options.now (node_view c.args.node.now)
-    (graph.iterate c.in-Loop.the_loop.point c.in-Loop.the_loop.base (cond_view c.in-Loop.the_loop.condition.now) (node_view c.in-Loop.the_loop.body.now)) c.args.flag c.pass_loop.result c.args.memory.now c.pass_loop.new.memory shape.0 shape.2 c.pass_loop.ensures.stays
+    (graph.iterate c.in-Loop.the_loop.point c.in-Loop.the_loop.base (cond_view c.in-Loop.the_loop.condition.now) (node_view c.in-Loop.the_loop.body.now)) c.args.flag c.pass_loop.result
+    c.args.memory.now c.pass_loop.new.memory shape.0 shape.2 c.pass_loop.ensures.stays
 
 pub pass-pass-requires : goal.pass-pass-requires
 pass-pass-requires g t c =
