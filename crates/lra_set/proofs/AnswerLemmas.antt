@@ -11,7 +11,8 @@ use Rattle.lra_domain.specs.Laws.{PlainLaws}
 use Rattle.lra_set.specs.Lists.{EachPart}
 use Rattle.lra_set.specs.ListLemmas.{each_map, each_append, each_left, each_right}
 use Rattle.lra_set.specs.Values.{SetHas}
-use Rattle.lra_set.specs.Outcomes.{Told, both, PartFits, HaveDims, IsReduced, AreMerged, BecameOne, LastTwoMeet, IsSettled}
+use Rattle.lra_set.specs.declared.joins.Settling.TheVariants.{Strained, Further}
+use Rattle.lra_set.specs.Outcomes.{Told, both, PartFits, HaveDims, IsReduced, AreMerged, BecameOne, LastTwoMeet, SettlesOnce, IsSettled}
 use Rattle.lra_set.specs.Laws.{nil_front}
 use Rattle.lra_set.proofs.ReductionLemmas.{cover_trans, reduced_covers, reduced_exact, reduced_strains, reduced_each, reduced_fewer}
 use Rattle.lra_set.proofs.SettleLemmas.{meet_covers, meet_strains, merged_each, settled_on, settled_whole}
@@ -113,63 +114,85 @@ pub merged_one_is : {V H : Type 0} (m : Meaning V H) → PlainLaws m → (ps : L
 merged_one_is {V} m pl ps e j qs alone t dims =
     subst (λ (xs : List V). BecameOne m ps xs) (sym alone) (merged_one m pl ps e j t dims)
 
--- the reduced parts fit
-pub reduced_fit : {V H : Type 0} (m : Meaning V H) (n : ℕ) (ps : List V) (e : Exactness) (qs : List V) → IsReduced m ps e qs
-    → EachPart (PartFits m n) ps → EachPart (PartFits m n) qs
-reduced_fit m n ps e qs r fit = reduced_each m (PartFits m n) ps e qs r fit
+-- a round of settling -----------------------------------------------------------------------------------------------------
 
-pub reduced_alike : {V H : Type 0} (m : Meaning V H) (n : ℕ) (ps : List V) (e : Exactness) (qs : List V) → IsReduced m ps e qs
-    → EachPart (PartFits m n) ps → HaveDims m n qs
-reduced_alike m n ps e qs r fit = fits_dims m n qs (reduced_fit m n ps e qs r fit)
-
-pub not_flagged : (e : Exactness) → ¬ (e ≡ Flagged) → e ≡ Exact
+not_flagged : (e : Exactness) → ¬ (e ≡ Flagged) → e ≡ Exact
 not_flagged Exact n = refl
 not_flagged Flagged n = absurd (n refl)
 
--- the answers of the steps as they stand ----------------------------------------------------------------------------------
+pub reduced_alike : {V H : Type 0} (m : Meaning V H) (n : ℕ) (ps : List V) (e : Exactness) (qs : List V) → IsReduced m ps e qs
+    → HaveDims m n ps → HaveDims m n qs
+reduced_alike m n ps e qs r all = reduced_each m (λ p. m.dims p ≡ n) ps e qs r all
 
-pub meet_fit : {V H : Type 0} (m : Meaning V H) → PlainLaws m → (n : ℕ) (ps : List V) (d : Exactness) (mid : List V)
-    (e : Exactness) (next : List V) → IsReduced m ps d mid → LastTwoMeet m mid e next → EachPart (PartFits m n) ps
-    → EachPart (PartFits m n) next
-meet_fit m pl n ps d mid e next r t fit = meet_fits m pl n mid e next t (reduced_fit m n ps d mid r fit)
+pub once_flagged : {V H : Type 0} (m : Meaning V H) (cap : ℕ) (ps : List V) (e : Exactness) (qs : List V) → e ≡ Flagged
+    → cap < length qs → IsReduced m ps e qs → SettlesOnce m cap ps Strained qs
+once_flagged m cap ps e qs is over r = inl (subst (λ (d : Exactness). IsReduced m ps d qs) is r, over)
 
-pub meet_alike : {V H : Type 0} (m : Meaning V H) → PlainLaws m → (n : ℕ) (ps : List V) (d : Exactness) (mid : List V)
-    (e : Exactness) (next : List V) → IsReduced m ps d mid → LastTwoMeet m mid e next → EachPart (PartFits m n) ps
-    → HaveDims m n next
-meet_alike m pl n ps d mid e next r t fit = fits_dims m n next (meet_fit m pl n ps d mid e next r t fit)
+pub once_strained : {V H : Type 0} (m : Meaning V H) (cap : ℕ) (ps : List V) (d : Exactness) (mid : List V) (e : Exactness)
+    (qs : List V) → ¬ (d ≡ Flagged) → e ≡ Flagged → cap < length mid → IsReduced m ps d mid → LastTwoMeet m mid e qs
+    → SettlesOnce m cap ps Strained qs
+once_strained m cap ps d mid e qs lossless is over r t = inr (
+  mid,
+  subst (λ (x : Exactness). IsReduced m ps x mid) (not_flagged d lossless) r,
+  over,
+  subst (λ (x : Exactness). LastTwoMeet m mid x qs) is t,
+)
 
-pub settled_reduced_is : {V H : Type 0} (m : Meaning V H) → PlainLaws m → (n cap : ℕ) (ps : List V) (e : Exactness)
-    (mid qs : List V) → 1 ≤ cap → e ≡ Flagged → IsReduced m ps e mid → BecameOne m mid qs → EachPart (PartFits m n) ps
-    → IsSettled m n cap ps Flagged qs
-settled_reduced_is {V} m pl n cap ps e mid qs some is r b fit =
-    settled_reduced m pl n cap ps mid qs some (subst (λ (d : Exactness). IsReduced m ps d mid) is r) b fit
+pub once_further : {V H : Type 0} (m : Meaning V H) (cap : ℕ) (ps : List V) (d : Exactness) (mid : List V) (e : Exactness)
+    (qs : List V) → ¬ (d ≡ Flagged) → ¬ (e ≡ Flagged) → cap < length mid → IsReduced m ps d mid → LastTwoMeet m mid e qs
+    → SettlesOnce m cap ps Further qs
+once_further m cap ps d mid e qs lossless exact over r t = (
+  mid,
+  subst (λ (x : Exactness). IsReduced m ps x mid) (not_flagged d lossless) r,
+  over,
+  subst (λ (x : Exactness). LastTwoMeet m mid x qs) (not_flagged e exact) t,
+)
 
-pub settled_joined_is : {V H : Type 0} (m : Meaning V H) → PlainLaws m → (n cap : ℕ) (ps : List V) (d : Exactness)
-    (mid : List V) (e : Exactness) (next qs : List V) → 1 ≤ cap → ¬ (d ≡ Flagged) → e ≡ Flagged → cap < length mid
-    → IsReduced m ps d mid → LastTwoMeet m mid e next → BecameOne m next qs → EachPart (PartFits m n) ps
-    → IsSettled m n cap ps Flagged qs
-settled_joined_is m pl n cap ps d mid e next qs some lossless is over r t b fit =
-    settled_joined m pl n cap ps mid next qs some
-    (subst (λ (x : Exactness). IsReduced m ps x mid) (not_flagged d lossless) r) over
-    (subst (λ (x : Exactness). LastTwoMeet m mid x next) is t) b fit
+meet_some : {V H : Type 0} (m : Meaning V H) (ps : List V) (e : Exactness) (qs : List V) → LastTwoMeet m ps e qs → 0 < length qs
+meet_some m ps e qs t =
+    let new = ap length t.new in
+    omega (arith, new, length-append t.front (t.both ∷ []))
 
-pub settled_on_is : {V H : Type 0} (m : Meaning V H) → PlainLaws m → (n cap : ℕ) (ps : List V) (d : Exactness)
-    (mid : List V) (e : Exactness) (next : List V) (f : Exactness) (qs : List V) → ¬ (d ≡ Flagged) → ¬ (e ≡ Flagged)
-    → cap < length mid → IsReduced m ps d mid → LastTwoMeet m mid e next
-    → ((k : ℕ) → EachPart (PartFits m k) next → IsSettled m k cap next f qs) → EachPart (PartFits m n) ps
-    → IsSettled m n cap ps f qs
-settled_on_is m pl n cap ps d mid e next f qs lossless exact over r t s fit =
-    settled_on m pl n cap ps mid next f qs
-    (subst (λ (x : Exactness). IsReduced m ps x mid) (not_flagged d lossless) r) over
-    (subst (λ (x : Exactness). LastTwoMeet m mid x next) (not_flagged e exact) t)
-    (s n (meet_fit m pl n ps d mid e next r t fit))
+-- what is left of it: some parts, which fit
+pub strained_some : {V H : Type 0} (m : Meaning V H) (cap : ℕ) (ps qs : List V) → SettlesOnce m cap ps Strained qs
+    → 0 < length qs
+strained_some m cap ps qs (inl r) = let over = r.1 in omega (arith, over)
+strained_some m cap ps qs (inr (mid, r, over, t)) = meet_some m mid Flagged qs t
 
-pub fewer_next : {V H : Type 0} (m : Meaning V H) (ps : List V) (d : Exactness) (mid : List V) (e : Exactness) (next : List V)
-    → IsReduced m ps d mid → LastTwoMeet m mid e next → length next < length ps
-fewer_next m ps d mid e next r t =
-    let no_more = reduced_fewer m ps d mid r in
-    let fewer = meet_fewer m mid e next t in
+strained_fit : {V H : Type 0} (m : Meaning V H) → PlainLaws m → (n cap : ℕ) (ps qs : List V)
+    → SettlesOnce m cap ps Strained qs → EachPart (PartFits m n) ps → EachPart (PartFits m n) qs
+strained_fit m pl n cap ps qs (inl r) fit = reduced_each m (PartFits m n) ps Flagged qs r.0 fit
+strained_fit m pl n cap ps qs (inr (mid, r, over, t)) fit =
+    meet_fits m pl n mid Flagged qs t (reduced_each m (PartFits m n) ps Exact mid r fit)
+
+pub strained_alike : {V H : Type 0} (m : Meaning V H) → PlainLaws m → (n cap : ℕ) (ps qs : List V)
+    → SettlesOnce m cap ps Strained qs → EachPart (PartFits m n) ps → HaveDims m n qs
+strained_alike m pl n cap ps qs o fit = fits_dims m n qs (strained_fit m pl n cap ps qs o fit)
+
+pub further_fit : {V H : Type 0} (m : Meaning V H) → PlainLaws m → (n cap : ℕ) (ps qs : List V)
+    → SettlesOnce m cap ps Further qs → EachPart (PartFits m n) ps → EachPart (PartFits m n) qs
+further_fit m pl n cap ps qs (mid, r, over, t) fit =
+    meet_fits m pl n mid Exact qs t (reduced_each m (PartFits m n) ps Exact mid r fit)
+
+pub further_fewer : {V H : Type 0} (m : Meaning V H) (cap : ℕ) (ps qs : List V) → SettlesOnce m cap ps Further qs
+    → length qs < length ps
+further_fewer m cap ps qs (mid, r, over, t) =
+    let no_more = reduced_fewer m ps Exact mid r in
+    let fewer = meet_fewer m mid Exact qs t in
     omega (arith, no_more, fewer)
+
+pub settled_strained : {V H : Type 0} (m : Meaning V H) → PlainLaws m → (n cap : ℕ) (ps mid qs : List V) → 1 ≤ cap
+    → SettlesOnce m cap ps Strained mid → BecameOne m mid qs → EachPart (PartFits m n) ps → IsSettled m n cap ps Flagged qs
+settled_strained m pl n cap ps mid qs some (inl r) b fit = settled_reduced m pl n cap ps mid qs some r.0 b fit
+settled_strained m pl n cap ps mid qs some (inr (left, r, over, t)) b fit =
+    settled_joined m pl n cap ps left mid qs some r over t b fit
+
+pub settled_further : {V H : Type 0} (m : Meaning V H) → PlainLaws m → (n cap : ℕ) (ps next : List V) (e : Exactness)
+    (qs : List V) → SettlesOnce m cap ps Further next
+    → ((k : ℕ) → EachPart (PartFits m k) next → IsSettled m k cap next e qs) → EachPart (PartFits m n) ps
+    → IsSettled m n cap ps e qs
+settled_further m pl n cap ps next e qs (mid, r, over, t) s fit =
+    settled_on m pl n cap ps mid next e qs r over t (s n (further_fit m pl n cap ps next (mid, r, over, t) fit))
 
 -- parts as a list has them
 pub refit : {V H : Type 0} (m : Meaning V H) (n k : ℕ) (ps : List V) → n ≡ k → EachPart (PartFits m n) ps

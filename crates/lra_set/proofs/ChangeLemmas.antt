@@ -13,7 +13,7 @@ use Rattle.lra_set.specs.Reduction.{Leaves}
 use Rattle.lra_set.specs.Joins.{Settles, SettleStrains}
 use Rattle.lra_set.specs.Values.{PartsInside, SetDone, SetStrains}
 use Rattle.lra_set.specs.Meaning.{set_meaning}
-use Rattle.lra_set.specs.Outcomes.{PartFits, HaveDims, IsSettled, AreChanged, worse}
+use Rattle.lra_set.specs.Outcomes.{PartFits, HaveDims, IsAppended, IsSettled, AreChanged, worse}
 use Rattle.lra_set.specs.Laws.{parts_within}
 use Rattle.lra_set.proofs.ReductionLemmas.{cover_trans, leaves_each}
 
@@ -218,13 +218,22 @@ append_none {V} m step old ps e = (
 )
 
 pub append_more : {V H : Type 0} (m : Meaning V H) → Laws m → PlainLaws m → (step : Action) (old ps : List V) (p : V)
-    (later : List V) (copied q : V) (one : Exactness) (mid : List V) (two : Exactness) (new : List V)
-    → ps ≡ p ∷ later → copied ≡ p → Meets m step copied one q → m.dims q ≡ dims_after step (m.dims copied)
-    → mid ≡ old ++ filled m (q ∷ []) → Appended m step mid later two new → Appended m step old ps (worse one two) new
-append_more {V} m l pl step old ps p later copied q one mid two new cut same a dims between (qs, ends, c) = (
-  filled m (q ∷ []) ++ qs,
-  ends ∙ ap (λ (xs : List V). xs ++ qs) between ∙ append_assoc old (filled m (q ∷ [])) qs,
-  subst (λ (xs : List V). AreChanged m step xs (worse one two) (filled m (q ∷ []) ++ qs)) (sym cut)
-      (changed_more m l pl step p q later qs one two (subst (λ (x : V). Meets m step x one q) same a)
-      (dims ∙ ap (λ (x : V). dims_after step (m.dims x)) same) c),
+    (later : List V) (one : Exactness) (mid : List V) (two : Exactness) (new : List V)
+    → ps ≡ p ∷ later → IsAppended m step p one old mid → Appended m step mid later two new
+    → Appended m step old ps (worse one two) new
+append_more {V} m l pl step old ps p later one mid two new cut a (qs, ends, c) = (
+  filled m (a.part ∷ []) ++ qs,
+  ends ∙ ap (λ (xs : List V). xs ++ qs) a.appended ∙ append_assoc old (filled m (a.part ∷ [])) qs,
+  subst (λ (xs : List V). AreChanged m step xs (worse one two) (filled m (a.part ∷ []) ++ qs)) (sym cut)
+      (changed_more m l pl step p a.part later qs one two a.meets a.dims c),
 )
+
+pub one_appended : {V H : Type 0} (m : Meaning V H) (step : Action) (p copied q : V) (e : Exactness) (before after : List V)
+    → copied ≡ p → Meets m step copied e q → m.dims q ≡ dims_after step (m.dims copied)
+    → after ≡ before ++ filled m (q ∷ []) → IsAppended m step p e before after
+one_appended {V} m step p copied q e before after same a dims is = record {
+  part = q;
+  meets = subst (λ (x : V). Meets m step x e q) same a;
+  dims = dims ∙ ap (λ (x : V). dims_after step (m.dims x)) same;
+  appended = is;
+}

@@ -1,20 +1,18 @@
 -- Lemmas on the steps of the code of heads.
-use Rattle.std.proofs.Common.{◌≡◌, ℕ, List, [], ◌++◌, Option, ap, subst, ◌∙◌}
+use Rattle.std.proofs.Common.{◌≡◌, ℕ, List, subst, ◌∙◌}
 use Rattle.lra_sys.specs.Listed.{Listed}
 use Rattle.lra_linear.specs.declared.ConKind.{ConKind}
 use Rattle.lra_domain.specs.declared.Exactness.{Exactness}
 use Rattle.lra_domain.specs.declared.Included.{Included}
-use Rattle.lra_domain.specs.declared.Mode.{Mode}
-use Rattle.lra_domain.specs.declared.Grown.{Grown}
 use Rattle.lra_domain.specs.Meaning.{Meaning}
 use Rattle.lra_domain.specs.Rank.{RankFits}
 use Rattle.lra_domain.specs.Laws.{Laws}
 use Rattle.lra_set.specs.Lists.{SomePart}
-use Rattle.lra_set.specs.Content.{Parts, Form, one, whole, Head}
+use Rattle.lra_set.specs.Content.{Form, one, whole}
 use Rattle.lra_set.specs.Values.{PartsInside}
 use Rattle.lra_set.specs.Heads.{FormStarts}
 use Rattle.lra_set.specs.Outcomes.{Told}
-use Rattle.lra_set.specs.Growth.{BecomesOne, LiesIn, OneAnswers, StartsAnew}
+use Rattle.lra_set.specs.Growth.{StartsAnew}
 use Rattle.lra_set.specs.Forms.{FormFits, HeadFits}
 use Rattle.lra_set.proofs.HeadLemmas.{whole_fits}
 
@@ -43,11 +41,6 @@ fits_one m n c given f h fits dims rank =
     record { small = fits.small; some = fits.some; few = fits.few; rows = fits.rows; form = (dims, rank) }
 
 -- facts on lists as the code has them
-pub told_as : {V H : Type 0} (m : Meaning V H) (old new : H) (qs ps : List V) (mode : Mode) (o i : Option Grown) → qs ≡ ps
-    → o ≡ i → OneAnswers m old qs mode o new → OneAnswers m old ps mode i new
-told_as {V} m old new qs ps mode o i e d t = subst (λ (xs : List V). OneAnswers m old xs mode i new) e
-    (subst (λ (x : Option Grown). OneAnswers m old qs mode x new) d t)
-
 pub told_lists : {V H : Type 0} (m : Meaning V H) (qs rs ps zs : List V) (i k : Included) → qs ≡ rs → ps ≡ zs → i ≡ k
     → Told (PartsInside m.inside qs ps) (SomePart (λ q. SomePart (m.inside_strains q) ps) qs) i
     → Told (PartsInside m.inside rs zs) (SomePart (λ q. SomePart (m.inside_strains q) zs) rs) k
@@ -55,19 +48,6 @@ told_lists {V} m qs rs ps zs i k e d f t = subst
     (λ (x : Included). Told (PartsInside m.inside rs zs) (SomePart (λ q. SomePart (m.inside_strains q) zs) rs) x) f
     (subst (λ (xs : List V). Told (PartsInside m.inside xs zs) (SomePart (λ q. SomePart (m.inside_strains q) zs) xs) i) e
     (subst (λ (xs : List V). Told (PartsInside m.inside qs xs) (SomePart (λ q. SomePart (m.inside_strains q) xs) qs) i) d t))
-
-pub becomes_as : {V H : Type 0} (m : Meaning V H) (given : Listed ConKind) (ps zs qs rs : List V) (mode : Mode)
-    (o i : Option H) → ps ≡ zs → qs ≡ rs → o ≡ i → BecomesOne m given ps qs mode o → BecomesOne m given zs rs mode i
-becomes_as {V} {H} m given ps zs qs rs mode o i e d f t = subst (λ (x : Option H). BecomesOne m given zs rs mode x) f
-    (subst (λ (xs : List V). BecomesOne m given zs xs mode o) d (subst (λ (xs : List V). BecomesOne m given xs qs mode o) e t))
-
-pub behind_none : {V : Type 0} (none xs all : List V) → none ≡ [] → all ≡ none ++ xs → all ≡ xs
-behind_none {V} none xs all e d = d ∙ ap (λ (ys : List V). ys ++ xs) e
-
-pub lies_as : {V H : Type 0} (m : Meaning V H) (h : Head V H) (ps qs : List V) (next : Parts V) (i k : Included) → ps ≡ qs
-    → i ≡ k → LiesIn m h ps next i → LiesIn m h qs next k
-lies_as {V} m h ps qs next i k e d t = subst (λ (x : Included). LiesIn m h qs next x) d
-    (subst (λ (xs : List V). LiesIn m h xs next i) e t)
 
 pub anew_as : {V H : Type 0} (m : Meaning V H) (given rows : Listed ConKind) (n k c d : ℕ) (ps qs rs : List V) (e : Exactness)
     (f : Form V H) → given ≡ rows → n ≡ k → c ≡ d → qs ≡ rs → StartsAnew m given n c ps qs e f

@@ -1,16 +1,18 @@
 -- What the steps of the code answer and leave, for their contracts.
-use Rattle.std.specs.Prelude.{◌≡◌, ◌≤◌, ℕ, ℤ, List, [], ◌∷◌, ◌++◌, length}
+use Rattle.std.specs.Prelude.{◌≡◌, ◌≤◌, ◌<◌, ◌⊎◌, ℕ, ℤ, List, [], ◌∷◌, ◌++◌, length}
 use Rattle.lra_domain.specs.declared.Exactness.{Exactness}
 use Rattle.lra_domain.specs.declared.Exactness.TheVariants.{Exact, Flagged}
 use Rattle.lra_domain.specs.declared.Included.{Included}
 use Rattle.lra_domain.specs.declared.Included.TheVariants.{Yes, No, Wide}
 use Rattle.lra_domain.specs.Actions.{Action, Leads, dims_after}
-use Rattle.lra_domain.specs.Meaning.{Meaning, Joins}
+use Rattle.lra_domain.specs.Meaning.{Meaning, Joins, Meets}
 use Rattle.lra_set.specs.Lists.{EachPart, SomePart, PartByPart}
 use Rattle.lra_set.specs.Content.{IsFilled, filled}
 use Rattle.lra_set.specs.Reduction.{Goes, GoesStrains}
 use Rattle.lra_set.specs.Joins.{JoinsOn, JoinsOnStrains, Settles, SettleStrains}
 use Rattle.lra_set.specs.Values.{PartsInside}
+use Rattle.lra_set.specs.declared.joins.Settling.{Settling}
+use Rattle.lra_set.specs.declared.joins.Settling.TheVariants.{Within, Strained, Further}
 
 -- an answer is right: it is so, it isn't, or something strains
 abbrev pub Told : Type 0 → Type 0 → Included → Type 0
@@ -111,6 +113,14 @@ pub record LastTwoMeet {V H : Type 0} (m : Meaning V H) (ps : List V) (e : Exact
   pub dims : m.dims both ≡ m.dims one
   pub new : qs ≡ front ++ both ∷ []
 
+-- a list after a round of settling: reduced and within the cap; or with more parts and flagged; or the last two joined
+abbrev pub SettlesOnce : {V H : Type 0} → Meaning V H → ℕ → List V → Settling → List V → Type 0
+SettlesOnce m cap ps (Within e) qs = IsReduced m ps e qs × (length qs ≤ cap)
+SettlesOnce {V} m cap ps Strained qs = (IsReduced m ps Flagged qs × (cap < length qs))
+    ⊎ ((left : List V) × IsReduced m ps Exact left × (cap < length left) × LastTwoMeet m left Flagged qs)
+SettlesOnce {V} m cap ps Further qs =
+    (left : List V) × IsReduced m ps Exact left × (cap < length left) × LastTwoMeet m left Exact qs
+
 -- a list that was reduced and kept within its cap
 pub record IsSettled {V H : Type 0} (m : Meaning V H) (n cap : ℕ) (ps : List V) (e : Exactness) (qs : List V)
     : Type 0 where
@@ -121,6 +131,14 @@ pub record IsSettled {V H : Type 0} (m : Meaning V H) (n cap : ℕ) (ps : List V
   pub flagged : e ≡ Flagged → (joins : ℕ) × SettleStrains m cap joins ps
   pub few : length qs ≤ cap
   pub fit : EachPart (PartFits m n) qs
+
+-- behind the parts that were there comes the part, changed, unless it became empty
+pub record IsAppended {V H : Type 0} (m : Meaning V H) (step : Action) (p : V) (e : Exactness) (before after : List V)
+    : Type 0 where
+  pub part : V
+  pub meets : Meets m step p e part
+  pub dims : m.dims part ≡ dims_after step (m.dims p)
+  pub appended : after ≡ before ++ filled m (part ∷ [])
 
 -- each part is changed, and those that became empty are left out
 pub record AreChanged {V H : Type 0} (m : Meaning V H) (step : Action) (ps : List V) (e : Exactness) (qs : List V)

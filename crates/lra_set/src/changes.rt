@@ -5,7 +5,7 @@ ghost use Rattle.lra_domain.specs.Actions.{dims_after};
 ghost use Rattle.lra_domain.specs.Meaning.{Meets};
 ghost use Rattle.lra_set.specs.Content.{filled};
 ghost use Rattle.lra_set.specs.Changes.{ChangeFits, action_of};
-ghost use Rattle.lra_set.specs.Outcomes.{AreChanged, HaveDims};
+ghost use Rattle.lra_set.specs.Outcomes.{AreChanged, HaveDims, IsAppended};
 
 use crate::answers::worse_of;
 use lra_domain::{Domain, Exactness, Plain};
@@ -52,6 +52,23 @@ pub fn push_filled<D: Plain>(parts: &mut Vec<D>, part: D) -> Result<(), AllocErr
     Ok(())
 }
 
+/// Appends the part, changed, unless it became empty.
+fn append_one<D: Plain>(
+    alloc: Global,
+    part: &D,
+    change: &Change<'_>,
+    all: &mut Vec<D>,
+) -> Result<Exactness, AllocError>
+    requires { ChangeFits change.now (D.meaning.dims part.now) }
+    ensures { IfOk result (λ e.
+        IsAppended D.meaning (action_of change.now) part.now e all.old.items all.new.items) }
+{
+    let mut changed = part.copy(alloc)?;
+    let exactness = change_part(&mut changed, change)?;
+    push_filled(all, changed)?;
+    Ok(exactness)
+}
+
 /// Appends the parts, each changed, but for those that became empty.
 pub fn append_changed<D: Plain>(
     alloc: Global,
@@ -66,9 +83,7 @@ pub fn append_changed<D: Plain>(
     let Some((first, later)) = parts.split_first() else {
         return Ok(Exactness::Exact);
     };
-    let mut part = first.copy(alloc)?;
-    let one = change_part(&mut part, change)?;
-    push_filled(all, part)?;
+    let one = append_one(alloc, first, change, all)?;
     let others = append_changed(alloc, later, change, all)?;
     Ok(worse_of(one, others))
 }

@@ -3,6 +3,7 @@
 ghost use Rattle.std.specs.Prelude.{◌≡◌, ◌≤◌, ◌<◌, ℕ, List, [], length, IfOk, OnErr, OnOk, vec_len};
 ghost use Rattle.lra_set.specs.Lists.{EachPart};
 ghost use Rattle.lra_set.specs.Outcomes.{AreMerged, BecameOne, HaveDims, IsMerged, IsSettled, LastTwoMeet, PartFits};
+ghost use Rattle.lra_set.specs.Outcomes.{SettlesOnce};
 
 use crate::answers::worse_of;
 use crate::reduction::reduce;
@@ -61,6 +62,41 @@ pub fn join_last_two<D: Plain>(parts: &mut Vec<D>) -> Result<Exactness, AllocErr
     Ok(exactness)
 }
 
+/// How far a list was settled.
+#[derive(Clone, Copy)]
+pub enum Settling {
+    /// It is reduced, and has no more parts than the cap.
+    Within(Exactness),
+    /// It has more parts than the cap, or had, and something was flagged.
+    Strained,
+    /// It had more parts than the cap, and the last two became their join.
+    Further,
+}
+
+/// The parts reduced; where there are more than the cap and nothing was flagged, the last two become their join.
+fn settle_once<D: Plain>(
+    alloc: Global,
+    cap: usize,
+    parts: &mut Vec<D>,
+) -> Result<Settling, AllocError>
+    requires cap { 1 ≤ cap }
+    requires alike { (n : ℕ) × HaveDims D.meaning n parts.old.items }
+    ensures { IfOk result (λ r. SettlesOnce D.meaning cap parts.old.items r parts.new.items) }
+{
+    let reduced = reduce(alloc, parts)?;
+    if parts.len() <= cap {
+        return Ok(Settling::Within(reduced));
+    }
+    if reduced == Exactness::Flagged {
+        return Ok(Settling::Strained);
+    }
+    let joined = join_last_two(parts)?;
+    if joined == Exactness::Flagged {
+        return Ok(Settling::Strained);
+    }
+    Ok(Settling::Further)
+}
+
 /// The parts reduced and kept within the cap: while there are more, the last two become their join. Where something was
 /// flagged and there are more, all become one.
 pub fn settle<D: Plain>(
@@ -74,17 +110,15 @@ pub fn settle<D: Plain>(
         IsSettled D.meaning n cap parts.items r.1 r.0.items) }
 {
     let mut left = parts;
-    let reduced = reduce(alloc, &mut left)?;
-    if left.len() <= cap {
-        return Ok((left, reduced));
+    match settle_once(alloc, cap, &mut left)? {
+        Settling::Within(exactness) => Ok((left, exactness)),
+        Settling::Strained => {
+            let one = into_one(alloc, left.as_slice())?;
+            Ok((one, Exactness::Flagged))
+        }
+        Settling::Further => {
+            let settled = settle(alloc, cap, left)?;
+            Ok(settled)
+        }
     }
-    if reduced == Exactness::Flagged {
-        return Ok((into_one(alloc, left.as_slice())?, Exactness::Flagged));
-    }
-    let joined = join_last_two(&mut left)?;
-    if joined == Exactness::Flagged {
-        return Ok((into_one(alloc, left.as_slice())?, Exactness::Flagged));
-    }
-    let settled = settle(alloc, cap, left)?;
-    Ok(settled)
 }

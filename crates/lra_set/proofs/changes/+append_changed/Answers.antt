@@ -9,7 +9,6 @@ pub returns : goal.returns
 returns g t c =
     let cut : c.args.parts.now ≡ c.in-Some.first.now ∷ c.in-Some.later.now = grind (arith, common_steps) in
     rw c.worse_of.ensures (append_more g.D.Domain.meaning g.met.D.Domain.laws g.met.D.Plain.plain (action_of c.args.change.now)
-    c.args.all.now.items c.args.parts.now c.in-Some.first.now c.in-Some.later.now c.in_ok-part.part c.change_part.new.part
-    c.in_ok-one.one c.push_filled.new.parts.items c.in_ok-others.others c.append_changed.new.all.items cut
-    c.in_ok-part.ensures c.in_ok-one.ensures.meets c.in_ok-one.ensures.dims c.in_ok-push_filled.ensures
+    c.args.all.now.items c.args.parts.now c.in-Some.first.now c.in-Some.later.now c.in_ok-one.one
+    c.append_one.new.all.items c.in_ok-others.others c.append_changed.new.all.items cut c.in_ok-one.ensures
     c.in_ok-others.ensures)
