@@ -7,7 +7,7 @@ ghost use Rattle.lra_calc.specs.ShownSets as shown;
 
 use lra_poly::Poly;
 use lra_report::{push_generators, push_rows};
-use lra_show::{Names, generator_text};
+use lra_show::{Names, generator_text, push_fraction};
 use std::alloc::{AllocError, Global};
 use std::fmt::Write;
 
@@ -56,20 +56,6 @@ pub fn generator_at(alloc: Global, set: &Poly, place: usize) -> Result<String, A
         &names,
     )?;
     Ok(text)
-}
-
-/// Appends a fraction, without the divisor where that is 1.
-#[tactic(auto, using(lra_show::proofs::LowestTerms::whole_text, lra_show::proofs::LowestTerms::divided_text))]
-fn push_fraction(text: &mut String, numerator: i128, divisor: i128) -> Result<(), AllocError>
-    requires { pos 0 <ℤ divisor }
-    ensures { OnOk result (string_bytes text.new ≡ string_bytes text.old ++
-        fraction_text numerator (nat_abs divisor)) }
-{
-    if divisor == 1 {
-        write!(text, "{numerator}")
-    } else {
-        write!(text, "{numerator}/{divisor}")
-    }
 }
 
 /// The text of a fraction in lowest terms.

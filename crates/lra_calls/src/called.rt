@@ -2,7 +2,7 @@
 
 ghost use Rattle.std.specs.Prelude.{◌≡◌, [], ◌∷◌, ◌++◌, List, map, option_map, option_to_list, IfOk};
 ghost use Rattle.lra_tree.specs.Trees.{ItemsTree, PartTree};
-ghost use Rattle.lra_tree.specs.Views.{source_view, assign_view, declarator_view, init_view, item_view, stmt_view};
+ghost use Rattle.lra_tree.specs.Views.{rvalue_view, assign_view, declarator_view, init_view, item_view, stmt_view};
 ghost use Rattle.lra_tree.specs.Views.{block_view, function_view, part_view};
 ghost use Rattle.lra_tree.specs.Functions.{functions_in};
 ghost use Rattle.lra_tree.specs.Labels.{called_in, called_of, called_by};
@@ -10,7 +10,7 @@ ghost use Rattle.lra_calls.specs.Called.{declarators_calls, init_calls, step_cal
 ghost use Rattle.lra_calls.specs.Called.{caller_view};
 
 use lra_tree::{
-    Assign, Block, BlockItem, Declaration, Function, Identifier, Init, Item, Source, Stmt, Word,
+    Assign, Block, BlockItem, Declaration, Function, Identifier, Init, Item, Rvalue, Stmt, Word,
 };
 use std::alloc::{AllocError, Global};
 
@@ -34,23 +34,23 @@ fn add_name(alloc: Global, name: &Identifier, calls: &mut Vec<Identifier>) -> Re
     Ok(())
 }
 
-fn add_source(alloc: Global, source: &Source, calls: &mut Vec<Identifier>) -> Result<(), AllocError>
+fn add_source(alloc: Global, source: &Rvalue, calls: &mut Vec<Identifier>) -> Result<(), AllocError>
     ensures { IfOk result (λ _. calls.new.items ≡ calls.old.items ++
-        option_to_list (called_in (source_view source.now))) }
+        option_to_list (called_in (rvalue_view source.now))) }
 {
     match source {
-        Source::Value(_) => Ok(()),
-        Source::Result(call) => add_name(alloc, &call.name, calls),
+        Rvalue::Value(_) => Ok(()),
+        Rvalue::Result(call) => add_name(alloc, &call.name, calls),
     }
 }
 
 fn add_given(
     alloc: Global,
-    source: &Option<Source>,
+    source: &Option<Rvalue>,
     calls: &mut Vec<Identifier>,
 ) -> Result<(), AllocError>
     ensures { IfOk result (λ _. calls.new.items ≡ calls.old.items ++
-        option_to_list (called_of (option_map source_view source.now))) }
+        option_to_list (called_of (option_map rvalue_view source.now))) }
 {
     match source {
         None => Ok(()),

@@ -8,7 +8,7 @@ use Rattle.lra_domain.specs.Parts.{CapsWithin}
 use Rattle.lra_domain.specs.Meaning.{Meaning, Meets}
 use Rattle.lra_program.specs.Program.{Expr}
 use Rattle.lra_flow.specs.Linear as linear
-use Rattle.lra_flow.specs.Operations.{worse}
+use Rattle.lra_domain.specs.Meaning.{worse}
 use Rattle.lra_flow.specs.Changes.{set_to, append_set}
 use Rattle.lra_flow.proofs.FormLemmas.{form_wide}
 use Rattle.lra_change.specs.Changes.{Does}

@@ -8,7 +8,7 @@ use Rattle.lra_domain.specs.declared.Exactness.{Exactness}
 use Rattle.lra_domain.specs.Parts.{CapsWithin}
 use Rattle.lra_domain.specs.Meaning.{Meaning, Meets}
 use Rattle.lra_flow.specs.Linear.{constant_form}
-use Rattle.lra_flow.specs.Operations.{worse}
+use Rattle.lra_domain.specs.Meaning.{worse}
 use Rattle.lra_flow.specs.Changes.{append_set, first_values}
 use Rattle.lra_change.specs.Changes.{Does}
 use Rattle.lra_change.proofs.ChangeSteps.{done_one, done_both}

@@ -5,7 +5,7 @@ ghost use Rattle.lra_base.specs.Operators.{below, differs};
 ghost use Rattle.lra_base.specs.OperatorViews.{comparison_view};
 ghost use Rattle.lra_program.specs.ProgramViews.{expr_view};
 ghost use Rattle.lra_flow.specs.Linear.{difference_form, comparison_test};
-ghost use Rattle.lra_flow.specs.Operations.{worse};
+ghost use Rattle.lra_domain.specs.Meaning.{worse};
 ghost use Rattle.lra_change.specs.Conditions.{Tests, Compares};
 
 use lra_base::Comparison;

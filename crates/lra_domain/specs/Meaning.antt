@@ -11,6 +11,11 @@ use Rattle.lra_domain.specs.declared.Exactness.TheVariants.{Exact, Flagged}
 use Rattle.lra_domain.specs.declared.Included.{Included}
 use Rattle.lra_domain.specs.declared.Included.TheVariants.{No, Wide}
 
+-- several answers in a row are flagged where one of them is
+abbrev pub worse : Exactness → Exactness → Exactness
+worse Exact e = e
+worse Flagged e = Flagged
+
 -- V: contents of values; H: contents of heads
 pub record Meaning (V H : Type 0) : Type 1 where
   -- the list is a store of the value

@@ -15,7 +15,8 @@ use Rattle.lra_lin.specs.declared.test.Test.{Test}
 use Rattle.lra_flow.specs.Linear.{comparison_test, difference_form}
 use Rattle.lra_flow.specs.Condition as condition
 use Rattle.lra_base.specs.declared.options.Options.{Options}
-use Rattle.lra_flow.specs.Operations.{Operations, worse}
+use Rattle.lra_domain.specs.Meaning.{worse}
+use Rattle.lra_flow.specs.Operations.{Operations}
 use Rattle.lra_flow.specs.Changes.{actions_of, AreDone, AreJoined}
 use Rattle.lra_flow.specs.Conditions.{testing, tested, Leaves}
 use Rattle.lra_flow.specs.Given.{given_rows}

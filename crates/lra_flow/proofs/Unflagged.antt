@@ -7,7 +7,8 @@ use Rattle.lra_domain.specs.declared.Exactness.TheVariants.{Exact, Flagged}
 use Rattle.lra_program.specs.Program.{Program}
 use Rattle.lra_operations.specs.Graph.{Node}
 use Rattle.lra_base.specs.declared.options.Options.{Options}
-use Rattle.lra_flow.specs.Operations.{defined, dropping, straining, worse}
+use Rattle.lra_domain.specs.Meaning.{worse}
+use Rattle.lra_flow.specs.Operations.{defined, dropping, straining}
 use Rattle.lra_flow.specs.Changes.{first_values}
 use Rattle.lra_flow.specs.Pass.{Result, noted}
 use Rattle.lra_flow.specs.Analysis.{Written, Derivation, Unflagged, Strains}

@@ -7,7 +7,8 @@ use Rattle.lra_domain.specs.declared.Exactness.TheVariants.{Exact}
 use Rattle.lra_program.specs.Program.{Expr}
 use Rattle.lra_program.specs.Step.{Op, append, give, give_any, push, keep, test}
 use Rattle.lra_flow.specs.Linear as linear
-use Rattle.lra_flow.specs.Operations.{Operations, worse}
+use Rattle.lra_domain.specs.Meaning.{worse}
+use Rattle.lra_flow.specs.Operations.{Operations}
 
 -- the variable gets the form's value; any value where there is no form
 abbrev pub set_to : ℕ → Option Form → Action

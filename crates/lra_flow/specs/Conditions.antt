@@ -7,7 +7,8 @@ use Rattle.lra_domain.specs.declared.Exactness.{Exactness}
 use Rattle.lra_domain.specs.declared.Exactness.TheVariants.{Exact}
 use Rattle.lra_program.specs.Program.{Cond}
 use Rattle.lra_flow.specs.Condition.{Actions, IsCond}
-use Rattle.lra_flow.specs.Operations.{Operations, worse}
+use Rattle.lra_domain.specs.Meaning.{worse}
+use Rattle.lra_flow.specs.Operations.{Operations}
 
 abbrev pub tested : Test → Action
 tested t = test t.kind t.expr

@@ -72,8 +72,3 @@ straining m = record {
       (e ≡ Flagged → GrowthStrains m h v mode);
   valued = λ h e v. (e ≡ Exact → m.valued h v) × (e ≡ Flagged → m.value_strains h);
 }
-
--- several operations in a row are flagged where one of them is
-abbrev pub worse : Exactness → Exactness → Exactness
-worse Exact e = e
-worse Flagged e = Flagged

@@ -104,11 +104,11 @@ module _ (P : Program) where
           arguments = good_arguments live s sees c.arguments small (none_right front back e);
         }
 
-    good_source : (at live : ℕ) (s : Scope) (x : tree.SourceTree) → Sees P live s → IsSmallSource x → source_faults F s x ≡ [] → IsGoodSource P at live (resolve_source F s at x)
+    good_source : (at live : ℕ) (s : Scope) (x : tree.RvalueTree) → Sees P live s → IsSmallSource x → source_faults F s x ≡ [] → IsGoodSource P at live (resolve_source F s at x)
     good_source at live s (tree.expression x) sees small e = good_expr live s sees x small e
     good_source at live s (tree.result c) sees small e = good_call at live s c true sees small e
 
-    good_given : (at live : ℕ) (s : Scope) (x : Option tree.SourceTree) → Sees P live s → IsSmallGiven x → given_faults F s x ≡ [] → IsGoodGiven P at live (resolve_given F s at x)
+    good_given : (at live : ℕ) (s : Scope) (x : Option tree.RvalueTree) → Sees P live s → IsSmallGiven x → given_faults F s x ≡ [] → IsGoodGiven P at live (resolve_given F s at x)
     good_given at live s None sees small e = tt
     good_given at live s (Some x) sees small e = good_source at live s x sees small e
 
@@ -159,7 +159,7 @@ module _ (P : Program) where
     abbrev around : Bool → Bool → Around
     around r b = record { functions = F; has_result = r; in_loop = b }
 
-    good_return : (r b : Bool) (n live : ℕ) (s : Scope) (at : Place) (x : Option tree.SourceTree) → Sees P live s → IsSmallGiven x → return_faults (around r b) s at x ≡ [] →
+    good_return : (r b : Bool) (n live : ℕ) (s : Scope) (at : Place) (x : Option tree.RvalueTree) → Sees P live s → IsSmallGiven x → return_faults (around r b) s at x ≡ [] →
         IsGoodGiven P n live (resolve_given F s n x)
     good_return r b n live s at None sees small e = tt
     good_return r b n live s at (Some x) sees small e = good_source n live s x sees small (none_right _ (source_faults F s x) e)

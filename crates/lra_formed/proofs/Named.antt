@@ -109,12 +109,12 @@ module _ (outside : List (List ℕ)) (ls : List Labelled) where
         EachPoint HasAsMany (inside path live (resolve_call F s n c))
     call_in n live s c l h at = calls live (resolve_call F s n c) (ap (λ (o : Option Labelled). width_of path + length (live_in_call_at o)) at ∙ h)
 
-    source_has : (n live : ℕ) (s : Scope) (x : tree.SourceTree) (l : Labelled) → width_of path + length l.live_in_call ≡ live → label_at ls n ≡ Some l
+    source_has : (n live : ℕ) (s : Scope) (x : tree.RvalueTree) (l : Labelled) → width_of path + length l.live_in_call ≡ live → label_at ls n ≡ Some l
         → EachPoint HasAsMany (source_events inside path live (resolve_source F s n x))
     source_has n live s (tree.expression e) l h at = tt
     source_has n live s (tree.result c) l h at = call_in n live s c l h at
 
-    given_has : (n live : ℕ) (s : Scope) (x : Option tree.SourceTree) (l : Labelled) → width_of path + length l.live_in_call ≡ live → label_at ls n ≡ Some l
+    given_has : (n live : ℕ) (s : Scope) (x : Option tree.RvalueTree) (l : Labelled) → width_of path + length l.live_in_call ≡ live → label_at ls n ≡ Some l
         → EachPoint HasAsMany (given_events inside path live (resolve_given F s n x))
     given_has n live s None l h at = tt
     given_has n live s (Some x) l h at = source_has n live s x l h at

@@ -141,7 +141,7 @@ small_call : (o l : ℕ) (c : tree.CallTree) (z : Pieces) → IsCall o l c z →
 small_call o l c z (x, y, e, called, (x2, y2, e2, opening, (x3, y3, e3, s, closing))) h =
     small_separated (IsExpr l) IsSmallExpr (small_expr l) c.arguments x3 s (front x3 y3 y2 e3 (back x2 y2 y e2 (back x y z e h)))
 
-small_source : (l : ℕ) (a : tree.SourceTree) (z : Pieces) → IsSource l a z → AreSmall z → IsSmallSource a
+small_source : (l : ℕ) (a : tree.RvalueTree) (z : Pieces) → IsSource l a z → AreSmall z → IsSmallSource a
 small_source l (tree.expression a) z s h = small_expr l a z s h
 small_source l (tree.result c) z s h = small_call 0 l c z s h
 
@@ -151,11 +151,11 @@ small_assign o l (tree.update v op a) z (x, y, e, target, (x2, y2, e2, sign, s))
 small_assign o l (tree.after v step) z s h = tt
 small_assign o l (tree.before at step v) z s h = tt
 
-small_given : (l : ℕ) (a : Option tree.SourceTree) (z : Pieces) → IsGiven l a z → AreSmall z → IsSmallGiven a
+small_given : (l : ℕ) (a : Option tree.RvalueTree) (z : Pieces) → IsGiven l a z → AreSmall z → IsSmallGiven a
 small_given l None z s h = tt
 small_given l (Some a) z (x, y, e, sign, s) h = small_source l a y s (back x y z e h)
 
-small_returned : (l : ℕ) (a : Option tree.SourceTree) (z : Pieces) → IsReturned l a z → AreSmall z → IsSmallGiven a
+small_returned : (l : ℕ) (a : Option tree.RvalueTree) (z : Pieces) → IsReturned l a z → AreSmall z → IsSmallGiven a
 small_returned l None z s h = tt
 small_returned l (Some a) z s h = small_source l a z s h
 

@@ -5,7 +5,7 @@ use Rattle.std.specs.List.{AllByRecursion}
 use Rattle.lra_tree.specs.Trees.{UnaryTree, negated, positive, literal, variable, input, group, TermTree, unary, times}
 use Rattle.lra_tree.specs.Trees.{over, modulo, ExprTree, term, plus, minus, NegationTree, opposite_again}
 use Rattle.lra_tree.specs.Trees.{value_of_unary, group_opposed, TestTree, opposite, value, compare, group_of}
-use Rattle.lra_tree.specs.Trees.{ConjunctionTree, test, and, CondTree, conjunction, or, CallTree, SourceTree}
+use Rattle.lra_tree.specs.Trees.{ConjunctionTree, test, and, CondTree, conjunction, or, CallTree, RvalueTree}
 use Rattle.lra_tree.specs.Trees.{expression, result, AssignTree, set, update, after, before, DeclaratorTree}
 use Rattle.lra_tree.specs.Trees.{DeclarationTree, InitTree, no_init, declared, assigned, StmtTree, block, nothing}
 use Rattle.lra_tree.specs.Trees.{assign, call, if_only, if_else, while, for, break, continue, return, assert, assume}
@@ -63,11 +63,11 @@ abbrev mutual
 abbrev pub IsSmallCall : CallTree → Type 0
 IsSmallCall c = AllByRecursion IsSmallExpr c.arguments
 
-abbrev pub IsSmallSource : SourceTree → Type 0
+abbrev pub IsSmallSource : RvalueTree → Type 0
 IsSmallSource (expression e) = IsSmallExpr e
 IsSmallSource (result c) = IsSmallCall c
 
-abbrev pub IsSmallGiven : Option SourceTree → Type 0
+abbrev pub IsSmallGiven : Option RvalueTree → Type 0
 IsSmallGiven None = ⊤
 IsSmallGiven (Some e) = IsSmallSource e
 

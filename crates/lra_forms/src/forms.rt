@@ -144,7 +144,7 @@ fn product_of(alloc: Global, f: &LinExpr, g: &LinExpr) -> Result<Option<LinExpr>
 }
 
 /// What the operator makes of two forms; `/` and `%` have none.
-fn operated(
+fn apply_operator(
     alloc: Global,
     operator: Operator,
     f: &LinExpr,
@@ -288,7 +288,7 @@ fn form_of_chain(
         let Some(operand) = form_of_expression(alloc, live, base, &operation.operand)? else {
             return Ok(None);
         };
-        match operated(alloc, operation.operator, &form, &operand)? {
+        match apply_operator(alloc, operation.operator, &form, &operand)? {
             None => return Ok(None),
             Some(next) => form = next,
         }

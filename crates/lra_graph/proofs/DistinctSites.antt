@@ -3,7 +3,7 @@
 use Rattle.std.proofs.Common.{◌≡◌, ℕ, zero, suc, ◌+◌, List, [], ◌∷◌, ◌++◌, length, Option, Some, None, Bool, slice_get, inl, inr, refl, sym, ap, ◌∙◌, subst, append_assoc}
 use Rattle.std.specs.List.{AllByRecursion}
 use Rattle.std.proofs.lemmas.Option.{same_Some, none-some, slice_get-get_or}
-use Rattle.lra_program.specs.Program.{Call, Source, value, result, Stmt, absent, nothing, block, assign, call, if, loop, for, break, continue, return, assert, assume, BlockItems, no_more, declaration}
+use Rattle.lra_program.specs.Program.{Call, Rvalue, value, result, Stmt, absent, nothing, block, assign, call, if, loop, for, break, continue, return, assert, assume, BlockItems, no_more, declaration}
 use Rattle.lra_program.specs.Program.{statement, Function, Program}
 use Rattle.lra_program.specs.Sites.{Site, Event, comes, one_call_more, live_behind, source_events, given_events, stmt_events, items_events, function_events, call_events, events_of, sites_in, sites_of}
 use Rattle.lra_program.specs.Sites.{greatest_calls}
@@ -82,11 +82,11 @@ module _ (P : Program) where
   Inside inside = (path : List ℕ) (live at here : ℕ) (c : Call) → IsGoodCall P at here c → (labels : List ℕ) × Spread (at ∷ path) labels (keys_in (inside path live c))
 
   module _ (inside : List ℕ → ℕ → Call → List Event) (calls : Inside inside) (path : List ℕ) where
-    spread_source : (at here live : ℕ) (e : Source) → IsGoodSource P at here e → (labels : List ℕ) × Spread (at ∷ path) labels (keys_in (source_events inside path live e))
+    spread_source : (at here live : ℕ) (e : Rvalue) → IsGoodSource P at here e → (labels : List ℕ) × Spread (at ∷ path) labels (keys_in (source_events inside path live e))
     spread_source at here live (value e) good = ([], spread_none (at ∷ path) [])
     spread_source at here live (result c) good = calls path live at here c good
 
-    spread_given : (at here live : ℕ) (o : Option Source) → IsGoodGiven P at here o → (labels : List ℕ) × Spread (at ∷ path) labels (keys_in (given_events inside path live o))
+    spread_given : (at here live : ℕ) (o : Option Rvalue) → IsGoodGiven P at here o → (labels : List ℕ) × Spread (at ∷ path) labels (keys_in (given_events inside path live o))
     spread_given at here live None good = ([], spread_none (at ∷ path) [])
     spread_given at here live (Some e) good = spread_source at here live e good
 

@@ -1,7 +1,7 @@
 -- What the tree reaches, a run reaches.
 use Rattle.std.proofs.Common.{◌≡◌, ◌≢◌, ℕ, zero, suc, ◌+◌, ◌≤◌, ℤ, List, ◌∷◌, length, Option, Some, None, Bool, true, false, ◌⊎◌, inl, inr, refl, sym, ap, ◌∙◌, subst, slice_get}
 use Rattle.std.proofs.lemmas.Option.{same_Some, none-some}
-use Rattle.lra_program.specs.Program.{Expr, Cond, Call, Source, value, result, Declarator, Stmt, absent, nothing, block, assign, call, if, loop, for, break, continue, return, assert, assume}
+use Rattle.lra_program.specs.Program.{Expr, Cond, Call, Rvalue, value, result, Declarator, Stmt, absent, nothing, block, assign, call, if, loop, for, break, continue, return, assert, assume}
 use Rattle.lra_program.specs.Program.{BlockItems, no_more, declaration, statement, Function, Program}
 use Rattle.lra_program.specs.Value.{Drawn, index_of, truth_of}
 use Rattle.lra_program.specs.Step.{State, Op, append, give, give_any, push, keep, test, run_op, run_any, tested, Here, Back, Item, run, declare, all, end_of, turn, cut, mark, leave_call, Config, Turn}
@@ -65,7 +65,7 @@ pub record Does (P : Program) (T : List Site) (f : Frame) (n : ℕ) (i : Item) (
   pub fails : (k : List Item) (s : State) (q : ℕ) → Matches f k → length s.store ≡ n → FailsAt g s q → Stands P T (config (i ∷ k) f.here s) q IsFalse
 
 -- the same of what a variable gets
-pub record GivesDoes (P : Program) (T : List Site) (f : Frame) (n : ℕ) (x : Option ℕ) (a : Source) (g : Node) : Type 0 where
+pub record GivesDoes (P : Program) (T : List Site) (f : Frame) (n : ℕ) (x : Option ℕ) (a : Rvalue) (g : Node) : Type 0 where
   pub ends : (k : List Item) (s t : State) → length s.store ≡ n → Ends g s normal t → (e : Config) × (do_source P x a k f.here s ≡ Some e) × RunsTo P e (config k f.here t)
   pub comes : (k : List Item) (s : State) (q : ℕ) (t : State) → length s.store ≡ n → Comes g s q t → (e : Config) × (do_source P x a k f.here s ≡ Some e) × Stands P T e q (HasState t)
   pub fails : (k : List Item) (s : State) (q : ℕ) → length s.store ≡ n → FailsAt g s q → (e : Config) × (do_source P x a k f.here s ≡ Some e) × Stands P T e q IsFalse
@@ -242,7 +242,7 @@ module _ (P : Program) (T : List Site) (spot : Spot) where
   }
 
   -- a statement that only gives a variable its value
-  does_source : (i : Stmt) (x : Option ℕ) (a : Source) (g : Node) → ((k : List Item) (s : State) → length s.store ≡ spot.live → do_stmt P i k spot.frame.here s ≡ do_source P x a k spot.frame.here s)
+  does_source : (i : Stmt) (x : Option ℕ) (a : Rvalue) (g : Node) → ((k : List Item) (s : State) → length s.store ≡ spot.live → do_stmt P i k spot.frame.here s ≡ do_source P x a k spot.frame.here s)
       → GivesDoes P T spot.frame spot.live x a g → Does P T spot.frame spot.live (run i) g
   does_source i x a g same y = record {
     ends = λ k s h t e m l z w. by_how k s h t e l z w;
@@ -621,7 +621,7 @@ module _ (P : Program) (T : List Site) (spot : Spot) where
       starts k s e i z = subst (λ w. do_source P (target_of w) (result v) (leave_call ∷ k) spot.frame.here s ≡ Some e) (sym i) z
 
   -- a declarator that gives its variable a value
-  does_given : (d : Declarator) (a : Source) (g : Node) → d.source ≡ Some a → GivesDoes P T spot.frame (suc spot.live) (Some spot.live) a g →
+  does_given : (d : Declarator) (a : Rvalue) (g : Node) → d.source ≡ Some a → GivesDoes P T spot.frame (suc spot.live) (Some spot.live) a g →
       Does P T spot.frame spot.live (declare d) (seq (act spot.next append) g)
   does_given d a g same y = record {
     ends = λ k s h t e mm l z w. by_how k s h t e l (act_seq spot.next append g s h t z) w;
@@ -756,7 +756,7 @@ mutual
       does_two P T spot (all (statement a b)) (run a) (all b) spot.live g h (λ k s l. refl) (λ k. refl) (λ k. refl) (length_one d)
       (does_one d) (does_all e)
 
-  pub does_declares : {P : Program} {T : List Site} {spot : Spot} {r : ℕ} {o : Option Source} {g : Node} {q : ℕ} (d : Declarator) → Declares P T spot r o g q → d.source ≡ o
+  pub does_declares : {P : Program} {T : List Site} {spot : Spot} {r : ℕ} {o : Option Rvalue} {g : Node} {q : ℕ} (d : Declarator) → Declares P T spot r o g q → d.source ≡ o
       → Does P T spot.frame spot.live (declare d) g
   does_declares {P = P} {T = T} d (as_fresh {s = spot}) same = does_act P T spot append (declare d) (λ k s. ap (λ w. do_declare P w k spot.frame.here s) same)
   does_declares {P = P} {T = T} d (as_given {s = spot} {e = e} {g = g} x) same = does_given P T spot d e g same (does_gives x)
@@ -765,7 +765,7 @@ mutual
   does_loops {P = P} {T = T} (is_loop {s = spot} {at = at} {c = c} {a = a} {step = step} {g = g} {h = h} i d e) =
       does_loop P T spot at c a step g h i (does_one e) (does_one d) (length_one e) (length_one d)
 
-  pub does_gives : {P : Program} {T : List Site} {spot : Spot} {r : ℕ} {x : Option ℕ} {e : Source} {g : Node} {q : ℕ} → Gives P T spot r x e g q → GivesDoes P T spot.frame spot.live x e g
+  pub does_gives : {P : Program} {T : List Site} {spot : Spot} {r : ℕ} {x : Option ℕ} {e : Rvalue} {g : Node} {q : ℕ} → Gives P T spot r x e g q → GivesDoes P T spot.frame spot.live x e g
   does_gives {P = P} {T = T} (as_value {s = spot} {r = r} {x = x} {e = e}) = does_give P T spot r x e
   does_gives {P = P} {T = T} (as_result {s = spot} {r = r} {x = x} {c = c} {fn = fn} {g = g} {n = n'} {q = r'} i j d k) =
       does_call P T spot r r' x c fn g n' i j (length_all d) (grows_all d) k (does_all d)

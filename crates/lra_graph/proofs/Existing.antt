@@ -2,7 +2,7 @@
 use Rattle.std.proofs.Common.{◌≡◌, ℕ, zero, suc, ◌+◌, ◌≤◌, List, [], ◌∷◌, ◌++◌, length, Option, Some, None, refl, sym, ap, ◌∙◌, subst, arith}
 use Rattle.std.specs.Prelude.{nat_lt}
 use Rattle.std.proofs.lemmas.Option.{none-some}
-use Rattle.lra_program.specs.Program.{Call, Source, value, result, Stmt, absent, nothing, block, assign, call, if, loop, for, break, continue, return, assert, assume, BlockItems, no_more, declaration}
+use Rattle.lra_program.specs.Program.{Call, Rvalue, value, result, Stmt, absent, nothing, block, assign, call, if, loop, for, break, continue, return, assert, assume, BlockItems, no_more, declaration}
 use Rattle.lra_program.specs.Program.{statement, Program}
 use Rattle.lra_program.specs.Value.{index_of}
 use Rattle.lra_program.specs.Step.{append, give, give_any, keep}
@@ -44,7 +44,7 @@ walk_parts S (comes s ∷ es) fs U e =
 walk_parts S (one_call_more at ∷ es) fs U e = absurd (not_passed (Calls at) U e)
 
 module _ (P : Program) where
-  abbrev HasSource : List ℕ → Frame → ℕ → Option ℕ → List Site → List Site → Source → Type 0
+  abbrev HasSource : List ℕ → Frame → ℕ → Option ℕ → List Site → List Site → Rvalue → Type 0
   HasSource path r q x S U e = (g : Node) × WritesSource P path r q x S e g U
 
   -- calls that may make so many calls more are written out
@@ -53,14 +53,14 @@ module _ (P : Program) where
       → walk S (inside P path r path r.live c) ≡ passed U → HasSource path r q x S U (result c)
 
   module _ (more : ℕ) (calls : HaveCalls more) where
-    source : (e : Source) (path : List ℕ) (r : Frame) (q : ℕ) (x : Option ℕ) (S U : List Site) → r.calls_left ≡ more → GivenStands P r (Some e)
+    source : (e : Rvalue) (path : List ℕ) (r : Frame) (q : ℕ) (x : Option ℕ) (S U : List Site) → r.calls_left ≡ more → GivenStands P r (Some e)
         → walk S (source_events (inside P path r) path r.live e) ≡ passed U → HasSource path r q x S U e
     source (value e) path r q x S U left stands w =
         let g = act q (give r.base x e) in
         (g, subst (λ V. WritesSource P path r q x S (value e) g V) (passed_same S U w) (value_written P path r S q x e g refl))
     source (result c) path r q x S U left stands w = calls c path r q x S U left (result_stands P r c stands) w
 
-    given : (o : Option Source) (path : List ℕ) (r : Frame) (q : ℕ) (S U : List Site) → r.calls_left ≡ more → GivenStands P (record r { live = suc r.live }) o
+    given : (o : Option Rvalue) (path : List ℕ) (r : Frame) (q : ℕ) (S U : List Site) → r.calls_left ≡ more → GivenStands P (record r { live = suc r.live }) o
         → walk S (given_events (inside P path r) path (suc r.live) o) ≡ passed U → (g : Node) × WritesDeclared P path r q S o g U
     given None path r q S U left stands w =
         (act q append, subst (λ V. WritesDeclared P path r q S None (act q append) V) (passed_same S U w) (fresh_written P path r S q (act q append) refl))
@@ -68,11 +68,11 @@ module _ (P : Program) where
         let (h, y) = source e path (record r { live = suc r.live }) q (Some r.live) S U left stands w in
         (seq (act q append) h, given_written P path r S U q (suc r.live) e h (seq (act q append) h) refl y refl)
 
-    abbrev HasReturn : List ℕ → Frame → ℕ → List Site → List Site → Option Source → Type 0
+    abbrev HasReturn : List ℕ → Frame → ℕ → List Site → List Site → Option Rvalue → Type 0
     HasReturn path r q S U o = (g : Node) × WritesReturn P path r q S o g U
 
     -- back to a caller
-    returned_to : (o : Option Source) (b : Back) (path : List ℕ) (r : Frame) (q : ℕ) (S U : List Site) → r.back ≡ Some b → b.length ≤ r.live → r.calls_left ≡ more → GivenStands P r o
+    returned_to : (o : Option Rvalue) (b : Back) (path : List ℕ) (r : Frame) (q : ℕ) (S U : List Site) → r.back ≡ Some b → b.length ≤ r.live → r.calls_left ≡ more → GivenStands P r o
         → walk S (given_events (inside P path r) path r.live o) ≡ passed U → HasReturn path r q S U o
     returned_to None b path r q S U back low left stands w =
         let g = return_node q (give_any b.target) b.length r.live in
@@ -86,7 +86,7 @@ module _ (P : Program) where
         (seq h k, return_call_written P path r S q b back low U c h k (seq h k) y refl refl)
 
     -- out of `main`
-    returned_out : (o : Option Source) (path : List ℕ) (r : Frame) (q : ℕ) (S U : List Site) → r.back ≡ None → r.calls_left ≡ more → GivenStands P r o
+    returned_out : (o : Option Rvalue) (path : List ℕ) (r : Frame) (q : ℕ) (S U : List Site) → r.back ≡ None → r.calls_left ≡ more → GivenStands P r o
         → walk S (given_events (inside P path r) path r.live o) ≡ passed U → HasReturn path r q S U o
     returned_out None path r q S U back left stands w =
         let g = leave r.live returned in
@@ -99,7 +99,7 @@ module _ (P : Program) where
         let g = seq h (leave r.live returned) in
         (g, end_call_written P path r S q back U c h g y refl)
 
-    returned_by : (back : Option Back) (o : Option Source) (path : List ℕ) (r : Frame) (q : ℕ) (S U : List Site) → r.back ≡ back → ((b : Back) → r.back ≡ Some b → b.length ≤ r.live)
+    returned_by : (back : Option Back) (o : Option Rvalue) (path : List ℕ) (r : Frame) (q : ℕ) (S U : List Site) → r.back ≡ back → ((b : Back) → r.back ≡ Some b → b.length ≤ r.live)
         → r.calls_left ≡ more → GivenStands P r o → walk S (given_events (inside P path r) path r.live o) ≡ passed U → HasReturn path r q S U o
     returned_by None o path r q S U is low left stands w = returned_out o path r q S U is left stands w
     returned_by (Some b) o path r q S U is low left stands w = returned_to o b path r q S U is (low b is) left stands w

@@ -1,6 +1,6 @@
 -- What is written out next weighs less.
 use Rattle.std.proofs.Common.{◌≡◌, ℕ, ◌+◌, ◌-◌, ◌<◌, Option, arith, sym, subst}
-use Rattle.lra_program.specs.Program.{Slot, Cond, Call, Source, Stmt, block, assign, call, if, loop, for, return, BlockItems, Program}
+use Rattle.lra_program.specs.Program.{Slot, Cond, Call, Rvalue, Stmt, block, assign, call, if, loop, for, return, BlockItems, Program}
 use Rattle.lra_graph.proofs.Sizes.{size_stmt, size_some, size_items, weight}
 
 module _ (P : Program) (left t : ℕ) where
@@ -25,7 +25,7 @@ module _ (P : Program) (left t : ℕ) where
   rest_falls : (n : ℕ) (s s' : Stmt) → Weighs (size_stmt s - 1) → s ≡ s' → n < size_stmt s' - 1 → Falls n
   rest_falls n s s' e i l = part_falls n (size_stmt s - 1) e (subst (λ z. n < size_stmt z - 1) (sym i) l)
 
-  pub assign_falls : (s : Stmt) (at : ℕ) (v : Slot) (x : Source) → Weighs (size_stmt s - 1) → s ≡ assign at v x → Falls 4
+  pub assign_falls : (s : Stmt) (at : ℕ) (v : Slot) (x : Rvalue) → Weighs (size_stmt s - 1) → s ≡ assign at v x → Falls 4
   assign_falls s at v x e i = rest_falls 4 s (assign at v x) e i (omega arith)
 
   pub call_falls : (s : Stmt) (at : ℕ) (c : Call) → Weighs (size_stmt s - 1) → s ≡ call at c → Falls 2
@@ -43,7 +43,7 @@ module _ (P : Program) (left t : ℕ) where
   pub for_falls : (s : Stmt) (at : ℕ) (d : BlockItems) (c : Cond) (a b : Stmt) → Weighs (size_stmt s) → s ≡ for at d c a b → Falls (2 + (size_items d + (size_stmt a + size_stmt b)))
   for_falls s at d c a b e i = stmt_falls (2 + (size_items d + (size_stmt a + size_stmt b))) s (for at d c a b) e i (omega arith)
 
-  pub return_falls : (s : Stmt) (at : ℕ) (o : Option Source) → Weighs (size_stmt s - 1) → s ≡ return at o → Falls 5
+  pub return_falls : (s : Stmt) (at : ℕ) (o : Option Rvalue) → Weighs (size_stmt s - 1) → s ≡ return at o → Falls 5
   return_falls s at o e i = rest_falls 5 s (return at o) e i (omega arith)
 
   pub step_falls : (a b : Stmt) → Weighs (1 + (size_stmt a + size_stmt b)) → Falls (size_stmt b)

@@ -2,7 +2,7 @@
 use Rattle.std.proofs.Common.{◌≡◌, ◌≢◌, ℕ, zero, suc, ◌+◌, ◌≤◌, ℤ, List, [], ◌∷◌, ◌++◌, length, Option, Some, None, Bool, true, false, ◌⊎◌, inl, inr, refl, sym, ap, ◌∙◌, arith, length-append}
 use Rattle.std.proofs.lemmas.Option.{same_Some, none-some}
 use Rattle.std.proofs.lemmas.List.{length-set, length-take-le}
-use Rattle.lra_program.specs.Program.{Expr, Cond, Source, Stmt, BlockItems, Program}
+use Rattle.lra_program.specs.Program.{Expr, Cond, Rvalue, Stmt, BlockItems, Program}
 use Rattle.lra_program.specs.Value.{◌>>=◌, draw, value_of, values_of, truth_of, Drawn}
 use Rattle.lra_program.specs.Step.{State, Op, append, give, give_any, push, keep, test, run_op, run_any, put, receive, pushed, kept_if, tested, Back}
 use Rattle.lra_operations.specs.Graph.{Exit, broken, continued, returned, How, normal, jump, Node, empty, choose, Rounds, Ends, point, act, seq, leave, check}
@@ -241,19 +241,19 @@ mutual
   length_all (as_declaration {s = spot} i j e) = seq_length _ _ (seq_length _ _ (point_length spot.next) (length_declares j)) (length_all e)
   length_all (as_statement d e) = seq_length _ _ (length_one d) (length_all e)
 
-  pub length_declares : {P : Program} {T : List Site} {spot : Spot} {r : ℕ} {e : Option Source} {g : Node} {q : ℕ} → Declares P T spot r e g q → Length spot.frame spot.live (suc spot.live) g
+  pub length_declares : {P : Program} {T : List Site} {spot : Spot} {r : ℕ} {e : Option Rvalue} {g : Node} {q : ℕ} → Declares P T spot r e g q → Length spot.frame spot.live (suc spot.live) g
   length_declares (as_fresh {s = spot}) = append_length spot.next
   length_declares (as_given {s = spot} d) = seq_length _ _ (append_length spot.next) (length_gives d)
 
   pub length_loop : {P : Program} {T : List Site} {spot : Spot} {r : ℕ} {s : Stmt} {g : Node} {q : ℕ} → Loops P T spot r s g q → Length spot.frame spot.live spot.live g
   length_loop (is_loop {s = spot} {c = c} {g = g} {h = h} i d e) = loop_length spot.frame spot.live g h (length_one e) (length_one d) spot.next spot.frame.here.base c
 
-  pub length_gives : {P : Program} {T : List Site} {spot : Spot} {r : ℕ} {x : Option ℕ} {e : Source} {g : Node} {q : ℕ} → Gives P T spot r x e g q → Length spot.frame spot.live spot.live g
+  pub length_gives : {P : Program} {T : List Site} {spot : Spot} {r : ℕ} {x : Option ℕ} {e : Rvalue} {g : Node} {q : ℕ} → Gives P T spot r x e g q → Length spot.frame spot.live spot.live g
   length_gives (as_value {s = spot} {x = x} {e = e}) = give_length spot.next spot.frame.here.base x e
   length_gives (as_result {s = spot} {x = x} {c = c} {fn = fn} {g = g} {n = n'} {q = r'} i j d k) =
       call_length spot r' x c.arguments fn.parameters g (callee spot.frame spot.live x c) n' j refl refl (grows_all d) (length_all d)
 
 -- a declarator's point, and what follows it
-pub length_declarator : {P : Program} {T : List Site} {spot : Spot} {r : ℕ} {e : Option Source} {g : Node} {q : ℕ} → Declares P T spot r e g q →
+pub length_declarator : {P : Program} {T : List Site} {spot : Spot} {r : ℕ} {e : Option Rvalue} {g : Node} {q : ℕ} → Declares P T spot r e g q →
     Length spot.frame spot.live (suc spot.live) (seq (point spot.next) g)
 length_declarator {spot} d = seq_length _ _ (point_length spot.next) (length_declares d)

@@ -8,7 +8,7 @@ use Rattle.lra_program.specs.declared.program.BlockItems.{BlockItems}
 use Rattle.lra_program.specs.declared.program.Slot.{Slot}
 use Rattle.lra_program.specs.declared.program.Cond.{Cond}
 use Rattle.lra_program.specs.declared.program.Call.{Call}
-use Rattle.lra_program.specs.declared.program.Source.{Source}
+use Rattle.lra_program.specs.declared.program.Rvalue.{Rvalue}
 use Rattle.lra_program.specs.ProgramViews.{stmt_view}
 use Rattle.lra_graph.specs.Inlining.{IsSimple, IsLone}
 use Rattle.lra_graph.proofs.Shown.{shown_absent, shown_nothing, shown_block, shown_assign, shown_call, shown_if, shown_loop, shown_for, shown_break, shown_continue, shown_return, shown_assert}
@@ -53,9 +53,9 @@ module _ (s : Stmt)
   rest_is_simple = opened_is_simple (out-Stmt s) (sym (roll-out-Stmt s))
 
 module _ (s : Stmt) (simple : IsSimple (stmt_view s))
-    (no_assign : (at : ℕ) (x : Slot) (e : Source) → s ≡ code.Assign at x e → ⊥)
+    (no_assign : (at : ℕ) (x : Slot) (e : Rvalue) → s ≡ code.Assign at x e → ⊥)
     (no_call : (at : ℕ) (c : Call) → s ≡ code.Call at c → ⊥)
-    (no_return : (at : ℕ) (e : Option Source) → s ≡ code.Return at e → ⊥) where
+    (no_return : (at : ℕ) (e : Option Rvalue) → s ≡ code.Return at e → ⊥) where
   opened_is_lone : (o : Stmt-F BlockItem Stmt BlockItems) → s ≡ roll-Stmt o → IsLone (stmt_view s)
   unfolding roll-Stmt denote.Hole.Carrier.roll
   opened_is_lone Stmt-F.Absent e = lone_as s _ _ e shown_absent (tt {0})

@@ -1,6 +1,6 @@
 -- What holds of a part holds of it as the code sees it, behind its references.
 use Rattle.std.proofs.Common.{◌≡◌, ℕ, Option, sym, ap, ◌∙◌, subst}
-use Rattle.lra_program.specs.Program.{Cond, Source, Stmt, block, if, loop, BlockItems, Program}
+use Rattle.lra_program.specs.Program.{Cond, Rvalue, Stmt, block, if, loop, BlockItems, Program}
 use Rattle.lra_graph.specs.declared.frame.Frame.{Frame}
 use Rattle.lra_graph.specs.Building.{StmtStands, GivenStands}
 
@@ -14,5 +14,5 @@ module _ (P : Program) (r : Frame) where
   pub block_seen : (b b' : BlockItems) (end : ℕ) → b' ≡ b → StmtStands P r (block b end) → StmtStands P r (block b' end)
   block_seen b b' end e x = subst (λ z. StmtStands P r (block z end)) (sym e) x
 
-  pub given_seen : (o o' : Option Source) → o ≡ o' → GivenStands P r o → GivenStands P r o'
+  pub given_seen : (o o' : Option Rvalue) → o ≡ o' → GivenStands P r o → GivenStands P r o'
   given_seen o o' e x = subst (λ z. GivenStands P r z) e x

@@ -4,8 +4,8 @@ use Rattle.lra_program.specs.Program as program
 use Rattle.lra_operations.specs.Graph as graph
 use Rattle.lra_program.specs.declared.program.Slot.{Slot}
 use Rattle.lra_program.specs.declared.program.Cond.{Cond}
-use Rattle.lra_program.specs.declared.program.Source.{Source}
-use Rattle.lra_program.specs.declared.program.Source.TheVariants as code_source
+use Rattle.lra_program.specs.declared.program.Rvalue.{Rvalue}
+use Rattle.lra_program.specs.declared.program.Rvalue.TheVariants as code_source
 use Rattle.lra_program.specs.declared.program.Expr.{Expr}
 use Rattle.lra_program.specs.declared.program.Declarator.{Declarator}
 use Rattle.lra_program.specs.declared.program.Call.{Call}
@@ -17,7 +17,7 @@ use Rattle.lra_program.specs.declared.program.Stmt as code
 use Rattle.lra_operations.specs.declared.graph.Op.{Op}
 use Rattle.lra_operations.specs.declared.graph.Node.{the_lemmas as node_lemmas}
 use Rattle.lra_operations.specs.declared.graph.Node as code_node
-use Rattle.lra_program.specs.ProgramViews.{slot_view, expr_view, cond_view, call_view, source_view, given_view, declarator_view, stmt_view, item_view, items_of, items_view}
+use Rattle.lra_program.specs.ProgramViews.{slot_view, expr_view, cond_view, call_view, rvalue_view, given_view, declarator_view, stmt_view, item_view, items_of, items_view}
 use Rattle.lra_operations.specs.GraphViews.{op_view, node_view}
 
 pub shown_empty : node_view code_node.Empty ≡ graph.empty
@@ -50,7 +50,7 @@ shown_nothing at = search (rules, stmt_lemmas)
 pub shown_block : (b : BlockItems) (at : ℕ) → stmt_view (code.Block b at) ≡ program.block (items_of (map item_view b.items.items)) at
 shown_block b at = search (rules, stmt_lemmas)
 
-pub shown_assign : (at : ℕ) (x : Slot) (e : Source) → stmt_view (code.Assign at x e) ≡ program.assign at (slot_view x) (source_view e)
+pub shown_assign : (at : ℕ) (x : Slot) (e : Rvalue) → stmt_view (code.Assign at x e) ≡ program.assign at (slot_view x) (rvalue_view e)
 shown_assign at x e = search (rules, stmt_lemmas)
 
 pub shown_call : (at : ℕ) (c : Call) → stmt_view (code.Call at c) ≡ program.call at (call_view c)
@@ -80,7 +80,7 @@ shown_break at = search (rules, stmt_lemmas)
 pub shown_continue : (at : ℕ) → stmt_view (code.Continue at) ≡ program.continue at
 shown_continue at = search (rules, stmt_lemmas)
 
-pub shown_return : (at : ℕ) (e : Option Source) → stmt_view (code.Return at e) ≡ program.return at (given_view e)
+pub shown_return : (at : ℕ) (e : Option Rvalue) → stmt_view (code.Return at e) ≡ program.return at (given_view e)
 shown_return at e = search (rules, stmt_lemmas)
 
 pub shown_assert : (at : ℕ) (c : Cond) → stmt_view (code.Assert at c) ≡ program.assert at (cond_view c)
@@ -89,8 +89,8 @@ shown_assert at c = search (rules, stmt_lemmas)
 pub shown_assume : (at : ℕ) (c : Cond) → stmt_view (code.Assume at c) ≡ program.assume at (cond_view c)
 shown_assume at c = search (rules, stmt_lemmas)
 
-pub shown_result : (o : Option Source) (x : Source) (c : Call) → o ≡ Some x → x ≡ code_source.Result c → given_view o ≡ Some (program.result (call_view c))
-shown_result o x c e f = ap given_view e ∙ ap (λ (y : Source). Some (source_view y)) f
+pub shown_result : (o : Option Rvalue) (x : Rvalue) (c : Call) → o ≡ Some x → x ≡ code_source.Result c → given_view o ≡ Some (program.result (call_view c))
+shown_result o x c e f = ap given_view e ∙ ap (λ (y : Rvalue). Some (rvalue_view y)) f
 
-pub shown_value : (o : Option Source) (x : Source) (v : Expr) → o ≡ Some x → x ≡ code_source.Value v → given_view o ≡ Some (program.value (expr_view v))
-shown_value o x v e f = ap given_view e ∙ ap (λ (y : Source). Some (source_view y)) f
+pub shown_value : (o : Option Rvalue) (x : Rvalue) (v : Expr) → o ≡ Some x → x ≡ code_source.Value v → given_view o ≡ Some (program.value (expr_view v))
+shown_value o x v e f = ap given_view e ∙ ap (λ (y : Rvalue). Some (rvalue_view y)) f

@@ -1,7 +1,7 @@
 -- A run that comes to a point, cut at the statement on top: the point is inside, or the statement ends or jumps before.
 use Rattle.std.proofs.Common.{◌≡◌, ◌≢◌, ℕ, zero, suc, ◌+◌, ◌<◌, ◌≤◌, List, ◌∷◌, length, Option, Some, None, Bool, true, false, ◌⊎◌, inl, inr, refl, sym, ap, ◌∙◌, subst, slice_get, arith}
 use Rattle.std.proofs.lemmas.Option.{same_Some, none-some}
-use Rattle.lra_program.specs.Program.{Cond, Call, Source, value, result, Declarator, Stmt, absent, nothing, block, assign, call, if, loop, for, break, continue, return, assert, assume, BlockItems}
+use Rattle.lra_program.specs.Program.{Cond, Call, Rvalue, value, result, Declarator, Stmt, absent, nothing, block, assign, call, if, loop, for, break, continue, return, assert, assume, BlockItems}
 use Rattle.lra_program.specs.Program.{no_more, declaration, statement, Function, Program}
 use Rattle.lra_program.specs.Value.{index_of, truth_of}
 use Rattle.lra_program.specs.Step.{State, Op, append, give, give_any, push, keep, test, run_op, run_any, Here, Back, Item, run, declare, all, end_of, turn, cut, mark, leave_call, Config, to_turn}
@@ -184,7 +184,7 @@ module _ (P : Program) (T : List Site) (c : Config) (p : ℕ) (on : label_on c.i
       inside u o t = after u o (below.every (into_callee spot x b fn.parameters r) fn.body g n' r' d (call_items fn spot.live x spot.frame.here k) u j
           (record { loops = λ m z. absurd (none-some m z); backs = refl }) (length_push spot.frame.here.base b.arguments s u o ∙ rw (l, i) refl) less t)
 
-  splits_gives : (spot : Spot) (r : ℕ) (x : Option ℕ) (a : Source) (g : Node) (q : ℕ) (k : List Item) (s : State) (j : ℕ) (e : Config) → Gives P T spot r x a g q → length s.store ≡ spot.live →
+  splits_gives : (spot : Spot) (r : ℕ) (x : Option ℕ) (a : Rvalue) (g : Node) (q : ℕ) (k : List Item) (s : State) (j : ℕ) (e : Config) → Gives P T spot r x a g q → length s.store ≡ spot.live →
       j < fuel
       → do_source P x a k spot.frame.here s ≡ Some e → Steps P j e c → Splits P T c p spot.frame.here k (suc j) g s
   splits_gives _ _ _ _ _ _ k s j e (as_value {s = spot} {x = x} {e = v}) l less y rest = splits_act P T c p on spot.next (give spot.frame.here.base x v) spot.frame.here k s j e y rest
@@ -382,7 +382,7 @@ module _ (P : Program) (T : List Site) (c : Config) (p : ℕ) (on : label_on c.i
   splits_declare spot d g q' i x k s count l less t = splits_point P T c p on spot d.label false (declare d) g k s count i l refl (λ z. absurd z) t
       (λ j e j' y w. splits_more P T c p on spot.frame.here k (suc j) count g s (omega arith) (by_source spot (suc spot.next) d.source g q' x k s j e l (omega arith) y w))
     where
-      by_source : (spot : Spot) (r : ℕ) (o : Option Source) (g : Node) (q' : ℕ) → Declares P T spot r o g q' → (k : List Item) (s : State) (j : ℕ) (e : Config) → length s.store ≡ spot.live → j < fuel
+      by_source : (spot : Spot) (r : ℕ) (o : Option Rvalue) (g : Node) (q' : ℕ) → Declares P T spot r o g q' → (k : List Item) (s : State) (j : ℕ) (e : Config) → length s.store ≡ spot.live → j < fuel
           → do_declare P o k spot.frame.here s ≡ Some e → Steps P j e c → Cut spot.frame.here k (suc j) g s
       by_source _ _ _ _ _ (as_fresh {s = spot}) k s j e l less y w = splits_act P T c p on spot.next append spot.frame.here k s j e y w
       by_source _ _ _ _ _ (as_given {s = spot} {r = r} {e = b} {g = g} {q = q'} d) k s j e l less y w =

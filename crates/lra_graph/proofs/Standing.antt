@@ -1,7 +1,7 @@
 -- Where a part of a well-formed program stands, its own parts stand.
 use Rattle.std.proofs.Common.{◌≡◌, ℕ, suc, ◌+◌, ◌≤◌, ◌<◌, length, Option, Some, None, Bool, true, false, slice_get, refl, sym, ap, ◌∙◌, subst, arith}
 use Rattle.std.proofs.lemmas.Option.{none-some, same_Some}
-use Rattle.lra_program.specs.Program.{Slot, local, Cond, Call, Source, result, Declarator, Stmt, block, assign, call, if, loop, for, break, continue, return, BlockItems, no_more, declaration}
+use Rattle.lra_program.specs.Program.{Slot, local, Cond, Call, Rvalue, result, Declarator, Stmt, block, assign, call, if, loop, for, break, continue, return, BlockItems, no_more, declaration}
 use Rattle.lra_program.specs.Program.{statement, Function, Program}
 use Rattle.lra_program.specs.Sites.{live_behind}
 use Rattle.lra_program.specs.WellFormed.{IsLive, IsWellFormed}
@@ -23,7 +23,7 @@ module _ (P : Program) (r : Frame) where
   pub block_stands : (items : BlockItems) (end : ℕ) → StmtStands P r (block items end) → ItemsStand P r items
   block_stands items end x = stands_as r _ _ (λ b n g. g) x
 
-  pub assign_stands : (at : ℕ) (v : Slot) (e : Source) → StmtStands P r (assign at v e) → GivenStands P r (Some e)
+  pub assign_stands : (at : ℕ) (v : Slot) (e : Rvalue) → StmtStands P r (assign at v e) → GivenStands P r (Some e)
   assign_stands at v e x = stands_as r _ _ (λ b n g. (at, g.1)) x
 
   pub call_stands : (at : ℕ) (c : Call) → StmtStands P r (call at c) → CallStands P r c
@@ -35,7 +35,7 @@ module _ (P : Program) (r : Frame) where
   pub false_stands : (at : ℕ) (c : Cond) (s t : Stmt) → StmtStands P r (if at c s t) → StmtStands P r t
   false_stands at c s t x = stands_as r _ _ (λ b n g. g.2) x
 
-  pub return_stands : (at : ℕ) (o : Option Source) → StmtStands P r (return at o) → GivenStands P r o
+  pub return_stands : (at : ℕ) (o : Option Rvalue) → StmtStands P r (return at o) → GivenStands P r o
   return_stands at o x = stands_as r _ _ (λ b n g. (at, g)) x
 
   pub first_stands : (s : Stmt) (b : BlockItems) → ItemsStand P r (statement s b) → StmtStands P r s
@@ -172,7 +172,7 @@ module _ (P : Program) (r : Frame) where
   continue_stands at x = x.loops x.good
 
   -- an assigned variable stands in the store
-  pub assigned_fits : (at : ℕ) (v : Slot) (e : Source) → StmtStands P r (assign at v e) → r.live ≤ 24 → (k : ℕ) → v ≡ local k → r.base + k < 18446744073709551616
+  pub assigned_fits : (at : ℕ) (v : Slot) (e : Rvalue) → StmtStands P r (assign at v e) → r.live ≤ 24 → (k : ℕ) → v ≡ local k → r.base + k < 18446744073709551616
   assigned_fits at v e x few k same =
       let live : IsLive P x.own (local k) = subst (λ z. IsLive P x.own z) same x.good.0 in
       let w = x.within in

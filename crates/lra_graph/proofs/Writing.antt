@@ -1,7 +1,7 @@
 -- Each form of a statement, written out behind the points before it.
 use Rattle.std.proofs.Common.{◌≡◌, ℕ, suc, ◌+◌, ◌≤◌, List, [], ◌∷◌, ◌++◌, length, Option, Some, None, Bool, true, false, slice_get, refl, sym, ap, ◌∙◌, subst, append_assoc}
 use Rattle.std.proofs.lemmas.Option.{none-some, same_Some}
-use Rattle.lra_program.specs.Program.{Slot, Expr, Cond, Call, Source, value, result, Declarator, Stmt, absent, nothing, block, assign, call, if, loop, for, break, continue, return, assert, assume}
+use Rattle.lra_program.specs.Program.{Slot, Expr, Cond, Call, Rvalue, value, result, Declarator, Stmt, absent, nothing, block, assign, call, if, loop, for, break, continue, return, assert, assume}
 use Rattle.lra_program.specs.Program.{BlockItems, no_more, declaration, statement, Function, Program}
 use Rattle.lra_program.specs.Value.{index_of}
 use Rattle.lra_program.specs.Step as step
@@ -78,7 +78,7 @@ module _ (P : Program) (path : List ℕ) (r : Frame) where
             (has_point V U T f end (live_behind N items) false e' b is));
       }
 
-  gives_as : (T : List Site) (f : inlined.Frame) (n k k' m m' : ℕ) (x x' : Option ℕ) (s : Source) (h : Node) (u : ℕ) → k ≡ k' → m ≡ m' → x ≡ x' → Gives P T (spot_of f n k) m x s h u
+  gives_as : (T : List Site) (f : inlined.Frame) (n k k' m m' : ℕ) (x x' : Option ℕ) (s : Rvalue) (h : Node) (u : ℕ) → k ≡ k' → m ≡ m' → x ≡ x' → Gives P T (spot_of f n k) m x s h u
       → Gives P T (spot_of f n k') m' x' s h u
   gives_as T f n k k' m m' x x' s h u a b c y =
       subst (λ z. Gives P T (spot_of f n k') m' z s h u) c (subst (λ z. Gives P T (spot_of f n k') z x s h u) b (subst (λ z. Gives P T (spot_of f n z) m x s h u) a y))
@@ -86,7 +86,7 @@ module _ (P : Program) (path : List ℕ) (r : Frame) where
   inl_as : (T : List Site) (f : inlined.Frame) (n k k' : ℕ) (s : Stmt) (h : Node) (u : ℕ) → k ≡ k' → Inl P T (spot_of f n k) s h u → Inl P T (spot_of f n k') s h u
   inl_as T f n k k' s h u e y = subst (λ z. Inl P T (spot_of f n z) s h u) e y
 
-  pub assign_written : (S V U : List Site) (q at place : ℕ) (x : Slot) (s : Source) (h g : Node) → q ≡ length S → Pointed S (site at N false) V → place ≡ index_of r.base x
+  pub assign_written : (S V U : List Site) (q at place : ℕ) (x : Slot) (s : Rvalue) (h g : Node) → q ≡ length S → Pointed S (site at N false) V → place ≡ index_of r.base x
       → WritesSource P path r q (Some place) V s h U
       → g ≡ seq (point q) h → WritesStmt P path r S (assign at x s) g U
   assign_written S V U q at place x s h g i e j y a = record {
@@ -199,7 +199,7 @@ module _ (P : Program) (path : List ℕ) (r : Frame) where
             (loops_as T f m q (length S) (length W) (length W) (loop at c s t) k (length U) i refl (y'.placed T f b (with_live m is) at has)));
       }
 
-  pub return_written : (S V U : List Site) (q at : ℕ) (o : Option Source) (h g : Node) → q ≡ length S → Pointed S (site at N false) V → WritesReturn P path r q V o h U → g ≡ seq (point q) h
+  pub return_written : (S V U : List Site) (q at : ℕ) (o : Option Rvalue) (h g : Node) → q ≡ length S → Pointed S (site at N false) V → WritesReturn P path r q V o h U → g ≡ seq (point q) h
       → WritesStmt P path r S (return at o) g U
   return_written S V U q at o h g i e x a = record {
     walked = walk_then S (plain_site path at N ∷ []) (given_events (inside P path r) path N o) V (passed U) e x.walked;
@@ -321,7 +321,7 @@ module _ (P : Program) (path : List ℕ) (r : Frame) where
   pub fresh_written : (S : List Site) (q : ℕ) (g : Node) → g ≡ act q append → WritesDeclared P path r q S None g S
   fresh_written S q g a = record { walked = refl; placed = λ T f b is. rw a as_fresh }
 
-  pub given_written : (S U : List Site) (q n : ℕ) (e : Source) (h g : Node) → n ≡ suc N → WritesSource P path (record r { live = n }) q (Some r.live) S e h U → g ≡ seq (act q append) h
+  pub given_written : (S U : List Site) (q n : ℕ) (e : Rvalue) (h g : Node) → n ≡ suc N → WritesSource P path (record r { live = n }) q (Some r.live) S e h U → g ≡ seq (act q append) h
       → WritesDeclared P path r q S (Some e) g U
   given_written S U q n e h g same y a =
       let y' = subst (λ z. WritesSource P path (record r { live = z }) q (Some r.live) S e h U) same y in

@@ -2,7 +2,7 @@
 -- points follow, its tree is that of the definition.
 use Rattle.std.specs.Prelude.{◌≡◌, ◌≢◌, ℕ, suc, ◌+◌, ◌-◌, ◌≤◌, Bool, true, List, ◌∷◌, ◌++◌, length, Option, Some, None}
 use Rattle.std.specs.Prelude.{slice_get}
-use Rattle.lra_program.specs.Program.{Expr, Cond, Call, Source, Stmt, loop, break, continue, return, BlockItems}
+use Rattle.lra_program.specs.Program.{Expr, Cond, Call, Rvalue, Stmt, loop, break, continue, return, BlockItems}
 use Rattle.lra_program.specs.Program.{Function, Program}
 use Rattle.lra_program.specs.Step as step
 use Rattle.lra_program.specs.Step.{give, give_any, keep}
@@ -47,7 +47,7 @@ module _ (P : Program) (r : Frame) where
   abbrev pub ItemsStand : BlockItems → Type 0
   ItemsStand items = Stands r (λ in_loop own. AreGoodItems P in_loop own items)
 
-  abbrev pub GivenStands : Option Source → Type 0
+  abbrev pub GivenStands : Option Rvalue → Type 0
   GivenStands o = Stands r (λ in_loop own. (at : ℕ) × IsGoodGiven P at own o)
 
   abbrev pub CallStands : Call → Type 0
@@ -105,7 +105,7 @@ module _ (P : Program) (path : List ℕ) (r : Frame) where
       (λ T f. inlined.InlAll P T (inlined.spot_of f r.live (length S)) b g (live_behind r.live b) (length U))
 
   -- what a variable gets, from the point q on
-  abbrev pub WritesSource : ℕ → Option ℕ → List Site → Source → Node → List Site → Type 0
+  abbrev pub WritesSource : ℕ → Option ℕ → List Site → Rvalue → Node → List Site → Type 0
   WritesSource q x S e g U = Writes path r (source_events inside path r.live e) S U
       (λ T f. inlined.Gives P T (inlined.spot_of f r.live q) (length S) x e g (length U))
 
@@ -117,12 +117,12 @@ module _ (P : Program) (path : List ℕ) (r : Frame) where
       → inlined.Loops P T (inlined.spot_of f r.live q) (length S) (loop at c a step) g (length U))
 
   -- a declarator, and its variable's value, behind its point q
-  abbrev pub WritesDeclared : ℕ → List Site → Option Source → Node → List Site → Type 0
+  abbrev pub WritesDeclared : ℕ → List Site → Option Rvalue → Node → List Site → Type 0
   WritesDeclared q S o g U = Writes path r (given_events inside path (suc r.live) o) S U
       (λ T f. inlined.Declares P T (inlined.spot_of f r.live q) (length S) o g (length U))
 
   -- a return behind its point q
-  abbrev pub WritesReturn : ℕ → List Site → Option Source → Node → List Site → Type 0
+  abbrev pub WritesReturn : ℕ → List Site → Option Rvalue → Node → List Site → Type 0
   WritesReturn q S o g U = Writes path r (given_events inside path r.live o) S U
       (λ T f. (at : ℕ) → length S ≡ suc q → inlined.Has T (inlined.spot_of f r.live q) at
       → inlined.Inl P T (inlined.spot_of f r.live q) (return at o) (seq (point q) g) (length U))

@@ -3,7 +3,7 @@ use Rattle.std.specs.Prelude.{◌≡◌, ℕ, ◌+◌, ◌++◌, List, [], ◌�
 use Rattle.std.specs.declared.alloc.Global.{Global}
 use Rattle.lra_operations.specs.declared.graph.Node as code
 use Rattle.lra_operations.specs.declared.graph.Site as code_site
-use Rattle.lra_program.specs.Program.{Cond, Call, Source, Stmt, block, assign, call, if, loop, for, return}
+use Rattle.lra_program.specs.Program.{Cond, Call, Rvalue, Stmt, block, assign, call, if, loop, for, return}
 use Rattle.lra_program.specs.Program.{result, BlockItems, Program}
 use Rattle.lra_operations.specs.Graph.{Exit}
 use Rattle.lra_program.specs.Sites.{Site, Event, comes, plain_site, source_events, given_events, stmt_events}
@@ -73,11 +73,11 @@ module _ (at : Around) where
   abbrev pub ItemStands : (BlockItems → BlockItems) → Type 0
   ItemStands item = building.ItemStands program_around at.frame item
 
-  abbrev pub GivenStands : Option Source → Type 0
+  abbrev pub GivenStands : Option Rvalue → Type 0
   GivenStands o = building.GivenStands program_around at.frame o
 
   -- behind one variable more
-  abbrev pub DeclaredStands : Option Source → Type 0
+  abbrev pub DeclaredStands : Option Rvalue → Type 0
   DeclaredStands o = building.GivenStands program_around (record at.frame { live = at.frame.live + 1 }) o
 
   abbrev pub CallStands : Call → Type 0
@@ -106,10 +106,10 @@ module _ (at : Around) where
     abbrev pub StopsItem : (BlockItems → BlockItems) → Limit → Type 0
     StopsItem item = building.StopsItem program_around at.path.now at.frame (points_in before) item
 
-    abbrev pub StopsGiven : ℕ → Option Source → Limit → Type 0
+    abbrev pub StopsGiven : ℕ → Option Rvalue → Limit → Type 0
     StopsGiven live o = Stops (given_events inside at.path.now live o)
 
-    abbrev pub StopsSource : Source → Limit → Type 0
+    abbrev pub StopsSource : Rvalue → Limit → Type 0
     StopsSource e = Stops (source_events inside at.path.now at.frame.live e)
 
     abbrev pub StopsCall : Call → Limit → Type 0
@@ -155,7 +155,7 @@ module _ (at : Around) where
           (points_in after)
 
       -- behind the point q, for the variable x
-      abbrev pub IsSource : ℕ → Option ℕ → Source → code.Node → Type 0
+      abbrev pub IsSource : ℕ → Option ℕ → Rvalue → code.Node → Type 0
       IsSource q x e g =
           building.WritesSource program_around at.path.now at.frame q x (points_in before) e (node_view g)
           (points_in after)
@@ -167,7 +167,7 @@ module _ (at : Around) where
           → building.WritesBody program_around at.path.now at.frame x c S (node_view h) n (points_in before)
           → building.WritesSource program_around at.path.now at.frame q x S (result c) (node_view g) (points_in after)
 
-      abbrev pub IsDeclared : ℕ → Option Source → code.Node → Type 0
+      abbrev pub IsDeclared : ℕ → Option Rvalue → code.Node → Type 0
       IsDeclared q o g =
           building.WritesDeclared program_around at.path.now at.frame q (points_in before) o (node_view g)
           (points_in after)
@@ -177,7 +177,7 @@ module _ (at : Around) where
           building.WritesLoop program_around at.path.now at.frame q (points_in before) c a step
           (node_view g) (points_in after)
 
-      abbrev pub IsReturn : ℕ → Option Source → code.Node → Type 0
+      abbrev pub IsReturn : ℕ → Option Rvalue → code.Node → Type 0
       IsReturn q o g =
           building.WritesReturn program_around at.path.now at.frame q (points_in before) o (node_view g)
           (points_in after)

@@ -10,7 +10,7 @@ ghost use Rattle.lra_program.specs.Program as resolved;
 ghost use Rattle.lra_program.specs.Sites.{live_behind};
 ghost use Rattle.lra_program.specs.Value.{index_of};
 ghost use Rattle.lra_program.specs.WellFormed.{IsWellFormed};
-ghost use Rattle.lra_program.specs.ProgramViews.{slot_view, expr_view, cond_view, call_view, source_view, given_view};
+ghost use Rattle.lra_program.specs.ProgramViews.{slot_view, expr_view, cond_view, call_view, rvalue_view, given_view};
 ghost use Rattle.lra_program.specs.ProgramViews.{stmt_view};
 ghost use Rattle.lra_program.specs.ProgramViews.{item_view, items_of};
 ghost use Rattle.lra_operations.specs.GraphViews.{exit_view};
@@ -30,7 +30,7 @@ use crate::frame::{Around, Caller, Frame, Repeated};
 use crate::points::{GraphError, Limit, add_point, finish};
 use calls::{callee, end_call, enter_call};
 use lra_operations::{Exit, Node, Op, Site};
-use lra_program::{BlockItem, Call, Cond, Expr, Slot, Source, Stmt};
+use lra_program::{BlockItem, Call, Cond, Expr, Slot, Rvalue, Stmt};
 use returns::{leave_any, leave_call, leave_value, receiver_of};
 pub use whole::build;
 
@@ -270,15 +270,15 @@ fn inline_assign(
     around: &Around<'_>,
     label: usize,
     slot: Slot,
-    source: &Source,
+    source: &Rvalue,
     sites: &mut Vec<Site>,
 ) -> Result<Node, GraphError>
     requires well { IsWellFormed (program_around around.now) }
-    requires stands { StmtStands around.now (resolved.assign label (slot_view slot) (source_view source.now)) }
+    requires stands { StmtStands around.now (resolved.assign label (slot_view slot) (rvalue_view source.now)) }
     ensures written { IfOk result (IsStmt around.now sites.old sites.new
-        (resolved.assign label (slot_view slot) (source_view source.now))) }
+        (resolved.assign label (slot_view slot) (rvalue_view source.now))) }
     ensures limit { OnLimit result (StopsStmt around.now sites.old
-        (resolved.assign label (slot_view slot) (source_view source.now))) }
+        (resolved.assign label (slot_view slot) (rvalue_view source.now))) }
 {
     let point = own_point(around, label, sites)?;
     let target = Some(store_index(around.frame.base, slot));
@@ -372,7 +372,7 @@ fn inline_item(
 fn inline_declared(
     around: &Around<'_>,
     point: usize,
-    source: &Option<Source>,
+    source: &Option<Rvalue>,
     sites: &mut Vec<Site>,
 ) -> Result<Node, GraphError>
     requires well { IsWellFormed (program_around around.now) }
@@ -492,7 +492,7 @@ fn inline_for(
 fn inline_return(
     around: &Around<'_>,
     label: usize,
-    source: &Option<Source>,
+    source: &Option<Rvalue>,
     sites: &mut Vec<Site>,
 ) -> Result<Node, GraphError>
     requires well { IsWellFormed (program_around around.now) }
@@ -503,8 +503,8 @@ fn inline_return(
 {
     match source {
         None => return_any(around, label, sites),
-        Some(Source::Value(value)) => return_value(around, label, value, sites),
-        Some(Source::Result(call)) => {
+        Some(Rvalue::Value(value)) => return_value(around, label, value, sites),
+        Some(Rvalue::Result(call)) => {
             let point = own_point(around, label, sites)?;
             let target = receiver_of(around.frame.back);
             let given = inline_call(around, point, target, call, sites)?;
@@ -519,21 +519,21 @@ fn inline_source(
     around: &Around<'_>,
     point: usize,
     target: Option<usize>,
-    source: &Source,
+    source: &Rvalue,
     sites: &mut Vec<Site>,
 ) -> Result<Node, GraphError>
     requires well { IsWellFormed (program_around around.now) }
     requires few { around.now.frame.live ≤ 25 }
-    requires stands { GivenStands around.now (Some (source_view source.now)) }
-    ensures written { IfOk result (IsSource around.now sites.old sites.new point target (source_view source.now)) }
-    ensures limit { OnLimit result (StopsSource around.now sites.old (source_view source.now)) }
+    requires stands { GivenStands around.now (Some (rvalue_view source.now)) }
+    ensures written { IfOk result (IsSource around.now sites.old sites.new point target (rvalue_view source.now)) }
+    ensures limit { OnLimit result (StopsSource around.now sites.old (rvalue_view source.now)) }
 {
     match source {
-        Source::Value(value) => {
+        Rvalue::Value(value) => {
             let value = value.copy(around.alloc)?;
             Ok(Node::Act(point, Op::Give(around.frame.base, target, value)))
         }
-        Source::Result(call) => inline_call(around, point, target, call, sites),
+        Rvalue::Result(call) => inline_call(around, point, target, call, sites),
     }
 }
 

@@ -11,7 +11,7 @@ use Rattle.lra_tree.specs.declared.trees.Identifier.{Identifier}
 use Rattle.lra_tree.specs.Trees.{UnaryTree, negated, positive, literal, variable, input, group, TermTree, unary, times}
 use Rattle.lra_tree.specs.Trees.{over, modulo, ExprTree, term, plus, minus, NegationTree, opposite_again}
 use Rattle.lra_tree.specs.Trees.{value_of_unary, group_opposed, TestTree, opposite, value, compare, group_of}
-use Rattle.lra_tree.specs.Trees.{ConjunctionTree, test, and, CondTree, conjunction, or, CallTree, SourceTree}
+use Rattle.lra_tree.specs.Trees.{ConjunctionTree, test, and, CondTree, conjunction, or, CallTree, RvalueTree}
 use Rattle.lra_tree.specs.Trees.{expression, result, AssignTree, set, update, after, before, DeclaratorTree, InitTree}
 use Rattle.lra_tree.specs.Trees.{no_init, declared, assigned, StmtTree, block, nothing, assign, call, if_only, if_else}
 use Rattle.lra_tree.specs.Trees.{while, for, break, continue, return, assert, assume, ItemsTree, no_items, declaration}
@@ -80,7 +80,7 @@ abbrev pub call_faults : List FunctionTree → Scope → CallTree → Bool → L
 call_faults F s c used = called_faults (function_named F c.name.word) c.name (length c.arguments) used ++
     flat_map (expr_faults s) c.arguments
 
-abbrev pub source_faults : List FunctionTree → Scope → SourceTree → List Refusal
+abbrev pub source_faults : List FunctionTree → Scope → RvalueTree → List Refusal
 source_faults F s (expression e) = expr_faults s e
 source_faults F s (result c) = call_faults F s c true
 
@@ -92,7 +92,7 @@ assign_faults F s (before at step x) = use_faults s x
 
 -- declarations: a name is in scope from its own end on --------------------------------------------------------------
 
-abbrev pub given_faults : List FunctionTree → Scope → Option SourceTree → List Refusal
+abbrev pub given_faults : List FunctionTree → Scope → Option RvalueTree → List Refusal
 given_faults F s None = []
 given_faults F s (Some e) = source_faults F s e
 
@@ -127,7 +127,7 @@ pub record Around : Type 0 where
 abbrev pub in_a_loop : Around → Around
 in_a_loop a = record a { in_loop = true }
 
-abbrev pub return_faults : Around → Scope → Place → Option SourceTree → List Refusal
+abbrev pub return_faults : Around → Scope → Place → Option RvalueTree → List Refusal
 return_faults a s at None = []
 return_faults a s at (Some e) = fault_if (not a.has_result) BadCall at ++ source_faults a.functions s e
 

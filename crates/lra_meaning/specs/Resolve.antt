@@ -7,7 +7,7 @@ use Rattle.std.specs.Prelude.{cond}
 use Rattle.lra_tree.specs.declared.trees.Identifier.{Identifier}
 use Rattle.lra_tree.specs.Trees as tree
 use Rattle.lra_program.specs.Program.{Slot, global, Expr, literal, read, input, negate, binary, Cond, compare, nonzero}
-use Rattle.lra_program.specs.Program.{opposite, both_of, either_of, Call, Source, value, result, Stmt, absent, nothing}
+use Rattle.lra_program.specs.Program.{opposite, both_of, either_of, Call, Rvalue, value, result, Stmt, absent, nothing}
 use Rattle.lra_program.specs.Program.{block, assign, call, if, loop, for, break, continue, return, assert, assume}
 use Rattle.lra_program.specs.Program.{BlockItems, no_more, declaration, statement, Function, Program}
 use Rattle.lra_base.specs.Operators.{Operator, plus, minus, times, over, modulo}
@@ -90,11 +90,11 @@ resolve_call F s n c = record {
   arguments = map (resolve_expr s) c.arguments;
 }
 
-abbrev pub resolve_source : List tree.FunctionTree → Scope → ℕ → tree.SourceTree → Source
+abbrev pub resolve_source : List tree.FunctionTree → Scope → ℕ → tree.RvalueTree → Rvalue
 resolve_source F s n (tree.expression e) = value (resolve_expr s e)
 resolve_source F s n (tree.result c) = result (resolve_call F s n c)
 
-abbrev pub resolve_given : List tree.FunctionTree → Scope → ℕ → Option tree.SourceTree → Option Source
+abbrev pub resolve_given : List tree.FunctionTree → Scope → ℕ → Option tree.RvalueTree → Option Rvalue
 resolve_given F s n None = None
 resolve_given F s n (Some e) = Some (resolve_source F s n e)
 

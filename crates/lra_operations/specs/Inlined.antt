@@ -3,7 +3,7 @@
 -- T is the list of the program's points in the order of their numbers.
 use Rattle.std.specs.Prelude.{◌≡◌, ℕ, suc, ◌+◌, ◌≤◌, Bool, true, false, List, ◌∷◌, length, Option, Some, None}
 use Rattle.std.specs.Prelude.{slice_get, []}
-use Rattle.lra_program.specs.Program.{Slot, Expr, Cond, Call, Source, value, result, Declarator, Stmt, absent, nothing}
+use Rattle.lra_program.specs.Program.{Slot, Expr, Cond, Call, Rvalue, value, result, Declarator, Stmt, absent, nothing}
 use Rattle.lra_program.specs.Program.{block, assign, call, if, loop, for, break, continue, return, assert, assume}
 use Rattle.lra_program.specs.Program.{BlockItems, no_more, declaration, statement, Function, Program}
 use Rattle.lra_program.specs.Value.{index_of}
@@ -82,7 +82,7 @@ mutual
         InlAll P T s body g n q → Has T (move s n q) end
         → Inl P T s (block body end) (seq g (seq (point q) (act q (keep s.live)))) (suc q)
     as_absent : {s : Spot} → Inl P T s absent empty s.next
-    as_assign : {s : Spot} {at : ℕ} {x : Slot} {e : Source} {g : Node} {q : ℕ} → Has T s at →
+    as_assign : {s : Spot} {at : ℕ} {x : Slot} {e : Rvalue} {g : Node} {q : ℕ} → Has T s at →
         Gives P T s (suc s.next) (Some (index_of s.frame.here.base x)) e g q
         → Inl P T s (assign at x e) (seq (point s.next) g) q
     as_call : {s : Spot} {at : ℕ} {c : Call} {g : Node} {q : ℕ} → Has T s at →
@@ -133,9 +133,9 @@ mutual
         → InlAll P T s (statement a b) (seq g h) n q
 
   -- a declarator at its point: a new variable, and what it gets; r is the next one's number
-  pub data Declares (P : Program) (T : List Site) : Spot → ℕ → Option Source → Node → ℕ → Type 0 where
+  pub data Declares (P : Program) (T : List Site) : Spot → ℕ → Option Rvalue → Node → ℕ → Type 0 where
     as_fresh : {s : Spot} {r : ℕ} → Declares P T s r None (act s.next append) r
-    as_given : {s : Spot} {r : ℕ} {e : Source} {g : Node} {q : ℕ} →
+    as_given : {s : Spot} {r : ℕ} {e : Rvalue} {g : Node} {q : ℕ} →
         Gives P T (move s (suc s.live) s.next) r (Some s.live) e g q
         → Declares P T s r (Some e) (seq (act s.next append) g) q
 
@@ -146,7 +146,7 @@ mutual
         → Loops P T s r (loop at c a step) (loop_node s.next s.frame.here.base c g h) q
 
   -- what the variable gets, where there is one, at the statement's point; r is the next one's number
-  pub data Gives (P : Program) (T : List Site) : Spot → ℕ → Option ℕ → Source → Node → ℕ → Type 0 where
+  pub data Gives (P : Program) (T : List Site) : Spot → ℕ → Option ℕ → Rvalue → Node → ℕ → Type 0 where
     as_value : {s : Spot} {r : ℕ} {x : Option ℕ} {e : Expr} →
         Gives P T s r x (value e) (act s.next (give s.frame.here.base x e)) r
     as_result : {s : Spot} {r : ℕ} {x : Option ℕ} {c : Call} {fn : Function} {g : Node} {n q : ℕ}

@@ -2,7 +2,7 @@
 //! are left.
 
 ghost use Rattle.std.specs.Prelude.{◌≡◌, ◌<◌, ◌≤◌, length, option_map, IfOk};
-ghost use Rattle.lra_tree.specs.Views.{source_view, assign_view, cond_view, init_view, stmt_view};
+ghost use Rattle.lra_tree.specs.Views.{rvalue_view, assign_view, cond_view, init_view, stmt_view};
 ghost use Rattle.lra_tree.specs.Trees.{break, continue};
 ghost use Rattle.lra_tree.specs.declared.tokens.Mark.TheVariants.{Break, Continue, Semicolon};
 ghost use Rattle.lra_readers.specs.Tests.{first, is_loop, is_jump};
@@ -15,7 +15,7 @@ ghost use Rattle.lra_parse.specs.Heads.{head_view};
 use lra_base::Place;
 use lra_phrases::{read_assign, read_cond, read_declaration, read_source};
 use lra_readers::{Stopped, expect, expect_at, next_is, tail};
-use lra_tree::{Assign, Cond, Init, Mark, Source, Stmt, Token};
+use lra_tree::{Assign, Cond, Init, Mark, Rvalue, Stmt, Token};
 use std::alloc::Global;
 
 /// What stands in the parentheses of a `for`.
@@ -167,9 +167,9 @@ fn read_returned(
     alloc: Global,
     rest: &[Token],
     depth: usize,
-) -> Result<(Option<Source>, &[Token]), Stopped>
+) -> Result<(Option<Rvalue>, &[Token]), Stopped>
     ensures shorter { IfOk result (λ r. length r.1.now ≤ length rest.now) }
-    ensures gives { Gives (λ r. (option_map source_view r.0, r.1.now)) result
+    ensures gives { Gives (λ r. (option_map rvalue_view r.0, r.1.now)) result
         (up_to Semicolon (source_at depth) rest.now) }
 {
     if next_is(rest, Mark::Semicolon) {

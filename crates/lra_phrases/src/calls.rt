@@ -1,14 +1,14 @@
 //! Calls, and what a variable gets or a `return` gives. A function reads where `depth` levels of nesting are left.
 
 ghost use Rattle.std.specs.Prelude.{◌≡◌, ◌<◌, ◌≤◌, [], ◌∷◌, length, map, IfOk};
-ghost use Rattle.lra_tree.specs.Views.{expr_view, call_view, source_view};
+ghost use Rattle.lra_tree.specs.Views.{expr_view, call_view, rvalue_view};
 ghost use Rattle.lra_readers.specs.Reading.{Gives, map_read};
 ghost use Rattle.lra_readers.specs.Expressions.{expr_at};
 ghost use Rattle.lra_readers.specs.Statements.{commas, listed, arguments_at, call_rest, source_rest, source_at};
 
 use crate::expressions::{read_expr, read_factors, read_summands};
 use lra_readers::{Stopped, expect, next_is, next_is_name, read_name, tail};
-use lra_tree::{Arguments, Call, Expr, Identifier, Mark, Source, Token, Unary};
+use lra_tree::{Arguments, Call, Expr, Identifier, Mark, Rvalue, Token, Unary};
 use std::alloc::{AllocError, Global};
 
 // The list of this expression.
@@ -76,17 +76,17 @@ fn read_source_rest(
     name: Identifier,
     rest: &[Token],
     depth: usize,
-) -> Result<(Source, &[Token]), Stopped>
+) -> Result<(Rvalue, &[Token]), Stopped>
     ensures shorter { IfOk result (λ r. length r.1.now ≤ length rest.now) }
-    ensures gives { Gives (λ r. (source_view r.0, r.1.now)) result (source_rest depth name rest.now) }
+    ensures gives { Gives (λ r. (rvalue_view r.0, r.1.now)) result (source_rest depth name rest.now) }
 {
     if next_is(rest, Mark::OpenParen) {
         let (call, closed) = read_call(alloc, name, rest, depth)?;
-        return Ok((Source::Result(call), closed));
+        return Ok((Rvalue::Result(call), closed));
     }
     let (term, behind) = read_factors(alloc, Unary::Variable(name), rest, depth)?;
     let (expr, after) = read_summands(alloc, term, behind, depth)?;
-    Ok((Source::Value(expr), after))
+    Ok((Rvalue::Value(expr), after))
 }
 
 /// What a variable gets, or a `return` gives: a call or an expression.
@@ -94,14 +94,14 @@ pub fn read_source(
     alloc: Global,
     rest: &[Token],
     depth: usize,
-) -> Result<(Source, &[Token]), Stopped>
+) -> Result<(Rvalue, &[Token]), Stopped>
     ensures shorter { IfOk result (λ r. length r.1.now ≤ length rest.now) }
-    ensures gives { Gives (λ r. (source_view r.0, r.1.now)) result (source_at depth rest.now) }
+    ensures gives { Gives (λ r. (rvalue_view r.0, r.1.now)) result (source_at depth rest.now) }
 {
     if next_is_name(rest) {
         let (name, behind) = read_name(alloc, rest)?;
         return read_source_rest(alloc, name, behind, depth);
     }
     let (expr, after) = read_expr(alloc, rest, depth)?;
-    Ok((Source::Value(expr), after))
+    Ok((Rvalue::Value(expr), after))
 }

@@ -31,14 +31,14 @@ pub record Call : Type 0 where
   pub arguments : List Expr
 
 -- what a variable gets or a `return` gives: a value, or a call's result
-pub data Source : Type 0 where
-  value : Expr → Source
-  result : Call → Source
+pub data Rvalue : Type 0 where
+  value : Expr → Rvalue
+  result : Call → Rvalue
 
 -- `NAME` or `NAME = source` in a declaration
 pub record Declarator : Type 0 where
   pub label : ℕ
-  pub source : Option Source
+  pub source : Option Rvalue
 
 mutual
   pub data Stmt : Type 0 where
@@ -48,7 +48,7 @@ mutual
     nothing : ℕ → Stmt
     -- its items, and the label of its `}`
     block : BlockItems → ℕ → Stmt
-    assign : ℕ → Slot → Source → Stmt
+    assign : ℕ → Slot → Rvalue → Stmt
     call : ℕ → Call → Stmt
     -- the branch where the condition is true, and the one where it is false
     if : ℕ → Cond → Stmt → Stmt → Stmt
@@ -58,7 +58,7 @@ mutual
     for : ℕ → BlockItems → Cond → Stmt → Stmt → Stmt
     break : ℕ → Stmt
     continue : ℕ → Stmt
-    return : ℕ → Option Source → Stmt
+    return : ℕ → Option Rvalue → Stmt
     assert : ℕ → Cond → Stmt
     assume : ℕ → Cond → Stmt
 

@@ -11,8 +11,8 @@ use Rattle.lra_program.specs.declared.program.Cond.{Cond}
 use Rattle.lra_program.specs.declared.program.Cond.TheFolds.{fold-Cond}
 use Rattle.lra_program.specs.declared.program.Cond.TheOpen.{Cond-F}
 use Rattle.lra_program.specs.declared.program.Call.{Call}
-use Rattle.lra_program.specs.declared.program.Source.{Source}
-use Rattle.lra_program.specs.declared.program.Source.TheVariants as source
+use Rattle.lra_program.specs.declared.program.Rvalue.{Rvalue}
+use Rattle.lra_program.specs.declared.program.Rvalue.TheVariants as source
 use Rattle.lra_program.specs.declared.program.Declarator.{Declarator}
 use Rattle.lra_program.specs.declared.program.BlockItem.TheFolds.{fold-BlockItem, fold-Stmt, fold-BlockItems}
 use Rattle.lra_program.specs.declared.program.BlockItem.TheOpen.{BlockItem-F, Stmt-F, BlockItems-F}
@@ -77,12 +77,12 @@ cond_view = fold-Cond program.Cond cond_step
 abbrev pub call_view : Call → program.Call
 call_view c = record { label = c.label; function = c.function; arguments = map expr_view c.arguments.items }
 
-abbrev pub source_view : Source → program.Source
-source_view (source.Value e) = program.value (expr_view e)
-source_view (source.Result c) = program.result (call_view c)
+abbrev pub rvalue_view : Rvalue → program.Rvalue
+rvalue_view (source.Value e) = program.value (expr_view e)
+rvalue_view (source.Result c) = program.result (call_view c)
 
-abbrev pub given_view : Option Source → Option program.Source
-given_view = option_map source_view
+abbrev pub given_view : Option Rvalue → Option program.Rvalue
+given_view = option_map rvalue_view
 
 abbrev pub declarator_view : Declarator → program.Declarator
 declarator_view d = record { label = d.label; source = given_view d.source }
@@ -106,7 +106,7 @@ abbrev pub stmt_step : Stmt-F (program.BlockItems → program.BlockItems) progra
 stmt_step Stmt-F.Absent = program.absent
 stmt_step (Stmt-F.Nothing at) = program.nothing at
 stmt_step (Stmt-F.Block b end) = program.block b end
-stmt_step (Stmt-F.Assign at x e) = program.assign at (slot_view x) (source_view e)
+stmt_step (Stmt-F.Assign at x e) = program.assign at (slot_view x) (rvalue_view e)
 stmt_step (Stmt-F.Call at c) = program.call at (call_view c)
 stmt_step (Stmt-F.If at c a b) = program.if at (cond_view c) a.value b.value
 stmt_step (Stmt-F.Loop at c a step) = program.loop at (cond_view c) a.value step.value

@@ -3,7 +3,7 @@
 use Rattle.std.specs.Prelude.{ℕ, zero, suc, ◌+◌, Bool, true, false, List, [], ◌∷◌, ◌++◌, length, Option, Some, None}
 use Rattle.std.specs.Prelude.{slice_get}
 use Rattle.lra_base.specs.TextOrder.{for_order}
-use Rattle.lra_program.specs.Program.{Call, Source, value, result, Stmt, absent, nothing, block, assign, call, if, loop}
+use Rattle.lra_program.specs.Program.{Call, Rvalue, value, result, Stmt, absent, nothing, block, assign, call, if, loop}
 use Rattle.lra_program.specs.Program.{for, break, continue, return, assert, assume, BlockItems, no_more, declaration}
 use Rattle.lra_program.specs.Program.{statement, Function, Program}
 
@@ -33,11 +33,11 @@ live_behind live (statement s items) = live_behind live items
 
 -- a call's points, on a path with so many live variables
 module _ (inside : List ℕ → ℕ → Call → List Event) (path : List ℕ) where
-  abbrev pub source_events : ℕ → Source → List Event
+  abbrev pub source_events : ℕ → Rvalue → List Event
   source_events live (value e) = []
   source_events live (result c) = inside path live c
 
-  abbrev pub given_events : ℕ → Option Source → List Event
+  abbrev pub given_events : ℕ → Option Rvalue → List Event
   given_events live None = []
   given_events live (Some e) = source_events live e
 

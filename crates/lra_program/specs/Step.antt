@@ -2,7 +2,7 @@
 -- and exactly one case applies to it. The step is a function, since a state holds the draws that are left.
 use Rattle.std.specs.Prelude.{ℕ, ◌+◌, ℤ, List, [], ◌∷◌, ◌++◌, length, take, Option, Some, None, Bool, true, false}
 use Rattle.std.specs.Prelude.{slice_get, slice_set}
-use Rattle.lra_program.specs.Program.{Expr, Cond, Call, Source, value, result, Declarator, Stmt, absent, nothing, block}
+use Rattle.lra_program.specs.Program.{Expr, Cond, Call, Rvalue, value, result, Declarator, Stmt, absent, nothing, block}
 use Rattle.lra_program.specs.Program.{assign, call, if, loop, for, break, continue, return, assert, assume, BlockItems}
 use Rattle.lra_program.specs.Program.{no_more, declaration, statement, Function, Program}
 use Rattle.lra_program.specs.Value.{◌>>=◌, index_of, Drawn, draw, value_of, values_of, truth_of}
@@ -153,7 +153,7 @@ enter (Some f) c x k h s =
     mark (record { target = x; here = h; length = length s.store }) ∷ k)
     (record { path = c.label ∷ h.path; base = length s.store }) (run_op (push h.base c.arguments) s)
 
-abbrev pub do_source : Program → Option ℕ → Source → List Item → Here → State → Option Config
+abbrev pub do_source : Program → Option ℕ → Rvalue → List Item → Here → State → Option Config
 do_source P x (value e) k h s = go k h (run_op (give h.base x e) s)
 do_source P x (result c) k h s = enter (slice_get P.functions c.function) c x k h s
 
@@ -173,7 +173,7 @@ abbrev pub do_leave : Option Called → Option State → Option Config
 do_leave None s = None
 do_leave (Some m) s = go_on s (λ t. go m.rest m.back.here (run_op (keep m.back.length) t))
 
-abbrev pub do_return : Program → Option Source → List Item → Here → State → Option Config
+abbrev pub do_return : Program → Option Rvalue → List Item → Here → State → Option Config
 do_return P None k h s = do_leave (to_mark k) (run_any (target_of (to_mark k)) s)
 do_return P (Some (value e)) k h s = do_leave (to_mark k) (run_op (give h.base (target_of (to_mark k)) e) s)
 do_return P (Some (result c)) k h s = do_source P (target_of (to_mark k)) (result c) (leave_call ∷ k) h s
@@ -195,7 +195,7 @@ do_stmt P (assert at c) k h s = go k h (run_op (test h.base c true) s)
 do_stmt P (assume at c) k h s = go k h (run_op (test h.base c true) s)
 
 -- a new variable; its value is given by the declarator's source, where it has one
-abbrev pub do_declare : Program → Option Source → List Item → Here → State → Option Config
+abbrev pub do_declare : Program → Option Rvalue → List Item → Here → State → Option Config
 do_declare P None k h s = go k h (run_op append s)
 do_declare P (Some e) k h s = go_on (run_op append s) (do_source P (Some (length s.store)) e k h)
 

@@ -6,7 +6,7 @@ use Rattle.std.specs.Prelude.{slice_get, IsTrue, ⊤}
 use Rattle.std.specs.List.{AllByRecursion, Contains, flat_map, range_with_len}
 use Rattle.lra_base.specs.TextOrder.{for_order}
 use Rattle.lra_program.specs.Program.{Slot, global, local, Expr, literal, read, input, negate, binary, Cond, compare}
-use Rattle.lra_program.specs.Program.{nonzero, opposite, both_of, either_of, Call, Source, value, result, Stmt, absent}
+use Rattle.lra_program.specs.Program.{nonzero, opposite, both_of, either_of, Call, Rvalue, value, result, Stmt, absent}
 use Rattle.lra_program.specs.Program.{nothing, block, assign, call, if, loop, for, break, continue, return, assert}
 use Rattle.lra_program.specs.Program.{assume, BlockItems, no_more, declaration, statement, Function, Program}
 use Rattle.lra_program.specs.Value.{is_word}
@@ -73,11 +73,11 @@ module _ (P : Program) where
     pub width : length c.arguments ≡ callee.parameters
     pub arguments : AllByRecursion (IsGoodExpr live) c.arguments
 
-  abbrev pub IsGoodSource : ℕ → ℕ → Source → Type 0
+  abbrev pub IsGoodSource : ℕ → ℕ → Rvalue → Type 0
   IsGoodSource at live (value e) = IsGoodExpr live e
   IsGoodSource at live (result c) = IsGoodCall at live c
 
-  abbrev pub IsGoodGiven : ℕ → ℕ → Option Source → Type 0
+  abbrev pub IsGoodGiven : ℕ → ℕ → Option Rvalue → Type 0
   IsGoodGiven at live None = ⊤
   IsGoodGiven at live (Some e) = IsGoodSource at live e
 

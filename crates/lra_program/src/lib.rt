@@ -7,5 +7,5 @@ mod program;
 
 pub use program::{
     BlockItem, BlockItems, Call, Cond, Declarator, Expr, Function, Operation, Program, Slot,
-    Source, Stmt, copy_expressions,
+    Rvalue, Stmt, copy_expressions,
 };

@@ -98,23 +98,23 @@ impl Drop for Call {
 }
 
 /// What a variable gets, or a `return` gives.
-pub enum Source {
+pub enum Rvalue {
     Value(Expr),
     Result(Call),
 }
 
-impl Drop for Source {
+impl Drop for Rvalue {
     fn drop(self) {
         match self {
-            Source::Value(_) => {}
-            Source::Result(_) => {}
+            Rvalue::Value(_) => {}
+            Rvalue::Result(_) => {}
         }
     }
 }
 
 pub struct Declarator {
     pub label: usize,
-    pub source: Option<Source>,
+    pub source: Option<Rvalue>,
 }
 
 impl Drop for Declarator {
@@ -135,7 +135,7 @@ pub enum Stmt {
     Nothing(usize),
     /// A block's items, and the label of its `}`.
     Block(BlockItems, usize),
-    Assign(usize, Slot, Source),
+    Assign(usize, Slot, Rvalue),
     Call(usize, Call),
     /// The branch where the condition is true, and the one where it is false.
     If(usize, Cond, Box<Stmt>, Box<Stmt>),
@@ -151,7 +151,7 @@ pub enum Stmt {
     },
     Break(usize),
     Continue(usize),
-    Return(usize, Option<Source>),
+    Return(usize, Option<Rvalue>),
     Assert(usize, Cond),
     Assume(usize, Cond),
 }

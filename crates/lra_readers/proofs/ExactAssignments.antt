@@ -13,7 +13,7 @@ use Rattle.lra_tree.specs.declared.trees.Step.{Step}
 use Rattle.lra_tree.specs.declared.trees.Step.TheVariants as step
 use Rattle.lra_base.specs.Operators as operators
 use Rattle.lra_tree.specs.Texts.{Pieces, Texts, ◌⋅◌, ◌∣◌, empty, opens, mark as spells, opens_at, name, separated}
-use Rattle.lra_tree.specs.Trees.{SourceTree, expression, result, StepTree, increment, decrement, AssignTree, set, update, after, before, DeclaratorTree, DeclarationTree}
+use Rattle.lra_tree.specs.Trees.{RvalueTree, expression, result, StepTree, increment, decrement, AssignTree, set, update, after, before, DeclaratorTree, DeclarationTree}
 use Rattle.lra_base.specs.OperatorViews.{operator_view}
 use Rattle.lra_tree.specs.Views.{step_view}
 use Rattle.lra_tree.specs.Grammar.{IsExpr, IsSource, update_mark, step_mark, IsAssign, IsType, IsDeclarator, IsDeclaration}
@@ -275,14 +275,14 @@ exact_type {n} {A} {p} {S = S} {F = F} P some no_int no_long =
     let s = same_where t (seq type_words (λ _. p)) (λ T i. sym (twice (expect mark.Long (tt {0}) T) (λ T. skip mark.Int (skip mark.Long T)) p)) in
     retell s (λ b. IsType ⋅ S b) (λ b z s. type_out (S b) z s) (λ b z s. type_in (S b) z s)
 
-abbrev AfterGiven : Option SourceTree → Option Token → Type 0
+abbrev AfterGiven : Option RvalueTree → Option Token → Type 0
 AfterGiven None o = is_mark mark.Assign o ≡ false
 AfterGiven (Some e) o = AfterSource e o
 
 abbrev AfterDeclarator : DeclaratorTree → Option Token → Type 0
 AfterDeclarator d o = AfterGiven d.source o
 
-abbrev with_source : Identifier → SourceTree → DeclaratorTree
+abbrev with_source : Identifier → RvalueTree → DeclaratorTree
 with_source x e = record { name = x; source = Some e }
 
 abbrev alone_name : Identifier → DeclaratorTree
@@ -307,7 +307,7 @@ to_declarator : (l : ℕ) (b : DeclaratorTree) (z : Pieces) → Both (λ x. name
 to_declarator l b z (x, (u, v, e, s, inl (p, q, f, m, (a, g, t)))) = subst (λ (c : DeclaratorTree). IsDeclarator l c z) g (u, v, e, s, (p, q, f, m, t))
 to_declarator l b z (x, (u, v, e, s, inr (g, f))) = subst (λ (c : DeclaratorTree). IsDeclarator l c z) (sym g) (u, v, e, s, f)
 
-from_given : (l : ℕ) (x : Identifier) (m : Option SourceTree) (z : Pieces) → IsDeclarator l (record { name = x; source = m }) z → Both (λ x. name x 0) (GivenText l) (record { name = x; source = m }) z
+from_given : (l : ℕ) (x : Identifier) (m : Option RvalueTree) (z : Pieces) → IsDeclarator l (record { name = x; source = m }) z → Both (λ x. name x 0) (GivenText l) (record { name = x; source = m }) z
 from_given l x None z (u, v, e, s, t) = (x, (u, v, e, s, inr (refl, t)))
 from_given l x (Some a) z (u, v, e, s, (p, q, f, m, t)) = (x, (u, v, e, s, inl (p, q, f, m, (a, refl, t))))
 
@@ -329,7 +329,7 @@ to_declaration l b z (x, y, e, s, (u, v, f, (ds, g, t), m)) = subst (λ (c : Dec
 from_declaration : (l : ℕ) (b : DeclarationTree) (z : Pieces) → IsDeclaration l b z → (IsType ⋅ (Declared l b ⋅ spells mark.Semicolon)) z
 from_declaration l b z (x, y, e, s, (u, v, f, t, m)) = (x, y, e, s, (u, v, f, ((b.first, b.rest), refl, t), m))
 
-given_stops : (m : Option SourceTree) (at : Place) → AfterGiven m (Some (token mark.Semicolon at)) × AfterGiven m (Some (token mark.Comma at))
+given_stops : (m : Option RvalueTree) (at : Place) → AfterGiven m (Some (token mark.Semicolon at)) × AfterGiven m (Some (token mark.Comma at))
 given_stops None at = (refl, refl)
 given_stops (Some (expression e)) at = ((((tt, refl), refl), (λ i. refl)), (((tt, refl), refl), (λ i. refl)))
 given_stops (Some (result c)) at = (tt, tt)

@@ -9,7 +9,7 @@ use Rattle.lra_tree.specs.declared.tokens.Token.{Token}
 use Rattle.lra_tree.specs.declared.trees.Step.{Step}
 use Rattle.lra_tree.specs.declared.trees.Step.TheVariants as step
 use Rattle.lra_tree.specs.Texts.{Pieces, Texts, ◌⋅◌, empty, opens, mark as spells}
-use Rattle.lra_tree.specs.Trees.{TestTree, opposite, value, compare, group_of, ConjunctionTree, test, and, CondTree, conjunction, or, SourceTree, AssignTree, InitTree, no_init, declared, assigned}
+use Rattle.lra_tree.specs.Trees.{TestTree, opposite, value, compare, group_of, ConjunctionTree, test, and, CondTree, conjunction, or, RvalueTree, AssignTree, InitTree, no_init, declared, assigned}
 use Rattle.lra_tree.specs.Grammar.{IsTest, IsConjunction, IsCond, IsSource, IsAssign, IsDeclaration, IsInit, IsForTest, IsForStep, IsReturned}
 use Rattle.lra_readers.specs.Tests.{is_mark}
 use Rattle.lra_readers.specs.Reading.{Parse}
@@ -94,11 +94,11 @@ pub exact_returned : (n d l : ℕ) → d + l ≡ n → Exact n IsInner (up_to ma
     (λ e. OptionText (IsSource l) e ⋅ spells mark.Semicolon) Free
 exact_returned n d l h = exact_up_to mark.Semicolon (exact_source n d l h) (source_no_stop l) source_stops
 
-pub to_returned : (l : ℕ) (e : Option SourceTree) (z : Pieces) → OptionText (IsSource l) e z → IsReturned l e z
+pub to_returned : (l : ℕ) (e : Option RvalueTree) (z : Pieces) → OptionText (IsSource l) e z → IsReturned l e z
 to_returned l None z s = s
 to_returned l (Some a) z s = s
 
-pub from_returned : (l : ℕ) (e : Option SourceTree) (z : Pieces) → IsReturned l e z → OptionText (IsSource l) e z
+pub from_returned : (l : ℕ) (e : Option RvalueTree) (z : Pieces) → IsReturned l e z → OptionText (IsSource l) e z
 from_returned l None z s = s
 from_returned l (Some a) z s = s
 

@@ -11,7 +11,7 @@ use Rattle.lra_tree.specs.declared.trees.Identifier.{Identifier}
 use Rattle.lra_tree.specs.declared.trees.SumOperator.{SumOperator}
 use Rattle.lra_tree.specs.declared.trees.SumOperator.TheVariants as sum
 use Rattle.lra_tree.specs.Texts.{Pieces, Texts, ◌⋅◌, opens, mark as spells, name, separated}
-use Rattle.lra_tree.specs.Trees.{UnaryTree, negated, positive, literal, variable, input, group, TermTree, unary, times, over, modulo, ExprTree, term, plus, minus, CallTree, SourceTree, expression}
+use Rattle.lra_tree.specs.Trees.{UnaryTree, negated, positive, literal, variable, input, group, TermTree, unary, times, over, modulo, ExprTree, term, plus, minus, CallTree, RvalueTree, expression}
 use Rattle.lra_tree.specs.Trees.{result}
 use Rattle.lra_tree.specs.Views.{further_factor, further_term}
 use Rattle.lra_tree.specs.Grammar.{IsUnary, IsTerm, IsExpr, IsCall, IsSource}
@@ -143,24 +143,24 @@ IsNameAlone (term t) = IsName t
 IsNameAlone (plus e t) = ⊥
 IsNameAlone (minus e t) = ⊥
 
-abbrev pub AfterSource : SourceTree → Option Token → Type 0
+abbrev pub AfterSource : RvalueTree → Option Token → Type 0
 AfterSource (expression e) o = AfterExpr e o × (IsNameAlone e → is_mark mark.OpenParen o ≡ false)
 AfterSource (result c) o = ⊤
 
 -- what may follow an expression, and what its beginning tells of that
-abbrev AfterPlain : SourceTree → Option Token → Type 0
+abbrev AfterPlain : RvalueTree → Option Token → Type 0
 AfterPlain (expression e) o = AfterExpr e o
 AfterPlain (result c) o = ⊤
 
-abbrev Noted : SourceTree → Option Token → Type 0
+abbrev Noted : RvalueTree → Option Token → Type 0
 Noted (expression e) o = IsNameAlone e → is_mark mark.OpenParen o ≡ false
 Noted (result c) o = ⊤
 
-both_after : (b : SourceTree) (o : Option Token) → AfterPlain b o × Noted b o → AfterSource b o
+both_after : (b : RvalueTree) (o : Option Token) → AfterPlain b o × Noted b o → AfterSource b o
 both_after (expression e) o f = f
 both_after (result c) o f = tt
 
-after_both : (b : SourceTree) (o : Option Token) → AfterSource b o → AfterPlain b o × Noted b o
+after_both : (b : RvalueTree) (o : Option Token) → AfterSource b o → AfterPlain b o × Noted b o
 after_both (expression e) o f = f
 after_both (result c) o f = (tt, tt)
 
@@ -188,14 +188,14 @@ sum_no_open : (k : SumOperator) (at : Place) → is_mark mark.OpenParen (Some (t
 sum_no_open sum.Plus at = refl
 sum_no_open sum.Minus at = refl
 
-abbrev FromTerm : ℕ → TermTree → SourceTree → Texts
+abbrev FromTerm : ℕ → TermTree → RvalueTree → Texts
 FromTerm l t b = Of expression (λ e z. ExprSteps l e (term t) z) b
 
 -- behind a name that an expression begins with
-abbrev FromName : ℕ → Identifier → SourceTree → Texts
+abbrev FromName : ℕ → Identifier → RvalueTree → Texts
 FromName l x b z = Both (λ t z. TermSteps l t (unary (variable x)) z) (FromTerm l) b z
 
-abbrev SourceRest : ℕ → Identifier → SourceTree → Texts
+abbrev SourceRest : ℕ → Identifier → RvalueTree → Texts
 SourceRest l x b z = Of result (CallText l x) b z ⊎ FromName l x b z
 
 abbrev NotOpen : Option Token → Type 0
@@ -204,20 +204,20 @@ NotOpen o = is_mark mark.OpenParen o ≡ false
 no_more : (u v z : Pieces) → z ≡ u ++ v → u ≡ [] → v ≡ [] → z ≡ []
 no_more u v z e f g = e ∙ ap (λ (w : Pieces). w ++ v) f ∙ g
 
-name_noted : (l : ℕ) (x : Identifier) (b : SourceTree) (z : Pieces) (o : Option Token) → FromName l x b z → NotOpen (first_or z o) → Noted b o
-name_noted l x b z o (t, (u, v, e, s, (a, g, r))) i = subst (λ (c : SourceTree). Noted c o) g (λ j.
+name_noted : (l : ℕ) (x : Identifier) (b : RvalueTree) (z : Pieces) (o : Option Token) → FromName l x b z → NotOpen (first_or z o) → Noted b o
+name_noted l x b z o (t, (u, v, e, s, (a, g, r))) i = subst (λ (c : RvalueTree). Noted c o) g (λ j.
     let q = expr_alone l a (term t) v r j in
     let p = term_alone l t (unary (variable x)) u s (subst IsNameAlone q.1 j) in
     subst (λ (w : Pieces). NotOpen (first_or w o)) (no_more u v z e p.0 q.0) i)
 
-plain_after : (e : ExprTree) (b : SourceTree) (o : Option Token) → expression e ≡ b → AfterPlain b o → AfterExpr e o
-plain_after e b o g f = let r : AfterPlain (expression e) o = subst (λ (c : SourceTree). AfterPlain c o) (sym g) f in r
+plain_after : (e : ExprTree) (b : RvalueTree) (o : Option Token) → expression e ≡ b → AfterPlain b o → AfterExpr e o
+plain_after e b o g f = let r : AfterPlain (expression e) o = subst (λ (c : RvalueTree). AfterPlain c o) (sym g) f in r
 
 -- an expression that is a name alone is followed by no parenthesis
-alone_after : (e : ExprTree) (b : SourceTree) (o : Option Token) → expression e ≡ b → AfterSource b o → IsNameAlone e → NotOpen o
-alone_after e b o g f = let r : AfterSource (expression e) o = subst (λ (c : SourceTree). AfterSource c o) (sym g) f in r.1
+alone_after : (e : ExprTree) (b : RvalueTree) (o : Option Token) → expression e ≡ b → AfterSource b o → IsNameAlone e → NotOpen o
+alone_after e b o g f = let r : AfterSource (expression e) o = subst (λ (c : RvalueTree). AfterSource c o) (sym g) f in r.1
 
-from_no_open : (l : ℕ) (x : Identifier) (b : SourceTree) (z : Pieces) (o : Option Token) → FromName l x b z → (z ≡ [] → AfterSource b o) → NotOpen (first_or z o)
+from_no_open : (l : ℕ) (x : Identifier) (b : RvalueTree) (z : Pieces) (o : Option Token) → FromName l x b z → (z ≡ [] → AfterSource b o) → NotOpen (first_or z o)
 from_no_open l x b z o (t, (u, v, e, s, (a, g, r))) f =
     let behind_terms : u ≡ [] → t ≡ unary (variable x) → NotOpen (first_or v o) = λ i j.
     first_of_steps sum_mark term further_term (IsTerm l) a (term t) v o NotOpen r sum_no_open
@@ -226,7 +226,7 @@ from_no_open l x b z o (t, (u, v, e, s, (a, g, r))) f =
     subst NotOpen (sym (ap (λ (k : Pieces). first_or k o) e ∙ first_or-both u v o)) whole
 
 module _ (n d l : ℕ) (h : d + l ≡ n) where
-  term_follows : (t : TermTree) (b : SourceTree) (y : Pieces) (o : Option Token) → FromTerm l t b y → (y ≡ [] → AfterPlain b o) → AfterTerm t (first_or y o)
+  term_follows : (t : TermTree) (b : RvalueTree) (y : Pieces) (o : Option Token) → FromTerm l t b y → (y ≡ [] → AfterPlain b o) → AfterTerm t (first_or y o)
   term_follows t b y o (e, g, s) f = expr_follows n l (term t) e y o s (λ i. plain_after e b o g (f i))
 
   exact_from : (x : Identifier) → Exact n IsInner (source_from d (variable x)) Any (FromName l x) (FromName l x) AfterPlain
@@ -246,19 +246,19 @@ module _ (n d l : ℕ) (h : d + l ≡ n) where
       (λ b z o s f. first_opened (λ i. is_mark mark.OpenParen i ≡ true) mark.OpenParen 0 s.2.0 s.2.1 z o s.2.2 s.2.3 (λ at. refl))
       (λ b z o s f. from_no_open l x b z o s f)
 
-abbrev NamedSource : ℕ → SourceTree → Texts
+abbrev NamedSource : ℕ → RvalueTree → Texts
 NamedSource l b z = Both (λ x. name x 0) (SourceRest l) b z
 
 -- an expression that begins with no name
-abbrev OtherSource : ℕ → SourceTree → Texts
+abbrev OtherSource : ℕ → RvalueTree → Texts
 OtherSource l b z = Of expression (IsExpr l) b z × (has (next_name (first_or z None)) ≡ false)
 
-named_out : (l : ℕ) (b : SourceTree) (z : Pieces) → NamedSource l b z → IsSource l b z
-named_out l b z (x, (u, v, e, s, inl (c, g, t))) = subst (λ (k : SourceTree). IsSource l k z) g (subst (IsCall 0 l c) (sym e) (call_out 0 l x c u v s t))
+named_out : (l : ℕ) (b : RvalueTree) (z : Pieces) → NamedSource l b z → IsSource l b z
+named_out l b z (x, (u, v, e, s, inl (c, g, t))) = subst (λ (k : RvalueTree). IsSource l k z) g (subst (IsCall 0 l c) (sym e) (call_out 0 l x c u v s t))
 named_out l b z (x, (u, v, e, s, inr (t, (p, q, f, m, (a, g, r))))) =
     let first : IsTerm l t (u ++ p) = whole_term l t (unary (variable x)) u p s m in
     let all : IsExpr l a ((u ++ p) ++ q) = whole_expr l a (term t) (u ++ p) q first r in
-    subst (λ (k : SourceTree). IsSource l k z) g (subst (IsExpr l a) (sym (e ∙ ap (λ (w : Pieces). u ++ w) f ∙ sym (append_assoc u p q))) all)
+    subst (λ (k : RvalueTree). IsSource l k z) g (subst (IsExpr l a) (sym (e ∙ ap (λ (w : Pieces). u ++ w) f ∙ sym (append_assoc u p q))) all)
 
 -- a unary that is no name begins with none
 unary_no_name : (l : ℕ) (a : UnaryTree) (v w z : Pieces) → z ≡ v ++ w → IsUnary l a v → (IsName (unary a) → ⊥) → has (next_name (first_or z None)) ≡ false
@@ -278,7 +278,7 @@ by_first l e (literal i) z p q h f s r = inr ((e, refl, h), unary_no_name l (lit
 by_first l e input z p q h f s r = inr ((e, refl, h), unary_no_name l input p q z f s (λ g. g))
 by_first l e (group i) z p q h f s r = inr ((e, refl, h), unary_no_name l (group i) p q z f s (λ g. g))
 
-source_sides : (l : ℕ) (b : SourceTree) (z : Pieces) → IsSource l b z → NamedSource l b z ⊎ OtherSource l b z
+source_sides : (l : ℕ) (b : RvalueTree) (z : Pieces) → IsSource l b z → NamedSource l b z ⊎ OtherSource l b z
 source_sides l (result c) z (u, v, e, m, t) = inl (c.name, (u, v, e, m, inl (c, refl, call_in l c v t)))
 source_sides l (expression e) z h =
     let p = split_expr l e z h in
@@ -302,16 +302,16 @@ not_alone l (term t) z s k j = let f = alone_begins l t z j s in cc
 not_alone l (plus e t) z s k j = absurd j
 not_alone l (minus e t) z s k j = absurd j
 
-other_noted : (l : ℕ) (b : SourceTree) (z : Pieces) (o : Option Token) → OtherSource l b z → Noted b o
-other_noted l b z o ((e, g, s), k) = subst (λ (c : SourceTree). Noted c o) g (λ j. absurd (not_alone l e z s k j))
+other_noted : (l : ℕ) (b : RvalueTree) (z : Pieces) (o : Option Token) → OtherSource l b z → Noted b o
+other_noted l b z o ((e, g, s), k) = subst (λ (c : RvalueTree). Noted c o) g (λ j. absurd (not_alone l e z s k j))
 
-other_begins : (l : ℕ) (b : SourceTree) (z : Pieces) (o : Option Token) → OtherSource l b z → has (next_name (first_or z o)) ≡ false
+other_begins : (l : ℕ) (b : RvalueTree) (z : Pieces) (o : Option Token) → OtherSource l b z → has (next_name (first_or z o)) ≡ false
 other_begins l b z o ((e, g, s), k) = ap (λ (i : Option Token). has (next_name i)) (begun_first z o (expr_begun l e z s)) ∙ k
 
-named_begins : (l : ℕ) (b : SourceTree) (z : Pieces) (o : Option Token) → NamedSource l b z → has (next_name (first_or z o)) ≡ true
+named_begins : (l : ℕ) (b : RvalueTree) (z : Pieces) (o : Option Token) → NamedSource l b z → has (next_name (first_or z o)) ≡ true
 named_begins l b z o (x, (u, v, e, s, r)) = rw (e, s) refl
 
-pub some_source : (l : ℕ) → (e : SourceTree) × (x : Pieces) × IsSource l e x
+pub some_source : (l : ℕ) → (e : RvalueTree) × (x : Pieces) × IsSource l e x
 some_source l = (expression (some_expr l).0, (some_expr l).1, (some_expr l).2)
 
 pub exact_source : (n d l : ℕ) → d + l ≡ n → Exact n IsInner (source_at d) Any (IsSource l) (IsSource l) AfterSource
@@ -323,14 +323,14 @@ exact_source n d l h =
     let exprs = where_told (mapped (exact_expr n d l h) expression AfterPlain (λ e o f. f) (λ e o f. f)) (λ o. has (next_name o)) false (λ b z s. begun_long z (expr_begun l s.0 z s.2)) in
     let others = follows (noted exprs Noted (λ b z o s i. other_noted l b z o s)) AfterSource both_after after_both in
     let t = branch (λ o. has (next_name o)) (entry (widen named (IsSource l) (λ b z s. named_out l b z s)) (λ o. ⊤ × (has (next_name o) ≡ true)) (λ o i. tt))
-    (entry (widen others (IsSource l) (λ b z s. subst (λ (k : SourceTree). IsSource l k z) s.1 s.2)) (λ o. ⊤ × (has (next_name o) ≡ false)) (λ o i. (i.1, tt)))
+    (entry (widen others (IsSource l) (λ b z s. subst (λ (k : RvalueTree). IsSource l k z) s.1 s.2)) (λ o. ⊤ × (has (next_name o) ≡ false)) (λ o i. (i.1, tt)))
     (λ b z o s f. named_begins l b z o s) (λ b z o s f. other_begins l b z o s) in
-    rename t (IsSource l) (λ b z s. elim s [ inl k ↦ named_out l b z k | inr k ↦ subst (λ (c : SourceTree). IsSource l c z) k.0.1 k.0.2 ]) (λ b z s. source_sides l b z s)
+    rename t (IsSource l) (λ b z s. elim s [ inl k ↦ named_out l b z k | inr k ↦ subst (λ (c : RvalueTree). IsSource l c z) k.0.1 k.0.2 ]) (λ b z s. source_sides l b z s)
 
-pub source_stops : (e : SourceTree) (at : Place) → AfterSource e (Some (token mark.Semicolon at))
+pub source_stops : (e : RvalueTree) (at : Place) → AfterSource e (Some (token mark.Semicolon at))
 source_stops (expression e) at = (((tt, refl), refl), (λ i. refl))
 source_stops (result c) at = tt
 
-pub source_no_stop : (l : ℕ) (a : SourceTree) (z : Pieces) (k : Option Token) → IsSource l a z → is_mark mark.Semicolon (first_or z k) ≡ false
+pub source_no_stop : (l : ℕ) (a : RvalueTree) (z : Pieces) (k : Option Token) → IsSource l a z → is_mark mark.Semicolon (first_or z k) ≡ false
 source_no_stop l (expression a) z k s = (expr_inside l a z k s).0
 source_no_stop l (result c) z k (x, y, e, s, t) = rw (e, s) refl

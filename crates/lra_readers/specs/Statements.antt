@@ -11,7 +11,7 @@ use Rattle.lra_base.specs.declared.operators.Operator.{Operator}
 use Rattle.lra_base.specs.declared.operators.Operator.TheVariants as operator
 use Rattle.lra_tree.specs.declared.trees.Step.{Step}
 use Rattle.lra_tree.specs.declared.trees.Step.TheVariants as step
-use Rattle.lra_tree.specs.Trees.{UnaryTree, variable, unary, ExprTree, term, CondTree, CallTree, SourceTree, expression}
+use Rattle.lra_tree.specs.Trees.{UnaryTree, variable, unary, ExprTree, term, CondTree, CallTree, RvalueTree, expression}
 use Rattle.lra_tree.specs.Trees.{result, AssignTree, set, update, after, before, DeclaratorTree, DeclarationTree}
 use Rattle.lra_tree.specs.Trees.{InitTree, no_init, assigned, declared as declared_first, StmtTree, block, nothing}
 use Rattle.lra_tree.specs.Trees.{assign, call, if_only, if_else, while, for, break, continue, return, assert, assume}
@@ -52,15 +52,15 @@ abbrev pub call_rest : ℕ → Identifier → Parse CallTree
 call_rest d x = behind mark.OpenParen (map_read (call_of x) (arguments_at d))
 
 -- behind a unary that an expression begins with
-abbrev pub source_from : ℕ → UnaryTree → Parse SourceTree
+abbrev pub source_from : ℕ → UnaryTree → Parse RvalueTree
 source_from d a = seq (factors (unary_at d) (unary a)) (λ t. map_read expression (summands (unary_at d) (term t)))
 
 -- behind a name
-abbrev pub source_rest : ℕ → Identifier → Parse SourceTree
+abbrev pub source_rest : ℕ → Identifier → Parse RvalueTree
 source_rest d x T = cond (is_mark mark.OpenParen (first T)) (map_read result (call_rest d x) T)
     (source_from d (variable x) T)
 
-abbrev pub source_at : ℕ → Parse SourceTree
+abbrev pub source_at : ℕ → Parse RvalueTree
 source_at d T = cond (has (next_name (first T))) (seq (take_by next_name) (source_rest d) T)
     (map_read expression (expr_at d) T)
 

@@ -2,7 +2,7 @@
 use Rattle.std.proofs.Common.{ℕ, zero, suc, ◌+◌, ◌≤◌, List, [], ◌∷◌, ◌++◌, length, arith, Option, Some, None, slice_get}
 use Rattle.std.specs.Prelude.{⊤}
 use Rattle.std.specs.List.{AllByRecursion}
-use Rattle.lra_program.specs.Program.{Call, Source, value, result, Stmt, absent, nothing, block, assign, call, if, loop, for, break, continue, return, assert, assume, BlockItems, no_more, declaration}
+use Rattle.lra_program.specs.Program.{Call, Rvalue, value, result, Stmt, absent, nothing, block, assign, call, if, loop, for, break, continue, return, assert, assume, BlockItems, no_more, declaration}
 use Rattle.lra_program.specs.Program.{statement, Function, Program}
 use Rattle.lra_program.specs.Sites.{Site, Event, comes, one_call_more, greatest_calls, plain_site, live_behind, source_events, given_events, stmt_events, items_events, function_events}
 use Rattle.lra_program.specs.Sites.{call_events, events_of, sites_in, sites_of}
@@ -14,11 +14,11 @@ IsShallow (one_call_more at) = ⊤
 
 -- where the calls inside are so
 module _ (inside : List ℕ → ℕ → Call → List Event) (path : List ℕ) (here : length path ≤ greatest_calls) (deeper : (live : ℕ) (c : Call) → AllByRecursion IsShallow (inside path live c)) where
-  source_shallow : (live : ℕ) (e : Source) → AllByRecursion IsShallow (source_events inside path live e)
+  source_shallow : (live : ℕ) (e : Rvalue) → AllByRecursion IsShallow (source_events inside path live e)
   source_shallow live (value e) = tt
   source_shallow live (result c) = deeper live c
 
-  given_shallow : (live : ℕ) (e : Option Source) → AllByRecursion IsShallow (given_events inside path live e)
+  given_shallow : (live : ℕ) (e : Option Rvalue) → AllByRecursion IsShallow (given_events inside path live e)
   given_shallow live None = tt
   given_shallow live (Some e) = source_shallow live e
 

@@ -5,8 +5,8 @@ ghost use Rattle.std.specs.Prelude.{None, option_map, IfOk};
 ghost use Rattle.lra_program.specs.Program.{assign as assign_stmt, binary, literal, read, value};
 ghost use Rattle.lra_base.specs.OperatorViews.{operator_view};
 ghost use Rattle.lra_tree.specs.Views.{step_view, expr_view as tree_expr_view, call_view as tree_call_view};
-ghost use Rattle.lra_tree.specs.Views.{source_view as tree_source_view, assign_view};
-ghost use Rattle.lra_program.specs.ProgramViews.{slot_view, expr_view, call_view, source_view, given_view, stmt_view};
+ghost use Rattle.lra_tree.specs.Views.{rvalue_view as tree_source_view, assign_view};
+ghost use Rattle.lra_program.specs.ProgramViews.{slot_view, expr_view, call_view, rvalue_view, given_view, stmt_view};
 ghost use Rattle.lra_tree.specs.Functions.{function_named};
 ghost use Rattle.lra_meaning.specs.NameFaults.{use_faults, expr_faults, called_faults, call_faults, source_faults};
 ghost use Rattle.lra_meaning.specs.NameFaults.{given_faults, assign_faults};
@@ -21,7 +21,7 @@ use crate::scopes::Scope;
 use crate::signatures::{Functions, Signature};
 use lra_base::{Cause, Operator, SourceError};
 use lra_program::{Operation, Slot};
-use lra_tree::{Assign, Call, Expr, Identifier, Source, Step};
+use lra_tree::{Assign, Call, Expr, Identifier, Rvalue, Step};
 use std::alloc::{AllocError, Global};
 
 /// Whether a function can't be called so.
@@ -102,20 +102,20 @@ pub fn resolve_source(
     functions: &Functions<'_>,
     scope: &Scope,
     label: usize,
-    source: &Source,
-) -> Result<lra_program::Source, SourceError>
+    source: &Rvalue,
+) -> Result<lra_program::Rvalue, SourceError>
     ensures told { TellsOf (source_faults (functions_at functions.now) scope.now (tree_source_view source.now)) result }
-    ensures found { IfOk result (λ e. source_view e ≡ resolve_source (functions_at functions.now) scope.now label
+    ensures found { IfOk result (λ e. rvalue_view e ≡ resolve_source (functions_at functions.now) scope.now label
         (tree_source_view source.now)) }
 {
     match source {
-        Source::Value(expr) => {
+        Rvalue::Value(expr) => {
             let value = resolve_expr(alloc, scope, expr)?;
-            Ok(lra_program::Source::Value(value))
+            Ok(lra_program::Rvalue::Value(value))
         }
-        Source::Result(call) => {
+        Rvalue::Result(call) => {
             let call = resolve_call(alloc, functions, scope, label, call, true)?;
-            Ok(lra_program::Source::Result(call))
+            Ok(lra_program::Rvalue::Result(call))
         }
     }
 }
@@ -125,8 +125,8 @@ pub fn resolve_given(
     functions: &Functions<'_>,
     scope: &Scope,
     label: usize,
-    source: &Option<Source>,
-) -> Result<Option<lra_program::Source>, SourceError>
+    source: &Option<Rvalue>,
+) -> Result<Option<lra_program::Rvalue>, SourceError>
     ensures told { TellsOf (given_faults (functions_at functions.now) scope.now
         (option_map tree_source_view source.now)) result }
     ensures found { IfOk result (λ e. given_view e ≡ resolve_given (functions_at functions.now) scope.now label
@@ -147,14 +147,14 @@ fn updated(
     slot: Slot,
     operator: Operator,
     operand: lra_program::Expr,
-) -> Result<lra_program::Source, AllocError>
-    ensures { IfOk result (λ e. source_view e ≡ value (binary (operator_view operator) (read (slot_view slot))
+) -> Result<lra_program::Rvalue, AllocError>
+    ensures { IfOk result (λ e. rvalue_view e ≡ value (binary (operator_view operator) (read (slot_view slot))
         (expr_view operand))) }
 {
     let mut rest = Vec::new(alloc);
     rest.push(Operation { operator, operand })?;
     let first = Box::new(alloc, lra_program::Expr::Read(slot))?;
-    Ok(lra_program::Source::Value(lra_program::Expr::Chain(first, rest)))
+    Ok(lra_program::Rvalue::Value(lra_program::Expr::Chain(first, rest)))
 }
 
 fn step_operator(step: Step) -> Operator
@@ -167,8 +167,8 @@ fn step_operator(step: Step) -> Operator
 }
 
 /// `x++` and `++x` alike: one more, or one less.
-fn stepped(alloc: Global, slot: Slot, step: Step) -> Result<lra_program::Source, AllocError>
-    ensures { IfOk result (λ e. source_view e ≡ value (binary (step_operator (step_view step)) (read (slot_view slot))
+fn stepped(alloc: Global, slot: Slot, step: Step) -> Result<lra_program::Rvalue, AllocError>
+    ensures { IfOk result (λ e. rvalue_view e ≡ value (binary (step_operator (step_view step)) (read (slot_view slot))
         (literal 1))) }
 {
     updated(
@@ -187,7 +187,7 @@ fn resolve_set(
     scope: &Scope,
     label: usize,
     x: &Identifier,
-    source: &Source,
+    source: &Rvalue,
 ) -> Result<lra_program::Stmt, SourceError>
     ensures told { TellsOf (use_faults scope.now x.now ++ source_faults (functions_at functions.now) scope.now
         (tree_source_view source.now)) result }

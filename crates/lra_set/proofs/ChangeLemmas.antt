@@ -13,7 +13,8 @@ use Rattle.lra_set.specs.Reduction.{Leaves}
 use Rattle.lra_set.specs.Joins.{Settles, SettleStrains}
 use Rattle.lra_set.specs.Values.{PartsInside, SetDone, SetStrains}
 use Rattle.lra_set.specs.Meaning.{set_meaning}
-use Rattle.lra_set.specs.Outcomes.{PartFits, HaveDims, IsAppended, IsSettled, AreChanged, worse}
+use Rattle.lra_domain.specs.Meaning.{worse}
+use Rattle.lra_set.specs.Outcomes.{PartFits, HaveDims, IsAppended, IsSettled, AreChanged}
 use Rattle.lra_set.specs.Laws.{parts_within}
 use Rattle.lra_set.proofs.ReductionLemmas.{cover_trans, leaves_each}
 

@@ -21,7 +21,8 @@ use Rattle.lra_set.specs.Heads.{FormStarts}
 use Rattle.lra_set.specs.Growth.{StartsAnew}
 use Rattle.lra_set.specs.Values.{PartsInside, SetHas}
 use Rattle.lra_set.specs.Meaning.{set_meaning}
-use Rattle.lra_set.specs.Outcomes.{PartFits, HaveDims, IsSettled, AreChanged, worse}
+use Rattle.lra_domain.specs.Meaning.{worse}
+use Rattle.lra_set.specs.Outcomes.{PartFits, HaveDims, IsSettled, AreChanged}
 use Rattle.lra_set.specs.Laws.{parts_within, inside_covers, whole_is_filled}
 use Rattle.lra_set.proofs.AnswerLemmas.{fits_dims, fits_none}
 use Rattle.lra_set.proofs.ChangeLemmas.{Appended, set_meets, set_joins}

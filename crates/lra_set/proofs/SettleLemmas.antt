@@ -10,7 +10,8 @@ use Rattle.lra_set.specs.ListLemmas.{each_map, each_append, each_left, each_righ
 use Rattle.lra_set.specs.Reduction.{Reduces}
 use Rattle.lra_set.specs.Joins.{JoinsOnStrains, LastTwoJoin, LastTwoStrain, Settles, SettleStrains}
 use Rattle.lra_set.specs.Values.{PartsInside}
-use Rattle.lra_set.specs.Outcomes.{PartFits, IsReduced, IsMerged, LastTwoMeet, IsSettled, worse}
+use Rattle.lra_domain.specs.Meaning.{worse}
+use Rattle.lra_set.specs.Outcomes.{PartFits, IsReduced, IsMerged, LastTwoMeet, IsSettled}
 use Rattle.lra_set.proofs.ReductionLemmas.{cover_trans, reduced_covers, reduced_exact, reduced_strains, leaves_same}
 use Rattle.lra_set.proofs.ReductionLemmas.{leaves_each, reduced_more, reduced_each}
 

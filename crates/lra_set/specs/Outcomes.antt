@@ -1,4 +1,5 @@
 -- What the steps of the code answer and leave, for their contracts.
+use Rattle.lra_domain.specs.Meaning.{worse}
 use Rattle.std.specs.Prelude.{◌≡◌, ◌≤◌, ◌<◌, ◌⊎◌, ℕ, ℤ, List, [], ◌∷◌, ◌++◌, length}
 use Rattle.lra_domain.specs.declared.Exactness.{Exactness}
 use Rattle.lra_domain.specs.declared.Exactness.TheVariants.{Exact, Flagged}
@@ -35,11 +36,6 @@ both Yes j = j
 both Wide No = No
 both Wide Yes = Wide
 both Wide Wide = Wide
-
--- flagged where one of two is
-abbrev pub worse : Exactness → Exactness → Exactness
-worse Exact e = e
-worse Flagged e = Flagged
 
 -- flagged where an answer strained
 abbrev pub decided : Included → Exactness

@@ -1,7 +1,8 @@
 //! Answers and exactness, taken together.
 
 ghost use Rattle.std.specs.Prelude.{◌≡◌};
-ghost use Rattle.lra_set.specs.Outcomes.{all_decided, both, either, worse};
+ghost use Rattle.lra_domain.specs.Meaning.{worse};
+ghost use Rattle.lra_set.specs.Outcomes.{all_decided, both, either};
 
 use lra_domain::{Exactness, Included};
 

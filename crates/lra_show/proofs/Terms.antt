@@ -10,7 +10,8 @@ use Rattle.std.specs.Cmp.{int_cmp_is}
 use Rattle.lra_linear.specs.Vectors.{entry}
 use Rattle.lra_row.proofs.RowLemmas.{entry_at}
 use Rattle.lra_findings.specs.ReportText.{is_turned, turned, terms_text, product_text}
-use Rattle.lra_show.specs.Shown.{rest_text, is_zero}
+use Rattle.lra_program.specs.Value.{is_zero}
+use Rattle.lra_show.specs.Shown.{rest_text}
 
 pub drop_entry : (cs : List ℤ) (j : ℕ) → j < length cs → drop j cs ≡ entry cs j ∷ drop (j + 1) cs
 drop_entry cs j h = rw (entry_at, add-one) (drop-cons cs j (pos 0) h)

@@ -26,8 +26,3 @@ report_generator (d ∷ zs) kind = record { kind = report_generator_kind kind; d
 abbrev pub rest_text : Bool → List ℤ → List (List ℕ) → List ℕ
 rest_text true cs names = form_text cs names
 rest_text false cs names = terms_text cs names
-
-abbrev pub is_zero : ℤ → Bool
-is_zero (pos zero) = true
-is_zero (pos (suc n)) = false
-is_zero (negsuc n) = false

@@ -15,7 +15,7 @@ use std::alloc::{AllocError, Global};
 
 /// Appends a fraction, without the divisor where that is 1.
 #[tactic(auto, using(crate::proofs::LowestTerms::whole_text, crate::proofs::LowestTerms::divided_text))]
-fn push_fraction(text: &mut String, numerator: i128, divisor: i128) -> Result<(), AllocError>
+pub fn push_fraction(text: &mut String, numerator: i128, divisor: i128) -> Result<(), AllocError>
     requires { pos 0 <ℤ divisor }
     ensures { OnOk result (string_bytes text.new ≡ string_bytes text.old ++
         report.fraction_text numerator (nat_abs divisor)) }

@@ -5,6 +5,6 @@ mod generator;
 mod names;
 mod row;
 
-pub use generator::generator_text;
+pub use generator::{generator_text, push_fraction};
 pub use names::{Names, names_at};
 pub use row::row_text;

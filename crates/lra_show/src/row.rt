@@ -5,7 +5,8 @@ ghost use Rattle.std.specs.Prelude.{length, not, unsigned_abs, ◌&&◌};
 ghost use Rattle.lra_linear.specs.Range.{InRange};
 ghost use Rattle.lra_linear.specs.Vectors.{entry};
 ghost use Rattle.lra_findings.specs.ReportText as report;
-ghost use Rattle.lra_show.specs.Shown.{report_row, rest_text, is_zero};
+ghost use Rattle.lra_program.specs.Value.{is_zero};
+ghost use Rattle.lra_show.specs.Shown.{report_row, rest_text};
 
 use crate::names::Names;
 use lra_row::Row;

@@ -9,7 +9,7 @@ use Rattle.lra_tree.specs.declared.trees.Init.{Init}
 use Rattle.lra_tree.specs.declared.trees.Cond.{Cond}
 use Rattle.lra_tree.specs.declared.trees.Assign.{Assign}
 use Rattle.lra_tree.specs.declared.trees.Call.{Call}
-use Rattle.lra_tree.specs.declared.trees.Source.{Source}
+use Rattle.lra_tree.specs.declared.trees.Rvalue.{Rvalue}
 use Rattle.lra_tree.specs.Trees.{StmtTree}
 use Rattle.lra_tree.specs.Views.{stmt_view}
 use Rattle.lra_simple.specs.Statements.{IsSimple}
@@ -47,7 +47,7 @@ module _ (s : Stmt)
 module _ (s : Stmt) (simple : IsSimple (stmt_view s))
     (f : (at : Place) → s ≡ code.Nothing at → ⊥) (g : (a : Assign) → s ≡ code.Assign a → ⊥) (h : (c : Call) → s ≡ code.Call c → ⊥)
     (i : (at : Place) → s ≡ code.Break at → ⊥) (j : (at : Place) → s ≡ code.Continue at → ⊥)
-    (k : (at : Place) (e : Option Source) → s ≡ code.Return at e → ⊥)
+    (k : (at : Place) (e : Option Rvalue) → s ≡ code.Return at e → ⊥)
     (l : (at : Place) (c : Cond) → s ≡ code.Assert at c → ⊥) (m : (at : Place) (c : Cond) → s ≡ code.Assume at c → ⊥) where
   opened_is_other : (o : Stmt-F BlockItem Stmt Block) → s ≡ roll-Stmt o → ⊥
   unfolding roll-Stmt denote.Hole.Carrier.roll

@@ -24,8 +24,8 @@ use Rattle.lra_tree.specs.declared.trees.Stmt as code_stmt
 use Rattle.lra_tree.specs.declared.trees.Cond.{Cond}
 use Rattle.lra_tree.specs.declared.trees.Assign.{Assign}
 use Rattle.lra_tree.specs.declared.trees.Call.{Call}
-use Rattle.lra_tree.specs.declared.trees.Source.{Source}
-use Rattle.lra_tree.specs.Views.{items_of, item_view, block_view, init_view, declaration_view, declarator_view, stmt_view, cond_view, assign_view, call_view, source_view}
+use Rattle.lra_tree.specs.declared.trees.Rvalue.{Rvalue}
+use Rattle.lra_tree.specs.Views.{items_of, item_view, block_view, init_view, declaration_view, declarator_view, stmt_view, cond_view, assign_view, call_view, rvalue_view}
 use Rattle.lra_program.specs.Program as program
 use Rattle.lra_program.specs.ProgramViews as view
 use Rattle.lra_meaning.specs.Scope.{Scope, with_local, with_declarators, inner, for_scope}
@@ -150,8 +150,8 @@ break_is stmt at is = let v : stmt_view (code_stmt.Break at) ≡ break at = sear
 pub continue_is : (stmt : Stmt) (at : Place) → stmt ≡ code_stmt.Continue at → stmt_view stmt ≡ continue at
 continue_is stmt at is = let v : stmt_view (code_stmt.Continue at) ≡ continue at = search (rules, stmt_lemmas) in rw (is, v)
 
-pub return_is : (stmt : Stmt) (at : Place) (e : Option Source) → stmt ≡ code_stmt.Return at e → stmt_view stmt ≡ return at (option_map source_view e)
-return_is stmt at e is = let v : stmt_view (code_stmt.Return at e) ≡ return at (option_map source_view e) = search (rules, stmt_lemmas) in rw (is, v)
+pub return_is : (stmt : Stmt) (at : Place) (e : Option Rvalue) → stmt ≡ code_stmt.Return at e → stmt_view stmt ≡ return at (option_map rvalue_view e)
+return_is stmt at e is = let v : stmt_view (code_stmt.Return at e) ≡ return at (option_map rvalue_view e) = search (rules, stmt_lemmas) in rw (is, v)
 
 pub assert_is : (stmt : Stmt) (at : Place) (c : Cond) → stmt ≡ code_stmt.Assert at c → stmt_view stmt ≡ assert at (cond_view c)
 assert_is stmt at c is = let v : stmt_view (code_stmt.Assert at c) ≡ assert at (cond_view c) = search (rules, stmt_lemmas) in rw (is, v)

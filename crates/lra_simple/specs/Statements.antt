@@ -48,7 +48,7 @@ loop_of n c body step = program.loop n c body step
 abbrev pub for_of : ℕ → program.BlockItems → program.Cond → program.Stmt → program.Stmt → program.Stmt
 for_of n init c body step = program.for n init c body step
 
-abbrev pub return_of : ℕ → Option program.Source → program.Stmt
+abbrev pub return_of : ℕ → Option program.Rvalue → program.Stmt
 return_of n e = program.return n e
 
 abbrev pub break_of : ℕ → program.Stmt

@@ -1,11 +1,11 @@
 //! Where a statement stands, and what it calls.
 
 ghost use Rattle.std.specs.Prelude.{◌≡◌, option_map, IfOk};
-ghost use Rattle.lra_tree.specs.Views.{source_view, assign_view};
+ghost use Rattle.lra_tree.specs.Views.{rvalue_view, assign_view};
 ghost use Rattle.lra_tree.specs.Labels.{assign_place, called_in, called_of, called_by};
 
 use lra_base::Place;
-use lra_tree::{Assign, Identifier, Source};
+use lra_tree::{Assign, Identifier, Rvalue};
 use std::alloc::{AllocError, Global};
 
 /// The place of an assignment's first token.
@@ -21,21 +21,21 @@ pub fn place_of_assign(assign: &Assign) -> Place
 }
 
 /// What the source calls.
-fn called_by(alloc: Global, source: &Source) -> Result<Option<Identifier>, AllocError>
-    ensures { IfOk result (λ c. c ≡ called_in (source_view source.now)) }
+fn called_by(alloc: Global, source: &Rvalue) -> Result<Option<Identifier>, AllocError>
+    ensures { IfOk result (λ c. c ≡ called_in (rvalue_view source.now)) }
 {
     Ok(match source {
-        Source::Value(_) => None,
-        Source::Result(call) => Some(call.name.copy(alloc)?),
+        Rvalue::Value(_) => None,
+        Rvalue::Result(call) => Some(call.name.copy(alloc)?),
     })
 }
 
 /// What the source calls, if there is one.
 pub fn called_by_given(
     alloc: Global,
-    source: &Option<Source>,
+    source: &Option<Rvalue>,
 ) -> Result<Option<Identifier>, AllocError>
-    ensures { IfOk result (λ c. c ≡ called_of (option_map source_view source.now)) }
+    ensures { IfOk result (λ c. c ≡ called_of (option_map rvalue_view source.now)) }
 {
     match source {
         None => Ok(None),

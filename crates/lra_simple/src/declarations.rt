@@ -3,7 +3,7 @@
 ghost use Rattle.std.specs.Prelude.{◌≡◌, ◌+◌, ◌∷◌, [], ℕ, suc, List, map, length, option_map, IfOk, OnOk, IfErr};
 ghost use Rattle.lra_program.specs.Program.{BlockItems};
 ghost use Rattle.lra_tree.specs.Trees.{DeclaratorTree};
-ghost use Rattle.lra_tree.specs.Views.{source_view, declarator_view};
+ghost use Rattle.lra_tree.specs.Views.{rvalue_view, declarator_view};
 ghost use Rattle.lra_program.specs.ProgramViews.{declarator_view as program_declarator_view, item_view};
 ghost use Rattle.lra_meaning.specs.Scope.{with_local, with_declarators};
 ghost use Rattle.lra_meaning.specs.NameFaults.{declarators_faults};
@@ -36,7 +36,7 @@ fn resolve_declarator(
           label = labels.old.next;
           source = resolve_given (functions_at functions.now)
               (with_local scope.old declarator.now.name.word) labels.old.next
-              (option_map source_view declarator.now.source);
+              (option_map rvalue_view declarator.now.source);
         }) }
     ensures declared { OnOk result (scope.new ≡ with_local scope.old declarator.now.name.word) }
     ensures counted { OnOk result (labels.new.next ≡ suc labels.old.next) }

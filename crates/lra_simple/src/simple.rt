@@ -2,7 +2,7 @@
 
 ghost use Rattle.std.specs.Prelude.{◌≡◌, ◌∷◌, [], suc, not, false, Some, option_map, IfOk, OnOk};
 ghost use Rattle.lra_program.specs.Program.{nothing, call as call_stmt};
-ghost use Rattle.lra_tree.specs.Views.{source_view, call_view, assign_view};
+ghost use Rattle.lra_tree.specs.Views.{rvalue_view, call_view, assign_view};
 ghost use Rattle.lra_program.specs.ProgramViews.{stmt_view};
 ghost use Rattle.lra_meaning.specs.NameFaults.{fault_if, call_faults, assign_faults, return_faults};
 ghost use Rattle.lra_meaning.specs.Resolve.{resolve_call, resolve_assign, resolve_given};
@@ -18,7 +18,7 @@ use crate::called::{called_by_assign, called_by_given, place_of_assign};
 use crate::labelling::Labelling;
 use lra_base::{Cause, Place, SourceError};
 use lra_scopes::{Scope, refuse, resolve_assign, resolve_call, resolve_given};
-use lra_tree::{Assign, Call, Source};
+use lra_tree::{Assign, Call, Rvalue};
 
 /// A statement that does nothing.
 #[tactic(auto, using(lra_scopes::proofs::Loops::wanting_told))]
@@ -131,16 +131,16 @@ pub fn resolve_return(
     scope: &Scope,
     labels: &mut Labelling,
     place: Place,
-    source: &Option<Source>,
+    source: &Option<Rvalue>,
 ) -> Result<lra_program::Stmt, SourceError>
-    ensures told { TellsOf (return_faults (around_of around.now) scope.now place (option_map source_view source.now))
+    ensures told { TellsOf (return_faults (around_of around.now) scope.now place (option_map rvalue_view source.now))
         result }
     ensures found { IfOk result (λ s. stmt_view s ≡ return_of labels.old.next
         (resolve_given (functions_at around.now.functions.now) scope.now labels.old.next
-        (option_map source_view source.now))) }
+        (option_map rvalue_view source.now))) }
     ensures counted { OnOk result (labels.new.next ≡ suc labels.old.next) }
     ensures adds { OnOk result (Adds labels.old labels.new
-        (label_with place (called_of (option_map source_view source.now)) labels.old.live ∷ [])) }
+        (label_with place (called_of (option_map rvalue_view source.now)) labels.old.live ∷ [])) }
 {
     if source.is_some() && !around.has_result {
         return refuse(Cause::BadCall, place);

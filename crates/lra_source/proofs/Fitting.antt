@@ -4,7 +4,7 @@ use Rattle.std.specs.Prelude.{slice_get}
 use Rattle.std.specs.List.{AllByRecursion, Contains}
 use Rattle.std.proofs.lemmas.Option.{none-some, same_Some}
 use Rattle.lra_linear.proofs.Membership.{contains_none, contains_cases}
-use Rattle.lra_program.specs.Program.{Slot, global, local, Expr, Cond, Source, Stmt, BlockItems, Program}
+use Rattle.lra_program.specs.Program.{Slot, global, local, Expr, Cond, Rvalue, Stmt, BlockItems, Program}
 use Rattle.lra_program.specs.Value.{index_of}
 use Rattle.lra_program.specs.Step.{Op, append, give, give_any, push, keep, test, Back}
 use Rattle.lra_operations.specs.Graph.{Exit, broken, continued, returned, Node, empty, point, act, check, seq, choose, catch, leave}
@@ -300,7 +300,7 @@ module _ (P : Program) (T : List Site) (few : AllFew T) (well : IsWellFormed P) 
         let now : Few spot.live = omega arith in
         seq_fit _ _ now (fit_one d l own st now good.0) (fit_all e l own st fw good.1)
 
-    fit_declares : {spot : Spot} {r : ℕ} {e : Option Source} {g : Node} {q : ℕ} → Declares P T spot r e g q → (at own : ℕ) → Standing P spot.frame spot.live own → Few (suc spot.live) →
+    fit_declares : {spot : Spot} {r : ℕ} {e : Option Rvalue} {g : Node} {q : ℕ} → Declares P T spot r e g q → (at own : ℕ) → Standing P spot.frame spot.live own → Few (suc spot.live) →
         IsGoodGiven P at (suc own) e →
         Fit spot.frame spot.live (suc spot.live) g
     fit_declares (as_fresh {s = spot}) at own st fw good = append_fit spot.next fw
@@ -314,7 +314,7 @@ module _ (P : Program) (T : List Site) (few : AllFew T) (well : IsWellFormed P) 
         loop_fit spot.frame spot.live g h fw (fit_one e true own (other_loop P spot.frame spot.live own (Some spot.live) st) fw good.1)
         (fit_one d false own (other_loop P spot.frame spot.live own None st) fw good.2) spot.next spot.frame.here.base c
 
-    fit_gives : {spot : Spot} {r : ℕ} {x : Option ℕ} {e : Source} {g : Node} {q : ℕ} → Gives P T spot r x e g q → (at own : ℕ) → Standing P spot.frame spot.live own → Few spot.live →
+    fit_gives : {spot : Spot} {r : ℕ} {x : Option ℕ} {e : Rvalue} {g : Node} {q : ℕ} → Gives P T spot r x e g q → (at own : ℕ) → Standing P spot.frame spot.live own → Few spot.live →
         PlaceFits x spot.live →
         IsGoodSource P at own e → Fit spot.frame spot.live spot.live g
     fit_gives (as_value {s = spot} {x = x} {e = e}) at own st fw place good = give_fit spot.next spot.frame.here.base x e place

@@ -28,7 +28,8 @@ use Rattle.lra_flow.specs.Analysis.{Derivation, Solves}
 use Rattle.lra_flow.proofs.Unflagged.{unflagged_is_written, flagged_strains}
 use Rattle.lra_flow.proofs.Caps.{solved_capped}
 use Rattle.lra_states.specs.Shown.{AreShown}
-use Rattle.lra_source.specs.Analysed.{told_verdict, verdict_told, IsAnalysed}
+use Rattle.lra_listing.specs.Given.{told, told_of}
+use Rattle.lra_source.specs.Analysed.{IsAnalysed}
 use Rattle.lra_iter.specs.Numbers.{IsBelow}
 use Rattle.lra_source.proofs.Numbering.{numbered}
 use Rattle.lra_iter.proofs.Counting.{iteration_fails_once}
@@ -81,9 +82,9 @@ module _ {V H : Type 0} (m : Meaning V H) (laws : Laws m) (shown : V → Invaria
       IsRight (resolve t) v
   right k a v there listed (number, point) proved fails =
       let (q, is, site) = assertion_site 1 (sites_of (resolve t)) k a there in
-      let (y, found, told) = map_at verdict_told told_verdict r.verdicts x.verdicts x.proved k v listed in
-      let place : y.0 ≡ q = numbers v.number y.0 a.0 q (ap (λ (z : ℕ × Bool). z.0) told) number is in
-      let same : y ≡ (q, v.proved) = pair y.0 q y.1 v.proved place (sym (ap (λ (z : ℕ × Bool). z.1) told)) in
+      let (y, found, is_told) = map_at told_of told r.verdicts x.verdicts x.proved k v listed in
+      let place : y.0 ≡ q = numbers v.number y.0 a.0 q (ap (λ (z : ℕ × Bool). z.0) is_told) number is in
+      let same : y ≡ (q, v.proved) = pair y.0 q y.1 v.proved place (sym (ap (λ (z : ℕ × Bool). z.1) is_told)) in
       proved_holds V H m laws settings (resolve t) x.tree x.result x.derived agrees x.values x.verdicts x.flagged x.solves
       (iteration_fails_once (dropping m) settings (resolve t) x.tree x.result (numbered (resolve t) x.tree x.is_graph) x.derived)
       q a.1 v.proved site (subst (λ (z : ℕ × Bool). Contains x.verdicts z) same (contained x.verdicts k y found)) proved (subst (λ z. Fails (resolve t) z) point fails)

@@ -1,7 +1,7 @@
 -- A program's tree comes to each point with as many variables as live there.
 use Rattle.std.proofs.Common.{◌≡◌, ℕ, suc, ◌+◌, ◌-◌, ◌≤◌, List, length, Option, Bool, true, refl, sym, ap, ◌∙◌, subst, arith}
 use Rattle.std.proofs.lemmas.Option.{same_Some}
-use Rattle.lra_program.specs.Program.{Cond, Source, Stmt, BlockItems, Program}
+use Rattle.lra_program.specs.Program.{Cond, Rvalue, Stmt, BlockItems, Program}
 use Rattle.lra_program.specs.Step as step
 use Rattle.lra_program.specs.Step.{Op, append, give, give_any, keep, test}
 use Rattle.lra_operations.specs.Graph.{Exit, broken, continued, returned, Node, point, act, seq, catch, leave}
@@ -93,14 +93,14 @@ module _ (T : List Site) where
       lives_all (as_declaration {s = spot} {d = d} i j e) = then_lives _ _ (then_lives _ _ (at_point spot.next (live_at T spot d.label _ i)) (lives_declares j)) (lives_all e)
       lives_all (as_statement d e) = then_lives _ _ (lives_one d) (lives_all e)
 
-      lives_declares : {spot : Spot} {r : ℕ} {e : Option Source} {g : Node} {q : ℕ} → Declares P T spot r e g q → Lives T spot.live (suc spot.live) g
+      lives_declares : {spot : Spot} {r : ℕ} {e : Option Rvalue} {g : Node} {q : ℕ} → Declares P T spot r e g q → Lives T spot.live (suc spot.live) g
       lives_declares (as_fresh {s = spot}) = acts spot.next append refl
       lives_declares (as_given {s = spot} d) = then_lives _ _ (acts spot.next append refl) (lives_gives d)
 
       lives_loop : {spot : Spot} {r : ℕ} {s : Stmt} {g : Node} {q : ℕ} → Loops P T spot r s g q → Lives T spot.live spot.live g
       lives_loop (is_loop {s = spot} {at = at} {c = c} {g = g} {h = h} i d e) = loops spot.next spot.frame.here.base c g h (live_at T spot at _ i) (lives_one e) (lives_one d)
 
-      lives_gives : {spot : Spot} {r : ℕ} {x : Option ℕ} {e : Source} {g : Node} {q : ℕ} → Gives P T spot r x e g q → Lives T spot.live spot.live g
+      lives_gives : {spot : Spot} {r : ℕ} {x : Option ℕ} {e : Rvalue} {g : Node} {q : ℕ} → Gives P T spot r x e g q → Lives T spot.live spot.live g
       lives_gives (as_value {s = spot} {x = x} {e = e}) = acts spot.next (give spot.frame.here.base x e) refl
       lives_gives (as_result {s = spot} {x = x} {c = c} {fn = fn} {g = g} {n = n'} {q = r'} i j d k) =
           let low : spot.live + fn.parameters ≤ n' = low_all d in

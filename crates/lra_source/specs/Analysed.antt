@@ -9,14 +9,8 @@ use Rattle.lra_findings.specs.Report.{Invariant, PointReport, Verdict, Report}
 use Rattle.lra_base.specs.declared.options.Options.{Options}
 use Rattle.lra_flow.specs.Pass.{Result}
 use Rattle.lra_flow.specs.Analysis.{Written, Derivation, Strains, Solves}
+use Rattle.lra_listing.specs.Given.{told, told_of}
 use Rattle.lra_states.specs.Shown.{AreShown}
-
--- a verdict as a report tells it; a point's number in a report is one more than in the iteration
-abbrev pub told_verdict : ℕ × Bool → ℕ × Bool
-told_verdict v = (suc v.0, v.1)
-
-abbrev pub verdict_told : Verdict → ℕ × Bool
-verdict_told v = (v.number, v.proved)
 
 -- `shown` is what the domain shows of a value
 pub record IsAnalysed {V H : Type 0} (m : Meaning V H) (shown : V → Invariant) (settings : Options) (P : Program)
@@ -38,5 +32,5 @@ pub record IsAnalysed {V H : Type 0} (m : Meaning V H) (shown : V → Invariant)
   pub are_shown : AreShown m settings.domain shown values
   -- and the report tells it
   pub states : map (λ (p : PointReport). p.state) r.points ≡ map shown values
-  pub proved : map verdict_told r.verdicts ≡ map told_verdict verdicts
+  pub proved : map told_of r.verdicts ≡ map told verdicts
   pub flag : r.flagged ≡ option_map suc flagged

@@ -4,7 +4,7 @@ use lra_base::Place;
 use lra_calls::first_recursive;
 use lra_tree::{
     Arguments, Assign, Block, BlockItem, Call, Declaration, Declarator, Function, Identifier, Init,
-    Item, Parameters, Source, Stmt, Tree, Word,
+    Item, Parameters, Rvalue, Stmt, Tree, Word,
 };
 use std::alloc::AllocError;
 use std::test::Fail;
@@ -108,7 +108,7 @@ fn alone(rt: &HostRuntime, name: &str, line: u32) -> Result<BlockItem, AllocErro
 
 /// `int x = f();`
 fn declared(rt: &HostRuntime, name: &str, line: u32) -> Result<BlockItem, AllocError> {
-    let source = Source::Result(call(rt, name, line, 30)?);
+    let source = Rvalue::Result(call(rt, name, line, 30)?);
     Ok(BlockItem::Declaration(Declaration {
         first: Declarator {
             name: identifier(rt, "x", line, 26)?,
@@ -122,7 +122,7 @@ fn declared(rt: &HostRuntime, name: &str, line: u32) -> Result<BlockItem, AllocE
 fn repeated(rt: &HostRuntime, name: &str, line: u32) -> Result<BlockItem, AllocError> {
     let place = Place { line, column: 32 };
     let nothing = Box::new(rt.alloc(), Stmt::Nothing(place))?;
-    let source = Source::Result(call(rt, name, line, 40)?);
+    let source = Rvalue::Result(call(rt, name, line, 40)?);
     let step = Assign::Set(identifier(rt, "x", line, 38)?, source);
     Ok(BlockItem::Statement(Stmt::For(place, Init::Nothing, None, Some(step), nothing)))
 }

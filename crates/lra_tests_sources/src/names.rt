@@ -5,7 +5,7 @@ use lra_names::resolve;
 use lra_program::{BlockItem as ProgramItem, Slot, Stmt as ProgramStmt};
 use lra_tree::{
     Arguments, Assign, Block, BlockItem, Call, Declaration, Declarator, Function, Global, Globals,
-    Identifier, Init, Item, Parameters, Source, Step, Stmt, Tree, Word,
+    Identifier, Init, Item, Parameters, Rvalue, Step, Stmt, Tree, Word,
 };
 use std::alloc::AllocError;
 use std::test::Fail;
@@ -122,7 +122,7 @@ fn item(rt: &HostRuntime, line: u32, body: Body) -> Result<BlockItem, AllocError
         }
         Body::Call => Ok(BlockItem::Statement(Stmt::Call(call(rt, line, STATEMENT)?))),
         Body::Return => {
-            let source = Source::Result(call(rt, line, SECOND)?);
+            let source = Rvalue::Result(call(rt, line, SECOND)?);
             Ok(BlockItem::Statement(Stmt::Return(place, Some(source))))
         }
     }

@@ -18,7 +18,7 @@ use Rattle.lra_flow.specs.Analysis.{Written, Solves}
 use Rattle.lra_findings.specs.Report.{Invariant, PointReport, Report, IsSound}
 use Rattle.lra_findings.specs.Parts.{HasSamePoints}
 use Rattle.lra_report.specs.Listing.{Lists}
-use Rattle.lra_source.specs.Analysed.{told_verdict, verdict_told}
+use Rattle.lra_listing.specs.Given.{told, told_of}
 use Rattle.lra_sample.specs.Sample.{sample_source}
 use Rattle.lra_sample.specs.Summary.{summary_text}
 use Rattle.lra_source.specs.Answers.{Over, IsAnswered}
@@ -76,7 +76,7 @@ pub record TellsWritten {V H : Type 0} (m : Meaning V H) (shown : V → Invarian
   pub solves : Solves m result values verdicts None
   pub states : map (λ (p : PointReport). p.state) r.points ≡ map shown values
   pub are_shown : AreShown m o.domain shown values
-  pub proved : map verdict_told r.verdicts ≡ map told_verdict verdicts
+  pub proved : map told_of r.verdicts ≡ map told verdicts
 
 -- where nothing is flagged, every value is the written iteration's
 pub record IsWrittenUnlessFlagged (o : Options) (bytes : List ℕ) (r : Report) : Type 0 where

@@ -3,7 +3,7 @@ use Rattle.std.specs.Prelude.{ℕ, List, [], ◌∷◌, codes, Option, Some, Non
 use Rattle.lra_base.specs.declared.refusals.Place.{Place}
 use Rattle.lra_tree.specs.declared.trees.Identifier.{Identifier}
 use Rattle.lra_base.specs.Operators.{below, at_least, equal}
-use Rattle.lra_tree.specs.Trees.{UnaryTree, literal, variable, unary, ExprTree, term, plus, TestTree, compare, conjunction, test, CondTree, CallTree, SourceTree, expression, result, set}
+use Rattle.lra_tree.specs.Trees.{UnaryTree, literal, variable, unary, ExprTree, term, plus, TestTree, compare, conjunction, test, CondTree, CallTree, RvalueTree, expression, result, set}
 use Rattle.lra_tree.specs.Trees.{DeclarationTree, declared, block, nothing, assign, if_only, for, break, continue, return, assert, ItemsTree, no_items, declaration, statement, FunctionTree, function}
 use Rattle.lra_tree.specs.Trees.{FileTree}
 
@@ -32,7 +32,7 @@ tested t = conjunction (test t)
 abbrev pub call_of : Identifier → List ExprTree → CallTree
 call_of f es = record { name = f; arguments = es }
 
-abbrev pub declared_as : Identifier → Option SourceTree → DeclarationTree
+abbrev pub declared_as : Identifier → Option RvalueTree → DeclarationTree
 declared_as x e = record { first = record { name = x; source = e }; rest = [] }
 
 abbrev pub function_of : List ℕ → ℕ → List Identifier → ItemsTree → ℕ → FunctionTree

@@ -11,7 +11,7 @@ use Rattle.lra_base.specs.Operators as operators
 use Rattle.lra_tree.specs.Trees.{UnaryTree, negated, positive, literal, variable, input, group, TermTree, unary, times}
 use Rattle.lra_tree.specs.Trees.{over, modulo, ExprTree, term, plus, minus, NegationTree, opposite_again}
 use Rattle.lra_tree.specs.Trees.{value_of_unary, group_opposed, TestTree, opposite, value, compare, group_of}
-use Rattle.lra_tree.specs.Trees.{ConjunctionTree, test, and, CondTree, conjunction, or, CallTree, SourceTree}
+use Rattle.lra_tree.specs.Trees.{ConjunctionTree, test, and, CondTree, conjunction, or, CallTree, RvalueTree}
 use Rattle.lra_tree.specs.Trees.{expression, result, StepTree, increment, decrement, AssignTree, set, update, after}
 use Rattle.lra_tree.specs.Trees.{before, DeclaratorTree, DeclarationTree, InitTree, no_init, declared, assigned}
 use Rattle.lra_tree.specs.Trees.{StmtTree, block, nothing, assign, call, if_only, if_else, while, for, break, continue}
@@ -93,7 +93,7 @@ InParens l c = mark mark.OpenParen ⋅ IsCond l c ⋅ mark mark.CloseParen
 abbrev pub IsCall : ℕ → ℕ → CallTree → Texts
 IsCall o l c = name c.name o ⋅ mark mark.OpenParen ⋅ separated (IsExpr l) c.arguments ⋅ mark mark.CloseParen
 
-abbrev pub IsSource : ℕ → SourceTree → Texts
+abbrev pub IsSource : ℕ → RvalueTree → Texts
 IsSource l (expression e) = IsExpr l e
 IsSource l (result c) = IsCall 0 l c
 
@@ -120,7 +120,7 @@ IsAssign o l (before at s x) = opens_at (step_mark s) at o ⋅ name x 0
 abbrev pub IsType : Texts
 IsType = mark mark.Long ⋅ (mark mark.Long ∣ empty) ⋅ (mark mark.Int ∣ empty)
 
-abbrev pub IsGiven : ℕ → Option SourceTree → Texts
+abbrev pub IsGiven : ℕ → Option RvalueTree → Texts
 IsGiven l None = empty
 IsGiven l (Some e) = mark mark.Assign ⋅ IsSource l e
 
@@ -157,7 +157,7 @@ abbrev pub IsForStep : ℕ → Option AssignTree → Texts
 IsForStep l None = empty
 IsForStep l (Some a) = IsAssign 0 l a
 
-abbrev pub IsReturned : ℕ → Option SourceTree → Texts
+abbrev pub IsReturned : ℕ → Option RvalueTree → Texts
 IsReturned l None = empty
 IsReturned l (Some e) = IsSource l e
 

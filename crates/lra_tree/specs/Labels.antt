@@ -5,7 +5,7 @@ use Rattle.std.specs.Prelude.{ℕ, zero, suc, List, [], ◌∷◌, ◌++◌, map
 use Rattle.lra_base.specs.declared.refusals.Place.{Place}
 use Rattle.lra_base.specs.TextOrder.{for_order}
 use Rattle.lra_tree.specs.declared.trees.Identifier.{Identifier}
-use Rattle.lra_tree.specs.Trees.{SourceTree, expression, result, AssignTree, set, update, after, before, DeclaratorTree}
+use Rattle.lra_tree.specs.Trees.{RvalueTree, expression, result, AssignTree, set, update, after, before, DeclaratorTree}
 use Rattle.lra_tree.specs.Trees.{InitTree, no_init, declared, assigned, StmtTree, block, nothing, assign, call, if_only}
 use Rattle.lra_tree.specs.Trees.{if_else, while, for, break, continue, return, assert, assume, ItemsTree, no_items}
 use Rattle.lra_tree.specs.Trees.{declaration, statement, FunctionTree, FileTree}
@@ -28,11 +28,11 @@ abbrev pub label_with : Place → Option Identifier → List (List ℕ) → Labe
 label_with at called live = record { place = at; called = called; live = live; live_in_call = live }
 
 -- what is called
-abbrev pub called_in : SourceTree → Option Identifier
+abbrev pub called_in : RvalueTree → Option Identifier
 called_in (expression e) = None
 called_in (result c) = Some c.name
 
-abbrev pub called_of : Option SourceTree → Option Identifier
+abbrev pub called_of : Option RvalueTree → Option Identifier
 called_of None = None
 called_of (Some e) = called_in e
 

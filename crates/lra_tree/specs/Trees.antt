@@ -53,9 +53,9 @@ pub record CallTree : Type 0 where
   pub arguments : List ExprTree
 
 -- what a variable gets, or a `return` gives
-pub data SourceTree : Type 0 where
-  expression : ExprTree → SourceTree
-  result : CallTree → SourceTree
+pub data RvalueTree : Type 0 where
+  expression : ExprTree → RvalueTree
+  result : CallTree → RvalueTree
 
 pub data StepTree : Type 0 where
   increment : StepTree
@@ -63,7 +63,7 @@ pub data StepTree : Type 0 where
 
 -- assignments (6.5.2.4, 6.5.3.1, 6.5.16)
 pub data AssignTree : Type 0 where
-  set : Identifier → SourceTree → AssignTree
+  set : Identifier → RvalueTree → AssignTree
   update : Identifier → Operator → ExprTree → AssignTree
   after : Identifier → StepTree → AssignTree
   -- with the place of `++` or `--`
@@ -71,7 +71,7 @@ pub data AssignTree : Type 0 where
 
 pub record DeclaratorTree : Type 0 where
   pub name : Identifier
-  pub source : Option SourceTree
+  pub source : Option RvalueTree
 
 -- one declarator at least
 pub record DeclarationTree : Type 0 where
@@ -97,7 +97,7 @@ mutual
     for : Place → InitTree → Option CondTree → Option AssignTree → StmtTree → StmtTree
     break : Place → StmtTree
     continue : Place → StmtTree
-    return : Place → Option SourceTree → StmtTree
+    return : Place → Option RvalueTree → StmtTree
     assert : Place → CondTree → StmtTree
     assume : Place → CondTree → StmtTree
 

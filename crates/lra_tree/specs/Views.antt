@@ -19,8 +19,8 @@ use Rattle.lra_tree.specs.declared.trees.Test.{Test}
 use Rattle.lra_tree.specs.declared.trees.Conjunction.{Conjunction}
 use Rattle.lra_tree.specs.declared.trees.Cond.{Cond}
 use Rattle.lra_tree.specs.declared.trees.Call.{Call}
-use Rattle.lra_tree.specs.declared.trees.Source.{Source}
-use Rattle.lra_tree.specs.declared.trees.Source.TheVariants as source
+use Rattle.lra_tree.specs.declared.trees.Rvalue.{Rvalue}
+use Rattle.lra_tree.specs.declared.trees.Rvalue.TheVariants as source
 use Rattle.lra_tree.specs.declared.trees.Step.{Step}
 use Rattle.lra_tree.specs.declared.trees.Step.TheVariants as step
 use Rattle.lra_tree.specs.declared.trees.Assign.{Assign}
@@ -165,18 +165,18 @@ step_view step.Decrement = tree.decrement
 abbrev pub call_view : Call → tree.CallTree
 call_view c = record { name = c.name; arguments = map expr_view c.arguments.items.items }
 
-abbrev pub source_view : Source → tree.SourceTree
-source_view (source.Value e) = tree.expression (expr_view e)
-source_view (source.Result c) = tree.result (call_view c)
+abbrev pub rvalue_view : Rvalue → tree.RvalueTree
+rvalue_view (source.Value e) = tree.expression (expr_view e)
+rvalue_view (source.Result c) = tree.result (call_view c)
 
 abbrev pub assign_view : Assign → tree.AssignTree
-assign_view (assign.Set x e) = tree.set x (source_view e)
+assign_view (assign.Set x e) = tree.set x (rvalue_view e)
 assign_view (assign.Update x op e) = tree.update x (operator_view op) (expr_view e)
 assign_view (assign.After x s) = tree.after x (step_view s)
 assign_view (assign.Before at s x) = tree.before at (step_view s) x
 
 abbrev pub declarator_view : Declarator → tree.DeclaratorTree
-declarator_view d = record { name = d.name; source = option_map source_view d.source }
+declarator_view d = record { name = d.name; source = option_map rvalue_view d.source }
 
 abbrev pub declaration_view : Declaration → tree.DeclarationTree
 declaration_view d = record { first = declarator_view d.first; rest = map declarator_view d.rest.items }
@@ -213,7 +213,7 @@ stmt_step (Stmt-F.For at i c s a) = tree.for at (init_view i) (option_map cond_v
     (option_map assign_view s) a.value
 stmt_step (Stmt-F.Break at) = tree.break at
 stmt_step (Stmt-F.Continue at) = tree.continue at
-stmt_step (Stmt-F.Return at e) = tree.return at (option_map source_view e)
+stmt_step (Stmt-F.Return at e) = tree.return at (option_map rvalue_view e)
 stmt_step (Stmt-F.Assert at c) = tree.assert at (cond_view c)
 stmt_step (Stmt-F.Assume at c) = tree.assume at (cond_view c)
 

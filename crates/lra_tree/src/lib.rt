@@ -13,5 +13,5 @@ pub use tokens::{Kind, Mark, Token, Word};
 pub use trees::{
     Arguments, Assign, Block, BlockItem, Call, Cond, Conjunction, Declaration, Declarator, Expr,
     Factor, FactorOperator, Function, Global, Globals, Identifier, Init, Item, Negation,
-    Parameters, Source, Step, Stmt, SumOperator, Summand, Term, Test, Tree, Unary,
+    Parameters, Rvalue, Step, Stmt, SumOperator, Summand, Term, Test, Tree, Unary,
 };

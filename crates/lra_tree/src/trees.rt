@@ -260,16 +260,16 @@ impl Drop for Call {
 }
 
 /// What a variable gets, or a `return` gives.
-pub enum Source {
+pub enum Rvalue {
     Value(Expr),
     Result(Call),
 }
 
-impl Drop for Source {
+impl Drop for Rvalue {
     fn drop(self) {
         match self {
-            Source::Value(_) => {}
-            Source::Result(_) => {}
+            Rvalue::Value(_) => {}
+            Rvalue::Result(_) => {}
         }
     }
 }
@@ -283,7 +283,7 @@ pub enum Step {
 
 pub enum Assign {
     /// `x = source`
-    Set(Identifier, Source),
+    Set(Identifier, Rvalue),
     /// `x op= e`
     Update(Identifier, Operator, Expr),
     /// `x++`
@@ -305,7 +305,7 @@ impl Drop for Assign {
 
 pub struct Declarator {
     pub name: Identifier,
-    pub source: Option<Source>,
+    pub source: Option<Rvalue>,
 }
 
 impl Drop for Declarator {
@@ -355,7 +355,7 @@ pub enum Stmt {
     For(Place, Init, Option<Cond>, Option<Assign>, Box<Stmt>),
     Break(Place),
     Continue(Place),
-    Return(Place, Option<Source>),
+    Return(Place, Option<Rvalue>),
     Assert(Place, Cond),
     Assume(Place, Cond),
 }

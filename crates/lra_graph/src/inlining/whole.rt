@@ -61,7 +61,7 @@ mod tests {
     use crate::points::Limit;
     use lra_operations::Op;
     use lra_program::{
-        BlockItem, BlockItems, Call, Cond, Declarator, Expr, Function, Slot, Source, Stmt,
+        BlockItem, BlockItems, Call, Cond, Declarator, Expr, Function, Slot, Rvalue, Stmt,
     };
     use std::test::Fail;
 
@@ -74,7 +74,7 @@ mod tests {
             label: 1,
             source: None,
         }))?;
-        let two = Source::Value(Expr::Literal(2));
+        let two = Rvalue::Value(Expr::Literal(2));
         items.push(BlockItem::Statement(Stmt::Assign(2, Slot::Local(0), two)))?;
         let holds = Cond::Nonzero(Expr::Read(Slot::Local(0)));
         let assertion = Box::new(rt.alloc(), Stmt::Assert(4, holds))?;

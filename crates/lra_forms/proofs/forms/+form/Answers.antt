@@ -16,14 +16,14 @@ form_of_chain-returns-in_default t c =
 pub form_of_chain-returns-in-None : goal.form_of_chain-returns-in-None
 form_of_chain-returns-in-None t c =
     let some = rw c.in-Some.is at c.in_ok-operand.ensures in
-    let none = rw c.in-None.is at c.in_ok-operated.ensures in
+    let none = rw c.in-None.is at c.in_ok-apply_operator.ensures in
     chain_fails c.args.live c.args.base _ c.operations.form c.args.operations.now c.operations.operation-index c.operation-item.result c.in-Some.operand c.operations-test.true
     c.operation-item.is c.operations.invariant some none
 
 pub form_of_chain-operations-preserved : goal.form_of_chain-operations-preserved
 form_of_chain-operations-preserved t c =
     let some = rw c.in-Some.is at c.in_ok-operand.ensures in
-    let also = rw c.in-Some-2.is at c.in_ok-operated.ensures in
+    let also = rw c.in-Some-2.is at c.in_ok-apply_operator.ensures in
     chain_next c.args.live c.args.base _ c.operations.form c.args.operations.now c.operations.operation-index c.operation-item.result c.in-Some.operand c.in-Some-2.next
     c.operations-test.true c.operation-item.is c.operations.invariant some also
 

@@ -4,7 +4,7 @@ use Rattle.lra_program.specs.Program.{result, block, assign, call, if, loop, ret
 use Rattle.lra_program.specs.Step.{give}
 use Rattle.lra_operations.specs.Graph.{act}
 use Rattle.lra_program.specs.Sites.{plain_site, live_behind, stmt_events, source_events, given_events, items_events, call_events}
-use Rattle.lra_program.specs.ProgramViews.{slot_view, expr_view, cond_view, call_view, source_view, given_view, stmt_view, item_view, items_of, declarator_view}
+use Rattle.lra_program.specs.ProgramViews.{slot_view, expr_view, cond_view, call_view, rvalue_view, given_view, stmt_view, item_view, items_of, declarator_view}
 use Rattle.lra_operations.specs.GraphViews.{node_view}
 use Rattle.lra_graph.specs.Limits.{walk, stopped}
 use Rattle.lra_graph.specs.Building.{StmtStands, StopsItem}
@@ -156,7 +156,7 @@ pub inline_declared-returns-in_err-given-in-Some-clause-limit : goal.inline_decl
 inline_declared-returns-in_err-given-in-Some-clause-limit t c =
     let here = c.args.around.now in
     rw c.in-Some.is (err_limit c.from_residual.result _ (points_in c.args.sites.now) (points_in c.args.sites.now) (source_events (inside here) here.path.now (here.frame.live + 1)
-    (source_view c.in-Some.source)) (source_events (inside here) here.path.now (here.frame.live + 1) (source_view c.in-Some.source)) c.from_residual.ensures.1 (λ x h. h)
+    (rvalue_view c.in-Some.source)) (source_events (inside here) here.path.now (here.frame.live + 1) (rvalue_view c.in-Some.source)) c.from_residual.ensures.1 (λ x h. h)
     c.in_err-given-in-Some.ensures.limit)
 
 pub inline_declared-returns-in-None-clause-written : goal.inline_declared-returns-in-None-clause-written
@@ -335,12 +335,12 @@ pub inline_assign-returns-in_err-point-clause-limit : goal.inline_assign-returns
 inline_assign-returns-in_err-point-clause-limit t c =
     let here = c.args.around.now in
     first_limit c.from_residual.result _ (points_in c.args.sites.now) (own_events here c.args.label)
-    (source_events (inside here) here.path.now here.frame.live (source_view c.args.source.now)) c.from_residual.ensures.1 c.in_err-point.ensures.limit
+    (source_events (inside here) here.path.now here.frame.live (rvalue_view c.args.source.now)) c.from_residual.ensures.1 c.in_err-point.ensures.limit
 
 pub inline_assign-store_index-requires : goal.inline_assign-store_index-requires
 inline_assign-store_index-requires t c =
     let here = c.args.around.now in
-    assigned_fits (program_around here) here.frame c.args.label (slot_view c.args.slot) (source_view c.args.source.now) c.requires.stands c.in_ok-point.ensures.few
+    assigned_fits (program_around here) here.frame c.args.label (slot_view c.args.slot) (rvalue_view c.args.source.now) c.requires.stands c.in_ok-point.ensures.few
 
 pub inline_assign-inline_source-requires : goal.inline_assign-inline_source-requires
 inline_assign-inline_source-requires t c =
@@ -351,7 +351,7 @@ inline_assign-inline_source-requires t c =
         (
           omega (arith, c.in_ok-point.ensures.few),
           assign_stands (program_around here)
-              here.frame c.args.label (slot_view c.args.slot) (source_view c.args.source.now) c.requires.stands,
+              here.frame c.args.label (slot_view c.args.slot) (rvalue_view c.args.source.now) c.requires.stands,
         ),
       ),
     )
@@ -360,13 +360,13 @@ pub inline_assign-returns-in_err-given-clause-limit : goal.inline_assign-returns
 inline_assign-returns-in_err-given-clause-limit t c =
     let here = c.args.around.now in
     second_limit c.from_residual-in_err-given.result _ (points_in c.args.sites.now) (points_in c.own_point.new.sites) (own_events here c.args.label)
-    (source_events (inside here) here.path.now here.frame.live (source_view c.args.source.now)) c.in_ok-point.ensures.walked c.from_residual-in_err-given.ensures.1 c.in_err-given.ensures.limit
+    (source_events (inside here) here.path.now here.frame.live (rvalue_view c.args.source.now)) c.in_ok-point.ensures.walked c.from_residual-in_err-given.ensures.1 c.in_err-given.ensures.limit
 
 pub inline_assign-returns-clause-written : goal.inline_assign-returns-clause-written
 inline_assign-returns-clause-written t c =
     let here = c.args.around.now in
     made_ok c.finish.result c.behind_point.result _ _ c.finish.ensures.tree c.behind_point.ensures
-    (λ g a. assign_written (program_around here) here.path.now here.frame _ _ _ c.in_ok-point.point c.args.label c.store_index.result (slot_view c.args.slot) (source_view c.args.source.now) _
+    (λ g a. assign_written (program_around here) here.path.now here.frame _ _ _ c.in_ok-point.point c.args.label c.store_index.result (slot_view c.args.slot) (rvalue_view c.args.source.now) _
     (node_view g)
     c.in_ok-point.ensures.number c.in_ok-point.ensures.walked c.store_index.ensures c.in_ok-given.ensures.written a)
 
@@ -449,7 +449,7 @@ inline_stmt-returns-in-Block-clause-limit t c =
 pub inline_simple-inline_assign-requires : goal.inline_simple-inline_assign-requires
 inline_simple-inline_assign-requires t c =
     let here = c.args.around.now in (
-      assign_falls (program_around here) here.frame.calls_left t (stmt_view c.args.stmt.now) c.in-Assign.label (slot_view c.in-Assign.slot) (source_view c.in-Assign.source) c.decreases (ap
+      assign_falls (program_around here) here.frame.calls_left t (stmt_view c.args.stmt.now) c.in-Assign.label (slot_view c.in-Assign.slot) (rvalue_view c.in-Assign.source) c.decreases (ap
           stmt_view c.in-Assign.is ∙ shown_assign c.in-Assign.label c.in-Assign.slot c.in-Assign.source),
       (
         c.requires.well,
@@ -462,14 +462,14 @@ pub inline_simple-returns-in-Assign-clause-written : goal.inline_simple-returns-
 inline_simple-returns-in-Assign-clause-written t c =
     let here = c.args.around.now in
     stmt_handed (program_around here) here.path.now here.frame (points_in c.args.sites.now) c.inline_assign.result node_view _ (stmt_view c.args.stmt.now) (assign c.in-Assign.label
-    (slot_view c.in-Assign.slot) (source_view c.in-Assign.source)) (ap stmt_view c.in-Assign.is ∙ shown_assign c.in-Assign.label c.in-Assign.slot c.in-Assign.source)
+    (slot_view c.in-Assign.slot) (rvalue_view c.in-Assign.source)) (ap stmt_view c.in-Assign.is ∙ shown_assign c.in-Assign.label c.in-Assign.slot c.in-Assign.source)
     c.inline_assign.ensures.written
 
 pub inline_simple-returns-in-Assign-clause-limit : goal.inline_simple-returns-in-Assign-clause-limit
 inline_simple-returns-in-Assign-clause-limit t c =
     let here = c.args.around.now in
     stmt_limit (program_around here) here.path.now here.frame (points_in c.args.sites.now) c.inline_assign.result (stmt_view c.args.stmt.now) (assign c.in-Assign.label (slot_view
-    c.in-Assign.slot) (source_view c.in-Assign.source)) (ap stmt_view c.in-Assign.is ∙ shown_assign c.in-Assign.label c.in-Assign.slot c.in-Assign.source) c.inline_assign.ensures.limit
+    c.in-Assign.slot) (rvalue_view c.in-Assign.source)) (ap stmt_view c.in-Assign.is ∙ shown_assign c.in-Assign.label c.in-Assign.slot c.in-Assign.source) c.inline_assign.ensures.limit
 
 pub inline_stmt-inline_if-requires : goal.inline_stmt-inline_if-requires
 inline_stmt-inline_if-requires t c =
@@ -614,7 +614,7 @@ pub inline_declared-returns-in_ok-given-in-Some-clause-written : goal.inline_dec
 inline_declared-returns-in_ok-given-in-Some-clause-written t c =
     let here = c.args.around.now in
     rw c.in-Some.is (made_ok c.finish.result c.behind.result _ _ c.finish.ensures.tree c.behind.ensures
-    (λ g a. given_written (program_around here) here.path.now here.frame _ _ c.args.point (here.frame.live + 1) (source_view c.in-Some.source) _ (node_view g)
+    (λ g a. given_written (program_around here) here.path.now here.frame _ _ c.args.point (here.frame.live + 1) (rvalue_view c.in-Some.source) _ (node_view g)
     (omega arith) c.in_ok-given-in-Some.ensures.written a))
 
 pub inline_block-returns-clause-limit : goal.inline_block-returns-clause-limit
