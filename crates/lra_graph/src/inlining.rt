@@ -30,7 +30,7 @@ use crate::frame::{Around, Caller, Frame, Repeated};
 use crate::points::{GraphError, Limit, add_point, finish};
 use calls::{callee, end_call, enter_call};
 use lra_operations::{Exit, Node, Op, Site};
-use lra_program::{BlockItem, Call, Cond, Expr, Slot, Rvalue, Stmt};
+use lra_program::{BlockItem, Call, Cond, Expr, Rvalue, Slot, Stmt};
 use returns::{leave_any, leave_call, leave_value, receiver_of};
 pub use whole::build;
 

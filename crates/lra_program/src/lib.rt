@@ -6,6 +6,6 @@
 mod program;
 
 pub use program::{
-    BlockItem, BlockItems, Call, Cond, Declarator, Expr, Function, Operation, Program, Slot,
-    Rvalue, Stmt, copy_expressions,
+    BlockItem, BlockItems, Call, Cond, Declarator, Expr, Function, Operation, Program, Rvalue,
+    Slot, Stmt, copy_expressions,
 };

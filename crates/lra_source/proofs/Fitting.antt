@@ -261,7 +261,7 @@ module _ (P : Program) (T : List Site) (few : AllFew T) (well : IsWellFormed P) 
         let fw' : Few n' = few q' _ i in seq_fit _ _ fw' (fit_all d l own st fw' good) (seq_fit _ _ fw' (point_fit q') (keep_fit q' spot.live (low_all d)))
     fit_one as_absent l own st fw good = empty_fit
     fit_one (as_assign {s = spot} {at = at} {x = x} i d) l own st fw good =
-      seq_fit _ _ fw (point_fit spot.next) (fit_gives d at own st fw (standing_place P spot.frame spot.live own x st good.0) good.1)
+        seq_fit _ _ fw (point_fit spot.next) (fit_gives d at own st fw (standing_place P spot.frame spot.live own x st good.0) good.1)
     fit_one (as_call {s = spot} {at = at} i d) l own st fw good = seq_fit _ _ fw (point_fit spot.next) (fit_gives d at own st fw tt good)
     fit_one (as_if {s = spot} {c = c} {g = g} {h = h} i d e) l own st fw good =
         seq_fit _ _ fw (point_fit spot.next) (choose_fit spot.next spot.frame.here.base c g h (fit_one d l own st fw good.1) (fit_one e l own st fw good.2))

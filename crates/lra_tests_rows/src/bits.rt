@@ -1,6 +1,6 @@
 //! A table of widths at and beside the borders of words.
 
-ghost use Rattle.std.specs.Prelude.{◌≡◌, length, IfOk};
+ghost use Rattle.std.specs.Prelude.{◌≡◌, ◌+◌, length, IfOk, OnOk};
 
 use lra_bits::{BitRow, SatMatrix};
 use std::alloc::{AllocError, Global};
@@ -19,30 +19,110 @@ fn row_of(alloc: Global, width: usize, step: usize) -> Result<BitRow, AllocError
     Ok(row)
 }
 
+// Whether the multiples of the first number lie in those of the second.
+fn lie_in(alloc: Global, width: usize, inner: usize, outer: usize) -> Result<bool, AllocError> {
+    let inner = row_of(alloc, width, inner)?;
+    let outer = row_of(alloc, width, outer)?;
+    Ok(inner.subset(&outer))
+}
+
 #[test]
-fn rows(rt: HostRuntime) -> Result<(), Fail> {
+fn rows_lie_in_others(rt: HostRuntime) -> Result<(), Fail> {
     for width in WIDTHS {
-        let even = row_of(rt.alloc(), width, 2)?;
-        let third = row_of(rt.alloc(), width, 3)?;
-        let fourth = row_of(rt.alloc(), width, 4)?;
-        let sixth = row_of(rt.alloc(), width, 6)?;
-        assert_eq!(rt; even.words().len(), width.div_ceil(64));
-        assert_eq!(rt; even.subset(&third), width < 3);
-        assert!(rt; sixth.subset(&even));
-        assert!(rt; even.common_within(&third, &sixth));
-        assert_eq!(rt; sixth.common_within(&even, &fourth), width < 7);
-        let common = even.common(&third)?;
-        assert_eq!(rt; common.width(), width);
-        for k in 0..common.width() {
-            assert_eq!(rt; common.get(k), k.is_multiple_of(6));
+        let even = lie_in(rt.alloc(), width, 2, 3)?;
+        let sixth = lie_in(rt.alloc(), width, 6, 2)?;
+        assert_eq!(rt; (even, sixth), (width < 3, true));
+    }
+    Ok(())
+}
+
+// Whether what the multiples of the first two numbers have in common lies in those of the third.
+fn common_lies_in(alloc: Global, width: usize, steps: [usize; 3]) -> Result<bool, AllocError> {
+    let first = row_of(alloc, width, steps[0])?;
+    let second = row_of(alloc, width, steps[1])?;
+    let outer = row_of(alloc, width, steps[2])?;
+    Ok(first.common_within(&second, &outer))
+}
+
+#[test]
+fn common_places_lie_in_others(rt: HostRuntime) -> Result<(), Fail> {
+    for width in WIDTHS {
+        let sixth = common_lies_in(rt.alloc(), width, [2, 3, 6])?;
+        let fourth = common_lies_in(rt.alloc(), width, [6, 2, 4])?;
+        assert_eq!(rt; (sixth, fourth), (true, width < 7));
+    }
+    Ok(())
+}
+
+// Whether the row is true at the multiples of 6, and has so many places.
+fn is_sixth(row: &BitRow, width: usize) -> bool {
+    for k in 0..row.width() {
+        if row.get(k) != k.is_multiple_of(6) {
+            return false;
         }
-        let mut matrix = SatMatrix::new(rt.alloc(), width);
-        matrix.add_row(even)?;
-        matrix.add_row(third)?;
-        matrix.add_row(row_of(rt.alloc(), width, 6)?)?;
-        matrix.remove_rows(&row_of(rt.alloc(), 3, 2)?);
-        assert_eq!(rt; matrix.height(), 1);
-        assert!(rt; sixth.subset(matrix.row(0)));
+    }
+    row.width() == width
+}
+
+// Whether the multiples of 2 and of 3 have those of 6 in common.
+fn has_common(alloc: Global, width: usize) -> Result<bool, AllocError> {
+    let even = row_of(alloc, width, 2)?;
+    let third = row_of(alloc, width, 3)?;
+    let common = even.common(&third)?;
+    let packed = even.words().len() == width.div_ceil(64);
+    Ok(packed && is_sixth(&common, width))
+}
+
+#[test]
+fn rows_have_common_places(rt: HostRuntime) -> Result<(), Fail> {
+    for width in WIDTHS {
+        let same = has_common(rt.alloc(), width)?;
+        assert!(rt; same, "{width}");
+    }
+    Ok(())
+}
+
+fn add_multiples(
+    alloc: Global,
+    matrix: &mut SatMatrix,
+    width: usize,
+    step: usize,
+) -> Result<(), AllocError>
+    requires { matrix.old.width ≡ width }
+    ensures width { matrix.new.width ≡ matrix.old.width }
+    ensures height { OnOk result (length matrix.new.rows ≡ length matrix.old.rows + 1) }
+{
+    let row = row_of(alloc, width, step)?;
+    matrix.add_row(row)?;
+    Ok(())
+}
+
+// The multiples of 2, of 3 and of 6.
+fn multiples(alloc: Global, width: usize) -> Result<SatMatrix, AllocError>
+    ensures width { IfOk result (λ matrix. matrix.width ≡ width) }
+    ensures height { IfOk result (λ matrix. length matrix.rows ≡ 3) }
+{
+    let mut matrix = SatMatrix::new(alloc, width);
+    add_multiples(alloc, &mut matrix, width, 2)?;
+    add_multiples(alloc, &mut matrix, width, 3)?;
+    add_multiples(alloc, &mut matrix, width, 6)?;
+    Ok(matrix)
+}
+
+// Whether the second row alone stays where the first and the third are removed.
+fn keeps_second(alloc: Global, width: usize) -> Result<bool, AllocError> {
+    let mut matrix = multiples(alloc, width)?;
+    let gone = row_of(alloc, 3, 2)?;
+    matrix.remove_rows(&gone);
+    let sixth = row_of(alloc, width, 6)?;
+    Ok(matrix.height() == 1 && sixth.subset(matrix.row(0)))
+}
+
+#[test]
+fn rows_are_removed(rt: HostRuntime) -> Result<(), Fail> {
+    for width in WIDTHS {
+        let kept = keeps_second(rt.alloc(), width)?;
+        assert!(rt; kept, "{width}");
     }
     Ok(())
 }

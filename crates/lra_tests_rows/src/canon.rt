@@ -1,6 +1,6 @@
 //! Worked rows.
 
-ghost use Rattle.std.specs.Prelude.{◌≡◌, ◌∷◌, [], length, IfOk};
+ghost use Rattle.std.specs.Prelude.{◌≡◌, ◌+◌, ◌∷◌, [], length, IfOk, OnOk};
 ghost use Rattle.std.specs.List.{All};
 ghost use Rattle.lra_linear.specs.Range.{InRange};
 ghost use Rattle.lra_canon.specs.Reduced.{IsForm};
@@ -59,12 +59,18 @@ fn order_of_inequalities(rt: HostRuntime) -> Result<(), Fail> {
     Ok(())
 }
 
-/// Likewise generators, whose column 0 decides last, and lines, of which one has no other column.
+/// Likewise generators, whose column 0 decides last.
 #[test]
-fn orders(rt: HostRuntime) -> Result<(), Fail> {
+fn order_of_generators(rt: HostRuntime) -> Result<(), Fail> {
     let points = three(rt.alloc(), &[1, 0, 2], &[1, 0, 0], &[2, -1, 0])?;
     let want = [[2, -1, 0], [1, 0, 0], [1, 0, 2]];
     assert!(rt; is_order(points, Order::Generators, &want)?);
+    Ok(())
+}
+
+/// Likewise lines, of which one has no other column.
+#[test]
+fn order_of_lines(rt: HostRuntime) -> Result<(), Fail> {
     let lines = three(rt.alloc(), &[1, 0, 0], &[0, 0, 1], &[0, 3, 1])?;
     let want = [[0, 3, 1], [0, 0, 1], [1, 0, 0]];
     assert!(rt; is_order(lines, Order::Pivots, &want)?);
@@ -210,6 +216,16 @@ fn bits_of(alloc: Global, values: &[bool]) -> Result<BitRow, AllocError>
     Ok(row)
 }
 
+fn add_bits(alloc: Global, matrix: &mut SatMatrix, values: &[bool]) -> Result<(), AllocError>
+    requires { length values.now ≡ matrix.old.width }
+    ensures width { matrix.new.width ≡ matrix.old.width }
+    ensures height { OnOk result (length matrix.new.rows ≡ length matrix.old.rows + 1) }
+{
+    let row = bits_of(alloc, values)?;
+    matrix.add_row(row)?;
+    Ok(())
+}
+
 // A matrix of three rows.
 fn matrix_of(
     alloc: Global,
@@ -222,9 +238,9 @@ fn matrix_of(
     ensures { IfOk result (λ matrix. length matrix.rows ≡ 3) }
 {
     let mut matrix = SatMatrix::new(alloc, first.len());
-    matrix.add_row(bits_of(alloc, first)?)?;
-    matrix.add_row(bits_of(alloc, second)?)?;
-    matrix.add_row(bits_of(alloc, third)?)?;
+    add_bits(alloc, &mut matrix, first)?;
+    add_bits(alloc, &mut matrix, second)?;
+    add_bits(alloc, &mut matrix, third)?;
     Ok(matrix)
 }
 

@@ -1,19 +1,49 @@
 use lra_lin::{LinExpr, Test};
 use lra_linear::ConKind;
-use std::alloc::AllocError;
+use std::alloc::{AllocError, Global};
 
-/// Values of forms: 3 + 2x - y at small stores, and sums at the limits of i64.
+// The values of 3 + 2x - y at three points.
+fn small_values(alloc: Global) -> Result<[Option<i128>; 3], AllocError> {
+    let form = LinExpr::new(alloc, 3, &[2, -1])?;
+    let again = form.copy(alloc)?;
+    Ok([
+        again.eval(&[5, 4]),
+        again.eval(&[0, 0]),
+        again.eval(&[-2, 7]),
+    ])
+}
+
+// The values of a form of three coefficients at the limits, with and without the second coordinate.
+fn great_values(alloc: Global) -> Result<[Option<i128>; 2], AllocError> {
+    let wide = LinExpr::new(alloc, 0, &[i64::MIN, i64::MIN, i64::MAX])?;
+    let one = wide.eval(&[i64::MIN, 0, 0]);
+    let both = wide.eval(&[i64::MIN, i64::MIN, 0]);
+    Ok([one, both])
+}
+
+/// Values of forms at small stores, and sums at the limits of i64.
 #[test]
 fn values_of_forms(rt: HostRuntime) -> Result<(), AllocError> {
-    let form = LinExpr::new(rt.alloc(), 3, &[2, -1])?;
-    let again = form.copy(rt.alloc())?;
-    for (point, want) in [([5, 4], 9), ([0, 0], 3), ([-2, 7], -8)] {
-        assert_eq!(rt; again.eval(&point), Some(want));
-    }
-    let wide = LinExpr::new(rt.alloc(), 0, &[i64::MIN, i64::MIN, i64::MAX])?;
-    assert_eq!(rt; wide.eval(&[i64::MIN, 0, 0]), Some(1i128 << 126));
-    assert_eq!(rt; wide.eval(&[i64::MIN, i64::MIN, 0]), None);
+    let small = small_values(rt.alloc())?;
+    let great = great_values(rt.alloc())?;
+    assert_eq!(rt; small, [Some(9), Some(3), Some(-8)]);
+    assert_eq!(rt; great, [Some(1i128 << 126), None]);
     Ok(())
+}
+
+// The constant and the coefficient of what a test's opposite asks, if there is one.
+fn opposite_of(
+    alloc: Global,
+    kind: ConKind,
+    constant: i64,
+    coefficient: i64,
+) -> Result<Option<(i64, i64)>, AllocError> {
+    let test = Test {
+        expr: LinExpr::new(alloc, constant, &[coefficient])?,
+        kind,
+    };
+    let opposite = test.opposite(alloc)?;
+    Ok(opposite.map(|t| (t.expr.constant(), t.expr.coefficients()[0])))
 }
 
 /// The opposite of `x - 10 >= 0` is `9 - x >= 0`; there is none of an equality, nor where a coefficient is -2^63.
@@ -25,14 +55,8 @@ fn opposites(rt: HostRuntime) -> Result<(), AllocError> {
         (ConKind::Ge, 0, i64::MIN, None),
         (ConKind::Eq, 0, 1, None),
     ] {
-        let test = Test {
-            expr: LinExpr::new(rt.alloc(), constant, &[coefficient])?,
-            kind,
-        };
-        let got = test
-            .opposite(rt.alloc())?
-            .map(|t| (t.expr.constant(), t.expr.coefficients()[0]));
-        assert_eq!(rt; got, want);
+        let found = opposite_of(rt.alloc(), kind, constant, coefficient)?;
+        assert_eq!(rt; found, want);
     }
     Ok(())
 }

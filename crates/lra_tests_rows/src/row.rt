@@ -12,63 +12,101 @@ use std::test::Fail;
 
 const MAX: i128 = i128::MAX;
 
+/// -2^127 passes the range, as 2^127 does.
 #[test]
-fn numbers(rt: HostRuntime) {
-    assert_eq!(rt; mul(MAX, -1), Some(-MAX));
-    assert_eq!(rt; mul(i128::MIN, 1), None, "-2^127 passes the range");
-    assert_eq!(rt; add(MAX, 1), None);
-    assert_eq!(rt; add(-MAX, -1), None);
-    for (a, b, floor) in [
-        (7, 2, 3),
-        (-7, 2, -4),
-        (7, -2, -4),
-        (-7, -2, 3),
-        (6, -2, -3),
-    ] {
-        assert_eq!(rt; floor_div(a, b), Some(floor));
-    }
-    assert_eq!(rt; floor_div(1, 0), None);
-    assert_eq!(rt; floor_div(i128::MIN, -1), None);
-    assert_eq!(rt; gcd(12, -18), 6);
-    assert_eq!(rt; gcd(0, 0), 0);
-    assert_eq!(rt; ratio_cmp(1, 2, 2, 4), Ordering::Equal);
-    assert_eq!(rt;
+fn products_and_sums(rt: HostRuntime) {
+    let products = [mul(MAX, -1), mul(i128::MIN, 1)];
+    let sums = [add(MAX, 1), add(-MAX, -1)];
+    assert_eq!(rt; (products, sums), ([Some(-MAX), None], [None, None]));
+}
+
+#[test]
+fn floors(rt: HostRuntime) {
+    let floors = [
+        floor_div(7, 2),
+        floor_div(-7, 2),
+        floor_div(7, -2),
+        floor_div(-7, -2),
+        floor_div(6, -2),
+    ];
+    let none = [floor_div(1, 0), floor_div(i128::MIN, -1)];
+    let want = [Some(3), Some(-4), Some(-4), Some(3), Some(-3)];
+    assert_eq!(rt; (floors, none), (want, [None, None]));
+}
+
+#[test]
+fn divisors_and_ratios(rt: HostRuntime) {
+    let divisors = [gcd(12, -18), gcd(0, 0)];
+    let ratios = [
+        ratio_cmp(1, 2, 2, 4),
         ratio_cmp(MAX - 1, MAX, MAX - 2, MAX - 1),
-        Ordering::Greater
-    );
-    assert_eq!(rt; ratio_cmp(-1, 3, 1, MAX), Ordering::Less);
+        ratio_cmp(-1, 3, 1, MAX),
+    ];
+    let want = [Ordering::Equal, Ordering::Greater, Ordering::Less];
+    assert_eq!(rt; (divisors, ratios), ([6, 0], want));
+}
+
+#[test]
+fn products(rt: HostRuntime) -> Result<(), Fail> {
+    let c = Row::from_slice(rt.alloc(), &[1, -2, 3])?;
+    let form = Row::from_slice(rt.alloc(), &[5, 1, -1])?;
+    assert_eq!(rt; c.dot(&form), Ok(0));
+    Ok(())
+}
+
+/// 2 3 1 stands after 1 -1 5.
+#[test]
+fn orders(rt: HostRuntime) -> Result<(), Fail> {
+    let row = Row::from_slice(rt.alloc(), &[1, 2, 3])?;
+    let form = Row::from_slice(rt.alloc(), &[5, 1, -1])?;
+    assert_eq!(rt; row.compare(&form), Ordering::Greater);
+    Ok(())
+}
+
+fn is_row(row: &Row, pivot: usize, entries: &[i128]) -> bool {
+    row.entries() == entries && row.width() == entries.len() && row.pivot() == pivot
+}
+
+// Whether a form that is put in for a coordinate makes its row.
+fn substitutes(alloc: Global) -> Result<bool, Fail> {
+    let row = Row::from_slice(alloc, &[1, 2, 3])?;
+    let form = Row::from_slice(alloc, &[5, 1, -1])?;
+    let made = row.substitute(1, &form).map_err(|_| "no row")?;
+    Ok(is_row(&made, 1, &[11, 2, 1]))
+}
+
+// Whether two rows on either side of a third make theirs.
+fn combines(alloc: Global) -> Result<bool, Fail> {
+    let u = Row::from_slice(alloc, &[1, 1])?;
+    let v = Row::from_slice(alloc, &[6, -1])?;
+    let c = Row::from_slice(alloc, &[0, 2])?;
+    let made = Row::combine(&u, &v, &c).map_err(|_| "no row")?;
+    Ok(is_row(&made, 0, &[1, 0]))
+}
+
+// Whether a negated row in lowest terms is as it should be.
+fn lowers(alloc: Global) -> Result<bool, Fail> {
+    let mut even = Row::from_slice(alloc, &[4, 0, -6])?.negate()?;
+    even.lowest_terms();
+    Ok(is_row(&even, 2, &[-2, 0, 3]))
+}
+
+// Whether a row and its negative sum to nothing.
+fn blends(alloc: Global) -> Result<bool, Fail> {
+    let nine = Row::from_slice(alloc, &[1, 2, 3, 4, 5, 6, 7, 8, 9])?;
+    let other = nine.copy()?;
+    let zero = nine.negate()?.blend(1, 1, &other).map_err(|_| "no row")?;
+    Ok(is_row(&zero, 0, &[0, 0, 0, 0, 0, 0, 0, 0, 0]))
 }
 
 /// Rows that are made, with their entries.
 #[test]
 fn rows(rt: HostRuntime) -> Result<(), Fail> {
-    let alloc = rt.alloc();
-    let c = Row::from_slice(alloc, &[1, -2, 3])?;
-    let row = Row::from_slice(alloc, &[1, 2, 3])?;
-    let form = Row::from_slice(alloc, &[5, 1, -1])?;
-    assert_eq!(rt; c.dot(&form), Ok(0));
-    assert_eq!(rt; row.compare(&form), Ordering::Greater, "2 3 1 after 1 -1 5");
-    let substituted = row.substitute(1, &form).map_err(|_| "no row")?;
-    let u = Row::from_slice(alloc, &[1, 1])?;
-    let v = Row::from_slice(alloc, &[6, -1])?;
-    let combined = Row::combine(&u, &v, &Row::from_slice(alloc, &[0, 2])?).map_err(|_| "no row")?;
-    let mut even = Row::from_slice(alloc, &[4, 0, -6])?.negate()?;
-    even.lowest_terms();
-    let nine = Row::from_slice(alloc, &[1, 2, 3, 4, 5, 6, 7, 8, 9])?;
-    let zero = nine
-        .negate()?
-        .blend(1, 1, &nine.copy()?)
-        .map_err(|_| "no row")?;
-    for (made, pivot, entries) in [
-        (&substituted, 1, [11, 2, 1].as_slice()),
-        (&combined, 0, [1, 0].as_slice()),
-        (&even, 2, [-2, 0, 3].as_slice()),
-        (&zero, 0, [0, 0, 0, 0, 0, 0, 0, 0, 0].as_slice()),
-    ] {
-        assert_eq!(rt; made.entries(), entries);
-        assert_eq!(rt; made.width(), entries.len());
-        assert_eq!(rt; made.pivot(), pivot);
-    }
+    let substituted = substitutes(rt.alloc())?;
+    let combined = combines(rt.alloc())?;
+    let lowered = lowers(rt.alloc())?;
+    let blended = blends(rt.alloc())?;
+    assert_eq!(rt; [substituted, combined, lowered, blended], [true; 4]);
     Ok(())
 }
 
@@ -97,54 +135,71 @@ fn combining(alloc: Global, u: &[i128], v: &[i128], c: &[i128]) -> Result<Option
     Ok(passing(Row::combine(&u, &v, &c)))
 }
 
-/// A product that passes: in `c.u`, in `c.v`, and in each of the two multiples.
+fn excess(op: Operation, left: i128, right: i128) -> Option<Excess> {
+    Some(Excess { op, left, right })
+}
+
+/// A product that passes: in `c.u`, and in `c.v`.
+#[test]
+fn products_in_combinations(rt: HostRuntime) -> Result<(), Fail> {
+    let above = combining(rt.alloc(), &[MAX, 1], &[-1, 0], &[2, 0])?;
+    let below = combining(rt.alloc(), &[1, 0], &[-MAX, 0], &[2, 0])?;
+    let op = Operation::Product;
+    assert_eq!(rt; (above, below), (excess(op, 2, MAX), excess(op, 2, -MAX)));
+    Ok(())
+}
+
+/// In each of the two multiples.
 #[test]
 fn products_of_combinations(rt: HostRuntime) -> Result<(), Fail> {
-    let alloc = rt.alloc();
+    let first = combining(rt.alloc(), &[MAX, 1], &[0, -2], &[0, 1])?;
+    let second = combining(rt.alloc(), &[0, 2], &[-MAX, -1], &[0, 1])?;
     let op = Operation::Product;
-    for (got, left, right) in [
-        (combining(alloc, &[MAX, 1], &[-1, 0], &[2, 0])?, 2, MAX),
-        (combining(alloc, &[1, 0], &[-MAX, 0], &[2, 0])?, 2, -MAX),
-        (combining(alloc, &[MAX, 1], &[0, -2], &[0, 1])?, 2, MAX),
-        (combining(alloc, &[0, 2], &[-MAX, -1], &[0, 1])?, 2, -MAX),
-    ] {
-        assert_eq!(rt; got, Some(Excess { op, left, right }));
-    }
+    assert_eq!(rt; (first, second), (excess(op, 2, MAX), excess(op, 2, -MAX)));
     Ok(())
 }
 
-/// A sum that passes: in `c.u`, in `c.v`, and of the two multiples.
+/// A sum that passes: in `c.u`, and in `c.v`.
+#[test]
+fn sums_in_combinations(rt: HostRuntime) -> Result<(), Fail> {
+    let above = combining(rt.alloc(), &[MAX, 1], &[-MAX, -1], &[1, 1])?;
+    let below = combining(rt.alloc(), &[1, 0], &[-MAX, -1], &[1, 1])?;
+    let op = Operation::Sum;
+    assert_eq!(rt; (above, below), (excess(op, MAX, 1), excess(op, -MAX, -1)));
+    Ok(())
+}
+
+/// Of the two multiples.
 #[test]
 fn sums_of_combinations(rt: HostRuntime) -> Result<(), Fail> {
-    let alloc = rt.alloc();
-    let op = Operation::Sum;
-    for (got, left, right) in [
-        (combining(alloc, &[MAX, 1], &[-MAX, -1], &[1, 1])?, MAX, 1),
-        (combining(alloc, &[1, 0], &[-MAX, -1], &[1, 1])?, -MAX, -1),
-        (combining(alloc, &[MAX, 1], &[3, -1], &[0, 1])?, MAX, 3),
-    ] {
-        assert_eq!(rt; got, Some(Excess { op, left, right }));
-    }
+    let found = combining(rt.alloc(), &[MAX, 1], &[3, -1], &[0, 1])?;
+    assert_eq!(rt; found, excess(Operation::Sum, MAX, 3));
     Ok(())
 }
 
-/// Those of values and of substitutions.
 #[test]
-fn excesses(rt: HostRuntime) -> Result<(), Fail> {
+fn excesses_of_values(rt: HostRuntime) -> Result<(), Fail> {
+    let large = Row::from_slice(rt.alloc(), &[MAX, 2])?;
+    let product = large.value_at(2, &[0]).err();
+    let sum = large.value_at(1, &[1]).err();
+    let want = (
+        excess(Operation::Product, MAX, 2),
+        excess(Operation::Sum, MAX, 2),
+    );
+    assert_eq!(rt; (product, sum), want);
+    Ok(())
+}
+
+#[test]
+fn excesses_of_substitutions(rt: HostRuntime) -> Result<(), Fail> {
     let large = Row::from_slice(rt.alloc(), &[MAX, 2])?;
     let form = Row::from_slice(rt.alloc(), &[1, MAX])?;
-    for (got, op, left, right) in [
-        (large.value_at(2, &[0]).err(), Operation::Product, MAX, 2),
-        (large.value_at(1, &[1]).err(), Operation::Sum, MAX, 2),
-        (passing(large.substitute(1, &form)), Operation::Sum, MAX, 2),
-        (
-            passing(form.substitute(1, &large)),
-            Operation::Product,
-            MAX,
-            MAX,
-        ),
-    ] {
-        assert_eq!(rt; got, Some(Excess { op, left, right }));
-    }
+    let sum = passing(large.substitute(1, &form));
+    let product = passing(form.substitute(1, &large));
+    let want = (
+        excess(Operation::Sum, MAX, 2),
+        excess(Operation::Product, MAX, MAX),
+    );
+    assert_eq!(rt; (sum, product), want);
     Ok(())
 }

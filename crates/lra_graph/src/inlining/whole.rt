@@ -61,7 +61,7 @@ mod tests {
     use crate::points::Limit;
     use lra_operations::Op;
     use lra_program::{
-        BlockItem, BlockItems, Call, Cond, Declarator, Expr, Function, Slot, Rvalue, Stmt,
+        BlockItem, BlockItems, Call, Cond, Declarator, Expr, Function, Rvalue, Slot, Stmt,
     };
     use std::test::Fail;
 
