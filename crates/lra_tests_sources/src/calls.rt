@@ -6,16 +6,27 @@ use lra_tree::{
     Arguments, Assign, Block, BlockItem, Call, Declaration, Declarator, Function, Identifier, Init,
     Item, Parameters, Rvalue, Stmt, Tree, Word,
 };
-use std::alloc::AllocError;
+use std::alloc::{AllocError, Global};
+use std::process::Abort;
 use std::test::Fail;
 
-/// A name, and the names that the function of this name calls.
+/// A name, and the names that the function of this name calls. A function's calls are, in this order, `f();`,
+/// `int x = f();` and `for (;; x = f());`, and name what they call at the columns 20, 30 and 40.
 type Line = &'static [&'static str];
 
-/// Sources of a function on each line, each with the place of its first recursive call. A function's calls are, in
-/// this order, `f();`, `int x = f();` and `for (;; x = f());`, and name what they call at the columns 20, 30 and 40.
-const CASES: &[(&'static [Line], Option<Place>)] = &[
+/// Sources of a function on each line, without a recursive call.
+static STRAIGHT: [(&'static [Line], Option<Place>); 4] = [
     (&[], None),
+    (&[&["main", "f"], &["f", "g"], &["g", "h"], &["h"]], None),
+    (
+        &[&["main", "f", "g"], &["f", "h"], &["g", "h"], &["h"]],
+        None,
+    ),
+    (&[&["f", "k"], &["main", "f"]], None),
+];
+
+/// Sources of two functions or fewer in a round, each with the place of its first recursive call.
+static ROUND: [(&'static [Line], Option<Place>); 4] = [
     (
         &[&["f", "f"], &["main"]],
         Some(Place {
@@ -44,11 +55,10 @@ const CASES: &[(&'static [Line], Option<Place>)] = &[
             column: 20,
         }),
     ),
-    (&[&["main", "f"], &["f", "g"], &["g", "h"], &["h"]], None),
-    (
-        &[&["main", "f", "g"], &["f", "h"], &["g", "h"], &["h"]],
-        None,
-    ),
+];
+
+/// Sources of which a recursive call stands behind others, likewise.
+static ROUNDS: [(&'static [Line], Option<Place>); 4] = [
     (
         &[&["main", "f"], &["g"], &["f", "g", "f"]],
         Some(Place {
@@ -70,7 +80,6 @@ const CASES: &[(&'static [Line], Option<Place>)] = &[
             column: 20,
         }),
     ),
-    (&[&["f", "k"], &["main", "f"]], None),
     (
         &[&["f", "g"], &["g"], &["g", "f"]],
         Some(Place {
@@ -80,65 +89,60 @@ const CASES: &[(&'static [Line], Option<Place>)] = &[
     ),
 ];
 
-fn identifier(
-    rt: &HostRuntime,
-    name: &str,
-    line: u32,
-    column: u32,
-) -> Result<Identifier, AllocError> {
+fn identifier(alloc: Global, name: &str, line: u32, column: u32) -> Result<Identifier, AllocError> {
     Ok(Identifier {
-        word: Word::from_str(rt.alloc(), name)?,
+        word: Word::from_str(alloc, name)?,
         place: Place { line, column },
     })
 }
 
-fn call(rt: &HostRuntime, name: &str, line: u32, column: u32) -> Result<Call, AllocError> {
+fn call(alloc: Global, name: &str, line: u32, column: u32) -> Result<Call, AllocError> {
     Ok(Call {
-        name: identifier(rt, name, line, column)?,
+        name: identifier(alloc, name, line, column)?,
         arguments: Arguments {
-            items: Vec::new(rt.alloc()),
+            items: Vec::new(alloc),
         },
     })
 }
 
 /// `f();`
-fn alone(rt: &HostRuntime, name: &str, line: u32) -> Result<BlockItem, AllocError> {
-    Ok(BlockItem::Statement(Stmt::Call(call(rt, name, line, 20)?)))
+fn alone(alloc: Global, name: &str, line: u32) -> Result<BlockItem, AllocError> {
+    Ok(BlockItem::Statement(Stmt::Call(call(alloc, name, line, 20)?)))
 }
 
 /// `int x = f();`
-fn declared(rt: &HostRuntime, name: &str, line: u32) -> Result<BlockItem, AllocError> {
-    let source = Rvalue::Result(call(rt, name, line, 30)?);
+fn declared(alloc: Global, name: &str, line: u32) -> Result<BlockItem, AllocError> {
+    let source = Rvalue::Result(call(alloc, name, line, 30)?);
     Ok(BlockItem::Declaration(Declaration {
         first: Declarator {
-            name: identifier(rt, "x", line, 26)?,
+            name: identifier(alloc, "x", line, 26)?,
             source: Some(source),
         },
-        rest: Vec::new(rt.alloc()),
+        rest: Vec::new(alloc),
     }))
 }
 
 /// `for (;; x = f());`
-fn repeated(rt: &HostRuntime, name: &str, line: u32) -> Result<BlockItem, AllocError> {
+fn repeated(alloc: Global, name: &str, line: u32) -> Result<BlockItem, AllocError> {
     let place = Place { line, column: 32 };
-    let nothing = Box::new(rt.alloc(), Stmt::Nothing(place))?;
-    let source = Rvalue::Result(call(rt, name, line, 40)?);
-    let step = Assign::Set(identifier(rt, "x", line, 38)?, source);
+    let nothing = Box::new(alloc, Stmt::Nothing(place))?;
+    let source = Rvalue::Result(call(alloc, name, line, 40)?);
+    let step = Assign::Set(identifier(alloc, "x", line, 38)?, source);
     Ok(BlockItem::Statement(Stmt::For(place, Init::Nothing, None, Some(step), nothing)))
 }
 
-fn item(rt: &HostRuntime, place: usize, name: &str, line: u32) -> Result<BlockItem, AllocError> {
+fn item(alloc: Global, place: usize, name: &str, line: u32) -> Result<BlockItem, AllocError> {
     match place {
-        0 => alone(rt, name, line),
-        1 => declared(rt, name, line),
-        _ => repeated(rt, name, line),
+        0 => alone(alloc, name, line),
+        1 => declared(alloc, name, line),
+        _ => repeated(alloc, name, line),
     }
 }
 
-fn block(rt: &HostRuntime, names: &[&str], line: u32) -> Result<Block, AllocError> {
-    let mut items = Vec::new(rt.alloc());
+fn block(alloc: Global, names: &[&str], line: u32) -> Result<Block, AllocError> {
+    let mut items = Vec::new(alloc);
     for (place, name) in names.iter().enumerate() {
-        items.push(item(rt, place, name, line)?)?;
+        items.push(item(alloc, place, name, line)?)?;
     }
     Ok(Block {
         items,
@@ -146,28 +150,23 @@ fn block(rt: &HostRuntime, names: &[&str], line: u32) -> Result<Block, AllocErro
     })
 }
 
-fn function(
-    rt: &HostRuntime,
-    name: &str,
-    names: &[&str],
-    line: u32,
-) -> Result<Function, AllocError> {
+fn function(alloc: Global, name: &str, names: &[&str], line: u32) -> Result<Function, AllocError> {
     Ok(Function {
         has_result: true,
-        name: identifier(rt, name, line, 5)?,
+        name: identifier(alloc, name, line, 5)?,
         parameters: Parameters {
-            items: Vec::new(rt.alloc()),
+            items: Vec::new(alloc),
         },
-        body: block(rt, names, line)?,
+        body: block(alloc, names, line)?,
     })
 }
 
-fn tree(rt: &HostRuntime, lines: &[Line]) -> Result<Tree, AllocError> {
-    let mut items = Vec::new(rt.alloc());
+fn tree(alloc: Global, lines: &[Line]) -> Result<Tree, AllocError> {
+    let mut items = Vec::new(alloc);
     let mut line = 1u32;
     for names in lines {
         if let Some((name, called)) = names.split_first() {
-            items.push(Item::Function(function(rt, name, called, line)?))?;
+            items.push(Item::Function(function(alloc, name, called, line)?))?;
         }
         line = line.wrapping_add(1);
     }
@@ -177,11 +176,35 @@ fn tree(rt: &HostRuntime, lines: &[Line]) -> Result<Tree, AllocError> {
     })
 }
 
-#[test]
-fn the_first_recursive_call_is_found(rt: HostRuntime) -> Result<(), Fail> {
-    for &(lines, expected) in CASES.iter() {
-        let found = first_recursive(rt.alloc(), &tree(&rt, lines)?)?;
-        assert!(rt; found == expected);
+fn found(alloc: Global, lines: &[Line]) -> Result<Option<Place>, AllocError> {
+    let tree = tree(alloc, lines)?;
+    first_recursive(alloc, &tree)
+}
+
+/// Checks the first recursive calls of sources.
+fn are_found(
+    rt: &impl Abort,
+    alloc: Global,
+    sources: &[(&'static [Line], Option<Place>)],
+) -> Result<(), Fail> {
+    for (lines, expected) in sources {
+        let found = found(alloc, lines)?;
+        assert!(rt; found == *expected);
     }
     Ok(())
+}
+
+#[test]
+fn no_recursive_call_is_found(rt: HostRuntime) -> Result<(), Fail> {
+    are_found(&rt, rt.alloc(), &STRAIGHT)
+}
+
+#[test]
+fn a_recursive_call_is_found(rt: HostRuntime) -> Result<(), Fail> {
+    are_found(&rt, rt.alloc(), &ROUND)
+}
+
+#[test]
+fn the_first_recursive_call_is_found(rt: HostRuntime) -> Result<(), Fail> {
+    are_found(&rt, rt.alloc(), &ROUNDS)
 }

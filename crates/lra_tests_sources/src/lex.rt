@@ -2,13 +2,14 @@
 
 use lra_base::SourceError;
 use lra_lex::{one_reading, tokens};
-use lra_tree::Kind;
+use lra_tree::{Kind, Token};
 use std::alloc::Global;
 use std::fmt::Write;
 use std::process::Abort;
 use std::test::Fail;
 
-const CASES: [(&[u8], &str); 46] = [
+/// Marks, words and bytes that are none.
+static MARKS: [(&[u8], &str); 17] = [
     (b"", "End@1:1"),
     (
         b"+ - * / % = == != < <= > >= && || !",
@@ -40,42 +41,7 @@ const CASES: [(&[u8], &str); 46] = [
         b"x _y9 longer intx",
         "name x@1:1 name _y9@1:3 name longer@1:7 name intx@1:14 End@1:18",
     ),
-    (
-        b"9223372036854775807 0x7fffffffffffffff 0777777777777777777777",
-        "9223372036854775807@1:1 9223372036854775807@1:21 9223372036854775807@1:40 End@1:62",
-    ),
-    (b"x=9223372036854775808", "BadLiteral@1:3"),
-    (b"0x8000000000000000", "BadLiteral@1:1"),
-    (b"01000000000000000000000", "BadLiteral@1:1"),
-    (
-        b"0 00 0L 017 1l 1L 1ll 1LL 0xFfLL 0Xa",
-        "0@1:1 0@1:3 0@1:6 15@1:9 1@1:13 1@1:16 1@1:19 1@1:23 255@1:27 10@1:34 End@1:37",
-    ),
-    (b"08", "BadLiteral@1:1"),
-    (b"0x", "BadLiteral@1:1"),
-    (b"1lL", "BadLiteral@1:1"),
-    (b"1lll", "BadLiteral@1:1"),
-    (b"1u", "BadLiteral@1:1"),
-    (b"12ab", "BadLiteral@1:1"),
-    (b"/* \xe9 */x", "name x@1:8 End@1:9"),
     (b"x \xe9", "BadByte@1:3"),
-    (b"//\xe9", "End@1:4"),
-    (b"#include <a.h>\nx", "name x@2:1 End@2:2"),
-    (b"x #include <a>", "BadByte@1:3"),
-    (b"#", "BadByte@1:1"),
-    (b"  #\t include<a>", "End@1:16"),
-    (b"#includex", "BadByte@1:1"),
-    (b"\t#include /*\nx", "name x@2:1 End@2:2"),
-    (b"#include a\n#include b\nx", "name x@3:1 End@3:2"),
-    (b"\r#include a", "BadByte@1:2"),
-    (b"/**/#include a", "BadByte@1:5"),
-    (b"/* a", "Unclosed@1:1 End@1:5"),
-    (b"/*/", "Unclosed@1:1 End@1:4"),
-    (b"/**/x/***/y", "name x@1:5 name y@1:11 End@1:12"),
-    (b"/*\n*/x", "name x@2:3 End@2:4"),
-    (b"//", "End@1:3"),
-    (b"x // y\nz", "name x@1:1 name z@2:1 End@2:2"),
-    (b"a/*b*/c", "name a@1:1 name c@1:7 End@1:8"),
     (
         b"> >= > =",
         "Greater@1:1 AtLeast@1:3 Greater@1:6 Assign@1:8 End@1:9",
@@ -97,6 +63,49 @@ const CASES: [(&[u8], &str); 46] = [
     (b"$", "BadByte@1:1"),
 ];
 
+/// Numbers.
+static NUMBERS: [(&[u8], &str); 11] = [
+    (
+        b"9223372036854775807 0x7fffffffffffffff 0777777777777777777777",
+        "9223372036854775807@1:1 9223372036854775807@1:21 9223372036854775807@1:40 End@1:62",
+    ),
+    (b"x=9223372036854775808", "BadLiteral@1:3"),
+    (b"0x8000000000000000", "BadLiteral@1:1"),
+    (b"01000000000000000000000", "BadLiteral@1:1"),
+    (
+        b"0 00 0L 017 1l 1L 1ll 1LL 0xFfLL 0Xa",
+        "0@1:1 0@1:3 0@1:6 15@1:9 1@1:13 1@1:16 1@1:19 1@1:23 255@1:27 10@1:34 End@1:37",
+    ),
+    (b"08", "BadLiteral@1:1"),
+    (b"0x", "BadLiteral@1:1"),
+    (b"1lL", "BadLiteral@1:1"),
+    (b"1lll", "BadLiteral@1:1"),
+    (b"1u", "BadLiteral@1:1"),
+    (b"12ab", "BadLiteral@1:1"),
+];
+
+/// Comments and lines of `#include`.
+static SKIPPED: [(&[u8], &str); 18] = [
+    (b"/* \xe9 */x", "name x@1:8 End@1:9"),
+    (b"//\xe9", "End@1:4"),
+    (b"#include <a.h>\nx", "name x@2:1 End@2:2"),
+    (b"x #include <a>", "BadByte@1:3"),
+    (b"#", "BadByte@1:1"),
+    (b"  #\t include<a>", "End@1:16"),
+    (b"#includex", "BadByte@1:1"),
+    (b"\t#include /*\nx", "name x@2:1 End@2:2"),
+    (b"#include a\n#include b\nx", "name x@3:1 End@3:2"),
+    (b"\r#include a", "BadByte@1:2"),
+    (b"/**/#include a", "BadByte@1:5"),
+    (b"/* a", "Unclosed@1:1 End@1:5"),
+    (b"/*/", "Unclosed@1:1 End@1:4"),
+    (b"/**/x/***/y", "name x@1:5 name y@1:11 End@1:12"),
+    (b"/*\n*/x", "name x@2:3 End@2:4"),
+    (b"//", "End@1:3"),
+    (b"x // y\nz", "name x@1:1 name z@2:1 End@2:2"),
+    (b"a/*b*/c", "name a@1:1 name c@1:7 End@1:8"),
+];
+
 fn write_kind(text: &mut String, kind: &Kind) -> Result<(), Fail> {
     match kind {
         Kind::Name(word) => {
@@ -112,21 +121,25 @@ fn write_kind(text: &mut String, kind: &Kind) -> Result<(), Fail> {
     Ok(())
 }
 
+/// Adds each token with its place.
+fn write_tokens(text: &mut String, tokens: &[Token]) -> Result<(), Fail> {
+    for token in tokens {
+        if !text.is_empty() {
+            text.push_str(" ")?;
+        }
+        write_kind(text, &token.kind)?;
+        let line = token.place.line;
+        let column = token.place.column;
+        write!(text, "@{line}:{column}")?;
+    }
+    Ok(())
+}
+
 fn reading(rt: &impl Abort, alloc: Global, source: &[u8]) -> Result<String, Fail> {
     assert!(rt; source.len() <= 65_536);
     let mut text = String::new(alloc);
     match tokens(alloc, source) {
-        Ok(tokens) => {
-            for token in &tokens {
-                if !text.is_empty() {
-                    text.push_str(" ")?;
-                }
-                write_kind(&mut text, &token.kind)?;
-                let line = token.place.line;
-                let column = token.place.column;
-                write!(text, "@{line}:{column}")?;
-            }
-        }
+        Ok(tokens) => write_tokens(&mut text, &tokens)?,
         Err(SourceError::Refused(refusal)) => {
             let cause = refusal.cause;
             let line = refusal.place.line;
@@ -138,12 +151,29 @@ fn reading(rt: &impl Abort, alloc: Global, source: &[u8]) -> Result<String, Fail
     Ok(text)
 }
 
-#[test]
-fn sources_have_their_tokens(rt: HostRuntime) -> Result<(), Fail> {
-    for (source, expected) in &CASES {
-        let text = reading(&rt, rt.alloc(), source)?;
-        assert_eq!(rt; text.as_str(), *expected);
+/// Checks the tokens of sources.
+fn are_read(rt: &impl Abort, alloc: Global, cases: &[(&[u8], &str)]) -> Result<(), Fail> {
+    for (source, expected) in cases {
+        let text = reading(rt, alloc, source)?;
+        let same = text.as_bytes() == expected.as_bytes();
+        assert!(rt; same, "{expected}");
     }
+    Ok(())
+}
+
+#[test]
+fn marks_and_words_are_read(rt: HostRuntime) -> Result<(), Fail> {
+    are_read(&rt, rt.alloc(), &MARKS)?;
     one_reading();
     Ok(())
+}
+
+#[test]
+fn numbers_are_read(rt: HostRuntime) -> Result<(), Fail> {
+    are_read(&rt, rt.alloc(), &NUMBERS)
+}
+
+#[test]
+fn comments_and_includes_are_skipped(rt: HostRuntime) -> Result<(), Fail> {
+    are_read(&rt, rt.alloc(), &SKIPPED)
 }

@@ -7,7 +7,7 @@ use lra_tree::{
     Arguments, Assign, Block, BlockItem, Call, Declaration, Declarator, Function, Global, Globals,
     Identifier, Init, Item, Parameters, Rvalue, Step, Stmt, Tree, Word,
 };
-use std::alloc::AllocError;
+use std::alloc::{AllocError, Global as Allocator};
 use std::test::Fail;
 
 /// All that a function's block has.
@@ -55,57 +55,57 @@ const STATEMENT: u32 = 20;
 const SECOND: u32 = 27;
 
 fn identifier(
-    rt: &HostRuntime,
+    alloc: Allocator,
     name: &str,
     line: u32,
     column: u32,
 ) -> Result<Identifier, AllocError> {
     Ok(Identifier {
-        word: Word::from_str(rt.alloc(), name)?,
+        word: Word::from_str(alloc, name)?,
         place: Place { line, column },
     })
 }
 
 /// `f()`
-fn call(rt: &HostRuntime, line: u32, column: u32) -> Result<Call, AllocError> {
+fn call(alloc: Allocator, line: u32, column: u32) -> Result<Call, AllocError> {
     Ok(Call {
-        name: identifier(rt, "f", line, column)?,
+        name: identifier(alloc, "f", line, column)?,
         arguments: Arguments {
-            items: Vec::new(rt.alloc()),
+            items: Vec::new(alloc),
         },
     })
 }
 
 /// `x`
-fn declarator(rt: &HostRuntime, line: u32, column: u32) -> Result<Declarator, AllocError> {
+fn declarator(alloc: Allocator, line: u32, column: u32) -> Result<Declarator, AllocError> {
     Ok(Declarator {
-        name: identifier(rt, "x", line, column)?,
+        name: identifier(alloc, "x", line, column)?,
         source: None,
     })
 }
 
 /// `int x, x;`
-fn declaration(rt: &HostRuntime, line: u32) -> Result<Declaration, AllocError> {
-    let mut rest = Vec::new(rt.alloc());
-    rest.push(declarator(rt, line, SECOND)?)?;
+fn declaration(alloc: Allocator, line: u32) -> Result<Declaration, AllocError> {
+    let mut rest = Vec::new(alloc);
+    rest.push(declarator(alloc, line, SECOND)?)?;
     Ok(Declaration {
-        first: declarator(rt, line, STATEMENT)?,
+        first: declarator(alloc, line, STATEMENT)?,
         rest,
     })
 }
 
 /// `for (;;) break;`
-fn endless(rt: &HostRuntime, line: u32) -> Result<Stmt, AllocError> {
+fn endless(alloc: Allocator, line: u32) -> Result<Stmt, AllocError> {
     let column = STATEMENT;
     let leave = Stmt::Break(Place {
         line,
         column: SECOND,
     });
-    let body = Box::new(rt.alloc(), leave)?;
+    let body = Box::new(alloc, leave)?;
     Ok(Stmt::For(Place { line, column }, Init::Nothing, None, None, body))
 }
 
-fn item(rt: &HostRuntime, line: u32, body: Body) -> Result<BlockItem, AllocError> {
+fn item(alloc: Allocator, line: u32, body: Body) -> Result<BlockItem, AllocError> {
     let place = Place {
         line,
         column: STATEMENT,
@@ -114,61 +114,61 @@ fn item(rt: &HostRuntime, line: u32, body: Body) -> Result<BlockItem, AllocError
         Body::Nothing => Ok(BlockItem::Statement(Stmt::Nothing(place))),
         Body::Break => Ok(BlockItem::Statement(Stmt::Break(place))),
         Body::Continue => Ok(BlockItem::Statement(Stmt::Continue(place))),
-        Body::Loop => Ok(BlockItem::Statement(endless(rt, line)?)),
-        Body::Declare => Ok(BlockItem::Declaration(declaration(rt, line)?)),
+        Body::Loop => Ok(BlockItem::Statement(endless(alloc, line)?)),
+        Body::Declare => Ok(BlockItem::Declaration(declaration(alloc, line)?)),
         Body::Count => {
-            let x = identifier(rt, "x", line, STATEMENT)?;
+            let x = identifier(alloc, "x", line, STATEMENT)?;
             Ok(BlockItem::Statement(Stmt::Assign(Assign::After(x, Step::Increment))))
         }
-        Body::Call => Ok(BlockItem::Statement(Stmt::Call(call(rt, line, STATEMENT)?))),
+        Body::Call => Ok(BlockItem::Statement(Stmt::Call(call(alloc, line, STATEMENT)?))),
         Body::Return => {
-            let source = Rvalue::Result(call(rt, line, SECOND)?);
+            let source = Rvalue::Result(call(alloc, line, SECOND)?);
             Ok(BlockItem::Statement(Stmt::Return(place, Some(source))))
         }
     }
 }
 
-fn parameters(rt: &HostRuntime, line: u32, count: usize) -> Result<Parameters, AllocError> {
-    let mut items = Vec::new(rt.alloc());
+fn parameters(alloc: Allocator, line: u32, count: usize) -> Result<Parameters, AllocError> {
+    let mut items = Vec::new(alloc);
     for _ in 0..count {
-        items.push(identifier(rt, "a", line, PARAMETER)?)?;
+        items.push(identifier(alloc, "a", line, PARAMETER)?)?;
     }
     Ok(Parameters { items })
 }
 
-fn block(rt: &HostRuntime, line: u32, body: Body) -> Result<Block, AllocError> {
-    let mut items = Vec::new(rt.alloc());
-    items.push(item(rt, line, body)?)?;
+fn block(alloc: Allocator, line: u32, body: Body) -> Result<Block, AllocError> {
+    let mut items = Vec::new(alloc);
+    items.push(item(alloc, line, body)?)?;
     Ok(Block {
         items,
         end: Place { line, column: 40 },
     })
 }
 
-fn file_item(rt: &HostRuntime, line: u32, part: Part) -> Result<Item, AllocError> {
+fn file_item(alloc: Allocator, line: u32, part: Part) -> Result<Item, AllocError> {
     match part {
         Part::Prototype => Ok(Item::Prototype),
         Part::Global => Ok(Item::Globals(Globals {
             first: Global {
-                name: identifier(rt, "x", line, NAME)?,
+                name: identifier(alloc, "x", line, NAME)?,
                 value: None,
             },
-            rest: Vec::new(rt.alloc()),
+            rest: Vec::new(alloc),
         })),
         Part::Function(has_result, name, count, body) => Ok(Item::Function(Function {
             has_result,
-            name: identifier(rt, name, line, NAME)?,
-            parameters: parameters(rt, line, count)?,
-            body: block(rt, line, body)?,
+            name: identifier(alloc, name, line, NAME)?,
+            parameters: parameters(alloc, line, count)?,
+            body: block(alloc, line, body)?,
         })),
     }
 }
 
 /// A source of two lines.
-fn tree(rt: &HostRuntime, first: Part, second: Part) -> Result<Tree, AllocError> {
-    let mut items = Vec::new(rt.alloc());
-    items.push(file_item(rt, 1, first)?)?;
-    items.push(file_item(rt, 2, second)?)?;
+fn tree(alloc: Allocator, first: Part, second: Part) -> Result<Tree, AllocError> {
+    let mut items = Vec::new(alloc);
+    items.push(file_item(alloc, 1, first)?)?;
+    items.push(file_item(alloc, 2, second)?)?;
     Ok(Tree {
         items,
         end: Place { line: 3, column: 1 },
@@ -187,13 +187,11 @@ fn counts_up(item: &ProgramItem) -> bool {
 #[test]
 fn a_source_has_its_program(rt: HostRuntime) -> Result<(), Fail> {
     let main = Part::Function(true, "main", 0, Body::Count);
-    let resolution = resolve(rt.alloc(), &tree(&rt, Part::Global, main)?)?;
+    let resolution = resolve(rt.alloc(), &tree(rt.alloc(), Part::Global, main)?)?;
     let program = &resolution.program;
-    assert_eq!(rt; program.main, 0);
-    assert_eq!(rt; program.functions.len(), 1);
+    assert_eq!(rt; (program.main, program.functions.len()), (0, 1));
     let main = &program.functions[0];
-    assert_eq!(rt; main.end, 2);
-    assert_eq!(rt; main.body.items.len(), 1);
+    assert_eq!(rt; (main.end, main.body.items.len()), (2, 1));
     assert!(rt; counts_up(&main.body.items[0]));
     Ok(())
 }
@@ -291,15 +289,25 @@ static FAULTS: [(Part, Part, Cause, u32, u32); 14] = [
     ),
 ];
 
+/// Why a source of these lines is refused, if it is.
+fn refusal_of(alloc: Allocator, first: Part, second: Part) -> Result<Option<Refusal>, AllocError> {
+    let tree = tree(alloc, first, second)?;
+    match resolve(alloc, &tree) {
+        Err(SourceError::Refused(refusal)) => Ok(Some(refusal)),
+        _ => Ok(None),
+    }
+}
+
 #[test]
 fn a_source_is_refused_at_its_first_fault(rt: HostRuntime) -> Result<(), Fail> {
-    for &(first, second, cause, line, column) in FAULTS.iter() {
-        let refusal = Refusal {
-            cause,
-            place: Place { line, column },
+    for (first, second, cause, line, column) in FAULTS.iter() {
+        let place = Place {
+            line: *line,
+            column: *column,
         };
-        let answer = resolve(rt.alloc(), &tree(&rt, first, second)?);
-        assert!(rt; matches!(answer, Err(SourceError::Refused(r)) if r == refusal));
+        let refused = refusal_of(rt.alloc(), *first, *second)?;
+        let cause = *cause;
+        assert!(rt; refused == Some(Refusal { cause, place }));
     }
     Ok(())
 }

@@ -1,5 +1,7 @@
 use lra_base::{Domain, Options};
 use lra_words::{Command, Refusal, asked, command};
+use std::alloc::Global;
+use std::process::Abort;
 use std::test::Fail;
 
 const DEFAULTS: Options = Options {
@@ -25,8 +27,8 @@ const ANALYSE_BOXES: Command = Command::Analyse {
     json: false,
 };
 
-/// Lines, and the commands that they ask for.
-static TAKEN: [(&str, Command); 27] = [
+/// Lines, and the commands that they ask for, most with one option.
+static ONE_OPTION: [(&str, Command); 14] = [
     ("lra analyse", ANALYSE),
     ("other analyse", ANALYSE),
     ("lra analyse --", ANALYSE),
@@ -110,6 +112,10 @@ static TAKEN: [(&str, Command); 27] = [
             json: false,
         },
     ),
+];
+
+/// The same, with several options or none.
+static SEVERAL: [(&str, Command); 13] = [
     (
         "lra analyse --delay 3 --domain box --limited",
         Command::Analyse {
@@ -200,29 +206,58 @@ static TAKEN: [(&str, Command); 27] = [
 ];
 
 /// The words of a line, between single spaces.
-fn words_of(rt: &HostRuntime, line: &str) -> Result<Vec<String>, Fail> {
-    let mut words = Vec::new(rt.alloc());
+fn words_of(alloc: Global, line: &str) -> Result<Vec<String>, Fail> {
+    let mut words = Vec::new(alloc);
     for word in line.split(' ') {
-        words.push(String::from_str(rt.alloc(), word)?)?;
+        words.push(String::from_str(alloc, word)?)?;
     }
     Ok(words)
 }
 
-#[test]
-fn words_are_taken(rt: HostRuntime) -> Result<(), Fail> {
-    for &(line, chosen) in TAKEN.iter() {
-        let words = words_of(&rt, line)?;
-        let taken = command(rt.alloc(), &words) == Ok(chosen);
-        assert!(rt;
-            taken && asked(rt.alloc(), &words) == Ok(Some(chosen)),
-            "{line}"
-        );
+/// Whether the words of the line ask for the command.
+fn asks(alloc: Global, line: &str, chosen: Command) -> Result<bool, Fail> {
+    let words = words_of(alloc, line)?;
+    let taken = command(alloc, &words) == Ok(chosen);
+    Ok(taken && asked(alloc, &words) == Ok(Some(chosen)))
+}
+
+/// Checks lines that ask for commands.
+fn are_taken(rt: &impl Abort, alloc: Global, lines: &[(&str, Command)]) -> Result<(), Fail> {
+    for (line, chosen) in lines {
+        let taken = asks(alloc, line, *chosen)?;
+        assert!(rt; taken, "{line}");
     }
     Ok(())
 }
 
-static REFUSED: [&str; 75] = [
-    // no subcommand, a stray word, an unknown one, an option in the wrong place
+#[test]
+fn one_option_is_taken(rt: HostRuntime) -> Result<(), Fail> {
+    are_taken(&rt, rt.alloc(), &ONE_OPTION)
+}
+
+#[test]
+fn several_options_are_taken(rt: HostRuntime) -> Result<(), Fail> {
+    are_taken(&rt, rt.alloc(), &SEVERAL)
+}
+
+/// Whether the words of the line ask for no command.
+fn asks_none(alloc: Global, line: &str) -> Result<bool, Fail> {
+    let words = words_of(alloc, line)?;
+    let refused = command(alloc, &words) == Err(Refusal::Usage);
+    Ok(refused && asked(alloc, &words) == Ok(None))
+}
+
+/// Checks lines that ask for no command.
+fn are_other(rt: &impl Abort, alloc: Global, lines: &[&str]) -> Result<(), Fail> {
+    for line in lines {
+        let other = asks_none(alloc, line)?;
+        assert!(rt; other, "{line}");
+    }
+    Ok(())
+}
+
+/// No subcommand, a stray word, an unknown one, an option in the wrong place.
+static STRAY: [&str; 19] = [
     "lra",
     "",
     "lra ",
@@ -242,7 +277,10 @@ static REFUSED: [&str; 75] = [
     "lra calc --json",
     "lra analyse --seed 1",
     "lra sample --seed 1 --size 1 --json",
-    // help and version
+];
+
+/// Help and version.
+static HELP: [&str; 10] = [
     "lra help",
     "lra help analyse",
     "lra --help",
@@ -253,7 +291,10 @@ static REFUSED: [&str; 75] = [
     "lra --version",
     "lra -V",
     "lra analyse --version",
-    // each option out of its range, without its value, twice
+];
+
+/// Domains and parts out of their range, without their value, twice.
+static FORMS: [&str; 13] = [
     "lra analyse --domain",
     "lra analyse --domain=",
     "lra analyse --domain cube",
@@ -267,6 +308,10 @@ static REFUSED: [&str; 75] = [
     "lra analyse --parts -1",
     "lra analyse --parts x",
     "lra analyse --parts 1 --parts=1",
+];
+
+/// Delays, narrowings and switches out of their range, without their value, with one, twice.
+static COUNTS: [&str; 17] = [
     "lra analyse --delay",
     "lra analyse --delay=",
     "lra analyse --delay 9",
@@ -284,6 +329,10 @@ static REFUSED: [&str; 75] = [
     "lra analyse --limited --limited",
     "lra analyse --json=false",
     "lra analyse --json --json",
+];
+
+/// Seeds and sizes out of their range, without their value, twice, or left out.
+static SAMPLES: [&str; 16] = [
     "lra sample",
     "lra sample --seed 1",
     "lra sample --size 1",
@@ -303,12 +352,32 @@ static REFUSED: [&str; 75] = [
 ];
 
 #[test]
-fn other_words_are_refused(rt: HostRuntime) -> Result<(), Fail> {
-    assert!(rt; command(rt.alloc(), &[]) == Err(Refusal::Usage), "no words");
-    for line in REFUSED.iter() {
-        let words = words_of(&rt, line)?;
-        let refused = command(rt.alloc(), &words) == Err(Refusal::Usage);
-        assert!(rt; refused && asked(rt.alloc(), &words) == Ok(None), "{line}");
-    }
-    Ok(())
+fn stray_words_ask_for_nothing(rt: HostRuntime) -> Result<(), Fail> {
+    are_other(&rt, rt.alloc(), &STRAY)
+}
+
+#[test]
+fn help_and_version_ask_for_nothing(rt: HostRuntime) -> Result<(), Fail> {
+    are_other(&rt, rt.alloc(), &HELP)
+}
+
+#[test]
+fn wrong_domains_and_parts_ask_for_nothing(rt: HostRuntime) -> Result<(), Fail> {
+    are_other(&rt, rt.alloc(), &FORMS)
+}
+
+#[test]
+fn wrong_counts_ask_for_nothing(rt: HostRuntime) -> Result<(), Fail> {
+    are_other(&rt, rt.alloc(), &COUNTS)
+}
+
+#[test]
+fn wrong_samples_ask_for_nothing(rt: HostRuntime) -> Result<(), Fail> {
+    are_other(&rt, rt.alloc(), &SAMPLES)
+}
+
+#[test]
+fn no_words_are_refused(rt: HostRuntime) {
+    let refused = command(rt.alloc(), &[]) == Err(Refusal::Usage);
+    assert!(rt; refused);
 }
