@@ -1,12 +1,17 @@
 -- Functions by their places: each place in a list of those of a name is that of a function of this name, and each such function is there.
-use Rattle.std.proofs.Common.{◌≡◌, ℕ, zero, suc, ◌+◌, Bool, true, false, if◌then◌else◌, List, [], ◌∷◌, Some, slice_get, bytes_eq, ◌⊎◌, inl, inr, refl, sym, ap, ◌∙◌, subst, arith}
+use Rattle.std.proofs.Common.{◌≡◌, ℕ, zero, suc, ◌+◌, Bool, true, false, if◌then◌else◌, List, [], ◌∷◌, ◌++◌, Option, Some, None, slice_get}
+use Rattle.std.proofs.Common.{append_assoc, append-nil, bytes_eq, ◌⊎◌, inl, inr, refl, sym, ap, ◌∙◌, subst, arith}
+use Rattle.std.specs.Prelude.{String, Vec, Result, Ok, Err, is_ok, IfOk}
 use Rattle.std.specs.List.{Contains}
+use Rattle.std.specs.Option.{option_map_or}
+use Rattle.std.specs.declared.alloc.Global.{Global}
 use Rattle.std.proofs.lemmas.Slice.Eq.{bytes_eq-Decides}
 use Rattle.std.proofs.lemmas.Option.{none-some, same_Some}
 use Rattle.std.proofs.lemmas.List.Elements.{Contains-append_left, Contains-append_right, Contains-append_cases}
+use Rattle.indexmap.specs.IndexMap.{IndexMap, get_by_text}
 use Rattle.lra_tree.specs.declared.trees.Identifier.{Identifier}
 use Rattle.lra_calls.specs.Called.{Caller}
-use Rattle.lra_calls.specs.Places.{places_from, places_of, row_of}
+use Rattle.lra_calls.specs.Places.{places_from, places_of, row_of, HasPlaces}
 use Rattle.lra_calls.proofs.Elements.{nothing_in, in_cons, in_further}
 
 -- the function at this place, counted from n, has the name
@@ -71,3 +76,25 @@ in_row cs (y ∷ xs) k h = elim (Contains-append_cases (places_of cs y.word) (ro
   | inl p ↦ (y, (0, omega arith, refl), p)
   | inr r ↦ let i = in_row cs xs k r in (i.0, in_further y xs i.0 i.1, i.2)
 ]
+
+-- a place is added to those of its name, and to no others
+pub place_added : (b : Bool) (place : ℕ) (old new rest : List ℕ) → new ≡ (if b then old ++ place ∷ [] else old)
+    → new ++ rest ≡ old ++ (if b then place ∷ rest else rest)
+place_added true place old new rest e = ap (λ ps. ps ++ rest) e ∙ append_assoc old (place ∷ []) rest
+place_added false place old new rest e = ap (λ ps. ps ++ rest) e
+
+-- an index of places by names
+module _ {S : Type 0} (index : IndexMap (String Global) (Vec ℕ Global) S) (cs : List Caller) (has : HasPlaces index cs) (name : List ℕ) where
+  pub none_of_name : get_by_text index name ≡ None → (places : List ℕ) → places ≡ places ++ places_of cs name
+  none_of_name none places =
+      let nothing : places_of cs name ≡ [] = sym (has name) ∙ ap (λ (o : Option (Vec ℕ Global)). option_map_or (λ v. v.items) o []) none in
+      sym (ap (λ ps. places ++ ps) nothing ∙ append-nil places)
+
+  pub all_of_name : (v : Vec ℕ Global) → get_by_text index name ≡ Some v → v.items ≡ places_of cs name
+  all_of_name v some = sym (ap (λ (o : Option (Vec ℕ Global)). option_map_or (λ v. v.items) o []) some) ∙ has name
+
+-- those of a name are added, where there is memory for them
+pub places_extended : {X E : Type 0} (r : Result X E) (old named all new : List ℕ) → new ≡ (if is_ok r then old ++ named else old) → named ≡ all
+    → IfOk r (λ x. new ≡ old ++ all)
+places_extended (Ok x) old named all new e same = e ∙ ap (λ ps. old ++ ps) same
+places_extended (Err x) old named all new e same = tt

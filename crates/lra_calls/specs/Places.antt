@@ -1,5 +1,8 @@
--- Functions by their places in text order.
-use Rattle.std.specs.Prelude.{ℕ, suc, if◌then◌else◌, bytes_eq, List, [], ◌∷◌, ◌++◌, map}
+-- Functions by their places in text order, and an index of these places by their names.
+use Rattle.std.specs.Prelude.{◌≡◌, ℕ, suc, if◌then◌else◌, bytes_eq, List, [], ◌∷◌, ◌++◌, map, String, Vec}
+use Rattle.std.specs.Option.{option_map_or}
+use Rattle.std.specs.declared.alloc.Global.{Global}
+use Rattle.indexmap.specs.IndexMap.{IndexMap, get_by_text}
 use Rattle.lra_tree.specs.declared.trees.Identifier.{Identifier}
 use Rattle.lra_calls.specs.Called.{Caller}
 
@@ -24,3 +27,12 @@ row_at cs c = row_of cs c.calls
 -- of each function
 abbrev pub rows_of : List Caller → List (List ℕ)
 rows_of cs = map (row_at cs) cs
+
+module _ {S : Type 0} (index : IndexMap (String Global) (Vec ℕ Global) S) where
+  -- the places that an index has for this name
+  abbrev pub places_at : List ℕ → List ℕ
+  places_at name = option_map_or (λ v. v.items) (get_by_text index name) []
+
+  -- the index has the places of the functions of each name
+  abbrev pub HasPlaces : List Caller → Type 0
+  HasPlaces cs = (name : List ℕ) → places_at name ≡ places_of cs name

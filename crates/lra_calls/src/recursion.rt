@@ -2,14 +2,16 @@
 
 ghost use Rattle.std.specs.Prelude.{◌≡◌, ◌↔◌, map, IsTrue, IfOk, MatchOption};
 ghost use Rattle.std.specs.List.{AllByRecursion};
+ghost use Rattle.lra_tree.specs.Trees.{FileTree};
 ghost use Rattle.lra_tree.specs.Views.{tree_view};
+ghost use Rattle.lra_tree.specs.Functions.{functions_of};
 ghost use Rattle.lra_tree.specs.Reach.{IsFirstRecursive, NotRecursive};
-ghost use Rattle.lra_calls.specs.Called.{caller_view};
+ghost use Rattle.lra_calls.specs.Called.{caller_of, caller_view};
 ghost use Rattle.lra_calls.specs.Places.{rows_of};
 ghost use Rattle.lra_calls.specs.Recursion.{IsBack, IsFirstBack};
 
-use crate::called::{Caller, callers};
-use crate::places::{add_places, rows};
+use crate::called::callers;
+use crate::places::{CallersByName, add_places, rows};
 use crate::search::reached;
 use lra_base::Place;
 use lra_tree::{Identifier, Tree};
@@ -18,7 +20,7 @@ use std::alloc::{AllocError, Global};
 /// Whether a function of the called name comes to the function at a place.
 fn is_back(
     alloc: Global,
-    callers: &[Caller],
+    callers: &CallersByName,
     rows: &[Vec<usize>],
     place: usize,
     call: &Identifier,
@@ -35,7 +37,7 @@ fn is_back(
 /// The place of the first of these calls that comes back to the function at a place.
 fn first_back(
     alloc: Global,
-    callers: &[Caller],
+    callers: &CallersByName,
     rows: &[Vec<usize>],
     place: usize,
     calls: &[Identifier],
@@ -53,18 +55,27 @@ fn first_back(
     Ok(None)
 }
 
+/// The place of the first call, in text order, that comes back to the function that holds it.
+fn first_among(alloc: Global, callers: &CallersByName) -> Result<Option<Place>, AllocError>
+    ensures { IfOk result (λ o. (t : FileTree) → map caller_view callers.now ≡ map caller_of (functions_of t) →
+        MatchOption o (NotRecursive t) (IsFirstRecursive t)) }
+{
+    let rows = rows(alloc, callers)?;
+    'callers: for (place, caller) in callers.all().iter().enumerate() {
+        match first_back(alloc, callers, &rows, place, &caller.calls)? {
+            Some(at) => return Ok(Some(at)),
+            None => {}
+        }
+    }
+    Ok(None)
+}
+
 /// The place of the first call, in text order, whose callee reaches the function that holds it.
 pub fn first_recursive(alloc: Global, tree: &Tree) -> Result<Option<Place>, AllocError>
     ensures { IfOk result (λ o. MatchOption o (NotRecursive (tree_view tree.now))
         (IsFirstRecursive (tree_view tree.now))) }
 {
     let callers = callers(alloc, &tree.items)?;
-    let rows = rows(alloc, &callers)?;
-    'callers: for (place, caller) in callers.iter().enumerate() {
-        match first_back(alloc, &callers, &rows, place, &caller.calls)? {
-            Some(at) => return Ok(Some(at)),
-            None => {}
-        }
-    }
-    Ok(None)
+    let named = CallersByName::new(alloc, &callers)?;
+    first_among(alloc, &named)
 }
