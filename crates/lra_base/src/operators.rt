@@ -10,6 +10,7 @@ pub enum Operator {
     Modulo,
 }
 
+/// The operator of a comparison: `<`, `<=`, `>`, `>=`, `==`, `!=`.
 #[derive(Clone, Copy, PartialEq, Eq, Debug)]
 pub enum Comparison {
     Below,

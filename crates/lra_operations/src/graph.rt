@@ -152,6 +152,7 @@ impl Path {
         Ok(Path { calls })
     }
 
+    /// A copy, equal to this path.
     pub fn copy(&self, alloc: Global) -> Result<Path, AllocError>
         ensures { IfOk result (λ p. p ≡ self.now) }
     {

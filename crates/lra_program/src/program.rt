@@ -15,6 +15,7 @@ pub enum Slot {
     Local(usize),
 }
 
+/// An expression.
 #[cycle(resolved_expression)]
 pub enum Expr {
     /// Below 2^63.
@@ -57,6 +58,7 @@ impl Drop for Operation {
     }
 }
 
+/// A condition.
 pub enum Cond {
     Compare(Comparison, Expr, Expr),
     /// `e != 0`
@@ -112,6 +114,7 @@ impl Drop for Rvalue {
     }
 }
 
+/// A declarator under its label, and what its variable gets, if anything.
 pub struct Declarator {
     pub label: usize,
     pub source: Option<Rvalue>,
@@ -183,6 +186,7 @@ impl Drop for Stmt {
     }
 }
 
+/// A declarator of a block's declarations, or a statement.
 #[cycle(resolved_statement)]
 pub enum BlockItem {
     Declaration(Declarator),
@@ -199,6 +203,7 @@ impl Drop for BlockItem {
     }
 }
 
+/// A block's items in text order.
 #[cycle(resolved_statement)]
 pub struct BlockItems {
     pub items: Vec<BlockItem>,
@@ -211,6 +216,7 @@ impl Drop for BlockItems {
     }
 }
 
+/// A function with its body.
 pub struct Function {
     /// How many parameters it has.
     pub parameters: usize,
@@ -229,6 +235,7 @@ impl Drop for Function {
     }
 }
 
+/// A program.
 pub struct Program {
     /// The first values of the global variables.
     pub globals: Vec<i64>,

@@ -71,6 +71,8 @@ fn resolve_arguments(
 }
 
 /// A call under a label, whose result is used or not.
+///
+/// Refused at the first fault, with the causes of `resolve_source`; a missing result is one only where it is used.
 #[tactic(auto, using(crate::proofs::CallLaws::call_rules))]
 pub fn resolve_call(
     alloc: Global,
@@ -120,6 +122,9 @@ pub fn resolve_source(
     }
 }
 
+/// What a declarator gives its variable, or a `return` gives, if anything.
+///
+/// Refused at the first fault, as by `resolve_source`. `Memory` where memory runs out.
 pub fn resolve_given(
     alloc: Global,
     functions: &Functions<'_>,

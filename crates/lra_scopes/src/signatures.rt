@@ -20,6 +20,7 @@ pub struct Signature {
     pub place: usize,
     /// How many parameters it has.
     pub parameters: usize,
+    /// Whether it has a result; `void` has none.
     pub has_result: bool,
 }
 

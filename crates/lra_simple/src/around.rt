@@ -12,6 +12,7 @@ use std::alloc::Global;
 pub struct Around<'a> {
     pub alloc: Global,
     pub functions: &'a Functions<'a>,
+    /// Whether the function has a result; `void` has none.
     pub has_result: bool,
     pub in_loop: bool,
 }

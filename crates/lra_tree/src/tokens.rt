@@ -127,6 +127,7 @@ impl Drop for Kind {
     }
 }
 
+/// A token, and the place of its first byte.
 pub struct Token {
     pub kind: Kind,
     pub place: Place,
@@ -148,12 +149,14 @@ impl Word {
         })
     }
 
+    /// A copy, equal to this name.
     pub fn copy(&self, alloc: Global) -> Result<Word, AllocError>
         ensures { IfOk result (λ w. w ≡ self.now) }
     {
         Word::from_str(alloc, self.as_str())
     }
 
+    /// The text.
     pub fn as_str(&self) -> &str
         ensures { result.now ≡ self.now }
     {

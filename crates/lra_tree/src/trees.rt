@@ -23,6 +23,7 @@ impl Drop for Identifier {
 }
 
 impl Identifier {
+    /// A copy, equal to this identifier.
     pub fn copy(&self, alloc: std::alloc::Global) -> Result<Identifier, AllocError>
         ensures { IfOk result (λ x. x ≡ self.now) }
     {
@@ -66,6 +67,7 @@ pub enum FactorOperator {
     Modulo,
 }
 
+/// An operator `*`, `/` or `%`, and its right operand.
 #[cycle(expression)]
 pub struct Factor {
     pub operator: FactorOperator,
@@ -82,6 +84,7 @@ impl Drop for Factor {
     }
 }
 
+/// A chain of `*`, `/` and `%`, from the left.
 #[cycle(expression)]
 pub struct Term {
     pub first: Unary,
@@ -102,6 +105,7 @@ pub enum SumOperator {
     Minus,
 }
 
+/// An operator `+` or `-`, and its right operand.
 #[cycle(expression)]
 pub struct Summand {
     pub operator: SumOperator,
@@ -118,6 +122,7 @@ impl Drop for Summand {
     }
 }
 
+/// A chain of `+` and `-`, from the left.
 #[cycle(expression)]
 pub struct Expr {
     pub first: Term,
@@ -235,6 +240,7 @@ impl Cond {
     }
 }
 
+/// A call's arguments, in text order.
 pub struct Arguments {
     pub items: Vec<Expr>,
 }
@@ -245,6 +251,7 @@ impl Drop for Arguments {
     }
 }
 
+/// A call: the function's name, and the arguments.
 pub struct Call {
     pub name: Identifier,
     pub arguments: Arguments,
@@ -281,6 +288,7 @@ pub enum Step {
     Decrement,
 }
 
+/// An assignment.
 pub enum Assign {
     /// `x = source`
     Set(Identifier, Rvalue),
@@ -303,6 +311,7 @@ impl Drop for Assign {
     }
 }
 
+/// A variable that is declared, and what it gets, if anything.
 pub struct Declarator {
     pub name: Identifier,
     pub source: Option<Rvalue>,
@@ -314,6 +323,7 @@ impl Drop for Declarator {
     }
 }
 
+/// The declarators of one declaration; there is one at least.
 pub struct Declaration {
     pub first: Declarator,
     pub rest: Vec<Declarator>,
@@ -381,6 +391,7 @@ impl Drop for Stmt {
     }
 }
 
+/// What a block has between its braces.
 #[cycle(statement)]
 pub enum BlockItem {
     Declaration(Declaration),
@@ -411,6 +422,7 @@ impl Drop for Block {
     }
 }
 
+/// A function's parameters, in text order.
 pub struct Parameters {
     pub items: Vec<Identifier>,
 }
@@ -421,6 +433,7 @@ impl Drop for Parameters {
     }
 }
 
+/// A function with its body.
 pub struct Function {
     /// Whether it has a result; `void` has none.
     pub has_result: bool,
@@ -440,6 +453,7 @@ impl Drop for Function {
     }
 }
 
+/// A global variable.
 pub struct Global {
     pub name: Identifier,
     /// Its signed literal.
@@ -452,6 +466,7 @@ impl Drop for Global {
     }
 }
 
+/// The global variables of one declaration; there is one at least.
 pub struct Globals {
     pub first: Global,
     pub rest: Vec<Global>,
@@ -463,6 +478,7 @@ impl Drop for Globals {
     }
 }
 
+/// A part of a source.
 pub enum Item {
     /// It declares nothing, and nothing of it is kept.
     Prototype,
