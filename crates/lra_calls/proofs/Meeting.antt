@@ -5,8 +5,19 @@ use Rattle.std.specs.List.{Contains}
 use Rattle.std.proofs.lemmas.List.{length-set, get_or-set_same, length-replicate}
 use Rattle.std.proofs.lemmas.List.Sums.{sum_by-set}
 use Rattle.std.proofs.lemmas.List.Elements.{Contains-push, Contains-push_cases, Contains-append_left, Contains-append_right, Contains-append_cases}
-use Rattle.lra_calls.specs.Search.{Comes, begins, goes_on, IsMet, missing, Grows, IsUnderWay}
+use Rattle.lra_calls.specs.Search.{Comes, begins, goes_on, IsMet, missing, Grows}
 use Rattle.lra_calls.proofs.Elements.{only_one, has_one, nothing_in, same_at}
+
+-- All that is met is come to; what a search begins with is met, and so is the row of each place that is met, unless the
+-- place is still open.
+pub record IsUnderWay (rows : List (List ℕ)) (start : List ℕ) (met : List Bool) (open_ones : List ℕ) : Type 0 where
+  pub size : length met ≡ length rows
+  pub sound : (k : ℕ) → IsMet met k → Comes rows start k
+  pub begun : (k : ℕ) → k < length rows → Contains start k → IsMet met k
+  pub closed : (j : ℕ) → IsMet met j
+      → Contains open_ones j ⊎ ((row : List ℕ) (k : ℕ) → slice_get rows j ≡ Some row → k < length rows →
+      Contains row k → IsMet met k)
+  pub open_met : (k : ℕ) → Contains open_ones k → IsMet met k
 
 met_within : (met : List Bool) (k : ℕ) → IsMet met k → k < length met
 met_within [] k m = absurd cc

@@ -15,7 +15,7 @@ use Rattle.lra_calls.specs.declared.called.Caller.{Caller as CodeCaller}
 use Rattle.lra_calls.specs.Called.{Caller, caller_of, caller_view, declarators_calls, init_calls, step_calls, stmt_calls, items_calls}
 use Rattle.lra_calls.specs.Places.{places_of, row_at, rows_of}
 use Rattle.lra_calls.specs.Search.{Comes, begins, goes_on}
-use Rattle.lra_calls.specs.Recursion.{IsBack, IsFirstBack, calls_from}
+use Rattle.lra_calls.specs.Recursion.{IsBack, IsFirstBack}
 use Rattle.lra_calls.proofs.Elements.{in_at, at_in, same_at, mapped_at, from_mapped, split_at, one_more, all_append, all_map, all_at}
 use Rattle.lra_calls.proofs.Placing.{named_at, place_in, row_in, in_row}
 
@@ -70,6 +70,11 @@ mutual
 
 calls_told : (f : FunctionTree) → calls_of f ≡ (caller_of f).calls
 calls_told f = names_of_items (map (λ (p : Identifier). p.word) f.parameters) f.body f.end
+
+-- each call of the functions in text order: the name of the function that holds it, and the called name
+abbrev pub calls_from : List Caller → List (List ℕ × Identifier)
+calls_from [] = []
+calls_from (c ∷ cs) = map (λ (x : Identifier). (c.name, x)) c.calls ++ calls_from cs
 
 calls_all : (fs : List FunctionTree) → calls_in fs ≡ calls_from (map caller_of fs)
 calls_all [] = refl

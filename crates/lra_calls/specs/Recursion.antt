@@ -1,5 +1,5 @@
 -- Calls whose callee comes to the function that holds them, in the places of functions.
-use Rattle.std.specs.Prelude.{◌≡◌, ℕ, List, [], ◌∷◌, ◌++◌, map}
+use Rattle.std.specs.Prelude.{◌≡◌, ℕ, List, ◌∷◌, ◌++◌}
 use Rattle.std.specs.List.{AllByRecursion}
 use Rattle.lra_base.specs.declared.refusals.Place.{Place}
 use Rattle.lra_tree.specs.declared.trees.Identifier.{Identifier}
@@ -16,8 +16,3 @@ abbrev pub IsFirstBack : List Caller → ℕ → List Identifier → Place → T
 IsFirstBack cs place calls at =
     (before after : List Identifier) × (c : Identifier) × (calls ≡ before ++ c ∷ after) × (at ≡ c.place)
     × IsBack cs place c × AllByRecursion (λ d. IsBack cs place d → ⊥) before
-
--- each call of the functions in text order: the name of the function that holds it, and the called name
-abbrev pub calls_from : List Caller → List (List ℕ × Identifier)
-calls_from [] = []
-calls_from (c ∷ cs) = map (λ (x : Identifier). (c.name, x)) c.calls ++ calls_from cs

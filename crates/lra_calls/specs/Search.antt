@@ -33,14 +33,3 @@ pub record Grows (places : List ℕ) (met : List Bool) (open_ones : List ℕ) (m
   pub opens : (k : ℕ) → IsMet met_then k → IsMet met k ⊎ Contains open_then k
   pub open_met : (k : ℕ) → Contains open_then k → Contains open_ones k ⊎ IsMet met_then k
   pub work : unmet met_then + length open_then ≡ unmet met + length open_ones
-
--- All that is met is come to; what a search begins with is met, and so is the row of each place that is met, unless the
--- place is still open.
-pub record IsUnderWay (rows : List (List ℕ)) (start : List ℕ) (met : List Bool) (open_ones : List ℕ) : Type 0 where
-  pub size : length met ≡ length rows
-  pub sound : (k : ℕ) → IsMet met k → Comes rows start k
-  pub begun : (k : ℕ) → k < length rows → Contains start k → IsMet met k
-  pub closed : (j : ℕ) → IsMet met j
-      → Contains open_ones j ⊎ ((row : List ℕ) (k : ℕ) → slice_get rows j ≡ Some row → k < length rows →
-      Contains row k → IsMet met k)
-  pub open_met : (k : ℕ) → Contains open_ones k → IsMet met k

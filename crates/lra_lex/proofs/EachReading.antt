@@ -21,14 +21,14 @@ use Rattle.lra_lex.specs.declared.lexer.Found.{Found}
 use Rattle.lra_lex.specs.Literal.{base_at}
 use Rattle.lra_lex.specs.Places.{fresh_behind}
 use Rattle.lra_lex.specs.Front.{found_mark, operator_at, opens_comment, IsCloseAt, IsFirstClose, IsInclude, BeginsGap, HasNoGap}
-use Rattle.lra_lex.specs.Read.{BeginsToken, HasFault, BeginsFound, FaultsAt, found_tokens, IsReadTo}
+use Rattle.lra_lex.specs.Read.{BeginsToken, HasFault, BeginsFound, FaultsAt, found_tokens}
 use Rattle.lra_lex.proofs.RunLemmas.{differ}
 use Rattle.lra_lex.proofs.MarkLemmas.{found_is, not_named}
 use Rattle.lra_lex.proofs.LexemeLemmas.{operator_none}
 use Rattle.lra_lex.proofs.LiteralLemmas.{literal_cut, cut_literal, digits_of, suffix_of}
 use Rattle.lra_lex.proofs.GapLemmas.{blank_gap, line_gap, block_gap, no_close, include_is, is_include, include_word, skip_gap, else_no_gap, slash_no_gap}
 use Rattle.lra_lex.proofs.TokenLemmas.{word_at, word_token_is, number_token_is, bad_literal, comment_is, operator_token_is}
-use Rattle.lra_lex.proofs.ReadingLemmas.{found_token, fault_at, read_on}
+use Rattle.lra_lex.proofs.ReadingLemmas.{IsReadTo, found_token, fault_at, read_on}
 
 -- gaps -----------------------------------------------------------------------------------------------------------------------
 

@@ -11,7 +11,7 @@ use Rattle.lra_tree.specs.declared.tokens.Token.{Token}
 use Rattle.lra_tree.specs.Tokens.{IsGap, NoGap, IsToken, Fragment, gap, token, bytes_of, tokens_of, IsReading, IsFaulty, place_from, place_behind}
 use Rattle.lra_lex.specs.Places.{fresh_behind}
 use Rattle.lra_lex.specs.Front.{HasNoGap}
-use Rattle.lra_lex.specs.Read.{BeginsToken, HasFault, BeginsFound, FaultsAt, found_tokens, IsReadTo}
+use Rattle.lra_lex.specs.Read.{BeginsToken, HasFault, BeginsFound, FaultsAt, found_tokens}
 use Rattle.lra_base.specs.declared.error.SourceError.{SourceError}
 use Rattle.lra_base.specs.declared.error.SourceError.TheVariants.{Refused, Memory}
 use Rattle.lra_lex.proofs.LineLemmas.{place_from-append, fresh_behind-append, within}
@@ -37,6 +37,15 @@ pub refusal_at : (place : Place) (fresh : Bool) (rest : List ℕ) (e : SourceErr
     IfRefusal (FaultsAt place fresh rest) e
 refusal_at place fresh rest (Refused r) l n h = fault_at place fresh rest r l n h
 refusal_at place fresh rest Memory l n h = tt
+
+-- the source is read up to rest
+pub record IsReadTo (source rest : List ℕ) (tokens : List Token) (place : Place) (fresh : Bool) : Type 0 where
+  pub pieces : List Fragment
+  pub parts : source ≡ bytes_of pieces ++ rest
+  pub reading : IsReading [] pieces rest
+  pub tokens_are : tokens ≡ tokens_of pieces
+  pub place_is : place ≡ place_behind (bytes_of pieces)
+  pub fresh_is : fresh ≡ fresh_behind true (bytes_of pieces)
 
 -- one piece more -------------------------------------------------------------------------------------------------------------
 

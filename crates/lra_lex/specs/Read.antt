@@ -1,6 +1,5 @@
--- What a call found at the front of the bytes that are left, and how far a source is read.
+-- What a call found at the front of the bytes that are left.
 use Rattle.std.specs.Prelude.{◌≡◌, ℕ, ◌<◌, ◌≤◌, Bool, true, List, [], ◌∷◌, ◌++◌, length, take, drop, Option, Some, None}
-use Rattle.std.specs.Prelude.{Result, Ok, Err}
 use Rattle.lra_base.specs.declared.refusals.Place.{Place}
 use Rattle.lra_base.specs.declared.refusals.Cause.{Cause}
 use Rattle.lra_base.specs.declared.refusals.Cause.TheVariants.{BadByte, BadLiteral}
@@ -8,8 +7,7 @@ use Rattle.lra_base.specs.declared.refusals.Refusal.{Refusal}
 use Rattle.lra_tree.specs.declared.tokens.Kind.{Kind}
 use Rattle.lra_tree.specs.declared.tokens.Token.{Token}
 use Rattle.lra_tree.specs.Lexeme.{is_number_word, IsLiteral, greatest_literal, Lexeme, SpellsToken}
-use Rattle.lra_tree.specs.Tokens.{IsGap, NoGap, IsLongest, IsFaulty, Fragment, bytes_of, tokens_of, IsReading}
-use Rattle.lra_tree.specs.Tokens.{place_behind}
+use Rattle.lra_tree.specs.Tokens.{IsGap, NoGap, IsLongest, IsFaulty}
 use Rattle.lra_lex.specs.declared.lexer.Found.{Found}
 use Rattle.lra_lex.specs.Places.{fresh_behind}
 
@@ -47,12 +45,3 @@ pub record FaultsAt (place : Place) (fresh : Bool) (rest : List ℕ) (r : Refusa
 abbrev pub found_tokens : Option Kind → Place → List Token
 found_tokens None place = []
 found_tokens (Some k) place = record { kind = k; place = place } ∷ []
-
--- the source is read up to rest
-pub record IsReadTo (source rest : List ℕ) (tokens : List Token) (place : Place) (fresh : Bool) : Type 0 where
-  pub pieces : List Fragment
-  pub parts : source ≡ bytes_of pieces ++ rest
-  pub reading : IsReading [] pieces rest
-  pub tokens_are : tokens ≡ tokens_of pieces
-  pub place_is : place ≡ place_behind (bytes_of pieces)
-  pub fresh_is : fresh ≡ fresh_behind true (bytes_of pieces)

@@ -8,7 +8,7 @@ use Rattle.std.proofs.Math.Seq.{take-length, set-append_seam, get_or-append_seam
 use Rattle.lra_tree.specs.Labels.{Labelled}
 use Rattle.lra_meaning.specs.declared.labels.Entry.{Entry}
 use Rattle.lra_meaning.specs.declared.labels.Label.{Label}
-use Rattle.lra_meaning.specs.LabelTable.{list_at, lists_behind, lists_of, AreOrdered, label_in, HaveLists, with_live, Keep}
+use Rattle.lra_meaning.specs.LabelTable.{list_at, lists_behind, lists_of, AreOrdered, label_in, HaveLists, with_live}
 
 pub behind_more : (lists : List (List (List ℕ))) (es : List Entry) (e : Entry)
     → lists_behind lists (es ++ e ∷ []) ≡ lists_behind lists es ++ (list_at (lists_behind lists es) e.outer ++ e.name ∷ []) ∷ []
@@ -28,6 +28,11 @@ lists_length es = let a = behind_length ([] ∷ []) es in omega (arith, a)
 -- a list that is there stays there
 list_stays : (lists more : List (List (List ℕ))) (n : ℕ) → n < length lists → list_at (lists ++ more) n ≡ list_at lists n
 list_stays lists more n h = get_or_append_left lists more [] n h
+
+-- lists that are there stay there
+pub record Keep (old new : List (List (List ℕ))) : Type 0 where
+  pub longer : length old ≤ length new
+  pub same : (n : ℕ) → n < length old → list_at new n ≡ list_at old n
 
 pub keep_same : (lists : List (List (List ℕ))) → Keep lists lists
 keep_same lists = record { longer = omega arith; same = λ n h. refl }

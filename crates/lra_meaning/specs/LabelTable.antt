@@ -1,5 +1,5 @@
 -- Lists of names that share their fronts, and the labels of a source with numbers of such lists.
-use Rattle.std.specs.Prelude.{◌≡◌, ◌≤◌, ◌<◌, ℕ, List, [], ◌∷◌, ◌++◌, length, slice_get, slice_index_or, Some}
+use Rattle.std.specs.Prelude.{◌≡◌, ◌≤◌, ◌<◌, ℕ, List, [], ◌∷◌, ◌++◌, slice_get, slice_index_or, Some}
 use Rattle.lra_tree.specs.Labels.{Labelled}
 use Rattle.lra_meaning.specs.declared.labels.Entry.{Entry}
 use Rattle.lra_meaning.specs.declared.labels.Label.{Label}
@@ -42,8 +42,3 @@ pub record Listed : Type 0 where
 -- the same label with other names
 abbrev pub with_live : Labelled → List (List ℕ) → Labelled
 with_live l names = record { place = l.place; called = l.called; live = names; live_in_call = names }
-
--- lists that are there stay there
-pub record Keep (old new : List (List (List ℕ))) : Type 0 where
-  pub longer : length old ≤ length new
-  pub same : (n : ℕ) → n < length old → list_at new n ≡ list_at old n

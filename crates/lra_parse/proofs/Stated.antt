@@ -20,7 +20,7 @@ use Rattle.lra_readers.specs.declared.reading.Stopped.TheVariants as stopped
 use Rattle.lra_readers.specs.Tests.{first, is_mark}
 use Rattle.lra_readers.specs.Reading.{Text, Read, Parse, stop, ◌>>=◌, map_read, expect, expect_at, list_step, GivesErr}
 use Rattle.lra_readers.specs.Statements.{declaration_at, ItemTree, declared, stated, put, items_from, begins_item, stated_of, body_of, block_from, too_deep, levels, branch_at, block_at, simple_at}
-use Rattle.lra_readers.specs.Statements.{item_at, items_at, put_list, put_all, ArePut}
+use Rattle.lra_readers.specs.Statements.{item_at, items_at}
 use Rattle.lra_phrases.proofs.Turning.{Left, turn_on, turn_err, turn_off}
 
 pub branch_zero : (d : ℕ) (T : Text) → d ≡ 0 → branch_at d T ≡ too_deep T
@@ -104,6 +104,19 @@ pub close_gives : (is : ItemsTree) (T R : Text) (end : Place) → expect_at mark
 close_gives is T R end g = rw g refl
 
 -- the loop of a block ----------------------------------------------------------------------------------------------
+
+-- items, as what they put before the items behind them
+abbrev put_list : List ItemTree → ItemsTree → ItemsTree
+put_list [] t = t
+put_list (i ∷ is) t = put i (put_list is t)
+
+abbrev put_all : List (ItemsTree → ItemsTree) → ItemsTree → ItemsTree
+put_all [] t = t
+put_all (f ∷ fs) t = f (put_all fs t)
+
+-- what the items of code put is what these items put
+abbrev pub ArePut : List (ItemsTree → ItemsTree) → List ItemTree → Type 0
+ArePut fs is = (t : ItemsTree) → put_all fs t ≡ put_list is t
 
 put_last : (is : List ItemTree) (i : ItemTree) (t : ItemsTree) → put_list (is ++ i ∷ []) t ≡ put_list is (put i t)
 put_last [] i t = refl

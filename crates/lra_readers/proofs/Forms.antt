@@ -6,7 +6,7 @@ use Rattle.lra_tree.specs.declared.tokens.Token.{Token}
 use Rattle.lra_tree.specs.Texts.{Piece, Pieces, plain}
 use Rattle.lra_readers.specs.declared.reading.Fault.{Fault}
 use Rattle.lra_readers.specs.Tests.{first}
-use Rattle.lra_readers.specs.Reading.{Text, Read, Parse, stop, ◌>>=◌, map_read, done_with, past, taken, take_by}
+use Rattle.lra_readers.specs.Reading.{Text, Read, Parse, stop, ◌>>=◌, map_read, done_with, taken, take_by}
 use Rattle.lra_readers.proofs.Exact.{Low, Within, Fails, Exact, Any, Free, bind_ok, bind_err, ok_is, first_same, first_or, first_or-is, first_or-on, nonempty}
 
 free : (x : Pieces) → Within (λ t. ⊤) x

@@ -46,10 +46,6 @@ done_with a T = Ok (a, T)
 abbrev pub tail : Text → Text
 tail T = drop 1 T
 
--- behind a token that was looked at
-abbrev pub past : {A : Type 0} → Parse A → Parse A
-past p T = p (tail T)
-
 -- turns as long as the next token passes the test, at most n
 unfoldable pub loop : {A : Type 0} → (Option Token → Bool) → (A → Parse A) → ℕ → A → Parse A
 loop more step zero a T = Ok (a, T)

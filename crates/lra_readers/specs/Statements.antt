@@ -1,5 +1,5 @@
 -- Readers of calls, assignments, declarations and statements. d levels of nesting are left.
-use Rattle.std.specs.Prelude.{◌≡◌, ℕ, zero, suc, Bool, true, cond, ◌||◌, List, [], ◌∷◌, Option, Some, None, Ok}
+use Rattle.std.specs.Prelude.{ℕ, zero, suc, Bool, true, cond, ◌||◌, List, [], ◌∷◌, Option, Some, None, Ok}
 use Rattle.std.specs.Prelude.{option_map}
 use Rattle.lra_base.specs.declared.refusals.Place.{Place}
 use Rattle.lra_base.specs.declared.refusals.Cause.TheVariants.{Syntax, TooDeep}
@@ -284,17 +284,3 @@ item_at d = item_of d (simple_at d) (map_read block_from (block_at d))
 
 abbrev pub items_at : ℕ → Parse (List ItemTree)
 items_at d = list_of begins_item (item_at d)
-
--- items, as what they put before the items behind them --------------------------------------------
-
-abbrev pub put_list : List ItemTree → ItemsTree → ItemsTree
-put_list [] t = t
-put_list (i ∷ is) t = put i (put_list is t)
-
-abbrev pub put_all : List (ItemsTree → ItemsTree) → ItemsTree → ItemsTree
-put_all [] t = t
-put_all (f ∷ fs) t = f (put_all fs t)
-
--- what the items of code put is what these items put
-abbrev pub ArePut : List (ItemsTree → ItemsTree) → List ItemTree → Type 0
-ArePut fs is = (t : ItemsTree) → put_all fs t ≡ put_list is t

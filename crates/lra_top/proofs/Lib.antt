@@ -1,3 +1,4 @@
+mod Answering
 pub mod ScriptWays
 pub mod SourceWays
 pub mod SampleWays

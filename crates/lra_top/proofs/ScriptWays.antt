@@ -6,7 +6,8 @@ use Rattle.std.proofs.lemmas.List.{take-append-le}
 use Rattle.lra_tree.specs.Tokens.{greatest_length, place_behind}
 use Rattle.lra_calc.specs.Script as script
 use Rattle.lra_calc.proofs.Limit.{answer_too_long, long_answer}
-use Rattle.lra_top.specs.Ends.{IsAnswer, EndsInRefusal, EndsInOutput}
+use Rattle.lra_top.proofs.Answering.{IsAnswer}
+use Rattle.lra_top.specs.Ends.{EndsInRefusal, EndsInOutput}
 use Rattle.lra_top.specs.ScriptAnswer.{DeservesScript}
 use Rattle.lra_top.specs.declared.status.Status.{Status}
 use Rattle.lra_top.specs.declared.status.Status.TheVariants.{Proved, Unknown, Refused, Usage, ReadFault, WriteFault, Memory}

@@ -17,7 +17,8 @@ use Rattle.lra_source.specs.Answers.{IsAnswered}
 use Rattle.lra_source.proofs.EachAnswer.{each_answer}
 use Rattle.lra_source.proofs.SomeAnswer.{some_answer}
 use Rattle.lra_top.specs.SourceAnswer.{IsTooLong, IsUnrefused, IsReport, IsReportStatus, DeservesSource}
-use Rattle.lra_top.specs.Ends.{IsAnswer, EndsInRefusal, EndsInReport, EndsBySource}
+use Rattle.lra_top.proofs.Answering.{IsAnswer}
+use Rattle.lra_top.specs.Ends.{EndsInRefusal, EndsInReport, EndsBySource}
 use Rattle.lra_top.specs.declared.status.Status.{Status}
 use Rattle.lra_top.specs.declared.status.Status.TheVariants.{Proved, Unknown, Refused, Usage, ReadFault, WriteFault, Memory}
 

@@ -14,13 +14,14 @@ use Rattle.lra_calc.specs.Script as script
 use Rattle.lra_sample.specs.Sample.{sample_source}
 use Rattle.lra_sample.specs.Summary.{summary_text}
 use Rattle.lra_sample.proofs.Samples.{accepted as all_accepted}
-use Rattle.lra_words.specs.Chosen.{Asks, AsksNone, AsksFor, IsWithinRanges, default_options}
+use Rattle.lra_words.specs.Chosen.{Asks, AsksNone, AsksFor, default_options}
 use Rattle.lra_words.specs.declared.chosen.Command.{Command}
 use Rattle.lra_words.specs.declared.chosen.Command.TheVariants.{Analyse, Sample, Calc}
 use Rattle.lra_words.proofs.OneCommand.{one_asked, asks_not_none, asks_within}
 use Rattle.lra_top.specs.SourceAnswer.{IsTooLong, IsUnrefused, written_report}
 use Rattle.lra_top.specs.SampleAnswer.{DeservesSample}
-use Rattle.lra_top.specs.Ends.{IsAnswer, EndsInUsage, EndsInRefusal, EndsInReport, EndsBySource, EndsInOutput, IsReportOrMemory, IsOutputOrMemory}
+use Rattle.lra_top.proofs.Answering.{IsAnswer}
+use Rattle.lra_top.specs.Ends.{EndsInUsage, EndsInRefusal, EndsInReport, EndsBySource, EndsInOutput, IsReportOrMemory, IsOutputOrMemory}
 use Rattle.lra_top.specs.Run.{IsInput, usage_text, Reads, AsksReader, AsksNoReader, DeservesInput, Deserves, IsDeserved, ReadsInput}
 use Rattle.lra_top.specs.Prepared.{IsInputText}
 use Rattle.lra_top.proofs.SourceWays.{longer_source, source_answer, source_refused, source_reported, source_ended, source_unrefused, source_too_long}

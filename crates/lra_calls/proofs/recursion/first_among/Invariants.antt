@@ -5,7 +5,7 @@ use Rattle.lra_tree.specs.Trees.{FileTree}
 use Rattle.lra_tree.specs.Functions.{functions_of}
 use Rattle.lra_tree.specs.Reach.{IsRecursive}
 use Rattle.lra_calls.specs.Called.{caller_of, caller_view}
-use Rattle.lra_calls.specs.Recursion.{calls_from}
+use Rattle.lra_calls.proofs.Reaching.{calls_from}
 use Rattle.lra_calls.proofs.recursion.first_among.Given as goal
 
 abbrev pub invariant-callers : goal.invariant-callers

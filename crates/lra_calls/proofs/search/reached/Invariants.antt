@@ -1,6 +1,7 @@
 -- The search is under way; each turn either closes a place or meets new ones.
 use Rattle.std.proofs.Common.{◌+◌, length, map}
-use Rattle.lra_calls.specs.Search.{unmet, IsUnderWay}
+use Rattle.lra_calls.specs.Search.{unmet}
+use Rattle.lra_calls.proofs.Meeting.{IsUnderWay}
 use Rattle.lra_calls.proofs.search.reached.Given as goal
 
 abbrev pub invariant-left : goal.invariant-left

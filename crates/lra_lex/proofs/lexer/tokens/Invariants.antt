@@ -1,5 +1,5 @@
 use Rattle.std.proofs.Common.{length}
-use Rattle.lra_lex.specs.Read.{IsReadTo}
+use Rattle.lra_lex.proofs.ReadingLemmas.{IsReadTo}
 use Rattle.lra_lex.proofs.lexer.tokens.Given as goal
 
 abbrev pub invariant-pieces : goal.invariant-pieces
