@@ -173,8 +173,11 @@ fn read_parameter(alloc: Global, rest: &[Token]) -> Result<(Option<Identifier>, 
     Ok((name, after))
 }
 
-// The list of this parameter.
-fn alone(alloc: Global, first: Option<Identifier>) -> Result<Vec<Option<Identifier>>, AllocError>
+/// The list of this parameter.
+fn start_list(
+    alloc: Global,
+    first: Option<Identifier>,
+) -> Result<Vec<Option<Identifier>>, AllocError>
     ensures { IfOk result (λ v. v.items ≡ first ∷ []) }
 {
     let mut items = Vec::new(alloc);
@@ -188,7 +191,7 @@ fn read_many(alloc: Global, rest: &[Token]) -> Result<(Vec<Option<Identifier>>, 
     ensures gives { Gives (λ r. (r.0.items, r.1.now)) result (map_read listed (commas parameter_at) rest.now) }
 {
     let (first, mut left) = read_parameter(alloc, rest)?;
-    let mut items = alone(alloc, first)?;
+    let mut items = start_list(alloc, first)?;
     'many: while next_is(left, Mark::Comma) {
         let (parameter, after) = read_parameter(alloc, tail(left))?;
         items.push(parameter)?;

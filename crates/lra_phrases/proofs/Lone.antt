@@ -45,7 +45,7 @@ pub map_full : {X Y : Type 0} (f : X → Y) (xs : List X) → (xs ≡ [] → ⊥
 map_full f [] h e = h refl
 map_full f (x ∷ xs) h e = cc
 
--- what `alone` answers
+-- what `take_value` answers
 abbrev pub Answers : CondTree → CondTree → Type 0
 Answers r c = (r ≡ c) × (alone c ≡ None)
 

@@ -11,8 +11,8 @@ use lra_readers::{Stopped, expect, next_is, next_is_name, read_name, tail};
 use lra_tree::{Arguments, Call, Expr, Identifier, Mark, Rvalue, Token, Unary};
 use std::alloc::{AllocError, Global};
 
-// The list of this expression.
-fn alone(alloc: Global, first: Expr) -> Result<Vec<Expr>, AllocError>
+/// The list of this expression.
+fn start_list(alloc: Global, first: Expr) -> Result<Vec<Expr>, AllocError>
     ensures { IfOk result (λ v. v.items ≡ first ∷ []) }
 {
     let mut items = Vec::new(alloc);
@@ -27,7 +27,7 @@ fn read_many(alloc: Global, rest: &[Token], depth: usize) -> Result<(Arguments, 
         (map_read listed (commas (expr_at depth)) rest.now) }
 {
     let (first, mut left) = read_expr(alloc, rest, depth)?;
-    let mut items = alone(alloc, first)?;
+    let mut items = start_list(alloc, first)?;
     'many: while next_is(left, Mark::Comma) {
         let (expr, after) = read_expr(alloc, tail(left), depth)?;
         items.push(expr)?;

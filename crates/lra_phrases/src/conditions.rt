@@ -48,7 +48,7 @@ fn one_test(first: Test, tests: Vec<Test>, rest: Vec<Conjunction>) -> Cond
 }
 
 /// The expression that a condition is alone, or else the condition.
-fn alone(cond: Cond) -> Result<Expr, Cond>
+fn take_value(cond: Cond) -> Result<Expr, Cond>
     ensures { MatchResult result (λ e. alone (cond_view cond) ≡ Some (expr_view e))
         (λ c. (cond_view c ≡ cond_view cond) × (alone (cond_view cond) ≡ None)) }
 {
@@ -96,7 +96,7 @@ fn read_after_group(
     ensures gives { Gives (λ r. (test_view r.0, r.1.now)) result
         (after_group (unary_at depth) (cond_view cond) rest.now) }
 {
-    match alone(cond) {
+    match take_value(cond) {
         Ok(expr) => {
             let unary = Unary::Group(Box::new(alloc, expr)?);
             let (term, factors) = read_factors(alloc, unary, rest, depth)?;
@@ -124,7 +124,7 @@ fn group_opposed(alloc: Global, cond: Cond, rest: &[Token]) -> Result<(Negation,
     ensures { MatchResult result (λ r. (negation_view r.0 ≡ negation_of (cond_view cond)) × (r.1.now ≡ rest.now))
         (λ e. e ≡ Stopped.Memory) }
 {
-    match alone(cond) {
+    match take_value(cond) {
         Ok(expr) => {
             let grouped = Unary::Group(Box::new(alloc, expr)?);
             Ok((Negation::Operand(grouped), rest))

@@ -147,7 +147,7 @@ pub fn resolve_given(
 }
 
 /// The variable's value, an operator and an operand.
-fn updated(
+fn build_update(
     alloc: Global,
     slot: Slot,
     operator: Operator,
@@ -172,11 +172,11 @@ fn step_operator(step: Step) -> Operator
 }
 
 /// `x++` and `++x` alike: one more, or one less.
-fn stepped(alloc: Global, slot: Slot, step: Step) -> Result<lra_program::Rvalue, AllocError>
+fn build_step(alloc: Global, slot: Slot, step: Step) -> Result<lra_program::Rvalue, AllocError>
     ensures { IfOk result (λ e. rvalue_view e ≡ value (binary (step_operator (step_view step)) (read (slot_view slot))
         (literal 1))) }
 {
-    updated(
+    build_update(
         alloc,
         slot,
         step_operator(step),
@@ -221,7 +221,7 @@ fn resolve_update(
 {
     let slot = resolve_variable(scope, x)?;
     let operand = resolve_expr(alloc, scope, expr)?;
-    let source = updated(alloc, slot, operator, operand)?;
+    let source = build_update(alloc, slot, operator, operand)?;
     Ok(lra_program::Stmt::Assign(label, slot, source))
 }
 
@@ -238,7 +238,7 @@ fn resolve_increment(
         (value (binary (step_operator (step_view step)) (read (variable scope.now x.now)) (literal 1)))) }
 {
     let slot = resolve_variable(scope, x)?;
-    let source = stepped(alloc, slot, step)?;
+    let source = build_step(alloc, slot, step)?;
     Ok(lra_program::Stmt::Assign(label, slot, source))
 }
 

@@ -15,7 +15,7 @@ use lra_tree::{Cond, Conjunction, Negation, Test};
 use std::alloc::Global;
 
 /// A chain of `&&`, or its only operand.
-fn all(
+fn join_all(
     alloc: Global,
     first: lra_program::Cond,
     rest: Vec<lra_program::Cond>,
@@ -31,7 +31,7 @@ fn all(
 }
 
 /// A chain of `||`, or its only operand.
-fn any(
+fn join_any(
     alloc: Global,
     first: lra_program::Cond,
     rest: Vec<lra_program::Cond>,
@@ -107,7 +107,7 @@ fn resolve_conjunction(
         let further = resolve_test(alloc, scope, test)?;
         rest.push(further)?;
     }
-    all(alloc, first, rest)
+    join_all(alloc, first, rest)
 }
 
 /// A condition: its conjunctions, joined by `||` where there are several.
@@ -129,5 +129,5 @@ pub fn resolve_cond(
         let further = resolve_conjunction(alloc, scope, conjunction)?;
         rest.push(further)?;
     }
-    any(alloc, first, rest)
+    join_any(alloc, first, rest)
 }

@@ -20,8 +20,8 @@ pub fn place_of_assign(assign: &Assign) -> Place
     }
 }
 
-/// What the source calls.
-fn called_by(alloc: Global, source: &Rvalue) -> Result<Option<Identifier>, AllocError>
+/// A copy of the name that the source calls, if it is a call.
+fn copy_callee(alloc: Global, source: &Rvalue) -> Result<Option<Identifier>, AllocError>
     ensures { IfOk result (λ c. c ≡ called_in (rvalue_view source.now)) }
 {
     Ok(match source {
@@ -30,8 +30,8 @@ fn called_by(alloc: Global, source: &Rvalue) -> Result<Option<Identifier>, Alloc
     })
 }
 
-/// What the source calls, if there is one.
-pub fn called_by_given(
+/// A copy of the name that the source calls, if there is a source, and it is a call.
+pub fn copy_given_callee(
     alloc: Global,
     source: &Option<Rvalue>,
 ) -> Result<Option<Identifier>, AllocError>
@@ -39,16 +39,19 @@ pub fn called_by_given(
 {
     match source {
         None => Ok(None),
-        Some(source) => called_by(alloc, source),
+        Some(source) => copy_callee(alloc, source),
     }
 }
 
-/// What the assignment calls.
-pub fn called_by_assign(alloc: Global, assign: &Assign) -> Result<Option<Identifier>, AllocError>
+/// A copy of the name that the assignment calls, if it assigns the result of a call.
+pub fn copy_assigned_callee(
+    alloc: Global,
+    assign: &Assign,
+) -> Result<Option<Identifier>, AllocError>
     ensures { IfOk result (λ c. c ≡ called_by (assign_view assign.now)) }
 {
     match assign {
-        Assign::Set(_, source) => called_by(alloc, source),
+        Assign::Set(_, source) => copy_callee(alloc, source),
         Assign::Update(_, _, _) => Ok(None),
         Assign::After(_, _) => Ok(None),
         Assign::Before(_, _, _) => Ok(None),

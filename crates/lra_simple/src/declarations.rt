@@ -13,7 +13,7 @@ ghost use Rattle.lra_simple.specs.Labelling.{Declares};
 ghost use Rattle.lra_simple.specs.Statements.{declarator_faults, followed};
 ghost use Rattle.lra_scopes.specs.Outcome.{Tells, TellsOf};
 
-use crate::called::called_by_given;
+use crate::called::copy_given_callee;
 use crate::labelling::Labelling;
 use lra_base::{Cause, SourceError};
 use lra_scopes::{Functions, Scope, refuse, resolve_given};
@@ -46,7 +46,7 @@ fn resolve_declarator(
         return refuse(Cause::DuplicateName, declarator.name.place);
     }
     scope.declare(alloc, &declarator.name.word)?;
-    let called = called_by_given(alloc, &declarator.source)?;
+    let called = copy_given_callee(alloc, &declarator.source)?;
     let label = labels.add_declarator(alloc, &declarator.name, called)?;
     let source = resolve_given(alloc, functions, scope, label, &declarator.source)?;
     Ok(lra_program::Declarator { label, source })

@@ -14,7 +14,7 @@ ghost use Rattle.lra_simple.specs.Statements.{around_of, break_of, continue_of, 
 ghost use Rattle.lra_scopes.specs.Outcome.{TellsOf};
 
 use crate::around::Around;
-use crate::called::{called_by_assign, called_by_given, place_of_assign};
+use crate::called::{copy_assigned_callee, copy_given_callee, place_of_assign};
 use crate::labelling::Labelling;
 use lra_base::{Cause, Place, SourceError};
 use lra_scopes::{Scope, refuse, resolve_assign, resolve_call, resolve_given};
@@ -50,7 +50,7 @@ pub fn resolve_assignment(
     ensures adds { OnOk result (Adds labels.old labels.new
         (assign_label labels.old.live (assign_view assign.now) ∷ [])) }
 {
-    let called = called_by_assign(around.alloc, assign)?;
+    let called = copy_assigned_callee(around.alloc, assign)?;
     let label = labels.add(place_of_assign(assign), called)?;
     resolve_assign(around.alloc, around.functions, scope, label, assign)
 }
@@ -145,7 +145,7 @@ pub fn resolve_return(
     if source.is_some() && !around.has_result {
         return refuse(Cause::BadCall, place);
     }
-    let called = called_by_given(around.alloc, source)?;
+    let called = copy_given_callee(around.alloc, source)?;
     let label = labels.add(place, called)?;
     let source = resolve_given(around.alloc, around.functions, scope, label, source)?;
     Ok(lra_program::Stmt::Return(label, source))

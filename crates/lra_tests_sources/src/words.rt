@@ -1,5 +1,5 @@
 use lra_base::{Domain, Options};
-use lra_words::{Command, Refusal, asked, command};
+use lra_words::{Command, Refusal, find_command, parse_command};
 use std::alloc::Global;
 use std::process::Abort;
 use std::test::Fail;
@@ -217,8 +217,8 @@ fn words_of(alloc: Global, line: &str) -> Result<Vec<String>, Fail> {
 /// Whether the words of the line ask for the command.
 fn asks(alloc: Global, line: &str, chosen: Command) -> Result<bool, Fail> {
     let words = words_of(alloc, line)?;
-    let taken = command(alloc, &words) == Ok(chosen);
-    Ok(taken && asked(alloc, &words) == Ok(Some(chosen)))
+    let taken = parse_command(alloc, &words) == Ok(chosen);
+    Ok(taken && find_command(alloc, &words) == Ok(Some(chosen)))
 }
 
 /// Checks lines that ask for commands.
@@ -243,8 +243,8 @@ fn several_options_are_taken(rt: HostRuntime) -> Result<(), Fail> {
 /// Whether the words of the line ask for no command.
 fn asks_none(alloc: Global, line: &str) -> Result<bool, Fail> {
     let words = words_of(alloc, line)?;
-    let refused = command(alloc, &words) == Err(Refusal::Usage);
-    Ok(refused && asked(alloc, &words) == Ok(None))
+    let refused = parse_command(alloc, &words) == Err(Refusal::Usage);
+    Ok(refused && find_command(alloc, &words) == Ok(None))
 }
 
 /// Checks lines that ask for no command.
@@ -378,6 +378,6 @@ fn wrong_samples_ask_for_nothing(rt: HostRuntime) -> Result<(), Fail> {
 
 #[test]
 fn no_words_are_refused(rt: HostRuntime) {
-    let refused = command(rt.alloc(), &[]) == Err(Refusal::Usage);
+    let refused = parse_command(rt.alloc(), &[]) == Err(Refusal::Usage);
     assert!(rt; refused);
 }

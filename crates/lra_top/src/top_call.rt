@@ -32,7 +32,7 @@ use crate::status::Status;
 use lra_calc::{CalcError, script};
 use lra_edge::{ReadEnd, Sink, Source, read_whole, write_whole};
 use lra_tree::GREATEST_LENGTH;
-use lra_words::{Command, asked};
+use lra_words::{Command, find_command};
 use std::alloc::{AllocError, Global};
 
 /// Why there is no text.
@@ -154,7 +154,7 @@ fn prepare<S: Source>(alloc: Global, words: &[String], source: &mut S) -> Result
     ensures untaken { AsksNone (map string_bytes words.now) → IsErrOf result NoAnswer.ReadFault → ⊥ }
     ensures taken { IsErrOf result NoAnswer.ReadFault → AsksReader (map string_bytes words.now) }
 {
-    match asked(alloc, words)? {
+    match find_command(alloc, words)? {
         Some(command) => prepare_command(alloc, command, source),
         None => Ok(refuse_words(alloc)?),
     }

@@ -1,6 +1,6 @@
 //! The words of the command line, and the command that they give.
 //!
-//! [`words::command`] declares the command line to `clap`, parses the words and answers the command
+//! [`words::parse_command`] declares the command line to `clap`, parses the words and answers the command
 //! of the matches.
 #![tactic(auto)]
 
@@ -9,4 +9,4 @@ mod command_line;
 pub mod words;
 
 pub use chosen::{Command, default_options};
-pub use words::{Refusal, asked, command};
+pub use words::{Refusal, find_command, parse_command};

@@ -113,7 +113,7 @@ fn chosen_command(name: &str, matches: &ArgMatches) -> Option<Command>
 ///
 /// `Usage` comes exactly where the command line doesn't take the words, `Memory` only for want of
 /// memory. Nothing is printed.
-pub fn command(alloc: Global, words: &[String]) -> Result<Command, Refusal>
+pub fn parse_command(alloc: Global, words: &[String]) -> Result<Command, Refusal>
     ensures usage { result ≡ Err Refusal.Usage → AsksNone (map string_bytes words.now) }
     ensures taken { IfOk result (λ c. Asks (map string_bytes words.now) c) }
     ensures ranges { IfOk result (λ c. IsWithinRanges c) }
@@ -135,11 +135,11 @@ pub fn command(alloc: Global, words: &[String]) -> Result<Command, Refusal>
 }
 
 /// The command that the words ask for, `None` where the command line doesn't take them.
-pub fn asked(alloc: Global, words: &[String]) -> Result<Option<Command>, AllocError>
+pub fn find_command(alloc: Global, words: &[String]) -> Result<Option<Command>, AllocError>
     ensures asks { IfOk result (λ asked. AsksFor (map string_bytes words.now) asked) }
     ensures ranges { IfOk result (λ asked. IfSome asked IsWithinRanges) }
 {
-    match command(alloc, words) {
+    match parse_command(alloc, words) {
         Ok(command) => Ok(Some(command)),
         Err(Refusal::Usage) => Ok(None),
         Err(Refusal::Memory) => Err(AllocError),

@@ -41,15 +41,15 @@ resolve_conjunction-returns-in_err-push-clause-told t c =
 
 pub resolve_conjunction-returns-clause-told : goal.resolve_conjunction-returns-clause-told
 resolve_conjunction-returns-clause-told t c =
-    made_told _ c.all.result (all_clean (faults_of_test c.args.scope.now) c.deref-test-items.result.now c.tests.test-index _ c.tests.invariant.clean c.tests-test.false)
-    c.all.ensures.memory
+    made_told _ c.join_all.result (all_clean (faults_of_test c.args.scope.now) c.deref-test-items.result.now c.tests.test-index _ c.tests.invariant.clean c.tests-test.false)
+    c.join_all.ensures.memory
 
 pub resolve_conjunction-returns-clause-found : goal.resolve_conjunction-returns-clause-found
 resolve_conjunction-returns-clause-found t c =
-    found_so c.all.result cond_view _ _
+    found_so c.join_all.result cond_view _ _
     (conjunction_found c.args.scope.now c.args.conjunction.now _ _ _ c.deref-test-items.result.now c.tests.test-index refl c.tests.invariant.first c.tests.invariant.found
     (omega arith) c.deref-test-items.ensures.value)
-    c.all.ensures.found
+    c.join_all.ensures.found
 
 pub resolve_cond-returns-in_err-first-clause-told : goal.resolve_cond-returns-in_err-first-clause-told
 resolve_cond-returns-in_err-first-clause-told t c =
@@ -84,17 +84,17 @@ resolve_cond-returns-in_err-push-clause-told t c =
 
 pub resolve_cond-returns-clause-told : goal.resolve_cond-returns-clause-told
 resolve_cond-returns-clause-told t c =
-    made_told _ c.any.result (all_clean (faults_of_conjunction c.args.scope.now) c.deref-conjunction-items.result.now c.conjunctions.conjunction-index _ c.conjunctions.invariant.clean
+    made_told _ c.join_any.result (all_clean (faults_of_conjunction c.args.scope.now) c.deref-conjunction-items.result.now c.conjunctions.conjunction-index _ c.conjunctions.invariant.clean
     c.conjunctions-test.false)
-    c.any.ensures.memory
+    c.join_any.ensures.memory
 
 pub resolve_cond-returns-clause-found : goal.resolve_cond-returns-clause-found
 resolve_cond-returns-clause-found t c =
-    found_so c.any.result cond_view _ _
+    found_so c.join_any.result cond_view _ _
     (cond_found c.args.scope.now c.args.cond.now _ _ _ c.deref-conjunction-items.result.now c.conjunctions.conjunction-index refl c.conjunctions.invariant.first
     c.conjunctions.invariant.found
     (omega arith) c.deref-conjunction-items.ensures.value)
-    c.any.ensures.found
+    c.join_any.ensures.found
 
 pub resolve_negation-returns-in_err-inner-in-Again-clause-told : goal.resolve_negation-returns-in_err-inner-in-Again-clause-told
 resolve_negation-returns-in_err-inner-in-Again-clause-told t c =

@@ -1,7 +1,7 @@
--- Goals of `command`: `Usage` comes exactly where the command line doesn't take the words, `Memory` only for want
+-- Goals of `parse_command`: `Usage` comes exactly where the command line doesn't take the words, `Memory` only for want
 -- of memory.
 use Rattle.lra_words.proofs.ParsedWords.{chosen_of, refused, succeeds, taken_as, never_none}
-use Rattle.lra_words.proofs.words.command.Goals as goal
+use Rattle.lra_words.proofs.words.parse_command.Goals as goal
 
 pub returns-in-Err-clause-usage : goal.returns-in-Err-clause-usage
 returns-in-Err-clause-usage c = λ e. refused _ _ c.in-Err.error c.in-Ok.ensures c.in-Err.ensures.kinds c.in-Err.ensures.passes (let k = c.refusal_of.ensures in cc)

@@ -1,8 +1,8 @@
--- Goals of `alone`: the expression that a condition is alone, or else the condition.
+-- Goals of `take_value`: the expression that a condition is alone, or else the condition.
 use Rattle.std.proofs.Common.{ap, map}
 use Rattle.lra_tree.specs.Views.{expr_view, test_view, conjunction_view, cond_view}
 use Rattle.lra_phrases.proofs.Lone.{empty_is, full_is, map_full, lone_value, more_conjunctions, more_tests, other_test}
-use Rattle.lra_phrases.proofs.conditions.alone.Goals as goal
+use Rattle.lra_phrases.proofs.conditions.take_value.Goals as goal
 
 pub returns-then-not-is_empty : goal.returns-then-not-is_empty
 returns-then-not-is_empty c =
