@@ -1,5 +1,6 @@
 -- What a call has to know of a function, and an index of functions by their names.
 use Rattle.std.specs.Prelude.{◌≡◌, ℕ, suc, List, [], ◌∷◌, length, cond, String, Option, Some, None}
+use Rattle.std.specs.Option.{option_or}
 use Rattle.std.specs.declared.alloc.Global.{Global}
 use Rattle.indexmap.specs.IndexMap.{IndexMap, get_by_text}
 use Rattle.lra_tree.specs.declared.trees.Item.{Item}
@@ -16,14 +17,10 @@ signature_at place f = record { place = place; parameters = length f.parameters;
 abbrev pub named_signature : List ℕ → ℕ → FunctionTree → Option Signature
 named_signature name place f = cond (is_named name f) (Some (signature_at place f)) None
 
-abbrev pub or_else : {X : Type 0} → Option X → Option X → Option X
-or_else None second = second
-or_else (Some x) second = Some x
-
 -- of the first of this name among functions that stand from a place on
 abbrev pub first_signature : List ℕ → ℕ → List FunctionTree → Option Signature
 first_signature name place [] = None
-first_signature name place (f ∷ fs) = or_else (named_signature name place f) (first_signature name (suc place) fs)
+first_signature name place (f ∷ fs) = option_or (named_signature name place f) (first_signature name (suc place) fs)
 
 -- the index has the signature of the first function of each name
 abbrev pub HasSignatures : {S : Type 0} → IndexMap (String Global) Signature S → List Item → Type 0

@@ -1,12 +1,13 @@
 //! The functions of a source, found by their names.
 
 ghost use Rattle.std.specs.Prelude.{◌≡◌, ℕ, List, option_map, bytes_eq, IfOk, OnOk};
+ghost use Rattle.std.specs.Option.{option_or};
 ghost use Rattle.indexmap.specs.IndexMap.{get_by_text};
 ghost use Rattle.lra_tree.specs.Views.{function_view};
 ghost use Rattle.lra_tree.specs.Functions.{function_named};
 ghost use Rattle.lra_meaning.specs.Resolve.{function_place};
 ghost use Rattle.lra_scopes.specs.Calls.{functions_at};
-ghost use Rattle.lra_scopes.specs.Signatures.{signature_at, named_signature, or_else};
+ghost use Rattle.lra_scopes.specs.Signatures.{signature_at, named_signature};
 
 use indexmap::IndexMap;
 use lra_tree::{Function, Item, Word};
@@ -63,7 +64,7 @@ fn add_signature(
     function: &Function,
 ) -> Result<(), AllocError>
     ensures { OnOk result ((name : List ℕ) → get_by_text signatures.new name
-        ≡ or_else (get_by_text signatures.old name) (named_signature name place (function_view function.now))) }
+        ≡ option_or (get_by_text signatures.old name) (named_signature name place (function_view function.now))) }
 {
     let name = function.name.word.as_str();
     if signatures.contains_key(name) {
