@@ -11,7 +11,7 @@ use Rattle.lra_tree.specs.Trees.{no_items, declaration, statement, FileTree, ass
 use Rattle.lra_tree.specs.Tokens.{tokens_of, end_token, greatest_length}
 use Rattle.lra_tree.specs.Grammar.{Spells}
 use Rattle.lra_tree.proofs.TreeSamples.{at, x_at, main_of, declared_as, number}
-use Rattle.lra_tree.proofs.Lexemes.{Item, written, reading, lexed}
+use Rattle.lra_tree.proofs.Lexemes.{Item, written, reading, all_lexed}
 use Rattle.lra_tree.proofs.LexedByTest.{space, sign, word_of, one, is_written, are_read_by}
 use Rattle.lra_meaning.specs.Refuse.{Refuse, RefusesTree, bad_tree, bad_name, recursive, Accepts}
 use Rattle.lra_meaning.proofs.NameExamples.{calls_with_one, itself, is_recursive}
@@ -30,10 +30,10 @@ inner_tokens xs = tokens_of (reading [] xs)
 abbrev all_tokens : List ℕ → List Item → Text
 all_tokens source xs = inner_tokens xs ++ end_token source ∷ []
 
-refused : (source : List ℕ) (xs : List Item) (t : FileTree) (c : Cause) (p : Place) → source ≡ written xs → is_written xs ≡ true → length source ≤ greatest_length
+refused : (source : List ℕ) (xs : List Item) (t : FileTree) (c : Cause) (p : Place) → source ≡ written xs → is_written [] xs ≡ true → length source ≤ greatest_length
     → all_inner (inner_tokens xs) ≡ true → file_at 63 (all_tokens source xs) ≡ Ok (t, []) → RefusesTree t c p → Refuse Spells source c p
 refused source xs t c p is so few inner parsed refuses =
-    bad_tree (all_tokens source xs) t c p few (lexed source xs is (are_read_by xs so))
+    bad_tree (all_tokens source xs) t c p few (all_lexed source xs is (are_read_by [] xs so))
     (tree_found (all_tokens source xs) [] t
     (record { front = inner_tokens xs; last = end_token source; parts = refl; is_end = refl; no_other = no_end (inner_tokens xs) inner }) parsed)
     refuses
@@ -65,7 +65,7 @@ unfolding greatest_length
 empty_accepted = record {
   tokens = all_tokens (codes "int main(void){}") empty_main;
   not_long = omega arith;
-  lexed = lexed (codes "int main(void){}") empty_main refl (are_read_by empty_main refl);
+  lexed = all_lexed (codes "int main(void){}") empty_main refl (are_read_by [] empty_main refl);
   parsed =
       tree_found (all_tokens (codes "int main(void){}") empty_main) [] empty_tree
       (record {

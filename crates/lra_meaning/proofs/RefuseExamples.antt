@@ -3,12 +3,12 @@ use Rattle.std.proofs.Common.{◌≡◌, ℕ, zero, suc, ◌+◌, List, [], ◌�
 use Rattle.std.specs.Prelude.{codes, get_or, ◌≤◌}
 use Rattle.lra_base.specs.declared.refusals.Refusal.{Refusal}
 use Rattle.lra_base.specs.declared.refusals.Cause.TheVariants.{TooLong, BadByte, BadLiteral, Syntax, NoMain, TooManyVariables, TooManyPoints}
-use Rattle.lra_tree.specs.declared.tokens.Kind.TheVariants.{Name, Mark as MarkOf, Unclosed, End}
+use Rattle.lra_tree.specs.declared.tokens.Kind.TheVariants.{Unclosed, End}
 use Rattle.lra_tree.specs.declared.tokens.Mark.TheVariants as mark
 use Rattle.lra_tree.specs.declared.tokens.Token.{Token}
-use Rattle.lra_tree.specs.Lexeme.{IsOpen, word, mark_word, unclosed, name, mark_of, comment}
+use Rattle.lra_tree.specs.Lexeme.{IsOpen, unclosed, comment}
 use Rattle.lra_tree.specs.declared.tokens.Kind.{Kind}
-use Rattle.lra_tree.specs.Tokens.{is_blank, blank, line_comment, block_comment, skipped_line, NoGap, gap, token, place_behind, place_from, greatest_length}
+use Rattle.lra_tree.specs.Tokens.{is_blank, blank, line_comment, block_comment, skipped_line, NoGap, token, place_behind, place_from, greatest_length}
 use Rattle.lra_tree.specs.Trees.{DeclaratorTree, nothing, call, ItemsTree, no_items, declaration, statement, PartTree, function, FileTree, for, declared, expression}
 use Rattle.lra_tree.specs.Labels.{labels_of}
 use Rattle.lra_meaning.specs.Resolve.{resolve}
@@ -16,8 +16,10 @@ use Rattle.lra_program.specs.Sites.{events_of}
 use Rattle.lra_meaning.specs.Refuse.{limit_fault, Refuse, too_long, bad_token, bad_text, bad_tree, bad_name}
 use Rattle.lra_tree.specs.Grammar.{Spells}
 use Rattle.std.proofs.lemmas.List.{take-replicate, length-replicate, length-append}
-use Rattle.lra_tree.proofs.LongestByTest.{no_gap, as_token, no_lexeme, is_open}
+use Rattle.lra_tree.proofs.LongestByTest.{no_gap, no_lexeme, is_open}
 use Rattle.lra_tree.proofs.FirstTokens.{not_unclosed}
+use Rattle.lra_tree.proofs.Lexemes.{Item, faulty}
+use Rattle.lra_tree.proofs.LexedByTest.{space, sign, word_of, are_read_by}
 use Rattle.lra_tree.proofs.TokenExamples.{too_large}
 use Rattle.lra_tree.proofs.TreeSamples.{at, name_at, call_of, function_of, void_of, main_of, declared_as, number as number_of}
 
@@ -129,42 +131,16 @@ too_many_spaces = spaces_too_long 65536 refl
 abbrev token_at : Kind → ℕ → Token
 token_at k c = record { kind = k; place = at c }
 
--- int main(void){ $ }
+abbrev before_dollar : List Item
+before_dollar =
+    sign mark.Int ∷ space ∷ word_of (codes "main") ∷ sign mark.OpenParen ∷ sign mark.Void ∷ sign mark.CloseParen ∷ sign mark.OpenBrace ∷ space ∷ []
+
 dollar : Refuse Spells (codes "int main(void){ $ }") BadByte (at 17)
 unfolding greatest_length
-dollar = bad_token BadByte (at 17) (omega arith) (
-  token (codes "int") (token_at (MarkOf mark.Int) 1) ∷ gap (codes " ") ∷ token (codes "main") (token_at (Name (codes "main")) 5) ∷ token (codes "(") (token_at (MarkOf mark.OpenParen) 9) ∷
-      token (codes "void") (token_at (MarkOf mark.Void) 10) ∷ token (codes ")") (token_at (MarkOf mark.CloseParen) 14) ∷ token (codes "{") (token_at (MarkOf mark.OpenBrace) 15) ∷ gap (codes " ") ∷ [],
-  codes "$ }",
-  refl,
-  (
-    as_token [] (codes "int") (codes " main(void){ $ }") (MarkOf mark.Int) (mark_word mark.Int refl) (mark_of mark.Int refl) refl refl refl,
-    (
-      blank 32 refl refl,
-      (
-        as_token (codes "int ") (codes "main") (codes "(void){ $ }") (Name (codes "main")) (word refl) (name refl refl refl) refl refl refl,
-        (
-          as_token (codes "int main") (codes "(") (codes "void){ $ }") (MarkOf mark.OpenParen) (mark_word mark.OpenParen refl) (mark_of mark.OpenParen refl) refl refl refl,
-          (
-            as_token (codes "int main(") (codes "void") (codes "){ $ }") (MarkOf mark.Void) (mark_word mark.Void refl) (mark_of mark.Void refl) refl refl refl,
-            (
-              as_token (codes "int main(void") (codes ")") (codes "{ $ }") (MarkOf mark.CloseParen) (mark_word mark.CloseParen refl) (mark_of mark.CloseParen refl) refl refl refl,
-              (
-                as_token (codes "int main(void)") (codes "{") (codes " $ }") (MarkOf mark.OpenBrace) (mark_word mark.OpenBrace refl) (mark_of mark.OpenBrace refl) refl refl refl,
-                (
-                  blank 32 refl refl,
-                  tt,
-                ),
-              ),
-            ),
-          ),
-        ),
-      ),
-    ),
-  ),
-  (λ e. cc, no_gap (codes "int main(void){ ") (codes "$ }") refl, no_lexeme (codes "$ }") refl refl),
-  refl,
-)
+dollar =
+    bad_token BadByte (at 17) (omega arith)
+    (faulty (codes "int main(void){ $ }") (codes "$ }") before_dollar BadByte refl (are_read_by (codes "$ }") before_dollar refl)
+    (λ e. cc, no_gap (codes "int main(void){ ") (codes "$ }") refl, no_lexeme (codes "$ }") refl refl))
 
 literal_refused : Refuse Spells (codes "x=9223372036854775808;") BadLiteral (at 3)
 unfolding greatest_length

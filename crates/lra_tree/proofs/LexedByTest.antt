@@ -1,5 +1,5 @@
 -- Computed tests: a source that is written out has these tokens. Its numbers are 1.
-use Rattle.std.proofs.Common.{◌≡◌, ℕ, Bool, true, false, not, ◌&&◌, nat_eq, List, [], ◌∷◌, refl, sym, subst, arith}
+use Rattle.std.proofs.Common.{◌≡◌, ℕ, Bool, true, false, not, ◌&&◌, nat_eq, List, [], ◌∷◌, ◌++◌, refl, sym, subst, arith}
 use Rattle.std.specs.Prelude.{codes, bytes_eq, nat_le}
 use Rattle.std.proofs.lemmas.Bool.Decides.{nat_tests}
 use Rattle.std.proofs.lemmas.Slice.Eq.{bytes_eq-Decides}
@@ -12,7 +12,7 @@ use Rattle.lra_tree.specs.Tokens.{is_blank}
 use Rattle.lra_tree.specs.Faults.{greatest_level}
 use Rattle.lra_tree.proofs.LongestByTest.{begins_gap, ends_there}
 use Rattle.lra_tree.proofs.LowByTest.{and_first, and_second}
-use Rattle.lra_tree.proofs.Lexemes.{Item, skip, lexeme, written, AreRead}
+use Rattle.lra_tree.proofs.Lexemes.{Item, skip, lexeme, written, AreReadBefore}
 
 -- how a source is written out --------------------------------------------------------------------------------------
 
@@ -45,11 +45,12 @@ is_spelled s Reserved = false
 is_spelled s Unclosed = false
 is_spelled s End = false
 
-abbrev pub is_written : List Item → Bool
-is_written [] = true
-is_written (skip c ∷ xs) = is_blank c && is_written xs
-is_written (lexeme c cs k o ∷ xs) =
-    (is_spelled (c ∷ cs) k && not (begins_gap c)) && ((ends_there (c ∷ cs) (written xs) && nat_le o greatest_level) && is_written xs)
+-- in front of other bytes
+abbrev pub is_written : List ℕ → List Item → Bool
+is_written rest [] = true
+is_written rest (skip c ∷ xs) = is_blank c && is_written rest xs
+is_written rest (lexeme c cs k o ∷ xs) =
+    (is_spelled (c ∷ cs) k && not (begins_gap c)) && ((ends_there (c ∷ cs) (written xs ++ rest) && nat_le o greatest_level) && is_written rest xs)
 
 -- what it tells ----------------------------------------------------------------------------------------------------
 
@@ -91,18 +92,20 @@ spelled s Reserved e = cc
 spelled s Unclosed e = cc
 spelled s End e = cc
 
-pub are_read_by : (xs : List Item) → is_written xs ≡ true → AreRead xs
-are_read_by [] e = tt
-are_read_by (skip c ∷ xs) e = (and_first (is_blank c) (is_written xs) e, are_read_by xs (and_second (is_blank c) (is_written xs) e))
-are_read_by (lexeme c cs k o ∷ xs) e =
-    let here = and_first (is_spelled (c ∷ cs) k && not (begins_gap c)) ((ends_there (c ∷ cs) (written xs) && nat_le o greatest_level) && is_written xs) e in
-    let more = and_second (is_spelled (c ∷ cs) k && not (begins_gap c)) ((ends_there (c ∷ cs) (written xs) && nat_le o greatest_level) && is_written xs) e in
-    let behind = and_first (ends_there (c ∷ cs) (written xs) && nat_le o greatest_level) (is_written xs) more in
+pub are_read_by : (rest : List ℕ) (xs : List Item) → is_written rest xs ≡ true → AreReadBefore rest xs
+are_read_by rest [] e = tt
+are_read_by rest (skip c ∷ xs) e =
+    (and_first (is_blank c) (is_written rest xs) e, are_read_by rest xs (and_second (is_blank c) (is_written rest xs) e))
+are_read_by rest (lexeme c cs k o ∷ xs) e =
+    let after = written xs ++ rest in
+    let here = and_first (is_spelled (c ∷ cs) k && not (begins_gap c)) ((ends_there (c ∷ cs) after && nat_le o greatest_level) && is_written rest xs) e in
+    let more = and_second (is_spelled (c ∷ cs) k && not (begins_gap c)) ((ends_there (c ∷ cs) after && nat_le o greatest_level) && is_written rest xs) e in
+    let behind = and_first (ends_there (c ∷ cs) after && nat_le o greatest_level) (is_written rest xs) more in
     let so = spelled (c ∷ cs) k (and_first (is_spelled (c ∷ cs) k) (not (begins_gap c)) here) in (
       record {
         good = record { lexeme = so.0; spells = so.1; gapless = is_off (begins_gap c) (and_second (is_spelled (c ∷ cs) k) (not (begins_gap c)) here) };
-        ends = and_first (ends_there (c ∷ cs) (written xs)) (nat_le o greatest_level) behind;
-        low = and_second (ends_there (c ∷ cs) (written xs)) (nat_le o greatest_level) behind;
+        ends = and_first (ends_there (c ∷ cs) after) (nat_le o greatest_level) behind;
+        low = and_second (ends_there (c ∷ cs) after) (nat_le o greatest_level) behind;
       },
-      are_read_by xs (and_second (ends_there (c ∷ cs) (written xs) && nat_le o greatest_level) (is_written xs) more),
+      are_read_by rest xs (and_second (ends_there (c ∷ cs) after && nat_le o greatest_level) (is_written rest xs) more),
     )

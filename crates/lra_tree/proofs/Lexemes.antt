@@ -5,13 +5,14 @@ use Rattle.std.proofs.lemmas.List.{append-nil}
 use Rattle.std.proofs.lemmas.Bool.{leb-true}
 use Rattle.std.specs.Prelude.{⊤, nat_le, nat_eq}
 use Rattle.lra_base.specs.declared.refusals.Place.{Place}
+use Rattle.lra_base.specs.declared.refusals.Cause.{Cause}
 use Rattle.lra_tree.specs.declared.tokens.Kind.{Kind}
 use Rattle.lra_tree.specs.declared.tokens.Kind.TheVariants.{Mark as MarkOf}
 use Rattle.lra_tree.specs.declared.tokens.Mark.{Mark}
 use Rattle.lra_tree.specs.declared.tokens.Token.{Token}
 use Rattle.lra_tree.specs.Lexeme.{mark_text, Lexeme, SpellsToken, mark_word, mark_of}
 use Rattle.lra_tree.specs.Tokens.{is_blank, blank, Fragment, gap, token, bytes_of, tokens_of, IsToken, IsReading, Lex}
-use Rattle.lra_tree.specs.Tokens.{end_token, place_behind}
+use Rattle.lra_tree.specs.Tokens.{end_token, place_behind, IsFaulty, IsTokenFault}
 use Rattle.lra_tree.specs.Texts.{Pieces, plain}
 use Rattle.lra_tree.specs.Faults.{IsLow, greatest_level}
 use Rattle.lra_tree.proofs.LongestByTest.{is_lexeme, begins_gap, opens_comment, ends_there, as_token}
@@ -86,6 +87,12 @@ AreRead [] = ⊤
 AreRead (skip c ∷ xs) = (is_blank c ≡ true) × AreRead xs
 AreRead (lexeme c cs k o ∷ xs) = IsRead c cs k o (written xs) × AreRead xs
 
+-- the same in front of other bytes
+abbrev pub AreReadBefore : List ℕ → List Item → Type 0
+AreReadBefore rest [] = ⊤
+AreReadBefore rest (skip c ∷ xs) = (is_blank c ≡ true) × AreReadBefore rest xs
+AreReadBefore rest (lexeme c cs k o ∷ xs) = IsRead c cs k o (written xs ++ rest) × AreReadBefore rest xs
+
 -- one item and the others
 infixr 4 ◌⨾◌
 pub ◌⨾◌ : {A B : Type 0} → A → B → A × B
@@ -141,19 +148,41 @@ token_read before c cs after k o r =
     as_token before (c ∷ cs) after k r.good.lexeme r.good.spells r.good.gapless
     (no_comment c (cs ++ after) r.good.gapless) r.ends
 
-read : (before : List ℕ) (xs : List Item) → AreRead xs → IsReading before (reading before xs) []
-read before [] g = tt
-read before (skip c ∷ xs) g = (blank c refl g.0, read (before ++ c ∷ []) xs g.1)
-read before (lexeme c cs k o ∷ xs) g = (
-  subst (λ z. IsToken before (c ∷ cs) ((c ∷ cs) ++ z) (record { kind = k; place = place_behind before }))
-      (sym (append-nil (bytes_of (reading (before ++ c ∷ cs) xs)) ∙ bytes_read (before ++ c ∷ cs) xs))
-      (token_read before c cs (written xs) k o g.0),
-  read (before ++ c ∷ cs) xs g.1,
+read_before : (rest before : List ℕ) (xs : List Item) → AreReadBefore rest xs → IsReading before (reading before xs) rest
+read_before rest before [] g = tt
+read_before rest before (skip c ∷ xs) g = (blank c refl g.0, read_before rest (before ++ c ∷ []) xs g.1)
+read_before rest before (lexeme c cs k o ∷ xs) g = (
+  subst (λ z. IsToken before (c ∷ cs) ((c ∷ cs) ++ (z ++ rest)) (record { kind = k; place = place_behind before }))
+      (sym (bytes_read (before ++ c ∷ cs) xs))
+      (token_read before c cs (written xs ++ rest) k o g.0),
+  read_before rest (before ++ c ∷ cs) xs g.1,
 )
+
+before_none : (xs : List Item) → AreRead xs → AreReadBefore [] xs
+before_none [] g = tt
+before_none (skip c ∷ xs) g = (g.0, before_none xs g.1)
+before_none (lexeme c cs k o ∷ xs) g = (subst (IsRead c cs k o) (sym (append-nil (written xs))) g.0, before_none xs g.1)
+
+pub all_lexed : (source : List ℕ) (xs : List Item) → source ≡ written xs → AreReadBefore [] xs →
+    Lex source (tokens_of (reading [] xs) ++ end_token source ∷ [])
+all_lexed source xs e g = (reading [] xs, e ∙ sym (bytes_read [] xs), read_before [] [] xs g, refl)
 
 pub lexed : (source : List ℕ) (xs : List Item) → source ≡ written xs → AreRead xs →
     Lex source (tokens_of (reading [] xs) ++ end_token source ∷ [])
-lexed source xs e g = (reading [] xs, e ∙ sym (bytes_read [] xs), read [] xs g, refl)
+lexed source xs e g = all_lexed source xs e (before_none xs g)
+
+-- up to a fault
+pub faulty : (source rest : List ℕ) (xs : List Item) (c : Cause) → source ≡ written xs ++ rest →
+    AreReadBefore rest xs → IsFaulty c (bytes_of (reading [] xs)) rest →
+    IsTokenFault source c (place_behind (bytes_of (reading [] xs)))
+faulty source rest xs c e g fault = (
+  reading [] xs,
+  rest,
+  e ∙ ap (λ z. z ++ rest) (sym (bytes_read [] xs)),
+  read_before rest [] xs g,
+  fault,
+  refl,
+)
 
 pub plain_pieces : (before : List ℕ) (xs : List Item) (t : Token) →
     plain (pieces before xs ++ (t, 0) ∷ []) ≡ tokens_of (reading before xs) ++ t ∷ []

@@ -16,6 +16,8 @@ use Rattle.lra_tree.specs.Lexeme.{octal, decimal_base, hexadecimal, IsLiteral, B
 use Rattle.lra_tree.specs.Lexeme.{mark_word, name, number, mark_of, reserved}
 use Rattle.lra_tree.specs.Tokens.{place_behind, blank, line_comment, block_comment, skipped_line, gap, token, Lex, IsTokenFault}
 use Rattle.lra_tree.proofs.LongestByTest.{no_gap, longest_by, as_token, is_open, no_lexeme}
+use Rattle.lra_tree.proofs.Lexemes.{Item, ◌⨾◌, all_lexed, faulty}
+use Rattle.lra_tree.proofs.LexedByTest.{space, sign, word_of, are_read_by}
 
 abbrev at : ℕ → ℕ → Place
 at l c = record { line = l; column = c }
@@ -58,6 +60,19 @@ greatest_literal_is = record {
   number = refl;
 }
 
+short_literal : IsLiteral (codes "0x1f") 31
+short_literal = record {
+  base = hexadecimal;
+  front = codes "0x";
+  digits = codes "1f";
+  suffix = [];
+  parts = refl;
+  begins = (inl refl, λ e. cc);
+  all_digits = refl;
+  is_suffix = refl;
+  number = refl;
+}
+
 -- places -----------------------------------------------------------------------------------------------------------
 
 -- a line feed ends a line, and belongs to it: catches columns from 0
@@ -80,57 +95,24 @@ short_tokens = (
   gap include_line ∷ gap (10 ∷ []) ∷ token (codes "x") (token_at (Name (codes "x")) 2 1) ∷ token (codes "+=") (token_at (Mark mark.PlusAssign) 2 2)
       ∷ token (codes "0x1f") (token_at (Number 31) 2 4) ∷ gap (codes "/* c */") ∷ token (codes ";") (token_at (Mark mark.Semicolon) 2 15) ∷ [],
   refl,
-  (
-    skipped_line [] (codes " <assert.h>") refl (record { lines = []; blanks = []; parts = refl; whole_lines = inl refl; only_blanks = refl }) refl refl refl refl,
-    (
-      blank 10 refl refl,
-      (
-        as_token (include_line ++ 10 ∷ []) (codes "x") (codes "+=0x1f/* c */;") (Name (codes "x")) (word refl) (name refl refl refl) refl refl refl,
-        (
-          as_token (include_line ++ (10 ∷ codes "x")) (codes "+=") (codes "0x1f/* c */;") (Mark mark.PlusAssign) (mark_word mark.PlusAssign refl) (mark_of mark.PlusAssign refl) refl refl refl,
-          (
-            as_token (include_line ++ (10 ∷ codes "x+=")) (codes "0x1f") (codes "/* c */;") (Number 31) (number_word refl)
-                (number 31 refl (record {
-                  base = hexadecimal;
-                  front = codes "0x";
-                  digits = codes "1f";
-                  suffix = [];
-                  parts = refl;
-                  begins = (inl refl, λ e. cc);
-                  all_digits = refl;
-                  is_suffix = refl;
-                  number = refl;
-                }) (omega arith)) refl refl refl,
-            (
-              block_comment (codes " c ") refl (is_open (codes " c *") refl),
-              (
-                as_token (include_line ++ (10 ∷ codes "x+=0x1f/* c */")) (codes ";") [] (Mark mark.Semicolon) (mark_word mark.Semicolon refl) (mark_of mark.Semicolon refl) refl refl refl,
-                tt,
-              ),
-            ),
-          ),
-        ),
-      ),
-    ),
-  ),
+  skipped_line [] (codes " <assert.h>") refl (record { lines = []; blanks = []; parts = refl; whole_lines = inl refl; only_blanks = refl }) refl refl refl refl
+      ⨾ blank 10 refl refl
+      ⨾ as_token (include_line ++ 10 ∷ []) (codes "x") (codes "+=0x1f/* c */;") (Name (codes "x")) (word refl) (name refl refl refl) refl refl refl
+      ⨾ as_token (include_line ++ (10 ∷ codes "x")) (codes "+=") (codes "0x1f/* c */;") (Mark mark.PlusAssign) (mark_word mark.PlusAssign refl) (mark_of mark.PlusAssign refl) refl refl refl
+      ⨾ as_token (include_line ++ (10 ∷ codes "x+=")) (codes "0x1f") (codes "/* c */;") (Number 31) (number_word refl) (number 31 refl short_literal (omega arith)) refl refl refl
+      ⨾ block_comment (codes " c ") refl (is_open (codes " c *") refl)
+      ⨾ as_token (include_line ++ (10 ∷ codes "x+=0x1f/* c */")) (codes ";") [] (Mark mark.Semicolon) (mark_word mark.Semicolon refl) (mark_of mark.Semicolon refl) refl refl refl
+      ⨾ tt,
   refl,
 )
 
 -- + ++
 -- catches the shortest spelling: `+++` is `++` and `+`
+abbrev two_signs : List Item
+two_signs = sign mark.Increment ∷ sign mark.Plus ∷ []
+
 plus_tokens : Lex (codes "+++") (token_at (Mark mark.Increment) 1 1 ∷ token_at (Mark mark.Plus) 1 3 ∷ token_at End 1 4 ∷ [])
-plus_tokens = (
-  token (codes "++") (token_at (Mark mark.Increment) 1 1) ∷ token (codes "+") (token_at (Mark mark.Plus) 1 3) ∷ [],
-  refl,
-  (
-    as_token [] (codes "++") (codes "+") (Mark mark.Increment) (mark_word mark.Increment refl) (mark_of mark.Increment refl) refl refl refl,
-    (
-      as_token (codes "++") (codes "+") [] (Mark mark.Plus) (mark_word mark.Plus refl) (mark_of mark.Plus refl) refl refl refl,
-      tt,
-    ),
-  ),
-  refl,
-)
+plus_tokens = all_lexed (codes "+++") two_signs refl (are_read_by [] two_signs refl)
 
 -- long longer // long
 -- catches a reserved word that ends a name, and a comment that needs a line feed
@@ -138,19 +120,11 @@ word_tokens : Lex (codes "long longer// x") (token_at (Mark mark.Long) 1 1 ∷ t
 word_tokens = (
   token (codes "long") (token_at (Mark mark.Long) 1 1) ∷ gap (codes " ") ∷ token (codes "longer") (token_at (Name (codes "longer")) 1 6) ∷ gap (codes "// x") ∷ [],
   refl,
-  (
-    as_token [] (codes "long") (codes " longer// x") (Mark mark.Long) (word refl) (mark_of mark.Long refl) refl refl refl,
-    (
-      blank 32 refl refl,
-      (
-        as_token (codes "long ") (codes "longer") (codes "// x") (Name (codes "longer")) (word refl) (name refl refl refl) refl refl refl,
-        (
-          line_comment (codes " x") refl refl tt,
-          tt,
-        ),
-      ),
-    ),
-  ),
+  as_token [] (codes "long") (codes " longer// x") (Mark mark.Long) (word refl) (mark_of mark.Long refl) refl refl refl
+      ⨾ blank 32 refl refl
+      ⨾ as_token (codes "long ") (codes "longer") (codes "// x") (Name (codes "longer")) (word refl) (name refl refl refl) refl refl refl
+      ⨾ line_comment (codes " x") refl refl tt
+      ⨾ tt,
   refl,
 )
 
@@ -159,31 +133,20 @@ reserved_word : Lex (codes "do") (token_at Reserved 1 1 ∷ token_at End 1 3 ∷
 reserved_word = (
   token (codes "do") (token_at Reserved 1 1) ∷ [],
   refl,
-  (
-    as_token [] (codes "do") [] Reserved (word refl) (reserved refl) refl refl refl,
-    tt,
-  ),
+  as_token [] (codes "do") [] Reserved (word refl) (reserved refl) refl refl refl ⨾ tt,
   refl,
 )
 
 -- faults -----------------------------------------------------------------------------------------------------------
 
 -- catches a fault at the token before
+abbrev before_dollar : List Item
+before_dollar = sign mark.OpenBrace ∷ space ∷ []
+
 bad_byte : IsTokenFault (codes "{ $ }") BadByte (at 1 3)
-bad_byte = (
-  token (codes "{") (token_at (Mark mark.OpenBrace) 1 1) ∷ gap (codes " ") ∷ [],
-  codes "$ }",
-  refl,
-  (
-    as_token [] (codes "{") (codes " $ }") (Mark mark.OpenBrace) (mark_word mark.OpenBrace refl) (mark_of mark.OpenBrace refl) refl refl refl,
-    (
-      blank 32 refl refl,
-      tt,
-    ),
-  ),
-  (λ e. cc, no_gap (codes "{ ") (codes "$ }") refl, no_lexeme (codes "$ }") refl refl),
-  refl,
-)
+bad_byte =
+    faulty (codes "{ $ }") (codes "$ }") before_dollar BadByte refl (are_read_by (codes "$ }") before_dollar refl)
+    (λ e. cc, no_gap (codes "{ ") (codes "$ }") refl, no_lexeme (codes "$ }") refl refl)
 
 -- an octal literal has no digit 8
 no_octal : (base : Base) (front digits suffix : List ℕ) → codes "08" ≡ (front ++ digits) ++ suffix → IsFront base front digits → list_all (is_digit_of base) digits ≡ true →
@@ -212,27 +175,19 @@ no_octal hexadecimal front digits suffix e (inr b, h) d s =
     let g : 56 ≡ 88 = ap (λ (z : List ℕ). get_or z 1 0) f in
     omega (arith, g)
 
+-- x=
+abbrev set_x : List Item
+set_x = word_of (codes "x") ∷ sign mark.Assign ∷ []
+
 bad_octal : IsTokenFault (codes "x=08;") BadLiteral (at 1 3)
-bad_octal = (
-  token (codes "x") (token_at (Name (codes "x")) 1 1) ∷ token (codes "=") (token_at (Mark mark.Assign) 1 2) ∷ [],
-  codes "08;",
-  refl,
-  (
-    as_token [] (codes "x") (codes "=08;") (Name (codes "x")) (word refl) (name refl refl refl) refl refl refl,
-    (
-      as_token (codes "x") (codes "=") (codes "08;") (Mark mark.Assign) (mark_word mark.Assign refl) (mark_of mark.Assign refl) refl refl refl,
-      tt,
-    ),
-  ),
-  (
-    no_gap (codes "x=") (codes "08;") refl,
-    codes "08",
-    longest_by (codes "08") (codes ";") (number_word refl) refl refl,
-    refl,
-    λ n l k. no_octal l.base l.front l.digits l.suffix l.parts l.begins l.all_digits l.is_suffix,
-  ),
-  refl,
-)
+bad_octal =
+    faulty (codes "x=08;") (codes "08;") set_x BadLiteral refl (are_read_by (codes "08;") set_x refl) (
+      no_gap (codes "x=") (codes "08;") refl,
+      codes "08",
+      longest_by (codes "08") (codes ";") (number_word refl) refl refl,
+      refl,
+      λ n l k. no_octal l.base l.front l.digits l.suffix l.parts l.begins l.all_digits l.is_suffix,
+    )
 
 -- 2^63 is no literal: its digits are all of it, since a suffix has none -----------------------------------------------
 
@@ -280,23 +235,11 @@ no_large decimal_base front digits suffix n e (c, cs, b, d, r) s f l =
 
 -- catches a limit of 2^63
 pub too_large : IsTokenFault (codes "x=9223372036854775808;") BadLiteral (at 1 3)
-too_large = (
-  token (codes "x") (token_at (Name (codes "x")) 1 1) ∷ token (codes "=") (token_at (Mark mark.Assign) 1 2) ∷ [],
-  codes "9223372036854775808;",
-  refl,
-  (
-    as_token [] (codes "x") (codes "=9223372036854775808;") (Name (codes "x")) (word refl) (name refl refl refl) refl refl refl,
-    (
-      as_token (codes "x") (codes "=") (codes "9223372036854775808;") (Mark mark.Assign) (mark_word mark.Assign refl) (mark_of mark.Assign refl) refl refl refl,
-      tt,
-    ),
-  ),
-  (
-    no_gap (codes "x=") (codes "9223372036854775808;") refl,
-    large,
-    longest_by large (codes ";") (number_word refl) refl refl,
-    refl,
-    λ n l k. no_large l.base l.front l.digits l.suffix n l.parts l.begins l.is_suffix l.number k,
-  ),
-  refl,
-)
+too_large =
+    faulty (codes "x=9223372036854775808;") (codes "9223372036854775808;") set_x BadLiteral refl (are_read_by (codes "9223372036854775808;") set_x refl) (
+      no_gap (codes "x=") (codes "9223372036854775808;") refl,
+      large,
+      longest_by large (codes ";") (number_word refl) refl refl,
+      refl,
+      λ n l k. no_large l.base l.front l.digits l.suffix n l.parts l.begins l.is_suffix l.number k,
+    )
